@@ -1,0 +1,72 @@
+//! Places in a text.
+ghost use Rattle.std.specs.Prelude.{◌≡◌, ◌↔◌, IsTrue};
+
+/// A place in a text, in bytes from a start that the reader chooses. 0 alone stands for no place.
+#[derive(Clone, Copy, Debug, Default, PartialEq, Eq, PartialOrd, Ord, Hash)]
+pub struct BytePos(pub u32);
+
+impl BytePos {
+    /// No place.
+    pub const DUMMY: BytePos = BytePos(0);
+
+    /// Whether this stands for no place.
+    pub fn is_dummy(self) -> bool
+        ensures { IsTrue result ↔ (self.0 ≡ 0) }
+    {
+        self.0 == 0
+    }
+}
+
+/// A part of a text: from `lo` up to, and without, `hi`.
+#[derive(Clone, Copy, Debug, Default, PartialEq, Eq, PartialOrd, Ord, Hash)]
+pub struct Span {
+    pub lo: BytePos,
+    pub hi: BytePos,
+}
+
+/// No part of any text.
+pub const DUMMY_SP: Span = Span {
+    lo: BytePos::DUMMY,
+    hi: BytePos::DUMMY,
+};
+
+/// A line and a column, both from 0. The column counts UTF-16 units.
+#[derive(Clone, Copy, Debug, Default, PartialEq, Eq, PartialOrd, Ord, Hash)]
+pub struct LineCol {
+    pub line: u32,
+    pub col: u32,
+}
+
+/// What has a part of a text for its place.
+pub trait Spanned {
+    ghost use Rattle.ecma_token.specs.declared.place.Span.{Span};
+
+    /// The part.
+    ghost span_of: { Self → Span };
+
+    /// The part of the text.
+    fn span(&self) -> Span
+        ensures { result ≡ span_of self.now };
+
+    /// Where it begins.
+    fn span_lo(&self) -> BytePos
+        ensures { result ≡ (span_of self.now).lo }
+    {
+        self.span().lo
+    }
+
+    /// Where it ends.
+    fn span_hi(&self) -> BytePos
+        ensures { result ≡ (span_of self.now).hi }
+    {
+        self.span().hi
+    }
+}
+
+impl Spanned for Span {
+    ghost span_of = { λ s. s };
+
+    fn span(&self) -> Span {
+        *self
+    }
+}

@@ -1,0 +1,33 @@
+//! The editions of the language that a text may be written for.
+
+/// An edition of ECMA-262, oldest first, and at the end whatever comes next.
+#[derive(Clone, Copy, Debug, Default, PartialEq, Eq, PartialOrd, Ord, Hash)]
+pub enum EsVersion {
+    Es3,
+    Es5,
+    Es2015,
+    Es2016,
+    Es2017,
+    Es2018,
+    Es2019,
+    Es2020,
+    Es2021,
+    Es2022,
+    #[default]
+    EsNext,
+}
+
+/// The name by which compilers know an edition that they write for.
+pub type JscTarget = EsVersion;
+
+impl EsVersion {
+    ghost use Rattle.std.specs.Prelude.{◌≡◌};
+    ghost use Rattle.ecma_token.specs.declared.version.EsVersion.TheVariants.{EsNext};
+
+    /// The newest edition.
+    pub fn latest() -> EsVersion
+        ensures { result ≡ EsNext }
+    {
+        EsVersion::EsNext
+    }
+}
