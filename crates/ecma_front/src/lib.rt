@@ -1,0 +1,4 @@
+//! Formats and minifies ECMAScript programs, from any reader to any writer.
+#![tactic(auto)]
+
+mod script;
