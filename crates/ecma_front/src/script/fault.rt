@@ -15,8 +15,13 @@ pub(crate) enum ReadFault {
 }
 
 impl ReadFault {
+    ghost use Rattle.std.specs.Prelude.{◌≡◌};
+    ghost use Rattle.ecma_front.specs.declared.script.fault.ReadFault.TheVariants.{Syntax};
+
     /// A fault of the text.
-    pub(crate) fn syntax(span: Span, kind: SyntaxError) -> ReadFault {
+    pub(crate) fn syntax(span: Span, kind: SyntaxError) -> ReadFault
+        ensures { result ≡ Syntax (record { span = span; kind = kind }) }
+    {
         ReadFault::Syntax(Error { span, kind })
     }
 }

@@ -1,0 +1,147 @@
+-- What a run answers, from what its steps did.
+use Rattle.std.proofs.Common.{◌≡◌, ℕ, ◌≤◌, true, false, List, [], take, Option, None, Some, Err, length, refl, ap, subst, arith}
+use Rattle.std.specs.Prelude.{IfSome}
+use Rattle.std.specs.Io.KnownBytes.{Consumes, IsAtEnd, Appends}
+use Rattle.std.proofs.KnownBytes.{Consumes-all}
+use Rattle.ecma_front.specs.declared.options.Options.{Options}
+use Rattle.ecma_front.specs.declared.fault.Fault.{Fault}
+use Rattle.ecma_front.specs.declared.fault.Fault.TheVariants as f
+use Rattle.ecma_front.specs.Faults.{is_text_fault, is_refusal, is_read_fault, is_write_fault}
+use Rattle.ecma_front.specs.Command.{IsUnread}
+use Rattle.ecma_front.specs.Tree.{Tree}
+use Rattle.ecma_front.specs.Run.{IsScriptOf, IsRefused, WritesScript, WritesBeginning, Answers, written_under, longest_text}
+
+-- what was kept of a reader that was read to its end is what it had
+pub kept_all : (a b : Option (List ℕ)) (kept : List ℕ) → Consumes a b kept → IsAtEnd b → IfSome a (λ bytes. kept ≡ bytes)
+kept_all a b kept consumed end = Consumes-all a b kept [] kept consumed end refl
+
+text_fault_at : (P : Type 0) (options : Options) (bytes : List ℕ) (before after : Option (List ℕ)) (fault : Fault) → is_text_fault fault ≡ true
+    → IsRefused options.nesting bytes fault → length bytes ≤ longest_text → Answers {P = P} options (Some bytes) before after (Err fault)
+text_fault_at P options bytes before after (f.NotUtf8 n) is h fits = (h, fits)
+text_fault_at P options bytes before after (f.Syntax e) is h fits = (h, fits)
+text_fault_at P options bytes before after f.TooDeep is h fits = (h, fits)
+text_fault_at P options bytes before after f.Memory is h fits = (tt, tt)
+text_fault_at P options bytes before after (f.Read k) is h fits = absurd (cc)
+text_fault_at P options bytes before after f.TooLong is h fits = absurd (cc)
+text_fault_at P options bytes before after (f.Write k) is h fits = absurd (cc)
+text_fault_at P options bytes before after f.Position is h fits = absurd (cc)
+text_fault_at P options bytes before after f.Node is h fits = absurd (cc)
+text_fault_at P options bytes before after f.Options is h fits = absurd (cc)
+
+unknown_text_fault : (P : Type 0) (options : Options) (before after : Option (List ℕ)) (fault : Fault) → is_text_fault fault ≡ true → Answers {P = P} options None before after (Err fault)
+unknown_text_fault P options before after (f.NotUtf8 n) is = tt
+unknown_text_fault P options before after (f.Syntax e) is = tt
+unknown_text_fault P options before after f.TooDeep is = tt
+unknown_text_fault P options before after f.Memory is = tt
+unknown_text_fault P options before after (f.Read k) is = tt
+unknown_text_fault P options before after f.TooLong is = tt
+unknown_text_fault P options before after (f.Write k) is = tt
+unknown_text_fault P options before after f.Position is = tt
+unknown_text_fault P options before after f.Node is = tt
+unknown_text_fault P options before after f.Options is = tt
+
+-- a text that is refused
+pub text_fault_answers : (P : Type 0) (options : Options) (input before after : Option (List ℕ)) (kept : List ℕ) (fault : Fault) → IfSome input (λ bytes. kept ≡ bytes)
+    → is_text_fault fault ≡ true → IsRefused options.nesting kept fault → length kept ≤ longest_text → Answers {P = P} options input before after (Err fault)
+text_fault_answers P options None before after kept fault same is h fits = unknown_text_fault P options before after fault is
+text_fault_answers P options (Some bytes) before after kept fault same is h fits =
+    text_fault_at P options bytes before after fault is (subst (λ (bs : List ℕ). IsRefused options.nesting bs fault) same h) (subst (λ (bs : List ℕ). length bs ≤ longest_text) same fits)
+
+-- a text that is written
+pub script_answers : (options : Options) (input before after : Option (List ℕ)) (kept out : List ℕ) → IfSome input (λ bytes. kept ≡ bytes)
+    → ((xs : List Tree) × IsScriptOf options.nesting kept xs × (out ≡ written_under options xs)) → length kept ≤ longest_text
+    → Appends before after out → IfSome input (λ bytes. WritesScript options bytes before after)
+script_answers options None before after kept out same h fits sent = tt
+script_answers options (Some bytes) before after kept out same h fits sent =
+    subst (λ (bs : List ℕ). WritesScript options bs before after) same (fits, (h.0, h.1, subst (Appends before after) h.2 sent))
+
+-- a text of which a beginning is written
+pub beginning_answers : (options : Options) (input before after : Option (List ℕ)) (kept out : List ℕ) → IfSome input (λ bytes. kept ≡ bytes)
+    → ((xs : List Tree) × IsScriptOf options.nesting kept xs × (out ≡ written_under options xs)) → length kept ≤ longest_text
+    → ((n : ℕ) × Appends before after (take n out)) → IfSome input (λ bytes. WritesBeginning options bytes before after)
+beginning_answers options None before after kept out same h fits sent = tt
+beginning_answers options (Some bytes) before after kept out same h fits sent =
+    subst (λ (bs : List ℕ). WritesBeginning options bs before after) same
+    (fits, (h.0, sent.0, h.1, subst (λ (o : List ℕ). Appends before after (take sent.0 o)) h.2 sent.1))
+
+write_fault_is : (P : Type 0) (options : Options) (input before after : Option (List ℕ)) (fault : Fault) → is_write_fault fault ≡ true
+    → IfSome input (λ bytes. WritesBeginning options bytes before after) → Answers {P = P} options input before after (Err fault)
+write_fault_is P options input before after (f.Write k) is h = h
+write_fault_is P options input before after (f.NotUtf8 n) is h = absurd (cc)
+write_fault_is P options input before after (f.Syntax e) is h = absurd (cc)
+write_fault_is P options input before after f.TooDeep is h = absurd (cc)
+write_fault_is P options input before after f.Memory is h = absurd (cc)
+write_fault_is P options input before after (f.Read k) is h = absurd (cc)
+write_fault_is P options input before after f.TooLong is h = absurd (cc)
+write_fault_is P options input before after f.Position is h = absurd (cc)
+write_fault_is P options input before after f.Node is h = absurd (cc)
+write_fault_is P options input before after f.Options is h = absurd (cc)
+
+-- a writer that failed
+pub write_fault_answers : (P : Type 0) (options : Options) (input before after : Option (List ℕ)) (kept out : List ℕ) (fault : Fault) → IfSome input (λ bytes. kept ≡ bytes)
+    → ((xs : List Tree) × IsScriptOf options.nesting kept xs × (out ≡ written_under options xs)) → length kept ≤ longest_text
+    → ((n : ℕ) × Appends before after (take n out)) → is_write_fault fault ≡ true → Answers {P = P} options input before after (Err fault)
+write_fault_answers P options input before after kept out fault same h fits sent is =
+    write_fault_is P options input before after fault is (beginning_answers options input before after kept out same h fits sent)
+
+-- a fault of the text is neither the reader's nor one of the settings
+pub text_fault_no_read : (fault : Fault) → is_text_fault fault ≡ true → is_read_fault fault ≡ false
+text_fault_no_read (f.NotUtf8 n) is = refl
+text_fault_no_read (f.Syntax e) is = refl
+text_fault_no_read f.TooDeep is = refl
+text_fault_no_read f.Memory is = refl
+text_fault_no_read (f.Read k) is = absurd (cc)
+text_fault_no_read f.TooLong is = refl
+text_fault_no_read (f.Write k) is = refl
+text_fault_no_read f.Position is = refl
+text_fault_no_read f.Node is = refl
+text_fault_no_read f.Options is = refl
+
+pub text_fault_no_settings : (fault : Fault) → is_text_fault fault ≡ true → fault ≡ f.Options → ⊥
+text_fault_no_settings fault is e = let no = ap is_text_fault e in cc
+
+-- a text that is refused is spelled by no script within the limit, or is too long
+unread_at : (options : Options) (bytes : List ℕ) (fault : Fault) → is_refusal fault ≡ true → IsRefused options.nesting bytes fault → IsUnread options bytes
+unread_at options bytes (f.NotUtf8 n) is h = λ xs s deep fits. h.0 s.0
+unread_at options bytes f.TooLong is h = λ xs s deep fits. omega arith
+unread_at options bytes (f.Syntax e) is h = λ xs s deep fits. h.1 xs s
+unread_at options bytes f.TooDeep is h = λ xs s deep fits. let past = h.1 xs s in omega arith
+unread_at options bytes (f.Read k) is h = absurd (cc)
+unread_at options bytes f.Memory is h = absurd (cc)
+unread_at options bytes (f.Write k) is h = absurd (cc)
+unread_at options bytes f.Position is h = absurd (cc)
+unread_at options bytes f.Node is h = absurd (cc)
+unread_at options bytes f.Options is h = absurd (cc)
+
+refused_as : (P : Type 0) (options : Options) (bytes : List ℕ) (before after : Option (List ℕ)) (fault : Fault) → is_refusal fault ≡ true
+    → Answers {P = P} options (Some bytes) before after (Err fault) → IsRefused options.nesting bytes fault
+refused_as P options bytes before after (f.NotUtf8 n) is h = h.0
+refused_as P options bytes before after f.TooLong is h = h.0
+refused_as P options bytes before after (f.Syntax e) is h = h.0
+refused_as P options bytes before after f.TooDeep is h = h.0
+refused_as P options bytes before after (f.Read k) is h = absurd (cc)
+refused_as P options bytes before after f.Memory is h = absurd (cc)
+refused_as P options bytes before after (f.Write k) is h = absurd (cc)
+refused_as P options bytes before after f.Position is h = absurd (cc)
+refused_as P options bytes before after f.Node is h = absurd (cc)
+refused_as P options bytes before after f.Options is h = absurd (cc)
+
+pub refusal_unread : (P : Type 0) (options : Options) (input before after : Option (List ℕ)) (fault : Fault) → is_refusal fault ≡ true
+    → Answers {P = P} options input before after (Err fault) → IfSome input (IsUnread options)
+refusal_unread P options None before after fault is h = tt
+refusal_unread P options (Some bytes) before after fault is h = unread_at options bytes fault is (refused_as P options bytes before after fault is h)
+
+pub refusal_no_write : (fault : Fault) → is_refusal fault ≡ true → is_write_fault fault ≡ false
+refusal_no_write (f.NotUtf8 n) is = refl
+refusal_no_write f.TooLong is = refl
+refusal_no_write (f.Syntax e) is = refl
+refusal_no_write f.TooDeep is = refl
+refusal_no_write (f.Read k) is = refl
+refusal_no_write f.Memory is = refl
+refusal_no_write (f.Write k) is = absurd (cc)
+refusal_no_write f.Position is = refl
+refusal_no_write f.Node is = refl
+refusal_no_write f.Options is = refl
+
+pub refusal_no_settings : (fault : Fault) → is_refusal fault ≡ true → fault ≡ f.Options → ⊥
+refusal_no_settings fault is e = let no = ap is_refusal e in cc

@@ -1,0 +1,74 @@
+//! A whole run: from any reader to any writer.
+ghost use Rattle.std.specs.Prelude.{◌≡◌, ◌↔◌, true, false, [], IsErrOf, IfErr};
+ghost use Rattle.std.specs.Io.KnownBytes.{Consumes};
+ghost use Rattle.ecma_token.specs.Counts.{count_after};
+ghost use Rattle.ecma_front.specs.Options.{are_refused};
+ghost use Rattle.ecma_front.specs.Faults.{answers_fault, is_read_fault, is_write_fault};
+ghost use Rattle.ecma_front.specs.Run.{Answers};
+
+use crate::fault::Fault;
+use crate::input::read_to_end;
+use crate::options::Options;
+use crate::output::write_all;
+use crate::script::minifier::minified;
+use ecma_token::{BytePos, CountedRead, CountedWrite, LineCol};
+use std::alloc::Global;
+
+/// The places of names in the text read, each with the line and the column at which it was written.
+pub type Positions = Vec<(BytePos, LineCol)>;
+
+/// Reads a program from a reader, to its first read of 0 bytes, and writes it as the settings ask.
+///
+/// It answers the positions where the settings ask for them. What it writes depends on the tree alone,
+/// not on where its parts stood: texts whose trees agree are written alike.
+///
+/// # Errors
+///
+/// `Fault` says which. The settings are judged first, before anything is read or written. A text that
+/// is not read leaves the writer as it was; a writer that fails has got a beginning of the output.
+pub fn run<R: CountedRead, W: CountedWrite>(
+    alloc: Global,
+    reader: &mut R,
+    writer: &mut W,
+    options: Options,
+) -> Result<Option<Positions>, Fault>
+    ensures settings { IsErrOf result Fault.Options ↔ (are_refused options ≡ true) }
+    ensures untouched { are_refused options ≡ true → reader.new ≡ reader.old }
+    ensures unwritten { IfErr result (λ fault. is_write_fault fault ≡ false → writer.new ≡ writer.old) }
+    ensures reader_failed { R.failure_count reader.new ≡ count_after (answers_fault is_read_fault result) (R.failure_count reader.old) }
+    ensures writer_failed { W.failure_count writer.new ≡ count_after (answers_fault is_write_fault result) (W.failure_count writer.old) }
+    ensures answer { Answers options (R.remaining reader.old) (W.contents writer.old) (W.contents writer.new) result }
+{
+    let mut kept = Vec::new(alloc);
+    run_kept(alloc, reader, writer, options, &mut kept)
+}
+
+/// The same as `run`, and leaves in `kept`, which is empty, the bytes that were read.
+///
+/// # Errors
+///
+/// Those of `run`.
+pub fn run_kept<R: CountedRead, W: CountedWrite>(
+    alloc: Global,
+    reader: &mut R,
+    writer: &mut W,
+    options: Options,
+    kept: &mut Vec<u8>,
+) -> Result<Option<Positions>, Fault>
+    requires { kept.old.items ≡ [] }
+    ensures settings { IsErrOf result Fault.Options ↔ (are_refused options ≡ true) }
+    ensures untouched { are_refused options ≡ true → reader.new ≡ reader.old }
+    ensures unwritten { IfErr result (λ fault. is_write_fault fault ≡ false → writer.new ≡ writer.old) }
+    ensures reader_failed { R.failure_count reader.new ≡ count_after (answers_fault is_read_fault result) (R.failure_count reader.old) }
+    ensures writer_failed { W.failure_count writer.new ≡ count_after (answers_fault is_write_fault result) (W.failure_count writer.old) }
+    ensures answer { Answers options (R.remaining reader.old) (W.contents writer.old) (W.contents writer.new) result }
+    ensures kept { Consumes (R.remaining reader.old) (R.remaining reader.new) kept.new.items }
+{
+    if options.are_refused() {
+        return Err(Fault::Options);
+    }
+    read_to_end(reader, kept)?;
+    let text = minified(alloc, kept.as_slice(), options)?;
+    write_all(writer, text.as_bytes())?;
+    Ok(None)
+}
