@@ -15,7 +15,11 @@ use Rattle.ecma_front.specs.Layout.{layout}
 abbrev pub Spells : List Tree → List ℕ → Type 0
 Spells xs bytes = IsUtf8 bytes × ((ts : List Tok) × Tiles ts (chars bytes) × IsScript xs ts)
 
--- It does, within the limit of nesting, and no other script does.
+-- At most one script spells a text.
+abbrev pub OneScriptSpells : Type 0
+OneScriptSpells = (bytes : List ℕ) (xs ys : List Tree) → Spells xs bytes → Spells ys bytes → xs ≡ ys
+
+-- One does, within the limit of nesting, and no other.
 abbrev pub IsScriptOf : ℕ → List ℕ → List Tree → Type 0
 IsScriptOf limit bytes xs = Spells xs bytes × (nest_script xs ≤ limit) × ((others : List Tree) → Spells others bytes → others ≡ xs)
 

@@ -4,6 +4,7 @@
 pub mod command;
 mod fault;
 mod input;
+pub mod laws;
 mod line_col;
 pub mod memory;
 mod options;
