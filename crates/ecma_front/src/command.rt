@@ -33,6 +33,7 @@ fn command<'a>(alloc: Global) -> Result<Command<'a>, AllocError> {
         .action(ArgAction::SetTrue);
     let path = Arg::new(alloc, "PATH").help("The file to read; without it, standard input");
     Command::new(alloc, "ecma-front")
+        .bin_name("ecma-front")?
         .about("Formats or minifies an ECMAScript program")
         .arg(script)?
         .arg(minify)?
