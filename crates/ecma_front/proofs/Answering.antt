@@ -1,13 +1,13 @@
 -- What a run answers, from what its steps did.
 use Rattle.std.proofs.Common.{◌≡◌, ℕ, ◌≤◌, true, false, List, [], take, Option, None, Some, Err, length, refl, ap, subst, arith, Result, Ok}
-use Rattle.std.specs.Prelude.{IfSome, IsOk}
+use Rattle.std.specs.Prelude.{IfSome}
 use Rattle.std.specs.Io.KnownBytes.{Consumes, IsAtEnd, Appends}
 use Rattle.std.proofs.KnownBytes.{Consumes-all}
-use Rattle.ecma_front.specs.declared.options.Options.{Options}
+use Rattle.ecma_command.specs.declared.options.Options.{Options}
 use Rattle.ecma_front.specs.declared.fault.Fault.{Fault}
 use Rattle.ecma_front.specs.declared.fault.Fault.TheVariants as f
-use Rattle.ecma_front.specs.Options.{are_refused}
-use Rattle.ecma_front.specs.Faults.{is_text_fault, is_refusal, is_failure, is_read_fault, is_write_fault, answers_fault}
+use Rattle.ecma_command.specs.Options.{are_refused}
+use Rattle.ecma_front.specs.Faults.{is_text_fault, is_refusal, is_failure, is_read_fault, is_write_fault}
 use Rattle.ecma_front.specs.Command.{IsUnread}
 use Rattle.ecma_front.specs.Tree.{Tree}
 use Rattle.ecma_front.specs.Run.{Answers, IsReadable, IsRefused, IsScriptOf, SucceedsExactly, WritesBeginning, WritesScript, longest_text, written_under}

@@ -2,11 +2,11 @@
 use Rattle.std.specs.Prelude.{◌≡◌, ℕ, ◌<◌, ◌≤◌, ◌↔◌, false, List, length, take, Option, None, Result, Ok, Err, IfSome, IsOk}
 use Rattle.std.specs.Str.{chars, IsUtf8, IsValidUpTo, encode_utf8_all}
 use Rattle.std.specs.Io.KnownBytes.{Appends}
-use Rattle.ecma_front.specs.declared.options.Options.{Options}
+use Rattle.ecma_command.specs.declared.options.Options.{Options}
 use Rattle.ecma_front.specs.declared.fault.Fault.{Fault}
 use Rattle.ecma_front.specs.declared.fault.Fault.TheVariants as f
 use Rattle.ecma_front.specs.Faults.{answers_fault, is_failure}
-use Rattle.ecma_front.specs.Options.{are_refused}
+use Rattle.ecma_command.specs.Options.{are_refused}
 use Rattle.ecma_front.specs.Tokens.{Tok}
 use Rattle.ecma_front.specs.Lexical.{Tiles}
 use Rattle.ecma_front.specs.Tree.{Tree, nest_script}

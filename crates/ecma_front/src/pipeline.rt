@@ -2,15 +2,15 @@
 ghost use Rattle.std.specs.Prelude.{◌≡◌, ◌↔◌, true, false, [], IsErrOf, IfErr};
 ghost use Rattle.std.specs.Io.KnownBytes.{Consumes};
 ghost use Rattle.ecma_token.specs.Counts.{count_after};
-ghost use Rattle.ecma_front.specs.Options.{are_refused};
+ghost use Rattle.ecma_command.specs.Options.{are_refused};
 ghost use Rattle.ecma_front.specs.Faults.{answers_fault, is_read_fault, is_write_fault};
 ghost use Rattle.ecma_front.specs.Run.{Answers, SucceedsExactly};
 
 use crate::fault::Fault;
 use crate::input::read_to_end;
-use crate::options::Options;
 use crate::output::write_all;
 use crate::script::minifier::minified;
+use ecma_command::Options;
 use ecma_token::{BytePos, CountedRead, CountedWrite, LineCol};
 use std::alloc::Global;
 

@@ -1,7 +1,7 @@
 -- What the reader and the writer over memory show.
 use Rattle.std.specs.Prelude.{ℕ, Bool, ◌-◌, ◌==◌, ◌&&◌, not, List, length, drop, Option}
-use Rattle.ecma_front.specs.declared.memory.MemReader.{MemReader}
-use Rattle.ecma_front.specs.declared.memory.MemWriter.{MemWriter}
+use Rattle.ecma_memory.specs.declared.MemReader.{MemReader}
+use Rattle.ecma_memory.specs.declared.MemWriter.{MemWriter}
 
 -- the bytes that are left to read
 abbrev pub unread : MemReader → List ℕ

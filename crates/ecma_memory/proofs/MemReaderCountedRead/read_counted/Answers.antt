@@ -1,6 +1,6 @@
 use Rattle.std.proofs.Common.{rules, arith, ◌≡◌, ◌≤◌, ◌-◌, min, ℕ, List, length, take, drop, ap, ◌∙◌, length-take, length-drop, length-take-le}
-use Rattle.ecma_front.proofs.Pieces.{piece_read, end_read}
-use Rattle.ecma_front.proofs.memory.MemReaderCountedRead.read_counted.Goals as goal
+use Rattle.ecma_memory.proofs.Pieces.{piece_read, end_read}
+use Rattle.ecma_memory.proofs.MemReaderCountedRead.read_counted.Goals as goal
 
 pub returns-clause-bytes : goal.returns-clause-bytes
 returns-clause-bytes c =

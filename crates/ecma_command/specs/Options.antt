@@ -4,14 +4,14 @@ use Rattle.ecma_token.specs.declared.version.EsVersion.{EsVersion}
 use Rattle.ecma_token.specs.declared.version.EsVersion.TheVariants as v
 use Rattle.ecma_token.specs.declared.syntax.Syntax.{Syntax}
 use Rattle.ecma_token.specs.declared.syntax.Syntax.TheVariants.{Es}
-use Rattle.ecma_front.specs.declared.options.Goal.{Goal}
-use Rattle.ecma_front.specs.declared.options.Goal.TheVariants as g
-use Rattle.ecma_front.specs.declared.options.Style.{Style}
-use Rattle.ecma_front.specs.declared.options.Style.TheVariants as s
-use Rattle.ecma_front.specs.declared.options.Indent.{Indent}
-use Rattle.ecma_front.specs.declared.options.Indent.TheVariants.{Blanks, Tabs}
-use Rattle.ecma_front.specs.declared.options.LineEnd.TheVariants.{Lf}
-use Rattle.ecma_front.specs.declared.options.Options.{Options}
+use Rattle.ecma_command.specs.declared.options.Goal.{Goal}
+use Rattle.ecma_command.specs.declared.options.Goal.TheVariants as g
+use Rattle.ecma_command.specs.declared.options.Style.{Style}
+use Rattle.ecma_command.specs.declared.options.Style.TheVariants as s
+use Rattle.ecma_command.specs.declared.options.Indent.{Indent}
+use Rattle.ecma_command.specs.declared.options.Indent.TheVariants.{Blanks, Tabs}
+use Rattle.ecma_command.specs.declared.options.LineEnd.TheVariants.{Lf}
+use Rattle.ecma_command.specs.declared.options.Options.{Options}
 
 abbrev pub width_of : Indent → ℕ
 width_of (Blanks n) = n

@@ -39,7 +39,7 @@ pub enum Indent {
 
 impl Indent {
     ghost use Rattle.std.specs.Prelude.{◌≡◌};
-    ghost use Rattle.ecma_front.specs.Options.{width_of};
+    ghost use Rattle.ecma_command.specs.Options.{width_of};
 
     /// How many characters one step takes.
     pub fn width(self) -> u8
@@ -79,7 +79,7 @@ pub struct Options {
 }
 
 impl Default for Options {
-    ghost use Rattle.ecma_front.specs.Options.{AreDefault};
+    ghost use Rattle.ecma_command.specs.Options.{AreDefault};
 
     ghost is_default = { AreDefault };
 
@@ -101,7 +101,7 @@ impl Default for Options {
 
 impl Options {
     ghost use Rattle.std.specs.Prelude.{◌≡◌};
-    ghost use Rattle.ecma_front.specs.Options.{are_refused, are_out_of_range, are_not_yet};
+    ghost use Rattle.ecma_command.specs.Options.{are_refused, are_out_of_range, are_not_yet};
 
     /// The deepest nesting that may be asked for.
     pub const DEEPEST: u32 = 1024;

@@ -1,7 +1,7 @@
 //! Counting the calls of a reader or a writer.
 ghost use Rattle.std.specs.Prelude.{◌≡◌};
 ghost use Rattle.ecma_token.specs.Counts.{one_more};
-ghost use Rattle.ecma_front.specs.Calls.{fails_at};
+ghost use Rattle.ecma_memory.specs.Calls.{fails_at};
 
 /// The calls of a reader or a writer.
 #[derive(Clone, Copy)]

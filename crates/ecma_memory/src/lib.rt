@@ -1,4 +1,6 @@
 //! A reader and a writer over memory, which cut their bytes into pieces and fail where they are told to.
+#![tactic(auto)]
+
 ghost use Rattle.std.specs.Prelude.{◌≤◌, vec_len, vec_capacity};
 
 mod calls;
@@ -22,7 +24,7 @@ pub struct MemReader {
 
 impl MemReader {
     ghost use Rattle.std.specs.Prelude.{◌≡◌, ◌≤◌, IfOk};
-    ghost use Rattle.ecma_front.specs.Memory.{unread, reader_calls, reader_failures, reader_fails_at, reader_piece};
+    ghost use Rattle.ecma_memory.specs.Memory.{unread, reader_calls, reader_failures, reader_fails_at, reader_piece};
 
     /// A reader that hands out at most `piece` bytes a read, and whose `fail_at`-th call, counted from
     /// 1, fails, that call alone.
@@ -58,7 +60,7 @@ impl MemReader {
 }
 
 impl Failing for MemReader {
-    ghost use Rattle.ecma_front.specs.Memory.{reader_failures};
+    ghost use Rattle.ecma_memory.specs.Memory.{reader_failures};
 
     ghost failure_count = { reader_failures };
 
@@ -69,7 +71,7 @@ impl Failing for MemReader {
 
 impl Read for MemReader {
     ghost use Rattle.std.specs.Prelude.{Some};
-    ghost use Rattle.ecma_front.specs.Memory.{unread};
+    ghost use Rattle.ecma_memory.specs.Memory.{unread};
 
     ghost remaining = { λ r. Some (unread r) };
 
@@ -83,8 +85,8 @@ impl CountedRead for MemReader {
     ghost use Rattle.std.specs.Io.{ReadsAtMost};
     ghost use Rattle.std.specs.Io.KnownBytes.{ReadConsumes};
     ghost use Rattle.ecma_token.specs.Counts.{count_after, one_more, is_failed_read};
-    ghost use Rattle.ecma_front.specs.Memory.{unread, reader_calls, reader_failures, reader_fails_at, reader_piece};
-    ghost use Rattle.ecma_front.specs.Calls.{fails_at};
+    ghost use Rattle.ecma_memory.specs.Memory.{unread, reader_calls, reader_failures, reader_fails_at, reader_piece};
+    ghost use Rattle.ecma_memory.specs.Calls.{fails_at};
 
     fn read_counted(&mut self, buf: &mut [u8]) -> io::Result<usize>
         ensures bound { ReadsAtMost result buf.new }
@@ -121,7 +123,7 @@ pub struct MemWriter {
 
 impl MemWriter {
     ghost use Rattle.std.specs.Prelude.{◌≡◌, ◌≤◌, [], IfOk};
-    ghost use Rattle.ecma_front.specs.Memory.{written, writer_calls, writer_failures, writer_fails_at, writer_piece, writer_room};
+    ghost use Rattle.ecma_memory.specs.Memory.{written, writer_calls, writer_failures, writer_fails_at, writer_piece, writer_room};
 
     /// A writer with room for `room` bytes, so that no write takes memory. It takes at most `piece`
     /// bytes a write, and fails at its `fail_at`-th call, counted from 1, and once its room is used up.
@@ -164,7 +166,7 @@ impl MemWriter {
 }
 
 impl Failing for MemWriter {
-    ghost use Rattle.ecma_front.specs.Memory.{writer_failures};
+    ghost use Rattle.ecma_memory.specs.Memory.{writer_failures};
 
     ghost failure_count = { writer_failures };
 
@@ -175,7 +177,7 @@ impl Failing for MemWriter {
 
 impl Write for MemWriter {
     ghost use Rattle.std.specs.Prelude.{Some};
-    ghost use Rattle.ecma_front.specs.Memory.{written};
+    ghost use Rattle.ecma_memory.specs.Memory.{written};
 
     ghost contents = { λ w. Some (written w) };
 
@@ -193,8 +195,8 @@ impl CountedWrite for MemWriter {
     ghost use Rattle.std.specs.Io.{WritesAtMost};
     ghost use Rattle.std.specs.Io.KnownBytes.{WriteAppends};
     ghost use Rattle.ecma_token.specs.Counts.{count_after, one_more, is_failed_write};
-    ghost use Rattle.ecma_front.specs.Memory.{written, writer_calls, writer_failures, writer_fails_at, writer_piece, writer_room, is_full};
-    ghost use Rattle.ecma_front.specs.Calls.{fails_at};
+    ghost use Rattle.ecma_memory.specs.Memory.{written, writer_calls, writer_failures, writer_fails_at, writer_piece, writer_room, is_full};
+    ghost use Rattle.ecma_memory.specs.Calls.{fails_at};
 
     fn write_counted(&mut self, bytes: &[u8]) -> io::Result<usize>
         ensures bound { WritesAtMost result bytes.now }
