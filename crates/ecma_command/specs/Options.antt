@@ -1,9 +1,10 @@
 -- Which settings a run refuses.
-use Rattle.std.specs.Prelude.{◌≡◌, ℕ, Bool, true, false, ◌||◌, ◌==◌, nat_lt}
+use Rattle.std.specs.Prelude.{ℕ, Bool, true, false, ◌||◌, ◌==◌, nat_lt}
 use Rattle.ecma_token.specs.declared.version.EsVersion.{EsVersion}
 use Rattle.ecma_token.specs.declared.version.EsVersion.TheVariants as v
 use Rattle.ecma_token.specs.declared.syntax.Syntax.{Syntax}
 use Rattle.ecma_token.specs.declared.syntax.Syntax.TheVariants.{Es}
+use Rattle.ecma_token.specs.declared.syntax.EsSyntax.{EsSyntax}
 use Rattle.ecma_command.specs.declared.options.Goal.{Goal}
 use Rattle.ecma_command.specs.declared.options.Goal.TheVariants as g
 use Rattle.ecma_command.specs.declared.options.Style.{Style}
@@ -44,7 +45,36 @@ are_not_yet o = is_module o.goal || is_format o.style || is_before_es2015 o.targ
 abbrev pub are_refused : Options → Bool
 are_refused o = are_out_of_range o || are_not_yet o
 
--- The settings where none is given. Whether a part of the syntax is on is that part's own default: off.
-abbrev pub AreDefault : Options → Type 0
-AreDefault o = (o.goal ≡ g.Module) × (o.style ≡ s.Format) × (o.target ≡ v.EsNext) × (o.ascii_only ≡ false) × (o.inline_script ≡ false)
-    × (o.line_end ≡ Lf) × (o.indent ≡ Blanks 4) × (o.nesting ≡ 256) × (o.positions ≡ false) × (has_jsx o.syntax ≡ false)
+-- no optional part of the syntax
+abbrev pub plain_syntax : EsSyntax
+plain_syntax = record {
+  jsx = false;
+  fn_bind = false;
+  decorators = false;
+  decorators_before_export = false;
+  export_default_from = false;
+  import_attributes = false;
+  allow_super_outside_method = false;
+  allow_return_outside_function = false;
+  auto_accessors = false;
+  explicit_resource_management = false;
+}
+
+-- the step of indentation where none is given
+abbrev pub default_indent : Indent
+default_indent = Blanks 4
+
+-- the settings where none is given
+abbrev pub default_options : Options
+default_options = record {
+  goal = g.Module;
+  style = s.Format;
+  target = v.EsNext;
+  ascii_only = false;
+  inline_script = false;
+  line_end = Lf;
+  indent = default_indent;
+  syntax = Es plain_syntax;
+  nesting = 256;
+  positions = false;
+}

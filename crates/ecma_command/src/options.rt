@@ -52,6 +52,11 @@ impl Indent {
 }
 
 impl Default for Indent {
+    ghost use Rattle.std.specs.Prelude.{◌≡◌};
+    ghost use Rattle.ecma_command.specs.Options.{default_indent};
+
+    ghost is_default = { λ indent. indent ≡ default_indent };
+
     fn default() -> Indent {
         Indent::Blanks(4)
     }
@@ -79,9 +84,10 @@ pub struct Options {
 }
 
 impl Default for Options {
-    ghost use Rattle.ecma_command.specs.Options.{AreDefault};
+    ghost use Rattle.std.specs.Prelude.{◌≡◌};
+    ghost use Rattle.ecma_command.specs.Options.{default_options};
 
-    ghost is_default = { AreDefault };
+    ghost is_default = { λ options. options ≡ default_options };
 
     fn default() -> Options {
         Options {
@@ -91,7 +97,7 @@ impl Default for Options {
             ascii_only: false,
             inline_script: false,
             line_end: LineEnd::Lf,
-            indent: Indent::Blanks(4),
+            indent: Indent::default(),
             syntax: Syntax::Es(EsSyntax::default()),
             nesting: 256,
             positions: false,

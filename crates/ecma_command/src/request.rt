@@ -23,6 +23,11 @@ pub enum CliFault {
 }
 
 impl From<AllocError> for CliFault {
+    ghost use Rattle.std.specs.Prelude.{◌≡◌};
+    ghost use Rattle.ecma_command.specs.declared.request.CliFault.TheVariants.{Memory};
+
+    ghost from_gives = { λ _ fault. fault ≡ Memory };
+
     fn from(_: AllocError) -> CliFault {
         CliFault::Memory
     }

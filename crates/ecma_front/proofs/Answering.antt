@@ -168,3 +168,15 @@ answers_exactly P options (Some bytes) before after (Ok x) settings h = λ taken
     (λ _. (h.1.0, (h.1.1.0, h.1.1.1.0, h.1.1.1.1)), λ _. refl)
 answers_exactly P options (Some bytes) before after (Err fault) settings h = λ taken found.
     (λ e. absurd (cc), λ r. absurd (refused_unreadable P options bytes before after fault found (λ e. let refused = settings (ap (λ (x : Fault). Err x) e) in cc) h r))
+
+pub refusal_no_read : (fault : Fault) → is_refusal fault ≡ true → is_read_fault fault ≡ false
+refusal_no_read (f.NotUtf8 n) is = refl
+refusal_no_read f.TooLong is = refl
+refusal_no_read (f.Syntax e) is = refl
+refusal_no_read f.TooDeep is = refl
+refusal_no_read (f.Read k) is = absurd (cc)
+refusal_no_read f.Memory is = refl
+refusal_no_read (f.Write k) is = refl
+refusal_no_read f.Position is = refl
+refusal_no_read f.Node is = refl
+refusal_no_read f.Options is = refl

@@ -1,9 +1,11 @@
 //! What the program answers and prints.
-ghost use Rattle.std.specs.Prelude.{◌≡◌, ◌⊎◌, true, is_some, IfSome};
-ghost use Rattle.ecma_front.specs.Faults.{is_refusal};
+ghost use Rattle.std.specs.Prelude.{◌≡◌, ◌≢◌, ◌⊎◌, ◌<◌, ◌-◌, ◌^◌, true, is_some, IfSome, IsUtf8};
+ghost use Rattle.std.specs.Str.{chars};
 ghost use Rattle.ecma_command.specs.Options.{are_refused};
-ghost use Rattle.ecma_front.specs.Run.{WritesScript};
-ghost use Rattle.ecma_front.specs.Command.{IsUnread};
+ghost use Rattle.ecma_front.specs.Faults.{is_refusal};
+ghost use Rattle.ecma_front.specs.Lines as lines;
+ghost use Rattle.ecma_front.specs.Run.{WritesBeginning, WritesScript};
+ghost use Rattle.ecma_front.specs.Command.{IsUnread, LiesAt};
 
 use crate::fault::Fault;
 use crate::line_col::place;
@@ -13,8 +15,10 @@ use ecma_token::{BytePos, CountedRead, CountedWrite, LineCol};
 use std::alloc::Global;
 use std::io::Write;
 
-/// The place of the byte at an offset.
-fn place_in(bytes: &[u8], offset: usize) -> LineCol {
+/// The place of the byte at an offset. In bytes that are not UTF-8 it is the start.
+fn place_in(bytes: &[u8], offset: usize) -> LineCol
+    ensures { IsUtf8 bytes.now → offset < 2 ^ 32 → result ≡ lines.place_of (chars bytes.now) offset }
+{
     match std::str::from_utf8(bytes) {
         Ok(text) => place(text, u32::try_from(offset).unwrap_or(u32::MAX)),
         Err(_) => LineCol::default(),
@@ -22,13 +26,16 @@ fn place_in(bytes: &[u8], offset: usize) -> LineCol {
 }
 
 /// How far a place is from the start of the text, which is at 1. No place counts as the start.
-fn offset_of(place: BytePos) -> usize {
+fn offset_of(place: BytePos) -> usize
+    ensures { result ≡ place.0 - 1 }
+{
     place.0.saturating_sub(1) as usize
 }
 
 /// Where a fault of the text stands, if it is one of the text.
 fn place_of(fault: Fault, text: &[u8]) -> Option<LineCol>
-    ensures { is_some result ≡ is_refusal fault }
+    ensures refused { is_some result ≡ is_refusal fault }
+    ensures place { IfSome result (LiesAt text.now fault) }
 {
     match fault {
         Fault::NotUtf8 { valid_up_to } => {
@@ -67,6 +74,8 @@ pub fn answer<R: CountedRead, W: CountedWrite, E: Write>(
     ensures written { result ≡ 0 → IfSome (R.remaining input.old) (λ bytes. WritesScript invocation.now.options bytes (W.contents output.old) (W.contents output.new)) }
     ensures refused { result ≡ 1 → IfSome (R.remaining input.old) (IsUnread invocation.now.options) }
     ensures unwritten { result ≡ 1 → output.new ≡ output.old }
+    ensures begun { result ≡ 3 → (output.new ≡ output.old) ⊎ IfSome (R.remaining input.old) (λ bytes. WritesBeginning invocation.now.options bytes (W.contents output.old) (W.contents output.new)) }
+    ensures unfailed { result ≢ 3 → (R.failure_count input.new ≡ R.failure_count input.old) × (W.failure_count output.new ≡ W.failure_count output.old) }
 {
     let mut kept = Vec::new(alloc);
     match run_kept(alloc, input, output, invocation.options, &mut kept) {

@@ -71,31 +71,33 @@ impl Failing for MemReader {
 
 impl Read for MemReader {
     ghost use Rattle.std.specs.Prelude.{Some};
-    ghost use Rattle.ecma_memory.specs.Memory.{unread};
+    ghost use Rattle.std.specs.Io.{ReadsAtMost};
+    ghost use Rattle.std.specs.Io.KnownBytes.{ReadConsumes};
+    ghost use Rattle.ecma_memory.specs.Memory.{unread, IsOneRead};
 
     ghost remaining = { λ r. Some (unread r) };
 
-    fn read(&mut self, buf: &mut [u8]) -> io::Result<usize> {
+    fn read(&mut self, buf: &mut [u8]) -> io::Result<usize>
+        ensures bound { ReadsAtMost result buf.new }
+        ensures bytes { ReadConsumes (Some (unread self.old)) (Some (unread self.new)) result buf.new }
+        ensures one { IsOneRead self.old self.new buf.old result }
+    {
         self.read_counted(buf)
     }
 }
 
 impl CountedRead for MemReader {
-    ghost use Rattle.std.specs.Prelude.{◌≡◌, ◌↔◌, true, Some, IsErr, IfOk, min, length};
+    ghost use Rattle.std.specs.Prelude.{◌≡◌, Some};
     ghost use Rattle.std.specs.Io.{ReadsAtMost};
     ghost use Rattle.std.specs.Io.KnownBytes.{ReadConsumes};
-    ghost use Rattle.ecma_token.specs.Counts.{count_after, one_more, is_failed_read};
-    ghost use Rattle.ecma_memory.specs.Memory.{unread, reader_calls, reader_failures, reader_fails_at, reader_piece};
-    ghost use Rattle.ecma_memory.specs.Calls.{fails_at};
+    ghost use Rattle.ecma_token.specs.Counts.{count_after, is_failed_read};
+    ghost use Rattle.ecma_memory.specs.Memory.{unread, reader_failures, IsOneRead};
 
     fn read_counted(&mut self, buf: &mut [u8]) -> io::Result<usize>
         ensures bound { ReadsAtMost result buf.new }
         ensures bytes { ReadConsumes (Some (unread self.old)) (Some (unread self.new)) result buf.new }
         ensures failures { reader_failures self.new ≡ count_after (is_failed_read result) (reader_failures self.old) }
-        ensures calls { reader_calls self.new ≡ one_more (reader_calls self.old) }
-        ensures settings { (reader_piece self.new ≡ reader_piece self.old) × (reader_fails_at self.new ≡ reader_fails_at self.old) }
-        ensures fails { IsErr result ↔ (fails_at (reader_fails_at self.old) (reader_calls self.new) ≡ true) }
-        ensures count { IfOk result (λ n. n ≡ min (length (unread self.old)) (min (length buf.old) (reader_piece self.old))) }
+        ensures one { IsOneRead self.old self.new buf.old result }
     {
         if self.calls.begin() {
             self.calls.count_failure();
@@ -176,36 +178,42 @@ impl Failing for MemWriter {
 }
 
 impl Write for MemWriter {
-    ghost use Rattle.std.specs.Prelude.{Some};
-    ghost use Rattle.ecma_memory.specs.Memory.{written};
+    ghost use Rattle.std.specs.Prelude.{◌≡◌, Some, IsOk};
+    ghost use Rattle.std.specs.Io.{WritesAtMost};
+    ghost use Rattle.std.specs.Io.KnownBytes.{Keeps, WriteAppends};
+    ghost use Rattle.ecma_memory.specs.Memory.{written, IsOneWrite};
 
     ghost contents = { λ w. Some (written w) };
 
-    fn write(&mut self, buf: &[u8]) -> io::Result<usize> {
+    fn write(&mut self, buf: &[u8]) -> io::Result<usize>
+        ensures bound { WritesAtMost result buf.now }
+        ensures bytes { WriteAppends (Some (written self.old)) (Some (written self.new)) result buf.now }
+        ensures one { IsOneWrite self.old self.new buf.now result }
+    {
         self.write_counted(buf)
     }
 
-    fn flush(&mut self) -> io::Result<()> {
+    fn flush(&mut self) -> io::Result<()>
+        ensures bytes { Keeps (Some (written self.old)) (Some (written self.new)) }
+        ensures same { self.new ≡ self.old }
+        ensures succeeds { IsOk result }
+    {
         Ok(())
     }
 }
 
 impl CountedWrite for MemWriter {
-    ghost use Rattle.std.specs.Prelude.{◌≡◌, ◌↔◌, ◌-◌, ◌||◌, true, Some, IsErr, IfOk, min, length};
+    ghost use Rattle.std.specs.Prelude.{◌≡◌, Some};
     ghost use Rattle.std.specs.Io.{WritesAtMost};
     ghost use Rattle.std.specs.Io.KnownBytes.{WriteAppends};
-    ghost use Rattle.ecma_token.specs.Counts.{count_after, one_more, is_failed_write};
-    ghost use Rattle.ecma_memory.specs.Memory.{written, writer_calls, writer_failures, writer_fails_at, writer_piece, writer_room, is_full};
-    ghost use Rattle.ecma_memory.specs.Calls.{fails_at};
+    ghost use Rattle.ecma_token.specs.Counts.{count_after, is_failed_write};
+    ghost use Rattle.ecma_memory.specs.Memory.{written, writer_failures, IsOneWrite};
 
     fn write_counted(&mut self, bytes: &[u8]) -> io::Result<usize>
         ensures bound { WritesAtMost result bytes.now }
         ensures bytes { WriteAppends (Some (written self.old)) (Some (written self.new)) result bytes.now }
         ensures failures { writer_failures self.new ≡ count_after (is_failed_write bytes.now result) (writer_failures self.old) }
-        ensures calls { writer_calls self.new ≡ one_more (writer_calls self.old) }
-        ensures settings { (writer_piece self.new ≡ writer_piece self.old) × (writer_room self.new ≡ writer_room self.old) × (writer_fails_at self.new ≡ writer_fails_at self.old) }
-        ensures fails { IsErr result ↔ ((fails_at (writer_fails_at self.old) (writer_calls self.new) || is_full self.old bytes.now) ≡ true) }
-        ensures count { IfOk result (λ n. n ≡ min (length bytes.now) (min (writer_piece self.old) (writer_room self.old - length (written self.old)))) }
+        ensures one { IsOneWrite self.old self.new bytes.now result }
     {
         let left = self.room - self.bytes.len();
         let count = bytes.len().min(self.piece.min(left));
