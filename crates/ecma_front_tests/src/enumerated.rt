@@ -80,6 +80,7 @@ fn compare(
             tally.too_deep = tally.too_deep.saturating_add(1);
         }
         None => {
+            // what no script spells may nest past a low limit before its fault is reached
             let is_refused = match ran.answer {
                 Err(Fault::Syntax(_)) => true,
                 Err(Fault::TooDeep) => limit < DEEPEST,
@@ -131,8 +132,8 @@ fn compare_all(
     Ok(tally)
 }
 
-/// Compares all texts over an alphabet up to a length, within each of the limits. So many are written,
-/// too deep and refused: a third program, in another language, counted them.
+/// Compares all texts over an alphabet up to a length, within each of the limits. How many are
+/// written, too deep and refused was counted by a third program, in another language.
 fn expect_tally(
     rt: &impl Abort,
     alloc: Global,

@@ -160,6 +160,7 @@ static NO_STRINGS: [&str; 8] = [
     "'", "\"", "'a", "'a\"", "\"a'", "'a\nb'", "'a\rb'", "'a\\'b'",
 ];
 
+/// The text is written so.
 fn expect_written(
     rt: &impl Abort,
     alloc: Global,
@@ -172,6 +173,7 @@ fn expect_written(
     Ok(())
 }
 
+/// The text has a fault of syntax, and nothing is written.
 fn expect_refused(rt: &impl Abort, alloc: Global, text: &str) -> Result<(), AllocError> {
     let ran = run_at_once(alloc, text.as_bytes(), minify_within(256))?;
     assert!(rt; matches!(ran.answer, Err(Fault::Syntax(_))), "{text:?}");
