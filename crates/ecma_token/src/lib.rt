@@ -15,10 +15,10 @@ pub mod word;
 
 pub use context::Context;
 pub use counted::{Counted, CountedRead, CountedWrite, Failing};
-pub use error::{Error, SyntaxError};
-pub use literal::{Text, Units};
 pub use ecma_number as number;
 pub use ecma_number::NumValue;
+pub use error::{Error, SyntaxError};
+pub use literal::{Text, Units};
 pub use operator::{AssignOp, BinOpToken, BinaryOp};
 pub use place::{BytePos, DUMMY_SP, LineCol, Span, Spanned};
 pub use syntax::{EsConfig, EsSyntax, Syntax};

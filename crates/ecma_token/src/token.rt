@@ -3,10 +3,10 @@ ghost use Rattle.std.specs.Prelude.{◌≡◌};
 
 use crate::error::Error;
 use crate::literal::{Text, Units};
-use ecma_number::NumValue;
 use crate::operator::{AssignOp, BinOpToken};
 use crate::place::{Span, Spanned};
 use crate::word::{Word, WordKind};
+use ecma_number::NumValue;
 
 /// A token. What it spells is borrowed from the text.
 #[derive(Clone, Debug, Drop)]

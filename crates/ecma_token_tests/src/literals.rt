@@ -3,7 +3,9 @@ use ecma_token::{
     AssignOp, BinOpToken, BinaryOp, BytePos, DUMMY_SP, Error, NumValue, Span, Spanned, SyntaxError,
     Text, Token, TokenAndSpan, TokenKind, Units, Word,
 };
+use std::alloc::Global;
 use std::convert::{AsSlice, AsStr};
+use std::process::Abort;
 use std::test::Fail;
 
 #[test]
@@ -19,24 +21,20 @@ fn units_and_texts_are_what_they_were_made_from(rt: HostRuntime) -> Result<(), F
     Ok(())
 }
 
-#[test]
-fn tokens_are_copied_whole(rt: HostRuntime) -> Result<(), Fail> {
-    let span = Span {
-        lo: BytePos(1),
-        hi: BytePos(4),
-    };
-    let value = NumValue::read(rt.alloc(), "1.5")?.ok_or("no number")?;
-    let number = TokenAndSpan {
+fn number(alloc: Global) -> Result<TokenAndSpan<'static>, Fail> {
+    let value = NumValue::read(alloc, "1.5")?.ok_or("no number")?;
+    Ok(TokenAndSpan {
         token: Token::Num { value, raw: "1.5" },
         had_line_break: true,
-        span,
-    };
-    let copy = number.clone()?;
-    assert_eq!(rt; copy.span(), span);
-    assert_eq!(rt; copy.span_lo(), BytePos(1));
-    assert_eq!(rt; copy.span_hi(), BytePos(4));
-    assert!(rt; copy.had_line_break);
-    match &copy.token {
+        span: Span {
+            lo: BytePos(1),
+            hi: BytePos(4),
+        },
+    })
+}
+
+fn is_one_and_a_half(rt: &impl Abort, token: &Token) {
+    match token {
         Token::Num { value, raw } => {
             assert_eq!(rt; value.digits(), "15");
             assert_eq!(rt; value.exponent_digits(), "1");
@@ -44,18 +42,38 @@ fn tokens_are_copied_whole(rt: HostRuntime) -> Result<(), Fail> {
         }
         _ => assert!(rt; false, "a number"),
     }
+}
+
+#[test]
+fn a_number_is_copied_whole(rt: HostRuntime) -> Result<(), Fail> {
+    let copy = number(rt.alloc())?.clone()?;
+    assert_eq!(rt; copy.span_lo(), BytePos(1));
+    assert_eq!(rt; copy.span_hi(), BytePos(4));
+    assert!(rt; copy.had_line_break);
     assert_eq!(rt; copy.token.kind(), TokenKind::Num);
+    is_one_and_a_half(&rt, &copy.token);
+    Ok(())
+}
+
+#[test]
+fn strings_and_big_integers_are_copied(rt: HostRuntime) -> Result<(), Fail> {
     let string = Token::Str {
         units: Units::from(Vec::new(rt.alloc())),
         raw: "''",
     };
     assert_eq!(rt; string.clone()?.kind(), TokenKind::Str);
+    let digits = Text::from(String::from_str(rt.alloc(), "ff")?);
     let big = Token::BigInt {
         radix: 16,
-        digits: Text::from(String::from_str(rt.alloc(), "ff")?),
+        digits,
         raw: "0xffn",
     };
     assert_eq!(rt; big.clone()?.kind(), TokenKind::BigInt);
+    Ok(())
+}
+
+#[test]
+fn a_bad_escape_is_copied(rt: HostRuntime) -> Result<(), Fail> {
     let bad = Token::Template {
         raw: "\\u",
         cooked: Err(Error {
@@ -84,6 +102,11 @@ fn tokens_have_their_kinds(rt: HostRuntime) -> Result<(), Fail> {
         Token::AssignOp(AssignOp::OrAssign).kind(),
         TokenKind::AssignOp(AssignOp::OrAssign)
     );
+    Ok(())
+}
+
+#[test]
+fn tokens_that_hold_texts_have_their_kinds(rt: HostRuntime) -> Result<(), Fail> {
     let word = Word::from_str("of");
     assert_eq!(rt;
         Token::Word(word.clone()?).kind(),
