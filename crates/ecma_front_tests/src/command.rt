@@ -3,9 +3,10 @@
 use crate::over_memory::{ROOM, minify_within};
 use ecma_front::memory::{MemReader, MemWriter};
 use ecma_front::{
-    CliFault, EsSyntax, Goal, Invocation, Options, Style, Syntax, answer, invocation,
+    CliFault, EsSyntax, Fault, Goal, Invocation, Options, Style, Syntax, answer, invocation,
 };
 use std::alloc::{AllocError, Global};
+use std::io::ErrorKind;
 use std::test::Fail;
 
 /// The settings of the program with this goal and this style.
@@ -304,6 +305,25 @@ fn errors_that_cannot_be_printed_change_nothing(rt: HostRuntime) -> Result<(), F
             let written = if want == 0 { bytes } else { b"" };
             assert_eq!(rt; output.bytes(), written, "{bytes:?}, call {fail_at}");
         }
+    }
+    Ok(())
+}
+
+#[test]
+fn faults_are_told_in_one_line(rt: HostRuntime) -> Result<(), Fail> {
+    let rows = [
+        (Fault::Read(ErrorKind::Interrupted), "read failed"),
+        (Fault::NotUtf8 { valid_up_to: 7 }, "the text is not UTF-8"),
+        (Fault::TooLong, "the text is too long"),
+        (Fault::TooDeep, "nested too deeply"),
+        (Fault::Memory, "out of memory"),
+        (Fault::Write(ErrorKind::Other), "write failed"),
+        (Fault::Position, "position too large"),
+        (Fault::Node, "node cannot be printed"),
+        (Fault::Options, "options refused"),
+    ];
+    for (fault, line) in rows {
+        assert_eq!(rt; format!(in rt.alloc(); "{fault}")?.as_str(), line);
     }
     Ok(())
 }

@@ -96,7 +96,11 @@ impl<T> Failing for Counted<T> {
 impl<R: Read> Read for Counted<R> {
     ghost remaining = { λ c. R.remaining c.inner };
 
-    fn read(&mut self, buf: &mut [u8]) -> io::Result<usize> {
+    fn read(&mut self, buf: &mut [u8]) -> io::Result<usize>
+        ensures bound { ReadsAtMost result buf.new }
+        ensures bytes { ReadConsumes (R.remaining self.old.inner) (R.remaining self.new.inner) result buf.new }
+        ensures failures { self.new.failures ≡ count_after (is_failed_read result) self.old.failures }
+    {
         self.read_counted(buf)
     }
 }
@@ -112,11 +116,18 @@ impl<R: Read> CountedRead for Counted<R> {
 impl<W: Write> Write for Counted<W> {
     ghost contents = { λ c. W.contents c.inner };
 
-    fn write(&mut self, buf: &[u8]) -> io::Result<usize> {
+    fn write(&mut self, buf: &[u8]) -> io::Result<usize>
+        ensures bound { WritesAtMost result buf.now }
+        ensures bytes { WriteAppends (W.contents self.old.inner) (W.contents self.new.inner) result buf.now }
+        ensures failures { self.new.failures ≡ count_after (is_failed_write buf.now result) self.old.failures }
+    {
         self.write_counted(buf)
     }
 
-    fn flush(&mut self) -> io::Result<()> {
+    fn flush(&mut self) -> io::Result<()>
+        ensures bytes { Keeps (W.contents self.old.inner) (W.contents self.new.inner) }
+        ensures failures { self.new.failures ≡ self.old.failures }
+    {
         self.inner.flush()
     }
 }
