@@ -1,9 +1,9 @@
 -- Which classes of characters have no character in common.
 use Rattle.std.proofs.Common.{◌≡◌, ℕ, Bool, true, false, List, [], ◌∷◌, refl, ap, ◌∙◌, ⊎_elim}
-use Rattle.std.specs.Prelude.{◌==◌, not, ◌||◌, ◌&&◌}
+use Rattle.std.specs.Prelude.{◌==◌, not}
 use Rattle.std.specs.List.{list_all}
-use Rattle.std.proofs.lemmas.Bool.{eqb-true, and_parts, or_cases, not-true, false_from_ne_true, both_ways}
-use Rattle.ecma_scan.specs.Characters.{is_among, is_white_space, is_line_terminator, white_space, line_terminators}
+use Rattle.std.proofs.lemmas.Bool.{eqb-true, and_parts, or_cases, not-true, both_ways}
+use Rattle.ecma_scan.specs.Characters.{is_among, is_white_space, is_line_terminator, line_terminators}
 
 -- what passes at each of a list passes at each character among them
 pub among_passes : (p : ℕ → Bool) (xs : List ℕ) (c : ℕ) → list_all p xs ≡ true → is_among xs c ≡ true → p c ≡ true

@@ -1,10 +1,9 @@
 -- The functions that read Unicode escapes are their definition.
-use Rattle.std.proofs.Common.{◌≡◌, ◌≢◌, ℕ, ◌+◌, ◌*◌, ◌<◌, ◌≤◌, ◌⊎◌, inl, inr, ⊎_elim, Bool, true, false, cond, ◌||◌, List, [], ◌∷◌, ◌++◌, length, refl, sym, ap, subst, ◌∙◌, append_assoc, arith, min}
+use Rattle.std.proofs.Common.{◌≡◌, ◌≢◌, ℕ, ◌+◌, ◌*◌, ◌<◌, inl, inr, ⊎_elim, Bool, true, false, cond, ◌||◌, List, [], ◌∷◌, ◌++◌, refl, sym, ap, subst, ◌∙◌, append_assoc, arith, min}
 use Rattle.std.specs.Prelude.{◌==◌, Option, None, Some, IfSome, option_and_then, option_map, unwrap_or}
 use Rattle.std.specs.Borrow.{Bor}
 use Rattle.std.specs.Str.{chars}
 use Rattle.std.proofs.lemmas.Bool.{cases_Bool, false≢true, eqb-true}
-use Rattle.std.proofs.lemmas.Bool.Decides.{nat_tests}
 use Rattle.ecma_scan.specs.Characters.{is_between, is_hex_digit}
 use Rattle.ecma_scan.specs.Runs.{Each, Ends, run, after}
 use Rattle.ecma_scan.specs.Escapes.{Coded, IsFour, IsBraced, IsDigits, IsEscape, capped, digit, digits, four, braced, hex, hex_value, value_after}
@@ -124,6 +123,9 @@ then_some : {X Y : Type 0} (o : Option X) (f : X → Option Y) (y : Y) → optio
 then_some None f y e = cc
 then_some (Some x) f y e = (x, refl, e)
 
+joined : (a b c d e : List ℕ) (x y z w : ℕ) → a ≡ x ∷ b → b ≡ y ∷ c → c ≡ z ∷ d → d ≡ w ∷ e → a ≡ x ∷ y ∷ z ∷ w ∷ e
+joined a b c d e x y z w h i j k = cc
+
 four_is : (cs : List ℕ) (v : ℕ) (rest : List ℕ) → four cs ≡ Some (v, rest) → IsFour cs v rest
 four_is cs v rest e =
     let a = then_some (hex cs) (λ a. option_and_then (λ b. option_and_then (λ c. option_and_then (λ d. Some (16 * (16 * (16 * a.0 + b.0) + c.0) + d.0, d.1)) (hex c.1)) (hex b.1)) (hex a.1)) (v, rest) e in
@@ -135,8 +137,7 @@ four_is cs v rest e =
     let z = hex_is b.0.1 c.0.0 c.0.1 c.1 in
     let w = hex_is c.0.1 d.0.0 d.0.1 d.1 in
     let last = same_coded (16 * (16 * (16 * a.0.0 + b.0.0) + c.0.0) + d.0.0, d.0.1) (v, rest) d.2 in
-    let text : cs ≡ x.0 ∷ y.0 ∷ z.0 ∷ w.0 ∷ rest =
-    x.1 ∙ ap (λ (l : List ℕ). x.0 ∷ l) (y.1 ∙ ap (λ (l : List ℕ). y.0 ∷ l) (z.1 ∙ ap (λ (l : List ℕ). z.0 ∷ l) (w.1 ∙ ap (λ (l : List ℕ). w.0 ∷ l) last.1))) in
+    let text = joined cs a.0.1 b.0.1 c.0.1 rest x.0 y.0 z.0 w.0 x.1 y.1 z.1 (w.1 ∙ ap (λ (l : List ℕ). w.0 ∷ l) last.1) in
     let value : v ≡ value_after 0 (x.0 ∷ y.0 ∷ z.0 ∷ w.0 ∷ []) =
     omega (arith, last.0, digit_of x.0 a.0.0 x.2, digit_of y.0 b.0.0 y.2, digit_of z.0 c.0.0 z.2, digit_of w.0 d.0.0 w.2) in
     (x.0, y.0, z.0, w.0, text, (hex_some x.0 _ x.2, (hex_some y.0 _ y.2, (hex_some z.0 _ z.2, (hex_some w.0 _ w.2, tt)))), value)

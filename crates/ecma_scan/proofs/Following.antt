@@ -1,5 +1,5 @@
 -- Pieces of trivia one after another.
-use Rattle.std.proofs.Common.{◌≡◌, ◌≢◌, ℕ, IsUtf8, Bool, true, false, cond, not, ◌||◌, List, [], ◌∷◌, ◌++◌, length, refl, sym, ap, subst, ◌∙◌, arith, ⊎_elim}
+use Rattle.std.proofs.Common.{◌≡◌, ◌≢◌, ℕ, IsUtf8, Bool, true, false, not, ◌||◌, List, [], ◌∷◌, ◌++◌, length, refl, sym, ap, subst, ◌∙◌, arith, ⊎_elim}
 use Rattle.std.specs.Prelude.{◌==◌, Option, None, Some, MatchOption}
 use Rattle.std.specs.List.{list_any}
 use Rattle.std.specs.Str.{chars}

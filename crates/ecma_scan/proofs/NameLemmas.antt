@@ -1,18 +1,17 @@
 -- Names are determined, and how their characters are put together.
-use Rattle.std.proofs.Common.{◌≡◌, ◌≢◌, ℕ, ◌⊎◌, inl, inr, ⊎_elim, Bool, true, false, cond, ◌||◌, List, [], ◌∷◌, ◌++◌, refl, sym, ap, subst, ◌∙◌, append_assoc, arith}
-use Rattle.std.specs.Prelude.{◌==◌, encode_utf8_all}
+use Rattle.std.proofs.Common.{◌≡◌, ℕ, ◌⊎◌, inl, inr, ⊎_elim, Bool, true, false, cond, ◌||◌, List, [], ◌∷◌, ◌++◌, refl, sym, ap, subst, ◌∙◌, arith}
+use Rattle.std.specs.Prelude.{◌==◌}
 use Rattle.std.specs.Char.{IsScalar}
 use Rattle.std.proofs.lemmas.Bool.{false≢true, cases_Bool}
 use Rattle.std.proofs.lemmas.Bool.Decides.{nat_tests}
 use Rattle.std.proofs.Math.Bool.{or-true}
-use Rattle.std.proofs.lemmas.Str.{encodes-append}
-use Rattle.unicode_ident.specs.Ident.{is_xid_start, is_xid_continue}
+use Rattle.unicode_ident.specs.Ident.{is_xid_start}
 use Rattle.unicode_ident.proofs.Computing.{unicode_ident}
 use Rattle.unicode_ident.proofs.IdentLemmas.{is_xid_start-is_xid_continue}
 use Rattle.ecma_token.specs.declared.error.Error.{Error}
 use Rattle.ecma_scan.specs.Characters.{is_name_start, is_name_part}
 use Rattle.ecma_scan.specs.Escapes.{IsDigits, IsEscape}
-use Rattle.ecma_scan.specs.Names.{IsBad, IsName, IsNameChar, IsNameFault, NoName, OneName, Spell, is_continuing, is_name_char, is_nil, is_opening}
+use Rattle.ecma_scan.specs.Names.{IsBad, IsNameChar, IsNameFault, NoName, OneName, Spell, is_continuing, is_name_char, is_nil}
 use Rattle.ecma_scan.specs.Runs.{Each, Ends}
 use Rattle.ecma_scan.proofs.EscapeLemmas.{one_escape}
 

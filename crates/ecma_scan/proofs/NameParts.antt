@@ -1,6 +1,6 @@
 -- The parts of a name, as the code reads them.
 use Rattle.std.proofs.Common.{◌≡◌, ◌≢◌, ℕ, ◌<◌, ◌⊎◌, inl, inr, ⊎_elim, Bool, true, false, cond, min, List, [], ◌∷◌, ◌++◌, length, IsUtf8, refl, sym, ap, subst, ◌∙◌, append_assoc, append-nil, arith}
-use Rattle.std.specs.Prelude.{◌==◌, Option, None, Some, option_map, encode_utf8_all, string_bytes}
+use Rattle.std.specs.Prelude.{◌==◌, Option, None, Some, option_map, encode_utf8_all}
 use Rattle.std.specs.Char.{IsScalar}
 use Rattle.std.specs.Str.{chars}
 use Rattle.std.proofs.lemmas.Bool.{false≢true, cases_Bool, eqb-true}
@@ -10,7 +10,7 @@ use Rattle.std.proofs.Math.Bool.{or-true}
 use Rattle.ecma_token.specs.declared.error.Error.{Error}
 use Rattle.ecma_token.specs.declared.error.SyntaxError.TheVariants.{InvalidIdentChar, InvalidUnicodeEscape, Memory}
 use Rattle.ecma_scan.specs.Characters.{is_name_start, is_name_part}
-use Rattle.ecma_scan.specs.Escapes.{Coded, IsDigits, IsEscape, capped, digits}
+use Rattle.ecma_scan.specs.Escapes.{Coded, IsDigits, capped, digits}
 use Rattle.ecma_scan.specs.Names.{IsBad, IsBareFront, IsFaultWithin, IsName, IsNameChar, IsNameFault, IsUnescaped, NoName, Spell, is_continuing, is_name_char, is_nil}
 use Rattle.ecma_scan.specs.Places.{IsAt}
 use Rattle.ecma_scan.specs.Runs.{Each, Ends, run, after}

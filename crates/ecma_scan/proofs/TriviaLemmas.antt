@@ -1,12 +1,11 @@
 -- The functions that read a piece of trivia are its definition.
-use Rattle.std.proofs.Common.{◌≡◌, ◌≢◌, ℕ, ◌⊎◌, inl, inr, ⊎_elim, Bool, true, false, cond, not, ◌||◌, List, [], ◌∷◌, ◌++◌, refl, sym, ap, subst, ◌∙◌, arith}
+use Rattle.std.proofs.Common.{◌≡◌, ◌≢◌, ℕ, inl, inr, ⊎_elim, Bool, true, false, cond, List, [], ◌∷◌, ◌++◌, refl, sym, ap, subst, ◌∙◌}
 use Rattle.std.specs.Prelude.{◌==◌, Option, None, Some, Result, Ok, Err, MatchOption, MatchResult, option_and_then}
 use Rattle.std.specs.Borrow.{Bor}
 use Rattle.std.specs.Str.{chars}
 use Rattle.ecma_token.specs.declared.error.Error.{Error}
 use Rattle.ecma_scan.specs.declared.trivia.Trivia.{Trivia}
 use Rattle.std.proofs.lemmas.Bool.{cases_Bool, false≢true, eqb-true}
-use Rattle.std.proofs.lemmas.Bool.Decides.{nat_tests}
 use Rattle.ecma_scan.specs.declared.trivia.Goal.{Goal}
 use Rattle.ecma_scan.specs.declared.trivia.Goal.TheVariants.{Script, Module}
 use Rattle.ecma_scan.specs.declared.trivia.LineMark.{LineMark}

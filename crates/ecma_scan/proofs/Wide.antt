@@ -1,6 +1,6 @@
 -- The characters whose bytes a scan passes, found by those bytes.
-use Rattle.std.proofs.Common.{◌≡◌, ℕ, ◌+◌, ◌-◌, ◌/◌, ◌<◌, ◌≤◌, ◌⊎◌, inl, inr, ⊎_elim, Bool, true, false, cond, ltb, not, ◌&&◌, take, drop, List, [], ◌∷◌, ◌++◌, length, length-append, get_or, refl, sym, ap, subst, ◌∙◌, arith}
-use Rattle.std.specs.Prelude.{◌==◌, ◌||◌, Option, None, Some, unwrap_or}
+use Rattle.std.proofs.Common.{◌≡◌, ℕ, ◌+◌, ◌/◌, ◌<◌, ◌≤◌, ◌⊎◌, inl, inr, ⊎_elim, Bool, true, false, ltb, not, ◌&&◌, drop, List, [], ◌∷◌, ◌++◌, length, length-append, get_or, refl, sym, ap, subst, ◌∙◌, arith}
+use Rattle.std.specs.Prelude.{Option, None, Some, unwrap_or}
 use Rattle.std.specs.List.{prefix_len}
 use Rattle.std.proofs.lemmas.List.Sums.{prefix_len_is}
 use Rattle.memchr.specs.Find.{IsFirstByte, Nowhere, Passes}
@@ -8,11 +8,11 @@ use Rattle.std.specs.Str.{IsCharBoundary, IsUtf8, chars, encode_utf8_all}
 use Rattle.std.proofs.lemmas.Bool.{cases_lt, cases_Bool, false≢true, false_from_ne_true}
 use Rattle.std.proofs.lemmas.Bool.Decides.{nat_tests}
 use Rattle.std.proofs.lemmas.Str.{IsCharBoundary-at_seam, chars-encodes, encode_ascii, encodes-append, encodes-chars, scalars-chars}
-use Rattle.std.proofs.Math.Seq.{take-append_seam, drop-append_seam}
+use Rattle.std.proofs.Math.Seq.{drop-append_seam}
 use lib.Utf8.{encode, next, scalar, scalars}
 use Rattle.ecma_scan.specs.Runs.{Passed}
-use Rattle.ecma_scan.specs.Characters.{is_name_part, is_white_space, is_line_terminator}
-use Rattle.ecma_scan.specs.Classes.{member, plain, is_name_byte, is_space_byte, is_line_byte, is_line_char, is_no_star}
+use Rattle.ecma_scan.specs.Characters.{is_name_part, is_white_space}
+use Rattle.ecma_scan.specs.Classes.{member, plain, is_line_byte, is_line_char, is_no_star}
 use Rattle.ecma_scan.specs.declared.runs.Class.{Class}
 use Rattle.ecma_scan.specs.declared.runs.Class.TheVariants.{NamePart, WhiteSpace, Line, NoStar}
 use Rattle.ecma_scan.proofs.Passing.{passed_none, passed_cons}

@@ -1,5 +1,5 @@
 -- Unicode escapes (12.9.4, UnicodeEscapeSequence), as names have them (12.7).
-use Rattle.std.specs.Prelude.{◌≡◌, ◌≢◌, ℕ, ◌+◌, ◌-◌, ◌*◌, ◌⊎◌, List, [], ◌∷◌, ◌++◌, length, Option, None, Some, option_and_then, unwrap_or, min, if◌then◌else◌, ◌==◌}
+use Rattle.std.specs.Prelude.{◌≡◌, ◌≢◌, ℕ, ◌+◌, ◌-◌, ◌*◌, ◌⊎◌, List, [], ◌∷◌, ◌++◌, Option, None, Some, option_and_then, unwrap_or, min, if◌then◌else◌, ◌==◌}
 use Rattle.ecma_scan.specs.Characters.{is_between, is_hex_digit}
 use Rattle.ecma_scan.specs.Runs.{Each, run, after}
 use Rattle.ecma_scan.specs.ReadingTrivia.{past}

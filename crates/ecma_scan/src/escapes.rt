@@ -9,7 +9,7 @@ use crate::characters::pop;
 use crate::runs::strip;
 
 /// The first number past all code points. A code point from there on is told as this one.
-pub(crate) const LIMIT: u32 = 0x11_0000;
+const LIMIT: u32 = 0x11_0000;
 
 /// The value of a hexadecimal digit.
 fn digit_value(c: char) -> Option<u32>

@@ -1,11 +1,10 @@
-//! Reads one piece of a text at its front: trivia, a word, a punctuator, a regular expression, a
-//! piece of a template.
+//! Reads one piece of a text at its front: trivia, a hashbang, a name or a punctuator.
 #![tactic(auto)]
 
 pub mod bytes;
 pub mod characters;
 pub mod comments;
-pub mod escapes;
+mod escapes;
 pub mod laws;
 pub mod names;
 pub mod punctuators;

@@ -1,4 +1,4 @@
-use Rattle.std.proofs.Common.{◌≡◌, ℕ, List, ◌∷◌, ap, sym, subst, ◌∙◌, false, true}
+use Rattle.std.proofs.Common.{◌≡◌, ℕ, List, ◌∷◌, ap, sym, subst, ◌∙◌, true}
 use Rattle.std.specs.Str.{chars}
 use Rattle.std.specs.Char.{IsScalar}
 use Rattle.std.proofs.lemmas.Bool.{false≢true}

@@ -1,6 +1,6 @@
 use Rattle.std.proofs.Common.{refl, arith, string_bytes}
 use Rattle.std.specs.Str.{chars}
-use Rattle.ecma_scan.proofs.NameParts.{made_none, made_more, made_all, made_fault}
+use Rattle.ecma_scan.proofs.NameParts.{made_none, made_more}
 use Rattle.ecma_scan.proofs.names.unescape.Goals as goal
 
 pub loop-more-init : goal.loop-more-init

@@ -1,4 +1,4 @@
-use Rattle.std.proofs.Common.{sym, ap, ◌∙◌, List, ℕ, ◌∷◌, refl}
+use Rattle.std.proofs.Common.{ap, ◌∙◌, List, ℕ, ◌∷◌}
 use Rattle.std.specs.Str.{chars}
 use Rattle.ecma_scan.specs.Classes.{is_line_char}
 use Rattle.ecma_scan.proofs.TriviaLemmas.{run_is}

@@ -1,8 +1,8 @@
-use Rattle.std.proofs.Common.{◌≡◌, ◌≤◌, ◌<◌, ◌||◌, true, length, IsUtf8, IfSome, ap, sym, subst, ◌∙◌, arith}
+use Rattle.std.proofs.Common.{◌<◌, ◌||◌, true, length, IsUtf8, IfSome, sym, subst, ◌∙◌, arith}
 use Rattle.std.specs.Str.{chars}
-use Rattle.ecma_scan.specs.Trivia.{IsPiece, NoTrivia, breaks}
+use Rattle.ecma_scan.specs.Trivia.{IsPiece, NoTrivia}
 use Rattle.ecma_scan.specs.ReadingTrivia.{view}
-use Rattle.ecma_scan.proofs.Following.{Skipped, skipped_more, turn, last, broken_now, broken_as_before}
+use Rattle.ecma_scan.proofs.Following.{skipped_more, turn, last, broken_now, broken_as_before}
 use Rattle.ecma_scan.proofs.trivia.skip_trivia.Goals as goal
 
 pub loop-piece-preserved-then-breaks_line : goal.loop-piece-preserved-then-breaks_line

@@ -1,0 +1,6 @@
+//! Compares what `ecma_scan` reads with a slow program that tries every way to cut a text.
+#![tactic(auto)]
+
+pub mod plain;
+#[cfg(test)]
+mod tests;
