@@ -1,0 +1,19 @@
+use Rattle.std.proofs.Common.{◌++◌, ap, ◌∙◌, sym, arith}
+use Rattle.std.specs.Str.{chars}
+use Rattle.ecma_literal.proofs.PlaceLemmas.{seam}
+use Rattle.ecma_literal.proofs.place.before.Goals as goal
+
+pub overflow_sub-text : goal.overflow_sub-text
+overflow_sub-text c =
+    let s = seam c.args.text.now c.args.rest.now c.utf8.text c.utf8.rest c.requires in
+    let h = s.shorter in omega arith
+
+pub split_at-requires : goal.split_at-requires
+split_at-requires c =
+    let s = seam c.args.text.now c.args.rest.now c.utf8.text c.utf8.rest c.requires in
+    s.boundary
+
+pub returns : goal.returns
+returns c =
+    let s = seam c.args.text.now c.args.rest.now c.utf8.text c.utf8.rest c.requires in
+    s.parts ∙ ap (λ l. chars l ++ chars c.args.rest.now) (sym c.split_at.ensures.front)

@@ -1,0 +1,14 @@
+//! Laws of the definitions, by functions that do nothing.
+
+ghost use Rattle.ecma_literal.specs.Escapes.{OneEscape};
+ghost use Rattle.ecma_literal.specs.Strings.{OneString};
+
+/// Law: at most one escape stands behind a backslash.
+pub fn one_escape_stands()
+    ensures { OneEscape }
+{}
+
+/// Law: at most one string stands at the front of a text.
+pub fn one_string_stands()
+    ensures { OneString }
+{}

@@ -1,0 +1,14 @@
+//! Reads one literal of a text at its front, and what it stands for: strings, pieces of templates
+//! and numbers.
+#![tactic(auto)]
+
+pub mod escape;
+pub mod laws;
+mod place;
+pub mod runs;
+pub mod string;
+pub mod value;
+
+pub use escape::{BadEscape, Escape, read_escape};
+pub use string::{StringLiteral, read_string};
+pub use value::Value;

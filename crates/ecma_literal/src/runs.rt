@@ -1,0 +1,50 @@
+//! Runs of characters at the front of a text, found by its bytes.
+
+ghost use Rattle.std.specs.Prelude.{◌≡◌, ◌+◌, ◌<◌, ◌≤◌, length, IsUtf8};
+ghost use Rattle.std.specs.List.{prefix_len};
+ghost use Rattle.std.specs.Str.{chars};
+ghost use Rattle.ecma_scan.specs.Runs.{Each, run, after};
+ghost use Rattle.ecma_literal.specs.Escapes.{is_hex};
+ghost use Rattle.ecma_literal.specs.Strings.{is_plain};
+ghost use Rattle.ecma_literal.specs.Stops.{passes};
+
+use memchr::{memchr, memchr3};
+
+/// How many bytes at the front of a text are hexadecimal digits.
+fn hex_len(text: &str) -> usize
+    ensures { result ≡ prefix_len is_hex text.now }
+{
+    let digit = |b: &&u8| b.is_ascii_hexdigit();
+    text.as_bytes().iter().take_while(digit).count()
+}
+
+/// The hexadecimal digits at the front of a text, and what follows them.
+pub(crate) fn split_hex(text: &str) -> (&str, &str)
+    ensures digits { Each is_hex (chars result.0.now) }
+    ensures run { chars result.0.now ≡ run is_hex (chars text.now) }
+    ensures after { chars result.1.now ≡ after is_hex (chars text.now) }
+    ensures lengths { length result.0.now + length result.1.now ≡ length text.now }
+    ensures text { IsUtf8 result.1.now }
+{
+    text.split_at(hex_len(text))
+}
+
+/// How many bytes come before the first that is CR or one of these.
+fn stop_len(bytes: &[u8], a: u8, b: u8, c: u8) -> usize
+    ensures { result ≡ prefix_len (passes a b c) bytes.now }
+{
+    let most = memchr3(a, b, c, bytes).unwrap_or(bytes.len());
+    memchr(b'\r', &bytes[..most]).unwrap_or(most)
+}
+
+/// The characters at the front of a text that stand for themselves in a string with this quote, and
+/// what follows them (ECMA-262, 12.9.4).
+pub fn split_plain(text: &str, quote: char) -> (&str, &str)
+    requires { quote < 128 }
+    ensures run { chars result.0.now ≡ run (is_plain quote) (chars text.now) }
+    ensures after { chars result.1.now ≡ after (is_plain quote) (chars text.now) }
+    ensures lengths { length result.0.now + length result.1.now ≡ length text.now }
+    ensures text { IsUtf8 result.1.now }
+{
+    text.split_at(stop_len(text.as_bytes(), quote as u8, b'\\', b'\n'))
+}
