@@ -1,6 +1,9 @@
+pub mod BareLemmas
 pub mod CodeLemmas
 pub mod EscapeLemmas
 pub mod PlaceLemmas
+pub mod RawLemmas
 pub mod RunLemmas
 pub mod StopLemmas
 pub mod StringLemmas
+pub mod TemplateLemmas

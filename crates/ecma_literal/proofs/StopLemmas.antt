@@ -16,7 +16,7 @@ record Len (test : ℕ → Bool) (hay : List ℕ) (n : ℕ) : Type 0 where
   before : (k : ℕ) → k < n → test (get_or hay k 0) ≡ false
   at : n < length hay → test (get_or hay n 0) ≡ true
 
-not_true : (b : Bool) → (b ≡ true → ⊥) → b ≡ false
+pub not_true : (b : Bool) → (b ≡ true → ⊥) → b ≡ false
 not_true true h = absurd (h refl)
 not_true false h = refl
 

@@ -26,11 +26,11 @@ tail : List ℕ → List ℕ
 tail [] = []
 tail (c ∷ cs) = cs
 
-same_head : (a b : ℕ) (xs ys : List ℕ) → a ∷ xs ≡ b ∷ ys → a ≡ b
+pub same_head : (a b : ℕ) (xs ys : List ℕ) → a ∷ xs ≡ b ∷ ys → a ≡ b
 unfolding head
 same_head a b xs ys e = ap (λ l. head l a) e
 
-same_tail : (a b : ℕ) (xs ys : List ℕ) → a ∷ xs ≡ b ∷ ys → xs ≡ ys
+pub same_tail : (a b : ℕ) (xs ys : List ℕ) → a ∷ xs ≡ b ∷ ys → xs ≡ ys
 unfolding tail
 same_tail a b xs ys e = ap tail e
 
@@ -192,7 +192,7 @@ no_string quote inner m us l q s stuck ps r h =
     (λ (x : (os : List Piece) × Pieces quote os (quote ∷ r) m). after_quote quote x.0 m r q stuck x.1)
     (common quote s.pieces ps inner m (quote ∷ r) s.stand theirs)
 
-nil_cons : (c : ℕ) (r : List ℕ) → [] ≡ c ∷ r → ⊥
+pub nil_cons : (c : ℕ) (r : List ℕ) → [] ≡ c ∷ r → ⊥
 nil_cons c r e = false≢true (ap (begins (λ _. true)) e)
 
 pub stuck_end : (quote : ℕ) → Stuck quote []

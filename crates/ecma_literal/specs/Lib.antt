@@ -4,4 +4,6 @@ pub mod Places
 pub mod Reading
 pub mod Stops
 pub mod Strings
+pub mod TemplateSteps
+pub mod Templates
 pub mod Units

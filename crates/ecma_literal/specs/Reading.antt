@@ -7,6 +7,7 @@ use Rattle.ecma_scan.specs.Runs.{run, after}
 use Rattle.ecma_literal.specs.declared.escape.Escape.{Escape}
 use Rattle.ecma_literal.specs.declared.escape.Escape.TheVariants.{Continuation, Code, Legacy}
 use Rattle.ecma_literal.specs.Escapes.{is_decimal, is_hex, is_octal, is_low_octal, is_eight_or_nine, begins, single, is_code}
+use Rattle.ecma_literal.specs.Templates.{is_brace}
 
 -- what an escape answers: its meaning and what follows it
 abbrev pub Found : Type 0
@@ -85,3 +86,8 @@ escape_by c cs =
 abbrev pub escape_at : List ℕ → Found
 escape_at [] = None
 escape_at (c ∷ cs) = escape_by c cs
+
+-- behind a dollar before no brace
+abbrev pub lone_dollar : List ℕ → Option (List ℕ)
+lone_dollar [] = None
+lone_dollar (c ∷ cs) = if c == 36 && not (begins is_brace cs) then Some cs else None

@@ -188,7 +188,7 @@ fn octal_escape(first: char, text: &str) -> (Escape, &str)
 }
 
 /// The text without a line feed at its front.
-fn past_line_feed(text: &str) -> &str
+pub(crate) fn past_line_feed(text: &str) -> &str
     ensures value { chars result.now ≡ reading.past_line_feed (chars text.now) }
     ensures text { IsUtf8 result.now }
     ensures length { length result.now ≤ length text.now }

@@ -2,6 +2,7 @@
 
 ghost use Rattle.ecma_literal.specs.Escapes.{OneEscape};
 ghost use Rattle.ecma_literal.specs.Strings.{OneString};
+ghost use Rattle.ecma_literal.specs.Templates.{OnePiece};
 
 /// Law: at most one escape stands behind a backslash.
 pub fn one_escape_stands()
@@ -11,4 +12,9 @@ pub fn one_escape_stands()
 /// Law: at most one string stands at the front of a text.
 pub fn one_string_stands()
     ensures { OneString }
+{}
+
+/// Law: at most one piece of a template stands at the front of a text.
+pub fn one_piece_stands()
+    ensures { OnePiece }
 {}

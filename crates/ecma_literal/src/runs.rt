@@ -1,13 +1,18 @@
 //! Runs of characters at the front of a text, found by its bytes.
 
-ghost use Rattle.std.specs.Prelude.{◌≡◌, ◌+◌, ◌<◌, ◌≤◌, length, IsUtf8};
+ghost use Rattle.std.specs.Prelude.{◌≡◌, ◌+◌, ◌<◌, ◌≤◌, length, IfSome, IsUtf8};
 ghost use Rattle.std.specs.List.{prefix_len};
+ghost use Rattle.std.specs.Option.{option_map};
 ghost use Rattle.std.specs.Str.{chars};
 ghost use Rattle.ecma_scan.specs.Runs.{Each, run, after};
 ghost use Rattle.ecma_literal.specs.Escapes.{is_hex};
 ghost use Rattle.ecma_literal.specs.Strings.{is_plain};
+ghost use Rattle.ecma_literal.specs.Templates.{bare_run, after_bare};
+ghost use Rattle.ecma_literal.specs.Reading.{lone_dollar};
 ghost use Rattle.ecma_literal.specs.Stops.{passes};
 
+use crate::place::before;
+use ecma_scan::characters::pop;
 use memchr::{memchr, memchr3};
 
 /// How many bytes at the front of a text are hexadecimal digits.
@@ -47,4 +52,42 @@ pub fn split_plain(text: &str, quote: char) -> (&str, &str)
     ensures text { IsUtf8 result.1.now }
 {
     text.split_at(stop_len(text.as_bytes(), quote as u8, b'\\', b'\n'))
+}
+
+/// What follows the characters at the front of a text up to a back quote, a backslash, a dollar or CR.
+fn past_dollarless(text: &str) -> &str
+    ensures after { chars result.now ≡ after (passes 96 92 36) (chars text.now) }
+    ensures text { IsUtf8 result.now }
+    ensures length { length result.now ≤ length text.now }
+{
+    let (_, rest) = text.split_at(stop_len(text.as_bytes(), b'`', b'\\', b'$'));
+    rest
+}
+
+/// What follows a dollar at the front of a text, where no brace follows it.
+fn lone_dollar(text: &str) -> Option<&str>
+    ensures value { option_map (λ x. chars x.now) result ≡ lone_dollar (chars text.now) }
+    ensures rest { IfSome result (λ x. IsUtf8 x.now × (length x.now < length text.now)) }
+{
+    let ('$', rest) = pop(text)? else {
+        return None;
+    };
+    match pop(rest) {
+        Some(('{', _)) => None,
+        _ => Some(rest),
+    }
+}
+
+/// The characters at the front of a text that stand for themselves in a template, and what follows
+/// them (ECMA-262, 12.9.6): a dollar only where no brace follows.
+pub fn split_bare(text: &str) -> (&str, &str)
+    ensures run { chars result.0.now ≡ bare_run (chars text.now) }
+    ensures after { chars result.1.now ≡ after_bare (chars text.now) }
+    ensures text { IsUtf8 result.1.now × (length result.1.now ≤ length text.now) }
+{
+    let mut rest = past_dollarless(text);
+    'dollars: while let Some(more) = lone_dollar(rest) {
+        rest = past_dollarless(more);
+    }
+    (before(text, rest), rest)
 }

@@ -1,0 +1,20 @@
+use Rattle.std.proofs.Common.{[], ◌++◌, refl, sym, ap, ◌∙◌}
+use Rattle.std.specs.Prelude.{None}
+use Rattle.std.specs.Str.{chars}
+use Rattle.ecma_literal.specs.Templates.{bare_run, after_bare}
+use Rattle.ecma_literal.specs.Units.{utf16}
+use Rattle.ecma_literal.proofs.BareLemmas.{bare_none, bare_whole}
+use Rattle.ecma_literal.proofs.TemplateLemmas.{kept_none, kept_at, finished}
+use Rattle.ecma_literal.proofs.template.read_template.Goals as goal
+
+pub next_part-requires-clause-bare : goal.next_part-requires-clause-bare
+next_part-requires-clause-bare c = ap bare_run c.split_bare.ensures.after ∙ bare_none (chars c.args.text.now)
+
+pub returns-in-End-clause-piece : goal.returns-in-End-clause-piece
+returns-in-End-clause-piece c =
+    let own = chars c.split_bare.result.0.now in
+    let more = chars c.split_bare.result.1.now in
+    let k = kept_at c.args.end (chars c.args.text.now) (chars c.args.text.now) own more [] (utf16 own) None (kept_none c.args.end (chars c.args.text.now))
+    c.split_bare.ensures.run c.split_bare.ensures.after refl in
+    let whole = bare_whole (chars c.args.text.now) ∙ ap (λ l. l ++ after_bare (chars c.args.text.now)) (sym c.split_bare.ensures.run) ∙ ap (λ l. own ++ l) (sym c.split_bare.ensures.after) in
+    finished c.args.end (chars c.args.text.now) own more (chars c.in-End.rest.now) (utf16 own) c.in-End.ending None k c.in-End.ensures.next whole
