@@ -1,15 +1,16 @@
 -- What a run answers, from what its steps did.
-use Rattle.std.proofs.Common.{◌≡◌, ℕ, ◌≤◌, true, false, List, [], take, Option, None, Some, Err, length, refl, ap, subst, arith}
+use Rattle.std.proofs.Common.{◌≡◌, ℕ, ◌≤◌, true, false, List, [], take, Option, None, Some, Err, length, refl, ap, subst, arith, Result, Ok}
 use Rattle.std.specs.Prelude.{IfSome}
 use Rattle.std.specs.Io.KnownBytes.{Consumes, IsAtEnd, Appends}
 use Rattle.std.proofs.KnownBytes.{Consumes-all}
-use Rattle.ecma_front.specs.declared.options.Options.{Options}
+use Rattle.ecma_command.specs.declared.options.Options.{Options}
 use Rattle.ecma_front.specs.declared.fault.Fault.{Fault}
 use Rattle.ecma_front.specs.declared.fault.Fault.TheVariants as f
-use Rattle.ecma_front.specs.Faults.{is_text_fault, is_refusal, is_read_fault, is_write_fault}
+use Rattle.ecma_command.specs.Options.{are_refused}
+use Rattle.ecma_front.specs.Faults.{is_text_fault, is_refusal, is_failure, is_read_fault, is_write_fault}
 use Rattle.ecma_front.specs.Command.{IsUnread}
 use Rattle.ecma_front.specs.Tree.{Tree}
-use Rattle.ecma_front.specs.Run.{IsScriptOf, IsRefused, WritesScript, WritesBeginning, Answers, written_under, longest_text}
+use Rattle.ecma_front.specs.Run.{Answers, IsReadable, IsRefused, IsScriptOf, SucceedsExactly, WritesBeginning, WritesScript, longest_text, written_under}
 
 -- what was kept of a reader that was read to its end is what it had
 pub kept_all : (a b : Option (List ℕ)) (kept : List ℕ) → Consumes a b kept → IsAtEnd b → IfSome a (λ bytes. kept ≡ bytes)
@@ -145,3 +146,37 @@ refusal_no_write f.Options is = refl
 
 pub refusal_no_settings : (fault : Fault) → is_refusal fault ≡ true → fault ≡ f.Options → ⊥
 refusal_no_settings fault is e = let no = ap is_refusal e in cc
+
+refused_unreadable : (P : Type 0) (options : Options) (bytes : List ℕ) (before after : Option (List ℕ)) (fault : Fault) → is_failure fault ≡ false
+    → (fault ≡ f.Options → ⊥) → Answers {P = P} options (Some bytes) before after (Err fault) → IsReadable options bytes → ⊥
+refused_unreadable P options bytes before after (f.NotUtf8 n) is not h r = h.0.0 r.1.1.0
+refused_unreadable P options bytes before after f.TooLong is not h r = omega (arith, h.0, r.0)
+refused_unreadable P options bytes before after (f.Syntax e) is not h r = h.0.1 r.1.0 r.1.1
+refused_unreadable P options bytes before after f.TooDeep is not h r = let past = h.0.1 r.1.0 r.1.1 in omega (arith, past, r.1.2)
+refused_unreadable P options bytes before after (f.Read k) is not h r = cc
+refused_unreadable P options bytes before after f.Memory is not h r = cc
+refused_unreadable P options bytes before after (f.Write k) is not h r = cc
+refused_unreadable P options bytes before after f.Position is not h r = h.0
+refused_unreadable P options bytes before after f.Node is not h r = h.0
+refused_unreadable P options bytes before after f.Options is not h r = not refl
+
+-- an answer and what the settings say of it make success exact
+pub answers_exactly : (P : Type 0) (options : Options) (input before after : Option (List ℕ)) (result : Result (Option P) Fault)
+    → (result ≡ Err f.Options → are_refused options ≡ true) → Answers options input before after result → SucceedsExactly options input result
+answers_exactly P options None before after result settings h = λ taken found. tt
+answers_exactly P options (Some bytes) before after (Ok x) settings h = λ taken found.
+    (λ _. (h.1.0, (h.1.1.0, h.1.1.1.0, h.1.1.1.1)), λ _. refl)
+answers_exactly P options (Some bytes) before after (Err fault) settings h = λ taken found.
+    (λ e. absurd (cc), λ r. absurd (refused_unreadable P options bytes before after fault found (λ e. let refused = settings (ap (λ (x : Fault). Err x) e) in cc) h r))
+
+pub refusal_no_read : (fault : Fault) → is_refusal fault ≡ true → is_read_fault fault ≡ false
+refusal_no_read (f.NotUtf8 n) is = refl
+refusal_no_read f.TooLong is = refl
+refusal_no_read (f.Syntax e) is = refl
+refusal_no_read f.TooDeep is = refl
+refusal_no_read (f.Read k) is = absurd (cc)
+refusal_no_read f.Memory is = refl
+refusal_no_read (f.Write k) is = refl
+refusal_no_read f.Position is = refl
+refusal_no_read f.Node is = refl
+refusal_no_read f.Options is = refl

@@ -1,24 +1,20 @@
--- What the program's command line asks for and answers.
-use Rattle.std.specs.Prelude.{ℕ, ◌≤◌, Bool, true, false, ◌&&◌, not, ◌==◌, List, length}
-use Rattle.ecma_token.specs.declared.syntax.Syntax.{Syntax}
-use Rattle.ecma_token.specs.declared.syntax.Syntax.TheVariants.{Es}
-use Rattle.ecma_token.specs.declared.version.EsVersion.{EsVersion}
-use Rattle.ecma_token.specs.declared.version.EsVersion.TheVariants as v
-use Rattle.ecma_front.specs.declared.options.Options.{Options}
+-- What the program answers.
+use Rattle.std.specs.Prelude.{◌≡◌, ℕ, ◌<◌, ◌≤◌, ◌-◌, ◌^◌, List, length, take}
+use Rattle.std.specs.Str.{chars, IsUtf8, IsValidUpTo}
+use Rattle.ecma_token.specs.declared.place.LineCol.{LineCol}
+use Rattle.ecma_command.specs.declared.options.Options.{Options}
+use Rattle.ecma_front.specs.declared.fault.Fault.{Fault}
+use Rattle.ecma_front.specs.declared.fault.Fault.TheVariants as f
+use Rattle.ecma_front.specs.Lines.{place_of}
 use Rattle.ecma_front.specs.Tree.{Tree, nest_script}
 use Rattle.ecma_front.specs.Run.{Spells, longest_text}
-
-abbrev pub is_latest : EsVersion → Bool
-is_latest v.EsNext = true
-is_latest _ = false
-
-abbrev pub reads_import_attributes : Syntax → Bool
-reads_import_attributes (Es syntax) = syntax.import_attributes && not syntax.jsx
-
--- the settings that no word of the program changes
-abbrev pub are_of_program : Options → Bool
-are_of_program o = is_latest o.target && not o.ascii_only && not o.inline_script && reads_import_attributes o.syntax && o.nesting == 256 && not o.positions
 
 -- No script within the limit spells the bytes, or they are too many.
 abbrev pub IsUnread : Options → List ℕ → Type 0
 IsUnread options bytes = (xs : List Tree) → Spells xs bytes → nest_script xs ≤ options.nesting → length bytes ≤ longest_text → ⊥
+
+-- Where a fault of a text lies: the part of the text that it is about, the end of the front that is UTF-8, or else the start.
+abbrev pub LiesAt : List ℕ → Fault → LineCol → Type 0
+LiesAt text (f.Syntax e) place = IsUtf8 text → place ≡ place_of (chars text) (e.span.lo.0 - 1)
+LiesAt text (f.NotUtf8 valid) place = IsValidUpTo text valid → valid < 2 ^ 32 → place ≡ place_of (chars (take valid text)) valid
+LiesAt text _ place = place ≡ record { line = 0; col = 0 }

@@ -37,6 +37,13 @@ is_refusal (Syntax e) = true
 is_refusal TooDeep = true
 is_refusal _ = false
 
+-- the fault is one of the reader, of the writer or of memory
+abbrev pub is_failure : Fault → Bool
+is_failure (Read kind) = true
+is_failure (Write kind) = true
+is_failure Memory = true
+is_failure _ = false
+
 -- the answer is a fault that passes
 abbrev pub answers_fault : {A : Type 0} → (Fault → Bool) → Result A Fault → Bool
 answers_fault p (Ok x) = false

@@ -6,14 +6,10 @@ pub mod Tree
 pub mod View
 pub mod Grammar
 pub mod Layout
-pub mod Options
 pub mod Faults
 pub mod Run
 pub mod Lines
 pub mod Command
--- The reader and the writer over memory.
-pub mod Calls
-pub mod Memory
 -- What the private parts answer, as functions on lists. No public clause cites them.
 pub mod Classes
 pub mod Cutting

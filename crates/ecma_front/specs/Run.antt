@@ -1,10 +1,12 @@
 -- What a run answers and writes.
-use Rattle.std.specs.Prelude.{◌≡◌, ℕ, ◌<◌, ◌≤◌, List, length, take, Option, None, Result, Ok, Err, IfSome}
+use Rattle.std.specs.Prelude.{◌≡◌, ℕ, ◌<◌, ◌≤◌, ◌↔◌, false, List, length, take, Option, None, Result, Ok, Err, IfSome, IsOk}
 use Rattle.std.specs.Str.{chars, IsUtf8, IsValidUpTo, encode_utf8_all}
 use Rattle.std.specs.Io.KnownBytes.{Appends}
-use Rattle.ecma_front.specs.declared.options.Options.{Options}
+use Rattle.ecma_command.specs.declared.options.Options.{Options}
 use Rattle.ecma_front.specs.declared.fault.Fault.{Fault}
 use Rattle.ecma_front.specs.declared.fault.Fault.TheVariants as f
+use Rattle.ecma_front.specs.Faults.{answers_fault, is_failure}
+use Rattle.ecma_command.specs.Options.{are_refused}
 use Rattle.ecma_front.specs.Tokens.{Tok}
 use Rattle.ecma_front.specs.Lexical.{Tiles}
 use Rattle.ecma_front.specs.Tree.{Tree, nest_script}
@@ -70,3 +72,13 @@ abbrev pub Answers : {P : Type 0} → Options → Option (List ℕ) → Option (
 Answers options input before after (Ok positions) = (positions ≡ None) × IfSome input (λ bytes. WritesScript options bytes before after)
 Answers options input before after (Err (f.Write kind)) = IfSome input (λ bytes. WritesBeginning options bytes before after)
 Answers options input before after (Err fault) = IfSome input (λ bytes. IsRefused options.nesting bytes fault × FitsUnless fault bytes)
+
+-- A script within the limit spells the bytes, which are no more than the longest text.
+abbrev pub IsReadable : Options → List ℕ → Type 0
+IsReadable options bytes = (length bytes ≤ longest_text) × ((xs : List Tree) × Spells xs bytes × (nest_script xs ≤ options.nesting))
+
+-- The answer is Ok exactly where the input is readable: with settings that aren't refused, where neither the
+-- reader nor the writer failed and memory was found.
+abbrev pub SucceedsExactly : {P : Type 0} → Options → Option (List ℕ) → Result P Fault → Type 0
+SucceedsExactly options input result = are_refused options ≡ false → answers_fault is_failure result ≡ false
+    → IfSome input (λ bytes. IsOk result ↔ IsReadable options bytes)

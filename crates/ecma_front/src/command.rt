@@ -1,102 +1,24 @@
-//! The command line of the program, and what it prints.
-ghost use Rattle.std.specs.Prelude.{◌≡◌, ◌⊎◌, true, is_some, IfSome, IfOk};
+//! What the program answers and prints.
+ghost use Rattle.std.specs.Prelude.{◌≡◌, ◌≢◌, ◌⊎◌, ◌<◌, ◌-◌, ◌^◌, true, is_some, IfSome, IsUtf8};
+ghost use Rattle.std.specs.Str.{chars};
+ghost use Rattle.ecma_command.specs.Options.{are_refused};
 ghost use Rattle.ecma_front.specs.Faults.{is_refusal};
-ghost use Rattle.ecma_front.specs.Options.{are_refused};
-ghost use Rattle.ecma_front.specs.Run.{WritesScript};
-ghost use Rattle.ecma_front.specs.Command.{IsUnread, are_of_program};
-
-pub mod request;
+ghost use Rattle.ecma_front.specs.Lines as lines;
+ghost use Rattle.ecma_front.specs.Run.{WritesBeginning, WritesScript};
+ghost use Rattle.ecma_front.specs.Command.{IsUnread, LiesAt};
 
 use crate::fault::Fault;
 use crate::line_col::place;
-use crate::options::{Goal, Options, Style};
 use crate::pipeline::run_kept;
-use clap::error::ErrorKind;
-use clap::{Arg, ArgAction, ArgMatches, Command};
-use ecma_token::{BytePos, CountedRead, CountedWrite, EsSyntax, LineCol, Syntax};
-use request::{CliFault, Invocation};
-use std::alloc::{AllocError, Global};
+use ecma_command::Invocation;
+use ecma_token::{BytePos, CountedRead, CountedWrite, LineCol};
+use std::alloc::Global;
 use std::io::Write;
 
-/// The words of a command line that has none: the program's name alone.
-static NAME_ALONE: [&str; 1] = ["ecma-front"];
-
-/// What the program takes.
-fn command<'a>(alloc: Global) -> Result<Command<'a>, AllocError> {
-    let script = Arg::new(alloc, "script")
-        .long("script")
-        .help("Read a script; without it, a module")
-        .action(ArgAction::SetTrue);
-    let minify = Arg::new(alloc, "minify")
-        .long("minify")
-        .help("Write as little as the program needs")
-        .action(ArgAction::SetTrue);
-    let path = Arg::new(alloc, "PATH").help("The file to read; without it, standard input");
-    Command::new(alloc, "ecma-front")
-        .about("Formats or minifies an ECMAScript program")
-        .arg(script)?
-        .arg(minify)?
-        .arg(path)
-}
-
-/// The settings that the words ask for. Import attributes are read.
-fn options_of(matches: &ArgMatches<'_>) -> Options
-    ensures { are_of_program result ≡ true }
+/// The place of the byte at an offset. In bytes that are not UTF-8 it is the start.
+fn place_in(bytes: &[u8], offset: usize) -> LineCol
+    ensures { IsUtf8 bytes.now → offset < 2 ^ 32 → result ≡ lines.place_of (chars bytes.now) offset }
 {
-    let syntax = EsSyntax {
-        import_attributes: true,
-        ..EsSyntax::default()
-    };
-    Options {
-        goal: if matches.get_flag("script") {
-            Goal::Script
-        } else {
-            Goal::Module
-        },
-        style: if matches.get_flag("minify") {
-            Style::Minify
-        } else {
-            Style::Format
-        },
-        syntax: Syntax::Es(syntax),
-        ..Options::default()
-    }
-}
-
-/// Reads a command line, of which the first word is the program's name. One without words is read as
-/// the name alone.
-///
-/// # Errors
-///
-/// `Refused` with the text to show, where the words are not those of the program or ask for help;
-/// `Memory` where a growth was refused.
-pub fn invocation(alloc: Global, words: Vec<String>) -> Result<Invocation, CliFault>
-    ensures { IfOk result (λ asked. are_of_program asked.options ≡ true) }
-{
-    let command = command(alloc)?;
-    let parsed = if words.is_empty() {
-        command.try_get_matches_from(NAME_ALONE.as_slice())
-    } else {
-        command.try_get_matches_from(words.as_slice())
-    };
-    match parsed {
-        Ok(matches) => {
-            let path = match matches.get_str("PATH") {
-                Some(path) => Some(String::from_str(alloc, path)?),
-                None => None,
-            };
-            Ok(Invocation {
-                options: options_of(&matches),
-                path,
-            })
-        }
-        Err(error) if error.kind() == ErrorKind::OutOfMemory => Err(CliFault::Memory),
-        Err(error) => Err(CliFault::Refused(error.to_string(alloc)?)),
-    }
-}
-
-/// The place of the byte at an offset.
-fn place_in(bytes: &[u8], offset: usize) -> LineCol {
     match std::str::from_utf8(bytes) {
         Ok(text) => place(text, u32::try_from(offset).unwrap_or(u32::MAX)),
         Err(_) => LineCol::default(),
@@ -104,13 +26,16 @@ fn place_in(bytes: &[u8], offset: usize) -> LineCol {
 }
 
 /// How far a place is from the start of the text, which is at 1. No place counts as the start.
-fn offset_of(place: BytePos) -> usize {
+fn offset_of(place: BytePos) -> usize
+    ensures { result ≡ place.0 - 1 }
+{
     place.0.saturating_sub(1) as usize
 }
 
 /// Where a fault of the text stands, if it is one of the text.
 fn place_of(fault: Fault, text: &[u8]) -> Option<LineCol>
-    ensures { is_some result ≡ is_refusal fault }
+    ensures refused { is_some result ≡ is_refusal fault }
+    ensures place { IfSome result (LiesAt text.now fault) }
 {
     match fault {
         Fault::NotUtf8 { valid_up_to } => {
@@ -149,6 +74,8 @@ pub fn answer<R: CountedRead, W: CountedWrite, E: Write>(
     ensures written { result ≡ 0 → IfSome (R.remaining input.old) (λ bytes. WritesScript invocation.now.options bytes (W.contents output.old) (W.contents output.new)) }
     ensures refused { result ≡ 1 → IfSome (R.remaining input.old) (IsUnread invocation.now.options) }
     ensures unwritten { result ≡ 1 → output.new ≡ output.old }
+    ensures begun { result ≡ 3 → (output.new ≡ output.old) ⊎ IfSome (R.remaining input.old) (λ bytes. WritesBeginning invocation.now.options bytes (W.contents output.old) (W.contents output.new)) }
+    ensures unfailed { result ≢ 3 → (R.failure_count input.new ≡ R.failure_count input.old) × (W.failure_count output.new ≡ W.failure_count output.old) }
 {
     let mut kept = Vec::new(alloc);
     match run_kept(alloc, input, output, invocation.options, &mut kept) {

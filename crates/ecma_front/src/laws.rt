@@ -4,5 +4,4 @@ ghost use Rattle.ecma_front.specs.Run.{OneScriptSpells};
 /// At most one script spells a text.
 pub fn one_script_spells()
     ensures { OneScriptSpells }
-{
-}
+{}

@@ -2,15 +2,15 @@
 ghost use Rattle.std.specs.Prelude.{◌≡◌, ◌↔◌, true, false, [], IsErrOf, IfErr};
 ghost use Rattle.std.specs.Io.KnownBytes.{Consumes};
 ghost use Rattle.ecma_token.specs.Counts.{count_after};
-ghost use Rattle.ecma_front.specs.Options.{are_refused};
+ghost use Rattle.ecma_command.specs.Options.{are_refused};
 ghost use Rattle.ecma_front.specs.Faults.{answers_fault, is_read_fault, is_write_fault};
-ghost use Rattle.ecma_front.specs.Run.{Answers};
+ghost use Rattle.ecma_front.specs.Run.{Answers, SucceedsExactly};
 
 use crate::fault::Fault;
 use crate::input::read_to_end;
-use crate::options::Options;
 use crate::output::write_all;
 use crate::script::minifier::minified;
+use ecma_command::Options;
 use ecma_token::{BytePos, CountedRead, CountedWrite, LineCol};
 use std::alloc::Global;
 
@@ -32,6 +32,7 @@ pub fn run<R: CountedRead, W: CountedWrite>(
     writer: &mut W,
     options: Options,
 ) -> Result<Option<Positions>, Fault>
+    ensures exact { SucceedsExactly options (R.remaining reader.old) result }
     ensures settings { IsErrOf result Fault.Options ↔ (are_refused options ≡ true) }
     ensures untouched { are_refused options ≡ true → reader.new ≡ reader.old }
     ensures unwritten { IfErr result (λ fault. is_write_fault fault ≡ false → writer.new ≡ writer.old) }
@@ -49,6 +50,27 @@ pub fn run<R: CountedRead, W: CountedWrite>(
 ///
 /// Those of `run`.
 pub fn run_kept<R: CountedRead, W: CountedWrite>(
+    alloc: Global,
+    reader: &mut R,
+    writer: &mut W,
+    options: Options,
+    kept: &mut Vec<u8>,
+) -> Result<Option<Positions>, Fault>
+    requires { kept.old.items ≡ [] }
+    ensures exact { SucceedsExactly options (R.remaining reader.old) result }
+    ensures settings { IsErrOf result Fault.Options ↔ (are_refused options ≡ true) }
+    ensures untouched { are_refused options ≡ true → reader.new ≡ reader.old }
+    ensures unwritten { IfErr result (λ fault. is_write_fault fault ≡ false → writer.new ≡ writer.old) }
+    ensures reader_failed { R.failure_count reader.new ≡ count_after (answers_fault is_read_fault result) (R.failure_count reader.old) }
+    ensures writer_failed { W.failure_count writer.new ≡ count_after (answers_fault is_write_fault result) (W.failure_count writer.old) }
+    ensures answer { Answers options (R.remaining reader.old) (W.contents writer.old) (W.contents writer.new) result }
+    ensures kept { Consumes (R.remaining reader.old) (R.remaining reader.new) kept.new.items }
+{
+    carry_out(alloc, reader, writer, options, kept)
+}
+
+/// The steps of a run.
+fn carry_out<R: CountedRead, W: CountedWrite>(
     alloc: Global,
     reader: &mut R,
     writer: &mut W,

@@ -3,11 +3,10 @@
 #![tactic(auto)]
 
 use ecma_front::{CliFault, Counted, Invocation, answer, invocation};
-use std::env;
 use std::fs::File;
-use std::io;
 use std::io::Write;
 use std::process::ExitCode;
+use std::{env, io};
 
 /// The status of a command line that is refused.
 const REFUSED: u8 = 2;

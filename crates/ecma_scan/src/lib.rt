@@ -2,6 +2,20 @@
 //! piece of a template.
 #![tactic(auto)]
 
+pub mod bytes;
 pub mod characters;
+pub mod comments;
+pub mod escapes;
+pub mod laws;
+pub mod names;
+pub mod punctuators;
+pub mod runs;
+pub mod trivia;
 
+pub use bytes::{ByteClass, byte_class};
 pub use characters::CharExt;
+pub use comments::{Comment, CommentKind, collect_trivia};
+pub use names::{Name, identifier_name};
+pub use punctuators::punctuator;
+pub use runs::{split_block, split_line, split_name_part, split_white_space};
+pub use trivia::{Goal, LineMark, Trivia, hashbang, skip_trivia, trivia_piece};

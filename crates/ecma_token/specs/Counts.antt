@@ -1,5 +1,5 @@
 -- What a reader or a writer counts.
-use Rattle.std.specs.Prelude.{◌≡◌, ℕ, ◌+◌, Bool, true, false, ◌==◌, not, ◌&&◌, nat_lt, if◌then◌else◌, List, length, Result, Ok, Err}
+use Rattle.std.specs.Prelude.{ℕ, ◌+◌, Bool, true, false, ◌==◌, not, ◌&&◌, nat_lt, if◌then◌else◌, List, length, Result, Ok, Err}
 
 -- the last value of a count, at which it stays
 abbrev pub last_count : ℕ

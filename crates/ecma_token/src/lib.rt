@@ -2,14 +2,26 @@
 //! writers that count their failures.
 #![tactic(auto)]
 
+pub mod context;
 pub mod counted;
 pub mod error;
+pub mod literal;
+pub mod operator;
 pub mod place;
 pub mod syntax;
+pub mod token;
 pub mod version;
+pub mod word;
 
+pub use context::Context;
 pub use counted::{Counted, CountedRead, CountedWrite, Failing};
+pub use ecma_number as number;
+pub use ecma_number::NumValue;
 pub use error::{Error, SyntaxError};
+pub use literal::{Text, Units};
+pub use operator::{AssignOp, BinOpToken, BinaryOp};
 pub use place::{BytePos, DUMMY_SP, LineCol, Span, Spanned};
 pub use syntax::{EsConfig, EsSyntax, Syntax};
+pub use token::{Token, TokenAndSpan, TokenKind};
 pub use version::{EsVersion, JscTarget};
+pub use word::{IdentKind, IdentLike, Keyword, KnownIdent, UnknownWord, Word, WordKind};

@@ -1,5 +1,6 @@
 //! Places in a text.
-ghost use Rattle.std.specs.Prelude.{◌≡◌, ◌↔◌, IsTrue};
+ghost use Rattle.std.specs.Prelude.{◌≡◌, ◌<◌, ◌↔◌, IsTrue};
+ghost use Rattle.std.specs.declared.cmp.Ordering.TheVariants.{Equal, Less};
 
 /// A place in a text, in bytes from a start that the reader chooses. 0 alone stands for no place.
 #[derive(Clone, Copy, Debug, Default, PartialEq, Eq, PartialOrd, Ord, Hash)]
@@ -16,6 +17,14 @@ impl BytePos {
         self.0 == 0
     }
 }
+
+/// Law: two places are equal, in code and in contracts, exactly where neither is before the other,
+/// and places are ordered as their numbers are.
+pub fn place_order_law(a: BytePos, b: BytePos)
+    ensures order { (⟦<BytePos as Ord>⟧.cmp a b ≡ Equal) ↔ (a ≡ b) }
+    ensures equality { IsTrue (⟦<BytePos as PartialEq>⟧.eq a b) ↔ (a ≡ b) }
+    ensures before { (⟦<BytePos as Ord>⟧.cmp a b ≡ Less) ↔ (a.0 < b.0) }
+{}
 
 /// A part of a text: from `lo` up to, and without, `hi`.
 #[derive(Clone, Copy, Debug, Default, PartialEq, Eq, PartialOrd, Ord, Hash)]

@@ -1,5 +1,9 @@
 //! The editions of the language that a text may be written for.
 
+ghost use Rattle.std.specs.Prelude.{◌≡◌, ◌<◌, ◌↔◌, IsTrue};
+ghost use Rattle.std.specs.declared.cmp.Ordering.TheVariants.{Equal, Less};
+ghost use Rattle.ecma_token.specs.Editions.{edition_rank};
+
 /// An edition of ECMA-262, oldest first, and at the end whatever comes next.
 #[derive(Clone, Copy, Debug, Default, PartialEq, Eq, PartialOrd, Ord, Hash)]
 pub enum EsVersion {
@@ -21,7 +25,6 @@ pub enum EsVersion {
 pub type JscTarget = EsVersion;
 
 impl EsVersion {
-    ghost use Rattle.std.specs.Prelude.{◌≡◌};
     ghost use Rattle.ecma_token.specs.declared.version.EsVersion.TheVariants.{EsNext};
 
     /// The newest edition.
@@ -31,3 +34,11 @@ impl EsVersion {
         EsVersion::EsNext
     }
 }
+
+/// Law: two editions are equal, in code and in contracts, exactly where neither is older, and the
+/// older one is the one that stands first in the list of editions.
+pub fn edition_order_law(a: EsVersion, b: EsVersion)
+    ensures order { (⟦<EsVersion as Ord>⟧.cmp a b ≡ Equal) ↔ (a ≡ b) }
+    ensures equality { IsTrue (⟦<EsVersion as PartialEq>⟧.eq a b) ↔ (a ≡ b) }
+    ensures older { (⟦<EsVersion as Ord>⟧.cmp a b ≡ Less) ↔ (edition_rank a < edition_rank b) }
+{}

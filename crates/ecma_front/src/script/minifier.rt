@@ -9,12 +9,12 @@ ghost use Rattle.ecma_front.specs.Run.{Minifies};
 
 use crate::fault::Fault;
 use crate::input::LONGEST_TEXT;
-use crate::options::Options;
 use crate::script::fault::ReadFault;
 use crate::script::lexer::tokens;
 use crate::script::parser::script;
 use crate::script::printer::print;
 use crate::script::tree::Expr;
+use ecma_command::Options;
 use ecma_token::{BytePos, Span};
 use std::alloc::Global;
 

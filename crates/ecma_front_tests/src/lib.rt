@@ -1,0 +1,24 @@
+//! Tests of `ecma_front` through its public calls, and a slow, plain program beside it that
+//! computes what its definitions say.
+#![tactic(auto)]
+
+#[cfg(test)]
+mod command;
+#[cfg(test)]
+mod enumerated;
+#[cfg(test)]
+mod failing;
+#[cfg(test)]
+mod kept;
+#[cfg(test)]
+mod nesting;
+#[cfg(test)]
+mod over_memory;
+#[cfg(test)]
+mod plain;
+#[cfg(test)]
+mod rows;
+#[cfg(test)]
+mod settings;
+#[cfg(test)]
+mod unicode;

@@ -1,0 +1,12 @@
+mod Tables
+mod Passing
+mod Wide
+mod Ending
+mod TriviaLemmas
+mod Apart
+mod Following
+mod Noting
+mod Longest
+mod EscapeLemmas
+mod NameLemmas
+mod NameParts
