@@ -1,0 +1,10 @@
+//! Tests of the readers of literals: vectors from outside, and a slow, plain reader that tries every way
+//! to cut a text.
+#![tactic(auto)]
+
+pub mod plain;
+#[cfg(test)]
+mod strings;
+#[cfg(test)]
+mod templates;
+pub mod texts;
