@@ -76,7 +76,7 @@ pub(crate) fn span(end: u32, from: &str, to: &str) -> Span
 }
 
 /// A fault of this kind, of the part of the text that `span` gives.
-pub(crate) fn fault(end: u32, from: &str, to: &str, kind: SyntaxError) -> Error
+pub fn fault(end: u32, from: &str, to: &str, kind: SyntaxError) -> Error
     requires order { length to.now ≤ length from.now }
     requires within { length from.now < end }
     ensures kind { result.kind ≡ kind }

@@ -1,0 +1,154 @@
+-- One token at the front of a text, under a lexical goal (ECMA-262, clause 12).
+use Rattle.std.specs.Prelude.{◌≡◌, ◌≢◌, ℕ, Bool, true, false, ◌&&◌, ◌⊎◌, List, [], ◌∷◌, ◌++◌, Option, Some, None, encode_utf8_all}
+use Rattle.ecma_token.specs.declared.error.Error.{Error}
+use Rattle.ecma_token.specs.declared.error.SyntaxError.{SyntaxError}
+use Rattle.ecma_token.specs.declared.error.SyntaxError.TheVariants.{LegacyOctal, UnexpectedChar, UnterminatedTpl}
+use Rattle.ecma_token.specs.declared.token.TokenKind.{TokenKind}
+use Rattle.ecma_token.specs.Kinds.{back_quote_kind, big_int_kind, dollar_brace_kind, num_kind, regex_kind, str_kind, template_kind}
+use Rattle.ecma_token.specs.Tokens.{SpecToken, bare, word_token, BigNumeral, Numeral, Pattern, Quoted, Piece}
+use Rattle.ecma_token.specs.TokenViews.{token_kind_number}
+use Rattle.ecma_token.specs.Words.{word_of}
+use Rattle.ecma_scan.specs.Names.{IsName, IsNameFault}
+use Rattle.ecma_scan.specs.Places.{IsAt}
+use Rattle.ecma_scan.specs.Punctuators.{IsPunctuator}
+use Rattle.ecma_scan.specs.RegExps.{IsRegExp, IsRegExpFault}
+use Rattle.ecma_literal.specs.declared.template.Ending.{Ending}
+use Rattle.ecma_literal.specs.declared.template.Ending.TheVariants.{BackQuote, Substitution}
+use Rattle.ecma_literal.specs.Escapes.{begins}
+use Rattle.ecma_literal.specs.Numbers.{IsNumeralFault, Meaning, Number, BigInt, SpellsNumeral, legacy_of}
+use Rattle.ecma_literal.specs.Strings.{SpellsString, IsStringFault}
+use Rattle.ecma_literal.specs.Templates.{Ends, SpellsPiece}
+use Rattle.ecma_lexeme.specs.declared.goal.LexicalGoal.{LexicalGoal}
+use Rattle.ecma_lexeme.specs.declared.goal.LexicalGoal.TheVariants.{Div, RegExp, TemplateTail, TemplateEnd}
+use Rattle.ecma_lexeme.specs.Sorts.{is_slash, opens_regexp}
+
+-- A token, whether it is a word that is spelled with an escape, and the fault that strict code has with its spelling.
+pub record SpecLexeme : Type 0 where
+  pub token : SpecToken
+  pub escaped : Bool
+  pub legacy : Option SyntaxError
+
+abbrev pub plain : SpecToken → SpecLexeme
+plain token = record { token = token; escaped = false; legacy = None }
+
+-- ---- the sorts of tokens
+
+-- the word of a name (12.7): the token of its text without escapes
+abbrev pub word_lexeme : List ℕ → Bool → SpecLexeme
+word_lexeme name escaped = record { token = word_token (word_of (encode_utf8_all name)); escaped = escaped; legacy = None }
+
+-- whether the name is spelled otherwise than it reads: with an escape
+abbrev pub IsMarked : List ℕ → List ℕ → List ℕ → Bool → Type 0
+IsMarked text name rest true = text ≢ name ++ rest
+IsMarked text name rest false = text ≡ name ++ rest
+
+abbrev pub IsWord : List ℕ → SpecLexeme → List ℕ → Type 0
+IsWord text x rest = (name : List ℕ) × (escaped : Bool) × IsName text name rest × IsMarked text name rest escaped
+    × (x ≡ word_lexeme name escaped)
+
+-- a string (12.9.4), as it is spelled and by its units; strict code bars the escapes of B.1.2
+abbrev pub octal : Bool → Option SyntaxError
+octal true = Some LegacyOctal
+octal false = None
+
+abbrev pub string_lexeme : List ℕ → List ℕ → Bool → SpecLexeme
+string_lexeme units own legacy =
+    record { token = record { kind = str_kind; content = Quoted units (encode_utf8_all own) }; escaped = false; legacy = octal legacy }
+
+abbrev pub IsQuoted : List ℕ → SpecLexeme → List ℕ → Type 0
+IsQuoted text x rest = (units own : List ℕ) × (legacy : Bool) × SpellsString units legacy text rest × (text ≡ own ++ rest)
+    × (x ≡ string_lexeme units own legacy)
+
+-- a number (12.9.3), by its value, or a big integer, by its radix and digits, as it is spelled; strict code bars the forms of B.1.1
+abbrev pub numeral_token : Meaning → List ℕ → SpecToken
+numeral_token (Number value) own = record { kind = num_kind; content = Numeral value (encode_utf8_all own) }
+numeral_token (BigInt radix digits) own = record { kind = big_int_kind; content = BigNumeral radix digits (encode_utf8_all own) }
+
+abbrev pub numeral_lexeme : Meaning → List ℕ → SpecLexeme
+numeral_lexeme m own = record { token = numeral_token m own; escaped = false; legacy = legacy_of m own }
+
+abbrev pub IsNumber : List ℕ → SpecLexeme → List ℕ → Type 0
+IsNumber text x rest = (m : Meaning) × (own : List ℕ) × SpellsNumeral m own text rest × (x ≡ numeral_lexeme m own)
+
+-- a regular expression (12.9.5), by what stands between its slashes and its flags
+abbrev pub pattern_lexeme : List ℕ → List ℕ → SpecLexeme
+pattern_lexeme body flags = plain (record { kind = regex_kind; content = Pattern (encode_utf8_all body) (encode_utf8_all flags) })
+
+abbrev pub IsPattern : List ℕ → SpecLexeme → List ℕ → Type 0
+IsPattern text x rest = (body flags : List ℕ) × IsRegExp text body flags rest × (x ≡ pattern_lexeme body flags)
+
+-- a punctuator (12.8)
+abbrev pub IsMark : List ℕ → SpecLexeme → List ℕ → Type 0
+IsMark text x rest = (kind : TokenKind) × IsPunctuator text kind rest × (x ≡ plain (bare (token_kind_number kind)))
+
+-- the characters of a template up to what ends them (12.9.6), as they are spelled and by their cooked units
+abbrev pub template_lexeme : List ℕ → Option (List ℕ) → SpecLexeme
+template_lexeme own units = plain (record { kind = template_kind; content = Piece (encode_utf8_all own) units })
+
+abbrev pub IsCharacters : List ℕ → SpecLexeme → List ℕ → Type 0
+IsCharacters text x rest = (own : List ℕ) × (units : Option (List ℕ)) × (ending : Ending) × (behind : List ℕ)
+    × SpellsPiece own units ending text behind × Ends ending rest behind × (x ≡ template_lexeme own units)
+
+-- what ends them
+abbrev pub ending_kind : Ending → ℕ
+ending_kind BackQuote = back_quote_kind
+ending_kind Substitution = dollar_brace_kind
+
+abbrev pub IsEnd : List ℕ → SpecLexeme → List ℕ → Type 0
+IsEnd text x rest = (ending : Ending) × Ends ending text rest × (x ≡ plain (bare (ending_kind ending)))
+
+-- ---- the token at a front
+
+-- a word or a literal, under either goal
+abbrev pub IsOrdinary : List ℕ → SpecLexeme → List ℕ → Type 0
+IsOrdinary text x rest = IsWord text x rest ⊎ (IsNumber text x rest ⊎ IsQuoted text x rest)
+
+-- a word, a literal, or a punctuator; where a slash opens a regular expression, that, and no punctuator with a slash in front
+abbrev pub IsOutside : LexicalGoal → List ℕ → SpecLexeme → List ℕ → Type 0
+IsOutside goal text x rest = IsOrdinary text x rest
+    ⊎ (((opens_regexp goal ≡ true) × IsPattern text x rest)
+    ⊎ (((opens_regexp goal && begins is_slash text) ≡ false) × IsMark text x rest))
+
+-- The text begins with this token, up to the rest.
+abbrev pub IsLexeme : LexicalGoal → List ℕ → SpecLexeme → List ℕ → Type 0
+IsLexeme Div text x rest = IsOutside Div text x rest
+IsLexeme RegExp text x rest = IsOutside RegExp text x rest
+IsLexeme TemplateTail text x rest = IsCharacters text x rest
+IsLexeme TemplateEnd text x rest = IsEnd text x rest
+
+-- No token stands at the front of the text.
+abbrev pub NoLexeme : LexicalGoal → List ℕ → Type 0
+NoLexeme goal text = (x : SpecLexeme) (rest : List ℕ) → IsLexeme goal text x rest → ⊥
+
+-- At most one token stands at the front of a text under one goal.
+abbrev pub OneLexeme : LexicalGoal → List ℕ → Type 0
+OneLexeme goal text = (x y : SpecLexeme) (r s : List ℕ) → IsLexeme goal text x r → IsLexeme goal text y s → (x ≡ y) × (r ≡ s)
+
+-- ---- faults
+
+-- The text is one character and this rest.
+abbrev pub BeginsWith : List ℕ → List ℕ → Type 0
+BeginsWith text rest = (c : ℕ) × (text ≡ c ∷ rest)
+
+-- no token begins with the first character
+abbrev pub IsStray : ℕ → List ℕ → Error → Type 0
+IsStray end text e = (c : ℕ) × (rest : List ℕ) × (text ≡ c ∷ rest) × (e.kind ≡ UnexpectedChar) × IsAt end text rest e.span
+
+-- the characters of a template have no end
+abbrev pub IsOpenTemplate : ℕ → List ℕ → Error → Type 0
+IsOpenTemplate end text e = (e.kind ≡ UnterminatedTpl) × IsAt end text [] e.span
+
+-- What is wrong at the front of a text with no token, which runs to the place `end`: a name or a literal that begins there goes wrong, or
+-- nothing begins there.
+abbrev pub IsOutsideFault : ℕ → LexicalGoal → List ℕ → Error → Type 0
+IsOutsideFault end goal text e = IsNameFault end text e
+    ⊎ (IsNumeralFault end text e
+    ⊎ (IsStringFault end text e
+    ⊎ (((opens_regexp goal ≡ true) × IsRegExpFault end text e)
+    ⊎ IsStray end text e)))
+
+abbrev pub IsLexemeFault : ℕ → LexicalGoal → List ℕ → Error → Type 0
+IsLexemeFault end Div text e = IsOutsideFault end Div text e
+IsLexemeFault end RegExp text e = IsOutsideFault end RegExp text e
+IsLexemeFault end TemplateTail text e = IsOpenTemplate end text e
+IsLexemeFault end TemplateEnd text e = IsStray end text e

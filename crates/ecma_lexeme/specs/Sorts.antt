@@ -1,0 +1,29 @@
+-- How each sort of token begins: no two begin alike under one goal.
+use Rattle.std.specs.Prelude.{◌≡◌, ℕ, Bool, true, false, ◌&&◌, ◌==◌, List, [], ◌∷◌, if◌then◌else◌}
+use Rattle.ecma_scan.specs.Names.{is_opening}
+use Rattle.ecma_literal.specs.Numbers.{is_number_start}
+use Rattle.ecma_literal.specs.Strings.{is_quote}
+use Rattle.ecma_lexeme.specs.declared.goal.LexicalGoal.{LexicalGoal}
+use Rattle.ecma_lexeme.specs.declared.goal.LexicalGoal.TheVariants.{Div, RegExp, TemplateTail, TemplateEnd}
+use Rattle.ecma_lexeme.specs.declared.sort.Sort.{Sort}
+use Rattle.ecma_lexeme.specs.declared.sort.Sort.TheVariants as s
+
+abbrev pub is_slash : ℕ → Bool
+is_slash c = c == 47
+
+-- whether a slash opens a regular expression
+abbrev pub opens_regexp : LexicalGoal → Bool
+opens_regexp RegExp = true
+opens_regexp _ = false
+
+unfoldable pub sort_by : LexicalGoal → ℕ → List ℕ → Sort
+sort_by goal c cs =
+    if is_opening c then s.Word
+    else (if is_number_start (c ∷ cs) then s.Number
+    else (if is_quote c then s.Str
+    else (if opens_regexp goal && is_slash c then s.RegExp
+    else s.Punctuator)))
+
+abbrev pub sort : LexicalGoal → List ℕ → Sort
+sort goal [] = s.Punctuator
+sort goal (c ∷ cs) = sort_by goal c cs
