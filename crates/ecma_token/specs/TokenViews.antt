@@ -1,5 +1,6 @@
 -- What contracts see of a token of the code.
 use Rattle.std.specs.Prelude.{ℕ, Option, Some, None, Result, Ok, Err, List}
+use Rattle.std.specs.Cow.{cow_str_bytes}
 use Rattle.ecma_token.specs.Kinds.{arrow_kind, hash_kind, at_kind, dot_kind, dot_dot_dot_kind, bang_kind, left_paren_kind, right_paren_kind, left_bracket_kind, right_bracket_kind, left_brace_kind, right_brace_kind, semicolon_kind, comma_kind, back_quote_kind, template_kind, colon_kind, dollar_brace_kind, question_mark_kind, plus_plus_kind, minus_minus_kind, tilde_kind, str_kind, regex_kind, num_kind, big_int_kind, shebang_kind, error_kind}
 use Rattle.ecma_token.specs.Tokens.{SpecToken, Spot, bare, word_token, Quoted, Piece, Pattern, Numeral, BigNumeral, Line, Faulty}
 use Rattle.ecma_token.specs.OperatorKinds.{bin_op_kind, assign_op_kind}
@@ -79,7 +80,7 @@ token_view token.Tilde = bare tilde_kind
 token_view (token.Str units raw) = record { kind = str_kind; content = Quoted units raw.now }
 token_view (token.Regex exp flags) = record { kind = regex_kind; content = Pattern exp.now flags.now }
 token_view (token.Num value raw) = record { kind = num_kind; content = Numeral value raw.now }
-token_view (token.BigInt radix digits raw) = record { kind = big_int_kind; content = BigNumeral radix digits raw.now }
+token_view (token.BigInt radix digits raw) = record { kind = big_int_kind; content = BigNumeral radix (cow_str_bytes digits) raw.now }
 token_view (token.Shebang text) = record { kind = shebang_kind; content = Line text.now }
 token_view (token.Error error) = record { kind = error_kind; content = Faulty error }
 

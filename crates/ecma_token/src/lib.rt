@@ -10,6 +10,7 @@ pub mod operator;
 pub mod place;
 pub mod syntax;
 pub mod token;
+pub mod utf16;
 pub mod version;
 pub mod word;
 
@@ -18,7 +19,7 @@ pub use counted::{Counted, CountedRead, CountedWrite, Failing};
 pub use ecma_number as number;
 pub use ecma_number::NumValue;
 pub use error::{Error, SyntaxError};
-pub use literal::{Text, Units};
+pub use literal::Units;
 pub use operator::{AssignOp, BinOpToken, BinaryOp};
 pub use place::{BytePos, DUMMY_SP, LineCol, Span, Spanned};
 pub use syntax::{EsConfig, EsSyntax, Syntax};

@@ -1,102 +1,94 @@
-//! Values of literals that contracts see as lists.
-ghost use Rattle.std.specs.Prelude.{◌≡◌, ℕ, List, string_bytes};
+//! What strings and pieces of templates stand for.
+ghost use Rattle.std.specs.Prelude.{◌≡◌, IfOk, IfSome};
+ghost use Rattle.std.specs.Str.{chars};
+ghost use Rattle.ecma_token.specs.Utf16.{utf16};
 
-use std::alloc::AllocError;
-use std::convert::{AsSlice, AsStr};
+use crate::utf16::push_text;
+use std::alloc::{AllocError, Global};
 use std::marker::Model;
 
-/// UTF-16 units: the value of a string, or of a piece of a template. A contract sees their list.
+/// UTF-16 units: the value of a string, or of a piece of a template. They are those of a text of the
+/// source, and then take no memory, or a list of their own. A contract sees the list.
 #[derive(Debug, Drop)]
-pub struct Units {
-    units: Vec<u16>,
+pub struct Units<'a> {
+    form: Form<'a>,
 }
 
-impl Model for Units {
+#[derive(Debug, Drop)]
+enum Form<'a> {
+    Plain(&'a str),
+    Own(Vec<u16>),
+}
+
+impl<'a> Model for Units<'a> {
+    ghost use Rattle.std.specs.Prelude.{ℕ, List};
+
     ghost Value = { List ℕ };
 
-    ghost view = { λ u. u.units.items };
+    ghost use Rattle.ecma_token.specs.UnitsForm.{units_view};
+
+    ghost view = { λ u. units_view u.form };
 }
 
-impl Units {
-    /// The units again, as a `Vec`.
-    pub fn into_vec(self) -> Vec<u16>
-        ensures { result.items ≡ self }
+impl<'a> Units<'a> {
+    /// The text whose units they are, where they are kept as one.
+    pub fn as_plain(&self) -> Option<&'a str>
+        ensures { IfSome result (λ text. self.now ≡ utf16 (chars text.now)) }
     {
-        let Units { units } = self;
-        units
+        match &self.form {
+            Form::Plain(text) => Some(text),
+            Form::Own(_) => None,
+        }
+    }
+
+    /// The units as a `Vec`. Those that are one already are handed out as they are.
+    ///
+    /// # Errors
+    ///
+    /// Want of memory.
+    pub fn into_vec(self, alloc: Global) -> Result<Vec<u16>, AllocError>
+        ensures { IfOk result (λ units. units.items ≡ self.entry) }
+    {
+        let Units { form } = self;
+        match form {
+            Form::Plain(text) => {
+                let mut units = Vec::with_capacity(alloc, text.len())?;
+                push_text(&mut units, text)?;
+                Ok(units)
+            }
+            Form::Own(units) => Ok(units),
+        }
     }
 }
 
-impl From<Vec<u16>> for Units {
+impl<'a> From<&'a str> for Units<'a> {
+    ghost from_gives = { λ text u. u ≡ utf16 (chars text.now) };
+
+    fn from(text: &'a str) -> Units<'a> {
+        Units {
+            form: Form::Plain(text),
+        }
+    }
+}
+
+impl<'a> From<Vec<u16>> for Units<'a> {
     ghost from_gives = { λ units u. u ≡ units.items };
 
-    fn from(units: Vec<u16>) -> Units {
-        Units { units }
+    fn from(units: Vec<u16>) -> Units<'a> {
+        Units {
+            form: Form::Own(units),
+        }
     }
 }
 
-impl AsSlice<u16> for Units {
-    ghost items = { λ u. u };
-
-    fn as_slice(&self) -> &[u16] {
-        self.units.as_slice()
-    }
-}
-
-impl Clone for Units {
+impl<'a> Clone for Units<'a> {
     ghost is_clone = { λ u v. v ≡ u };
 
-    fn clone(&self) -> Result<Units, AllocError> {
-        Ok(Units {
-            units: self.units.clone()?,
-        })
-    }
-}
-
-/// A text of its own, as the digits of a big integer. A contract sees its bytes.
-#[derive(Debug, Drop)]
-pub struct Text {
-    text: String,
-}
-
-impl Model for Text {
-    ghost Value = { List ℕ };
-
-    ghost view = { λ t. string_bytes t.text };
-}
-
-impl Text {
-    /// The text again, as a `String`.
-    pub fn into_string(self) -> String
-        ensures { string_bytes result ≡ self }
-    {
-        let Text { text } = self;
-        text
-    }
-}
-
-impl From<String> for Text {
-    ghost from_gives = { λ text t. t ≡ string_bytes text };
-
-    fn from(text: String) -> Text {
-        Text { text }
-    }
-}
-
-impl AsStr for Text {
-    ghost text = { λ t. t };
-
-    fn as_str(&self) -> &str {
-        self.text.as_str()
-    }
-}
-
-impl Clone for Text {
-    ghost is_clone = { λ t u. u ≡ t };
-
-    fn clone(&self) -> Result<Text, AllocError> {
-        Ok(Text {
-            text: self.text.clone()?,
-        })
+    fn clone(&self) -> Result<Units<'a>, AllocError> {
+        let form = match &self.form {
+            Form::Plain(text) => Form::Plain(text),
+            Form::Own(units) => Form::Own(units.clone()?),
+        };
+        Ok(Units { form })
     }
 }

@@ -2,13 +2,15 @@
 ghost use Rattle.std.specs.Prelude.{◌≡◌};
 
 use crate::error::Error;
-use crate::literal::{Text, Units};
+use crate::literal::Units;
 use crate::operator::{AssignOp, BinOpToken};
 use crate::place::{Span, Spanned};
 use crate::word::{Word, WordKind};
 use ecma_number::NumValue;
+use std::borrow::CowStr;
 
-/// A token. What it spells is borrowed from the text.
+/// A token. What it spells is borrowed from the text, and what it stands for too where no escape and no
+/// separator is in it.
 #[derive(Clone, Debug, Drop)]
 pub enum Token<'a> {
     /// A keyword, a word that is a value, or a name.
@@ -46,7 +48,7 @@ pub enum Token<'a> {
     /// A piece of a template between its marks: as it is spelled, and its units, or the fault of a bad escape.
     Template {
         raw: &'a str,
-        cooked: Result<Units, Error>,
+        cooked: Result<Units<'a>, Error>,
     },
     /// `:`
     Colon,
@@ -66,7 +68,7 @@ pub enum Token<'a> {
     Tilde,
     /// A string: its units, and as it is spelled with its quotes.
     Str {
-        units: Units,
+        units: Units<'a>,
         raw: &'a str,
     },
     /// A regular expression: what stands between its slashes, and its flags.
@@ -79,7 +81,7 @@ pub enum Token<'a> {
     /// A big integer: its radix and its digits as spelled without separators, and as it is spelled.
     BigInt {
         radix: u32,
-        digits: Text,
+        digits: CowStr<'a>,
         raw: &'a str,
     },
     /// What follows `#!` on the first line of a text.

@@ -1,23 +1,62 @@
 //! Values of literals, tokens and operators.
+use ecma_token::utf16::{push_code, push_text};
 use ecma_token::{
     AssignOp, BinOpToken, BinaryOp, BytePos, DUMMY_SP, Error, NumValue, Span, Spanned, SyntaxError,
-    Text, Token, TokenAndSpan, TokenKind, Units, Word,
+    Token, TokenAndSpan, TokenKind, Units, Word,
 };
 use std::alloc::Global;
-use std::convert::{AsSlice, AsStr};
+use std::borrow::CowStr;
 use std::process::Abort;
 use std::test::Fail;
 
+/// Texts and their units, by node 20: `charCodeAt` of each.
+const UNITS: &[(&str, &[u16])] = &[
+    ("", &[]),
+    ("ab", &[97, 98]),
+    ("\u{e9}\u{2028}", &[233, 8232]),
+    ("\u{ffff}\u{10000}", &[65535, 55296, 56320]),
+    ("x\u{1f600}y", &[120, 55357, 56832, 121]),
+    ("\u{10ffff}", &[56319, 57343]),
+];
+
 #[test]
-fn units_and_texts_are_what_they_were_made_from(rt: HostRuntime) -> Result<(), Fail> {
+fn units_of_a_text_borrow_it(rt: HostRuntime) -> Result<(), Fail> {
+    for (text, want) in UNITS {
+        let units = Units::from(*text);
+        assert_eq!(rt; units.as_plain(), Some(*text));
+        let copy = units.clone()?;
+        assert_eq!(rt; copy.as_plain(), Some(*text));
+        assert_eq!(rt; copy.into_vec(rt.alloc())?.as_slice(), *want, "{text}");
+        let mut added = [7].to_vec(rt.alloc())?;
+        push_text(&mut added, text)?;
+        assert_eq!(rt; added.split_first().map(|x| x.1), Some(*want), "{text}");
+    }
+    Ok(())
+}
+
+#[test]
+fn units_of_a_list_are_that_list(rt: HostRuntime) -> Result<(), Fail> {
     let units = Units::from([0xd83d, 0x61].to_vec(rt.alloc())?);
-    assert_eq!(rt; units.as_slice(), [0xd83d, 0x61].as_slice());
+    assert_eq!(rt; units.as_plain(), None);
     let copy = units.clone()?;
-    assert_eq!(rt; copy.as_slice(), units.as_slice());
-    assert_eq!(rt; copy.into_vec().as_slice(), [0xd83d, 0x61].as_slice());
-    let text = Text::from(String::from_str(rt.alloc(), "ff")?);
-    assert_eq!(rt; text.clone()?.as_str(), "ff");
-    assert_eq!(rt; text.into_string().as_str(), "ff");
+    assert_eq!(rt; copy.as_plain(), None);
+    assert_eq!(rt;
+        copy.into_vec(rt.alloc())?.as_slice(),
+        [0xd83d, 0x61].as_slice()
+    );
+    assert_eq!(rt;
+        units.into_vec(rt.alloc())?.as_slice(),
+        [0xd83d, 0x61].as_slice()
+    );
+    Ok(())
+}
+
+#[test]
+fn a_code_point_has_its_units(rt: HostRuntime) -> Result<(), Fail> {
+    let mut units = Vec::new(rt.alloc());
+    push_code(&mut units, 0xd800)?;
+    push_code(&mut units, 0x1f600)?;
+    assert_eq!(rt; units.as_slice(), [0xd800, 0xd83d, 0xde00].as_slice());
     Ok(())
 }
 
@@ -56,19 +95,41 @@ fn a_number_is_copied_whole(rt: HostRuntime) -> Result<(), Fail> {
 }
 
 #[test]
-fn strings_and_big_integers_are_copied(rt: HostRuntime) -> Result<(), Fail> {
+fn strings_are_copied(rt: HostRuntime) -> Result<(), Fail> {
     let string = Token::Str {
-        units: Units::from(Vec::new(rt.alloc())),
-        raw: "''",
+        units: Units::from("a"),
+        raw: "'a'",
     };
-    assert_eq!(rt; string.clone()?.kind(), TokenKind::Str);
-    let digits = Text::from(String::from_str(rt.alloc(), "ff")?);
-    let big = Token::BigInt {
-        radix: 16,
-        digits,
-        raw: "0xffn",
-    };
-    assert_eq!(rt; big.clone()?.kind(), TokenKind::BigInt);
+    match string.clone()? {
+        Token::Str { units, raw } => {
+            assert_eq!(rt; units.as_plain(), Some("a"));
+            assert_eq!(rt; raw, "'a'");
+        }
+        _ => assert!(rt; false, "a string"),
+    }
+    assert_eq!(rt; string.kind(), TokenKind::Str);
+    Ok(())
+}
+
+#[test]
+fn big_integers_are_copied(rt: HostRuntime) -> Result<(), Fail> {
+    let own = CowStr::Owned(String::from_str(rt.alloc(), "ff")?);
+    for digits in [CowStr::Borrowed("ff"), own] {
+        let big = Token::BigInt {
+            radix: 16,
+            digits,
+            raw: "0xf_fn",
+        };
+        match big.clone()? {
+            Token::BigInt { radix, digits, raw } => {
+                assert_eq!(rt; radix, 16);
+                assert_eq!(rt; digits.as_str(), "ff");
+                assert_eq!(rt; raw, "0xf_fn");
+            }
+            _ => assert!(rt; false, "a big integer"),
+        }
+        assert_eq!(rt; big.kind(), TokenKind::BigInt);
+    }
     Ok(())
 }
 
