@@ -10,3 +10,4 @@ mod Longest
 mod EscapeLemmas
 mod NameLemmas
 mod NameParts
+mod RegExpLemmas
