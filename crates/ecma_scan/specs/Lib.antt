@@ -13,3 +13,4 @@ pub mod Escapes
 pub mod Names
 pub mod NamesRead
 pub mod RegExps
+pub mod Words

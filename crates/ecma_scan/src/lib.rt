@@ -12,6 +12,7 @@ pub mod punctuators;
 pub mod regexps;
 pub mod runs;
 pub mod trivia;
+pub mod words;
 
 pub use bytes::{ByteClass, byte_class};
 pub use characters::CharExt;
@@ -21,3 +22,4 @@ pub use punctuators::punctuator;
 pub use regexps::{RegExp, regular_expression};
 pub use runs::{split_block, split_line, split_name_part, split_white_space};
 pub use trivia::{Goal, LineMark, Trivia, hashbang, skip_trivia, trivia_piece};
+pub use words::{is_escaped_reserved, word};
