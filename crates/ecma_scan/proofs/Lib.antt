@@ -1,6 +1,7 @@
 mod Tables
 mod Passing
 mod Wide
+mod Leads
 mod Ending
 mod TriviaLemmas
 mod Apart

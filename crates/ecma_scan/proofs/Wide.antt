@@ -82,6 +82,21 @@ wide c h =
     (cases_lt c 65536))
     (cases_lt c 2048)
 
+-- the first byte of a character
+pub record HasHead (c b : ℕ) (more : List ℕ) : Type 0 where
+  pub whole : encode c ≡ b ∷ more
+  pub low : c < 128 → b ≡ c
+  pub high : 128 ≤ c → 128 ≤ b
+
+pub head_of : (c : ℕ) → (b : ℕ) × (more : List ℕ) × HasHead c b more
+head_of c = ⊎_elim
+    (λ (short : c < 128). (c, [], record { whole = encode_ascii c short; low = λ _. refl; high = λ long. absurd (omega arith) }))
+    (λ (long : 128 ≤ c).
+    let w = wide c long in
+    let high : 128 ≤ w.0 = omega (arith, w.2.high) in
+    (w.0, w.1, record { whole = w.2.whole; low = λ short. absurd (omega arith); high = λ _. high }))
+    (cases_lt c 128)
+
 -- ---- which characters a scan passes
 
 abbrev AllPass : (ℕ → Bool) → List ℕ → Type 0
