@@ -1,6 +1,7 @@
 mod Tables
 mod Passing
 mod Wide
+mod Leads
 mod Ending
 mod TriviaLemmas
 mod Apart
@@ -10,3 +11,4 @@ mod Longest
 mod EscapeLemmas
 mod NameLemmas
 mod NameParts
+mod RegExpLemmas

@@ -5,16 +5,16 @@ use Rattle.std.specs.List.{prefix_len}
 use Rattle.std.proofs.lemmas.List.Sums.{prefix_len_is}
 use Rattle.memchr.specs.Find.{IsFirstByte, Nowhere, Passes}
 use Rattle.std.specs.Str.{IsCharBoundary, IsUtf8, chars, encode_utf8_all}
-use Rattle.std.proofs.lemmas.Bool.{cases_lt, cases_Bool, false≢true, false_from_ne_true}
+use Rattle.std.proofs.lemmas.Bool.{and_parts, cases_lt, cases_Bool, false≢true, false_from_ne_true}
 use Rattle.std.proofs.lemmas.Bool.Decides.{nat_tests}
 use Rattle.std.proofs.lemmas.Str.{IsCharBoundary-at_seam, chars-encodes, encode_ascii, encodes-append, encodes-chars, scalars-chars}
 use Rattle.std.proofs.Math.Seq.{drop-append_seam}
 use lib.Utf8.{encode, next, scalar, scalars}
 use Rattle.ecma_scan.specs.Runs.{Passed}
 use Rattle.ecma_scan.specs.Characters.{is_name_part, is_white_space}
-use Rattle.ecma_scan.specs.Classes.{member, plain, is_line_byte, is_line_char, is_no_star}
+use Rattle.ecma_scan.specs.Classes.{member, plain, is_line_byte, is_line_char, is_no_star, is_reg_exp_byte, is_reg_exp_char, is_reg_exp_mark}
 use Rattle.ecma_scan.specs.declared.runs.Class.{Class}
-use Rattle.ecma_scan.specs.declared.runs.Class.TheVariants.{NamePart, WhiteSpace, Line, NoStar}
+use Rattle.ecma_scan.specs.declared.runs.Class.TheVariants.{NamePart, WhiteSpace, Line, NoStar, RegExp}
 use Rattle.ecma_scan.proofs.Passing.{passed_none, passed_cons}
 
 -- the bytes of a character after its first
@@ -81,6 +81,21 @@ wide c h =
     ))
     (cases_lt c 65536))
     (cases_lt c 2048)
+
+-- the first byte of a character
+pub record HasHead (c b : ℕ) (more : List ℕ) : Type 0 where
+  pub whole : encode c ≡ b ∷ more
+  pub low : c < 128 → b ≡ c
+  pub high : 128 ≤ c → 128 ≤ b
+
+pub head_of : (c : ℕ) → (b : ℕ) × (more : List ℕ) × HasHead c b more
+head_of c = ⊎_elim
+    (λ (short : c < 128). (c, [], record { whole = encode_ascii c short; low = λ _. refl; high = λ long. absurd (omega arith) }))
+    (λ (long : 128 ≤ c).
+    let w = wide c long in
+    let high : 128 ≤ w.0 = omega (arith, w.2.high) in
+    (w.0, w.1, record { whole = w.2.whole; low = λ short. absurd (omega arith); high = λ _. high }))
+    (cases_lt c 128)
 
 -- ---- which characters a scan passes
 
@@ -171,11 +186,39 @@ star_sorts c = ⊎_elim
     }))
     (cases_lt c 128)
 
+mark_inner : (bs : List ℕ) → Inner bs → AllPass is_reg_exp_byte bs
+mark_inner [] h = tt
+mark_inner (b ∷ bs) h = (grind (arith, nat_tests), mark_inner bs h.2)
+
+mark_ascii : (c : ℕ) → c < 128 → is_reg_exp_byte c ≡ true → is_reg_exp_char c ≡ true
+mark_ascii c short e = grind (arith, nat_tests)
+
+no_mark_high : (c : ℕ) → 128 ≤ c → is_line_char c ≡ true → is_reg_exp_char c ≡ true
+no_mark_high c h line = let e : is_reg_exp_mark c ≡ false = grind (arith, nat_tests) in rw line (rw e refl)
+
+reg_exp_sorts : (c : ℕ) → IsPlain is_reg_exp_char is_reg_exp_byte c ⊎ IsOther is_reg_exp_byte c
+reg_exp_sorts c = ⊎_elim
+    (λ (short : c < 128). ⊎_elim
+    (λ (e : is_reg_exp_byte c ≡ true). inl (plain_ascii is_reg_exp_char is_reg_exp_byte c short e (mark_ascii c short e)))
+    (λ (e : is_reg_exp_byte c ≡ false). inr (other_ascii is_reg_exp_byte c short e))
+    (cases_Bool (is_reg_exp_byte c)))
+    (λ (long : 128 ≤ c).
+    let w = wide c long in
+    ⊎_elim
+    (λ (e : is_reg_exp_byte w.0 ≡ true). inl (record {
+      bytes = subst (AllPass is_reg_exp_byte) (sym w.2.whole) (e, mark_inner w.1 w.2.others);
+      passes = no_mark_high c long (line_wide c w.0 long w.2.line w.2.paragraph (and_parts (is_line_byte w.0) (not (is_reg_exp_mark w.0)) e).0);
+    }))
+    (λ (e : is_reg_exp_byte w.0 ≡ false). inr (record { first = w.0; others = w.1; whole = w.2.whole; stops = e }))
+    (cases_Bool (is_reg_exp_byte w.0)))
+    (cases_lt c 128)
+
 sorts : (k : Class) (c : ℕ) → IsPlain (member k) (plain k) c ⊎ IsOther (plain k) c
 sorts NamePart c = ascii_sorts is_name_part c
 sorts WhiteSpace c = ascii_sorts is_white_space c
 sorts Line c = line_sorts c
 sorts NoStar c = star_sorts c
+sorts RegExp c = reg_exp_sorts c
 
 -- ---- a text cut after the bytes that pass
 

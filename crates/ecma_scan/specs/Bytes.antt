@@ -1,5 +1,5 @@
 -- The classes of bytes. A byte below 128 is a character of ASCII, and each byte from there on is a part of another character.
-use Rattle.std.specs.Prelude.{ℕ, Bool, true, false, List, [], ◌∷◌, nat_le, if◌then◌else◌, ◌==◌}
+use Rattle.std.specs.Prelude.{◌≡◌, ℕ, Bool, true, false, List, [], ◌∷◌, nat_le, if◌then◌else◌, ◌==◌, encode_utf8}
 use Rattle.ecma_scan.specs.declared.bytes.ByteClass.{ByteClass}
 use Rattle.ecma_scan.specs.declared.bytes.ByteClass.TheVariants.{WhiteSpace, LineTerminator, NameStart, Digit, Quote, BackQuote, Backslash, Punctuator, Other, NonAscii}
 use Rattle.ecma_scan.specs.Characters.{is_among, is_white_space, is_line_terminator, is_name_start, is_decimal_digit}
@@ -31,3 +31,7 @@ is_name_class _ = false
 abbrev pub is_space_class : ByteClass → Bool
 is_space_class WhiteSpace = true
 is_space_class _ = false
+
+-- the spelling of these characters begins with the byte
+abbrev pub IsLead : ℕ → List ℕ → Type 0
+IsLead b cs = (c : ℕ) × (rest : List ℕ) × (more : List ℕ) × (cs ≡ c ∷ rest) × (encode_utf8 c ≡ b ∷ more)

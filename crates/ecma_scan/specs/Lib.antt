@@ -12,3 +12,5 @@ pub mod Punctuators
 pub mod Escapes
 pub mod Names
 pub mod NamesRead
+pub mod RegExps
+pub mod Words

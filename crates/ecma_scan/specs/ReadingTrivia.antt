@@ -67,14 +67,27 @@ abbrev pub after_break : ℕ → List ℕ → List ℕ
 after_break c [] = []
 after_break c (d ∷ ds) = if c == 0xD then (if d == 0xA then ds else d ∷ ds) else d ∷ ds
 
+-- what begins with the character, where that is neither white space nor a line terminator
+abbrev pub mark : Goal → Bool → ℕ → List ℕ → Reading
+mark goal first c cs =
+    if c == 47 then after_slash cs
+    else (if c == 60 then html goal HtmlOpen (past_html_open cs)
+    else (if c == 45 then (if first then html goal HtmlClose (past_html_close cs) else Nothing)
+    else Nothing))
+
 unfoldable pub read_by : Goal → Bool → ℕ → List ℕ → Reading
 read_by goal first c cs =
     if is_white_space c then Found WhiteSpace (after is_white_space cs)
     else (if is_line_terminator c then Found LineTerminator (after_break c cs)
-    else (if c == 47 then after_slash cs
-    else (if c == 60 then html goal HtmlOpen (past_html_open cs)
-    else (if c == 45 then (if first then html goal HtmlClose (past_html_close cs) else Nothing)
-    else Nothing))))
+    else mark goal first c cs)
+
+-- what begins with a character past ASCII
+abbrev pub wide : List ℕ → Reading
+wide [] = Nothing
+wide (c ∷ cs) =
+    if is_white_space c then Found WhiteSpace (after is_white_space cs)
+    else (if is_line_terminator c then Found LineTerminator cs
+    else Nothing)
 
 abbrev pub read : Goal → Bool → List ℕ → Reading
 read goal first [] = Nothing

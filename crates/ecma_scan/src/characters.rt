@@ -1,6 +1,7 @@
 //! The classes of characters that the lexical grammar tells apart.
-ghost use Rattle.std.specs.Prelude.{◌≡◌, ◌<◌, [], ◌∷◌, length, IfSome, IsUtf8, MatchOption, Some};
+ghost use Rattle.std.specs.Prelude.{ℕ, ◌≡◌, ◌<◌, [], ◌∷◌, length, IfSome, IsUtf8, MatchOption, Some};
 ghost use Rattle.std.specs.Str.{chars};
+ghost use Rattle.ecma_scan.specs.Bytes.{IsLead};
 ghost use Rattle.ecma_scan.specs.Characters as spec;
 
 /// What the lexical grammar asks of a character.
@@ -76,4 +77,25 @@ pub fn pop(text: &str) -> Option<(char, &str)>
     let mut left = text.chars();
     let c = left.next()?;
     Some((c, left.as_str()))
+}
+
+/// The first byte of a text.
+#[inline]
+pub(crate) fn first_byte(text: &str) -> Option<u8>
+    ensures { MatchOption result (chars text.now ≡ []) (λ b. IsLead b (chars text.now)) }
+{
+    match text.as_bytes() {
+        [byte, ..] => Some(*byte),
+        [] => None,
+    }
+}
+
+/// What follows the first character, which is of ASCII.
+#[inline]
+pub(crate) fn past_ascii(text: &str) -> &str
+    requires { (b : ℕ) × (b < 128) × IsLead b (chars text.now) }
+    ensures cut { (c : ℕ) × (c < 128) × (chars text.now ≡ c ∷ chars result.now) }
+    ensures shorter { length result.now < length text.now }
+{
+    &text[1..]
 }

@@ -3,6 +3,7 @@ ghost use Rattle.std.specs.Str.{chars};
 ghost use Rattle.ecma_scan.specs.Trivia.{OnePiece};
 ghost use Rattle.ecma_scan.specs.Names.{OneName};
 ghost use Rattle.ecma_scan.specs.Punctuators.{OnePunctuator};
+ghost use Rattle.ecma_scan.specs.RegExps.{OneRegExp};
 
 use crate::trivia::Goal;
 
@@ -19,4 +20,9 @@ pub fn one_punctuator_stands(text: &str)
 /// Law: at most one name stands at the front of a text.
 pub fn one_name_stands(text: &str)
     ensures { OneName (chars text.now) }
+{}
+
+/// Law: at most one regular expression stands at the front of a text.
+pub fn one_regular_expression_stands(text: &str)
+    ensures { OneRegExp (chars text.now) }
 {}

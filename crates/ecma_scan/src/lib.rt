@@ -1,4 +1,5 @@
-//! Reads one piece of a text at its front: trivia, a hashbang, a name or a punctuator.
+//! Reads one piece of a text at its front: trivia, a hashbang, a name, a
+//! punctuator or a regular expression.
 #![tactic(auto)]
 
 pub mod bytes;
@@ -8,13 +9,17 @@ mod escapes;
 pub mod laws;
 pub mod names;
 pub mod punctuators;
+pub mod regexps;
 pub mod runs;
 pub mod trivia;
+pub mod words;
 
 pub use bytes::{ByteClass, byte_class};
 pub use characters::CharExt;
 pub use comments::{Comment, CommentKind, collect_trivia};
 pub use names::{Name, identifier_name};
 pub use punctuators::punctuator;
+pub use regexps::{RegExp, regular_expression};
 pub use runs::{split_block, split_line, split_name_part, split_white_space};
 pub use trivia::{Goal, LineMark, Trivia, hashbang, skip_trivia, trivia_piece};
+pub use words::{is_escaped_reserved, word};

@@ -3,7 +3,7 @@ ghost use Rattle.std.specs.Prelude.{◌≡◌, ◌≢◌, ℕ, ◌+◌, ◌≤�
 ghost use Rattle.std.specs.List.{prefix_len};
 ghost use Rattle.std.specs.Str.{chars};
 ghost use Rattle.ecma_scan.specs.Characters as spec;
-ghost use Rattle.ecma_scan.specs.Classes.{is_name_byte, is_space_byte, is_line_char, member, plain};
+ghost use Rattle.ecma_scan.specs.Classes.{is_name_byte, is_reg_exp_byte, is_space_byte, is_line_char, member, plain};
 ghost use Rattle.ecma_scan.specs.Runs.{Passed, run, after};
 ghost use Rattle.ecma_scan.specs.Comments.{NoEnd, IsBlock};
 ghost use Rattle.ecma_scan.specs.ReadingTrivia.{past};
@@ -17,7 +17,7 @@ const SEPARATOR_LEAD: u8 = 0xE2;
 
 /// A class of characters, of which a text may hold a run.
 #[derive(Clone, Copy)]
-enum Class {
+pub(crate) enum Class {
     /// What a name goes on with.
     NamePart,
     /// White space.
@@ -26,6 +26,8 @@ enum Class {
     Line,
     /// All but `*`.
     NoStar,
+    /// All but line terminators and what has a meaning in the body of a regular expression.
+    RegExp,
 }
 
 impl Class {
@@ -39,6 +41,7 @@ impl Class {
             Class::WhiteSpace => c.is_ws(),
             Class::Line => !c.is_line_terminator(),
             Class::NoStar => c != '*',
+            Class::RegExp => !c.is_line_terminator() && !matches!(c, '/' | '[' | '\\' | ']'),
         }
     }
 }
@@ -57,6 +60,16 @@ fn is_space_byte(byte: u8) -> bool
     byte_class(byte).is_white_space()
 }
 
+#[inline]
+fn is_reg_exp_byte(byte: u8) -> bool
+    ensures { result ≡ is_reg_exp_byte byte }
+{
+    !matches!(
+        byte,
+        b'\n' | b'\r' | SEPARATOR_LEAD | b'/' | b'[' | b'\\' | b']'
+    )
+}
+
 /// How many bytes at the front are of characters of the class, as far as bytes tell.
 #[inline(always)]
 fn plain_len(bytes: &[u8], class: Class) -> usize
@@ -67,12 +80,13 @@ fn plain_len(bytes: &[u8], class: Class) -> usize
         Class::WhiteSpace => bytes.iter().take_while(|b| is_space_byte(**b)).count(),
         Class::Line => memchr3(b'\n', b'\r', SEPARATOR_LEAD, bytes).unwrap_or(bytes.len()),
         Class::NoStar => memchr(b'*', bytes).unwrap_or(bytes.len()),
+        Class::RegExp => bytes.iter().take_while(|b| is_reg_exp_byte(**b)).count(),
     }
 }
 
 /// The text after characters of the class that bytes alone tell.
 #[inline(always)]
-fn skip_plain(text: &str, class: Class) -> &str
+pub(crate) fn skip_plain(text: &str, class: Class) -> &str
     ensures passed { Passed (member class) (chars text.now) (chars result.now) }
     ensures shorter { length result.now ≤ length text.now }
 {

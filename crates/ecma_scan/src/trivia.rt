@@ -8,7 +8,8 @@ ghost use Rattle.ecma_scan.specs.ReadingTrivia.{Agrees, Found, view};
 ghost use Rattle.ecma_scan.specs.Trivia.{IsFault, IsFaultAfter, IsHashbang, IsPiece, IsSkipped, NoHashbang, NoPiece, NoTrivia, breaks};
 ghost use Rattle.ecma_scan.specs.declared.trivia.Goal.{Goal};
 
-use crate::characters::{CharExt, pop};
+use crate::bytes::{ByteClass, byte_class};
+use crate::characters::{CharExt, first_byte, past_ascii, pop};
 use crate::runs::{split_block, split_line, split_white_space, strip};
 use ecma_token::{BytePos, Error, Span, SyntaxError};
 
@@ -166,27 +167,58 @@ fn after_break(first: char, text: &str) -> &str
     }
 }
 
-/// The reading of the front of a text.
-#[tactic(auto, unfolding(crate::specs::ReadingTrivia::read_by))]
+/// A comment that begins with this byte, if one does. `rest` follows the byte.
+fn mark<'a>(end: u32, goal: Goal, first: bool, byte: u8, text: &str, rest: &'a str) -> Piece<'a>
+    requires within { length text.now < end }
+    requires order { length rest.now < length text.now }
+    ensures piece { Agrees end (chars text.now) (reading.mark goal first byte (chars rest.now)) result }
+    ensures rest { IfOk result (λ o. IfSome o (λ x. IsUtf8 x.1.now × (length x.1.now ≤ length rest.now))) }
+{
+    match byte {
+        b'/' => slash(end, text, rest),
+        b'<' => html(end, goal, LineMark::HtmlOpen, text, past_html_open(rest)),
+        b'-' if first => html(end, goal, LineMark::HtmlClose, text, past_html_close(rest)),
+        _ => Ok(None),
+    }
+}
+
+/// The white space or the line terminator at the front of a text, which begins past ASCII.
+fn wide(text: &str) -> Option<(Trivia<'_>, &str)>
+    ensures piece { MatchOption result (reading.wide (chars text.now) ≡ reading.Nothing)
+        (λ x. reading.wide (chars text.now) ≡ Found (view x.0) (chars x.1.now)) }
+    ensures rest { IfSome result (λ x. IsUtf8 x.1.now × (length x.1.now < length text.now)) }
+{
+    let (c, rest) = pop(text)?;
+    if c.is_ws() {
+        let (_, rest) = split_white_space(rest);
+        Some((Trivia::WhiteSpace, rest))
+    } else if c.is_line_terminator() {
+        Some((Trivia::LineTerminator, rest))
+    } else {
+        None
+    }
+}
+
+/// The reading of the front of a text. The class of its first byte tells whether there is any.
 fn read<'a>(end: u32, goal: Goal, first: bool, text: &'a str) -> Piece<'a>
     requires { length text.now < end }
     ensures piece { Agrees end (chars text.now) (reading.read goal first (chars text.now)) result }
     ensures rest { IfOk result (λ o. IfSome o (λ x. IsUtf8 x.1.now × (length x.1.now < length text.now))) }
 {
-    let Some((c, rest)) = pop(text) else {
+    let Some(byte) = first_byte(text) else {
         return Ok(None);
     };
-    if c.is_ws() {
-        let (_, rest) = split_white_space(rest);
-        return Ok(Some((Trivia::WhiteSpace, rest)));
-    }
-    if c.is_line_terminator() {
-        return Ok(Some((Trivia::LineTerminator, after_break(c, rest))));
-    }
-    match c {
-        '/' => slash(end, text, rest),
-        '<' => html(end, goal, LineMark::HtmlOpen, text, past_html_open(rest)),
-        '-' if first => html(end, goal, LineMark::HtmlClose, text, past_html_close(rest)),
+    match byte_class(byte) {
+        ByteClass::WhiteSpace => {
+            let (_, rest) = split_white_space(past_ascii(text));
+            Ok(Some((Trivia::WhiteSpace, rest)))
+        }
+        ByteClass::LineTerminator => {
+            let rest = after_break(byte as char, past_ascii(text));
+            Ok(Some((Trivia::LineTerminator, rest)))
+        }
+        ByteClass::Punctuator => mark(end, goal, first, byte, text, past_ascii(text)),
+        ByteClass::NonAscii => Ok(wide(text)),
         _ => Ok(None),
     }
 }

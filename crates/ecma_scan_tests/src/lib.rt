@@ -3,4 +3,6 @@
 
 pub mod plain;
 #[cfg(test)]
+mod regexps;
+#[cfg(test)]
 mod tests;
