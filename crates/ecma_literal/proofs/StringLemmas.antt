@@ -6,12 +6,13 @@ use Rattle.std.specs.List.{flat_map, list_any}
 use Rattle.std.proofs.lemmas.Bool.{cases_Bool, false≢true}
 use Rattle.std.proofs.lemmas.Bool.Decides.{nat_tests}
 use Rattle.ecma_token.specs.declared.error.Error.{Error}
+use Rattle.ecma_token.specs.Utf16.{utf16}
 use Rattle.ecma_scan.specs.Characters.{is_line_break}
 use Rattle.ecma_scan.specs.Runs.{Each, run, after}
 use Rattle.ecma_literal.specs.declared.escape.Escape.{Escape}
 use Rattle.ecma_literal.specs.Escapes.{begins, IsEscape, NoEscape}
 use Rattle.ecma_literal.specs.Places.{EndsWith}
-use Rattle.ecma_literal.specs.Units.{utf16, escape_units, is_legacy}
+use Rattle.ecma_literal.specs.Units.{escape_units, is_legacy}
 use Rattle.ecma_literal.specs.Strings.{Piece, Plain, Escaped, Stands, Pieces, SpellsString, NoString, StopsAt, IsStringFault, OneString, is_plain, is_quote, piece_units, has_legacy_escape}
 use Rattle.ecma_literal.proofs.EscapeLemmas.{one_escape, escape_front}
 use Rattle.ecma_literal.proofs.RunLemmas.{run_after, run_each, after_more, after_none}

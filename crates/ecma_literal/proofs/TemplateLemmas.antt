@@ -8,6 +8,7 @@ use Rattle.std.proofs.lemmas.Bool.Decides.{nat_tests}
 use Rattle.std.proofs.lemmas.List.{append_cancel_right}
 use Rattle.ecma_token.specs.declared.error.Error.{Error}
 use Rattle.ecma_token.specs.declared.error.SyntaxError.TheVariants.{LegacyOctal}
+use Rattle.ecma_token.specs.Utf16.{utf16}
 use Rattle.ecma_literal.specs.declared.escape.Escape.{Escape}
 use Rattle.ecma_literal.specs.declared.escape.Escape.TheVariants.{Continuation, Code, Legacy}
 use Rattle.ecma_literal.specs.declared.template.Ending.{Ending}
@@ -15,9 +16,7 @@ use Rattle.ecma_literal.specs.declared.template.Ending.TheVariants.{BackQuote, S
 use Rattle.ecma_literal.specs.Escapes.{begins, is_line_feed, IsEscape}
 use Rattle.ecma_literal.specs.Places.{EndsWith, IsAt}
 use Rattle.ecma_literal.specs.Reading.{escape_at}
-use Rattle.ecma_literal.specs.Strings.{value_units}
-use Rattle.ecma_literal.specs.declared.value.Value.{Value}
-use Rattle.ecma_literal.specs.Units.{utf16, escape_units, is_legacy, CodeFits}
+use Rattle.ecma_literal.specs.Units.{escape_units, is_legacy, CodeFits}
 use Rattle.ecma_literal.specs.Templates.{Part, Bare, Break, Escaped, Bad, Stands, Parts, part_units, is_bad, Ends, SpellsPiece, NoPiece, IsBadEscape, IsFirstBad, OnePiece, is_bare, is_brace, bare_run, after_bare}
 use Rattle.ecma_literal.proofs.EscapeLemmas.{one_escape, escape_read, escape_front}
 use Rattle.ecma_literal.proofs.StringLemmas.{same_head, same_tail, nil_cons}
@@ -388,10 +387,10 @@ no_piece end text m us bad k o ps ending r h =
     theirs [] s m r ending o h e = no_end ending m r o (subst (λ t. Ends ending t r) h e)
     theirs (p ∷ ps) s m r ending o h e = none_at_end p ending s h.0 r e h.1
 
-pub cooked_piece : (end : ℕ) (text own r us : List ℕ) (ending : Ending) (bad : Option Error) (answer : Result Value Error)
-    → MatchOption bad (IsOkAnd answer (λ v. value_units v ≡ us)) (λ e. IsErrAnd answer (λ f. f ≡ e))
+pub cooked_piece : (end : ℕ) (text own r us : List ℕ) (ending : Ending) (bad : Option Error) (answer : Result (List ℕ) Error)
+    → MatchOption bad (IsOkAnd answer (λ v. v ≡ us)) (λ e. IsErrAnd answer (λ f. f ≡ e))
     → MatchOption bad (SpellsPiece own (Some us) ending text r) (λ e. SpellsPiece own None ending text r × IsFirstBad end text e)
-    → MatchResult answer (λ v. SpellsPiece own (Some (value_units v)) ending text r) (λ e. SpellsPiece own None ending text r × IsFirstBad end text e)
+    → MatchResult answer (λ v. SpellsPiece own (Some v) ending text r) (λ e. SpellsPiece own None ending text r × IsFirstBad end text e)
 cooked_piece end text own r us ending None (Ok v) e h = subst (λ x. SpellsPiece own (Some x) ending text r) (sym e) h
 cooked_piece end text own r us ending None (Err f) e h = absurd e
 cooked_piece end text own r us ending (Some x) (Ok v) e h = absurd e

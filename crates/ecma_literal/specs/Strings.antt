@@ -8,11 +8,9 @@ use Rattle.ecma_token.specs.declared.error.SyntaxError.TheVariants.{Memory, Unte
 use Rattle.ecma_scan.specs.Characters.{is_line_break}
 use Rattle.ecma_literal.specs.declared.escape.Escape.{Escape}
 use Rattle.ecma_literal.specs.declared.string.StringLiteral.{StringLiteral}
-use Rattle.ecma_literal.specs.declared.value.Value.{Value}
-use Rattle.ecma_literal.specs.declared.value.Value.TheVariants as v
 use Rattle.ecma_literal.specs.Escapes.{begins, IsEscape, NoEscape, bad_escape}
 use Rattle.ecma_literal.specs.Places.{IsAt}
-use Rattle.ecma_literal.specs.Units.{utf16, escape_units, is_legacy}
+use Rattle.ecma_literal.specs.Units.{escape_units, is_legacy}
 
 -- the quotes of strings
 abbrev pub is_quote : ℕ → Bool
@@ -59,11 +57,6 @@ SpellsString units legacy text r =
 abbrev pub NoString : List ℕ → Type 0
 NoString text = (ps : List Piece) (r : List ℕ) → IsString ps text r → ⊥
 
--- the code units that a value holds
-abbrev pub value_units : Value → List ℕ
-value_units (v.Plain text) = utf16 (chars text.now)
-value_units (v.Units units) = units.items
-
 -- Where the pieces of a string end without a quote: the text or the line ends there, or a bad escape begins.
 abbrev pub StopsAt : ℕ → List ℕ → List ℕ → Error → Type 0
 StopsAt end text m e =
@@ -77,7 +70,7 @@ IsStringFault end text e = (quote : ℕ) × (inner : List ℕ) × (ps : List Pie
 
 -- What is known of a text from what reading its string answered.
 abbrev pub ReadsString : ℕ → List ℕ → Result StringLiteral Error → Type 0
-ReadsString end text (Ok s) = SpellsString (value_units s.value) s.legacy text (chars s.rest.now) × (text ≡ chars s.raw.now ++ chars s.rest.now)
+ReadsString end text (Ok s) = SpellsString s.value s.legacy text (chars s.rest.now) × (text ≡ chars s.raw.now ++ chars s.rest.now)
 ReadsString end text (Err e) = e.kind ≢ Memory → NoString text × IsStringFault end text e
 
 -- At most one string stands at a front.

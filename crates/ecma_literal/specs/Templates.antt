@@ -12,7 +12,6 @@ use Rattle.ecma_literal.specs.declared.template.Ending.TheVariants.{BackQuote, S
 use Rattle.ecma_literal.specs.declared.template.TemplatePiece.{TemplatePiece}
 use Rattle.ecma_literal.specs.Escapes.{begins, is_line_feed, IsEscape, NoEscape, bad_escape}
 use Rattle.ecma_literal.specs.Places.{IsAt}
-use Rattle.ecma_literal.specs.Strings.{value_units}
 use Rattle.ecma_literal.specs.Units.{escape_units, is_legacy}
 
 -- TemplateCharacter: one that stands for itself, a line break that stands for LF, an escape, or a backslash and a
@@ -89,7 +88,7 @@ IsFirstBad end text e = (ps : List Part) × (c : ℕ) × (t : List ℕ) × Parts
 -- What is known of a text from what reading a piece of a template answered.
 abbrev pub ReadsPiece : ℕ → List ℕ → Result TemplatePiece Error → Type 0
 ReadsPiece end text (Ok t) = MatchResult t.cooked
-    (λ v. SpellsPiece (chars t.raw.now) (Some (value_units v)) t.ending text (chars t.rest.now))
+    (λ units. SpellsPiece (chars t.raw.now) (Some units) t.ending text (chars t.rest.now))
     (λ e. SpellsPiece (chars t.raw.now) None t.ending text (chars t.rest.now) × IsFirstBad end text e)
 ReadsPiece end text (Err e) = e.kind ≢ Memory → NoPiece text × (e.kind ≡ UnterminatedTpl) × IsAt end text [] e.span
 

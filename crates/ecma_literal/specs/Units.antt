@@ -1,13 +1,8 @@
--- The code units of UTF-16 that characters and escapes stand for.
+-- The code units of UTF-16 that escapes stand for.
 use Rattle.std.specs.Prelude.{ℕ, ◌<◌, Bool, true, false, List, []}
 use Rattle.std.specs.Char.Escape.{encode_utf16}
-use Rattle.std.specs.List.{flat_map}
 use Rattle.ecma_literal.specs.declared.escape.Escape.{Escape}
 use Rattle.ecma_literal.specs.declared.escape.Escape.TheVariants.{Continuation, Code, Legacy}
-
--- the code units of characters
-abbrev pub utf16 : List ℕ → List ℕ
-utf16 cs = flat_map encode_utf16 cs
 
 -- the code units that an escape stands for
 abbrev pub escape_units : Escape → List ℕ

@@ -1,17 +1,19 @@
 //! Escapes of strings and templates, as they stand behind their backslash.
 
-ghost use Rattle.std.specs.Prelude.{◌≡◌, ◌+◌, ◌*◌, ◌<◌, ◌≤◌, true, length, IfOk, IfSome, IsUtf8, MatchResult};
+ghost use Rattle.std.specs.Prelude.{◌≡◌, ◌+◌, ◌*◌, ◌++◌, ◌<◌, ◌≤◌, true, length, IfOk, IfSome, IsUtf8, MatchResult, OnOk};
 ghost use Rattle.std.specs.Option.{option_map};
 ghost use Rattle.std.specs.Str.{chars};
 ghost use Rattle.ecma_scan.specs.Runs.{Each};
 ghost use Rattle.ecma_literal.specs.Escapes as spec;
 ghost use Rattle.ecma_literal.specs.Reading as reading;
-ghost use Rattle.ecma_literal.specs.Units.{CodeFits};
+ghost use Rattle.ecma_literal.specs.Units.{escape_units, CodeFits};
 
 use crate::runs::split_hex;
 use ecma_scan::CharExt;
 use ecma_scan::characters::pop;
 use ecma_token::SyntaxError;
+use ecma_token::utf16::push_code;
+use std::alloc::AllocError;
 
 /// What an escape stands for.
 #[derive(Clone, Copy, Debug, PartialEq, Eq)]
@@ -307,5 +309,16 @@ pub fn read_escape(text: &str) -> Result<(Escape, &str), BadEscape<'_>>
     match escape_at(text) {
         Some((escape, rest)) => Ok((escape, rest)),
         None => Err(bad_escape(text)),
+    }
+}
+
+/// Adds the code units that an escape stands for.
+pub(crate) fn push_escape(units: &mut Vec<u16>, escape: Escape) -> Result<(), AllocError>
+    requires { CodeFits escape }
+    ensures { OnOk result (units.new.items ≡ units.old.items ++ escape_units escape) }
+{
+    match escape {
+        Escape::Continuation => Ok(()),
+        Escape::Code(code) | Escape::Legacy(code) => push_code(units, code),
     }
 }

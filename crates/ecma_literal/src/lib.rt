@@ -8,9 +8,7 @@ mod place;
 pub mod runs;
 pub mod string;
 pub mod template;
-pub mod value;
 
 pub use escape::{BadEscape, Escape, read_escape};
 pub use string::{StringLiteral, read_string};
 pub use template::{Ending, TemplatePiece, raw_text, read_template};
-pub use value::Value;

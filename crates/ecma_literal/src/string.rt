@@ -5,19 +5,19 @@ ghost use Rattle.std.specs.Str.{chars};
 ghost use Rattle.ecma_literal.specs.Escapes.{begins};
 ghost use Rattle.ecma_literal.specs.Strings.{is_quote, ReadsString};
 
-use crate::escape::read_escape;
+use crate::escape::{push_escape, read_escape};
 use crate::place::{before, fault, out_of_memory};
 use crate::runs::split_plain;
-use crate::value::{Value, push_escape, push_text};
 use ecma_scan::characters::pop;
-use ecma_token::{Error, SyntaxError};
+use ecma_token::utf16::push_text;
+use ecma_token::{Error, SyntaxError, Units};
 use std::alloc::Global;
 
 /// A string literal.
 #[derive(Debug, Drop)]
 pub struct StringLiteral<'a> {
     /// What it stands for.
-    pub value: Value<'a>,
+    pub value: Units<'a>,
     /// Whether it has an octal escape, or `\8` or `\9`, which strict code bars.
     pub legacy: bool,
     /// Its own text, with its quotes.
@@ -45,7 +45,7 @@ pub fn read_string(alloc: Global, text: &str, end: u32) -> Result<StringLiteral<
     let (own, more) = split_plain(inner, quote);
     match pop(more) {
         Some((c, rest)) if c == quote => Ok(StringLiteral {
-            value: Value::Plain(own),
+            value: Units::from(own),
             legacy: false,
             raw: before(text, rest),
             rest,
@@ -82,7 +82,7 @@ fn read_escaped<'a>(
         };
         if c == quote {
             let raw = before(text, behind);
-            let value = Value::Units(units);
+            let value = Units::from(units);
             return Ok(StringLiteral {
                 value,
                 legacy,

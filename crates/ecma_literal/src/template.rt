@@ -3,16 +3,15 @@
 ghost use Rattle.std.specs.Prelude.{◌≡◌, [], ◌∷◌, ◌<◌, ◌≤◌, length, IfOk, IsErrAnd, IsOkAnd, IsUtf8, MatchOption, is_some, option_map, encode_utf8_all, string_bytes};
 ghost use Rattle.std.specs.List.{list_any};
 ghost use Rattle.std.specs.Str.{chars};
-ghost use Rattle.ecma_literal.specs.Strings.{value_units};
 ghost use Rattle.ecma_literal.specs.Templates as spec;
 ghost use Rattle.ecma_literal.specs.TemplateSteps.{IsNext, RestOf};
 
-use crate::escape::{Escape, past_line_feed, read_escape};
+use crate::escape::{Escape, past_line_feed, push_escape, read_escape};
 use crate::place::{before, fault, out_of_memory};
 use crate::runs::split_bare;
-use crate::value::{Value, push_escape, push_text};
 use ecma_scan::characters::pop;
-use ecma_token::{Error, SyntaxError};
+use ecma_token::utf16::push_text;
+use ecma_token::{Error, SyntaxError, Units};
 use memchr::memchr;
 use std::alloc::{AllocError, Global};
 
@@ -31,7 +30,7 @@ pub struct TemplatePiece<'a> {
     /// Its own text, without what ends it.
     pub raw: &'a str,
     /// What it stands for, or the fault of its first bad escape, which an untagged template has.
-    pub cooked: Result<Value<'a>, Error>,
+    pub cooked: Result<Units<'a>, Error>,
     /// What ends it.
     pub ending: Ending,
     /// The text behind that.
@@ -108,7 +107,7 @@ pub fn read_template(alloc: Global, text: &str, end: u32) -> Result<TemplatePiec
     match next_part(more, end) {
         Next::End(ending, rest) => Ok(TemplatePiece {
             raw: own,
-            cooked: Ok(Value::Plain(own)),
+            cooked: Ok(Units::from(own)),
             ending,
             rest,
         }),
@@ -117,12 +116,12 @@ pub fn read_template(alloc: Global, text: &str, end: u32) -> Result<TemplatePiec
 }
 
 /// What a piece stands for, by its code units and by the fault of its first bad escape.
-fn cooked<'a>(units: Vec<u16>, bad: Option<Error>) -> Result<Value<'a>, Error>
-    ensures { MatchOption bad (IsOkAnd result (λ v. value_units v ≡ units.items)) (λ e. IsErrAnd result (λ f. f ≡ e)) }
+fn cooked<'a>(units: Vec<u16>, bad: Option<Error>) -> Result<Units<'a>, Error>
+    ensures { MatchOption bad (IsOkAnd result (λ v. v ≡ units.items)) (λ e. IsErrAnd result (λ f. f ≡ e)) }
 {
     match bad {
         Some(error) => Err(error),
-        None => Ok(Value::Units(units)),
+        None => Ok(Units::from(units)),
     }
 }
 

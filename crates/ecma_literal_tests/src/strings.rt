@@ -2,7 +2,7 @@
 
 use crate::plain::{Meaning, string_pieces};
 use crate::texts::{MOST_TEXTS, Texts, push_meaning, units};
-use ecma_literal::{StringLiteral, Value, read_string};
+use ecma_literal::{StringLiteral, read_string};
 use ecma_scan::characters::pop;
 use ecma_token::{Error, SyntaxError};
 use std::alloc::{AllocError, Global};
@@ -101,7 +101,7 @@ fn values_of_strings(rt: HostRuntime) -> Result<(), Fail> {
             *want,
             "{text}"
         );
-        let borrows = matches!(literal.value, Value::Plain(_));
+        let borrows = literal.value.as_plain().is_some();
         assert_eq!(rt; borrows, !text.contains('\\'), "{text}");
     }
     Ok(())

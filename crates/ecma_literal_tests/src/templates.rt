@@ -2,7 +2,7 @@
 
 use crate::plain::{Meaning, template_parts};
 use crate::texts::{MOST_TEXTS, Texts, push_meaning, units};
-use ecma_literal::{Ending, TemplatePiece, Value, raw_text, read_template};
+use ecma_literal::{Ending, TemplatePiece, raw_text, read_template};
 use ecma_token::{Error, SyntaxError};
 use std::alloc::{AllocError, Global};
 use std::process::Abort;
@@ -94,7 +94,7 @@ fn values_of_templates(rt: HostRuntime) -> Result<(), Fail> {
         match (piece.cooked, cooked) {
             (Ok(value), Some(want)) => {
                 assert_eq!(rt; units(rt.alloc(), &value)?.as_slice(), *want, "{text}");
-                let borrows = matches!(value, Value::Plain(_));
+                let borrows = value.as_plain().is_some();
                 assert_eq!(rt;
                     borrows,
                     !text.contains('\\') && !text.contains('\r'),

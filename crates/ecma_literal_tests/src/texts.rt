@@ -3,7 +3,7 @@
 ghost use Rattle.std.specs.Prelude.{◌<◌, ◌+◌, OnSome};
 
 use crate::plain::Meaning;
-use ecma_literal::Value;
+use ecma_token::Units;
 use std::alloc::{AllocError, Global};
 
 /// More than the texts of up to four characters.
@@ -54,11 +54,8 @@ impl Texts {
 }
 
 /// The code units of a value.
-pub fn units(alloc: Global, value: &Value<'_>) -> Result<Vec<u16>, AllocError> {
-    match value {
-        Value::Plain(text) => text.encode_utf16().collect(alloc),
-        Value::Units(units) => units.clone(),
-    }
+pub fn units(alloc: Global, value: &Units<'_>) -> Result<Vec<u16>, AllocError> {
+    value.clone()?.into_vec(alloc)
 }
 
 /// Adds the code units of what a piece stands for.

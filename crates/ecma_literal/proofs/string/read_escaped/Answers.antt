@@ -3,6 +3,7 @@ use Rattle.std.specs.Str.{chars}
 use Rattle.ecma_token.specs.declared.error.SyntaxError.{SyntaxError}
 use Rattle.ecma_literal.specs.Units.{is_legacy}
 use Rattle.ecma_literal.specs.Places.{IsAt}
+use Rattle.ecma_literal.specs.Strings.{SpellsString}
 use Rattle.ecma_literal.proofs.StringLemmas.{SoFar, at_more, at_escape, or_yes, or_no, closes, ends_with, stops, line_stops, end_stops, Stuck, stuck_escape}
 use Rattle.ecma_literal.proofs.string.read_escaped.Goals as goal
 
@@ -25,7 +26,8 @@ returns-then-c-quote-clause-string c =
     let s = at_more c.args.quote (chars c.args.inner.now) (chars c.pieces.rest.now) _ (chars c.split_plain.result.1.now) _ c.push_text.new.units.items c.pieces.legacy c.pieces.invariant.2
     c.split_plain.ensures.run c.split_plain.ensures.after c.in-Ok.ensures in
     let at = c.in-Some.ensures.cut ∙ ap (λ x. x ∷ chars c.in-Some.behind.now) c.if-c-quote.true in
-    (closes c.args.quote _ _ _ _ _ c.pieces.legacy c.requires.quote c.requires.cut s at, c.before-raw.ensures)
+    let spelt = closes c.args.quote _ _ _ _ _ c.pieces.legacy c.requires.quote c.requires.cut s at in
+    (subst (λ (units : List ℕ). SpellsString units c.pieces.legacy (chars c.args.text.now) (chars c.in-Some.behind.now)) (sym c.from-value.ensures) spelt, c.before-raw.ensures)
 
 pub returns-then-c-ne92-clause-string : goal.returns-then-c-ne92-clause-string
 returns-then-c-ne92-clause-string c is_fault =

@@ -1,8 +1,8 @@
-use Rattle.std.proofs.Common.{◌∷◌, [], false, refl, ap, sym, ◌∙◌}
+use Rattle.std.proofs.Common.{ℕ, List, ◌∷◌, [], false, refl, ap, sym, subst, ◌∙◌}
 use Rattle.std.specs.Str.{chars}
 use Rattle.ecma_literal.specs.Escapes.{begins}
-use Rattle.ecma_literal.specs.Units.{utf16}
-use Rattle.ecma_literal.specs.Strings.{is_quote}
+use Rattle.ecma_token.specs.Utf16.{utf16}
+use Rattle.ecma_literal.specs.Strings.{is_quote, SpellsString}
 use Rattle.ecma_literal.proofs.StringLemmas.{so_far_none, at_more, closes, ends_with}
 use Rattle.ecma_literal.proofs.string.read_string.Goals as goal
 
@@ -18,4 +18,5 @@ returns-in-Some-pop-clause-string c =
     (so_far_none c.in-Some.quote (chars c.in-Some.inner.now)) c.split_plain.ensures.run c.split_plain.ensures.after refl in
     let q = ap (begins is_quote) (sym c.in-Some.ensures.cut) ∙ c.requires.quote in
     let at = c.in-Some-pop.ensures.cut ∙ ap (λ x. x ∷ chars c.in-Some-pop.rest.now) c.if-c-quote.true in
-    (closes c.in-Some.quote _ _ _ _ _ false q c.in-Some.ensures.cut s at, c.before-in-Some-pop.ensures)
+    let spelt = closes c.in-Some.quote _ _ _ _ _ false q c.in-Some.ensures.cut s at in
+    (subst (λ (units : List ℕ). SpellsString units false (chars c.args.text.now) (chars c.in-Some-pop.rest.now)) (sym c.from.ensures) spelt, c.before-in-Some-pop.ensures)

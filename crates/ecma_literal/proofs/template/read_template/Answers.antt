@@ -1,8 +1,8 @@
-use Rattle.std.proofs.Common.{[], ◌++◌, refl, sym, ap, ◌∙◌}
-use Rattle.std.specs.Prelude.{None}
+use Rattle.std.proofs.Common.{ℕ, List, [], ◌++◌, refl, sym, ap, subst, ◌∙◌}
+use Rattle.std.specs.Prelude.{None, Some}
 use Rattle.std.specs.Str.{chars}
-use Rattle.ecma_literal.specs.Templates.{bare_run, after_bare}
-use Rattle.ecma_literal.specs.Units.{utf16}
+use Rattle.ecma_literal.specs.Templates.{SpellsPiece, bare_run, after_bare}
+use Rattle.ecma_token.specs.Utf16.{utf16}
 use Rattle.ecma_literal.proofs.BareLemmas.{bare_none, bare_whole}
 use Rattle.ecma_literal.proofs.TemplateLemmas.{kept_none, kept_at, finished}
 use Rattle.ecma_literal.proofs.template.read_template.Goals as goal
@@ -17,4 +17,5 @@ returns-in-End-clause-piece c =
     let k = kept_at c.args.end (chars c.args.text.now) (chars c.args.text.now) own more [] (utf16 own) None (kept_none c.args.end (chars c.args.text.now))
     c.split_bare.ensures.run c.split_bare.ensures.after refl in
     let whole = bare_whole (chars c.args.text.now) ∙ ap (λ l. l ++ after_bare (chars c.args.text.now)) (sym c.split_bare.ensures.run) ∙ ap (λ l. own ++ l) (sym c.split_bare.ensures.after) in
-    finished c.args.end (chars c.args.text.now) own more (chars c.in-End.rest.now) (utf16 own) c.in-End.ending None k c.in-End.ensures.next whole
+    let spelt = finished c.args.end (chars c.args.text.now) own more (chars c.in-End.rest.now) (utf16 own) c.in-End.ending None k c.in-End.ensures.next whole in
+    subst (λ (units : List ℕ). SpellsPiece own (Some units) c.in-End.ending (chars c.args.text.now) (chars c.in-End.rest.now)) (sym c.from.ensures) spelt
