@@ -34,8 +34,11 @@ plain token = record { token = token; escaped = false; legacy = None }
 -- ---- the sorts of tokens
 
 -- the word of a name (12.7): the token of its text without escapes
+abbrev pub word_spelled : List ℕ → Bool → SpecLexeme
+word_spelled bytes escaped = record { token = word_token (word_of bytes); escaped = escaped; legacy = None }
+
 abbrev pub word_lexeme : List ℕ → Bool → SpecLexeme
-word_lexeme name escaped = record { token = word_token (word_of (encode_utf8_all name)); escaped = escaped; legacy = None }
+word_lexeme name escaped = word_spelled (encode_utf8_all name) escaped
 
 -- whether the name is spelled otherwise than it reads: with an escape
 abbrev pub IsMarked : List ℕ → List ℕ → List ℕ → Bool → Type 0
@@ -51,9 +54,11 @@ abbrev pub octal : Bool → Option SyntaxError
 octal true = Some LegacyOctal
 octal false = None
 
+abbrev pub string_spelled : List ℕ → List ℕ → Bool → SpecLexeme
+string_spelled units raw legacy = record { token = record { kind = str_kind; content = Quoted units raw }; escaped = false; legacy = octal legacy }
+
 abbrev pub string_lexeme : List ℕ → List ℕ → Bool → SpecLexeme
-string_lexeme units own legacy =
-    record { token = record { kind = str_kind; content = Quoted units (encode_utf8_all own) }; escaped = false; legacy = octal legacy }
+string_lexeme units own legacy = string_spelled units (encode_utf8_all own) legacy
 
 abbrev pub IsQuoted : List ℕ → SpecLexeme → List ℕ → Type 0
 IsQuoted text x rest = (units own : List ℕ) × (legacy : Bool) × SpellsString units legacy text rest × (text ≡ own ++ rest)
@@ -61,18 +66,24 @@ IsQuoted text x rest = (units own : List ℕ) × (legacy : Bool) × SpellsString
 
 -- a number (12.9.3), by its value, or a big integer, by its radix and digits, as it is spelled; strict code bars the forms of B.1.1
 abbrev pub numeral_token : Meaning → List ℕ → SpecToken
-numeral_token (Number value) own = record { kind = num_kind; content = Numeral value (encode_utf8_all own) }
-numeral_token (BigInt radix digits) own = record { kind = big_int_kind; content = BigNumeral radix digits (encode_utf8_all own) }
+numeral_token (Number value) raw = record { kind = num_kind; content = Numeral value raw }
+numeral_token (BigInt radix digits) raw = record { kind = big_int_kind; content = BigNumeral radix digits raw }
+
+abbrev pub numeral_spelled : Meaning → List ℕ → Option SyntaxError → SpecLexeme
+numeral_spelled m raw legacy = record { token = numeral_token m raw; escaped = false; legacy = legacy }
 
 abbrev pub numeral_lexeme : Meaning → List ℕ → SpecLexeme
-numeral_lexeme m own = record { token = numeral_token m own; escaped = false; legacy = legacy_of m own }
+numeral_lexeme m own = numeral_spelled m (encode_utf8_all own) (legacy_of m own)
 
 abbrev pub IsNumber : List ℕ → SpecLexeme → List ℕ → Type 0
 IsNumber text x rest = (m : Meaning) × (own : List ℕ) × SpellsNumeral m own text rest × (x ≡ numeral_lexeme m own)
 
 -- a regular expression (12.9.5), by what stands between its slashes and its flags
+abbrev pub pattern_token : List ℕ → List ℕ → SpecToken
+pattern_token body flags = record { kind = regex_kind; content = Pattern body flags }
+
 abbrev pub pattern_lexeme : List ℕ → List ℕ → SpecLexeme
-pattern_lexeme body flags = plain (record { kind = regex_kind; content = Pattern (encode_utf8_all body) (encode_utf8_all flags) })
+pattern_lexeme body flags = plain (pattern_token (encode_utf8_all body) (encode_utf8_all flags))
 
 abbrev pub IsPattern : List ℕ → SpecLexeme → List ℕ → Type 0
 IsPattern text x rest = (body flags : List ℕ) × IsRegExp text body flags rest × (x ≡ pattern_lexeme body flags)
@@ -82,8 +93,11 @@ abbrev pub IsMark : List ℕ → SpecLexeme → List ℕ → Type 0
 IsMark text x rest = (kind : TokenKind) × IsPunctuator text kind rest × (x ≡ plain (bare (token_kind_number kind)))
 
 -- the characters of a template up to what ends them (12.9.6), as they are spelled and by their cooked units
+abbrev pub template_token : List ℕ → Option (List ℕ) → SpecToken
+template_token raw units = record { kind = template_kind; content = Piece raw units }
+
 abbrev pub template_lexeme : List ℕ → Option (List ℕ) → SpecLexeme
-template_lexeme own units = plain (record { kind = template_kind; content = Piece (encode_utf8_all own) units })
+template_lexeme own units = plain (template_token (encode_utf8_all own) units)
 
 abbrev pub IsCharacters : List ℕ → SpecLexeme → List ℕ → Type 0
 IsCharacters text x rest = (own : List ℕ) × (units : Option (List ℕ)) × (ending : Ending) × (behind : List ℕ)
@@ -116,23 +130,23 @@ IsLexeme RegExp text x rest = IsOutside RegExp text x rest
 IsLexeme TemplateTail text x rest = IsCharacters text x rest
 IsLexeme TemplateEnd text x rest = IsEnd text x rest
 
--- No token stands at the front of the text.
-abbrev pub NoLexeme : LexicalGoal → List ℕ → Type 0
-NoLexeme goal text = (x : SpecLexeme) (rest : List ℕ) → IsLexeme goal text x rest → ⊥
-
 -- At most one token stands at the front of a text under one goal.
 abbrev pub OneLexeme : LexicalGoal → List ℕ → Type 0
 OneLexeme goal text = (x y : SpecLexeme) (r s : List ℕ) → IsLexeme goal text x r → IsLexeme goal text y s → (x ≡ y) × (r ≡ s)
 
 -- ---- faults
 
--- The text is one character and this rest.
-abbrev pub BeginsWith : List ℕ → List ℕ → Type 0
-BeginsWith text rest = (c : ℕ) × (text ≡ c ∷ rest)
+-- The rest follows the first character of the text.
+abbrev pub IsPast : List ℕ → List ℕ → Type 0
+IsPast text rest = (c : ℕ) × (text ≡ c ∷ rest)
 
 -- no token begins with the first character
 abbrev pub IsStray : ℕ → List ℕ → Error → Type 0
 IsStray end text e = (c : ℕ) × (rest : List ℕ) × (text ≡ c ∷ rest) × (e.kind ≡ UnexpectedChar) × IsAt end text rest e.span
+
+-- no regular expression stands where one was to come: its body has no end, or a comment begins
+abbrev pub IsPatternFault : ℕ → List ℕ → Error → Type 0
+IsPatternFault end text e = IsRegExpFault end text e ⊎ IsStray end text e
 
 -- the characters of a template have no end
 abbrev pub IsOpenTemplate : ℕ → List ℕ → Error → Type 0

@@ -1,6 +1,9 @@
 -- How each sort of token begins: no two begin alike under one goal.
-use Rattle.std.specs.Prelude.{◌≡◌, ℕ, Bool, true, false, ◌&&◌, ◌==◌, List, [], ◌∷◌, if◌then◌else◌}
+use Rattle.std.specs.Prelude.{◌≡◌, ℕ, Bool, true, false, not, ◌&&◌, ◌==◌, List, [], ◌∷◌, Option, Some, None, if◌then◌else◌}
+use Rattle.ecma_scan.specs.declared.bytes.ByteClass.{ByteClass}
+use Rattle.ecma_scan.specs.declared.bytes.ByteClass.TheVariants.{NameStart, Backslash, Digit, Quote}
 use Rattle.ecma_scan.specs.Names.{is_opening}
+use Rattle.ecma_literal.specs.Escapes.{is_decimal}
 use Rattle.ecma_literal.specs.Numbers.{is_number_start}
 use Rattle.ecma_literal.specs.Strings.{is_quote}
 use Rattle.ecma_lexeme.specs.declared.goal.LexicalGoal.{LexicalGoal}
@@ -16,6 +19,10 @@ abbrev pub opens_regexp : LexicalGoal → Bool
 opens_regexp RegExp = true
 opens_regexp _ = false
 
+-- what only a punctuator may begin with, a dot and a slash aside
+abbrev pub begins_mark : ℕ → Bool
+begins_mark c = not (is_opening c) && (not (is_decimal c) && not (is_quote c))
+
 unfoldable pub sort_by : LexicalGoal → ℕ → List ℕ → Sort
 sort_by goal c cs =
     if is_opening c then s.Word
@@ -27,3 +34,11 @@ sort_by goal c cs =
 abbrev pub sort : LexicalGoal → List ℕ → Sort
 sort goal [] = s.Punctuator
 sort goal (c ∷ cs) = sort_by goal c cs
+
+-- the sort that each character of the class begins, where the class alone tells
+abbrev pub class_sort : ByteClass → Option Sort
+class_sort NameStart = Some s.Word
+class_sort Backslash = Some s.Word
+class_sort Digit = Some s.Number
+class_sort Quote = Some s.Str
+class_sort _ = None

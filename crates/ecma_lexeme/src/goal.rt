@@ -12,3 +12,15 @@ pub enum LexicalGoal {
     /// What ends these characters comes: a back quote or `${`.
     TemplateEnd,
 }
+
+impl LexicalGoal {
+    ghost use Rattle.std.specs.Prelude.{◌≡◌};
+    ghost use Rattle.ecma_lexeme.specs.Sorts.{opens_regexp};
+
+    /// Whether a slash opens a regular expression.
+    pub fn opens_regexp(self) -> bool
+        ensures { result ≡ opens_regexp self }
+    {
+        matches!(self, LexicalGoal::RegExp)
+    }
+}

@@ -4,8 +4,11 @@
 pub mod goal;
 pub mod laws;
 pub mod lexeme;
-mod marks;
+mod literals;
+mod read;
 mod sort;
+mod words;
 
 pub use goal::LexicalGoal;
-pub use lexeme::{Lexeme, read_token};
+pub use lexeme::Lexeme;
+pub use read::read_token;

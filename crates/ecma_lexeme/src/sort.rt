@@ -1,10 +1,9 @@
 //! Which sort of token may begin with a character.
 
-ghost use Rattle.std.specs.Prelude.{◌≡◌};
+ghost use Rattle.std.specs.Prelude.{◌≡◌, ◌≤◌, ◌&&◌, ◌==◌, true};
 ghost use Rattle.std.specs.Str.{chars};
-ghost use Rattle.ecma_literal.specs.Escapes.{begins};
-ghost use Rattle.ecma_scan.specs.Characters.{is_decimal_digit};
-ghost use Rattle.ecma_lexeme.specs.Sorts.{sort_by};
+ghost use Rattle.ecma_literal.specs.Escapes.{begins, is_decimal};
+ghost use Rattle.ecma_lexeme.specs.Sorts.{begins_mark, class_sort, is_slash, opens_regexp, sort_by};
 
 use crate::goal::LexicalGoal;
 use ecma_scan::characters::pop;
@@ -21,21 +20,73 @@ pub(crate) enum Sort {
     Punctuator,
 }
 
-fn begins_with_digit(text: &str) -> bool
-    ensures { result ≡ begins is_decimal_digit (chars text.now) }
+/// Whether the character is the dot of a number, before this rest.
+fn is_number_dot(c: char, rest: &str) -> bool
+    ensures { result ≡ (c == 46 && begins is_decimal (chars rest.now)) }
 {
-    match pop(text) {
-        Some((c, _)) => c.is_ascii_digit(),
+    match pop(rest) {
+        Some((next, _)) => c == '.' && next.is_digit(10),
         None => false,
     }
 }
 
-/// The sort of what a punctuator begins with, before this rest.
-fn sort_of_mark(goal: LexicalGoal, c: char, rest: &str) -> Sort {
-    match c {
-        '.' if begins_with_digit(rest) => Sort::Number,
-        '/' if goal == LexicalGoal::RegExp => Sort::RegExp,
-        _ => Sort::Punctuator,
+/// Whether the character opens a regular expression.
+fn opens_pattern(goal: LexicalGoal, c: char) -> bool
+    ensures { result ≡ (opens_regexp goal && is_slash c) }
+{
+    goal.opens_regexp() && c == '/'
+}
+
+/// The sort of what a punctuator may begin with, before this rest.
+#[tactic(
+    auto,
+    using(
+        crate::proofs::SortLemmas::dot_sort,
+        crate::proofs::SortLemmas::pattern_sort,
+        crate::proofs::SortLemmas::mark_sort
+    )
+)]
+fn sort_of_mark(goal: LexicalGoal, c: char, rest: &str) -> Sort
+    requires { begins_mark c ≡ true }
+    ensures { result ≡ sort_by goal c (chars rest.now) }
+{
+    if is_number_dot(c, rest) {
+        Sort::Number
+    } else if opens_pattern(goal, c) {
+        Sort::RegExp
+    } else {
+        Sort::Punctuator
+    }
+}
+
+/// The sort that a character past ASCII begins.
+#[tactic(
+    auto,
+    using(
+        crate::proofs::SortLemmas::word_past_ascii,
+        crate::proofs::SortLemmas::nothing_past_ascii
+    )
+)]
+fn sort_past_ascii(goal: LexicalGoal, c: char, rest: &str) -> Sort
+    requires { 128 ≤ c }
+    ensures { result ≡ sort_by goal c (chars rest.now) }
+{
+    if c.is_ident_start() {
+        Sort::Word
+    } else {
+        Sort::Punctuator
+    }
+}
+
+/// The sort that each character of the class begins, if the class alone tells.
+fn sort_of_class(class: ByteClass) -> Option<Sort>
+    ensures { result ≡ class_sort class }
+{
+    match class {
+        ByteClass::NameStart | ByteClass::Backslash => Some(Sort::Word),
+        ByteClass::Digit => Some(Sort::Number),
+        ByteClass::Quote => Some(Sort::Str),
+        _ => None,
     }
 }
 
@@ -44,16 +95,10 @@ pub(crate) fn sort_of(goal: LexicalGoal, c: char, rest: &str) -> Sort
     ensures { result ≡ sort_by goal c (chars rest.now) }
 {
     if !c.is_ascii() {
-        return if c.is_ident_start() {
-            Sort::Word
-        } else {
-            Sort::Punctuator
-        };
+        return sort_past_ascii(goal, c, rest);
     }
-    match byte_class(c as u8) {
-        ByteClass::NameStart | ByteClass::Backslash => Sort::Word,
-        ByteClass::Digit => Sort::Number,
-        ByteClass::Quote => Sort::Str,
-        _ => sort_of_mark(goal, c, rest),
+    match sort_of_class(byte_class(c as u8)) {
+        Some(sort) => sort,
+        None => sort_of_mark(goal, c, rest),
     }
 }

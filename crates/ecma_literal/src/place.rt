@@ -1,6 +1,6 @@
 //! Parts of a text and their places.
 
-ghost use Rattle.std.specs.Prelude.{◌≡◌, ◌++◌, ◌<◌, ◌≤◌, length};
+ghost use Rattle.std.specs.Prelude.{◌≡◌, ◌++◌, ◌<◌, ◌≤◌, length, IsUtf8};
 ghost use Rattle.std.specs.Str.{chars};
 ghost use Rattle.ecma_literal.specs.Places.{IsAt, EndsWith};
 ghost use Rattle.ecma_token.specs.declared.error.SyntaxError.TheVariants.{Memory};
@@ -37,7 +37,8 @@ pub(crate) fn out_of_memory() -> Error
 /// What of a text comes before this rest of it.
 pub(crate) fn before<'a>(text: &'a str, rest: &str) -> &'a str
     requires { EndsWith (chars text.now) (chars rest.now) }
-    ensures { chars text.now ≡ chars result.now ++ chars rest.now }
+    ensures cut { chars text.now ≡ chars result.now ++ chars rest.now }
+    ensures text { IsUtf8 result.now }
 {
     let (own, _) = text.split_at(text.len() - rest.len());
     own

@@ -37,7 +37,7 @@ pub fn read_string(alloc: Global, text: &str, end: u32) -> Result<StringLiteral<
     requires quote { begins is_quote (chars text.now) ≡ true }
     requires within { length text.now < end }
     ensures string { ReadsString end (chars text.now) result }
-    ensures rest { IfOk result (λ s. IsUtf8 s.rest.now × (length s.rest.now < length text.now)) }
+    ensures rest { IfOk result (λ s. IsUtf8 s.raw.now × IsUtf8 s.rest.now × (length s.rest.now < length text.now)) }
 {
     let Some((quote, inner)) = pop(text) else {
         unreachable!();
@@ -67,7 +67,7 @@ fn read_escaped<'a>(
     requires shorter { length inner.now < length text.now }
     requires within { length text.now < end }
     ensures string { ReadsString end (chars text.now) result }
-    ensures rest { IfOk result (λ s. IsUtf8 s.rest.now × (length s.rest.now < length text.now)) }
+    ensures rest { IfOk result (λ s. IsUtf8 s.raw.now × IsUtf8 s.rest.now × (length s.rest.now < length text.now)) }
 {
     let mut units = Vec::new(alloc);
     let mut legacy = false;

@@ -101,7 +101,7 @@ fn next_part(text: &str, end: u32) -> Next<'_>
 pub fn read_template(alloc: Global, text: &str, end: u32) -> Result<TemplatePiece<'_>, Error>
     requires within { length text.now < end }
     ensures piece { spec.ReadsPiece end (chars text.now) result }
-    ensures rest { IfOk result (λ t. IsUtf8 t.rest.now × (length t.rest.now < length text.now)) }
+    ensures rest { IfOk result (λ t. IsUtf8 t.raw.now × IsUtf8 t.rest.now × (length t.rest.now < length text.now)) }
 {
     let (own, more) = split_bare(text);
     match next_part(more, end) {
@@ -129,7 +129,7 @@ fn cooked<'a>(units: Vec<u16>, bad: Option<Error>) -> Result<Units<'a>, Error>
 fn read_parts(alloc: Global, text: &str, end: u32) -> Result<TemplatePiece<'_>, Error>
     requires within { length text.now < end }
     ensures piece { spec.ReadsPiece end (chars text.now) result }
-    ensures rest { IfOk result (λ t. IsUtf8 t.rest.now × (length t.rest.now < length text.now)) }
+    ensures rest { IfOk result (λ t. IsUtf8 t.raw.now × IsUtf8 t.rest.now × (length t.rest.now < length text.now)) }
 {
     let mut units = Vec::new(alloc);
     let mut bad = None;

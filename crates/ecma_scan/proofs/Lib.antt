@@ -1,14 +1,14 @@
-mod Tables
-mod Passing
-mod Wide
-mod Leads
-mod Ending
-mod TriviaLemmas
-mod Apart
-mod Following
-mod Noting
-mod Longest
-mod EscapeLemmas
-mod NameLemmas
-mod NameParts
-mod RegExpLemmas
+pub mod Tables
+pub mod Passing
+pub mod Wide
+pub mod Leads
+pub mod Ending
+pub mod TriviaLemmas
+pub mod Apart
+pub mod Following
+pub mod Noting
+pub mod Longest
+pub mod EscapeLemmas
+pub mod NameLemmas
+pub mod NameParts
+pub mod RegExpLemmas

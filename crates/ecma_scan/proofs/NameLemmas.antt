@@ -28,7 +28,7 @@ starts_continue c h = ⊎_elim
     (λ (t : is_xid_start c ≡ false). let k : ((c == 36) || (c == 95)) ≡ true = sym (ap (λ b. b || (c == 36 || c == 95)) t) ∙ h in grind (arith, nat_tests))
     (cases_Bool (is_xid_start c))
 
-part_of : (first : Bool) (c : ℕ) → is_name_char first c ≡ true → is_name_part c ≡ true
+pub part_of : (first : Bool) (c : ℕ) → is_name_char first c ≡ true → is_name_part c ≡ true
 part_of true c h = starts_continue c h
 part_of false c h = h
 

@@ -5,6 +5,7 @@ ghost use Rattle.ecma_token.specs.declared.error.SyntaxError.TheVariants.{Memory
 ghost use Rattle.ecma_scan.specs.Characters as spec;
 ghost use Rattle.ecma_scan.specs.Names.{IsBad, IsBareFront, IsFaultWithin, IsNameChar, IsNameFault, IsUnescaped, NoName, is_name_char, is_nil, is_opening};
 ghost use Rattle.ecma_scan.specs.NamesRead.{IsNamed};
+ghost use Rattle.ecma_scan.specs.Words.{name_bytes};
 ghost use Rattle.ecma_scan.specs.Runs.{Ends};
 
 use crate::characters::{CharExt, pop};
@@ -151,6 +152,7 @@ pub fn identifier_name<'a>(
     ensures name { MatchResult result
         (λ o. MatchOption o (Ends is_opening (chars text.now)) (λ x. IsNamed (chars text.now) x.0 (chars x.1.now)))
         (λ e. (e.kind ≡ Memory) ⊎ (NoName (chars text.now) × IsNameFault end (chars text.now) e)) }
+    ensures text { IfOk result (λ o. IfSome o (λ x. IsUtf8 (name_bytes x.0))) }
     ensures rest { IfOk result (λ o. IfSome o (λ x. IsUtf8 x.1.now × (length x.1.now ≤ length text.now))) }
 {
     let Some((own, rest)) = bare(text) else {

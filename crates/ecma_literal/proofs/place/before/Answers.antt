@@ -1,4 +1,5 @@
-use Rattle.std.proofs.Common.{◌++◌, ap, ◌∙◌, sym, arith}
+use Rattle.std.proofs.Common.{◌++◌, ◌-◌, length, ap, ◌∙◌, sym, subst, arith, IsUtf8}
+use Rattle.std.proofs.lemmas.Str.{IsUtf8-take}
 use Rattle.std.specs.Str.{chars}
 use Rattle.ecma_literal.proofs.PlaceLemmas.{seam}
 use Rattle.ecma_literal.proofs.place.before.Goals as goal
@@ -13,7 +14,12 @@ split_at-requires c =
     let s = seam c.args.text.now c.args.rest.now c.utf8.text c.utf8.rest c.requires in
     s.boundary
 
-pub returns : goal.returns
-returns c =
+pub returns-clause-cut : goal.returns-clause-cut
+returns-clause-cut c =
     let s = seam c.args.text.now c.args.rest.now c.utf8.text c.utf8.rest c.requires in
     s.parts ∙ ap (λ l. chars l ++ chars c.args.rest.now) (sym c.split_at.ensures.front)
+
+pub returns-clause-text : goal.returns-clause-text
+returns-clause-text c =
+    let s = seam c.args.text.now c.args.rest.now c.utf8.text c.utf8.rest c.requires in
+    subst IsUtf8 (sym c.split_at.ensures.front) (IsUtf8-take c.args.text.now (length c.args.text.now - length c.args.rest.now) c.utf8.text s.boundary)

@@ -24,7 +24,7 @@ before-requires c = let s = c.dollars.invariant.2 in (s.ran.front, s.ran.whole)
 pub returns-clause-run : goal.returns-clause-run
 returns-clause-run c =
     let s = c.dollars.invariant.2 in
-    append_cancel_right (chars c.before-2.result.now) s.ran.front (chars c.dollars.rest.now) (sym c.before-2.ensures ∙ s.ran.whole)
+    append_cancel_right (chars c.before-2.result.now) s.ran.front (chars c.dollars.rest.now) (sym c.before-2.ensures.cut ∙ s.ran.whole)
     ∙ sym (stand_run (chars c.args.text.now) (chars c.dollars.rest.now) s c.in_default.ensures.value)
 
 pub returns-clause-after : goal.returns-clause-after

@@ -27,7 +27,7 @@ returns-then-c-quote-clause-string c =
     c.split_plain.ensures.run c.split_plain.ensures.after c.in-Ok.ensures in
     let at = c.in-Some.ensures.cut ∙ ap (λ x. x ∷ chars c.in-Some.behind.now) c.if-c-quote.true in
     let spelt = closes c.args.quote _ _ _ _ _ c.pieces.legacy c.requires.quote c.requires.cut s at in
-    (subst (λ (units : List ℕ). SpellsString units c.pieces.legacy (chars c.args.text.now) (chars c.in-Some.behind.now)) (sym c.from-value.ensures) spelt, c.before-raw.ensures)
+    (subst (λ (units : List ℕ). SpellsString units c.pieces.legacy (chars c.args.text.now) (chars c.in-Some.behind.now)) (sym c.from-value.ensures) spelt, c.before-raw.ensures.cut)
 
 pub returns-then-c-ne92-clause-string : goal.returns-then-c-ne92-clause-string
 returns-then-c-ne92-clause-string c is_fault =

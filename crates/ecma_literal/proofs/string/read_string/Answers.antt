@@ -19,4 +19,4 @@ returns-in-Some-pop-clause-string c =
     let q = ap (begins is_quote) (sym c.in-Some.ensures.cut) ∙ c.requires.quote in
     let at = c.in-Some-pop.ensures.cut ∙ ap (λ x. x ∷ chars c.in-Some-pop.rest.now) c.if-c-quote.true in
     let spelt = closes c.in-Some.quote _ _ _ _ _ false q c.in-Some.ensures.cut s at in
-    (subst (λ (units : List ℕ). SpellsString units false (chars c.args.text.now) (chars c.in-Some-pop.rest.now)) (sym c.from.ensures) spelt, c.before-in-Some-pop.ensures)
+    (subst (λ (units : List ℕ). SpellsString units false (chars c.args.text.now) (chars c.in-Some-pop.rest.now)) (sym c.from.ensures) spelt, c.before-in-Some-pop.ensures.cut)

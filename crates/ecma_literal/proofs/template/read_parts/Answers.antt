@@ -22,7 +22,7 @@ pub returns-in-End-clause-piece : goal.returns-in-End-clause-piece
 returns-in-End-clause-piece c =
     let k = kept_at c.args.end (chars c.args.text.now) (chars c.parts.rest.now) _ (chars c.split_bare.result.1.now) _ c.push_text.new.units.items c.parts.bad c.parts.invariant.2
     c.split_bare.ensures.run c.split_bare.ensures.after c.in-Ok.ensures in
-    let f = finished c.args.end (chars c.args.text.now) _ _ (chars c.in-End.behind.now) _ c.in-End.ending c.parts.bad k c.in-End.ensures.next c.before-in-End.ensures in
+    let f = finished c.args.end (chars c.args.text.now) _ _ (chars c.in-End.behind.now) _ c.in-End.ending c.parts.bad k c.in-End.ensures.next c.before-in-End.ensures.cut in
     cooked_piece c.args.end (chars c.args.text.now) _ (chars c.in-End.behind.now) _ c.in-End.ending c.parts.bad c.cooked.result c.cooked.ensures f
 
 pub parts-preserved-in-Escape : goal.parts-preserved-in-Escape

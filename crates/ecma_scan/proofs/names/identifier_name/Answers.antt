@@ -17,3 +17,6 @@ returns-clause-name c =
       whole_name _ own _ _ _ (IsUtf8-string_bytes c.in_ok-made.made) h c.in_ok-made.ensures.name,
       (own, chars c.in-Some-strip._escape.now, h.0 ∙ ap (λ l. own ++ l) c.in-Some-strip.ensures.cut, h.3),
     )
+
+pub returns-clause-text : goal.returns-clause-text
+returns-clause-text c = IsUtf8-string_bytes c.in_ok-made.made
