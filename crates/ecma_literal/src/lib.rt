@@ -4,6 +4,8 @@
 
 pub mod escape;
 pub mod laws;
+pub mod number;
+mod number_state;
 mod place;
 pub mod runs;
 pub mod string;
@@ -11,6 +13,7 @@ pub mod template;
 pub mod value;
 
 pub use escape::{BadEscape, Escape, read_escape};
+pub use number::{Numeral, NumericLiteral, read_number};
 pub use string::{StringLiteral, read_string};
 pub use template::{Ending, TemplatePiece, raw_text, read_template};
 pub use value::Value;
