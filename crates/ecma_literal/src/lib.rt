@@ -13,7 +13,7 @@ pub mod template;
 pub mod value;
 
 pub use escape::{BadEscape, Escape, read_escape};
-pub use number::{Numeral, NumericLiteral, read_number};
+pub use number::{Numeral, NumericLiteral, begins_number, read_number};
 pub use string::{StringLiteral, read_string};
 pub use template::{Ending, TemplatePiece, raw_text, read_template};
 pub use value::Value;

@@ -12,6 +12,7 @@ ghost use Rattle.ecma_literal.specs.Escapes.{begins, is_decimal};
 ghost use Rattle.ecma_literal.specs.Numbers as spec;
 ghost use Rattle.ecma_literal.specs.NumberSteps.{IsFront, is_whole, big_radix, exponent_follows};
 
+use crate::escape::begins_with_digit;
 use crate::number_state::{State, split_number};
 use crate::place::{before, fault, out_of_memory};
 use ecma_scan::CharExt;
@@ -43,6 +44,17 @@ pub struct NumericLiteral<'a> {
     pub raw: &'a str,
     /// The text behind it.
     pub rest: &'a str,
+}
+
+/// Whether a text begins as a number does: with a digit, or with a dot and a digit.
+pub fn begins_number(text: &str) -> bool
+    ensures { result ≡ spec.is_number_start (chars text.now) }
+{
+    match pop(text) {
+        Some(('.', rest)) => begins_with_digit(rest),
+        Some((c, _)) => c.is_digit(10),
+        None => false,
+    }
 }
 
 /// Whether a character may not follow a numeric literal.
@@ -161,8 +173,8 @@ fn all_octal(digits: &[u8]) -> bool
     digits.iter().all(|b| char::from(*b).is_digit(8))
 }
 
-/// Whether a decimal digit comes first.
-fn begins_with_digit(bytes: &[u8]) -> bool
+/// Whether a decimal digit is the first byte.
+fn has_digit_first(bytes: &[u8]) -> bool
     ensures { result ≡ begins is_decimal bytes.now }
 {
     matches!(bytes, [b'0'..=b'9', ..])
@@ -180,7 +192,7 @@ fn legacy(own: &str) -> Option<SyntaxError>
     if spells_octal(digits) {
         return Some(SyntaxError::LegacyOctal);
     }
-    if begins_with_digit(digits) {
+    if has_digit_first(digits) {
         return Some(SyntaxError::LegacyDecimal);
     }
     None
