@@ -1,9 +1,13 @@
 pub mod BareLemmas
 pub mod CodeLemmas
 pub mod EscapeLemmas
+pub mod NumberLemmas
+pub mod NumeralLemmas
 pub mod PlaceLemmas
 pub mod RawLemmas
 pub mod RunLemmas
 pub mod StopLemmas
+pub mod ScanLemmas
+pub mod StateLemmas
 pub mod StringLemmas
 pub mod TemplateLemmas

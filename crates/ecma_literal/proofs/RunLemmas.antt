@@ -10,14 +10,14 @@ use lib.Utf8.{encode, next, scalar, scalars}
 use Rattle.ecma_scan.specs.Runs.{Each, run, after}
 
 -- bytes from 128 on
-abbrev High : List ℕ → Type 0
+abbrev pub High : List ℕ → Type 0
 High [] = Unit {0}
 High (b ∷ bs) = (128 ≤ b) × High bs
 
-record IsWide (c : ℕ) (b : ℕ) (bs : List ℕ) : Type 0 where
-  whole : encode c ≡ b ∷ bs
-  first : 128 ≤ b
-  others : High bs
+pub record IsWide (c : ℕ) (b : ℕ) (bs : List ℕ) : Type 0 where
+  pub whole : encode c ≡ b ∷ bs
+  pub first : 128 ≤ b
+  pub others : High bs
 
 two : (c : ℕ) → ltb c 128 ≡ false → ltb c 2048 ≡ true → encode c ≡ (192 + c / 64) ∷ next c ∷ []
 unfolding encode
@@ -31,7 +31,7 @@ four : (c : ℕ) → ltb c 128 ≡ false → ltb c 2048 ≡ false → ltb c 6553
 unfolding encode
 four c e f g = rw e (rw f (rw g refl))
 
-wide : (c : ℕ) → 128 ≤ c → (b : ℕ) × (bs : List ℕ) × IsWide c b bs
+pub wide : (c : ℕ) → 128 ≤ c → (b : ℕ) × (bs : List ℕ) × IsWide c b bs
 wide c h =
     let e : ltb c 128 ≡ false = grind (arith, nat_tests) in
     ⊎_elim
@@ -127,7 +127,7 @@ module _ (p : ℕ → Bool) where
       (λ (e : p c ≡ false). char_stops f c (encode_utf8_all cs) e ∙ sym (ap (λ l. length (encode_utf8_all l)) (run_none c cs e)))
       (cases_Bool (p c))
 
-scalars_parts : (xs ys : List ℕ) → scalars (xs ++ ys) ≡ true → (scalars xs ≡ true) × (scalars ys ≡ true)
+pub scalars_parts : (xs ys : List ℕ) → scalars (xs ++ ys) ≡ true → (scalars xs ≡ true) × (scalars ys ≡ true)
 scalars_parts [] ys h = (refl, h)
 scalars_parts (x ∷ xs) ys h =
     (elim (scalar x) as (λ t. (t && scalars (xs ++ ys)) ≡ true → ((t && scalars xs) ≡ true) × (scalars ys ≡ true)) [

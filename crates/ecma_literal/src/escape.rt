@@ -165,7 +165,7 @@ fn octal_digits(first: char, text: &str) -> (u32, &str)
 }
 
 /// Whether a decimal digit comes first.
-fn begins_with_digit(text: &str) -> bool
+pub(crate) fn begins_with_digit(text: &str) -> bool
     ensures { result ≡ spec.begins spec.is_decimal (chars text.now) }
 {
     match pop(text) {

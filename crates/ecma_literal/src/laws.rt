@@ -1,6 +1,7 @@
 //! Laws of the definitions, by functions that do nothing.
 
 ghost use Rattle.ecma_literal.specs.Escapes.{OneEscape};
+ghost use Rattle.ecma_literal.specs.Numbers.{OneNumber};
 ghost use Rattle.ecma_literal.specs.Strings.{OneString};
 ghost use Rattle.ecma_literal.specs.Templates.{OnePiece};
 
@@ -17,4 +18,9 @@ pub fn one_string_stands()
 /// Law: at most one piece of a template stands at the front of a text.
 pub fn one_piece_stands()
     ensures { OnePiece }
+{}
+
+/// Law: at most one numeric literal stands at the front of a text.
+pub fn one_number_stands()
+    ensures { OneNumber }
 {}

@@ -4,11 +4,14 @@
 
 pub mod escape;
 pub mod laws;
+pub mod number;
+mod number_state;
 mod place;
 pub mod runs;
 pub mod string;
 pub mod template;
 
 pub use escape::{BadEscape, Escape, read_escape};
+pub use number::{Numeral, NumericLiteral, begins_number, read_number};
 pub use string::{StringLiteral, read_string};
 pub use template::{Ending, TemplatePiece, raw_text, read_template};

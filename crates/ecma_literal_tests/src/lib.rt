@@ -2,7 +2,10 @@
 //! to cut a text.
 #![tactic(auto)]
 
+#[cfg(test)]
+mod numbers;
 pub mod plain;
+pub mod plain_numbers;
 #[cfg(test)]
 mod strings;
 #[cfg(test)]
