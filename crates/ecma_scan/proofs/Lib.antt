@@ -11,4 +11,5 @@ mod Longest
 mod EscapeLemmas
 mod NameLemmas
 mod NameParts
+mod NameLeads
 mod RegExpLemmas
