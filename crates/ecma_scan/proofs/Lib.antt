@@ -12,3 +12,4 @@ pub mod EscapeLemmas
 pub mod NameLemmas
 pub mod NameParts
 pub mod RegExpLemmas
+pub mod NameLeads

@@ -1,5 +1,5 @@
 //! Names at the front of a text.
-ghost use Rattle.std.specs.Prelude.{◌≡◌, ◌<◌, ◌≤◌, ◌⊎◌, ◌∷◌, ◌++◌, length, IfErr, IfOk, IfSome, IsUtf8, MatchOption, MatchResult, OnOk, string_bytes};
+ghost use Rattle.std.specs.Prelude.{ℕ, true, ◌≡◌, ◌<◌, ◌≤◌, ◌⊎◌, ◌∷◌, ◌++◌, length, IfErr, IfOk, IfSome, IsUtf8, MatchOption, MatchResult, OnOk, string_bytes};
 ghost use Rattle.std.specs.Str.{chars, encode_utf8_all};
 ghost use Rattle.ecma_token.specs.declared.error.SyntaxError.TheVariants.{Memory};
 ghost use Rattle.ecma_scan.specs.Characters as spec;
@@ -8,7 +8,8 @@ ghost use Rattle.ecma_scan.specs.NamesRead.{IsNamed};
 ghost use Rattle.ecma_scan.specs.Words.{name_bytes};
 ghost use Rattle.ecma_scan.specs.Runs.{Ends};
 
-use crate::characters::{CharExt, pop};
+use crate::bytes::{ByteClass, byte_class};
+use crate::characters::{CharExt, first_byte, past_ascii, pop};
 use crate::escapes::digits;
 use crate::runs::{split_name_part, strip};
 use crate::trivia::fault;
@@ -95,20 +96,44 @@ fn copied(alloc: Global, text: &str) -> Result<String, Error>
     }
 }
 
+/// The front of a name up to its first escape, and what follows it. `after` follows its first
+/// character.
+fn split_front<'a>(text: &'a str, after: &str) -> (&'a str, &'a str)
+    requires start { (c : ℕ) × (spec.is_name_start c ≡ true) × (chars text.now ≡ c ∷ chars after.now) }
+    requires order { length after.now ≤ length text.now }
+    ensures front { IsBareFront (chars text.now) (chars result.0.now) (chars result.1.now) }
+    ensures rest { IsUtf8 result.0.now × IsUtf8 result.1.now × (length result.1.now ≤ length text.now) }
+{
+    let (_, rest) = split_name_part(after);
+    text.split_at(text.len() - rest.len())
+}
+
+/// The front of a name that begins with a character past ASCII.
+fn wide_front<'a>(text: &'a str) -> Option<(&'a str, &'a str)>
+    ensures front { MatchOption result (Ends spec.is_name_start (chars text.now)) (λ x. IsBareFront (chars text.now) (chars x.0.now) (chars x.1.now)) }
+    ensures rest { IfSome result (λ x. IsUtf8 x.0.now × IsUtf8 x.1.now × (length x.1.now ≤ length text.now)) }
+{
+    let (c, after) = pop(text)?;
+    if c.is_ident_start() {
+        Some(split_front(text, after))
+    } else {
+        None
+    }
+}
+
 /// The front of a name up to its first escape, and what follows it, or nothing where no name begins.
+/// The class of the first byte tells, except past ASCII.
 fn bare<'a>(text: &'a str) -> Option<(&'a str, &'a str)>
     ensures front { MatchOption result (Ends is_opening (chars text.now)) (λ x. IsBareFront (chars text.now) (chars x.0.now) (chars x.1.now)) }
     ensures rest { IfSome result (λ x. IsUtf8 x.0.now × IsUtf8 x.1.now × (length x.1.now ≤ length text.now)) }
 {
-    let (c, after) = pop(text)?;
-    if c == '\\' {
-        return Some(("", text));
+    let byte = first_byte(text)?;
+    match byte_class(byte) {
+        ByteClass::NameStart => Some(split_front(text, past_ascii(text))),
+        ByteClass::NonAscii => wide_front(text),
+        ByteClass::Backslash => Some(("", text)),
+        _ => None,
     }
-    if !c.is_ident_start() {
-        return None;
-    }
-    let (_, rest) = split_name_part(after);
-    Some(text.split_at(text.len() - rest.len()))
 }
 
 /// The text of a name with escapes after its front `own`, and what follows the name. The rest begins

@@ -6,3 +6,5 @@ pub mod plain;
 mod regexps;
 #[cfg(test)]
 mod tests;
+#[cfg(test)]
+mod words;

@@ -2,7 +2,7 @@ use ecma_scan::{RegExp, regular_expression};
 use ecma_token::{BytePos, Error, Span, SyntaxError};
 use std::test::Fail;
 
-/// The body, the flags and the rest, by hand from ECMA-262, 12.9.5; node 20 reads the same.
+/// The body, the flags and the rest, by hand from ECMA-262, 12.9.5. Node 20 has the same bodies.
 const FOUND: [(&str, &str, &str, &str); 17] = [
     ("/[/]/g", "[/]", "g", ""),
     ("/(?:)/", "(?:)", "", ""),

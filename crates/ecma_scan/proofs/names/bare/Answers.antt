@@ -1,20 +1,42 @@
-use Rattle.std.proofs.Common.{◌∷◌, ap, sym, ◌∙◌}
+use Rattle.std.proofs.Common.{◌≢◌, arith, rules, sym, ◌∙◌}
 use Rattle.std.specs.Str.{chars}
 use Rattle.std.proofs.lemmas.Str.{chars-nil}
-use Rattle.ecma_scan.proofs.NameParts.{bare_nothing, bare_front, front_seam}
+use Rattle.ecma_scan.specs.declared.bytes.ByteClass.TheVariants as b
+use Rattle.ecma_scan.specs.Names.{IsBareFront}
+use Rattle.ecma_scan.proofs.NameLeads.{start_low, starts, is_backslash, wide_named, other_ends}
+use Rattle.ecma_scan.proofs.NameParts.{bare_nothing}
 use Rattle.ecma_scan.proofs.names.bare.Goals as goal
 
-pub returns-then-c-eq92-clause-front : goal.returns-then-c-eq92-clause-front
-returns-then-c-eq92-clause-front c =
-    let more = chars c.in_ok-c.after.now in
-    bare_nothing _ _ more chars-nil (c.in_ok-c.ensures.cut ∙ ap (λ x. x ∷ more) c.if-c-eq92.true)
+pub past_ascii-requires : goal.past_ascii-requires
+past_ascii-requires c = (c.in_ok-byte.byte, start_low c.in_ok-byte.byte (omega arith) (sym c.in-NameStart.is ∙ c.byte_class.ensures), c.in_ok-byte.ensures)
 
-pub split_at-requires : goal.split_at-requires
-split_at-requires c =
-    (front_seam c.args.text.now c.split_name_part.result.1.now (chars c.in_ok-c.after.now) c.in_ok-c.c c.utf8.text c.split_name_part.ensures.texts.1 c.in_ok-c.ensures.cut c.split_name_part.ensures.after).boundary
+pub split_front-requires : goal.split_front-requires
+split_front-requires c =
+    let k = c.past_ascii.ensures.cut in
+    let is = sym c.in-NameStart.is ∙ c.byte_class.ensures in
+    record {
+      start = (k.0, starts (chars c.args.text.now) _ c.in_ok-byte.byte k.0 c.in_ok-byte.ensures (omega arith) is k.2, k.2);
+      order = omega (arith, c.past_ascii.ensures.shorter);
+    }
 
-pub returns-clause-front : goal.returns-clause-front
-returns-clause-front c =
-    let m = front_seam c.args.text.now c.split_name_part.result.1.now (chars c.in_ok-c.after.now) c.in_ok-c.c c.utf8.text c.split_name_part.ensures.texts.1 c.in_ok-c.ensures.cut c.split_name_part.ensures.after in
-    bare_front _ (chars c.in_ok-c.after.now) _ _ c.in_ok-c.c c.in_ok-c.ensures.cut (sym c.is_ident_start.ensures ∙ c.if-not-is_ident_start.false)
-    (ap chars c.split_at.ensures.front ∙ m.before) (ap chars c.split_at.ensures.back ∙ ap chars m.behind ∙ c.split_name_part.ensures.after)
+pub returns-in-NonAscii-clause-front : goal.returns-in-NonAscii-clause-front
+returns-in-NonAscii-clause-front c =
+    let text = chars c.args.text.now in
+    wide_named (λ x. IsBareFront text (chars x.0.now) (chars x.1.now)) text c.in_ok-byte.byte c.wide_front.result c.in_ok-byte.ensures (omega arith)
+    (sym c.in-NonAscii.is ∙ c.byte_class.ensures) c.wide_front.ensures.front
+
+pub returns-in-Backslash-clause-front : goal.returns-in-Backslash-clause-front
+returns-in-Backslash-clause-front c =
+    let k = is_backslash (chars c.args.text.now) c.in_ok-byte.byte c.in_ok-byte.ensures (omega arith) (sym c.in-Backslash.is ∙ c.byte_class.ensures) in
+    bare_nothing _ _ k.0 chars-nil k.1
+
+pub returns-in_default : goal.returns-in_default
+returns-in_default c =
+    let k = c.byte_class.result in
+    let start : k ≢ b.NameStart = search rules in
+    let backslash : k ≢ b.Backslash = search rules in
+    let wide : k ≢ b.NonAscii = search rules in
+    record {
+      front = other_ends (chars c.args.text.now) c.in_ok-byte.byte k c.in_ok-byte.ensures (omega arith) c.byte_class.ensures start backslash wide;
+      rest = tt;
+    }
