@@ -2,6 +2,10 @@
 //! to cut a text.
 #![tactic(auto)]
 
+#[cfg(test)]
+mod faults;
+#[cfg(test)]
+mod long_texts;
 pub mod plain;
 #[cfg(test)]
 mod strings;
