@@ -3,6 +3,10 @@
 #![tactic(auto)]
 
 #[cfg(test)]
+mod faults;
+#[cfg(test)]
+mod long_texts;
+#[cfg(test)]
 mod numbers;
 pub mod plain;
 pub mod plain_numbers;

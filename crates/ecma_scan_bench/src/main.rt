@@ -1,0 +1,52 @@
+//! `ecma_scan_bench FILE [KIND]`: cuts a script into its pieces, and prints how many there are of each
+//! kind, or of KIND alone. For the kind `bytes` nothing is cut, and the answer is the length of the file.
+//! Of the counts nothing is proved: what each piece is, `ecma_scan` and `ecma_literal` promise.
+#![tactic(auto)]
+
+mod pieces;
+
+use pieces::{Kind, Tally, count};
+use std::{env, fs};
+
+/// What the program is called with.
+const USAGE: &str = "usage: ecma_scan_bench FILE [KIND]";
+
+/// The word for the length of the file.
+const BYTES: &str = "bytes";
+
+/// The greatest length of a file.
+const LONGEST: usize = 0xFFFF_FFFE;
+
+/// Prints how many pieces there are of each kind, or of one.
+fn report(rt: &HostRuntime, tally: &Tally, only: Option<&str>) -> anyhow::Result<()> {
+    for kind in Kind::ALL {
+        let name = kind.name();
+        if only.is_none_or(|word| word == name) {
+            println!(rt; "{name} {}", tally.of(*kind))?;
+        }
+    }
+    Ok(())
+}
+
+/// Reads the file, cuts it and prints.
+fn run(rt: &HostRuntime, path: &str, only: Option<&str>) -> anyhow::Result<()> {
+    let text = fs::read_to_string(rt, path)?;
+    if only == Some(BYTES) {
+        println!(rt; "{BYTES} {}", text.len())?;
+        return Ok(());
+    }
+    if text.len() > LONGEST {
+        return Err(anyhow::Error::msg("the file is too long"));
+    }
+    let tally = count(rt.alloc(), text.as_str())?;
+    report(rt, &tally, only)
+}
+
+fn main(rt: HostRuntime) -> anyhow::Result<()> {
+    let words: Vec<String> = env::args(&rt)?.collect(rt.alloc())?;
+    match words.as_slice() {
+        [_, path] => run(&rt, path.as_str(), None),
+        [_, path, kind] => run(&rt, path.as_str(), Some(kind.as_str())),
+        _ => Ok(println!(rt; "{USAGE}")?),
+    }
+}
