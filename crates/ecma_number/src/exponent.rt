@@ -90,6 +90,9 @@ impl Exponent {
     pub(crate) fn plus(self, alloc: Global, addend: u64) -> Result<Exponent, AllocError>
         ensures { IfOk result (λ e. e ≡ self +ℤ pos addend) }
     {
+        if addend == 0 {
+            return Ok(self);
+        }
         let Exponent { negative, digits } = self;
         if !negative {
             let digits = sum(alloc, digits.as_slice(), addend)?;
