@@ -31,12 +31,6 @@ digit_at text i within digit =
     let next : suc i ≡ i + 1 = omega arith in
     ap digits_in (drop-cons text i 0 within) ∙ (digit_first (get_or text i 0) (drop (suc i) text) digit ∙ ap (λ n. get_or text i 0 ∷ digits_in (drop n text)) next)
 
--- the same, where none does
-pub between_at : (text : List ℕ) (i : ℕ) → i < length text → is_between (get_or text i 0) ≡ true → digits_in (drop i text) ≡ digits_in (drop (i + 1) text)
-between_at text i within between =
-    let next : suc i ≡ i + 1 = omega arith in
-    ap digits_in (drop-cons text i 0 within) ∙ (between_first (get_or text i 0) (drop (suc i) text) between ∙ ap (λ n. digits_in (drop n text)) next)
-
 -- digits alone are their own digits
 pub own_digits : (radix : ℕ) (ds : List ℕ) → radix ≤ 36 → AllDigits radix ds → digits_in ds ≡ ds
 own_digits radix [] most all = refl
@@ -66,18 +60,10 @@ too_large radix n value text i positive is within digit large small =
     let least : n * radix + digit_value (get_or text i 0) ≤ digits_value_after radix (n * radix + digit_value (get_or text i 0)) (digits_in (drop (i + 1) text)) = value_grows radix (n * radix + digit_value (get_or text i 0)) (digits_in (drop (i + 1) text)) positive in
     absurd (omega arith)
 
--- the digits before the last character, where that is a digit, and where it is none
+-- the digits before the last character, where that is a digit
 pub digit_last : (left front : List ℕ) (last : ℕ) → left ≡ front ++ (last ∷ []) → is_between last ≡ false → digits_in left ≡ digits_in front ++ (last ∷ [])
 digit_last left front last is digit =
     ap digits_in is ∙ (filter-append (λ c. not (is_between c)) front (last ∷ []) ∙ ap (λ ds. digits_in front ++ ds) (digit_first last [] digit))
-
-pub between_last : (left front : List ℕ) (last : ℕ) → left ≡ front ++ (last ∷ []) → is_between last ≡ true → digits_in left ≡ digits_in front
-between_last left front last is between =
-    ap digits_in is ∙ (filter-append (λ c. not (is_between c)) front (last ∷ []) ∙ (ap (λ ds. digits_in front ++ ds) (between_first last [] between) ∙ append_none (digits_in front)))
-  where
-    append_none : (xs : List ℕ) → xs ++ [] ≡ xs
-    append_none [] = refl
-    append_none (x ∷ xs) = ap (λ ys. x ∷ ys) (append_none xs)
 
 -- zeros at the end that are passed, while some of the text is left
 pub record IsTrimmedSoFar (left text : List ℕ) (zeros : ℕ) : Type 0 where
@@ -108,15 +94,6 @@ zero_goes left front text last zeros is zero so_far =
     record {
       value = trim_back_at_zero (digits_in left) (digits_in front) last digits zero ∙ so_far.value;
       count = omega arith;
-    }
-
--- what stands between digits goes
-pub between_goes : (left front text : List ℕ) (last zeros : ℕ) → left ≡ front ++ (last ∷ []) → is_between last ≡ true → IsTrimmedSoFar left text zeros → IsTrimmedSoFar front text zeros
-between_goes left front text last zeros is between so_far =
-    let digits : digits_in left ≡ digits_in front = between_last left front last is between in
-    record {
-      value = ap trim_back (sym digits) ∙ so_far.value;
-      count = ap (λ ds. length ds + zeros) (sym digits) ∙ so_far.count;
     }
 
 -- any other digit stays
