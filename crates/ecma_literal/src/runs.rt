@@ -54,13 +54,22 @@ pub fn split_plain(text: &str, quote: char) -> (&str, &str)
     text.split_at(stop_len(text.as_bytes(), quote as u8, b'\\', b'\n'))
 }
 
+/// How many bytes come before the first back quote, backslash, dollar or CR. A search for three of them
+/// would be begun again at each of the fourth.
+fn bare_len(bytes: &[u8]) -> usize
+    ensures { result ≡ prefix_len (passes 96 92 36) bytes.now }
+{
+    let bare = |b: &&u8| !matches!(**b, b'`' | b'\\' | b'$' | b'\r');
+    bytes.iter().take_while(bare).count()
+}
+
 /// What follows the characters at the front of a text up to a back quote, a backslash, a dollar or CR.
 fn past_dollarless(text: &str) -> &str
     ensures after { chars result.now ≡ after (passes 96 92 36) (chars text.now) }
     ensures text { IsUtf8 result.now }
     ensures length { length result.now ≤ length text.now }
 {
-    let (_, rest) = text.split_at(stop_len(text.as_bytes(), b'`', b'\\', b'$'));
+    let (_, rest) = text.split_at(bare_len(text.as_bytes()));
     rest
 }
 

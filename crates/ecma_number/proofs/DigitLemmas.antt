@@ -1,12 +1,10 @@
 -- Lemmas on digits.
-use Rattle.std.proofs.Common.{◌≡◌, ℕ, ◌+◌, ◌*◌, ◌<◌, ◌≤◌, Bool, true, false, List, [], ◌∷◌, ◌++◌, length, get_or, take, refl, sym, ap, subst, ◌∙◌, arith}
+use Rattle.std.proofs.Common.{◌≡◌, ℕ, ◌<◌, ◌≤◌, Bool, true, false, List, [], ◌∷◌, ◌++◌, length, refl, sym, ap, subst, ◌∙◌, arith}
 use Rattle.std.specs.Prelude.{◌==◌}
 use Rattle.std.specs.Prelude.{pos, neg_ℤ, ◌&&◌}
 use Rattle.std.specs.Char.{digit_value, is_digit}
 use borrow.Author.Tests.{ltb-true}
 use Rattle.std.specs.Str.Parse.{digits_value, AllDigits}
-use Rattle.std.proofs.lemmas.Int.Digits.{digits_value_more}
-use Rattle.std.proofs.lemmas.Str.Parse.{digits_value-take-le}
 use Rattle.std.proofs.lemmas.Bool.Decides.{Decides-eqb}
 use Rattle.ecma_number.specs.Numbers.{trim_back, onto_trimmed, trim_front, goes_on, plain, signed}
 
@@ -42,18 +40,6 @@ trim_back_at_zero xs front last is zero = rw (is, zero) (sym (trim_back-zero fro
 -- any other digit at the end stays, and so does all before it
 pub trim_back_at_other : (xs front : List ℕ) (last : ℕ) → xs ≡ front ++ (last ∷ []) → (last ≡ 48 → ⊥) → trim_back xs ≡ xs
 trim_back_at_other xs front last is other = rw is (trim_back-other front last (eqb_false last 48 other))
-
--- digits whose beginning is too large are too large
-pub too_large : (radix : ℕ) (digits : List ℕ) (i n : ℕ) → 1 ≤ radix → digits_value radix (take i digits) ≡ n → i < length digits → 18446744073709551616 ≤ n * radix + digit_value (get_or digits i 0) → digits_value radix digits < 18446744073709551616 → ⊥
-too_large radix digits i n positive is within large small =
-    let more : digits_value radix (take (i + 1) digits) ≡ n * radix + digit_value (get_or digits i 0) = digits_value_more radix digits i within ∙ ap (λ v. v * radix + digit_value (get_or digits i 0)) is in
-    let least : digits_value radix (take (i + 1) digits) ≤ digits_value radix digits = digits_value-take-le radix digits (i + 1) positive in
-    absurd (omega arith)
-
--- the value of one digit more
-pub one_more_digit : (radix : ℕ) (digits : List ℕ) (i value digit more : ℕ) → i < length digits → digits_value radix (take i digits) ≡ value → digit ≡ digit_value (get_or digits i 0) → more ≡ value * radix + digit → digits_value radix (take (i + 1) digits) ≡ more
-one_more_digit radix digits i value digit more within is here sum =
-    digits_value_more radix digits i within ∙ ap (λ v. v * radix + digit_value (get_or digits i 0)) is ∙ ap (λ d. value * radix + d) (sym here) ∙ sym sum
 
 pub by_test : (b : Bool) (P : Type 0) → (b ≡ true → P) → (b ≡ false → P) → P
 by_test b P yes_case no_case =

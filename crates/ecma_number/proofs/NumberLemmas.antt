@@ -65,7 +65,7 @@ mantissa_digits (c ∷ cs) (Some fraction) spelled =
     all_appended 10 (plain (c ∷ cs)) (plain fraction) (integer_digits (c ∷ cs) parts.0) (fraction_digits fraction parts.1)
 
 -- a digit in lower case is the same digit
-same_digit : (c : ℕ) → digit_value (to_ascii_lowercase c) ≡ digit_value c
+pub same_digit : (c : ℕ) → digit_value (to_ascii_lowercase c) ≡ digit_value c
 same_digit c = grind (arith, nat_tests)
 
 pub lower_digits : (radix : ℕ) (ds : List ℕ) → AllDigits radix ds → AllDigits radix (map to_ascii_lowercase ds)

@@ -3,9 +3,14 @@ ghost use Rattle.std.specs.Prelude.{◌≡◌, ◌+◌, ◌*◌, ◌^◌, ◌<�
 ghost use Rattle.std.specs.Option.{SomeIff, option_copied};
 ghost use Rattle.std.specs.Char.{to_ascii_lowercase, digit_value};
 ghost use Rattle.std.specs.Str.Parse.{digits_value};
-ghost use Rattle.ecma_number.specs.Numbers.{spells_digits, plain, before, after, trim_front, trim_back};
+ghost use Rattle.ecma_number.specs.Numbers.{spells_digits, before, after, trim_front, trim_back};
+ghost use Rattle.ecma_number.specs.DigitText.{is_between, digits_in};
 
+use smallvec::SmallVec;
 use std::alloc::{AllocError, Global};
+
+/// Digits: up to 24 in the value itself, more in an allocation.
+pub(crate) type Digits = SmallVec<u8, 24>;
 
 /// Whether the text is digits of the radix, with `_` between two of them alone.
 pub(crate) fn spells_digits(text: &[u8], radix: u32) -> bool
@@ -39,55 +44,73 @@ pub(crate) fn cut(text: &[u8], mark: u8) -> (&[u8], Option<&[u8]>)
     (text, None)
 }
 
-/// The text without `_`.
-pub(crate) fn plain(alloc: Global, text: &[u8]) -> Result<Vec<u8>, AllocError>
-    ensures { IfOk result (λ digits. digits.items ≡ plain text.now) }
+/// Whether a byte may stand between two digits: a separator or the point.
+fn is_between(byte: u8) -> bool
+    ensures { result ≡ is_between byte }
 {
-    text.iter().copied().filter(|b| *b != b'_').collect(alloc)
+    matches!(byte, b'_' | b'.')
 }
 
-/// The text without `_`, in lower case.
-pub(crate) fn plain_lower(alloc: Global, text: &[u8]) -> Result<Vec<u8>, AllocError>
-    ensures { IfOk result (λ digits. digits.items ≡ map to_ascii_lowercase (plain text.now)) }
+/// The digits of the text.
+pub(crate) fn digits_in(alloc: Global, text: &[u8]) -> Result<Digits, AllocError>
+    ensures { IfOk result (λ digits. digits.items ≡ digits_in text.now) }
 {
-    text.iter()
-        .copied()
-        .filter(|b| *b != b'_')
-        .map(|b| b.to_ascii_lowercase())
-        .collect(alloc)
+    let mut digits = Digits::new(alloc);
+    for byte in text {
+        if !is_between(*byte) {
+            digits.push(*byte)?;
+        }
+    }
+    Ok(digits)
 }
 
-/// The same digits as a `Vec`.
-pub(crate) fn copied(alloc: Global, digits: &[u8]) -> Result<Vec<u8>, AllocError>
-    ensures { IfOk result (λ v. v.items ≡ digits.now) }
+/// The digits of the text, in lower case.
+pub(crate) fn lower_digits_in(alloc: Global, text: &[u8]) -> Result<Digits, AllocError>
+    ensures { IfOk result (λ digits. digits.items ≡ map to_ascii_lowercase (digits_in text.now)) }
 {
-    digits.to_vec(alloc)
+    let mut digits = Digits::new(alloc);
+    for byte in text {
+        if !is_between(*byte) {
+            digits.push(byte.to_ascii_lowercase())?;
+        }
+    }
+    Ok(digits)
 }
 
-/// The digits without zeros in front.
-pub(crate) fn trim_front(digits: &[u8]) -> &[u8]
-    ensures { result.now ≡ trim_front digits.now }
+/// How many digits the text has.
+pub(crate) fn count_digits(text: &[u8]) -> u64
+    ensures { result ≡ length (digits_in text.now) }
 {
-    let mut left = digits;
-    while let [b'0', rest @ ..] = left {
+    text.iter().filter(|b| !is_between(**b)).count() as u64
+}
+
+/// The text from its first digit on that is not 0.
+pub(crate) fn trim_front(text: &[u8]) -> &[u8]
+    ensures { digits_in result.now ≡ trim_front (digits_in text.now) }
+{
+    let mut left = text;
+    while let [b'0' | b'_' | b'.', rest @ ..] = left {
         left = rest;
     }
     left
 }
 
-/// The digits without zeros at the end.
-pub(crate) fn trim_back(digits: &[u8]) -> &[u8]
-    ensures value { result.now ≡ trim_back digits.now }
-    ensures shorter { length result.now ≤ length digits.now }
+/// The text up to its last digit that is not 0, and how many zeros come after that.
+pub(crate) fn trim_back(text: &[u8]) -> (&[u8], u64)
+    ensures value { digits_in result.0.now ≡ trim_back (digits_in text.now) }
+    ensures zeros { length (digits_in result.0.now) + result.1 ≡ length (digits_in text.now) }
 {
-    let mut left = digits;
+    let mut left = text;
+    let mut zeros = 0;
     while let Some((last, front)) = left.split_last() {
-        if *last != b'0' {
-            return left;
+        if *last == b'0' {
+            zeros += 1;
+        } else if !is_between(*last) {
+            return (left, zeros);
         }
         left = front;
     }
-    left
+    (left, zeros)
 }
 
 /// The value of a digit in a radix up to 36, or 36.
@@ -106,13 +129,16 @@ fn with_digit(value: u64, radix: u32, digit: u32) -> Option<u64>
         .checked_add(u64::from(digit))
 }
 
-/// The value of the digits, if it fits 64 bits.
-pub(crate) fn small_value(digits: &[u8], radix: u32) -> Option<u64>
+/// The value of the digits of the text, if it fits 64 bits.
+pub(crate) fn small_value(text: &[u8], radix: u32) -> Option<u64>
     requires { 2 ≤ radix }
-    ensures { SomeIff result (digits_value radix digits.now < 2 ^ 64) (digits_value radix digits.now) }
+    ensures { SomeIff result (digits_value radix (digits_in text.now) < 2 ^ 64) (digits_value radix (digits_in text.now)) }
 {
     let mut value: u64 = 0;
-    for byte in digits {
+    for byte in text {
+        if is_between(*byte) {
+            continue;
+        }
         match with_digit(value, radix, digit_of(*byte)) {
             Some(more) => value = more,
             None => return None,

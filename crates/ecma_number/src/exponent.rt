@@ -1,9 +1,9 @@
 //! Exponents of any size, as a sign and decimal digits.
 ghost use Rattle.std.specs.Prelude.{◌≡◌, ◌+◌, ◌-◌, ◌*◌, ◌^◌, ◌<◌, ◌≤◌, IfOk, pos, ◌+ℤ◌, ◌-ℤ◌};
 ghost use Rattle.std.specs.Str.Parse.{digits_value, AllDigits};
-ghost use Rattle.std.specs.Fmt.{decimal};
+ghost use Rattle.ecma_number.specs.DigitText.{digits_in};
 
-use crate::digits::{copied, plain, small_value, trim_front};
+use crate::digits::{Digits, digits_in, small_value, trim_front};
 use crate::spelling::{is_negative, unsigned};
 use std::alloc::{AllocError, Global};
 use std::marker::Model;
@@ -12,7 +12,7 @@ use std::marker::Model;
 #[derive(Drop)]
 pub(crate) struct Exponent {
     negative: bool,
-    digits: Vec<u8>,
+    digits: Digits,
 }
 
 impl Model for Exponent {
@@ -34,7 +34,7 @@ impl Exponent {
     ghost use Rattle.ecma_number.specs.NumberForm.{IsSigned};
 
     /// The number that a sign and digits write.
-    pub(crate) fn new(negative: bool, digits: Vec<u8>) -> Exponent
+    pub(crate) fn new(negative: bool, digits: Digits) -> Exponent
         requires { AllDigits 10 digits.items }
         ensures { result ≡ signed negative digits.items }
     {
@@ -45,7 +45,7 @@ impl Exponent {
     pub(crate) fn zero(alloc: Global) -> Exponent
         ensures { result ≡ pos 0 }
     {
-        Exponent::new(false, Vec::new(alloc))
+        Exponent::new(false, Digits::new(alloc))
     }
 
     /// The value of an exponent as it is spelled, if there is one.
@@ -56,23 +56,23 @@ impl Exponent {
         match text {
             None => Ok(Exponent::zero(alloc)),
             Some(text) => {
-                let digits = plain(alloc, unsigned(text))?;
+                let digits = digits_in(alloc, trim_front(unsigned(text)))?;
                 Ok(Exponent::new(is_negative(text), digits))
             }
         }
     }
 
     /// The sign, and the digits without zeros in front but for 0 itself, which has no minus.
-    pub(crate) fn into_parts(self, alloc: Global) -> Result<(bool, Vec<u8>), AllocError>
+    pub(crate) fn into_parts(self, alloc: Global) -> Result<(bool, Digits), AllocError>
         ensures value { IfOk result (λ parts. signed parts.0 parts.1.items ≡ self) }
         ensures form { IfOk result (λ parts. IsSigned parts.0 parts.1.items) }
     {
         let Exponent { negative, digits } = self;
-        let digits = trim_front(digits.as_slice());
-        if digits.is_empty() {
-            return Ok((false, copied(alloc, b"0")?));
+        let kept = digits_in(alloc, trim_front(digits.as_slice()))?;
+        if kept.is_empty() {
+            return Ok((false, Digits::from_slice(alloc, b"0")?));
         }
-        Ok((negative, copied(alloc, digits)?))
+        Ok((negative, kept))
     }
 
     /// The number with the other sign.
@@ -90,6 +90,9 @@ impl Exponent {
     pub(crate) fn plus(self, alloc: Global, addend: u64) -> Result<Exponent, AllocError>
         ensures { IfOk result (λ e. e ≡ self +ℤ pos addend) }
     {
+        if addend == 0 {
+            return Ok(self);
+        }
         let Exponent { negative, digits } = self;
         if !negative {
             let digits = sum(alloc, digits.as_slice(), addend)?;
@@ -116,21 +119,20 @@ impl Exponent {
 }
 
 /// The decimal digits of a number.
-pub(crate) fn decimal(alloc: Global, value: u64) -> Result<Vec<u8>, AllocError>
-    ensures text { IfOk result (λ v. v.items ≡ decimal value) }
+pub(crate) fn decimal(alloc: Global, value: u64) -> Result<Digits, AllocError>
     ensures digits { IfOk result (λ v. AllDigits 10 v.items) }
     ensures value { IfOk result (λ v. digits_value 10 v.items ≡ value) }
 {
-    Ok(format!(in alloc; "{value}")?.into_bytes())
+    sum(alloc, b"", value)
 }
 
 /// The digits of a sum. What comes in may have zeros in front, and what goes out too.
-pub(crate) fn sum(alloc: Global, digits: &[u8], addend: u64) -> Result<Vec<u8>, AllocError>
+pub(crate) fn sum(alloc: Global, digits: &[u8], addend: u64) -> Result<Digits, AllocError>
     requires { AllDigits 10 digits.now }
     ensures digits { IfOk result (λ v. AllDigits 10 v.items) }
     ensures value { IfOk result (λ v. digits_value 10 v.items ≡ digits_value 10 digits.now + addend) }
 {
-    let mut low_first = Vec::new(alloc);
+    let mut low_first = Digits::new(alloc);
     let mut carry = addend;
     let mut left = digits;
     while let Some((digit, front)) = left.split_last() {
@@ -167,13 +169,13 @@ pub(crate) fn difference(
     alloc: Global,
     digits: &[u8],
     subtrahend: u64,
-) -> Result<Vec<u8>, AllocError>
+) -> Result<Digits, AllocError>
     requires digits { AllDigits 10 digits.now }
     requires enough { subtrahend ≤ digits_value 10 digits.now }
     ensures digits { IfOk result (λ v. AllDigits 10 v.items) }
     ensures value { IfOk result (λ v. digits_value 10 v.items + subtrahend ≡ digits_value 10 digits.now) }
 {
-    let mut low_first = Vec::new(alloc);
+    let mut low_first = Digits::new(alloc);
     let mut borrow = subtrahend;
     let mut left = digits;
     while let Some((digit, front)) = left.split_last() {

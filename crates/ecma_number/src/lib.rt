@@ -5,9 +5,13 @@ ghost use Rattle.std.specs.Prelude.{◌≡◌, ◌≤◌, ◌++◌, ◌↔◌, I
 ghost use Rattle.std.specs.Str.{IsAscii};
 ghost use Rattle.std.specs.Option.{option_copied};
 ghost use Rattle.std.specs.Str.Parse.{AllDigits};
-ghost use Rattle.ecma_number.specs.Numbers.{plain, numeral, IsCanonical, number_digits, number_radix, number_exponent, is_below_zero, spells_exponent, scaled, in_radix, decimal_value, decimal_number, unprefixed_number, prefixed_number, number_of};
+ghost use Rattle.ecma_number.specs.Numbers.{plain, numeral, IsCanonical, number_digits, number_radix, number_exponent, is_below_zero, scaled, in_radix, decimal_number, unprefixed_number, prefixed_number, number_of};
+ghost use Rattle.ecma_number.specs.DigitText.{digits_in};
 
-use digits::{copied, cut, plain, plain_lower, small_value, spells_digits, trim_back, trim_front};
+use digits::{
+    Digits, count_digits, cut, digits_in, lower_digits_in, small_value, spells_digits, trim_back,
+    trim_front,
+};
 use exponent::{Exponent, decimal};
 use spelling::{prefix_radix, spells_exponent, spells_mantissa, spells_octal};
 use std::alloc::{AllocError, Global};
@@ -26,14 +30,15 @@ pub struct NumValue {
 
 #[derive(Debug, Drop)]
 enum Form {
+    /// Digits and those of the power of ten after them, in one text; `count` of it are the former.
     Scaled {
-        digits: Vec<u8>,
         negative: bool,
-        exponent: Vec<u8>,
+        count: usize,
+        text: Digits,
     },
     InRadix {
         radix: u32,
-        digits: Vec<u8>,
+        digits: Digits,
     },
 }
 
@@ -73,7 +78,7 @@ impl NumValue {
         ensures form { IsCanonical self.now }
     {
         match &self.form {
-            Form::Scaled { digits, .. } => ascii(digits.as_slice()),
+            Form::Scaled { count, text, .. } => ascii(&text.as_slice()[..*count]),
             Form::InRadix { digits, .. } => ascii(digits.as_slice()),
         }
     }
@@ -103,7 +108,7 @@ impl NumValue {
         ensures { result.now ≡ numeral (nat_abs (number_exponent self.now)) }
     {
         match &self.form {
-            Form::Scaled { exponent, .. } => ascii(exponent.as_slice()),
+            Form::Scaled { count, text, .. } => ascii(&text.as_slice()[*count..]),
             Form::InRadix { .. } => "0",
         }
     }
@@ -115,19 +120,19 @@ impl NumValue {
         match (&self.form, &other.form) {
             (
                 Form::Scaled {
-                    digits,
                     negative,
-                    exponent,
+                    count,
+                    text,
                 },
                 Form::Scaled {
-                    digits: other_digits,
                     negative: other_negative,
-                    exponent: other_exponent,
+                    count: other_count,
+                    text: other_text,
                 },
             ) => {
-                digits.as_slice() == other_digits.as_slice()
-                    && negative == other_negative
-                    && exponent.as_slice() == other_exponent.as_slice()
+                negative == other_negative
+                    && count == other_count
+                    && text.as_slice() == other_text.as_slice()
             }
             (
                 Form::InRadix { radix, digits },
@@ -180,15 +185,14 @@ fn in_radix(alloc: Global, radix: u32, text: &[u8]) -> Result<NumValue, AllocErr
     requires digits { AllDigits radix (plain text.now) }
     ensures { IfOk result (λ value. value ≡ in_radix radix text.now) }
 {
-    let lower = plain_lower(alloc, text)?;
-    let digits = trim_front(lower.as_slice());
-    match small_value(digits, radix) {
+    let text = trim_front(text);
+    match small_value(text, radix) {
         Some(value) => {
             let digits = decimal(alloc, value)?;
             scaled(alloc, digits.as_slice(), Exponent::zero(alloc))
         }
         None => {
-            let digits = copied(alloc, digits)?;
+            let digits = lower_digits_in(alloc, text)?;
             Ok(NumValue {
                 form: Form::InRadix { radix, digits },
             })
@@ -205,48 +209,31 @@ fn decimal_number(alloc: Global, text: &[u8]) -> Result<Option<NumValue>, AllocE
     if !spells_mantissa(integer, fraction) || !spells_exponent(exponent) {
         return Ok(None);
     }
-    let fraction = fraction.unwrap_or(b"".as_slice());
-    Ok(Some(decimal_value(alloc, integer, fraction, exponent)?))
+    let decimals = count_digits(fraction.unwrap_or(b"".as_slice()));
+    let exponent = Exponent::read(alloc, exponent)?.minus(alloc, decimals)?;
+    Ok(Some(scaled(alloc, mantissa, exponent)?))
 }
 
-/// The value of a decimal number, by its parts.
-fn decimal_value(
-    alloc: Global,
-    integer: &[u8],
-    fraction: &[u8],
-    exponent: Option<&[u8]>,
-) -> Result<NumValue, AllocError>
-    requires digits { AllDigits 10 (plain integer.now ++ plain fraction.now) }
-    requires exponent { spells_exponent (option_copied exponent) ≡ true }
-    ensures { IfOk result (λ value. value ≡ decimal_value integer.now fraction.now (option_copied exponent.entry)) }
+/// The digits of a text times ten to the exponent.
+fn scaled(alloc: Global, text: &[u8], exponent: Exponent) -> Result<NumValue, AllocError>
+    requires { AllDigits 10 (digits_in text.now) }
+    ensures { IfOk result (λ value. value ≡ scaled (digits_in text.now) exponent) }
 {
-    let mut digits = plain(alloc, integer)?;
-    let decimals = plain(alloc, fraction)?;
-    digits.extend_from_slice(decimals.as_slice())?;
-    let exponent = Exponent::read(alloc, exponent)?;
-    let exponent = exponent.minus(alloc, decimals.len() as u64)?;
-    scaled(alloc, digits.as_slice(), exponent)
-}
-
-/// Digits times ten to the exponent.
-fn scaled(alloc: Global, digits: &[u8], exponent: Exponent) -> Result<NumValue, AllocError>
-    requires { AllDigits 10 digits.now }
-    ensures { IfOk result (λ value. value ≡ scaled digits.now exponent) }
-{
-    let kept = trim_front(digits);
-    let trimmed = trim_back(kept);
-    let exponent = if trimmed.is_empty() {
+    let (trimmed, zeros) = trim_back(trim_front(text));
+    let mut text = digits_in(alloc, trimmed)?;
+    let count = text.len();
+    let exponent = if count == 0 {
         Exponent::zero(alloc)
     } else {
-        exponent.plus(alloc, (kept.len() - trimmed.len()) as u64)?
+        exponent.plus(alloc, zeros)?
     };
-    let digits = copied(alloc, trimmed)?;
     let (negative, exponent) = exponent.into_parts(alloc)?;
+    text.extend_from_slice(exponent.as_slice())?;
     Ok(NumValue {
         form: Form::Scaled {
-            digits,
             negative,
-            exponent,
+            count,
+            text,
         },
     })
 }
@@ -259,13 +246,13 @@ impl Clone for NumValue {
     fn clone(&self) -> Result<NumValue, AllocError> {
         let form = match &self.form {
             Form::Scaled {
-                digits,
                 negative,
-                exponent,
+                count,
+                text,
             } => Form::Scaled {
-                digits: digits.clone()?,
                 negative: *negative,
-                exponent: exponent.clone()?,
+                count: *count,
+                text: text.clone()?,
             },
             Form::InRadix { radix, digits } => Form::InRadix {
                 radix: *radix,

@@ -235,6 +235,156 @@ static OTHERS: [&str; 59] = [
     "0b1.1", "0X", "1,000", "0b_1", "٣", "", " 1", "1 ", " ", "1\u{a0}",
 ];
 
+/// Numbers whose value takes no memory: up to 20 digits and a power of ten of up to 4, or more of one
+/// where there is less of the other. Zeros in front, at the end and round the point count for nothing.
+const FITTING: [(&str, &str, u32, bool, &str); 29] = [
+    ("1000", "1", 10, false, "3"),
+    ("0.5", "5", 10, true, "1"),
+    ("0xff", "255", 10, false, "0"),
+    ("1e3", "1", 10, false, "3"),
+    ("1_000_000", "1", 10, false, "6"),
+    ("1.25", "125", 10, true, "2"),
+    (".001", "1", 10, true, "3"),
+    ("5e-7", "5", 10, true, "7"),
+    ("0755", "493", 10, false, "0"),
+    ("0b1010", "1", 10, false, "1"),
+    ("08.5", "85", 10, true, "1"),
+    (
+        "12345678901234567891",
+        "12345678901234567891",
+        10,
+        false,
+        "0",
+    ),
+    (
+        "1.2345678901234567891e9999",
+        "12345678901234567891",
+        10,
+        false,
+        "9980",
+    ),
+    ("1e9999", "1", 10, false, "9999"),
+    ("1e-9999", "1", 10, true, "9999"),
+    (
+        "9.9999999999999999999e-9980",
+        "99999999999999999999",
+        10,
+        true,
+        "9999",
+    ),
+    ("0xFFFFFFFFFFFFFFFF", "18446744073709551615", 10, false, "0"),
+    (
+        "0o1777777777777777777777",
+        "18446744073709551615",
+        10,
+        false,
+        "0",
+    ),
+    (
+        "01777777777777777777777",
+        "18446744073709551615",
+        10,
+        false,
+        "0",
+    ),
+    (
+        "0b1111111111111111111111111111111111111111111111111111111111111111",
+        "18446744073709551615",
+        10,
+        false,
+        "0",
+    ),
+    (
+        "10000000000000000000000000000000000000000",
+        "1",
+        10,
+        false,
+        "40",
+    ),
+    (
+        "0.00000000000000000000000000000000000000001",
+        "1",
+        10,
+        true,
+        "41",
+    ),
+    ("0x0000000000000000000000000000001f", "31", 10, false, "0"),
+    ("1e0000000000000000000000000000007", "1", 10, false, "7"),
+    ("000000000000000000000000000000017", "15", 10, false, "0"),
+    ("1e00000000000000000000000000000_1", "1", 10, false, "1"),
+    (
+        "1234567890123456789e10000",
+        "1234567890123456789",
+        10,
+        false,
+        "10000",
+    ),
+    (
+        "12345678901234567890123e9",
+        "12345678901234567890123",
+        10,
+        false,
+        "9",
+    ),
+    ("0.000000000000000000001e20", "1", 10, true, "1"),
+];
+
+/// Numbers on the other side: 21 digits, a power of ten of 5 digits, 65 bits.
+const LARGER: [(&str, &str, u32, bool, &str); 10] = [
+    (
+        "123456789012345678912",
+        "123456789012345678912",
+        10,
+        false,
+        "0",
+    ),
+    (
+        "123456789012345678901234e9",
+        "123456789012345678901234",
+        10,
+        false,
+        "9",
+    ),
+    (
+        "1.23456789012345678912e-99999",
+        "123456789012345678912",
+        10,
+        true,
+        "100019",
+    ),
+    ("1e10000", "1", 10, false, "10000"),
+    ("1e-10000", "1", 10, true, "10000"),
+    (
+        "12345678901234567891e10000",
+        "12345678901234567891",
+        10,
+        false,
+        "10000",
+    ),
+    ("0x10000000000000000", "10000000000000000", 16, false, "0"),
+    (
+        "0o2000000000000000000000",
+        "2000000000000000000000",
+        8,
+        false,
+        "0",
+    ),
+    (
+        "0b10000000000000000000000000000000000000000000000000000000000000000",
+        "10000000000000000000000000000000000000000000000000000000000000000",
+        2,
+        false,
+        "0",
+    ),
+    (
+        "1e999999999999999999999999999999",
+        "1",
+        10,
+        false,
+        "999999999999999999999999999999",
+    ),
+];
+
 fn is_read_as(
     rt: &impl Abort,
     value: &NumValue,
@@ -274,6 +424,48 @@ fn one_value_is_the_same_in_each_spelling(rt: HostRuntime) -> Result<(), Fail> {
     for spelling in ["1e-2", "1", "0", "10", "0x10000000000000000"] {
         let value = NumValue::read(rt.alloc(), spelling)?.ok_or("no number")?;
         assert!(rt; !value.is_same(&hundred), "{spelling}");
+    }
+    Ok(())
+}
+
+/// With `rt try --test --fail-alloc 1` this passes: no allocation is asked for.
+#[test]
+fn numbers_that_fit(rt: HostRuntime) -> Result<(), Fail> {
+    for row in &FITTING {
+        let value = NumValue::read(rt.alloc(), row.0)?.ok_or("no number")?;
+        is_read_as(&rt, &value, *row);
+        is_read_as(&rt, &value.clone()?, *row);
+        assert!(rt; value.clone()?.is_same(&value), "{}", row.0);
+    }
+    Ok(())
+}
+
+#[test]
+fn larger_numbers(rt: HostRuntime) -> Result<(), Fail> {
+    for row in &LARGER {
+        let value = NumValue::read(rt.alloc(), row.0)?.ok_or("no number")?;
+        is_read_as(&rt, &value, *row);
+        is_read_as(&rt, &value.clone()?, *row);
+        assert!(rt; value.clone()?.is_same(&value), "{}", row.0);
+    }
+    Ok(())
+}
+
+#[test]
+fn numbers_on_both_sides_are_compared(rt: HostRuntime) -> Result<(), Fail> {
+    for row in FITTING.iter().chain(LARGER.iter()) {
+        let value = NumValue::read(rt.alloc(), row.0)?.ok_or("no number")?;
+        for other in FITTING.iter().chain(LARGER.iter()) {
+            let is_same = (row.1, row.2, row.3, row.4) == (other.1, other.2, other.3, other.4);
+            let other_value = NumValue::read(rt.alloc(), other.0)?.ok_or("no number")?;
+            assert_eq!(rt;
+                value.is_same(&other_value),
+                is_same,
+                "{} {}",
+                row.0,
+                other.0
+            );
+        }
     }
     Ok(())
 }

@@ -7,8 +7,8 @@ overflow_sub-digit c =
 
 pub loop-digit-preserved : goal.loop-digit-preserved
 loop-digit-preserved c =
-    sum_goes_on _ _ _ _ c.in-Some.digit.now _ _ _ c.in-Some.ensures.cases.0 c.from.ensures c.in_ok-push.ensures.items c.loop-digit.invariant
+    sum_goes_on _ _ _ _ c.in-Some.digit.now _ _ _ c.in-Some.ensures.cases.0 c.from.ensures c.in_ok-push.ensures.ok c.loop-digit.invariant
 
 pub loop-carry-preserved : goal.loop-carry-preserved
 loop-carry-preserved c =
-    carry_goes_on _ _ _ _ c.in_ok-push-2.ensures.items c.loop-carry.invariant
+    carry_goes_on _ _ _ _ c.in_ok-push-2.ensures.ok c.loop-carry.invariant
