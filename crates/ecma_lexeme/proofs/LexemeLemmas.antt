@@ -1,7 +1,7 @@
 -- A token is determined by the front of a text, and the sort of what stands there by its first characters.
-use Rattle.std.proofs.Common.{◌≡◌, ◌≢◌, ℕ, ◌⊎◌, inl, inr, ⊎_elim, Bool, true, false, ◌&&◌, List, [], ◌∷◌, ◌++◌, refl, sym, ap, subst, ◌∙◌, arith}
+use Rattle.std.proofs.Common.{◌≡◌, ℕ, ◌⊎◌, inl, inr, Bool, true, false, List, [], ◌∷◌, ◌++◌, refl, sym, ap, subst, ◌∙◌, arith}
 use Rattle.std.proofs.lemmas.List.{append_cancel_right}
-use Rattle.std.specs.Prelude.{Option, Some, None, Result, Ok, Err}
+use Rattle.std.specs.Prelude.{Result, Ok, Err}
 use Rattle.std.proofs.lemmas.Bool.{and_parts, false≢true}
 use Rattle.ecma_token.specs.declared.error.Error.{Error}
 use Rattle.ecma_scan.proofs.Longest.{one_punctuator}
@@ -10,12 +10,12 @@ use Rattle.ecma_scan.proofs.RegExpLemmas.{one_reg_exp}
 use Rattle.ecma_token.specs.Tokens.{bare}
 use Rattle.ecma_token.specs.TokenViews.{token_kind_number}
 use Rattle.ecma_scan.specs.Names.{IsNameFault}
-use Rattle.ecma_scan.specs.RegExps.{IsRegExpFault}
 use Rattle.ecma_literal.specs.declared.template.Ending.{Ending}
 use Rattle.ecma_literal.specs.declared.template.Ending.TheVariants.{BackQuote, Substitution}
-use Rattle.ecma_literal.specs.Numbers.{IsNumeralFault, Meaning, OneNumber, SpellsNumeral, is_number_start}
+use Rattle.ecma_literal.specs.Numbers.{IsNumeralFault}
 use Rattle.ecma_literal.specs.Strings.{IsStringFault}
 use Rattle.ecma_literal.specs.Templates.{Ends}
+use Rattle.ecma_literal.proofs.NumeralLemmas.{numeral_starts, one_number}
 use Rattle.ecma_literal.proofs.StringLemmas.{one_string}
 use Rattle.ecma_literal.proofs.TemplateLemmas.{one_piece}
 use Rattle.ecma_lexeme.specs.declared.goal.LexicalGoal.{LexicalGoal}
@@ -23,8 +23,8 @@ use Rattle.ecma_lexeme.specs.declared.goal.LexicalGoal.TheVariants.{Div, RegExp,
 use Rattle.ecma_lexeme.specs.declared.lexeme.Lexeme.{Lexeme}
 use Rattle.ecma_lexeme.specs.declared.sort.Sort.{Sort}
 use Rattle.ecma_lexeme.specs.declared.sort.Sort.TheVariants as s
-use Rattle.ecma_lexeme.specs.Lexemes.{SpecLexeme, IsCharacters, IsEnd, IsLexeme, IsMark, IsMarked, IsNumber, IsOutside, IsOutsideFault, IsPattern, IsPatternFault, IsQuoted, IsStray, IsWord, OneLexeme, ending_kind, numeral_lexeme, pattern_lexeme, plain, string_lexeme, template_lexeme, word_lexeme}
-use Rattle.ecma_lexeme.specs.Readings.{ReadsAs, lexeme_view}
+use Rattle.ecma_lexeme.specs.Lexemes.{SpecLexeme, IsCharacters, IsEnd, IsMark, IsMarked, IsNumber, IsOutside, IsOutsideFault, IsPattern, IsPatternFault, IsQuoted, IsStray, IsWord, OneLexeme, ending_kind, numeral_lexeme, pattern_lexeme, plain, string_lexeme, template_lexeme, word_lexeme}
+use Rattle.ecma_lexeme.specs.Readings.{ReadsAs}
 use Rattle.ecma_lexeme.specs.Sorts.{opens_regexp, is_slash, sort_by, sort}
 use Rattle.ecma_lexeme.proofs.SortLemmas.{Holds, holds, mark_begins, pattern_begins, slash_sort, sort_mark, sort_number, sort_string, sort_word, string_begins, word_begins}
 
@@ -54,15 +54,9 @@ one_quoted text x y r s h g =
     let o = one_own text h.1 g.1 r s h.4 g.4 k.2 in
     (h.5 ∙ ap (λ u. string_lexeme u h.1 h.2) k.0 ∙ ap (λ l. string_lexeme g.0 l h.2) o ∙ ap (string_lexeme g.0 g.1) k.1 ∙ sym g.5, k.2)
 
-the_one_number : OneNumber
-the_one_number = ?
-
-number_begins : (m : Meaning) (own text rest : List ℕ) → SpellsNumeral m own text rest → is_number_start text ≡ true
-number_begins m own text rest h = ?
-
 one_numeral : (text : List ℕ) (x y : SpecLexeme) (r s : List ℕ) → IsNumber text x r → IsNumber text y s → Same x y r s
 one_numeral text x y r s h g =
-    let k = the_one_number h.0 g.0 h.1 g.1 text r s h.2 g.2 in
+    let k = one_number h.0 g.0 h.1 g.1 text r s h.2 g.2 in
     (h.3 ∙ ap (λ m. numeral_lexeme m h.1) k.0 ∙ ap (numeral_lexeme g.0) k.1 ∙ sym g.3, k.2)
 
 one_pattern : (text : List ℕ) (x y : SpecLexeme) (r s : List ℕ) → IsPattern text x r → IsPattern text y s → Same x y r s
@@ -125,7 +119,7 @@ FaultOf s.Punctuator = IsStray
 
 of_ordinary : (goal : LexicalGoal) (text : List ℕ) (x : SpecLexeme) (rest : List ℕ) → IsWord text x rest ⊎ (IsNumber text x rest ⊎ IsQuoted text x rest) → IsOf (sort goal text) text x rest
 of_ordinary goal text x rest (inl h) = subst (λ k. IsOf k text x rest) (sym (sort_word goal text (word_begins text h.0 rest h.2))) h
-of_ordinary goal text x rest (inr (inl h)) = subst (λ k. IsOf k text x rest) (sym (sort_number goal text (number_begins h.0 h.1 text rest h.2))) h
+of_ordinary goal text x rest (inr (inl h)) = subst (λ k. IsOf k text x rest) (sym (sort_number goal text (numeral_starts h.0 h.1 text rest h.2))) h
 of_ordinary goal text x rest (inr (inr h)) = subst (λ k. IsOf k text x rest) (sym (sort_string goal text (string_begins h.0 h.2 text rest h.3))) h
 
 of_sort : (goal : LexicalGoal) (text : List ℕ) (x : SpecLexeme) (rest : List ℕ) → IsOutside goal text x rest → IsOf (sort goal text) text x rest
@@ -175,9 +169,9 @@ read_by : (end : ℕ) (goal : LexicalGoal) (c : ℕ) (cs : List ℕ) (k : Sort) 
     → ReadsAs (IsOf k) (FaultOf k end (c ∷ cs)) (c ∷ cs) r → ReadsAs (IsOutside goal) (IsOutsideFault end goal (c ∷ cs)) (c ∷ cs) r
 read_by end goal c cs k e (Ok l) h = outside_of goal c cs k (subst (Holds goal c cs) e (holds goal c cs)) _ _ h
 read_by end goal c cs k e (Err f) h = λ m. (
-    λ x rest g. (h m).0 x rest (subst (λ j. IsOf j (c ∷ cs) x rest) e (of_sort goal (c ∷ cs) x rest g)),
-    outside_fault end goal c cs k (subst (Holds goal c cs) e (holds goal c cs)) f (h m).1,
-  )
+  λ x rest g. (h m).0 x rest (subst (λ j. IsOf j (c ∷ cs) x rest) e (of_sort goal (c ∷ cs) x rest g)),
+  outside_fault end goal c cs k (subst (Holds goal c cs) e (holds goal c cs)) f (h m).1,
+)
 
 pub read_sort : (end : ℕ) (goal : LexicalGoal) (text : List ℕ) (c : ℕ) (cs : List ℕ) → text ≡ c ∷ cs → (k : Sort) → sort_by goal c cs ≡ k → (r : Result Lexeme Error)
     → ReadsAs (IsOf k) (FaultOf k end text) text r → ReadsAs (IsOutside goal) (IsOutsideFault end goal text) text r

@@ -1,7 +1,7 @@
 -- How each sort of token begins.
-use Rattle.std.proofs.Common.{◌≡◌, ℕ, ◌<◌, ◌≤◌, ◌⊎◌, inl, inr, ⊎_elim, Bool, true, false, not, ◌&&◌, ◌||◌, cond, List, [], ◌∷◌, ◌++◌, refl, sym, ap, subst, ◌∙◌, arith}
+use Rattle.std.proofs.Common.{◌≡◌, ℕ, ◌<◌, ◌≤◌, inl, inr, ⊎_elim, Bool, true, false, not, ◌&&◌, ◌||◌, List, [], ◌∷◌, ◌++◌, refl, sym, ap, subst, ◌∙◌, arith}
 use Rattle.std.specs.Char.{is_ascii}
-use Rattle.std.specs.Prelude.{◌==◌, nat_lt, Option, Some, None}
+use Rattle.std.specs.Prelude.{◌==◌, nat_lt, Some, None}
 use Rattle.std.proofs.Math.Bool.{or-true}
 use Rattle.std.proofs.lemmas.Bool.{cases_Bool, false≢true, and_parts, eqb-true, not-true}
 use Rattle.std.proofs.lemmas.Bool.Decides.{nat_tests}
@@ -19,7 +19,6 @@ use Rattle.ecma_literal.specs.Escapes.{begins, is_decimal}
 use Rattle.ecma_literal.specs.Numbers.{is_number_start}
 use Rattle.ecma_literal.specs.Strings.{SpellsString, is_quote}
 use Rattle.ecma_lexeme.specs.declared.goal.LexicalGoal.{LexicalGoal}
-use Rattle.ecma_lexeme.specs.declared.goal.LexicalGoal.TheVariants.{RegExp}
 use Rattle.ecma_lexeme.specs.declared.sort.Sort.{Sort}
 use Rattle.ecma_lexeme.specs.declared.sort.Sort.TheVariants as s
 use Rattle.ecma_lexeme.specs.Marks.{is_mark}

@@ -1,15 +1,14 @@
 -- What was read of each sort, as a token.
-use Rattle.std.proofs.Common.{◌≡◌, ◌≢◌, ℕ, ◌⊎◌, inl, inr, ⊎_elim, Bool, true, false, ◌&&◌, ◌||◌, List, [], ◌∷◌, ◌++◌, length, refl, sym, ap, subst, ◌∙◌, arith, IsUtf8, IsCharBoundary}
-use Rattle.std.specs.Prelude.{◌==◌, ◌≤◌, Option, Some, None, Result, Ok, Err, MatchOption, MatchResult, IfSome, encode_utf8_all, string_bytes}
+use Rattle.std.proofs.Common.{◌≡◌, ◌≢◌, ℕ, Bool, true, false, ◌||◌, List, [], ◌∷◌, ◌++◌, length, refl, sym, ap, subst, ◌∙◌, IsUtf8, IsCharBoundary}
+use Rattle.std.specs.Prelude.{◌==◌, Option, Some, None, Result, Ok, Err, MatchOption, MatchResult, IfSome, encode_utf8_all, string_bytes}
 use Rattle.std.specs.Str.{chars}
 use Rattle.std.proofs.Math.Bool.{or-true}
 use Rattle.std.proofs.Math.Utf8.{encodes, scalars}
-use Rattle.std.proofs.lemmas.Bool.{and_parts, cases_Bool, false≢true}
+use Rattle.std.proofs.lemmas.Bool.{and_parts, false≢true}
 use Rattle.std.proofs.lemmas.Str.{encodes-chars, chars-encodes, encodes-append, IsCharBoundary-at_seam}
 use Rattle.ecma_token.specs.TokenViews.{cooked_units}
 use Rattle.ecma_token.specs.declared.error.Error.{Error}
 use Rattle.ecma_token.specs.declared.error.SyntaxError.{SyntaxError}
-use Rattle.ecma_token.specs.declared.error.SyntaxError.TheVariants.{Memory}
 use Rattle.ecma_scan.proofs.NameLemmas.{backslash, part_of}
 use Rattle.ecma_scan.proofs.TriviaLemmas.{one_run}
 use Rattle.ecma_scan.specs.declared.names.Name.{Name}

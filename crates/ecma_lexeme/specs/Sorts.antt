@@ -1,5 +1,5 @@
 -- How each sort of token begins: no two begin alike under one goal.
-use Rattle.std.specs.Prelude.{◌≡◌, ℕ, Bool, true, false, not, ◌&&◌, ◌==◌, List, [], ◌∷◌, Option, Some, None, if◌then◌else◌}
+use Rattle.std.specs.Prelude.{ℕ, Bool, true, false, not, ◌&&◌, ◌==◌, List, [], ◌∷◌, Option, Some, None, if◌then◌else◌}
 use Rattle.ecma_scan.specs.declared.bytes.ByteClass.{ByteClass}
 use Rattle.ecma_scan.specs.declared.bytes.ByteClass.TheVariants.{NameStart, Backslash, Digit, Quote}
 use Rattle.ecma_scan.specs.Names.{is_opening}
@@ -7,7 +7,7 @@ use Rattle.ecma_literal.specs.Escapes.{is_decimal}
 use Rattle.ecma_literal.specs.Numbers.{is_number_start}
 use Rattle.ecma_literal.specs.Strings.{is_quote}
 use Rattle.ecma_lexeme.specs.declared.goal.LexicalGoal.{LexicalGoal}
-use Rattle.ecma_lexeme.specs.declared.goal.LexicalGoal.TheVariants.{Div, RegExp, TemplateTail, TemplateEnd}
+use Rattle.ecma_lexeme.specs.declared.goal.LexicalGoal.TheVariants.{RegExp}
 use Rattle.ecma_lexeme.specs.declared.sort.Sort.{Sort}
 use Rattle.ecma_lexeme.specs.declared.sort.Sort.TheVariants as s
 

@@ -10,7 +10,9 @@ ghost use Rattle.ecma_lexeme.specs.Lexemes as spec;
 ghost use Rattle.ecma_lexeme.specs.Readings.{BeginsWith, ReadsAs, ReadsLexeme, lexeme_view};
 
 use crate::lexeme::{Lexeme, plain, stray};
-use ecma_literal::{Numeral, NumericLiteral, StringLiteral, read_number, read_string, read_template};
+use ecma_literal::{
+    Numeral, NumericLiteral, StringLiteral, read_number, read_string, read_template,
+};
 use ecma_scan::characters::pop;
 use ecma_scan::regular_expression;
 use ecma_token::{Error, SyntaxError, Token};

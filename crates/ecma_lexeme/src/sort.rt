@@ -38,14 +38,7 @@ fn opens_pattern(goal: LexicalGoal, c: char) -> bool
 }
 
 /// The sort of what a punctuator may begin with, before this rest.
-#[tactic(
-    auto,
-    using(
-        crate::proofs::SortLemmas::dot_sort,
-        crate::proofs::SortLemmas::pattern_sort,
-        crate::proofs::SortLemmas::mark_sort
-    )
-)]
+#[tactic(auto, using(crate::proofs::SortLemmas::dot_sort, crate::proofs::SortLemmas::pattern_sort, crate::proofs::SortLemmas::mark_sort))]
 fn sort_of_mark(goal: LexicalGoal, c: char, rest: &str) -> Sort
     requires { begins_mark c ≡ true }
     ensures { result ≡ sort_by goal c (chars rest.now) }
@@ -60,13 +53,7 @@ fn sort_of_mark(goal: LexicalGoal, c: char, rest: &str) -> Sort
 }
 
 /// The sort that a character past ASCII begins.
-#[tactic(
-    auto,
-    using(
-        crate::proofs::SortLemmas::word_past_ascii,
-        crate::proofs::SortLemmas::nothing_past_ascii
-    )
-)]
+#[tactic(auto, using(crate::proofs::SortLemmas::word_past_ascii, crate::proofs::SortLemmas::nothing_past_ascii))]
 fn sort_past_ascii(goal: LexicalGoal, c: char, rest: &str) -> Sort
     requires { 128 ≤ c }
     ensures { result ≡ sort_by goal c (chars rest.now) }

@@ -1,9 +1,9 @@
 -- The longest front that is a number is read as the numeric literal that the definition has.
-use Rattle.std.proofs.Common.{◌≡◌, ℕ, suc, ◌<◌, ◌≤◌, true, false, List, [], ◌∷◌, ◌++◌, append-nil, append_assoc, length, length-append, refl, sym, ap, subst, ◌∙◌, arith}
-use Rattle.std.specs.Prelude.{◌&&◌, ◌==◌, Option, Some, None, codes}
+use Rattle.std.proofs.Common.{◌≡◌, ℕ, suc, ◌<◌, ◌≤◌, cond, true, false, List, [], ◌∷◌, ◌++◌, append-nil, append_assoc, length, length-append, refl, sym, ap, subst, ◌∙◌, arith}
+use Rattle.std.specs.Prelude.{◌&&◌, ◌||◌, ◌==◌, Option, Some, None, codes}
 use Rattle.std.specs.Str.{IsAscii}
-use Rattle.std.proofs.lemmas.Bool.{false≢true}
-use Rattle.std.proofs.lemmas.Bool.Decides.{nat_tests}
+use Rattle.std.proofs.lemmas.Bool.{false≢true, and_parts}
+use Rattle.std.proofs.lemmas.Bool.Decides.{nat_tests, Decides-eqb}
 use Rattle.std.proofs.lemmas.List.{append_cancel_right}
 use Rattle.ecma_number.specs.Numbers.{SpecNumber, number_of, plain, prefix_radix, past_first, spells_digits}
 use Rattle.ecma_scan.specs.Runs.{Ends}
@@ -359,3 +359,49 @@ started (c ∷ cs) own rest q f h =
         let long : 2 ≤ length own = longest (s.Fraction true) (c ∷ x ∷ []) ds refl (rw (z, d, i, first) refl) refl in
         omega arith)
         (λ i. absurd (false≢true (rw i at e)))
+
+-- ---- how a literal begins
+
+start_one : (c : ℕ) (ys : List ℕ) → is_number_start (c ∷ []) ≡ true → is_number_start (c ∷ ys) ≡ true
+start_one c ys h = by_test (is_decimal c) (is_number_start (c ∷ ys) ≡ true)
+    (λ d. rw d refl)
+    (λ d. let k : (c == 46 && false) ≡ true = sym (ap (λ b. b || (c == 46 && false)) d) ∙ h in absurd (false≢true (and_parts (c == 46) false k).1))
+
+start_more : (xs ys : List ℕ) → is_number_start xs ≡ true → is_number_start (xs ++ ys) ≡ true
+start_more [] ys h = absurd (false≢true h)
+start_more (c ∷ []) ys h = start_one c ys h
+start_more (c ∷ d ∷ ds) ys h = h
+
+-- behind a dot alone
+dot_first : (cs : List ℕ) (p : State) → reach (s.Fraction false) cs ≡ Some p → is_whole p ≡ true → begins is_decimal cs ≡ true
+unfolding step
+dot_first [] p h w = let same : s.Fraction false ≡ p = some_is h in absurd (false≢true (ap is_whole same ∙ w))
+dot_first (d ∷ ds) p h w = by_test (is_decimal d) (is_decimal d ≡ true) (λ e. e)
+    (λ e. let k : None ≡ Some p = sym (ap (λ b. by_next (cond b (Some (s.Fraction true)) None) None (λ q. reach q ds)) e) ∙ h in none_some k)
+
+reached_start : (own : List ℕ) (p : State) → reach s.Start own ≡ Some p → is_whole p ≡ true → is_number_start own ≡ true
+unfolding step
+reached_start [] p h w = let same : s.Start ≡ p = some_is h in absurd (false≢true (ap is_whole same ∙ w))
+reached_start (c ∷ cs) p h w = by_test (is_decimal c) (is_number_start (c ∷ cs) ≡ true)
+    (λ d. rw d refl)
+    (λ d. by_test (c == 46) (is_number_start (c ∷ cs) ≡ true)
+    (λ e.
+    let at : c ≡ 46 = (Decides-eqb c 46).0 e in
+    let k : reach (s.Fraction false) cs ≡ Some p = subst (λ x. reach s.Start (x ∷ cs) ≡ Some p) at h in
+    rw (d, e) (dot_first cs p k w))
+    (λ e.
+    let z : (c == 48) ≡ false = grind (arith, nat_tests) in
+    let k : None ≡ Some p = sym (stops z d e) ∙ h in none_some k))
+  where
+    stops : (c == 48) ≡ false → is_decimal c ≡ false → (c == 46) ≡ false → by_next (step s.Start c) None (λ q. reach q cs) ≡ None
+    stops z d e = rw (z, d, e) refl
+
+-- a literal begins with a digit, or with a dot and a digit
+pub numeral_starts : (m : Meaning) (own text rest : List ℕ) → SpellsNumeral m own text rest → is_number_start text ≡ true
+numeral_starts (Number value) own text rest h =
+    let r = number_reached own value h.spelled in
+    rw h.parts (start_more own rest (reached_start own r.state r.there r.holds))
+numeral_starts (BigInt radix digits) own text rest h =
+    let t = h.spelled.0 in
+    let r = big_reached t digits radix h.spelled.2 in
+    rw h.parts (rw h.spelled.1 (start_more (t ++ 110 ∷ []) rest (start_more t (110 ∷ []) (reached_start t r.state r.there (big_is_whole r.state radix r.holds)))))

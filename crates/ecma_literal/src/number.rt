@@ -262,7 +262,7 @@ fn read_big<'a>(
     requires shorter { length rest.now < length text.now }
     requires within { length text.now < end }
     ensures number { spec.ReadsNumber end (chars text.now) result }
-    ensures rest { IfOk result (λ n. IsUtf8 n.rest.now × (length n.rest.now < length text.now)) }
+    ensures rest { IfOk result (λ n. IsUtf8 n.raw.now × IsUtf8 n.rest.now × (length n.rest.now < length text.now)) }
 {
     if bars(rest) {
         return Err(barred_next(end, rest));
@@ -294,7 +294,7 @@ fn read_plain<'a>(
     requires shorter { length rest.now < length text.now }
     requires within { length text.now < end }
     ensures number { spec.ReadsNumber end (chars text.now) result }
-    ensures rest { IfOk result (λ n. IsUtf8 n.rest.now × (length n.rest.now < length text.now)) }
+    ensures rest { IfOk result (λ n. IsUtf8 n.raw.now × IsUtf8 n.rest.now × (length n.rest.now < length text.now)) }
 {
     if bars(rest) {
         return Err(number_fault(end, text, state, own, rest));
@@ -325,7 +325,7 @@ pub fn read_number(alloc: Global, text: &str, end: u32) -> Result<NumericLiteral
     requires starts { spec.is_number_start (chars text.now) ≡ true }
     requires within { length text.now < end }
     ensures number { spec.ReadsNumber end (chars text.now) result }
-    ensures rest { IfOk result (λ n. IsUtf8 n.rest.now × (length n.rest.now < length text.now)) }
+    ensures rest { IfOk result (λ n. IsUtf8 n.raw.now × IsUtf8 n.rest.now × (length n.rest.now < length text.now)) }
 {
     let (state, own, rest) = split_number(text);
     match big_rest(state, rest) {

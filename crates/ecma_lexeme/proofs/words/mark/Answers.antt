@@ -10,10 +10,10 @@ mark_token-requires c = mark_is (chars c.args.text.now) c.in-Some.kind (chars c.
 
 pub returns-in-Some-clause-mark : goal.returns-in-Some-clause-mark
 returns-in-Some-clause-mark c = (
-    c.in-Some.kind,
-    subst (λ l. IsPunctuator (chars c.args.text.now) c.in-Some.kind (chars l)) (sym c.plain.ensures.rest) c.in-Some.ensures.punctuator,
-    c.plain.ensures.view ∙ ap plain c.mark_token.ensures,
-  )
+  c.in-Some.kind,
+  subst (λ l. IsPunctuator (chars c.args.text.now) c.in-Some.kind (chars l)) (sym c.plain.ensures.rest) c.in-Some.ensures.punctuator,
+  c.plain.ensures.view ∙ ap plain c.mark_token.ensures,
+)
 
 pub returns-in-None-clause-mark : goal.returns-in-None-clause-mark
 returns-in-None-clause-mark c = λ m. (λ x rest g. c.in-None.ensures.punctuator g.0 rest g.1, c.stray.ensures)

@@ -23,6 +23,6 @@ returns-clause-number c = (
   big_found (chars c.args.text.now) c.args.own.now (chars c.before-2.result.now) (chars c.args.rest.now) (cow_str_bytes c.in-Ok.digits) c.args.state c.args.radix
       c.requires.front c.requires.big (sym c.bars.ensures ∙ c.if-bars.false)
       (c.in-Ok.ensures ∙ ap plain c.behind_prefix.ensures ∙ ap (λ (l : List ℕ). plain (behind_prefix (prefix_radix l) l)) c.requires.own)
-      c.before-2.ensures,
+      c.before-2.ensures.cut,
   refl,
 )

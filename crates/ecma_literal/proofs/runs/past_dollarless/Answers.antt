@@ -11,8 +11,8 @@ at text bytes n u same e =
     cut_stops 96 92 36 (omega arith) (omega arith) (omega arith) text n u (e ∙ ap (prefix_len (passes 96 92 36)) same)
 
 pub split_at-requires : goal.split_at-requires
-split_at-requires c = (at c.args.text.now c.as_bytes.result.now c.stop_len.result c.utf8.text c.as_bytes.ensures.value c.stop_len.ensures).boundary
+split_at-requires c = (at c.args.text.now c.as_bytes.result.now c.bare_len.result c.utf8.text c.as_bytes.ensures.value c.bare_len.ensures).boundary
 
 pub returns-clause-after : goal.returns-clause-after
 returns-clause-after c =
-    ap chars c.split_at.ensures.back ∙ (at c.args.text.now c.as_bytes.result.now c.stop_len.result c.utf8.text c.as_bytes.ensures.value c.stop_len.ensures).left
+    ap chars c.split_at.ensures.back ∙ (at c.args.text.now c.as_bytes.result.now c.bare_len.result c.utf8.text c.as_bytes.ensures.value c.bare_len.ensures).left
