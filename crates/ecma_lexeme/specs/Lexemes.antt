@@ -1,17 +1,19 @@
 -- One token at the front of a text, under a lexical goal (ECMA-262, clause 12).
-use Rattle.std.specs.Prelude.{◌≡◌, ◌≢◌, ℕ, Bool, true, false, ◌&&◌, ◌⊎◌, List, [], ◌∷◌, ◌++◌, Option, Some, None, encode_utf8_all}
+use Rattle.std.specs.Prelude.{◌≡◌, ◌≢◌, ℕ, Bool, true, false, ◌&&◌, ◌⊎◌, List, [], ◌∷◌, ◌++◌, if◌then◌else◌, Option, Some, None, encode_utf8_all}
+use Rattle.ecma_token.specs.declared.context.Context.{Context}
 use Rattle.ecma_token.specs.declared.error.Error.{Error}
 use Rattle.ecma_token.specs.declared.error.SyntaxError.{SyntaxError}
-use Rattle.ecma_token.specs.declared.error.SyntaxError.TheVariants.{LegacyOctal, UnexpectedChar, UnterminatedTpl}
+use Rattle.ecma_token.specs.declared.error.SyntaxError.TheVariants.{EscapeInReservedWord, LegacyOctal, UnexpectedChar, UnterminatedTpl}
 use Rattle.ecma_token.specs.declared.token.TokenKind.{TokenKind}
 use Rattle.ecma_token.specs.Kinds.{back_quote_kind, big_int_kind, dollar_brace_kind, num_kind, regex_kind, str_kind, template_kind}
-use Rattle.ecma_token.specs.Tokens.{SpecToken, bare, word_token, BigNumeral, Numeral, Pattern, Quoted, Piece}
+use Rattle.ecma_token.specs.Tokens.{Content, SpecToken, bare, word_token, BigNumeral, Named, Numeral, Pattern, Quoted, Piece}
 use Rattle.ecma_token.specs.TokenViews.{token_kind_number}
 use Rattle.ecma_token.specs.Words.{word_of}
 use Rattle.ecma_scan.specs.Names.{IsName, IsNameFault}
 use Rattle.ecma_scan.specs.Places.{IsAt}
 use Rattle.ecma_scan.specs.Punctuators.{IsPunctuator}
 use Rattle.ecma_scan.specs.RegExps.{IsRegExp, IsRegExpFault}
+use Rattle.ecma_scan.specs.Words.{is_escaped_reserved}
 use Rattle.ecma_literal.specs.declared.template.Ending.{Ending}
 use Rattle.ecma_literal.specs.declared.template.Ending.TheVariants.{BackQuote, Substitution}
 use Rattle.ecma_literal.specs.Escapes.{begins}
@@ -133,6 +135,20 @@ IsLexeme TemplateEnd text x rest = IsEnd text x rest
 -- At most one token stands at the front of a text under one goal.
 abbrev pub OneLexeme : LexicalGoal → List ℕ → Type 0
 OneLexeme goal text = (x y : SpecLexeme) (r s : List ℕ) → IsLexeme goal text x r → IsLexeme goal text y s → (x ≡ y) × (r ≡ s)
+
+-- ---- what a context has against a token
+
+-- the text of a word, and none of any other token
+abbrev pub text_in : Content → List ℕ
+text_in (Named text) = text
+text_in _ = []
+
+-- The fault that a context has with the spelling of a token: that of a reserved word with an escape (12.7.2), and in strict code that of
+-- an old form (12.9.3.1, 12.9.4.1).
+abbrev pub fault_in : Context → SpecLexeme → Option SyntaxError
+fault_in context x =
+    if is_escaped_reserved context (text_in x.token.content) x.escaped then Some EscapeInReservedWord
+    else (if context.strict then x.legacy else None)
 
 -- ---- faults
 

@@ -6,8 +6,9 @@ ghost use Rattle.ecma_token.specs.TokenViews.{token_view};
 ghost use Rattle.ecma_lexeme.specs.Lexemes as spec;
 ghost use Rattle.ecma_lexeme.specs.Readings.{lexeme_view};
 
-use ecma_scan::trivia::fault;
-use ecma_token::{Error, SyntaxError, Token};
+use ecma_scan::place::fault;
+use ecma_scan::words::is_escaped_reserved;
+use ecma_token::{Context, Error, SyntaxError, Token};
 
 /// A token at the front of a text.
 #[derive(Debug, Drop)]
@@ -20,6 +21,24 @@ pub struct Lexeme<'a> {
     pub legacy: Option<SyntaxError>,
     /// The text behind it.
     pub rest: &'a str,
+}
+
+impl Lexeme<'_> {
+    ghost use Rattle.ecma_lexeme.specs.Lexemes.{fault_in};
+
+    /// The fault that code of this context has with the spelling, if any: `EscapeInReservedWord` of a
+    /// reserved word with an escape, which stands only where every word may, and in strict code that of
+    /// an old form (ECMA-262, 12.7.2, 12.9.3.1 and 12.9.4.1).
+    pub fn fault_in(&self, context: Context) -> Option<SyntaxError>
+        ensures { result ≡ fault_in context (lexeme_view self.now) }
+    {
+        if let Token::Word(word) = &self.token
+            && is_escaped_reserved(context, word, self.escaped)
+        {
+            return Some(SyntaxError::EscapeInReservedWord);
+        }
+        if context.strict { self.legacy } else { None }
+    }
 }
 
 /// A token that any code may have.

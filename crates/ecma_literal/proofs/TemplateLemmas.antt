@@ -14,7 +14,8 @@ use Rattle.ecma_literal.specs.declared.escape.Escape.TheVariants.{Continuation, 
 use Rattle.ecma_literal.specs.declared.template.Ending.{Ending}
 use Rattle.ecma_literal.specs.declared.template.Ending.TheVariants.{BackQuote, Substitution}
 use Rattle.ecma_literal.specs.Escapes.{begins, is_line_feed, IsEscape}
-use Rattle.ecma_literal.specs.Places.{EndsWith, IsAt}
+use Rattle.ecma_scan.specs.Places.{IsAt}
+use Rattle.ecma_literal.specs.Places.{EndsWith}
 use Rattle.ecma_literal.specs.Reading.{escape_at}
 use Rattle.ecma_literal.specs.Units.{escape_units, is_legacy, CodeFits}
 use Rattle.ecma_literal.specs.Templates.{Part, Bare, Break, Escaped, Bad, Stands, Parts, part_units, is_bad, Ends, SpellsPiece, NoPiece, IsBadEscape, IsFirstBad, OnePiece, is_bare, is_brace, bare_run, after_bare}

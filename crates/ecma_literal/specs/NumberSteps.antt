@@ -7,14 +7,17 @@ use Rattle.ecma_literal.specs.declared.number_state.State.{State}
 use Rattle.ecma_literal.specs.declared.number_state.State.TheVariants as s
 use Rattle.ecma_literal.specs.Escapes.{is_decimal, is_octal}
 
+-- the number of a radix
 abbrev pub radix_value : Radix → ℕ
 radix_value Binary = 2
 radix_value Octal = 8
 radix_value Hexadecimal = 16
 
+-- the state that follows, where a number may go on so
 abbrev pub Next : Type 0
 Next = Option State
 
+-- ExponentIndicator
 abbrev pub is_e : ℕ → Bool
 is_e c = c == 101 || c == 69
 
@@ -26,12 +29,14 @@ step_prefix c =
     else (if c == 98 || c == 66 then Some (s.Prefixed Binary false)
     else None))
 
+-- where an exponent may begin, and behind an integer
 abbrev pub step_exponent : ℕ → Next
 step_exponent c = if is_e c then Some s.Mark else None
 
 abbrev pub step_point : ℕ → Next
 step_point c = if c == 46 then Some s.Point else step_exponent c
 
+-- behind nothing, behind a 0 and octal digits, and behind a 0
 abbrev pub step_start : ℕ → Next
 step_start c =
     if c == 48 then Some s.Zero else (if is_decimal c then Some (s.Integer true) else (if c == 46 then Some (s.Fraction false) else None))
@@ -43,6 +48,7 @@ abbrev pub step_zero : ℕ → Next
 step_zero c =
     if is_decimal c then step_octal c else (if c == 46 then Some s.Point else (if is_e c then Some s.Mark else step_prefix c))
 
+-- behind the digits of an integer
 abbrev pub step_legacy_decimal : ℕ → Next
 step_legacy_decimal c = if is_decimal c then Some s.LegacyDecimal else step_point c
 
@@ -51,6 +57,7 @@ step_integer behind_digit c =
     if is_decimal c then Some (s.Integer true)
     else (if behind_digit then (if c == 95 then Some (s.Integer false) else step_point c) else None)
 
+-- behind the point of an integer, and behind the digits of a fraction
 abbrev pub step_behind_point : ℕ → Next
 step_behind_point c = if is_decimal c then Some (s.Fraction true) else step_exponent c
 
@@ -59,6 +66,7 @@ step_fraction behind_digit c =
     if is_decimal c then Some (s.Fraction true)
     else (if behind_digit then (if c == 95 then Some (s.Fraction false) else step_exponent c) else None)
 
+-- behind the `e`, and behind the sign and the digits of an exponent
 abbrev pub step_mark : ℕ → Next
 step_mark c = if is_decimal c then Some (s.Exponent true) else (if c == 43 || c == 45 then Some (s.Exponent false) else None)
 
@@ -66,6 +74,7 @@ abbrev pub step_power : Bool → ℕ → Next
 step_power behind_digit c =
     if is_decimal c then Some (s.Exponent true) else (if behind_digit then (if c == 95 then Some (s.Exponent false) else None) else None)
 
+-- behind a prefix and digits
 abbrev pub step_prefixed : Radix → Bool → ℕ → Next
 step_prefixed radix behind_digit c =
     if is_digit c (radix_value radix) then Some (s.Prefixed radix true)
@@ -108,13 +117,16 @@ big_radix _ = None
 abbrev pub Last : Type 0
 Last = State × List ℕ
 
+-- a value for no state that follows, or from that state
 abbrev pub by_next : {A : Type 0} → Next → A → (State → A) → A
 by_next None none more = none
 by_next (Some q) none more = more q
 
+-- the last number, where this state may be one
 abbrev pub kept : State → List ℕ → Last → Last
 kept q cs last = if is_whole q then (q, cs) else last
 
+-- the last number that is read from a state on
 unfoldable pub scan : State → Last → List ℕ → Last
 scan q last [] = last
 scan q last (c ∷ cs) = by_next (step q c) last (λ p. scan p (kept p cs last) cs)

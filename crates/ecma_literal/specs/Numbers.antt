@@ -12,7 +12,7 @@ use Rattle.ecma_literal.specs.declared.number.Numeral.{Numeral}
 use Rattle.ecma_literal.specs.declared.number.Numeral.TheVariants as n
 use Rattle.ecma_literal.specs.declared.number.NumericLiteral.{NumericLiteral}
 use Rattle.ecma_literal.specs.Escapes.{begins, is_decimal}
-use Rattle.ecma_literal.specs.Places.{IsAt}
+use Rattle.ecma_scan.specs.Places.{IsAt}
 
 -- what a numeric literal stands for: a number, or a big integer, by its radix and its digits
 pub data Meaning : Type 0 where
@@ -73,6 +73,7 @@ Flaw = SyntaxError × List ℕ × List ℕ
 abbrev pub IsFlaw : ℕ → Flaw → Error → Type 0
 IsFlaw end x e = (e.kind ≡ x.0) × IsAt end x.1 x.2 e.span
 
+-- BigIntLiteralSuffix, NumericLiteralSeparator, the letters of prefixes and the ExponentIndicator
 abbrev pub is_n : ℕ → Bool
 is_n c = c == 110
 
@@ -85,15 +86,17 @@ is_prefix_letter c = is_mark 120 c || (is_mark 111 c || is_mark 98 c)
 abbrev pub is_exponent_mark : ℕ → Bool
 is_exponent_mark c = is_mark 101 c
 
+-- `0` alone
 abbrev pub is_zero : List ℕ → Bool
 is_zero [] = false
 is_zero (c ∷ cs) = c == 48 && none_left cs
 
+-- whether there is something
 abbrev pub is_some : {A : Type 0} → Option A → Bool
 is_some None = false
 is_some (Some x) = true
 
--- whether an exponent may stand behind the number: with `e0` it is one, too
+-- whether an exponent may stand behind the number: with `e0` it is one, too (hexadecimal digits leave no `e` behind them)
 abbrev pub takes_exponent : List ℕ → Bool
 takes_exponent own = is_some (number_of (own ++ codes "e0"))
 

@@ -9,7 +9,7 @@ use Rattle.ecma_scan.specs.Characters.{is_line_break}
 use Rattle.ecma_literal.specs.declared.escape.Escape.{Escape}
 use Rattle.ecma_literal.specs.declared.string.StringLiteral.{StringLiteral}
 use Rattle.ecma_literal.specs.Escapes.{begins, IsEscape, NoEscape, bad_escape}
-use Rattle.ecma_literal.specs.Places.{IsAt}
+use Rattle.ecma_scan.specs.Places.{IsAt}
 use Rattle.ecma_literal.specs.Units.{escape_units, is_legacy}
 
 -- the quotes of strings

@@ -11,7 +11,7 @@ use Rattle.ecma_literal.specs.declared.template.Ending.{Ending}
 use Rattle.ecma_literal.specs.declared.template.Ending.TheVariants.{BackQuote, Substitution}
 use Rattle.ecma_literal.specs.declared.template.TemplatePiece.{TemplatePiece}
 use Rattle.ecma_literal.specs.Escapes.{begins, is_line_feed, IsEscape, NoEscape, bad_escape}
-use Rattle.ecma_literal.specs.Places.{IsAt}
+use Rattle.ecma_scan.specs.Places.{IsAt}
 use Rattle.ecma_literal.specs.Units.{escape_units, is_legacy}
 
 -- TemplateCharacter: one that stands for itself, a line break that stands for LF, an escape, or a backslash and a

@@ -13,10 +13,11 @@ ghost use Rattle.ecma_literal.specs.Numbers as spec;
 ghost use Rattle.ecma_literal.specs.NumberSteps.{IsFront, is_whole, big_radix, exponent_follows};
 
 use crate::escape::begins_with_digit;
-use crate::number_state::{State, split_number};
-use crate::place::{before, fault, out_of_memory};
+use crate::number_state::{Front, State, split_number};
+use crate::place::before;
 use ecma_scan::CharExt;
 use ecma_scan::characters::pop;
+use ecma_scan::place::{fault, out_of_memory};
 use ecma_token::{Error, NumValue, SyntaxError};
 use memchr::memchr;
 use std::alloc::{AllocError, Global};
@@ -246,19 +247,18 @@ fn big_rest(state: State, rest: &str) -> Option<(u32, &str)>
     }
 }
 
-/// The big integer whose digits are the number `own`; `rest` follows its `n`.
+/// The big integer that an `n` behind this front makes; `rest` follows the `n`.
 fn read_big<'a>(
     alloc: Global,
     text: &'a str,
     end: u32,
-    state: State,
-    own: &'a str,
+    front: Front<'a>,
     radix: u32,
     rest: &'a str,
 ) -> Result<NumericLiteral<'a>, Error>
-    requires front { IsFront (chars text.now) state own.now (110 ∷ chars rest.now) }
-    requires own { chars own.now ≡ own.now }
-    requires big { big_radix state ≡ Some radix }
+    requires front { IsFront (chars text.now) front.state front.own.now (110 ∷ chars rest.now) }
+    requires own { chars front.own.now ≡ front.own.now }
+    requires big { big_radix front.state ≡ Some radix }
     requires shorter { length rest.now < length text.now }
     requires within { length text.now < end }
     ensures number { spec.ReadsNumber end (chars text.now) result }
@@ -267,7 +267,7 @@ fn read_big<'a>(
     if bars(rest) {
         return Err(barred_next(end, rest));
     }
-    let Ok(digits) = without_separators(alloc, behind_prefix(own)) else {
+    let Ok(digits) = without_separators(alloc, behind_prefix(front.own)) else {
         return Err(out_of_memory());
     };
     Ok(NumericLiteral {
@@ -278,24 +278,23 @@ fn read_big<'a>(
     })
 }
 
-/// The number `own`, which no `n` makes a big integer; `rest` follows it.
+/// The number of this front, which no `n` makes a big integer.
 fn read_plain<'a>(
     alloc: Global,
     text: &'a str,
     end: u32,
-    state: State,
-    own: &'a str,
-    rest: &'a str,
+    front: Front<'a>,
 ) -> Result<NumericLiteral<'a>, Error>
-    requires front { IsFront (chars text.now) state own.now (chars rest.now) }
-    requires own { chars own.now ≡ own.now }
-    requires whole { is_whole state ≡ true }
-    requires no_big { begins spec.is_n (chars rest.now) ≡ true → big_radix state ≡ None }
-    requires shorter { length rest.now < length text.now }
+    requires front { IsFront (chars text.now) front.state front.own.now (chars front.rest.now) }
+    requires own { chars front.own.now ≡ front.own.now }
+    requires whole { is_whole front.state ≡ true }
+    requires no_big { begins spec.is_n (chars front.rest.now) ≡ true → big_radix front.state ≡ None }
+    requires shorter { length front.rest.now < length text.now }
     requires within { length text.now < end }
     ensures number { spec.ReadsNumber end (chars text.now) result }
     ensures rest { IfOk result (λ n. IsUtf8 n.raw.now × IsUtf8 n.rest.now × (length n.rest.now < length text.now)) }
 {
+    let Front { state, own, rest } = front;
     if bars(rest) {
         return Err(number_fault(end, text, state, own, rest));
     }
@@ -327,9 +326,9 @@ pub fn read_number(alloc: Global, text: &str, end: u32) -> Result<NumericLiteral
     ensures number { spec.ReadsNumber end (chars text.now) result }
     ensures rest { IfOk result (λ n. IsUtf8 n.raw.now × IsUtf8 n.rest.now × (length n.rest.now < length text.now)) }
 {
-    let (state, own, rest) = split_number(text);
-    match big_rest(state, rest) {
-        Some((radix, behind)) => read_big(alloc, text, end, state, own, radix, behind),
-        None => read_plain(alloc, text, end, state, own, rest),
+    let front = split_number(text);
+    match big_rest(front.state, front.rest) {
+        Some((radix, rest)) => read_big(alloc, text, end, front, radix, rest),
+        None => read_plain(alloc, text, end, front),
     }
 }

@@ -286,15 +286,26 @@ fn scan(bytes: &[u8]) -> (State, &[u8])
     (last, behind)
 }
 
-/// The longest front of a text that is a number: what was read there, its text and what follows.
-pub(crate) fn split_number(text: &str) -> (State, &str, &str)
-    ensures front { IsFront (chars text.now) result.0 result.1.now (chars result.2.now) }
-    ensures whole { 0 < length result.1.now → steps.is_whole result.0 ≡ true }
-    ensures own { chars result.1.now ≡ result.1.now }
-    ensures text { IsUtf8 result.2.now }
-    ensures lengths { length result.1.now + length result.2.now ≡ length text.now }
+/// A front of a text that is a number.
+#[derive(Clone, Copy)]
+pub(crate) struct Front<'a> {
+    /// What was read there.
+    pub(crate) state: State,
+    /// Its text.
+    pub(crate) own: &'a str,
+    /// What follows it.
+    pub(crate) rest: &'a str,
+}
+
+/// The longest front of a text that is a number.
+pub(crate) fn split_number(text: &str) -> Front<'_>
+    ensures front { IsFront (chars text.now) result.state result.own.now (chars result.rest.now) }
+    ensures whole { 0 < length result.own.now → steps.is_whole result.state ≡ true }
+    ensures own { chars result.own.now ≡ result.own.now }
+    ensures text { IsUtf8 result.rest.now }
+    ensures lengths { length result.own.now + length result.rest.now ≡ length text.now }
 {
     let (state, behind) = scan(text.as_bytes());
     let (own, rest) = text.split_at(text.len() - behind.len());
-    (state, own, rest)
+    Front { state, own, rest }
 }

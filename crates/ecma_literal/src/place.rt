@@ -1,38 +1,8 @@
-//! Parts of a text and their places.
+//! The front of a text before a rest of it.
 
-ghost use Rattle.std.specs.Prelude.{◌≡◌, ◌++◌, ◌<◌, ◌≤◌, length, IsUtf8};
+ghost use Rattle.std.specs.Prelude.{◌≡◌, ◌++◌, IsUtf8};
 ghost use Rattle.std.specs.Str.{chars};
-ghost use Rattle.ecma_literal.specs.Places.{IsAt, EndsWith};
-ghost use Rattle.ecma_token.specs.declared.error.SyntaxError.TheVariants.{Memory};
-
-use ecma_token::{BytePos, DUMMY_SP, Error, Span, SyntaxError};
-
-/// A fault from where the first of these begins up to where the second begins. Both run to the end of
-/// the text, whose place is `end`.
-#[cold]
-pub(crate) fn fault(end: u32, from: &str, to: &str, kind: SyntaxError) -> Error
-    requires order { length to.now ≤ length from.now }
-    requires within { length from.now < end }
-    ensures kind { result.kind ≡ kind }
-    ensures place { IsAt end (chars from.now) (chars to.now) result.span }
-{
-    let span = Span {
-        lo: BytePos(end - from.len() as u32),
-        hi: BytePos(end - to.len() as u32),
-    };
-    Error { span, kind }
-}
-
-/// Want of memory.
-#[cold]
-pub(crate) fn out_of_memory() -> Error
-    ensures { result.kind ≡ Memory }
-{
-    Error {
-        span: DUMMY_SP,
-        kind: SyntaxError::Memory,
-    }
-}
+ghost use Rattle.ecma_literal.specs.Places.{EndsWith};
 
 /// What of a text comes before this rest of it.
 pub(crate) fn before<'a>(text: &'a str, rest: &str) -> &'a str

@@ -6,9 +6,10 @@ ghost use Rattle.ecma_literal.specs.Escapes.{begins};
 ghost use Rattle.ecma_literal.specs.Strings.{is_quote, ReadsString};
 
 use crate::escape::{push_escape, read_escape};
-use crate::place::{before, fault, out_of_memory};
+use crate::place::before;
 use crate::runs::split_plain;
 use ecma_scan::characters::pop;
+use ecma_scan::place::{fault, out_of_memory};
 use ecma_token::utf16::push_text;
 use ecma_token::{Error, SyntaxError, Units};
 use std::alloc::Global;

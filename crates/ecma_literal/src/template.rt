@@ -7,9 +7,10 @@ ghost use Rattle.ecma_literal.specs.Templates as spec;
 ghost use Rattle.ecma_literal.specs.TemplateSteps.{IsNext, RestOf};
 
 use crate::escape::{Escape, past_line_feed, push_escape, read_escape};
-use crate::place::{before, fault, out_of_memory};
+use crate::place::before;
 use crate::runs::split_bare;
 use ecma_scan::characters::pop;
+use ecma_scan::place::{fault, out_of_memory};
 use ecma_token::utf16::push_text;
 use ecma_token::{Error, SyntaxError, Units};
 use memchr::memchr;

@@ -1,5 +1,7 @@
 //! Tests of numbers.
 
+ghost use Rattle.std.specs.Prelude.{◌<◌, ◌^◌};
+
 use crate::plain_numbers::{Form, longest};
 use ecma_literal::{Numeral, NumericLiteral, begins_number, read_number};
 use ecma_scan::CharExt;
@@ -357,42 +359,103 @@ fn bars(c: char) -> bool {
     matches!(c, '0'..='9' | '\\') || c.is_ident_start()
 }
 
-/// What the plain reader makes of the text: the form and the length of the literal, or nothing.
-fn plain(rt: &impl Abort, text: &[char]) -> Option<(Form, usize)> {
+/// A fault: its kind, and the bytes from which and up to which it lies.
+type Fault = (SyntaxError, usize, usize);
+
+/// The fault where digits were to come at `to`.
+fn missing(kind: SyntaxError, to: usize, behind: &[char]) -> Fault
+    requires { to < 2 ^ 63 }
+{
+    match behind {
+        ['_', ..] => (
+            SyntaxError::NumericSeparatorIsAllowedOnlyBetweenTwoDigits,
+            to,
+            to + 1,
+        ),
+        _ => (kind, 0, to),
+    }
+}
+
+/// The fault of a literal before what may not follow it.
+fn fault_behind(form: Form, own: &[char], behind: &[char]) -> Fault {
+    let size = own.len();
+    match (form, own, behind) {
+        (_, ['0'], ['x' | 'X' | 'o' | 'O' | 'b' | 'B', rest @ ..]) => {
+            missing(SyntaxError::ExpectedDigit, size + 1, rest)
+        }
+        (Form::Decimal, _, ['e' | 'E', '+' | '-', rest @ ..]) => {
+            missing(SyntaxError::NumLitTerminatedWithExp, size + 2, rest)
+        }
+        (Form::Decimal, _, ['e' | 'E', rest @ ..]) => {
+            missing(SyntaxError::NumLitTerminatedWithExp, size + 1, rest)
+        }
+        (_, _, ['_', ..]) => (
+            SyntaxError::NumericSeparatorIsAllowedOnlyBetweenTwoDigits,
+            size,
+            size + 1,
+        ),
+        (_, _, ['\u{e9}', ..]) => (SyntaxError::IdentAfterNum, size, size + 2),
+        _ => (SyntaxError::IdentAfterNum, size, size + 1),
+    }
+}
+
+/// What the plain reader makes of the text: the form and the length of the literal, or its fault.
+fn plain(rt: &impl Abort, text: &[char]) -> Result<(Form, usize), Fault> {
     let found = longest(text);
     assert!(rt; found.is_some());
-    let (form, own, behind) = found?;
+    let Some((form, own, behind)) = found else {
+        return Err((SyntaxError::Memory, 0, 0));
+    };
     match behind {
-        [c, ..] if bars(*c) => None,
-        _ => Some((form, own.len())),
+        [c, ..] if bars(*c) => Err(fault_behind(form, own, behind)),
+        _ => Ok((form, own.len())),
     }
+}
+
+/// Compares a literal with its form and length.
+fn compare_literal(
+    rt: &impl Abort,
+    text: &str,
+    literal: &NumericLiteral<'_>,
+    form: Form,
+    size: usize,
+) {
+    assert_eq!(rt; literal.raw.len(), size, "{text}");
+    let radix = match &literal.value {
+        Numeral::Number(_) => None,
+        Numeral::BigInt { radix, .. } => Some(*radix),
+    };
+    let big = match form {
+        Form::Big(radix) => Some(radix),
+        _ => None,
+    };
+    assert_eq!(rt; radix, big, "{text}");
+    let octal = matches!(literal.legacy, Some(SyntaxError::LegacyOctal));
+    assert_eq!(rt; octal, form == Form::LegacyOctal, "{text}");
 }
 
 /// Compares the reader and the plain one at one text.
 fn compare(rt: &impl Abort, alloc: Global, text: &str) -> Result<(), Fail> {
     let characters: Vec<char> = text.chars().collect(alloc)?;
     let want = plain(rt, characters.as_slice());
-    let found = match read(alloc, text).ok_or("no number")? {
-        Ok(literal) => {
-            let radix = match &literal.value {
-                Numeral::Number(_) => None,
-                Numeral::BigInt { radix, .. } => Some(*radix),
-            };
-            Some((radix, literal.legacy, literal.raw.len()))
+    match (read(alloc, text).ok_or("no number")?, want) {
+        (Ok(literal), Ok((form, size))) => {
+            compare_literal(rt, text, &literal, form, size);
+            Ok(())
         }
-        Err(_) => None,
-    };
-    match (found, want) {
-        (None, None) => Ok(()),
-        (Some((radix, legacy, size)), Some((form, wanted))) => {
-            assert_eq!(rt; size, wanted, "{text}");
-            let big = match form {
-                Form::Big(radix) => Some(radix),
-                _ => None,
-            };
-            assert_eq!(rt; radix, big, "{text}");
-            let octal = matches!(legacy, Some(SyntaxError::LegacyOctal));
-            assert_eq!(rt; octal, form == Form::LegacyOctal, "{text}");
+        (Err(error), Err((kind, from, to))) => {
+            assert!(rt; error.kind == kind, "{text}");
+            let start = END - text.len().min(1000) as u32;
+            assert_eq!(rt;
+                error.span.lo.0.checked_sub(start),
+                u32::try_from(from).ok(),
+                "{text}"
+            );
+            assert_eq!(rt;
+                error.span.hi.0.checked_sub(start),
+                u32::try_from(to).ok(),
+                "{text}"
+            );
             Ok(())
         }
         _ => Err(Fail::from("one reader reads what the other does not")),

@@ -6,8 +6,9 @@ ghost use Rattle.ecma_scan.specs.Notes.{IsCollected, IsCollectedUpTo, IsNoteAt};
 ghost use Rattle.ecma_scan.specs.ReadingTrivia.{view};
 ghost use Rattle.ecma_scan.specs.declared.comments.Comment.{Comment};
 
-use crate::trivia::{Goal, Trivia, span, trivia_piece};
-use ecma_token::{DUMMY_SP, Error, Span, SyntaxError};
+use crate::place::{out_of_memory, span};
+use crate::trivia::{Goal, Trivia, trivia_piece};
+use ecma_token::{Error, Span};
 
 /// Whether a comment ends with its line or with its own mark.
 #[derive(Clone, Copy, Debug, PartialEq, Eq)]
@@ -32,10 +33,7 @@ fn keep<'a>(comments: &mut Vec<Comment<'a>>, comment: Comment<'a>) -> Result<(),
 {
     match comments.push(comment) {
         Ok(()) => Ok(()),
-        Err(_) => Err(Error {
-            span: DUMMY_SP,
-            kind: SyntaxError::Memory,
-        }),
+        Err(_) => Err(out_of_memory()),
     }
 }
 

@@ -8,6 +8,7 @@ pub mod comments;
 mod escapes;
 pub mod laws;
 pub mod names;
+pub mod place;
 pub mod punctuators;
 pub mod regexps;
 pub mod runs;

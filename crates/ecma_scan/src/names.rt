@@ -11,9 +11,9 @@ ghost use Rattle.ecma_scan.specs.Runs.{Ends};
 use crate::bytes::{ByteClass, byte_class};
 use crate::characters::{CharExt, first_byte, past_ascii, pop};
 use crate::escapes::digits;
+use crate::place::{fault, out_of_memory};
 use crate::runs::{split_name_part, strip};
-use crate::trivia::fault;
-use ecma_token::{DUMMY_SP, Error, SyntaxError};
+use ecma_token::{Error, SyntaxError};
 use std::alloc::Global;
 
 /// A name without its escapes.
@@ -61,15 +61,6 @@ fn escape<'a>(end: u32, first: bool, text: &str, rest: &'a str) -> Result<(char,
     Ok((c, after))
 }
 
-fn no_memory() -> Error
-    ensures { result.kind ≡ Memory }
-{
-    Error {
-        span: DUMMY_SP,
-        kind: SyntaxError::Memory,
-    }
-}
-
 /// Writes a character and a text.
 fn put(made: &mut String, c: char, more: &str) -> Result<(), Error>
     ensures put { OnOk result (string_bytes made.new ≡ string_bytes made.old ++ encode_utf8_all (c ∷ chars more.now)) }
@@ -77,11 +68,11 @@ fn put(made: &mut String, c: char, more: &str) -> Result<(), Error>
 {
     match made.push(c) {
         Ok(()) => {}
-        Err(_) => return Err(no_memory()),
+        Err(_) => return Err(out_of_memory()),
     }
     match made.push_str(more) {
         Ok(()) => Ok(()),
-        Err(_) => Err(no_memory()),
+        Err(_) => Err(out_of_memory()),
     }
 }
 
@@ -92,7 +83,7 @@ fn copied(alloc: Global, text: &str) -> Result<String, Error>
 {
     match String::from_str(alloc, text) {
         Ok(copy) => Ok(copy),
-        Err(_) => Err(no_memory()),
+        Err(_) => Err(out_of_memory()),
     }
 }
 

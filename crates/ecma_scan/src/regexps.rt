@@ -4,8 +4,8 @@ ghost use Rattle.std.specs.Str.{chars};
 ghost use Rattle.ecma_scan.specs.RegExps.{Goes, IsOpenSlash, IsRegExp, IsRegExpFault, NoRegExp, past_body, past_slash};
 
 use crate::characters::{CharExt, pop};
+use crate::place::fault;
 use crate::runs::{Class, skip_plain, split_line, split_name_part, strip};
-use crate::trivia::fault;
 use ecma_token::{Error, SyntaxError};
 
 /// A regular expression at the front of a text.

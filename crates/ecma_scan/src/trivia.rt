@@ -1,8 +1,6 @@
 //! Trivia at the front of a text: white space, line terminators and comments.
 ghost use Rattle.std.specs.Prelude.{◌≡◌, ◌<◌, ◌≤◌, length, option_map, IfOk, IfSome, IsUtf8, MatchOption, MatchResult};
 ghost use Rattle.std.specs.Str.{chars};
-ghost use Rattle.ecma_token.specs.declared.place.Span.{Span};
-ghost use Rattle.ecma_scan.specs.Places.{IsAt};
 ghost use Rattle.ecma_scan.specs.ReadingTrivia as reading;
 ghost use Rattle.ecma_scan.specs.ReadingTrivia.{Agrees, Found, view};
 ghost use Rattle.ecma_scan.specs.Trivia.{IsFault, IsFaultAfter, IsHashbang, IsPiece, IsSkipped, NoHashbang, NoPiece, NoTrivia, breaks};
@@ -10,8 +8,9 @@ ghost use Rattle.ecma_scan.specs.declared.trivia.Goal.{Goal};
 
 use crate::bytes::{ByteClass, byte_class};
 use crate::characters::{CharExt, first_byte, past_ascii, pop};
+use crate::place::fault;
 use crate::runs::{split_block, split_line, split_white_space, strip};
-use ecma_token::{BytePos, Error, Span, SyntaxError};
+use ecma_token::{Error, SyntaxError};
 
 /// The goal symbol under which a text is read (ECMA-262, clause 16).
 #[derive(Clone, Copy, Debug, PartialEq, Eq)]
@@ -62,30 +61,6 @@ impl Trivia<'_> {
 
 /// A piece and the text after it, or nothing.
 type Piece<'a> = Result<Option<(Trivia<'a>, &'a str)>, Error>;
-
-/// The part of a text from where the first of these begins up to where the second begins. Both run
-/// to the end of the text, whose place is `end`.
-pub(crate) fn span(end: u32, from: &str, to: &str) -> Span
-    requires order { length to.now ≤ length from.now }
-    requires within { length from.now < end }
-    ensures { IsAt end (chars from.now) (chars to.now) result }
-{
-    Span {
-        lo: BytePos(end - from.len() as u32),
-        hi: BytePos(end - to.len() as u32),
-    }
-}
-
-/// A fault of this kind, of the part of the text that `span` gives.
-pub fn fault(end: u32, from: &str, to: &str, kind: SyntaxError) -> Error
-    requires order { length to.now ≤ length from.now }
-    requires within { length from.now < end }
-    ensures kind { result.kind ≡ kind }
-    ensures place { IsAt end (chars from.now) (chars to.now) result.span }
-{
-    let span = span(end, from, to);
-    Error { span, kind }
-}
 
 /// A comment of one line, after its mark.
 fn line<'a>(mark: LineMark, text: &'a str) -> (Trivia<'a>, &'a str)

@@ -2,7 +2,7 @@ use Rattle.std.proofs.Common.{◌∷◌, List, ℕ, inl, inr, ap, subst, sym, �
 use Rattle.std.specs.Str.{chars}
 use Rattle.ecma_token.specs.declared.error.SyntaxError.{SyntaxError}
 use Rattle.ecma_literal.specs.Units.{is_legacy}
-use Rattle.ecma_literal.specs.Places.{IsAt}
+use Rattle.ecma_scan.specs.Places.{IsAt}
 use Rattle.ecma_literal.specs.Strings.{SpellsString}
 use Rattle.ecma_literal.proofs.StringLemmas.{SoFar, at_more, at_escape, or_yes, or_no, closes, ends_with, stops, line_stops, end_stops, Stuck, stuck_escape}
 use Rattle.ecma_literal.proofs.string.read_escaped.Goals as goal

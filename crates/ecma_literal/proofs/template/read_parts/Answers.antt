@@ -3,7 +3,7 @@ use Rattle.std.specs.Prelude.{Some}
 use Rattle.std.specs.Str.{chars}
 use Rattle.std.proofs.lemmas.Str.{chars-nil}
 use Rattle.ecma_token.specs.declared.error.Error.{Error}
-use Rattle.ecma_literal.specs.Places.{IsAt}
+use Rattle.ecma_scan.specs.Places.{IsAt}
 use Rattle.ecma_literal.specs.Templates.{bare_run}
 use Rattle.ecma_literal.proofs.BareLemmas.{bare_none}
 use Rattle.ecma_literal.proofs.TemplateLemmas.{Kept, kept_at, kept_part, kept_bad, finished, cooked_piece, no_piece}

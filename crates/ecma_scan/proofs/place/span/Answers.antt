@@ -1,6 +1,6 @@
 use Rattle.std.proofs.Common.{length, ap, arith}
 use Rattle.std.proofs.lemmas.Str.{encodes-chars}
-use Rattle.ecma_scan.proofs.trivia.span.Goals as goal
+use Rattle.ecma_scan.proofs.place.span.Goals as goal
 
 pub returns : goal.returns
 returns c =
