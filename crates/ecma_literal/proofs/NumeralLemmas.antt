@@ -13,7 +13,7 @@ use Rattle.ecma_literal.specs.declared.number_state.State.{State}
 use Rattle.ecma_literal.specs.declared.number_state.State.TheVariants as s
 use Rattle.ecma_literal.specs.Escapes.{begins, is_decimal}
 use Rattle.ecma_literal.specs.Places.{EndsWith}
-use Rattle.ecma_literal.specs.Numbers.{Meaning, Number, BigInt, Spells, Longest, SpellsNumeral, NoNumeral, IsFlaw, IsNumeralFault, OneNumber, big_of, big_by, behind_prefix, spells_big_decimal, is_some, is_n, is_barred, is_zero, is_number_start, takes_exponent, flaw, barred_next}
+use Rattle.ecma_literal.specs.Numbers.{Meaning, Number, BigInt, Spells, Longest, SpellsNumber, NoNumber, IsFlaw, IsNumberFault, OneNumber, big_of, big_by, behind_prefix, spells_big_decimal, is_some, is_n, is_barred, is_zero, is_number_start, takes_exponent, flaw, barred_next}
 use Rattle.ecma_literal.specs.NumberSteps.{IsFront, Next, step, reach, by_next, is_whole, big_radix, exponent_follows}
 use Rattle.ecma_literal.proofs.StateLemmas.{by_test, spelled_is, radix_in}
 use Rattle.ecma_literal.proofs.ScanLemmas.{by_step, reach_left, reach_big, reach_more, reached_ascii}
@@ -184,7 +184,7 @@ pub ended : (rest : List ℕ) → begins is_barred rest ≡ false → Ends is_ba
 ended [] b = tt
 ended (c ∷ cs) b = b
 
-pub no_numeral : (m : Meaning) (own text rest : List ℕ) → text ≡ own ++ rest → Spells m own → Longest own text → begins is_barred rest ≡ true → NoNumeral text
+pub no_numeral : (m : Meaning) (own text rest : List ℕ) → text ≡ own ++ rest → Spells m own → Longest own text → begins is_barred rest ≡ true → NoNumber text
 no_numeral m own text rest e h l b o other r x =
     let less : length other ≤ length own = l o other r x.spelled x.parts in
     let more : length own ≤ length other = x.longest m own rest h e in
@@ -272,7 +272,7 @@ valued None e = absurd (false≢true e)
 valued (Some value) e = (value, refl)
 
 pub plain_fault : (end : ℕ) (text own rest : List ℕ) (q : State) (e : Error) → IsFront text q own rest → is_whole q ≡ true → (begins is_n rest ≡ true → big_radix q ≡ None)
-    → begins is_barred rest ≡ true → IsFlaw end (flaw own rest) e → NoNumeral text × IsNumeralFault end text e
+    → begins is_barred rest ≡ true → IsFlaw end (flaw own rest) e → NoNumber text × IsNumberFault end text e
 plain_fault end text own rest q e f w none b h =
     let v = valued (number_of own) (is_number text own rest q f w) in
     let longest : Longest own text = number_longest text own rest q f none in (
@@ -284,7 +284,7 @@ pub plain_read : (text own rest : List ℕ) (q : State) (o : Option SpecNumber) 
 plain_read text own rest q o f w e none = false≢true (sym (ap is_some none) ∙ ap is_some e ∙ is_number text own rest q f w)
 
 pub plain_found : (text own rest : List ℕ) (q : State) (value : SpecNumber) → IsFront text q own rest → (begins is_n rest ≡ true → big_radix q ≡ None)
-    → begins is_barred rest ≡ false → number_of own ≡ Some value → SpellsNumeral (Number value) own text rest
+    → begins is_barred rest ≡ false → number_of own ≡ Some value → SpellsNumber (Number value) own text rest
 plain_found text own rest q value f none b h =
     record { parts = f.parts; spelled = h; longest = number_longest text own rest q f none; ended = ended rest b }
 
@@ -292,7 +292,7 @@ big_parts : (text own rest : List ℕ) (q : State) → IsFront text q own (110 �
 big_parts text own rest q f = f.parts ∙ sym (append_assoc own (110 ∷ []) rest)
 
 pub big_fault : (end : ℕ) (text own rest : List ℕ) (q : State) (radix : ℕ) (e : Error) → IsFront text q own (110 ∷ rest) → big_radix q ≡ Some radix
-    → begins is_barred rest ≡ true → IsFlaw end (barred_next rest) e → NoNumeral text × IsNumeralFault end text e
+    → begins is_barred rest ≡ true → IsFlaw end (barred_next rest) e → NoNumber text × IsNumberFault end text e
 big_fault end text own rest q radix e f r b h =
     let m : Meaning = BigInt radix (plain (behind_prefix (prefix_radix own) own)) in
     let spelled : Spells m (own ++ 110 ∷ []) = big_spelled text own (110 ∷ rest) q radix f r in
@@ -314,7 +314,7 @@ pub big_ends_with : (text own rest : List ℕ) (q : State) → IsFront text q ow
 big_ends_with text own rest q f = (own ++ 110 ∷ [], big_parts text own rest q f)
 
 pub big_found : (text own raw rest digits : List ℕ) (q : State) (radix : ℕ) → IsFront text q own (110 ∷ rest) → big_radix q ≡ Some radix
-    → begins is_barred rest ≡ false → digits ≡ plain (behind_prefix (prefix_radix own) own) → text ≡ raw ++ rest → SpellsNumeral (BigInt radix digits) raw text rest
+    → begins is_barred rest ≡ false → digits ≡ plain (behind_prefix (prefix_radix own) own) → text ≡ raw ++ rest → SpellsNumber (BigInt radix digits) raw text rest
 big_found text own raw rest digits q radix f r b d e =
     let same : own ++ 110 ∷ [] ≡ raw = append_cancel_right (own ++ 110 ∷ []) raw rest (sym (big_parts text own rest q f) ∙ e) in
     let spelled : Spells (BigInt radix digits) (own ++ 110 ∷ []) = subst (λ (l : List ℕ). Spells (BigInt radix l) (own ++ 110 ∷ [])) (sym d) (big_spelled text own (110 ∷ rest) q radix f r) in

@@ -53,15 +53,15 @@ abbrev pub is_barred : ℕ → Bool
 is_barred c = is_decimal c || is_opening c
 
 -- The text begins with a numeric literal of this own text, up to the rest.
-pub record SpellsNumeral (m : Meaning) (own text rest : List ℕ) : Type 0 where
+pub record SpellsNumber (m : Meaning) (own text rest : List ℕ) : Type 0 where
   pub parts : text ≡ own ++ rest
   pub spelled : Spells m own
   pub longest : Longest own text
   pub ended : Ends is_barred rest
 
 -- No numeric literal stands at the front of the text.
-abbrev pub NoNumeral : List ℕ → Type 0
-NoNumeral text = (m : Meaning) (own rest : List ℕ) → SpellsNumeral m own text rest → ⊥
+abbrev pub NoNumber : List ℕ → Type 0
+NoNumber text = (m : Meaning) (own rest : List ℕ) → SpellsNumber m own text rest → ⊥
 
 -- ---- faults
 
@@ -118,7 +118,7 @@ flaw own rest =
     else barred_next rest)
 
 -- The fault of a text that begins as a number does: the longest front that is one ends before what may not follow.
-pub record IsNumeralFault (end : ℕ) (text : List ℕ) (e : Error) : Type 0 where
+pub record IsNumberFault (end : ℕ) (text : List ℕ) (e : Error) : Type 0 where
   pub meaning : Meaning
   pub own : List ℕ
   pub rest : List ℕ
@@ -152,9 +152,9 @@ meaning (n.BigInt radix digits) = BigInt radix (cow_str_bytes digits)
 
 -- What is known of a text from what reading its number answered.
 abbrev pub ReadsNumber : ℕ → List ℕ → Result NumericLiteral Error → Type 0
-ReadsNumber end text (Ok x) = SpellsNumeral (meaning x.value) (chars x.raw.now) text (chars x.rest.now)
+ReadsNumber end text (Ok x) = SpellsNumber (meaning x.value) (chars x.raw.now) text (chars x.rest.now)
     × (x.legacy ≡ legacy_of (meaning x.value) (chars x.raw.now))
-ReadsNumber end text (Err e) = e.kind ≢ Memory → NoNumeral text × IsNumeralFault end text e
+ReadsNumber end text (Err e) = e.kind ≢ Memory → NoNumber text × IsNumberFault end text e
 
 -- a digit, or a dot and a digit
 abbrev pub is_number_start : List ℕ → Bool
@@ -163,5 +163,5 @@ is_number_start (c ∷ cs) = is_decimal c || (c == 46 && begins is_decimal cs)
 
 -- At most one numeric literal stands at a front.
 abbrev pub OneNumber : Type 0
-OneNumber = (m o : Meaning) (own other text r s : List ℕ) → SpellsNumeral m own text r → SpellsNumeral o other text s
+OneNumber = (m o : Meaning) (own other text r s : List ℕ) → SpellsNumber m own text r → SpellsNumber o other text s
     → (m ≡ o) × (own ≡ other) × (r ≡ s)

@@ -1,6 +1,6 @@
 use Rattle.std.proofs.Common.{ℕ, List, sym, ap, subst, ◌∙◌}
 use Rattle.std.specs.Str.{chars}
-use Rattle.ecma_literal.specs.Numbers.{Number, SpellsNumeral, legacy_of_number}
+use Rattle.ecma_literal.specs.Numbers.{Number, SpellsNumber, legacy_of_number}
 use Rattle.ecma_literal.proofs.NumeralLemmas.{is_number, exponent_same, plain_fault, plain_read, plain_found}
 use Rattle.ecma_literal.proofs.number.read_plain.Goals as goal
 
@@ -20,7 +20,7 @@ pub returns-clause-number : goal.returns-clause-number
 returns-clause-number c =
     let found = plain_found (chars c.args.text.now) c.args.front.own.now (chars c.args.front.rest.now) c.args.front.state c.in-Some.value c.requires.front c.requires.no_big
     (sym c.bars.ensures ∙ c.if-bars.false) (sym c.in-Ok.ensures ∙ c.in-Some.is) in (
-      subst (λ (l : List ℕ). SpellsNumeral (Number c.in-Some.value) l (chars c.args.text.now) (chars c.args.front.rest.now)) (sym c.requires.own) found,
+      subst (λ (l : List ℕ). SpellsNumber (Number c.in-Some.value) l (chars c.args.text.now) (chars c.args.front.rest.now)) (sym c.requires.own) found,
       c.legacy.ensures ∙ ap legacy_of_number (sym c.requires.own),
     )
 
