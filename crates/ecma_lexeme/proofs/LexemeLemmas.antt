@@ -12,7 +12,7 @@ use Rattle.ecma_token.specs.TokenViews.{token_kind_number}
 use Rattle.ecma_scan.specs.Names.{IsNameFault}
 use Rattle.ecma_literal.specs.declared.template.Ending.{Ending}
 use Rattle.ecma_literal.specs.declared.template.Ending.TheVariants.{BackQuote, Substitution}
-use Rattle.ecma_literal.specs.Numbers.{IsNumeralFault}
+use Rattle.ecma_literal.specs.Numbers.{IsNumberFault}
 use Rattle.ecma_literal.specs.Strings.{IsStringFault}
 use Rattle.ecma_literal.specs.Templates.{Ends}
 use Rattle.ecma_literal.proofs.NumeralLemmas.{numeral_starts, one_number}
@@ -112,7 +112,7 @@ IsOf s.Punctuator = IsMark
 
 abbrev pub FaultOf : Sort → ℕ → List ℕ → Error → Type 0
 FaultOf s.Word = IsNameFault
-FaultOf s.Number = IsNumeralFault
+FaultOf s.Number = IsNumberFault
 FaultOf s.Str = IsStringFault
 FaultOf s.RegExp = IsPatternFault
 FaultOf s.Punctuator = IsStray

@@ -6,6 +6,8 @@ use Rattle.std.proofs.Math.Bool.{or-true}
 use Rattle.std.proofs.Math.Utf8.{encodes, scalars}
 use Rattle.std.proofs.lemmas.Bool.{and_parts, false≢true}
 use Rattle.std.proofs.lemmas.Str.{encodes-chars, chars-encodes, encodes-append, IsCharBoundary-at_seam}
+use Rattle.ecma_token.specs.declared.context.Context.{Context}
+use Rattle.ecma_token.specs.Reserved.{is_reserved_in}
 use Rattle.ecma_token.specs.TokenViews.{cooked_units}
 use Rattle.ecma_token.specs.declared.error.Error.{Error}
 use Rattle.ecma_token.specs.declared.error.SyntaxError.{SyntaxError}
@@ -18,9 +20,9 @@ use Rattle.ecma_scan.specs.Names.{Spell, is_continuing}
 use Rattle.ecma_scan.specs.NamesRead.{IsNamed}
 use Rattle.ecma_scan.specs.RegExps.{IsRegExp}
 use Rattle.ecma_scan.specs.Runs.{Each, Ends}
-use Rattle.ecma_scan.specs.Words.{name_bytes}
+use Rattle.ecma_scan.specs.Words.{is_escaped_reserved, name_bytes}
 use Rattle.ecma_literal.specs.declared.template.Ending.{Ending}
-use Rattle.ecma_literal.specs.Numbers.{Meaning, SpellsNumeral, legacy_of}
+use Rattle.ecma_literal.specs.Numbers.{Meaning, SpellsNumber, legacy_of}
 use Rattle.ecma_literal.specs.Strings.{SpellsString}
 use Rattle.ecma_literal.specs.Templates.{Ends as EndsPiece, SpellsPiece}
 use Rattle.ecma_lexeme.specs.Lexemes.{SpecLexeme, IsCharacters, IsNumber, IsPattern, IsQuoted, IsWord, numeral_spelled, pattern_token, plain, string_spelled, template_token, word_spelled}
@@ -75,7 +77,7 @@ is_word text name x rest h u e = subst (λ y. IsWord text y rest) (sym e) (word_
 
 -- ---- literals
 
-pub is_number : (m : Meaning) (raw text rest : List ℕ) (legacy : Option SyntaxError) (x : SpecLexeme) → SpellsNumeral m (chars raw) text rest → legacy ≡ legacy_of m (chars raw)
+pub is_number : (m : Meaning) (raw text rest : List ℕ) (legacy : Option SyntaxError) (x : SpecLexeme) → SpellsNumber m (chars raw) text rest → legacy ≡ legacy_of m (chars raw)
     → IsUtf8 raw → x ≡ numeral_spelled m raw legacy → IsNumber text x rest
 is_number m raw text rest legacy x h e u f =
     (m, chars raw, h, f ∙ ap (λ b. numeral_spelled m b legacy) (encoded raw u) ∙ ap (numeral_spelled m (encode_utf8_all (chars raw))) e)
@@ -137,3 +139,14 @@ split text own u v h =
       boundary = IsCharBoundary-at_seam text own rest whole is_text;
       cut = h.1 ∙ ap (λ l. chars own ++ l) (sym (chars-encodes cs fine));
     }
+
+-- ---- reserved words
+
+none_reserved : (context : Context) → is_reserved_in context [] ≡ false
+unfolding is_reserved_in
+none_reserved context = refl
+
+-- what is no word is no reserved word
+pub no_word : (context : Context) (text : List ℕ) (escaped : Bool) → text ≡ [] → false ≡ is_escaped_reserved context text escaped
+no_word context text true e = rw e (sym (none_reserved context))
+no_word context text false e = refl

@@ -17,7 +17,7 @@ use Rattle.ecma_scan.specs.Words.{is_escaped_reserved}
 use Rattle.ecma_literal.specs.declared.template.Ending.{Ending}
 use Rattle.ecma_literal.specs.declared.template.Ending.TheVariants.{BackQuote, Substitution}
 use Rattle.ecma_literal.specs.Escapes.{begins}
-use Rattle.ecma_literal.specs.Numbers.{IsNumeralFault, Meaning, Number, BigInt, SpellsNumeral, legacy_of}
+use Rattle.ecma_literal.specs.Numbers.{IsNumberFault, Meaning, Number, BigInt, SpellsNumber, legacy_of}
 use Rattle.ecma_literal.specs.Strings.{SpellsString, IsStringFault}
 use Rattle.ecma_literal.specs.Templates.{Ends, SpellsPiece}
 use Rattle.ecma_lexeme.specs.declared.goal.LexicalGoal.{LexicalGoal}
@@ -78,7 +78,7 @@ abbrev pub numeral_lexeme : Meaning → List ℕ → SpecLexeme
 numeral_lexeme m own = numeral_spelled m (encode_utf8_all own) (legacy_of m own)
 
 abbrev pub IsNumber : List ℕ → SpecLexeme → List ℕ → Type 0
-IsNumber text x rest = (m : Meaning) × (own : List ℕ) × SpellsNumeral m own text rest × (x ≡ numeral_lexeme m own)
+IsNumber text x rest = (m : Meaning) × (own : List ℕ) × SpellsNumber m own text rest × (x ≡ numeral_lexeme m own)
 
 -- a regular expression (12.9.5), by what stands between its slashes and its flags
 abbrev pub pattern_token : List ℕ → List ℕ → SpecToken
@@ -172,7 +172,7 @@ IsOpenTemplate end text e = (e.kind ≡ UnterminatedTpl) × IsAt end text [] e.s
 -- nothing begins there.
 abbrev pub IsOutsideFault : ℕ → LexicalGoal → List ℕ → Error → Type 0
 IsOutsideFault end goal text e = IsNameFault end text e
-    ⊎ (IsNumeralFault end text e
+    ⊎ (IsNumberFault end text e
     ⊎ (IsStringFault end text e
     ⊎ (((opens_regexp goal ≡ true) × IsRegExpFault end text e)
     ⊎ IsStray end text e)))

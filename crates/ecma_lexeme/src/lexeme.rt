@@ -1,13 +1,15 @@
 //! A token at a front, with what a parser asks of its spelling.
 
-ghost use Rattle.std.specs.Prelude.{◌≡◌, ◌<◌, ◌≤◌, length};
+ghost use Rattle.std.specs.Prelude.{◌≡◌, ◌<◌, ◌≤◌, [], length, MatchOption};
 ghost use Rattle.std.specs.Str.{chars};
 ghost use Rattle.ecma_token.specs.TokenViews.{token_view};
+ghost use Rattle.ecma_token.specs.WordViews.{word_view};
 ghost use Rattle.ecma_lexeme.specs.Lexemes as spec;
 ghost use Rattle.ecma_lexeme.specs.Readings.{lexeme_view};
 
 use ecma_scan::place::fault;
 use ecma_scan::words::is_escaped_reserved;
+use ecma_token::word::Word;
 use ecma_token::{Context, Error, SyntaxError, Token};
 
 /// A token at the front of a text.
@@ -23,8 +25,30 @@ pub struct Lexeme<'a> {
     pub rest: &'a str,
 }
 
+/// The word that a token is.
+fn word_in<'t, 'a>(token: &'t Token<'a>) -> Option<&'t Word<'a>>
+    ensures { MatchOption result (spec.text_in (token_view token.now).content ≡ [])
+        (λ word. spec.text_in (token_view token.now).content ≡ (word_view word.now).text) }
+{
+    match token {
+        Token::Word(word) => Some(word),
+        _ => None,
+    }
+}
+
 impl Lexeme<'_> {
+    ghost use Rattle.ecma_scan.specs.Words.{is_escaped_reserved};
     ghost use Rattle.ecma_lexeme.specs.Lexemes.{fault_in};
+
+    /// Whether it is a reserved word of this context, with an escape.
+    fn is_escaped_reserved(&self, context: Context) -> bool
+        ensures { result ≡ is_escaped_reserved context (spec.text_in (token_view self.now.token).content) self.now.escaped }
+    {
+        match word_in(&self.token) {
+            Some(word) => is_escaped_reserved(context, word, self.escaped),
+            None => false,
+        }
+    }
 
     /// The fault that code of this context has with the spelling, if any: `EscapeInReservedWord` of a
     /// reserved word with an escape, which stands only where every word may, and in strict code that of
@@ -32,9 +56,7 @@ impl Lexeme<'_> {
     pub fn fault_in(&self, context: Context) -> Option<SyntaxError>
         ensures { result ≡ fault_in context (lexeme_view self.now) }
     {
-        if let Token::Word(word) = &self.token
-            && is_escaped_reserved(context, word, self.escaped)
-        {
+        if self.is_escaped_reserved(context) {
             return Some(SyntaxError::EscapeInReservedWord);
         }
         if context.strict { self.legacy } else { None }

@@ -3,7 +3,7 @@
 ghost use Rattle.std.specs.Prelude.{◌≡◌, ◌++◌, ◌<◌, ◌≤◌, false, true, length, None, IfOk, IfSome, IsUtf8};
 ghost use Rattle.std.specs.Str.{chars};
 ghost use Rattle.ecma_literal.specs.Escapes.{begins};
-ghost use Rattle.ecma_literal.specs.Numbers.{IsNumeralFault, is_number_start, meaning};
+ghost use Rattle.ecma_literal.specs.Numbers.{IsNumberFault, is_number_start, meaning};
 ghost use Rattle.ecma_literal.specs.Strings.{IsStringFault, is_quote};
 ghost use Rattle.ecma_lexeme.specs.declared.goal.LexicalGoal.TheVariants.{TemplateEnd};
 ghost use Rattle.ecma_lexeme.specs.Lexemes as spec;
@@ -45,7 +45,7 @@ fn numeral(literal: NumericLiteral<'_>) -> Lexeme<'_>
 pub(crate) fn number(alloc: Global, text: &str, end: u32) -> Result<Lexeme<'_>, Error>
     requires starts { is_number_start (chars text.now) ≡ true }
     requires within { length text.now < end }
-    ensures number { ReadsAs spec.IsNumber (IsNumeralFault end (chars text.now)) (chars text.now) result }
+    ensures number { ReadsAs spec.IsNumber (IsNumberFault end (chars text.now)) (chars text.now) result }
     ensures rest { IfOk result (λ l. IsUtf8 l.rest.now × (length l.rest.now ≤ length text.now)) }
 {
     match read_number(alloc, text, end) {

@@ -397,7 +397,7 @@ reached_start (c ∷ cs) p h w = by_test (is_decimal c) (is_number_start (c ∷ 
     stops z d e = rw (z, d, e) refl
 
 -- a literal begins with a digit, or with a dot and a digit
-pub numeral_starts : (m : Meaning) (own text rest : List ℕ) → SpellsNumeral m own text rest → is_number_start text ≡ true
+pub numeral_starts : (m : Meaning) (own text rest : List ℕ) → SpellsNumber m own text rest → is_number_start text ≡ true
 numeral_starts (Number value) own text rest h =
     let r = number_reached own value h.spelled in
     rw h.parts (start_more own rest (reached_start own r.state r.there r.holds))
