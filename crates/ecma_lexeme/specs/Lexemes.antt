@@ -12,7 +12,7 @@ use Rattle.ecma_token.specs.Words.{word_of}
 use Rattle.ecma_scan.specs.Names.{IsName, IsNameFault}
 use Rattle.ecma_scan.specs.Places.{IsAt}
 use Rattle.ecma_scan.specs.Punctuators.{IsPunctuator}
-use Rattle.ecma_scan.specs.RegExps.{IsRegExp, IsRegExpFault}
+use Rattle.ecma_scan.specs.RegExps.{IsOpenSlash, IsRegExp, IsRegExpFault}
 use Rattle.ecma_scan.specs.Words.{is_escaped_reserved}
 use Rattle.ecma_literal.specs.declared.template.Ending.{Ending}
 use Rattle.ecma_literal.specs.declared.template.Ending.TheVariants.{BackQuote, Substitution}
@@ -22,7 +22,9 @@ use Rattle.ecma_literal.specs.Strings.{SpellsString, IsStringFault}
 use Rattle.ecma_literal.specs.Templates.{Ends, SpellsPiece}
 use Rattle.ecma_lexeme.specs.declared.goal.LexicalGoal.{LexicalGoal}
 use Rattle.ecma_lexeme.specs.declared.goal.LexicalGoal.TheVariants.{Div, RegExp, TemplateTail, TemplateEnd}
-use Rattle.ecma_lexeme.specs.Sorts.{is_slash, opens_regexp}
+use Rattle.ecma_lexeme.specs.declared.sort.Sort.{Sort}
+use Rattle.ecma_lexeme.specs.declared.sort.Sort.TheVariants as s
+use Rattle.ecma_lexeme.specs.Sorts.{is_slash, opens_regexp, sort}
 
 -- A token, whether it is a word that is spelled with an escape, and the fault that strict code has with its spelling.
 pub record SpecLexeme : Type 0 where
@@ -160,22 +162,25 @@ IsPast text rest = (c : ℕ) × (text ≡ c ∷ rest)
 abbrev pub IsStray : ℕ → List ℕ → Error → Type 0
 IsStray end text e = (c : ℕ) × (rest : List ℕ) × (text ≡ c ∷ rest) × (e.kind ≡ UnexpectedChar) × IsAt end text rest e.span
 
--- no regular expression stands where one was to come: its body has no end, or a comment begins
+-- no regular expression stands where a slash opens one: its body has no end, or a comment begins
 abbrev pub IsPatternFault : ℕ → List ℕ → Error → Type 0
-IsPatternFault end text e = IsRegExpFault end text e ⊎ IsStray end text e
+IsPatternFault end text e = IsRegExpFault end text e ⊎ ((IsOpenSlash text → ⊥) × IsStray end text e)
 
 -- the characters of a template have no end
 abbrev pub IsOpenTemplate : ℕ → List ℕ → Error → Type 0
 IsOpenTemplate end text e = (e.kind ≡ UnterminatedTpl) × IsAt end text [] e.span
 
--- What is wrong at the front of a text with no token, which runs to the place `end`: a name or a literal that begins there goes wrong, or
+-- What is wrong at the front of a text with no token, which runs to the place `end`: the name or literal that begins there goes wrong, or
 -- nothing begins there.
+abbrev pub FaultOf : Sort → ℕ → List ℕ → Error → Type 0
+FaultOf s.Word end text e = IsNameFault end text e
+FaultOf s.Number end text e = IsNumberFault end text e
+FaultOf s.Str end text e = IsStringFault end text e
+FaultOf s.RegExp end text e = IsPatternFault end text e
+FaultOf s.Punctuator end text e = IsStray end text e
+
 abbrev pub IsOutsideFault : ℕ → LexicalGoal → List ℕ → Error → Type 0
-IsOutsideFault end goal text e = IsNameFault end text e
-    ⊎ (IsNumberFault end text e
-    ⊎ (IsStringFault end text e
-    ⊎ (((opens_regexp goal ≡ true) × IsRegExpFault end text e)
-    ⊎ IsStray end text e)))
+IsOutsideFault end goal text e = FaultOf (sort goal text) end text e
 
 abbrev pub IsLexemeFault : ℕ → LexicalGoal → List ℕ → Error → Type 0
 IsLexemeFault end Div text e = IsOutsideFault end Div text e
