@@ -1,9 +1,9 @@
 //! Texts of a million of one thing: each is read once over, in far less than a test's time.
 
-use ecma_literal::{Ending, StringLiteral, Value, raw_text, read_string, read_template};
+use ecma_literal::{Ending, StringLiteral, raw_text, read_string, read_template};
 use ecma_scan::characters::pop;
-use ecma_token::{Error, SyntaxError};
-use std::alloc::Global;
+use ecma_token::{Error, SyntaxError, Units};
+use std::alloc::{AllocError, Global};
 use std::process::Abort;
 use std::test::Fail;
 
@@ -23,11 +23,9 @@ fn between(alloc: Global, start: &str, part: &str, end: &str) -> Result<String, 
 }
 
 /// How many code units a value has, and the last of them.
-fn tail(value: &Value<'_>) -> (usize, u16) {
-    match value {
-        Value::Plain(text) => (text.len(), 0),
-        Value::Units(units) => (units.len(), units.last().copied().unwrap_or(0)),
-    }
+fn tail(alloc: Global, value: Units<'_>) -> Result<(usize, u16), AllocError> {
+    let units = value.into_vec(alloc)?;
+    Ok((units.len(), units.last().copied().unwrap_or(0)))
 }
 
 /// The string at the front of a text, or nothing where no quote stands there.
@@ -57,7 +55,7 @@ fn escapes_in_a_string(rt: HostRuntime) -> Result<(), Fail> {
             .ok()
             .ok_or("a fault")?;
         assert_eq!(rt; literal.rest, ";");
-        assert_eq!(rt; tail(&literal.value), (each * MILLION, last), "at {part}");
+        assert_eq!(rt; tail(rt.alloc(), literal.value)?, (each * MILLION, last), "at {part}");
     }
     Ok(())
 }
@@ -99,27 +97,22 @@ fn parts_of_a_template(rt: HostRuntime) -> Result<(), Fail> {
             .ok_or("a fault")?;
         assert_eq!(rt; piece.rest, ";");
         let value = piece.cooked.ok().ok_or("no value")?;
-        assert_eq!(rt; tail(&value), (each * MILLION, last), "at {part}");
+        assert_eq!(rt; tail(rt.alloc(), value)?, (each * MILLION, last), "at {part}");
     }
     Ok(())
 }
 
-/// Lines that end with CR LF or CR in one piece: fewer than a million, since each is looked for from
-/// where the last one ended up to the next back quote, backslash or dollar.
+/// A million lines that end with CR LF or CR in one piece.
 #[test]
 fn returns_in_a_template(rt: HostRuntime) -> Result<(), Fail> {
     for part in ["\r\n", "\r"] {
-        let mut text = String::new(rt.alloc());
-        for _ in 0..50_000 {
-            text.push_str(part)?;
-        }
-        text.push_str("`;")?;
+        let text = between(rt.alloc(), "", part, "`;")?;
         assert!(rt; text.len() < 40_000_000);
         let piece = read_template(rt.alloc(), text.as_str(), END)
             .ok()
             .ok_or("a fault")?;
         let value = piece.cooked.ok().ok_or("no value")?;
-        assert_eq!(rt; (tail(&value), piece.rest), ((50_000, 10), ";"));
+        assert_eq!(rt; (tail(rt.alloc(), value)?, piece.rest), ((MILLION, 10), ";"));
     }
     Ok(())
 }
@@ -167,7 +160,7 @@ fn digits_of_an_escape(rt: HostRuntime) -> Result<(), Fail> {
         .ok_or("no quote")?
         .ok()
         .ok_or("a fault")?;
-    assert_eq!(rt; tail(&literal.value), (1, 65));
+    assert_eq!(rt; tail(rt.alloc(), literal.value)?, (1, 65));
     let text = between(rt.alloc(), "\\u{", "f", "`")?;
     assert!(rt; text.len() < 40_000_000);
     let piece = read_template(rt.alloc(), text.as_str(), END)
