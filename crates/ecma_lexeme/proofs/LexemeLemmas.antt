@@ -152,18 +152,14 @@ outside_of goal c cs s.Word e x rest h = inl (inl h)
 outside_of goal c cs s.Number e x rest h = inl (inr (inl h))
 outside_of goal c cs s.Str e x rest h = inl (inr (inr h))
 outside_of goal c cs s.RegExp e x rest h = inr (inl ((and_parts (opens_regexp goal) (is_slash c) e).0, h))
-outside_of goal c cs s.Punctuator e x rest h = inr (inr (e, h))
-
-pattern_fault : (end : ℕ) (goal : LexicalGoal) (text : List ℕ) (e : Error) → opens_regexp goal ≡ true → IsPatternFault end text e → IsOutsideFault end goal text e
-pattern_fault end goal text e o (inl h) = inr (inr (inr (inl (o, h))))
-pattern_fault end goal text e o (inr h) = inr (inr (inr (inr h)))
+outside_of goal c cs s.Punctuator e x rest h = inr (inr (e.1, h))
 
 outside_fault : (end : ℕ) (goal : LexicalGoal) (c : ℕ) (cs : List ℕ) (k : Sort) → Holds goal c cs k → (e : Error) → FaultOf k end (c ∷ cs) e → IsOutsideFault end goal (c ∷ cs) e
-outside_fault end goal c cs s.Word o e h = inl h
-outside_fault end goal c cs s.Number o e h = inr (inl h)
-outside_fault end goal c cs s.Str o e h = inr (inr (inl h))
-outside_fault end goal c cs s.RegExp o e h = pattern_fault end goal (c ∷ cs) e (and_parts (opens_regexp goal) (is_slash c) o).0 h
-outside_fault end goal c cs s.Punctuator o e h = inr (inr (inr (inr h)))
+outside_fault end goal c cs s.Word o e h = inl (o, h)
+outside_fault end goal c cs s.Number o e h = inr (inl (o, h))
+outside_fault end goal c cs s.Str o e h = inr (inr (inl (o, h)))
+outside_fault end goal c cs s.RegExp o e h = inr (inr (inr (inl (o, h))))
+outside_fault end goal c cs s.Punctuator o e h = inr (inr (inr (inr (o.0, o.1, h))))
 
 read_by : (end : ℕ) (goal : LexicalGoal) (c : ℕ) (cs : List ℕ) (k : Sort) → sort_by goal c cs ≡ k → (r : Result Lexeme Error)
     → ReadsAs (IsOf k) (FaultOf k end (c ∷ cs)) (c ∷ cs) r → ReadsAs (IsOutside goal) (IsOutsideFault end goal (c ∷ cs)) (c ∷ cs) r

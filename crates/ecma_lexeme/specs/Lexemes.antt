@@ -8,19 +8,19 @@ use Rattle.ecma_token.specs.Kinds.{back_quote_kind, big_int_kind, dollar_brace_k
 use Rattle.ecma_token.specs.Tokens.{SpecToken, bare, word_token, BigNumeral, Numeral, Pattern, Quoted, Piece}
 use Rattle.ecma_token.specs.TokenViews.{token_kind_number}
 use Rattle.ecma_token.specs.Words.{word_of}
-use Rattle.ecma_scan.specs.Names.{IsName, IsNameFault}
+use Rattle.ecma_scan.specs.Names.{IsName, IsNameFault, is_opening}
 use Rattle.ecma_scan.specs.Places.{IsAt}
 use Rattle.ecma_scan.specs.Punctuators.{IsPunctuator}
-use Rattle.ecma_scan.specs.RegExps.{IsRegExp, IsRegExpFault}
+use Rattle.ecma_scan.specs.RegExps.{IsOpenSlash, IsRegExp, IsRegExpFault}
 use Rattle.ecma_literal.specs.declared.template.Ending.{Ending}
 use Rattle.ecma_literal.specs.declared.template.Ending.TheVariants.{BackQuote, Substitution}
 use Rattle.ecma_literal.specs.Escapes.{begins}
-use Rattle.ecma_literal.specs.Numbers.{IsNumeralFault, Meaning, Number, BigInt, SpellsNumeral, legacy_of}
-use Rattle.ecma_literal.specs.Strings.{SpellsString, IsStringFault}
+use Rattle.ecma_literal.specs.Numbers.{IsNumeralFault, Meaning, Number, BigInt, SpellsNumeral, is_number_start, legacy_of}
+use Rattle.ecma_literal.specs.Strings.{SpellsString, IsStringFault, is_quote}
 use Rattle.ecma_literal.specs.Templates.{Ends, SpellsPiece}
 use Rattle.ecma_lexeme.specs.declared.goal.LexicalGoal.{LexicalGoal}
 use Rattle.ecma_lexeme.specs.declared.goal.LexicalGoal.TheVariants.{Div, RegExp, TemplateTail, TemplateEnd}
-use Rattle.ecma_lexeme.specs.Sorts.{is_slash, opens_regexp}
+use Rattle.ecma_lexeme.specs.Sorts.{begins_ordinary, is_slash, opens_regexp}
 
 -- A token, whether it is a word that is spelled with an escape, and the fault that strict code has with its spelling.
 pub record SpecLexeme : Type 0 where
@@ -146,20 +146,20 @@ IsStray end text e = (c : ℕ) × (rest : List ℕ) × (text ≡ c ∷ rest) × 
 
 -- no regular expression stands where one was to come: its body has no end, or a comment begins
 abbrev pub IsPatternFault : ℕ → List ℕ → Error → Type 0
-IsPatternFault end text e = IsRegExpFault end text e ⊎ IsStray end text e
+IsPatternFault end text e = IsRegExpFault end text e ⊎ ((IsOpenSlash text → ⊥) × IsStray end text e)
 
 -- the characters of a template have no end
 abbrev pub IsOpenTemplate : ℕ → List ℕ → Error → Type 0
 IsOpenTemplate end text e = (e.kind ≡ UnterminatedTpl) × IsAt end text [] e.span
 
--- What is wrong at the front of a text with no token, which runs to the place `end`: a name or a literal that begins there goes wrong, or
--- nothing begins there.
+-- What is wrong at the front of a text with no token, which runs to the place `end`: the name or the literal that begins there goes wrong,
+-- or nothing begins there.
 abbrev pub IsOutsideFault : ℕ → LexicalGoal → List ℕ → Error → Type 0
-IsOutsideFault end goal text e = IsNameFault end text e
-    ⊎ (IsNumeralFault end text e
-    ⊎ (IsStringFault end text e
-    ⊎ (((opens_regexp goal ≡ true) × IsRegExpFault end text e)
-    ⊎ IsStray end text e)))
+IsOutsideFault end goal text e = ((begins is_opening text ≡ true) × IsNameFault end text e)
+    ⊎ (((is_number_start text ≡ true) × IsNumeralFault end text e)
+    ⊎ (((begins is_quote text ≡ true) × IsStringFault end text e)
+    ⊎ ((((opens_regexp goal && begins is_slash text) ≡ true) × IsPatternFault end text e)
+    ⊎ ((begins_ordinary text ≡ false) × ((opens_regexp goal && begins is_slash text) ≡ false) × IsStray end text e))))
 
 abbrev pub IsLexemeFault : ℕ → LexicalGoal → List ℕ → Error → Type 0
 IsLexemeFault end Div text e = IsOutsideFault end Div text e

@@ -16,7 +16,7 @@ returns-in-Ok-Some-clause-pattern c =
 pub returns-in-Ok-None-clause-pattern : goal.returns-in-Ok-None-clause-pattern
 returns-in-Ok-None-clause-pattern c = λ m.
     let h = none_of _ _ c.in-Ok-None.field-0 c.in-Ok-None.field-0-is c.in-Ok-None.ensures.expression in
-    (λ x rest g. h.0 g.0 g.1 rest g.2, inr c.stray.ensures)
+    (λ x rest g. h.0 g.0 g.1 rest g.2, inr (h.1, c.stray.ensures))
 
 pub returns-in-Err-clause-pattern : goal.returns-in-Err-clause-pattern
 returns-in-Err-clause-pattern c = λ m. let h = c.in-Err.ensures.expression in (λ x rest g. h.0 g.0 g.1 rest g.2, inl h.1)
