@@ -9,6 +9,9 @@ use Rattle.ecma_scan.proofs.NameLemmas.{one_name}
 use Rattle.ecma_scan.proofs.RegExpLemmas.{one_reg_exp}
 use Rattle.ecma_token.specs.Tokens.{bare}
 use Rattle.ecma_token.specs.TokenViews.{token_kind_number}
+use Rattle.ecma_scan.specs.Names.{IsNameFault}
+use Rattle.ecma_literal.specs.Numbers.{IsNumberFault}
+use Rattle.ecma_literal.specs.Strings.{IsStringFault}
 use Rattle.ecma_literal.specs.declared.template.Ending.{Ending}
 use Rattle.ecma_literal.specs.declared.template.Ending.TheVariants.{BackQuote, Substitution}
 use Rattle.ecma_literal.specs.Templates.{Ends}
@@ -20,7 +23,7 @@ use Rattle.ecma_lexeme.specs.declared.goal.LexicalGoal.TheVariants.{Div, RegExp,
 use Rattle.ecma_lexeme.specs.declared.lexeme.Lexeme.{Lexeme}
 use Rattle.ecma_lexeme.specs.declared.sort.Sort.{Sort}
 use Rattle.ecma_lexeme.specs.declared.sort.Sort.TheVariants as s
-use Rattle.ecma_lexeme.specs.Lexemes.{SpecLexeme, FaultOf, IsCharacters, IsEnd, IsMark, IsMarked, IsNumber, IsOutside, IsOutsideFault, IsPattern, IsQuoted, IsWord, OneLexeme, ending_kind, numeral_lexeme, pattern_lexeme, plain, string_lexeme, template_lexeme, word_lexeme}
+use Rattle.ecma_lexeme.specs.Lexemes.{SpecLexeme, IsCharacters, IsEnd, IsMark, IsMarked, IsNumber, IsOutside, IsOutsideFault, IsPattern, IsPatternFault, IsQuoted, IsStray, IsWord, OneLexeme, ending_kind, numeral_lexeme, pattern_lexeme, plain, string_lexeme, template_lexeme, word_lexeme}
 use Rattle.ecma_lexeme.specs.Readings.{ReadsAs}
 use Rattle.ecma_lexeme.specs.Sorts.{opens_regexp, is_slash, sort_by, sort}
 use Rattle.ecma_lexeme.proofs.SortLemmas.{Holds, holds, mark_begins, pattern_begins, slash_sort, sort_mark, sort_number, sort_string, sort_word, string_begins, word_begins}
@@ -107,6 +110,13 @@ IsOf s.Str = IsQuoted
 IsOf s.RegExp = IsPattern
 IsOf s.Punctuator = IsMark
 
+abbrev pub FaultOf : Sort → ℕ → List ℕ → Error → Type 0
+FaultOf s.Word = IsNameFault
+FaultOf s.Number = IsNumberFault
+FaultOf s.Str = IsStringFault
+FaultOf s.RegExp = IsPatternFault
+FaultOf s.Punctuator = IsStray
+
 of_ordinary : (goal : LexicalGoal) (text : List ℕ) (x : SpecLexeme) (rest : List ℕ) → IsWord text x rest ⊎ (IsNumber text x rest ⊎ IsQuoted text x rest) → IsOf (sort goal text) text x rest
 of_ordinary goal text x rest (inl h) = subst (λ k. IsOf k text x rest) (sym (sort_word goal text (word_begins text h.0 rest h.2))) h
 of_ordinary goal text x rest (inr (inl h)) = subst (λ k. IsOf k text x rest) (sym (sort_number goal text (numeral_starts h.0 h.1 text rest h.2))) h
@@ -142,14 +152,21 @@ outside_of goal c cs s.Word e x rest h = inl (inl h)
 outside_of goal c cs s.Number e x rest h = inl (inr (inl h))
 outside_of goal c cs s.Str e x rest h = inl (inr (inr h))
 outside_of goal c cs s.RegExp e x rest h = inr (inl ((and_parts (opens_regexp goal) (is_slash c) e).0, h))
-outside_of goal c cs s.Punctuator e x rest h = inr (inr (e, h))
+outside_of goal c cs s.Punctuator e x rest h = inr (inr (e.1, h))
+
+outside_fault : (end : ℕ) (goal : LexicalGoal) (c : ℕ) (cs : List ℕ) (k : Sort) → Holds goal c cs k → (e : Error) → FaultOf k end (c ∷ cs) e → IsOutsideFault end goal (c ∷ cs) e
+outside_fault end goal c cs s.Word o e h = inl (o, h)
+outside_fault end goal c cs s.Number o e h = inr (inl (o, h))
+outside_fault end goal c cs s.Str o e h = inr (inr (inl (o, h)))
+outside_fault end goal c cs s.RegExp o e h = inr (inr (inr (inl (o, h))))
+outside_fault end goal c cs s.Punctuator o e h = inr (inr (inr (inr (o.0, o.1, h))))
 
 read_by : (end : ℕ) (goal : LexicalGoal) (c : ℕ) (cs : List ℕ) (k : Sort) → sort_by goal c cs ≡ k → (r : Result Lexeme Error)
     → ReadsAs (IsOf k) (FaultOf k end (c ∷ cs)) (c ∷ cs) r → ReadsAs (IsOutside goal) (IsOutsideFault end goal (c ∷ cs)) (c ∷ cs) r
 read_by end goal c cs k e (Ok l) h = outside_of goal c cs k (subst (Holds goal c cs) e (holds goal c cs)) _ _ h
 read_by end goal c cs k e (Err f) h = λ m. (
   λ x rest g. (h m).0 x rest (subst (λ j. IsOf j (c ∷ cs) x rest) e (of_sort goal (c ∷ cs) x rest g)),
-  subst (λ j. FaultOf j end (c ∷ cs) f) (sym e) (h m).1,
+  outside_fault end goal c cs k (subst (Holds goal c cs) e (holds goal c cs)) f (h m).1,
 )
 
 pub read_sort : (end : ℕ) (goal : LexicalGoal) (text : List ℕ) (c : ℕ) (cs : List ℕ) → text ≡ c ∷ cs → (k : Sort) → sort_by goal c cs ≡ k → (r : Result Lexeme Error)

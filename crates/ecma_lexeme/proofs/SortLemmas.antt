@@ -22,7 +22,7 @@ use Rattle.ecma_lexeme.specs.declared.goal.LexicalGoal.{LexicalGoal}
 use Rattle.ecma_lexeme.specs.declared.sort.Sort.{Sort}
 use Rattle.ecma_lexeme.specs.declared.sort.Sort.TheVariants as s
 use Rattle.ecma_lexeme.specs.Marks.{is_mark}
-use Rattle.ecma_lexeme.specs.Sorts.{begins_mark, opens_regexp, class_sort, is_slash, sort_by, sort}
+use Rattle.ecma_lexeme.specs.Sorts.{begins_mark, begins_ordinary, opens_regexp, class_sort, is_slash, sort_by, sort}
 
 -- ---- characters of ASCII
 
@@ -243,7 +243,10 @@ Holds goal c cs s.Word = is_opening c ≡ true
 Holds goal c cs s.Number = is_number_start (c ∷ cs) ≡ true
 Holds goal c cs s.Str = is_quote c ≡ true
 Holds goal c cs s.RegExp = (opens_regexp goal && is_slash c) ≡ true
-Holds goal c cs s.Punctuator = (opens_regexp goal && is_slash c) ≡ false
+Holds goal c cs s.Punctuator = (begins_ordinary (c ∷ cs) ≡ false) × ((opens_regexp goal && is_slash c) ≡ false)
+
+all_false : (a b d : Bool) → a ≡ false → b ≡ false → d ≡ false → (a || (b || d)) ≡ false
+all_false a b d e f g = rw e (rw f g)
 
 pub holds : (goal : LexicalGoal) (c : ℕ) (cs : List ℕ) → Holds goal c cs (sort_by goal c cs)
 unfolding sort_by
@@ -255,7 +258,7 @@ holds goal c cs = ⊎_elim
     (λ (d : is_quote c ≡ true). rw a (rw b (rw d d)))
     (λ (d : is_quote c ≡ false). ⊎_elim
     (λ (f : (opens_regexp goal && is_slash c) ≡ true). rw a (rw b (rw d (rw f f))))
-    (λ (f : (opens_regexp goal && is_slash c) ≡ false). rw a (rw b (rw d (rw f f))))
+    (λ (f : (opens_regexp goal && is_slash c) ≡ false). rw a (rw b (rw d (rw f (all_false (is_opening c) (is_number_start (c ∷ cs)) (is_quote c) a b d, f)))))
     (cases_Bool (opens_regexp goal && is_slash c)))
     (cases_Bool (is_quote c)))
     (cases_Bool (is_number_start (c ∷ cs))))

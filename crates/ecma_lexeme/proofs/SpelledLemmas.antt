@@ -8,9 +8,11 @@ use Rattle.std.proofs.lemmas.Bool.{and_parts, false≢true}
 use Rattle.std.proofs.lemmas.Str.{encodes-chars, chars-encodes, encodes-append, IsCharBoundary-at_seam}
 use Rattle.ecma_token.specs.declared.context.Context.{Context}
 use Rattle.ecma_token.specs.Reserved.{is_reserved_in}
+use Rattle.std.specs.Borrow.{Bor}
 use Rattle.ecma_token.specs.TokenViews.{cooked_units}
 use Rattle.ecma_token.specs.declared.error.Error.{Error}
 use Rattle.ecma_token.specs.declared.error.SyntaxError.{SyntaxError}
+use Rattle.ecma_token.specs.declared.token.Token.TheVariants.{Template}
 use Rattle.ecma_scan.proofs.NameLemmas.{backslash, part_of}
 use Rattle.ecma_scan.proofs.TriviaLemmas.{one_run}
 use Rattle.ecma_scan.specs.declared.names.Name.{Name}
@@ -24,9 +26,9 @@ use Rattle.ecma_scan.specs.Words.{is_escaped_reserved, name_bytes}
 use Rattle.ecma_literal.specs.declared.template.Ending.{Ending}
 use Rattle.ecma_literal.specs.Numbers.{Meaning, SpellsNumber, legacy_of}
 use Rattle.ecma_literal.specs.Strings.{SpellsString}
-use Rattle.ecma_literal.specs.Templates.{Ends as EndsPiece, SpellsPiece}
+use Rattle.ecma_literal.specs.Templates.{Ends as EndsPiece, IsFirstBad, SpellsPiece}
 use Rattle.ecma_lexeme.specs.Lexemes.{SpecLexeme, IsCharacters, IsNumber, IsPattern, IsQuoted, IsWord, numeral_spelled, pattern_token, plain, string_spelled, template_token, word_spelled}
-use Rattle.ecma_lexeme.specs.Readings.{BeginsWith, has_escape}
+use Rattle.ecma_lexeme.specs.Readings.{BeginsWith, HasFirstBad, has_escape}
 
 -- the bytes of a text are those of its characters
 pub encoded : (bytes : List ℕ) → IsUtf8 bytes → bytes ≡ encode_utf8_all (chars bytes)
@@ -110,6 +112,12 @@ pub is_characters : (raw : List ℕ) (units : Option (List ℕ)) (a : Ending) (t
     → text ≡ chars raw ++ rest → IsUtf8 raw → x ≡ plain (template_token raw units) → IsCharacters text x rest
 is_characters raw units a text behind rest x h e u f =
     (chars raw, units, a, behind, h, subst (λ l. EndsPiece a l behind) (sym (rest_is (chars raw) units a text behind rest h e)) h.3, f ∙ ap (λ b. plain (template_token b units)) (encoded raw u))
+
+-- the fault that a token of these cooked units has
+pub first_bad : (end : ℕ) (text : List ℕ) (raw : Bor (List ℕ)) (P : List ℕ → Type 0) (Q : Type 0) (r : Result (List ℕ) Error)
+    → MatchResult r P (λ e. Q × IsFirstBad end text e) → HasFirstBad end text (Template raw r)
+first_bad end text raw P Q (Ok u) h = tt
+first_bad end text raw P Q (Err e) h = h.1
 
 -- ---- the text behind a front of it
 

@@ -9,7 +9,7 @@ use Rattle.ecma_token.specs.Kinds.{back_quote_kind, big_int_kind, dollar_brace_k
 use Rattle.ecma_token.specs.Tokens.{Content, SpecToken, bare, word_token, BigNumeral, Named, Numeral, Pattern, Quoted, Piece}
 use Rattle.ecma_token.specs.TokenViews.{token_kind_number}
 use Rattle.ecma_token.specs.Words.{word_of}
-use Rattle.ecma_scan.specs.Names.{IsName, IsNameFault}
+use Rattle.ecma_scan.specs.Names.{IsName, IsNameFault, is_opening}
 use Rattle.ecma_scan.specs.Places.{IsAt}
 use Rattle.ecma_scan.specs.Punctuators.{IsPunctuator}
 use Rattle.ecma_scan.specs.RegExps.{IsOpenSlash, IsRegExp, IsRegExpFault}
@@ -17,14 +17,12 @@ use Rattle.ecma_scan.specs.Words.{is_escaped_reserved}
 use Rattle.ecma_literal.specs.declared.template.Ending.{Ending}
 use Rattle.ecma_literal.specs.declared.template.Ending.TheVariants.{BackQuote, Substitution}
 use Rattle.ecma_literal.specs.Escapes.{begins}
-use Rattle.ecma_literal.specs.Numbers.{IsNumberFault, Meaning, Number, BigInt, SpellsNumber, legacy_of}
-use Rattle.ecma_literal.specs.Strings.{SpellsString, IsStringFault}
+use Rattle.ecma_literal.specs.Numbers.{IsNumberFault, Meaning, Number, BigInt, SpellsNumber, is_number_start, legacy_of}
+use Rattle.ecma_literal.specs.Strings.{SpellsString, IsStringFault, is_quote}
 use Rattle.ecma_literal.specs.Templates.{Ends, SpellsPiece}
 use Rattle.ecma_lexeme.specs.declared.goal.LexicalGoal.{LexicalGoal}
 use Rattle.ecma_lexeme.specs.declared.goal.LexicalGoal.TheVariants.{Div, RegExp, TemplateTail, TemplateEnd}
-use Rattle.ecma_lexeme.specs.declared.sort.Sort.{Sort}
-use Rattle.ecma_lexeme.specs.declared.sort.Sort.TheVariants as s
-use Rattle.ecma_lexeme.specs.Sorts.{is_slash, opens_regexp, sort}
+use Rattle.ecma_lexeme.specs.Sorts.{begins_ordinary, is_slash, opens_regexp}
 
 -- A token, whether it is a word that is spelled with an escape, and the fault that strict code has with its spelling.
 pub record SpecLexeme : Type 0 where
@@ -170,17 +168,14 @@ IsPatternFault end text e = IsRegExpFault end text e ⊎ ((IsOpenSlash text → 
 abbrev pub IsOpenTemplate : ℕ → List ℕ → Error → Type 0
 IsOpenTemplate end text e = (e.kind ≡ UnterminatedTpl) × IsAt end text [] e.span
 
--- What is wrong at the front of a text with no token, which runs to the place `end`: the name or literal that begins there goes wrong, or
--- nothing begins there.
-abbrev pub FaultOf : Sort → ℕ → List ℕ → Error → Type 0
-FaultOf s.Word end text e = IsNameFault end text e
-FaultOf s.Number end text e = IsNumberFault end text e
-FaultOf s.Str end text e = IsStringFault end text e
-FaultOf s.RegExp end text e = IsPatternFault end text e
-FaultOf s.Punctuator end text e = IsStray end text e
-
+-- What is wrong at the front of a text with no token, which runs to the place `end`: the name or the literal that begins there goes wrong,
+-- or nothing begins there.
 abbrev pub IsOutsideFault : ℕ → LexicalGoal → List ℕ → Error → Type 0
-IsOutsideFault end goal text e = FaultOf (sort goal text) end text e
+IsOutsideFault end goal text e = ((begins is_opening text ≡ true) × IsNameFault end text e)
+    ⊎ (((is_number_start text ≡ true) × IsNumberFault end text e)
+    ⊎ (((begins is_quote text ≡ true) × IsStringFault end text e)
+    ⊎ ((((opens_regexp goal && begins is_slash text) ≡ true) × IsPatternFault end text e)
+    ⊎ ((begins_ordinary text ≡ false) × ((opens_regexp goal && begins is_slash text) ≡ false) × IsStray end text e))))
 
 abbrev pub IsLexemeFault : ℕ → LexicalGoal → List ℕ → Error → Type 0
 IsLexemeFault end Div text e = IsOutsideFault end Div text e

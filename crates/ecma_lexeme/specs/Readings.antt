@@ -3,10 +3,14 @@ use Rattle.std.specs.Prelude.{◌≡◌, ◌≢◌, ℕ, Bool, true, false, List
 use Rattle.std.specs.Str.{chars}
 use Rattle.ecma_token.specs.declared.error.Error.{Error}
 use Rattle.ecma_token.specs.declared.error.SyntaxError.TheVariants.{Memory}
+use Rattle.ecma_token.specs.declared.token.Token.{Token}
+use Rattle.ecma_token.specs.declared.token.Token.TheVariants.{Template}
 use Rattle.ecma_token.specs.TokenViews.{token_view}
 use Rattle.ecma_scan.specs.declared.names.Name.{Name}
 use Rattle.ecma_scan.specs.declared.names.Name.TheVariants.{Bare, Escaped}
+use Rattle.ecma_literal.specs.Templates.{IsFirstBad}
 use Rattle.ecma_lexeme.specs.declared.goal.LexicalGoal.{LexicalGoal}
+use Rattle.ecma_lexeme.specs.declared.goal.LexicalGoal.TheVariants.{TemplateTail}
 use Rattle.ecma_lexeme.specs.declared.lexeme.Lexeme.{Lexeme}
 use Rattle.ecma_lexeme.specs.Lexemes.{SpecLexeme, IsLexeme, IsLexemeFault}
 
@@ -41,3 +45,13 @@ Reads Stands Wrong text (Err e) = e.kind ≢ Memory → NoneOf Stands text × Wr
 -- the answer of reading the token at the front under a goal
 abbrev pub ReadsLexeme : ℕ → LexicalGoal → List ℕ → Result (Option Lexeme) Error → Type 0
 ReadsLexeme end goal text r = Reads (IsLexeme goal) (IsLexemeFault end goal text) text r
+
+-- Where characters of a template have no units, their token has the fault of the first bad escape of the text.
+abbrev pub HasFirstBad : ℕ → List ℕ → Token → Type 0
+HasFirstBad end text (Template raw (Err e)) = IsFirstBad end text e
+HasFirstBad end text _ = Unit {0}
+
+-- and so has the token that was read under a goal, where such characters come
+abbrev pub TellsFirstBad : ℕ → LexicalGoal → List ℕ → Result (Option Lexeme) Error → Type 0
+TellsFirstBad end TemplateTail text (Ok (Some l)) = HasFirstBad end text l.token
+TellsFirstBad end _ text r = Unit {0}

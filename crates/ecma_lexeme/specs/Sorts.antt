@@ -1,9 +1,9 @@
 -- How each sort of token begins: no two begin alike under one goal.
-use Rattle.std.specs.Prelude.{ℕ, Bool, true, false, not, ◌&&◌, ◌==◌, List, [], ◌∷◌, Option, Some, None, if◌then◌else◌}
+use Rattle.std.specs.Prelude.{ℕ, Bool, true, false, not, ◌&&◌, ◌||◌, ◌==◌, List, [], ◌∷◌, Option, Some, None, if◌then◌else◌}
 use Rattle.ecma_scan.specs.declared.bytes.ByteClass.{ByteClass}
 use Rattle.ecma_scan.specs.declared.bytes.ByteClass.TheVariants.{NameStart, Backslash, Digit, Quote}
 use Rattle.ecma_scan.specs.Names.{is_opening}
-use Rattle.ecma_literal.specs.Escapes.{is_decimal}
+use Rattle.ecma_literal.specs.Escapes.{begins, is_decimal}
 use Rattle.ecma_literal.specs.Numbers.{is_number_start}
 use Rattle.ecma_literal.specs.Strings.{is_quote}
 use Rattle.ecma_lexeme.specs.declared.goal.LexicalGoal.{LexicalGoal}
@@ -18,6 +18,10 @@ is_slash c = c == 47
 abbrev pub opens_regexp : LexicalGoal → Bool
 opens_regexp RegExp = true
 opens_regexp _ = false
+
+-- whether a text begins as a word, a number or a string does
+abbrev pub begins_ordinary : List ℕ → Bool
+begins_ordinary text = begins is_opening text || (is_number_start text || begins is_quote text)
 
 -- what only a punctuator may begin with, a dot and a slash aside
 abbrev pub begins_mark : ℕ → Bool

@@ -66,6 +66,7 @@ impl Lexeme<'_> {
 /// A token that any code may have.
 pub(crate) fn plain<'a>(token: Token<'a>, rest: &'a str) -> Lexeme<'a>
     ensures view { lexeme_view result ≡ spec.plain (token_view token.entry) }
+    ensures token { result.token ≡ token.entry }
     ensures rest { result.rest.now ≡ rest.now }
 {
     Lexeme {

@@ -7,7 +7,7 @@ ghost use Rattle.ecma_literal.specs.Numbers.{IsNumberFault, is_number_start, mea
 ghost use Rattle.ecma_literal.specs.Strings.{IsStringFault, is_quote};
 ghost use Rattle.ecma_lexeme.specs.declared.goal.LexicalGoal.TheVariants.{TemplateEnd};
 ghost use Rattle.ecma_lexeme.specs.Lexemes as spec;
-ghost use Rattle.ecma_lexeme.specs.Readings.{BeginsWith, ReadsAs, ReadsLexeme, lexeme_view};
+ghost use Rattle.ecma_lexeme.specs.Readings.{BeginsWith, HasFirstBad, ReadsAs, ReadsLexeme, lexeme_view};
 
 use crate::lexeme::{Lexeme, plain, stray};
 use ecma_literal::{
@@ -126,6 +126,7 @@ fn past<'a>(text: &'a str, own: &str) -> &'a str
 pub(crate) fn template(alloc: Global, text: &str, end: u32) -> Result<Lexeme<'_>, Error>
     requires within { length text.now < end }
     ensures characters { ReadsAs spec.IsCharacters (spec.IsOpenTemplate end (chars text.now)) (chars text.now) result }
+    ensures bad { IfOk result (λ l. HasFirstBad end (chars text.now) l.token) }
     ensures rest { IfOk result (λ l. IsUtf8 l.rest.now × (length l.rest.now ≤ length text.now)) }
 {
     match read_template(alloc, text, end) {

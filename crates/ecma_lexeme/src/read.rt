@@ -3,7 +3,7 @@
 ghost use Rattle.std.specs.Prelude.{◌≡◌, ◌<◌, ◌≤◌, ◌∷◌, true, length, IfOk, IfSome, IsUtf8};
 ghost use Rattle.std.specs.Str.{chars};
 ghost use Rattle.ecma_lexeme.specs.Lexemes as spec;
-ghost use Rattle.ecma_lexeme.specs.Readings.{Reads, ReadsAs, ReadsLexeme};
+ghost use Rattle.ecma_lexeme.specs.Readings.{Reads, ReadsAs, ReadsLexeme, TellsFirstBad};
 
 use crate::goal::LexicalGoal;
 use crate::lexeme::Lexeme;
@@ -70,6 +70,7 @@ pub fn read_token(
 ) -> Result<Option<Lexeme<'_>>, Error>
     requires within { length text.now < end }
     ensures token { ReadsLexeme end goal (chars text.now) result }
+    ensures bad { TellsFirstBad end goal (chars text.now) result }
     ensures rest { IfOk result (λ o. IfSome o (λ l. IsUtf8 l.rest.now × (length l.rest.now ≤ length text.now))) }
 {
     match goal {

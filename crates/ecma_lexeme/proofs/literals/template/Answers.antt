@@ -2,8 +2,8 @@ use Rattle.std.proofs.Common.{sym, subst}
 use Rattle.std.specs.Str.{chars}
 use Rattle.ecma_token.specs.TokenViews.{cooked_units}
 use Rattle.ecma_lexeme.specs.Lexemes.{IsCharacters}
-use Rattle.ecma_lexeme.specs.Readings.{lexeme_view}
-use Rattle.ecma_lexeme.proofs.SpelledLemmas.{cooked_piece, is_characters}
+use Rattle.ecma_lexeme.specs.Readings.{HasFirstBad, lexeme_view}
+use Rattle.ecma_lexeme.proofs.SpelledLemmas.{cooked_piece, first_bad, is_characters}
 use Rattle.ecma_lexeme.proofs.literals.template.Goals as goal
 
 pub returns-in-Ok-clause-characters : goal.returns-in-Ok-clause-characters
@@ -15,3 +15,8 @@ returns-in-Ok-clause-characters c =
 
 pub returns-in-Err-clause-characters : goal.returns-in-Err-clause-characters
 returns-in-Err-clause-characters c = λ m. let h = c.in-Err.ensures.piece m in (λ x rest g. h.0 g.4.0 g.2 g.3 (g.4.1, g.4.2, g.4.3), (h.1, h.2))
+
+pub returns-in-Ok-clause-bad : goal.returns-in-Ok-clause-bad
+returns-in-Ok-clause-bad c =
+    let p = c.in-Ok.piece in
+    subst (HasFirstBad c.args.end (chars c.args.text.now)) (sym c.plain.ensures.token) (first_bad c.args.end (chars c.args.text.now) p.raw _ _ p.cooked c.in-Ok.ensures.piece)
