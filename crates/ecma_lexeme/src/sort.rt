@@ -24,8 +24,11 @@ pub(crate) enum Sort {
 fn is_number_dot(c: char, rest: &str) -> bool
     ensures { result ≡ (c == 46 && begins is_decimal (chars rest.now)) }
 {
+    if c != '.' {
+        return false;
+    }
     match pop(rest) {
-        Some((next, _)) => c == '.' && next.is_digit(10),
+        Some((next, _)) => next.is_digit(10),
         None => false,
     }
 }

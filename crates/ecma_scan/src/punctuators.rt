@@ -1,104 +1,207 @@
 //! Punctuators at the front of a text.
-ghost use Rattle.std.specs.Prelude.{◌≡◌, ◌<◌, ◌≤◌, length, map, option_map, IfSome, IsUtf8, MatchOption};
+ghost use Rattle.std.specs.Prelude.{◌≡◌, ◌<◌, ◌≤◌, [], ◌∷◌, codes, length, option_map, IfSome, IsUtf8, MatchOption, Some};
 ghost use Rattle.std.specs.Str.{chars};
-ghost use Rattle.ecma_scan.specs.Punctuators.{IsPunctuator, NoPunctuator, begins_with_digit, find, past_all, punctuators, read_punctuator, tails};
+ghost use Rattle.ecma_token.specs.declared.token.TokenKind.TheVariants as kind;
+ghost use Rattle.ecma_scan.specs.Punctuators.{IsPunctuator, NoPunctuator, begins_with_digit, find, punctuators, read_punctuator, tails};
 
 use crate::characters::pop;
 use crate::runs::strip;
 use ecma_token::operator::{AssignOp, BinOpToken};
 use ecma_token::token::TokenKind;
 
-/// What follows the character in the punctuators that begin with it, the longest first.
-fn continuations(c: char) -> &'static [(&'static str, TokenKind)]
-    ensures { map (λ x. (x.0.now, x.1)) result.now ≡ tails c punctuators }
+/// The operator, or the one that assigns where an equals sign follows it.
+#[inline]
+fn or_assign(op: BinOpToken, assign: AssignOp, rest: &str) -> (TokenKind, &str)
+    ensures value { Some (result.0, chars result.1.now) ≡ find ((codes "=", kind.AssignOp assign) ∷ ([], kind.BinOp op) ∷ []) (chars rest.now) }
+    ensures rest { IsUtf8 result.1.now × (length result.1.now ≤ length rest.now) }
 {
-    match c {
-        '>' => &[
-            (">>=", TokenKind::AssignOp(AssignOp::ZeroFillRShiftAssign)),
-            (">=", TokenKind::AssignOp(AssignOp::RShiftAssign)),
-            (">>", TokenKind::BinOp(BinOpToken::ZeroFillRShift)),
-            ("=", TokenKind::BinOp(BinOpToken::GtEq)),
-            (">", TokenKind::BinOp(BinOpToken::RShift)),
-            ("", TokenKind::BinOp(BinOpToken::Gt)),
-        ],
-        '.' => &[("..", TokenKind::DotDotDot), ("", TokenKind::Dot)],
-        '=' => &[
-            ("==", TokenKind::BinOp(BinOpToken::EqEqEq)),
-            (">", TokenKind::Arrow),
-            ("=", TokenKind::BinOp(BinOpToken::EqEq)),
-            ("", TokenKind::AssignOp(AssignOp::Assign)),
-        ],
-        '!' => &[
-            ("==", TokenKind::BinOp(BinOpToken::NotEqEq)),
-            ("=", TokenKind::BinOp(BinOpToken::NotEq)),
-            ("", TokenKind::Bang),
-        ],
-        '*' => &[
-            ("*=", TokenKind::AssignOp(AssignOp::ExpAssign)),
-            ("*", TokenKind::BinOp(BinOpToken::Exp)),
-            ("=", TokenKind::AssignOp(AssignOp::MulAssign)),
-            ("", TokenKind::BinOp(BinOpToken::Mul)),
-        ],
-        '<' => &[
-            ("<=", TokenKind::AssignOp(AssignOp::LShiftAssign)),
-            ("=", TokenKind::BinOp(BinOpToken::LtEq)),
-            ("<", TokenKind::BinOp(BinOpToken::LShift)),
-            ("", TokenKind::BinOp(BinOpToken::Lt)),
-        ],
-        '&' => &[
-            ("&=", TokenKind::AssignOp(AssignOp::AndAssign)),
-            ("&", TokenKind::BinOp(BinOpToken::LogicalAnd)),
-            ("=", TokenKind::AssignOp(AssignOp::BitAndAssign)),
-            ("", TokenKind::BinOp(BinOpToken::BitAnd)),
-        ],
-        '|' => &[
-            ("|=", TokenKind::AssignOp(AssignOp::OrAssign)),
-            ("|", TokenKind::BinOp(BinOpToken::LogicalOr)),
-            ("=", TokenKind::AssignOp(AssignOp::BitOrAssign)),
-            ("", TokenKind::BinOp(BinOpToken::BitOr)),
-        ],
-        '?' => &[
-            ("?=", TokenKind::AssignOp(AssignOp::NullishAssign)),
-            ("?", TokenKind::BinOp(BinOpToken::NullishCoalescing)),
-            ("", TokenKind::QuestionMark),
-        ],
-        '+' => &[
-            ("+", TokenKind::PlusPlus),
-            ("=", TokenKind::AssignOp(AssignOp::AddAssign)),
-            ("", TokenKind::BinOp(BinOpToken::Add)),
-        ],
-        '-' => &[
-            ("-", TokenKind::MinusMinus),
-            ("=", TokenKind::AssignOp(AssignOp::SubAssign)),
-            ("", TokenKind::BinOp(BinOpToken::Sub)),
-        ],
-        '/' => &[
-            ("=", TokenKind::AssignOp(AssignOp::DivAssign)),
-            ("", TokenKind::BinOp(BinOpToken::Div)),
-        ],
-        '%' => &[
-            ("=", TokenKind::AssignOp(AssignOp::ModAssign)),
-            ("", TokenKind::BinOp(BinOpToken::Mod)),
-        ],
-        '^' => &[
-            ("=", TokenKind::AssignOp(AssignOp::BitXorAssign)),
-            ("", TokenKind::BinOp(BinOpToken::BitXor)),
-        ],
-        '{' => &[("", TokenKind::LBrace)],
-        '}' => &[("", TokenKind::RBrace)],
-        '(' => &[("", TokenKind::LParen)],
-        ')' => &[("", TokenKind::RParen)],
-        '[' => &[("", TokenKind::LBracket)],
-        ']' => &[("", TokenKind::RBracket)],
-        ';' => &[("", TokenKind::Semi)],
-        ',' => &[("", TokenKind::Comma)],
-        ':' => &[("", TokenKind::Colon)],
-        '#' => &[("", TokenKind::Hash)],
-        '@' => &[("", TokenKind::At)],
-        '~' => &[("", TokenKind::Tilde)],
-        '`' => &[("", TokenKind::BackQuote)],
-        _ => &[],
+    match strip(rest, '=') {
+        Some(rest) => (TokenKind::AssignOp(assign), rest),
+        None => (TokenKind::BinOp(op), rest),
     }
+}
+
+/// The operator, or the one that an equals sign makes of it where one follows.
+#[inline]
+fn or_equal(op: BinOpToken, equal: BinOpToken, rest: &str) -> (TokenKind, &str)
+    ensures value { Some (result.0, chars result.1.now) ≡ find ((codes "=", kind.BinOp equal) ∷ ([], kind.BinOp op) ∷ []) (chars rest.now) }
+    ensures rest { IsUtf8 result.1.now × (length result.1.now ≤ length rest.now) }
+{
+    match strip(rest, '=') {
+        Some(rest) => (TokenKind::BinOp(equal), rest),
+        None => (TokenKind::BinOp(op), rest),
+    }
+}
+
+/// The longest punctuator of a dot and this rest.
+fn dot(rest: &str) -> (TokenKind, &str)
+    ensures value { Some (result.0, chars result.1.now) ≡ find (tails 46 punctuators) (chars rest.now) }
+    ensures rest { IsUtf8 result.1.now × (length result.1.now ≤ length rest.now) }
+{
+    if let Some(more) = strip(rest, '.')
+        && let Some(rest) = strip(more, '.')
+    {
+        (TokenKind::DotDotDot, rest)
+    } else {
+        (TokenKind::Dot, rest)
+    }
+}
+
+/// The longest punctuator of an equals sign and this rest.
+fn equals(rest: &str) -> (TokenKind, &str)
+    ensures value { Some (result.0, chars result.1.now) ≡ find (tails 61 punctuators) (chars rest.now) }
+    ensures rest { IsUtf8 result.1.now × (length result.1.now ≤ length rest.now) }
+{
+    match strip(rest, '=') {
+        Some(rest) => or_equal(BinOpToken::EqEq, BinOpToken::EqEqEq, rest),
+        None => match strip(rest, '>') {
+            Some(rest) => (TokenKind::Arrow, rest),
+            None => (TokenKind::AssignOp(AssignOp::Assign), rest),
+        },
+    }
+}
+
+/// The longest punctuator of an exclamation mark and this rest.
+fn bang(rest: &str) -> (TokenKind, &str)
+    ensures value { Some (result.0, chars result.1.now) ≡ find (tails 33 punctuators) (chars rest.now) }
+    ensures rest { IsUtf8 result.1.now × (length result.1.now ≤ length rest.now) }
+{
+    match strip(rest, '=') {
+        Some(rest) => or_equal(BinOpToken::NotEq, BinOpToken::NotEqEq, rest),
+        None => (TokenKind::Bang, rest),
+    }
+}
+
+/// The longest punctuator of a question mark and this rest.
+fn question(rest: &str) -> (TokenKind, &str)
+    ensures value { Some (result.0, chars result.1.now) ≡ find (tails 63 punctuators) (chars rest.now) }
+    ensures rest { IsUtf8 result.1.now × (length result.1.now ≤ length rest.now) }
+{
+    match strip(rest, '?') {
+        Some(rest) => or_assign(BinOpToken::NullishCoalescing, AssignOp::NullishAssign, rest),
+        None => (TokenKind::QuestionMark, rest),
+    }
+}
+
+/// The longest punctuator of a plus sign and this rest.
+fn plus(rest: &str) -> (TokenKind, &str)
+    ensures value { Some (result.0, chars result.1.now) ≡ find (tails 43 punctuators) (chars rest.now) }
+    ensures rest { IsUtf8 result.1.now × (length result.1.now ≤ length rest.now) }
+{
+    match strip(rest, '+') {
+        Some(rest) => (TokenKind::PlusPlus, rest),
+        None => or_assign(BinOpToken::Add, AssignOp::AddAssign, rest),
+    }
+}
+
+/// The longest punctuator of a minus sign and this rest.
+fn minus(rest: &str) -> (TokenKind, &str)
+    ensures value { Some (result.0, chars result.1.now) ≡ find (tails 45 punctuators) (chars rest.now) }
+    ensures rest { IsUtf8 result.1.now × (length result.1.now ≤ length rest.now) }
+{
+    match strip(rest, '-') {
+        Some(rest) => (TokenKind::MinusMinus, rest),
+        None => or_assign(BinOpToken::Sub, AssignOp::SubAssign, rest),
+    }
+}
+
+/// The longest punctuator of a star and this rest.
+fn star(rest: &str) -> (TokenKind, &str)
+    ensures value { Some (result.0, chars result.1.now) ≡ find (tails 42 punctuators) (chars rest.now) }
+    ensures rest { IsUtf8 result.1.now × (length result.1.now ≤ length rest.now) }
+{
+    match strip(rest, '*') {
+        Some(rest) => or_assign(BinOpToken::Exp, AssignOp::ExpAssign, rest),
+        None => or_assign(BinOpToken::Mul, AssignOp::MulAssign, rest),
+    }
+}
+
+/// The longest punctuator of an ampersand and this rest.
+fn ampersand(rest: &str) -> (TokenKind, &str)
+    ensures value { Some (result.0, chars result.1.now) ≡ find (tails 38 punctuators) (chars rest.now) }
+    ensures rest { IsUtf8 result.1.now × (length result.1.now ≤ length rest.now) }
+{
+    match strip(rest, '&') {
+        Some(rest) => or_assign(BinOpToken::LogicalAnd, AssignOp::AndAssign, rest),
+        None => or_assign(BinOpToken::BitAnd, AssignOp::BitAndAssign, rest),
+    }
+}
+
+/// The longest punctuator of a bar and this rest.
+fn bar(rest: &str) -> (TokenKind, &str)
+    ensures value { Some (result.0, chars result.1.now) ≡ find (tails 124 punctuators) (chars rest.now) }
+    ensures rest { IsUtf8 result.1.now × (length result.1.now ≤ length rest.now) }
+{
+    match strip(rest, '|') {
+        Some(rest) => or_assign(BinOpToken::LogicalOr, AssignOp::OrAssign, rest),
+        None => or_assign(BinOpToken::BitOr, AssignOp::BitOrAssign, rest),
+    }
+}
+
+/// The longest punctuator of a less-than sign and this rest.
+fn less(rest: &str) -> (TokenKind, &str)
+    ensures value { Some (result.0, chars result.1.now) ≡ find (tails 60 punctuators) (chars rest.now) }
+    ensures rest { IsUtf8 result.1.now × (length result.1.now ≤ length rest.now) }
+{
+    match strip(rest, '<') {
+        Some(rest) => or_assign(BinOpToken::LShift, AssignOp::LShiftAssign, rest),
+        None => or_equal(BinOpToken::Lt, BinOpToken::LtEq, rest),
+    }
+}
+
+/// The longest punctuator of a greater-than sign and this rest.
+fn greater(rest: &str) -> (TokenKind, &str)
+    ensures value { Some (result.0, chars result.1.now) ≡ find (tails 62 punctuators) (chars rest.now) }
+    ensures rest { IsUtf8 result.1.now × (length result.1.now ≤ length rest.now) }
+{
+    match strip(rest, '>') {
+        Some(rest) => match strip(rest, '>') {
+            Some(rest) => or_assign(
+                BinOpToken::ZeroFillRShift,
+                AssignOp::ZeroFillRShiftAssign,
+                rest,
+            ),
+            None => or_assign(BinOpToken::RShift, AssignOp::RShiftAssign, rest),
+        },
+        None => or_equal(BinOpToken::Gt, BinOpToken::GtEq, rest),
+    }
+}
+
+/// The longest punctuator that begins with this character, before this rest.
+fn longest(c: char, rest: &str) -> Option<(TokenKind, &str)>
+    ensures value { option_map (λ x. (x.0, chars x.1.now)) result ≡ find (tails c punctuators) (chars rest.now) }
+    ensures rest { IfSome result (λ x. IsUtf8 x.1.now × (length x.1.now ≤ length rest.now)) }
+{
+    Some(match c {
+        '{' => (TokenKind::LBrace, rest),
+        '}' => (TokenKind::RBrace, rest),
+        '(' => (TokenKind::LParen, rest),
+        ')' => (TokenKind::RParen, rest),
+        '[' => (TokenKind::LBracket, rest),
+        ']' => (TokenKind::RBracket, rest),
+        ';' => (TokenKind::Semi, rest),
+        ',' => (TokenKind::Comma, rest),
+        ':' => (TokenKind::Colon, rest),
+        '#' => (TokenKind::Hash, rest),
+        '@' => (TokenKind::At, rest),
+        '~' => (TokenKind::Tilde, rest),
+        '`' => (TokenKind::BackQuote, rest),
+        '.' => dot(rest),
+        '=' => equals(rest),
+        '!' => bang(rest),
+        '?' => question(rest),
+        '+' => plus(rest),
+        '-' => minus(rest),
+        '*' => star(rest),
+        '/' => or_assign(BinOpToken::Div, AssignOp::DivAssign, rest),
+        '%' => or_assign(BinOpToken::Mod, AssignOp::ModAssign, rest),
+        '^' => or_assign(BinOpToken::BitXor, AssignOp::BitXorAssign, rest),
+        '&' => ampersand(rest),
+        '|' => bar(rest),
+        '<' => less(rest),
+        '>' => greater(rest),
+        _ => return None,
+    })
 }
 
 fn begins_with_digit(text: &str) -> bool
@@ -110,31 +213,6 @@ fn begins_with_digit(text: &str) -> bool
     }
 }
 
-/// What follows the mark, which is of ASCII, where a text begins with it.
-fn strip_mark<'a>(text: &'a str, mark: &[u8]) -> Option<&'a str>
-    ensures value { option_map (λ r. chars r.now) result ≡ past_all mark.now (chars text.now) }
-    ensures rest { IfSome result (λ x. IsUtf8 x.now × (length x.now ≤ length text.now)) }
-{
-    let mut rest = text;
-    for byte in mark {
-        rest = strip(rest, *byte as char)?;
-    }
-    Some(rest)
-}
-
-/// The first of these marks that begins a text, as its kind, and what follows it.
-fn first_of<'a>(marks: &[(&str, TokenKind)], text: &'a str) -> Option<(TokenKind, &'a str)>
-    ensures value { option_map (λ x. (x.0, chars x.1.now)) result ≡ find (map (λ x. (x.0.now, x.1)) marks.now) (chars text.now) }
-    ensures rest { IfSome result (λ x. IsUtf8 x.1.now × (length x.1.now ≤ length text.now)) }
-{
-    for mark in marks {
-        if let Some(rest) = strip_mark(text, mark.0.as_bytes()) {
-            return Some((mark.1, rest));
-        }
-    }
-    None
-}
-
 /// The punctuator at the front of a text.
 fn read<'a>(text: &'a str) -> Option<(TokenKind, &'a str)>
     ensures value { option_map (λ x. (x.0, chars x.1.now)) result ≡ read_punctuator (chars text.now) }
@@ -144,7 +222,7 @@ fn read<'a>(text: &'a str) -> Option<(TokenKind, &'a str)>
     if c == '.' && begins_with_digit(rest) {
         return None;
     }
-    first_of(continuations(c), rest)
+    longest(c, rest)
 }
 
 /// The longest punctuator at the front of a text, as the kind of its token, and what follows it, or

@@ -1,15 +1,17 @@
-//! `ecma_scan_bench FILE [KIND]`: cuts a script into its pieces, and prints how many there are of each
-//! kind, or of KIND alone. For the kind `bytes` nothing is cut, and the answer is the length of the file.
-//! Of the counts nothing is proved: what each piece is, `ecma_scan` and `ecma_literal` promise.
+//! `ecma_lexeme_bench FILE [KIND]`: cuts a script into its tokens, and prints how many there are of each
+//! kind, or of KIND alone. A slash divides; for the kind `regexps` it opens a regular expression. For the
+//! kind `bytes` nothing is cut, and the answer is the length of the file. Of the counts nothing is proved:
+//! what each token is, `ecma_lexeme` promises.
 #![tactic(auto)]
 
-mod pieces;
+mod tokens;
 
-use pieces::{Kind, Tally, count};
+use ecma_lexeme::LexicalGoal;
 use std::{env, fs};
+use tokens::{Kind, Tally, count};
 
 /// What the program is called with.
-const USAGE: &str = "usage: ecma_scan_bench FILE [KIND]";
+const USAGE: &str = "usage: ecma_lexeme_bench FILE [KIND]";
 
 /// The word for the length of the file.
 const BYTES: &str = "bytes";
@@ -17,7 +19,16 @@ const BYTES: &str = "bytes";
 /// The greatest length of a file.
 const LONGEST: usize = 0xFFFF_FFFE;
 
-/// Prints how many pieces there are of each kind, or of one.
+/// The goal that says what a slash is, where tokens of this kind are asked for.
+fn goal(only: Option<&str>) -> LexicalGoal {
+    if only == Some(Kind::RegExp.name()) {
+        LexicalGoal::RegExp
+    } else {
+        LexicalGoal::Div
+    }
+}
+
+/// Prints how many tokens there are of each kind, or of one.
 fn report(rt: &HostRuntime, tally: &Tally, only: Option<&str>) -> anyhow::Result<()> {
     for kind in Kind::ALL {
         let name = kind.name();
@@ -38,7 +49,7 @@ fn run(rt: &HostRuntime, path: &str, only: Option<&str>) -> anyhow::Result<()> {
     if text.len() > LONGEST {
         return Err(anyhow::Error::msg("the file is too long"));
     }
-    let tally = count(rt.alloc(), text.as_str())?;
+    let tally = count(rt.alloc(), goal(only), text.as_str())?;
     report(rt, &tally, only)
 }
 
