@@ -104,22 +104,17 @@ fn parts_of_a_template(rt: HostRuntime) -> Result<(), Fail> {
     Ok(())
 }
 
-/// Lines that end with CR LF or CR in one piece: fewer than a million, since each is looked for from
-/// where the last one ended up to the next back quote, backslash or dollar.
+/// Lines that end with CR LF or CR in one piece.
 #[test]
 fn returns_in_a_template(rt: HostRuntime) -> Result<(), Fail> {
     for part in ["\r\n", "\r"] {
-        let mut text = String::new(rt.alloc());
-        for _ in 0..50_000 {
-            text.push_str(part)?;
-        }
-        text.push_str("`;")?;
+        let text = between(rt.alloc(), "", part, "`;")?;
         assert!(rt; text.len() < 40_000_000);
         let piece = read_template(rt.alloc(), text.as_str(), END)
             .ok()
             .ok_or("a fault")?;
         let value = piece.cooked.ok().ok_or("no value")?;
-        assert_eq!(rt; (tail(&value), piece.rest), ((50_000, 10), ";"));
+        assert_eq!(rt; (tail(&value), piece.rest), ((MILLION, 10), ";"));
     }
     Ok(())
 }
