@@ -67,7 +67,11 @@ fn contexts_bar_spellings(rt: HostRuntime) -> Result<(), Fail> {
             .ok()
             .ok_or("a fault")?
             .ok_or("no token")?;
-        assert_eq!(rt; found.fault_in(code.context()), *fault, "{text} in {code:?}");
+        assert_eq!(rt;
+            found.fault_in(code.context()),
+            *fault,
+            "{text} in {code:?}"
+        );
     }
     Ok(())
 }
