@@ -1,9 +1,10 @@
 -- Lemmas on the tables of words.
-use Rattle.std.proofs.Common.{◌≡◌, ◌≢◌, ℕ, Bool, true, false, not, ◌&&◌, List, [], ◌∷◌, ◌++◌, refl, sym, ◌∙◌, ◌<◌, lit<, eq-eqb, arith}
+use Rattle.std.proofs.Common.{◌≡◌, ◌≢◌, ◌≤◌, length, slice_index_or, ℕ, Bool, true, false, not, ◌&&◌, ◌||◌, List, [], ◌∷◌, ◌++◌, refl, sym, ap, ◌∙◌, ◌<◌, lit<, eq-eqb, arith}
 use Rattle.std.specs.Prelude.{◌==◌, bytes_eq, codes, if◌then◌else◌}
 use Rattle.std.proofs.lemmas.Slice.Eq.{bytes_eq-Decides}
+use Rattle.std.proofs.lemmas.Bool.Decides.{nat_tests}
 use Rattle.ecma_token.specs.Kinds.{name_kind, null_kind, true_kind, false_kind}
-use Rattle.ecma_token.specs.Words.{SpecWord, own_words, keyword_words, literal_words, known_words, kind_among, text_among, kind_of, own_text, own_word, word_of, IsOwnName}
+use Rattle.ecma_token.specs.Words.{SpecWord, begins_with, has_shape, own_words, keyword_words, literal_words, known_words, kind_among, text_among, kind_of, own_text, own_word, word_of, IsOwnName}
 use Rattle.ecma_token.specs.WordKinds.{keyword_kind, known_kind}
 use Rattle.ecma_token.specs.declared.word.Keyword.{Keyword}
 use Rattle.ecma_token.specs.declared.word.KnownIdent.{KnownIdent}
@@ -32,6 +33,36 @@ pub none_among : (words : List (ℕ × List ℕ)) (text : List ℕ) → Differs 
 none_among [] text differs = refl
 none_among (word ∷ words) text differs =
     rw (different_false word.1 text differs.0) (none_among words text differs.1)
+
+either_false : (a b : Bool) → (a || b) ≡ false → (a ≡ false) × (b ≡ false)
+either_false true b h = cc
+either_false false b h = (refl, h)
+
+own_shape : (word : List ℕ) (c : ℕ) (cs : List ℕ) → word ≡ c ∷ cs → (begins_with c word && length word == length (c ∷ cs)) ≡ true
+own_shape word c cs e =
+    let first : (c == c) ≡ true = grind (arith, nat_tests) in
+    let len : (length (c ∷ cs) == length (c ∷ cs)) ≡ true = grind (arith, nat_tests) in
+    rw e (rw first len)
+
+unlike : (word : List ℕ) (c : ℕ) (cs : List ℕ) → (begins_with c word && length word == length (c ∷ cs)) ≡ false → word ≡ c ∷ cs → ⊥
+unlike word c cs other e = let k : false ≡ true = sym other ∙ own_shape word c cs e in cc
+
+-- where none of the words has the shape of a text, its kind is that of a plain name
+none_shaped : (words : List (ℕ × List ℕ)) (c : ℕ) (cs : List ℕ) → has_shape words c (length (c ∷ cs)) ≡ false → kind_among words (c ∷ cs) ≡ name_kind
+none_shaped [] c cs h = refl
+none_shaped (word ∷ words) c cs h =
+    let parts = either_false (begins_with c word.1 && length word.1 == length (c ∷ cs)) (has_shape words c (length (c ∷ cs))) h in
+    rw (different_false word.1 (c ∷ cs) (λ e. unlike word.1 c cs parts.0 (sym e))) (none_shaped words c cs parts.1)
+
+pub not_own : (bytes text : List ℕ) → bytes ≡ text → 1 ≤ length bytes → has_shape own_words (slice_index_or bytes 0 0) (length text) ≡ false → kind_of text ≡ name_kind
+unfolding kind_of
+not_own bytes [] same n h = absurd (omega (arith, n, ap length same))
+not_own bytes (c ∷ cs) same n h = none_shaped own_words c cs (sym (ap (λ t. has_shape own_words (slice_index_or t 0 0) (length (c ∷ cs))) same) ∙ h)
+
+pub empty_not_own : (bytes text : List ℕ) → bytes ≡ text → length bytes < 1 → kind_of text ≡ name_kind
+unfolding kind_of
+empty_not_own bytes [] same n = refl
+empty_not_own bytes (c ∷ cs) same n = absurd (omega (arith, n, ap length same))
 
 -- each word's text is the one that the table has for its kind
 abbrev faithful : List (ℕ × List ℕ) → List (ℕ × List ℕ) → Bool
