@@ -1,9 +1,10 @@
 //! Texts of a million of one thing: each is read once over, in far less than a test's time.
 
-use ecma_literal::{Ending, StringLiteral, Value, raw_text, read_string, read_template};
+use crate::texts::units;
+use ecma_literal::{Ending, StringLiteral, raw_text, read_string, read_template};
 use ecma_scan::characters::pop;
-use ecma_token::{Error, SyntaxError};
-use std::alloc::Global;
+use ecma_token::{Error, SyntaxError, Units};
+use std::alloc::{AllocError, Global};
 use std::process::Abort;
 use std::test::Fail;
 
@@ -23,11 +24,9 @@ fn between(alloc: Global, start: &str, part: &str, end: &str) -> Result<String, 
 }
 
 /// How many code units a value has, and the last of them.
-fn tail(value: &Value<'_>) -> (usize, u16) {
-    match value {
-        Value::Plain(text) => (text.len(), 0),
-        Value::Units(units) => (units.len(), units.last().copied().unwrap_or(0)),
-    }
+fn tail(alloc: Global, value: &Units<'_>) -> Result<(usize, u16), AllocError> {
+    let units = units(alloc, value)?;
+    Ok((units.len(), units.last().copied().unwrap_or(0)))
 }
 
 /// The string at the front of a text, or nothing where no quote stands there.
@@ -57,7 +56,11 @@ fn escapes_in_a_string(rt: HostRuntime) -> Result<(), Fail> {
             .ok()
             .ok_or("a fault")?;
         assert_eq!(rt; literal.rest, ";");
-        assert_eq!(rt; tail(&literal.value), (each * MILLION, last), "at {part}");
+        assert_eq!(rt;
+            tail(rt.alloc(), &literal.value)?,
+            (each * MILLION, last),
+            "at {part}"
+        );
     }
     Ok(())
 }
@@ -99,7 +102,11 @@ fn parts_of_a_template(rt: HostRuntime) -> Result<(), Fail> {
             .ok_or("a fault")?;
         assert_eq!(rt; piece.rest, ";");
         let value = piece.cooked.ok().ok_or("no value")?;
-        assert_eq!(rt; tail(&value), (each * MILLION, last), "at {part}");
+        assert_eq!(rt;
+            tail(rt.alloc(), &value)?,
+            (each * MILLION, last),
+            "at {part}"
+        );
     }
     Ok(())
 }
@@ -114,7 +121,10 @@ fn returns_in_a_template(rt: HostRuntime) -> Result<(), Fail> {
             .ok()
             .ok_or("a fault")?;
         let value = piece.cooked.ok().ok_or("no value")?;
-        assert_eq!(rt; (tail(&value), piece.rest), ((MILLION, 10), ";"));
+        assert_eq!(rt;
+            (tail(rt.alloc(), &value)?, piece.rest),
+            ((MILLION, 10), ";")
+        );
     }
     Ok(())
 }
@@ -162,7 +172,7 @@ fn digits_of_an_escape(rt: HostRuntime) -> Result<(), Fail> {
         .ok_or("no quote")?
         .ok()
         .ok_or("a fault")?;
-    assert_eq!(rt; tail(&literal.value), (1, 65));
+    assert_eq!(rt; tail(rt.alloc(), &literal.value)?, (1, 65));
     let text = between(rt.alloc(), "\\u{", "f", "`")?;
     assert!(rt; text.len() < 40_000_000);
     let piece = read_template(rt.alloc(), text.as_str(), END)
