@@ -21,6 +21,11 @@ fn sort_of(token: &Token<'_>) -> Sort {
     }
 }
 
+/// How many numbers name the texts of up to so many characters.
+fn texts_of(alphabet: &[char], longest: u32) -> usize {
+    alphabet.len().saturating_add(1).saturating_pow(longest)
+}
+
 /// How many characters stand before the rest of a text.
 fn len_before(text: &[char], rest: &str) -> usize {
     text.len().saturating_sub(rest.chars().count())
@@ -83,20 +88,32 @@ fn compare_template(rt: &impl Abort, alloc: Global, chars: &[char]) -> Result<()
     Ok(())
 }
 
-/// Compares them on the texts of these numbers, under one goal.
-fn compare(
+/// Compares them outside templates on all texts of up to so many characters, under both goals.
+fn compare_tokens(
     rt: &impl Abort,
     alloc: Global,
-    goal: LexicalGoal,
     alphabet: &[char],
-    (from, to): (usize, usize),
+    longest: u32,
 ) -> Result<(), Fail> {
-    for number in from..to {
+    for number in 0..texts_of(alphabet, longest) {
         let text = text_of(alloc, alphabet, number)?;
-        match goal {
-            TemplateTail => compare_template(rt, alloc, text.as_slice())?,
-            _ => compare_token(rt, alloc, goal, text.as_slice())?,
+        for goal in [Div, RegExp] {
+            compare_token(rt, alloc, goal, text.as_slice())?;
         }
+    }
+    Ok(())
+}
+
+/// Compares them in templates on all texts of up to so many characters.
+fn compare_templates(
+    rt: &impl Abort,
+    alloc: Global,
+    alphabet: &[char],
+    longest: u32,
+) -> Result<(), Fail> {
+    for number in 0..texts_of(alphabet, longest) {
+        let text = text_of(alloc, alphabet, number)?;
+        compare_template(rt, alloc, text.as_slice())?;
     }
     Ok(())
 }
@@ -108,82 +125,76 @@ const ALL: &[char] = &[
     '\u{2603}',
 ];
 
-/// The texts of up to three of all characters.
 #[test]
-fn short_texts_where_a_slash_divides(rt: HostRuntime) -> Result<(), Fail> {
-    compare(&rt, rt.alloc(), Div, ALL, (0, 35 * 35 * 35))
+fn texts_of_up_to_three_of_all(rt: HostRuntime) -> Result<(), Fail> {
+    compare_tokens(&rt, rt.alloc(), ALL, 3)
 }
 
 #[test]
-fn short_texts_where_a_slash_opens(rt: HostRuntime) -> Result<(), Fail> {
-    compare(&rt, rt.alloc(), RegExp, ALL, (0, 35 * 35 * 35))
+fn templates_of_up_to_three_of_all(rt: HostRuntime) -> Result<(), Fail> {
+    compare_templates(&rt, rt.alloc(), ALL, 3)
 }
 
-#[test]
-fn short_texts_in_a_template(rt: HostRuntime) -> Result<(), Fail> {
-    compare(&rt, rt.alloc(), TemplateTail, ALL, (0, 35 * 35 * 35))
-}
-
-const ESCAPES: &[char] = &['\\', 'u', '0', '6', '1'];
-
-/// Of up to six: `\u0061` among them.
+/// `\u0061` is among them.
 #[test]
 fn names_with_escapes(rt: HostRuntime) -> Result<(), Fail> {
-    compare(&rt, rt.alloc(), Div, ESCAPES, (0, 46_656))
+    compare_tokens(&rt, rt.alloc(), &['\\', 'u', '0', '6', '1', '\u{E9}'], 6)
 }
 
-const BRACES: &[char] = &['\\', 'u', '{', '}', '6'];
-
-/// Of up to six: `\u{66}` among them.
+/// `\u{61}` is among them.
 #[test]
 fn names_with_braces(rt: HostRuntime) -> Result<(), Fail> {
-    compare(&rt, rt.alloc(), RegExp, BRACES, (0, 46_656))
+    compare_tokens(&rt, rt.alloc(), &['\\', 'u', '{', '}', '6', '1'], 6)
 }
 
-const DIGITS: &[char] = &['0', '1', '8', '.', 'e', 'x', 'n', '_', '-'];
-
-/// Of up to five.
 #[test]
-fn numbers(rt: HostRuntime) -> Result<(), Fail> {
-    compare(&rt, rt.alloc(), Div, DIGITS, (0, 100_000))
+fn decimal_numbers(rt: HostRuntime) -> Result<(), Fail> {
+    compare_tokens(&rt, rt.alloc(), &['0', '1', '8', '.', 'e', '_', '-'], 6)
 }
 
-const QUOTES: &[char] = &['\'', '\\', '0', '8', 'x', '\n', '\r', '\u{2028}', '\u{E9}'];
+#[test]
+fn numbers_with_prefixes(rt: HostRuntime) -> Result<(), Fail> {
+    let alphabet = ['0', '1', '8', 'b', 'o', 'x', 'n', '_', '\\'];
+    compare_tokens(&rt, rt.alloc(), &alphabet, 5)
+}
 
-/// Of up to five.
 #[test]
 fn strings(rt: HostRuntime) -> Result<(), Fail> {
-    compare(&rt, rt.alloc(), Div, QUOTES, (0, 100_000))
+    let alphabet = ['\'', '"', '\\', '\n', '\r', '\u{2028}', '\u{E9}'];
+    compare_tokens(&rt, rt.alloc(), &alphabet, 6)
 }
 
-const SLASHES: &[char] = &['/', '*', '[', ']', '\\', 'a', '=', '\n', '\u{2028}'];
+#[test]
+fn strings_with_escapes(rt: HostRuntime) -> Result<(), Fail> {
+    let alphabet = ['\'', '\\', '0', '1', '8', 'x', 'u', '{', '}'];
+    compare_tokens(&rt, rt.alloc(), &alphabet, 5)
+}
 
-/// Of up to five.
 #[test]
 fn regular_expressions(rt: HostRuntime) -> Result<(), Fail> {
-    compare(&rt, rt.alloc(), RegExp, SLASHES, (0, 100_000))
+    let alphabet = ['/', '*', '[', ']', '\\', 'a', '=', '\n', '\u{2028}'];
+    compare_tokens(&rt, rt.alloc(), &alphabet, 5)
 }
 
-const BODIES: &[char] = &['/', '[', ']', '\\', 'a'];
-
-/// Of up to six.
 #[test]
 fn longer_regular_expressions(rt: HostRuntime) -> Result<(), Fail> {
-    compare(&rt, rt.alloc(), RegExp, BODIES, (0, 46_656))
+    compare_tokens(&rt, rt.alloc(), &['/', '[', ']', '\\', 'a'], 6)
 }
 
-const MARKS: &[char] = &['/', '*', '<', '!', '-', '>', '=', '?', '.'];
-
-/// Of up to five.
 #[test]
 fn punctuators(rt: HostRuntime) -> Result<(), Fail> {
-    compare(&rt, rt.alloc(), Div, MARKS, (0, 100_000))
+    let alphabet = ['/', '*', '<', '!', '-', '>', '=', '?', '.'];
+    compare_tokens(&rt, rt.alloc(), &alphabet, 5)
 }
 
-const PIECES: &[char] = &['`', '$', '{', '}', '\\', '0', 'u', '\r', '\n'];
-
-/// Of up to five.
 #[test]
 fn pieces_of_templates(rt: HostRuntime) -> Result<(), Fail> {
-    compare(&rt, rt.alloc(), TemplateTail, PIECES, (0, 100_000))
+    let alphabet = ['`', '$', '{', '}', '\\', '0', 'u', '\r', '\n'];
+    compare_templates(&rt, rt.alloc(), &alphabet, 5)
+}
+
+#[test]
+fn longer_pieces_of_templates(rt: HostRuntime) -> Result<(), Fail> {
+    let alphabet = ['`', '$', '{', '\\', 'x', '\u{2028}'];
+    compare_templates(&rt, rt.alloc(), &alphabet, 6)
 }
