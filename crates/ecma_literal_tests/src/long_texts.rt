@@ -55,7 +55,11 @@ fn escapes_in_a_string(rt: HostRuntime) -> Result<(), Fail> {
             .ok()
             .ok_or("a fault")?;
         assert_eq!(rt; literal.rest, ";");
-        assert_eq!(rt; tail(rt.alloc(), literal.value)?, (each * MILLION, last), "at {part}");
+        assert_eq!(rt;
+            tail(rt.alloc(), literal.value)?,
+            (each * MILLION, last),
+            "at {part}"
+        );
     }
     Ok(())
 }
@@ -97,7 +101,11 @@ fn parts_of_a_template(rt: HostRuntime) -> Result<(), Fail> {
             .ok_or("a fault")?;
         assert_eq!(rt; piece.rest, ";");
         let value = piece.cooked.ok().ok_or("no value")?;
-        assert_eq!(rt; tail(rt.alloc(), value)?, (each * MILLION, last), "at {part}");
+        assert_eq!(rt;
+            tail(rt.alloc(), value)?,
+            (each * MILLION, last),
+            "at {part}"
+        );
     }
     Ok(())
 }
@@ -112,7 +120,10 @@ fn returns_in_a_template(rt: HostRuntime) -> Result<(), Fail> {
             .ok()
             .ok_or("a fault")?;
         let value = piece.cooked.ok().ok_or("no value")?;
-        assert_eq!(rt; (tail(rt.alloc(), value)?, piece.rest), ((MILLION, 10), ";"));
+        assert_eq!(rt;
+            (tail(rt.alloc(), value)?, piece.rest),
+            ((MILLION, 10), ";")
+        );
     }
     Ok(())
 }
