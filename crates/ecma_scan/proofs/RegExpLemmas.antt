@@ -1,15 +1,15 @@
 -- Regular expressions are determined, and are what the functions on lists read.
-use Rattle.std.proofs.Common.{◌≡◌, ◌≢◌, ℕ, ⊎_elim, Bool, true, false, cond, not, ◌&&◌, List, [], ◌∷◌, ◌++◌, refl, sym, ap, subst, ◌∙◌, append_assoc, arith}
+use Rattle.std.proofs.Common.{◌≡◌, ◌≢◌, ℕ, ⊎_elim, Bool, true, false, cond, not, ◌&&◌, List, [], ◌∷◌, ◌++◌, refl, sym, ap, subst, ◌∙◌, append-nil, append_assoc, arith}
 use Rattle.std.specs.Prelude.{◌==◌, None, Some}
 use Rattle.std.proofs.lemmas.Bool.{and_parts, cases_Bool, eqb-true, false≢true}
 use Rattle.std.proofs.lemmas.Bool.Decides.{nat_tests}
 use Rattle.std.proofs.lemmas.List.{append_cancel_right}
 use Rattle.ecma_scan.specs.Characters.{is_among, is_line_terminator, is_name_part}
 use Rattle.ecma_scan.specs.Classes.{is_line_char, is_reg_exp_char}
-use Rattle.ecma_scan.specs.Runs.{Each, Ends, IsRun, Passed}
+use Rattle.ecma_scan.specs.Runs.{Each, Ends, IsRun, Passed, run, after}
 use Rattle.ecma_scan.specs.RegExps.{Mark, Bare, Escaped, Part, One, Class, EachInClass, EachPart, Goes, IsBody, IsOpenSlash, IsPart, IsRegExp, NoRegExp, OneRegExp, class_after, is_body_char, is_class_char, is_comment_mark, past_body, past_slash, spelled_all, spelled_part, spelled_parts}
 use Rattle.ecma_scan.proofs.NameLemmas.{cond_same}
-use Rattle.ecma_scan.proofs.TriviaLemmas.{one_run}
+use Rattle.ecma_scan.proofs.TriviaLemmas.{is_run, one_run}
 
 -- ---- one character more
 
@@ -316,6 +316,19 @@ goes_passed k cs rest h = record {
   whole = h.whole;
   past = ap (past_body false k) h.whole ∙ plain_goes k h.front rest h.each;
 }
+
+-- a whole run passes
+pub passed_run : (cs rest : List ℕ) → rest ≡ after is_reg_exp_char cs → Passed is_reg_exp_char cs rest
+passed_run cs rest e =
+    let r = is_run is_reg_exp_char cs in
+    let s = one_run is_reg_exp_char (after is_reg_exp_char cs) [] (after is_reg_exp_char cs) (refl, tt, r.2) in
+    subst (Passed is_reg_exp_char cs) (sym e) (record {
+      front = run is_reg_exp_char cs;
+      whole = r.0;
+      each = r.1;
+      ran = sym (append-nil (run is_reg_exp_char cs)) ∙ ap (λ l. run is_reg_exp_char cs ++ l) (sym s.0);
+      left = sym s.1;
+    })
 
 pub goes_more : (k l : Bool) (cs rest now mid more : List ℕ) → Goes false cs k rest → rest ≡ now → Goes k now l mid → Passed is_reg_exp_char mid more → Goes false cs l more
 goes_more k l cs rest now mid more h e g p =

@@ -21,6 +21,6 @@ pub use comments::{Comment, CommentKind, collect_trivia};
 pub use names::{Name, identifier_name};
 pub use punctuators::punctuator;
 pub use regexps::{RegExp, regular_expression};
-pub use runs::{split_block, split_line, split_name_part, split_white_space};
+pub use runs::{split_block, split_line, split_name_part, split_reg_exp_char, split_white_space};
 pub use trivia::{Goal, LineMark, Trivia, hashbang, skip_trivia, trivia_piece};
 pub use words::{is_escaped_reserved, word};

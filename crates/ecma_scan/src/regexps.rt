@@ -5,7 +5,7 @@ ghost use Rattle.ecma_scan.specs.RegExps.{Goes, IsOpenSlash, IsRegExp, IsRegExpF
 
 use crate::characters::{CharExt, pop};
 use crate::place::fault;
-use crate::runs::{Class, skip_plain, split_line, split_name_part, strip};
+use crate::runs::{split_line, split_name_part, split_reg_exp_char, strip};
 use ecma_token::{Error, SyntaxError};
 
 /// A regular expression at the front of a text.
@@ -62,7 +62,7 @@ fn split_body(text: &str) -> Option<(&str, &str)>
     ensures rest { IfSome result (λ x. IsUtf8 x.0.now × IsUtf8 x.1.now × (length x.1.now < length text.now)) }
 {
     let mut in_class = false;
-    let mut rest = skip_plain(text, Class::RegExp);
+    let (_, mut rest) = split_reg_exp_char(text);
     while let Some((c, more)) = pop(rest) {
         if c == '/' && !in_class {
             let (own, _) = text.split_at(text.len() - rest.len());
@@ -70,7 +70,7 @@ fn split_body(text: &str) -> Option<(&str, &str)>
         }
         let (now_in_class, after) = pass(in_class, c, more)?;
         in_class = now_in_class;
-        rest = skip_plain(after, Class::RegExp);
+        (_, rest) = split_reg_exp_char(after);
     }
     None
 }

@@ -3,7 +3,7 @@ ghost use Rattle.std.specs.Prelude.{◌≡◌, ◌≢◌, ℕ, ◌+◌, ◌≤�
 ghost use Rattle.std.specs.List.{prefix_len};
 ghost use Rattle.std.specs.Str.{chars};
 ghost use Rattle.ecma_scan.specs.Characters as spec;
-ghost use Rattle.ecma_scan.specs.Classes.{is_name_byte, is_reg_exp_byte, is_space_byte, is_line_char, member, plain};
+ghost use Rattle.ecma_scan.specs.Classes.{is_name_byte, is_reg_exp_byte, is_space_byte, is_line_char, is_reg_exp_char, member, plain};
 ghost use Rattle.ecma_scan.specs.Runs.{Passed, run, after};
 ghost use Rattle.ecma_scan.specs.Comments.{NoEnd, IsBlock};
 ghost use Rattle.ecma_scan.specs.ReadingTrivia.{past};
@@ -17,7 +17,7 @@ const SEPARATOR_LEAD: u8 = 0xE2;
 
 /// A class of characters, of which a text may hold a run.
 #[derive(Clone, Copy)]
-pub(crate) enum Class {
+enum Class {
     /// What a name goes on with.
     NamePart,
     /// White space.
@@ -86,7 +86,7 @@ fn plain_len(bytes: &[u8], class: Class) -> usize
 
 /// The text after characters of the class that bytes alone tell.
 #[inline(always)]
-pub(crate) fn skip_plain(text: &str, class: Class) -> &str
+fn skip_plain(text: &str, class: Class) -> &str
     ensures passed { Passed (member class) (chars text.now) (chars result.now) }
     ensures shorter { length result.now ≤ length text.now }
 {
@@ -140,6 +140,17 @@ pub fn split_line(text: &str) -> (&str, &str)
     ensures texts { IsUtf8 result.0.now × IsUtf8 result.1.now }
 {
     split_run(text, Class::Line)
+}
+
+/// The characters at the front of a text that stand for themselves in a regular expression, in a class
+/// and outside (ECMA-262, 12.9.5), and what follows them.
+pub fn split_reg_exp_char(text: &str) -> (&str, &str)
+    ensures run { chars result.0.now ≡ run is_reg_exp_char (chars text.now) }
+    ensures after { chars result.1.now ≡ after is_reg_exp_char (chars text.now) }
+    ensures lengths { length result.0.now + length result.1.now ≡ length text.now }
+    ensures texts { IsUtf8 result.0.now × IsUtf8 result.1.now }
+{
+    split_run(text, Class::RegExp)
 }
 
 /// What follows the character where a text begins with it.

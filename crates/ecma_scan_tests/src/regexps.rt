@@ -1,4 +1,4 @@
-use ecma_scan::{RegExp, regular_expression};
+use ecma_scan::{RegExp, regular_expression, split_reg_exp_char};
 use ecma_token::{BytePos, Error, Span, SyntaxError};
 use std::test::Fail;
 
@@ -77,6 +77,27 @@ fn leaves_other_texts(rt: HostRuntime) -> Result<(), Fail> {
     for text in NOTHING {
         assert!(&rt; text.len() < 1000);
         assert_eq!(&rt; regular_expression(1000, text), Ok(None), "at {text}");
+    }
+    Ok(())
+}
+
+/// The run of what stands for itself, and the rest.
+const RUNS: [(&str, &str, &str); 9] = [
+    ("", "", ""),
+    ("a*(?:b)/g", "a*(?:b)", "/g"),
+    ("a\\/", "a", "\\/"),
+    ("a[b]", "a", "[b]"),
+    ("]", "", "]"),
+    ("\u{E9}\u{2027}-\u{2030}/", "\u{E9}\u{2027}-\u{2030}", "/"),
+    ("a\u{2028}b", "a", "\u{2028}b"),
+    ("a\u{2029}", "a", "\u{2029}"),
+    ("$^\r\n", "$^", "\r\n"),
+];
+
+#[test]
+fn runs_stand_for_themselves(rt: HostRuntime) -> Result<(), Fail> {
+    for (text, own, rest) in RUNS {
+        assert_eq!(&rt; split_reg_exp_char(text), (own, rest), "at {text}");
     }
     Ok(())
 }

@@ -1,12 +1,12 @@
 use Rattle.std.proofs.Common.{◌≡◌, ◌∷◌, ◌++◌, ap, sym, arith, rules, false, ◌∙◌}
 use Rattle.std.specs.Str.{chars}
 use Rattle.ecma_scan.proofs.Passing.{seam}
-use Rattle.ecma_scan.proofs.RegExpLemmas.{ends_body, goes_more, goes_passed}
+use Rattle.ecma_scan.proofs.RegExpLemmas.{ends_body, goes_more, goes_passed, passed_run}
 use Rattle.ecma_scan.proofs.regexps.split_body.Goals as goal
 use Rattle.ecma_scan.proofs.regexps.split_body.Goals.{else-c-eq47-via-then-c-eq47+else-not-in_class, else-c-eq47-via-else-c-eq47}
 
 pub loop-c-init : goal.loop-c-init
-loop-c-init c = (c.skip_plain-rest.utf8, omega (arith, c.skip_plain-rest.ensures.shorter), goes_passed false _ _ c.skip_plain-rest.ensures.passed)
+loop-c-init c = (c.split_reg_exp_char.ensures.texts.1, omega (arith, c.split_reg_exp_char.ensures.lengths), goes_passed false _ _ (passed_run _ _ c.split_reg_exp_char.ensures.after))
 
 pub split_at-requires : goal.split_at-requires
 split_at-requires c =
@@ -29,8 +29,8 @@ returns-then-not-in_class-clause-body c =
 
 pub loop-c-preserved : goal.loop-c-preserved
 loop-c-preserved c = (
-  c.skip_plain-rest-in-Some.utf8,
-  omega (arith, c.in-Some.ensures.shorter, c.in_ok-now_in_class.ensures.rest.1, c.skip_plain-rest-in-Some.ensures.shorter),
+  c.split_reg_exp_char-in-Some.ensures.texts.1,
+  omega (arith, c.in-Some.ensures.shorter, c.in_ok-now_in_class.ensures.rest.1, c.split_reg_exp_char-in-Some.ensures.lengths),
   goes_more c.loop-c.in_class c.in_ok-now_in_class.now_in_class (chars c.args.text.now) (chars c.loop-c.rest.now) (c.in-Some.c ∷ chars c.in-Some.more.now) _ _
-      c.loop-c.invariant.2 c.in-Some.ensures.cut c.in_ok-now_in_class.ensures.passed c.skip_plain-rest-in-Some.ensures.passed,
+      c.loop-c.invariant.2 c.in-Some.ensures.cut c.in_ok-now_in_class.ensures.passed (passed_run _ _ c.split_reg_exp_char-in-Some.ensures.after),
 )
