@@ -6,6 +6,7 @@ pub mod NumeralLemmas
 pub mod PlaceLemmas
 pub mod RawLemmas
 pub mod RunLemmas
+pub mod StandLemmas
 pub mod StopLemmas
 pub mod ScanLemmas
 pub mod StateLemmas

@@ -4,6 +4,7 @@ pub mod NumberSteps
 pub mod Numbers
 pub mod Places
 pub mod Reading
+pub mod Standing
 pub mod Stops
 pub mod Strings
 pub mod TemplateSteps

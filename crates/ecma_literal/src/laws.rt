@@ -2,6 +2,7 @@
 
 ghost use Rattle.ecma_literal.specs.Escapes.{OneEscape};
 ghost use Rattle.ecma_literal.specs.Numbers.{OneNumber};
+ghost use Rattle.ecma_literal.specs.Standing.{BigIntStands, NumberStands};
 ghost use Rattle.ecma_literal.specs.Strings.{OneString};
 ghost use Rattle.ecma_literal.specs.Templates.{OnePiece};
 
@@ -23,4 +24,14 @@ pub fn one_piece_stands()
 /// Law: at most one numeric literal stands at the front of a text.
 pub fn one_number_stands()
     ensures { OneNumber }
+{}
+
+/// Law: a spelling of a number is read as its value, before any rest that may follow.
+pub fn number_stands()
+    ensures { NumberStands }
+{}
+
+/// Law: a spelling of a big integer is read as its radix and digits, before any rest that may follow.
+pub fn big_int_stands()
+    ensures { BigIntStands }
 {}

@@ -1,11 +1,7 @@
-//! Tests of the readers of literals: vectors from outside, and a slow, plain reader that tries every way
-//! to cut a text.
+//! Tests of the readers of literals by a slow, plain reader that tries every way to cut a text. Answers from
+//! outside stand in the rows of `ecma_lexical_rows`.
 #![tactic(auto)]
 
-#[cfg(test)]
-mod faults;
-#[cfg(test)]
-mod long_texts;
 #[cfg(test)]
 mod numbers;
 pub mod plain;

@@ -26,12 +26,3 @@ pub fn string_of(alloc: Global, chars: &[char]) -> Result<String, AllocError> {
     }
     Ok(text)
 }
-
-/// This text so many times.
-pub fn repeated(alloc: Global, part: &str, times: usize) -> Result<String, AllocError> {
-    let mut text = String::new(alloc);
-    for _ in 0..times {
-        text.push_str(part)?;
-    }
-    Ok(text)
-}

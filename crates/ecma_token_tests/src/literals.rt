@@ -1,5 +1,5 @@
 //! Values of literals, tokens and operators.
-use ecma_token::utf16::{push_code, push_text};
+use ecma_token::utf16::push_code;
 use ecma_token::{
     AssignOp, BinOpToken, BinaryOp, BytePos, DUMMY_SP, Error, NumValue, Span, Spanned, SyntaxError,
     Token, TokenAndSpan, TokenKind, Units, Word,
@@ -8,31 +8,6 @@ use std::alloc::Global;
 use std::borrow::CowStr;
 use std::process::Abort;
 use std::test::Fail;
-
-/// Texts and their units, by node 20: `charCodeAt` of each.
-const UNITS: &[(&str, &[u16])] = &[
-    ("", &[]),
-    ("ab", &[97, 98]),
-    ("\u{e9}\u{2028}", &[233, 8232]),
-    ("\u{ffff}\u{10000}", &[65535, 55296, 56320]),
-    ("x\u{1f600}y", &[120, 55357, 56832, 121]),
-    ("\u{10ffff}", &[56319, 57343]),
-];
-
-#[test]
-fn units_of_a_text_borrow_it(rt: HostRuntime) -> Result<(), Fail> {
-    for (text, want) in UNITS {
-        let units = Units::from(*text);
-        assert_eq!(rt; units.as_plain(), Some(*text));
-        let copy = units.clone()?;
-        assert_eq!(rt; copy.as_plain(), Some(*text));
-        assert_eq!(rt; copy.into_vec(rt.alloc())?.as_slice(), *want, "{text}");
-        let mut added = [7].to_vec(rt.alloc())?;
-        push_text(&mut added, text)?;
-        assert_eq!(rt; added.split_first().map(|x| x.1), Some(*want), "{text}");
-    }
-    Ok(())
-}
 
 #[test]
 fn units_of_a_list_are_that_list(rt: HostRuntime) -> Result<(), Fail> {

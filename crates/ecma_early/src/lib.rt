@@ -1,0 +1,2 @@
+//! Early errors: a walk over a finished tree.
+#![tactic(auto)]

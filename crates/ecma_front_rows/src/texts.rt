@@ -1,0 +1,107 @@
+//! Texts that are written, and texts that are refused.
+
+use crate::ran::{minify_within, options, run_all, run_in_pieces};
+use ecma_front::Fault;
+use ecma_rows::{Answer, Row};
+use std::alloc::Global;
+
+/// What a text is written as.
+pub fn written(row: &Row<'_>, text: &[u8], answer: &mut Answer) -> anyhow::Result<()> {
+    let ran = run_all(answer.alloc(), text, options(row))?;
+    if ran.fault.is_some() {
+        return Err(anyhow::Error::msg("refused"));
+    }
+    Ok(answer.push(ran.written.as_slice())?)
+}
+
+/// Why a text is refused; with `either` in the setting only that it is one whose syntax is wrong or that
+/// nests too deeply.
+pub fn refused(row: &Row<'_>, text: &[u8], answer: &mut Answer) -> anyhow::Result<()> {
+    let ran = run_all(answer.alloc(), text, options(row))?;
+    match ran.fault {
+        Some(Fault::Syntax(_) | Fault::TooDeep) if row.has("either") => Ok(answer.say("either")?),
+        Some(Fault::Syntax(_)) => Ok(answer.say("syntax")?),
+        Some(Fault::TooDeep) => Ok(answer.say("too deep")?),
+        Some(Fault::NotUtf8 { valid_up_to }) => {
+            Ok(answer.say(format_args!("not UTF-8 at {valid_up_to}"))?)
+        }
+        Some(_) => Ok(answer.say("another fault")?),
+        None => Err(anyhow::Error::msg("written")),
+    }
+}
+
+/// What is wrong with the syntax of a text, and where.
+pub fn syntax_fault(row: &Row<'_>, text: &[u8], answer: &mut Answer) -> anyhow::Result<()> {
+    let ran = run_all(answer.alloc(), text, options(row))?;
+    let Some(Fault::Syntax(error)) = ran.fault else {
+        return Err(anyhow::Error::msg("the syntax isn't wrong"));
+    };
+    let (lo, hi) = (error.span.lo.0, error.span.hi.0);
+    Ok(answer.say(format_args!("{:?} {lo}..{hi}", error.kind))?)
+}
+
+/// Whether a text is written as it is.
+fn stays(alloc: Global, text: &str) -> anyhow::Result<bool> {
+    let ran = run_all(alloc, text.as_bytes(), minify_within(256))?;
+    Ok(ran.fault.is_none() && ran.written.as_slice() == text.as_bytes())
+}
+
+/// Whether the syntax of a text is wrong.
+fn is_wrong(alloc: Global, text: &str) -> anyhow::Result<bool> {
+    let ran = run_all(alloc, text.as_bytes(), minify_within(256))?;
+    Ok(matches!(ran.fault, Some(Fault::Syntax(_))))
+}
+
+/// Where a word is refused, alone and in an expression, and which names that are near it are written as
+/// they are.
+pub fn reserved(text: &[u8], answer: &mut Answer) -> anyhow::Result<()> {
+    let alloc = answer.alloc();
+    let word = str::from_utf8(text)?;
+    for text in [
+        format!(in alloc; "{word}")?,
+        format!(in alloc; "a+{word};")?,
+    ] {
+        if !is_wrong(alloc, text.as_str())? {
+            return Err(anyhow::Error::msg("the word is taken"));
+        }
+    }
+    for name in [
+        format!(in alloc; "{word}s")?,
+        format!(in alloc; "{word}$")?,
+        format!(in alloc; "_{word}")?,
+        format!(in alloc; "{word}\u{200D}")?,
+        format!(in alloc; "{word}{word}")?,
+    ] {
+        if !stays(alloc, name.as_str())? {
+            return Err(anyhow::Error::msg("a longer name is refused"));
+        }
+    }
+    Ok(answer.say("reserved")?)
+}
+
+/// The greatest limit that may be set.
+const DEEPEST: u32 = 1024;
+
+/// Whether a text is written within a limit; else it has to be too deep.
+fn fits(alloc: Global, text: &[u8], limit: u32) -> anyhow::Result<bool> {
+    let ran = run_in_pieces(alloc, text, (64, 64), minify_within(limit))?;
+    match ran.fault {
+        None => Ok(true),
+        Some(Fault::TooDeep) => Ok(false),
+        Some(_) => Err(anyhow::Error::msg("another fault")),
+    }
+}
+
+/// The least limit that takes a text. The next one and the greatest have to take it too.
+pub fn nesting(text: &[u8], answer: &mut Answer) -> anyhow::Result<()> {
+    let alloc = answer.alloc();
+    for limit in 1..DEEPEST {
+        if fits(alloc, text, limit)? {
+            if !fits(alloc, text, limit + 1)? || !fits(alloc, text, DEEPEST)? {
+                return Err(anyhow::Error::msg("a greater limit is too low"));
+            }
+            return Ok(answer.say(limit)?);
+        }
+    }
+    Err(anyhow::Error::msg("no limit takes it"))
+}

@@ -1,0 +1,2 @@
+//! The grammar of ECMAScript 2024 as a relation between trees and tokens.
+#![tactic(auto)]

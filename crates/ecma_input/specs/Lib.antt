@@ -1,0 +1,3 @@
+-- Sources of tokens besides the lexer.
+pub mod Lists
+pub mod Captures

@@ -1,0 +1,31 @@
+-- A list as a source of tokens.
+use Rattle.std.specs.Prelude.{ℕ, List, [], ◌∷◌, length, map, reverse, Option, None, Some}
+use Rattle.ecma_token.specs.Tokens.{Spot}
+use Rattle.ecma_token.specs.declared.context.Context.{Context}
+use Rattle.ecma_token.specs.declared.syntax.Syntax.{Syntax}
+use Rattle.ecma_token.specs.declared.version.EsVersion.{EsVersion}
+use Rattle.ecma_tokens.specs.Machine.{Machine, Source, shown_spot}
+use Rattle.ecma_tokens.specs.Settings.{Settings, at_start, settings_in, with_ctx}
+use Rattle.ecma_input.specs.declared.list.TokensInput.{TokensInput}
+
+-- the first token, and a source of the others
+abbrev pub list_step : List Spot → Settings → Option Spot × Source (List Spot)
+list_step [] settings = (None, record { tokens = []; settings = settings })
+list_step (spot ∷ spots) settings = (Some spot, record { tokens = spots; settings = settings })
+
+-- The tokens come as they stand in the list, whatever the source is told.
+abbrev pub list_machine : Machine (List Spot)
+list_machine = record { step = λ s. list_step s.tokens s.settings; bound = λ s. length s.tokens }
+
+-- a list as a source; it is kept from its end
+abbrev pub list_source : TokensInput → Source (List Spot)
+list_source x = record { tokens = reverse (map shown_spot x.from_end.items); settings = settings_in x.settings }
+
+-- where the first token begins
+abbrev pub start_of : List Spot → ℕ
+start_of [] = 0
+start_of (spot ∷ spots) = spot.lo
+
+-- a source of these tokens in this code
+abbrev pub list_in : List Spot → Context → Syntax → EsVersion → Source (List Spot)
+list_in spots ctx syntax target = record { tokens = spots; settings = with_ctx ctx (at_start syntax target (start_of spots)) }

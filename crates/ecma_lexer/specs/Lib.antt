@@ -1,0 +1,4 @@
+-- The lexer as contracts see it.
+pub mod Lexer
+pub mod Order
+pub mod Stepping

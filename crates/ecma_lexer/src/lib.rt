@@ -1,0 +1,9 @@
+//! The lexer: a text and steps to tokens.
+#![tactic(auto)]
+
+mod calls;
+mod last;
+pub mod lexer;
+mod step;
+
+pub use lexer::Lexer;

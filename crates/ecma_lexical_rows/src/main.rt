@@ -1,0 +1,56 @@
+//! Rows of the lexical layer: the pieces between literals, literals and whole tokens at the front of a text.
+//! `docs/ROWS.md` has the format, and the comments in `data/` say what each subject answers.
+#![tactic(auto)]
+
+mod classes;
+mod literals;
+mod names;
+mod tokens;
+mod told;
+mod trivia;
+
+use ecma_rows::{Answer, Row, Subject, judge_files};
+use std::process::ExitCode;
+
+/// The lexical layer.
+struct Lexical;
+
+impl Subject for Lexical {
+    fn asked(&self, _row: &Row<'_>) -> usize {
+        1
+    }
+
+    fn answer(&self, row: &Row<'_>, answer: &mut Answer) -> anyhow::Result<()> {
+        let text = told::asked(row)?;
+        match row.subject() {
+            "bytes" => classes::bytes(text, answer),
+            "characters" => classes::characters(text, answer),
+            "piece" => trivia::piece(row, text, answer),
+            "skip" => trivia::skip(row, text, answer),
+            "comments" => trivia::comments(row, text, answer),
+            "line" => trivia::line(text, answer),
+            "hashbang" => trivia::hashbang(text, answer),
+            "name" => names::name(text, answer),
+            "word" => names::word(text, answer),
+            "escaped" => names::escaped(row, text, answer),
+            "punctuator" => names::punctuator(text, answer),
+            "punctuators" => names::punctuators(text, answer),
+            "regexp" => trivia::regexp(text, answer),
+            "run" => trivia::run(text, answer),
+            "string" => literals::string(text, answer),
+            "template" => literals::template(row, text, answer),
+            "pieces" => literals::pieces(text, answer),
+            "raw" => literals::raw(text, answer),
+            "number" => literals::number(text, answer),
+            "tokens" => tokens::tokens(row, text, answer),
+            "count" => tokens::count(row, text, answer),
+            "context" => tokens::context(row, text, answer),
+            "reserved" => tokens::reserved(text, answer),
+            _ => Err(anyhow::Error::msg("no such subject")),
+        }
+    }
+}
+
+fn main(rt: HostRuntime) -> anyhow::Result<ExitCode> {
+    judge_files(&rt, &Lexical)
+}

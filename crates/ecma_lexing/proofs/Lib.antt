@@ -1,0 +1,2 @@
+pub mod TriviaLemmas
+pub mod StepLemmas

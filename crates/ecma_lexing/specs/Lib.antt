@@ -1,0 +1,4 @@
+-- How a text is read, token after token: one step of a lexer, in the terms of ECMA-262, clause 12.
+pub mod States
+pub mod Steps
+pub mod Laws

@@ -1,0 +1,61 @@
+//! Literals (ECMA-262, 13.2.3, 13.2.7 and 13.2.8).
+use ecma_atom::{Atom, StrValue};
+use ecma_token::{NumValue, Span};
+
+/// A literal.
+#[derive(Debug, Drop)]
+pub enum Lit {
+    Str(Str),
+    Bool(Bool),
+    Null(Null),
+    Num(Number),
+    BigInt(BigInt),
+    Regex(Regex),
+}
+
+/// A string: its units, and its spelling with the quotes where it was read.
+#[derive(Debug, Drop)]
+pub struct Str {
+    pub span: Span,
+    pub units: StrValue,
+    pub raw: Option<Atom>,
+}
+
+/// `true` or `false`.
+#[derive(Debug, Drop)]
+pub struct Bool {
+    pub span: Span,
+    pub value: bool,
+}
+
+/// `null`.
+#[derive(Debug, Drop)]
+pub struct Null {
+    pub span: Span,
+}
+
+/// A number, and its spelling where it was read.
+#[derive(Debug, Drop)]
+pub struct Number {
+    pub span: Span,
+    pub value: Box<NumValue>,
+    pub raw: Option<Atom>,
+}
+
+/// A big integer: radix and digits as spelled without prefix and separators, and its spelling where
+/// it was read.
+#[derive(Debug, Drop)]
+pub struct BigInt {
+    pub span: Span,
+    pub radix: u32,
+    pub digits: Atom,
+    pub raw: Option<Atom>,
+}
+
+/// A regular expression: what stands between its slashes, and its flags.
+#[derive(Debug, Drop)]
+pub struct Regex {
+    pub span: Span,
+    pub exp: Atom,
+    pub flags: Atom,
+}

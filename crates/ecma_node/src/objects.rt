@@ -1,0 +1,86 @@
+//! Properties of objects (ECMA-262, 13.2.5).
+use crate::expressions::{Ident, SpreadElementOf};
+use crate::functions::{FunctionOf, PropNameOf};
+use crate::knot::{Child, ExprTag, Part, PatTag};
+use crate::statements::BlockStmtOf;
+use ecma_token::Span;
+
+/// A part of an object.
+#[derive(Debug, Drop)]
+pub enum PropOrSpreadOf<T> {
+    Spread(SpreadElementOf<T>),
+    Prop(Box<PropOf<T>>),
+}
+
+/// A part of an object.
+pub type PropOrSpread = PropOrSpreadOf<Part>;
+
+/// A property of an object.
+#[derive(Debug, Drop)]
+pub enum PropOf<T> {
+    Shorthand(Ident),
+    KeyValue(KeyValuePropOf<T>),
+    Assign(AssignPropOf<T>),
+    Getter(GetterPropOf<T>),
+    Setter(SetterPropOf<T>),
+    Method(MethodPropOf<T>),
+}
+
+/// A property of an object.
+pub type Prop = PropOf<Part>;
+
+/// `key: value`.
+#[derive(Debug, Drop)]
+pub struct KeyValuePropOf<T> {
+    pub span: Span,
+    pub key: PropNameOf<T>,
+    pub value: Child<T, ExprTag>,
+}
+
+/// `key: value`.
+pub type KeyValueProp = KeyValuePropOf<Part>;
+
+/// `key = value`, which is no object's but a pattern's.
+#[derive(Debug, Drop)]
+pub struct AssignPropOf<T> {
+    pub span: Span,
+    pub key: Ident,
+    pub value: Child<T, ExprTag>,
+}
+
+/// `key = value`, which is no object's but a pattern's.
+pub type AssignProp = AssignPropOf<Part>;
+
+/// `get key() { .. }`.
+#[derive(Debug, Drop)]
+pub struct GetterPropOf<T> {
+    pub span: Span,
+    pub key: PropNameOf<T>,
+    pub body: BlockStmtOf<T>,
+}
+
+/// `get key() { .. }`.
+pub type GetterProp = GetterPropOf<Part>;
+
+/// `set key(param) { .. }`.
+#[derive(Debug, Drop)]
+pub struct SetterPropOf<T> {
+    pub span: Span,
+    pub key: PropNameOf<T>,
+    pub param: Child<T, PatTag>,
+    pub body: BlockStmtOf<T>,
+}
+
+/// `set key(param) { .. }`.
+pub type SetterProp = SetterPropOf<Part>;
+
+/// `key(..) { .. }`.
+#[derive(Debug, Drop)]
+pub struct MethodPropOf<T> {
+    pub span: Span,
+    pub key: PropNameOf<T>,
+    pub function: Box<FunctionOf<T>>,
+}
+
+/// `key(..) { .. }`.
+pub type MethodProp = MethodPropOf<Part>;

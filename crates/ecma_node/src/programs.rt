@@ -1,0 +1,205 @@
+//! Scripts, modules, imports and exports (ECMA-262, 16.1 and 16.2).
+use crate::declarations::DeclOf;
+use crate::expressions::{ClassExprOf, FnExprOf, Ident, ObjectLitOf};
+use crate::knot::{Child, ExprTag, Part, StmtTag};
+use crate::literals::Str;
+use ecma_atom::Atom;
+use ecma_token::Span;
+
+/// A script or a module.
+#[derive(Debug, Drop)]
+pub enum ProgramKindOf<T> {
+    Script(ScriptOf<T>),
+    Module(ModuleOf<T>),
+}
+
+/// A script or a module.
+pub type ProgramKind = ProgramKindOf<Part>;
+
+/// A script: statements, after a hashbang's text without `#!`.
+#[derive(Debug, Drop)]
+pub struct ScriptOf<T> {
+    pub span: Span,
+    pub body: Vec<Child<T, StmtTag>>,
+    pub shebang: Option<Atom>,
+}
+
+/// A script: statements, after a hashbang's text without `#!`.
+pub type Script = ScriptOf<Part>;
+
+/// A module: statements and module declarations, after a hashbang's text without `#!`.
+#[derive(Debug, Drop)]
+pub struct ModuleOf<T> {
+    pub span: Span,
+    pub body: Vec<ModuleItemOf<T>>,
+    pub shebang: Option<Atom>,
+}
+
+/// A module: statements and module declarations, after a hashbang's text without `#!`.
+pub type Module = ModuleOf<Part>;
+
+/// A part of a module.
+#[derive(Debug, Drop)]
+pub enum ModuleItemOf<T> {
+    ModuleDecl(ModuleDeclOf<T>),
+    Stmt(Child<T, StmtTag>),
+}
+
+/// A part of a module.
+pub type ModuleItem = ModuleItemOf<Part>;
+
+/// An import or an export.
+#[derive(Debug, Drop)]
+pub enum ModuleDeclOf<T> {
+    Import(ImportDeclOf<T>),
+    ExportDecl(ExportDeclOf<T>),
+    ExportNamed(NamedExportOf<T>),
+    ExportDefaultDecl(ExportDefaultDeclOf<T>),
+    ExportDefaultExpr(ExportDefaultExprOf<T>),
+    ExportAll(ExportAllOf<T>),
+}
+
+/// An import or an export.
+pub type ModuleDecl = ModuleDeclOf<Part>;
+
+/// `import a, { b } from "c" with { .. }`.
+#[derive(Debug, Drop)]
+pub struct ImportDeclOf<T> {
+    pub span: Span,
+    pub specifiers: Vec<ImportSpecifier>,
+    pub src: Box<Str>,
+    pub with_: Option<Box<ObjectLitOf<T>>>,
+}
+
+/// `import a, { b } from "c" with { .. }`.
+pub type ImportDecl = ImportDeclOf<Part>;
+
+/// `export` before a declaration.
+#[derive(Debug, Drop)]
+pub struct ExportDeclOf<T> {
+    pub span: Span,
+    pub decl: DeclOf<T>,
+}
+
+/// `export` before a declaration.
+pub type ExportDecl = ExportDeclOf<Part>;
+
+/// `export { a as b } from "c" with { .. }`.
+#[derive(Debug, Drop)]
+pub struct NamedExportOf<T> {
+    pub span: Span,
+    pub specifiers: Vec<ExportSpecifier>,
+    pub src: Option<Box<Str>>,
+    pub with_: Option<Box<ObjectLitOf<T>>>,
+}
+
+/// `export { a as b } from "c" with { .. }`.
+pub type NamedExport = NamedExportOf<Part>;
+
+/// `export default` before a function or a class.
+#[derive(Debug, Drop)]
+pub struct ExportDefaultDeclOf<T> {
+    pub span: Span,
+    pub decl: DefaultDeclOf<T>,
+}
+
+/// `export default` before a function or a class.
+pub type ExportDefaultDecl = ExportDefaultDeclOf<Part>;
+
+/// `export default` before an expression.
+#[derive(Debug, Drop)]
+pub struct ExportDefaultExprOf<T> {
+    pub span: Span,
+    pub expr: Child<T, ExprTag>,
+}
+
+/// `export default` before an expression.
+pub type ExportDefaultExpr = ExportDefaultExprOf<Part>;
+
+/// `export * from "a" with { .. }`.
+#[derive(Debug, Drop)]
+pub struct ExportAllOf<T> {
+    pub span: Span,
+    pub src: Box<Str>,
+    pub with_: Option<Box<ObjectLitOf<T>>>,
+}
+
+/// `export * from "a" with { .. }`.
+pub type ExportAll = ExportAllOf<Part>;
+
+/// A function or a class after `export default`, with or without a name.
+#[derive(Debug, Drop)]
+pub enum DefaultDeclOf<T> {
+    Class(ClassExprOf<T>),
+    Fn(FnExprOf<T>),
+}
+
+/// A function or a class after `export default`, with or without a name.
+pub type DefaultDecl = DefaultDeclOf<Part>;
+
+/// What an import brings.
+#[derive(Debug, Drop)]
+pub enum ImportSpecifier {
+    Named(ImportNamedSpecifier),
+    Default(ImportDefaultSpecifier),
+    Namespace(ImportStarAsSpecifier),
+}
+
+/// `imported as local` between braces, or `local` alone.
+#[derive(Debug, Drop)]
+pub struct ImportNamedSpecifier {
+    pub span: Span,
+    pub local: Ident,
+    pub imported: Option<ModuleExportName>,
+}
+
+/// A name for the default export.
+#[derive(Debug, Drop)]
+pub struct ImportDefaultSpecifier {
+    pub span: Span,
+    pub local: Ident,
+}
+
+/// `* as local`.
+#[derive(Debug, Drop)]
+pub struct ImportStarAsSpecifier {
+    pub span: Span,
+    pub local: Ident,
+}
+
+/// What an export gives.
+#[derive(Debug, Drop)]
+pub enum ExportSpecifier {
+    Namespace(ExportNamespaceSpecifier),
+    Default(ExportDefaultSpecifier),
+    Named(ExportNamedSpecifier),
+}
+
+/// `* as name`.
+#[derive(Debug, Drop)]
+pub struct ExportNamespaceSpecifier {
+    pub span: Span,
+    pub name: ModuleExportName,
+}
+
+/// A name before the braces, by the setting `export_default_from`.
+#[derive(Debug, Drop)]
+pub struct ExportDefaultSpecifier {
+    pub span: Span,
+    pub exported: Ident,
+}
+
+/// `orig as exported` between braces, or `orig` alone.
+#[derive(Debug, Drop)]
+pub struct ExportNamedSpecifier {
+    pub span: Span,
+    pub orig: ModuleExportName,
+    pub exported: Option<ModuleExportName>,
+}
+
+/// The name of an export: a word or a string.
+#[derive(Debug, Drop)]
+pub enum ModuleExportName {
+    Ident(Ident),
+    Str(Str),
+}

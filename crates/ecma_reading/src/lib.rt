@@ -1,0 +1,2 @@
+//! A reading function on tokens, and small programs that it reads.
+#![tactic(auto)]

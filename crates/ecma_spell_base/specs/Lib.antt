@@ -1,0 +1,4 @@
+pub mod Forms
+pub mod PieceText
+pub mod Pieces
+pub mod Styles

@@ -1,0 +1,5 @@
+pub mod BigLemmas
+pub mod MinifiedLemmas
+pub mod PlainLemmas
+pub mod PointLemmas
+pub mod TextLemmas

@@ -1,0 +1,29 @@
+//! Laws of the definitions, by functions that do nothing.
+
+ghost use Rattle.ecma_spell_number.specs.Numbers.{BigIntIsRead, FormattedIsRead, MemberStands, MinifiedIsRead, MinifiedStands};
+
+/// Law: a minified number has its value.
+pub fn minified_is_read()
+    ensures { MinifiedIsRead }
+{}
+
+/// Law: a minified number is read as its value, before any rest that may follow.
+pub fn minified_stands()
+    ensures { MinifiedStands }
+{}
+
+/// Law: a big integer is read as its radix and digits, before any rest that may follow.
+pub fn big_int_is_read()
+    ensures { BigIntIsRead }
+{}
+
+/// Law: a formatted number has its value, where the text as it was read has.
+pub fn formatted_is_read()
+    ensures { FormattedIsRead }
+{}
+
+/// Law: before the point of a member a number is read as its value, with a point of its own where it
+/// would take the first.
+pub fn member_stands()
+    ensures { MemberStands }
+{}

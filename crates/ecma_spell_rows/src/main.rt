@@ -1,0 +1,103 @@
+//! Rows of written spellings: strings by their units, names and keys, numbers by a spelling of theirs,
+//! big integers. `docs/ROWS.md` has the format.
+#![tactic(auto)]
+
+use ecma_number::NumValue;
+use ecma_rows::{Answer, Row, Subject, judge_files};
+use ecma_spell_base::Style;
+use ecma_spell_number::{NumberText, big_int, minified};
+use ecma_spell_string::{NameText, QuotedText};
+use ecma_token::EsVersion;
+use std::process::ExitCode;
+
+/// Written spellings.
+struct Spellings;
+
+/// The settings that a row has.
+fn style(row: &Row<'_>) -> Style {
+    let target = if row.has("es3") {
+        EsVersion::Es3
+    } else if row.has("es5") {
+        EsVersion::Es5
+    } else if row.has("es2015") {
+        EsVersion::Es2015
+    } else {
+        EsVersion::EsNext
+    };
+    Style {
+        target,
+        minify: true,
+        ascii_only: row.has("ascii"),
+        inline_script: row.has("inline"),
+    }
+}
+
+/// Units as hexadecimal numbers with blanks between them, as they are written in quotes.
+fn string(text: &str, style: Style, answer: &mut Answer) -> anyhow::Result<()> {
+    let mut units = Vec::new(answer.alloc());
+    for unit in text.split_whitespace() {
+        units.push(u16::from_str_radix(unit, 16)?)?;
+    }
+    let mut written: Vec<u8> = Vec::new(answer.alloc());
+    let mut left = QuotedText::new(units.as_slice(), style);
+    for _ in 0..u64::MAX {
+        let Some(block) = left.next_block() else {
+            break;
+        };
+        written.extend_from_slice(block.as_str().as_bytes())?;
+    }
+    Ok(answer.push(written.as_slice())?)
+}
+
+/// A name or a key.
+fn name(left: NameText<'_>, answer: &mut Answer) -> anyhow::Result<()> {
+    let mut left = left;
+    let mut written: Vec<u8> = Vec::new(answer.alloc());
+    for _ in 0..u64::MAX {
+        let Some(piece) = left.next_piece() else {
+            break;
+        };
+        written.extend_from_slice(piece.as_str().as_bytes())?;
+    }
+    Ok(answer.push(written.as_slice())?)
+}
+
+/// The three parts of a number.
+fn number(text: NumberText<'_>, answer: &mut Answer) -> anyhow::Result<()> {
+    let NumberText {
+        first,
+        second,
+        third,
+    } = text;
+    Ok(answer.say(format_args!("{first}{second}{third}"))?)
+}
+
+impl Subject for Spellings {
+    fn asked(&self, _row: &Row<'_>) -> usize {
+        1
+    }
+
+    fn answer(&self, row: &Row<'_>, answer: &mut Answer) -> anyhow::Result<()> {
+        let Some(text) = row.text(0) else {
+            return Err(anyhow::Error::msg("no text"));
+        };
+        match row.subject() {
+            "string" => string(text, style(row), answer),
+            "name" => name(NameText::name(text, style(row)), answer),
+            "key" => name(NameText::key(text, style(row)), answer),
+            "number" => match NumValue::read(answer.alloc(), text)? {
+                Some(value) => number(minified(&value), answer),
+                None => Err(anyhow::Error::msg("no number")),
+            },
+            "bigint" => match text.split_once(' ') {
+                Some((radix, digits)) => number(big_int(radix.parse()?, digits), answer),
+                None => Err(anyhow::Error::msg("no big integer")),
+            },
+            _ => Err(anyhow::Error::msg("no such subject")),
+        }
+    }
+}
+
+fn main(rt: HostRuntime) -> anyhow::Result<ExitCode> {
+    judge_files(&rt, &Spellings)
+}

@@ -1,0 +1,211 @@
+-- What is written of a string, piece by piece.
+use Rattle.std.proofs.Common.{◌≡◌, ℕ, ◌+◌, ◌<◌, ◌≤◌, ◌⊎◌, inl, inr, ⊎_elim, Bool, true, false, cond, List, [], ◌∷◌, ◌++◌, append-nil, append_assoc, length, refl, sym, ap, subst, ◌∙◌, arith, IsUtf8}
+use Rattle.std.specs.Prelude.{if◌then◌else◌, nat_lt, nat_le, ◌&&◌, ◌||◌, ◌==◌, not, filter, encode_utf8_all}
+use Rattle.std.specs.Char.{IsScalar}
+use Rattle.std.specs.Char.Escape.{encode_utf16}
+use Rattle.std.specs.List.{flat_map, prefix_len}
+use Rattle.std.specs.Str.{chars}
+use Rattle.std.proofs.lemmas.Bool.{cases_Bool, cases_lt, lt-ltb, le-ltb, ltb-true, ltb-false, eqb-true, false≢true, and_parts, and_right, and_cases, ne_eqb}
+use Rattle.std.proofs.lemmas.Bool.Decides.{nat_tests}
+use Rattle.std.proofs.lemmas.List.Elements.{filter-append}
+use Rattle.std.proofs.lemmas.Str.{encode_ascii, encodes-append, encodes-chars, scalars-chars, chars-encodes}
+use lib.Utf8.{encode, scalar, scalars}
+use Rattle.ecma_scan.specs.Runs.{Each, run, after}
+use Rattle.ecma_literal.specs.Escapes.{begins, is_decimal}
+use Rattle.ecma_literal.specs.Strings.{is_quote}
+use Rattle.ecma_literal.proofs.RunLemmas.{Flat, Cut, cut_run, run_each, run_after, wide, High}
+use Rattle.ecma_spell_base.specs.declared.form.Form.{Form}
+use Rattle.ecma_spell_base.specs.declared.form.Form.TheVariants.{Bare, Letter, Nul, Hex, Four, FourLower, Pair, Braced}
+use Rattle.ecma_spell_base.specs.declared.style.Style.{Style}
+use Rattle.ecma_spell_base.specs.Forms.{written, Writes, four, braced_digits}
+use Rattle.ecma_spell_base.specs.Styles.{is_below_es5, is_up_to_es5}
+use Rattle.ecma_spell_string.specs.declared.quoted.Behind.{Behind}
+use Rattle.ecma_spell_string.specs.declared.quoted.Behind.TheVariants.{Other, Less, Dash, Dashes}
+use Rattle.ecma_spell_string.specs.CodePoints.{code_points, onto, is_high, is_low, of_pair}
+use Rattle.ecma_spell_string.specs.Strings.{behind, is_guarded, letter_of, is_never_bare, wide_form, lone_form, form_of, chars_text, count, quote_of}
+
+if_true : {A : Type 0} (b : Bool) (x y : A) → b ≡ true → (if b then x else y) ≡ x
+if_true b x y e = ap (λ t. if t then x else y) e
+
+if_false : {A : Type 0} (b : Bool) (x y : A) → b ≡ false → (if b then x else y) ≡ y
+if_false b x y e = ap (λ t. if t then x else y) e
+
+-- ---- one character
+
+pub written_on : (f : Form) (c : ℕ) (m : List ℕ) → written f c m ≡ written f c [] ++ m
+written_on Bare c m = refl
+written_on (Letter l) c m = refl
+written_on Nul c m = refl
+written_on Hex c m = refl
+written_on Four c m = refl
+written_on FourLower c m = refl
+written_on Pair c m = refl
+written_on Braced c m = ap (λ (x : List ℕ). 92 ∷ 117 ∷ 123 ∷ x) (sym (append_assoc (braced_digits c) (125 ∷ []) m))
+
+pub char_bytes : (style : Style) (quote : ℕ) (b : Behind) (c : ℕ) (cs m bytes : List ℕ) (f : Form) → f ≡ form_of style quote b c cs
+    → bytes ≡ encode_utf8_all (written f c [])
+    → encode_utf8_all (chars_text style quote b (c ∷ cs) m) ≡ bytes ++ encode_utf8_all (chars_text style quote (behind style b c) cs m)
+char_bytes style quote b c cs m bytes f e same =
+    ap encode_utf8_all (written_on (form_of style quote b c cs) c (chars_text style quote (behind style b c) cs m))
+    ∙ encodes-append (written (form_of style quote b c cs) c []) (chars_text style quote (behind style b c) cs m)
+    ∙ ap (λ (l : List ℕ). l ++ encode_utf8_all (chars_text style quote (behind style b c) cs m)) (ap (λ g. encode_utf8_all (written g c [])) (sym e) ∙ sym same)
+
+by_test : (b : Bool) (f g : Form) (P : Form → Type 0) → (b ≡ true → P f) → (b ≡ false → P g) → P (if b then f else g)
+by_test true f g P x y = x refl
+by_test false f g P x y = y refl
+
+pub scalar_code : (c : ℕ) → IsScalar c → c < 0x110000
+scalar_code c h = grind (arith, nat_tests)
+
+-- what is written of a character can be written
+record CanWrite (c : ℕ) (f : Form) : Type 0 where
+  writes : Writes f c
+
+low_scalar : (c : ℕ) → c < 0x100 → IsScalar c
+low_scalar c h = grind (arith, nat_tests)
+
+wide_scalar : (c : ℕ) → is_never_bare c ≡ false → c < 0x110000 → IsScalar c
+wide_scalar c e h = grind (arith, nat_tests)
+
+module _ (style : Style) (quote c : ℕ) (code : c < 0x110000) where
+  letter_low : letter_of c < 128
+  letter_low = grind (arith, nat_tests)
+
+  lone_writes : CanWrite c (lone_form style c)
+  lone_writes =
+      by_test (nat_lt 0 (letter_of c)) _ _ (CanWrite c)
+      (λ e. record { writes = letter_low })
+      (λ e. by_test (c == 9) _ _ (CanWrite c)
+      (λ f. record { writes = low_scalar c (let x = eqb-true c 9 f in omega arith) })
+      (λ f. by_test (nat_lt c 0x20) _ _ (CanWrite c)
+      (λ g. record { writes = code })
+      (λ g. by_test (nat_lt c 0x7F) _ _ (CanWrite c)
+      (λ h. record { writes = low_scalar c (let x = ltb-true c 0x7F h in omega arith) })
+      (λ h. by_test (nat_lt c 0x100) _ _ (CanWrite c)
+      (λ i. by_test (style.ascii_only || is_up_to_es5 style) _ _ (CanWrite c)
+      (λ j. record { writes = code })
+      (λ j. record { writes = low_scalar c (ltb-true c 0x100 i) }))
+      (λ i. by_test (is_never_bare c) _ _ (CanWrite c)
+      (λ j. record { writes = code })
+      (λ j. by_test (nat_lt c 0x1_0000) _ _ (CanWrite c)
+      (λ k. by_test style.ascii_only _ _ (CanWrite c)
+      (λ l. record { writes = code })
+      (λ l. record { writes = wide_scalar c j code }))
+      (λ k. by_test (is_up_to_es5 style) _ _ (CanWrite c)
+      (λ l. record { writes = (ltb-false c 0x1_0000 k, code) })
+      (λ l. by_test style.ascii_only _ _ (CanWrite c)
+      (λ m. record { writes = code })
+      (λ m. record { writes = wide_scalar c j code })))))))))
+
+  form_writes : (b : Behind) (cs : List ℕ) → quote < 128 → CanWrite c (form_of style quote b c cs)
+  form_writes b cs q =
+      by_test (is_guarded style b c cs) _ _ (CanWrite c)
+      (λ e. by_test (c == 47) _ _ (CanWrite c)
+      (λ f. record { writes = omega arith })
+      (λ f. record { writes = code }))
+      (λ e. by_test (c == quote) _ _ (CanWrite c)
+      (λ f. record { writes = q })
+      (λ f. by_test (c == 0) _ _ (CanWrite c)
+      (λ g. by_test (is_below_es5 style || begins is_decimal cs) _ _ (CanWrite c)
+      (λ h. record { writes = code })
+      (λ h. record { writes = code }))
+      (λ g. lone_writes)))
+
+pub can_write : (style : Style) (quote c : ℕ) (b : Behind) (cs : List ℕ) (f : Form) → c < 0x110000 → quote < 128 → f ≡ form_of style quote b c cs → Writes f c
+can_write style quote c b cs f h q e = subst (λ g. Writes g c) (sym e) (form_writes style quote c h b cs q).writes
+
+pub quote_low : (quote : ℕ) → is_quote quote ≡ true → quote < 128
+quote_low quote h = grind (arith, nat_tests)
+
+-- ---- how often a character of ASCII comes, by units
+
+onto_counted : (x u : ℕ) (cs : List ℕ) → x < 128 → filter (λ d. d == x) (onto u cs) ≡ filter (λ d. d == x) (u ∷ cs)
+onto_counted x u [] l = refl
+onto_counted x u (c ∷ cs) l = ⊎_elim
+    (λ (e : (is_high u && is_low c) ≡ true).
+    let parts = and_parts (is_high u) (is_low c) e in
+    let a : (u == x) ≡ false = let h = parts.0 in grind (arith, nat_tests) in
+    let b : (c == x) ≡ false = let h = parts.1 in grind (arith, nat_tests) in
+    let d : (of_pair u c == x) ≡ false = ne_eqb (of_pair u c) x (λ same. absurd (omega arith)) in
+    ap (λ b. filter (λ d. d == x) (cond b (of_pair u c ∷ cs) (u ∷ c ∷ cs))) e
+    ∙ ap (λ t. cond t (of_pair u c ∷ filter (λ d. d == x) cs) (filter (λ d. d == x) cs)) d
+    ∙ sym (ap (λ t. cond t (u ∷ filter (λ d. d == x) (c ∷ cs)) (filter (λ d. d == x) (c ∷ cs))) a
+    ∙ ap (λ t. cond t (c ∷ filter (λ d. d == x) cs) (filter (λ d. d == x) cs)) b))
+    (λ (e : (is_high u && is_low c) ≡ false).
+    ap (λ b. filter (λ d. d == x) (cond b (of_pair u c ∷ cs) (u ∷ c ∷ cs))) e)
+    (cases_Bool (is_high u && is_low c))
+
+counted : (x : ℕ) (us : List ℕ) → x < 128 → filter (λ d. d == x) (code_points us) ≡ filter (λ d. d == x) us
+counted x [] l = refl
+counted x (u ∷ us) l =
+    onto_counted x u (code_points us) l
+    ∙ filter-append (λ d. d == x) (u ∷ []) (code_points us)
+    ∙ ap (λ (y : List ℕ). filter (λ d. d == x) (u ∷ []) ++ y) (counted x us l)
+    ∙ sym (filter-append (λ d. d == x) (u ∷ []) us)
+
+pub counts : (x : ℕ) (us : List ℕ) → x < 128 → length (filter (λ d. d == x) us) ≡ count x (code_points us)
+counts x us l = ap length (sym (counted x us l))
+
+-- ---- the code point at the front
+
+lone_onto : (u : ℕ) (cs : List ℕ) → is_high u ≡ false → onto u cs ≡ u ∷ cs
+lone_onto u [] e = refl
+lone_onto u (c ∷ cs) e = ap (λ b. cond (b && is_low c) (of_pair u c ∷ cs) (u ∷ c ∷ cs)) e
+
+onto_other : (u : ℕ) (cs : List ℕ) → begins is_low cs ≡ false → onto u cs ≡ u ∷ cs
+onto_other u [] e = refl
+onto_other u (c ∷ cs) e = ap (λ b. cond b (of_pair u c ∷ cs) (u ∷ c ∷ cs)) (and_right (is_high u) (is_low c) e)
+
+first_low : (v : ℕ) (cs : List ℕ) → is_low v ≡ false → begins is_low (onto v cs) ≡ false
+first_low v [] e = e
+first_low v (c ∷ cs) e = ⊎_elim
+    (λ (p : (is_high v && is_low c) ≡ true).
+    let far : is_low (of_pair v c) ≡ false = le_high (of_pair v c) (omega arith) in
+    ap (λ b. begins is_low (cond b (of_pair v c ∷ cs) (v ∷ c ∷ cs))) p ∙ far)
+    (λ (p : (is_high v && is_low c) ≡ false). ap (λ b. begins is_low (cond b (of_pair v c ∷ cs) (v ∷ c ∷ cs))) p ∙ e)
+    (cases_Bool (is_high v && is_low c))
+  where
+    le_high : (n : ℕ) → 65536 ≤ n → is_low n ≡ false
+    le_high n l = grind (arith, nat_tests)
+
+low_not_high : (v : ℕ) → is_low v ≡ true → is_high v ≡ false
+low_not_high v e = grind (arith, nat_tests)
+
+-- a pair at the front, and a unit that is in none
+pub pair_front : (us rest behind : List ℕ) (u v : ℕ) → us ≡ u ∷ rest → rest ≡ v ∷ behind → is_high u ≡ true → is_low v ≡ true
+    → code_points us ≡ of_pair u v ∷ code_points behind
+pair_front us rest behind u v e f h l =
+    ap code_points (e ∙ ap (λ (x : List ℕ). u ∷ x) f)
+    ∙ ap (onto u) (lone_onto v (code_points behind) (low_not_high v l))
+    ∙ ap (λ b. cond (b && is_low v) (of_pair u v ∷ code_points behind) (u ∷ v ∷ code_points behind)) h
+    ∙ ap (λ b. cond b (of_pair u v ∷ code_points behind) (u ∷ v ∷ code_points behind)) l
+
+pub lone_front : (us rest : List ℕ) (u : ℕ) → us ≡ u ∷ rest → (is_high u && begins is_low rest) ≡ false → code_points us ≡ u ∷ code_points rest
+lone_front us rest u e h = ap code_points e ∙ by_cases (and_cases (is_high u) (begins is_low rest) h)
+  where
+    by_rest : (xs : List ℕ) → begins is_low xs ≡ false → onto u (code_points xs) ≡ u ∷ code_points xs
+    by_rest [] i = refl
+    by_rest (v ∷ vs) i = onto_other u (onto v (code_points vs)) (first_low v (code_points vs) i)
+
+    by_cases : (is_high u ≡ false) ⊎ (begins is_low rest ≡ false) → onto u (code_points rest) ≡ u ∷ code_points rest
+    by_cases x = ⊎_elim (λ (i : is_high u ≡ false). lone_onto u (code_points rest) i) (λ (i : begins is_low rest ≡ false). by_rest rest i) x
+
+-- ---- as the code meets it
+
+pub push_bytes : (style : Style) (quote : ℕ) (b : Behind) (c : ℕ) (cs points m old new made : List ℕ) (f : Form) (d : Behind) → points ≡ c ∷ cs
+    → f ≡ form_of style quote b c cs → made ≡ encode_utf8_all (written f c []) → new ≡ old ++ made → d ≡ behind style b c
+    → old ++ encode_utf8_all (chars_text style quote b points m) ≡ new ++ encode_utf8_all (chars_text style quote d cs m)
+push_bytes style quote b c cs points m old new made f d e g h i j =
+    ap (λ l. old ++ encode_utf8_all (chars_text style quote b l m)) e
+    ∙ ap (λ (l : List ℕ). old ++ l) (char_bytes style quote b c cs m made f g h)
+    ∙ sym (append_assoc old made (encode_utf8_all (chars_text style quote (behind style b c) cs m)))
+    ∙ ap (λ (l : List ℕ). l ++ encode_utf8_all (chars_text style quote (behind style b c) cs m)) (sym i)
+    ∙ ap (λ x. new ++ encode_utf8_all (chars_text style quote x cs m)) (sym j)
+
+-- ---- the quote
+
+pub quote_more : (a b : ℕ) (cs : List ℕ) → a ≡ count 39 cs → b ≡ count 34 cs → a < b → 39 ≡ quote_of cs
+quote_more a b cs e f h = sym (if_true (nat_lt (count 39 cs) (count 34 cs)) 39 34 (lt-ltb (count 39 cs) (count 34 cs) (omega arith)))
+
+pub quote_less : (a b : ℕ) (cs : List ℕ) → a ≡ count 39 cs → b ≡ count 34 cs → b ≤ a → 34 ≡ quote_of cs
+quote_less a b cs e f h = sym (if_false (nat_lt (count 39 cs) (count 34 cs)) 39 34 (le-ltb (count 39 cs) (count 34 cs) (omega arith)))

@@ -1,0 +1,4 @@
+pub mod CodePoints
+pub mod Names
+pub mod QuotedTexts
+pub mod Strings

@@ -1,0 +1,70 @@
+//! Words.
+
+use ecma_rows::Answer;
+use ecma_token::{Context, IdentKind, IdentLike, KnownIdent, Word, WordKind};
+use std::convert::AsStr;
+
+/// The text of a name, as it is shown.
+fn shown(text: &str, kind: WordKind, answer: &Answer) -> anyhow::Result<String> {
+    let alloc = answer.alloc();
+    match kind {
+        WordKind::Ident(IdentKind::Other) => { Ok(format!(in alloc; "{}", IdentLike::from(text))?) }
+        WordKind::Ident(_) => match text.parse::<KnownIdent>() {
+            Ok(known) => Ok(format!(in alloc; "{known}")?),
+            Err(_) => Err(anyhow::Error::msg("no known name")),
+        },
+        _ => Ok(String::from_str(alloc, text)?),
+    }
+}
+
+/// What the word of a text is, and its text.
+pub fn word(text: &str, answer: &mut Answer) -> anyhow::Result<()> {
+    let word = Word::from_str(text);
+    let kind = word.kind();
+    if shown(text, kind, answer)?.as_str() != word.as_str() {
+        return Err(anyhow::Error::msg("the name is shown by another text"));
+    }
+    Ok(answer.say(format_args!("{kind:?} {}", word.as_str()))?)
+}
+
+/// Code of each kind, by its name.
+fn contexts() -> [(&'static str, Context); 6] {
+    let sloppy = Context::default();
+    let mut strict = sloppy;
+    strict.strict = true;
+    let mut generator = sloppy;
+    generator.in_generator = true;
+    let mut in_async = sloppy;
+    in_async.in_async = true;
+    let mut block = sloppy;
+    block.in_static_block = true;
+    let mut module = sloppy;
+    module.module_ = true;
+    [
+        ("sloppy", sloppy),
+        ("strict", strict),
+        ("generator", generator),
+        ("async", in_async),
+        ("block", block),
+        ("module", module),
+    ]
+}
+
+/// Each kind of code that reserves a word.
+pub fn reserved(text: &str, answer: &mut Answer) -> anyhow::Result<()> {
+    let word = Word::from_str(text);
+    let mut found = String::new(answer.alloc());
+    for (name, context) in contexts() {
+        let is_reserved = context.is_reserved(&word);
+        if context.is_reserved_word(text) != is_reserved {
+            return Err(anyhow::Error::msg("the word and its text differ"));
+        }
+        if is_reserved {
+            if !found.is_empty() {
+                found.push(' ')?;
+            }
+            found.push_str(name)?;
+        }
+    }
+    Ok(answer.say(found.as_str())?)
+}

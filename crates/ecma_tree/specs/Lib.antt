@@ -1,0 +1,5 @@
+pub mod Tree
+pub mod Places
+pub mod Folds
+pub mod Codes
+pub mod Laws

@@ -1,0 +1,14 @@
+//! The writers of programs' texts: calls for words, punctuators and lines, over any counted writer.
+#![tactic(auto)]
+
+pub mod fault;
+mod js_writer;
+mod lines;
+mod marks;
+mod omit;
+mod output;
+pub mod text_writer;
+
+pub use ecma_gather::Gather;
+pub use fault::EmitError;
+pub use text_writer::{JsWriter, OmitTrailingSemi, WriteJs, omit_trailing_semi};

@@ -1,0 +1,135 @@
+//! The marks of what is written: pairs of a position in the source and a place in the text.
+ghost use Rattle.std.specs.Prelude.{◌≡◌, ◌*◌, [], option_and_then, IfOk, OnOk, OnErr, IfErr};
+ghost use Rattle.std.specs.Str.{chars};
+ghost use Rattle.ecma_token.specs.declared.place.LineCol.{LineCol};
+ghost use Rattle.ecma_write.specs.declared.fault.EmitError.TheVariants.{Memory, Position};
+ghost use Rattle.ecma_write.specs.Lines.{next_line, further, after_text, units};
+ghost use Rattle.ecma_write.specs.Pages.{record_here, settled, is_here};
+ghost use Rattle.ecma_write.specs.Views.{marks_of, IsCounted, list_name};
+
+use crate::EmitError;
+use crate::lines::{after_text, further, next_line, units};
+use ecma_token::{BytePos, LineCol};
+
+/// The list of marks, and where the next one is.
+#[derive(Drop)]
+pub(crate) struct MarkList<'a> {
+    list: &'a mut Vec<(BytePos, LineCol)>,
+    /// How many marks the list had when the place was reached.
+    here: usize,
+    place: LineCol,
+    waits: Option<BytePos>,
+}
+
+impl<'a> MarkList<'a> {
+    /// The marks go to the end of the list.
+    pub(crate) fn new(list: &'a mut Vec<(BytePos, LineCol)>) -> MarkList<'a>
+        ensures marks { marks_of result ≡ record { reached = Some (record { line = 0; col = 0 }); pairs = list.old.items; here = []; waits = None } }
+        ensures counted { IsCounted result }
+        ensures loan { list_name result ≡ list.entry.ghost_name }
+    {
+        let here = list.len();
+        MarkList {
+            list,
+            here,
+            place: LineCol { line: 0, col: 0 },
+            waits: None,
+        }
+    }
+
+    /// Where a text ends that begins at the place reached.
+    pub(crate) fn after(&self, text: &str) -> Result<LineCol, EmitError>
+        ensures ok { IfOk result (λ end. option_and_then (λ place. after_text place (chars text.now)) (marks_of self.now).reached ≡ Some end) }
+        ensures err { IfErr result (λ e. (e ≡ Position) × (option_and_then (λ place. after_text place (chars text.now)) (marks_of self.now).reached ≡ None)) }
+    {
+        after_text(self.place, text).ok_or(EmitError::Position)
+    }
+
+    /// Where the next line starts.
+    pub(crate) fn next_line(&self) -> Result<LineCol, EmitError>
+        ensures ok { IfOk result (λ end. option_and_then next_line (marks_of self.now).reached ≡ Some end) }
+        ensures err { IfErr result (λ e. (e ≡ Position) × (option_and_then next_line (marks_of self.now).reached ≡ None)) }
+    {
+        next_line(self.place).ok_or(EmitError::Position)
+    }
+
+    /// Where an indentation of this depth ends.
+    pub(crate) fn after_indentation(&self, depth: u32, indent: &str) -> Result<LineCol, EmitError>
+        ensures ok { IfOk result (λ end. option_and_then (further (depth * units (chars indent.now))) (marks_of self.now).reached ≡ Some end) }
+        ensures err { IfErr result (λ e. (e ≡ Position) × (option_and_then (further (depth * units (chars indent.now))) (marks_of self.now).reached ≡ None)) }
+    {
+        let columns = u64::from(depth)
+            .checked_mul(units(indent))
+            .ok_or(EmitError::Position)?;
+        further(columns, self.place).ok_or(EmitError::Position)
+    }
+
+    #[tactic(auto, unfolding(crate::specs::Pages::settled))]
+    /// Records the position that waits.
+    pub(crate) fn settle(&mut self) -> Result<(), EmitError>
+        ensures value { OnOk result (IsCounted self.old → marks_of self.new ≡ settled (marks_of self.old)) }
+        ensures left { OnErr result ((marks_of self.new).reached ≡ (marks_of self.old).reached) }
+        ensures counted { IsCounted self.old → IsCounted self.new }
+        ensures fault { IfErr result (λ e. e ≡ Memory) }
+        ensures loan { list_name self.new ≡ list_name self.old }
+    {
+        match self.waits {
+            Some(pos) => {
+                self.waits = None;
+                self.record(pos)
+            }
+            None => Ok(()),
+        }
+    }
+
+    #[tactic(auto, unfolding(crate::specs::Pages::record_pair))]
+    /// Marks the place reached. A dummy marks nothing, and a position is recorded once at a place.
+    pub(crate) fn record(&mut self, pos: BytePos) -> Result<(), EmitError>
+        ensures value { OnOk result (IsCounted self.old → marks_of self.new ≡ record_here pos (marks_of self.old)) }
+        ensures left { OnErr result (marks_of self.new ≡ marks_of self.old) }
+        ensures counted { IsCounted self.old → IsCounted self.new }
+        ensures fault { IfErr result (λ e. e ≡ Memory) }
+        ensures loan { list_name self.new ≡ list_name self.old }
+    {
+        if pos.is_dummy() || self.is_here(pos) {
+            return Ok(());
+        }
+        self.list.push((pos, self.place))?;
+        Ok(())
+    }
+
+    /// Whether the position was recorded since the place was reached.
+    fn is_here(&self, pos: BytePos) -> bool
+        ensures { IsCounted self.now → result ≡ is_here pos (marks_of self.now).here }
+    {
+        match self.list.get(self.here..) {
+            Some(here) => has_position(here, pos),
+            None => false,
+        }
+    }
+
+    /// The next mark is at this place.
+    pub(crate) fn move_to(&mut self, place: LineCol)
+        ensures value { marks_of self.new ≡ record (marks_of self.old) { reached = Some place; here = [] } }
+        ensures counted { IsCounted self.new }
+        ensures loan { list_name self.new ≡ list_name self.old }
+    {
+        self.place = place;
+        self.here = self.list.len();
+    }
+
+    /// The position waits, in place of one that waits.
+    pub(crate) fn wait(&mut self, pos: Option<BytePos>)
+        ensures value { marks_of self.new ≡ record (marks_of self.old) { waits = pos } }
+        ensures counted { IsCounted self.old → IsCounted self.new }
+        ensures loan { list_name self.new ≡ list_name self.old }
+    {
+        self.waits = pos;
+    }
+}
+
+fn has_position(marks: &[(BytePos, LineCol)], pos: BytePos) -> bool
+    ensures { result ≡ is_here pos marks.now }
+{
+    marks.iter().any(|m| m.0.0 == pos.0)
+}
