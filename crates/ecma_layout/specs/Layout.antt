@@ -8,7 +8,7 @@ use Rattle.ecma_tree.specs.Tree.{Tree, Trees, none, more, plain_method, script, 
 use Rattle.ecma_tree.specs.Places.{place_of}
 use Rattle.ecma_edge.specs.Edges.{starts_with_word, ends_with_word, is_word_operator, gap_before, gap_after, gap_of_unary}
 use Rattle.ecma_pieces.specs.Pieces.{Piece, Mark}
-use Rattle.ecma_layout.specs.Looks.{Look, Laid, ◌·◌, nothing, refused, text, brace, blank, line_always, semi, semi_kept, commit, when, formats, gap, line, deeper, back, gap_or, start, end, last}
+use Rattle.ecma_layout.specs.Looks.{Look, Laid, nothing, refused, ◌·◌, listed, text, brace, blank, line_always, semi, semi_kept, commit, when, formats, gap, line, deeper, back, gap_or, start, end, last}
 use Rattle.ecma_layout.specs.Literals.{name, key_word, hash_name, string, number, number_before_point, big_integer, quasi_bytes}
 use Rattle.ecma_layout.specs.Words.{word_of, sign_of}
 
@@ -504,4 +504,4 @@ abbrev mutual
 
 -- the pieces of a tree, and of a statement or an item of a module
 abbrev pub pieces : Look → Tree → List Piece
-pieces look t = laid look Alone t []
+pieces look t = listed (laid look Alone t) []
