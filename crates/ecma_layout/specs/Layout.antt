@@ -8,20 +8,12 @@ use Rattle.ecma_tree.specs.Tree.{Tree, Trees, none, more, plain_method, script, 
 use Rattle.ecma_tree.specs.Places.{place_of}
 use Rattle.ecma_edge.specs.Edges.{starts_with_word, ends_with_word, is_word_operator, gap_before, gap_after, gap_of_unary}
 use Rattle.ecma_pieces.specs.Pieces.{Piece, Mark}
-use Rattle.ecma_layout.specs.Looks.{Look, Laid, nothing, refused, ◌·◌, listed, text, brace, blank, line_always, semi, semi_kept, commit, when, formats, gap, line, deeper, back, gap_or, start, end, last}
+use Rattle.ecma_layout.specs.declared.look.Look.{Look}
+use Rattle.ecma_layout.specs.declared.look.Stand.{Stand}
+use Rattle.ecma_layout.specs.declared.look.Stand.TheVariants.{Alone, Operand, Body, Head, Key, Tagged}
+use Rattle.ecma_layout.specs.Looks.{Laid, nothing, refused, ◌·◌, listed, text, brace, blank, line_always, semi, semi_kept, commit, when, formats, gap, line, deeper, back, gap_or, start, end, last}
 use Rattle.ecma_layout.specs.Literals.{name, key_word, hash_name, string, number, number_before_point, big_integer, quasi_bytes}
 use Rattle.ecma_layout.specs.Words.{word_of, sign_of}
-
--- Where a node stands, as far as its layout depends on it: as a left operand (an operator's node marks no start there); as
--- a body behind a parameter list or an arrow (a block marks no start); at the head of a call, a member or a tag (`new` has
--- its parentheses there); as the key of a property; behind a tag; anywhere else.
-pub data Stand : Type 0 where
-  Alone : Stand
-  Operand : Stand
-  Body : Stand
-  Head : Stand
-  Key : Stand
-  Tagged : Stand
 
 abbrev pub marked_as_operand : Stand → Bool
 marked_as_operand Operand = false
@@ -165,9 +157,8 @@ indented_or_line look none f = line look
 indented_or_line look ts f = line look · deeper look · f · back look · line look
 
 -- What stands behind a statement: nothing behind a block, a semicolon behind variables, and the end of its line.
-abbrev pub closing : Look → Tree → Laid
-closing look (block_stmt span stmts) = nothing
-closing look t = when (is_variables t) semi · line look
+unfoldable pub closing : Look → Tree → Laid
+closing look t = when (not (is_block t)) (when (is_variables t) semi · line look)
 
 -- a hashbang, on a line of its own in any style
 abbrev pub hashbang : Option (List ℕ) → Laid

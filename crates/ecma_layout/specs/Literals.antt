@@ -8,7 +8,8 @@ use Rattle.ecma_spell_base.specs.declared.style.Style.{Style}
 use Rattle.ecma_spell_string.specs.Strings.{string_text, is_backslash}
 use Rattle.ecma_spell_string.specs.Names.{name_text, key_text}
 use Rattle.ecma_spell_number.specs.Numbers.{minified, formatted, before_member, big_text, separated}
-use Rattle.ecma_layout.specs.Looks.{Look, Laid, ◌·◌, nothing, text, commit, when, start, end}
+use Rattle.ecma_layout.specs.declared.look.Look.{Look}
+use Rattle.ecma_layout.specs.Looks.{Laid, ◌·◌, nothing, text, commit, when, start, end}
 
 -- a name, and a word as a key
 abbrev pub name_bytes : Style → List ℕ → List ℕ

@@ -2,15 +2,8 @@
 use Rattle.std.specs.Prelude.{ℕ, ◌-◌, Bool, true, false, not, ◌||◌, if◌then◌else◌, List, [], ◌∷◌, None, codes}
 use Rattle.ecma_token.specs.declared.place.BytePos.{BytePos}
 use Rattle.ecma_token.specs.declared.place.Span.{Span}
-use Rattle.ecma_spell_base.specs.declared.style.Style.{Style}
+use Rattle.ecma_layout.specs.declared.look.Look.{Look}
 use Rattle.ecma_pieces.specs.Pieces.{Piece, Text, Brace, Blank, Line, Deeper, Back, Semicolon, Commit, Mark}
-
--- How a text is to look: how literals are spelled and whether it is short, whether the last semicolon may go, and
--- whether import attributes follow `assert`.
-pub record Look : Type 0 where
-  pub style : Style
-  pub omits_last : Bool
-  pub asserts : Bool
 
 -- what a part writes
 pub data Laid : Type 0 where

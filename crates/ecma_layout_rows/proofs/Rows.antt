@@ -10,7 +10,7 @@ use Rattle.ecma_write.specs.Pages.{Page, put, put_line, deeper, shallower, with_
 use Rattle.ecma_pieces.specs.Pieces.{Piece, resolved, shortened}
 use Rattle.ecma_reading.specs.Source.{Fault}
 use Rattle.ecma_reading.proofs.Rows.{opened, read_text, full_syntax}
-use Rattle.ecma_layout.specs.Looks.{Look}
+use Rattle.ecma_layout.specs.declared.look.Look.{Look}
 use Rattle.ecma_layout.specs.Layout.{pieces}
 use Rattle.ecma_layout.specs.Words.{word_of, sign_of}
 
