@@ -77,4 +77,3 @@ number_or_none text = ⊎_elim
     (λ (t : is_number_start text ≡ true). started_or_not text t)
     (λ (f : is_number_start text ≡ false). inr (λ m own rest h. false≢true (sym f ∙ numeral_starts m own text rest h)))
     (cases_Bool (is_number_start text))
-

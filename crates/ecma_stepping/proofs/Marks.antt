@@ -72,11 +72,16 @@ body_by text inner e (Some behind) h =
     let s = is_slash text inner e in
     let cut = body_cut false false inner behind h in
     let flags = run is_name_part behind in
-    inl (pattern_lexeme cut.0 flags, after is_name_part behind, (
-      cut.0, flags,
-      (is_body inner cut.0 behind s.1 h cut.1, (behind, s.0 ∙ ap (λ (l : List ℕ). 47 ∷ l) cut.1, run_is is_name_part behind flags (after is_name_part behind) refl refl)),
-      refl,
-    ))
+    inl (
+      pattern_lexeme cut.0 flags,
+      after is_name_part behind,
+      (
+        cut.0,
+        flags,
+        (is_body inner cut.0 behind s.1 h cut.1, (behind, s.0 ∙ ap (λ (l : List ℕ). 47 ∷ l) cut.1, run_is is_name_part behind flags (after is_name_part behind) refl refl)),
+        refl,
+      ),
+    )
 
 slash_by : (text : List ℕ) (o : Option (List ℕ)) → past_slash text ≡ o → Decided IsPattern text
 slash_by text Nothing e = inr (none_pattern text (only_slash text e).0)

@@ -48,7 +48,7 @@ string_by (suc n) quote inner (c ∷ cs) us l q s h = ⊎_elim
     (λ (e : c ≡ 92).
     let back = subst (λ (d : ℕ). SoFar quote inner (d ∷ cs) us l) e s in
     elim (escape_at cs) as (λ o. escape_at cs ≡ o → Whole quote inner) [
-      Nothing ↦ λ k. inr (no_string quote inner (92 ∷ cs) us l q back (stuck_escape quote cs q (none_stands cs (sym k))))
+      | Nothing ↦ λ k. inr (no_string quote inner (92 ∷ cs) us l q back (stuck_escape quote cs q (none_stands cs (sym k))))
       | Some x ↦ λ k.
           let is = stands cs x.0 x.1 k in
           string_by n quote inner x.1 (us ++ escape_units x.0) (l || is_legacy x.0) q (so_far_escape quote inner cs x.1 us l x.0 back is)
