@@ -1,0 +1,3 @@
+-- A source of tokens that is read ahead of where its reader stands.
+pub mod Buffers
+pub mod Views

@@ -1,0 +1,6 @@
+//! A source of tokens that is read ahead of where its reader stands, two tokens at most.
+#![tactic(auto)]
+
+pub mod buffer;
+
+pub use buffer::Buffer;
