@@ -1,0 +1,10 @@
+//! How templates and regular expressions are written.
+#![tactic(auto)]
+
+pub mod laws;
+pub mod part;
+pub mod raw;
+pub mod text;
+
+pub use part::Part;
+pub use text::TemplateText;
