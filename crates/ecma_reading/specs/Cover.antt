@@ -1,20 +1,15 @@
 -- Expressions refined to patterns (ECMA-262, 13.15.5 and 15.3.1): a cover is read as an expression first.
-use Rattle.std.specs.Prelude.{ℕ, ◌+◌, Bool, true, false, not, ◌&&◌, ◌||◌, ◌==◌, if◌then◌else◌, List, [], ◌∷◌, Some, None, Result, Ok}
+use Rattle.std.specs.Prelude.{ℕ, Bool, true, false, not, ◌&&◌, ◌||◌, ◌==◌, if◌then◌else◌, List, [], ◌∷◌, Some, None, Result, Ok}
 use Rattle.ecma_token.specs.declared.place.Span.{Span}
 use Rattle.ecma_token.specs.Kinds.{assign_kind}
 use Rattle.ecma_tree.specs.Tree.{Tree, Trees, none, more, array_lit, object_lit, assign_expr, ident, member_expr, super_prop_expr, paren_expr, expr_or_spread, spread_element, key_value_prop, assign_prop, binding_ident, array_pat, object_pat, assign_pat, rest_pat, key_value_pat_prop, assign_pat_prop, expr_pat, hole, absent}
-use Rattle.ecma_tree.specs.Folds.{fold}
-use Rattle.ecma_syntax.specs.Input.{span}
+use Rattle.ecma_syntax.specs.Input.{dots_at}
 use Rattle.ecma_syntax.specs.Shape.{is_simple, is_target_expr, is_structured}
 use Rattle.ecma_reading.specs.Source.{Fault, unexpected, ◌>>=◌}
 
 abbrev pub has : ℕ → List ℕ → Bool
 has n [] = false
 has n (x ∷ xs) = (x == n) || has n xs
-
--- the three bytes of the dots at a start
-abbrev pub dots_at : Span → Span
-dots_at s = span s.lo.0 (s.lo.0 + 3)
 
 -- whether a pattern that assigns has names alone, so that it binds as well
 abbrev mutual
@@ -45,7 +40,7 @@ initialised binds s p e = if_binds binds p >>= λ q. Ok (assign_pat s q e)
 
 abbrev pub rest_of : Span → Tree → Result Tree Fault
 rest_of s (assign_pat t p e) = unexpected
-rest_of s p = Ok (rest_pat s (dots_at s) p)
+rest_of s p = Ok (rest_pat s (dots_at s.lo.0) p)
 
 abbrev pub is_rest_item : Tree → Bool
 is_rest_item (expr_or_spread s (Some d) e) = true
@@ -95,19 +90,3 @@ to_target op commas t = if is_target_expr t && is_simple t then Ok t else unexpe
 abbrev pub to_head : List ℕ → Tree → Result Tree Fault
 to_head commas (assign_expr s op p e) = unexpected
 to_head commas t = to_item false commas t
-
--- Whether nothing of a cover is left: no property with an initialiser.
-abbrev pub all_true : List Bool → Bool
-all_true [] = true
-all_true (b ∷ bs) = b && all_true bs
-
-abbrev pub all_clean : List (List Bool) → Bool
-all_clean [] = true
-all_clean (bs ∷ kids) = all_true bs && all_clean kids
-
-abbrev pub clean_step : Tree → List (List Bool) → Bool
-clean_step (assign_prop s k e) kids = false
-clean_step t kids = all_clean kids
-
-unfoldable pub is_clean : Tree → Bool
-is_clean t = fold clean_step t

@@ -5,11 +5,11 @@ use Rattle.ecma_token.specs.Kinds.{arrow_kind, hash_kind, dot_kind, dot_dot_dot_
 use Rattle.ecma_token.specs.Tokens.{Content, Quoted, Piece, Pattern, Numeral, BigNumeral}
 use Rattle.ecma_tree.specs.Tree.{Tree, none, more, pack, unpack, function, ident_name, computed_prop_name, private_name, this_expr, array_lit, object_lit, fn_expr, unary_expr, update_expr, bin_expr, assign_expr, member_expr, super_prop_expr, cond_expr, call_expr, new_expr, seq_expr, ident, tpl, tpl_element, tagged_tpl, arrow_expr, class_expr, yield_expr, meta_prop_expr, await_expr, paren_expr, opt_chain_expr, opt_call, super, import, expr_or_spread, spread_element, key_value_prop, assign_prop, getter_prop, setter_prop, method_prop, str_lit, bool_lit, null_lit, number_lit, big_int_lit, regex_lit, binding_ident, assign_pat, rest_pat, param, absent, hole, list}
 use Rattle.ecma_tree.specs.Places.{place_of}
-use Rattle.ecma_syntax.specs.Input.{Code, kind, kind2, brk, brk2, lo, hi, text, content, span, first_span, is_word, has_in, with_in, by, in_body, in_arrow, turned_strict, in_list}
+use Rattle.ecma_syntax.specs.Input.{Code, kind, kind2, brk, brk2, lo, hi, dots_at, text, content, span, first_span, is_word, has_in, with_in, by, in_body, in_arrow, turned_strict, in_list}
 use Rattle.ecma_syntax.specs.Operators.{expression_level, assignment_level, coalesce_level, unary_level, new_level, call_level, member_level, binary_level, right_level, is_assign_op, operates, goes_expr, between, starts_key, other_end}
 use Rattle.ecma_syntax.specs.Shape.{level, ends, fits_left, is_chain, is_cooked, is_spread}
 use Rattle.ecma_reading.specs.Source.{Fault, unexpected, ◌>>=◌, Machine, Stand, Read, input, past, operand, bound, spanned, at, eat, eat_word, is_name, name, any_word, Step, go_on, finished, iterate, Inner}
-use Rattle.ecma_reading.specs.Cover.{to_items, to_target, dots_at}
+use Rattle.ecma_reading.specs.Cover.{to_items, to_target}
 
 -- is a prefix operator (13.5)
 abbrev pub is_unary : ℕ → Bool
@@ -23,9 +23,11 @@ literal (BigNumeral radix digits raw) s = Some (big_int_lit s radix digits (Some
 literal (Pattern body flags) s = Some (regex_lit s body flags)
 literal _ s = None
 
-abbrev pub last_place : Tree → List Tree → Span
-last_place t [] = place_of t
-last_place t (u ∷ us) = last_place u us
+-- where the last of a list of elements ends
+abbrev pub last_end : List Tree → ℕ
+last_end [] = 0
+last_end (x ∷ []) = (place_of x).hi.0
+last_end (x ∷ (y ∷ ys)) = last_end (y ∷ ys)
 
 -- a list of expressions as the elements of a call or as a sequence
 abbrev pub joined : List Tree → Span → Tree
@@ -36,9 +38,6 @@ joined (t ∷ (u ∷ ts)) s = seq_expr s (pack (t ∷ u ∷ ts))
 abbrev pub extended : Tree → Tree → Span → Tree
 extended (seq_expr s xs) t n = seq_expr n (pack (unpack xs ++ t ∷ []))
 extended u t n = seq_expr n (more u (more t none))
-
-abbrev pub hi_of_span : Span → ℕ
-hi_of_span s = s.hi.0
 
 -- an element without dots, as the expression that it is
 abbrev pub plain_element : Tree → Option Tree
@@ -131,7 +130,7 @@ module _ {S : Type 0} (m : Machine S) (inner : Inner S) where
   -- parameters and body, of a method or of what follows `function`; `whole` is where the whole began
   unfoldable pub parameter_by : Code → Read S Tree
   parameter_by c s =
-      if at m dot_dot_dot_kind s then (inner.pat (with_in c) (past m s) >>= λ p. Ok (param (spanned m s p.1) none (rest_pat (spanned m s p.1) (dots_at (first s)) p.0), p.1))
+      if at m dot_dot_dot_kind s then (inner.pat (with_in c) (past m s) >>= λ p. Ok (param (spanned m s p.1) none (rest_pat (spanned m s p.1) (dots_at (lo (input m s))) p.0), p.1))
       else (inner.pat (with_in c) s >>= λ p.
       if at m assign_kind p.1 then (inner.expr (with_in c) assignment_level (past m p.1) >>= λ e. Ok (param (spanned m s e.1) none (assign_pat (spanned m s e.1) p.0 e.0), e.1))
       else Ok (param (spanned m s p.1) none p.0, p.1))
@@ -258,7 +257,7 @@ module _ {S : Type 0} (m : Machine S) (inner : Inner S) where
       else (if xs.comma then unexpected else elim (plain_elements xs.items) [
         | None ↦ unexpected
         | Some [] ↦ unexpected
-        | Some (e ∷ es) ↦ Ok (paren_expr (spanned m start s) (joined (e ∷ es) (span (lo (input m open_)) (hi_of_span (last_place e es)))), s)
+        | Some (e ∷ es) ↦ Ok (paren_expr (spanned m start s) (joined (e ∷ es) (span (lo (input m open_)) (last_end xs.items))), s)
       ])
 
   unfoldable pub group_by : Code → Read S Tree
