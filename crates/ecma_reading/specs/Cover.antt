@@ -47,13 +47,24 @@ is_rest_item (expr_or_spread s (Some d) e) = true
 is_rest_item (spread_element s e) = true
 is_rest_item _ = false
 
+-- a property that is a name alone is its own key
+abbrev pub as_prop : Bool → Tree → Result Tree Fault → Result Tree Fault
+as_prop true (ident s n) p = Ok (assign_pat_prop s (binding_ident s (ident s n)) absent)
+as_prop _ x p = p
+
+-- whether a rest stands last
+abbrev pub last_rests : List Tree → Bool
+last_rests [] = false
+last_rests (x ∷ []) = is_rest_item x
+last_rests (x ∷ (y ∷ ys)) = last_rests (y ∷ ys)
+
 -- `commas` has the starts of the arrays and objects in which a comma follows a last spread.
 abbrev mutual
   -- an item: what binds or is assigned to, with an initialiser or without; an element; a property
   pub to_item : Bool → List ℕ → Tree → Result Tree Fault
   to_item binds commas (ident s n) = Ok (binding_ident s (ident s n))
-  to_item binds commas (array_lit s xs) = if has s.lo.0 commas then unexpected else (to_items binds commas xs >>= λ ps. Ok (array_pat s ps))
-  to_item binds commas (object_lit s xs) = if has s.lo.0 commas then unexpected else (to_props binds commas xs >>= λ ps. Ok (object_pat s ps))
+  to_item binds commas (array_lit s xs) = if has s.lo.0 commas then unexpected else (to_items false binds commas xs >>= λ ps. Ok (array_pat s ps))
+  to_item binds commas (object_lit s xs) = if has s.lo.0 commas then unexpected else (to_items true binds commas xs >>= λ ps. Ok (object_pat s ps))
   to_item binds commas (assign_expr s op p e) = if op == assign_kind then initialised binds s p e else unexpected
   to_item binds commas (member_expr s o k) = if binds then unexpected else Ok (expr_pat (member_expr s o k))
   to_item binds commas (super_prop_expr s o k) = if binds then unexpected else Ok (expr_pat (super_prop_expr s o k))
@@ -66,18 +77,11 @@ abbrev mutual
   to_item binds commas hole = Ok hole
   to_item binds commas _ = unexpected
 
-  -- the items of an array, of which a rest stands last
-  pub to_items : Bool → List ℕ → Trees → Result Trees Fault
-  to_items binds commas none = Ok none
-  to_items binds commas (more x none) = to_item binds commas x >>= λ p. Ok (more p none)
-  to_items binds commas (more x (more y ys)) = if is_rest_item x then unexpected else (to_item binds commas x >>= λ p. to_items binds commas (more y ys) >>= λ ps. Ok (more p ps))
-
-  -- the properties of an object, where a name alone is its own key
-  pub to_props : Bool → List ℕ → Trees → Result Trees Fault
-  to_props binds commas none = Ok none
-  to_props binds commas (more (ident s n) ps) = to_props binds commas ps >>= λ qs. Ok (more (assign_pat_prop s (binding_ident s (ident s n)) absent) qs)
-  to_props binds commas (more x none) = to_item binds commas x >>= λ p. Ok (more p none)
-  to_props binds commas (more x (more y ys)) = if is_rest_item x then unexpected else (to_item binds commas x >>= λ p. to_props binds commas (more y ys) >>= λ ps. Ok (more p ps))
+  -- the items of an array, or the properties of an object, of which a rest stands last
+  pub to_items : Bool → Bool → List ℕ → Trees → Result Trees Fault
+  to_items props binds commas none = Ok none
+  to_items props binds commas (more x none) = as_prop props x (to_item binds commas x) >>= λ p. Ok (more p none)
+  to_items props binds commas (more x (more y ys)) = if is_rest_item x then unexpected else (as_prop props x (to_item binds commas x) >>= λ p. to_items props binds commas (more y ys) >>= λ ps. Ok (more p ps))
 
 -- the target of an assignment: a simple one, or with `=` a pattern
 abbrev pub to_target : ℕ → List ℕ → Tree → Result Tree Fault

@@ -1,7 +1,7 @@
 -- Reading expressions (ECMA-262, clause 13): a prefix, then one loop over infix and postfix operators.
 use Rattle.std.specs.Prelude.{ℕ, Bool, true, false, not, ◌&&◌, ◌||◌, ◌==◌, nat_le, nat_lt, if◌then◌else◌, List, [], ◌∷◌, ◌++◌, Option, Some, None, Result, Ok}
 use Rattle.ecma_token.specs.declared.place.Span.{Span}
-use Rattle.ecma_token.specs.Kinds.{arrow_kind, hash_kind, dot_kind, dot_dot_dot_kind, left_paren_kind, right_paren_kind, left_bracket_kind, right_bracket_kind, left_brace_kind, right_brace_kind, comma_kind, back_quote_kind, template_kind, colon_kind, dollar_brace_kind, question_mark_kind, regex_kind, mul_kind, assign_kind, null_kind, true_kind, false_kind, await_kind, function_kind, class_kind, new_kind, this_kind, super_kind, import_kind, yield_kind, in_kind, add_kind, sub_kind, bang_kind, tilde_kind, typeof_kind, void_kind, delete_kind, plus_plus_kind, minus_minus_kind, async_kind, meta_kind, target_kind, get_kind, set_kind, semicolon_kind}
+use Rattle.ecma_token.specs.Kinds.{arrow_kind, hash_kind, dot_kind, dot_dot_dot_kind, left_paren_kind, right_paren_kind, left_bracket_kind, right_bracket_kind, left_brace_kind, right_brace_kind, comma_kind, back_quote_kind, template_kind, colon_kind, dollar_brace_kind, question_mark_kind, str_kind, num_kind, big_int_kind, regex_kind, mul_kind, assign_kind, null_kind, true_kind, false_kind, await_kind, function_kind, class_kind, new_kind, this_kind, super_kind, import_kind, yield_kind, in_kind, add_kind, sub_kind, bang_kind, tilde_kind, typeof_kind, void_kind, delete_kind, plus_plus_kind, minus_minus_kind, async_kind, meta_kind, target_kind, get_kind, set_kind, semicolon_kind}
 use Rattle.ecma_token.specs.Tokens.{Content, Quoted, Piece, Pattern, Numeral, BigNumeral}
 use Rattle.ecma_tree.specs.Tree.{Tree, none, more, pack, unpack, function, ident_name, computed_prop_name, private_name, this_expr, array_lit, object_lit, fn_expr, unary_expr, update_expr, bin_expr, assign_expr, member_expr, super_prop_expr, cond_expr, call_expr, new_expr, seq_expr, ident, tpl, tpl_element, tagged_tpl, arrow_expr, class_expr, yield_expr, meta_prop_expr, await_expr, paren_expr, opt_chain_expr, opt_call, super, import, expr_or_spread, spread_element, key_value_prop, assign_prop, getter_prop, setter_prop, method_prop, str_lit, bool_lit, null_lit, number_lit, big_int_lit, regex_lit, binding_ident, assign_pat, rest_pat, param, absent, hole, list}
 use Rattle.ecma_tree.specs.Places.{place_of}
@@ -9,19 +9,22 @@ use Rattle.ecma_syntax.specs.Input.{Code, kind, kind2, brk, brk2, lo, hi, dots_a
 use Rattle.ecma_syntax.specs.Operators.{expression_level, assignment_level, coalesce_level, unary_level, new_level, call_level, member_level, binary_level, right_level, is_assign_op, operates, goes_expr, between, starts_key, other_end}
 use Rattle.ecma_syntax.specs.Shape.{level, ends, fits_left, is_chain, is_cooked, is_spread}
 use Rattle.ecma_reading.specs.Source.{Fault, unexpected, ◌>>=◌, Machine, Stand, Read, input, past, operand, bound, spanned, at, eat, eat_word, is_name, name, any_word, Step, go_on, finished, iterate, Inner}
-use Rattle.ecma_reading.specs.Cover.{to_items, to_target}
+use Rattle.ecma_reading.specs.Cover.{to_items, last_rests, to_target}
 
 -- is a prefix operator (13.5)
 abbrev pub is_unary : ℕ → Bool
 is_unary k = (k == sub_kind) || ((k == add_kind) || ((k == bang_kind) || ((k == tilde_kind) || ((k == typeof_kind) || ((k == void_kind) || (k == delete_kind))))))
 
--- what a token holds, as a literal
-abbrev pub literal : Content → Span → Option Tree
-literal (Quoted units raw) s = Some (str_lit s units (Some raw))
-literal (Numeral value raw) s = Some (number_lit s value (Some raw))
-literal (BigNumeral radix digits raw) s = Some (big_int_lit s radix digits (Some raw))
-literal (Pattern body flags) s = Some (regex_lit s body flags)
-literal _ s = None
+-- what a token holds, as a literal of its kind
+abbrev pub only_kind : Bool → Tree → Option Tree
+only_kind b t = if b then Some t else None
+
+abbrev pub literal : ℕ → Content → Span → Option Tree
+literal k (Quoted units raw) s = only_kind (k == str_kind) (str_lit s units (Some raw))
+literal k (Numeral value raw) s = only_kind (k == num_kind) (number_lit s value (Some raw))
+literal k (BigNumeral radix digits raw) s = only_kind (k == big_int_kind) (big_int_lit s radix digits (Some raw))
+literal k (Pattern body flags) s = only_kind (k == regex_kind) (regex_lit s body flags)
+literal k _ s = None
 
 -- where the last of a list of elements ends
 abbrev pub last_end : List Tree → ℕ
@@ -48,11 +51,6 @@ abbrev pub plain_elements : List Tree → Option (List Tree)
 plain_elements [] = Some []
 plain_elements (x ∷ xs) = elim (plain_element x) [ None ↦ None | Some e ↦ elim (plain_elements xs) [ None ↦ None | Some es ↦ Some (e ∷ es) ] ]
 
-abbrev pub last_spreads : List Tree → Bool
-last_spreads [] = false
-last_spreads (x ∷ []) = is_spread x
-last_spreads (x ∷ (y ∷ ys)) = last_spreads (y ∷ ys)
-
 -- a name that a shorthand property or a bare parameter is
 abbrev pub key_text : Tree → Option (List ℕ)
 key_text (ident_name s n) = Some n
@@ -78,7 +76,7 @@ module _ {S : Type 0} (m : Machine S) (inner : Inner S) where
   first s = first_span (input m s)
 
   unfoldable pub literal_by : Read S Tree
-  literal_by s = elim (literal (content (input m s)) (first s)) [ None ↦ unexpected | Some t ↦ Ok (t, past m s) ]
+  literal_by s = elim (literal (kind (input m s)) (content (input m s)) (first s)) [ None ↦ unexpected | Some t ↦ Ok (t, past m s) ]
 
   -- an element: after dots where it is spread
   unfoldable pub element_by : Code → Read S Tree
@@ -110,7 +108,7 @@ module _ {S : Type 0} (m : Machine S) (inner : Inner S) where
   -- after `[`
   unfoldable pub array_by : Code → Read S Tree
   array_by c s = elements_by c true right_bracket_kind (past m s) >>= λ xs.
-      Ok (array_lit (spanned m s xs.1) (pack xs.0.items), noted (xs.0.comma && last_spreads xs.0.items) (lo (input m s)) xs.1)
+      Ok (array_lit (spanned m s xs.1) (pack xs.0.items), noted (xs.0.comma && last_rests xs.0.items) (lo (input m s)) xs.1)
 
   -- ---- keys and properties
 
@@ -207,14 +205,9 @@ module _ {S : Type 0} (m : Machine S) (inner : Inner S) where
       if at m right_brace_kind s then Ok (finished xs, past m s)
       else (prop_by c s >>= λ p. after_element right_brace_kind (xs.items ++ p.0 ∷ []) p.1)
 
-  abbrev pub last_spread_prop : List Tree → Bool
-  last_spread_prop [] = false
-  last_spread_prop (spread_element s e ∷ []) = true
-  last_spread_prop (x ∷ xs) = last_spread_prop xs
-
   unfoldable pub object_by : Code → Read S Tree
   object_by c s = iterate (bound m) (prop_step c) no_elements (past m s) >>= λ ps.
-      Ok (object_lit (spanned m s ps.1) (pack ps.0.items), noted (ps.0.comma && last_spread_prop ps.0.items) (lo (input m s)) ps.1)
+      Ok (object_lit (spanned m s ps.1) (pack ps.0.items), noted (ps.0.comma && last_rests ps.0.items) (lo (input m s)) ps.1)
 
   -- ---- templates
 
@@ -248,7 +241,7 @@ module _ {S : Type 0} (m : Machine S) (inner : Inner S) where
 
   -- the elements of a parenthesis as parameters
   unfoldable pub params_of : List ℕ → Elements → Result (List Tree) Fault
-  params_of commas xs = if xs.comma && last_spreads xs.items then unexpected else (to_items true commas (pack xs.items) >>= λ ps. Ok (unpack ps))
+  params_of commas xs = if xs.comma && last_rests xs.items then unexpected else (to_items false true commas (pack xs.items) >>= λ ps. Ok (unpack ps))
 
   -- after the `)` of a group: an arrow, or an expression in parentheses
   unfoldable pub group_end : Code → Stand S → Stand S → Elements → Read S Tree

@@ -144,4 +144,4 @@ module _ {S : Type 0} (m : Machine S) (inner : Inner S) where
 
   unfoldable pub program_by : Bool → Code → Read S Tree
   program_by modules c s =
-      if at m shebang_kind s then program_rest modules c s (line_of (content (input m s))) (past m s) else program_rest modules c s None s
+      if at m shebang_kind s then elim (line_of (content (input m s))) [ None ↦ unexpected | Some l ↦ program_rest modules c s (Some l) (past m s) ] else program_rest modules c s None s
