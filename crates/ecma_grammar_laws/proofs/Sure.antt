@@ -51,6 +51,16 @@ then_sure k (Ok x) f P Q p h = grown k x.1.commas (f x) Q p.so.0 (h x p.so.1)
     grown k l (Err e) Q g q = record { so = tt }
 then_sure k (Err e) f P Q p h = record { so = tt }
 
+-- the same, where what follows needs to know that nothing was forgotten
+pub then_grown : {A B : Type 0} (k : List ℕ) (r : Result (A × Stand Input) Fault) (f : A × Stand Input → Result (B × Stand Input) Fault) (P : A × Stand Input → Type 0) (Q : B × Stand Input → Type 0)
+    → Sure k r P → ((x : A × Stand Input) → Grows k x.1.commas → P x → Sure x.1.commas (f x) Q) → Sure k (r >>= f) Q
+then_grown k (Ok x) f P Q p h = then_sure k (Ok x) f (λ y. y ≡ x) Q (record { so = (p.so.0, refl) }) (λ y q. subst (λ z. Sure z.1.commas (f z) Q) (sym q) (h x p.so.0 p.so.1))
+then_grown k (Err e) f P Q p h = record { so = tt }
+
+pub sure_map : {A : Type 0} (k : List ℕ) (r : Result (A × Stand Input) Fault) (P Q : A × Stand Input → Type 0) → Sure k r P → ((x : A × Stand Input) → P x → Q x) → Sure k r Q
+sure_map k (Ok x) P Q p h = record { so = (p.so.0, h x p.so.1) }
+sure_map k (Err e) P Q p h = record { so = tt }
+
 pub if_sure : {A : Type 0} (k : List ℕ) (b : Bool) (x y : Result (A × Stand Input) Fault) (P : A × Stand Input → Type 0) → (b ≡ true → Sure k x P) → (b ≡ false → Sure k y P) → Sure k (cond b x y) P
 if_sure k true x y P h n = h refl
 if_sure k false x y P h n = n refl

@@ -51,11 +51,6 @@ abbrev pub plain_elements : List Tree → Option (List Tree)
 plain_elements [] = Some []
 plain_elements (x ∷ xs) = elim (plain_element x) [ None ↦ None | Some e ↦ elim (plain_elements xs) [ None ↦ None | Some es ↦ Some (e ∷ es) ] ]
 
--- a name that a shorthand property or a bare parameter is
-abbrev pub key_text : Tree → Option (List ℕ)
-key_text (ident_name s n) = Some n
-key_text _ = None
-
 -- what a list of elements and the comma after it make
 pub record Elements : Type 0 where
   pub items : List Tree
@@ -102,8 +97,7 @@ module _ {S : Type 0} (m : Machine S) (inner : Inner S) where
 
   -- the start of a literal in which a comma follows a last spread
   abbrev pub noted : Bool → ℕ → Stand S → Stand S
-  noted true n s = record { source = s.source; commas = n ∷ s.commas }
-  noted false n s = s
+  noted b n s = record { source = s.source; commas = if b then n ∷ s.commas else s.commas }
 
   -- after `[`
   unfoldable pub array_by : Code → Read S Tree
