@@ -1,3 +1,4 @@
 pub mod Sure
 pub mod Covers
 pub mod Nested
+pub mod Functions

@@ -6,16 +6,17 @@ use Rattle.ecma_token.specs.Kinds.{comma_kind, dot_dot_dot_kind, hash_kind, righ
 use Rattle.ecma_token.specs.Tokens.{Content, Quoted, Piece, Pattern, Numeral, BigNumeral}
 use Rattle.ecma_tree.specs.Tree.{Tree, Trees, none, more, pack, block_stmt, ident, ident_name, private_name, str_lit, number_lit, big_int_lit, regex_lit, expr_or_spread, computed_prop_name, hole}
 use Rattle.ecma_syntax.specs.Input.{Input, Code, kind, text, content, Takes, TakesWord, TakesName, Spans, Stands, lo, hi, span, first_span, is_word, no_name, barred, with_in, rest}
-use Rattle.ecma_syntax.specs.Operators.{expression_level, assignment_level, new_level, member_level, pauses}
-use Rattle.ecma_syntax.specs.Shape.{level, is_binding, is_item, is_hole, is_rest, is_element, is_prop, is_key, is_any_key, is_private, class_span}
+use Rattle.ecma_syntax.specs.Operators.{expression_level, assignment_level, new_level, member_level, primary_level, pauses}
+use Rattle.ecma_syntax.specs.Shape.{level, is_binding, is_item, is_hole, is_rest, is_element, is_prop, is_key, is_any_key, is_private, is_string, class_span}
 use Rattle.ecma_grammar.specs.Parts.{Part, part, By, Sorted, Listed, Ends}
-use Rattle.ecma_grammar.specs.Expressions.{Identifier}
+use Rattle.ecma_grammar.specs.Expressions.{Identifier, Bracketed}
 use Rattle.ecma_grammar.specs.Functions.{Body}
 use Rattle.ecma_grammar.specs.Grammar.{Spells, parts}
 use Rattle.ecma_reading.specs.Source.{Fault, ◌>>=◌, unexpected, Stand, Read, Inner, Step, go_on, finished, eat, end_of, iterate}
+use Rattle.ecma_reading.specs.Cover.{to_item}
 use Rattle.ecma_reading.specs.Expressions.{Elements, no_elements, literal, only_kind, literal_by, first, element_by, after_element, element_step, elements_by, computed_by, key_by, private_by}
 use Rattle.ecma_grammar_laws.proofs.Sure.{lm, seen, next, Grows, same, further, Sure, done, gives, never, then_sure, then_grown, sure_map, if_sure, test_sure, only_sure, eat_sure, IsName, name_sure, any_sure, StepSure, loop_sure}
-use Rattle.ecma_grammar_laws.proofs.Covers.{patterned, plain, by_yes, by_no, Refines, Elems, IsNil, Element, element_none, element_some, listed}
+use Rattle.ecma_grammar_laws.proofs.Covers.{patterned, plain, by_yes, by_no, Holds, IsItem, Refines, Elems, IsNil, Element, element_none, element_some, listed}
 
 -- a level that was asked for, or a bare `new` as the callee of another
 abbrev pub AtLeast : ℕ → Tree → Type 0
@@ -142,3 +143,61 @@ module _ (inner : Inner Input) (good : Sound inner) where
   unfolding elements_by
   elements_sure c holes close s = loop_sure (element_step lm inner c holes close) (Front (λ k. Element k c) holes (plain c) close (seen s)) (Whole (λ k. Element k c) holes (plain c) close (seen s)) (λ x r i. elements_step_sure c holes close (seen s) x r i)
       no_elements s (starts (λ k. Element k c) holes (plain c) close (seen s) s refl)
+
+-- ---- literals, names and keys
+
+-- a literal, or what else no pattern is made of
+pub dull : (c : Code) (s : Stand Input) (t : Tree) (r : Stand Input) → Spells t (plain c) (seen s) (seen r) → ((b : Bool) (k : List ℕ) → to_item b k t ≡ unexpected) → Made c s (t, r)
+dull c s t r h e = record { spelled = h; refines = λ k g. record { so = λ b f. subst (λ z. Holds z (IsItem b c (seen s) (seen r))) (sym (e b k)) (record { so = tt }) } }
+
+abbrev pub GotLiteral : Stand Input → Tree × Stand Input → Type 0
+GotLiteral s x = ((c : Code) → Made c s x) × (level x.0 ≡ primary_level) × ((kind (seen s) ≡ regex_kind → ⊥) → is_key x.0 ≡ true) × (kind (seen s) ≡ str_kind → is_string x.0 ≡ true)
+
+abbrev pub taken : Stand Input → Option Tree → Result (Tree × Stand Input) Fault
+taken s o = elim o [ None ↦ unexpected | Some t ↦ Ok (t, next s) ]
+
+only_sure_kind : (s : Stand Input) (k : ℕ) (t : Tree) → (kind (seen s) ≡ k → GotLiteral s (t, next s)) → Sure s.commas (taken s (only_kind (eqb (kind (seen s)) k) t)) (GotLiteral s)
+only_sure_kind s k t h = kept (eqb (kind (seen s)) k) (λ e. h (eqb-true (kind (seen s)) k e))
+  where
+    kept : (b : Bool) → (b ≡ true → GotLiteral s (t, next s)) → Sure s.commas (taken s (only_kind b t)) (GotLiteral s)
+    kept true h = done (t, next s) (GotLiteral s) (h refl)
+    kept false h = record { so = tt }
+
+literal_at : (s : Stand Input) (x : Content) → content (seen s) ≡ x → Sure s.commas (taken s (literal (kind (seen s)) x (first_span (seen s)))) (GotLiteral s)
+literal_at s (Quoted units raw) e = only_sure_kind s str_kind (str_lit (first_span (seen s)) units (Some raw)) (λ k. (λ c. dull c s _ (next s) (raw, refl, e, (k, tt, refl), refl) (λ b l. refl), refl, λ _. refl, λ _. refl))
+literal_at s (Numeral value raw) e = only_sure_kind s num_kind (number_lit (first_span (seen s)) value (Some raw)) (λ k. (λ c. dull c s _ (next s) (raw, refl, e, (k, tt, refl), refl) (λ b l. refl), refl, λ _. refl, λ z. absurd (omega (arith, k, z))))
+literal_at s (BigNumeral radix digits raw) e = only_sure_kind s big_int_kind (big_int_lit (first_span (seen s)) radix digits (Some raw)) (λ k. (λ c. dull c s _ (next s) (raw, refl, e, (k, tt, refl), refl) (λ b l. refl), refl, λ _. refl, λ z. absurd (omega (arith, k, z))))
+literal_at s (Pattern body flags) e = only_sure_kind s regex_kind (regex_lit (first_span (seen s)) body flags) (λ k. (λ c. dull c s _ (next s) (e, (k, tt, refl), refl) (λ b l. refl), refl, λ z. absurd (z k), λ z. absurd (omega (arith, k, z))))
+literal_at s _ e = record { so = tt }
+
+pub literal_sure : (inner : Inner Input) (s : Stand Input) → Sure s.commas (literal_by lm inner s) (GotLiteral s)
+unfolding literal_by
+literal_sure inner s = literal_at s (content (seen s)) refl
+
+-- a name in brackets
+abbrev pub IsBracketed : ℕ → Code → Input → Input → Tree → Type 0
+IsBracketed l c ts r (computed_prop_name t e) = Bracketed l c t (part e (λ y. Spells e y)) ts r
+IsBracketed l c ts r _ = ⊥
+
+pub bracketed_is : (l : ℕ) (c : Code) (ts r : Input) (P : Tree → Type 0) → ((t : Span) (e : Tree) → Bracketed l c t (part e (λ y. Spells e y)) ts r → P (computed_prop_name t e)) → (k : Tree) → IsBracketed l c ts r k → P k
+bracketed_is l c ts r P f (computed_prop_name t e) h = f t e h
+bracketed_is l c ts r P f _ h = absurd h
+
+pub private_sure : (inner : Inner Input) (c : Code) (s : Stand Input) → Sure s.commas (private_by lm inner s) (λ x. (is_private x.0 ≡ true) × Spells x.0 (plain c) (seen s) (seen x.1))
+unfolding private_by
+private_sure inner c s = eat_sure hash_kind s _ _ (λ h. if_sure s.commas (eqb (lo (seen (next s))) (hi (seen s))) _ _ _
+    (λ q. any_sure (next s) _ _ (λ w. done (private_name (span (lo (seen s)) (hi (seen (next s)))) (text (seen (next s))), next (next s)) _ (refl, (seen (next s), (h, tt, refl), eqb-true (lo (seen (next s))) (hi (seen s)) q, (w, refl, tt, refl), refl))))
+    (λ _. record { so = tt }))
+
+module _ (inner : Inner Input) (good : Sound inner) where
+  pub computed_sure : (c : Code) (l : ℕ) (s : Stand Input) → ((t : Tree) → AtLeast l t → l ≤ level t) → kind (seen s) ≡ left_bracket_kind → Sure s.commas (computed_by lm inner c l s) (λ x. IsBracketed l (plain c) (seen s) (seen x.1) x.0)
+  unfolding computed_by
+  computed_sure c l s f e = then_sure s.commas (inner.expr (with_in c) l (next s)) _ _ _ (good.expr (with_in c) l (next s)) (λ x h. eat_sure right_bracket_kind x.1 _ _ (λ z.
+      done (computed_prop_name (span (lo (seen s)) (hi (seen x.1))) x.0, next x.1) _ (seen (next s), seen x.1, (e, tt, refl), (f x.0 h.0, h.1.spelled), (z, tt, refl), refl)))
+
+  pub key_sure : (c : Code) (s : Stand Input) → Sure s.commas (key_by lm inner c s) (λ x. (is_key x.0 ≡ true) × Spells x.0 (plain c) (seen s) (seen x.1))
+  unfolding key_by
+  key_sure c s = test_sure s.commas (kind (seen s)) left_bracket_kind _ _ _ (λ e. sure_map s.commas (computed_by lm inner c assignment_level s) _ _ (computed_sure c assignment_level s (λ t h. h) e)
+        (λ x h. bracketed_is assignment_level (plain c) (seen s) (seen x.1) (λ t. (is_key t ≡ true) × Spells t (plain c) (seen s) (seen x.1)) (λ t y b. (refl, b)) x.0 h)) (λ _.
+      if_sure s.commas (is_word (kind (seen s))) _ _ _ (λ w. done (ident_name (first_span (seen s)) (text (seen s)), next s) _ (refl, ((w, refl, tt, refl), refl))) (λ _.
+      test_sure s.commas (kind (seen s)) regex_kind _ _ _ (λ _. record { so = tt }) (λ n. sure_map s.commas (literal_by lm inner s) _ _ (literal_sure inner s) (λ x h. (h.2 n, (h.0 c).spelled)))))
