@@ -2,3 +2,4 @@ pub mod Sure
 pub mod Covers
 pub mod Nested
 pub mod Functions
+pub mod Primaries

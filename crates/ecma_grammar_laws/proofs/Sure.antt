@@ -57,6 +57,16 @@ pub then_grown : {A B : Type 0} (k : List ℕ) (r : Result (A × Stand Input) Fa
 then_grown k (Ok x) f P Q p h = then_sure k (Ok x) f (λ y. y ≡ x) Q (record { so = (p.so.0, refl) }) (λ y q. subst (λ z. Sure z.1.commas (f z) Q) (sym q) (h x p.so.0 p.so.1))
 then_grown k (Err e) f P Q p h = record { so = tt }
 
+pub weaken : {A : Type 0} (k l : List ℕ) (r : Result (A × Stand Input) Fault) (P : A × Stand Input → Type 0) → Grows k l → Sure l r P → Sure k r P
+weaken k l (Ok y) P g q = record { so = (further k l y.1.commas g q.so.0, q.so.1) }
+weaken k l (Err e) P g q = record { so = tt }
+
+-- where what follows may start again from before
+pub then_any : {A B : Type 0} (k : List ℕ) (r : Result (A × Stand Input) Fault) (f : A × Stand Input → Result (B × Stand Input) Fault) (P : A × Stand Input → Type 0) (Q : B × Stand Input → Type 0)
+    → Sure k r P → ((x : A × Stand Input) → Grows k x.1.commas → P x → Sure k (f x) Q) → Sure k (r >>= f) Q
+then_any k (Ok x) f P Q p h = h x p.so.0 p.so.1
+then_any k (Err e) f P Q p h = record { so = tt }
+
 pub sure_map : {A : Type 0} (k : List ℕ) (r : Result (A × Stand Input) Fault) (P Q : A × Stand Input → Type 0) → Sure k r P → ((x : A × Stand Input) → P x → Q x) → Sure k r Q
 sure_map k (Ok x) P Q p h = record { so = (p.so.0, h x p.so.1) }
 sure_map k (Err e) P Q p h = record { so = tt }
