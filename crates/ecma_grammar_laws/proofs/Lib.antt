@@ -3,3 +3,4 @@ pub mod Covers
 pub mod Nested
 pub mod Functions
 pub mod Primaries
+pub mod Groups
