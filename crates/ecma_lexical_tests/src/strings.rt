@@ -1,7 +1,7 @@
 //! Tests of strings.
 
-use crate::plain::{Meaning, string_pieces};
-use crate::texts::{MOST_TEXTS, Texts, push_meaning, units};
+use crate::plain_strings::{Meaning, string_pieces};
+use crate::texts::{push_meaning, string_of, text_of, texts_of, units};
 use ecma_literal::{StringLiteral, read_string};
 use ecma_scan::characters::pop;
 use ecma_token::Error;
@@ -50,38 +50,40 @@ fn plain(
     }
 }
 
-/// The reader and the plain one agree on all short texts over an alphabet that reaches every rule,
-/// behind each of some beginnings.
+/// Compares the reader and the plain one at one text, of which the first character is a quote.
+fn compare(rt: &impl Abort, alloc: Global, text: &str) -> Result<(), Fail> {
+    let characters: Vec<char> = text.chars().collect(alloc)?;
+    let [quote, inner @ ..] = characters.as_slice() else {
+        return Err(Fail::from("no text"));
+    };
+    let want = plain(rt, alloc, inner, *quote)?;
+    let found = match read(alloc, text).ok_or("no quote")? {
+        Ok(literal) => Some((
+            units(alloc, &literal.value)?,
+            literal.legacy,
+            literal.rest.chars().count(),
+        )),
+        Err(_) => None,
+    };
+    assert!(rt; found == want, "{text}");
+    Ok(())
+}
+
+/// An alphabet that reaches every rule.
+const ALPHABET: [char; 16] = [
+    '\'', '\\', '\n', '\r', '\u{2028}', 'x', 'u', '{', '}', '0', '3', '7', ' ', '8', 'a', 'z',
+];
+
+/// The reader and the plain one agree on all short texts behind each of some beginnings.
 #[test]
 fn agrees_with_the_plain_reader(rt: HostRuntime) -> Result<(), Fail> {
     for prefix in ["'", "'\\", "'\\u", "'\\u{", "'\\x", "'\\3", "'\\0"] {
         let longest = if prefix.len() < 2 { 4 } else { 3 };
-        let mut texts = Texts::new("'\\\n\r\u{2028}xu{}037 8a", longest);
-        for _ in 0..MOST_TEXTS {
-            let Some(text) = texts.next(rt.alloc(), prefix)? else {
-                break;
-            };
-            let characters: Vec<char> = text.chars().collect(rt.alloc())?;
-            let [quote, inner @ ..] = characters.as_slice() else {
-                return Err(Fail::from("no text"));
-            };
-            let want = plain(&rt, rt.alloc(), inner, *quote)?;
-            let found = match read(rt.alloc(), text.as_str()).ok_or("no quote")? {
-                Ok(literal) => Some((
-                    units(rt.alloc(), &literal.value)?,
-                    literal.legacy,
-                    literal.rest.chars().count(),
-                )),
-                Err(_) => None,
-            };
-            match (found, want) {
-                (None, None) => {}
-                (Some((units, legacy, rest)), Some((wanted, bars, left))) => {
-                    assert_eq!(rt; units.as_slice(), wanted.as_slice(), "{text}");
-                    assert_eq!(rt; (legacy, rest), (bars, left), "{text}");
-                }
-                _ => return Err(Fail::from("one reader reads what the other does not")),
-            }
+        for number in 0..texts_of(&ALPHABET, longest) {
+            let characters = text_of(rt.alloc(), &ALPHABET, number)?;
+            let mut text = String::from_str(rt.alloc(), prefix)?;
+            text.push_str(string_of(rt.alloc(), characters.as_slice())?.as_str())?;
+            compare(&rt, rt.alloc(), text.as_str())?;
         }
     }
     Ok(())

@@ -1,11 +1,11 @@
 //! The token at the front of a text, by trying every way to cut it (ECMA-262, clause 12).
 
+use crate::plain_numbers::form_of;
+use crate::plain_pieces::{is_opening, names};
+use crate::plain_strings::string_pieces;
+use crate::spellings::SPELLINGS;
 use ecma_lexeme::LexicalGoal;
-use ecma_literal_tests::plain::string_pieces;
-use ecma_literal_tests::plain_numbers::form_of;
 use ecma_scan::CharExt;
-use ecma_scan_tests::plain::{is_opening, names};
-use ecma_scan_tests::spellings::SPELLINGS;
 use std::alloc::{AllocError, Global};
 
 /// A sort of token.

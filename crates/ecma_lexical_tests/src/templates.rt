@@ -1,7 +1,7 @@
 //! Tests of pieces of templates.
 
-use crate::plain::{Meaning, template_parts};
-use crate::texts::{MOST_TEXTS, Texts, push_meaning, units};
+use crate::plain_strings::{Meaning, template_parts};
+use crate::texts::{push_meaning, string_of, text_of, texts_of, units};
 use ecma_literal::{Ending, TemplatePiece, read_template};
 use ecma_token::Error;
 use std::alloc::{AllocError, Global};
@@ -49,35 +49,40 @@ fn plain(
     }
 }
 
-/// The reader and the plain one agree on all short texts over an alphabet that reaches every rule.
+/// Compares the reader and the plain one at one text.
+fn compare(rt: &impl Abort, alloc: Global, text: &str) -> Result<(), Fail> {
+    let characters: Vec<char> = text.chars().collect(alloc)?;
+    let want = plain(rt, alloc, characters.as_slice())?;
+    match (read(alloc, text).ok_or("too long")?, want) {
+        (Err(_), None) => Ok(()),
+        (Ok(piece), Some((wanted, bad, ending, left))) => {
+            assert_eq!(rt; piece.rest.chars().count(), left, "{text}");
+            assert!(rt; piece.ending == ending, "{text}");
+            assert_eq!(rt; piece.cooked.is_err(), bad, "{text}");
+            if let Ok(value) = &piece.cooked {
+                assert!(rt; units(alloc, value)? == wanted, "{text}");
+            }
+            Ok(())
+        }
+        _ => Err(Fail::from("one reader reads what the other does not")),
+    }
+}
+
+/// An alphabet that reaches every rule.
+const ALPHABET: [char; 16] = [
+    '`', '\\', '\n', '\r', '\u{2028}', 'x', 'u', '{', '}', '0', '3', '7', '$', '8', 'a', 'z',
+];
+
+/// The reader and the plain one agree on all short texts behind each of some beginnings.
 #[test]
 fn agrees_with_the_plain_reader(rt: HostRuntime) -> Result<(), Fail> {
     for prefix in ["", "\\", "\\u", "\\u{", "\\x", "\\0"] {
         let longest = if prefix.len() < 2 { 4 } else { 3 };
-        let mut texts = Texts::new("`\\\n\r\u{2028}xu{}037$8a", longest);
-        for _ in 0..MOST_TEXTS {
-            let Some(text) = texts.next(rt.alloc(), prefix)? else {
-                break;
-            };
-            let characters: Vec<char> = text.chars().collect(rt.alloc())?;
-            let want = plain(&rt, rt.alloc(), characters.as_slice())?;
-            let found = read(rt.alloc(), text.as_str()).ok_or("too long")?.ok();
-            match (found, want) {
-                (None, None) => {}
-                (Some(piece), Some((wanted, bad, ending, left))) => {
-                    assert_eq!(rt; piece.rest.chars().count(), left, "{text}");
-                    assert_eq!(rt; piece.ending, ending, "{text}");
-                    assert_eq!(rt; piece.cooked.is_err(), bad, "{text}");
-                    if let Ok(value) = &piece.cooked {
-                        assert_eq!(rt;
-                            units(rt.alloc(), value)?.as_slice(),
-                            wanted.as_slice(),
-                            "{text}"
-                        );
-                    }
-                }
-                _ => return Err(Fail::from("one reader reads what the other does not")),
-            }
+        for number in 0..texts_of(&ALPHABET, longest) {
+            let characters = text_of(rt.alloc(), &ALPHABET, number)?;
+            let mut text = String::from_str(rt.alloc(), prefix)?;
+            text.push_str(string_of(rt.alloc(), characters.as_slice())?.as_str())?;
+            compare(&rt, rt.alloc(), text.as_str())?;
         }
     }
     Ok(())

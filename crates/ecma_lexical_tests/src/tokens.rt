@@ -1,11 +1,11 @@
 //! The reader of tokens and the slow, plain program agree on all short texts over alphabets that reach each
 //! rule.
 
-use crate::plain::{Cut, Sort, cuts, longest, template_cuts};
+use crate::plain_tokens::{Cut, Sort, cuts, longest, template_cuts};
 use crate::reading::{end_of, read};
+use crate::texts::{string_of, text_of, texts_of};
 use ecma_lexeme::Lexeme;
 use ecma_lexeme::LexicalGoal::{self, Div, RegExp, TemplateTail};
-use ecma_scan_tests::texts::{string_of, text_of};
 use ecma_token::Token;
 use std::alloc::Global;
 use std::process::Abort;
@@ -19,11 +19,6 @@ fn sort_of(token: &Token<'_>) -> Sort {
         Token::Regex(_, _) => Sort::RegExp,
         _ => Sort::Punctuator,
     }
-}
-
-/// How many numbers name the texts of up to so many characters.
-fn texts_of(alphabet: &[char], longest: u32) -> usize {
-    alphabet.len().saturating_add(1).saturating_pow(longest)
 }
 
 /// How many characters stand before the rest of a text.

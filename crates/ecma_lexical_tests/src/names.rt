@@ -1,6 +1,6 @@
 //! Tests of names.
 
-use crate::plain::{is_opening, names};
+use crate::plain_pieces::{is_opening, names};
 use crate::texts::{string_of, text_of};
 use ecma_scan::identifier_name;
 use std::test::Fail;
