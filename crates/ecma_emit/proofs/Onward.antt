@@ -1,13 +1,12 @@
 -- Each call of a writer only adds to what is written.
-use Rattle.std.proofs.Common.{◌≡◌, ℕ, Bool, true, false, ◌||◌, List, [], ◌∷◌, Option, Some, None, refl, sym, subst, ap, ◌∙◌, codes, if◌then◌else◌}
-use Rattle.ecma_token.specs.declared.place.BytePos.{BytePos}
+use Rattle.std.proofs.Common.{ℕ, Bool, true, false, List, Option, Some, None, codes, if◌then◌else◌}
 use Rattle.ecma_token.specs.declared.place.Span.{Span}
-use Rattle.ecma_write.specs.Pages.{Page, IsFront, IsLeft, IsPast, put, put_line, put_mark, deeper, shallower}
+use Rattle.ecma_write.specs.Pages.{Page, IsFront, IsPast, put, put_line, put_mark, deeper, shallower}
 use Rattle.ecma_write.specs.States.{State, FaultFits, commit, text, line, increase, decrease, semi, punct, mark, is_brace, span_or_none, on_page}
 use Rattle.ecma_write.specs.declared.fault.EmitError.{EmitError}
 use Rattle.ecma_write.specs.declared.fault.EmitError.TheVariants.{Write, Memory, Node, Position}
-use Rattle.ecma_write.proofs.Growing.{Grows, front_same, front_trans, grows_same, grows_put, grows_line, grows_mark, grows_deeper, grows_shallower}
-use Rattle.ecma_pieces.specs.Pieces.{Piece, Text, Brace, Blank, Line, Deeper, Back, Semicolon, Commit, Mark, call, calls}
+use Rattle.ecma_write.proofs.Growing.{Grows, front_same, front_trans, grows_put, grows_line, grows_mark, grows_deeper, grows_shallower}
+use Rattle.ecma_pieces.specs.Pieces.{Piece, Text, Brace, Blank, Line, Deeper, Back, Semicolon, Commit, Mark, call}
 
 -- what is written stays, and a place past the last stays past it
 pub record Onward (s t : State) : Type 0 where

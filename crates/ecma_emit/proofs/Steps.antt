@@ -2,14 +2,14 @@
 use Rattle.std.proofs.Common.{◌≡◌, ℕ, Bool, true, false, List, Option, Some, None, is_some, Result, Ok, Err, refl, sym, subst, ap, ◌∙◌, if◌then◌else◌}
 use base.Fml.{GName}
 use Rattle.ecma_token.specs.Counts.{count_after}
-use Rattle.ecma_write.specs.Pages.{IsFront, IsLeft}
-use Rattle.ecma_write.specs.States.{State, Does, Keeps, MayAnswer, FaultFits, has_places, answers_write, is_write}
+use Rattle.ecma_write.specs.Pages.{IsFront}
+use Rattle.ecma_write.specs.States.{State, Does, Keeps, MayAnswer, FaultFits, has_places, is_write}
 use Rattle.ecma_write.specs.declared.fault.EmitError.{EmitError}
 use Rattle.ecma_write.specs.declared.fault.EmitError.TheVariants.{Write, Memory, Node, Position}
 use Rattle.ecma_write.proofs.Growing.{front_trans}
 use Rattle.ecma_pieces.specs.Pieces.{Piece, call}
-use Rattle.ecma_emit.specs.Prints.{Asked, ask, stop, lay, IsAt, Prints, Wrote, MayFault, failed_by}
-use Rattle.ecma_layout.specs.Looks.{Laid, nothing, one, both, refused}
+use Rattle.ecma_emit.specs.Prints.{Asked, ask, stop, lay, IsAt, Prints, MayFault, failed_by}
+use Rattle.ecma_layout.specs.Looks.{Laid, both}
 use Rattle.ecma_emit.proofs.Onward.{Onward, onward_same, call_onward, fits_on}
 
 -- what is asked for only grows
@@ -47,12 +47,16 @@ module _ {S : Type 0} (tells : S → Type 0) (state : S → State) (failed : S �
 
   later : (w : S) (e : EmitError) (a b : Asked) → More a b → At w (Some e) a → At w (Some e) b
   later w e a b m h = record {
-    wrote = (may_more e a b m h.wrote.0, λ k.
-      let z = h.wrote.1 (sym m.known ∙ k) in
-      (z.0, front_trans (state w).page.out a.state.page.out b.state.page.out z.1 m.onward.out, fits_on e a.state b.state m.onward z.2));
+    wrote = (
+      may_more e a b m h.wrote.0,
+      λ k.
+          let z = h.wrote.1 (sym m.known ∙ k) in
+          (z.0, front_trans (state w).page.out a.state.page.out b.state.page.out z.1 m.onward.out, fits_on e a.state b.state m.onward z.2),
+    );
     failures = h.failures ∙ ap (count_after (failed_by (Some e))) (sym m.failures);
     lent = h.lent ∙ sym m.loans;
-    places = h.places ∙ sym m.places }
+    places = h.places ∙ sym m.places;
+  }
 
   -- behind a fault nothing is called
   pub passed : (x : Piece) (w : S) (e : EmitError) (a : Asked) → At w (Some e) a → At w (Some e) (ask x a)
@@ -78,16 +82,21 @@ module _ {S : Type 0} (tells : S → Type 0) (state : S → State) (failed : S �
     wrote = (h.wrote.0, λ t. let z = h.wrote.1 t in let y = d z.0 in (y.0, y.1 ∙ ap (call x) z.1));
     failures = k.2 ∙ h.failures;
     lent = k.1 ∙ h.lent;
-    places = k.0 ∙ h.places }
+    places = k.0 ∙ h.places;
+  }
   asked_by x old new (Err e) d k a h = record {
-    wrote = (may_fault e (record a { state = call x a.state }) (has_places (state old)) h.places k.3, λ t.
-      let z = h.wrote.1 t in
-      let y = d z.0 in
-      let same : call x (state old) ≡ call x a.state = ap (call x) z.1 in
-      (y.0, subst (λ (s : State). IsFront (state new).page.out s.page.out) same y.1.beginning, subst (λ (s : State). FaultFits e s.page) same y.2));
+    wrote = (
+      may_fault e (record a { state = call x a.state }) (has_places (state old)) h.places k.3,
+      λ t.
+          let z = h.wrote.1 t in
+          let y = d z.0 in
+          let same : call x (state old) ≡ call x a.state = ap (call x) z.1 in
+          (y.0, subst (λ (s : State). IsFront (state new).page.out s.page.out) same y.1.beginning, subst (λ (s : State). FaultFits e s.page) same y.2),
+    );
     failures = k.2 ∙ ap (count_after (is_write e)) h.failures;
     lent = k.1 ∙ h.lent;
-    places = k.0 ∙ h.places }
+    places = k.0 ∙ h.places;
+  }
 
   going : (x : Piece) (a : Asked) → a.stops ≡ false → record a { state = call x a.state } ≡ ask x a
   unfolding ask
@@ -110,7 +119,6 @@ module _ {S : Type 0} (tells : S → Type 0) (state : S → State) (failed : S �
   pub passed_by : (x : Piece) (w : S) (f : Option EmitError) → is_some f ≡ true → (a : Asked) → At w f a → At w f (ask x a)
   passed_by x w (Some e) p a h = passed x w e a h
   passed_by x w None p a h = absurd (cc)
-
 
 -- one part, and then another
 infixr 30 ◌▸◌

@@ -11,7 +11,9 @@ use ecma_write::{EmitError, WriteJs};
 
 /// A writer that is printed to. Once it has a fault, nothing more is written.
 pub struct Printer<W> {
+    /// The writer.
     pub wr: W,
+    /// The first fault of printing.
     pub fault: Option<EmitError>,
 }
 

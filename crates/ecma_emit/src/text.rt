@@ -5,9 +5,13 @@ ghost use Rattle.ecma_emit.specs.Texts.{bytes};
 /// A fixed text.
 #[derive(Clone, Copy, Debug, PartialEq, Eq)]
 pub enum Text {
+    /// `(`
     LeftParen,
+    /// `)`
     RightParen,
+    /// `return`
     Return,
+    /// `while`
     While,
 }
 

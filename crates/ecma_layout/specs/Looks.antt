@@ -1,6 +1,5 @@
 -- What a layout is made of: pieces before whatever follows, by the settings of a look.
-use Rattle.std.specs.Prelude.{ℕ, ◌-◌, Bool, true, false, not, ◌||◌, if◌then◌else◌, List, [], ◌∷◌, None, codes}
-use Rattle.ecma_token.specs.declared.place.BytePos.{BytePos}
+use Rattle.std.specs.Prelude.{ℕ, ◌-◌, Bool, true, false, not, ◌||◌, List, [], ◌∷◌, None, codes}
 use Rattle.ecma_token.specs.declared.place.Span.{Span}
 use Rattle.ecma_layout.specs.declared.look.Look.{Look}
 use Rattle.ecma_pieces.specs.Pieces.{Piece, Text, Brace, Blank, Line, Deeper, Back, Semicolon, Commit, Mark}

@@ -1,7 +1,5 @@
-use Rattle.std.proofs.Common.{refl, sym, ap, ◌∙◌, None}
+use Rattle.std.proofs.Common.{refl, sym, ◌∙◌}
 use Rattle.ecma_pieces.specs.Pieces.{Commit}
-use Rattle.ecma_write.specs.States.{text, commit, mark}
-use Rattle.ecma_emit.specs.Texts.{bytes}
 use Rattle.ecma_emit.proofs.Steps.{made, stopped, passed_by}
 use Rattle.ecma_emit.proofs.printer.Printer.commit.Goals as goal
 

@@ -1,6 +1,6 @@
-use Rattle.std.proofs.Common.{refl, sym, ap, ◌∙◌, None}
+use Rattle.std.proofs.Common.{sym, ap, ◌∙◌, None}
 use Rattle.ecma_pieces.specs.Pieces.{Text}
-use Rattle.ecma_write.specs.States.{text, commit, mark}
+use Rattle.ecma_write.specs.States.{text}
 use Rattle.ecma_emit.specs.Texts.{bytes}
 use Rattle.ecma_emit.proofs.Steps.{made, stopped, passed_by}
 use Rattle.ecma_emit.proofs.printer.Printer.text.Goals as goal
