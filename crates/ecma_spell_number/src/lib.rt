@@ -1,7 +1,9 @@
 //! How numbers and big integers are written.
 #![tactic(auto)]
 
+pub mod as_read;
 pub mod laws;
 pub mod text;
 
+pub use as_read::{FormattedText, formatted};
 pub use text::{NumberText, big_int, minified};
