@@ -59,7 +59,7 @@ class Build:
         trees.add(tree)
         params = "".join(", %s: %s" % (f, self.type_of(t)) for f, t in fields)
         out = "    /// %s\n" % " ".join(self.table.doc_of[name])
-        out += "    pub fn %s(&self%s) -> Result<%sBox, AllocError>\n" % (snake(name), params, sort)
+        out += "    pub fn %s(&self%s) -> Result<%sBox, AllocError>\n" % ("invalid_pat" if tree == "invalid_pat" else snake(name), params, sort)
         for f, t in fields:
             fact = self.nodes.fits_of(t, f)
             if fact:
