@@ -1,7 +1,7 @@
 //! What can be printed.
 ghost use Rattle.std.specs.Prelude.{◌≡◌, false};
 ghost use Rattle.ecma_tree.specs.Tree.{Tree, part_by};
-ghost use Rattle.ecma_layout.specs.Layout.{laid, is_variables, is_block, is_there, closing};
+ghost use Rattle.ecma_layout.specs.Layout.{laid, is_variables, is_block, closing};
 ghost use Rattle.ecma_emit.specs.Prints.{Prints};
 
 use crate::printer::Printer;
