@@ -62,7 +62,7 @@ fn upper(code: u32, place: u32) -> u8
 }
 
 /// Adds ASCII characters.
-fn push_ascii(text: &mut Made, bytes: &[u8])
+pub fn push_ascii(text: &mut Made, bytes: &[u8])
     requires ascii { IsAscii bytes.now }
     requires room { array_string_len text.old + length bytes.now ≤ 12 }
     ensures bytes { text.new.bytes ≡ text.old.bytes ++ bytes.now }

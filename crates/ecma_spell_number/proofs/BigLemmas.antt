@@ -1,6 +1,6 @@
 -- A big integer is read as its radix and digits, and a minified number stands.
-use Rattle.std.proofs.Common.{◌≡◌, ℕ, ◌+◌, ◌<◌, ◌≤◌, ⊎_elim, Bool, true, false, cond, List, [], ◌∷◌, ◌++◌, append-nil, append_assoc, refl, sym, ap, subst, ◌∙◌, arith}
-use Rattle.std.specs.Prelude.{◌&&◌, ◌||◌, ◌==◌, not, nat_lt, if◌then◌else◌, Option, Some, None}
+use Rattle.std.proofs.Common.{◌≡◌, ℕ, ◌≤◌, ⊎_elim, Bool, true, false, cond, List, [], ◌∷◌, ◌++◌, append_assoc, refl, sym, ap, subst, ◌∙◌, arith}
+use Rattle.std.specs.Prelude.{◌&&◌, ◌==◌, not, if◌then◌else◌, Option, Some, None}
 use Rattle.std.specs.Char.{is_digit, digit_value}
 use Rattle.std.specs.Str.Parse.{AllDigits}
 use Rattle.std.proofs.lemmas.Bool.{cases_Bool, eqb-true, ltb-true, false≢true}
@@ -8,7 +8,7 @@ use Rattle.std.proofs.lemmas.Bool.Decides.{nat_tests}
 use Rattle.ecma_number.specs.Numbers.{plain, prefix_radix, radix_of_letter, spells_digits, goes_on, past_first, none_left, is_mark}
 use Rattle.ecma_number.proofs.DigitLemmas.{spelled_digits}
 use Rattle.ecma_number.proofs.NumberLemmas.{no_separator}
-use Rattle.ecma_literal.specs.Numbers.{BigInt, Spells, SpellsNumber, big_of, big_by, spells_big_decimal}
+use Rattle.ecma_literal.specs.Numbers.{big_of, big_by, spells_big_decimal}
 use Rattle.ecma_literal.proofs.StandLemmas.{big_stands, number_stands}
 use Rattle.ecma_spell_number.specs.Numbers.{letter, is_prefixed, big_prefix, big_text, BigIntIsRead, MinifiedStands, minified}
 use Rattle.ecma_spell_number.proofs.MinifiedLemmas.{plain_digits, digits_spelled, no_prefix, letter_is, minified_is_read}

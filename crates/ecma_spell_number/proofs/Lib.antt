@@ -1,5 +1,7 @@
+pub mod AsReadLemmas
 pub mod BigLemmas
 pub mod MinifiedLemmas
 pub mod PlainLemmas
 pub mod PointLemmas
+pub mod TakesPointLemmas
 pub mod TextLemmas

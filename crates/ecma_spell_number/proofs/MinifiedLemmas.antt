@@ -1,17 +1,17 @@
 -- A minified number has its value.
-use Rattle.std.proofs.Common.{◌≡◌, ℕ, zero, suc, ◌+◌, ◌-◌, ◌*◌, ◌^◌, ◌<◌, ◌≤◌, ⊎_elim, Bool, true, false, cond, List, [], ◌∷◌, ◌++◌, append-nil, append_assoc, length, length-append, length-take, length-drop, map, take, drop, refl, sym, ap, subst, ◌∙◌, arith}
+use Rattle.std.proofs.Common.{◌≡◌, ℕ, zero, suc, ◌+◌, ◌-◌, ◌*◌, ◌^◌, ◌<◌, ◌≤◌, ⊎_elim, Bool, true, false, cond, List, [], ◌∷◌, ◌++◌, append-nil, length, length-append, length-drop, map, take, drop, refl, sym, ap, subst, ◌∙◌, arith}
 use Rattle.std.specs.Prelude.{◌&&◌, ◌||◌, ◌==◌, not, nat_lt, nat_le, if◌then◌else◌, Option, Some, None, unwrap_or, ℤ, pos, negsuc, neg_ℤ, ◌+ℤ◌, ◌-ℤ◌}
-use Rattle.std.specs.Char.{is_digit, digit_value, to_ascii_lowercase}
+use Rattle.std.specs.Char.{digit_value, to_ascii_lowercase}
 use Rattle.std.specs.Fmt.{decimal}
-use Rattle.std.specs.Int.Digits.{digits_of, AllBelowBase, number_from_digits, number_from_digits_after}
+use Rattle.std.specs.Int.Digits.{digits_of, AllBelowBase, number_from_digits_after}
 use Rattle.std.specs.Str.Parse.{digits_value, digits_value_after, AllDigits}
-use Rattle.std.proofs.lemmas.Bool.{cases_Bool, cases_lt, lt-ltb, le-ltb, ltb-true, ltb-false, leb-true, leb-false, eqb-true, eqb-false, ne_eqb, false≢true}
+use Rattle.std.proofs.lemmas.Bool.{cases_Bool, lt-ltb, le-ltb, ltb-true, ltb-false, eqb-true, eqb-false}
 use Rattle.std.proofs.lemmas.Bool.Decides.{nat_tests}
-use Rattle.std.proofs.lemmas.Int.Digits.{all_below_base_digits_of, number_digits_of, first_digits_of, length-digits_of_step}
+use Rattle.std.proofs.lemmas.Int.Digits.{all_below_base_digits_of, number_digits_of, length-digits_of_step}
 use Rattle.std.proofs.lemmas.List.{take-append-drop}
-use Rattle.ecma_number.specs.Numbers.{SpecNumber, Scaled, InRadix, number_of, number_by, prefix_radix, unprefixed_number, decimal_number, decimal_value, prefixed_number, in_radix, is_legacy_octal, spells_digits, goes_on, spells_integer, spells_mantissa, spells_exponent, exponent_value, signed, is_negative, unsigned, plain, before, after, is_mark, trim_front, trim_back, onto_trimmed, scaled, scaled_by, numeral, IsCanonical, IsDecimal, IsLargeInRadix, past_first, radix_of_letter, none_left, spells_octal, spells_non_octal}
+use Rattle.ecma_number.specs.Numbers.{SpecNumber, Scaled, InRadix, number_of, number_by, prefix_radix, decimal_number, decimal_value, in_radix, spells_digits, goes_on, spells_integer, spells_mantissa, spells_exponent, exponent_value, signed, is_negative, unsigned, plain, before, after, is_mark, trim_front, trim_back, onto_trimmed, scaled, scaled_by, numeral, IsDecimal, IsLargeInRadix, radix_of_letter, none_left, spells_octal, spells_non_octal}
 use Rattle.ecma_number.proofs.NumberLemmas.{no_separator, first_not_zero}
-use Rattle.ecma_spell_number.specs.Numbers.{zeros, large_text, small_text, scaled_text, letter, minified, is_prefixed, HasPrefix, MinifiedIsRead}
+use Rattle.ecma_spell_number.specs.Numbers.{zeros, large_text, small_text, scaled_text, letter, is_prefixed, MinifiedIsRead}
 
 -- ---- digits
 

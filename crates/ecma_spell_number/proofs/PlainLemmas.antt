@@ -1,16 +1,16 @@
 -- A number without its separators has the same value.
-use Rattle.std.proofs.Common.{◌≡◌, ℕ, zero, suc, ◌+◌, ◌<◌, ◌≤◌, ◌⊎◌, inl, inr, map, ⊎_elim, Bool, true, false, cond, List, [], ◌∷◌, ◌++◌, length, refl, sym, ap, subst, ◌∙◌, arith}
-use Rattle.std.specs.Prelude.{◌&&◌, ◌||◌, ◌==◌, not, nat_lt, if◌then◌else◌, Option, Some, None, unwrap_or, ℤ, pos, negsuc, ◌-ℤ◌}
+use Rattle.std.proofs.Common.{◌≡◌, ℕ, ◌<◌, ◌≤◌, ◌⊎◌, inl, inr, map, ⊎_elim, Bool, true, false, cond, List, [], ◌∷◌, ◌++◌, length, refl, sym, ap, subst, ◌∙◌, arith}
+use Rattle.std.specs.Prelude.{◌&&◌, ◌||◌, ◌==◌, not, nat_lt, if◌then◌else◌, Option, Some, None, unwrap_or, pos, negsuc, ◌-ℤ◌}
 use Rattle.std.specs.Char.{is_digit, digit_value, to_ascii_lowercase}
 use Rattle.std.specs.List.{list_all, list_any}
 use Rattle.std.specs.Str.Parse.{AllDigits}
-use Rattle.std.proofs.lemmas.Bool.{cases_Bool, ltb-true, eqb-true, false≢true, and_parts, or_cases}
+use Rattle.std.proofs.lemmas.Bool.{cases_Bool, ltb-true, eqb-true, false≢true, and_parts}
 use Rattle.std.proofs.lemmas.Bool.Decides.{nat_tests}
-use Rattle.ecma_number.specs.Numbers.{SpecNumber, Scaled, InRadix, number_of, number_by, prefix_radix, radix_of_letter, unprefixed_number, prefixed_number, decimal_number, decimal_value, in_radix, is_legacy_octal, spells_octal, spells_non_octal, spells_digits, goes_on, spells_integer, spells_mantissa, spells_exponent, exponent_value, signed, is_negative, unsigned, plain, before, after, is_mark, none_left, past_first, scaled, trim_front, IsCanonical}
+use Rattle.ecma_number.specs.Numbers.{SpecNumber, Scaled, InRadix, number_of, number_by, prefix_radix, radix_of_letter, decimal_number, decimal_value, in_radix, is_legacy_octal, spells_octal, spells_non_octal, spells_digits, spells_integer, spells_mantissa, spells_exponent, exponent_value, signed, is_negative, unsigned, plain, before, after, is_mark, none_left, past_first, scaled, trim_front, IsCanonical}
 use Rattle.ecma_number.proofs.DigitLemmas.{spelled_digits}
 use Rattle.ecma_spell_base.specs.declared.style.Style.{Style}
 use Rattle.ecma_spell_base.specs.Styles.{is_below_es2021, is_up_to_es5}
-use Rattle.ecma_spell_number.specs.Numbers.{zeros, minified, HasPrefix, is_new_prefix, whole_text, separated, in_edition, formatted, FormattedIsRead}
+use Rattle.ecma_spell_number.specs.Numbers.{zeros, HasPrefix, is_prefixed, is_new_prefix, whole_digits, whole_text, separated, whole_in_edition, in_edition, FormattedIsRead}
 use Rattle.ecma_spell_number.proofs.BigLemmas.{first_digit, prefix_prefixed}
 use Rattle.ecma_spell_number.proofs.MinifiedLemmas.{plain_digits, digits_spelled, in_parts, or_true, kept_radix, unprefixed, zeros_behind, zero_read, minified_is_read}
 
@@ -357,24 +357,41 @@ separated_read style raw v h = ⊎_elim
     (λ (e : is_below_es2021 style ≡ false). ap (λ b. number_of (if b then plain raw else raw)) e ∙ h)
     (cases_Bool (is_below_es2021 style))
 
+pub or_else : (o : Option (List ℕ)) (x : List ℕ) (v : SpecNumber) → ((t : List ℕ) → o ≡ Some t → number_of t ≡ Some v) → number_of x ≡ Some v
+    → number_of (unwrap_or o x) ≡ Some v
+or_else None x v w h = h
+or_else (Some t) x v w h = w t refl
+
 edition_read : (style : Style) (raw : List ℕ) (v : SpecNumber) (text : Option (List ℕ)) → ((t : List ℕ) → text ≡ Some t → number_of t ≡ Some v)
     → number_of raw ≡ Some v → number_of (in_edition style raw text) ≡ Some v
-edition_read style raw v None w h = separated_read style raw v h
-edition_read style raw v (Some t) w h = ⊎_elim
-    (λ (e : (is_up_to_es5 style && is_new_prefix (prefix_radix raw)) ≡ true). ap (λ b. number_of (if b then t else separated style raw)) e ∙ w t refl)
-    (λ (e : (is_up_to_es5 style && is_new_prefix (prefix_radix raw)) ≡ false).
-    ap (λ b. number_of (if b then t else separated style raw)) e ∙ separated_read style raw v h)
-    (cases_Bool (is_up_to_es5 style && is_new_prefix (prefix_radix raw)))
+edition_read style raw v text w h = or_else (whole_in_edition style raw text) (separated style raw) v some (separated_read style raw v h)
+  where
+    some : (t : List ℕ) → whole_in_edition style raw text ≡ Some t → number_of t ≡ Some v
+    some t e = ⊎_elim
+        (λ (b : (is_up_to_es5 style && is_new_prefix (prefix_radix raw)) ≡ true). w t (sym (ap (λ x. if x then text else None) b) ∙ e))
+        (λ (b : (is_up_to_es5 style && is_new_prefix (prefix_radix raw)) ≡ false). none_some (sym (ap (λ x. if x then text else None) b) ∙ e))
+        (cases_Bool (is_up_to_es5 style && is_new_prefix (prefix_radix raw)))
 
 some_list : (x y : List ℕ) → Some x ≡ Some y → x ≡ y
 some_list x y e = cc
 
-whole_read : (v : SpecNumber) → IsCanonical v → (t : List ℕ) → whole_text v ≡ Some t → number_of t ≡ Some v
-whole_read (Scaled [] x) c t e = ap number_of (sym (some_list (48 ∷ []) t e)) ∙ zero_read ∙ ap (λ y. Some (Scaled [] y)) (sym (c.zero_exponent refl))
-whole_read (Scaled (d ∷ ds) (pos n)) c t e = ap number_of (sym (some_list ((d ∷ ds) ++ zeros n []) t e)) ∙ zeros_behind d ds (pos n) c n
-whole_read (Scaled (d ∷ ds) (negsuc n)) c t e = none_some e
-whole_read (InRadix radix ds) c t e = none_some e
+whole_digits_read : (ds : List ℕ) (n : ℕ) → IsCanonical (Scaled ds (pos n)) → (t : List ℕ) → whole_digits ds n ≡ Some t → number_of t ≡ Some (Scaled ds (pos n))
+whole_digits_read [] n c t e = ap number_of (sym (some_list (48 ∷ []) t e)) ∙ zero_read ∙ ap (λ y. Some (Scaled [] y)) (sym (c.zero_exponent refl))
+whole_digits_read (d ∷ ds) n c t e = ⊎_elim
+    (λ (b : nat_lt n 20 ≡ true).
+    let same : Some ((d ∷ ds) ++ zeros n []) ≡ Some t = sym (ap (λ x. if x then Some ((d ∷ ds) ++ zeros n []) else None) b) ∙ e in
+    ap number_of (sym (some_list ((d ∷ ds) ++ zeros n []) t same)) ∙ zeros_behind d ds (pos n) c n)
+    (λ (b : nat_lt n 20 ≡ false). none_some (sym (ap (λ x. if x then Some ((d ∷ ds) ++ zeros n []) else None) b) ∙ e))
+    (cases_Bool (nat_lt n 20))
+
+whole_read : (v : SpecNumber) → IsCanonical v → HasPrefix v → (t : List ℕ) → whole_text v ≡ Some t → number_of t ≡ Some v
+whole_read (Scaled ds (pos n)) c p t e = whole_digits_read ds n c t e
+whole_read (Scaled ds (negsuc n)) c p t e = none_some e
+whole_read (InRadix radix ds) c p t e = ⊎_elim
+    (λ (b : (radix == 10) ≡ true). absurd (false≢true (sym (ap is_prefixed (eqb-true radix 10 b)) ∙ p)))
+    (λ (b : (radix == 10) ≡ false). none_some (sym (ap (λ x. if x then whole_digits ds 0 else None) b) ∙ e))
+    (cases_Bool (radix == 10))
 
 pub formatted_is_read : FormattedIsRead
 formatted_is_read style v None c p h = minified_is_read v c p
-formatted_is_read style v (Some raw) c p h = edition_read style raw v (whole_text v) (whole_read v c) (h raw refl)
+formatted_is_read style v (Some raw) c p h = edition_read style raw v (whole_text v) (whole_read v c p) (h raw refl)

@@ -1,17 +1,16 @@
 -- A number before the point of a member.
-use Rattle.std.proofs.Common.{◌≡◌, ℕ, ◌<◌, ◌≤◌, ◌⊎◌, inl, inr, ⊎_elim, Bool, true, false, cond, List, [], ◌∷◌, ◌++◌, append-nil, refl, sym, ap, subst, ◌∙◌, arith}
-use Rattle.std.specs.Prelude.{◌&&◌, ◌||◌, ◌==◌, not, nat_lt, if◌then◌else◌, Option, Some, None, unwrap_or}
-use Rattle.std.specs.Char.{is_digit, digit_value, is_ascii_alphabetic}
+use Rattle.std.proofs.Common.{◌≡◌, ℕ, ⊎_elim, Bool, true, false, List, [], ◌∷◌, ◌++◌, append-nil, refl, sym, ap, subst, ◌∙◌, arith}
+use Rattle.std.specs.Prelude.{◌&&◌, ◌||◌, ◌==◌, not, if◌then◌else◌, Option, Some, None, unwrap_or}
+use Rattle.std.specs.Char.{is_digit}
 use Rattle.std.specs.List.{list_all}
 use Rattle.std.proofs.lemmas.Bool.{cases_Bool, false≢true, and_parts, not-true}
 use Rattle.std.proofs.lemmas.Bool.Decides.{nat_tests}
 use Rattle.unicode_ident.proofs.IdentLemmas.{is_xid_start-ascii}
-use Rattle.ecma_number.specs.Numbers.{SpecNumber, number_of, prefix_radix, radix_of_letter, decimal_number, decimal_value, is_legacy_octal, spells_octal, spells_integer, spells_mantissa, spells_exponent, before, after, is_mark, none_left}
-use Rattle.ecma_literal.specs.Escapes.{begins}
+use Rattle.ecma_number.specs.Numbers.{SpecNumber, number_of, prefix_radix, radix_of_letter, decimal_number, decimal_value, is_legacy_octal, spells_mantissa, spells_exponent, before, after, is_mark, none_left}
 use Rattle.ecma_literal.specs.Numbers.{Number, SpellsNumber, is_barred}
-use Rattle.ecma_literal.specs.Standing.{is_digit_or_separator, takes_point, is_point, MayFollow}
+use Rattle.ecma_literal.specs.Standing.{is_digit_or_separator, takes_point}
 use Rattle.ecma_literal.proofs.StandLemmas.{number_stands}
-use Rattle.ecma_spell_number.specs.Numbers.{before_member, MemberStands}
+use Rattle.ecma_spell_number.specs.Numbers.{MemberStands}
 use Rattle.ecma_spell_number.proofs.MinifiedLemmas.{in_parts}
 use Rattle.ecma_spell_number.proofs.PlainLemmas.{if_some, is_unprefixed}
 

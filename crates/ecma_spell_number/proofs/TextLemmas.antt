@@ -1,6 +1,6 @@
 -- What the parts of a number's text are.
-use Rattle.std.proofs.Common.{◌≡◌, ℕ, zero, suc, ◌+◌, ◌-◌, ◌<◌, ◌≤◌, ⊎_elim, Bool, true, false, cond, List, [], ◌∷◌, ◌++◌, append-nil, length, drop, refl, sym, ap, subst, ◌∙◌, arith}
-use Rattle.std.specs.Prelude.{◌==◌, nat_lt, if◌then◌else◌, slice_index, ℤ, pos, negsuc, nat_abs}
+use Rattle.std.proofs.Common.{◌≡◌, ℕ, suc, ◌<◌, true, false, cond, List, [], ◌∷◌, length, drop, sym, ap, subst, ◌∙◌, arith}
+use Rattle.std.specs.Prelude.{◌==◌, if◌then◌else◌, pos, negsuc, nat_abs}
 use Rattle.std.specs.Char.{digit_value}
 use Rattle.std.specs.Str.{IsAscii}
 use Rattle.std.specs.Str.Parse.{digits_value, AllDigits, IsNumeral, without_leading_plus}
@@ -8,8 +8,8 @@ use Rattle.std.proofs.lemmas.Bool.{eq-eqb, false≢true}
 use Rattle.std.proofs.lemmas.Bool.Decides.{nat_tests}
 use Rattle.ecma_number.specs.Numbers.{SpecNumber, Scaled, InRadix, numeral, number_exponent, number_digits, number_radix, is_below_zero, IsCanonical}
 use Rattle.ecma_number.proofs.NumberLemmas.{ascii_digits}
-use Rattle.ecma_spell_number.specs.Numbers.{large_text, small_text, scaled_text, minified, prefix, letter}
-use Rattle.ecma_spell_number.proofs.MinifiedLemmas.{IsNumeralOf, numeral_is}
+use Rattle.ecma_spell_number.specs.Numbers.{large_text, small_text, scaled_text, minified, letter}
+use Rattle.ecma_spell_number.proofs.MinifiedLemmas.{numeral_is}
 
 pub numeral_value : (n : ℕ) → digits_value 10 (numeral n) ≡ n
 numeral_value n = (numeral_is n).value

@@ -1,11 +1,8 @@
 -- How numbers are written (ECMA-262, 12.9.3).
-use Rattle.std.specs.Prelude.{◌≡◌, ◌≢◌, ℕ, zero, suc, ◌+◌, ◌-◌, ◌^◌, ◌<◌, ◌≤◌, ◌⊎◌, Bool, true, false, not, ◌&&◌, ◌||◌, ◌==◌, nat_lt, nat_le, if◌then◌else◌, List, [], ◌∷◌, ◌++◌, length, take, drop, Option, Some, None, ℤ, pos, negsuc}
-use Rattle.std.specs.Char.{is_digit}
-use Rattle.std.specs.List.{list_all}
-use Rattle.ecma_number.specs.Numbers.{SpecNumber, Scaled, InRadix, number_of, numeral, plain, prefix_radix, is_legacy_octal, IsCanonical, none_left}
+use Rattle.std.specs.Prelude.{◌≡◌, ℕ, zero, suc, ◌+◌, ◌-◌, Bool, true, false, ◌&&◌, ◌||◌, ◌==◌, nat_lt, nat_le, if◌then◌else◌, List, [], ◌∷◌, ◌++◌, length, take, drop, Option, Some, None, unwrap_or, ℤ, pos, negsuc}
+use Rattle.ecma_number.specs.Numbers.{SpecNumber, Scaled, InRadix, number_of, numeral, plain, prefix_radix, IsCanonical}
 use Rattle.ecma_scan.specs.Runs.{Ends}
-use Rattle.ecma_literal.specs.Escapes.{begins}
-use Rattle.ecma_literal.specs.Numbers.{Meaning, Number, BigInt, Spells, SpellsNumber, is_barred}
+use Rattle.ecma_literal.specs.Numbers.{Number, BigInt, Spells, SpellsNumber, is_barred}
 use Rattle.ecma_literal.specs.Standing.{takes_point, MayFollow}
 use Rattle.ecma_spell_base.specs.declared.style.Style.{Style}
 use Rattle.ecma_spell_base.specs.Styles.{is_below_es2021, is_up_to_es5}
@@ -90,20 +87,28 @@ abbrev pub is_new_prefix : Option ℕ → Bool
 is_new_prefix None = false
 is_new_prefix (Some radix) = radix == 2 || radix == 8
 
--- decimal digits alone, where a number has them: digits and as many zeros as its power of ten
+-- decimal digits alone, where a number has them: digits and as many zeros as its power of ten, below 20 as in each number
+-- within 64 bits
+abbrev pub whole_digits : List ℕ → ℕ → Option (List ℕ)
+whole_digits [] n = Some (48 ∷ [])
+whole_digits (d ∷ ds) n = if nat_lt n 20 then Some ((d ∷ ds) ++ zeros n []) else None
+
 abbrev pub whole_text : SpecNumber → Option (List ℕ)
-whole_text (Scaled [] x) = Some (48 ∷ [])
-whole_text (Scaled (d ∷ ds) (pos n)) = Some ((d ∷ ds) ++ zeros n [])
-whole_text _ = None
+whole_text (Scaled ds (pos n)) = whole_digits ds n
+whole_text (Scaled ds (negsuc n)) = None
+whole_text (InRadix radix ds) = if radix == 10 then whole_digits ds 0 else None
 
 -- a spelling of a number in an edition: without `_` below ES2021
 abbrev pub separated : Style → List ℕ → List ℕ
 separated style raw = if is_below_es2021 style then plain raw else raw
 
--- with a prefix that the edition has not, as whole digits, where there are
+-- the whole digits of one with a prefix that the edition has not
+abbrev pub whole_in_edition : Style → List ℕ → Option (List ℕ) → Option (List ℕ)
+whole_in_edition style raw whole = if is_up_to_es5 style && is_new_prefix (prefix_radix raw) then whole else None
+
+-- these, where there are any, and else the spelling
 abbrev pub in_edition : Style → List ℕ → Option (List ℕ) → List ℕ
-in_edition style raw None = separated style raw
-in_edition style raw (Some text) = if is_up_to_es5 style && is_new_prefix (prefix_radix raw) then text else separated style raw
+in_edition style raw whole = unwrap_or (whole_in_edition style raw whole) (separated style raw)
 
 -- a number when formatting: as it was read, else minified
 abbrev pub formatted : Style → SpecNumber → Option (List ℕ) → List ℕ

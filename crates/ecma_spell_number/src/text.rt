@@ -20,7 +20,7 @@ pub struct NumberText<'a> {
 }
 
 /// The power of ten that a numeral writes, if it is below 2 to the 64.
-fn small_power(power: &str) -> Option<usize>
+pub(crate) fn small_power(power: &str) -> Option<usize>
     requires { power.now ≡ numeral (digits_value 10 power.now) }
     ensures { SomeIff result (digits_value 10 power.now < 2 ^ 64) (digits_value 10 power.now) }
 {

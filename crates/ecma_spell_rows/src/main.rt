@@ -1,5 +1,5 @@
-//! Rows of written spellings: strings by their units, names and keys, numbers by a spelling of theirs,
-//! big integers. `docs/ROWS.md` has the format.
+//! Rows of written spellings: strings by their units, names and keys, pieces of templates by their raw
+//! texts, numbers by a spelling of theirs, big integers. `docs/ROWS.md` has the format.
 #![tactic(auto)]
 
 use ecma_number::NumValue;
@@ -7,6 +7,7 @@ use ecma_rows::{Answer, Row, Subject, judge_files};
 use ecma_spell_base::Style;
 use ecma_spell_number::{NumberText, big_int, minified};
 use ecma_spell_string::{NameText, QuotedText};
+use ecma_spell_template::TemplateText;
 use ecma_token::EsVersion;
 use std::process::ExitCode;
 
@@ -26,7 +27,7 @@ fn style(row: &Row<'_>) -> Style {
     };
     Style {
         target,
-        minify: true,
+        minify: !row.has("format"),
         ascii_only: row.has("ascii"),
         inline_script: row.has("inline"),
     }
@@ -62,6 +63,19 @@ fn name(left: NameText<'_>, answer: &mut Answer) -> anyhow::Result<()> {
     Ok(answer.push(written.as_slice())?)
 }
 
+/// A piece of an untagged template.
+fn template(left: TemplateText<'_>, answer: &mut Answer) -> anyhow::Result<()> {
+    let mut left = left;
+    let mut written: Vec<u8> = Vec::new(answer.alloc());
+    for _ in 0..u64::MAX {
+        let Some(piece) = left.next_piece() else {
+            break;
+        };
+        written.extend_from_slice(piece.as_str().as_bytes())?;
+    }
+    Ok(answer.push(written.as_slice())?)
+}
+
 /// The three parts of a number.
 fn number(text: NumberText<'_>, answer: &mut Answer) -> anyhow::Result<()> {
     let NumberText {
@@ -85,6 +99,7 @@ impl Subject for Spellings {
             "string" => string(text, style(row), answer),
             "name" => name(NameText::name(text, style(row)), answer),
             "key" => name(NameText::key(text, style(row)), answer),
+            "template" => template(TemplateText::new(text, style(row)), answer),
             "number" => match NumValue::read(answer.alloc(), text)? {
                 Some(value) => number(minified(&value), answer),
                 None => Err(anyhow::Error::msg("no number")),

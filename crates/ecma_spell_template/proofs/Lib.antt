@@ -1,0 +1,5 @@
+pub mod LineLemmas
+pub mod PartLemmas
+pub mod ReadLemmas
+pub mod RegExpLemmas
+pub mod TextLemmas

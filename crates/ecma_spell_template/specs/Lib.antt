@@ -1,0 +1,5 @@
+pub mod Laws
+pub mod Left
+pub mod RegExps
+pub mod RegExpTexts
+pub mod Templates

@@ -1,0 +1,14 @@
+//! Laws of the definitions, by functions that do nothing.
+
+ghost use Rattle.ecma_spell_template.specs.Laws.{TemplateIsRead};
+ghost use Rattle.ecma_spell_template.specs.RegExps.{RegExpIsRead};
+
+/// Law: a piece of an untagged template stands for the units of its raw text, whichever end it has.
+pub fn template_is_read()
+    ensures { TemplateIsRead }
+{}
+
+/// Law: a regular expression is read as its body and flags, before whatever goes on no name.
+pub fn reg_exp_is_read()
+    ensures { RegExpIsRead }
+{}
