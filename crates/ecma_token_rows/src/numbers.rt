@@ -12,10 +12,12 @@ fn told(alloc: Global, value: &NumValue) -> Result<String, AllocError> {
         ""
     };
     let (digits, exponent) = (value.digits(), value.exponent_digits());
-    match value.radix() {
-        10 => format!(in alloc; "{digits}e{sign}{exponent}"),
-        radix => format!(in alloc; "{radix}:{digits}e{sign}{exponent}"),
+    let own = format!(in alloc; "{digits}e{sign}{exponent}")?;
+    let radix = value.radix();
+    if radix == 10 {
+        return Ok(own);
     }
+    format!(in alloc; "{radix}:{own}")
 }
 
 /// The value of a spelling. Its copy has to be the same.

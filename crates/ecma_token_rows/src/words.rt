@@ -27,34 +27,24 @@ pub fn word(text: &str, answer: &mut Answer) -> anyhow::Result<()> {
     Ok(answer.say(format_args!("{kind:?} {}", word.as_str()))?)
 }
 
-/// Code of each kind, by its name.
-fn contexts() -> [(&'static str, Context); 6] {
-    let sloppy = Context::default();
-    let mut strict = sloppy;
-    strict.strict = true;
-    let mut generator = sloppy;
-    generator.in_generator = true;
-    let mut in_async = sloppy;
-    in_async.in_async = true;
-    let mut block = sloppy;
-    block.in_static_block = true;
-    let mut module = sloppy;
-    module.module_ = true;
-    [
-        ("sloppy", sloppy),
-        ("strict", strict),
-        ("generator", generator),
-        ("async", in_async),
-        ("block", block),
-        ("module", module),
-    ]
+/// Code of this kind.
+fn context(name: &str) -> Context {
+    Context {
+        strict: name == "strict",
+        in_generator: name == "generator",
+        in_async: name == "async",
+        in_static_block: name == "block",
+        module_: name == "module",
+        ..Context::default()
+    }
 }
 
 /// Each kind of code that reserves a word.
 pub fn reserved(text: &str, answer: &mut Answer) -> anyhow::Result<()> {
     let word = Word::from_str(text);
     let mut found = String::new(answer.alloc());
-    for (name, context) in contexts() {
+    for name in ["sloppy", "strict", "generator", "async", "block", "module"] {
+        let context = context(name);
         let is_reserved = context.is_reserved(&word);
         if context.is_reserved_word(text) != is_reserved {
             return Err(anyhow::Error::msg("the word and its text differ"));

@@ -1,3 +1,4 @@
+pub mod Marked
 pub mod Outputs
 pub mod Growing
 pub mod Omits

@@ -1,5 +1,6 @@
 -- What the writers show of their states.
 use Rattle.std.specs.Prelude.{◌≡◌, ℕ, ◌≤◌, false, List, [], ◌∷◌, length, drop, Option, Some, None, option_map, IfSome, IsSome, true, codes, Result}
+use Rattle.std.specs.List.{All}
 use base.Fml.{GName}
 use Rattle.ecma_token.specs.declared.place.BytePos.{BytePos}
 use Rattle.ecma_token.specs.declared.place.LineCol.{LineCol}
@@ -18,9 +19,13 @@ marks_of m = record {
   waits = m.waits;
 }
 
--- no more marks were there when the place was reached than are now
+-- no position of these pairs is past this one
+abbrev pub AreUpTo : ℕ → List (BytePos × LineCol) → Type 0
+AreUpTo most pairs = All (λ pair. pair.0.0 ≤ most) pairs
+
+-- No more marks were there when the place was reached than are now, and the greatest position since then is known.
 abbrev pub IsCounted : MarkList → Type 0
-IsCounted m = m.here ≤ length m.list.now.items
+IsCounted m = (m.here ≤ length m.list.now.items) × AreUpTo m.highest (drop m.here m.list.now.items)
 
 -- the loan of the list
 abbrev pub list_name : MarkList → GName

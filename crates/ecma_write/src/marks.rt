@@ -1,5 +1,5 @@
 //! The marks of what is written: pairs of a position in the source and a place in the text.
-ghost use Rattle.std.specs.Prelude.{◌≡◌, ◌*◌, [], option_and_then, IfOk, OnOk, OnErr, IfErr};
+ghost use Rattle.std.specs.Prelude.{◌≡◌, ◌≤◌, ◌*◌, [], length, option_and_then, IfOk, OnOk, OnErr, IfErr};
 ghost use Rattle.std.specs.Str.{chars};
 ghost use Rattle.ecma_token.specs.declared.place.LineCol.{LineCol};
 ghost use Rattle.ecma_write.specs.declared.fault.EmitError.TheVariants.{Memory, Position};
@@ -17,12 +17,15 @@ pub(crate) struct MarkList<'a> {
     list: &'a mut Vec<(BytePos, LineCol)>,
     /// How many marks the list had when the place was reached.
     here: usize,
+    /// The greatest position that was recorded since then, or more.
+    highest: u32,
     place: LineCol,
     waits: Option<BytePos>,
 }
 
 impl<'a> MarkList<'a> {
     /// The marks go to the end of the list.
+    #[tactic(auto, using(crate::proofs::Marked::none_behind))]
     pub(crate) fn new(list: &'a mut Vec<(BytePos, LineCol)>) -> MarkList<'a>
         ensures marks { marks_of result ≡ record { reached = Some (record { line = 0; col = 0 }); pairs = list.old.items; here = []; waits = None } }
         ensures counted { IsCounted result }
@@ -32,6 +35,7 @@ impl<'a> MarkList<'a> {
         MarkList {
             list,
             here,
+            highest: 0,
             place: LineCol { line: 0, col: 0 },
             waits: None,
         }
@@ -82,7 +86,7 @@ impl<'a> MarkList<'a> {
         }
     }
 
-    #[tactic(auto, unfolding(crate::specs::Pages::record_pair))]
+    #[tactic(auto, using(crate::proofs::Marked::one_more), unfolding(crate::specs::Pages::record_pair))]
     /// Marks the place reached. A dummy marks nothing, and a position is recorded once at a place.
     pub(crate) fn record(&mut self, pos: BytePos) -> Result<(), EmitError>
         ensures value { OnOk result (IsCounted self.old → marks_of self.new ≡ record_here pos (marks_of self.old)) }
@@ -95,12 +99,25 @@ impl<'a> MarkList<'a> {
             return Ok(());
         }
         self.list.push((pos, self.place))?;
+        if pos.0 > self.highest {
+            self.highest = pos.0;
+        }
         Ok(())
     }
 
-    /// Whether the position was recorded since the place was reached.
+    /// Whether the position was recorded since the place was reached. One past all of them is not looked for.
     fn is_here(&self, pos: BytePos) -> bool
         ensures { IsCounted self.now → result ≡ is_here pos (marks_of self.now).here }
+    {
+        if pos.0 > self.highest {
+            return false;
+        }
+        self.is_among(pos)
+    }
+
+    /// Whether it is among those recorded since then.
+    fn is_among(&self, pos: BytePos) -> bool
+        ensures { self.now.here ≤ length self.now.list.now.items → result ≡ is_here pos (marks_of self.now).here }
     {
         match self.list.get(self.here..) {
             Some(here) => has_position(here, pos),
@@ -109,6 +126,7 @@ impl<'a> MarkList<'a> {
     }
 
     /// The next mark is at this place.
+    #[tactic(auto, using(crate::proofs::Marked::none_behind))]
     pub(crate) fn move_to(&mut self, place: LineCol)
         ensures value { marks_of self.new ≡ record (marks_of self.old) { reached = Some place; here = [] } }
         ensures counted { IsCounted self.new }
@@ -116,6 +134,7 @@ impl<'a> MarkList<'a> {
     {
         self.place = place;
         self.here = self.list.len();
+        self.highest = 0;
     }
 
     /// The position waits, in place of one that waits.
