@@ -1,6 +1,6 @@
 -- How the text of a node begins and ends, as far as a printer asks: whether with a word, so that a blank keeps it from
 -- another word, and with which operator, so that two don't run together (ECMA-262, 12.7 to 12.9; the crate's module `util`).
-use Rattle.std.specs.Prelude.{ℕ, Bool, true, false, ◌&&◌, ◌||◌, ◌==◌, List, [], Option, Some, None}
+use Rattle.std.specs.Prelude.{ℕ, Bool, true, false, ◌&&◌, ◌||◌, ◌==◌, None}
 use Rattle.ecma_token.specs.Kinds.{plus_plus_kind, minus_minus_kind, bang_kind, add_kind, sub_kind, div_kind, lt_kind, gt_kind, gt_eq_kind, left_shift_kind, right_shift_kind, zero_fill_right_shift_kind, in_kind, instanceof_kind, typeof_kind, void_kind, delete_kind}
 use Rattle.ecma_tree.specs.Tree.{Tree, Trees, none, more, debugger_stmt, with_stmt, return_stmt, labeled_stmt, break_stmt, continue_stmt, if_stmt, switch_stmt, throw_stmt, try_stmt, while_stmt, do_while_stmt, for_stmt, for_in_stmt, for_of_stmt, expr_stmt, class_decl, fn_decl, var_decl, using_decl, var_declarator, ident_name, computed_prop_name, this_expr, array_lit, object_lit, fn_expr, unary_expr, update_expr, bin_expr, assign_expr, member_expr, super_prop_expr, cond_expr, call_expr, new_expr, seq_expr, ident, tagged_tpl, arrow_expr, class_expr, yield_expr, meta_prop_expr, await_expr, paren_expr, opt_chain_expr, opt_call, super, import, invalid, expr_or_spread, str_lit, bool_lit, null_lit, number_lit, big_int_lit, regex_lit, binding_ident, array_pat, rest_pat, object_pat, assign_pat, expr_pat, invalid_pat, absent}
 

@@ -1,27 +1,19 @@
 -- The layout of a tree: what is written for each kind of node. It reads no place but to mark it.
-use Rattle.std.specs.Prelude.{ℕ, ◌+◌, Bool, true, false, not, ◌&&◌, ◌||◌, ◌==◌, if◌then◌else◌, List, [], ◌∷◌, Option, Some, None, is_some, codes}
+use Rattle.std.specs.Prelude.{ℕ, ◌+◌, Bool, true, false, not, ◌&&◌, ◌||◌, ◌==◌, if◌then◌else◌, List, [], Option, Some, None, is_some, codes}
 use Rattle.ecma_number.specs.Numbers.{SpecNumber}
 use Rattle.ecma_token.specs.Kinds.{new_kind}
 use Rattle.ecma_token.specs.Operators.{operator_text}
 use Rattle.ecma_token.specs.declared.place.Span.{Span}
-use Rattle.ecma_tree.specs.Tree.{Tree, Trees, none, more, plain_method, script, es_module, import_decl, export_decl, named_export, export_default_decl, export_default_expr, export_all, import_named_specifier, import_default_specifier, import_star_as_specifier, export_namespace_specifier, export_default_specifier, export_named_specifier, block_stmt, empty_stmt, debugger_stmt, with_stmt, return_stmt, labeled_stmt, break_stmt, continue_stmt, if_stmt, switch_stmt, switch_case, throw_stmt, try_stmt, catch_clause, while_stmt, do_while_stmt, for_stmt, for_in_stmt, for_of_stmt, expr_stmt, class_decl, fn_decl, var_decl, using_decl, var_declarator, function, param, decorator, class, constructor, class_method, private_method, class_prop, private_prop, static_block, auto_accessor, ident_name, computed_prop_name, private_name, this_expr, array_lit, object_lit, fn_expr, unary_expr, update_expr, bin_expr, assign_expr, member_expr, super_prop_expr, cond_expr, call_expr, new_expr, seq_expr, ident, tpl, tpl_element, tagged_tpl, arrow_expr, class_expr, yield_expr, meta_prop_expr, await_expr, paren_expr, opt_chain_expr, opt_call, super, import, invalid, expr_or_spread, spread_element, key_value_prop, assign_prop, getter_prop, setter_prop, method_prop, str_lit, bool_lit, null_lit, number_lit, big_int_lit, regex_lit, binding_ident, array_pat, rest_pat, object_pat, assign_pat, key_value_pat_prop, assign_pat_prop, expr_pat, invalid_pat, invalid_target, list, absent, hole}
+use Rattle.ecma_tree.specs.Tree.{Tree, Trees, none, more, plain_method, script, es_module, import_decl, export_decl, named_export, export_default_decl, export_default_expr, export_all, import_named_specifier, import_default_specifier, import_star_as_specifier, export_namespace_specifier, export_default_specifier, export_named_specifier, block_stmt, empty_stmt, debugger_stmt, with_stmt, return_stmt, labeled_stmt, break_stmt, continue_stmt, if_stmt, switch_stmt, switch_case, throw_stmt, try_stmt, catch_clause, while_stmt, do_while_stmt, for_stmt, for_in_stmt, for_of_stmt, expr_stmt, class_decl, fn_decl, var_decl, using_decl, var_declarator, function, param, decorator, class, constructor, class_method, private_method, class_prop, private_prop, static_block, auto_accessor, ident_name, computed_prop_name, private_name, this_expr, array_lit, object_lit, fn_expr, unary_expr, update_expr, bin_expr, assign_expr, member_expr, super_prop_expr, cond_expr, call_expr, new_expr, seq_expr, ident, tpl, tpl_element, tagged_tpl, arrow_expr, class_expr, yield_expr, meta_prop_expr, await_expr, paren_expr, opt_chain_expr, opt_call, super, import, invalid, expr_or_spread, spread_element, key_value_prop, assign_prop, getter_prop, setter_prop, method_prop, str_lit, bool_lit, null_lit, number_lit, big_int_lit, regex_lit, binding_ident, array_pat, rest_pat, object_pat, assign_pat, key_value_pat_prop, assign_pat_prop, expr_pat, list, absent, hole}
 use Rattle.ecma_tree.specs.Places.{place_of}
 use Rattle.ecma_edge.specs.Edges.{starts_with_word, ends_with_word, is_word_operator, gap_before, gap_after, gap_of_unary}
-use Rattle.ecma_pieces.specs.Pieces.{Piece, Mark}
-use Rattle.ecma_layout.specs.Looks.{Look, Laid, ◌·◌, nothing, refused, text, brace, blank, line_always, semi, semi_kept, commit, when, formats, gap, line, deeper, back, gap_or, start, end, last}
+use Rattle.ecma_pieces.specs.Pieces.{Piece}
+use Rattle.ecma_layout.specs.declared.look.Look.{Look}
+use Rattle.ecma_layout.specs.declared.look.Stand.{Stand}
+use Rattle.ecma_layout.specs.declared.look.Stand.TheVariants.{Alone, Operand, Body, Head, Key, Tagged}
+use Rattle.ecma_layout.specs.Looks.{Laid, nothing, refused, ◌·◌, listed, text, brace, blank, line_always, semi, semi_kept, commit, when, formats, gap, line, deeper, back, gap_or, start, end, last}
 use Rattle.ecma_layout.specs.Literals.{name, key_word, hash_name, string, number, number_before_point, big_integer, quasi_bytes}
 use Rattle.ecma_layout.specs.Words.{word_of, sign_of}
-
--- Where a node stands, as far as its layout depends on it: as a left operand (an operator's node marks no start there); as
--- a body behind a parameter list or an arrow (a block marks no start); at the head of a call, a member or a tag (`new` has
--- its parentheses there); as the key of a property; behind a tag; anywhere else.
-pub data Stand : Type 0 where
-  Alone : Stand
-  Operand : Stand
-  Body : Stand
-  Head : Stand
-  Key : Stand
-  Tagged : Stand
 
 abbrev pub marked_as_operand : Stand → Bool
 marked_as_operand Operand = false
@@ -165,9 +157,8 @@ indented_or_line look none f = line look
 indented_or_line look ts f = line look · deeper look · f · back look · line look
 
 -- What stands behind a statement: nothing behind a block, a semicolon behind variables, and the end of its line.
-abbrev pub closing : Look → Tree → Laid
-closing look (block_stmt span stmts) = nothing
-closing look t = when (is_variables t) semi · line look
+unfoldable pub closing : Look → Tree → Laid
+closing look t = when (not (is_block t)) (when (is_variables t) semi · line look)
 
 -- a hashbang, on a line of its own in any style
 abbrev pub hashbang : Option (List ℕ) → Laid
@@ -504,4 +495,4 @@ abbrev mutual
 
 -- the pieces of a tree, and of a statement or an item of a module
 abbrev pub pieces : Look → Tree → List Piece
-pieces look t = laid look Alone t []
+pieces look t = listed (laid look Alone t) []

@@ -1,5 +1,5 @@
 -- The texts of literals and names.
-use Rattle.std.specs.Prelude.{ℕ, Bool, true, false, ◌&&◌, if◌then◌else◌, List, [], ◌∷◌, Option, Some, None, codes, bytes_eq, encode_utf8_all, option_map}
+use Rattle.std.specs.Prelude.{ℕ, Bool, false, ◌&&◌, if◌then◌else◌, List, [], Option, Some, None, codes, bytes_eq, encode_utf8_all, option_map}
 use Rattle.std.specs.List.{list_any}
 use Rattle.std.specs.Str.{chars}
 use Rattle.ecma_number.specs.Numbers.{SpecNumber}
@@ -8,7 +8,9 @@ use Rattle.ecma_spell_base.specs.declared.style.Style.{Style}
 use Rattle.ecma_spell_string.specs.Strings.{string_text, is_backslash}
 use Rattle.ecma_spell_string.specs.Names.{name_text, key_text}
 use Rattle.ecma_spell_number.specs.Numbers.{minified, formatted, before_member, big_text, separated}
-use Rattle.ecma_layout.specs.Looks.{Look, Laid, ◌·◌, nothing, text, commit, when, start, end}
+use Rattle.ecma_spell_template.specs.Templates.{template_text}
+use Rattle.ecma_layout.specs.declared.look.Look.{Look}
+use Rattle.ecma_layout.specs.Looks.{Laid, ◌·◌, text, commit, when, start, end}
 
 -- a name, and a word as a key
 abbrev pub name_bytes : Style → List ℕ → List ℕ
@@ -58,6 +60,6 @@ number_before_point look span value raw = commit · start span · text (before_m
 abbrev pub big_integer : Look → Span → ℕ → List ℕ → Option (List ℕ) → Laid
 big_integer look span radix digits raw = commit · start span · text (big_bytes look.style radix digits raw) · end span
 
--- the characters of a template
+-- the characters of a template: as they were read behind a tag
 abbrev pub quasi_bytes : Style → Bool → List ℕ → List ℕ
-quasi_bytes style tagged raw = raw
+quasi_bytes style tagged raw = if tagged then raw else encode_utf8_all (template_text style (chars raw) [])

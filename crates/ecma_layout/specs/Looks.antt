@@ -1,55 +1,58 @@
 -- What a layout is made of: pieces before whatever follows, by the settings of a look.
-use Rattle.std.specs.Prelude.{ℕ, ◌-◌, Bool, true, false, not, ◌||◌, if◌then◌else◌, List, [], ◌∷◌, None, codes}
-use Rattle.ecma_token.specs.declared.place.BytePos.{BytePos}
+use Rattle.std.specs.Prelude.{ℕ, ◌-◌, Bool, true, false, not, ◌||◌, List, [], ◌∷◌, None, codes}
 use Rattle.ecma_token.specs.declared.place.Span.{Span}
-use Rattle.ecma_spell_base.specs.declared.style.Style.{Style}
+use Rattle.ecma_layout.specs.declared.look.Look.{Look}
 use Rattle.ecma_pieces.specs.Pieces.{Piece, Text, Brace, Blank, Line, Deeper, Back, Semicolon, Commit, Mark}
 
--- How a text is to look: how literals are spelled and whether it is short, whether the last semicolon may go, and
--- whether import attributes follow `assert`.
-pub record Look : Type 0 where
-  pub style : Style
-  pub omits_last : Bool
-  pub asserts : Bool
-
--- what a part writes, before the pieces that follow
-abbrev pub Laid : Type 0
-Laid = List Piece → List Piece
+-- what a part writes
+pub data Laid : Type 0 where
+  nothing : Laid
+  one : Piece → Laid
+  both : Laid → Laid → Laid
+  -- what can't be printed, which ends the list: nothing behind it is written
+  refused : Laid
 
 -- one part, and then another
 infixr 35 ◌·◌
 abbrev pub ◌·◌ : Laid → Laid → Laid
-(f · g) rest = f (g rest)
+f · g = both f g
 
-abbrev pub nothing : Laid
-nothing rest = rest
+-- the pieces, before those that follow
+abbrev pub listed : Laid → List Piece → List Piece
+listed nothing rest = rest
+listed (one x) rest = x ∷ rest
+listed (both f g) rest = listed f (listed g rest)
+listed refused rest = []
 
--- What can't be printed ends the list: nothing behind it is written.
-abbrev pub refused : Laid
-refused rest = []
+-- whether something in it can't be printed
+abbrev pub is_refused : Laid → Bool
+is_refused nothing = false
+is_refused (one x) = false
+is_refused (both f g) = is_refused f || is_refused g
+is_refused refused = true
 
 abbrev pub text : List ℕ → Laid
-text bytes rest = Text None bytes ∷ rest
+text bytes = one (Text None bytes)
 
 abbrev pub brace : Laid
-brace rest = Brace None ∷ rest
+brace = one (Brace None)
 
 abbrev pub blank : Laid
-blank rest = Blank ∷ rest
+blank = one Blank
 
 abbrev pub line_always : Laid
-line_always rest = Line ∷ rest
+line_always = one Line
 
 -- a semicolon that may go, and one that must stay
 abbrev pub semi : Laid
-semi rest = Semicolon None ∷ rest
+semi = one (Semicolon None)
 
 abbrev pub semi_kept : Laid
-semi_kept rest = Text None (codes ";") ∷ rest
+semi_kept = text (codes ";")
 
 -- a semicolon that waits is written here
 abbrev pub commit : Laid
-commit rest = Commit ∷ rest
+commit = one Commit
 
 abbrev pub when : Bool → Laid → Laid
 when true f = f
@@ -67,10 +70,10 @@ abbrev pub line : Look → Laid
 line look = when (formats look) line_always
 
 abbrev pub deeper : Look → Laid
-deeper look = when (formats look) (λ rest. Deeper ∷ rest)
+deeper look = when (formats look) (one Deeper)
 
 abbrev pub back : Look → Laid
-back look = when (formats look) (λ rest. Back ∷ rest)
+back look = when (formats look) (one Back)
 
 -- a blank that keeps two words apart, or that formatting writes
 abbrev pub gap_or : Look → Bool → Laid
@@ -79,10 +82,10 @@ gap_or look word = when (word || formats look) blank
 -- ---- marks: where a node starts, where it ends, and where its last character stands
 
 abbrev pub start : Span → Laid
-start span rest = Mark span.lo ∷ rest
+start span = one (Mark span.lo)
 
 abbrev pub end : Span → Laid
-end span rest = Mark span.hi ∷ rest
+end span = one (Mark span.hi)
 
 abbrev pub last : Span → Laid
-last span rest = Mark (record { 0 = span.hi.0 - 1 }) ∷ rest
+last span = one (Mark (record { 0 = span.hi.0 - 1 }))

@@ -1,6 +1,6 @@
 -- Declarations.
-use Rattle.std.proofs.Common.{[], ◌∷◌, ◌++◌, codes, refl}
-use Rattle.ecma_layout_rows.proofs.Rows.{Hold, laid_out, script, module_, script_once}
+use Rattle.std.proofs.Common.{[], ◌++◌, codes, refl}
+use Rattle.ecma_layout_rows.proofs.Rows.{Hold, laid_out, script}
 
 rows_1 : Hold (
     script (codes "var a,b=1") (codes "var a, b = 1;\n") (codes "var a,b=1") ++

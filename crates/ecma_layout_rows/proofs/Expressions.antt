@@ -1,6 +1,6 @@
 -- Expressions.
-use Rattle.std.proofs.Common.{[], ◌∷◌, ◌++◌, codes, refl}
-use Rattle.ecma_layout_rows.proofs.Rows.{Hold, laid_out, script, module_, script_once}
+use Rattle.std.proofs.Common.{[], ◌++◌, codes, refl}
+use Rattle.ecma_layout_rows.proofs.Rows.{Hold, laid_out, script}
 
 rows_1 : Hold (
     script (codes "this") (codes "this;\n") (codes "this") ++
@@ -129,6 +129,9 @@ unfolding laid_out
 rows_6 = refl
 
 rows_7 : Hold (
+    script (codes "`\\x24{a}`") (codes "`\\x24{a}`;\n") (codes "`\\x24{a}`") ++
+    script (codes "`a\\n\\x31\\0\\x32`") (codes "`a\\n\\x31\\0\\x32`;\n") (codes "`a\n1\\x002`") ++
+    script (codes "a`b\\n`") (codes "a`b\\n`;\n") (codes "a`b\\n`") ++
     script (codes "a`b${c}`") (codes "a`b${c}`;\n") (codes "a`b${c}`") ++
     script (codes "/a/g") (codes "/a/g;\n") (codes "/a/g") ++
     script (codes "{}/a/") (codes "{}/a/;\n") (codes "{}/a/") ++

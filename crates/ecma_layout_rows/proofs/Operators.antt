@@ -1,6 +1,6 @@
 -- Operators.
-use Rattle.std.proofs.Common.{[], ◌∷◌, ◌++◌, codes, refl}
-use Rattle.ecma_layout_rows.proofs.Rows.{Hold, laid_out, script, module_, script_once}
+use Rattle.std.proofs.Common.{[], ◌++◌, codes, refl}
+use Rattle.ecma_layout_rows.proofs.Rows.{Hold, laid_out, script, script_once}
 
 rows_1 : Hold (
     script (codes "a+b") (codes "a + b;\n") (codes "a+b") ++

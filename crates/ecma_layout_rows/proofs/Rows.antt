@@ -1,17 +1,15 @@
 -- Rows of facts: a program's text, how it is to look, and what is then written.
-use Rattle.std.proofs.Common.{◌≡◌, ℕ, Bool, true, false, if◌then◌else◌, List, [], ◌∷◌, ◌++◌, Result, Ok, Err, Some, None, codes, bytes_eq}
+use Rattle.std.proofs.Common.{◌≡◌, ℕ, Bool, true, false, if◌then◌else◌, List, [], ◌∷◌, Result, Ok, Err, None, codes, bytes_eq}
 use Rattle.std.specs.Char.{encode_utf8}
 use Rattle.std.specs.Str.{chars}
-use Rattle.ecma_token.specs.declared.version.EsVersion.{EsVersion}
 use Rattle.ecma_token.specs.declared.version.EsVersion.TheVariants.{EsNext}
-use Rattle.ecma_spell_base.specs.declared.style.Style.{Style}
 use Rattle.ecma_tree.specs.Tree.{Tree}
 use Rattle.ecma_write.specs.Pages.{Page, put, put_line, deeper, shallower, with_text, indented, end_line, put_mark, record_pair, moved, settled, marked}
-use Rattle.ecma_pieces.specs.Pieces.{Piece, resolved, shortened}
+use Rattle.ecma_pieces.specs.Pieces.{resolved, shortened}
 use Rattle.ecma_reading.specs.Source.{Fault}
 use Rattle.ecma_reading.proofs.Rows.{opened, read_text, full_syntax}
-use Rattle.ecma_layout.specs.Looks.{Look}
-use Rattle.ecma_layout.specs.Layout.{pieces}
+use Rattle.ecma_layout.specs.declared.look.Look.{Look}
+use Rattle.ecma_layout.specs.Layout.{pieces, closing}
 use Rattle.ecma_layout.specs.Words.{word_of, sign_of}
 
 abbrev pub blank_page : Page
@@ -59,5 +57,5 @@ abbrev pub Hold : List Row → Type 0
 Hold rows = wrong rows ≡ []
 
 unfoldable pub laid_out : ℕ
-unfolding opened chars encode_utf8 put put_line deeper shallower with_text indented end_line put_mark record_pair moved settled marked word_of sign_of script module_ script_once wrong
+unfolding opened chars encode_utf8 put put_line deeper shallower with_text indented end_line put_mark record_pair moved settled marked word_of sign_of closing script module_ script_once wrong
 laid_out = 0

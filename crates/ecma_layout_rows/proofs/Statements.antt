@@ -1,6 +1,6 @@
 -- Statements.
-use Rattle.std.proofs.Common.{[], ◌∷◌, ◌++◌, codes, refl}
-use Rattle.ecma_layout_rows.proofs.Rows.{Hold, laid_out, script, module_, script_once}
+use Rattle.std.proofs.Common.{[], ◌++◌, codes, refl}
+use Rattle.ecma_layout_rows.proofs.Rows.{Hold, laid_out, script}
 
 rows_1 : Hold (
     script (codes "") (codes "") (codes "") ++

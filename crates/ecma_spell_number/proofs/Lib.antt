@@ -3,4 +3,5 @@ pub mod BigLemmas
 pub mod MinifiedLemmas
 pub mod PlainLemmas
 pub mod PointLemmas
+pub mod TakesPointLemmas
 pub mod TextLemmas

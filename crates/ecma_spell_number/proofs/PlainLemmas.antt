@@ -10,7 +10,7 @@ use Rattle.ecma_number.specs.Numbers.{SpecNumber, Scaled, InRadix, number_of, nu
 use Rattle.ecma_number.proofs.DigitLemmas.{spelled_digits}
 use Rattle.ecma_spell_base.specs.declared.style.Style.{Style}
 use Rattle.ecma_spell_base.specs.Styles.{is_below_es2021, is_up_to_es5}
-use Rattle.ecma_spell_number.specs.Numbers.{zeros, HasPrefix, is_prefixed, is_new_prefix, whole_digits, whole_text, separated, in_edition, FormattedIsRead}
+use Rattle.ecma_spell_number.specs.Numbers.{zeros, HasPrefix, is_prefixed, is_new_prefix, whole_digits, whole_text, separated, whole_in_edition, in_edition, FormattedIsRead}
 use Rattle.ecma_spell_number.proofs.BigLemmas.{first_digit, prefix_prefixed}
 use Rattle.ecma_spell_number.proofs.MinifiedLemmas.{plain_digits, digits_spelled, in_parts, or_true, kept_radix, unprefixed, zeros_behind, zero_read, minified_is_read}
 
@@ -357,14 +357,20 @@ separated_read style raw v h = ⊎_elim
     (λ (e : is_below_es2021 style ≡ false). ap (λ b. number_of (if b then plain raw else raw)) e ∙ h)
     (cases_Bool (is_below_es2021 style))
 
+pub or_else : (o : Option (List ℕ)) (x : List ℕ) (v : SpecNumber) → ((t : List ℕ) → o ≡ Some t → number_of t ≡ Some v) → number_of x ≡ Some v
+    → number_of (unwrap_or o x) ≡ Some v
+or_else None x v w h = h
+or_else (Some t) x v w h = w t refl
+
 edition_read : (style : Style) (raw : List ℕ) (v : SpecNumber) (text : Option (List ℕ)) → ((t : List ℕ) → text ≡ Some t → number_of t ≡ Some v)
     → number_of raw ≡ Some v → number_of (in_edition style raw text) ≡ Some v
-edition_read style raw v None w h = separated_read style raw v h
-edition_read style raw v (Some t) w h = ⊎_elim
-    (λ (e : (is_up_to_es5 style && is_new_prefix (prefix_radix raw)) ≡ true). ap (λ b. number_of (if b then t else separated style raw)) e ∙ w t refl)
-    (λ (e : (is_up_to_es5 style && is_new_prefix (prefix_radix raw)) ≡ false).
-    ap (λ b. number_of (if b then t else separated style raw)) e ∙ separated_read style raw v h)
-    (cases_Bool (is_up_to_es5 style && is_new_prefix (prefix_radix raw)))
+edition_read style raw v text w h = or_else (whole_in_edition style raw text) (separated style raw) v some (separated_read style raw v h)
+  where
+    some : (t : List ℕ) → whole_in_edition style raw text ≡ Some t → number_of t ≡ Some v
+    some t e = ⊎_elim
+        (λ (b : (is_up_to_es5 style && is_new_prefix (prefix_radix raw)) ≡ true). w t (sym (ap (λ x. if x then text else None) b) ∙ e))
+        (λ (b : (is_up_to_es5 style && is_new_prefix (prefix_radix raw)) ≡ false). none_some (sym (ap (λ x. if x then text else None) b) ∙ e))
+        (cases_Bool (is_up_to_es5 style && is_new_prefix (prefix_radix raw)))
 
 some_list : (x y : List ℕ) → Some x ≡ Some y → x ≡ y
 some_list x y e = cc

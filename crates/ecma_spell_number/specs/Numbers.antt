@@ -1,5 +1,5 @@
 -- How numbers are written (ECMA-262, 12.9.3).
-use Rattle.std.specs.Prelude.{◌≡◌, ℕ, zero, suc, ◌+◌, ◌-◌, Bool, true, false, ◌&&◌, ◌||◌, ◌==◌, nat_lt, nat_le, if◌then◌else◌, List, [], ◌∷◌, ◌++◌, length, take, drop, Option, Some, None, ℤ, pos, negsuc}
+use Rattle.std.specs.Prelude.{◌≡◌, ℕ, zero, suc, ◌+◌, ◌-◌, Bool, true, false, ◌&&◌, ◌||◌, ◌==◌, nat_lt, nat_le, if◌then◌else◌, List, [], ◌∷◌, ◌++◌, length, take, drop, Option, Some, None, unwrap_or, ℤ, pos, negsuc}
 use Rattle.ecma_number.specs.Numbers.{SpecNumber, Scaled, InRadix, number_of, numeral, plain, prefix_radix, IsCanonical}
 use Rattle.ecma_scan.specs.Runs.{Ends}
 use Rattle.ecma_literal.specs.Numbers.{Number, BigInt, Spells, SpellsNumber, is_barred}
@@ -102,10 +102,13 @@ whole_text (InRadix radix ds) = if radix == 10 then whole_digits ds 0 else None
 abbrev pub separated : Style → List ℕ → List ℕ
 separated style raw = if is_below_es2021 style then plain raw else raw
 
--- with a prefix that the edition has not, as whole digits, where there are
+-- the whole digits of one with a prefix that the edition has not
+abbrev pub whole_in_edition : Style → List ℕ → Option (List ℕ) → Option (List ℕ)
+whole_in_edition style raw whole = if is_up_to_es5 style && is_new_prefix (prefix_radix raw) then whole else None
+
+-- these, where there are any, and else the spelling
 abbrev pub in_edition : Style → List ℕ → Option (List ℕ) → List ℕ
-in_edition style raw None = separated style raw
-in_edition style raw (Some text) = if is_up_to_es5 style && is_new_prefix (prefix_radix raw) then text else separated style raw
+in_edition style raw whole = unwrap_or (whole_in_edition style raw whole) (separated style raw)
 
 -- a number when formatting: as it was read, else minified
 abbrev pub formatted : Style → SpecNumber → Option (List ℕ) → List ℕ

@@ -1,9 +1,10 @@
 //! Numbers as they were read, in parts.
 
-ghost use Rattle.std.specs.Prelude.{◌≡◌, ◌<◌, ◌++◌, false, [], length, IsUtf8, MatchOption, option_map};
+ghost use Rattle.std.specs.Prelude.{◌≡◌, ◌<◌, ◌++◌, true, false, [], length, IfSome, IsUtf8, MatchOption, option_map};
 ghost use Rattle.std.specs.List.{prefix_len};
 ghost use Rattle.std.specs.Str.Parse.{digits_value};
 ghost use Rattle.ecma_literal.specs.Escapes.{begins};
+ghost use Rattle.ecma_literal.specs.Standing.{takes_point};
 ghost use Rattle.ecma_number.specs.Numbers as numbers;
 ghost use Rattle.ecma_spell_number.specs.Numbers as spec;
 ghost use Rattle.ecma_spell_number.specs.NumberTexts.{joined, left_bytes, is_separator, is_digit_byte};
@@ -73,7 +74,8 @@ fn whole_digits<'a>(digits: &'a str, power: &'a str) -> Option<NumberText<'a>>
 
 /// A number by decimal digits alone, where it has them.
 fn whole(value: &NumValue) -> Option<NumberText<'_>>
-    ensures { option_map joined result ≡ spec.whole_text value.now }
+    ensures text { option_map joined result ≡ spec.whole_text value.now }
+    ensures point { IfSome result (λ t. takes_point (joined t) ≡ true) }
 {
     let digits = value.digits();
     if value.radix() != 10 || value.has_negative_exponent() {
@@ -82,21 +84,35 @@ fn whole(value: &NumValue) -> Option<NumberText<'_>>
     whole_digits(digits, value.exponent_digits())
 }
 
+/// A number by decimal digits alone, where the edition has not its prefix.
+pub(crate) fn whole_in_edition<'a>(
+    style: Style,
+    value: &'a NumValue,
+    raw: &str,
+) -> Option<NumberText<'a>>
+    ensures text { option_map joined result ≡ spec.whole_in_edition style raw.now (spec.whole_text value.now) }
+    ensures point { IfSome result (λ t. takes_point (joined t) ≡ true) }
+{
+    if style.is_up_to_es5() && has_new_prefix(raw) {
+        whole(value)
+    } else {
+        None
+    }
+}
+
 /// A number as it was read, as the edition has it.
 fn in_edition<'a>(style: Style, value: &'a NumValue, raw: &'a str) -> FormattedText<'a>
     ensures { result ≡ spec.in_edition style raw.now (spec.whole_text value.now) }
 {
-    if style.is_up_to_es5() && has_new_prefix(raw) {
-        if let Some(text) = whole(value) {
-            return FormattedText { plain: false, text };
-        }
-    }
-    FormattedText {
-        plain: style.is_below_es2021(),
-        text: NumberText {
-            first: raw,
-            second: "",
-            third: "",
+    match whole_in_edition(style, value, raw) {
+        Some(text) => FormattedText { plain: false, text },
+        None => FormattedText {
+            plain: style.is_below_es2021(),
+            text: NumberText {
+                first: raw,
+                second: "",
+                third: "",
+            },
         },
     }
 }
@@ -116,7 +132,7 @@ pub fn formatted<'a>(style: Style, value: &'a NumValue, raw: Option<&'a str>) ->
 }
 
 /// What follows the separators at the front.
-fn past_separators(text: &str) -> &str
+pub(crate) fn past_separators(text: &str) -> &str
     ensures same { numbers.plain result.now ≡ numbers.plain text.now }
     ensures stop { begins is_separator result.now ≡ false }
     ensures text { IsUtf8 result.now }

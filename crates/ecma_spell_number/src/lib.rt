@@ -3,7 +3,9 @@
 
 pub mod as_read;
 pub mod laws;
+pub mod point;
 pub mod text;
 
 pub use as_read::{FormattedText, formatted};
+pub use point::takes_point;
 pub use text::{NumberText, big_int, minified};
