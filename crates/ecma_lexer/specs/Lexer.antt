@@ -1,6 +1,7 @@
 -- What contracts see of a lexer.
 use Rattle.std.specs.Prelude.{Bool}
 use Rattle.std.specs.Str.{chars}
+use Rattle.ecma_comments.specs.declared.store.Comments.{Comments}
 use Rattle.ecma_tokens.specs.Settings.{settings_in}
 use Rattle.ecma_lexing.specs.States as s
 use Rattle.ecma_lexing.specs.States.{State, Text}
@@ -26,3 +27,11 @@ state_in x = record { tokens = text_in x; settings = settings_in x.settings }
 -- whether memory ran out in it
 abbrev pub is_full : code.Lexer → Bool
 is_full x = x.full
+
+-- whether it keeps comments
+abbrev pub keeps_comments : code.Lexer → Bool
+keeps_comments x = x.keeps
+
+-- those that it kept so far
+abbrev pub comments_in : code.Lexer → Comments
+comments_in x = x.comments

@@ -1,5 +1,6 @@
 -- The lexer as contracts see it.
 pub mod Lexer
 pub mod Order
+pub mod Kept
 pub mod Stepping
 pub mod Machine

@@ -1,15 +1,16 @@
 //! The lexer of a text.
-ghost use Rattle.std.specs.Prelude.{◌≡◌, ◌<◌, ◌+◌, ◌^◌, is_err, length, true, IfErr, IfOk, IsErr};
+ghost use Rattle.std.specs.Prelude.{◌≡◌, ◌<◌, ◌+◌, ◌^◌, is_err, length, option_map, true, IfErr, IfOk, IsErr};
 ghost use Rattle.ecma_lexer.specs.Order.{BackFits};
 
 use crate::last::Last;
+use ecma_comments::Comments;
 use ecma_scan::place::out_of_memory;
 use ecma_token::{BytePos, Error, EsVersion, Syntax, TokenAndSpan};
 use ecma_tokens::Settings;
-use std::alloc::Global;
+use std::alloc::{AllocError, Global};
 
 /// A text that is read token after token.
-#[derive(Debug, Drop)]
+#[derive(Drop)]
 pub struct Lexer<'a> {
     pub(crate) alloc: Global,
     pub(crate) rest: &'a str,
@@ -18,31 +19,38 @@ pub struct Lexer<'a> {
     pub(crate) had_line_break: bool,
     pub(crate) settings: Settings,
     pub(crate) full: bool,
+    pub(crate) keeps: bool,
+    pub(crate) comments: Comments,
     ghost within: { length rest.now < end },
     ghost back: { BackFits end last },
 }
 
 impl<'a> Lexer<'a> {
     ghost use Rattle.std.specs.Str.{chars};
-    ghost use Rattle.ecma_lexer.specs.Lexer.{is_full, state_in};
+    ghost use Rattle.ecma_lexer.specs.Kept.{IsEmpty, IsUntouched, KeepsAsAsked};
+    ghost use Rattle.ecma_lexer.specs.Lexer.{comments_in, is_full, keeps_comments, state_in};
     ghost use Rattle.ecma_lexer.specs.Stepping.{Steps};
     ghost use Rattle.ecma_lexing.specs.Steps.{IsStep};
     ghost use Rattle.ecma_token.specs.declared.error.SyntaxError.TheVariants.{Memory};
     ghost use Rattle.ecma_lexing.specs.States.{at_start_of};
-    ghost use Rattle.ecma_tokens.specs.Machine.{SameTold};
+    ghost use Rattle.ecma_tokens.specs.Machine.{SameTold, shown_spot};
     ghost use Rattle.ecma_tokens.specs.Settings.{settings_in};
 
-    /// A lexer at the start of a text, which begins at this place, 1 or later.
+    /// A lexer at the start of a text, which begins at this place, 1 or later. It keeps the comments of the
+    /// text where that is asked for.
     pub fn new(
         alloc: Global,
         syntax: Syntax,
         target: EsVersion,
         text: &'a str,
         start: BytePos,
+        keep_comments: bool,
     ) -> Lexer<'a>
         requires place { 0 < start.0 }
         requires fits { start.0 + length text.now < 2 ^ 32 }
-        ensures { state_in result ≡ at_start_of syntax target start.0 (chars text.now) (start.0 + length text.now) }
+        ensures state { state_in result ≡ at_start_of syntax target start.0 (chars text.now) (start.0 + length text.now) }
+        ensures keeps { keeps_comments result ≡ keep_comments }
+        ensures comments { IsEmpty (comments_in result) }
     {
         Lexer {
             alloc,
@@ -52,6 +60,8 @@ impl<'a> Lexer<'a> {
             had_line_break: false,
             settings: Settings::new(alloc, syntax, target, start),
             full: false,
+            keeps: keep_comments,
+            comments: Comments::new(alloc),
         }
     }
 
@@ -63,7 +73,9 @@ impl<'a> Lexer<'a> {
     }
 
     /// The next token, or nothing at the end. A fault of the text is an error token, and nothing comes
-    /// behind it. What strict code has against the spelling of a token is recorded.
+    /// behind it. What strict code has against the spelling of a token is recorded. Where comments are kept,
+    /// each comment before the token, or before the end, is kept once: it trails the last token or leads
+    /// what comes.
     ///
     /// # Errors
     ///
@@ -72,17 +84,23 @@ impl<'a> Lexer<'a> {
         ensures step { Steps (IsStep (state_in self.old)) result (state_in self.new) }
         ensures full { is_full self.new ≡ is_err result }
         ensures stays_full { is_full self.old ≡ true → IsErr result }
+        ensures comments { IfOk result (λ t. KeepsAsAsked (keeps_comments self.old) (state_in self.old) (option_map shown_spot t) (comments_in self.old) (comments_in self.new)) }
+        ensures keeps { keeps_comments self.new ≡ keeps_comments self.old }
         ensures told { SameTold (settings_in self.old.settings) (settings_in self.new.settings) }
     {
         if self.full {
             return Err(out_of_memory());
         }
-        let token = self.advance();
+        let token = if self.keeps {
+            self.advance_noting()
+        } else {
+            self.advance()
+        };
         self.full = token.is_err();
         token
     }
 
-    /// A lexer that stands where this one stands. The text is shared.
+    /// A lexer that stands where this one stands, with the same comments. The text is shared.
     ///
     /// # Errors
     ///
@@ -90,10 +108,13 @@ impl<'a> Lexer<'a> {
     pub fn try_clone(&self) -> Result<Lexer<'a>, Error>
         ensures same { IfOk result (λ c. state_in c ≡ state_in self.now) }
         ensures full { IfOk result (λ c. is_full c ≡ is_full self.now) }
+        ensures keeps { IfOk result (λ c. keeps_comments c ≡ keeps_comments self.now) }
+        ensures comments { IfOk result (λ c. IsUntouched (comments_in self.now) (comments_in c)) }
         ensures memory { IfErr result (λ e. e.kind ≡ Memory) }
     {
-        match self.settings.try_clone() {
-            Ok(settings) => Ok(Lexer {
+        let comments: Result<Comments, AllocError> = self.comments.clone();
+        match (self.settings.try_clone(), comments) {
+            (Ok(settings), Ok(comments)) => Ok(Lexer {
                 alloc: self.alloc,
                 rest: self.rest,
                 end: self.end,
@@ -101,8 +122,21 @@ impl<'a> Lexer<'a> {
                 had_line_break: self.had_line_break,
                 settings,
                 full: self.full,
+                keeps: self.keeps,
+                comments,
             }),
-            Err(_) => Err(out_of_memory()),
+            _ => Err(out_of_memory()),
         }
+    }
+
+    /// Takes the comments away that were kept so far. It takes no memory.
+    pub fn take_comments(&mut self) -> Comments
+        ensures answer { IsUntouched (comments_in self.old) result }
+        ensures taken { IsEmpty (comments_in self.new) }
+        ensures state { state_in self.new ≡ state_in self.old }
+        ensures full { is_full self.new ≡ is_full self.old }
+        ensures keeps { keeps_comments self.new ≡ keeps_comments self.old }
+    {
+        std::mem::replace(&mut self.comments, Comments::new(self.alloc))
     }
 }

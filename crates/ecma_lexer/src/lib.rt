@@ -2,6 +2,7 @@
 #![tactic(auto)]
 
 mod calls;
+mod kept;
 mod last;
 pub mod lexer;
 mod step;

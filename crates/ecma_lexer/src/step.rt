@@ -22,7 +22,7 @@ use ecma_tokens::{Settings, TokenContext, TokenContexts};
 use std::alloc::AllocError;
 
 /// The goal symbol of a text.
-fn goal_of(ctx: Context) -> Goal
+pub(crate) fn goal_of(ctx: Context) -> Goal
     ensures { result ≡ spec.goal_of ctx }
 {
     if ctx.module_ {
@@ -33,7 +33,7 @@ fn goal_of(ctx: Context) -> Goal
 }
 
 /// The goal of what comes next inside a template.
-fn template_goal(contexts: &TokenContexts, last: Last<'_>) -> Option<LexicalGoal>
+pub(crate) fn template_goal(contexts: &TokenContexts, last: Last<'_>) -> Option<LexicalGoal>
     ensures { result ≡ spec.template_goal (outward contexts.now) (last_view last.entry) }
 {
     match (contexts.current(), last) {
@@ -95,7 +95,7 @@ fn quote(contexts: &mut TokenContexts) -> Result<(), AllocError>
 }
 
 /// The part of a text from here up to there. Both run to the place `end`.
-fn part(end: u32, from: &str, rest: &str) -> Span
+pub(crate) fn part(end: u32, from: &str, rest: &str) -> Span
     requires order { length rest.now ≤ length from.now }
     requires within { length from.now < end }
     ensures { result ≡ spec.span_at end (chars from.now) (chars rest.now) }
@@ -144,7 +144,7 @@ fn ends(goal: LexicalGoal, from: &str) -> bool
 
 impl<'a> Lexer<'a> {
     /// The text of the slash that is to be read again.
-    fn again(&self) -> Option<&'a str>
+    pub(crate) fn again(&self) -> Option<&'a str>
         ensures value { option_map (λ r. chars r.now) result ≡ spec.again (state_in self.now) }
         ensures fits { IfSome result (λ r. length r.now < self.now.end) }
     {
@@ -168,6 +168,7 @@ impl<'a> Lexer<'a> {
         requires order { length lexeme.rest.now ≤ length from.now }
         requires within { length from.now < self.old.end }
         ensures step { Steps (λ out new. IsTaken line_break (chars from.now) (lexeme_view lexeme.entry) (chars lexeme.entry.rest.now) (state_in self.old) out new) result (state_in self.new) }
+        ensures kept { (self.new.comments ≡ self.old.comments) × (self.new.keeps ≡ self.old.keeps) }
         ensures told { SameTold (settings_in self.old.settings) (settings_in self.new.settings) }
     {
         let Lexeme {
@@ -198,6 +199,7 @@ impl<'a> Lexer<'a> {
     fn fail(&mut self, error: Error, line_break: bool, lo: BytePos) -> TokenAndSpan<'a>
         ensures spot { shown_spot result ≡ spec.faulty_from self.old.end line_break lo.0 }
         ensures state { state_in self.new ≡ spec.stopped (state_in self.old) line_break }
+        ensures kept { (self.new.comments ≡ self.old.comments) × (self.new.keeps ≡ self.old.keeps) }
         ensures told { SameTold (settings_in self.old.settings) (settings_in self.new.settings) }
     {
         self.rest = "";
@@ -222,6 +224,7 @@ impl<'a> Lexer<'a> {
     ) -> Result<Option<TokenAndSpan<'a>>, Error>
         requires within { length from.now < self.old.end }
         ensures step { Steps (steps.IsRead goal line_break (chars from.now) (state_in self.old)) result (state_in self.new) }
+        ensures kept { (self.new.comments ≡ self.old.comments) × (self.new.keeps ≡ self.old.keeps) }
         ensures told { SameTold (settings_in self.old.settings) (settings_in self.new.settings) }
     {
         if ends(goal, from) {
@@ -240,6 +243,7 @@ impl<'a> Lexer<'a> {
     /// Passes trivia, and reads what stands behind it.
     fn plain(&mut self) -> Result<Option<TokenAndSpan<'a>>, Error>
         ensures step { Steps (steps.IsPlain (state_in self.old)) result (state_in self.new) }
+        ensures kept { (self.new.comments ≡ self.old.comments) × (self.new.keeps ≡ self.old.keeps) }
         ensures told { SameTold (settings_in self.old.settings) (settings_in self.new.settings) }
     {
         let goal = goal_of(self.settings.ctx);
@@ -252,6 +256,7 @@ impl<'a> Lexer<'a> {
     /// Reads what stands outside of templates: at the start of a text a hashbang first.
     fn outside(&mut self) -> Result<Option<TokenAndSpan<'a>>, Error>
         ensures step { Steps (steps.IsOutside (state_in self.old).tokens.last (state_in self.old)) result (state_in self.new) }
+        ensures kept { (self.new.comments ≡ self.old.comments) × (self.new.keeps ≡ self.old.keeps) }
         ensures told { SameTold (settings_in self.old.settings) (settings_in self.new.settings) }
     {
         if self.last.is_start() {
@@ -265,6 +270,7 @@ impl<'a> Lexer<'a> {
     /// One step.
     pub(crate) fn advance(&mut self) -> Result<Option<TokenAndSpan<'a>>, Error>
         ensures step { Steps (steps.IsStep (state_in self.old)) result (state_in self.new) }
+        ensures kept { (self.new.comments ≡ self.old.comments) × (self.new.keeps ≡ self.old.keeps) }
         ensures told { SameTold (settings_in self.old.settings) (settings_in self.new.settings) }
     {
         if let Last::Fault = self.last {

@@ -28,6 +28,7 @@ fn lexer<'a>(row: &Row<'_>, text: &'a str, answer: &Answer) -> anyhow::Result<Le
         EsVersion::latest(),
         text,
         BytePos(1),
+        false,
     );
     lexer.set_ctx(context(row));
     Ok(lexer)
