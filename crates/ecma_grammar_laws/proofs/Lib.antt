@@ -4,3 +4,8 @@ pub mod Nested
 pub mod Functions
 pub mod Primaries
 pub mod Groups
+pub mod Prefixes
+pub mod Operators
+pub mod Patterns
+pub mod Lists
+pub mod Simple
