@@ -9,3 +9,9 @@ pub mod Operators
 pub mod Patterns
 pub mod Lists
 pub mod Simple
+pub mod Classes
+pub mod Loops
+pub mod Statements
+pub mod ByDepth
+pub mod Programs
+pub mod SoundLemmas

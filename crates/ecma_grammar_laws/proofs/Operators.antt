@@ -201,18 +201,18 @@ structured_target op (array_pat s xs) e q = ap (λ z. z && true) q
 structured_target op (object_pat s xs) e q = ap (λ z. z && true) q
 structured_target op _ e q = absurd (true≢false (sym e))
 
-both_hold : {A : Type 0} (r : Result A Fault) (P Q : A → Type 0) → Holds r P → Holds r Q → Holds r (λ x. P x × Q x)
+pub both_hold : {A : Type 0} (r : Result A Fault) (P Q : A → Type 0) → Holds r P → Holds r Q → Holds r (λ x. P x × Q x)
 both_hold (Ok x) P Q p q = record { so = (p.so, q.so) }
 both_hold (Err e) P Q p q = record { so = tt }
 
-array_stays : (k : List ℕ) (s : Span) (xs : Trees) → Holds (to_item false k (array_lit s xs)) (λ p. is_structured p ≡ true)
+pub array_stays : (k : List ℕ) (s : Span) (xs : Trees) → Holds (to_item false k (array_lit s xs)) (λ p. is_structured p ≡ true)
 array_stays k s xs = if_holds (has s.lo.0 k) _ _ _ (λ _. record { so = tt }) (λ _. then_holds (to_items false false k xs) _ (λ _. Unit {0}) _ (anything (to_items false false k xs)) (λ ps u. record { so = refl }))
   where
     anything : {A : Type 0} (r : Result A Fault) → Holds r (λ _. Unit {0})
     anything (Ok x) = record { so = tt }
     anything (Err e) = record { so = tt }
 
-object_stays : (k : List ℕ) (s : Span) (xs : Trees) → Holds (to_item false k (object_lit s xs)) (λ p. is_structured p ≡ true)
+pub object_stays : (k : List ℕ) (s : Span) (xs : Trees) → Holds (to_item false k (object_lit s xs)) (λ p. is_structured p ≡ true)
 object_stays k s xs = if_holds (has s.lo.0 k) _ _ _ (λ _. record { so = tt }) (λ _. then_holds (to_items true false k xs) _ (λ _. Unit {0}) _ (anything (to_items true false k xs)) (λ ps u. record { so = refl }))
   where
     anything : {A : Type 0} (r : Result A Fault) → Holds r (λ _. Unit {0})
