@@ -181,6 +181,16 @@ Elems Q holes c close f b (x ∷ xs) ts r =
     ((holes ≡ true) × (m : Input) × Takes c comma_kind ts m × Elems Q holes c close f false xs m r)
     ((m : Input) × Q x ts m × (((n : Input) × Takes c comma_kind m n × Elems Q holes c close f true xs n r) ⊎ (IsNil xs × (f ≡ false) × Takes c close m r)))
 
+-- a list without holes starts with an item
+pub first_item : (Q : Tree → Input → Input → Type 0) (c : Code) (close : ℕ) (f b : Bool) (x : Tree) (xs : List Tree) (ts r : Input) → Elems Q false c close f b (x ∷ xs) ts r
+    → (m : Input) × Q x ts m × (((n : Input) × Takes c comma_kind m n × Elems Q false c close f true xs n r) ⊎ (IsNil xs × (f ≡ false) × Takes c close m r))
+first_item Q c close f b x xs ts r h = item (is_hole x) h
+  where
+    item : (z : Bool) → By z ((false ≡ true) × (m : Input) × Takes c comma_kind ts m × Elems Q false c close f false xs m r) ((m : Input) × Q x ts m × (((n : Input) × Takes c comma_kind m n × Elems Q false c close f true xs n r) ⊎ (IsNil xs × (f ≡ false) × Takes c close m r)))
+        → (m : Input) × Q x ts m × (((n : Input) × Takes c comma_kind m n × Elems Q false c close f true xs n r) ⊎ (IsNil xs × (f ≡ false) × Takes c close m r))
+    item true g = absurd (true≢false (sym g.0))
+    item false g = g
+
 no_hole : (a b : Bool) → b ≡ false → (a && b) ≡ false
 no_hole true b e = e
 no_hole false b e = refl
@@ -190,7 +200,7 @@ nil_empty [] h = tt
 nil_empty (x ∷ xs) h = h
 
 -- an item as it is, without what it may be refined to
-module _ (Q : Tree → Input → Input → Type 0) (P : Part → Input → Input → Type 0) (holes : Bool) (c : Code) (close : ℕ) (f : Bool)
+module _ (Q : Tree → Input → Input → Type 0) (P : Part → Input → Input → Type 0) (holes : Bool) (c d : Code) (same_code : (k : ℕ) (ts r : Input) → Takes c k ts r → Takes d k ts r) (close : ℕ) (f : Bool)
     (g : (x : Tree) (ts r : Input) → Q x ts r → P (part x (λ y. Spells x y)) ts r × (is_rest x ≡ false)) where
   abbrev Hole : List Tree → Input → Input → Type 0
   Hole xs ts r = (holes ≡ true) × (m : Input) × Takes c comma_kind ts m × Elems Q holes c close f false xs m r
@@ -199,18 +209,18 @@ module _ (Q : Tree → Input → Input → Type 0) (P : Part → Input → Input
   One x xs ts r = (m : Input) × Q x ts m × (((n : Input) × Takes c comma_kind m n × Elems Q holes c close f true xs n r) ⊎ (IsNil xs × (f ≡ false) × Takes c close m r))
 
   abbrev HoleThere : List Tree → Input → Input → Type 0
-  HoleThere xs ts r = (m : Input) × Takes c comma_kind ts m × Listed holes P c close (parts (pack xs)) m r
+  HoleThere xs ts r = (m : Input) × Takes d comma_kind ts m × Listed holes P d close (parts (pack xs)) m r
 
   abbrev OneThere : Tree → List Tree → Input → Input → Type 0
-  OneThere x xs ts r = (m : Input) × P (part x (λ y. Spells x y)) ts m × (((is_rest x ≡ false) × (n : Input) × Takes c comma_kind m n × Listed holes P c close (parts (pack xs)) n r) ⊎ (IsEmpty (parts (pack xs)) × Takes c close m r))
+  OneThere x xs ts r = (m : Input) × P (part x (λ y. Spells x y)) ts m × (((is_rest x ≡ false) × (n : Input) × Takes d comma_kind m n × Listed holes P d close (parts (pack xs)) n r) ⊎ (IsEmpty (parts (pack xs)) × Takes d close m r))
 
-  pub listed : (b : Bool) (xs : List Tree) (ts r : Input) → Elems Q holes c close f b xs ts r → Listed holes P c close (parts (pack xs)) ts r
-  listed b [] ts r h = h.1
+  pub listed : (b : Bool) (xs : List Tree) (ts r : Input) → Elems Q holes c close f b xs ts r → Listed holes P d close (parts (pack xs)) ts r
+  listed b [] ts r h = same_code close ts r h.1
   listed b (x ∷ xs) ts r h = ⊎_elim
       (λ (e : is_hole x ≡ true). let k = yes_by (is_hole x) (Hole xs ts r) (One x xs ts r) e h in
-        by_yes (holes && is_hole x) (HoleThere xs ts r) (OneThere x xs ts r) (ap (λ w. w && is_hole x) k.0 ∙ e) (k.1, k.2, listed false xs k.1 r k.3))
+        by_yes (holes && is_hole x) (HoleThere xs ts r) (OneThere x xs ts r) (ap (λ w. w && is_hole x) k.0 ∙ e) (k.1, same_code comma_kind ts k.1 k.2, listed false xs k.1 r k.3))
       (λ (e : is_hole x ≡ false). let k = no_by (is_hole x) (Hole xs ts r) (One x xs ts r) e h in let q = g x ts k.0 k.1 in
-        by_no (holes && is_hole x) (HoleThere xs ts r) (OneThere x xs ts r) (no_hole holes (is_hole x) e) (k.0, q.0, ⊎_elim (λ o. inl (q.1, o.0, o.1, listed true xs o.0 r o.2)) (λ o. inr (nil_empty xs o.0, o.2)) k.2))
+        by_no (holes && is_hole x) (HoleThere xs ts r) (OneThere x xs ts r) (no_hole holes (is_hole x) e) (k.0, q.0, ⊎_elim (λ o. inl (q.1, o.0, same_code comma_kind k.0 o.0 o.1, listed true xs o.0 r o.2)) (λ o. inr (nil_empty xs o.0, same_code close k.0 r o.2)) k.2))
       (cases_Bool (is_hole x))
 
 -- the pattern that comes of an item
@@ -328,7 +338,7 @@ key_in (big_int_lit s b d w) c ts r e h = h
 key_in (computed_prop_name s x) c ts r e h = h
 key_in _ c ts r e h = absurd (true≢false (sym e))
 
-not_absent : (e : Tree) → 2 ≤ level e → is_absent e ≡ false
+pub not_absent : (e : Tree) → 2 ≤ level e → is_absent e ≡ false
 not_absent absent l = absurd (omega (arith, l))
 not_absent _ l = refl
 

@@ -1,5 +1,5 @@
 -- Parameters, and functions with their bodies.
-use Rattle.std.proofs.Common.{◌≡◌, ℕ, zero, suc, ◌≤◌, ◌⊎◌, inl, inr, Bool, true, false, not, ◌&&◌, ◌||◌, cond, eqb, List, [], ◌∷◌, ◌++◌, Option, Some, None, Result, Ok, Err, refl, sym, ap, ◌∙◌, subst, ⊎_elim, true≢false, append_assoc, append-nil}
+use Rattle.std.proofs.Common.{◌≡◌, ℕ, zero, suc, ◌≤◌, ◌⊎◌, inl, inr, Bool, true, false, not, ◌&&◌, ◌||◌, cond, eqb, List, [], ◌∷◌, ◌++◌, Option, Some, None, Result, Ok, Err, refl, sym, ap, ◌∙◌, subst, ⊎_elim, true≢false, append_assoc, append-nil, arith}
 use Rattle.std.proofs.lemmas.Bool.{eqb-true, eqb-false, and_parts, not-true, cases_Bool}
 use Rattle.ecma_token.specs.declared.place.Span.{Span}
 use Rattle.ecma_token.specs.Kinds.{comma_kind, dot_dot_dot_kind, left_paren_kind, right_paren_kind, assign_kind, mul_kind}
@@ -75,7 +75,7 @@ module _ (inner : Inner Input) (good : Sound inner) where
       (λ e. then_sure s.commas (inner.pat (with_in c) (next s)) _ _ _ (good.pat (with_in c) (next s)) (λ p h. let b = ap (λ z. z || false) h.0 in
         done (param (span (lo (seen s)) p.1.source.last) none (rest_pat (span (lo (seen s)) p.1.source.last) (dots_at (lo (seen s))) p.0), p.1) (GotParam c s) (refl, (tt, b, (seen (next s), (e, tt, refl), refl, b, h.1, refl), refl))))
       (λ _. then_sure s.commas (inner.pat (with_in c) s) _ _ _ (good.pat (with_in c) s) (λ p h. test_sure p.1.commas (kind (seen p.1)) assign_kind _ _ _
-        (λ e. let b = ap (λ z. z || false) h.0 in then_sure p.1.commas (inner.expr (with_in c) assignment_level (next p.1)) _ _ _ (good.expr (with_in c) assignment_level (next p.1)) (λ v g.
+        (λ e. let b = ap (λ z. z || false) h.0 in then_sure p.1.commas (inner.expr (with_in c) assignment_level (next p.1)) _ _ _ (good.expr (with_in c) assignment_level (next p.1) (omega arith)) (λ v g.
           done (param (span (lo (seen s)) v.1.source.last) none (assign_pat (span (lo (seen s)) v.1.source.last) p.0 v.0), v.1) (GotParam c s) (refl, (tt, b, (seen p.1, seen (next p.1), b, h.1, (e, tt, refl), (g.0, g.1.spelled), refl), refl))))
         (λ _. done (param (span (lo (seen s)) p.1.source.last) none p.0, p.1) (GotParam c s) (refl, (tt, binding_item p.0 h.0, h.1, refl)))))
 

@@ -19,7 +19,7 @@ use Rattle.ecma_reading.specs.Source.{Fault, ◌>>=◌, unexpected, Stand, Inner
 use Rattle.ecma_reading.specs.Cover.{as_prop, last_rests, to_item, to_items}
 use Rattle.ecma_reading.specs.Expressions.{Elements, Spans as Parted, first, elements_by, quasi, quasi_end, quasi_step, template_by, arrows, arrow_by, params_of, plain_element, plain_elements, last_end, joined, group_end, group_by, ident_end}
 use Rattle.ecma_grammar_laws.proofs.Sure.{lm, seen, next, Grows, same, further, Sure, done, gives, then_sure, sure_map, if_sure, test_sure, only_sure, eat_sure, IsName, StepSure, loop_sure}
-use Rattle.ecma_grammar_laws.proofs.Covers.{patterned, plain, by_no, no_by, Holds, HoldsBy, then_holds, if_holds, holds_map, IsItem, Refines, Elems, IsNil, Element, items_refine}
+use Rattle.ecma_grammar_laws.proofs.Covers.{patterned, plain, by_no, no_by, Holds, HoldsBy, then_holds, if_holds, holds_map, IsItem, Refines, Elems, IsNil, Element, first_item, items_refine}
 use Rattle.ecma_grammar_laws.proofs.Nested.{Sound, Made, IsBody, body_is, named, takes, Whole, elements_sure, dull}
 
 -- ---- templates
@@ -82,16 +82,6 @@ plain_one k c x ts r q = one x q.sort q.spelled
     one (expr_or_spread s (Some d) e) w h = record { so = tt }
     one _ w h = absurd (true≢false (sym w))
 
-abbrev AtOne : List ℕ → Code → Tree → List Tree → Input → Input → Type 0
-AtOne k c x xs ts r = (m : Input) × Element k (with_in c) x ts m × (((n : Input) × Takes (plain (with_in c)) comma_kind m n × Elems (Element k (with_in c)) false (plain (with_in c)) right_paren_kind false true xs n r) ⊎ (IsNil xs × (false ≡ false) × Takes (plain (with_in c)) right_paren_kind m r))
-
-abbrev AtHole : List ℕ → Code → List Tree → Input → Input → Type 0
-AtHole k c xs ts r = (false ≡ true) × (m : Input) × Takes (plain (with_in c)) comma_kind ts m × Elems (Element k (with_in c)) false (plain (with_in c)) right_paren_kind false false xs m r
-
-at_one : (k : List ℕ) (c : Code) (x : Tree) (xs : List Tree) (ts r : Input) (z : Bool) → By z (AtHole k c xs ts r) (AtOne k c x xs ts r) → AtOne k c x xs ts r
-at_one k c x xs ts r true g = absurd (true≢false (sym g.0))
-at_one k c x xs ts r false g = g
-
 -- a comma and more
 more_of : (c : Code) (b : Bool) (x : Tree) (xs : List Tree) (e : Tree) (es : List Tree) (ts m n r : Input) → Expr assignment_level (plain (with_in c)) (part e (λ y. Spells e y)) ts m → Takes (plain (with_in c)) comma_kind m n
     → IsSeq (with_in c) true n r xs es → (xs ≡ [] → ⊥) → IsSeq (with_in c) b ts r (x ∷ xs) (e ∷ es)
@@ -110,7 +100,7 @@ not_nil k c ts r h = true≢false (sym h.0)
 seq_holds : (k : List ℕ) (c : Code) (b : Bool) (xs : List Tree) (ts r : Input) → Elems (Element k (with_in c)) false (plain (with_in c)) right_paren_kind false b xs ts r → Holds_some (plain_elements xs) (IsSeq (with_in c) b ts r xs)
 seq_holds k c b [] ts r h = record { so = sym h.0 }
 seq_holds k c b (x ∷ xs) ts r h =
-    let q = at_one k c x xs ts r (is_hole x) h in
+    let q = first_item (Element k (with_in c)) (plain (with_in c)) right_paren_kind false b x xs ts r h in
     some_then (plain_element x) _ _ (IsSeq (with_in c) b ts r (x ∷ xs)) (plain_one k c x ts q.0 q.1) (λ e w. ⊎_elim
       (λ o. some_then (plain_elements xs) _ _ (IsSeq (with_in c) b ts r (x ∷ xs)) (seq_holds k c true xs o.0 r o.2) (λ es y. record { so = more_of c b x xs e es ts q.0 o.0 r w.0 o.1 y (λ z. not_nil k c o.0 r (subst (λ ys. Elems (Element k (with_in c)) false (plain (with_in c)) right_paren_kind false true ys o.0 r) z o.2)) }))
       (λ o. none_of c b x xs e ts q.0 r w.0 w.1 o.0 o.2) q.2)
@@ -132,14 +122,14 @@ module _ (inner : Inner Input) (good : Sound inner) where
         done (finished (record { exprs = x.exprs; quasis = x.quasis ++ t ∷ [] }), next (next s)) (Quasis tagged (plain c) ts)
           (record { so = subst (λ es. TemplateSpans tagged (plain c) (parts (pack es)) (parts (pack (x.quasis ++ t ∷ []))) ts (seen (next (next s)))) (append-nil x.exprs)
             (b.so [] (t ∷ []) (seen (next (next s))) (seen (next s), tt, refl, w, (refl, (z, (e, tt, refl), refl)), (k, tt, refl))) })))
-      (λ _. eat_sure dollar_brace_kind (next s) _ _ (λ k. then_sure s.commas (inner.expr (with_in c) expression_level (next (next s))) _ _ _ (good.expr (with_in c) expression_level (next (next s))) (λ v h. eat_sure right_brace_kind v.1 _ _ (λ j.
+      (λ _. eat_sure dollar_brace_kind (next s) _ _ (λ k. then_sure s.commas (inner.expr (with_in c) expression_level (next (next s))) _ _ _ (good.expr (with_in c) expression_level (next (next s)) (omega arith)) (λ v h. eat_sure right_brace_kind v.1 _ _ (λ j.
         let t = tpl_element (first_span (seen s)) false raw cooked in only_sure v.1.commas (tagged || is_cooked t) _ _ (λ w.
         done (go_on (record { exprs = x.exprs ++ v.0 ∷ []; quasis = x.quasis ++ t ∷ [] }), next v.1) (Quasis tagged (plain c) ts)
           (record { so = λ es qs r l. subst (λ y. TemplateSpans tagged (plain c) (parts (pack y)) (parts (pack ((x.quasis ++ t ∷ []) ++ qs))) ts r) (sym (append_assoc x.exprs (v.0 ∷ []) es))
             (subst (λ y. TemplateSpans tagged (plain c) (parts (pack (x.exprs ++ (v.0 ∷ es)))) (parts (pack y)) ts r) (sym (append_assoc x.quasis (t ∷ []) qs))
             (b.so (v.0 ∷ es) (t ∷ qs) r (seen (next s), seen (next (next s)), seen v.1, seen (next v.1), refl, w, (refl, (z, (e, tt, refl), refl)), (k, tt, refl), (h.0, h.1.spelled), (j, tt, refl), l))) }))))))
   quasi_end_sure c tagged ts x s b e _ z = test_sure s.commas (kind (seen (next s))) back_quote_kind _ _ _ (λ _. record { so = tt })
-      (λ _. eat_sure dollar_brace_kind (next s) _ _ (λ k. then_sure s.commas (inner.expr (with_in c) expression_level (next (next s))) _ _ _ (good.expr (with_in c) expression_level (next (next s))) (λ v h. eat_sure right_brace_kind v.1 _ _ (λ j. record { so = tt }))))
+      (λ _. eat_sure dollar_brace_kind (next s) _ _ (λ k. then_sure s.commas (inner.expr (with_in c) expression_level (next (next s))) _ _ _ (good.expr (with_in c) expression_level (next (next s)) (omega arith)) (λ v h. eat_sure right_brace_kind v.1 _ _ (λ j. record { so = tt }))))
 
   quasi_step_sure : (c : Code) (tagged : Bool) (ts : Input) (x : Parted) (s : Stand Input) → Begun tagged (plain c) ts x s → Sure s.commas (quasi_step lm inner c tagged x s) (Quasis tagged (plain c) ts)
   unfolding quasi_step
@@ -165,7 +155,7 @@ module _ (inner : Inner Input) (good : Sound inner) where
         done (arrow_expr (span (lo (seen start)) x.1.source.last) (pack ps) x.0 async, x.1) (Made c start) (body_is (plain (in_list (with_in (in_arrow async c)))) (seen (next s)) (seen x.1)
           (λ z. Made c start (arrow_expr (span (lo (seen start)) x.1.source.last) (pack ps) z async, x.1))
           (λ p ss y. dull c start (arrow_expr (span (lo (seen start)) x.1.source.last) (pack ps) (block_stmt p ss) async) x.1 (seen (next s), (h.0, seen s, h.1, h.2, n, (e, tt, refl)), y, refl) (λ l k. refl)) x.0 k)))
-      (λ q. then_sure s.commas (inner.expr (in_arrow async c) assignment_level (next s)) _ _ _ (good.expr (in_arrow async c) assignment_level (next s)) (λ x k.
+      (λ q. then_sure s.commas (inner.expr (in_arrow async c) assignment_level (next s)) _ _ _ (good.expr (in_arrow async c) assignment_level (next s) (omega arith)) (λ x k.
         done (arrow_expr (span (lo (seen start)) x.1.source.last) (pack ps) x.0 async, x.1) (Made c start) (dull c start (arrow_expr (span (lo (seen start)) x.1.source.last) (pack ps) x.0 async) x.1
           (arrow_with (plain c) (span (lo (seen start)) x.1.source.last) (pack ps) x.0 async (seen start) (seen x.1) k.0 (seen (next s), (h.0, seen s, h.1, h.2, n, (e, tt, refl)), q, (k.0, k.1.spelled), refl)) (λ l k. refl))))
 

@@ -4,3 +4,14 @@ pub mod Nested
 pub mod Functions
 pub mod Primaries
 pub mod Groups
+pub mod Prefixes
+pub mod Operators
+pub mod Patterns
+pub mod Lists
+pub mod Simple
+pub mod Classes
+pub mod Loops
+pub mod Statements
+pub mod ByDepth
+pub mod Programs
+pub mod SoundLemmas

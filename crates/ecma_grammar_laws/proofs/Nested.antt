@@ -53,7 +53,7 @@ GotClass c whole s x = (class_span x.0 ≡ Some (span whole (seen x.1).last)) ×
 
 -- Whatever the readers answer is spelled so.
 pub record Sound (inner : Inner Input) : Type 0 where
-  pub expr : (c : Code) (l : ℕ) (s : Stand Input) → Sure s.commas (inner.expr c l s) (GotExpr c l s)
+  pub expr : (c : Code) (l : ℕ) (s : Stand Input) → 1 ≤ l → Sure s.commas (inner.expr c l s) (GotExpr c l s)
   pub pat : (c : Code) (s : Stand Input) → Sure s.commas (inner.pat c s) (GotPat c s)
   pub stmt : (c : Code) (s : Stand Input) → Sure s.commas (inner.stmt c s) (GotStmt c s)
   pub body : (c : Code) (s : Stand Input) → Sure s.commas (inner.body c s) (GotBody c s)
@@ -125,9 +125,9 @@ module _ (inner : Inner Input) (good : Sound inner) where
   element_sure : (c : Code) (s : Stand Input) → Sure s.commas (element_by lm inner c s) (λ e. (is_hole e.0 ≡ false) × ((k : List ℕ) → Grows e.1.commas k → Element k c e.0 (seen s) (seen e.1)))
   unfolding element_by
   element_sure c s = test_sure s.commas (kind (seen s)) dot_dot_dot_kind _ _ _
-      (λ z. then_sure s.commas (inner.expr (with_in c) assignment_level (next s)) _ _ _ (good.expr (with_in c) assignment_level (next s)) (λ e h.
+      (λ z. then_sure s.commas (inner.expr (with_in c) assignment_level (next s)) _ _ _ (good.expr (with_in c) assignment_level (next s) (omega arith)) (λ e h.
         done (expr_or_spread (span (lo (seen s)) e.1.source.last) (Some (first lm inner s)) e.0, e.1) _ (refl, λ k g. element_some k c (span (lo (seen s)) e.1.source.last) (first lm inner s) e.0 (seen s) (seen (next s)) (seen e.1) (takes c dot_dot_dot_kind s z) refl h.0 h.1.spelled (h.1.refines k g) refl)))
-      (λ _. then_sure s.commas (inner.expr (with_in c) assignment_level s) _ _ _ (good.expr (with_in c) assignment_level s) (λ e h.
+      (λ _. then_sure s.commas (inner.expr (with_in c) assignment_level s) _ _ _ (good.expr (with_in c) assignment_level s (omega arith)) (λ e h.
         done (expr_or_spread (span (lo (seen s)) e.1.source.last) None e.0, e.1) _ (refl, λ k g. element_none k c (span (lo (seen s)) e.1.source.last) e.0 (seen s) (seen e.1) h.0 h.1.spelled (h.1.refines k g) refl)))
 
   elements_step_sure : (c : Code) (holes : Bool) (close : ℕ) (ts : Input) (xs : Elements) (s : Stand Input) → Front (λ k. Element k c) holes (plain c) close ts xs s
@@ -190,14 +190,14 @@ private_sure inner c s = eat_sure hash_kind s _ _ (λ h. if_sure s.commas (eqb (
     (λ _. record { so = tt }))
 
 module _ (inner : Inner Input) (good : Sound inner) where
-  pub computed_sure : (c : Code) (l : ℕ) (s : Stand Input) → ((t : Tree) → AtLeast l t → l ≤ level t) → kind (seen s) ≡ left_bracket_kind → Sure s.commas (computed_by lm inner c l s) (λ x. IsBracketed l (plain c) (seen s) (seen x.1) x.0)
+  pub computed_sure : (c : Code) (l : ℕ) (s : Stand Input) → 1 ≤ l → ((t : Tree) → AtLeast l t → l ≤ level t) → kind (seen s) ≡ left_bracket_kind → Sure s.commas (computed_by lm inner c l s) (λ x. IsBracketed l (plain c) (seen s) (seen x.1) x.0)
   unfolding computed_by
-  computed_sure c l s f e = then_sure s.commas (inner.expr (with_in c) l (next s)) _ _ _ (good.expr (with_in c) l (next s)) (λ x h. eat_sure right_bracket_kind x.1 _ _ (λ z.
+  computed_sure c l s g f e = then_sure s.commas (inner.expr (with_in c) l (next s)) _ _ _ (good.expr (with_in c) l (next s) g) (λ x h. eat_sure right_bracket_kind x.1 _ _ (λ z.
       done (computed_prop_name (span (lo (seen s)) (hi (seen x.1))) x.0, next x.1) _ (seen (next s), seen x.1, (e, tt, refl), (f x.0 h.0, h.1.spelled), (z, tt, refl), refl)))
 
   pub key_sure : (c : Code) (s : Stand Input) → Sure s.commas (key_by lm inner c s) (λ x. (is_key x.0 ≡ true) × Spells x.0 (plain c) (seen s) (seen x.1))
   unfolding key_by
-  key_sure c s = test_sure s.commas (kind (seen s)) left_bracket_kind _ _ _ (λ e. sure_map s.commas (computed_by lm inner c assignment_level s) _ _ (computed_sure c assignment_level s (λ t h. h) e)
+  key_sure c s = test_sure s.commas (kind (seen s)) left_bracket_kind _ _ _ (λ e. sure_map s.commas (computed_by lm inner c assignment_level s) _ _ (computed_sure c assignment_level s (omega arith) (λ t h. h) e)
         (λ x h. bracketed_is assignment_level (plain c) (seen s) (seen x.1) (λ t. (is_key t ≡ true) × Spells t (plain c) (seen s) (seen x.1)) (λ t y b. (refl, b)) x.0 h)) (λ _.
       if_sure s.commas (is_word (kind (seen s))) _ _ _ (λ w. done (ident_name (first_span (seen s)) (text (seen s)), next s) _ (refl, ((w, refl, tt, refl), refl))) (λ _.
       test_sure s.commas (kind (seen s)) regex_kind _ _ _ (λ _. record { so = tt }) (λ n. sure_map s.commas (literal_by lm inner s) _ _ (literal_sure inner s) (λ x h. (h.2 n, (h.0 c).spelled)))))

@@ -56,7 +56,7 @@ prop_sorted k c x ts r q = ((q.sort, q.spelled), no_rest x q.sort)
     no_rest (method_prop s k f) h = refl
     no_rest _ h = absurd (true≢false (sym h))
 
-and_no : (z : Bool) → (z && false) ≡ false
+pub and_no : (z : Bool) → (z && false) ≡ false
 and_no true = refl
 and_no false = refl
 
@@ -70,7 +70,7 @@ module _ (inner : Inner Input) (good : Sound inner) where
   array_sure c s e = then_sure s.commas (elements_by lm inner c true right_bracket_kind (next s)) _ _ _ (elements_sure inner good c true right_bracket_kind (next s)) (λ xs w.
       let b = xs.0.comma && last_rests xs.0.items in let n = lo (seen s) in
       gives xs.1.commas (array_lit (span n xs.1.source.last) (pack xs.0.items), noted lm inner b n xs.1) (Made c s) (grow_noted b n xs.1.commas) (record {
-        spelled = (seen (next s), (e, tt, refl), listed (Element xs.1.commas c) (Sorted is_element (plain c)) true (plain c) right_bracket_kind xs.0.comma (λ x ts r q. element_sorted xs.1.commas c x ts r q) false xs.0.items (seen (next s)) (seen xs.1) (w.so xs.1.commas (same xs.1.commas)), refl);
+        spelled = (seen (next s), (e, tt, refl), listed (Element xs.1.commas c) (Sorted is_element (plain c)) true (plain c) (plain c) (λ j ts r t. t) right_bracket_kind xs.0.comma (λ x ts r q. element_sorted xs.1.commas c x ts r q) false xs.0.items (seen (next s)) (seen xs.1) (w.so xs.1.commas (same xs.1.commas)), refl);
         refines = λ k g. record { so = λ a f. if_holds (has n k) _ _ _ (λ _. record { so = tt }) (λ z.
           then_holds (to_items false a k (pack xs.0.items)) _ (λ ps. Listed true (Item (patterned a c)) (patterned a c) right_bracket_kind (parts ps) (seen (next s)) (seen xs.1)) _
           (items_refine (Element k c) (Item (patterned a c)) true false (λ _. refl) (plain c) (patterned a c) (λ j ts r t. t) right_bracket_kind xs.0.comma a k (λ x ts r q. q.refines a) false xs.0.items (seen (next s)) (seen xs.1)
@@ -116,7 +116,7 @@ module _ (inner : Inner Input) (good : Sound inner) where
   prop_rest_sure : (c : Code) (s : Stand Input) (k : Tree) (r : Stand Input) → Grows s.commas r.commas → is_key k ≡ true → Spells k (plain c) (seen s) (seen r) → Sure s.commas (prop_rest lm inner c s k r) (GotProp c s)
   unfolding prop_rest
   prop_rest_sure c s k r gr e h = test_sure s.commas (kind (seen r)) colon_kind _ _ _
-      (λ z. weaken s.commas r.commas _ _ gr (then_sure r.commas (inner.expr (with_in c) assignment_level (next r)) _ _ _ (good.expr (with_in c) assignment_level (next r)) (λ v w.
+      (λ z. weaken s.commas r.commas _ _ gr (then_sure r.commas (inner.expr (with_in c) assignment_level (next r)) _ _ _ (good.expr (with_in c) assignment_level (next r) (omega arith)) (λ v w.
         done (key_value_prop (span (lo (seen s)) v.1.source.last) k v.0, v.1) (GotProp c s) (refl, λ l u. prop_value l c (span (lo (seen s)) v.1.source.last) k v.0 (seen s) (seen r) (seen (next r)) (seen v.1) e h (z, tt, refl) w.0 w.1.spelled (w.1.refines l u) refl))))
       (λ _. test_sure s.commas (kind (seen r)) left_paren_kind _ _ _
       (λ z. weaken s.commas r.commas _ _ gr (then_sure r.commas (function_by lm inner c (lo (seen s)) false false r) _ _ _ (function_sure inner good c (lo (seen s)) false false r) (λ f w.
@@ -125,14 +125,14 @@ module _ (inner : Inner Input) (good : Sound inner) where
           spelled = method_spelled c (span (lo (seen s)) f.1.source.last) k f.0 (record { span = span (lo (seen s)) f.1.source.last; generator = false; async = false; count = w.0 }) (seen s) (seen s) (seen r) (seen f.1) e w.1 (seen s, refl, refl) h w.2 refl refl;
           refines = λ b. record { so = tt } }))))
       (λ _. name_sure c s _ _ (λ i. test_sure s.commas (kind (seen (next s))) assign_kind _ _ _
-        (λ z. then_sure s.commas (inner.expr (with_in c) assignment_level (next (next s))) _ _ _ (good.expr (with_in c) assignment_level (next (next s))) (λ v w.
+        (λ z. then_sure s.commas (inner.expr (with_in c) assignment_level (next (next s))) _ _ _ (good.expr (with_in c) assignment_level (next (next s)) (omega arith)) (λ v w.
           done (assign_prop (span (lo (seen s)) v.1.source.last) (ident (first_span (seen s)) (text (seen s))) v.0, v.1) (GotProp c s) (refl, λ l u. prop_cover l c (span (lo (seen s)) v.1.source.last) (first_span (seen s)) (text (seen s)) v.0 (seen s) (seen (next s)) (seen (next (next s))) (seen v.1) (named c s i) (z, tt, refl) w.0 w.1.spelled refl)))
         (λ _. done (ident (first_span (seen s)) (text (seen s)), next s) (GotProp c s) (refl, λ l u. prop_name l c (first_span (seen s)) (text (seen s)) (seen s) (seen (next s)) (named c s i))))))
 
   prop_sure : (c : Code) (s : Stand Input) → Sure s.commas (prop_by lm inner c s) (GotProp c s)
   unfolding prop_by
   prop_sure c s = test_sure s.commas (kind (seen s)) dot_dot_dot_kind _ _ _
-      (λ z. then_sure s.commas (inner.expr (with_in c) assignment_level (next s)) _ _ _ (good.expr (with_in c) assignment_level (next s)) (λ e w.
+      (λ z. then_sure s.commas (inner.expr (with_in c) assignment_level (next s)) _ _ _ (good.expr (with_in c) assignment_level (next s) (omega arith)) (λ e w.
         done (spread_element (span (lo (seen s)) e.1.source.last) e.0, e.1) (GotProp c s) (refl, λ l u. prop_spread l c (span (lo (seen s)) e.1.source.last) e.0 (seen s) (seen (next s)) (seen e.1) (z, tt, refl) w.0 w.1.spelled (w.1.refines l u) refl)))
       (λ _. test_sure s.commas (kind (seen s)) mul_kind _ _ _ (λ z. method_sure c s true false (next s) (seen s, refl, (z, tt, refl)))
       (λ _. if_sure s.commas (is_async_head lm inner s) _ _ _
@@ -157,7 +157,7 @@ module _ (inner : Inner Input) (good : Sound inner) where
         no_elements (next s) (starts (λ k. Prop k c) false (plain c) right_brace_kind (seen (next s)) (next s) refl)) (λ xs w.
       let b = xs.0.comma && last_rests xs.0.items in let n = lo (seen s) in
       gives xs.1.commas (object_lit (span n xs.1.source.last) (pack xs.0.items), noted lm inner b n xs.1) (Made c s) (grow_noted b n xs.1.commas) (record {
-        spelled = (seen (next s), (e, tt, refl), listed (Prop xs.1.commas c) (Sorted is_prop (plain c)) false (plain c) right_brace_kind xs.0.comma (λ x ts r q. prop_sorted xs.1.commas c x ts r q) false xs.0.items (seen (next s)) (seen xs.1) (w.so xs.1.commas (same xs.1.commas)), refl);
+        spelled = (seen (next s), (e, tt, refl), listed (Prop xs.1.commas c) (Sorted is_prop (plain c)) false (plain c) (plain c) (λ j ts r t. t) right_brace_kind xs.0.comma (λ x ts r q. prop_sorted xs.1.commas c x ts r q) false xs.0.items (seen (next s)) (seen xs.1) (w.so xs.1.commas (same xs.1.commas)), refl);
         refines = λ k g. record { so = λ a f. if_holds (has n k) _ _ _ (λ _. record { so = tt }) (λ z.
           then_holds (to_items true a k (pack xs.0.items)) _ (λ ps. Listed false (Property (patterned a c)) (patterned a c) right_brace_kind (parts ps) (seen (next s)) (seen xs.1)) _
           (items_refine (Prop k c) (Property (patterned a c)) false true (λ q. absurd (true≢false (sym q))) (plain c) (patterned a c) (λ j ts r t. t) right_brace_kind xs.0.comma a k (λ x ts r q. q.refines a) false xs.0.items (seen (next s)) (seen xs.1)

@@ -67,6 +67,9 @@ pub then_any : {A B : Type 0} (k : List ℕ) (r : Result (A × Stand Input) Faul
 then_any k (Ok x) f P Q p h = h x p.so.0 p.so.1
 then_any k (Err e) f P Q p h = record { so = tt }
 
+pub at_commas : {A : Type 0} (k l : List ℕ) (r : Result (A × Stand Input) Fault) (P : A × Stand Input → Type 0) → l ≡ k → Sure l r P → Sure k r P
+at_commas k l r P e h = subst (λ j. Sure j r P) e h
+
 pub sure_map : {A : Type 0} (k : List ℕ) (r : Result (A × Stand Input) Fault) (P Q : A × Stand Input → Type 0) → Sure k r P → ((x : A × Stand Input) → P x → Q x) → Sure k r Q
 sure_map k (Ok x) P Q p h = record { so = (p.so.0, h x p.so.1) }
 sure_map k (Err e) P Q p h = record { so = tt }

@@ -1,2 +1,16 @@
-//! Laws of the grammar: what the reading function reads is spelled so.
+//! Laws of the grammar: what the reading function reads is spelled so. The functions here are laws alone.
 #![tactic(auto)]
+
+ghost use Rattle.ecma_grammar_laws.specs.Laws.{ExpressionsSound, PatternsSound, StatementsSound, ClassesSound, ProgramsSound};
+
+/// Law: whatever the readers answer of a list of tokens, at any depth, is spelled by the tokens from
+/// where the reading began up to where it stands: expressions of the level that was asked for,
+/// patterns that bind, statements and declarations, what follows a class's name, scripts and modules.
+#[tactic(auto)]
+pub fn sound_law()
+    ensures expressions { ExpressionsSound }
+    ensures patterns { PatternsSound }
+    ensures statements { StatementsSound }
+    ensures classes { ClassesSound }
+    ensures programs { ProgramsSound }
+{}

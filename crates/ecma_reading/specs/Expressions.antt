@@ -426,7 +426,7 @@ module _ {S : Type 0} (m : Machine S) (inner : Inner S) where
       else (if at m question_mark_kind s && (kind2 (input m s) == dot_kind) then (if nat_le call_level (level t) then chain_by c start t (past m (past m s)) else unexpected)
       else (if at m question_mark_kind s then (if nat_le coalesce_level (level t) then cond_by c start t s else unexpected)
       else (if operates c (kind (input m s)) then (if fits_left (kind (input m s)) t then binary_by c start t s else unexpected)
-      else (if between plus_plus_kind minus_minus_kind (kind (input m s)) then (if nat_le new_level (level t) then Ok (update_expr (spanned m start (past m s)) (kind (input m s)) false t, past m s) else unexpected)
+      else (if between plus_plus_kind minus_minus_kind (kind (input m s)) then (if nat_le new_level (level t) && not (brk (input m s)) then Ok (update_expr (spanned m start (past m s)) (kind (input m s)) false t, past m s) else unexpected)
       else (if not (nat_le call_level (level t)) then unexpected
       else (if at m left_paren_kind s then call_by c start t s
       else (if at m left_bracket_kind s then index_by c start t s

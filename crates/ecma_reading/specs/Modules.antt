@@ -1,13 +1,13 @@
 -- Reading scripts and modules (ECMA-262, clause 16).
 use Rattle.std.specs.Prelude.{ℕ, Bool, true, false, not, ◌&&◌, ◌||◌, ◌==◌, if◌then◌else◌, List, [], ◌∷◌, ◌++◌, Option, Some, None, Ok}
 use Rattle.ecma_token.specs.declared.place.Span.{Span}
-use Rattle.ecma_token.specs.Kinds.{end_kind, left_paren_kind, dot_kind, left_brace_kind, right_brace_kind, comma_kind, mul_kind, str_kind, shebang_kind, default_kind, function_kind, with_kind, class_kind, export_kind, import_kind, as_kind, assert_kind, from_kind}
+use Rattle.ecma_token.specs.Kinds.{left_paren_kind, dot_kind, left_brace_kind, right_brace_kind, comma_kind, mul_kind, str_kind, shebang_kind, default_kind, function_kind, with_kind, class_kind, export_kind, import_kind, as_kind, assert_kind, from_kind}
 use Rattle.ecma_token.specs.Tokens.{Content, Line}
 use Rattle.ecma_tree.specs.Tree.{Tree, Trees, none, more, pack, script, es_module, import_decl, export_decl, named_export, export_default_decl, export_default_expr, export_all, import_named_specifier, import_default_specifier, import_star_as_specifier, export_namespace_specifier, export_named_specifier, ident, absent}
 use Rattle.ecma_syntax.specs.Input.{Code, kind, kind2, brk, content, is_word, in_list, turned_strict}
 use Rattle.ecma_syntax.specs.Operators.{assignment_level, exports_end, source_end, plain_end}
 use Rattle.ecma_syntax.specs.Shape.{ends, is_use_strict, is_directive, is_attributes, is_exportable}
-use Rattle.ecma_reading.specs.Source.{unexpected, ◌>>=◌, Machine, Stand, Read, input, past, operand, turned, bound, spanned, at, eat, eat_word, name, any_word, end_of, Step, go_on, finished, iterate, Inner}
+use Rattle.ecma_reading.specs.Source.{unexpected, ◌>>=◌, Machine, Stand, Read, input, past, operand, turned, bound, spanned, at, ended, eat, eat_word, name, any_word, end_of, Step, go_on, finished, iterate, Inner}
 use Rattle.ecma_reading.specs.Expressions.{first, literal_by, object_by, function_expr_by, class_expr_by}
 use Rattle.ecma_reading.specs.Statements.{Body, starts_async, starts_variables}
 
@@ -28,7 +28,7 @@ module _ {S : Type 0} (m : Machine S) (inner : Inner S) where
   local_by c s = name m c s >>= λ n. Ok (ident (first m inner s) n.0, n.1)
 
   unfoldable pub attributes_by : Code → Read S Tree
-  attributes_by c s = object_by m inner c s >>= λ o. if is_attributes o.0 then Ok o else unexpected
+  attributes_by c s = if at m left_brace_kind s then (object_by m inner c s >>= λ o. if is_attributes o.0 then Ok o else unexpected) else unexpected
 
   unfoldable pub source_by : Code → Read S From
   source_by c s = string_by s >>= λ f.
@@ -129,7 +129,7 @@ module _ {S : Type 0} (m : Machine S) (inner : Inner S) where
       else Ok (go_on (record { items = b.items ++ t.0 ∷ []; code = b.code; starts = b.starts && is_directive t.0 }), t.1)
 
   unfoldable pub program_step : Bool → Body → Read S (Step Body)
-  program_step modules b s = if at m end_kind (operand m s) then Ok (finished b, s) else program_item modules b (operand m s)
+  program_step modules b s = if ended m s then Ok (finished b, s) else program_item modules b (operand m s)
 
   abbrev pub line_of : Content → Option (List ℕ)
   line_of (Line l) = Some l

@@ -1,5 +1,5 @@
 -- What a reading function reads from, and what it answers.
-use Rattle.std.specs.Prelude.{ℕ, zero, suc, Bool, not, ◌&&◌, ◌==◌, nat_lt, if◌then◌else◌, List, length, Result, Ok, Err}
+use Rattle.std.specs.Prelude.{ℕ, zero, suc, Bool, true, false, not, ◌&&◌, ◌==◌, nat_lt, if◌then◌else◌, List, [], ◌∷◌, length, Result, Ok, Err}
 use Rattle.ecma_token.specs.declared.context.Context.{Context}
 use Rattle.ecma_token.specs.declared.place.Span.{Span}
 use Rattle.ecma_token.specs.Kinds.{semicolon_kind}
@@ -30,6 +30,10 @@ pub record Machine (S : Type 0) : Type 0 where
   pub turned : Context → S → S
   pub bound : S → ℕ
   pub last : S → ℕ
+
+abbrev pub is_nil : {A : Type 0} → List A → Bool
+is_nil [] = true
+is_nil (x ∷ xs) = false
 
 -- the source of a list, whose tokens are as they will be consumed
 abbrev pub list_machine : Machine Input
@@ -67,6 +71,10 @@ module _ {S : Type 0} (m : Machine S) where
 
   abbrev pub at : ℕ → Stand S → Bool
   at k s = kind (input s) == k
+
+  -- whether no token is to come
+  abbrev pub ended : Stand S → Bool
+  ended s = is_nil (m.seen s.source)
 
   -- a token of a kind
   unfoldable pub eat : ℕ → Stand S → Result (Stand S) Fault

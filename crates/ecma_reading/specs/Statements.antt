@@ -3,7 +3,7 @@ use Rattle.std.specs.Prelude.{ℕ, Bool, true, false, not, ◌&&◌, ◌||◌, �
 use Rattle.ecma_token.specs.declared.place.Span.{Span}
 use Rattle.ecma_token.specs.Kinds.{end_kind, dot_dot_dot_kind, left_paren_kind, right_paren_kind, left_bracket_kind, right_bracket_kind, left_brace_kind, right_brace_kind, semicolon_kind, comma_kind, colon_kind, hash_kind, mul_kind, assign_kind, await_kind, break_kind, case_kind, catch_kind, continue_kind, debugger_kind, default_kind, do_kind, else_kind, finally_kind, for_kind, function_kind, if_kind, return_kind, switch_kind, throw_kind, try_kind, var_kind, let_kind, const_kind, while_kind, with_kind, class_kind, extends_kind, in_kind, async_kind, of_kind, using_kind, static_kind, accessor_kind, get_kind, set_kind}
 use Rattle.ecma_tree.specs.Tree.{Tree, none, more, pack, plain_method, block_stmt, empty_stmt, debugger_stmt, with_stmt, return_stmt, labeled_stmt, break_stmt, continue_stmt, if_stmt, switch_stmt, switch_case, throw_stmt, try_stmt, catch_clause, while_stmt, do_while_stmt, for_stmt, for_in_stmt, for_of_stmt, expr_stmt, class_decl, fn_decl, var_decl, using_decl, var_declarator, function, class, constructor, class_method, private_method, class_prop, private_prop, static_block, auto_accessor, ident, binding_ident, array_pat, rest_pat, object_pat, assign_pat, key_value_pat_prop, assign_pat_prop, absent, hole}
-use Rattle.ecma_syntax.specs.Input.{Code, kind, kind2, brk, brk2, lo, dots_at, span, rest, is_strict, with_in, without_in, in_list, alone, in_body, in_field, in_static, turned_strict}
+use Rattle.ecma_syntax.specs.Input.{Code, kind, kind2, brk, brk2, lo, dots_at, span, rest, barred, is_strict, with_in, without_in, in_list, alone, in_body, in_field, in_static, turned_strict}
 use Rattle.ecma_syntax.specs.Operators.{expression_level, assignment_level, new_level, starts_key, may_name, plain_end, let_end}
 use Rattle.ecma_syntax.specs.Shape.{ends, names, is_absent, is_private, is_structured, is_bare_declarator, is_default_case, is_use_strict, is_directive, is_plain_function, constructs, field_end, declarators_end, is_statement}
 use Rattle.ecma_reading.specs.Source.{unexpected, ◌>>=◌, Machine, Stand, Read, input, past, operand, turned, bound, spanned, at, eat, eat_word, name, end_of, Step, go_on, finished, iterate, Inner}
@@ -119,7 +119,7 @@ module _ {S : Type 0} (m : Machine S) (inner : Inner S) where
   starts_using c s = c.syntax.explicit_resource_management && (at m using_kind s && (may_name (kind2 (input m s)) && not (brk2 (input m s))))
 
   abbrev pub starts_await_using : Code → Stand S → Bool
-  starts_await_using c s = c.context.in_async && (at m await_kind s && (not (brk2 (input m s)) && starts_using c (past m s)))
+  starts_await_using c s = c.context.in_async && (at m await_kind s && (not (barred c.context (input m s)) && (not (brk2 (input m s)) && starts_using c (past m s))))
 
   unfoldable pub using_by : Code → Stand S → Bool → Read S Tree
   using_by c start awaits s = eat_word m c using_kind s >>= λ r. declarators_by c r >>= λ ds. end_of m c (declarators_end (pack ds.0)) ds.1 >>= λ e.

@@ -1,0 +1,38 @@
+use Rattle.std.proofs.Common.{◌≡◌, ℕ, ◌≤◌, ◌⊎◌, inl, inr, Bool, true, false, eqb, Option, Some, Result, Ok, refl, subst, ⊎_elim, arith}
+use Rattle.std.proofs.lemmas.Bool.{eqb-true}
+use Rattle.ecma_tree.specs.Tree.{Tree}
+use Rattle.ecma_syntax.specs.Input.{Input, Code}
+use Rattle.ecma_syntax.specs.Operators.{new_level, member_level}
+use Rattle.ecma_syntax.specs.Shape.{level}
+use Rattle.ecma_grammar.specs.Parts.{By}
+use Rattle.ecma_reading.specs.Source.{Stand}
+use Rattle.ecma_reading.specs.Reading.{readers}
+use Rattle.ecma_grammar_laws.specs.Laws.{OfLevel, ExpressionsSound, PatternsSound, StatementsSound, ClassesSound, ProgramsSound}
+use Rattle.ecma_grammar_laws.proofs.Sure.{lm, seen, Sure}
+use Rattle.ecma_grammar.specs.Grammar.{Spells}
+use Rattle.ecma_grammar_laws.proofs.Covers.{plain}
+use Rattle.ecma_grammar_laws.proofs.Programs.{program_sure}
+use Rattle.ecma_grammar_laws.proofs.Nested.{Sound, AtLeast, GotExpr, GotPat, GotStmt, GotClass}
+use Rattle.ecma_grammar_laws.proofs.ByDepth.{all_sound}
+
+of_level : (l : ℕ) (t : Tree) → AtLeast l t → OfLevel l t
+of_level l t h = by_level (eqb l member_level) (λ e. eqb-true l member_level e) h
+  where
+    by_level : (b : Bool) → (b ≡ true → l ≡ member_level) → By b ((member_level ≤ level t) ⊎ (level t ≡ new_level)) (l ≤ level t) → OfLevel l t
+    by_level true e h = ⊎_elim (λ z. let q : l ≡ member_level = e refl in inl (omega (arith, z, q))) (λ z. inr (e refl, z)) h
+    by_level false e h = inl h
+
+pub expressions_sound : ExpressionsSound
+expressions_sound depth c l s t r g e = let h = subst (λ z. Sure s.commas z (GotExpr c l s)) e ((all_sound depth).expr c l s g) in (of_level l t h.so.1.0, h.so.1.1.spelled)
+
+pub patterns_sound : PatternsSound
+patterns_sound depth c s t r e = let h = subst (λ z. Sure s.commas z (GotPat c s)) e ((all_sound depth).pat c s) in h.so.1
+
+pub statements_sound : StatementsSound
+statements_sound depth c s t r e = let h = subst (λ z. Sure s.commas z (GotStmt c s)) e ((all_sound depth).stmt c s) in h.so.1
+
+pub classes_sound : ClassesSound
+classes_sound depth c whole s t r e = let h = subst (λ z. Sure s.commas z (GotClass c whole s)) e ((all_sound depth).class_tail c whole s) in h.so.1
+
+pub programs_sound : ProgramsSound
+programs_sound depth modules c s t r e = let h = subst (λ z. Sure s.commas z (λ x. Spells x.0 (plain c) (seen s) (seen x.1))) e (program_sure (readers lm depth) (all_sound depth) modules c s) in h.so.1

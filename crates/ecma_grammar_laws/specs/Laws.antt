@@ -1,0 +1,43 @@
+-- What the reading function answers is spelled so: its readers at any depth, over the tokens of a list.
+use Rattle.std.specs.Prelude.{◌≡◌, ◌≤◌, ◌⊎◌, ℕ, Bool, true, Ok, Some}
+use Rattle.ecma_tree.specs.Tree.{Tree}
+use Rattle.ecma_syntax.specs.Input.{Input, Code, span, unplaced, assigning, binding}
+use Rattle.ecma_syntax.specs.Operators.{new_level, member_level}
+use Rattle.ecma_syntax.specs.Shape.{level, is_binding, is_item, class_span}
+use Rattle.ecma_grammar.specs.Grammar.{Spells}
+use Rattle.ecma_reading.specs.Source.{Stand, input, list_machine}
+use Rattle.ecma_reading.specs.Modules.{program_by}
+use Rattle.ecma_reading.specs.Reading.{readers}
+
+-- the tokens alone, outside patterns that bind
+abbrev pub tokens : Code → Code
+tokens c = assigning (unplaced c)
+
+-- the level that was asked for, or a bare `new` as the callee of another
+abbrev pub OfLevel : ℕ → Tree → Type 0
+OfLevel l t = (l ≤ level t) ⊎ ((l ≡ member_level) × (level t ≡ new_level))
+
+-- expressions (clause 13), with what they hold
+abbrev pub ExpressionsSound : Type 0
+ExpressionsSound = (depth : ℕ) (c : Code) (l : ℕ) (s : Stand Input) (t : Tree) (r : Stand Input) → 1 ≤ l → (readers list_machine depth).expr c l s ≡ Ok (t, r)
+    → OfLevel l t × Spells t (tokens c) (input list_machine s) (input list_machine r)
+
+-- patterns that bind (14.3.3)
+abbrev pub PatternsSound : Type 0
+PatternsSound = (depth : ℕ) (c : Code) (s : Stand Input) (t : Tree) (r : Stand Input) → (readers list_machine depth).pat c s ≡ Ok (t, r)
+    → (is_binding t ≡ true) × Spells t (binding (unplaced c)) (input list_machine s) (input list_machine r)
+
+-- statements and declarations (clauses 14 and 15)
+abbrev pub StatementsSound : Type 0
+StatementsSound = (depth : ℕ) (c : Code) (s : Stand Input) (t : Tree) (r : Stand Input) → (readers list_machine depth).stmt c s ≡ Ok (t, r)
+    → (is_item t ≡ true) × Spells t (tokens c) (input list_machine s) (input list_machine r)
+
+-- what follows the name of a class (15.7)
+abbrev pub ClassesSound : Type 0
+ClassesSound = (depth : ℕ) (c : Code) (whole : ℕ) (s : Stand Input) (t : Tree) (r : Stand Input) → (readers list_machine depth).class_tail c whole s ≡ Ok (t, r)
+    → (class_span t ≡ Some (span whole (input list_machine r).last)) × Spells t (tokens c) (input list_machine s) (input list_machine r)
+
+-- scripts and modules (clause 16)
+abbrev pub ProgramsSound : Type 0
+ProgramsSound = (depth : ℕ) (modules : Bool) (c : Code) (s : Stand Input) (t : Tree) (r : Stand Input) → program_by list_machine (readers list_machine depth) modules c s ≡ Ok (t, r)
+    → Spells t (tokens c) (input list_machine s) (input list_machine r)
