@@ -2,4 +2,5 @@ pub mod LineLemmas
 pub mod PartLemmas
 pub mod ReadLemmas
 pub mod RegExpLemmas
+pub mod TaggedLemmas
 pub mod TextLemmas

@@ -2,4 +2,5 @@ pub mod Laws
 pub mod Left
 pub mod RegExps
 pub mod RegExpTexts
+pub mod Tagged
 pub mod Templates
