@@ -1,5 +1,6 @@
 //! Laws of the definitions, by functions that do nothing.
 
+ghost use Rattle.ecma_spell_template.specs.Again.{TemplateAgain};
 ghost use Rattle.ecma_spell_template.specs.Laws.{TemplateIsRead};
 ghost use Rattle.ecma_spell_template.specs.RegExps.{RegExpIsRead};
 ghost use Rattle.ecma_spell_template.specs.Tagged.{TaggedIsRead};
@@ -18,4 +19,10 @@ pub fn reg_exp_is_read()
 /// it has.
 pub fn tagged_is_read()
     ensures { TaggedIsRead }
+{}
+
+/// Law: what is written of a piece of an untagged template that stands as it was read is written, in any
+/// style, as that piece is.
+pub fn template_again()
+    ensures { TemplateAgain }
 {}
