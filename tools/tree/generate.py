@@ -5,17 +5,22 @@ instead. `rt fmt` in each crate lays them out."""
 import sys
 from pathlib import Path
 
+import build
 import nesting
 import node_types
 import program
 import spec_tree
+import visit
+import visit_mut
 from table import HERE, Table, prune
 
 
 def main():
     root = Path(sys.argv[1]) if len(sys.argv) > 1 else HERE.parent.parent
     table = Table()
-    written = {**spec_tree.files(table), **program.files(table), **node_types.files(table), **nesting.files(table)}
+    written = {}
+    for part in (spec_tree, program, node_types, nesting, visit, visit_mut, build):
+        written.update(part.files(table))
     for name, text in written.items():
         path = root / name
         path.parent.mkdir(parents=True, exist_ok=True)

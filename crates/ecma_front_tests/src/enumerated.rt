@@ -1,11 +1,9 @@
 //! All texts up to a length over small alphabets: `run` answers for each what the plain program
 //! finds.
 
-use crate::over_memory::{minify_within, run_in_pieces};
-use crate::plain::grammar::scripts;
-use crate::plain::layout::layout;
+use crate::over_memory::{Ran, minify_within, run_in_pieces};
+use crate::plain::grammar::{Reading, scripts};
 use crate::plain::lexical::tilings;
-use crate::plain::nesting::nest_script;
 use ecma_front::Fault;
 use std::alloc::{AllocError, Global};
 use std::process::Abort;
@@ -20,13 +18,6 @@ static NO_LIMIT: [u32; 1] = [DEEPEST];
 /// The limits of the texts that are.
 static LIMITS: [u32; 8] = [1, 2, 3, 4, 5, 6, 7, DEEPEST];
 
-/// The script that spells a text: how deep it nests, and its layout.
-#[derive(Drop)]
-struct Spelled {
-    nesting: u32,
-    layout: String,
-}
-
 /// How many answers there were of each kind.
 #[derive(Clone, Copy, Debug, Default, PartialEq, Eq)]
 struct Tally {
@@ -37,7 +28,7 @@ struct Tally {
 
 /// The script that spells a text, if one does. No two ways to cut the text, and no two scripts, may
 /// be found.
-fn script_of(rt: &impl Abort, alloc: Global, text: &str) -> Result<Option<Spelled>, AllocError> {
+fn script_of(rt: &impl Abort, alloc: Global, text: &str) -> Result<Option<Reading>, AllocError> {
     let characters: Vec<char> = text.chars().collect(alloc)?;
     let tilings = tilings(alloc, characters.as_slice())?;
     assert!(rt; tilings.len() <= 1, "two lists of tokens are {text:?}");
@@ -45,13 +36,48 @@ fn script_of(rt: &impl Abort, alloc: Global, text: &str) -> Result<Option<Spelle
     for tokens in tilings.iter() {
         for script in scripts(alloc, tokens.as_slice())? {
             assert!(rt; found.is_none(), "two scripts spell {text:?}");
-            found = Some(Spelled {
-                nesting: nest_script(script.as_slice()),
-                layout: layout(alloc, script.as_slice())?,
-            });
+            found = Some(script);
         }
     }
     Ok(found)
+}
+
+/// What a run answered, in a word.
+fn answered(ran: &Ran) -> &'static str {
+    match ran.answer {
+        Ok(None) => "written",
+        Err(Fault::TooDeep) => "too deep",
+        Err(Fault::Syntax(_)) => "refused",
+        _ => "other",
+    }
+}
+
+/// What it is to answer.
+fn wanted(spelled: Option<&Reading>, limit: u32) -> &'static str {
+    match spelled {
+        Some(script) if script.nesting <= limit => "written",
+        Some(_) => "too deep",
+        None => "refused",
+    }
+}
+
+/// The layout of the script that spells a text, if one does.
+fn layout(spelled: Option<&Reading>) -> &[u8] {
+    match spelled {
+        Some(script) => script.written.as_bytes(),
+        None => &[],
+    }
+}
+
+impl Tally {
+    /// One more answer of this kind.
+    fn add(&mut self, answer: &str) {
+        match answer {
+            "written" => self.written = self.written.saturating_add(1),
+            "too deep" => self.too_deep = self.too_deep.saturating_add(1),
+            _ => self.refused = self.refused.saturating_add(1),
+        }
+    }
 }
 
 /// Runs over a text within a limit, and compares what it answers and writes with what was found.
@@ -60,37 +86,22 @@ fn compare(
     alloc: Global,
     text: &str,
     limit: u32,
-    spelled: Option<&Spelled>,
+    spelled: Option<&Reading>,
     tally: &mut Tally,
 ) -> Result<(), AllocError> {
     let ran = run_in_pieces(alloc, text.as_bytes(), (3, 2), minify_within(limit))?;
-    match spelled {
-        Some(script) if script.nesting <= limit => {
-            assert_eq!(rt; ran.answer, Ok(None), "{text:?} within {limit}");
-            assert_eq!(rt;
-                ran.writer.bytes(),
-                script.layout.as_bytes(),
-                "{text:?} within {limit}"
-            );
-            tally.written = tally.written.saturating_add(1);
-        }
-        Some(_) => {
-            assert_eq!(rt; ran.answer, Err(Fault::TooDeep), "{text:?} within {limit}");
-            assert_eq!(rt; ran.writer.calls(), 0, "{text:?} within {limit}");
-            tally.too_deep = tally.too_deep.saturating_add(1);
-        }
-        None => {
-            // what no script spells may nest past a low limit before its fault is reached
-            let is_refused = match ran.answer {
-                Err(Fault::Syntax(_)) => true,
-                Err(Fault::TooDeep) => limit < DEEPEST,
-                _ => false,
-            };
-            assert!(rt; is_refused, "{text:?} within {limit}");
-            assert_eq!(rt; ran.writer.calls(), 0, "{text:?} within {limit}");
-            tally.refused = tally.refused.saturating_add(1);
-        }
-    }
+    let want = wanted(spelled, limit);
+    let found = answered(&ran);
+    // what no script spells may nest past a low limit before its fault is reached
+    let is_early = want == "refused" && found == "too deep" && limit < DEEPEST;
+    assert!(rt; found == want || is_early, "{text:?} within {limit}");
+    let is_right = if want == "written" {
+        ran.writer.bytes() == layout(spelled)
+    } else {
+        ran.writer.calls() == 0
+    };
+    assert!(rt; is_right, "{text:?} within {limit}");
+    tally.add(want);
     Ok(())
 }
 

@@ -1,63 +1,53 @@
-//! What `run_kept` keeps: the bytes that were read, whatever it answers.
+//! What `run_kept` keeps where a reader or a writer fails, and where settings are refused.
 
+use crate::failing::word;
 use crate::over_memory::{ROOM, minify_within};
 use ecma_front::memory::{MemReader, MemWriter};
-use ecma_front::{Fault, run, run_kept};
+use ecma_front::{Fault, run_kept};
+use std::alloc::{AllocError, Global};
+use std::process::Abort;
 use std::test::Fail;
 
-/// Bytes that are written, and bytes of each fault of a text.
-static TEXTS: [&[u8]; 6] = [b"", b" a ; b ;", b"a b", b"'a", b"((((a))))", b"a;\xFF;a"];
-
-#[test]
-fn all_that_was_read_is_kept(rt: HostRuntime) -> Result<(), Fail> {
-    for bytes in TEXTS {
-        for piece in [1, 3, 64] {
-            let mut reader = MemReader::new(rt.alloc(), bytes, piece, None)?;
-            let mut writer = MemWriter::new(rt.alloc(), ROOM, 1, None)?;
-            let mut kept = Vec::new(rt.alloc());
-            let options = minify_within(6);
-            let answer = run_kept(rt.alloc(), &mut reader, &mut writer, options, &mut kept);
-            assert_eq!(rt; kept.as_slice(), bytes, "{bytes:?} in pieces {piece}");
-
-            let mut again = MemReader::new(rt.alloc(), bytes, piece, None)?;
-            let mut other = MemWriter::new(rt.alloc(), ROOM, 1, None)?;
-            let same = run(rt.alloc(), &mut again, &mut other, options);
-            assert_eq!(rt; answer, same, "{bytes:?} in pieces {piece}");
-            assert_eq!(rt;
-                writer.bytes(),
-                other.bytes(),
-                "{bytes:?} in pieces {piece}"
-            );
-        }
-    }
+/// What is kept of these bytes, with a reader and a writer that fail at these calls, is `kept`; and this was written.
+fn expect_kept(
+    rt: &impl Abort,
+    alloc: Global,
+    bytes: &[u8],
+    fails: (Option<u32>, Option<u32>),
+    kept: &[u8],
+    written: &[u8],
+) -> Result<(), AllocError> {
+    let (read_fails, write_fails) = fails;
+    let mut reader = MemReader::new(alloc, bytes, 2, read_fails)?;
+    let mut writer = MemWriter::new(alloc, ROOM, 1, write_fails)?;
+    let mut read = Vec::new(alloc);
+    let options = minify_within(256);
+    let answer = run_kept(alloc, &mut reader, &mut writer, options, &mut read);
+    let want = if read_fails.is_some() {
+        "read"
+    } else {
+        "write"
+    };
+    assert!(rt; word(&answer) == want, "{bytes:?}");
+    assert!(rt; read.as_slice() == kept, "{bytes:?}");
+    assert!(rt; writer.bytes() == written, "{bytes:?}");
     Ok(())
 }
 
 #[test]
 fn what_was_read_before_a_failure_is_kept(rt: HostRuntime) -> Result<(), Fail> {
     for (fail_at, want) in [(1, b"".as_slice()), (2, b"a;"), (3, b"a;b;"), (4, b"a;b;c")] {
-        let mut reader = MemReader::new(rt.alloc(), b"a;b;c", 2, Some(fail_at))?;
-        let mut writer = MemWriter::new(rt.alloc(), ROOM, 1, None)?;
-        let mut kept = Vec::new(rt.alloc());
-        let options = minify_within(256);
-        let answer = run_kept(rt.alloc(), &mut reader, &mut writer, options, &mut kept);
-        assert!(rt; matches!(answer, Err(Fault::Read(_))), "call {fail_at}");
-        assert_eq!(rt; kept.as_slice(), want, "call {fail_at}");
-        assert_eq!(rt; writer.calls(), 0, "call {fail_at}");
+        let fails = (Some(fail_at), None);
+        expect_kept(&rt, rt.alloc(), b"a;b;c", fails, want, b"")?;
     }
-    Ok(())
-}
-
-#[test]
-fn all_is_kept_where_the_writer_fails(rt: HostRuntime) -> Result<(), Fail> {
-    let mut reader = MemReader::new(rt.alloc(), b" a ; b ;", 3, None)?;
-    let mut writer = MemWriter::new(rt.alloc(), ROOM, 1, Some(2))?;
-    let mut kept = Vec::new(rt.alloc());
-    let options = minify_within(256);
-    let answer = run_kept(rt.alloc(), &mut reader, &mut writer, options, &mut kept);
-    assert!(rt; matches!(answer, Err(Fault::Write(_))));
-    assert_eq!(rt; kept.as_slice(), b" a ; b ;".as_slice());
-    assert_eq!(rt; writer.bytes(), b"a".as_slice());
+    expect_kept(
+        &rt,
+        rt.alloc(),
+        b" a ; b ;",
+        (None, Some(2)),
+        b" a ; b ;",
+        b"a",
+    )?;
     Ok(())
 }
 
@@ -68,8 +58,7 @@ fn nothing_is_kept_where_settings_are_refused(rt: HostRuntime) -> Result<(), Fai
     let mut kept = Vec::new(rt.alloc());
     let options = minify_within(0);
     let answer = run_kept(rt.alloc(), &mut reader, &mut writer, options, &mut kept);
-    assert_eq!(rt; answer, Err(Fault::Options));
-    assert!(rt; kept.is_empty());
-    assert_eq!(rt; reader.calls(), 0);
+    assert!(rt; answer == Err(Fault::Options));
+    assert!(rt; kept.is_empty() && reader.calls() == 0);
     Ok(())
 }

@@ -11,14 +11,8 @@ mod failing;
 #[cfg(test)]
 mod kept;
 #[cfg(test)]
-mod nesting;
-#[cfg(test)]
 mod over_memory;
 #[cfg(test)]
 mod plain;
 #[cfg(test)]
-mod rows;
-#[cfg(test)]
 mod settings;
-#[cfg(test)]
-mod unicode;

@@ -2,6 +2,5 @@
 //! follows the definitions and not the program: slow, and plain.
 
 pub(crate) mod grammar;
-pub(crate) mod layout;
 pub(crate) mod lexical;
-pub(crate) mod nesting;
+pub(crate) mod spelling;

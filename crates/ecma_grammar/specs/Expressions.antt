@@ -2,12 +2,12 @@
 use Rattle.std.specs.Prelude.{◌≡◌, ◌≤◌, ◌<◌, ◌⊎◌, ℕ, Bool, true, false, not, ◌&&◌, ◌||◌, ◌==◌, List, [], ◌∷◌, Option, Some, None}
 use Rattle.ecma_number.specs.Numbers.{SpecNumber}
 use Rattle.ecma_token.specs.declared.place.Span.{Span}
-use Rattle.ecma_token.specs.Kinds.{hash_kind, dot_kind, dot_dot_dot_kind, bang_kind, left_paren_kind, right_paren_kind, left_bracket_kind, right_bracket_kind, left_brace_kind, right_brace_kind, back_quote_kind, template_kind, colon_kind, dollar_brace_kind, question_mark_kind, plus_plus_kind, minus_minus_kind, tilde_kind, str_kind, regex_kind, num_kind, big_int_kind, add_kind, sub_kind, mul_kind, await_kind, new_kind, super_kind, import_kind, yield_kind, typeof_kind, void_kind, delete_kind, meta_kind, target_kind}
+use Rattle.ecma_token.specs.Kinds.{hash_kind, dot_kind, dot_dot_dot_kind, bang_kind, left_paren_kind, right_paren_kind, left_bracket_kind, right_bracket_kind, left_brace_kind, right_brace_kind, back_quote_kind, template_kind, colon_kind, dollar_brace_kind, question_mark_kind, plus_plus_kind, minus_minus_kind, tilde_kind, str_kind, regex_kind, num_kind, big_int_kind, add_kind, sub_kind, mul_kind, assign_kind, await_kind, new_kind, super_kind, import_kind, yield_kind, typeof_kind, void_kind, delete_kind, meta_kind, target_kind}
 use Rattle.ecma_token.specs.Tokens.{Quoted, Piece, Pattern, Numeral, BigNumeral}
 use Rattle.ecma_syntax.specs.Input.{Input, Code, Takes, TakesWord, TakesAnyWord, TakesName, TakesIn, Spans, first_span, brk, lo, content, with_in, assigning, template_goal, template_end_goal}
 use Rattle.ecma_syntax.specs.Operators.{expression_level, assignment_level, coalesce_level, unary_level, new_level, call_level, member_level, is_assign_op, right_level, operates, goes_expr, other_end}
 use Rattle.ecma_syntax.specs.Shape.{level, fits_left, is_chain, is_target, is_element, is_spread, is_prop, is_key, is_word_name, is_private, is_cooked, is_tail}
-use Rattle.ecma_grammar.specs.Parts.{is_quasi, Part, By, IsEmpty, Expr, Sorted, Listed, CommaThen}
+use Rattle.ecma_grammar.specs.Parts.{is_ident, is_quasi, Part, By, IsEmpty, Expr, Sorted, Listed, CommaThen}
 
 -- ---- 13.2 primary expressions
 
@@ -56,6 +56,10 @@ ObjectLiteral c s ps ts r = (m : Input) × Takes c left_brace_kind ts m × Liste
 -- PropertyDefinition: a key and a value
 abbrev pub PropertyValue : Code → Span → Part → Part → Input → Input → Type 0
 PropertyValue c s k v ts r = (m : Input) × (n : Input) × Sorted is_key c k ts m × Takes c colon_kind m n × Expr assignment_level (with_in c) v n r × Spans s ts r
+
+-- CoverInitializedName: a name as its own key with an initialiser, which stands in no finished tree (13.2.5.1)
+abbrev pub CoverInitializedName : Code → Span → Part → Part → Input → Input → Type 0
+CoverInitializedName c s name e ts r = (m : Input) × (n : Input) × Sorted is_ident c name ts m × Takes c assign_kind m n × Expr assignment_level (with_in c) e n r × Spans s ts r
 
 -- `...` AssignmentExpression
 abbrev pub Spread : Code → Span → Part → Input → Input → Type 0

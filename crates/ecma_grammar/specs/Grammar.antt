@@ -1,12 +1,12 @@
 -- The grammar (ECMA-262, clauses 13 to 16): what each tree spells, a line a production. The productions stand in the modules of their families.
 use Rattle.std.specs.Prelude.{◌≡◌, true, false, if◌then◌else◌, List, [], ◌∷◌}
 use Rattle.ecma_token.specs.Kinds.{null_kind, true_kind, false_kind, break_kind, continue_kind, this_kind}
-use Rattle.ecma_tree.specs.Tree.{Tree, Trees, script, es_module, import_decl, export_decl, named_export, export_default_decl, export_default_expr, export_all, import_named_specifier, import_default_specifier, import_star_as_specifier, export_namespace_specifier, export_named_specifier, block_stmt, empty_stmt, debugger_stmt, with_stmt, return_stmt, labeled_stmt, break_stmt, continue_stmt, if_stmt, switch_stmt, switch_case, throw_stmt, try_stmt, catch_clause, while_stmt, do_while_stmt, for_stmt, for_in_stmt, for_of_stmt, expr_stmt, class_decl, fn_decl, var_decl, using_decl, var_declarator, function, param, class, constructor, class_method, private_method, class_prop, private_prop, static_block, auto_accessor, ident_name, computed_prop_name, private_name, this_expr, array_lit, object_lit, fn_expr, unary_expr, update_expr, bin_expr, assign_expr, member_expr, super_prop_expr, cond_expr, call_expr, new_expr, seq_expr, ident, tpl, tpl_element, tagged_tpl, arrow_expr, class_expr, yield_expr, meta_prop_expr, await_expr, paren_expr, opt_chain_expr, opt_call, super, import, expr_or_spread, spread_element, key_value_prop, getter_prop, setter_prop, method_prop, str_lit, bool_lit, null_lit, number_lit, big_int_lit, regex_lit, binding_ident, array_pat, rest_pat, object_pat, assign_pat, key_value_pat_prop, assign_pat_prop, expr_pat, list, absent, none, more}
+use Rattle.ecma_tree.specs.Tree.{Tree, Trees, script, es_module, import_decl, export_decl, named_export, export_default_decl, export_default_expr, export_all, import_named_specifier, import_default_specifier, import_star_as_specifier, export_namespace_specifier, export_named_specifier, block_stmt, empty_stmt, debugger_stmt, with_stmt, return_stmt, labeled_stmt, break_stmt, continue_stmt, if_stmt, switch_stmt, switch_case, throw_stmt, try_stmt, catch_clause, while_stmt, do_while_stmt, for_stmt, for_in_stmt, for_of_stmt, expr_stmt, class_decl, fn_decl, var_decl, using_decl, var_declarator, function, param, class, constructor, class_method, private_method, class_prop, private_prop, static_block, auto_accessor, ident_name, computed_prop_name, private_name, this_expr, array_lit, object_lit, fn_expr, unary_expr, update_expr, bin_expr, assign_expr, member_expr, super_prop_expr, cond_expr, call_expr, new_expr, seq_expr, ident, tpl, tpl_element, tagged_tpl, arrow_expr, class_expr, yield_expr, meta_prop_expr, await_expr, paren_expr, opt_chain_expr, opt_call, super, import, expr_or_spread, spread_element, key_value_prop, assign_prop, getter_prop, setter_prop, method_prop, str_lit, bool_lit, null_lit, number_lit, big_int_lit, regex_lit, binding_ident, array_pat, rest_pat, object_pat, assign_pat, key_value_pat_prop, assign_pat_prop, expr_pat, list, absent, none, more}
 use Rattle.ecma_syntax.specs.Input.{Input, Code}
 use Rattle.ecma_syntax.specs.Operators.{expression_level, assignment_level}
-use Rattle.ecma_syntax.specs.Shape.{is_private, is_item, function_parts, class_span, is_key, declarators_end}
+use Rattle.ecma_syntax.specs.Shape.{is_private, is_item, function_parts, class_span, is_key, declarators_end, is_clean}
 use Rattle.ecma_grammar.specs.Parts.{Part, part, is_module_item}
-use Rattle.ecma_grammar.specs.Expressions.{Keyword, Identifier, IdentifierName, PrivateIdentifier, StringLiteral, NumericLiteral, BigIntLiteral, RegularExpressionLiteral, Element, ArrayLiteral, ObjectLiteral, PropertyValue, Spread, Bracketed, Characters, TemplateLiteral, ParenthesizedExpression, AccessedName, Dotted, Member, SuperProperty, Call, SuperCall, ImportCall, NewWith, NewBare, ChainMember, ChainCall, TaggedTemplate, MetaProperty, Update, Unary, Await, Binary, Conditional, Assignment, Sequence, YieldBare, Yield}
+use Rattle.ecma_grammar.specs.Expressions.{Keyword, Identifier, IdentifierName, PrivateIdentifier, StringLiteral, NumericLiteral, BigIntLiteral, RegularExpressionLiteral, Element, ArrayLiteral, ObjectLiteral, PropertyValue, CoverInitializedName, Spread, Bracketed, Characters, TemplateLiteral, ParenthesizedExpression, AccessedName, Dotted, Member, SuperProperty, Call, SuperCall, ImportCall, NewWith, NewBare, ChainMember, ChainCall, TaggedTemplate, MetaProperty, Update, Unary, Await, Binary, Conditional, Assignment, Sequence, YieldBare, Yield}
 use Rattle.ecma_grammar.specs.Patterns.{ArrayPattern, ObjectPattern, Initialised, Rest, KeyedItem, NamedItem}
 use Rattle.ecma_grammar.specs.Functions.{Parameter, Function, FunctionDeclaration, FunctionExpression, ArrowBlock, ArrowExpression, ObjectMethod, Getter, Setter, ClassTail, ClassDeclaration, ClassExpression, Constructor, ClassMethod, Field, AutoAccessor, StaticBlock}
 use Rattle.ecma_grammar.specs.Statements.{Block, Empty, Debugger, Declarator, Variables, Using, ExpressionStatement, If, DoWhile, While, ForExpression, ForVariables, ForUsing, HeadVariables, HeadUsing, HeadTarget, ForIn, ForOf, OfTarget, Jump, Return, Throw, With, Labelled, Case, Switch, Catch, Try}
@@ -30,6 +30,7 @@ abbrev mutual
   Spells (array_lit s xs) c ts r = ArrayLiteral c s (parts xs) ts r
   Spells (object_lit s ps) c ts r = ObjectLiteral c s (parts ps) ts r
   Spells (key_value_prop s k v) c ts r = PropertyValue c s (part k (λ y. Spells k y)) (part v (λ y. Spells v y)) ts r
+  Spells (assign_prop s k e) c ts r = CoverInitializedName c s (part k (λ y. Spells k y)) (part e (λ y. Spells e y)) ts r
   Spells (spread_element s e) c ts r = Spread c s (part e (λ y. Spells e y)) ts r
   Spells (computed_prop_name s e) c ts r = Bracketed assignment_level c s (part e (λ y. Spells e y)) ts r
   Spells (tpl_element s t w u) c ts r = Characters c s t w u ts r
@@ -132,9 +133,13 @@ abbrev mutual
   Spells (export_default_expr s e) c ts r = DefaultExpression c s (part e (λ y. Spells e y)) ts r
   Spells (script s ss l) c ts r = Program is_item c s l (parts ss) ts r
   Spells (es_module s ss l) c ts r = Program is_module_item c s l (parts ss) ts r
-  -- anything else, as a cover's node or one that nothing could be read as, spells nothing
+  -- anything else, as a node that nothing could be read as, spells nothing
   Spells _ c ts r = ⊥
 
   pub parts : Trees → List Part
   parts none = []
   parts (more t ts) = (part t (λ y. Spells t y)) ∷ parts ts
+
+-- A finished tree spells the tokens: nothing of a cover is left in it.
+abbrev pub Derives : Tree → Code → Input → Input → Type 0
+Derives t c ts r = Spells t c ts r × (is_clean t ≡ true)

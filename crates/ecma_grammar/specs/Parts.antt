@@ -2,7 +2,7 @@
 use Rattle.std.specs.Prelude.{◌≡◌, ◌≤◌, ◌⊎◌, ℕ, Bool, true, false, ◌&&◌, ◌||◌, if◌then◌else◌, List, [], ◌∷◌}
 use Rattle.ecma_token.specs.Kinds.{comma_kind, semicolon_kind}
 use Rattle.ecma_tree.specs.Tree.{Tree, ident, tpl_element}
-use Rattle.ecma_syntax.specs.Input.{Input, Code, Takes, kind, in_list, turned_strict}
+use Rattle.ecma_syntax.specs.Input.{Input, Code, Takes, kind, in_list, assigning, turned_strict}
 use Rattle.ecma_syntax.specs.Operators.{pauses}
 use Rattle.ecma_syntax.specs.Shape.{level, is_absent, is_hole, is_rest, is_item, is_module_decl, is_use_strict, is_directive}
 
@@ -23,9 +23,9 @@ abbrev pub IsEmpty : List Part → Type 0
 IsEmpty [] = Unit {0}
 IsEmpty (x ∷ xs) = ⊥
 
--- an expression of a level, or of a tighter one
+-- an expression of a level, or of a tighter one: no pattern that binds reaches into it
 abbrev pub Expr : ℕ → Code → Part → Input → Input → Type 0
-Expr l c a ts r = (l ≤ level a.tree) × a.spelled c ts r
+Expr l c a ts r = (l ≤ level a.tree) × a.spelled (assigning c) ts r
 
 -- a part of a sort
 abbrev pub Sorted : (Tree → Bool) → Code → Part → Input → Input → Type 0

@@ -15,7 +15,7 @@ list_step (spot ∷ spots) settings = (Some spot, record { tokens = spots; setti
 
 -- The tokens come as they stand in the list, whatever the source is told.
 abbrev pub list_machine : Machine (List Spot)
-list_machine = record { step = λ s. list_step s.tokens s.settings; bound = λ s. length s.tokens }
+list_machine = record { step = λ s. list_step s.tokens s.settings; bound = λ spots. length spots }
 
 -- a list as a source; it is kept from its end
 abbrev pub list_source : TokensInput → Source (List Spot)

@@ -75,8 +75,8 @@ impl<'a, I: Tokens<'a> + Drop> Tokens<'a> for Capturing<'a, I> {
 
     fn next(&mut self) -> Result<Option<TokenAndSpan<'a>>, Error>
         ensures value { StepGives result (I.machine.step (I.state self.old.input)) (I.state self.new.input) }
-        ensures falls { IfOk result (λ t. MatchOption t (I.machine.bound (I.state self.new.input) ≤ I.machine.bound (I.state self.old.input))
-            (λ _. I.machine.bound (I.state self.new.input) < I.machine.bound (I.state self.old.input))) }
+        ensures falls { IfOk result (λ t. MatchOption t (I.machine.bound (I.state self.new.input).tokens ≤ I.machine.bound (I.state self.old.input).tokens)
+            (λ _. I.machine.bound (I.state self.new.input).tokens < I.machine.bound (I.state self.old.input).tokens)) }
         ensures told { SameTold (I.state self.old.input).settings (I.state self.new.input).settings }
         ensures captured { IfOk result (λ t. map shown_spot self.new.captured.items ≡ captured_with t (map shown_spot self.old.captured.items)) }
     {

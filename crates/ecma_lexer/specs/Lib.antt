@@ -2,3 +2,4 @@
 pub mod Lexer
 pub mod Order
 pub mod Stepping
+pub mod Machine

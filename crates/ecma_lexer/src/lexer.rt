@@ -29,6 +29,8 @@ impl<'a> Lexer<'a> {
     ghost use Rattle.ecma_lexing.specs.Steps.{IsStep};
     ghost use Rattle.ecma_token.specs.declared.error.SyntaxError.TheVariants.{Memory};
     ghost use Rattle.ecma_lexing.specs.States.{at_start_of};
+    ghost use Rattle.ecma_tokens.specs.Machine.{SameTold};
+    ghost use Rattle.ecma_tokens.specs.Settings.{settings_in};
 
     /// A lexer at the start of a text, which begins at this place, 1 or later.
     pub fn new(
@@ -70,6 +72,7 @@ impl<'a> Lexer<'a> {
         ensures step { Steps (IsStep (state_in self.old)) result (state_in self.new) }
         ensures full { is_full self.new ≡ is_err result }
         ensures stays_full { is_full self.old ≡ true → IsErr result }
+        ensures told { SameTold (settings_in self.old.settings) (settings_in self.new.settings) }
     {
         if self.full {
             return Err(out_of_memory());

@@ -1,11 +1,11 @@
 //! One step of a lexer.
-ghost use Rattle.std.specs.Prelude.{◌≡◌, ◌≢◌, ◌++◌, ◌<◌, ◌≤◌, Ok, Some, length, option_map, IfErr, IfOk, IfSome, IsUtf8, MatchBool, OnOk};
+ghost use Rattle.std.specs.Prelude.{◌≡◌, ◌≢◌, ◌++◌, ◌<◌, ◌≤◌, Ok, Some, length, option_map, IfErr, IfOk, IfSome, IsUtf8, MatchBool, OnErr, OnOk};
 ghost use Rattle.std.specs.Str.{chars};
 ghost use Rattle.ecma_token.specs.declared.error.SyntaxError.TheVariants.{Memory};
 ghost use Rattle.ecma_token.specs.TokenViews.{token_view};
 ghost use Rattle.ecma_lexeme.specs.Readings.{lexeme_view};
 ghost use Rattle.ecma_tokens.specs.Contexts.{outward};
-ghost use Rattle.ecma_tokens.specs.Machine.{shown_spot};
+ghost use Rattle.ecma_tokens.specs.Machine.{SameTold, shown_spot};
 ghost use Rattle.ecma_tokens.specs.Settings.{settings_in};
 ghost use Rattle.ecma_lexing.specs.States as spec;
 ghost use Rattle.ecma_lexing.specs.Steps as steps;
@@ -105,9 +105,10 @@ fn part(end: u32, from: &str, rest: &str) -> Span
 
 /// Records what strict code has against the spelling of a token.
 fn judge(settings: &mut Settings, legacy: Option<SyntaxError>, span: Span) -> Result<(), AllocError>
-    ensures { OnOk result (settings_in settings.new ≡ record (settings_in settings.old) {
+    ensures recorded { OnOk result (settings_in settings.new ≡ record (settings_in settings.old) {
       recorded = (settings_in settings.old).recorded ++ spec.strict_faults settings.old.ctx span legacy;
     }) }
+    ensures unchanged { OnErr result (settings_in settings.new ≡ settings_in settings.old) }
 {
     match legacy {
         Some(kind) if settings.ctx.strict && !settings.ctx.ignore_error => {
@@ -166,7 +167,8 @@ impl<'a> Lexer<'a> {
     ) -> Result<Option<TokenAndSpan<'a>>, Error>
         requires order { length lexeme.rest.now ≤ length from.now }
         requires within { length from.now < self.old.end }
-        ensures { Steps (λ out new. IsTaken line_break (chars from.now) (lexeme_view lexeme.entry) (chars lexeme.entry.rest.now) (state_in self.old) out new) result (state_in self.new) }
+        ensures step { Steps (λ out new. IsTaken line_break (chars from.now) (lexeme_view lexeme.entry) (chars lexeme.entry.rest.now) (state_in self.old) out new) result (state_in self.new) }
+        ensures told { SameTold (settings_in self.old.settings) (settings_in self.new.settings) }
     {
         let Lexeme {
             token,
@@ -196,6 +198,7 @@ impl<'a> Lexer<'a> {
     fn fail(&mut self, error: Error, line_break: bool, lo: BytePos) -> TokenAndSpan<'a>
         ensures spot { shown_spot result ≡ spec.faulty_from self.old.end line_break lo.0 }
         ensures state { state_in self.new ≡ spec.stopped (state_in self.old) line_break }
+        ensures told { SameTold (settings_in self.old.settings) (settings_in self.new.settings) }
     {
         self.rest = "";
         self.last = Last::Fault;
@@ -218,7 +221,8 @@ impl<'a> Lexer<'a> {
         from: &'a str,
     ) -> Result<Option<TokenAndSpan<'a>>, Error>
         requires within { length from.now < self.old.end }
-        ensures { Steps (steps.IsRead goal line_break (chars from.now) (state_in self.old)) result (state_in self.new) }
+        ensures step { Steps (steps.IsRead goal line_break (chars from.now) (state_in self.old)) result (state_in self.new) }
+        ensures told { SameTold (settings_in self.old.settings) (settings_in self.new.settings) }
     {
         if ends(goal, from) {
             self.rest = "";
@@ -235,7 +239,8 @@ impl<'a> Lexer<'a> {
 
     /// Passes trivia, and reads what stands behind it.
     fn plain(&mut self) -> Result<Option<TokenAndSpan<'a>>, Error>
-        ensures { Steps (steps.IsPlain (state_in self.old)) result (state_in self.new) }
+        ensures step { Steps (steps.IsPlain (state_in self.old)) result (state_in self.new) }
+        ensures told { SameTold (settings_in self.old.settings) (settings_in self.new.settings) }
     {
         let goal = goal_of(self.settings.ctx);
         match skip_trivia(self.end, goal, self.last.is_start(), self.rest) {
@@ -246,7 +251,8 @@ impl<'a> Lexer<'a> {
 
     /// Reads what stands outside of templates: at the start of a text a hashbang first.
     fn outside(&mut self) -> Result<Option<TokenAndSpan<'a>>, Error>
-        ensures { Steps (steps.IsOutside (state_in self.old).tokens.last (state_in self.old)) result (state_in self.new) }
+        ensures step { Steps (steps.IsOutside (state_in self.old).tokens.last (state_in self.old)) result (state_in self.new) }
+        ensures told { SameTold (settings_in self.old.settings) (settings_in self.new.settings) }
     {
         if self.last.is_start() {
             if let Some((own, rest)) = hashbang(self.rest) {
@@ -258,7 +264,8 @@ impl<'a> Lexer<'a> {
 
     /// One step.
     pub(crate) fn advance(&mut self) -> Result<Option<TokenAndSpan<'a>>, Error>
-        ensures { Steps (steps.IsStep (state_in self.old)) result (state_in self.new) }
+        ensures step { Steps (steps.IsStep (state_in self.old)) result (state_in self.new) }
+        ensures told { SameTold (settings_in self.old.settings) (settings_in self.new.settings) }
     {
         if let Last::Fault = self.last {
             return Ok(None);

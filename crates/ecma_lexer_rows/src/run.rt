@@ -4,7 +4,7 @@ use crate::told::{failed, tell, tell_end, tell_faults};
 use ecma_lexer::Lexer;
 use ecma_rows::{Answer, Row};
 use ecma_token::{BytePos, Context, Error, EsVersion, Span, Syntax, SyntaxError};
-use ecma_tokens::{TokenContext, TokenContexts};
+use ecma_tokens::{TokenContext, TokenContexts, Tokens};
 use std::alloc::Global;
 
 /// The code round the text, by the words of the setting.

@@ -3,6 +3,7 @@ pub mod CodeLemmas
 pub mod EscapeLemmas
 pub mod NumberLemmas
 pub mod NumeralLemmas
+pub mod NumberOrNone
 pub mod PlaceLemmas
 pub mod RawLemmas
 pub mod RunLemmas

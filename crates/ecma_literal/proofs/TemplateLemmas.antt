@@ -112,6 +112,9 @@ one_part (Bad c) (Escaped e) text r s h i = absurd (not_both e c text s r i h)
 one_part (Bad c) (Bad d) text r s h i =
     record { units = refl; bad = refl; rest = same_tail c d r s (same_tail 92 92 (c ∷ r) (d ∷ s) (sym h.0 ∙ i.0)) }
 
+pub one_rest : (p q : Part) (text r s : List ℕ) → Stands p text r → Stands q text s → r ≡ s
+one_rest p q text r s h i = (one_part p q text r s h i).rest
+
 -- ---- the end of a piece
 
 is_end : ℕ → Bool
@@ -137,7 +140,7 @@ none_at_brace Break text r s e h = false≢true (sym (ap (begins is_return) e) �
 none_at_brace (Escaped x) text r s e h = false≢true (sym (ap (begins is_backslash) e) ∙ escaped_first x text r h)
 none_at_brace (Bad c) text r s e h = false≢true (sym (ap (begins is_backslash) e) ∙ bad_first c text r h)
 
-none_at_end : (p : Part) (ending : Ending) (text r s : List ℕ) → Ends ending text s → Stands p text r → ⊥
+pub none_at_end : (p : Part) (ending : Ending) (text r s : List ℕ) → Ends ending text s → Stands p text r → ⊥
 none_at_end p BackQuote text r s e h = none_at_quote p text r s e h
 none_at_end p Substitution text r s e h = none_at_brace p text r s e h
 

@@ -1,6 +1,6 @@
-mod Texts
-mod Shapes
-mod Rows
+pub mod Texts
+pub mod Shapes
+pub mod Rows
 mod FactsPrimaries
 mod FactsObjects
 mod FactsTemplates

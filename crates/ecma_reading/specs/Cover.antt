@@ -1,20 +1,15 @@
 -- Expressions refined to patterns (ECMA-262, 13.15.5 and 15.3.1): a cover is read as an expression first.
-use Rattle.std.specs.Prelude.{ℕ, ◌+◌, Bool, true, false, not, ◌&&◌, ◌||◌, ◌==◌, if◌then◌else◌, List, [], ◌∷◌, Some, None, Result, Ok}
+use Rattle.std.specs.Prelude.{ℕ, Bool, true, false, not, ◌&&◌, ◌||◌, ◌==◌, if◌then◌else◌, List, [], ◌∷◌, Some, None, Result, Ok}
 use Rattle.ecma_token.specs.declared.place.Span.{Span}
 use Rattle.ecma_token.specs.Kinds.{assign_kind}
 use Rattle.ecma_tree.specs.Tree.{Tree, Trees, none, more, array_lit, object_lit, assign_expr, ident, member_expr, super_prop_expr, paren_expr, expr_or_spread, spread_element, key_value_prop, assign_prop, binding_ident, array_pat, object_pat, assign_pat, rest_pat, key_value_pat_prop, assign_pat_prop, expr_pat, hole, absent}
-use Rattle.ecma_tree.specs.Folds.{fold}
-use Rattle.ecma_syntax.specs.Input.{span}
+use Rattle.ecma_syntax.specs.Input.{dots_at}
 use Rattle.ecma_syntax.specs.Shape.{is_simple, is_target_expr, is_structured}
 use Rattle.ecma_reading.specs.Source.{Fault, unexpected, ◌>>=◌}
 
 abbrev pub has : ℕ → List ℕ → Bool
 has n [] = false
 has n (x ∷ xs) = (x == n) || has n xs
-
--- the three bytes of the dots at a start
-abbrev pub dots_at : Span → Span
-dots_at s = span s.lo.0 (s.lo.0 + 3)
 
 -- whether a pattern that assigns has names alone, so that it binds as well
 abbrev mutual
@@ -45,20 +40,31 @@ initialised binds s p e = if_binds binds p >>= λ q. Ok (assign_pat s q e)
 
 abbrev pub rest_of : Span → Tree → Result Tree Fault
 rest_of s (assign_pat t p e) = unexpected
-rest_of s p = Ok (rest_pat s (dots_at s) p)
+rest_of s p = Ok (rest_pat s (dots_at s.lo.0) p)
 
 abbrev pub is_rest_item : Tree → Bool
 is_rest_item (expr_or_spread s (Some d) e) = true
 is_rest_item (spread_element s e) = true
 is_rest_item _ = false
 
+-- a property that is a name alone is its own key
+abbrev pub as_prop : Bool → Tree → Result Tree Fault → Result Tree Fault
+as_prop true (ident s n) p = Ok (assign_pat_prop s (binding_ident s (ident s n)) absent)
+as_prop _ x p = p
+
+-- whether a rest stands last
+abbrev pub last_rests : List Tree → Bool
+last_rests [] = false
+last_rests (x ∷ []) = is_rest_item x
+last_rests (x ∷ (y ∷ ys)) = last_rests (y ∷ ys)
+
 -- `commas` has the starts of the arrays and objects in which a comma follows a last spread.
 abbrev mutual
   -- an item: what binds or is assigned to, with an initialiser or without; an element; a property
   pub to_item : Bool → List ℕ → Tree → Result Tree Fault
   to_item binds commas (ident s n) = Ok (binding_ident s (ident s n))
-  to_item binds commas (array_lit s xs) = if has s.lo.0 commas then unexpected else (to_items binds commas xs >>= λ ps. Ok (array_pat s ps))
-  to_item binds commas (object_lit s xs) = if has s.lo.0 commas then unexpected else (to_props binds commas xs >>= λ ps. Ok (object_pat s ps))
+  to_item binds commas (array_lit s xs) = if has s.lo.0 commas then unexpected else (to_items false binds commas xs >>= λ ps. Ok (array_pat s ps))
+  to_item binds commas (object_lit s xs) = if has s.lo.0 commas then unexpected else (to_items true binds commas xs >>= λ ps. Ok (object_pat s ps))
   to_item binds commas (assign_expr s op p e) = if op == assign_kind then initialised binds s p e else unexpected
   to_item binds commas (member_expr s o k) = if binds then unexpected else Ok (expr_pat (member_expr s o k))
   to_item binds commas (super_prop_expr s o k) = if binds then unexpected else Ok (expr_pat (super_prop_expr s o k))
@@ -71,18 +77,11 @@ abbrev mutual
   to_item binds commas hole = Ok hole
   to_item binds commas _ = unexpected
 
-  -- the items of an array, of which a rest stands last
-  pub to_items : Bool → List ℕ → Trees → Result Trees Fault
-  to_items binds commas none = Ok none
-  to_items binds commas (more x none) = to_item binds commas x >>= λ p. Ok (more p none)
-  to_items binds commas (more x (more y ys)) = if is_rest_item x then unexpected else (to_item binds commas x >>= λ p. to_items binds commas (more y ys) >>= λ ps. Ok (more p ps))
-
-  -- the properties of an object, where a name alone is its own key
-  pub to_props : Bool → List ℕ → Trees → Result Trees Fault
-  to_props binds commas none = Ok none
-  to_props binds commas (more (ident s n) ps) = to_props binds commas ps >>= λ qs. Ok (more (assign_pat_prop s (binding_ident s (ident s n)) absent) qs)
-  to_props binds commas (more x none) = to_item binds commas x >>= λ p. Ok (more p none)
-  to_props binds commas (more x (more y ys)) = if is_rest_item x then unexpected else (to_item binds commas x >>= λ p. to_props binds commas (more y ys) >>= λ ps. Ok (more p ps))
+  -- the items of an array, or the properties of an object, of which a rest stands last
+  pub to_items : Bool → Bool → List ℕ → Trees → Result Trees Fault
+  to_items props binds commas none = Ok none
+  to_items props binds commas (more x none) = as_prop props x (to_item binds commas x) >>= λ p. Ok (more p none)
+  to_items props binds commas (more x (more y ys)) = if is_rest_item x then unexpected else (as_prop props x (to_item binds commas x) >>= λ p. to_items props binds commas (more y ys) >>= λ ps. Ok (more p ps))
 
 -- the target of an assignment: a simple one, or with `=` a pattern
 abbrev pub to_target : ℕ → List ℕ → Tree → Result Tree Fault
@@ -95,19 +94,3 @@ to_target op commas t = if is_target_expr t && is_simple t then Ok t else unexpe
 abbrev pub to_head : List ℕ → Tree → Result Tree Fault
 to_head commas (assign_expr s op p e) = unexpected
 to_head commas t = to_item false commas t
-
--- Whether nothing of a cover is left: no property with an initialiser.
-abbrev pub all_true : List Bool → Bool
-all_true [] = true
-all_true (b ∷ bs) = b && all_true bs
-
-abbrev pub all_clean : List (List Bool) → Bool
-all_clean [] = true
-all_clean (bs ∷ kids) = all_true bs && all_clean kids
-
-abbrev pub clean_step : Tree → List (List Bool) → Bool
-clean_step (assign_prop s k e) kids = false
-clean_step t kids = all_clean kids
-
-unfoldable pub is_clean : Tree → Bool
-is_clean t = fold clean_step t

@@ -1,31 +1,36 @@
 -- Reading expressions (ECMA-262, clause 13): a prefix, then one loop over infix and postfix operators.
 use Rattle.std.specs.Prelude.{ℕ, Bool, true, false, not, ◌&&◌, ◌||◌, ◌==◌, nat_le, nat_lt, if◌then◌else◌, List, [], ◌∷◌, ◌++◌, Option, Some, None, Result, Ok}
 use Rattle.ecma_token.specs.declared.place.Span.{Span}
-use Rattle.ecma_token.specs.Kinds.{arrow_kind, hash_kind, dot_kind, dot_dot_dot_kind, left_paren_kind, right_paren_kind, left_bracket_kind, right_bracket_kind, left_brace_kind, right_brace_kind, comma_kind, back_quote_kind, template_kind, colon_kind, dollar_brace_kind, question_mark_kind, regex_kind, mul_kind, assign_kind, null_kind, true_kind, false_kind, await_kind, function_kind, class_kind, new_kind, this_kind, super_kind, import_kind, yield_kind, in_kind, add_kind, sub_kind, bang_kind, tilde_kind, typeof_kind, void_kind, delete_kind, plus_plus_kind, minus_minus_kind, async_kind, meta_kind, target_kind, get_kind, set_kind, semicolon_kind}
+use Rattle.ecma_token.specs.Kinds.{arrow_kind, hash_kind, dot_kind, dot_dot_dot_kind, left_paren_kind, right_paren_kind, left_bracket_kind, right_bracket_kind, left_brace_kind, right_brace_kind, comma_kind, back_quote_kind, template_kind, colon_kind, dollar_brace_kind, question_mark_kind, str_kind, num_kind, big_int_kind, regex_kind, mul_kind, assign_kind, null_kind, true_kind, false_kind, await_kind, function_kind, class_kind, new_kind, this_kind, super_kind, import_kind, yield_kind, in_kind, add_kind, sub_kind, bang_kind, tilde_kind, typeof_kind, void_kind, delete_kind, plus_plus_kind, minus_minus_kind, async_kind, meta_kind, target_kind, get_kind, set_kind, semicolon_kind}
 use Rattle.ecma_token.specs.Tokens.{Content, Quoted, Piece, Pattern, Numeral, BigNumeral}
 use Rattle.ecma_tree.specs.Tree.{Tree, none, more, pack, unpack, function, ident_name, computed_prop_name, private_name, this_expr, array_lit, object_lit, fn_expr, unary_expr, update_expr, bin_expr, assign_expr, member_expr, super_prop_expr, cond_expr, call_expr, new_expr, seq_expr, ident, tpl, tpl_element, tagged_tpl, arrow_expr, class_expr, yield_expr, meta_prop_expr, await_expr, paren_expr, opt_chain_expr, opt_call, super, import, expr_or_spread, spread_element, key_value_prop, assign_prop, getter_prop, setter_prop, method_prop, str_lit, bool_lit, null_lit, number_lit, big_int_lit, regex_lit, binding_ident, assign_pat, rest_pat, param, absent, hole, list}
 use Rattle.ecma_tree.specs.Places.{place_of}
-use Rattle.ecma_syntax.specs.Input.{Code, kind, kind2, brk, brk2, lo, hi, text, content, span, first_span, is_word, has_in, with_in, by, in_body, in_arrow, turned_strict, in_list}
+use Rattle.ecma_syntax.specs.Input.{Code, kind, kind2, brk, brk2, lo, hi, dots_at, text, content, span, first_span, is_word, has_in, with_in, by, in_body, in_arrow, turned_strict, in_list}
 use Rattle.ecma_syntax.specs.Operators.{expression_level, assignment_level, coalesce_level, unary_level, new_level, call_level, member_level, binary_level, right_level, is_assign_op, operates, goes_expr, between, starts_key, other_end}
 use Rattle.ecma_syntax.specs.Shape.{level, ends, fits_left, is_chain, is_cooked, is_spread}
 use Rattle.ecma_reading.specs.Source.{Fault, unexpected, ◌>>=◌, Machine, Stand, Read, input, past, operand, bound, spanned, at, eat, eat_word, is_name, name, any_word, Step, go_on, finished, iterate, Inner}
-use Rattle.ecma_reading.specs.Cover.{to_items, to_target, dots_at}
+use Rattle.ecma_reading.specs.Cover.{to_items, last_rests, to_target}
 
 -- is a prefix operator (13.5)
 abbrev pub is_unary : ℕ → Bool
 is_unary k = (k == sub_kind) || ((k == add_kind) || ((k == bang_kind) || ((k == tilde_kind) || ((k == typeof_kind) || ((k == void_kind) || (k == delete_kind))))))
 
--- what a token holds, as a literal
-abbrev pub literal : Content → Span → Option Tree
-literal (Quoted units raw) s = Some (str_lit s units (Some raw))
-literal (Numeral value raw) s = Some (number_lit s value (Some raw))
-literal (BigNumeral radix digits raw) s = Some (big_int_lit s radix digits (Some raw))
-literal (Pattern body flags) s = Some (regex_lit s body flags)
-literal _ s = None
+-- what a token holds, as a literal of its kind
+abbrev pub only_kind : Bool → Tree → Option Tree
+only_kind b t = if b then Some t else None
 
-abbrev pub last_place : Tree → List Tree → Span
-last_place t [] = place_of t
-last_place t (u ∷ us) = last_place u us
+abbrev pub literal : ℕ → Content → Span → Option Tree
+literal k (Quoted units raw) s = only_kind (k == str_kind) (str_lit s units (Some raw))
+literal k (Numeral value raw) s = only_kind (k == num_kind) (number_lit s value (Some raw))
+literal k (BigNumeral radix digits raw) s = only_kind (k == big_int_kind) (big_int_lit s radix digits (Some raw))
+literal k (Pattern body flags) s = only_kind (k == regex_kind) (regex_lit s body flags)
+literal k _ s = None
+
+-- where the last of a list of elements ends
+abbrev pub last_end : List Tree → ℕ
+last_end [] = 0
+last_end (x ∷ []) = (place_of x).hi.0
+last_end (x ∷ (y ∷ ys)) = last_end (y ∷ ys)
 
 -- a list of expressions as the elements of a call or as a sequence
 abbrev pub joined : List Tree → Span → Tree
@@ -37,9 +42,6 @@ abbrev pub extended : Tree → Tree → Span → Tree
 extended (seq_expr s xs) t n = seq_expr n (pack (unpack xs ++ t ∷ []))
 extended u t n = seq_expr n (more u (more t none))
 
-abbrev pub hi_of_span : Span → ℕ
-hi_of_span s = s.hi.0
-
 -- an element without dots, as the expression that it is
 abbrev pub plain_element : Tree → Option Tree
 plain_element (expr_or_spread s None e) = Some e
@@ -48,16 +50,6 @@ plain_element _ = None
 abbrev pub plain_elements : List Tree → Option (List Tree)
 plain_elements [] = Some []
 plain_elements (x ∷ xs) = elim (plain_element x) [ None ↦ None | Some e ↦ elim (plain_elements xs) [ None ↦ None | Some es ↦ Some (e ∷ es) ] ]
-
-abbrev pub last_spreads : List Tree → Bool
-last_spreads [] = false
-last_spreads (x ∷ []) = is_spread x
-last_spreads (x ∷ (y ∷ ys)) = last_spreads (y ∷ ys)
-
--- a name that a shorthand property or a bare parameter is
-abbrev pub key_text : Tree → Option (List ℕ)
-key_text (ident_name s n) = Some n
-key_text _ = None
 
 -- what a list of elements and the comma after it make
 pub record Elements : Type 0 where
@@ -79,7 +71,7 @@ module _ {S : Type 0} (m : Machine S) (inner : Inner S) where
   first s = first_span (input m s)
 
   unfoldable pub literal_by : Read S Tree
-  literal_by s = elim (literal (content (input m s)) (first s)) [ None ↦ unexpected | Some t ↦ Ok (t, past m s) ]
+  literal_by s = elim (literal (kind (input m s)) (content (input m s)) (first s)) [ None ↦ unexpected | Some t ↦ Ok (t, past m s) ]
 
   -- an element: after dots where it is spread
   unfoldable pub element_by : Code → Read S Tree
@@ -105,13 +97,12 @@ module _ {S : Type 0} (m : Machine S) (inner : Inner S) where
 
   -- the start of a literal in which a comma follows a last spread
   abbrev pub noted : Bool → ℕ → Stand S → Stand S
-  noted true n s = record { source = s.source; commas = n ∷ s.commas }
-  noted false n s = s
+  noted b n s = record { source = s.source; commas = if b then n ∷ s.commas else s.commas }
 
   -- after `[`
   unfoldable pub array_by : Code → Read S Tree
   array_by c s = elements_by c true right_bracket_kind (past m s) >>= λ xs.
-      Ok (array_lit (spanned m s xs.1) (pack xs.0.items), noted (xs.0.comma && last_spreads xs.0.items) (lo (input m s)) xs.1)
+      Ok (array_lit (spanned m s xs.1) (pack xs.0.items), noted (xs.0.comma && last_rests xs.0.items) (lo (input m s)) xs.1)
 
   -- ---- keys and properties
 
@@ -131,7 +122,7 @@ module _ {S : Type 0} (m : Machine S) (inner : Inner S) where
   -- parameters and body, of a method or of what follows `function`; `whole` is where the whole began
   unfoldable pub parameter_by : Code → Read S Tree
   parameter_by c s =
-      if at m dot_dot_dot_kind s then (inner.pat (with_in c) (past m s) >>= λ p. Ok (param (spanned m s p.1) none (rest_pat (spanned m s p.1) (dots_at (first s)) p.0), p.1))
+      if at m dot_dot_dot_kind s then (inner.pat (with_in c) (past m s) >>= λ p. Ok (param (spanned m s p.1) none (rest_pat (spanned m s p.1) (dots_at (lo (input m s))) p.0), p.1))
       else (inner.pat (with_in c) s >>= λ p.
       if at m assign_kind p.1 then (inner.expr (with_in c) assignment_level (past m p.1) >>= λ e. Ok (param (spanned m s e.1) none (assign_pat (spanned m s e.1) p.0 e.0), e.1))
       else Ok (param (spanned m s p.1) none p.0, p.1))
@@ -208,14 +199,9 @@ module _ {S : Type 0} (m : Machine S) (inner : Inner S) where
       if at m right_brace_kind s then Ok (finished xs, past m s)
       else (prop_by c s >>= λ p. after_element right_brace_kind (xs.items ++ p.0 ∷ []) p.1)
 
-  abbrev pub last_spread_prop : List Tree → Bool
-  last_spread_prop [] = false
-  last_spread_prop (spread_element s e ∷ []) = true
-  last_spread_prop (x ∷ xs) = last_spread_prop xs
-
   unfoldable pub object_by : Code → Read S Tree
   object_by c s = iterate (bound m) (prop_step c) no_elements (past m s) >>= λ ps.
-      Ok (object_lit (spanned m s ps.1) (pack ps.0.items), noted (ps.0.comma && last_spread_prop ps.0.items) (lo (input m s)) ps.1)
+      Ok (object_lit (spanned m s ps.1) (pack ps.0.items), noted (ps.0.comma && last_rests ps.0.items) (lo (input m s)) ps.1)
 
   -- ---- templates
 
@@ -249,7 +235,7 @@ module _ {S : Type 0} (m : Machine S) (inner : Inner S) where
 
   -- the elements of a parenthesis as parameters
   unfoldable pub params_of : List ℕ → Elements → Result (List Tree) Fault
-  params_of commas xs = if xs.comma && last_spreads xs.items then unexpected else (to_items true commas (pack xs.items) >>= λ ps. Ok (unpack ps))
+  params_of commas xs = if xs.comma && last_rests xs.items then unexpected else (to_items false true commas (pack xs.items) >>= λ ps. Ok (unpack ps))
 
   -- after the `)` of a group: an arrow, or an expression in parentheses
   unfoldable pub group_end : Code → Stand S → Stand S → Elements → Read S Tree
@@ -258,7 +244,7 @@ module _ {S : Type 0} (m : Machine S) (inner : Inner S) where
       else (if xs.comma then unexpected else elim (plain_elements xs.items) [
         | None ↦ unexpected
         | Some [] ↦ unexpected
-        | Some (e ∷ es) ↦ Ok (paren_expr (spanned m start s) (joined (e ∷ es) (span (lo (input m open_)) (hi_of_span (last_place e es)))), s)
+        | Some (e ∷ es) ↦ Ok (paren_expr (spanned m start s) (joined (e ∷ es) (span (lo (input m open_)) (last_end xs.items))), s)
       ])
 
   unfoldable pub group_by : Code → Read S Tree

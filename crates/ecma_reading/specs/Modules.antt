@@ -121,10 +121,10 @@ module _ {S : Type 0} (m : Machine S) (inner : Inner S) where
   item_by modules c s =
       if starts_import s then (if modules then import_decl_by c s else unexpected)
       else (if at m export_kind s then (if modules then export_by c s else unexpected)
-      else inner.stmt (in_list c) s)
+      else inner.stmt c s)
 
   unfoldable pub program_item : Bool → Body → Read S (Step Body)
-  program_item modules b s = item_by modules b.code s >>= λ t.
+  program_item modules b s = item_by modules (in_list b.code) s >>= λ t.
       if b.starts && is_use_strict t.0 then Ok (go_on (record { items = b.items ++ t.0 ∷ []; code = turned_strict b.code; starts = true }), turned m (turned_strict b.code).context t.1)
       else Ok (go_on (record { items = b.items ++ t.0 ∷ []; code = b.code; starts = b.starts && is_directive t.0 }), t.1)
 
@@ -144,4 +144,4 @@ module _ {S : Type 0} (m : Machine S) (inner : Inner S) where
 
   unfoldable pub program_by : Bool → Code → Read S Tree
   program_by modules c s =
-      if at m shebang_kind s then program_rest modules c s (line_of (content (input m s))) (past m s) else program_rest modules c s None s
+      if at m shebang_kind s then elim (line_of (content (input m s))) [ None ↦ unexpected | Some l ↦ program_rest modules c s (Some l) (past m s) ] else program_rest modules c s None s

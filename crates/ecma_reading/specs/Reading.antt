@@ -6,7 +6,7 @@ use Rattle.ecma_tree.specs.Tree.{Tree}
 use Rattle.ecma_early.specs.Early.{early_errors}
 use Rattle.ecma_syntax.specs.Input.{Place, script_code, module_code}
 use Rattle.ecma_reading.specs.Source.{Fault, TooDeep, unexpected, ◌>>=◌, Machine, Stand, Inner, list_machine}
-use Rattle.ecma_reading.specs.Cover.{is_clean}
+use Rattle.ecma_syntax.specs.Shape.{is_clean}
 use Rattle.ecma_reading.specs.Expressions.{expr_by}
 use Rattle.ecma_reading.specs.Statements.{pat_by, stmt_from, body_by, class_tail_by}
 use Rattle.ecma_reading.specs.Modules.{program_by}

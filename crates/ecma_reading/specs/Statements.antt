@@ -3,11 +3,11 @@ use Rattle.std.specs.Prelude.{ℕ, Bool, true, false, not, ◌&&◌, ◌||◌, �
 use Rattle.ecma_token.specs.declared.place.Span.{Span}
 use Rattle.ecma_token.specs.Kinds.{end_kind, dot_dot_dot_kind, left_paren_kind, right_paren_kind, left_bracket_kind, right_bracket_kind, left_brace_kind, right_brace_kind, semicolon_kind, comma_kind, colon_kind, hash_kind, mul_kind, assign_kind, await_kind, break_kind, case_kind, catch_kind, continue_kind, debugger_kind, default_kind, do_kind, else_kind, finally_kind, for_kind, function_kind, if_kind, return_kind, switch_kind, throw_kind, try_kind, var_kind, let_kind, const_kind, while_kind, with_kind, class_kind, extends_kind, in_kind, async_kind, of_kind, using_kind, static_kind, accessor_kind, get_kind, set_kind}
 use Rattle.ecma_tree.specs.Tree.{Tree, none, more, pack, plain_method, block_stmt, empty_stmt, debugger_stmt, with_stmt, return_stmt, labeled_stmt, break_stmt, continue_stmt, if_stmt, switch_stmt, switch_case, throw_stmt, try_stmt, catch_clause, while_stmt, do_while_stmt, for_stmt, for_in_stmt, for_of_stmt, expr_stmt, class_decl, fn_decl, var_decl, using_decl, var_declarator, function, class, constructor, class_method, private_method, class_prop, private_prop, static_block, auto_accessor, ident, binding_ident, array_pat, rest_pat, object_pat, assign_pat, key_value_pat_prop, assign_pat_prop, absent, hole}
-use Rattle.ecma_syntax.specs.Input.{Code, kind, kind2, brk, brk2, lo, span, rest, is_strict, with_in, without_in, in_list, alone, in_body, in_field, in_static, turned_strict}
+use Rattle.ecma_syntax.specs.Input.{Code, kind, kind2, brk, brk2, lo, dots_at, span, rest, is_strict, with_in, without_in, in_list, alone, in_body, in_field, in_static, turned_strict}
 use Rattle.ecma_syntax.specs.Operators.{expression_level, assignment_level, new_level, starts_key, may_name, plain_end, let_end}
 use Rattle.ecma_syntax.specs.Shape.{ends, names, is_absent, is_private, is_structured, is_bare_declarator, is_default_case, is_use_strict, is_directive, is_plain_function, constructs, field_end, declarators_end, is_statement}
 use Rattle.ecma_reading.specs.Source.{unexpected, ◌>>=◌, Machine, Stand, Read, input, past, operand, turned, bound, spanned, at, eat, eat_word, name, end_of, Step, go_on, finished, iterate, Inner}
-use Rattle.ecma_reading.specs.Cover.{dots_at, to_head}
+use Rattle.ecma_reading.specs.Cover.{to_head}
 use Rattle.ecma_reading.specs.Expressions.{first, key_by, private_by, star, function_by, setter_parameter, is_async_head}
 
 -- Statements of a body with the code after them, and whether its directives may go on. They may turn it strict, and then the source too.
@@ -33,7 +33,7 @@ module _ {S : Type 0} (m : Machine S) (inner : Inner S) where
   array_item c xs s =
       if at m right_bracket_kind s then Ok (finished xs, past m s)
       else (if at m comma_kind s then Ok (go_on (xs ++ hole ∷ []), past m s)
-      else (if at m dot_dot_dot_kind s then (inner.pat (with_in c) (past m s) >>= λ p. after_item right_bracket_kind true (xs ++ rest_pat (spanned m s p.1) (dots_at (first m inner s)) p.0 ∷ []) p.1)
+      else (if at m dot_dot_dot_kind s then (inner.pat (with_in c) (past m s) >>= λ p. after_item right_bracket_kind true (xs ++ rest_pat (spanned m s p.1) (dots_at (lo (input m s))) p.0 ∷ []) p.1)
       else (inner.pat (with_in c) s >>= λ p. initial_pat c s p.0 p.1 >>= λ q. after_item right_bracket_kind false (xs ++ q.0 ∷ []) q.1)))
 
   unfoldable pub array_pat_by : Code → Read S Tree
@@ -53,7 +53,7 @@ module _ {S : Type 0} (m : Machine S) (inner : Inner S) where
   unfoldable pub object_item : Code → List Tree → Read S (Step (List Tree))
   object_item c xs s =
       if at m right_brace_kind s then Ok (finished xs, past m s)
-      else (if at m dot_dot_dot_kind s then (inner.pat (with_in c) (past m s) >>= λ p. if is_structured p.0 then unexpected else after_item right_brace_kind true (xs ++ rest_pat (spanned m s p.1) (dots_at (first m inner s)) p.0 ∷ []) p.1)
+      else (if at m dot_dot_dot_kind s then (inner.pat (with_in c) (past m s) >>= λ p. if is_structured p.0 then unexpected else after_item right_brace_kind true (xs ++ rest_pat (spanned m s p.1) (dots_at (lo (input m s))) p.0 ∷ []) p.1)
       else (pattern_prop c s >>= λ p. after_item right_brace_kind false (xs ++ p.0 ∷ []) p.1))
 
   unfoldable pub object_pat_by : Code → Read S Tree

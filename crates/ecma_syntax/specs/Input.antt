@@ -1,5 +1,5 @@
 -- What a program is read from: tokens in their places, and what consuming one of them says.
-use Rattle.std.specs.Prelude.{◌≡◌, ℕ, Bool, true, false, not, ◌&&◌, ◌||◌, ◌==◌, nat_le, if◌then◌else◌, List, [], ◌∷◌, Option, None}
+use Rattle.std.specs.Prelude.{◌≡◌, ℕ, ◌+◌, Bool, true, false, not, ◌&&◌, ◌||◌, ◌==◌, nat_le, if◌then◌else◌, List, [], ◌∷◌, Option, None}
 use Rattle.ecma_token.specs.declared.context.Context.{Context}
 use Rattle.ecma_token.specs.declared.error.SyntaxError.{SyntaxError}
 use Rattle.ecma_token.specs.declared.place.Span.{Span}
@@ -116,20 +116,26 @@ span a b = record { lo = record { 0 = a }; hi = record { 0 = b } }
 abbrev pub Spans : Span → Input → Input → Type 0
 Spans s ts r = s ≡ span (lo ts) r.last
 
+-- the three bytes of the dots at a place
+abbrev pub dots_at : ℕ → Span
+dots_at a = span a (a + 3)
+
 -- that of the first token
 abbrev pub first_span : Input → Span
 first_span ts = span (lo ts) (hi ts)
 
 -- ---- the code around a token
 
--- The parts of the language that are on, the context, whether a declaration may stand where a statement starts, and whether a pattern binds
--- its names (14.3.3) or assigns to targets (13.15.5), and whether a function is a setter's.
+-- The parts of the language that are on, the context, whether a declaration may stand where a statement starts, whether a pattern binds its
+-- names (14.3.3) or assigns to targets (13.15.5), whether a function is a setter's, and whether each token's lexical goal and context are
+-- judged, or the tokens alone.
 pub record Code : Type 0 where
   pub syntax : EsSyntax
   pub context : Context
   pub listed : Bool
   pub binds : Bool
   pub sets : Bool
+  pub placed : Bool
 
 abbrev pub is_strict : Code → Bool
 is_strict c = c.context.strict
@@ -162,6 +168,10 @@ assigning c = record c { binds = false }
 
 abbrev pub setting : Bool → Code → Code
 setting b c = record c { sets = b }
+
+-- where tokens alone are judged
+abbrev pub unplaced : Code → Code
+unplaced c = record c { placed = false }
 
 -- the parameters [Yield] and [Await] of clauses 13 to 15
 abbrev pub by : Bool → Bool → Code → Code
@@ -230,9 +240,14 @@ goal_of (p ∷ ps) = p.goal
 abbrev pub usual : ℕ → ℕ → Bool
 usual k g = if k == regex_kind then g == regexp_goal else (if (k == div_kind) || (k == div_assign_kind) then g == div_goal else nat_le g regexp_goal)
 
+-- asked where a test holds
+abbrev pub Only : Bool → Type 0 → Type 0
+Only true P = P
+Only false P = Unit {0}
+
 -- The first token stands under a goal of its own and in this code.
 abbrev pub Stands : Code → Input → Type 0
-Stands c ts = (usual (kind ts) (goal_of ts.places) ≡ true) × (judged (context_of c.context ts.places) ≡ judged c.context)
+Stands c ts = Only c.placed ((usual (kind ts) (goal_of ts.places) ≡ true) × (judged (context_of c.context ts.places) ≡ judged c.context))
 
 -- The first token has this kind, and the others are the rest.
 abbrev pub Takes : Code → ℕ → Input → Input → Type 0
@@ -252,7 +267,7 @@ TakesName c name ts r = (is_word (kind ts) ≡ true) × (no_name c.context (kind
 
 -- what a template's characters and their end stand under
 abbrev pub TakesIn : Code → ℕ → ℕ → Input → Input → Type 0
-TakesIn c goal k ts r = (kind ts ≡ k) × (goal_of ts.places ≡ goal) × (judged (context_of c.context ts.places) ≡ judged c.context) × (rest ts ≡ r)
+TakesIn c goal k ts r = (kind ts ≡ k) × Only c.placed ((goal_of ts.places ≡ goal) × (judged (context_of c.context ts.places) ≡ judged c.context)) × (rest ts ≡ r)
 
 -- ---- whole programs (16.1, 16.2): a module's body is strict code, and `await` is an operator there
 
@@ -260,7 +275,7 @@ abbrev pub no_context : Context
 no_context = record { module_ = false; can_be_module = false; strict = false; include_in_expr = true; in_async = false; in_generator = false; in_static_block = false; in_function = false; is_break_allowed = false; is_continue_allowed = false; allow_super = false; allow_direct_super = false; ignore_error = false }
 
 abbrev pub script_code : EsSyntax → Code
-script_code x = record { syntax = x; context = no_context; listed = true; binds = false; sets = false }
+script_code x = record { syntax = x; context = no_context; listed = true; binds = false; sets = false; placed = true }
 
 abbrev pub module_code : EsSyntax → Code
-module_code x = record { syntax = x; context = record no_context { module_ = true; strict = true; in_async = true }; listed = true; binds = false; sets = false }
+module_code x = record { syntax = x; context = record no_context { module_ = true; strict = true; in_async = true }; listed = true; binds = false; sets = false; placed = true }

@@ -12,10 +12,11 @@ pub record Source (S : Type 0) : Type 0 where
   pub tokens : S
   pub settings : Settings
 
--- How a source goes on: the token that comes, or nothing at the end, and the source behind it; and a bound on how many tokens come.
+-- How a source goes on: the token that comes, or nothing at the end, and the source behind it; and a bound on how many tokens come,
+-- which no setting changes.
 pub record Machine (S : Type 0) : Type 0 where
   pub step : Source S → Option Spot × Source S
-  pub bound : Source S → ℕ
+  pub bound : S → ℕ
 
 -- a token without which fault it is, where it is one
 abbrev pub without_fault : Content → Content

@@ -26,8 +26,8 @@ pub trait Tokens<'a> {
     /// Want of memory alone. Faults of the text are tokens of their own, or are recorded.
     fn next(&mut self) -> Result<Option<TokenAndSpan<'a>>, Error>
         ensures value { StepGives result (machine.step (state self.old)) (state self.new) }
-        ensures falls { IfOk result (λ t. MatchOption t (machine.bound (state self.new) ≤ machine.bound (state self.old))
-            (λ _. machine.bound (state self.new) < machine.bound (state self.old))) }
+        ensures falls { IfOk result (λ t. MatchOption t (machine.bound (state self.new).tokens ≤ machine.bound (state self.old).tokens)
+            (λ _. machine.bound (state self.new).tokens < machine.bound (state self.old).tokens)) }
         ensures told { SameTold (state self.old).settings (state self.new).settings };
 
     /// A source that stands where this one stands.

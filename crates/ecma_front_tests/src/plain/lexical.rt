@@ -2,36 +2,25 @@
 
 use std::alloc::{AllocError, Global};
 
-/// An operator.
-#[derive(Clone, Copy, PartialEq, Eq)]
-pub(crate) enum Operator {
-    Add,
-    Sub,
-    Mul,
-    Div,
+/// What a name, a number and a string are told by, where a punctuator is told by itself.
+const NAME: char = 'a';
+
+const NUMBER: char = '0';
+
+const STRING: char = '"';
+
+/// A token: what tells its kind, and its characters.
+#[derive(Clone, Copy)]
+pub(crate) struct Token<'a> {
+    pub(crate) sign: char,
+    pub(crate) own: &'a [char],
 }
 
-/// What stands for a value by itself.
-#[derive(Clone, Drop)]
-pub(crate) enum Leaf {
-    /// A name, by its characters.
-    Name(Vec<char>),
-    /// A number: its decimal digits without zeros at the end (0 is the digit 0), and the power of
-    /// ten that they are taken times.
-    Number(Vec<char>, usize),
-    /// A string, by the characters that it holds.
-    Text(Vec<char>),
-}
-
-/// A token.
-#[derive(Clone, Drop)]
-pub(crate) enum Token {
-    Atom(Leaf),
-    Operator(Operator),
-    Open,
-    Close,
-    Comma,
-    Semi,
+impl Token<'_> {
+    /// Whether it stands for a value by itself.
+    pub(crate) fn is_leaf(&self) -> bool {
+        matches!(self.sign, NAME | NUMBER | STRING)
+    }
 }
 
 /// White space, but for the spaces from U+2000 to U+200A.
@@ -148,58 +137,46 @@ fn is_number(digits: &[char], zeros: &[char], rest: &[char]) -> bool {
     }
 }
 
-/// What the characters hold, if they are a string: between two of one quote neither that quote nor
-/// a backslash, LF or CR.
-fn held(own: &[char]) -> Option<&[char]> {
+/// Whether the characters are a string: between two of one quote neither that quote nor a backslash,
+/// LF or CR.
+fn is_string(own: &[char]) -> bool {
     match own {
-        [first, inner @ .., last]
-            if (*first == '"' || *first == '\'')
-                && first == last
+        [first @ ('"' | '\''), inner @ .., last] => {
+            first == last
                 && !inner
                     .iter()
-                    .any(|c| c == first || matches!(*c, '\\' | '\n' | '\r')) => { Some(inner) }
-        _ => None,
+                    .any(|c| c == first || matches!(*c, '\\' | '\n' | '\r'))
+        }
+        _ => false,
     }
 }
 
-/// The punctuator that the characters are.
-fn punctuator(own: &[char]) -> Option<Token> {
-    match own {
-        ['+'] => Some(Token::Operator(Operator::Add)),
-        ['-'] => Some(Token::Operator(Operator::Sub)),
-        ['*'] => Some(Token::Operator(Operator::Mul)),
-        ['/'] => Some(Token::Operator(Operator::Div)),
-        ['('] => Some(Token::Open),
-        [')'] => Some(Token::Close),
-        [','] => Some(Token::Comma),
-        [';'] => Some(Token::Semi),
-        _ => None,
-    }
-}
-
-/// Every token that these characters are, where the rest follows them: a token is the longest.
-fn tokens_of(alloc: Global, own: &[char], rest: &[char]) -> Result<Vec<Token>, AllocError> {
+/// What tells every token that these characters are, where the rest follows them: a token is the longest.
+fn signs(alloc: Global, own: &[char], rest: &[char]) -> Result<Vec<char>, AllocError> {
     let mut found = Vec::new(alloc);
     if is_name(own, rest) {
-        found.push(Token::Atom(Leaf::Name(own.to_vec(alloc)?)))?;
+        found.push(NAME)?;
     }
     for power in 0..own.len() {
         let (digits, zeros) = own.split_at(own.len() - power);
         if is_number(digits, zeros, rest) {
-            found.push(Token::Atom(Leaf::Number(digits.to_vec(alloc)?, power)))?;
+            found.push(NUMBER)?;
         }
     }
-    if let Some(inner) = held(own) {
-        found.push(Token::Atom(Leaf::Text(inner.to_vec(alloc)?)))?;
+    if is_string(own) {
+        found.push(STRING)?;
     }
-    if let Some(token) = punctuator(own) {
-        found.push(token)?;
+    if let [sign @ ('+' | '-' | '*' | '/' | '(' | ')' | ',' | ';')] = own {
+        found.push(*sign)?;
     }
     Ok(found)
 }
 
 /// Every list of tokens that the text is, with trivia before, between and after them.
-pub(crate) fn tilings(alloc: Global, text: &[char]) -> Result<Vec<Vec<Token>>, AllocError> {
+pub(crate) fn tilings<'a>(
+    alloc: Global,
+    text: &'a [char],
+) -> Result<Vec<Vec<Token<'a>>>, AllocError> {
     let mut found = Vec::new(alloc);
     if text.iter().all(|c| is_trivia(*c)) {
         found.push(Vec::new(alloc))?;
@@ -211,9 +188,9 @@ pub(crate) fn tilings(alloc: Global, text: &[char]) -> Result<Vec<Vec<Token>>, A
         for end in start + 1..text.len() + 1 {
             let own = &text[start..end];
             let rest = &text[end..];
-            for token in tokens_of(alloc, own, rest)? {
+            for sign in signs(alloc, own, rest)? {
                 for mut tokens in tilings(alloc, rest)? {
-                    tokens.insert(0, token.clone()?)?;
+                    tokens.insert(0, Token { sign, own })?;
                     found.push(tokens)?;
                 }
             }

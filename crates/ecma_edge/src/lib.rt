@@ -1,0 +1,2 @@
+//! How the text of a node begins and ends.
+#![tactic(auto)]

@@ -1,0 +1,6 @@
+pub mod Sure
+pub mod Covers
+pub mod Nested
+pub mod Functions
+pub mod Primaries
+pub mod Groups

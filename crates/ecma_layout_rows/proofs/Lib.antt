@@ -1,0 +1,7 @@
+mod Rows
+mod Statements
+mod Declarations
+mod Expressions
+mod Operators
+mod Patterns
+mod Modules

@@ -1,0 +1,62 @@
+-- Operators.
+use Rattle.std.proofs.Common.{[], ◌++◌, codes, refl}
+use Rattle.ecma_layout_rows.proofs.Rows.{Hold, laid_out, script, script_once}
+
+rows_1 : Hold (
+    script (codes "a+b") (codes "a + b;\n") (codes "a+b") ++
+    script (codes "a+b-c") (codes "a + b - c;\n") (codes "a+b-c") ++
+    script (codes "a*b+c") (codes "a * b + c;\n") (codes "a*b+c") ++
+    script (codes "a**b**c") (codes "a ** b ** c;\n") (codes "a**b**c") ++
+    script (codes "a&&b||c") (codes "a && b || c;\n") (codes "a&&b||c") ++
+    script (codes "a??b") (codes "a ?? b;\n") (codes "a??b") ++
+    script (codes "a|b&c^d") (codes "a | b & c ^ d;\n") (codes "a|b&c^d") ++
+    script (codes "a==b") (codes "a == b;\n") (codes "a==b") ++
+    script (codes "a!==b") (codes "a !== b;\n") (codes "a!==b") ++
+    script (codes "a+ +b") (codes "a + +b;\n") (codes "a+ +b") ++
+    script (codes "a+ ++b") (codes "a + ++b;\n") (codes "a+ ++b") ++
+    script (codes "a+-b") (codes "a + -b;\n") (codes "a+-b") ++
+    script (codes "a- -b") (codes "a - -b;\n") (codes "a- -b") ++
+    script (codes "a- --b") (codes "a - --b;\n") (codes "a- --b") ++
+    script (codes "a-+b") (codes "a - +b;\n") (codes "a-+b") ++
+    script (codes "a- -b*c") (codes "a - -b * c;\n") (codes "a- -b*c") ++
+    [])
+unfolding laid_out
+rows_1 = refl
+
+rows_2 : Hold (
+    script (codes "a+ +b*c") (codes "a + +b * c;\n") (codes "a+ +b*c") ++
+    script (codes "x++ + ++y") (codes "x++ + ++y;\n") (codes "x+++ ++y") ++
+    script (codes "a-- - b") (codes "a-- - b;\n") (codes "a---b") ++
+    script (codes "a-- >b") (codes "a-- > b;\n") (codes "a-- >b") ++
+    script (codes "a-- >=b") (codes "a-- >= b;\n") (codes "a-- >=b") ++
+    script (codes "a-- >>b") (codes "a-- >> b;\n") (codes "a-- >>b") ++
+    script (codes "a-- >>>b") (codes "a-- >>> b;\n") (codes "a-- >>>b") ++
+    script (codes "a-- <b") (codes "a-- < b;\n") (codes "a--<b") ++
+    script (codes "a< !--b") (codes "a < !--b;\n") (codes "a< !--b") ++
+    script (codes "a<<!--b") (codes "a << !--b;\n") (codes "a<< !--b") ++
+    script (codes "a<!b") (codes "a < !b;\n") (codes "a<!b") ++
+    script (codes "a< !--b && c-- >d") (codes "a < !--b && c-- > d;\n") (codes "a< !--b&&c-- >d") ++
+    script (codes "a in b") (codes "a in b;\n") (codes "a in b") ++
+    script (codes "'a'in b") (codes "'a' in b;\n") (codes "\"a\"in b") ++
+    script (codes "[a]in b") (codes "[\n    a\n] in b;\n") (codes "[a]in b") ++
+    script (codes "(a)in(b)") (codes "(a) in (b);\n") (codes "(a)in(b)") ++
+    [])
+unfolding laid_out
+rows_2 = refl
+
+rows_3 : Hold (
+    script (codes "a[b]in c") (codes "a[b] in c;\n") (codes "a[b]in c") ++
+    script (codes "a.b in c") (codes "a.b in c;\n") (codes "a.b in c") ++
+    script (codes "a in[b]") (codes "a in [\n    b\n];\n") (codes "a in[b]") ++
+    script (codes "a instanceof b") (codes "a instanceof b;\n") (codes "a instanceof b") ++
+    script (codes "a instanceof(b)") (codes "a instanceof (b);\n") (codes "a instanceof(b)") ++
+    script (codes "a in-b") (codes "a in -b;\n") (codes "a in-b") ++
+    script (codes "a / /b/") (codes "a / /b/;\n") (codes "a/ /b/") ++
+    script (codes "a / /b/.c") (codes "a / /b/.c;\n") (codes "a/ /b/.c") ++
+    script_once (codes "a / /b/ / c") (codes "a / /b/ / c;\n") (codes "a/ /b//c") ++
+    script_once (codes "a / b") (codes "a / b;\n") (codes "a/b") ++
+    script (codes "!a in b") (codes "!a in b;\n") (codes "!a in b") ++
+    script (codes "a,b in c") (codes "a, b in c;\n") (codes "a,b in c") ++
+    [])
+unfolding laid_out
+rows_3 = refl

@@ -1,0 +1,61 @@
+-- Rows of facts: a program's text, how it is to look, and what is then written.
+use Rattle.std.proofs.Common.{◌≡◌, ℕ, Bool, true, false, if◌then◌else◌, List, [], ◌∷◌, Result, Ok, Err, None, codes, bytes_eq}
+use Rattle.std.specs.Char.{encode_utf8}
+use Rattle.std.specs.Str.{chars}
+use Rattle.ecma_token.specs.declared.version.EsVersion.TheVariants.{EsNext}
+use Rattle.ecma_tree.specs.Tree.{Tree}
+use Rattle.ecma_write.specs.Pages.{Page, put, put_line, deeper, shallower, with_text, indented, end_line, put_mark, record_pair, moved, settled, marked}
+use Rattle.ecma_pieces.specs.Pieces.{resolved, shortened}
+use Rattle.ecma_reading.specs.Source.{Fault}
+use Rattle.ecma_reading.proofs.Rows.{opened, read_text, full_syntax}
+use Rattle.ecma_layout.specs.declared.look.Look.{Look}
+use Rattle.ecma_layout.specs.Layout.{pieces, closing}
+use Rattle.ecma_layout.specs.Words.{word_of, sign_of}
+
+abbrev pub blank_page : Page
+blank_page = record { out = []; depth = 0; at_start = true; marks = None; line_end = codes "\n"; indent = codes "    " }
+
+abbrev pub look_of : Bool → Look
+look_of minify = record { style = record { target = EsNext; minify = minify; ascii_only = false; inline_script = false }; omits_last = minify; asserts = false }
+
+-- what is written for a text that is read, `no` for one that isn't
+abbrev pub written : Bool → Result Tree Fault → List ℕ
+written minify (Err f) = codes "no"
+written true (Ok t) = (shortened (pieces (look_of true) t) blank_page).out
+written false (Ok t) = (resolved (pieces (look_of false) t) blank_page).out
+
+pub record Row : Type 0 where
+  pub text : List ℕ
+  pub got : List ℕ
+  pub wanted : List ℕ
+
+abbrev pub row : Bool → Bool → List ℕ → List ℕ → Row
+row modules minify text wanted = record { text = text; got = written minify (read_text modules full_syntax text); wanted = wanted }
+
+-- A program formatted and minified. What was written is written again: the formatted text as it is, minified as the program is, and the
+-- minified text as it is.
+abbrev pub rows : Bool → List ℕ → List ℕ → List ℕ → List Row
+rows modules text formatted minified =
+    row modules false text formatted ∷ row modules true text minified
+    ∷ row modules false formatted formatted ∷ row modules true formatted minified ∷ row modules true minified minified ∷ []
+
+unfoldable pub script : List ℕ → List ℕ → List ℕ → List Row
+script text formatted minified = rows false text formatted minified
+
+unfoldable pub module_ : List ℕ → List ℕ → List ℕ → List Row
+module_ text formatted minified = rows true text formatted minified
+
+-- a program whose written text the plain tokenizer of these rows doesn't cut
+unfoldable pub script_once : List ℕ → List ℕ → List ℕ → List Row
+script_once text formatted minified = row false false text formatted ∷ row false true text minified ∷ []
+
+unfoldable pub wrong : List Row → List Row
+wrong [] = []
+wrong (r ∷ rs) = let others = wrong rs in if bytes_eq r.got r.wanted then others else r ∷ others
+
+abbrev pub Hold : List Row → Type 0
+Hold rows = wrong rows ≡ []
+
+unfoldable pub laid_out : ℕ
+unfolding opened chars encode_utf8 put put_line deeper shallower with_text indented end_line put_mark record_pair moved settled marked word_of sign_of closing script module_ script_once wrong
+laid_out = 0

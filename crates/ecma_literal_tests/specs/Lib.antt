@@ -1,1 +1,0 @@
--- Definitions of the tests' own.

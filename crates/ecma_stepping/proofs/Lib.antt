@@ -1,0 +1,10 @@
+pub mod Deciding
+pub mod Words
+pub mod Numbers
+pub mod Strings
+pub mod Templates
+pub mod Marks
+pub mod Tokens
+pub mod Trivia
+pub mod Steps
+pub mod Bounds

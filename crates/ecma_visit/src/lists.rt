@@ -1,0 +1,50 @@
+//! Goes over lists.
+ghost use Rattle.std.specs.Prelude.{◌≡◌};
+ghost use Rattle.ecma_node.specs.View.{view_tpl_element};
+ghost use Rattle.ecma_tree.specs.Tree.{trees_by, element_by, list};
+ghost use Rattle.ecma_tree.specs.Folds.{folds};
+ghost use Rattle.ecma_visit.specs.Walk.{walk_of_all, walk_step, by_turns};
+
+use crate::watch::{Walk, Watch};
+use ecma_node::TplElement;
+
+impl<T: Walk> Walk for Vec<T> {
+    ghost tree = { λ v. list (trees_by T.tree v.items) };
+
+    fn walk<V: Watch>(&self, visitor: &mut V) {
+        walk_all(self.as_slice(), visitor);
+    }
+}
+
+/// Goes over a list.
+fn walk_all<T: Walk, V: Watch>(items: &[T], visitor: &mut V)
+    ensures { V.state visitor.new ≡ walk_of_all V.step (trees_by T.tree items.now) (V.state visitor.old) }
+{
+    for x in items {
+        x.walk(visitor);
+    }
+}
+
+/// Goes over a list whose elements may be left out.
+pub(crate) fn walk_elements<T: Walk, V: Watch>(items: &[Option<T>], visitor: &mut V)
+    ensures { V.state visitor.new ≡ walk_of_all V.step (trees_by (element_by T.tree) items.now) (V.state visitor.old) }
+{
+    for x in items {
+        x.walk(visitor);
+    }
+}
+
+/// Goes over the texts of a template and its expressions by turns.
+pub(crate) fn walk_template<T: Walk, V: Watch>(texts: &[TplElement], exprs: &[T], visitor: &mut V)
+    ensures { V.state visitor.new ≡ by_turns (folds (walk_step V.step) (trees_by view_tpl_element texts.now)) (folds (walk_step V.step) (trees_by T.tree exprs.now)) (V.state visitor.old) }
+{
+    let mut rest = exprs;
+    for text in texts {
+        text.walk(visitor);
+        if let Some((expr, after)) = rest.split_first() {
+            expr.walk(visitor);
+            rest = after;
+        }
+    }
+    walk_all(rest, visitor);
+}

@@ -1,0 +1,90 @@
+//! Goes over properties of objects (ECMA-262, 13.2.5).
+ghost use Rattle.ecma_node.specs.View.{view_prop_or_spread, view_prop, view_key_value_prop, view_assign_prop, view_getter_prop, view_setter_prop, view_method_prop};
+
+use crate::kinds::Kind;
+use crate::watch::{Node, Walk, Watch};
+use ecma_node::{
+    AssignPropOf, GetterPropOf, KeyValuePropOf, MethodPropOf, PropOf, PropOrSpreadOf, SetterPropOf,
+};
+
+impl<T: Walk> Walk for PropOrSpreadOf<T> {
+    ghost tree = { view_prop_or_spread T.tree };
+
+    fn walk<V: Watch>(&self, visitor: &mut V) {
+        match self {
+            PropOrSpreadOf::Spread(x) => x.walk(visitor),
+            PropOrSpreadOf::Prop(x) => x.walk(visitor),
+        }
+    }
+}
+
+impl<T: Walk> Walk for PropOf<T> {
+    ghost tree = { view_prop T.tree };
+
+    fn walk<V: Watch>(&self, visitor: &mut V) {
+        match self {
+            PropOf::Shorthand(x) => x.walk(visitor),
+            PropOf::KeyValue(x) => x.walk(visitor),
+            PropOf::Assign(x) => x.walk(visitor),
+            PropOf::Getter(x) => x.walk(visitor),
+            PropOf::Setter(x) => x.walk(visitor),
+            PropOf::Method(x) => x.walk(visitor),
+        }
+    }
+}
+
+impl<T: Walk> Walk for KeyValuePropOf<T> {
+    ghost tree = { view_key_value_prop T.tree };
+
+    fn walk<V: Watch>(&self, visitor: &mut V) {
+        visitor.enter(Node::Part(Kind::KeyValueProp, self.span));
+        self.key.walk(visitor);
+        self.value.walk(visitor);
+        visitor.leave(Node::Part(Kind::KeyValueProp, self.span));
+    }
+}
+
+impl<T: Walk> Walk for AssignPropOf<T> {
+    ghost tree = { view_assign_prop T.tree };
+
+    fn walk<V: Watch>(&self, visitor: &mut V) {
+        visitor.enter(Node::Part(Kind::AssignProp, self.span));
+        self.key.walk(visitor);
+        self.value.walk(visitor);
+        visitor.leave(Node::Part(Kind::AssignProp, self.span));
+    }
+}
+
+impl<T: Walk> Walk for GetterPropOf<T> {
+    ghost tree = { view_getter_prop T.tree };
+
+    fn walk<V: Watch>(&self, visitor: &mut V) {
+        visitor.enter(Node::Part(Kind::GetterProp, self.span));
+        self.key.walk(visitor);
+        self.body.walk(visitor);
+        visitor.leave(Node::Part(Kind::GetterProp, self.span));
+    }
+}
+
+impl<T: Walk> Walk for SetterPropOf<T> {
+    ghost tree = { view_setter_prop T.tree };
+
+    fn walk<V: Watch>(&self, visitor: &mut V) {
+        visitor.enter(Node::Part(Kind::SetterProp, self.span));
+        self.key.walk(visitor);
+        self.param.walk(visitor);
+        self.body.walk(visitor);
+        visitor.leave(Node::Part(Kind::SetterProp, self.span));
+    }
+}
+
+impl<T: Walk> Walk for MethodPropOf<T> {
+    ghost tree = { view_method_prop T.tree };
+
+    fn walk<V: Watch>(&self, visitor: &mut V) {
+        visitor.enter(Node::Part(Kind::MethodProp, self.span));
+        self.key.walk(visitor);
+        self.function.walk(visitor);
+        visitor.leave(Node::Part(Kind::MethodProp, self.span));
+    }
+}

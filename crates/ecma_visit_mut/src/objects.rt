@@ -1,0 +1,87 @@
+//! Changes properties of objects (ECMA-262, 13.2.5).
+ghost use Rattle.ecma_node.specs.Fits.{fits_prop_or_spread, fits_prop, fits_key_value_prop, fits_assign_prop, fits_getter_prop, fits_setter_prop, fits_method_prop};
+
+use crate::hooks::VisitMut;
+use crate::walk::{Nested, WalkMut};
+use ecma_node::{
+    AssignProp, GetterProp, KeyValueProp, MethodProp, Prop, PropOf, PropOrSpread, PropOrSpreadOf,
+    SetterProp,
+};
+
+impl WalkMut for PropOrSpread {
+    ghost fits = { fits_prop_or_spread (λ p. p) };
+
+    fn walk_mut<V: VisitMut, N: Nested<V>>(&mut self, nested: &N, visitor: &mut V) {
+        match self {
+            PropOrSpreadOf::Spread(x) => x.walk_mut(nested, visitor),
+            PropOrSpreadOf::Prop(x) => x.walk_mut(nested, visitor),
+        }
+    }
+}
+
+impl WalkMut for Prop {
+    ghost fits = { fits_prop (λ p. p) };
+
+    fn walk_mut<V: VisitMut, N: Nested<V>>(&mut self, nested: &N, visitor: &mut V) {
+        match self {
+            PropOf::Shorthand(x) => x.walk_mut(nested, visitor),
+            PropOf::KeyValue(x) => x.walk_mut(nested, visitor),
+            PropOf::Assign(x) => x.walk_mut(nested, visitor),
+            PropOf::Getter(x) => x.walk_mut(nested, visitor),
+            PropOf::Setter(x) => x.walk_mut(nested, visitor),
+            PropOf::Method(x) => x.walk_mut(nested, visitor),
+        }
+        visitor.leave_prop(self);
+    }
+}
+
+impl WalkMut for KeyValueProp {
+    ghost fits = { fits_key_value_prop (λ p. p) };
+
+    fn walk_mut<V: VisitMut, N: Nested<V>>(&mut self, nested: &N, visitor: &mut V) {
+        self.key.walk_mut(nested, visitor);
+        self.value.walk_mut(nested, visitor);
+        visitor.span(&mut self.span);
+    }
+}
+
+impl WalkMut for AssignProp {
+    ghost fits = { fits_assign_prop (λ p. p) };
+
+    fn walk_mut<V: VisitMut, N: Nested<V>>(&mut self, nested: &N, visitor: &mut V) {
+        self.key.walk_mut(nested, visitor);
+        self.value.walk_mut(nested, visitor);
+        visitor.span(&mut self.span);
+    }
+}
+
+impl WalkMut for GetterProp {
+    ghost fits = { fits_getter_prop (λ p. p) };
+
+    fn walk_mut<V: VisitMut, N: Nested<V>>(&mut self, nested: &N, visitor: &mut V) {
+        self.key.walk_mut(nested, visitor);
+        self.body.walk_mut(nested, visitor);
+        visitor.span(&mut self.span);
+    }
+}
+
+impl WalkMut for SetterProp {
+    ghost fits = { fits_setter_prop (λ p. p) };
+
+    fn walk_mut<V: VisitMut, N: Nested<V>>(&mut self, nested: &N, visitor: &mut V) {
+        self.key.walk_mut(nested, visitor);
+        self.param.walk_mut(nested, visitor);
+        self.body.walk_mut(nested, visitor);
+        visitor.span(&mut self.span);
+    }
+}
+
+impl WalkMut for MethodProp {
+    ghost fits = { fits_method_prop (λ p. p) };
+
+    fn walk_mut<V: VisitMut, N: Nested<V>>(&mut self, nested: &N, visitor: &mut V) {
+        self.key.walk_mut(nested, visitor);
+        self.function.walk_mut(nested, visitor);
+        visitor.span(&mut self.span);
+    }
+}
