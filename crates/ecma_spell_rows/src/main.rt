@@ -5,9 +5,9 @@
 use ecma_number::NumValue;
 use ecma_rows::{Answer, Row, Subject, judge_files};
 use ecma_spell_base::Style;
-use ecma_spell_number::{NumberText, big_int, minified};
+use ecma_spell_number::{FormattedText, NumberText, big_int, formatted, minified, takes_point};
 use ecma_spell_string::{NameText, QuotedText};
-use ecma_spell_template::TemplateText;
+use ecma_spell_template::{TemplateText, reg_exp};
 use ecma_token::EsVersion;
 use std::process::ExitCode;
 
@@ -22,6 +22,8 @@ fn style(row: &Row<'_>) -> Style {
         EsVersion::Es5
     } else if row.has("es2015") {
         EsVersion::Es2015
+    } else if row.has("es2020") {
+        EsVersion::Es2020
     } else {
         EsVersion::EsNext
     };
@@ -76,6 +78,60 @@ fn template(left: TemplateText<'_>, answer: &mut Answer) -> anyhow::Result<()> {
     Ok(answer.push(written.as_slice())?)
 }
 
+/// A number as it was read; before the point of a member with a point of its own where it takes one.
+fn as_read(
+    text: &str,
+    style: Style,
+    before_member: bool,
+    answer: &mut Answer,
+) -> anyhow::Result<()> {
+    let Some(value) = NumValue::read(answer.alloc(), text)? else {
+        return Err(anyhow::Error::msg("no number"));
+    };
+    let mut written: Vec<u8> = Vec::new(answer.alloc());
+    let mut left: FormattedText<'_> = formatted(style, &value, Some(text));
+    for _ in 0..u64::MAX {
+        let Some(piece) = left.next_piece() else {
+            break;
+        };
+        written.extend_from_slice(piece.as_bytes())?;
+    }
+    if before_member && takes_point(style, &value, Some(text)) {
+        written.push(b'.')?;
+    }
+    Ok(answer.push(written.as_slice())?)
+}
+
+/// A minified number before the point of a member.
+fn member(text: &str, style: Style, answer: &mut Answer) -> anyhow::Result<()> {
+    let Some(value) = NumValue::read(answer.alloc(), text)? else {
+        return Err(anyhow::Error::msg("no number"));
+    };
+    let NumberText {
+        first,
+        second,
+        third,
+    } = minified(&value);
+    let point = if takes_point(style, &value, None) {
+        "."
+    } else {
+        ""
+    };
+    Ok(answer.say(format_args!("{first}{second}{third}{point}"))?)
+}
+
+/// A regular expression, by its body and its flags with a blank between them.
+fn regular(text: &str, answer: &mut Answer) -> anyhow::Result<()> {
+    let Some((body, flags)) = text.split_once(' ') else {
+        return Err(anyhow::Error::msg("no flags"));
+    };
+    let text = reg_exp(body, flags);
+    Ok(answer.say(format_args!(
+        "{}{}{}{}",
+        text.opening, text.body, text.closing, text.flags
+    ))?)
+}
+
 /// The three parts of a number.
 fn number(text: NumberText<'_>, answer: &mut Answer) -> anyhow::Result<()> {
     let NumberText {
@@ -104,6 +160,9 @@ impl Subject for Spellings {
                 Some(value) => number(minified(&value), answer),
                 None => Err(anyhow::Error::msg("no number")),
             },
+            "formatted" => as_read(text, style(row), row.has("member"), answer),
+            "member" => member(text, style(row), answer),
+            "regexp" => regular(text, answer),
             "bigint" => match text.split_once(' ') {
                 Some((radix, digits)) => number(big_int(radix.parse()?, digits), answer),
                 None => Err(anyhow::Error::msg("no big integer")),

@@ -1,5 +1,7 @@
+pub mod Again
 pub mod Laws
 pub mod Left
 pub mod RegExps
 pub mod RegExpTexts
+pub mod Tagged
 pub mod Templates

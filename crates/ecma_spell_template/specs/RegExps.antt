@@ -1,11 +1,8 @@
--- How regular expressions and tagged templates are written: as they were read (ECMA-262, 12.9.5 and 12.9.6).
-use Rattle.std.specs.Prelude.{◌≡◌, ℕ, List, [], ◌∷◌, ◌++◌, Option}
+-- How regular expressions are written: as they were read (ECMA-262, 12.9.5).
+use Rattle.std.specs.Prelude.{ℕ, List, ◌∷◌, ◌++◌}
 use Rattle.ecma_scan.specs.Characters.{is_name_part}
 use Rattle.ecma_scan.specs.RegExps.{IsRegExp}
 use Rattle.ecma_scan.specs.Runs.{Ends}
-use Rattle.ecma_literal.specs.declared.template.Ending.{Ending}
-use Rattle.ecma_literal.specs.Templates as t
-use Rattle.ecma_literal.specs.Templates.{SpellsPiece}
 
 -- a regular expression, by its body and its flags, before a text
 abbrev pub reg_exp_text : List ℕ → List ℕ → List ℕ → List ℕ

@@ -1,7 +1,9 @@
 //! Laws of the definitions, by functions that do nothing.
 
+ghost use Rattle.ecma_spell_template.specs.Again.{TemplateAgain};
 ghost use Rattle.ecma_spell_template.specs.Laws.{TemplateIsRead};
 ghost use Rattle.ecma_spell_template.specs.RegExps.{RegExpIsRead};
+ghost use Rattle.ecma_spell_template.specs.Tagged.{TaggedIsRead};
 
 /// Law: a piece of an untagged template stands for the units of its raw text, whichever end it has.
 pub fn template_is_read()
@@ -11,4 +13,16 @@ pub fn template_is_read()
 /// Law: a regular expression is read as its body and flags, before whatever goes on no name.
 pub fn reg_exp_is_read()
     ensures { RegExpIsRead }
+{}
+
+/// Law: a piece of a tagged template, which stands as it was read, is read as the same piece, whichever end
+/// it has.
+pub fn tagged_is_read()
+    ensures { TaggedIsRead }
+{}
+
+/// Law: what is written of a piece of an untagged template that stands as it was read is written, in any
+/// style, as that piece is.
+pub fn template_again()
+    ensures { TemplateAgain }
 {}
