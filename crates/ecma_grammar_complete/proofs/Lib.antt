@@ -1,1 +1,6 @@
 pub mod Yields
+pub mod Levels
+pub mod Trees
+pub mod Prefixes
+pub mod Lists
+pub mod Steps
