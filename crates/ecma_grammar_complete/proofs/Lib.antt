@@ -4,3 +4,5 @@ pub mod Trees
 pub mod Prefixes
 pub mod Lists
 pub mod Steps
+pub mod Groups
+pub mod Comes

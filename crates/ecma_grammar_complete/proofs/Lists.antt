@@ -72,7 +72,7 @@ module _ (z d : ℕ) (f : Finds z d) (p : Bool) (c : Code) where
     and_off true b h = h
     and_off false b h = refl
 
-    step_comma : (x : Tree) (acc : List Tree) (b : Bool) (ts m r : Input) (k : List ℕ) → size x < z → Covered x → is_element x ≡ true → Spells x (coded p c) ts m → kind m ≡ comma_kind → rest m ≡ r
+    pub step_comma : (x : Tree) (acc : List Tree) (b : Bool) (ts m r : Input) (k : List ℕ) → size x < z → Covered x → is_element x ≡ true → Spells x (coded p c) ts m → kind m ≡ comma_kind → rest m ≡ r
         → Yields (element_step lm (readers lm d) c holes close (record { items = acc; comma = b }) (from ts k)) (Is (go_on (record { items = acc ++ x ∷ []; comma = true })) r) (d < reach x)
     unfolding element_step after_element
     step_comma x acc b ts m r k sz g q h e t =
@@ -80,7 +80,7 @@ module _ (z d : ℕ) (f : Finds z d) (p : Bool) (c : Code) where
         (then_is (element_by lm (readers lm d) c (from ts k)) _ x m (d < reach x) _ _ (element_found x ts m k sz g q h (λ n. comma_after (with_in c) n 2 m e (omega arith))) (λ u. u)
         (λ j. yields_yes (eqb (kind m) comma_kind) _ _ _ _ (eq-eqb (kind m) comma_kind e) (record { so = (refl, t) }))))
 
-    step_close : (x : Tree) (acc : List Tree) (b : Bool) (ts m r : Input) (k : List ℕ) → size x < z → Covered x → is_element x ≡ true → Spells x (coded p c) ts m → kind m ≡ close → rest m ≡ r
+    pub step_close : (x : Tree) (acc : List Tree) (b : Bool) (ts m r : Input) (k : List ℕ) → size x < z → Covered x → is_element x ≡ true → Spells x (coded p c) ts m → kind m ≡ close → rest m ≡ r
         → Yields (element_step lm (readers lm d) c holes close (record { items = acc; comma = b }) (from ts k)) (Is (finished (record { items = acc ++ x ∷ []; comma = false })) r) (d < reach x)
     unfolding element_step after_element
     step_close x acc b ts m r k sz g q h e t =

@@ -36,7 +36,7 @@ no_arrow c r h = ⊎_elim
 
 -- a name is read as a word
 module _ (inner : Inner Input) (c : Code) (ts : Input) (k : List ℕ) (V : Tree × Stand Input → Type 0) (Q : Type 0) where
-  named_word : IsName c ts → Yields (word_by lm inner c (from ts k)) V Q → Yields (prefix_by lm inner c (from ts k)) V Q
+  pub named_word : IsName c ts → Yields (word_by lm inner c (from ts k)) V Q → Yields (prefix_by lm inner c (from ts k)) V Q
   unfolding prefix_by keyword_by
   named_word n y =
       let o = or_parts (always_reserved (kind ts)) (operator_word c.context (kind ts)) n.1 in

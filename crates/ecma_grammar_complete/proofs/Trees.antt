@@ -26,7 +26,6 @@ abbrev mutual
   Covered (number_lit s v w) = Unit {0}
   Covered (big_int_lit s b d w) = Unit {0}
   Covered (regex_lit s e f) = Unit {0}
-  Covered (paren_expr s e) = Covered e
   Covered (array_lit s xs) = CoveredAll xs
   Covered (expr_or_spread s d e) = Covered e
   Covered hole = Unit {0}
@@ -35,13 +34,12 @@ abbrev mutual
   Covered (unary_expr s op a) = Covered a
   Covered (update_expr s op b a) = Covered a
   Covered (await_expr s a) = Covered a
-  Covered (bin_expr s op a b) = Covered a × Covered b
+  Covered (bin_expr s op a b) = Covered a × Covered b × (is_private a ≡ false)
   Covered (cond_expr s a b d) = Covered a × Covered b × Covered d
   Covered (seq_expr s xs) = CoveredAll xs
   Covered (computed_prop_name s e) = Covered e
-  Covered (member_expr s o k) = Covered o × Covered k
+  Covered (member_expr s o k) = Covered o × Covered k × (is_private k ≡ false)
   Covered (call_expr s f xs) = Covered f × CoveredAll xs
-  Covered (new_expr s f xs) = Covered f × Covered xs
   Covered _ = ⊥
 
   pub CoveredAll : Trees → Type 0
@@ -150,7 +148,6 @@ starts (str_lit s u w) c ts r g l h = at_kind begins (kind ts) str_kind h.3.0 re
 starts (number_lit s v w) c ts r g l h = at_kind begins (kind ts) num_kind h.3.0 refl
 starts (big_int_lit s b d w) c ts r g l h = at_kind begins (kind ts) big_int_kind h.3.0 refl
 starts (regex_lit s e f) c ts r g l h = at_kind begins (kind ts) regex_kind h.1.0 refl
-starts (paren_expr s e) c ts r g l h = at_kind begins (kind ts) left_paren_kind h.2.0 refl
 starts (array_lit s xs) c ts r g l h = at_kind begins (kind ts) left_bracket_kind h.1.0 refl
 starts (unary_expr s op a) c ts r g l h = at_kind begins (kind ts) op h.2.0 (by_unary op (λ o. begins o ≡ true) h.1 refl refl refl refl refl refl refl)
 starts (update_expr s op true a) c ts r g l h = at_kind begins (kind ts) op h.2.0 (by_update op (λ o. begins o ≡ true) h.1 refl refl)
@@ -166,13 +163,10 @@ starts (member_expr s o (computed_prop_name t e)) c ts r g l h = starts o (assig
 starts (member_expr s o (ident_name t n)) c ts r g l h = starts o (assigning c) ts h.0 g.0 (omega (arith, h.2.0)) h.2.1
 starts (member_expr s o (private_name t n)) c ts r g l h = starts o (assigning c) ts h.0 g.0 (omega (arith, h.2.0)) h.2.1
 starts (call_expr s f xs) c ts r g l h = let k = as_call s f xs c ts r g.0 h in starts f (assigning c) ts k.0 g.0 (omega (arith, k.2.0)) k.2.1
-starts (new_expr s f absent) c ts r g l h = at_kind begins (kind ts) new_kind h.1.0 refl
-starts (new_expr s f (list xs)) c ts r g l h = at_kind begins (kind ts) new_kind h.2.0 refl
 starts absent c ts r g l h = absurd h
 starts hole c ts r g l h = absurd h
 starts (list xs) c ts r g l h = absurd h
 starts (member_expr s o k) c ts r g l h = starts o (assigning c) ts h.0 g.0 (omega (arith, h.2.0)) h.2.1
-starts (new_expr s f xs) c ts r g l h = absurd h
 starts (expr_or_spread s d e) c ts r g l h = absurd (omega arith)
 starts (computed_prop_name s e) c ts r g l h = absurd (omega arith)
 starts (ident_name s n) c ts r g l h = absurd (omega arith)
@@ -197,11 +191,9 @@ ends_low (str_lit s u w) c ts r g l h = omega arith
 ends_low (number_lit s v w) c ts r g l h = omega arith
 ends_low (big_int_lit s b d w) c ts r g l h = omega arith
 ends_low (regex_lit s e f) c ts r g l h = omega arith
-ends_low (paren_expr s e) c ts r g l h = omega arith
 ends_low (array_lit s xs) c ts r g l h = omega arith
 ends_low (member_expr s o k) c ts r g l h = omega arith
 ends_low (call_expr s f xs) c ts r g l h = omega arith
-ends_low (new_expr s f xs) c ts r g l h = omega arith
 ends_low absent c ts r g l h = omega arith
 ends_low hole c ts r g l h = omega arith
 ends_low (list xs) c ts r g l h = omega arith
@@ -213,7 +205,7 @@ ends_low _ c ts r g l h = absurd g
 
 -- ---- lengths
 
-some_word : (ts : Input) → is_word (kind ts) ≡ true → kind ts ≡ 0 → ⊥
+pub some_word : (ts : Input) → is_word (kind ts) ≡ true → kind ts ≡ 0 → ⊥
 some_word ts h e = let z : 80 ≤ kind ts = leb-true 80 (kind ts) h in omega arith
 
 some_kind : (k : ℕ) (ts : Input) → kind ts ≡ k → 1 ≤ k → kind ts ≡ 0 → ⊥
@@ -245,7 +237,6 @@ mutual
   cut (number_lit s v w) c ts r g h = takes num_kind ts r h.3.0 (omega arith) h.3.2
   cut (big_int_lit s b d w) c ts r g h = takes big_int_kind ts r h.3.0 (omega arith) h.3.2
   cut (regex_lit s e f) c ts r g h = takes regex_kind ts r h.1.0 (omega arith) h.1.2
-  cut (paren_expr s e) c ts r g h = omega (arith, takes left_paren_kind ts h.0 h.2.0 (omega arith) h.2.2, cut e _ h.0 h.1 g h.3.1, takes 8 h.1 r h.4.0 (omega arith) h.4.2)
   cut (array_lit s xs) c ts r g h = omega (arith, takes left_bracket_kind ts h.0 h.1.0 (omega arith) h.1.2, cut_listed true c 10 xs h.0 r (omega arith) g h.2)
   cut (expr_or_spread s None e) c ts r g h = cut e _ ts r g h.0.1
   cut (expr_or_spread s (Some d) e) c ts r g h = omega (arith, takes dot_dot_dot_kind ts h.0 h.1.0 (omega arith) h.1.2, cut e _ h.0 r g h.3.1)
@@ -263,10 +254,7 @@ mutual
   cut (member_expr s o (ident_name t n)) c ts r g h = omega (arith, cut o _ ts h.0 g.0 h.2.1, takes 4 h.0 h.3.0 h.3.1.0 (omega arith) h.3.1.2, shorter h.3.0 r (some_word h.3.0 h.3.2.1.0.0) h.3.2.1.0.3)
   cut (member_expr s o (private_name t n)) c ts r g h = omega (arith, cut o _ ts h.0 g.0 h.2.1, takes 4 h.0 h.3.0 h.3.1.0 (omega arith) h.3.1.2, cut (private_name t n) c h.3.0 r tt h.3.2.1)
   cut (call_expr s f xs) c ts r g h = let k = as_call s f xs c ts r g.0 h in omega (arith, cut f _ ts k.0 g.0 k.2.1, takes left_paren_kind k.0 k.3.0 k.3.1.0 (omega arith) k.3.1.2, cut_listed false c 8 xs k.3.0 r (omega arith) g.1 k.3.2)
-  cut (new_expr s f absent) c ts r g h = omega (arith, takes new_kind ts h.0 h.1.0 (omega arith) h.1.3, cut f _ h.0 r g.0 h.3)
-  cut (new_expr s f (list xs)) c ts r g h = omega (arith, takes new_kind ts h.0 h.2.0 (omega arith) h.2.3, cut f _ h.0 h.1 g.0 h.3.1, takes left_paren_kind h.1 h.4.0 h.4.1.0 (omega arith) h.4.1.2, cut_listed false c 8 xs h.4.0 r (omega arith) g.1 h.4.2)
   cut (member_expr s o k) c ts r g h = absurd (true≢false (sym h.3.2.0))
-  cut (new_expr s f xs) c ts r g h = absurd h
   cut absent c ts r g h = absurd h
   cut hole c ts r g h = absurd h
   cut (list xs) c ts r g h = absurd h
