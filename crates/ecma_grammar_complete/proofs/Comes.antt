@@ -55,6 +55,7 @@ positive (ident_name s n) c ts r g h l = absurd (omega arith)
 positive (private_name s n) c ts r g h l = absurd (omega arith)
 positive (list xs) c ts r g h l = absurd (omega arith)
 positive (expr_or_spread s d e) c ts r g h l = absurd (omega arith)
+positive (paren_expr s e) c ts r g h l = omega arith
 positive (array_lit s xs) c ts r g h l = omega arith
 positive (unary_expr s op a) c ts r g h l = omega arith
 positive (await_expr s a) c ts r g h l = omega arith
@@ -355,6 +356,11 @@ module _ (z d : ℕ) (ih : (e : ℕ) → Comes z e) (p : Bool) (c : Code) (l : �
             (subst (λ (y : Input). (j : List ℕ) → Yields (elements_by lm inner c false right_paren_kind (from y j)) (Has (unpack xs) r) (d < reaches xs)) (sym (ap (λ (y : Input). rest y) v.0.5 ∙ h.3.1.2)) listed)
             (λ u. omega arith) (no_arrow c r fo.stop) h.4)) K)
       (bare_or f ts h.0)
+  comes_by (paren_expr s e) r sz g h le fo ba ne K = begin _ r (not_hash 7 h.2.0 refl) le
+      (⊎_elim (λ (q : is_seq e ≡ true). let i = seq_is e q in
+          paren_more e i.0 i.1 s h.0 h.1 r i.2 (omega arith) ne (subst (λ (y : Tree). Covered y) i.2 g) (subst (λ (y : Tree). Spells y (coded p (with_in c)) h.0 h.1) i.2 h.3.1) h.2.0 h.2.2 h.4.0 h.4.2 (no_arrow c r fo.stop) h.5)
+        (λ (q : is_seq e ≡ false). paren_one e s h.0 h.1 r (omega arith) ne g (two_or e _ h.0 h.1 g h.3.1 h.3.0 q) h.3.1 h.2.0 h.2.2 h.4.0 h.4.2 (no_arrow c r fo.stop) h.5)
+        (cases_Bool (is_seq e))) K
   comes_by (seq_expr s none) r sz g h le fo ba ne K = absurd h
   comes_by (seq_expr s (more x none)) r sz g h le fo ba ne K = absurd h
   comes_by (seq_expr s (more x (more y ys))) r sz g h le fo ba ne K =
