@@ -120,12 +120,17 @@ async_call inner c ts k q s x xs r P {Q = Q} i e t f g b y u a p =
     named_word inner c ts k (Is (call_expr s (ident q x) xs) r) Q i (yields_yes (eqb (kind ts) async_kind) _ _ _ _ (eq-eqb (kind ts) async_kind e)
     (yields_no ((kind (rest ts) == function_kind) && not (brk (rest ts))) _ _ _ _ (and_left (kind (rest ts) == function_kind) _ (subst (λ (n : ℕ). eqb n function_kind ≡ false) (sym g) refl))
     (yields_no ((is_word (kind (rest ts)) && (not (no_name c.context (kind (rest ts))) && not (barred c.context (rest ts)))) && (not (brk (rest ts)) && (kind2 (rest ts) == arrow_kind) && not (brk2 (rest ts)))) _ _ _ _
-      (and_left _ _ (and_left (is_word (kind (rest ts))) _ (subst (λ (n : ℕ). is_word n ≡ false) (sym g) refl)))
+    (and_left _ _ (and_left (is_word (kind (rest ts))) _ (subst (λ (n : ℕ). is_word n ≡ false) (sym g) refl)))
     (yields_yes ((kind (rest ts) == left_paren_kind) && not (brk (rest ts))) _ _ _ _ (and_from _ _ (eq-eqb (kind (rest ts)) left_paren_kind g) (ap not b))
     (then_yields (elements_by lm inner (with_in c) false right_paren_kind (from (rest (rest ts)) k)) _ (Has (unpack xs) r) P _ Q (y k) u
-      (λ z h. yields_no (arrowed z.1.source && not (brk (rest ts))) _ _ _ _ (and_left (arrowed z.1.source) _ (subst (λ (w : Input). arrowed w ≡ false) (sym h.1) a))
-        (record { so = (ap (λ ys. call_expr (span (lo ts) z.1.source.last) (ident (first_span ts) (text ts)) (pack ys)) h.0 ∙ ap (λ ys. call_expr (span (lo ts) z.1.source.last) (ident (first_span ts) (text ts)) ys) (pack_unpack xs)
-          ∙ ap (λ (w : Input). call_expr (span (lo ts) w.last) (ident (first_span ts) (text ts)) xs) h.1 ∙ ap (λ w. call_expr w (ident (first_span ts) (text ts)) xs) (sym p) ∙ ap (λ w. call_expr s (ident w (text ts)) xs) (sym f) ∙ ap (λ w. call_expr s (ident q w) xs) t, h.1) })))))))
+    (λ z h. yields_no (arrowed z.1.source && not (brk (rest ts))) _ _ _ _ (and_left (arrowed z.1.source) _ (subst (λ (w : Input). arrowed w ≡ false) (sym h.1) a))
+    (record {
+      so = (
+        ap (λ ys. call_expr (span (lo ts) z.1.source.last) (ident (first_span ts) (text ts)) (pack ys)) h.0 ∙ ap (λ ys. call_expr (span (lo ts) z.1.source.last) (ident (first_span ts) (text ts)) ys) (pack_unpack xs)
+            ∙ ap (λ (w : Input). call_expr (span (lo ts) w.last) (ident (first_span ts) (text ts)) xs) h.1 ∙ ap (λ w. call_expr w (ident (first_span ts) (text ts)) xs) (sym p) ∙ ap (λ w. call_expr s (ident w (text ts)) xs) (sym f) ∙ ap (λ w. call_expr s (ident q w) xs) t,
+        h.1,
+      );
+    })))))))
 
 abbrev IsAsync : Tree → Input → Input → Type 0
 IsAsync f ts m = (q : Span) × (x : List ℕ) × (f ≡ ident q x) × (kind ts ≡ async_kind) × (brk m ≡ false)
@@ -217,7 +222,7 @@ module _ (z d : ℕ) (ih : (e : ℕ) → Comes z e) (p : Bool) (c : Code) (l : �
   unfolding loop_step
   after t a m r sz g h fo ba le la lp cu y K = ih d a p c l ts m k W n sz g h one la fo ba le
       (λ j. loop_on (loop_step lm inner c l (from ts k)) a t m r j (suc d < n) W _ (yields_no (ltb (goes_expr c (ends a) m) l) _ _ _ _ (le-ltb (goes_expr c (ends a) m) l lp)
-        (then_is (step_by lm inner c (from ts k) a (from m j)) _ t r (suc d < n) _ _ (y j) (λ u. u) (λ i. record { so = (refl, refl) }))) (λ u. u) cu K)
+      (then_is (step_by lm inner c (from ts k) a (from m j)) _ t r (suc d < n) _ _ (y j) (λ u. u) (λ i. record { so = (refl, refl) }))) (λ u. u) cu K)
 
   not_hash : (k : ℕ) → kind ts ≡ k → eqb k hash_kind ≡ false → eqb (kind ts) hash_kind ≡ false
   not_hash k e h = subst (λ (k : ℕ). eqb k hash_kind ≡ false) (sym e) h
@@ -250,20 +255,20 @@ module _ (z d : ℕ) (ih : (e : ℕ) → Comes z e) (p : Bool) (c : Code) (l : �
   unfolding loop_step
   seq_loop y none ds u m r j s ext sz g h fo ne le sp K =
       loop_on (loop_step lm inner c l (from ts k)) u (seq_expr s (pack (ds ++ y ∷ []))) m r j (suc d < n) W _
-        (yields_no (ltb (goes_expr c (ends u) m) l) _ _ _ _ (le-ltb (goes_expr c (ends u) m) l (omega (arith, goes_comma c (ends u) m h.2.0)))
-        (then_is (step_by lm inner c (from ts k) u (from m j)) _ (extended u y (span (lo ts) h.1.last)) h.1 (suc d < n) _ _
-          (step_comma_found u y m h.0 h.1 j (d < reach y) h.2.0 h.2.2 (λ i. found y p c 2 h.0 h.1 i (omega arith) g.0 h.3.1 (omega arith) (omega arith) two_asked h.3.0 (subst (λ (x : Input). Follow c (ends y) 2 x) (sym h.4) fo)) (λ v. omega arith)) (λ v. v)
-          (λ i. record { so = (ap (λ (t : Tree). go_on t) (ext y (span (lo ts) h.1.last) ∙ ap (λ (x : Input). seq_expr (span (lo ts) x.last) (pack (ds ++ y ∷ []))) h.4 ∙ ap (λ (x : Span). seq_expr x (pack (ds ++ y ∷ []))) (sym sp)), h.4) }))) (λ v. v)
-        (omega (arith, takes 14 m h.0 h.2.0 (omega arith) h.2.2, cut y _ h.0 h.1 g.0 h.3.1, ap (λ (x : Input). len x) h.4)) K
+      (yields_no (ltb (goes_expr c (ends u) m) l) _ _ _ _ (le-ltb (goes_expr c (ends u) m) l (omega (arith, goes_comma c (ends u) m h.2.0)))
+      (then_is (step_by lm inner c (from ts k) u (from m j)) _ (extended u y (span (lo ts) h.1.last)) h.1 (suc d < n) _ _
+      (step_comma_found u y m h.0 h.1 j (d < reach y) h.2.0 h.2.2 (λ i. found y p c 2 h.0 h.1 i (omega arith) g.0 h.3.1 (omega arith) (omega arith) two_asked h.3.0 (subst (λ (x : Input). Follow c (ends y) 2 x) (sym h.4) fo)) (λ v. omega arith)) (λ v. v)
+      (λ i. record { so = (ap (λ (t : Tree). go_on t) (ext y (span (lo ts) h.1.last) ∙ ap (λ (x : Input). seq_expr (span (lo ts) x.last) (pack (ds ++ y ∷ []))) h.4 ∙ ap (λ (x : Span). seq_expr x (pack (ds ++ y ∷ []))) (sym sp)), h.4) }))) (λ v. v)
+      (omega (arith, takes 14 m h.0 h.2.0 (omega arith) h.2.2, cut y _ h.0 h.1 g.0 h.3.1, ap (λ (x : Input). len x) h.4)) K
   seq_loop y (more y2 ys) ds u m r j s ext sz g h fo ne le sp K =
       loop_on (loop_step lm inner c l (from ts k)) u (seq_expr (span (lo ts) h.1.last) (pack (ds ++ y ∷ []))) m h.1 j (suc d < n) W _
-        (yields_no (ltb (goes_expr c (ends u) m) l) _ _ _ _ (le-ltb (goes_expr c (ends u) m) l (omega (arith, goes_comma c (ends u) m h.2.0)))
-        (then_is (step_by lm inner c (from ts k) u (from m j)) _ (extended u y (span (lo ts) h.1.last)) h.1 (suc d < n) _ _
-          (step_comma_found u y m h.0 h.1 j (d < reach y) h.2.0 h.2.2 (λ i. found y p c 2 h.0 h.1 i (omega arith) g.0 h.3.1 (omega arith) (omega arith) two_asked h.3.0 (comma_after c (ends y) 2 h.1 h.4.2.0 (omega arith))) (λ v. omega arith)) (λ v. v)
-          (λ i. record { so = (ap (λ (t : Tree). go_on t) (ext y (span (lo ts) h.1.last)), refl) }))) (λ v. v)
-        (omega (arith, takes 14 m h.0 h.2.0 (omega arith) h.2.2, cut y _ h.0 h.1 g.0 h.3.1))
-        (λ i. seq_loop y2 ys (ds ++ y ∷ []) (seq_expr (span (lo ts) h.1.last) (pack (ds ++ y ∷ []))) h.1 r i s (λ e v. ap (λ xs. seq_expr v (pack (xs ++ e ∷ []))) (unpack_pack (ds ++ y ∷ []))) (omega arith) g.1 h.4 fo (omega arith) le sp
-          (subst (λ xs. On (seq_expr s (pack xs)) r) (sym (append_assoc ds (y ∷ []) (y2 ∷ unpack ys))) K))
+      (yields_no (ltb (goes_expr c (ends u) m) l) _ _ _ _ (le-ltb (goes_expr c (ends u) m) l (omega (arith, goes_comma c (ends u) m h.2.0)))
+      (then_is (step_by lm inner c (from ts k) u (from m j)) _ (extended u y (span (lo ts) h.1.last)) h.1 (suc d < n) _ _
+      (step_comma_found u y m h.0 h.1 j (d < reach y) h.2.0 h.2.2 (λ i. found y p c 2 h.0 h.1 i (omega arith) g.0 h.3.1 (omega arith) (omega arith) two_asked h.3.0 (comma_after c (ends y) 2 h.1 h.4.2.0 (omega arith))) (λ v. omega arith)) (λ v. v)
+      (λ i. record { so = (ap (λ (t : Tree). go_on t) (ext y (span (lo ts) h.1.last)), refl) }))) (λ v. v)
+      (omega (arith, takes 14 m h.0 h.2.0 (omega arith) h.2.2, cut y _ h.0 h.1 g.0 h.3.1))
+      (λ i. seq_loop y2 ys (ds ++ y ∷ []) (seq_expr (span (lo ts) h.1.last) (pack (ds ++ y ∷ []))) h.1 r i s (λ e v. ap (λ xs. seq_expr v (pack (xs ++ e ∷ []))) (unpack_pack (ds ++ y ∷ []))) (omega arith) g.1 h.4 fo (omega arith) le sp
+      (subst (λ xs. On (seq_expr s (pack xs)) r) (sym (append_assoc ds (y ∷ []) (y2 ∷ unpack ys))) K))
 
   -- an expression in parentheses, by its expressions
   paren_one : (e : Tree) (s : Span) (a b r : Input) → size e < z → suc (reach e) ≤ n → Covered e → 2 ≤ level e → Spells e (coded p (with_in c)) a b → kind ts ≡ left_paren_kind → rest ts ≡ a → kind b ≡ right_paren_kind → rest b ≡ r → arrowed r ≡ false → s ≡ span (lo ts) r.last
@@ -314,22 +319,22 @@ module _ (z d : ℕ) (ih : (e : ℕ) → Comes z e) (p : Bool) (c : Code) (l : �
       after _ a h.0 r (omega arith) g.0 h.4 (record { stop = omega (arith, gm, fi.1); sober = sober_by c op h.0 h.5.0 (quiet_binary c op h.2) }) (bare_by a ts h.0 (λ e. omega (arith, e, h.5.0, far_binary c op h.2)))
       (omega arith) (omega (arith, fi.0)) (omega (arith, gm)) (omega (arith, takes op h.0 h.1 h.5.0 (some_binary c op h.2) h.5.3, cut b _ h.1 r g.1 h.6.1))
       (λ j. step_binary inner c (from ts k) a h.0 j _ _ (subst (λ (o : ℕ). operates c o ≡ true) (sym h.5.0) h.2) (subst (λ (o : ℕ). fits_left o a ≡ true) (sym h.5.0) h.3)
-        (binary_found inner c ts k a h.0 j _ op s b h.1 r (d < reach b) h.5.0 h.5.1 h.5.3 (λ i. found b p c (right_level op) h.1 r i (omega arith) g.1 h.6.1 (omega (arith, right_five op o)) (omega (arith, right_most op)) (right_asked op o) h.6.0 (record { stop = fo.stop; sober = fo.sober })) (λ u. omega arith) h.7)) K
+      (binary_found inner c ts k a h.0 j _ op s b h.1 r (d < reach b) h.5.0 h.5.1 h.5.3 (λ i. found b p c (right_level op) h.1 r i (omega arith) g.1 h.6.1 (omega (arith, right_five op o)) (omega (arith, right_most op)) (right_asked op o) h.6.0 (record { stop = fo.stop; sober = fo.sober })) (λ u. omega arith) h.7)) K
   comes_by (cond_expr s a b t) r sz g h le fo ba ne K =
       let dots : eqb (kind2 h.0) dot_kind ≡ false = no_kind begins (kind2 h.0) dot_kind (subst (λ (x : Input). begins (kind x) ≡ true) (sym h.5.2) (starts b _ h.1 h.2 g.1 (omega (arith, h.6.0)) h.6.1)) refl in
       let gm : goes_expr c (ends a) h.0 ≡ 3 = goes_question c (ends a) h.0 h.5.0 (ends_low a _ ts h.0 g.0 h.4.0 h.4.1) dots in
       after _ a h.0 r (omega arith) g.0 h.4.1 (record { stop = omega (arith, gm, tail_over a 4 (omega arith) (omega arith) h.4.0); sober = sober_by c 19 h.0 h.5.0 refl }) (bare_by a ts h.0 (λ e. omega (arith, e, h.5.0)))
       (omega arith) (omega (arith, h.4.0)) (omega (arith, gm)) (omega (arith, takes 19 h.0 h.1 h.5.0 (omega arith) h.5.2, cut b _ h.1 h.2 g.1 h.6.1, takes 17 h.2 h.3 h.7.0 (omega arith) h.7.2, cut t _ h.3 r g.2 h.8.1))
       (λ j. step_cond inner c (from ts k) a h.0 j _ _ h.5.0 dots h.4.0
-        (cond_found inner c ts k a h.0 j _ s b t h.1 h.2 h.3 r (d < reach b) (d < reach t) h.5.2 (λ i. found b p (with_in c) 2 h.1 h.2 i (omega arith) g.1 h.6.1 (omega arith) (omega arith) two_asked h.6.0 (closed_by (with_in c) (ends b) 2 17 h.2 h.7.0 refl refl (omega arith))) (λ u. omega arith) h.7.0 h.7.2
-          (λ i. found t p c 2 h.3 r i (omega arith) g.2 h.8.1 (omega arith) (omega arith) two_asked h.8.0 (record { stop = fo.stop; sober = fo.sober })) (λ u. omega arith) h.9)) K
+      (cond_found inner c ts k a h.0 j _ s b t h.1 h.2 h.3 r (d < reach b) (d < reach t) h.5.2 (λ i. found b p (with_in c) 2 h.1 h.2 i (omega arith) g.1 h.6.1 (omega arith) (omega arith) two_asked h.6.0 (closed_by (with_in c) (ends b) 2 17 h.2 h.7.0 refl refl (omega arith))) (λ u. omega arith) h.7.0 h.7.2
+      (λ i. found t p c 2 h.3 r i (omega arith) g.2 h.8.1 (omega arith) (omega arith) two_asked h.8.0 (record { stop = fo.stop; sober = fo.sober })) (λ u. omega arith) h.9)) K
   comes_by (member_expr s o (computed_prop_name t e)) r sz g h le fo ba ne K =
       let gm : goes_expr c (ends o) h.0 ≡ 20 = subst (λ (x : ℕ). goes_expr c x h.0 ≡ 20) (sym (ends_high o (omega (arith, h.2.0)))) (goes_bracket c h.0 h.3.2.0) in
       let ta : tail o ≡ 21 = tail_high o (omega (arith, h.2.0)) in
       after _ o h.0 r (omega arith) g.0 h.2.1 (record { stop = omega arith; sober = sober_by c 9 h.0 h.3.2.0 refl }) (bare_by o ts h.0 (λ x. omega (arith, x, h.3.2.0))) (omega arith) (omega arith) (omega arith)
       (omega (arith, takes 9 h.0 h.3.0 h.3.2.0 (omega arith) h.3.2.2, cut e _ h.3.0 h.3.1 g.1 h.3.3.1, takes 10 h.3.1 r h.3.4.0 (omega arith) h.3.4.2))
       (λ j. step_index inner c (from ts k) o h.0 j _ _ h.3.2.0 h.2.0 (index_found inner c ts k o h.0 j _ s t e h.3.0 h.3.1 r (d < reach e) h.1 h.3.2.2
-        (λ i. found e p (with_in c) 1 h.3.0 h.3.1 i (omega arith) g.1 h.3.3.1 (omega arith) (omega arith) one_asked h.3.3.0 (closed_by (with_in c) (ends e) 1 10 h.3.1 h.3.4.0 refl refl (omega arith))) (λ u. omega arith) h.3.4.0 h.3.4.2 h.3.5 h.4)) K
+      (λ i. found e p (with_in c) 1 h.3.0 h.3.1 i (omega arith) g.1 h.3.3.1 (omega arith) (omega arith) one_asked h.3.3.0 (closed_by (with_in c) (ends e) 1 10 h.3.1 h.3.4.0 refl refl (omega arith))) (λ u. omega arith) h.3.4.0 h.3.4.2 h.3.5 h.4)) K
   comes_by (member_expr s o (ident_name t x)) r sz g h le fo ba ne K =
       let gm : goes_expr c (ends o) h.0 ≡ 20 = subst (λ (x : ℕ). goes_expr c x h.0 ≡ 20) (sym (ends_high o (omega (arith, h.2.0)))) (goes_dot c h.0 h.3.1.0) in
       let ta : tail o ≡ 21 = tail_high o (omega (arith, h.2.0)) in
@@ -346,27 +351,27 @@ module _ (z d : ℕ) (ih : (e : ℕ) → Comes z e) (p : Bool) (c : Code) (l : �
       let listed : (j : List ℕ) → Yields (elements_by lm inner c false right_paren_kind (from h.3.0 j)) (Has (unpack xs) r) (d < reaches xs) = λ j. elements_found z d found p c false 8 refl refl refl xs h.3.0 r j (reaches xs) (omega arith) g.1 h.3.2 (omega arith) in
       ⊎_elim
       (λ (b : Bare f ts h.0). after _ f h.0 r (omega arith) g.0 h.2.1 (record { stop = omega arith; sober = sober_by c 7 h.0 h.3.1.0 refl }) b (omega arith) (omega (arith, h.2.0)) (omega arith)
-        (omega (arith, takes 7 h.0 h.3.0 h.3.1.0 (omega arith) h.3.1.2, cut_listed false (coded p c) 8 xs h.3.0 r (omega arith) g.1 h.3.2))
-        (λ j. step_call inner c (from ts k) f h.0 j _ _ h.3.1.0 h.2.0 (call_found inner c ts k f h.0 j _ s xs h.3.0 r (d < reaches xs) h.1 h.3.1.2 listed (λ u. omega arith) h.4)) K)
+      (omega (arith, takes 7 h.0 h.3.0 h.3.1.0 (omega arith) h.3.1.2, cut_listed false (coded p c) 8 xs h.3.0 r (omega arith) g.1 h.3.2))
+      (λ j. step_call inner c (from ts k) f h.0 j _ _ h.3.1.0 h.2.0 (call_found inner c ts k f h.0 j _ s xs h.3.0 r (d < reaches xs) h.1 h.3.1.2 listed (λ u. omega arith) h.4)) K)
       (λ (b : IsAsync f ts h.0).
-        let v : Spells (ident b.0 b.1) (coded p c) ts h.0 = subst (λ (y : Tree). Spells y (coded p c) ts h.0) b.2 h.2.1 in
-        let to : (P : Input → Type 0) → P h.0 → P (rest ts) = λ P y. subst P (sym v.0.5) y in
-        begin _ r (word_no_hash v.0.0) le (subst (λ (y : Tree). Yields (prefix_by lm inner c (from ts k)) (Is (call_expr s y xs) r) (suc d < n)) (sym b.2)
-          (async_call inner c ts k b.0 s b.1 xs r (d < reaches xs) (v.0.0, v.0.1, v.0.2) b.3 v.0.3 (sym (first_at ts h.0 b.0 v.0.5 v.1)) (to (λ y. kind y ≡ left_paren_kind) h.3.1.0) (to (λ y. brk y ≡ false) b.4)
-            (subst (λ (y : Input). (j : List ℕ) → Yields (elements_by lm inner c false right_paren_kind (from y j)) (Has (unpack xs) r) (d < reaches xs)) (sym (ap (λ (y : Input). rest y) v.0.5 ∙ h.3.1.2)) listed)
-            (λ u. omega arith) (no_arrow c r fo.stop) h.4)) K)
+      let v : Spells (ident b.0 b.1) (coded p c) ts h.0 = subst (λ (y : Tree). Spells y (coded p c) ts h.0) b.2 h.2.1 in
+      let to : (P : Input → Type 0) → P h.0 → P (rest ts) = λ P y. subst P (sym v.0.5) y in
+      begin _ r (word_no_hash v.0.0) le (subst (λ (y : Tree). Yields (prefix_by lm inner c (from ts k)) (Is (call_expr s y xs) r) (suc d < n)) (sym b.2)
+      (async_call inner c ts k b.0 s b.1 xs r (d < reaches xs) (v.0.0, v.0.1, v.0.2) b.3 v.0.3 (sym (first_at ts h.0 b.0 v.0.5 v.1)) (to (λ y. kind y ≡ left_paren_kind) h.3.1.0) (to (λ y. brk y ≡ false) b.4)
+      (subst (λ (y : Input). (j : List ℕ) → Yields (elements_by lm inner c false right_paren_kind (from y j)) (Has (unpack xs) r) (d < reaches xs)) (sym (ap (λ (y : Input). rest y) v.0.5 ∙ h.3.1.2)) listed)
+      (λ u. omega arith) (no_arrow c r fo.stop) h.4)) K)
       (bare_or f ts h.0)
   comes_by (paren_expr s e) r sz g h le fo ba ne K = begin _ r (not_hash 7 h.2.0 refl) le
       (⊎_elim (λ (q : is_seq e ≡ true). let i = seq_is e q in
-          paren_more e i.0 i.1 s h.0 h.1 r i.2 (omega arith) ne (subst (λ (y : Tree). Covered y) i.2 g) (subst (λ (y : Tree). Spells y (coded p (with_in c)) h.0 h.1) i.2 h.3.1) h.2.0 h.2.2 h.4.0 h.4.2 (no_arrow c r fo.stop) h.5)
-        (λ (q : is_seq e ≡ false). paren_one e s h.0 h.1 r (omega arith) ne g (two_or e _ h.0 h.1 g h.3.1 h.3.0 q) h.3.1 h.2.0 h.2.2 h.4.0 h.4.2 (no_arrow c r fo.stop) h.5)
-        (cases_Bool (is_seq e))) K
+      paren_more e i.0 i.1 s h.0 h.1 r i.2 (omega arith) ne (subst (λ (y : Tree). Covered y) i.2 g) (subst (λ (y : Tree). Spells y (coded p (with_in c)) h.0 h.1) i.2 h.3.1) h.2.0 h.2.2 h.4.0 h.4.2 (no_arrow c r fo.stop) h.5)
+      (λ (q : is_seq e ≡ false). paren_one e s h.0 h.1 r (omega arith) ne g (two_or e _ h.0 h.1 g h.3.1 h.3.0 q) h.3.1 h.2.0 h.2.2 h.4.0 h.4.2 (no_arrow c r fo.stop) h.5)
+      (cases_Bool (is_seq e))) K
   comes_by (seq_expr s none) r sz g h le fo ba ne K = absurd h
   comes_by (seq_expr s (more x none)) r sz g h le fo ba ne K = absurd h
   comes_by (seq_expr s (more x (more y ys))) r sz g h le fo ba ne K =
       let gm : goes_expr c (ends x) h.0 ≡ 1 = goes_comma c (ends x) h.0 h.2.2.0 in
       ih d x p c l ts h.0 k W n (omega arith) g.0 h.1.1 one (omega (arith, h.1.0)) (record { stop = omega (arith, gm, tail_stops x 2 1 h.1.0 two_asked (omega arith)); sober = sober_by c 14 h.0 h.2.2.0 refl }) (bare_by x ts h.0 (λ e. omega (arith, e, h.2.2.0))) (omega arith)
-        (λ j. seq_loop y ys (x ∷ []) x h.0 r j s (λ e v. extended_plain x e v h.1.0) (omega arith) g.1 h.2 fo (omega arith) le h.3 (subst (λ xs. On (seq_expr s (more x (more y xs))) r) (sym (pack_unpack ys)) K))
+      (λ j. seq_loop y ys (x ∷ []) x h.0 r j s (λ e v. extended_plain x e v h.1.0) (omega arith) g.1 h.2 fo (omega arith) le h.3 (subst (λ xs. On (seq_expr s (more x (more y xs))) r) (sym (pack_unpack ys)) K))
   comes_by absent r sz g h le fo ba ne K = absurd (omega arith)
   comes_by hole r sz g h le fo ba ne K = absurd (omega arith)
   comes_by (ident_name s x) r sz g h le fo ba ne K = absurd (omega arith)

@@ -68,14 +68,14 @@ module _ (z d : ℕ) (f : Finds z d) (p : Bool) (c : Code) where
       → Loops (element_step lm (readers lm d) (with_in c) false right_paren_kind) (record { items = acc; comma = b }) ts k (Grouped (ds ++ (x ∷ unpack xs)) u.last r) (d < n)
   group_loop x none acc ds b ts m u r k n pl sz szs g gs h w e t le =
       loop_end _ _ (record { items = acc ++ wrapped ts m x ∷ []; comma = false }) ts r k (d < reach x) _ _
-        (step_close z d f p (with_in c) false right_paren_kind refl refl refl (wrapped ts m x) acc b ts m r k sz g refl (h, refl) (ap (λ (v : Input). kind v) w ∙ e) (ap (λ (v : Input). rest v) w ∙ t)) (λ v. omega arith)
-        (λ l. record { comma = refl; items = plain_after acc ds (span (lo ts) m.last) x pl; last = last_after acc (wrapped ts m x) ∙ ap (λ (v : Input). v.last) w; source = refl })
+      (step_close z d f p (with_in c) false right_paren_kind refl refl refl (wrapped ts m x) acc b ts m r k sz g refl (h, refl) (ap (λ (v : Input). kind v) w ∙ e) (ap (λ (v : Input). rest v) w ∙ t)) (λ v. omega arith)
+      (λ l. record { comma = refl; items = plain_after acc ds (span (lo ts) m.last) x pl; last = last_after acc (wrapped ts m x) ∙ ap (λ (v : Input). v.last) w; source = refl })
   group_loop x (more y ys) acc ds b ts m u r k n pl sz szs g gs h w e t le =
       loop_on _ _ (record { items = acc ++ wrapped ts m x ∷ []; comma = true }) ts w.0 k (d < reach x) _ _
-        (step_comma z d f p (with_in c) false right_paren_kind refl refl refl (wrapped ts m x) acc b ts m w.0 k sz g refl (h, refl) w.2.0 w.2.2) (λ v. omega arith)
-        (omega (arith, cut x _ ts m g h.1, takes comma_kind m w.0 w.2.0 (omega arith) w.2.2))
-        (λ l. subst (λ es. Loops (element_step lm (readers lm d) (with_in c) false right_paren_kind) (record { items = acc ++ wrapped ts m x ∷ []; comma = true }) w.0 l (Grouped es u.last r) (d < n)) (append_assoc ds (x ∷ []) (y ∷ unpack ys))
-          (group_loop y ys (acc ++ wrapped ts m x ∷ []) (ds ++ x ∷ []) true w.0 w.1 u r l n (plain_after acc ds (span (lo ts) m.last) x pl) (omega arith) (omega arith) gs.0 gs.1 w.3 w.4 e t (omega arith)))
+      (step_comma z d f p (with_in c) false right_paren_kind refl refl refl (wrapped ts m x) acc b ts m w.0 k sz g refl (h, refl) w.2.0 w.2.2) (λ v. omega arith)
+      (omega (arith, cut x _ ts m g h.1, takes comma_kind m w.0 w.2.0 (omega arith) w.2.2))
+      (λ l. subst (λ es. Loops (element_step lm (readers lm d) (with_in c) false right_paren_kind) (record { items = acc ++ wrapped ts m x ∷ []; comma = true }) w.0 l (Grouped es u.last r) (d < n)) (append_assoc ds (x ∷ []) (y ∷ unpack ys))
+      (group_loop y ys (acc ++ wrapped ts m x ∷ []) (ds ++ x ∷ []) true w.0 w.1 u r l n (plain_after acc ds (span (lo ts) m.last) x pl) (omega arith) (omega arith) gs.0 gs.1 w.3 w.4 e t (omega arith)))
 
 -- the expression that these make
 abbrev pub Joins : List Tree → Span → Tree → Type 0
@@ -87,8 +87,13 @@ unfolding prefix_by group_by group_end
 paren_found inner c ts k s e x es u m r P Q o q y i a v p = rw o (then_yields (elements_by lm inner (with_in c) false right_paren_kind (from (rest ts) k)) _ (Grouped (x ∷ es) u r) P _ Q
     (subst (λ (z : Input). Yields (elements_by lm inner (with_in c) false right_paren_kind (from z k)) (Grouped (x ∷ es) u r) P) (sym q) (y k)) i
     (λ z h. yields_no (arrowed z.1.source) _ _ _ _ (subst (λ (w : Input). arrowed w ≡ false) (sym h.source) a) (yields_no z.0.comma _ _ _ _ h.comma
-      (rw h.items (record { so = (ap (λ (w : ℕ). paren_expr (span (lo ts) z.1.source.last) (joined (x ∷ es) (span (lo (rest ts)) w))) h.last ∙ ap (λ (w : Input). paren_expr (span (lo ts) z.1.source.last) (joined (x ∷ es) (span (lo w) u))) q
-        ∙ ap (λ w. paren_expr (span (lo ts) z.1.source.last) w) v ∙ ap (λ (w : Input). paren_expr (span (lo ts) w.last) e) h.source ∙ ap (λ w. paren_expr w e) (sym p), h.source) })))))
+    (rw h.items (record {
+      so = (
+        ap (λ (w : ℕ). paren_expr (span (lo ts) z.1.source.last) (joined (x ∷ es) (span (lo (rest ts)) w))) h.last ∙ ap (λ (w : Input). paren_expr (span (lo ts) z.1.source.last) (joined (x ∷ es) (span (lo w) u))) q
+            ∙ ap (λ w. paren_expr (span (lo ts) z.1.source.last) w) v ∙ ap (λ (w : Input). paren_expr (span (lo ts) w.last) e) h.source ∙ ap (λ w. paren_expr w e) (sym p),
+        h.source,
+      );
+    })))))
 
 pub group_found : (z d : ℕ) (f : Finds z d) (p : Bool) (c : Code) (x : Tree) (xs : Trees) (ts m u r : Input) (k : List ℕ) (n : ℕ) → size x < z → sizes xs < z → Covered x → CoveredAll xs → Expr 2 (coded p (with_in c)) (part x (λ y. Spells x y)) ts m
     → CommaThen (Expr 2 (coded p (with_in c))) (coded p (with_in c)) (parts xs) m u → kind u ≡ right_paren_kind → rest u ≡ r → max (reach x) (reaches xs) ≤ n

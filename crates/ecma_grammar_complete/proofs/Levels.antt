@@ -172,13 +172,13 @@ fits op a p b h =
     ⊎_elim
     (λ (e : op ≡ exp_kind). let l : 17 ≤ level a = leb-true 17 (level a) (from_yes (eqb op exp_kind) _ _ (eq-eqb op exp_kind e) h2) in let u : 16 ≤ tail a = tail_update a l in (omega arith, omega arith))
     (λ (x : op ≡ exp_kind → ⊥).
-      let h3 : cond (eqb op nullish_coalescing_kind) (eqb (level a) 4 || leb 7 (level a)) (leb (binary_level op) (level a)) ≡ true = from_no (eqb op exp_kind) _ _ (ne_eqb op exp_kind x) h2 in
-      let n : binary_level op ≤ 14 = fourteen op x in
-      let l : binary_level op ≤ level a = ⊎_elim
-        (λ (e : op ≡ nullish_coalescing_kind). let v : binary_level op ≡ 4 = ap binary_level e in
-          ⊎_elim (λ (q : eqb (level a) 4 ≡ true). let z : level a ≡ 4 = eqb-true (level a) 4 q in omega arith) (λ (q : leb 7 (level a) ≡ true). let z : 7 ≤ level a = leb-true 7 (level a) q in omega arith) (or_cases (eqb (level a) 4) (leb 7 (level a)) (from_yes (eqb op nullish_coalescing_kind) _ _ (eq-eqb op nullish_coalescing_kind e) h3)))
-        (λ (y : op ≡ nullish_coalescing_kind → ⊥). leb-true (binary_level op) (level a) (from_no (eqb op nullish_coalescing_kind) _ _ (ne_eqb op nullish_coalescing_kind y) h3)) (cases_eq op nullish_coalescing_kind) in
-      (l, tail_over a (binary_level op) four n l))
+    let h3 : cond (eqb op nullish_coalescing_kind) (eqb (level a) 4 || leb 7 (level a)) (leb (binary_level op) (level a)) ≡ true = from_no (eqb op exp_kind) _ _ (ne_eqb op exp_kind x) h2 in
+    let n : binary_level op ≤ 14 = fourteen op x in
+    let l : binary_level op ≤ level a = ⊎_elim
+    (λ (e : op ≡ nullish_coalescing_kind). let v : binary_level op ≡ 4 = ap binary_level e in
+    ⊎_elim (λ (q : eqb (level a) 4 ≡ true). let z : level a ≡ 4 = eqb-true (level a) 4 q in omega arith) (λ (q : leb 7 (level a) ≡ true). let z : 7 ≤ level a = leb-true 7 (level a) q in omega arith) (or_cases (eqb (level a) 4) (leb 7 (level a)) (from_yes (eqb op nullish_coalescing_kind) _ _ (eq-eqb op nullish_coalescing_kind e) h3)))
+    (λ (y : op ≡ nullish_coalescing_kind → ⊥). leb-true (binary_level op) (level a) (from_no (eqb op nullish_coalescing_kind) _ _ (ne_eqb op nullish_coalescing_kind y) h3)) (cases_eq op nullish_coalescing_kind) in
+    (l, tail_over a (binary_level op) four n l))
     (cases_eq op exp_kind)
 
 -- ---- the next token
@@ -228,6 +228,7 @@ sober_by c k m e q = or_right (brk m) _ (ap not (or_from (kind m == function_kin
   where
     z : (not (kind m == function_kind) ≡ true) × ((not (is_word (kind m)) || always_reserved (kind m)) ≡ true)
     z = and_parts _ _ (subst (λ (k : ℕ). quiet k ≡ true) (sym e) q)
+
     none_of : (not (is_word (kind m)) ≡ true) ⊎ (always_reserved (kind m) ≡ true) → (is_word (kind m) && (not (no_name c.context (kind m)) && not (barred c.context m))) ≡ false
     none_of (inl h) = and_left (is_word (kind m)) _ (not-true (is_word (kind m)) h)
     none_of (inr h) = and_right (is_word (kind m)) _ (and_left (not (no_name c.context (kind m))) _ (ap not (or_left (always_reserved (kind m)) _ h)))

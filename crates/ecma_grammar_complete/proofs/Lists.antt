@@ -107,15 +107,15 @@ module _ (z d : ℕ) (f : Finds z d) (p : Bool) (c : Code) where
     elements_loop none acc b ts r k n sz g h le = loop_end _ _ (record { items = acc; comma = b }) ts r k ⊥ _ _ (step_end acc b ts r k ⊥ h.0 h.2) (λ u. absurd u) (λ l. (sym (append-nil acc), refl))
     elements_loop (more x xs) acc b ts r k n sz g h le = by_cases (holes && is_hole x) _ _ _ h
         (λ e y. let w = and_parts holes (is_hole x) e in
-          loop_on _ _ (record { items = acc ++ hole ∷ []; comma = false }) ts y.0 k ⊥ _ _ (step_hole acc b ts y.0 k ⊥ w.0 y.1.0 y.1.2) (λ u. absurd u) (takes_less comma_kind ts y.0 y.1.0 (omega arith) y.1.2)
-          (λ l. subst (λ ys. Loops (element_step lm (readers lm d) c holes close) (record { items = acc ++ hole ∷ []; comma = false }) y.0 l (Has ys r) (d < n)) (append_assoc acc (hole ∷ []) (unpack xs) ∙ ap (λ (v : Tree). acc ++ (v ∷ unpack xs)) (sym (hole_is x w.1)))
-            (elements_loop xs (acc ++ hole ∷ []) false y.0 r l n (omega arith) g.1 y.2 (omega arith))))
+        loop_on _ _ (record { items = acc ++ hole ∷ []; comma = false }) ts y.0 k ⊥ _ _ (step_hole acc b ts y.0 k ⊥ w.0 y.1.0 y.1.2) (λ u. absurd u) (takes_less comma_kind ts y.0 y.1.0 (omega arith) y.1.2)
+        (λ l. subst (λ ys. Loops (element_step lm (readers lm d) c holes close) (record { items = acc ++ hole ∷ []; comma = false }) y.0 l (Has ys r) (d < n)) (append_assoc acc (hole ∷ []) (unpack xs) ∙ ap (λ (v : Tree). acc ++ (v ∷ unpack xs)) (sym (hole_is x w.1)))
+        (elements_loop xs (acc ++ hole ∷ []) false y.0 r l n (omega arith) g.1 y.2 (omega arith))))
         (λ e y. let shrinks : len y.0 < len ts = cut x _ ts y.0 g.0 y.1.1 in ⊎_elim
-          (λ v. loop_on _ _ (record { items = acc ++ x ∷ []; comma = true }) ts v.1 k (d < reach x) _ _ (step_comma x acc b ts y.0 v.1 k (omega arith) g.0 y.1.0 y.1.1 v.2.0 v.2.2) (λ u. omega arith) (omega (arith, takes_less comma_kind y.0 v.1 v.2.0 (omega arith) v.2.2))
-            (λ l. subst (λ ys. Loops (element_step lm (readers lm d) c holes close) (record { items = acc ++ x ∷ []; comma = true }) v.1 l (Has ys r) (d < n)) (append_assoc acc (x ∷ []) (unpack xs))
-              (elements_loop xs (acc ++ x ∷ []) true v.1 r l n (omega arith) g.1 v.3 (omega arith))))
-          (λ v. loop_end _ _ (record { items = acc ++ x ∷ []; comma = false }) ts r k (d < reach x) _ _ (step_close x acc b ts y.0 r k (omega arith) g.0 y.1.0 y.1.1 v.1.0 v.1.2) (λ u. omega arith) (λ l. (ap (λ ys. acc ++ (x ∷ ys)) (sym (empty_none xs v.0)), refl)))
-          y.2)
+        (λ v. loop_on _ _ (record { items = acc ++ x ∷ []; comma = true }) ts v.1 k (d < reach x) _ _ (step_comma x acc b ts y.0 v.1 k (omega arith) g.0 y.1.0 y.1.1 v.2.0 v.2.2) (λ u. omega arith) (omega (arith, takes_less comma_kind y.0 v.1 v.2.0 (omega arith) v.2.2))
+        (λ l. subst (λ ys. Loops (element_step lm (readers lm d) c holes close) (record { items = acc ++ x ∷ []; comma = true }) v.1 l (Has ys r) (d < n)) (append_assoc acc (x ∷ []) (unpack xs))
+        (elements_loop xs (acc ++ x ∷ []) true v.1 r l n (omega arith) g.1 v.3 (omega arith))))
+        (λ v. loop_end _ _ (record { items = acc ++ x ∷ []; comma = false }) ts r k (d < reach x) _ _ (step_close x acc b ts y.0 r k (omega arith) g.0 y.1.0 y.1.1 v.1.0 v.1.2) (λ u. omega arith) (λ l. (ap (λ ys. acc ++ (x ∷ ys)) (sym (empty_none xs v.0)), refl)))
+        y.2)
       where
         empty_none : (xs : Trees) → IsEmpty (parts xs) → unpack xs ≡ []
         empty_none none h = refl

@@ -31,7 +31,7 @@ arrowed r = (kind r == arrow_kind) && not (brk r)
 pub no_arrow : (c : Code) (r : Input) → goes_expr c 0 r < 21 → arrowed r ≡ false
 no_arrow c r h = ⊎_elim
     (λ (e : kind r ≡ arrow_kind). ⊎_elim (λ (b : brk r ≡ true). and_right (kind r == arrow_kind) (not (brk r)) (ap not b))
-      (λ (b : brk r ≡ false). let z : goes_expr c 0 r ≡ 21 = rw (e, b) refl in absurd (omega arith)) (cases_Bool (brk r)))
+    (λ (b : brk r ≡ false). let z : goes_expr c 0 r ≡ 21 = rw (e, b) refl in absurd (omega arith)) (cases_Bool (brk r)))
     (λ (n : kind r ≡ arrow_kind → ⊥). and_left (kind r == arrow_kind) (not (brk r)) (ne_eqb (kind r) arrow_kind n)) (cases_eq (kind r) arrow_kind)
 
 -- a name is read as a word
@@ -159,18 +159,20 @@ module _ (inner : Inner Input) (c : Code) (ts : Input) (k : List ℕ) (V : Tree 
   unfolding word_by async_by
   prefix_ident s n r i t q p g o b = keyword_at (⊎_elim
       (λ (e : kind ts ≡ async_kind). yields_yes (eqb (kind ts) async_kind) _ _ _ _ (eq-eqb (kind ts) async_kind e)
-        (subst (λ (z : Input). Yields (async_by lm inner c (from ts k)) (Is (ident s n) z) Q) q
-          (yields_no _ _ _ _ _ (sober_function (rest ts) (back (λ z. sober c z ≡ true) o))
-          (yields_no _ _ _ _ _ (sober_arrow (rest ts) (back (λ z. sober c z ≡ true) o))
-          (yields_no ((kind (rest ts) == left_paren_kind) && not (brk (rest ts))) _ _ _ _ (paren_off (back (λ z. kind z ≡ left_paren_kind → brk z ≡ true) (b e)))
-          (subst (λ (n : List ℕ). Yields (ident_end lm inner c (from ts k) (text ts) (from (rest ts) k)) (Is (ident s n) (rest ts)) Q) t (ident_ends s (text ts) (rest ts) refl refl (back (λ z. s ≡ span (lo ts) z.last) p) (back (λ z. arrowed z ≡ false) (no_arrow c r g)))))))))
+      (subst (λ (z : Input). Yields (async_by lm inner c (from ts k)) (Is (ident s n) z) Q) q
+      (yields_no _ _ _ _ _ (sober_function (rest ts) (back (λ z. sober c z ≡ true) o))
+      (yields_no _ _ _ _ _ (sober_arrow (rest ts) (back (λ z. sober c z ≡ true) o))
+      (yields_no ((kind (rest ts) == left_paren_kind) && not (brk (rest ts))) _ _ _ _ (paren_off (back (λ z. kind z ≡ left_paren_kind → brk z ≡ true) (b e)))
+      (subst (λ (n : List ℕ). Yields (ident_end lm inner c (from ts k) (text ts) (from (rest ts) k)) (Is (ident s n) (rest ts)) Q) t (ident_ends s (text ts) (rest ts) refl refl (back (λ z. s ≡ span (lo ts) z.last) p) (back (λ z. arrowed z ≡ false) (no_arrow c r g)))))))))
       (λ (x : kind ts ≡ async_kind → ⊥). yields_no (eqb (kind ts) async_kind) _ _ _ _ (ne_eqb (kind ts) async_kind x) (then_name c ts r n k _ _ Q i t q (ident_ends s n r q t p (no_arrow c r g))))
       (cases_eq (kind ts) async_kind))
     where
       back : (P : Input → Type 0) → P r → P (rest ts)
       back P h = subst P (sym q) h
+
       paren_off : (kind (rest ts) ≡ left_paren_kind → brk (rest ts) ≡ true) → ((kind (rest ts) == left_paren_kind) && not (brk (rest ts))) ≡ false
       paren_off h = ⊎_elim (λ (e : kind (rest ts) ≡ left_paren_kind). and_right (kind (rest ts) == left_paren_kind) (not (brk (rest ts))) (ap not (h e)))
-        (λ (x : kind (rest ts) ≡ left_paren_kind → ⊥). and_left (kind (rest ts) == left_paren_kind) (not (brk (rest ts))) (ne_eqb (kind (rest ts)) left_paren_kind x)) (cases_eq (kind (rest ts)) left_paren_kind)
+          (λ (x : kind (rest ts) ≡ left_paren_kind → ⊥). and_left (kind (rest ts) == left_paren_kind) (not (brk (rest ts))) (ne_eqb (kind (rest ts)) left_paren_kind x)) (cases_eq (kind (rest ts)) left_paren_kind)
+
       keyword_at : Yields (word_by lm inner c (from ts k)) (Is (ident s n) r) Q → Yields (prefix_by lm inner c (from ts k)) (Is (ident s n) r) Q
       keyword_at y = named_word inner c ts k (Is (ident s n) r) Q i y

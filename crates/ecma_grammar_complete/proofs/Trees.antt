@@ -269,7 +269,7 @@ mutual
   cut_listed holes c close (more x xs) ts r l g h = by_cases (holes && is_hole x) _ _ (len r < len ts) h
       (λ e k. omega (arith, takes comma_kind ts k.0 k.1.0 (omega arith) k.1.2, cut_listed holes c close xs k.0 r l g.1 k.2))
       (λ e k. ⊎_elim (λ j. omega (arith, cut x _ ts k.0 g.0 k.1.1, takes comma_kind k.0 j.1 j.2.0 (omega arith) j.2.2, cut_listed holes c close xs j.1 r l g.1 j.3))
-        (λ j. omega (arith, cut x _ ts k.0 g.0 k.1.1, takes close k.0 r j.1.0 l j.1.2)) k.2)
+      (λ j. omega (arith, cut x _ ts k.0 g.0 k.1.1, takes close k.0 r j.1.0 l j.1.2)) k.2)
 
   pub cut_commas : (c : Code) (xs : Trees) (ts r : Input) → CoveredAll xs → CommaThen (Expr 2 c) c (parts xs) ts r → len r ≤ len ts
   cut_commas c none ts r g h = omega (arith, ap (λ (z : Input). len z) h)
