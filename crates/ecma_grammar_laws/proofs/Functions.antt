@@ -73,11 +73,11 @@ module _ (inner : Inner Input) (good : Sound inner) where
   unfolding parameter_by
   parameter_sure c s = test_sure s.commas (kind (seen s)) dot_dot_dot_kind _ _ _
       (λ e. then_sure s.commas (inner.pat (with_in c) (next s)) _ _ _ (good.pat (with_in c) (next s)) (λ p h. let b = ap (λ z. z || false) h.0 in
-        done (param (span (lo (seen s)) p.1.source.last) none (rest_pat (span (lo (seen s)) p.1.source.last) (dots_at (lo (seen s))) p.0), p.1) (GotParam c s) (refl, (tt, b, (seen (next s), (e, tt, refl), refl, b, h.1, refl), refl))))
+      done (param (span (lo (seen s)) p.1.source.last) none (rest_pat (span (lo (seen s)) p.1.source.last) (dots_at (lo (seen s))) p.0), p.1) (GotParam c s) (refl, (tt, b, (seen (next s), (e, tt, refl), refl, b, h.1, refl), refl))))
       (λ _. then_sure s.commas (inner.pat (with_in c) s) _ _ _ (good.pat (with_in c) s) (λ p h. test_sure p.1.commas (kind (seen p.1)) assign_kind _ _ _
-        (λ e. let b = ap (λ z. z || false) h.0 in then_sure p.1.commas (inner.expr (with_in c) assignment_level (next p.1)) _ _ _ (good.expr (with_in c) assignment_level (next p.1) (omega arith)) (λ v g.
-          done (param (span (lo (seen s)) v.1.source.last) none (assign_pat (span (lo (seen s)) v.1.source.last) p.0 v.0), v.1) (GotParam c s) (refl, (tt, b, (seen p.1, seen (next p.1), b, h.1, (e, tt, refl), (g.0, g.1.spelled), refl), refl))))
-        (λ _. done (param (span (lo (seen s)) p.1.source.last) none p.0, p.1) (GotParam c s) (refl, (tt, binding_item p.0 h.0, h.1, refl)))))
+      (λ e. let b = ap (λ z. z || false) h.0 in then_sure p.1.commas (inner.expr (with_in c) assignment_level (next p.1)) _ _ _ (good.expr (with_in c) assignment_level (next p.1) (omega arith)) (λ v g.
+      done (param (span (lo (seen s)) v.1.source.last) none (assign_pat (span (lo (seen s)) v.1.source.last) p.0 v.0), v.1) (GotParam c s) (refl, (tt, b, (seen p.1, seen (next p.1), b, h.1, (e, tt, refl), (g.0, g.1.spelled), refl), refl))))
+      (λ _. done (param (span (lo (seen s)) p.1.source.last) none p.0, p.1) (GotParam c s) (refl, (tt, binding_item p.0 h.0, h.1, refl)))))
 
   abbrev pub Params : Code → List Tree → Input → Input → Type 0
   Params c ys ts r = ListedTrees false (Sorted is_param (plain c)) (plain c) right_paren_kind ys ts r
@@ -88,8 +88,8 @@ module _ (inner : Inner Input) (good : Sound inner) where
       then_sure s.commas (parameter_by lm inner c s) _ _ _ (parameter_sure c s) (λ p h.
       if_sure p.1.commas (eqb (kind (seen p.1)) comma_kind && not (is_rest_param lm inner p.0)) _ _ _
       (λ e. let q = and_parts (eqb (kind (seen p.1)) comma_kind) (not (is_rest_param lm inner p.0)) e in
-        done (go_on (ps ++ p.0 ∷ []), next p.1) (StepSure (Before (Params c) ts) (All_read (Params c) ts)) (one_more (Params c) ts ps s p.0 (next p.1) b
-          (λ ys r l. (seen p.1, h, inl (rest_same inner p.0 h.0 ∙ not-true (is_rest_param lm inner p.0) q.1, seen (next p.1), takes c comma_kind p.1 (eqb-true (kind (seen p.1)) comma_kind q.0), l)))))
+      done (go_on (ps ++ p.0 ∷ []), next p.1) (StepSure (Before (Params c) ts) (All_read (Params c) ts)) (one_more (Params c) ts ps s p.0 (next p.1) b
+      (λ ys r l. (seen p.1, h, inl (rest_same inner p.0 h.0 ∙ not-true (is_rest_param lm inner p.0) q.1, seen (next p.1), takes c comma_kind p.1 (eqb-true (kind (seen p.1)) comma_kind q.0), l)))))
       (λ _. eat_sure right_paren_kind p.1 _ _ (λ e. done (finished (ps ++ p.0 ∷ []), next p.1) (StepSure (Before (Params c) ts) (All_read (Params c) ts)) (with_last (Params c) ts ps s p.0 (next p.1) b (seen p.1, h, inr (tt, takes c right_paren_kind p.1 e)))))))
 
   pub parameters_sure : (c : Code) (s : Stand Input) → Sure s.commas (parameters_by lm inner c s) (λ x. Parameters (plain c) (parts (pack x.0)) (seen s) (seen x.1))
@@ -106,8 +106,11 @@ module _ (inner : Inner Input) (good : Sound inner) where
   unfolding function_by
   function_sure c whole g a s = then_sure s.commas (parameters_by lm inner (in_body g a c) s) _ _ _ (parameters_sure (in_body g a c) s) (λ ps h.
       then_sure ps.1.commas (inner.body (in_body g a c) ps.1) _ _ _ (good.body (in_body g a c) ps.1) (λ b k.
-      done (function (span whole b.1.source.last) (pack ps.0) none b.0 g a, b.1) (GotFunction c whole g a s) (count_of (pack ps.0), refl,
-        body_is (plain (in_body g a c)) (seen ps.1) (seen b.1) (λ z. Spells (function (span whole b.1.source.last) (pack ps.0) none z g a) (setting false (plain c)) (seen s) (seen b.1)) (λ p ss q. (seen ps.1, tt, h, q)) b.0 k)))
+      done (function (span whole b.1.source.last) (pack ps.0) none b.0 g a, b.1) (GotFunction c whole g a s) (
+        count_of (pack ps.0),
+        refl,
+        body_is (plain (in_body g a c)) (seen ps.1) (seen b.1) (λ z. Spells (function (span whole b.1.source.last) (pack ps.0) none z g a) (setting false (plain c)) (seen s) (seen b.1)) (λ p ss q. (seen ps.1, tt, h, q)) b.0 k,
+      )))
 
   -- a setter's one parameter
   pub setter_sure : (c : Code) (s : Stand Input) → Sure s.commas (setter_parameter lm inner c s) (λ x. (m : Input) × (n : Input) × (is_param x.0 ≡ true) × (is_rest x.0 ≡ false) × Takes (plain c) left_paren_kind (seen s) m × Spells x.0 (plain c) m n × Takes (plain c) right_paren_kind n (seen x.1))

@@ -69,23 +69,26 @@ module _ (inner : Inner Input) (good : Sound inner) where
   -- after one item
   pub body_goes : (may : Tree → Bool) (close : Code → Input → Input → Type 0) (c : Code) (ts : Input) (b : State) (s : Stand Input) (t : Tree × Stand Input) → BodyFront may close c ts b s → may t.0 ≡ true → Spells t.0 (plain (in_list b.code)) (seen s) (seen t.1)
       → Sure t.1.commas (cond (b.starts && is_use_strict t.0) (Ok (go_on (record { items = b.items ++ t.0 ∷ []; code = turned_strict b.code; starts = true }), turned lm (turned_strict b.code).context t.1)) (Ok (go_on (record { items = b.items ++ t.0 ∷ []; code = b.code; starts = b.starts && is_directive t.0 }), t.1)))
-        (BodySteps may close c ts)
+      (BodySteps may close c ts)
   body_goes may close c ts b s t i e h = if_sure t.1.commas (b.starts && is_use_strict t.0) _ _ _
       (λ z. let p = and_parts b.starts (is_use_strict t.0) z in
-        done (go_on (record { items = b.items ++ t.0 ∷ []; code = turned_strict b.code; starts = true }), turned lm (turned_strict b.code).context t.1) (BodySteps may close c ts)
-        (record { so = λ ys r k. snoc ys r (i.so (t.0 ∷ ys) r (seen t.1, e, h, turned_items ys r z (started b.starts (is_directive t.0) p.0 (strict_directive t.0 p.1)) k)) }))
+      done (go_on (record { items = b.items ++ t.0 ∷ []; code = turned_strict b.code; starts = true }), turned lm (turned_strict b.code).context t.1) (BodySteps may close c ts)
+      (record { so = λ ys r k. snoc ys r (i.so (t.0 ∷ ys) r (seen t.1, e, h, turned_items ys r z (started b.starts (is_directive t.0) p.0 (strict_directive t.0 p.1)) k)) }))
       (λ z. done (go_on (record { items = b.items ++ t.0 ∷ []; code = b.code; starts = b.starts && is_directive t.0 }), t.1) (BodySteps may close c ts)
-        (record { so = λ ys r k. snoc ys r (i.so (t.0 ∷ ys) r (seen t.1, e, h, plain_items ys r z k)) }))
+      (record { so = λ ys r k. snoc ys r (i.so (t.0 ∷ ys) r (seen t.1, e, h, plain_items ys r z k)) }))
     where
       started : (x y : Bool) → x ≡ true → y ≡ true → (x && y) ≡ true
       started true y e k = k
       started false y e k = absurd (true≢false (sym e))
+
       snoc : (ys : List Tree) (r : Input) → Items may close (plain c) true (parts (pack (b.items ++ (t.0 ∷ ys)))) ts r → Items may close (plain c) true (parts (pack ((b.items ++ t.0 ∷ []) ++ ys))) ts r
       snoc ys r k = subst (λ z. Items may close (plain c) true (parts (pack z)) ts r) (sym (append_assoc b.items (t.0 ∷ []) ys)) k
+
       turned_items : (ys : List Tree) (r : Input) → (b.starts && is_use_strict t.0) ≡ true → (b.starts && is_directive t.0) ≡ true → Items may close (plain (turned_strict b.code)) true (parts (pack ys)) (seen t.1) r
           → Items may close (cond (b.starts && is_use_strict t.0) (turned_strict (plain b.code)) (plain b.code)) (b.starts && is_directive t.0) (parts (pack ys)) (seen t.1) r
       turned_items ys r z w k = subst (λ (x : Bool). Items may close (cond x (turned_strict (plain b.code)) (plain b.code)) (b.starts && is_directive t.0) (parts (pack ys)) (seen t.1) r) (sym z)
           (subst (λ (x : Bool). Items may close (turned_strict (plain b.code)) x (parts (pack ys)) (seen t.1) r) (sym w) k)
+
       plain_items : (ys : List Tree) (r : Input) → (b.starts && is_use_strict t.0) ≡ false → Items may close (plain b.code) (b.starts && is_directive t.0) (parts (pack ys)) (seen t.1) r
           → Items may close (cond (b.starts && is_use_strict t.0) (turned_strict (plain b.code)) (plain b.code)) (b.starts && is_directive t.0) (parts (pack ys)) (seen t.1) r
       plain_items ys r z k = subst (λ (x : Bool). Items may close (cond x (turned_strict (plain b.code)) (plain b.code)) (b.starts && is_directive t.0) (parts (pack ys)) (seen t.1) r) (sym z) k
@@ -108,7 +111,7 @@ module _ (inner : Inner Input) (good : Sound inner) where
   unfolding declarator_by
   declarator_sure c s = then_sure s.commas (inner.pat c s) _ _ _ (good.pat c s) (λ p h. test_sure p.1.commas (kind (seen p.1)) assign_kind _ _ _
       (λ e. then_sure p.1.commas (inner.expr c assignment_level (next p.1)) _ _ _ (good.expr c assignment_level (next p.1) (omega arith)) (λ v k.
-        done (var_declarator (span (lo (seen s)) v.1.source.last) p.0 v.0, v.1) _ (refl, (seen p.1, h.0, h.1, by_no (is_absent v.0) (seen p.1 ≡ seen v.1) ((n : Input) × Takes (plain c) assign_kind (seen p.1) n × Expr assignment_level (plain c) (part v.0 (λ y. Spells v.0 y)) n (seen v.1)) (not_absent v.0 k.0) (seen (next p.1), (e, tt, refl), (k.0, k.1.spelled)), refl))))
+      done (var_declarator (span (lo (seen s)) v.1.source.last) p.0 v.0, v.1) _ (refl, (seen p.1, h.0, h.1, by_no (is_absent v.0) (seen p.1 ≡ seen v.1) ((n : Input) × Takes (plain c) assign_kind (seen p.1) n × Expr assignment_level (plain c) (part v.0 (λ y. Spells v.0 y)) n (seen v.1)) (not_absent v.0 k.0) (seen (next p.1), (e, tt, refl), (k.0, k.1.spelled)), refl))))
       (λ _. done (var_declarator (span (lo (seen s)) p.1.source.last) p.0 absent, p.1) _ (refl, (seen p.1, h.0, h.1, refl, refl))))
 
   abbrev pub Declarators : Code → List Tree → Input → Input → Type 0
