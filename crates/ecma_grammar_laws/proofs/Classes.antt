@@ -1,20 +1,20 @@
 -- Classes and their members are spelled as they are read.
-use Rattle.std.proofs.Common.{◌≡◌, ℕ, zero, suc, ◌≤◌, ◌⊎◌, inl, inr, Bool, true, false, not, ◌&&◌, ◌||◌, cond, eqb, leb, List, [], ◌∷◌, ◌++◌, Option, Some, None, Result, Ok, Err, refl, sym, ap, ◌∙◌, subst, ⊎_elim, true≢false, arith}
-use Rattle.std.proofs.lemmas.Bool.{eqb-true, eqb-false, and_parts, not-true, cases_Bool}
+use Rattle.std.proofs.Common.{◌≡◌, ℕ, ◌⊎◌, inl, inr, Bool, true, false, not, ◌&&◌, ◌||◌, cond, eqb, List, [], ◌∷◌, ◌++◌, Option, Some, None, refl, sym, ap, ◌∙◌, subst, ⊎_elim, true≢false, arith}
+use Rattle.std.proofs.lemmas.Bool.{eqb-true, and_parts, not-true}
 use Rattle.ecma_token.specs.declared.place.Span.{Span}
 use Rattle.ecma_token.specs.Kinds.{left_paren_kind, right_paren_kind, left_brace_kind, right_brace_kind, semicolon_kind, hash_kind, mul_kind, assign_kind, extends_kind, async_kind, static_kind, accessor_kind, get_kind, set_kind}
-use Rattle.ecma_tree.specs.Tree.{Tree, Trees, none, more, pack, plain_method, absent, block_stmt, empty_stmt, function, class, constructor, class_method, private_method, class_prop, private_prop, static_block, auto_accessor}
-use Rattle.ecma_syntax.specs.Input.{Input, Code, kind, kind2, brk, brk2, Takes, TakesWord, Spans, lo, hi, span, first_span, in_body, in_field, in_static, setting}
+use Rattle.ecma_tree.specs.Tree.{Tree, none, more, pack, plain_method, absent, block_stmt, empty_stmt, function, class, class_method, private_method, class_prop, private_prop, static_block, auto_accessor}
+use Rattle.ecma_syntax.specs.Input.{Input, Code, kind, kind2, brk, brk2, Takes, Spans, lo, span, first_span, in_body, in_field, in_static, setting}
 use Rattle.ecma_syntax.specs.Operators.{assignment_level, new_level, starts_key}
-use Rattle.ecma_syntax.specs.Shape.{level, ends, is_absent, is_private, is_key, is_member, is_rest, constructs, field_end, FunctionParts, function_parts, class_span}
-use Rattle.ecma_grammar.specs.Parts.{Part, part, By, Expr, Sorted, Ends}
-use Rattle.ecma_grammar.specs.Functions.{Async, Star, MethodHead, Method, Static, ClassMethod, Initial, Field, Members, Heritage, Closes, Body}
+use Rattle.ecma_syntax.specs.Shape.{ends, is_absent, is_private, is_key, is_member, constructs, field_end, FunctionParts, function_parts, class_span}
+use Rattle.ecma_grammar.specs.Parts.{part, By, Expr, Ends}
+use Rattle.ecma_grammar.specs.Functions.{Async, MethodHead, Method, Static, ClassMethod, Initial, Members, Heritage, Closes}
 use Rattle.ecma_grammar.specs.Grammar.{Spells, parts}
-use Rattle.ecma_reading.specs.Source.{Fault, ◌>>=◌, unexpected, Stand, Inner, Step, go_on, finished, iterate}
-use Rattle.ecma_reading.specs.Expressions.{key_by, private_by, function_by, setter_parameter, star, is_async_head}
+use Rattle.ecma_reading.specs.Source.{Stand, Inner, go_on, finished, iterate}
+use Rattle.ecma_reading.specs.Expressions.{key_by, private_by, function_by, setter_parameter, is_async_head}
 use Rattle.ecma_reading.specs.Statements.{block_rest, field_value, class_key, method_tree, constructor_of, class_method_by, class_getter, class_setter, accessor_by, field_or_method, generator_member, member_rest, starts_static, static_by, member_step, members_by, class_tail_by}
-use Rattle.ecma_grammar_laws.proofs.Sure.{lm, seen, next, Grows, Sure, done, then_sure, sure_map, at_commas, if_sure, test_sure, only_sure, eat_sure, word_sure, StepSure, loop_sure}
-use Rattle.ecma_grammar_laws.proofs.Covers.{patterned, plain, by_no, not_absent}
+use Rattle.ecma_grammar_laws.proofs.Sure.{lm, seen, next, Sure, done, then_sure, sure_map, at_commas, if_sure, test_sure, eat_sure, word_sure, StepSure, loop_sure}
+use Rattle.ecma_grammar_laws.proofs.Covers.{plain, by_no, not_absent}
 use Rattle.ecma_grammar_laws.proofs.Nested.{Sound, GotClass, body_is, key_sure, private_sure, end_sure}
 use Rattle.ecma_grammar_laws.proofs.Functions.{Before, All_read, at_start, one_more, at_end, function_sure, setter_sure, star_sure}
 use Rattle.ecma_grammar_laws.proofs.Primaries.{and_no, soft}

@@ -1,18 +1,17 @@
 -- Expressions refined to patterns: what a refinement answers is spelled as the expression was.
-use Rattle.std.proofs.Common.{◌≡◌, ℕ, zero, suc, ◌≤◌, ◌⊎◌, inl, inr, Bool, true, false, not, ◌&&◌, ◌||◌, cond, eqb, List, [], ◌∷◌, ◌++◌, Option, Some, None, Result, Ok, Err, refl, sym, ap, ◌∙◌, subst, ⊎_elim, true≢false, arith}
-use Rattle.std.proofs.lemmas.Bool.{eqb-true, eqb-false, and_parts, not-true, cases_Bool}
+use Rattle.std.proofs.Common.{◌≡◌, ℕ, ◌≤◌, ◌⊎◌, inl, inr, Bool, true, false, not, ◌&&◌, ◌||◌, cond, eqb, List, [], ◌∷◌, Some, None, Result, Ok, Err, refl, sym, ap, ◌∙◌, subst, ⊎_elim, true≢false, arith}
+use Rattle.std.proofs.lemmas.Bool.{eqb-true, and_parts, cases_Bool}
 use Rattle.ecma_token.specs.declared.place.Span.{Span}
-use Rattle.ecma_token.specs.Kinds.{assign_kind, comma_kind, dot_dot_dot_kind, right_paren_kind, right_bracket_kind, right_brace_kind, left_bracket_kind, left_brace_kind, colon_kind}
-use Rattle.ecma_tree.specs.Tree.{Tree, Trees, none, more, pack, array_lit, object_lit, assign_expr, ident, ident_name, str_lit, number_lit, big_int_lit, computed_prop_name, member_expr, super_prop_expr, paren_expr, expr_or_spread, spread_element, key_value_prop, assign_prop, binding_ident, array_pat, object_pat, assign_pat, rest_pat, key_value_pat_prop, assign_pat_prop, expr_pat, hole, absent}
-use Rattle.ecma_syntax.specs.Input.{Input, Code, Takes, Spans, lo, span, first_span, with_in, assigning, dots_at}
+use Rattle.ecma_token.specs.Kinds.{assign_kind, comma_kind, dot_dot_dot_kind, right_bracket_kind, right_brace_kind, colon_kind}
+use Rattle.ecma_tree.specs.Tree.{Tree, Trees, none, more, pack, assign_expr, ident, ident_name, str_lit, number_lit, big_int_lit, computed_prop_name, member_expr, super_prop_expr, paren_expr, expr_or_spread, spread_element, key_value_prop, assign_prop, binding_ident, array_pat, object_pat, assign_pat, rest_pat, key_value_pat_prop, assign_pat_prop, expr_pat, hole, absent}
+use Rattle.ecma_syntax.specs.Input.{Input, Code, Takes, Spans, first_span, with_in, dots_at}
 use Rattle.ecma_syntax.specs.Operators.{assignment_level}
-use Rattle.ecma_syntax.specs.Shape.{is_simple, is_target, is_target_expr, is_structured, is_place, is_item_pat, is_rest, is_hole, is_spread, is_element, is_prop, is_binding, is_bound_name, is_assigned, is_pattern_prop, takes_rest, is_key, is_absent, level}
-use Rattle.ecma_grammar.specs.Parts.{Part, part, By, IsEmpty, Expr, Sorted, Listed}
+use Rattle.ecma_syntax.specs.Shape.{is_simple, is_target, is_structured, is_place, is_item_pat, is_rest, is_hole, is_element, is_prop, is_binding, is_bound_name, is_assigned, is_pattern_prop, takes_rest, is_key, is_absent, level}
+use Rattle.ecma_grammar.specs.Parts.{Part, part, By, IsEmpty, Expr, Listed}
 use Rattle.ecma_grammar.specs.Patterns.{Item, Property}
 use Rattle.ecma_grammar.specs.Grammar.{Spells, parts}
 use Rattle.ecma_reading.specs.Source.{Fault, ◌>>=◌, unexpected}
-use Rattle.ecma_reading.specs.Cover.{has, binds_names, all_bind, if_binds, initialised, rest_of, is_rest_item, as_prop, last_rests, to_item, to_items}
-use Rattle.ecma_grammar_laws.proofs.Sure.{Grows}
+use Rattle.ecma_reading.specs.Cover.{binds_names, all_bind, if_binds, initialised, rest_of, is_rest_item, as_prop, last_rests, to_item, to_items}
 
 -- the code of an expression's tokens alone, and of a pattern's
 abbrev pub patterned : Bool → Code → Code

@@ -1,20 +1,19 @@
 -- Parameters, and functions with their bodies.
-use Rattle.std.proofs.Common.{◌≡◌, ℕ, zero, suc, ◌≤◌, ◌⊎◌, inl, inr, Bool, true, false, not, ◌&&◌, ◌||◌, cond, eqb, List, [], ◌∷◌, ◌++◌, Option, Some, None, Result, Ok, Err, refl, sym, ap, ◌∙◌, subst, ⊎_elim, true≢false, append_assoc, append-nil, arith}
-use Rattle.std.proofs.lemmas.Bool.{eqb-true, eqb-false, and_parts, not-true, cases_Bool}
-use Rattle.ecma_token.specs.declared.place.Span.{Span}
+use Rattle.std.proofs.Common.{◌≡◌, ℕ, inl, inr, Bool, true, false, not, ◌&&◌, ◌||◌, eqb, List, [], ◌∷◌, ◌++◌, Some, Result, refl, sym, ap, ◌∙◌, subst, ⊎_elim, true≢false, append_assoc, append-nil, arith}
+use Rattle.std.proofs.lemmas.Bool.{eqb-true, and_parts, not-true, cases_Bool}
 use Rattle.ecma_token.specs.Kinds.{comma_kind, dot_dot_dot_kind, left_paren_kind, right_paren_kind, assign_kind, mul_kind}
-use Rattle.ecma_tree.specs.Tree.{Tree, Trees, none, more, pack, block_stmt, function, param, rest_pat, assign_pat, binding_ident, array_pat, object_pat}
-use Rattle.ecma_syntax.specs.Input.{Input, Code, kind, Takes, lo, hi, span, dots_at, with_in, setting, in_body}
+use Rattle.ecma_tree.specs.Tree.{Tree, none, pack, function, param, rest_pat, assign_pat, binding_ident, array_pat, object_pat}
+use Rattle.ecma_syntax.specs.Input.{Input, Code, kind, Takes, lo, span, dots_at, with_in, setting, in_body}
 use Rattle.ecma_syntax.specs.Operators.{assignment_level}
-use Rattle.ecma_syntax.specs.Shape.{is_binding, is_item_pat, is_param, is_rest, FunctionParts, function_parts, count_of}
-use Rattle.ecma_grammar.specs.Parts.{Part, part, By, Sorted, Listed}
-use Rattle.ecma_grammar.specs.Functions.{Parameters, Body, Star}
+use Rattle.ecma_syntax.specs.Shape.{is_binding, is_item_pat, is_param, is_rest, function_parts, count_of}
+use Rattle.ecma_grammar.specs.Parts.{Part, Sorted, Listed}
+use Rattle.ecma_grammar.specs.Functions.{Parameters, Star}
 use Rattle.ecma_grammar.specs.Grammar.{Spells, parts}
-use Rattle.ecma_reading.specs.Source.{Fault, ◌>>=◌, unexpected, Stand, Inner, Step, go_on, finished, iterate}
+use Rattle.ecma_reading.specs.Source.{Fault, ◌>>=◌, Stand, Inner, go_on, finished, iterate}
 use Rattle.ecma_reading.specs.Expressions.{parameter_by, is_rest_param, parameter_step, parameters_by, function_by, setter_parameter, pattern_of, star}
-use Rattle.ecma_grammar_laws.proofs.Sure.{lm, seen, next, Grows, same, Sure, done, then_sure, sure_map, if_sure, test_sure, eat_sure, StepSure, loop_sure}
+use Rattle.ecma_grammar_laws.proofs.Sure.{lm, seen, next, Sure, done, then_sure, sure_map, if_sure, test_sure, eat_sure, StepSure, loop_sure}
 use Rattle.ecma_grammar_laws.proofs.Covers.{patterned, plain}
-use Rattle.ecma_grammar_laws.proofs.Nested.{Sound, IsBody, body_is, takes}
+use Rattle.ecma_grammar_laws.proofs.Nested.{Sound, body_is, takes}
 
 -- ---- lists that are read from the front
 

@@ -1,26 +1,25 @@
 -- Templates, arrows, and what stands in parentheses.
-use Rattle.std.proofs.Common.{◌≡◌, ℕ, zero, suc, ◌≤◌, ◌⊎◌, inl, inr, Bool, true, false, not, ◌&&◌, ◌||◌, cond, eqb, List, [], ◌∷◌, ◌++◌, Option, Some, None, Result, Ok, Err, refl, sym, ap, ◌∙◌, subst, ⊎_elim, true≢false, append_assoc, append-nil, arith}
-use Rattle.std.proofs.lemmas.Bool.{eqb-true, eqb-false, and_parts, not-true, cases_Bool}
+use Rattle.std.proofs.Common.{◌≡◌, ℕ, ◌≤◌, Bool, true, false, not, ◌&&◌, ◌||◌, cond, eqb, List, [], ◌∷◌, ◌++◌, Option, Some, None, Result, Ok, Err, refl, sym, ap, subst, ⊎_elim, true≢false, append_assoc, append-nil, arith}
+use Rattle.std.proofs.lemmas.Bool.{eqb-true, and_parts, not-true}
 use Rattle.ecma_token.specs.declared.place.Span.{Span}
 use Rattle.ecma_token.specs.Kinds.{comma_kind, arrow_kind, left_paren_kind, right_paren_kind, left_brace_kind, right_brace_kind, dollar_brace_kind, back_quote_kind, template_kind}
 use Rattle.ecma_token.specs.Tokens.{Content, Piece}
-use Rattle.ecma_tree.specs.Tree.{Tree, Trees, none, more, pack, unpack, block_stmt, ident, tpl, tpl_element, arrow_expr, paren_expr, seq_expr, expr_or_spread, binding_ident, expr_pat}
+use Rattle.ecma_tree.specs.Tree.{Tree, Trees, pack, block_stmt, tpl, tpl_element, arrow_expr, paren_expr, seq_expr, expr_or_spread, expr_pat}
 use Rattle.ecma_tree.proofs.PackLemmas.{pack_unpack}
 use Rattle.ecma_tree.specs.Places.{place_of}
-use Rattle.ecma_syntax.specs.Input.{Input, Code, kind, brk, text, content, Takes, lo, hi, span, first_span, with_in, in_arrow, in_list}
+use Rattle.ecma_syntax.specs.Input.{Input, Code, kind, brk, content, Takes, lo, span, first_span, with_in, in_arrow, in_list}
 use Rattle.ecma_syntax.specs.Operators.{expression_level, assignment_level}
-use Rattle.ecma_syntax.specs.Shape.{level, is_simple, is_hole, is_element, is_tail, is_cooked}
-use Rattle.ecma_grammar.specs.Parts.{Part, part, By, Expr, Sorted, Listed, CommaThen}
+use Rattle.ecma_syntax.specs.Shape.{level, is_simple, is_element, is_cooked}
+use Rattle.ecma_grammar.specs.Parts.{part, Expr, Listed, CommaThen}
 use Rattle.ecma_grammar.specs.Expressions.{TemplateSpans, TemplateLiteral}
 use Rattle.ecma_grammar.specs.Functions.{Async, ArrowPattern, ArrowParameters, ArrowExpression}
-use Rattle.ecma_grammar.specs.Patterns.{Item}
 use Rattle.ecma_grammar.specs.Grammar.{Spells, parts}
 use Rattle.ecma_reading.specs.Source.{Fault, ◌>>=◌, unexpected, Stand, Inner, Step, go_on, finished, iterate}
 use Rattle.ecma_reading.specs.Cover.{as_prop, last_rests, to_item, to_items}
-use Rattle.ecma_reading.specs.Expressions.{Elements, Spans as Parted, first, elements_by, quasi, quasi_end, quasi_step, template_by, arrows, arrow_by, params_of, plain_element, plain_elements, last_end, joined, group_end, group_by, ident_end}
-use Rattle.ecma_grammar_laws.proofs.Sure.{lm, seen, next, Grows, same, further, Sure, done, gives, then_sure, sure_map, if_sure, test_sure, only_sure, eat_sure, IsName, StepSure, loop_sure}
-use Rattle.ecma_grammar_laws.proofs.Covers.{patterned, plain, by_no, no_by, Holds, HoldsBy, then_holds, if_holds, holds_map, IsItem, Refines, Elems, IsNil, Element, first_item, items_refine}
-use Rattle.ecma_grammar_laws.proofs.Nested.{Sound, Made, IsBody, body_is, named, takes, Whole, elements_sure, dull}
+use Rattle.ecma_reading.specs.Expressions.{Elements, Spans as Parted, quasi, quasi_end, quasi_step, template_by, arrows, arrow_by, params_of, plain_element, plain_elements, last_end, joined, group_end}
+use Rattle.ecma_grammar_laws.proofs.Sure.{lm, seen, next, Sure, done, then_sure, if_sure, test_sure, only_sure, eat_sure, StepSure, loop_sure}
+use Rattle.ecma_grammar_laws.proofs.Covers.{plain, Holds, then_holds, if_holds, holds_map, IsItem, Elems, IsNil, Element, first_item, items_refine}
+use Rattle.ecma_grammar_laws.proofs.Nested.{Sound, Made, body_is, dull}
 
 -- ---- templates
 

@@ -1,21 +1,21 @@
 -- Lists of statements, blocks, bodies and variables are spelled as they are read.
-use Rattle.std.proofs.Common.{◌≡◌, ℕ, zero, suc, ◌≤◌, ◌⊎◌, inl, inr, Bool, true, false, not, ◌&&◌, ◌||◌, cond, eqb, List, [], ◌∷◌, ◌++◌, Option, Some, None, Result, Ok, Err, refl, sym, ap, ◌∙◌, subst, ⊎_elim, true≢false, append_assoc, append-nil, arith}
-use Rattle.std.proofs.lemmas.Bool.{eqb-true, eqb-false, and_parts, not-true, cases_Bool}
+use Rattle.std.proofs.Common.{◌≡◌, Bool, true, false, ◌&&◌, cond, List, [], ◌∷◌, ◌++◌, Some, None, Ok, refl, sym, subst, true≢false, append_assoc, append-nil, arith}
+use Rattle.std.proofs.lemmas.Bool.{and_parts}
 use Rattle.ecma_token.specs.declared.place.Span.{Span}
 use Rattle.ecma_token.specs.Kinds.{comma_kind, left_brace_kind, right_brace_kind, assign_kind}
-use Rattle.ecma_tree.specs.Tree.{Tree, Trees, none, more, pack, block_stmt, var_declarator, absent, expr_stmt, str_lit}
-use Rattle.ecma_syntax.specs.Input.{Input, Code, kind, Takes, lo, hi, span, in_list, turned_strict}
+use Rattle.ecma_tree.specs.Tree.{Tree, Trees, pack, block_stmt, var_declarator, absent, expr_stmt, str_lit}
+use Rattle.ecma_syntax.specs.Input.{Input, Code, kind, Takes, lo, span, in_list, turned_strict}
 use Rattle.ecma_syntax.specs.Operators.{assignment_level}
 use Rattle.ecma_syntax.specs.Shape.{is_item, is_block, is_use_strict, is_directive, is_declarator, is_absent}
-use Rattle.ecma_grammar.specs.Parts.{Part, part, By, Expr, Sorted, CommaThen, Commas, Items}
-use Rattle.ecma_grammar.specs.Functions.{Closes, Body}
+use Rattle.ecma_grammar.specs.Parts.{part, Expr, Sorted, CommaThen, Commas, Items}
+use Rattle.ecma_grammar.specs.Functions.{Closes}
 use Rattle.ecma_grammar.specs.Statements.{ClosesBlock}
 use Rattle.ecma_grammar.specs.Grammar.{Spells, parts}
-use Rattle.ecma_reading.specs.Source.{Fault, ◌>>=◌, unexpected, Stand, Inner, Step, go_on, finished, iterate, turned}
+use Rattle.ecma_reading.specs.Source.{Stand, Inner, Step, go_on, finished, iterate, turned}
 use Rattle.ecma_reading.specs.Statements.{Body as State, block_step, block_rest, block_by, body_item, body_step, body_by, declarator_by, declarator_step, declarators_by}
 use Rattle.ecma_grammar_laws.proofs.Sure.{lm, seen, next, Sure, done, then_sure, sure_map, if_sure, test_sure, eat_sure, StepSure, loop_sure}
-use Rattle.ecma_grammar_laws.proofs.Covers.{patterned, plain, by_no, not_absent}
-use Rattle.ecma_grammar_laws.proofs.Nested.{Sound, GotBody, GotStmt}
+use Rattle.ecma_grammar_laws.proofs.Covers.{plain, by_no, not_absent}
+use Rattle.ecma_grammar_laws.proofs.Nested.{Sound, GotBody}
 use Rattle.ecma_grammar_laws.proofs.Functions.{Before, All_read, at_start, one_more, at_end, with_last}
 
 -- a directive is an expression statement of a string

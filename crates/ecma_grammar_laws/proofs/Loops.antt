@@ -1,20 +1,20 @@
 -- Loops with a head are spelled as they are read.
-use Rattle.std.proofs.Common.{◌≡◌, ℕ, zero, suc, ◌≤◌, ◌⊎◌, inl, inr, Bool, true, false, not, ◌&&◌, ◌||◌, cond, eqb, leb, List, [], ◌∷◌, Option, Some, None, Result, Ok, Err, refl, sym, ap, ◌∙◌, subst, ⊎_elim, true≢false, arith}
-use Rattle.std.proofs.lemmas.Bool.{eqb-true, eqb-false, and_parts, not-true, cases_Bool, not_from_false, not_from_true, ne_eqb, leb-true, or_from}
+use Rattle.std.proofs.Common.{◌≡◌, ℕ, ◌≤◌, Bool, true, false, not, ◌&&◌, ◌||◌, cond, eqb, List, [], ◌∷◌, Result, Ok, Err, refl, sym, subst, true≢false, arith}
+use Rattle.std.proofs.lemmas.Bool.{eqb-true, and_parts, not-true, not_from_false, ne_eqb, leb-true, or_from}
 use Rattle.ecma_token.specs.declared.place.Span.{Span}
 use Rattle.ecma_token.specs.Kinds.{left_paren_kind, right_paren_kind, left_bracket_kind, left_brace_kind, semicolon_kind, null_kind, await_kind, for_kind, var_kind, let_kind, const_kind, in_kind, async_kind, of_kind, using_kind}
-use Rattle.ecma_tree.specs.Tree.{Tree, Trees, none, more, pack, absent, hole, for_stmt, for_in_stmt, for_of_stmt, var_decl, using_decl, ident, array_lit, object_lit, member_expr, super_prop_expr, paren_expr, assign_expr, expr_or_spread, spread_element, key_value_prop, assign_prop, binding_ident, array_pat, object_pat, expr_pat}
-use Rattle.ecma_syntax.specs.Input.{Input, Code, kind, kind2, brk, brk2, rest, Takes, TakesWord, lo, hi, span, without_in, is_word, barred}
+use Rattle.ecma_tree.specs.Tree.{Tree, pack, absent, hole, for_stmt, for_in_stmt, for_of_stmt, var_decl, using_decl, ident, array_lit, object_lit, member_expr, super_prop_expr, paren_expr, assign_expr, expr_or_spread, spread_element, key_value_prop, assign_prop, array_pat, object_pat, expr_pat}
+use Rattle.ecma_syntax.specs.Input.{Input, Code, kind, kind2, brk2, rest, Takes, TakesWord, lo, span, without_in, is_word, barred}
 use Rattle.ecma_syntax.specs.Operators.{expression_level, assignment_level, may_name}
-use Rattle.ecma_syntax.specs.Shape.{level, is_absent, is_item, is_simple, is_place, is_structured, is_declarator, is_bare_declarator}
-use Rattle.ecma_grammar.specs.Parts.{Part, part, By, Expr, Sorted, Maybe, Commas}
-use Rattle.ecma_grammar.specs.Statements.{Sub, ForOpen, ForAwaitOpen, ForRest, Clause, Over, ForExpression, ForVariables, ForUsing, ForIn, ForOf, HeadVariables, HeadUsing, HeadTarget, OfTarget, OneBare, Bindings, UsingBindings, is_var_word, starts_pattern, starts_using as names_using, starts_head, starts_of}
+use Rattle.ecma_syntax.specs.Shape.{level, is_absent, is_simple, is_place, is_structured}
+use Rattle.ecma_grammar.specs.Parts.{part, Expr}
+use Rattle.ecma_grammar.specs.Statements.{ForOpen, ForAwaitOpen, ForRest, Clause, Over, ForExpression, ForIn, ForOf, HeadTarget, OfTarget, OneBare, Bindings, UsingBindings, is_var_word, starts_pattern, starts_using as names_using, starts_head}
 use Rattle.ecma_grammar.specs.Grammar.{Spells, parts}
-use Rattle.ecma_reading.specs.Source.{Fault, ◌>>=◌, unexpected, Stand, Inner}
+use Rattle.ecma_reading.specs.Source.{Fault, unexpected, Stand, Inner}
 use Rattle.ecma_reading.specs.Cover.{to_item, to_head}
 use Rattle.ecma_reading.specs.Statements.{declarators_by, starts_let, starts_using, starts_await_using, sub_by, clause_by, for_rest, over_rest, in_rest, of_rest, one_bare, head_rest, for_variables, for_using, for_expression_rest, for_expression, for_head, for_by}
-use Rattle.ecma_grammar_laws.proofs.Sure.{lm, seen, next, same, Sure, done, then_sure, sure_map, if_sure, test_sure, only_sure, eat_sure, word_sure}
-use Rattle.ecma_grammar_laws.proofs.Covers.{patterned, plain, by_no, Holds, Refines, IsItem}
+use Rattle.ecma_grammar_laws.proofs.Sure.{lm, seen, next, same, Sure, done, then_sure, if_sure, test_sure, only_sure, eat_sure, word_sure}
+use Rattle.ecma_grammar_laws.proofs.Covers.{plain, by_no, Holds, Refines, IsItem}
 use Rattle.ecma_grammar_laws.proofs.Nested.{Sound, GotStmt, Made}
 use Rattle.ecma_grammar_laws.proofs.Groups.{then_made}
 use Rattle.ecma_grammar_laws.proofs.Operators.{both_hold, array_stays, object_stays}

@@ -1,22 +1,22 @@
 -- Sound readers of nested parts, and what the rules share: literals, keys, elements, bodies.
-use Rattle.std.proofs.Common.{◌≡◌, ℕ, zero, suc, ◌≤◌, ◌⊎◌, inl, inr, Bool, true, false, not, ◌&&◌, ◌||◌, cond, eqb, leb, ltb, List, [], ◌∷◌, ◌++◌, Option, Some, None, Result, Ok, Err, refl, sym, ap, ◌∙◌, subst, ⊎_elim, true≢false, append_assoc, append-nil, arith}
-use Rattle.std.proofs.lemmas.Bool.{eqb-true, eqb-false, and_parts, not-true, cases_Bool, leb-true}
+use Rattle.std.proofs.Common.{◌≡◌, ℕ, ◌≤◌, ◌⊎◌, inl, inr, Bool, true, false, ◌&&◌, cond, eqb, List, [], ◌∷◌, ◌++◌, Option, Some, None, Result, Ok, refl, sym, subst, ⊎_elim, append_assoc, append-nil, arith}
+use Rattle.std.proofs.lemmas.Bool.{eqb-true, eqb-false, and_parts, cases_Bool}
 use Rattle.ecma_token.specs.declared.place.Span.{Span}
 use Rattle.ecma_token.specs.Kinds.{comma_kind, dot_dot_dot_kind, hash_kind, right_bracket_kind, left_bracket_kind, str_kind, num_kind, big_int_kind, regex_kind, semicolon_kind}
-use Rattle.ecma_token.specs.Tokens.{Content, Quoted, Piece, Pattern, Numeral, BigNumeral}
-use Rattle.ecma_tree.specs.Tree.{Tree, Trees, none, more, pack, block_stmt, ident, ident_name, private_name, str_lit, number_lit, big_int_lit, regex_lit, expr_or_spread, computed_prop_name, hole}
-use Rattle.ecma_syntax.specs.Input.{Input, Code, kind, text, content, Takes, TakesWord, TakesName, Spans, Stands, lo, hi, span, first_span, is_word, no_name, barred, with_in, rest}
-use Rattle.ecma_syntax.specs.Operators.{expression_level, assignment_level, new_level, member_level, primary_level, pauses}
-use Rattle.ecma_syntax.specs.Shape.{level, is_binding, is_item, is_hole, is_rest, is_element, is_prop, is_key, is_any_key, is_private, is_string, class_span}
-use Rattle.ecma_grammar.specs.Parts.{Part, part, By, Sorted, Listed, Ends}
+use Rattle.ecma_token.specs.Tokens.{Content, Quoted, Pattern, Numeral, BigNumeral}
+use Rattle.ecma_tree.specs.Tree.{Tree, Trees, block_stmt, ident_name, private_name, str_lit, number_lit, big_int_lit, regex_lit, expr_or_spread, computed_prop_name, hole}
+use Rattle.ecma_syntax.specs.Input.{Input, Code, kind, text, content, Takes, lo, hi, span, first_span, is_word, with_in}
+use Rattle.ecma_syntax.specs.Operators.{assignment_level, new_level, member_level, primary_level, pauses}
+use Rattle.ecma_syntax.specs.Shape.{level, is_binding, is_item, is_hole, is_key, is_private, is_string, class_span}
+use Rattle.ecma_grammar.specs.Parts.{part, By, Ends}
 use Rattle.ecma_grammar.specs.Expressions.{Identifier, Bracketed}
 use Rattle.ecma_grammar.specs.Functions.{Body}
 use Rattle.ecma_grammar.specs.Grammar.{Spells, parts}
-use Rattle.ecma_reading.specs.Source.{Fault, ◌>>=◌, unexpected, Stand, Read, Inner, Step, go_on, finished, eat, end_of, iterate}
+use Rattle.ecma_reading.specs.Source.{Fault, ◌>>=◌, unexpected, Stand, Inner, go_on, finished, end_of}
 use Rattle.ecma_reading.specs.Cover.{to_item}
 use Rattle.ecma_reading.specs.Expressions.{Elements, no_elements, literal, only_kind, literal_by, first, element_by, after_element, element_step, elements_by, computed_by, key_by, private_by}
-use Rattle.ecma_grammar_laws.proofs.Sure.{lm, seen, next, Grows, same, further, Sure, done, gives, never, then_sure, then_grown, sure_map, if_sure, test_sure, only_sure, eat_sure, IsName, name_sure, any_sure, StepSure, loop_sure}
-use Rattle.ecma_grammar_laws.proofs.Covers.{patterned, plain, by_yes, by_no, Holds, IsItem, Refines, Elems, IsNil, Element, element_none, element_some, listed}
+use Rattle.ecma_grammar_laws.proofs.Sure.{lm, seen, next, Grows, further, Sure, done, then_sure, then_grown, sure_map, if_sure, test_sure, eat_sure, IsName, any_sure, StepSure, loop_sure}
+use Rattle.ecma_grammar_laws.proofs.Covers.{patterned, plain, by_no, Holds, IsItem, Refines, Elems, IsNil, Element, element_none, element_some}
 
 -- a level that was asked for, or a bare `new` as the callee of another
 abbrev pub AtLeast : ℕ → Tree → Type 0

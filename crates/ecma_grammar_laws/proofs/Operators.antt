@@ -1,23 +1,22 @@
 -- The loop over infix and postfix operators, and any expression.
-use Rattle.std.proofs.Common.{◌≡◌, ℕ, zero, suc, ◌+◌, ◌≤◌, ◌<◌, ◌⊎◌, inl, inr, min, Bool, true, false, not, ◌&&◌, ◌||◌, cond, eqb, leb, ltb, List, [], ◌∷◌, ◌++◌, Option, Some, None, Result, Ok, Err, refl, sym, ap, ◌∙◌, subst, ⊎_elim, true≢false, arith}
-use Rattle.std.proofs.lemmas.Bool.{eqb-true, eqb-false, and_parts, not-true, cases_Bool, leb-true, ltb-true, ltb-false, ne_eqb}
+use Rattle.std.proofs.Common.{◌≡◌, ℕ, ◌≤◌, ◌⊎◌, inl, inr, Bool, true, false, not, ◌&&◌, ◌||◌, cond, eqb, leb, ltb, List, [], ◌∷◌, ◌++◌, Result, Ok, Err, refl, sym, ap, ◌∙◌, subst, true≢false, arith}
+use Rattle.std.proofs.lemmas.Bool.{eqb-true, and_parts, not-true, leb-true, ltb-false, ne_eqb}
 use Rattle.ecma_token.specs.declared.place.Span.{Span}
-use Rattle.ecma_token.specs.Kinds.{arrow_kind, hash_kind, dot_kind, left_paren_kind, right_paren_kind, left_bracket_kind, left_brace_kind, comma_kind, colon_kind, back_quote_kind, question_mark_kind, plus_plus_kind, minus_minus_kind, regex_kind, div_kind, in_kind, exp_kind, nullish_coalescing_kind, assign_kind, logical_or_kind, logical_and_kind, bit_or_kind, bit_xor_kind, bit_and_kind, eq_eq_kind, not_eq_eq_kind, lt_kind, gt_eq_kind, instanceof_kind, left_shift_kind, zero_fill_right_shift_kind, add_kind, sub_kind, mul_kind, mod_kind}
-use Rattle.ecma_tree.specs.Tree.{Tree, Trees, none, more, pack, unpack, seq_expr, assign_expr, cond_expr, bin_expr, update_expr, call_expr, member_expr, super_prop_expr, opt_chain_expr, opt_call, tagged_tpl, tpl, new_expr, super, import, absent, ident, ident_name, private_name, computed_prop_name, array_lit, object_lit, paren_expr, array_pat, object_pat, binding_ident, expr_pat}
-use Rattle.ecma_tree.proofs.PackLemmas.{pack_unpack}
-use Rattle.ecma_syntax.specs.Input.{Input, Code, kind, kind2, brk, text, Takes, TakesWord, lo, hi, span, first_span, is_word, with_in, has_in}
+use Rattle.ecma_token.specs.Kinds.{arrow_kind, hash_kind, dot_kind, left_paren_kind, left_bracket_kind, comma_kind, colon_kind, back_quote_kind, question_mark_kind, plus_plus_kind, minus_minus_kind, regex_kind, div_kind, in_kind, exp_kind, nullish_coalescing_kind, assign_kind, logical_or_kind, logical_and_kind, bit_or_kind, bit_xor_kind, bit_and_kind, eq_eq_kind, not_eq_eq_kind, lt_kind, gt_eq_kind, instanceof_kind, left_shift_kind, zero_fill_right_shift_kind, add_kind, sub_kind, mul_kind, mod_kind}
+use Rattle.ecma_tree.specs.Tree.{Tree, Trees, none, more, pack, unpack, seq_expr, assign_expr, cond_expr, bin_expr, update_expr, call_expr, member_expr, opt_chain_expr, opt_call, tagged_tpl, tpl, new_expr, super, import, absent, ident, ident_name, private_name, computed_prop_name, array_lit, object_lit, array_pat, object_pat, expr_pat}
+use Rattle.ecma_syntax.specs.Input.{Input, Code, kind, kind2, brk, text, Takes, lo, hi, span, first_span, with_in, has_in}
 use Rattle.ecma_syntax.specs.Operators.{expression_level, assignment_level, conditional_level, coalesce_level, update_level, new_level, call_level, member_level, primary_level, binary_level, right_level, is_assign_op, operates, goes_expr, between}
-use Rattle.ecma_syntax.specs.Shape.{level, ends, fits_left, is_chain, is_private, is_target, is_target_expr, is_bound_name, is_simple, is_word_name, is_structured, is_place}
-use Rattle.ecma_grammar.specs.Parts.{Part, part, By, Expr, CommaThen}
-use Rattle.ecma_grammar.specs.Expressions.{Bracketed, Sequence, Member, Dotted, AccessedName, ChainMember, ChainCall, Optional, TaggedTemplate, Arguments, Call, is_update_op}
+use Rattle.ecma_syntax.specs.Shape.{level, ends, fits_left, is_chain, is_private, is_target, is_target_expr, is_bound_name, is_simple, is_word_name, is_structured}
+use Rattle.ecma_grammar.specs.Parts.{part, By, Expr, CommaThen}
+use Rattle.ecma_grammar.specs.Expressions.{Member, Dotted, AccessedName, ChainMember, Optional, Call}
 use Rattle.ecma_grammar.specs.Grammar.{Spells, parts}
-use Rattle.ecma_reading.specs.Source.{Fault, ◌>>=◌, unexpected, Stand, Inner, Step, go_on, finished, operand, iterate}
+use Rattle.ecma_reading.specs.Source.{Fault, unexpected, Stand, Inner, go_on, finished, operand, iterate}
 use Rattle.ecma_reading.specs.Cover.{has, to_item, to_items, to_target}
 use Rattle.ecma_reading.specs.Expressions.{extended, arguments_by, computed_by, private_by, template_by, prefix_by, member_name, on_chain, member_by, index_by, call_tree, call_by, chain_by, cond_by, assign_by, binary_by, step_by, loop_step, loop_by, private_in, expr_from, expr_by}
-use Rattle.ecma_grammar_laws.proofs.Sure.{lm, seen, next, Grows, same, further, Sure, done, gives, then_sure, sure_map, if_sure, test_sure, only_sure, eat_sure, word_sure, any_sure, StepSure, loop_sure}
-use Rattle.ecma_grammar_laws.proofs.Covers.{patterned, plain, by_yes, by_no, Holds, then_holds, if_holds, Refines, IsItem, Fine, assign_refines}
-use Rattle.ecma_grammar_laws.proofs.Nested.{Sound, Made, AtLeast, GotExpr, dull, IsBracketed, bracketed_is, computed_sure, private_sure}
-use Rattle.ecma_grammar_laws.proofs.Groups.{IsTemplate, template_sure, then_made}
+use Rattle.ecma_grammar_laws.proofs.Sure.{lm, seen, next, same, Sure, done, then_sure, sure_map, if_sure, test_sure, only_sure, eat_sure, word_sure, any_sure, StepSure, loop_sure}
+use Rattle.ecma_grammar_laws.proofs.Covers.{plain, by_yes, Holds, then_holds, if_holds, Refines, IsItem, assign_refines}
+use Rattle.ecma_grammar_laws.proofs.Nested.{Sound, Made, AtLeast, GotExpr, dull, bracketed_is, computed_sure, private_sure}
+use Rattle.ecma_grammar_laws.proofs.Groups.{template_sure, then_made}
 use Rattle.ecma_grammar_laws.proofs.Prefixes.{arguments_sure, prefix_sure, template_is, update_op}
 
 -- ---- what goes on, by the kind alone

@@ -1,18 +1,18 @@
 -- Patterns that bind are spelled as they are read.
-use Rattle.std.proofs.Common.{◌≡◌, ℕ, zero, suc, ◌≤◌, ◌⊎◌, inl, inr, Bool, true, false, not, ◌&&◌, ◌||◌, cond, eqb, List, [], ◌∷◌, ◌++◌, Option, Some, None, Result, Ok, Err, refl, sym, ap, ◌∙◌, subst, ⊎_elim, true≢false, arith}
-use Rattle.std.proofs.lemmas.Bool.{eqb-true, eqb-false, and_parts, not-true, cases_Bool}
+use Rattle.std.proofs.Common.{◌≡◌, ℕ, ◌⊎◌, inl, inr, Bool, true, false, not, ◌&&◌, ◌||◌, eqb, List, [], ◌∷◌, ◌++◌, refl, sym, ap, true≢false, arith}
+use Rattle.std.proofs.lemmas.Bool.{eqb-true, and_parts, not-true}
 use Rattle.ecma_token.specs.Kinds.{comma_kind, colon_kind, dot_dot_dot_kind, left_bracket_kind, right_bracket_kind, left_brace_kind, right_brace_kind, assign_kind}
-use Rattle.ecma_tree.specs.Tree.{Tree, Trees, none, more, pack, ident, hole, absent, binding_ident, array_pat, object_pat, rest_pat, assign_pat, key_value_pat_prop, assign_pat_prop}
-use Rattle.ecma_syntax.specs.Input.{Input, Code, kind, text, Takes, lo, hi, span, first_span, dots_at, with_in}
+use Rattle.ecma_tree.specs.Tree.{Tree, pack, ident, hole, absent, binding_ident, array_pat, object_pat, rest_pat, assign_pat, key_value_pat_prop, assign_pat_prop}
+use Rattle.ecma_syntax.specs.Input.{Input, Code, kind, text, Takes, lo, span, first_span, dots_at, with_in}
 use Rattle.ecma_syntax.specs.Operators.{assignment_level}
 use Rattle.ecma_syntax.specs.Shape.{is_binding, is_item_pat, is_pattern_prop, takes_rest, is_rest, is_hole, is_structured, is_absent, is_key}
-use Rattle.ecma_grammar.specs.Parts.{Part, part, By, IsEmpty, Expr, Listed}
+use Rattle.ecma_grammar.specs.Parts.{part, IsEmpty, Expr}
 use Rattle.ecma_grammar.specs.Patterns.{Item, Property}
 use Rattle.ecma_grammar.specs.Grammar.{Spells, parts}
-use Rattle.ecma_reading.specs.Source.{Fault, ◌>>=◌, unexpected, Stand, Inner, Step, go_on, finished, iterate}
+use Rattle.ecma_reading.specs.Source.{Stand, Inner, Step, go_on, finished, iterate}
 use Rattle.ecma_reading.specs.Expressions.{key_by}
 use Rattle.ecma_reading.specs.Statements.{initial_pat, after_item, array_item, array_pat_by, keyed_item, named_item, pattern_prop, object_item, object_pat_by, pat_by}
-use Rattle.ecma_grammar_laws.proofs.Sure.{lm, seen, next, Grows, Sure, done, then_sure, then_any, weaken, sure_map, if_sure, test_sure, eat_sure, IsName, name_sure, StepSure, loop_sure}
+use Rattle.ecma_grammar_laws.proofs.Sure.{lm, seen, next, Sure, done, then_sure, then_any, weaken, if_sure, test_sure, eat_sure, IsName, name_sure, StepSure, loop_sure}
 use Rattle.ecma_grammar_laws.proofs.Covers.{patterned, plain, by_no, key_in, not_absent}
 use Rattle.ecma_grammar_laws.proofs.Nested.{Sound, GotPat, key_sure}
 use Rattle.ecma_grammar_laws.proofs.Functions.{Before, All_read, at_start, one_more, at_end, with_last, ListedTrees, binding_item, binding_rest}

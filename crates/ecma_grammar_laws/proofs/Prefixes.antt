@@ -1,24 +1,24 @@
 -- What starts an expression: names, words, groups, `new`, `super`, `import`, functions and classes, prefix operators.
-use Rattle.std.proofs.Common.{◌≡◌, ℕ, zero, suc, ◌≤◌, ◌<◌, ◌⊎◌, inl, inr, Bool, true, false, not, ◌&&◌, ◌||◌, cond, eqb, leb, ltb, List, [], ◌∷◌, ◌++◌, Option, Some, None, Result, Ok, Err, refl, sym, ap, ◌∙◌, subst, ⊎_elim, true≢false, arith, eq-eqb}
-use Rattle.std.proofs.lemmas.Bool.{eqb-true, eqb-false, and_parts, not-true, cases_Bool, leb-true, ltb-true, cases_eq, or_cases, or_left}
+use Rattle.std.proofs.Common.{◌≡◌, ℕ, ◌≤◌, ◌⊎◌, inl, inr, Bool, true, false, not, ◌&&◌, ◌||◌, cond, eqb, leb, ltb, List, [], ◌∷◌, Option, Some, None, Ok, refl, sym, ap, ◌∙◌, subst, ⊎_elim, true≢false, arith}
+use Rattle.std.proofs.lemmas.Bool.{eqb-true, and_parts, not-true, cases_Bool, leb-true, ltb-true, cases_eq}
 use Rattle.ecma_token.specs.declared.place.Span.{Span}
-use Rattle.ecma_token.specs.Kinds.{comma_kind, arrow_kind, hash_kind, dot_kind, left_paren_kind, right_paren_kind, left_bracket_kind, left_brace_kind, back_quote_kind, plus_plus_kind, minus_minus_kind, mul_kind, null_kind, true_kind, false_kind, await_kind, function_kind, class_kind, new_kind, this_kind, super_kind, import_kind, yield_kind, async_kind, meta_kind, target_kind}
-use Rattle.ecma_tree.specs.Tree.{Tree, Trees, none, more, pack, this_expr, null_lit, bool_lit, ident, ident_name, fn_expr, class_expr, unary_expr, update_expr, await_expr, yield_expr, new_expr, call_expr, super_prop_expr, meta_prop_expr, super, import, tpl, list, absent, binding_ident, computed_prop_name, expr_or_spread, expr_pat}
-use Rattle.ecma_syntax.specs.Input.{Input, Code, kind, kind2, brk, brk2, text, Takes, TakesWord, lo, hi, span, first_span, is_word, no_name, barred, with_in, by, turned_strict, setting, has_in}
+use Rattle.ecma_token.specs.Kinds.{comma_kind, arrow_kind, dot_kind, left_paren_kind, right_paren_kind, left_bracket_kind, left_brace_kind, back_quote_kind, plus_plus_kind, minus_minus_kind, mul_kind, null_kind, true_kind, false_kind, await_kind, function_kind, class_kind, new_kind, this_kind, super_kind, import_kind, yield_kind, async_kind, meta_kind, target_kind}
+use Rattle.ecma_tree.specs.Tree.{Tree, Trees, pack, this_expr, null_lit, bool_lit, ident, ident_name, fn_expr, class_expr, unary_expr, update_expr, await_expr, yield_expr, new_expr, call_expr, super_prop_expr, meta_prop_expr, super, import, tpl, list, absent, binding_ident, computed_prop_name, expr_or_spread, expr_pat}
+use Rattle.ecma_syntax.specs.Input.{Input, Code, kind, kind2, brk, brk2, text, Takes, TakesWord, lo, hi, span, first_span, is_word, no_name, barred, with_in, by, turned_strict}
 use Rattle.ecma_syntax.specs.Operators.{expression_level, assignment_level, unary_level, new_level, call_level, member_level, goes_expr, other_end, between}
-use Rattle.ecma_syntax.specs.Shape.{level, is_hole, is_element, is_spread, is_absent, is_word_name, is_default_decl, FunctionParts, function_parts, class_span}
-use Rattle.ecma_grammar.specs.Parts.{Part, part, By, IsEmpty, Expr, Sorted, Listed}
-use Rattle.ecma_grammar.specs.Expressions.{ArgumentList, ImportArguments, Bracketed, SuperProperty, Yield, TemplateLiteral, is_update_op}
+use Rattle.ecma_syntax.specs.Shape.{level, is_element, is_spread, is_default_decl, FunctionParts, function_parts, class_span}
+use Rattle.ecma_grammar.specs.Parts.{part, IsEmpty, Sorted}
+use Rattle.ecma_grammar.specs.Expressions.{ArgumentList, ImportArguments, Yield, TemplateLiteral, is_update_op}
 use Rattle.ecma_grammar.specs.Functions.{Async, FunctionExpression, FunctionHead, ClassExpression}
 use Rattle.ecma_grammar.specs.Grammar.{Spells, parts}
-use Rattle.ecma_reading.specs.Source.{Fault, ◌>>=◌, unexpected, Stand, Inner, operand, is_name}
-use Rattle.ecma_reading.specs.Expressions.{Elements, is_unary, first, literal_by, elements_by, array_by, object_by, computed_by, function_by, star, template_by, arrows, arrow_by, params_of, group_by, ident_end, arguments_by, async_group, function_expr_name, function_expr_by, async_by, class_expr_by, new_end, new_by, super_end, fits_import, import_by, unary_by, update_by, await_by, ends_yield, yield_end, yield_by, word_by, fixed, keyword_by, prefix_by}
-use Rattle.ecma_grammar_laws.proofs.Sure.{lm, seen, next, Grows, same, further, Sure, done, gives, then_sure, sure_map, if_sure, test_sure, only_sure, eat_sure, word_sure, IsName, name_sure, any_sure}
-use Rattle.ecma_grammar_laws.proofs.Covers.{patterned, plain, by_yes, by_no, Refines, Holds, IsItem, Elems, IsNil, Element, first_item, listed, not_absent}
-use Rattle.ecma_grammar_laws.proofs.Nested.{Sound, Made, named, takes, Whole, elements_sure, literal_sure, dull, IsBracketed, bracketed_is, computed_sure}
-use Rattle.ecma_grammar_laws.proofs.Functions.{function_sure, GotFunction, star_sure}
+use Rattle.ecma_reading.specs.Source.{unexpected, Stand, Inner, operand, is_name}
+use Rattle.ecma_reading.specs.Expressions.{is_unary, literal_by, elements_by, computed_by, function_by, template_by, arrows, params_of, group_by, ident_end, arguments_by, async_group, function_expr_name, function_expr_by, async_by, class_expr_by, new_end, new_by, super_end, fits_import, import_by, unary_by, update_by, await_by, ends_yield, yield_end, yield_by, word_by, fixed, keyword_by, prefix_by}
+use Rattle.ecma_grammar_laws.proofs.Sure.{lm, seen, next, same, Sure, done, then_sure, sure_map, if_sure, test_sure, only_sure, eat_sure, word_sure, IsName, name_sure, any_sure}
+use Rattle.ecma_grammar_laws.proofs.Covers.{plain, by_yes, by_no, Holds, IsItem, Elems, IsNil, Element, first_item, listed}
+use Rattle.ecma_grammar_laws.proofs.Nested.{Sound, Made, named, elements_sure, literal_sure, dull, bracketed_is, computed_sure}
+use Rattle.ecma_grammar_laws.proofs.Functions.{function_sure, star_sure}
 use Rattle.ecma_grammar_laws.proofs.Primaries.{element_sorted, and_no, soft, array_sure, object_sure}
-use Rattle.ecma_grammar_laws.proofs.Groups.{IsTemplate, template_sure, then_made, IsParams, params_hold, Heads, arrow_sure, paren_sure}
+use Rattle.ecma_grammar_laws.proofs.Groups.{IsTemplate, template_sure, then_made, IsParams, params_hold, arrow_sure, paren_sure}
 
 -- ---- names
 

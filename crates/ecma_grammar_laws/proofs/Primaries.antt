@@ -1,26 +1,23 @@
 -- Arrays, objects, templates, groups and arrows are spelled as they are read.
-use Rattle.std.proofs.Common.{◌≡◌, ℕ, zero, suc, ◌≤◌, ◌⊎◌, inl, inr, Bool, true, false, not, ◌&&◌, ◌||◌, cond, eqb, List, [], ◌∷◌, ◌++◌, Option, Some, None, Result, Ok, Err, refl, sym, ap, ◌∙◌, subst, ⊎_elim, true≢false, append_assoc, append-nil, eq-eqb, arith}
-use Rattle.std.proofs.lemmas.Bool.{eqb-true, eqb-false, and_parts, not-true, cases_Bool, or_left}
+use Rattle.std.proofs.Common.{◌≡◌, ℕ, Bool, true, false, not, ◌&&◌, ◌||◌, cond, eqb, List, ◌∷◌, Option, Some, refl, sym, ◌∙◌, subst, true≢false, eq-eqb, arith}
+use Rattle.std.proofs.lemmas.Bool.{eqb-true, and_parts, not-true, or_left}
 use Rattle.ecma_token.specs.declared.place.Span.{Span}
-use Rattle.ecma_token.specs.Kinds.{comma_kind, colon_kind, dot_dot_dot_kind, arrow_kind, left_paren_kind, right_paren_kind, left_bracket_kind, right_bracket_kind, left_brace_kind, right_brace_kind, dollar_brace_kind, back_quote_kind, template_kind, assign_kind, mul_kind, async_kind, get_kind, set_kind}
-use Rattle.ecma_token.specs.Tokens.{Content, Piece}
-use Rattle.ecma_tree.specs.Tree.{Tree, Trees, none, more, pack, unpack, plain_method, block_stmt, array_lit, object_lit, ident, tpl, tpl_element, arrow_expr, paren_expr, seq_expr, expr_or_spread, spread_element, key_value_prop, assign_prop, getter_prop, setter_prop, method_prop, binding_ident, array_pat, object_pat}
-use Rattle.ecma_tree.proofs.PackLemmas.{pack_unpack}
-use Rattle.ecma_syntax.specs.Input.{Input, Code, kind, kind2, brk, brk2, text, content, escaped, Takes, Spans, TakesWord, lo, hi, span, first_span, is_word, no_name, barred, always_reserved, strict_reserved, operator_word, with_in, in_arrow, in_list, in_body, setting, binding}
-use Rattle.ecma_syntax.specs.Operators.{expression_level, assignment_level, starts_key}
-use Rattle.ecma_syntax.specs.Shape.{level, is_hole, is_rest, is_element, is_prop, is_key, is_tail, is_cooked, is_bound_name, FunctionParts, function_parts, count_of}
-use Rattle.ecma_grammar.specs.Parts.{Part, part, By, Expr, Sorted, Listed, CommaThen}
-use Rattle.ecma_grammar.specs.Expressions.{TemplateSpans, TemplateLiteral}
-use Rattle.ecma_grammar.specs.Functions.{Async, Star, ArrowPattern, ArrowParameters, MethodHead, Method, ObjectMethod}
+use Rattle.ecma_token.specs.Kinds.{colon_kind, dot_dot_dot_kind, left_paren_kind, right_paren_kind, left_bracket_kind, right_bracket_kind, left_brace_kind, right_brace_kind, assign_kind, mul_kind, async_kind, get_kind, set_kind}
+use Rattle.ecma_tree.specs.Tree.{Tree, pack, array_lit, object_lit, ident, expr_or_spread, spread_element, key_value_prop, assign_prop, getter_prop, setter_prop, method_prop}
+use Rattle.ecma_syntax.specs.Input.{Input, Code, kind, kind2, brk2, text, escaped, Spans, lo, span, first_span, no_name, barred, strict_reserved, with_in, in_body, setting}
+use Rattle.ecma_syntax.specs.Operators.{assignment_level, starts_key}
+use Rattle.ecma_syntax.specs.Shape.{is_hole, is_rest, is_element, is_prop, is_key, FunctionParts, function_parts}
+use Rattle.ecma_grammar.specs.Parts.{part, Sorted, Listed}
+use Rattle.ecma_grammar.specs.Functions.{MethodHead, ObjectMethod}
 use Rattle.ecma_grammar.specs.Patterns.{Item, Property}
 use Rattle.ecma_grammar.specs.Grammar.{Spells, parts}
-use Rattle.ecma_reading.specs.Source.{Fault, ◌>>=◌, unexpected, Stand, Inner, Step, go_on, finished, iterate}
-use Rattle.ecma_reading.specs.Cover.{has, is_rest_item, last_rests, to_item, to_items}
-use Rattle.ecma_reading.specs.Expressions.{Elements, no_elements, Spans as Parted, first, elements_by, noted, array_by, key_by, function_by, setter_parameter, pattern_of, star, method_prop_by, getter_by, setter_by, prop_rest, prop_by, prop_step, object_by, quasi, quasi_end, quasi_step, template_by, arrows, arrow_by, params_of, plain_element, plain_elements, last_end, joined, group_end, group_by, ident_end, is_accessor, is_async_head}
-use Rattle.ecma_grammar_laws.proofs.Sure.{lm, seen, next, Grows, same, further, Sure, done, gives, never, then_sure, then_grown, then_any, weaken, sure_map, if_sure, test_sure, only_sure, eat_sure, IsName, name_sure, StepSure, loop_sure}
-use Rattle.ecma_grammar_laws.proofs.Covers.{patterned, plain, by_yes, by_no, Holds, then_holds, if_holds, holds_map, IsItem, Refines, Elems, IsNil, Element, Prop, prop_value, prop_spread, prop_cover, prop_name, listed, items_refine}
-use Rattle.ecma_grammar_laws.proofs.Nested.{Sound, Made, IsBody, body_is, named, takes, Front, Whole, starts, closed, after_sure, elements_sure, key_sure, dull}
-use Rattle.ecma_grammar_laws.proofs.Functions.{function_sure, GotFunction, setter_sure, pattern_spelled, star_sure}
+use Rattle.ecma_reading.specs.Source.{Stand, Inner, finished, iterate}
+use Rattle.ecma_reading.specs.Cover.{has, last_rests, to_items}
+use Rattle.ecma_reading.specs.Expressions.{Elements, no_elements, elements_by, noted, array_by, key_by, function_by, setter_parameter, pattern_of, method_prop_by, getter_by, setter_by, prop_rest, prop_by, prop_step, object_by, is_accessor, is_async_head}
+use Rattle.ecma_grammar_laws.proofs.Sure.{lm, seen, next, Grows, same, further, Sure, done, gives, then_sure, then_grown, then_any, weaken, if_sure, test_sure, eat_sure, name_sure, StepSure, loop_sure}
+use Rattle.ecma_grammar_laws.proofs.Covers.{patterned, plain, then_holds, if_holds, Element, Prop, prop_value, prop_spread, prop_cover, prop_name, listed, items_refine}
+use Rattle.ecma_grammar_laws.proofs.Nested.{Sound, Made, body_is, named, takes, Front, Whole, starts, closed, after_sure, elements_sure, key_sure}
+use Rattle.ecma_grammar_laws.proofs.Functions.{function_sure, setter_sure, pattern_spelled, star_sure}
 
 -- ---- arrays and objects
 

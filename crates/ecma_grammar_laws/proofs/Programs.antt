@@ -1,22 +1,22 @@
 -- Imports, exports and whole programs are spelled as they are read.
-use Rattle.std.proofs.Common.{◌≡◌, ℕ, zero, suc, ◌≤◌, ◌⊎◌, inl, inr, Bool, true, false, not, ◌&&◌, ◌||◌, cond, eqb, leb, List, [], ◌∷◌, ◌++◌, Option, Some, None, Result, Ok, Err, refl, sym, ap, ◌∙◌, subst, ⊎_elim, true≢false, append-nil, arith}
-use Rattle.std.proofs.lemmas.Bool.{eqb-true, eqb-false, and_parts, not-true, cases_Bool, ne_eqb, not_from_false, or_from}
+use Rattle.std.proofs.Common.{◌≡◌, ℕ, ◌⊎◌, inl, inr, Bool, true, false, not, ◌&&◌, ◌||◌, cond, eqb, List, [], ◌∷◌, ◌++◌, Option, Some, None, refl, sym, ap, subst, ⊎_elim, true≢false, append-nil, arith}
+use Rattle.std.proofs.lemmas.Bool.{eqb-true, and_parts, not-true, cases_Bool, ne_eqb, or_from}
 use Rattle.ecma_token.specs.declared.place.Span.{Span}
 use Rattle.ecma_token.specs.Kinds.{left_brace_kind, right_brace_kind, comma_kind, mul_kind, str_kind, shebang_kind, default_kind, function_kind, with_kind, class_kind, export_kind, import_kind, as_kind, assert_kind, async_kind, from_kind}
 use Rattle.ecma_token.specs.Tokens.{Content, Line}
-use Rattle.ecma_tree.specs.Tree.{Tree, Trees, none, more, pack, script, es_module, import_decl, export_decl, named_export, export_default_decl, export_default_expr, export_all, import_named_specifier, import_default_specifier, import_star_as_specifier, export_namespace_specifier, export_named_specifier, ident, absent, str_lit, object_lit}
-use Rattle.ecma_syntax.specs.Input.{Place, Input, Code, kind, kind2, brk, brk2, text, content, Takes, TakesWord, Spans, lo, hi, span, first_span, is_word, in_list, turned_strict, barred}
+use Rattle.ecma_tree.specs.Tree.{Tree, none, more, pack, script, es_module, import_decl, export_decl, named_export, export_default_decl, export_default_expr, export_all, import_named_specifier, import_default_specifier, import_star_as_specifier, export_namespace_specifier, export_named_specifier, ident, absent, str_lit}
+use Rattle.ecma_syntax.specs.Input.{Place, Input, Code, kind, kind2, brk, brk2, text, content, Takes, TakesWord, lo, hi, span, first_span, is_word, in_list, barred}
 use Rattle.ecma_syntax.specs.Operators.{assignment_level, exports_end, source_end, plain_end}
-use Rattle.ecma_syntax.specs.Shape.{level, ends, is_absent, is_string, is_item, is_module_decl, is_exportable, is_default_import, is_star_import, is_named_import, is_star_export, is_named_export, is_default_decl, export_name, is_attributes, is_rest}
-use Rattle.ecma_grammar.specs.Parts.{Part, part, By, IsEmpty, Expr, Sorted, Listed, Items, Ends, AtEnd, is_ident, is_module_item}
-use Rattle.ecma_grammar.specs.Modules.{ExportName, NamedImports, AfterDefault, ImportClause, Attributes, Source, NamedExports, ExportDefault, Specified, starts_default, Hashbang, Program}
+use Rattle.ecma_syntax.specs.Shape.{ends, is_absent, is_string, is_item, is_module_decl, is_exportable, is_default_import, is_star_import, is_named_import, is_star_export, is_named_export, export_name, is_attributes, is_rest}
+use Rattle.ecma_grammar.specs.Parts.{part, By, Sorted, Items, Ends, AtEnd, is_ident, is_module_item}
+use Rattle.ecma_grammar.specs.Modules.{ExportName, NamedImports, AfterDefault, ImportClause, Attributes, Source, NamedExports, ExportDefault, Specified, Hashbang}
 use Rattle.ecma_grammar.specs.Grammar.{Spells, parts}
-use Rattle.ecma_reading.specs.Source.{Fault, ◌>>=◌, unexpected, Stand, Inner, Step, go_on, finished, iterate, is_nil, ended as at_end_of, operand, turned}
+use Rattle.ecma_reading.specs.Source.{unexpected, Stand, Inner, go_on, finished, iterate, is_nil, ended as at_end_of, operand}
 use Rattle.ecma_reading.specs.Statements.{Body as State, starts_async}
 use Rattle.ecma_reading.specs.Expressions.{literal_by, object_by, function_expr_by, class_expr_by}
-use Rattle.ecma_reading.specs.Modules.{From, string_by, export_name_by, local_by, attributes_by, source_by, named_import, named_export_item, specifier_step, specifiers_by, star_import, import_end, import_rest, import_default, import_decl_by, export_default, export_star, export_list, starts_declaration, export_by, starts_import, item_by, program_item, program_step, line_of, program_tree, program_rest, program_by}
-use Rattle.ecma_grammar_laws.proofs.Sure.{lm, seen, next, Grows, Sure, done, then_sure, then_any, weaken, sure_map, if_sure, test_sure, only_sure, eat_sure, word_sure, any_sure, name_sure, StepSure, loop_sure}
-use Rattle.ecma_grammar_laws.proofs.Covers.{patterned, plain, by_yes, by_no}
+use Rattle.ecma_reading.specs.Modules.{From, string_by, export_name_by, local_by, attributes_by, source_by, named_import, named_export_item, specifier_step, specifiers_by, star_import, import_end, import_rest, import_default, import_decl_by, export_default, export_star, export_list, starts_declaration, export_by, starts_import, item_by, program_item, program_step, line_of, program_rest, program_by}
+use Rattle.ecma_grammar_laws.proofs.Sure.{lm, seen, next, Sure, done, then_sure, then_any, weaken, sure_map, if_sure, test_sure, only_sure, eat_sure, word_sure, any_sure, name_sure, StepSure, loop_sure}
+use Rattle.ecma_grammar_laws.proofs.Covers.{plain, by_no}
 use Rattle.ecma_grammar_laws.proofs.Nested.{Sound, named, end_sure, literal_sure}
 use Rattle.ecma_grammar_laws.proofs.Functions.{Before, All_read, at_start, one_more, at_end, with_last, ListedTrees}
 use Rattle.ecma_grammar_laws.proofs.Primaries.{and_no, soft, object_sure}

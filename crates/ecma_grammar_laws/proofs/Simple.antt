@@ -1,21 +1,21 @@
 -- Statements other than loops with a head: spelled as they are read.
-use Rattle.std.proofs.Common.{◌≡◌, ℕ, zero, suc, ◌≤◌, ◌⊎◌, inl, inr, Bool, true, false, not, ◌&&◌, ◌||◌, cond, eqb, leb, List, [], ◌∷◌, ◌++◌, Option, Some, None, Result, Ok, Err, refl, sym, ap, ◌∙◌, subst, ⊎_elim, true≢false, append_assoc, append-nil, arith}
-use Rattle.std.proofs.lemmas.Bool.{eqb-true, eqb-false, and_parts, or_parts, not-true, cases_Bool}
+use Rattle.std.proofs.Common.{◌≡◌, ℕ, ◌≤◌, inl, inr, Bool, true, false, not, ◌&&◌, ◌||◌, eqb, List, [], ◌∷◌, ◌++◌, Ok, refl, sym, ap, ◌∙◌, subst, true≢false, append_assoc, append-nil, arith}
+use Rattle.std.proofs.lemmas.Bool.{or_parts}
 use Rattle.ecma_token.specs.declared.place.Span.{Span}
 use Rattle.ecma_token.specs.Kinds.{left_paren_kind, right_paren_kind, left_brace_kind, right_brace_kind, semicolon_kind, colon_kind, end_kind, case_kind, catch_kind, debugger_kind, default_kind, do_kind, else_kind, finally_kind, if_kind, return_kind, switch_kind, throw_kind, try_kind, while_kind, with_kind}
-use Rattle.ecma_tree.specs.Tree.{Tree, Trees, none, more, pack, ident, absent, with_stmt, while_stmt, do_while_stmt, if_stmt, return_stmt, throw_stmt, debugger_stmt, switch_stmt, switch_case, try_stmt, catch_clause, block_stmt}
+use Rattle.ecma_tree.specs.Tree.{Tree, pack, ident, absent, with_stmt, while_stmt, do_while_stmt, if_stmt, return_stmt, throw_stmt, debugger_stmt, switch_stmt, switch_case, try_stmt, catch_clause}
 use Rattle.ecma_syntax.specs.Input.{Input, Code, kind, brk, text, Takes, TakesWord, lo, hi, span, first_span, in_list, alone, is_strict}
 use Rattle.ecma_syntax.specs.Operators.{expression_level, plain_end}
 use Rattle.ecma_syntax.specs.Shape.{level, ends, is_absent, is_item, is_statement, is_plain_function, is_block, is_case, is_catch, is_default_case, is_binding}
-use Rattle.ecma_grammar.specs.Parts.{Part, part, By, Expr, Sorted, Maybe, Items, Ends, is_ident}
-use Rattle.ecma_grammar.specs.Statements.{Sub, SubOrFunction, InParens, Jump, Case, Cases, ClosesCase, ClosesBlock}
+use Rattle.ecma_grammar.specs.Parts.{part, By, Expr, Sorted, Maybe, Items, Ends, is_ident}
+use Rattle.ecma_grammar.specs.Statements.{Sub, SubOrFunction, InParens, Jump, Cases, ClosesCase}
 use Rattle.ecma_grammar.specs.Grammar.{Spells, parts}
-use Rattle.ecma_reading.specs.Source.{Fault, ◌>>=◌, unexpected, Stand, Inner, Read, Step, go_on, finished, iterate, end_of}
+use Rattle.ecma_reading.specs.Source.{Stand, Inner, go_on, finished, iterate}
 use Rattle.ecma_reading.specs.Statements.{block_by, in_parens, sub_by, with_by, while_by, do_by, if_end, if_by, ends_here, return_by, throw_by, label_by, jump_by, debugger_by, case_step, case_rest, case_by, has_default, cases_step, switch_by, catch_by, finally_by, try_by}
-use Rattle.ecma_grammar_laws.proofs.Sure.{lm, seen, next, Grows, same, Sure, done, gives, then_sure, sure_map, if_sure, test_sure, only_sure, eat_sure, word_sure, IsName, name_sure, StepSure, loop_sure}
-use Rattle.ecma_grammar_laws.proofs.Covers.{patterned, plain, by_yes, by_no}
+use Rattle.ecma_grammar_laws.proofs.Sure.{lm, seen, next, Grows, same, Sure, done, gives, then_sure, if_sure, test_sure, only_sure, eat_sure, word_sure, name_sure, StepSure, loop_sure}
+use Rattle.ecma_grammar_laws.proofs.Covers.{patterned, plain, by_no}
 use Rattle.ecma_grammar_laws.proofs.Nested.{Sound, GotStmt, named, end_sure}
-use Rattle.ecma_grammar_laws.proofs.Functions.{Before, All_read, at_start, one_more, at_end, with_last}
+use Rattle.ecma_grammar_laws.proofs.Functions.{Before, All_read, at_start, one_more, at_end}
 use Rattle.ecma_grammar_laws.proofs.Lists.{block_sure}
 
 pub present : (e : Tree) → 1 ≤ level e → is_absent e ≡ false

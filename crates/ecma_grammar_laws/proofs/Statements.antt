@@ -1,21 +1,21 @@
 -- Any statement or declaration is spelled as it is read.
-use Rattle.std.proofs.Common.{◌≡◌, ℕ, zero, suc, ◌≤◌, ◌⊎◌, inl, inr, Bool, true, false, not, ◌&&◌, ◌||◌, cond, eqb, leb, List, [], ◌∷◌, Option, Some, None, Result, Ok, Err, refl, sym, ap, ◌∙◌, subst, ⊎_elim, true≢false, arith}
-use Rattle.std.proofs.lemmas.Bool.{eqb-true, eqb-false, and_parts, not-true, cases_Bool, ne_eqb, or_from}
+use Rattle.std.proofs.Common.{◌≡◌, ℕ, Bool, true, false, not, ◌&&◌, ◌||◌, cond, eqb, leb, List, Option, Some, Result, refl, sym, ap, subst, true≢false, arith}
+use Rattle.std.proofs.lemmas.Bool.{eqb-true, and_parts, not-true, ne_eqb, or_from}
 use Rattle.ecma_token.specs.declared.place.Span.{Span}
-use Rattle.ecma_token.specs.Kinds.{left_paren_kind, left_bracket_kind, left_brace_kind, semicolon_kind, colon_kind, await_kind, break_kind, continue_kind, debugger_kind, do_kind, for_kind, function_kind, if_kind, return_kind, switch_kind, throw_kind, try_kind, var_kind, let_kind, const_kind, while_kind, with_kind, class_kind, async_kind, using_kind}
-use Rattle.ecma_tree.specs.Tree.{Tree, Trees, none, more, pack, ident, empty_stmt, break_stmt, continue_stmt, fn_decl, class_decl, var_decl, using_decl, expr_stmt, labeled_stmt}
-use Rattle.ecma_syntax.specs.Input.{Input, Code, kind, kind2, brk, brk2, text, Takes, TakesWord, Spans, lo, hi, span, first_span, with_in, turned_strict, setting, barred}
+use Rattle.ecma_token.specs.Kinds.{left_bracket_kind, left_brace_kind, semicolon_kind, colon_kind, await_kind, break_kind, continue_kind, debugger_kind, do_kind, for_kind, function_kind, if_kind, return_kind, switch_kind, throw_kind, try_kind, var_kind, let_kind, const_kind, while_kind, with_kind, class_kind, async_kind, using_kind}
+use Rattle.ecma_tree.specs.Tree.{Tree, pack, ident, empty_stmt, break_stmt, continue_stmt, fn_decl, class_decl, var_decl, using_decl, expr_stmt, labeled_stmt}
+use Rattle.ecma_syntax.specs.Input.{Input, Code, kind, kind2, brk2, text, TakesWord, lo, span, first_span, with_in, turned_strict, barred}
 use Rattle.ecma_syntax.specs.Operators.{expression_level, may_name}
-use Rattle.ecma_syntax.specs.Shape.{level, is_item, is_statement, is_declaration, declarators_end, FunctionParts, function_parts, class_span}
-use Rattle.ecma_grammar.specs.Parts.{Part, part, By, Expr, Sorted, Ends, is_ident}
+use Rattle.ecma_syntax.specs.Shape.{declarators_end, FunctionParts, function_parts, class_span}
+use Rattle.ecma_grammar.specs.Parts.{part, is_ident}
 use Rattle.ecma_grammar.specs.Functions.{Async, FunctionDeclaration, ClassDeclaration}
-use Rattle.ecma_grammar.specs.Statements.{is_var_word, starts_pattern, starts_expression_statement, Bindings, UsingBindings}
+use Rattle.ecma_grammar.specs.Statements.{is_var_word, starts_expression_statement, UsingBindings}
 use Rattle.ecma_grammar.specs.Grammar.{Spells, parts}
-use Rattle.ecma_reading.specs.Source.{Fault, ◌>>=◌, unexpected, Stand, Inner, operand}
-use Rattle.ecma_reading.specs.Expressions.{function_by, star}
-use Rattle.ecma_reading.specs.Statements.{block_by, starts_let, starts_variables, variables_by, starts_using, starts_await_using, using_by, declarators_by, function_decl_by, class_decl_by, sub_by, label_name, statement_class, labelled_by, expression_by, starts_async, keyword_stmt, stmt_by, stmt_from}
-use Rattle.ecma_grammar_laws.proofs.Sure.{lm, seen, next, Sure, done, then_sure, sure_map, at_commas, if_sure, test_sure, only_sure, eat_sure, word_sure, name_sure}
-use Rattle.ecma_grammar_laws.proofs.Covers.{patterned, plain}
+use Rattle.ecma_reading.specs.Source.{Fault, unexpected, Stand, Inner, operand}
+use Rattle.ecma_reading.specs.Expressions.{function_by}
+use Rattle.ecma_reading.specs.Statements.{block_by, starts_variables, variables_by, starts_using, starts_await_using, using_by, declarators_by, function_decl_by, class_decl_by, sub_by, label_name, statement_class, labelled_by, expression_by, starts_async, keyword_stmt, stmt_by, stmt_from}
+use Rattle.ecma_grammar_laws.proofs.Sure.{lm, seen, next, Sure, done, then_sure, sure_map, at_commas, if_sure, test_sure, only_sure, word_sure, name_sure}
+use Rattle.ecma_grammar_laws.proofs.Covers.{plain}
 use Rattle.ecma_grammar_laws.proofs.Nested.{Sound, GotStmt, named, end_sure}
 use Rattle.ecma_grammar_laws.proofs.Functions.{function_sure, star_sure}
 use Rattle.ecma_grammar_laws.proofs.Primaries.{and_no, soft}
