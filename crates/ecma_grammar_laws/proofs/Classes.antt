@@ -1,20 +1,20 @@
 -- Classes and their members are spelled as they are read.
-use Rattle.std.proofs.Common.{◌≡◌, ℕ, zero, suc, ◌≤◌, ◌⊎◌, inl, inr, Bool, true, false, not, ◌&&◌, ◌||◌, cond, eqb, leb, List, [], ◌∷◌, ◌++◌, Option, Some, None, Result, Ok, Err, refl, sym, ap, ◌∙◌, subst, ⊎_elim, true≢false, arith}
-use Rattle.std.proofs.lemmas.Bool.{eqb-true, eqb-false, and_parts, not-true, cases_Bool}
+use Rattle.std.proofs.Common.{◌≡◌, ℕ, ◌⊎◌, inl, inr, Bool, true, false, not, ◌&&◌, ◌||◌, cond, eqb, List, [], ◌∷◌, ◌++◌, Option, Some, None, refl, sym, ap, ◌∙◌, subst, ⊎_elim, true≢false, arith}
+use Rattle.std.proofs.lemmas.Bool.{eqb-true, and_parts, not-true}
 use Rattle.ecma_token.specs.declared.place.Span.{Span}
 use Rattle.ecma_token.specs.Kinds.{left_paren_kind, right_paren_kind, left_brace_kind, right_brace_kind, semicolon_kind, hash_kind, mul_kind, assign_kind, extends_kind, async_kind, static_kind, accessor_kind, get_kind, set_kind}
-use Rattle.ecma_tree.specs.Tree.{Tree, Trees, none, more, pack, plain_method, absent, block_stmt, empty_stmt, function, class, constructor, class_method, private_method, class_prop, private_prop, static_block, auto_accessor}
-use Rattle.ecma_syntax.specs.Input.{Input, Code, kind, kind2, brk, brk2, Takes, TakesWord, Spans, lo, hi, span, first_span, in_body, in_field, in_static, setting}
+use Rattle.ecma_tree.specs.Tree.{Tree, none, more, pack, plain_method, absent, block_stmt, empty_stmt, function, class, class_method, private_method, class_prop, private_prop, static_block, auto_accessor}
+use Rattle.ecma_syntax.specs.Input.{Input, Code, kind, kind2, brk, brk2, Takes, Spans, lo, span, first_span, in_body, in_field, in_static, setting}
 use Rattle.ecma_syntax.specs.Operators.{assignment_level, new_level, starts_key}
-use Rattle.ecma_syntax.specs.Shape.{level, ends, is_absent, is_private, is_key, is_member, is_rest, constructs, field_end, FunctionParts, function_parts, class_span}
-use Rattle.ecma_grammar.specs.Parts.{Part, part, By, Expr, Sorted, Ends}
-use Rattle.ecma_grammar.specs.Functions.{Async, Star, MethodHead, Method, Static, ClassMethod, Initial, Field, Members, Heritage, Closes, Body}
+use Rattle.ecma_syntax.specs.Shape.{ends, is_absent, is_private, is_key, is_member, constructs, field_end, FunctionParts, function_parts, class_span}
+use Rattle.ecma_grammar.specs.Parts.{part, By, Expr, Ends}
+use Rattle.ecma_grammar.specs.Functions.{Async, MethodHead, Method, Static, ClassMethod, Initial, Members, Heritage, Closes}
 use Rattle.ecma_grammar.specs.Grammar.{Spells, parts}
-use Rattle.ecma_reading.specs.Source.{Fault, ◌>>=◌, unexpected, Stand, Inner, Step, go_on, finished, iterate}
-use Rattle.ecma_reading.specs.Expressions.{key_by, private_by, function_by, setter_parameter, star, is_async_head}
+use Rattle.ecma_reading.specs.Source.{Stand, Inner, go_on, finished, iterate}
+use Rattle.ecma_reading.specs.Expressions.{key_by, private_by, function_by, setter_parameter, is_async_head}
 use Rattle.ecma_reading.specs.Statements.{block_rest, field_value, class_key, method_tree, constructor_of, class_method_by, class_getter, class_setter, accessor_by, field_or_method, generator_member, member_rest, starts_static, static_by, member_step, members_by, class_tail_by}
-use Rattle.ecma_grammar_laws.proofs.Sure.{lm, seen, next, Grows, Sure, done, then_sure, sure_map, at_commas, if_sure, test_sure, only_sure, eat_sure, word_sure, StepSure, loop_sure}
-use Rattle.ecma_grammar_laws.proofs.Covers.{patterned, plain, by_no, not_absent}
+use Rattle.ecma_grammar_laws.proofs.Sure.{lm, seen, next, Sure, done, then_sure, sure_map, at_commas, if_sure, test_sure, eat_sure, word_sure, StepSure, loop_sure}
+use Rattle.ecma_grammar_laws.proofs.Covers.{plain, by_no, not_absent}
 use Rattle.ecma_grammar_laws.proofs.Nested.{Sound, GotClass, body_is, key_sure, private_sure, end_sure}
 use Rattle.ecma_grammar_laws.proofs.Functions.{Before, All_read, at_start, one_more, at_end, function_sure, setter_sure, star_sure}
 use Rattle.ecma_grammar_laws.proofs.Primaries.{and_no, soft}
@@ -65,6 +65,7 @@ module _ (inner : Inner Input) (good : Sound inner) where
       right : (a b : Bool) → b ≡ true → (a || b) ≡ true
       right true b e = refl
       right false b e = e
+
       left : (a b : Bool) → a ≡ true → (a || b) ≡ true
       left true b e = refl
       left false b e = absurd (true≢false (sym e))
@@ -73,7 +74,7 @@ module _ (inner : Inner Input) (good : Sound inner) where
   unfolding field_value
   value_sure c e s = test_sure s.commas (kind (seen s)) assign_kind _ _ _
       (λ z. then_sure s.commas (inner.expr (in_field c) assignment_level (next s)) _ _ _ (good.expr (in_field c) assignment_level (next s) (omega arith)) (λ v h. end_sure c (ends v.0) v.1 _ _ (λ r q w. ended v.1 r v.0 _ q
-        (by_no (is_absent v.0) (Ends (plain c) e (seen s) (seen r)) ((m : Input) × (n : Input) × Takes (plain c) assign_kind (seen s) m × Expr assignment_level (in_field (plain c)) (part v.0 (λ y. Spells v.0 y)) m n × Ends (plain c) (ends v.0) n (seen r)) (not_absent v.0 h.0) (seen (next s), seen v.1, (z, tt, refl), (h.0, h.1.spelled), w)))))
+      (by_no (is_absent v.0) (Ends (plain c) e (seen s) (seen r)) ((m : Input) × (n : Input) × Takes (plain c) assign_kind (seen s) m × Expr assignment_level (in_field (plain c)) (part v.0 (λ y. Spells v.0 y)) m n × Ends (plain c) (ends v.0) n (seen r)) (not_absent v.0 h.0) (seen (next s), seen v.1, (z, tt, refl), (h.0, h.1.spelled), w)))))
       (λ _. end_sure c e s _ _ (λ r q w. ended s r absent _ q w))
 
   -- ---- members
@@ -96,22 +97,29 @@ module _ (inner : Inner Input) (good : Sound inner) where
   class_method_sure c start st g a k ms mh s t h e key = then_sure s.commas (function_by lm inner c (lo (seen start)) g a s) _ _ _ (function_sure inner good c (lo (seen start)) g a s) (λ f w. let p = span (lo (seen start)) f.1.source.last in
       if_sure f.1.commas (constructs k && (not st && (not g && not a))) _ _ _
       (λ z. let b = and_parts (constructs k) (not st && (not g && not a)) z in let d = and_parts (not st) (not g && not a) b.1 in let i = and_parts (not g) (not a) d.1 in
-        let t0 : seen start ≡ ms = subst (λ (x : Bool). Static x (plain c) (seen start) ms) (not-true st d.0) t in
-        let h1 = subst (λ (x : Bool). MethodHead x a (plain c) ms mh) (not-true g i.0) h in let h2 = subst (λ (x : Bool). MethodHead false x (plain c) ms mh) (not-true a i.1) h1 in
-        let q1 = subst (λ (x : Bool). function_parts f.0 ≡ Some (record { span = p; generator = x; async = a; count = w.0 })) (not-true g i.0) w.1 in let q2 = subst (λ (x : Bool). function_parts f.0 ≡ Some (record { span = p; generator = false; async = x; count = w.0 })) (not-true a i.1) q1 in
-        done (constructor_of lm inner p k f.0, f.1) (GotMember c start)
-          (constructor_spelled c p p w.0 k f.0 (seen start) (seen s) (seen f.1) b.0 (subst (λ x. Spells k (plain c) x (seen s)) (sym (t0 ∙ h2.1 ∙ h2.2)) key) q2 w.2 refl))
+      let t0 : seen start ≡ ms = subst (λ (x : Bool). Static x (plain c) (seen start) ms) (not-true st d.0) t in
+      let h1 = subst (λ (x : Bool). MethodHead x a (plain c) ms mh) (not-true g i.0) h in let h2 = subst (λ (x : Bool). MethodHead false x (plain c) ms mh) (not-true a i.1) h1 in
+      let q1 = subst (λ (x : Bool). function_parts f.0 ≡ Some (record { span = p; generator = x; async = a; count = w.0 })) (not-true g i.0) w.1 in let q2 = subst (λ (x : Bool). function_parts f.0 ≡ Some (record { span = p; generator = false; async = x; count = w.0 })) (not-true a i.1) q1 in
+      done (constructor_of lm inner p k f.0, f.1) (GotMember c start)
+      (constructor_spelled c p p w.0 k f.0 (seen start) (seen s) (seen f.1) b.0 (subst (λ x. Spells k (plain c) x (seen s)) (sym (t0 ∙ h2.1 ∙ h2.2)) key) q2 w.2 refl))
       (λ n. done (method_tree lm inner p k f.0 plain_method st, f.1) (GotMember c start)
-        (method_made c p k f.0 (record { span = p; generator = g; async = a; count = w.0 }) plain_method st (seen start) ms (seen f.1) e w.1 n t (mh, seen s, h, key, w.2) refl refl)))
+      (method_made c p k f.0 (record { span = p; generator = g; async = a; count = w.0 }) plain_method st (seen start) ms (seen f.1) e w.1 n t (mh, seen s, h, key, w.2) refl refl)))
 
   getter_sure : (c : Code) (start : Stand Input) (st : Bool) (s : Stand Input) → Static st (plain c) (seen start) (seen s) → kind (seen s) ≡ get_kind → Sure s.commas (class_getter lm inner c start st s) (GotMember c start)
   unfolding class_getter
   getter_sure c start st s t e = then_sure s.commas (class_key lm inner c (next s)) _ _ _ (class_key_sure c (next s)) (λ k q. eat_sure left_paren_kind k.1 _ _ (λ o. eat_sure right_paren_kind (next k.1) _ _ (λ u.
       then_sure k.1.commas (inner.body (in_body false false c) (next (next k.1))) _ _ _ (good.body (in_body false false c) (next (next k.1))) (λ b w. let p = span (lo (seen start)) b.1.source.last in
       done (method_tree lm inner p k.0 (function p none none b.0 false false) get_kind st, b.1) (GotMember c start)
-        (method_made c p k.0 (function p none none b.0 false false) (record { span = p; generator = false; async = false; count = 0 }) get_kind st (seen start) (seen s) (seen b.1) q.0 refl (not_plain k.0 st) t
-          (seen (next s), seen k.1, inl (refl, refl), refl, refl, (e, soft c get_kind s e and_no, tt, refl), q.1,
-            body_is (plain (in_body false false c)) (seen (next (next k.1))) (seen b.1) (λ z. Spells (function p none none z false false) (setting false (plain c)) (seen k.1) (seen b.1)) (λ y ss j. (seen (next (next k.1)), tt, (seen (next k.1), (o, tt, refl), (u, tt, refl)), j)) b.0 w) refl refl)))))
+      (method_made c p k.0 (function p none none b.0 false false) (record { span = p; generator = false; async = false; count = 0 }) get_kind st (seen start) (seen s) (seen b.1) q.0 refl (not_plain k.0 st) t (
+        seen (next s),
+        seen k.1,
+        inl (refl, refl),
+        refl,
+        refl,
+        (e, soft c get_kind s e and_no, tt, refl),
+        q.1,
+        body_is (plain (in_body false false c)) (seen (next (next k.1))) (seen b.1) (λ z. Spells (function p none none z false false) (setting false (plain c)) (seen k.1) (seen b.1)) (λ y ss j. (seen (next (next k.1)), tt, (seen (next k.1), (o, tt, refl), (u, tt, refl)), j)) b.0 w,
+      ) refl refl)))))
     where
       not_plain : (k : Tree) (st : Bool) → (constructs k && (not st && false)) ≡ false
       not_plain k st = ap (λ z. constructs k && z) (and_no (not st)) ∙ and_no (constructs k)
@@ -121,9 +129,16 @@ module _ (inner : Inner Input) (good : Sound inner) where
   setter_member_sure c start st s t e = then_sure s.commas (class_key lm inner c (next s)) _ _ _ (class_key_sure c (next s)) (λ k q. then_sure k.1.commas (setter_parameter lm inner (in_body false false c) k.1) _ _ _ (setter_sure inner good (in_body false false c) k.1) (λ x h.
       then_sure x.1.commas (inner.body (in_body false false c) x.1) _ _ _ (good.body (in_body false false c) x.1) (λ b w. let p = span (lo (seen start)) b.1.source.last in
       done (method_tree lm inner p k.0 (function p (more x.0 none) none b.0 false false) set_kind st, b.1) (GotMember c start)
-        (method_made c p k.0 (function p (more x.0 none) none b.0 false false) (record { span = p; generator = false; async = false; count = 1 }) set_kind st (seen start) (seen s) (seen b.1) q.0 refl (not_plain k.0 st) t
-          (seen (next s), seen k.1, inr refl, refl, refl, (e, soft c set_kind s e and_no, tt, refl), q.1,
-            body_is (plain (in_body false false c)) (seen x.1) (seen b.1) (λ z. Spells (function p (more x.0 none) none z false false) (setting true (plain c)) (seen k.1) (seen b.1)) (λ y ss j. (seen x.1, tt, (h.0, h.1, tt, h.3, h.4, (h.2, h.5), h.6), j)) b.0 w) refl refl))))
+      (method_made c p k.0 (function p (more x.0 none) none b.0 false false) (record { span = p; generator = false; async = false; count = 1 }) set_kind st (seen start) (seen s) (seen b.1) q.0 refl (not_plain k.0 st) t (
+        seen (next s),
+        seen k.1,
+        inr refl,
+        refl,
+        refl,
+        (e, soft c set_kind s e and_no, tt, refl),
+        q.1,
+        body_is (plain (in_body false false c)) (seen x.1) (seen b.1) (λ z. Spells (function p (more x.0 none) none z false false) (setting true (plain c)) (seen k.1) (seen b.1)) (λ y ss j. (seen x.1, tt, (h.0, h.1, tt, h.3, h.4, (h.2, h.5), h.6), j)) b.0 w,
+      ) refl refl))))
     where
       not_plain : (k : Tree) (st : Bool) → (constructs k && (not st && false)) ≡ false
       not_plain k st = ap (λ z. constructs k && z) (and_no (not st)) ∙ and_no (constructs k)
@@ -138,8 +153,8 @@ module _ (inner : Inner Input) (good : Sound inner) where
   field_sure c start st s t = then_sure s.commas (class_key lm inner c s) _ _ _ (class_key_sure c s) (λ k q. test_sure k.1.commas (kind (seen k.1)) left_paren_kind _ _ _
       (λ _. class_method_sure c start st false false k.0 (seen s) (seen s) k.1 t (seen s, refl, refl) q.0 q.1)
       (λ _. then_sure k.1.commas (field_value lm inner c (field_end st k.0) k.1) _ _ _ (value_sure c (field_end st k.0) k.1) (λ v h. if_sure v.1.commas (is_private k.0) _ _ _
-        (λ z. done (private_prop (span (lo (seen start)) v.1.source.last) k.0 v.0 st none, v.1) (GotMember c start) (refl, (seen s, seen k.1, tt, z, t, q.1, h, refl)))
-        (λ z. done (class_prop (span (lo (seen start)) v.1.source.last) k.0 v.0 st none, v.1) (GotMember c start) (refl, (seen s, seen k.1, tt, plain_key k.0 q.0 z, t, q.1, h, refl))))))
+      (λ z. done (private_prop (span (lo (seen start)) v.1.source.last) k.0 v.0 st none, v.1) (GotMember c start) (refl, (seen s, seen k.1, tt, z, t, q.1, h, refl)))
+      (λ z. done (class_prop (span (lo (seen start)) v.1.source.last) k.0 v.0 st none, v.1) (GotMember c start) (refl, (seen s, seen k.1, tt, plain_key k.0 q.0 z, t, q.1, h, refl))))))
 
   generator_sure : (c : Code) (start : Stand Input) (st a : Bool) (ms : Input) (s : Stand Input) → Static st (plain c) (seen start) ms → Async a (plain c) ms (seen s) → Sure s.commas (generator_member lm inner c start st a s) (GotMember c start)
   unfolding generator_member
@@ -150,22 +165,22 @@ module _ (inner : Inner Input) (good : Sound inner) where
   unfolding member_rest
   member_rest_sure c start st s t = test_sure s.commas (kind (seen s)) mul_kind _ _ _ (λ _. generator_sure c start st false (seen s) s t refl) (λ _.
       if_sure s.commas (is_async_head lm inner s) _ _ _ (λ z. let b = and_parts (eqb (kind (seen s)) async_kind) ((starts_key (kind2 (seen s)) || eqb (kind2 (seen s)) mul_kind) && not (brk2 (seen s))) z in
-        let e = eqb-true (kind (seen s)) async_kind b.0 in let d = and_parts (starts_key (kind2 (seen s)) || eqb (kind2 (seen s)) mul_kind) (not (brk2 (seen s))) b.1 in
-        generator_sure c start st true (seen s) (next s) t ((e, soft c async_kind s e and_no, tt, refl), not-true (brk2 (seen s)) d.1)) (λ _.
+      let e = eqb-true (kind (seen s)) async_kind b.0 in let d = and_parts (starts_key (kind2 (seen s)) || eqb (kind2 (seen s)) mul_kind) (not (brk2 (seen s))) b.1 in
+      generator_sure c start st true (seen s) (next s) t ((e, soft c async_kind s e and_no, tt, refl), not-true (brk2 (seen s)) d.1)) (λ _.
       if_sure s.commas (eqb (kind (seen s)) get_kind && starts_key (kind2 (seen s))) _ _ _ (λ z. getter_sure c start st s t (eqb-true (kind (seen s)) get_kind (and_parts (eqb (kind (seen s)) get_kind) _ z).0)) (λ _.
       if_sure s.commas (eqb (kind (seen s)) set_kind && starts_key (kind2 (seen s))) _ _ _ (λ z. setter_member_sure c start st s t (eqb-true (kind (seen s)) set_kind (and_parts (eqb (kind (seen s)) set_kind) _ z).0)) (λ _.
       if_sure s.commas (c.syntax.auto_accessors && (eqb (kind (seen s)) accessor_kind && (starts_key (kind2 (seen s)) && not (brk2 (seen s))))) _ _ _
-        (λ z. let b = and_parts c.syntax.auto_accessors (eqb (kind (seen s)) accessor_kind && (starts_key (kind2 (seen s)) && not (brk2 (seen s)))) z in let d = and_parts (eqb (kind (seen s)) accessor_kind) (starts_key (kind2 (seen s)) && not (brk2 (seen s))) b.1 in
-          accessor_sure c start st s t b.0 (eqb-true (kind (seen s)) accessor_kind d.0) (not-true (brk2 (seen s)) (and_parts (starts_key (kind2 (seen s))) (not (brk2 (seen s))) d.1).1)) (λ _.
+      (λ z. let b = and_parts c.syntax.auto_accessors (eqb (kind (seen s)) accessor_kind && (starts_key (kind2 (seen s)) && not (brk2 (seen s)))) z in let d = and_parts (eqb (kind (seen s)) accessor_kind) (starts_key (kind2 (seen s)) && not (brk2 (seen s))) b.1 in
+      accessor_sure c start st s t b.0 (eqb-true (kind (seen s)) accessor_kind d.0) (not-true (brk2 (seen s)) (and_parts (starts_key (kind2 (seen s))) (not (brk2 (seen s))) d.1).1)) (λ _.
       field_sure c start st s t)))))
 
   static_sure : (c : Code) (s : Stand Input) → Sure s.commas (static_by lm inner c s) (GotMember c s)
   unfolding static_by
   static_sure c s = word_sure c static_kind s _ _ (λ e b. test_sure s.commas (kind (seen (next s))) left_brace_kind _ _ _
       (λ z. then_sure s.commas (block_rest lm inner (in_static c) (next s) (next (next s))) _ _ _ (block_rest_sure inner good Closes (in_static c) (λ ts r t. t) (next s) (next (next s))) (λ x h.
-        done (static_block (span (lo (seen s)) x.1.source.last) x.0, x.1) (GotMember c s) (list_is Closes (in_static c) (span (lo (seen (next s))) (seen x.1).last) (seen (next (next s))) (seen x.1)
-          (λ y. (is_member (static_block (span (lo (seen s)) x.1.source.last) y) ≡ true) × Spells (static_block (span (lo (seen s)) x.1.source.last) y) (plain c) (seen s) (seen x.1))
-          (λ p ss q k. (refl, (seen (next s), seen (next (next s)), (e, b, tt, refl), (z, tt, refl), k, q, refl))) x.0 h)))
+      done (static_block (span (lo (seen s)) x.1.source.last) x.0, x.1) (GotMember c s) (list_is Closes (in_static c) (span (lo (seen (next s))) (seen x.1).last) (seen (next (next s))) (seen x.1)
+      (λ y. (is_member (static_block (span (lo (seen s)) x.1.source.last) y) ≡ true) × Spells (static_block (span (lo (seen s)) x.1.source.last) y) (plain c) (seen s) (seen x.1))
+      (λ p ss q k. (refl, (seen (next s), seen (next (next s)), (e, b, tt, refl), (z, tt, refl), k, q, refl))) x.0 h)))
       (λ _. member_rest_sure c s true (next s) (e, b, tt, refl)))
 
   abbrev Parted : Code → List Tree → Input → Input → Type 0
@@ -189,5 +204,5 @@ module _ (inner : Inner Input) (good : Sound inner) where
   unfolding class_tail_by
   class_tail_sure c whole s = test_sure s.commas (kind (seen s)) extends_kind _ _ _
       (λ _. word_sure c extends_kind s _ _ (λ e b. then_sure s.commas (inner.expr c new_level (next s)) _ _ _ (good.expr c new_level (next s) (omega arith)) (λ x h.
-        members_sure c whole x.0 (seen s) x.1 (by_no (is_absent x.0) (seen s ≡ seen x.1) (Heritage (plain c) (part x.0 (λ y. Spells x.0 y)) (seen s) (seen x.1)) (not_absent x.0 (omega (arith, h.0))) (seen (next s), (e, b, tt, refl), (h.0, h.1.spelled))))))
+      members_sure c whole x.0 (seen s) x.1 (by_no (is_absent x.0) (seen s ≡ seen x.1) (Heritage (plain c) (part x.0 (λ y. Spells x.0 y)) (seen s) (seen x.1)) (not_absent x.0 (omega (arith, h.0))) (seen (next s), (e, b, tt, refl), (h.0, h.1.spelled))))))
       (λ _. members_sure c whole absent (seen s) s refl)

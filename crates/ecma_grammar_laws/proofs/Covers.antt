@@ -1,18 +1,17 @@
 -- Expressions refined to patterns: what a refinement answers is spelled as the expression was.
-use Rattle.std.proofs.Common.{◌≡◌, ℕ, zero, suc, ◌≤◌, ◌⊎◌, inl, inr, Bool, true, false, not, ◌&&◌, ◌||◌, cond, eqb, List, [], ◌∷◌, ◌++◌, Option, Some, None, Result, Ok, Err, refl, sym, ap, ◌∙◌, subst, ⊎_elim, true≢false, arith}
-use Rattle.std.proofs.lemmas.Bool.{eqb-true, eqb-false, and_parts, not-true, cases_Bool}
+use Rattle.std.proofs.Common.{◌≡◌, ℕ, ◌≤◌, ◌⊎◌, inl, inr, Bool, true, false, not, ◌&&◌, ◌||◌, cond, eqb, List, [], ◌∷◌, Some, None, Result, Ok, Err, refl, sym, ap, ◌∙◌, subst, ⊎_elim, true≢false, arith}
+use Rattle.std.proofs.lemmas.Bool.{eqb-true, and_parts, cases_Bool}
 use Rattle.ecma_token.specs.declared.place.Span.{Span}
-use Rattle.ecma_token.specs.Kinds.{assign_kind, comma_kind, dot_dot_dot_kind, right_paren_kind, right_bracket_kind, right_brace_kind, left_bracket_kind, left_brace_kind, colon_kind}
-use Rattle.ecma_tree.specs.Tree.{Tree, Trees, none, more, pack, array_lit, object_lit, assign_expr, ident, ident_name, str_lit, number_lit, big_int_lit, computed_prop_name, member_expr, super_prop_expr, paren_expr, expr_or_spread, spread_element, key_value_prop, assign_prop, binding_ident, array_pat, object_pat, assign_pat, rest_pat, key_value_pat_prop, assign_pat_prop, expr_pat, hole, absent}
-use Rattle.ecma_syntax.specs.Input.{Input, Code, Takes, Spans, lo, span, first_span, with_in, assigning, dots_at}
+use Rattle.ecma_token.specs.Kinds.{assign_kind, comma_kind, dot_dot_dot_kind, right_bracket_kind, right_brace_kind, colon_kind}
+use Rattle.ecma_tree.specs.Tree.{Tree, Trees, none, more, pack, assign_expr, ident, ident_name, str_lit, number_lit, big_int_lit, computed_prop_name, member_expr, super_prop_expr, paren_expr, expr_or_spread, spread_element, key_value_prop, assign_prop, binding_ident, array_pat, object_pat, assign_pat, rest_pat, key_value_pat_prop, assign_pat_prop, expr_pat, hole, absent}
+use Rattle.ecma_syntax.specs.Input.{Input, Code, Takes, Spans, first_span, with_in, dots_at}
 use Rattle.ecma_syntax.specs.Operators.{assignment_level}
-use Rattle.ecma_syntax.specs.Shape.{is_simple, is_target, is_target_expr, is_structured, is_place, is_item_pat, is_rest, is_hole, is_spread, is_element, is_prop, is_binding, is_bound_name, is_assigned, is_pattern_prop, takes_rest, is_key, is_absent, level}
-use Rattle.ecma_grammar.specs.Parts.{Part, part, By, IsEmpty, Expr, Sorted, Listed}
+use Rattle.ecma_syntax.specs.Shape.{is_simple, is_target, is_structured, is_place, is_item_pat, is_rest, is_hole, is_element, is_prop, is_binding, is_bound_name, is_assigned, is_pattern_prop, takes_rest, is_key, is_absent, level}
+use Rattle.ecma_grammar.specs.Parts.{Part, part, By, IsEmpty, Expr, Listed}
 use Rattle.ecma_grammar.specs.Patterns.{Item, Property}
 use Rattle.ecma_grammar.specs.Grammar.{Spells, parts}
 use Rattle.ecma_reading.specs.Source.{Fault, ◌>>=◌, unexpected}
-use Rattle.ecma_reading.specs.Cover.{has, binds_names, all_bind, if_binds, initialised, rest_of, is_rest_item, as_prop, last_rests, to_item, to_items}
-use Rattle.ecma_grammar_laws.proofs.Sure.{Grows}
+use Rattle.ecma_reading.specs.Cover.{binds_names, all_bind, if_binds, initialised, rest_of, is_rest_item, as_prop, last_rests, to_item, to_items}
 
 -- the code of an expression's tokens alone, and of a pattern's
 abbrev pub patterned : Bool → Code → Code
@@ -218,9 +217,9 @@ module _ (Q : Tree → Input → Input → Type 0) (P : Part → Input → Input
   listed b [] ts r h = same_code close ts r h.1
   listed b (x ∷ xs) ts r h = ⊎_elim
       (λ (e : is_hole x ≡ true). let k = yes_by (is_hole x) (Hole xs ts r) (One x xs ts r) e h in
-        by_yes (holes && is_hole x) (HoleThere xs ts r) (OneThere x xs ts r) (ap (λ w. w && is_hole x) k.0 ∙ e) (k.1, same_code comma_kind ts k.1 k.2, listed false xs k.1 r k.3))
+      by_yes (holes && is_hole x) (HoleThere xs ts r) (OneThere x xs ts r) (ap (λ w. w && is_hole x) k.0 ∙ e) (k.1, same_code comma_kind ts k.1 k.2, listed false xs k.1 r k.3))
       (λ (e : is_hole x ≡ false). let k = no_by (is_hole x) (Hole xs ts r) (One x xs ts r) e h in let q = g x ts k.0 k.1 in
-        by_no (holes && is_hole x) (HoleThere xs ts r) (OneThere x xs ts r) (no_hole holes (is_hole x) e) (k.0, q.0, ⊎_elim (λ o. inl (q.1, o.0, same_code comma_kind k.0 o.0 o.1, listed true xs o.0 r o.2)) (λ o. inr (nil_empty xs o.0, same_code close k.0 r o.2)) k.2))
+      by_no (holes && is_hole x) (HoleThere xs ts r) (OneThere x xs ts r) (no_hole holes (is_hole x) e) (k.0, q.0, ⊎_elim (λ o. inl (q.1, o.0, same_code comma_kind k.0 o.0 o.1, listed true xs o.0 r o.2)) (λ o. inr (nil_empty xs o.0, same_code close k.0 r o.2)) k.2))
       (cases_Bool (is_hole x))
 
 -- the pattern that comes of an item
@@ -262,18 +261,18 @@ module _ (Q : Tree → Input → Input → Type 0) (P : Part → Input → Input
   items_refine a [] ts r h e = record { so = same_code close ts r h.1 }
   items_refine a (x ∷ []) ts r h e = ⊎_elim
       (λ (z : is_hole x ≡ true). let q = yes_by (is_hole x) (AtHole [] ts r) (AtOne x [] ts r) z h in
-        as_hole x z q.0 (λ p. Ok (more p none)) (Refined ts r) (record { so = hole_items none ts q.1 r q.0 q.2 (same_code close q.1 r q.3.1) }))
+      as_hole x z q.0 (λ p. Ok (more p none)) (Refined ts r) (record { so = hole_items none ts q.1 r q.0 q.2 (same_code close q.1 r q.3.1) }))
       (λ (z : is_hole x ≡ false). let q = no_by (is_hole x) (AtHole [] ts r) (AtOne x [] ts r) z h in
-        then_holds (as_prop props x (to_item b k x)) _ (IsRefined P x ts q.0) _ (refined x ts q.0 q.1) (λ p i. record { so = item_items p none x ts q.0 r i (⊎_elim (λ o. inl (i.1 (subst (λ y. (y && is_rest_item x) ≡ false) o.2.0 e), o.0, o.1, same_code close o.0 r o.2.1)) (λ o. inr (tt, o.2)) q.2) }))
+      then_holds (as_prop props x (to_item b k x)) _ (IsRefined P x ts q.0) _ (refined x ts q.0 q.1) (λ p i. record { so = item_items p none x ts q.0 r i (⊎_elim (λ o. inl (i.1 (subst (λ y. (y && is_rest_item x) ≡ false) o.2.0 e), o.0, o.1, same_code close o.0 r o.2.1)) (λ o. inr (tt, o.2)) q.2) }))
       (cases_Bool (is_hole x))
   items_refine a (x ∷ (y ∷ ys)) ts r h e = if_holds (is_rest_item x) _ _ (Refined ts r) (λ _. record { so = tt }) (λ w. ⊎_elim
       (λ (z : is_hole x ≡ true). let q = yes_by (is_hole x) (AtHole (y ∷ ys) ts r) (AtOne x (y ∷ ys) ts r) z h in
-        as_hole x z q.0 (λ p. to_items props b k (pack (y ∷ ys)) >>= λ ps. Ok (more p ps)) (Refined ts r)
-        (then_holds (to_items props b k (pack (y ∷ ys))) _ (Refined q.1 r) _ (items_refine false (y ∷ ys) q.1 r q.3 e) (λ ps i. record { so = hole_items ps ts q.1 r q.0 q.2 i })))
+      as_hole x z q.0 (λ p. to_items props b k (pack (y ∷ ys)) >>= λ ps. Ok (more p ps)) (Refined ts r)
+      (then_holds (to_items props b k (pack (y ∷ ys))) _ (Refined q.1 r) _ (items_refine false (y ∷ ys) q.1 r q.3 e) (λ ps i. record { so = hole_items ps ts q.1 r q.0 q.2 i })))
       (λ (z : is_hole x ≡ false). let q = no_by (is_hole x) (AtHole (y ∷ ys) ts r) (AtOne x (y ∷ ys) ts r) z h in
-        then_holds (as_prop props x (to_item b k x)) _ (IsRefined P x ts q.0) _ (refined x ts q.0 q.1) (λ p i.
-        ⊎_elim (λ o. then_holds (to_items props b k (pack (y ∷ ys))) _ (Refined o.0 r) _ (items_refine true (y ∷ ys) o.0 r o.2 e) (λ ps j. record { so = item_items p ps x ts q.0 r i (inl (i.1 w, o.0, o.1, j)) }))
-        (λ o. absurd o.0) q.2))
+      then_holds (as_prop props x (to_item b k x)) _ (IsRefined P x ts q.0) _ (refined x ts q.0 q.1) (λ p i.
+      ⊎_elim (λ o. then_holds (to_items props b k (pack (y ∷ ys))) _ (Refined o.0 r) _ (items_refine true (y ∷ ys) o.0 r o.2 e) (λ ps j. record { so = item_items p ps x ts q.0 r i (inl (i.1 w, o.0, o.1, j)) }))
+      (λ o. absurd o.0) q.2))
       (cases_Bool (is_hole x)))
 
 -- ---- an element and a property, with what they may be refined to
@@ -317,7 +316,7 @@ pub element_none : (k : List ℕ) (c : Code) (s : Span) (e : Tree) (ts r : Input
 element_none k c s e ts r l h f e0 = record {
   sort = refl;
   spelled = ((l, h), e0);
-  refines = λ b. holds_map (to_item b k e) (IsItem b (with_in c) ts r) _ (λ p q. as_item b c (expr_or_spread s None e) p ts r q) (f.so b (fine_in e c))
+  refines = λ b. holds_map (to_item b k e) (IsItem b (with_in c) ts r) _ (λ p q. as_item b c (expr_or_spread s None e) p ts r q) (f.so b (fine_in e c));
 }
 
 pub element_some : (k : List ℕ) (c : Code) (s d : Span) (e : Tree) (ts m r : Input) → Takes (plain c) dot_dot_dot_kind ts m → d ≡ first_span ts → 2 ≤ level e → Spells e (plain (with_in c)) m r → Refines k (with_in c) e m r → Spans s ts r → Element k c (expr_or_spread s (Some d) e) ts r
@@ -325,7 +324,7 @@ element_some k c s d e ts m r t0 d0 l h f e0 = record {
   sort = refl;
   spelled = (m, t0, d0, (l, h), e0);
   refines = λ b. then_holds (to_item b k e) (rest_of s) (IsItem b (with_in c) m r) _ (f.so b (fine_in e c)) (λ p q.
-    holds_map (rest_of s p) _ _ (λ z y. ((y.0, y.1), λ w. absurd (true≢false w), y.2)) (rest_holds b c s p ts m r t0 q e0))
+      holds_map (rest_of s p) _ _ (λ z y. ((y.0, y.1), λ w. absurd (true≢false w), y.2)) (rest_holds b c s p ts m r t0 q e0));
 }
 
 -- ---- properties
@@ -348,7 +347,7 @@ prop_value k c s key v ts m n r ke kh t0 l h f e0 = record {
   sort = refl;
   spelled = (m, n, (ke, kh), t0, (l, h), e0);
   refines = λ b. then_holds (to_item b k v) (λ p. Ok (key_value_pat_prop s key p)) (IsItem b (with_in c) n r) _ (f.so b (fine_in v c)) (λ p q.
-    record { so = ((refl, refl, (m, n, (ke, key_in key c ts m ke kh), t0, ((target_item b p q.0).0, q.1), e0)), λ _. refl, refl) })
+      record { so = ((refl, refl, (m, n, (ke, key_in key c ts m ke kh), t0, ((target_item b p q.0).0, q.1), e0)), λ _. refl, refl) });
 }
 
 pub prop_spread : (k : List ℕ) (c : Code) (s : Span) (e : Tree) (ts m r : Input) → Takes (plain c) dot_dot_dot_kind ts m → 2 ≤ level e → Spells e (plain (with_in c)) m r → Refines k (with_in c) e m r → Spans s ts r → Prop k c (spread_element s e) ts r
@@ -356,19 +355,19 @@ prop_spread k c s e ts m r t0 l h f e0 = record {
   sort = refl;
   spelled = (m, t0, (l, h), e0);
   refines = λ b. then_holds (to_item b k e) (λ p. cond (is_structured p) unexpected (rest_of s p)) (IsItem b (with_in c) m r) _ (f.so b (fine_in e c)) (λ p q.
-    if_holds (is_structured p) _ _ _ (λ _. record { so = tt }) (λ w. holds_map (rest_of s p) _ _ (λ z y. ((y.3, y.4 ∙ ap not w, y.1), λ u. absurd (true≢false u), y.2)) (rest_holds b c s p ts m r t0 q e0)))
+      if_holds (is_structured p) _ _ _ (λ _. record { so = tt }) (λ w. holds_map (rest_of s p) _ _ (λ z y. ((y.3, y.4 ∙ ap not w, y.1), λ u. absurd (true≢false u), y.2)) (rest_holds b c s p ts m r t0 q e0)));
 }
 
 pub prop_cover : (k : List ℕ) (c : Code) (s t : Span) (name : List ℕ) (e : Tree) (ts m n r : Input) → Spells (ident t name) (plain c) ts m → Takes (plain c) assign_kind m n → 2 ≤ level e → Spells e (plain (with_in c)) n r → Spans s ts r → Prop k c (assign_prop s (ident t name) e) ts r
 prop_cover k c s t name e ts m n r h0 t0 l h e0 = record {
   sort = refl;
   spelled = (m, n, (refl, h0), t0, (l, h), e0);
-  refines = λ b. record { so = ((refl, refl, (m, (refl, (refl, h0)), by_no (is_absent e) (m ≡ r) ((n : Input) × Takes (patterned b (with_in c)) assign_kind m n × Expr assignment_level (patterned b (with_in c)) (part e (λ y. Spells e y)) n r) (not_absent e l) (n, t0, (l, h)), e0)), λ _. refl, refl) }
+  refines = λ b. record { so = ((refl, refl, (m, (refl, (refl, h0)), by_no (is_absent e) (m ≡ r) ((n : Input) × Takes (patterned b (with_in c)) assign_kind m n × Expr assignment_level (patterned b (with_in c)) (part e (λ y. Spells e y)) n r) (not_absent e l) (n, t0, (l, h)), e0)), λ _. refl, refl) };
 }
 
 pub prop_name : (k : List ℕ) (c : Code) (s : Span) (name : List ℕ) (ts r : Input) → Spells (ident s name) (plain c) ts r → Prop k c (ident s name) ts r
 prop_name k c s name ts r h = record {
   sort = refl;
   spelled = h;
-  refines = λ b. record { so = ((refl, refl, (r, (refl, (refl, h)), refl, h.1)), λ _. refl, refl) }
+  refines = λ b. record { so = ((refl, refl, (r, (refl, (refl, h)), refl, h.1)), λ _. refl, refl) };
 }

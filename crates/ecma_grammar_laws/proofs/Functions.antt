@@ -1,20 +1,19 @@
 -- Parameters, and functions with their bodies.
-use Rattle.std.proofs.Common.{◌≡◌, ℕ, zero, suc, ◌≤◌, ◌⊎◌, inl, inr, Bool, true, false, not, ◌&&◌, ◌||◌, cond, eqb, List, [], ◌∷◌, ◌++◌, Option, Some, None, Result, Ok, Err, refl, sym, ap, ◌∙◌, subst, ⊎_elim, true≢false, append_assoc, append-nil, arith}
-use Rattle.std.proofs.lemmas.Bool.{eqb-true, eqb-false, and_parts, not-true, cases_Bool}
-use Rattle.ecma_token.specs.declared.place.Span.{Span}
+use Rattle.std.proofs.Common.{◌≡◌, ℕ, inl, inr, Bool, true, false, not, ◌&&◌, ◌||◌, eqb, List, [], ◌∷◌, ◌++◌, Some, Result, refl, sym, ap, ◌∙◌, subst, ⊎_elim, true≢false, append_assoc, append-nil, arith}
+use Rattle.std.proofs.lemmas.Bool.{eqb-true, and_parts, not-true, cases_Bool}
 use Rattle.ecma_token.specs.Kinds.{comma_kind, dot_dot_dot_kind, left_paren_kind, right_paren_kind, assign_kind, mul_kind}
-use Rattle.ecma_tree.specs.Tree.{Tree, Trees, none, more, pack, block_stmt, function, param, rest_pat, assign_pat, binding_ident, array_pat, object_pat}
-use Rattle.ecma_syntax.specs.Input.{Input, Code, kind, Takes, lo, hi, span, dots_at, with_in, setting, in_body}
+use Rattle.ecma_tree.specs.Tree.{Tree, none, pack, function, param, rest_pat, assign_pat, binding_ident, array_pat, object_pat}
+use Rattle.ecma_syntax.specs.Input.{Input, Code, kind, Takes, lo, span, dots_at, with_in, setting, in_body}
 use Rattle.ecma_syntax.specs.Operators.{assignment_level}
-use Rattle.ecma_syntax.specs.Shape.{is_binding, is_item_pat, is_param, is_rest, FunctionParts, function_parts, count_of}
-use Rattle.ecma_grammar.specs.Parts.{Part, part, By, Sorted, Listed}
-use Rattle.ecma_grammar.specs.Functions.{Parameters, Body, Star}
+use Rattle.ecma_syntax.specs.Shape.{is_binding, is_item_pat, is_param, is_rest, function_parts, count_of}
+use Rattle.ecma_grammar.specs.Parts.{Part, Sorted, Listed}
+use Rattle.ecma_grammar.specs.Functions.{Parameters, Star}
 use Rattle.ecma_grammar.specs.Grammar.{Spells, parts}
-use Rattle.ecma_reading.specs.Source.{Fault, ◌>>=◌, unexpected, Stand, Inner, Step, go_on, finished, iterate}
+use Rattle.ecma_reading.specs.Source.{Fault, ◌>>=◌, Stand, Inner, go_on, finished, iterate}
 use Rattle.ecma_reading.specs.Expressions.{parameter_by, is_rest_param, parameter_step, parameters_by, function_by, setter_parameter, pattern_of, star}
-use Rattle.ecma_grammar_laws.proofs.Sure.{lm, seen, next, Grows, same, Sure, done, then_sure, sure_map, if_sure, test_sure, eat_sure, StepSure, loop_sure}
+use Rattle.ecma_grammar_laws.proofs.Sure.{lm, seen, next, Sure, done, then_sure, sure_map, if_sure, test_sure, eat_sure, StepSure, loop_sure}
 use Rattle.ecma_grammar_laws.proofs.Covers.{patterned, plain}
-use Rattle.ecma_grammar_laws.proofs.Nested.{Sound, IsBody, body_is, takes}
+use Rattle.ecma_grammar_laws.proofs.Nested.{Sound, body_is, takes}
 
 -- ---- lists that are read from the front
 
@@ -73,11 +72,11 @@ module _ (inner : Inner Input) (good : Sound inner) where
   unfolding parameter_by
   parameter_sure c s = test_sure s.commas (kind (seen s)) dot_dot_dot_kind _ _ _
       (λ e. then_sure s.commas (inner.pat (with_in c) (next s)) _ _ _ (good.pat (with_in c) (next s)) (λ p h. let b = ap (λ z. z || false) h.0 in
-        done (param (span (lo (seen s)) p.1.source.last) none (rest_pat (span (lo (seen s)) p.1.source.last) (dots_at (lo (seen s))) p.0), p.1) (GotParam c s) (refl, (tt, b, (seen (next s), (e, tt, refl), refl, b, h.1, refl), refl))))
+      done (param (span (lo (seen s)) p.1.source.last) none (rest_pat (span (lo (seen s)) p.1.source.last) (dots_at (lo (seen s))) p.0), p.1) (GotParam c s) (refl, (tt, b, (seen (next s), (e, tt, refl), refl, b, h.1, refl), refl))))
       (λ _. then_sure s.commas (inner.pat (with_in c) s) _ _ _ (good.pat (with_in c) s) (λ p h. test_sure p.1.commas (kind (seen p.1)) assign_kind _ _ _
-        (λ e. let b = ap (λ z. z || false) h.0 in then_sure p.1.commas (inner.expr (with_in c) assignment_level (next p.1)) _ _ _ (good.expr (with_in c) assignment_level (next p.1) (omega arith)) (λ v g.
-          done (param (span (lo (seen s)) v.1.source.last) none (assign_pat (span (lo (seen s)) v.1.source.last) p.0 v.0), v.1) (GotParam c s) (refl, (tt, b, (seen p.1, seen (next p.1), b, h.1, (e, tt, refl), (g.0, g.1.spelled), refl), refl))))
-        (λ _. done (param (span (lo (seen s)) p.1.source.last) none p.0, p.1) (GotParam c s) (refl, (tt, binding_item p.0 h.0, h.1, refl)))))
+      (λ e. let b = ap (λ z. z || false) h.0 in then_sure p.1.commas (inner.expr (with_in c) assignment_level (next p.1)) _ _ _ (good.expr (with_in c) assignment_level (next p.1) (omega arith)) (λ v g.
+      done (param (span (lo (seen s)) v.1.source.last) none (assign_pat (span (lo (seen s)) v.1.source.last) p.0 v.0), v.1) (GotParam c s) (refl, (tt, b, (seen p.1, seen (next p.1), b, h.1, (e, tt, refl), (g.0, g.1.spelled), refl), refl))))
+      (λ _. done (param (span (lo (seen s)) p.1.source.last) none p.0, p.1) (GotParam c s) (refl, (tt, binding_item p.0 h.0, h.1, refl)))))
 
   abbrev pub Params : Code → List Tree → Input → Input → Type 0
   Params c ys ts r = ListedTrees false (Sorted is_param (plain c)) (plain c) right_paren_kind ys ts r
@@ -88,8 +87,8 @@ module _ (inner : Inner Input) (good : Sound inner) where
       then_sure s.commas (parameter_by lm inner c s) _ _ _ (parameter_sure c s) (λ p h.
       if_sure p.1.commas (eqb (kind (seen p.1)) comma_kind && not (is_rest_param lm inner p.0)) _ _ _
       (λ e. let q = and_parts (eqb (kind (seen p.1)) comma_kind) (not (is_rest_param lm inner p.0)) e in
-        done (go_on (ps ++ p.0 ∷ []), next p.1) (StepSure (Before (Params c) ts) (All_read (Params c) ts)) (one_more (Params c) ts ps s p.0 (next p.1) b
-          (λ ys r l. (seen p.1, h, inl (rest_same inner p.0 h.0 ∙ not-true (is_rest_param lm inner p.0) q.1, seen (next p.1), takes c comma_kind p.1 (eqb-true (kind (seen p.1)) comma_kind q.0), l)))))
+      done (go_on (ps ++ p.0 ∷ []), next p.1) (StepSure (Before (Params c) ts) (All_read (Params c) ts)) (one_more (Params c) ts ps s p.0 (next p.1) b
+      (λ ys r l. (seen p.1, h, inl (rest_same inner p.0 h.0 ∙ not-true (is_rest_param lm inner p.0) q.1, seen (next p.1), takes c comma_kind p.1 (eqb-true (kind (seen p.1)) comma_kind q.0), l)))))
       (λ _. eat_sure right_paren_kind p.1 _ _ (λ e. done (finished (ps ++ p.0 ∷ []), next p.1) (StepSure (Before (Params c) ts) (All_read (Params c) ts)) (with_last (Params c) ts ps s p.0 (next p.1) b (seen p.1, h, inr (tt, takes c right_paren_kind p.1 e)))))))
 
   pub parameters_sure : (c : Code) (s : Stand Input) → Sure s.commas (parameters_by lm inner c s) (λ x. Parameters (plain c) (parts (pack x.0)) (seen s) (seen x.1))
@@ -106,8 +105,11 @@ module _ (inner : Inner Input) (good : Sound inner) where
   unfolding function_by
   function_sure c whole g a s = then_sure s.commas (parameters_by lm inner (in_body g a c) s) _ _ _ (parameters_sure (in_body g a c) s) (λ ps h.
       then_sure ps.1.commas (inner.body (in_body g a c) ps.1) _ _ _ (good.body (in_body g a c) ps.1) (λ b k.
-      done (function (span whole b.1.source.last) (pack ps.0) none b.0 g a, b.1) (GotFunction c whole g a s) (count_of (pack ps.0), refl,
-        body_is (plain (in_body g a c)) (seen ps.1) (seen b.1) (λ z. Spells (function (span whole b.1.source.last) (pack ps.0) none z g a) (setting false (plain c)) (seen s) (seen b.1)) (λ p ss q. (seen ps.1, tt, h, q)) b.0 k)))
+      done (function (span whole b.1.source.last) (pack ps.0) none b.0 g a, b.1) (GotFunction c whole g a s) (
+        count_of (pack ps.0),
+        refl,
+        body_is (plain (in_body g a c)) (seen ps.1) (seen b.1) (λ z. Spells (function (span whole b.1.source.last) (pack ps.0) none z g a) (setting false (plain c)) (seen s) (seen b.1)) (λ p ss q. (seen ps.1, tt, h, q)) b.0 k,
+      )))
 
   -- a setter's one parameter
   pub setter_sure : (c : Code) (s : Stand Input) → Sure s.commas (setter_parameter lm inner c s) (λ x. (m : Input) × (n : Input) × (is_param x.0 ≡ true) × (is_rest x.0 ≡ false) × Takes (plain c) left_paren_kind (seen s) m × Spells x.0 (plain c) m n × Takes (plain c) right_paren_kind n (seen x.1))

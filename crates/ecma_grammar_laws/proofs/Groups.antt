@@ -1,26 +1,25 @@
 -- Templates, arrows, and what stands in parentheses.
-use Rattle.std.proofs.Common.{◌≡◌, ℕ, zero, suc, ◌≤◌, ◌⊎◌, inl, inr, Bool, true, false, not, ◌&&◌, ◌||◌, cond, eqb, List, [], ◌∷◌, ◌++◌, Option, Some, None, Result, Ok, Err, refl, sym, ap, ◌∙◌, subst, ⊎_elim, true≢false, append_assoc, append-nil, arith}
-use Rattle.std.proofs.lemmas.Bool.{eqb-true, eqb-false, and_parts, not-true, cases_Bool}
+use Rattle.std.proofs.Common.{◌≡◌, ℕ, ◌≤◌, Bool, true, false, not, ◌&&◌, ◌||◌, cond, eqb, List, [], ◌∷◌, ◌++◌, Option, Some, None, Result, Ok, Err, refl, sym, ap, subst, ⊎_elim, true≢false, append_assoc, append-nil, arith}
+use Rattle.std.proofs.lemmas.Bool.{eqb-true, and_parts, not-true}
 use Rattle.ecma_token.specs.declared.place.Span.{Span}
 use Rattle.ecma_token.specs.Kinds.{comma_kind, arrow_kind, left_paren_kind, right_paren_kind, left_brace_kind, right_brace_kind, dollar_brace_kind, back_quote_kind, template_kind}
 use Rattle.ecma_token.specs.Tokens.{Content, Piece}
-use Rattle.ecma_tree.specs.Tree.{Tree, Trees, none, more, pack, unpack, block_stmt, ident, tpl, tpl_element, arrow_expr, paren_expr, seq_expr, expr_or_spread, binding_ident, expr_pat}
+use Rattle.ecma_tree.specs.Tree.{Tree, Trees, pack, block_stmt, tpl, tpl_element, arrow_expr, paren_expr, seq_expr, expr_or_spread, expr_pat}
 use Rattle.ecma_tree.proofs.PackLemmas.{pack_unpack}
 use Rattle.ecma_tree.specs.Places.{place_of}
-use Rattle.ecma_syntax.specs.Input.{Input, Code, kind, brk, text, content, Takes, lo, hi, span, first_span, with_in, in_arrow, in_list}
+use Rattle.ecma_syntax.specs.Input.{Input, Code, kind, brk, content, Takes, lo, span, first_span, with_in, in_arrow, in_list}
 use Rattle.ecma_syntax.specs.Operators.{expression_level, assignment_level}
-use Rattle.ecma_syntax.specs.Shape.{level, is_simple, is_hole, is_element, is_tail, is_cooked}
-use Rattle.ecma_grammar.specs.Parts.{Part, part, By, Expr, Sorted, Listed, CommaThen}
+use Rattle.ecma_syntax.specs.Shape.{level, is_simple, is_element, is_cooked}
+use Rattle.ecma_grammar.specs.Parts.{part, Expr, Listed, CommaThen}
 use Rattle.ecma_grammar.specs.Expressions.{TemplateSpans, TemplateLiteral}
 use Rattle.ecma_grammar.specs.Functions.{Async, ArrowPattern, ArrowParameters, ArrowExpression}
-use Rattle.ecma_grammar.specs.Patterns.{Item}
 use Rattle.ecma_grammar.specs.Grammar.{Spells, parts}
 use Rattle.ecma_reading.specs.Source.{Fault, ◌>>=◌, unexpected, Stand, Inner, Step, go_on, finished, iterate}
 use Rattle.ecma_reading.specs.Cover.{as_prop, last_rests, to_item, to_items}
-use Rattle.ecma_reading.specs.Expressions.{Elements, Spans as Parted, first, elements_by, quasi, quasi_end, quasi_step, template_by, arrows, arrow_by, params_of, plain_element, plain_elements, last_end, joined, group_end, group_by, ident_end}
-use Rattle.ecma_grammar_laws.proofs.Sure.{lm, seen, next, Grows, same, further, Sure, done, gives, then_sure, sure_map, if_sure, test_sure, only_sure, eat_sure, IsName, StepSure, loop_sure}
-use Rattle.ecma_grammar_laws.proofs.Covers.{patterned, plain, by_no, no_by, Holds, HoldsBy, then_holds, if_holds, holds_map, IsItem, Refines, Elems, IsNil, Element, first_item, items_refine}
-use Rattle.ecma_grammar_laws.proofs.Nested.{Sound, Made, IsBody, body_is, named, takes, Whole, elements_sure, dull}
+use Rattle.ecma_reading.specs.Expressions.{Elements, Spans as Parted, quasi, quasi_end, quasi_step, template_by, arrows, arrow_by, params_of, plain_element, plain_elements, last_end, joined, group_end}
+use Rattle.ecma_grammar_laws.proofs.Sure.{lm, seen, next, Sure, done, then_sure, if_sure, test_sure, only_sure, eat_sure, StepSure, loop_sure}
+use Rattle.ecma_grammar_laws.proofs.Covers.{plain, Holds, then_holds, if_holds, holds_map, IsItem, Elems, IsNil, Element, first_item, items_refine}
+use Rattle.ecma_grammar_laws.proofs.Nested.{Sound, Made, body_is, dull}
 
 -- ---- templates
 
@@ -54,7 +53,7 @@ pub params_hold : (inner : Inner Input) (c : Code) (k : List ℕ) (xs : Elements
 unfolding params_of
 params_hold inner c k xs ts r h = if_holds (xs.comma && last_rests xs.items) _ _ _ (λ _. record { so = tt }) (λ z. then_holds (to_items false true k (pack xs.items)) _ (λ ps. Listed false (ArrowPattern (plain c)) (plain c) right_paren_kind (parts ps) ts r) _
     (items_refine (Element k (with_in c)) (ArrowPattern (plain c)) false false (λ q. absurd (true≢false (sym q))) (plain (with_in c)) (plain c) (λ j a b t. t) right_paren_kind xs.comma true k
-      (λ x a b q. holds_map (as_prop false x (to_item true k x)) _ _ (λ p y. y) (q.refines true)) false xs.items ts r h z)
+    (λ x a b q. holds_map (as_prop false x (to_item true k x)) _ _ (λ p y. y) (q.refines true)) false xs.items ts r h z)
     (λ ps l. record { so = subst (λ y. Listed false (ArrowPattern (plain c)) (plain c) right_paren_kind (parts y) ts r) (sym (pack_unpack ps)) l }))
 
 -- ---- elements without dots, as expressions
@@ -102,8 +101,8 @@ seq_holds k c b [] ts r h = record { so = sym h.0 }
 seq_holds k c b (x ∷ xs) ts r h =
     let q = first_item (Element k (with_in c)) (plain (with_in c)) right_paren_kind false b x xs ts r h in
     some_then (plain_element x) _ _ (IsSeq (with_in c) b ts r (x ∷ xs)) (plain_one k c x ts q.0 q.1) (λ e w. ⊎_elim
-      (λ o. some_then (plain_elements xs) _ _ (IsSeq (with_in c) b ts r (x ∷ xs)) (seq_holds k c true xs o.0 r o.2) (λ es y. record { so = more_of c b x xs e es ts q.0 o.0 r w.0 o.1 y (λ z. not_nil k c o.0 r (subst (λ ys. Elems (Element k (with_in c)) false (plain (with_in c)) right_paren_kind false true ys o.0 r) z o.2)) }))
-      (λ o. none_of c b x xs e ts q.0 r w.0 w.1 o.0 o.2) q.2)
+    (λ o. some_then (plain_elements xs) _ _ (IsSeq (with_in c) b ts r (x ∷ xs)) (seq_holds k c true xs o.0 r o.2) (λ es y. record { so = more_of c b x xs e es ts q.0 o.0 r w.0 o.1 y (λ z. not_nil k c o.0 r (subst (λ ys. Elems (Element k (with_in c)) false (plain (with_in c)) right_paren_kind false true ys o.0 r) z o.2)) }))
+    (λ o. none_of c b x xs e ts q.0 r w.0 w.1 o.0 o.2) q.2)
 
 paren_made : (c : Code) (start : Stand Input) (e : Tree) (s : Stand Input) → Spells (paren_expr (span (lo (seen start)) s.source.last) e) (plain c) (seen start) (seen s) → Made c start (paren_expr (span (lo (seen start)) s.source.last) e, s)
 paren_made c start e s h = record { spelled = h; refines = λ k g. record { so = λ b f. paren_item b h } }
@@ -119,15 +118,19 @@ module _ (inner : Inner Input) (good : Sound inner) where
   unfolding quasi_end
   quasi_end_sure c tagged ts x s b e (Piece raw cooked) z = test_sure s.commas (kind (seen (next s))) back_quote_kind _ _ _
       (λ k. let t = tpl_element (first_span (seen s)) true raw cooked in only_sure s.commas (tagged || is_cooked t) _ _ (λ w.
-        done (finished (record { exprs = x.exprs; quasis = x.quasis ++ t ∷ [] }), next (next s)) (Quasis tagged (plain c) ts)
-          (record { so = subst (λ es. TemplateSpans tagged (plain c) (parts (pack es)) (parts (pack (x.quasis ++ t ∷ []))) ts (seen (next (next s)))) (append-nil x.exprs)
-            (b.so [] (t ∷ []) (seen (next (next s))) (seen (next s), tt, refl, w, (refl, (z, (e, tt, refl), refl)), (k, tt, refl))) })))
+      done (finished (record { exprs = x.exprs; quasis = x.quasis ++ t ∷ [] }), next (next s)) (Quasis tagged (plain c) ts)
+      (record {
+        so = subst (λ es. TemplateSpans tagged (plain c) (parts (pack es)) (parts (pack (x.quasis ++ t ∷ []))) ts (seen (next (next s)))) (append-nil x.exprs)
+            (b.so [] (t ∷ []) (seen (next (next s))) (seen (next s), tt, refl, w, (refl, (z, (e, tt, refl), refl)), (k, tt, refl)));
+      })))
       (λ _. eat_sure dollar_brace_kind (next s) _ _ (λ k. then_sure s.commas (inner.expr (with_in c) expression_level (next (next s))) _ _ _ (good.expr (with_in c) expression_level (next (next s)) (omega arith)) (λ v h. eat_sure right_brace_kind v.1 _ _ (λ j.
-        let t = tpl_element (first_span (seen s)) false raw cooked in only_sure v.1.commas (tagged || is_cooked t) _ _ (λ w.
-        done (go_on (record { exprs = x.exprs ++ v.0 ∷ []; quasis = x.quasis ++ t ∷ [] }), next v.1) (Quasis tagged (plain c) ts)
-          (record { so = λ es qs r l. subst (λ y. TemplateSpans tagged (plain c) (parts (pack y)) (parts (pack ((x.quasis ++ t ∷ []) ++ qs))) ts r) (sym (append_assoc x.exprs (v.0 ∷ []) es))
+      let t = tpl_element (first_span (seen s)) false raw cooked in only_sure v.1.commas (tagged || is_cooked t) _ _ (λ w.
+      done (go_on (record { exprs = x.exprs ++ v.0 ∷ []; quasis = x.quasis ++ t ∷ [] }), next v.1) (Quasis tagged (plain c) ts)
+      (record {
+        so = λ es qs r l. subst (λ y. TemplateSpans tagged (plain c) (parts (pack y)) (parts (pack ((x.quasis ++ t ∷ []) ++ qs))) ts r) (sym (append_assoc x.exprs (v.0 ∷ []) es))
             (subst (λ y. TemplateSpans tagged (plain c) (parts (pack (x.exprs ++ (v.0 ∷ es)))) (parts (pack y)) ts r) (sym (append_assoc x.quasis (t ∷ []) qs))
-            (b.so (v.0 ∷ es) (t ∷ qs) r (seen (next s), seen (next (next s)), seen v.1, seen (next v.1), refl, w, (refl, (z, (e, tt, refl), refl)), (k, tt, refl), (h.0, h.1.spelled), (j, tt, refl), l))) }))))))
+            (b.so (v.0 ∷ es) (t ∷ qs) r (seen (next s), seen (next (next s)), seen v.1, seen (next v.1), refl, w, (refl, (z, (e, tt, refl), refl)), (k, tt, refl), (h.0, h.1.spelled), (j, tt, refl), l)));
+      }))))))
   quasi_end_sure c tagged ts x s b e _ z = test_sure s.commas (kind (seen (next s))) back_quote_kind _ _ _ (λ _. record { so = tt })
       (λ _. eat_sure dollar_brace_kind (next s) _ _ (λ k. then_sure s.commas (inner.expr (with_in c) expression_level (next (next s))) _ _ _ (good.expr (with_in c) expression_level (next (next s)) (omega arith)) (λ v h. eat_sure right_brace_kind v.1 _ _ (λ j. record { so = tt }))))
 
@@ -139,7 +142,7 @@ module _ (inner : Inner Input) (good : Sound inner) where
   unfolding template_by
   template_sure c tagged s e = then_sure s.commas (iterate _ (quasi_step lm inner c tagged) (record { exprs = []; quasis = [] }) (next s)) _ _ _
       (loop_sure (quasi_step lm inner c tagged) (Begun tagged (plain c) (seen (next s))) (Ended tagged (plain c) (seen (next s))) (λ x r b. quasi_step_sure c tagged (seen (next s)) x r b)
-        (record { exprs = []; quasis = [] }) (next s) (record { so = λ es qs r l. l }))
+      (record { exprs = []; quasis = [] }) (next s) (record { so = λ es qs r l. l }))
       (λ x h. done (tpl (span (lo (seen s)) x.1.source.last) (pack x.0.exprs) (pack x.0.quasis), x.1) _ (seen (next s), (e, tt, refl), h.so, refl))
 
   -- ---- arrows
@@ -152,12 +155,12 @@ module _ (inner : Inner Input) (good : Sound inner) where
   arrow_sure c start async ps s h a = let b = and_parts (eqb (kind (seen s)) arrow_kind) (not (brk (seen s))) a in let e = eqb-true (kind (seen s)) arrow_kind b.0 in let n = not-true (brk (seen s)) b.1 in
       test_sure s.commas (kind (seen (next s))) left_brace_kind _ _ _
       (λ _. then_sure s.commas (inner.body (in_list (with_in (in_arrow async c))) (next s)) _ _ _ (good.body (in_list (with_in (in_arrow async c))) (next s)) (λ x k.
-        done (arrow_expr (span (lo (seen start)) x.1.source.last) (pack ps) x.0 async, x.1) (Made c start) (body_is (plain (in_list (with_in (in_arrow async c)))) (seen (next s)) (seen x.1)
-          (λ z. Made c start (arrow_expr (span (lo (seen start)) x.1.source.last) (pack ps) z async, x.1))
-          (λ p ss y. dull c start (arrow_expr (span (lo (seen start)) x.1.source.last) (pack ps) (block_stmt p ss) async) x.1 (seen (next s), (h.0, seen s, h.1, h.2, n, (e, tt, refl)), y, refl) (λ l k. refl)) x.0 k)))
+      done (arrow_expr (span (lo (seen start)) x.1.source.last) (pack ps) x.0 async, x.1) (Made c start) (body_is (plain (in_list (with_in (in_arrow async c)))) (seen (next s)) (seen x.1)
+      (λ z. Made c start (arrow_expr (span (lo (seen start)) x.1.source.last) (pack ps) z async, x.1))
+      (λ p ss y. dull c start (arrow_expr (span (lo (seen start)) x.1.source.last) (pack ps) (block_stmt p ss) async) x.1 (seen (next s), (h.0, seen s, h.1, h.2, n, (e, tt, refl)), y, refl) (λ l k. refl)) x.0 k)))
       (λ q. then_sure s.commas (inner.expr (in_arrow async c) assignment_level (next s)) _ _ _ (good.expr (in_arrow async c) assignment_level (next s) (omega arith)) (λ x k.
-        done (arrow_expr (span (lo (seen start)) x.1.source.last) (pack ps) x.0 async, x.1) (Made c start) (dull c start (arrow_expr (span (lo (seen start)) x.1.source.last) (pack ps) x.0 async) x.1
-          (arrow_with (plain c) (span (lo (seen start)) x.1.source.last) (pack ps) x.0 async (seen start) (seen x.1) k.0 (seen (next s), (h.0, seen s, h.1, h.2, n, (e, tt, refl)), q, (k.0, k.1.spelled), refl)) (λ l k. refl))))
+      done (arrow_expr (span (lo (seen start)) x.1.source.last) (pack ps) x.0 async, x.1) (Made c start) (dull c start (arrow_expr (span (lo (seen start)) x.1.source.last) (pack ps) x.0 async) x.1
+      (arrow_with (plain c) (span (lo (seen start)) x.1.source.last) (pack ps) x.0 async (seen start) (seen x.1) k.0 (seen (next s), (h.0, seen s, h.1, h.2, n, (e, tt, refl)), q, (k.0, k.1.spelled), refl)) (λ l k. refl))))
 
   -- ---- parentheses
 
@@ -169,10 +172,10 @@ module _ (inner : Inner Input) (good : Sound inner) where
       (λ _. if_sure s.commas xs.comma _ _ _ (λ _. record { so = tt }) (λ z. inside (plain_elements xs.items) (seq_holds s.commas c false xs.items (seen (next start)) (seen s) (subst (λ b. Elems (Element s.commas (with_in c)) false (plain (with_in c)) right_paren_kind b false xs.items (seen (next start)) (seen s)) z h))))
     where
       inside : (o : Option (List Tree)) → Holds_some o (IsSeq (with_in c) false (seen (next start)) (seen s) xs.items) → Sure s.commas (elim o [
-          | None ↦ unexpected
-          | Some [] ↦ unexpected
-          | Some (e ∷ es) ↦ Ok (paren_expr (span (lo (seen start)) s.source.last) (joined (e ∷ es) (span (lo (seen (next start))) (last_end xs.items))), s)
-        ]) (Made c start)
+        | None ↦ unexpected
+        | Some [] ↦ unexpected
+        | Some (e ∷ es) ↦ Ok (paren_expr (span (lo (seen start)) s.source.last) (joined (e ∷ es) (span (lo (seen (next start))) (last_end xs.items))), s)
+      ]) (Made c start)
       inside None q = record { so = tt }
       inside (Some []) q = record { so = tt }
       inside (Some (x ∷ [])) q = done (paren_expr (span (lo (seen start)) s.source.last) x, s) (Made c start) (paren_made c start x s

@@ -1,21 +1,21 @@
 -- Lists of statements, blocks, bodies and variables are spelled as they are read.
-use Rattle.std.proofs.Common.{◌≡◌, ℕ, zero, suc, ◌≤◌, ◌⊎◌, inl, inr, Bool, true, false, not, ◌&&◌, ◌||◌, cond, eqb, List, [], ◌∷◌, ◌++◌, Option, Some, None, Result, Ok, Err, refl, sym, ap, ◌∙◌, subst, ⊎_elim, true≢false, append_assoc, append-nil, arith}
-use Rattle.std.proofs.lemmas.Bool.{eqb-true, eqb-false, and_parts, not-true, cases_Bool}
+use Rattle.std.proofs.Common.{◌≡◌, Bool, true, false, ◌&&◌, cond, List, [], ◌∷◌, ◌++◌, Some, None, Ok, refl, sym, subst, true≢false, append_assoc, append-nil, arith}
+use Rattle.std.proofs.lemmas.Bool.{and_parts}
 use Rattle.ecma_token.specs.declared.place.Span.{Span}
 use Rattle.ecma_token.specs.Kinds.{comma_kind, left_brace_kind, right_brace_kind, assign_kind}
-use Rattle.ecma_tree.specs.Tree.{Tree, Trees, none, more, pack, block_stmt, var_declarator, absent, expr_stmt, str_lit}
-use Rattle.ecma_syntax.specs.Input.{Input, Code, kind, Takes, lo, hi, span, in_list, turned_strict}
+use Rattle.ecma_tree.specs.Tree.{Tree, Trees, pack, block_stmt, var_declarator, absent, expr_stmt, str_lit}
+use Rattle.ecma_syntax.specs.Input.{Input, Code, kind, Takes, lo, span, in_list, turned_strict}
 use Rattle.ecma_syntax.specs.Operators.{assignment_level}
 use Rattle.ecma_syntax.specs.Shape.{is_item, is_block, is_use_strict, is_directive, is_declarator, is_absent}
-use Rattle.ecma_grammar.specs.Parts.{Part, part, By, Expr, Sorted, CommaThen, Commas, Items}
-use Rattle.ecma_grammar.specs.Functions.{Closes, Body}
+use Rattle.ecma_grammar.specs.Parts.{part, Expr, Sorted, CommaThen, Commas, Items}
+use Rattle.ecma_grammar.specs.Functions.{Closes}
 use Rattle.ecma_grammar.specs.Statements.{ClosesBlock}
 use Rattle.ecma_grammar.specs.Grammar.{Spells, parts}
-use Rattle.ecma_reading.specs.Source.{Fault, ◌>>=◌, unexpected, Stand, Inner, Step, go_on, finished, iterate, turned}
+use Rattle.ecma_reading.specs.Source.{Stand, Inner, Step, go_on, finished, iterate, turned}
 use Rattle.ecma_reading.specs.Statements.{Body as State, block_step, block_rest, block_by, body_item, body_step, body_by, declarator_by, declarator_step, declarators_by}
 use Rattle.ecma_grammar_laws.proofs.Sure.{lm, seen, next, Sure, done, then_sure, sure_map, if_sure, test_sure, eat_sure, StepSure, loop_sure}
-use Rattle.ecma_grammar_laws.proofs.Covers.{patterned, plain, by_no, not_absent}
-use Rattle.ecma_grammar_laws.proofs.Nested.{Sound, GotBody, GotStmt}
+use Rattle.ecma_grammar_laws.proofs.Covers.{plain, by_no, not_absent}
+use Rattle.ecma_grammar_laws.proofs.Nested.{Sound, GotBody}
 use Rattle.ecma_grammar_laws.proofs.Functions.{Before, All_read, at_start, one_more, at_end, with_last}
 
 -- a directive is an expression statement of a string
@@ -69,23 +69,26 @@ module _ (inner : Inner Input) (good : Sound inner) where
   -- after one item
   pub body_goes : (may : Tree → Bool) (close : Code → Input → Input → Type 0) (c : Code) (ts : Input) (b : State) (s : Stand Input) (t : Tree × Stand Input) → BodyFront may close c ts b s → may t.0 ≡ true → Spells t.0 (plain (in_list b.code)) (seen s) (seen t.1)
       → Sure t.1.commas (cond (b.starts && is_use_strict t.0) (Ok (go_on (record { items = b.items ++ t.0 ∷ []; code = turned_strict b.code; starts = true }), turned lm (turned_strict b.code).context t.1)) (Ok (go_on (record { items = b.items ++ t.0 ∷ []; code = b.code; starts = b.starts && is_directive t.0 }), t.1)))
-        (BodySteps may close c ts)
+      (BodySteps may close c ts)
   body_goes may close c ts b s t i e h = if_sure t.1.commas (b.starts && is_use_strict t.0) _ _ _
       (λ z. let p = and_parts b.starts (is_use_strict t.0) z in
-        done (go_on (record { items = b.items ++ t.0 ∷ []; code = turned_strict b.code; starts = true }), turned lm (turned_strict b.code).context t.1) (BodySteps may close c ts)
-        (record { so = λ ys r k. snoc ys r (i.so (t.0 ∷ ys) r (seen t.1, e, h, turned_items ys r z (started b.starts (is_directive t.0) p.0 (strict_directive t.0 p.1)) k)) }))
+      done (go_on (record { items = b.items ++ t.0 ∷ []; code = turned_strict b.code; starts = true }), turned lm (turned_strict b.code).context t.1) (BodySteps may close c ts)
+      (record { so = λ ys r k. snoc ys r (i.so (t.0 ∷ ys) r (seen t.1, e, h, turned_items ys r z (started b.starts (is_directive t.0) p.0 (strict_directive t.0 p.1)) k)) }))
       (λ z. done (go_on (record { items = b.items ++ t.0 ∷ []; code = b.code; starts = b.starts && is_directive t.0 }), t.1) (BodySteps may close c ts)
-        (record { so = λ ys r k. snoc ys r (i.so (t.0 ∷ ys) r (seen t.1, e, h, plain_items ys r z k)) }))
+      (record { so = λ ys r k. snoc ys r (i.so (t.0 ∷ ys) r (seen t.1, e, h, plain_items ys r z k)) }))
     where
       started : (x y : Bool) → x ≡ true → y ≡ true → (x && y) ≡ true
       started true y e k = k
       started false y e k = absurd (true≢false (sym e))
+
       snoc : (ys : List Tree) (r : Input) → Items may close (plain c) true (parts (pack (b.items ++ (t.0 ∷ ys)))) ts r → Items may close (plain c) true (parts (pack ((b.items ++ t.0 ∷ []) ++ ys))) ts r
       snoc ys r k = subst (λ z. Items may close (plain c) true (parts (pack z)) ts r) (sym (append_assoc b.items (t.0 ∷ []) ys)) k
+
       turned_items : (ys : List Tree) (r : Input) → (b.starts && is_use_strict t.0) ≡ true → (b.starts && is_directive t.0) ≡ true → Items may close (plain (turned_strict b.code)) true (parts (pack ys)) (seen t.1) r
           → Items may close (cond (b.starts && is_use_strict t.0) (turned_strict (plain b.code)) (plain b.code)) (b.starts && is_directive t.0) (parts (pack ys)) (seen t.1) r
       turned_items ys r z w k = subst (λ (x : Bool). Items may close (cond x (turned_strict (plain b.code)) (plain b.code)) (b.starts && is_directive t.0) (parts (pack ys)) (seen t.1) r) (sym z)
           (subst (λ (x : Bool). Items may close (turned_strict (plain b.code)) x (parts (pack ys)) (seen t.1) r) (sym w) k)
+
       plain_items : (ys : List Tree) (r : Input) → (b.starts && is_use_strict t.0) ≡ false → Items may close (plain b.code) (b.starts && is_directive t.0) (parts (pack ys)) (seen t.1) r
           → Items may close (cond (b.starts && is_use_strict t.0) (turned_strict (plain b.code)) (plain b.code)) (b.starts && is_directive t.0) (parts (pack ys)) (seen t.1) r
       plain_items ys r z k = subst (λ (x : Bool). Items may close (cond x (turned_strict (plain b.code)) (plain b.code)) (b.starts && is_directive t.0) (parts (pack ys)) (seen t.1) r) (sym z) k
@@ -108,7 +111,7 @@ module _ (inner : Inner Input) (good : Sound inner) where
   unfolding declarator_by
   declarator_sure c s = then_sure s.commas (inner.pat c s) _ _ _ (good.pat c s) (λ p h. test_sure p.1.commas (kind (seen p.1)) assign_kind _ _ _
       (λ e. then_sure p.1.commas (inner.expr c assignment_level (next p.1)) _ _ _ (good.expr c assignment_level (next p.1) (omega arith)) (λ v k.
-        done (var_declarator (span (lo (seen s)) v.1.source.last) p.0 v.0, v.1) _ (refl, (seen p.1, h.0, h.1, by_no (is_absent v.0) (seen p.1 ≡ seen v.1) ((n : Input) × Takes (plain c) assign_kind (seen p.1) n × Expr assignment_level (plain c) (part v.0 (λ y. Spells v.0 y)) n (seen v.1)) (not_absent v.0 k.0) (seen (next p.1), (e, tt, refl), (k.0, k.1.spelled)), refl))))
+      done (var_declarator (span (lo (seen s)) v.1.source.last) p.0 v.0, v.1) _ (refl, (seen p.1, h.0, h.1, by_no (is_absent v.0) (seen p.1 ≡ seen v.1) ((n : Input) × Takes (plain c) assign_kind (seen p.1) n × Expr assignment_level (plain c) (part v.0 (λ y. Spells v.0 y)) n (seen v.1)) (not_absent v.0 k.0) (seen (next p.1), (e, tt, refl), (k.0, k.1.spelled)), refl))))
       (λ _. done (var_declarator (span (lo (seen s)) p.1.source.last) p.0 absent, p.1) _ (refl, (seen p.1, h.0, h.1, refl, refl))))
 
   abbrev pub Declarators : Code → List Tree → Input → Input → Type 0

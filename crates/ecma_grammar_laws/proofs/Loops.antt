@@ -1,20 +1,20 @@
 -- Loops with a head are spelled as they are read.
-use Rattle.std.proofs.Common.{◌≡◌, ℕ, zero, suc, ◌≤◌, ◌⊎◌, inl, inr, Bool, true, false, not, ◌&&◌, ◌||◌, cond, eqb, leb, List, [], ◌∷◌, Option, Some, None, Result, Ok, Err, refl, sym, ap, ◌∙◌, subst, ⊎_elim, true≢false, arith}
-use Rattle.std.proofs.lemmas.Bool.{eqb-true, eqb-false, and_parts, not-true, cases_Bool, not_from_false, not_from_true, ne_eqb, leb-true, or_from}
+use Rattle.std.proofs.Common.{◌≡◌, ℕ, ◌≤◌, Bool, true, false, not, ◌&&◌, ◌||◌, cond, eqb, List, [], ◌∷◌, Result, Ok, Err, refl, sym, subst, true≢false, arith}
+use Rattle.std.proofs.lemmas.Bool.{eqb-true, and_parts, not-true, not_from_false, ne_eqb, leb-true, or_from}
 use Rattle.ecma_token.specs.declared.place.Span.{Span}
 use Rattle.ecma_token.specs.Kinds.{left_paren_kind, right_paren_kind, left_bracket_kind, left_brace_kind, semicolon_kind, null_kind, await_kind, for_kind, var_kind, let_kind, const_kind, in_kind, async_kind, of_kind, using_kind}
-use Rattle.ecma_tree.specs.Tree.{Tree, Trees, none, more, pack, absent, hole, for_stmt, for_in_stmt, for_of_stmt, var_decl, using_decl, ident, array_lit, object_lit, member_expr, super_prop_expr, paren_expr, assign_expr, expr_or_spread, spread_element, key_value_prop, assign_prop, binding_ident, array_pat, object_pat, expr_pat}
-use Rattle.ecma_syntax.specs.Input.{Input, Code, kind, kind2, brk, brk2, rest, Takes, TakesWord, lo, hi, span, without_in, is_word, barred}
+use Rattle.ecma_tree.specs.Tree.{Tree, pack, absent, hole, for_stmt, for_in_stmt, for_of_stmt, var_decl, using_decl, ident, array_lit, object_lit, member_expr, super_prop_expr, paren_expr, assign_expr, expr_or_spread, spread_element, key_value_prop, assign_prop, array_pat, object_pat, expr_pat}
+use Rattle.ecma_syntax.specs.Input.{Input, Code, kind, kind2, brk2, rest, Takes, TakesWord, lo, span, without_in, is_word, barred}
 use Rattle.ecma_syntax.specs.Operators.{expression_level, assignment_level, may_name}
-use Rattle.ecma_syntax.specs.Shape.{level, is_absent, is_item, is_simple, is_place, is_structured, is_declarator, is_bare_declarator}
-use Rattle.ecma_grammar.specs.Parts.{Part, part, By, Expr, Sorted, Maybe, Commas}
-use Rattle.ecma_grammar.specs.Statements.{Sub, ForOpen, ForAwaitOpen, ForRest, Clause, Over, ForExpression, ForVariables, ForUsing, ForIn, ForOf, HeadVariables, HeadUsing, HeadTarget, OfTarget, OneBare, Bindings, UsingBindings, is_var_word, starts_pattern, starts_using as names_using, starts_head, starts_of}
+use Rattle.ecma_syntax.specs.Shape.{level, is_absent, is_simple, is_place, is_structured}
+use Rattle.ecma_grammar.specs.Parts.{part, Expr}
+use Rattle.ecma_grammar.specs.Statements.{ForOpen, ForAwaitOpen, ForRest, Clause, Over, ForExpression, ForIn, ForOf, HeadTarget, OfTarget, OneBare, Bindings, UsingBindings, is_var_word, starts_pattern, starts_using as names_using, starts_head}
 use Rattle.ecma_grammar.specs.Grammar.{Spells, parts}
-use Rattle.ecma_reading.specs.Source.{Fault, ◌>>=◌, unexpected, Stand, Inner}
+use Rattle.ecma_reading.specs.Source.{Fault, unexpected, Stand, Inner}
 use Rattle.ecma_reading.specs.Cover.{to_item, to_head}
 use Rattle.ecma_reading.specs.Statements.{declarators_by, starts_let, starts_using, starts_await_using, sub_by, clause_by, for_rest, over_rest, in_rest, of_rest, one_bare, head_rest, for_variables, for_using, for_expression_rest, for_expression, for_head, for_by}
-use Rattle.ecma_grammar_laws.proofs.Sure.{lm, seen, next, same, Sure, done, then_sure, sure_map, if_sure, test_sure, only_sure, eat_sure, word_sure}
-use Rattle.ecma_grammar_laws.proofs.Covers.{patterned, plain, by_no, Holds, Refines, IsItem}
+use Rattle.ecma_grammar_laws.proofs.Sure.{lm, seen, next, same, Sure, done, then_sure, if_sure, test_sure, only_sure, eat_sure, word_sure}
+use Rattle.ecma_grammar_laws.proofs.Covers.{plain, by_no, Holds, Refines, IsItem}
 use Rattle.ecma_grammar_laws.proofs.Nested.{Sound, GotStmt, Made}
 use Rattle.ecma_grammar_laws.proofs.Groups.{then_made}
 use Rattle.ecma_grammar_laws.proofs.Operators.{both_hold, array_stays, object_stays}
@@ -88,7 +88,7 @@ module _ (inner : Inner Input) (good : Sound inner) where
   unfolding clause_by
   clause_sure c close s = test_sure s.commas (kind (seen s)) close _ _ _ (λ e. done (absent, next s) _ (seen s, refl, (e, tt, refl)))
       (λ _. then_sure s.commas (inner.expr c expression_level s) _ _ _ (good.expr c expression_level s (omega arith)) (λ x h. eat_sure close x.1 _ _ (λ e.
-        done (x.0, next x.1) _ (seen x.1, by_no (is_absent x.0) (seen s ≡ seen x.1) (Expr expression_level (plain c) (part x.0 (λ y. Spells x.0 y)) (seen s) (seen x.1)) (present x.0 h.0) (h.0, h.1.spelled), (e, tt, refl)))))
+      done (x.0, next x.1) _ (seen x.1, by_no (is_absent x.0) (seen s ≡ seen x.1) (Expr expression_level (plain c) (part x.0 (λ y. Spells x.0 y)) (seen s) (seen x.1)) (present x.0 h.0) (h.0, h.1.spelled), (e, tt, refl)))))
 
   -- what the three sorts of heads make of what stands before `;`, `in` or `of`
   abbrev MadeFor : Code → Stand Input → Tree → Stand Input → Type 0
@@ -104,7 +104,7 @@ module _ (inner : Inner Input) (good : Sound inner) where
   unfolding for_rest
   for_rest_sure c start i s f = eat_sure semicolon_kind s _ _ (λ e. then_sure s.commas (clause_by lm inner c semicolon_kind (next s)) _ _ _ (clause_sure c semicolon_kind (next s)) (λ t h. then_sure t.1.commas (clause_by lm inner c right_paren_kind t.1) _ _ _ (clause_sure c right_paren_kind t.1) (λ u k.
       then_sure u.1.commas (sub_by lm inner c false u.1) _ _ _ (sub_sure inner good c u.1) (λ b j. done (for_stmt (span (lo (seen start)) b.1.source.last) i t.0 u.0 b.0, b.1) (GotStmt c start)
-        (refl, f (span (lo (seen start)) b.1.source.last) t.0 u.0 b.0 (seen (next s)) (seen b.1) refl (e, tt, refl) (seen t.1, seen u.1, h, k, j))))))
+      (refl, f (span (lo (seen start)) b.1.source.last) t.0 u.0 b.0 (seen (next s)) (seen b.1) refl (e, tt, refl) (seen t.1, seen u.1, h, k, j))))))
 
   in_rest_sure : (c : Code) (start : Stand Input) (l : Tree) (s : Stand Input) → MadeIn c start l s → Sure s.commas (in_rest lm inner c start l s) (GotStmt c start)
   unfolding in_rest over_rest
@@ -131,9 +131,9 @@ module _ (inner : Inner Input) (good : Sound inner) where
   variables_sure c start awaits s o v = word_sure c (kind (seen s)) s _ _ (λ e b. then_sure s.commas (declarators_by lm inner (without_in c) (next s)) _ _ _ (declarators_sure inner good (without_in c) (next s)) (λ ds h.
       let k : Bindings (without_in (plain c)) (kind (seen s)) (parts (pack ds.0)) (seen s) (seen ds.1) = (seen (next s), v, (refl, b, tt, refl), h) in
       head_rest_sure c start awaits ds.0 (var_decl (span (lo (seen s)) ds.1.source.last) (kind (seen s)) (pack ds.0)) ds.1
-        (λ one p x y r q w. (seen s, seen ds.1, o, (one, k, refl), w, q))
-        (λ a one p x y r q w. (seen s, seen ds.1, opened c start awaits (seen s) a o, (one, k, refl), w, q))
-        (λ a p x y z m r q t w. (seen s, seen ds.1, m, opened c start awaits (seen s) a o, k, refl, t, w, q))))
+      (λ one p x y r q w. (seen s, seen ds.1, o, (one, k, refl), w, q))
+      (λ a one p x y r q w. (seen s, seen ds.1, opened c start awaits (seen s) a o, (one, k, refl), w, q))
+      (λ a p x y z m r q t w. (seen s, seen ds.1, m, opened c start awaits (seen s) a o, k, refl, t, w, q))))
 
   using_sure : (c : Code) (start : Stand Input) (awaits : Bool) (own : Stand Input) (waits : Bool) (s : Stand Input) → ForAwaitOpen awaits (plain c) (seen start) (seen own) → names_using waits (seen own) ≡ true
       → ((ds : List Tree) (r : Input) → TakesWord (without_in (plain c)) using_kind (seen s) (seen (next s)) → Declarators inner good (without_in c) ds (seen (next s)) r → UsingBindings (without_in (plain c)) waits (parts (pack ds)) (seen own) r)
@@ -142,22 +142,30 @@ module _ (inner : Inner Input) (good : Sound inner) where
   using_sure c start awaits own waits s o v f _ = word_sure c using_kind s _ _ (λ e b. then_sure s.commas (declarators_by lm inner (without_in c) (next s)) _ _ _ (declarators_sure inner good (without_in c) (next s)) (λ ds h.
       let k = f ds.0 (seen ds.1) (e, b, tt, refl) h in
       head_rest_sure c start awaits ds.0 (using_decl (span (lo (seen own)) ds.1.source.last) waits (pack ds.0)) ds.1
-        (λ one p x y r q w. (seen own, seen ds.1, o, (one, v, k, refl), w, q))
-        (λ a one p x y r q w. (seen own, seen ds.1, opened c start awaits (seen own) a o, (one, v, k, refl), w, q))
-        (λ a p x y z m r q t w. (seen own, seen ds.1, m, opened c start awaits (seen own) a o, v, k, refl, t, w, q))))
+      (λ one p x y r q w. (seen own, seen ds.1, o, (one, v, k, refl), w, q))
+      (λ a one p x y r q w. (seen own, seen ds.1, opened c start awaits (seen own) a o, (one, v, k, refl), w, q))
+      (λ a p x y z m r q t w. (seen own, seen ds.1, m, opened c start awaits (seen own) a o, v, k, refl, t, w, q))))
 
   expression_rest_sure : (c : Code) (start : Stand Input) (awaits : Bool) (own : Stand Input) (e : Tree) (s : Stand Input) → ForAwaitOpen awaits (plain c) (seen start) (seen own) → starts_head (seen own) ≡ true → 1 ≤ level e → Made (without_in c) own (e, s)
       → Sure s.commas (for_expression_rest lm inner c start awaits own e s) (GotStmt c start)
   unfolding for_expression_rest
   expression_rest_sure c start awaits own e s o v l m = test_sure s.commas (kind (seen s)) of_kind _ _ _
       (λ _. if_sure s.commas (eqb (kind (seen own)) let_kind || (not awaits && (eqb (kind (seen own)) async_kind && eqb (kind2 (seen own)) of_kind))) _ _ _ (λ _. record { so = tt })
-        (λ n. then_made s.commas (to_head s.commas e) _ (IsHead (without_in c) (seen own) (seen s)) _ (head_holds s.commas (without_in c) e (seen own) (seen s) l m.spelled (m.refines s.commas (same s.commas))) (λ t h.
-          of_rest_sure c start awaits t s (λ p x y r q w. of_with (plain c) p awaits t x y (seen start) r h.0 (seen own, seen s, o, (not_from_false _ n, (v, h.0, h.1)), w, q)))))
+      (λ n. then_made s.commas (to_head s.commas e) _ (IsHead (without_in c) (seen own) (seen s)) _ (head_holds s.commas (without_in c) e (seen own) (seen s) l m.spelled (m.refines s.commas (same s.commas))) (λ t h.
+      of_rest_sure c start awaits t s (λ p x y r q w. of_with (plain c) p awaits t x y (seen start) r h.0 (seen own, seen s, o, (not_from_false _ n, (v, h.0, h.1)), w, q)))))
       (λ _. if_sure s.commas awaits _ _ _ (λ _. record { so = tt }) (λ a. test_sure s.commas (kind (seen s)) in_kind _ _ _
-        (λ _. then_made s.commas (to_head s.commas e) _ (IsHead (without_in c) (seen own) (seen s)) _ (head_holds s.commas (without_in c) e (seen own) (seen s) l m.spelled (m.refines s.commas (same s.commas))) (λ t h.
-          in_rest_sure c start t s (λ p x y r q w. in_with (plain c) p t x y (seen start) r h.0 (seen own, seen s, opened c start awaits (seen own) a o, (v, h.0, h.1), w, q))))
-        (λ _. for_rest_sure c start e s (λ p x y z i r q t w. for_with (plain c) p e x y z (seen start) r l (seen own, seen s, i, opened c start awaits (seen own) a o,
-          by_no (is_absent e) (seen own ≡ seen s) ((starts_head (seen own) ≡ true) × Expr expression_level (without_in (plain c)) (part e (λ y. Spells e y)) (seen own) (seen s)) (present e l) (v, (l, m.spelled)), t, w, q)))))
+      (λ _. then_made s.commas (to_head s.commas e) _ (IsHead (without_in c) (seen own) (seen s)) _ (head_holds s.commas (without_in c) e (seen own) (seen s) l m.spelled (m.refines s.commas (same s.commas))) (λ t h.
+      in_rest_sure c start t s (λ p x y r q w. in_with (plain c) p t x y (seen start) r h.0 (seen own, seen s, opened c start awaits (seen own) a o, (v, h.0, h.1), w, q))))
+      (λ _. for_rest_sure c start e s (λ p x y z i r q t w. for_with (plain c) p e x y z (seen start) r l (
+        seen own,
+        seen s,
+        i,
+        opened c start awaits (seen own) a o,
+        by_no (is_absent e) (seen own ≡ seen s) ((starts_head (seen own) ≡ true) × Expr expression_level (without_in (plain c)) (part e (λ y. Spells e y)) (seen own) (seen s)) (present e l) (v, (l, m.spelled)),
+        t,
+        w,
+        q,
+      )))))
 
   expression_sure : (c : Code) (start : Stand Input) (awaits : Bool) (s : Stand Input) → ForAwaitOpen awaits (plain c) (seen start) (seen s) → Sure s.commas (for_expression lm inner c start awaits s) (GotStmt c start)
   unfolding for_expression
@@ -170,13 +178,13 @@ module _ (inner : Inner Input) (good : Sound inner) where
       (λ _. if_sure s.commas awaits _ _ _ (λ _. record { so = tt }) (λ a. for_rest_sure c start absent s (λ p x y z i r q t w. (seen s, seen s, i, opened c start awaits (seen s) a o, refl, t, w, q)))) (λ _.
       if_sure s.commas (eqb (kind (seen s)) var_kind || (eqb (kind (seen s)) const_kind || starts_let lm inner s)) _ _ _ (λ v. variables_sure c start awaits s o (var_word (eqb (kind (seen s)) var_kind) (eqb (kind (seen s)) let_kind) (eqb (kind (seen s)) const_kind) _ v)) (λ _.
       if_sure s.commas (starts_using lm inner c s && not (eqb (kind2 (seen s)) of_kind)) _ _ _ (λ z. let b = and_parts (starts_using lm inner c s) (not (eqb (kind2 (seen s)) of_kind)) z in
-        let d = and_parts c.syntax.explicit_resource_management _ b.0 in let i = and_parts (eqb (kind (seen s)) using_kind) (may_name (kind2 (seen s)) && not (brk2 (seen s))) d.1 in let j = and_parts (may_name (kind2 (seen s))) (not (brk2 (seen s))) i.1 in
-        using_sure c start awaits s false s o b.1 (λ ds r t k. (seen (next s), d.0, t, not-true (brk2 (seen s)) j.1, no_pattern (kind2 (seen s)) j.0, k)) refl) (λ _.
+      let d = and_parts c.syntax.explicit_resource_management _ b.0 in let i = and_parts (eqb (kind (seen s)) using_kind) (may_name (kind2 (seen s)) && not (brk2 (seen s))) d.1 in let j = and_parts (may_name (kind2 (seen s))) (not (brk2 (seen s))) i.1 in
+      using_sure c start awaits s false s o b.1 (λ ds r t k. (seen (next s), d.0, t, not-true (brk2 (seen s)) j.1, no_pattern (kind2 (seen s)) j.0, k)) refl) (λ _.
       if_sure s.commas (starts_await_using lm inner c s && not (eqb (kind2 (rest (seen s))) of_kind)) _ _ _ (λ z. let b = and_parts (starts_await_using lm inner c s) (not (eqb (kind2 (rest (seen s))) of_kind)) z in
-        let x = and_parts c.context.in_async _ b.0 in let y = and_parts (eqb (kind (seen s)) await_kind) (not (barred c.context (seen s)) && (not (brk2 (seen s)) && starts_using lm inner c (next s))) x.1 in let u = and_parts (not (barred c.context (seen s))) (not (brk2 (seen s)) && starts_using lm inner c (next s)) y.1 in
-        let w = and_parts (not (brk2 (seen s))) (starts_using lm inner c (next s)) u.1 in
-        let d = and_parts c.syntax.explicit_resource_management _ w.1 in let i = and_parts (eqb (kind (seen (next s))) using_kind) (may_name (kind2 (seen (next s))) && not (brk2 (seen (next s)))) d.1 in let j = and_parts (may_name (kind2 (seen (next s)))) (not (brk2 (seen (next s)))) i.1 in
-        using_sure c start awaits s true (next s) o b.1 (λ ds r t k. (seen (next s), seen (next (next s)), d.0, x.0, (eqb-true (kind (seen s)) await_kind y.0, not-true (barred c.context (seen s)) u.0, tt, refl), not-true (brk2 (seen s)) w.0, t, not-true (brk2 (seen (next s))) j.1, no_pattern (kind2 (seen (next s))) j.0, k)) refl) (λ _.
+      let x = and_parts c.context.in_async _ b.0 in let y = and_parts (eqb (kind (seen s)) await_kind) (not (barred c.context (seen s)) && (not (brk2 (seen s)) && starts_using lm inner c (next s))) x.1 in let u = and_parts (not (barred c.context (seen s))) (not (brk2 (seen s)) && starts_using lm inner c (next s)) y.1 in
+      let w = and_parts (not (brk2 (seen s))) (starts_using lm inner c (next s)) u.1 in
+      let d = and_parts c.syntax.explicit_resource_management _ w.1 in let i = and_parts (eqb (kind (seen (next s))) using_kind) (may_name (kind2 (seen (next s))) && not (brk2 (seen (next s)))) d.1 in let j = and_parts (may_name (kind2 (seen (next s)))) (not (brk2 (seen (next s)))) i.1 in
+      using_sure c start awaits s true (next s) o b.1 (λ ds r t k. (seen (next s), seen (next (next s)), d.0, x.0, (eqb-true (kind (seen s)) await_kind y.0, not-true (barred c.context (seen s)) u.0, tt, refl), not-true (brk2 (seen s)) w.0, t, not-true (brk2 (seen (next s))) j.1, no_pattern (kind2 (seen (next s))) j.0, k)) refl) (λ _.
       expression_sure c start awaits s o))))
 
   pub for_sure : (c : Code) (s : Stand Input) → Sure s.commas (for_by lm inner c s) (GotStmt c s)

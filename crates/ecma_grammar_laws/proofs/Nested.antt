@@ -1,22 +1,22 @@
 -- Sound readers of nested parts, and what the rules share: literals, keys, elements, bodies.
-use Rattle.std.proofs.Common.{◌≡◌, ℕ, zero, suc, ◌≤◌, ◌⊎◌, inl, inr, Bool, true, false, not, ◌&&◌, ◌||◌, cond, eqb, leb, ltb, List, [], ◌∷◌, ◌++◌, Option, Some, None, Result, Ok, Err, refl, sym, ap, ◌∙◌, subst, ⊎_elim, true≢false, append_assoc, append-nil, arith}
-use Rattle.std.proofs.lemmas.Bool.{eqb-true, eqb-false, and_parts, not-true, cases_Bool, leb-true}
+use Rattle.std.proofs.Common.{◌≡◌, ℕ, ◌≤◌, ◌⊎◌, inl, inr, Bool, true, false, ◌&&◌, cond, eqb, List, [], ◌∷◌, ◌++◌, Option, Some, None, Result, Ok, refl, sym, subst, ⊎_elim, append_assoc, append-nil, arith}
+use Rattle.std.proofs.lemmas.Bool.{eqb-true, eqb-false, and_parts, cases_Bool}
 use Rattle.ecma_token.specs.declared.place.Span.{Span}
 use Rattle.ecma_token.specs.Kinds.{comma_kind, dot_dot_dot_kind, hash_kind, right_bracket_kind, left_bracket_kind, str_kind, num_kind, big_int_kind, regex_kind, semicolon_kind}
-use Rattle.ecma_token.specs.Tokens.{Content, Quoted, Piece, Pattern, Numeral, BigNumeral}
-use Rattle.ecma_tree.specs.Tree.{Tree, Trees, none, more, pack, block_stmt, ident, ident_name, private_name, str_lit, number_lit, big_int_lit, regex_lit, expr_or_spread, computed_prop_name, hole}
-use Rattle.ecma_syntax.specs.Input.{Input, Code, kind, text, content, Takes, TakesWord, TakesName, Spans, Stands, lo, hi, span, first_span, is_word, no_name, barred, with_in, rest}
-use Rattle.ecma_syntax.specs.Operators.{expression_level, assignment_level, new_level, member_level, primary_level, pauses}
-use Rattle.ecma_syntax.specs.Shape.{level, is_binding, is_item, is_hole, is_rest, is_element, is_prop, is_key, is_any_key, is_private, is_string, class_span}
-use Rattle.ecma_grammar.specs.Parts.{Part, part, By, Sorted, Listed, Ends}
+use Rattle.ecma_token.specs.Tokens.{Content, Quoted, Pattern, Numeral, BigNumeral}
+use Rattle.ecma_tree.specs.Tree.{Tree, Trees, block_stmt, ident_name, private_name, str_lit, number_lit, big_int_lit, regex_lit, expr_or_spread, computed_prop_name, hole}
+use Rattle.ecma_syntax.specs.Input.{Input, Code, kind, text, content, Takes, lo, hi, span, first_span, is_word, with_in}
+use Rattle.ecma_syntax.specs.Operators.{assignment_level, new_level, member_level, primary_level, pauses}
+use Rattle.ecma_syntax.specs.Shape.{level, is_binding, is_item, is_hole, is_key, is_private, is_string, class_span}
+use Rattle.ecma_grammar.specs.Parts.{part, By, Ends}
 use Rattle.ecma_grammar.specs.Expressions.{Identifier, Bracketed}
 use Rattle.ecma_grammar.specs.Functions.{Body}
 use Rattle.ecma_grammar.specs.Grammar.{Spells, parts}
-use Rattle.ecma_reading.specs.Source.{Fault, ◌>>=◌, unexpected, Stand, Read, Inner, Step, go_on, finished, eat, end_of, iterate}
+use Rattle.ecma_reading.specs.Source.{Fault, ◌>>=◌, unexpected, Stand, Inner, go_on, finished, end_of}
 use Rattle.ecma_reading.specs.Cover.{to_item}
 use Rattle.ecma_reading.specs.Expressions.{Elements, no_elements, literal, only_kind, literal_by, first, element_by, after_element, element_step, elements_by, computed_by, key_by, private_by}
-use Rattle.ecma_grammar_laws.proofs.Sure.{lm, seen, next, Grows, same, further, Sure, done, gives, never, then_sure, then_grown, sure_map, if_sure, test_sure, only_sure, eat_sure, IsName, name_sure, any_sure, StepSure, loop_sure}
-use Rattle.ecma_grammar_laws.proofs.Covers.{patterned, plain, by_yes, by_no, Holds, IsItem, Refines, Elems, IsNil, Element, element_none, element_some, listed}
+use Rattle.ecma_grammar_laws.proofs.Sure.{lm, seen, next, Grows, further, Sure, done, then_sure, then_grown, sure_map, if_sure, test_sure, eat_sure, IsName, any_sure, StepSure, loop_sure}
+use Rattle.ecma_grammar_laws.proofs.Covers.{patterned, plain, by_no, Holds, IsItem, Refines, Elems, IsNil, Element, element_none, element_some}
 
 -- a level that was asked for, or a bare `new` as the callee of another
 abbrev pub AtLeast : ℕ → Tree → Type 0
@@ -111,11 +111,15 @@ module _ (Q : List ℕ → Tree → Input → Input → Type 0) (holes : Bool) (
   after_sure takes inner xs s e i g n q =
       test_sure e.1.commas (kind (seen e.1)) comma_kind _ _ _
       (λ z. done (go_on (record { items = xs.items ++ e.0 ∷ []; comma = true }), next e.1) (StepSure (Front Q holes c close ts) (Whole Q holes c close ts))
-        (record { so = λ k f ys r u h. snoc k f r xs.items e.0 ys (i.so k f (e.0 ∷ ys) r (further s.commas e.1.commas k g u)
-          (by_no (is_hole e.0) (AtHole ys f k (seen s) r) (At e.0 ys f k (seen s) r) n (seen e.1, q k u, inl (seen (next e.1), takes comma_kind e.1 z, h)))) }))
+      (record {
+        so = λ k f ys r u h. snoc k f r xs.items e.0 ys (i.so k f (e.0 ∷ ys) r (further s.commas e.1.commas k g u)
+            (by_no (is_hole e.0) (AtHole ys f k (seen s) r) (At e.0 ys f k (seen s) r) n (seen e.1, q k u, inl (seen (next e.1), takes comma_kind e.1 z, h))));
+      }))
       (λ _. eat_sure close e.1 _ _ (λ z. done (finished (record { items = xs.items ++ e.0 ∷ []; comma = false }), next e.1) (StepSure (Front Q holes c close ts) (Whole Q holes c close ts))
-        (record { so = λ k u. i.so k false (e.0 ∷ []) (seen (next e.1)) (further s.commas e.1.commas k g u)
-          (by_no (is_hole e.0) (AtHole [] false k (seen s) (seen (next e.1))) (At e.0 [] false k (seen s) (seen (next e.1))) n (seen e.1, q k u, inr (tt, refl, takes close e.1 z))) })))
+      (record {
+        so = λ k u. i.so k false (e.0 ∷ []) (seen (next e.1)) (further s.commas e.1.commas k g u)
+            (by_no (is_hole e.0) (AtHole [] false k (seen s) (seen (next e.1))) (At e.0 [] false k (seen s) (seen (next e.1))) n (seen e.1, q k u, inr (tt, refl, takes close e.1 z)));
+      })))
 
 pub takes : (c : Code) (k : ℕ) (s : Stand Input) → kind (seen s) ≡ k → Takes (plain c) k (seen s) (seen (next s))
 takes c k s e = (e, tt, refl)
@@ -126,9 +130,9 @@ module _ (inner : Inner Input) (good : Sound inner) where
   unfolding element_by
   element_sure c s = test_sure s.commas (kind (seen s)) dot_dot_dot_kind _ _ _
       (λ z. then_sure s.commas (inner.expr (with_in c) assignment_level (next s)) _ _ _ (good.expr (with_in c) assignment_level (next s) (omega arith)) (λ e h.
-        done (expr_or_spread (span (lo (seen s)) e.1.source.last) (Some (first lm inner s)) e.0, e.1) _ (refl, λ k g. element_some k c (span (lo (seen s)) e.1.source.last) (first lm inner s) e.0 (seen s) (seen (next s)) (seen e.1) (takes c dot_dot_dot_kind s z) refl h.0 h.1.spelled (h.1.refines k g) refl)))
+      done (expr_or_spread (span (lo (seen s)) e.1.source.last) (Some (first lm inner s)) e.0, e.1) _ (refl, λ k g. element_some k c (span (lo (seen s)) e.1.source.last) (first lm inner s) e.0 (seen s) (seen (next s)) (seen e.1) (takes c dot_dot_dot_kind s z) refl h.0 h.1.spelled (h.1.refines k g) refl)))
       (λ _. then_sure s.commas (inner.expr (with_in c) assignment_level s) _ _ _ (good.expr (with_in c) assignment_level s (omega arith)) (λ e h.
-        done (expr_or_spread (span (lo (seen s)) e.1.source.last) None e.0, e.1) _ (refl, λ k g. element_none k c (span (lo (seen s)) e.1.source.last) e.0 (seen s) (seen e.1) h.0 h.1.spelled (h.1.refines k g) refl)))
+      done (expr_or_spread (span (lo (seen s)) e.1.source.last) None e.0, e.1) _ (refl, λ k g. element_none k c (span (lo (seen s)) e.1.source.last) e.0 (seen s) (seen e.1) h.0 h.1.spelled (h.1.refines k g) refl)))
 
   elements_step_sure : (c : Code) (holes : Bool) (close : ℕ) (ts : Input) (xs : Elements) (s : Stand Input) → Front (λ k. Element k c) holes (plain c) close ts xs s
       → Sure s.commas (element_step lm inner c holes close xs s) (StepSure (Front (λ k. Element k c) holes (plain c) close ts) (Whole (λ k. Element k c) holes (plain c) close ts))
@@ -136,7 +140,7 @@ module _ (inner : Inner Input) (good : Sound inner) where
   elements_step_sure c holes close ts xs s i =
       test_sure s.commas (kind (seen s)) close _ _ _ (λ z. done (finished xs, next s) (StepSure (Front (λ k. Element k c) holes (plain c) close ts) (Whole (λ k. Element k c) holes (plain c) close ts)) (closed (λ k. Element k c) holes (plain c) close ts xs s i (takes c close s z))) (λ _.
       if_sure s.commas (holes && eqb (kind (seen s)) comma_kind) _ _ _ (λ z. let b = and_parts holes (eqb (kind (seen s)) comma_kind) z in
-        done (go_on (record { items = xs.items ++ hole ∷ []; comma = false }), next s) (StepSure (Front (λ k. Element k c) holes (plain c) close ts) (Whole (λ k. Element k c) holes (plain c) close ts)) (holed (λ k. Element k c) holes (plain c) close ts xs s i b.0 (takes c comma_kind s (eqb-true (kind (seen s)) comma_kind b.1)))) (λ _.
+      done (go_on (record { items = xs.items ++ hole ∷ []; comma = false }), next s) (StepSure (Front (λ k. Element k c) holes (plain c) close ts) (Whole (λ k. Element k c) holes (plain c) close ts)) (holed (λ k. Element k c) holes (plain c) close ts xs s i b.0 (takes c comma_kind s (eqb-true (kind (seen s)) comma_kind b.1)))) (λ _.
       then_grown s.commas (element_by lm inner c s) _ _ _ (element_sure c s) (λ e g h. after_sure (λ k. Element k c) holes (plain c) close ts (λ k r. takes c k r) inner xs s e i g h.0 h.1)))
 
   pub elements_sure : (c : Code) (holes : Bool) (close : ℕ) (s : Stand Input) → Sure s.commas (elements_by lm inner c holes close s) (λ x. Whole (λ k. Element k c) holes (plain c) close (seen s) x.0 x.1)
@@ -198,6 +202,6 @@ module _ (inner : Inner Input) (good : Sound inner) where
   pub key_sure : (c : Code) (s : Stand Input) → Sure s.commas (key_by lm inner c s) (λ x. (is_key x.0 ≡ true) × Spells x.0 (plain c) (seen s) (seen x.1))
   unfolding key_by
   key_sure c s = test_sure s.commas (kind (seen s)) left_bracket_kind _ _ _ (λ e. sure_map s.commas (computed_by lm inner c assignment_level s) _ _ (computed_sure c assignment_level s (omega arith) (λ t h. h) e)
-        (λ x h. bracketed_is assignment_level (plain c) (seen s) (seen x.1) (λ t. (is_key t ≡ true) × Spells t (plain c) (seen s) (seen x.1)) (λ t y b. (refl, b)) x.0 h)) (λ _.
+      (λ x h. bracketed_is assignment_level (plain c) (seen s) (seen x.1) (λ t. (is_key t ≡ true) × Spells t (plain c) (seen s) (seen x.1)) (λ t y b. (refl, b)) x.0 h)) (λ _.
       if_sure s.commas (is_word (kind (seen s))) _ _ _ (λ w. done (ident_name (first_span (seen s)) (text (seen s)), next s) _ (refl, ((w, refl, tt, refl), refl))) (λ _.
       test_sure s.commas (kind (seen s)) regex_kind _ _ _ (λ _. record { so = tt }) (λ n. sure_map s.commas (literal_by lm inner s) _ _ (literal_sure inner s) (λ x h. (h.2 n, (h.0 c).spelled)))))

@@ -1,23 +1,22 @@
 -- The loop over infix and postfix operators, and any expression.
-use Rattle.std.proofs.Common.{◌≡◌, ℕ, zero, suc, ◌+◌, ◌≤◌, ◌<◌, ◌⊎◌, inl, inr, min, Bool, true, false, not, ◌&&◌, ◌||◌, cond, eqb, leb, ltb, List, [], ◌∷◌, ◌++◌, Option, Some, None, Result, Ok, Err, refl, sym, ap, ◌∙◌, subst, ⊎_elim, true≢false, arith}
-use Rattle.std.proofs.lemmas.Bool.{eqb-true, eqb-false, and_parts, not-true, cases_Bool, leb-true, ltb-true, ltb-false, ne_eqb}
+use Rattle.std.proofs.Common.{◌≡◌, ℕ, ◌≤◌, ◌⊎◌, inl, inr, Bool, true, false, not, ◌&&◌, ◌||◌, cond, eqb, leb, ltb, List, [], ◌∷◌, ◌++◌, Result, Ok, Err, refl, sym, ap, ◌∙◌, subst, true≢false, arith}
+use Rattle.std.proofs.lemmas.Bool.{eqb-true, and_parts, not-true, leb-true, ltb-false, ne_eqb}
 use Rattle.ecma_token.specs.declared.place.Span.{Span}
-use Rattle.ecma_token.specs.Kinds.{arrow_kind, hash_kind, dot_kind, left_paren_kind, right_paren_kind, left_bracket_kind, left_brace_kind, comma_kind, colon_kind, back_quote_kind, question_mark_kind, plus_plus_kind, minus_minus_kind, regex_kind, div_kind, in_kind, exp_kind, nullish_coalescing_kind, assign_kind, logical_or_kind, logical_and_kind, bit_or_kind, bit_xor_kind, bit_and_kind, eq_eq_kind, not_eq_eq_kind, lt_kind, gt_eq_kind, instanceof_kind, left_shift_kind, zero_fill_right_shift_kind, add_kind, sub_kind, mul_kind, mod_kind}
-use Rattle.ecma_tree.specs.Tree.{Tree, Trees, none, more, pack, unpack, seq_expr, assign_expr, cond_expr, bin_expr, update_expr, call_expr, member_expr, super_prop_expr, opt_chain_expr, opt_call, tagged_tpl, tpl, new_expr, super, import, absent, ident, ident_name, private_name, computed_prop_name, array_lit, object_lit, paren_expr, array_pat, object_pat, binding_ident, expr_pat}
-use Rattle.ecma_tree.proofs.PackLemmas.{pack_unpack}
-use Rattle.ecma_syntax.specs.Input.{Input, Code, kind, kind2, brk, text, Takes, TakesWord, lo, hi, span, first_span, is_word, with_in, has_in}
+use Rattle.ecma_token.specs.Kinds.{arrow_kind, hash_kind, dot_kind, left_paren_kind, left_bracket_kind, comma_kind, colon_kind, back_quote_kind, question_mark_kind, plus_plus_kind, minus_minus_kind, regex_kind, div_kind, in_kind, exp_kind, nullish_coalescing_kind, assign_kind, logical_or_kind, logical_and_kind, bit_or_kind, bit_xor_kind, bit_and_kind, eq_eq_kind, not_eq_eq_kind, lt_kind, gt_eq_kind, instanceof_kind, left_shift_kind, zero_fill_right_shift_kind, add_kind, sub_kind, mul_kind, mod_kind}
+use Rattle.ecma_tree.specs.Tree.{Tree, Trees, none, more, pack, unpack, seq_expr, assign_expr, cond_expr, bin_expr, update_expr, call_expr, member_expr, opt_chain_expr, opt_call, tagged_tpl, tpl, new_expr, super, import, absent, ident, ident_name, private_name, computed_prop_name, array_lit, object_lit, array_pat, object_pat, expr_pat}
+use Rattle.ecma_syntax.specs.Input.{Input, Code, kind, kind2, brk, text, Takes, lo, hi, span, first_span, with_in, has_in}
 use Rattle.ecma_syntax.specs.Operators.{expression_level, assignment_level, conditional_level, coalesce_level, update_level, new_level, call_level, member_level, primary_level, binary_level, right_level, is_assign_op, operates, goes_expr, between}
-use Rattle.ecma_syntax.specs.Shape.{level, ends, fits_left, is_chain, is_private, is_target, is_target_expr, is_bound_name, is_simple, is_word_name, is_structured, is_place}
-use Rattle.ecma_grammar.specs.Parts.{Part, part, By, Expr, CommaThen}
-use Rattle.ecma_grammar.specs.Expressions.{Bracketed, Sequence, Member, Dotted, AccessedName, ChainMember, ChainCall, Optional, TaggedTemplate, Arguments, Call, is_update_op}
+use Rattle.ecma_syntax.specs.Shape.{level, ends, fits_left, is_chain, is_private, is_target, is_target_expr, is_bound_name, is_simple, is_word_name, is_structured}
+use Rattle.ecma_grammar.specs.Parts.{part, By, Expr, CommaThen}
+use Rattle.ecma_grammar.specs.Expressions.{Member, Dotted, AccessedName, ChainMember, Optional, Call}
 use Rattle.ecma_grammar.specs.Grammar.{Spells, parts}
-use Rattle.ecma_reading.specs.Source.{Fault, ◌>>=◌, unexpected, Stand, Inner, Step, go_on, finished, operand, iterate}
+use Rattle.ecma_reading.specs.Source.{Fault, unexpected, Stand, Inner, go_on, finished, operand, iterate}
 use Rattle.ecma_reading.specs.Cover.{has, to_item, to_items, to_target}
 use Rattle.ecma_reading.specs.Expressions.{extended, arguments_by, computed_by, private_by, template_by, prefix_by, member_name, on_chain, member_by, index_by, call_tree, call_by, chain_by, cond_by, assign_by, binary_by, step_by, loop_step, loop_by, private_in, expr_from, expr_by}
-use Rattle.ecma_grammar_laws.proofs.Sure.{lm, seen, next, Grows, same, further, Sure, done, gives, then_sure, sure_map, if_sure, test_sure, only_sure, eat_sure, word_sure, any_sure, StepSure, loop_sure}
-use Rattle.ecma_grammar_laws.proofs.Covers.{patterned, plain, by_yes, by_no, Holds, then_holds, if_holds, Refines, IsItem, Fine, assign_refines}
-use Rattle.ecma_grammar_laws.proofs.Nested.{Sound, Made, AtLeast, GotExpr, dull, IsBracketed, bracketed_is, computed_sure, private_sure}
-use Rattle.ecma_grammar_laws.proofs.Groups.{IsTemplate, template_sure, then_made}
+use Rattle.ecma_grammar_laws.proofs.Sure.{lm, seen, next, same, Sure, done, then_sure, sure_map, if_sure, test_sure, only_sure, eat_sure, word_sure, any_sure, StepSure, loop_sure}
+use Rattle.ecma_grammar_laws.proofs.Covers.{plain, by_yes, Holds, then_holds, if_holds, Refines, IsItem, assign_refines}
+use Rattle.ecma_grammar_laws.proofs.Nested.{Sound, Made, AtLeast, GotExpr, dull, bracketed_is, computed_sure, private_sure}
+use Rattle.ecma_grammar_laws.proofs.Groups.{template_sure, then_made}
 use Rattle.ecma_grammar_laws.proofs.Prefixes.{arguments_sure, prefix_sure, template_is, update_op}
 
 -- ---- what goes on, by the kind alone
@@ -293,22 +292,22 @@ module _ (inner : Inner Input) (good : Sound inner) where
   unfolding member_by
   member_by_sure l c start t s h m v p e = then_sure s.commas (member_name lm inner true (next s)) _ _ _ (member_name_sure c (next s)) (λ k w. let q = span (lo (seen start)) k.1.source.last in
       done (on_chain lm inner (is_chain t) q (member_expr q t k.0), k.1) (GotStep l c start) (linked l c start q t k.0 k.1 h p
-        (λ z. chain_with (plain c) q q false t k.0 (seen start) (seen k.1) w.0 (seen s, z, m, (seen (next s), (e, tt, refl), w), refl, refl))
-        (λ z. member_with (plain c) q t k.0 (seen start) (seen k.1) w.0 (seen s, z, (v, m), (seen (next s), (e, tt, refl), w), refl))))
+      (λ z. chain_with (plain c) q q false t k.0 (seen start) (seen k.1) w.0 (seen s, z, m, (seen (next s), (e, tt, refl), w), refl, refl))
+      (λ z. member_with (plain c) q t k.0 (seen start) (seen k.1) w.0 (seen s, z, (v, m), (seen (next s), (e, tt, refl), w), refl))))
 
   index_by_sure : (l : ℕ) (c : Code) (start : Stand Input) (t : Tree) (s : Stand Input) → l ≤ level t → Spells t (plain c) (seen start) (seen s) → call_level ≤ level t → l ≤ member_level → kind (seen s) ≡ left_bracket_kind → Sure s.commas (index_by lm inner c start t s) (GotStep l c start)
   unfolding index_by
   index_by_sure l c start t s h m v p e = then_sure s.commas (computed_by lm inner c expression_level s) _ _ _ (computed_sure inner good c expression_level s (omega arith) (λ t h. h) e) (λ k w. let q = span (lo (seen start)) k.1.source.last in
       done (on_chain lm inner (is_chain t) q (member_expr q t k.0), k.1) (GotStep l c start)
-        (bracketed_is expression_level (plain c) (seen s) (seen k.1) (λ y. GotStep l c start (on_chain lm inner (is_chain t) q (member_expr q t y), k.1)) (λ u y a. linked l c start q t (computed_prop_name u y) k.1 h p
-          (λ z. (seen s, z, m, a, refl, refl)) (λ z. (seen s, z, (v, m), a, refl))) k.0 w))
+      (bracketed_is expression_level (plain c) (seen s) (seen k.1) (λ y. GotStep l c start (on_chain lm inner (is_chain t) q (member_expr q t y), k.1)) (λ u y a. linked l c start q t (computed_prop_name u y) k.1 h p
+      (λ z. (seen s, z, m, a, refl, refl)) (λ z. (seen s, z, (v, m), a, refl))) k.0 w))
 
   call_by_sure : (l : ℕ) (c : Code) (start : Stand Input) (t : Tree) (s : Stand Input) → Spells t (plain c) (seen start) (seen s) → call_level ≤ level t → l ≤ call_level → kind (seen s) ≡ left_paren_kind → Sure s.commas (call_by lm inner c start t s) (GotStep l c start)
   unfolding call_by
   call_by_sure l c start t s m v p e = then_sure s.commas (arguments_by lm inner c (next s)) _ _ _ (arguments_sure inner good c (next s)) (λ xs w. let q = span (lo (seen start)) xs.1.source.last in
       done (call_tree lm inner q t xs.0, xs.1) (GotStep l c start) (by_chain q xs.0 xs.1 (is_chain t)
-        (λ z. (seen s, z, m, (seen (next s), (e, tt, refl), w), refl, refl))
-        (λ z. call_with (plain c) q t (pack xs.0) (seen start) (seen xs.1) v (seen s, z, (v, m), (seen (next s), (e, tt, refl), w), refl))))
+      (λ z. (seen s, z, m, (seen (next s), (e, tt, refl), w), refl, refl))
+      (λ z. call_with (plain c) q t (pack xs.0) (seen start) (seen xs.1) v (seen s, z, (v, m), (seen (next s), (e, tt, refl), w), refl))))
     where
       by_chain : (q : Span) (xs : List Tree) (r : Stand Input) (b : Bool) → (b ≡ true → Spells (opt_chain_expr q false (opt_call q t (pack xs))) (plain c) (seen start) (seen r)) → (b ≡ false → Spells (call_expr q t (pack xs)) (plain c) (seen start) (seen r))
           → GotStep l c start (cond b (opt_chain_expr q false (opt_call q t (pack xs))) (call_expr q t (pack xs)), r)
@@ -320,13 +319,13 @@ module _ (inner : Inner Input) (good : Sound inner) where
   unfolding chain_by
   chain_by_sure l c start t s m v p o = let u = next (next s) in test_sure s.commas (kind (seen u)) left_paren_kind _ _ _
       (λ e. then_sure s.commas (arguments_by lm inner c (next u)) _ _ _ (arguments_sure inner good c (next u)) (λ xs w. let q = span (lo (seen start)) xs.1.source.last in
-        done (opt_chain_expr q true (opt_call q t (pack xs.0)), xs.1) (GotStep l c start) (p, dull c start _ xs.1 (seen s, seen u, (v, m), o, (seen (next u), (e, tt, refl), w), refl, refl) (λ b j. refl))))
+      done (opt_chain_expr q true (opt_call q t (pack xs.0)), xs.1) (GotStep l c start) (p, dull c start _ xs.1 (seen s, seen u, (v, m), o, (seen (next u), (e, tt, refl), w), refl, refl) (λ b j. refl))))
       (λ _. test_sure s.commas (kind (seen u)) left_bracket_kind _ _ _
       (λ e. then_sure s.commas (computed_by lm inner c expression_level u) _ _ _ (computed_sure inner good c expression_level u (omega arith) (λ t h. h) e) (λ k w. let q = span (lo (seen start)) k.1.source.last in
-        done (opt_chain_expr q true (member_expr q t k.0), k.1) (GotStep l c start) (bracketed_is expression_level (plain c) (seen u) (seen k.1) (λ y. GotStep l c start (opt_chain_expr q true (member_expr q t y), k.1))
-          (λ a y z. (p, dull c start _ k.1 (seen s, seen u, (v, m), o, z, refl, refl) (λ b j. refl))) k.0 w)))
+      done (opt_chain_expr q true (member_expr q t k.0), k.1) (GotStep l c start) (bracketed_is expression_level (plain c) (seen u) (seen k.1) (λ y. GotStep l c start (opt_chain_expr q true (member_expr q t y), k.1))
+      (λ a y z. (p, dull c start _ k.1 (seen s, seen u, (v, m), o, z, refl, refl) (λ b j. refl))) k.0 w)))
       (λ _. then_sure s.commas (member_name lm inner true u) _ _ _ (member_name_sure c u) (λ k w. let q = span (lo (seen start)) k.1.source.last in
-        done (opt_chain_expr q true (member_expr q t k.0), k.1) (GotStep l c start) (p, dull c start _ k.1 (chain_with (plain c) q q true t k.0 (seen start) (seen k.1) w.0 (seen s, seen u, (v, m), o, w, refl, refl)) (λ b j. refl)))))
+      done (opt_chain_expr q true (member_expr q t k.0), k.1) (GotStep l c start) (p, dull c start _ k.1 (chain_with (plain c) q q true t k.0 (seen start) (seen k.1) w.0 (seen s, seen u, (v, m), o, w, refl, refl)) (λ b j. refl)))))
 
   cond_by_sure : (l : ℕ) (c : Code) (start : Stand Input) (t : Tree) (s : Stand Input) → Spells t (plain c) (seen start) (seen s) → coalesce_level ≤ level t → l ≤ conditional_level → kind (seen s) ≡ question_mark_kind → Sure s.commas (cond_by lm inner c start t s) (GotStep l c start)
   unfolding cond_by
@@ -356,33 +355,36 @@ module _ (inner : Inner Input) (good : Sound inner) where
       let d = dotted (ends t) s in let w = goes_le c (ends t) s in let sp = m.spelled in
       let at : (k : ℕ) → kind (seen s) ≡ k → l ≤ cap c d k = λ k e. subst (λ (k : ℕ). l ≤ cap c d k) e (omega (arith, g, w)) in
       test_sure s.commas (kind (seen s)) comma_kind _ _ _ (λ e. then_sure s.commas (inner.expr c assignment_level (next s)) _ _ _ (good.expr c assignment_level (next s) (omega arith)) (λ v k.
-        let x = extended_made c start t s v.0 v.1 (omega (arith, l1, h)) sp (e, tt, refl) (k.0, k.1.spelled) in
-        done (extended t v.0 (span (lo (seen start)) v.1.source.last), v.1) (GotStep l c start) (omega (arith, x.0, at comma_kind e, cap_comma c d), x.1))) (λ n0.
+      let x = extended_made c start t s v.0 v.1 (omega (arith, l1, h)) sp (e, tt, refl) (k.0, k.1.spelled) in
+      done (extended t v.0 (span (lo (seen start)) v.1.source.last), v.1) (GotStep l c start) (omega (arith, x.0, at comma_kind e, cap_comma c d), x.1))) (λ n0.
       if_sure s.commas (is_assign_op (kind (seen s))) _ _ _ (λ e. assign_by_sure l c start t s m (omega (arith, at (kind (seen s)) refl, cap_assign c d (kind (seen s)) e)) e) (λ n1.
       if_sure s.commas (eqb (kind (seen s)) question_mark_kind && eqb (kind2 (seen s)) dot_kind) _ _ _ (λ e. let b = and_parts (eqb (kind (seen s)) question_mark_kind) (eqb (kind2 (seen s)) dot_kind) e in
-        let q = eqb-true (kind (seen s)) question_mark_kind b.0 in
-        only_sure s.commas (leb call_level (level t)) _ _ (λ v. chain_by_sure l c start t s sp (leb-true call_level (level t) v) (omega (arith, at question_mark_kind q, cap_question c d)) (seen (next s), (q, tt, refl), (eqb-true (kind2 (seen s)) dot_kind b.1, tt, refl)))) (λ n2.
+      let q = eqb-true (kind (seen s)) question_mark_kind b.0 in
+      only_sure s.commas (leb call_level (level t)) _ _ (λ v. chain_by_sure l c start t s sp (leb-true call_level (level t) v) (omega (arith, at question_mark_kind q, cap_question c d)) (seen (next s), (q, tt, refl), (eqb-true (kind2 (seen s)) dot_kind b.1, tt, refl)))) (λ n2.
       test_sure s.commas (kind (seen s)) question_mark_kind _ _ _ (λ e. only_sure s.commas (leb coalesce_level (level t)) _ _ (λ v. cond_by_sure l c start t s sp (leb-true coalesce_level (level t) v)
-        (omega (arith, subst (λ z. l ≤ cap c z question_mark_kind) (plain_dot s t e n2) (at question_mark_kind e), cap_plain_question c)) e)) (λ n3.
+      (omega (arith, subst (λ z. l ≤ cap c z question_mark_kind) (plain_dot s t e n2) (at question_mark_kind e), cap_plain_question c)) e)) (λ n3.
       if_sure s.commas (operates c (kind (seen s))) _ _ _ (λ e. only_sure s.commas (fits_left (kind (seen s)) t) _ _ (λ v. binary_by_sure l c start t s sp
-        (omega (arith, at (kind (seen s)) refl, cap_binary c d (kind (seen s)) (not_kind (kind (seen s)) comma_kind n0) n1 (not_kind (kind (seen s)) question_mark_kind n3) e)) e v)) (λ n4.
+      (omega (arith, at (kind (seen s)) refl, cap_binary c d (kind (seen s)) (not_kind (kind (seen s)) comma_kind n0) n1 (not_kind (kind (seen s)) question_mark_kind n3) e)) e v)) (λ n4.
       if_sure s.commas (between plus_plus_kind minus_minus_kind (kind (seen s))) _ _ _ (λ e. only_sure s.commas (leb new_level (level t) && not (brk (seen s))) _ _ (λ v.
-        let b = and_parts (leb new_level (level t)) (not (brk (seen s))) v in let q = update_expr (span (lo (seen start)) (hi (seen s))) (kind (seen s)) false t in
-        done (q, next s) (GotStep l c start) (omega (arith, at (kind (seen s)) refl, cap_update c d (kind (seen s)) (not_kind (kind (seen s)) comma_kind n0) n1 (not_kind (kind (seen s)) question_mark_kind n3) n4 e),
-          dull c start q (next s) (seen s, update_op (kind (seen s)) e, (leb-true new_level (level t) b.0, sp), not-true (brk (seen s)) b.1, (refl, tt, refl), refl) (λ y j. refl)))) (λ n5.
+      let b = and_parts (leb new_level (level t)) (not (brk (seen s))) v in let q = update_expr (span (lo (seen start)) (hi (seen s))) (kind (seen s)) false t in
+      done (q, next s) (GotStep l c start) (
+        omega (arith, at (kind (seen s)) refl, cap_update c d (kind (seen s)) (not_kind (kind (seen s)) comma_kind n0) n1 (not_kind (kind (seen s)) question_mark_kind n3) n4 e),
+        dull c start q (next s) (seen s, update_op (kind (seen s)) e, (leb-true new_level (level t) b.0, sp), not-true (brk (seen s)) b.1, (refl, tt, refl), refl) (λ y j. refl),
+      ))) (λ n5.
       if_sure s.commas (not (leb call_level (level t))) _ _ _ (λ _. record { so = tt }) (λ nv. let v = leb-true call_level (level t) (not_no (leb call_level (level t)) nv) in
       test_sure s.commas (kind (seen s)) left_paren_kind _ _ _ (λ e. call_by_sure l c start t s sp v (omega (arith, at left_paren_kind e, cap_paren c d)) e) (λ _.
       test_sure s.commas (kind (seen s)) left_bracket_kind _ _ _ (λ e. index_by_sure l c start t s h sp v (omega (arith, at left_bracket_kind e, cap_bracket c d)) e) (λ _.
       test_sure s.commas (kind (seen s)) dot_kind _ _ _ (λ e. member_by_sure l c start t s h sp v (omega (arith, at dot_kind e, cap_dot c d)) e) (λ _.
       if_sure s.commas (eqb (kind (seen s)) back_quote_kind && not (is_chain t)) _ _ _ (λ z. let b = and_parts (eqb (kind (seen s)) back_quote_kind) (not (is_chain t)) z in let e = eqb-true (kind (seen s)) back_quote_kind b.0 in
-        then_sure s.commas (template_by lm inner c true s) _ _ _ (template_sure inner good c true s e) (λ q y. let u = span (lo (seen start)) q.1.source.last in
-        done (tagged_tpl u t q.0, q.1) (GotStep l c start) (template_is true (plain c) (seen s) (seen q.1) (λ a. GotStep l c start (tagged_tpl u t a, q.1))
-          (λ a es qs k. (omega (arith, h, at back_quote_kind e, cap_quote c d), dull c start _ q.1 (seen s, not-true (is_chain t) b.1, (v, sp), k, refl) (λ y j. refl))) q.0 y)))
+      then_sure s.commas (template_by lm inner c true s) _ _ _ (template_sure inner good c true s e) (λ q y. let u = span (lo (seen start)) q.1.source.last in
+      done (tagged_tpl u t q.0, q.1) (GotStep l c start) (template_is true (plain c) (seen s) (seen q.1) (λ a. GotStep l c start (tagged_tpl u t a, q.1))
+      (λ a es qs k. (omega (arith, h, at back_quote_kind e, cap_quote c d), dull c start _ q.1 (seen s, not-true (is_chain t) b.1, (v, sp), k, refl) (λ y j. refl))) q.0 y)))
       (λ _. record { so = tt })))))))))))
     where
       not_no : (b : Bool) → not b ≡ false → b ≡ true
       not_no true e = refl
       not_no false e = absurd (true≢false e)
+
       plain_dot : (s : Stand Input) (t : Tree) → kind (seen s) ≡ question_mark_kind → (eqb (kind (seen s)) question_mark_kind && eqb (kind2 (seen s)) dot_kind) ≡ false → dotted (ends t) s ≡ false
       plain_dot s t e n = ap (λ z. z && eqb (ends t) 0) (subst (λ (k : ℕ). (eqb k question_mark_kind && eqb (kind2 (seen s)) dot_kind) ≡ false) e n)
 
@@ -401,17 +403,17 @@ module _ (inner : Inner Input) (good : Sound inner) where
   unfolding loop_by
   loop_by_sure l c start t s l1 m = if_sure s.commas (leb l (level t)) _ _ _
       (λ e. sure_map s.commas (iterate _ (loop_step lm inner c l start) t s) _ _ (loop_sure (loop_step lm inner c l start) (Going l c start) (Going l c start) (λ x r i. loop_step_sure l c start l1 x r i) t s (record { high = leb-true l (level t) e; made = m }))
-        (λ x i. (from_level l x.0 i.high, i.made)))
+      (λ x i. (from_level l x.0 i.high, i.made)))
       (λ _. if_sure s.commas (eqb (level t) new_level && eqb l member_level) _ _ _ (λ e. let b = and_parts (eqb (level t) new_level) (eqb l member_level) e in
-        done (t, s) (GotExpr c l start) (by_yes (eqb l member_level) _ _ b.1 (inr (eqb-true (level t) new_level b.0)), m)) (λ _. record { so = tt }))
+      done (t, s) (GotExpr c l start) (by_yes (eqb l member_level) _ _ b.1 (inr (eqb-true (level t) new_level b.0)), m)) (λ _. record { so = tt }))
 
   private_in_sure : (c : Code) (l : ℕ) (s : Stand Input) → 1 ≤ l → Sure s.commas (private_in lm inner c l s) (GotExpr c l s)
   unfolding private_in
   private_in_sure c l s l1 = then_sure s.commas (private_by lm inner s) _ _ _ (private_sure inner c s) (λ p h.
       if_sure p.1.commas (eqb (kind (seen p.1)) in_kind && (has_in c && leb l (binary_level in_kind))) _ _ _ (λ e.
-        let b = and_parts (eqb (kind (seen p.1)) in_kind) (has_in c && leb l (binary_level in_kind)) e in let d = and_parts (has_in c) (leb l (binary_level in_kind)) b.1 in let k = eqb-true (kind (seen p.1)) in_kind b.0 in
-        then_sure p.1.commas (binary_by lm inner c s p.0 p.1) _ _ _ (binary_by_sure l c s p.0 p.1 h.1 (subst (λ (j : ℕ). l ≤ binary_level j) (sym k) (leb-true l (binary_level in_kind) d.1)) (subst (λ (j : ℕ). operates c j ≡ true) (sym k) d.0) (private_fits p.0 (kind (seen p.1)) h.0 b.0))
-        (λ t m. loop_by_sure l c s t.0 t.1 l1 m.1)) (λ _. record { so = tt }))
+      let b = and_parts (eqb (kind (seen p.1)) in_kind) (has_in c && leb l (binary_level in_kind)) e in let d = and_parts (has_in c) (leb l (binary_level in_kind)) b.1 in let k = eqb-true (kind (seen p.1)) in_kind b.0 in
+      then_sure p.1.commas (binary_by lm inner c s p.0 p.1) _ _ _ (binary_by_sure l c s p.0 p.1 h.1 (subst (λ (j : ℕ). l ≤ binary_level j) (sym k) (leb-true l (binary_level in_kind) d.1)) (subst (λ (j : ℕ). operates c j ≡ true) (sym k) d.0) (private_fits p.0 (kind (seen p.1)) h.0 b.0))
+      (λ t m. loop_by_sure l c s t.0 t.1 l1 m.1)) (λ _. record { so = tt }))
     where
       private_fits : (a : Tree) (k : ℕ) → is_private a ≡ true → eqb k in_kind ≡ true → fits_left k a ≡ true
       private_fits (private_name s n) k e q = q

@@ -1,18 +1,18 @@
 -- Patterns that bind are spelled as they are read.
-use Rattle.std.proofs.Common.{◌≡◌, ℕ, zero, suc, ◌≤◌, ◌⊎◌, inl, inr, Bool, true, false, not, ◌&&◌, ◌||◌, cond, eqb, List, [], ◌∷◌, ◌++◌, Option, Some, None, Result, Ok, Err, refl, sym, ap, ◌∙◌, subst, ⊎_elim, true≢false, arith}
-use Rattle.std.proofs.lemmas.Bool.{eqb-true, eqb-false, and_parts, not-true, cases_Bool}
+use Rattle.std.proofs.Common.{◌≡◌, ℕ, ◌⊎◌, inl, inr, Bool, true, false, not, ◌&&◌, ◌||◌, eqb, List, [], ◌∷◌, ◌++◌, refl, sym, ap, true≢false, arith}
+use Rattle.std.proofs.lemmas.Bool.{eqb-true, and_parts, not-true}
 use Rattle.ecma_token.specs.Kinds.{comma_kind, colon_kind, dot_dot_dot_kind, left_bracket_kind, right_bracket_kind, left_brace_kind, right_brace_kind, assign_kind}
-use Rattle.ecma_tree.specs.Tree.{Tree, Trees, none, more, pack, ident, hole, absent, binding_ident, array_pat, object_pat, rest_pat, assign_pat, key_value_pat_prop, assign_pat_prop}
-use Rattle.ecma_syntax.specs.Input.{Input, Code, kind, text, Takes, lo, hi, span, first_span, dots_at, with_in}
+use Rattle.ecma_tree.specs.Tree.{Tree, pack, ident, hole, absent, binding_ident, array_pat, object_pat, rest_pat, assign_pat, key_value_pat_prop, assign_pat_prop}
+use Rattle.ecma_syntax.specs.Input.{Input, Code, kind, text, Takes, lo, span, first_span, dots_at, with_in}
 use Rattle.ecma_syntax.specs.Operators.{assignment_level}
 use Rattle.ecma_syntax.specs.Shape.{is_binding, is_item_pat, is_pattern_prop, takes_rest, is_rest, is_hole, is_structured, is_absent, is_key}
-use Rattle.ecma_grammar.specs.Parts.{Part, part, By, IsEmpty, Expr, Listed}
+use Rattle.ecma_grammar.specs.Parts.{part, IsEmpty, Expr}
 use Rattle.ecma_grammar.specs.Patterns.{Item, Property}
 use Rattle.ecma_grammar.specs.Grammar.{Spells, parts}
-use Rattle.ecma_reading.specs.Source.{Fault, ◌>>=◌, unexpected, Stand, Inner, Step, go_on, finished, iterate}
+use Rattle.ecma_reading.specs.Source.{Stand, Inner, Step, go_on, finished, iterate}
 use Rattle.ecma_reading.specs.Expressions.{key_by}
 use Rattle.ecma_reading.specs.Statements.{initial_pat, after_item, array_item, array_pat_by, keyed_item, named_item, pattern_prop, object_item, object_pat_by, pat_by}
-use Rattle.ecma_grammar_laws.proofs.Sure.{lm, seen, next, Grows, Sure, done, then_sure, then_any, weaken, sure_map, if_sure, test_sure, eat_sure, IsName, name_sure, StepSure, loop_sure}
+use Rattle.ecma_grammar_laws.proofs.Sure.{lm, seen, next, Sure, done, then_sure, then_any, weaken, if_sure, test_sure, eat_sure, IsName, name_sure, StepSure, loop_sure}
 use Rattle.ecma_grammar_laws.proofs.Covers.{patterned, plain, by_no, key_in, not_absent}
 use Rattle.ecma_grammar_laws.proofs.Nested.{Sound, GotPat, key_sure}
 use Rattle.ecma_grammar_laws.proofs.Functions.{Before, All_read, at_start, one_more, at_end, with_last, ListedTrees, binding_item, binding_rest}
@@ -37,7 +37,7 @@ module _ (inner : Inner Input) (good : Sound inner) where
   unfolding initial_pat
   initial_sure c start p s b h = test_sure s.commas (kind (seen s)) assign_kind _ _ _
       (λ e. then_sure s.commas (inner.expr (with_in c) assignment_level (next s)) _ _ _ (good.expr (with_in c) assignment_level (next s) (omega arith)) (λ v k. let q = ap (λ z. z || false) b in
-        done (assign_pat (span (lo (seen start)) v.1.source.last) p v.0, v.1) (GotItem c start) (q, (seen s, seen (next s), q, h, (e, tt, refl), (k.0, k.1.spelled), refl), refl, refl)))
+      done (assign_pat (span (lo (seen start)) v.1.source.last) p v.0, v.1) (GotItem c start) (q, (seen s, seen (next s), q, h, (e, tt, refl), (k.0, k.1.spelled), refl), refl, refl)))
       (λ _. done (p, s) (GotItem c start) (binding_item p b, h, binding_rest p b, binding_hole p b))
 
   -- ---- lists of items
@@ -70,11 +70,11 @@ module _ (inner : Inner Input) (good : Sound inner) where
   item_sure c ts xs s b = test_sure s.commas (kind (seen s)) right_bracket_kind _ _ _ (λ e. done (finished xs, next s) (StepSure (Before (Items c) ts) (All_read (Items c) ts)) (at_end (Items c) ts xs s (next s) b (takes_in c right_bracket_kind s e))) (λ _.
       test_sure s.commas (kind (seen s)) comma_kind _ _ _ (λ e. done (go_on (xs ++ hole ∷ []), next s) (StepSure (Before (Items c) ts) (All_read (Items c) ts)) (one_more (Items c) ts xs s hole (next s) b (λ ys r h. (seen (next s), takes_in c comma_kind s e, h)))) (λ _.
       test_sure s.commas (kind (seen s)) dot_dot_dot_kind _ _ _ (λ e. then_sure s.commas (inner.pat (with_in c) (next s)) _ _ _ (good.pat (with_in c) (next s)) (λ p h. let q = ap (λ z. z || false) h.0 in let d = rest_pat (span (lo (seen s)) p.1.source.last) (dots_at (lo (seen s))) p.0 in
-        after_sure (Items c) ts right_bracket_kind true xs s d p.1 b (λ z. absurd (true≢false z)) (λ z. (seen p.1, (q, (seen (next s), (e, tt, refl), refl, q, h.1, refl)), inr (tt, takes_in c right_bracket_kind p.1 z))))) (λ _.
+      after_sure (Items c) ts right_bracket_kind true xs s d p.1 b (λ z. absurd (true≢false z)) (λ z. (seen p.1, (q, (seen (next s), (e, tt, refl), refl, q, h.1, refl)), inr (tt, takes_in c right_bracket_kind p.1 z))))) (λ _.
       then_sure s.commas (inner.pat (with_in c) s) _ _ _ (good.pat (with_in c) s) (λ p h. then_sure p.1.commas (initial_pat lm inner c s p.0 p.1) _ _ _ (initial_sure c s p.0 p.1 h.0 h.1) (λ q k.
-        after_sure (Items c) ts right_bracket_kind false xs s q.0 q.1 b
-          (λ _ z ys r l. by_no (is_hole q.0) (AtHole c ys (seen s) r) (AtItem c q.0 ys (seen s) r) k.3 (seen q.1, (k.0, k.1), inl (k.2, seen (next q.1), takes_in c comma_kind q.1 z, l)))
-          (λ z. by_no (is_hole q.0) (AtHole c [] (seen s) (seen (next q.1))) (AtItem c q.0 [] (seen s) (seen (next q.1))) k.3 (seen q.1, (k.0, k.1), inr (tt, takes_in c right_bracket_kind q.1 z))))))))
+      after_sure (Items c) ts right_bracket_kind false xs s q.0 q.1 b
+      (λ _ z ys r l. by_no (is_hole q.0) (AtHole c ys (seen s) r) (AtItem c q.0 ys (seen s) r) k.3 (seen q.1, (k.0, k.1), inl (k.2, seen (next q.1), takes_in c comma_kind q.1 z, l)))
+      (λ z. by_no (is_hole q.0) (AtHole c [] (seen s) (seen (next q.1))) (AtItem c q.0 [] (seen s) (seen (next q.1))) k.3 (seen q.1, (k.0, k.1), inr (tt, takes_in c right_bracket_kind q.1 z))))))))
 
   array_pat_sure : (c : Code) (s : Stand Input) → kind (seen s) ≡ left_bracket_kind → Sure s.commas (array_pat_by lm inner c s) (GotPat c s)
   unfolding array_pat_by
@@ -98,8 +98,8 @@ module _ (inner : Inner Input) (good : Sound inner) where
   unfolding named_item
   named_sure c s = name_sure c s _ _ (λ i. test_sure s.commas (kind (seen (next s))) assign_kind _ _ _
       (λ e. then_sure s.commas (inner.expr (with_in c) assignment_level (next (next s))) _ _ _ (good.expr (with_in c) assignment_level (next (next s)) (omega arith)) (λ v k.
-        done (assign_pat_prop (span (lo (seen s)) v.1.source.last) (binding_ident (first_span (seen s)) (ident (first_span (seen s)) (text (seen s)))) v.0, v.1) (GotProp c s)
-          (refl, refl, (seen (next s), (refl, bound c s i), by_no (is_absent v.0) (seen (next s) ≡ seen v.1) ((n : Input) × Takes (patterned true (with_in c)) assign_kind (seen (next s)) n × Expr assignment_level (plain (with_in c)) (part v.0 (λ y. Spells v.0 y)) n (seen v.1)) (not_absent v.0 k.0) (seen (next (next s)), (e, tt, refl), (k.0, k.1.spelled)), refl), refl)))
+      done (assign_pat_prop (span (lo (seen s)) v.1.source.last) (binding_ident (first_span (seen s)) (ident (first_span (seen s)) (text (seen s)))) v.0, v.1) (GotProp c s)
+      (refl, refl, (seen (next s), (refl, bound c s i), by_no (is_absent v.0) (seen (next s) ≡ seen v.1) ((n : Input) × Takes (patterned true (with_in c)) assign_kind (seen (next s)) n × Expr assignment_level (plain (with_in c)) (part v.0 (λ y. Spells v.0 y)) n (seen v.1)) (not_absent v.0 k.0) (seen (next (next s)), (e, tt, refl), (k.0, k.1.spelled)), refl), refl)))
       (λ _. done (assign_pat_prop (first_span (seen s)) (binding_ident (first_span (seen s)) (ident (first_span (seen s)) (text (seen s)))) absent, next s) (GotProp c s) (refl, refl, (seen (next s), (refl, bound c s i), refl, refl), refl)))
 
   pattern_prop_sure : (c : Code) (s : Stand Input) → Sure s.commas (pattern_prop lm inner c s) (GotProp c s)
@@ -111,12 +111,12 @@ module _ (inner : Inner Input) (good : Sound inner) where
   unfolding object_item
   prop_item_sure c ts xs s b = test_sure s.commas (kind (seen s)) right_brace_kind _ _ _ (λ e. done (finished xs, next s) (StepSure (Before (Props c) ts) (All_read (Props c) ts)) (at_end (Props c) ts xs s (next s) b (takes_in c right_brace_kind s e))) (λ _.
       test_sure s.commas (kind (seen s)) dot_dot_dot_kind _ _ _ (λ e. then_sure s.commas (inner.pat (with_in c) (next s)) _ _ _ (good.pat (with_in c) (next s)) (λ p h. if_sure p.1.commas (is_structured p.0) _ _ _ (λ _. record { so = tt }) (λ w.
-        let q = ap (λ z. z || false) h.0 in let d = rest_pat (span (lo (seen s)) p.1.source.last) (dots_at (lo (seen s))) p.0 in
-        after_sure (Props c) ts right_brace_kind true xs s d p.1 b (λ z. absurd (true≢false z)) (λ z. (seen p.1, (refl, ap not w, (seen (next s), (e, tt, refl), refl, q, h.1, refl)), inr (tt, takes_in c right_brace_kind p.1 z)))))) (λ _.
+      let q = ap (λ z. z || false) h.0 in let d = rest_pat (span (lo (seen s)) p.1.source.last) (dots_at (lo (seen s))) p.0 in
+      after_sure (Props c) ts right_brace_kind true xs s d p.1 b (λ z. absurd (true≢false z)) (λ z. (seen p.1, (refl, ap not w, (seen (next s), (e, tt, refl), refl, q, h.1, refl)), inr (tt, takes_in c right_brace_kind p.1 z)))))) (λ _.
       then_sure s.commas (pattern_prop lm inner c s) _ _ _ (pattern_prop_sure c s) (λ q k.
-        after_sure (Props c) ts right_brace_kind false xs s q.0 q.1 b
-          (λ _ z ys r l. (seen q.1, (k.0, k.1, k.2), inl (k.3, seen (next q.1), takes_in c comma_kind q.1 z, l)))
-          (λ z. (seen q.1, (k.0, k.1, k.2), inr (tt, takes_in c right_brace_kind q.1 z))))))
+      after_sure (Props c) ts right_brace_kind false xs s q.0 q.1 b
+      (λ _ z ys r l. (seen q.1, (k.0, k.1, k.2), inl (k.3, seen (next q.1), takes_in c comma_kind q.1 z, l)))
+      (λ z. (seen q.1, (k.0, k.1, k.2), inr (tt, takes_in c right_brace_kind q.1 z))))))
 
   object_pat_sure : (c : Code) (s : Stand Input) → kind (seen s) ≡ left_brace_kind → Sure s.commas (object_pat_by lm inner c s) (GotPat c s)
   unfolding object_pat_by

@@ -1,24 +1,24 @@
 -- What starts an expression: names, words, groups, `new`, `super`, `import`, functions and classes, prefix operators.
-use Rattle.std.proofs.Common.{◌≡◌, ℕ, zero, suc, ◌≤◌, ◌<◌, ◌⊎◌, inl, inr, Bool, true, false, not, ◌&&◌, ◌||◌, cond, eqb, leb, ltb, List, [], ◌∷◌, ◌++◌, Option, Some, None, Result, Ok, Err, refl, sym, ap, ◌∙◌, subst, ⊎_elim, true≢false, arith, eq-eqb}
-use Rattle.std.proofs.lemmas.Bool.{eqb-true, eqb-false, and_parts, not-true, cases_Bool, leb-true, ltb-true, cases_eq, or_cases, or_left}
+use Rattle.std.proofs.Common.{◌≡◌, ℕ, ◌≤◌, ◌⊎◌, inl, inr, Bool, true, false, not, ◌&&◌, ◌||◌, cond, eqb, leb, ltb, List, [], ◌∷◌, Option, Some, None, Ok, refl, sym, ap, ◌∙◌, subst, ⊎_elim, true≢false, arith}
+use Rattle.std.proofs.lemmas.Bool.{eqb-true, and_parts, not-true, cases_Bool, leb-true, ltb-true, cases_eq}
 use Rattle.ecma_token.specs.declared.place.Span.{Span}
-use Rattle.ecma_token.specs.Kinds.{comma_kind, arrow_kind, hash_kind, dot_kind, left_paren_kind, right_paren_kind, left_bracket_kind, left_brace_kind, back_quote_kind, plus_plus_kind, minus_minus_kind, mul_kind, null_kind, true_kind, false_kind, await_kind, function_kind, class_kind, new_kind, this_kind, super_kind, import_kind, yield_kind, async_kind, meta_kind, target_kind}
-use Rattle.ecma_tree.specs.Tree.{Tree, Trees, none, more, pack, this_expr, null_lit, bool_lit, ident, ident_name, fn_expr, class_expr, unary_expr, update_expr, await_expr, yield_expr, new_expr, call_expr, super_prop_expr, meta_prop_expr, super, import, tpl, list, absent, binding_ident, computed_prop_name, expr_or_spread, expr_pat}
-use Rattle.ecma_syntax.specs.Input.{Input, Code, kind, kind2, brk, brk2, text, Takes, TakesWord, lo, hi, span, first_span, is_word, no_name, barred, with_in, by, turned_strict, setting, has_in}
+use Rattle.ecma_token.specs.Kinds.{comma_kind, arrow_kind, dot_kind, left_paren_kind, right_paren_kind, left_bracket_kind, left_brace_kind, back_quote_kind, plus_plus_kind, minus_minus_kind, mul_kind, null_kind, true_kind, false_kind, await_kind, function_kind, class_kind, new_kind, this_kind, super_kind, import_kind, yield_kind, async_kind, meta_kind, target_kind}
+use Rattle.ecma_tree.specs.Tree.{Tree, Trees, pack, this_expr, null_lit, bool_lit, ident, ident_name, fn_expr, class_expr, unary_expr, update_expr, await_expr, yield_expr, new_expr, call_expr, super_prop_expr, meta_prop_expr, super, import, tpl, list, absent, binding_ident, computed_prop_name, expr_or_spread, expr_pat}
+use Rattle.ecma_syntax.specs.Input.{Input, Code, kind, kind2, brk, brk2, text, Takes, TakesWord, lo, hi, span, first_span, is_word, no_name, barred, with_in, by, turned_strict}
 use Rattle.ecma_syntax.specs.Operators.{expression_level, assignment_level, unary_level, new_level, call_level, member_level, goes_expr, other_end, between}
-use Rattle.ecma_syntax.specs.Shape.{level, is_hole, is_element, is_spread, is_absent, is_word_name, is_default_decl, FunctionParts, function_parts, class_span}
-use Rattle.ecma_grammar.specs.Parts.{Part, part, By, IsEmpty, Expr, Sorted, Listed}
-use Rattle.ecma_grammar.specs.Expressions.{ArgumentList, ImportArguments, Bracketed, SuperProperty, Yield, TemplateLiteral, is_update_op}
+use Rattle.ecma_syntax.specs.Shape.{level, is_element, is_spread, is_default_decl, FunctionParts, function_parts, class_span}
+use Rattle.ecma_grammar.specs.Parts.{part, IsEmpty, Sorted}
+use Rattle.ecma_grammar.specs.Expressions.{ArgumentList, ImportArguments, Yield, TemplateLiteral, is_update_op}
 use Rattle.ecma_grammar.specs.Functions.{Async, FunctionExpression, FunctionHead, ClassExpression}
 use Rattle.ecma_grammar.specs.Grammar.{Spells, parts}
-use Rattle.ecma_reading.specs.Source.{Fault, ◌>>=◌, unexpected, Stand, Inner, operand, is_name}
-use Rattle.ecma_reading.specs.Expressions.{Elements, is_unary, first, literal_by, elements_by, array_by, object_by, computed_by, function_by, star, template_by, arrows, arrow_by, params_of, group_by, ident_end, arguments_by, async_group, function_expr_name, function_expr_by, async_by, class_expr_by, new_end, new_by, super_end, fits_import, import_by, unary_by, update_by, await_by, ends_yield, yield_end, yield_by, word_by, fixed, keyword_by, prefix_by}
-use Rattle.ecma_grammar_laws.proofs.Sure.{lm, seen, next, Grows, same, further, Sure, done, gives, then_sure, sure_map, if_sure, test_sure, only_sure, eat_sure, word_sure, IsName, name_sure, any_sure}
-use Rattle.ecma_grammar_laws.proofs.Covers.{patterned, plain, by_yes, by_no, Refines, Holds, IsItem, Elems, IsNil, Element, first_item, listed, not_absent}
-use Rattle.ecma_grammar_laws.proofs.Nested.{Sound, Made, named, takes, Whole, elements_sure, literal_sure, dull, IsBracketed, bracketed_is, computed_sure}
-use Rattle.ecma_grammar_laws.proofs.Functions.{function_sure, GotFunction, star_sure}
+use Rattle.ecma_reading.specs.Source.{unexpected, Stand, Inner, operand, is_name}
+use Rattle.ecma_reading.specs.Expressions.{is_unary, literal_by, elements_by, computed_by, function_by, template_by, arrows, params_of, group_by, ident_end, arguments_by, async_group, function_expr_name, function_expr_by, async_by, class_expr_by, new_end, new_by, super_end, fits_import, import_by, unary_by, update_by, await_by, ends_yield, yield_end, yield_by, word_by, fixed, keyword_by, prefix_by}
+use Rattle.ecma_grammar_laws.proofs.Sure.{lm, seen, next, same, Sure, done, then_sure, sure_map, if_sure, test_sure, only_sure, eat_sure, word_sure, IsName, name_sure, any_sure}
+use Rattle.ecma_grammar_laws.proofs.Covers.{plain, by_yes, by_no, Holds, IsItem, Elems, IsNil, Element, first_item, listed}
+use Rattle.ecma_grammar_laws.proofs.Nested.{Sound, Made, named, elements_sure, literal_sure, dull, bracketed_is, computed_sure}
+use Rattle.ecma_grammar_laws.proofs.Functions.{function_sure, star_sure}
 use Rattle.ecma_grammar_laws.proofs.Primaries.{element_sorted, and_no, soft, array_sure, object_sure}
-use Rattle.ecma_grammar_laws.proofs.Groups.{IsTemplate, template_sure, then_made, IsParams, params_hold, Heads, arrow_sure, paren_sure}
+use Rattle.ecma_grammar_laws.proofs.Groups.{IsTemplate, template_sure, then_made, IsParams, params_hold, arrow_sure, paren_sure}
 
 -- ---- names
 
@@ -53,16 +53,20 @@ import_arguments : (inner : Inner Input) (k : List ℕ) (c : Code) (b : Bool) (x
     → ImportArguments (plain c) (parts (pack xs)) ts r
 import_arguments inner k c b [] ts r h e = absurd (true≢false (sym e))
 import_arguments inner k c b (x ∷ []) ts r h e =
-    let p = and_parts (not (is_spread x)) (c.syntax.import_attributes || not b) e in
-    (ap (λ z. z && true) p.0, ⊎_elim
-      (λ (a : c.syntax.import_attributes ≡ true). by_yes c.syntax.import_attributes _ Bare a (refl, argument_list k c b (x ∷ []) ts r h))
-      (λ (a : c.syntax.import_attributes ≡ false). by_no c.syntax.import_attributes With _ a (alone (not-true b (subst (λ z. (z || not b) ≡ true) a p.1)) (first_item (Element k c) (plain c) right_paren_kind b false x [] ts r h)))
-      (cases_Bool c.syntax.import_attributes))
+    let p = and_parts (not (is_spread x)) (c.syntax.import_attributes || not b) e in (
+      ap (λ z. z && true) p.0,
+      ⊎_elim
+          (λ (a : c.syntax.import_attributes ≡ true). by_yes c.syntax.import_attributes _ Bare a (refl, argument_list k c b (x ∷ []) ts r h))
+          (λ (a : c.syntax.import_attributes ≡ false). by_no c.syntax.import_attributes With _ a (alone (not-true b (subst (λ z. (z || not b) ≡ true) a p.1)) (first_item (Element k c) (plain c) right_paren_kind b false x [] ts r h)))
+          (cases_Bool c.syntax.import_attributes),
+    )
   where
     With : Type 0
     With = (true ≡ true) × ArgumentList (plain c) (parts (pack (x ∷ []))) ts r
+
     Bare : Type 0
     Bare = IsEmpty [] × (m : Input) × Sorted is_element (plain c) (part x (λ y. Spells x y)) ts m × Takes (plain c) right_paren_kind m r
+
     alone : b ≡ false → AtOne k c b x [] ts r → IsEmpty [] × (m : Input) × Sorted is_element (plain c) (part x (λ y. Spells x y)) ts m × Takes (plain c) right_paren_kind m r
     alone z q = (tt, q.0, (q.1.sort, q.1.spelled), ⊎_elim (λ o. absurd (true≢false (sym o.2.0 ∙ z))) (λ o. o.2) q.2)
 import_arguments inner k c b (x ∷ (y ∷ [])) ts r h e =
@@ -97,19 +101,22 @@ module _ (inner : Inner Input) (good : Sound inner) where
       let h = w.so xs.1.commas (same xs.1.commas) in
       if_sure xs.1.commas (arrows lm inner xs.1 && not (brk (seen (next s)))) _ _ _
       (λ a. let b = and_parts (arrows lm inner xs.1) (not (brk (seen (next s)))) a in
-        then_made xs.1.commas (params_of lm inner xs.1.commas xs.0) _ (IsParams c (seen (next (next s))) (seen xs.1)) _ (params_hold inner c xs.1.commas xs.0 (seen (next (next s))) (seen xs.1) h) (λ ps q.
-        arrow_sure inner good c s true ps xs.1 (seen (next s), ((e, soft c async_kind s e and_no, tt, refl), not-true (brk (seen (next s))) b.1), inr (seen (next (next s)), (o, tt, refl), q)) b.0))
+      then_made xs.1.commas (params_of lm inner xs.1.commas xs.0) _ (IsParams c (seen (next (next s))) (seen xs.1)) _ (params_hold inner c xs.1.commas xs.0 (seen (next (next s))) (seen xs.1) h) (λ ps q.
+      arrow_sure inner good c s true ps xs.1 (seen (next s), ((e, soft c async_kind s e and_no, tt, refl), not-true (brk (seen (next s))) b.1), inr (seen (next (next s)), (o, tt, refl), q)) b.0))
       (λ _. let t = call_expr (span (lo (seen s)) xs.1.source.last) (ident (first_span (seen s)) (text (seen s))) (pack xs.0.items) in
-        done (t, xs.1) (Made c s) (dull c s t xs.1 (seen (next s), refl, (omega arith, named c s (soft_name c s e)), (seen (next (next s)), (o, tt, refl), argument_list_in xs.1.commas c xs.0.comma xs.0.items (seen (next (next s))) (seen xs.1) h), refl) (λ b k. refl))))
+      done (t, xs.1) (Made c s) (dull c s t xs.1 (seen (next s), refl, (omega arith, named c s (soft_name c s e)), (seen (next (next s)), (o, tt, refl), argument_list_in xs.1.commas c xs.0.comma xs.0.items (seen (next (next s))) (seen xs.1) h), refl) (λ b k. refl))))
 
   pub function_name_sure : (c : Code) (start : Stand Input) (g a : Bool) (s : Stand Input) → FunctionHead g a (plain c) (seen start) (seen s) → Sure s.commas (function_expr_name lm inner c start g a s) (λ x. Made c start x × (is_default_decl x.0 ≡ true))
   unfolding function_expr_name
   function_name_sure c start g a s h = test_sure s.commas (kind (seen s)) left_paren_kind _ _ _
       (λ _. then_sure s.commas (function_by lm inner c (lo (seen start)) g a s) _ _ _ (function_sure inner good c (lo (seen start)) g a s) (λ f w. let p = span (lo (seen start)) f.1.source.last in
-        done (fn_expr p absent f.0, f.1) _ (dull c start (fn_expr p absent f.0) f.1 (function_spelled c p absent f.0 (record { span = p; generator = g; async = a; count = w.0 }) (seen start) (seen f.1) w.1 (seen s, seen s, h, refl, w.2, refl, refl)) (λ b k. refl), refl)))
+      done (fn_expr p absent f.0, f.1) _ (dull c start (fn_expr p absent f.0) f.1 (function_spelled c p absent f.0 (record { span = p; generator = g; async = a; count = w.0 }) (seen start) (seen f.1) w.1 (seen s, seen s, h, refl, w.2, refl, refl)) (λ b k. refl), refl)))
       (λ _. name_sure (by g a c) s _ _ (λ i. then_sure s.commas (function_by lm inner c (lo (seen start)) g a (next s)) _ _ _ (function_sure inner good c (lo (seen start)) g a (next s)) (λ f w. let p = span (lo (seen start)) f.1.source.last in
-        done (fn_expr p (ident (first_span (seen s)) (text (seen s))) f.0, f.1) _ (dull c start (fn_expr p (ident (first_span (seen s)) (text (seen s))) f.0) f.1
-          (function_spelled c p (ident (first_span (seen s)) (text (seen s))) f.0 (record { span = p; generator = g; async = a; count = w.0 }) (seen start) (seen f.1) w.1 (seen s, seen (next s), h, (refl, named (by g a c) s i), w.2, refl, refl)) (λ b k. refl), refl))))
+      done (fn_expr p (ident (first_span (seen s)) (text (seen s))) f.0, f.1) _ (
+        dull c start (fn_expr p (ident (first_span (seen s)) (text (seen s))) f.0) f.1
+            (function_spelled c p (ident (first_span (seen s)) (text (seen s))) f.0 (record { span = p; generator = g; async = a; count = w.0 }) (seen start) (seen f.1) w.1 (seen s, seen (next s), h, (refl, named (by g a c) s i), w.2, refl, refl)) (λ b k. refl),
+        refl,
+      ))))
 
   pub function_expr_sure : (c : Code) (start : Stand Input) (a : Bool) (s : Stand Input) → Async a (plain c) (seen start) (seen s) → Sure s.commas (function_expr_by lm inner c start a s) (λ x. Made c start x × (is_default_decl x.0 ≡ true))
   unfolding function_expr_by
@@ -123,23 +130,23 @@ module _ (inner : Inner Input) (good : Sound inner) where
   unfolding class_expr_by
   class_expr_sure c s = word_sure c class_kind s _ _ (λ e b. if_sure s.commas (is_name lm (turned_strict c) (next s) && not (eqb (kind (seen (next s))) left_brace_kind)) _ _ _
       (λ _. name_sure (turned_strict c) (next s) _ _ (λ i. then_sure s.commas (inner.class_tail (turned_strict (with_in c)) (lo (seen s)) (next (next s))) _ _ _ (good.class_tail (turned_strict (with_in c)) (lo (seen s)) (next (next s))) (λ k h.
-        let p = span (lo (seen s)) k.1.source.last in let n = ident (first_span (seen (next s))) (text (seen (next s))) in
-        done (class_expr p n k.0, k.1) _ (dull c s (class_expr p n k.0) k.1 (class_spelled c p n k.0 (seen s) (seen k.1) h.0 (seen (next s), seen (next (next s)), (e, b, tt, refl), (refl, named (turned_strict c) (next s) i), h.1, refl, refl)) (λ z l. refl), refl))))
+      let p = span (lo (seen s)) k.1.source.last in let n = ident (first_span (seen (next s))) (text (seen (next s))) in
+      done (class_expr p n k.0, k.1) _ (dull c s (class_expr p n k.0) k.1 (class_spelled c p n k.0 (seen s) (seen k.1) h.0 (seen (next s), seen (next (next s)), (e, b, tt, refl), (refl, named (turned_strict c) (next s) i), h.1, refl, refl)) (λ z l. refl), refl))))
       (λ _. then_sure s.commas (inner.class_tail (turned_strict (with_in c)) (lo (seen s)) (next s)) _ _ _ (good.class_tail (turned_strict (with_in c)) (lo (seen s)) (next s)) (λ k h.
-        let p = span (lo (seen s)) k.1.source.last in
-        done (class_expr p absent k.0, k.1) _ (dull c s (class_expr p absent k.0) k.1 (class_spelled c p absent k.0 (seen s) (seen k.1) h.0 (seen (next s), seen (next s), (e, b, tt, refl), refl, h.1, refl, refl)) (λ z l. refl), refl))))
+      let p = span (lo (seen s)) k.1.source.last in
+      done (class_expr p absent k.0, k.1) _ (dull c s (class_expr p absent k.0) k.1 (class_spelled c p absent k.0 (seen s) (seen k.1) h.0 (seen (next s), seen (next s), (e, b, tt, refl), refl, h.1, refl, refl)) (λ z l. refl), refl))))
 
   async_sure : (c : Code) (s : Stand Input) → kind (seen s) ≡ async_kind → Sure s.commas (async_by lm inner c s) (Made c s)
   unfolding async_by
   async_sure c s e = let t = soft c async_kind s e and_no in
       if_sure s.commas (eqb (kind (seen (next s))) function_kind && not (brk (seen (next s)))) _ _ _
       (λ z. let b = and_parts (eqb (kind (seen (next s))) function_kind) (not (brk (seen (next s)))) z in
-        sure_map s.commas (function_expr_by lm inner c s true (next s)) _ _ (function_expr_sure c s true (next s) ((e, t, tt, refl), not-true (brk (seen (next s))) b.1)) (λ x h. h.0))
+      sure_map s.commas (function_expr_by lm inner c s true (next s)) _ _ (function_expr_sure c s true (next s) ((e, t, tt, refl), not-true (brk (seen (next s))) b.1)) (λ x h. h.0))
       (λ _. if_sure s.commas (is_name lm c (next s) && (not (brk (seen (next s))) && eqb (kind2 (seen (next s))) arrow_kind && not (brk2 (seen (next s))))) _ _ _
       (λ z. let b = and_parts (is_name lm c (next s)) (not (brk (seen (next s))) && eqb (kind2 (seen (next s))) arrow_kind && not (brk2 (seen (next s)))) z in
-        let d = and3 (not (brk (seen (next s)))) (eqb (kind2 (seen (next s))) arrow_kind) (not (brk2 (seen (next s)))) b.1 in
-        name_sure c (next s) _ _ (λ i. arrow_sure inner good c s true (binding_ident (first_span (seen (next s))) (ident (first_span (seen (next s))) (text (seen (next s)))) ∷ []) (next (next s))
-          (seen (next s), ((e, t, tt, refl), not-true (brk (seen (next s))) d.0), inl (tt, (refl, (refl, named c (next s) i)))) d.1))
+      let d = and3 (not (brk (seen (next s)))) (eqb (kind2 (seen (next s))) arrow_kind) (not (brk2 (seen (next s)))) b.1 in
+      name_sure c (next s) _ _ (λ i. arrow_sure inner good c s true (binding_ident (first_span (seen (next s))) (ident (first_span (seen (next s))) (text (seen (next s)))) ∷ []) (next (next s))
+      (seen (next s), ((e, t, tt, refl), not-true (brk (seen (next s))) d.0), inl (tt, (refl, (refl, named c (next s) i)))) d.1))
       (λ _. if_sure s.commas (eqb (kind (seen (next s))) left_paren_kind && not (brk (seen (next s)))) _ _ _
       (λ z. async_group_sure c s e (eqb-true (kind (seen (next s))) left_paren_kind (and_parts (eqb (kind (seen (next s))) left_paren_kind) _ z).0))
       (λ _. ident_sure c s (soft_name c s e))))
@@ -167,35 +174,35 @@ module _ (inner : Inner Input) (good : Sound inner) where
   unfolding new_end
   new_end_sure c s f r t h = if_sure r.commas (eqb (kind (seen r)) left_paren_kind && leb member_level (level f)) _ _ _
       (λ z. let b = and_parts (eqb (kind (seen r)) left_paren_kind) (leb member_level (level f)) z in
-        then_sure r.commas (arguments_by lm inner c (next r)) _ _ _ (arguments_sure inner good c (next r)) (λ xs w. let p = span (lo (seen s)) xs.1.source.last in
-        done (new_expr p f (list (pack xs.0)), xs.1) (Made c s) (dull c s (new_expr p f (list (pack xs.0))) xs.1
-          (seen (next s), seen r, t, (leb-true member_level (level f) b.1, h), (seen (next r), (eqb-true (kind (seen r)) left_paren_kind b.0, tt, refl), w), refl) (λ b k. refl))))
+      then_sure r.commas (arguments_by lm inner c (next r)) _ _ _ (arguments_sure inner good c (next r)) (λ xs w. let p = span (lo (seen s)) xs.1.source.last in
+      done (new_expr p f (list (pack xs.0)), xs.1) (Made c s) (dull c s (new_expr p f (list (pack xs.0))) xs.1
+      (seen (next s), seen r, t, (leb-true member_level (level f) b.1, h), (seen (next r), (eqb-true (kind (seen r)) left_paren_kind b.0, tt, refl), w), refl) (λ b k. refl))))
       (λ _. if_sure r.commas ((leb member_level (level f) || eqb (level f) new_level) && ltb (goes_expr c other_end (seen r)) call_level) _ _ _
       (λ z. let b = and_parts (leb member_level (level f) || eqb (level f) new_level) (ltb (goes_expr c other_end (seen r)) call_level) z in let p = span (lo (seen s)) r.source.last in
-        done (new_expr p f absent, r) (Made c s) (dull c s (new_expr p f absent) r (seen (next s), t, new_level_of (level f) b.0, h, ltb-true (goes_expr c other_end (seen r)) call_level b.1, refl) (λ b k. refl)))
+      done (new_expr p f absent, r) (Made c s) (dull c s (new_expr p f absent) r (seen (next s), t, new_level_of (level f) b.0, h, ltb-true (goes_expr c other_end (seen r)) call_level b.1, refl) (λ b k. refl)))
       (λ _. record { so = tt }))
 
   new_sure : (c : Code) (s : Stand Input) → Sure s.commas (new_by lm inner c s) (Made c s)
   unfolding new_by
   new_sure c s = word_sure c new_kind s _ _ (λ e b. test_sure s.commas (kind (seen (next s))) dot_kind _ _ _
       (λ z. word_sure c target_kind (next (next s)) _ _ (λ k w. let p = span (lo (seen s)) (hi (seen (next (next s)))) in
-        done (meta_prop_expr p new_kind, next (next (next s))) (Made c s) (dull c s (meta_prop_expr p new_kind) (next (next (next s))) (seen (next s), seen (next (next s)), (e, b, tt, refl), (z, tt, refl), inl (refl, (k, w, tt, refl)), refl) (λ b k. refl))))
+      done (meta_prop_expr p new_kind, next (next (next s))) (Made c s) (dull c s (meta_prop_expr p new_kind) (next (next (next s))) (seen (next s), seen (next (next s)), (e, b, tt, refl), (z, tt, refl), inl (refl, (k, w, tt, refl)), refl) (λ b k. refl))))
       (λ _. then_sure s.commas (inner.expr c member_level (next s)) _ _ _ (good.expr c member_level (next s) (omega arith)) (λ f h. new_end_sure c s f.0 f.1 (e, b, tt, refl) h.1.spelled)))
 
   super_sure : (c : Code) (s : Stand Input) → TakesWord (plain c) super_kind (seen s) (seen (next s)) → Sure s.commas (super_end lm inner c s (next s)) (Made c s)
   unfolding super_end
   super_sure c s t = test_sure s.commas (kind (seen (next s))) left_paren_kind _ _ _
       (λ z. then_sure s.commas (arguments_by lm inner c (next (next s))) _ _ _ (arguments_sure inner good c (next (next s))) (λ xs w. let p = call_expr (span (lo (seen s)) xs.1.source.last) (super (first_span (seen s))) (pack xs.0) in
-        done (p, xs.1) (Made c s) (dull c s p xs.1 (seen (next s), t, refl, (seen (next (next s)), (z, tt, refl), w), refl) (λ b k. refl))))
+      done (p, xs.1) (Made c s) (dull c s p xs.1 (seen (next s), t, refl, (seen (next (next s)), (z, tt, refl), w), refl) (λ b k. refl))))
       (λ _. test_sure s.commas (kind (seen (next s))) left_bracket_kind _ _ _
       (λ z. then_sure s.commas (computed_by lm inner c expression_level (next s)) _ _ _ (computed_sure inner good c expression_level (next s) (omega arith) (λ t h. h) z) (λ k w.
-        done (super_prop_expr (span (lo (seen s)) k.1.source.last) (super (first_span (seen s))) k.0, k.1) (Made c s)
-          (bracketed_is expression_level (plain c) (seen (next s)) (seen k.1) (λ y. Made c s (super_prop_expr (span (lo (seen s)) k.1.source.last) (super (first_span (seen s))) y, k.1))
-            (λ q v a. made_super c s k.1 (super (first_span (seen s))) (computed_prop_name q v) (seen (next s), t, refl, a, refl)) k.0 w)))
+      done (super_prop_expr (span (lo (seen s)) k.1.source.last) (super (first_span (seen s))) k.0, k.1) (Made c s)
+      (bracketed_is expression_level (plain c) (seen (next s)) (seen k.1) (λ y. Made c s (super_prop_expr (span (lo (seen s)) k.1.source.last) (super (first_span (seen s))) y, k.1))
+      (λ q v a. made_super c s k.1 (super (first_span (seen s))) (computed_prop_name q v) (seen (next s), t, refl, a, refl)) k.0 w)))
       (λ _. eat_sure dot_kind (next s) _ _ (λ z. any_sure (next (next s)) _ _ (λ w.
-        done (super_prop_expr (span (lo (seen s)) (hi (seen (next (next s))))) (super (first_span (seen s))) (ident_name (first_span (seen (next (next s)))) (text (seen (next (next s))))), next (next (next s))) (Made c s)
-          (made_super c s (next (next (next s))) (super (first_span (seen s))) (ident_name (first_span (seen (next (next s)))) (text (seen (next (next s)))))
-            (seen (next s), t, refl, (seen (next (next s)), (z, tt, refl), (refl, ((w, refl, tt, refl), refl))), refl))))))
+      done (super_prop_expr (span (lo (seen s)) (hi (seen (next (next s))))) (super (first_span (seen s))) (ident_name (first_span (seen (next (next s)))) (text (seen (next (next s))))), next (next (next s))) (Made c s)
+      (made_super c s (next (next (next s))) (super (first_span (seen s))) (ident_name (first_span (seen (next (next s)))) (text (seen (next (next s)))))
+      (seen (next s), t, refl, (seen (next (next s)), (z, tt, refl), (refl, ((w, refl, tt, refl), refl))), refl))))))
     where
       made_super : (c : Code) (s r : Stand Input) (o k : Tree) → Spells (super_prop_expr (span (lo (seen s)) r.source.last) o k) (plain c) (seen s) (seen r) → Made c s (super_prop_expr (span (lo (seen s)) r.source.last) o k, r)
       made_super c s r o k h = record { spelled = h; refines = λ l g. record { so = λ b f. super_item b h } }
@@ -209,10 +216,10 @@ module _ (inner : Inner Input) (good : Sound inner) where
   unfolding import_by
   import_sure c s = word_sure c import_kind s _ _ (λ e b. test_sure s.commas (kind (seen (next s))) dot_kind _ _ _
       (λ z. word_sure c meta_kind (next (next s)) _ _ (λ k w. let p = span (lo (seen s)) (hi (seen (next (next s)))) in
-        done (meta_prop_expr p import_kind, next (next (next s))) (Made c s) (dull c s (meta_prop_expr p import_kind) (next (next (next s))) (seen (next s), seen (next (next s)), (e, b, tt, refl), (z, tt, refl), inr (refl, (k, w, tt, refl)), refl) (λ b k. refl))))
+      done (meta_prop_expr p import_kind, next (next (next s))) (Made c s) (dull c s (meta_prop_expr p import_kind) (next (next (next s))) (seen (next s), seen (next (next s)), (e, b, tt, refl), (z, tt, refl), inr (refl, (k, w, tt, refl)), refl) (λ b k. refl))))
       (λ _. eat_sure left_paren_kind (next s) _ _ (λ z. then_sure s.commas (elements_by lm inner c false right_paren_kind (next (next s))) _ _ _ (elements_sure inner good c false right_paren_kind (next (next s))) (λ xs w.
-        only_sure xs.1.commas (fits_import lm inner c xs.0) _ _ (λ q. let p = call_expr (span (lo (seen s)) xs.1.source.last) (import (first_span (seen s))) (pack xs.0.items) in
-        done (p, xs.1) (Made c s) (dull c s p xs.1 (seen (next s), seen (next (next s)), (e, b, tt, refl), refl, (z, tt, refl), import_arguments inner xs.1.commas c xs.0.comma xs.0.items (seen (next (next s))) (seen xs.1) (w.so xs.1.commas (same xs.1.commas)) q, refl) (λ b k. refl)))))))
+      only_sure xs.1.commas (fits_import lm inner c xs.0) _ _ (λ q. let p = call_expr (span (lo (seen s)) xs.1.source.last) (import (first_span (seen s))) (pack xs.0.items) in
+      done (p, xs.1) (Made c s) (dull c s p xs.1 (seen (next s), seen (next (next s)), (e, b, tt, refl), refl, (z, tt, refl), import_arguments inner xs.1.commas c xs.0.comma xs.0.items (seen (next (next s))) (seen xs.1) (w.so xs.1.commas (same xs.1.commas)) q, refl) (λ b k. refl)))))))
 
   unary_sure : (c : Code) (s : Stand Input) → is_unary (kind (seen s)) ≡ true → Sure s.commas (unary_by lm inner c s) (Made c s)
   unfolding unary_by
@@ -235,9 +242,9 @@ module _ (inner : Inner Input) (good : Sound inner) where
       (λ _. let p = yield_expr (span (lo (seen s)) (hi (seen s))) absent false in done (p, operand lm (next s)) (Made c s) (dull c s p (operand lm (next s)) (refl, (a, (e, b, tt, refl), refl)) (λ b k. refl)))
       (λ n. let q = no_break (brk (seen (next s))) _ n in test_sure s.commas (kind (seen (next s))) mul_kind _ _ _
       (λ z. then_sure s.commas (inner.expr c assignment_level (next (next s))) _ _ _ (good.expr c assignment_level (next (next s)) (omega arith)) (λ x h. let p = span (lo (seen s)) x.1.source.last in
-        done (yield_expr p x.0 true, x.1) (Made c s) (dull c s (yield_expr p x.0 true) x.1 (yield_with (plain c) p x.0 true (seen s) (seen x.1) h.0 (seen (next s), seen (next (next s)), a, (e, b, tt, refl), q, (z, tt, refl), (h.0, h.1.spelled), refl)) (λ b k. refl))))
+      done (yield_expr p x.0 true, x.1) (Made c s) (dull c s (yield_expr p x.0 true) x.1 (yield_with (plain c) p x.0 true (seen s) (seen x.1) h.0 (seen (next s), seen (next (next s)), a, (e, b, tt, refl), q, (z, tt, refl), (h.0, h.1.spelled), refl)) (λ b k. refl))))
       (λ _. then_sure s.commas (inner.expr c assignment_level (operand lm (next s))) _ _ _ (good.expr c assignment_level (operand lm (next s)) (omega arith)) (λ x h. let p = span (lo (seen s)) x.1.source.last in
-        done (yield_expr p x.0 false, x.1) (Made c s) (dull c s (yield_expr p x.0 false) x.1 (yield_with (plain c) p x.0 false (seen s) (seen x.1) h.0 (seen (next s), a, (e, b, tt, refl), q, (h.0, h.1.spelled), refl)) (λ b k. refl))))))
+      done (yield_expr p x.0 false, x.1) (Made c s) (dull c s (yield_expr p x.0 false) x.1 (yield_with (plain c) p x.0 false (seen s) (seen x.1) h.0 (seen (next s), a, (e, b, tt, refl), q, (h.0, h.1.spelled), refl)) (λ b k. refl))))))
     where
       no_break : (x y : Bool) → (x || y) ≡ false → x ≡ false
       no_break true y e = absurd (true≢false e)
@@ -275,7 +282,7 @@ module _ (inner : Inner Input) (good : Sound inner) where
       test_sure s.commas (kind (seen s)) left_bracket_kind _ _ _ (λ e. array_sure inner good c s e) (λ _.
       test_sure s.commas (kind (seen s)) left_brace_kind _ _ _ (λ e. object_sure inner good c s e) (λ _.
       test_sure s.commas (kind (seen s)) back_quote_kind _ _ _ (λ e. sure_map s.commas (template_by lm inner c false s) _ _ (template_sure inner good c false s e)
-        (λ x h. template_is false (plain c) (seen s) (seen x.1) (λ t. Made c s (t, x.1)) (λ p es qs q. dull c s (tpl p es qs) x.1 q (λ b k. refl)) x.0 h)) (λ _.
+      (λ x h. template_is false (plain c) (seen s) (seen x.1) (λ t. Made c s (t, x.1)) (λ p es qs q. dull c s (tpl p es qs) x.1 q (λ b k. refl)) x.0 h)) (λ _.
       if_sure s.commas (is_unary (kind (seen s))) _ _ _ (λ u. unary_sure c s u) (λ _.
       if_sure s.commas (between plus_plus_kind minus_minus_kind (kind (seen s))) _ _ _ (λ u. update_sure c s u) (λ _.
       sure_map s.commas (literal_by lm inner s) _ _ (literal_sure inner s) (λ x h. h.0 c))))))))

@@ -1,22 +1,22 @@
 -- Imports, exports and whole programs are spelled as they are read.
-use Rattle.std.proofs.Common.{◌≡◌, ℕ, zero, suc, ◌≤◌, ◌⊎◌, inl, inr, Bool, true, false, not, ◌&&◌, ◌||◌, cond, eqb, leb, List, [], ◌∷◌, ◌++◌, Option, Some, None, Result, Ok, Err, refl, sym, ap, ◌∙◌, subst, ⊎_elim, true≢false, append-nil, arith}
-use Rattle.std.proofs.lemmas.Bool.{eqb-true, eqb-false, and_parts, not-true, cases_Bool, ne_eqb, not_from_false, or_from}
+use Rattle.std.proofs.Common.{◌≡◌, ℕ, ◌⊎◌, inl, inr, Bool, true, false, not, ◌&&◌, ◌||◌, cond, eqb, List, [], ◌∷◌, ◌++◌, Option, Some, None, refl, sym, ap, subst, ⊎_elim, true≢false, append-nil, arith}
+use Rattle.std.proofs.lemmas.Bool.{eqb-true, and_parts, not-true, cases_Bool, ne_eqb, or_from}
 use Rattle.ecma_token.specs.declared.place.Span.{Span}
 use Rattle.ecma_token.specs.Kinds.{left_brace_kind, right_brace_kind, comma_kind, mul_kind, str_kind, shebang_kind, default_kind, function_kind, with_kind, class_kind, export_kind, import_kind, as_kind, assert_kind, async_kind, from_kind}
 use Rattle.ecma_token.specs.Tokens.{Content, Line}
-use Rattle.ecma_tree.specs.Tree.{Tree, Trees, none, more, pack, script, es_module, import_decl, export_decl, named_export, export_default_decl, export_default_expr, export_all, import_named_specifier, import_default_specifier, import_star_as_specifier, export_namespace_specifier, export_named_specifier, ident, absent, str_lit, object_lit}
-use Rattle.ecma_syntax.specs.Input.{Place, Input, Code, kind, kind2, brk, brk2, text, content, Takes, TakesWord, Spans, lo, hi, span, first_span, is_word, in_list, turned_strict, barred}
+use Rattle.ecma_tree.specs.Tree.{Tree, none, more, pack, script, es_module, import_decl, export_decl, named_export, export_default_decl, export_default_expr, export_all, import_named_specifier, import_default_specifier, import_star_as_specifier, export_namespace_specifier, export_named_specifier, ident, absent, str_lit}
+use Rattle.ecma_syntax.specs.Input.{Place, Input, Code, kind, kind2, brk, brk2, text, content, Takes, TakesWord, lo, hi, span, first_span, is_word, in_list, barred}
 use Rattle.ecma_syntax.specs.Operators.{assignment_level, exports_end, source_end, plain_end}
-use Rattle.ecma_syntax.specs.Shape.{level, ends, is_absent, is_string, is_item, is_module_decl, is_exportable, is_default_import, is_star_import, is_named_import, is_star_export, is_named_export, is_default_decl, export_name, is_attributes, is_rest}
-use Rattle.ecma_grammar.specs.Parts.{Part, part, By, IsEmpty, Expr, Sorted, Listed, Items, Ends, AtEnd, is_ident, is_module_item}
-use Rattle.ecma_grammar.specs.Modules.{ExportName, NamedImports, AfterDefault, ImportClause, Attributes, Source, NamedExports, ExportDefault, Specified, starts_default, Hashbang, Program}
+use Rattle.ecma_syntax.specs.Shape.{ends, is_absent, is_string, is_item, is_module_decl, is_exportable, is_default_import, is_star_import, is_named_import, is_star_export, is_named_export, export_name, is_attributes, is_rest}
+use Rattle.ecma_grammar.specs.Parts.{part, By, Sorted, Items, Ends, AtEnd, is_ident, is_module_item}
+use Rattle.ecma_grammar.specs.Modules.{ExportName, NamedImports, AfterDefault, ImportClause, Attributes, Source, NamedExports, ExportDefault, Specified, Hashbang}
 use Rattle.ecma_grammar.specs.Grammar.{Spells, parts}
-use Rattle.ecma_reading.specs.Source.{Fault, ◌>>=◌, unexpected, Stand, Inner, Step, go_on, finished, iterate, is_nil, ended as at_end_of, operand, turned}
+use Rattle.ecma_reading.specs.Source.{unexpected, Stand, Inner, go_on, finished, iterate, is_nil, ended as at_end_of, operand}
 use Rattle.ecma_reading.specs.Statements.{Body as State, starts_async}
 use Rattle.ecma_reading.specs.Expressions.{literal_by, object_by, function_expr_by, class_expr_by}
-use Rattle.ecma_reading.specs.Modules.{From, string_by, export_name_by, local_by, attributes_by, source_by, named_import, named_export_item, specifier_step, specifiers_by, star_import, import_end, import_rest, import_default, import_decl_by, export_default, export_star, export_list, starts_declaration, export_by, starts_import, item_by, program_item, program_step, line_of, program_tree, program_rest, program_by}
-use Rattle.ecma_grammar_laws.proofs.Sure.{lm, seen, next, Grows, Sure, done, then_sure, then_any, weaken, sure_map, if_sure, test_sure, only_sure, eat_sure, word_sure, any_sure, name_sure, StepSure, loop_sure}
-use Rattle.ecma_grammar_laws.proofs.Covers.{patterned, plain, by_yes, by_no}
+use Rattle.ecma_reading.specs.Modules.{From, string_by, export_name_by, local_by, attributes_by, source_by, named_import, named_export_item, specifier_step, specifiers_by, star_import, import_end, import_rest, import_default, import_decl_by, export_default, export_star, export_list, starts_declaration, export_by, starts_import, item_by, program_item, program_step, line_of, program_rest, program_by}
+use Rattle.ecma_grammar_laws.proofs.Sure.{lm, seen, next, Sure, done, then_sure, then_any, weaken, sure_map, if_sure, test_sure, only_sure, eat_sure, word_sure, any_sure, name_sure, StepSure, loop_sure}
+use Rattle.ecma_grammar_laws.proofs.Covers.{plain, by_no}
 use Rattle.ecma_grammar_laws.proofs.Nested.{Sound, named, end_sure, literal_sure}
 use Rattle.ecma_grammar_laws.proofs.Functions.{Before, All_read, at_start, one_more, at_end, with_last, ListedTrees}
 use Rattle.ecma_grammar_laws.proofs.Primaries.{and_no, soft, object_sure}
@@ -75,15 +75,22 @@ module _ (inner : Inner Input) (good : Sound inner) where
   source_sure c s = then_sure s.commas (string_by lm inner s) _ _ _ (string_sure c s) (λ f h. let k = kind (seen f.1) in
       if_sure f.1.commas (c.syntax.import_attributes && (eqb k with_kind || (eqb k assert_kind && not (brk (seen f.1))))) _ _ _
       (λ z. let b = and_parts c.syntax.import_attributes (eqb k with_kind || (eqb k assert_kind && not (brk (seen f.1)))) z in
-        word_sure c k f.1 _ _ (λ e w. then_sure f.1.commas (attributes_by lm inner c (next f.1)) _ _ _ (attributes_sure c (next f.1)) (λ o g. end_sure c plain_end o.1 _ _ (λ r q y.
-        ended o.1 r (record { src = f.0; with_ = o.0 }) (GotFrom c s) q ((seen f.1, h, by_no (is_absent o.0) (Ends (plain c) source_end (seen f.1) (seen r)) ((n : Input) × Attributes (plain c) (part o.0 (λ y. Spells o.0 y)) (seen f.1) n × Ends (plain c) plain_end n (seen r)) (attributes_there o.0 g.0)
-          (seen o.1, (seen (next f.1), b.0, opens f.1 b.1 w, g.0, g.1), y)), string_there f.0 h.0)))))
+      word_sure c k f.1 _ _ (λ e w. then_sure f.1.commas (attributes_by lm inner c (next f.1)) _ _ _ (attributes_sure c (next f.1)) (λ o g. end_sure c plain_end o.1 _ _ (λ r q y.
+      ended o.1 r (record { src = f.0; with_ = o.0 }) (GotFrom c s) q (
+        (
+          seen f.1,
+          h,
+          by_no (is_absent o.0) (Ends (plain c) source_end (seen f.1) (seen r)) ((n : Input) × Attributes (plain c) (part o.0 (λ y. Spells o.0 y)) (seen f.1) n × Ends (plain c) plain_end n (seen r)) (attributes_there o.0 g.0)
+              (seen o.1, (seen (next f.1), b.0, opens f.1 b.1 w, g.0, g.1), y),
+        ),
+        string_there f.0 h.0,
+      )))))
       (λ _. end_sure c source_end f.1 _ _ (λ r q y. ended f.1 r (record { src = f.0; with_ = absent }) (GotFrom c s) q ((seen f.1, h, y), string_there f.0 h.0))))
     where
       opens : (u : Stand Input) → (eqb (kind (seen u)) with_kind || (eqb (kind (seen u)) assert_kind && not (brk (seen u)))) ≡ true → barred c.context (seen u) ≡ false → TakesWord (plain c) with_kind (seen u) (seen (next u)) ⊎ ((brk (seen u) ≡ false) × TakesWord (plain c) assert_kind (seen u) (seen (next u)))
       opens u e w = ⊎_elim (λ (z : eqb (kind (seen u)) with_kind ≡ true). inl (eqb-true (kind (seen u)) with_kind z, w, tt, refl))
           (λ (z : eqb (kind (seen u)) with_kind ≡ false). let b = and_parts (eqb (kind (seen u)) assert_kind) (not (brk (seen u))) (subst (λ x. (x || (eqb (kind (seen u)) assert_kind && not (brk (seen u)))) ≡ true) z e) in
-            inr (not-true (brk (seen u)) b.1, (eqb-true (kind (seen u)) assert_kind b.0, w, tt, refl))) (cases_Bool (eqb (kind (seen u)) with_kind))
+          inr (not-true (brk (seen u)) b.1, (eqb-true (kind (seen u)) assert_kind b.0, w, tt, refl))) (cases_Bool (eqb (kind (seen u)) with_kind))
 
   -- ---- specifiers
 
@@ -94,17 +101,31 @@ module _ (inner : Inner Input) (good : Sound inner) where
   unfolding named_import
   named_import_sure c s = then_any s.commas (export_name_by lm inner s) _ _ _ (export_name_sure c s) (λ n g h. test_sure s.commas (kind (seen n.1)) as_kind _ _ _
       (λ _. weaken s.commas n.1.commas _ _ g (word_sure c as_kind n.1 _ _ (λ e b. then_sure n.1.commas (local_by lm inner c (next n.1)) _ _ _ (local_sure c (next n.1)) (λ l k.
-        done (import_named_specifier (span (lo (seen s)) l.1.source.last) l.0 n.0, l.1) (GotSpecifier is_named_import c s) (refl, refl,
-          (by_no (is_absent n.0) (Sorted is_ident (plain c) (part l.0 (λ y. Spells l.0 y)) (seen s) (seen l.1)) ((m : Input) × (o : Input) × ExportName (plain c) (export_name n.0) (part n.0 (λ y. Spells n.0 y)) (seen s) m × TakesWord (plain c) as_kind m o × Sorted is_ident (plain c) (part l.0 (λ y. Spells l.0 y)) o (seen l.1)) h.1
-            (seen n.1, seen (next n.1), h.0, (e, b, tt, refl), k), refl))))))
+      done (import_named_specifier (span (lo (seen s)) l.1.source.last) l.0 n.0, l.1) (GotSpecifier is_named_import c s) (
+        refl,
+        refl,
+        (
+          by_no (is_absent n.0) (Sorted is_ident (plain c) (part l.0 (λ y. Spells l.0 y)) (seen s) (seen l.1)) ((m : Input) × (o : Input) × ExportName (plain c) (export_name n.0) (part n.0 (λ y. Spells n.0 y)) (seen s) m × TakesWord (plain c) as_kind m o × Sorted is_ident (plain c) (part l.0 (λ y. Spells l.0 y)) o (seen l.1)) h.1
+              (seen n.1, seen (next n.1), h.0, (e, b, tt, refl), k),
+          refl,
+        ),
+      )))))
       (λ _. then_sure s.commas (local_by lm inner c s) _ _ _ (local_sure c s) (λ l k. done (import_named_specifier (span (lo (seen s)) l.1.source.last) l.0 absent, l.1) (GotSpecifier is_named_import c s) (refl, refl, (k, refl)))))
 
   named_export_sure : (c : Code) (s : Stand Input) → Sure s.commas (named_export_item lm inner c s) (GotSpecifier is_named_export c s)
   unfolding named_export_item
   named_export_sure c s = then_sure s.commas (export_name_by lm inner s) _ _ _ (export_name_sure c s) (λ n h. test_sure n.1.commas (kind (seen n.1)) as_kind _ _ _
       (λ _. word_sure c as_kind n.1 _ _ (λ e b. then_sure n.1.commas (export_name_by lm inner (next n.1)) _ _ _ (export_name_sure c (next n.1)) (λ l k.
-        done (export_named_specifier (span (lo (seen s)) l.1.source.last) n.0 l.0, l.1) (GotSpecifier is_named_export c s) (refl, refl, (seen n.1, h.0,
-          by_no (is_absent l.0) (seen n.1 ≡ seen l.1) ((o : Input) × TakesWord (plain c) as_kind (seen n.1) o × ExportName (plain c) (export_name l.0) (part l.0 (λ y. Spells l.0 y)) o (seen l.1)) k.1 (seen (next n.1), (e, b, tt, refl), k.0), refl)))))
+      done (export_named_specifier (span (lo (seen s)) l.1.source.last) n.0 l.0, l.1) (GotSpecifier is_named_export c s) (
+        refl,
+        refl,
+        (
+          seen n.1,
+          h.0,
+          by_no (is_absent l.0) (seen n.1 ≡ seen l.1) ((o : Input) × TakesWord (plain c) as_kind (seen n.1) o × ExportName (plain c) (export_name l.0) (part l.0 (λ y. Spells l.0 y)) o (seen l.1)) k.1 (seen (next n.1), (e, b, tt, refl), k.0),
+          refl,
+        ),
+      ))))
       (λ _. done (export_named_specifier (span (lo (seen s)) n.1.source.last) n.0 absent, n.1) (GotSpecifier is_named_export c s) (refl, refl, (seen n.1, h.0, refl, refl))))
 
   abbrev Named : (Tree → Bool) → Code → List Tree → Input → Input → Type 0
@@ -144,11 +165,11 @@ module _ (inner : Inner Input) (good : Sound inner) where
   unfolding import_rest star_import
   import_rest_sure c start xs s t f g = test_sure s.commas (kind (seen s)) mul_kind _ _ _
       (λ _. then_sure s.commas _ _ (λ x. (l : Tree) × (p : Span) × (x.0 ≡ import_star_as_specifier p l) × Spells (import_star_as_specifier p l) (plain c) (seen s) (seen x.1)) _
-        (eat_sure mul_kind s _ _ (λ e. word_sure c as_kind (next s) _ _ (λ z b. then_sure s.commas (local_by lm inner c (next (next s))) _ _ _ (local_sure c (next (next s))) (λ l h.
-          done (import_star_as_specifier (span (lo (seen s)) l.1.source.last) l.0, l.1) _ (l.0, span (lo (seen s)) l.1.source.last, refl, (seen (next s), seen (next (next s)), (e, tt, refl), (z, b, tt, refl), h, refl))))))
-        (λ x h. import_end_sure c start (xs ++ x.0 ∷ []) x.1 t (λ w. subst (λ y. Clause c (xs ++ y ∷ []) (seen (next start)) (seen (next x.1))) (sym h.2) (f h.0 h.1 (seen x.1) (seen (next x.1)) h.3 w))))
+      (eat_sure mul_kind s _ _ (λ e. word_sure c as_kind (next s) _ _ (λ z b. then_sure s.commas (local_by lm inner c (next (next s))) _ _ _ (local_sure c (next (next s))) (λ l h.
+      done (import_star_as_specifier (span (lo (seen s)) l.1.source.last) l.0, l.1) _ (l.0, span (lo (seen s)) l.1.source.last, refl, (seen (next s), seen (next (next s)), (e, tt, refl), (z, b, tt, refl), h, refl))))))
+      (λ x h. import_end_sure c start (xs ++ x.0 ∷ []) x.1 t (λ w. subst (λ y. Clause c (xs ++ y ∷ []) (seen (next start)) (seen (next x.1))) (sym h.2) (f h.0 h.1 (seen x.1) (seen (next x.1)) h.3 w))))
       (λ _. eat_sure left_brace_kind s _ _ (λ e. then_sure s.commas (specifiers_by lm inner true c (next s)) _ _ _ (specifiers_sure is_named_import true c (λ u. named_import_sure c u) (next s)) (λ ys h.
-        import_end_sure c start (xs ++ ys.0) ys.1 t (λ w. g ys.0 (seen ys.1) (seen (next ys.1)) (seen (next s), (e, tt, refl), h) w))))
+      import_end_sure c start (xs ++ ys.0) ys.1 t (λ w. g ys.0 (seen ys.1) (seen (next ys.1)) (seen (next s), (e, tt, refl), h) w))))
 
   named_kind : (y : Tree) → is_named_import y ≡ true → (is_default_import y ≡ false) × (is_star_import y ≡ false)
   named_kind (import_named_specifier s l i) e = (refl, refl)
@@ -174,8 +195,8 @@ module _ (inner : Inner Input) (good : Sound inner) where
       let k : Spells d (plain c) (seen s) (seen l.1) = (h.0, ap (λ n. span (lo (seen s)) n) h.1) in
       test_sure l.1.commas (kind (seen l.1)) comma_kind _ _ _
       (λ e. import_rest_sure c start (d ∷ []) (next l.1) t
-        (λ y p m n q w. (m, (seen l.1, k, (seen (next l.1), (e, tt, refl), (tt, q))), w))
-        (λ ys m n q w. (m, (seen l.1, k, after_default c ys (seen l.1) (seen (next l.1)) m (e, tt, refl) q), w)))
+      (λ y p m n q w. (m, (seen l.1, k, (seen (next l.1), (e, tt, refl), (tt, q))), w))
+      (λ ys m n q w. (m, (seen l.1, k, after_default c ys (seen l.1) (seen (next l.1)) m (e, tt, refl) q), w)))
       (λ _. import_end_sure c start (d ∷ []) l.1 t (λ w. (seen l.1, (seen l.1, k, inl refl), w))))
 
   import_sure : (c : Code) (s : Stand Input) → Sure s.commas (import_decl_by lm inner c s) (GotItem c s)
@@ -183,7 +204,7 @@ module _ (inner : Inner Input) (good : Sound inner) where
   import_sure c s = word_sure c import_kind s _ _ (λ e b. test_sure s.commas (kind (seen (next s))) str_kind _ _ _
       (λ _. then_sure s.commas (source_by lm inner c (next s)) _ _ _ (source_sure c (next s)) (λ u h. done (import_decl (span (lo (seen s)) u.1.source.last) none u.0.src u.0.with_, u.1) (GotItem c s) (refl, (seen (next s), seen (next s), (e, b, tt, refl), inl refl, h.0, refl))))
       (λ _. if_sure s.commas (is_word (kind (seen (next s)))) _ _ _ (λ _. import_default_sure c s (e, b, tt, refl))
-        (λ _. import_rest_sure c s [] (next s) (e, b, tt, refl) (λ y p m n q w. (m, (tt, q), w)) (λ ys m n q w. plain_clause c ys (seen (next s)) m n q w))))
+      (λ _. import_rest_sure c s [] (next s) (e, b, tt, refl) (λ y p m n q w. (m, (tt, q), w)) (λ ys m n q w. plain_clause c ys (seen (next s)) m n q w))))
 
   -- ---- exports
 
@@ -192,21 +213,21 @@ module _ (inner : Inner Input) (good : Sound inner) where
   export_default_sure c start s t = test_sure s.commas (kind (seen s)) function_kind _ _ _
       (λ _. then_sure s.commas (function_expr_by lm inner c s false s) _ _ _ (function_expr_sure inner good c s false s refl) (λ d h. done (export_default_decl (span (lo (seen start)) d.1.source.last) d.0, d.1) (GotItem c start) (refl, (seen s, t, h.1, h.0.spelled, refl)))) (λ nf.
       if_sure s.commas (starts_async lm inner s) _ _ _ (λ z. let b = and_parts (eqb (kind (seen s)) async_kind) (eqb (kind2 (seen s)) function_kind && not (brk2 (seen s))) z in let w = and_parts (eqb (kind2 (seen s)) function_kind) (not (brk2 (seen s))) b.1 in
-        let e = eqb-true (kind (seen s)) async_kind b.0 in
-        then_sure s.commas (function_expr_by lm inner c s true (next s)) _ _ _ (function_expr_sure inner good c s true (next s) ((e, soft c async_kind s e and_no, tt, refl), not-true (brk2 (seen s)) w.1)) (λ d h. done (export_default_decl (span (lo (seen start)) d.1.source.last) d.0, d.1) (GotItem c start) (refl, (seen s, t, h.1, h.0.spelled, refl)))) (λ na.
+      let e = eqb-true (kind (seen s)) async_kind b.0 in
+      then_sure s.commas (function_expr_by lm inner c s true (next s)) _ _ _ (function_expr_sure inner good c s true (next s) ((e, soft c async_kind s e and_no, tt, refl), not-true (brk2 (seen s)) w.1)) (λ d h. done (export_default_decl (span (lo (seen start)) d.1.source.last) d.0, d.1) (GotItem c start) (refl, (seen s, t, h.1, h.0.spelled, refl)))) (λ na.
       test_sure s.commas (kind (seen s)) class_kind _ _ _
       (λ _. then_sure s.commas (class_expr_by lm inner c s) _ _ _ (class_expr_sure inner good c s) (λ d h. done (export_default_decl (span (lo (seen start)) d.1.source.last) d.0, d.1) (GotItem c start) (refl, (seen s, t, h.1, h.0.spelled, refl)))) (λ nc.
       then_sure s.commas (inner.expr c assignment_level s) _ _ _ (good.expr c assignment_level s (omega arith)) (λ e h. end_sure c (ends e.0) e.1 _ _ (λ r q z. ended e.1 r (export_default_expr (span (lo (seen start)) r.source.last) e.0) (GotItem c start) q
-        (refl, (seen s, seen e.1, t, ap not (or_from _ _ (ne_eqb (kind (seen s)) function_kind nf) (or_from _ _ (ne_eqb (kind (seen s)) class_kind nc) na)), (h.0, h.1.spelled), z, refl)))))))
+      (refl, (seen s, seen e.1, t, ap not (or_from _ _ (ne_eqb (kind (seen s)) function_kind nf) (or_from _ _ (ne_eqb (kind (seen s)) class_kind nc) na)), (h.0, h.1.spelled), z, refl)))))))
 
   export_star_sure : (c : Code) (start : Stand Input) (s : Stand Input) → TakesWord (plain c) export_kind (seen start) (seen s) → Sure s.commas (export_star lm inner c start s) (GotItem c start)
   unfolding export_star
   export_star_sure c start s t = eat_sure mul_kind s _ _ (λ e. test_sure s.commas (kind (seen (next s))) as_kind _ _ _
       (λ _. word_sure c as_kind (next s) _ _ (λ z b. then_sure s.commas (export_name_by lm inner (next (next s))) _ _ _ (export_name_sure c (next (next s))) (λ n h. word_sure c from_kind n.1 _ _ (λ q w. then_sure n.1.commas (source_by lm inner c (next n.1)) _ _ _ (source_sure c (next n.1)) (λ x k.
-        done (named_export (span (lo (seen start)) x.1.source.last) (more (export_namespace_specifier (span (lo (seen s)) n.1.source.last) n.0) none) x.0.src x.0.with_, x.1) (GotItem c start)
-          (refl, (seen s, t, (tt, (seen n.1, seen (next n.1), (seen (next s), seen (next (next s)), (e, tt, refl), (z, b, tt, refl), h.0, refl), (q, w, tt, refl), k.0)), refl)))))))
+      done (named_export (span (lo (seen start)) x.1.source.last) (more (export_namespace_specifier (span (lo (seen s)) n.1.source.last) n.0) none) x.0.src x.0.with_, x.1) (GotItem c start)
+      (refl, (seen s, t, (tt, (seen n.1, seen (next n.1), (seen (next s), seen (next (next s)), (e, tt, refl), (z, b, tt, refl), h.0, refl), (q, w, tt, refl), k.0)), refl)))))))
       (λ _. word_sure c from_kind (next s) _ _ (λ q w. then_sure s.commas (source_by lm inner c (next (next s))) _ _ _ (source_sure c (next (next s))) (λ x k.
-        done (export_all (span (lo (seen start)) x.1.source.last) x.0.src x.0.with_, x.1) (GotItem c start) (refl, (seen s, seen (next s), seen (next (next s)), t, (e, tt, refl), (q, w, tt, refl), k.0, refl))))))
+      done (export_all (span (lo (seen start)) x.1.source.last) x.0.src x.0.with_, x.1) (GotItem c start) (refl, (seen s, seen (next s), seen (next (next s)), t, (e, tt, refl), (q, w, tt, refl), k.0, refl))))))
 
   named_exported : (y : Tree) → is_named_export y ≡ true → is_star_export y ≡ false
   named_exported (export_named_specifier s o e) h = refl
@@ -221,9 +242,16 @@ module _ (inner : Inner Input) (good : Sound inner) where
   export_list_sure : (c : Code) (start : Stand Input) (s : Stand Input) → TakesWord (plain c) export_kind (seen start) (seen s) → Sure s.commas (export_list lm inner c start s) (GotItem c start)
   unfolding export_list
   export_list_sure c start s t = eat_sure left_brace_kind s _ _ (λ e. then_sure s.commas (specifiers_by lm inner false c (next s)) _ _ _ (specifiers_sure is_named_export false c (λ u. named_export_sure c u) (next s)) (λ xs h. test_sure xs.1.commas (kind (seen xs.1)) from_kind _ _ _
-      (λ _. word_sure c from_kind xs.1 _ _ (λ q w. then_sure xs.1.commas (source_by lm inner c (next xs.1)) _ _ _ (source_sure c (next xs.1)) (λ x k. done (named_export (span (lo (seen start)) x.1.source.last) (pack xs.0) x.0.src x.0.with_, x.1) (GotItem c start)
-        (refl, (seen s, t, specified c xs.0 x.0.src x.0.with_ (seen s) (seen xs.1) (seen x.1) (seen (next s), (e, tt, refl), h)
-          (by_no (is_absent x.0.src) ((is_absent x.0.with_ ≡ true) × Ends (plain c) exports_end (seen xs.1) (seen x.1)) ((n : Input) × TakesWord (plain c) from_kind (seen xs.1) n × Source (plain c) (part x.0.src (λ y. Spells x.0.src y)) (part x.0.with_ (λ y. Spells x.0.with_ y)) n (seen x.1)) k.1 (seen (next xs.1), (q, w, tt, refl), k.0)), refl)))))
+      (λ _. word_sure c from_kind xs.1 _ _ (λ q w. then_sure xs.1.commas (source_by lm inner c (next xs.1)) _ _ _ (source_sure c (next xs.1)) (λ x k. done (named_export (span (lo (seen start)) x.1.source.last) (pack xs.0) x.0.src x.0.with_, x.1) (GotItem c start) (
+        refl,
+        (
+          seen s,
+          t,
+          specified c xs.0 x.0.src x.0.with_ (seen s) (seen xs.1) (seen x.1) (seen (next s), (e, tt, refl), h)
+              (by_no (is_absent x.0.src) ((is_absent x.0.with_ ≡ true) × Ends (plain c) exports_end (seen xs.1) (seen x.1)) ((n : Input) × TakesWord (plain c) from_kind (seen xs.1) n × Source (plain c) (part x.0.src (λ y. Spells x.0.src y)) (part x.0.with_ (λ y. Spells x.0.with_ y)) n (seen x.1)) k.1 (seen (next xs.1), (q, w, tt, refl), k.0)),
+          refl,
+        ),
+      ))))
       (λ _. end_sure c exports_end xs.1 _ _ (λ r q z. ended xs.1 r (named_export (span (lo (seen start)) r.source.last) (pack xs.0) absent absent) (GotItem c start) q (refl, (seen s, t, specified c xs.0 absent absent (seen s) (seen xs.1) (seen r) (seen (next s), (e, tt, refl), h) (refl, z), refl))))))
 
   export_sure : (c : Code) (s : Stand Input) → Sure s.commas (export_by lm inner c s) (GotItem c s)
@@ -233,7 +261,7 @@ module _ (inner : Inner Input) (good : Sound inner) where
       test_sure s.commas (kind (seen (next s))) mul_kind _ _ _ (λ _. export_star_sure c s (next s) (e, b, tt, refl)) (λ _.
       test_sure s.commas (kind (seen (next s))) left_brace_kind _ _ _ (λ _. export_list_sure c s (next s) (e, b, tt, refl)) (λ _.
       if_sure s.commas (starts_declaration lm inner (in_list c) (next s)) _ _ _ (λ _. then_sure s.commas (inner.stmt (in_list c) (next s)) _ _ _ (good.stmt (in_list c) (next s)) (λ d h. only_sure d.1.commas (is_exportable d.0) _ _ (λ z.
-        done (export_decl (span (lo (seen s)) d.1.source.last) d.0, d.1) (GotItem c s) (refl, (seen (next s), (e, b, tt, refl), z, h.1, refl))))) (λ _. record { so = tt })))))
+      done (export_decl (span (lo (seen s)) d.1.source.last) d.0, d.1) (GotItem c s) (refl, (seen (next s), (e, b, tt, refl), z, h.1, refl))))) (λ _. record { so = tt })))))
 
   -- ---- programs
 

@@ -1,21 +1,21 @@
 -- Statements other than loops with a head: spelled as they are read.
-use Rattle.std.proofs.Common.{◌≡◌, ℕ, zero, suc, ◌≤◌, ◌⊎◌, inl, inr, Bool, true, false, not, ◌&&◌, ◌||◌, cond, eqb, leb, List, [], ◌∷◌, ◌++◌, Option, Some, None, Result, Ok, Err, refl, sym, ap, ◌∙◌, subst, ⊎_elim, true≢false, append_assoc, append-nil, arith}
-use Rattle.std.proofs.lemmas.Bool.{eqb-true, eqb-false, and_parts, or_parts, not-true, cases_Bool}
+use Rattle.std.proofs.Common.{◌≡◌, ℕ, ◌≤◌, inl, inr, Bool, true, false, not, ◌&&◌, ◌||◌, eqb, List, [], ◌∷◌, ◌++◌, Ok, refl, sym, ap, ◌∙◌, subst, true≢false, append_assoc, append-nil, arith}
+use Rattle.std.proofs.lemmas.Bool.{or_parts}
 use Rattle.ecma_token.specs.declared.place.Span.{Span}
 use Rattle.ecma_token.specs.Kinds.{left_paren_kind, right_paren_kind, left_brace_kind, right_brace_kind, semicolon_kind, colon_kind, end_kind, case_kind, catch_kind, debugger_kind, default_kind, do_kind, else_kind, finally_kind, if_kind, return_kind, switch_kind, throw_kind, try_kind, while_kind, with_kind}
-use Rattle.ecma_tree.specs.Tree.{Tree, Trees, none, more, pack, ident, absent, with_stmt, while_stmt, do_while_stmt, if_stmt, return_stmt, throw_stmt, debugger_stmt, switch_stmt, switch_case, try_stmt, catch_clause, block_stmt}
+use Rattle.ecma_tree.specs.Tree.{Tree, pack, ident, absent, with_stmt, while_stmt, do_while_stmt, if_stmt, return_stmt, throw_stmt, debugger_stmt, switch_stmt, switch_case, try_stmt, catch_clause}
 use Rattle.ecma_syntax.specs.Input.{Input, Code, kind, brk, text, Takes, TakesWord, lo, hi, span, first_span, in_list, alone, is_strict}
 use Rattle.ecma_syntax.specs.Operators.{expression_level, plain_end}
 use Rattle.ecma_syntax.specs.Shape.{level, ends, is_absent, is_item, is_statement, is_plain_function, is_block, is_case, is_catch, is_default_case, is_binding}
-use Rattle.ecma_grammar.specs.Parts.{Part, part, By, Expr, Sorted, Maybe, Items, Ends, is_ident}
-use Rattle.ecma_grammar.specs.Statements.{Sub, SubOrFunction, InParens, Jump, Case, Cases, ClosesCase, ClosesBlock}
+use Rattle.ecma_grammar.specs.Parts.{part, By, Expr, Sorted, Maybe, Items, Ends, is_ident}
+use Rattle.ecma_grammar.specs.Statements.{Sub, SubOrFunction, InParens, Jump, Cases, ClosesCase}
 use Rattle.ecma_grammar.specs.Grammar.{Spells, parts}
-use Rattle.ecma_reading.specs.Source.{Fault, ◌>>=◌, unexpected, Stand, Inner, Read, Step, go_on, finished, iterate, end_of}
+use Rattle.ecma_reading.specs.Source.{Stand, Inner, go_on, finished, iterate}
 use Rattle.ecma_reading.specs.Statements.{block_by, in_parens, sub_by, with_by, while_by, do_by, if_end, if_by, ends_here, return_by, throw_by, label_by, jump_by, debugger_by, case_step, case_rest, case_by, has_default, cases_step, switch_by, catch_by, finally_by, try_by}
-use Rattle.ecma_grammar_laws.proofs.Sure.{lm, seen, next, Grows, same, Sure, done, gives, then_sure, sure_map, if_sure, test_sure, only_sure, eat_sure, word_sure, IsName, name_sure, StepSure, loop_sure}
-use Rattle.ecma_grammar_laws.proofs.Covers.{patterned, plain, by_yes, by_no}
+use Rattle.ecma_grammar_laws.proofs.Sure.{lm, seen, next, Grows, same, Sure, done, gives, then_sure, if_sure, test_sure, only_sure, eat_sure, word_sure, name_sure, StepSure, loop_sure}
+use Rattle.ecma_grammar_laws.proofs.Covers.{patterned, plain, by_no}
 use Rattle.ecma_grammar_laws.proofs.Nested.{Sound, GotStmt, named, end_sure}
-use Rattle.ecma_grammar_laws.proofs.Functions.{Before, All_read, at_start, one_more, at_end, with_last}
+use Rattle.ecma_grammar_laws.proofs.Functions.{Before, All_read, at_start, one_more, at_end}
 use Rattle.ecma_grammar_laws.proofs.Lists.{block_sure}
 
 pub present : (e : Tree) → 1 ≤ level e → is_absent e ≡ false
@@ -84,8 +84,19 @@ module _ (inner : Inner Input) (good : Sound inner) where
   if_stmt_sure c s = word_sure c if_kind s _ _ (λ e b. then_sure s.commas (in_parens lm inner c (next s)) _ _ _ (parens_sure c (next s)) (λ x h. then_sure x.1.commas (sub_by lm inner c true x.1) _ _ _ (either_sure c x.1) (λ y k.
       test_sure y.1.commas (kind (seen y.1)) else_kind _ _ _
       (λ z. word_sure c else_kind y.1 _ _ (λ q w. then_sure y.1.commas (sub_by lm inner c true (next y.1)) _ _ _ (either_sure c (next y.1)) (λ u j.
-        done (if_stmt (span (lo (seen s)) u.1.source.last) x.0 y.0 u.0, u.1) (GotStmt c s) (refl, (seen (next s), seen x.1, seen y.1, (e, b, tt, refl), h, k,
-          by_no (is_absent u.0) ((kind (seen y.1) ≡ else_kind → ⊥) × (seen y.1 ≡ seen u.1)) ((p : Input) × TakesWord (plain c) else_kind (seen y.1) p × SubOrFunction (plain c) (part u.0 (λ a. Spells u.0 a)) p (seen u.1)) (stated u.0 (not (is_strict c)) j.0) (seen (next y.1), (q, w, tt, refl), j), refl)))))
+      done (if_stmt (span (lo (seen s)) u.1.source.last) x.0 y.0 u.0, u.1) (GotStmt c s) (
+        refl,
+        (
+          seen (next s),
+          seen x.1,
+          seen y.1,
+          (e, b, tt, refl),
+          h,
+          k,
+          by_no (is_absent u.0) ((kind (seen y.1) ≡ else_kind → ⊥) × (seen y.1 ≡ seen u.1)) ((p : Input) × TakesWord (plain c) else_kind (seen y.1) p × SubOrFunction (plain c) (part u.0 (λ a. Spells u.0 a)) p (seen u.1)) (stated u.0 (not (is_strict c)) j.0) (seen (next y.1), (q, w, tt, refl), j),
+          refl,
+        ),
+      ))))
       (λ n. done (if_stmt (span (lo (seen s)) y.1.source.last) x.0 y.0 absent, y.1) (GotStmt c s) (refl, (seen (next s), seen x.1, seen y.1, (e, b, tt, refl), h, k, (n, refl), refl))))))
 
   pub return_sure : (c : Code) (s : Stand Input) → Sure s.commas (return_by lm inner c s) (GotStmt c s)
@@ -93,15 +104,22 @@ module _ (inner : Inner Input) (good : Sound inner) where
   return_sure c s = word_sure c return_kind s _ _ (λ e b. if_sure s.commas (ends_here lm inner c (next s)) _ _ _
       (λ _. end_sure c plain_end (next s) _ _ (λ r q z. ended s r (return_stmt (span (lo (seen s)) r.source.last) absent) (GotStmt c s) q (refl, (seen (next s), (e, b, tt, refl), z, refl))))
       (λ n. then_sure s.commas (inner.expr c expression_level (next s)) _ _ _ (good.expr c expression_level (next s) (omega arith)) (λ x h. end_sure c (ends x.0) x.1 _ _ (λ r q z.
-        ended x.1 r (return_stmt (span (lo (seen s)) r.source.last) x.0) (GotStmt c s) q (refl, (seen (next s), (e, b, tt, refl),
+      ended x.1 r (return_stmt (span (lo (seen s)) r.source.last) x.0) (GotStmt c s) q (
+        refl,
+        (
+          seen (next s),
+          (e, b, tt, refl),
           by_no (is_absent x.0) (Ends (plain c) plain_end (seen (next s)) (seen r)) ((n : Input) × (brk (seen (next s)) ≡ false) × Expr expression_level (plain c) (part x.0 (λ y. Spells x.0 y)) (seen (next s)) n × Ends (plain c) (ends x.0) n (seen r)) (present x.0 h.0)
-            (seen x.1, no_break c inner (next s) n, (h.0, h.1.spelled), z), refl))))))
+              (seen x.1, no_break c inner (next s) n, (h.0, h.1.spelled), z),
+          refl,
+        ),
+      )))))
 
   pub throw_sure : (c : Code) (s : Stand Input) → Sure s.commas (throw_by lm inner c s) (GotStmt c s)
   unfolding throw_by
   throw_sure c s = word_sure c throw_kind s _ _ (λ e b. if_sure s.commas (brk (seen (next s))) _ _ _ (λ _. record { so = tt })
       (λ n. then_sure s.commas (inner.expr c expression_level (next s)) _ _ _ (good.expr c expression_level (next s) (omega arith)) (λ x h. end_sure c (ends x.0) x.1 _ _ (λ r q z.
-        ended x.1 r (throw_stmt (span (lo (seen s)) r.source.last) x.0) (GotStmt c s) q (refl, (seen (next s), seen x.1, (e, b, tt, refl), n, (h.0, h.1.spelled), z, refl))))))
+      ended x.1 r (throw_stmt (span (lo (seen s)) r.source.last) x.0) (GotStmt c s) q (refl, (seen (next s), seen x.1, (e, b, tt, refl), n, (h.0, h.1.spelled), z, refl))))))
 
   pub debugger_sure : (c : Code) (s : Stand Input) → Sure s.commas (debugger_by lm inner c s) (GotStmt c s)
   unfolding debugger_by
@@ -137,7 +155,7 @@ module _ (inner : Inner Input) (good : Sound inner) where
   unfolding case_by
   case_sure c s = test_sure s.commas (kind (seen s)) default_kind _ _ _ (λ _. word_sure c default_kind s _ _ (λ e b. case_rest_sure c s absent (next s) (e, b, tt, refl)))
       (λ _. word_sure c case_kind s _ _ (λ e b. then_sure s.commas (inner.expr c expression_level (next s)) _ _ _ (good.expr c expression_level (next s) (omega arith)) (λ x h.
-        case_rest_sure c s x.0 x.1 (by_no (is_absent x.0) (TakesWord (plain c) default_kind (seen s) (seen x.1)) ((o : Input) × TakesWord (plain c) case_kind (seen s) o × Expr expression_level (plain c) (part x.0 (λ y. Spells x.0 y)) o (seen x.1)) (present x.0 h.0) (seen (next s), (e, b, tt, refl), (h.0, h.1.spelled))))))
+      case_rest_sure c s x.0 x.1 (by_no (is_absent x.0) (TakesWord (plain c) default_kind (seen s) (seen x.1)) ((o : Input) × TakesWord (plain c) case_kind (seen s) o × Expr expression_level (plain c) (part x.0 (λ y. Spells x.0 y)) o (seen x.1)) (present x.0 h.0) (seen (next s), (e, b, tt, refl), (h.0, h.1.spelled))))))
 
   record CasesFront (c : Code) (ts : Input) (xs : List Tree) (s : Stand Input) : Type 0 where
     so : (ys : List Tree) (r : Input) → Cases (plain c) (has_default lm inner xs) (parts (pack ys)) (seen s) r → Cases (plain c) false (parts (pack (xs ++ ys))) ts r
@@ -162,8 +180,10 @@ module _ (inner : Inner Input) (good : Sound inner) where
   cases_step_sure c ts xs s i = test_sure s.commas (kind (seen s)) right_brace_kind _ _ _
       (λ e. done (finished xs, next s) (StepSure (CasesFront c ts) (CasesWhole c ts)) (record { so = subst (λ z. Cases (plain c) false (parts (pack z)) ts (seen (next s))) (append-nil xs) (i.so [] (seen (next s)) (e, tt, refl)) }))
       (λ _. then_sure s.commas (case_by lm inner c s) _ _ _ (case_sure c s) (λ x h. if_sure x.1.commas (has_default lm inner xs && is_default_case x.0) _ _ _ (λ _. record { so = tt })
-        (λ n. done (go_on (xs ++ x.0 ∷ []), x.1) (StepSure (CasesFront c ts) (CasesWhole c ts)) (record { so = λ ys r k. subst (λ z. Cases (plain c) false (parts (pack z)) ts r) (sym (append_assoc xs (x.0 ∷ []) ys))
-          (i.so (x.0 ∷ ys) r (seen x.1, n, h, subst (λ z. Cases (plain c) z (parts (pack ys)) (seen x.1) r) (had_more xs x.0) k)) }))))
+      (λ n. done (go_on (xs ++ x.0 ∷ []), x.1) (StepSure (CasesFront c ts) (CasesWhole c ts)) (record {
+        so = λ ys r k. subst (λ z. Cases (plain c) false (parts (pack z)) ts r) (sym (append_assoc xs (x.0 ∷ []) ys))
+            (i.so (x.0 ∷ ys) r (seen x.1, n, h, subst (λ z. Cases (plain c) z (parts (pack ys)) (seen x.1) r) (had_more xs x.0) k));
+      }))))
 
   pub switch_sure : (c : Code) (s : Stand Input) → Sure s.commas (switch_by lm inner c s) (GotStmt c s)
   unfolding switch_by
@@ -177,9 +197,18 @@ module _ (inner : Inner Input) (good : Sound inner) where
   unfolding catch_by
   catch_sure c s = word_sure c catch_kind s _ _ (λ e b. test_sure s.commas (kind (seen (next s))) left_paren_kind _ _ _
       (λ z. then_sure s.commas (inner.pat c (next (next s))) _ _ _ (good.pat c (next (next s))) (λ p h. eat_sure right_paren_kind p.1 _ _ (λ q. then_sure p.1.commas (block_by lm inner c (next p.1)) _ _ _ (block_sure inner good c (next p.1)) (λ y k.
-        done (catch_clause (span (lo (seen s)) y.1.source.last) p.0 y.0, y.1) _ (refl, (seen (next s), seen (next p.1), (e, b, tt, refl),
+      done (catch_clause (span (lo (seen s)) y.1.source.last) p.0 y.0, y.1) _ (
+        refl,
+        (
+          seen (next s),
+          seen (next p.1),
+          (e, b, tt, refl),
           by_no (is_absent p.0) (seen (next s) ≡ seen (next p.1)) ((o : Input) × (u : Input) × Takes (plain c) left_paren_kind (seen (next s)) o × (is_binding p.0 ≡ true) × Spells p.0 (patterned true c) o u × Takes (plain c) right_paren_kind u (seen (next p.1))) (bound_present p.0 h.0)
-            (seen (next (next s)), seen p.1, (z, tt, refl), h.0, h.1, (q, tt, refl)), (k.0, k.2), refl))))))
+              (seen (next (next s)), seen p.1, (z, tt, refl), h.0, h.1, (q, tt, refl)),
+          (k.0, k.2),
+          refl,
+        ),
+      )))))
       (λ _. then_sure s.commas (block_by lm inner c (next s)) _ _ _ (block_sure inner good c (next s)) (λ y k. done (catch_clause (span (lo (seen s)) y.1.source.last) absent y.0, y.1) _ (refl, (seen (next s), seen (next s), (e, b, tt, refl), refl, (k.0, k.2), refl)))))
     where
       bound_present : (p : Tree) → is_binding p ≡ true → is_absent p ≡ false
@@ -191,8 +220,20 @@ module _ (inner : Inner Input) (good : Sound inner) where
   unfolding finally_by
   finally_sure c start b h m n s t k g = test_sure s.commas (kind (seen s)) finally_kind _ _ _
       (λ _. word_sure c finally_kind s _ _ (λ e w. then_sure s.commas (block_by lm inner c (next s)) _ _ _ (block_sure inner good c (next s)) (λ f j. let z = blocked f.0 j.0 in
-        done (try_stmt (span (lo (seen start)) f.1.source.last) b h f.0, f.1) (GotStmt c start) (refl, (m, n, seen s, both (is_absent h) (is_absent f.0) z, t, k, g,
-          by_no (is_absent f.0) (seen s ≡ seen f.1) ((p : Input) × TakesWord (plain c) finally_kind (seen s) p × Sorted is_block (plain c) (part f.0 (λ y. Spells f.0 y)) p (seen f.1)) z (seen (next s), (e, w, tt, refl), (j.0, j.2)), refl)))))
+      done (try_stmt (span (lo (seen start)) f.1.source.last) b h f.0, f.1) (GotStmt c start) (
+        refl,
+        (
+          m,
+          n,
+          seen s,
+          both (is_absent h) (is_absent f.0) z,
+          t,
+          k,
+          g,
+          by_no (is_absent f.0) (seen s ≡ seen f.1) ((p : Input) × TakesWord (plain c) finally_kind (seen s) p × Sorted is_block (plain c) (part f.0 (λ y. Spells f.0 y)) p (seen f.1)) z (seen (next s), (e, w, tt, refl), (j.0, j.2)),
+          refl,
+        ),
+      ))))
       (λ _. if_sure s.commas (is_absent h) _ _ _ (λ _. record { so = tt }) (λ z. done (try_stmt (span (lo (seen start)) s.source.last) b h absent, s) (GotStmt c start) (refl, (m, n, seen s, ap (λ x. x && true) z, t, k, g, refl, refl))))
     where
       both : (x y : Bool) → y ≡ false → (x && y) ≡ false
@@ -203,5 +244,5 @@ module _ (inner : Inner Input) (good : Sound inner) where
   unfolding try_by
   try_sure c s = word_sure c try_kind s _ _ (λ e b. then_sure s.commas (block_by lm inner c (next s)) _ _ _ (block_sure inner good c (next s)) (λ y k. test_sure y.1.commas (kind (seen y.1)) catch_kind _ _ _
       (λ _. then_sure y.1.commas (catch_by lm inner c y.1) _ _ _ (catch_sure c y.1) (λ h j. finally_sure c s y.0 h.0 (seen (next s)) (seen y.1) h.1 (e, b, tt, refl) (k.0, k.2)
-        (by_no (is_absent h.0) (seen y.1 ≡ seen h.1) (Sorted is_catch (plain c) (part h.0 (λ y. Spells h.0 y)) (seen y.1) (seen h.1)) (caught h.0 j.0) j)))
+      (by_no (is_absent h.0) (seen y.1 ≡ seen h.1) (Sorted is_catch (plain c) (part h.0 (λ y. Spells h.0 y)) (seen y.1) (seen h.1)) (caught h.0 j.0) j)))
       (λ _. finally_sure c s y.0 absent (seen (next s)) (seen y.1) y.1 (e, b, tt, refl) (k.0, k.2) refl)))

@@ -1,18 +1,16 @@
-use Rattle.std.proofs.Common.{◌≡◌, ℕ, ◌≤◌, ◌⊎◌, inl, inr, Bool, true, false, eqb, Option, Some, Result, Ok, refl, subst, ⊎_elim, arith}
+use Rattle.std.proofs.Common.{◌≡◌, ℕ, ◌≤◌, ◌⊎◌, inl, inr, Bool, true, false, eqb, refl, subst, ⊎_elim, arith}
 use Rattle.std.proofs.lemmas.Bool.{eqb-true}
 use Rattle.ecma_tree.specs.Tree.{Tree}
-use Rattle.ecma_syntax.specs.Input.{Input, Code}
 use Rattle.ecma_syntax.specs.Operators.{new_level, member_level}
 use Rattle.ecma_syntax.specs.Shape.{level}
 use Rattle.ecma_grammar.specs.Parts.{By}
-use Rattle.ecma_reading.specs.Source.{Stand}
 use Rattle.ecma_reading.specs.Reading.{readers}
 use Rattle.ecma_grammar_laws.specs.Laws.{OfLevel, ExpressionsSound, PatternsSound, StatementsSound, ClassesSound, ProgramsSound}
 use Rattle.ecma_grammar_laws.proofs.Sure.{lm, seen, Sure}
 use Rattle.ecma_grammar.specs.Grammar.{Spells}
 use Rattle.ecma_grammar_laws.proofs.Covers.{plain}
 use Rattle.ecma_grammar_laws.proofs.Programs.{program_sure}
-use Rattle.ecma_grammar_laws.proofs.Nested.{Sound, AtLeast, GotExpr, GotPat, GotStmt, GotClass}
+use Rattle.ecma_grammar_laws.proofs.Nested.{AtLeast, GotExpr, GotPat, GotStmt, GotClass}
 use Rattle.ecma_grammar_laws.proofs.ByDepth.{all_sound}
 
 of_level : (l : ℕ) (t : Tree) → AtLeast l t → OfLevel l t

@@ -1,21 +1,21 @@
 -- Any statement or declaration is spelled as it is read.
-use Rattle.std.proofs.Common.{◌≡◌, ℕ, zero, suc, ◌≤◌, ◌⊎◌, inl, inr, Bool, true, false, not, ◌&&◌, ◌||◌, cond, eqb, leb, List, [], ◌∷◌, Option, Some, None, Result, Ok, Err, refl, sym, ap, ◌∙◌, subst, ⊎_elim, true≢false, arith}
-use Rattle.std.proofs.lemmas.Bool.{eqb-true, eqb-false, and_parts, not-true, cases_Bool, ne_eqb, or_from}
+use Rattle.std.proofs.Common.{◌≡◌, ℕ, Bool, true, false, not, ◌&&◌, ◌||◌, cond, eqb, leb, List, Option, Some, Result, refl, sym, ap, subst, true≢false, arith}
+use Rattle.std.proofs.lemmas.Bool.{eqb-true, and_parts, not-true, ne_eqb, or_from}
 use Rattle.ecma_token.specs.declared.place.Span.{Span}
-use Rattle.ecma_token.specs.Kinds.{left_paren_kind, left_bracket_kind, left_brace_kind, semicolon_kind, colon_kind, await_kind, break_kind, continue_kind, debugger_kind, do_kind, for_kind, function_kind, if_kind, return_kind, switch_kind, throw_kind, try_kind, var_kind, let_kind, const_kind, while_kind, with_kind, class_kind, async_kind, using_kind}
-use Rattle.ecma_tree.specs.Tree.{Tree, Trees, none, more, pack, ident, empty_stmt, break_stmt, continue_stmt, fn_decl, class_decl, var_decl, using_decl, expr_stmt, labeled_stmt}
-use Rattle.ecma_syntax.specs.Input.{Input, Code, kind, kind2, brk, brk2, text, Takes, TakesWord, Spans, lo, hi, span, first_span, with_in, turned_strict, setting, barred}
+use Rattle.ecma_token.specs.Kinds.{left_bracket_kind, left_brace_kind, semicolon_kind, colon_kind, await_kind, break_kind, continue_kind, debugger_kind, do_kind, for_kind, function_kind, if_kind, return_kind, switch_kind, throw_kind, try_kind, var_kind, let_kind, const_kind, while_kind, with_kind, class_kind, async_kind, using_kind}
+use Rattle.ecma_tree.specs.Tree.{Tree, pack, ident, empty_stmt, break_stmt, continue_stmt, fn_decl, class_decl, var_decl, using_decl, expr_stmt, labeled_stmt}
+use Rattle.ecma_syntax.specs.Input.{Input, Code, kind, kind2, brk2, text, TakesWord, lo, span, first_span, with_in, turned_strict, barred}
 use Rattle.ecma_syntax.specs.Operators.{expression_level, may_name}
-use Rattle.ecma_syntax.specs.Shape.{level, is_item, is_statement, is_declaration, declarators_end, FunctionParts, function_parts, class_span}
-use Rattle.ecma_grammar.specs.Parts.{Part, part, By, Expr, Sorted, Ends, is_ident}
+use Rattle.ecma_syntax.specs.Shape.{declarators_end, FunctionParts, function_parts, class_span}
+use Rattle.ecma_grammar.specs.Parts.{part, is_ident}
 use Rattle.ecma_grammar.specs.Functions.{Async, FunctionDeclaration, ClassDeclaration}
-use Rattle.ecma_grammar.specs.Statements.{is_var_word, starts_pattern, starts_expression_statement, Bindings, UsingBindings}
+use Rattle.ecma_grammar.specs.Statements.{is_var_word, starts_expression_statement, UsingBindings}
 use Rattle.ecma_grammar.specs.Grammar.{Spells, parts}
-use Rattle.ecma_reading.specs.Source.{Fault, ◌>>=◌, unexpected, Stand, Inner, operand}
-use Rattle.ecma_reading.specs.Expressions.{function_by, star}
-use Rattle.ecma_reading.specs.Statements.{block_by, starts_let, starts_variables, variables_by, starts_using, starts_await_using, using_by, declarators_by, function_decl_by, class_decl_by, sub_by, label_name, statement_class, labelled_by, expression_by, starts_async, keyword_stmt, stmt_by, stmt_from}
-use Rattle.ecma_grammar_laws.proofs.Sure.{lm, seen, next, Sure, done, then_sure, sure_map, at_commas, if_sure, test_sure, only_sure, eat_sure, word_sure, name_sure}
-use Rattle.ecma_grammar_laws.proofs.Covers.{patterned, plain}
+use Rattle.ecma_reading.specs.Source.{Fault, unexpected, Stand, Inner, operand}
+use Rattle.ecma_reading.specs.Expressions.{function_by}
+use Rattle.ecma_reading.specs.Statements.{block_by, starts_variables, variables_by, starts_using, starts_await_using, using_by, declarators_by, function_decl_by, class_decl_by, sub_by, label_name, statement_class, labelled_by, expression_by, starts_async, keyword_stmt, stmt_by, stmt_from}
+use Rattle.ecma_grammar_laws.proofs.Sure.{lm, seen, next, Sure, done, then_sure, sure_map, at_commas, if_sure, test_sure, only_sure, word_sure, name_sure}
+use Rattle.ecma_grammar_laws.proofs.Covers.{plain}
 use Rattle.ecma_grammar_laws.proofs.Nested.{Sound, GotStmt, named, end_sure}
 use Rattle.ecma_grammar_laws.proofs.Functions.{function_sure, star_sure}
 use Rattle.ecma_grammar_laws.proofs.Primaries.{and_no, soft}
@@ -53,8 +53,8 @@ module _ (inner : Inner Input) (good : Sound inner) where
   unfolding function_decl_by
   function_sure_by c start a s h = word_sure c function_kind s _ _ (λ e b. star_sure inner c (next s) _ _ (λ g r q t. at_commas s.commas r.commas _ (GotStmt c start) q
       (name_sure c r _ _ (λ i. then_sure r.commas (function_by lm inner c (lo (seen start)) g a (next r)) _ _ _ (function_sure inner good c (lo (seen start)) g a (next r)) (λ f w. let p = span (lo (seen start)) f.1.source.last in
-        let n = ident (first_span (seen r)) (text (seen r)) in
-        done (fn_decl p n f.0, f.1) (GotStmt c start) (refl, function_declared c p n f.0 (record { span = p; generator = g; async = a; count = w.0 }) (seen start) (seen f.1) w.1 (seen r, seen (next r), (seen s, seen (next s), h, (e, b, tt, refl), t), (refl, named c r i), w.2, refl, refl)))))))
+      let n = ident (first_span (seen r)) (text (seen r)) in
+      done (fn_decl p n f.0, f.1) (GotStmt c start) (refl, function_declared c p n f.0 (record { span = p; generator = g; async = a; count = w.0 }) (seen start) (seen f.1) w.1 (seen r, seen (next r), (seen s, seen (next s), h, (e, b, tt, refl), t), (refl, named c r i), w.2, refl, refl)))))))
 
   class_sure : (c : Code) (s : Stand Input) → Sure s.commas (class_decl_by lm inner c s) (GotStmt c s)
   unfolding class_decl_by
@@ -74,8 +74,8 @@ module _ (inner : Inner Input) (good : Sound inner) where
   unfolding expression_by
   expression_sure c s a b d f = if_sure s.commas (eqb (kind (seen s)) let_kind && eqb (kind2 (seen s)) left_bracket_kind) _ _ _ (λ _. record { so = tt }) (λ n.
       then_sure s.commas (inner.expr c expression_level s) _ _ _ (good.expr c expression_level s (omega arith)) (λ e h. if_sure e.1.commas (label_name lm inner e.0 && eqb (kind (seen e.1)) colon_kind) _ _ _
-        (λ z. let y = and_parts (label_name lm inner e.0) (eqb (kind (seen e.1)) colon_kind) z in labelled_sure c s e.0 e.1 (label_ident inner e.0 y.0) h.1.spelled (eqb-true (kind (seen e.1)) colon_kind y.1))
-        (λ _. end_sure c (statement_class lm inner c e.0) e.1 _ _ (λ r q z. ended e.1 r (expr_stmt (span (lo (seen s)) r.source.last) e.0) (GotStmt c s) q (refl, (seen e.1, starts_plain s a b d f n, (h.0, h.1.spelled), z, refl))))))
+      (λ z. let y = and_parts (label_name lm inner e.0) (eqb (kind (seen e.1)) colon_kind) z in labelled_sure c s e.0 e.1 (label_ident inner e.0 y.0) h.1.spelled (eqb-true (kind (seen e.1)) colon_kind y.1))
+      (λ _. end_sure c (statement_class lm inner c e.0) e.1 _ _ (λ r q z. ended e.1 r (expr_stmt (span (lo (seen s)) r.source.last) e.0) (GotStmt c s) q (refl, (seen e.1, starts_plain s a b d f n, (h.0, h.1.spelled), z, refl))))))
 
   refused : (l : Bool) (k : List ℕ) (x : Result (Tree × Stand Input) Fault) (P : Tree × Stand Input → Type 0) → Sure k x P → Sure k (cond l x unexpected) P
   refused l k x P h = only_sure k l x P (λ _. h)
@@ -98,16 +98,16 @@ module _ (inner : Inner Input) (good : Sound inner) where
       test_sure s.commas (kind (seen s)) function_kind _ _ _ (λ _. function_sure_by c s false s refl) (λ nf.
       test_sure s.commas (kind (seen s)) class_kind _ _ _ (λ _. refused c.listed s.commas _ _ (class_sure c s)) (λ nc.
       if_sure s.commas (starts_async lm inner s) _ _ _ (λ z. let b = and_parts (eqb (kind (seen s)) async_kind) (eqb (kind2 (seen s)) function_kind && not (brk2 (seen s))) z in let d = and_parts (eqb (kind2 (seen s)) function_kind) (not (brk2 (seen s))) b.1 in
-        let e = eqb-true (kind (seen s)) async_kind b.0 in refused c.listed s.commas _ _ (function_sure_by c s true (next s) ((e, soft c async_kind s e and_no, tt, refl), not-true (brk2 (seen s)) d.1))) (λ na.
+      let e = eqb-true (kind (seen s)) async_kind b.0 in refused c.listed s.commas _ _ (function_sure_by c s true (next s) ((e, soft c async_kind s e and_no, tt, refl), not-true (brk2 (seen s)) d.1))) (λ na.
       if_sure s.commas (starts_variables lm inner c s) _ _ _ (λ z. variables_sure c s (listed_word (eqb (kind (seen s)) var_kind) c.listed (eqb (kind (seen s)) let_kind) (eqb (kind (seen s)) const_kind) _ z)) (λ _.
       if_sure s.commas (c.listed && starts_using lm inner c s) _ _ _ (λ z. let b = and_parts c.listed (starts_using lm inner c s) z in
-        let d = and_parts c.syntax.explicit_resource_management _ b.1 in let i = and_parts (eqb (kind (seen s)) using_kind) (may_name (kind2 (seen s)) && not (brk2 (seen s))) d.1 in let j = and_parts (may_name (kind2 (seen s))) (not (brk2 (seen s))) i.1 in
-        using_sure c s false s (λ ds r t k. (seen (next s), d.0, t, not-true (brk2 (seen s)) j.1, no_pattern (kind2 (seen s)) j.0, k))) (λ _.
+      let d = and_parts c.syntax.explicit_resource_management _ b.1 in let i = and_parts (eqb (kind (seen s)) using_kind) (may_name (kind2 (seen s)) && not (brk2 (seen s))) d.1 in let j = and_parts (may_name (kind2 (seen s))) (not (brk2 (seen s))) i.1 in
+      using_sure c s false s (λ ds r t k. (seen (next s), d.0, t, not-true (brk2 (seen s)) j.1, no_pattern (kind2 (seen s)) j.0, k))) (λ _.
       if_sure s.commas (c.listed && starts_await_using lm inner c s) _ _ _ (λ z. let b = and_parts c.listed (starts_await_using lm inner c s) z in
-        let x = and_parts c.context.in_async _ b.1 in let y = and_parts (eqb (kind (seen s)) await_kind) (not (barred c.context (seen s)) && (not (brk2 (seen s)) && starts_using lm inner c (next s))) x.1 in let u = and_parts (not (barred c.context (seen s))) (not (brk2 (seen s)) && starts_using lm inner c (next s)) y.1 in
-        let w = and_parts (not (brk2 (seen s))) (starts_using lm inner c (next s)) u.1 in
-        let d = and_parts c.syntax.explicit_resource_management _ w.1 in let i = and_parts (eqb (kind (seen (next s))) using_kind) (may_name (kind2 (seen (next s))) && not (brk2 (seen (next s)))) d.1 in let j = and_parts (may_name (kind2 (seen (next s)))) (not (brk2 (seen (next s)))) i.1 in
-        using_sure c s true (next s) (λ ds r t k. (seen (next s), seen (next (next s)), d.0, x.0, (eqb-true (kind (seen s)) await_kind y.0, not-true (barred c.context (seen s)) u.0, tt, refl), not-true (brk2 (seen s)) w.0, t, not-true (brk2 (seen (next s))) j.1, no_pattern (kind2 (seen (next s))) j.0, k))) (λ _.
+      let x = and_parts c.context.in_async _ b.1 in let y = and_parts (eqb (kind (seen s)) await_kind) (not (barred c.context (seen s)) && (not (brk2 (seen s)) && starts_using lm inner c (next s))) x.1 in let u = and_parts (not (barred c.context (seen s))) (not (brk2 (seen s)) && starts_using lm inner c (next s)) y.1 in
+      let w = and_parts (not (brk2 (seen s))) (starts_using lm inner c (next s)) u.1 in
+      let d = and_parts c.syntax.explicit_resource_management _ w.1 in let i = and_parts (eqb (kind (seen (next s))) using_kind) (may_name (kind2 (seen (next s))) && not (brk2 (seen (next s)))) d.1 in let j = and_parts (may_name (kind2 (seen (next s)))) (not (brk2 (seen (next s)))) i.1 in
+      using_sure c s true (next s) (λ ds r t k. (seen (next s), seen (next (next s)), d.0, x.0, (eqb-true (kind (seen s)) await_kind y.0, not-true (barred c.context (seen s)) u.0, tt, refl), not-true (brk2 (seen s)) w.0, t, not-true (brk2 (seen (next s))) j.1, no_pattern (kind2 (seen (next s))) j.0, k))) (λ _.
       expression_sure c s nb nf nc na))))))))))))))))))
     where
       listed_word : (v t l d z : Bool) → (v || (t && (d || (l && z)))) ≡ true → (v || (l || d)) ≡ true

@@ -1,8 +1,8 @@
 -- What holds of an answer, if there is one. The starts of arrays and objects that a reading notes are never forgotten.
-use Rattle.std.proofs.Common.{◌≡◌, ℕ, zero, suc, Bool, true, false, not, ◌&&◌, cond, eqb, leb, ltb, List, [], ◌∷◌, Option, Some, None, Result, Ok, Err, refl, sym, ap, ◌∙◌, subst, ⊎_elim}
+use Rattle.std.proofs.Common.{◌≡◌, ℕ, zero, suc, Bool, true, false, not, ◌&&◌, cond, eqb, ltb, List, Result, Ok, Err, refl, sym, subst}
 use Rattle.std.proofs.lemmas.Bool.{eqb-true, eqb-false, and_parts, not-true}
-use Rattle.ecma_syntax.specs.Input.{Place, Input, Code, kind, text, rest, is_word, no_name, barred}
-use Rattle.ecma_reading.specs.Source.{Fault, ◌>>=◌, unexpected, Machine, list_machine, Stand, Read, input, past, bound, at, eat, eat_word, is_name, name, any_word, end_of, Step, go_on, finished, next_by, iterate_n, iterate}
+use Rattle.ecma_syntax.specs.Input.{Input, Code, kind, text, is_word, no_name, barred}
+use Rattle.ecma_reading.specs.Source.{Fault, ◌>>=◌, unexpected, Machine, list_machine, Stand, Read, input, past, bound, eat, eat_word, is_name, name, any_word, Step, go_on, finished, next_by, iterate_n, iterate}
 use Rattle.ecma_reading.specs.Cover.{has}
 
 -- the source of a list, and the tokens to come
