@@ -1,6 +1,6 @@
 //! Runs of a lexer over a text.
 
-use crate::told::{failed, tell, tell_end, tell_faults};
+use crate::told::{failed, tell, tell_comments, tell_end, tell_faults};
 use ecma_lexer::Lexer;
 use ecma_rows::{Answer, Row};
 use ecma_token::{BytePos, Context, Error, EsVersion, Span, Syntax, SyntaxError};
@@ -28,7 +28,7 @@ fn lexer<'a>(row: &Row<'_>, text: &'a str, answer: &Answer) -> anyhow::Result<Le
         EsVersion::latest(),
         text,
         BytePos(1),
-        false,
+        row.has("comments"),
     );
     lexer.set_ctx(context(row));
     Ok(lexer)
@@ -49,6 +49,10 @@ fn tell_rest<'a>(
                     return failed("a token behind the end");
                 }
                 answer.say(out.as_str())?;
+                let Ok(len) = u32::try_from(text.len()) else {
+                    return failed("too long");
+                };
+                tell_comments(&mut lexer.take_comments(), len, answer)?;
                 return tell_faults(lexer.take_errors().as_slice(), answer);
             }
         }

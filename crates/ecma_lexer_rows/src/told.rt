@@ -1,7 +1,8 @@
 //! What is told of tokens and faults.
 
+use ecma_comments::{Comment, CommentKind, Comments};
 use ecma_rows::Answer;
-use ecma_token::{Error, Token, TokenAndSpan};
+use ecma_token::{BytePos, Error, Span, Token, TokenAndSpan};
 use std::convert::AsStr;
 use std::fmt::Write;
 
@@ -68,6 +69,30 @@ pub fn tell(token: &TokenAndSpan<'_>, text: &str, out: &mut String) -> anyhow::R
         )?),
         _ => Ok(write!(out, " {own}")?),
     }
+}
+
+/// The comments of a side at a place.
+fn tell_side(comments: &[Comment], side: &str, at: u32, answer: &mut Answer) -> anyhow::Result<()> {
+    for comment in comments {
+        let mark = match comment.kind {
+            CommentKind::Line => "//",
+            CommentKind::Block => "/*",
+        };
+        let Span { lo, hi } = comment.span;
+        answer.say(format_args!("{side} {at} {mark} {}..{}{}", lo.0, hi.0, comment.text))?;
+    }
+    Ok(())
+}
+
+/// The comments that were kept, by their places up to the end of the text.
+pub fn tell_comments(comments: &mut Comments, len: u32, answer: &mut Answer) -> anyhow::Result<()> {
+    for at in 1..len.saturating_add(2) {
+        let trailing = comments.take_trailing(BytePos(at));
+        tell_side(trailing.as_slice(), "trails", at, answer)?;
+        let leading = comments.take_leading(BytePos(at));
+        tell_side(leading.as_slice(), "leads", at, answer)?;
+    }
+    Ok(())
 }
 
 /// The faults that were recorded.
