@@ -7,7 +7,7 @@ use ecma_literal::{
 };
 use ecma_rows::{Answer, Row};
 use ecma_scan::characters::pop;
-use ecma_token::{SyntaxError, Units};
+use ecma_token::Units;
 use std::borrow::CowStr;
 
 /// Whether a literal's own text and the rest are what the text is.
@@ -137,16 +137,6 @@ pub fn raw(text: &str, answer: &mut Answer) -> anyhow::Result<()> {
     }
 }
 
-/// What strict code has with a number.
-fn legacy(kind: &Option<SyntaxError>) -> &'static str {
-    match kind {
-        None => "",
-        Some(SyntaxError::LegacyOctal) => " LegacyOctal",
-        Some(SyntaxError::LegacyDecimal) => " LegacyDecimal",
-        Some(_) => " another fault",
-    }
-}
-
 /// The value of a number, what strict code has with it, and the rest.
 fn tell_number(
     text: &str,
@@ -156,18 +146,18 @@ fn tell_number(
     if !is_cut(text, literal.raw, literal.rest) {
         return failed("the literal isn't cut out of the text");
     }
-    let legacy = legacy(&literal.legacy);
-    match &literal.value {
-        Numeral::Number(number) => {
-            let number = value(number, answer)?;
-            answer.say(format_args!("{number}{legacy}"))?;
-        }
+    let own = match &literal.value {
+        Numeral::Number(number) => value(number, answer)?,
         Numeral::BigInt { radix, digits } => {
             if matches!(digits, CowStr::Borrowed(_)) == literal.raw.contains('_') {
                 return failed("digits are lent where no separator stands among them");
             }
-            answer.say(format_args!("BigInt {radix}:{}{legacy}", digits.as_str()))?;
+            format!(in answer.alloc(); "BigInt {radix}:{}", digits.as_str())?
         }
+    };
+    match &literal.legacy {
+        Some(kind) => answer.say(format_args!("{own} {kind:?}"))?,
+        None => answer.say(own.as_str())?,
     }
     Ok(answer.say(literal.rest)?)
 }

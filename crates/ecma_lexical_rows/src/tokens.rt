@@ -191,30 +191,8 @@ pub fn context(row: &Row<'_>, text: &str, answer: &mut Answer) -> anyhow::Result
     }
 }
 
-/// Code that is neither strict nor a generator, strict code, a module (which is strict) and a generator.
-fn contexts() -> [(&'static str, Context); 4] {
-    let sloppy = Context::default();
-    let strict = Context {
-        strict: true,
-        ..sloppy
-    };
-    let module = Context {
-        module_: true,
-        ..strict
-    };
-    let generator = Context {
-        in_generator: true,
-        ..sloppy
-    };
-    [
-        ("sloppy", sloppy),
-        ("strict", strict),
-        ("module", module),
-        ("generator", generator),
-    ]
-}
-
-/// The tokens of a word alone, and each code in which it is a reserved word with an escape.
+/// The tokens of a word alone, and each code in which it is a reserved word with an escape: code that is neither
+/// strict nor a generator, strict code, a module (which is strict) and a generator.
 pub fn reserved(text: &str, answer: &mut Answer) -> anyhow::Result<()> {
     tell("div *", text, answer)?;
     let mut other = Answer::new(answer.alloc());
@@ -226,7 +204,13 @@ pub fn reserved(text: &str, answer: &mut Answer) -> anyhow::Result<()> {
     let Token::Word(word) = &lexeme.token else {
         return failed("no word");
     };
-    for (name, context) in contexts() {
+    for name in ["sloppy", "strict", "module", "generator"] {
+        let context = Context {
+            strict: name == "strict" || name == "module",
+            module_: name == "module",
+            in_generator: name == "generator",
+            ..Context::default()
+        };
         if is_escaped_reserved(context, word, lexeme.escaped) {
             answer.say(name)?;
         }
