@@ -309,7 +309,7 @@ module _ (z d : ℕ) (ih : (e : ℕ) → Comes z e) (p : Bool) (c : Code) (l : �
       let gm : goes_expr c (ends a) h.0 ≡ 17 = subst (λ (e : ℕ). goes_expr c e h.0 ≡ 17) (sym (ends_high a h.2.0)) (goes_update c op h.0 h.4.0 h.1 h.3) in
       let ta : tail a ≡ 21 = tail_high a h.2.0 in
       after _ a h.0 r (omega arith) g h.2.1 (record { stop = omega arith; sober = sober_by c op h.0 h.4.0 (by_update op (λ o. quiet o ≡ true) h.1 refl refl) }) (bare_by a ts h.0 (λ e. by_update op (λ o. kind h.0 ≡ o → ⊥) h.1 (λ q. omega (arith, e, q)) (λ q. omega (arith, e, q)) h.4.0))
-      ne (omega (arith, h.2.0)) (omega arith) (takes op h.0 r h.4.0 (some_update op h.1) h.4.2) (λ j. step_update inner c ts k a h.0 j _ op s r h.1 h.4.0 h.2.0 h.4.2 h.5) K
+      ne (omega (arith, h.2.0)) (omega arith) (takes op h.0 r h.4.0 (some_update op h.1) h.4.2) (λ j. step_update inner c ts k a h.0 j _ op s r h.1 h.4.0 h.2.0 h.3 h.4.2 h.5) K
   comes_by (await_expr s a) r sz g h le fo ba ne K = begin _ r (not_hash 100 h.2.0 refl) le (prefix_await inner c ts k _ _ h.2.0 h.1
       (await_found inner c ts k (λ x. Unit {0}) _ s a h.0 r (d < reach a) h.2.0 h.2.1 h.2.3 (operand_found a h.0 r (omega arith) g h.3.1 h.3.0 (record { stop = fo.stop; sober = fo.sober })) (λ u. omega arith) h.4)) K
   comes_by (bin_expr s op a b) r sz g h le fo ba ne K =

@@ -1,6 +1,6 @@
 -- What one operator after an expression is read as.
 use Rattle.std.proofs.Common.{◌≡◌, ℕ, zero, suc, ◌+◌, ◌<◌, ◌≤◌, ◌⊎◌, inl, inr, max, Bool, true, false, not, ◌&&◌, ◌||◌, ◌==◌, cond, eqb, leb, List, [], ◌∷◌, ◌++◌, length, Option, Some, None, Result, Ok, Err, refl, sym, ap, ◌∙◌, subst, ⊎_elim, true≢false, arith}
-use Rattle.std.proofs.lemmas.Bool.{eqb-true, eqb-false, ne_eqb, eq-eqb, cases_Bool, le-leb, and_left, and_parts}
+use Rattle.std.proofs.lemmas.Bool.{eqb-true, eqb-false, ne_eqb, eq-eqb, cases_Bool, le-leb, and_left, and_from, and_parts}
 use Rattle.ecma_token.specs.declared.place.Span.{Span}
 use Rattle.ecma_token.specs.Kinds.{comma_kind, dot_kind, question_mark_kind, colon_kind, left_paren_kind, left_bracket_kind, right_bracket_kind, right_paren_kind, hash_kind, plus_plus_kind, minus_minus_kind}
 use Rattle.ecma_tree.specs.Tree.{Tree, Trees, none, more, pack, unpack, bin_expr, cond_expr, update_expr, member_expr, call_expr, computed_prop_name, ident_name, private_name, opt_chain_expr}
@@ -41,13 +41,13 @@ module _ (inner : Inner Input) (c : Code) (start : Stand Input) (a : Tree) (m : 
   step_call e le y = rw e (yields_no (not (leb 19 (level a))) _ _ V Q (ap not (le-leb 19 (level a) le)) y)
 
 module _ (inner : Inner Input) (c : Code) (ts : Input) (k : List ℕ) (a : Tree) (m : Input) (j : List ℕ) (Q : Type 0) where
-  pub step_update : (op : ℕ) (s : Span) (r : Input) → is_update_op op ≡ true → kind m ≡ op → 18 ≤ level a → rest m ≡ r → s ≡ span (lo ts) r.last → Yields (step_by lm inner c (from ts k) a (from m j)) (Is (update_expr s op false a) r) Q
+  pub step_update : (op : ℕ) (s : Span) (r : Input) → is_update_op op ≡ true → kind m ≡ op → 18 ≤ level a → brk m ≡ false → rest m ≡ r → s ≡ span (lo ts) r.last → Yields (step_by lm inner c (from ts k) a (from m j)) (Is (update_expr s op false a) r) Q
   unfolding step_by
-  step_update op s r u e le q p = subst (λ (y : Input). Yields (step_by lm inner c (from ts k) a (from m j)) (Is (update_expr s op false a) y) Q) q
+  step_update op s r u e le b q p = subst (λ (y : Input). Yields (step_by lm inner c (from ts k) a (from m j)) (Is (update_expr s op false a) y) Q) q
       (subst (λ (y : Span). Yields (step_by lm inner c (from ts k) a (from m j)) (Is (update_expr y op false a) (rest m)) Q) (sym (p ∙ ap (λ (y : Input). span (lo ts) y.last) (sym q)))
       (by_update op (λ o. kind m ≡ o → Yields (step_by lm inner c (from ts k) a (from m j)) (Is (update_expr (span (lo ts) (rest m).last) o false a) (rest m)) Q) u
-      (λ e. rw e (yields_yes (leb 18 (level a)) _ _ _ _ (le-leb 18 (level a) le) (record { so = (refl, refl) })))
-      (λ e. rw e (yields_yes (leb 18 (level a)) _ _ _ _ (le-leb 18 (level a) le) (record { so = (refl, refl) }))) e))
+      (λ e. rw e (yields_yes (leb 18 (level a) && not (brk m)) _ _ _ _ (and_from (leb 18 (level a)) _ (le-leb 18 (level a) le) (ap not b)) (record { so = (refl, refl) })))
+      (λ e. rw e (yields_yes (leb 18 (level a) && not (brk m)) _ _ _ _ (and_from (leb 18 (level a)) _ (le-leb 18 (level a) le) (ap not b)) (record { so = (refl, refl) }))) e))
 
   pub binary_found : (op : ℕ) (s : Span) (b : Tree) (n r : Input) (P : Type 0) → kind m ≡ op → barred c.context m ≡ false → rest m ≡ n → ((l : List ℕ) → Yields (inner.expr c (right_level op) (from n l)) (Is b r) P) → (P → Q) → s ≡ span (lo ts) r.last
       → Yields (binary_by lm inner c (from ts k) a (from m j)) (Is (bin_expr s op a b) r) Q
