@@ -12,7 +12,7 @@ use Rattle.ecma_grammar.specs.Expressions.{ArgumentList, ImportArguments, Yield,
 use Rattle.ecma_grammar.specs.Functions.{Async, FunctionExpression, FunctionHead, ClassExpression}
 use Rattle.ecma_grammar.specs.Grammar.{Spells, parts}
 use Rattle.ecma_reading.specs.Source.{unexpected, Stand, Inner, operand, is_name}
-use Rattle.ecma_reading.specs.Expressions.{is_unary, literal_by, elements_by, computed_by, function_by, template_by, arrows, params_of, group_by, ident_end, arguments_by, async_group, function_expr_name, function_expr_by, async_by, class_expr_by, new_end, new_by, super_end, fits_import, import_by, unary_by, update_by, await_by, ends_yield, yield_end, yield_by, word_by, fixed, keyword_by, prefix_by}
+use Rattle.ecma_reading.specs.Expressions.{is_unary, literal_by, elements_by, computed_by, function_by, template_by, arrows, params_of, group_by, ident_end, arguments_by, async_group, function_expr_name, function_expr_by, async_by, class_expr_by, new_end, callee_by, new_by, super_end, fits_import, import_by, unary_by, update_by, await_by, ends_yield, yield_end, yield_by, word_by, fixed, keyword_by, prefix_by}
 use Rattle.ecma_grammar_laws.proofs.Sure.{lm, seen, next, same, Sure, done, then_sure, sure_map, if_sure, test_sure, only_sure, eat_sure, word_sure, IsName, name_sure, any_sure}
 use Rattle.ecma_grammar_laws.proofs.Covers.{plain, by_yes, by_no, Holds, IsItem, Elems, IsNil, Element, first_item, listed}
 use Rattle.ecma_grammar_laws.proofs.Nested.{Sound, Made, named, elements_sure, literal_sure, dull, bracketed_is, computed_sure}
@@ -182,12 +182,18 @@ module _ (inner : Inner Input) (good : Sound inner) where
       done (new_expr p f absent, r) (Made c s) (dull c s (new_expr p f absent) r (seen (next s), t, new_level_of (level f) b.0, h, ltb-true (goes_expr c other_end (seen r)) call_level b.1, refl) (λ b k. refl)))
       (λ _. record { so = tt }))
 
+  callee_sure : (c : Code) (s : Stand Input) → Sure s.commas (callee_by lm inner c s) (λ f. Spells f.0 (plain c) (seen s) (seen f.1))
+  unfolding callee_by
+  callee_sure c s = if_sure s.commas (eqb (kind (seen s)) async_kind && eqb (kind2 (seen s)) left_paren_kind) _ _ _
+      (λ _. name_sure c s _ _ (λ i. done (ident (first_span (seen s)) (text (seen s)), next s) _ (named c s i)))
+      (λ _. sure_map s.commas (inner.expr c member_level s) _ _ (good.expr c member_level s (omega arith)) (λ f h. h.1.spelled))
+
   new_sure : (c : Code) (s : Stand Input) → Sure s.commas (new_by lm inner c s) (Made c s)
   unfolding new_by
   new_sure c s = word_sure c new_kind s _ _ (λ e b. test_sure s.commas (kind (seen (next s))) dot_kind _ _ _
       (λ z. word_sure c target_kind (next (next s)) _ _ (λ k w. let p = span (lo (seen s)) (hi (seen (next (next s)))) in
       done (meta_prop_expr p new_kind, next (next (next s))) (Made c s) (dull c s (meta_prop_expr p new_kind) (next (next (next s))) (seen (next s), seen (next (next s)), (e, b, tt, refl), (z, tt, refl), inl (refl, (k, w, tt, refl)), refl) (λ b k. refl))))
-      (λ _. then_sure s.commas (inner.expr c member_level (next s)) _ _ _ (good.expr c member_level (next s) (omega arith)) (λ f h. new_end_sure c s f.0 f.1 (e, b, tt, refl) h.1.spelled)))
+      (λ _. then_sure s.commas (callee_by lm inner c (next s)) _ _ _ (callee_sure c (next s)) (λ f h. new_end_sure c s f.0 f.1 (e, b, tt, refl) h)))
 
   super_sure : (c : Code) (s : Stand Input) → TakesWord (plain c) super_kind (seen s) (seen (next s)) → Sure s.commas (super_end lm inner c s (next s)) (Made c s)
   unfolding super_end

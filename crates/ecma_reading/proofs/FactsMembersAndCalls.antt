@@ -26,6 +26,11 @@ rows_2 : Hold (
     script_row (codes "new a`b`") (codes "(do (new (tag a (tpl `b)) -))") ∷
     no_script (codes "new a?.b") ∷
     script_row (codes "new a()?.b") (codes "(do (?. (. (new a (args)) b)))") ∷
+    script_row (codes "new async(a)") (codes "(do (new async (args a)))") ∷
+    script_row (codes "new async\n(a).b") (codes "(do (. (new async (args a)) b))") ∷
+    script_row (codes "new new async(a)(b)") (codes "(do (new (new async (args a)) (args b)))") ∷
+    script_row (codes "new async.b(a)") (codes "(do (new (. async b) (args a)))") ∷
+    no_script (codes "new async(a)=>b") ∷
     no_script (codes "new import(a)") ∷
     script_row (codes "new.target") (codes "(do new.target)") ∷
     script_row (codes "import.meta") (codes "(do import.meta)") ∷

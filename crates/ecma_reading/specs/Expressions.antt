@@ -295,11 +295,17 @@ module _ {S : Type 0} (m : Machine S) (inner : Inner S) where
       if at m left_paren_kind s && nat_le member_level (level f) then (arguments_by c (past m s) >>= λ xs. Ok (new_expr (spanned m start xs.1) f (list (pack xs.0)), xs.1))
       else (if (nat_le member_level (level f) || (level f == new_level)) && nat_lt (goes_expr c other_end (input m s)) call_level then Ok (new_expr (spanned m start s) f absent, s) else unexpected)
 
+  -- the callee of `new` (13.3): `async` before a parenthesis is a name here, and never starts a call or an arrow
+  unfoldable pub callee_by : Code → Read S Tree
+  callee_by c s =
+      if at m async_kind s && (kind2 (input m s) == left_paren_kind) then (name m c s >>= λ n. Ok (ident (first s) n.0, n.1))
+      else inner.expr c member_level s
+
   unfoldable pub new_by : Code → Read S Tree
   new_by c s =
       eat_word m c new_kind s >>= λ r.
       if at m dot_kind r then (eat_word m c target_kind (past m r) >>= λ t. Ok (meta_prop_expr (spanned m s t) new_kind, t))
-      else (inner.expr c member_level r >>= λ f. new_end c s f.0 f.1)
+      else (callee_by c r >>= λ f. new_end c s f.0 f.1)
 
   unfoldable pub super_end : Code → Stand S → Read S Tree
   super_end c start s =
