@@ -1,3 +1,4 @@
+pub mod AgainLemmas
 pub mod AsReadLemmas
 pub mod BigLemmas
 pub mod MinifiedLemmas

@@ -47,20 +47,20 @@ pub digits_spelled : (radix d : ℕ) (ds : List ℕ) → AllDigits radix (d ∷ 
 digits_spelled radix d ds h =
     ap (λ b. cond b (goes_on radix true ds) (false && (d == 95 && goes_on radix false ds))) (lt-ltb (digit_value d) radix h.0) ∙ digits_go radix ds h.1
 
-all_on : (radix : ℕ) (xs ys : List ℕ) → AllDigits radix xs → AllDigits radix ys → AllDigits radix (xs ++ ys)
+pub all_on : (radix : ℕ) (xs ys : List ℕ) → AllDigits radix xs → AllDigits radix ys → AllDigits radix (xs ++ ys)
 all_on radix [] ys h i = i
 all_on radix (x ∷ xs) ys h i = (h.0, all_on radix xs ys h.1 i)
 
-all_zeros : (n : ℕ) (m : List ℕ) → AllDigits 10 m → AllDigits 10 (zeros n m)
+pub all_zeros : (n : ℕ) (m : List ℕ) → AllDigits 10 m → AllDigits 10 (zeros n m)
 all_zeros zero m h = h
 all_zeros (suc n) m h = (omega arith, all_zeros n m h)
 
-all_taken : (n : ℕ) (ds : List ℕ) → AllDigits 10 ds → AllDigits 10 (take n ds)
+pub all_taken : (n : ℕ) (ds : List ℕ) → AllDigits 10 ds → AllDigits 10 (take n ds)
 all_taken zero ds h = tt
 all_taken (suc n) [] h = tt
 all_taken (suc n) (d ∷ ds) h = (h.0, all_taken n ds h.1)
 
-all_dropped : (n : ℕ) (ds : List ℕ) → AllDigits 10 ds → AllDigits 10 (drop n ds)
+pub all_dropped : (n : ℕ) (ds : List ℕ) → AllDigits 10 ds → AllDigits 10 (drop n ds)
 all_dropped zero ds h = h
 all_dropped (suc n) [] h = tt
 all_dropped (suc n) (d ∷ ds) h = all_dropped n ds h.1

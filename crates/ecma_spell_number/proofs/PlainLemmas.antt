@@ -16,13 +16,13 @@ use Rattle.ecma_spell_number.proofs.MinifiedLemmas.{plain_digits, digits_spelled
 
 -- ---- separators
 
-plain_here : (c : ℕ) (cs : List ℕ) → (c == 95) ≡ false → plain (c ∷ cs) ≡ c ∷ plain cs
+pub plain_here : (c : ℕ) (cs : List ℕ) → (c == 95) ≡ false → plain (c ∷ cs) ≡ c ∷ plain cs
 plain_here c cs e = ap (λ b. cond (not b) (c ∷ plain cs) (plain cs)) e
 
 plain_gone : (c : ℕ) (cs : List ℕ) → (c == 95) ≡ true → plain (c ∷ cs) ≡ plain cs
 plain_gone c cs e = ap (λ b. cond (not b) (c ∷ plain cs) (plain cs)) e
 
-plain_twice : (t : List ℕ) → plain (plain t) ≡ plain t
+pub plain_twice : (t : List ℕ) → plain (plain t) ≡ plain t
 plain_twice [] = refl
 plain_twice (c ∷ cs) = ⊎_elim
     (λ (e : (c == 95) ≡ true). ap plain (plain_gone c cs e) ∙ plain_twice cs ∙ sym (plain_gone c cs e))
@@ -178,7 +178,7 @@ value_same i f x h =
     ∙ ap (λ l. scaled (plain i ++ l) (exponent_value (omap x) -ℤ pos (length l))) (fraction_same f)
     ∙ ap (λ e. scaled (plain i ++ plain (unwrap_or f [])) (e -ℤ pos (length (plain (unwrap_or f []))))) (exponent_same x h)
 
-none_some : {A B : Type 0} {x : A} → None ≡ Some x → B
+pub none_some : {A B : Type 0} {x : A} → None ≡ Some x → B
 none_some e = cc
 
 pub if_some : (b : Bool) (x y : SpecNumber) → (if b then Some x else None) ≡ Some y → (b ≡ true) × (Some x ≡ Some y)
@@ -216,7 +216,7 @@ bad_first : (i : List ℕ) (f : Option (List ℕ)) → spells_mantissa (95 ∷ i
 bad_first i None = refl
 bad_first i (Some f) = refl
 
-separator_first : (cs : List ℕ) (v : SpecNumber) → decimal_number (95 ∷ cs) ≡ Some v → ⊥
+pub separator_first : (cs : List ℕ) (v : SpecNumber) → decimal_number (95 ∷ cs) ≡ Some v → ⊥
 separator_first cs v h = false≢true (sym (bad_first (before 46 (before 101 cs)) (after 46 (before 101 cs))) ∙ mantissa_of (95 ∷ cs) v h)
 
 bad_second : (i : List ℕ) (f : Option (List ℕ)) → spells_mantissa (48 ∷ 95 ∷ i) f ≡ false
@@ -272,7 +272,7 @@ plain_legacy cs v h o = ⊎_elim
     (λ (t : is_legacy_octal (48 ∷ plain cs) ≡ false). t)
     (cases_Bool (is_legacy_octal (48 ∷ plain cs)))
 
-second_here : (l : ℕ) (ls : List ℕ) (v : SpecNumber) → decimal_number (48 ∷ l ∷ ls) ≡ Some v → (l == 95) ≡ false
+pub second_here : (l : ℕ) (ls : List ℕ) (v : SpecNumber) → decimal_number (48 ∷ l ∷ ls) ≡ Some v → (l == 95) ≡ false
 second_here l ls v h = ⊎_elim
     (λ (e : (l == 95) ≡ true). absurd (separator_second ls v (ap (λ x. decimal_number (48 ∷ x ∷ ls)) (sym (eqb-true l 95 e)) ∙ h)))
     (λ (e : (l == 95) ≡ false). e)
@@ -303,7 +303,7 @@ unprefixed_plain (c ∷ cs) v p o h =
     (λ (z : (c == 48) ≡ false). other_plain c cs v z d)
     (cases_Bool (c == 48))
 
-legacy_plain : (t : List ℕ) → is_legacy_octal t ≡ true → plain t ≡ t
+pub legacy_plain : (t : List ℕ) → is_legacy_octal t ≡ true → plain t ≡ t
 legacy_plain [] h = refl
 legacy_plain (c ∷ cs) h =
     let parts = and_parts (c == 48) (spells_octal cs) h in
@@ -311,7 +311,7 @@ legacy_plain (c ∷ cs) h =
     let first : digit_value c < 8 = let x = eqb-true c 48 parts.0 in grind (arith, nat_tests) in
     plain_digits 8 (c ∷ cs) (omega arith) (first, all_digits 8 cs all)
 
-letter_here : (l r : ℕ) → radix_of_letter l ≡ Some r → (l == 95) ≡ false
+pub letter_here : (l r : ℕ) → radix_of_letter l ≡ Some r → (l == 95) ≡ false
 letter_here l r h = ⊎_elim
     (λ (e : (l == 95) ≡ true). none_some (ap radix_of_letter (sym (eqb-true l 95 e)) ∙ h))
     (λ (e : (l == 95) ≡ false). e)
@@ -372,7 +372,7 @@ edition_read style raw v text w h = or_else (whole_in_edition style raw text) (s
         (λ (b : (is_up_to_es5 style && is_new_prefix (prefix_radix raw)) ≡ false). none_some (sym (ap (λ x. if x then text else None) b) ∙ e))
         (cases_Bool (is_up_to_es5 style && is_new_prefix (prefix_radix raw)))
 
-some_list : (x y : List ℕ) → Some x ≡ Some y → x ≡ y
+pub some_list : (x y : List ℕ) → Some x ≡ Some y → x ≡ y
 some_list x y e = cc
 
 whole_digits_read : (ds : List ℕ) (n : ℕ) → IsCanonical (Scaled ds (pos n)) → (t : List ℕ) → whole_digits ds n ≡ Some t → number_of t ≡ Some (Scaled ds (pos n))

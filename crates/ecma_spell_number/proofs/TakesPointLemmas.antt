@@ -50,7 +50,7 @@ shorter (d ∷ ds) = ⊎_elim
     (λ (e : (d == 48) ≡ false). let x = ap length (ap (λ b. if b then trim_front ds else d ∷ ds) e) in omega arith)
     (cases_Bool (d == 48))
 
-no_zero : (d : ℕ) (ds : List ℕ) → trim_front (d ∷ ds) ≡ d ∷ ds → (d == 48) ≡ false
+pub no_zero : (d : ℕ) (ds : List ℕ) → trim_front (d ∷ ds) ≡ d ∷ ds → (d == 48) ≡ false
 no_zero d ds h = ⊎_elim
     (λ (e : (d == 48) ≡ true).
     let x = ap length (sym (ap (λ b. if b then trim_front ds else d ∷ ds) e) ∙ h) in

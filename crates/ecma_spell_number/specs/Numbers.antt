@@ -120,6 +120,11 @@ abbrev pub FormattedIsRead : Type 0
 FormattedIsRead = (style : Style) (v : SpecNumber) (raw : Option (List ℕ)) → IsCanonical v → HasPrefix v
     → ((text : List ℕ) → raw ≡ Some text → number_of text ≡ Some v) → number_of (formatted style v raw) ≡ Some v
 
+-- What is written of a number when formatting is written again where it was read.
+abbrev pub FormattedAgain : Type 0
+FormattedAgain = (style : Style) (v : SpecNumber) (raw : Option (List ℕ)) → IsCanonical v → HasPrefix v
+    → ((text : List ℕ) → raw ≡ Some text → number_of text ≡ Some v) → formatted style v (Some (formatted style v raw)) ≡ formatted style v raw
+
 -- Before the point of a member a spelling of a number is read as its value, with a point of its own where it would take
 -- the first.
 abbrev pub MemberStands : Type 0

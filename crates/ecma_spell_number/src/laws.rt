@@ -1,6 +1,6 @@
 //! Laws of the definitions, by functions that do nothing.
 
-ghost use Rattle.ecma_spell_number.specs.Numbers.{BigIntIsRead, FormattedIsRead, MemberStands, MinifiedIsRead, MinifiedStands};
+ghost use Rattle.ecma_spell_number.specs.Numbers.{BigIntIsRead, FormattedAgain, FormattedIsRead, MemberStands, MinifiedIsRead, MinifiedStands};
 
 /// Law: a minified number has its value.
 pub fn minified_is_read()
@@ -20,6 +20,11 @@ pub fn big_int_is_read()
 /// Law: a formatted number has its value, where the text as it was read has.
 pub fn formatted_is_read()
     ensures { FormattedIsRead }
+{}
+
+/// Law: what is written of a number when formatting is written again where it was read.
+pub fn formatted_again()
+    ensures { FormattedAgain }
 {}
 
 /// Law: before the point of a member a number is read as its value, with a point of its own where it

@@ -1,29 +1,26 @@
 -- A name is read as its characters, and a key in quotes as their units.
-use Rattle.std.proofs.Common.{◌≡◌, ℕ, ◌+◌, ◌*◌, ◌/◌, ◌%◌, ◌<◌, ◌≤◌, ◌⊎◌, inl, inr, ⊎_elim, Bool, true, false, cond, List, [], ◌∷◌, ◌++◌, append_assoc, refl, sym, ap, subst, ◌∙◌, arith, IsUtf8}
-use Rattle.std.specs.Prelude.{if◌then◌else◌, nat_lt, nat_le, ◌&&◌, ◌||◌, ◌==◌, encode_utf8_all, unwrap_or, Option, Some, None}
-use Rattle.std.specs.Char.{IsScalar, digit_char, digit_value, is_ascii_alphanumeric}
+use Rattle.std.proofs.Common.{◌≡◌, ℕ, ◌+◌, ◌/◌, ◌%◌, ◌<◌, ◌≤◌, inl, inr, ⊎_elim, Bool, true, false, cond, List, [], ◌∷◌, ◌++◌, refl, sym, ap, subst, ◌∙◌, arith}
+use Rattle.std.specs.Prelude.{if◌then◌else◌, nat_lt, ◌||◌, ◌==◌}
+use Rattle.std.specs.Char.{IsScalar, digit_char, is_ascii_alphanumeric}
 use Rattle.std.specs.Char.Escape.{encode_utf16}
 use Rattle.std.specs.List.{flat_map, list_any}
-use Rattle.std.specs.Str.{chars}
-use Rattle.std.proofs.lemmas.Bool.{cases_Bool, cases_lt, lt-ltb, le-ltb, ltb-true, ltb-false, false≢true, and_parts}
+use Rattle.std.proofs.lemmas.Bool.{cases_lt, lt-ltb, le-ltb, ltb-true, ltb-false, false≢true, and_parts}
 use Rattle.std.proofs.lemmas.Bool.Decides.{nat_tests}
-use Rattle.std.proofs.lemmas.Str.{encodes-append, encodes-chars, scalars-chars}
 use Rattle.unicode_ident.proofs.IdentLemmas.{is_xid_continue-ascii}
-use Rattle.ecma_scan.specs.Characters.{is_name_start, is_name_part, is_hex_digit}
+use Rattle.ecma_scan.specs.Characters.{is_name_part, is_hex_digit}
 use Rattle.ecma_scan.specs.Escapes as e
-use Rattle.ecma_scan.specs.Names.{IsName, IsNameChar, Spell, is_name_char}
-use Rattle.ecma_scan.specs.Runs.{Each, run, after}
+use Rattle.ecma_scan.specs.Names.{IsNameChar, Spell, is_name_char}
+use Rattle.ecma_scan.specs.Runs.{Each}
 use Rattle.ecma_scan.proofs.NameLemmas.{starts_continue}
 use Rattle.ecma_literal.specs.Strings.{is_plain, SpellsString}
-use Rattle.ecma_literal.proofs.RunLemmas.{Flat, Cut, cut_run, run_each, run_after}
 use Rattle.ecma_spell_base.specs.declared.form.Form.{Form}
-use Rattle.ecma_spell_base.specs.declared.form.Form.TheVariants.{Bare, Letter, Nul, Hex, Four, FourLower, Pair, Braced}
+use Rattle.ecma_spell_base.specs.declared.form.Form.TheVariants.{Bare}
 use Rattle.ecma_spell_base.specs.declared.style.Style.{Style}
-use Rattle.ecma_spell_base.specs.Forms.{written, Writes, Suits, lower, upper, upper_digit, four, four_lower, braced_digits}
+use Rattle.ecma_spell_base.specs.Forms.{written, Suits, lower, upper, upper_digit, four, four_lower, braced_digits}
 use Rattle.ecma_spell_base.specs.Pieces.{IsQuoted}
 use Rattle.ecma_spell_base.proofs.FormLemmas.{form_stands}
-use Rattle.ecma_spell_string.specs.Names.{is_latin, name_form, key_form, form_in, name_chars, name_text, is_quoted_key, key_text, quote_if, is_plain_byte, AreNameChars, NameIsRead, KeyIsRead}
-use Rattle.ecma_spell_string.proofs.QuotedLemmas.{scalar_code, written_on}
+use Rattle.ecma_spell_string.specs.Names.{is_latin, name_form, key_form, name_chars, name_text, AreNameChars, NameIsRead, KeyIsRead}
+use Rattle.ecma_spell_string.proofs.QuotedLemmas.{scalar_code}
 use Rattle.ecma_spell_string.proofs.StringLemmas.{quoted_on}
 
 -- ---- digits, as names have them

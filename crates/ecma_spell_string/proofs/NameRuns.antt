@@ -1,19 +1,17 @@
 -- What is written of a name, piece by piece.
-use Rattle.std.proofs.Common.{◌≡◌, ℕ, ◌<◌, ◌≤◌, Bool, true, false, List, [], ◌∷◌, ◌++◌, refl, sym, ap, subst, ◌∙◌, arith, IsUtf8}
-use Rattle.std.specs.Prelude.{if◌then◌else◌, nat_lt, nat_le, ◌&&◌, encode_utf8_all}
+use Rattle.std.proofs.Common.{◌≡◌, ℕ, ◌≤◌, Bool, true, false, List, [], ◌∷◌, ◌++◌, refl, sym, ap, subst, ◌∙◌, arith, IsUtf8}
+use Rattle.std.specs.Prelude.{if◌then◌else◌, nat_lt, encode_utf8_all}
 use Rattle.std.specs.Char.{IsScalar}
 use Rattle.std.specs.List.{prefix_len}
-use Rattle.std.specs.Str.{chars}
-use Rattle.std.proofs.lemmas.Bool.{ltb-true, ltb-false, cases_Bool}
 use Rattle.std.proofs.lemmas.Bool.Decides.{nat_tests}
 use Rattle.std.proofs.lemmas.Str.{encodes-append}
 use Rattle.ecma_scan.specs.Runs.{Each, run, after}
 use Rattle.ecma_literal.proofs.RunLemmas.{Flat, Cut, cut_run, run_each, run_after}
 use Rattle.ecma_spell_base.specs.declared.form.Form.{Form}
-use Rattle.ecma_spell_base.specs.declared.form.Form.TheVariants.{Bare, Letter, Nul, Hex, Four, FourLower, Pair, Braced}
+use Rattle.ecma_spell_base.specs.declared.form.Form.TheVariants.{Bare}
 use Rattle.ecma_spell_base.specs.declared.style.Style.{Style}
 use Rattle.ecma_spell_base.specs.Forms.{written, Writes}
-use Rattle.ecma_spell_string.specs.Names.{is_latin, name_form, key_form, form_in, name_chars, is_plain_byte}
+use Rattle.ecma_spell_string.specs.Names.{is_latin, name_form, form_in, name_chars, is_plain_byte}
 use Rattle.ecma_spell_string.proofs.QuotedLemmas.{scalar_code, written_on}
 
 plain_high : (b : ℕ) → 128 ≤ b → is_plain_byte b ≡ false

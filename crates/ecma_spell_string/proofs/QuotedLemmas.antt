@@ -1,28 +1,23 @@
 -- What is written of a string, piece by piece.
-use Rattle.std.proofs.Common.{◌≡◌, ℕ, ◌+◌, ◌<◌, ◌≤◌, ◌⊎◌, inl, inr, ⊎_elim, Bool, true, false, cond, List, [], ◌∷◌, ◌++◌, append-nil, append_assoc, length, refl, sym, ap, subst, ◌∙◌, arith, IsUtf8}
-use Rattle.std.specs.Prelude.{if◌then◌else◌, nat_lt, nat_le, ◌&&◌, ◌||◌, ◌==◌, not, filter, encode_utf8_all}
+use Rattle.std.proofs.Common.{◌≡◌, ℕ, ◌-◌, ◌<◌, ◌≤◌, ◌⊎◌, ⊎_elim, Bool, true, false, cond, List, [], ◌∷◌, ◌++◌, append_assoc, length, take, drop, slice_index, refl, sym, ap, subst, ◌∙◌, arith}
+use Rattle.std.specs.Prelude.{if◌then◌else◌, nat_lt, ◌&&◌, ◌||◌, ◌==◌, filter, encode_utf8_all}
 use Rattle.std.specs.Char.{IsScalar}
-use Rattle.std.specs.Char.Escape.{encode_utf16}
-use Rattle.std.specs.List.{flat_map, prefix_len}
-use Rattle.std.specs.Str.{chars}
-use Rattle.std.proofs.lemmas.Bool.{cases_Bool, cases_lt, lt-ltb, le-ltb, ltb-true, ltb-false, eqb-true, false≢true, and_parts, and_right, and_cases, ne_eqb}
+use Rattle.std.proofs.lemmas.Bool.{cases_Bool, lt-ltb, le-ltb, ltb-true, ltb-false, eqb-true, and_parts, and_right, and_cases, ne_eqb}
 use Rattle.std.proofs.lemmas.Bool.Decides.{nat_tests}
 use Rattle.std.proofs.lemmas.List.Elements.{filter-append}
-use Rattle.std.proofs.lemmas.Str.{encode_ascii, encodes-append, encodes-chars, scalars-chars, chars-encodes}
-use lib.Utf8.{encode, scalar, scalars}
-use Rattle.ecma_scan.specs.Runs.{Each, run, after}
+use Rattle.std.proofs.lemmas.Str.{encode_ascii, encodes-append}
 use Rattle.ecma_literal.specs.Escapes.{begins, is_decimal}
 use Rattle.ecma_literal.specs.Strings.{is_quote}
-use Rattle.ecma_literal.proofs.RunLemmas.{Flat, Cut, cut_run, run_each, run_after, wide, High}
 use Rattle.ecma_spell_base.specs.declared.form.Form.{Form}
 use Rattle.ecma_spell_base.specs.declared.form.Form.TheVariants.{Bare, Letter, Nul, Hex, Four, FourLower, Pair, Braced}
 use Rattle.ecma_spell_base.specs.declared.style.Style.{Style}
-use Rattle.ecma_spell_base.specs.Forms.{written, Writes, four, braced_digits}
+use Rattle.ecma_spell_base.specs.Forms.{written, Writes, braced_digits}
 use Rattle.ecma_spell_base.specs.Styles.{is_below_es5, is_up_to_es5}
 use Rattle.ecma_spell_string.specs.declared.quoted.Behind.{Behind}
 use Rattle.ecma_spell_string.specs.declared.quoted.Behind.TheVariants.{Other, Less, Dash, Dashes}
 use Rattle.ecma_spell_string.specs.CodePoints.{code_points, onto, is_high, is_low, of_pair}
-use Rattle.ecma_spell_string.specs.Strings.{behind, is_guarded, letter_of, is_never_bare, wide_form, lone_form, form_of, chars_text, count, quote_of}
+use Rattle.ecma_spell_string.specs.QuotedTexts.{is_markup, is_plain_unit}
+use Rattle.ecma_spell_string.specs.Strings.{behind, is_guarded, opens_comment, closes_script, is_less, is_dash, is_dashes, letter_of, is_never_bare, lone_form, form_of, chars_text, count, quote_of}
 
 if_true : {A : Type 0} (b : Bool) (x y : A) → b ≡ true → (if b then x else y) ≡ x
 if_true b x y e = ap (λ t. if t then x else y) e
@@ -209,3 +204,96 @@ quote_more a b cs e f h = sym (if_true (nat_lt (count 39 cs) (count 34 cs)) 39 3
 
 pub quote_less : (a b : ℕ) (cs : List ℕ) → a ≡ count 39 cs → b ≡ count 34 cs → b ≤ a → 34 ≡ quote_of cs
 quote_less a b cs e f h = sym (if_false (nat_lt (count 39 cs) (count 34 cs)) 39 34 (le-ltb (count 39 cs) (count 34 cs) (omega arith)))
+
+-- ---- a unit that stands for itself
+
+module _ (style : Style) (c : ℕ) (p : is_plain_unit style c ≡ true) where
+  plain_low : 32 ≤ c
+  plain_low = grind (arith, nat_tests)
+
+  plain_high : c ≤ 126
+  plain_high = grind (arith, nat_tests)
+
+  no_backslash : (c == 92) ≡ false
+  no_backslash = grind (arith, nat_tests)
+
+  no_quotes : (c == 34 || c == 39) ≡ false
+  no_quotes = grind (arith, nat_tests)
+
+  no_markup : style.inline_script ≡ true → is_markup c ≡ false
+  no_markup e = grind (arith, nat_tests)
+
+  unguarded : (b : Behind) (cs : List ℕ) → is_guarded style b c cs ≡ false
+  unguarded b cs = ⊎_elim
+      (λ (e : style.inline_script ≡ true).
+      let m = no_markup e in
+      let less : (c == 60) ≡ false = grind (arith, nat_tests) in
+      let more : (c == 62) ≡ false = grind (arith, nat_tests) in
+      let slash : (c == 47) ≡ false = grind (arith, nat_tests) in
+      ap (λ t. t && ((c == 60 && opens_comment cs) || ((c == 62 && is_dashes b) || (c == 47 && (is_less b && closes_script cs))))) e
+      ∙ ap (λ t. (t && opens_comment cs) || ((c == 62 && is_dashes b) || (c == 47 && (is_less b && closes_script cs)))) less
+      ∙ ap (λ t. (t && is_dashes b) || (c == 47 && (is_less b && closes_script cs))) more
+      ∙ ap (λ t. t && (is_less b && closes_script cs)) slash)
+      (λ (e : style.inline_script ≡ false).
+      ap (λ t. t && ((c == 60 && opens_comment cs) || ((c == 62 && is_dashes b) || (c == 47 && (is_less b && closes_script cs))))) e)
+      (cases_Bool style.inline_script)
+
+  plain_behind : (b : Behind) → behind style b c ≡ Other
+  plain_behind b = ⊎_elim
+      (λ (e : style.inline_script ≡ true).
+      let m = no_markup e in
+      let less : (c == 60) ≡ false = grind (arith, nat_tests) in
+      let dash : (c == 45) ≡ false = grind (arith, nat_tests) in
+      if_true style.inline_script (if c == 60 then Less else (if c == 45 then (if is_dash b then Dashes else Dash) else Other)) Other e
+      ∙ if_false (c == 60) Less (if c == 45 then (if is_dash b then Dashes else Dash) else Other) less
+      ∙ if_false (c == 45) (if is_dash b then Dashes else Dash) Other dash)
+      (λ (e : style.inline_script ≡ false).
+      if_false style.inline_script (if c == 60 then Less else (if c == 45 then (if is_dash b then Dashes else Dash) else Other)) Other e)
+      (cases_Bool style.inline_script)
+
+  plain_lone : lone_form style c ≡ Bare
+  plain_lone =
+      let no_letter : nat_lt 0 (letter_of c) ≡ false = grind (arith, nat_tests) in
+      let no_tab : (c == 9) ≡ false = grind (arith, nat_tests) in
+      let printed : nat_lt c 0x20 ≡ false = grind (arith, nat_tests) in
+      let low : nat_lt c 0x7F ≡ true = grind (arith, nat_tests) in
+      if_false (nat_lt 0 (letter_of c)) (Letter (letter_of c)) _ no_letter ∙ if_false (c == 9) Bare _ no_tab ∙ if_false (nat_lt c 0x20) Hex _ printed
+      ∙ if_true (nat_lt c 0x7F) Bare _ low
+
+  plain_form : (quote : ℕ) (b : Behind) (cs : List ℕ) → is_quote quote ≡ true → form_of style quote b c cs ≡ Bare
+  plain_form quote b cs q =
+      let other : (c == quote) ≡ false = let n = no_quotes in grind (arith, nat_tests) in
+      let some : (c == 0) ≡ false = grind (arith, nat_tests) in
+      if_false (is_guarded style b c cs) _ _ (unguarded b cs) ∙ if_false (c == quote) (Letter quote) _ other ∙ if_false (c == 0) _ _ some ∙ plain_lone
+
+plain_bytes : (style : Style) (quote : ℕ) (b : Behind) (u : ℕ) (units us m old new : List ℕ) → is_quote quote ≡ true → is_plain_unit style u ≡ true
+    → units ≡ u ∷ us → new ≡ old ++ u ∷ []
+    → old ++ encode_utf8_all (chars_text style quote b (code_points units) m) ≡ new ++ encode_utf8_all (chars_text style quote Other (code_points us) m)
+plain_bytes style quote b u units us m old new q p e f =
+    let low : u < 128 = let h = plain_high style u p in omega arith in
+    let lone : is_high u ≡ false = let h = plain_high style u p in grind (arith, nat_tests) in
+    push_bytes style quote b u (code_points us) (code_points units) m old new (u ∷ []) Bare Other
+    (lone_front units us u e (ap (λ t. t && begins is_low us) lone))
+    (sym (plain_form style u p quote b (code_points us) q)) (ap (λ (l : List ℕ). l ++ []) (sym (encode_ascii u low))) f (sym (plain_behind style u p b))
+
+-- what follows the first
+tail_is : (u : ℕ) (us : List ℕ) → take (length (u ∷ us) - 1) us ≡ us
+tail_is u us = ap (λ m. take m us) (length_is us) ∙ whole us
+  where
+    length_is : (xs : List ℕ) → length (u ∷ xs) - 1 ≡ length xs
+    length_is xs = omega arith
+
+    whole : (xs : List ℕ) → take (length xs) xs ≡ xs
+    whole [] = refl
+    whole (x ∷ xs) = ap (λ (l : List ℕ). x ∷ l) (whole xs)
+
+pub plain_first : (style : Style) (quote : ℕ) (b : Behind) (w : ℕ) (units m old new : List ℕ) → is_quote quote ≡ true → 1 ≤ length units
+    → is_plain_unit style (slice_index units 0) ≡ true → (slice_index units 0 < 128 → w ≡ slice_index units 0) → (w < 128 → new ≡ old ++ w ∷ [])
+    → old ++ encode_utf8_all (chars_text style quote b (code_points units) m)
+    ≡ new ++ encode_utf8_all (chars_text style quote Other (code_points (take (length units - 1) (drop 1 units))) m)
+plain_first style quote b w [] m old new q l p e f = absurd (omega arith)
+plain_first style quote b w (u ∷ us) m old new q l p e f =
+    let low : u < 128 = let h = plain_high style u p in omega arith in
+    let same : w ≡ u = e low in
+    plain_bytes style quote b u (u ∷ us) us m old new q p refl (f (omega (arith, same, low)) ∙ ap (λ x. old ++ x ∷ []) same)
+    ∙ ap (λ (l : List ℕ). new ++ encode_utf8_all (chars_text style quote Other (code_points l) m)) (sym (tail_is u us))

@@ -1,6 +1,6 @@
 -- A string as it was read is read again, whatever follows; and formatting it twice changes nothing.
 use Rattle.std.proofs.Common.{◌≡◌, ℕ, ◌⊎◌, inl, inr, ⊎_elim, Bool, true, false, cond, List, [], ◌∷◌, ◌++◌, append_assoc, refl, sym, ap, subst, ◌∙◌}
-use Rattle.std.specs.Prelude.{if◌then◌else◌, ◌&&◌, ◌||◌, not, Option, Some, None, codes, bytes_eq}
+use Rattle.std.specs.Prelude.{if◌then◌else◌, ◌&&◌, ◌||◌, not, Some, None}
 use Rattle.std.specs.List.{list_any, list_all}
 use Rattle.std.proofs.lemmas.Bool.{cases_Bool}
 use Rattle.ecma_literal.specs.declared.escape.Escape.{Escape}
@@ -14,7 +14,7 @@ use Rattle.ecma_spell_base.specs.declared.style.Style.{Style}
 use Rattle.ecma_spell_base.specs.Forms.{written, braced_digits}
 use Rattle.ecma_spell_string.specs.declared.quoted.Behind.{Behind}
 use Rattle.ecma_spell_string.specs.declared.quoted.Behind.TheVariants.{Other}
-use Rattle.ecma_spell_string.specs.CodePoints.{AreUnits, code_points}
+use Rattle.ecma_spell_string.specs.CodePoints.{code_points}
 use Rattle.ecma_spell_string.specs.Strings.{behind, form_of, chars_text, quote_of, quoted, keeps_raw, string_text, is_ascii, is_backslash, StringIsRead, FormattedAgain, MinifiedAlone}
 use Rattle.ecma_spell_string.proofs.StringLemmas.{quoted_is_read}
 

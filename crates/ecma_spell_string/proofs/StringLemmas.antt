@@ -1,12 +1,12 @@
 -- Quoted units are read as these units.
-use Rattle.std.proofs.Common.{◌≡◌, ℕ, ◌+◌, ◌<◌, ◌≤◌, ◌⊎◌, inl, inr, ⊎_elim, Bool, true, false, cond, List, [], ◌∷◌, ◌++◌, append_assoc, refl, sym, ap, subst, ◌∙◌, arith}
-use Rattle.std.specs.Prelude.{if◌then◌else◌, nat_lt, nat_le, ◌&&◌, ◌||◌, ◌==◌}
+use Rattle.std.proofs.Common.{◌≡◌, ℕ, ◌<◌, ◌≤◌, ⊎_elim, Bool, true, false, List, [], ◌∷◌, ◌++◌, append_assoc, refl, sym, ap, subst, ◌∙◌, arith}
+use Rattle.std.specs.Prelude.{if◌then◌else◌, nat_lt, ◌||◌, ◌==◌}
 use Rattle.std.specs.Char.Escape.{encode_utf16}
 use Rattle.std.specs.List.{flat_map, list_any}
-use Rattle.std.proofs.lemmas.Bool.{cases_Bool, lt-ltb, le-ltb, ltb-true, ltb-false, eqb-true, false≢true, or_cases, and_parts}
+use Rattle.std.proofs.lemmas.Bool.{cases_Bool, ltb-true, ltb-false, eqb-true, false≢true}
 use Rattle.std.proofs.lemmas.Bool.Decides.{nat_tests}
 use Rattle.ecma_literal.specs.Escapes.{begins, is_decimal, is_special, single}
-use Rattle.ecma_literal.specs.Strings.{Piece, Pieces, Stands, SpellsString, piece_units, has_legacy_escape, is_plain, is_quote}
+use Rattle.ecma_literal.specs.Strings.{Piece, Pieces, piece_units, has_legacy_escape, is_plain, is_quote}
 use Rattle.ecma_spell_base.specs.declared.form.Form.{Form}
 use Rattle.ecma_spell_base.specs.declared.form.Form.TheVariants.{Bare, Letter, Nul, Hex, Four, FourLower, Pair, Braced}
 use Rattle.ecma_spell_base.specs.declared.style.Style.{Style}
@@ -15,9 +15,9 @@ use Rattle.ecma_spell_base.specs.Styles.{is_below_es5, is_up_to_es5}
 use Rattle.ecma_spell_base.specs.Pieces.{IsQuoted}
 use Rattle.ecma_spell_base.proofs.FormLemmas.{form_stands}
 use Rattle.ecma_spell_string.specs.declared.quoted.Behind.{Behind}
-use Rattle.ecma_spell_string.specs.declared.quoted.Behind.TheVariants.{Other, Less, Dash, Dashes}
-use Rattle.ecma_spell_string.specs.CodePoints.{AreUnits, AreCodes, code_points}
-use Rattle.ecma_spell_string.specs.Strings.{behind, is_guarded, letter_of, is_never_bare, wide_form, lone_form, form_of, chars_text, quote_of, quoted_by, quoted, QuotedIsRead, count}
+use Rattle.ecma_spell_string.specs.declared.quoted.Behind.TheVariants.{Other}
+use Rattle.ecma_spell_string.specs.CodePoints.{AreCodes, code_points}
+use Rattle.ecma_spell_string.specs.Strings.{behind, is_guarded, letter_of, is_never_bare, wide_form, lone_form, form_of, chars_text, quote_of, QuotedIsRead, count}
 use Rattle.ecma_spell_string.proofs.CodePointLemmas.{units_again, codes_are}
 
 -- ---- parts of a string, one after the other

@@ -1,5 +1,5 @@
 -- What of a string in quotes is still to be written.
-use Rattle.std.specs.Prelude.{ℕ, List, [], ◌∷◌, encode_utf8_all}
+use Rattle.std.specs.Prelude.{ℕ, Bool, not, ◌&&◌, ◌||◌, ◌==◌, nat_le, List, [], ◌∷◌, encode_utf8_all}
 use Rattle.ecma_spell_base.specs.declared.style.Style.{Style}
 use Rattle.ecma_spell_string.specs.declared.quoted.Behind.{Behind}
 use Rattle.ecma_spell_string.specs.declared.quoted.Stage.{Stage}
@@ -15,3 +15,11 @@ left_chars style quote b Closed cs = []
 -- and their bytes
 abbrev pub left_bytes : Style → ℕ → Behind → Stage → List ℕ → List ℕ
 left_bytes style quote b stage cs = encode_utf8_all (left_chars style quote b stage cs)
+
+-- the units that stand for themselves in each string, whatever stands round them: what is printed of ASCII but for quotes
+-- and backslashes, and in a page's script but for `-`, `/`, `<` and `>`
+abbrev pub is_markup : ℕ → Bool
+is_markup c = c == 45 || (c == 47 || (c == 60 || c == 62))
+
+abbrev pub is_plain_unit : Style → ℕ → Bool
+is_plain_unit style c = (nat_le 0x20 c && nat_le c 0x7E) && (not (c == 34 || (c == 39 || c == 92)) && not (style.inline_script && is_markup c))

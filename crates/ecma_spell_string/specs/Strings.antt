@@ -1,11 +1,11 @@
 -- How strings are written (ECMA-262, 12.9.4).
-use Rattle.std.specs.Prelude.{◌≡◌, ℕ, ◌+◌, Bool, true, false, not, ◌&&◌, ◌||◌, ◌==◌, nat_lt, nat_le, if◌then◌else◌, List, [], ◌∷◌, ◌++◌, Option, Some, None, is_some, codes, bytes_eq, length, filter}
+use Rattle.std.specs.Prelude.{◌≡◌, ℕ, Bool, true, false, not, ◌&&◌, ◌||◌, ◌==◌, nat_lt, nat_le, if◌then◌else◌, List, [], ◌∷◌, ◌++◌, Option, Some, None, is_some, codes, bytes_eq, length, filter}
 use Rattle.std.specs.Char.{to_ascii_lowercase}
 use Rattle.std.specs.List.{list_all, list_any}
 use Rattle.ecma_literal.specs.Escapes.{begins, is_decimal}
 use Rattle.ecma_literal.specs.Strings.{SpellsString}
 use Rattle.ecma_spell_base.specs.declared.form.Form.{Form}
-use Rattle.ecma_spell_base.specs.declared.form.Form.TheVariants.{Bare, Letter, Nul, Hex, Four, FourLower, Pair, Braced}
+use Rattle.ecma_spell_base.specs.declared.form.Form.TheVariants.{Bare, Letter, Nul, Hex, Four, Pair, Braced}
 use Rattle.ecma_spell_base.specs.declared.style.Style.{Style}
 use Rattle.ecma_spell_base.specs.Forms.{written}
 use Rattle.ecma_spell_base.specs.Styles.{is_below_es5, is_up_to_es5}

@@ -5,7 +5,7 @@ ghost use Rattle.arrayvec.specs.ArrayString.{array_string_len};
 ghost use Rattle.ecma_literal.specs.Strings.{is_quote};
 ghost use Rattle.ecma_spell_string.specs.CodePoints.{code_points};
 ghost use Rattle.ecma_spell_string.specs.declared.quoted.Stage.TheVariants.{Inside};
-ghost use Rattle.ecma_spell_string.specs.QuotedTexts.{left_bytes};
+ghost use Rattle.ecma_spell_string.specs.QuotedTexts.{left_bytes, is_plain_unit};
 ghost use Rattle.ecma_spell_string.specs.Strings as spec;
 
 use crate::character::{behind, form_of};
@@ -98,8 +98,8 @@ struct Left<'a> {
     rest: &'a [u16],
 }
 
-/// Adds one character.
-fn push_first<'a>(
+/// Adds one character, whichever it is.
+fn push_other<'a>(
     block: &mut Block,
     style: Style,
     quote: char,
@@ -121,6 +121,42 @@ fn push_first<'a>(
     Left {
         behind: behind(style, before, code),
         rest,
+    }
+}
+
+/// Whether a unit stands for itself in each string, whatever stands round it.
+fn is_plain(style: Style, unit: u16) -> bool
+    ensures { result ≡ is_plain_unit style unit }
+{
+    matches!(unit, 0x20..=0x7E)
+        && !matches!(unit, 34 | 39 | 92)
+        && !(style.inline_script && matches!(unit, 45 | 47 | 60 | 62))
+}
+
+/// Adds one character.
+fn push_first<'a>(
+    block: &mut Block,
+    style: Style,
+    quote: char,
+    before: Behind,
+    units: &'a [u16],
+) -> Left<'a>
+    requires quote { is_quote quote ≡ true }
+    requires room { array_string_len block.old ≤ 116 }
+    requires some { 0 < length units.now }
+    ensures bytes { block.old.bytes ++ left_bytes style quote before Inside (code_points units.now)
+        ≡ block.new.bytes ++ left_bytes style quote result.behind Inside (code_points result.rest.now) }
+    ensures shorter { length result.rest.now < length units.now }
+{
+    match units {
+        [unit, rest @ ..] if is_plain(style, *unit) => {
+            block.push(char::from(*unit as u8));
+            Left {
+                behind: Behind::Other,
+                rest,
+            }
+        }
+        _ => push_other(block, style, quote, before, units),
     }
 }
 

@@ -1,15 +1,8 @@
-use Rattle.std.proofs.Common.{ℕ, List, [], ◌∷◌, ◌++◌, ap, ◌∙◌}
-use Rattle.ecma_spell_string.specs.CodePoints.{code_points}
-use Rattle.ecma_spell_string.proofs.QuotedLemmas.{push_bytes, can_write, quote_low}
+use Rattle.std.proofs.Common.{◌∷◌, [], sym, ◌∙◌, arith}
+use Rattle.ecma_spell_string.proofs.QuotedLemmas.{plain_first}
 use Rattle.ecma_spell_string.proofs.quoted.push_first.Goals as goal
 
-pub made-requires : goal.made-requires
-made-requires c =
-    can_write c.args.style c.args.quote c.in-Some.code c.args.before (code_points c.in-Some.rest.now) c.form_of-form.result c.in-Some.ensures.code
-    (quote_low c.args.quote c.requires.quote) c.form_of-form.ensures
-
-pub returns-clause-bytes : goal.returns-clause-bytes
-returns-clause-bytes c =
-    push_bytes c.args.style c.args.quote c.args.before c.in-Some.code (code_points c.in-Some.rest.now) (code_points c.args.units.now) (c.args.quote ∷ [])
-    c.args.block.now.bytes c.push_str.new.self.bytes c.made.result.bytes c.form_of-form.result c.behind.result c.in-Some.ensures.cut c.form_of-form.ensures
-    c.made.ensures (c.push_str.ensures.bytes ∙ ap (λ (l : List ℕ). c.args.block.now.bytes ++ l) c.as_str.ensures.value) c.behind.ensures
+pub returns-in-len1-up-clause-bytes : goal.returns-in-len1-up-clause-bytes
+returns-in-len1-up-clause-bytes c =
+    plain_first c.args.style c.args.quote c.args.before c.from.result c.args.units.now (c.args.quote ∷ []) c.args.block.now.bytes c.push.new.self.bytes
+    c.requires.quote c.in-len1-up.len_at_least (sym c.is_plain.ensures ∙ c.if-is_plain.true) (λ low. omega (arith, c.from.ensures, low)) c.push.ensures.ascii
