@@ -1,6 +1,10 @@
 //! The lexer as a source of tokens.
+ghost use Rattle.std.specs.Prelude.{◌≡◌, option_map, IfErr, OnErr, OnOk};
+ghost use Rattle.ecma_token.specs.declared.error.SyntaxError.TheVariants.{Memory};
+ghost use Rattle.ecma_tokens.specs.Contexts.{outward};
+ghost use Rattle.ecma_tokens.specs.Settings as spec;
 ghost use Rattle.ecma_lexing.specs.States.{Text};
-ghost use Rattle.ecma_lexer.specs.Lexer.{state_in};
+ghost use Rattle.ecma_lexer.specs.Lexer.{comments_in, state_in};
 ghost use Rattle.ecma_lexer.specs.Machine.{lexer_machine};
 
 use crate::lexer::Lexer;
@@ -24,7 +28,10 @@ impl<'a> Tokens<'a> for Lexer<'a> {
         Lexer::try_clone(self)
     }
 
-    fn set_ctx(&mut self, ctx: Context) {
+    fn set_ctx(&mut self, ctx: Context)
+        ensures state { state_in self.new ≡ record (state_in self.old) { settings = spec.with_ctx ctx (state_in self.old).settings } }
+        ensures comments { comments_in self.new ≡ comments_in self.old }
+    {
         self.settings.set_ctx(ctx);
     }
 
@@ -45,11 +52,17 @@ impl<'a> Tokens<'a> for Lexer<'a> {
     }
 
     // No token depends on it: a slash is a punctuator until it is asked for again.
-    fn set_expr_allowed(&mut self, allowed: bool) {
+    fn set_expr_allowed(&mut self, allowed: bool)
+        ensures state { state_in self.new ≡ record (state_in self.old) { settings = spec.with_expr_allowed allowed (state_in self.old).settings } }
+        ensures comments { comments_in self.new ≡ comments_in self.old }
+    {
         self.settings.expr_allowed = allowed;
     }
 
-    fn set_next_regexp(&mut self, place: Option<BytePos>) {
+    fn set_next_regexp(&mut self, place: Option<BytePos>)
+        ensures state { state_in self.new ≡ record (state_in self.old) { settings = spec.with_next_regexp (option_map (λ p. p.0) place) (state_in self.old).settings } }
+        ensures comments { comments_in self.new ≡ comments_in self.old }
+    {
         self.settings.next_regexp = place;
     }
 
@@ -61,25 +74,42 @@ impl<'a> Tokens<'a> for Lexer<'a> {
         self.settings.contexts_mut()
     }
 
-    fn set_token_context(&mut self, contexts: TokenContexts) {
+    fn set_token_context(&mut self, contexts: TokenContexts)
+        ensures state { state_in self.new ≡ record (state_in self.old) { settings = spec.with_contexts (outward contexts) (state_in self.old).settings } }
+        ensures comments { comments_in self.new ≡ comments_in self.old }
+    {
         self.settings.contexts = contexts;
     }
 
-    fn add_error(&mut self, error: Error) -> Result<(), Error> {
+    fn add_error(&mut self, error: Error) -> Result<(), Error>
+        ensures added { OnOk result (state_in self.new ≡ record (state_in self.old) { settings = spec.with_error error (state_in self.old).settings }) }
+        ensures unchanged { OnErr result (state_in self.new ≡ state_in self.old) }
+        ensures full { IfErr result (λ e. e.kind ≡ Memory) }
+        ensures comments { comments_in self.new ≡ comments_in self.old }
+    {
         match self.settings.add_error(error) {
             Ok(()) => Ok(()),
             Err(_) => Err(out_of_memory()),
         }
     }
 
-    fn add_module_mode_error(&mut self, error: Error) -> Result<(), Error> {
+    fn add_module_mode_error(&mut self, error: Error) -> Result<(), Error>
+        ensures added { OnOk result (state_in self.new ≡ record (state_in self.old) { settings = spec.with_module_error error (state_in self.old).settings }) }
+        ensures unchanged { OnErr result (state_in self.new ≡ state_in self.old) }
+        ensures full { IfErr result (λ e. e.kind ≡ Memory) }
+        ensures comments { comments_in self.new ≡ comments_in self.old }
+    {
         match self.settings.add_module_mode_error(error) {
             Ok(()) => Ok(()),
             Err(_) => Err(out_of_memory()),
         }
     }
 
-    fn take_errors(&mut self) -> Vec<Error> {
+    fn take_errors(&mut self) -> Vec<Error>
+        ensures answer { result.items ≡ (state_in self.old).settings.recorded }
+        ensures taken { state_in self.new ≡ record (state_in self.old) { settings = spec.without_errors (state_in self.old).settings } }
+        ensures comments { comments_in self.new ≡ comments_in self.old }
+    {
         self.settings.take_errors()
     }
 }
