@@ -6,6 +6,7 @@ import sys
 from pathlib import Path
 
 import build
+import equal
 import nesting
 import node_types
 import program
@@ -19,7 +20,7 @@ def main():
     root = Path(sys.argv[1]) if len(sys.argv) > 1 else HERE.parent.parent
     table = Table()
     written = {}
-    for part in (spec_tree, program, node_types, nesting, visit, visit_mut, build):
+    for part in (spec_tree, program, equal, node_types, nesting, visit, visit_mut, build):
         written.update(part.files(table))
     for name, text in written.items():
         path = root / name

@@ -1,0 +1,244 @@
+"""Writes the test of whether two trees are equal, and its proof, from the table."""
+
+from spec_tree import arguments, pattern, tree_imports
+
+CRATE = "crates/ecma_equal"
+
+# The test of equality of each type of a field, and its lemmas' stem.
+TEST = {
+    "Tree": "equal",
+    "Trees": "equal_all",
+    "Span": "equal_span",
+    "ℕ": "nat_eq",
+    "Bool": "beq",
+    "List ℕ": "bytes_eq",
+    "Option (List ℕ)": "equal_text",
+    "Option Span": "equal_place",
+    "SpecNumber": "equal_number",
+}
+
+EQUAL_HEAD = """-- Whether two trees are equal, as a test: kind by kind, and field by field.
+use Rattle.std.specs.Prelude.{ℕ, Bool, true, false, ◌&&◌, nat_eq, List, Option, Some, None, bytes_eq}
+use Rattle.std.specs.Ordering.{int_eq}
+use Rattle.std.proofs.Math.Bool.{beq}
+use Rattle.ecma_token.specs.declared.place.Span.{Span}
+use Rattle.ecma_number.specs.Numbers.{SpecNumber, Scaled, InRadix}
+"""
+
+EQUAL_PARTS = """
+abbrev pub equal_span : Span → Span → Bool
+equal_span a b = nat_eq a.lo.0 b.lo.0 && nat_eq a.hi.0 b.hi.0
+
+abbrev pub equal_place : Option Span → Option Span → Bool
+equal_place None None = true
+equal_place (Some a) (Some b) = equal_span a b
+equal_place a b = false
+
+abbrev pub equal_text : Option (List ℕ) → Option (List ℕ) → Bool
+equal_text None None = true
+equal_text (Some a) (Some b) = bytes_eq a b
+equal_text a b = false
+
+abbrev pub equal_number : SpecNumber → SpecNumber → Bool
+equal_number (Scaled digits exponent) (Scaled digits2 exponent2) = bytes_eq digits digits2 && int_eq exponent exponent2
+equal_number (InRadix radix digits) (InRadix radix2 digits2) = nat_eq radix radix2 && bytes_eq digits digits2
+equal_number a b = false
+
+abbrev mutual
+  pub equal : Tree → Tree → Bool
+"""
+
+EQUAL_TAIL = """  equal t u = false
+
+  pub equal_all : Trees → Trees → Bool
+  equal_all none none = true
+  equal_all (more t ts) (more u us) = equal t u && equal_all ts us
+  equal_all ts us = false
+"""
+
+
+def second(args):
+    return [a + "2" for a in args]
+
+
+def tests(fields, args):
+    return ["%s %s %s2" % (TEST[t], a, a) for a, (_, t) in zip(args, fields)]
+
+
+def nested(items):
+    """All of some tests."""
+    if len(items) < 3:
+        return " && ".join(items)
+    return "%s && (%s)" % (items[0], nested(items[1:]))
+
+
+def equal_module(table):
+    out = [EQUAL_HEAD, tree_imports(table), EQUAL_PARTS]
+    for name, _, fields in table.trees():
+        args = arguments(fields)
+        what = nested(tests(fields, args)) or "true"
+        out.append("  equal %s %s = %s\n" % (pattern(name, args), pattern(name, second(args)), what))
+    return "".join(out) + EQUAL_TAIL
+
+
+LEMMAS_HEAD = """-- That the test of equality is one.
+use Rattle.std.proofs.Common.{◌≡◌, ◌∙◌, ℕ, Bool, true, false, ◌&&◌, nat_eq, List, Option, Some, None, bytes_eq, refl, ap}
+use Rattle.std.specs.Ordering.{int_eq}
+use Rattle.std.specs.Bool.{Decides}
+use Rattle.std.proofs.Math.Bool.{beq}
+use Rattle.std.proofs.lemmas.Bool.Decides.{Decides-eqb, Decides-int_eq}
+use Rattle.std.proofs.lemmas.Slice.Eq.{bytes_eq-Decides}
+use Rattle.ecma_token.specs.declared.place.Span.{Span}
+use Rattle.ecma_token.specs.declared.place.BytePos.{BytePos}
+use Rattle.ecma_number.specs.Numbers.{SpecNumber, Scaled, InRadix}
+use Rattle.ecma_equal.specs.Equal.{equal_span, equal_place, equal_text, equal_number, equal, equal_all}
+"""
+
+LEMMAS_PARTS = """
+no : {A : Type 0} → false ≡ true → A
+no h = absurd cc
+
+both : {x y : Bool} → x ≡ true → y ≡ true → (x && y) ≡ true
+both h k = rw h k
+
+first : (x y : Bool) → (x && y) ≡ true → x ≡ true
+first true y h = refl
+first false y h = h
+
+rest : (x y : Bool) → (x && y) ≡ true → y ≡ true
+rest true y h = h
+rest false y h = no h
+
+same_nat_eq : (n : ℕ) → nat_eq n n ≡ true
+same_nat_eq n = (Decides-eqb n n).1 refl
+
+from_nat_eq : (n m : ℕ) → nat_eq n m ≡ true → n ≡ m
+from_nat_eq n m = (Decides-eqb n m).0
+
+same_beq : (a : Bool) → beq a a ≡ true
+same_beq true = refl
+same_beq false = refl
+
+from_beq : (a b : Bool) → beq a b ≡ true → a ≡ b
+from_beq true true h = refl
+from_beq false false h = refl
+from_beq true false h = no h
+from_beq false true h = no h
+
+same_bytes_eq : (s : List ℕ) → bytes_eq s s ≡ true
+same_bytes_eq s = (bytes_eq-Decides s s).1 refl
+
+from_bytes_eq : (s s2 : List ℕ) → bytes_eq s s2 ≡ true → s ≡ s2
+from_bytes_eq s s2 = (bytes_eq-Decides s s2).0
+
+same_equal_span : (a : Span) → equal_span a a ≡ true
+same_equal_span a = both (same_nat_eq a.lo.0) (same_nat_eq a.hi.0)
+
+abbrev span_at : ℕ → ℕ → Span
+span_at lo hi = record { lo = record { 0 = lo }; hi = record { 0 = hi } }
+
+from_equal_span : (a b : Span) → equal_span a b ≡ true → a ≡ b
+from_equal_span a b h =
+    let p = from_nat_eq a.lo.0 b.lo.0 (first (nat_eq a.lo.0 b.lo.0) (nat_eq a.hi.0 b.hi.0) h) in
+    let q = from_nat_eq a.hi.0 b.hi.0 (rest (nat_eq a.lo.0 b.lo.0) (nat_eq a.hi.0 b.hi.0) h) in
+    ap (λ n. span_at n a.hi.0) p ∙ ap (λ n. span_at b.lo.0 n) q
+
+same_equal_place : (a : Option Span) → equal_place a a ≡ true
+same_equal_place None = refl
+same_equal_place (Some a) = same_equal_span a
+
+from_equal_place : (a b : Option Span) → equal_place a b ≡ true → a ≡ b
+from_equal_place None None h = refl
+from_equal_place (Some a) (Some b) h = ap (λ s. Some s) (from_equal_span a b h)
+from_equal_place None (Some b) h = no h
+from_equal_place (Some a) None h = no h
+
+same_equal_text : (a : Option (List ℕ)) → equal_text a a ≡ true
+same_equal_text None = refl
+same_equal_text (Some a) = same_bytes_eq a
+
+from_equal_text : (a b : Option (List ℕ)) → equal_text a b ≡ true → a ≡ b
+from_equal_text None None h = refl
+from_equal_text (Some a) (Some b) h = ap (λ s. Some s) (from_bytes_eq a b h)
+from_equal_text None (Some b) h = no h
+from_equal_text (Some a) None h = no h
+
+same_equal_number : (a : SpecNumber) → equal_number a a ≡ true
+same_equal_number (Scaled digits exponent) = both (same_bytes_eq digits) ((Decides-int_eq exponent exponent).1 refl)
+same_equal_number (InRadix radix digits) = both (same_nat_eq radix) (same_bytes_eq digits)
+
+from_equal_number : (a b : SpecNumber) → equal_number a b ≡ true → a ≡ b
+from_equal_number (Scaled d e) (Scaled d2 e2) h =
+    ap (λ x. Scaled x e) (from_bytes_eq d d2 (first (bytes_eq d d2) (int_eq e e2) h)) ∙ ap (λ x. Scaled d2 x) ((Decides-int_eq e e2).0 (rest (bytes_eq d d2) (int_eq e e2) h))
+from_equal_number (InRadix r d) (InRadix r2 d2) h =
+    ap (λ x. InRadix x d) (from_nat_eq r r2 (first (nat_eq r r2) (bytes_eq d d2) h)) ∙ ap (λ x. InRadix r2 x) (from_bytes_eq d d2 (rest (nat_eq r r2) (bytes_eq d d2) h))
+from_equal_number (Scaled d e) (InRadix r d2) h = no h
+from_equal_number (InRadix r d) (Scaled d2 e) h = no h
+
+mutual
+  same_equal : (t : Tree) → equal t t ≡ true
+"""
+
+LEMMAS_MIDDLE = """
+  same_equal_all : (ts : Trees) → equal_all ts ts ≡ true
+  same_equal_all none = refl
+  same_equal_all (more t ts) = both (same_equal t) (same_equal_all ts)
+
+mutual
+  from_equal : (t u : Tree) → equal t u ≡ true → t ≡ u
+"""
+
+LEMMAS_TAIL = """  from_equal t u h = no h
+
+  from_equal_all : (ts us : Trees) → equal_all ts us ≡ true → ts ≡ us
+  from_equal_all none none h = refl
+  from_equal_all (more t ts) (more u us) h =
+      ap (λ x. more x ts) (from_equal t u (first (equal t u) (equal_all ts us) h)) ∙ ap (λ x. more u x) (from_equal_all ts us (rest (equal t u) (equal_all ts us) h))
+  from_equal_all ts us h = no h
+
+-- the test says of two trees whether they are equal
+pub equal_decides : (t u : Tree) → Decides (equal t u) (t ≡ u)
+equal_decides t u = (from_equal t u, λ h. rw h (same_equal u))
+"""
+
+
+def from_clause(name, fields, args):
+    """Each field is equal, and so the trees are."""
+    checks = tests(fields, args)
+    proof, steps = "h", []
+    for i, (a, (_, t)) in enumerate(zip(args, fields)):
+        lemma = "from_" + TEST[t]
+        last = i + 1 == len(args)
+        if last:
+            fact = proof
+        else:
+            tail = nested(checks[i + 1 :])
+            fact = "(first (%s) (%s) %s)" % (checks[i], tail, proof)
+            proof = "(rest (%s) (%s) %s)" % (checks[i], tail, proof)
+        around = second(args[:i]) + ["x"] + args[i + 1 :]
+        steps.append("ap (λ x. %s) (%s %s %s2 %s)" % (" ".join([name] + around), lemma, a, a, fact))
+    return " ∙ ".join(steps) or "refl"
+
+
+def lemmas_module(table):
+    out = [LEMMAS_HEAD, tree_imports(table), LEMMAS_PARTS]
+    for name, _, fields in table.trees():
+        args = arguments(fields)
+        facts = ["(same_%s %s)" % (TEST[t], a) for a, (_, t) in zip(args, fields)]
+        proof = facts[-1][1:-1] if facts else "refl"
+        for fact in reversed(facts[:-1]):
+            proof = "both %s (%s)" % (fact, proof)
+        out.append("  same_equal %s = %s\n" % (pattern(name, args), proof))
+    out.append(LEMMAS_MIDDLE)
+    for name, _, fields in table.trees():
+        args = arguments(fields)
+        left = "%s %s" % (pattern(name, args), pattern(name, second(args)))
+        out.append("  from_equal %s h = %s\n" % (left, from_clause(name, fields, args)))
+    return "".join(out) + LEMMAS_TAIL
+
+
+def files(table):
+    return {
+        CRATE + "/specs/Equal.antt": equal_module(table),
+        CRATE + "/proofs/EqualLemmas.antt": lemmas_module(table),
+    }
