@@ -1,116 +1,27 @@
 -- What a tree spells is read: the tree comes out of a prefix, or the loop goes on to it.
-use Rattle.std.proofs.Common.{◌≡◌, ℕ, zero, suc, ◌+◌, ◌<◌, ◌≤◌, ◌⊎◌, inl, inr, max, Bool, true, false, not, ◌&&◌, ◌||◌, ◌==◌, cond, eqb, leb, ltb, List, [], ◌∷◌, ◌++◌, length, Option, Some, None, Result, Ok, Err, refl, sym, ap, ◌∙◌, subst, ⊎_elim, true≢false, append_assoc, arith}
-use Rattle.std.proofs.lemmas.Bool.{eqb-true, eqb-false, ne_eqb, eq-eqb, cases_Bool, cases_eq, le-leb, le-ltb, lt-ltb, leb-true, and_from, and_left, or_left, false_from_ne_true}
+use Rattle.std.proofs.Common.{◌≡◌, ℕ, zero, suc, ◌+◌, ◌<◌, ◌≤◌, ◌⊎◌, inl, inr, max, Bool, true, false, not, ◌&&◌, ◌==◌, eqb, leb, ltb, List, [], ◌∷◌, ◌++◌, Option, Some, refl, sym, ap, ◌∙◌, subst, ⊎_elim, true≢false, append_assoc, arith}
+use Rattle.std.proofs.lemmas.Bool.{eq-eqb, cases_Bool, cases_eq, le-leb, le-ltb, and_from, and_left}
 use Rattle.ecma_token.specs.declared.place.Span.{Span}
-use Rattle.ecma_token.specs.Kinds.{hash_kind, async_kind, comma_kind, dot_kind, question_mark_kind, colon_kind, left_paren_kind, left_bracket_kind, right_bracket_kind, right_paren_kind, str_kind, num_kind, big_int_kind, regex_kind, function_kind, arrow_kind}
-use Rattle.ecma_token.specs.Tokens.{Quoted, Numeral, BigNumeral, Pattern}
-use Rattle.ecma_tree.specs.Tree.{Tree, Trees, none, more, pack, unpack, this_expr, null_lit, bool_lit, ident, str_lit, number_lit, big_int_lit, regex_lit, paren_expr, array_lit, unary_expr, update_expr, await_expr, bin_expr, cond_expr, seq_expr, member_expr, call_expr, computed_prop_name, ident_name, private_name, expr_or_spread, hole, absent, list}
-use Rattle.ecma_syntax.specs.Input.{text, no_name, barred, brk2, Input, Code, kind, kind2, brk, lo, rest, span, first_span, content, with_in, is_word}
-use Rattle.ecma_syntax.specs.Operators.{binary_level, right_level, operates, goes_expr, is_assign_op}
-use Rattle.ecma_syntax.specs.Shape.{level, ends, last_ends, is_private, fits_left}
+use Rattle.ecma_token.specs.Kinds.{hash_kind, async_kind, comma_kind, dot_kind, left_paren_kind, left_bracket_kind, right_bracket_kind, right_paren_kind, function_kind, arrow_kind}
+use Rattle.ecma_tree.specs.Tree.{Tree, Trees, none, more, pack, unpack, this_expr, null_lit, bool_lit, ident, str_lit, number_lit, big_int_lit, regex_lit, paren_expr, array_lit, unary_expr, update_expr, await_expr, bin_expr, cond_expr, seq_expr, member_expr, call_expr, new_expr, computed_prop_name, ident_name, private_name, expr_or_spread, hole, absent, list}
+use Rattle.ecma_syntax.specs.Input.{text, no_name, barred, brk2, Input, Code, kind, kind2, brk, lo, rest, span, first_span, with_in, is_word}
+use Rattle.ecma_syntax.specs.Operators.{binary_level, right_level, operates, goes_expr}
+use Rattle.ecma_syntax.specs.Shape.{level, ends, last_ends, fits_left}
 use Rattle.ecma_grammar.specs.Expressions.{is_update_op, is_unary_op}
 use Rattle.ecma_grammar.specs.Parts.{CommaThen, Expr}
 use Rattle.ecma_grammar.specs.Grammar.{Spells, parts}
-use Rattle.ecma_reading.specs.Source.{Fault, ◌>>=◌, unexpected, Stand, Inner, Step, go_on, finished}
-use Rattle.ecma_reading.specs.Expressions.{extended, word_by, async_by, async_group, element_step, element_by, expr_by, expr_from, loop_by, loop_step, step_by, prefix_by, literal, literal_by, elements_by, array_by}
+use Rattle.ecma_reading.specs.Source.{Stand, Inner, go_on}
+use Rattle.ecma_reading.specs.Expressions.{extended, word_by, async_by, async_group, element_step, element_by, expr_by, expr_from, loop_by, loop_step, step_by, prefix_by, elements_by, array_by}
 use Rattle.ecma_reading.specs.Reading.{readers}
-use Rattle.ecma_grammar_complete.proofs.Yields.{IsName, lm, from, len, coded, Yields, gives, then_yields, Is, then_is, Loops, loop_on, loop_end, looped, shorter}
-use Rattle.ecma_grammar_complete.proofs.Levels.{goes_comma, closed_by, comma_after, Follow, sober, sober_by, Asked, right_asked, right_five, right_most, tail, tail_high, tail_over, binary_cases, tail_stops, ends_high, fits, operated, binary_four, goes_binary, quiet, cond_no, cond_yes}
-use Rattle.ecma_grammar_complete.proofs.Trees.{Covered, CoveredAll, size, sizes, reach, reaches, begins, starts, no_kind, cut, cut_listed, as_call, ends_low, private_starts, takes, some_binary, some_update, some_word, by_unary, by_update}
+use Rattle.ecma_grammar_complete.proofs.Yields.{IsName, lm, from, len, coded, Yields, then_yields, Is, then_is, Loops, loop_on, looped, shorter}
+use Rattle.ecma_grammar_complete.proofs.Levels.{goes_comma, closed_by, comma_after, Follow, sober, sober_by, Asked, right_asked, right_five, right_most, tail, tail_high, tail_over, tail_stops, ends_high, fits, operated, binary_four, goes_binary, quiet}
+use Rattle.ecma_grammar_complete.proofs.Trees.{Covered, CoveredAll, size, sizes, reach, reaches, begins, starts, no_kind, cut, cut_listed, as_call, ends_low, takes, some_binary, some_update, some_word, by_unary, by_update}
 use Rattle.ecma_grammar_complete.proofs.Prefixes.{yields_no, yields_yes, literal_found, prefix_str, prefix_num, prefix_big, prefix_regex, prefix_this, prefix_null, prefix_true, prefix_false, prefix_unary, prefix_update, prefix_await, unary_found, update_found, await_found, prefix_ident, named_word, arrowed, no_arrow}
 use Rattle.ecma_grammar_complete.proofs.Lists.{Finds, Has, pack_unpack, elements_found, one_asked, two_asked}
 use Rattle.ecma_grammar_complete.proofs.Groups.{paren_found, group_found}
 use Rattle.ecma_grammar_complete.proofs.Steps.{step_binary, step_cond, step_index, step_member, step_call, step_update, binary_found, cond_found, index_found, named_found, call_found}
-
--- The word `async` as a name: no parenthesis follows on its line.
-abbrev pub Bare : Tree → Input → Input → Type 0
-Bare (ident s n) ts r = kind ts ≡ async_kind → kind r ≡ left_paren_kind → brk r ≡ true
-Bare _ ts r = Unit {0}
-
--- Reading comes to the loop with this tree in hand: what the loop answers is what reading answers.
-abbrev pub Comes : ℕ → ℕ → Type 1
-Comes z d = (t : Tree) (p : Bool) (c : Code) (l : ℕ) (ts r : Input) (k : List ℕ) (W : Tree × Stand Input → Type 0) (n : ℕ) → size t < z → Covered t → Spells t (coded p c) ts r → 1 ≤ l → l ≤ level t → Follow c (ends t) (tail t) r → Bare t ts r → reach t ≤ n
-    → ((j : List ℕ) → Loops (loop_step lm (readers lm d) c l (from ts k)) t r j W (suc d < n)) → Yields (expr_by lm (readers lm d) c l (from ts k)) W (suc d < n)
-
-bare_by : (t : Tree) (ts r : Input) → (kind r ≡ left_paren_kind → ⊥) → Bare t ts r
-bare_by (ident s n) ts r h = λ e q. absurd (h q)
-bare_by _ ts r h = tt
-
--- a parenthesis goes on
-paren_goes : (c : Code) (r : Input) → kind r ≡ left_paren_kind → goes_expr c 0 r ≡ 19
-paren_goes c r e = rw e refl
-
-bare_stop : (t : Tree) (c : Code) (l : ℕ) (ts r : Input) → l < 20 → goes_expr c (ends t) r < l → Bare t ts r
-bare_stop (ident s n) c l ts r le h = λ e q. let g = paren_goes c r q in absurd (omega (arith, g))
-bare_stop _ c l ts r le h = tt
-
-positive : (t : Tree) (c : Code) (ts r : Input) → Covered t → Spells t c ts r → 1 ≤ level t → 0 < reach t
-positive (update_expr s op true a) c ts r g h l = omega arith
-positive (update_expr s op false a) c ts r g h l = positive a _ ts h.0 g h.2.1 (omega (arith, h.2.0))
-positive (member_expr s o (computed_prop_name t e)) c ts r g h l = omega arith
-positive (member_expr s o k) c ts r g h l = omega (arith, positive o _ ts h.0 g.0 h.2.1 (omega (arith, h.2.0)))
-positive absent c ts r g h l = absurd (omega arith)
-positive hole c ts r g h l = absurd (omega arith)
-positive (ident_name s n) c ts r g h l = absurd (omega arith)
-positive (private_name s n) c ts r g h l = absurd (omega arith)
-positive (list xs) c ts r g h l = absurd (omega arith)
-positive (expr_or_spread s d e) c ts r g h l = absurd (omega arith)
-positive (paren_expr s e) c ts r g h l = omega arith
-positive (array_lit s xs) c ts r g h l = omega arith
-positive (unary_expr s op a) c ts r g h l = omega arith
-positive (await_expr s a) c ts r g h l = omega arith
-positive (bin_expr s op a b) c ts r g h l = omega arith
-positive (seq_expr s xs) c ts r g h l = omega arith
-positive (cond_expr s a b d) c ts r g h l = omega arith
-positive (computed_prop_name s e) c ts r g h l = omega arith
-positive (call_expr s f xs) c ts r g h l = omega arith
-positive (this_expr s) c ts r g h l = omega arith
-positive (null_lit s) c ts r g h l = omega arith
-positive (bool_lit s v) c ts r g h l = omega arith
-positive (ident s n) c ts r g h l = omega arith
-positive (str_lit s u w) c ts r g h l = omega arith
-positive (number_lit s v w) c ts r g h l = omega arith
-positive (big_int_lit s x y w) c ts r g h l = omega arith
-positive (regex_lit s e f) c ts r g h l = omega arith
-positive _ c ts r g h l = absurd g
-
-loop_stops : (inner : Inner Input) (c : Code) (l : ℕ) (start : Stand Input) (t : Tree) (r : Input) (k : List ℕ) (Q : Type 0) → goes_expr c (ends t) r < l → Loops (loop_step lm inner c l start) t r k (Is t r) Q
-unfolding loop_step
-loop_stops inner c l start t r k Q h = loop_end (loop_step lm inner c l start) t t r r k ⊥ (Is t r) Q (yields_yes (ltb (goes_expr c (ends t) r) l) _ _ _ _ (lt-ltb (goes_expr c (ends t) r) l h) (record { so = (refl, refl) })) (λ u. absurd u) (λ j. (refl, refl))
-
--- ---- what goes on
-
-quiet_binary : (c : Code) (op : ℕ) → operates c op ≡ true → quiet op ≡ true
-quiet_binary c op h = binary_cases op (quiet op ≡ true) (operated c op h)
-    (λ a b. and_from (not (op == function_kind)) _ (ap not (ne_eqb op function_kind (λ e. omega (arith, e)))) (or_left (not (is_word op)) _ (ap not (false_from_ne_true (is_word op) (λ e. let w : 80 ≤ op = leb-true 80 op e in omega arith)))))
-    (λ e. subst (λ (o : ℕ). quiet o ≡ true) (sym e) refl) (λ e. subst (λ (o : ℕ). quiet o ≡ true) (sym e) refl)
-
-far_binary : (c : Code) (op : ℕ) → operates c op ≡ true → 30 ≤ op
-far_binary c op h = binary_cases op (30 ≤ op) (operated c op h) (λ a b. omega arith) (λ e. omega arith) (λ e. omega arith)
-
-goes_question : (c : Code) (e : ℕ) (m : Input) → kind m ≡ question_mark_kind → e ≤ 1 → eqb (kind2 m) dot_kind ≡ false → goes_expr c e m ≡ 3
-goes_question c e m q le n =
-    cond_no (eqb (kind m) comma_kind) _ _ _ (subst (λ (k : ℕ). eqb k comma_kind ≡ false) (sym q) refl) (cond_no (leb 2 e) _ _ _ (false_from_ne_true (leb 2 e) (λ z. let y : 2 ≤ e = leb-true 2 e z in omega arith))
-    (cond_no (is_assign_op (kind m)) _ _ _ (subst (λ (k : ℕ). is_assign_op k ≡ false) (sym q) refl) (cond_yes (eqb (kind m) question_mark_kind) _ _ _ (eq-eqb (kind m) question_mark_kind q)
-    (cond_no ((kind2 m == dot_kind) && (e == 0)) _ _ _ (and_left (kind2 m == dot_kind) (e == 0) n) refl))))
-
-goes_update : (c : Code) (op : ℕ) (m : Input) → kind m ≡ op → is_update_op op ≡ true → brk m ≡ false → goes_expr c 0 m ≡ 17
-goes_update c op m e u b = by_update op (λ o. kind m ≡ o → goes_expr c 0 m ≡ 17) u (λ e. rw e (cond_no (brk m) 0 17 17 b refl)) (λ e. rw e (cond_no (brk m) 0 17 17 b refl)) e
-
-goes_bracket : (c : Code) (m : Input) → kind m ≡ left_bracket_kind → goes_expr c 0 m ≡ 20
-goes_bracket c m e = rw e refl
-
-goes_dot : (c : Code) (m : Input) → kind m ≡ dot_kind → goes_expr c 0 m ≡ 20
-goes_dot c m e = rw e refl
-
-finds : (z d : ℕ) → ((e : ℕ) → Comes z e) → Finds z d
-unfolding readers
-finds z zero ih t p c l ts r k sz g h one most asked le fo = record { so = positive t _ ts r g h (omega arith) }
-finds z (suc d) ih t p c l ts r k sz g h one most asked le fo = ih d t p c l ts r k (Is t r) (reach t) sz g h one le (record { stop = tail_stops t l (goes_expr c (ends t) r) le asked fo.stop; sober = fo.sober }) (bare_stop t c l ts r most fo.stop) (omega arith)
-    (λ j. loop_stops (readers lm d) c l (from ts k) t r j (suc d < reach t) fo.stop)
-
-first_at : (ts r : Input) (s : Span) → rest ts ≡ r → s ≡ span (lo ts) r.last → first_span ts ≡ s
-first_at ts r s q p = ap (λ (z : Input). span (lo ts) z.last) q ∙ sym p
+use Rattle.ecma_grammar_complete.proofs.News.{callee_of, callee_found, no_dot, bare_found, with_found}
+use Rattle.ecma_grammar_complete.proofs.Finds.{bare_by, paren_goes, quiet_binary, far_binary, goes_question, goes_update, goes_bracket, goes_dot, finds, first_at, Bare, Comes, reads}
 
 -- a call of the name `async`, which the reader of words reads whole, since its parenthesis may hold an arrow's parameters
 async_call : (inner : Inner Input) (c : Code) (ts : Input) (k : List ℕ) (q s : Span) (x : List ℕ) (xs : Trees) (r : Input) (P : Type 0) {Q : Type 0} → IsName c ts → kind ts ≡ async_kind → text ts ≡ x → q ≡ first_span ts → kind (rest ts) ≡ left_paren_kind → brk (rest ts) ≡ false
@@ -183,6 +94,8 @@ two_or (update_expr s op b a) c ts r g h l q = omega arith
 two_or (await_expr s a) c ts r g h l q = omega arith
 two_or (cond_expr s a b d) c ts r g h l q = omega arith
 two_or (call_expr s f xs) c ts r g h l q = omega arith
+two_or (new_expr s f absent) c ts r g h l q = omega arith
+two_or (new_expr s f xs) c ts r g h l q = omega arith
 two_or (this_expr s) c ts r g h l q = omega arith
 two_or (null_lit s) c ts r g h l q = omega arith
 two_or (bool_lit s v) c ts r g h l q = omega arith
@@ -366,6 +279,15 @@ module _ (z d : ℕ) (ih : (e : ℕ) → Comes z e) (p : Bool) (c : Code) (l : �
       paren_more e i.0 i.1 s h.0 h.1 r i.2 (omega arith) ne (subst (λ (y : Tree). Covered y) i.2 g) (subst (λ (y : Tree). Spells y (coded p (with_in c)) h.0 h.1) i.2 h.3.1) h.2.0 h.2.2 h.4.0 h.4.2 (no_arrow c r fo.stop) h.5)
       (λ (q : is_seq e ≡ false). paren_one e s h.0 h.1 r (omega arith) ne g (two_or e _ h.0 h.1 g h.3.1 h.3.0 q) h.3.1 h.2.0 h.2.2 h.4.0 h.4.2 (no_arrow c r fo.stop) h.5)
       (cases_Bool (is_seq e))) K
+  comes_by (new_expr s f absent) r sz g h le fo ba ne K = begin _ r (not_hash 122 h.1.0 refl) le
+      (let w = callee_of f (coded p c) h.0 r g.0 h.3 h.2 in
+      bare_found inner c ts k s f h.0 r (d < reach f) (suc d < n) h.1.0 h.1.1 h.1.3 (no_dot f (coded p c) h.0 r g.0 w h.3) (λ j. callee_found z ih p c f h.0 r d j (omega arith) g.0 w h.3 (record { stop = omega (arith, h.4); sober = fo.sober })) (λ u. omega arith) h.2 h.4 h.5) K
+  comes_by (new_expr s f (list xs)) r sz g h le fo ba ne K = begin _ r (not_hash 122 h.2.0 refl) le
+      (let w = callee_of f (coded p c) h.0 h.1 g.0 h.3.1 (inr h.3.0) in
+      with_found inner c ts k s f h.0 h.1 (d < reach f) (suc d < n) xs h.4.0 r (d < reaches xs) h.2.0 h.2.1 h.2.3 (no_dot f (coded p c) h.0 h.1 g.0 w h.3.1)
+      (λ j. callee_found z ih p c f h.0 h.1 d j (omega arith) g.0 w h.3.1 (record { stop = omega (arith, paren_goes c h.1 h.4.1.0); sober = sober_by c 7 h.1 h.4.1.0 refl })) (λ u. omega arith) h.3.0 h.4.1.0 h.4.1.2
+      (λ j. elements_found z d found p c false 8 refl refl refl xs h.4.0 r j (reaches xs) (omega arith) g.1 h.4.2 (omega arith)) (λ u. omega arith) h.5) K
+  comes_by (new_expr s f xs) r sz g h le fo ba ne K = absurd h
   comes_by (seq_expr s none) r sz g h le fo ba ne K = absurd h
   comes_by (seq_expr s (more x none)) r sz g h le fo ba ne K = absurd h
   comes_by (seq_expr s (more x (more y ys))) r sz g h le fo ba ne K =

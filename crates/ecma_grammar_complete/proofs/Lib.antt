@@ -5,4 +5,6 @@ pub mod Prefixes
 pub mod Lists
 pub mod Steps
 pub mod Groups
+pub mod Finds
+pub mod News
 pub mod Comes

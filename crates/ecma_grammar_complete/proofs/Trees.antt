@@ -41,6 +41,7 @@ abbrev mutual
   Covered (computed_prop_name s e) = Covered e
   Covered (member_expr s o k) = Covered o × Covered k × (is_private k ≡ false)
   Covered (call_expr s f xs) = Covered f × CoveredAll xs
+  Covered (new_expr s f xs) = Covered f × Covered xs
   Covered _ = ⊥
 
   pub CoveredAll : Trees → Type 0
@@ -165,6 +166,9 @@ starts (member_expr s o (computed_prop_name t e)) c ts r g l h = starts o (assig
 starts (member_expr s o (ident_name t n)) c ts r g l h = starts o (assigning c) ts h.0 g.0 (omega (arith, h.2.0)) h.2.1
 starts (member_expr s o (private_name t n)) c ts r g l h = starts o (assigning c) ts h.0 g.0 (omega (arith, h.2.0)) h.2.1
 starts (call_expr s f xs) c ts r g l h = let k = as_call s f xs c ts r g.0 h in starts f (assigning c) ts k.0 g.0 (omega (arith, k.2.0)) k.2.1
+starts (new_expr s f absent) c ts r g l h = at_kind begins (kind ts) new_kind h.1.0 refl
+starts (new_expr s f (list xs)) c ts r g l h = at_kind begins (kind ts) new_kind h.2.0 refl
+starts (new_expr s f xs) c ts r g l h = absurd h
 starts absent c ts r g l h = absurd h
 starts hole c ts r g l h = absurd h
 starts (list xs) c ts r g l h = absurd h
@@ -197,6 +201,7 @@ ends_low (paren_expr s e) c ts r g l h = omega arith
 ends_low (array_lit s xs) c ts r g l h = omega arith
 ends_low (member_expr s o k) c ts r g l h = omega arith
 ends_low (call_expr s f xs) c ts r g l h = omega arith
+ends_low (new_expr s f xs) c ts r g l h = omega arith
 ends_low absent c ts r g l h = omega arith
 ends_low hole c ts r g l h = omega arith
 ends_low (list xs) c ts r g l h = omega arith
@@ -258,6 +263,9 @@ mutual
   cut (member_expr s o (ident_name t n)) c ts r g h = omega (arith, cut o _ ts h.0 g.0 h.2.1, takes 4 h.0 h.3.0 h.3.1.0 (omega arith) h.3.1.2, shorter h.3.0 r (some_word h.3.0 h.3.2.1.0.0) h.3.2.1.0.3)
   cut (member_expr s o (private_name t n)) c ts r g h = omega (arith, cut o _ ts h.0 g.0 h.2.1, takes 4 h.0 h.3.0 h.3.1.0 (omega arith) h.3.1.2, cut (private_name t n) c h.3.0 r tt h.3.2.1)
   cut (call_expr s f xs) c ts r g h = let k = as_call s f xs c ts r g.0 h in omega (arith, cut f _ ts k.0 g.0 k.2.1, takes left_paren_kind k.0 k.3.0 k.3.1.0 (omega arith) k.3.1.2, cut_listed false c 8 xs k.3.0 r (omega arith) g.1 k.3.2)
+  cut (new_expr s f absent) c ts r g h = omega (arith, takes new_kind ts h.0 h.1.0 (omega arith) h.1.3, cut f _ h.0 r g.0 h.3)
+  cut (new_expr s f (list xs)) c ts r g h = omega (arith, takes new_kind ts h.0 h.2.0 (omega arith) h.2.3, cut f _ h.0 h.1 g.0 h.3.1, takes left_paren_kind h.1 h.4.0 h.4.1.0 (omega arith) h.4.1.2, cut_listed false c 8 xs h.4.0 r (omega arith) g.1 h.4.2)
+  cut (new_expr s f xs) c ts r g h = absurd h
   cut (member_expr s o k) c ts r g h = absurd (true≢false (sym h.3.2.0))
   cut absent c ts r g h = absurd h
   cut hole c ts r g h = absurd h

@@ -1,13 +1,14 @@
 -- What the reading function answers is spelled so: its readers at any depth, over the tokens of a list.
-use Rattle.std.specs.Prelude.{◌≡◌, ◌≤◌, ◌⊎◌, ℕ, Bool, true, Ok, Some}
+use Rattle.std.specs.Prelude.{◌≡◌, ◌≤◌, ◌⊎◌, ℕ, Bool, true, if◌then◌else◌, List, Ok, Some}
+use Rattle.ecma_token.specs.declared.syntax.EsSyntax.{EsSyntax}
 use Rattle.ecma_tree.specs.Tree.{Tree}
-use Rattle.ecma_syntax.specs.Input.{Input, Code, span, unplaced, assigning, binding}
+use Rattle.ecma_syntax.specs.Input.{Place, Input, Code, span, script_code, module_code, unplaced, assigning, binding}
 use Rattle.ecma_syntax.specs.Operators.{new_level, member_level}
 use Rattle.ecma_syntax.specs.Shape.{level, is_binding, is_item, class_span}
-use Rattle.ecma_grammar.specs.Grammar.{Spells}
+use Rattle.ecma_grammar.specs.Grammar.{Spells, Derives}
 use Rattle.ecma_reading.specs.Source.{Stand, input, list_machine}
 use Rattle.ecma_reading.specs.Modules.{program_by}
-use Rattle.ecma_reading.specs.Reading.{readers}
+use Rattle.ecma_reading.specs.Reading.{readers, read_list}
 
 -- the tokens alone, outside patterns that bind
 abbrev pub tokens : Code → Code
@@ -41,3 +42,8 @@ ClassesSound = (depth : ℕ) (c : Code) (whole : ℕ) (s : Stand Input) (t : Tre
 abbrev pub ProgramsSound : Type 0
 ProgramsSound = (depth : ℕ) (modules : Bool) (c : Code) (s : Stand Input) (t : Tree) (r : Stand Input) → program_by list_machine (readers list_machine depth) modules c s ≡ Ok (t, r)
     → Spells t (tokens c) (input list_machine s) (input list_machine r)
+
+-- what is read of a whole list: a finished tree, in which nothing of a cover is left
+abbrev pub ListsSound : Type 0
+ListsSound = (depth : ℕ) (modules : Bool) (syntax : EsSyntax) (start : ℕ) (places : List Place) (t : Tree) → read_list depth modules syntax start places ≡ Ok t
+    → (r : Input) × Derives t (tokens (if modules then module_code syntax else script_code syntax)) (record { last = start; places = places }) r

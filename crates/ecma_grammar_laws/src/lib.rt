@@ -1,11 +1,12 @@
 //! Laws of the grammar: what the reading function reads is spelled so. The functions here are laws alone.
 #![tactic(auto)]
 
-ghost use Rattle.ecma_grammar_laws.specs.Laws.{ExpressionsSound, PatternsSound, StatementsSound, ClassesSound, ProgramsSound};
+ghost use Rattle.ecma_grammar_laws.specs.Laws.{ExpressionsSound, PatternsSound, StatementsSound, ClassesSound, ProgramsSound, ListsSound};
 
 /// Law: whatever the readers answer of a list of tokens, at any depth, is spelled by the tokens from
 /// where the reading began up to where it stands: expressions of the level that was asked for,
 /// patterns that bind, statements and declarations, what follows a class's name, scripts and modules.
+/// What is read of a whole list derives: nothing of a cover is left in it.
 #[tactic(auto)]
 pub fn sound_law()
     ensures expressions { ExpressionsSound }
@@ -13,4 +14,5 @@ pub fn sound_law()
     ensures statements { StatementsSound }
     ensures classes { ClassesSound }
     ensures programs { ProgramsSound }
+    ensures lists { ListsSound }
 {}
