@@ -1,0 +1,3 @@
+-- The canonical text of tokens.
+pub mod Canonical
+pub mod Edges
