@@ -1,8 +1,8 @@
 //! Whether a node starts with a word (the crate's module `util`).
 ghost use Rattle.std.specs.Prelude.{◌≡◌};
-ghost use Rattle.ecma_tree.specs.Tree.{Tree, trees_by};
+ghost use Rattle.ecma_tree.specs.Tree.{Tree, trees_by, invalid_target};
 ghost use Rattle.ecma_node.specs.Placed.{inner};
-ghost use Rattle.ecma_node.specs.View.{unary_op_word, view_array_pat, view_arrow_expr, view_assign_target, view_binding_ident, view_callee, view_decl, view_expr_kind, view_expr_or_spread, view_ident, view_invalid, view_lit, view_member_expr, view_object_pat, view_opt_chain_base, view_opt_chain_expr, view_paren_expr, view_pat_kind, view_prop_name, view_seq_expr, view_stmt_kind, view_super_prop_expr};
+ghost use Rattle.ecma_node.specs.View.{unary_op_word, view_array_pat, view_arrow_expr, view_assign_target, view_binding_ident, view_callee, view_decl, view_expr_kind, view_expr_or_spread, view_ident, view_lit, view_member_expr, view_object_pat, view_opt_chain_base, view_opt_chain_expr, view_paren_expr, view_pat_kind, view_prop_name, view_seq_expr, view_stmt_kind, view_super_prop_expr};
 ghost use Rattle.ecma_edge.specs.Edges.{starts_with_word, alone_starts_with_word, is_word_operator};
 
 use ecma_node::{
@@ -244,6 +244,15 @@ impl<T: StartsWithAlphaNum> StartsWithAlphaNum for ArrayPatOf<T> {
 
 impl<T: StartsWithAlphaNum> StartsWithAlphaNum for ObjectPatOf<T> {
     ghost tree = { view_object_pat T.tree };
+
+    fn starts_with_alpha_num(&self) -> bool {
+        false
+    }
+}
+
+/// What could not be read, by itself: as what could not be read as a target.
+impl StartsWithAlphaNum for Invalid {
+    ghost tree = { λ x. invalid_target x.span };
 
     fn starts_with_alpha_num(&self) -> bool {
         false

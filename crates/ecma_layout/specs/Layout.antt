@@ -3,6 +3,7 @@ use Rattle.std.specs.Prelude.{ℕ, ◌+◌, Bool, true, false, not, ◌&&◌, �
 use Rattle.ecma_number.specs.Numbers.{SpecNumber}
 use Rattle.ecma_token.specs.Kinds.{new_kind}
 use Rattle.ecma_token.specs.Operators.{operator_text}
+use Rattle.ecma_token.specs.Words.{own_text}
 use Rattle.ecma_token.specs.declared.place.Span.{Span}
 use Rattle.ecma_tree.specs.Tree.{Tree, Trees, none, more, plain_method, script, es_module, import_decl, export_decl, named_export, export_default_decl, export_default_expr, export_all, import_named_specifier, import_default_specifier, import_star_as_specifier, export_namespace_specifier, export_default_specifier, export_named_specifier, block_stmt, empty_stmt, debugger_stmt, with_stmt, return_stmt, labeled_stmt, break_stmt, continue_stmt, if_stmt, switch_stmt, switch_case, throw_stmt, try_stmt, catch_clause, while_stmt, do_while_stmt, for_stmt, for_in_stmt, for_of_stmt, expr_stmt, class_decl, fn_decl, var_decl, using_decl, var_declarator, function, param, decorator, class, constructor, class_method, private_method, class_prop, private_prop, static_block, auto_accessor, ident_name, computed_prop_name, private_name, this_expr, array_lit, object_lit, fn_expr, unary_expr, update_expr, bin_expr, assign_expr, member_expr, super_prop_expr, cond_expr, call_expr, new_expr, seq_expr, ident, tpl, tpl_element, tagged_tpl, arrow_expr, class_expr, yield_expr, meta_prop_expr, await_expr, paren_expr, opt_chain_expr, opt_call, super, import, invalid, expr_or_spread, spread_element, key_value_prop, assign_prop, getter_prop, setter_prop, method_prop, str_lit, bool_lit, null_lit, number_lit, big_int_lit, regex_lit, binding_ident, array_pat, rest_pat, object_pat, assign_pat, key_value_pat_prop, assign_pat_prop, expr_pat, list, absent, hole}
 use Rattle.ecma_tree.specs.Places.{place_of}
@@ -13,7 +14,7 @@ use Rattle.ecma_layout.specs.declared.look.Stand.{Stand}
 use Rattle.ecma_layout.specs.declared.look.Stand.TheVariants.{Alone, Operand, Body, Head, Key, Tagged}
 use Rattle.ecma_layout.specs.Looks.{Laid, nothing, refused, ◌·◌, listed, text, brace, blank, line_always, semi, semi_kept, commit, when, formats, gap, line, deeper, back, gap_or, start, end, last}
 use Rattle.ecma_layout.specs.Literals.{name, key_word, hash_name, string, number, number_before_point, big_integer, quasi_bytes}
-use Rattle.ecma_layout.specs.Words.{word_of, sign_of}
+use Rattle.ecma_layout.specs.Words.{sign_of}
 
 abbrev pub marked_as_operand : Stand → Bool
 marked_as_operand Operand = false
@@ -310,7 +311,7 @@ abbrev mutual
       when (marked_as_body s) (start span) · text (codes "{") · indented look stmts (rows look true stmts) · last span · brace
   -- declarations
   laid look s (var_decl span kind decls) =
-      commit · start span · word (word_of kind) · (if starts_bracketed decls then gap look else blank) · separated look (comma look) decls
+      commit · start span · word (own_text kind) · (if starts_bracketed decls then gap look else blank) · separated look (comma look) decls
   laid look s (using_decl span is_await decls) =
       commit · start span · when is_await (word (codes "await") · blank) · word (codes "using") · blank · separated look (comma look) decls
   laid look s (var_declarator span name_ init) =
@@ -329,11 +330,11 @@ abbrev mutual
       start span · word (codes "constructor") · in_parens (separated look (comma look) params) · laid look Alone body
   laid look s (class_method span key (function at params decorators body generates waits) kind is_static) =
       start span · each look decorators · when is_static (word (codes "static") · after_static look kind generates waits key)
-      · (if kind == plain_method then method_marks waits generates else word (word_of kind) · gap_or look (starts_with_word key))
+      · (if kind == plain_method then method_marks waits generates else word (own_text kind) · gap_or look (starts_with_word key))
       · laid look Key key · in_parens (separated look (comma look) params) · gap look · laid look Alone body
   laid look s (private_method span key (function at params decorators body generates waits) kind is_static) =
       start span · when is_static (word (codes "static") · blank)
-      · (if kind == plain_method then method_marks waits generates else word (word_of kind) · blank)
+      · (if kind == plain_method then method_marks waits generates else word (own_text kind) · blank)
       · laid look Key key · function_tail look (separated look (comma look) params) (laid look Body body)
   laid look s (class_prop span key value is_static decorators) =
       start span · each look decorators · when is_static (word (codes "static") · blank) · laid look Key key · field_value look value (laid look Alone value) · semi · end span

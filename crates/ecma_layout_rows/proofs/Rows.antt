@@ -3,6 +3,7 @@ use Rattle.std.proofs.Common.{◌≡◌, ℕ, Bool, true, false, if◌then◌els
 use Rattle.std.specs.Char.{encode_utf8}
 use Rattle.std.specs.Str.{chars}
 use Rattle.ecma_token.specs.declared.version.EsVersion.TheVariants.{EsNext}
+use Rattle.ecma_token.specs.Words.{own_text}
 use Rattle.ecma_tree.specs.Tree.{Tree}
 use Rattle.ecma_write.specs.Pages.{Page, put, put_line, deeper, shallower, with_text, indented, end_line, put_mark, record_pair, moved, settled, marked}
 use Rattle.ecma_pieces.specs.Pieces.{resolved, shortened}
@@ -10,7 +11,7 @@ use Rattle.ecma_reading.specs.Source.{Fault}
 use Rattle.ecma_reading.proofs.Rows.{opened, read_text, full_syntax}
 use Rattle.ecma_layout.specs.declared.look.Look.{Look}
 use Rattle.ecma_layout.specs.Layout.{pieces, closing}
-use Rattle.ecma_layout.specs.Words.{word_of, sign_of}
+use Rattle.ecma_layout.specs.Words.{sign_of}
 
 abbrev pub blank_page : Page
 blank_page = record { out = []; depth = 0; at_start = true; marks = None; line_end = codes "\n"; indent = codes "    " }
@@ -57,5 +58,5 @@ abbrev pub Hold : List Row → Type 0
 Hold rows = wrong rows ≡ []
 
 unfoldable pub laid_out : ℕ
-unfolding opened chars encode_utf8 put put_line deeper shallower with_text indented end_line put_mark record_pair moved settled marked word_of sign_of closing script module_ script_once wrong
+unfolding opened chars encode_utf8 put put_line deeper shallower with_text indented end_line put_mark record_pair moved settled marked own_text sign_of closing script module_ script_once wrong
 laid_out = 0
