@@ -10,6 +10,7 @@ import equal
 import nesting
 import node_types
 import program
+import same
 import spec_tree
 import visit
 import visit_mut
@@ -20,7 +21,7 @@ def main():
     root = Path(sys.argv[1]) if len(sys.argv) > 1 else HERE.parent.parent
     table = Table()
     written = {}
-    for part in (spec_tree, program, equal, node_types, nesting, visit, visit_mut, build):
+    for part in (spec_tree, program, equal, node_types, nesting, visit, visit_mut, build, same):
         written.update(part.files(table))
     for name, text in written.items():
         path = root / name

@@ -1,7 +1,6 @@
 """Writes how deep each struct and enum of the code's tree goes, from the table."""
 
 from node_types import inside, snake, use_line
-from table import SORTS
 
 SRC = "crates/ecma_nesting/src"
 
@@ -35,14 +34,6 @@ class Nesting:
     def __init__(self, table):
         self.table = table
 
-    def is_tree(self, text):
-        """Whether a field of this type holds trees."""
-        for outer in ("Box", "Option", "Vec", "Hole"):
-            t = inside(text, outer)
-            if t:
-                return self.is_tree(t)
-        return text in SORTS or text in self.table.fields_of or text in self.table.variants_of
-
     def count(self, field, text):
         t = inside(text, "Vec")
         if t and inside(t, "Hole"):
@@ -52,7 +43,7 @@ class Nesting:
     def struct_body(self, name):
         if name in OWN:
             return OWN[name]
-        fields = [(f, t) for f, t in self.table.fields_of[name] if self.is_tree(t)]
+        fields = [(f, t) for f, t in self.table.fields_of[name] if self.table.is_tree(t)]
         counts = [self.count(f, t) for f, t in fields]
         if not counts:
             return ["1"]

@@ -132,6 +132,14 @@ class Table:
             return True
         return self.is_generic(text)
 
+    def is_tree(self, text):
+        """Whether a field of this type holds trees."""
+        for outer in ("Box", "Option", "Vec", "Hole"):
+            t = inside(text, outer)
+            if t:
+                return self.is_tree(t)
+        return text in SORTS or text in self.fields_of or text in self.variants_of
+
     def spec_type(self, text):
         """What a field is in the spec tree."""
         t = inside(text, "Box")

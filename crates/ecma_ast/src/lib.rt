@@ -1,15 +1,14 @@
-//! The syntax tree with all that stands on it: tokens' words and places, texts, nodes, comments, nesting, programs,
-//! walks and trees made by hand.
+//! The syntax tree with all that stands on it: tokens and places, texts, nodes, comments, nesting, walks and trees made
+//! by hand. Each is brought in by its own name: of a whole crate under a name, each function would be checked again.
 #![tactic(auto)]
 
 pub use ecma_atom::Atom;
 pub use ecma_atom::StrValue;
-pub use ecma_build as build;
+pub use ecma_build::Build;
 pub use ecma_comments::Comment;
 pub use ecma_comments::CommentKind;
 pub use ecma_comments::Comments;
 pub use ecma_nesting::Nesting;
-pub use ecma_node as node;
 pub use ecma_node::ArrayLit;
 pub use ecma_node::ArrayLitOf;
 pub use ecma_node::ArrayPat;
@@ -254,22 +253,45 @@ pub use ecma_node::WithStmt;
 pub use ecma_node::WithStmtOf;
 pub use ecma_node::YieldExpr;
 pub use ecma_node::YieldExprOf;
-pub use ecma_program as program;
-pub use ecma_token as token;
+pub use ecma_same::Same;
+pub use ecma_same::same_program;
 pub use ecma_token::AssignOp;
+pub use ecma_token::BinOpToken;
 pub use ecma_token::BinaryOp;
 pub use ecma_token::BytePos;
+pub use ecma_token::Context;
+pub use ecma_token::Counted;
+pub use ecma_token::CountedRead;
+pub use ecma_token::CountedWrite;
 pub use ecma_token::DUMMY_SP;
+pub use ecma_token::Error;
+pub use ecma_token::EsConfig;
+pub use ecma_token::EsSyntax;
+pub use ecma_token::EsVersion;
+pub use ecma_token::Failing;
+pub use ecma_token::IdentKind;
+pub use ecma_token::IdentLike;
+pub use ecma_token::JscTarget;
+pub use ecma_token::Keyword;
+pub use ecma_token::KnownIdent;
+pub use ecma_token::LineCol;
 pub use ecma_token::NumValue;
 pub use ecma_token::Span;
 pub use ecma_token::Spanned;
-pub use ecma_visit as visit;
+pub use ecma_token::Syntax;
+pub use ecma_token::SyntaxError;
+pub use ecma_token::Token;
+pub use ecma_token::TokenAndSpan;
+pub use ecma_token::TokenKind;
+pub use ecma_token::Units;
+pub use ecma_token::UnknownWord;
+pub use ecma_token::Word;
+pub use ecma_token::WordKind;
 pub use ecma_visit::Hooks;
 pub use ecma_visit::Kind;
 pub use ecma_visit::Node;
 pub use ecma_visit::Visit;
 pub use ecma_visit::Walk;
 pub use ecma_visit::Watch;
-pub use ecma_visit_mut as visit_mut;
 pub use ecma_visit_mut::VisitMut;
 pub use ecma_visit_mut::VisitMutWith;

@@ -1,0 +1,143 @@
+//! Trees that go as deep as a program may, and chains of a million links: made, measured, gone over, changed and dropped on
+//! the stack of the main thread. A walk and a change take a level for each link, so chains are only measured and dropped.
+ghost use Rattle.ecma_node.specs.Placed.{holds_expr, holds_stmt};
+
+use crate::made::{empty, ok, var};
+use crate::places::Places;
+use ecma_build::Build;
+use ecma_nesting::Nesting;
+use ecma_node::{BlockStmt, ExprBox, Function, StmtBox};
+use ecma_token::{BinaryOp, DUMMY_SP};
+use ecma_visit::{Node, Walk, Watch};
+use ecma_visit_mut::VisitMutWith;
+use std::process::Abort;
+
+/// What stands round an expression.
+#[derive(Clone, Copy)]
+enum Shape {
+    Paren,
+    Array,
+    Function,
+    Sum,
+}
+
+/// What stands round a statement.
+#[derive(Clone, Copy)]
+enum Frame {
+    Block,
+    ElseIf,
+}
+
+/// Counts the nodes that are entered.
+#[derive(Drop)]
+struct Count {
+    nodes: u64,
+}
+
+impl Watch for Count {
+    ghost State = { Unit {0} };
+
+    ghost step = { λ event s. s };
+
+    ghost state = { λ count. tt };
+
+    fn enter(&mut self, _node: Node<'_>) {
+        self.nodes = self.nodes.saturating_add(1);
+    }
+
+    fn leave(&mut self, _node: Node<'_>) {}
+}
+
+/// `a` in so many of a shape.
+fn exprs(rt: &impl Abort, b: &Build, shape: Shape, count: u32) -> ExprBox
+    ensures { holds_expr result.part.value }
+{
+    let mut expr = var(rt, b);
+    for _i in 0..count {
+        expr = expr_in(rt, b, shape, expr);
+    }
+    expr
+}
+
+/// An expression in one of a shape.
+fn expr_in(rt: &impl Abort, b: &Build, shape: Shape, expr: ExprBox) -> ExprBox
+    requires { holds_expr expr.part.value }
+    ensures { holds_expr result.part.value }
+{
+    let made = match shape {
+        Shape::Paren => b.paren_expr(expr),
+        Shape::Array => b.array_lit(ok(rt, vec![in b.alloc; Some(b.arg(expr))])),
+        Shape::Function => return function(rt, b, expr),
+        Shape::Sum => b.bin_expr(BinaryOp::Add, expr, var(rt, b)),
+    };
+    ok(rt, made)
+}
+
+/// `function () { expr; }`.
+fn function(rt: &impl Abort, b: &Build, expr: ExprBox) -> ExprBox
+    requires { holds_expr expr.part.value }
+    ensures { holds_expr result.part.value }
+{
+    let stmt = ok(rt, b.expr_stmt(expr));
+    let body = BlockStmt {
+        span: DUMMY_SP,
+        stmts: ok(rt, vec![in b.alloc; stmt]),
+    };
+    let function = Function {
+        span: DUMMY_SP,
+        params: Vec::new(b.alloc),
+        decorators: Vec::new(b.alloc),
+        body,
+        is_generator: false,
+        is_async: false,
+    };
+    ok(rt, b.fn_expr(None, ok(rt, Box::new(b.alloc, function))))
+}
+
+/// `;` in so many of a frame.
+fn stmts(rt: &impl Abort, b: &Build, frame: Frame, count: u32) -> StmtBox
+    ensures { holds_stmt result.part.value }
+{
+    let mut stmt = empty(rt, b);
+    for _i in 0..count {
+        let made = match frame {
+            Frame::Block => b.block_stmt(ok(rt, vec![in b.alloc; stmt])),
+            Frame::ElseIf => b.if_stmt(var(rt, b), empty(rt, b), Some(stmt)),
+        };
+        stmt = ok(rt, made);
+    }
+    stmt
+}
+
+/// Measures a tree, goes over it and changes it. It has as many nodes as levels.
+fn check<T: Walk + VisitMutWith + Nesting>(rt: &impl Abort, tree: &mut T, levels: u32) {
+    assert_eq!(rt; tree.nesting(), levels);
+    let mut count = Count { nodes: 0 };
+    tree.walk(&mut count);
+    assert_eq!(rt; count.nodes, levels as u64);
+    let mut places = Places { given: 0 };
+    tree.visit_mut_with(&mut places);
+    assert_eq!(rt; places.given, levels);
+}
+
+#[test]
+fn deep_trees(rt: HostRuntime) {
+    let b = &Build { alloc: rt.alloc() };
+    let mut tree = exprs(&rt, b, Shape::Paren, 4_095);
+    check(&rt, tree.get_mut(), 4_096);
+    let mut tree = exprs(&rt, b, Shape::Array, 2_047);
+    check(&rt, tree.get_mut(), 4_095);
+    let mut tree = exprs(&rt, b, Shape::Function, 1_023);
+    check(&rt, tree.get_mut(), 4_093);
+    let mut tree = stmts(&rt, b, Frame::Block, 4_095);
+    check(&rt, tree.get_mut(), 4_096);
+}
+
+#[test]
+fn long_chains(rt: HostRuntime) {
+    let b = &Build { alloc: rt.alloc() };
+    let sum = exprs(&rt, b, Shape::Sum, 1_000_000);
+    assert_eq!(rt; sum.nesting(), 2);
+    let branches = stmts(&rt, b, Frame::ElseIf, 1_000_000);
+    assert_eq!(rt; branches.nesting(), 2);
+}

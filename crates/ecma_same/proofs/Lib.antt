@@ -1,0 +1,11 @@
+pub mod Apart
+pub mod Chains
+pub mod KeyLemmas
+pub mod Knots
+pub mod Lists
+pub mod Mixed
+pub mod Opened
+pub mod Rules
+pub mod Spellings
+pub mod Steps
+pub mod WordLemmas
