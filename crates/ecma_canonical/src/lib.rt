@@ -8,6 +8,7 @@ ghost use Rattle.ecma_token.specs.Kinds.{hash_kind, template_kind};
 ghost use Rattle.ecma_token.specs.TokenViews.{token_view};
 ghost use Rattle.ecma_tokens.specs.Machine.{shown_spot, without_fault};
 ghost use Rattle.ecma_canonical.specs.Edges.{edge_in};
+ghost use Rattle.ecma_canonical.specs.Laws.{CanonicalStays};
 ghost use Rattle.ecma_canonical.specs.Canonical as spec;
 
 use ecma_token::{BytePos, Error, Span, Token, TokenAndSpan};
@@ -147,3 +148,9 @@ pub fn canonical_text(
         Err(error) => Err(out_of_memory(error)),
     }
 }
+
+/// Law: a canonical text has the tokens of which it was written, with the same own bytes, each in its new place, and of
+/// these tokens it is the canonical text again.
+pub fn a_canonical_text_is_its_own()
+    ensures { CanonicalStays }
+{}

@@ -1,16 +1,18 @@
 //! A source that keeps the tokens that another hands out.
 ghost use Rattle.std.specs.Prelude.{◌≡◌, ◌<◌, ◌≤◌, [], map, IfOk, MatchOption, OnOk};
 ghost use Rattle.ecma_tokens.specs.Machine.{SameTold, StepGives, shown_spot};
-ghost use Rattle.ecma_input.specs.Captures.{captured_with, without_reread};
+ghost use Rattle.ecma_input.specs.Captures.{captured_with, is_slash_at, without_reread};
 
 use crate::copies::{clone_token, clone_tokens};
-use ecma_token::{BytePos, Context, Error, EsVersion, Syntax, TokenAndSpan};
+use ecma_token::{
+    AssignOp, BinOpToken, BytePos, Context, Error, EsVersion, Syntax, Token, TokenAndSpan,
+};
 use ecma_tokens::settings::out_of_memory;
 use ecma_tokens::{TokenContexts, Tokens};
 use std::alloc::{AllocError, Global};
 
-/// A source of tokens that keeps each token that it hands out. A token that is read again, as a slash
-/// that opens a regular expression, takes the place of its first reading. A clone copies what is kept.
+/// A source of tokens that keeps each token that it hands out. What a slash is when it is read again takes
+/// the place of its first reading. A clone copies what is kept.
 #[derive(Debug, Drop)]
 pub struct Capturing<'a, I> {
     alloc: Global,
@@ -18,7 +20,18 @@ pub struct Capturing<'a, I> {
     captured: Vec<TokenAndSpan<'a>>,
 }
 
-/// Leaves the last token where it begins at the place or behind it, since it is read again.
+/// Whether a token is a slash that begins at this place.
+fn is_slash_at(token: &TokenAndSpan<'_>, lo: BytePos) -> bool
+    ensures { result ≡ is_slash_at lo.0 (shown_spot token.now) }
+{
+    let is_slash = matches!(
+        &token.token,
+        Token::BinOp(BinOpToken::Div) | Token::AssignOp(AssignOp::DivAssign)
+    );
+    is_slash && token.span.lo.0 == lo.0
+}
+
+/// Leaves the last token where it is a slash at this place, since it is read again.
 ///
 /// # Errors
 ///
@@ -30,7 +43,7 @@ fn leave_reread(captured: &mut Vec<TokenAndSpan<'_>>, lo: BytePos) -> Result<(),
     let Some(last) = captured.pop() else {
         return Ok(());
     };
-    if last.span.lo.0 < lo.0 {
+    if !is_slash_at(&last, lo) {
         captured.push(last)?;
     }
     Ok(())

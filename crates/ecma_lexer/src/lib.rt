@@ -7,4 +7,7 @@ mod last;
 pub mod lexer;
 mod step;
 
+pub use ecma_canonical::canonical_text;
+pub use ecma_scan::CharExt;
+pub use ecma_tokens::{TokenContext, TokenContexts, Tokens};
 pub use lexer::Lexer;

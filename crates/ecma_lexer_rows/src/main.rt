@@ -1,7 +1,10 @@
 //! Rows of the lexer: texts and steps, and the tokens that they give.
 #![tactic(auto)]
 
+mod again;
+mod ahead;
 mod run;
+mod steps;
 mod told;
 
 use ecma_rows::{Answer, Row, Subject, judge_files};
@@ -19,13 +22,14 @@ impl Subject for Lexing {
         let Some(text) = row.text(0) else {
             return Err(anyhow::Error::msg("no text"));
         };
-        if !row.has("steps") {
-            return run::to_the_end(row, text, answer);
+        let steps = row.text(1).unwrap_or_default();
+        if row.has("buffer") {
+            return ahead::by_steps(row, text, steps, answer);
         }
-        match row.text(1) {
-            Some(steps) => run::by_steps(row, text, steps, answer),
-            None => Err(anyhow::Error::msg("no steps")),
+        if row.has("steps") {
+            return run::by_steps(row, text, steps, answer);
         }
+        run::to_the_end(row, text, answer)
     }
 }
 

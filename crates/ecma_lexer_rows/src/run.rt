@@ -1,10 +1,13 @@
-//! Runs of a lexer over a text.
+//! Runs of a lexer over a text, alone and as the sources above it hand its tokens on.
 
-use crate::told::{failed, tell, tell_comments, tell_end, tell_faults};
-use ecma_lexer::Lexer;
+use crate::again::read_again;
+use crate::ahead::tell_ahead;
+use crate::steps;
+use crate::told::{failed, tell, tell_comments, tell_faults, tell_list};
+use ecma_input::{Capturing, TokensInput};
+use ecma_lexer::{Lexer, Tokens, canonical_text};
 use ecma_rows::{Answer, Row};
-use ecma_token::{BytePos, Context, Error, EsVersion, Span, Syntax, SyntaxError};
-use ecma_tokens::{TokenContext, TokenContexts, Tokens};
+use ecma_token::{BytePos, Context, EsVersion, Syntax, Token, TokenAndSpan};
 use std::alloc::Global;
 
 /// The code round the text, by the words of the setting.
@@ -17,13 +20,13 @@ fn context(row: &Row<'_>) -> Context {
 }
 
 /// A lexer at the start of a text, whose first place is 1.
-fn lexer<'a>(row: &Row<'_>, text: &'a str, answer: &Answer) -> anyhow::Result<Lexer<'a>> {
+pub fn lexer<'a>(row: &Row<'_>, text: &'a str, alloc: Global) -> anyhow::Result<Lexer<'a>> {
     if text.len() > 1_000_000 {
         return failed("too long");
     }
     let syntax = Syntax::default();
     let mut lexer = Lexer::new(
-        answer.alloc(),
+        alloc,
         syntax,
         EsVersion::latest(),
         text,
@@ -34,111 +37,145 @@ fn lexer<'a>(row: &Row<'_>, text: &'a str, answer: &Answer) -> anyhow::Result<Le
     Ok(lexer)
 }
 
-/// Adds the tokens that come, up to the end.
-fn tell_rest<'a>(
-    mut lexer: Lexer<'a>,
-    text: &str,
-    mut out: String,
-    answer: &mut Answer,
-) -> anyhow::Result<()> {
+/// Adds the tokens that come, up to the end, of which there are two a byte at most. The end comes again.
+fn tell_rest<'a, I: Tokens<'a>>(input: &mut I, text: &str, out: &mut String) -> anyhow::Result<()> {
     for _ in 0..text.len().saturating_mul(2).saturating_add(2) {
-        match lexer.next()? {
-            Some(token) => tell(&token, text, &mut out)?,
+        match input.next()? {
+            Some(token) => tell(&token, text, out)?,
             None => {
-                if lexer.next()?.is_some() {
-                    return failed("a token behind the end");
-                }
-                answer.say(out.as_str())?;
-                let Ok(len) = u32::try_from(text.len()) else {
-                    return failed("too long");
+                return match input.next()? {
+                    Some(_) => failed("a token behind the end"),
+                    None => Ok(()),
                 };
-                tell_comments(&mut lexer.take_comments(), len, answer)?;
-                return tell_faults(lexer.take_errors().as_slice(), answer);
             }
         }
     }
     failed("more than two tokens a byte")
 }
 
-/// The tokens of a whole text.
-pub fn to_the_end(row: &Row<'_>, text: &str, answer: &mut Answer) -> anyhow::Result<()> {
-    let lexer = lexer(row, text, answer)?;
-    let out = String::new(answer.alloc());
-    tell_rest(lexer, text, out, answer)
+/// Reads a text by steps and then up to the end, and answers the source at its end.
+fn read_by<'a, I: Tokens<'a> + Drop>(
+    source: I,
+    text: &str,
+    steps: &str,
+    alloc: Global,
+    out: &mut String,
+) -> anyhow::Result<I> {
+    let mut input = steps::by_steps(source, text, steps, alloc, out)?;
+    tell_rest(&mut input, text, out)?;
+    Ok(input)
 }
 
-/// The place that a step names.
-fn place(step: &str) -> anyhow::Result<BytePos> {
-    match step.parse::<u32>() {
-        Ok(place) => Ok(BytePos(place)),
-        Err(_) => failed("no place"),
+/// Adds what the row expects: the tokens of a text by steps and then up to the end, comments and faults.
+fn tell_all(
+    row: &Row<'_>,
+    text: &str,
+    steps: &str,
+    answer: &mut Answer,
+    out: &mut String,
+) -> anyhow::Result<()> {
+    let alloc = answer.alloc();
+    let mut lexer = read_by(lexer(row, text, alloc)?, text, steps, alloc, out)?;
+    let Ok(len) = u32::try_from(text.len()) else {
+        return failed("too long");
+    };
+    if row.has("canonical") {
+        return Ok(());
     }
+    answer.say(out.as_str())?;
+    tell_comments(&mut lexer.take_comments(), len, answer)?;
+    tell_faults(lexer.take_errors().as_slice(), answer)
 }
 
-/// A fault to be recorded.
-fn some_fault() -> Error {
-    Error {
-        span: Span {
-            lo: BytePos(1),
-            hi: BytePos(2),
-        },
-        kind: SyntaxError::Unexpected,
+/// The tokens that are kept where they are handed out in the same way.
+fn kept<'a>(
+    row: &Row<'_>,
+    text: &'a str,
+    steps: &str,
+    told: &str,
+    alloc: Global,
+) -> anyhow::Result<Vec<TokenAndSpan<'a>>> {
+    let mut out = String::new(alloc);
+    let source = Capturing::new(alloc, lexer(row, text, alloc)?);
+    let mut input = read_by(source, text, steps, alloc, &mut out)?;
+    if out.as_str() != told {
+        return failed("a source that keeps its tokens hands out others");
     }
+    Ok(input.take())
 }
 
-/// Contexts with a template alone.
-fn in_template(alloc: Global) -> anyhow::Result<TokenContexts> {
-    let mut contexts = TokenContexts::new(alloc);
-    contexts.push(TokenContext::Tpl)?;
-    Ok(contexts)
+/// The tokens as a list hands them out.
+fn from_list<'a>(
+    tokens: Vec<TokenAndSpan<'a>>,
+    ctx: Context,
+    text: &str,
+    alloc: Global,
+) -> anyhow::Result<String> {
+    let mut out = String::new(alloc);
+    let mut input = TokensInput::new(alloc, tokens, ctx, Syntax::default(), EsVersion::latest());
+    tell_rest(&mut input, text, &mut out)?;
+    Ok(out)
 }
 
-/// Does what a step says with faults and contexts, or says that it is none of these.
-fn record(lexer: &mut Lexer<'_>, step: &str, answer: &Answer) -> anyhow::Result<bool> {
-    match step {
-        "fault" => lexer.add_error(some_fault())?,
-        "wait" => lexer.add_module_mode_error(some_fault())?,
-        "take" => drop(lexer.take_errors()),
-        "template" => lexer.set_token_context(in_template(answer.alloc())?),
-        "leave" => {
-            lexer.token_context_mut().pop();
-        }
-        _ => return Ok(false),
+/// Whether a text was read without a fault.
+fn is_clean(tokens: &[TokenAndSpan<'_>]) -> bool {
+    !tokens
+        .iter()
+        .any(|token| matches!(&token.token, Token::Error(_)))
+}
+
+/// The canonical text, which has the same tokens and is its own.
+fn canonical(
+    row: &Row<'_>,
+    text: &str,
+    tokens: &[TokenAndSpan<'_>],
+    alloc: Global,
+) -> anyhow::Result<String> {
+    let canonical = canonical_text(alloc, text, tokens)?;
+    let source = lexer(row, canonical.as_str(), alloc)?;
+    let again = read_again(source, tokens, alloc)?;
+    let told = tell_list(again.as_slice(), canonical.as_str(), alloc)?;
+    if told != tell_list(tokens, text, alloc)? {
+        return failed("the canonical text has other tokens");
     }
-    Ok(true)
+    let of_it = canonical_text(alloc, canonical.as_str(), again.as_slice())?;
+    drop(again);
+    if of_it != canonical {
+        return failed("the canonical text has another one");
+    }
+    Ok(canonical)
 }
 
-/// Tells of the context, or asks for a slash.
-fn set(lexer: &mut Lexer<'_>, step: &str) -> anyhow::Result<()> {
-    let mut ctx = lexer.ctx();
-    match step {
-        "strict" => ctx.strict = true,
-        "sloppy" => ctx.strict = false,
-        "module" => ctx.module_ = true,
-        "withdraw" => lexer.set_next_regexp(None),
-        _ => {
-            let place = place(step)?;
-            lexer.set_next_regexp(Some(place));
-        }
+/// The tokens of a text by steps, and then up to the end; or its canonical text.
+pub fn by_steps(row: &Row<'_>, text: &str, steps: &str, answer: &mut Answer) -> anyhow::Result<()> {
+    let alloc = answer.alloc();
+    let mut told = String::new(alloc);
+    tell_all(row, text, steps, answer, &mut told)?;
+    let tokens = kept(row, text, steps, told.as_str(), alloc)?;
+    if row.has("canonical") {
+        answer.say(canonical(row, text, tokens.as_slice(), alloc)?)?;
     }
-    lexer.set_ctx(ctx);
     Ok(())
 }
 
-/// The tokens of a text by steps, and then up to the end.
-pub fn by_steps(row: &Row<'_>, text: &str, steps: &str, answer: &mut Answer) -> anyhow::Result<()> {
-    let mut lexer = lexer(row, text, answer)?;
-    let mut out = String::new(answer.alloc());
-    for step in steps.split(' ') {
-        match step {
-            "next" => match lexer.next()? {
-                Some(token) => tell(&token, text, &mut out)?,
-                None => tell_end(&mut out)?,
-            },
-            "clone" => lexer = lexer.try_clone()?,
-            _ if record(&mut lexer, step, answer)? => {}
-            _ => set(&mut lexer, step)?,
+/// The tokens of a whole text, or its canonical text. A buffer, a list and a source that keeps tokens hand
+/// out the same ones.
+pub fn to_the_end(row: &Row<'_>, text: &str, answer: &mut Answer) -> anyhow::Result<()> {
+    let alloc = answer.alloc();
+    let mut told = String::new(alloc);
+    tell_all(row, text, "", answer, &mut told)?;
+    let tokens = kept(row, text, "", told.as_str(), alloc)?;
+    if is_clean(tokens.as_slice()) {
+        let canonical = canonical(row, text, tokens.as_slice(), alloc)?;
+        if row.has("canonical") {
+            answer.say(canonical)?;
         }
     }
-    tell_rest(lexer, text, out, answer)
+    if from_list(tokens, context(row), text, alloc)? != told {
+        return failed("a list hands out other tokens");
+    }
+    if tell_ahead(lexer(row, text, alloc)?, text, alloc)? != told {
+        return failed("a buffer hands out other tokens");
+    }
+    Ok(())
 }

@@ -3,6 +3,7 @@
 use ecma_comments::{Comment, CommentKind, Comments};
 use ecma_rows::Answer;
 use ecma_token::{BytePos, Error, Span, Token, TokenAndSpan};
+use std::alloc::Global;
 use std::convert::AsStr;
 use std::fmt::Write;
 
@@ -50,6 +51,37 @@ pub fn tell_end(out: &mut String) -> anyhow::Result<()> {
 
 /// Adds a token: `^` where a line break stands before it, its sort, and its own bytes.
 pub fn tell(token: &TokenAndSpan<'_>, text: &str, out: &mut String) -> anyhow::Result<()> {
+    part(out)?;
+    tell_token(token, text, out)
+}
+
+/// Adds a token that waits, or that none does, with a word before it.
+pub fn tell_as(
+    word: &str,
+    token: Option<&TokenAndSpan<'_>>,
+    text: &str,
+    out: &mut String,
+) -> anyhow::Result<()> {
+    part(out)?;
+    out.push_str(word)?;
+    out.push_str(" ")?;
+    match token {
+        Some(token) => tell_token(token, text, out),
+        None => Ok(out.push_str("none")?),
+    }
+}
+
+/// The tokens of a list, as `tell` has them.
+pub fn tell_list(tokens: &[TokenAndSpan<'_>], text: &str, alloc: Global) -> anyhow::Result<String> {
+    let mut out = String::new(alloc);
+    for token in tokens {
+        tell(token, text, &mut out)?;
+    }
+    Ok(out)
+}
+
+/// Adds a token behind what was told.
+fn tell_token(token: &TokenAndSpan<'_>, text: &str, out: &mut String) -> anyhow::Result<()> {
     let lo = (token.span.lo.0 as usize).wrapping_sub(1);
     let hi = (token.span.hi.0 as usize).wrapping_sub(1);
     let Some(own) = text.get(lo..hi) else {
@@ -58,7 +90,6 @@ pub fn tell(token: &TokenAndSpan<'_>, text: &str, out: &mut String) -> anyhow::R
     if is_shortened(&token.token, own) != (letter(&token.token) == "W" && own.contains('\\')) {
         return failed("a word is shorter than its own bytes where it has an escape");
     }
-    part(out)?;
     let mark = if token.had_line_break { "^" } else { "" };
     write!(out, "{mark}{}", letter(&token.token))?;
     match &token.token {

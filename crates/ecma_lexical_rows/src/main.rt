@@ -1,13 +1,17 @@
-//! Rows of the lexical layer: the pieces between literals, literals and whole tokens at the front of a text.
-//! `docs/ROWS.md` has the format, and the comments in `data/` say what each subject answers.
+//! Rows of the lexical layer: values of numbers, words, code units; the pieces between literals, literals and
+//! whole tokens at the front of a text; and rows themselves. `docs/ROWS.md` has the format, and the comments in
+//! `data/` say what each subject answers.
 #![tactic(auto)]
 
 mod classes;
+mod format;
+mod kinds;
 mod literals;
 mod names;
 mod tokens;
 mod told;
 mod trivia;
+mod values;
 
 use ecma_rows::{Answer, Row, Subject, judge_files};
 use std::process::ExitCode;
@@ -15,12 +19,30 @@ use std::process::ExitCode;
 /// The lexical layer.
 struct Lexical;
 
+/// Answers a row of what every layer speaks of, or of rows.
+fn answer_base(row: &Row<'_>, text: &str, answer: &mut Answer) -> anyhow::Result<()> {
+    match row.subject() {
+        "value" => values::value(text, answer),
+        "same" => values::same(text, row.text(1).unwrap_or_default(), answer),
+        "groups" => values::groups(text, answer),
+        "kind" => kinds::kind(text, answer),
+        "reserving" => kinds::reserving(text, answer),
+        "units" => kinds::units(text, answer),
+        "field" => format::field(text, answer),
+        "rows" => format::rows(text, answer),
+        _ => Err(anyhow::Error::msg("no such subject")),
+    }
+}
+
 impl Subject for Lexical {
-    fn asked(&self, _row: &Row<'_>) -> usize {
-        1
+    fn asked(&self, row: &Row<'_>) -> usize {
+        if row.subject() == "same" { 2 } else { 1 }
     }
 
     fn answer(&self, row: &Row<'_>, answer: &mut Answer) -> anyhow::Result<()> {
+        if row.subject() == "shown" {
+            return format::shown(row.bytes(0), answer);
+        }
         let text = told::asked(row)?;
         match row.subject() {
             "bytes" => classes::bytes(text, answer),
@@ -46,7 +68,7 @@ impl Subject for Lexical {
             "count" => tokens::count(row, text, answer),
             "context" => tokens::context(row, text, answer),
             "reserved" => tokens::reserved(text, answer),
-            _ => Err(anyhow::Error::msg("no such subject")),
+            _ => answer_base(row, text, answer),
         }
     }
 }

@@ -1,7 +1,7 @@
 //! Tests of names.
 
-use crate::plain_pieces::{is_opening, names};
-use crate::texts::{string_of, text_of};
+use ecma_plain::pieces::{is_opening, names};
+use ecma_plain::texts::{string_of, text_of};
 use ecma_scan::identifier_name;
 use std::test::Fail;
 

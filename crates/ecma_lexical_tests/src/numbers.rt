@@ -2,9 +2,9 @@
 
 ghost use Rattle.std.specs.Prelude.{◌<◌, ◌^◌};
 
-use crate::plain_numbers::{Form, longest};
-use crate::texts::{string_of, text_of, texts_of};
 use ecma_literal::{Numeral, NumericLiteral, begins_number, read_number};
+use ecma_plain::numbers::{Form, longest};
+use ecma_plain::texts::{string_of, text_of, texts_of};
 use ecma_scan::CharExt;
 use ecma_token::{Error, SyntaxError};
 use std::alloc::Global;

@@ -1,7 +1,7 @@
 //! Tests of punctuators.
 
-use crate::spellings::longest;
-use crate::texts::{string_of, text_of};
+use ecma_plain::spellings::longest;
+use ecma_plain::texts::{string_of, text_of};
 use ecma_scan::punctuator;
 use std::alloc::Global;
 use std::process::Abort;

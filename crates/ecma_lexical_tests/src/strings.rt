@@ -1,8 +1,8 @@
 //! Tests of strings.
 
-use crate::plain_strings::{Meaning, string_pieces};
-use crate::texts::{push_meaning, string_of, text_of, texts_of, units};
 use ecma_literal::{StringLiteral, read_string};
+use ecma_plain::strings::{Meaning, string_pieces};
+use ecma_plain::texts::{push_meaning, string_of, text_of, texts_of, units};
 use ecma_scan::characters::pop;
 use ecma_token::Error;
 use std::alloc::{AllocError, Global};

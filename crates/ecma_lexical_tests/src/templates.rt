@@ -1,8 +1,8 @@
 //! Tests of pieces of templates.
 
-use crate::plain_strings::{Meaning, template_parts};
-use crate::texts::{push_meaning, string_of, text_of, texts_of, units};
 use ecma_literal::{Ending, TemplatePiece, read_template};
+use ecma_plain::strings::{Meaning, template_parts};
+use ecma_plain::texts::{push_meaning, string_of, text_of, texts_of, units};
 use ecma_token::Error;
 use std::alloc::{AllocError, Global};
 use std::process::Abort;

@@ -1,11 +1,11 @@
 //! The reader of tokens and the slow, plain program agree on all short texts over alphabets that reach each
 //! rule.
 
-use crate::plain_tokens::{Cut, Sort, cuts, longest, template_cuts};
 use crate::reading::{end_of, read};
-use crate::texts::{string_of, text_of, texts_of};
 use ecma_lexeme::Lexeme;
 use ecma_lexeme::LexicalGoal::{self, Div, RegExp, TemplateTail};
+use ecma_plain::texts::{string_of, text_of, texts_of};
+use ecma_plain::tokens::{Cut, Sort, cuts, longest, template_cuts};
 use ecma_token::Token;
 use std::alloc::Global;
 use std::process::Abort;

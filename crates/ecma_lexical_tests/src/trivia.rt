@@ -1,7 +1,7 @@
 //! Tests of trivia.
 
-use crate::plain_pieces::{Cut, Kind, cuts, is_legacy, is_open_block};
-use crate::texts::{string_of, text_of};
+use ecma_plain::pieces::{Cut, Kind, cuts, is_legacy, is_open_block};
+use ecma_plain::texts::{string_of, text_of};
 use ecma_scan::{Goal, Trivia, trivia_piece};
 use ecma_token::SyntaxError;
 use std::alloc::Global;

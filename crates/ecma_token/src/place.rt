@@ -58,14 +58,14 @@ pub trait Spanned {
         ensures { result ≡ span_of self.now };
 
     /// Where it begins.
-    fn span_lo(&self) -> BytePos
+    final fn span_lo(&self) -> BytePos
         ensures { result ≡ (span_of self.now).lo }
     {
         self.span().lo
     }
 
     /// Where it ends.
-    fn span_hi(&self) -> BytePos
+    final fn span_hi(&self) -> BytePos
         ensures { result ≡ (span_of self.now).hi }
     {
         self.span().hi

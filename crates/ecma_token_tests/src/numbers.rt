@@ -1,5 +1,5 @@
 //! Numbers whose value takes no memory. More spellings with their values stand in the rows of
-//! `ecma_token_rows`.
+//! `ecma_lexical_rows`.
 use ecma_token::NumValue;
 use std::process::Abort;
 use std::test::Fail;

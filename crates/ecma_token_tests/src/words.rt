@@ -1,5 +1,5 @@
 //! Words that are made and converted. Words with their kinds and contexts stand in the rows of
-//! `ecma_token_rows`.
+//! `ecma_lexical_rows`.
 use ecma_token::{Context, IdentKind, IdentLike, Keyword, KnownIdent, Word, WordKind};
 use std::borrow::CowStr;
 use std::convert::AsStr;

@@ -1,0 +1,36 @@
+-- Runs of a lexer: steps one after the other that each hand out a token.
+use Rattle.std.specs.Prelude.{◌≡◌, ◌≢◌, List, [], ◌∷◌, None, Some}
+use Rattle.ecma_token.specs.Kinds.{error_kind}
+use Rattle.ecma_token.specs.Tokens.{Spot}
+use Rattle.ecma_tokens.specs.Settings.{Settings}
+use Rattle.ecma_lexing.specs.States.{Start, State}
+use Rattle.ecma_lexing.specs.Steps.{IsStep}
+
+-- What may be told between two steps: anything but that a slash is to be read again.
+abbrev pub NoReread : Settings → Settings → Type 0
+NoReread old new = new.next_regexp ≡ None
+
+-- The same, and the token contexts stay as they are.
+pub record SameContexts (old new : Settings) : Type 0 where
+  pub next_regexp : new.next_regexp ≡ None
+  pub contexts : new.contexts ≡ old.contexts
+
+-- the state with other settings
+abbrev pub told_of : Settings → State → State
+told_of settings s = record s { settings = settings }
+
+-- These tokens are handed out one after the other, and after each something may be told.
+abbrev pub Runs : (Settings → Settings → Type 0) → State → List Spot → State → Type 0
+Runs May s [] new = s ≡ new
+Runs May s (spot ∷ spots) new =
+    (behind : State) × (told : Settings) × IsStep s (Some spot) behind × May behind.settings told × Runs May (told_of told behind) spots new
+
+-- At the start of a text, with no slash to be read again.
+pub record IsAtStart (s : State) : Type 0 where
+  pub last : s.tokens.last ≡ Start
+  pub next_regexp : s.settings.next_regexp ≡ None
+
+-- no error token is among them
+abbrev pub Clean : List Spot → Type 0
+Clean [] = Unit {0}
+Clean (spot ∷ spots) = (spot.token.kind ≢ error_kind) × Clean spots
