@@ -159,12 +159,12 @@ Initial c e value ts r = By (is_absent value.tree) (Ends c e ts r)
 
 abbrev pub Field : (Tree → Bool) → Code → Span → Part → Part → Bool → List Part → Input → Input → Type 0
 Field may c s key value is_static decorators ts r = (m : Input) × (n : Input) × IsEmpty decorators × (may key.tree ≡ true) × Static is_static c ts m × key.spelled c m n
-    × Initial c (field_end is_static key.tree) value n r × Spans s ts r
+    × Initial c (field_end is_static (kind m)) value n r × Spans s ts r
 
 -- an auto accessor: `accessor` and its key stand on one line (own, where its flag is on)
 abbrev pub AutoAccessor : Code → Span → Part → Part → Bool → List Part → Input → Input → Type 0
 AutoAccessor c s key value is_static decorators ts r = (m : Input) × (n : Input) × (o : Input) × (c.syntax.auto_accessors ≡ true) × IsEmpty decorators × Static is_static c ts m
-    × TakesWord c accessor_kind m n × (brk n ≡ false) × Sorted is_any_key c key n o × Initial c (field_end true key.tree) value o r × Spans s ts r
+    × TakesWord c accessor_kind m n × (brk n ≡ false) × Sorted is_any_key c key n o × Initial c (field_end true (kind n)) value o r × Spans s ts r
 
 -- ClassStaticBlock
 abbrev pub StaticBlock : Code → Span → Span → List Part → Input → Input → Type 0

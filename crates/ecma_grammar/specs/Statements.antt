@@ -1,11 +1,11 @@
 -- Statements and declarations (ECMA-262, clause 14).
-use Rattle.std.specs.Prelude.{◌≡◌, ◌⊎◌, ℕ, Bool, true, false, not, ◌&&◌, ◌||◌, ◌==◌, if◌then◌else◌, List, [], ◌∷◌, codes}
+use Rattle.std.specs.Prelude.{◌≡◌, ◌⊎◌, ℕ, Bool, true, false, not, ◌&&◌, ◌||◌, ◌==◌, if◌then◌else◌, List, [], ◌∷◌}
 use Rattle.ecma_token.specs.declared.place.Span.{Span}
 use Rattle.ecma_token.specs.Kinds.{left_paren_kind, right_paren_kind, left_bracket_kind, left_brace_kind, right_brace_kind, semicolon_kind, colon_kind, assign_kind, await_kind, case_kind, catch_kind, debugger_kind, default_kind, do_kind, else_kind, finally_kind, for_kind, function_kind, if_kind, return_kind, switch_kind, throw_kind, try_kind, var_kind, let_kind, const_kind, while_kind, with_kind, class_kind, in_kind, async_kind, of_kind, using_kind}
 use Rattle.ecma_tree.specs.Tree.{Tree}
 use Rattle.ecma_syntax.specs.Input.{Input, Code, Takes, TakesWord, Spans, kind, kind2, brk, brk2, rest, without_in, alone, binding, assigning, is_strict}
 use Rattle.ecma_syntax.specs.Operators.{expression_level, assignment_level, let_end, plain_end}
-use Rattle.ecma_syntax.specs.Shape.{ends, names, is_absent, is_block, is_binding, is_place, is_statement, is_plain_function, is_declarator, is_bare_declarator, is_case, is_default_case, is_catch, is_item}
+use Rattle.ecma_syntax.specs.Shape.{ends, is_name, is_absent, is_block, is_binding, is_place, is_statement, is_plain_function, is_declarator, is_bare_declarator, is_case, is_default_case, is_catch, is_item}
 use Rattle.ecma_grammar.specs.Parts.{is_ident, Part, By, IsEmpty, Expr, Sorted, Maybe, Commas, Items, Ends}
 
 -- ---- shared forms
@@ -79,11 +79,11 @@ starts_expression_statement ts = not ((kind ts == left_brace_kind) || ((kind ts 
     || (((kind ts == async_kind) && ((kind2 ts == function_kind) && not (brk2 ts))) || ((kind ts == let_kind) && (kind2 ts == left_bracket_kind))))))
 
 -- The class of a statement's expression: the one word `let` where a declaration may stand has its own.
-abbrev pub statement_end : Code → Tree → ℕ
-statement_end c e = if c.listed && names (codes "let") e then let_end else ends e
+abbrev pub statement_end : Code → Input → Tree → ℕ
+statement_end c ts e = if c.listed && ((kind ts == let_kind) && is_name e) then let_end else ends e
 
 abbrev pub ExpressionStatement : Code → Span → Part → Input → Input → Type 0
-ExpressionStatement c s e ts r = (m : Input) × (starts_expression_statement ts ≡ true) × Expr expression_level c e ts m × Ends c (statement_end c e.tree) m r × Spans s ts r
+ExpressionStatement c s e ts r = (m : Input) × (starts_expression_statement ts ≡ true) × Expr expression_level c e ts m × Ends c (statement_end c ts e.tree) m r × Spans s ts r
 
 -- ---- 14.6 `if`: without `else` no `else` follows
 

@@ -12,9 +12,9 @@ use Rattle.ecma_grammar.specs.Grammar.{Spells, parts}
 use Rattle.ecma_reading.specs.Source.{Fault, ◌>>=◌, unexpected, Stand, Inner, Step, go_on, finished}
 use Rattle.ecma_reading.specs.Expressions.{Elements, no_elements, element_step, elements_by, plain_element, plain_elements, last_end, joined, prefix_by, group_by, group_end}
 use Rattle.ecma_reading.specs.Reading.{readers}
-use Rattle.ecma_grammar_complete.proofs.Yields.{lm, from, len, coded, Yields, then_yields, Is, Loops, loop_on, loop_end, looped}
+use Rattle.ecma_grammar_complete.proofs.Yields.{lm, from, len, coded, then_reads, Is, Loops, loop_on, loop_end, looped, Reads, here, past_here, ended, if_no, if_yes, then_past_reads}
 use Rattle.ecma_grammar_complete.proofs.Trees.{Covered, CoveredAll, size, sizes, reach, reaches, cut, takes}
-use Rattle.ecma_grammar_complete.proofs.Prefixes.{yields_no, yields_yes, arrowed}
+use Rattle.ecma_grammar_complete.proofs.Prefixes.{arrowed}
 use Rattle.ecma_grammar_complete.proofs.Lists.{Finds, step_comma, step_close}
 
 -- elements that are these expressions, no comma after them, up to a place and with these tokens as the rest
@@ -81,22 +81,19 @@ module _ (z d : ℕ) (f : Finds z d) (p : Bool) (c : Code) where
 abbrev pub Joins : List Tree → Span → Tree → Type 0
 Joins es s e = joined es s ≡ e
 
-pub paren_found : (inner : Inner Input) (c : Code) (ts : Input) (k : List ℕ) (s : Span) (e x : Tree) (es : List Tree) (u : ℕ) (m r : Input) (P Q : Type 0) → kind ts ≡ left_paren_kind → rest ts ≡ m → ((j : List ℕ) → Yields (elements_by lm inner (with_in c) false right_paren_kind (from m j)) (Grouped (x ∷ es) u r) P) → (P → Q)
-    → arrowed r ≡ false → joined (x ∷ es) (span (lo m) u) ≡ e → s ≡ span (lo ts) r.last → Yields (prefix_by lm inner c (from ts k)) (Is (paren_expr s e) r) Q
+pub paren_found : (inner : Inner Input) (c : Code) (ts : Input) (k : List ℕ) (s : Span) (e x : Tree) (es : List Tree) (u : ℕ) (m r : Input) (P Q : Type 0) → kind ts ≡ left_paren_kind → rest ts ≡ m → ((j : List ℕ) → Reads (from m j) (elements_by lm inner (with_in c) false right_paren_kind (from m j)) (Grouped (x ∷ es) u r) P) → (P → Q)
+    → arrowed r ≡ false → joined (x ∷ es) (span (lo m) u) ≡ e → s ≡ span (lo ts) r.last → Reads (from ts k) (prefix_by lm inner c (from ts k)) (Is (paren_expr s e) r) Q
 unfolding prefix_by group_by group_end
-paren_found inner c ts k s e x es u m r P Q o q y i a v p = rw o (then_yields (elements_by lm inner (with_in c) false right_paren_kind (from (rest ts) k)) _ (Grouped (x ∷ es) u r) P _ Q
-    (subst (λ (z : Input). Yields (elements_by lm inner (with_in c) false right_paren_kind (from z k)) (Grouped (x ∷ es) u r) P) (sym q) (y k)) i
-    (λ z h. yields_no (arrowed z.1.source) _ _ _ _ (subst (λ (w : Input). arrowed w ≡ false) (sym h.source) a) (yields_no z.0.comma _ _ _ _ h.comma
-    (rw h.items (record {
-      so = (
-        ap (λ (w : ℕ). paren_expr (span (lo ts) z.1.source.last) (joined (x ∷ es) (span (lo (rest ts)) w))) h.last ∙ ap (λ (w : Input). paren_expr (span (lo ts) z.1.source.last) (joined (x ∷ es) (span (lo w) u))) q
-            ∙ ap (λ w. paren_expr (span (lo ts) z.1.source.last) w) v ∙ ap (λ (w : Input). paren_expr (span (lo ts) w.last) e) h.source ∙ ap (λ w. paren_expr w e) (sym p),
-        h.source,
-      );
-    })))))
+paren_found inner c ts k s e x es u m r P Q o q y i a v p = rw o (then_past_reads ts m k (elements_by lm inner (with_in c) false right_paren_kind) _ (Grouped (x ∷ es) u r) P _ Q q (y k) i
+    (λ z h. if_no (arrowed z.1.source) _ _ _ _ (subst (λ (w : Input). arrowed w ≡ false) (sym h.source) a) (if_no z.0.comma _ _ _ _ h.comma
+    (rw h.items (ended _ _ Q (
+      ap (λ (w : ℕ). paren_expr (span (lo ts) z.1.source.last) (joined (x ∷ es) (span (lo (rest ts)) w))) h.last ∙ ap (λ (w : Input). paren_expr (span (lo ts) z.1.source.last) (joined (x ∷ es) (span (lo w) u))) q
+          ∙ ap (λ w. paren_expr (span (lo ts) z.1.source.last) w) v ∙ ap (λ (w : Input). paren_expr (span (lo ts) w.last) e) h.source ∙ ap (λ w. paren_expr w e) (sym p),
+      h.source,
+    ))))))
 
 pub group_found : (z d : ℕ) (f : Finds z d) (p : Bool) (c : Code) (x : Tree) (xs : Trees) (ts m u r : Input) (k : List ℕ) (n : ℕ) → size x < z → sizes xs < z → Covered x → CoveredAll xs → Expr 2 (coded p (with_in c)) (part x (λ y. Spells x y)) ts m
     → CommaThen (Expr 2 (coded p (with_in c))) (coded p (with_in c)) (parts xs) m u → kind u ≡ right_paren_kind → rest u ≡ r → max (reach x) (reaches xs) ≤ n
-    → Yields (elements_by lm (readers lm d) (with_in c) false right_paren_kind (from ts k)) (Grouped (x ∷ unpack xs) u.last r) (d < n)
+    → Reads (from ts k) (elements_by lm (readers lm d) (with_in c) false right_paren_kind (from ts k)) (Grouped (x ∷ unpack xs) u.last r) (d < n)
 unfolding elements_by
 group_found z d f p c x xs ts m u r k n sz szs g gs h w e t le = looped _ no_elements ts k _ _ (group_loop z d f p c x xs [] [] false ts m u r k n refl sz szs g gs h w e t le)

@@ -6,6 +6,7 @@ use Rattle.ecma_tree.specs.Tree.{Tree, Trees, unary_expr, update_expr, await_exp
 use Rattle.ecma_syntax.specs.Input.{Input, Code, kind, kind2, brk, brk2, is_word, no_name, barred, always_reserved}
 use Rattle.ecma_syntax.specs.Operators.{binary_level, right_level, operates, is_assign_op, goes_expr, between}
 use Rattle.ecma_syntax.specs.Shape.{level, ends, fits_left, is_private}
+pub use Rattle.ecma_grammar_complete.specs.Laws.{Asked, Follow, sober, ends_operand, quits}
 
 -- ---- tests
 
@@ -128,11 +129,6 @@ right_five k h = let four = binary_four k h in ⊎_elim (λ (e : k ≡ exp_kind)
 pub right_most : (k : ℕ) → right_level k ≤ 16
 right_most k = let low = binary_low k in each_of (eqb k exp_kind) 15 _ (λ n. n ≤ 16) (omega arith) (each_of (eqb k nullish_coalescing_kind) 7 (binary_level k + 1) (λ n. n ≤ 16) (omega arith) (omega arith))
 
--- a level that is asked for: neither that of a conditional nor that of an update
-pub record Asked (l : ℕ) : Type 0 where
-  pub conditional : l ≡ 3 → ⊥
-  pub update : l ≡ 17 → ⊥
-
 pub right_asked : (k : ℕ) → 1 ≤ binary_level k → Asked (right_level k)
 right_asked k h = let a = right_five k h in let b = right_most k in record { conditional = λ e. omega (arith, e); update = λ e. omega (arith, e) }
 
@@ -215,10 +211,6 @@ goes_close c e k m q h =
     ⊎_elim (at 8 (λ z. silent c e 8 m z refl refl refl refl refl refl refl refl refl)) (λ h. ⊎_elim (at 10 (λ z. silent c e 10 m z refl refl refl refl refl refl refl refl refl)) (λ h. ⊎_elim (at 12 (λ z. silent c e 12 m z refl refl refl refl refl refl refl refl refl))
     (at 17 (λ z. silent c e 17 m z refl refl refl refl refl refl refl refl refl)) (or_cases (eqb k 12) (eqb k 17) h)) (or_cases (eqb k 10) ((k == 12) || (k == 17)) h)) (or_cases (eqb k 8) ((k == 10) || ((k == 12) || (k == 17))) h)
 
--- What stands after an expression goes on at no level so tight, and doesn't turn the word `async` before it into a function.
-abbrev pub sober : Code → Input → Bool
-sober c m = brk m || not ((kind m == function_kind) || ((is_word (kind m) && (not (no_name c.context (kind m)) && not (barred c.context m))) && (not (brk m) && (kind2 m == arrow_kind) && not (brk2 m))))
-
 -- a token that is no name, nor `function`
 abbrev pub quiet : ℕ → Bool
 quiet k = not (k == function_kind) && (not (is_word k) || always_reserved k)
@@ -229,16 +221,20 @@ sober_by c k m e q = or_right (brk m) _ (ap not (or_from (kind m == function_kin
     z : (not (kind m == function_kind) ≡ true) × ((not (is_word (kind m)) || always_reserved (kind m)) ≡ true)
     z = and_parts _ _ (subst (λ (k : ℕ). quiet k ≡ true) (sym e) q)
 
-    none_of : (not (is_word (kind m)) ≡ true) ⊎ (always_reserved (kind m) ≡ true) → (is_word (kind m) && (not (no_name c.context (kind m)) && not (barred c.context m))) ≡ false
+    none_of : (not (is_word (kind m)) ≡ true) ⊎ (always_reserved (kind m) ≡ true) → (is_word (kind m) && not (always_reserved (kind m))) ≡ false
     none_of (inl h) = and_left (is_word (kind m)) _ (not-true (is_word (kind m)) h)
-    none_of (inr h) = and_right (is_word (kind m)) _ (and_left (not (no_name c.context (kind m))) _ (ap not (or_left (always_reserved (kind m)) _ h)))
+    none_of (inr h) = and_right (is_word (kind m)) _ (ap not h)
 
-pub record Follow (c : Code) (e l : ℕ) (m : Input) : Type 0 where
-  pub stop : goes_expr c e m < l
-  pub sober : sober c m ≡ true
+pub quits_by : (k : ℕ) (m : Input) → kind m ≡ k → ends_operand k ≡ true → quits m ≡ true
+quits_by k m e h = or_right (brk m) _ (subst (λ (k : ℕ). ends_operand k ≡ true) (sym e) h)
+
+closes_quits : (k : ℕ) → closes k ≡ true → ends_operand k ≡ true
+closes_quits k h =
+    let at : (n : ℕ) → ends_operand n ≡ true → eqb k n ≡ true → ends_operand k ≡ true = λ n f z. subst (λ (k : ℕ). ends_operand k ≡ true) (sym (eqb-true k n z)) f in
+    ⊎_elim (at 8 refl) (λ h. ⊎_elim (at 10 refl) (λ h. ⊎_elim (at 12 refl) (at 17 refl) (or_cases (eqb k 12) (eqb k 17) h)) (or_cases (eqb k 10) ((k == 12) || (k == 17)) h)) (or_cases (eqb k 8) ((k == 10) || ((k == 12) || (k == 17))) h)
 
 pub closed_by : (c : Code) (e l k : ℕ) (m : Input) → kind m ≡ k → closes k ≡ true → quiet k ≡ true → 1 ≤ l → Follow c e l m
-closed_by c e l k m q h s le = let z : goes_expr c e m ≡ 0 = goes_close c e k m q h in record { stop = omega arith; sober = sober_by c k m q s }
+closed_by c e l k m q h s le = let z : goes_expr c e m ≡ 0 = goes_close c e k m q h in record { stop = omega arith; sober = sober_by c k m q s; quits = λ _. quits_by k m q (closes_quits k h) }
 
 pub comma_after : (c : Code) (e l : ℕ) (m : Input) → kind m ≡ comma_kind → 2 ≤ l → Follow c e l m
-comma_after c e l m q le = let z : goes_expr c e m ≡ 1 = goes_comma c e m q in record { stop = omega arith; sober = sober_by c comma_kind m q refl }
+comma_after c e l m q le = let z : goes_expr c e m ≡ 1 = goes_comma c e m q in record { stop = omega arith; sober = sober_by c comma_kind m q refl; quits = λ _. quits_by comma_kind m q refl }

@@ -4,7 +4,15 @@ pub mod Trees
 pub mod Prefixes
 pub mod Lists
 pub mod Steps
+pub mod Members
+pub mod Objects
+pub mod Covers
 pub mod Groups
 pub mod Finds
+pub mod Coverings
+pub mod Arrows
 pub mod News
+pub mod Words
 pub mod Comes
+pub mod Heads
+pub mod CompleteLemmas

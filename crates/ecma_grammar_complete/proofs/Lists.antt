@@ -12,14 +12,13 @@ use Rattle.ecma_grammar.specs.Grammar.{Spells, parts}
 use Rattle.ecma_reading.specs.Source.{Fault, ◌>>=◌, unexpected, Stand, Inner, Step, go_on, finished, eat}
 use Rattle.ecma_reading.specs.Expressions.{Elements, no_elements, element_by, after_element, element_step, elements_by}
 use Rattle.ecma_reading.specs.Reading.{readers}
-use Rattle.ecma_grammar_complete.proofs.Yields.{lm, from, len, coded, Yields, gives, then_yields, Is, then_is, then_eat, Loops, loop_on, loop_end, looped, shorter}
+use Rattle.ecma_grammar_complete.proofs.Yields.{lm, from, len, coded, then_reads, Is, then_is, then_eat, Loops, loop_on, loop_end, looped, shorter, Reads, here, past_here, ended, if_no, if_yes, then_past}
 use Rattle.ecma_grammar_complete.proofs.Levels.{closes, quiet, Follow, closed_by, comma_after, Asked}
 use Rattle.ecma_grammar_complete.proofs.Trees.{Covered, CoveredAll, size, sizes, reach, reaches, begins, starts, no_kind, cut, by_cases}
-use Rattle.ecma_grammar_complete.proofs.Prefixes.{yields_no, yields_yes}
 
 -- What is spelled so, and doesn't go on, is read by calls so deep, or they are not deep enough.
 abbrev pub Finds : ℕ → ℕ → Type 0
-Finds z d = (t : Tree) (p : Bool) (c : Code) (l : ℕ) (ts r : Input) (k : List ℕ) → size t < z → Covered t → Spells t (coded p c) ts r → 1 ≤ l → l < 20 → Asked l → l ≤ level t → Follow c (ends t) l r → Yields ((readers lm d).expr c l (from ts k)) (Is t r) (d < reach t)
+Finds z d = (t : Tree) (p : Bool) (c : Code) (l : ℕ) (ts r : Input) (k : List ℕ) → size t < z → Covered t → Spells t (coded p c) ts r → 1 ≤ l → l < 20 → Asked l → l ≤ level t → Follow c (ends t) l r → Reads (from ts k) ((readers lm d).expr c l (from ts k)) (Is t r) (d < reach t)
 
 pub two_asked : Asked 2
 two_asked = record { conditional = λ e. omega (arith, e); update = λ e. omega (arith, e) }
@@ -35,7 +34,7 @@ pub pack_unpack : (xs : Trees) → pack (unpack xs) ≡ xs
 pack_unpack none = refl
 pack_unpack (more x xs) = ap (more x) (pack_unpack xs)
 
-hole_is : (x : Tree) → is_hole x ≡ true → x ≡ hole
+pub hole_is : (x : Tree) → is_hole x ≡ true → x ≡ hole
 hole_is hole e = refl
 hole_is _ e = absurd (true≢false (sym e))
 
@@ -45,17 +44,16 @@ element_starts (expr_or_spread s (Some d) e) c ts r g q h = inr h.1.0
 element_starts _ c ts r g q h = absurd (true≢false (sym q))
 
 module _ (z d : ℕ) (f : Finds z d) (p : Bool) (c : Code) where
-  element_found : (x : Tree) (ts m : Input) (k : List ℕ) → size x < z → Covered x → is_element x ≡ true → Spells x (coded p c) ts m → ((e : ℕ) → Follow (with_in c) e 2 m) → Yields (element_by lm (readers lm d) c (from ts k)) (Is x m) (d < reach x)
+  element_found : (x : Tree) (ts m : Input) (k : List ℕ) → size x < z → Covered x → is_element x ≡ true → Spells x (coded p c) ts m → ((e : ℕ) → Follow (with_in c) e 2 m) → Reads (from ts k) (element_by lm (readers lm d) c (from ts k)) (Is x m) (d < reach x)
   unfolding element_by
   element_found (expr_or_spread s None e) ts m k sz g q h w =
-      yields_no (eqb (kind ts) dot_dot_dot_kind) _ _ _ _ (no_kind begins (kind ts) dot_dot_dot_kind (starts e (coded p (with_in c)) ts m g (omega (arith, h.0.0)) h.0.1) refl)
+      if_no (eqb (kind ts) dot_dot_dot_kind) _ _ _ _ (no_kind begins (kind ts) dot_dot_dot_kind (starts e (coded p (with_in c)) ts m g (omega (arith, h.0.0)) h.0.1) refl)
       (then_is ((readers lm d).expr (with_in c) assignment_level (from ts k)) _ e m (d < reach e) _ _ (f e p (with_in c) 2 ts m k sz g h.0.1 (omega arith) (omega arith) two_asked h.0.0 (w (ends e))) (λ u. u)
-      (λ j. record { so = (ap (λ (y : Span). expr_or_spread y None e) (sym h.1), refl) }))
+      (λ j. here (ap (λ (y : Span). expr_or_spread y None e) (sym h.1))))
   element_found (expr_or_spread s (Some dots) e) ts m k sz g q h w =
-      yields_yes (eqb (kind ts) dot_dot_dot_kind) _ _ _ _ (eq-eqb (kind ts) dot_dot_dot_kind h.1.0)
-      (then_is ((readers lm d).expr (with_in c) assignment_level (from (rest ts) k)) _ e m (d < reach e) _ _
-      (subst (λ (y : Input). Yields ((readers lm d).expr (with_in c) assignment_level (from y k)) (Is e m) (d < reach e)) (sym h.1.2) (f e p (with_in c) 2 h.0 m k sz g h.3.1 (omega arith) (omega arith) two_asked h.3.0 (w (ends e)))) (λ u. u)
-      (λ j. record { so = (ap (λ (y : Span). expr_or_spread y (Some (first_span ts)) e) (sym h.4) ∙ ap (λ (y : Span). expr_or_spread s (Some y) e) (sym h.2), refl) }))
+      if_yes (eqb (kind ts) dot_dot_dot_kind) _ _ _ _ (eq-eqb (kind ts) dot_dot_dot_kind h.1.0)
+      (then_past ts h.0 k ((readers lm d).expr (with_in c) assignment_level) _ e m (d < reach e) _ _ h.1.2 (f e p (with_in c) 2 h.0 m k sz g h.3.1 (omega arith) (omega arith) two_asked h.3.0 (w (ends e))) (λ u. u)
+      (λ j. here (ap (λ (y : Span). expr_or_spread y (Some (first_span ts)) e) (sym h.4) ∙ ap (λ (y : Span). expr_or_spread s (Some y) e) (sym h.2))))
   element_found _ ts m k sz g q h w = absurd (true≢false (sym q))
 
   module _ (holes : Bool) (close : ℕ) (cl : closes close ≡ true) (qu : quiet close ≡ true) (nb : begins close ≡ false) where
@@ -73,31 +71,31 @@ module _ (z d : ℕ) (f : Finds z d) (p : Bool) (c : Code) where
     and_off false b h = refl
 
     pub step_comma : (x : Tree) (acc : List Tree) (b : Bool) (ts m r : Input) (k : List ℕ) → size x < z → Covered x → is_element x ≡ true → Spells x (coded p c) ts m → kind m ≡ comma_kind → rest m ≡ r
-        → Yields (element_step lm (readers lm d) c holes close (record { items = acc; comma = b }) (from ts k)) (Is (go_on (record { items = acc ++ x ∷ []; comma = true })) r) (d < reach x)
+        → Reads (from ts k) (element_step lm (readers lm d) c holes close (record { items = acc; comma = b }) (from ts k)) (Is (go_on (record { items = acc ++ x ∷ []; comma = true })) r) (d < reach x)
     unfolding element_step after_element
     step_comma x acc b ts m r k sz g q h e t =
-        yields_no (eqb (kind ts) close) _ _ _ _ (not_close x ts m g q h) (yields_no (holes && (kind ts == comma_kind)) _ _ _ _ (and_off holes _ (not_comma x ts m g q h))
+        if_no (eqb (kind ts) close) _ _ _ _ (not_close x ts m g q h) (if_no (holes && (kind ts == comma_kind)) _ _ _ _ (and_off holes _ (not_comma x ts m g q h))
         (then_is (element_by lm (readers lm d) c (from ts k)) _ x m (d < reach x) _ _ (element_found x ts m k sz g q h (λ n. comma_after (with_in c) n 2 m e (omega arith))) (λ u. u)
-        (λ j. yields_yes (eqb (kind m) comma_kind) _ _ _ _ (eq-eqb (kind m) comma_kind e) (record { so = (refl, t) }))))
+        (λ j. if_yes (eqb (kind m) comma_kind) _ _ _ _ (eq-eqb (kind m) comma_kind e) (past_here refl t))))
 
     pub step_close : (x : Tree) (acc : List Tree) (b : Bool) (ts m r : Input) (k : List ℕ) → size x < z → Covered x → is_element x ≡ true → Spells x (coded p c) ts m → kind m ≡ close → rest m ≡ r
-        → Yields (element_step lm (readers lm d) c holes close (record { items = acc; comma = b }) (from ts k)) (Is (finished (record { items = acc ++ x ∷ []; comma = false })) r) (d < reach x)
+        → Reads (from ts k) (element_step lm (readers lm d) c holes close (record { items = acc; comma = b }) (from ts k)) (Is (finished (record { items = acc ++ x ∷ []; comma = false })) r) (d < reach x)
     unfolding element_step after_element
     step_close x acc b ts m r k sz g q h e t =
-        yields_no (eqb (kind ts) close) _ _ _ _ (not_close x ts m g q h) (yields_no (holes && (kind ts == comma_kind)) _ _ _ _ (and_off holes _ (not_comma x ts m g q h))
+        if_no (eqb (kind ts) close) _ _ _ _ (not_close x ts m g q h) (if_no (holes && (kind ts == comma_kind)) _ _ _ _ (and_off holes _ (not_comma x ts m g q h))
         (then_is (element_by lm (readers lm d) c (from ts k)) _ x m (d < reach x) _ _ (element_found x ts m k sz g q h (λ n. closed_by (with_in c) n 2 close m e cl qu (omega arith))) (λ u. u)
-        (λ j. yields_no (eqb (kind m) comma_kind) _ _ _ _ (no_kind closes (kind m) comma_kind (subst (λ (n : ℕ). closes n ≡ true) (sym e) cl) refl) (then_eat close m r j _ _ _ e t (record { so = (refl, refl) })))))
+        (λ j. if_no (eqb (kind m) comma_kind) _ _ _ _ (no_kind closes (kind m) comma_kind (subst (λ (n : ℕ). closes n ≡ true) (sym e) cl) refl) (then_eat close m r j _ _ _ e t (here refl)))))
 
     step_hole : (acc : List Tree) (b : Bool) (ts r : Input) (k : List ℕ) (P : Type 0) → holes ≡ true → kind ts ≡ comma_kind → rest ts ≡ r
-        → Yields (element_step lm (readers lm d) c holes close (record { items = acc; comma = b }) (from ts k)) (Is (go_on (record { items = acc ++ hole ∷ []; comma = false })) r) P
+        → Reads (from ts k) (element_step lm (readers lm d) c holes close (record { items = acc; comma = b }) (from ts k)) (Is (go_on (record { items = acc ++ hole ∷ []; comma = false })) r) P
     unfolding element_step
     step_hole acc b ts r k P o e t =
-        yields_no (eqb (kind ts) close) _ _ _ _ (ne_eqb (kind ts) close (λ q. true≢false (sym cl ∙ ap closes (sym q ∙ e)))) (yields_yes (holes && (kind ts == comma_kind)) _ _ _ _ (and_from holes _ o (eq-eqb (kind ts) comma_kind e)) (record { so = (refl, t) }))
+        if_no (eqb (kind ts) close) _ _ _ _ (ne_eqb (kind ts) close (λ q. true≢false (sym cl ∙ ap closes (sym q ∙ e)))) (if_yes (holes && (kind ts == comma_kind)) _ _ _ _ (and_from holes _ o (eq-eqb (kind ts) comma_kind e)) (past_here refl t))
 
     step_end : (acc : List Tree) (b : Bool) (ts r : Input) (k : List ℕ) (P : Type 0) → kind ts ≡ close → rest ts ≡ r
-        → Yields (element_step lm (readers lm d) c holes close (record { items = acc; comma = b }) (from ts k)) (Is (finished (record { items = acc; comma = b })) r) P
+        → Reads (from ts k) (element_step lm (readers lm d) c holes close (record { items = acc; comma = b }) (from ts k)) (Is (finished (record { items = acc; comma = b })) r) P
     unfolding element_step
-    step_end acc b ts r k P e t = yields_yes (eqb (kind ts) close) _ _ _ _ (eq-eqb (kind ts) close e) (record { so = (refl, t) })
+    step_end acc b ts r k P e t = if_yes (eqb (kind ts) close) _ _ _ _ (eq-eqb (kind ts) close e) (past_here refl t)
 
     takes_less : (k : ℕ) (m r : Input) → kind m ≡ k → 1 ≤ k → rest m ≡ r → len r < len m
     takes_less k m r e l t = shorter m r (λ n. omega (arith, e, n)) t
@@ -122,6 +120,6 @@ module _ (z d : ℕ) (f : Finds z d) (p : Bool) (c : Code) where
         empty_none (more x xs) h = absurd h
 
     pub elements_found : (xs : Trees) (ts r : Input) (k : List ℕ) (n : ℕ) → sizes xs < z → CoveredAll xs → Listed holes (Sorted is_element (coded p c)) (coded p c) close (parts xs) ts r → reaches xs ≤ n
-        → Yields (elements_by lm (readers lm d) c holes close (from ts k)) (Has (unpack xs) r) (d < n)
+        → Reads (from ts k) (elements_by lm (readers lm d) c holes close (from ts k)) (Has (unpack xs) r) (d < n)
     unfolding elements_by
     elements_found xs ts r k n sz g h le = looped _ no_elements ts k _ _ (elements_loop xs [] false ts r k n sz g h le)

@@ -145,14 +145,14 @@ module _ (inner : Inner Input) (good : Sound inner) where
 
   accessor_sure : (c : Code) (start : Stand Input) (st : Bool) (s : Stand Input) → Static st (plain c) (seen start) (seen s) → c.syntax.auto_accessors ≡ true → kind (seen s) ≡ accessor_kind → brk (seen (next s)) ≡ false → Sure s.commas (accessor_by lm inner c start st s) (GotMember c start)
   unfolding accessor_by
-  accessor_sure c start st s t on e n = then_sure s.commas (class_key lm inner c (next s)) _ _ _ (class_key_sure c (next s)) (λ k q. then_sure k.1.commas (field_value lm inner c (field_end true k.0) k.1) _ _ _ (value_sure c (field_end true k.0) k.1) (λ v h.
+  accessor_sure c start st s t on e n = then_sure s.commas (class_key lm inner c (next s)) _ _ _ (class_key_sure c (next s)) (λ k q. then_sure k.1.commas (field_value lm inner c (field_end true (kind (seen (next s)))) k.1) _ _ _ (value_sure c (field_end true (kind (seen (next s)))) k.1) (λ v h.
       done (auto_accessor (span (lo (seen start)) v.1.source.last) k.0 v.0 st none, v.1) (GotMember c start) (refl, (seen s, seen (next s), seen k.1, on, tt, t, (e, soft c accessor_kind s e and_no, tt, refl), n, (any_key k.0 q.0, q.1), h, refl))))
 
   field_sure : (c : Code) (start : Stand Input) (st : Bool) (s : Stand Input) → Static st (plain c) (seen start) (seen s) → Sure s.commas (field_or_method lm inner c start st s) (GotMember c start)
   unfolding field_or_method
   field_sure c start st s t = then_sure s.commas (class_key lm inner c s) _ _ _ (class_key_sure c s) (λ k q. test_sure k.1.commas (kind (seen k.1)) left_paren_kind _ _ _
       (λ _. class_method_sure c start st false false k.0 (seen s) (seen s) k.1 t (seen s, refl, refl) q.0 q.1)
-      (λ _. then_sure k.1.commas (field_value lm inner c (field_end st k.0) k.1) _ _ _ (value_sure c (field_end st k.0) k.1) (λ v h. if_sure v.1.commas (is_private k.0) _ _ _
+      (λ _. then_sure k.1.commas (field_value lm inner c (field_end st (kind (seen s))) k.1) _ _ _ (value_sure c (field_end st (kind (seen s))) k.1) (λ v h. if_sure v.1.commas (is_private k.0) _ _ _
       (λ z. done (private_prop (span (lo (seen start)) v.1.source.last) k.0 v.0 st none, v.1) (GotMember c start) (refl, (seen s, seen k.1, tt, z, t, q.1, h, refl)))
       (λ z. done (class_prop (span (lo (seen start)) v.1.source.last) k.0 v.0 st none, v.1) (GotMember c start) (refl, (seen s, seen k.1, tt, plain_key k.0 q.0 z, t, q.1, h, refl))))))
 

@@ -6,14 +6,14 @@ use Rattle.ecma_token.specs.Kinds.{left_bracket_kind, left_brace_kind, semicolon
 use Rattle.ecma_tree.specs.Tree.{Tree, pack, ident, empty_stmt, break_stmt, continue_stmt, fn_decl, class_decl, var_decl, using_decl, expr_stmt, labeled_stmt}
 use Rattle.ecma_syntax.specs.Input.{Input, Code, kind, kind2, brk2, text, TakesWord, lo, span, first_span, with_in, turned_strict, barred}
 use Rattle.ecma_syntax.specs.Operators.{expression_level, may_name}
-use Rattle.ecma_syntax.specs.Shape.{declarators_end, FunctionParts, function_parts, class_span}
+use Rattle.ecma_syntax.specs.Shape.{is_name, declarators_end, FunctionParts, function_parts, class_span}
 use Rattle.ecma_grammar.specs.Parts.{part, is_ident}
 use Rattle.ecma_grammar.specs.Functions.{Async, FunctionDeclaration, ClassDeclaration}
 use Rattle.ecma_grammar.specs.Statements.{is_var_word, starts_expression_statement, UsingBindings}
 use Rattle.ecma_grammar.specs.Grammar.{Spells, parts}
 use Rattle.ecma_reading.specs.Source.{Fault, unexpected, Stand, Inner, operand}
 use Rattle.ecma_reading.specs.Expressions.{function_by}
-use Rattle.ecma_reading.specs.Statements.{block_by, starts_variables, variables_by, starts_using, starts_await_using, using_by, declarators_by, function_decl_by, class_decl_by, sub_by, label_name, statement_class, labelled_by, expression_by, starts_async, keyword_stmt, stmt_by, stmt_from}
+use Rattle.ecma_reading.specs.Statements.{block_by, starts_variables, variables_by, starts_using, starts_await_using, using_by, declarators_by, function_decl_by, class_decl_by, sub_by, statement_class, labelled_by, expression_by, starts_async, keyword_stmt, stmt_by, stmt_from}
 use Rattle.ecma_grammar_laws.proofs.Sure.{lm, seen, next, Sure, done, then_sure, sure_map, at_commas, if_sure, test_sure, only_sure, word_sure, name_sure}
 use Rattle.ecma_grammar_laws.proofs.Covers.{plain}
 use Rattle.ecma_grammar_laws.proofs.Nested.{Sound, GotStmt, named, end_sure}
@@ -27,9 +27,9 @@ either_one : (b : Bool) → (not b || b) ≡ true
 either_one true = refl
 either_one false = refl
 
-label_ident : (inner : Inner Input) (t : Tree) → label_name lm inner t ≡ true → is_ident t ≡ true
-label_ident inner (ident s n) e = refl
-label_ident inner _ e = absurd (true≢false (sym e))
+label_ident : (t : Tree) → is_name t ≡ true → is_ident t ≡ true
+label_ident (ident s n) e = refl
+label_ident _ e = absurd (true≢false (sym e))
 
 function_declared : (c : Code) (s : Span) (name f : Tree) (p : FunctionParts) (ts r : Input) → function_parts f ≡ Some p → FunctionDeclaration (plain c) s (part name (λ y. Spells name y)) (part f (λ y. Spells f y)) (Some p) ts r → Spells (fn_decl s name f) (plain c) ts r
 function_declared c s name f p ts r e h = subst (λ (o : Option FunctionParts). FunctionDeclaration (plain c) s (part name (λ y. Spells name y)) (part f (λ y. Spells f y)) o ts r) (sym e) h
@@ -73,9 +73,9 @@ module _ (inner : Inner Input) (good : Sound inner) where
   expression_sure : (c : Code) (s : Stand Input) → (kind (seen s) ≡ left_brace_kind → ⊥) → (kind (seen s) ≡ function_kind → ⊥) → (kind (seen s) ≡ class_kind → ⊥) → starts_async lm inner s ≡ false → Sure s.commas (expression_by lm inner c s) (GotStmt c s)
   unfolding expression_by
   expression_sure c s a b d f = if_sure s.commas (eqb (kind (seen s)) let_kind && eqb (kind2 (seen s)) left_bracket_kind) _ _ _ (λ _. record { so = tt }) (λ n.
-      then_sure s.commas (inner.expr c expression_level s) _ _ _ (good.expr c expression_level s (omega arith)) (λ e h. if_sure e.1.commas (label_name lm inner e.0 && eqb (kind (seen e.1)) colon_kind) _ _ _
-      (λ z. let y = and_parts (label_name lm inner e.0) (eqb (kind (seen e.1)) colon_kind) z in labelled_sure c s e.0 e.1 (label_ident inner e.0 y.0) h.1.spelled (eqb-true (kind (seen e.1)) colon_kind y.1))
-      (λ _. end_sure c (statement_class lm inner c e.0) e.1 _ _ (λ r q z. ended e.1 r (expr_stmt (span (lo (seen s)) r.source.last) e.0) (GotStmt c s) q (refl, (seen e.1, starts_plain s a b d f n, (h.0, h.1.spelled), z, refl))))))
+      then_sure s.commas (inner.expr c expression_level s) _ _ _ (good.expr c expression_level s (omega arith)) (λ e h. if_sure e.1.commas (is_name e.0 && eqb (kind (seen e.1)) colon_kind) _ _ _
+      (λ z. let y = and_parts (is_name e.0) (eqb (kind (seen e.1)) colon_kind) z in labelled_sure c s e.0 e.1 (label_ident e.0 y.0) h.1.spelled (eqb-true (kind (seen e.1)) colon_kind y.1))
+      (λ _. end_sure c (statement_class lm inner c s e.0) e.1 _ _ (λ r q z. ended e.1 r (expr_stmt (span (lo (seen s)) r.source.last) e.0) (GotStmt c s) q (refl, (seen e.1, starts_plain s a b d f n, (h.0, h.1.spelled), z, refl))))))
 
   refused : (l : Bool) (k : List ℕ) (x : Result (Tree × Stand Input) Fault) (P : Tree × Stand Input → Type 0) → Sure k x P → Sure k (cond l x unexpected) P
   refused l k x P h = only_sure k l x P (λ _. h)

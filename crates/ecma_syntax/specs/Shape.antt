@@ -1,6 +1,6 @@
 -- What the grammar asks of a tree before its tokens: its level, the class of its last part, and its sort.
 use Rattle.std.specs.Prelude.{ℕ, Bool, true, false, not, ◌&&◌, ◌||◌, ◌==◌, ◌+◌, min, nat_le, if◌then◌else◌, List, [], ◌∷◌, Option, Some, None, codes, bytes_eq}
-use Rattle.ecma_token.specs.Kinds.{in_kind, exp_kind, nullish_coalescing_kind, let_kind, assign_kind}
+use Rattle.ecma_token.specs.Kinds.{in_kind, exp_kind, nullish_coalescing_kind, let_kind, assign_kind, get_kind, set_kind, static_kind}
 use Rattle.ecma_token.specs.declared.place.Span.{Span}
 use Rattle.ecma_syntax.specs.Operators.{expression_level, assignment_level, conditional_level, coalesce_level, bit_or_level, unary_level, update_level, new_level, call_level, member_level, primary_level, binary_level, other_end, postfix_end, closed_end, binding_end, key_end, accessor_end, static_end}
 use Rattle.ecma_tree.specs.Folds.{fold}
@@ -95,9 +95,9 @@ is_chain _ = false
 -- ---- names
 
 -- the one name, not parenthesised
-abbrev pub names : List ℕ → Tree → Bool
-names n (ident s m) = bytes_eq n m
-names n _ = false
+abbrev pub is_name : Tree → Bool
+is_name (ident s n) = true
+is_name _ = false
 
 -- ---- patterns
 
@@ -318,16 +318,11 @@ constructs (ident_name s n) = bytes_eq n (codes "constructor")
 constructs (str_lit s u w) = bytes_eq u (codes "constructor")
 constructs _ = false
 
--- the key that is this word
-abbrev pub is_key_word : List ℕ → Tree → Bool
-is_key_word n (ident_name s m) = bytes_eq m n
-is_key_word n _ = false
-
--- The class of a field that has no value: that of its key (own).
-abbrev pub field_end : Bool → Tree → ℕ
+-- The class of a field that has no value: that of its key, by the kind of the key's first token (own).
+abbrev pub field_end : Bool → ℕ → ℕ
 field_end is_static k =
-    if is_key_word (codes "get") k || is_key_word (codes "set") k then accessor_end
-    else (if is_key_word (codes "static") k && not is_static then static_end else key_end)
+    if (k == get_kind) || (k == set_kind) then accessor_end
+    else (if (k == static_kind) && not is_static then static_end else key_end)
 
 abbrev pub is_param : Tree → Bool
 is_param (param s ds p) = true

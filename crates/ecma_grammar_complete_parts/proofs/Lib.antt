@@ -1,0 +1,5 @@
+pub mod Nested
+pub mod Within
+pub mod Follows
+pub mod Starts
+pub mod Cuts

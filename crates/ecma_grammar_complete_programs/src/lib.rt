@@ -1,0 +1,2 @@
+//! Laws of the grammar: what scripts and modules spell is read.
+#![tactic(auto)]

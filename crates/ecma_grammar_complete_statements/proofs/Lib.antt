@@ -1,0 +1,5 @@
+pub mod Simple
+pub mod Lists
+pub mod Variables
+pub mod Loops
+pub mod Statements

@@ -1,0 +1,2 @@
+//! Laws of the grammar: what a statement spells is read.
+#![tactic(auto)]
