@@ -1,7 +1,7 @@
 //! A writer that gathers short texts in one block, and hands out whole blocks.
 #![tactic(auto)]
 
-ghost use Rattle.std.specs.Prelude.{◌≡◌, ◌+◌, ◌-◌, ◌<◌, ◌≤◌, [], ◌++◌, length, take, drop, IsOk, OnOk, OnErr, is_err};
+ghost use Rattle.std.specs.Prelude.{◌≡◌, ◌⊎◌, ◌+◌, ◌-◌, ◌<◌, ◌≤◌, true, [], ◌++◌, length, take, drop, IsOk, OnOk, OnErr, is_err};
 ghost use Rattle.std.specs.Io.KnownBytes.{Appends};
 ghost use Rattle.arrayvec.specs.ArrayVec.{array_vec_len};
 ghost use Rattle.ecma_token.specs.Counts.{count_after};
@@ -113,10 +113,12 @@ impl<W: CountedWrite> Write for Gather<W> {
         self.write_counted(buf)
     }
 
-    /// Hands out what waits, and flushes the writer behind.
+    /// Hands out what waits, and flushes the writer behind. Where it fails, one more write has failed, or all
+    /// that waited is out.
     fn flush(&mut self) -> io::Result<()>
         ensures bytes { Keeps (taken W.contents self.old) (taken W.contents self.new) }
         ensures waiting { OnOk result (waiting self.new ≡ []) }
+        ensures tried { OnErr result ((waiting self.new ≡ []) ⊎ (W.failure_count (behind self.new) ≡ count_after true (W.failure_count (behind self.old)))) }
     {
         self.finish()?;
         self.wr.flush()

@@ -1,10 +1,11 @@
 -- Escapes are ASCII.
-use Rattle.std.proofs.Common.{◌≡◌, ℕ, ◌+◌, ◌/◌, ◌%◌, ◌<◌, Bool, true, false, List, [], ◌∷◌, ◌++◌, refl, sym, ap, ◌∙◌, arith}
+use Rattle.std.proofs.Common.{◌≡◌, ℕ, ◌+◌, ◌/◌, ◌%◌, ◌<◌, Bool, true, false, List, [], ◌∷◌, ◌++◌, length, length-append, refl, ap, ◌∙◌, arith}
 use Rattle.std.specs.Prelude.{if◌then◌else◌, nat_lt, encode_utf8_all}
 use Rattle.std.specs.Char.{digit_char}
 use Rattle.std.specs.Str.{IsAscii}
 use Rattle.std.proofs.lemmas.Bool.Decides.{nat_tests}
-use Rattle.std.proofs.lemmas.Str.{encodes-IsAscii}
+use lib.Utf8.{encode}
+use Rattle.std.proofs.lemmas.Str.{encodes-IsAscii, length-encode, len_utf8_bounds}
 use Rattle.std.proofs.lemmas.Str.Ascii.{IsAscii-cons, IsAscii-nil}
 use Rattle.ecma_spell_base.specs.declared.form.Form.{Form}
 use Rattle.ecma_spell_base.specs.declared.form.Form.TheVariants.{Bare, Letter, Nul, Hex, Four, FourLower, Pair, Braced}
@@ -63,3 +64,24 @@ pair_ascii c = low_encodes (written Pair c []) (written_low Pair c [] (λ e. cc)
 
 pub braced_ascii : (c : ℕ) → encode_utf8_all (written Braced c []) ≡ written Braced c []
 braced_ascii c = low_encodes (written Braced c []) (written_low Braced c [] (λ e. cc) (λ l e. cc) tt)
+
+-- ---- nothing that is written is empty
+
+pub bytes_some : (c : ℕ) (cs made : List ℕ) → made ≡ encode_utf8_all (c ∷ cs) → 0 < length made
+bytes_some c cs made e =
+    let l = ap length e in
+    let n = length-append (encode c) (encode_utf8_all cs) in
+    let m = length-encode c in
+    let b = len_utf8_bounds c in
+    let more : length made ≡ length (encode c) + length (encode_utf8_all cs) = l ∙ n in
+    omega arith
+
+pub written_some : (f : Form) (c : ℕ) → 0 < length (encode_utf8_all (written f c []))
+written_some Bare c = bytes_some c [] _ refl
+written_some (Letter l) c = bytes_some 92 (l ∷ []) _ refl
+written_some Nul c = bytes_some 92 (48 ∷ []) _ refl
+written_some Hex c = bytes_some 92 (120 ∷ lower 16 c ∷ lower 1 c ∷ []) _ refl
+written_some Four c = bytes_some 92 (four c []) _ refl
+written_some FourLower c = bytes_some 92 (four_lower c []) _ refl
+written_some Pair c = bytes_some 92 (four (lead c) (92 ∷ four (trail c) [])) _ refl
+written_some Braced c = bytes_some 92 (117 ∷ 123 ∷ (braced_digits c ++ 125 ∷ [])) _ refl

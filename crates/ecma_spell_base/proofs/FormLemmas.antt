@@ -1,21 +1,18 @@
 -- What each form is read as.
-use Rattle.std.proofs.Common.{◌≡◌, ℕ, ◌+◌, ◌*◌, ◌-◌, ◌/◌, ◌%◌, ◌<◌, ◌≤◌, ◌⊎◌, inl, inr, ⊎_elim, Bool, true, false, cond, ltb, List, [], ◌∷◌, ◌++◌, refl, sym, ap, subst, ◌∙◌, arith}
+use Rattle.std.proofs.Common.{◌≡◌, ℕ, ◌/◌, ◌%◌, ◌<◌, ◌≤◌, inl, inr, Bool, true, false, cond, List, [], ◌∷◌, ◌++◌, refl, sym, ap, ◌∙◌, arith}
 use Rattle.std.specs.Prelude.{if◌then◌else◌, nat_lt, nat_le, length, ◌&&◌}
-use Rattle.std.specs.Char.{digit_char, digit_value, is_digit}
+use Rattle.std.specs.Char.{digit_value}
 use Rattle.std.specs.Char.Escape.{encode_utf16}
-use Rattle.std.specs.List.{flat_map, list_any}
 use Rattle.std.specs.Str.Parse.{digits_value}
-use Rattle.std.proofs.lemmas.Bool.{cases_Bool, cases_lt, lt-ltb, le-ltb, ltb-true, ltb-false, le-leb, false≢true}
+use Rattle.std.proofs.lemmas.Bool.{lt-ltb, le-ltb, ltb-true, le-leb}
 use Rattle.std.proofs.lemmas.Bool.Decides.{nat_tests}
 use Rattle.std.proofs.lemmas.Str.{digit_value-digit_char}
 use Rattle.ecma_scan.specs.Runs.{Each}
-use Rattle.ecma_literal.specs.declared.escape.Escape.{Escape}
 use Rattle.ecma_literal.specs.declared.escape.Escape.TheVariants.{Code}
-use Rattle.ecma_literal.specs.Escapes.{is_hex, is_code, is_special, single, is_decimal, begins, IsEscape, IsSingle, IsNul, IsHexEscape, IsUnicodeEscape, IsBraced}
-use Rattle.ecma_literal.specs.Strings.{Piece, Plain, Escaped, Pieces, is_plain, piece_units, has_legacy_escape}
-use Rattle.ecma_spell_base.specs.declared.form.Form.{Form}
+use Rattle.ecma_literal.specs.Escapes.{is_hex, is_special, single, is_decimal, begins, IsEscape}
+use Rattle.ecma_literal.specs.Strings.{Plain, Escaped}
 use Rattle.ecma_spell_base.specs.declared.form.Form.TheVariants.{Bare, Letter, Nul, Hex, Four, FourLower, Pair, Braced}
-use Rattle.ecma_spell_base.specs.Forms.{lower, upper, upper_digit, lead, trail, four, four_lower, braced_digits, written, Suits}
+use Rattle.ecma_spell_base.specs.Forms.{lower, upper, upper_digit, lead, trail, four, four_lower, braced_digits}
 use Rattle.ecma_spell_base.specs.Pieces.{IsQuoted, EachFormStands}
 
 -- ---- digits
@@ -37,7 +34,7 @@ upper_hex p c = ap (λ x. nat_lt x 16) (upper_is p c) ∙ lt-ltb (c / p % 16) 16
 
 -- ---- values
 
-two_value : (c : ℕ) → c < 256 → c ≡ digits_value 16 (lower 16 c ∷ lower 1 c ∷ [])
+pub two_value : (c : ℕ) → c < 256 → c ≡ digits_value 16 (lower 16 c ∷ lower 1 c ∷ [])
 two_value c h = let a = lower_is 16 c in let b = lower_is 1 c in omega arith
 
 four_value : (c : ℕ) → c < 65536 → c ≡ digits_value 16 (upper 4096 c ∷ upper 256 c ∷ upper 16 c ∷ upper 1 c ∷ [])

@@ -1,5 +1,5 @@
 -- How one character is written: as it is, or by an escape (ECMA-262, 12.9.4). A text is a list of characters.
-use Rattle.std.specs.Prelude.{◌≡◌, ℕ, ◌+◌, ◌*◌, ◌-◌, ◌/◌, ◌%◌, ◌<◌, ◌≤◌, Bool, false, nat_lt, if◌then◌else◌, List, [], ◌∷◌, ◌++◌}
+use Rattle.std.specs.Prelude.{◌≡◌, ℕ, ◌+◌, ◌-◌, ◌/◌, ◌%◌, ◌<◌, ◌≤◌, false, nat_lt, if◌then◌else◌, List, [], ◌∷◌, ◌++◌}
 use Rattle.std.specs.Char.{digit_char, IsScalar}
 use Rattle.ecma_literal.specs.Escapes.{begins, is_decimal, is_special, single}
 use Rattle.ecma_spell_base.specs.declared.form.Form.{Form}

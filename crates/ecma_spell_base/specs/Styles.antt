@@ -1,5 +1,5 @@
 -- The editions that spellings tell apart.
-use Rattle.std.specs.Prelude.{ℕ, Bool, nat_lt}
+use Rattle.std.specs.Prelude.{Bool, nat_lt}
 use Rattle.ecma_token.specs.Editions.{edition_rank}
 use Rattle.ecma_spell_base.specs.declared.style.Style.{Style}
 

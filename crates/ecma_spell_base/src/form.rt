@@ -62,9 +62,9 @@ fn upper(code: u32, place: u32) -> u8
 }
 
 /// Adds ASCII characters.
-pub fn push_ascii(text: &mut Made, bytes: &[u8])
+pub fn push_ascii<const CAP: usize>(text: &mut ArrayString<CAP>, bytes: &[u8])
     requires ascii { IsAscii bytes.now }
-    requires room { array_string_len text.old + length bytes.now ≤ 12 }
+    requires room { array_string_len text.old + length bytes.now ≤ CAP }
     ensures bytes { text.new.bytes ≡ text.old.bytes ++ bytes.now }
     ensures len { array_string_len text.new ≡ array_string_len text.old + length bytes.now }
 {

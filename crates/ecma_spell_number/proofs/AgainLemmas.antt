@@ -37,7 +37,7 @@ same_unprefixed (c ∷ cs) v p o h = ⊎_elim
         ap (λ x. prefix_radix (plain (x ∷ cs))) at
         ∙ at_zero cs (ap (λ x. decimal_number (x ∷ cs)) (sym at) ∙ d) (ap (λ x. prefix_radix (x ∷ cs)) (sym at) ∙ p)
 
-same_prefixed : (t : List ℕ) (r : ℕ) → prefix_radix t ≡ Some r → prefix_radix (plain t) ≡ Some r
+pub same_prefixed : (t : List ℕ) (r : ℕ) → prefix_radix t ≡ Some r → prefix_radix (plain t) ≡ Some r
 same_prefixed [] r p = none_some p
 same_prefixed (c ∷ []) r p = none_some p
 same_prefixed (c ∷ (l ∷ ls)) r p = ⊎_elim
@@ -61,14 +61,14 @@ same_prefix t v h = by_radix (prefix_radix t) refl
 -- ---- a text written again
 
 module _ (style : Style) where
-  settled : (t : List ℕ) → plain t ≡ t → separated style t ≡ t
+  pub settled : (t : List ℕ) → plain t ≡ t → separated style t ≡ t
   settled t e = by_edition (is_below_es2021 style)
     where
       by_edition : (b : Bool) → (if b then plain t else t) ≡ t
       by_edition true = e
       by_edition false = refl
 
-  separated_twice : (t : List ℕ) → separated style (separated style t) ≡ separated style t
+  pub separated_twice : (t : List ℕ) → separated style (separated style t) ≡ separated style t
   separated_twice t = by_edition (is_below_es2021 style)
     where
       by_edition : (b : Bool) → (if b then plain (if b then plain t else t) else (if b then plain t else t)) ≡ (if b then plain t else t)
@@ -139,7 +139,7 @@ whole_plain (Scaled ds (pos n)) c p t e = whole_digits_plain ds n c.decimal t e
 whole_plain (Scaled ds (negsuc n)) c p t e = none_some e
 whole_plain (InRadix radix ds) c p t e = none_some (sym (ap (λ x. if x then whole_digits ds 0 else None) (not_ten radix p)) ∙ e)
 
-plain_both : (xs ys : List ℕ) → plain xs ≡ xs → plain ys ≡ ys → plain (xs ++ ys) ≡ xs ++ ys
+pub plain_both : (xs ys : List ℕ) → plain xs ≡ xs → plain ys ≡ ys → plain (xs ++ ys) ≡ xs ++ ys
 plain_both xs ys e f = filter-append (λ c. not (c == 95)) xs ys ∙ ap (λ (l : List ℕ). l ++ plain ys) e ∙ ap (λ (l : List ℕ). xs ++ l) f
 
 numeral_plain : (n : ℕ) → plain (numeral n) ≡ numeral n

@@ -18,7 +18,7 @@ minified_stands v rest c p may = number_stands v (minified v) rest (minified_is_
 
 -- ---- the digits of a big integer
 
-big_is : (text : List ℕ) → big_of text ≡ big_by (prefix_radix text) text
+pub big_is : (text : List ℕ) → big_of text ≡ big_by (prefix_radix text) text
 unfolding big_of
 big_is text = refl
 
@@ -26,8 +26,8 @@ letter_radix : (radix : ℕ) → is_prefixed radix ≡ true → radix_of_letter 
 letter_radix radix h = letter_is radix h
 
 -- digits of a big integer, without `_`, are read again behind the prefix of their radix
-record IsBig (radix : ℕ) (ds : List ℕ) : Type 0 where
-  again : big_of (big_prefix radix ++ ds) ≡ Some (radix, ds)
+pub record IsBig (radix : ℕ) (ds : List ℕ) : Type 0 where
+  pub again : big_of (big_prefix radix ++ ds) ≡ Some (radix, ds)
 
 prefixed_big : (radix d : ℕ) (ds : List ℕ) → is_prefixed radix ≡ true → radix ≤ 36 → AllDigits radix (d ∷ ds) → IsBig radix (d ∷ ds)
 prefixed_big radix d ds p l h =
@@ -73,13 +73,13 @@ spelled_big radix c cs l make h =
 some_is : {A : Type 0} {x y : A} → Some x ≡ Some y → x ≡ y
 some_is e = cc
 
-some_pair : (x y : ℕ × List ℕ) → Some x ≡ Some y → (x.0 ≡ y.0) × (x.1 ≡ y.1)
+pub some_pair : (x y : ℕ × List ℕ) → Some x ≡ Some y → (x.0 ≡ y.0) × (x.1 ≡ y.1)
 some_pair x y e = let s : x ≡ y = some_is e in (ap (λ (p : ℕ × List ℕ). p.0) s, ap (λ (p : ℕ × List ℕ). p.1) s)
 
 none_some : {A B : Type 0} {x : A} → None ≡ Some x → B
 none_some e = cc
 
-if_some : (b : Bool) (x y : ℕ × List ℕ) → (if b then Some x else None) ≡ Some y → (b ≡ true) × (Some x ≡ Some y)
+pub if_some : (b : Bool) (x y : ℕ × List ℕ) → (if b then Some x else None) ≡ Some y → (b ≡ true) × (Some x ≡ Some y)
 if_some true x y e = (refl, e)
 if_some false x y e = none_some e
 
@@ -139,7 +139,7 @@ prefix_prefixed (c ∷ (l ∷ ls)) r h = ⊎_elim
     (λ (e : (c == 48) ≡ false). none_some (sym (ap (λ b. if b then radix_of_letter l else None) e) ∙ h))
     (cases_Bool (c == 48))
 
-big_again : (text digits : List ℕ) (radix : ℕ) → big_of text ≡ Some (radix, digits) → IsBig radix digits
+pub big_again : (text digits : List ℕ) (radix : ℕ) → big_of text ≡ Some (radix, digits) → IsBig radix digits
 big_again text digits radix h = by_radix (prefix_radix text) refl (sym (big_is text) ∙ h)
   where
     by_radix : (o : Option ℕ) → prefix_radix text ≡ o → big_by o text ≡ Some (radix, digits) → IsBig radix digits

@@ -1,5 +1,6 @@
 pub mod AgainLemmas
 pub mod AsReadLemmas
+pub mod BigAgainLemmas
 pub mod BigLemmas
 pub mod MinifiedLemmas
 pub mod PlainLemmas

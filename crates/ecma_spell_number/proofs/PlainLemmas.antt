@@ -74,7 +74,7 @@ module _ (m : ℕ) (free : is_mark m 95 ≡ false) where
 
 -- ---- what is spelled is spelled without them
 
-spelled_plain : (radix : ℕ) (t : List ℕ) → radix ≤ 36 → spells_digits radix t ≡ true → spells_digits radix (plain t) ≡ true
+pub spelled_plain : (radix : ℕ) (t : List ℕ) → radix ≤ 36 → spells_digits radix t ≡ true → spells_digits radix (plain t) ≡ true
 spelled_plain radix [] l h = absurd (false≢true h)
 spelled_plain radix (c ∷ cs) l h =
     let first = first_digit radix c cs l h in

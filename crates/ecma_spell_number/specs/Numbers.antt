@@ -120,6 +120,12 @@ abbrev pub FormattedIsRead : Type 0
 FormattedIsRead = (style : Style) (v : SpecNumber) (raw : Option (List ℕ)) → IsCanonical v → HasPrefix v
     → ((text : List ℕ) → raw ≡ Some text → number_of text ≡ Some v) → number_of (formatted style v raw) ≡ Some v
 
+-- A formatted number is read as its value, before any rest that may follow it, where the text as it was read has it.
+abbrev pub FormattedStands : Type 0
+FormattedStands = (style : Style) (v : SpecNumber) (raw : Option (List ℕ)) (rest : List ℕ) → IsCanonical v → HasPrefix v
+    → ((text : List ℕ) → raw ≡ Some text → number_of text ≡ Some v) → MayFollow (formatted style v raw) rest
+    → SpellsNumber (Number v) (formatted style v raw) (formatted style v raw ++ rest) rest
+
 -- What is written of a number when formatting is written again where it was read.
 abbrev pub FormattedAgain : Type 0
 FormattedAgain = (style : Style) (v : SpecNumber) (raw : Option (List ℕ)) → IsCanonical v → HasPrefix v
@@ -130,3 +136,20 @@ FormattedAgain = (style : Style) (v : SpecNumber) (raw : Option (List ℕ)) → 
 abbrev pub MemberStands : Type 0
 MemberStands = (v : SpecNumber) (text more : List ℕ) → number_of text ≡ Some v
     → SpellsNumber (Number v) (before_member text) (before_member text ++ 46 ∷ more) (46 ∷ more)
+
+-- a big integer when formatting: as it was read, if it was, without `_` below ES2021; else by its radix and digits
+abbrev pub formatted_big : Style → ℕ → List ℕ → Option (List ℕ) → List ℕ
+formatted_big style radix digits None = big_text radix digits
+formatted_big style radix digits (Some raw) = separated style raw
+
+-- A formatted big integer is read as its radix and digits, where the text as it was read is, before any rest without a
+-- digit, what a name begins with or a backslash.
+abbrev pub FormattedBigIsRead : Type 0
+FormattedBigIsRead = (style : Style) (radix : ℕ) (digits own : List ℕ) (raw : Option (List ℕ)) (rest : List ℕ) → Spells (BigInt radix digits) own
+    → ((text : List ℕ) → raw ≡ Some text → Spells (BigInt radix digits) text) → Ends is_barred rest
+    → SpellsNumber (BigInt radix digits) (formatted_big style radix digits raw) (formatted_big style radix digits raw ++ rest) rest
+
+-- What is written of a big integer when formatting is written again where it was read.
+abbrev pub FormattedBigAgain : Type 0
+FormattedBigAgain = (style : Style) (radix : ℕ) (digits own : List ℕ) (raw : Option (List ℕ)) → Spells (BigInt radix digits) own
+    → formatted_big style radix digits (Some (formatted_big style radix digits raw)) ≡ formatted_big style radix digits raw

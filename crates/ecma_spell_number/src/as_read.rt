@@ -9,7 +9,7 @@ ghost use Rattle.ecma_number.specs.Numbers as numbers;
 ghost use Rattle.ecma_spell_number.specs.Numbers as spec;
 ghost use Rattle.ecma_spell_number.specs.NumberTexts.{joined, left_bytes, is_separator, is_digit_byte};
 
-use crate::text::{NumberText, minified, small_power};
+use crate::text::{NumberText, big_int, minified, small_power};
 use ecma_number::NumValue;
 use ecma_scan::characters::pop;
 use ecma_spell_base::Style;
@@ -100,20 +100,27 @@ pub(crate) fn whole_in_edition<'a>(
     }
 }
 
+/// A spelling as it was read, without `_` below ES2021.
+fn as_read(style: Style, raw: &str) -> FormattedText<'_>
+    ensures { result ≡ spec.separated style raw.now }
+{
+    FormattedText {
+        plain: style.is_below_es2021(),
+        text: NumberText {
+            first: raw,
+            second: "",
+            third: "",
+        },
+    }
+}
+
 /// A number as it was read, as the edition has it.
 fn in_edition<'a>(style: Style, value: &'a NumValue, raw: &'a str) -> FormattedText<'a>
     ensures { result ≡ spec.in_edition style raw.now (spec.whole_text value.now) }
 {
     match whole_in_edition(style, value, raw) {
         Some(text) => FormattedText { plain: false, text },
-        None => FormattedText {
-            plain: style.is_below_es2021(),
-            text: NumberText {
-                first: raw,
-                second: "",
-                third: "",
-            },
-        },
+        None => as_read(style, raw),
     }
 }
 
@@ -127,6 +134,25 @@ pub fn formatted<'a>(style: Style, value: &'a NumValue, raw: Option<&'a str>) ->
         None => FormattedText {
             plain: false,
             text: minified(value),
+        },
+    }
+}
+
+/// A big integer when formatting: as it was read, if it was, without `_` below ES2021; else by its radix and
+/// its digits (ECMA-262, 12.9.3).
+pub fn formatted_big_int<'a>(
+    style: Style,
+    radix: u32,
+    digits: &'a str,
+    raw: Option<&'a str>,
+) -> FormattedText<'a>
+    ensures { result ≡ spec.formatted_big style radix digits.now (option_map (λ t. t.now) raw.entry) }
+{
+    match raw {
+        Some(raw) => as_read(style, raw),
+        None => FormattedText {
+            plain: false,
+            text: big_int(radix, digits),
         },
     }
 }

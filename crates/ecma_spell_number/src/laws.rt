@@ -1,6 +1,6 @@
 //! Laws of the definitions, by functions that do nothing.
 
-ghost use Rattle.ecma_spell_number.specs.Numbers.{BigIntIsRead, FormattedAgain, FormattedIsRead, MemberStands, MinifiedIsRead, MinifiedStands};
+ghost use Rattle.ecma_spell_number.specs.Numbers.{BigIntIsRead, FormattedAgain, FormattedBigAgain, FormattedBigIsRead, FormattedIsRead, FormattedStands, MemberStands, MinifiedIsRead, MinifiedStands};
 
 /// Law: a minified number has its value.
 pub fn minified_is_read()
@@ -22,6 +22,11 @@ pub fn formatted_is_read()
     ensures { FormattedIsRead }
 {}
 
+/// Law: a formatted number is read as its value, before any rest that may follow it.
+pub fn formatted_stands()
+    ensures { FormattedStands }
+{}
+
 /// Law: what is written of a number when formatting is written again where it was read.
 pub fn formatted_again()
     ensures { FormattedAgain }
@@ -31,4 +36,14 @@ pub fn formatted_again()
 /// would take the first.
 pub fn member_stands()
     ensures { MemberStands }
+{}
+
+/// Law: a formatted big integer is read as its radix and digits, before any rest that may follow it.
+pub fn formatted_big_is_read()
+    ensures { FormattedBigIsRead }
+{}
+
+/// Law: what is written of a big integer when formatting is written again where it was read.
+pub fn formatted_big_again()
+    ensures { FormattedBigAgain }
 {}

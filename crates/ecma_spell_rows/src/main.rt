@@ -5,10 +5,13 @@
 use ecma_number::NumValue;
 use ecma_rows::{Answer, Row, Subject, judge_files};
 use ecma_spell_base::Style;
-use ecma_spell_number::{FormattedText, NumberText, big_int, formatted, minified, takes_point};
-use ecma_spell_string::{NameText, QuotedText};
+use ecma_spell_number::{
+    FormattedText, NumberText, big_int, formatted, formatted_big_int, minified, takes_point,
+};
+use ecma_spell_string::{NameText, QuotedText, keeps_raw};
 use ecma_spell_template::{TemplateText, reg_exp};
 use ecma_token::EsVersion;
+use std::alloc::Global;
 use std::process::ExitCode;
 
 /// Written spellings.
@@ -35,12 +38,18 @@ fn style(row: &Row<'_>) -> Style {
     }
 }
 
-/// Units as hexadecimal numbers with blanks between them, as they are written in quotes.
-fn string(text: &str, style: Style, answer: &mut Answer) -> anyhow::Result<()> {
-    let mut units = Vec::new(answer.alloc());
+/// Units as hexadecimal numbers with blanks between them.
+fn units(alloc: Global, text: &str) -> anyhow::Result<Vec<u16>> {
+    let mut units = Vec::new(alloc);
     for unit in text.split_whitespace() {
         units.push(u16::from_str_radix(unit, 16)?)?;
     }
+    Ok(units)
+}
+
+/// Units as they are written in quotes.
+fn string(text: &str, style: Style, answer: &mut Answer) -> anyhow::Result<()> {
+    let units = units(answer.alloc(), text)?;
     let mut written: Vec<u8> = Vec::new(answer.alloc());
     let mut left = QuotedText::new(units.as_slice(), style);
     for _ in 0..u64::MAX {
@@ -50,6 +59,16 @@ fn string(text: &str, style: Style, answer: &mut Answer) -> anyhow::Result<()> {
         written.extend_from_slice(block.as_str().as_bytes())?;
     }
     Ok(answer.push(written.as_slice())?)
+}
+
+/// A string, by its units and its text as it was read.
+fn raw(text: &str, raw: &str, style: Style, answer: &mut Answer) -> anyhow::Result<()> {
+    let units = units(answer.alloc(), text)?;
+    if keeps_raw(style, units.as_slice(), raw) {
+        Ok(answer.push(raw.as_bytes())?)
+    } else {
+        string(text, style, answer)
+    }
 }
 
 /// A name or a key.
@@ -78,6 +97,19 @@ fn template(left: TemplateText<'_>, answer: &mut Answer) -> anyhow::Result<()> {
     Ok(answer.push(written.as_slice())?)
 }
 
+/// The pieces of a number when formatting.
+fn pieces(alloc: Global, left: FormattedText<'_>) -> anyhow::Result<Vec<u8>> {
+    let mut left = left;
+    let mut written: Vec<u8> = Vec::new(alloc);
+    for _ in 0..u64::MAX {
+        let Some(piece) = left.next_piece() else {
+            break;
+        };
+        written.extend_from_slice(piece.as_bytes())?;
+    }
+    Ok(written)
+}
+
 /// A number as it was read; before the point of a member with a point of its own where it takes one.
 fn as_read(
     text: &str,
@@ -88,14 +120,7 @@ fn as_read(
     let Some(value) = NumValue::read(answer.alloc(), text)? else {
         return Err(anyhow::Error::msg("no number"));
     };
-    let mut written: Vec<u8> = Vec::new(answer.alloc());
-    let mut left: FormattedText<'_> = formatted(style, &value, Some(text));
-    for _ in 0..u64::MAX {
-        let Some(piece) = left.next_piece() else {
-            break;
-        };
-        written.extend_from_slice(piece.as_bytes())?;
-    }
+    let mut written = pieces(answer.alloc(), formatted(style, &value, Some(text)))?;
     if before_member && takes_point(style, &value, Some(text)) {
         written.push(b'.')?;
     }
@@ -142,9 +167,26 @@ fn number(text: NumberText<'_>, answer: &mut Answer) -> anyhow::Result<()> {
     Ok(answer.say(format_args!("{first}{second}{third}"))?)
 }
 
+/// A big integer: its radix, its digits and, when formatting, its text as it was read, with blanks between them.
+fn big_integer(text: &str, style: Style, answer: &mut Answer) -> anyhow::Result<()> {
+    let Some((radix, rest)) = text.split_once(' ') else {
+        return Err(anyhow::Error::msg("no big integer"));
+    };
+    let radix = radix.parse::<u32>()?;
+    if style.minify {
+        return number(big_int(radix, rest), answer);
+    }
+    let left = match rest.split_once(' ') {
+        Some((digits, raw)) => formatted_big_int(style, radix, digits, Some(raw)),
+        None => formatted_big_int(style, radix, rest, None),
+    };
+    let written = pieces(answer.alloc(), left)?;
+    Ok(answer.push(written.as_slice())?)
+}
+
 impl Subject for Spellings {
-    fn asked(&self, _row: &Row<'_>) -> usize {
-        1
+    fn asked(&self, row: &Row<'_>) -> usize {
+        if row.subject() == "raw" { 2 } else { 1 }
     }
 
     fn answer(&self, row: &Row<'_>, answer: &mut Answer) -> anyhow::Result<()> {
@@ -153,6 +195,10 @@ impl Subject for Spellings {
         };
         match row.subject() {
             "string" => string(text, style(row), answer),
+            "raw" => match row.text(1) {
+                Some(own) => raw(text, own, style(row), answer),
+                None => Err(anyhow::Error::msg("no text as it was read")),
+            },
             "name" => name(NameText::name(text, style(row)), answer),
             "key" => name(NameText::key(text, style(row)), answer),
             "template" => template(TemplateText::new(text, style(row)), answer),
@@ -163,10 +209,7 @@ impl Subject for Spellings {
             "formatted" => as_read(text, style(row), row.has("member"), answer),
             "member" => member(text, style(row), answer),
             "regexp" => regular(text, answer),
-            "bigint" => match text.split_once(' ') {
-                Some((radix, digits)) => number(big_int(radix.parse()?, digits), answer),
-                None => Err(anyhow::Error::msg("no big integer")),
-            },
+            "bigint" => big_integer(text, style(row), answer),
             _ => Err(anyhow::Error::msg("no such subject")),
         }
     }

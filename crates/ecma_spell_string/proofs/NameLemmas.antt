@@ -9,7 +9,7 @@ use Rattle.std.proofs.lemmas.Bool.Decides.{nat_tests}
 use Rattle.unicode_ident.proofs.IdentLemmas.{is_xid_continue-ascii}
 use Rattle.ecma_scan.specs.Characters.{is_name_part, is_hex_digit}
 use Rattle.ecma_scan.specs.Escapes as e
-use Rattle.ecma_scan.specs.Names.{IsNameChar, Spell, is_name_char}
+use Rattle.ecma_scan.specs.Names.{IsName, IsNameChar, Spell, is_name_char}
 use Rattle.ecma_scan.specs.Runs.{Each}
 use Rattle.ecma_scan.proofs.NameLemmas.{starts_continue}
 use Rattle.ecma_literal.specs.Strings.{is_plain, SpellsString}
@@ -19,7 +19,7 @@ use Rattle.ecma_spell_base.specs.declared.style.Style.{Style}
 use Rattle.ecma_spell_base.specs.Forms.{written, Suits, lower, upper, upper_digit, four, four_lower, braced_digits}
 use Rattle.ecma_spell_base.specs.Pieces.{IsQuoted}
 use Rattle.ecma_spell_base.proofs.FormLemmas.{form_stands}
-use Rattle.ecma_spell_string.specs.Names.{is_latin, name_form, key_form, name_chars, name_text, AreNameChars, NameIsRead, KeyIsRead}
+use Rattle.ecma_spell_string.specs.Names.{is_latin, name_form, key_form, name_chars, name_text, AreNameChars, NameIsRead, KeyIsRead, KeyWordIsRead}
 use Rattle.ecma_spell_string.proofs.QuotedLemmas.{scalar_code}
 use Rattle.ecma_spell_string.proofs.StringLemmas.{quoted_on}
 
@@ -205,3 +205,8 @@ key_is_read style cs rest q h =
     subst (λ (t : List ℕ). SpellsString (flat_map encode_utf16 cs) false t rest)
     (sym (ap (λ b. cond b (34 ∷ name_chars style true cs (34 ∷ rest)) (name_text style cs rest)) q))
     (x.pieces, (34, name_chars style true cs (34 ∷ rest), refl, refl, x.stand), x.value, sym x.modern)
+
+pub key_word_is_read : KeyWordIsRead
+key_word_is_read style cs rest q some h ends =
+    subst (λ (t : List ℕ). IsName t cs rest) (sym (ap (λ b. cond b (34 ∷ name_chars style true cs (34 ∷ rest)) (name_text style cs rest)) q))
+    (name_is_read style cs rest some h ends)

@@ -2,10 +2,14 @@
 use Rattle.std.proofs.Common.{◌≡◌, ℕ, ◌-◌, ◌<◌, ◌≤◌, ◌⊎◌, ⊎_elim, Bool, true, false, cond, List, [], ◌∷◌, ◌++◌, append_assoc, length, take, drop, slice_index, refl, sym, ap, subst, ◌∙◌, arith}
 use Rattle.std.specs.Prelude.{if◌then◌else◌, nat_lt, ◌&&◌, ◌||◌, ◌==◌, filter, encode_utf8_all}
 use Rattle.std.specs.Char.{IsScalar}
-use Rattle.std.proofs.lemmas.Bool.{cases_Bool, lt-ltb, le-ltb, ltb-true, ltb-false, eqb-true, and_parts, and_right, and_cases, ne_eqb}
+use Rattle.std.specs.List.{list_any}
+use Rattle.std.proofs.lemmas.Bool.{cases_Bool, lt-ltb, le-ltb, ltb-true, ltb-false, eqb-true, and_parts, and_right, and_cases, ne_eqb, false≢true}
 use Rattle.std.proofs.lemmas.Bool.Decides.{nat_tests}
 use Rattle.std.proofs.lemmas.List.Elements.{filter-append}
 use Rattle.std.proofs.lemmas.Str.{encode_ascii, encodes-append}
+use Rattle.std.specs.Str.{IsAscii}
+use Rattle.std.proofs.lemmas.Str.Ascii.{IsAscii-cons, IsAscii-nil}
+use Rattle.ecma_scan.specs.Runs.{Each}
 use Rattle.ecma_literal.specs.Escapes.{begins, is_decimal}
 use Rattle.ecma_literal.specs.Strings.{is_quote}
 use Rattle.ecma_spell_base.specs.declared.form.Form.{Form}
@@ -205,6 +209,21 @@ quote_more a b cs e f h = sym (if_true (nat_lt (count 39 cs) (count 34 cs)) 39 3
 pub quote_less : (a b : ℕ) (cs : List ℕ) → a ≡ count 39 cs → b ≡ count 34 cs → b ≤ a → 34 ≡ quote_of cs
 quote_less a b cs e f h = sym (if_false (nat_lt (count 39 cs) (count 34 cs)) 39 34 (le-ltb (count 39 cs) (count 34 cs) (omega arith)))
 
+counts_none : (x : ℕ) (us : List ℕ) → list_any (λ c. c == x) us ≡ false → length (filter (λ c. c == x) us) ≡ 0
+counts_none x [] h = refl
+counts_none x (u ∷ us) h = ⊎_elim
+    (λ (e : (u == x) ≡ true). absurd (false≢true (sym h ∙ ap (λ b. b || list_any (λ c. c == x) us) e)))
+    (λ (e : (u == x) ≡ false).
+    ap (λ b. length (cond b (u ∷ filter (λ c. c == x) us) (filter (λ c. c == x) us))) e
+    ∙ counts_none x us (sym (ap (λ b. b || list_any (λ c. c == x) us) e) ∙ h))
+    (cases_Bool (u == x))
+
+-- where no quotation mark comes
+pub quote_none : (us : List ℕ) → list_any (λ c. c == 34) us ≡ false → 34 ≡ quote_of (code_points us)
+quote_none us h =
+    quote_less (length (filter (λ c. c == 39) us)) (length (filter (λ c. c == 34) us)) (code_points us) (counts 39 us (omega arith))
+    (counts 34 us (omega arith)) (let e = counts_none 34 us h in omega arith)
+
 -- ---- a unit that stands for itself
 
 module _ (style : Style) (c : ℕ) (p : is_plain_unit style c ≡ true) where
@@ -276,6 +295,18 @@ plain_bytes style quote b u units us m old new q p e f =
     (lone_front units us u e (ap (λ t. t && begins is_low us) lone))
     (sym (plain_form style u p quote b (code_points us) q)) (ap (λ (l : List ℕ). l ++ []) (sym (encode_ascii u low))) f (sym (plain_behind style u p b))
 
+-- ---- a run of them
+
+pub each_more : (q : ℕ → Bool) (xs : List ℕ) (x : ℕ) → Each q xs → q x ≡ true → Each q (xs ++ x ∷ [])
+each_more q [] x h e = (e, tt)
+each_more q (y ∷ ys) x h e = (h.0, each_more q ys x h.1 e)
+
+pub run_more : (units xs us : List ℕ) (u : ℕ) → units ≡ xs ++ u ∷ us → units ≡ (xs ++ u ∷ []) ++ us
+run_more units xs us u e = e ∙ sym (append_assoc xs (u ∷ []) us)
+
+pub plain_byte : (style : Style) (u : ℕ) → is_plain_unit style u ≡ true → u < 128
+plain_byte style u p = let h = plain_high style u p in omega arith
+
 -- what follows the first
 tail_is : (u : ℕ) (us : List ℕ) → take (length (u ∷ us) - 1) us ≡ us
 tail_is u us = ap (λ m. take m us) (length_is us) ∙ whole us
@@ -287,13 +318,50 @@ tail_is u us = ap (λ m. take m us) (length_is us) ∙ whole us
     whole [] = refl
     whole (x ∷ xs) = ap (λ (l : List ℕ). x ∷ l) (whole xs)
 
-pub plain_first : (style : Style) (quote : ℕ) (b : Behind) (w : ℕ) (units m old new : List ℕ) → is_quote quote ≡ true → 1 ≤ length units
-    → is_plain_unit style (slice_index units 0) ≡ true → (slice_index units 0 < 128 → w ≡ slice_index units 0) → (w < 128 → new ≡ old ++ w ∷ [])
-    → old ++ encode_utf8_all (chars_text style quote b (code_points units) m)
-    ≡ new ++ encode_utf8_all (chars_text style quote Other (code_points (take (length units - 1) (drop 1 units))) m)
-plain_first style quote b w [] m old new q l p e f = absurd (omega arith)
-plain_first style quote b w (u ∷ us) m old new q l p e f =
-    let low : u < 128 = let h = plain_high style u p in omega arith in
-    let same : w ≡ u = e low in
-    plain_bytes style quote b u (u ∷ us) us m old new q p refl (f (omega (arith, same, low)) ∙ ap (λ x. old ++ x ∷ []) same)
-    ∙ ap (λ (l : List ℕ). new ++ encode_utf8_all (chars_text style quote Other (code_points l) m)) (sym (tail_is u us))
+pub record OneMore (style : Style) (units new others : List ℕ) : Type 0 where
+  pub cut : units ≡ new ++ others
+  pub stand : Each (is_plain_unit style) new
+
+-- one unit more is in the run
+pub one_more : (style : Style) (w : ℕ) (units own left new : List ℕ) → 1 ≤ length left → units ≡ own ++ left → Each (is_plain_unit style) own
+    → is_plain_unit style (slice_index left 0) ≡ true → (slice_index left 0 < 128 → w ≡ slice_index left 0) → new ≡ own ++ w ∷ []
+    → OneMore style units new (take (length left - 1) (drop 1 left))
+one_more style w units own [] new l e h p f g = absurd (omega arith)
+one_more style w units own (u ∷ us) new l e h p f g =
+    let same : w ≡ u = f (plain_byte style u p) in
+    let is : new ≡ own ++ u ∷ [] = g ∙ ap (λ x. own ++ x ∷ []) same in record {
+      cut = run_more units own us u e ∙ ap (λ (x : List ℕ). x ++ us) (sym is) ∙ ap (λ (x : List ℕ). new ++ x) (sym (tail_is u us));
+      stand = subst (Each (is_plain_unit style)) (sym is) (each_more (is_plain_unit style) own u h p);
+    }
+
+pub run_some : (n : ℕ) (b : Bool) → b ≡ (n == 0) → b ≡ false → n ≡ 0 → ⊥
+run_some n b e f z = grind (arith, nat_tests)
+
+pub run_ascii : (style : Style) (xs : List ℕ) → Each (is_plain_unit style) xs → IsAscii xs
+run_ascii style [] h = IsAscii-nil
+run_ascii style (x ∷ xs) h = IsAscii-cons x xs (plain_byte style x h.0) (run_ascii style xs h.1)
+
+run_on : (style : Style) (quote : ℕ) (b : Behind) (u : ℕ) (own us m old : List ℕ) → is_quote quote ≡ true → Each (is_plain_unit style) (u ∷ own)
+    → old ++ encode_utf8_all (chars_text style quote b (code_points ((u ∷ own) ++ us)) m)
+    ≡ (old ++ u ∷ own) ++ encode_utf8_all (chars_text style quote Other (code_points us) m)
+run_on style quote b u [] us m old q h = plain_bytes style quote b u (u ∷ us) us m old (old ++ u ∷ []) q h.0 refl refl
+run_on style quote b u (v ∷ own) us m old q h =
+    plain_bytes style quote b u (u ∷ ((v ∷ own) ++ us)) ((v ∷ own) ++ us) m old (old ++ u ∷ []) q h.0 refl refl
+    ∙ run_on style quote Other v own us m (old ++ u ∷ []) q h.1
+    ∙ ap (λ (l : List ℕ). l ++ encode_utf8_all (chars_text style quote Other (code_points us) m)) (append_assoc old (u ∷ []) (v ∷ own))
+
+pub run_bytes : (style : Style) (quote : ℕ) (b : Behind) (units own us m old new : List ℕ) → is_quote quote ≡ true → Each (is_plain_unit style) own
+    → (length own ≡ 0 → ⊥) → units ≡ own ++ us → new ≡ old ++ own
+    → old ++ encode_utf8_all (chars_text style quote b (code_points units) m) ≡ new ++ encode_utf8_all (chars_text style quote Other (code_points us) m)
+run_bytes style quote b units [] us m old new q h some e f = absurd (some refl)
+run_bytes style quote b units (u ∷ own) us m old new q h some e f =
+    ap (λ l. old ++ encode_utf8_all (chars_text style quote b (code_points l) m)) e
+    ∙ run_on style quote b u own us m old q h
+    ∙ ap (λ (l : List ℕ). l ++ encode_utf8_all (chars_text style quote Other (code_points us) m)) (sym f)
+
+-- ---- the end
+
+pub closed_bytes : (style : Style) (quote : ℕ) (b : Behind) (units m mid text new : List ℕ) → length units ≡ 0 → text ≡ encode_utf8_all m
+    → new ≡ mid ++ text → mid ++ encode_utf8_all (chars_text style quote b (code_points units) m) ≡ new
+closed_bytes style quote b [] m mid text new e f g = ap (λ (l : List ℕ). mid ++ l) (sym f) ∙ sym g
+closed_bytes style quote b (u ∷ units) m mid text new e f g = absurd (omega arith)

@@ -80,3 +80,8 @@ NameIsRead = (style : Style) (cs rest : List ℕ) → cs ≢ [] → AreNameChars
 abbrev pub KeyIsRead : Type 0
 KeyIsRead = (style : Style) (cs rest : List ℕ) → is_quoted_key style cs ≡ true → AreNameChars true cs
     → SpellsString (flat_map encode_utf16 cs) false (key_text style cs rest) rest
+
+-- Any other key is read as the word, as a name is.
+abbrev pub KeyWordIsRead : Type 0
+KeyWordIsRead = (style : Style) (cs rest : List ℕ) → is_quoted_key style cs ≡ false → cs ≢ [] → AreNameChars true cs → Ends is_continuing rest
+    → IsName (key_text style cs rest) cs rest

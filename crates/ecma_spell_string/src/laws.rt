@@ -1,6 +1,6 @@
 //! Laws of the definitions, by functions that do nothing.
 
-ghost use Rattle.ecma_spell_string.specs.Names.{KeyIsRead, NameIsRead};
+ghost use Rattle.ecma_spell_string.specs.Names.{KeyIsRead, KeyWordIsRead, NameIsRead};
 ghost use Rattle.ecma_spell_string.specs.Strings.{FormattedAgain, MinifiedAlone, QuotedIsRead, StringIsRead};
 
 /// Law: units in quotes are read as these units, whatever follows.
@@ -16,6 +16,11 @@ pub fn name_is_read()
 /// Law: a key that becomes a string is read as the units of its word, whatever follows.
 pub fn key_is_read()
     ensures { KeyIsRead }
+{}
+
+/// Law: any other key is read as its word, before whatever goes on no name.
+pub fn key_word_is_read()
+    ensures { KeyWordIsRead }
 {}
 
 /// Law: a string is read as its units, whatever follows.

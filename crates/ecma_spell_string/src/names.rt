@@ -1,6 +1,6 @@
 //! Names and keys, piece by piece.
 
-ghost use Rattle.std.specs.Prelude.{◌≡◌, ◌+◌, ◌++◌, true, length, IsUtf8, MatchOption, encode_utf8_all, []};
+ghost use Rattle.std.specs.Prelude.{◌≡◌, ◌+◌, ◌<◌, ◌++◌, true, length, IfSome, IsUtf8, MatchOption, encode_utf8_all, []};
 ghost use Rattle.std.specs.List.{prefix_len, list_any};
 ghost use Rattle.std.specs.Str.{chars};
 ghost use Rattle.ecma_scan.specs.Runs.{run, after};
@@ -98,8 +98,9 @@ struct Step<'a> {
 
 /// The next piece of a name that isn't at its end.
 fn inside(style: Style, quoted: bool, text: &str) -> Option<Step<'_>>
-    ensures { MatchOption result (chars text.now ≡ []) (λ step. spec.name_bytes style quoted Inside (chars text.now)
+    ensures bytes { MatchOption result (chars text.now ≡ []) (λ step. spec.name_bytes style quoted Inside (chars text.now)
         ≡ piece_bytes step.piece ++ spec.name_bytes style quoted Inside (chars step.rest.now)) }
+    ensures some { IfSome result (λ step. 0 < length (piece_bytes step.piece)) }
 {
     let (run, rest) = split_plain(text);
     if !run.is_empty() {
@@ -144,9 +145,10 @@ impl<'a> NameText<'a> {
         }
     }
 
-    /// The next piece of it, and none where all is written.
+    /// The next piece of it, which isn't empty, and none where all is written.
     pub fn next_piece(&mut self) -> Option<Piece<'a>>
-        ensures { MatchOption result ((self.old ≡ []) × (self.new ≡ [])) (λ piece. self.old ≡ piece_bytes piece ++ self.new) }
+        ensures bytes { MatchOption result ((self.old ≡ []) × (self.new ≡ [])) (λ piece. self.old ≡ piece_bytes piece ++ self.new) }
+        ensures some { IfSome result (λ piece. 0 < length (piece_bytes piece)) }
     {
         match self.stage {
             Stage::Opening => {

@@ -1,14 +1,17 @@
 -- A raw text with LF for its line ends is written as the raw text is.
-use Rattle.std.proofs.Common.{◌≡◌, ℕ, zero, ⊎_elim, Bool, true, false, List, [], ◌∷◌, ◌++◌, append-nil, refl, sym, ap, subst, ◌∙◌, arith}
+use Rattle.std.proofs.Common.{◌≡◌, ℕ, zero, ⊎_elim, Bool, true, false, List, [], ◌∷◌, ◌++◌, append-nil, refl, sym, ap, subst, ◌∙◌}
 use Rattle.std.specs.Prelude.{if◌then◌else◌, ◌==◌, ◌&&◌, ◌||◌, not}
 use Rattle.std.specs.List.{list_all}
-use Rattle.std.proofs.lemmas.Bool.{cases_Bool, eqb-true, false≢true}
+use Rattle.std.proofs.lemmas.Bool.{cases_Bool, eqb-true}
 use Rattle.ecma_scan.specs.Runs.{Each}
 use Rattle.ecma_literal.specs.Escapes.{begins, is_line_feed}
 use Rattle.ecma_literal.specs.Templates.{line_feeds}
 use Rattle.ecma_spell_base.specs.declared.style.Style.{Style}
-use Rattle.ecma_spell_template.specs.Again.{TemplateAgain}
+use Rattle.ecma_spell_template.specs.declared.part.Part.{Part}
+use Rattle.ecma_spell_template.specs.Again.{TemplateAgain, WrittenAgain}
 use Rattle.ecma_spell_template.specs.Templates.{is_ascii, keeps_raw, parts, parts_text, template_text}
+use Rattle.ecma_spell_template.proofs.ReadLemmas.{parts_text_more, piece_twice}
+use Rattle.ecma_spell_template.proofs.TwiceLemmas.{AreTwice}
 use Rattle.ecma_spell_template.proofs.LineLemmas.{is_other, fed_other, fed_run, fed_return}
 
 -- behind CR and LF, and behind CR alone
@@ -53,3 +56,27 @@ template_again style other raw m k =
     ap (λ l. template_text other l m)
     (ap (λ b. if b then line_feeds raw ++ [] else parts_text style false (parts zero (line_feeds raw)) []) k ∙ append-nil (line_feeds raw))
     ∙ fed_same other raw m
+
+-- a text without CR stays
+fed_stays : (cs : List ℕ) → Each is_other cs → line_feeds cs ≡ cs
+fed_stays cs h = ap line_feeds (sym (append-nil cs)) ∙ fed_run cs [] h ∙ append-nil cs
+
+-- what is written part by part
+parts_again : (style : Style) (ps : List Part) (m : List ℕ) → AreTwice style ps → template_text style (parts_text style false ps []) m ≡ parts_text style false ps m
+parts_again style ps m t =
+    ap (λ l. if keeps_raw style (parts_text style false ps []) then l ++ m else parts_text style false (parts zero l) m)
+    (fed_stays (parts_text style false ps []) (t.other false))
+    ∙ either (keeps_raw style (parts_text style false ps [])) _ _ (parts_text style false ps m) (sym (parts_text_more style false ps m)) (t.text false m)
+  where
+    either : (b : Bool) (x y z : List ℕ) → x ≡ z → y ≡ z → (if b then x else y) ≡ z
+    either true x y z f g = f
+    either false x y z f g = g
+
+pub written_again : WrittenAgain
+written_again style raw units before behind m e h codes = ⊎_elim
+    (λ (b : keeps_raw style raw ≡ true). template_again style style raw m b)
+    (λ (b : keeps_raw style raw ≡ false).
+    ap (λ x. template_text style (if x then line_feeds raw ++ [] else parts_text style false (parts zero (line_feeds raw)) []) m) b
+    ∙ parts_again style (parts zero (line_feeds raw)) m (piece_twice style raw units before behind e h codes)
+    ∙ sym (ap (λ x. if x then line_feeds raw ++ m else parts_text style false (parts zero (line_feeds raw)) m) b))
+    (cases_Bool (keeps_raw style raw))

@@ -3,5 +3,7 @@ pub mod LineLemmas
 pub mod PartLemmas
 pub mod ReadLemmas
 pub mod RegExpLemmas
+pub mod SplitLemmas
 pub mod TaggedLemmas
 pub mod TextLemmas
+pub mod TwiceLemmas

@@ -1,10 +1,10 @@
 -- A piece of an untagged template is read back.
-use Rattle.std.proofs.Common.{◌≡◌, ℕ, zero, ◌<◌, ◌≤◌, ◌⊎◌, inl, inr, ⊎_elim, Bool, true, false, List, [], ◌∷◌, ◌++◌, append-nil, append_assoc, refl, sym, ap, subst, ◌∙◌, arith}
-use Rattle.std.specs.Prelude.{if◌then◌else◌, nat_lt, ◌&&◌, ◌||◌, ◌==◌, not, Some, None}
+use Rattle.std.proofs.Common.{◌≡◌, ℕ, zero, ◌⊎◌, inl, inr, ⊎_elim, Bool, true, false, List, [], ◌∷◌, ◌++◌, append-nil, append_assoc, refl, sym, ap, subst, ◌∙◌, arith}
+use Rattle.std.specs.Prelude.{if◌then◌else◌, nat_lt, ◌||◌, ◌==◌, Some, None}
 use Rattle.std.specs.Char.Escape.{encode_utf16}
 use Rattle.std.specs.List.{flat_map, list_any}
 use Rattle.std.specs.Str.Parse.{digits_value}
-use Rattle.std.proofs.lemmas.Bool.{cases_Bool, ltb-true, ltb-false, eqb-true, ne_eqb, false≢true, and_parts}
+use Rattle.std.proofs.lemmas.Bool.{cases_Bool, ltb-true, eqb-true, false≢true}
 use Rattle.std.proofs.lemmas.Bool.Decides.{nat_tests}
 use Rattle.std.proofs.lemmas.List.{append_cancel_right}
 use Rattle.ecma_scan.specs.Characters.{is_line_terminator}
@@ -12,7 +12,7 @@ use Rattle.ecma_scan.specs.Runs.{Each}
 use Rattle.ecma_literal.specs.declared.escape.Escape.TheVariants.{Continuation, Code, Legacy}
 use Rattle.ecma_literal.specs.declared.template.Ending.{Ending}
 use Rattle.ecma_literal.specs.declared.template.Ending.TheVariants.{BackQuote, Substitution}
-use Rattle.ecma_literal.specs.Escapes.{begins, is_decimal, is_hex, is_special, is_line_feed, IsEscape, IsSingle, IsNul, IsHexEscape, IsUnicodeEscape, IsBraced}
+use Rattle.ecma_literal.specs.Escapes.{begins, is_decimal, is_line_feed, IsEscape, IsSingle, IsNul, IsHexEscape, IsUnicodeEscape, IsBraced}
 use Rattle.ecma_literal.specs.Templates as t
 use Rattle.ecma_literal.specs.Templates.{Parts, Ends, SpellsPiece, part_units, is_bad, is_bare, is_brace, line_feeds, cooked}
 use Rattle.ecma_spell_base.specs.declared.form.Form.{Form}
@@ -22,8 +22,10 @@ use Rattle.ecma_spell_base.specs.Forms.{written, braced_digits}
 use Rattle.ecma_spell_template.specs.declared.part.Part.{Part}
 use Rattle.ecma_spell_template.specs.declared.part.Part.TheVariants as p
 use Rattle.ecma_spell_template.specs.Laws.{is_code_point, TemplateIsRead}
-use Rattle.ecma_spell_template.specs.Templates.{begins_digits, hex_part, escaped, behind_backslash, escape_more, parts, form_of, part_text, digit_first, dollar_behind, parts_text, keeps_raw}
+use Rattle.ecma_spell_template.specs.Templates.{hex_part, escaped, parts, form_of, part_text, digit_first, dollar_behind, parts_text, keeps_raw}
 use Rattle.ecma_spell_template.proofs.LineLemmas.{is_other, fed_other, fed_run, fed_return, begins_front, begins_fed}
+use Rattle.ecma_spell_template.proofs.SplitLemmas.{both, bare_parts, pair_parts, no_special_x, no_special_return, hex_other, hex_parts, is_self, self_text, each_other, hexes_self, each_append}
+use Rattle.ecma_spell_template.proofs.TwiceLemmas.{IsSound, AreTwice, none_twice, part_twice, selves_twice, single_sound, hex_sound}
 use Rattle.ecma_spell_template.proofs.PartLemmas.{IsRead, read_none, bare_read, escape_read, line_read, read_on, PartReads, code_reads, line_reads, nothing_reads, hex_reads, single_reads, no_digit, no_brace}
 
 -- ---- what may follow: neither a digit nor a brace
@@ -40,13 +42,14 @@ ends_follow Substitution m r h = record { digit = ap (begins is_decimal) h; brac
 
 pub record Spelled (style : Style) (cs us : List ℕ) : Type 0 where
   pub stands : (dollar : Bool) (m : List ℕ) → Follows m → IsRead (parts_text style dollar (parts zero cs) m) us m
+  pub twice : AreTwice style (parts zero cs)
 
 spelled_none : (style : Style) → Spelled style [] []
-spelled_none style = record { stands = λ dollar m a. read_none m }
+spelled_none style = record { stands = λ dollar m a. read_none m; twice = none_twice style }
 
-spelled_part : (style : Style) (x : Part) (cs rest us vs : List ℕ) → parts zero cs ≡ x ∷ parts zero rest → PartReads style x us → Spelled style rest vs
-    → Spelled style cs (us ++ vs)
-spelled_part style x cs rest us vs e h i = record {
+spelled_part : (style : Style) (x : Part) (cs rest us vs : List ℕ) → parts zero cs ≡ x ∷ parts zero rest → PartReads style x us → IsSound x rest
+    → Spelled style rest vs → Spelled style cs (us ++ vs)
+spelled_part style x cs rest us vs e h sound i = record {
   stands = λ dollar m a.
       let ps = parts zero rest in
       let after = parts_text style (dollar_behind dollar x) (parts zero rest) m in
@@ -57,6 +60,7 @@ spelled_part style x cs rest us vs e h i = record {
       (λ n. no_digit style (dollar_behind dollar x) (parts zero rest) m a.digit n)
       (λ d. subst (λ b. begins is_brace (parts_text style b (parts zero rest) m) ≡ false) (sym d) (no_brace style (parts zero rest) m a.brace)))
       (i.stands (dollar_behind dollar x) m a));
+  twice = subst (AreTwice style) (sym e) (part_twice style rest i.twice x sound);
 }
 
 -- ---- a raw text before what follows it, as it stands with line ends as LF and as it is written
@@ -108,24 +112,17 @@ step style text mid m us vs zs xs e i fed kept spelled = record {
 
 -- ---- bare characters and line breaks
 
-pub bare_parts : (c : ℕ) (rest : List ℕ) → (c == 92) ≡ false → parts zero (c ∷ rest) ≡ p.Code c ∷ parts zero rest
-bare_parts c rest e = ap (λ b. (if b then behind_backslash rest else p.Code c) ∷ parts (if b then escape_more rest else 0) rest) e
-
 bare_no_backslash : (c : ℕ) → is_bare c ≡ true → (c == 92) ≡ false
 bare_no_backslash c b = grind (arith, nat_tests)
 
 bare_no_return : (c : ℕ) → is_bare c ≡ true → is_other c ≡ true
 bare_no_return c b = grind (arith, nat_tests)
 
-both : (a b : Bool) → a ≡ true → b ≡ true → (a && b) ≡ true
-both true b e f = f
-both false b e f = e
-
 bare_spelled : (style : Style) (c : ℕ) (rest ws : List ℕ) → is_bare c ≡ true → is_code_point c ≡ true → Spelled style rest ws
     → Spelled style (c ∷ rest) (encode_utf16 c ++ ws)
 bare_spelled style c rest ws b k s =
     spelled_part style (p.Code c) (c ∷ rest) rest (encode_utf16 c) ws (bare_parts c rest (bare_no_backslash c b))
-    (code_reads style c (both (nat_lt c 0x110000) (is_bare c) k b)) s
+    (code_reads style c (both (nat_lt c 0x110000) (is_bare c) k b)) (both (nat_lt c 0x110000) (is_bare c) k b) s
 
 bare_step : (style : Style) (text mid m vs : List ℕ) (c : ℕ) → t.Stands (t.Bare c) text mid → Reads style mid m vs → Reads style text m (encode_utf16 c ++ vs)
 bare_step style text mid m vs c h i =
@@ -171,7 +168,7 @@ line_char c h P a b d e = ⊎_elim
     none h x y z w = grind (arith, nat_tests)
 
 line_spelled : (style : Style) (rest ws : List ℕ) → Spelled style rest ws → Spelled style (92 ∷ 10 ∷ rest) ws
-line_spelled style rest ws s = spelled_part style (p.Pair 10) (92 ∷ 10 ∷ rest) rest [] ws refl (line_reads style) s
+line_spelled style rest ws s = spelled_part style (p.Pair 10) (92 ∷ 10 ∷ rest) rest [] ws refl (line_reads style) (refl, refl, λ cs h. refl) s
 
 record LineStep (style : Style) (text mid m vs : List ℕ) (c : ℕ) : Type 0 where
   goes : text ≡ 92 ∷ c ∷ mid → (c ≡ 13 → begins is_line_feed mid ≡ false) → Reads style mid m vs → Reads style text m vs
@@ -195,12 +192,12 @@ line_step style text mid m vs h i = ⊎_elim
     (record {
       goes = λ same ret j. step style text mid m [] vs (92 ∷ 0x2028 ∷ []) (92 ∷ 0x2028 ∷ []) same j (λ cs w. refl)
           (λ a n. line_read (0x2028 ∷ a) a (inr (0x2028, refl, refl, λ x. cc)))
-          (λ k rest ws s. spelled_part style p.Nothing (92 ∷ 0x2028 ∷ rest) rest [] ws refl (nothing_reads style) s);
+          (λ k rest ws s. spelled_part style p.Nothing (92 ∷ 0x2028 ∷ rest) rest [] ws refl (nothing_reads style) tt s);
     })
     (record {
       goes = λ same ret j. step style text mid m [] vs (92 ∷ 0x2029 ∷ []) (92 ∷ 0x2029 ∷ []) same j (λ cs w. refl)
           (λ a n. line_read (0x2029 ∷ a) a (inr (0x2029, refl, refl, λ x. cc)))
-          (λ k rest ws s. spelled_part style p.Nothing (92 ∷ 0x2029 ∷ rest) rest [] ws refl (nothing_reads style) s);
+          (λ k rest ws s. spelled_part style p.Nothing (92 ∷ 0x2029 ∷ rest) rest [] ws refl (nothing_reads style) tt s);
     })).goes (h.1 ∙ ap (λ (l : List ℕ). 92 ∷ l) e.1) e.3 i)
     h.2
   where
@@ -208,15 +205,6 @@ line_step style text mid m vs h i = ⊎_elim
     lf a n = line_read (10 ∷ a) a (inr (10, refl, refl, λ x. cc))
 
 -- ---- escapes of one character
-
-pair_parts : (d : ℕ) (rest : List ℕ) → (d == 120) ≡ false → parts zero (92 ∷ d ∷ rest) ≡ escaped d rest ∷ parts zero rest
-pair_parts d rest e = ap (λ b. escaped d rest ∷ parts (if b && begins_digits rest then 3 else 1) (d ∷ rest)) e
-
-no_special_x : (d : ℕ) → is_special d ≡ false → (d == 120) ≡ false
-no_special_x d s = grind (arith, nat_tests)
-
-no_special_return : (d : ℕ) → is_special d ≡ false → is_other d ≡ true
-no_special_return d s = grind (arith, nat_tests)
 
 module _ (style : Style) (text mid m vs : List ℕ) (n : ℕ) (i : Reads style mid m vs) where
   single_step : (inner : List ℕ) → text ≡ 92 ∷ inner → IsSingle n inner mid → Reads style text m (encode_utf16 n ++ vs)
@@ -226,7 +214,8 @@ module _ (style : Style) (text mid m vs : List ℕ) (n : ℕ) (i : Reads style m
       (λ a x. escape_read n (h.0 ∷ a) a (inl (h.0, refl, h.2, h.3)))
       (λ k rest ws s.
       spelled_part style (escaped h.0 rest) (92 ∷ h.0 ∷ rest) rest (encode_utf16 n) ws (pair_parts h.0 rest (no_special_x h.0 h.2))
-      (subst (λ x. PartReads style (escaped h.0 rest) (encode_utf16 x)) (sym h.3) (single_reads style h.0 rest (ltb-true h.0 0x110000 k.1.0) h.2)) s)
+      (subst (λ x. PartReads style (escaped h.0 rest) (encode_utf16 x)) (sym h.3) (single_reads style h.0 rest (ltb-true h.0 0x110000 k.1.0) h.2))
+      (single_sound h.0 rest (ltb-true h.0 0x110000 k.1.0) h.2) s)
 
   nul_step : (inner : List ℕ) → text ≡ 92 ∷ inner → IsNul n inner mid → Reads style text m (encode_utf16 n ++ vs)
   nul_step inner e h =
@@ -234,19 +223,7 @@ module _ (style : Style) (text mid m vs : List ℕ) (n : ℕ) (i : Reads style m
       (λ a x. escape_read n (48 ∷ a) a (inr (inl (refl, x.digit h.1, h.2))))
       (λ k rest ws s.
       spelled_part style (p.Code 0) (92 ∷ 48 ∷ rest) rest (encode_utf16 n) ws refl
-      (subst (λ x. PartReads style (p.Code 0) (encode_utf16 x)) (sym h.2) (code_reads style 0 refl)) s)
-
-  hex_other : (c : ℕ) → is_hex c ≡ true → is_other c ≡ true
-  hex_other c h = other_than_13 c (λ e. absurd (false≢true (ap is_hex e ∙ h)))
-    where
-      other_than_13 : (c : ℕ) → (13 ≡ c → ⊥) → is_other c ≡ true
-      other_than_13 c h = ap not (ne_eqb c 13 (λ e. absurd (h (sym e))))
-
-  hex_parts : (a b : ℕ) (rest : List ℕ) → is_hex a ≡ true → is_hex b ≡ true
-      → parts zero (92 ∷ 120 ∷ a ∷ b ∷ rest) ≡ hex_part a b (digits_value 16 (a ∷ b ∷ [])) ∷ parts zero rest
-  hex_parts a b rest h k =
-      ap (λ x. (if x then hex_part a b (digits_value 16 (a ∷ b ∷ [])) else p.Pair 120) ∷ parts (if x then 3 else 1) (120 ∷ a ∷ b ∷ rest))
-      (both (is_hex a) (is_hex b) h k)
+      (subst (λ x. PartReads style (p.Code 0) (encode_utf16 x)) (sym h.2) (code_reads style 0 refl)) refl s)
 
   hex_step : (inner : List ℕ) → text ≡ 92 ∷ inner → IsHexEscape n inner mid → Reads style text m (encode_utf16 n ++ vs)
   hex_step inner e h =
@@ -259,77 +236,9 @@ module _ (style : Style) (text mid m vs : List ℕ) (n : ℕ) (i : Reads style m
       spelled_part style (hex_part h.0 h.1 (digits_value 16 (h.0 ∷ h.1 ∷ []))) (92 ∷ 120 ∷ h.0 ∷ h.1 ∷ rest) rest (encode_utf16 n) ws
       (hex_parts h.0 h.1 rest h.3.0 h.3.1.0)
       (subst (λ x. PartReads style (hex_part h.0 h.1 (digits_value 16 (h.0 ∷ h.1 ∷ []))) (encode_utf16 x)) (sym h.4)
-      (hex_reads style h.0 h.1 (digits_value 16 (h.0 ∷ h.1 ∷ [])) h.3.0 h.3.1.0 refl)) s)
+      (hex_reads style h.0 h.1 (digits_value 16 (h.0 ∷ h.1 ∷ [])) h.3.0 h.3.1.0 refl)) (hex_sound h.0 h.1 rest h.3.0 h.3.1.0) s)
 
 -- ---- escapes of code points, whose digits are bare characters
-
-abbrev is_self : ℕ → Bool
-is_self c = nat_lt 47 c && (nat_lt c 0x7F && not (c == 92))
-
-record IsSelf (g : Form) : Type 0 where
-  is : g ≡ f.Bare
-
-by_test : (b : Bool) (x y : Form) (P : Form → Type 0) → (b ≡ true → P x) → (b ≡ false → P y) → P (if b then x else y)
-by_test true x y P f g = f refl
-by_test false x y P f g = g refl
-
-module _ (c : ℕ) (h : is_self c ≡ true) where
-  self_low : 47 < c
-  self_low = grind (arith, nat_tests)
-
-  self_high : c < 0x7F
-  self_high = grind (arith, nat_tests)
-
-  self_no_backslash : (c == 92) ≡ false
-  self_no_backslash = grind (arith, nat_tests)
-
-  self_no_dollar : (c == 36) ≡ false
-  self_no_dollar = grind (arith, nat_tests)
-
-  self_other : is_other c ≡ true
-  self_other = grind (arith, nat_tests)
-
-  below : (k : ℕ) → k ≤ 47 → (c == k) ≡ true → ⊥
-  below k l e = let x = eqb-true c k e in let y = self_low in omega arith
-
-  self_form : (style : Style) (digit : Bool) → IsSelf (form_of style false digit c)
-  self_form style digit =
-      by_test (c == 0) _ _ IsSelf
-      (λ e. absurd (below 0 (omega arith) e))
-      (λ _. by_test (c == 8) _ _ IsSelf
-      (λ e. absurd (below 8 (omega arith) e))
-      (λ _. by_test (c == 11) _ _ IsSelf
-      (λ e. absurd (below 11 (omega arith) e))
-      (λ _. by_test (c == 12) _ _ IsSelf
-      (λ e. absurd (below 12 (omega arith) e))
-      (λ _. by_test (c == 123 && false) _ _ IsSelf
-      (λ e. absurd (false≢true (and_parts (c == 123) false e).1))
-      (λ _. by_test (nat_lt c 0x7F) _ _ IsSelf
-      (λ e. record { is = refl })
-      (λ e. absurd (let x = ltb-false c 0x7F e in let y = self_high in omega arith)))))))
-
-self_text : (style : Style) (ds rest m : List ℕ) → Each is_self ds → parts_text style false (parts zero (ds ++ rest)) m ≡ ds ++ parts_text style false (parts zero rest) m
-self_text style [] rest m h = refl
-self_text style (d ∷ ds) rest m h =
-    ap (λ ps. parts_text style false ps m) (bare_parts d (ds ++ rest) (self_no_backslash d h.0))
-    ∙ ap (λ g. written g d (parts_text style (d == 36) (parts zero (ds ++ rest)) m)) (self_form d h.0 style (digit_first (parts zero (ds ++ rest)))).is
-    ∙ ap (λ b. d ∷ parts_text style b (parts zero (ds ++ rest)) m) (self_no_dollar d h.0)
-    ∙ ap (λ (l : List ℕ). d ∷ l) (self_text style ds rest m h.1)
-
-each_other : (ds : List ℕ) → Each is_self ds → Each is_other ds
-each_other [] h = tt
-each_other (d ∷ ds) h = (self_other d h.0, each_other ds h.1)
-
-hex_self : (c : ℕ) → is_hex c ≡ true → is_self c ≡ true
-hex_self c h = grind (arith, nat_tests)
-
-hexes_self : (ds : List ℕ) → Each is_hex ds → Each is_self ds
-hexes_self [] h = tt
-hexes_self (d ∷ ds) h = (hex_self d h.0, hexes_self ds h.1)
-
-each_append : (q : ℕ → Bool) (xs ys : List ℕ) → Each q xs → Each q ys → Each q (xs ++ ys)
-each_append q [] ys h i = i
-each_append q (x ∷ xs) ys h i = (h.0, each_append q xs ys h.1 i)
 
 module _ (style : Style) (text mid m vs : List ℕ) (n : ℕ) (i : Reads style mid m vs) where
   code_step : (ds : List ℕ) → text ≡ 92 ∷ 117 ∷ (ds ++ mid) → Each is_self ds → ((a : List ℕ) → IsEscape (Code n) (117 ∷ (ds ++ a)) a)
@@ -345,6 +254,7 @@ module _ (style : Style) (text mid m vs : List ℕ) (n : ℕ) (i : Reads style m
             (escape_read n (117 ∷ (ds ++ parts_text style false (parts zero rest) l)) (parts_text style false (parts zero rest) l)
             (stands (parts_text style false (parts zero rest) l)))
             (s.stands false l a));
+        twice = part_twice style (ds ++ rest) (selves_twice style ds rest h s.twice) (p.Pair 117) (refl, refl, λ cs g. refl);
       })
 
   four_step : (inner : List ℕ) → text ≡ 92 ∷ inner → IsUnicodeEscape n inner mid → Reads style text m (encode_utf16 n ++ vs)
@@ -468,3 +378,12 @@ template_is_read style raw units before behind e h codes g after rest i =
     (piece (parts_text style false (parts zero (line_feeds raw)) []) (parts_text style false (parts zero (line_feeds raw)) after) units after rest g
     (spelled.stands false after a) i (parts_text_more style false (parts zero (line_feeds raw)) after)))
     (cases_Bool (keeps_raw style raw))
+
+-- and what is written of it is written again
+pub piece_twice : (style : Style) (raw units before behind : List ℕ) (e : Ending) → SpellsPiece raw (Some units) e before behind → Each is_code_point raw
+    → AreTwice style (parts zero (line_feeds raw))
+piece_twice style raw units before behind e h codes =
+    let c = is_cooked units h.0 h.5 in
+    let r = reads style h.0 before h.1 h.2 c.good in
+    let same : raw ≡ r.own = append_cancel_right raw r.own h.1 (sym h.4 ∙ r.whole) in
+    subst (λ (l : List ℕ). AreTwice style (parts zero (line_feeds l))) (sym same) (r.spelled (subst (Each is_code_point) same codes)).twice

@@ -1,9 +1,7 @@
 -- A piece of a tagged template is read back.
-use Rattle.std.proofs.Common.{◌≡◌, ℕ, ◌⊎◌, inl, inr, ⊎_elim, Bool, true, false, List, [], ◌∷◌, ◌++◌, append_assoc, refl, sym, ap, subst, ◌∙◌, arith}
-use Rattle.std.specs.Prelude.{◌==◌, ◌||◌, ◌&&◌, not, Option}
-use Rattle.std.specs.Char.{digit_value}
+use Rattle.std.proofs.Common.{◌≡◌, ℕ, ◌⊎◌, inl, inr, ⊎_elim, Bool, true, false, List, [], ◌∷◌, ◌++◌, append_assoc, refl, sym, ap, subst, ◌∙◌}
+use Rattle.std.specs.Prelude.{◌==◌, ◌||◌}
 use Rattle.std.proofs.lemmas.Bool.{cases_Bool, false≢true, eqb-true}
-use Rattle.std.proofs.lemmas.Bool.Decides.{nat_tests}
 use Rattle.std.proofs.lemmas.List.{append_cancel_right}
 use Rattle.ecma_scan.specs.Characters.{is_line_terminator}
 use Rattle.ecma_scan.specs.Runs.{Each}
@@ -11,12 +9,11 @@ use Rattle.ecma_literal.specs.declared.escape.Escape.{Escape}
 use Rattle.ecma_literal.specs.declared.escape.Escape.TheVariants.{Continuation, Code, Legacy}
 use Rattle.ecma_literal.specs.declared.template.Ending.{Ending}
 use Rattle.ecma_literal.specs.declared.template.Ending.TheVariants.{BackQuote, Substitution}
-use Rattle.ecma_literal.specs.Escapes.{begins, is_decimal, is_hex, is_special, is_line_feed, single, IsEscape, IsLineEnd, IsSingle, IsNul, IsHexEscape, IsUnicodeEscape, IsBraced}
+use Rattle.ecma_literal.specs.Escapes.{begins, is_decimal, is_hex, is_special, is_line_feed, single, IsEscape, IsSingle, IsNul, IsHexEscape, IsUnicodeEscape, IsBraced}
 use Rattle.ecma_literal.specs.Templates as t
 use Rattle.ecma_literal.specs.Templates.{Parts, Ends, SpellsPiece, is_brace}
 use Rattle.ecma_literal.specs.Units.{is_legacy}
 use Rattle.ecma_spell_template.specs.Tagged.{TaggedIsRead}
-use Rattle.ecma_spell_template.proofs.LineLemmas.{begins_front}
 
 -- ---- what ends a piece goes on no escape
 

@@ -1,12 +1,11 @@
 -- What is written of a piece of a template, part by part.
-use Rattle.std.proofs.Common.{◌≡◌, ℕ, zero, ◌+◌, ◌<◌, ◌≤◌, Bool, true, false, List, [], ◌∷◌, ◌++◌, length, length-append, refl, sym, ap, subst, ◌∙◌, arith, IsUtf8}
+use Rattle.std.proofs.Common.{◌≡◌, ℕ, zero, ◌<◌, ◌≤◌, Bool, true, false, List, [], ◌∷◌, ◌++◌, length, refl, sym, ap, subst, ◌∙◌, arith, IsUtf8}
 use Rattle.std.specs.Prelude.{◌≢◌, if◌then◌else◌, nat_lt, ◌&&◌, ◌||◌, ◌==◌, encode_utf8_all}
 use Rattle.std.specs.Char.{IsScalar}
 use Rattle.std.specs.List.{prefix_len}
-use lib.Utf8.{encode}
 use Rattle.std.proofs.lemmas.Bool.{false≢true, and_parts}
 use Rattle.std.proofs.lemmas.Bool.Decides.{nat_tests}
-use Rattle.std.proofs.lemmas.Str.{encodes-append, length-encode, len_utf8_bounds}
+use Rattle.std.proofs.lemmas.Str.{encodes-append}
 use Rattle.ecma_scan.specs.Runs.{Each, run, after}
 use Rattle.ecma_literal.specs.Escapes.{is_decimal}
 use Rattle.ecma_literal.specs.Templates.{line_feeds}
@@ -14,13 +13,15 @@ use Rattle.ecma_literal.proofs.RunLemmas.{Flat, Cut, cut_run, run_each, run_afte
 use Rattle.ecma_spell_base.specs.declared.form.Form.{Form}
 use Rattle.ecma_spell_base.specs.declared.form.Form.TheVariants as f
 use Rattle.ecma_spell_base.specs.declared.style.Style.{Style}
-use Rattle.ecma_spell_base.specs.Forms.{written, Writes, lower, lead, trail, four, four_lower, braced_digits}
+use Rattle.ecma_spell_base.specs.Forms.{written, Writes}
+use Rattle.ecma_spell_base.proofs.AsciiLemmas.{bytes_some, written_some}
 use Rattle.ecma_spell_template.specs.declared.part.Part.{Part}
 use Rattle.ecma_spell_template.specs.declared.part.Part.TheVariants as p
 use Rattle.ecma_spell_template.specs.Left.{past_nothing, is_plain_byte, is_kept_byte, left_bytes}
 use Rattle.ecma_spell_template.specs.Templates.{is_separator, form_of, part_text, digit_first, dollar_behind, parts, parts_text}
 use Rattle.ecma_spell_template.proofs.LineLemmas.{is_other, fed_run, fed_other}
-use Rattle.ecma_spell_template.proofs.ReadLemmas.{bare_parts, part_text_more}
+use Rattle.ecma_spell_template.proofs.ReadLemmas.{part_text_more}
+use Rattle.ecma_spell_template.proofs.SplitLemmas.{bare_parts}
 
 -- ---- runs
 
@@ -63,25 +64,6 @@ kept_first style c cs rest made e same =
     ap encode_utf8_all e ∙ encodes-append (c ∷ []) (line_feeds rest) ∙ ap (λ (l : List ℕ). l ++ encode_utf8_all (line_feeds rest)) (sym same)
 
 -- ---- nothing that is written is empty
-
-pub bytes_some : (c : ℕ) (cs made : List ℕ) → made ≡ encode_utf8_all (c ∷ cs) → 0 < length made
-bytes_some c cs made e =
-    let l = ap length e in
-    let n = length-append (encode c) (encode_utf8_all cs) in
-    let m = length-encode c in
-    let b = len_utf8_bounds c in
-    let more : length made ≡ length (encode c) + length (encode_utf8_all cs) = l ∙ n in
-    omega arith
-
-written_some : (g : Form) (c : ℕ) → 0 < length (encode_utf8_all (written g c []))
-written_some f.Bare c = bytes_some c [] _ refl
-written_some (f.Letter l) c = bytes_some 92 (l ∷ []) _ refl
-written_some f.Nul c = bytes_some 92 (48 ∷ []) _ refl
-written_some f.Hex c = bytes_some 92 (120 ∷ lower 16 c ∷ lower 1 c ∷ []) _ refl
-written_some f.Four c = bytes_some 92 (four c []) _ refl
-written_some f.FourLower c = bytes_some 92 (four_lower c []) _ refl
-written_some f.Pair c = bytes_some 92 (four (lead c) (92 ∷ four (trail c) [])) _ refl
-written_some f.Braced c = bytes_some 92 (117 ∷ 123 ∷ (braced_digits c ++ 125 ∷ [])) _ refl
 
 pub part_some : (style : Style) (dollar digit : Bool) (x : Part) (made : List ℕ) → x ≢ p.Nothing → made ≡ encode_utf8_all (part_text style dollar digit x [])
     → 0 < length made

@@ -1,5 +1,5 @@
-pub mod Again
 pub mod Laws
+pub mod Again
 pub mod Left
 pub mod RegExps
 pub mod RegExpTexts

@@ -1,6 +1,6 @@
 //! Laws of the definitions, by functions that do nothing.
 
-ghost use Rattle.ecma_spell_template.specs.Again.{TemplateAgain};
+ghost use Rattle.ecma_spell_template.specs.Again.{TemplateAgain, WrittenAgain};
 ghost use Rattle.ecma_spell_template.specs.Laws.{TemplateIsRead};
 ghost use Rattle.ecma_spell_template.specs.RegExps.{RegExpIsRead};
 ghost use Rattle.ecma_spell_template.specs.Tagged.{TaggedIsRead};
@@ -25,4 +25,10 @@ pub fn tagged_is_read()
 /// style, as that piece is.
 pub fn template_again()
     ensures { TemplateAgain }
+{}
+
+/// Law: what is written of a piece of an untagged template is written again, in the same style, where it was
+/// read.
+pub fn written_again()
+    ensures { WrittenAgain }
 {}

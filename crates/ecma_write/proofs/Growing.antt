@@ -1,12 +1,12 @@
 -- What was written stays, and a place past the last stays past it.
-use Rattle.std.specs.Prelude.{Bool, true, false, if◌then◌else◌, Result, Ok, Err, IsErr, IsOk, option_map, option_and_then, ◌==◌, length}
+use Rattle.std.specs.Prelude.{Bool, true, false, if◌then◌else◌, Result, Ok, Err, option_map, option_and_then, ◌==◌, length}
 use Rattle.std.proofs.Common.{◌≡◌, ℕ, List, [], ◌++◌, Option, None, Some, refl, sym, ap, subst, ◌*◌, append_assoc, append-nil, ◌∙◌}
 use Rattle.ecma_token.specs.declared.place.BytePos.{BytePos}
 use Rattle.ecma_token.specs.declared.place.LineCol.{LineCol}
 use Rattle.ecma_token.specs.declared.place.Span.{Span}
 use Rattle.ecma_write.specs.declared.fault.EmitError.{EmitError}
 use Rattle.ecma_write.specs.declared.fault.EmitError.TheVariants.{Write, Memory, Node, Position}
-use Rattle.ecma_write.specs.Pages.{Page, Marks, IsFront, IsLeft, IsPast, record_pair, record_here, moved, settled, waiting_for, times, indented, with_text, marked, begun, ended, put_some, put, end_line, put_line, put_mark, put_preamble, deeper, shallower}
+use Rattle.ecma_write.specs.Pages.{Page, Marks, IsFront, IsLeft, IsPast, record_pair, record_here, moved, settled, waiting_for, times, indented, with_text, marked, begun, ended, put_some, put, end_line, put_line, put_mark, deeper, shallower}
 use Rattle.std.specs.Str.{chars}
 use Rattle.ecma_write.specs.Lines.{further, units, after_text, next_line}
 use Rattle.ecma_write.specs.States.{PageDoes, FaultFits}

@@ -1,6 +1,6 @@
 -- A semicolon that waits is written before the next step.
 use Rattle.std.specs.Prelude.{Bool, true, false, if◌then◌else◌, Result, Ok, Err, codes, IsSome, is_some}
-use Rattle.std.proofs.Common.{◌≡◌, ℕ, List, [], ◌∷◌, Option, None, Some, refl, sym, ap, subst, ◌∙◌}
+use Rattle.std.proofs.Common.{◌≡◌, ℕ, List, Option, None, Some, refl, sym, ap, subst, ◌∙◌}
 use Rattle.ecma_token.specs.declared.place.BytePos.{BytePos}
 use Rattle.ecma_token.specs.declared.place.Span.{Span}
 use Rattle.ecma_write.specs.declared.fault.EmitError.{EmitError}

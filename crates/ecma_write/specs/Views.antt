@@ -1,12 +1,15 @@
 -- What the writers show of their states.
-use Rattle.std.specs.Prelude.{◌≡◌, ℕ, ◌≤◌, false, List, [], ◌∷◌, length, drop, Option, Some, None, option_map, IfSome, IsSome, true, codes, Result}
+use Rattle.std.specs.Prelude.{◌≡◌, ℕ, ◌≤◌, ◌||◌, false, List, [], ◌∷◌, length, drop, Option, Some, None, option_map, IfSome, IsSome, true, codes, Result}
+use Rattle.std.specs.BTreeSet as set
+use Rattle.std.specs.BTreeSet.{BTreeSet}
 use Rattle.std.specs.List.{All}
+use Rattle.std.specs.Ordering.{nat_cmp}
 use base.Fml.{GName}
 use Rattle.ecma_token.specs.declared.place.BytePos.{BytePos}
 use Rattle.ecma_token.specs.declared.place.LineCol.{LineCol}
 use Rattle.ecma_write.specs.declared.marks.MarkList.{MarkList}
 use Rattle.ecma_write.specs.declared.js_writer.JsWriter.{JsWriter}
-use Rattle.ecma_write.specs.Pages.{Marks, Page, told}
+use Rattle.ecma_write.specs.Pages.{Marks, Page, told, is_here}
 use Rattle.ecma_write.specs.States.{State, Keeps}
 use Rattle.ecma_write.specs.declared.fault.EmitError.{EmitError}
 
@@ -23,9 +26,16 @@ marks_of m = record {
 abbrev pub AreUpTo : ℕ → List (BytePos × LineCol) → Type 0
 AreUpTo most pairs = All (λ pair. pair.0.0 ≤ most) pairs
 
--- No more marks were there when the place was reached than are now, and the greatest position since then is known.
+-- The positions of the marks behind so many are those in order and those of the marks behind so many more.
+abbrev pub AreSorted : BTreeSet ℕ → ℕ → ℕ → List (BytePos × LineCol) → Type 0
+AreSorted sorted here unsorted pairs = (unsorted ≤ length pairs)
+    × ((pos : BytePos) → (set.contains nat_cmp sorted pos.0 || is_here pos (drop unsorted pairs)) ≡ is_here pos (drop here pairs))
+
+-- No more marks were there when the place was reached than are now, the greatest position since then is known, and so
+-- are those in order.
 abbrev pub IsCounted : MarkList → Type 0
 IsCounted m = (m.here ≤ length m.list.now.items) × AreUpTo m.highest (drop m.here m.list.now.items)
+    × AreSorted m.sorted m.here m.unsorted m.list.now.items
 
 -- the loan of the list
 abbrev pub list_name : MarkList → GName

@@ -28,7 +28,7 @@ impl<'a, W: CountedWrite> JsWriter<'a, W> {
     /// A writer over `wr` that ends lines with `new_line` and indents with four blanks. Where it is given
     /// a list, it adds the marks to its end.
     pub fn new(
-        _alloc: Global,
+        alloc: Global,
         new_line: &'a str,
         wr: W,
         srcmap: Option<&'a mut Vec<(BytePos, LineCol)>>,
@@ -43,7 +43,7 @@ impl<'a, W: CountedWrite> JsWriter<'a, W> {
             indent_str: "    ",
             line_start: true,
             new_line,
-            marks: srcmap.map(MarkList::new),
+            marks: srcmap.map(|list| MarkList::new(alloc, list)),
             wr,
         }
     }

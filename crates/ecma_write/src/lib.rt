@@ -3,6 +3,7 @@
 
 pub mod fault;
 mod js_writer;
+mod lent;
 mod lines;
 mod marks;
 mod omit;

@@ -1,5 +1,7 @@
 //! The marks of what is written: pairs of a position in the source and a place in the text.
-ghost use Rattle.std.specs.Prelude.{◌≡◌, ◌≤◌, ◌*◌, [], length, option_and_then, IfOk, OnOk, OnErr, IfErr};
+ghost use Rattle.std.specs.Prelude.{◌≡◌, ◌≤◌, ◌*◌, ◌||◌, [], length, option_and_then, IfOk, OnOk, OnErr, IfErr};
+ghost use Rattle.std.specs.BTreeSet as set;
+ghost use Rattle.std.specs.Ordering.{nat_cmp};
 ghost use Rattle.std.specs.Str.{chars};
 ghost use Rattle.ecma_token.specs.declared.place.LineCol.{LineCol};
 ghost use Rattle.ecma_write.specs.declared.fault.EmitError.TheVariants.{Memory, Position};
@@ -10,6 +12,11 @@ ghost use Rattle.ecma_write.specs.Views.{marks_of, IsCounted, list_name};
 use crate::EmitError;
 use crate::lines::{after_text, further, next_line, units};
 use ecma_token::{BytePos, LineCol};
+use std::alloc::{AllocFailed, Global};
+use std::collections::BTreeSet;
+
+/// How many marks at one place are looked through one after another.
+const FEW: usize = 16;
 
 /// The list of marks, and where the next one is.
 #[derive(Drop)]
@@ -19,6 +26,9 @@ pub(crate) struct MarkList<'a> {
     here: usize,
     /// The greatest position that was recorded since then, or more.
     highest: u32,
+    /// Some of the positions that were recorded since then, in order: those of the marks before `unsorted`.
+    sorted: BTreeSet<u32>,
+    unsorted: usize,
     place: LineCol,
     waits: Option<BytePos>,
 }
@@ -26,7 +36,7 @@ pub(crate) struct MarkList<'a> {
 impl<'a> MarkList<'a> {
     /// The marks go to the end of the list.
     #[tactic(auto, using(crate::proofs::Marked::none_behind))]
-    pub(crate) fn new(list: &'a mut Vec<(BytePos, LineCol)>) -> MarkList<'a>
+    pub(crate) fn new(alloc: Global, list: &'a mut Vec<(BytePos, LineCol)>) -> MarkList<'a>
         ensures marks { marks_of result ≡ record { reached = Some (record { line = 0; col = 0 }); pairs = list.old.items; here = []; waits = None } }
         ensures counted { IsCounted result }
         ensures loan { list_name result ≡ list.entry.ghost_name }
@@ -36,6 +46,8 @@ impl<'a> MarkList<'a> {
             list,
             here,
             highest: 0,
+            sorted: BTreeSet::new(alloc),
+            unsorted: here,
             place: LineCol { line: 0, col: 0 },
             waits: None,
         }
@@ -95,7 +107,7 @@ impl<'a> MarkList<'a> {
         ensures fault { IfErr result (λ e. e ≡ Memory) }
         ensures loan { list_name self.new ≡ list_name self.old }
     {
-        if pos.is_dummy() || self.is_here(pos) {
+        if pos.is_dummy() || self.is_here(pos)? {
             return Ok(());
         }
         self.list.push((pos, self.place))?;
@@ -105,14 +117,42 @@ impl<'a> MarkList<'a> {
         Ok(())
     }
 
-    /// Whether the position was recorded since the place was reached. One past all of them is not looked for.
-    fn is_here(&self, pos: BytePos) -> bool
-        ensures { IsCounted self.now → result ≡ is_here pos (marks_of self.now).here }
+    /// Whether the position was recorded since the place was reached. One past all of them is not looked for,
+    /// and of few marks each is looked at.
+    fn is_here(&mut self, pos: BytePos) -> Result<bool, EmitError>
+        ensures value { IfOk result (λ here. IsCounted self.old → here ≡ is_here pos (marks_of self.old).here) }
+        ensures marks { marks_of self.new ≡ marks_of self.old }
+        ensures counted { IsCounted self.old → IsCounted self.new }
+        ensures fault { IfErr result (λ e. e ≡ Memory) }
+        ensures loan { list_name self.new ≡ list_name self.old }
     {
         if pos.0 > self.highest {
-            return false;
+            return Ok(false);
         }
-        self.is_among(pos)
+        if self.list.len().saturating_sub(self.here) <= FEW {
+            return Ok(self.is_among(pos));
+        }
+        self.is_sorted(pos)
+    }
+
+    /// Whether it was, where the positions recorded since then are put in order first.
+    fn is_sorted(&mut self, pos: BytePos) -> Result<bool, EmitError>
+        ensures value { IfOk result (λ here. IsCounted self.old → here ≡ is_here pos (marks_of self.old).here) }
+        ensures marks { marks_of self.new ≡ marks_of self.old }
+        ensures counted { IsCounted self.old → IsCounted self.new }
+        ensures fault { IfErr result (λ e. e ≡ Memory) }
+        ensures loan { list_name self.new ≡ list_name self.old }
+    {
+        let Some(left) = self.list.get(self.unsorted..) else {
+            return Ok(false);
+        };
+        if let Err(refused) = sort(&mut self.sorted, left) {
+            self.sorted.clear();
+            self.unsorted = self.here;
+            return Err(EmitError::from(refused));
+        }
+        self.unsorted = self.list.len();
+        Ok(self.sorted.contains(&pos.0))
     }
 
     /// Whether it is among those recorded since then.
@@ -135,6 +175,8 @@ impl<'a> MarkList<'a> {
         self.place = place;
         self.here = self.list.len();
         self.highest = 0;
+        self.sorted.clear();
+        self.unsorted = self.here;
     }
 
     /// The position waits, in place of one that waits.
@@ -151,4 +193,16 @@ fn has_position(marks: &[(BytePos, LineCol)], pos: BytePos) -> bool
     ensures { result ≡ is_here pos marks.now }
 {
     marks.iter().any(|m| m.0.0 == pos.0)
+}
+
+/// Adds the positions of these marks.
+fn sort(sorted: &mut BTreeSet<u32>, marks: &[(BytePos, LineCol)]) -> Result<(), AllocFailed<u32>>
+    ensures { OnOk result ((pos : BytePos) → set.contains nat_cmp sorted.new pos.0 ≡ (set.contains nat_cmp sorted.old pos.0 || is_here pos marks.now)) }
+{
+    let mut left = marks;
+    'marks: while let [(pos, _), rest @ ..] = left {
+        sorted.insert(pos.0)?;
+        left = rest;
+    }
+    Ok(())
 }

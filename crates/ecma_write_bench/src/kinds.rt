@@ -94,6 +94,24 @@ fn places<W: WriteJs>(writer: &mut W, count: u32) -> Result<(), EmitError> {
     Ok(())
 }
 
+/// Marks so many positions at one place, each smaller than the last.
+fn falling<W: WriteJs>(writer: &mut W, count: u32) -> Result<(), EmitError> {
+    writer.write_str("a")?;
+    for index in 0..count {
+        writer.add_srcmap(BytePos(count - index))?;
+    }
+    Ok(())
+}
+
+/// Marks so many positions at one place, in no order.
+fn scattered<W: WriteJs>(writer: &mut W, count: u32) -> Result<(), EmitError> {
+    writer.write_str("a")?;
+    for index in 0..count {
+        writer.add_srcmap(BytePos(index.wrapping_mul(0x9E37_79B1)))?;
+    }
+    Ok(())
+}
+
 /// Writes so many texts of a kind.
 pub(crate) fn fill<W: WriteJs>(writer: &mut W, kind: &str, count: u32) -> Result<(), EmitError> {
     match kind {
@@ -102,6 +120,8 @@ pub(crate) fn fill<W: WriteJs>(writer: &mut W, kind: &str, count: u32) -> Result
         "lines" => lines(writer, count),
         "semicolons" => semicolons(writer, count),
         "places" => places(writer, count),
+        "falling" => falling(writer, count),
+        "scattered" => scattered(writer, count),
         _ => names(writer, count),
     }
 }

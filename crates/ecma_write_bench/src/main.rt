@@ -1,8 +1,9 @@
 //! `ecma_write_bench KIND COUNT`: gives a writer over a block over standard output so many short texts, or
 //! marks, of a kind: `names` (between commas), `strings`, `line` (one line of names and blanks, without an end),
 //! `lines` (a name a line, 255 levels deep), `marks` (names with positions, whose marks are kept), `semicolons`
-//! (that wait). For `places` positions are marked at one place, each greater than the last. Nothing is proved of
-//! it but that it is safe: what is written, `ecma_write` promises.
+//! (that wait). Positions are marked at one place for `places` (each greater than the last), `falling` (each
+//! smaller) and `scattered` (in no order). Nothing is proved of it but that it is safe: what is written,
+//! `ecma_write` promises.
 #![tactic(auto)]
 
 mod kinds;
@@ -21,7 +22,7 @@ fn run(rt: &HostRuntime, kind: &str, count: u32) -> anyhow::Result<()> {
     let mut block = Gather::new(Counted::new(rt.stdout()));
     let mut marks = Vec::new(alloc);
     match kind {
-        "marks" | "places" => {
+        "marks" | "places" | "falling" | "scattered" => {
             let mut writer = JsWriter::new(alloc, "\n", &mut block, Some(&mut marks));
             fill(&mut writer, kind, count)?;
         }

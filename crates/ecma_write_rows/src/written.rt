@@ -4,7 +4,7 @@ use crate::calls::perform;
 use anyhow::Context;
 use ecma_memory::MemWriter;
 use ecma_rows::{Answer, Row};
-use ecma_token::{BytePos, LineCol};
+use ecma_token::{BytePos, CountedWrite, LineCol};
 use ecma_write::{EmitError, JsWriter, WriteJs, omit_trailing_semi};
 use std::alloc::Global;
 use std::io::ErrorKind;
@@ -64,36 +64,41 @@ fn over<W: WriteJs>(
     }
 }
 
-/// Sets the row's indentation, writes its preamble, and makes its calls; then what was written is an answer.
-fn called(
+/// Sets the row's indentation, writes its preamble, and makes its calls.
+fn called<W: CountedWrite>(
+    alloc: Global,
     row: &Row<'_>,
-    marks: Option<&mut Vec<(BytePos, LineCol)>>,
-    answer: &mut Answer,
+    writer: &mut JsWriter<'_, W>,
 ) -> anyhow::Result<Option<EmitError>> {
-    let alloc = answer.alloc();
     let calls = row.text(0).context("the calls are no text")?;
-    let new_line = if row.has("crlf") { "\r\n" } else { "\n" };
-    let mut writer = JsWriter::new(alloc, new_line, memory(alloc, row)?, marks);
     if row.has("tab") {
         writer.set_indent_str("\t");
     }
     if row.has("preamble") {
         writer.preamble("#!x\n")?;
     }
-    let fault = over(alloc, row, &mut writer, calls)?;
-    answer.push(writer.inner().bytes())?;
-    Ok(fault)
+    over(alloc, row, &mut *writer, calls)
+}
+
+/// The end of a line that a row asks for.
+fn new_line(row: &Row<'_>) -> &'static str {
+    if row.has("crlf") { "\r\n" } else { "\n" }
 }
 
 /// The bytes and the marks of the calls, and the fault that ended them.
 pub(crate) fn written(row: &Row<'_>, answer: &mut Answer) -> anyhow::Result<()> {
     let alloc = answer.alloc();
+    let mut memory = memory(alloc, row)?;
     let mut marks: Vec<(BytePos, LineCol)> = Vec::new(alloc);
+    let new_line = new_line(row);
     let fault = if row.has("positions") {
-        called(row, Some(&mut marks), answer)?
+        let mut writer = JsWriter::new(alloc, new_line, &mut memory, Some(&mut marks));
+        called(alloc, row, &mut writer)?
     } else {
-        called(row, None, answer)?
+        let mut writer = JsWriter::new(alloc, new_line, &mut memory, None);
+        called(alloc, row, &mut writer)?
     };
+    answer.push(memory.bytes())?;
     let mut places = String::new(alloc);
     for (pos, place) in &marks {
         let gap = if places.is_empty() { "" } else { " " };

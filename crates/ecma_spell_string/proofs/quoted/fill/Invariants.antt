@@ -1,13 +1,16 @@
-use Rattle.std.proofs.Common.{◌≡◌, ◌++◌, length}
+use Rattle.std.proofs.Common.{◌≡◌, ◌≤◌, ◌++◌, length}
+use Rattle.arrayvec.specs.ArrayString.{array_string_len}
 use Rattle.ecma_spell_string.specs.declared.quoted.Stage.TheVariants.{Inside}
 use Rattle.ecma_spell_string.specs.CodePoints.{code_points}
 use Rattle.ecma_spell_string.specs.QuotedTexts.{left_bytes}
 use Rattle.ecma_spell_string.proofs.quoted.fill.Given as goal
 
 abbrev pub invariant-characters : goal.invariant-characters
-invariant-characters l =
-    l.fn.block.bytes ++ left_bytes l.fn.style l.fn.quote l.fn.before Inside (code_points l.fn.units)
-    ≡ l.block.bytes ++ left_bytes l.fn.style l.fn.quote l.left.behind Inside (code_points l.left.rest.now)
+invariant-characters l = record {
+  bytes : l.fn.block.bytes ++ left_bytes l.fn.style l.fn.quote l.fn.before Inside (code_points l.fn.units)
+      ≡ l.block.bytes ++ left_bytes l.fn.style l.fn.quote l.left.behind Inside (code_points l.left.rest.now);
+  room : array_string_len l.block ≤ 127;
+}
 
 abbrev pub decreases-characters : goal.decreases-characters
 decreases-characters l = length l.left.rest.now

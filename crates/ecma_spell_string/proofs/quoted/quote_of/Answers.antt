@@ -1,6 +1,6 @@
-use Rattle.std.proofs.Common.{◌∙◌, arith}
+use Rattle.std.proofs.Common.{sym, ◌∙◌, arith}
 use Rattle.ecma_spell_string.specs.CodePoints.{code_points}
-use Rattle.ecma_spell_string.proofs.QuotedLemmas.{counts, quote_more, quote_less}
+use Rattle.ecma_spell_string.proofs.QuotedLemmas.{counts, quote_more, quote_less, quote_none}
 use Rattle.ecma_spell_string.proofs.quoted.quote_of.Goals as goal
 
 pub returns-then-count : goal.returns-then-count
@@ -12,3 +12,6 @@ pub returns-else-count : goal.returns-else-count
 returns-else-count c =
     quote_less c.count.result c.count-2.result (code_points c.args.units.now) (c.count.ensures ∙ counts 39 c.args.units.now (omega arith))
     (c.count-2.ensures ∙ counts 34 c.args.units.now (omega arith)) c.if-count.false
+
+pub returns-then-not-contains : goal.returns-then-not-contains
+returns-then-not-contains c = quote_none c.args.units.now (sym c.contains.ensures.value ∙ c.if-not-contains.true)

@@ -2,7 +2,8 @@ use Rattle.std.proofs.Common.{refl, ◌<◌, length, [], arith}
 use Rattle.std.specs.Str.{chars}
 use Rattle.std.proofs.lemmas.Bool.Decides.{nat_tests}
 use Rattle.std.proofs.lemmas.Str.{encodes-chars}
-use Rattle.ecma_spell_template.proofs.TextLemmas.{kept_run, kept_first, bytes_some}
+use Rattle.ecma_spell_base.proofs.AsciiLemmas.{bytes_some}
+use Rattle.ecma_spell_template.proofs.TextLemmas.{kept_run, kept_first}
 use Rattle.ecma_spell_template.proofs.text.kept_step.Goals as goal
 
 pub returns-then-not-is_empty : goal.returns-then-not-is_empty

@@ -1,4 +1,4 @@
-use Rattle.std.proofs.Common.{List, ℕ, ◌+◌, ◌<◌, ◌++◌, arith, refl, sym, subst, ◌∙◌}
+use Rattle.std.proofs.Common.{◌<◌, ◌++◌, arith, refl, sym, subst, ◌∙◌}
 use Rattle.ecma_write.specs.Pages.{times, Gets}
 use Rattle.ecma_write.proofs.Outputs.{gets_both, gets_then, gets_longer, times_more, times_split, on_err}
 use Rattle.ecma_write.proofs.output.write_times.Goals as goal

@@ -1,4 +1,4 @@
-use Rattle.std.proofs.Common.{ap, sym, ◌∙◌, length, arith, [], ℕ, List}
+use Rattle.std.proofs.Common.{ap, sym, ◌∙◌, length, arith, []}
 use Rattle.std.specs.Prelude.{encode_utf8_all}
 use Rattle.std.proofs.lemmas.Str.{length-encode, len_utf8_bounds}
 use Rattle.ecma_spell_base.specs.declared.form.Form.{Form}

@@ -1,5 +1,5 @@
 use Rattle.std.proofs.Common.{rules, ◌≡◌, Err}
-use Rattle.ecma_write.specs.Pages.{Page, indented, begun, with_text, ended}
+use Rattle.ecma_write.specs.Pages.{indented, begun, with_text, ended}
 use Rattle.ecma_write.specs.Views.{js_tells, js_page}
 use Rattle.ecma_write.proofs.Growing.{stopped, then_does, grows_indented, grows_begun, grows_text, grows_ended, grows_behind, grows_begin}
 use Rattle.ecma_write.proofs.js_writer.JsWriter.write_some.Goals as goal

@@ -1,7 +1,7 @@
 use Rattle.std.proofs.Common.{ℕ, List, [], ◌∷◌, ◌++◌, ap, ◌∙◌}
 use Rattle.ecma_spell_string.specs.CodePoints.{code_points}
 use Rattle.ecma_spell_string.proofs.QuotedLemmas.{push_bytes, can_write, quote_low}
-use Rattle.ecma_spell_string.proofs.quoted.push_other.Goals as goal
+use Rattle.ecma_spell_string.proofs.quoted.push_one.Goals as goal
 
 pub made-requires : goal.made-requires
 made-requires c =
