@@ -144,6 +144,11 @@ abbrev pub is_not_of_decrement : Tree → Bool
 is_not_of_decrement (unary_expr span op arg) = op == bang_kind && is_decrement arg
 is_not_of_decrement t = false
 
+-- a regular expression
+abbrev pub is_regexp : Tree → Bool
+is_regexp (regex_lit span body flags) = true
+is_regexp t = false
+
 -- whether the first token is a regular expression, which behind `/` opens a comment
 abbrev pub starts_with_regexp : Tree → Bool
 starts_with_regexp (regex_lit span body flags) = true

@@ -2,6 +2,7 @@
 #![tactic(auto)]
 
 pub mod ends;
+pub mod gaps;
 pub mod starts;
 
 pub use ends::EndsWithAlphaNum;

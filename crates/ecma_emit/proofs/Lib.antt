@@ -1,2 +1,2 @@
-pub mod Onward
-pub mod Steps
+pub mod Chosen
+pub mod Parts

@@ -1,2 +1,3 @@
-pub mod Texts
-pub mod Prints
+pub mod Asks
+pub mod Betweens
+pub mod There

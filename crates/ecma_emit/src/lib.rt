@@ -1,10 +1,24 @@
-//! Printing: a writer that is printed to, and what printing a part of a tree does to it.
+//! Printing a tree: what each kind of node writes is its layout.
 #![tactic(auto)]
 
+pub mod block;
+pub mod branches;
+pub mod calls;
+pub mod classes;
+pub mod declarations;
+pub mod functions;
+pub mod keys;
+pub mod list;
+pub mod literals;
+pub mod loops;
+pub mod members;
+pub mod modules;
+pub mod names;
+pub mod operators;
+pub mod patterns;
 pub mod print;
-pub mod printer;
-pub mod text;
+pub mod properties;
+pub mod simple;
 
-pub use print::Print;
-pub use printer::Printer;
-pub use text::Text;
+pub use list::Between;
+pub use print::{Print, PrintItem, PrintPart};

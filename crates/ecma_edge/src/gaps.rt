@@ -1,0 +1,147 @@
+//! Where two operators would run together without a blank between them.
+ghost use Rattle.std.specs.Prelude.{◌≡◌, ◌<◌, MatchOption};
+ghost use Rattle.ecma_token.specs.OperatorKinds.{binary_op_kind};
+ghost use Rattle.ecma_node.specs.View.{unary_op_word};
+ghost use Rattle.ecma_edge.specs.Edges as edges;
+ghost use Rattle.ecma_tree.specs.Codes.{tree_size};
+
+use crate::ends::EndsWithAlphaNum;
+use crate::starts::StartsWithAlphaNum;
+use ecma_node::{CalleeOf, Expr, ExprKind, Lit, OptChainBaseOf, UnaryOp, UpdateOp};
+use ecma_token::BinaryOp;
+
+/// Whether a blank has to stand between a left operand and its operator. It takes no memory.
+pub fn gap_before(op: BinaryOp, left: &Expr) -> bool
+    ensures { result ≡ edges.gap_before (binary_op_kind op) left.now }
+{
+    match op {
+        BinaryOp::In | BinaryOp::InstanceOf => left.ends_with_alpha_num(),
+        BinaryOp::Gt | BinaryOp::RShift | BinaryOp::ZeroFillRShift | BinaryOp::GtEq => {
+            is_postfix_decrement(left)
+        }
+        _ => false,
+    }
+}
+
+/// Whether a blank has to stand between an operator and its right operand. It takes no memory.
+pub fn gap_after(op: BinaryOp, right: &Expr) -> bool
+    ensures { result ≡ edges.gap_after (binary_op_kind op) right.now }
+{
+    match op {
+        BinaryOp::In | BinaryOp::InstanceOf => right.starts_with_alpha_num(),
+        BinaryOp::Add => is_plus(first_operand(right)),
+        BinaryOp::Sub => is_minus(first_operand(right)),
+        BinaryOp::Lt | BinaryOp::LShift => is_not_of_decrement(first_operand(right)),
+        BinaryOp::Div => starts_with_regexp(right),
+        _ => false,
+    }
+}
+
+/// Whether a blank has to stand between an operator and its one operand. It takes no memory.
+pub fn gap_of_unary(op: UnaryOp, arg: &Expr) -> bool
+    ensures { result ≡ edges.gap_of_unary (unary_op_word op) arg.now }
+{
+    match op {
+        UnaryOp::TypeOf | UnaryOp::Void | UnaryOp::Delete => arg.starts_with_alpha_num(),
+        UnaryOp::Plus => is_plus(arg),
+        UnaryOp::Minus => is_minus(arg),
+        UnaryOp::Bang | UnaryOp::Tilde => false,
+    }
+}
+
+/// What stands first in a right operand, whose own left operands come before.
+fn first_operand(expr: &Expr) -> &Expr
+    ensures { result.now ≡ edges.first_operand expr.now }
+{
+    let mut first = expr;
+    while let ExprKind::Bin(bin) = &first.kind {
+        first = bin.left.get();
+    }
+    first
+}
+
+/// Whether it is `+` or `++` with its operand.
+fn is_plus(expr: &Expr) -> bool
+    ensures { result ≡ edges.is_plus expr.now }
+{
+    match &expr.kind {
+        ExprKind::Unary(x) => matches!(x.op, UnaryOp::Plus),
+        ExprKind::Update(x) => x.prefix && matches!(x.op, UpdateOp::PlusPlus),
+        _ => false,
+    }
+}
+
+/// Whether it is `-` or `--` with its operand.
+fn is_minus(expr: &Expr) -> bool
+    ensures { result ≡ edges.is_minus expr.now }
+{
+    match &expr.kind {
+        ExprKind::Unary(x) => matches!(x.op, UnaryOp::Minus),
+        ExprKind::Update(x) => x.prefix && matches!(x.op, UpdateOp::MinusMinus),
+        _ => false,
+    }
+}
+
+/// Whether it is `--` with its operand behind it.
+fn is_decrement(expr: &Expr) -> bool
+    ensures { result ≡ edges.is_decrement expr.now }
+{
+    match &expr.kind {
+        ExprKind::Update(x) => x.prefix && matches!(x.op, UpdateOp::MinusMinus),
+        _ => false,
+    }
+}
+
+/// Whether it is `--` with its operand before it.
+fn is_postfix_decrement(expr: &Expr) -> bool
+    ensures { result ≡ edges.is_postfix_decrement expr.now }
+{
+    match &expr.kind {
+        ExprKind::Update(x) => !x.prefix && matches!(x.op, UpdateOp::MinusMinus),
+        _ => false,
+    }
+}
+
+/// Whether it is `!--`, which behind `<` opens a comment in a page.
+fn is_not_of_decrement(expr: &Expr) -> bool
+    ensures { result ≡ edges.is_not_of_decrement expr.now }
+{
+    match &expr.kind {
+        ExprKind::Unary(x) => matches!(x.op, UnaryOp::Bang) && is_decrement(x.arg.get()),
+        _ => false,
+    }
+}
+
+/// Whether its first token is a regular expression, which behind `/` opens a comment.
+fn starts_with_regexp(expr: &Expr) -> bool
+    ensures { result ≡ edges.starts_with_regexp expr.now }
+{
+    let mut first = expr;
+    while let Some(head) = head(first) {
+        first = head;
+    }
+    matches!(&first.kind, ExprKind::Lit(Lit::Regex(_)))
+}
+
+/// The expression that the text of another starts with.
+fn head(expr: &Expr) -> Option<&Expr>
+    ensures { MatchOption result (edges.starts_with_regexp expr.now ≡ edges.is_regexp expr.now)
+        (λ x. (edges.starts_with_regexp expr.now ≡ edges.starts_with_regexp x.now) × (tree_size x.now < tree_size expr.now)) }
+{
+    match &expr.kind {
+        ExprKind::Bin(x) => Some(x.left.get()),
+        ExprKind::Cond(x) => Some(x.test.get()),
+        ExprKind::Member(x) => Some(x.obj.get()),
+        ExprKind::TaggedTpl(x) => Some(x.tag.get()),
+        ExprKind::Update(x) if !x.prefix => Some(x.arg.get()),
+        ExprKind::Call(x) => match &x.callee {
+            CalleeOf::Expr(x) => Some(x.get()),
+            _ => None,
+        },
+        ExprKind::OptChain(x) => match &x.base {
+            OptChainBaseOf::Member(x) => Some(x.obj.get()),
+            OptChainBaseOf::Call(x) => Some(x.callee.get()),
+        },
+        _ => None,
+    }
+}

@@ -1,0 +1,6 @@
+use Rattle.std.proofs.Common.{sym}
+use Rattle.ecma_printer.proofs.Steps.{◌▸◌}
+use Rattle.ecma_emit.proofs.calls.CallExprOfPrint.print.Goals as goal
+
+pub returns : goal.returns
+returns g c = c.commit.ensures ▸ (c.start.ensures ▸ (c.print.ensures ▸ rw (sym c.as_slice.ensures.value) c.print_arguments.ensures))
