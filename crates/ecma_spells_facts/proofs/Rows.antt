@@ -1,5 +1,5 @@
 -- Rows of facts: a program's text, and what its tree must give.
-use Rattle.std.proofs.Common.{◌≡◌, ℕ, Bool, true, false, if◌then◌else◌, List, [], ◌∷◌, ◌++◌, Result, Ok, Err, codes, bytes_eq}
+use Rattle.std.proofs.Common.{◌≡◌, ℕ, true, false, if◌then◌else◌, List, [], ◌∷◌, ◌++◌, Result, Ok, Err, codes, bytes_eq}
 use Rattle.ecma_tree.specs.Tree.{Tree}
 use Rattle.ecma_reading.specs.Source.{Fault}
 use Rattle.ecma_reading.proofs.Rows.{full_syntax, read_text}
