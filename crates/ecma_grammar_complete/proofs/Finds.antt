@@ -3,7 +3,7 @@ use Rattle.std.proofs.Common.{◌≡◌, ℕ, zero, suc, ◌<◌, ◌≤◌, Boo
 use Rattle.std.proofs.lemmas.Bool.{ne_eqb, eq-eqb, lt-ltb, leb-true, and_from, and_left, or_left, false_from_ne_true}
 use Rattle.ecma_token.specs.declared.place.Span.{Span}
 use Rattle.ecma_token.specs.Kinds.{async_kind, comma_kind, dot_kind, question_mark_kind, left_paren_kind, left_bracket_kind, function_kind}
-use Rattle.ecma_tree.specs.Tree.{Tree, this_expr, null_lit, bool_lit, ident, str_lit, number_lit, big_int_lit, regex_lit, paren_expr, array_lit, unary_expr, update_expr, await_expr, bin_expr, cond_expr, seq_expr, member_expr, call_expr, new_expr, computed_prop_name, ident_name, private_name, expr_or_spread, hole, absent, list, tpl, tagged_tpl, opt_chain_expr, opt_call, super, import, super_prop_expr, meta_prop_expr, yield_expr, object_lit, key_value_prop, assign_prop, spread_element, binding_ident, array_pat, object_pat, assign_pat, rest_pat, key_value_pat_prop, assign_pat_prop, expr_pat, assign_expr, arrow_expr}
+use Rattle.ecma_tree.specs.Tree.{Tree, this_expr, null_lit, bool_lit, ident, str_lit, number_lit, big_int_lit, regex_lit, paren_expr, array_lit, unary_expr, update_expr, await_expr, bin_expr, cond_expr, seq_expr, member_expr, call_expr, new_expr, computed_prop_name, ident_name, private_name, expr_or_spread, hole, absent, list, tpl, tagged_tpl, opt_chain_expr, opt_call, super, import, super_prop_expr, meta_prop_expr, yield_expr, object_lit, key_value_prop, assign_prop, spread_element, binding_ident, array_pat, object_pat, assign_pat, rest_pat, key_value_pat_prop, assign_pat_prop, expr_pat, assign_expr, arrow_expr, fn_expr, class_expr}
 use Rattle.ecma_syntax.specs.Input.{Input, Code, kind, kind2, brk, lo, rest, span, first_span, is_word}
 use Rattle.ecma_syntax.specs.Operators.{operates, goes_expr, is_assign_op}
 use Rattle.ecma_syntax.specs.Shape.{level, ends}
@@ -94,7 +94,9 @@ positive (str_lit s u w) c ts r g h l = omega arith
 positive (number_lit s v w) c ts r g h l = omega arith
 positive (big_int_lit s x y w) c ts r g h l = omega arith
 positive (regex_lit s e f) c ts r g h l = omega arith
-positive _ c ts r g h l = absurd g
+positive (fn_expr s n f) c ts r g h l = omega arith
+positive (class_expr s n k) c ts r g h l = omega arith
+positive _ c ts r g h l = absurd (omega (arith, l))
 
 pub loop_stops : (inner : Inner Input) (c : Code) (l : ℕ) (start : Stand Input) (t : Tree) (r : Input) (k : List ℕ) (Q : Type 0) → goes_expr c (ends t) r < l → Loops (loop_step lm inner c l start) t r k (Is t r) Q
 unfolding loop_step

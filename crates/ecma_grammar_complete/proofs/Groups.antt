@@ -13,7 +13,8 @@ use Rattle.ecma_reading.specs.Source.{Fault, ◌>>=◌, unexpected, Stand, Inner
 use Rattle.ecma_reading.specs.Expressions.{Elements, no_elements, element_step, elements_by, plain_element, plain_elements, last_end, joined, prefix_by, group_by, group_end}
 use Rattle.ecma_reading.specs.Reading.{readers}
 use Rattle.ecma_grammar_complete.proofs.Yields.{lm, from, len, coded, then_reads, Is, Loops, loop_on, loop_end, looped, Reads, here, past_here, ended, if_no, if_yes, then_past_reads}
-use Rattle.ecma_grammar_complete.proofs.Trees.{Covered, CoveredAll, size, sizes, reach, reaches, cut, takes}
+use Rattle.ecma_grammar_complete.proofs.Lengths.{taken}
+use Rattle.ecma_grammar_complete.proofs.Trees.{Covered, CoveredAll, size, sizes, reach, reaches, takes}
 use Rattle.ecma_grammar_complete.proofs.Prefixes.{arrowed}
 use Rattle.ecma_grammar_complete.proofs.Lists.{Finds, step_comma, step_close}
 
@@ -73,7 +74,7 @@ module _ (z d : ℕ) (f : Finds z d) (p : Bool) (c : Code) where
   group_loop x (more y ys) acc ds b ts m u r k n pl sz szs g gs h w e t le =
       loop_on _ _ (record { items = acc ++ wrapped ts m x ∷ []; comma = true }) ts w.0 k (d < reach x) _ _
       (step_comma z d f p (with_in c) false right_paren_kind refl refl refl (wrapped ts m x) acc b ts m w.0 k sz g refl (h, refl) w.2.0 w.2.2) (λ v. omega arith)
-      (omega (arith, cut x _ ts m g h.1, takes comma_kind m w.0 w.2.0 (omega arith) w.2.2))
+      (omega (arith, taken x _ ts m (omega (arith, h.0)) h.1, takes comma_kind m w.0 w.2.0 (omega arith) w.2.2))
       (λ l. subst (λ es. Loops (element_step lm (readers lm d) (with_in c) false right_paren_kind) (record { items = acc ++ wrapped ts m x ∷ []; comma = true }) w.0 l (Grouped es u.last r) (d < n)) (append_assoc ds (x ∷ []) (y ∷ unpack ys))
       (group_loop y ys (acc ++ wrapped ts m x ∷ []) (ds ++ x ∷ []) true w.0 w.1 u r l n (plain_after acc ds (span (lo ts) m.last) x pl) (omega arith) (omega arith) gs.0 gs.1 w.3 w.4 e t (omega arith)))
 

@@ -1,6 +1,8 @@
 pub mod Yields
 pub mod Levels
 pub mod Trees
+pub mod Cuts
+pub mod Lengths
 pub mod Prefixes
 pub mod Lists
 pub mod Steps
@@ -15,4 +17,3 @@ pub mod News
 pub mod Words
 pub mod Comes
 pub mod Heads
-pub mod CompleteLemmas

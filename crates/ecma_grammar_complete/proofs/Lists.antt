@@ -3,22 +3,38 @@ use Rattle.std.proofs.Common.{◌≡◌, ℕ, zero, suc, ◌+◌, ◌<◌, ◌�
 use Rattle.std.proofs.lemmas.Bool.{eqb-true, eqb-false, ne_eqb, eq-eqb, cases_Bool, and_parts, and_from, or_cases}
 use Rattle.ecma_token.specs.declared.place.Span.{Span}
 use Rattle.ecma_token.specs.Kinds.{comma_kind, dot_dot_dot_kind, right_paren_kind, right_bracket_kind}
-use Rattle.ecma_tree.specs.Tree.{Tree, Trees, none, more, pack, unpack, expr_or_spread, hole, ident}
+use Rattle.ecma_tree.specs.Tree.{Tree, Trees, none, more, pack, unpack, expr_or_spread, hole, ident, fn_expr, class_expr, block_stmt, method_prop, getter_prop, setter_prop}
 use Rattle.ecma_syntax.specs.Input.{Input, Code, kind, brk, lo, rest, span, first_span, Takes, with_in}
 use Rattle.ecma_syntax.specs.Operators.{assignment_level}
 use Rattle.ecma_syntax.specs.Shape.{level, ends, is_element, is_hole, is_rest}
 use Rattle.ecma_grammar.specs.Parts.{Part, part, By, IsEmpty, Sorted, Listed}
+use Rattle.ecma_grammar.specs.Functions.{Body}
 use Rattle.ecma_grammar.specs.Grammar.{Spells, parts}
 use Rattle.ecma_reading.specs.Source.{Fault, ◌>>=◌, unexpected, Stand, Inner, Step, go_on, finished, eat}
-use Rattle.ecma_reading.specs.Expressions.{Elements, no_elements, element_by, after_element, element_step, elements_by}
+use Rattle.ecma_reading.specs.Expressions.{Elements, no_elements, element_by, after_element, element_step, elements_by, prefix_by, prop_by}
 use Rattle.ecma_reading.specs.Reading.{readers}
 use Rattle.ecma_grammar_complete.proofs.Yields.{lm, from, len, coded, then_reads, Is, then_is, then_eat, Loops, loop_on, loop_end, looped, shorter, Reads, here, past_here, ended, if_no, if_yes, then_past}
 use Rattle.ecma_grammar_complete.proofs.Levels.{closes, quiet, Follow, closed_by, comma_after, Asked}
-use Rattle.ecma_grammar_complete.proofs.Trees.{Covered, CoveredAll, size, sizes, reach, reaches, begins, starts, no_kind, cut, by_cases}
+use Rattle.ecma_grammar_complete.proofs.Lengths.{element_taken}
+use Rattle.ecma_grammar_complete.proofs.Trees.{Covered, CoveredAll, size, sizes, reach, reaches, begins, starts, no_kind, by_cases}
+
+-- a method, a getter or a setter of an object
+abbrev pub is_method : Tree → Bool
+is_method (method_prop s k f) = true
+is_method (getter_prop s k b) = true
+is_method (setter_prop s k a b) = true
+is_method _ = false
 
 -- What is spelled so, and doesn't go on, is read by calls so deep, or they are not deep enough.
 abbrev pub Finds : ℕ → ℕ → Type 0
 Finds z d = (t : Tree) (p : Bool) (c : Code) (l : ℕ) (ts r : Input) (k : List ℕ) → size t < z → Covered t → Spells t (coded p c) ts r → 1 ≤ l → l < 20 → Asked l → l ≤ level t → Follow c (ends t) l r → Reads (from ts k) ((readers lm d).expr c l (from ts k)) (Is t r) (d < reach t)
+
+-- What is nested in functions, classes and methods is read so too: what the readers of such nodes find, by calls so deep.
+pub record Deep (z d : ℕ) : Type 0 where
+  pub functions : (s : Span) (n f : Tree) (p : Bool) (c : Code) (ts r : Input) (k : List ℕ) → size (fn_expr s n f) < suc z → Spells (fn_expr s n f) (coded p c) ts r → Reads (from ts k) (prefix_by lm (readers lm d) c (from ts k)) (Is (fn_expr s n f) r) (suc d < reach (fn_expr s n f))
+  pub classes : (s : Span) (n t : Tree) (p : Bool) (c : Code) (ts r : Input) (k : List ℕ) → size (class_expr s n t) < suc z → Spells (class_expr s n t) (coded p c) ts r → Reads (from ts k) (prefix_by lm (readers lm d) c (from ts k)) (Is (class_expr s n t) r) (suc d < reach (class_expr s n t))
+  pub bodies : (s : Span) (ss : Trees) (p : Bool) (c : Code) (ts r : Input) (k : List ℕ) → size (block_stmt s ss) < z → Body (coded p c) s (parts ss) ts r → Reads (from ts k) ((readers lm d).body c (from ts k)) (Is (block_stmt s ss) r) (d < reach (block_stmt s ss))
+  pub methods : (t : Tree) (p : Bool) (c : Code) (ts r : Input) (k : List ℕ) → is_method t ≡ true → size t < z → Spells t (coded p c) ts r → Reads (from ts k) (prop_by lm (readers lm d) c (from ts k)) (Is t r) (d < reach t)
 
 pub two_asked : Asked 2
 two_asked = record { conditional = λ e. omega (arith, e); update = λ e. omega (arith, e) }
@@ -108,7 +124,7 @@ module _ (z d : ℕ) (f : Finds z d) (p : Bool) (c : Code) where
         loop_on _ _ (record { items = acc ++ hole ∷ []; comma = false }) ts y.0 k ⊥ _ _ (step_hole acc b ts y.0 k ⊥ w.0 y.1.0 y.1.2) (λ u. absurd u) (takes_less comma_kind ts y.0 y.1.0 (omega arith) y.1.2)
         (λ l. subst (λ ys. Loops (element_step lm (readers lm d) c holes close) (record { items = acc ++ hole ∷ []; comma = false }) y.0 l (Has ys r) (d < n)) (append_assoc acc (hole ∷ []) (unpack xs) ∙ ap (λ (v : Tree). acc ++ (v ∷ unpack xs)) (sym (hole_is x w.1)))
         (elements_loop xs (acc ++ hole ∷ []) false y.0 r l n (omega arith) g.1 y.2 (omega arith))))
-        (λ e y. let shrinks : len y.0 < len ts = cut x _ ts y.0 g.0 y.1.1 in ⊎_elim
+        (λ e y. let shrinks : len y.0 < len ts = element_taken x _ ts y.0 y.1 in ⊎_elim
         (λ v. loop_on _ _ (record { items = acc ++ x ∷ []; comma = true }) ts v.1 k (d < reach x) _ _ (step_comma x acc b ts y.0 v.1 k (omega arith) g.0 y.1.0 y.1.1 v.2.0 v.2.2) (λ u. omega arith) (omega (arith, takes_less comma_kind y.0 v.1 v.2.0 (omega arith) v.2.2))
         (λ l. subst (λ ys. Loops (element_step lm (readers lm d) c holes close) (record { items = acc ++ x ∷ []; comma = true }) v.1 l (Has ys r) (d < n)) (append_assoc acc (x ∷ []) (unpack xs))
         (elements_loop xs (acc ++ x ∷ []) true v.1 r l n (omega arith) g.1 v.3 (omega arith))))

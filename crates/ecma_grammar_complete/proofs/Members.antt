@@ -16,7 +16,8 @@ use Rattle.ecma_reading.specs.Expressions.{Spans, private_by, member_name, membe
 use Rattle.ecma_reading.specs.Reading.{readers}
 use Rattle.ecma_grammar_complete.proofs.Yields.{lm, from, coded, first_at, Reads, then_reads, Is, then_is, then_past, then_past_reads, then_eat, then_word, then_any, after_one, here, past_here, ended, if_no, if_yes, Loops, loop_on, loop_end, looped, shorter}
 use Rattle.ecma_grammar_complete.proofs.Levels.{quits, ends_operand, closed_by}
-use Rattle.ecma_grammar_complete.proofs.Trees.{Covered, CoveredAll, size, sizes, reach, reaches, takes, cut}
+use Rattle.ecma_grammar_complete.proofs.Lengths.{taken}
+use Rattle.ecma_grammar_complete.proofs.Trees.{Covered, CoveredAll, size, sizes, reach, reaches, takes}
 use Rattle.ecma_grammar_complete.proofs.Lists.{Finds, Has, pack_unpack, one_asked}
 use Rattle.ecma_grammar_complete.proofs.Steps.{computed_found}
 
@@ -139,7 +140,7 @@ module _ (z d : ℕ) (f : Finds z d) (p : Bool) (c : Code) (tagged : Bool) where
       loop_on _ _ (spans (es ++ x ∷ []) (qs ++ tpl_element s t w u ∷ [])) ts h.3 k (d < reach x) _ _
       (quasi_next inner c tagged s t w u es qs ts h.0 k h.6.1.0 h.6.1.1.0 h.6.1.1.2 h.6.1.2 h.5 x h.1 h.2 h.3 (d < reach x) h.4 h.7.0 h.7.2
       (λ j. f x p (with_in c) 1 h.1 h.2 j (omega arith) g.0 h.8.1 (omega arith) (omega arith) one_asked h.8.0 (closed_by (with_in c) (ends x) 1 12 h.2 h.9.0 refl refl (omega arith))) (λ v. v) h.9.0 h.9.2) (λ v. omega arith)
-      (omega (arith, takes template_kind ts h.0 h.6.1.1.0 (omega arith) h.6.1.1.2, takes 18 h.0 h.1 h.7.0 (omega arith) h.7.2, cut x _ h.1 h.2 g.0 h.8.1, takes 12 h.2 h.3 h.9.0 (omega arith) h.9.2))
+      (omega (arith, takes template_kind ts h.0 h.6.1.1.0 (omega arith) h.6.1.1.2, takes 18 h.0 h.1 h.7.0 (omega arith) h.7.2, taken x _ h.1 h.2 (omega (arith, h.8.0)) h.8.1, takes 12 h.2 h.3 h.9.0 (omega arith) h.9.2))
       (λ l. subst (λ vs. Loops (quasi_step lm inner c tagged) (spans (es ++ x ∷ []) (qs ++ tpl_element s t w u ∷ [])) h.3 l (HasSpans vs (qs ++ (tpl_element s t w u ∷ unpack ys)) r) (d < n)) (append_assoc es (x ∷ []) (unpack xs))
       (subst (λ vs. Loops (quasi_step lm inner c tagged) (spans (es ++ x ∷ []) (qs ++ tpl_element s t w u ∷ [])) h.3 l (HasSpans ((es ++ x ∷ []) ++ unpack xs) vs r) (d < n)) (append_assoc qs (tpl_element s t w u ∷ []) (unpack ys))
       (template_loop xs ys (es ++ x ∷ []) (qs ++ tpl_element s t w u ∷ []) h.3 r l n (omega arith) g.1 h.10 (omega arith))))

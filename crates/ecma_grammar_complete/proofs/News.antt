@@ -3,7 +3,7 @@ use Rattle.std.proofs.Common.{◌≡◌, ℕ, zero, suc, ◌<◌, ◌≤◌, ◌
 use Rattle.std.proofs.lemmas.Bool.{ne_eqb, eq-eqb, cases_eq, le-leb, lt-ltb, and_from, and_left, and_right, or_left, or_right}
 use Rattle.ecma_token.specs.declared.place.Span.{Span}
 use Rattle.ecma_token.specs.Kinds.{hash_kind, async_kind, new_kind, dot_kind, left_paren_kind, right_paren_kind}
-use Rattle.ecma_tree.specs.Tree.{Tree, Trees, pack, unpack, this_expr, null_lit, bool_lit, ident, ident_name, private_name, str_lit, number_lit, big_int_lit, regex_lit, paren_expr, array_lit, unary_expr, update_expr, await_expr, bin_expr, cond_expr, seq_expr, member_expr, call_expr, new_expr, computed_prop_name, expr_or_spread, hole, absent, list, tpl, tagged_tpl, opt_chain_expr, opt_call, super, import, super_prop_expr, meta_prop_expr, yield_expr, object_lit, key_value_prop, assign_prop, spread_element, binding_ident, array_pat, object_pat, assign_pat, rest_pat, key_value_pat_prop, assign_pat_prop, expr_pat, assign_expr, arrow_expr}
+use Rattle.ecma_tree.specs.Tree.{Tree, Trees, pack, unpack, this_expr, null_lit, bool_lit, ident, ident_name, private_name, str_lit, number_lit, big_int_lit, regex_lit, paren_expr, array_lit, unary_expr, update_expr, await_expr, bin_expr, cond_expr, seq_expr, member_expr, call_expr, new_expr, computed_prop_name, expr_or_spread, hole, absent, list, tpl, tagged_tpl, opt_chain_expr, opt_call, super, import, super_prop_expr, meta_prop_expr, yield_expr, object_lit, key_value_prop, assign_prop, spread_element, binding_ident, array_pat, object_pat, assign_pat, rest_pat, key_value_pat_prop, assign_pat_prop, expr_pat, assign_expr, arrow_expr, fn_expr, class_expr, function}
 use Rattle.ecma_syntax.specs.Input.{Input, Code, kind, kind2, lo, rest, span, text, barred, assigning}
 use Rattle.ecma_syntax.specs.Operators.{goes_expr, member_level, new_level, call_level}
 use Rattle.ecma_syntax.specs.Shape.{level, ends}
@@ -41,6 +41,12 @@ callee_of _ c ts r g h l = ⊎_elim (λ e. absurd (omega (arith, e))) (λ x. x) 
 
 abbrev IsIdent : Tree → Type 0
 IsIdent f = (q : Span) × (x : List ℕ) × (f ≡ ident q x)
+
+-- no function starts with `async` and a parenthesis
+function_alone : (s : Span) (x f : Tree) (c : Code) (m n : Input) → Spells (fn_expr s x f) c m n → kind m ≡ async_kind → kind2 m ≡ left_paren_kind → ⊥
+function_alone s x (function t ps ds b g true) c m n h a o = omega (arith, o, h.2.3.0, ap (λ (y : Input). kind y) h.2.2.0.3)
+function_alone s x (function t ps ds b g false) c m n h a o = omega (arith, a, h.2.3.0, ap (λ (y : Input). kind y) h.2.2)
+function_alone s x _ c m n h a o = absurd h
 
 -- a callee that starts with `async` before a parenthesis is this name
 alone : (f : Tree) (c : Code) (m n : Input) → Covered f → Callee f → Spells f c m n → kind m ≡ async_kind → kind2 m ≡ left_paren_kind → IsIdent f
@@ -109,7 +115,9 @@ alone (expr_or_spread s d e) c m n g b h a o = absurd (omega (arith, b))
 alone (computed_prop_name s e) c m n g b h a o = absurd (omega (arith, b))
 alone (ident_name s x) c m n g b h a o = absurd (omega (arith, b))
 alone (private_name s x) c m n g b h a o = absurd (omega (arith, b))
-alone _ c m n g b h a o = absurd g
+alone (fn_expr s x f) c m n g b h a o = absurd (function_alone s x f c m n h a o)
+alone (class_expr s x k) c m n g b h a o = absurd (omega (arith, a, h.2.0))
+alone _ c m n g b h a o = absurd (omega (arith, b))
 
 module _ (inner : Inner Input) (c : Code) (ts : Input) (k : List ℕ) (s : Span) (f : Tree) (m n : Input) (P Q : Type 0) where
   pub prefix_new : (V : Tree × Stand Input → Type 0) → kind ts ≡ new_kind → Reads (from ts k) (new_by lm inner c (from ts k)) V Q → Reads (from ts k) (prefix_by lm inner c (from ts k)) V Q

@@ -4,21 +4,23 @@ use Rattle.std.proofs.lemmas.Bool.{ne_eqb, eq-eqb, and_left, and_right, or_from,
 use Rattle.ecma_number.specs.Numbers.{SpecNumber}
 use Rattle.ecma_token.specs.declared.place.Span.{Span}
 use Rattle.ecma_token.specs.Kinds.{comma_kind, colon_kind, assign_kind, dot_dot_dot_kind, mul_kind, left_paren_kind, left_bracket_kind, right_bracket_kind, left_brace_kind, right_brace_kind, str_kind, num_kind, big_int_kind, regex_kind, async_kind, get_kind, set_kind, hash_kind}
-use Rattle.ecma_tree.specs.Tree.{Tree, Trees, none, more, pack, unpack, ident, ident_name, computed_prop_name, str_lit, number_lit, big_int_lit, object_lit, key_value_prop, assign_prop, spread_element, getter_prop, setter_prop, method_prop}
+use Rattle.ecma_tree.specs.Tree.{Tree, Trees, none, more, pack, unpack, ident, ident_name, computed_prop_name, str_lit, number_lit, big_int_lit, object_lit, key_value_prop, assign_prop, spread_element, getter_prop, setter_prop, method_prop, function, block_stmt}
 use Rattle.ecma_syntax.specs.Input.{Input, Code, kind, kind2, brk2, lo, text, content, rest, span, first_span, is_word, with_in, assigning}
 use Rattle.ecma_syntax.specs.Operators.{assignment_level, starts_key}
 use Rattle.ecma_syntax.specs.Shape.{level, ends, is_prop, is_key, is_rest}
 use Rattle.ecma_grammar.specs.Parts.{is_ident, Part, part, By, IsEmpty, Sorted, Listed}
 use Rattle.ecma_grammar.specs.Expressions.{StringLiteral, NumericLiteral, BigIntLiteral}
+use Rattle.ecma_grammar.specs.Functions.{MethodHead}
 use Rattle.ecma_grammar.specs.Grammar.{Spells, parts}
 use Rattle.ecma_reading.specs.Source.{Fault, ◌>>=◌, unexpected, Stand, bound, Inner, Step, go_on, finished, iterate}
 use Rattle.ecma_reading.specs.Expressions.{Elements, no_elements, literal, literal_by, key_by, computed_by, prop_by, prop_rest, prop_step, after_element, object_by, prefix_by, is_async_head, is_accessor}
 use Rattle.ecma_reading.specs.Reading.{readers}
 use Rattle.ecma_grammar_complete.proofs.Yields.{lm, from, len, coded, first_at, IsName, Reads, then_reads, Is, then_is, then_past, then_eat, then_name, then_noted, here, past_here, if_no, if_yes, Loops, loop_on, loop_end, looped, after_one, onto}
 use Rattle.ecma_grammar_complete.proofs.Levels.{Follow, closed_by, comma_after}
-use Rattle.ecma_grammar_complete.proofs.Trees.{Covered, CoveredAll, size, sizes, reach, reaches, takes, cut, no_kind}
+use Rattle.ecma_grammar_complete.proofs.Lengths.{prop_taken}
+use Rattle.ecma_grammar_complete.proofs.Trees.{Covered, CoveredAll, size, sizes, reach, reaches, takes, no_kind}
 use Rattle.ecma_grammar_complete.proofs.Prefixes.{literal_found}
-use Rattle.ecma_grammar_complete.proofs.Lists.{Finds, Has, pack_unpack, two_asked}
+use Rattle.ecma_grammar_complete.proofs.Lists.{Finds, Deep, Has, pack_unpack, two_asked}
 use Rattle.ecma_grammar_complete.proofs.Steps.{computed_found}
 use Rattle.ecma_grammar_complete.proofs.Members.{no_more}
 
@@ -50,6 +52,16 @@ key_starts (number_lit s v w) c ts m e h = (subst (λ (n : ℕ). begins_key n �
 key_starts (big_int_lit s b d w) c ts m e h = (subst (λ (n : ℕ). begins_key n ≡ true) (sym h.3.0) refl, inr (subst (λ (n : ℕ). is_word n ≡ false) (sym h.3.0) refl))
 key_starts (computed_prop_name s x) c ts m e h = (subst (λ (n : ℕ). begins_key n ≡ true) (sym h.2.0) refl, inr (subst (λ (n : ℕ). is_word n ≡ false) (sym h.2.0) refl))
 key_starts _ c ts m e h = absurd (true≢false (sym e))
+
+-- how a method starts: with no brace
+method_head : (g a : Bool) (k : Tree) (c : Code) (ts m n : Input) → MethodHead g a c ts m → is_key k ≡ true → Spells k c m n → eqb (kind ts) right_brace_kind ≡ false
+method_head g true k c ts m n h i y = ne_eqb (kind ts) right_brace_kind (λ q. omega (arith, q, h.1.0.0))
+method_head true false k c ts m n h i y = ne_eqb (kind ts) right_brace_kind (λ q. omega (arith, q, h.2.0, ap (λ (x : Input). kind x) h.1))
+method_head false false k c ts m n h i y = subst (λ (x : Input). eqb (kind x) right_brace_kind ≡ false) (sym (h.1 ∙ h.2)) (no_kind begins_key (kind m) right_brace_kind (key_starts k c m n i y).0 refl)
+
+method_begins : (s : Span) (k f : Tree) (c : Code) (ts r : Input) → Spells (method_prop s k f) c ts r → eqb (kind ts) right_brace_kind ≡ false
+method_begins s k (function t ps ds b g a) c ts r h = method_head g a k c ts h.1.0 h.1.1 h.1.2 h.0 h.1.3
+method_begins s k _ c ts r h = absurd h
 
 module _ (z d : ℕ) (f : Finds z d) (p : Bool) (c : Code) where
   abbrev inner : Inner Input
@@ -139,14 +151,14 @@ module _ (z d : ℕ) (f : Finds z d) (p : Bool) (c : Code) where
       no : (x : ℕ) → eqb assign_kind x ≡ false → eqb (kind (rest ts)) x ≡ false
       no x y = subst (λ (i : Input). eqb (kind i) x ≡ false) (sym h.0.5) (subst (λ (i : ℕ). eqb i x ≡ false) (sym q) y)
 
-  pub prop_found : (x : Tree) (ts m : Input) (k : List ℕ) → size x < z → Covered x → is_prop x ≡ true → Spells x (coded p c) ts m → Divides m → Reads (from ts k) (prop_by lm inner c (from ts k)) (Is x m) (d < reach x)
+  pub prop_found : Deep z d → (x : Tree) (ts m : Input) (k : List ℕ) → size x < z → Covered x → is_prop x ≡ true → Spells x (coded p c) ts m → Divides m → Reads (from ts k) (prop_by lm inner c (from ts k)) (Is x m) (d < reach x)
   unfolding prop_rest prop_by
-  prop_found (ident s n) ts m k sz g e h v = short_prop s n ts m k _ (coded p c) (h.0.0, h.0.1, h.0.2) h v
-  prop_found (assign_prop s (ident t n) e) ts m k sz g q h v = cover_prop s t n e ts h.0 h.1 m k (omega arith) g.1 (coded p c) (h.2.1.0.0, h.2.1.0.1, h.2.1.0.2) h.2.1 h.3.0 h.3.2 h.4.0 h.4.1 h.5 v
-  prop_found (assign_prop s x e) ts m k sz g q h v = absurd (true≢false (sym h.2.0))
-  prop_found (spread_element s e) ts m k sz g q h v = if_yes (eqb (kind ts) dot_dot_dot_kind) _ _ _ _ (eq-eqb (kind ts) dot_dot_dot_kind h.1.0)
+  prop_found w (ident s n) ts m k sz g e h v = short_prop s n ts m k _ (coded p c) (h.0.0, h.0.1, h.0.2) h v
+  prop_found w (assign_prop s (ident t n) e) ts m k sz g q h v = cover_prop s t n e ts h.0 h.1 m k (omega arith) g.1 (coded p c) (h.2.1.0.0, h.2.1.0.1, h.2.1.0.2) h.2.1 h.3.0 h.3.2 h.4.0 h.4.1 h.5 v
+  prop_found w (assign_prop s x e) ts m k sz g q h v = absurd (true≢false (sym h.2.0))
+  prop_found w (spread_element s e) ts m k sz g q h v = if_yes (eqb (kind ts) dot_dot_dot_kind) _ _ _ _ (eq-eqb (kind ts) dot_dot_dot_kind h.1.0)
       (then_past ts h.0 k (inner.expr (with_in c) assignment_level) _ e m (d < reach e) _ _ h.1.2 (f e p (with_in c) 2 h.0 m k (omega arith) g h.2.1 (omega arith) (omega arith) two_asked h.2.0 (divided m v (ends e))) (λ u. u) (λ j. here (ap (λ (y : Span). spread_element y e) (sym h.3))))
-  prop_found (key_value_prop s x e) ts m k sz g q h v = let w = key_starts x (coded p c) ts h.0 h.2.0 h.2.1 in
+  prop_found dp (key_value_prop s x e) ts m k sz g q h v = let w = key_starts x (coded p c) ts h.0 h.2.0 h.2.1 in
       plain_prop ts k (Is (key_value_prop s x e) m) (d < max (reach x) (reach e)) w.0 (next w.1)
       (then_is (key_by lm inner c (from ts k)) _ x h.0 (d < reach x) _ _ (key_found x ts h.0 k (omega arith) g.0 h.2.0 (coded p c) refl h.2.1) (λ u. omega arith)
       (λ j. if_yes (eqb (kind h.0) colon_kind) _ _ _ _ (eq-eqb (kind h.0) colon_kind h.3.0)
@@ -156,10 +168,10 @@ module _ (z d : ℕ) (f : Finds z d) (p : Bool) (c : Code) where
       next : OneWord ts h.0 → Plain ts
       next (inl w) = inr (subst (λ (y : Input). plain_next (kind y) ≡ true) (sym w.1) (subst (λ (y : ℕ). plain_next y ≡ true) (sym h.3.0) refl))
       next (inr w) = inl w
-  prop_found (getter_prop s x b) ts m k sz g e h v = absurd g
-  prop_found (setter_prop s x a b) ts m k sz g e h v = absurd g
-  prop_found (method_prop s x b) ts m k sz g e h v = absurd g
-  prop_found _ ts m k sz g e h v = absurd (true≢false (sym e))
+  prop_found w (getter_prop s x b) ts m k sz g e h v = w.methods (getter_prop s x b) p c ts m k refl sz h
+  prop_found w (setter_prop s x a b) ts m k sz g e h v = w.methods (setter_prop s x a b) p c ts m k refl sz h
+  prop_found w (method_prop s x b) ts m k sz g e h v = w.methods (method_prop s x b) p c ts m k refl sz h
+  prop_found w _ ts m k sz g e h v = absurd (true≢false (sym e))
 
   -- ---- objects
 
@@ -169,30 +181,32 @@ module _ (z d : ℕ) (f : Finds z d) (p : Bool) (c : Code) where
   begins_prop (assign_prop s k x) ts m g e h = absurd (true≢false (sym h.2.0))
   begins_prop (spread_element s x) ts m g e h = ne_eqb (kind ts) right_brace_kind (λ q. omega (arith, q, h.1.0))
   begins_prop (key_value_prop s k v) ts m g e h = no_kind begins_key (kind ts) right_brace_kind (key_starts k (coded p c) ts h.0 h.2.0 h.2.1).0 refl
-  begins_prop (getter_prop s x b) ts m g e h = absurd g
-  begins_prop (setter_prop s x a b) ts m g e h = absurd g
-  begins_prop (method_prop s x b) ts m g e h = absurd g
+  begins_prop (getter_prop s x (block_stmt q ss)) ts m g e h = ne_eqb (kind ts) right_brace_kind (λ q. omega (arith, q, h.4.0))
+  begins_prop (getter_prop s x b) ts m g e h = absurd h
+  begins_prop (setter_prop s x a (block_stmt q ss)) ts m g e h = ne_eqb (kind ts) right_brace_kind (λ q. omega (arith, q, h.5.0))
+  begins_prop (setter_prop s x a b) ts m g e h = absurd h
+  begins_prop (method_prop s x b) ts m g e h = method_begins s x b (coded p c) ts m h
   begins_prop _ ts m g e h = absurd (true≢false (sym e))
 
-  object_loop : (xs : Trees) (acc : List Tree) (b : Bool) (ts r : Input) (k : List ℕ) (n : ℕ) → sizes xs < z → CoveredAll xs → Listed false (Sorted is_prop (coded p c)) (coded p c) right_brace_kind (parts xs) ts r → reaches xs ≤ n
+  object_loop : Deep z d → (xs : Trees) (acc : List Tree) (b : Bool) (ts r : Input) (k : List ℕ) (n : ℕ) → sizes xs < z → CoveredAll xs → Listed false (Sorted is_prop (coded p c)) (coded p c) right_brace_kind (parts xs) ts r → reaches xs ≤ n
       → Loops (prop_step lm inner c) (record { items = acc; comma = b }) ts k (Has (acc ++ unpack xs) r) (d < n)
   unfolding prop_step after_element
-  object_loop none acc b ts r k n sz g h le = loop_end _ _ (record { items = acc; comma = b }) ts r k ⊥ _ _ (if_yes (eqb (kind ts) right_brace_kind) _ _ _ _ (eq-eqb (kind ts) right_brace_kind h.0) (past_here refl h.2)) (λ u. absurd u) (λ l. (sym (append-nil acc), refl))
-  object_loop (more x xs) acc b ts r k n sz g h le = ⊎_elim
+  object_loop dp none acc b ts r k n sz g h le = loop_end _ _ (record { items = acc; comma = b }) ts r k ⊥ _ _ (if_yes (eqb (kind ts) right_brace_kind) _ _ _ _ (eq-eqb (kind ts) right_brace_kind h.0) (past_here refl h.2)) (λ u. absurd u) (λ l. (sym (append-nil acc), refl))
+  object_loop dp (more x xs) acc b ts r k n sz g h le = ⊎_elim
       (λ v. loop_on _ _ (record { items = acc ++ x ∷ []; comma = true }) ts v.1 k (d < reach x) _ _
-      (if_no (eqb (kind ts) right_brace_kind) _ _ _ _ (begins_prop x ts h.0 g.0 h.1.0 h.1.1) (then_is (prop_by lm inner c (from ts k)) _ x h.0 (d < reach x) _ _ (prop_found x ts h.0 k (omega arith) g.0 h.1.0 h.1.1 (inl v.2.0)) (λ u. u)
+      (if_no (eqb (kind ts) right_brace_kind) _ _ _ _ (begins_prop x ts h.0 g.0 h.1.0 h.1.1) (then_is (prop_by lm inner c (from ts k)) _ x h.0 (d < reach x) _ _ (prop_found dp x ts h.0 k (omega arith) g.0 h.1.0 h.1.1 (inl v.2.0)) (λ u. u)
       (λ j. if_yes (eqb (kind h.0) comma_kind) _ _ _ _ (eq-eqb (kind h.0) comma_kind v.2.0) (past_here refl v.2.2)))) (λ u. omega arith)
-      (omega (arith, cut x _ ts h.0 g.0 h.1.1, takes comma_kind h.0 v.1 v.2.0 (omega arith) v.2.2))
-      (λ l. subst (λ ys. Loops (prop_step lm inner c) (record { items = acc ++ x ∷ []; comma = true }) v.1 l (Has ys r) (d < n)) (append_assoc acc (x ∷ []) (unpack xs)) (object_loop xs (acc ++ x ∷ []) true v.1 r l n (omega arith) g.1 v.3 (omega arith))))
+      (omega (arith, prop_taken x _ ts h.0 h.1, takes comma_kind h.0 v.1 v.2.0 (omega arith) v.2.2))
+      (λ l. subst (λ ys. Loops (prop_step lm inner c) (record { items = acc ++ x ∷ []; comma = true }) v.1 l (Has ys r) (d < n)) (append_assoc acc (x ∷ []) (unpack xs)) (object_loop dp xs (acc ++ x ∷ []) true v.1 r l n (omega arith) g.1 v.3 (omega arith))))
       (λ v. loop_end _ _ (record { items = acc ++ x ∷ []; comma = false }) ts r k (d < reach x) _ _
-      (if_no (eqb (kind ts) right_brace_kind) _ _ _ _ (begins_prop x ts h.0 g.0 h.1.0 h.1.1) (then_is (prop_by lm inner c (from ts k)) _ x h.0 (d < reach x) _ _ (prop_found x ts h.0 k (omega arith) g.0 h.1.0 h.1.1 (inr v.1.0)) (λ u. u)
+      (if_no (eqb (kind ts) right_brace_kind) _ _ _ _ (begins_prop x ts h.0 g.0 h.1.0 h.1.1) (then_is (prop_by lm inner c (from ts k)) _ x h.0 (d < reach x) _ _ (prop_found dp x ts h.0 k (omega arith) g.0 h.1.0 h.1.1 (inr v.1.0)) (λ u. u)
       (λ j. if_no (eqb (kind h.0) comma_kind) _ _ _ _ (ne_eqb (kind h.0) comma_kind (λ q. omega (arith, q, v.1.0))) (then_eat right_brace_kind h.0 r j _ _ _ v.1.0 v.1.2 (here refl))))) (λ u. omega arith)
       (λ l. (ap (λ ys. acc ++ (x ∷ ys)) (sym (no_more xs v.0)), refl)))
       h.2
 
-  pub object_found : (s : Span) (xs : Trees) (ts m r : Input) (k : List ℕ) {Q : Type 0} → sizes xs < z → CoveredAll xs → kind ts ≡ left_brace_kind → rest ts ≡ m → Listed false (Sorted is_prop (coded p c)) (coded p c) right_brace_kind (parts xs) m r → s ≡ span (lo ts) r.last → (d < reaches xs → Q)
+  pub object_found : Deep z d → (s : Span) (xs : Trees) (ts m r : Input) (k : List ℕ) {Q : Type 0} → sizes xs < z → CoveredAll xs → kind ts ≡ left_brace_kind → rest ts ≡ m → Listed false (Sorted is_prop (coded p c)) (coded p c) right_brace_kind (parts xs) m r → s ≡ span (lo ts) r.last → (d < reaches xs → Q)
       → Reads (from ts k) (prefix_by lm inner c (from ts k)) (Is (object_lit s xs) r) Q
   unfolding prefix_by object_by
-  object_found s xs ts m r k {Q = Q} sz g e q h sp i = rw e (then_noted ts m k (iterate (bound lm) (prop_step lm inner c) no_elements) _ _ (Has (unpack xs) r) (d < reaches xs) (Is (object_lit s xs) r) Q (λ u. omega (arith, e, u)) (λ u. omega (arith, e, u)) q
-      (looped (prop_step lm inner c) no_elements m k (Has (unpack xs) r) (d < reaches xs) (object_loop xs [] false m r k (reaches xs) sz g h (omega arith))) i
+  object_found dp s xs ts m r k {Q = Q} sz g e q h sp i = rw e (then_noted ts m k (iterate (bound lm) (prop_step lm inner c) no_elements) _ _ (Has (unpack xs) r) (d < reaches xs) (Is (object_lit s xs) r) Q (λ u. omega (arith, e, u)) (λ u. omega (arith, e, u)) q
+      (looped (prop_step lm inner c) no_elements m k (Has (unpack xs) r) (d < reaches xs) (object_loop dp xs [] false m r k (reaches xs) sz g h (omega arith))) i
       (λ x v. (ap (λ ys. object_lit (span (lo ts) x.1.source.last) (pack ys)) v.0 ∙ ap (λ ys. object_lit (span (lo ts) x.1.source.last) ys) (pack_unpack xs) ∙ ap (λ (z : Input). object_lit (span (lo ts) z.last) xs) v.1 ∙ ap (λ z. object_lit z xs) (sym sp), v.1)))

@@ -2,8 +2,8 @@
 use Rattle.std.proofs.Common.{◌≡◌, ℕ, zero, suc, ◌+◌, ◌<◌, ◌≤◌, ◌⊎◌, inl, inr, max, Bool, true, false, not, ◌&&◌, ◌||◌, ◌==◌, cond, eqb, leb, ltb, List, [], ◌∷◌, length, refl, sym, ap, ◌∙◌, subst, ⊎_elim, true≢false, arith, Option, Some, None}
 use Rattle.std.proofs.lemmas.Bool.{eqb-true, eqb-false, ne_eqb, eq-eqb, cases_Bool, leb-true, or_cases, or_left, or_parts, and_from, and_parts}
 use Rattle.ecma_token.specs.declared.place.Span.{Span}
-use Rattle.ecma_token.specs.Kinds.{dot_kind, left_brace_kind, back_quote_kind, template_kind, question_mark_kind, super_kind, import_kind, yield_kind, target_kind, meta_kind, mul_kind, hash_kind, bang_kind, tilde_kind, left_paren_kind, left_bracket_kind, plus_plus_kind, minus_minus_kind, str_kind, regex_kind, num_kind, big_int_kind, add_kind, sub_kind, typeof_kind, void_kind, delete_kind, this_kind, null_kind, true_kind, false_kind, await_kind, new_kind, comma_kind, dot_dot_dot_kind, in_kind, async_kind}
-use Rattle.ecma_tree.specs.Tree.{Tree, Trees, none, more, this_expr, null_lit, bool_lit, ident, str_lit, number_lit, big_int_lit, regex_lit, paren_expr, array_lit, expr_or_spread, hole, unary_expr, update_expr, await_expr, bin_expr, cond_expr, seq_expr, member_expr, computed_prop_name, ident_name, private_name, call_expr, new_expr, list, absent, super, import, tpl, tpl_element, tagged_tpl, opt_chain_expr, opt_call, super_prop_expr, meta_prop_expr, yield_expr, object_lit, key_value_prop, assign_prop, spread_element, binding_ident, array_pat, object_pat, assign_pat, rest_pat, key_value_pat_prop, assign_pat_prop, expr_pat, assign_expr, arrow_expr, block_stmt}
+use Rattle.ecma_token.specs.Kinds.{dot_kind, left_brace_kind, back_quote_kind, template_kind, question_mark_kind, super_kind, import_kind, yield_kind, target_kind, meta_kind, mul_kind, hash_kind, bang_kind, tilde_kind, left_paren_kind, left_bracket_kind, plus_plus_kind, minus_minus_kind, str_kind, regex_kind, num_kind, big_int_kind, add_kind, sub_kind, typeof_kind, void_kind, delete_kind, this_kind, null_kind, true_kind, false_kind, await_kind, new_kind, comma_kind, dot_dot_dot_kind, in_kind, async_kind, function_kind, class_kind}
+use Rattle.ecma_tree.specs.Tree.{Tree, Trees, none, more, this_expr, null_lit, bool_lit, ident, str_lit, number_lit, big_int_lit, regex_lit, paren_expr, array_lit, expr_or_spread, hole, unary_expr, update_expr, await_expr, bin_expr, cond_expr, seq_expr, member_expr, computed_prop_name, ident_name, private_name, call_expr, new_expr, list, absent, super, import, tpl, tpl_element, tagged_tpl, opt_chain_expr, opt_call, super_prop_expr, meta_prop_expr, yield_expr, object_lit, key_value_prop, assign_prop, spread_element, binding_ident, array_pat, object_pat, assign_pat, rest_pat, key_value_pat_prop, assign_pat_prop, expr_pat, assign_expr, arrow_expr, block_stmt, with_stmt, return_stmt, labeled_stmt, if_stmt, switch_stmt, switch_case, throw_stmt, try_stmt, catch_clause, while_stmt, do_while_stmt, for_stmt, for_in_stmt, for_of_stmt, expr_stmt, class_decl, fn_decl, var_decl, using_decl, var_declarator, function, param, class, constructor, class_method, private_method, class_prop, private_prop, static_block, auto_accessor, fn_expr, class_expr, method_prop, getter_prop, setter_prop, script, es_module, export_decl, export_default_decl, export_default_expr}
 use Rattle.ecma_syntax.specs.Input.{Input, Code, kind, rest, is_word, no_name, always_reserved, Takes, with_in, assigning, in_arrow, binding}
 use Rattle.ecma_syntax.specs.Operators.{binary_level, operates, is_assign_op}
 use Rattle.ecma_syntax.specs.Shape.{level, ends, is_element, is_prop, is_hole, is_rest, is_private, is_absent, is_chain, is_structured, is_bound_name}
@@ -12,9 +12,156 @@ use Rattle.ecma_grammar.specs.Expressions.{Call, Arguments, ArgumentList, Import
 use Rattle.ecma_grammar.specs.Patterns.{Item, Property}
 use Rattle.ecma_grammar.specs.Functions.{ArrowPattern, ArrowHead, BareName, Async}
 use Rattle.ecma_grammar.specs.Grammar.{Spells, parts}
-pub use Rattle.ecma_grammar_complete.specs.Laws.{Covered, CoveredAll, reach, reaches}
 use Rattle.ecma_grammar_complete.proofs.Yields.{len, took, shorter}
 use Rattle.ecma_grammar_complete.proofs.Levels.{operated, binary_four, fits, right_five, binary_cases}
+
+-- ---- parts
+
+-- a tree with its parts that are read as expressions, patterns and what these hold
+abbrev mutual
+  pub Covered : Tree → Type 0
+  Covered (this_expr s) = Unit {0}
+  Covered (null_lit s) = Unit {0}
+  Covered (bool_lit s v) = Unit {0}
+  Covered (ident s n) = Unit {0}
+  Covered (ident_name s n) = Unit {0}
+  Covered (private_name s n) = Unit {0}
+  Covered (str_lit s u w) = Unit {0}
+  Covered (number_lit s v w) = Unit {0}
+  Covered (big_int_lit s b d w) = Unit {0}
+  Covered (regex_lit s e f) = Unit {0}
+  Covered (paren_expr s e) = Covered e
+  Covered (array_lit s xs) = CoveredAll xs
+  Covered (expr_or_spread s d e) = Covered e
+  Covered hole = Unit {0}
+  Covered absent = Unit {0}
+  Covered (list xs) = CoveredAll xs
+  Covered (unary_expr s op a) = Covered a
+  Covered (update_expr s op b a) = Covered a
+  Covered (await_expr s a) = Covered a
+  Covered (bin_expr s op a b) = Covered a × Covered b
+  Covered (cond_expr s a b d) = Covered a × Covered b × Covered d
+  Covered (seq_expr s xs) = CoveredAll xs
+  Covered (computed_prop_name s e) = Covered e
+  Covered (member_expr s o k) = Covered o × Covered k
+  Covered (tpl s es qs) = CoveredAll es
+  Covered (tagged_tpl s t q) = Covered t × Covered q
+  Covered (opt_chain_expr s q b) = Covered b
+  Covered (opt_call s f xs) = Covered f × CoveredAll xs
+  Covered (super s) = Unit {0}
+  Covered (import s) = Unit {0}
+  Covered (super_prop_expr s o k) = Covered k
+  Covered (meta_prop_expr s k) = Unit {0}
+  Covered (yield_expr s a g) = Covered a
+  Covered (object_lit s ps) = CoveredAll ps
+  Covered (key_value_prop s k v) = Covered k × Covered v
+  Covered (assign_prop s k e) = Covered k × Covered e
+  Covered (spread_element s e) = Covered e
+  Covered (assign_expr s op a b) = Covered a × Covered b
+  Covered (arrow_expr s ps b i) = CoveredAll ps × Covered b
+  Covered (binding_ident s i) = Unit {0}
+  Covered (array_pat s xs) = CoveredAll xs
+  Covered (object_pat s ps) = CoveredAll ps
+  Covered (assign_pat s a e) = Covered a × Covered e
+  Covered (rest_pat s d a) = Covered a
+  Covered (key_value_pat_prop s k a) = Covered k × Covered a × (is_rest a ≡ false)
+  Covered (assign_pat_prop s k e) = Covered k × Covered e
+  Covered (expr_pat e) = Covered e
+  Covered (call_expr s f xs) = Covered f × CoveredAll xs
+  Covered (new_expr s f xs) = Covered f × Covered xs
+  Covered _ = Unit {0}
+
+  pub CoveredAll : Trees → Type 0
+  CoveredAll none = Unit {0}
+  CoveredAll (more t ts) = Covered t × CoveredAll ts
+
+-- how deep the calls of the readers go for a tree: what a loop goes on with stands beside what it went on from
+abbrev mutual
+  pub reach : Tree → ℕ
+  reach (paren_expr s e) = suc (reach e)
+  reach (array_lit s xs) = suc (reaches xs)
+  reach (expr_or_spread s d e) = reach e
+  reach (list xs) = reaches xs
+  reach absent = 0
+  reach hole = 0
+  reach (ident_name s n) = 0
+  reach (private_name s n) = 0
+  reach (unary_expr s op a) = suc (reach a)
+  reach (update_expr s op true a) = suc (reach a)
+  reach (update_expr s op false a) = reach a
+  reach (await_expr s a) = suc (reach a)
+  reach (bin_expr s op a b) = max (reach a) (suc (reach b))
+  reach (cond_expr s a b d) = max (reach a) (suc (max (reach b) (reach d)))
+  reach (seq_expr s xs) = suc (reaches xs)
+  reach (computed_prop_name s e) = reach e
+  reach (member_expr s o k) = max (reach o) (suc (reach k))
+  reach (call_expr s f xs) = max (reach f) (suc (reaches xs))
+  reach (new_expr s f xs) = suc (max (reach f) (reach xs))
+  reach (tpl s es qs) = suc (reaches es)
+  reach (tagged_tpl s t q) = max (reach t) (reach q)
+  reach (opt_chain_expr s q b) = reach b
+  reach (opt_call s f xs) = max (reach f) (suc (reaches xs))
+  reach (super_prop_expr s o k) = suc (reach k)
+  reach (yield_expr s a g) = suc (reach a)
+  reach (object_lit s ps) = suc (reaches ps)
+  reach (key_value_prop s k v) = max (reach k) (reach v)
+  reach (assign_prop s k e) = reach e
+  reach (spread_element s e) = reach e
+  reach (assign_expr s op a b) = max (reach a) (suc (reach b))
+  reach (arrow_expr s ps b i) = suc (max (reaches ps) (reach b))
+  reach (array_pat s xs) = suc (reaches xs)
+  reach (object_pat s ps) = suc (reaches ps)
+  reach (assign_pat s a e) = max (reach a) (suc (reach e))
+  reach (rest_pat s d a) = reach a
+  reach (key_value_pat_prop s k a) = max (reach k) (reach a)
+  reach (assign_pat_prop s k e) = reach e
+  reach (expr_pat e) = reach e
+  reach (block_stmt s ss) = suc (reaches ss)
+  reach (expr_stmt s e) = suc (reach e)
+  reach (return_stmt s e) = suc (reach e)
+  reach (throw_stmt s e) = suc (reach e)
+  reach (with_stmt s e b) = suc (max (reach e) (reach b))
+  reach (labeled_stmt s l b) = suc (max (reach l) (reach b))
+  reach (if_stmt s t a b) = suc (max (reach t) (max (reach a) (reach b)))
+  reach (while_stmt s t b) = suc (max (reach t) (reach b))
+  reach (do_while_stmt s t b) = suc (max (reach t) (reach b))
+  reach (switch_stmt s e xs) = suc (max (reach e) (reaches xs))
+  reach (switch_case s t ss) = max (reach t) (reaches ss)
+  reach (try_stmt s b h f) = suc (max (reach b) (max (reach h) (reach f)))
+  reach (catch_clause s p b) = max (reach p) (reach b)
+  reach (for_stmt s i t u b) = suc (max (reach i) (max (reach t) (max (reach u) (reach b))))
+  reach (for_in_stmt s l e b) = suc (max (reach l) (max (reach e) (reach b)))
+  reach (for_of_stmt s w l e b) = suc (max (reach l) (max (reach e) (reach b)))
+  reach (var_decl s k ds) = suc (reaches ds)
+  reach (using_decl s w ds) = suc (reaches ds)
+  reach (var_declarator s n e) = max (reach n) (reach e)
+  reach (fn_decl s n f) = suc (reach f)
+  reach (fn_expr s n f) = suc (reach f)
+  reach (class_decl s n k) = suc (reach k)
+  reach (class_expr s n k) = suc (reach k)
+  reach (function s ps ds b g a) = max (reaches ps) (reach b)
+  reach (param s ds a) = reach a
+  reach (class s ds ms k) = suc (max (reach k) (reaches ms))
+  reach (constructor s k ps b) = max (reach k) (max (reaches ps) (reach b))
+  reach (class_method s k f m i) = max (reach k) (reach f)
+  reach (private_method s k f m i) = max (reach k) (reach f)
+  reach (class_prop s k v i ds) = max (reach k) (reach v)
+  reach (private_prop s k v i ds) = max (reach k) (reach v)
+  reach (auto_accessor s k v i ds) = max (reach k) (reach v)
+  reach (static_block s b) = reach b
+  reach (method_prop s k f) = max (reach k) (reach f)
+  reach (getter_prop s k b) = max (reach k) (reach b)
+  reach (setter_prop s k p b) = max (reach k) (max (reach p) (reach b))
+  reach (script s ss l) = reaches ss
+  reach (es_module s ss l) = reaches ss
+  reach (export_decl s e) = reach e
+  reach (export_default_decl s e) = reach e
+  reach (export_default_expr s e) = reach e
+  reach _ = 1
+
+  pub reaches : Trees → ℕ
+  reaches none = 0
+  reaches (more t ts) = max (reach t) (reaches ts)
 
 -- ---- sizes
 
@@ -53,6 +200,42 @@ abbrev mutual
   size (key_value_pat_prop s k a) = suc (size k + size a)
   size (assign_pat_prop s k e) = suc (size e)
   size (expr_pat e) = size e
+  size (block_stmt s ss) = suc (sizes ss)
+  size (expr_stmt s e) = suc (size e)
+  size (return_stmt s e) = suc (size e)
+  size (throw_stmt s e) = suc (size e)
+  size (with_stmt s e b) = suc (size e + size b)
+  size (labeled_stmt s l b) = suc (size l + size b)
+  size (if_stmt s t a b) = suc (size t + (size a + size b))
+  size (while_stmt s t b) = suc (size t + size b)
+  size (do_while_stmt s t b) = suc (size t + size b)
+  size (switch_stmt s e xs) = suc (size e + sizes xs)
+  size (switch_case s t ss) = suc (size t + sizes ss)
+  size (try_stmt s b h f) = suc (size b + (size h + size f))
+  size (catch_clause s p b) = suc (size p + size b)
+  size (for_stmt s i t u b) = suc (size i + (size t + (size u + size b)))
+  size (for_in_stmt s l e b) = suc (size l + (size e + size b))
+  size (for_of_stmt s w l e b) = suc (size l + (size e + size b))
+  size (var_decl s k ds) = suc (sizes ds)
+  size (using_decl s w ds) = suc (sizes ds)
+  size (var_declarator s n e) = suc (size n + size e)
+  size (fn_decl s n f) = suc (size f)
+  size (fn_expr s n f) = suc (size f)
+  size (class_decl s n k) = suc (size k)
+  size (class_expr s n k) = suc (size k)
+  size (function s ps ds b g a) = suc (sizes ps + size b)
+  size (param s ds a) = suc (size a)
+  size (class s ds ms k) = suc (sizes ms + size k)
+  size (constructor s k ps b) = suc (size k + (sizes ps + size b))
+  size (class_method s k f m i) = suc (size k + size f)
+  size (private_method s k f m i) = suc (size k + size f)
+  size (class_prop s k v i ds) = suc (size k + size v)
+  size (private_prop s k v i ds) = suc (size k + size v)
+  size (auto_accessor s k v i ds) = suc (size k + size v)
+  size (static_block s b) = suc (size b)
+  size (method_prop s k f) = suc (size k + size f)
+  size (getter_prop s k b) = suc (size k + size b)
+  size (setter_prop s k p b) = suc (size k + (size p + size b))
   size _ = 1
 
   pub sizes : Trees → ℕ
@@ -119,7 +302,7 @@ member_least s o k c ts r h = omega (arith, h.2.0)
 pub name_begins : (c : Code) (ts : Input) → is_word (kind ts) ≡ true → no_name c.context (kind ts) ≡ false → begins (kind ts) ≡ true
 name_begins c ts w n = or_left (is_word (kind ts) && not (kind ts == in_kind)) _ (and_from (is_word (kind ts)) _ w (ap not (ne_eqb (kind ts) in_kind (λ q. true≢false (sym (ap always_reserved q) ∙ (or_parts (always_reserved (kind ts)) _ n).0)))))
 
-and_never : (b : Bool) → (b && false) ≡ false
+pub and_never : (b : Bool) → (b && false) ≡ false
 and_never true = refl
 and_never false = refl
 
@@ -133,6 +316,17 @@ arrow_starts false c ps ts m h = ⊎_elim (λ w. subst (λ (y : Input). begins (
     bare_begins (more (binding_ident q (ident t n)) ps) w = name_begins c h.0 w.1.1.1.0.0 w.1.1.1.0.1
     bare_begins (more (binding_ident q x) ps) w = absurd w.1.1
     bare_begins (more x ps) w = absurd (true≢false (sym w.1.0))
+
+-- how a function as an expression starts
+function_starts : (s : Span) (n f : Tree) (c : Code) (ts r : Input) → Spells (fn_expr s n f) c ts r → begins (kind ts) ≡ true
+function_starts s n (function t ps ds b g true) c ts r h = at_kind begins (kind ts) async_kind h.2.2.0.0 refl
+function_starts s n (function t ps ds b g false) c ts r h = at_kind begins (kind ts) function_kind (ap (λ (y : Input). kind y) h.2.2 ∙ h.2.3.0) refl
+function_starts s n _ c ts r h = absurd h
+
+pub function_word : (s : Span) (n f : Tree) (c : Code) (ts r : Input) → Spells (fn_expr s n f) c ts r → is_word (kind ts) ≡ true
+function_word s n (function t ps ds b g true) c ts r h = at_kind is_word (kind ts) async_kind h.2.2.0.0 refl
+function_word s n (function t ps ds b g false) c ts r h = at_kind is_word (kind ts) function_kind (ap (λ (y : Input). kind y) h.2.2 ∙ h.2.3.0) refl
+function_word s n _ c ts r h = absurd h
 
 pub starts : (t : Tree) (c : Code) (ts r : Input) → Covered t → 1 ≤ level t → Spells t c ts r → begins (kind ts) ≡ true
 starts (this_expr s) c ts r g l h = at_kind begins (kind ts) this_kind h.0.0 refl
@@ -181,7 +375,9 @@ starts (yield_expr s a false) c ts r g l h = at_kind begins (kind ts) yield_kind
 starts (yield_expr s a true) c ts r g l h = at_kind begins (kind ts) yield_kind h.3.0 refl
 starts (object_lit s ps) c ts r g l h = at_kind begins (kind ts) left_brace_kind h.1.0 refl
 starts (key_value_prop s k v) c ts r g l h = absurd (omega arith)
-starts (arrow_expr s ps (block_stmt b ss) i) c ts r g l h = absurd g.1
+starts (arrow_expr s ps (block_stmt b ss) i) c ts r g l h = arrow_starts i c ps ts h.0 h.1
+starts (fn_expr s n f) c ts r g l h = function_starts s n f c ts r h
+starts (class_expr s n k) c ts r g l h = at_kind begins (kind ts) class_kind h.2.0 refl
 starts (arrow_expr s ps e i) c ts r g l h = arrow_starts i c ps ts h.0 h.1
 starts (assign_expr s op (binding_ident q (ident t n)) b) c ts r g l h = name_begins c ts h.4.1.0.0 h.4.1.0.1
 starts (assign_expr s op (binding_ident q i) b) c ts r g l h = absurd h.4
@@ -215,7 +411,7 @@ starts (expr_or_spread s d e) c ts r g l h = absurd (omega arith)
 starts (computed_prop_name s e) c ts r g l h = absurd (omega arith)
 starts (ident_name s n) c ts r g l h = absurd (omega arith)
 starts (private_name s n) c ts r g l h = absurd (omega arith)
-starts _ c ts r g l h = absurd g
+starts _ c ts r g l h = absurd (omega arith)
 
 -- ---- what an expression ends in
 
@@ -270,7 +466,9 @@ ends_low (import s) c ts r g l h = omega arith
 ends_low (super_prop_expr s o k) c ts r g l h = omega arith
 ends_low (meta_prop_expr s k) c ts r g l h = omega arith
 ends_low (yield_expr s a q) c ts r g l h = absurd (omega arith)
-ends_low _ c ts r g l h = absurd g
+ends_low (fn_expr s n f) c ts r g l h = omega arith
+ends_low (class_expr s n k) c ts r g l h = omega arith
+ends_low _ c ts r g l h = absurd (omega arith)
 
 -- ---- lengths
 
@@ -295,178 +493,3 @@ some_assign op h = let w : 60 ≤ op = leb-true 60 op (and_parts (leb 60 op) (le
 
 pub some_binary : (c : Code) (op : ℕ) → operates c op ≡ true → 1 ≤ op
 some_binary c op h = binary_cases op (1 ≤ op) (operated c op h) (λ a b. omega arith) (λ e. omega arith) (λ e. omega arith)
-
--- what is taken after an object
-quasi_cut : (q : Tree) (c : Code) (ts m : Input) → is_quasi q ≡ true → Spells q c ts m → len m < len ts
-quasi_cut (tpl_element s t w u) c ts m e h = takes template_kind ts m h.1.0 (omega arith) h.1.2
-quasi_cut _ c ts m e h = absurd (true≢false (sym e))
-
-private_cut : (s : Span) (n : List ℕ) (c : Code) (ts r : Input) → Spells (private_name s n) c ts r → len r < len ts
-private_cut s n c ts r h = omega (arith, takes hash_kind ts h.0 h.1.0 (omega arith) h.1.2, shorter h.0 r (some_word h.0 h.3.0) h.3.3)
-
-pub accessed_cut : (may : Bool) (k : Tree) (c : Code) (ts r : Input) → AccessedName may c (part k (λ y. Spells k y)) ts r → len r < len ts
-accessed_cut may (ident_name s n) c ts r h = shorter ts r (some_word ts h.1.0.0) h.1.0.3
-accessed_cut may (private_name s n) c ts r h = private_cut s n c ts r h.1
-accessed_cut true _ c ts r h = absurd (true≢false (sym h.0))
-accessed_cut false _ c ts r h = absurd (true≢false (sym h.0))
-
-pub dotted_cut : (may : Bool) (k : Tree) (c : Code) (ts r : Input) → Dotted may c (part k (λ y. Spells k y)) ts r → len r < len ts
-dotted_cut may k c ts r h = omega (arith, takes dot_kind ts h.0 h.1.0 (omega arith) h.1.2, accessed_cut may k c h.0 r h.2)
-
-pub bracket_cut : (l : ℕ) (c : Code) (s : Span) (e : Tree) (ts r : Input) → ((a b : Input) → Spells e (assigning (with_in c)) a b → len b < len a) → Bracketed l c s (part e (λ y. Spells e y)) ts r → len r < len ts
-bracket_cut l c s e ts r f h = omega (arith, takes left_bracket_kind ts h.0 h.2.0 (omega arith) h.2.2, f h.0 h.1 h.3.1, takes 10 h.1 r h.4.0 (omega arith) h.4.2)
-
-optional_cut : (c : Code) (ts r : Input) → Optional c ts r → len r < len ts
-optional_cut c ts r h = omega (arith, takes question_mark_kind ts h.0 h.1.0 (omega arith) h.1.2, takes dot_kind h.0 r h.2.0 (omega arith) h.2.2)
-
-meta_cut : (c : Code) (s : Span) (k : ℕ) (ts r : Input) → MetaProperty c s k ts r → len r < len ts
-meta_cut c s k ts r h = ⊎_elim
-    (λ e. omega (arith, takes new_kind ts h.0 (h.2.0 ∙ e.0) (omega arith) h.2.3, takes dot_kind h.0 h.1 h.3.0 (omega arith) h.3.2, takes target_kind h.1 r e.1.0 (omega arith) e.1.3))
-    (λ e. omega (arith, takes import_kind ts h.0 (h.2.0 ∙ e.0) (omega arith) h.2.3, takes dot_kind h.0 h.1 h.3.0 (omega arith) h.3.2, takes meta_kind h.1 r e.1.0 (omega arith) e.1.3)) h.4
-
--- the items of lists
-pub data Items : Type 0 where
-  elements : Items
-  props : Items
-  items : Items
-  properties : Items
-  params : Items
-
-abbrev pub Each : Items → Code → Part → Input → Input → Type 0
-Each elements c = Sorted is_element c
-Each props c = Sorted is_prop c
-Each items c = Item c
-Each properties c = Property c
-Each params c = ArrowPattern c
-
--- what a part spells, in some code
-abbrev pub Spelt : Tree → Input → Input → Type 0
-Spelt x ts m = (c : Code) × Spells x c ts m
-
-pub spelt : (i : Items) (c : Code) (x : Tree) (ts m : Input) → Each i c (part x (λ y. Spells x y)) ts m → Spelt x ts m
-spelt elements c x ts m h = (c, h.1)
-spelt props c x ts m h = (c, h.1)
-spelt items c x ts m h = (with_in c, h.1)
-spelt properties c x ts m h = (with_in c, h.2)
-spelt params c x ts m h = (binding (with_in c), h.1)
-
-pub arguments_cut : (c : Code) (xs : Trees) (ts r : Input) → ((a b : Input) → ArgumentList c (parts xs) a b → len b < len a) → Arguments c (parts xs) ts r → len r < len ts
-arguments_cut c xs ts r f h = omega (arith, takes left_paren_kind ts h.0 h.1.0 (omega arith) h.1.2, f h.0 r h.2)
-
-arrow_name : (x : Tree) (c : Code) (m n : Input) → Sorted is_bound_name c (part x (λ y. Spells x y)) m n → len n < len m
-arrow_name (binding_ident q (ident t x)) c m n w = shorter m n (some_word m w.1.1.0.0) w.1.1.0.5
-arrow_name (binding_ident q x) c m n w = absurd w.1
-arrow_name _ c m n w = absurd (true≢false (sym w.0))
-
--- what the head of an arrow takes
-arrow_cut : (i : Bool) (c : Code) (ps : Trees) (ts r : Input) → ((m n : Input) → Listed false (ArrowPattern c) c 8 (parts ps) m n → len n < len m) → ((x : Tree) (m n : Input) → Sorted is_bound_name c (part x (λ y. Spells x y)) m n → len n < len m) → ArrowHead i c (parts ps) ts r → len r < len ts
-arrow_cut i c ps ts r f g h = let a = async_cut i ts h.0 h.2 in omega (arith, a, ⊎_elim (λ w. bare_cut ps w) (λ w. omega (arith, takes left_paren_kind h.0 w.0 w.1.0 (omega arith) w.1.2, f w.0 h.1 w.2)) h.3, takes 1 h.1 r h.5.0 (omega arith) h.5.2)
-  where
-    async_cut : (i : Bool) (ts m : Input) → Async i c ts m → len m ≤ len ts
-    async_cut true ts m w = omega (arith, takes async_kind ts m w.0.0 (omega arith) w.0.3)
-    async_cut false ts m w = omega (arith, ap (λ (x : Input). len x) w)
-
-    bare_cut : (ps : Trees) → BareName c (parts ps) h.0 h.1 → len h.1 < len h.0
-    bare_cut none w = absurd w
-    bare_cut (more x ps) w = g x h.0 h.1 w.1
-
-mutual
-  pub cut : (t : Tree) (c : Code) (ts r : Input) → Covered t → Spells t c ts r → len r < len ts
-  cut (this_expr s) c ts r g h = takes this_kind ts r h.0.0 (omega arith) h.0.3
-  cut (null_lit s) c ts r g h = takes null_kind ts r h.0.0 (omega arith) h.0.3
-  cut (bool_lit s true) c ts r g h = takes true_kind ts r h.0.0 (omega arith) h.0.3
-  cut (bool_lit s false) c ts r g h = takes false_kind ts r h.0.0 (omega arith) h.0.3
-  cut (ident s n) c ts r g h = shorter ts r (some_word ts h.0.0) h.0.5
-  cut (ident_name s n) c ts r g h = shorter ts r (some_word ts h.0.0) h.0.3
-  cut (private_name s n) c ts r g h = private_cut s n c ts r h
-  cut (str_lit s u w) c ts r g h = takes str_kind ts r h.3.0 (omega arith) h.3.2
-  cut (number_lit s v w) c ts r g h = takes num_kind ts r h.3.0 (omega arith) h.3.2
-  cut (big_int_lit s b d w) c ts r g h = takes big_int_kind ts r h.3.0 (omega arith) h.3.2
-  cut (regex_lit s e f) c ts r g h = takes regex_kind ts r h.1.0 (omega arith) h.1.2
-  cut (paren_expr s e) c ts r g h = omega (arith, takes left_paren_kind ts h.0 h.2.0 (omega arith) h.2.2, cut e _ h.0 h.1 g h.3.1, takes 8 h.1 r h.4.0 (omega arith) h.4.2)
-  cut (array_lit s xs) c ts r g h = omega (arith, takes left_bracket_kind ts h.0 h.1.0 (omega arith) h.1.2, cut_listed true c 10 elements xs h.0 r (omega arith) g h.2)
-  cut (expr_or_spread s None e) c ts r g h = cut e _ ts r g h.0.1
-  cut (expr_or_spread s (Some d) e) c ts r g h = omega (arith, takes dot_dot_dot_kind ts h.0 h.1.0 (omega arith) h.1.2, cut e _ h.0 r g h.3.1)
-  cut (unary_expr s op a) c ts r g h = omega (arith, takes op ts h.0 h.2.0 (some_unary op h.1) h.2.3, cut a _ h.0 r g h.3.1)
-  cut (update_expr s op true a) c ts r g h = omega (arith, takes op ts h.0 h.2.0 (some_update op h.1) h.2.2, cut a _ h.0 r g h.3.1)
-  cut (update_expr s op false a) c ts r g h = omega (arith, takes op h.0 r h.4.0 (some_update op h.1) h.4.2, cut a _ ts h.0 g h.2.1)
-  cut (await_expr s a) c ts r g h = omega (arith, takes await_kind ts h.0 h.2.0 (omega arith) h.2.3, cut a _ h.0 r g h.3.1)
-  cut (bin_expr s op a b) c ts r g h = omega (arith, cut a _ ts h.0 g.0 h.4, takes op h.0 h.1 h.5.0 (some_binary c op h.2) h.5.3, cut b _ h.1 r g.1 h.6.1)
-  cut (cond_expr s a b d) c ts r g h = omega (arith, cut a _ ts h.0 g.0 h.4.1, takes 19 h.0 h.1 h.5.0 (omega arith) h.5.2, cut b _ h.1 h.2 g.1 h.6.1, takes 17 h.2 h.3 h.7.0 (omega arith) h.7.2, cut d _ h.3 r g.2 h.8.1)
-  cut (seq_expr s none) c ts r g h = absurd h
-  cut (seq_expr s (more x none)) c ts r g h = absurd h
-  cut (seq_expr s (more x (more y ys))) c ts r g h = omega (arith, cut x _ ts h.0 g.0 h.1.1, cut_commas c (more y ys) h.0 r g.1 h.2)
-  cut (computed_prop_name s e) c ts r g h = omega (arith, takes left_bracket_kind ts h.0 h.2.0 (omega arith) h.2.2, cut e _ h.0 h.1 g h.3.1, takes 10 h.1 r h.4.0 (omega arith) h.4.2)
-  cut (member_expr s o (computed_prop_name t e)) c ts r g h = omega (arith, cut o _ ts h.0 g.0 h.2.1, bracket_cut 1 c t e h.0 r (λ x y w. cut e _ x y g.1 w) h.3)
-  cut (member_expr s o k) c ts r g h = omega (arith, cut o _ ts h.0 g.0 h.2.1, dotted_cut true k c h.0 r h.3)
-  cut (call_expr s (super q) xs) c ts r g h = omega (arith, takes super_kind ts h.0 h.1.0 (omega arith) h.1.3, arguments_cut c xs h.0 r (λ x y w. cut_listed false c 8 elements xs x y (omega arith) g.1 w) h.3)
-  cut (call_expr s (import q) xs) c ts r g h = omega (arith, takes import_kind ts h.0 h.2.0 (omega arith) h.2.3, takes left_paren_kind h.0 h.1 h.4.0 (omega arith) h.4.2, cut_import c xs h.1 r g.1 h.5)
-  cut (call_expr s f xs) c ts r g h = omega (arith, cut f (assigning c) ts h.0 g.0 h.2.1, arguments_cut c xs h.0 r (λ x y w. cut_listed false c 8 elements xs x y (omega arith) g.1 w) h.3)
-  cut (tpl s es qs) c ts r g h = omega (arith, takes back_quote_kind ts h.0 h.1.0 (omega arith) h.1.2, cut_template false c es qs h.0 r g h.2)
-  cut (tagged_tpl s t (tpl o es qs)) c ts r g h = omega (arith, cut t _ ts h.0 g.0 h.2.1, takes back_quote_kind h.0 h.3.0 h.3.1.0 (omega arith) h.3.1.2, cut_template true c es qs h.3.0 r g.1 h.3.2)
-  cut (tagged_tpl s t q) c ts r g h = absurd h
-  cut (opt_chain_expr s true (member_expr t o (computed_prop_name b e))) c ts r g h = omega (arith, cut o _ ts h.0 g.0 h.2.1, optional_cut c h.0 h.1 h.3, bracket_cut 1 c b e h.1 r (λ x y w. cut e _ x y g.1 w) h.4)
-  cut (opt_chain_expr s true (member_expr t o k)) c ts r g h = omega (arith, cut o _ ts h.0 g.0 h.2.1, optional_cut c h.0 h.1 h.3, accessed_cut true k c h.1 r h.4)
-  cut (opt_chain_expr s true (opt_call t f xs)) c ts r g h = omega (arith, cut f _ ts h.0 g.0 h.2.1, optional_cut c h.0 h.1 h.3, arguments_cut c xs h.1 r (λ x y w. cut_listed false c 8 elements xs x y (omega arith) g.1 w) h.4)
-  cut (opt_chain_expr s false (member_expr t o (computed_prop_name b e))) c ts r g h = omega (arith, cut o _ ts h.0 g.0 h.2, bracket_cut 1 c b e h.0 r (λ x y w. cut e _ x y g.1 w) h.3)
-  cut (opt_chain_expr s false (member_expr t o k)) c ts r g h = omega (arith, cut o _ ts h.0 g.0 h.2, dotted_cut true k c h.0 r h.3)
-  cut (opt_chain_expr s false (opt_call t f xs)) c ts r g h = omega (arith, cut f _ ts h.0 g.0 h.2, arguments_cut c xs h.0 r (λ x y w. cut_listed false c 8 elements xs x y (omega arith) g.1 w) h.3)
-  cut (opt_chain_expr s q b) c ts r g h = absurd h
-  cut (object_lit s ps) c ts r g h = omega (arith, takes left_brace_kind ts h.0 h.1.0 (omega arith) h.1.2, cut_listed false c 12 props ps h.0 r (omega arith) g h.2)
-  cut (key_value_prop s k v) c ts r g h = omega (arith, cut k c ts h.0 g.0 h.2.1, takes 17 h.0 h.1 h.3.0 (omega arith) h.3.2, cut v _ h.1 r g.1 h.4.1)
-  cut (assign_prop s k e) c ts r g h = omega (arith, cut k c ts h.0 g.0 h.2.1, takes 60 h.0 h.1 h.3.0 (omega arith) h.3.2, cut e _ h.1 r g.1 h.4.1)
-  cut (spread_element s e) c ts r g h = omega (arith, takes dot_dot_dot_kind ts h.0 h.1.0 (omega arith) h.1.2, cut e _ h.0 r g h.2.1)
-  cut (assign_expr s op a b) c ts r g h = omega (arith, cut a (assigning c) ts h.0 g.0 h.4, takes op h.0 h.1 h.5.0 (some_assign op h.2) h.5.2, cut b _ h.1 r g.1 h.6.1)
-  cut (arrow_expr s ps (block_stmt b ss) i) c ts r g h = absurd g.1
-  cut (arrow_expr s ps e i) c ts r g h = omega (arith, arrow_cut i c ps ts h.0 (λ m n w. cut_listed false c 8 params ps m n (omega arith) g.0 w) (λ x m n w. arrow_name x c m n w) h.1, cut e (assigning (in_arrow i c)) h.0 r g.1 h.3.1)
-  cut (binding_ident s (ident t n)) c ts r g h = shorter ts r (some_word ts h.1.0.0) h.1.0.5
-  cut (binding_ident s i) c ts r g h = absurd h
-  cut (array_pat s xs) c ts r g h = omega (arith, takes left_bracket_kind ts h.0 h.1.0 (omega arith) h.1.2, cut_listed true c 10 items xs h.0 r (omega arith) g h.2)
-  cut (object_pat s ps) c ts r g h = omega (arith, takes left_brace_kind ts h.0 h.1.0 (omega arith) h.1.2, cut_listed false c 12 properties ps h.0 r (omega arith) g h.2)
-  cut (assign_pat s a e) c ts r g h = omega (arith, cut a c ts h.0 g.0 h.3, takes 60 h.0 h.1 h.4.0 (omega arith) h.4.2, cut e _ h.1 r g.1 h.5.1)
-  cut (rest_pat s d a) c ts r g h = omega (arith, takes dot_dot_dot_kind ts h.0 h.1.0 (omega arith) h.1.2, cut a c h.0 r g h.4)
-  cut (key_value_pat_prop s k a) c ts r g h = omega (arith, cut k (assigning c) ts h.0 g.0 h.2.1, takes 17 h.0 h.1 h.3.0 (omega arith) h.3.2, cut a (with_in c) h.1 r g.1 h.4.1)
-  cut (assign_pat_prop s k e) c ts r g h = by_cases (is_absent e) _ _ (len r < len ts) h.2 (λ q w. omega (arith, cut k c ts h.0 g.0 h.1.1, ap (λ (x : Input). len x) w))
-      (λ q w. omega (arith, cut k c ts h.0 g.0 h.1.1, takes 60 h.0 w.0 w.1.0 (omega arith) w.1.2, cut e _ w.0 r g.1 w.2.1))
-  cut (expr_pat e) c ts r g h = cut e c ts r g h
-  cut (opt_call s f xs) c ts r g h = absurd h
-  cut (super s) c ts r g h = absurd h
-  cut (import s) c ts r g h = absurd h
-  cut (super_prop_expr s (super t) (computed_prop_name q e)) c ts r g h = omega (arith, takes super_kind ts h.0 h.1.0 (omega arith) h.1.3, bracket_cut 1 c q e h.0 r (λ x y w. cut e _ x y g w) h.3)
-  cut (super_prop_expr s (super t) k) c ts r g h = omega (arith, takes super_kind ts h.0 h.1.0 (omega arith) h.1.3, dotted_cut false k c h.0 r h.3)
-  cut (super_prop_expr s o k) c ts r g h = absurd h
-  cut (meta_prop_expr s k) c ts r g h = meta_cut c s k ts r h
-  cut (yield_expr s absent q) c ts r g h = takes yield_kind ts r h.1.1.0 (omega arith) h.1.1.3
-  cut (yield_expr s a false) c ts r g h = omega (arith, takes yield_kind ts h.0 h.2.0 (omega arith) h.2.3, cut a (assigning c) h.0 r g h.4.1)
-  cut (yield_expr s a true) c ts r g h = omega (arith, takes yield_kind ts h.0 h.3.0 (omega arith) h.3.3, takes mul_kind h.0 h.1 h.5.0 (omega arith) h.5.2, cut a (assigning c) h.1 r g h.6.1)
-  cut (new_expr s f absent) c ts r g h = omega (arith, takes new_kind ts h.0 h.1.0 (omega arith) h.1.3, cut f _ h.0 r g.0 h.3)
-  cut (new_expr s f (list xs)) c ts r g h = omega (arith, takes new_kind ts h.0 h.2.0 (omega arith) h.2.3, cut f _ h.0 h.1 g.0 h.3.1, takes left_paren_kind h.1 h.4.0 h.4.1.0 (omega arith) h.4.1.2, cut_listed false c 8 elements xs h.4.0 r (omega arith) g.1 h.4.2)
-  cut (new_expr s f xs) c ts r g h = absurd h
-  cut absent c ts r g h = absurd h
-  cut hole c ts r g h = absurd h
-  cut (list xs) c ts r g h = absurd h
-  cut _ c ts r g h = absurd g
-
-  pub cut_listed : (holes : Bool) (c : Code) (close : ℕ) (i : Items) (xs : Trees) (ts r : Input) → 1 ≤ close → CoveredAll xs → Listed holes (Each i c) c close (parts xs) ts r → len r < len ts
-  cut_listed holes c close i none ts r l g h = takes close ts r h.0 l h.2
-  cut_listed holes c close i (more x xs) ts r l g h = by_cases (holes && is_hole x) _ _ (len r < len ts) h
-      (λ e k. omega (arith, takes comma_kind ts k.0 k.1.0 (omega arith) k.1.2, cut_listed holes c close i xs k.0 r l g.1 k.2))
-      (λ e k. let w = spelt i c x ts k.0 k.1 in ⊎_elim (λ j. omega (arith, cut x w.0 ts k.0 g.0 w.1, takes comma_kind k.0 j.1 j.2.0 (omega arith) j.2.2, cut_listed holes c close i xs j.1 r l g.1 j.3))
-      (λ j. omega (arith, cut x w.0 ts k.0 g.0 w.1, takes close k.0 r j.1.0 l j.1.2)) k.2)
-
-  pub cut_import : (c : Code) (xs : Trees) (ts r : Input) → CoveredAll xs → ImportArguments c (parts xs) ts r → len r < len ts
-  cut_import c none ts r g h = absurd h
-  cut_import c (more x xs) ts r g h = by_cases c.syntax.import_attributes _ _ (len r < len ts) h.1
-      (λ e k. ⊎_elim (λ j. omega (arith, cut x _ ts k.1.0 g.0 k.1.1.1, takes comma_kind k.1.0 j.1 j.2.0 (omega arith) j.2.2, cut_listed false c 8 elements xs j.1 r (omega arith) g.1 j.3))
-      (λ j. omega (arith, cut x _ ts k.1.0 g.0 k.1.1.1, takes 8 k.1.0 r j.1.0 (omega arith) j.1.2)) k.1.2)
-      (λ e k. omega (arith, cut x _ ts k.1 g.0 k.2.1, takes 8 k.1 r k.3.0 (omega arith) k.3.2))
-
-  pub cut_template : (tagged : Bool) (c : Code) (es qs : Trees) (ts r : Input) → CoveredAll es → TemplateSpans tagged c (parts es) (parts qs) ts r → len r < len ts
-  cut_template tagged c none none ts r g h = absurd h
-  cut_template tagged c (more e es) none ts r g h = absurd h
-  cut_template tagged c none (more q qs) ts r g h = omega (arith, quasi_cut q c ts h.0 h.4.0 h.4.1, takes back_quote_kind h.0 r h.5.0 (omega arith) h.5.2)
-  cut_template tagged c (more e es) (more q qs) ts r g h = omega (arith, quasi_cut q c ts h.0 h.6.0 h.6.1, takes 18 h.0 h.1 h.7.0 (omega arith) h.7.2, cut e _ h.1 h.2 g.0 h.8.1, takes 12 h.2 h.3 h.9.0 (omega arith) h.9.2, cut_template tagged c es qs h.3 r g.1 h.10)
-
-  pub cut_commas : (c : Code) (xs : Trees) (ts r : Input) → CoveredAll xs → CommaThen (Expr 2 c) c (parts xs) ts r → len r ≤ len ts
-  cut_commas c none ts r g h = omega (arith, ap (λ (z : Input). len z) h)
-  cut_commas c (more x xs) ts r g h = omega (arith, takes comma_kind ts h.0 h.2.0 (omega arith) h.2.2, cut x _ h.0 h.1 g.0 h.3.1, cut_commas c xs h.1 r g.1 h.4)

@@ -21,7 +21,7 @@ use Rattle.ecma_grammar_complete.proofs.Objects.{begins_key, key_starts, OneWord
 use Rattle.ecma_grammar_complete_parts.proofs.Nested.{Nested}
 use Rattle.ecma_grammar_complete_parts.proofs.Within.{Each, most, Within, Withins, within, withins}
 use Rattle.ecma_grammar_complete_parts.proofs.Follows.{halted, ends_two, end_follows, then_end, built, lifted}
-use Rattle.ecma_grammar_complete_parts.proofs.Cuts.{cut, least}
+use Rattle.ecma_grammar_complete.proofs.Cuts.{cut, least}
 use Rattle.ecma_grammar_complete_functions.proofs.Functions.{any_key_found, parameters_found, setter_found, function_found, star_found, empty_none}
 use Rattle.ecma_grammar_complete_statements.proofs.Simple.{absent_is}
 use Rattle.ecma_grammar_complete_statements.proofs.Lists.{rest_found}

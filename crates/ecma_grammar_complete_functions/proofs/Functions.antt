@@ -25,7 +25,7 @@ use Rattle.ecma_grammar_complete_parts.proofs.Nested.{Nested, patterned}
 use Rattle.ecma_grammar_complete_parts.proofs.Within.{ItemIn, item_in, Within, Withins, within, withins}
 use Rattle.ecma_grammar_complete_parts.proofs.Follows.{built, lifted}
 use Rattle.ecma_grammar_complete_parts.proofs.Starts.{starts_binding, binding_starts, ident_is}
-use Rattle.ecma_grammar_complete_parts.proofs.Cuts.{cut}
+use Rattle.ecma_grammar_complete.proofs.Cuts.{cut}
 
 -- ---- what follows a parameter
 

@@ -17,7 +17,7 @@ use Rattle.ecma_grammar_complete.proofs.Lists.{pack_unpack}
 use Rattle.ecma_grammar_complete_parts.proofs.Nested.{Nested, may_follow}
 use Rattle.ecma_grammar_complete_parts.proofs.Within.{Each, most}
 use Rattle.ecma_grammar_complete_parts.proofs.Starts.{opens_item, item_opens, item_imports, called, no_item}
-use Rattle.ecma_grammar_complete_parts.proofs.Cuts.{item_cut}
+use Rattle.ecma_grammar_complete.proofs.Cuts.{item_cut}
 use Rattle.ecma_grammar_complete_statements.proofs.Lists.{HasItems, on_strict, on_same}
 
 -- ---- what starts an item of a program

@@ -20,7 +20,7 @@ use Rattle.ecma_grammar_complete_parts.proofs.Nested.{Nested, may_follow}
 use Rattle.ecma_grammar_complete_parts.proofs.Within.{Each, most, Within, Withins, within, withins}
 use Rattle.ecma_grammar_complete_parts.proofs.Follows.{halted, built, lifted}
 use Rattle.ecma_grammar_complete_parts.proofs.Starts.{opens_item, item_opens, no_item}
-use Rattle.ecma_grammar_complete_parts.proofs.Cuts.{item_cut, cut}
+use Rattle.ecma_grammar_complete.proofs.Cuts.{item_cut, cut}
 use Rattle.ecma_grammar_complete_statements.proofs.Simple.{absent_is, follows_at, one_found, parens_found}
 
 -- ---- what follows a statement in a list

@@ -20,7 +20,7 @@ use Rattle.ecma_grammar_complete.proofs.Trees.{by_cases, takes}
 use Rattle.ecma_grammar_complete_parts.proofs.Nested.{Nested}
 use Rattle.ecma_grammar_complete_parts.proofs.Within.{Within, Withins, within, withins}
 use Rattle.ecma_grammar_complete_parts.proofs.Follows.{halts, halted, ends_two, end_follows, low_goes, then_end, lifted}
-use Rattle.ecma_grammar_complete_parts.proofs.Cuts.{cut}
+use Rattle.ecma_grammar_complete.proofs.Cuts.{cut}
 use Rattle.ecma_grammar_complete_statements.proofs.Simple.{absent_is}
 use Rattle.ecma_grammar_complete_parts.proofs.Starts.{Opening, After, Names, named_after, one_name, tame, starts_binding, binding_starts}
 
