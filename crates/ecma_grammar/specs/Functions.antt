@@ -103,14 +103,14 @@ abbrev pub ObjectMethod : Code → Span → Part → Part → Option FunctionPar
 ObjectMethod c s key f None ts r = ⊥
 ObjectMethod c s key f (Some parts) ts r = (is_key key.tree ≡ true) × Method c plain_method key parts f ts r × (parts.span ≡ s) × Spans s ts r
 
--- a getter, and a setter with the one pattern that it takes
+-- a getter, and a setter with the one pattern that it takes, which is no rest
 abbrev pub Getter : Code → Span → Part → Span → List Part → Input → Input → Type 0
 Getter c s key body ss ts r = (m : Input) × (n : Input) × (o : Input) × (p : Input) × TakesWord c get_kind ts m × Sorted is_key c key m n
     × Takes (in_body false false c) left_paren_kind n o × Takes (in_body false false c) right_paren_kind o p × Body (in_body false false c) body ss p r × Spans s ts r
 
 abbrev pub Setter : Code → Span → Part → Part → Span → List Part → Input → Input → Type 0
 Setter c s key pat body ss ts r = (m : Input) × (n : Input) × (o : Input) × (p : Input) × (q : Input) × TakesWord c set_kind ts m × Sorted is_key c key m n
-    × Takes (in_body false false c) left_paren_kind n o × (is_item_pat true pat.tree ≡ true) × pat.spelled (binding (in_body false false c)) o p
+    × Takes (in_body false false c) left_paren_kind n o × (is_item_pat true pat.tree ≡ true) × (is_rest pat.tree ≡ false) × pat.spelled (binding (in_body false false c)) o p
     × Takes (in_body false false c) right_paren_kind p q × Body (in_body false false c) body ss q r × Spans s ts r
 
 -- ---- 15.7 classes: every part is strict code

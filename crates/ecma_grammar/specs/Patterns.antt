@@ -4,7 +4,7 @@ use Rattle.ecma_token.specs.declared.place.Span.{Span}
 use Rattle.ecma_token.specs.Kinds.{dot_dot_dot_kind, left_bracket_kind, right_bracket_kind, left_brace_kind, right_brace_kind, colon_kind, assign_kind}
 use Rattle.ecma_syntax.specs.Input.{Input, Code, Takes, Spans, lo, dots_at, with_in, assigning}
 use Rattle.ecma_syntax.specs.Operators.{assignment_level}
-use Rattle.ecma_syntax.specs.Shape.{is_absent, is_key, is_bound_name, is_place, is_item_pat, is_pattern_prop, takes_rest}
+use Rattle.ecma_syntax.specs.Shape.{is_absent, is_key, is_bound_name, is_place, is_item_pat, is_pattern_prop, is_rest, takes_rest}
 use Rattle.ecma_grammar.specs.Parts.{Part, By, Expr, Sorted, Listed}
 
 -- an item in its place
@@ -30,9 +30,9 @@ Initialised c s p e ts r = (m : Input) × (n : Input) × (is_place c.binds p.tre
 abbrev pub Rest : Code → Span → Span → Part → Input → Input → Type 0
 Rest c s dots p ts r = (m : Input) × Takes c dot_dot_dot_kind ts m × (dots ≡ dots_at (lo ts)) × (is_place c.binds p.tree ≡ true) × p.spelled c m r × Spans s ts r
 
--- BindingProperty, AssignmentProperty: a key and an item
+-- BindingProperty, AssignmentProperty: a key and an item, which is no rest
 abbrev pub KeyedItem : Code → Span → Part → Part → Input → Input → Type 0
-KeyedItem c s k p ts r = (m : Input) × (n : Input) × Sorted is_key (assigning c) k ts m × Takes c colon_kind m n × Item c p n r × Spans s ts r
+KeyedItem c s k p ts r = (m : Input) × (n : Input) × Sorted is_key (assigning c) k ts m × Takes c colon_kind m n × Item c p n r × (is_rest p.tree ≡ false) × Spans s ts r
 
 -- a name as its own key, with an initialiser or without
 abbrev pub NamedItem : Code → Span → Part → Part → Input → Input → Type 0

@@ -85,7 +85,7 @@ mutual
   loosen (object_pat s xs) c ts r e h = (h.0, h.1, loosen_props xs c h.0 r h.2, h.3)
   loosen (assign_pat s a x) c ts r e h = (h.0, h.1, place_false a h.2, loosen a c ts h.0 (place_loose a h.2) h.3, h.4, h.5, h.6)
   loosen (rest_pat s q a) c ts r e h = (h.0, h.1, h.2, place_false a h.3, loosen a c h.0 r (place_loose a h.3) h.4, h.5)
-  loosen (key_value_pat_prop s k a) c ts r e h = (h.0, h.1, h.2, h.3, (item_false a h.4.0, loosen a (with_in c) h.1 r (item_loose a h.4.0) h.4.1), h.5)
+  loosen (key_value_pat_prop s k a) c ts r e h = (h.0, h.1, h.2, h.3, (item_false a h.4.0, loosen a (with_in c) h.1 r (item_loose a h.4.0) h.4.1), h.5, h.6)
   loosen (assign_pat_prop s (binding_ident q (ident t n)) x) c ts r e h = h
   loosen (assign_pat_prop s (binding_ident q i) x) c ts r e h = absurd h.1.1
   loosen (assign_pat_prop s k x) c ts r e h = absurd (true≢false (sym h.1.0))

@@ -337,7 +337,7 @@ module _ (z d : ℕ) (f : Finds z d) (cov : Covering z d) (p : Bool) (c : Code) 
       (then_past_reads h.2.0 h.2.1 j (within.expr (with_in c) assignment_level) _ (λ y. (y.1.source ≡ m) × Refines false y.0 a y.1) (d < reach a) _ _ h.2.3.2 (cov a p c h.2.1 m j sa ga h.2.4.0 n h.2.4.1 (divided z d f p c m v)) (λ u. omega arith)
       (λ y u. ended _ _ _ (record {
         source = u.0;
-        refines = record { so = λ bb ft i t. rw (u.1.so bb ft i t) (ap (λ (w : Input). Ok (key_value_pat_prop (span (lo ts) w.last) x a)) u.0 ∙ ap (λ w. Ok (key_value_pat_prop w x a)) (sym h.2.5)) };
+        refines = record { so = λ bb ft i t. rw (u.1.so bb ft i t) (ap (λ (w : Input). Ok (key_value_pat_prop (span (lo ts) w.last) x a)) u.0 ∙ ap (λ w. Ok (key_value_pat_prop w x a)) (sym h.2.6)) };
         rests = refl;
       })))))
     where

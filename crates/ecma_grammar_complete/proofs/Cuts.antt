@@ -391,7 +391,7 @@ mutual
   cut (method_prop s k f) c ts r h = let y = object_method s k f c ts r h in omega (arith, y.3, cut k _ y.0 y.1 y.4, cut f _ y.1 r y.5, y.6)
   cut (getter_prop s k (block_stmt b ss)) c ts r h = omega (arith, takes get_kind ts h.0 h.4.0 (omega arith) h.4.3, cut k _ h.0 h.1 h.5.1, passed h.1 h.2 h.6.2, passed h.2 h.3 h.7.2, body_cut ss _ b h.3 r (cuts ss) h.8)
   cut (getter_prop s k _) c ts r h = absurd h
-  cut (setter_prop s k a (block_stmt b ss)) c ts r h = omega (arith, takes set_kind ts h.0 h.5.0 (omega arith) h.5.3, cut k _ h.0 h.1 h.6.1, passed h.1 h.2 h.7.2, cut a _ h.2 h.3 h.9, passed h.3 h.4 h.10.2, body_cut ss _ b h.4 r (cuts ss) h.11)
+  cut (setter_prop s k a (block_stmt b ss)) c ts r h = omega (arith, takes set_kind ts h.0 h.5.0 (omega arith) h.5.3, cut k _ h.0 h.1 h.6.1, passed h.1 h.2 h.7.2, cut a _ h.2 h.3 h.10, passed h.3 h.4 h.11.2, body_cut ss _ b h.4 r (cuts ss) h.12)
   cut (setter_prop s k a _) c ts r h = absurd h
   cut (class s ds ms k) c ts r h = omega (arith, by_cases (is_absent k) _ _ (len h.0 ≤ len ts) h.3 (λ q x. same ts h.0 x) (λ q x. omega (arith, passed ts x.0 x.1.3, cut k _ x.0 h.0 x.2.1)), takes left_brace_kind h.0 h.1 h.4.0 (omega arith) h.4.2, members_cut ms c h.1 r (cuts ms) h.5)
   cut (class_decl s n k) c ts r h = omega (arith, takes class_kind ts h.0 h.2.0 (omega arith) h.2.3, cut n _ h.0 h.1 h.3.1, cut k _ h.1 r h.4)

@@ -162,7 +162,7 @@ module _ (z d : ℕ) (f : Finds z d) (b : Binds z d) (p : Bool) (c : Code) where
   unfolding pattern_prop keyed_item
   prop_keyed s x a ts m k sx sa gx ga h n cl = then_is (key_by lm inner c (from ts k)) _ x h.0 (d < reach x) _ _ (key_found z d f p c x ts h.0 k sx gx h.2.0 (coded p (with_in c)) refl h.2.1) (λ u. omega arith)
       (λ j. if_yes (eqb (kind h.0) colon_kind) _ _ _ _ (eq-eqb (kind h.0) colon_kind h.3.0) (onto h.0 h.1 j (λ y. inner.pat (with_in c) y >>= λ q. initial_pat lm inner c y q.0 q.1 >>= λ q. Ok (key_value_pat_prop (span (lo ts) q.1.source.last) x q.0, q.1)) _ _ h.3.2
-      (item_then a h.1 m j (λ q. Ok (key_value_pat_prop (span (lo ts) q.1.source.last) x q.0, q.1)) _ _ sa ga h.4 n cl (λ u. omega arith) (λ i. here (ap (λ (y : Span). key_value_pat_prop y x a) (sym h.5))))))
+      (item_then a h.1 m j (λ q. Ok (key_value_pat_prop (span (lo ts) q.1.source.last) x q.0, q.1)) _ _ sa ga h.4 n cl (λ u. omega arith) (λ i. here (ap (λ (y : Span). key_value_pat_prop y x a) (sym h.6))))))
 
   named_span : (ts a : Input) (q t : Span) (x : List ℕ) → Spells (binding_ident q (ident t x)) (patterned p (with_in c)) ts a → binding_ident (first_span ts) (ident (first_span ts) x) ≡ binding_ident q (ident t x)
   named_span ts a q t x h = ap (λ (y : Span). binding_ident y (ident y x)) (first_at ts a q h.1.0.5 h.1.1) ∙ ap (λ (y : Span). binding_ident q (ident y x)) h.0

@@ -88,7 +88,7 @@ mutual
   turned_pat c (object_pat s ps) ts r e h = (h.0, h.1, turned_props c false right_brace_kind ps h.0 r e h.2, h.3)
   turned_pat c (assign_pat s p x) ts r e h = (h.0, h.1, place_turned p e h.2, turned_pat c p ts h.0 e h.3, h.4, h.5, h.6)
   turned_pat c (rest_pat s d p) ts r e h = (h.0, h.1, h.2, place_turned p e h.3, turned_pat c p h.0 r e h.4, h.5)
-  turned_pat c (key_value_pat_prop s k p) ts r e h = (h.0, h.1, h.2, h.3, (item_turned p e h.4.0, turned_pat (with_in c) p h.1 r e h.4.1), h.5)
+  turned_pat c (key_value_pat_prop s k p) ts r e h = (h.0, h.1, h.2, h.3, (item_turned p e h.4.0, turned_pat (with_in c) p h.1 r e h.4.1), h.5, h.6)
   turned_pat c (assign_pat_prop s k x) ts r e h = (h.0, (h.1.0, bound_turned c k ts h.0 h.1.0 h.1.1), h.2, h.3)
   turned_pat c hole ts r e h = absurd h
   turned_pat c _ ts r e h = absurd (true≢false (sym e))
@@ -347,7 +347,7 @@ prop_value k c s key v ts m n r ke kh t0 l h f e0 = record {
   sort = refl;
   spelled = (m, n, (ke, kh), t0, (l, h), e0);
   refines = λ b. then_holds (to_item b k v) (λ p. Ok (key_value_pat_prop s key p)) (IsItem b (with_in c) n r) _ (f.so b (fine_in v c)) (λ p q.
-      record { so = ((refl, refl, (m, n, (ke, key_in key c ts m ke kh), t0, ((target_item b p q.0).0, q.1), e0)), λ _. refl, refl) });
+      record { so = ((refl, refl, (m, n, (ke, key_in key c ts m ke kh), t0, ((target_item b p q.0).0, q.1), (target_item b p q.0).1, e0)), λ _. refl, refl) });
 }
 
 pub prop_spread : (k : List ℕ) (c : Code) (s : Span) (e : Tree) (ts m r : Input) → Takes (plain c) dot_dot_dot_kind ts m → 2 ≤ level e → Spells e (plain (with_in c)) m r → Refines k (with_in c) e m r → Spans s ts r → Prop k c (spread_element s e) ts r

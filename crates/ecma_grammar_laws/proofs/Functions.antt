@@ -2,7 +2,8 @@
 use Rattle.std.proofs.Common.{◌≡◌, ℕ, inl, inr, Bool, true, false, not, ◌&&◌, ◌||◌, eqb, List, [], ◌∷◌, ◌++◌, Some, Result, refl, sym, ap, ◌∙◌, subst, ⊎_elim, true≢false, append_assoc, append-nil, arith}
 use Rattle.std.proofs.lemmas.Bool.{eqb-true, and_parts, not-true, cases_Bool}
 use Rattle.ecma_token.specs.Kinds.{comma_kind, dot_dot_dot_kind, left_paren_kind, right_paren_kind, assign_kind, mul_kind}
-use Rattle.ecma_tree.specs.Tree.{Tree, none, pack, function, param, rest_pat, assign_pat, binding_ident, array_pat, object_pat}
+use Rattle.ecma_token.specs.declared.place.Span.{Span}
+use Rattle.ecma_tree.specs.Tree.{Tree, Trees, none, pack, function, param, rest_pat, assign_pat, binding_ident, array_pat, object_pat}
 use Rattle.ecma_syntax.specs.Input.{Input, Code, kind, Takes, lo, span, dots_at, with_in, setting, in_body}
 use Rattle.ecma_syntax.specs.Operators.{assignment_level}
 use Rattle.ecma_syntax.specs.Shape.{is_binding, is_item_pat, is_param, is_rest, function_parts, count_of}
@@ -60,9 +61,18 @@ rest_same inner (param s ds (rest_pat t d p)) h = refl
 rest_same inner (param s ds _) h = refl
 rest_same inner _ h = absurd (true≢false (sym h))
 
-pub pattern_spelled : (inner : Inner Input) (c : Code) (x : Tree) (ts r : Input) → is_param x ≡ true → Spells x (plain c) ts r → (is_item_pat true (pattern_of lm inner x) ≡ true) × Spells (pattern_of lm inner x) (patterned true (with_in c)) ts r
-pattern_spelled inner c (param s ds p) ts r h k = (k.1, k.2)
-pattern_spelled inner c _ ts r h k = absurd (true≢false (sym h))
+no_rest_in : (s : Span) (ds : Trees) (p : Tree) → is_item_pat true p ≡ true → is_rest (param s ds p) ≡ false → is_rest p ≡ false
+no_rest_in s ds (rest_pat t d p) h n = n
+no_rest_in s ds (assign_pat t p e) h n = refl
+no_rest_in s ds (binding_ident t i) h n = refl
+no_rest_in s ds (array_pat t xs) h n = refl
+no_rest_in s ds (object_pat t ps) h n = refl
+no_rest_in s ds _ h n = absurd (true≢false (sym h))
+
+pub pattern_spelled : (inner : Inner Input) (c : Code) (x : Tree) (ts r : Input) → is_param x ≡ true → is_rest x ≡ false → Spells x (plain c) ts r
+    → (is_item_pat true (pattern_of lm inner x) ≡ true) × (is_rest (pattern_of lm inner x) ≡ false) × Spells (pattern_of lm inner x) (patterned true (with_in c)) ts r
+pattern_spelled inner c (param s ds p) ts r h n k = (k.1, no_rest_in s ds p k.1 n, k.2)
+pattern_spelled inner c _ ts r h n k = absurd (true≢false (sym h))
 
 abbrev pub GotParam : Code → Stand Input → Tree × Stand Input → Type 0
 GotParam c s x = (is_param x.0 ≡ true) × Spells x.0 (plain c) (seen s) (seen x.1)

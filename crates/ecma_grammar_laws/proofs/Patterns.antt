@@ -92,7 +92,7 @@ module _ (inner : Inner Input) (good : Sound inner) where
   keyed_sure : (c : Code) (start : Stand Input) (k : Tree) (m s : Stand Input) → is_key k ≡ true → Spells k (plain c) (seen start) (seen m) → Takes (patterned true (with_in c)) colon_kind (seen m) (seen s) → Sure s.commas (keyed_item lm inner c start k s) (GotProp c start)
   unfolding keyed_item
   keyed_sure c start k m s e h t = then_sure s.commas (inner.pat (with_in c) s) _ _ _ (good.pat (with_in c) s) (λ p g. then_sure p.1.commas (initial_pat lm inner c s p.0 p.1) _ _ _ (initial_sure c s p.0 p.1 g.0 g.1) (λ q j.
-      done (key_value_pat_prop (span (lo (seen start)) q.1.source.last) k q.0, q.1) (GotProp c start) (refl, refl, (seen m, seen s, (e, key_in k c (seen start) (seen m) e h), t, (j.0, j.1), refl), refl)))
+      done (key_value_pat_prop (span (lo (seen start)) q.1.source.last) k q.0, q.1) (GotProp c start) (refl, refl, (seen m, seen s, (e, key_in k c (seen start) (seen m) e h), t, (j.0, j.1), j.2, refl), refl)))
 
   named_sure : (c : Code) (s : Stand Input) → Sure s.commas (named_item lm inner c s) (GotProp c s)
   unfolding named_item

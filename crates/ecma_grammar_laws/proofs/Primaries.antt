@@ -111,10 +111,10 @@ module _ (inner : Inner Input) (good : Sound inner) where
   setter_prop_sure : (c : Code) (s : Stand Input) → kind (seen s) ≡ set_kind → Sure s.commas (setter_by lm inner c s) (GotProp c s)
   unfolding setter_by
   setter_prop_sure c s e = then_sure s.commas (key_by lm inner c (next s)) _ _ _ (key_sure inner good c (next s)) (λ k q. then_sure k.1.commas (setter_parameter lm inner (in_body false false c) k.1) _ _ _ (setter_sure inner good (in_body false false c) k.1) (λ p h.
-      then_sure p.1.commas (inner.body (in_body false false c) p.1) _ _ _ (good.body (in_body false false c) p.1) (λ b w. let d = pattern_spelled inner (in_body false false c) p.0 h.0 h.1 h.2 h.5 in
+      then_sure p.1.commas (inner.body (in_body false false c) p.1) _ _ _ (good.body (in_body false false c) p.1) (λ b w. let d = pattern_spelled inner (in_body false false c) p.0 h.0 h.1 h.2 h.3 h.5 in
       done (setter_prop (span (lo (seen s)) b.1.source.last) k.0 (pattern_of lm inner p.0) b.0, b.1) (GotProp c s) (body_is (plain (in_body false false c)) (seen p.1) (seen b.1)
       (λ z. (is_hole (setter_prop (span (lo (seen s)) b.1.source.last) k.0 (pattern_of lm inner p.0) z) ≡ false) × ((l : List ℕ) → Grows b.1.commas l → Prop l c (setter_prop (span (lo (seen s)) b.1.source.last) k.0 (pattern_of lm inner p.0) z) (seen s) (seen b.1)))
-      (λ t ss y. (refl, λ l u. record { sort = refl; spelled = (seen (next s), seen k.1, h.0, h.1, seen p.1, (e, soft c set_kind s e and_no, tt, refl), q, h.4, d.0, d.1, h.6, y, refl); refines = λ a. record { so = tt } })) b.0 w))))
+      (λ t ss y. (refl, λ l u. record { sort = refl; spelled = (seen (next s), seen k.1, h.0, h.1, seen p.1, (e, soft c set_kind s e and_no, tt, refl), q, h.4, d.0, d.1, d.2, h.6, y, refl); refines = λ a. record { so = tt } })) b.0 w))))
 
   prop_rest_sure : (c : Code) (s : Stand Input) (k : Tree) (r : Stand Input) → Grows s.commas r.commas → is_key k ≡ true → Spells k (plain c) (seen s) (seen r) → Sure s.commas (prop_rest lm inner c s k r) (GotProp c s)
   unfolding prop_rest

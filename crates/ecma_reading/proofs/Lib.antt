@@ -18,6 +18,7 @@ mod FactsVariablesAndLet
 mod FactsBranchesAndLoops
 mod FactsJumpsLabelsSwitch
 mod FactsWhatMayNot
+mod FactsRests
 mod FactsModules
 mod FactsUsing
 mod FactsStrictness
