@@ -1,5 +1,5 @@
 -- Where a parser stands.
-use Rattle.std.specs.Prelude.{ℕ, false, reverse, [], None, Some, option_map}
+use Rattle.std.specs.Prelude.{ℕ, false, reverse, [], ◌∷◌, None, Some, option_map}
 use Rattle.ecma_token.specs.Kinds.{end_kind}
 use Rattle.ecma_token.specs.Tokens.{bare}
 use Rattle.ecma_token.specs.declared.place.Span.{Span}
@@ -18,3 +18,7 @@ from start = record { source = record { first = None; behind = None; last = star
 -- a mark at a token that has this span
 abbrev pub from_span : {S : Type 0} → Span → Stand (Front S)
 from_span s = record { source = record { first = Some (record { token = bare end_kind; line_break = false; lo = s.lo.0; hi = s.hi.0 }); behind = None; last = s.lo.0 }; commas = [] }
+
+-- where a start was noted
+abbrev pub noted : {S : Type 0} → ℕ → Stand S → Stand S
+noted n s = record { source = s.source; commas = n ∷ s.commas }

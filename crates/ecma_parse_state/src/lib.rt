@@ -4,10 +4,13 @@
 
 pub mod ahead;
 pub mod code;
+pub mod ends;
 pub mod failure;
 pub mod kinds;
 pub mod numbers;
+pub mod operators;
 pub mod parser;
+pub mod steps;
 pub mod words;
 
 pub use ahead::Ahead;
