@@ -371,7 +371,7 @@ module _ (z d : ℕ) (f : Finds z d) (cov : Covering z d) (p : Bool) (c : Code) 
 
   prop_read : (x : Tree) (ts m : Input) (k : List ℕ) → size x < z → Covered x → Property (coded p c) (part x (λ y. Spells x y)) ts m → Divides z d f p c m → Reads (from ts k) (prop_by lm within c (from ts k)) (Prop_read x m) (d < reach x)
   prop_read (rest_pat s q a) ts m k sz g h v = spread_prop s q a ts m k (omega arith) g h v
-  prop_read (key_value_pat_prop s x a) ts m k sz g h v = keyed_prop s x a ts m k (omega arith) (omega arith) g.0 g.1 g.2 h v
+  prop_read (key_value_pat_prop s x a) ts m k sz g h v = keyed_prop s x a ts m k (omega arith) (omega arith) g.0 g.1 h.2.5 h v
   prop_read (assign_pat_prop s (binding_ident q (ident t x)) absent) ts m k sz g h v = named_prop s q t x ts m k h.2 v
   prop_read (assign_pat_prop s (binding_ident q (ident t x)) e) ts m k sz g h v = valued_prop s q t x e ts m k refl (omega arith) g.1 h.2 v
   prop_read (assign_pat_prop s (binding_ident q i) e) ts m k sz g h v = absurd h.2.1.1

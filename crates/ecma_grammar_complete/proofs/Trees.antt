@@ -64,7 +64,7 @@ abbrev mutual
   Covered (object_pat s ps) = CoveredAll ps
   Covered (assign_pat s a e) = Covered a × Covered e
   Covered (rest_pat s d a) = Covered a
-  Covered (key_value_pat_prop s k a) = Covered k × Covered a × (is_rest a ≡ false)
+  Covered (key_value_pat_prop s k a) = Covered k × Covered a
   Covered (assign_pat_prop s k e) = Covered k × Covered e
   Covered (expr_pat e) = Covered e
   Covered (call_expr s f xs) = Covered f × CoveredAll xs
@@ -74,6 +74,47 @@ abbrev mutual
   pub CoveredAll : Trees → Type 0
   CoveredAll none = Unit {0}
   CoveredAll (more t ts) = Covered t × CoveredAll ts
+
+mutual
+  pub covered : (t : Tree) → Covered t
+  covered (paren_expr s e) = covered e
+  covered (array_lit s xs) = covered_all xs
+  covered (expr_or_spread s d e) = covered e
+  covered (list xs) = covered_all xs
+  covered (unary_expr s op a) = covered a
+  covered (update_expr s op b a) = covered a
+  covered (await_expr s a) = covered a
+  covered (bin_expr s op a b) = (covered a, covered b)
+  covered (cond_expr s a b d) = (covered a, covered b, covered d)
+  covered (seq_expr s xs) = covered_all xs
+  covered (computed_prop_name s e) = covered e
+  covered (member_expr s o k) = (covered o, covered k)
+  covered (tpl s es qs) = covered_all es
+  covered (tagged_tpl s t q) = (covered t, covered q)
+  covered (opt_chain_expr s q b) = covered b
+  covered (opt_call s f xs) = (covered f, covered_all xs)
+  covered (super_prop_expr s o k) = covered k
+  covered (yield_expr s a g) = covered a
+  covered (object_lit s ps) = covered_all ps
+  covered (key_value_prop s k v) = (covered k, covered v)
+  covered (assign_prop s k e) = (covered k, covered e)
+  covered (spread_element s e) = covered e
+  covered (assign_expr s op a b) = (covered a, covered b)
+  covered (arrow_expr s ps b i) = (covered_all ps, covered b)
+  covered (array_pat s xs) = covered_all xs
+  covered (object_pat s ps) = covered_all ps
+  covered (assign_pat s a e) = (covered a, covered e)
+  covered (rest_pat s d a) = covered a
+  covered (key_value_pat_prop s k a) = (covered k, covered a)
+  covered (assign_pat_prop s k e) = (covered k, covered e)
+  covered (expr_pat e) = covered e
+  covered (call_expr s f xs) = (covered f, covered_all xs)
+  covered (new_expr s f xs) = (covered f, covered xs)
+  covered _ = tt
+
+  pub covered_all : (ts : Trees) → CoveredAll ts
+  covered_all none = tt
+  covered_all (more t ts) = (covered t, covered_all ts)
 
 -- how deep the calls of the readers go for a tree: what a loop goes on with stands beside what it went on from
 abbrev mutual

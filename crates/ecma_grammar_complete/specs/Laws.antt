@@ -15,6 +15,10 @@ use Rattle.ecma_reading.specs.Reading.{readers}
 abbrev pub coded : Bool → Code → Code
 coded p c = record c { binds = false; placed = p }
 
+-- that of a pattern that binds
+abbrev pub patterned : Bool → Code → Code
+patterned p c = record c { binds = true; placed = p }
+
 -- A place begins where the one before it ends, or later, and has a character, but for the characters of a template.
 abbrev pub InOrder : ℕ → List Place → Type 0
 InOrder last [] = Unit {0}
