@@ -12,10 +12,10 @@ use Rattle.ecma_reading.specs.Source.{Stand}
 use Rattle.ecma_reading.specs.Cover.{to_item, to_head}
 use Rattle.ecma_reading.specs.Expressions.{expr_by, expr_from, loop_by, loop_step, prefix_by}
 use Rattle.ecma_reading.specs.Reading.{readers}
-use Rattle.ecma_grammar_complete.proofs.Yields.{lm, from, coded, Reads, reads_map, reads_deep, then_reads, Is, too_deep, if_no, if_yes, looped}
-use Rattle.ecma_grammar_complete.proofs.Levels.{Follow, ends_high}
-use Rattle.ecma_grammar_complete.proofs.Trees.{Covered, size, reach}
-use Rattle.ecma_grammar_complete.proofs.Lists.{Finds, one_asked}
+use Rattle.ecma_grammar_complete_base.proofs.Yields.{lm, from, coded, Reads, reads_map, reads_deep, then_reads, Is, too_deep, if_no, if_yes, looped}
+use Rattle.ecma_grammar_complete_base.proofs.Levels.{Follow, ends_high}
+use Rattle.ecma_grammar_complete_base.proofs.Trees.{Covered, size, reach}
+use Rattle.ecma_grammar_complete_rules.proofs.Lists.{Finds, one_asked}
 use Rattle.ecma_grammar_complete.proofs.Covers.{Cover_read, target_least}
 use Rattle.ecma_grammar_complete.proofs.Coverings.{coverings, structured_read, structured_starts, stops_here, target_item, positive_cover}
 

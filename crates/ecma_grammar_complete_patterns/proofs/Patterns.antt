@@ -14,14 +14,14 @@ use Rattle.ecma_reading.specs.Source.{Fault, ◌>>=◌, unexpected, Stand, bound
 use Rattle.ecma_reading.specs.Expressions.{key_by}
 use Rattle.ecma_reading.specs.Statements.{pat_by, array_pat_by, array_item, object_pat_by, object_item, pattern_prop, keyed_item, named_item, initial_pat, after_item}
 use Rattle.ecma_reading.specs.Reading.{readers}
-use Rattle.ecma_grammar_complete.specs.Laws.{patterned}
-use Rattle.ecma_grammar_complete.proofs.Yields.{lm, from, len, coded, first_at, Reads, too_deep, Is, then_is, then_past, then_past_reads, then_eat, then_name, onto, after_one, here, past_here, ended, if_no, if_yes, Loops, loop_on, loop_end, looped}
-use Rattle.ecma_grammar_complete.proofs.Levels.{Follow, closed_by, comma_after}
-use Rattle.ecma_grammar_complete.proofs.Lengths.{item_taken, property_taken}
-use Rattle.ecma_grammar_complete.proofs.Trees.{Covered, CoveredAll, size, sizes, reach, reaches, takes, no_kind, by_cases}
-use Rattle.ecma_grammar_complete.proofs.Lists.{Finds, pack_unpack, two_asked, hole_is}
-use Rattle.ecma_grammar_complete.proofs.Members.{no_more}
-use Rattle.ecma_grammar_complete.proofs.Objects.{begins_key, key_starts, key_found}
+use Rattle.ecma_grammar_complete_base.specs.Laws.{patterned}
+use Rattle.ecma_grammar_complete_base.proofs.Yields.{lm, from, len, coded, first_at, Reads, too_deep, Is, then_is, then_past, then_past_reads, then_eat, then_name, onto, after_one, here, past_here, ended, if_no, if_yes, Loops, loop_on, loop_end, looped}
+use Rattle.ecma_grammar_complete_base.proofs.Levels.{Follow, closed_by, comma_after}
+use Rattle.ecma_grammar_complete_rules.proofs.Lengths.{item_taken, property_taken}
+use Rattle.ecma_grammar_complete_base.proofs.Trees.{Covered, CoveredAll, size, sizes, reach, reaches, takes, no_kind, by_cases}
+use Rattle.ecma_grammar_complete_rules.proofs.Lists.{Finds, pack_unpack, two_asked, hole_is}
+use Rattle.ecma_grammar_complete_rules.proofs.Members.{no_more}
+use Rattle.ecma_grammar_complete_rules.proofs.Objects.{begins_key, key_starts, key_found}
 
 -- A pattern that binds is read by calls so deep, or they are not deep enough.
 abbrev pub Binds : ℕ → ℕ → Type 0

@@ -12,11 +12,11 @@ use Rattle.ecma_grammar.specs.Functions.{Async, Star, MethodHead}
 use Rattle.ecma_grammar.specs.Grammar.{Spells, parts}
 use Rattle.ecma_reading.specs.Source.{◌>>=◌, Stand, Inner, is_name}
 use Rattle.ecma_reading.specs.Expressions.{prefix_by, keyword_by, word_by, async_by, function_expr_by, class_expr_by, prop_by, prop_rest, key_by, method_prop_by, getter_by, setter_by, setter_parameter, pattern_of, star, function_by, is_async_head, is_accessor}
-use Rattle.ecma_grammar_complete.proofs.Yields.{lm, from, coded, Reads, Is, IsName, named, then_is, then_eat, then_word, then_name, then_past, onto, after_one, here, if_no, if_yes}
-use Rattle.ecma_grammar_complete.proofs.Trees.{by_cases, no_kind}
-use Rattle.ecma_grammar_complete.proofs.Prefixes.{named_word}
-use Rattle.ecma_grammar_complete.proofs.Lists.{is_method}
-use Rattle.ecma_grammar_complete.proofs.Objects.{begins_key, key_starts, OneWord}
+use Rattle.ecma_grammar_complete_base.proofs.Yields.{lm, from, coded, Reads, Is, IsName, named, then_is, then_eat, then_word, then_name, then_past, onto, after_one, here, if_no, if_yes}
+use Rattle.ecma_grammar_complete_base.proofs.Trees.{by_cases, no_kind}
+use Rattle.ecma_grammar_complete_rules.proofs.Prefixes.{named_word}
+use Rattle.ecma_grammar_complete_rules.proofs.Lists.{is_method}
+use Rattle.ecma_grammar_complete_rules.proofs.Objects.{begins_key, key_starts, OneWord}
 use Rattle.ecma_grammar_complete_parts.proofs.Nested.{Nested}
 use Rattle.ecma_grammar_complete_parts.proofs.Within.{ItemIn, item_in, Within, within}
 use Rattle.ecma_grammar_complete_parts.proofs.Starts.{ident_is}
@@ -61,12 +61,12 @@ tail_first : (t : Tree) (c : Code) (ts r : Input) (s : Option Span) → class_sp
 tail_first (class s ds ms x) c ts r o e n h = by_cases (is_absent x) _ _ ((kind ts ≡ extends_kind) ⊎ (kind ts ≡ left_brace_kind)) h.3 (λ q y. inr (ap (λ (d : Input). kind d) y ∙ h.4.0)) (λ q y. inl y.1.0)
 tail_first _ c ts r o e n h = absurd (n (sym e))
 
-some_none : {A : Type 0} (x : A) → Some x ≡ None → ⊥
-some_none {A = A} x e = subst IsSome e tt
-  where
-    abbrev IsSome : Option A → Type 0
-    IsSome (Some y) = Unit {0}
-    IsSome None = ⊥
+abbrev IsSome : {A : Type 0} → Option A → Type 0
+IsSome (Some y) = Unit {0}
+IsSome None = ⊥
+
+some_none : {A : Type 0} (x : A) → ◌≡◌ {A = Option A} (Some x) None → ⊥
+some_none x e = subst IsSome e tt
 
 module _ (z : Nested) (p : Bool) (c : Code) (ts : Input) (k : List ℕ) (r : Input) where
   -- ---- functions

@@ -1,7 +1,7 @@
 -- What a node's rule hands on is smaller than the node, and reaches less deep.
 use Rattle.std.proofs.Common.{◌≡◌, ℕ, zero, suc, ◌+◌, ◌<◌, ◌≤◌, max, Bool, true, false, refl, true≢false, sym, arith}
 use Rattle.ecma_tree.specs.Tree.{Tree, Trees, none, more, block_stmt, empty_stmt, debugger_stmt, with_stmt, return_stmt, labeled_stmt, break_stmt, continue_stmt, if_stmt, switch_stmt, switch_case, throw_stmt, try_stmt, catch_clause, while_stmt, do_while_stmt, for_stmt, for_in_stmt, for_of_stmt, expr_stmt, class_decl, fn_decl, var_decl, using_decl, var_declarator, function, param, class, constructor, class_method, private_method, class_prop, private_prop, static_block, auto_accessor, computed_prop_name, fn_expr, class_expr, assign_pat, rest_pat, method_prop, getter_prop, setter_prop}
-use Rattle.ecma_grammar_complete.proofs.Trees.{size, sizes, reach, reaches}
+use Rattle.ecma_grammar_complete_base.proofs.Trees.{size, sizes, reach, reaches}
 use Rattle.ecma_grammar_complete_parts.proofs.Within.{Each, most, ItemIn, item_in, Within, Withins, within, withins}
 
 -- a tree of a size below a bound
@@ -25,6 +25,7 @@ mutual
   inward z (throw_stmt s e) h = omega (arith, h)
   inward z (with_stmt s e b) h = (omega (arith, h), omega (arith, h))
   inward z (labeled_stmt s l b) h = (omega (arith, h), omega (arith, h))
+  inward z (if_stmt s t a (if_stmt q e b d)) h = (omega (arith, h), omega (arith, h), inward z (if_stmt q e b d) (omega (arith, h)))
   inward z (if_stmt s t a b) h = (omega (arith, h), omega (arith, h), omega (arith, h))
   inward z (while_stmt s t b) h = (omega (arith, h), omega (arith, h))
   inward z (do_while_stmt s t b) h = (omega (arith, h), omega (arith, h))
@@ -87,6 +88,7 @@ mutual
   within_reach (throw_stmt s e) = omega arith
   within_reach (with_stmt s e b) = omega arith
   within_reach (labeled_stmt s l b) = omega arith
+  within_reach (if_stmt s t a (if_stmt q e b d)) = omega (arith, within_reach (if_stmt q e b d))
   within_reach (if_stmt s t a b) = omega arith
   within_reach (while_stmt s t b) = omega arith
   within_reach (do_while_stmt s t b) = omega arith
@@ -170,6 +172,7 @@ called_reach (return_stmt s e) h = omega arith
 called_reach (throw_stmt s e) h = omega arith
 called_reach (with_stmt s e b) h = omega arith
 called_reach (labeled_stmt s l b) h = omega arith
+called_reach (if_stmt s t a (if_stmt q e b d)) h = omega (arith, called_reach (if_stmt q e b d) refl)
 called_reach (if_stmt s t a b) h = omega arith
 called_reach (while_stmt s t b) h = omega arith
 called_reach (do_while_stmt s t b) h = omega arith

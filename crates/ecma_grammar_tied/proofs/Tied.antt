@@ -10,11 +10,11 @@ use Rattle.ecma_grammar.specs.Grammar.{Spells, parts}
 use Rattle.ecma_reading.specs.Source.{Stand, Inner}
 use Rattle.ecma_reading.specs.Statements.{stmt_from, body_by, class_tail_by}
 use Rattle.ecma_reading.specs.Reading.{readers}
-use Rattle.ecma_grammar_complete.proofs.Yields.{lm, from, coded, Reads, Is, reads_deep, too_deep}
-use Rattle.ecma_grammar_complete.proofs.Levels.{Follow, Asked}
-use Rattle.ecma_grammar_complete.proofs.Trees.{covered, size, sizes, reach, reaches}
-use Rattle.ecma_grammar_complete.proofs.Lists.{Finds, Deep}
-use Rattle.ecma_grammar_complete.proofs.Finds.{Comes, finds}
+use Rattle.ecma_grammar_complete_base.proofs.Yields.{lm, from, coded, Reads, Is, reads_deep, too_deep}
+use Rattle.ecma_grammar_complete_base.proofs.Levels.{Follow, Asked}
+use Rattle.ecma_grammar_complete_base.proofs.Trees.{covered, size, sizes, reach, reaches}
+use Rattle.ecma_grammar_complete_rules.proofs.Lists.{Finds, Deep}
+use Rattle.ecma_grammar_complete_rules.proofs.Finds.{Comes, finds}
 use Rattle.ecma_grammar_complete.proofs.Comes.{comes_none, comes_next}
 use Rattle.ecma_grammar_complete.proofs.Heads.{head_found}
 use Rattle.ecma_grammar_complete_patterns.proofs.Patterns.{binds}
@@ -54,12 +54,12 @@ allowed_called b (using_decl s w ds) h = refl
 allowed_called true _ h = absurd (true≢false (sym h))
 allowed_called false _ h = absurd (true≢false (sym h))
 
+abbrev IsNone : {A : Type 0} → Option A → Type 0
+IsNone None = Unit {0}
+IsNone (Some y) = ⊥
+
 some_none : {A : Type 0} (x : A) → ◌≡◌ {A = Option A} None (Some x) → ⊥
-some_none {A = A} x e = subst IsNone e tt
-  where
-    abbrev IsNone : Option A → Type 0
-    IsNone None = Unit {0}
-    IsNone (Some y) = ⊥
+some_none x e = subst IsNone e tt
 
 class_called : (t : Tree) (s : Span) → class_span t ≡ Some s → is_called t ≡ true
 class_called (class q ds ms k) s e = refl

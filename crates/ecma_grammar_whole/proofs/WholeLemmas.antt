@@ -11,9 +11,9 @@ use Rattle.ecma_reading.specs.Source.{Fault, Unexpected, TooDeep, ◌>>=◌, Sta
 use Rattle.ecma_reading.specs.Cover.{has}
 use Rattle.ecma_reading.specs.Modules.{program_by}
 use Rattle.ecma_reading.specs.Reading.{readers, finish, read_program, read_list}
-use Rattle.ecma_grammar_complete.specs.Laws.{coded, InOrder}
-use Rattle.ecma_grammar_complete.proofs.Yields.{lm, from, Fresh, After, Yields, Reads, Is}
-use Rattle.ecma_grammar_complete.proofs.Trees.{size, sizes, reach, reaches}
+use Rattle.ecma_grammar_complete_base.specs.Laws.{coded, InOrder}
+use Rattle.ecma_grammar_complete_base.proofs.Yields.{lm, from, Fresh, After, Yields, Reads, Is}
+use Rattle.ecma_grammar_complete_base.proofs.Trees.{size, sizes, reach, reaches}
 use Rattle.ecma_grammar_complete_parts.proofs.Within.{most}
 use Rattle.ecma_grammar_complete_programs.proofs.Programs.{script_found}
 use Rattle.ecma_grammar_tied.proofs.Sizes.{each_small, most_reaches}

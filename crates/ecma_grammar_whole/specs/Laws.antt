@@ -9,7 +9,7 @@ use Rattle.ecma_syntax.specs.Shape.{level, ends, is_binding}
 use Rattle.ecma_grammar.specs.Grammar.{Spells, Derives}
 use Rattle.ecma_reading.specs.Source.{Fault, Unexpected, TooDeep, Stand, list_machine}
 use Rattle.ecma_reading.specs.Reading.{readers, read_list}
-use Rattle.ecma_grammar_complete.specs.Laws.{coded, patterned, InOrder, Asked, Follow}
+use Rattle.ecma_grammar_complete_base.specs.Laws.{coded, patterned, InOrder, Asked, Follow}
 
 -- ---- answers
 

@@ -13,12 +13,12 @@ use Rattle.ecma_grammar.specs.Grammar.{Spells, parts}
 use Rattle.ecma_reading.specs.Source.{Fault, ◌>>=◌, unexpected, Stand, bound, Inner, eat, eat_word, any_word, iterate}
 use Rattle.ecma_reading.specs.Expressions.{Elements, no_elements, element_step, elements_by, computed_by, arguments_by, prefix_by, keyword_by, super_end, import_by, fits_import, new_by, yield_by, yield_end, ends_yield}
 use Rattle.ecma_reading.specs.Reading.{readers}
-use Rattle.ecma_grammar_complete.proofs.Yields.{lm, from, coded, reads_map, first_at, Reads, then_reads, Is, then_is, then_past, onto, then_eat, then_word, then_any, after_one, here, ended, if_no, if_yes, loop_end, looped}
-use Rattle.ecma_grammar_complete.proofs.Levels.{quits, ends_operand}
-use Rattle.ecma_grammar_complete.proofs.Trees.{Covered, CoveredAll, size, sizes, reach, reaches, begins, no_kind, by_cases}
-use Rattle.ecma_grammar_complete.proofs.Lists.{Finds, Has, pack_unpack, elements_found, step_close}
-use Rattle.ecma_grammar_complete.proofs.Steps.{computed_found}
-use Rattle.ecma_grammar_complete.proofs.Members.{Lists, listed, no_more}
+use Rattle.ecma_grammar_complete_base.proofs.Yields.{lm, from, coded, reads_map, first_at, Reads, then_reads, Is, then_is, then_past, onto, then_eat, then_word, then_any, after_one, here, ended, if_no, if_yes, loop_end, looped}
+use Rattle.ecma_grammar_complete_base.proofs.Levels.{quits, ends_operand}
+use Rattle.ecma_grammar_complete_base.proofs.Trees.{Covered, CoveredAll, size, sizes, reach, reaches, begins, no_kind, by_cases}
+use Rattle.ecma_grammar_complete_rules.proofs.Lists.{Finds, Has, pack_unpack, elements_found, step_close}
+use Rattle.ecma_grammar_complete_rules.proofs.Steps.{computed_found}
+use Rattle.ecma_grammar_complete_rules.proofs.Members.{Lists, listed, no_more}
 
 -- these elements, which an import takes
 abbrev pub Imported : Inner Input → Code → Trees → Input → Elements × Stand Input → Type 0

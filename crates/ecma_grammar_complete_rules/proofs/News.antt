@@ -11,11 +11,11 @@ use Rattle.ecma_grammar.specs.Grammar.{Spells}
 use Rattle.ecma_reading.specs.Source.{Stand, Inner, ◌>>=◌}
 use Rattle.ecma_reading.specs.Expressions.{elements_by, arguments_by, callee_by, new_by, new_end, keyword_by, prefix_by, expr_by, expr_from, loop_by}
 use Rattle.ecma_reading.specs.Reading.{readers}
-use Rattle.ecma_grammar_complete.proofs.Yields.{first_at, lm, from, coded, IsName, then_reads, Is, then_is, then_word, then_name, Reads, here, past_here, ended, if_no, if_yes, then_past, too_deep}
-use Rattle.ecma_grammar_complete.proofs.Levels.{Follow, sober, sober_by, Asked, tail, tail_high, ends_high, binary_low}
-use Rattle.ecma_grammar_complete.proofs.Trees.{Covered, size, reach, begins, starts, no_kind}
-use Rattle.ecma_grammar_complete.proofs.Lists.{Has, pack_unpack}
-use Rattle.ecma_grammar_complete.proofs.Finds.{Bare, Comes, paren_goes, positive, reads}
+use Rattle.ecma_grammar_complete_base.proofs.Yields.{first_at, lm, from, coded, IsName, then_reads, Is, then_is, then_word, then_name, Reads, here, past_here, ended, if_no, if_yes, then_past, too_deep}
+use Rattle.ecma_grammar_complete_base.proofs.Levels.{Follow, sober, sober_by, Asked, tail, tail_high, ends_high, binary_low}
+use Rattle.ecma_grammar_complete_base.proofs.Trees.{Covered, size, reach, begins, starts, no_kind}
+use Rattle.ecma_grammar_complete_rules.proofs.Lists.{Has, pack_unpack}
+use Rattle.ecma_grammar_complete_rules.proofs.Finds.{Bare, Comes, paren_goes, positive, reads}
 
 -- a callee of `new`
 abbrev pub Callee : Tree → Type 0

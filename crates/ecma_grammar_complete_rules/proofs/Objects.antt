@@ -15,14 +15,14 @@ use Rattle.ecma_grammar.specs.Grammar.{Spells, parts}
 use Rattle.ecma_reading.specs.Source.{Fault, ◌>>=◌, unexpected, Stand, bound, Inner, Step, go_on, finished, iterate}
 use Rattle.ecma_reading.specs.Expressions.{Elements, no_elements, literal, literal_by, key_by, computed_by, prop_by, prop_rest, prop_step, after_element, object_by, prefix_by, is_async_head, is_accessor}
 use Rattle.ecma_reading.specs.Reading.{readers}
-use Rattle.ecma_grammar_complete.proofs.Yields.{lm, from, len, coded, first_at, IsName, Reads, then_reads, Is, then_is, then_past, then_eat, then_name, then_noted, here, past_here, if_no, if_yes, Loops, loop_on, loop_end, looped, after_one, onto}
-use Rattle.ecma_grammar_complete.proofs.Levels.{Follow, closed_by, comma_after}
-use Rattle.ecma_grammar_complete.proofs.Lengths.{prop_taken}
-use Rattle.ecma_grammar_complete.proofs.Trees.{Covered, CoveredAll, size, sizes, reach, reaches, takes, no_kind}
-use Rattle.ecma_grammar_complete.proofs.Prefixes.{literal_found}
-use Rattle.ecma_grammar_complete.proofs.Lists.{Finds, Deep, Has, pack_unpack, two_asked}
-use Rattle.ecma_grammar_complete.proofs.Steps.{computed_found}
-use Rattle.ecma_grammar_complete.proofs.Members.{no_more}
+use Rattle.ecma_grammar_complete_base.proofs.Yields.{lm, from, len, coded, first_at, IsName, Reads, then_reads, Is, then_is, then_past, then_eat, then_name, then_noted, here, past_here, if_no, if_yes, Loops, loop_on, loop_end, looped, after_one, onto}
+use Rattle.ecma_grammar_complete_base.proofs.Levels.{Follow, closed_by, comma_after}
+use Rattle.ecma_grammar_complete_rules.proofs.Lengths.{prop_taken}
+use Rattle.ecma_grammar_complete_base.proofs.Trees.{Covered, CoveredAll, size, sizes, reach, reaches, takes, no_kind}
+use Rattle.ecma_grammar_complete_rules.proofs.Prefixes.{literal_found}
+use Rattle.ecma_grammar_complete_rules.proofs.Lists.{Finds, Deep, Has, pack_unpack, two_asked}
+use Rattle.ecma_grammar_complete_rules.proofs.Steps.{computed_found}
+use Rattle.ecma_grammar_complete_rules.proofs.Members.{no_more}
 
 -- ---- literals
 
@@ -75,7 +75,7 @@ module _ (z d : ℕ) (f : Finds z d) (p : Bool) (c : Code) where
   key_found (number_lit s v w) ts m k sz g e y eq h = rw h.3.0 (literal_found inner c ts k (λ x. Unit {0}) _ (number_lit s v w) m (number_read y s v w ts m h) h.3.2)
   key_found (big_int_lit s b x w) ts m k sz g e y eq h = rw h.3.0 (literal_found inner c ts k (λ x. Unit {0}) _ (big_int_lit s b x w) m (big_int_read y s b x w ts m h) h.3.2)
   key_found (computed_prop_name s x) ts m k sz g e y eq h = if_yes (eqb (kind ts) left_bracket_kind) _ _ _ _ (eq-eqb (kind ts) left_bracket_kind h.2.0)
-      (computed_found inner c ts k x ts k (d < reach x) assignment_level s x h.0 h.1 m (d < reach x) h.2.2 (λ j. f x p (with_in c) 2 h.0 h.1 j sz g (subst (λ (o : Code). Spells x o h.0 h.1) eq h.3.1) (omega arith) (omega arith) two_asked h.3.0 (closed_by (with_in c) (ends x) 2 10 h.1 h.4.0 refl refl (omega arith))) (λ u. u) h.4.0 h.4.2 h.5)
+      (computed_found inner c ts k x ts k (d < reach x) assignment_level s x h.0 h.1 m (d < reach x) h.2.2 (λ j. f x p (with_in c) 2 h.0 h.1 j (omega (arith, sz)) g (subst (λ (o : Code). Spells x o h.0 h.1) eq h.3.1) (omega arith) (omega arith) two_asked h.3.0 (closed_by (with_in c) (ends x) 2 10 h.1 h.4.0 refl refl (omega arith))) (λ u. u) h.4.0 h.4.2 h.5)
   key_found _ ts m k sz g e y eq h = absurd (true≢false (sym e))
 
   -- ---- properties

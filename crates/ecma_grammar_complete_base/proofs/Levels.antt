@@ -6,7 +6,7 @@ use Rattle.ecma_tree.specs.Tree.{Tree, Trees, unary_expr, update_expr, await_exp
 use Rattle.ecma_syntax.specs.Input.{Input, Code, kind, kind2, brk, brk2, is_word, no_name, barred, always_reserved}
 use Rattle.ecma_syntax.specs.Operators.{binary_level, right_level, operates, is_assign_op, goes_expr, between}
 use Rattle.ecma_syntax.specs.Shape.{level, ends, fits_left, is_private}
-pub use Rattle.ecma_grammar_complete.specs.Laws.{Asked, Follow, sober, ends_operand, quits}
+pub use Rattle.ecma_grammar_complete_base.specs.Laws.{Asked, Follow, sober, ends_operand, quits}
 
 -- ---- tests
 

@@ -14,12 +14,12 @@ use Rattle.ecma_grammar.specs.Grammar.{Spells, parts}
 use Rattle.ecma_reading.specs.Source.{Fault, ◌>>=◌, unexpected, Stand, bound, Inner, Step, go_on, finished, iterate}
 use Rattle.ecma_reading.specs.Expressions.{Spans, private_by, member_name, member_by, index_by, call_by, chain_by, arguments_by, elements_by, computed_by, on_chain, call_tree, quasi_step, quasi_end, template_by, step_by, prefix_by, keyword_by, super_end, import_by, fits_import, new_by, yield_by, yield_end}
 use Rattle.ecma_reading.specs.Reading.{readers}
-use Rattle.ecma_grammar_complete.proofs.Yields.{lm, from, coded, first_at, Reads, then_reads, Is, then_is, then_past, then_past_reads, then_eat, then_word, then_any, after_one, here, past_here, ended, if_no, if_yes, Loops, loop_on, loop_end, looped, shorter}
-use Rattle.ecma_grammar_complete.proofs.Levels.{quits, ends_operand, closed_by}
-use Rattle.ecma_grammar_complete.proofs.Lengths.{taken}
-use Rattle.ecma_grammar_complete.proofs.Trees.{Covered, CoveredAll, size, sizes, reach, reaches, takes}
-use Rattle.ecma_grammar_complete.proofs.Lists.{Finds, Has, pack_unpack, one_asked}
-use Rattle.ecma_grammar_complete.proofs.Steps.{computed_found}
+use Rattle.ecma_grammar_complete_base.proofs.Yields.{lm, from, coded, first_at, Reads, then_reads, Is, then_is, then_past, then_past_reads, then_eat, then_word, then_any, after_one, here, past_here, ended, if_no, if_yes, Loops, loop_on, loop_end, looped, shorter}
+use Rattle.ecma_grammar_complete_base.proofs.Levels.{quits, ends_operand, closed_by}
+use Rattle.ecma_grammar_complete_rules.proofs.Lengths.{taken}
+use Rattle.ecma_grammar_complete_base.proofs.Trees.{Covered, CoveredAll, size, sizes, reach, reaches, takes}
+use Rattle.ecma_grammar_complete_rules.proofs.Lists.{Finds, Has, pack_unpack, one_asked}
+use Rattle.ecma_grammar_complete_rules.proofs.Steps.{computed_found}
 
 -- ---- names after a dot
 

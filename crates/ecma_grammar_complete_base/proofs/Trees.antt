@@ -12,8 +12,8 @@ use Rattle.ecma_grammar.specs.Expressions.{Call, Arguments, ArgumentList, Import
 use Rattle.ecma_grammar.specs.Patterns.{Item, Property}
 use Rattle.ecma_grammar.specs.Functions.{ArrowPattern, ArrowHead, BareName, Async}
 use Rattle.ecma_grammar.specs.Grammar.{Spells, parts}
-use Rattle.ecma_grammar_complete.proofs.Yields.{len, took, shorter}
-use Rattle.ecma_grammar_complete.proofs.Levels.{operated, binary_four, fits, right_five, binary_cases}
+use Rattle.ecma_grammar_complete_base.proofs.Yields.{len, took, shorter}
+use Rattle.ecma_grammar_complete_base.proofs.Levels.{operated, binary_four, fits, right_five, binary_cases}
 
 -- ---- parts
 
@@ -163,6 +163,7 @@ abbrev mutual
   reach (throw_stmt s e) = suc (reach e)
   reach (with_stmt s e b) = suc (max (reach e) (reach b))
   reach (labeled_stmt s l b) = suc (max (reach l) (reach b))
+  reach (if_stmt s t a (if_stmt q e b d)) = max (suc (max (reach t) (reach a))) (reach (if_stmt q e b d))
   reach (if_stmt s t a b) = suc (max (reach t) (max (reach a) (reach b)))
   reach (while_stmt s t b) = suc (max (reach t) (reach b))
   reach (do_while_stmt s t b) = suc (max (reach t) (reach b))
@@ -218,7 +219,7 @@ abbrev mutual
   size (bin_expr s op a b) = suc (size a + size b)
   size (cond_expr s a b d) = suc (size a + (size b + size d))
   size (seq_expr s xs) = suc (sizes xs)
-  size (computed_prop_name s e) = size e
+  size (computed_prop_name s e) = suc (size e)
   size (member_expr s o k) = suc (size o + size k)
   size (call_expr s f xs) = suc (size f + sizes xs)
   size (new_expr s f xs) = suc (size f + size xs)

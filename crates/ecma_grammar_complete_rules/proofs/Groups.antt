@@ -12,11 +12,11 @@ use Rattle.ecma_grammar.specs.Grammar.{Spells, parts}
 use Rattle.ecma_reading.specs.Source.{Fault, ◌>>=◌, unexpected, Stand, Inner, Step, go_on, finished}
 use Rattle.ecma_reading.specs.Expressions.{Elements, no_elements, element_step, elements_by, plain_element, plain_elements, last_end, joined, prefix_by, group_by, group_end}
 use Rattle.ecma_reading.specs.Reading.{readers}
-use Rattle.ecma_grammar_complete.proofs.Yields.{lm, from, len, coded, then_reads, Is, Loops, loop_on, loop_end, looped, Reads, here, past_here, ended, if_no, if_yes, then_past_reads}
-use Rattle.ecma_grammar_complete.proofs.Lengths.{taken}
-use Rattle.ecma_grammar_complete.proofs.Trees.{Covered, CoveredAll, size, sizes, reach, reaches, takes}
-use Rattle.ecma_grammar_complete.proofs.Prefixes.{arrowed}
-use Rattle.ecma_grammar_complete.proofs.Lists.{Finds, step_comma, step_close}
+use Rattle.ecma_grammar_complete_base.proofs.Yields.{lm, from, len, coded, then_reads, Is, Loops, loop_on, loop_end, looped, Reads, here, past_here, ended, if_no, if_yes, then_past_reads}
+use Rattle.ecma_grammar_complete_rules.proofs.Lengths.{taken}
+use Rattle.ecma_grammar_complete_base.proofs.Trees.{Covered, CoveredAll, size, sizes, reach, reaches, takes}
+use Rattle.ecma_grammar_complete_rules.proofs.Prefixes.{arrowed}
+use Rattle.ecma_grammar_complete_rules.proofs.Lists.{Finds, step_comma, step_close}
 
 -- elements that are these expressions, no comma after them, up to a place and with these tokens as the rest
 pub record Grouped (es : List Tree) (u : ℕ) (r : Input) (x : Elements × Stand Input) : Type 0 where

@@ -11,9 +11,9 @@ use Rattle.ecma_syntax.specs.Shape.{level}
 use Rattle.ecma_grammar.specs.Expressions.{is_unary_op, is_update_op}
 use Rattle.ecma_reading.specs.Source.{Fault, ◌>>=◌, unexpected, Stand, Inner, eat_word, name}
 use Rattle.ecma_reading.specs.Expressions.{literal, literal_by, is_unary, prefix_by, keyword_by, word_by, async_by, ident_end, fixed, unary_by, update_by, await_by, arrows}
-use Rattle.ecma_grammar_complete.proofs.Yields.{lm, from, Is, then_is, then_word, then_name, IsName, named, Reads, here, past_here, ended, if_no, if_yes, then_past, after_one}
-use Rattle.ecma_grammar_complete.proofs.Levels.{sober, Follow, cond_no}
-use Rattle.ecma_grammar_complete.proofs.Trees.{by_unary, by_update, no_kind}
+use Rattle.ecma_grammar_complete_base.proofs.Yields.{lm, from, Is, then_is, then_word, then_name, IsName, named, Reads, here, past_here, ended, if_no, if_yes, then_past, after_one}
+use Rattle.ecma_grammar_complete_base.proofs.Levels.{sober, Follow, cond_no}
+use Rattle.ecma_grammar_complete_base.proofs.Trees.{by_unary, by_update, no_kind}
 
 -- `=>` on its line
 abbrev pub arrowed : Input → Bool

@@ -14,8 +14,8 @@ use Rattle.ecma_grammar.specs.Statements.{Cases, ClosesBlock, ClosesCase, ForRes
 use Rattle.ecma_grammar.specs.Functions.{Parameters, SetParameter, Members, Closes, Body, Star, Async, Static, FunctionHead, ArrowHead, ArrowParameters, ArrowPattern, BareName, Method, Initial, ClassMethod, Field}
 use Rattle.ecma_grammar.specs.Modules.{ImportClause, AfterDefault, NamedImports, Source, ExportName, Specified, ExportList, Hashbang}
 use Rattle.ecma_grammar.specs.Grammar.{Spells, parts}
-use Rattle.ecma_grammar_complete.proofs.Yields.{len, took, shorter}
-use Rattle.ecma_grammar_complete.proofs.Trees.{by_cases, by_unary, by_update, takes, some_word, some_binary}
+use Rattle.ecma_grammar_complete_base.proofs.Yields.{len, took, shorter}
+use Rattle.ecma_grammar_complete_base.proofs.Trees.{by_cases, by_unary, by_update, takes, some_word, some_binary}
 
 -- ---- lengths
 

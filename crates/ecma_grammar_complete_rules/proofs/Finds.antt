@@ -12,10 +12,10 @@ use Rattle.ecma_grammar.specs.Grammar.{Spells}
 use Rattle.ecma_reading.specs.Source.{Stand, Inner}
 use Rattle.ecma_reading.specs.Expressions.{expr_by, loop_step}
 use Rattle.ecma_reading.specs.Reading.{readers}
-use Rattle.ecma_grammar_complete.proofs.Yields.{lm, from, coded, Is, Loops, loop_end, Reads, here, past_here, ended, if_no, if_yes, too_deep}
-use Rattle.ecma_grammar_complete.proofs.Levels.{Follow, sober, Asked, tail, binary_cases, tail_stops, operated, quiet, cond_no, cond_yes}
-use Rattle.ecma_grammar_complete.proofs.Trees.{Covered, size, reach, by_update}
-use Rattle.ecma_grammar_complete.proofs.Lists.{Finds}
+use Rattle.ecma_grammar_complete_base.proofs.Yields.{lm, from, coded, Is, Loops, loop_end, Reads, here, past_here, ended, if_no, if_yes, too_deep}
+use Rattle.ecma_grammar_complete_base.proofs.Levels.{Follow, sober, Asked, tail, binary_cases, tail_stops, operated, quiet, cond_no, cond_yes}
+use Rattle.ecma_grammar_complete_base.proofs.Trees.{Covered, size, reach, by_update}
+use Rattle.ecma_grammar_complete_rules.proofs.Lists.{Finds}
 
 -- The word `async` as a name: no parenthesis follows on its line.
 abbrev pub Bare : Tree → Input → Input → Type 0

@@ -5,7 +5,7 @@ use Rattle.ecma_token.specs.declared.place.Span.{Span}
 use Rattle.ecma_token.specs.Kinds.{template_kind}
 use Rattle.ecma_syntax.specs.Input.{Place, Input, Code, span, first_span, kind, kind_of, text, rest, is_word, no_name, barred, lo, lo_of, hi_of, others}
 use Rattle.ecma_reading.specs.Cover.{has}
-pub use Rattle.ecma_grammar_complete.specs.Laws.{coded, InOrder}
+pub use Rattle.ecma_grammar_complete_base.specs.Laws.{coded, InOrder}
 use Rattle.ecma_reading.specs.Source.{Fault, Unexpected, TooDeep, ◌>>=◌, unexpected, Machine, list_machine, Stand, Read, input, past, bound, eat, eat_word, is_name, name, any_word, Step, go_on, finished, next_by, iterate_n, iterate}
 
 pub first_at : (ts r : Input) (s : Span) → rest ts ≡ r → s ≡ span (lo ts) r.last → first_span ts ≡ s

@@ -12,10 +12,10 @@ use Rattle.ecma_grammar.specs.Expressions.{Call, Arguments, ArgumentList, Import
 use Rattle.ecma_grammar.specs.Patterns.{Item, Property}
 use Rattle.ecma_grammar.specs.Functions.{ArrowPattern, ArrowHead, BareName, Async}
 use Rattle.ecma_grammar.specs.Grammar.{Spells, parts}
-use Rattle.ecma_grammar_complete.proofs.Yields.{len, took, shorter}
-use Rattle.ecma_grammar_complete.proofs.Levels.{operated, binary_four, fits, right_five, binary_cases}
-use Rattle.ecma_grammar_complete.proofs.Trees.{some_word, takes, by_cases, and_never}
-use Rattle.ecma_grammar_complete.proofs.Cuts.{cut, level_least, least}
+use Rattle.ecma_grammar_complete_base.proofs.Yields.{len, took, shorter}
+use Rattle.ecma_grammar_complete_base.proofs.Levels.{operated, binary_four, fits, right_five, binary_cases}
+use Rattle.ecma_grammar_complete_base.proofs.Trees.{some_word, takes, by_cases, and_never}
+use Rattle.ecma_grammar_complete_base.proofs.Cuts.{cut, level_least, least}
 
 -- an expression takes tokens
 pub taken : (t : Tree) (c : Code) (ts r : Input) → 1 ≤ level t → Spells t c ts r → len r < len ts

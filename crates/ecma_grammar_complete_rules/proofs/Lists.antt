@@ -13,10 +13,10 @@ use Rattle.ecma_grammar.specs.Grammar.{Spells, parts}
 use Rattle.ecma_reading.specs.Source.{Fault, ◌>>=◌, unexpected, Stand, Inner, Step, go_on, finished, eat}
 use Rattle.ecma_reading.specs.Expressions.{Elements, no_elements, element_by, after_element, element_step, elements_by, prefix_by, prop_by}
 use Rattle.ecma_reading.specs.Reading.{readers}
-use Rattle.ecma_grammar_complete.proofs.Yields.{lm, from, len, coded, then_reads, Is, then_is, then_eat, Loops, loop_on, loop_end, looped, shorter, Reads, here, past_here, ended, if_no, if_yes, then_past}
-use Rattle.ecma_grammar_complete.proofs.Levels.{closes, quiet, Follow, closed_by, comma_after, Asked}
-use Rattle.ecma_grammar_complete.proofs.Lengths.{element_taken}
-use Rattle.ecma_grammar_complete.proofs.Trees.{Covered, CoveredAll, size, sizes, reach, reaches, begins, starts, no_kind, by_cases}
+use Rattle.ecma_grammar_complete_base.proofs.Yields.{lm, from, len, coded, then_reads, Is, then_is, then_eat, Loops, loop_on, loop_end, looped, shorter, Reads, here, past_here, ended, if_no, if_yes, then_past}
+use Rattle.ecma_grammar_complete_base.proofs.Levels.{closes, quiet, Follow, closed_by, comma_after, Asked}
+use Rattle.ecma_grammar_complete_rules.proofs.Lengths.{element_taken}
+use Rattle.ecma_grammar_complete_base.proofs.Trees.{Covered, CoveredAll, size, sizes, reach, reaches, begins, starts, no_kind, by_cases}
 
 -- a method, a getter or a setter of an object
 abbrev pub is_method : Tree → Bool

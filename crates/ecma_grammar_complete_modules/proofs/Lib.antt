@@ -1,0 +1,4 @@
+pub mod Sources
+pub mod Imports
+pub mod Exports
+pub mod Modules
