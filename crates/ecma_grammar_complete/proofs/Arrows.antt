@@ -14,10 +14,10 @@ use Rattle.ecma_reading.specs.Source.{Fault, ◌>>=◌, Stand, Inner, name}
 use Rattle.ecma_reading.specs.Cover.{binds_names, all_bind}
 use Rattle.ecma_reading.specs.Expressions.{Elements, elements_by, arrow_by, ident_end, word_by, async_by, async_group, group_by, group_end, params_of, prefix_by, arrows, function_expr_by}
 use Rattle.ecma_reading.specs.Reading.{readers}
-use Rattle.ecma_grammar_complete.proofs.Yields.{lm, from, coded, first_at, IsName, named, Reads, then_reads, Is, then_is, then_past, then_past_reads, then_name, after_one, onto, here, if_no, if_yes, reads_deep, reads_map}
-use Rattle.ecma_grammar_complete.proofs.Trees.{Covered, CoveredAll, size, sizes, reach, reaches, by_cases, no_kind}
-use Rattle.ecma_grammar_complete.proofs.Prefixes.{named_word, arrowed}
-use Rattle.ecma_grammar_complete.proofs.Lists.{pack_unpack, hole_is}
+use Rattle.ecma_grammar_complete_base.proofs.Yields.{lm, from, coded, first_at, IsName, named, Reads, then_reads, Is, then_is, then_past, then_past_reads, then_name, after_one, onto, here, if_no, if_yes, reads_deep, reads_map}
+use Rattle.ecma_grammar_complete_base.proofs.Trees.{Covered, CoveredAll, size, sizes, reach, reaches, by_cases, no_kind}
+use Rattle.ecma_grammar_complete_rules.proofs.Prefixes.{named_word, arrowed}
+use Rattle.ecma_grammar_complete_rules.proofs.Lists.{pack_unpack, hole_is}
 use Rattle.ecma_grammar_complete.proofs.Covers.{FitAll, Covering, Covered_list, covers_found}
 
 -- ---- patterns that bind are patterns that assign, and have names alone

@@ -15,22 +15,22 @@ use Rattle.ecma_reading.specs.Source.{Stand, Inner, go_on, Fault, unexpected}
 use Rattle.ecma_reading.specs.Expressions.{assign_by, private_in, private_by, binary_by, member_by, index_by, call_by, chain_by, template_by, on_chain, extended, word_by, async_by, async_group, element_step, element_by, expr_by, expr_from, loop_by, loop_step, step_by, prefix_by, elements_by, array_by}
 use Rattle.ecma_reading.specs.Cover.{to_target}
 use Rattle.ecma_reading.specs.Reading.{readers}
-use Rattle.ecma_grammar_complete.proofs.Yields.{reads_deep, first_at, IsName, lm, from, len, coded, then_reads, Is, then_is, Loops, loop_on, looped, shorter, Reads, here, past_here, ended, if_no, if_yes, then_past, then_past_reads, after_one, then_noted}
-use Rattle.ecma_grammar_complete.proofs.Levels.{cond_no, cond_yes, quits_by, quits, ends_operand, goes_comma, closed_by, comma_after, Follow, sober, sober_by, Asked, right_asked, right_five, right_most, tail, tail_high, tail_over, tail_stops, ends_high, fits, operated, binary_four, goes_binary, quiet}
-use Rattle.ecma_grammar_complete.proofs.Trees.{function_word, Covered, CoveredAll, size, sizes, reach, reaches, begins, starts, no_kind, callee_sort, chain_level, ends_low, takes, some_assign, some_binary, some_update, some_word, by_unary, by_update}
-use Rattle.ecma_grammar_complete.proofs.Lengths.{taken, dotted_cut, bracket_cut, accessed_cut, elements_cut, arguments_cut, template_cut}
-use Rattle.ecma_grammar_complete.proofs.Prefixes.{literal_found, prefix_str, prefix_num, prefix_big, prefix_regex, prefix_this, prefix_null, prefix_true, prefix_false, prefix_unary, prefix_update, prefix_await, unary_found, update_found, await_found, prefix_ident, named_word, arrowed, no_arrow}
-use Rattle.ecma_grammar_complete.proofs.Lists.{Finds, Deep, Has, pack_unpack, elements_found, one_asked, two_asked}
-use Rattle.ecma_grammar_complete.proofs.Groups.{paren_found, group_found}
-use Rattle.ecma_grammar_complete.proofs.Steps.{step_binary, step_cond, step_index, step_member, step_call, step_update, binary_found, cond_found, index_found, named_found, call_found}
-use Rattle.ecma_grammar_complete.proofs.Members.{private_found, Lists, dotted_member, indexed, called, chain_name, chain_index, chain_call, step_chain, step_template, template_found, prefix_template}
-use Rattle.ecma_grammar_complete.proofs.Objects.{object_found}
-use Rattle.ecma_grammar_complete.proofs.Words.{super_call, super_index, super_name, meta_found, yield_bare, yield_operand, yield_star, import_found, import_elements}
+use Rattle.ecma_grammar_complete_base.proofs.Yields.{reads_deep, first_at, IsName, lm, from, len, coded, then_reads, Is, then_is, Loops, loop_on, looped, shorter, Reads, here, past_here, ended, if_no, if_yes, then_past, then_past_reads, after_one, then_noted}
+use Rattle.ecma_grammar_complete_base.proofs.Levels.{cond_no, cond_yes, quits_by, quits, ends_operand, goes_comma, closed_by, comma_after, Follow, sober, sober_by, Asked, right_asked, right_five, right_most, tail, tail_high, tail_over, tail_stops, ends_high, fits, operated, binary_four, goes_binary, quiet}
+use Rattle.ecma_grammar_complete_base.proofs.Trees.{function_word, Covered, CoveredAll, size, sizes, reach, reaches, begins, starts, no_kind, callee_sort, chain_level, ends_low, takes, some_assign, some_binary, some_update, some_word, by_unary, by_update}
+use Rattle.ecma_grammar_complete_rules.proofs.Lengths.{taken, dotted_cut, bracket_cut, accessed_cut, elements_cut, arguments_cut, template_cut}
+use Rattle.ecma_grammar_complete_rules.proofs.Prefixes.{literal_found, prefix_str, prefix_num, prefix_big, prefix_regex, prefix_this, prefix_null, prefix_true, prefix_false, prefix_unary, prefix_update, prefix_await, unary_found, update_found, await_found, prefix_ident, named_word, arrowed, no_arrow}
+use Rattle.ecma_grammar_complete_rules.proofs.Lists.{Finds, Deep, Has, pack_unpack, elements_found, one_asked, two_asked}
+use Rattle.ecma_grammar_complete_rules.proofs.Groups.{paren_found, group_found}
+use Rattle.ecma_grammar_complete_rules.proofs.Steps.{step_binary, step_cond, step_index, step_member, step_call, step_update, binary_found, cond_found, index_found, named_found, call_found}
+use Rattle.ecma_grammar_complete_rules.proofs.Members.{private_found, Lists, dotted_member, indexed, called, chain_name, chain_index, chain_call, step_chain, step_template, template_found, prefix_template}
+use Rattle.ecma_grammar_complete_rules.proofs.Objects.{object_found}
+use Rattle.ecma_grammar_complete_rules.proofs.Words.{super_call, super_index, super_name, meta_found, yield_bare, yield_operand, yield_star, import_found, import_elements}
 use Rattle.ecma_grammar_complete.proofs.Covers.{Cover_read, Covered_list, covers_found}
 use Rattle.ecma_grammar_complete.proofs.Arrows.{Body_read, expression_body, block_body, arrow_bare, arrow_paren, async_paren, async_bare, params_loosen, params_names}
 use Rattle.ecma_grammar_complete.proofs.Coverings.{coverings, structured_read, structured_starts}
-use Rattle.ecma_grammar_complete.proofs.News.{callee_of, callee_found, no_dot, bare_found, with_found}
-use Rattle.ecma_grammar_complete.proofs.Finds.{bare_by, paren_goes, quiet_binary, far_binary, goes_question, goes_update, goes_bracket, goes_dot, finds, Bare, Comes, reads}
+use Rattle.ecma_grammar_complete_rules.proofs.News.{callee_of, callee_found, no_dot, bare_found, with_found}
+use Rattle.ecma_grammar_complete_rules.proofs.Finds.{bare_by, paren_goes, quiet_binary, far_binary, goes_question, goes_update, goes_bracket, goes_dot, finds, Bare, Comes, reads}
 
 -- a call of the name `async`, which the reader of words reads whole, since its parenthesis may hold an arrow's parameters
 async_call : (inner : Inner Input) (c : Code) (ts : Input) (k : List ℕ) (q s : Span) (x : List ℕ) (xs : Trees) (r : Input) (P : Type 0) {Q : Type 0} → IsName c ts → kind ts ≡ async_kind → text ts ≡ x → q ≡ first_span ts → kind (rest ts) ≡ left_paren_kind → brk (rest ts) ≡ false

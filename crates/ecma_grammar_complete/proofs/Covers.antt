@@ -14,13 +14,13 @@ use Rattle.ecma_reading.specs.Source.{Fault, ◌>>=◌, unexpected, Stand, past,
 use Rattle.ecma_reading.specs.Cover.{has, binds_names, all_bind, to_target, to_head, to_item, to_items, as_prop, rest_of, is_rest_item, last_rests}
 use Rattle.ecma_reading.specs.Expressions.{Elements, no_elements, element_by, after_element, element_step, elements_by, array_by, prefix_by, prop_by, prop_rest, prop_step, key_by, object_by}
 use Rattle.ecma_reading.specs.Reading.{readers}
-use Rattle.ecma_grammar_complete.proofs.Yields.{lm, from, len, coded, first_at, Fresh, After, after_past, Reads, reads_map, then_reads, then_after, Is, then_is, onto, after_one, ended, past_here, past_ended, eat_ended, noted_then, noted_at, starts_here, then_past_reads, if_no, if_yes, Loops, Goes, loop_after, looped}
-use Rattle.ecma_grammar_complete.proofs.Levels.{tail, Follow, closed_by, comma_after, closes, quiet}
-use Rattle.ecma_grammar_complete.proofs.Lengths.{item_taken, property_taken}
-use Rattle.ecma_grammar_complete.proofs.Trees.{Covered, CoveredAll, size, sizes, reach, reaches, takes, no_kind, by_cases, begins, starts, name_begins}
-use Rattle.ecma_grammar_complete.proofs.Lists.{Finds, hole_is, pack_unpack}
-use Rattle.ecma_grammar_complete.proofs.Members.{no_more}
-use Rattle.ecma_grammar_complete.proofs.Objects.{begins_key, key_starts, key_found, OneWord, plain_prop, Plain, plain_next, Divides, divided, short_prop, cover_prop}
+use Rattle.ecma_grammar_complete_base.proofs.Yields.{lm, from, len, coded, first_at, Fresh, After, after_past, Reads, reads_map, then_reads, then_after, Is, then_is, onto, after_one, ended, past_here, past_ended, eat_ended, noted_then, noted_at, starts_here, then_past_reads, if_no, if_yes, Loops, Goes, loop_after, looped}
+use Rattle.ecma_grammar_complete_base.proofs.Levels.{tail, Follow, closed_by, comma_after, closes, quiet}
+use Rattle.ecma_grammar_complete_rules.proofs.Lengths.{item_taken, property_taken}
+use Rattle.ecma_grammar_complete_base.proofs.Trees.{Covered, CoveredAll, size, sizes, reach, reaches, takes, no_kind, by_cases, begins, starts, name_begins}
+use Rattle.ecma_grammar_complete_rules.proofs.Lists.{Finds, hole_is, pack_unpack}
+use Rattle.ecma_grammar_complete_rules.proofs.Members.{no_more}
+use Rattle.ecma_grammar_complete_rules.proofs.Objects.{begins_key, key_starts, key_found, OneWord, plain_prop, Plain, plain_next, Divides, divided, short_prop, cover_prop}
 
 -- ---- refining
 
@@ -371,7 +371,7 @@ module _ (z d : ℕ) (f : Finds z d) (cov : Covering z d) (p : Bool) (c : Code) 
 
   prop_read : (x : Tree) (ts m : Input) (k : List ℕ) → size x < z → Covered x → Property (coded p c) (part x (λ y. Spells x y)) ts m → Divides z d f p c m → Reads (from ts k) (prop_by lm within c (from ts k)) (Prop_read x m) (d < reach x)
   prop_read (rest_pat s q a) ts m k sz g h v = spread_prop s q a ts m k (omega arith) g h v
-  prop_read (key_value_pat_prop s x a) ts m k sz g h v = keyed_prop s x a ts m k (omega arith) (omega arith) g.0 g.1 g.2 h v
+  prop_read (key_value_pat_prop s x a) ts m k sz g h v = keyed_prop s x a ts m k (omega arith) (omega arith) g.0 g.1 h.2.5 h v
   prop_read (assign_pat_prop s (binding_ident q (ident t x)) absent) ts m k sz g h v = named_prop s q t x ts m k h.2 v
   prop_read (assign_pat_prop s (binding_ident q (ident t x)) e) ts m k sz g h v = valued_prop s q t x e ts m k refl (omega arith) g.1 h.2 v
   prop_read (assign_pat_prop s (binding_ident q i) e) ts m k sz g h v = absurd h.2.1.1

@@ -14,15 +14,14 @@ use Rattle.ecma_reading.specs.Source.{Fault, ◌>>=◌, unexpected, Stand, bound
 use Rattle.ecma_reading.specs.Expressions.{key_by}
 use Rattle.ecma_reading.specs.Statements.{pat_by, array_pat_by, array_item, object_pat_by, object_item, pattern_prop, keyed_item, named_item, initial_pat, after_item}
 use Rattle.ecma_reading.specs.Reading.{readers}
-use Rattle.ecma_grammar_complete_patterns.specs.Laws.{patterned}
-use Rattle.ecma_grammar_complete.proofs.Yields.{lm, from, len, coded, first_at, Reads, too_deep, Is, then_is, then_past, then_past_reads, then_eat, then_name, onto, after_one, here, past_here, ended, if_no, if_yes, Loops, loop_on, loop_end, looped}
-use Rattle.ecma_grammar_complete.proofs.Levels.{Follow, closed_by, comma_after}
-use Rattle.ecma_grammar_complete.proofs.Lengths.{item_taken, property_taken}
-use Rattle.ecma_grammar_complete.proofs.Trees.{Covered, CoveredAll, size, sizes, reach, reaches, takes, no_kind, by_cases}
-use Rattle.ecma_grammar_complete.proofs.Lists.{Finds, pack_unpack, two_asked, hole_is}
-use Rattle.ecma_grammar_complete.proofs.Members.{no_more}
-use Rattle.ecma_grammar_complete.proofs.Comes.{read_finds}
-use Rattle.ecma_grammar_complete.proofs.Objects.{begins_key, key_starts, key_found}
+use Rattle.ecma_grammar_complete_base.specs.Laws.{patterned}
+use Rattle.ecma_grammar_complete_base.proofs.Yields.{lm, from, len, coded, first_at, Reads, too_deep, Is, then_is, then_past, then_past_reads, then_eat, then_name, onto, after_one, here, past_here, ended, if_no, if_yes, Loops, loop_on, loop_end, looped}
+use Rattle.ecma_grammar_complete_base.proofs.Levels.{Follow, closed_by, comma_after}
+use Rattle.ecma_grammar_complete_rules.proofs.Lengths.{item_taken, property_taken}
+use Rattle.ecma_grammar_complete_base.proofs.Trees.{Covered, CoveredAll, size, sizes, reach, reaches, takes, no_kind, by_cases}
+use Rattle.ecma_grammar_complete_rules.proofs.Lists.{Finds, pack_unpack, two_asked, hole_is}
+use Rattle.ecma_grammar_complete_rules.proofs.Members.{no_more}
+use Rattle.ecma_grammar_complete_rules.proofs.Objects.{begins_key, key_starts, key_found}
 
 -- A pattern that binds is read by calls so deep, or they are not deep enough.
 abbrev pub Binds : ℕ → ℕ → Type 0
@@ -184,7 +183,7 @@ module _ (z d : ℕ) (f : Finds z d) (b : Binds z d) (p : Bool) (c : Code) where
       (λ j. here (ap (λ (y : Span). assign_pat_prop y (binding_ident (first_span ts) (ident (first_span ts) x)) e) (sym h.3) ∙ ap (λ y. assign_pat_prop s y e) (named_span ts h.0 q t x h.1.1)))))))
 
   prop_found : (x : Tree) (ts m : Input) (k : List ℕ) → size x < z → Covered x → Property (patterned p c) (part x (λ y. Spells x y)) ts m → is_rest x ≡ false → Closed (with_in c) m → eqb (kind m) colon_kind ≡ false → PropRead x ts m k
-  prop_found (key_value_pat_prop s x a) ts m k sz g h n cl nc = prop_keyed s x a ts m k (omega arith) (omega arith) g.0 g.1 h.2 g.2 cl
+  prop_found (key_value_pat_prop s x a) ts m k sz g h n cl nc = prop_keyed s x a ts m k (omega arith) (omega arith) g.0 g.1 h.2 h.2.5 cl
   prop_found (assign_pat_prop s (binding_ident q (ident t x)) absent) ts m k sz g h n cl nc = prop_named s q t x ts m k h.2 cl nc
   prop_found (assign_pat_prop s (binding_ident q (ident t x)) e) ts m k sz g h n cl nc = prop_valued s q t x e ts m k refl (omega arith) g.1 h.2 cl
   prop_found (assign_pat_prop s (binding_ident q i) e) ts m k sz g h n cl nc = absurd h.2.1.1
@@ -264,8 +263,3 @@ binds (suc z) (suc d) f t p c ts r k sz g e h = bound_found z d (lesser d) (bind
   where
     lesser : (e : ℕ) → Finds z e
     lesser e t p c l ts r k sz = f e t p c l ts r k (omega (arith, sz))
-
--- What a pattern that binds spells is read by calls so deep: the answer is the pattern with the tokens that it doesn't spell, or too deep where it
--- reaches deeper.
-pub patterns_found : (d : ℕ) (t : Tree) (p : Bool) (c : Code) (ts r : Input) (k : List ℕ) → Covered t → is_binding t ≡ true → Spells t (patterned p c) ts r → Reads (from ts k) ((readers lm d).pat c (from ts k)) (Is t r) (d < reach t)
-patterns_found d t p c ts r k g e h = binds (suc (size t)) d (λ e u q b l m n j sz. read_finds e u q b l m n j) t p c ts r k (omega arith) g e h
