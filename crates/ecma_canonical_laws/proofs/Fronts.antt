@@ -27,7 +27,7 @@ use Rattle.ecma_canonical_laws.proofs.Marks.{among_holds, heads, holds_all, is_l
 
 -- ---- what trivia begins with
 
-pub is_space : ℕ → Bool
+unfoldable pub is_space : ℕ → Bool
 is_space c = is_white_space c || is_line_terminator c
 
 -- No trivia begins the text.

@@ -1,6 +1,8 @@
 pub mod Fronts
+pub mod Going
 pub mod Marks
 pub mod Owns
+pub mod Slashes
 pub mod Standing
 pub mod Strings
 pub mod Taken

@@ -10,6 +10,7 @@ use Rattle.ecma_token.specs.declared.token.TokenKind.{TokenKind}
 use Rattle.ecma_token.specs.TokenViews.{token_kind_number}
 use Rattle.ecma_scan.specs.Characters.{is_decimal_digit, is_name_part}
 use Rattle.ecma_scan.specs.Punctuators.{IsAmong, IsNumberDot, IsPunctuator, Spelling, punctuators}
+use Rattle.ecma_scan.specs.RegExps.{IsRegExp}
 use Rattle.ecma_literal.specs.declared.template.Ending.{Ending}
 use Rattle.ecma_literal.specs.declared.template.Ending.TheVariants.{BackQuote, Substitution}
 use Rattle.ecma_literal.specs.Escapes.{begins}
@@ -17,7 +18,7 @@ use Rattle.ecma_literal.specs.Numbers.{BigInt, Meaning, Number, SpellsNumber, is
 use Rattle.ecma_literal.specs.Standing.{is_point}
 use Rattle.ecma_literal.specs.Templates.{Ends}
 use Rattle.ecma_literal.proofs.StandLemmas.{big_stands, number_stands}
-use Rattle.ecma_lexeme.specs.Lexemes.{SpecLexeme, IsEnd, IsMark, IsNumber, IsPattern}
+use Rattle.ecma_lexeme.specs.Lexemes.{SpecLexeme, IsEnd, IsMark, IsNumber}
 use Rattle.ecma_canonical_laws.proofs.Words.{Parted, is_gap, parted_begins, parted_ends, same_own}
 
 -- ---- numbers
@@ -50,16 +51,14 @@ part_32 : is_name_part 32 ≡ false
 unfolding unicode_ident
 part_32 = refl
 
-pub pattern_before : (text own : List ℕ) (x : SpecLexeme) (rest r : List ℕ) → text ≡ own ++ rest → Parted r → IsPattern text x rest → IsPattern (own ++ r) x r
-pattern_before text own x rest r e p h =
-    let body = h.0 in
-    let flags = h.1 in
-    let g = h.2.1 in
+pub reg_exp_before : (text own body flags rest r : List ℕ) → text ≡ own ++ rest → Parted r → IsRegExp text body flags rest → IsRegExp (own ++ r) body flags r
+reg_exp_before text own body flags rest r e p h =
+    let g = h.1 in
     let line : (l : List ℕ) → 47 ∷ (body ++ 47 ∷ (flags ++ l)) ≡ (47 ∷ (body ++ 47 ∷ flags)) ++ l = λ l. ap (λ (t : List ℕ). 47 ∷ t) (sym (append_assoc body (47 ∷ flags) l)) in
     let whole : text ≡ (47 ∷ (body ++ 47 ∷ flags)) ++ rest = g.1 ∙ ap (λ (t : List ℕ). 47 ∷ (body ++ 47 ∷ t)) g.2.0 ∙ line rest in
     let same = same_own text own (47 ∷ (body ++ 47 ∷ flags)) rest e whole in
     let there : own ++ r ≡ 47 ∷ (body ++ 47 ∷ (flags ++ r)) = ap (λ (t : List ℕ). t ++ r) same ∙ sym (line r) in
-    (body, flags, (h.2.0, (flags ++ r, there, (refl, g.2.1, parted_ends is_name_part r part_10 part_32 p))), h.3)
+    (h.0, (flags ++ r, there, (refl, g.2.1, parted_ends is_name_part r part_10 part_32 p)))
 
 -- ---- what holds of each punctuator
 
