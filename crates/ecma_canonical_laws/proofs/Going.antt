@@ -71,6 +71,13 @@ going_on Characters Characters h = λ e. cc
 going_on Other Other h = λ e. cc
 going_on a b h = elim h [ ]
 
+pub start_there : (a b : Last) → SameLast a b → a ≡ Start → b ≡ Start
+start_there Start Start h e = refl
+start_there (Slash a) (Slash b) h e = cc
+start_there Characters Characters h e = cc
+start_there Other Other h e = cc
+start_there a b h e = elim h [ ]
+
 pub both_start : (a b : Last) → SameLast a b → b ≡ Start → a ≡ Start
 both_start Start Start h e = refl
 both_start (Slash a) (Slash b) h e = cc
@@ -289,6 +296,11 @@ gap_none spot e = ⊎_elim
     (λ (h : (gap None spot ≡ []) × (spot.line_break ≡ false)). inl (h.0, h.1, tt))
     (λ (h : (gap None spot ≡ 10 ∷ []) × (spot.line_break ≡ true)). inr (inl h))
     (gap_first (spot.token.kind == template_kind) spot.line_break e)
+
+-- nothing stands before the first token where no line breaks
+pub first_none : (spot : Spot) → (spot.token.kind == template_kind) ≡ false → spot.line_break ≡ false → gap None spot ≡ []
+unfolding first_gap
+first_none spot a b = ap (λ k. first_gap k spot.line_break) a ∙ ap (λ k. first_gap false k) b
 
 pub gap_behind : (e : Edge) (spot : Spot) → e.template ≡ false → (spot.token.kind == template_kind) ≡ false → (nat_eq e.end spot.lo ≡ true → spot.line_break ≡ false)
     → GapIs (Some e) spot spot.line_break

@@ -1,7 +1,9 @@
 pub mod Fronts
 pub mod Going
+pub mod Making
 pub mod Marks
 pub mod Owns
+pub mod Run
 pub mod Slashes
 pub mod Standing
 pub mod Strings

@@ -192,6 +192,42 @@ short_by (d ∷ d2 ∷ ds) kind c r more e l f =
     let free = not-true (is_lone_char d) (and_parts (not (is_lone_char d)) (not (is_lone kind)) e).0 in
     absurd (false≢true (sym free ∙ ap is_lone_char (sym (heads c d r (d2 ∷ (ds ++ more)) f)) ∙ l))
 
+-- what follows a punctuator that begins so
+rest_by : (s : List ℕ) (kind c : ℕ) (r more : List ℕ) → single s kind ≡ true → is_lone_char c ≡ true → c ∷ r ≡ s ++ more → more ≡ r
+unfolding single
+rest_by [] kind c r more e l f = absurd (false≢true e)
+rest_by (d ∷ []) kind c r more e l f = sym (tails c d r more f)
+rest_by (d ∷ d2 ∷ ds) kind c r more e l f =
+    let free = not-true (is_lone_char d) (and_parts (not (is_lone_char d)) (not (is_lone kind)) e).0 in
+    absurd (false≢true (sym free ∙ ap is_lone_char (sym (heads c d r (d2 ∷ (ds ++ more)) f)) ∙ l))
+
+is_hash_char : ℕ → Bool
+is_hash_char c = c == 35
+
+hash_or_none : List ℕ → ℕ → Bool
+hash_or_none s kind = kind == hash_kind || not (begins is_hash_char s)
+
+all_hash : holds_all hash_or_none punctuators ≡ true
+unfolding holds_all hash_or_none is_hash_char
+all_hash = refl
+
+begins_same : (q : ℕ → Bool) (s more : List ℕ) → is_some_text s ≡ true → begins q (s ++ more) ≡ begins q s
+begins_same q [] more e = absurd (false≢true e)
+begins_same q (c ∷ cs) more e = refl
+
+-- A punctuator that begins with `#` is `#`.
+pub hash_is : (text : List ℕ) (x : SpecLexeme) (rest inner : List ℕ) → IsMark text x rest → text ≡ 35 ∷ inner → ((x.token.kind == hash_kind) ≡ true) × (rest ≡ inner)
+unfolding is_hash_char is_lone_char hash_or_none
+hash_is text x rest inner h e =
+    let g = h.1.1 in
+    let all = among_holds single punctuators g.0 h.0 all_single g.1 in
+    let one = among_holds hash_or_none punctuators g.0 h.0 all_hash g.1 in
+    let first : begins is_hash_char g.0 ≡ true = sym (begins_same is_hash_char g.0 rest (some_text g.0 h.0 g.1)) ∙ ap (begins is_hash_char) (sym g.2 ∙ e) in
+    (
+      ap (λ (l : SpecLexeme). l.token.kind == hash_kind) h.2 ∙ or_not (token_kind_number h.0 == hash_kind) (begins is_hash_char g.0) one first,
+      rest_by g.0 (token_kind_number h.0) 35 inner rest all refl (sym e ∙ g.2),
+    )
+
 lone_dot : (c : ℕ) (r : List ℕ) → is_lone_char c ≡ true → IsNumberDot (c ∷ r) → ⊥
 unfolding is_lone_char
 lone_dot c r l d = false≢true (ap is_lone_char (sym (heads c 46 r (d.0 ∷ d.1) d.2)) ∙ l)
