@@ -8,4 +8,5 @@ pub mod Slashes
 pub mod Standing
 pub mod Strings
 pub mod Taken
+pub mod Whole
 pub mod Words

@@ -39,7 +39,7 @@ use Rattle.ecma_canonical_laws.proofs.Run.{Breaks, Canon, Fits, Going, inside, p
 
 -- ---- each way of taking a token
 
-characters_kind : (from : List ℕ) (x : SpecLexeme) (rest : List ℕ) → IsLexeme TemplateTail from x rest → x.token.kind ≡ template_kind
+pub characters_kind : (from : List ℕ) (x : SpecLexeme) (rest : List ℕ) → IsLexeme TemplateTail from x rest → x.token.kind ≡ template_kind
 characters_kind from x rest h = ap (λ (l : SpecLexeme). l.token.kind) h.6
 
 tail_end : (cs : List TokenContext) (l : Last) → template_goal cs l ≡ Some TemplateTail → template_goal cs Characters ≡ Some TemplateEnd

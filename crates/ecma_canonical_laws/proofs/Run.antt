@@ -102,7 +102,7 @@ inside goal s last spot x own r g e fits is =
     }
 
 -- behind trivia
-plain_canon : (s : State) (last : Option Edge) (spot : Spot) (line_break : Bool) (x : SpecLexeme) (own r : List ℕ) → template_goal s.settings.contexts s.tokens.last ≡ None
+pub plain_canon : (s : State) (last : Option Edge) (spot : Spot) (line_break : Bool) (x : SpecLexeme) (own r : List ℕ) → template_goal s.settings.contexts s.tokens.last ≡ None
     → GapIs last spot line_break → IsLexeme Div (own ++ r) x r → Free (own ++ r) → Fits None last (gap last spot ++ (own ++ r)) → Breaks s last (gap last spot ++ (own ++ r))
     → (s.tokens.last ≡ Start → NoHashbang (gap last spot ++ (own ++ r))) → Canon s last spot line_break x own r
 plain_canon s last spot line_break x own r g gapped is free fits breaks bang = record {
@@ -153,7 +153,7 @@ no_bang text x r cs l m e h g fits inner same =
     let none = hash_after x.token.kind cs l m k.0 g in
     fits_no_bang e r inner (subst (λ o. Fits o (Some e) r) none fits) k.1
 
-gap_no_bang : (last : Option Edge) (spot : Spot) (line_break : Bool) (r : List ℕ) → GapIs last spot line_break → NoHashbang r → NoHashbang (gap last spot ++ r)
+pub gap_no_bang : (last : Option Edge) (spot : Spot) (line_break : Bool) (r : List ℕ) → GapIs last spot line_break → NoHashbang r → NoHashbang (gap last spot ++ r)
 gap_no_bang last spot line_break r (inl h) n inner e = n inner (sym (ap (λ (l : List ℕ). l ++ r) h.0) ∙ e)
 gap_no_bang last spot line_break r (inr (inl h)) n inner e = let k : 10 ∷ r ≡ 35 ∷ 33 ∷ inner = sym (ap (λ (l : List ℕ). l ++ r) h.0) ∙ e in let j = heads 10 35 r (33 ∷ inner) k in omega (arith, j)
 gap_no_bang last spot line_break r (inr (inr h)) n inner e = let k : 32 ∷ r ≡ 35 ∷ 33 ∷ inner = sym (ap (λ (l : List ℕ). l ++ r) h.0) ∙ e in let j = heads 32 35 r (33 ∷ inner) k in omega (arith, j)
@@ -191,7 +191,7 @@ skip_breaks goal first line_break (c ∷ cs) rest h e = by_pieces h.0 h.1.0 h.1.
 kind_of_spot : (s : State) (spot : Spot) (new : State) → (k : Took s spot new) → spot.token.kind ≡ k.x.token.kind
 kind_of_spot s spot new k = ap (λ (p : Spot). p.token.kind) k.spot_is
 
-gap_here : (whole : List ℕ) (s : State) (last : Option Edge) (spot : Spot) (new : State) → Sits whole s last → (k : Took s spot new) → (p : Plain s k.line_break k.from k.x k.rest)
+pub gap_here : (whole : List ℕ) (s : State) (last : Option Edge) (spot : Spot) (new : State) → Sits whole s last → (k : Took s spot new) → (p : Plain s k.line_break k.from k.x k.rest)
     → GapIs last spot k.line_break
 gap_here whole s None spot new sits k p =
     let kind : (spot.token.kind == template_kind) ≡ false = ap (λ n. n == template_kind) (kind_of_spot s spot new k) ∙ no_template k.x.token.kind (no_inner Div k.from k.x k.rest p.is) in
@@ -220,7 +220,7 @@ follow_by s spot new k p r f = ⊎_elim
     by_fits l hash (inl q) = inr q
     by_fits l hash (inr q) = inl (ap (λ b. b || (k.x.token.kind == back_quote_kind || k.x.token.kind == right_brace_kind)) (sym hash ∙ q.0))
 
-fits_plain : (last : Option Edge) (spot : Spot) (line_break : Bool) (x : SpecLexeme) (r rest : List ℕ) → spot.token ≡ machine.told x.token → IsLexeme Div r x rest → GapIs last spot line_break
+pub fits_plain : (last : Option Edge) (spot : Spot) (line_break : Bool) (x : SpecLexeme) (r rest : List ℕ) → spot.token ≡ machine.told x.token → IsLexeme Div r x rest → GapIs last spot line_break
     → Fits None last (gap last spot ++ r)
 fits_plain None spot line_break x r rest e h g = tt
 fits_plain (Some f) spot line_break x r rest e h (inl g) =
@@ -237,10 +237,10 @@ nothing_behind : (gone from : List ℕ) → [] ≡ gone ++ from → from ≡ []
 nothing_behind [] from e = sym e
 nothing_behind (c ∷ cs) from e = cc
 
-breaks_plain : (s : State) (last : Option Edge) (spot new_spot : Spot) (new : State) (k : Took s spot new) → (p : Plain s k.line_break k.from k.x k.rest) → (r : List ℕ) → GapIs last spot k.line_break
+pub breaks_plain : (s : State) (last : Option Edge) (spot : Spot) (new : State) (k : Took s spot new) → (p : Plain s k.line_break k.from k.x k.rest) → (r : List ℕ) → GapIs last spot k.line_break
     → Breaks s last (gap last spot ++ r)
-breaks_plain s None spot new_spot new k p r g = tt
-breaks_plain s (Some e) spot new_spot new k p r g = λ a b n ends. ⊎_elim
+breaks_plain s None spot new k p r g = tt
+breaks_plain s (Some e) spot new k p r g = λ a b n ends. ⊎_elim
     (λ (z : s.tokens.left ≡ []).
     absurd (none_at_end Div k.from (nothing_behind k.gone.0 k.from (sym z ∙ k.gone.1)) k.x k.rest p.is))
     (λ (z : k.line_break ≡ true). broken_gap (Some e) spot k.line_break r z g)
@@ -256,6 +256,6 @@ plain_again whole s last spot new sits k p r f =
     let token : spot.token ≡ machine.told k.x.token = ap (λ (q : Spot). q.token) k.spot_is in
     plain_canon s last spot k.line_break k.x k.own r p.goal g b.0 b.1
     (fits_plain last spot k.line_break k.x (k.own ++ r) r token b.0 g)
-    (breaks_plain s last spot spot new k p (k.own ++ r) g)
+    (breaks_plain s last spot new k p (k.own ++ r) g)
     (λ e. gap_no_bang last spot k.line_break (k.own ++ r) g
     (no_bang (k.own ++ r) k.x r s.settings.contexts s.tokens.last (last_after k.x.token.kind k.from) (edge_of spot) b.0 p.goal f))

@@ -146,6 +146,7 @@ pub record Reread (own : List ℕ) (x y : SpecLexeme) (text rest r : List ℕ) :
   pub divides : IsLexeme Div (own ++ r) x left
   pub is : IsLexeme RegExp (own ++ r) y r
   pub free : Free (own ++ r)
+  pub first : (inner : List ℕ) × (own ++ r ≡ 47 ∷ inner)
 
 pub reread : (text own : List ℕ) (x y : SpecLexeme) (rest behind r : List ℕ) → text ≡ own ++ behind → Parted r → IsOutside Div text x rest → is_slash_kind x.token.kind ≡ true
     → IsLexeme RegExp text y behind → Reread own x y text rest r
@@ -167,4 +168,5 @@ reread text own x y rest behind r e p h k g =
       divides = subst (λ (l : List ℕ). IsLexeme Div l x w.left) (sym there) (inr (inr (refl, w.is)));
       is = inr (inl (refl, (body, pattern.1, z, pattern.3)));
       free = slash_free (own ++ r) (open_slash (own ++ r) body pattern.1 r z);
+      first = (second body ∷ behind_second body m.0, there);
     }

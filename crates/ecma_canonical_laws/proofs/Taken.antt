@@ -66,7 +66,7 @@ read_token s line_break from spot n goal new (inl h) = (h.0, h.1, h.2, same_some
 read_token s line_break from spot n goal new (inr (inl h)) = absurd (n (ap (λ (p : Spot). p.token.kind) (same_some h.2)))
 read_token s line_break from spot n goal new (inr (inr h)) = none_some (sym h.1)
 
-no_goal : (cs : List TokenContext) (l : Last) (goal : LexicalGoal) → goal ≢ TemplateTail → goal ≢ TemplateEnd → template_goal cs l ≡ Some goal → ⊥
+pub no_goal : (cs : List TokenContext) (l : Last) (goal : LexicalGoal) → goal ≢ TemplateTail → goal ≢ TemplateEnd → template_goal cs l ≡ Some goal → ⊥
 no_goal [] l goal a b e = none_some e
 no_goal (t.BraceStmt ∷ cs) l goal a b e = none_some e
 no_goal (t.BraceExpr ∷ cs) l goal a b e = none_some e
