@@ -1,4 +1,4 @@
--- A whole run is made again in the canonical text.
+-- One turn in the canonical text, and the end.
 use Rattle.std.proofs.Common.{◌≡◌, ◌≢◌, ℕ, ◌+◌, ◌<◌, ◌≤◌, ◌⊎◌, inl, inr, ⊎_elim, Bool, true, false, cond, ◌&&◌, ◌||◌, List, [], ◌∷◌, ◌++◌, length, length-append, Option, Some, None, append_assoc, refl, sym, ap, subst, ◌∙◌, arith, nat_eq}
 use Rattle.std.specs.Prelude.{◌==◌, encode_utf8_all}
 use Rattle.std.proofs.lemmas.Bool.{cases_Bool, false≢true, and_parts, eqb-true}
@@ -37,28 +37,28 @@ use Rattle.ecma_canonical_laws.proofs.Making.{BreaksBehind, FitsBehind, gap_enco
 
 -- ---- what is told leaves where a state stands
 
-edge_told : (ctx : Context) (p : Option ℕ) (s : State) (last : Option Edge) → EdgeOf s last → EdgeOf (told ctx p s) last
+pub edge_told : (ctx : Context) (p : Option ℕ) (s : State) (last : Option Edge) → EdgeOf s last → EdgeOf (told ctx p s) last
 edge_told ctx p s None h = h
 edge_told ctx p s (Some e) h = record { kind = h.kind; from = h.from; last = h.last; template = h.template; hash = h.hash; end = h.end; tail = h.tail }
 
-sits_told : (whole : List ℕ) (ctx : Context) (p : Option ℕ) (s : State) (last : Option Edge) → Sits whole s last → Sits whole (told ctx p s) last
+pub sits_told : (whole : List ℕ) (ctx : Context) (p : Option ℕ) (s : State) (last : Option Edge) → Sits whole s last → Sits whole (told ctx p s) last
 sits_told whole ctx p s last h = record { before = h.before; there = h.there; end = h.end; edge = edge_told ctx p s last h.edge }
 
-breaks_told : (ctx : Context) (p : Option ℕ) (s : State) (last : Option Edge) (cs : List ℕ) → Breaks (told ctx p s) last cs → Breaks s last cs
+pub breaks_told : (ctx : Context) (p : Option ℕ) (s : State) (last : Option Edge) (cs : List ℕ) → Breaks (told ctx p s) last cs → Breaks s last cs
 breaks_told ctx p s None cs h = h
 breaks_told ctx p s (Some e) cs h = h
 
 -- ---- one turn
 
 -- how the token of a turn was taken, where no slash was read again
-took_of : (s new : State) (spot : Spot) → spot.token.kind ≢ error_kind → again s ≡ None → IsStep s (Some spot) new → Took s spot new
+pub took_of : (s new : State) (spot : Spot) → spot.token.kind ≢ error_kind → again s ≡ None → IsStep s (Some spot) new → Took s spot new
 took_of s new spot n a h = by_goes (goes s new (Some spot) a h)
   where
     by_goes : Goes s (Some spot) new → Took s spot new
     by_goes (inl k) = none_some (sym k.1)
     by_goes (inr k) = took s new spot n k.1
 
-text_more : (source : List ℕ) (last : Option Edge) (t : Turn) (ts : List Turn) (own r : List ℕ) → is_reread t ts ≡ false → own_bytes source t.spot.lo t.spot.hi ≡ encode_utf8_all own
+pub text_more : (source : List ℕ) (last : Option Edge) (t : Turn) (ts : List Turn) (own r : List ℕ) → is_reread t ts ≡ false → own_bytes source t.spot.lo t.spot.hi ≡ encode_utf8_all own
     → encode_utf8_all r ≡ text_behind source (Some (edge_of t.spot)) (kept ts) → encode_utf8_all (gap last t.spot ++ (own ++ r)) ≡ text_behind source last (kept (t ∷ ts))
 unfolding text_behind
 text_more source last t ts own r e o h =
@@ -67,13 +67,13 @@ text_more source last t ts own r e o h =
     ∙ ap (λ (l : List ℕ). gap last t.spot ++ l) (encodes-append own r ∙ ap (λ (l : List ℕ). l ++ encode_utf8_all r) (sym o) ∙ ap (λ (l : List ℕ). own_bytes source t.spot.lo t.spot.hi ++ l) h)
     ∙ ap (λ (b : Bool). text_behind source last (cond b (kept ts) (t.spot ∷ kept ts))) (sym e)
 
-moved_more : (source : List ℕ) (at : ℕ) (last : Option Edge) (t : Turn) (ts : List Turn) → is_reread t ts ≡ false → (p : Option ℕ) (s new : State)
+pub moved_more : (source : List ℕ) (at : ℕ) (last : Option Edge) (t : Turn) (ts : List Turn) → is_reread t ts ≡ false → (p : Option ℕ) (s new : State)
     → Turns p s (moved_behind source (end_at source at last t.spot) (Some (edge_of t.spot)) ts) new
     → Turns p s (cond (is_reread t ts) (moved_behind source at last ts) (moved_behind source (end_at source at last t.spot) (Some (edge_of t.spot)) ts)) new
 moved_more source at last t ts e p s new h =
     subst (λ (b : Bool). Turns p s (cond b (moved_behind source at last ts) (moved_behind source (end_at source at last t.spot) (Some (edge_of t.spot)) ts)) new) (sym e) h
 
-single : (whole : List ℕ) (ctx : Context) (s : State) (last : Option Edge) (lo : Option ℕ) (t : Turn) (ts : List Turn) (new : State) → Sits whole s last → QuietBy s.tokens.last t.again
+pub single : (whole : List ℕ) (ctx : Context) (s : State) (last : Option Edge) (lo : Option ℕ) (t : Turn) (ts : List Turn) (new : State) → Sits whole s last → QuietBy s.tokens.last t.again
     → is_reread t ts ≡ false → (k : Took (told t.ctx (asked t.again lo) s) t.spot new)
     → (ih : Going whole ctx (behind (told t.ctx (asked t.again lo) s) k.line_break k.from k.x k.rest) (Some (edge_of t.spot)) ts)
     → Canon (told t.ctx (asked t.again lo) s) last t.spot k.line_break k.x k.own ih.cs → Going whole ctx s last (t ∷ ts)
@@ -157,7 +157,7 @@ none_breaks : (s : State) (last : Option Edge) → Breaks s last []
 none_breaks s None = tt
 none_breaks s (Some e) = λ a b c d. tt
 
-at_end : (whole : List ℕ) (ctx : Context) (s end : State) (last : Option Edge) → EdgeOf s last → IsStep (told ctx None s) None end → Going whole ctx s last []
+pub at_end : (whole : List ℕ) (ctx : Context) (s end : State) (last : Option Edge) → EdgeOf s last → IsStep (told ctx None s) None end → Going whole ctx s last []
 unfolding text_behind
 at_end whole ctx s end last e h =
     let s0 = told ctx None s in
