@@ -1,18 +1,14 @@
 -- A run goes on in the canonical text as it went on in the text.
-use Rattle.std.proofs.Common.{◌≡◌, ◌≢◌, ℕ, ◌+◌, ◌<◌, ◌≤◌, ◌⊎◌, inl, inr, ⊎_elim, Bool, true, false, cond, ◌&&◌, ◌||◌, List, [], ◌∷◌, ◌++◌, length, length-append, Option, Some, None, append_assoc, refl, sym, ap, subst, ◌∙◌, arith, nat_eq}
-use Rattle.std.specs.Prelude.{◌==◌, encode_utf8_all}
+use Rattle.std.proofs.Common.{◌≡◌, ◌≢◌, ℕ, ◌+◌, ◌⊎◌, inl, inr, ⊎_elim, Bool, true, false, cond, ◌&&◌, ◌||◌, List, [], ◌∷◌, ◌++◌, length, Option, Some, None, refl, sym, ap, subst, ◌∙◌, arith, nat_eq}
+use Rattle.std.specs.Prelude.{◌==◌}
 use Rattle.std.specs.List.{list_any}
 use Rattle.std.proofs.lemmas.Bool.{cases_Bool, false≢true, and_parts}
 use Rattle.std.proofs.lemmas.Bool.Decides.{nat_tests}
-use Rattle.std.proofs.lemmas.Str.{encodes-append}
-use Rattle.ecma_token.specs.declared.context.Context.{Context}
-use Rattle.ecma_token.specs.Kinds.{back_quote_kind, dollar_brace_kind, hash_kind, right_brace_kind, template_kind}
-use Rattle.ecma_token.specs.Tokens.{Content, Spot}
+use Rattle.ecma_token.specs.Kinds.{hash_kind, template_kind}
+use Rattle.ecma_token.specs.Tokens.{Spot}
 use Rattle.ecma_tokens.specs.declared.contexts.TokenContext.{TokenContext}
 use Rattle.ecma_tokens.specs.declared.contexts.TokenContext.TheVariants as t
-use Rattle.ecma_tokens.specs.Machine as machine
 use Rattle.ecma_scan.specs.Characters.{is_white_space, is_line_terminator}
-use Rattle.ecma_scan.specs.Names.{is_opening}
 use Rattle.ecma_scan.specs.Places.{bytes}
 use Rattle.ecma_scan.specs.Runs.{Ends}
 use Rattle.ecma_scan.specs.Trivia.{Piece, WhiteSpace, LineTerminator, Follow, IsSkipped, NoHashbang, breaks}
@@ -21,18 +17,15 @@ use Rattle.ecma_literal.specs.declared.template.Ending.{Ending}
 use Rattle.ecma_literal.specs.Escapes.{begins}
 use Rattle.ecma_literal.specs.Templates as templates
 use Rattle.ecma_lexeme.specs.declared.goal.LexicalGoal.{LexicalGoal}
-use Rattle.ecma_lexeme.specs.declared.goal.LexicalGoal.TheVariants.{Div, RegExp, TemplateTail, TemplateEnd}
-use Rattle.ecma_lexeme.specs.Lexemes.{SpecLexeme}
-use Rattle.ecma_lexing.specs.States.{Last, Start, Slash, Characters, Fault, Other, State, again, again_by, behind, contexts_after, is_start, last_after, place, spot_at, template_goal}
+use Rattle.ecma_lexeme.specs.declared.goal.LexicalGoal.TheVariants.{TemplateTail, TemplateEnd}
+use Rattle.ecma_lexing.specs.States.{Last, Start, Slash, Characters, Fault, Other, State, again, again_by, is_start, last_after, place, template_goal}
 use Rattle.ecma_lexing.specs.Steps.{IsGoing, IsOutside, IsPlain, IsStep, IsStepBy, IsStepOf}
 use Rattle.ecma_stepping.proofs.Trivia.{follow_no_longer, piece_shorter}
-use Rattle.ecma_tilings.proofs.Steps.{none_some, same_some}
-use Rattle.ecma_canonical.specs.Canonical.{Edge, edge_of, gap, is_word, own_bytes, text_behind}
-use Rattle.ecma_canonical.specs.Moved.{moved_to}
-use Rattle.ecma_canonical_laws.specs.Turns.{Turn, Turns, asked, begin_at, end_at, is_reread, is_slash_kind, kept, moved_behind, told}
-use Rattle.ecma_canonical_laws.proofs.Words.{Parted}
+use Rattle.ecma_tilings.proofs.Steps.{none_some}
+use Rattle.ecma_canonical.specs.Canonical.{Edge, gap, is_word}
+use Rattle.ecma_canonical_laws.specs.Turns.{Turn, asked, is_reread, is_slash_kind}
 use Rattle.ecma_canonical_laws.proofs.Fronts.{Free, is_space, no_trivia_by}
-use Rattle.ecma_canonical_laws.proofs.Owns.{bytes_append, no_bytes, own_is}
+use Rattle.ecma_canonical_laws.proofs.Owns.{bytes_append, no_bytes}
 
 -- ---- what came last, in both texts
 

@@ -1,3 +1,4 @@
+pub mod Again
 pub mod Fronts
 pub mod Going
 pub mod Making

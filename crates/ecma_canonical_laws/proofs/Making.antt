@@ -1,41 +1,33 @@
 -- A whole run is made again in the canonical text.
-use Rattle.std.proofs.Common.{◌≡◌, ◌≢◌, ℕ, ◌+◌, ◌<◌, ◌≤◌, ◌⊎◌, inl, inr, ⊎_elim, Bool, true, false, cond, ◌&&◌, ◌||◌, List, [], ◌∷◌, ◌++◌, length, length-append, Option, Some, None, append_assoc, refl, sym, ap, subst, ◌∙◌, arith}
+use Rattle.std.proofs.Common.{◌≡◌, ℕ, ◌≤◌, inl, inr, Bool, true, false, cond, List, [], ◌∷◌, ◌++◌, length, Option, Some, None, append_assoc, refl, sym, ap, subst, ◌∙◌, arith}
 use Rattle.std.specs.Prelude.{◌==◌, encode_utf8_all}
-use Rattle.std.proofs.lemmas.Bool.{cases_Bool, false≢true, and_parts, eqb-true}
-use Rattle.std.proofs.lemmas.Bool.Decides.{nat_tests}
-use Rattle.std.proofs.lemmas.Str.{encodes-append}
+use Rattle.std.proofs.lemmas.Bool.{false≢true}
 use lib.Utf8.{encode}
-use Rattle.ecma_token.specs.declared.context.Context.{Context}
-use Rattle.ecma_token.specs.declared.syntax.Syntax.{Syntax}
-use Rattle.ecma_token.specs.declared.version.EsVersion.{EsVersion}
-use Rattle.ecma_token.specs.Kinds.{back_quote_kind, dollar_brace_kind, error_kind, hash_kind, shebang_kind, template_kind}
+use Rattle.ecma_token.specs.Kinds.{hash_kind, shebang_kind, template_kind}
 use Rattle.ecma_token.specs.Tokens.{SpecToken, Spot}
 use Rattle.ecma_tokens.specs.declared.contexts.TokenContext.{TokenContext}
 use Rattle.ecma_tokens.specs.declared.contexts.TokenContext.TheVariants as t
-use Rattle.ecma_tokens.specs.Machine as machine
-use Rattle.ecma_scan.specs.Classes.{is_line_char}
 use Rattle.ecma_scan.specs.Places.{bytes}
-use Rattle.ecma_scan.specs.Runs.{Ends}
 use Rattle.ecma_scan.specs.Trivia.{IsHashbang}
 use Rattle.ecma_literal.specs.declared.template.Ending.{Ending}
 use Rattle.ecma_literal.specs.declared.template.Ending.TheVariants.{BackQuote, Substitution}
 use Rattle.ecma_literal.specs.Templates as templates
 use Rattle.ecma_lexeme.specs.declared.goal.LexicalGoal.{LexicalGoal}
-use Rattle.ecma_lexeme.specs.declared.goal.LexicalGoal.TheVariants.{Div, RegExp, TemplateTail, TemplateEnd}
+use Rattle.ecma_lexeme.specs.declared.goal.LexicalGoal.TheVariants.{Div, TemplateTail, TemplateEnd}
 use Rattle.ecma_lexeme.specs.Lexemes.{SpecLexeme, IsLexeme, ending_kind}
-use Rattle.ecma_lexing.specs.States.{Last, Start, Slash, Characters, Fault, Other, State, again, again_by, behind, contexts_after, is_start, last_after, place, shebang, spot_at, template_goal}
-use Rattle.ecma_lexing.specs.Steps.{IsGoing, IsOutside, IsStep}
-use Rattle.ecma_tilings.proofs.Steps.{goes, last_going, none_some, same_some}
-use Rattle.ecma_canonical.specs.Canonical.{Edge, blank, edge_of, gap, own_bytes, text_behind, touches}
+use Rattle.ecma_lexing.specs.States.{Last, Start, Characters, Other, State, behind, contexts_after, last_after, place, shebang, spot_at, template_goal}
+use Rattle.ecma_lexing.specs.Steps.{IsGoing, IsOutside}
+use Rattle.ecma_tilings.proofs.Steps.{none_some}
+use Rattle.ecma_canonical.specs.Canonical.{Edge, blank, edge_of, gap, own_bytes, touches}
 use Rattle.ecma_canonical.specs.Moved.{moved_to}
-use Rattle.ecma_canonical_laws.specs.Turns.{Turn, Turns, asked, begin_at, end_at, is_reread, is_slash_kind, kept, moved_behind, told}
+use Rattle.ecma_canonical_laws.specs.Turns.{begin_at, end_at}
 use Rattle.ecma_canonical_laws.proofs.Standing.{no_inner, no_template, no_tpl}
 use Rattle.ecma_canonical_laws.proofs.Marks.{end_before}
 use Rattle.ecma_canonical_laws.proofs.Slashes.{characters_before, hashbang_before}
 use Rattle.ecma_canonical_laws.proofs.Owns.{bytes_append, own_is}
-use Rattle.ecma_canonical_laws.proofs.Taken.{Bang, Ending as Ended, How, Plain, Tail, Took, took}
-use Rattle.ecma_canonical_laws.proofs.Going.{EdgeOf, SameLast, IsBehind, Quiet, behind_no_start, QuietBy, Same, Sits, behind_characters, going_on, make_step, never_again, quiet_same, same_after, same_goal, start_no_end, both_start, gap_end, gap_tail, first_none, start_there}
-use Rattle.ecma_canonical_laws.proofs.Run.{Breaks, Canon, Fits, Going, inside, plain_again}
+use Rattle.ecma_canonical_laws.proofs.Taken.{Bang, Ending as Ended, How, Tail, Took}
+use Rattle.ecma_canonical_laws.proofs.Going.{EdgeOf, behind_no_start, Sits, behind_characters, same_goal, start_no_end, gap_end, gap_tail, first_none, start_there}
+use Rattle.ecma_canonical_laws.proofs.Run.{Breaks, Canon, Fits, inside, plain_again}
 
 -- ---- each way of taking a token
 
@@ -118,11 +110,11 @@ bang_again s None spot new k edge h r b =
             r,
             subst (λ (l : List ℕ). IsHashbang l h.own r) (sym here) is,
             ap (λ (b : Bool). Some (spot_at t.tokens.end b k.x.token (k.own ++ r) r)) h.mark
-            ∙ ap (λ (x : SpecLexeme). Some (spot_at t.tokens.end false x.token (k.own ++ r) r)) h.token
-            ∙ ap (λ (l : List ℕ). Some (spot_at t.tokens.end false (shebang h.own).token l r)) (sym here),
+                ∙ ap (λ (x : SpecLexeme). Some (spot_at t.tokens.end false x.token (k.own ++ r) r)) h.token
+                ∙ ap (λ (l : List ℕ). Some (spot_at t.tokens.end false (shebang h.own).token l r)) (sym here),
             ap (λ (b : Bool). behind t b (k.own ++ r) k.x r) h.mark
-            ∙ ap (λ (x : SpecLexeme). behind t false (k.own ++ r) x r) h.token
-            ∙ ap (λ (l : List ℕ). behind t false l (shebang h.own) r) (sym here),
+                ∙ ap (λ (x : SpecLexeme). behind t false (k.own ++ r) x r) h.token
+                ∙ ap (λ (l : List ℕ). behind t false l (shebang h.own) r) (sym here),
           )));
     }
 

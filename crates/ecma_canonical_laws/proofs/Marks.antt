@@ -1,15 +1,14 @@
 -- A number, a regular expression, a punctuator and what ends a piece of a template are read before other text as well.
-use Rattle.std.proofs.Common.{◌≡◌, ℕ, ◌≤◌, ◌⊎◌, inl, inr, ⊎_elim, Bool, true, false, not, ◌&&◌, ◌||◌, List, [], ◌∷◌, ◌++◌, length, append_assoc, refl, sym, ap, subst, ◌∙◌, arith}
+use Rattle.std.proofs.Common.{◌≡◌, ℕ, ◌≤◌, inl, inr, ⊎_elim, Bool, true, false, not, ◌&&◌, ◌||◌, List, [], ◌∷◌, ◌++◌, length, append_assoc, refl, sym, ap, subst, ◌∙◌, arith}
 use Rattle.std.specs.Prelude.{◌==◌}
 use Rattle.std.specs.List.{list_all}
-use Rattle.std.proofs.lemmas.Bool.{cases_Bool, false≢true, eqb-true, and_parts, not-true, or_cases}
-use Rattle.std.proofs.lemmas.Bool.Decides.{nat_tests}
+use Rattle.std.proofs.lemmas.Bool.{false≢true, eqb-true, and_parts, not-true, or_cases}
 use Rattle.unicode_ident.proofs.Computing.{unicode_ident}
 use Rattle.ecma_token.specs.Kinds.{back_quote_kind, hash_kind, right_brace_kind}
 use Rattle.ecma_token.specs.declared.token.TokenKind.{TokenKind}
 use Rattle.ecma_token.specs.TokenViews.{token_kind_number}
 use Rattle.ecma_scan.specs.Characters.{is_decimal_digit, is_name_part}
-use Rattle.ecma_scan.specs.Punctuators.{IsAmong, IsNumberDot, IsPunctuator, Spelling, punctuators}
+use Rattle.ecma_scan.specs.Punctuators.{IsAmong, IsNumberDot, Spelling, punctuators}
 use Rattle.ecma_scan.specs.RegExps.{IsRegExp}
 use Rattle.ecma_literal.specs.declared.template.Ending.{Ending}
 use Rattle.ecma_literal.specs.declared.template.Ending.TheVariants.{BackQuote, Substitution}
@@ -139,8 +138,7 @@ pub mark_before : (text own : List ℕ) (x : SpecLexeme) (rest r : List ℕ) →
 mark_before text own x rest r e p h =
     let g = h.1.1 in
     let same = same_own text own g.0 rest e g.2 in
-    let at : own ++ r ≡ g.0 ++ r = ap (λ (l : List ℕ). l ++ r) same in
-    (
+    let at : own ++ r ≡ g.0 ++ r = ap (λ (l : List ℕ). l ++ r) same in (
       h.0,
       (
         λ d. no_dot g.0 rest r h.0 g.1 (subst (λ (t : List ℕ). IsNumberDot t → ⊥) g.2 h.1.0) p (subst IsNumberDot at d),
@@ -222,8 +220,7 @@ hash_is text x rest inner h e =
     let g = h.1.1 in
     let all = among_holds single punctuators g.0 h.0 all_single g.1 in
     let one = among_holds hash_or_none punctuators g.0 h.0 all_hash g.1 in
-    let first : begins is_hash_char g.0 ≡ true = sym (begins_same is_hash_char g.0 rest (some_text g.0 h.0 g.1)) ∙ ap (begins is_hash_char) (sym g.2 ∙ e) in
-    (
+    let first : begins is_hash_char g.0 ≡ true = sym (begins_same is_hash_char g.0 rest (some_text g.0 h.0 g.1)) ∙ ap (begins is_hash_char) (sym g.2 ∙ e) in (
       ap (λ (l : SpecLexeme). l.token.kind == hash_kind) h.2 ∙ or_not (token_kind_number h.0 == hash_kind) (begins is_hash_char g.0) one first,
       rest_by g.0 (token_kind_number h.0) 35 inner rest all refl (sym e ∙ g.2),
     )
@@ -249,8 +246,7 @@ lone_before text own x rest r e n h =
     let l = lone_by g.0 (token_kind_number h.0) (among_holds single punctuators g.0 h.0 all_single g.1) kind in
     let at : own ++ r ≡ g.0 ++ r = ap (λ (l : List ℕ). l ++ r) same in
     let one : own ++ r ≡ l.first ∷ r = at ∙ ap (λ (t : List ℕ). t ++ r) l.whole in
-    let size : 1 ≤ length g.0 = let k = ap length l.whole in omega (arith, k) in
-    (
+    let size : 1 ≤ length g.0 = let k = ap length l.whole in omega (arith, k) in (
       h.0,
       (
         λ d. lone_dot l.first r l.char (subst IsNumberDot one d),

@@ -1,12 +1,9 @@
 -- Two turns of which the second reads a slash again, in the canonical text.
-use Rattle.std.proofs.Common.{◌≡◌, ◌≢◌, ℕ, ◌+◌, ◌<◌, ◌≤◌, ◌⊎◌, inl, inr, ⊎_elim, Bool, true, false, cond, ◌&&◌, ◌||◌, List, [], ◌∷◌, ◌++◌, length, length-append, Option, Some, None, append_assoc, refl, sym, ap, subst, ◌∙◌, arith, nat_eq}
+use Rattle.std.proofs.Common.{◌≡◌, ◌≢◌, ℕ, ◌+◌, inl, inr, ⊎_elim, Bool, true, false, cond, ◌&&◌, ◌||◌, List, [], ◌∷◌, ◌++◌, Option, Some, None, append_assoc, refl, sym, ap, subst, ◌∙◌, arith, nat_eq}
 use Rattle.std.specs.Prelude.{◌==◌, encode_utf8_all}
-use Rattle.std.proofs.lemmas.Bool.{cases_Bool, false≢true, and_parts, eqb-true}
+use Rattle.std.proofs.lemmas.Bool.{cases_Bool, false≢true, and_parts}
 use Rattle.std.proofs.lemmas.Bool.Decides.{nat_tests}
-use Rattle.std.proofs.lemmas.Str.{encodes-append}
 use Rattle.ecma_token.specs.declared.context.Context.{Context}
-use Rattle.ecma_token.specs.declared.syntax.Syntax.{Syntax}
-use Rattle.ecma_token.specs.declared.version.EsVersion.{EsVersion}
 use Rattle.ecma_token.specs.Kinds.{back_quote_kind, dollar_brace_kind, error_kind, hash_kind, regex_kind, right_brace_kind, template_kind}
 use Rattle.ecma_tokens.specs.declared.contexts.TokenContext.{TokenContext}
 use Rattle.unicode_ident.proofs.Computing.{unicode_ident}
@@ -14,27 +11,19 @@ use Rattle.ecma_scan.specs.Names.{is_opening}
 use Rattle.ecma_literal.specs.Escapes.{begins}
 use Rattle.ecma_token.specs.Tokens.{SpecToken, Spot}
 use Rattle.ecma_tokens.specs.Machine as machine
-use Rattle.ecma_scan.specs.Classes.{is_line_char}
 use Rattle.ecma_scan.specs.Places.{bytes}
-use Rattle.ecma_scan.specs.Runs.{Ends}
-use Rattle.ecma_scan.specs.Trivia.{NoHashbang, NoTrivia}
-use Rattle.ecma_scan.proofs.TriviaLemmas.{no_trivia}
+use Rattle.ecma_scan.specs.Trivia.{NoHashbang}
 use Rattle.ecma_literal.specs.declared.template.Ending.{Ending}
 use Rattle.ecma_literal.specs.declared.template.Ending.TheVariants.{BackQuote, Substitution}
-use Rattle.ecma_literal.specs.Templates as templates
-use Rattle.ecma_lexeme.specs.declared.goal.LexicalGoal.{LexicalGoal}
-use Rattle.ecma_lexeme.specs.declared.goal.LexicalGoal.TheVariants.{Div, RegExp, TemplateTail, TemplateEnd}
+use Rattle.ecma_lexeme.specs.declared.goal.LexicalGoal.TheVariants.{Div, RegExp}
 use Rattle.ecma_lexeme.specs.Lexemes.{SpecLexeme, IsLexeme, IsPattern, ending_kind}
 use Rattle.ecma_tilings.proofs.Behind.{Behind}
-use Rattle.ecma_lexing.specs.States.{Last, Start, Slash, Characters, Fault, Other, State, again, again_by, behind, contexts_after, ended, goal_of, is_start, last_after, place, spot_at, template_goal}
+use Rattle.ecma_lexing.specs.States.{Last, Start, Slash, Characters, Fault, Other, State, again, again_by, behind, contexts_after, last_after, place, spot_at, template_goal}
 use Rattle.ecma_lexing.specs.Steps as steps
 use Rattle.ecma_lexing.specs.Steps.{IsGoing, IsStep, IsStepBy, IsStepOf}
-use Rattle.ecma_tilings.specs.Runs.{Clean}
-use Rattle.ecma_tilings.proofs.Steps.{Goes, goes, last_going, no_again, none_some, same_some}
 use Rattle.ecma_canonical.specs.Canonical.{Edge, edge_of, gap, is_word, own_bytes, text_behind}
-use Rattle.ecma_canonical.specs.Moved.{moved, moved_from, moved_to}
-use Rattle.ecma_canonical_laws.specs.Turns.{ReadToEnd, Turn, Turns, all_spots, asked, begin_at, end_at, is_reread, is_slash_kind, kept, moved_behind, told}
-use Rattle.ecma_canonical_laws.specs.Laws.{CanonicalReads, ReadsAgain, text_start}
+use Rattle.ecma_canonical.specs.Moved.{moved_to}
+use Rattle.ecma_canonical_laws.specs.Turns.{Turn, Turns, asked, begin_at, end_at, is_reread, is_slash_kind, kept, moved_behind, told}
 use Rattle.ecma_canonical_laws.proofs.Taken.{How, Plain, Took, read_token}
 use Rattle.ecma_canonical_laws.proofs.Words.{Parted}
 use Rattle.ecma_canonical_laws.proofs.Fronts.{Free}
@@ -43,7 +32,7 @@ use Rattle.ecma_canonical_laws.proofs.Owns.{own_is}
 use Rattle.ecma_canonical_laws.proofs.Slashes.{reread}
 use Rattle.ecma_canonical_laws.proofs.Standing.{no_template, no_tpl, slash_plain, word_opens}
 use Rattle.ecma_canonical_laws.proofs.Single.{breaks_told, moved_more, sits_told, text_more}
-use Rattle.ecma_canonical_laws.proofs.Going.{EdgeOf, Quiet, QuietBy, Same, SameLast, Sits, behind_characters, going_on, make_step, never_again, plain_going, quiet_after, quiet_same, same_after, same_goal, start_no_end}
+use Rattle.ecma_canonical_laws.proofs.Going.{QuietBy, Same, Sits, going_on, make_step, never_again, quiet_same, same_after}
 use Rattle.ecma_canonical_laws.proofs.Run.{Breaks, Fits, Going, breaks_plain, fits_plain, gap_here, gap_no_bang, plain_canon}
 use Rattle.ecma_canonical_laws.proofs.Making.{characters_kind, moved_spot, placed}
 
@@ -285,12 +274,15 @@ pair whole ctx s last lo t u us one new sits quiet e k slash w p pattern cut ih 
           subst (λ q. IsStep (told u.ctx (asked q (Some (begin_at at last t.spot))) v1) (Some uspot) v2) (sym flag) (subst (λ (q : Spot). IsStep b (Some q) v2) there2 made2) in
           let after : Same (behind (told u.ctx (Some t.spot.lo) (behind s0 k.line_break k.from k.x k.rest)) k.line_break k.from w.y w.left) v2 =
           record { contexts = ap (λ cs. contexts_after w.y.token.kind (contexts_after k.x.token.kind cs)) same.contexts; last = same_after w.y.token.kind k.from full } in
-          let more = ih.reads v2 (end_at source at last u.spot) (Some (begin_at at last u.spot)) after refl (sym second.hi) second.some in
-          (
+          let more = ih.reads v2 (end_at source at last u.spot) (Some (begin_at at last u.spot)) after refl (sym second.hi) second.some in (
             more.0,
             more.1,
-            (v1, step1, moved_pair source at last t (u ∷ us) e (Some (begin_at at last t.spot)) v1 more.0
-              (v2, step2, moved_more source at last u us still (Some (begin_at at last u.spot)) v2 more.0 more.2)),
+            (
+              v1,
+              step1,
+              moved_pair source at last t (u ∷ us) e (Some (begin_at at last t.spot)) v1 more.0
+                  (v2, step2, moved_more source at last u us still (Some (begin_at at last u.spot)) v2 more.0 more.2),
+            ),
             more.3,
           );
     }

@@ -1,20 +1,17 @@
 -- One turn after the other.
-use Rattle.std.proofs.Common.{◌≡◌, ◌≢◌, ℕ, ◌+◌, ◌<◌, ◌≤◌, ◌⊎◌, inl, inr, ⊎_elim, Bool, true, false, cond, not, ◌&&◌, ◌||◌, List, [], ◌∷◌, ◌++◌, length, length-append, Option, Some, None, append_assoc, refl, sym, ap, subst, ◌∙◌, arith, nat_eq}
+use Rattle.std.proofs.Common.{◌≡◌, ℕ, ◌≤◌, ◌⊎◌, inl, inr, ⊎_elim, Bool, true, false, not, ◌||◌, List, [], ◌∷◌, ◌++◌, Option, Some, None, refl, sym, ap, subst, ◌∙◌, arith, nat_eq}
 use Rattle.std.specs.Prelude.{◌==◌, encode_utf8_all}
 use Rattle.std.specs.List.{list_any}
-use Rattle.std.proofs.lemmas.Bool.{cases_Bool, false≢true, and_parts, eqb-true}
+use Rattle.std.proofs.lemmas.Bool.{cases_Bool, false≢true, eqb-true}
 use Rattle.unicode_ident.proofs.Computing.{unicode_ident}
-use Rattle.std.proofs.lemmas.Str.{encodes-append}
 use Rattle.ecma_token.specs.declared.context.Context.{Context}
 use Rattle.ecma_token.specs.Kinds.{back_quote_kind, hash_kind, right_brace_kind, template_kind}
 use Rattle.ecma_token.specs.Tokens.{SpecToken, Spot}
 use Rattle.ecma_tokens.specs.declared.contexts.TokenContext.{TokenContext}
-use Rattle.ecma_tokens.specs.declared.contexts.TokenContext.TheVariants as t
 use Rattle.ecma_tokens.specs.Machine as machine
 use Rattle.ecma_scan.specs.Characters.{is_line_terminator}
 use Rattle.ecma_scan.specs.Classes.{is_line_char}
 use Rattle.ecma_scan.specs.Names.{is_opening}
-use Rattle.ecma_scan.specs.Places.{bytes}
 use Rattle.ecma_scan.specs.Runs.{Ends}
 use Rattle.ecma_scan.specs.Trivia.{Piece, LineTerminator, Follow, IsPiece, IsSkipped, NoHashbang, NoTrivia, breaks}
 use Rattle.ecma_scan.specs.ReadingTrivia.{Found, after_break, read, read_by}
@@ -22,31 +19,27 @@ use Rattle.ecma_scan.specs.declared.trivia.Goal.{Goal}
 use Rattle.ecma_scan.proofs.Apart.{terminator_no_space}
 use Rattle.ecma_scan.proofs.TriviaLemmas.{is_piece, one_piece}
 use Rattle.ecma_literal.specs.declared.template.Ending.{Ending}
-use Rattle.ecma_literal.specs.declared.template.Ending.TheVariants.{BackQuote, Substitution}
 use Rattle.ecma_literal.specs.Escapes.{begins}
 use Rattle.ecma_literal.specs.Numbers.{is_number_start}
 use Rattle.ecma_literal.specs.Strings.{is_quote}
 use Rattle.ecma_literal.specs.Templates as templates
 use Rattle.ecma_literal.proofs.NumeralLemmas.{numeral_starts}
 use Rattle.ecma_lexeme.specs.declared.goal.LexicalGoal.{LexicalGoal}
-use Rattle.ecma_lexeme.specs.declared.goal.LexicalGoal.TheVariants.{Div, RegExp, TemplateTail, TemplateEnd}
+use Rattle.ecma_lexeme.specs.declared.goal.LexicalGoal.TheVariants.{Div, TemplateEnd}
 use Rattle.ecma_lexeme.specs.Lexemes.{SpecLexeme, IsLexeme, IsMark}
 use Rattle.ecma_lexeme.proofs.LexemeLemmas.{none_at_end}
 use Rattle.ecma_lexeme.proofs.SortLemmas.{string_begins, word_begins}
-use Rattle.ecma_lexing.specs.States.{Last, Start, Slash, Characters, Fault, Other, State, again, behind, contexts_after, goal_of, is_start, last_after, place, spot_at, template_goal}
+use Rattle.ecma_lexing.specs.States.{Last, Start, State, behind, contexts_after, goal_of, is_start, last_after, place, spot_at, template_goal}
 use Rattle.ecma_lexing.specs.Steps.{IsGoing, IsStep}
-use Rattle.ecma_tilings.proofs.Steps.{none_some, same_some}
-use Rattle.ecma_canonical.specs.Canonical.{Edge, edge_of, gap, is_word, own_bytes, text_behind}
-use Rattle.ecma_canonical.specs.Moved.{moved_to}
-use Rattle.ecma_canonical_laws.specs.Turns.{Turn, Turns, asked, begin_at, end_at, is_reread, kept, moved_behind, told}
+use Rattle.ecma_tilings.proofs.Steps.{none_some}
+use Rattle.ecma_canonical.specs.Canonical.{Edge, edge_of, gap, is_word, text_behind}
+use Rattle.ecma_canonical_laws.specs.Turns.{Turn, Turns, kept, moved_behind, told}
 use Rattle.ecma_canonical_laws.proofs.Words.{Parted}
 use Rattle.ecma_canonical_laws.proofs.Fronts.{Free}
 use Rattle.ecma_canonical_laws.proofs.Standing.{MayStandBefore, no_inner, no_template, no_tpl, none_after, stands_before, word_opens}
-use Rattle.ecma_canonical_laws.proofs.Marks.{end_before, hash_is, heads, is_lone}
-use Rattle.ecma_canonical_laws.proofs.Slashes.{characters_before, hashbang_before}
-use Rattle.ecma_canonical_laws.proofs.Owns.{bytes_append, own_is}
-use Rattle.ecma_canonical_laws.proofs.Taken.{Bang, Ending as EndTaken, How, Plain, Tail, Took}
-use Rattle.ecma_canonical_laws.proofs.Going.{EdgeOf, GapIs, IsBehind, Quiet, QuietBy, Same, Sits, behind_characters, behind_no_start, both_start, gap_behind, gap_end, gap_none, gap_tail, going_on, make_step, never_again, no_characters, plain_going, quiet_same, same_after, same_goal, same_start, skips, start_no_end, unbroken}
+use Rattle.ecma_canonical_laws.proofs.Marks.{hash_is, heads, is_lone}
+use Rattle.ecma_canonical_laws.proofs.Taken.{Plain, Took}
+use Rattle.ecma_canonical_laws.proofs.Going.{GapIs, Same, Sits, both_start, gap_behind, gap_none, no_characters, plain_going, same_goal, skips, unbroken}
 
 -- ---- what is known of the canonical text behind a state
 
@@ -97,8 +90,13 @@ inside goal s last spot x own r g e fits is =
       going = λ t same left ctx.
           let here : t.tokens.left ≡ own ++ r = left ∙ none in
           subst (λ (o : Option LexicalGoal). IsGoing o t (Some (spot_at t.tokens.end false x.token (own ++ r) r)) (behind t false (own ++ r) x r)) (sym (same_goal s t same ∙ g))
-          (inl (x, r, subst (λ (l : List ℕ). IsLexeme goal l x r) (sym here) is,
-            ap (λ (l : List ℕ). Some (spot_at t.tokens.end false x.token l r)) (sym here), ap (λ (l : List ℕ). behind t false l x r) (sym here)));
+          (inl (
+            x,
+            r,
+            subst (λ (l : List ℕ). IsLexeme goal l x r) (sym here) is,
+            ap (λ (l : List ℕ). Some (spot_at t.tokens.end false x.token l r)) (sym here),
+            ap (λ (l : List ℕ). behind t false l x r) (sym here),
+          ));
     }
 
 -- behind trivia
@@ -115,7 +113,7 @@ plain_canon s last spot line_break x own r g gapped is free fits breaks bang = r
         line_break,
         own ++ r,
         subst (λ (l : List ℕ). IsSkipped (goal_of t.settings.ctx) (is_start t.tokens.last) l line_break (own ++ r)) (sym left)
-        (skips last spot line_break (goal_of t.settings.ctx) (is_start t.tokens.last) (own ++ r) gapped free),
+            (skips last spot line_break (goal_of t.settings.ctx) (is_start t.tokens.last) (own ++ r) gapped free),
         inl (x, r, is, refl, refl),
       ));
 }

@@ -1,18 +1,11 @@
 -- One turn in the canonical text, and the end.
-use Rattle.std.proofs.Common.{◌≡◌, ◌≢◌, ℕ, ◌+◌, ◌<◌, ◌≤◌, ◌⊎◌, inl, inr, ⊎_elim, Bool, true, false, cond, ◌&&◌, ◌||◌, List, [], ◌∷◌, ◌++◌, length, length-append, Option, Some, None, append_assoc, refl, sym, ap, subst, ◌∙◌, arith, nat_eq}
-use Rattle.std.specs.Prelude.{◌==◌, encode_utf8_all}
-use Rattle.std.proofs.lemmas.Bool.{cases_Bool, false≢true, and_parts, eqb-true}
-use Rattle.std.proofs.lemmas.Bool.Decides.{nat_tests}
+use Rattle.std.proofs.Common.{◌≡◌, ◌≢◌, ℕ, inl, inr, Bool, false, cond, ◌||◌, List, [], ◌∷◌, ◌++◌, Option, Some, None, refl, sym, ap, subst, ◌∙◌}
+use Rattle.std.specs.Prelude.{encode_utf8_all}
 use Rattle.std.proofs.lemmas.Str.{encodes-append}
 use Rattle.ecma_token.specs.declared.context.Context.{Context}
-use Rattle.ecma_token.specs.declared.syntax.Syntax.{Syntax}
-use Rattle.ecma_token.specs.declared.version.EsVersion.{EsVersion}
-use Rattle.ecma_token.specs.Kinds.{error_kind, hash_kind, template_kind}
-use Rattle.ecma_token.specs.Tokens.{SpecToken, Spot}
+use Rattle.ecma_token.specs.Kinds.{error_kind}
+use Rattle.ecma_token.specs.Tokens.{Spot}
 use Rattle.ecma_tokens.specs.Machine as machine
-use Rattle.ecma_scan.specs.Classes.{is_line_char}
-use Rattle.ecma_scan.specs.Places.{bytes}
-use Rattle.ecma_scan.specs.Runs.{Ends}
 use Rattle.ecma_scan.specs.Trivia.{NoHashbang, NoTrivia}
 use Rattle.ecma_scan.proofs.TriviaLemmas.{no_trivia}
 use Rattle.ecma_literal.specs.declared.template.Ending.{Ending}
@@ -20,20 +13,16 @@ use Rattle.ecma_literal.specs.declared.template.Ending.TheVariants.{BackQuote, S
 use Rattle.ecma_literal.specs.Templates as templates
 use Rattle.ecma_lexeme.specs.declared.goal.LexicalGoal.{LexicalGoal}
 use Rattle.ecma_lexeme.specs.declared.goal.LexicalGoal.TheVariants.{Div, RegExp, TemplateTail, TemplateEnd}
-use Rattle.ecma_lexeme.specs.Lexemes.{SpecLexeme, IsLexeme}
-use Rattle.ecma_lexing.specs.States.{Last, Start, Slash, Characters, Fault, Other, State, again, again_by, behind, contexts_after, ended, goal_of, is_start, last_after, place, spot_at, template_goal}
-use Rattle.ecma_lexing.specs.Steps as steps
-use Rattle.ecma_lexing.specs.Steps.{IsGoing, IsStep, IsStepBy, IsStepOf}
-use Rattle.ecma_tilings.specs.Runs.{Clean}
-use Rattle.ecma_tilings.proofs.Steps.{Goes, goes, last_going, no_again, none_some, same_some}
+use Rattle.ecma_lexing.specs.States.{Start, Fault, State, again, behind, contexts_after, ended, goal_of, is_start, spot_at, template_goal}
+use Rattle.ecma_lexing.specs.Steps.{IsGoing, IsStep}
+use Rattle.ecma_tilings.proofs.Steps.{Goes, goes, last_going, no_again, none_some}
 use Rattle.ecma_canonical.specs.Canonical.{Edge, edge_of, gap, own_bytes, text_behind}
-use Rattle.ecma_canonical.specs.Moved.{moved, moved_from, moved_to}
-use Rattle.ecma_canonical_laws.specs.Turns.{ReadToEnd, Turn, Turns, all_spots, asked, begin_at, end_at, is_reread, is_slash_kind, kept, moved_behind, told}
-use Rattle.ecma_canonical_laws.specs.Laws.{CanonicalReads, ReadsAgain, text_start}
-use Rattle.ecma_canonical_laws.proofs.Taken.{How, Plain, Took, no_goal, took}
-use Rattle.ecma_canonical_laws.proofs.Going.{EdgeOf, Quiet, QuietBy, Same, SameLast, Sits, behind_characters, going_on, make_step, never_again, plain_going, quiet_after, quiet_same, same_after, same_goal, start_no_end}
+use Rattle.ecma_canonical.specs.Moved.{moved_to}
+use Rattle.ecma_canonical_laws.specs.Turns.{Turn, Turns, asked, begin_at, end_at, is_reread, kept, moved_behind, told}
+use Rattle.ecma_canonical_laws.proofs.Taken.{Took, no_goal, took}
+use Rattle.ecma_canonical_laws.proofs.Going.{EdgeOf, QuietBy, Same, Sits, behind_characters, going_on, make_step, never_again, plain_going, quiet_same, same_after, same_goal, start_no_end}
 use Rattle.ecma_canonical_laws.proofs.Run.{Breaks, Canon, Fits, Going}
-use Rattle.ecma_canonical_laws.proofs.Making.{BreaksBehind, FitsBehind, gap_encoded, moved_spot, own_of, placed, sits_behind, spot_kind, took_again}
+use Rattle.ecma_canonical_laws.proofs.Making.{gap_encoded, moved_spot, own_of, placed}
 
 -- ---- what is told leaves where a state stands
 

@@ -1,7 +1,7 @@
 -- The characters of a template, a hashbang, and a slash that is read again, before other text.
-use Rattle.std.proofs.Common.{◌≡◌, ℕ, ◌⊎◌, inl, inr, ⊎_elim, Bool, true, false, cond, ◌&&◌, ◌||◌, List, [], ◌∷◌, ◌++◌, Option, Some, None, append_assoc, refl, sym, ap, subst, ◌∙◌}
+use Rattle.std.proofs.Common.{◌≡◌, ℕ, inl, inr, ⊎_elim, true, false, cond, List, [], ◌∷◌, ◌++◌, Some, refl, sym, ap, subst, ◌∙◌}
 use Rattle.std.specs.Prelude.{◌==◌}
-use Rattle.std.proofs.lemmas.Bool.{cases_Bool, false≢true, eqb-true}
+use Rattle.std.proofs.lemmas.Bool.{cases_Bool, false≢true}
 use Rattle.unicode_ident.proofs.Computing.{unicode_ident}
 use Rattle.ecma_token.specs.Tokens.{bare}
 use Rattle.ecma_token.specs.TokenViews.{token_kind_number}
@@ -18,7 +18,6 @@ use Rattle.ecma_scan.proofs.Longest.{is_read, reads}
 use Rattle.ecma_scan.proofs.RegExpLemmas.{open_slash}
 use Rattle.ecma_literal.specs.declared.template.Ending.{Ending}
 use Rattle.ecma_literal.specs.declared.template.Ending.TheVariants.{BackQuote, Substitution}
-use Rattle.ecma_literal.specs.Escapes.{begins}
 use Rattle.ecma_literal.specs.Templates.{Ends, SpellsPiece}
 use Rattle.ecma_literal.proofs.NumeralLemmas.{numeral_starts}
 use Rattle.ecma_spell_template.proofs.TaggedLemmas.{tagged_is_read}
@@ -42,8 +41,7 @@ pub characters_before : (text own : List ℕ) (x : SpecLexeme) (rest after more 
     → IsCharacters (own ++ after) x after
 characters_before text own x rest after more f e g h =
     let p = h.4 in
-    let same = same_own text own h.0 rest e (p.4 ∙ ap (λ (l : List ℕ). h.0 ++ l) (same_ending h.2 p.1 rest h.3 p.3 h.5)) in
-    (
+    let same = same_own text own h.0 rest e (p.4 ∙ ap (λ (l : List ℕ). h.0 ++ l) (same_ending h.2 p.1 rest h.3 p.3 h.5)) in (
       h.0,
       h.1,
       f,
