@@ -1,12 +1,12 @@
 -- Before a token that stands before other text stands no trivia.
-use Rattle.std.proofs.Common.{◌≡◌, ◌≢◌, ℕ, ◌⊎◌, inl, inr, ⊎_elim, Bool, true, false, not, ◌&&◌, ◌||◌, List, [], ◌∷◌, ◌++◌, refl, sym, ap, subst, ◌∙◌, arith}
+use Rattle.std.proofs.Common.{◌≡◌, ◌≢◌, ℕ, inl, inr, ⊎_elim, Bool, true, false, not, ◌&&◌, ◌||◌, List, [], ◌∷◌, ◌++◌, refl, sym, ap, subst, ◌∙◌, arith}
 use Rattle.std.specs.Prelude.{◌==◌}
 use Rattle.std.specs.List.{list_all}
 use Rattle.std.proofs.lemmas.Bool.{cases_Bool, false≢true, and_parts, eqb-true, not-true, or_cases}
 use Rattle.std.proofs.lemmas.Bool.Decides.{nat_tests}
 use Rattle.unicode_ident.proofs.Computing.{unicode_ident}
 use Rattle.ecma_token.specs.declared.token.TokenKind.{TokenKind}
-use Rattle.ecma_scan.specs.Characters.{is_decimal_digit, is_line_terminator, is_white_space, line_terminators, white_space}
+use Rattle.ecma_scan.specs.Characters.{is_line_terminator, is_white_space, line_terminators, white_space}
 use Rattle.ecma_scan.specs.Names.{is_opening}
 use Rattle.ecma_scan.specs.Punctuators.{IsAmong, punctuators}
 use Rattle.ecma_scan.specs.RegExps.{IsOpenSlash, is_comment_mark}
@@ -21,13 +21,13 @@ use Rattle.ecma_literal.specs.Numbers.{is_number_start}
 use Rattle.ecma_literal.specs.Strings.{is_quote}
 use Rattle.ecma_literal.proofs.NumeralLemmas.{numeral_starts}
 use Rattle.ecma_lexeme.specs.Lexemes.{SpecLexeme, IsMark, IsOrdinary}
-use Rattle.ecma_lexeme.proofs.SortLemmas.{one_digit, string_begins, word_begins}
+use Rattle.ecma_lexeme.proofs.SortLemmas.{string_begins, word_begins}
 use Rattle.ecma_canonical_laws.proofs.Words.{Parted, is_gap}
 use Rattle.ecma_canonical_laws.proofs.Marks.{among_holds, heads, holds_all, is_lone, is_lone_char, is_some_text, lone_first, some_text, tails}
 
 -- ---- what trivia begins with
 
-pub is_space : ℕ → Bool
+unfoldable pub is_space : ℕ → Bool
 is_space c = is_white_space c || is_line_terminator c
 
 -- No trivia begins the text.
@@ -131,6 +131,7 @@ apart_by q c e w t a b d = ⊎_elim
   where
     at : (n : ℕ) → q n ≡ false → (c == n) ≡ true → q c ≡ false
     at n f s = ap q (eqb-true c n s) ∙ f
+
     has : leads c ≡ true → q c ≡ false
     has h = ⊎_elim
         (λ (s : is_space c ≡ true). ⊎_elim

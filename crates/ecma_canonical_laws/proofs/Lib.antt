@@ -1,6 +1,13 @@
+pub mod Again
 pub mod Fronts
+pub mod Going
+pub mod Making
 pub mod Marks
 pub mod Owns
+pub mod Rereads
+pub mod Run
+pub mod Single
+pub mod Slashes
 pub mod Standing
 pub mod Strings
 pub mod Taken

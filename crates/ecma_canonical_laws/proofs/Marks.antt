@@ -1,15 +1,15 @@
 -- A number, a regular expression, a punctuator and what ends a piece of a template are read before other text as well.
-use Rattle.std.proofs.Common.{◌≡◌, ℕ, ◌≤◌, ◌⊎◌, inl, inr, ⊎_elim, Bool, true, false, not, ◌&&◌, ◌||◌, List, [], ◌∷◌, ◌++◌, length, append_assoc, refl, sym, ap, subst, ◌∙◌, arith}
+use Rattle.std.proofs.Common.{◌≡◌, ℕ, ◌≤◌, inl, inr, ⊎_elim, Bool, true, false, not, ◌&&◌, ◌||◌, List, [], ◌∷◌, ◌++◌, length, append_assoc, refl, sym, ap, subst, ◌∙◌, arith}
 use Rattle.std.specs.Prelude.{◌==◌}
 use Rattle.std.specs.List.{list_all}
-use Rattle.std.proofs.lemmas.Bool.{cases_Bool, false≢true, eqb-true, and_parts, not-true, or_cases}
-use Rattle.std.proofs.lemmas.Bool.Decides.{nat_tests}
+use Rattle.std.proofs.lemmas.Bool.{false≢true, eqb-true, and_parts, not-true, or_cases}
 use Rattle.unicode_ident.proofs.Computing.{unicode_ident}
 use Rattle.ecma_token.specs.Kinds.{back_quote_kind, hash_kind, right_brace_kind}
 use Rattle.ecma_token.specs.declared.token.TokenKind.{TokenKind}
 use Rattle.ecma_token.specs.TokenViews.{token_kind_number}
 use Rattle.ecma_scan.specs.Characters.{is_decimal_digit, is_name_part}
-use Rattle.ecma_scan.specs.Punctuators.{IsAmong, IsNumberDot, IsPunctuator, Spelling, punctuators}
+use Rattle.ecma_scan.specs.Punctuators.{IsAmong, IsNumberDot, Spelling, punctuators}
+use Rattle.ecma_scan.specs.RegExps.{IsRegExp}
 use Rattle.ecma_literal.specs.declared.template.Ending.{Ending}
 use Rattle.ecma_literal.specs.declared.template.Ending.TheVariants.{BackQuote, Substitution}
 use Rattle.ecma_literal.specs.Escapes.{begins}
@@ -17,7 +17,7 @@ use Rattle.ecma_literal.specs.Numbers.{BigInt, Meaning, Number, SpellsNumber, is
 use Rattle.ecma_literal.specs.Standing.{is_point}
 use Rattle.ecma_literal.specs.Templates.{Ends}
 use Rattle.ecma_literal.proofs.StandLemmas.{big_stands, number_stands}
-use Rattle.ecma_lexeme.specs.Lexemes.{SpecLexeme, IsEnd, IsMark, IsNumber, IsPattern}
+use Rattle.ecma_lexeme.specs.Lexemes.{SpecLexeme, IsEnd, IsMark, IsNumber}
 use Rattle.ecma_canonical_laws.proofs.Words.{Parted, is_gap, parted_begins, parted_ends, same_own}
 
 -- ---- numbers
@@ -50,16 +50,14 @@ part_32 : is_name_part 32 ≡ false
 unfolding unicode_ident
 part_32 = refl
 
-pub pattern_before : (text own : List ℕ) (x : SpecLexeme) (rest r : List ℕ) → text ≡ own ++ rest → Parted r → IsPattern text x rest → IsPattern (own ++ r) x r
-pattern_before text own x rest r e p h =
-    let body = h.0 in
-    let flags = h.1 in
-    let g = h.2.1 in
+pub reg_exp_before : (text own body flags rest r : List ℕ) → text ≡ own ++ rest → Parted r → IsRegExp text body flags rest → IsRegExp (own ++ r) body flags r
+reg_exp_before text own body flags rest r e p h =
+    let g = h.1 in
     let line : (l : List ℕ) → 47 ∷ (body ++ 47 ∷ (flags ++ l)) ≡ (47 ∷ (body ++ 47 ∷ flags)) ++ l = λ l. ap (λ (t : List ℕ). 47 ∷ t) (sym (append_assoc body (47 ∷ flags) l)) in
     let whole : text ≡ (47 ∷ (body ++ 47 ∷ flags)) ++ rest = g.1 ∙ ap (λ (t : List ℕ). 47 ∷ (body ++ 47 ∷ t)) g.2.0 ∙ line rest in
     let same = same_own text own (47 ∷ (body ++ 47 ∷ flags)) rest e whole in
     let there : own ++ r ≡ 47 ∷ (body ++ 47 ∷ (flags ++ r)) = ap (λ (t : List ℕ). t ++ r) same ∙ sym (line r) in
-    (body, flags, (h.2.0, (flags ++ r, there, (refl, g.2.1, parted_ends is_name_part r part_10 part_32 p))), h.3)
+    (h.0, (flags ++ r, there, (refl, g.2.1, parted_ends is_name_part r part_10 part_32 p)))
 
 -- ---- what holds of each punctuator
 
@@ -140,8 +138,7 @@ pub mark_before : (text own : List ℕ) (x : SpecLexeme) (rest r : List ℕ) →
 mark_before text own x rest r e p h =
     let g = h.1.1 in
     let same = same_own text own g.0 rest e g.2 in
-    let at : own ++ r ≡ g.0 ++ r = ap (λ (l : List ℕ). l ++ r) same in
-    (
+    let at : own ++ r ≡ g.0 ++ r = ap (λ (l : List ℕ). l ++ r) same in (
       h.0,
       (
         λ d. no_dot g.0 rest r h.0 g.1 (subst (λ (t : List ℕ). IsNumberDot t → ⊥) g.2 h.1.0) p (subst IsNumberDot at d),
@@ -193,6 +190,41 @@ short_by (d ∷ d2 ∷ ds) kind c r more e l f =
     let free = not-true (is_lone_char d) (and_parts (not (is_lone_char d)) (not (is_lone kind)) e).0 in
     absurd (false≢true (sym free ∙ ap is_lone_char (sym (heads c d r (d2 ∷ (ds ++ more)) f)) ∙ l))
 
+-- what follows a punctuator that begins so
+rest_by : (s : List ℕ) (kind c : ℕ) (r more : List ℕ) → single s kind ≡ true → is_lone_char c ≡ true → c ∷ r ≡ s ++ more → more ≡ r
+unfolding single
+rest_by [] kind c r more e l f = absurd (false≢true e)
+rest_by (d ∷ []) kind c r more e l f = sym (tails c d r more f)
+rest_by (d ∷ d2 ∷ ds) kind c r more e l f =
+    let free = not-true (is_lone_char d) (and_parts (not (is_lone_char d)) (not (is_lone kind)) e).0 in
+    absurd (false≢true (sym free ∙ ap is_lone_char (sym (heads c d r (d2 ∷ (ds ++ more)) f)) ∙ l))
+
+is_hash_char : ℕ → Bool
+is_hash_char c = c == 35
+
+hash_or_none : List ℕ → ℕ → Bool
+hash_or_none s kind = kind == hash_kind || not (begins is_hash_char s)
+
+all_hash : holds_all hash_or_none punctuators ≡ true
+unfolding holds_all hash_or_none is_hash_char
+all_hash = refl
+
+begins_same : (q : ℕ → Bool) (s more : List ℕ) → is_some_text s ≡ true → begins q (s ++ more) ≡ begins q s
+begins_same q [] more e = absurd (false≢true e)
+begins_same q (c ∷ cs) more e = refl
+
+-- A punctuator that begins with `#` is `#`.
+pub hash_is : (text : List ℕ) (x : SpecLexeme) (rest inner : List ℕ) → IsMark text x rest → text ≡ 35 ∷ inner → ((x.token.kind == hash_kind) ≡ true) × (rest ≡ inner)
+unfolding is_hash_char is_lone_char hash_or_none
+hash_is text x rest inner h e =
+    let g = h.1.1 in
+    let all = among_holds single punctuators g.0 h.0 all_single g.1 in
+    let one = among_holds hash_or_none punctuators g.0 h.0 all_hash g.1 in
+    let first : begins is_hash_char g.0 ≡ true = sym (begins_same is_hash_char g.0 rest (some_text g.0 h.0 g.1)) ∙ ap (begins is_hash_char) (sym g.2 ∙ e) in (
+      ap (λ (l : SpecLexeme). l.token.kind == hash_kind) h.2 ∙ or_not (token_kind_number h.0 == hash_kind) (begins is_hash_char g.0) one first,
+      rest_by g.0 (token_kind_number h.0) 35 inner rest all refl (sym e ∙ g.2),
+    )
+
 lone_dot : (c : ℕ) (r : List ℕ) → is_lone_char c ≡ true → IsNumberDot (c ∷ r) → ⊥
 unfolding is_lone_char
 lone_dot c r l d = false≢true (ap is_lone_char (sym (heads c 46 r (d.0 ∷ d.1) d.2)) ∙ l)
@@ -214,8 +246,7 @@ lone_before text own x rest r e n h =
     let l = lone_by g.0 (token_kind_number h.0) (among_holds single punctuators g.0 h.0 all_single g.1) kind in
     let at : own ++ r ≡ g.0 ++ r = ap (λ (l : List ℕ). l ++ r) same in
     let one : own ++ r ≡ l.first ∷ r = at ∙ ap (λ (t : List ℕ). t ++ r) l.whole in
-    let size : 1 ≤ length g.0 = let k = ap length l.whole in omega (arith, k) in
-    (
+    let size : 1 ≤ length g.0 = let k = ap length l.whole in omega (arith, k) in (
       h.0,
       (
         λ d. lone_dot l.first r l.char (subst IsNumberDot one d),

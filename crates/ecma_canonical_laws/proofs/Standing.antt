@@ -1,10 +1,9 @@
 -- The kinds of tokens outside of templates, and what stands before other text of these.
-use Rattle.std.proofs.Common.{◌≡◌, ◌≢◌, ℕ, ◌<◌, ◌⊎◌, inl, inr, ⊎_elim, Bool, true, false, not, ◌&&◌, ◌||◌, List, [], ◌∷◌, ◌++◌, Option, Some, None, refl, sym, ap, subst, ◌∙◌, arith, cond}
+use Rattle.std.proofs.Common.{◌≡◌, ℕ, ◌<◌, ◌⊎◌, inl, inr, ⊎_elim, Bool, true, false, not, ◌||◌, List, [], ◌∷◌, ◌++◌, Some, None, refl, sym, ap, subst, ◌∙◌, arith}
 use Rattle.std.specs.Prelude.{◌==◌, encode_utf8_all}
-use Rattle.std.proofs.lemmas.Bool.{cases_Bool, false≢true, and_parts, not-true}
+use Rattle.std.proofs.lemmas.Bool.{cases_Bool, false≢true, not-true}
 use Rattle.std.proofs.lemmas.Bool.Decides.{nat_tests}
-use Rattle.unicode_ident.proofs.Computing.{unicode_ident}
-use Rattle.ecma_token.specs.Kinds.{back_quote_kind, div_assign_kind, div_kind, dollar_brace_kind, hash_kind, left_brace_kind, right_brace_kind, template_kind}
+use Rattle.ecma_token.specs.Kinds.{back_quote_kind, dollar_brace_kind, hash_kind, left_brace_kind, right_brace_kind, template_kind}
 use Rattle.ecma_token.specs.TokenViews.{token_kind_number}
 use Rattle.ecma_token.specs.Words.{kind_of}
 use Rattle.ecma_tokens.specs.declared.contexts.TokenContext.{TokenContext}
@@ -14,12 +13,11 @@ use Rattle.ecma_scan.specs.Names.{is_opening}
 use Rattle.ecma_scan.specs.Punctuators.{punctuators}
 use Rattle.ecma_literal.specs.Escapes.{begins}
 use Rattle.ecma_literal.specs.Numbers.{BigInt, Meaning, Number}
-use Rattle.ecma_literal.proofs.NumeralLemmas.{numeral_starts}
 use Rattle.ecma_lexeme.specs.declared.goal.LexicalGoal.{LexicalGoal}
-use Rattle.ecma_lexeme.specs.declared.goal.LexicalGoal.TheVariants.{Div, RegExp, TemplateTail, TemplateEnd}
-use Rattle.ecma_lexeme.specs.Lexemes.{SpecLexeme, IsMark, IsOutside, IsPattern, numeral_lexeme}
-use Rattle.ecma_lexeme.proofs.SortLemmas.{string_begins, word_begins}
-use Rattle.ecma_lexing.specs.States.{Last, Start, Slash, Characters, Fault, Other, contexts_after, last_after, opened, template_goal}
+use Rattle.ecma_lexeme.specs.declared.goal.LexicalGoal.TheVariants.{Div, TemplateTail, TemplateEnd}
+use Rattle.ecma_lexeme.specs.Lexemes.{SpecLexeme, IsMark, IsOutside, numeral_lexeme}
+use Rattle.ecma_lexeme.proofs.SortLemmas.{word_begins}
+use Rattle.ecma_lexing.specs.States.{Last, Start, Slash, Characters, Fault, Other, contexts_after, opened, template_goal}
 use Rattle.ecma_stepping.proofs.Bounds.{word_past}
 use Rattle.ecma_canonical.specs.Canonical.{is_word}
 use Rattle.ecma_canonical_laws.specs.Turns.{is_slash_kind}

@@ -1,5 +1,5 @@
 -- A string is read before other text as well.
-use Rattle.std.proofs.Common.{◌≡◌, ℕ, inl, inr, Bool, List, [], ◌∷◌, ◌++◌, append_assoc, refl, sym, ap, subst, ◌∙◌}
+use Rattle.std.proofs.Common.{◌≡◌, ℕ, inl, inr, Bool, List, [], ◌∷◌, ◌++◌, append_assoc, refl, sym, ap, ◌∙◌}
 use Rattle.ecma_literal.specs.declared.escape.Escape.{Escape}
 use Rattle.ecma_literal.specs.declared.escape.Escape.TheVariants.{Continuation, Code, Legacy}
 use Rattle.ecma_literal.specs.Escapes.{IsEscape, begins, is_decimal, is_eight_or_nine, is_line_feed, is_octal}
@@ -81,8 +81,7 @@ string_before text own x rest r e h =
     let i = pieces_again s.0 h.3.0 s.1 rest s.4 in
     let whole : text ≡ (s.0 ∷ (i.own ++ s.0 ∷ [])) ++ rest = s.3 ∙ ap (λ (l : List ℕ). s.0 ∷ l) (i.whole ∙ sym (append_assoc i.own (s.0 ∷ []) rest)) in
     let same = same_own text own (s.0 ∷ (i.own ++ s.0 ∷ [])) rest e whole in
-    let there : own ++ r ≡ s.0 ∷ (i.own ++ s.0 ∷ r) = ap (λ (l : List ℕ). l ++ r) same ∙ ap (λ (l : List ℕ). s.0 ∷ l) (append_assoc i.own (s.0 ∷ []) r) in
-    (
+    let there : own ++ r ≡ s.0 ∷ (i.own ++ s.0 ∷ r) = ap (λ (l : List ℕ). l ++ r) same ∙ ap (λ (l : List ℕ). s.0 ∷ l) (append_assoc i.own (s.0 ∷ []) r) in (
       h.0,
       h.1,
       h.2,

@@ -1,10 +1,10 @@
 -- How a step takes a token.
-use Rattle.std.proofs.Common.{◌≡◌, ◌≢◌, ℕ, ◌⊎◌, inl, inr, ⊎_elim, Bool, true, false, List, [], ◌∷◌, ◌++◌, Option, Some, None, refl, sym, ap, subst, ◌∙◌}
+use Rattle.std.proofs.Common.{◌≡◌, ◌≢◌, ℕ, ◌⊎◌, inl, inr, Bool, false, List, [], ◌∷◌, ◌++◌, Option, Some, None, refl, sym, ap}
 use Rattle.ecma_token.specs.Kinds.{error_kind}
 use Rattle.ecma_token.specs.Tokens.{Spot}
 use Rattle.ecma_tokens.specs.declared.contexts.TokenContext.{TokenContext}
 use Rattle.ecma_tokens.specs.declared.contexts.TokenContext.TheVariants as t
-use Rattle.ecma_scan.specs.Trivia.{IsHashbang, IsSkipped, NoHashbang}
+use Rattle.ecma_scan.specs.Trivia.{IsHashbang, IsSkipped}
 use Rattle.ecma_lexeme.specs.declared.goal.LexicalGoal.{LexicalGoal}
 use Rattle.ecma_lexeme.specs.declared.goal.LexicalGoal.TheVariants.{Div, RegExp, TemplateTail, TemplateEnd}
 use Rattle.ecma_lexeme.specs.Lexemes.{SpecLexeme, IsCharacters, IsEnd, IsLexeme}
@@ -66,7 +66,7 @@ read_token s line_break from spot n goal new (inl h) = (h.0, h.1, h.2, same_some
 read_token s line_break from spot n goal new (inr (inl h)) = absurd (n (ap (λ (p : Spot). p.token.kind) (same_some h.2)))
 read_token s line_break from spot n goal new (inr (inr h)) = none_some (sym h.1)
 
-no_goal : (cs : List TokenContext) (l : Last) (goal : LexicalGoal) → goal ≢ TemplateTail → goal ≢ TemplateEnd → template_goal cs l ≡ Some goal → ⊥
+pub no_goal : (cs : List TokenContext) (l : Last) (goal : LexicalGoal) → goal ≢ TemplateTail → goal ≢ TemplateEnd → template_goal cs l ≡ Some goal → ⊥
 no_goal [] l goal a b e = none_some e
 no_goal (t.BraceStmt ∷ cs) l goal a b e = none_some e
 no_goal (t.BraceExpr ∷ cs) l goal a b e = none_some e

@@ -1,5 +1,5 @@
 -- A name is read before other text as well.
-use Rattle.std.proofs.Common.{◌≡◌, ◌≢◌, ℕ, ◌⊎◌, inl, inr, ⊎_elim, Bool, true, false, ◌||◌, List, [], ◌∷◌, ◌++◌, append_assoc, refl, sym, ap, subst, ◌∙◌}
+use Rattle.std.proofs.Common.{◌≡◌, ℕ, ◌⊎◌, inl, inr, ⊎_elim, Bool, true, false, ◌||◌, List, [], ◌∷◌, ◌++◌, append_assoc, refl, sym, ap, subst, ◌∙◌}
 use Rattle.std.specs.Prelude.{◌==◌}
 use Rattle.std.proofs.lemmas.Bool.{cases_Bool, eqb-true}
 use Rattle.std.proofs.lemmas.List.{append_cancel_right}
@@ -100,8 +100,7 @@ marked_before false text own name rest r e h = ap (λ (l : List ℕ). l ++ r) (s
 pub word_before : (text own : List ℕ) (x : SpecLexeme) (rest r : List ℕ) → text ≡ own ++ rest → Parted r → IsWord text x rest → IsWord (own ++ r) x r
 word_before text own x rest r e p h =
     let s = spelt true text h.0 rest h.2.1 in
-    let same = same_own text own s.own rest e s.whole in
-    (
+    let same = same_own text own s.own rest e s.whole in (
       h.0,
       h.1,
       (h.2.0, subst (λ (l : List ℕ). Spell true (l ++ r) h.0 r) (sym same) (s.again r), parted_ends is_continuing r ends_10 ends_32 p),
