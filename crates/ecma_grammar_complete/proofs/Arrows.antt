@@ -4,7 +4,7 @@ use Rattle.std.proofs.lemmas.Bool.{ne_eqb, eq-eqb, cases_eq, eqb-true, and_parts
 use Rattle.ecma_token.specs.declared.place.Span.{Span}
 use Rattle.ecma_token.specs.Kinds.{arrow_kind, async_kind, function_kind, left_paren_kind, right_paren_kind, left_brace_kind}
 use Rattle.ecma_tree.specs.Tree.{Tree, Trees, none, more, pack, unpack, ident, arrow_expr, binding_ident, array_pat, object_pat, assign_pat, rest_pat, key_value_pat_prop, assign_pat_prop, hole}
-use Rattle.ecma_syntax.specs.Input.{Input, Code, Takes, kind, kind2, brk, brk2, lo, text, rest, span, first_span, is_word, no_name, barred, always_reserved, with_in, in_arrow, binding}
+use Rattle.ecma_syntax.specs.Input.{Input, Code, Takes, kind, kind2, brk, brk2, lo, text, rest, span, first_span, is_word, no_name, barred, always_reserved, with_in, in_arrow, binding, in_list}
 use Rattle.ecma_syntax.specs.Shape.{is_binding, is_place, is_item_pat, is_pattern_prop, is_bound_name, is_hole, is_rest}
 use Rattle.ecma_grammar.specs.Parts.{Part, part, By, IsEmpty, Sorted, Listed}
 use Rattle.ecma_grammar.specs.Patterns.{Item, Property}
@@ -14,10 +14,10 @@ use Rattle.ecma_reading.specs.Source.{Fault, ◌>>=◌, Stand, Inner, name}
 use Rattle.ecma_reading.specs.Cover.{binds_names, all_bind}
 use Rattle.ecma_reading.specs.Expressions.{Elements, elements_by, arrow_by, ident_end, word_by, async_by, async_group, group_by, group_end, params_of, prefix_by, arrows, function_expr_by}
 use Rattle.ecma_reading.specs.Reading.{readers}
-use Rattle.ecma_grammar_complete.proofs.Yields.{lm, from, coded, first_at, IsName, named, Reads, then_reads, Is, then_is, then_past, then_past_reads, then_name, after_one, onto, here, if_no, if_yes}
-use Rattle.ecma_grammar_complete.proofs.Trees.{Covered, CoveredAll, size, sizes, reach, reaches, by_cases, no_kind}
-use Rattle.ecma_grammar_complete.proofs.Prefixes.{named_word, arrowed}
-use Rattle.ecma_grammar_complete.proofs.Lists.{pack_unpack, hole_is}
+use Rattle.ecma_grammar_complete_base.proofs.Yields.{lm, from, coded, first_at, IsName, named, Reads, then_reads, Is, then_is, then_past, then_past_reads, then_name, after_one, onto, here, if_no, if_yes, reads_deep, reads_map}
+use Rattle.ecma_grammar_complete_base.proofs.Trees.{Covered, CoveredAll, size, sizes, reach, reaches, by_cases, no_kind}
+use Rattle.ecma_grammar_complete_rules.proofs.Prefixes.{named_word, arrowed}
+use Rattle.ecma_grammar_complete_rules.proofs.Lists.{pack_unpack, hole_is}
 use Rattle.ecma_grammar_complete.proofs.Covers.{FitAll, Covering, Covered_list, covers_found}
 
 -- ---- patterns that bind are patterns that assign, and have names alone
@@ -147,19 +147,32 @@ unpack_packed : (xs : List Tree) → unpack (pack xs) ≡ xs
 unpack_packed [] = refl
 unpack_packed (x ∷ xs) = ap (λ ys. x ∷ ys) (unpack_packed xs)
 
--- an arrow's body, which is an expression, and what it is read as
+-- an arrow's body, and what it is read as
 pub record Body_read (inner : Inner Input) (c : Code) (i : Bool) (e : Tree) (m n r : Input) (P : Type 0) : Type 0 where
   pub arrow : arrowed m ≡ true
-  pub rest_is : rest m ≡ n
-  pub no_brace : kind n ≡ left_brace_kind → ⊥
-  pub found : (h : List ℕ) → Reads (from n h) (inner.expr (in_arrow i c) 2 (from n h)) (Is e r) P
+  pub found : (start : Stand Input) (ps : List Tree) (h : List ℕ) → Reads (from m h) (arrow_by lm inner c start i ps (from m h)) (Is (arrow_expr (span (lo start.source) r.last) (pack ps) e i) r) P
+
+-- an expression, and statements in braces
+pub expression_body : (inner : Inner Input) (c : Code) (i : Bool) (e : Tree) (m n r : Input) (P : Type 0) → arrowed m ≡ true → rest m ≡ n → (kind n ≡ left_brace_kind → ⊥) → ((h : List ℕ) → Reads (from n h) (inner.expr (in_arrow i c) 2 (from n h)) (Is e r) P) → Body_read inner c i e m n r P
+unfolding arrow_by
+expression_body inner c i e m n r P a q b y = record {
+  arrow = a;
+  found = λ start ps h. if_no (eqb (kind (rest m)) left_brace_kind) _ _ _ _ (subst (λ (x : Input). eqb (kind x) left_brace_kind ≡ false) (sym q) (ne_eqb (kind n) left_brace_kind b))
+      (then_past m n h (inner.expr (in_arrow i c) 2) _ e r P _ _ q (y h) (λ u. u) (λ l. here refl));
+}
+
+pub block_body : (inner : Inner Input) (c : Code) (i : Bool) (e : Tree) (m n r : Input) (P : Type 0) → arrowed m ≡ true → rest m ≡ n → kind n ≡ left_brace_kind → ((h : List ℕ) → Reads (from n h) (inner.body (in_list (with_in (in_arrow i c))) (from n h)) (Is e r) P) → Body_read inner c i e m n r P
+unfolding arrow_by
+block_body inner c i e m n r P a q b y = record {
+  arrow = a;
+  found = λ start ps h. if_yes (eqb (kind (rest m)) left_brace_kind) _ _ _ _ (subst (λ (x : Input). eqb (kind x) left_brace_kind ≡ true) (sym q) (eq-eqb (kind n) left_brace_kind b))
+      (then_past m n h (inner.body (in_list (with_in (in_arrow i c)))) _ e r P _ _ q (y h) (λ u. u) (λ l. here refl));
+}
 
 module _ (inner : Inner Input) (c : Code) (ts : Input) (k : List ℕ) where
   -- after the parameters
   arrow_body : (i : Bool) (ps : Trees) (s : Span) (e : Tree) (m n r : Input) (j : List ℕ) (P : Type 0) {Q : Type 0} → Body_read inner c i e m n r P → (P → Q) → s ≡ span (lo ts) r.last → Reads (from m j) (arrow_by lm inner c (from ts k) i (unpack ps) (from m j)) (Is (arrow_expr s ps e i) r) Q
-  unfolding arrow_by
-  arrow_body i ps s e m n r j P y f p = if_no (eqb (kind (rest m)) left_brace_kind) _ _ _ _ (subst (λ (x : Input). eqb (kind x) left_brace_kind ≡ false) (sym y.rest_is) (ne_eqb (kind n) left_brace_kind y.no_brace))
-      (then_past m n j (inner.expr (in_arrow i c) 2) _ e r P _ _ y.rest_is (y.found j) f (λ l. here (ap (λ (z : Span). arrow_expr z (pack (unpack ps)) e i) (sym p) ∙ ap (λ ys. arrow_expr s ys e i) (pack_unpack ps))))
+  arrow_body i ps s e m n r j P y f p = reads_deep f (reads_map _ (λ z v. (v.0 ∙ (ap (λ (w : Span). arrow_expr w (pack (unpack ps)) e i) (sym p) ∙ ap (λ ys. arrow_expr s ys e i) (pack_unpack ps)), v.1)) (y.found (from ts k) (unpack ps) j))
 
   ident_arrow : (q : Span) (x : List ℕ) (s : Span) (e : Tree) (m n r : Input) (P : Type 0) {Q : Type 0} → rest ts ≡ m → q ≡ span (lo ts) m.last → Body_read inner c false e m n r P → (P → Q) → s ≡ span (lo ts) r.last
       → Reads (from m k) (ident_end lm inner c (from ts k) x (from m k)) (Is (arrow_expr s (more (binding_ident q (ident q x)) none) e false) r) Q

@@ -2,34 +2,35 @@
 use Rattle.std.proofs.Common.{◌≡◌, ℕ, zero, suc, ◌+◌, ◌<◌, ◌≤◌, ◌⊎◌, inl, inr, max, Bool, true, false, not, ◌&&◌, ◌||◌, ◌==◌, eqb, leb, ltb, List, [], ◌∷◌, ◌++◌, Option, Some, refl, sym, ap, ◌∙◌, subst, ⊎_elim, true≢false, append_assoc, arith, cond, Result, Ok}
 use Rattle.std.proofs.lemmas.Bool.{leb-true, and_parts, or_left, false_from_ne_true, eqb-true, eq-eqb, cases_Bool, cases_eq, le-leb, le-ltb, and_from, and_left}
 use Rattle.ecma_token.specs.declared.place.Span.{Span}
-use Rattle.ecma_token.specs.Kinds.{assign_kind, in_kind, new_kind, import_kind, target_kind, meta_kind, back_quote_kind, question_mark_kind, hash_kind, async_kind, comma_kind, dot_kind, left_paren_kind, left_bracket_kind, right_bracket_kind, right_paren_kind, function_kind, arrow_kind, left_brace_kind}
-use Rattle.ecma_tree.specs.Tree.{Tree, Trees, none, more, pack, unpack, this_expr, null_lit, bool_lit, ident, str_lit, number_lit, big_int_lit, regex_lit, paren_expr, array_lit, unary_expr, update_expr, await_expr, bin_expr, cond_expr, seq_expr, member_expr, call_expr, new_expr, computed_prop_name, ident_name, private_name, expr_or_spread, hole, absent, list, tpl, tagged_tpl, opt_chain_expr, opt_call, super, import, super_prop_expr, meta_prop_expr, yield_expr, object_lit, key_value_prop, assign_prop, spread_element, binding_ident, array_pat, object_pat, assign_pat, rest_pat, key_value_pat_prop, assign_pat_prop, expr_pat, assign_expr, arrow_expr, block_stmt}
-use Rattle.ecma_syntax.specs.Input.{TakesWord, text, no_name, barred, brk2, Input, Code, kind, kind2, brk, lo, rest, span, first_span, with_in, is_word, Takes, in_arrow}
+use Rattle.ecma_token.specs.Kinds.{assign_kind, in_kind, new_kind, import_kind, target_kind, meta_kind, back_quote_kind, question_mark_kind, hash_kind, async_kind, comma_kind, dot_kind, left_paren_kind, left_bracket_kind, right_bracket_kind, right_paren_kind, function_kind, arrow_kind, left_brace_kind, class_kind}
+use Rattle.ecma_tree.specs.Tree.{Tree, Trees, none, more, pack, unpack, this_expr, null_lit, bool_lit, ident, str_lit, number_lit, big_int_lit, regex_lit, paren_expr, array_lit, unary_expr, update_expr, await_expr, bin_expr, cond_expr, seq_expr, member_expr, call_expr, new_expr, computed_prop_name, ident_name, private_name, expr_or_spread, hole, absent, list, tpl, tagged_tpl, opt_chain_expr, opt_call, super, import, super_prop_expr, meta_prop_expr, yield_expr, object_lit, key_value_prop, assign_prop, spread_element, binding_ident, array_pat, object_pat, assign_pat, rest_pat, key_value_pat_prop, assign_pat_prop, expr_pat, assign_expr, arrow_expr, block_stmt, fn_expr, class_expr}
+use Rattle.ecma_syntax.specs.Input.{in_list, TakesWord, text, no_name, barred, brk2, Input, Code, kind, kind2, brk, lo, rest, span, first_span, with_in, is_word, Takes, in_arrow}
 use Rattle.ecma_syntax.specs.Operators.{binary_level, right_level, operates, goes_expr, is_assign_op}
 use Rattle.ecma_syntax.specs.Shape.{is_target, is_structured, is_simple, is_chain, is_private, level, ends, last_ends, fits_left}
 use Rattle.ecma_grammar.specs.Expressions.{is_update_op, is_unary_op, Call, Member, Dotted, TaggedTemplate, Optional, ChainMember, ChainCall, AccessedName, Bracketed, ArgumentList, SuperCall, ImportCall, Yield, Binary, Assignment}
 use Rattle.ecma_grammar.specs.Parts.{Part, part, CommaThen, Expr, Listed}
-use Rattle.ecma_grammar.specs.Functions.{ArrowPattern, ArrowExpression, BareName, Async}
+use Rattle.ecma_grammar.specs.Functions.{ArrowPattern, ArrowHead, BareName, Async, Body}
 use Rattle.ecma_grammar.specs.Grammar.{Spells, parts}
 use Rattle.ecma_reading.specs.Source.{Stand, Inner, go_on, Fault, unexpected}
 use Rattle.ecma_reading.specs.Expressions.{assign_by, private_in, private_by, binary_by, member_by, index_by, call_by, chain_by, template_by, on_chain, extended, word_by, async_by, async_group, element_step, element_by, expr_by, expr_from, loop_by, loop_step, step_by, prefix_by, elements_by, array_by}
 use Rattle.ecma_reading.specs.Cover.{to_target}
 use Rattle.ecma_reading.specs.Reading.{readers}
-use Rattle.ecma_grammar_complete.proofs.Yields.{reads_deep, first_at, IsName, lm, from, len, coded, then_reads, Is, then_is, Loops, loop_on, looped, shorter, Reads, here, past_here, ended, if_no, if_yes, then_past, then_past_reads, after_one, then_noted}
-use Rattle.ecma_grammar_complete.proofs.Levels.{cond_no, cond_yes, quits_by, quits, ends_operand, goes_comma, closed_by, comma_after, Follow, sober, sober_by, Asked, right_asked, right_five, right_most, tail, tail_high, tail_over, tail_stops, ends_high, fits, operated, binary_four, goes_binary, quiet}
-use Rattle.ecma_grammar_complete.proofs.Trees.{Covered, CoveredAll, size, sizes, reach, reaches, begins, starts, no_kind, cut, cut_listed, cut_template, dotted_cut, bracket_cut, accessed_cut, arguments_cut, elements, callee_sort, chain_level, ends_low, takes, some_assign, some_binary, some_update, some_word, by_unary, by_update}
-use Rattle.ecma_grammar_complete.proofs.Prefixes.{literal_found, prefix_str, prefix_num, prefix_big, prefix_regex, prefix_this, prefix_null, prefix_true, prefix_false, prefix_unary, prefix_update, prefix_await, unary_found, update_found, await_found, prefix_ident, named_word, arrowed, no_arrow}
-use Rattle.ecma_grammar_complete.proofs.Lists.{Finds, Has, pack_unpack, elements_found, one_asked, two_asked}
-use Rattle.ecma_grammar_complete.proofs.Groups.{paren_found, group_found}
-use Rattle.ecma_grammar_complete.proofs.Steps.{step_binary, step_cond, step_index, step_member, step_call, step_update, binary_found, cond_found, index_found, named_found, call_found}
-use Rattle.ecma_grammar_complete.proofs.Members.{private_found, Lists, dotted_member, indexed, called, chain_name, chain_index, chain_call, step_chain, step_template, template_found, prefix_template}
-use Rattle.ecma_grammar_complete.proofs.Objects.{object_found}
-use Rattle.ecma_grammar_complete.proofs.Words.{super_call, super_index, super_name, meta_found, yield_bare, yield_operand, yield_star, import_found, import_elements}
+use Rattle.ecma_grammar_complete_base.proofs.Yields.{reads_deep, first_at, IsName, lm, from, len, coded, then_reads, Is, then_is, Loops, loop_on, looped, shorter, Reads, here, past_here, ended, if_no, if_yes, then_past, then_past_reads, after_one, then_noted}
+use Rattle.ecma_grammar_complete_base.proofs.Levels.{cond_no, cond_yes, quits_by, quits, ends_operand, goes_comma, closed_by, comma_after, Follow, sober, sober_by, Asked, right_asked, right_five, right_most, tail, tail_high, tail_over, tail_stops, ends_high, fits, operated, binary_four, goes_binary, quiet}
+use Rattle.ecma_grammar_complete_base.proofs.Trees.{function_word, Covered, CoveredAll, size, sizes, reach, reaches, begins, starts, no_kind, callee_sort, chain_level, ends_low, takes, some_assign, some_binary, some_update, some_word, by_unary, by_update}
+use Rattle.ecma_grammar_complete_rules.proofs.Lengths.{taken, dotted_cut, bracket_cut, accessed_cut, elements_cut, arguments_cut, template_cut}
+use Rattle.ecma_grammar_complete_rules.proofs.Prefixes.{literal_found, prefix_str, prefix_num, prefix_big, prefix_regex, prefix_this, prefix_null, prefix_true, prefix_false, prefix_unary, prefix_update, prefix_await, unary_found, update_found, await_found, prefix_ident, named_word, arrowed, no_arrow}
+use Rattle.ecma_grammar_complete_rules.proofs.Lists.{Finds, Deep, Has, pack_unpack, elements_found, one_asked, two_asked}
+use Rattle.ecma_grammar_complete_rules.proofs.Groups.{paren_found, group_found}
+use Rattle.ecma_grammar_complete_rules.proofs.Steps.{step_binary, step_cond, step_index, step_member, step_call, step_update, binary_found, cond_found, index_found, named_found, call_found}
+use Rattle.ecma_grammar_complete_rules.proofs.Members.{private_found, Lists, dotted_member, indexed, called, chain_name, chain_index, chain_call, step_chain, step_template, template_found, prefix_template}
+use Rattle.ecma_grammar_complete_rules.proofs.Objects.{object_found}
+use Rattle.ecma_grammar_complete_rules.proofs.Words.{super_call, super_index, super_name, meta_found, yield_bare, yield_operand, yield_star, import_found, import_elements}
 use Rattle.ecma_grammar_complete.proofs.Covers.{Cover_read, Covered_list, covers_found}
-use Rattle.ecma_grammar_complete.proofs.Arrows.{Body_read, arrow_bare, arrow_paren, async_paren, async_bare, params_loosen, params_names}
+use Rattle.ecma_grammar_complete.proofs.Arrows.{Body_read, expression_body, block_body, arrow_bare, arrow_paren, async_paren, async_bare, params_loosen, params_names}
 use Rattle.ecma_grammar_complete.proofs.Coverings.{coverings, structured_read, structured_starts}
-use Rattle.ecma_grammar_complete.proofs.News.{callee_of, callee_found, no_dot, bare_found, with_found}
-use Rattle.ecma_grammar_complete.proofs.Finds.{bare_by, paren_goes, quiet_binary, far_binary, goes_question, goes_update, goes_bracket, goes_dot, finds, Bare, Comes, reads}
+use Rattle.ecma_grammar_complete_rules.proofs.News.{callee_of, callee_found, no_dot, bare_found, with_found}
+use Rattle.ecma_grammar_complete_rules.proofs.Finds.{bare_by, paren_goes, quiet_binary, far_binary, goes_question, goes_update, goes_bracket, goes_dot, finds, Bare, Comes, reads}
 
 -- a call of the name `async`, which the reader of words reads whole, since its parenthesis may hold an arrow's parameters
 async_call : (inner : Inner Input) (c : Code) (ts : Input) (k : List ℕ) (q s : Span) (x : List ℕ) (xs : Trees) (r : Input) (P : Type 0) {Q : Type 0} → IsName c ts → kind ts ≡ async_kind → text ts ≡ x → q ≡ first_span ts → kind (rest ts) ≡ left_paren_kind → brk (rest ts) ≡ false
@@ -134,7 +135,9 @@ two_or (str_lit s u w) c ts r g h l q = omega arith
 two_or (number_lit s v w) c ts r g h l q = omega arith
 two_or (big_int_lit s x y w) c ts r g h l q = omega arith
 two_or (regex_lit s e f) c ts r g h l q = omega arith
-two_or _ c ts r g h l q = absurd g
+two_or (fn_expr s n f) c ts r g h l q = omega arith
+two_or (class_expr s n k) c ts r g h l q = omega arith
+two_or _ c ts r g h l q = absurd (omega (arith, l))
 
 accessed_starts : (x : Tree) (c : Code) (m r : Input) → AccessedName true c (part x (λ y. Spells x y)) m r → (kind m ≡ left_paren_kind → ⊥) × (kind m ≡ left_bracket_kind → ⊥)
 accessed_starts (ident_name s n) c m r h = (λ e. true≢false (sym h.1.0.0 ∙ ap is_word e), λ e. true≢false (sym h.1.0.0 ∙ ap is_word e))
@@ -207,7 +210,7 @@ unfolding prefix_by array_by
 prefix_array inner c ts k s xs m r P {Q = Q} e q y i p = rw e (then_noted ts m k (elements_by lm inner c true right_bracket_kind) _ _ (Has (unpack xs) r) P (Is (array_lit s xs) r) Q (λ u. omega (arith, e, u)) (λ u. omega (arith, e, u)) q (y k) i
     (λ x h. (ap (λ ys. array_lit (span (lo ts) x.1.source.last) (pack ys)) h.0 ∙ ap (λ ys. array_lit (span (lo ts) x.1.source.last) ys) (pack_unpack xs) ∙ ap (λ (z : Input). array_lit (span (lo ts) z.last) xs) h.1 ∙ ap (λ z. array_lit z xs) (sym p), h.1)))
 
-module _ (z d : ℕ) (ih : (e : ℕ) → Comes z e) (p : Bool) (c : Code) (l : ℕ) (ts : Input) (k : List ℕ) (W : Tree × Stand Input → Type 0) (n : ℕ) (one : 1 ≤ l) where
+module _ (z d : ℕ) (ih : (e : ℕ) → Comes z e) (deep : Deep z d) (p : Bool) (c : Code) (l : ℕ) (ts : Input) (k : List ℕ) (W : Tree × Stand Input → Type 0) (n : ℕ) (one : 1 ≤ l) where
   abbrev found : Finds z d
   found = finds z d ih
 
@@ -268,7 +271,7 @@ module _ (z d : ℕ) (ih : (e : ℕ) → Comes z e) (p : Bool) (c : Code) (l : �
       → On (tagged_tpl s o (tpl q es qs)) r → Ours
   comes_tagged s q o es qs r sz szs g gs h le ne nes K =
       hangs (tagged_tpl s o (tpl q es qs)) o h.0 r 15 20 sz g h.2.1 h.2.0 (bare_by o ts h.0 (λ e. omega (arith, e, h.3.1.0))) ne (omega (arith, le)) h.3.1.0 refl (goes_quote c h.0 h.3.1.0) (omega arith) (omega (arith, le))
-      (omega (arith, takes 15 h.0 h.3.0 h.3.1.0 (omega arith) h.3.1.2, cut_template true (coded p c) es qs h.3.0 r gs h.3.2))
+      (omega (arith, takes 15 h.0 h.3.0 h.3.1.0 (omega arith) h.3.1.2, template_cut true (coded p c) es qs h.3.0 r h.3.2))
       (λ j. step_template inner c (from ts k) o h.0 j _ _ h.3.1.0 h.2.0 h.1 (then_is (template_by lm inner c true (from h.0 j)) _ (tpl q es qs) r (d < reaches es) _ _ (template_found z d found p c true q es qs h.0 r j (reaches es) szs gs h.3 (omega arith)) (λ u. omega arith)
       (λ i. here (ap (λ (y : Span). tagged_tpl y o (tpl q es qs)) (sym h.4))))) K
 
@@ -292,7 +295,7 @@ module _ (z d : ℕ) (ih : (e : ℕ) → Comes z e) (p : Bool) (c : Code) (l : �
 
   optional_index : (s t b : Span) (o e : Tree) (r : Input) → ChainMember (coded p c) s true t (part o (λ y. Spells o y)) (λ m n. Bracketed 1 (coded p c) b (part e (λ y. Spells e y)) m n) (λ m n. Bracketed 1 (coded p c) b (part e (λ y. Spells e y)) m n) ts r
       → size o < z → size e < z → Covered o → Covered e → l ≤ 19 → max (reach o) (suc (reach e)) ≤ n → On (opt_chain_expr s true (member_expr t o (computed_prop_name b e))) r → Ours
-  optional_index s t b o e r h so se go ge le ne K = comes_optional (opt_chain_expr s true (member_expr t o (computed_prop_name b e))) o h.0 h.1 r so go h.2 h.3 le (omega arith) (bracket_cut 1 (coded p c) b e h.1 r (λ x y w. cut e _ x y ge w) h.4)
+  optional_index s t b o e r h so se go ge le ne K = comes_optional (opt_chain_expr s true (member_expr t o (computed_prop_name b e))) o h.0 h.1 r so go h.2 h.3 le (omega arith) (bracket_cut 1 (coded p c) b e h.1 r (omega arith) h.4)
       (λ j. subst (λ (y : Span). Reads (from h.1 j) (chain_by lm inner c (from ts k) o (from h.1 j)) (Is (opt_chain_expr s true (member_expr y o (computed_prop_name b e))) r) (suc d < n)) (h.5 ∙ sym h.6)
       (chain_index inner c ts k o h.1 j s b e h.4.0 h.4.1 r (d < reach e) h.4.2.0 h.4.2.2 (inside e h.4.0 h.4.1 se ge h.4.3 h.4.4.0) (λ u. omega arith) h.4.4.0 h.4.4.2 h.4.5 h.5)) K
 
@@ -304,14 +307,14 @@ module _ (z d : ℕ) (ih : (e : ℕ) → Comes z e) (p : Bool) (c : Code) (l : �
 
   optional_call : (s t : Span) (f : Tree) (xs : Trees) (r : Input) → ChainCall (coded p c) s true t (part f (λ y. Spells f y)) (parts xs) ts r → size f < z → sizes xs < z → Covered f → CoveredAll xs → l ≤ 19 → max (reach f) (suc (reaches xs)) ≤ n → On (opt_chain_expr s true (opt_call t f xs)) r → Ours
   optional_call s t f xs r h so se go ge le ne K =
-      comes_optional (opt_chain_expr s true (opt_call t f xs)) f h.0 h.1 r so go h.2 h.3 le (omega arith) (arguments_cut (coded p c) xs h.1 r (λ x y w. cut_listed false (coded p c) 8 elements xs x y (omega arith) ge w) h.4)
+      comes_optional (opt_chain_expr s true (opt_call t f xs)) f h.0 h.1 r so go h.2 h.3 le (omega arith) (arguments_cut (coded p c) xs h.1 r h.4)
       (λ j. subst (λ (y : Span). Reads (from h.1 j) (chain_by lm inner c (from ts k) f (from h.1 j)) (Is (opt_chain_expr s true (opt_call y f xs)) r) (suc d < n)) (h.5 ∙ sym h.6)
       (chain_call inner c ts k f h.1 j s xs h.4.0 r (d < reaches xs) h.4.1.0 h.4.1.2 (args xs h.4.0 r se ge h.4.2) (λ u. omega arith) h.5)) K
 
   chained_index : (s t b : Span) (o e : Tree) (A : Input → Input → Type 0) (r : Input) → ChainMember (coded p c) s false t (part o (λ y. Spells o y)) (λ m n. Bracketed 1 (coded p c) b (part e (λ y. Spells e y)) m n) A ts r
       → size o < z → size e < z → Covered o → Covered e → l ≤ 19 → max (reach o) (suc (reach e)) ≤ n → On (opt_chain_expr s false (member_expr t o (computed_prop_name b e))) r → Ours
   chained_index s t b o e A r h so se go ge le ne K = let lv = chain_level o h.1 in
-      comes_chained (opt_chain_expr s false (member_expr t o (computed_prop_name b e))) o 9 20 h.0 r so go h.1 h.2 le (omega arith) h.3.2.0 refl (goes_bracket c h.0 h.3.2.0) (omega arith) (omega arith) (bracket_cut 1 (coded p c) b e h.0 r (λ x y w. cut e _ x y ge w) h.3)
+      comes_chained (opt_chain_expr s false (member_expr t o (computed_prop_name b e))) o 9 20 h.0 r so go h.1 h.2 le (omega arith) h.3.2.0 refl (goes_bracket c h.0 h.3.2.0) (omega arith) (omega arith) (bracket_cut 1 (coded p c) b e h.0 r (omega arith) h.3)
       (λ j. step_index inner c (from ts k) o h.0 j _ _ h.3.2.0 (omega (arith, lv)) (subst (λ (y : Span). Reads (from h.0 j) (index_by lm inner c (from ts k) o (from h.0 j)) (Is (opt_chain_expr s false (member_expr y o (computed_prop_name b e))) r) (suc d < n)) (h.4 ∙ sym h.5)
       (subst (λ (q : Bool). Reads (from h.0 j) (index_by lm inner c (from ts k) o (from h.0 j)) (Is (on_chain lm inner q s (member_expr s o (computed_prop_name b e))) r) (suc d < n)) h.1
       (indexed inner c ts k o h.0 j s b e h.3.0 h.3.1 r (d < reach e) h.3.2.2 (inside e h.3.0 h.3.1 se ge h.3.3 h.3.4.0) (λ u. omega arith) h.3.4.0 h.3.4.2 h.3.5 h.4)))) K
@@ -326,7 +329,7 @@ module _ (z d : ℕ) (ih : (e : ℕ) → Comes z e) (p : Bool) (c : Code) (l : �
   chained_call : (s t : Span) (f : Tree) (xs : Trees) (r : Input) → ChainCall (coded p c) s false t (part f (λ y. Spells f y)) (parts xs) ts r → size f < z → sizes xs < z → Covered f → CoveredAll xs → l ≤ 19 → max (reach f) (suc (reaches xs)) ≤ n → On (opt_chain_expr s false (opt_call t f xs)) r → Ours
   chained_call s t f xs r h so se go ge le ne K = let lv = chain_level f h.1 in
       comes_chained (opt_chain_expr s false (opt_call t f xs)) f 7 19 h.0 r so go h.1 h.2 le (omega arith) h.3.1.0 refl (paren_goes c h.0 h.3.1.0) (omega arith) (omega arith)
-      (arguments_cut (coded p c) xs h.0 r (λ x y w. cut_listed false (coded p c) 8 elements xs x y (omega arith) ge w) h.3)
+      (arguments_cut (coded p c) xs h.0 r h.3)
       (λ j. step_call inner c (from ts k) f h.0 j _ _ h.3.1.0 (omega (arith, lv)) (subst (λ (y : Span). Reads (from h.0 j) (call_by lm inner c (from ts k) f (from h.0 j)) (Is (opt_chain_expr s false (opt_call y f xs)) r) (suc d < n)) (h.4 ∙ sym h.5)
       (subst (λ (ys : Trees). Reads (from h.0 j) (call_by lm inner c (from ts k) f (from h.0 j)) (Is (opt_chain_expr s false (opt_call s f ys)) r) (suc d < n)) (pack_unpack xs)
       (subst (λ (y : Tree). Reads (from h.0 j) (call_by lm inner c (from ts k) f (from h.0 j)) (Is y r) (suc d < n)) (cond_yes (is_chain f) _ _ _ h.1 refl)
@@ -383,14 +386,14 @@ module _ (z d : ℕ) (ih : (e : ℕ) → Comes z e) (p : Bool) (c : Code) (l : �
       (then_is (step_by lm inner c (from ts k) u (from m j)) _ (extended u y (span (lo ts) h.1.last)) h.1 (suc d < n) _ _
       (step_comma_found u y m h.0 h.1 j (d < reach y) h.2.0 h.2.2 (λ i. found y p c 2 h.0 h.1 i (omega arith) g.0 h.3.1 (omega arith) (omega arith) two_asked h.3.0 (subst (λ (x : Input). Follow c (ends y) 2 x) (sym h.4) fo)) (λ v. omega arith)) (λ v. v)
       (λ i. ended _ _ _ (ap (λ (t : Tree). go_on t) (ext y (span (lo ts) h.1.last) ∙ ap (λ (x : Input). seq_expr (span (lo ts) x.last) (pack (ds ++ y ∷ []))) h.4 ∙ ap (λ (x : Span). seq_expr x (pack (ds ++ y ∷ []))) (sym sp)), h.4)))) (λ v. v)
-      (omega (arith, takes 14 m h.0 h.2.0 (omega arith) h.2.2, cut y _ h.0 h.1 g.0 h.3.1, ap (λ (x : Input). len x) h.4)) K
+      (omega (arith, takes 14 m h.0 h.2.0 (omega arith) h.2.2, taken y _ h.0 h.1 (omega (arith, h.3.0)) h.3.1, ap (λ (x : Input). len x) h.4)) K
   seq_loop y (more y2 ys) ds u m r j s ext sz g h fo ne le sp K =
       loop_on (loop_step lm inner c l (from ts k)) u (seq_expr (span (lo ts) h.1.last) (pack (ds ++ y ∷ []))) m h.1 j (suc d < n) W _
       (if_no (ltb (goes_expr c (ends u) m) l) _ _ _ _ (le-ltb (goes_expr c (ends u) m) l (omega (arith, goes_comma c (ends u) m h.2.0)))
       (then_is (step_by lm inner c (from ts k) u (from m j)) _ (extended u y (span (lo ts) h.1.last)) h.1 (suc d < n) _ _
       (step_comma_found u y m h.0 h.1 j (d < reach y) h.2.0 h.2.2 (λ i. found y p c 2 h.0 h.1 i (omega arith) g.0 h.3.1 (omega arith) (omega arith) two_asked h.3.0 (comma_after c (ends y) 2 h.1 h.4.2.0 (omega arith))) (λ v. omega arith)) (λ v. v)
       (λ i. here (ap (λ (t : Tree). go_on t) (ext y (span (lo ts) h.1.last)))))) (λ v. v)
-      (omega (arith, takes 14 m h.0 h.2.0 (omega arith) h.2.2, cut y _ h.0 h.1 g.0 h.3.1))
+      (omega (arith, takes 14 m h.0 h.2.0 (omega arith) h.2.2, taken y _ h.0 h.1 (omega (arith, h.3.0)) h.3.1))
       (λ i. seq_loop y2 ys (ds ++ y ∷ []) (seq_expr (span (lo ts) h.1.last) (pack (ds ++ y ∷ []))) h.1 r i s (λ e v. ap (λ xs. seq_expr v (pack (xs ++ e ∷ []))) (unpack_pack (ds ++ y ∷ []))) (omega arith) g.1 h.4 fo (omega arith) le sp
       (subst (λ xs. On (seq_expr s (pack xs)) r) (sym (append_assoc ds (y ∷ []) (y2 ∷ unpack ys))) K))
 
@@ -419,7 +422,7 @@ module _ (z d : ℕ) (ih : (e : ℕ) → Comes z e) (p : Bool) (c : Code) (l : �
       let low : ends a ≤ 1 = ends_low a _ ts h.0 g.0 (omega (arith, binary_four op o, fi.0)) h.4 in
       let gm : goes_expr c (ends a) h.0 ≡ binary_level op = goes_binary c (ends a) op h.0 h.2 low h.5.0 in
       after _ a h.0 r (omega arith) g.0 h.4 (record { stop = omega (arith, gm, fi.1); sober = sober_by c op h.0 h.5.0 (quiet_binary c op h.2); quits = λ q. absurd (omega (arith, q, low)) }) (bare_by a ts h.0 (λ e. omega (arith, e, h.5.0, far_binary c op h.2)))
-      (omega arith) (omega (arith, fi.0)) (omega (arith, gm)) (omega (arith, takes op h.0 h.1 h.5.0 (some_binary c op h.2) h.5.3, cut b _ h.1 r g.1 h.6.1))
+      (omega arith) (omega (arith, fi.0)) (omega (arith, gm)) (omega (arith, takes op h.0 h.1 h.5.0 (some_binary c op h.2) h.5.3, taken b _ h.1 r (omega (arith, h.6.0, right_five op o)) h.6.1))
       (λ j. step_binary inner c (from ts k) a h.0 j _ _ (subst (λ (o : ℕ). operates c o ≡ true) (sym h.5.0) h.2) (subst (λ (o : ℕ). fits_left o a ≡ true) (sym h.5.0) h.3)
       (binary_found inner c ts k a h.0 j _ op s b h.1 r (d < reach b) h.5.0 h.5.1 h.5.3 (λ i. found b p c (right_level op) h.1 r i (omega arith) g.1 h.6.1 (omega (arith, right_five op o)) (omega (arith, right_most op)) (right_asked op o) h.6.0 (record { stop = fo.stop; sober = fo.sober; quits = fo.quits })) (λ u. omega arith) h.7)) K
 
@@ -433,7 +436,7 @@ module _ (z d : ℕ) (ih : (e : ℕ) → Comes z e) (p : Bool) (c : Code) (l : �
       let listed : (j : List ℕ) → Reads (from h.3.0 j) (elements_by lm inner c false right_paren_kind (from h.3.0 j)) (Has (unpack xs) r) (d < reaches xs) = λ j. elements_found z d found p c false 8 refl refl refl xs h.3.0 r j (reaches xs) (omega arith) g.1 h.3.2 (omega arith) in
       ⊎_elim
       (λ (b : Bare f ts h.0). after _ f h.0 r (omega arith) g.0 h.2.1 (record { stop = omega arith; sober = sober_by c 7 h.0 h.3.1.0 refl; quits = λ q. absurd (omega (arith, q, z0)) }) b (omega arith) (omega (arith, h.2.0)) (omega arith)
-      (omega (arith, takes 7 h.0 h.3.0 h.3.1.0 (omega arith) h.3.1.2, cut_listed false (coded p c) 8 elements xs h.3.0 r (omega arith) g.1 h.3.2))
+      (omega (arith, takes 7 h.0 h.3.0 h.3.1.0 (omega arith) h.3.1.2, elements_cut (coded p c) xs h.3.0 r h.3.2))
       (λ j. step_call inner c (from ts k) f h.0 j _ _ h.3.1.0 h.2.0 (call_found inner c ts k f h.0 j _ s xs h.3.0 r (d < reaches xs) h.1 h.3.1.2 listed (λ u. omega arith) h.4)) K)
       (λ (b : IsAsync f ts h.0).
       let v : Spells (ident b.0 b.1) (coded p c) ts h.0 = subst (λ (y : Tree). Spells y (coded p c) ts h.0) b.2 h.2.1 in
@@ -471,7 +474,7 @@ module _ (z d : ℕ) (ih : (e : ℕ) → Comes z e) (p : Bool) (c : Code) (l : �
       (record { stop = subst (λ (e : ℕ). goes_expr c e h.0 < tail w.tree) (sym w.last) (omega (arith, goes_assign op h.0 h.2 h.5.0, w.none_after)); sober = sober_by c op h.0 h.5.0 (quiet_assign op h.2); quits = λ q. absurd (omega (arith, q, w.last)) })
       (bare_by w.tree ts h.0 (λ e. let u : 60 ≤ op = leb-true 60 op (and_parts (leb 60 op) (leb op 75) h.2).0 in omega (arith, e, h.5.0))) (omega (arith, w.shallow)) (omega (arith, w.tight))
       (subst (λ (e : ℕ). l ≤ goes_expr c e h.0) (sym w.last) (omega (arith, goes_assign op h.0 h.2 h.5.0)))
-      (omega (arith, takes op h.0 h.1 h.5.0 (some_assign op h.2) h.5.2, cut b _ h.1 r gb h.6.1))
+      (omega (arith, takes op h.0 h.1 h.5.0 (some_assign op h.2) h.5.2, taken b _ h.1 r (omega (arith, h.6.0)) h.6.1))
       (λ j. assigns s op w.tree a b h.0 h.1 r j h.2 h.5.0 h.5.2 (w.target j) sb gb h.6 h.7 (omega arith) fo) K
 
   -- a pattern in brackets, which is read as an array or an object first
@@ -487,9 +490,9 @@ module _ (z d : ℕ) (ih : (e : ℕ) → Comes z e) (p : Bool) (c : Code) (l : �
       (if_no (ltb (goes_expr c (ends y.0) h.0) l) _ _ _ _ (le-ltb (goes_expr c (ends y.0) h.0) l (subst (λ (i : ℕ). l ≤ goes_expr c i h.0) (sym v.closed) (omega (arith, goes_assign op h.0 h.2 h.5.0))))
       (then_is (step_by lm inner c (from ts k) y.0 (from h.0 y.1.commas)) _ (assign_expr s op a b) r (suc d < n) _ _
       (assigns s op y.0 a b h.0 h.1 r y.1.commas h.2 h.5.0 h.5.2 (subst (λ (i : ℕ). to_target i y.1.commas y.0 ≡ Ok a) (sym e0) (v.target y.1.commas ∙ v.refines.so false refl y.1.commas (λ n q. refl))) sb gb h.6 h.7 (omega arith) fo) (λ u. u) (λ i. here refl))) (λ u. u)
-      (omega (arith, takes op h.0 h.1 h.5.0 (some_assign op h.2) h.5.2, cut b _ h.1 r gb h.6.1)) K)))))
+      (omega (arith, takes op h.0 h.1 h.5.0 (some_assign op h.2) h.5.2, taken b _ h.1 r (omega (arith, h.6.0)) h.6.1)) K)))))
 
-  -- arrows whose body is an expression
+  -- arrows
   named_arrow : (ps : Trees) (s : Span) (e : Tree) (m o r : Input) → BareName (coded p c) (parts ps) ts m → Body_read inner c false e m o r (d < reach e) → (d < reach e → suc d < n) → s ≡ span (lo ts) r.last → l ≤ 2 → On (arrow_expr s ps e false) r → Ours
   named_arrow none s e m o r w y f sp le K = absurd w
   named_arrow (more (binding_ident q (ident t x)) none) s e m o r w y f sp le K = let v = w.1.1.1 in begin (arrow_expr s (more (binding_ident q (ident t x)) none) e false) r (word_no_hash v.0.0) le
@@ -511,24 +514,24 @@ module _ (z d : ℕ) (ih : (e : ℕ) → Comes z e) (p : Bool) (c : Code) (l : �
   params_covered ps m o sz g h = covers_found z d (coverings z (λ e. finds z e ih) d) p (with_in c) false 8 (coded p c) refl refl refl ps m o k (reaches ps) sz g (params_loosen p c ps m o h) (omega arith)
 
   body_read : (i : Bool) (e : Tree) (m o r : Input) → size e < z → Covered e → brk m ≡ false → Takes (coded p c) arrow_kind m o → (kind o ≡ left_brace_kind → ⊥) → Expr 2 (in_arrow i (coded p c)) (part e (λ y. Spells e y)) o r → Follow c (ends e) 2 r → Body_read inner c i e m o r (d < reach e)
-  body_read i e m o r sz g b t nb h fo = record {
-    arrow = and_from (kind m == arrow_kind) _ (eq-eqb (kind m) arrow_kind t.0) (ap not b);
-    rest_is = t.2;
-    no_brace = nb;
-    found = λ j. found e p (in_arrow i c) 2 o r j sz g h.1 (omega arith) (omega arith) two_asked h.0 (record { stop = fo.stop; sober = fo.sober; quits = fo.quits });
-  }
+  body_read i e m o r sz g b t nb h fo = expression_body inner c i e m o r (d < reach e) (and_from (kind m == arrow_kind) _ (eq-eqb (kind m) arrow_kind t.0) (ap not b)) t.2 nb
+      (λ j. found e p (in_arrow i c) 2 o r j sz g h.1 (omega arith) (omega arith) two_asked h.0 (record { stop = fo.stop; sober = fo.sober; quits = fo.quits }))
 
-  comes_arrow : (i : Bool) (s : Span) (ps : Trees) (e : Tree) (r : Input) → ArrowExpression (coded p c) s (parts ps) (part e (λ y. Spells e y)) i ts r → sizes ps < z → size e < z → CoveredAll ps → Covered e → l ≤ 2 → suc (max (reaches ps) (reach e)) ≤ n → Follow c (ends e) 2 r → On (arrow_expr s ps e i) r → Ours
-  comes_arrow false s ps e r h sp se gp ge le ne fo K = let a = h.1 in let y = body_read false e a.1 h.0 r se ge a.4 a.5 h.2 h.3 fo in ⊎_elim
-      (λ (w : BareName (coded p c) (parts ps) a.0 a.1). named_arrow ps s e a.1 h.0 r (subst (λ (u : Input). BareName (coded p c) (parts ps) u a.1) (sym a.2) w) y (λ u. omega arith) h.4 le K)
+  block_read : (i : Bool) (s : Span) (ss : Trees) (m o r : Input) → size (block_stmt s ss) < z → brk m ≡ false → Takes (coded p c) arrow_kind m o → Body (in_list (with_in (in_arrow i (coded p c)))) s (parts ss) o r → Body_read inner c i (block_stmt s ss) m o r (d < reach (block_stmt s ss))
+  block_read i s ss m o r sz b t h = block_body inner c i (block_stmt s ss) m o r (d < reach (block_stmt s ss)) (and_from (kind m == arrow_kind) _ (eq-eqb (kind m) arrow_kind t.0) (ap not b)) t.2 h.1.0
+      (λ j. deep.bodies s ss p (in_list (with_in (in_arrow i c))) o r j sz h)
+
+  comes_arrow : (i : Bool) (s : Span) (ps : Trees) (e : Tree) (o r : Input) (a : ArrowHead i (coded p c) (parts ps) ts o) → Body_read inner c i e a.1 o r (d < reach e) → s ≡ span (lo ts) r.last → sizes ps < z → CoveredAll ps → l ≤ 2 → suc (max (reaches ps) (reach e)) ≤ n → On (arrow_expr s ps e i) r → Ours
+  comes_arrow false s ps e o r a y q sp gp le ne K = ⊎_elim
+      (λ (w : BareName (coded p c) (parts ps) a.0 a.1). named_arrow ps s e a.1 o r (subst (λ (u : Input). BareName (coded p c) (parts ps) u a.1) (sym a.2) w) y (λ u. omega arith) q le K)
       (λ (w : (m : Input) × Takes (coded p c) left_paren_kind a.0 m × Listed false (ArrowPattern (coded p c)) (coded p c) 8 (parts ps) m a.1).
       let g : kind ts ≡ left_paren_kind = ap (λ (u : Input). kind u) a.2 ∙ w.1.0 in
-      begin (arrow_expr s ps e false) r (not_hash 7 g refl) le (arrow_paren inner c ts k ps s e w.0 a.1 h.0 r (d < reach e) (d < reaches ps) g (ap (λ (u : Input). rest u) a.2 ∙ w.1.2) (params_covered ps w.0 a.1 sp gp w.2) (λ u. omega arith) (params_names p c ps w.0 a.1 w.2) y (λ u. omega arith) h.4) K)
+      begin (arrow_expr s ps e false) r (not_hash 7 g refl) le (arrow_paren inner c ts k ps s e w.0 a.1 o r (d < reach e) (d < reaches ps) g (ap (λ (u : Input). rest u) a.2 ∙ w.1.2) (params_covered ps w.0 a.1 sp gp w.2) (λ u. omega arith) (params_names p c ps w.0 a.1 w.2) y (λ u. omega arith) q) K)
       a.3
-  comes_arrow true s ps e r h sp se gp ge le ne fo K = let a = h.1 in let y = body_read true e a.1 h.0 r se ge a.4 a.5 h.2 h.3 fo in ⊎_elim
-      (λ (w : BareName (coded p c) (parts ps) a.0 a.1). async_arrow ps s e a.0 a.1 h.0 r a.2 w y (λ u. omega arith) h.4 le K)
+  comes_arrow true s ps e o r a y q sp gp le ne K = ⊎_elim
+      (λ (w : BareName (coded p c) (parts ps) a.0 a.1). async_arrow ps s e a.0 a.1 o r a.2 w y (λ u. omega arith) q le K)
       (λ (w : (m : Input) × Takes (coded p c) left_paren_kind a.0 m × Listed false (ArrowPattern (coded p c)) (coded p c) 8 (parts ps) m a.1).
-      begin (arrow_expr s ps e true) r (not_hash 143 a.2.0.0 refl) le (async_paren inner c ts k ps s e a.0 w.0 a.1 h.0 r (d < reach e) (d < reaches ps) a.2.0.0 a.2.0.1 a.2.0.3 a.2.1 w.1.0 w.1.2 (params_covered ps w.0 a.1 sp gp w.2) (λ u. omega arith) (params_names p c ps w.0 a.1 w.2) y (λ u. omega arith) h.4) K)
+      begin (arrow_expr s ps e true) r (not_hash 143 a.2.0.0 refl) le (async_paren inner c ts k ps s e a.0 w.0 a.1 o r (d < reach e) (d < reaches ps) a.2.0.0 a.2.0.1 a.2.0.3 a.2.1 w.1.0 w.1.2 (params_covered ps w.0 a.1 sp gp w.2) (λ u. omega arith) (params_names p c ps w.0 a.1 w.2) y (λ u. omega arith) q) K)
       a.3
 
   comes_by : (t : Tree) (r : Input) → size t < suc z → Covered t → Spells t (coded p c) ts r → l ≤ level t → Follow c (ends t) (tail t) r → Bare t ts r → reach t ≤ n → On t r → Ours
@@ -565,7 +568,7 @@ module _ (z d : ℕ) (ih : (e : ℕ) → Comes z e) (p : Bool) (c : Code) (l : �
       let low : ends a ≤ 1 = ends_low a _ ts h.0 g.0 h.4.0 h.4.1 in
       let gm : goes_expr c (ends a) h.0 ≡ 3 = goes_question c (ends a) h.0 h.5.0 low dots in
       after _ a h.0 r (omega arith) g.0 h.4.1 (record { stop = omega (arith, gm, tail_over a 4 (omega arith) (omega arith) h.4.0); sober = sober_by c 19 h.0 h.5.0 refl; quits = λ q. absurd (omega (arith, q, low)) }) (bare_by a ts h.0 (λ e. omega (arith, e, h.5.0)))
-      (omega arith) (omega (arith, h.4.0)) (omega (arith, gm)) (omega (arith, takes 19 h.0 h.1 h.5.0 (omega arith) h.5.2, cut b _ h.1 h.2 g.1 h.6.1, takes 17 h.2 h.3 h.7.0 (omega arith) h.7.2, cut t _ h.3 r g.2 h.8.1))
+      (omega arith) (omega (arith, h.4.0)) (omega (arith, gm)) (omega (arith, takes 19 h.0 h.1 h.5.0 (omega arith) h.5.2, taken b _ h.1 h.2 (omega (arith, h.6.0)) h.6.1, takes 17 h.2 h.3 h.7.0 (omega arith) h.7.2, taken t _ h.3 r (omega (arith, h.8.0)) h.8.1))
       (λ j. step_cond inner c (from ts k) a h.0 j _ _ h.5.0 dots h.4.0
       (cond_found inner c ts k a h.0 j _ s b t h.1 h.2 h.3 r (d < reach b) (d < reach t) h.5.2 (λ i. found b p (with_in c) 2 h.1 h.2 i (omega arith) g.1 h.6.1 (omega arith) (omega arith) two_asked h.6.0 (closed_by (with_in c) (ends b) 2 17 h.2 h.7.0 refl refl (omega arith))) (λ u. omega arith) h.7.0 h.7.2
       (λ i. found t p c 2 h.3 r i (omega arith) g.2 h.8.1 (omega arith) (omega arith) two_asked h.8.0 (record { stop = fo.stop; sober = fo.sober; quits = fo.quits })) (λ u. omega arith) h.9)) K
@@ -574,7 +577,7 @@ module _ (z d : ℕ) (ih : (e : ℕ) → Comes z e) (p : Bool) (c : Code) (l : �
       let gm : goes_expr c (ends o) h.0 ≡ 20 = subst (λ (x : ℕ). goes_expr c x h.0 ≡ 20) (sym z0) (goes_bracket c h.0 h.3.2.0) in
       let ta : tail o ≡ 21 = tail_high o (omega (arith, h.2.0)) in
       after _ o h.0 r (omega arith) g.0 h.2.1 (record { stop = omega arith; sober = sober_by c 9 h.0 h.3.2.0 refl; quits = λ q. absurd (omega (arith, q, z0)) }) (bare_by o ts h.0 (λ x. omega (arith, x, h.3.2.0))) (omega arith) (omega arith) (omega arith)
-      (omega (arith, takes 9 h.0 h.3.0 h.3.2.0 (omega arith) h.3.2.2, cut e _ h.3.0 h.3.1 g.1 h.3.3.1, takes 10 h.3.1 r h.3.4.0 (omega arith) h.3.4.2))
+      (omega (arith, takes 9 h.0 h.3.0 h.3.2.0 (omega arith) h.3.2.2, taken e _ h.3.0 h.3.1 (omega (arith, h.3.3.0)) h.3.3.1, takes 10 h.3.1 r h.3.4.0 (omega arith) h.3.4.2))
       (λ j. step_index inner c (from ts k) o h.0 j _ _ h.3.2.0 h.2.0 (index_found inner c ts k o h.0 j _ s t e h.3.0 h.3.1 r (d < reach e) h.1 h.3.2.2
       (λ i. found e p (with_in c) 1 h.3.0 h.3.1 i (omega arith) g.1 h.3.3.1 (omega arith) (omega arith) one_asked h.3.3.0 (closed_by (with_in c) (ends e) 1 10 h.3.1 h.3.4.0 refl refl (omega arith))) (λ u. omega arith) h.3.4.0 h.3.4.2 h.3.5 h.4)) K
   comes_by (member_expr s o x) r sz g h le fo ba ne K = comes_member s o x r (omega arith) g.0 h le (omega arith) K
@@ -628,12 +631,12 @@ module _ (z d : ℕ) (ih : (e : ℕ) → Comes z e) (p : Bool) (c : Code) (l : �
   comes_by (private_name s x) r sz g h le fo ba ne K = absurd (omega arith)
   comes_by (computed_prop_name s x) r sz g h le fo ba ne K = absurd (omega arith)
   comes_by (list xs) r sz g h le fo ba ne K = absurd (omega arith)
-  comes_by (object_lit s ps) r sz g h le fo ba ne K = begin _ r (not_hash 11 h.1.0 refl) le (object_found z d found p c s ps ts h.0 r k (omega arith) g h.1.0 h.1.2 h.2 h.3 (λ u. omega arith)) K
+  comes_by (object_lit s ps) r sz g h le fo ba ne K = begin _ r (not_hash 11 h.1.0 refl) le (object_found z d found p c deep s ps ts h.0 r k (omega arith) g h.1.0 h.1.2 h.2 h.3 (λ u. omega arith)) K
   comes_by (assign_expr s op a b) r sz g h le fo ba ne K = ⊎_elim
       (λ (q : is_structured a ≡ true). comes_pattern s op a b r (omega arith) (omega arith) g.0 g.1 h q le (omega arith) (record { stop = fo.stop; sober = fo.sober; quits = fo.quits }) K)
       (λ (q : is_structured a ≡ false). comes_simple s op a b r (omega arith) (omega arith) g.0 g.1 h q le (omega arith) (record { stop = fo.stop; sober = fo.sober; quits = fo.quits }) K) (cases_Bool (is_structured a))
-  comes_by (arrow_expr s ps (block_stmt b ss) i) r sz g h le fo ba ne K = absurd g.1
-  comes_by (arrow_expr s ps e i) r sz g h le fo ba ne K = comes_arrow i s ps e r h (omega arith) (omega arith) g.0 g.1 le ne (record { stop = fo.stop; sober = fo.sober; quits = fo.quits }) K
+  comes_by (arrow_expr s ps (block_stmt b ss) i) r sz g h le fo ba ne K = comes_arrow i s ps (block_stmt b ss) h.0 r h.1 (block_read i b ss h.1.1 h.0 r (omega arith) h.1.4 h.1.5 h.2) h.3 (omega arith) g.0 le ne K
+  comes_by (arrow_expr s ps e i) r sz g h le fo ba ne K = comes_arrow i s ps e h.0 r h.1 (body_read i e h.1.1 h.0 r (omega arith) g.1 h.1.4 h.1.5 h.2 h.3 (record { stop = fo.stop; sober = fo.sober; quits = fo.quits })) h.4 (omega arith) g.0 le ne K
   comes_by (binding_ident s i) r sz g h le fo ba ne K = absurd (omega arith)
   comes_by (array_pat s xs) r sz g h le fo ba ne K = absurd (omega arith)
   comes_by (object_pat s ps) r sz g h le fo ba ne K = absurd (omega arith)
@@ -649,13 +652,13 @@ module _ (z d : ℕ) (ih : (e : ℕ) → Comes z e) (p : Bool) (c : Code) (l : �
   comes_by (super s) r sz g h le fo ba ne K = absurd (omega arith)
   comes_by (import s) r sz g h le fo ba ne K = absurd (omega arith)
   comes_by (expr_or_spread s i e) r sz g h le fo ba ne K = absurd (omega arith)
-  comes_by _ r sz g h le fo ba ne K = absurd g
+  comes_by (fn_expr s x f) r sz g h le fo ba ne K = begin (fn_expr s x f) r (word_no_hash (function_word s x f (coded p c) ts r h)) le (reads_deep (λ u. omega arith) (deep.functions s x f p c ts r k sz h)) K
+  comes_by (class_expr s x q) r sz g h le fo ba ne K = begin (class_expr s x q) r (not_hash class_kind h.2.0 refl) le (reads_deep (λ u. omega arith) (deep.classes s x q p c ts r k sz h)) K
+  comes_by _ r sz g h le fo ba ne K = absurd (omega arith)
 
-comes : (z d : ℕ) → Comes z d
-comes zero d t p c l ts r k W n sz g h one le fo ba ne K = absurd (omega arith)
-comes (suc z) d t p c l ts r k W n sz g h one le fo ba ne K = comes_by z d (λ e. comes z e) p c l ts k W n one t r sz g h le fo ba ne K
+pub comes_none : (d : ℕ) → Comes zero d
+comes_none d t p c l ts r k W n sz g h one le fo ba ne K = absurd (omega arith)
 
--- What a covered tree spells, and what doesn't go on at a level that is asked for, is read by calls so deep: the answer is the tree with the
--- tokens that it doesn't spell, or too deep where the tree reaches deeper.
-pub read_finds : (d : ℕ) (t : Tree) (p : Bool) (c : Code) (l : ℕ) (ts r : Input) (k : List ℕ) → Covered t → Spells t (coded p c) ts r → 1 ≤ l → l < 20 → Asked l → l ≤ level t → Follow c (ends t) l r → Reads (from ts k) ((readers lm d).expr c l (from ts k)) (Is t r) (d < reach t)
-read_finds d t p c l ts r k g h one most asked le fo = finds (suc (size t)) d (λ e. comes (suc (size t)) e) t p c l ts r k (omega arith) g h one most asked le fo
+-- One step of the induction on the size of a tree: trees so large come to the loop where smaller ones do, and what is nested in them is read.
+pub comes_next : (z d : ℕ) → ((e : ℕ) → Comes z e) → Deep z d → Comes (suc z) d
+comes_next z d ih deep t p c l ts r k W n sz g h one le fo ba ne K = comes_by z d ih deep p c l ts k W n one t r sz g h le fo ba ne K

@@ -12,12 +12,12 @@ use Rattle.ecma_reading.specs.Source.{Fault, Stand, Inner, Step, finished}
 use Rattle.ecma_reading.specs.Cover.{to_item, initialised}
 use Rattle.ecma_reading.specs.Expressions.{expr_by, expr_from, loop_by, loop_step, prefix_by}
 use Rattle.ecma_reading.specs.Reading.{readers}
-use Rattle.ecma_grammar_complete.proofs.Yields.{lm, from, coded, After, Reads, reads_map, reads_deep, then_reads, Is, ended, here, too_deep, if_no, if_yes, Loops, Goes, loop_after, looped}
-use Rattle.ecma_grammar_complete.proofs.Levels.{tail, Follow}
-use Rattle.ecma_grammar_complete.proofs.Trees.{Covered, CoveredAll, size, sizes, reach, reaches}
-use Rattle.ecma_grammar_complete.proofs.Lists.{Finds, two_asked}
+use Rattle.ecma_grammar_complete_base.proofs.Yields.{lm, from, coded, After, Reads, reads_map, reads_deep, then_reads, Is, ended, here, too_deep, if_no, if_yes, Loops, Goes, loop_after, looped}
+use Rattle.ecma_grammar_complete_base.proofs.Levels.{tail, Follow}
+use Rattle.ecma_grammar_complete_base.proofs.Trees.{Covered, CoveredAll, size, sizes, reach, reaches}
+use Rattle.ecma_grammar_complete_rules.proofs.Lists.{Finds, two_asked}
 use Rattle.ecma_grammar_complete.proofs.Covers.{Fit, Refines, Cover_read, Covering, array_cover, object_cover, target_least}
-use Rattle.ecma_grammar_complete.proofs.Finds.{Comes, finds}
+use Rattle.ecma_grammar_complete_rules.proofs.Finds.{Comes, finds}
 
 -- what is read of a pattern in brackets, by the readers of one call more
 pub structured_read : (z d : ℕ) (f : Finds z d) (cov : Covering z d) (p : Bool) (c : Code) (t : Tree) (ts r : Input) (k : List ℕ) (n : ℕ) → size t < suc z → Covered t → is_structured t ≡ true → Spells t (coded p c) ts r → reach t ≤ n

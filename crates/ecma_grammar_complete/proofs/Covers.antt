@@ -14,12 +14,13 @@ use Rattle.ecma_reading.specs.Source.{Fault, ◌>>=◌, unexpected, Stand, past,
 use Rattle.ecma_reading.specs.Cover.{has, binds_names, all_bind, to_target, to_head, to_item, to_items, as_prop, rest_of, is_rest_item, last_rests}
 use Rattle.ecma_reading.specs.Expressions.{Elements, no_elements, element_by, after_element, element_step, elements_by, array_by, prefix_by, prop_by, prop_rest, prop_step, key_by, object_by}
 use Rattle.ecma_reading.specs.Reading.{readers}
-use Rattle.ecma_grammar_complete.proofs.Yields.{lm, from, len, coded, first_at, Fresh, After, after_past, Reads, reads_map, then_reads, then_after, Is, then_is, onto, after_one, ended, past_here, past_ended, eat_ended, noted_then, noted_at, starts_here, then_past_reads, if_no, if_yes, Loops, Goes, loop_after, looped}
-use Rattle.ecma_grammar_complete.proofs.Levels.{tail, Follow, closed_by, comma_after, closes, quiet}
-use Rattle.ecma_grammar_complete.proofs.Trees.{Covered, CoveredAll, size, sizes, reach, reaches, takes, cut, no_kind, by_cases, begins, starts, name_begins}
-use Rattle.ecma_grammar_complete.proofs.Lists.{Finds, hole_is, pack_unpack}
-use Rattle.ecma_grammar_complete.proofs.Members.{no_more}
-use Rattle.ecma_grammar_complete.proofs.Objects.{begins_key, key_starts, key_found, OneWord, plain_prop, Plain, plain_next, Divides, divided, short_prop, cover_prop}
+use Rattle.ecma_grammar_complete_base.proofs.Yields.{lm, from, len, coded, first_at, Fresh, After, after_past, Reads, reads_map, then_reads, then_after, Is, then_is, onto, after_one, ended, past_here, past_ended, eat_ended, noted_then, noted_at, starts_here, then_past_reads, if_no, if_yes, Loops, Goes, loop_after, looped}
+use Rattle.ecma_grammar_complete_base.proofs.Levels.{tail, Follow, closed_by, comma_after, closes, quiet}
+use Rattle.ecma_grammar_complete_rules.proofs.Lengths.{item_taken, property_taken}
+use Rattle.ecma_grammar_complete_base.proofs.Trees.{Covered, CoveredAll, size, sizes, reach, reaches, takes, no_kind, by_cases, begins, starts, name_begins}
+use Rattle.ecma_grammar_complete_rules.proofs.Lists.{Finds, hole_is, pack_unpack}
+use Rattle.ecma_grammar_complete_rules.proofs.Members.{no_more}
+use Rattle.ecma_grammar_complete_rules.proofs.Objects.{begins_key, key_starts, key_found, OneWord, plain_prop, Plain, plain_next, Divides, divided, short_prop, cover_prop}
 
 -- ---- refining
 
@@ -193,7 +194,7 @@ module _ (z d : ℕ) (cov : Covering z d) (p : Bool) (c : Code) where
 
   item_read : (x : Tree) (ts m : Input) (k : List ℕ) → size x < z → Covered x → Item (coded p c) (part x (λ y. Spells x y)) ts m → ((e : ℕ) → Follow (with_in c) e 2 m) → Reads (from ts k) (element_by lm inner c (from ts k)) (Item_read x m) (d < reach x)
   item_read (rest_pat s q a) ts m k sz g h fo = spread_read s q a ts m k (omega arith) g h fo
-  item_read (param s ds a) ts m k sz g h fo = absurd g
+  item_read (param s ds a) ts m k sz g h fo = absurd (true≢false (sym h.0))
   item_read x ts m k sz g h fo = plain_read x ts m k sz g refl (no_kind begins (kind ts) dot_dot_dot_kind (item_begins x (coded p (with_in c)) ts m g h.0 refl h.1) refl) h fo
 
   module _ (holes : Bool) (close : ℕ) (q : Code) (cl : closes close ≡ true) (qu : quiet close ≡ true) (nb : begins close ≡ false) where
@@ -245,7 +246,7 @@ module _ (z d : ℕ) (cov : Covering z d) (p : Bool) (c : Code) where
         (fronts_snoc false acc pacc hole hole o.1 (fronts_later false acc pacc (from ts k) o.1 fr a) (refines_hole o.1) refl)))))
         (λ e y. ⊎_elim
         (λ v. loop_after _ _ ts k (Item_step false x (answer_on acc) v.1) (d < reach x) _ _ (step_on x acc b ts y.0 v.1 k (omega arith) g.0 y.1 v.2.0 v.2.2) (λ u. omega arith)
-        (λ o w a. goes_on ts _ (d < n) (record { items = acc ++ w.tree ∷ []; comma = true }) o w.step (omega (arith, cut x _ ts y.0 g.0 y.1.1, takes comma_kind y.0 v.1 v.2.0 (omega arith) v.2.2, ap (λ (i : Input). len i) w.source))
+        (λ o w a. goes_on ts _ (d < n) (record { items = acc ++ w.tree ∷ []; comma = true }) o w.step (omega (arith, item_taken false x _ ts y.0 y.1.0 y.1.1, takes comma_kind y.0 v.1 v.2.0 (omega arith) v.2.2, ap (λ (i : Input). len i) w.source))
         (subst (λ ps. Loops (element_step lm inner c holes close) (record { items = acc ++ w.tree ∷ []; comma = true }) o.1.source o.1.commas (Covered_list false ps r) (d < n)) (append_assoc pacc (x ∷ []) (unpack xs))
         (cover_loop xs (acc ++ w.tree ∷ []) (pacc ++ x ∷ []) true o.1.source r o.1.commas n (omega arith) g.1 (subst (λ (i : Input). Listed holes (Item (coded p c)) q close (parts xs) i r) (sym w.source) v.3) (omega arith)
         (fronts_snoc false acc pacc w.tree x o.1 (fronts_later false acc pacc (from ts k) o.1 fr a) w.refines (w.rests ∙ v.0))))))
@@ -370,7 +371,7 @@ module _ (z d : ℕ) (f : Finds z d) (cov : Covering z d) (p : Bool) (c : Code) 
 
   prop_read : (x : Tree) (ts m : Input) (k : List ℕ) → size x < z → Covered x → Property (coded p c) (part x (λ y. Spells x y)) ts m → Divides z d f p c m → Reads (from ts k) (prop_by lm within c (from ts k)) (Prop_read x m) (d < reach x)
   prop_read (rest_pat s q a) ts m k sz g h v = spread_prop s q a ts m k (omega arith) g h v
-  prop_read (key_value_pat_prop s x a) ts m k sz g h v = keyed_prop s x a ts m k (omega arith) (omega arith) g.0 g.1 g.2 h v
+  prop_read (key_value_pat_prop s x a) ts m k sz g h v = keyed_prop s x a ts m k (omega arith) (omega arith) g.0 g.1 h.2.5 h v
   prop_read (assign_pat_prop s (binding_ident q (ident t x)) absent) ts m k sz g h v = named_prop s q t x ts m k h.2 v
   prop_read (assign_pat_prop s (binding_ident q (ident t x)) e) ts m k sz g h v = valued_prop s q t x e ts m k refl (omega arith) g.1 h.2 v
   prop_read (assign_pat_prop s (binding_ident q i) e) ts m k sz g h v = absurd h.2.1.1
@@ -413,7 +414,7 @@ module _ (z d : ℕ) (f : Finds z d) (cov : Covering z d) (p : Bool) (c : Code) 
       (λ y v a. goes_end (prop_step lm within c) ts _ (d < n) (record { items = acc; comma = b }) y v.0 (record { source = v.1; comma = and_right b _ (no_last true acc pacc (from ts k) fr); rows = subst (λ ps. Rows true acc ps y.1) (sym (append-nil pacc)) (rows_all true acc pacc y.1 (fronts_later true acc pacc (from ts k) y.1 fr a)) }))
   props_loop (more x xs) acc pacc b ts r k n sz g h le fr = ⊎_elim
       (λ v. loop_after _ _ ts k (Item_step true x (prop_on acc) v.1) (d < reach x) _ _ (props_on x acc b ts h.0 v.1 k (omega arith) g.0 h.1 v.2.0 v.2.2) (λ u. omega arith)
-      (λ o w a. goes_on ts _ (d < n) (record { items = acc ++ w.tree ∷ []; comma = true }) o w.step (omega (arith, cut x _ ts h.0 g.0 h.1.2, takes comma_kind h.0 v.1 v.2.0 (omega arith) v.2.2, ap (λ (i : Input). len i) w.source))
+      (λ o w a. goes_on ts _ (d < n) (record { items = acc ++ w.tree ∷ []; comma = true }) o w.step (omega (arith, property_taken x (coded p c) ts h.0 h.1, takes comma_kind h.0 v.1 v.2.0 (omega arith) v.2.2, ap (λ (i : Input). len i) w.source))
       (subst (λ ps. Loops (prop_step lm within c) (record { items = acc ++ w.tree ∷ []; comma = true }) o.1.source o.1.commas (Covered_list true ps r) (d < n)) (append_assoc pacc (x ∷ []) (unpack xs))
       (props_loop xs (acc ++ w.tree ∷ []) (pacc ++ x ∷ []) true o.1.source r o.1.commas n (omega arith) g.1 (subst (λ (i : Input). Listed false (Property (coded p c)) (coded p c) right_brace_kind (parts xs) i r) (sym w.source) v.3) (omega arith)
       (fronts_snoc true acc pacc w.tree x o.1 (fronts_later true acc pacc (from ts k) o.1 fr a) w.refines (w.rests ∙ v.0))))))

@@ -13,15 +13,15 @@ use Rattle.ecma_grammar.specs.Grammar.{Spells, parts}
 use Rattle.ecma_reading.specs.Source.{Fault, ◌>>=◌, Stand, Inner, go_on, finished}
 use Rattle.ecma_reading.specs.Expressions.{function_by, star, is_async_head, setter_parameter}
 use Rattle.ecma_reading.specs.Statements.{class_tail_by, members_by, member_step, member_rest, static_by, starts_static, field_value, class_key, method_tree, constructor_of, class_method_by, class_getter, class_setter, accessor_by, field_or_method, generator_member, block_rest}
-use Rattle.ecma_grammar_complete.proofs.Yields.{lm, from, len, coded, first_at, Reads, Is, then_is, then_eat, then_word, then_past, onto, here, past_here, ended, if_no, if_yes, Loops, loop_on, loop_end, looped}
-use Rattle.ecma_grammar_complete.proofs.Levels.{Follow, Asked, sober, quits_by, sober_by, ends_high}
-use Rattle.ecma_grammar_complete.proofs.Trees.{by_cases, no_kind}
-use Rattle.ecma_grammar_complete.proofs.Lists.{pack_unpack, two_asked}
-use Rattle.ecma_grammar_complete.proofs.Objects.{begins_key, key_starts, OneWord}
+use Rattle.ecma_grammar_complete_base.proofs.Yields.{lm, from, len, coded, first_at, Reads, Is, then_is, then_eat, then_word, then_past, onto, here, past_here, ended, if_no, if_yes, Loops, loop_on, loop_end, looped}
+use Rattle.ecma_grammar_complete_base.proofs.Levels.{Follow, Asked, sober, quits_by, sober_by, ends_high}
+use Rattle.ecma_grammar_complete_base.proofs.Trees.{by_cases, no_kind}
+use Rattle.ecma_grammar_complete_rules.proofs.Lists.{pack_unpack, two_asked}
+use Rattle.ecma_grammar_complete_rules.proofs.Objects.{begins_key, key_starts, OneWord}
 use Rattle.ecma_grammar_complete_parts.proofs.Nested.{Nested}
 use Rattle.ecma_grammar_complete_parts.proofs.Within.{Each, most, Within, Withins, within, withins}
 use Rattle.ecma_grammar_complete_parts.proofs.Follows.{halted, ends_two, end_follows, then_end, built, lifted}
-use Rattle.ecma_grammar_complete_parts.proofs.Cuts.{cut, least}
+use Rattle.ecma_grammar_complete_base.proofs.Cuts.{cut, least}
 use Rattle.ecma_grammar_complete_functions.proofs.Functions.{any_key_found, parameters_found, setter_found, function_found, star_found, empty_none}
 use Rattle.ecma_grammar_complete_statements.proofs.Simple.{absent_is}
 use Rattle.ecma_grammar_complete_statements.proofs.Lists.{rest_found}

@@ -13,19 +13,19 @@ use Rattle.ecma_grammar.specs.Grammar.{Spells, parts}
 use Rattle.ecma_reading.specs.Source.{Fault, ◌>>=◌, Stand, Inner, go_on, finished, name, is_name}
 use Rattle.ecma_reading.specs.Expressions.{key_by, private_by, parameter_by, parameter_step, parameters_by, setter_parameter, is_rest_param, function_by, star, function_expr_name, function_expr_by, class_expr_by}
 use Rattle.ecma_reading.specs.Statements.{function_decl_by, class_decl_by, class_key}
-use Rattle.ecma_grammar_complete.proofs.Yields.{lm, from, len, coded, first_at, Reads, Is, then_is, then_eat, then_word, then_name, then_past, onto, here, past_here, ended, if_no, if_yes, Loops, loop_on, loop_end, looped}
-use Rattle.ecma_grammar_complete.proofs.Levels.{Follow, closed_by, comma_after}
-use Rattle.ecma_grammar_complete.proofs.Trees.{by_cases, takes, no_kind}
-use Rattle.ecma_grammar_complete.proofs.Prefixes.{literal_found}
-use Rattle.ecma_grammar_complete.proofs.Lists.{pack_unpack, two_asked}
-use Rattle.ecma_grammar_complete.proofs.Steps.{computed_found}
-use Rattle.ecma_grammar_complete.proofs.Members.{private_found}
-use Rattle.ecma_grammar_complete.proofs.Objects.{str_read, number_read, big_int_read, begins_key, key_starts}
+use Rattle.ecma_grammar_complete_base.proofs.Yields.{lm, from, len, coded, first_at, Reads, Is, then_is, then_eat, then_word, then_name, then_past, onto, here, past_here, ended, if_no, if_yes, Loops, loop_on, loop_end, looped}
+use Rattle.ecma_grammar_complete_base.proofs.Levels.{Follow, closed_by, comma_after}
+use Rattle.ecma_grammar_complete_base.proofs.Trees.{by_cases, takes, no_kind}
+use Rattle.ecma_grammar_complete_rules.proofs.Prefixes.{literal_found}
+use Rattle.ecma_grammar_complete_rules.proofs.Lists.{pack_unpack, two_asked}
+use Rattle.ecma_grammar_complete_rules.proofs.Steps.{computed_found}
+use Rattle.ecma_grammar_complete_rules.proofs.Members.{private_found}
+use Rattle.ecma_grammar_complete_rules.proofs.Objects.{str_read, number_read, big_int_read, begins_key, key_starts}
 use Rattle.ecma_grammar_complete_parts.proofs.Nested.{Nested, patterned}
 use Rattle.ecma_grammar_complete_parts.proofs.Within.{ItemIn, item_in, Within, Withins, within, withins}
 use Rattle.ecma_grammar_complete_parts.proofs.Follows.{built, lifted}
 use Rattle.ecma_grammar_complete_parts.proofs.Starts.{starts_binding, binding_starts, ident_is}
-use Rattle.ecma_grammar_complete_parts.proofs.Cuts.{cut}
+use Rattle.ecma_grammar_complete_base.proofs.Cuts.{cut}
 
 -- ---- what follows a parameter
 

@@ -16,9 +16,9 @@ use Rattle.ecma_reading.specs.Source.{Inner, is_name}
 use Rattle.ecma_reading.specs.Expressions.{function_expr_by, class_expr_by}
 use Rattle.ecma_reading.specs.Statements.{starts_async}
 use Rattle.ecma_reading.specs.Modules.{export_name_by, source_by, specifiers_by, export_default, export_star, export_list, starts_declaration, export_by}
-use Rattle.ecma_grammar_complete.proofs.Yields.{lm, from, coded, Reads, Is, named, then_is, then_eat, then_word, then_name, onto, here, if_no, if_yes}
-use Rattle.ecma_grammar_complete.proofs.Trees.{by_cases, no_kind}
-use Rattle.ecma_grammar_complete.proofs.Lists.{pack_unpack, two_asked}
+use Rattle.ecma_grammar_complete_base.proofs.Yields.{lm, from, coded, Reads, Is, named, then_is, then_eat, then_word, then_name, onto, here, if_no, if_yes}
+use Rattle.ecma_grammar_complete_base.proofs.Trees.{by_cases, no_kind}
+use Rattle.ecma_grammar_complete_rules.proofs.Lists.{pack_unpack, two_asked}
 use Rattle.ecma_grammar_complete_parts.proofs.Nested.{Nested, may_follow}
 use Rattle.ecma_grammar_complete_parts.proofs.Within.{Within, within}
 use Rattle.ecma_grammar_complete_parts.proofs.Follows.{end_follows, ends_two, then_end}

@@ -9,11 +9,11 @@ use Rattle.ecma_syntax.specs.Shape.{is_item, is_module_decl}
 use Rattle.ecma_grammar.specs.Parts.{is_module_item}
 use Rattle.ecma_grammar.specs.Grammar.{Spells}
 use Rattle.ecma_reading.specs.Modules.{import_decl_by, export_by, item_by, program_by, starts_import}
-use Rattle.ecma_grammar_complete.proofs.Yields.{lm, from, len, coded, Reads, Is, if_no, if_yes}
-use Rattle.ecma_grammar_complete.proofs.Trees.{no_kind}
+use Rattle.ecma_grammar_complete_base.proofs.Yields.{lm, from, len, coded, Reads, Is, if_no, if_yes}
+use Rattle.ecma_grammar_complete_base.proofs.Trees.{no_kind}
 use Rattle.ecma_grammar_complete_parts.proofs.Nested.{Nested, may_follow}
 use Rattle.ecma_grammar_complete_parts.proofs.Within.{Each, most}
-use Rattle.ecma_grammar_complete_parts.proofs.Cuts.{cut}
+use Rattle.ecma_grammar_complete_base.proofs.Cuts.{cut}
 use Rattle.ecma_grammar_complete_programs.proofs.Programs.{begins_item, ItemsRead, program_found, statements_read}
 use Rattle.ecma_grammar_complete_modules.proofs.Sources.{InModule, in_module}
 use Rattle.ecma_grammar_complete_modules.proofs.Imports.{begins_clause, import_found, after_import}

@@ -10,8 +10,8 @@ use Rattle.ecma_syntax.specs.Shape.{ends, last_ends, is_name, is_block, is_absen
 use Rattle.ecma_grammar.specs.Parts.{Ends}
 use Rattle.ecma_grammar.specs.Statements.{statement_end}
 use Rattle.ecma_reading.specs.Source.{Fault, Unexpected, TooDeep, ◌>>=◌, Stand, end_of}
-use Rattle.ecma_grammar_complete.proofs.Yields.{lm, from, coded, Yields, After, Reads, Is, onto, here}
-use Rattle.ecma_grammar_complete.proofs.Levels.{Follow, sober, quiet, sober_by, ends_operand, quits_by, cond_no}
+use Rattle.ecma_grammar_complete_base.proofs.Yields.{lm, from, coded, Yields, After, Reads, Is, onto, here}
+use Rattle.ecma_grammar_complete_base.proofs.Levels.{Follow, sober, quiet, sober_by, ends_operand, quits_by, cond_no}
 
 -- ---- expressions
 

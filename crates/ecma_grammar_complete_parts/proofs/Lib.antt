@@ -2,4 +2,3 @@ pub mod Nested
 pub mod Within
 pub mod Follows
 pub mod Starts
-pub mod Cuts

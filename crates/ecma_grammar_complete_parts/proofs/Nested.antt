@@ -10,12 +10,9 @@ use Rattle.ecma_grammar.specs.Functions.{Body}
 use Rattle.ecma_grammar.specs.Grammar.{Spells, parts}
 use Rattle.ecma_reading.specs.Source.{Stand, Inner}
 use Rattle.ecma_reading.specs.Cover.{to_head}
-use Rattle.ecma_grammar_complete.proofs.Yields.{from, coded, Reads, Is}
-use Rattle.ecma_grammar_complete.proofs.Levels.{Follow, Asked}
-
--- relation's code of a pattern that binds, whether or not goals and contexts are judged
-abbrev pub patterned : Bool → Code → Code
-patterned p c = record c { binds = true; placed = p }
+pub use Rattle.ecma_grammar_complete_base.specs.Laws.{patterned}
+use Rattle.ecma_grammar_complete_base.proofs.Yields.{from, coded, Reads, Is}
+use Rattle.ecma_grammar_complete_base.proofs.Levels.{Follow, Asked}
 
 -- what a statement may be here: an item of a list, or else a statement or a plain function
 abbrev pub allowed : Code → Tree → Bool

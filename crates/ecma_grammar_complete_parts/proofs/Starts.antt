@@ -13,9 +13,9 @@ use Rattle.ecma_grammar.specs.Expressions.{is_unary_op, is_update_op}
 use Rattle.ecma_grammar.specs.Statements.{is_var_word}
 use Rattle.ecma_grammar.specs.Functions.{ArrowHead, ArrowParameters}
 use Rattle.ecma_grammar.specs.Grammar.{Spells, parts}
-use Rattle.ecma_grammar_complete.proofs.Yields.{IsName}
-use Rattle.ecma_grammar_complete.proofs.Levels.{binary_cases, binary_four, operated, fits}
-use Rattle.ecma_grammar_complete.proofs.Trees.{by_unary, by_update}
+use Rattle.ecma_grammar_complete_base.proofs.Yields.{IsName}
+use Rattle.ecma_grammar_complete_base.proofs.Levels.{binary_cases, binary_four, operated, fits}
+use Rattle.ecma_grammar_complete_base.proofs.Trees.{by_unary, by_update}
 
 -- ---- kinds of tokens
 

@@ -23,6 +23,10 @@ item_in R (assign_pat s p e) = max (R p) (R e)
 item_in R (rest_pat s d p) = R p
 item_in R p = R p
 
+abbrev pub is_if : Tree → Bool
+is_if (if_stmt s t a b) = true
+is_if _ = false
+
 -- the parts of a node that its rule hands to the readers of nested parts are covered
 abbrev mutual
   pub Within : (Tree → Type 0) → Tree → Type 0
@@ -32,6 +36,7 @@ abbrev mutual
   Within G (throw_stmt s e) = G e
   Within G (with_stmt s e b) = G e × G b
   Within G (labeled_stmt s l b) = G l × G b
+  Within G (if_stmt s t a (if_stmt q e b d)) = G t × G a × Within G (if_stmt q e b d)
   Within G (if_stmt s t a b) = G t × G a × G b
   Within G (while_stmt s t b) = G t × G b
   Within G (do_while_stmt s t b) = G t × G b
@@ -84,6 +89,7 @@ abbrev mutual
   within R (throw_stmt s e) = R e
   within R (with_stmt s e b) = max (R e) (R b)
   within R (labeled_stmt s l b) = max (R l) (R b)
+  within R (if_stmt s t a (if_stmt q e b d)) = max (max (R t) (R a)) (within R (if_stmt q e b d))
   within R (if_stmt s t a b) = max (R t) (max (R a) (R b))
   within R (while_stmt s t b) = max (R t) (R b)
   within R (do_while_stmt s t b) = max (R t) (R b)

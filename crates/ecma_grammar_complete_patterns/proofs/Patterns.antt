@@ -14,14 +14,14 @@ use Rattle.ecma_reading.specs.Source.{Fault, ◌>>=◌, unexpected, Stand, bound
 use Rattle.ecma_reading.specs.Expressions.{key_by}
 use Rattle.ecma_reading.specs.Statements.{pat_by, array_pat_by, array_item, object_pat_by, object_item, pattern_prop, keyed_item, named_item, initial_pat, after_item}
 use Rattle.ecma_reading.specs.Reading.{readers}
-use Rattle.ecma_grammar_complete_patterns.specs.Laws.{patterned}
-use Rattle.ecma_grammar_complete.proofs.Yields.{lm, from, len, coded, first_at, Reads, too_deep, Is, then_is, then_past, then_past_reads, then_eat, then_name, onto, after_one, here, past_here, ended, if_no, if_yes, Loops, loop_on, loop_end, looped}
-use Rattle.ecma_grammar_complete.proofs.Levels.{Follow, closed_by, comma_after}
-use Rattle.ecma_grammar_complete.proofs.Trees.{Covered, CoveredAll, size, sizes, reach, reaches, takes, cut, no_kind, by_cases}
-use Rattle.ecma_grammar_complete.proofs.Lists.{Finds, pack_unpack, two_asked, hole_is}
-use Rattle.ecma_grammar_complete.proofs.Members.{no_more}
-use Rattle.ecma_grammar_complete.proofs.Comes.{read_finds}
-use Rattle.ecma_grammar_complete.proofs.Objects.{begins_key, key_starts, key_found}
+use Rattle.ecma_grammar_complete_base.specs.Laws.{patterned}
+use Rattle.ecma_grammar_complete_base.proofs.Yields.{lm, from, len, coded, first_at, Reads, too_deep, Is, then_is, then_past, then_past_reads, then_eat, then_name, onto, after_one, here, past_here, ended, if_no, if_yes, Loops, loop_on, loop_end, looped}
+use Rattle.ecma_grammar_complete_base.proofs.Levels.{Follow, closed_by, comma_after}
+use Rattle.ecma_grammar_complete_rules.proofs.Lengths.{item_taken, property_taken}
+use Rattle.ecma_grammar_complete_base.proofs.Trees.{Covered, CoveredAll, size, sizes, reach, reaches, takes, no_kind, by_cases}
+use Rattle.ecma_grammar_complete_rules.proofs.Lists.{Finds, pack_unpack, two_asked, hole_is}
+use Rattle.ecma_grammar_complete_rules.proofs.Members.{no_more}
+use Rattle.ecma_grammar_complete_rules.proofs.Objects.{begins_key, key_starts, key_found}
 
 -- A pattern that binds is read by calls so deep, or they are not deep enough.
 abbrev pub Binds : ℕ → ℕ → Type 0
@@ -133,7 +133,7 @@ module _ (z d : ℕ) (f : Finds z d) (b : Binds z d) (p : Bool) (c : Code) where
       (array_loop xs (acc ++ hole ∷ []) y.0 r l n (omega arith) g.1 y.2 (omega arith))))
       (λ e y. ⊎_elim
       (λ v. loop_on _ _ (acc ++ x ∷ []) ts v.1 k (d < reach x) _ _ (array_one x acc ts y.0 k _ (omega arith) g.0 y.1 v.0 (by_comma y.0 v.2.0) (λ j. after_comma (acc ++ x ∷ []) y.0 v.1 j right_bracket_kind _ v.2.0 v.2.2)) (λ u. omega arith)
-      (omega (arith, cut x _ ts y.0 g.0 y.1.1, takes comma_kind y.0 v.1 v.2.0 (omega arith) v.2.2))
+      (omega (arith, item_taken true x _ ts y.0 y.1.0 y.1.1, takes comma_kind y.0 v.1 v.2.0 (omega arith) v.2.2))
       (λ l. subst (λ ys. Loops (array_item lm inner c) (acc ++ x ∷ []) v.1 l (Got ys r) (d < n)) (append_assoc acc (x ∷ []) (unpack xs)) (array_loop xs (acc ++ x ∷ []) v.1 r l n (omega arith) g.1 v.3 (omega arith))))
       (λ v. loop_end _ _ (acc ++ x ∷ []) ts r k (d < reach x) _ _ (array_last x acc ts y.0 r k (omega arith) g.0 y.1 v.1.0 v.1.2) (λ u. omega arith) (λ l. (ap (λ ys. acc ++ (x ∷ ys)) (sym (no_more xs v.0)), refl)))
       y.2)
@@ -183,7 +183,7 @@ module _ (z d : ℕ) (f : Finds z d) (b : Binds z d) (p : Bool) (c : Code) where
       (λ j. here (ap (λ (y : Span). assign_pat_prop y (binding_ident (first_span ts) (ident (first_span ts) x)) e) (sym h.3) ∙ ap (λ y. assign_pat_prop s y e) (named_span ts h.0 q t x h.1.1)))))))
 
   prop_found : (x : Tree) (ts m : Input) (k : List ℕ) → size x < z → Covered x → Property (patterned p c) (part x (λ y. Spells x y)) ts m → is_rest x ≡ false → Closed (with_in c) m → eqb (kind m) colon_kind ≡ false → PropRead x ts m k
-  prop_found (key_value_pat_prop s x a) ts m k sz g h n cl nc = prop_keyed s x a ts m k (omega arith) (omega arith) g.0 g.1 h.2 g.2 cl
+  prop_found (key_value_pat_prop s x a) ts m k sz g h n cl nc = prop_keyed s x a ts m k (omega arith) (omega arith) g.0 g.1 h.2 h.2.5 cl
   prop_found (assign_pat_prop s (binding_ident q (ident t x)) absent) ts m k sz g h n cl nc = prop_named s q t x ts m k h.2 cl nc
   prop_found (assign_pat_prop s (binding_ident q (ident t x)) e) ts m k sz g h n cl nc = prop_valued s q t x e ts m k refl (omega arith) g.1 h.2 cl
   prop_found (assign_pat_prop s (binding_ident q i) e) ts m k sz g h n cl nc = absurd h.2.1.1
@@ -229,7 +229,7 @@ module _ (z d : ℕ) (f : Finds z d) (b : Binds z d) (p : Bool) (c : Code) where
   object_loop none acc ts r k n sz g h le = loop_end _ _ acc ts r k ⊥ _ _ (if_yes (eqb (kind ts) right_brace_kind) _ _ _ _ (eq-eqb (kind ts) right_brace_kind h.0) (past_here refl h.2)) (λ u. absurd u) (λ l. (sym (append-nil acc), refl))
   object_loop (more x xs) acc ts r k n sz g h le = ⊎_elim
       (λ v. loop_on _ _ (acc ++ x ∷ []) ts v.1 k (d < reach x) _ _ (object_one x acc ts h.0 k _ (omega arith) g.0 h.1 v.0 (by_comma h.0 v.2.0) (ne_eqb (kind h.0) colon_kind (λ q. omega (arith, q, v.2.0))) (λ j. after_comma (acc ++ x ∷ []) h.0 v.1 j right_brace_kind _ v.2.0 v.2.2)) (λ u. omega arith)
-      (omega (arith, cut x _ ts h.0 g.0 h.1.2, takes comma_kind h.0 v.1 v.2.0 (omega arith) v.2.2))
+      (omega (arith, property_taken x (patterned p c) ts h.0 h.1, takes comma_kind h.0 v.1 v.2.0 (omega arith) v.2.2))
       (λ l. subst (λ ys. Loops (object_item lm inner c) (acc ++ x ∷ []) v.1 l (Got ys r) (d < n)) (append_assoc acc (x ∷ []) (unpack xs)) (object_loop xs (acc ++ x ∷ []) v.1 r l n (omega arith) g.1 v.3 (omega arith))))
       (λ v. loop_end _ _ (acc ++ x ∷ []) ts r k (d < reach x) _ _ (object_last x acc ts h.0 r k (omega arith) g.0 h.1 v.1.0 v.1.2) (λ u. omega arith) (λ l. (ap (λ ys. acc ++ (x ∷ ys)) (sym (no_more xs v.0)), refl)))
       h.2
@@ -263,8 +263,3 @@ binds (suc z) (suc d) f t p c ts r k sz g e h = bound_found z d (lesser d) (bind
   where
     lesser : (e : ℕ) → Finds z e
     lesser e t p c l ts r k sz = f e t p c l ts r k (omega (arith, sz))
-
--- What a pattern that binds spells is read by calls so deep: the answer is the pattern with the tokens that it doesn't spell, or too deep where it
--- reaches deeper.
-pub patterns_found : (d : ℕ) (t : Tree) (p : Bool) (c : Code) (ts r : Input) (k : List ℕ) → Covered t → is_binding t ≡ true → Spells t (patterned p c) ts r → Reads (from ts k) ((readers lm d).pat c (from ts k)) (Is t r) (d < reach t)
-patterns_found d t p c ts r k g e h = binds (suc (size t)) d (λ e u q b l m n j sz. read_finds e u q b l m n j) t p c ts r k (omega arith) g e h

@@ -12,12 +12,12 @@ use Rattle.ecma_grammar.specs.Grammar.{Spells, parts}
 use Rattle.ecma_reading.specs.Source.{Fault, ◌>>=◌, Stand, Inner, go_on, finished, is_nil}
 use Rattle.ecma_reading.specs.Statements.{Body as Gathered}
 use Rattle.ecma_reading.specs.Modules.{item_by, program_item, program_step, program_rest, program_by, program_tree, line_of, starts_import}
-use Rattle.ecma_grammar_complete.proofs.Yields.{lm, from, len, coded, Reads, Is, then_is, then_reads, onto, here, ended, if_no, if_yes, Loops, loop_on, loop_end, looped}
-use Rattle.ecma_grammar_complete.proofs.Lists.{pack_unpack}
+use Rattle.ecma_grammar_complete_base.proofs.Yields.{lm, from, len, coded, Reads, Is, then_is, then_reads, onto, here, ended, if_no, if_yes, Loops, loop_on, loop_end, looped}
+use Rattle.ecma_grammar_complete_rules.proofs.Lists.{pack_unpack}
 use Rattle.ecma_grammar_complete_parts.proofs.Nested.{Nested, may_follow}
 use Rattle.ecma_grammar_complete_parts.proofs.Within.{Each, most}
 use Rattle.ecma_grammar_complete_parts.proofs.Starts.{opens_item, item_opens, item_imports, called, no_item}
-use Rattle.ecma_grammar_complete_parts.proofs.Cuts.{item_cut}
+use Rattle.ecma_grammar_complete_base.proofs.Cuts.{item_cut}
 use Rattle.ecma_grammar_complete_statements.proofs.Lists.{HasItems, on_strict, on_same}
 
 -- ---- what starts an item of a program

@@ -1,4 +1,5 @@
 pub mod Simple
+pub mod Branches
 pub mod Lists
 pub mod Variables
 pub mod Loops

@@ -11,11 +11,11 @@ use Rattle.ecma_grammar.specs.Parts.{is_ident, By, part, Ends, Sorted}
 use Rattle.ecma_grammar.specs.Statements.{Sub, SubOrFunction, InParens, Jump}
 use Rattle.ecma_grammar.specs.Grammar.{Spells}
 use Rattle.ecma_reading.specs.Source.{Fault, ◌>>=◌, Stand, Inner, name}
-use Rattle.ecma_reading.specs.Statements.{sub_by, in_parens, debugger_by, return_by, throw_by, with_by, while_by, do_by, if_by, if_end, jump_by, label_by, ends_here, labelled_by}
-use Rattle.ecma_grammar_complete.proofs.Yields.{lm, from, coded, Reads, Is, then_is, then_eat, then_word, then_name, then_past, here, past_here, ended, if_no, if_yes}
-use Rattle.ecma_grammar_complete.proofs.Levels.{Follow}
-use Rattle.ecma_grammar_complete.proofs.Lists.{one_asked}
-use Rattle.ecma_grammar_complete.proofs.Trees.{by_cases}
+use Rattle.ecma_reading.specs.Statements.{sub_by, in_parens, debugger_by, return_by, throw_by, with_by, while_by, do_by, jump_by, label_by, ends_here, labelled_by}
+use Rattle.ecma_grammar_complete_base.proofs.Yields.{lm, from, coded, Reads, Is, then_is, then_eat, then_word, then_name, then_past, here, past_here, ended, if_no, if_yes}
+use Rattle.ecma_grammar_complete_base.proofs.Levels.{Follow}
+use Rattle.ecma_grammar_complete_rules.proofs.Lists.{one_asked}
+use Rattle.ecma_grammar_complete_base.proofs.Trees.{by_cases}
 use Rattle.ecma_grammar_complete_parts.proofs.Nested.{Nested, allowed, may_follow}
 use Rattle.ecma_grammar_complete_parts.proofs.Within.{Within, within}
 use Rattle.ecma_grammar_complete_parts.proofs.Follows.{halted, ends_two, end_follows, then_end, built, lifted}
@@ -133,21 +133,6 @@ module _ (z : Nested) (p : Bool) (c : Code) where
         closing (inl x) i = if_yes (kind h.3 == semicolon_kind) _ _ _ _ (eq-eqb (kind h.3) semicolon_kind x.0) (past_here (ap (λ (y : Input). do_while_stmt (span (lo ts) y.last) e b) x.2 ∙ ap (λ (y : Span). do_while_stmt y e b) (sym h.9)) x.2)
         closing (inr x) i = if_no (kind h.3 == semicolon_kind) _ _ _ _ (ne_eqb (kind h.3) semicolon_kind x.0)
             (ended (do_while_stmt (span (lo ts) h.3.last) e b, from h.3 i) (Is (do_while_stmt s e b) r) _ (ap (λ (y : Input). do_while_stmt (span (lo ts) y.last) e b) x.1 ∙ ap (λ (y : Span). do_while_stmt y e b) (sym h.9), x.1))
-
-    if_ended : (s : Span) (e a b : Tree) (o : Input) (j : List ℕ) → z.Covered b → By (is_absent b) ((kind o ≡ else_kind → ⊥) × (o ≡ r)) ((x : Input) × TakesWord (coded p c) else_kind o x × SubOrFunction (coded p c) (part b (λ y. Spells b y)) x r) → s ≡ span (lo ts) r.last → may_follow (kind r) ≡ true
-        → Reads (from o j) (if_end lm z.inner c (from ts k) e a (from o j)) (Is (if_stmt s e a b) r) (z.depth < z.reach b)
-    unfolding if_end
-    if_ended s e a b o j g h w q = by_cases (is_absent b) _ _ _ h
-        (λ n x. if_no (kind o == else_kind) _ _ _ _ (ne_eqb (kind o) else_kind x.0) (ended (if_stmt (span (lo ts) o.last) e a absent, from o j) (Is (if_stmt s e a b) r) _
-        (ap (λ (y : Input). if_stmt (span (lo ts) y.last) e a absent) x.1 ∙ ap (λ (y : Span). if_stmt y e a absent) (sym w) ∙ ap (λ (y : Tree). if_stmt s e a y) (sym (absent_is b n)), x.1)))
-        (λ n x. if_yes (kind o == else_kind) _ _ _ _ (eq-eqb (kind o) else_kind x.1.0) (then_word c else_kind o x.0 j _ _ _ x.1.0 x.1.1 x.1.3 (then_is (sub_by lm z.inner c true (from x.0 j)) _ b r (z.depth < z.reach b) _ _ (either_found b x.0 r j g x.2 q) (λ u. u)
-        (λ i. built (λ y. if_stmt y e a b) s ts r i _ w))))
-
-    pub if_found : (s : Span) (e a b : Tree) → Within z.Covered (if_stmt s e a b) → Spells (if_stmt s e a b) (coded p c) ts r → may_follow (kind r) ≡ true → Reads (from ts k) (if_by lm z.inner c (from ts k)) (Is (if_stmt s e a b) r) (z.depth < within z.reach (if_stmt s e a b))
-    unfolding if_by
-    if_found s e a b g h q = then_word c if_kind ts h.0 k _ _ _ h.3.0 h.3.1 h.3.3 (then_is (in_parens lm z.inner c (from h.0 k)) _ e h.1 (z.depth < z.reach e) _ _ (parens_found e h.0 h.1 k g.0 h.4) (λ u. omega arith)
-        (λ j. then_is (sub_by lm z.inner c true (from h.1 j)) _ a h.2 (z.depth < z.reach a) _ _ (either_found a h.1 h.2 j g.1 h.5 (by_cases (is_absent b) _ _ _ h.6 (λ n x. subst (λ (y : Input). may_follow (kind y) ≡ true) (sym x.1) q) (λ n x. follows_at h.2 else_kind x.1.0 refl))) (λ u. omega arith)
-        (λ i. lifted (if_ended s e a b h.2 i g.2 h.6 h.7 q) (λ u. omega arith))))
 
     pub labelled_found : (s : Span) (l b : Tree) (m : Input) (j : List ℕ) → z.Covered b → (n : Input) → kind m ≡ colon_kind → rest m ≡ n → SubOrFunction (coded p c) (part b (λ y. Spells b y)) n r → s ≡ span (lo ts) r.last → may_follow (kind r) ≡ true
         → Reads (from m j) (labelled_by lm z.inner c (from ts k) l (from m j)) (Is (labeled_stmt s l b) r) (z.depth < z.reach b)

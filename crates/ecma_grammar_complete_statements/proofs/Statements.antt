@@ -13,14 +13,15 @@ use Rattle.ecma_grammar.specs.Statements.{is_var_word, statement_end, ForAwaitOp
 use Rattle.ecma_grammar.specs.Grammar.{Spells, parts}
 use Rattle.ecma_reading.specs.Source.{Fault, ◌>>=◌, unexpected, Stand, Inner}
 use Rattle.ecma_reading.specs.Statements.{keyword_stmt, stmt_by, stmt_from, expression_by, statement_class, labelled_by, starts_async, starts_variables, starts_let, starts_using, starts_await_using, if_by, return_by, for_by, while_by, do_by, switch_by, try_by, throw_by, jump_by, with_by, debugger_by, block_by, function_decl_by, class_decl_by, variables_by, using_by}
-use Rattle.ecma_grammar_complete.proofs.Yields.{lm, from, coded, Reads, Is, then_is, onto, here, past_here, if_no, if_yes, first_at}
-use Rattle.ecma_grammar_complete.proofs.Trees.{no_kind}
+use Rattle.ecma_grammar_complete_base.proofs.Yields.{lm, from, coded, Reads, Is, then_is, onto, here, past_here, if_no, if_yes, first_at}
+use Rattle.ecma_grammar_complete_base.proofs.Trees.{no_kind}
 use Rattle.ecma_grammar_complete_parts.proofs.Nested.{Nested, allowed, may_follow}
 use Rattle.ecma_grammar_complete_parts.proofs.Within.{Within, within}
 use Rattle.ecma_grammar_complete_parts.proofs.Follows.{halted, statement_follows, then_end, built, lifted}
 use Rattle.ecma_grammar_complete_parts.proofs.Starts.{opens, Opening, After, one_name, tame, opening, level_opener, no_open, ident_is, name_may}
 use Rattle.ecma_grammar_complete_functions.proofs.Functions.{function_declared, class_declared}
-use Rattle.ecma_grammar_complete_statements.proofs.Simple.{one_found, debugger_found, return_found, throw_found, jump_found, with_found, while_found, do_found, if_found, labelled_found}
+use Rattle.ecma_grammar_complete_statements.proofs.Branches.{if_found}
+use Rattle.ecma_grammar_complete_statements.proofs.Simple.{one_found, debugger_found, return_found, throw_found, jump_found, with_found, while_found, do_found, labelled_found}
 use Rattle.ecma_grammar_complete_statements.proofs.Lists.{block_found, switch_found, try_found}
 use Rattle.ecma_grammar_complete_statements.proofs.Variables.{variables_found, using_found, declarators_start, var_on, using_on, await_on, no_using, no_await_using, no_let}
 use Rattle.ecma_grammar_complete_statements.proofs.Loops.{plain_found, in_variables, in_using, in_target, of_variables, of_using, of_target}

@@ -13,14 +13,14 @@ use Rattle.ecma_grammar.specs.Statements.{is_var_word, starts_pattern}
 use Rattle.ecma_grammar.specs.Grammar.{Spells, parts}
 use Rattle.ecma_reading.specs.Source.{Fault, ◌>>=◌, Stand, Inner, go_on, finished, end_of}
 use Rattle.ecma_reading.specs.Statements.{declarator_by, declarator_step, declarators_by, variables_by, using_by, starts_let, starts_using, starts_await_using}
-use Rattle.ecma_grammar_complete.proofs.Yields.{lm, from, len, coded, Reads, Is, then_is, then_word, then_past, here, past_here, ended, if_no, if_yes, Loops, loop_on, loop_end, looped}
-use Rattle.ecma_grammar_complete.proofs.Levels.{Follow, quiet, ends_operand, comma_after, goes_comma}
-use Rattle.ecma_grammar_complete.proofs.Lists.{pack_unpack, two_asked}
-use Rattle.ecma_grammar_complete.proofs.Trees.{by_cases, takes}
+use Rattle.ecma_grammar_complete_base.proofs.Yields.{lm, from, len, coded, Reads, Is, then_is, then_word, then_past, here, past_here, ended, if_no, if_yes, Loops, loop_on, loop_end, looped}
+use Rattle.ecma_grammar_complete_base.proofs.Levels.{Follow, quiet, ends_operand, comma_after, goes_comma}
+use Rattle.ecma_grammar_complete_rules.proofs.Lists.{pack_unpack, two_asked}
+use Rattle.ecma_grammar_complete_base.proofs.Trees.{by_cases, takes}
 use Rattle.ecma_grammar_complete_parts.proofs.Nested.{Nested}
 use Rattle.ecma_grammar_complete_parts.proofs.Within.{Within, Withins, within, withins}
 use Rattle.ecma_grammar_complete_parts.proofs.Follows.{halts, halted, ends_two, end_follows, low_goes, then_end, lifted}
-use Rattle.ecma_grammar_complete_parts.proofs.Cuts.{cut}
+use Rattle.ecma_grammar_complete_base.proofs.Cuts.{cut}
 use Rattle.ecma_grammar_complete_statements.proofs.Simple.{absent_is}
 use Rattle.ecma_grammar_complete_parts.proofs.Starts.{Opening, After, Names, named_after, one_name, tame, starts_binding, binding_starts}
 

@@ -1,6 +1,6 @@
 -- Statements other than loops with a head: spelled as they are read.
 use Rattle.std.proofs.Common.{◌≡◌, ℕ, ◌≤◌, inl, inr, Bool, true, false, not, ◌&&◌, ◌||◌, eqb, List, [], ◌∷◌, ◌++◌, Ok, refl, sym, ap, ◌∙◌, subst, true≢false, append_assoc, append-nil, arith}
-use Rattle.std.proofs.lemmas.Bool.{or_parts}
+use Rattle.std.proofs.lemmas.Bool.{or_parts, or_left}
 use Rattle.ecma_token.specs.declared.place.Span.{Span}
 use Rattle.ecma_token.specs.Kinds.{left_paren_kind, right_paren_kind, left_brace_kind, right_brace_kind, semicolon_kind, colon_kind, end_kind, case_kind, catch_kind, debugger_kind, default_kind, do_kind, else_kind, finally_kind, if_kind, return_kind, switch_kind, throw_kind, try_kind, while_kind, with_kind}
 use Rattle.ecma_tree.specs.Tree.{Tree, pack, ident, absent, with_stmt, while_stmt, do_while_stmt, if_stmt, return_stmt, throw_stmt, debugger_stmt, switch_stmt, switch_case, try_stmt, catch_clause}
@@ -11,7 +11,7 @@ use Rattle.ecma_grammar.specs.Parts.{part, By, Expr, Sorted, Maybe, Items, Ends,
 use Rattle.ecma_grammar.specs.Statements.{Sub, SubOrFunction, InParens, Jump, Cases, ClosesCase}
 use Rattle.ecma_grammar.specs.Grammar.{Spells, parts}
 use Rattle.ecma_reading.specs.Source.{Stand, Inner, go_on, finished, iterate}
-use Rattle.ecma_reading.specs.Statements.{block_by, in_parens, sub_by, with_by, while_by, do_by, if_end, if_by, ends_here, return_by, throw_by, label_by, jump_by, debugger_by, case_step, case_rest, case_by, has_default, cases_step, switch_by, catch_by, finally_by, try_by}
+use Rattle.ecma_reading.specs.Statements.{block_by, in_parens, sub_by, with_by, while_by, do_by, Branch, Chain, chained, branched, else_by, if_step, if_by, ends_here, return_by, throw_by, label_by, jump_by, debugger_by, case_step, case_rest, case_by, has_default, cases_step, switch_by, catch_by, finally_by, try_by}
 use Rattle.ecma_grammar_laws.proofs.Sure.{lm, seen, next, Grows, same, Sure, done, gives, then_sure, if_sure, test_sure, only_sure, eat_sure, word_sure, name_sure, StepSure, loop_sure}
 use Rattle.ecma_grammar_laws.proofs.Covers.{patterned, plain, by_no}
 use Rattle.ecma_grammar_laws.proofs.Nested.{Sound, GotStmt, named, end_sure}
@@ -21,6 +21,10 @@ use Rattle.ecma_grammar_laws.proofs.Lists.{block_sure}
 pub present : (e : Tree) → 1 ≤ level e → is_absent e ≡ false
 present absent l = absurd (omega (arith, l))
 present _ l = refl
+
+chained_snoc : (hi : ℕ) (bs : List Branch) (b : Branch) (t : Tree) → chained hi (bs ++ b ∷ []) t ≡ chained hi bs (if_stmt (span b.start hi) b.test b.consequent t)
+chained_snoc hi [] b t = refl
+chained_snoc hi (x ∷ bs) b t = ap (λ (y : Tree). if_stmt (span x.start hi) x.test x.consequent y) (chained_snoc hi bs b t)
 
 -- an answer that stands where the source stood
 pub ended : {A : Type 0} (s r : Stand Input) (x : A) (P : A × Stand Input → Type 0) → r.commas ≡ s.commas → P (x, r) → Sure s.commas (Ok (x, r)) P
@@ -79,25 +83,40 @@ module _ (inner : Inner Input) (good : Sound inner) where
       (λ q. done (do_while_stmt (span (lo (seen s)) (hi (seen x.1))) x.0 y.0, next x.1) (GotStmt c s) (refl, (seen (next s), seen y.1, seen (next y.1), seen x.1, (e, b, tt, refl), k, (z, w, tt, refl), h, inl (q, tt, refl), refl)))
       (λ q. done (do_while_stmt (span (lo (seen s)) x.1.source.last) x.0 y.0, x.1) (GotStmt c s) (refl, (seen (next s), seen y.1, seen (next y.1), seen x.1, (e, b, tt, refl), k, (z, w, tt, refl), h, inr (q, refl), refl)))))))
 
-  pub if_stmt_sure : (c : Code) (s : Stand Input) → Sure s.commas (if_by lm inner c s) (GotStmt c s)
-  unfolding if_by if_end
-  if_stmt_sure c s = word_sure c if_kind s _ _ (λ e b. then_sure s.commas (in_parens lm inner c (next s)) _ _ _ (parens_sure c (next s)) (λ x h. then_sure x.1.commas (sub_by lm inner c true x.1) _ _ _ (either_sure c x.1) (λ y k.
+  -- what was read of a chain of `else if`: with an `if` after it, it is a statement; at its end it is one
+  record Opened (c : Code) (ts : Input) (x : Chain) (s : Stand Input) : Type 0 where
+    so : (t : Tree) (r : Input) → is_statement t ≡ true → Spells t (plain x.code) (seen s) r → (is_item (chained r.last x.branches t) ≡ true) × Spells (chained r.last x.branches t) (plain c) ts r
+
+  record Ended (c : Code) (ts : Input) (x : Chain) (s : Stand Input) : Type 0 where
+    so : (is_item (chained (seen s).last x.branches x.last) ≡ true) × Spells (chained (seen s).last x.branches x.last) (plain c) ts (seen s)
+
+  -- one branch more, before this alternative
+  branch_sure : (c : Code) (ts : Input) (x : Chain) (s : Stand Input) → Opened c ts x s → (e a t : Tree) (m n r : Input) → TakesWord (plain x.code) if_kind (seen s) (seen (next s)) → InParens (plain x.code) (part e (λ y. Spells e y)) (seen (next s)) m → SubOrFunction (plain x.code) (part a (λ y. Spells a y)) m n
+      → By (is_absent t) ((kind n ≡ else_kind → ⊥) × (n ≡ r)) ((o : Input) × TakesWord (plain x.code) else_kind n o × SubOrFunction (plain x.code) (part t (λ y. Spells t y)) o r)
+      → (is_item (chained r.last (branched lm inner s x e a).branches t) ≡ true) × Spells (chained r.last (branched lm inner s x e a).branches t) (plain c) ts r
+  branch_sure c ts x s i e a t m n r w h k b = subst (λ (y : Tree). (is_item y ≡ true) × Spells y (plain c) ts r) (sym (chained_snoc r.last x.branches (record { start = lo (seen s); test = e; consequent = a }) t))
+      (i.so (if_stmt (span (lo (seen s)) r.last) e a t) r refl (seen (next s), m, n, w, h, k, b, refl))
+
+  if_step_sure : (c : Code) (ts : Input) (x : Chain) (s : Stand Input) → Opened c ts x s → Sure s.commas (if_step lm inner x s) (StepSure (Opened c ts) (Ended c ts))
+  unfolding if_step else_by
+  if_step_sure c ts x s i = word_sure x.code if_kind s _ _ (λ e b. then_sure s.commas (in_parens lm inner x.code (next s)) _ _ _ (parens_sure x.code (next s)) (λ u h. then_sure u.1.commas (sub_by lm inner x.code true u.1) _ _ _ (either_sure x.code u.1) (λ y k.
       test_sure y.1.commas (kind (seen y.1)) else_kind _ _ _
-      (λ z. word_sure c else_kind y.1 _ _ (λ q w. then_sure y.1.commas (sub_by lm inner c true (next y.1)) _ _ _ (either_sure c (next y.1)) (λ u j.
-      done (if_stmt (span (lo (seen s)) u.1.source.last) x.0 y.0 u.0, u.1) (GotStmt c s) (
-        refl,
-        (
-          seen (next s),
-          seen x.1,
-          seen y.1,
-          (e, b, tt, refl),
-          h,
-          k,
-          by_no (is_absent u.0) ((kind (seen y.1) ≡ else_kind → ⊥) × (seen y.1 ≡ seen u.1)) ((p : Input) × TakesWord (plain c) else_kind (seen y.1) p × SubOrFunction (plain c) (part u.0 (λ a. Spells u.0 a)) p (seen u.1)) (stated u.0 (not (is_strict c)) j.0) (seen (next y.1), (q, w, tt, refl), j),
-          refl,
-        ),
-      ))))
-      (λ n. done (if_stmt (span (lo (seen s)) y.1.source.last) x.0 y.0 absent, y.1) (GotStmt c s) (refl, (seen (next s), seen x.1, seen y.1, (e, b, tt, refl), h, k, (n, refl), refl))))))
+      (λ z. word_sure x.code else_kind y.1 _ _ (λ q w. test_sure y.1.commas (kind (seen (next y.1))) if_kind _ _ _
+      (λ v. done (go_on (record { branches = (branched lm inner s x u.0 y.0).branches; code = alone x.code; last = absent }), next y.1) (StepSure (Opened c ts) (Ended c ts))
+      (record { so = λ t r g f. branch_sure c ts x s i u.0 y.0 t (seen u.1) (seen y.1) r (e, b, tt, refl) h k (alternative x.code t (seen y.1) (seen (next y.1)) r (q, w, tt, refl) (or_left (is_statement t) _ g, f)) }))
+      (λ v. then_sure y.1.commas (sub_by lm inner x.code true (next y.1)) _ _ _ (either_sure x.code (next y.1)) (λ o j.
+      done (finished (record { branches = (branched lm inner s x u.0 y.0).branches; code = x.code; last = o.0 }), o.1) (StepSure (Opened c ts) (Ended c ts))
+      (record { so = branch_sure c ts x s i u.0 y.0 o.0 (seen u.1) (seen y.1) (seen o.1) (e, b, tt, refl) h k (alternative x.code o.0 (seen y.1) (seen (next y.1)) (seen o.1) (q, w, tt, refl) j) })))))
+      (λ n. done (finished (branched lm inner s x u.0 y.0), y.1) (StepSure (Opened c ts) (Ended c ts)) (record { so = branch_sure c ts x s i u.0 y.0 absent (seen u.1) (seen y.1) (seen y.1) (e, b, tt, refl) h k (n, refl) })))))
+    where
+      alternative : (y : Code) (t : Tree) (n o r : Input) → TakesWord (plain y) else_kind n o → SubOrFunction (plain y) (part t (λ a. Spells t a)) o r → By (is_absent t) ((kind n ≡ else_kind → ⊥) × (n ≡ r)) ((o : Input) × TakesWord (plain y) else_kind n o × SubOrFunction (plain y) (part t (λ y. Spells t y)) o r)
+      alternative y t n o r w j = by_no (is_absent t) ((kind n ≡ else_kind → ⊥) × (n ≡ r)) ((p : Input) × TakesWord (plain y) else_kind n p × SubOrFunction (plain y) (part t (λ a. Spells t a)) p r) (stated t (not (is_strict y)) j.0) (o, w, j)
+
+  pub if_stmt_sure : (c : Code) (s : Stand Input) → Sure s.commas (if_by lm inner c s) (GotStmt c s)
+  unfolding if_by
+  if_stmt_sure c s = then_sure s.commas (iterate _ (if_step lm inner) (record { branches = []; code = c; last = absent }) s) _ _ _
+      (loop_sure (if_step lm inner) (Opened c (seen s)) (Ended c (seen s)) (λ x r i. if_step_sure c (seen s) x r i) (record { branches = []; code = c; last = absent }) s (record { so = λ t r g f. (or_left (is_statement t) _ g, f) }))
+      (λ x h. done (chained x.1.source.last x.0.branches x.0.last, x.1) (GotStmt c s) h.so)
 
   pub return_sure : (c : Code) (s : Stand Input) → Sure s.commas (return_by lm inner c s) (GotStmt c s)
   unfolding return_by

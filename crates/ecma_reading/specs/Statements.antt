@@ -16,6 +16,22 @@ pub record Body : Type 0 where
   pub code : Code
   pub starts : Bool
 
+-- An `if` up to its alternative, and a chain of `else if`: its branches, the code in which the next one stands, and the last alternative.
+pub record Branch : Type 0 where
+  pub start : ℕ
+  pub test : Tree
+  pub consequent : Tree
+
+pub record Chain : Type 0 where
+  pub branches : List Branch
+  pub code : Code
+  pub last : Tree
+
+-- the statement that branches make, up to a place
+abbrev pub chained : ℕ → List Branch → Tree → Tree
+chained hi [] t = t
+chained hi (b ∷ bs) t = if_stmt (span b.start hi) b.test b.consequent (chained hi bs t)
+
 module _ {S : Type 0} (m : Machine S) (inner : Inner S) where
   -- ---- patterns that bind (14.3.3)
 
@@ -231,12 +247,22 @@ module _ {S : Type 0} (m : Machine S) (inner : Inner S) where
   do_by c s = eat_word m c do_kind s >>= λ r. sub_by c false r >>= λ b. eat_word m c while_kind b.1 >>= λ w. in_parens c w >>= λ e.
       if at m semicolon_kind e.1 then Ok (do_while_stmt (spanned m s (past m e.1)) e.0 b.0, past m e.1) else Ok (do_while_stmt (spanned m s e.1) e.0 b.0, e.1)
 
-  unfoldable pub if_end : Code → Stand S → Tree → Tree → Read S Tree
-  if_end c start e a s =
-      if at m else_kind s then (eat_word m c else_kind s >>= λ r. sub_by c true r >>= λ b. Ok (if_stmt (spanned m start b.1) e a b.0, b.1)) else Ok (if_stmt (spanned m start s) e a absent, s)
+  -- one more branch of a chain
+  abbrev pub branched : Stand S → Chain → Tree → Tree → Chain
+  branched s x e a = record { branches = x.branches ++ record { start = lo (input m s); test = e; consequent = a } ∷ []; code = x.code; last = absent }
+
+  -- after `else`: another `if` goes on, and nests no deeper
+  unfoldable pub else_by : Chain → Read S (Step Chain)
+  else_by x s =
+      if at m if_kind (operand m s) then Ok (go_on (record { branches = x.branches; code = alone x.code; last = absent }), operand m s)
+      else (sub_by x.code true s >>= λ b. Ok (finished (record { branches = x.branches; code = x.code; last = b.0 }), b.1))
+
+  unfoldable pub if_step : Chain → Read S (Step Chain)
+  if_step x s = eat_word m x.code if_kind s >>= λ r. in_parens x.code r >>= λ e. sub_by x.code true e.1 >>= λ a.
+      if at m else_kind a.1 then (eat_word m x.code else_kind a.1 >>= λ o. else_by (branched s x e.0 a.0) o) else Ok (finished (branched s x e.0 a.0), a.1)
 
   unfoldable pub if_by : Code → Read S Tree
-  if_by c s = eat_word m c if_kind s >>= λ r. in_parens c r >>= λ e. sub_by c true e.1 >>= λ a. if_end c s e.0 a.0 a.1
+  if_by c s = iterate (bound m) if_step (record { branches = []; code = c; last = absent }) s >>= λ x. Ok (chained (m.last x.1.source) x.0.branches x.0.last, x.1)
 
   -- `return`, `break` and `continue`, `throw`: what follows stands on their line
   abbrev pub ends_here : Code → Stand S → Bool

@@ -1,0 +1,4 @@
+pub mod Yields
+pub mod Levels
+pub mod Trees
+pub mod Cuts

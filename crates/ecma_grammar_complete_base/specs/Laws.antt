@@ -1,0 +1,49 @@
+-- The order of tokens, and what may follow an expression: what the laws speak of.
+use Rattle.std.specs.Prelude.{◌≡◌, ◌≤◌, ◌<◌, ℕ, suc, max, Bool, true, false, not, ◌&&◌, ◌||◌, ◌==◌, List, [], ◌∷◌, Result, Ok, Err}
+use Rattle.ecma_token.specs.Kinds.{template_kind, arrow_kind, function_kind}
+use Rattle.ecma_tree.specs.Tree.{Tree, Trees, none, more, this_expr, null_lit, bool_lit, ident, str_lit, number_lit, big_int_lit, regex_lit, paren_expr, array_lit, expr_or_spread, hole, unary_expr, update_expr, await_expr, bin_expr, cond_expr, seq_expr, member_expr, computed_prop_name, ident_name, private_name, call_expr, new_expr, list, absent, super, import, tpl, tpl_element, tagged_tpl, opt_chain_expr, opt_call, super_prop_expr, meta_prop_expr, yield_expr, object_lit, key_value_prop, assign_prop, spread_element, binding_ident, array_pat, object_pat, assign_pat, rest_pat, key_value_pat_prop, assign_pat_prop, expr_pat, assign_expr, arrow_expr}
+use Rattle.ecma_syntax.specs.Input.{Place, Input, Code, kind, kind2, brk, brk2, is_word, always_reserved}
+use Rattle.ecma_syntax.specs.Operators.{goes_expr}
+use Rattle.ecma_syntax.specs.Shape.{level, ends, is_rest}
+use Rattle.ecma_grammar.specs.Grammar.{Spells}
+use Rattle.ecma_reading.specs.Source.{Fault, Unexpected, TooDeep, Stand, list_machine}
+use Rattle.ecma_reading.specs.Reading.{readers}
+
+-- ---- tokens
+
+-- relation's code for a reading's code: an expression's, whether or not goals and contexts are judged
+abbrev pub coded : Bool → Code → Code
+coded p c = record c { binds = false; placed = p }
+
+-- that of a pattern that binds
+abbrev pub patterned : Bool → Code → Code
+patterned p c = record c { binds = true; placed = p }
+
+-- A place begins where the one before it ends, or later, and has a character, but for the characters of a template.
+abbrev pub InOrder : ℕ → List Place → Type 0
+InOrder last [] = Unit {0}
+InOrder last (p ∷ ps) = (last ≤ p.spot.lo) × (p.spot.lo ≤ p.spot.hi) × ((p.spot.token.kind ≡ template_kind → ⊥) → p.spot.lo < p.spot.hi) × InOrder p.spot.hi ps
+
+-- ---- what may follow
+
+-- a level that is asked for: neither that of a conditional nor that of an update
+pub record Asked (l : ℕ) : Type 0 where
+  pub conditional : l ≡ 3 → ⊥
+  pub update : l ≡ 17 → ⊥
+
+-- What stands after an expression doesn't turn the word `async` before it into a function or an arrow, in whatever code.
+abbrev pub sober : Code → Input → Bool
+sober c m = brk m || not ((kind m == function_kind) || ((is_word (kind m) && not (always_reserved (kind m))) && (not (brk m) && (kind2 m == arrow_kind) && not (brk2 m))))
+
+-- what can't start an operand of `yield` on its line
+abbrev pub ends_operand : ℕ → Bool
+ends_operand k = (k == 0) || ((k == 8) || ((k == 10) || ((k == 12) || ((k == 14) || ((k == 13) || ((k == 17) || (k == 130)))))))
+
+abbrev pub quits : Input → Bool
+quits m = brk m || ends_operand (kind m)
+
+-- What may follow an expression of this end at this level; a bare `yield` also asks that no operand starts on its line.
+pub record Follow (c : Code) (e l : ℕ) (m : Input) : Type 0 where
+  pub stop : goes_expr c e m < l
+  pub sober : sober c m ≡ true
+  pub quits : 2 ≤ e → quits m ≡ true

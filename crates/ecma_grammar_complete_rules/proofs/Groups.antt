@@ -1,0 +1,100 @@
+-- What the reader of parentheses answers where an expression stands in them.
+use Rattle.std.proofs.Common.{◌≡◌, ℕ, zero, suc, ◌+◌, ◌<◌, ◌≤◌, ◌⊎◌, inl, inr, max, Bool, true, false, not, ◌&&◌, ◌||◌, ◌==◌, cond, eqb, leb, List, [], ◌∷◌, ◌++◌, length, Option, Some, None, Result, Ok, Err, refl, sym, ap, ◌∙◌, subst, ⊎_elim, true≢false, append_assoc, append-nil, arith}
+use Rattle.std.proofs.lemmas.Bool.{eqb-true, eqb-false, ne_eqb, eq-eqb}
+use Rattle.ecma_token.specs.declared.place.Span.{Span}
+use Rattle.ecma_token.specs.Kinds.{comma_kind, right_paren_kind, left_paren_kind}
+use Rattle.ecma_tree.specs.Tree.{Tree, Trees, none, more, pack, unpack, expr_or_spread, seq_expr, paren_expr}
+use Rattle.ecma_tree.specs.Places.{place_of}
+use Rattle.ecma_syntax.specs.Input.{Input, Code, kind, lo, rest, span, with_in}
+use Rattle.ecma_syntax.specs.Shape.{level}
+use Rattle.ecma_grammar.specs.Parts.{Part, part, CommaThen, Expr}
+use Rattle.ecma_grammar.specs.Grammar.{Spells, parts}
+use Rattle.ecma_reading.specs.Source.{Fault, ◌>>=◌, unexpected, Stand, Inner, Step, go_on, finished}
+use Rattle.ecma_reading.specs.Expressions.{Elements, no_elements, element_step, elements_by, plain_element, plain_elements, last_end, joined, prefix_by, group_by, group_end}
+use Rattle.ecma_reading.specs.Reading.{readers}
+use Rattle.ecma_grammar_complete_base.proofs.Yields.{lm, from, len, coded, then_reads, Is, Loops, loop_on, loop_end, looped, Reads, here, past_here, ended, if_no, if_yes, then_past_reads}
+use Rattle.ecma_grammar_complete_rules.proofs.Lengths.{taken}
+use Rattle.ecma_grammar_complete_base.proofs.Trees.{Covered, CoveredAll, size, sizes, reach, reaches, takes}
+use Rattle.ecma_grammar_complete_rules.proofs.Prefixes.{arrowed}
+use Rattle.ecma_grammar_complete_rules.proofs.Lists.{Finds, step_comma, step_close}
+
+-- elements that are these expressions, no comma after them, up to a place and with these tokens as the rest
+pub record Grouped (es : List Tree) (u : ℕ) (r : Input) (x : Elements × Stand Input) : Type 0 where
+  pub comma : x.0.comma ≡ false
+  pub items : plain_elements x.0.items ≡ Some es
+  pub last : last_end x.0.items ≡ u
+  pub source : x.1.source ≡ r
+
+abbrev joins : Option Tree → Option (List Tree) → Option (List Tree)
+joins None q = None
+joins (Some e) None = None
+joins (Some e) (Some es) = Some (e ∷ es)
+
+abbrev snoc : Tree → Option (List Tree) → Option (List Tree)
+snoc x None = None
+snoc x (Some es) = Some (es ++ x ∷ [])
+
+abbrev IsSome : Option (List Tree) → Type 0
+IsSome None = ⊥
+IsSome (Some es) = Unit {0}
+
+joins_after : (x : Tree) (o : Option Tree) (q w : Option (List Tree)) (ds : List Tree) → ((es : List Tree) → q ≡ Some es → w ≡ Some (es ++ x ∷ [])) → joins o q ≡ Some ds → joins o w ≡ Some (ds ++ x ∷ [])
+joins_after x None q w ds g h = absurd (subst IsSome (sym h) tt)
+joins_after x (Some e) None w ds g h = absurd (subst IsSome (sym h) tt)
+joins_after x (Some e) (Some es) w ds g h = ap (joins (Some e)) (g es refl) ∙ ap (snoc x) h
+
+plain_is : (a : Tree) (acc : List Tree) → plain_elements (a ∷ acc) ≡ joins (plain_element a) (plain_elements acc)
+plain_is a acc = by_parts (plain_element a) (plain_elements acc)
+  where
+    by_parts : (o : Option Tree) (q : Option (List Tree)) → elim o [ None ↦ None | Some e ↦ elim q [ None ↦ None | Some es ↦ Some (e ∷ es) ] ] ≡ joins o q
+    by_parts None q = refl
+    by_parts (Some e) None = refl
+    by_parts (Some e) (Some es) = refl
+
+plain_after : (acc ds : List Tree) (s : Span) (x : Tree) → plain_elements acc ≡ Some ds → plain_elements (acc ++ expr_or_spread s None x ∷ []) ≡ Some (ds ++ x ∷ [])
+plain_after [] ds s x h = ap (snoc x) h
+plain_after (a ∷ acc) ds s x h = plain_is a (acc ++ expr_or_spread s None x ∷ []) ∙ joins_after x (plain_element a) (plain_elements acc) (plain_elements (acc ++ expr_or_spread s None x ∷ [])) ds (λ es q. plain_after acc es s x q) (sym (plain_is a acc) ∙ h)
+
+last_after : (acc : List Tree) (x : Tree) → last_end (acc ++ x ∷ []) ≡ (place_of x).hi.0
+last_after [] x = refl
+last_after (a ∷ []) x = refl
+last_after (a ∷ (b ∷ acc)) x = last_after (b ∷ acc) x
+
+module _ (z d : ℕ) (f : Finds z d) (p : Bool) (c : Code) where
+  abbrev wrapped : Input → Input → Tree → Tree
+  wrapped ts m x = expr_or_spread (span (lo ts) m.last) None x
+
+  group_loop : (x : Tree) (xs : Trees) (acc ds : List Tree) (b : Bool) (ts m u r : Input) (k : List ℕ) (n : ℕ) → plain_elements acc ≡ Some ds → size x < z → sizes xs < z → Covered x → CoveredAll xs → Expr 2 (coded p (with_in c)) (part x (λ y. Spells x y)) ts m
+      → CommaThen (Expr 2 (coded p (with_in c))) (coded p (with_in c)) (parts xs) m u → kind u ≡ right_paren_kind → rest u ≡ r → max (reach x) (reaches xs) ≤ n
+      → Loops (element_step lm (readers lm d) (with_in c) false right_paren_kind) (record { items = acc; comma = b }) ts k (Grouped (ds ++ (x ∷ unpack xs)) u.last r) (d < n)
+  group_loop x none acc ds b ts m u r k n pl sz szs g gs h w e t le =
+      loop_end _ _ (record { items = acc ++ wrapped ts m x ∷ []; comma = false }) ts r k (d < reach x) _ _
+      (step_close z d f p (with_in c) false right_paren_kind refl refl refl (wrapped ts m x) acc b ts m r k sz g refl (h, refl) (ap (λ (v : Input). kind v) w ∙ e) (ap (λ (v : Input). rest v) w ∙ t)) (λ v. omega arith)
+      (λ l. record { comma = refl; items = plain_after acc ds (span (lo ts) m.last) x pl; last = last_after acc (wrapped ts m x) ∙ ap (λ (v : Input). v.last) w; source = refl })
+  group_loop x (more y ys) acc ds b ts m u r k n pl sz szs g gs h w e t le =
+      loop_on _ _ (record { items = acc ++ wrapped ts m x ∷ []; comma = true }) ts w.0 k (d < reach x) _ _
+      (step_comma z d f p (with_in c) false right_paren_kind refl refl refl (wrapped ts m x) acc b ts m w.0 k sz g refl (h, refl) w.2.0 w.2.2) (λ v. omega arith)
+      (omega (arith, taken x _ ts m (omega (arith, h.0)) h.1, takes comma_kind m w.0 w.2.0 (omega arith) w.2.2))
+      (λ l. subst (λ es. Loops (element_step lm (readers lm d) (with_in c) false right_paren_kind) (record { items = acc ++ wrapped ts m x ∷ []; comma = true }) w.0 l (Grouped es u.last r) (d < n)) (append_assoc ds (x ∷ []) (y ∷ unpack ys))
+      (group_loop y ys (acc ++ wrapped ts m x ∷ []) (ds ++ x ∷ []) true w.0 w.1 u r l n (plain_after acc ds (span (lo ts) m.last) x pl) (omega arith) (omega arith) gs.0 gs.1 w.3 w.4 e t (omega arith)))
+
+-- the expression that these make
+abbrev pub Joins : List Tree → Span → Tree → Type 0
+Joins es s e = joined es s ≡ e
+
+pub paren_found : (inner : Inner Input) (c : Code) (ts : Input) (k : List ℕ) (s : Span) (e x : Tree) (es : List Tree) (u : ℕ) (m r : Input) (P Q : Type 0) → kind ts ≡ left_paren_kind → rest ts ≡ m → ((j : List ℕ) → Reads (from m j) (elements_by lm inner (with_in c) false right_paren_kind (from m j)) (Grouped (x ∷ es) u r) P) → (P → Q)
+    → arrowed r ≡ false → joined (x ∷ es) (span (lo m) u) ≡ e → s ≡ span (lo ts) r.last → Reads (from ts k) (prefix_by lm inner c (from ts k)) (Is (paren_expr s e) r) Q
+unfolding prefix_by group_by group_end
+paren_found inner c ts k s e x es u m r P Q o q y i a v p = rw o (then_past_reads ts m k (elements_by lm inner (with_in c) false right_paren_kind) _ (Grouped (x ∷ es) u r) P _ Q q (y k) i
+    (λ z h. if_no (arrowed z.1.source) _ _ _ _ (subst (λ (w : Input). arrowed w ≡ false) (sym h.source) a) (if_no z.0.comma _ _ _ _ h.comma
+    (rw h.items (ended _ _ Q (
+      ap (λ (w : ℕ). paren_expr (span (lo ts) z.1.source.last) (joined (x ∷ es) (span (lo (rest ts)) w))) h.last ∙ ap (λ (w : Input). paren_expr (span (lo ts) z.1.source.last) (joined (x ∷ es) (span (lo w) u))) q
+          ∙ ap (λ w. paren_expr (span (lo ts) z.1.source.last) w) v ∙ ap (λ (w : Input). paren_expr (span (lo ts) w.last) e) h.source ∙ ap (λ w. paren_expr w e) (sym p),
+      h.source,
+    ))))))
+
+pub group_found : (z d : ℕ) (f : Finds z d) (p : Bool) (c : Code) (x : Tree) (xs : Trees) (ts m u r : Input) (k : List ℕ) (n : ℕ) → size x < z → sizes xs < z → Covered x → CoveredAll xs → Expr 2 (coded p (with_in c)) (part x (λ y. Spells x y)) ts m
+    → CommaThen (Expr 2 (coded p (with_in c))) (coded p (with_in c)) (parts xs) m u → kind u ≡ right_paren_kind → rest u ≡ r → max (reach x) (reaches xs) ≤ n
+    → Reads (from ts k) (elements_by lm (readers lm d) (with_in c) false right_paren_kind (from ts k)) (Grouped (x ∷ unpack xs) u.last r) (d < n)
+unfolding elements_by
+group_found z d f p c x xs ts m u r k n sz szs g gs h w e t le = looped _ no_elements ts k _ _ (group_loop z d f p c x xs [] [] false ts m u r k n refl sz szs g gs h w e t le)

@@ -1,0 +1,10 @@
+pub mod Lengths
+pub mod Prefixes
+pub mod Lists
+pub mod Steps
+pub mod Members
+pub mod Objects
+pub mod Groups
+pub mod Finds
+pub mod Words
+pub mod News

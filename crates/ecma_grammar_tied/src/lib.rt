@@ -1,0 +1,2 @@
+//! Laws of the grammar: what a tree spells is read.
+#![tactic(auto)]

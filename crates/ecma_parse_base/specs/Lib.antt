@@ -1,0 +1,2 @@
+-- What rules of the parser make.
+pub mod Operands

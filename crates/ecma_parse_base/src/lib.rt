@@ -1,0 +1,9 @@
+//! What the rules of the parser share: operands, the makers of nodes, and what rules call for nested parts.
+#![tactic(auto)]
+
+pub mod made;
+pub mod nested;
+pub mod operand;
+
+pub use nested::Nested;
+pub use operand::Operand;
