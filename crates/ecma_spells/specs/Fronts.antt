@@ -6,6 +6,7 @@ use Rattle.ecma_token.specs.declared.syntax.EsSyntax.{EsSyntax}
 use Rattle.ecma_token.specs.Kinds.{comma_kind}
 use Rattle.ecma_tree.specs.Places.{no_place}
 use Rattle.ecma_tree.specs.Tree.{Tree, none, more, script, list}
+use Rattle.ecma_nesting.specs.Nesting.{nesting}
 use Rattle.ecma_syntax.specs.Input.{Place, Input, Code, Takes, script_code, module_code, binding, alone, in_list}
 use Rattle.ecma_syntax.specs.Operators.{expression_level, assignment_level, goes_expr}
 use Rattle.ecma_syntax.specs.Shape.{level, ends, is_binding, is_key, is_param, is_rest, is_statement, is_item, is_clean}
@@ -83,7 +84,7 @@ pub record Fronts (x : Setting) (P : Tree → Input → Input → Type 0) (Rests
   pub derived : P t ts r
   pub complete : IsComplete P (Rests t r) ts r
   pub clean : faults ≡ []
-  pub within : x.nesting t ≤ x.limit
+  pub within : nesting t ≤ x.limit
 
 -- ---- the entries
 

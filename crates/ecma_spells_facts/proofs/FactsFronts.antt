@@ -28,7 +28,7 @@ abbrev past_name : List Place → Input
 past_name ps = record { last = 2; places = ps }
 
 -- `a` alone is an expression from a complete front
-alone : (x : Setting) → x.nesting (ident (span 1 2) (97 ∷ [])) ≤ x.limit → ExpressionFront x (ident (span 1 2) (97 ∷ [])) (at_name []) (past_name [])
+alone : (x : Setting) → 1 ≤ x.limit → ExpressionFront x (ident (span 1 2) (97 ∷ [])) (at_name []) (past_name [])
 unfolding early_errors faults_in is_clean kind_of
 alone x le = record {
   derived = (omega arith, (((refl, refl, refl, refl, (refl, refl), refl), refl), refl));

@@ -32,7 +32,7 @@ nothing_left Module true = ([], (refl, no_trivia Module true [] refl), refl)
 nothing_left Module false = ([], (refl, no_trivia Module false [] refl), refl)
 
 -- the empty text, as a script and as a module
-empty_script : (x : Setting) → x.nesting (script (span 1 1) none None) ≤ x.limit → TreeSpells x false (script (span 1 1) none None) []
+empty_script : (x : Setting) → 1 ≤ x.limit → TreeSpells x false (script (span 1 1) none None) []
 unfolding early_errors faults_in is_clean
 empty_script x le = record {
   reads = ([], record { last = 1; places = [] }, refl, inl (no_hashbang [] refl, (false, nothing_left Script true)), ((record { last = 1; places = [] }, refl, (refl, refl), refl), refl));
@@ -40,7 +40,7 @@ empty_script x le = record {
   within = le;
 }
 
-empty_module : (x : Setting) → x.nesting (es_module (span 1 1) none None) ≤ x.limit → TreeSpells x true (es_module (span 1 1) none None) []
+empty_module : (x : Setting) → 1 ≤ x.limit → TreeSpells x true (es_module (span 1 1) none None) []
 unfolding early_errors faults_in is_clean
 empty_module x le = record {
   reads = ([], record { last = 1; places = [] }, refl, inl (no_hashbang [] refl, (false, nothing_left Module true)), ((record { last = 1; places = [] }, refl, (refl, refl), refl), refl));
@@ -55,7 +55,7 @@ semicolon = record { spot = record { token = record { kind = semicolon_kind; con
 abbrev semicolon_script : Tree
 semicolon_script = script (span 1 2) (more (empty_stmt (span 1 2)) none) None
 
-one_semicolon : (x : Setting) → x.nesting semicolon_script ≤ x.limit → TreeSpells x false semicolon_script (59 ∷ [])
+one_semicolon : (x : Setting) → 2 ≤ x.limit → TreeSpells x false semicolon_script (59 ∷ [])
 unfolding early_errors faults_in is_clean trivia.read_by lib.Utf8.encode
 one_semicolon x le = record {
   reads = (

@@ -14,7 +14,7 @@ use Rattle.ecma_stepping.proofs.Tokens.{token_shorter}
 use Rattle.ecma_stepping.proofs.Trivia.{hashbang_shorter}
 use Rattle.ecma_tilings.proofs.Behind.{Behind, here, follow_behind, hashbang_behind, lexeme_behind, place_rises}
 use Rattle.ecma_syntax.specs.Input.{Place, template_goal}
-use Rattle.ecma_grammar_complete.specs.Laws.{InOrder}
+use Rattle.ecma_grammar_complete_base.specs.Laws.{InOrder}
 use Rattle.ecma_spells.specs.Tiled.{goal_at, whole, IsBeforeBy, AreTiles, AfterHashbang, Tile}
 
 -- what is left takes fewer bytes, and no more
