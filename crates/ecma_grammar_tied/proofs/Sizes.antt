@@ -1,8 +1,9 @@
 -- What a node's rule hands on is smaller than the node, and reaches less deep.
 use Rattle.std.proofs.Common.{◌≡◌, ℕ, zero, suc, ◌+◌, ◌<◌, ◌≤◌, max, Bool, true, false, refl, true≢false, sym, arith}
-use Rattle.ecma_tree.specs.Tree.{Tree, Trees, none, more, block_stmt, empty_stmt, debugger_stmt, with_stmt, return_stmt, labeled_stmt, break_stmt, continue_stmt, if_stmt, switch_stmt, switch_case, throw_stmt, try_stmt, catch_clause, while_stmt, do_while_stmt, for_stmt, for_in_stmt, for_of_stmt, expr_stmt, class_decl, fn_decl, var_decl, using_decl, var_declarator, function, param, class, constructor, class_method, private_method, class_prop, private_prop, static_block, auto_accessor, computed_prop_name, fn_expr, class_expr, assign_pat, rest_pat, method_prop, getter_prop, setter_prop}
+use Rattle.ecma_tree.specs.Tree.{Tree, Trees, none, more, block_stmt, empty_stmt, debugger_stmt, with_stmt, return_stmt, labeled_stmt, break_stmt, continue_stmt, if_stmt, switch_stmt, switch_case, throw_stmt, try_stmt, catch_clause, while_stmt, do_while_stmt, for_stmt, for_in_stmt, for_of_stmt, expr_stmt, class_decl, fn_decl, var_decl, using_decl, var_declarator, function, param, class, constructor, class_method, private_method, class_prop, private_prop, static_block, auto_accessor, computed_prop_name, fn_expr, class_expr, assign_pat, rest_pat, method_prop, getter_prop, setter_prop, import_decl, named_export, export_all, export_decl, export_default_decl, export_default_expr, object_lit, key_value_prop}
 use Rattle.ecma_grammar_complete_base.proofs.Trees.{size, sizes, reach, reaches}
 use Rattle.ecma_grammar_complete_parts.proofs.Within.{Each, most, ItemIn, item_in, Within, Withins, within, withins}
+use Rattle.ecma_grammar_complete_modules.proofs.Sources.{Valued, valued, Attributed, attributed, InModule, in_module}
 
 -- a tree of a size below a bound
 abbrev pub Small : ℕ → Tree → Type 0
@@ -195,3 +196,49 @@ called_reach (fn_expr s n f) h = omega (arith, within_reach f)
 called_reach (class_expr s n k) h = omega arith
 called_reach (class s ds ms k) h = omega (arith, withins_reach ms)
 called_reach _ h = absurd (true≢false (sym h))
+
+-- ---- items of modules
+
+valued_small : (z : ℕ) (ps : Trees) → sizes ps < z → Valued (Small z) ps
+valued_small z none h = tt
+valued_small z (more (key_value_prop s k v) ps) h = (omega (arith, h), valued_small z ps (omega (arith, h)))
+valued_small z (more _ ps) h = tt
+
+attributed_small : (z : ℕ) (t : Tree) → size t < z → Attributed (Small z) t
+attributed_small z (object_lit s ps) h = valued_small z ps (omega (arith, h))
+attributed_small z _ h = tt
+
+module_small : (z : ℕ) (t : Tree) → size t < z → InModule (Small z) t
+module_small z (import_decl s xs f w) h = attributed_small z w (omega (arith, h))
+module_small z (named_export s xs f w) h = attributed_small z w (omega (arith, h))
+module_small z (export_all s f w) h = attributed_small z w (omega (arith, h))
+module_small z (export_decl s e) h = omega (arith, h)
+module_small z (export_default_decl s e) h = inward z e (omega (arith, h))
+module_small z (export_default_expr s e) h = omega (arith, h)
+module_small z t h = h
+
+pub items_small : (z : ℕ) (ts : Trees) → sizes ts < z → Each (InModule (Small z)) ts
+items_small z none h = tt
+items_small z (more t ts) h = (module_small z t (omega (arith, h)), items_small z ts (omega (arith, h)))
+
+valued_reach : (ps : Trees) → valued reach ps ≤ reaches ps
+valued_reach none = omega arith
+valued_reach (more (key_value_prop s k v) ps) = omega (arith, valued_reach ps)
+valued_reach (more _ ps) = omega arith
+
+attributed_reach : (t : Tree) → attributed reach t ≤ reach t
+attributed_reach (object_lit s ps) = omega (arith, valued_reach ps)
+attributed_reach _ = omega arith
+
+module_reach : (t : Tree) → in_module reach t ≤ reach t
+module_reach (import_decl s xs f w) = omega (arith, attributed_reach w)
+module_reach (named_export s xs f w) = omega (arith, attributed_reach w)
+module_reach (export_all s f w) = omega (arith, attributed_reach w)
+module_reach (export_decl s e) = omega arith
+module_reach (export_default_decl s e) = omega (arith, within_reach e)
+module_reach (export_default_expr s e) = omega arith
+module_reach t = omega arith
+
+pub items_reach : (ts : Trees) → most (in_module reach) ts ≤ reaches ts
+items_reach none = omega arith
+items_reach (more t ts) = omega (arith, module_reach t, items_reach ts)

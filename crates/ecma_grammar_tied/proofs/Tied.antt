@@ -76,7 +76,7 @@ pub record Facts (z d : ℕ) : Type 0 where
   pub body : (s : Span) (ss : Trees) (p : Bool) (c : Code) (ts r : Input) (k : List ℕ) → Small z (block_stmt s ss) → Body (coded p c) s (parts ss) ts r → Reads (from ts k) ((readers lm d).body c (from ts k)) (Is (block_stmt s ss) r) (d < reach (block_stmt s ss))
   pub class_tail : (t : Tree) (w : ℕ) (p : Bool) (c : Code) (ts r : Input) (k : List ℕ) → Small z t → has_in c ≡ true → class_span t ≡ Some (span w r.last) → Spells t (coded p c) ts r → Reads (from ts k) ((readers lm d).class_tail c w (from ts k)) (Is t r) (d < reach t)
 
-pub nested : (z d : ℕ) → Facts z d → Nested
+abbrev pub nested : (z d : ℕ) → Facts z d → Nested
 nested z d f = record { inner = readers lm d; depth = d; Covered = Small z; reach = reach; expr = f.expr; head = f.head; pat = f.pat; stmt = f.stmt; body = f.body; class_tail = f.class_tail }
 
 -- what is nested in functions, classes and methods
@@ -139,5 +139,5 @@ known zero = record { comes = comes_none; facts = facts_none }
 known (suc z) = let a = known z in known_next z a (λ e. comes_next z e a.comes (deep_of z e (a.facts e)))
 
 -- The readers of nested parts by calls so deep are complete for every tree of a size below a bound.
-pub complete : (z d : ℕ) → Nested
+abbrev pub complete : (z d : ℕ) → Nested
 complete z d = nested z d ((known z).facts d)
