@@ -7,7 +7,7 @@ use ecma_node::ExprBox;
 
 /// An expression that was read, beside its level and the class of its last part. To find these in the tree would take a
 /// walk at each operator.
-#[derive(Debug, Drop)]
+#[derive(Drop)]
 pub struct Operand {
     pub expr: ExprBox,
     pub level: u8,

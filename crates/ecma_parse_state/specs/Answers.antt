@@ -1,6 +1,6 @@
 -- What a function of the parser answers beside what the reading function answers.
-use Rattle.std.specs.Prelude.{◌≡◌, Result, Ok, Err}
-use Rattle.ecma_reading.specs.Source.{Fault, Unexpected, TooDeep}
+use Rattle.std.specs.Prelude.{◌≡◌, Bool, true, false, Result, Ok, Err}
+use Rattle.ecma_reading.specs.Source.{Fault, Unexpected, TooDeep, Step, go_on, finished}
 use Rattle.ecma_parse_state.specs.declared.failure.Failure.{Failure}
 use Rattle.ecma_parse_state.specs.declared.failure.Failure.TheVariants as failure
 
@@ -26,3 +26,8 @@ abbrev pub IsSyntax : Failure → Type 0
 IsSyntax failure.Memory = ⊥
 IsSyntax failure.TooDeep = ⊥
 IsSyntax (failure.Syntax e) = Unit {0}
+
+-- a step's answer: whether to go on, and what was made so far
+abbrev pub going_on : {A : Type 0} → Bool → A → Step A
+going_on true x = go_on x
+going_on false x = finished x

@@ -1,6 +1,7 @@
 //! The parser's state, and the smallest steps on it.
-ghost use Rattle.std.specs.Prelude.{◌≡◌, ◌≢◌, ◌<◌, ◌≤◌, if◌then◌else◌, IfErr, IfOk, IsTrue, OnOk};
+ghost use Rattle.std.specs.Prelude.{◌≡◌, ◌≢◌, ◌<◌, ◌≤◌, if◌then◌else◌, IfErr, IfOk, IsTrue, OnOk, option_map};
 ghost use Rattle.ecma_syntax.specs.Input.{brk, brk2, escaped, first_span, hi, is_word, kind, kind2, lo, span, text};
+ghost use Rattle.ecma_tokens.specs.Machine.{shown_spot};
 ghost use Rattle.ecma_reading.specs.Source as spec;
 ghost use Rattle.ecma_parse_state.specs.Answers.{Gives, IsMemory, IsSyntax};
 ghost use Rattle.ecma_parse_state.specs.Fronts.{machine_of};
@@ -9,10 +10,11 @@ use crate::ahead::Ahead;
 use crate::failure::Failure;
 use crate::kinds;
 use crate::numbers::token_number;
-use ecma_token::{BytePos, Error, Span, SyntaxError, Token};
+use ecma_token::{BytePos, Error, Span, SyntaxError, Token, TokenAndSpan};
 use ecma_tokens::Tokens;
 use std::alloc::Global;
 use std::convert::AsStr;
+use std::mem;
 
 /// A source of tokens that is read, one token ahead.
 #[derive(Drop)]
@@ -114,6 +116,7 @@ impl<'a, I: Tokens<'a> + Drop> Parser<'a, I> {
     pub fn bump(&mut self) -> Result<(), Failure>
         ensures value { OnOk result (stand I.state self.new ≡ spec.past (machine_of I.machine) (stand I.state self.old)) }
         ensures shorter { IfOk result (λ _. kind (spec.input (machine_of I.machine) (stand I.state self.old)) ≢ 0 → spec.bound (machine_of I.machine) (stand I.state self.new) < spec.bound (machine_of I.machine) (stand I.state self.old)) }
+        ensures not_longer { IfOk result (λ _. spec.bound (machine_of I.machine) (stand I.state self.new) ≤ spec.bound (machine_of I.machine) (stand I.state self.old)) }
         ensures full { IfErr result IsMemory }
     {
         let Some(token) = &self.ahead.token else {
@@ -125,6 +128,32 @@ impl<'a, I: Tokens<'a> + Drop> Parser<'a, I> {
                 self.ahead = Ahead::new(next);
                 self.last = end;
                 Ok(())
+            }
+            Err(_) => Err(Failure::Memory),
+        }
+    }
+
+    /// Takes the token that comes, and hands it out. At the end nothing changes.
+    ///
+    /// # Errors
+    ///
+    /// Want of memory.
+    #[tactic(auto, unfolding(crate::specs::Fronts::machine_of))]
+    pub fn take(&mut self) -> Result<Option<TokenAndSpan<'a>>, Failure>
+        ensures token { IfOk result (λ t. option_map shown_spot t ≡ (stand I.state self.old).source.first) }
+        ensures value { OnOk result (stand I.state self.new ≡ spec.past (machine_of I.machine) (stand I.state self.old)) }
+        ensures shorter { IfOk result (λ _. kind (spec.input (machine_of I.machine) (stand I.state self.old)) ≢ 0 → spec.bound (machine_of I.machine) (stand I.state self.new) < spec.bound (machine_of I.machine) (stand I.state self.old)) }
+        ensures full { IfErr result IsMemory }
+    {
+        let Some(token) = &self.ahead.token else {
+            return Ok(None);
+        };
+        let end = token.span.hi;
+        match self.input.next() {
+            Ok(next) => {
+                let taken = mem::replace(&mut self.ahead, Ahead::new(next));
+                self.last = end;
+                Ok(taken.token)
             }
             Err(_) => Err(Failure::Memory),
         }
