@@ -1,10 +1,10 @@
 -- Where a buffer stands.
-use Rattle.std.proofs.Common.{◌≡◌, ℕ, ◌⊎◌, inl, inr, ⊎_elim, Option, None, Some, option_map, refl, sym, ap, subst, ◌∙◌}
+use Rattle.std.proofs.Common.{◌≡◌, ◌⊎◌, inl, inr, Option, None, Some, option_map, refl, sym, ap, subst, ◌∙◌}
 use Rattle.ecma_token.specs.Tokens.{Spot}
 use Rattle.ecma_token.specs.declared.context.Context.{Context}
 use Rattle.ecma_token.specs.declared.place.Span.{Span}
 use Rattle.ecma_tokens.specs.Machine.{Machine, Source}
-use Rattle.ecma_buffer.specs.Buffers.{Buffered, ahead, ahead_of, bumped, filled, fresh, kept, span_of, taken, token_in, told_of, turned}
+use Rattle.ecma_buffer.specs.Buffers.{Buffered, ahead_of, filled, kept, span_of, taken, token_in, told_of, turned}
 use Rattle.ecma_buffer.specs.Standing.{CopiedFrom, ReadFrom, Stands, StandsOn}
 
 none_some : {A B : Type 0} {x : A} → None ≡ Some x → B

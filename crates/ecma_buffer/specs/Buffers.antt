@@ -1,11 +1,11 @@
 -- Reading ahead of a source of tokens: what each call of a buffer leaves.
-use Rattle.std.specs.Prelude.{◌≡◌, ℕ, ◌+◌, Option, None, Some, option_map}
+use Rattle.std.specs.Prelude.{ℕ, Option, None, Some, option_map}
 use Rattle.std.specs.Option.{unwrap_or}
 use Rattle.ecma_token.specs.Tokens.{Spot}
 use Rattle.ecma_token.specs.declared.context.Context.{Context}
 use Rattle.ecma_token.specs.declared.place.Span.{Span}
 use Rattle.ecma_tokens.specs.Machine.{Machine, Source}
-use Rattle.ecma_tokens.specs.Settings.{Settings, with_ctx, with_next_regexp}
+use Rattle.ecma_tokens.specs.Settings.{with_ctx, with_next_regexp}
 
 -- A buffer at one moment: the source behind what waits; what waits, a token or the end, twice at most; the copies of the source that were
 -- made before the first that waits, and right behind it; and the place of the last token that was taken.

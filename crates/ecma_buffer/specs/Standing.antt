@@ -1,5 +1,5 @@
 -- Reading ahead changes nothing of what is to come.
-use Rattle.std.specs.Prelude.{◌≡◌, ℕ, ◌⊎◌, Option, None, Some}
+use Rattle.std.specs.Prelude.{◌≡◌, ◌⊎◌, Option, None, Some}
 use Rattle.ecma_token.specs.Tokens.{Spot}
 use Rattle.ecma_token.specs.declared.context.Context.{Context}
 use Rattle.ecma_token.specs.declared.place.Span.{Span}

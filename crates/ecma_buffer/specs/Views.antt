@@ -1,5 +1,5 @@
 -- What contracts see of a buffer.
-use Rattle.std.specs.Prelude.{ℕ, Option, option_map}
+use Rattle.std.specs.Prelude.{Option, option_map}
 use Rattle.ecma_token.specs.Tokens.{Spot}
 use Rattle.ecma_token.specs.declared.token.TokenAndSpan.{TokenAndSpan}
 use Rattle.ecma_tokens.specs.Machine.{Source, shown_spot}

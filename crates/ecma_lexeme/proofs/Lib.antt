@@ -1,4 +1,3 @@
 pub mod SortLemmas
 pub mod LexemeLemmas
 pub mod SpelledLemmas
-pub mod SmallLemmas
