@@ -19,6 +19,7 @@ pub mod patterns;
 pub mod print;
 pub mod properties;
 pub mod simple;
+pub mod spelled;
 
 pub use list::Between;
 pub use print::{Print, PrintItem, PrintPart};

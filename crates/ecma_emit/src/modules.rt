@@ -1,5 +1,5 @@
 //! Scripts, and parts of imports and exports.
-ghost use Rattle.std.specs.Prelude.{◌≡◌, codes, if◌then◌else◌, not, refl};
+ghost use Rattle.std.specs.Prelude.{◌≡◌, codes, if◌then◌else◌, not};
 ghost use Rattle.ecma_tree.specs.Tree.{part_by, trees_by};
 ghost use Rattle.ecma_node.specs.View.{view_export_default_expr, view_script};
 ghost use Rattle.ecma_layout.specs.Looks.{commit, when};
@@ -19,8 +19,6 @@ use std::convert::AsStr;
 
 impl<T: PrintPart> Print for ScriptOf<T> {
     ghost tree = { view_script T.tree };
-
-    ghost there = { λ x. refl };
 
     fn print<W: WriteJs>(&self, p: &mut Printer<W>, look: Look, _stand: Stand) {
         p.start_if(is_empty(self.body.as_slice()), self.span);
@@ -62,8 +60,6 @@ fn print_last<W: WriteJs>(p: &mut Printer<W>, look: Look)
 
 impl<T: PrintPart> Print for ExportDefaultExprOf<T> {
     ghost tree = { view_export_default_expr T.tree };
-
-    ghost there = { λ x. refl };
 
     fn print<W: WriteJs>(&self, p: &mut Printer<W>, look: Look, _stand: Stand) {
         p.start(self.span);

@@ -1,5 +1,5 @@
 //! Patterns.
-ghost use Rattle.std.specs.Prelude.{◌≡◌, true, false, not, refl};
+ghost use Rattle.std.specs.Prelude.{◌≡◌, true, false, not};
 ghost use Rattle.ecma_tree.specs.Tree.{trees_by, element_by};
 ghost use Rattle.ecma_node.specs.View.{view_array_pat, view_rest_pat, view_assign_pat};
 ghost use Rattle.ecma_layout.specs.Looks.{◌·◌, when, gap};
@@ -15,8 +15,6 @@ use ecma_write::WriteJs;
 
 impl<T: PrintPart> Print for ArrayPatOf<T> {
     ghost tree = { view_array_pat T.tree };
-
-    ghost there = { λ x. refl };
 
     fn print<W: WriteJs>(&self, p: &mut Printer<W>, look: Look, _stand: Stand) {
         let elems = self.elems.as_slice();
@@ -56,8 +54,6 @@ fn ends_with_hole<T: PrintPart>(elems: &[Option<T>]) -> bool
 impl<T: PrintPart> Print for RestPatOf<T> {
     ghost tree = { view_rest_pat T.tree };
 
-    ghost there = { λ x. refl };
-
     fn print<W: WriteJs>(&self, p: &mut Printer<W>, look: Look, _stand: Stand) {
         p.start(self.dot3_token);
         p.text(Text::Spread);
@@ -68,8 +64,6 @@ impl<T: PrintPart> Print for RestPatOf<T> {
 
 impl<T: PrintPart> Print for AssignPatOf<T> {
     ghost tree = { view_assign_pat T.tree };
-
-    ghost there = { λ x. refl };
 
     fn print<W: WriteJs>(&self, p: &mut Printer<W>, look: Look, _stand: Stand) {
         p.start(self.span);

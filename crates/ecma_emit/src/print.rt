@@ -1,7 +1,6 @@
 //! What can be printed.
 ghost use Rattle.std.specs.Prelude.{◌≡◌, true, false, MatchOption};
 ghost use Rattle.ecma_tree.specs.Tree.{Tree, none, more, part_by, element_by};
-ghost use Rattle.ecma_emit.specs.There.{element_is_there};
 ghost use Rattle.ecma_layout.specs.Looks.{◌·◌, when, gap, gap_or};
 ghost use Rattle.ecma_layout.specs.declared.look.Stand.TheVariants.{Alone};
 ghost use Rattle.ecma_edge.specs.Edges.{is_there, starts_with_word, ends_with_word, gap_before, gap_after, gap_of_unary};
@@ -22,12 +21,11 @@ pub trait Print {
     /// What it stands for.
     ghost tree: { Self → Tree };
 
-    /// Prints its layout, where `stand` says as what it stands. A fault is kept in the printer.
+    /// Prints its layout, where `stand` says as what it stands. A fault is kept in the printer. What is printed is no
+    /// part that is left out.
     fn print<W: WriteJs>(&self, p: &mut Printer<W>, look: Look, stand: Stand)
-        ensures { Prints W.tells W.state W.failed_writes W.loans (laid look stand (tree self.now)) p.old.wr p.old.fault p.new.wr p.new.fault };
-
-    /// Law: it is no part that is left out.
-    ghost there: { (x : Self) → is_there (tree x) ≡ true };
+        ensures laid { Prints W.tells W.state W.failed_writes W.loans (laid look stand (tree self.now)) p.old.wr p.old.fault p.new.wr p.new.fault }
+        ensures there { is_there (tree self.now) ≡ true };
 }
 
 /// What stands in a list of statements. What follows it depends on what it is.
@@ -59,9 +57,10 @@ pub trait PrintPart: PrintItem {
     fn starts_with_word(&self) -> bool
         ensures { result ≡ starts_with_word (Self.tree self.now) };
 
-    /// Whether its text ends with a word.
+    /// Whether its text ends with a word. It is no part that is left out.
     fn ends_with_word(&self) -> bool
-        ensures { result ≡ ends_with_word (Self.tree self.now) };
+        ensures answer { result ≡ ends_with_word (Self.tree self.now) }
+        ensures there { is_there (Self.tree self.now) ≡ true };
 
     /// Whether a blank has to stand between it and an operator behind it.
     fn gap_before(&self, op: BinaryOp) -> bool
@@ -85,8 +84,6 @@ pub trait PrintPart: PrintItem {
 
 impl<T: Print, K> Print for Child<T, K> {
     ghost tree = { λ c. T.tree c.part.value };
-
-    ghost there = { λ c. T.there c.part.value };
 
     fn print<W: WriteJs>(&self, p: &mut Printer<W>, look: Look, stand: Stand) {
         self.part.print(p, look, stand)
@@ -146,8 +143,6 @@ impl<T: PrintPart, K> PrintPart for Child<T, K> {
 impl<T: Print> Print for Box<T> {
     ghost tree = { λ b. T.tree b.value };
 
-    ghost there = { λ b. T.there b.value };
-
     fn print<W: WriteJs>(&self, p: &mut Printer<W>, look: Look, stand: Stand) {
         (**self).print(p, look, stand)
     }
@@ -156,8 +151,6 @@ impl<T: Print> Print for Box<T> {
 /// An element of a list, or a hole.
 impl<T: Print> Print for Option<T> {
     ghost tree = { element_by T.tree };
-
-    ghost there = { λ x. element_is_there T.tree T.there x };
 
     fn print<W: WriteJs>(&self, p: &mut Printer<W>, look: Look, stand: Stand) {
         if let Some(x) = self {
@@ -228,7 +221,9 @@ pub fn print_maybe_in_parens<T: Print, W: WriteJs>(t: &Option<T>, p: &mut Printe
         (when (is_there (part_by T.tree t.now)) (in_parens (laid look Alone (part_by T.tree t.now)))) p.old.wr p.old.fault p.new.wr p.new.fault }
 {
     if let Some(t) = t {
-        print_in_parens(t, p, look);
+        p.text(Text::LeftParen);
+        t.print(p, look, Stand::Alone);
+        p.text(Text::RightParen);
     }
 }
 
