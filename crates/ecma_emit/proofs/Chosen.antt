@@ -52,3 +52,11 @@ body_of f = f.body
 
 abbrev pub class_decorators_of : {T : Type 0} → ClassOf T → List (DecoratorOf T)
 class_decorators_of s = s.decorators.items
+
+-- what is laid out of two parts that are the same
+pub same_two : {A B : Type 0} (f : A → B → Laid) {a b : A} {c d : B} → a ≡ b → c ≡ d → f a c ≡ f b d
+same_two f {b = b} {c = c} e h = ap (λ x. f x c) e ∙ ap (f b) h
+
+-- a declarator with an initialiser ends as that does
+pub initial_end : {a c : Bool} (b : Bool) → c ≡ true → a ≡ (if c then a else b)
+initial_end b e = rw e refl

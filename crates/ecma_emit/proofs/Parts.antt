@@ -9,7 +9,7 @@ use Rattle.ecma_layout.specs.declared.look.Stand.TheVariants.{Alone}
 use Rattle.ecma_layout.specs.Looks.{Laid, nothing, both, ◌·◌, when, line, deeper, back}
 use Rattle.ecma_layout.specs.Layout.{laid, closing, separated, rows, statements, each, indented, indented_or_line, is_empty, ends_with_hole, has_arguments}
 use Rattle.std.specs.List.{slice_get}
-use Rattle.ecma_tree.specs.Tree.{Tree, Trees, none, more, trees_by, element_by, hole, list}
+use Rattle.ecma_tree.specs.Tree.{Tree, Trees, none, more, trees_by, hole, list}
 use Rattle.ecma_emit.specs.Asks.{is_hole}
 use Rattle.ecma_printer.specs.Prints.{Asked, lay, IsAt, Prints}
 
@@ -32,6 +32,14 @@ module _ {S : Type 0} {tells : S → Type 0} {state : S → State} {failed : S �
   pub as_left : {whole left other : Laid} {w v : S} {f g : Option EmitError} → ((a : Asked) → lay other a ≡ lay left a) → Goes {S = S} tells state failed loans whole left w f v g → Goes {S = S} tells state failed loans whole other w f v g
   as_left q h = record { so = λ a z. let y = h.so a z in (y.0, y.1, q y.0 ∙ y.2) }
 
+  -- the last of what is left
+  pub goes_home : {whole x : Laid} {w v u : S} {f g e : Option EmitError} → Goes {S = S} tells state failed loans whole x w f v g → Prints {S = S} tells state failed loans x v g u e → Prints {S = S} tells state failed loans whole w f u e
+  goes_home {whole} {x} {w} {v} {u} {f} {g} {e} h k = record { so = λ a z. let y = h.so a z in subst (IsAt {S = S} tells state failed loans u e) y.2 (k.so y.0 y.1) }
+
+  -- the same for a layout that comes to the same
+  pub laid_like : {l m : Laid} {w v : S} {f g : Option EmitError} → ((a : Asked) → lay l a ≡ lay m a) → Prints {S = S} tells state failed loans l w f v g → Prints {S = S} tells state failed loans m w f v g
+  laid_like {l} {m} {w} {v} {f} {g} q h = record { so = λ a z. subst (IsAt {S = S} tells state failed loans v g) (q a) (h.so a z) }
+
 -- what follows the first part of a list
 abbrev pub behind : Laid → (Trees → Laid) → Trees → Laid
 behind b f none = nothing
@@ -51,10 +59,10 @@ pub parts_are : {A : Type 0} (f : A → Tree) (xs : List A) (x : A) (rest : List
 parts_are f xs x rest e = ap (trees_by f) e
 
 -- the next part of a list, and its end
-next_part : {A : Type 0} (f : A → Tree) (xs : List A) (i : ℕ) (x : A) → i < length xs → x ≡ slice_index_or xs i x → trees_by f (drop i xs) ≡ more (f x) (trees_by f (drop (i + 1) xs))
+pub next_part : {A : Type 0} (f : A → Tree) (xs : List A) (i : ℕ) (x : A) → i < length xs → x ≡ slice_index_or xs i x → trees_by f (drop i xs) ≡ more (f x) (trees_by f (drop (i + 1) xs))
 next_part f xs i x lt e = ap (trees_by f) (drop_more xs i x lt) ∙ ap (λ y. more (f y) (trees_by f (drop (i + 1) xs))) (sym e)
 
-no_part : {A : Type 0} (f : A → Tree) (xs : List A) (i : ℕ) → length xs ≤ i → trees_by f (drop i xs) ≡ none
+pub no_part : {A : Type 0} (f : A → Tree) (xs : List A) (i : ℕ) → length xs ≤ i → trees_by f (drop i xs) ≡ none
 no_part f xs i le = ap (trees_by f) (drop_all i xs le)
 
 module _ {S : Type 0} {tells : S → Type 0} {state : S → State} {failed : S → ℕ} {loans : S → List GName} where
@@ -90,40 +98,27 @@ hole_at_end : (t u : Tree) (ts : Trees) → ends_with_hole (more t (more u ts)) 
 hole_at_end hole u ts = refl
 hole_at_end t u ts = refl
 
-no_hole_alone : (t : Tree) → is_hole t ≡ false → ends_with_hole (more t none) ≡ false
-no_hole_alone hole e = absurd (cc)
-no_hole_alone t e = refl
+hole_alone : (t : Tree) → ends_with_hole (more t none) ≡ is_hole t
+hole_alone hole = refl
+hole_alone t = refl
 
-abbrev pub LastIs : {A : Type 0} → (A → Tree) → Option (Option A) → List (Option A) → Type 0
-LastIs f None xs = ends_with_hole (trees_by (element_by f) xs) ≡ false
-LastIs f (Some None) xs = ends_with_hole (trees_by (element_by f) xs) ≡ true
-LastIs f (Some (Some y)) xs = ends_with_hole (trees_by (element_by f) xs) ≡ false
+abbrev LastIs : {A : Type 0} → (A → Tree) → Option A → List A → Type 0
+LastIs f None xs = ends_with_hole (trees_by f xs) ≡ false
+LastIs f (Some y) xs = ends_with_hole (trees_by f xs) ≡ is_hole (f y)
 
-alone_is : {A : Type 0} (f : A → Tree) → ((x : A) → is_hole (f x) ≡ false) → (x : Option A) → LastIs f (Some x) (x ∷ [])
-alone_is f h None = refl
-alone_is f h (Some x) = no_hole_alone (f x) (h x)
+further : {A : Type 0} (f : A → Tree) (o : Option A) (x y : A) (xs : List A) → LastIs f o (y ∷ xs) → LastIs f o (x ∷ y ∷ xs)
+further f None x y xs h = hole_at_end (f x) (f y) (trees_by f xs) ∙ h
+further f (Some z) x y xs h = hole_at_end (f x) (f y) (trees_by f xs) ∙ h
 
-further : {A : Type 0} (f : A → Tree) (o : Option (Option A)) (x y : Option A) (xs : List (Option A)) → LastIs f o (y ∷ xs) → LastIs f o (x ∷ y ∷ xs)
-further f None x y xs h = hole_at_end (element_by f x) (element_by f y) (trees_by (element_by f) xs) ∙ h
-further f (Some None) x y xs h = hole_at_end (element_by f x) (element_by f y) (trees_by (element_by f) xs) ∙ h
-further f (Some (Some z)) x y xs h = hole_at_end (element_by f x) (element_by f y) (trees_by (element_by f) xs) ∙ h
-
-pub last_is : {A : Type 0} (f : A → Tree) → ((x : A) → is_hole (f x) ≡ false) → (xs : List (Option A)) → LastIs f (slice_get xs (length xs - 1)) xs
-last_is f h [] = refl
-last_is f h (x ∷ []) = alone_is f h x
-last_is f h (x ∷ y ∷ xs) =
+last_is : {A : Type 0} (f : A → Tree) (xs : List A) → LastIs f (slice_get xs (length xs - 1)) xs
+last_is f [] = refl
+last_is f (x ∷ []) = hole_alone (f x)
+last_is f (x ∷ y ∷ xs) =
     let same : length (x ∷ y ∷ xs) - 1 ≡ suc (length (y ∷ xs) - 1) = omega arith in
-    subst (λ (i : ℕ). LastIs f (slice_get (x ∷ y ∷ xs) i) (x ∷ y ∷ xs)) (sym same) (further f (slice_get (y ∷ xs) (length (y ∷ xs) - 1)) x y xs (last_is f h (y ∷ xs)))
+    subst (λ (i : ℕ). LastIs f (slice_get (x ∷ y ∷ xs) i) (x ∷ y ∷ xs)) (sym same) (further f (slice_get (y ∷ xs) (length (y ∷ xs) - 1)) x y xs (last_is f (y ∷ xs)))
 
-hole_says : {A : Type 0} (f : A → Tree) (xs : List (Option A)) (o : Option A) (b : Bool) → LastIs f (Some o) xs → is_some o ≡ not b → b ≡ ends_with_hole (trees_by (element_by f) xs)
-hole_says f xs None true h e = sym h
-hole_says f xs None false h e = absurd (cc)
-hole_says f xs (Some x) true h e = absurd (cc)
-hole_says f xs (Some x) false h e = sym h
-
-pub last_hole : {A : Type 0} (f : A → Tree) → ((x : A) → is_hole (f x) ≡ false) → (xs : List (Option A)) (o : Option A) (b : Bool)
-    → Some o ≡ slice_get xs (length xs - 1) → is_some o ≡ not b → b ≡ ends_with_hole (trees_by (element_by f) xs)
-last_hole f h xs o b q e = hole_says f xs o b (subst (λ z. LastIs f z xs) (sym q) (last_is f h xs)) e
+pub last_hole : {A : Type 0} (f : A → Tree) (xs : List A) (y : A) → Some y ≡ slice_get xs (length xs - 1) → ends_with_hole (trees_by f xs) ≡ is_hole (f y)
+last_hole f xs y q = subst (λ z. LastIs f z xs) (sym q) (last_is f xs)
 
 pub some_arguments : {A : Type 0} (f : A → Tree) (xs ys : List A) → ys ≡ xs → 1 ≤ length ys → true ≡ has_arguments (list (trees_by f xs))
 some_arguments f [] [] e n = absurd (omega (arith, n))

@@ -1,3 +1,6 @@
 pub mod Asks
 pub mod Betweens
-pub mod There
+pub mod Chains
+pub mod Sorts
+pub mod Specifiers
+pub mod Templates

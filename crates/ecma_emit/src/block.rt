@@ -1,5 +1,5 @@
 //! Blocks.
-ghost use Rattle.std.specs.Prelude.{◌≡◌, refl};
+ghost use Rattle.std.specs.Prelude.{◌≡◌};
 ghost use Rattle.ecma_node.specs.View.{view_block_stmt};
 ghost use Rattle.ecma_layout.specs.Layout.{marked_as_body};
 ghost use Rattle.ecma_printer.specs.Prints.{Prints};
@@ -20,8 +20,6 @@ fn marks_block(stand: Stand) -> bool
 
 impl<T: PrintItem> Print for BlockStmtOf<T> {
     ghost tree = { view_block_stmt T.tree };
-
-    ghost there = { λ x. refl };
 
     fn print<W: WriteJs>(&self, p: &mut Printer<W>, look: Look, stand: Stand) {
         p.start_if(marks_block(stand), self.span);

@@ -1,5 +1,5 @@
 //! `if`, `switch` and `try`.
-ghost use Rattle.std.specs.Prelude.{◌≡◌, true, not, if◌then◌else◌, refl, codes};
+ghost use Rattle.std.specs.Prelude.{◌≡◌, true, not, if◌then◌else◌, codes};
 ghost use Rattle.ecma_tree.specs.Tree.{part_by, trees_by};
 ghost use Rattle.ecma_edge.specs.Edges.{is_there, starts_with_word};
 ghost use Rattle.ecma_node.specs.View.{view_if_stmt, view_switch_stmt, view_switch_case, view_try_stmt, view_catch_clause};
@@ -20,8 +20,6 @@ use ecma_write::WriteJs;
 
 impl<T: PrintPart> Print for IfStmtOf<T> {
     ghost tree = { view_if_stmt T.tree };
-
-    ghost there = { λ x. refl };
 
     fn print<W: WriteJs>(&self, p: &mut Printer<W>, look: Look, _stand: Stand) {
         p.commit();
@@ -60,8 +58,6 @@ fn print_alternative<T: PrintPart, W: WriteJs>(
 impl<T: PrintPart> Print for SwitchStmtOf<T> {
     ghost tree = { view_switch_stmt T.tree };
 
-    ghost there = { λ x. refl };
-
     fn print<W: WriteJs>(&self, p: &mut Printer<W>, look: Look, _stand: Stand) {
         p.commit();
         p.start(self.span);
@@ -76,8 +72,6 @@ impl<T: PrintPart> Print for SwitchStmtOf<T> {
 
 impl<T: PrintPart> Print for SwitchCaseOf<T> {
     ghost tree = { view_switch_case T.tree };
-
-    ghost there = { λ x. refl };
 
     fn print<W: WriteJs>(&self, p: &mut Printer<W>, look: Look, _stand: Stand) {
         p.start(self.span);
@@ -123,8 +117,6 @@ fn print_case_body<T: PrintItem, W: WriteJs>(body: &[T], p: &mut Printer<W>, loo
 impl<T: PrintPart> Print for TryStmtOf<T> {
     ghost tree = { view_try_stmt T.tree };
 
-    ghost there = { λ x. refl };
-
     fn print<W: WriteJs>(&self, p: &mut Printer<W>, look: Look, _stand: Stand) {
         p.commit();
         p.start(self.span);
@@ -151,8 +143,6 @@ fn print_finally<T: Print, W: WriteJs>(finalizer: &Option<T>, p: &mut Printer<W>
 
 impl<T: PrintPart> Print for CatchClauseOf<T> {
     ghost tree = { view_catch_clause T.tree };
-
-    ghost there = { λ x. refl };
 
     fn print<W: WriteJs>(&self, p: &mut Printer<W>, look: Look, _stand: Stand) {
         p.start(self.span);

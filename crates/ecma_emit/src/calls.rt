@@ -1,5 +1,5 @@
 //! `this` and its like, calls, `new`, and their arguments.
-ghost use Rattle.std.specs.Prelude.{◌≡◌, ◌||◌, if◌then◌else◌, ◌==◌, codes, refl};
+ghost use Rattle.std.specs.Prelude.{◌≡◌, ◌||◌, if◌then◌else◌, ◌==◌, codes};
 ghost use Rattle.ecma_token.specs.Kinds.{new_kind};
 ghost use Rattle.ecma_tree.specs.Tree.{trees_by};
 ghost use Rattle.ecma_node.specs.View.{view_this_expr, view_super, view_import, view_meta_prop_expr, view_callee, view_call_expr, view_new_expr, view_expr_or_spread, meta_prop_kind_word};
@@ -7,7 +7,6 @@ ghost use Rattle.ecma_layout.specs.Looks.{when, formats};
 ghost use Rattle.ecma_layout.specs.Layout.{laid, in_parens, separated, comma, has_arguments, is_head};
 ghost use Rattle.ecma_layout.specs.declared.look.Stand.TheVariants.{Alone};
 ghost use Rattle.ecma_emit.specs.Asks.{args_tree};
-ghost use Rattle.ecma_emit.specs.There.{callee_is_there};
 ghost use Rattle.ecma_printer.specs.Prints.{Prints};
 ghost use Rattle.ecma_printer.specs.Texts.{bytes};
 
@@ -24,8 +23,6 @@ use ecma_write::WriteJs;
 impl Print for ThisExpr {
     ghost tree = { view_this_expr };
 
-    ghost there = { λ x. refl };
-
     fn print<W: WriteJs>(&self, p: &mut Printer<W>, _look: Look, _stand: Stand) {
         p.commit();
         p.start(self.span);
@@ -36,8 +33,6 @@ impl Print for ThisExpr {
 
 impl Print for Super {
     ghost tree = { view_super };
-
-    ghost there = { λ x. refl };
 
     fn print<W: WriteJs>(&self, p: &mut Printer<W>, _look: Look, _stand: Stand) {
         p.commit();
@@ -50,8 +45,6 @@ impl Print for Super {
 impl Print for Import {
     ghost tree = { view_import };
 
-    ghost there = { λ x. refl };
-
     fn print<W: WriteJs>(&self, p: &mut Printer<W>, _look: Look, _stand: Stand) {
         p.commit();
         p.start(self.span);
@@ -62,8 +55,6 @@ impl Print for Import {
 
 impl Print for MetaPropExpr {
     ghost tree = { view_meta_prop_expr };
-
-    ghost there = { λ x. refl };
 
     fn print<W: WriteJs>(&self, p: &mut Printer<W>, _look: Look, _stand: Stand) {
         p.start(self.span);
@@ -84,8 +75,6 @@ fn meta_text(kind: MetaPropKind) -> Text
 impl<T: PrintPart> Print for CalleeOf<T> {
     ghost tree = { view_callee T.tree };
 
-    ghost there = { λ x. callee_is_there T.tree T.there x };
-
     fn print<W: WriteJs>(&self, p: &mut Printer<W>, look: Look, stand: Stand) {
         match self {
             CalleeOf::Super(x) => x.print(p, look, stand),
@@ -97,8 +86,6 @@ impl<T: PrintPart> Print for CalleeOf<T> {
 
 impl<T: PrintPart> Print for CallExprOf<T> {
     ghost tree = { view_call_expr T.tree };
-
-    ghost there = { λ x. refl };
 
     fn print<W: WriteJs>(&self, p: &mut Printer<W>, look: Look, _stand: Stand) {
         p.commit();
@@ -125,8 +112,6 @@ pub fn print_arguments<T: PrintPart, W: WriteJs>(
 impl<T: PrintPart> Print for ExprOrSpreadOf<T> {
     ghost tree = { view_expr_or_spread T.tree };
 
-    ghost there = { λ x. refl };
-
     fn print<W: WriteJs>(&self, p: &mut Printer<W>, look: Look, _stand: Stand) {
         p.text_if(self.spread.is_some(), Text::Spread);
         self.expr.print(p, look, Stand::Alone);
@@ -135,8 +120,6 @@ impl<T: PrintPart> Print for ExprOrSpreadOf<T> {
 
 impl<T: PrintPart> Print for NewExprOf<T> {
     ghost tree = { view_new_expr T.tree };
-
-    ghost there = { λ x. refl };
 
     fn print<W: WriteJs>(&self, p: &mut Printer<W>, look: Look, stand: Stand) {
         p.commit();

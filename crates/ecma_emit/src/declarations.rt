@@ -1,5 +1,5 @@
 //! Declarations of variables.
-ghost use Rattle.std.specs.Prelude.{◌≡◌, refl};
+ghost use Rattle.std.specs.Prelude.{◌≡◌};
 ghost use Rattle.ecma_token.specs.Words.{own_text};
 ghost use Rattle.ecma_tree.specs.Tree.{trees_by};
 ghost use Rattle.ecma_node.specs.View.{view_var_decl, view_using_decl, view_var_declarator, var_decl_kind_word};
@@ -15,8 +15,6 @@ use ecma_write::WriteJs;
 
 impl<T: PrintPart> Print for VarDeclOf<T> {
     ghost tree = { view_var_decl T.tree };
-
-    ghost there = { λ x. refl };
 
     fn print<W: WriteJs>(&self, p: &mut Printer<W>, look: Look, _stand: Stand) {
         p.commit();
@@ -51,8 +49,6 @@ fn starts_bracketed<T: PrintPart>(decls: &[VarDeclaratorOf<T>]) -> bool
 impl<T: PrintPart> Print for UsingDeclOf<T> {
     ghost tree = { view_using_decl T.tree };
 
-    ghost there = { λ x. refl };
-
     fn print<W: WriteJs>(&self, p: &mut Printer<W>, look: Look, _stand: Stand) {
         p.commit();
         p.start(self.span);
@@ -65,8 +61,6 @@ impl<T: PrintPart> Print for UsingDeclOf<T> {
 
 impl<T: PrintPart> Print for VarDeclaratorOf<T> {
     ghost tree = { view_var_declarator T.tree };
-
-    ghost there = { λ x. refl };
 
     fn print<W: WriteJs>(&self, p: &mut Printer<W>, look: Look, _stand: Stand) {
         p.start(self.span);

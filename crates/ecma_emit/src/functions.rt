@@ -1,5 +1,5 @@
 //! Functions, their parameters and decorators.
-ghost use Rattle.std.specs.Prelude.{◌≡◌, codes, if◌then◌else◌, refl};
+ghost use Rattle.std.specs.Prelude.{◌≡◌, codes, if◌then◌else◌};
 ghost use Rattle.ecma_tree.specs.Tree.{part_by, trees_by};
 ghost use Rattle.ecma_node.specs.View.{view_decorator, view_fn_decl, view_fn_expr, view_function, view_param};
 ghost use Rattle.ecma_edge.specs.Edges.{is_there};
@@ -18,8 +18,6 @@ use ecma_write::WriteJs;
 impl<T: PrintPart> Print for DecoratorOf<T> {
     ghost tree = { view_decorator T.tree };
 
-    ghost there = { λ x. refl };
-
     fn print<W: WriteJs>(&self, p: &mut Printer<W>, look: Look, _stand: Stand) {
         p.start(self.span);
         p.text(Text::At);
@@ -31,8 +29,6 @@ impl<T: PrintPart> Print for DecoratorOf<T> {
 
 impl<T: PrintPart> Print for ParamOf<T> {
     ghost tree = { view_param T.tree };
-
-    ghost there = { λ x. refl };
 
     fn print<W: WriteJs>(&self, p: &mut Printer<W>, look: Look, _stand: Stand) {
         p.start(self.span);
@@ -55,8 +51,6 @@ pub fn print_params<T: PrintPart, W: WriteJs>(params: &[ParamOf<T>], p: &mut Pri
 /// A function prints its parameters and its body: what stands before them depends on where it stands.
 impl<T: PrintPart> Print for FunctionOf<T> {
     ghost tree = { view_function T.tree };
-
-    ghost there = { λ x. refl };
 
     fn print<W: WriteJs>(&self, p: &mut Printer<W>, look: Look, _stand: Stand) {
         print_params(self.params.as_slice(), p, look);
@@ -100,8 +94,6 @@ pub fn print_name<T: Print, W: WriteJs>(name: &Option<T>, p: &mut Printer<W>, lo
 impl<T: PrintPart> Print for FnDeclOf<T> {
     ghost tree = { view_fn_decl T.tree };
 
-    ghost there = { λ x. refl };
-
     fn print<W: WriteJs>(&self, p: &mut Printer<W>, look: Look, _stand: Stand) {
         p.commit();
         p.start(self.span);
@@ -115,8 +107,6 @@ impl<T: PrintPart> Print for FnDeclOf<T> {
 
 impl<T: PrintPart> Print for FnExprOf<T> {
     ghost tree = { view_fn_expr T.tree };
-
-    ghost there = { λ x. refl };
 
     fn print<W: WriteJs>(&self, p: &mut Printer<W>, look: Look, _stand: Stand) {
         p.commit();

@@ -1,21 +1,19 @@
 //! Keys of properties and members.
-ghost use Rattle.std.specs.Prelude.{◌≡◌, refl};
+ghost use Rattle.std.specs.Prelude.{◌≡◌};
 ghost use Rattle.ecma_tree.specs.Places.{place_of};
 ghost use Rattle.ecma_edge.specs.Edges.{starts_with_word};
-ghost use Rattle.ecma_node.specs.View.{view_computed_prop_name, view_prop_name};
+ghost use Rattle.ecma_node.specs.View.{view_computed_prop_name, view_key, view_prop_name};
 ghost use Rattle.ecma_layout.specs.Layout.{is_bracketed_key};
 
 use crate::print::{Print, PrintPart};
 use ecma_layout::{Look, Stand};
-use ecma_node::{ComputedPropNameOf, PropNameOf};
+use ecma_node::{ComputedPropNameOf, KeyOf, PropNameOf};
 use ecma_printer::{Printer, Text};
 use ecma_token::Span;
 use ecma_write::WriteJs;
 
 impl<T: PrintPart> Print for ComputedPropNameOf<T> {
     ghost tree = { view_computed_prop_name T.tree };
-
-    ghost there = { λ x. refl };
 
     fn print<W: WriteJs>(&self, p: &mut Printer<W>, look: Look, _stand: Stand) {
         p.start(self.span);
@@ -53,5 +51,30 @@ pub fn key_span<T: PrintPart>(key: &PropNameOf<T>) -> Span
         PropNameOf::Num(x) => x.span,
         PropNameOf::BigInt(x) => x.span,
         PropNameOf::Computed(x) => x.span,
+    }
+}
+
+impl<T: PrintPart> Print for PropNameOf<T> {
+    ghost tree = { view_prop_name T.tree };
+
+    fn print<W: WriteJs>(&self, p: &mut Printer<W>, look: Look, stand: Stand) {
+        match self {
+            PropNameOf::Ident(x) => x.print(p, look, stand),
+            PropNameOf::Str(x) => x.print(p, look, stand),
+            PropNameOf::Num(x) => x.print(p, look, stand),
+            PropNameOf::BigInt(x) => x.print(p, look, stand),
+            PropNameOf::Computed(x) => x.print(p, look, stand),
+        }
+    }
+}
+
+impl<T: PrintPart> Print for KeyOf<T> {
+    ghost tree = { view_key T.tree };
+
+    fn print<W: WriteJs>(&self, p: &mut Printer<W>, look: Look, stand: Stand) {
+        match self {
+            KeyOf::Private(x) => x.print(p, look, stand),
+            KeyOf::Public(x) => x.print(p, look, stand),
+        }
     }
 }

@@ -1,7 +1,8 @@
 //! Lists, in their few formats.
 ghost use Rattle.std.specs.Prelude.{◌≡◌, true, false};
 ghost use Rattle.ecma_tree.specs.Tree.{trees_by, element_by};
-ghost use Rattle.ecma_layout.specs.Layout.{separated, rows, statements, each, indented, indented_or_line, comma_line};
+ghost use Rattle.ecma_layout.specs.Looks.{when};
+ghost use Rattle.ecma_layout.specs.Layout.{separated, rows, statements, each, indented, indented_or_line, comma, comma_line};
 ghost use Rattle.ecma_printer.specs.Prints.{Prints};
 ghost use Rattle.ecma_emit.specs.Betweens.{between_of};
 
@@ -21,13 +22,22 @@ pub enum Between {
 
 impl Between {
     /// Prints it.
-    pub fn print<W: WriteJs>(self, p: &mut Printer<W>, look: Look)
+    pub fn write<W: WriteJs>(self, p: &mut Printer<W>, look: Look)
         ensures { Prints W.tells W.state W.failed_writes W.loans (between_of self look) p.old.wr p.old.fault p.new.wr p.new.fault }
     {
         match self {
             Between::Comma => p.comma(look),
             Between::CommaLine => p.comma_line(look),
         }
+    }
+}
+
+/// Prints a comma where one is to stand.
+pub fn print_comma_if<W: WriteJs>(stands: bool, p: &mut Printer<W>, look: Look)
+    ensures { Prints W.tells W.state W.failed_writes W.loans (when stands (comma look)) p.old.wr p.old.fault p.new.wr p.new.fault }
+{
+    if stands {
+        p.comma(look);
     }
 }
 
@@ -45,7 +55,7 @@ pub fn print_separated<T: Print, W: WriteJs>(
     };
     first.print(p, look, Stand::Alone);
     for x in rest {
-        between.print(p, look);
+        between.write(p, look);
         x.print(p, look, Stand::Alone);
     }
 }

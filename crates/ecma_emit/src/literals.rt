@@ -1,5 +1,5 @@
 //! Literals.
-ghost use Rattle.std.specs.Prelude.{◌≡◌, if◌then◌else◌, codes, refl};
+ghost use Rattle.std.specs.Prelude.{◌≡◌, if◌then◌else◌, codes};
 ghost use Rattle.ecma_node.specs.View.{view_bool, view_null, view_regex};
 ghost use Rattle.ecma_printer.specs.Texts.{bytes};
 
@@ -20,8 +20,6 @@ fn bool_text(value: bool) -> Text
 impl Print for Bool {
     ghost tree = { view_bool };
 
-    ghost there = { λ x. refl };
-
     fn print<W: WriteJs>(&self, p: &mut Printer<W>, _look: Look, _stand: Stand) {
         p.start(self.span);
         p.text(bool_text(self.value));
@@ -31,8 +29,6 @@ impl Print for Bool {
 impl Print for Null {
     ghost tree = { view_null };
 
-    ghost there = { λ x. refl };
-
     fn print<W: WriteJs>(&self, p: &mut Printer<W>, _look: Look, _stand: Stand) {
         p.start(self.span);
         p.text(Text::Null);
@@ -41,8 +37,6 @@ impl Print for Null {
 
 impl Print for Regex {
     ghost tree = { view_regex };
-
-    ghost there = { λ x. refl };
 
     fn print<W: WriteJs>(&self, p: &mut Printer<W>, _look: Look, _stand: Stand) {
         p.start(self.span);

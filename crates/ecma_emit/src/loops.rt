@@ -1,9 +1,8 @@
 //! Loops.
-ghost use Rattle.std.specs.Prelude.{◌≡◌, refl, codes};
+ghost use Rattle.std.specs.Prelude.{◌≡◌, codes};
 ghost use Rattle.ecma_edge.specs.Edges.{ends_with_word, last_ends_with_word};
 ghost use Rattle.ecma_tree.specs.Tree.{trees_by};
 ghost use Rattle.ecma_layout.specs.Looks.{◌·◌, when, blank, text};
-ghost use Rattle.ecma_emit.specs.There.{for_head_is_there, for_init_is_there};
 ghost use Rattle.ecma_printer.specs.Prints.{Prints};
 ghost use Rattle.ecma_node.specs.View.{view_while_stmt, view_do_while_stmt, view_for_stmt, view_for_in_stmt, view_for_of_stmt, view_for_head, view_var_decl_or_expr, view_var_declarator};
 
@@ -21,8 +20,6 @@ use ecma_write::WriteJs;
 impl<T: PrintPart> Print for WhileStmtOf<T> {
     ghost tree = { view_while_stmt T.tree };
 
-    ghost there = { λ x. refl };
-
     fn print<W: WriteJs>(&self, p: &mut Printer<W>, look: Look, _stand: Stand) {
         p.commit();
         p.start(self.span);
@@ -35,8 +32,6 @@ impl<T: PrintPart> Print for WhileStmtOf<T> {
 
 impl<T: PrintPart> Print for DoWhileStmtOf<T> {
     ghost tree = { view_do_while_stmt T.tree };
-
-    ghost there = { λ x. refl };
 
     fn print<W: WriteJs>(&self, p: &mut Printer<W>, look: Look, _stand: Stand) {
         p.commit();
@@ -55,8 +50,6 @@ impl<T: PrintPart> Print for DoWhileStmtOf<T> {
 
 impl<T: PrintPart> Print for ForStmtOf<T> {
     ghost tree = { view_for_stmt T.tree };
-
-    ghost there = { λ x. refl };
 
     fn print<W: WriteJs>(&self, p: &mut Printer<W>, look: Look, _stand: Stand) {
         p.commit();
@@ -77,8 +70,6 @@ impl<T: PrintPart> Print for ForStmtOf<T> {
 impl<T: PrintPart> Print for VarDeclOrExprOf<T> {
     ghost tree = { view_var_decl_or_expr T.tree };
 
-    ghost there = { λ x. for_init_is_there T.tree T.there x };
-
     fn print<W: WriteJs>(&self, p: &mut Printer<W>, look: Look, stand: Stand) {
         match self {
             VarDeclOrExprOf::VarDecl(x) => x.print(p, look, stand),
@@ -90,8 +81,6 @@ impl<T: PrintPart> Print for VarDeclOrExprOf<T> {
 
 impl<T: PrintPart> Print for ForInStmtOf<T> {
     ghost tree = { view_for_in_stmt T.tree };
-
-    ghost there = { λ x. refl };
 
     fn print<W: WriteJs>(&self, p: &mut Printer<W>, look: Look, _stand: Stand) {
         p.commit();
@@ -111,8 +100,6 @@ impl<T: PrintPart> Print for ForInStmtOf<T> {
 
 impl<T: PrintPart> Print for ForOfStmtOf<T> {
     ghost tree = { view_for_of_stmt T.tree };
-
-    ghost there = { λ x. refl };
 
     fn print<W: WriteJs>(&self, p: &mut Printer<W>, look: Look, _stand: Stand) {
         p.commit();
@@ -144,8 +131,6 @@ fn print_await<W: WriteJs>(stands: bool, p: &mut Printer<W>)
 
 impl<T: PrintPart> Print for ForHeadOf<T> {
     ghost tree = { view_for_head T.tree };
-
-    ghost there = { λ x. for_head_is_there T.tree T.there x };
 
     fn print<W: WriteJs>(&self, p: &mut Printer<W>, look: Look, stand: Stand) {
         match self {

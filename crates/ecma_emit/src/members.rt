@@ -1,11 +1,11 @@
 //! Members of classes.
-ghost use Rattle.std.specs.Prelude.{◌≡◌, ◌==◌, ◌&&◌, ◌||◌, MatchOption, codes, false, not, if◌then◌else◌, refl};
+ghost use Rattle.std.specs.Prelude.{◌≡◌, ◌==◌, ◌&&◌, ◌||◌, MatchOption, codes, false, not, true, if◌then◌else◌};
 ghost use Rattle.ecma_token.specs.Words.{own_text};
-ghost use Rattle.ecma_tree.specs.Tree.{part_by, plain_method};
-ghost use Rattle.ecma_edge.specs.Edges.{starts_with_word};
-ghost use Rattle.ecma_node.specs.View.{method_kind_word, view_constructor, view_private_method, view_private_prop, view_prop_name, view_static_block};
-ghost use Rattle.ecma_layout.specs.Looks.{◌·◌, when, text, blank, gap_or};
-ghost use Rattle.ecma_layout.specs.Layout.{laid, after_static, field_value, in_parens, is_sequence, method_marks};
+ghost use Rattle.ecma_tree.specs.Tree.{part_by, plain_method, trees_by};
+ghost use Rattle.ecma_edge.specs.Edges.{is_there, starts_with_word};
+ghost use Rattle.ecma_node.specs.View.{method_kind_word, view_auto_accessor, view_block_stmt, view_class_member, view_class_method, view_class_prop, view_constructor, view_param, view_private_method, view_private_prop, view_prop_name, view_static_block};
+ghost use Rattle.ecma_layout.specs.Looks.{◌·◌, when, text, blank, gap, gap_or};
+ghost use Rattle.ecma_layout.specs.Layout.{laid, after_static, comma, field_value, in_parens, is_sequence, method_marks, separated};
 ghost use Rattle.ecma_layout.specs.declared.look.Stand.TheVariants.{Alone};
 ghost use Rattle.ecma_printer.specs.Prints.{Prints};
 ghost use Rattle.ecma_printer.specs.Texts.{bytes};
@@ -13,18 +13,17 @@ ghost use Rattle.ecma_printer.specs.Texts.{bytes};
 use crate::functions::{print_marks, print_params};
 use crate::keys::starts_with_word;
 use crate::list::print_each;
-use crate::print::{Print, PrintPart, print_in_parens};
+use crate::print::{Print, PrintPart, print_initial};
 use ecma_layout::{Look, Stand};
 use ecma_node::{
-    ClassMethodOf, ConstructorOf, MethodKind, PrivateMethodOf, PrivatePropOf, StaticBlockOf,
+    AutoAccessorOf, ClassMemberOf, ClassMethodOf, ClassPropOf, ConstructorOf, FunctionOf,
+    MethodKind, PrivateMethodOf, PrivatePropOf, StaticBlockOf,
 };
 use ecma_printer::{Printer, Text};
 use ecma_write::WriteJs;
 
 impl<T: PrintPart> Print for ConstructorOf<T> {
     ghost tree = { view_constructor T.tree };
-
-    ghost there = { λ x. refl };
 
     fn print<W: WriteJs>(&self, p: &mut Printer<W>, look: Look, _stand: Stand) {
         p.start(self.span);
@@ -36,8 +35,6 @@ impl<T: PrintPart> Print for ConstructorOf<T> {
 
 impl<T: PrintPart> Print for StaticBlockOf<T> {
     ghost tree = { view_static_block T.tree };
-
-    ghost there = { λ x. refl };
 
     fn print<W: WriteJs>(&self, p: &mut Printer<W>, look: Look, _stand: Stand) {
         p.start(self.span);
@@ -62,11 +59,14 @@ fn print_field_value<T: PrintPart, W: WriteJs>(value: &Option<T>, p: &mut Printe
 
 /// Prints an expression, in parentheses where it has commas.
 fn print_single<T: PrintPart, W: WriteJs>(e: &T, p: &mut Printer<W>, look: Look)
-    ensures { Prints W.tells W.state W.failed_writes W.loans
+    ensures laid { Prints W.tells W.state W.failed_writes W.loans
         (if is_sequence (T.tree e.now) then in_parens (laid look Alone (T.tree e.now)) else laid look Alone (T.tree e.now)) p.old.wr p.old.fault p.new.wr p.new.fault }
+    ensures there { is_there (T.tree e.now) ≡ true }
 {
     if e.is_sequence() {
-        print_in_parens(e, p, look);
+        p.text(Text::LeftParen);
+        e.print(p, look, Stand::Alone);
+        p.text(Text::RightParen);
     } else {
         e.print(p, look, Stand::Alone);
     }
@@ -147,8 +147,6 @@ fn print_private_head<T: PrintPart, W: WriteJs>(method: &PrivateMethodOf<T>, p: 
 impl<T: PrintPart> Print for PrivateMethodOf<T> {
     ghost tree = { view_private_method T.tree };
 
-    ghost there = { λ x. refl };
-
     fn print<W: WriteJs>(&self, p: &mut Printer<W>, look: Look, _stand: Stand) {
         p.start(self.span);
         p.word_if(self.is_static, Text::Static);
@@ -161,7 +159,19 @@ impl<T: PrintPart> Print for PrivateMethodOf<T> {
 impl<T: PrintPart> Print for PrivatePropOf<T> {
     ghost tree = { view_private_prop T.tree };
 
-    ghost there = { λ x. refl };
+    fn print<W: WriteJs>(&self, p: &mut Printer<W>, look: Look, _stand: Stand) {
+        p.start(self.span);
+        print_each(self.decorators.as_slice(), p, look);
+        p.word_if(self.is_static, Text::Static);
+        self.key.print(p, look, Stand::Key);
+        print_field_value(&self.value, p, look);
+        p.semi();
+        p.end(self.span);
+    }
+}
+
+impl<T: PrintPart> Print for ClassPropOf<T> {
+    ghost tree = { view_class_prop T.tree };
 
     fn print<W: WriteJs>(&self, p: &mut Printer<W>, look: Look, _stand: Stand) {
         p.start(self.span);
@@ -171,5 +181,65 @@ impl<T: PrintPart> Print for PrivatePropOf<T> {
         print_field_value(&self.value, p, look);
         p.semi();
         p.end(self.span);
+    }
+}
+
+impl<T: PrintPart> Print for AutoAccessorOf<T> {
+    ghost tree = { view_auto_accessor T.tree };
+
+    fn print<W: WriteJs>(&self, p: &mut Printer<W>, look: Look, _stand: Stand) {
+        print_each(self.decorators.as_slice(), p, look);
+        p.word_if(self.is_static, Text::Static);
+        p.text(Text::Accessor);
+        p.blank();
+        self.key.print(p, look, Stand::Key);
+        print_initial(&self.value, p, look);
+        p.semi();
+    }
+}
+
+/// Prints the parameters and the body of a method, where the body marks its start.
+fn print_method_tail<T: PrintPart, W: WriteJs>(
+    function: &FunctionOf<T>,
+    p: &mut Printer<W>,
+    look: Look,
+)
+    ensures { Prints W.tells W.state W.failed_writes W.loans
+        (in_parens (separated look (comma look) (trees_by (view_param T.tree) function.now.params.items)) · gap look
+        · laid look Alone (view_block_stmt T.tree function.now.body))
+        p.old.wr p.old.fault p.new.wr p.new.fault }
+{
+    print_params(function.params.as_slice(), p, look);
+    p.gap(look);
+    function.body.print(p, look, Stand::Alone);
+}
+
+impl<T: PrintPart> Print for ClassMethodOf<T> {
+    ghost tree = { view_class_method T.tree };
+
+    fn print<W: WriteJs>(&self, p: &mut Printer<W>, look: Look, _stand: Stand) {
+        p.start(self.span);
+        print_each(self.function.decorators.as_slice(), p, look);
+        print_static(self, p, look);
+        print_method_head(self, p, look);
+        self.key.print(p, look, Stand::Key);
+        print_method_tail(&self.function, p, look);
+    }
+}
+
+impl<T: PrintPart> Print for ClassMemberOf<T> {
+    ghost tree = { view_class_member T.tree };
+
+    fn print<W: WriteJs>(&self, p: &mut Printer<W>, look: Look, stand: Stand) {
+        match self {
+            ClassMemberOf::Constructor(x) => x.print(p, look, stand),
+            ClassMemberOf::Method(x) => x.print(p, look, stand),
+            ClassMemberOf::PrivateMethod(x) => x.print(p, look, stand),
+            ClassMemberOf::ClassProp(x) => x.print(p, look, stand),
+            ClassMemberOf::PrivateProp(x) => x.print(p, look, stand),
+            ClassMemberOf::StaticBlock(x) => x.print(p, look, stand),
+            ClassMemberOf::AutoAccessor(x) => x.print(p, look, stand),
+            ClassMemberOf::Empty(x) => x.print(p, look, stand),
+        }
     }
 }

@@ -1,7 +1,7 @@
 //! Scripts, and parts of imports and exports.
-ghost use Rattle.std.specs.Prelude.{◌≡◌, codes, if◌then◌else◌, not, refl};
+ghost use Rattle.std.specs.Prelude.{◌≡◌, codes, if◌then◌else◌, not};
 ghost use Rattle.ecma_tree.specs.Tree.{part_by, trees_by};
-ghost use Rattle.ecma_node.specs.View.{view_export_default_expr, view_script};
+ghost use Rattle.ecma_node.specs.View.{view_export_default_expr, view_module, view_module_decl, view_module_item, view_program_kind, view_script};
 ghost use Rattle.ecma_layout.specs.Looks.{commit, when};
 ghost use Rattle.ecma_layout.specs.Layout.{laid, attributes, from, hashbang, is_empty};
 ghost use Rattle.ecma_layout.specs.declared.look.Stand.TheVariants.{Alone, Key};
@@ -9,10 +9,12 @@ ghost use Rattle.ecma_printer.specs.Prints.{Prints};
 ghost use Rattle.ecma_printer.specs.Texts.{bytes};
 
 use crate::list::print_statements;
-use crate::print::{Print, PrintPart};
+use crate::print::{Print, PrintItem, PrintPart};
 use ecma_atom::Atom;
 use ecma_layout::{Look, Stand};
-use ecma_node::{ExportDefaultExprOf, ScriptOf};
+use ecma_node::{
+    ExportDefaultExprOf, ModuleDeclOf, ModuleItemOf, ModuleOf, ProgramKindOf, ScriptOf,
+};
 use ecma_printer::{Printer, Text};
 use ecma_write::WriteJs;
 use std::convert::AsStr;
@@ -20,13 +22,85 @@ use std::convert::AsStr;
 impl<T: PrintPart> Print for ScriptOf<T> {
     ghost tree = { view_script T.tree };
 
-    ghost there = { λ x. refl };
+    fn print<W: WriteJs>(&self, p: &mut Printer<W>, look: Look, _stand: Stand) {
+        p.start_if(is_empty(self.body.as_slice()), self.span);
+        print_hashbang(&self.shebang, p);
+        print_statements(self.body.as_slice(), p, look);
+        print_last(p, look);
+    }
+}
+
+impl<T: PrintPart> Print for ModuleOf<T> {
+    ghost tree = { view_module T.tree };
 
     fn print<W: WriteJs>(&self, p: &mut Printer<W>, look: Look, _stand: Stand) {
         p.start_if(is_empty(self.body.as_slice()), self.span);
         print_hashbang(&self.shebang, p);
         print_statements(self.body.as_slice(), p, look);
         print_last(p, look);
+    }
+}
+
+impl<T: PrintPart> Print for ProgramKindOf<T> {
+    ghost tree = { view_program_kind T.tree };
+
+    fn print<W: WriteJs>(&self, p: &mut Printer<W>, look: Look, stand: Stand) {
+        match self {
+            ProgramKindOf::Script(x) => x.print(p, look, stand),
+            ProgramKindOf::Module(x) => x.print(p, look, stand),
+        }
+    }
+}
+
+impl<T: PrintPart> Print for ModuleDeclOf<T> {
+    ghost tree = { view_module_decl T.tree };
+
+    fn print<W: WriteJs>(&self, p: &mut Printer<W>, look: Look, stand: Stand) {
+        match self {
+            ModuleDeclOf::Import(x) => x.print(p, look, stand),
+            ModuleDeclOf::ExportDecl(x) => x.print(p, look, stand),
+            ModuleDeclOf::ExportNamed(x) => x.print(p, look, stand),
+            ModuleDeclOf::ExportDefaultDecl(x) => x.print(p, look, stand),
+            ModuleDeclOf::ExportDefaultExpr(x) => x.print(p, look, stand),
+            ModuleDeclOf::ExportAll(x) => x.print(p, look, stand),
+        }
+    }
+}
+
+impl<T: PrintPart> PrintItem for ModuleDeclOf<T> {
+    fn is_block(&self) -> bool {
+        false
+    }
+
+    fn is_variables(&self) -> bool {
+        false
+    }
+}
+
+impl<T: PrintPart> Print for ModuleItemOf<T> {
+    ghost tree = { view_module_item T.tree };
+
+    fn print<W: WriteJs>(&self, p: &mut Printer<W>, look: Look, stand: Stand) {
+        match self {
+            ModuleItemOf::ModuleDecl(x) => x.print(p, look, stand),
+            ModuleItemOf::Stmt(x) => x.print(p, look, stand),
+        }
+    }
+}
+
+impl<T: PrintPart> PrintItem for ModuleItemOf<T> {
+    fn is_block(&self) -> bool {
+        match self {
+            ModuleItemOf::ModuleDecl(x) => x.is_block(),
+            ModuleItemOf::Stmt(x) => x.is_block(),
+        }
+    }
+
+    fn is_variables(&self) -> bool {
+        match self {
+            ModuleItemOf::ModuleDecl(x) => x.is_variables(),
+            ModuleItemOf::Stmt(x) => x.is_variables(),
+        }
     }
 }
 
@@ -62,8 +136,6 @@ fn print_last<W: WriteJs>(p: &mut Printer<W>, look: Look)
 
 impl<T: PrintPart> Print for ExportDefaultExprOf<T> {
     ghost tree = { view_export_default_expr T.tree };
-
-    ghost there = { λ x. refl };
 
     fn print<W: WriteJs>(&self, p: &mut Printer<W>, look: Look, _stand: Stand) {
         p.start(self.span);

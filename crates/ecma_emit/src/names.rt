@@ -1,5 +1,5 @@
 //! Names.
-ghost use Rattle.std.specs.Prelude.{◌≡◌, if◌then◌else◌, refl};
+ghost use Rattle.std.specs.Prelude.{◌≡◌, if◌then◌else◌};
 ghost use Rattle.ecma_node.specs.View.{view_ident, view_binding_ident, view_ident_name, view_private_name};
 ghost use Rattle.ecma_layout.specs.Looks.{text};
 ghost use Rattle.ecma_layout.specs.Literals.{name_bytes, key_bytes};
@@ -17,8 +17,6 @@ use std::convert::AsStr;
 impl Print for Ident {
     ghost tree = { view_ident };
 
-    ghost there = { λ x. refl };
-
     fn print<W: WriteJs>(&self, p: &mut Printer<W>, look: Look, _stand: Stand) {
         p.commit();
         p.start(self.span);
@@ -28,8 +26,6 @@ impl Print for Ident {
 
 impl Print for BindingIdent {
     ghost tree = { view_binding_ident };
-
-    ghost there = { λ x. refl };
 
     fn print<W: WriteJs>(&self, p: &mut Printer<W>, look: Look, _stand: Stand) {
         p.commit();
@@ -61,8 +57,6 @@ fn print_word<W: WriteJs>(p: &mut Printer<W>, look: Look, key: bool, word: &str)
 impl Print for IdentName {
     ghost tree = { view_ident_name };
 
-    ghost there = { λ x. refl };
-
     fn print<W: WriteJs>(&self, p: &mut Printer<W>, look: Look, stand: Stand) {
         p.commit();
         p.start(self.span);
@@ -72,8 +66,6 @@ impl Print for IdentName {
 
 impl Print for PrivateName {
     ghost tree = { view_private_name };
-
-    ghost there = { λ x. refl };
 
     fn print<W: WriteJs>(&self, p: &mut Printer<W>, look: Look, _stand: Stand) {
         p.start(self.span);

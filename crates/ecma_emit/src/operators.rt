@@ -1,5 +1,5 @@
 //! Operators.
-ghost use Rattle.std.specs.Prelude.{◌≡◌, if◌then◌else◌, codes, refl};
+ghost use Rattle.std.specs.Prelude.{◌≡◌, if◌then◌else◌, codes};
 ghost use Rattle.ecma_edge.specs.Edges as edges;
 ghost use Rattle.ecma_node.specs.View.{view_unary_expr, view_update_expr, view_bin_expr, view_cond_expr, view_await_expr, view_yield_expr, view_paren_expr, view_seq_expr, unary_op_word, update_op_word};
 ghost use Rattle.ecma_layout.specs.Looks.{when, gap_or, blank};
@@ -20,8 +20,6 @@ use ecma_write::WriteJs;
 
 impl<T: PrintPart> Print for UnaryExprOf<T> {
     ghost tree = { view_unary_expr T.tree };
-
-    ghost there = { λ x. refl };
 
     fn print<W: WriteJs>(&self, p: &mut Printer<W>, look: Look, _stand: Stand) {
         p.start(self.span);
@@ -67,8 +65,6 @@ fn print_unary_gap<T: PrintPart, W: WriteJs>(op: UnaryOp, arg: &T, p: &mut Print
 impl<T: PrintPart> Print for UpdateExprOf<T> {
     ghost tree = { view_update_expr T.tree };
 
-    ghost there = { λ x. refl };
-
     fn print<W: WriteJs>(&self, p: &mut Printer<W>, look: Look, _stand: Stand) {
         p.start(self.span);
         if self.prefix {
@@ -95,8 +91,6 @@ fn update_sign(op: UpdateOp) -> &'static str
 impl<T: PrintPart> Print for BinExprOf<T> {
     ghost tree = { view_bin_expr T.tree };
 
-    ghost there = { λ x. refl };
-
     fn print<W: WriteJs>(&self, p: &mut Printer<W>, look: Look, stand: Stand) {
         p.start_if(marks_operator(stand), self.span);
         self.left.print(p, look, Stand::Operand);
@@ -117,8 +111,6 @@ fn marks_operator(stand: Stand) -> bool
 impl<T: PrintPart> Print for CondExprOf<T> {
     ghost tree = { view_cond_expr T.tree };
 
-    ghost there = { λ x. refl };
-
     fn print<W: WriteJs>(&self, p: &mut Printer<W>, look: Look, _stand: Stand) {
         p.start(self.span);
         self.test.print(p, look, Stand::Alone);
@@ -136,8 +128,6 @@ impl<T: PrintPart> Print for CondExprOf<T> {
 impl<T: PrintPart> Print for AwaitExprOf<T> {
     ghost tree = { view_await_expr T.tree };
 
-    ghost there = { λ x. refl };
-
     fn print<W: WriteJs>(&self, p: &mut Printer<W>, look: Look, _stand: Stand) {
         p.start(self.span);
         p.text(Text::Await);
@@ -148,8 +138,6 @@ impl<T: PrintPart> Print for AwaitExprOf<T> {
 
 impl<T: PrintPart> Print for YieldExprOf<T> {
     ghost tree = { view_yield_expr T.tree };
-
-    ghost there = { λ x. refl };
 
     fn print<W: WriteJs>(&self, p: &mut Printer<W>, look: Look, _stand: Stand) {
         p.start(self.span);
@@ -166,8 +154,6 @@ impl<T: PrintPart> Print for YieldExprOf<T> {
 impl<T: PrintPart> Print for ParenExprOf<T> {
     ghost tree = { view_paren_expr T.tree };
 
-    ghost there = { λ x. refl };
-
     fn print<W: WriteJs>(&self, p: &mut Printer<W>, look: Look, _stand: Stand) {
         p.commit();
         p.start(self.span);
@@ -180,8 +166,6 @@ impl<T: PrintPart> Print for ParenExprOf<T> {
 
 impl<T: PrintPart> Print for SeqExprOf<T> {
     ghost tree = { view_seq_expr T.tree };
-
-    ghost there = { λ x. refl };
 
     fn print<W: WriteJs>(&self, p: &mut Printer<W>, look: Look, _stand: Stand) {
         p.start(self.span);

@@ -1,13 +1,13 @@
 //! Patterns.
-ghost use Rattle.std.specs.Prelude.{◌≡◌, true, false, not, refl};
-ghost use Rattle.ecma_tree.specs.Tree.{trees_by, element_by};
+ghost use Rattle.std.specs.Prelude.{◌≡◌, true, false, not};
+ghost use Rattle.ecma_tree.specs.Tree.{trees_by};
 ghost use Rattle.ecma_node.specs.View.{view_array_pat, view_rest_pat, view_assign_pat};
 ghost use Rattle.ecma_layout.specs.Looks.{◌·◌, when, gap};
 ghost use Rattle.ecma_layout.specs.Layout.{ends_with_hole, separated, comma, is_empty};
 ghost use Rattle.ecma_printer.specs.Prints.{Prints};
 
 use crate::list::{Between, print_separated};
-use crate::print::{Print, PrintPart};
+use crate::print::{Print, PrintElement, PrintPart};
 use ecma_layout::{Look, Stand};
 use ecma_node::{ArrayPatOf, AssignPatOf, RestPatOf};
 use ecma_printer::{Printer, Text};
@@ -15,8 +15,6 @@ use ecma_write::WriteJs;
 
 impl<T: PrintPart> Print for ArrayPatOf<T> {
     ghost tree = { view_array_pat T.tree };
-
-    ghost there = { λ x. refl };
 
     fn print<W: WriteJs>(&self, p: &mut Printer<W>, look: Look, _stand: Stand) {
         let elems = self.elems.as_slice();
@@ -30,13 +28,9 @@ impl<T: PrintPart> Print for ArrayPatOf<T> {
 }
 
 /// Prints the comma behind a last element that is left out.
-pub fn print_last_hole<T: PrintPart, W: WriteJs>(
-    elems: &[Option<T>],
-    p: &mut Printer<W>,
-    look: Look,
-)
+pub fn print_last_hole<T: PrintElement, W: WriteJs>(elems: &[T], p: &mut Printer<W>, look: Look)
     ensures { Prints W.tells W.state W.failed_writes W.loans
-        (when (ends_with_hole (trees_by (element_by T.tree) elems.now)) (comma look)) p.old.wr p.old.fault p.new.wr p.new.fault }
+        (when (ends_with_hole (trees_by T.tree elems.now)) (comma look)) p.old.wr p.old.fault p.new.wr p.new.fault }
 {
     if ends_with_hole(elems) {
         p.comma(look);
@@ -44,19 +38,17 @@ pub fn print_last_hole<T: PrintPart, W: WriteJs>(
 }
 
 /// Whether the last element is left out.
-fn ends_with_hole<T: PrintPart>(elems: &[Option<T>]) -> bool
-    ensures { result ≡ ends_with_hole (trees_by (element_by T.tree) elems.now) }
+fn ends_with_hole<T: PrintElement>(elems: &[T]) -> bool
+    ensures { result ≡ ends_with_hole (trees_by T.tree elems.now) }
 {
     match elems.last() {
-        Some(last) => last.is_none(),
+        Some(last) => last.is_hole(),
         None => false,
     }
 }
 
 impl<T: PrintPart> Print for RestPatOf<T> {
     ghost tree = { view_rest_pat T.tree };
-
-    ghost there = { λ x. refl };
 
     fn print<W: WriteJs>(&self, p: &mut Printer<W>, look: Look, _stand: Stand) {
         p.start(self.dot3_token);
@@ -68,8 +60,6 @@ impl<T: PrintPart> Print for RestPatOf<T> {
 
 impl<T: PrintPart> Print for AssignPatOf<T> {
     ghost tree = { view_assign_pat T.tree };
-
-    ghost there = { λ x. refl };
 
     fn print<W: WriteJs>(&self, p: &mut Printer<W>, look: Look, _stand: Stand) {
         p.start(self.span);

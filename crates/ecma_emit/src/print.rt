@@ -1,7 +1,6 @@
 //! What can be printed.
 ghost use Rattle.std.specs.Prelude.{◌≡◌, true, false, MatchOption};
 ghost use Rattle.ecma_tree.specs.Tree.{Tree, none, more, part_by, element_by};
-ghost use Rattle.ecma_emit.specs.There.{element_is_there};
 ghost use Rattle.ecma_layout.specs.Looks.{◌·◌, when, gap, gap_or};
 ghost use Rattle.ecma_layout.specs.declared.look.Stand.TheVariants.{Alone};
 ghost use Rattle.ecma_edge.specs.Edges.{is_there, starts_with_word, ends_with_word, gap_before, gap_after, gap_of_unary};
@@ -12,7 +11,7 @@ ghost use Rattle.ecma_printer.specs.Prints.{Prints};
 ghost use Rattle.ecma_emit.specs.Asks.{is_number, is_hole};
 
 use ecma_layout::{Look, Stand};
-use ecma_node::{Child, Number, UnaryOp};
+use ecma_node::{Child, ExprOrSpreadOf, Number, UnaryOp};
 use ecma_printer::{Printer, Text};
 use ecma_token::BinaryOp;
 use ecma_write::WriteJs;
@@ -22,12 +21,11 @@ pub trait Print {
     /// What it stands for.
     ghost tree: { Self → Tree };
 
-    /// Prints its layout, where `stand` says as what it stands. A fault is kept in the printer.
+    /// Prints its layout, where `stand` says as what it stands. A fault is kept in the printer. What is printed is no
+    /// part that is left out.
     fn print<W: WriteJs>(&self, p: &mut Printer<W>, look: Look, stand: Stand)
-        ensures { Prints W.tells W.state W.failed_writes W.loans (laid look stand (tree self.now)) p.old.wr p.old.fault p.new.wr p.new.fault };
-
-    /// Law: it is no part that is left out.
-    ghost there: { (x : Self) → is_there (tree x) ≡ true };
+        ensures laid { Prints W.tells W.state W.failed_writes W.loans (laid look stand (tree self.now)) p.old.wr p.old.fault p.new.wr p.new.fault }
+        ensures there { is_there (tree self.now) ≡ true };
 }
 
 /// What stands in a list of statements. What follows it depends on what it is.
@@ -59,9 +57,10 @@ pub trait PrintPart: PrintItem {
     fn starts_with_word(&self) -> bool
         ensures { result ≡ starts_with_word (Self.tree self.now) };
 
-    /// Whether its text ends with a word.
+    /// Whether its text ends with a word. It is no part that is left out.
     fn ends_with_word(&self) -> bool
-        ensures { result ≡ ends_with_word (Self.tree self.now) };
+        ensures answer { result ≡ ends_with_word (Self.tree self.now) }
+        ensures there { is_there (Self.tree self.now) ≡ true };
 
     /// Whether a blank has to stand between it and an operator behind it.
     fn gap_before(&self, op: BinaryOp) -> bool
@@ -79,14 +78,35 @@ pub trait PrintPart: PrintItem {
     fn as_number(&self) -> Option<&Number>
         ensures { MatchOption result (is_number (Self.tree self.now) ≡ false) (λ n. Self.tree self.now ≡ view_number n.now) };
 
-    /// Law: it is no element that is left out.
-    ghost is_no_hole: { (x : Self) → is_hole (Self.tree x) ≡ false };
+    /// Whether it is an element that is left out.
+    fn is_hole(&self) -> bool
+        ensures { result ≡ is_hole (Self.tree self.now) };
+}
+
+/// An element of a list of expressions or patterns, or a hole.
+pub trait PrintElement: Print {
+    /// Whether it is left out.
+    fn is_hole(&self) -> bool
+        ensures { result ≡ is_hole (Self.tree self.now) };
+}
+
+impl<T: PrintPart, K> PrintElement for Option<Child<T, K>> {
+    fn is_hole(&self) -> bool {
+        match self {
+            Some(x) => x.is_hole(),
+            None => true,
+        }
+    }
+}
+
+impl<T: PrintPart> PrintElement for Option<ExprOrSpreadOf<T>> {
+    fn is_hole(&self) -> bool {
+        self.is_none()
+    }
 }
 
 impl<T: Print, K> Print for Child<T, K> {
     ghost tree = { λ c. T.tree c.part.value };
-
-    ghost there = { λ c. T.there c.part.value };
 
     fn print<W: WriteJs>(&self, p: &mut Printer<W>, look: Look, stand: Stand) {
         self.part.print(p, look, stand)
@@ -104,8 +124,6 @@ impl<T: PrintItem, K> PrintItem for Child<T, K> {
 }
 
 impl<T: PrintPart, K> PrintPart for Child<T, K> {
-    ghost is_no_hole = { λ c. T.is_no_hole c.part.value };
-
     fn is_sequence(&self) -> bool {
         self.part.is_sequence()
     }
@@ -141,12 +159,14 @@ impl<T: PrintPart, K> PrintPart for Child<T, K> {
     fn as_number(&self) -> Option<&Number> {
         self.part.as_number()
     }
+
+    fn is_hole(&self) -> bool {
+        self.part.is_hole()
+    }
 }
 
 impl<T: Print> Print for Box<T> {
     ghost tree = { λ b. T.tree b.value };
-
-    ghost there = { λ b. T.there b.value };
 
     fn print<W: WriteJs>(&self, p: &mut Printer<W>, look: Look, stand: Stand) {
         (**self).print(p, look, stand)
@@ -156,8 +176,6 @@ impl<T: Print> Print for Box<T> {
 /// An element of a list, or a hole.
 impl<T: Print> Print for Option<T> {
     ghost tree = { element_by T.tree };
-
-    ghost there = { λ x. element_is_there T.tree T.there x };
 
     fn print<W: WriteJs>(&self, p: &mut Printer<W>, look: Look, stand: Stand) {
         if let Some(x) = self {
@@ -228,7 +246,9 @@ pub fn print_maybe_in_parens<T: Print, W: WriteJs>(t: &Option<T>, p: &mut Printe
         (when (is_there (part_by T.tree t.now)) (in_parens (laid look Alone (part_by T.tree t.now)))) p.old.wr p.old.fault p.new.wr p.new.fault }
 {
     if let Some(t) = t {
-        print_in_parens(t, p, look);
+        p.text(Text::LeftParen);
+        t.print(p, look, Stand::Alone);
+        p.text(Text::RightParen);
     }
 }
 

@@ -1,5 +1,5 @@
 //! Statements without parts that branch.
-ghost use Rattle.std.specs.Prelude.{◌≡◌, refl};
+ghost use Rattle.std.specs.Prelude.{◌≡◌};
 ghost use Rattle.ecma_node.specs.View.{view_empty_stmt, view_debugger_stmt, view_expr_stmt, view_return_stmt, view_throw_stmt, view_with_stmt, view_labeled_stmt, view_break_stmt, view_continue_stmt};
 ghost use Rattle.ecma_tree.specs.Tree.{part_by};
 ghost use Rattle.ecma_edge.specs.Edges.{is_there};
@@ -20,8 +20,6 @@ use ecma_write::WriteJs;
 impl Print for EmptyStmt {
     ghost tree = { view_empty_stmt };
 
-    ghost there = { λ x. refl };
-
     fn print<W: WriteJs>(&self, p: &mut Printer<W>, _look: Look, _stand: Stand) {
         p.text(Text::Semicolon);
     }
@@ -29,8 +27,6 @@ impl Print for EmptyStmt {
 
 impl Print for DebuggerStmt {
     ghost tree = { view_debugger_stmt };
-
-    ghost there = { λ x. refl };
 
     fn print<W: WriteJs>(&self, p: &mut Printer<W>, _look: Look, _stand: Stand) {
         p.commit();
@@ -44,8 +40,6 @@ impl Print for DebuggerStmt {
 impl<T: PrintPart> Print for ExprStmtOf<T> {
     ghost tree = { view_expr_stmt T.tree };
 
-    ghost there = { λ x. refl };
-
     fn print<W: WriteJs>(&self, p: &mut Printer<W>, look: Look, _stand: Stand) {
         self.expr.print(p, look, Stand::Alone);
         p.semi();
@@ -54,8 +48,6 @@ impl<T: PrintPart> Print for ExprStmtOf<T> {
 
 impl<T: PrintPart> Print for ReturnStmtOf<T> {
     ghost tree = { view_return_stmt T.tree };
-
-    ghost there = { λ x. refl };
 
     fn print<W: WriteJs>(&self, p: &mut Printer<W>, look: Look, _stand: Stand) {
         p.commit();
@@ -69,8 +61,6 @@ impl<T: PrintPart> Print for ReturnStmtOf<T> {
 impl<T: PrintPart> Print for ThrowStmtOf<T> {
     ghost tree = { view_throw_stmt T.tree };
 
-    ghost there = { λ x. refl };
-
     fn print<W: WriteJs>(&self, p: &mut Printer<W>, look: Look, _stand: Stand) {
         p.start(self.span);
         p.text(Text::Throw);
@@ -82,8 +72,6 @@ impl<T: PrintPart> Print for ThrowStmtOf<T> {
 
 impl<T: PrintPart> Print for WithStmtOf<T> {
     ghost tree = { view_with_stmt T.tree };
-
-    ghost there = { λ x. refl };
 
     fn print<W: WriteJs>(&self, p: &mut Printer<W>, look: Look, _stand: Stand) {
         p.commit();
@@ -99,8 +87,6 @@ impl<T: PrintPart> Print for WithStmtOf<T> {
 impl<T: PrintPart> Print for LabeledStmtOf<T> {
     ghost tree = { view_labeled_stmt T.tree };
 
-    ghost there = { λ x. refl };
-
     fn print<W: WriteJs>(&self, p: &mut Printer<W>, look: Look, _stand: Stand) {
         p.commit();
         self.label.print(p, look, Stand::Alone);
@@ -114,8 +100,6 @@ impl<T: PrintPart> Print for LabeledStmtOf<T> {
 impl Print for BreakStmt {
     ghost tree = { view_break_stmt };
 
-    ghost there = { λ x. refl };
-
     fn print<W: WriteJs>(&self, p: &mut Printer<W>, look: Look, _stand: Stand) {
         p.commit();
         p.start(self.span);
@@ -127,8 +111,6 @@ impl Print for BreakStmt {
 
 impl Print for ContinueStmt {
     ghost tree = { view_continue_stmt };
-
-    ghost there = { λ x. refl };
 
     fn print<W: WriteJs>(&self, p: &mut Printer<W>, look: Look, _stand: Stand) {
         p.commit();

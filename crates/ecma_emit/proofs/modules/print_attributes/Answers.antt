@@ -5,5 +5,5 @@ use Rattle.ecma_emit.proofs.modules.print_attributes.Goals as goal
 
 pub returns-in-Some : goal.returns-in-Some
 returns-in-Some g c =
-    rw c.in-Some.is (present (g.met.T.Print.there c.in-Some.with_)
-    (c.gap.ensures ▸ (laid_as (ap text c.attributes_word.ensures) c.text.ensures ▸ (c.gap-in-Some.ensures ▸ c.print.ensures))))
+    rw c.in-Some.is (present c.print.ensures.there
+    (c.gap.ensures ▸ (laid_as (ap text c.attributes_word.ensures) c.text.ensures ▸ (c.gap-in-Some.ensures ▸ c.print.ensures.laid))))

@@ -3,5 +3,5 @@ use Rattle.ecma_printer.proofs.Steps.{◌▸◌, when_as}
 use Rattle.ecma_layout.specs.Looks.{start}
 use Rattle.ecma_emit.proofs.block.BlockStmtOfPrint.print.Goals as goal
 
-pub returns : goal.returns
-returns g c = when_as (start c.args.self.now.span) c.marks_block.ensures c.start_if.ensures ▸ (c.text.ensures ▸ ((rw (sym c.as_slice.ensures.value) c.print_indented_statements.ensures) ▸ (c.last.ensures ▸ c.brace.ensures)))
+pub returns-clause-laid : goal.returns-clause-laid
+returns-clause-laid g c = when_as (start c.args.self.now.span) c.marks_block.ensures c.start_if.ensures ▸ (c.text.ensures ▸ ((rw (sym c.as_slice.ensures.value) c.print_indented_statements.ensures) ▸ (c.last.ensures ▸ c.brace.ensures)))

@@ -2,5 +2,5 @@ use Rattle.std.proofs.Common.{sym}
 use Rattle.ecma_printer.proofs.Steps.{◌▸◌}
 use Rattle.ecma_emit.proofs.branches.SwitchCaseOfPrint.print.Goals as goal
 
-pub returns : goal.returns
-returns g c = c.start.ensures ▸ (c.print_case_head.ensures ▸ (c.text.ensures ▸ rw (sym c.as_slice.ensures.value) c.print_case_body.ensures))
+pub returns-clause-laid : goal.returns-clause-laid
+returns-clause-laid g c = c.start.ensures ▸ (c.print_case_head.ensures ▸ (c.text.ensures ▸ rw (sym c.as_slice.ensures.value) c.print_case_body.ensures))

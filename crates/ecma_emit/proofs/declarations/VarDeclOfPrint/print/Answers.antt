@@ -6,8 +6,8 @@ use Rattle.ecma_layout.specs.Layout.{starts_bracketed}
 use Rattle.ecma_printer.proofs.Steps.{◌▸◌, laid_as}
 use Rattle.ecma_emit.proofs.declarations.VarDeclOfPrint.print.Goals as goal
 
-pub returns : goal.returns
-returns g c =
+pub returns-clause-laid : goal.returns-clause-laid
+returns-clause-laid g c =
     let bracket = c.starts_bracketed.ensures ∙ ap (λ ds. starts_bracketed (trees_by (view_var_declarator g.T.Print.tree) ds)) c.as_slice.ensures.value in
     c.commit.ensures ▸ (c.start.ensures ▸ (laid_as (ap text c.keyword.ensures) c.write.ensures
     ▸ (laid_as (ap (λ (b : Bool). if b then gap c.args.look else blank) bracket) c.blank_before.ensures ▸ rw (sym c.as_slice-2.ensures.value) c.print_separated.ensures)))

@@ -4,7 +4,7 @@ use Rattle.ecma_printer.proofs.Steps.{◌▸◌, when_as}
 use Rattle.ecma_emit.proofs.Chosen.{waits_of, generates_of}
 use Rattle.ecma_emit.proofs.functions.FnExprOfPrint.print.Goals as goal
 
-pub returns : goal.returns
-returns g c =
+pub returns-clause-laid : goal.returns-clause-laid
+returns-clause-laid g c =
     c.commit.ensures ▸ (c.start.ensures ▸ (when_as (text (codes "async") · blank) (ap waits_of c.deref.ensures) c.word_if.ensures ▸ (c.text.ensures
-    ▸ (when_as (text (codes "*")) (ap generates_of c.deref-2.ensures) c.text_if.ensures ▸ (c.print_name.ensures ▸ c.print.ensures)))))
+    ▸ (when_as (text (codes "*")) (ap generates_of c.deref-2.ensures) c.text_if.ensures ▸ (c.print_name.ensures ▸ c.print.ensures.laid)))))

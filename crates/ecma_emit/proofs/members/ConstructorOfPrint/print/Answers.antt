@@ -5,7 +5,7 @@ use Rattle.ecma_layout.specs.Layout.{separated, comma, in_parens}
 use Rattle.ecma_printer.proofs.Steps.{◌▸◌, laid_as}
 use Rattle.ecma_emit.proofs.members.ConstructorOfPrint.print.Goals as goal
 
-pub returns : goal.returns
-returns g c =
+pub returns-clause-laid : goal.returns-clause-laid
+returns-clause-laid g c =
     c.start.ensures ▸ (c.text.ensures ▸ (laid_as (ap (λ ps. in_parens (separated c.args.look (comma c.args.look) (trees_by (view_param g.T.Print.tree) ps))) c.as_slice.ensures.value) c.print_params.ensures
-    ▸ c.print.ensures))
+    ▸ c.print.ensures.laid))

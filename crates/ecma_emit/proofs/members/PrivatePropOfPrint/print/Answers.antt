@@ -5,7 +5,7 @@ use Rattle.ecma_layout.specs.Layout.{each}
 use Rattle.ecma_printer.proofs.Steps.{◌▸◌, laid_as}
 use Rattle.ecma_emit.proofs.members.PrivatePropOfPrint.print.Goals as goal
 
-pub returns : goal.returns
-returns g c =
+pub returns-clause-laid : goal.returns-clause-laid
+returns-clause-laid g c =
     c.start.ensures ▸ (laid_as (ap (λ ds. each c.args.look (trees_by (view_decorator g.T.Print.tree) ds)) c.as_slice.ensures.value) c.print_each.ensures
-    ▸ (c.word_if.ensures ▸ (c.print.ensures ▸ (c.print_field_value.ensures ▸ (c.semi.ensures ▸ c.end.ensures)))))
+    ▸ (c.word_if.ensures ▸ (c.print.ensures.laid ▸ (c.print_field_value.ensures ▸ (c.semi.ensures ▸ c.end.ensures)))))

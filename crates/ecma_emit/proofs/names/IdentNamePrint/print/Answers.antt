@@ -16,5 +16,5 @@ word_text : (look : Look) (one other : List ℕ) (b c : Bool) → one ≡ other 
     → text (if b then key_bytes look.style one else name_bytes look.style one) ≡ text (if c then key_bytes look.style other else name_bytes look.style other)
 word_text look one other b c e h = rw e (rw h refl)
 
-pub returns : goal.returns
-returns g c = laid_as (worded c.args.look c.args.self.now.span c.args.self.now.sym _) (c.commit.ensures ▸ (c.start.ensures ▸ laid_as (word_text c.args.look _ _ _ _ c.as_str.ensures c.is_key.ensures) c.print_word.ensures))
+pub returns-clause-laid : goal.returns-clause-laid
+returns-clause-laid g c = laid_as (worded c.args.look c.args.self.now.span c.args.self.now.sym _) (c.commit.ensures ▸ (c.start.ensures ▸ laid_as (word_text c.args.look _ _ _ _ c.as_str.ensures c.is_key.ensures) c.print_word.ensures))

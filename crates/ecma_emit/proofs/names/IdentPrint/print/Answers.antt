@@ -4,5 +4,5 @@ use Rattle.ecma_layout.specs.Literals.{name_bytes}
 use Rattle.ecma_printer.proofs.Steps.{◌▸◌, laid_as}
 use Rattle.ecma_emit.proofs.names.IdentPrint.print.Goals as goal
 
-pub returns : goal.returns
-returns g c = c.commit.ensures ▸ (c.start.ensures ▸ laid_as (ap (λ (b : List ℕ). text (name_bytes c.args.look.style b)) c.as_str.ensures) c.print_name.ensures)
+pub returns-clause-laid : goal.returns-clause-laid
+returns-clause-laid g c = c.commit.ensures ▸ (c.start.ensures ▸ laid_as (ap (λ (b : List ℕ). text (name_bytes c.args.look.style b)) c.as_str.ensures) c.print_name.ensures)

@@ -1,5 +1,5 @@
 use Rattle.ecma_printer.proofs.Steps.{◌▸◌}
 use Rattle.ecma_emit.proofs.operators.AwaitExprOfPrint.print.Goals as goal
 
-pub returns : goal.returns
-returns g c = c.start.ensures ▸ (c.text.ensures ▸ (c.blank.ensures ▸ c.print.ensures))
+pub returns-clause-laid : goal.returns-clause-laid
+returns-clause-laid g c = c.start.ensures ▸ (c.text.ensures ▸ (c.blank.ensures ▸ c.print.ensures.laid))
