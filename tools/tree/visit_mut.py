@@ -22,11 +22,11 @@ class VisitMut:
     def struct_lines(self, name):
         table, lines = self.table, []
         if name in ENTERED:
-            lines.append("visitor.enter_%s(self);" % snake(name))
+            lines.append("T::enter_%s(visitor, self);" % snake(name))
         for f, t in self.visit.fields(name):
-            lines.append("self.%s.walk_mut(nested, visitor);" % f)
+            lines += self.field_lines("self." + f, t)
             if t in LISTS:
-                lines.append("visitor.%s(&mut self.%s);" % (LISTS[t], f))
+                lines.append("T::%s(visitor, &mut self.%s);" % (LISTS[t], f))
         for f, t in [("span", "Span")] + table.fields_of[name]:
             if t == "Span":
                 lines.append("visitor.span(&mut self.%s);" % f)
@@ -34,10 +34,21 @@ class VisitMut:
                 lines += ["if let Some(span) = &mut self.%s {" % f, "    visitor.span(span);", "}"]
         return lines + self.end(name)
 
+    def field_lines(self, field, text):
+        """Changes what a field holds. Lists and parts that may be left out are no `WalkMut` of their own: an impl for a
+        list of what is generic costs ten times as much wherever it is used."""
+        items, part = inside(text, "Vec"), inside(text, "Option")
+        if items:
+            call = "walk_elements" if inside(items, "Hole") else "walk_all"
+            return ["%s(%s, nested, visitor);" % (call, "&mut " + field if "." in field else field)]
+        if part:
+            return ["if let Some(x) = &mut %s {" % field] + ["    " + line for line in self.field_lines("x", part)] + ["}"]
+        return ["%s.walk_mut(nested, visitor);" % field]
+
     def end(self, name):
         if name in CHANGED:
             return ["visitor.%s(self);" % snake(name)]
-        return ["visitor.leave_%s(self);" % snake(name)] if name in LEFT else []
+        return ["T::leave_%s(visitor, self);" % snake(name)] if name in LEFT else []
 
     def enum_lines(self, name):
         own = name + "Of" if self.table.is_generic(name) else name
@@ -46,9 +57,10 @@ class VisitMut:
 
     def impl(self, name, lines):
         generic = self.table.is_generic(name)
-        fits = "fits_%s (λ p. p)" % snake(name) if generic else "λ _. Unit {0}"
+        fits = "fits_%s T.placed" % snake(name) if generic else "λ _. Unit {0}"
         used = any("nested" in line for line in lines)
-        head = "impl WalkMut for %s {\n    ghost fits = { %s };\n\n" % (name, fits)
+        own = "impl<T: Held> WalkMut for %sOf<T>" % name if generic else "impl WalkMut for %s" % name
+        head = "%s {\n    ghost fits = { %s };\n\n" % (own, fits)
         head += "    fn walk_mut<V: VisitMut, N: Nested<V>>(&mut self, %s: &N, visitor: &mut V) {\n" % ("nested" if used else "_nested")
         return head + "".join("        %s\n" % line for line in lines) + "    }\n}\n\n"
 
@@ -59,15 +71,16 @@ class VisitMut:
             if what == "words" or table.module_of[n] != module:
                 continue
             body.append(self.impl(n, self.struct_lines(n) if what == "struct" else self.enum_lines(n)))
-            names.add(n)
+            names.add(n + "Of" if table.is_generic(n) else n)
             if table.is_generic(n):
                 fits.append("fits_" + snake(n))
-                if what == "enum":
-                    names.add(n + "Of")
         head = "//! Changes %s.\n" % WHAT[module]
         if fits:
             head += "ghost use Rattle.ecma_node.specs.Fits.{%s};\n\n" % ", ".join(fits)
-        head += "use crate::hooks::VisitMut;\nuse crate::walk::{Nested, WalkMut};\n"
+        held = "use crate::held::Held;\n" if fits else ""
+        text = "".join(body)
+        helpers = [it for it in ("walk_all", "walk_elements") if it + "(" in text]
+        head += held + "use crate::hooks::VisitMut;\n" + use_line("crate::walk", ["Nested", "WalkMut"] + helpers)
         head += use_line("ecma_node", sorted(names))
         return head + "\n" + "".join(body).rstrip("\n") + "\n"
 

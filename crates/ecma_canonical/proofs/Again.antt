@@ -44,10 +44,10 @@ gap_again (Some e) spot at hi = gap_keeps e.template e.hash (is_word spot.token.
 
 -- ---- each part begins with a character
 
-abbrev Starts : List ℕ → Type 0
+abbrev pub Starts : List ℕ → Type 0
 Starts xs = is_char_start (get_or xs 0 0) ≡ true
 
-starts_append : (xs ys : List ℕ) → Starts xs → Starts ys → Starts (xs ++ ys)
+pub starts_append : (xs ys : List ℕ) → Starts xs → Starts ys → Starts (xs ++ ys)
 starts_append [] ys h g = g
 starts_append (x ∷ xs) ys h g = h
 
@@ -106,7 +106,7 @@ cut_here before behind at e h =
     ap (λ k. get_or (before ++ behind) k 0) (let k : at ≡ length before + 0 = omega (arith, e) in k) ∙ get_or-append-add before behind 0 0 in
     and_both (nat_le at (length (before ++ behind))) (is_char_start (slice_index (before ++ behind) at)) within (ap is_char_start byte ∙ h)
 
-own_again : (before own behind : List ℕ) (lo hi : ℕ) → Starts (own ++ behind) → Starts behind → lo ≡ length before + 1 → hi ≡ lo + length own
+pub own_again : (before own behind : List ℕ) (lo hi : ℕ) → Starts (own ++ behind) → Starts behind → lo ≡ length before + 1 → hi ≡ lo + length own
     → own_bytes (before ++ (own ++ behind)) lo hi ≡ own
 own_again before own behind lo hi h g e f =
     let whole = before ++ (own ++ behind) in

@@ -1,3 +1,4 @@
 pub mod SortLemmas
 pub mod LexemeLemmas
 pub mod SpelledLemmas
+pub mod SmallLemmas

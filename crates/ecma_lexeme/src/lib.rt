@@ -6,9 +6,11 @@ pub mod laws;
 pub mod lexeme;
 mod literals;
 mod read;
+pub mod small;
 mod sort;
 mod words;
 
 pub use goal::LexicalGoal;
 pub use lexeme::Lexeme;
 pub use read::read_token;
+pub use small::{Small, read_small};

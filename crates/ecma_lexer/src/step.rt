@@ -3,6 +3,7 @@ ghost use Rattle.std.specs.Prelude.{◌≡◌, ◌≢◌, ◌++◌, ◌<◌, ◌
 ghost use Rattle.std.specs.Str.{chars};
 ghost use Rattle.ecma_token.specs.declared.error.SyntaxError.TheVariants.{Memory};
 ghost use Rattle.ecma_token.specs.TokenViews.{token_view};
+ghost use Rattle.ecma_lexeme.specs.Lexemes.{plain};
 ghost use Rattle.ecma_lexeme.specs.Readings.{lexeme_view};
 ghost use Rattle.ecma_tokens.specs.Contexts.{outward};
 ghost use Rattle.ecma_tokens.specs.Machine.{SameTold, shown_spot};
@@ -14,7 +15,7 @@ ghost use Rattle.ecma_lexer.specs.Stepping.{IsTaken, Steps};
 
 use crate::last::Last;
 use crate::lexer::Lexer;
-use ecma_lexeme::{Lexeme, LexicalGoal, read_token};
+use ecma_lexeme::{Lexeme, LexicalGoal, read_small, read_token};
 use ecma_scan::place::{out_of_memory, span};
 use ecma_scan::trivia::{Goal, hashbang, skip_trivia};
 use ecma_token::{BytePos, Context, Error, Span, SyntaxError, Token, TokenAndSpan};
@@ -194,6 +195,35 @@ impl<'a> Lexer<'a> {
         }))
     }
 
+    /// Goes on behind a token that any code may have, which stands at the front of this text up to the rest.
+    fn hand_on(
+        &mut self,
+        token: Token<'a>,
+        line_break: bool,
+        from: &'a str,
+        rest: &'a str,
+    ) -> Result<Option<TokenAndSpan<'a>>, Error>
+        requires utf8 { IsUtf8 rest.now }
+        requires order { length rest.now ≤ length from.now }
+        requires within { length from.now < self.old.end }
+        ensures step { Steps (λ out new. IsTaken line_break (chars from.now) (plain (token_view token.entry)) (chars rest.now) (state_in self.old) out new) result (state_in self.new) }
+        ensures kept { (self.new.comments ≡ self.old.comments) × (self.new.keeps ≡ self.old.keeps) }
+        ensures told { SameTold (settings_in self.old.settings) (settings_in self.new.settings) }
+    {
+        let span = part(self.end, from, rest);
+        if follow(&mut self.settings.contexts, &token).is_err() {
+            return Err(out_of_memory());
+        }
+        self.last = Last::after(&token, from);
+        self.rest = rest;
+        self.had_line_break = line_break;
+        Ok(Some(TokenAndSpan {
+            token,
+            had_line_break: line_break,
+            span,
+        }))
+    }
+
     /// Stops at a fault, which begins at this place.
     #[tactic(auto, using(crate::proofs::StepLemmas::nothing_left))]
     fn fail(&mut self, error: Error, line_break: bool, lo: BytePos) -> TokenAndSpan<'a>
@@ -230,6 +260,9 @@ impl<'a> Lexer<'a> {
         if ends(goal, from) {
             self.rest = "";
             return Ok(None);
+        }
+        if let Some((small, rest)) = read_small(self.alloc, goal, from, self.end) {
+            return self.hand_on(small.token(), line_break, from, rest);
         }
         let lo = part(self.end, from, "").lo;
         match read_token(self.alloc, goal, from, self.end) {

@@ -1,7 +1,6 @@
 -- A step is determined.
-use Rattle.std.proofs.Common.{◌≡◌, ◌≢◌, ℕ, ◌⊎◌, inl, inr, Bool, true, false, List, [], ◌∷◌, Option, Some, None, refl, sym, ap, subst, ◌∙◌}
+use Rattle.std.proofs.Common.{◌≡◌, ◌≢◌, ℕ, inl, inr, Bool, false, List, [], Option, Some, None, refl, sym, ap, subst, ◌∙◌}
 use Rattle.ecma_token.specs.Tokens.{Spot}
-use Rattle.ecma_scan.specs.Trivia.{IsHashbang, NoHashbang}
 use Rattle.ecma_literal.specs.declared.template.Ending.TheVariants.{BackQuote, Substitution}
 use Rattle.ecma_literal.specs.declared.template.Ending.{Ending}
 use Rattle.ecma_literal.specs.Templates as templates
@@ -9,8 +8,7 @@ use Rattle.ecma_lexeme.specs.declared.goal.LexicalGoal.{LexicalGoal}
 use Rattle.ecma_lexeme.specs.declared.goal.LexicalGoal.TheVariants.{Div, RegExp, TemplateTail, TemplateEnd}
 use Rattle.ecma_lexeme.specs.Lexemes.{SpecLexeme, IsLexeme}
 use Rattle.ecma_lexeme.proofs.LexemeLemmas.{none_at_end, one_lexeme}
-use Rattle.ecma_lexing.specs.States as states
-use Rattle.ecma_lexing.specs.States.{Last, Start, Slash, Characters, Fault, Other, State, again, behind, faulty, goal_of, is_start, shebang, spot_at, stopped, template_goal}
+use Rattle.ecma_lexing.specs.States.{Last, Start, Slash, Characters, Fault, Other, State, again, behind, faulty, goal_of, is_start, shebang, spot_at, template_goal}
 use Rattle.ecma_lexing.specs.Steps.{Ends, IsFirst, IsGoing, IsOutside, IsPlain, IsRead, IsStep, IsStepBy, IsStepOf}
 use Rattle.ecma_lexing.proofs.TriviaLemmas.{one_bad, one_hashbang, one_skipped, skipped_not_bad}
 

@@ -1,11 +1,11 @@
 -- What trivia stands at a front is determined.
-use Rattle.std.proofs.Common.{◌≡◌, ℕ, ◌⊎◌, inl, inr, Bool, true, false, ◌||◌, List, [], ◌∷◌, ◌++◌, refl, sym, ap, subst, ◌∙◌}
+use Rattle.std.proofs.Common.{◌≡◌, ℕ, ◌⊎◌, inl, inr, Bool, ◌||◌, List, [], ◌∷◌, ◌++◌, refl, sym, ap, subst, ◌∙◌}
 use Rattle.std.specs.List.{list_any}
 use Rattle.std.proofs.lemmas.Bool.{false≢true}
 use Rattle.std.proofs.Math.Bool.{or-false, or_assoc}
 use Rattle.ecma_scan.specs.declared.trivia.Goal.{Goal}
-use Rattle.ecma_scan.specs.Runs.{Each, Ends, IsRun}
-use Rattle.ecma_scan.specs.Trivia.{Piece, Follow, IsHashbang, IsLegacy, IsOpenBlock, IsPiece, IsSkipped, NoPiece, NoTrivia, breaks}
+use Rattle.ecma_scan.specs.Runs.{Each, Ends}
+use Rattle.ecma_scan.specs.Trivia.{Piece, Follow, IsHashbang, IsLegacy, IsOpenBlock, IsSkipped, NoPiece, NoTrivia, breaks}
 use Rattle.ecma_scan.proofs.TriviaLemmas.{one_piece}
 use Rattle.ecma_lexing.specs.Steps.{IsBadTrivia}
 

@@ -1,5 +1,5 @@
 -- Laws of steps.
-use Rattle.std.specs.Prelude.{◌≡◌, Option, Some, None}
+use Rattle.std.specs.Prelude.{◌≡◌, Option, None}
 use Rattle.ecma_token.specs.Tokens.{Spot}
 use Rattle.ecma_lexing.specs.States.{Fault, State}
 use Rattle.ecma_lexing.specs.Steps.{IsStep}

@@ -2,7 +2,7 @@
 --
 -- The goal of each token: a template's own characters, or what ends them, where the template is the innermost context; RegExp for a slash
 -- that is to be read again; else Div.
-use Rattle.std.specs.Prelude.{◌≡◌, ◌≢◌, ℕ, Bool, true, false, ◌||◌, ◌⊎◌, List, [], Option, None, Some}
+use Rattle.std.specs.Prelude.{◌≡◌, ◌≢◌, ℕ, Bool, false, ◌||◌, ◌⊎◌, List, [], Option, None, Some}
 use Rattle.std.specs.List.{list_any}
 use Rattle.ecma_token.specs.Tokens.{Spot}
 use Rattle.ecma_scan.specs.declared.trivia.Goal.{Goal}

@@ -72,6 +72,21 @@ module _ {S : Type 0} {tells : S → Type 0} {state : S → State} {failed : S �
         (ap (λ bytes. lay (text bytes) x.0) (sym (append-nil left)) ∙ x.2 [] ∙ ap (λ bytes. lay (text bytes) a) (append-nil whole)) (k.so x.0 x.1);
   }
 
+  -- the same of a text that goes on
+  pub with_more : (front back more : List ℕ) {w v : S} {f g : Option EmitError}
+      → Leaves {S = S} tells state failed loans front back w f v g → Leaves {S = S} tells state failed loans (front ++ more) (back ++ more) w f v g
+  with_more front back more h = record {
+    so = λ a z.
+        let x = h.so a z in
+        (x.0, x.1, λ rest. ap (λ bytes. lay (text bytes) x.0) (append_assoc back more rest) ∙ x.2 (more ++ rest) ∙ ap (λ bytes. lay (text bytes) a) (sym (append_assoc front more rest)));
+  }
+
+  -- nothing more is left
+  pub no_more : {front : List ℕ} (back : List ℕ) {left : List ℕ} {w v : S} {f g : Option EmitError} → left ≡ []
+      → Leaves {S = S} tells state failed loans front (back ++ left) w f v g → Leaves {S = S} tells state failed loans front back w f v g
+  no_more {front = front} back {w = w} {v = v} {f = f} {g = g} e h =
+      subst (λ (l : List ℕ). Leaves {S = S} tells state failed loans front l w f v g) (ap (λ (l : List ℕ). back ++ l) e ∙ append-nil back) h
+
   pub leaves_as : {front other back : List ℕ} {w v : S} {f g : Option EmitError} → front ≡ other
       → Leaves {S = S} tells state failed loans front back w f v g → Leaves {S = S} tells state failed loans other back w f v g
   leaves_as {back = back} {w = w} {v = v} {f = f} {g = g} e h = subst (λ (l : List ℕ). Leaves {S = S} tells state failed loans l back w f v g) e h

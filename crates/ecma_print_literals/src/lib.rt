@@ -2,4 +2,7 @@
 #![tactic(auto)]
 
 pub mod names;
+pub mod numbers;
 pub mod parts;
+pub mod strings;
+pub mod templates;

@@ -42,3 +42,9 @@ rows_3 : Hold (
     no_script (codes "class A{static{await a}}") ∷ [])
 unfolding opened
 rows_3 = refl
+
+rows_4 : Hold (
+    no_script (codes "class A{# a}") ∷
+    no_script (codes "# a in b") ∷ [])
+unfolding opened
+rows_4 = refl

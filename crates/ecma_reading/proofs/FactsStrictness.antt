@@ -1,6 +1,6 @@
 -- Strictness.
 use Rattle.std.proofs.Common.{[], ◌∷◌, codes, refl}
-use Rattle.ecma_reading.proofs.Rows.{Hold, opened, module_faults, script_faults}
+use Rattle.ecma_reading.proofs.Rows.{Hold, opened, module_faults, no_script, script_faults}
 
 rows_1 : Hold (
     script_faults (codes "'use strict'\n010") (3 ∷ 14 ∷ 17 ∷ []) ∷
@@ -49,3 +49,9 @@ rows_3 : Hold (
     script_faults (codes "function f(){'use strict';010}") (3 ∷ 27 ∷ 30 ∷ []) ∷ [])
 unfolding opened
 rows_3 = refl
+
+rows_4 : Hold (
+    no_script (codes "function f(){'use strict';@let}") ∷
+    no_script (codes "(a)=>{'use strict';@let}") ∷ [])
+unfolding opened
+rows_4 = refl

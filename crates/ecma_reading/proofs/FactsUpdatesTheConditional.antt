@@ -8,6 +8,7 @@ rows_1 : Hold (
     script_row (codes "++a.b") (codes "(do (++ (. a b)))") ∷
     script_row (codes "x++ + ++y") (codes "(do (+ (++p x) (++ y)))") ∷
     no_script (codes "a++ ++") ∷
+    no_script (codes "a++ ++b") ∷
     no_script (codes "a++b") ∷
     no_script (codes "++a++b") ∷
     script_row (codes "-a++") (codes "(do (- (++p a)))") ∷

@@ -44,3 +44,8 @@ rows_3 : Hold (
     script_row (codes "var let") (codes "(var (let let -))") ∷ [])
 unfolding opened
 rows_3 = refl
+
+rows_4 : Hold (
+    script_row (codes "var[,a]=b") (codes "(var (let ([] _ a) b))") ∷ [])
+unfolding opened
+rows_4 = refl

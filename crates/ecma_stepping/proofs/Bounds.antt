@@ -51,7 +51,7 @@ words_past : all_past 79 own_words ≡ true
 unfolding all_past
 words_past = refl
 
-word_past : (text : List ℕ) → 79 < kind_of text
+pub word_past : (text : List ℕ) → 79 < kind_of text
 unfolding kind_of
 word_past text = past_by 79 own_words text (omega arith) words_past
 

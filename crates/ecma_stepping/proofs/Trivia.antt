@@ -20,7 +20,7 @@ use Rattle.ecma_stepping.proofs.Deciding.{heads, tails, no_nil}
 
 -- ---- a piece takes characters
 
-piece_shorter : (goal : Goal) (first : Bool) (text : List ℕ) (p : Piece) (rest : List ℕ) → IsPiece goal first text p rest → length rest < length text
+pub piece_shorter : (goal : Goal) (first : Bool) (text : List ℕ) (p : Piece) (rest : List ℕ) → IsPiece goal first text p rest → length rest < length text
 piece_shorter goal first text WhiteSpace rest h = white h.0 h.1 h.2.0
   where
     white : (own : List ℕ) → own ≢ [] → text ≡ own ++ rest → length rest < length text

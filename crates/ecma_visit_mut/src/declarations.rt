@@ -1,12 +1,13 @@
 //! Changes declarations (ECMA-262, 14.3, 15.2 and 15.7).
 ghost use Rattle.ecma_node.specs.Fits.{fits_decl, fits_class_decl, fits_fn_decl, fits_var_decl, fits_using_decl, fits_var_declarator};
 
+use crate::held::Held;
 use crate::hooks::VisitMut;
-use crate::walk::{Nested, WalkMut};
-use ecma_node::{ClassDecl, Decl, DeclOf, FnDecl, UsingDecl, VarDecl, VarDeclarator};
+use crate::walk::{Nested, WalkMut, walk_all};
+use ecma_node::{ClassDeclOf, DeclOf, FnDeclOf, UsingDeclOf, VarDeclOf, VarDeclaratorOf};
 
-impl WalkMut for Decl {
-    ghost fits = { fits_decl (λ p. p) };
+impl<T: Held> WalkMut for DeclOf<T> {
+    ghost fits = { fits_decl T.placed };
 
     fn walk_mut<V: VisitMut, N: Nested<V>>(&mut self, nested: &N, visitor: &mut V) {
         match self {
@@ -15,12 +16,12 @@ impl WalkMut for Decl {
             DeclOf::Var(x) => x.walk_mut(nested, visitor),
             DeclOf::Using(x) => x.walk_mut(nested, visitor),
         }
-        visitor.leave_decl(self);
+        T::leave_decl(visitor, self);
     }
 }
 
-impl WalkMut for ClassDecl {
-    ghost fits = { fits_class_decl (λ p. p) };
+impl<T: Held> WalkMut for ClassDeclOf<T> {
+    ghost fits = { fits_class_decl T.placed };
 
     fn walk_mut<V: VisitMut, N: Nested<V>>(&mut self, nested: &N, visitor: &mut V) {
         self.ident.walk_mut(nested, visitor);
@@ -29,8 +30,8 @@ impl WalkMut for ClassDecl {
     }
 }
 
-impl WalkMut for FnDecl {
-    ghost fits = { fits_fn_decl (λ p. p) };
+impl<T: Held> WalkMut for FnDeclOf<T> {
+    ghost fits = { fits_fn_decl T.placed };
 
     fn walk_mut<V: VisitMut, N: Nested<V>>(&mut self, nested: &N, visitor: &mut V) {
         self.ident.walk_mut(nested, visitor);
@@ -39,31 +40,33 @@ impl WalkMut for FnDecl {
     }
 }
 
-impl WalkMut for VarDecl {
-    ghost fits = { fits_var_decl (λ p. p) };
+impl<T: Held> WalkMut for VarDeclOf<T> {
+    ghost fits = { fits_var_decl T.placed };
 
     fn walk_mut<V: VisitMut, N: Nested<V>>(&mut self, nested: &N, visitor: &mut V) {
-        self.decls.walk_mut(nested, visitor);
+        walk_all(&mut self.decls, nested, visitor);
         visitor.span(&mut self.span);
     }
 }
 
-impl WalkMut for UsingDecl {
-    ghost fits = { fits_using_decl (λ p. p) };
+impl<T: Held> WalkMut for UsingDeclOf<T> {
+    ghost fits = { fits_using_decl T.placed };
 
     fn walk_mut<V: VisitMut, N: Nested<V>>(&mut self, nested: &N, visitor: &mut V) {
-        self.decls.walk_mut(nested, visitor);
+        walk_all(&mut self.decls, nested, visitor);
         visitor.span(&mut self.span);
     }
 }
 
-impl WalkMut for VarDeclarator {
-    ghost fits = { fits_var_declarator (λ p. p) };
+impl<T: Held> WalkMut for VarDeclaratorOf<T> {
+    ghost fits = { fits_var_declarator T.placed };
 
     fn walk_mut<V: VisitMut, N: Nested<V>>(&mut self, nested: &N, visitor: &mut V) {
         self.name.walk_mut(nested, visitor);
-        self.init.walk_mut(nested, visitor);
+        if let Some(x) = &mut self.init {
+            x.walk_mut(nested, visitor);
+        }
         visitor.span(&mut self.span);
-        visitor.leave_var_declarator(self);
+        T::leave_var_declarator(visitor, self);
     }
 }

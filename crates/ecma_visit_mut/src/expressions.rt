@@ -1,19 +1,20 @@
 //! Changes expressions (ECMA-262, clause 13).
 ghost use Rattle.ecma_node.specs.Fits.{fits_expr_kind, fits_array_lit, fits_object_lit, fits_fn_expr, fits_unary_expr, fits_update_expr, fits_bin_expr, fits_assign_expr, fits_member_expr, fits_super_prop_expr, fits_cond_expr, fits_call_expr, fits_new_expr, fits_seq_expr, fits_tpl, fits_tagged_tpl, fits_arrow_expr, fits_class_expr, fits_yield_expr, fits_await_expr, fits_paren_expr, fits_opt_chain_expr, fits_opt_call, fits_expr_or_spread, fits_spread_element, fits_callee, fits_member_prop, fits_super_prop, fits_opt_chain_base, fits_block_stmt_or_expr};
 
+use crate::held::Held;
 use crate::hooks::VisitMut;
-use crate::walk::{Nested, WalkMut};
+use crate::walk::{Nested, WalkMut, walk_all, walk_elements};
 use ecma_node::{
-    ArrayLit, ArrowExpr, AssignExpr, AwaitExpr, BinExpr, BlockStmtOrExpr, BlockStmtOrExprOf,
-    CallExpr, Callee, CalleeOf, ClassExpr, CondExpr, ExprKind, ExprKindOf, ExprOrSpread, FnExpr,
-    Ident, Import, Invalid, MemberExpr, MemberProp, MemberPropOf, MetaPropExpr, NewExpr, ObjectLit,
-    OptCall, OptChainBase, OptChainBaseOf, OptChainExpr, ParenExpr, SeqExpr, SpreadElement, Super,
-    SuperProp, SuperPropExpr, SuperPropOf, TaggedTpl, ThisExpr, Tpl, TplElement, UnaryExpr,
-    UpdateExpr, YieldExpr,
+    ArrayLitOf, ArrowExprOf, AssignExprOf, AwaitExprOf, BinExprOf, BlockStmtOrExprOf, CallExprOf,
+    CalleeOf, ClassExprOf, CondExprOf, ExprKindOf, ExprOrSpreadOf, FnExprOf, Ident, Import,
+    Invalid, MemberExprOf, MemberPropOf, MetaPropExpr, NewExprOf, ObjectLitOf, OptCallOf,
+    OptChainBaseOf, OptChainExprOf, ParenExprOf, SeqExprOf, SpreadElementOf, Super,
+    SuperPropExprOf, SuperPropOf, TaggedTplOf, ThisExpr, TplElement, TplOf, UnaryExprOf,
+    UpdateExprOf, YieldExprOf,
 };
 
-impl WalkMut for ExprKind {
-    ghost fits = { fits_expr_kind (λ p. p) };
+impl<T: Held> WalkMut for ExprKindOf<T> {
+    ghost fits = { fits_expr_kind T.placed };
 
     fn walk_mut<V: VisitMut, N: Nested<V>>(&mut self, nested: &N, visitor: &mut V) {
         match self {
@@ -56,36 +57,38 @@ impl WalkMut for ThisExpr {
     }
 }
 
-impl WalkMut for ArrayLit {
-    ghost fits = { fits_array_lit (λ p. p) };
+impl<T: Held> WalkMut for ArrayLitOf<T> {
+    ghost fits = { fits_array_lit T.placed };
 
     fn walk_mut<V: VisitMut, N: Nested<V>>(&mut self, nested: &N, visitor: &mut V) {
-        self.elems.walk_mut(nested, visitor);
+        walk_elements(&mut self.elems, nested, visitor);
         visitor.span(&mut self.span);
     }
 }
 
-impl WalkMut for ObjectLit {
-    ghost fits = { fits_object_lit (λ p. p) };
+impl<T: Held> WalkMut for ObjectLitOf<T> {
+    ghost fits = { fits_object_lit T.placed };
 
     fn walk_mut<V: VisitMut, N: Nested<V>>(&mut self, nested: &N, visitor: &mut V) {
-        self.props.walk_mut(nested, visitor);
+        walk_all(&mut self.props, nested, visitor);
         visitor.span(&mut self.span);
     }
 }
 
-impl WalkMut for FnExpr {
-    ghost fits = { fits_fn_expr (λ p. p) };
+impl<T: Held> WalkMut for FnExprOf<T> {
+    ghost fits = { fits_fn_expr T.placed };
 
     fn walk_mut<V: VisitMut, N: Nested<V>>(&mut self, nested: &N, visitor: &mut V) {
-        self.ident.walk_mut(nested, visitor);
+        if let Some(x) = &mut self.ident {
+            x.walk_mut(nested, visitor);
+        }
         self.function.walk_mut(nested, visitor);
         visitor.span(&mut self.span);
     }
 }
 
-impl WalkMut for UnaryExpr {
-    ghost fits = { fits_unary_expr (λ p. p) };
+impl<T: Held> WalkMut for UnaryExprOf<T> {
+    ghost fits = { fits_unary_expr T.placed };
 
     fn walk_mut<V: VisitMut, N: Nested<V>>(&mut self, nested: &N, visitor: &mut V) {
         self.arg.walk_mut(nested, visitor);
@@ -93,8 +96,8 @@ impl WalkMut for UnaryExpr {
     }
 }
 
-impl WalkMut for UpdateExpr {
-    ghost fits = { fits_update_expr (λ p. p) };
+impl<T: Held> WalkMut for UpdateExprOf<T> {
+    ghost fits = { fits_update_expr T.placed };
 
     fn walk_mut<V: VisitMut, N: Nested<V>>(&mut self, nested: &N, visitor: &mut V) {
         self.arg.walk_mut(nested, visitor);
@@ -102,8 +105,8 @@ impl WalkMut for UpdateExpr {
     }
 }
 
-impl WalkMut for BinExpr {
-    ghost fits = { fits_bin_expr (λ p. p) };
+impl<T: Held> WalkMut for BinExprOf<T> {
+    ghost fits = { fits_bin_expr T.placed };
 
     fn walk_mut<V: VisitMut, N: Nested<V>>(&mut self, nested: &N, visitor: &mut V) {
         self.left.walk_mut(nested, visitor);
@@ -112,8 +115,8 @@ impl WalkMut for BinExpr {
     }
 }
 
-impl WalkMut for AssignExpr {
-    ghost fits = { fits_assign_expr (λ p. p) };
+impl<T: Held> WalkMut for AssignExprOf<T> {
+    ghost fits = { fits_assign_expr T.placed };
 
     fn walk_mut<V: VisitMut, N: Nested<V>>(&mut self, nested: &N, visitor: &mut V) {
         self.left.walk_mut(nested, visitor);
@@ -122,19 +125,19 @@ impl WalkMut for AssignExpr {
     }
 }
 
-impl WalkMut for MemberExpr {
-    ghost fits = { fits_member_expr (λ p. p) };
+impl<T: Held> WalkMut for MemberExprOf<T> {
+    ghost fits = { fits_member_expr T.placed };
 
     fn walk_mut<V: VisitMut, N: Nested<V>>(&mut self, nested: &N, visitor: &mut V) {
         self.obj.walk_mut(nested, visitor);
         self.prop.walk_mut(nested, visitor);
         visitor.span(&mut self.span);
-        visitor.leave_member_expr(self);
+        T::leave_member_expr(visitor, self);
     }
 }
 
-impl WalkMut for SuperPropExpr {
-    ghost fits = { fits_super_prop_expr (λ p. p) };
+impl<T: Held> WalkMut for SuperPropExprOf<T> {
+    ghost fits = { fits_super_prop_expr T.placed };
 
     fn walk_mut<V: VisitMut, N: Nested<V>>(&mut self, nested: &N, visitor: &mut V) {
         self.obj.walk_mut(nested, visitor);
@@ -143,8 +146,8 @@ impl WalkMut for SuperPropExpr {
     }
 }
 
-impl WalkMut for CondExpr {
-    ghost fits = { fits_cond_expr (λ p. p) };
+impl<T: Held> WalkMut for CondExprOf<T> {
+    ghost fits = { fits_cond_expr T.placed };
 
     fn walk_mut<V: VisitMut, N: Nested<V>>(&mut self, nested: &N, visitor: &mut V) {
         self.test.walk_mut(nested, visitor);
@@ -154,31 +157,33 @@ impl WalkMut for CondExpr {
     }
 }
 
-impl WalkMut for CallExpr {
-    ghost fits = { fits_call_expr (λ p. p) };
+impl<T: Held> WalkMut for CallExprOf<T> {
+    ghost fits = { fits_call_expr T.placed };
 
     fn walk_mut<V: VisitMut, N: Nested<V>>(&mut self, nested: &N, visitor: &mut V) {
         self.callee.walk_mut(nested, visitor);
-        self.args.walk_mut(nested, visitor);
+        walk_all(&mut self.args, nested, visitor);
         visitor.span(&mut self.span);
     }
 }
 
-impl WalkMut for NewExpr {
-    ghost fits = { fits_new_expr (λ p. p) };
+impl<T: Held> WalkMut for NewExprOf<T> {
+    ghost fits = { fits_new_expr T.placed };
 
     fn walk_mut<V: VisitMut, N: Nested<V>>(&mut self, nested: &N, visitor: &mut V) {
         self.callee.walk_mut(nested, visitor);
-        self.args.walk_mut(nested, visitor);
+        if let Some(x) = &mut self.args {
+            walk_all(x, nested, visitor);
+        }
         visitor.span(&mut self.span);
     }
 }
 
-impl WalkMut for SeqExpr {
-    ghost fits = { fits_seq_expr (λ p. p) };
+impl<T: Held> WalkMut for SeqExprOf<T> {
+    ghost fits = { fits_seq_expr T.placed };
 
     fn walk_mut<V: VisitMut, N: Nested<V>>(&mut self, nested: &N, visitor: &mut V) {
-        self.exprs.walk_mut(nested, visitor);
+        walk_all(&mut self.exprs, nested, visitor);
         visitor.span(&mut self.span);
     }
 }
@@ -192,14 +197,14 @@ impl WalkMut for Ident {
     }
 }
 
-impl WalkMut for Tpl {
-    ghost fits = { fits_tpl (λ p. p) };
+impl<T: Held> WalkMut for TplOf<T> {
+    ghost fits = { fits_tpl T.placed };
 
     fn walk_mut<V: VisitMut, N: Nested<V>>(&mut self, nested: &N, visitor: &mut V) {
-        self.exprs.walk_mut(nested, visitor);
-        self.quasis.walk_mut(nested, visitor);
+        walk_all(&mut self.exprs, nested, visitor);
+        walk_all(&mut self.quasis, nested, visitor);
         visitor.span(&mut self.span);
-        visitor.leave_tpl(self);
+        T::leave_tpl(visitor, self);
     }
 }
 
@@ -212,8 +217,8 @@ impl WalkMut for TplElement {
     }
 }
 
-impl WalkMut for TaggedTpl {
-    ghost fits = { fits_tagged_tpl (λ p. p) };
+impl<T: Held> WalkMut for TaggedTplOf<T> {
+    ghost fits = { fits_tagged_tpl T.placed };
 
     fn walk_mut<V: VisitMut, N: Nested<V>>(&mut self, nested: &N, visitor: &mut V) {
         self.tag.walk_mut(nested, visitor);
@@ -222,31 +227,35 @@ impl WalkMut for TaggedTpl {
     }
 }
 
-impl WalkMut for ArrowExpr {
-    ghost fits = { fits_arrow_expr (λ p. p) };
+impl<T: Held> WalkMut for ArrowExprOf<T> {
+    ghost fits = { fits_arrow_expr T.placed };
 
     fn walk_mut<V: VisitMut, N: Nested<V>>(&mut self, nested: &N, visitor: &mut V) {
-        self.params.walk_mut(nested, visitor);
+        walk_all(&mut self.params, nested, visitor);
         self.body.walk_mut(nested, visitor);
         visitor.span(&mut self.span);
     }
 }
 
-impl WalkMut for ClassExpr {
-    ghost fits = { fits_class_expr (λ p. p) };
+impl<T: Held> WalkMut for ClassExprOf<T> {
+    ghost fits = { fits_class_expr T.placed };
 
     fn walk_mut<V: VisitMut, N: Nested<V>>(&mut self, nested: &N, visitor: &mut V) {
-        self.ident.walk_mut(nested, visitor);
+        if let Some(x) = &mut self.ident {
+            x.walk_mut(nested, visitor);
+        }
         self.class.walk_mut(nested, visitor);
         visitor.span(&mut self.span);
     }
 }
 
-impl WalkMut for YieldExpr {
-    ghost fits = { fits_yield_expr (λ p. p) };
+impl<T: Held> WalkMut for YieldExprOf<T> {
+    ghost fits = { fits_yield_expr T.placed };
 
     fn walk_mut<V: VisitMut, N: Nested<V>>(&mut self, nested: &N, visitor: &mut V) {
-        self.arg.walk_mut(nested, visitor);
+        if let Some(x) = &mut self.arg {
+            x.walk_mut(nested, visitor);
+        }
         visitor.span(&mut self.span);
     }
 }
@@ -259,8 +268,8 @@ impl WalkMut for MetaPropExpr {
     }
 }
 
-impl WalkMut for AwaitExpr {
-    ghost fits = { fits_await_expr (λ p. p) };
+impl<T: Held> WalkMut for AwaitExprOf<T> {
+    ghost fits = { fits_await_expr T.placed };
 
     fn walk_mut<V: VisitMut, N: Nested<V>>(&mut self, nested: &N, visitor: &mut V) {
         self.arg.walk_mut(nested, visitor);
@@ -268,8 +277,8 @@ impl WalkMut for AwaitExpr {
     }
 }
 
-impl WalkMut for ParenExpr {
-    ghost fits = { fits_paren_expr (λ p. p) };
+impl<T: Held> WalkMut for ParenExprOf<T> {
+    ghost fits = { fits_paren_expr T.placed };
 
     fn walk_mut<V: VisitMut, N: Nested<V>>(&mut self, nested: &N, visitor: &mut V) {
         self.expr.walk_mut(nested, visitor);
@@ -277,8 +286,8 @@ impl WalkMut for ParenExpr {
     }
 }
 
-impl WalkMut for OptChainExpr {
-    ghost fits = { fits_opt_chain_expr (λ p. p) };
+impl<T: Held> WalkMut for OptChainExprOf<T> {
+    ghost fits = { fits_opt_chain_expr T.placed };
 
     fn walk_mut<V: VisitMut, N: Nested<V>>(&mut self, nested: &N, visitor: &mut V) {
         self.base.walk_mut(nested, visitor);
@@ -286,12 +295,12 @@ impl WalkMut for OptChainExpr {
     }
 }
 
-impl WalkMut for OptCall {
-    ghost fits = { fits_opt_call (λ p. p) };
+impl<T: Held> WalkMut for OptCallOf<T> {
+    ghost fits = { fits_opt_call T.placed };
 
     fn walk_mut<V: VisitMut, N: Nested<V>>(&mut self, nested: &N, visitor: &mut V) {
         self.callee.walk_mut(nested, visitor);
-        self.args.walk_mut(nested, visitor);
+        walk_all(&mut self.args, nested, visitor);
         visitor.span(&mut self.span);
     }
 }
@@ -320,8 +329,8 @@ impl WalkMut for Invalid {
     }
 }
 
-impl WalkMut for ExprOrSpread {
-    ghost fits = { fits_expr_or_spread (λ p. p) };
+impl<T: Held> WalkMut for ExprOrSpreadOf<T> {
+    ghost fits = { fits_expr_or_spread T.placed };
 
     fn walk_mut<V: VisitMut, N: Nested<V>>(&mut self, nested: &N, visitor: &mut V) {
         self.expr.walk_mut(nested, visitor);
@@ -332,8 +341,8 @@ impl WalkMut for ExprOrSpread {
     }
 }
 
-impl WalkMut for SpreadElement {
-    ghost fits = { fits_spread_element (λ p. p) };
+impl<T: Held> WalkMut for SpreadElementOf<T> {
+    ghost fits = { fits_spread_element T.placed };
 
     fn walk_mut<V: VisitMut, N: Nested<V>>(&mut self, nested: &N, visitor: &mut V) {
         self.expr.walk_mut(nested, visitor);
@@ -341,8 +350,8 @@ impl WalkMut for SpreadElement {
     }
 }
 
-impl WalkMut for Callee {
-    ghost fits = { fits_callee (λ p. p) };
+impl<T: Held> WalkMut for CalleeOf<T> {
+    ghost fits = { fits_callee T.placed };
 
     fn walk_mut<V: VisitMut, N: Nested<V>>(&mut self, nested: &N, visitor: &mut V) {
         match self {
@@ -353,8 +362,8 @@ impl WalkMut for Callee {
     }
 }
 
-impl WalkMut for MemberProp {
-    ghost fits = { fits_member_prop (λ p. p) };
+impl<T: Held> WalkMut for MemberPropOf<T> {
+    ghost fits = { fits_member_prop T.placed };
 
     fn walk_mut<V: VisitMut, N: Nested<V>>(&mut self, nested: &N, visitor: &mut V) {
         match self {
@@ -365,8 +374,8 @@ impl WalkMut for MemberProp {
     }
 }
 
-impl WalkMut for SuperProp {
-    ghost fits = { fits_super_prop (λ p. p) };
+impl<T: Held> WalkMut for SuperPropOf<T> {
+    ghost fits = { fits_super_prop T.placed };
 
     fn walk_mut<V: VisitMut, N: Nested<V>>(&mut self, nested: &N, visitor: &mut V) {
         match self {
@@ -376,8 +385,8 @@ impl WalkMut for SuperProp {
     }
 }
 
-impl WalkMut for OptChainBase {
-    ghost fits = { fits_opt_chain_base (λ p. p) };
+impl<T: Held> WalkMut for OptChainBaseOf<T> {
+    ghost fits = { fits_opt_chain_base T.placed };
 
     fn walk_mut<V: VisitMut, N: Nested<V>>(&mut self, nested: &N, visitor: &mut V) {
         match self {
@@ -387,8 +396,8 @@ impl WalkMut for OptChainBase {
     }
 }
 
-impl WalkMut for BlockStmtOrExpr {
-    ghost fits = { fits_block_stmt_or_expr (λ p. p) };
+impl<T: Held> WalkMut for BlockStmtOrExprOf<T> {
+    ghost fits = { fits_block_stmt_or_expr T.placed };
 
     fn walk_mut<V: VisitMut, N: Nested<V>>(&mut self, nested: &N, visitor: &mut V) {
         match self {

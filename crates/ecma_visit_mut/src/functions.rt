@@ -1,39 +1,40 @@
 //! Changes functions, classes and keys (ECMA-262, clause 15).
 ghost use Rattle.ecma_node.specs.Fits.{fits_function, fits_param, fits_decorator, fits_class, fits_class_member, fits_constructor, fits_class_method, fits_private_method, fits_class_prop, fits_private_prop, fits_static_block, fits_auto_accessor, fits_key, fits_prop_name, fits_computed_prop_name};
 
+use crate::held::Held;
 use crate::hooks::VisitMut;
-use crate::walk::{Nested, WalkMut};
+use crate::walk::{Nested, WalkMut, walk_all};
 use ecma_node::{
-    AutoAccessor, Class, ClassMember, ClassMemberOf, ClassMethod, ClassProp, ComputedPropName,
-    Constructor, Decorator, Function, IdentName, Key, KeyOf, Param, PrivateMethod, PrivateName,
-    PrivateProp, PropName, PropNameOf, StaticBlock,
+    AutoAccessorOf, ClassMemberOf, ClassMethodOf, ClassOf, ClassPropOf, ComputedPropNameOf,
+    ConstructorOf, DecoratorOf, FunctionOf, IdentName, KeyOf, ParamOf, PrivateMethodOf,
+    PrivateName, PrivatePropOf, PropNameOf, StaticBlockOf,
 };
 
-impl WalkMut for Function {
-    ghost fits = { fits_function (λ p. p) };
+impl<T: Held> WalkMut for FunctionOf<T> {
+    ghost fits = { fits_function T.placed };
 
     fn walk_mut<V: VisitMut, N: Nested<V>>(&mut self, nested: &N, visitor: &mut V) {
-        visitor.enter_function(self);
-        self.decorators.walk_mut(nested, visitor);
-        self.params.walk_mut(nested, visitor);
+        T::enter_function(visitor, self);
+        walk_all(&mut self.decorators, nested, visitor);
+        walk_all(&mut self.params, nested, visitor);
         self.body.walk_mut(nested, visitor);
         visitor.span(&mut self.span);
-        visitor.leave_function(self);
+        T::leave_function(visitor, self);
     }
 }
 
-impl WalkMut for Param {
-    ghost fits = { fits_param (λ p. p) };
+impl<T: Held> WalkMut for ParamOf<T> {
+    ghost fits = { fits_param T.placed };
 
     fn walk_mut<V: VisitMut, N: Nested<V>>(&mut self, nested: &N, visitor: &mut V) {
-        self.decorators.walk_mut(nested, visitor);
+        walk_all(&mut self.decorators, nested, visitor);
         self.pat.walk_mut(nested, visitor);
         visitor.span(&mut self.span);
     }
 }
 
-impl WalkMut for Decorator {
-    ghost fits = { fits_decorator (λ p. p) };
+impl<T: Held> WalkMut for DecoratorOf<T> {
+    ghost fits = { fits_decorator T.placed };
 
     fn walk_mut<V: VisitMut, N: Nested<V>>(&mut self, nested: &N, visitor: &mut V) {
         self.expr.walk_mut(nested, visitor);
@@ -41,21 +42,23 @@ impl WalkMut for Decorator {
     }
 }
 
-impl WalkMut for Class {
-    ghost fits = { fits_class (λ p. p) };
+impl<T: Held> WalkMut for ClassOf<T> {
+    ghost fits = { fits_class T.placed };
 
     fn walk_mut<V: VisitMut, N: Nested<V>>(&mut self, nested: &N, visitor: &mut V) {
-        visitor.enter_class(self);
-        self.decorators.walk_mut(nested, visitor);
-        self.super_class.walk_mut(nested, visitor);
-        self.body.walk_mut(nested, visitor);
+        T::enter_class(visitor, self);
+        walk_all(&mut self.decorators, nested, visitor);
+        if let Some(x) = &mut self.super_class {
+            x.walk_mut(nested, visitor);
+        }
+        walk_all(&mut self.body, nested, visitor);
         visitor.span(&mut self.span);
-        visitor.leave_class(self);
+        T::leave_class(visitor, self);
     }
 }
 
-impl WalkMut for ClassMember {
-    ghost fits = { fits_class_member (λ p. p) };
+impl<T: Held> WalkMut for ClassMemberOf<T> {
+    ghost fits = { fits_class_member T.placed };
 
     fn walk_mut<V: VisitMut, N: Nested<V>>(&mut self, nested: &N, visitor: &mut V) {
         match self {
@@ -68,23 +71,23 @@ impl WalkMut for ClassMember {
             ClassMemberOf::AutoAccessor(x) => x.walk_mut(nested, visitor),
             ClassMemberOf::Empty(x) => x.walk_mut(nested, visitor),
         }
-        visitor.leave_class_member(self);
+        T::leave_class_member(visitor, self);
     }
 }
 
-impl WalkMut for Constructor {
-    ghost fits = { fits_constructor (λ p. p) };
+impl<T: Held> WalkMut for ConstructorOf<T> {
+    ghost fits = { fits_constructor T.placed };
 
     fn walk_mut<V: VisitMut, N: Nested<V>>(&mut self, nested: &N, visitor: &mut V) {
         self.key.walk_mut(nested, visitor);
-        self.params.walk_mut(nested, visitor);
+        walk_all(&mut self.params, nested, visitor);
         self.body.walk_mut(nested, visitor);
         visitor.span(&mut self.span);
     }
 }
 
-impl WalkMut for ClassMethod {
-    ghost fits = { fits_class_method (λ p. p) };
+impl<T: Held> WalkMut for ClassMethodOf<T> {
+    ghost fits = { fits_class_method T.placed };
 
     fn walk_mut<V: VisitMut, N: Nested<V>>(&mut self, nested: &N, visitor: &mut V) {
         self.key.walk_mut(nested, visitor);
@@ -93,8 +96,8 @@ impl WalkMut for ClassMethod {
     }
 }
 
-impl WalkMut for PrivateMethod {
-    ghost fits = { fits_private_method (λ p. p) };
+impl<T: Held> WalkMut for PrivateMethodOf<T> {
+    ghost fits = { fits_private_method T.placed };
 
     fn walk_mut<V: VisitMut, N: Nested<V>>(&mut self, nested: &N, visitor: &mut V) {
         self.key.walk_mut(nested, visitor);
@@ -103,30 +106,34 @@ impl WalkMut for PrivateMethod {
     }
 }
 
-impl WalkMut for ClassProp {
-    ghost fits = { fits_class_prop (λ p. p) };
+impl<T: Held> WalkMut for ClassPropOf<T> {
+    ghost fits = { fits_class_prop T.placed };
 
     fn walk_mut<V: VisitMut, N: Nested<V>>(&mut self, nested: &N, visitor: &mut V) {
-        self.decorators.walk_mut(nested, visitor);
+        walk_all(&mut self.decorators, nested, visitor);
         self.key.walk_mut(nested, visitor);
-        self.value.walk_mut(nested, visitor);
+        if let Some(x) = &mut self.value {
+            x.walk_mut(nested, visitor);
+        }
         visitor.span(&mut self.span);
     }
 }
 
-impl WalkMut for PrivateProp {
-    ghost fits = { fits_private_prop (λ p. p) };
+impl<T: Held> WalkMut for PrivatePropOf<T> {
+    ghost fits = { fits_private_prop T.placed };
 
     fn walk_mut<V: VisitMut, N: Nested<V>>(&mut self, nested: &N, visitor: &mut V) {
-        self.decorators.walk_mut(nested, visitor);
+        walk_all(&mut self.decorators, nested, visitor);
         self.key.walk_mut(nested, visitor);
-        self.value.walk_mut(nested, visitor);
+        if let Some(x) = &mut self.value {
+            x.walk_mut(nested, visitor);
+        }
         visitor.span(&mut self.span);
     }
 }
 
-impl WalkMut for StaticBlock {
-    ghost fits = { fits_static_block (λ p. p) };
+impl<T: Held> WalkMut for StaticBlockOf<T> {
+    ghost fits = { fits_static_block T.placed };
 
     fn walk_mut<V: VisitMut, N: Nested<V>>(&mut self, nested: &N, visitor: &mut V) {
         self.body.walk_mut(nested, visitor);
@@ -134,19 +141,21 @@ impl WalkMut for StaticBlock {
     }
 }
 
-impl WalkMut for AutoAccessor {
-    ghost fits = { fits_auto_accessor (λ p. p) };
+impl<T: Held> WalkMut for AutoAccessorOf<T> {
+    ghost fits = { fits_auto_accessor T.placed };
 
     fn walk_mut<V: VisitMut, N: Nested<V>>(&mut self, nested: &N, visitor: &mut V) {
-        self.decorators.walk_mut(nested, visitor);
+        walk_all(&mut self.decorators, nested, visitor);
         self.key.walk_mut(nested, visitor);
-        self.value.walk_mut(nested, visitor);
+        if let Some(x) = &mut self.value {
+            x.walk_mut(nested, visitor);
+        }
         visitor.span(&mut self.span);
     }
 }
 
-impl WalkMut for Key {
-    ghost fits = { fits_key (λ p. p) };
+impl<T: Held> WalkMut for KeyOf<T> {
+    ghost fits = { fits_key T.placed };
 
     fn walk_mut<V: VisitMut, N: Nested<V>>(&mut self, nested: &N, visitor: &mut V) {
         match self {
@@ -156,8 +165,8 @@ impl WalkMut for Key {
     }
 }
 
-impl WalkMut for PropName {
-    ghost fits = { fits_prop_name (λ p. p) };
+impl<T: Held> WalkMut for PropNameOf<T> {
+    ghost fits = { fits_prop_name T.placed };
 
     fn walk_mut<V: VisitMut, N: Nested<V>>(&mut self, nested: &N, visitor: &mut V) {
         match self {
@@ -167,7 +176,7 @@ impl WalkMut for PropName {
             PropNameOf::BigInt(x) => x.walk_mut(nested, visitor),
             PropNameOf::Computed(x) => x.walk_mut(nested, visitor),
         }
-        visitor.leave_prop_name(self);
+        T::leave_prop_name(visitor, self);
     }
 }
 
@@ -180,8 +189,8 @@ impl WalkMut for IdentName {
     }
 }
 
-impl WalkMut for ComputedPropName {
-    ghost fits = { fits_computed_prop_name (λ p. p) };
+impl<T: Held> WalkMut for ComputedPropNameOf<T> {
+    ghost fits = { fits_computed_prop_name T.placed };
 
     fn walk_mut<V: VisitMut, N: Nested<V>>(&mut self, nested: &N, visitor: &mut V) {
         self.expr.walk_mut(nested, visitor);

@@ -5,6 +5,7 @@
 mod declarations;
 mod expressions;
 mod functions;
+pub mod held;
 pub mod hooks;
 mod literals;
 mod objects;
@@ -13,6 +14,8 @@ mod programs;
 mod statements;
 pub mod tie;
 pub mod walk;
+pub mod words;
 
 pub use hooks::VisitMut;
 pub use tie::VisitMutWith;
+pub use words::{VisitMutWords, Words};

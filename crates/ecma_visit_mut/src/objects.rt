@@ -1,15 +1,15 @@
 //! Changes properties of objects (ECMA-262, 13.2.5).
 ghost use Rattle.ecma_node.specs.Fits.{fits_prop_or_spread, fits_prop, fits_key_value_prop, fits_assign_prop, fits_getter_prop, fits_setter_prop, fits_method_prop};
 
+use crate::held::Held;
 use crate::hooks::VisitMut;
 use crate::walk::{Nested, WalkMut};
 use ecma_node::{
-    AssignProp, GetterProp, KeyValueProp, MethodProp, Prop, PropOf, PropOrSpread, PropOrSpreadOf,
-    SetterProp,
+    AssignPropOf, GetterPropOf, KeyValuePropOf, MethodPropOf, PropOf, PropOrSpreadOf, SetterPropOf,
 };
 
-impl WalkMut for PropOrSpread {
-    ghost fits = { fits_prop_or_spread (λ p. p) };
+impl<T: Held> WalkMut for PropOrSpreadOf<T> {
+    ghost fits = { fits_prop_or_spread T.placed };
 
     fn walk_mut<V: VisitMut, N: Nested<V>>(&mut self, nested: &N, visitor: &mut V) {
         match self {
@@ -19,8 +19,8 @@ impl WalkMut for PropOrSpread {
     }
 }
 
-impl WalkMut for Prop {
-    ghost fits = { fits_prop (λ p. p) };
+impl<T: Held> WalkMut for PropOf<T> {
+    ghost fits = { fits_prop T.placed };
 
     fn walk_mut<V: VisitMut, N: Nested<V>>(&mut self, nested: &N, visitor: &mut V) {
         match self {
@@ -31,12 +31,12 @@ impl WalkMut for Prop {
             PropOf::Setter(x) => x.walk_mut(nested, visitor),
             PropOf::Method(x) => x.walk_mut(nested, visitor),
         }
-        visitor.leave_prop(self);
+        T::leave_prop(visitor, self);
     }
 }
 
-impl WalkMut for KeyValueProp {
-    ghost fits = { fits_key_value_prop (λ p. p) };
+impl<T: Held> WalkMut for KeyValuePropOf<T> {
+    ghost fits = { fits_key_value_prop T.placed };
 
     fn walk_mut<V: VisitMut, N: Nested<V>>(&mut self, nested: &N, visitor: &mut V) {
         self.key.walk_mut(nested, visitor);
@@ -45,8 +45,8 @@ impl WalkMut for KeyValueProp {
     }
 }
 
-impl WalkMut for AssignProp {
-    ghost fits = { fits_assign_prop (λ p. p) };
+impl<T: Held> WalkMut for AssignPropOf<T> {
+    ghost fits = { fits_assign_prop T.placed };
 
     fn walk_mut<V: VisitMut, N: Nested<V>>(&mut self, nested: &N, visitor: &mut V) {
         self.key.walk_mut(nested, visitor);
@@ -55,8 +55,8 @@ impl WalkMut for AssignProp {
     }
 }
 
-impl WalkMut for GetterProp {
-    ghost fits = { fits_getter_prop (λ p. p) };
+impl<T: Held> WalkMut for GetterPropOf<T> {
+    ghost fits = { fits_getter_prop T.placed };
 
     fn walk_mut<V: VisitMut, N: Nested<V>>(&mut self, nested: &N, visitor: &mut V) {
         self.key.walk_mut(nested, visitor);
@@ -65,8 +65,8 @@ impl WalkMut for GetterProp {
     }
 }
 
-impl WalkMut for SetterProp {
-    ghost fits = { fits_setter_prop (λ p. p) };
+impl<T: Held> WalkMut for SetterPropOf<T> {
+    ghost fits = { fits_setter_prop T.placed };
 
     fn walk_mut<V: VisitMut, N: Nested<V>>(&mut self, nested: &N, visitor: &mut V) {
         self.key.walk_mut(nested, visitor);
@@ -76,8 +76,8 @@ impl WalkMut for SetterProp {
     }
 }
 
-impl WalkMut for MethodProp {
-    ghost fits = { fits_method_prop (λ p. p) };
+impl<T: Held> WalkMut for MethodPropOf<T> {
+    ghost fits = { fits_method_prop T.placed };
 
     fn walk_mut<V: VisitMut, N: Nested<V>>(&mut self, nested: &N, visitor: &mut V) {
         self.key.walk_mut(nested, visitor);

@@ -1,15 +1,16 @@
 //! Changes patterns (ECMA-262, 13.15.5 and 14.3.3).
 ghost use Rattle.ecma_node.specs.Fits.{fits_pat_kind, fits_array_pat, fits_rest_pat, fits_object_pat, fits_assign_pat, fits_object_pat_prop, fits_key_value_pat_prop, fits_assign_pat_prop, fits_assign_target};
 
+use crate::held::Held;
 use crate::hooks::VisitMut;
-use crate::walk::{Nested, WalkMut};
+use crate::walk::{Nested, WalkMut, walk_all, walk_elements};
 use ecma_node::{
-    ArrayPat, AssignPat, AssignPatProp, AssignTarget, AssignTargetOf, BindingIdent,
-    KeyValuePatProp, ObjectPat, ObjectPatProp, ObjectPatPropOf, PatKind, PatKindOf, RestPat,
+    ArrayPatOf, AssignPatOf, AssignPatPropOf, AssignTargetOf, BindingIdent, KeyValuePatPropOf,
+    ObjectPatOf, ObjectPatPropOf, PatKindOf, RestPatOf,
 };
 
-impl WalkMut for PatKind {
-    ghost fits = { fits_pat_kind (λ p. p) };
+impl<T: Held> WalkMut for PatKindOf<T> {
+    ghost fits = { fits_pat_kind T.placed };
 
     fn walk_mut<V: VisitMut, N: Nested<V>>(&mut self, nested: &N, visitor: &mut V) {
         match self {
@@ -33,17 +34,17 @@ impl WalkMut for BindingIdent {
     }
 }
 
-impl WalkMut for ArrayPat {
-    ghost fits = { fits_array_pat (λ p. p) };
+impl<T: Held> WalkMut for ArrayPatOf<T> {
+    ghost fits = { fits_array_pat T.placed };
 
     fn walk_mut<V: VisitMut, N: Nested<V>>(&mut self, nested: &N, visitor: &mut V) {
-        self.elems.walk_mut(nested, visitor);
+        walk_elements(&mut self.elems, nested, visitor);
         visitor.span(&mut self.span);
     }
 }
 
-impl WalkMut for RestPat {
-    ghost fits = { fits_rest_pat (λ p. p) };
+impl<T: Held> WalkMut for RestPatOf<T> {
+    ghost fits = { fits_rest_pat T.placed };
 
     fn walk_mut<V: VisitMut, N: Nested<V>>(&mut self, nested: &N, visitor: &mut V) {
         self.arg.walk_mut(nested, visitor);
@@ -52,17 +53,17 @@ impl WalkMut for RestPat {
     }
 }
 
-impl WalkMut for ObjectPat {
-    ghost fits = { fits_object_pat (λ p. p) };
+impl<T: Held> WalkMut for ObjectPatOf<T> {
+    ghost fits = { fits_object_pat T.placed };
 
     fn walk_mut<V: VisitMut, N: Nested<V>>(&mut self, nested: &N, visitor: &mut V) {
-        self.props.walk_mut(nested, visitor);
+        walk_all(&mut self.props, nested, visitor);
         visitor.span(&mut self.span);
     }
 }
 
-impl WalkMut for AssignPat {
-    ghost fits = { fits_assign_pat (λ p. p) };
+impl<T: Held> WalkMut for AssignPatOf<T> {
+    ghost fits = { fits_assign_pat T.placed };
 
     fn walk_mut<V: VisitMut, N: Nested<V>>(&mut self, nested: &N, visitor: &mut V) {
         self.left.walk_mut(nested, visitor);
@@ -71,8 +72,8 @@ impl WalkMut for AssignPat {
     }
 }
 
-impl WalkMut for ObjectPatProp {
-    ghost fits = { fits_object_pat_prop (λ p. p) };
+impl<T: Held> WalkMut for ObjectPatPropOf<T> {
+    ghost fits = { fits_object_pat_prop T.placed };
 
     fn walk_mut<V: VisitMut, N: Nested<V>>(&mut self, nested: &N, visitor: &mut V) {
         match self {
@@ -83,8 +84,8 @@ impl WalkMut for ObjectPatProp {
     }
 }
 
-impl WalkMut for KeyValuePatProp {
-    ghost fits = { fits_key_value_pat_prop (λ p. p) };
+impl<T: Held> WalkMut for KeyValuePatPropOf<T> {
+    ghost fits = { fits_key_value_pat_prop T.placed };
 
     fn walk_mut<V: VisitMut, N: Nested<V>>(&mut self, nested: &N, visitor: &mut V) {
         self.key.walk_mut(nested, visitor);
@@ -93,18 +94,20 @@ impl WalkMut for KeyValuePatProp {
     }
 }
 
-impl WalkMut for AssignPatProp {
-    ghost fits = { fits_assign_pat_prop (λ p. p) };
+impl<T: Held> WalkMut for AssignPatPropOf<T> {
+    ghost fits = { fits_assign_pat_prop T.placed };
 
     fn walk_mut<V: VisitMut, N: Nested<V>>(&mut self, nested: &N, visitor: &mut V) {
         self.key.walk_mut(nested, visitor);
-        self.value.walk_mut(nested, visitor);
+        if let Some(x) = &mut self.value {
+            x.walk_mut(nested, visitor);
+        }
         visitor.span(&mut self.span);
     }
 }
 
-impl WalkMut for AssignTarget {
-    ghost fits = { fits_assign_target (λ p. p) };
+impl<T: Held> WalkMut for AssignTargetOf<T> {
+    ghost fits = { fits_assign_target T.placed };
 
     fn walk_mut<V: VisitMut, N: Nested<V>>(&mut self, nested: &N, visitor: &mut V) {
         match self {
@@ -117,6 +120,6 @@ impl WalkMut for AssignTarget {
             AssignTargetOf::Object(x) => x.walk_mut(nested, visitor),
             AssignTargetOf::Invalid(x) => x.walk_mut(nested, visitor),
         }
-        visitor.leave_assign_target(self);
+        T::leave_assign_target(visitor, self);
     }
 }

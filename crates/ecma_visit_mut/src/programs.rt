@@ -1,18 +1,19 @@
 //! Changes scripts, modules, imports and exports (ECMA-262, 16.1 and 16.2).
 ghost use Rattle.ecma_node.specs.Fits.{fits_program_kind, fits_script, fits_module, fits_module_item, fits_module_decl, fits_import_decl, fits_export_decl, fits_named_export, fits_export_default_decl, fits_export_default_expr, fits_export_all, fits_default_decl};
 
+use crate::held::Held;
 use crate::hooks::VisitMut;
-use crate::walk::{Nested, WalkMut};
+use crate::walk::{Nested, WalkMut, walk_all};
 use ecma_node::{
-    DefaultDecl, DefaultDeclOf, ExportAll, ExportDecl, ExportDefaultDecl, ExportDefaultExpr,
+    DefaultDeclOf, ExportAllOf, ExportDeclOf, ExportDefaultDeclOf, ExportDefaultExprOf,
     ExportDefaultSpecifier, ExportNamedSpecifier, ExportNamespaceSpecifier, ExportSpecifier,
-    ImportDecl, ImportDefaultSpecifier, ImportNamedSpecifier, ImportSpecifier,
-    ImportStarAsSpecifier, Module, ModuleDecl, ModuleDeclOf, ModuleExportName, ModuleItem,
-    ModuleItemOf, NamedExport, ProgramKind, ProgramKindOf, Script,
+    ImportDeclOf, ImportDefaultSpecifier, ImportNamedSpecifier, ImportSpecifier,
+    ImportStarAsSpecifier, ModuleDeclOf, ModuleExportName, ModuleItemOf, ModuleOf, NamedExportOf,
+    ProgramKindOf, ScriptOf,
 };
 
-impl WalkMut for ProgramKind {
-    ghost fits = { fits_program_kind (λ p. p) };
+impl<T: Held> WalkMut for ProgramKindOf<T> {
+    ghost fits = { fits_program_kind T.placed };
 
     fn walk_mut<V: VisitMut, N: Nested<V>>(&mut self, nested: &N, visitor: &mut V) {
         match self {
@@ -22,40 +23,40 @@ impl WalkMut for ProgramKind {
     }
 }
 
-impl WalkMut for Script {
-    ghost fits = { fits_script (λ p. p) };
+impl<T: Held> WalkMut for ScriptOf<T> {
+    ghost fits = { fits_script T.placed };
 
     fn walk_mut<V: VisitMut, N: Nested<V>>(&mut self, nested: &N, visitor: &mut V) {
-        self.body.walk_mut(nested, visitor);
-        visitor.leave_stmts(&mut self.body);
+        walk_all(&mut self.body, nested, visitor);
+        T::leave_stmts(visitor, &mut self.body);
         visitor.span(&mut self.span);
     }
 }
 
-impl WalkMut for Module {
-    ghost fits = { fits_module (λ p. p) };
+impl<T: Held> WalkMut for ModuleOf<T> {
+    ghost fits = { fits_module T.placed };
 
     fn walk_mut<V: VisitMut, N: Nested<V>>(&mut self, nested: &N, visitor: &mut V) {
-        self.body.walk_mut(nested, visitor);
-        visitor.leave_module_items(&mut self.body);
+        walk_all(&mut self.body, nested, visitor);
+        T::leave_module_items(visitor, &mut self.body);
         visitor.span(&mut self.span);
     }
 }
 
-impl WalkMut for ModuleItem {
-    ghost fits = { fits_module_item (λ p. p) };
+impl<T: Held> WalkMut for ModuleItemOf<T> {
+    ghost fits = { fits_module_item T.placed };
 
     fn walk_mut<V: VisitMut, N: Nested<V>>(&mut self, nested: &N, visitor: &mut V) {
         match self {
             ModuleItemOf::ModuleDecl(x) => x.walk_mut(nested, visitor),
             ModuleItemOf::Stmt(x) => x.walk_mut(nested, visitor),
         }
-        visitor.leave_module_item(self);
+        T::leave_module_item(visitor, self);
     }
 }
 
-impl WalkMut for ModuleDecl {
-    ghost fits = { fits_module_decl (λ p. p) };
+impl<T: Held> WalkMut for ModuleDeclOf<T> {
+    ghost fits = { fits_module_decl T.placed };
 
     fn walk_mut<V: VisitMut, N: Nested<V>>(&mut self, nested: &N, visitor: &mut V) {
         match self {
@@ -69,19 +70,21 @@ impl WalkMut for ModuleDecl {
     }
 }
 
-impl WalkMut for ImportDecl {
-    ghost fits = { fits_import_decl (λ p. p) };
+impl<T: Held> WalkMut for ImportDeclOf<T> {
+    ghost fits = { fits_import_decl T.placed };
 
     fn walk_mut<V: VisitMut, N: Nested<V>>(&mut self, nested: &N, visitor: &mut V) {
-        self.specifiers.walk_mut(nested, visitor);
+        walk_all(&mut self.specifiers, nested, visitor);
         self.src.walk_mut(nested, visitor);
-        self.with_.walk_mut(nested, visitor);
+        if let Some(x) = &mut self.with_ {
+            x.walk_mut(nested, visitor);
+        }
         visitor.span(&mut self.span);
     }
 }
 
-impl WalkMut for ExportDecl {
-    ghost fits = { fits_export_decl (λ p. p) };
+impl<T: Held> WalkMut for ExportDeclOf<T> {
+    ghost fits = { fits_export_decl T.placed };
 
     fn walk_mut<V: VisitMut, N: Nested<V>>(&mut self, nested: &N, visitor: &mut V) {
         self.decl.walk_mut(nested, visitor);
@@ -89,19 +92,23 @@ impl WalkMut for ExportDecl {
     }
 }
 
-impl WalkMut for NamedExport {
-    ghost fits = { fits_named_export (λ p. p) };
+impl<T: Held> WalkMut for NamedExportOf<T> {
+    ghost fits = { fits_named_export T.placed };
 
     fn walk_mut<V: VisitMut, N: Nested<V>>(&mut self, nested: &N, visitor: &mut V) {
-        self.specifiers.walk_mut(nested, visitor);
-        self.src.walk_mut(nested, visitor);
-        self.with_.walk_mut(nested, visitor);
+        walk_all(&mut self.specifiers, nested, visitor);
+        if let Some(x) = &mut self.src {
+            x.walk_mut(nested, visitor);
+        }
+        if let Some(x) = &mut self.with_ {
+            x.walk_mut(nested, visitor);
+        }
         visitor.span(&mut self.span);
     }
 }
 
-impl WalkMut for ExportDefaultDecl {
-    ghost fits = { fits_export_default_decl (λ p. p) };
+impl<T: Held> WalkMut for ExportDefaultDeclOf<T> {
+    ghost fits = { fits_export_default_decl T.placed };
 
     fn walk_mut<V: VisitMut, N: Nested<V>>(&mut self, nested: &N, visitor: &mut V) {
         self.decl.walk_mut(nested, visitor);
@@ -109,8 +116,8 @@ impl WalkMut for ExportDefaultDecl {
     }
 }
 
-impl WalkMut for ExportDefaultExpr {
-    ghost fits = { fits_export_default_expr (λ p. p) };
+impl<T: Held> WalkMut for ExportDefaultExprOf<T> {
+    ghost fits = { fits_export_default_expr T.placed };
 
     fn walk_mut<V: VisitMut, N: Nested<V>>(&mut self, nested: &N, visitor: &mut V) {
         self.expr.walk_mut(nested, visitor);
@@ -118,18 +125,20 @@ impl WalkMut for ExportDefaultExpr {
     }
 }
 
-impl WalkMut for ExportAll {
-    ghost fits = { fits_export_all (λ p. p) };
+impl<T: Held> WalkMut for ExportAllOf<T> {
+    ghost fits = { fits_export_all T.placed };
 
     fn walk_mut<V: VisitMut, N: Nested<V>>(&mut self, nested: &N, visitor: &mut V) {
         self.src.walk_mut(nested, visitor);
-        self.with_.walk_mut(nested, visitor);
+        if let Some(x) = &mut self.with_ {
+            x.walk_mut(nested, visitor);
+        }
         visitor.span(&mut self.span);
     }
 }
 
-impl WalkMut for DefaultDecl {
-    ghost fits = { fits_default_decl (λ p. p) };
+impl<T: Held> WalkMut for DefaultDeclOf<T> {
+    ghost fits = { fits_default_decl T.placed };
 
     fn walk_mut<V: VisitMut, N: Nested<V>>(&mut self, nested: &N, visitor: &mut V) {
         match self {
@@ -156,7 +165,9 @@ impl WalkMut for ImportNamedSpecifier {
 
     fn walk_mut<V: VisitMut, N: Nested<V>>(&mut self, nested: &N, visitor: &mut V) {
         self.local.walk_mut(nested, visitor);
-        self.imported.walk_mut(nested, visitor);
+        if let Some(x) = &mut self.imported {
+            x.walk_mut(nested, visitor);
+        }
         visitor.span(&mut self.span);
     }
 }
@@ -214,7 +225,9 @@ impl WalkMut for ExportNamedSpecifier {
 
     fn walk_mut<V: VisitMut, N: Nested<V>>(&mut self, nested: &N, visitor: &mut V) {
         self.orig.walk_mut(nested, visitor);
-        self.exported.walk_mut(nested, visitor);
+        if let Some(x) = &mut self.exported {
+            x.walk_mut(nested, visitor);
+        }
         visitor.span(&mut self.span);
     }
 }

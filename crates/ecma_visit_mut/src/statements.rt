@@ -1,17 +1,18 @@
 //! Changes statements (ECMA-262, clause 14).
 ghost use Rattle.ecma_node.specs.Fits.{fits_stmt_kind, fits_block_stmt, fits_with_stmt, fits_return_stmt, fits_labeled_stmt, fits_if_stmt, fits_switch_stmt, fits_switch_case, fits_throw_stmt, fits_try_stmt, fits_catch_clause, fits_while_stmt, fits_do_while_stmt, fits_for_stmt, fits_for_in_stmt, fits_for_of_stmt, fits_expr_stmt, fits_var_decl_or_expr, fits_for_head};
 
+use crate::held::Held;
 use crate::hooks::VisitMut;
-use crate::walk::{Nested, WalkMut};
+use crate::walk::{Nested, WalkMut, walk_all};
 use ecma_node::{
-    BlockStmt, BreakStmt, CatchClause, ContinueStmt, DebuggerStmt, DoWhileStmt, EmptyStmt,
-    ExprStmt, ForHead, ForHeadOf, ForInStmt, ForOfStmt, ForStmt, IfStmt, LabeledStmt, ReturnStmt,
-    StmtKind, StmtKindOf, SwitchCase, SwitchStmt, ThrowStmt, TryStmt, VarDeclOrExpr,
-    VarDeclOrExprOf, WhileStmt, WithStmt,
+    BlockStmtOf, BreakStmt, CatchClauseOf, ContinueStmt, DebuggerStmt, DoWhileStmtOf, EmptyStmt,
+    ExprStmtOf, ForHeadOf, ForInStmtOf, ForOfStmtOf, ForStmtOf, IfStmtOf, LabeledStmtOf,
+    ReturnStmtOf, StmtKindOf, SwitchCaseOf, SwitchStmtOf, ThrowStmtOf, TryStmtOf, VarDeclOrExprOf,
+    WhileStmtOf, WithStmtOf,
 };
 
-impl WalkMut for StmtKind {
-    ghost fits = { fits_stmt_kind (λ p. p) };
+impl<T: Held> WalkMut for StmtKindOf<T> {
+    ghost fits = { fits_stmt_kind T.placed };
 
     fn walk_mut<V: VisitMut, N: Nested<V>>(&mut self, nested: &N, visitor: &mut V) {
         match self {
@@ -38,12 +39,12 @@ impl WalkMut for StmtKind {
     }
 }
 
-impl WalkMut for BlockStmt {
-    ghost fits = { fits_block_stmt (λ p. p) };
+impl<T: Held> WalkMut for BlockStmtOf<T> {
+    ghost fits = { fits_block_stmt T.placed };
 
     fn walk_mut<V: VisitMut, N: Nested<V>>(&mut self, nested: &N, visitor: &mut V) {
-        self.stmts.walk_mut(nested, visitor);
-        visitor.leave_stmts(&mut self.stmts);
+        walk_all(&mut self.stmts, nested, visitor);
+        T::leave_stmts(visitor, &mut self.stmts);
         visitor.span(&mut self.span);
     }
 }
@@ -64,8 +65,8 @@ impl WalkMut for DebuggerStmt {
     }
 }
 
-impl WalkMut for WithStmt {
-    ghost fits = { fits_with_stmt (λ p. p) };
+impl<T: Held> WalkMut for WithStmtOf<T> {
+    ghost fits = { fits_with_stmt T.placed };
 
     fn walk_mut<V: VisitMut, N: Nested<V>>(&mut self, nested: &N, visitor: &mut V) {
         self.obj.walk_mut(nested, visitor);
@@ -74,17 +75,19 @@ impl WalkMut for WithStmt {
     }
 }
 
-impl WalkMut for ReturnStmt {
-    ghost fits = { fits_return_stmt (λ p. p) };
+impl<T: Held> WalkMut for ReturnStmtOf<T> {
+    ghost fits = { fits_return_stmt T.placed };
 
     fn walk_mut<V: VisitMut, N: Nested<V>>(&mut self, nested: &N, visitor: &mut V) {
-        self.arg.walk_mut(nested, visitor);
+        if let Some(x) = &mut self.arg {
+            x.walk_mut(nested, visitor);
+        }
         visitor.span(&mut self.span);
     }
 }
 
-impl WalkMut for LabeledStmt {
-    ghost fits = { fits_labeled_stmt (λ p. p) };
+impl<T: Held> WalkMut for LabeledStmtOf<T> {
+    ghost fits = { fits_labeled_stmt T.placed };
 
     fn walk_mut<V: VisitMut, N: Nested<V>>(&mut self, nested: &N, visitor: &mut V) {
         self.label.walk_mut(nested, visitor);
@@ -97,7 +100,9 @@ impl WalkMut for BreakStmt {
     ghost fits = { λ _. Unit {0} };
 
     fn walk_mut<V: VisitMut, N: Nested<V>>(&mut self, nested: &N, visitor: &mut V) {
-        self.label.walk_mut(nested, visitor);
+        if let Some(x) = &mut self.label {
+            x.walk_mut(nested, visitor);
+        }
         visitor.span(&mut self.span);
     }
 }
@@ -106,45 +111,51 @@ impl WalkMut for ContinueStmt {
     ghost fits = { λ _. Unit {0} };
 
     fn walk_mut<V: VisitMut, N: Nested<V>>(&mut self, nested: &N, visitor: &mut V) {
-        self.label.walk_mut(nested, visitor);
+        if let Some(x) = &mut self.label {
+            x.walk_mut(nested, visitor);
+        }
         visitor.span(&mut self.span);
     }
 }
 
-impl WalkMut for IfStmt {
-    ghost fits = { fits_if_stmt (λ p. p) };
+impl<T: Held> WalkMut for IfStmtOf<T> {
+    ghost fits = { fits_if_stmt T.placed };
 
     fn walk_mut<V: VisitMut, N: Nested<V>>(&mut self, nested: &N, visitor: &mut V) {
         self.test.walk_mut(nested, visitor);
         self.cons.walk_mut(nested, visitor);
-        self.alt.walk_mut(nested, visitor);
+        if let Some(x) = &mut self.alt {
+            x.walk_mut(nested, visitor);
+        }
         visitor.span(&mut self.span);
     }
 }
 
-impl WalkMut for SwitchStmt {
-    ghost fits = { fits_switch_stmt (λ p. p) };
+impl<T: Held> WalkMut for SwitchStmtOf<T> {
+    ghost fits = { fits_switch_stmt T.placed };
 
     fn walk_mut<V: VisitMut, N: Nested<V>>(&mut self, nested: &N, visitor: &mut V) {
         self.discriminant.walk_mut(nested, visitor);
-        self.cases.walk_mut(nested, visitor);
+        walk_all(&mut self.cases, nested, visitor);
         visitor.span(&mut self.span);
     }
 }
 
-impl WalkMut for SwitchCase {
-    ghost fits = { fits_switch_case (λ p. p) };
+impl<T: Held> WalkMut for SwitchCaseOf<T> {
+    ghost fits = { fits_switch_case T.placed };
 
     fn walk_mut<V: VisitMut, N: Nested<V>>(&mut self, nested: &N, visitor: &mut V) {
-        self.test.walk_mut(nested, visitor);
-        self.cons.walk_mut(nested, visitor);
-        visitor.leave_stmts(&mut self.cons);
+        if let Some(x) = &mut self.test {
+            x.walk_mut(nested, visitor);
+        }
+        walk_all(&mut self.cons, nested, visitor);
+        T::leave_stmts(visitor, &mut self.cons);
         visitor.span(&mut self.span);
     }
 }
 
-impl WalkMut for ThrowStmt {
-    ghost fits = { fits_throw_stmt (λ p. p) };
+impl<T: Held> WalkMut for ThrowStmtOf<T> {
+    ghost fits = { fits_throw_stmt T.placed };
 
     fn walk_mut<V: VisitMut, N: Nested<V>>(&mut self, nested: &N, visitor: &mut V) {
         self.arg.walk_mut(nested, visitor);
@@ -152,29 +163,35 @@ impl WalkMut for ThrowStmt {
     }
 }
 
-impl WalkMut for TryStmt {
-    ghost fits = { fits_try_stmt (λ p. p) };
+impl<T: Held> WalkMut for TryStmtOf<T> {
+    ghost fits = { fits_try_stmt T.placed };
 
     fn walk_mut<V: VisitMut, N: Nested<V>>(&mut self, nested: &N, visitor: &mut V) {
         self.block.walk_mut(nested, visitor);
-        self.handler.walk_mut(nested, visitor);
-        self.finalizer.walk_mut(nested, visitor);
+        if let Some(x) = &mut self.handler {
+            x.walk_mut(nested, visitor);
+        }
+        if let Some(x) = &mut self.finalizer {
+            x.walk_mut(nested, visitor);
+        }
         visitor.span(&mut self.span);
     }
 }
 
-impl WalkMut for CatchClause {
-    ghost fits = { fits_catch_clause (λ p. p) };
+impl<T: Held> WalkMut for CatchClauseOf<T> {
+    ghost fits = { fits_catch_clause T.placed };
 
     fn walk_mut<V: VisitMut, N: Nested<V>>(&mut self, nested: &N, visitor: &mut V) {
-        self.param.walk_mut(nested, visitor);
+        if let Some(x) = &mut self.param {
+            x.walk_mut(nested, visitor);
+        }
         self.body.walk_mut(nested, visitor);
         visitor.span(&mut self.span);
     }
 }
 
-impl WalkMut for WhileStmt {
-    ghost fits = { fits_while_stmt (λ p. p) };
+impl<T: Held> WalkMut for WhileStmtOf<T> {
+    ghost fits = { fits_while_stmt T.placed };
 
     fn walk_mut<V: VisitMut, N: Nested<V>>(&mut self, nested: &N, visitor: &mut V) {
         self.test.walk_mut(nested, visitor);
@@ -183,8 +200,8 @@ impl WalkMut for WhileStmt {
     }
 }
 
-impl WalkMut for DoWhileStmt {
-    ghost fits = { fits_do_while_stmt (λ p. p) };
+impl<T: Held> WalkMut for DoWhileStmtOf<T> {
+    ghost fits = { fits_do_while_stmt T.placed };
 
     fn walk_mut<V: VisitMut, N: Nested<V>>(&mut self, nested: &N, visitor: &mut V) {
         self.body.walk_mut(nested, visitor);
@@ -193,20 +210,26 @@ impl WalkMut for DoWhileStmt {
     }
 }
 
-impl WalkMut for ForStmt {
-    ghost fits = { fits_for_stmt (λ p. p) };
+impl<T: Held> WalkMut for ForStmtOf<T> {
+    ghost fits = { fits_for_stmt T.placed };
 
     fn walk_mut<V: VisitMut, N: Nested<V>>(&mut self, nested: &N, visitor: &mut V) {
-        self.init.walk_mut(nested, visitor);
-        self.test.walk_mut(nested, visitor);
-        self.update.walk_mut(nested, visitor);
+        if let Some(x) = &mut self.init {
+            x.walk_mut(nested, visitor);
+        }
+        if let Some(x) = &mut self.test {
+            x.walk_mut(nested, visitor);
+        }
+        if let Some(x) = &mut self.update {
+            x.walk_mut(nested, visitor);
+        }
         self.body.walk_mut(nested, visitor);
         visitor.span(&mut self.span);
     }
 }
 
-impl WalkMut for ForInStmt {
-    ghost fits = { fits_for_in_stmt (λ p. p) };
+impl<T: Held> WalkMut for ForInStmtOf<T> {
+    ghost fits = { fits_for_in_stmt T.placed };
 
     fn walk_mut<V: VisitMut, N: Nested<V>>(&mut self, nested: &N, visitor: &mut V) {
         self.left.walk_mut(nested, visitor);
@@ -216,8 +239,8 @@ impl WalkMut for ForInStmt {
     }
 }
 
-impl WalkMut for ForOfStmt {
-    ghost fits = { fits_for_of_stmt (λ p. p) };
+impl<T: Held> WalkMut for ForOfStmtOf<T> {
+    ghost fits = { fits_for_of_stmt T.placed };
 
     fn walk_mut<V: VisitMut, N: Nested<V>>(&mut self, nested: &N, visitor: &mut V) {
         self.left.walk_mut(nested, visitor);
@@ -227,8 +250,8 @@ impl WalkMut for ForOfStmt {
     }
 }
 
-impl WalkMut for ExprStmt {
-    ghost fits = { fits_expr_stmt (λ p. p) };
+impl<T: Held> WalkMut for ExprStmtOf<T> {
+    ghost fits = { fits_expr_stmt T.placed };
 
     fn walk_mut<V: VisitMut, N: Nested<V>>(&mut self, nested: &N, visitor: &mut V) {
         self.expr.walk_mut(nested, visitor);
@@ -236,8 +259,8 @@ impl WalkMut for ExprStmt {
     }
 }
 
-impl WalkMut for VarDeclOrExpr {
-    ghost fits = { fits_var_decl_or_expr (λ p. p) };
+impl<T: Held> WalkMut for VarDeclOrExprOf<T> {
+    ghost fits = { fits_var_decl_or_expr T.placed };
 
     fn walk_mut<V: VisitMut, N: Nested<V>>(&mut self, nested: &N, visitor: &mut V) {
         match self {
@@ -248,8 +271,8 @@ impl WalkMut for VarDeclOrExpr {
     }
 }
 
-impl WalkMut for ForHead {
-    ghost fits = { fits_for_head (λ p. p) };
+impl<T: Held> WalkMut for ForHeadOf<T> {
+    ghost fits = { fits_for_head T.placed };
 
     fn walk_mut<V: VisitMut, N: Nested<V>>(&mut self, nested: &N, visitor: &mut V) {
         match self {

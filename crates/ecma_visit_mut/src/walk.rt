@@ -3,8 +3,9 @@ ghost use Rattle.std.specs.Prelude.{All};
 ghost use Rattle.ecma_node.specs.Placed.{holds_expr, holds_stmt, holds_pat};
 ghost use Rattle.ecma_node.specs.Fits.{fits_held};
 
+use crate::held::Held;
 use crate::hooks::VisitMut;
-use ecma_node::{Expr, ExprBox, Pat, PatBox, Stmt, StmtBox};
+use ecma_node::{Child, Expr, ExprTag, Pat, PatTag, Stmt, StmtTag};
 
 /// What changes the expressions, statements and patterns below a node.
 pub trait Nested<V: VisitMut> {
@@ -21,7 +22,7 @@ pub trait Nested<V: VisitMut> {
         requires { ready self.now };
 }
 
-/// What can be changed: a part of a tree, a list of such parts, or a part that may be left out.
+/// What can be changed: a part of a tree.
 pub trait WalkMut {
     /// That each child is of the sort of its place.
     ghost fits: { Self → Type 0 };
@@ -33,55 +34,58 @@ pub trait WalkMut {
         ensures { fits self.new };
 }
 
-impl WalkMut for ExprBox {
-    ghost fits = { λ c. holds_expr c.part.value };
+impl<T: Held> WalkMut for Child<T, ExprTag> {
+    ghost fits = { λ c. holds_expr (T.placed c.part.value) };
 
     fn walk_mut<V: VisitMut, N: Nested<V>>(&mut self, nested: &N, visitor: &mut V) {
-        nested.expr(visitor, self.get_mut());
+        self.part.change_expr(nested, visitor);
     }
 }
 
-impl WalkMut for StmtBox {
-    ghost fits = { λ c. holds_stmt c.part.value };
+impl<T: Held> WalkMut for Child<T, StmtTag> {
+    ghost fits = { λ c. holds_stmt (T.placed c.part.value) };
 
     fn walk_mut<V: VisitMut, N: Nested<V>>(&mut self, nested: &N, visitor: &mut V) {
-        nested.stmt(visitor, self.get_mut());
+        self.part.change_stmt(nested, visitor);
     }
 }
 
-impl WalkMut for PatBox {
-    ghost fits = { λ c. holds_pat c.part.value };
+impl<T: Held> WalkMut for Child<T, PatTag> {
+    ghost fits = { λ c. holds_pat (T.placed c.part.value) };
 
     fn walk_mut<V: VisitMut, N: Nested<V>>(&mut self, nested: &N, visitor: &mut V) {
-        nested.pat(visitor, self.get_mut());
+        self.part.change_pat(nested, visitor);
     }
 }
 
-impl<T: WalkMut> WalkMut for Vec<T> {
-    ghost fits = { λ v. All T.fits v.items };
+/// Changes each of a list.
+pub(crate) fn walk_all<T: WalkMut, V: VisitMut, N: Nested<V>>(
+    items: &mut Vec<T>,
+    nested: &N,
+    visitor: &mut V,
+)
+    requires nested { N.ready nested.now }
+    requires fits { All T.fits items.old.items }
+    ensures { All T.fits items.new.items }
+{
+    for x in items.iter_mut() {
+        x.walk_mut(nested, visitor);
+    }
+}
 
-    fn walk_mut<V: VisitMut, N: Nested<V>>(&mut self, nested: &N, visitor: &mut V) {
-        for x in self.iter_mut() {
+/// Changes each of a list whose elements may be left out.
+pub(crate) fn walk_elements<T: WalkMut, V: VisitMut, N: Nested<V>>(
+    items: &mut Vec<Option<T>>,
+    nested: &N,
+    visitor: &mut V,
+)
+    requires nested { N.ready nested.now }
+    requires fits { All (λ x. fits_held T.fits x) items.old.items }
+    ensures { All (λ x. fits_held T.fits x) items.new.items }
+{
+    for x in items.iter_mut() {
+        if let Some(x) = x {
             x.walk_mut(nested, visitor);
         }
-    }
-}
-
-impl<T: WalkMut> WalkMut for Option<T> {
-    ghost fits = { fits_held T.fits };
-
-    fn walk_mut<V: VisitMut, N: Nested<V>>(&mut self, nested: &N, visitor: &mut V) {
-        match self {
-            Some(x) => x.walk_mut(nested, visitor),
-            None => {}
-        }
-    }
-}
-
-impl<T: WalkMut> WalkMut for Box<T> {
-    ghost fits = { λ b. T.fits b.value };
-
-    fn walk_mut<V: VisitMut, N: Nested<V>>(&mut self, nested: &N, visitor: &mut V) {
-        (**self).walk_mut(nested, visitor);
     }
 }

@@ -1,0 +1,14 @@
+pub mod Again
+pub mod Fronts
+pub mod Going
+pub mod Making
+pub mod Marks
+pub mod Owns
+pub mod Rereads
+pub mod Run
+pub mod Single
+pub mod Slashes
+pub mod Standing
+pub mod Strings
+pub mod Taken
+pub mod Words

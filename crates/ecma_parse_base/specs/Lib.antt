@@ -1,0 +1,3 @@
+-- What rules of the parser make.
+pub mod Operands
+pub mod Lists

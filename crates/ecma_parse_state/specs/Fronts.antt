@@ -1,0 +1,95 @@
+-- Where a parser stands in a source of tokens, and how reading goes on from there: the machine of the reading functions over any source.
+use Rattle.std.specs.Prelude.{ℕ, zero, suc, ◌+◌, Bool, false, not, ◌&&◌, ◌||◌, ◌==◌, if◌then◌else◌, List, [], ◌∷◌, length, Option, None, Some, option_map}
+use Rattle.ecma_token.specs.declared.context.Context.{Context}
+use Rattle.ecma_token.specs.Kinds.{end_kind, div_kind, div_assign_kind}
+use Rattle.ecma_token.specs.Tokens.{Spot}
+use Rattle.ecma_tokens.specs.Machine as tokens
+use Rattle.ecma_tokens.specs.Machine.{Source}
+use Rattle.ecma_tokens.specs.Settings.{with_ctx, with_next_regexp}
+use Rattle.ecma_syntax.specs.Input.{Place, no_context, div_goal, is_word, text_in}
+use Rattle.ecma_reading.specs.Source as reading
+use Rattle.ecma_reading.specs.Source.{Stand}
+
+-- The token that comes, or none at the end; the source behind it; and where the last token that was taken ends. A mark, which tells where
+-- something began, has no source.
+pub record Front (S : Type 0) : Type 0 where
+  pub first : Option Spot
+  pub behind : Option (Source S)
+  pub last : ℕ
+
+-- ---- the tokens at hand
+
+-- A word is spelled with an escape where its span is longer than its text.
+abbrev pub is_escaped : Spot → Bool
+is_escaped t = is_word t.token.kind && not (t.lo + length (text_in t.token.content) == t.hi)
+
+-- A token in its place. Reading asks for no goal, no context and no spelling of literals.
+abbrev pub place_of : Spot → Place
+place_of t = record { spot = t; escaped = is_escaped t; legacy = None; goal = div_goal; context = no_context }
+
+-- the token that comes, and up to so many behind it
+abbrev pub places : {S : Type 0} → tokens.Machine S → ℕ → Option Spot → Option (Source S) → List Place
+places m n None behind = []
+places m n (Some t) None = place_of t ∷ []
+places m zero (Some t) (Some s) = place_of t ∷ []
+places m (suc n) (Some t) (Some s) = place_of t ∷ places m n (m.step s).0 (Some (m.step s).1)
+
+-- the kind of the token that comes
+abbrev pub kind_in : Option Spot → ℕ
+kind_in None = end_kind
+kind_in (Some t) = t.token.kind
+
+-- ---- going on
+
+abbrev pub read_on : {S : Type 0} → Option Spot × Source S → ℕ → Front S
+read_on x last = record { first = x.0; behind = Some x.1; last = last }
+
+-- The token that comes is taken. At the end nothing changes.
+abbrev pub after_by : {S : Type 0} → tokens.Machine S → Option Spot → Option (Source S) → Front S → Front S
+after_by m (Some t) (Some s) q = read_on (m.step s) t.hi
+after_by m first behind q = q
+
+-- ---- a slash that is read again
+
+abbrev pub is_slash : ℕ → Bool
+is_slash k = (k == div_kind) || (k == div_assign_kind)
+
+-- told that the slash at a place is to be read again, or that none is
+abbrev pub asked : {S : Type 0} → Option ℕ → Source S → Source S
+asked place s = record s { settings = with_next_regexp place s.settings }
+
+abbrev pub withdrawn : {S : Type 0} → Option Spot × Source S → Option Spot × Source S
+withdrawn x = (x.0, asked None x.1)
+
+-- A slash that comes is read as a regular expression.
+abbrev pub operand_by : {S : Type 0} → tokens.Machine S → Option Spot → Option (Source S) → Front S → Front S
+operand_by m (Some t) (Some s) q = if is_slash t.token.kind then read_on (withdrawn (m.step (asked (Some t.lo) s))) q.last else q
+operand_by m first behind q = q
+
+-- ---- the code around the tokens behind the one that comes
+
+-- What comes was read already. No code turns it into another token.
+abbrev pub told_of : {S : Type 0} → Context → Source S → Source S
+told_of ctx s = record s { settings = with_ctx ctx s.settings }
+
+-- ---- how many tokens may come
+
+abbrev pub one_in : Option Spot → ℕ
+one_in None = 0
+one_in (Some t) = 1
+
+abbrev pub bound_in : {S : Type 0} → tokens.Machine S → Option (Source S) → ℕ
+bound_in m None = 0
+bound_in m (Some s) = m.bound s.tokens
+
+-- ---- the machine
+
+unfoldable pub machine_of : {S : Type 0} → tokens.Machine S → reading.Machine (Front S)
+machine_of m = record {
+  seen = λ q. places m 2 q.first q.behind;
+  after = λ q. after_by m q.first q.behind q;
+  operand = λ q. operand_by m q.first q.behind q;
+  turned = λ x q. record q { behind = option_map (told_of x) q.behind };
+  bound = λ q. one_in q.first + bound_in m q.behind;
+  last = λ q. q.last;
+}

@@ -1,0 +1,5 @@
+-- Where a parser stands in a source of tokens, and what its functions answer.
+pub mod Fronts
+pub mod Answers
+pub mod Codes
+pub mod Stands

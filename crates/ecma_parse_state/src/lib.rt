@@ -1,0 +1,19 @@
+//! The parser's state: the source of tokens with the token that comes, and the smallest steps on it. Each is equal to a
+//! reading function on the machine of the source.
+#![tactic(auto)]
+
+pub mod ahead;
+pub mod code;
+pub mod ends;
+pub mod failure;
+pub mod kinds;
+pub mod numbers;
+pub mod operators;
+pub mod parser;
+pub mod steps;
+pub mod words;
+
+pub use ahead::Ahead;
+pub use code::Around;
+pub use failure::Failure;
+pub use parser::Parser;

@@ -1,0 +1,276 @@
+//! The parser's state, and the smallest steps on it.
+ghost use Rattle.std.specs.Prelude.{◌≡◌, ◌≢◌, ◌<◌, ◌≤◌, if◌then◌else◌, IfErr, IfOk, IsTrue, OnOk, option_map};
+ghost use Rattle.ecma_syntax.specs.Input.{brk, brk2, escaped, first_span, hi, is_word, kind, kind2, lo, span, text};
+ghost use Rattle.ecma_tokens.specs.Machine.{shown_spot};
+ghost use Rattle.ecma_reading.specs.Source as spec;
+ghost use Rattle.ecma_parse_state.specs.Answers.{Gives, IsMemory, IsSyntax};
+ghost use Rattle.ecma_parse_state.specs.Fronts.{machine_of};
+
+use crate::ahead::Ahead;
+use crate::failure::Failure;
+use crate::kinds;
+use crate::numbers::token_number;
+use ecma_token::{BytePos, Error, Span, SyntaxError, Token, TokenAndSpan};
+use ecma_tokens::Tokens;
+use std::alloc::Global;
+use std::convert::AsStr;
+use std::mem;
+
+/// A source of tokens that is read, one token ahead.
+#[derive(Drop)]
+pub struct Parser<'a, I: Tokens<'a> + Drop> {
+    /// Where the tree is made.
+    pub alloc: Global,
+    /// The source, which stands behind the token that comes.
+    pub input: I,
+    /// The token that comes.
+    pub ahead: Ahead<'a>,
+    /// Where the last token that was taken ends.
+    pub last: BytePos,
+    /// The starts of arrays and objects in which a comma follows a last spread.
+    pub commas: Vec<u32>,
+}
+
+impl<'a, I: Tokens<'a> + Drop> Parser<'a, I> {
+    ghost use Rattle.ecma_parse_state.specs.Stands.{stand};
+
+    /// Whether the token that comes has this kind.
+    #[inline]
+    #[tactic(auto, unfolding(crate::specs::Fronts::machine_of))]
+    pub fn at(&self, kind: u8) -> bool
+        ensures { result ≡ spec.at (machine_of I.machine) kind (stand I.state self.now) }
+    {
+        self.ahead.kind == kind
+    }
+
+    /// The kind of the token that comes.
+    #[inline]
+    #[tactic(auto, unfolding(crate::specs::Fronts::machine_of))]
+    pub fn kind(&self) -> u8
+        ensures { result ≡ kind (spec.input (machine_of I.machine) (stand I.state self.now)) }
+    {
+        self.ahead.kind
+    }
+
+    /// Whether a line break stands before the token that comes.
+    #[inline]
+    #[tactic(auto, unfolding(crate::specs::Fronts::machine_of))]
+    pub fn breaks(&self) -> bool
+        ensures { result ≡ brk (spec.input (machine_of I.machine) (stand I.state self.now)) }
+    {
+        match &self.ahead.token {
+            Some(token) => token.had_line_break,
+            None => false,
+        }
+    }
+
+    /// Where the token that comes begins; at the end, where the last one ended.
+    #[tactic(auto, unfolding(crate::specs::Fronts::machine_of))]
+    pub fn lo(&self) -> BytePos
+        ensures { result.0 ≡ lo (spec.input (machine_of I.machine) (stand I.state self.now)) }
+    {
+        match &self.ahead.token {
+            Some(token) => token.span.lo,
+            None => self.last,
+        }
+    }
+
+    /// Where the token that comes ends.
+    #[tactic(auto, unfolding(crate::specs::Fronts::machine_of))]
+    pub fn hi(&self) -> BytePos
+        ensures { result.0 ≡ hi (spec.input (machine_of I.machine) (stand I.state self.now)) }
+    {
+        match &self.ahead.token {
+            Some(token) => token.span.hi,
+            None => self.last,
+        }
+    }
+
+    /// The place of the token that comes.
+    pub fn place(&self) -> Span
+        ensures { result ≡ first_span (spec.input (machine_of I.machine) (stand I.state self.now)) }
+    {
+        Span {
+            lo: self.lo(),
+            hi: self.hi(),
+        }
+    }
+
+    /// From a place up to where the last token that was taken ends.
+    #[tactic(auto, unfolding(crate::specs::Fronts::machine_of))]
+    pub fn since(&self, start: BytePos) -> Span
+        ensures { result ≡ span start.0 ((machine_of I.machine).last (stand I.state self.now).source) }
+    {
+        Span {
+            lo: start,
+            hi: self.last,
+        }
+    }
+
+    /// Takes the token that comes. At the end nothing changes.
+    ///
+    /// # Errors
+    ///
+    /// Want of memory.
+    #[tactic(auto, unfolding(crate::specs::Fronts::machine_of))]
+    pub fn bump(&mut self) -> Result<(), Failure>
+        ensures value { OnOk result (stand I.state self.new ≡ spec.past (machine_of I.machine) (stand I.state self.old)) }
+        ensures shorter { IfOk result (λ _. kind (spec.input (machine_of I.machine) (stand I.state self.old)) ≢ 0 → spec.bound (machine_of I.machine) (stand I.state self.new) < spec.bound (machine_of I.machine) (stand I.state self.old)) }
+        ensures not_longer { IfOk result (λ _. spec.bound (machine_of I.machine) (stand I.state self.new) ≤ spec.bound (machine_of I.machine) (stand I.state self.old)) }
+        ensures full { IfErr result IsMemory }
+    {
+        let Some(token) = &self.ahead.token else {
+            return Ok(());
+        };
+        let end = token.span.hi;
+        match self.input.next() {
+            Ok(next) => {
+                self.ahead = Ahead::new(next);
+                self.last = end;
+                Ok(())
+            }
+            Err(_) => Err(Failure::Memory),
+        }
+    }
+
+    /// Takes the token that comes, and hands it out. At the end nothing changes.
+    ///
+    /// # Errors
+    ///
+    /// Want of memory.
+    #[tactic(auto, unfolding(crate::specs::Fronts::machine_of))]
+    pub fn take(&mut self) -> Result<Option<TokenAndSpan<'a>>, Failure>
+        ensures token { IfOk result (λ t. option_map shown_spot t ≡ (stand I.state self.old).source.first) }
+        ensures value { OnOk result (stand I.state self.new ≡ spec.past (machine_of I.machine) (stand I.state self.old)) }
+        ensures shorter { IfOk result (λ _. kind (spec.input (machine_of I.machine) (stand I.state self.old)) ≢ 0 → spec.bound (machine_of I.machine) (stand I.state self.new) < spec.bound (machine_of I.machine) (stand I.state self.old)) }
+        ensures full { IfErr result IsMemory }
+    {
+        let Some(token) = &self.ahead.token else {
+            return Ok(None);
+        };
+        let end = token.span.hi;
+        match self.input.next() {
+            Ok(next) => {
+                let taken = mem::replace(&mut self.ahead, Ahead::new(next));
+                self.last = end;
+                Ok(taken.token)
+            }
+            Err(_) => Err(Failure::Memory),
+        }
+    }
+
+    /// A source that stands in front of the tokens behind the one that comes: their kind, and whether a line break
+    /// stands before it, for the first of them.
+    ///
+    /// # Errors
+    ///
+    /// Want of memory.
+    #[tactic(auto, unfolding(crate::specs::Fronts::machine_of))]
+    pub fn second(&self) -> Result<(u8, bool), Failure>
+        ensures kind { IfOk result (λ x. kind (spec.input (machine_of I.machine) (stand I.state self.now)) ≢ 0 → x.0 ≡ kind2 (spec.input (machine_of I.machine) (stand I.state self.now))) }
+        ensures breaks { IfOk result (λ x. kind (spec.input (machine_of I.machine) (stand I.state self.now)) ≢ 0 → x.1 ≡ brk2 (spec.input (machine_of I.machine) (stand I.state self.now))) }
+        ensures full { IfErr result IsMemory }
+    {
+        let Ok(mut copy) = self.input.try_clone() else {
+            return Err(Failure::Memory);
+        };
+        match copy.next() {
+            Ok(Some(token)) => Ok((token_number(&token.token), token.had_line_break)),
+            Ok(None) => Ok((kinds::END, false)),
+            Err(_) => Err(Failure::Memory),
+        }
+    }
+
+    /// The text of the word that comes, or nothing.
+    #[tactic(auto, unfolding(crate::specs::Fronts::machine_of))]
+    pub fn text(&self) -> &str
+        ensures { result.now ≡ text (spec.input (machine_of I.machine) (stand I.state self.now)) }
+    {
+        match &self.ahead.token {
+            Some(token) => match &token.token {
+                Token::Word(word) => word.as_str(),
+                _ => "",
+            },
+            None => "",
+        }
+    }
+
+    /// Takes the token that comes if it has this kind, and tells whether it had.
+    ///
+    /// # Errors
+    ///
+    /// Want of memory.
+    #[inline]
+    pub fn eat(&mut self, kind: u8) -> Result<bool, Failure>
+        requires { 0 < kind }
+        ensures value { IfOk result (λ b. b ≡ spec.at (machine_of I.machine) kind (stand I.state self.old)) }
+        ensures state { IfOk result (λ b. stand I.state self.new ≡ (if b then spec.past (machine_of I.machine) (stand I.state self.old) else stand I.state self.old)) }
+        ensures shorter { IfOk result (λ b. IsTrue b → spec.bound (machine_of I.machine) (stand I.state self.new) < spec.bound (machine_of I.machine) (stand I.state self.old)) }
+        ensures full { IfErr result IsMemory }
+    {
+        if self.at(kind) {
+            self.bump()?;
+            return Ok(true);
+        }
+        Ok(false)
+    }
+
+    /// What is wrong with the token that comes, where the grammar has no place for it.
+    pub fn unexpected(&self) -> Failure
+        ensures { IsSyntax result }
+    {
+        let kind = match &self.ahead.token {
+            Some(token) => match &token.token {
+                Token::Error(error) => error.into_kind(),
+                _ => SyntaxError::Unexpected,
+            },
+            None => SyntaxError::Eof,
+        };
+        Failure::Syntax(Error {
+            span: self.place(),
+            kind,
+        })
+    }
+
+    /// Takes a token of this kind.
+    ///
+    /// # Errors
+    ///
+    /// Any other token is a fault.
+    #[tactic(auto, unfolding(ecma_reading::specs::Source::eat))]
+    pub fn expect(&mut self, kind: u8) -> Result<(), Failure>
+        requires { 0 < kind }
+        ensures value { Gives (λ _. stand I.state self.new) result (spec.eat (machine_of I.machine) kind (stand I.state self.old)) }
+        ensures shorter { IfOk result (λ _. spec.bound (machine_of I.machine) (stand I.state self.new) < spec.bound (machine_of I.machine) (stand I.state self.old)) }
+    {
+        if self.eat(kind)? {
+            Ok(())
+        } else {
+            Err(self.unexpected())
+        }
+    }
+
+    /// Whether the token that comes is a word.
+    pub fn is_word(&self) -> bool
+        ensures { result ≡ is_word (kind (spec.input (machine_of I.machine) (stand I.state self.now))) }
+    {
+        self.kind() >= kinds::NULL
+    }
+
+    /// Whether the token that comes is a word that is spelled with an escape: its span is longer than its text.
+    #[tactic(auto, unfolding(crate::specs::Fronts::machine_of))]
+    pub fn is_escaped(&self) -> bool
+        ensures { result ≡ escaped (spec.input (machine_of I.machine) (stand I.state self.now)) }
+    {
+        match &self.ahead.token {
+            Some(token) => match &token.token {
+                Token::Word(word) => {
+                    let end = u64::from(token.span.lo.0) + word.as_str().len() as u64;
+                    end != u64::from(token.span.hi.0)
+                }
+                _ => false,
+            },
+            None => false,
+        }
+    }
+}

@@ -1,0 +1,5 @@
+pub mod Rows
+mod FactsNames
+mod FactsChoice
+mod FactsTexts
+mod FactsFronts
