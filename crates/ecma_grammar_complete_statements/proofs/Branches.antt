@@ -115,8 +115,8 @@ module _ (z : Nested) (p : Bool) where
       (if_loop q f d b (bs ++ branch o e a ∷ []) (alone y) h.6.0 r l n g.2 h.6.2.1 u (omega (arith, le))))
   if_loop s e a b bs y o r j n g h u le =
       loop_end (if_step lm z.inner) (chain bs y absent) (chain (bs ++ branch o e a ∷ []) y b) o r j (z.depth < n) _ _
-      (branch_read bs y e a o h.0 h.1 h.2 j _ _ g.0 g.1 h.3 h.4 h.5 (by_cases (is_absent b) _ _ _ h.6 (λ c x. subst (λ (d : Input). may_follow (kind d) ≡ true) (sym x.1) u) (λ c x. follows_at h.2 else_kind x.1.0 refl)) (λ v. omega (arith, le)) (λ v. omega (arith, le))
-      (by_cases (is_absent b) _ _ _ h.6 (λ c x. no_else bs y e a b o h.2 r (z.depth < n) c x.0 x.1) (λ c x. else_other bs y e a b o h.2 x.0 r (z.depth < n) g.2 x.1 x.2 refl u (λ v. omega (arith, le))))) (λ v. v)
+      (branch_read bs y e a o h.0 h.1 h.2 j _ _ g.0 g.1 h.3 h.4 h.5 (by_cases (is_absent b) ((kind h.2 ≡ else_kind → ⊥) × (h.2 ≡ r)) ((x : Input) × TakesWord (coded p y) else_kind h.2 x × SubOrFunction (coded p y) (part b (λ y. Spells b y)) x r) (may_follow (kind h.2) ≡ true) h.6 (λ c x. subst (λ (d : Input). may_follow (kind d) ≡ true) (sym x.1) u) (λ c x. follows_at h.2 else_kind x.1.0 refl)) (λ v. omega (arith, le)) (λ v. omega (arith, le))
+      (by_cases (is_absent b) ((kind h.2 ≡ else_kind → ⊥) × (h.2 ≡ r)) ((x : Input) × TakesWord (coded p y) else_kind h.2 x × SubOrFunction (coded p y) (part b (λ y. Spells b y)) x r) (On bs y e a o h.2 (Is (finished (chain (bs ++ branch o e a ∷ []) y b)) r) (z.depth < n)) h.6 (λ c x. no_else bs y e a b o h.2 r (z.depth < n) c x.0 x.1) (λ c x. else_other bs y e a b o h.2 x.0 r (z.depth < n) g.2 x.1 x.2 refl u (λ v. omega (arith, le))))) (λ v. v)
       (λ l. (made bs s e a b o r h.7, refl))
 
   pub if_found : (c : Code) (ts : Input) (k : List ℕ) (r : Input) (s : Span) (e a b : Tree) → Within z.Covered (if_stmt s e a b) → Spells (if_stmt s e a b) (coded p c) ts r → may_follow (kind r) ≡ true → Reads (from ts k) (if_by lm z.inner c (from ts k)) (Is (if_stmt s e a b) r) (z.depth < within z.reach (if_stmt s e a b))

@@ -2,9 +2,9 @@
 use Rattle.std.proofs.Common.{◌≡◌, ℕ, suc, ◌+◌, ◌<◌, ◌≤◌, Bool, true, false, List, [], Option, Result, Ok, Err, cond, refl, sym, ap, ◌∙◌, subst, true≢false, arith}
 use Rattle.ecma_token.specs.declared.place.Span.{Span}
 use Rattle.ecma_token.specs.declared.syntax.EsSyntax.{EsSyntax}
-use Rattle.ecma_tree.specs.Tree.{Tree, Trees, script}
+use Rattle.ecma_tree.specs.Tree.{Tree, Trees, script, es_module}
 use Rattle.ecma_nesting.specs.Nesting.{nesting}
-use Rattle.ecma_syntax.specs.Input.{Place, Input, Code, script_code}
+use Rattle.ecma_syntax.specs.Input.{Place, Input, Code, script_code, module_code}
 use Rattle.ecma_syntax.specs.Shape.{is_clean}
 use Rattle.ecma_grammar.specs.Grammar.{Spells, Derives}
 use Rattle.ecma_reading.specs.Source.{Fault, Unexpected, TooDeep, ◌>>=◌, Stand, list_machine}
@@ -16,9 +16,11 @@ use Rattle.ecma_grammar_complete_base.proofs.Yields.{lm, from, Fresh, After, Yie
 use Rattle.ecma_grammar_complete_base.proofs.Trees.{size, sizes, reach, reaches}
 use Rattle.ecma_grammar_complete_parts.proofs.Within.{most}
 use Rattle.ecma_grammar_complete_programs.proofs.Programs.{script_found}
-use Rattle.ecma_grammar_tied.proofs.Sizes.{each_small, most_reaches}
+use Rattle.ecma_grammar_complete_modules.proofs.Sources.{in_module}
+use Rattle.ecma_grammar_complete_modules.proofs.Modules.{module_found}
+use Rattle.ecma_grammar_tied.proofs.Sizes.{each_small, most_reaches, items_small, items_reach}
 use Rattle.ecma_grammar_tied.proofs.Tied.{complete}
-use Rattle.ecma_grammar_whole.specs.Laws.{Answered, Decided, Stands, Level, ExpressionsComplete, OneExpression, Bound, PatternsComplete, OnePattern, ScriptsComplete, OneScript, NoScript}
+use Rattle.ecma_grammar_whole.specs.Laws.{Answered, Decided, Stands, Level, ExpressionsComplete, OneExpression, Bound, PatternsComplete, OnePattern, ScriptsComplete, OneScript, NoScript, ModulesComplete, OneModule, NoModule}
 use Rattle.ecma_grammar_whole.proofs.Nests.{reach_nests}
 
 -- ---- answers
@@ -62,7 +64,7 @@ decided : (x : Result (Tree × Stand Input) Fault) (t : Tree) (r : Input) (P : T
 unfolding finish
 decided (Ok x) t r P c h = clean (is_clean x.0) (subst (λ (y : Tree). is_clean y ≡ true) (sym h.0) c)
   where
-    clean : (b : Bool) → b ≡ true → Decided (cond b (Ok x.0) (Err Unexpected)) t P
+    clean : (b : Bool) → b ≡ true → Decided (cond {A = Result Tree Fault} b (Ok x.0) (Err Unexpected)) t P
     clean true e = h.0
     clean false e = absurd (true≢false (sym e))
 decided (Err Unexpected) t r P c h = h
@@ -81,9 +83,24 @@ same_of (Err Unexpected) t u P Q p q h g = absurd h
 same_of (Err TooDeep) t u P Q p q h g = absurd (p h)
 
 pub one_script : OneScript
-one_script p q syntax s w ss us l m start places r o i d e = let n = nesting (script s ss l) + nesting (script w us m) in
-    same_of (read_list n false syntax start places) (script s ss l) (script w us m) (n < nesting (script s ss l)) (n < nesting (script w us m)) (λ h. omega (arith, h)) (λ h. omega (arith, h))
-    (scripts_complete n p syntax s ss l start places r i d) (scripts_complete n q syntax w us m start places o i e)
+one_script p q syntax s w ss us l m start places r o i d e = same_of (read_list (nesting (script s ss l) + nesting (script w us m)) false syntax start places) (script s ss l) (script w us m) ((nesting (script s ss l) + nesting (script w us m)) < nesting (script s ss l)) ((nesting (script s ss l) + nesting (script w us m)) < nesting (script w us m)) (λ h. omega (arith, h)) (λ h. omega (arith, h))
+    (scripts_complete (nesting (script s ss l) + nesting (script w us m)) p syntax s ss l start places r i d) (scripts_complete (nesting (script s ss l) + nesting (script w us m)) q syntax w us m start places o i e)
 
 pub no_script : NoScript
 no_script limit placed syntax s ss l start places r o e d = subst (λ (x : Result Tree Fault). Decided x (script s ss l) (limit < nesting (script s ss l))) e (scripts_complete limit placed syntax s ss l start places r o d)
+
+-- ---- modules
+
+pub modules_complete : ModulesComplete
+unfolding read_list read_program
+modules_complete limit placed syntax s ss l start places r o d = let ts : Input = record { last = start; places = places } in
+    decided (program_by lm (readers lm limit) true (module_code syntax) (from ts [])) (es_module s ss l) r (limit < nesting (es_module s ss l)) d.1
+    (found ts r _ (es_module s ss l) (limit < most (in_module reach) ss) (limit < nesting (es_module s ss l)) o (λ h. omega (arith, h, items_reach ss, reach_nests (es_module s ss l)))
+    (module_found (complete (suc (sizes ss)) limit) placed s ss l (module_code syntax) ts r [] (items_small (suc (sizes ss)) ss (omega arith)) d.0))
+
+pub one_module : OneModule
+one_module p q syntax s w ss us l m start places r o i d e = same_of (read_list (nesting (es_module s ss l) + nesting (es_module w us m)) true syntax start places) (es_module s ss l) (es_module w us m) ((nesting (es_module s ss l) + nesting (es_module w us m)) < nesting (es_module s ss l)) ((nesting (es_module s ss l) + nesting (es_module w us m)) < nesting (es_module w us m)) (λ h. omega (arith, h)) (λ h. omega (arith, h))
+    (modules_complete (nesting (es_module s ss l) + nesting (es_module w us m)) p syntax s ss l start places r i d) (modules_complete (nesting (es_module s ss l) + nesting (es_module w us m)) q syntax w us m start places o i e)
+
+pub no_module : NoModule
+no_module limit placed syntax s ss l start places r o e d = subst (λ (x : Result Tree Fault). Decided x (es_module s ss l) (limit < nesting (es_module s ss l))) e (modules_complete limit placed syntax s ss l start places r o d)

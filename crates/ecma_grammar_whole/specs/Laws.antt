@@ -1,10 +1,10 @@
 -- What a tree spells is read, within the limit of nesting: the statements of the laws.
-use Rattle.std.specs.Prelude.{◌≡◌, ◌≤◌, ◌<◌, ℕ, Bool, false, List, [], Option, Result, Ok, Err}
+use Rattle.std.specs.Prelude.{◌≡◌, ◌≤◌, ◌<◌, ℕ, Bool, true, false, List, [], Option, Result, Ok, Err}
 use Rattle.ecma_token.specs.declared.place.Span.{Span}
 use Rattle.ecma_token.specs.declared.syntax.EsSyntax.{EsSyntax}
-use Rattle.ecma_tree.specs.Tree.{Tree, Trees, script}
+use Rattle.ecma_tree.specs.Tree.{Tree, Trees, script, es_module}
 use Rattle.ecma_nesting.specs.Nesting.{nesting}
-use Rattle.ecma_syntax.specs.Input.{Place, Input, Code, script_code}
+use Rattle.ecma_syntax.specs.Input.{Place, Input, Code, script_code, module_code}
 use Rattle.ecma_syntax.specs.Shape.{level, ends, is_binding}
 use Rattle.ecma_grammar.specs.Grammar.{Spells, Derives}
 use Rattle.ecma_reading.specs.Source.{Fault, Unexpected, TooDeep, Stand, list_machine}
@@ -77,3 +77,20 @@ OneScript = (p q : Bool) (syntax : EsSyntax) (s w : Span) (ss us : Trees) (l m :
 abbrev pub NoScript : Type 0
 NoScript = (limit : ℕ) (placed : Bool) (syntax : EsSyntax) (s : Span) (ss : Trees) (l : Option (List ℕ)) (start : ℕ) (places : List Place) (r : Input) → InOrder start places → read_list limit false syntax start places ≡ Err Unexpected
     → Derives (script s ss l) (coded placed (script_code syntax)) (record { last = start; places = places }) r → ⊥
+
+-- ---- modules (16.2)
+
+-- A module that derives the tokens is what is read of them, whatever the limit, or it nests deeper than the limit.
+abbrev pub ModulesComplete : Type 0
+ModulesComplete = (limit : ℕ) (placed : Bool) (syntax : EsSyntax) (s : Span) (ss : Trees) (l : Option (List ℕ)) (start : ℕ) (places : List Place) (r : Input) → InOrder start places
+    → Derives (es_module s ss l) (coded placed (module_code syntax)) (record { last = start; places = places }) r → Decided (read_list limit true syntax start places) (es_module s ss l) (limit < nesting (es_module s ss l))
+
+-- At most one module derives a list of tokens.
+abbrev pub OneModule : Type 0
+OneModule = (p q : Bool) (syntax : EsSyntax) (s w : Span) (ss us : Trees) (l m : Option (List ℕ)) (start : ℕ) (places : List Place) (r o : Input) → InOrder start places
+    → Derives (es_module s ss l) (coded p (module_code syntax)) (record { last = start; places = places }) r → Derives (es_module w us m) (coded q (module_code syntax)) (record { last = start; places = places }) o → es_module s ss l ≡ es_module w us m
+
+-- Where a token is unexpected at one limit, no module of any nesting derives the tokens.
+abbrev pub NoModule : Type 0
+NoModule = (limit : ℕ) (placed : Bool) (syntax : EsSyntax) (s : Span) (ss : Trees) (l : Option (List ℕ)) (start : ℕ) (places : List Place) (r : Input) → InOrder start places → read_list limit true syntax start places ≡ Err Unexpected
+    → Derives (es_module s ss l) (coded placed (module_code syntax)) (record { last = start; places = places }) r → ⊥

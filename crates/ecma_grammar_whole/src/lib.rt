@@ -2,7 +2,7 @@
 //! spells it. The functions here are laws alone.
 #![tactic(auto)]
 
-ghost use Rattle.ecma_grammar_whole.specs.Laws.{ExpressionsComplete, NoScript, OneExpression, OnePattern, OneScript, PatternsComplete, ScriptsComplete};
+ghost use Rattle.ecma_grammar_whole.specs.Laws.{ExpressionsComplete, ModulesComplete, NoModule, NoScript, OneExpression, OneModule, OnePattern, OneScript, PatternsComplete, ScriptsComplete};
 
 /// Law: what an expression spells, up to what doesn't go on at the level that is asked for, is what the
 /// reader of expressions answers of these tokens, at every limit, or the expression nests deeper than
@@ -23,4 +23,12 @@ pub fn scripts_law()
     ensures scripts { ScriptsComplete }
     ensures one { OneScript }
     ensures no { NoScript }
+{}
+
+/// Law: the same of modules.
+#[tactic(auto)]
+pub fn modules_law()
+    ensures modules { ModulesComplete }
+    ensures one { OneModule }
+    ensures no { NoModule }
 {}
