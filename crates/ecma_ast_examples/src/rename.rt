@@ -1,7 +1,7 @@
 //! A codemod that writes one name for another.
 use ecma_atom::Atom;
 use ecma_node::{Ident, Program};
-use ecma_visit_mut::{VisitMut, VisitMutWith};
+use ecma_visit_mut::{VisitMutWith, VisitMutWords, Words};
 use std::alloc::AllocError;
 
 /// Which name is written for which, and whether memory wanted.
@@ -12,7 +12,7 @@ struct Renaming<'a> {
     failed: Option<AllocError>,
 }
 
-impl VisitMut for Renaming<'_> {
+impl VisitMutWords for Renaming<'_> {
     fn ident(&mut self, ident: &mut Ident) {
         if ident.sym == *self.from {
             match self.to.clone() {
@@ -29,13 +29,15 @@ impl VisitMut for Renaming<'_> {
 ///
 /// Want of memory; some names may have been written by then.
 pub fn rename(program: &mut Program, from: &Atom, to: &Atom) -> Result<(), AllocError> {
-    let mut visitor = Renaming {
-        from,
-        to,
-        failed: None,
+    let mut words = Words {
+        visit: Renaming {
+            from,
+            to,
+            failed: None,
+        },
     };
-    program.visit_mut_with(&mut visitor);
-    match visitor.failed {
+    program.visit_mut_with(&mut words);
+    match words.visit.failed {
         Some(error) => Err(error),
         None => Ok(()),
     }

@@ -9,7 +9,7 @@ use ecma_nesting::Nesting;
 use ecma_node::{BlockStmt, ExprBox, Function, StmtBox};
 use ecma_token::{BinaryOp, DUMMY_SP};
 use ecma_visit::{Node, Walk, Watch};
-use ecma_visit_mut::VisitMutWith;
+use ecma_visit_mut::{VisitMutWith, Words};
 use std::process::Abort;
 
 /// What stands round an expression.
@@ -115,9 +115,11 @@ fn check<T: Walk + VisitMutWith + Nesting>(rt: &impl Abort, tree: &mut T, levels
     let mut count = Count { nodes: 0 };
     tree.walk(&mut count);
     assert_eq!(rt; count.nodes, levels as u64);
-    let mut places = Places { given: 0 };
-    tree.visit_mut_with(&mut places);
-    assert_eq!(rt; places.given, levels);
+    let mut words = Words {
+        visit: Places { given: 0 },
+    };
+    tree.visit_mut_with(&mut words);
+    assert_eq!(rt; words.visit.given, levels);
 }
 
 #[test]

@@ -1,6 +1,6 @@
 //! Places for the nodes of a tree that was made by hand.
 use ecma_token::{BytePos, Span};
-use ecma_visit_mut::VisitMut;
+use ecma_visit_mut::VisitMutWords;
 
 /// Gives each node a place of its own.
 #[derive(Drop)]
@@ -8,7 +8,7 @@ pub struct Places {
     pub given: u32,
 }
 
-impl VisitMut for Places {
+impl VisitMutWords for Places {
     fn span(&mut self, span: &mut Span) {
         self.given = self.given.saturating_add(1);
         let lo = BytePos(self.given);

@@ -12,7 +12,7 @@ use ecma_nesting::Nesting;
 use ecma_node::{ExprBox, PatBox, Program, StmtBox};
 use ecma_token::{Span, Spanned};
 use ecma_visit::{Node, Walk, Watch};
-use ecma_visit_mut::VisitMutWith;
+use ecma_visit_mut::{VisitMutWith, Words};
 use std::alloc::{AllocError, Global};
 use std::fmt::Write;
 use std::process::Abort;
@@ -72,7 +72,9 @@ impl Watch for Line {
 
 /// Gives places to the nodes of a tree, and compares its line with the one that is wanted.
 fn compare<T: Walk + VisitMutWith>(rt: &impl Abort, alloc: Global, tree: &mut T, want: &str) {
-    tree.visit_mut_with(&mut Places { given: 0 });
+    tree.visit_mut_with(&mut Words {
+        visit: Places { given: 0 },
+    });
     let mut line = Line {
         text: String::new(alloc),
         failed: false,
