@@ -1,4 +1,4 @@
-//! The rules of expressions: elements and arguments, the characters of templates, operators and members.
+//! The rules of expressions: elements and arguments, the characters of templates, operators, members and calls.
 #![tactic(auto)]
 
 pub mod lists;

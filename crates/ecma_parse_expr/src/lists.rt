@@ -101,6 +101,29 @@ pub fn array_turn<'a, I: Tokens<'a> + Drop, N: Nested<'a, I>>(
     Ok(list.comma)
 }
 
+/// The elements of an array, after its bracket.
+#[inline(never)]
+#[tactic(auto, using(ecma_parse_state::proofs::Iterate::iterates), unfolding(ecma_reading::specs::Expressions::elements_by))]
+pub fn elements<'a, I: Tokens<'a> + Drop, N: Nested<'a, I>>(
+    p: &mut Parser<'a, I>,
+    nested: &N,
+    code: Around,
+) -> Result<Elements, Failure>
+    requires ready { N.ready nested.now }
+    ensures value { Gives (λ x. (elements_of x, stand I.state p.new)) result (reads.elements_by (machine_of I.machine) (N.reads nested.now I.State I.machine) (code_of code) true right_bracket_kind (stand I.state p.old)) }
+    ensures fits { IfOk result (λ x. FitElements x) }
+    ensures rest { IfOk result (λ x. TellsRest x) }
+    ensures shorter { IfOk result (λ _. spec.bound (machine_of I.machine) (stand I.state p.new) < spec.bound (machine_of I.machine) (stand I.state p.old)) }
+{
+    let mut list = Elements {
+        items: Vec::new(p.alloc),
+        comma: false,
+        rest: false,
+    };
+    'turns: while array_turn(p, nested, code, &mut list)? {}
+    Ok(list)
+}
+
 /// One more argument, or the end of the arguments. Whether another may follow.
 #[inline(never)]
 #[tactic(auto, using(ecma_parse_state::proofs::Marks::marks), unfolding(ecma_reading::specs::Expressions::element_step, ecma_reading::specs::Expressions::after_element, crate::specs::Lists::after_item))]
@@ -123,4 +146,41 @@ pub fn argument_turn<'a, I: Tokens<'a> + Drop, N: Nested<'a, I>>(
     list.items.push(item)?;
     list.comma = goes_on(p, kinds::RIGHT_PAREN)?;
     Ok(list.comma)
+}
+
+/// What stands between parentheses, after the first.
+#[inline(never)]
+#[tactic(auto, using(ecma_parse_state::proofs::Iterate::iterates), unfolding(ecma_reading::specs::Expressions::elements_by))]
+pub fn group_items<'a, I: Tokens<'a> + Drop, N: Nested<'a, I>>(
+    p: &mut Parser<'a, I>,
+    nested: &N,
+    code: Around,
+) -> Result<Arguments, Failure>
+    requires ready { N.ready nested.now }
+    ensures value { Gives (λ x. (arguments_of x, stand I.state p.new)) result (reads.elements_by (machine_of I.machine) (N.reads nested.now I.State I.machine) (code_of code) false right_paren_kind (stand I.state p.old)) }
+    ensures fits { IfOk result (λ x. FitArguments x) }
+    ensures shorter { IfOk result (λ _. spec.bound (machine_of I.machine) (stand I.state p.new) < spec.bound (machine_of I.machine) (stand I.state p.old)) }
+{
+    let mut list = Arguments {
+        items: Vec::new(p.alloc),
+        comma: false,
+    };
+    'turns: while argument_turn(p, nested, code, &mut list)? {}
+    Ok(list)
+}
+
+/// The arguments of a call, after their parenthesis.
+#[tactic(auto, using(ecma_parse_state::proofs::Marks::marks), unfolding(ecma_reading::specs::Expressions::arguments_by))]
+pub fn arguments<'a, I: Tokens<'a> + Drop, N: Nested<'a, I>>(
+    p: &mut Parser<'a, I>,
+    nested: &N,
+    code: Around,
+) -> Result<Vec<ExprOrSpread>, Failure>
+    requires ready { N.ready nested.now }
+    ensures value { Gives (λ x. (map (view_expr_or_spread inner) x.items, stand I.state p.new)) result (reads.arguments_by (machine_of I.machine) (N.reads nested.now I.State I.machine) (code_of code) (stand I.state p.old)) }
+    ensures fits { IfOk result (λ x. All (λ x. fits_expr_or_spread (λ p. p) x) x.items) }
+    ensures shorter { IfOk result (λ _. spec.bound (machine_of I.machine) (stand I.state p.new) < spec.bound (machine_of I.machine) (stand I.state p.old)) }
+{
+    let list = group_items(p, nested, code)?;
+    Ok(list.items)
 }

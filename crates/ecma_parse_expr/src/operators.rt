@@ -14,6 +14,7 @@ ghost use Rattle.ecma_parse_state.specs.Stands.{from, from_span, stand};
 ghost use Rattle.ecma_parse_base.specs.Lists.{arguments_of, elements_of, FitArguments, FitElements};
 ghost use Rattle.ecma_parse_base.specs.Operands.{tree_of};
 
+use crate::lists::arguments;
 use ecma_node::{ComputedPropName, IdentName, MemberProp, PrivateName};
 use ecma_parse_base::ops::{assign_op, binary_op, update_op};
 use ecma_parse_base::{Nested, Operand, made};
@@ -194,4 +195,55 @@ pub fn index<'a, I: Tokens<'a> + Drop, N: Nested<'a, I>>(
 {
     let key = computed(p, nested, code, EXPRESSION)?;
     made::member_of(p.alloc, p.since(start), obj, MemberProp::Computed(key))
+}
+
+/// A call, after its callee.
+#[inline(never)]
+#[tactic(auto, using(ecma_parse_state::proofs::Marks::marks, ecma_parse_base::proofs::Packs::packs), unfolding(ecma_reading::specs::Expressions::call_by))]
+pub fn call<'a, I: Tokens<'a> + Drop, N: Nested<'a, I>>(
+    p: &mut Parser<'a, I>,
+    nested: &N,
+    code: Around,
+    start: BytePos,
+    callee: Operand,
+) -> Result<Operand, Failure>
+    requires ready { N.ready nested.now }
+    ensures value { Gives (λ x. (tree_of x, stand I.state p.new)) result (reads.call_by (machine_of I.machine) (N.reads nested.now I.State I.machine) (code_of code) (from start.0) (tree_of callee) (stand I.state p.old)) }
+    ensures shorter { IfOk result (λ _. spec.bound (machine_of I.machine) (stand I.state p.new) < spec.bound (machine_of I.machine) (stand I.state p.old)) }
+{
+    p.bump()?;
+    let args = arguments(p, nested, code)?;
+    made::call_of(p.alloc, p.since(start), callee, args)
+}
+
+/// What follows `?.`, after its object.
+#[inline(never)]
+#[tactic(auto, using(ecma_parse_state::proofs::Marks::marks, ecma_parse_base::proofs::Packs::packs), unfolding(ecma_reading::specs::Expressions::chain_by))]
+pub fn chain<'a, I: Tokens<'a> + Drop, N: Nested<'a, I>>(
+    p: &mut Parser<'a, I>,
+    nested: &N,
+    code: Around,
+    start: BytePos,
+    obj: Operand,
+) -> Result<Operand, Failure>
+    requires ready { N.ready nested.now }
+    ensures value { Gives (λ x. (tree_of x, stand I.state p.new)) result (reads.chain_by (machine_of I.machine) (N.reads nested.now I.State I.machine) (code_of code) (from start.0) (tree_of obj) (stand I.state p.old)) }
+    ensures shorter { IfOk result (λ _. spec.bound (machine_of I.machine) (stand I.state p.new) < spec.bound (machine_of I.machine) (stand I.state p.old)) }
+{
+    if p.eat(kinds::LEFT_PAREN)? {
+        let args = arguments(p, nested, code)?;
+        return made::chain_call(p.alloc, p.since(start), true, obj, args);
+    }
+    if p.at(kinds::LEFT_BRACKET) {
+        let key = computed(p, nested, code, EXPRESSION)?;
+        return made::chain_member(
+            p.alloc,
+            p.since(start),
+            true,
+            obj,
+            MemberProp::Computed(key),
+        );
+    }
+    let prop = member_name(p, nested)?;
+    made::chain_member(p.alloc, p.since(start), true, obj, prop)
 }
