@@ -1,0 +1,94 @@
+//! Templates.
+ghost use Rattle.std.specs.Prelude.{◌≡◌, ◌≢◌, false, true, ◌<◌, ◌≤◌, All, IfOk, IsTrue, map};
+ghost use Rattle.ecma_token.specs.OperatorKinds.{assign_op_kind, binary_op_kind};
+ghost use Rattle.ecma_syntax.specs.Input.{kind};
+ghost use Rattle.ecma_node.specs.Fits.{fits_tpl};
+ghost use Rattle.ecma_node.specs.Placed.{holds_expr, inner};
+ghost use Rattle.ecma_node.specs.View.{unary_op_word, update_op_word, view_computed_prop_name, view_expr_or_spread, view_member_prop, view_private_name, view_tpl};
+ghost use Rattle.ecma_reading.specs.Source as spec;
+ghost use Rattle.ecma_reading.specs.Expressions as reads;
+ghost use Rattle.ecma_parse_state.specs.Answers.{Gives, going_on};
+ghost use Rattle.ecma_parse_state.specs.Codes.{code_of};
+ghost use Rattle.ecma_parse_state.specs.Fronts.{machine_of};
+ghost use Rattle.ecma_parse_state.specs.Stands.{from, from_span, stand};
+ghost use Rattle.ecma_parse_base.specs.Lists.{spans_of, FitSpans};
+ghost use Rattle.ecma_parse_base.specs.Operands.{tree_of};
+ghost use Rattle.ecma_parse_expr.specs.Pieces.{element_at};
+ghost use Rattle.ecma_syntax.specs.Operators.{call_level};
+ghost use Rattle.ecma_syntax.specs.Shape as shape;
+
+use ecma_node::{Tpl, TplElement};
+use ecma_parse_base::lists::Spans;
+use ecma_parse_base::{Nested, Operand, literals, made};
+use ecma_parse_state::code::with_in;
+use ecma_parse_state::operators::EXPRESSION;
+use ecma_parse_state::{Around, Failure, Parser, kinds};
+use ecma_token::{BytePos, Token};
+use ecma_tokens::Tokens;
+
+/// What ends the characters of a template: its end, or an expression. Whether more characters follow.
+#[inline(never)]
+#[tactic(auto, using(ecma_parse_state::proofs::Marks::marks), unfolding(ecma_reading::specs::Expressions::quasi_end))]
+pub fn characters_end<'a, I: Tokens<'a> + Drop, N: Nested<'a, I>>(
+    p: &mut Parser<'a, I>,
+    nested: &N,
+    code: Around,
+    tagged: bool,
+    element: TplElement,
+    spans: &mut Spans,
+) -> Result<bool, Failure>
+    requires ready { N.ready nested.now }
+    requires fits { FitSpans spans.old }
+    requires tail { element.tail ≡ false }
+    ensures value { Gives (λ x. (going_on x (spans_of spans.new), stand I.state p.new)) result (reads.quasi_end (machine_of I.machine) (N.reads nested.now I.State I.machine) (code_of code) tagged (spans_of spans.old) (element_at element) (stand I.state p.old)) }
+    ensures fits { IfOk result (λ _. FitSpans spans.new) }
+    ensures shorter { IfOk result (λ _. spec.bound (machine_of I.machine) (stand I.state p.new) < spec.bound (machine_of I.machine) (stand I.state p.old)) }
+{
+    let mut element = element;
+    let fits = tagged || element.cooked.is_some();
+    if p.eat(kinds::BACK_QUOTE)? {
+        if !fits {
+            return Err(p.unexpected());
+        }
+        element.tail = true;
+        spans.quasis.push(element)?;
+        return Ok(false);
+    }
+    p.expect(kinds::DOLLAR_BRACE)?;
+    let read = nested.expr(p, with_in(code), EXPRESSION)?;
+    p.expect(kinds::RIGHT_BRACE)?;
+    if !fits {
+        return Err(p.unexpected());
+    }
+    spans.exprs.push(read.expr)?;
+    spans.quasis.push(element)?;
+    Ok(true)
+}
+
+/// The next characters of a template, and what ends them. Whether more follow.
+#[inline(never)]
+#[tactic(auto, using(ecma_parse_state::proofs::Marks::marks), unfolding(ecma_reading::specs::Expressions::quasi_step, ecma_reading::specs::Source::eat, ecma_parse_state::specs::Fronts::machine_of))]
+pub fn characters<'a, I: Tokens<'a> + Drop, N: Nested<'a, I>>(
+    p: &mut Parser<'a, I>,
+    nested: &N,
+    code: Around,
+    tagged: bool,
+    spans: &mut Spans,
+) -> Result<bool, Failure>
+    requires ready { N.ready nested.now }
+    requires fits { FitSpans spans.old }
+    ensures value { Gives (λ x. (going_on x (spans_of spans.new), stand I.state p.new)) result (reads.quasi_step (machine_of I.machine) (N.reads nested.now I.State I.machine) (code_of code) tagged (spans_of spans.old) (stand I.state p.old)) }
+    ensures fits { IfOk result (λ _. FitSpans spans.new) }
+    ensures shorter { IfOk result (λ _. spec.bound (machine_of I.machine) (stand I.state p.new) < spec.bound (machine_of I.machine) (stand I.state p.old)) }
+{
+    let span = p.place();
+    let fault = p.unexpected();
+    let Some(token) = p.take()? else {
+        return Err(fault);
+    };
+    let Token::Template { raw, cooked } = token.token else {
+        return Err(fault);
+    };
+    let element = literals::tpl_element(p.alloc, span, raw, cooked)?;
+    characters_end(p, nested, code, tagged, element, spans)
+}
