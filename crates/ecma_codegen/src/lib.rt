@@ -1,10 +1,20 @@
-//! From a tree to text: the writers of a program's text, as the printer's users name them.
+//! From a tree to text: the printer, and the writers of a program's text, as the printer's users name them.
 #![tactic(auto)]
 
+pub mod code;
+mod emit;
+pub mod emitter;
+pub mod node;
 pub mod text_writer;
+pub mod util;
 
+pub use code::to_code;
+pub use ecma_settings::{Config, ListFormat, NoPlaces, SourceMapper, SourceMapperExt};
 pub use ecma_write::{EmitError, Gather};
+pub use emitter::Emitter;
+pub use node::Node;
 pub use text_writer::{JsWriter, OmitTrailingSemi, Symbol, WriteJs, omit_trailing_semi};
+pub use util::{EndsWithAlphaNum, StartsWithAlphaNum};
 
 /// What a call that writes answers.
 pub type Result = std::result::Result<(), EmitError>;

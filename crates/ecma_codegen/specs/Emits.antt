@@ -1,0 +1,33 @@
+-- What emitting a node makes of a writer.
+use Rattle.std.specs.Prelude.{◌≡◌, ℕ, true, false, List, [], Result, Ok, Err}
+use base.Fml.{GName}
+use Rattle.ecma_token.specs.Counts.{count_after}
+use Rattle.ecma_write.specs.Pages.{IsFront}
+use Rattle.ecma_write.specs.States.{State, FaultFits, answers_write, has_places}
+use Rattle.ecma_write.specs.declared.fault.EmitError.{EmitError}
+use Rattle.ecma_write.specs.declared.fault.EmitError.TheVariants.{Write, Memory, Node, Position}
+use Rattle.ecma_pieces.specs.Pieces.{calls}
+use Rattle.ecma_layout.specs.Looks.{Laid, listed, is_refused}
+
+-- The state that a layout makes: its pieces, one after another.
+abbrev pub emitted : Laid → State → State
+emitted l s = calls (listed l []) s
+
+-- A node is refused only where something of the layout can't be printed, want of memory and a place past the last are answered only
+-- where positions are kept.
+abbrev pub MayRefuse : EmitError → Laid → State → Type 0
+MayRefuse (Write kind) l s = Unit {0}
+MayRefuse Memory l s = has_places s ≡ true
+MayRefuse Position l s = has_places s ≡ true
+MayRefuse Node l s = is_refused l ≡ true
+
+-- What was written and marked, to a writer whose bytes are known: the layout, or with a fault a beginning of it.
+abbrev pub Emits : {S : Type 0} → (S → Type 0) → (S → State) → Laid → S → S → Result (Unit {0}) EmitError → Type 0
+Emits tells state l old new (Ok x) = (is_refused l ≡ false) × (tells old → tells new × (state new ≡ emitted l (state old)))
+Emits tells state l old new (Err e) =
+    MayRefuse e l (state old) × (tells old → tells new × IsFront (state new).page.out (emitted l (state old)).page.out × FaultFits e (emitted l (state old)).page)
+
+-- What stays: whether positions are kept, the loans, and the count of failed writes, which rises by one exactly where the answer is `Write`.
+abbrev pub Stays : {S : Type 0} → (S → State) → (S → ℕ) → (S → List GName) → S → S → Result (Unit {0}) EmitError → Type 0
+Stays state failed loans old new r =
+    (has_places (state new) ≡ has_places (state old)) × (loans new ≡ loans old) × (failed new ≡ count_after (answers_write r) (failed old))

@@ -1,0 +1,71 @@
+//! The printer over a writer.
+ghost use Rattle.ecma_layout.specs.Layout.{laid};
+ghost use Rattle.ecma_layout.specs.declared.look.Stand.TheVariants.{Alone};
+ghost use Rattle.ecma_node.specs.Placed.{inner};
+ghost use Rattle.ecma_node.specs.View.{view_module, view_module_export_name, view_module_item, view_script};
+ghost use Rattle.ecma_codegen.specs.Emits.{Emits, Stays};
+ghost use Rattle.ecma_codegen.specs.Settings as settings;
+
+use crate::emit::{emit, look_of};
+use ecma_comments::Comments;
+use ecma_node::{Module, ModuleExportName, ModuleItem, Program, Script};
+use ecma_settings::Config;
+use ecma_write::{EmitError, WriteJs};
+use std::alloc::Global;
+
+/// A printer over a writer. Comments are not printed yet.
+#[derive(Drop)]
+pub struct Emitter<'a, S, W> {
+    /// What allocates.
+    pub alloc: Global,
+    /// How the text is to look.
+    pub cfg: Config,
+    /// Who knows the lines of the source.
+    pub cm: S,
+    /// The comments of the source.
+    pub comments: Option<&'a mut Comments>,
+    /// The writer.
+    pub wr: W,
+}
+
+impl<'a, S, W: WriteJs> Emitter<'a, S, W> {
+    /// Prints a program: its layout, or with a fault a beginning of it.
+    pub fn emit_program(&mut self, node: &Program) -> Result<(), EmitError>
+        ensures value { Emits W.tells W.state (laid (settings.look_of self.old.cfg) Alone (node.now)) self.old.wr self.new.wr result }
+        ensures keeps { Stays W.state W.failed_writes W.loans self.old.wr self.new.wr result }
+    {
+        emit(node, &mut self.wr, look_of(self.cfg))
+    }
+
+    /// Prints a module: its layout, or with a fault a beginning of it.
+    pub fn emit_module(&mut self, node: &Module) -> Result<(), EmitError>
+        ensures value { Emits W.tells W.state (laid (settings.look_of self.old.cfg) Alone (view_module inner node.now)) self.old.wr self.new.wr result }
+        ensures keeps { Stays W.state W.failed_writes W.loans self.old.wr self.new.wr result }
+    {
+        emit(node, &mut self.wr, look_of(self.cfg))
+    }
+
+    /// Prints a script: its layout, or with a fault a beginning of it.
+    pub fn emit_script(&mut self, node: &Script) -> Result<(), EmitError>
+        ensures value { Emits W.tells W.state (laid (settings.look_of self.old.cfg) Alone (view_script inner node.now)) self.old.wr self.new.wr result }
+        ensures keeps { Stays W.state W.failed_writes W.loans self.old.wr self.new.wr result }
+    {
+        emit(node, &mut self.wr, look_of(self.cfg))
+    }
+
+    /// Prints a part of a module: its layout, or with a fault a beginning of it.
+    pub fn emit_module_item(&mut self, node: &ModuleItem) -> Result<(), EmitError>
+        ensures value { Emits W.tells W.state (laid (settings.look_of self.old.cfg) Alone (view_module_item inner node.now)) self.old.wr self.new.wr result }
+        ensures keeps { Stays W.state W.failed_writes W.loans self.old.wr self.new.wr result }
+    {
+        emit(node, &mut self.wr, look_of(self.cfg))
+    }
+
+    /// Prints a name of an import or an export: its layout, or with a fault a beginning of it.
+    pub fn emit_module_export_name(&mut self, node: &ModuleExportName) -> Result<(), EmitError>
+        ensures value { Emits W.tells W.state (laid (settings.look_of self.old.cfg) Alone (view_module_export_name node.now)) self.old.wr self.new.wr result }
+        ensures keeps { Stays W.state W.failed_writes W.loans self.old.wr self.new.wr result }
+    {
+        emit(node, &mut self.wr, look_of(self.cfg))
+    }
+}
