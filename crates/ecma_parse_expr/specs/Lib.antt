@@ -1,3 +1,4 @@
 -- What the rules of expressions share.
 pub mod Lists
 pub mod Pieces
+pub mod Steps

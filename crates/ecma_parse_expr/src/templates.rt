@@ -1,5 +1,5 @@
 //! Templates.
-ghost use Rattle.std.specs.Prelude.{◌≡◌, ◌≢◌, false, true, ◌<◌, ◌≤◌, All, IfOk, IsTrue, map};
+ghost use Rattle.std.specs.Prelude.{◌≡◌, ◌≢◌, false, true, ◌<◌, ◌≤◌, All, IfErr, IfOk, IsTrue, map};
 ghost use Rattle.ecma_token.specs.OperatorKinds.{assign_op_kind, binary_op_kind};
 ghost use Rattle.ecma_syntax.specs.Input.{kind};
 ghost use Rattle.ecma_node.specs.Fits.{fits_tpl};
@@ -7,15 +7,15 @@ ghost use Rattle.ecma_node.specs.Placed.{holds_expr, inner};
 ghost use Rattle.ecma_node.specs.View.{unary_op_word, update_op_word, view_computed_prop_name, view_expr_or_spread, view_member_prop, view_private_name, view_tpl};
 ghost use Rattle.ecma_reading.specs.Source as spec;
 ghost use Rattle.ecma_reading.specs.Expressions as reads;
-ghost use Rattle.ecma_parse_state.specs.Answers.{Gives, going_on};
+ghost use Rattle.ecma_parse_state.specs.Answers.{Gives, IsMemory, going_on};
+ghost use Rattle.ecma_tree.specs.Tree.{pack, tpl};
 ghost use Rattle.ecma_parse_state.specs.Codes.{code_of};
 ghost use Rattle.ecma_parse_state.specs.Fronts.{machine_of};
 ghost use Rattle.ecma_parse_state.specs.Stands.{from, from_span, stand};
 ghost use Rattle.ecma_parse_base.specs.Lists.{spans_of, FitSpans};
 ghost use Rattle.ecma_parse_base.specs.Operands.{tree_of};
-ghost use Rattle.ecma_parse_expr.specs.Pieces.{element_at};
-ghost use Rattle.ecma_syntax.specs.Operators.{call_level};
-ghost use Rattle.ecma_syntax.specs.Shape as shape;
+ghost use Rattle.ecma_parse_expr.specs.Pieces.{element_at, spans_by};
+ghost use Rattle.ecma_parse_expr.specs.Steps.{tagged_by};
 
 use ecma_node::{Tpl, TplElement};
 use ecma_parse_base::lists::Spans;
@@ -23,8 +23,9 @@ use ecma_parse_base::{Nested, Operand, literals, made};
 use ecma_parse_state::code::with_in;
 use ecma_parse_state::operators::EXPRESSION;
 use ecma_parse_state::{Around, Failure, Parser, kinds};
-use ecma_token::{BytePos, Token};
+use ecma_token::{BytePos, Span, Token};
 use ecma_tokens::Tokens;
+use std::alloc::Global;
 
 /// What ends the characters of a template: its end, or an expression. Whether more characters follow.
 #[inline(never)]
@@ -91,4 +92,80 @@ pub fn characters<'a, I: Tokens<'a> + Drop, N: Nested<'a, I>>(
     };
     let element = literals::tpl_element(p.alloc, span, raw, cooked)?;
     characters_end(p, nested, code, tagged, element, spans)
+}
+
+/// What stands in a template, after its first back quote.
+#[inline(never)]
+#[tactic(auto, using(ecma_parse_state::proofs::Iterate::iterates), unfolding(crate::specs::Pieces::spans_by))]
+pub fn spans<'a, I: Tokens<'a> + Drop, N: Nested<'a, I>>(
+    p: &mut Parser<'a, I>,
+    nested: &N,
+    code: Around,
+    tagged: bool,
+) -> Result<Spans, Failure>
+    requires ready { N.ready nested.now }
+    ensures value { Gives (λ x. (spans_of x, stand I.state p.new)) result (spans_by (machine_of I.machine) (N.reads nested.now I.State I.machine) (code_of code) tagged (stand I.state p.old)) }
+    ensures fits { IfOk result (λ x. FitSpans x) }
+    ensures shorter { IfOk result (λ _. spec.bound (machine_of I.machine) (stand I.state p.new) < spec.bound (machine_of I.machine) (stand I.state p.old)) }
+{
+    let mut spans = Spans {
+        exprs: Vec::new(p.alloc),
+        quasis: Vec::new(p.alloc),
+    };
+    'turns: while characters(p, nested, code, tagged, &mut spans)? {}
+    Ok(spans)
+}
+
+/// A template of what stands in it.
+#[tactic(auto, using(ecma_parse_base::proofs::Packs::packs))]
+fn template_of(alloc: Global, span: Span, read: Spans) -> Result<Box<Tpl>, Failure>
+    requires { FitSpans read }
+    ensures value { IfOk result (λ x. view_tpl inner x.value ≡ tpl span (pack (spans_of read).exprs) (pack (spans_of read).quasis)) }
+    ensures fits { IfOk result (λ x. fits_tpl (λ p. p) x.value) }
+    ensures full { IfErr result IsMemory }
+{
+    let node = Tpl {
+        span,
+        exprs: read.exprs,
+        quasis: read.quasis,
+    };
+    Ok(Box::new(alloc, node)?)
+}
+
+/// A template, from its first back quote on.
+#[inline(never)]
+#[tactic(auto, using(ecma_parse_state::proofs::Marks::marks), unfolding(ecma_reading::specs::Expressions::template_by, crate::specs::Pieces::spans_by))]
+pub fn template<'a, I: Tokens<'a> + Drop, N: Nested<'a, I>>(
+    p: &mut Parser<'a, I>,
+    nested: &N,
+    code: Around,
+    tagged: bool,
+) -> Result<Box<Tpl>, Failure>
+    requires ready { N.ready nested.now }
+    ensures value { Gives (λ x. (view_tpl inner x.value, stand I.state p.new)) result (reads.template_by (machine_of I.machine) (N.reads nested.now I.State I.machine) (code_of code) tagged (stand I.state p.old)) }
+    ensures fits { IfOk result (λ x. fits_tpl (λ p. p) x.value) }
+    ensures shorter { IfOk result (λ _. spec.bound (machine_of I.machine) (stand I.state p.new) < spec.bound (machine_of I.machine) (stand I.state p.old)) }
+{
+    let start = p.lo();
+    p.bump()?;
+    let read = spans(p, nested, code, tagged)?;
+    template_of(p.alloc, p.since(start), read)
+}
+
+/// A template behind its tag.
+#[inline(never)]
+#[tactic(auto, using(ecma_parse_state::proofs::Marks::marks), unfolding(crate::specs::Steps::tagged_by))]
+pub fn tagged<'a, I: Tokens<'a> + Drop, N: Nested<'a, I>>(
+    p: &mut Parser<'a, I>,
+    nested: &N,
+    code: Around,
+    start: BytePos,
+    tag: Operand,
+) -> Result<Operand, Failure>
+    requires ready { N.ready nested.now }
+    ensures value { Gives (λ x. (tree_of x, stand I.state p.new)) result (tagged_by (machine_of I.machine) (N.reads nested.now I.State I.machine) (code_of code) (from start.0) (tree_of tag) (stand I.state p.old)) }
+    ensures shorter { IfOk result (λ _. spec.bound (machine_of I.machine) (stand I.state p.new) < spec.bound (machine_of I.machine) (stand I.state p.old)) }
+{
+    let tpl = template(p, nested, code, true)?;
+    made::tagged_tpl(p.alloc, p.since(start), tag, tpl)
 }

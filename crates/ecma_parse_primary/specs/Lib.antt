@@ -1,0 +1,2 @@
+-- What the rules of primary expressions share.
+pub mod Words

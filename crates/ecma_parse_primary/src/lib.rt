@@ -1,0 +1,4 @@
+//! The rules of primary expressions and prefix operators.
+#![tactic(auto)]
+
+pub mod prefixes;
