@@ -295,3 +295,5 @@ pub use ecma_visit::Walk;
 pub use ecma_visit::Watch;
 pub use ecma_visit_mut::VisitMut;
 pub use ecma_visit_mut::VisitMutWith;
+pub use ecma_visit_mut::VisitMutWords;
+pub use ecma_visit_mut::Words;

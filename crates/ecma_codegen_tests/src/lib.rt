@@ -1,0 +1,11 @@
+//! Tests of the printer: trees built by hand, printed, and its settings.
+#![tactic(auto)]
+
+#[cfg(test)]
+mod faults;
+#[cfg(test)]
+mod programs;
+#[cfg(test)]
+mod settings;
+#[cfg(test)]
+mod trees;
