@@ -1,4 +1,5 @@
 //! The printer over a writer.
+ghost use Rattle.std.specs.Prelude.{◌≡◌};
 ghost use Rattle.ecma_layout.specs.Layout.{laid};
 ghost use Rattle.ecma_layout.specs.declared.look.Stand.TheVariants.{Alone};
 ghost use Rattle.ecma_node.specs.Placed.{inner};
@@ -33,6 +34,9 @@ impl<'a, S, W: WriteJs> Emitter<'a, S, W> {
     pub fn emit_program(&mut self, node: &Program) -> Result<(), EmitError>
         ensures value { Emits W.tells W.state (laid (settings.look_of self.old.cfg) Alone (node.now)) self.old.wr self.new.wr result }
         ensures keeps { Stays W.state W.failed_writes W.loans self.old.wr self.new.wr result }
+        ensures settings { self.new.cfg ≡ self.old.cfg }
+        ensures source { self.new.cm ≡ self.old.cm }
+        ensures comments { self.new.comments ≡ self.old.comments }
     {
         emit(node, &mut self.wr, look_of(self.cfg))
     }
@@ -41,6 +45,9 @@ impl<'a, S, W: WriteJs> Emitter<'a, S, W> {
     pub fn emit_module(&mut self, node: &Module) -> Result<(), EmitError>
         ensures value { Emits W.tells W.state (laid (settings.look_of self.old.cfg) Alone (view_module inner node.now)) self.old.wr self.new.wr result }
         ensures keeps { Stays W.state W.failed_writes W.loans self.old.wr self.new.wr result }
+        ensures settings { self.new.cfg ≡ self.old.cfg }
+        ensures source { self.new.cm ≡ self.old.cm }
+        ensures comments { self.new.comments ≡ self.old.comments }
     {
         emit(node, &mut self.wr, look_of(self.cfg))
     }
@@ -49,6 +56,9 @@ impl<'a, S, W: WriteJs> Emitter<'a, S, W> {
     pub fn emit_script(&mut self, node: &Script) -> Result<(), EmitError>
         ensures value { Emits W.tells W.state (laid (settings.look_of self.old.cfg) Alone (view_script inner node.now)) self.old.wr self.new.wr result }
         ensures keeps { Stays W.state W.failed_writes W.loans self.old.wr self.new.wr result }
+        ensures settings { self.new.cfg ≡ self.old.cfg }
+        ensures source { self.new.cm ≡ self.old.cm }
+        ensures comments { self.new.comments ≡ self.old.comments }
     {
         emit(node, &mut self.wr, look_of(self.cfg))
     }
@@ -57,6 +67,9 @@ impl<'a, S, W: WriteJs> Emitter<'a, S, W> {
     pub fn emit_module_item(&mut self, node: &ModuleItem) -> Result<(), EmitError>
         ensures value { Emits W.tells W.state (laid (settings.look_of self.old.cfg) Alone (view_module_item inner node.now)) self.old.wr self.new.wr result }
         ensures keeps { Stays W.state W.failed_writes W.loans self.old.wr self.new.wr result }
+        ensures settings { self.new.cfg ≡ self.old.cfg }
+        ensures source { self.new.cm ≡ self.old.cm }
+        ensures comments { self.new.comments ≡ self.old.comments }
     {
         emit(node, &mut self.wr, look_of(self.cfg))
     }
@@ -65,6 +78,9 @@ impl<'a, S, W: WriteJs> Emitter<'a, S, W> {
     pub fn emit_module_export_name(&mut self, node: &ModuleExportName) -> Result<(), EmitError>
         ensures value { Emits W.tells W.state (laid (settings.look_of self.old.cfg) Alone (view_module_export_name node.now)) self.old.wr self.new.wr result }
         ensures keeps { Stays W.state W.failed_writes W.loans self.old.wr self.new.wr result }
+        ensures settings { self.new.cfg ≡ self.old.cfg }
+        ensures source { self.new.cm ≡ self.old.cm }
+        ensures comments { self.new.comments ≡ self.old.comments }
     {
         emit(node, &mut self.wr, look_of(self.cfg))
     }
