@@ -1,0 +1,9 @@
+//! The outline of a tree: its nodes in parentheses, each with its kind, what it spells, and its place.
+#![tactic(auto)]
+
+mod line;
+mod names;
+mod words;
+
+pub use line::outline;
+pub use names::kind_name;
