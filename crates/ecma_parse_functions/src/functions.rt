@@ -1,8 +1,7 @@
 //! Parameters and functions.
-ghost use Rattle.std.specs.Prelude.{◌≡◌, ◌<◌, All, IfErr, IfOk, map};
-ghost use Rattle.ecma_syntax.specs.Input.{dots_at};
+ghost use Rattle.std.specs.Prelude.{◌≡◌, ◌<◌, All, IfOk, map};
 ghost use Rattle.ecma_node.specs.Fits.{fits_function, fits_param};
-ghost use Rattle.ecma_node.specs.Placed.{holds_pat, inner};
+ghost use Rattle.ecma_node.specs.Placed.{inner};
 ghost use Rattle.ecma_node.specs.View.{view_function, view_param};
 ghost use Rattle.ecma_reading.specs.Source as spec;
 ghost use Rattle.ecma_reading.specs.Expressions as reads;
@@ -17,7 +16,7 @@ use ecma_parse_base::Nested;
 use ecma_parse_state::code::{in_body, with_in};
 use ecma_parse_state::operators::ASSIGNMENT;
 use ecma_parse_state::{Around, Failure, Parser, kinds};
-use ecma_token::{BytePos, Span};
+use ecma_token::BytePos;
 use ecma_tokens::Tokens;
 
 /// A parameter: a pattern, with an initialiser or without, or a rest.
@@ -34,8 +33,8 @@ pub fn parameter<'a, I: Tokens<'a> + Drop, N: Nested<'a, I>>(
     ensures shorter { IfOk result (λ _. spec.bound (machine_of I.machine) (stand I.state p.new) < spec.bound (machine_of I.machine) (stand I.state p.old)) }
 {
     let start = p.lo();
-    let dots = p.place();
     if p.eat(kinds::DOT_DOT_DOT)? {
+        let dots = made::dots(start)?;
         let arg = nested.pat(p, with_in(code))?;
         return made::rest_param(p.alloc, p.since(start), dots, arg);
     }
@@ -125,14 +124,7 @@ pub fn function<'a, I: Tokens<'a> + Drop, N: Nested<'a, I>>(
     let inside = in_body(generator, is_async, code);
     let params = parameters(p, nested, inside)?;
     let body = nested.body(p, inside)?;
-    made::function(
-        p.alloc,
-        p.since(whole),
-        params,
-        body,
-        generator,
-        is_async,
-    )
+    made::function(p.alloc, p.since(whole), params, body, generator, is_async)
 }
 
 /// The one parameter of a setter, in its parentheses: no rest, and no comma behind it.

@@ -2,8 +2,9 @@
 ghost use Rattle.std.specs.Prelude.{◌≡◌, All, IfErr, IfOk, Some};
 ghost use Rattle.std.specs.Cow.{cow_str_bytes};
 ghost use Rattle.ecma_node.specs.Fits.{fits_block_stmt, fits_function, fits_param, fits_prop_name};
-ghost use Rattle.ecma_node.specs.Placed.{holds_expr, holds_pat, inner};
+ghost use Rattle.ecma_node.specs.Placed.{holds_pat, inner};
 ghost use Rattle.ecma_node.specs.View.{view_block_stmt, view_function, view_param, view_prop_name};
+ghost use Rattle.ecma_syntax.specs.Input.{dots_at};
 ghost use Rattle.ecma_tree.specs.Tree.{assign_pat, big_int_lit, function, none, number_lit, param, rest_pat, str_lit, trees_by};
 ghost use Rattle.ecma_parse_state.specs.Answers.{IsMemory};
 ghost use Rattle.ecma_parse_base.specs.Operands.{tree_of};
@@ -16,7 +17,7 @@ use ecma_node::{
 use ecma_number::NumValue;
 use ecma_parse_base::Operand;
 use ecma_parse_state::Failure;
-use ecma_token::{Span, Units};
+use ecma_token::{BytePos, Span, Units};
 use std::alloc::Global;
 
 /// A string as a key.
@@ -107,6 +108,24 @@ pub fn default_param(
     });
     let pat = PatBox::new(alloc, Pat { kind })?;
     Ok(param(alloc, span, pat))
+}
+
+/// The place of the dots that start here.
+///
+/// # Errors
+///
+/// Where no dots fit below the greatest place, as in no text, it answers as for want of memory.
+pub fn dots(start: BytePos) -> Result<Span, Failure>
+    ensures value { IfOk result (λ s. s ≡ dots_at start.0) }
+    ensures full { IfErr result IsMemory }
+{
+    let Some(end) = start.0.checked_add(3) else {
+        return Err(Failure::Memory);
+    };
+    Ok(Span {
+        lo: start,
+        hi: BytePos(end),
+    })
 }
 
 /// A rest parameter, whose dots stand in a place.
