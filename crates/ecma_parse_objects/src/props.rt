@@ -148,7 +148,7 @@ pub fn prop_end<'a, I: Tokens<'a> + Drop, N: Nested<'a, I>>(
 
 /// A property that starts with its key.
 #[inline(never)]
-#[tactic(auto, using(crate::proofs::Keyed::keyed_is), )]
+#[tactic(auto, using(crate::proofs::Keyed::keyed_is))]
 pub fn keyed<'a, I: Tokens<'a> + Drop, N: Nested<'a, I>>(
     p: &mut Parser<'a, I>,
     nested: &N,

@@ -1,4 +1,4 @@
-use Rattle.std.proofs.Common.{◌≡◌, ◌≤◌, ◌<◌, All, map}
+use Rattle.std.proofs.Common.{◌≡◌, ◌<◌, All, map}
 use Rattle.ecma_node.specs.Fits.{fits_param}
 use Rattle.ecma_node.specs.Placed.{inner}
 use Rattle.ecma_node.specs.View.{view_param}
