@@ -1,5 +1,6 @@
 -- No property is a spread.
 use Rattle.std.proofs.Common.{◌≡◌, false, refl}
+use Rattle.std.proofs.lemmas.List.Elements.{All-push}
 use Rattle.ecma_node.specs.Placed.{Placed, inner}
 use Rattle.ecma_node.specs.View.{view_prop}
 use Rattle.ecma_node.specs.declared.knot.Part.{Part}
@@ -14,3 +15,6 @@ no_spread (Prop.Assign x) = refl
 no_spread (Prop.Getter x) = refl
 no_spread (Prop.Setter x) = refl
 no_spread (Prop.Method x) = refl
+
+-- what holds of each part still does with one more
+pub ruleset grown = (All-push)
