@@ -1,0 +1,2 @@
+-- What the rules of blocks and bodies share.
+pub mod Lists

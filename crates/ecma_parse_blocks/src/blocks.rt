@@ -1,0 +1,103 @@
+//! Blocks.
+ghost use Rattle.std.specs.Prelude.{◌≡◌, ◌<◌, All, IfOk, map};
+ghost use Rattle.ecma_node.specs.Fits.{fits_block_stmt};
+ghost use Rattle.ecma_node.specs.Placed.{holds_stmt, inner};
+ghost use Rattle.ecma_node.specs.View.{view_block_stmt};
+ghost use Rattle.ecma_reading.specs.Source as spec;
+ghost use Rattle.ecma_reading.specs.Statements as reads;
+ghost use Rattle.ecma_parse_state.specs.Answers.{Gives, going_on};
+ghost use Rattle.ecma_parse_state.specs.Codes.{code_of};
+ghost use Rattle.ecma_parse_state.specs.Fronts.{machine_of};
+ghost use Rattle.ecma_parse_state.specs.Stands.{from, stand};
+ghost use Rattle.ecma_parse_blocks.specs.Lists.{block_items};
+
+use ecma_node::{BlockStmt, StmtBox};
+use ecma_parse_base::Nested;
+use ecma_parse_state::code::in_list;
+use ecma_parse_state::{Around, Failure, Parser, kinds};
+use ecma_token::BytePos;
+use ecma_tokens::Tokens;
+
+/// One more statement of a block, or its brace. Whether another may follow.
+#[inline(never)]
+#[tactic(auto, unfolding(ecma_reading::specs::Statements::block_step))]
+pub fn block_turn<'a, I: Tokens<'a> + Drop, N: Nested<'a, I>>(
+    p: &mut Parser<'a, I>,
+    nested: &N,
+    code: Around,
+    list: &mut Vec<StmtBox>,
+) -> Result<bool, Failure>
+    requires ready { N.ready nested.now }
+    requires fits { All (λ x. holds_stmt x.part.value) list.old.items }
+    ensures value { Gives (λ x. (going_on x (map (λ y. inner y.part.value) list.new.items), stand I.state p.new)) result (reads.block_step (machine_of I.machine) (N.reads nested.now I.State I.machine) (code_of code) (map (λ y. inner y.part.value) list.old.items) (stand I.state p.old)) }
+    ensures fits { IfOk result (λ _. All (λ x. holds_stmt x.part.value) list.new.items) }
+    ensures shorter { IfOk result (λ _. spec.bound (machine_of I.machine) (stand I.state p.new) < spec.bound (machine_of I.machine) (stand I.state p.old)) }
+{
+    if p.eat(kinds::RIGHT_BRACE)? {
+        return Ok(false);
+    }
+    let item = nested.stmt(p, in_list(code))?;
+    list.push(item)?;
+    Ok(true)
+}
+
+/// The statements of a block, after its first brace.
+#[inline(never)]
+#[tactic(auto, using(ecma_parse_state::proofs::Iterate::iterates), unfolding(crate::specs::Lists::block_items))]
+pub fn block_items<'a, I: Tokens<'a> + Drop, N: Nested<'a, I>>(
+    p: &mut Parser<'a, I>,
+    nested: &N,
+    code: Around,
+) -> Result<Vec<StmtBox>, Failure>
+    requires ready { N.ready nested.now }
+    ensures value { Gives (λ x. (map (λ y. inner y.part.value) x.items, stand I.state p.new)) result (block_items (machine_of I.machine) (N.reads nested.now I.State I.machine) (code_of code) (stand I.state p.old)) }
+    ensures fits { IfOk result (λ x. All (λ y. holds_stmt y.part.value) x.items) }
+    ensures shorter { IfOk result (λ _. spec.bound (machine_of I.machine) (stand I.state p.new) < spec.bound (machine_of I.machine) (stand I.state p.old)) }
+{
+    let mut list = Vec::new(p.alloc);
+    'turns: while block_turn(p, nested, code, &mut list)? {}
+    Ok(list)
+}
+
+/// A block, after its first brace.
+#[inline(never)]
+#[tactic(auto, using(ecma_parse_state::proofs::Marks::marks, ecma_parse_base::proofs::Packs::packs), unfolding(ecma_reading::specs::Statements::block_rest, crate::specs::Lists::block_items))]
+pub fn block_rest<'a, I: Tokens<'a> + Drop, N: Nested<'a, I>>(
+    p: &mut Parser<'a, I>,
+    nested: &N,
+    code: Around,
+    start: BytePos,
+) -> Result<BlockStmt, Failure>
+    requires ready { N.ready nested.now }
+    ensures value { Gives (λ x. (view_block_stmt inner x, stand I.state p.new)) result (reads.block_rest (machine_of I.machine) (N.reads nested.now I.State I.machine) (code_of code) (from start.0) (stand I.state p.old)) }
+    ensures fits { IfOk result (λ x. fits_block_stmt (λ p. p) x) }
+    ensures shorter { IfOk result (λ _. spec.bound (machine_of I.machine) (stand I.state p.new) < spec.bound (machine_of I.machine) (stand I.state p.old)) }
+{
+    let stmts = block_items(p, nested, code)?;
+    Ok(BlockStmt {
+        span: p.since(start),
+        stmts,
+    })
+}
+
+/// A block.
+#[inline(never)]
+#[tactic(auto, using(ecma_parse_state::proofs::Marks::marks, ecma_parse_base::proofs::Packs::packs), unfolding(ecma_reading::specs::Statements::block_by, ecma_reading::specs::Statements::block_rest, crate::specs::Lists::block_items))]
+pub fn block<'a, I: Tokens<'a> + Drop, N: Nested<'a, I>>(
+    p: &mut Parser<'a, I>,
+    nested: &N,
+    code: Around,
+) -> Result<BlockStmt, Failure>
+    requires ready { N.ready nested.now }
+    ensures value { Gives (λ x. (view_block_stmt inner x, stand I.state p.new)) result (reads.block_by (machine_of I.machine) (N.reads nested.now I.State I.machine) (code_of code) (stand I.state p.old)) }
+    ensures fits { IfOk result (λ x. fits_block_stmt (λ p. p) x) }
+    ensures shorter { IfOk result (λ _. spec.bound (machine_of I.machine) (stand I.state p.new) < spec.bound (machine_of I.machine) (stand I.state p.old)) }
+{
+    let start = p.lo();
+    p.expect(kinds::LEFT_BRACE)?;
+    let stmts = block_items(p, nested, code)?;
+    Ok(BlockStmt {
+        span: p.since(start),
+        stmts,
+    })
+}

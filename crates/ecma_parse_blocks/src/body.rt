@@ -1,0 +1,148 @@
+//! Bodies of functions, whose directives may turn them strict.
+ghost use Rattle.std.specs.Prelude.{◌≡◌, ◌<◌, IfOk};
+ghost use Rattle.ecma_syntax.specs.Shape as shape;
+ghost use Rattle.ecma_node.specs.Fits.{fits_block_stmt};
+ghost use Rattle.ecma_node.specs.Placed.{holds_stmt, inner};
+ghost use Rattle.ecma_node.specs.View.{view_block_stmt};
+ghost use Rattle.ecma_reading.specs.Source as spec;
+ghost use Rattle.ecma_reading.specs.Source.{go_on};
+ghost use Rattle.ecma_reading.specs.Statements as reads;
+ghost use Rattle.ecma_parse_state.specs.Answers.{Gives, going_on};
+ghost use Rattle.ecma_parse_state.specs.Codes.{code_of};
+ghost use Rattle.ecma_parse_state.specs.Fronts.{machine_of};
+ghost use Rattle.ecma_parse_state.specs.Stands.{stand};
+ghost use Rattle.ecma_parse_blocks.specs.Lists.{body_items, body_of, FitBody};
+
+use crate::lookahead::turned;
+use ecma_node::{BlockStmt, ExprKind, Lit, Stmt, StmtBox, StmtKind};
+use ecma_parse_base::Nested;
+use ecma_parse_state::code::{in_list, turned_strict};
+use ecma_parse_state::{Around, Failure, Parser, kinds};
+use ecma_tokens::Tokens;
+use std::convert::AsStr;
+
+/// The statements of a body so far, the code after them, and whether its directives may go on.
+#[derive(Drop)]
+pub struct BodySoFar {
+    pub items: Vec<StmtBox>,
+    pub code: Around,
+    pub starts: bool,
+}
+
+/// Whether a statement is the directive `use strict`, without an escape (ECMA-262, 11.2.1).
+fn is_use_strict(stmt: &Stmt) -> bool
+    ensures { result ≡ shape.is_use_strict stmt.now }
+{
+    match &stmt.kind {
+        StmtKind::Expr(x) => match &x.expr.get().kind {
+            ExprKind::Lit(Lit::Str(text)) => match &text.raw {
+                Some(raw) => { raw.as_str() == "\"use strict\"" || raw.as_str() == "'use strict'" }
+                None => false,
+            },
+            _ => false,
+        },
+        _ => false,
+    }
+}
+
+/// Whether a statement is a string without parentheses, as a directive is (ECMA-262, 11.2.1).
+fn is_directive(stmt: &Stmt) -> bool
+    ensures { result ≡ shape.is_directive stmt.now }
+{
+    match &stmt.kind {
+        StmtKind::Expr(x) => matches!(&x.expr.get().kind, ExprKind::Lit(Lit::Str(_))),
+        _ => false,
+    }
+}
+
+/// One more statement of a body. A directive may turn what follows strict.
+#[inline(never)]
+#[tactic(auto, unfolding(ecma_reading::specs::Statements::body_item))]
+pub fn item<'a, I: Tokens<'a> + Drop, N: Nested<'a, I>>(
+    p: &mut Parser<'a, I>,
+    nested: &N,
+    body: &mut BodySoFar,
+) -> Result<(), Failure>
+    requires ready { N.ready nested.now }
+    requires fits { FitBody body.old }
+    ensures value { Gives (λ _. (go_on (body_of body.new), stand I.state p.new)) result (reads.body_item (machine_of I.machine) (N.reads nested.now I.State I.machine) (body_of body.old) (stand I.state p.old)) }
+    ensures fits { IfOk result (λ _. FitBody body.new) }
+    ensures shorter { IfOk result (λ _. spec.bound (machine_of I.machine) (stand I.state p.new) < spec.bound (machine_of I.machine) (stand I.state p.old)) }
+{
+    let read = nested.stmt(p, in_list(body.code))?;
+    if body.starts && is_use_strict(read.get()) {
+        body.code = turned_strict(body.code);
+        turned(p, body.code.context);
+    } else {
+        body.starts = body.starts && is_directive(read.get());
+    }
+    body.items.push(read)?;
+    Ok(())
+}
+
+/// One more statement of a body, or its brace. Whether another may follow.
+#[inline(never)]
+#[tactic(auto, unfolding(ecma_reading::specs::Statements::body_step))]
+pub fn body_turn<'a, I: Tokens<'a> + Drop, N: Nested<'a, I>>(
+    p: &mut Parser<'a, I>,
+    nested: &N,
+    body: &mut BodySoFar,
+) -> Result<bool, Failure>
+    requires ready { N.ready nested.now }
+    requires fits { FitBody body.old }
+    ensures value { Gives (λ x. (going_on x (body_of body.new), stand I.state p.new)) result (reads.body_step (machine_of I.machine) (N.reads nested.now I.State I.machine) (body_of body.old) (stand I.state p.old)) }
+    ensures fits { IfOk result (λ _. FitBody body.new) }
+    ensures shorter { IfOk result (λ _. spec.bound (machine_of I.machine) (stand I.state p.new) < spec.bound (machine_of I.machine) (stand I.state p.old)) }
+{
+    if p.eat(kinds::RIGHT_BRACE)? {
+        return Ok(false);
+    }
+    item(p, nested, body)?;
+    Ok(true)
+}
+
+/// The statements of a body, after its first brace.
+#[inline(never)]
+#[tactic(auto, using(ecma_parse_state::proofs::Iterate::iterates), unfolding(crate::specs::Lists::body_items))]
+pub fn body_items<'a, I: Tokens<'a> + Drop, N: Nested<'a, I>>(
+    p: &mut Parser<'a, I>,
+    nested: &N,
+    code: Around,
+) -> Result<BodySoFar, Failure>
+    requires ready { N.ready nested.now }
+    ensures value { Gives (λ x. (body_of x, stand I.state p.new)) result (body_items (machine_of I.machine) (N.reads nested.now I.State I.machine) (code_of code) (stand I.state p.old)) }
+    ensures fits { IfOk result (λ x. FitBody x) }
+    ensures shorter { IfOk result (λ _. spec.bound (machine_of I.machine) (stand I.state p.new) < spec.bound (machine_of I.machine) (stand I.state p.old)) }
+{
+    let mut read = BodySoFar {
+        items: Vec::new(p.alloc),
+        code,
+        starts: true,
+    };
+    'turns: while body_turn(p, nested, &mut read)? {}
+    Ok(read)
+}
+
+/// A body. Behind it the source is told of the code around it again.
+#[inline(never)]
+#[tactic(auto, using(ecma_parse_state::proofs::Marks::marks, ecma_parse_base::proofs::Packs::packs), unfolding(ecma_reading::specs::Statements::body_by, crate::specs::Lists::body_items))]
+pub fn body<'a, I: Tokens<'a> + Drop, N: Nested<'a, I>>(
+    p: &mut Parser<'a, I>,
+    nested: &N,
+    code: Around,
+) -> Result<BlockStmt, Failure>
+    requires ready { N.ready nested.now }
+    ensures value { Gives (λ x. (view_block_stmt inner x, stand I.state p.new)) result (reads.body_by (machine_of I.machine) (N.reads nested.now I.State I.machine) (code_of code) (stand I.state p.old)) }
+    ensures fits { IfOk result (λ x. fits_block_stmt (λ p. p) x) }
+    ensures shorter { IfOk result (λ _. spec.bound (machine_of I.machine) (stand I.state p.new) < spec.bound (machine_of I.machine) (stand I.state p.old)) }
+{
+    let start = p.lo();
+    p.expect(kinds::LEFT_BRACE)?;
+    let read = body_items(p, nested, code)?;
+    let span = p.since(start);
+    turned(p, code.context);
+    Ok(BlockStmt {
+        span,
+        stmts: read.items,
+    })
+}

@@ -1,0 +1,8 @@
+//! Blocks and bodies, and the steps on the parser's state that they and what stands above them need.
+#![tactic(auto)]
+
+pub mod blocks;
+pub mod body;
+pub mod lookahead;
+
+pub use body::BodySoFar;
