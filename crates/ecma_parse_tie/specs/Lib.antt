@@ -1,0 +1,2 @@
+-- The tie of the rules.
+pub mod Nests

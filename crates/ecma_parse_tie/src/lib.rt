@@ -1,0 +1,8 @@
+//! The tie of the rules: each calls the others by one level less, and answers too deep at none.
+#![tactic(auto)]
+
+pub mod layer;
+pub mod rules;
+pub mod tie;
+
+pub use layer::{Inside, Layer, Stood};
