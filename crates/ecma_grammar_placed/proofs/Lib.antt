@@ -1,0 +1,8 @@
+mod Like
+mod Forms
+mod Expressions
+mod Functions
+mod Statements
+mod Modules
+mod Placed
+pub mod PlacedLemmas

@@ -1,0 +1,149 @@
+-- What tokens alone derive, they derive under the goals and in the contexts of its productions: by induction on the tree, a line a node.
+use Rattle.std.proofs.Common.{◌≡◌, ℕ, Bool, true, false, if◌then◌else◌, List, []}
+use Rattle.ecma_token.specs.Kinds.{null_kind, true_kind, false_kind, break_kind, continue_kind, this_kind}
+use Rattle.ecma_tree.specs.Tree.{Tree, Trees, script, es_module, import_decl, export_decl, named_export, export_default_decl, export_default_expr, export_all, import_named_specifier, import_default_specifier, import_star_as_specifier, export_namespace_specifier, export_named_specifier, block_stmt, empty_stmt, debugger_stmt, with_stmt, return_stmt, labeled_stmt, break_stmt, continue_stmt, if_stmt, switch_stmt, switch_case, throw_stmt, try_stmt, catch_clause, while_stmt, do_while_stmt, for_stmt, for_in_stmt, for_of_stmt, expr_stmt, class_decl, fn_decl, var_decl, using_decl, var_declarator, function, param, class, constructor, class_method, private_method, class_prop, private_prop, static_block, auto_accessor, ident_name, computed_prop_name, private_name, this_expr, array_lit, object_lit, fn_expr, unary_expr, update_expr, bin_expr, assign_expr, member_expr, super_prop_expr, cond_expr, call_expr, new_expr, seq_expr, ident, tpl, tpl_element, tagged_tpl, arrow_expr, class_expr, yield_expr, meta_prop_expr, await_expr, paren_expr, opt_chain_expr, opt_call, super, import, expr_or_spread, spread_element, key_value_prop, assign_prop, getter_prop, setter_prop, method_prop, str_lit, bool_lit, null_lit, number_lit, big_int_lit, regex_lit, binding_ident, array_pat, rest_pat, object_pat, assign_pat, key_value_pat_prop, assign_pat_prop, expr_pat, list, absent, none, more}
+use Rattle.ecma_syntax.specs.Input.{Input, Code}
+use Rattle.ecma_syntax.specs.Operators.{expression_level, assignment_level}
+use Rattle.ecma_syntax.specs.Shape.{is_private, is_item, function_parts, class_span, is_key, declarators_end}
+use Rattle.ecma_grammar.specs.Parts.{Part, part, is_module_item}
+use Rattle.ecma_grammar.specs.Expressions.{Bracketed, AccessedName, Dotted}
+use Rattle.ecma_grammar.specs.Statements.{HeadVariables, HeadUsing, HeadTarget, OfTarget}
+use Rattle.ecma_grammar.specs.Grammar.{Spells, parts}
+use Rattle.ecma_grammar_placed.specs.Laws.{placing}
+use Rattle.ecma_grammar_placed.proofs.Like.{Moves}
+use Rattle.ecma_grammar_placed.proofs.Forms.{Moved, AllMoved}
+use Rattle.ecma_grammar_placed.proofs.Expressions.{keyword, identifier, identifier_name, private, string, number, big_int, regexp, element, array, object, property, cover, spread, bracketed, characters, template, parens, accessed, dotted, member, super_property, call, super_call, import_call, new_with, new_bare, chain_member, chain_call, tagged, meta_property, update, unary, awaits, binary, conditional, assignment, sequence, yield_bare, yields, array_pattern, object_pattern, initialised, rests, keyed_item, named_item}
+use Rattle.ecma_grammar_placed.proofs.Functions.{parameter, function_on, function_declaration, function_expression, arrow_block, arrow_expression, object_method, getter, setter, class_tail, class_declaration, class_expression, constructs_on, class_method_on, field, accessor, static_block_on}
+use Rattle.ecma_grammar_placed.proofs.Statements.{block, empty, debugger, declarator, variables, using_on, expression_statement, if_on, do_while, while_on, for_expression, for_variables, for_using, head_variables, head_using, head_target, of_target, for_in, for_of, jump, return_on, throw_on, with_on, labelled, case_on, switch_on, catch_on, try_on}
+use Rattle.ecma_grammar_placed.proofs.Modules.{named_import, default_import, star_import, import_on, named_export_on, star_export, exports_on, export_all_on, export_declaration, default_declaration, default_expression, program}
+
+module _ (p : Bool) where
+  mutual
+    pub move : (t : Tree) (c : Code) → Moves p (Spells t c) (Spells t (placing p c))
+    move (this_expr s) c = keyword p this_kind c s
+    move (null_lit s) c = keyword p null_kind c s
+    move (bool_lit s v) c = keyword p (if v then true_kind else false_kind) c s
+    move (ident s n) c = identifier p c s n
+    move (ident_name s n) c = identifier_name p c s n
+    move (private_name s n) c = private p c s n
+    move (str_lit s u w) c = string p c s u w
+    move (number_lit s v w) c = number p c s v w
+    move (big_int_lit s b d w) c = big_int p c s b d w
+    move (regex_lit s e f) c = regexp p c s e f
+    move (expr_or_spread s d e) c = element p c s d (part e (λ y. Spells e y)) (move e)
+    move (array_lit s xs) c = array p c s (parts xs) (moves xs)
+    move (object_lit s ps) c = object p c s (parts ps) (moves ps)
+    move (key_value_prop s k v) c = property p c s (part k (λ y. Spells k y)) (part v (λ y. Spells v y)) (move k) (move v)
+    move (assign_prop s k e) c = cover p c s (part k (λ y. Spells k y)) (part e (λ y. Spells e y)) (move k) (move e)
+    move (spread_element s e) c = spread p c s (part e (λ y. Spells e y)) (move e)
+    move (computed_prop_name s e) c = bracketed p assignment_level c s (part e (λ y. Spells e y)) (move e)
+    move (tpl_element s t w u) c = characters p c s t w u
+    move (tpl s es qs) c = template p false c s (parts es) (parts qs) (moves es) (moves qs)
+    move (paren_expr s e) c = parens p c s (part e (λ y. Spells e y)) (move e)
+    move (member_expr s o (computed_prop_name t e)) c = member p c s (part o (λ y. Spells o y)) (Bracketed expression_level c t (part e (λ y. Spells e y))) (Bracketed expression_level (placing p c) t (part e (λ y. Spells e y))) (move o) (bracketed p expression_level c t (part e (λ y. Spells e y)) (move e))
+    move (member_expr s o k) c = member p c s (part o (λ y. Spells o y)) (Dotted true c (part k (λ y. Spells k y))) (Dotted true (placing p c) (part k (λ y. Spells k y))) (move o) (dotted p true c (part k (λ y. Spells k y)) (move k))
+    move (super_prop_expr s (super t) (computed_prop_name q e)) c = super_property p c s t (Bracketed expression_level c q (part e (λ y. Spells e y))) (Bracketed expression_level (placing p c) q (part e (λ y. Spells e y))) (bracketed p expression_level c q (part e (λ y. Spells e y)) (move e))
+    move (super_prop_expr s (super t) k) c = super_property p c s t (Dotted false c (part k (λ y. Spells k y))) (Dotted false (placing p c) (part k (λ y. Spells k y))) (dotted p false c (part k (λ y. Spells k y)) (move k))
+    move (super_prop_expr s _ k) c = λ ts r o h g. absurd h
+    move (call_expr s (super t) xs) c = super_call p c s t (parts xs) (moves xs)
+    move (call_expr s (import t) xs) c = import_call p c s t (parts xs) (moves xs)
+    move (call_expr s f xs) c = call p c s (part f (λ y. Spells f y)) (parts xs) (move f) (moves xs)
+    move (new_expr s f absent) c = new_bare p c s (part f (λ y. Spells f y)) (move f)
+    move (new_expr s f (list xs)) c = new_with p c s (part f (λ y. Spells f y)) (parts xs) (move f) (moves xs)
+    move (new_expr s f _) c = λ ts r o h g. absurd h
+    move (opt_chain_expr s q (member_expr t o (computed_prop_name b e))) c = chain_member p c s q t (part o (λ y. Spells o y)) (Bracketed expression_level c b (part e (λ y. Spells e y))) (Bracketed expression_level c b (part e (λ y. Spells e y))) (Bracketed expression_level (placing p c) b (part e (λ y. Spells e y))) (Bracketed expression_level (placing p c) b (part e (λ y. Spells e y))) (move o) (bracketed p expression_level c b (part e (λ y. Spells e y)) (move e)) (bracketed p expression_level c b (part e (λ y. Spells e y)) (move e))
+    move (opt_chain_expr s q (member_expr t o k)) c = chain_member p c s q t (part o (λ y. Spells o y)) (Dotted true c (part k (λ y. Spells k y))) (AccessedName true c (part k (λ y. Spells k y))) (Dotted true (placing p c) (part k (λ y. Spells k y))) (AccessedName true (placing p c) (part k (λ y. Spells k y))) (move o) (dotted p true c (part k (λ y. Spells k y)) (move k)) (accessed p true c (part k (λ y. Spells k y)) (move k))
+    move (opt_chain_expr s q (opt_call t f xs)) c = chain_call p c s q t (part f (λ y. Spells f y)) (parts xs) (move f) (moves xs)
+    move (opt_chain_expr s q _) c = λ ts r o h g. absurd h
+    move (tagged_tpl s t (tpl q es qs)) c = tagged p c s (part t (λ y. Spells t y)) q (parts es) (parts qs) (move t) (moves es) (moves qs)
+    move (tagged_tpl s t _) c = λ ts r o h g. absurd h
+    move (meta_prop_expr s k) c = meta_property p c s k
+    move (update_expr s op b a) c = update p c s op b (part a (λ y. Spells a y)) (move a)
+    move (unary_expr s op a) c = unary p c s op (part a (λ y. Spells a y)) (move a)
+    move (await_expr s a) c = awaits p c s (part a (λ y. Spells a y)) (move a)
+    move (bin_expr s op a b) c = binary p c s op (part a (λ y. Spells a y)) (part b (λ y. Spells b y)) (move a) (move b)
+    move (cond_expr s a b d) c = conditional p c s (part a (λ y. Spells a y)) (part b (λ y. Spells b y)) (part d (λ y. Spells d y)) (move a) (move b) (move d)
+    move (assign_expr s op a b) c = assignment p c s op (part a (λ y. Spells a y)) (part b (λ y. Spells b y)) (move a) (move b)
+    move (arrow_expr s ps (block_stmt b ss) i) c = arrow_block p c s (parts ps) b (parts ss) i (moves ps) (moves ss)
+    move (arrow_expr s ps e i) c = arrow_expression p c s (parts ps) (part e (λ y. Spells e y)) i (moves ps) (move e)
+    move (yield_expr s absent g) c = λ ts r o h g. let z = yield_bare p c s ts r o h.1 g in (z.0, z.1, (h.0, z.2))
+    move (yield_expr s a g) c = yields p c s (part a (λ y. Spells a y)) g (move a)
+    move (seq_expr s xs) c = sequence p c s (parts xs) (moves xs)
+    move (binding_ident s (ident t n)) c = λ ts r o h g. let z = identifier p c s n ts r o h.1 g in (z.0, z.1, (h.0, z.2))
+    move (binding_ident s _) c = λ ts r o h g. absurd h
+    move (array_pat s xs) c = array_pattern p c s (parts xs) (moves xs)
+    move (object_pat s ps) c = object_pattern p c s (parts ps) (moves ps)
+    move (assign_pat s a e) c = initialised p c s (part a (λ y. Spells a y)) (part e (λ y. Spells e y)) (move a) (move e)
+    move (rest_pat s d a) c = rests p c s d (part a (λ y. Spells a y)) (move a)
+    move (key_value_pat_prop s k a) c = keyed_item p c s (part k (λ y. Spells k y)) (part a (λ y. Spells a y)) (move k) (move a)
+    move (assign_pat_prop s k e) c = named_item p c s (part k (λ y. Spells k y)) (part e (λ y. Spells e y)) (move k) (move e)
+    move (expr_pat e) c = move e c
+    move (param s ds a) c = parameter p c s (parts ds) (part a (λ y. Spells a y)) (move a)
+    move (function s ps ds (block_stmt b ss) g a) c = function_on p c (parts ps) (parts ds) b (parts ss) g a (moves ps) (moves ss)
+    move (function s ps ds _ g a) c = λ ts r o h g. absurd h
+    move (fn_decl s n f) c = function_declaration p c s (part n (λ y. Spells n y)) (part f (λ y. Spells f y)) (function_parts f) (move n) (move f)
+    move (fn_expr s n f) c = function_expression p c s (part n (λ y. Spells n y)) (part f (λ y. Spells f y)) (function_parts f) (move n) (move f)
+    move (method_prop s k f) c = object_method p c s (part k (λ y. Spells k y)) (part f (λ y. Spells f y)) (function_parts f) (move k) (move f)
+    move (getter_prop s k (block_stmt b ss)) c = getter p c s (part k (λ y. Spells k y)) b (parts ss) (move k) (moves ss)
+    move (getter_prop s k _) c = λ ts r o h g. absurd h
+    move (setter_prop s k a (block_stmt b ss)) c = setter p c s (part k (λ y. Spells k y)) (part a (λ y. Spells a y)) b (parts ss) (move k) (move a) (moves ss)
+    move (setter_prop s k a _) c = λ ts r o h g. absurd h
+    move (class s ds ms k) c = class_tail p c (parts ds) (parts ms) (part k (λ y. Spells k y)) (moves ms) (move k)
+    move (class_decl s n k) c = class_declaration p c s (part n (λ y. Spells n y)) (part k (λ y. Spells k y)) (class_span k) (move n) (move k)
+    move (class_expr s n k) c = class_expression p c s (part n (λ y. Spells n y)) (part k (λ y. Spells k y)) (class_span k) (move n) (move k)
+    move (constructor s k ps (block_stmt b ss)) c = constructs_on p c s (part k (λ y. Spells k y)) (parts ps) b (parts ss) (move k) (moves ps) (moves ss)
+    move (constructor s k ps _) c = λ ts r o h g. absurd h
+    move (class_method s k f m i) c = class_method_on p is_key c s (part k (λ y. Spells k y)) (part f (λ y. Spells f y)) (function_parts f) m i (move k) (move f)
+    move (private_method s k f m i) c = class_method_on p is_private c s (part k (λ y. Spells k y)) (part f (λ y. Spells f y)) (function_parts f) m i (move k) (move f)
+    move (class_prop s k v i ds) c = field p is_key c s (part k (λ y. Spells k y)) (part v (λ y. Spells v y)) i (parts ds) (move k) (move v)
+    move (private_prop s k v i ds) c = field p is_private c s (part k (λ y. Spells k y)) (part v (λ y. Spells v y)) i (parts ds) (move k) (move v)
+    move (auto_accessor s k v i ds) c = accessor p c s (part k (λ y. Spells k y)) (part v (λ y. Spells v y)) i (parts ds) (move k) (move v)
+    move (static_block s (block_stmt b ss)) c = static_block_on p c s b (parts ss) (moves ss)
+    move (static_block s _) c = λ ts r o h g. absurd h
+    move (block_stmt s ss) c = block p c s (parts ss) (moves ss)
+    move (empty_stmt s) c = empty p c s
+    move (debugger_stmt s) c = debugger p c s
+    move (var_decl s k ds) c = variables p c s k (declarators_end ds) (parts ds) (moves ds)
+    move (using_decl s w ds) c = using_on p c s w (declarators_end ds) (parts ds) (moves ds)
+    move (var_declarator s n e) c = declarator p c s (part n (λ y. Spells n y)) (part e (λ y. Spells e y)) (move n) (move e)
+    move (expr_stmt s e) c = expression_statement p c s (part e (λ y. Spells e y)) (move e)
+    move (if_stmt s t a b) c = if_on p c s (part t (λ y. Spells t y)) (part a (λ y. Spells a y)) (part b (λ y. Spells b y)) (move t) (move a) (move b)
+    move (do_while_stmt s t b) c = do_while p c s (part t (λ y. Spells t y)) (part b (λ y. Spells b y)) (move t) (move b)
+    move (while_stmt s t b) c = while_on p c s (part t (λ y. Spells t y)) (part b (λ y. Spells b y)) (move t) (move b)
+    move (for_stmt s (var_decl v k ds) t u b) c = for_variables p c s v k (parts ds) (part t (λ y. Spells t y)) (part u (λ y. Spells u y)) (part b (λ y. Spells b y)) (moves ds) (move t) (move u) (move b)
+    move (for_stmt s (using_decl v w ds) t u b) c = for_using p c s v w (parts ds) (part t (λ y. Spells t y)) (part u (λ y. Spells u y)) (part b (λ y. Spells b y)) (moves ds) (move t) (move u) (move b)
+    move (for_stmt s i t u b) c = for_expression p c s (part i (λ y. Spells i y)) (part t (λ y. Spells t y)) (part u (λ y. Spells u y)) (part b (λ y. Spells b y)) (move i) (move t) (move u) (move b)
+    move (for_in_stmt s (var_decl v k ds) e b) c = for_in p c s (HeadVariables c v k (parts ds)) (HeadVariables (placing p c) v k (parts ds)) (part e (λ y. Spells e y)) (part b (λ y. Spells b y)) (head_variables p c v k (parts ds) (moves ds)) (move e) (move b)
+    move (for_in_stmt s (using_decl v w ds) e b) c = for_in p c s (HeadUsing c v w (parts ds)) (HeadUsing (placing p c) v w (parts ds)) (part e (λ y. Spells e y)) (part b (λ y. Spells b y)) (head_using p c v w (parts ds) (moves ds)) (move e) (move b)
+    move (for_in_stmt s a e b) c = for_in p c s (HeadTarget c (part a (λ y. Spells a y))) (HeadTarget (placing p c) (part a (λ y. Spells a y))) (part e (λ y. Spells e y)) (part b (λ y. Spells b y)) (head_target p c (part a (λ y. Spells a y)) (move a)) (move e) (move b)
+    move (for_of_stmt s w (var_decl v k ds) e b) c = for_of p c s w (HeadVariables c v k (parts ds)) (HeadVariables (placing p c) v k (parts ds)) (part e (λ y. Spells e y)) (part b (λ y. Spells b y)) (head_variables p c v k (parts ds) (moves ds)) (move e) (move b)
+    move (for_of_stmt s w (using_decl v i ds) e b) c = for_of p c s w (HeadUsing c v i (parts ds)) (HeadUsing (placing p c) v i (parts ds)) (part e (λ y. Spells e y)) (part b (λ y. Spells b y)) (head_using p c v i (parts ds) (moves ds)) (move e) (move b)
+    move (for_of_stmt s w a e b) c = for_of p c s w (OfTarget c w (part a (λ y. Spells a y))) (OfTarget (placing p c) w (part a (λ y. Spells a y))) (part e (λ y. Spells e y)) (part b (λ y. Spells b y)) (of_target p c w (part a (λ y. Spells a y)) (move a)) (move e) (move b)
+    move (continue_stmt s l) c = jump p continue_kind c s (part l (λ y. Spells l y)) (move l)
+    move (break_stmt s l) c = jump p break_kind c s (part l (λ y. Spells l y)) (move l)
+    move (return_stmt s e) c = return_on p c s (part e (λ y. Spells e y)) (move e)
+    move (with_stmt s e b) c = with_on p c s (part e (λ y. Spells e y)) (part b (λ y. Spells b y)) (move e) (move b)
+    move (switch_stmt s e xs) c = switch_on p c s (part e (λ y. Spells e y)) (parts xs) (move e) (moves xs)
+    move (switch_case s t ss) c = case_on p c s (part t (λ y. Spells t y)) (parts ss) (move t) (moves ss)
+    move (labeled_stmt s l b) c = labelled p c s (part l (λ y. Spells l y)) (part b (λ y. Spells b y)) (move l) (move b)
+    move (throw_stmt s e) c = throw_on p c s (part e (λ y. Spells e y)) (move e)
+    move (try_stmt s b h f) c = try_on p c s (part b (λ y. Spells b y)) (part h (λ y. Spells h y)) (part f (λ y. Spells f y)) (move b) (move h) (move f)
+    move (catch_clause s a b) c = catch_on p c s (part a (λ y. Spells a y)) (part b (λ y. Spells b y)) (move a) (move b)
+    move (import_decl s xs f w) c = import_on p c s (parts xs) (part f (λ y. Spells f y)) (part w (λ y. Spells w y)) (moves xs) (move f) (move w)
+    move (import_named_specifier s l i) c = named_import p c s (part l (λ y. Spells l y)) (part i (λ y. Spells i y)) (move l) (move i)
+    move (import_default_specifier s l) c = default_import p c s (part l (λ y. Spells l y)) (move l)
+    move (import_star_as_specifier s l) c = star_import p c s (part l (λ y. Spells l y)) (move l)
+    move (named_export s xs f w) c = exports_on p c s (parts xs) (part f (λ y. Spells f y)) (part w (λ y. Spells w y)) (moves xs) (move f) (move w)
+    move (export_named_specifier s o e) c = named_export_on p c s (part o (λ y. Spells o y)) (part e (λ y. Spells e y)) (move o) (move e)
+    move (export_namespace_specifier s n) c = star_export p c s (part n (λ y. Spells n y)) (move n)
+    move (export_all s f w) c = export_all_on p c s (part f (λ y. Spells f y)) (part w (λ y. Spells w y)) (move f) (move w)
+    move (export_decl s d) c = export_declaration p c s (part d (λ y. Spells d y)) (move d)
+    move (export_default_decl s d) c = default_declaration p c s (part d (λ y. Spells d y)) (move d)
+    move (export_default_expr s e) c = default_expression p c s (part e (λ y. Spells e y)) (move e)
+    move (script s ss l) c = program p is_item c s l (parts ss) (moves ss)
+    move (es_module s ss l) c = program p is_module_item c s l (parts ss) (moves ss)
+    move _ c = λ ts r o h g. absurd h
+
+    pub moves : (ts : Trees) → AllMoved p (parts ts)
+    moves none = tt
+    moves (more t ts) = (move t, moves ts)
