@@ -208,10 +208,10 @@ function tree(text, module) {
     }
     throw new Error("statement " + n.type);
   }
-  let lo = tokens.length && tokens[0].end > tokens[0].start ? tokens[0].start : 0;
-  let hi = program.body.length ? program.body[program.body.length - 1].end : 0;
-  if (text.startsWith("#!")) { lo = 0; const m = /^#![^\n\r\u2028\u2029]*/.exec(text); if (!program.body.length) hi = m[0].length; }
-  return node(module ? "Module" : "Script", lo, hi, list(program.body, stmt));
+  const line = /^#!([^\n\r\u2028\u2029]*)/.exec(text);
+  const lo = line || !tokens.length ? 0 : tokens[0].start;
+  const hi = program.body.length ? program.body[program.body.length - 1].end : line ? line[0].length : 0;
+  return node(kindOf(module ? "Module" : "Script", line && esc(line[1])), lo, hi, list(program.body, stmt));
 }
 // The tree that acorn reads, or its fault.
 function answer(text, module) {
@@ -228,29 +228,35 @@ const grammar = [/^Unexpected token/, /^'import' and 'export'/, /^Assigning to r
   /^Cannot use keyword 'await'/, /^Cannot use 'import.meta'/, /^Parenthesized pattern/, /^Logical expressions and/, /^setter should/, /^Cannot use '(yield|await)' as identifier/, /^Optional chaining/,
   /^for-(in|of) loop variable/, /^getter should/, /^Setter cannot/, /^Object pattern can't/, /^Bad escape/, /^Cannot use new with/, /^Rest elements/, /^Cannot use await in class/, /^Private identifier can only/, /^Unexpected character/,
   /^Unterminated template/, /^The only valid meta/, /^Trailing comma is not/, /^Only '='/, /^Illegal newline/, /^Multiple default/, /^Missing catch/, /^The left-hand side of a for-of/, /^Binding rvalue/, /^A string literal cannot/, /^Await expression cannot be/];
-const trees = { both: [], script: [], module: [] }, refused = { both: [], script: [], module: [] }, left = [];
-let group = "";
+const left = [], modes = ["both", "script", "module"];
+// rows by their settings
+const sets = (...words) => Object.fromEntries(words.flatMap((w) => modes.map((m) => [`${m} ${w}`, []])));
+const trees = sets("tree"), refused = sets("refused place", "refused");
 const seen = new Set();
 for (const line of fs.readFileSync(path.join(__dirname, "texts.txt"), "utf8").split("\n")) {
-  if (line.startsWith("# ")) { group = line; for (const x of [trees, refused]) for (const k in x) x[k].push(line); continue; }
+  if (line.startsWith("# ")) {
+    for (const x of [trees, refused]) for (const k in x) x[k].push(line);
+    continue;
+  }
   if (line === "" || seen.has(line)) continue; seen.add(line);
   const [s, m] = [false, true].map((x) => answer(unesc(line), x));
   // an unexpected token is told with its place
-  const told = (a) => (/^Unexpected token/.test(a.fault) ? ` → refused ${a.at}` : ` → refused`);
+  const isToken = (a) => /^Unexpected token/.test(a.fault);
+  const told = (a) => (isToken(a) ? ` → ${a.at}` : " → refused"), how = (a) => (isToken(a) ? "refused place" : "refused");
   const isRefused = (a) => a.fault && grammar.some((g) => g.test(a.fault));
   const shown = /^(#|@)( |$)/.test(line) || line[0] === "→" || line.startsWith("  ") ? line.replace(/^./, (c) => "«U+" + c.codePointAt(0).toString(16) + "»") : line.trim() === "" ? "«SP»" : line;
-  if (s.tree && m.tree && s.tree.replace("(Script", "(Module") === m.tree) { trees.both.push(`${shown} → ${s.tree}`); continue; }
-  if (isRefused(s) && isRefused(m) && told(s) === told(m)) { refused.both.push(shown + told(s)); continue; }
+  if (s.tree && m.tree && s.tree.replace("(Script", "(Module") === m.tree) { trees["both tree"].push(`${shown} → ${s.tree}`); continue; }
+  if (isRefused(s) && isRefused(m) && told(s) === told(m)) { refused[`both ${how(s)}`].push(shown + told(s)); continue; }
   for (const [a, k] of [[s, "script"], [m, "module"]]) {
-    if (a.tree) trees[k].push(`${shown} → ${a.tree}`);
-    else if (isRefused(a)) refused[k].push(shown + told(a));
+    if (a.tree) trees[`${k} tree`].push(`${shown} → ${a.tree}`);
+    else if (isRefused(a)) refused[`${k} ${how(a)}`].push(shown + told(a));
     else left.push(`${k}\t${shown}\t${a.fault}`);
   }
 }
 const tidy = (xs) => xs.filter((x, i) => !(x.startsWith("# ") && (i + 1 === xs.length || xs[i + 1].startsWith("# "))));
-const file = (head, sets, f) => head + ["both", "script", "module"].filter((k) => tidy(sets[k]).length).map((k) => `\n@ ${k}\n` + tidy(sets[k]).map(f).join("\n") + "\n").join("");
-fs.writeFileSync(path.join(process.argv[3], "trees.rows"), file("# Texts and their trees, each as acorn reads it: as a script and as a module alike, as a script, as a module. `tools/rows` made them.\n", trees, (x) => x));
-fs.writeFileSync(path.join(process.argv[3], "refused.rows"), file("# Texts that acorn refuses for their grammar: as a script and as a module, as a script, as a module. Where it finds a token\n# unexpected, its place stands behind. `tools/rows` made them.\n", refused, (x) => x));
+const file = (head, sets) => head + Object.keys(sets).filter((k) => tidy(sets[k]).length).map((k) => `\n@ ${k}\n${tidy(sets[k]).join("\n")}\n`).join("");
+fs.writeFileSync(path.join(process.argv[3], "trees.rows"), file("# Texts and their trees, each as acorn reads it: as a script and as a module alike, as a script, as a module. `tools/rows` made them.\n", trees));
+fs.writeFileSync(path.join(process.argv[3], "refused.rows"), file("# Texts that acorn refuses for their grammar: as a script and as a module, as a script, as a module. Where it finds a token\n# unexpected, the row has that token's place. `tools/rows` made them.\n", refused));
 console.log(left.join("\n"));
 const count = (x) => Object.values(x).flat().filter((l) => !l.startsWith("# ")).length;
 console.log(`${count(trees)} trees, ${count(refused)} refused, ${left.length} by hand`);
