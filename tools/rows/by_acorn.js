@@ -209,7 +209,7 @@ function tree(text, module) {
     throw new Error("statement " + n.type);
   }
   const line = /^#!([^\n\r\u2028\u2029]*)/.exec(text);
-  const lo = line || !tokens.length ? 0 : tokens[0].start;
+  const first = tokens.find((t) => t.end > t.start), lo = line || !first ? 0 : first.start;
   const hi = program.body.length ? program.body[program.body.length - 1].end : line ? line[0].length : 0;
   return node(kindOf(module ? "Module" : "Script", line && esc(line[1])), lo, hi, list(program.body, stmt));
 }
