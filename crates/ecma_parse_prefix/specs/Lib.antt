@@ -1,0 +1,2 @@
+-- The branches of what starts an expression, named.
+pub mod Words

@@ -1,0 +1,61 @@
+//! `import` in an expression: a call, or `import.meta` (ECMA-262, 13.3.10 and 13.3.12).
+ghost use Rattle.std.specs.Prelude.{◌≡◌, ◌<◌, false, true, IfOk};
+ghost use Rattle.ecma_reading.specs.Source as spec;
+ghost use Rattle.ecma_reading.specs.Expressions as reads;
+ghost use Rattle.ecma_parse_state.specs.Answers.{Gives};
+ghost use Rattle.ecma_parse_state.specs.Codes.{code_of};
+ghost use Rattle.ecma_parse_state.specs.Fronts.{machine_of};
+ghost use Rattle.ecma_parse_state.specs.Stands.{stand};
+ghost use Rattle.ecma_parse_base.specs.Operands.{tree_of};
+ghost use Rattle.ecma_parse_base.specs.Lists.{arguments_of};
+
+use ecma_node::MetaPropKind;
+use ecma_parse_base::lists::Arguments;
+use ecma_parse_base::{Nested, Operand, made};
+use ecma_parse_expr::lists::group_items;
+use ecma_parse_state::{Around, Failure, Parser, kinds};
+use ecma_tokens::Tokens;
+
+/// Whether a call of `import` takes these arguments: one, which no dots spread; with import attributes two, and a last comma.
+pub fn fits_import<'a, I: Tokens<'a> + Drop, N: Nested<'a, I>>(
+    _p: &Parser<'a, I>,
+    _nested: &N,
+    code: Around,
+    list: &Arguments,
+) -> bool
+    ensures { result ≡ reads.fits_import (machine_of I.machine) (N.reads _nested.now I.State I.machine) (code_of code) (arguments_of list.now) }
+{
+    let attributes = code.syntax.import_attributes;
+    match list.items.as_slice() {
+        [one] => one.spread.is_none() && (attributes || !list.comma),
+        [one, two] => attributes && one.spread.is_none() && two.spread.is_none(),
+        _ => false,
+    }
+}
+
+/// `import` with its arguments, or `import.meta`.
+#[inline(never)]
+#[tactic(auto, using(ecma_parse_state::proofs::Marks::marks, ecma_parse_base::proofs::Packs::packs), unfolding(ecma_reading::specs::Expressions::import_by))]
+pub fn import<'a, I: Tokens<'a> + Drop, N: Nested<'a, I>>(
+    p: &mut Parser<'a, I>,
+    nested: &N,
+    code: Around,
+) -> Result<Operand, Failure>
+    requires ready { N.ready nested.now }
+    ensures value { Gives (λ x. (tree_of x, stand I.state p.new)) result (reads.import_by (machine_of I.machine) (N.reads nested.now I.State I.machine) (code_of code) (stand I.state p.old)) }
+    ensures shorter { IfOk result (λ _. spec.bound (machine_of I.machine) (stand I.state p.new) < spec.bound (machine_of I.machine) (stand I.state p.old)) }
+{
+    let start = p.lo();
+    let place = p.place();
+    p.eat_word(code, kinds::IMPORT)?;
+    if p.eat(kinds::DOT)? {
+        p.eat_word(code, kinds::META)?;
+        return made::meta_prop_expr(p.alloc, p.since(start), MetaPropKind::ImportMeta);
+    }
+    p.expect(kinds::LEFT_PAREN)?;
+    let list = group_items(p, nested, code)?;
+    if !fits_import(p, nested, code, &list) {
+        return Err(p.unexpected());
+    }
+    made::import_call(p.alloc, p.since(start), place, list.items)
+}

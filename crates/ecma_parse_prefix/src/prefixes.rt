@@ -1,0 +1,87 @@
+//! What starts an expression (ECMA-262, 13.2 to 13.5).
+ghost use Rattle.std.specs.Prelude.{◌≡◌, ◌<◌, false, true, IfOk};
+ghost use Rattle.ecma_reading.specs.Source as spec;
+ghost use Rattle.ecma_reading.specs.Expressions as reads;
+ghost use Rattle.ecma_parse_state.specs.Answers.{Gives};
+ghost use Rattle.ecma_parse_state.specs.Codes.{code_of};
+ghost use Rattle.ecma_parse_state.specs.Fronts.{machine_of};
+ghost use Rattle.ecma_parse_state.specs.Stands.{stand};
+ghost use Rattle.ecma_parse_base.specs.Operands.{tree_of};
+ghost use Rattle.ecma_parse_prefix.specs.Words as words;
+
+use crate::words::keyword;
+use ecma_parse_arrows::groups::group;
+use ecma_parse_base::ops::{unary_op, update_op};
+use ecma_parse_base::{Nested, Operand, literals};
+use ecma_parse_expr::templates::template;
+use ecma_parse_objects::objects::object;
+use ecma_parse_primary::prefixes::{array, literal, unary, update};
+use ecma_parse_state::{Around, Failure, Parser, kinds};
+use ecma_tokens::Tokens;
+
+/// An operator before its operand, or a literal.
+#[inline(never)]
+#[tactic(auto, unfolding(crate::specs::Words::operator_mark))]
+pub fn operator_mark<'a, I: Tokens<'a> + Drop, N: Nested<'a, I>>(
+    p: &mut Parser<'a, I>,
+    nested: &N,
+    code: Around,
+) -> Result<Operand, Failure>
+    requires ready { N.ready nested.now }
+    ensures value { Gives (λ x. (tree_of x, stand I.state p.new)) result (words.operator_mark (machine_of I.machine) (N.reads nested.now I.State I.machine) (code_of code) (stand I.state p.old)) }
+    ensures shorter { IfOk result (λ _. spec.bound (machine_of I.machine) (stand I.state p.new) < spec.bound (machine_of I.machine) (stand I.state p.old)) }
+{
+    if let Some(op) = unary_op(p.kind()) {
+        return unary(p, nested, code, op);
+    }
+    if let Some(op) = update_op(p.kind()) {
+        return update(p, nested, code, op);
+    }
+    literal(p, nested)
+}
+
+/// An array, an object or a template, or another mark.
+#[inline(never)]
+#[tactic(auto, unfolding(crate::specs::Words::list_mark))]
+pub fn list_mark<'a, I: Tokens<'a> + Drop, N: Nested<'a, I>>(
+    p: &mut Parser<'a, I>,
+    nested: &N,
+    code: Around,
+) -> Result<Operand, Failure>
+    requires ready { N.ready nested.now }
+    ensures value { Gives (λ x. (tree_of x, stand I.state p.new)) result (words.list_mark (machine_of I.machine) (N.reads nested.now I.State I.machine) (code_of code) (stand I.state p.old)) }
+    ensures shorter { IfOk result (λ _. spec.bound (machine_of I.machine) (stand I.state p.new) < spec.bound (machine_of I.machine) (stand I.state p.old)) }
+{
+    if p.at(kinds::LEFT_BRACKET) {
+        return array(p, nested, code);
+    }
+    if p.at(kinds::LEFT_BRACE) {
+        return object(p, nested, code);
+    }
+    if p.at(kinds::BACK_QUOTE) {
+        let tpl = template(p, nested, code, false)?;
+        return literals::template(p.alloc, tpl);
+    }
+    operator_mark(p, nested, code)
+}
+
+/// What starts an expression, up to the operators behind it.
+#[inline(never)]
+#[tactic(auto, unfolding(ecma_reading::specs::Expressions::prefix_by, crate::specs::Words::list_mark, crate::specs::Words::operator_mark))]
+pub fn prefix<'a, I: Tokens<'a> + Drop, N: Nested<'a, I>>(
+    p: &mut Parser<'a, I>,
+    nested: &N,
+    code: Around,
+) -> Result<Operand, Failure>
+    requires ready { N.ready nested.now }
+    ensures value { Gives (λ x. (tree_of x, stand I.state p.new)) result (reads.prefix_by (machine_of I.machine) (N.reads nested.now I.State I.machine) (code_of code) (stand I.state p.old)) }
+    ensures shorter { IfOk result (λ _. spec.bound (machine_of I.machine) (stand I.state p.new) < spec.bound (machine_of I.machine) (stand I.state p.old)) }
+{
+    if p.is_word() {
+        return keyword(p, nested, code);
+    }
+    if p.at(kinds::LEFT_PAREN) {
+        return group(p, nested, code);
+    }
+    list_mark(p, nested, code)
+}

@@ -1,0 +1,193 @@
+//! Words that start an expression (ECMA-262, 13.2 to 13.5).
+ghost use Rattle.std.specs.Prelude.{◌≡◌, ◌<◌, false, true, IfOk};
+ghost use Rattle.ecma_syntax.specs.Input.{is_word, kind};
+ghost use Rattle.ecma_reading.specs.Source as spec;
+ghost use Rattle.ecma_reading.specs.Expressions as reads;
+ghost use Rattle.ecma_parse_state.specs.Answers.{Gives};
+ghost use Rattle.ecma_parse_state.specs.Codes.{code_of};
+ghost use Rattle.ecma_parse_state.specs.Fronts.{machine_of};
+ghost use Rattle.ecma_parse_state.specs.Stands.{stand};
+ghost use Rattle.ecma_parse_base.specs.Operands.{tree_of};
+ghost use Rattle.ecma_parse_prefix.specs.Words as words;
+
+use crate::imports::import;
+use ecma_parse_arrows::arrows::ident_end;
+use ecma_parse_arrows::asyncs::async_expr;
+use ecma_parse_arrows::function_exprs::function_expr;
+use ecma_parse_base::ops::unary_op;
+use ecma_parse_base::{Nested, Operand, made};
+use ecma_parse_objects::news::new_expr;
+use ecma_parse_primary::prefixes::{awaited, fixed, super_end, unary, yielded};
+use ecma_parse_state::{Around, Failure, Parser, kinds};
+use ecma_tokens::Tokens;
+
+/// A name, or what the word `async` starts.
+#[inline(never)]
+#[tactic(auto, using(ecma_parse_state::proofs::Marks::marks, crate::proofs::Starts::starts), unfolding(ecma_reading::specs::Expressions::word_by))]
+pub fn word<'a, I: Tokens<'a> + Drop, N: Nested<'a, I>>(
+    p: &mut Parser<'a, I>,
+    nested: &N,
+    code: Around,
+) -> Result<Operand, Failure>
+    requires ready { N.ready nested.now }
+    ensures value { Gives (λ x. (tree_of x, stand I.state p.new)) result (reads.word_by (machine_of I.machine) (N.reads nested.now I.State I.machine) (code_of code) (stand I.state p.old)) }
+    ensures shorter { IfOk result (λ _. spec.bound (machine_of I.machine) (stand I.state p.new) < spec.bound (machine_of I.machine) (stand I.state p.old)) }
+{
+    if p.at(kinds::ASYNC) {
+        return async_expr(p, nested, code);
+    }
+    let place = p.place();
+    let sym = p.name(code)?;
+    ident_end(p, nested, code, place, sym)
+}
+
+/// `super` with what follows it.
+#[inline(never)]
+#[tactic(auto, using(ecma_parse_state::proofs::Marks::marks, crate::proofs::Starts::starts), unfolding(crate::specs::Words::super_by))]
+pub fn super_expr<'a, I: Tokens<'a> + Drop, N: Nested<'a, I>>(
+    p: &mut Parser<'a, I>,
+    nested: &N,
+    code: Around,
+) -> Result<Operand, Failure>
+    requires ready { N.ready nested.now }
+    ensures value { Gives (λ x. (tree_of x, stand I.state p.new)) result (words.super_by (machine_of I.machine) (N.reads nested.now I.State I.machine) (code_of code) (stand I.state p.old)) }
+    ensures shorter { IfOk result (λ _. spec.bound (machine_of I.machine) (stand I.state p.new) < spec.bound (machine_of I.machine) (stand I.state p.old)) }
+{
+    let place = p.place();
+    p.eat_word(code, kinds::SUPER)?;
+    super_end(p, nested, code, place)
+}
+
+/// An operator that is a word with its operand, or any other word.
+#[inline(never)]
+#[tactic(auto, unfolding(crate::specs::Words::operator_word))]
+pub fn operator_word<'a, I: Tokens<'a> + Drop, N: Nested<'a, I>>(
+    p: &mut Parser<'a, I>,
+    nested: &N,
+    code: Around,
+) -> Result<Operand, Failure>
+    requires ready { N.ready nested.now }
+    requires word { is_word (kind (spec.input (machine_of I.machine) (stand I.state p.old))) ≡ true }
+    ensures value { Gives (λ x. (tree_of x, stand I.state p.new)) result (words.operator_word (machine_of I.machine) (N.reads nested.now I.State I.machine) (code_of code) (stand I.state p.old)) }
+    ensures shorter { IfOk result (λ _. spec.bound (machine_of I.machine) (stand I.state p.new) < spec.bound (machine_of I.machine) (stand I.state p.old)) }
+{
+    if let Some(op) = unary_op(p.kind()) {
+        return unary(p, nested, code, op);
+    }
+    if p.at(kinds::AWAIT) && code.context.in_async {
+        return awaited(p, nested, code);
+    }
+    if p.at(kinds::YIELD) && code.context.in_generator {
+        return yielded(p, nested, code);
+    }
+    word(p, nested, code)
+}
+
+/// `new`, `super` or `import`, or another word.
+#[inline(never)]
+#[tactic(auto, unfolding(crate::specs::Words::member_word))]
+pub fn member_word<'a, I: Tokens<'a> + Drop, N: Nested<'a, I>>(
+    p: &mut Parser<'a, I>,
+    nested: &N,
+    code: Around,
+) -> Result<Operand, Failure>
+    requires ready { N.ready nested.now }
+    requires word { is_word (kind (spec.input (machine_of I.machine) (stand I.state p.old))) ≡ true }
+    ensures value { Gives (λ x. (tree_of x, stand I.state p.new)) result (words.member_word (machine_of I.machine) (N.reads nested.now I.State I.machine) (code_of code) (stand I.state p.old)) }
+    ensures shorter { IfOk result (λ _. spec.bound (machine_of I.machine) (stand I.state p.new) < spec.bound (machine_of I.machine) (stand I.state p.old)) }
+{
+    if p.at(kinds::NEW) {
+        return new_expr(p, nested, code);
+    }
+    if p.at(kinds::SUPER) {
+        return super_expr(p, nested, code);
+    }
+    if p.at(kinds::IMPORT) {
+        return import(p, nested, code);
+    }
+    operator_word(p, nested, code)
+}
+
+/// A function or a class, or another word.
+#[inline(never)]
+#[tactic(auto, using(ecma_parse_state::proofs::Marks::marks, crate::proofs::Starts::starts), unfolding(crate::specs::Words::definition_word))]
+pub fn definition_word<'a, I: Tokens<'a> + Drop, N: Nested<'a, I>>(
+    p: &mut Parser<'a, I>,
+    nested: &N,
+    code: Around,
+) -> Result<Operand, Failure>
+    requires ready { N.ready nested.now }
+    requires word { is_word (kind (spec.input (machine_of I.machine) (stand I.state p.old))) ≡ true }
+    ensures value { Gives (λ x. (tree_of x, stand I.state p.new)) result (words.definition_word (machine_of I.machine) (N.reads nested.now I.State I.machine) (code_of code) (stand I.state p.old)) }
+    ensures shorter { IfOk result (λ _. spec.bound (machine_of I.machine) (stand I.state p.new) < spec.bound (machine_of I.machine) (stand I.state p.old)) }
+{
+    if p.at(kinds::FUNCTION) {
+        let start = p.lo();
+        return function_expr(p, nested, code, start, false);
+    }
+    if p.at(kinds::CLASS) {
+        return class_operand(p, nested, code);
+    }
+    member_word(p, nested, code)
+}
+
+/// `true` or `false`, or another word.
+#[inline(never)]
+#[tactic(auto, unfolding(crate::specs::Words::boolean_word, ecma_parse_primary::specs::Words::fixed_word))]
+pub fn boolean_word<'a, I: Tokens<'a> + Drop, N: Nested<'a, I>>(
+    p: &mut Parser<'a, I>,
+    nested: &N,
+    code: Around,
+) -> Result<Operand, Failure>
+    requires ready { N.ready nested.now }
+    requires word { is_word (kind (spec.input (machine_of I.machine) (stand I.state p.old))) ≡ true }
+    ensures value { Gives (λ x. (tree_of x, stand I.state p.new)) result (words.boolean_word (machine_of I.machine) (N.reads nested.now I.State I.machine) (code_of code) (stand I.state p.old)) }
+    ensures shorter { IfOk result (λ _. spec.bound (machine_of I.machine) (stand I.state p.new) < spec.bound (machine_of I.machine) (stand I.state p.old)) }
+{
+    if p.at(kinds::TRUE) {
+        let span = fixed(p, code)?;
+        return made::bool_lit(p.alloc, span, true);
+    }
+    if p.at(kinds::FALSE) {
+        let span = fixed(p, code)?;
+        return made::bool_lit(p.alloc, span, false);
+    }
+    definition_word(p, nested, code)
+}
+
+/// What a word starts.
+#[inline(never)]
+#[tactic(auto, unfolding(ecma_reading::specs::Expressions::keyword_by, crate::specs::Words::boolean_word, crate::specs::Words::definition_word, crate::specs::Words::member_word, crate::specs::Words::super_by, crate::specs::Words::operator_word, ecma_parse_primary::specs::Words::fixed_word))]
+pub fn keyword<'a, I: Tokens<'a> + Drop, N: Nested<'a, I>>(
+    p: &mut Parser<'a, I>,
+    nested: &N,
+    code: Around,
+) -> Result<Operand, Failure>
+    requires ready { N.ready nested.now }
+    requires word { is_word (kind (spec.input (machine_of I.machine) (stand I.state p.old))) ≡ true }
+    ensures value { Gives (λ x. (tree_of x, stand I.state p.new)) result (reads.keyword_by (machine_of I.machine) (N.reads nested.now I.State I.machine) (code_of code) (stand I.state p.old)) }
+    ensures shorter { IfOk result (λ _. spec.bound (machine_of I.machine) (stand I.state p.new) < spec.bound (machine_of I.machine) (stand I.state p.old)) }
+{
+    if p.at(kinds::THIS) {
+        let span = fixed(p, code)?;
+        return made::this_expr(p.alloc, span);
+    }
+    if p.at(kinds::NULL) {
+        let span = fixed(p, code)?;
+        return made::null_lit(p.alloc, span);
+    }
+    boolean_word(p, nested, code)
+}
+
+/// A class.
+pub fn class_operand<'a, I: Tokens<'a> + Drop, N: Nested<'a, I>>(
+    p: &mut Parser<'a, I>,
+    nested: &N,
+    code: Around,
+) -> Result<Operand, Failure>
+    requires ready { N.ready nested.now }
+    ensures value { Gives (λ x. (tree_of x, stand I.state p.new)) result (reads.class_expr_by (machine_of I.machine) (N.reads nested.now I.State I.machine) (code_of code) (stand I.state p.old)) }
+    ensures shorter { IfOk result (λ _. spec.bound (machine_of I.machine) (stand I.state p.new) < spec.bound (machine_of I.machine) (stand I.state p.old)) }
+{
+    nested.expr(p, code, 1)
+}
