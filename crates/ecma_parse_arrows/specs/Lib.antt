@@ -1,3 +1,0 @@
--- What the rules of arrows and parentheses share.
-pub mod Groups
-pub mod Asyncs
