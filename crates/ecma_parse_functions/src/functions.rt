@@ -1,0 +1,150 @@
+//! Parameters and functions.
+ghost use Rattle.std.specs.Prelude.{◌≡◌, ◌<◌, All, IfOk, map};
+ghost use Rattle.ecma_node.specs.Fits.{fits_function, fits_param};
+ghost use Rattle.ecma_node.specs.Placed.{inner};
+ghost use Rattle.ecma_node.specs.View.{view_function, view_param};
+ghost use Rattle.ecma_reading.specs.Source as spec;
+ghost use Rattle.ecma_reading.specs.Expressions as reads;
+ghost use Rattle.ecma_parse_state.specs.Answers.{Gives, going_on};
+ghost use Rattle.ecma_parse_state.specs.Codes.{code_of};
+ghost use Rattle.ecma_parse_state.specs.Fronts.{machine_of};
+ghost use Rattle.ecma_parse_state.specs.Stands.{stand};
+
+use crate::made;
+use ecma_node::{Function, Param, PatKind};
+use ecma_parse_base::Nested;
+use ecma_parse_state::code::{in_body, with_in};
+use ecma_parse_state::operators::ASSIGNMENT;
+use ecma_parse_state::{Around, Failure, Parser, kinds};
+use ecma_token::BytePos;
+use ecma_tokens::Tokens;
+
+/// A parameter: a pattern, with an initialiser or without, or a rest.
+#[inline(never)]
+#[tactic(auto, unfolding(ecma_reading::specs::Expressions::parameter_by))]
+pub fn parameter<'a, I: Tokens<'a> + Drop, N: Nested<'a, I>>(
+    p: &mut Parser<'a, I>,
+    nested: &N,
+    code: Around,
+) -> Result<Param, Failure>
+    requires ready { N.ready nested.now }
+    ensures value { Gives (λ x. (view_param inner x, stand I.state p.new)) result (reads.parameter_by (machine_of I.machine) (N.reads nested.now I.State I.machine) (code_of code) (stand I.state p.old)) }
+    ensures fits { IfOk result (λ x. fits_param (λ p. p) x) }
+    ensures shorter { IfOk result (λ _. spec.bound (machine_of I.machine) (stand I.state p.new) < spec.bound (machine_of I.machine) (stand I.state p.old)) }
+{
+    let start = p.lo();
+    if p.eat(kinds::DOT_DOT_DOT)? {
+        let dots = made::dots(start)?;
+        let arg = nested.pat(p, with_in(code))?;
+        return made::rest_param(p.alloc, p.since(start), dots, arg);
+    }
+    let pat = nested.pat(p, with_in(code))?;
+    if p.eat(kinds::ASSIGN)? {
+        let value = nested.expr(p, with_in(code), ASSIGNMENT)?;
+        return made::default_param(p.alloc, p.since(start), pat, value);
+    }
+    Ok(made::param(p.alloc, p.since(start), pat))
+}
+
+/// Whether a parameter is a rest.
+pub fn is_rest<'a, I: Tokens<'a> + Drop, N: Nested<'a, I>>(
+    _p: &Parser<'a, I>,
+    _nested: &N,
+    param: &Param,
+) -> bool
+    requires { fits_param (λ p. p) param.now }
+    ensures { result ≡ reads.is_rest_param (machine_of I.machine) (N.reads _nested.now I.State I.machine) (view_param inner param.now) }
+{
+    matches!(&param.pat.get().kind, PatKind::Rest(_))
+}
+
+/// One more parameter, or the end of the parameters. Whether another may follow.
+#[inline(never)]
+#[tactic(auto, unfolding(ecma_reading::specs::Expressions::parameter_step))]
+pub fn parameter_turn<'a, I: Tokens<'a> + Drop, N: Nested<'a, I>>(
+    p: &mut Parser<'a, I>,
+    nested: &N,
+    code: Around,
+    params: &mut Vec<Param>,
+) -> Result<bool, Failure>
+    requires ready { N.ready nested.now }
+    requires fits { All (λ x. fits_param (λ p. p) x) params.old.items }
+    ensures value { Gives (λ x. (going_on x (map (view_param inner) params.new.items), stand I.state p.new)) result (reads.parameter_step (machine_of I.machine) (N.reads nested.now I.State I.machine) (code_of code) (map (view_param inner) params.old.items) (stand I.state p.old)) }
+    ensures fits { IfOk result (λ _. All (λ x. fits_param (λ p. p) x) params.new.items) }
+    ensures shorter { IfOk result (λ _. spec.bound (machine_of I.machine) (stand I.state p.new) < spec.bound (machine_of I.machine) (stand I.state p.old)) }
+{
+    if p.eat(kinds::RIGHT_PAREN)? {
+        return Ok(false);
+    }
+    let param = parameter(p, nested, code)?;
+    let rest = is_rest(p, nested, &param);
+    params.push(param)?;
+    if !rest && p.eat(kinds::COMMA)? {
+        return Ok(true);
+    }
+    p.expect(kinds::RIGHT_PAREN)?;
+    Ok(false)
+}
+
+/// The parameters of a function, in their parentheses.
+#[inline(never)]
+#[tactic(auto, using(ecma_parse_state::proofs::Iterate::iterates), unfolding(ecma_reading::specs::Expressions::parameters_by))]
+pub fn parameters<'a, I: Tokens<'a> + Drop, N: Nested<'a, I>>(
+    p: &mut Parser<'a, I>,
+    nested: &N,
+    code: Around,
+) -> Result<Vec<Param>, Failure>
+    requires ready { N.ready nested.now }
+    ensures value { Gives (λ x. (map (view_param inner) x.items, stand I.state p.new)) result (reads.parameters_by (machine_of I.machine) (N.reads nested.now I.State I.machine) (code_of code) (stand I.state p.old)) }
+    ensures fits { IfOk result (λ x. All (λ x. fits_param (λ p. p) x) x.items) }
+    ensures shorter { IfOk result (λ _. spec.bound (machine_of I.machine) (stand I.state p.new) < spec.bound (machine_of I.machine) (stand I.state p.old)) }
+{
+    p.expect(kinds::LEFT_PAREN)?;
+    let mut params = Vec::new(p.alloc);
+    'turns: while parameter_turn(p, nested, code, &mut params)? {}
+    Ok(params)
+}
+
+/// Parameters and body, of a method or of what follows `function`. The span of the function starts at `whole`.
+#[inline(never)]
+#[tactic(auto, using(ecma_parse_base::proofs::Packs::packs), unfolding(ecma_reading::specs::Expressions::function_by))]
+pub fn function<'a, I: Tokens<'a> + Drop, N: Nested<'a, I>>(
+    p: &mut Parser<'a, I>,
+    nested: &N,
+    code: Around,
+    whole: BytePos,
+    generator: bool,
+    is_async: bool,
+) -> Result<Box<Function>, Failure>
+    requires ready { N.ready nested.now }
+    ensures value { Gives (λ x. (view_function inner x.value, stand I.state p.new)) result (reads.function_by (machine_of I.machine) (N.reads nested.now I.State I.machine) (code_of code) whole.0 generator is_async (stand I.state p.old)) }
+    ensures fits { IfOk result (λ x. fits_function (λ p. p) x.value) }
+    ensures shorter { IfOk result (λ _. spec.bound (machine_of I.machine) (stand I.state p.new) < spec.bound (machine_of I.machine) (stand I.state p.old)) }
+{
+    let inside = in_body(generator, is_async, code);
+    let params = parameters(p, nested, inside)?;
+    let body = nested.body(p, inside)?;
+    made::function(p.alloc, p.since(whole), params, body, generator, is_async)
+}
+
+/// The one parameter of a setter, in its parentheses: no rest, and no comma behind it.
+#[inline(never)]
+#[tactic(auto, unfolding(ecma_reading::specs::Expressions::setter_parameter))]
+pub fn setter_parameter<'a, I: Tokens<'a> + Drop, N: Nested<'a, I>>(
+    p: &mut Parser<'a, I>,
+    nested: &N,
+    code: Around,
+) -> Result<Param, Failure>
+    requires ready { N.ready nested.now }
+    ensures value { Gives (λ x. (view_param inner x, stand I.state p.new)) result (reads.setter_parameter (machine_of I.machine) (N.reads nested.now I.State I.machine) (code_of code) (stand I.state p.old)) }
+    ensures fits { IfOk result (λ x. fits_param (λ p. p) x) }
+    ensures shorter { IfOk result (λ _. spec.bound (machine_of I.machine) (stand I.state p.new) < spec.bound (machine_of I.machine) (stand I.state p.old)) }
+{
+    p.expect(kinds::LEFT_PAREN)?;
+    let param = parameter(p, nested, code)?;
+    if is_rest(p, nested, &param) {
+        return Err(p.unexpected());
+    }
+    p.expect(kinds::RIGHT_PAREN)?;
+    Ok(param)
+}

@@ -1,0 +1,68 @@
+//! What tells an accessor and an `async` method from a key: the token behind the word.
+ghost use Rattle.std.specs.Prelude.{◌≡◌, ◌<◌, ◌≤◌, IfErr, IfOk};
+ghost use Rattle.ecma_reading.specs.Source as spec;
+ghost use Rattle.ecma_reading.specs.Expressions as reads;
+ghost use Rattle.ecma_parse_state.specs.Answers.{Gives, IsMemory};
+ghost use Rattle.ecma_parse_state.specs.Fronts.{machine_of};
+ghost use Rattle.ecma_parse_state.specs.Stands.{stand};
+
+use ecma_parse_base::Nested;
+use ecma_parse_state::operators::starts_key;
+use ecma_parse_state::{Failure, Parser, kinds};
+use ecma_tokens::Tokens;
+
+/// Whether one of `get` and `set` comes, before a key.
+///
+/// # Errors
+///
+/// Want of memory.
+pub fn is_accessor<'a, I: Tokens<'a> + Drop, N: Nested<'a, I>>(
+    p: &Parser<'a, I>,
+    _nested: &N,
+    kind: u8,
+) -> Result<bool, Failure>
+    requires { 0 < kind }
+    ensures value { IfOk result (λ b. b ≡ reads.is_accessor (machine_of I.machine) (N.reads _nested.now I.State I.machine) kind (stand I.state p.now)) }
+    ensures full { IfErr result IsMemory }
+{
+    if !p.at(kind) {
+        return Ok(false);
+    }
+    let (second, _) = p.second()?;
+    Ok(starts_key(second) && second != kinds::HASH)
+}
+
+/// Whether `async` comes, before a key or a star on its line.
+///
+/// # Errors
+///
+/// Want of memory.
+pub fn is_async_head<'a, I: Tokens<'a> + Drop, N: Nested<'a, I>>(
+    p: &Parser<'a, I>,
+    _nested: &N,
+) -> Result<bool, Failure>
+    ensures value { IfOk result (λ b. b ≡ reads.is_async_head (machine_of I.machine) (N.reads _nested.now I.State I.machine) (stand I.state p.now)) }
+    ensures full { IfErr result IsMemory }
+{
+    if !p.at(kinds::ASYNC) {
+        return Ok(false);
+    }
+    let (second, breaks) = p.second()?;
+    Ok((starts_key(second) || second == kinds::MUL) && !breaks)
+}
+
+/// Takes a star if one comes, and tells whether one came.
+///
+/// # Errors
+///
+/// Want of memory.
+#[tactic(auto, unfolding(ecma_reading::specs::Expressions::star))]
+pub fn star<'a, I: Tokens<'a> + Drop, N: Nested<'a, I>>(
+    p: &mut Parser<'a, I>,
+    _nested: &N,
+) -> Result<bool, Failure>
+    ensures value { Gives (λ b. (b, stand I.state p.new)) result (reads.star (machine_of I.machine) (N.reads _nested.now I.State I.machine) (stand I.state p.old)) }
+    ensures not_longer { IfOk result (λ _. spec.bound (machine_of I.machine) (stand I.state p.new) ≤ spec.bound (machine_of I.machine) (stand I.state p.old)) }
+{
+    p.eat(kinds::MUL)
+}

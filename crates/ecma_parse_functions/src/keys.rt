@@ -1,0 +1,77 @@
+//! Keys of properties and members.
+ghost use Rattle.std.specs.Prelude.{◌≡◌, false, ◌<◌, IfOk};
+ghost use Rattle.ecma_token.specs.Kinds.{regex_kind};
+ghost use Rattle.ecma_node.specs.Fits.{fits_prop_name};
+ghost use Rattle.ecma_node.specs.Placed.{inner};
+ghost use Rattle.ecma_node.specs.View.{view_prop_name};
+ghost use Rattle.ecma_reading.specs.Source as spec;
+ghost use Rattle.ecma_reading.specs.Expressions as reads;
+ghost use Rattle.ecma_parse_state.specs.Answers.{Gives};
+ghost use Rattle.ecma_parse_state.specs.Codes.{code_of};
+ghost use Rattle.ecma_parse_state.specs.Fronts.{machine_of};
+ghost use Rattle.ecma_parse_state.specs.Stands.{stand};
+
+use crate::made;
+use ecma_node::{IdentName, PropName};
+use ecma_parse_base::Nested;
+use ecma_parse_expr::operators::computed;
+use ecma_parse_state::operators::ASSIGNMENT;
+use ecma_parse_state::{Around, Failure, Parser, kinds};
+use ecma_token::Token;
+use ecma_tokens::Tokens;
+use std::convert::AsStr;
+
+/// A literal as a key, which no regular expression is.
+#[inline(never)]
+#[tactic(auto, unfolding(ecma_reading::specs::Expressions::literal_by, ecma_parse_state::specs::Fronts::machine_of))]
+pub fn literal_key<'a, I: Tokens<'a> + Drop, N: Nested<'a, I>>(
+    p: &mut Parser<'a, I>,
+    _nested: &N,
+) -> Result<PropName, Failure>
+    requires ready { N.ready _nested.now }
+    requires other { spec.at (machine_of I.machine) regex_kind (stand I.state p.old) ≡ false }
+    ensures value { Gives (λ x. (view_prop_name inner x, stand I.state p.new)) result (reads.literal_by (machine_of I.machine) (N.reads _nested.now I.State I.machine) (stand I.state p.old)) }
+    ensures fits { IfOk result (λ x. fits_prop_name (λ p. p) x) }
+    ensures shorter { IfOk result (λ _. spec.bound (machine_of I.machine) (stand I.state p.new) < spec.bound (machine_of I.machine) (stand I.state p.old)) }
+{
+    let span = p.place();
+    let fault = p.unexpected();
+    let Some(token) = p.take()? else {
+        return Err(fault);
+    };
+    match token.token {
+        Token::Str { units, raw } => made::str_key(p.alloc, span, units, raw),
+        Token::Num { value, raw } => made::number_key(p.alloc, span, value, raw),
+        Token::BigInt { radix, digits, raw } => {
+            made::big_int_key(p.alloc, span, radix, digits.as_str(), raw)
+        }
+        _ => Err(fault),
+    }
+}
+
+/// The key of a property or of a member.
+#[inline(never)]
+#[tactic(auto, unfolding(ecma_reading::specs::Expressions::key_by, ecma_reading::specs::Source::any_word))]
+pub fn key<'a, I: Tokens<'a> + Drop, N: Nested<'a, I>>(
+    p: &mut Parser<'a, I>,
+    nested: &N,
+    code: Around,
+) -> Result<PropName, Failure>
+    requires ready { N.ready nested.now }
+    ensures value { Gives (λ x. (view_prop_name inner x, stand I.state p.new)) result (reads.key_by (machine_of I.machine) (N.reads nested.now I.State I.machine) (code_of code) (stand I.state p.old)) }
+    ensures fits { IfOk result (λ x. fits_prop_name (λ p. p) x) }
+    ensures shorter { IfOk result (λ _. spec.bound (machine_of I.machine) (stand I.state p.new) < spec.bound (machine_of I.machine) (stand I.state p.old)) }
+{
+    if p.at(kinds::LEFT_BRACKET) {
+        return Ok(PropName::Computed(computed(p, nested, code, ASSIGNMENT)?));
+    }
+    if p.is_word() {
+        let span = p.place();
+        let sym = p.any_word()?;
+        return Ok(PropName::Ident(IdentName { span, sym }));
+    }
+    if p.at(kinds::REGEX) {
+        return Err(p.unexpected());
+    }
+    literal_key(p, nested)
+}

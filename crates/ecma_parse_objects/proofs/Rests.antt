@@ -1,0 +1,16 @@
+-- No property is a spread.
+use Rattle.std.proofs.Common.{◌≡◌, false, refl}
+use Rattle.ecma_node.specs.Placed.{Placed, inner}
+use Rattle.ecma_node.specs.View.{view_prop}
+use Rattle.ecma_node.specs.declared.knot.Part.{Part}
+use Rattle.ecma_node.specs.declared.objects.PropOf.{PropOf}
+use Rattle.ecma_node.specs.declared.objects.PropOf.TheVariants as Prop
+use Rattle.ecma_reading.specs.Cover.{is_rest_item}
+
+pub no_spread : (x : PropOf Part) → is_rest_item (view_prop inner x) ≡ false
+no_spread (Prop.Shorthand x) = refl
+no_spread (Prop.KeyValue x) = refl
+no_spread (Prop.Assign x) = refl
+no_spread (Prop.Getter x) = refl
+no_spread (Prop.Setter x) = refl
+no_spread (Prop.Method x) = refl

@@ -1,0 +1,115 @@
+//! `new`.
+ghost use Rattle.std.specs.Prelude.{◌≡◌, ◌≢◌, ◌<◌, ◌≤◌, IfOk};
+ghost use Rattle.ecma_token.specs.Kinds.{dot_kind, left_paren_kind};
+ghost use Rattle.ecma_syntax.specs.Input.{kind};
+ghost use Rattle.ecma_reading.specs.Source as spec;
+ghost use Rattle.ecma_reading.specs.Expressions as reads;
+ghost use Rattle.ecma_parse_state.specs.Answers.{Gives};
+ghost use Rattle.ecma_parse_state.specs.Codes.{code_of};
+ghost use Rattle.ecma_parse_state.specs.Fronts.{machine_of};
+ghost use Rattle.ecma_parse_state.specs.Stands.{from, stand};
+ghost use Rattle.ecma_parse_base.specs.Operands.{tree_of};
+ghost use Rattle.ecma_parse_objects.specs.News as pieces;
+
+use ecma_node::MetaPropKind;
+use ecma_parse_base::{Nested, Operand, made};
+use ecma_parse_expr::lists::arguments;
+use ecma_parse_primary::prefixes::callee;
+use ecma_parse_state::operators::{CALL, MEMBER, NEW_LEVEL, OTHER_END};
+use ecma_parse_state::{Around, Failure, Parser, kinds};
+use ecma_token::BytePos;
+use ecma_tokens::Tokens;
+
+/// `.target`, after `new`.
+#[inline(never)]
+#[tactic(auto, using(ecma_parse_state::proofs::Marks::marks), unfolding(crate::specs::News::new_target_by))]
+pub fn new_target<'a, I: Tokens<'a> + Drop>(
+    p: &mut Parser<'a, I>,
+    code: Around,
+    start: BytePos,
+) -> Result<Operand, Failure>
+    ensures value { Gives (λ x. (tree_of x, stand I.state p.new)) result (pieces.new_target_by (machine_of I.machine) (code_of code) (from start.0) (stand I.state p.old)) }
+    ensures shorter { IfOk result (λ _. spec.bound (machine_of I.machine) (stand I.state p.new) < spec.bound (machine_of I.machine) (stand I.state p.old)) }
+{
+    p.bump()?;
+    p.eat_word(code, kinds::TARGET)?;
+    made::meta_prop_expr(p.alloc, p.since(start), MetaPropKind::NewTarget)
+}
+
+/// The arguments of `new`, after what is called.
+#[inline(never)]
+#[tactic(auto, using(ecma_parse_state::proofs::Marks::marks, ecma_parse_base::proofs::Packs::packs), unfolding(crate::specs::News::new_call_by))]
+pub fn new_call<'a, I: Tokens<'a> + Drop, N: Nested<'a, I>>(
+    p: &mut Parser<'a, I>,
+    nested: &N,
+    code: Around,
+    start: BytePos,
+    f: Operand,
+) -> Result<Operand, Failure>
+    requires ready { N.ready nested.now }
+    ensures value { Gives (λ x. (tree_of x, stand I.state p.new)) result (pieces.new_call_by (machine_of I.machine) (N.reads nested.now I.State I.machine) (code_of code) (from start.0) (tree_of f) (stand I.state p.old)) }
+    ensures shorter { IfOk result (λ _. spec.bound (machine_of I.machine) (stand I.state p.new) < spec.bound (machine_of I.machine) (stand I.state p.old)) }
+{
+    p.bump()?;
+    let args = arguments(p, nested, code)?;
+    made::new_expr(p.alloc, p.since(start), f, args)
+}
+
+/// `new` without arguments, after what is called.
+#[inline(never)]
+#[tactic(auto, using(ecma_parse_state::proofs::Marks::marks), unfolding(crate::specs::News::bare_new_by))]
+pub fn bare_new<'a, I: Tokens<'a> + Drop>(
+    p: &Parser<'a, I>,
+    code: Around,
+    start: BytePos,
+    f: Operand,
+) -> Result<Operand, Failure>
+    ensures value { Gives (λ x. (tree_of x, stand I.state p.now)) result (pieces.bare_new_by (machine_of I.machine) (code_of code) (from start.0) (tree_of f) (stand I.state p.now)) }
+{
+    let goes = p.goes(code, OTHER_END)?;
+    if (f.level >= MEMBER || f.level == NEW_LEVEL) && goes < CALL {
+        return made::bare_new(p.alloc, p.since(start), f);
+    }
+    Err(p.unexpected())
+}
+
+/// What follows the callee of `new`.
+#[inline(never)]
+#[tactic(auto, unfolding(ecma_reading::specs::Expressions::new_end, crate::specs::News::new_call_by, crate::specs::News::bare_new_by))]
+pub fn new_end<'a, I: Tokens<'a> + Drop, N: Nested<'a, I>>(
+    p: &mut Parser<'a, I>,
+    nested: &N,
+    code: Around,
+    start: BytePos,
+    f: Operand,
+) -> Result<Operand, Failure>
+    requires ready { N.ready nested.now }
+    ensures value { Gives (λ x. (tree_of x, stand I.state p.new)) result (reads.new_end (machine_of I.machine) (N.reads nested.now I.State I.machine) (code_of code) (from start.0) (tree_of f) (stand I.state p.old)) }
+    ensures not_longer { IfOk result (λ _. spec.bound (machine_of I.machine) (stand I.state p.new) ≤ spec.bound (machine_of I.machine) (stand I.state p.old)) }
+{
+    if p.at(kinds::LEFT_PAREN) && f.level >= MEMBER {
+        return new_call(p, nested, code, start, f);
+    }
+    bare_new(p, code, start, f)
+}
+
+/// `new`, with arguments or without, or `new.target`.
+#[inline(never)]
+#[tactic(auto, using(ecma_parse_state::proofs::Marks::marks, ecma_parse_primary::proofs::Starts::starts), unfolding(ecma_reading::specs::Expressions::new_by, crate::specs::News::new_target_by))]
+pub fn new_expr<'a, I: Tokens<'a> + Drop, N: Nested<'a, I>>(
+    p: &mut Parser<'a, I>,
+    nested: &N,
+    code: Around,
+) -> Result<Operand, Failure>
+    requires ready { N.ready nested.now }
+    ensures value { Gives (λ x. (tree_of x, stand I.state p.new)) result (reads.new_by (machine_of I.machine) (N.reads nested.now I.State I.machine) (code_of code) (stand I.state p.old)) }
+    ensures shorter { IfOk result (λ _. spec.bound (machine_of I.machine) (stand I.state p.new) < spec.bound (machine_of I.machine) (stand I.state p.old)) }
+{
+    let start = p.lo();
+    p.eat_word(code, kinds::NEW)?;
+    if p.at(kinds::DOT) {
+        return new_target(p, code, start);
+    }
+    let f = callee(p, nested, code)?;
+    new_end(p, nested, code, start, f)
+}

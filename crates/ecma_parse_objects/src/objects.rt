@@ -1,0 +1,105 @@
+//! Objects.
+ghost use Rattle.std.specs.Prelude.{◌≡◌, ◌<◌, IfOk};
+ghost use Rattle.ecma_token.specs.Kinds.{right_brace_kind};
+ghost use Rattle.ecma_node.specs.Placed.{inner};
+ghost use Rattle.ecma_node.specs.View.{view_prop_or_spread};
+ghost use Rattle.ecma_reading.specs.Source as spec;
+ghost use Rattle.ecma_reading.specs.Cover.{is_rest_item};
+ghost use Rattle.ecma_reading.specs.Expressions as reads;
+ghost use Rattle.ecma_parse_state.specs.Answers.{Gives, going_on};
+ghost use Rattle.ecma_parse_state.specs.Codes.{code_of};
+ghost use Rattle.ecma_parse_state.specs.Fronts.{machine_of};
+ghost use Rattle.ecma_parse_state.specs.Stands.{stand};
+ghost use Rattle.ecma_parse_base.specs.Operands.{tree_of};
+ghost use Rattle.ecma_parse_objects.specs.Lists.{FitProps, TellsRest, props_by, props_of};
+
+use crate::lists::Props;
+use crate::props::prop;
+use ecma_node::PropOrSpread;
+use ecma_parse_base::{Nested, Operand, made};
+use ecma_parse_expr::lists::goes_on;
+use ecma_parse_state::{Around, Failure, Parser, kinds};
+use ecma_tokens::Tokens;
+
+/// Whether a part of an object is spread.
+#[tactic(auto, using(crate::proofs::Rests::no_spread))]
+pub fn is_spread(item: &PropOrSpread) -> bool
+    ensures { result ≡ is_rest_item (view_prop_or_spread inner item.now) }
+{
+    match item {
+        PropOrSpread::Spread(_) => true,
+        PropOrSpread::Prop(_) => false,
+    }
+}
+
+/// One more property, or the end of the object. Whether another may follow.
+#[inline(never)]
+#[tactic(auto, using(ecma_parse_base::proofs::Packs::rests_more), unfolding(ecma_reading::specs::Expressions::prop_step, ecma_reading::specs::Expressions::after_element, ecma_parse_expr::specs::Lists::after_item))]
+pub fn prop_turn<'a, I: Tokens<'a> + Drop, N: Nested<'a, I>>(
+    p: &mut Parser<'a, I>,
+    nested: &N,
+    code: Around,
+    list: &mut Props,
+) -> Result<bool, Failure>
+    requires ready { N.ready nested.now }
+    requires fits { FitProps list.old }
+    requires rest { TellsRest list.old }
+    ensures value { Gives (λ x. (going_on x (props_of list.new), stand I.state p.new)) result (reads.prop_step (machine_of I.machine) (N.reads nested.now I.State I.machine) (code_of code) (props_of list.old) (stand I.state p.old)) }
+    ensures fits { IfOk result (λ _. FitProps list.new) }
+    ensures rest { IfOk result (λ _. TellsRest list.new) }
+    ensures shorter { IfOk result (λ _. spec.bound (machine_of I.machine) (stand I.state p.new) < spec.bound (machine_of I.machine) (stand I.state p.old)) }
+{
+    if p.eat(kinds::RIGHT_BRACE)? {
+        return Ok(false);
+    }
+    let item = prop(p, nested, code)?;
+    list.rest = is_spread(&item);
+    list.items.push(item)?;
+    list.comma = goes_on(p, kinds::RIGHT_BRACE)?;
+    Ok(list.comma)
+}
+
+/// The properties of an object, after its brace.
+#[inline(never)]
+#[tactic(auto, using(ecma_parse_state::proofs::Iterate::iterates), unfolding(crate::specs::Lists::props_by))]
+pub fn props<'a, I: Tokens<'a> + Drop, N: Nested<'a, I>>(
+    p: &mut Parser<'a, I>,
+    nested: &N,
+    code: Around,
+) -> Result<Props, Failure>
+    requires ready { N.ready nested.now }
+    ensures value { Gives (λ x. (props_of x, stand I.state p.new)) result (props_by (machine_of I.machine) (N.reads nested.now I.State I.machine) (code_of code) (stand I.state p.old)) }
+    ensures fits { IfOk result (λ x. FitProps x) }
+    ensures rest { IfOk result (λ x. TellsRest x) }
+    ensures shorter { IfOk result (λ _. spec.bound (machine_of I.machine) (stand I.state p.new) < spec.bound (machine_of I.machine) (stand I.state p.old)) }
+{
+    let mut list = Props {
+        items: Vec::new(p.alloc),
+        comma: false,
+        rest: false,
+    };
+    'turns: while prop_turn(p, nested, code, &mut list)? {}
+    Ok(list)
+}
+
+/// An object, from its brace on.
+#[inline(never)]
+#[tactic(auto, using(ecma_parse_state::proofs::Marks::marks, ecma_parse_base::proofs::Packs::packs), unfolding(ecma_reading::specs::Expressions::object_by, crate::specs::Lists::props_by))]
+pub fn object<'a, I: Tokens<'a> + Drop, N: Nested<'a, I>>(
+    p: &mut Parser<'a, I>,
+    nested: &N,
+    code: Around,
+) -> Result<Operand, Failure>
+    requires ready { N.ready nested.now }
+    ensures value { Gives (λ x. (tree_of x, stand I.state p.new)) result (reads.object_by (machine_of I.machine) (N.reads nested.now I.State I.machine) (code_of code) (stand I.state p.old)) }
+    ensures shorter { IfOk result (λ _. spec.bound (machine_of I.machine) (stand I.state p.new) < spec.bound (machine_of I.machine) (stand I.state p.old)) }
+{
+    let start = p.lo();
+    p.bump()?;
+    let list = props(p, nested, code)?;
+    let span = p.since(start);
+    if list.comma && list.rest {
+        p.note(start.0)?;
+    }
+    made::object_lit(p.alloc, span, list.items)
+}
