@@ -1,21 +1,21 @@
 -- Where an expression began shows in the places of nodes alone.
-use Rattle.std.proofs.Common.{◌≡◌, ℕ, List, Bool, refl, sym, ◌∙◌}
+use Rattle.std.proofs.Common.{◌≡◌, ℕ, List, Bool, refl, sym, ap, ◌∙◌}
 use Rattle.ecma_token.specs.declared.place.Span.{Span}
 use Rattle.ecma_tokens.specs.Machine as tokens
 use Rattle.ecma_tree.specs.Tree.{Tree}
-use Rattle.ecma_syntax.specs.Input.{Code, lo, first_span}
+use Rattle.ecma_syntax.specs.Input.{Code, lo, hi, first_span}
 use Rattle.ecma_reading.specs.Source.{Machine, Stand, Inner, input}
 use Rattle.ecma_reading.specs.Expressions.{arrow_by, binary_by, function_by, function_expr_by, function_expr_name, ident_end, super_end}
 use Rattle.ecma_parse_state.specs.Fronts.{Front, machine_of}
 use Rattle.ecma_parse_state.specs.Stands.{from, from_span}
-use Rattle.ecma_parse_state.proofs.Marks.{lo_from, lo_from_span, first_from_span}
+use Rattle.ecma_parse_state.proofs.Marks.{lo_from, lo_from_span}
 
 module _ {S : Type 0} (m : Machine S) (inner : Inner S) (c : Code) (a b : Stand S) where
-  ident_same : lo (input m a) ≡ lo (input m b) → first_span (input m a) ≡ first_span (input m b) → (n : List ℕ) (r : Stand S) → ident_end m inner c a n r ≡ ident_end m inner c b n r
+  ident_same : lo (input m a) ≡ lo (input m b) → hi (input m a) ≡ hi (input m b) → (n : List ℕ) (r : Stand S) → ident_end m inner c a n r ≡ ident_end m inner c b n r
   unfolding ident_end arrow_by
   ident_same e f n r = rw (e, f) refl
 
-  super_same : lo (input m a) ≡ lo (input m b) → first_span (input m a) ≡ first_span (input m b) → (r : Stand S) → super_end m inner c a r ≡ super_end m inner c b r
+  super_same : lo (input m a) ≡ lo (input m b) → hi (input m a) ≡ hi (input m b) → (r : Stand S) → super_end m inner c a r ≡ super_end m inner c b r
   unfolding super_end
   super_same e f r = rw (e, f) refl
 
@@ -27,14 +27,18 @@ module _ {S : Type 0} (m : Machine S) (inner : Inner S) (c : Code) (a b : Stand 
   unfolding binary_by
   binary_same e t r = rw e refl
 
+pub hi_from_span : {S : Type 0} (m : tokens.Machine S) (s : Span) → hi (input (machine_of m) (from_span s)) ≡ s.hi.0
+unfolding machine_of
+hi_from_span m s = refl
+
 -- from a mark that was made there
 pub ident_from : {S : Type 0} (m : tokens.Machine S) (inner : Inner (Front S)) (c : Code) (a : Stand (Front S)) (p : Span) → p.lo.0 ≡ lo (input (machine_of m) a) → p ≡ first_span (input (machine_of m) a)
     → (n : List ℕ) (r : Stand (Front S)) → ident_end (machine_of m) inner c a n r ≡ ident_end (machine_of m) inner c (from_span p) n r
-ident_from m inner c a p e f n r = ident_same (machine_of m) inner c a (from_span p) (sym e ∙ sym (lo_from_span m p)) (sym f ∙ sym (first_from_span m p)) n r
+ident_from m inner c a p e f n r = ident_same (machine_of m) inner c a (from_span p) (sym e ∙ sym (lo_from_span m p)) (sym (ap (λ s. s.hi.0) f) ∙ sym (hi_from_span m p)) n r
 
 pub super_from : {S : Type 0} (m : tokens.Machine S) (inner : Inner (Front S)) (c : Code) (a : Stand (Front S)) (p : Span) → p.lo.0 ≡ lo (input (machine_of m) a) → p ≡ first_span (input (machine_of m) a)
     → (r : Stand (Front S)) → super_end (machine_of m) inner c a r ≡ super_end (machine_of m) inner c (from_span p) r
-super_from m inner c a p e f r = super_same (machine_of m) inner c a (from_span p) (sym e ∙ sym (lo_from_span m p)) (sym f ∙ sym (first_from_span m p)) r
+super_from m inner c a p e f r = super_same (machine_of m) inner c a (from_span p) (sym e ∙ sym (lo_from_span m p)) (sym (ap (λ s. s.hi.0) f) ∙ sym (hi_from_span m p)) r
 
 pub function_from : {S : Type 0} (m : tokens.Machine S) (inner : Inner (Front S)) (c : Code) (a : Stand (Front S)) (n : ℕ) → n ≡ lo (input (machine_of m) a)
     → (async : Bool) (r : Stand (Front S)) → function_expr_by (machine_of m) inner c a async r ≡ function_expr_by (machine_of m) inner c (from n) async r

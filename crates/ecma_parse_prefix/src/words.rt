@@ -16,6 +16,7 @@ use ecma_parse_arrows::asyncs::async_expr;
 use ecma_parse_arrows::function_exprs::function_expr;
 use ecma_parse_base::ops::unary_op;
 use ecma_parse_base::{Nested, Operand, made};
+use ecma_parse_classes::classes::class_operand;
 use ecma_parse_objects::news::new_expr;
 use ecma_parse_primary::prefixes::{awaited, fixed, super_end, unary, yielded};
 use ecma_parse_state::{Around, Failure, Parser, kinds};
@@ -177,17 +178,4 @@ pub fn keyword<'a, I: Tokens<'a> + Drop, N: Nested<'a, I>>(
         return made::null_lit(p.alloc, span);
     }
     boolean_word(p, nested, code)
-}
-
-/// A class.
-pub fn class_operand<'a, I: Tokens<'a> + Drop, N: Nested<'a, I>>(
-    p: &mut Parser<'a, I>,
-    nested: &N,
-    code: Around,
-) -> Result<Operand, Failure>
-    requires ready { N.ready nested.now }
-    ensures value { Gives (λ x. (tree_of x, stand I.state p.new)) result (reads.class_expr_by (machine_of I.machine) (N.reads nested.now I.State I.machine) (code_of code) (stand I.state p.old)) }
-    ensures shorter { IfOk result (λ _. spec.bound (machine_of I.machine) (stand I.state p.new) < spec.bound (machine_of I.machine) (stand I.state p.old)) }
-{
-    nested.expr(p, code, 1)
 }
