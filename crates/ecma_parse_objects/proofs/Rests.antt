@@ -1,6 +1,7 @@
 -- No property is a spread.
-use Rattle.std.proofs.Common.{◌≡◌, false, refl}
-use Rattle.ecma_node.specs.Placed.{Placed, inner}
+use Rattle.std.proofs.Common.{◌≡◌, false, refl, sym, subst, List, [], ◌∷◌, ◌++◌, All}
+use Rattle.std.proofs.lemmas.List.Elements.{All-push}
+use Rattle.ecma_node.specs.Placed.{inner}
 use Rattle.ecma_node.specs.View.{view_prop}
 use Rattle.ecma_node.specs.declared.knot.Part.{Part}
 use Rattle.ecma_node.specs.declared.objects.PropOf.{PropOf}
@@ -14,3 +15,7 @@ no_spread (Prop.Assign x) = refl
 no_spread (Prop.Getter x) = refl
 no_spread (Prop.Setter x) = refl
 no_spread (Prop.Method x) = refl
+
+-- what holds of each part still does with one more
+pub all_more : {X : Type 0} (P : X → Type 0) (xs : List X) (x : X) (ys : List X) → ys ≡ xs ++ x ∷ [] → All P xs → P x → All P ys
+all_more P xs x ys e a b = subst (λ zs. All P zs) (sym e) (All-push P xs x a b)

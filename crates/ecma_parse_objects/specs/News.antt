@@ -1,18 +1,13 @@
 -- `new`, by what follows: the parts of `new_by` and `new_end`.
 use Rattle.std.specs.Prelude.{◌&&◌, ◌||◌, ◌==◌, nat_le, nat_lt, if◌then◌else◌, Ok}
-use Rattle.ecma_token.specs.Kinds.{new_kind, target_kind}
-use Rattle.ecma_tree.specs.Tree.{Tree, absent, list, meta_prop_expr, new_expr, pack}
+use Rattle.ecma_tree.specs.Tree.{Tree, absent, list, new_expr, pack}
 use Rattle.ecma_syntax.specs.Input.{Code}
 use Rattle.ecma_syntax.specs.Operators.{call_level, goes_expr, member_level, new_level, other_end}
 use Rattle.ecma_syntax.specs.Shape.{level}
-use Rattle.ecma_reading.specs.Source.{unexpected, ◌>>=◌, Machine, Stand, Read, Inner, input, past, spanned, eat_word}
+use Rattle.ecma_reading.specs.Source.{unexpected, ◌>>=◌, Machine, Stand, Read, Inner, input, past, spanned}
 use Rattle.ecma_reading.specs.Expressions.{arguments_by}
 
 module _ {S : Type 0} (m : Machine S) where
-  -- `.target`, after `new` (13.3.12)
-  unfoldable pub new_target_by : Code → Stand S → Read S Tree
-  new_target_by c start s = eat_word m c target_kind (past m s) >>= λ t. Ok (meta_prop_expr (spanned m start t) new_kind, t)
-
   -- no arguments (13.3.5)
   unfoldable pub bare_new_by : Code → Stand S → Tree → Read S Tree
   bare_new_by c start f s =

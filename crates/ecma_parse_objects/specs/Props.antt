@@ -5,7 +5,7 @@ use Rattle.ecma_token.specs.Kinds.{assign_kind, colon_kind, left_paren_kind}
 use Rattle.ecma_tree.specs.Tree.{Tree, assign_prop, ident, ident_name, key_value_prop, method_prop, spread_element}
 use Rattle.ecma_syntax.specs.Input.{Code, lo, span, with_in}
 use Rattle.ecma_syntax.specs.Operators.{assignment_level}
-use Rattle.ecma_reading.specs.Source.{unexpected, ◌>>=◌, Machine, Stand, Read, Inner, input, past, at, spanned}
+use Rattle.ecma_reading.specs.Source.{unexpected, ◌>>=◌, Machine, Read, Inner, input, past, at, spanned}
 use Rattle.ecma_reading.specs.Expressions.{function_by, key_by, method_prop_by, prop_rest, star}
 
 -- the word that a key is, where that is a name here

@@ -1,7 +1,5 @@
 //! `new`.
-ghost use Rattle.std.specs.Prelude.{◌≡◌, ◌≢◌, ◌<◌, ◌≤◌, IfOk};
-ghost use Rattle.ecma_token.specs.Kinds.{dot_kind, left_paren_kind};
-ghost use Rattle.ecma_syntax.specs.Input.{kind};
+ghost use Rattle.std.specs.Prelude.{◌<◌, ◌≤◌, IfOk};
 ghost use Rattle.ecma_reading.specs.Source as spec;
 ghost use Rattle.ecma_reading.specs.Expressions as reads;
 ghost use Rattle.ecma_parse_state.specs.Answers.{Gives};
@@ -19,22 +17,6 @@ use ecma_parse_state::operators::{CALL, MEMBER, NEW_LEVEL, OTHER_END};
 use ecma_parse_state::{Around, Failure, Parser, kinds};
 use ecma_token::BytePos;
 use ecma_tokens::Tokens;
-
-/// `.target`, after `new`.
-#[inline(never)]
-#[tactic(auto, using(ecma_parse_state::proofs::Marks::marks), unfolding(crate::specs::News::new_target_by))]
-pub fn new_target<'a, I: Tokens<'a> + Drop>(
-    p: &mut Parser<'a, I>,
-    code: Around,
-    start: BytePos,
-) -> Result<Operand, Failure>
-    ensures value { Gives (λ x. (tree_of x, stand I.state p.new)) result (pieces.new_target_by (machine_of I.machine) (code_of code) (from start.0) (stand I.state p.old)) }
-    ensures shorter { IfOk result (λ _. spec.bound (machine_of I.machine) (stand I.state p.new) < spec.bound (machine_of I.machine) (stand I.state p.old)) }
-{
-    p.bump()?;
-    p.eat_word(code, kinds::TARGET)?;
-    made::meta_prop_expr(p.alloc, p.since(start), MetaPropKind::NewTarget)
-}
 
 /// The arguments of `new`, after what is called.
 #[inline(never)]
@@ -95,7 +77,7 @@ pub fn new_end<'a, I: Tokens<'a> + Drop, N: Nested<'a, I>>(
 
 /// `new`, with arguments or without, or `new.target`.
 #[inline(never)]
-#[tactic(auto, using(ecma_parse_state::proofs::Marks::marks, ecma_parse_primary::proofs::Starts::starts), unfolding(ecma_reading::specs::Expressions::new_by, crate::specs::News::new_target_by))]
+#[tactic(auto, using(ecma_parse_state::proofs::Marks::marks, ecma_parse_primary::proofs::Starts::starts), unfolding(ecma_reading::specs::Expressions::new_by))]
 pub fn new_expr<'a, I: Tokens<'a> + Drop, N: Nested<'a, I>>(
     p: &mut Parser<'a, I>,
     nested: &N,
@@ -107,8 +89,9 @@ pub fn new_expr<'a, I: Tokens<'a> + Drop, N: Nested<'a, I>>(
 {
     let start = p.lo();
     p.eat_word(code, kinds::NEW)?;
-    if p.at(kinds::DOT) {
-        return new_target(p, code, start);
+    if p.eat(kinds::DOT)? {
+        p.eat_word(code, kinds::TARGET)?;
+        return made::meta_prop_expr(p.alloc, p.since(start), MetaPropKind::NewTarget);
     }
     let f = callee(p, nested, code)?;
     new_end(p, nested, code, start, f)

@@ -1,6 +1,5 @@
 //! Objects.
 ghost use Rattle.std.specs.Prelude.{◌≡◌, ◌<◌, IfOk};
-ghost use Rattle.ecma_token.specs.Kinds.{right_brace_kind};
 ghost use Rattle.ecma_node.specs.Placed.{inner};
 ghost use Rattle.ecma_node.specs.View.{view_prop_or_spread};
 ghost use Rattle.ecma_reading.specs.Source as spec;

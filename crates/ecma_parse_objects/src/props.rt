@@ -1,5 +1,5 @@
 //! Properties of objects.
-ghost use Rattle.std.specs.Prelude.{◌≡◌, ◌<◌, ◌≤◌, IfOk};
+ghost use Rattle.std.specs.Prelude.{◌<◌, ◌≤◌, IfOk};
 ghost use Rattle.ecma_node.specs.Fits.{fits_prop_name, fits_prop_or_spread};
 ghost use Rattle.ecma_node.specs.Placed.{inner};
 ghost use Rattle.ecma_node.specs.View.{view_prop_name, view_prop_or_spread};
