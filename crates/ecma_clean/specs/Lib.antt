@@ -1,0 +1,2 @@
+-- What is left of a cover in a finished tree.
+pub mod Covers
