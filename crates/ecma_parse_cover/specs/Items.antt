@@ -1,7 +1,8 @@
 -- The items of a pattern from left to right, and what an item is made of.
 use Rattle.std.specs.Prelude.{ℕ, Bool, true, false, not, ◌&&◌, ◌||◌, ◌==◌, if◌then◌else◌, List, [], ◌∷◌, ◌++◌, Option, None, Some, Result, Ok}
 use Rattle.ecma_tree.specs.Tree.{Tree, Trees, none, more, pack, unpack, ident, array_lit, object_lit, assign_expr, member_expr, super_prop_expr, paren_expr, expr_pat}
-use Rattle.ecma_syntax.specs.Shape.{is_structured}
+use Rattle.ecma_token.specs.Kinds.{assign_kind}
+use Rattle.ecma_syntax.specs.Shape.{is_simple, is_target_expr}
 use Rattle.ecma_reading.specs.Source.{Fault, unexpected, ◌>>=◌}
 use Rattle.ecma_reading.specs.Cover.{to_item, to_items, as_prop, is_rest_item, if_binds, last_rests}
 use Rattle.ecma_reading.specs.Expressions.{Elements}
@@ -40,6 +41,13 @@ abbrev pub is_cover : Tree → Bool
 is_cover (array_lit s xs) = true
 is_cover (object_lit s xs) = true
 is_cover t = is_leaf t
+
+-- what an operator may assign to (13.15.1)
+abbrev pub may_be_target : ℕ → Tree → Bool
+may_be_target op (ident s n) = true
+may_be_target op (array_lit s xs) = op == assign_kind
+may_be_target op (object_lit s xs) = op == assign_kind
+may_be_target op t = is_target_expr t && is_simple t
 
 -- the elements of a parenthesis as parameters
 abbrev pub parameters_of : List ℕ → Elements → Result (List Tree) Fault

@@ -6,3 +6,4 @@ pub mod items;
 pub mod leaves;
 pub mod made;
 pub mod names;
+pub mod targets;
