@@ -1,13 +1,12 @@
 -- The forms that productions share: what spells tokens alone spells them under their goals and in their contexts.
-use Rattle.std.proofs.Common.{◌≡◌, ℕ, ◌⊎◌, inl, inr, Bool, true, false, ◌&&◌, if◌then◌else◌, List, [], ◌∷◌, refl, sym, ap, ◌∙◌, subst}
-use Rattle.ecma_token.specs.declared.place.Span.{Span}
-use Rattle.ecma_token.specs.Kinds.{comma_kind, semicolon_kind, left_brace_kind, right_brace_kind}
+use Rattle.std.proofs.Common.{◌≡◌, ℕ, ◌⊎◌, inl, inr, Bool, true, false, ◌&&◌, if◌then◌else◌, List, [], ◌∷◌, refl, sym, ◌∙◌, subst}
+use Rattle.ecma_token.specs.Kinds.{comma_kind, semicolon_kind, right_brace_kind}
 use Rattle.ecma_tree.specs.Tree.{Tree}
 use Rattle.ecma_syntax.specs.Input.{Input, Code, in_list, assigning, turned_strict, Takes}
 use Rattle.ecma_syntax.specs.Shape.{is_absent, is_hole, is_rest, is_use_strict, is_directive}
-use Rattle.ecma_grammar.specs.Parts.{Part, part, By, IsEmpty, Expr, Sorted, Maybe, Listed, CommaThen, Commas, Ends, Items, AtEnd}
+use Rattle.ecma_grammar.specs.Parts.{Part, By, IsEmpty, Expr, Sorted, Maybe, Listed, CommaThen, Commas, Ends, Items}
 use Rattle.ecma_grammar_placed.specs.Laws.{placing}
-use Rattle.ecma_grammar_placed.proofs.Like.{Worn, Like, Moves, kind_like, pauses_like, take}
+use Rattle.ecma_grammar_placed.proofs.Like.{Like, Moves, kind_like, pauses_like, take}
 
 module _ (p : Bool) where
   abbrev pub Moved : Part → Type 0

@@ -1,12 +1,12 @@
 -- Functions, methods and classes under their goals and in their contexts.
-use Rattle.std.proofs.Common.{◌≡◌, ℕ, ◌⊎◌, inl, inr, Bool, true, false, ◌==◌, eqb, List, [], ◌∷◌, Option, Some, None, refl, sym, ap, ◌∙◌, subst}
+use Rattle.std.proofs.Common.{ℕ, inl, inr, Bool, true, false, eqb, List, [], ◌∷◌, Option, Some, None, sym, ◌∙◌, subst}
 use Rattle.ecma_token.specs.declared.place.Span.{Span}
 use Rattle.ecma_token.specs.Kinds.{arrow_kind, left_paren_kind, right_paren_kind, left_brace_kind, right_brace_kind, mul_kind, assign_kind, function_kind, class_kind, extends_kind, accessor_kind, async_kind, get_kind, set_kind, static_kind}
 use Rattle.ecma_tree.specs.Tree.{Tree, plain_method}
-use Rattle.ecma_syntax.specs.Input.{Input, Code, Takes, TakesWord, Spans, kind, brk, with_in, by, binding, setting, turned_strict, in_body, in_arrow, in_field, in_static, in_list}
+use Rattle.ecma_syntax.specs.Input.{Input, Code, Spans, kind, with_in, by, binding, setting, turned_strict, in_body, in_arrow, in_field, in_static, in_list}
 use Rattle.ecma_syntax.specs.Operators.{assignment_level, new_level}
 use Rattle.ecma_syntax.specs.Shape.{ends, is_absent, is_bound_name, is_param, is_key, is_any_key, is_item, is_member, field_end, FunctionParts}
-use Rattle.ecma_grammar.specs.Parts.{is_ident, Part, By, IsEmpty, Expr, Sorted, Maybe, Listed, Items, Ends}
+use Rattle.ecma_grammar.specs.Parts.{is_ident, Part, By, Sorted}
 use Rattle.ecma_grammar.specs.Functions.{Parameter, Parameters, SetParameter, Closes, Body, Function, Star, Async, FunctionHead, FunctionDeclaration, Named, FunctionExpression, ArrowPattern, BareName, ArrowParameters, ArrowHead, ArrowBlock, ArrowExpression, MethodHead, Method, ObjectMethod, Getter, Setter, Heritage, Members, ClassTail, ClassDeclaration, ClassExpression, Static, Constructor, ClassMethod, Initial, Field, AutoAccessor, StaticBlock}
 use Rattle.ecma_grammar_placed.specs.Laws.{placing}
 use Rattle.ecma_grammar_placed.proofs.Like.{Like, Moves, kind_like, brk_like, spans_like, take, take_word}

@@ -1,16 +1,15 @@
 -- The same tokens under other goals and contexts: what a relation asks of tokens holds of both.
-use Rattle.std.proofs.Common.{◌≡◌, ℕ, ◌<◌, ◌⊎◌, inl, inr, Bool, true, false, not, ◌&&◌, ◌||◌, ◌==◌, eqb, leb, if◌then◌else◌, List, [], ◌∷◌, Option, refl, sym, ap, ◌∙◌, subst, arith}
-use Rattle.std.proofs.lemmas.Bool.{eqb-true}
+use Rattle.std.proofs.Common.{◌≡◌, ℕ, Bool, true, false, not, ◌||◌, ◌==◌, eqb, leb, if◌then◌else◌, List, [], ◌∷◌, refl, sym, ap, ◌∙◌, subst}
 use Rattle.ecma_token.specs.declared.context.Context.{Context}
 use Rattle.ecma_token.specs.declared.place.Span.{Span}
-use Rattle.ecma_token.specs.Kinds.{regex_kind, div_kind, div_assign_kind, semicolon_kind, template_kind, back_quote_kind, dollar_brace_kind}
-use Rattle.ecma_token.specs.Tokens.{Content, Spot}
+use Rattle.ecma_token.specs.Kinds.{regex_kind, div_kind, div_assign_kind}
+use Rattle.ecma_token.specs.Tokens.{Spot}
 use Rattle.ecma_tree.specs.Tree.{Tree}
-use Rattle.ecma_syntax.specs.Input.{Place, Input, Code, kind_of, break_of, content_of, escaped_of, others, hi_of, lo_of, kind, kind2, brk, brk2, content, text, text_in, lo, hi, rest, span, first_span, Spans, div_goal, regexp_goal, usual, no_context, Only, Takes, TakesWord, TakesAnyWord, TakesName, TakesIn, Stands, barred, judged, no_name, is_word}
-use Rattle.ecma_syntax.specs.Operators.{goes_expr, goes_on, pauses}
-use Rattle.ecma_grammar.specs.Statements.{starts_expression_statement, statement_end, starts_head, starts_of, starts_using, starts_pattern}
+use Rattle.ecma_syntax.specs.Input.{Place, Input, Code, kind_of, break_of, content_of, escaped_of, others, hi_of, lo_of, kind, kind2, brk, brk2, content, text, text_in, lo, hi, rest, Spans, div_goal, regexp_goal, usual, no_context, Only, Takes, TakesWord, TakesAnyWord, TakesName, TakesIn, Stands, barred, judged, no_name, is_word}
+use Rattle.ecma_syntax.specs.Operators.{goes_expr, pauses}
+use Rattle.ecma_grammar.specs.Statements.{starts_expression_statement, statement_end, starts_head, starts_of, starts_using}
 use Rattle.ecma_grammar.specs.Modules.{starts_default}
-use Rattle.ecma_grammar_placed.specs.Laws.{SameToken, SameTokens, placing}
+use Rattle.ecma_grammar_placed.specs.Laws.{SameToken, placing}
 
 module _ (p : Bool) where
   -- a place that stands under no goal and in no context of its own, where these aren't judged

@@ -1,13 +1,13 @@
 -- Scripts and modules under their goals and in their contexts.
-use Rattle.std.proofs.Common.{◌≡◌, ℕ, ◌⊎◌, inl, inr, Bool, true, false, List, [], ◌∷◌, Option, Some, None, refl, sym, ap, ◌∙◌, subst}
+use Rattle.std.proofs.Common.{◌≡◌, ℕ, ◌⊎◌, inl, inr, Bool, true, false, List, [], ◌∷◌, Option, Some, None, sym, ◌∙◌, subst}
 use Rattle.ecma_token.specs.declared.place.Span.{Span}
 use Rattle.ecma_token.specs.Kinds.{left_brace_kind, right_brace_kind, comma_kind, mul_kind, shebang_kind, default_kind, with_kind, export_kind, import_kind, as_kind, assert_kind, from_kind}
 use Rattle.ecma_tree.specs.Tree.{Tree}
-use Rattle.ecma_syntax.specs.Input.{Input, Code, Takes, TakesWord, Spans, brk, in_list}
+use Rattle.ecma_syntax.specs.Input.{Input, Code, TakesWord, Spans, brk, in_list}
 use Rattle.ecma_syntax.specs.Operators.{assignment_level, exports_end, source_end, plain_end}
 use Rattle.ecma_syntax.specs.Shape.{ends, is_absent, is_string, is_default_import, is_star_import, is_named_import, is_star_export, is_named_export, export_name}
-use Rattle.ecma_grammar.specs.Parts.{is_ident, Part, By, IsEmpty, Expr, Sorted, Listed, Items, Ends, AtEnd}
-use Rattle.ecma_grammar.specs.Modules.{ExportName, NamedImport, DefaultImport, StarImport, NamedImports, AfterDefault, ImportClause, Attributes, Source, Import, NamedExport, StarExport, NamedExports, ExportList, ExportStarAs, Specified, Exports, ExportAll, ExportDeclaration, ExportDefault, DefaultDeclaration, starts_default, DefaultExpression, Hashbang, Program}
+use Rattle.ecma_grammar.specs.Parts.{is_ident, Part, By, IsEmpty, Sorted, Ends, AtEnd}
+use Rattle.ecma_grammar.specs.Modules.{ExportName, NamedImport, DefaultImport, StarImport, NamedImports, AfterDefault, ImportClause, Attributes, Source, Import, NamedExport, StarExport, NamedExports, ExportList, ExportStarAs, Specified, Exports, ExportAll, ExportDeclaration, ExportDefault, DefaultDeclaration, DefaultExpression, Hashbang, Program}
 use Rattle.ecma_grammar_placed.specs.Laws.{placing}
 use Rattle.ecma_grammar_placed.proofs.Like.{Worn, Like, Moves, brk_like, content_like, default_like, spans_like, nothing, take, take_word, take_any}
 use Rattle.ecma_grammar_placed.proofs.Forms.{Moved, AllMoved, same, either, expr, sorted, listed, ends_on, items}

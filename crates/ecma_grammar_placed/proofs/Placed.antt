@@ -1,17 +1,17 @@
 -- What tokens alone derive, they derive under the goals and in the contexts of its productions: by induction on the tree, a line a node.
-use Rattle.std.proofs.Common.{◌≡◌, ℕ, Bool, true, false, if◌then◌else◌, List, []}
+use Rattle.std.proofs.Common.{Bool, true, false, if◌then◌else◌}
 use Rattle.ecma_token.specs.Kinds.{null_kind, true_kind, false_kind, break_kind, continue_kind, this_kind}
 use Rattle.ecma_tree.specs.Tree.{Tree, Trees, script, es_module, import_decl, export_decl, named_export, export_default_decl, export_default_expr, export_all, import_named_specifier, import_default_specifier, import_star_as_specifier, export_namespace_specifier, export_named_specifier, block_stmt, empty_stmt, debugger_stmt, with_stmt, return_stmt, labeled_stmt, break_stmt, continue_stmt, if_stmt, switch_stmt, switch_case, throw_stmt, try_stmt, catch_clause, while_stmt, do_while_stmt, for_stmt, for_in_stmt, for_of_stmt, expr_stmt, class_decl, fn_decl, var_decl, using_decl, var_declarator, function, param, class, constructor, class_method, private_method, class_prop, private_prop, static_block, auto_accessor, ident_name, computed_prop_name, private_name, this_expr, array_lit, object_lit, fn_expr, unary_expr, update_expr, bin_expr, assign_expr, member_expr, super_prop_expr, cond_expr, call_expr, new_expr, seq_expr, ident, tpl, tpl_element, tagged_tpl, arrow_expr, class_expr, yield_expr, meta_prop_expr, await_expr, paren_expr, opt_chain_expr, opt_call, super, import, expr_or_spread, spread_element, key_value_prop, assign_prop, getter_prop, setter_prop, method_prop, str_lit, bool_lit, null_lit, number_lit, big_int_lit, regex_lit, binding_ident, array_pat, rest_pat, object_pat, assign_pat, key_value_pat_prop, assign_pat_prop, expr_pat, list, absent, none, more}
-use Rattle.ecma_syntax.specs.Input.{Input, Code}
+use Rattle.ecma_syntax.specs.Input.{Code}
 use Rattle.ecma_syntax.specs.Operators.{expression_level, assignment_level}
 use Rattle.ecma_syntax.specs.Shape.{is_private, is_item, function_parts, class_span, is_key, declarators_end}
-use Rattle.ecma_grammar.specs.Parts.{Part, part, is_module_item}
+use Rattle.ecma_grammar.specs.Parts.{part, is_module_item}
 use Rattle.ecma_grammar.specs.Expressions.{Bracketed, AccessedName, Dotted}
 use Rattle.ecma_grammar.specs.Statements.{HeadVariables, HeadUsing, HeadTarget, OfTarget}
 use Rattle.ecma_grammar.specs.Grammar.{Spells, parts}
 use Rattle.ecma_grammar_placed.specs.Laws.{placing}
 use Rattle.ecma_grammar_placed.proofs.Like.{Moves}
-use Rattle.ecma_grammar_placed.proofs.Forms.{Moved, AllMoved}
+use Rattle.ecma_grammar_placed.proofs.Forms.{AllMoved}
 use Rattle.ecma_grammar_placed.proofs.Expressions.{keyword, identifier, identifier_name, private, string, number, big_int, regexp, element, array, object, property, cover, spread, bracketed, characters, template, parens, accessed, dotted, member, super_property, call, super_call, import_call, new_with, new_bare, chain_member, chain_call, tagged, meta_property, update, unary, awaits, binary, conditional, assignment, sequence, yield_bare, yields, array_pattern, object_pattern, initialised, rests, keyed_item, named_item}
 use Rattle.ecma_grammar_placed.proofs.Functions.{parameter, function_on, function_declaration, function_expression, arrow_block, arrow_expression, object_method, getter, setter, class_tail, class_declaration, class_expression, constructs_on, class_method_on, field, accessor, static_block_on}
 use Rattle.ecma_grammar_placed.proofs.Statements.{block, empty, debugger, declarator, variables, using_on, expression_statement, if_on, do_while, while_on, for_expression, for_variables, for_using, head_variables, head_using, head_target, of_target, for_in, for_of, jump, return_on, throw_on, with_on, labelled, case_on, switch_on, catch_on, try_on}

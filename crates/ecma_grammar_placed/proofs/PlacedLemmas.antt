@@ -1,20 +1,17 @@
 -- The laws: places for what is read, and at most one tree of the same tokens.
-use Rattle.std.proofs.Common.{◌≡◌, ℕ, Bool, true, false, List, [], ◌∷◌, Option, Ok, refl, sym, ap, ◌∙◌, subst}
+use Rattle.std.proofs.Common.{◌≡◌, ℕ, Bool, true, false, List, [], ◌∷◌, Option, refl, sym, ap, ◌∙◌, subst}
 use Rattle.ecma_token.specs.declared.context.Context.{Context}
 use Rattle.ecma_token.specs.declared.error.SyntaxError.{SyntaxError}
-use Rattle.ecma_token.specs.declared.place.Span.{Span}
-use Rattle.ecma_token.specs.declared.syntax.EsSyntax.{EsSyntax}
 use Rattle.ecma_token.specs.Tokens.{Spot}
-use Rattle.ecma_tree.specs.Tree.{Tree, Trees, script, es_module}
+use Rattle.ecma_tree.specs.Tree.{Tree, script, es_module}
 use Rattle.ecma_syntax.specs.Input.{Place, Input, Code, div_goal, no_context, script_code, module_code}
 use Rattle.ecma_grammar.specs.Grammar.{Spells, Derives}
-use Rattle.ecma_reading.specs.Reading.{read_list}
 use Rattle.ecma_grammar_complete_base.specs.Laws.{coded, InOrder}
 use Rattle.ecma_grammar_laws.specs.Laws.{tokens}
 use Rattle.ecma_grammar_laws.proofs.SoundLemmas.{lists_sound}
 use Rattle.ecma_grammar_whole.proofs.WholeLemmas.{one_script, one_module}
 use Rattle.ecma_grammar_placed.specs.Laws.{SameToken, SameTokens, placing, DerivesPlaced, HasPlaces, ReadHasPlaces, OneScriptOfTokens, OneModuleOfTokens}
-use Rattle.ecma_grammar_placed.proofs.Like.{Bare, Worn, Like}
+use Rattle.ecma_grammar_placed.proofs.Like.{Bare, Worn}
 use Rattle.ecma_grammar_placed.proofs.Placed.{move}
 
 -- ---- places for what is derived
