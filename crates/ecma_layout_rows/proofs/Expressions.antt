@@ -141,3 +141,106 @@ rows_7 : Hold (
     [])
 unfolding laid_out
 rows_7 = refl
+
+rows_8 : Hold (
+    script (codes "[a,,b]") (codes "[\n    a,\n    ,\n    b\n];\n") (codes "[a,,b]") ++
+    script (codes "[,,]") (codes "[\n    ,\n    , \n];\n") (codes "[,,]") ++
+    script (codes "[[],[]]") (codes "[\n    [],\n    []\n];\n") (codes "[[],[]]") ++
+    script (codes "[a,]") (codes "[\n    a\n];\n") (codes "[a]") ++
+    script (codes "[{}]") (codes "[\n    {}\n];\n") (codes "[{}]") ++
+    script (codes "[a=>b]") (codes "[\n    (a)=>b\n];\n") (codes "[a=>b]") ++
+    script (codes "[(a,b)]") (codes "[\n    (a, b)\n];\n") (codes "[(a,b)]") ++
+    script (codes "({a:b,})") (codes "({\n    a: b\n});\n") (codes "({a:b})") ++
+    script (codes "({a:{b:{}}})") (codes "({\n    a: {\n        b: {}\n    }\n});\n") (codes "({a:{b:{}}})") ++
+    script (codes "({a:b=>c})") (codes "({\n    a: (b)=>c\n});\n") (codes "({a:b=>c})") ++
+    script (codes "({...a,...b})") (codes "({\n    ...a,\n    ...b\n});\n") (codes "({...a,...b})") ++
+    script (codes "({[a](){}})") (codes "({\n    [a] () {}\n});\n") (codes "({[a](){}})") ++
+    script (codes "({'a'(){},1(){}})") (codes "({\n    'a' () {},\n    1 () {}\n});\n") (codes "({\"a\"(){},1(){}})") ++
+    script (codes "({get 1(){},get(){},set(){},async(){}})") (codes "({\n    get 1 () {},\n    get () {},\n    set () {},\n    async () {}\n});\n") (codes "({get 1(){},get(){},set(){},async(){}})") ++
+    script (codes "({set a([b]){}})") (codes "({\n    set a ([b]){}\n});\n") (codes "({set a([b]){}})") ++
+    script (codes "({async'a'(){},async*[b](){}})") (codes "({\n    async 'a' () {},\n    async *[b] () {}\n});\n") (codes "({async \"a\"(){},async *[b](){}})") ++
+    [])
+unfolding laid_out
+rows_8 = refl
+
+rows_9 : Hold (
+    script (codes "({a(){super.b;super[c]}})") (codes "({\n    a () {\n        super.b;\n        super[c];\n    }\n});\n") (codes "({a(){super.b;super[c]}})") ++
+    script (codes "({'__proto__':a,'b':c})") (codes "({\n    '__proto__': a,\n    'b': c\n});\n") (codes "({\"__proto__\":a,\"b\":c})") ++
+    script (codes "a?.b?.c") (codes "a?.b?.c;\n") (codes "a?.b?.c") ++
+    script (codes "a?.[b]?.[c]") (codes "a?.[b]?.[c];\n") (codes "a?.[b]?.[c]") ++
+    script (codes "a?.(b)?.(c)") (codes "a?.(b)?.(c);\n") (codes "a?.(b)?.(c)") ++
+    script (codes "a?.b()") (codes "a?.b();\n") (codes "a?.b()") ++
+    script (codes "a.b?.()") (codes "a.b?.();\n") (codes "a.b?.()") ++
+    script (codes "a[b]?.c") (codes "a[b]?.c;\n") (codes "a[b]?.c") ++
+    script (codes "(a?.b).c") (codes "(a?.b).c;\n") (codes "(a?.b).c") ++
+    script (codes "a?.b(c,...d)") (codes "a?.b(c, ...d);\n") (codes "a?.b(c,...d)") ++
+    script (codes "new(a?.b)") (codes "new (a?.b)();\n") (codes "new(a?.b)") ++
+    script (codes "new a[b]") (codes "new a[b]();\n") (codes "new a[b]") ++
+    script (codes "new a(b)(c)") (codes "new a(b)(c);\n") (codes "new a(b)(c)") ++
+    script (codes "new(class{})") (codes "new (class {\n})();\n") (codes "new(class{})") ++
+    script (codes "new class{}") (codes "new class {\n}();\n") (codes "new class{}") ++
+    script (codes "new function(){}") (codes "new function() {}();\n") (codes "new function(){}") ++
+    [])
+unfolding laid_out
+rows_9 = refl
+
+rows_10 : Hold (
+    script (codes "new a;new b") (codes "new a();\nnew b();\n") (codes "new a;new b") ++
+    script (codes "new a().b=c") (codes "new a().b = c;\n") (codes "new a().b=c") ++
+    script (codes "new a(...b,c)") (codes "new a(...b, c);\n") (codes "new a(...b,c)") ++
+    script (codes "new a+b") (codes "new a() + b;\n") (codes "new a+b") ++
+    script (codes "new this") (codes "new this();\n") (codes "new this") ++
+    script (codes "a()[b]") (codes "a()[b];\n") (codes "a()[b]") ++
+    script (codes "(a)()") (codes "(a)();\n") (codes "(a)()") ++
+    script (codes "(a).b") (codes "(a).b;\n") (codes "(a).b") ++
+    script (codes "a((b,c))") (codes "a((b, c));\n") (codes "a((b,c))") ++
+    script (codes "a(function(){})") (codes "a(function() {});\n") (codes "a(function(){})") ++
+    script (codes "a(b=>c,d)") (codes "a((b)=>c, d);\n") (codes "a(b=>c,d)") ++
+    script (codes "a({b},[c])") (codes "a({\n    b\n}, [\n    c\n]);\n") (codes "a({b},[c])") ++
+    script (codes "a=b?c:d") (codes "a = b ? c : d;\n") (codes "a=b?c:d") ++
+    script (codes "a?(b,c):d") (codes "a ? (b, c) : d;\n") (codes "a?(b,c):d") ++
+    script (codes "a?b=c:d=e") (codes "a ? b = c : d = e;\n") (codes "a?b=c:d=e") ++
+    script (codes "a,b,c") (codes "a, b, c;\n") (codes "a,b,c") ++
+    [])
+unfolding laid_out
+rows_10 = refl
+
+rows_11 : Hold (
+    script (codes "a=>b=>c") (codes "(a)=>(b)=>c;\n") (codes "a=>b=>c") ++
+    script (codes "()=>{a}") (codes "()=>{\n    a;\n};\n") (codes "()=>{a}") ++
+    script (codes "()=>[a]") (codes "()=>[\n        a\n    ];\n") (codes "()=>[a]") ++
+    script (codes "([a])=>b") (codes "([a])=>b;\n") (codes "([a])=>b") ++
+    script (codes "(a,...b)=>c") (codes "(a, ...b)=>c;\n") (codes "(a,...b)=>c") ++
+    script (codes "({a=1})=>b") (codes "({ a = 1 })=>b;\n") (codes "({a=1})=>b") ++
+    script (codes "async({a})=>b") (codes "async ({ a })=>b;\n") (codes "async({a})=>b") ++
+    script (codes "async a=>{}") (codes "async (a)=>{};\n") (codes "async a=>{}") ++
+    script (codes "async()=>{await a}") (codes "async ()=>{\n    await a;\n};\n") (codes "async()=>{await a}") ++
+    script (codes "a=>(b,c)") (codes "(a)=>(b, c);\n") (codes "a=>(b,c)") ++
+    script (codes "a=>b?c:d") (codes "(a)=>b ? c : d;\n") (codes "a=>b?c:d") ++
+    script (codes "(a=>b)()") (codes "((a)=>b)();\n") (codes "(a=>b)()") ++
+    script (codes "a=b=>c") (codes "a = (b)=>c;\n") (codes "a=b=>c") ++
+    script (codes "({},a)=>b") (codes "({}, a)=>b;\n") (codes "({},a)=>b") ++
+    script (codes "a=>function(){}") (codes "(a)=>function() {};\n") (codes "a=>function(){}") ++
+    script (codes "``") (codes "``;\n") (codes "``") ++
+    [])
+unfolding laid_out
+rows_11 = refl
+
+rows_12 : Hold (
+    script (codes "`${a}${b}`") (codes "`${a}${b}`;\n") (codes "`${a}${b}`") ++
+    script (codes "`${a,b}`") (codes "`${a, b}`;\n") (codes "`${a,b}`") ++
+    script (codes "`${`a`}`") (codes "`${`a`}`;\n") (codes "`${`a`}`") ++
+    script (codes "a.b`c`") (codes "a.b`c`;\n") (codes "a.b`c`") ++
+    script (codes "a()`b`") (codes "a()`b`;\n") (codes "a()`b`") ++
+    script (codes "function*f(){yield[a];yield-b;a=yield}") (codes "function* f() {\n    yield [\n        a\n    ];\n    yield -b;\n    a = yield;\n}\n") (codes "function*f(){yield[a];yield-b;a=yield}") ++
+    script (codes "function*f(){yield*[a]}") (codes "function* f() {\n    yield* [\n        a\n    ];\n}\n") (codes "function*f(){yield*[a]}") ++
+    script (codes "async function f(){await[a];await await b}") (codes "async function f() {\n    await [\n        a\n    ];\n    await await b;\n}\n") (codes "async function f(){await [a];await await b}") ++
+    script (codes "(async function*a(){})") (codes "(async function* a() {});\n") (codes "(async function* a(){})") ++
+    script (codes "(function(){a})()") (codes "(function() {\n    a;\n})();\n") (codes "(function(){a})()") ++
+    script (codes "x=class A{a}") (codes "x = class A {\n    a;\n};\n") (codes "x=class A{a}") ++
+    script (codes "'a\"b'") (codes "'a\"b';\n") (codes "'a\"b'") ++
+    script (codes "import(a).b") (codes "import(a).b;\n") (codes "import(a).b") ++
+    script (codes "function f(){new new.target}") (codes "function f() {\n    new new.target();\n}\n") (codes "function f(){new new.target}") ++
+    [])
+unfolding laid_out
+rows_12 = refl

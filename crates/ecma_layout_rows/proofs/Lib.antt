@@ -5,3 +5,5 @@ mod Expressions
 mod Operators
 mod Patterns
 mod Modules
+mod Literals
+mod Options

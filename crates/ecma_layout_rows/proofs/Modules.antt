@@ -51,3 +51,37 @@ rows_3 : Hold (
     [])
 unfolding laid_out
 rows_3 = refl
+
+rows_4 : Hold (
+    module_ (codes "import{a as b}from'c'") (codes "import { a as b } from 'c';\n") (codes "import{a as b}from\"c\"") ++
+    module_ (codes "import a,{b as c,d}from'e'") (codes "import a, { b as c, d } from 'e';\n") (codes "import a,{b as c,d}from\"e\"") ++
+    module_ (codes "import a,{}from'b'") (codes "import a from 'b';\n") (codes "import a from\"b\"") ++
+    module_ (codes "import'a'with{b:'c'}") (codes "import 'a' with {\n    b: 'c'\n};\n") (codes "import\"a\"with{b:\"c\"}") ++
+    module_ (codes "import a from'b'with{}") (codes "import a from 'b' with {};\n") (codes "import a from\"b\"with{}") ++
+    module_ (codes "export{a as default}") (codes "export { a as default };\n") (codes "export{a as default}") ++
+    module_ (codes "export{default}from'a'") (codes "export { default } from 'a';\n") (codes "export{default}from\"a\"") ++
+    module_ (codes "export{default as a}from'b'") (codes "export { default as a } from 'b';\n") (codes "export{default as a}from\"b\"") ++
+    module_ (codes "export*as default from'a'") (codes "export * as default from 'a';\n") (codes "export*as default from\"a\"") ++
+    module_ (codes "export*as'a'from'b'") (codes "export * as 'a' from 'b';\n") (codes "export*as \"a\" from\"b\"") ++
+    module_ (codes "export{a}from'b'with{c:'d'}") (codes "export { a } from 'b' with {\n    c: 'd'\n};\n") (codes "export{a}from\"b\"with{c:\"d\"}") ++
+    module_ (codes "export let a") (codes "export let a;\n") (codes "export let a") ++
+    module_ (codes "export const a=1,b=2") (codes "export const a = 1, b = 2;\n") (codes "export const a=1,b=2") ++
+    module_ (codes "export async function a(){}") (codes "export async function a() {}\n") (codes "export async function a(){}") ++
+    module_ (codes "export function*a(){}") (codes "export function* a() {}\n") (codes "export function*a(){}") ++
+    module_ (codes "export default async function(){}") (codes "export default async function() {}\n") (codes "export default async function(){}") ++
+    [])
+unfolding laid_out
+rows_4 = refl
+
+rows_5 : Hold (
+    module_ (codes "export default function*(){}") (codes "export default function*() {}\n") (codes "export default function*(){}") ++
+    module_ (codes "export default(a)") (codes "export default (a);\n") (codes "export default(a)") ++
+    module_ (codes "export default a=>b") (codes "export default (a)=>b;\n") (codes "export default a=>b") ++
+    module_ (codes "export default{}") (codes "export default {};\n") (codes "export default{}") ++
+    module_ (codes "export default'a'") (codes "export default 'a';\n") (codes "export default\"a\"") ++
+    module_ (codes "export default class extends A{}") (codes "export default class extends A {\n}\n") (codes "export default class extends A{}") ++
+    module_ (codes "export class A{a}") (codes "export class A {\n    a;\n}\n") (codes "export class A{a}") ++
+    module_ (codes "import a from'b';import c from'd';e") (codes "import a from 'b';\nimport c from 'd';\ne;\n") (codes "import a from\"b\";import c from\"d\";e") ++
+    [])
+unfolding laid_out
+rows_5 = refl

@@ -19,6 +19,17 @@ blank_page = record { out = []; depth = 0; at_start = true; marks = None; line_e
 abbrev pub look_of : Bool → Look
 look_of minify = record { style = record { target = EsNext; minify = minify; ascii_only = false; inline_script = false }; omits_last = minify; asserts = false }
 
+-- the looks of a program by other settings: only characters of ASCII, a text that stands in a page, a last semicolon that
+-- stays, and `assert` before attributes
+abbrev pub styled : Bool → Bool → Bool → Look
+styled ascii page minify = record { style = record { target = EsNext; minify = minify; ascii_only = ascii; inline_script = page }; omits_last = minify; asserts = false }
+
+abbrev pub keeps_last : Bool → Look
+keeps_last minify = record (look_of minify) { omits_last = false }
+
+abbrev pub asserts : Bool → Look
+asserts minify = record (look_of minify) { asserts = true }
+
 -- what is written for a text that is read, `no` for one that isn't
 abbrev pub written : Bool → Result Tree Fault → List ℕ
 written minify (Err f) = codes "no"
@@ -50,6 +61,29 @@ module_ text formatted minified = rows true text formatted minified
 unfoldable pub script_once : List ℕ → List ℕ → List ℕ → List Row
 script_once text formatted minified = row false false text formatted ∷ row false true text minified ∷ []
 
+-- a program by other settings
+abbrev pub written_as : (Bool → Look) → Bool → Result Tree Fault → List ℕ
+written_as look minify (Err f) = codes "no"
+written_as look true (Ok t) = (shortened (pieces (look true) t) blank_page).out
+written_as look false (Ok t) = (resolved (pieces (look false) t) blank_page).out
+
+abbrev pub rows_as : (Bool → Look) → Bool → List ℕ → List ℕ → List ℕ → List Row
+rows_as look modules text formatted minified =
+    record { text = text; got = written_as look false (read_text modules full_syntax text); wanted = formatted }
+    ∷ record { text = text; got = written_as look true (read_text modules full_syntax text); wanted = minified } ∷ []
+
+unfoldable pub in_ascii : List ℕ → List ℕ → List ℕ → List Row
+in_ascii text formatted minified = rows_as (styled true false) false text formatted minified
+
+unfoldable pub in_page : List ℕ → List ℕ → List ℕ → List Row
+in_page text formatted minified = rows_as (styled false true) false text formatted minified
+
+unfoldable pub keeping_last : List ℕ → List ℕ → List ℕ → List Row
+keeping_last text formatted minified = rows_as keeps_last false text formatted minified
+
+unfoldable pub asserting : List ℕ → List ℕ → List ℕ → List Row
+asserting text formatted minified = rows_as asserts true text formatted minified
+
 unfoldable pub wrong : List Row → List Row
 wrong [] = []
 wrong (r ∷ rs) = let others = wrong rs in if bytes_eq r.got r.wanted then others else r ∷ others
@@ -58,5 +92,5 @@ abbrev pub Hold : List Row → Type 0
 Hold rows = wrong rows ≡ []
 
 unfoldable pub laid_out : ℕ
-unfolding opened chars encode_utf8 put put_line deeper shallower with_text indented end_line put_mark record_pair moved settled marked own_text sign_of closing script module_ script_once wrong
+unfolding opened chars encode_utf8 put put_line deeper shallower with_text indented end_line put_mark record_pair moved settled marked own_text sign_of closing script module_ script_once in_ascii in_page keeping_last asserting wrong
 laid_out = 0

@@ -94,3 +94,94 @@ rows_5 : Hold (
     [])
 unfolding laid_out
 rows_5 = refl
+
+rows_6 : Hold (
+    script (codes ";;") (codes ";\n;\n") (codes ";;") ++
+    script (codes "if(a);else;") (codes "if (a) ;\nelse ;\n") (codes "if(a);else;") ++
+    script (codes "if(a)b;else if(c)d") (codes "if (a) b;\nelse if (c) d;\n") (codes "if(a)b;else if(c)d") ++
+    script (codes "if(a){}else if(b){}else if(c){}else d") (codes "if (a) {} else if (b) {} else if (c) {} else d;\n") (codes "if(a){}else if(b){}else if(c){}else d") ++
+    script (codes "if(a)b;else if(c)d;else if(e)f;else if(g)h;else i") (codes "if (a) b;\nelse if (c) d;\nelse if (e) f;\nelse if (g) h;\nelse i;\n") (codes "if(a)b;else if(c)d;else if(e)f;else if(g)h;else i") ++
+    script (codes "if(a)var b;else c") (codes "if (a) var b;\nelse c;\n") (codes "if(a)var b;else c") ++
+    script (codes "if(a)b;else{}") (codes "if (a) b;\nelse {}\n") (codes "if(a)b;else{}") ++
+    script (codes "if(a)b;else var c") (codes "if (a) b;\nelse var c;\n") (codes "if(a)b;else var c") ++
+    script (codes "if(a)b;else if(c);d") (codes "if (a) b;\nelse if (c) ;\nd;\n") (codes "if(a)b;else if(c);d") ++
+    script (codes "if(a)while(b);else c") (codes "if (a) while(b);\nelse c;\n") (codes "if(a)while(b);else c") ++
+    script (codes "if(a){}b") (codes "if (a) {}\nb;\n") (codes "if(a){}b") ++
+    script (codes "if(a,b);") (codes "if (a, b) ;\n") (codes "if(a,b);") ++
+    script (codes "while(a)while(b);") (codes "while(a)while(b);\n") (codes "while(a)while(b);") ++
+    script (codes "while(a)var b") (codes "while(a)var b;\n") (codes "while(a)var b") ++
+    script (codes "while(a){}b") (codes "while(a){}\nb;\n") (codes "while(a){}b") ++
+    script (codes "do var a;while(b)") (codes "do var a;\nwhile (b);\n") (codes "do var a;while(b)") ++
+    [])
+unfolding laid_out
+rows_6 = refl
+
+rows_7 : Hold (
+    script (codes "do do a;while(b);while(c)") (codes "do do a;\nwhile (b);\nwhile (c);\n") (codes "do do a;while(b);while(c)") ++
+    script (codes "do if(a)b;while(c)") (codes "do if (a) b;\nwhile (c);\n") (codes "do if(a)b;while(c)") ++
+    script (codes "do;while(a)") (codes "do ;\nwhile (a);\n") (codes "do;while(a)") ++
+    script (codes "do[a];while(b)") (codes "do [\n    a\n];\nwhile (b);\n") (codes "do[a];while(b)") ++
+    script (codes "for(;a;);") (codes "for(; a;);\n") (codes "for(;a;);") ++
+    script (codes "for(;;a);") (codes "for(;; a);\n") (codes "for(;;a);") ++
+    script (codes "for(a;;);") (codes "for(a;;);\n") (codes "for(a;;);") ++
+    script (codes "for(let a=1,b=2;;);") (codes "for(let a = 1, b = 2;;);\n") (codes "for(let a=1,b=2;;);") ++
+    script (codes "for(let{a}=b;;);") (codes "for(let { a } = b;;);\n") (codes "for(let{a}=b;;);") ++
+    script (codes "for(a,b;c,d;e,f);") (codes "for(a, b; c, d; e, f);\n") (codes "for(a,b;c,d;e,f);") ++
+    script (codes "for(;;)var a") (codes "for(;;)var a;\n") (codes "for(;;)var a") ++
+    script (codes "for(var a of b)c") (codes "for (var a of b)c;\n") (codes "for(var a of b)c") ++
+    script (codes "for(var a of(b))c") (codes "for (var a of (b))c;\n") (codes "for(var a of(b))c") ++
+    script (codes "for(a.b in c);") (codes "for(a.b in c);\n") (codes "for(a.b in c);") ++
+    script (codes "for(a[b]in c);") (codes "for(a[b] in c);\n") (codes "for(a[b]in c);") ++
+    script (codes "for(a[b]of c);") (codes "for (a[b] of c);\n") (codes "for(a[b]of c);") ++
+    [])
+unfolding laid_out
+rows_7 = refl
+
+rows_8 : Hold (
+    script (codes "for(var a in b,c);") (codes "for(var a in b, c);\n") (codes "for(var a in b,c);") ++
+    script (codes "for(var{a}of b);") (codes "for (var { a } of b);\n") (codes "for(var{a}of b);") ++
+    script (codes "for(let[a]of b);") (codes "for (let [a] of b);\n") (codes "for(let[a]of b);") ++
+    script (codes "for(const a in b){}") (codes "for(const a in b){}\n") (codes "for(const a in b){}") ++
+    script (codes "for(const a of b){c}") (codes "for (const a of b){\n    c;\n}\n") (codes "for(const a of b){c}") ++
+    script (codes "with(a){b}") (codes "with (a){\n    b;\n}\n") (codes "with(a){b}") ++
+    script (codes "with(a);") (codes "with (a);\n") (codes "with(a);") ++
+    script (codes "a:b:c") (codes "a: b: c;\n") (codes "a:b:c") ++
+    script (codes "a:while(b)continue a") (codes "a: while(b)continue a;\n") (codes "a:while(b)continue a") ++
+    script (codes "a:{break a}") (codes "a: {\n    break a;\n}\n") (codes "a:{break a}") ++
+    script (codes "switch(a){default:b;c}") (codes "switch(a){\n    default:\n        b;\n        c;\n}\n") (codes "switch(a){default:b;c}") ++
+    script (codes "switch(a){case 1:{}case 2:}") (codes "switch(a){\n    case 1:\n        {}\n    case 2:\n}\n") (codes "switch(a){case 1:{}case 2:}") ++
+    script (codes "switch(a){case b:var c}") (codes "switch(a){\n    case b:\n        var c;\n}\n") (codes "switch(a){case b:var c}") ++
+    script (codes "switch(a,b){}") (codes "switch(a, b){\n}\n") (codes "switch(a,b){}") ++
+    script (codes "switch(a){case[b]:case-c:}") (codes "switch(a){\n    case [\n        b\n    ]:\n    case -c:\n}\n") (codes "switch(a){case[b]:case-c:}") ++
+    script (codes "switch(a){}b") (codes "switch(a){\n}\nb;\n") (codes "switch(a){}b") ++
+    [])
+unfolding laid_out
+rows_8 = refl
+
+rows_9 : Hold (
+    script (codes "try{}catch([a]){}") (codes "try {} catch ([a]) {}\n") (codes "try{}catch([a]){}") ++
+    script (codes "try{}catch{a}") (codes "try {} catch  {\n    a;\n}\n") (codes "try{}catch{a}") ++
+    script (codes "try{}catch(a){}finally{b}") (codes "try {} catch (a) {} finally{\n    b;\n}\n") (codes "try{}catch(a){}finally{b}") ++
+    script (codes "try{a}finally{}b") (codes "try {\n    a;\n} finally{}\nb;\n") (codes "try{a}finally{}b") ++
+    script (codes "throw-a") (codes "throw -a;\n") (codes "throw-a") ++
+    script (codes "throw new a") (codes "throw new a();\n") (codes "throw new a") ++
+    script (codes "throw'a'") (codes "throw 'a';\n") (codes "throw\"a\"") ++
+    script (codes "function f(){return-a}") (codes "function f() {\n    return -a;\n}\n") (codes "function f(){return-a}") ++
+    script (codes "function f(){return[a]}") (codes "function f() {\n    return [\n        a\n    ];\n}\n") (codes "function f(){return[a]}") ++
+    script (codes "function f(){return a,b}") (codes "function f() {\n    return a, b;\n}\n") (codes "function f(){return a,b}") ++
+    script (codes "function f(){return;a}") (codes "function f() {\n    return;\n    a;\n}\n") (codes "function f(){return;a}") ++
+    script (codes "function f(){return function(){}}") (codes "function f() {\n    return function() {};\n}\n") (codes "function f(){return function(){}}") ++
+    script (codes "{;}") (codes "{\n    ;\n}") (codes "{;}") ++
+    script (codes "{var a}") (codes "{\n    var a;\n}") (codes "{var a}") ++
+    script (codes "{function a(){}}") (codes "{\n    function a() {}\n}") (codes "{function a(){}}") ++
+    script (codes "{class A{}}") (codes "{\n    class A {\n    }\n}") (codes "{class A{}}") ++
+    [])
+unfolding laid_out
+rows_9 = refl
+
+rows_10 : Hold (
+    script (codes "{{a}b}") (codes "{\n    {\n        a;\n    }\n    b;\n}") (codes "{{a}b}") ++
+    script (codes "{a}b") (codes "{\n    a;\n}b;\n") (codes "{a}b") ++
+    [])
+unfolding laid_out
+rows_10 = refl
