@@ -1,0 +1,2 @@
+-- What the rules of classes share.
+pub mod Members

@@ -1,0 +1,113 @@
+//! Keys of members, and fields.
+ghost use Rattle.std.specs.Prelude.{◌≡◌, ◌<◌, ◌≤◌, IfOk};
+ghost use Rattle.ecma_syntax.specs.Input.{kind};
+ghost use Rattle.ecma_syntax.specs.Shape as shape;
+ghost use Rattle.ecma_tree.specs.Tree.{part_by};
+ghost use Rattle.ecma_node.specs.Fits.{fits_class_member, fits_held, fits_key};
+ghost use Rattle.ecma_node.specs.Placed.{holds_expr, inner};
+ghost use Rattle.ecma_node.specs.View.{view_class_member, view_key};
+ghost use Rattle.ecma_reading.specs.Source as spec;
+ghost use Rattle.ecma_reading.specs.Statements as reads;
+ghost use Rattle.ecma_parse_state.specs.Answers.{Gives};
+ghost use Rattle.ecma_parse_state.specs.Codes.{code_of};
+ghost use Rattle.ecma_parse_state.specs.Fronts.{machine_of};
+ghost use Rattle.ecma_parse_state.specs.Stands.{from, stand};
+ghost use Rattle.ecma_parse_classes.specs.Members.{field_by};
+
+use crate::heads::field_end;
+use crate::made;
+use ecma_node::{ClassMember, ExprBox, Key};
+use ecma_parse_base::Nested;
+use ecma_parse_blocks::lookahead::in_field;
+use ecma_parse_expr::operators::private_name;
+use ecma_parse_functions::keys;
+use ecma_parse_state::operators::ASSIGNMENT;
+use ecma_parse_state::{Around, Failure, Parser, kinds};
+use ecma_token::BytePos;
+use ecma_tokens::Tokens;
+
+/// What follows a field's key: `=` and a value, or nothing, and the end.
+#[inline(never)]
+#[tactic(auto, using(ecma_parse_state::proofs::Marks::marks), unfolding(ecma_reading::specs::Statements::field_value))]
+pub fn field_value<'a, I: Tokens<'a> + Drop, N: Nested<'a, I>>(
+    p: &mut Parser<'a, I>,
+    nested: &N,
+    code: Around,
+    end: u8,
+) -> Result<Option<ExprBox>, Failure>
+    requires ready { N.ready nested.now }
+    ensures value { Gives (λ x. (part_by (λ y. inner y.part.value) x, stand I.state p.new)) result (reads.field_value (machine_of I.machine) (N.reads nested.now I.State I.machine) (code_of code) end (stand I.state p.old)) }
+    ensures fits { IfOk result (λ x. fits_held (λ y. holds_expr y.part.value) x) }
+    ensures not_longer { IfOk result (λ _. spec.bound (machine_of I.machine) (stand I.state p.new) ≤ spec.bound (machine_of I.machine) (stand I.state p.old)) }
+{
+    if p.eat(kinds::ASSIGN)? {
+        let value = nested.expr(p, in_field(code), ASSIGNMENT)?;
+        p.end_of(code, value.end)?;
+        return Ok(Some(value.expr));
+    }
+    p.end_of(code, end)?;
+    Ok(None)
+}
+
+/// The key of a member: a private name, or that of a property.
+#[inline(never)]
+#[tactic(auto, using(ecma_parse_state::proofs::Marks::marks), unfolding(ecma_reading::specs::Statements::class_key))]
+pub fn class_key<'a, I: Tokens<'a> + Drop, N: Nested<'a, I>>(
+    p: &mut Parser<'a, I>,
+    nested: &N,
+    code: Around,
+) -> Result<Key, Failure>
+    requires ready { N.ready nested.now }
+    ensures value { Gives (λ x. (view_key inner x, stand I.state p.new)) result (reads.class_key (machine_of I.machine) (N.reads nested.now I.State I.machine) (code_of code) (stand I.state p.old)) }
+    ensures fits { IfOk result (λ x. fits_key (λ p. p) x) }
+    ensures shorter { IfOk result (λ _. spec.bound (machine_of I.machine) (stand I.state p.new) < spec.bound (machine_of I.machine) (stand I.state p.old)) }
+{
+    if p.at(kinds::HASH) {
+        return Ok(Key::Private(private_name(p, nested)?));
+    }
+    Ok(Key::Public(keys::key(p, nested, code)?))
+}
+
+/// A field, after its key. Where it has no value, it ends so.
+#[inline(never)]
+#[tactic(auto, using(ecma_parse_state::proofs::Marks::marks, crate::proofs::Keys::pairs), unfolding(crate::specs::Members::field_by))]
+pub fn field<'a, I: Tokens<'a> + Drop, N: Nested<'a, I>>(
+    p: &mut Parser<'a, I>,
+    nested: &N,
+    code: Around,
+    start: BytePos,
+    is_static: bool,
+    end: u8,
+    key: Key,
+) -> Result<ClassMember, Failure>
+    requires ready { N.ready nested.now }
+    requires key { fits_key (λ p. p) key }
+    ensures value { Gives (λ x. (view_class_member inner x, stand I.state p.new)) result (field_by (machine_of I.machine) (N.reads nested.now I.State I.machine) (code_of code) (from start.0) is_static end (view_key inner key) (stand I.state p.old)) }
+    ensures fits { IfOk result (λ x. fits_class_member (λ p. p) x) }
+    ensures not_longer { IfOk result (λ _. spec.bound (machine_of I.machine) (stand I.state p.new) ≤ spec.bound (machine_of I.machine) (stand I.state p.old)) }
+{
+    let value = field_value(p, nested, code, end)?;
+    Ok(made::field(p.alloc, p.since(start), key, value, is_static))
+}
+
+/// A field with `accessor` before its key.
+#[inline(never)]
+#[tactic(auto, using(ecma_parse_state::proofs::Marks::marks), unfolding(ecma_reading::specs::Statements::accessor_by))]
+pub fn auto_accessor<'a, I: Tokens<'a> + Drop, N: Nested<'a, I>>(
+    p: &mut Parser<'a, I>,
+    nested: &N,
+    code: Around,
+    start: BytePos,
+    is_static: bool,
+) -> Result<ClassMember, Failure>
+    requires ready { N.ready nested.now }
+    ensures value { Gives (λ x. (view_class_member inner x, stand I.state p.new)) result (reads.accessor_by (machine_of I.machine) (N.reads nested.now I.State I.machine) (code_of code) (from start.0) is_static (stand I.state p.old)) }
+    ensures fits { IfOk result (λ x. fits_class_member (λ p. p) x) }
+    ensures shorter { IfOk result (λ _. spec.bound (machine_of I.machine) (stand I.state p.new) < spec.bound (machine_of I.machine) (stand I.state p.old)) }
+{
+    p.bump()?;
+    let end = field_end(true, p.kind());
+    let key = class_key(p, nested, code)?;
+    let value = field_value(p, nested, code, end)?;
+    Ok(made::auto_accessor(p.alloc, p.since(start), key, value, is_static))
+}
