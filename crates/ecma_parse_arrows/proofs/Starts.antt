@@ -1,0 +1,81 @@
+-- Where an expression began shows in the places of nodes alone.
+use Rattle.std.proofs.Common.{◌≡◌, ℕ, Bool, false, if◌then◌else◌, List, [], ◌∷◌, Option, None, Some, Result, Ok, refl, sym, ap, ◌∙◌}
+use Rattle.ecma_token.specs.declared.place.Span.{Span}
+use Rattle.ecma_tokens.specs.Machine as tokens
+use Rattle.ecma_tree.specs.Tree.{Tree, paren_expr}
+use Rattle.ecma_syntax.specs.Input.{Code, lo, hi, first_span, span, text}
+use Rattle.ecma_reading.specs.Source.{Fault, unexpected, ◌>>=◌, Machine, Stand, Inner, input, past, spanned}
+use Rattle.ecma_reading.specs.Expressions.{Elements, arrow_by, arrows, joined, last_end, params_of, plain_elements, async_by, async_group, function_expr_by, function_expr_name, group_end, ident_end}
+use Rattle.ecma_parse_state.specs.Fronts.{Front, machine_of}
+use Rattle.ecma_parse_state.specs.Stands.{from, from_span}
+use Rattle.ecma_parse_state.proofs.Marks.{lo_from, lo_from_span, first_from_span}
+use Rattle.ecma_parse_arrows.specs.Groups.{group_rest, group_tree, joined_or_none}
+use Rattle.ecma_parse_arrows.specs.Asyncs.{async_arrow, async_call, async_end}
+
+module _ {S : Type 0} (m : Machine S) (inner : Inner S) (c : Code) (a b : Stand S) where
+  arrow_same : lo (input m a) ≡ lo (input m b) → (i : Bool) (ps : List Tree) (r : Stand S) → arrow_by m inner c a i ps r ≡ arrow_by m inner c b i ps r
+  unfolding arrow_by
+  arrow_same e i ps r = rw e refl
+
+  ident_same : lo (input m a) ≡ lo (input m b) → hi (input m a) ≡ hi (input m b) → (n : List ℕ) (r : Stand S) → ident_end m inner c a n r ≡ ident_end m inner c b n r
+  unfolding ident_end arrow_by
+  ident_same e f n r = rw (e, f) refl
+
+  function_same : lo (input m a) ≡ lo (input m b) → (g i : Bool) (r : Stand S) → function_expr_name m inner c a g i r ≡ function_expr_name m inner c b g i r
+  unfolding function_expr_name
+  function_same e g i r = rw e refl
+
+  function_expr_same : lo (input m a) ≡ lo (input m b) → (i : Bool) (r : Stand S) → function_expr_by m inner c a i r ≡ function_expr_by m inner c b i r
+  unfolding function_expr_by function_expr_name
+  function_expr_same e i r = rw e refl
+
+  rest_same : (k : ℕ) → lo (input m a) ≡ lo (input m b) → (xs : Elements) (r : Stand S) → group_rest m inner c a k xs r ≡ group_rest m inner c b k xs r
+  unfolding group_rest arrow_by
+  rest_same k e xs r = rw e refl
+
+  group_is : (o : Stand S) (xs : Elements) (r : Stand S) → group_end m inner c a o xs r ≡ group_rest m inner c a (lo (input m o)) xs r
+  unfolding group_end group_rest group_tree
+  group_is o xs r =
+      ap (λ (t : Result (Tree × Stand S) Fault). if arrows m inner r then (params_of m inner r.commas xs >>= λ ps. arrow_by m inner c a false ps r) else (if xs.comma then unexpected else t)) (go (plain_elements xs.items))
+    where
+      go : (es : Option (List Tree)) → elim es [
+        | None ↦ unexpected
+        | Some [] ↦ unexpected
+        | Some (e ∷ es) ↦ Ok (paren_expr (spanned m a r) (joined (e ∷ es) (span (lo (input m o)) (last_end xs.items))), r)
+      ] ≡ ◌>>=◌ {B = Tree × Stand S} (joined_or_none (lo (input m o)) (last_end xs.items) es) (λ t. Ok (paren_expr (spanned m a r) t, r))
+      go None = refl
+      go (Some []) = refl
+      go (Some (e ∷ es)) = refl
+
+  async_same : lo (input m a) ≡ lo (input m b) → hi (input m a) ≡ hi (input m b) → (n : List ℕ) (r : Stand S) → async_end m inner c a n r ≡ async_end m inner c b n r
+  unfolding async_end async_arrow async_call ident_end arrow_by function_expr_by function_expr_name
+  async_same e f n r = rw (e, f) refl
+
+module _ {S : Type 0} (m : tokens.Machine S) (inner : Inner (Front S)) (c : Code) where
+  -- from a mark that was made there
+  pub arrow_from : (a : Stand (Front S)) (n : ℕ) → n ≡ lo (input (machine_of m) a) → (i : Bool) (ps : List Tree) (r : Stand (Front S)) → arrow_by (machine_of m) inner c a i ps r ≡ arrow_by (machine_of m) inner c (from n) i ps r
+  arrow_from a n e i ps r = arrow_same (machine_of m) inner c a (from n) (sym e ∙ sym (lo_from m n)) i ps r
+
+  pub arrow_from_span : (s : Span) (i : Bool) (ps : List Tree) (r : Stand (Front S)) → arrow_by (machine_of m) inner c (from_span s) i ps r ≡ arrow_by (machine_of m) inner c (from s.lo.0) i ps r
+  arrow_from_span s i ps r = arrow_from (from_span s) s.lo.0 (sym (lo_from_span m s)) i ps r
+
+  pub function_from : (a : Stand (Front S)) (n : ℕ) → n ≡ lo (input (machine_of m) a) → (i : Bool) (r : Stand (Front S)) → function_expr_by (machine_of m) inner c a i r ≡ function_expr_by (machine_of m) inner c (from n) i r
+  function_from a n e i r = function_expr_same (machine_of m) inner c a (from n) (sym e ∙ sym (lo_from m n)) i r
+
+  pub function_from_span : (s : Span) (i : Bool) (r : Stand (Front S)) → function_expr_by (machine_of m) inner c (from_span s) i r ≡ function_expr_by (machine_of m) inner c (from s.lo.0) i r
+  function_from_span s i r = function_from (from_span s) s.lo.0 (sym (lo_from_span m s)) i r
+
+  pub group_from : (a o : Stand (Front S)) (n k : ℕ) → n ≡ lo (input (machine_of m) a) → k ≡ lo (input (machine_of m) o) → (xs : Elements) (r : Stand (Front S)) → group_end (machine_of m) inner c a o xs r ≡ group_rest (machine_of m) inner c (from n) k xs r
+  group_from a o n k e f xs r =
+      group_is (machine_of m) inner c a (from n) o xs r ∙ ap (λ (j : ℕ). group_rest (machine_of m) inner c a j xs r) (sym f)
+      ∙ rest_same (machine_of m) inner c a (from n) k (sym e ∙ sym (lo_from m n)) xs r
+
+  pub ident_from : (a : Stand (Front S)) (s : Span) → s ≡ first_span (input (machine_of m) a) → (n : List ℕ) (r : Stand (Front S)) → ident_end (machine_of m) inner c a n r ≡ ident_end (machine_of m) inner c (from_span s) n r
+  ident_from a s e n r = let f = sym e ∙ sym (first_from_span m s) in ident_same (machine_of m) inner c a (from_span s) (ap (λ (s : Span). s.lo.0) f) (ap (λ (s : Span). s.hi.0) f) n r
+
+  -- the word `async`, and what follows it
+  pub async_is : (s : Stand (Front S)) (place : Span) → place ≡ first_span (input (machine_of m) s) → async_by (machine_of m) inner c s ≡ async_end (machine_of m) inner c (from_span place) (text (input (machine_of m) s)) (past (machine_of m) s)
+  unfolding async_by async_end async_arrow async_group async_call
+  async_is s place e = let f = sym e ∙ sym (first_from_span m place) in async_same (machine_of m) inner c s (from_span place) (ap (λ (s : Span). s.lo.0) f) (ap (λ (s : Span). s.hi.0) f) (text (input (machine_of m) s)) (past (machine_of m) s)
+
+pub ruleset starts = (arrow_from_span, function_from_span)

@@ -1,0 +1,3 @@
+-- What the rules of arrows and parentheses share.
+pub mod Groups
+pub mod Asyncs

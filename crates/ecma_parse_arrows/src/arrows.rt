@@ -1,0 +1,75 @@
+//! Arrow functions (15.3), after their parameters.
+ghost use Rattle.std.specs.Prelude.{◌≡◌, ◌≢◌, false, true, ◌<◌, ◌≤◌, All, IfOk, IsTrue, map};
+ghost use Rattle.ecma_syntax.specs.Input.{brk, kind, kind2, lo, first_span, span, text};
+ghost use Rattle.ecma_node.specs.Placed.{holds_expr, holds_pat, inner};
+ghost use Rattle.ecma_reading.specs.Source as spec;
+ghost use Rattle.ecma_reading.specs.Expressions as reads;
+ghost use Rattle.ecma_parse_state.specs.Answers.{Gives};
+ghost use Rattle.ecma_parse_state.specs.Codes.{code_of};
+ghost use Rattle.ecma_parse_state.specs.Fronts.{machine_of};
+ghost use Rattle.ecma_parse_state.specs.Stands.{from, from_span, stand};
+ghost use Rattle.ecma_parse_base.specs.Lists.{arguments_of, FitArguments};
+ghost use Rattle.ecma_parse_base.specs.Operands.{tree_of};
+
+use crate::made;
+use ecma_atom::Atom;
+use ecma_node::PatBox;
+use ecma_parse_base::{Nested, Operand};
+use ecma_parse_state::code::{in_arrow, in_list, with_in};
+use ecma_parse_state::operators::ASSIGNMENT;
+use ecma_parse_state::{Around, Failure, Parser, kinds};
+use ecma_token::{BytePos, Span};
+use ecma_tokens::Tokens;
+
+/// Whether `=>` comes, on the line of what stands before it.
+pub fn is_arrow<'a, I: Tokens<'a> + Drop, N: Nested<'a, I>>(p: &Parser<'a, I>, _nested: &N) -> bool
+    ensures { result ≡ reads.arrows (machine_of I.machine) (N.reads _nested.now I.State I.machine) (stand I.state p.now) }
+{
+    p.at(kinds::ARROW) && !p.breaks()
+}
+
+/// An arrow and its body.
+#[inline(never)]
+#[tactic(auto, using(ecma_parse_state::proofs::Marks::marks, ecma_parse_base::proofs::Packs::packs), unfolding(ecma_reading::specs::Expressions::arrow_by))]
+pub fn arrow<'a, I: Tokens<'a> + Drop, N: Nested<'a, I>>(
+    p: &mut Parser<'a, I>,
+    nested: &N,
+    code: Around,
+    start: BytePos,
+    is_async: bool,
+    params: Vec<PatBox>,
+) -> Result<Operand, Failure>
+    requires ready { N.ready nested.now }
+    requires fits { All (λ y. holds_pat y.part.value) params.items }
+    ensures value { Gives (λ x. (tree_of x, stand I.state p.new)) result (reads.arrow_by (machine_of I.machine) (N.reads nested.now I.State I.machine) (code_of code) (from start.0) is_async (map (λ y. inner y.part.value) params.items) (stand I.state p.old)) }
+    ensures shorter { IfOk result (λ _. spec.bound (machine_of I.machine) (stand I.state p.new) < spec.bound (machine_of I.machine) (stand I.state p.old)) }
+{
+    p.bump()?;
+    if p.at(kinds::LEFT_BRACE) {
+        let body = nested.body(p, in_list(with_in(in_arrow(is_async, code))))?;
+        return made::block_arrow(p.alloc, p.since(start), params, body, is_async);
+    }
+    let body = nested.expr(p, in_arrow(is_async, code), ASSIGNMENT)?;
+    made::plain_arrow(p.alloc, p.since(start), params, body, is_async)
+}
+
+/// What follows a name, which may be the one parameter of an arrow.
+#[inline(never)]
+#[tactic(auto, using(ecma_parse_state::proofs::Marks::marks, crate::proofs::Starts::starts), unfolding(ecma_reading::specs::Expressions::ident_end))]
+pub fn ident_end<'a, I: Tokens<'a> + Drop, N: Nested<'a, I>>(
+    p: &mut Parser<'a, I>,
+    nested: &N,
+    code: Around,
+    place: Span,
+    sym: Atom,
+) -> Result<Operand, Failure>
+    requires ready { N.ready nested.now }
+    ensures value { Gives (λ x. (tree_of x, stand I.state p.new)) result (reads.ident_end (machine_of I.machine) (N.reads nested.now I.State I.machine) (code_of code) (from_span place) sym (stand I.state p.old)) }
+    ensures not_longer { IfOk result (λ _. spec.bound (machine_of I.machine) (stand I.state p.new) ≤ spec.bound (machine_of I.machine) (stand I.state p.old)) }
+{
+    if is_arrow(p, nested) {
+        let params = made::one_param(p.alloc, place, sym)?;
+        return arrow(p, nested, code, place.lo, false, params);
+    }
+    ecma_parse_base::made::name(p.alloc, place, sym)
+}

@@ -1,0 +1,130 @@
+//! The word `async`: of a function, of an arrow, or a name.
+ghost use Rattle.std.specs.Prelude.{◌≡◌, ◌≢◌, false, true, ◌<◌, ◌≤◌, All, IfOk, IsTrue, map};
+ghost use Rattle.ecma_syntax.specs.Input.{brk, kind, kind2, lo, first_span, span, text};
+ghost use Rattle.ecma_node.specs.Placed.{holds_expr, holds_pat, inner};
+ghost use Rattle.ecma_reading.specs.Source as spec;
+ghost use Rattle.ecma_reading.specs.Expressions as reads;
+ghost use Rattle.ecma_parse_state.specs.Answers.{Gives};
+ghost use Rattle.ecma_parse_state.specs.Codes.{code_of};
+ghost use Rattle.ecma_parse_state.specs.Fronts.{machine_of};
+ghost use Rattle.ecma_parse_state.specs.Stands.{from, from_span, stand};
+ghost use Rattle.ecma_parse_base.specs.Lists.{arguments_of, FitArguments};
+ghost use Rattle.ecma_parse_base.specs.Operands.{tree_of};
+ghost use Rattle.std.specs.Prelude.{not, ◌&&◌, ◌==◌, IfErr};
+ghost use Rattle.ecma_syntax.specs.Input.{brk2};
+ghost use Rattle.ecma_token.specs.Kinds.{arrow_kind, async_kind};
+ghost use Rattle.ecma_parse_state.specs.Answers.{IsMemory};
+ghost use Rattle.ecma_parse_arrows.specs.Asyncs.{async_arrow, async_call, async_end};
+
+use crate::arrows::{arrow, ident_end, is_arrow};
+use crate::function_exprs::function_expr;
+use crate::made;
+use ecma_atom::Atom;
+use ecma_parse_base::{Nested, Operand};
+use ecma_parse_expr::lists::group_items;
+use ecma_parse_state::code::with_in;
+use ecma_parse_state::{Around, Failure, Parser, kinds};
+use ecma_token::Span;
+use ecma_tokens::Tokens;
+
+/// `async` and a parenthesis: a call, or the parameters of an arrow.
+#[inline(never)]
+#[tactic(auto, using(ecma_parse_state::proofs::Marks::marks, ecma_parse_base::proofs::Packs::packs, crate::proofs::Starts::starts), unfolding(crate::specs::Asyncs::async_call))]
+pub fn call_or_arrow<'a, I: Tokens<'a> + Drop, N: Nested<'a, I>>(
+    p: &mut Parser<'a, I>,
+    nested: &N,
+    code: Around,
+    place: Span,
+    sym: Atom,
+) -> Result<Operand, Failure>
+    requires ready { N.ready nested.now }
+    ensures value { Gives (λ x. (tree_of x, stand I.state p.new)) result (async_call (machine_of I.machine) (N.reads nested.now I.State I.machine) (code_of code) (from_span place) sym (stand I.state p.old)) }
+    ensures shorter { IfOk result (λ _. spec.bound (machine_of I.machine) (stand I.state p.new) < spec.bound (machine_of I.machine) (stand I.state p.old)) }
+{
+    let breaks = p.breaks();
+    p.bump()?;
+    let list = group_items(p, nested, with_in(code))?;
+    if !breaks && is_arrow(p, nested) {
+        let params = nested.params(p, list)?;
+        return arrow(p, nested, code, place.lo, true, params);
+    }
+    let callee = ecma_parse_base::made::name(p.alloc, place, sym)?;
+    ecma_parse_base::made::call_expr(p.alloc, p.since(place.lo), callee, list.items)
+}
+
+/// Whether a name comes that is the one parameter of an arrow, all on one line.
+#[tactic(auto)]
+fn is_param<'a, I: Tokens<'a> + Drop>(p: &Parser<'a, I>, code: Around) -> Result<bool, Failure>
+    ensures value { IfOk result (λ b. b ≡ (spec.is_name (machine_of I.machine) (code_of code) (stand I.state p.now) && (not (brk (spec.input (machine_of I.machine) (stand I.state p.now))) && (kind2 (spec.input (machine_of I.machine) (stand I.state p.now)) == arrow_kind) && not (brk2 (spec.input (machine_of I.machine) (stand I.state p.now)))))) }
+    ensures full { IfErr result IsMemory }
+{
+    if !p.is_name(code) || p.breaks() {
+        return Ok(false);
+    }
+    let (second, breaks) = p.second()?;
+    Ok(second == kinds::ARROW && !breaks)
+}
+
+/// The parameter and the rest of an arrow behind `async`.
+#[inline(never)]
+#[tactic(auto, using(ecma_parse_state::proofs::Marks::marks, crate::proofs::Starts::starts), unfolding(crate::specs::Asyncs::async_arrow))]
+pub fn async_arrow<'a, I: Tokens<'a> + Drop, N: Nested<'a, I>>(
+    p: &mut Parser<'a, I>,
+    nested: &N,
+    code: Around,
+    place: Span,
+) -> Result<Operand, Failure>
+    requires ready { N.ready nested.now }
+    ensures value { Gives (λ x. (tree_of x, stand I.state p.new)) result (async_arrow (machine_of I.machine) (N.reads nested.now I.State I.machine) (code_of code) (from_span place) (stand I.state p.old)) }
+    ensures shorter { IfOk result (λ _. spec.bound (machine_of I.machine) (stand I.state p.new) < spec.bound (machine_of I.machine) (stand I.state p.old)) }
+{
+    let span = p.place();
+    let sym = p.name(code)?;
+    let params = made::one_param(p.alloc, span, sym)?;
+    arrow(p, nested, code, place.lo, true, params)
+}
+
+/// What follows `async`.
+#[inline(never)]
+#[tactic(auto, using(ecma_parse_state::proofs::Marks::marks, crate::proofs::Starts::starts), unfolding(crate::specs::Asyncs::async_end, crate::specs::Asyncs::async_arrow))]
+pub fn async_end<'a, I: Tokens<'a> + Drop, N: Nested<'a, I>>(
+    p: &mut Parser<'a, I>,
+    nested: &N,
+    code: Around,
+    place: Span,
+    sym: Atom,
+) -> Result<Operand, Failure>
+    requires ready { N.ready nested.now }
+    ensures value { Gives (λ x. (tree_of x, stand I.state p.new)) result (async_end (machine_of I.machine) (N.reads nested.now I.State I.machine) (code_of code) (from_span place) sym (stand I.state p.old)) }
+    ensures not_longer { IfOk result (λ _. spec.bound (machine_of I.machine) (stand I.state p.new) ≤ spec.bound (machine_of I.machine) (stand I.state p.old)) }
+{
+    if p.at(kinds::FUNCTION) && !p.breaks() {
+        return function_expr(p, nested, code, place.lo, true);
+    }
+    if is_param(p, code)? {
+        return async_arrow(p, nested, code, place);
+    }
+    if p.at(kinds::LEFT_PAREN) && !p.breaks() {
+        return call_or_arrow(p, nested, code, place, sym);
+    }
+    ident_end(p, nested, code, place, sym)
+}
+
+/// The word `async`, and what follows it.
+#[inline(never)]
+#[tactic(auto, using(ecma_parse_state::proofs::Marks::marks, crate::proofs::Starts::async_is))]
+pub fn async_expr<'a, I: Tokens<'a> + Drop, N: Nested<'a, I>>(
+    p: &mut Parser<'a, I>,
+    nested: &N,
+    code: Around,
+) -> Result<Operand, Failure>
+    requires ready { N.ready nested.now }
+    requires word { kind (spec.input (machine_of I.machine) (stand I.state p.old)) ≡ async_kind }
+    ensures value { Gives (λ x. (tree_of x, stand I.state p.new)) result (reads.async_by (machine_of I.machine) (N.reads nested.now I.State I.machine) (code_of code) (stand I.state p.old)) }
+    ensures shorter { IfOk result (λ _. spec.bound (machine_of I.machine) (stand I.state p.new) < spec.bound (machine_of I.machine) (stand I.state p.old)) }
+{
+    let place = p.place();
+    let sym = Atom::new(p.alloc, p.text())?;
+    p.bump()?;
+    async_end(p, nested, code, place, sym)
+}

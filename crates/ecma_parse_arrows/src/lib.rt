@@ -1,0 +1,8 @@
+//! The rules of arrow functions, parentheses, functions as expressions, and the word `async`.
+#![tactic(auto)]
+
+pub mod arrows;
+pub mod asyncs;
+pub mod function_exprs;
+pub mod groups;
+pub mod made;

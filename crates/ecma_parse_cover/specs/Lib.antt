@@ -1,0 +1,2 @@
+-- What refining an expression to a pattern is seen by.
+pub mod Items

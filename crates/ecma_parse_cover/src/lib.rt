@@ -1,0 +1,9 @@
+//! What was read as an expression, refined to a pattern (ECMA-262, 13.15.5 and 15.3.1). It reads no token. The tree is taken
+//! apart and its parts are moved into the pattern.
+#![tactic(auto)]
+
+pub mod items;
+pub mod leaves;
+pub mod made;
+pub mod names;
+pub mod targets;
