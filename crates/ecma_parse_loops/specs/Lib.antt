@@ -1,0 +1,2 @@
+-- What the rules of `for` share.
+pub mod Heads

@@ -1,0 +1,2 @@
+-- What the rules of patterns share.
+pub mod Items

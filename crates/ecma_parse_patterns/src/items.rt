@@ -1,0 +1,125 @@
+//! Items of patterns, with an initialiser or without, and what follows them.
+ghost use Rattle.std.specs.Prelude.{◌≡◌, ◌<◌, ◌≤◌, ◌&&◌, true, false, IfErr, IfOk};
+ghost use Rattle.ecma_syntax.specs.Input.{dots_at, lo};
+ghost use Rattle.ecma_node.specs.Fits.{fits_rest_pat};
+ghost use Rattle.ecma_node.specs.Placed.{holds_pat, inner};
+ghost use Rattle.ecma_node.specs.View.{view_rest_pat};
+ghost use Rattle.ecma_reading.specs.Source as spec;
+ghost use Rattle.ecma_reading.specs.Statements as reads;
+ghost use Rattle.ecma_parse_state.specs.Answers.{Gives, IsMemory};
+ghost use Rattle.ecma_parse_state.specs.Codes.{code_of};
+ghost use Rattle.ecma_parse_state.specs.Fronts.{machine_of};
+ghost use Rattle.ecma_parse_state.specs.Stands.{from, stand};
+ghost use Rattle.ecma_parse_patterns.specs.Items.{after_by, item_by, rest_by};
+
+use crate::made;
+use ecma_node::{PatBox, RestPat};
+use ecma_parse_base::Nested;
+use ecma_parse_state::code::with_in;
+use ecma_parse_state::operators::ASSIGNMENT;
+use ecma_parse_state::{Around, Failure, Parser, kinds};
+use ecma_token::{BytePos, Span};
+use ecma_tokens::Tokens;
+
+/// A pattern with an initialiser, where one follows.
+#[inline(never)]
+#[tactic(auto, using(ecma_parse_state::proofs::Marks::marks), unfolding(ecma_reading::specs::Statements::initial_pat))]
+pub fn initial<'a, I: Tokens<'a> + Drop, N: Nested<'a, I>>(
+    p: &mut Parser<'a, I>,
+    nested: &N,
+    code: Around,
+    start: BytePos,
+    pat: PatBox,
+) -> Result<PatBox, Failure>
+    requires ready { N.ready nested.now }
+    requires pat { holds_pat pat.part.value }
+    ensures value { Gives (λ x. (inner x.part.value, stand I.state p.new)) result (reads.initial_pat (machine_of I.machine) (N.reads nested.now I.State I.machine) (code_of code) (from start.0) (inner pat.part.value) (stand I.state p.old)) }
+    ensures fits { IfOk result (λ x. holds_pat x.part.value) }
+    ensures not_longer { IfOk result (λ _. spec.bound (machine_of I.machine) (stand I.state p.new) ≤ spec.bound (machine_of I.machine) (stand I.state p.old)) }
+{
+    if p.eat(kinds::ASSIGN)? {
+        let value = nested.expr(p, with_in(code), ASSIGNMENT)?;
+        return made::assign_pat(p.alloc, p.since(start), pat, value);
+    }
+    Ok(pat)
+}
+
+/// An item of a pattern, with an initialiser or without.
+#[inline(never)]
+#[tactic(auto, using(ecma_parse_state::proofs::Marks::marks, crate::proofs::Starts::starts), unfolding(crate::specs::Items::item_by))]
+pub fn item<'a, I: Tokens<'a> + Drop, N: Nested<'a, I>>(
+    p: &mut Parser<'a, I>,
+    nested: &N,
+    code: Around,
+) -> Result<PatBox, Failure>
+    requires ready { N.ready nested.now }
+    ensures value { Gives (λ x. (inner x.part.value, stand I.state p.new)) result (item_by (machine_of I.machine) (N.reads nested.now I.State I.machine) (code_of code) (stand I.state p.old)) }
+    ensures fits { IfOk result (λ x. holds_pat x.part.value) }
+    ensures shorter { IfOk result (λ _. spec.bound (machine_of I.machine) (stand I.state p.new) < spec.bound (machine_of I.machine) (stand I.state p.old)) }
+{
+    let start = p.lo();
+    let pat = nested.pat(p, with_in(code))?;
+    initial(p, nested, code, start, pat)
+}
+
+/// The place of the dots that come: three bytes.
+///
+/// # Errors
+///
+/// Want of memory, where no place has a number as large as that of their end.
+pub fn dots<'a, I: Tokens<'a> + Drop>(p: &Parser<'a, I>) -> Result<Span, Failure>
+    ensures value { IfOk result (λ s. s ≡ dots_at (lo (spec.input (machine_of I.machine) (stand I.state p.now)))) }
+    ensures full { IfErr result IsMemory }
+{
+    let start = p.lo();
+    match start.0.checked_add(3) {
+        Some(end) => Ok(Span {
+            lo: start,
+            hi: BytePos(end),
+        }),
+        None => Err(Failure::Memory),
+    }
+}
+
+/// A rest, from its dots on.
+#[inline(never)]
+#[tactic(auto, using(ecma_parse_state::proofs::Marks::marks), unfolding(crate::specs::Items::rest_by))]
+pub fn rest<'a, I: Tokens<'a> + Drop, N: Nested<'a, I>>(
+    p: &mut Parser<'a, I>,
+    nested: &N,
+    code: Around,
+) -> Result<RestPat, Failure>
+    requires ready { N.ready nested.now }
+    ensures value { Gives (λ x. (view_rest_pat inner x, stand I.state p.new)) result (rest_by (machine_of I.machine) (N.reads nested.now I.State I.machine) (code_of code) (stand I.state p.old)) }
+    ensures fits { IfOk result (λ x. fits_rest_pat (λ p. p) x) }
+    ensures shorter { IfOk result (λ _. spec.bound (machine_of I.machine) (stand I.state p.new) < spec.bound (machine_of I.machine) (stand I.state p.old)) }
+{
+    let start = p.lo();
+    let dot3_token = dots(p)?;
+    p.bump()?;
+    let arg = nested.pat(p, with_in(code))?;
+    let span = p.since(start);
+    Ok(RestPat {
+        span,
+        dot3_token,
+        arg,
+    })
+}
+
+/// Whether a list goes on with a comma, which none does after a rest; else takes what closes it.
+#[tactic(auto, unfolding(crate::specs::Items::after_by))]
+pub fn goes_on<'a, I: Tokens<'a> + Drop>(
+    p: &mut Parser<'a, I>,
+    close: u8,
+    last: bool,
+) -> Result<bool, Failure>
+    requires { 0 < close }
+    ensures value { Gives (λ b. (b, stand I.state p.new)) result (after_by (machine_of I.machine) close last (stand I.state p.old)) }
+    ensures shorter { IfOk result (λ _. spec.bound (machine_of I.machine) (stand I.state p.new) < spec.bound (machine_of I.machine) (stand I.state p.old)) }
+{
+    if !last && p.eat(kinds::COMMA)? {
+        return Ok(true);
+    }
+    p.expect(close)?;
+    Ok(false)
+}

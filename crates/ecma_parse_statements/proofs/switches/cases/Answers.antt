@@ -1,0 +1,13 @@
+use Rattle.std.proofs.Common.{rules, ◌≡◌, ◌∙◌}
+use Rattle.ecma_reading.specs.Source as spec
+use Rattle.ecma_reading.specs.Statements as reads
+use Rattle.ecma_parse_state.proofs.Iterate.{iterate_done, iterate_stops, iterates}
+use Rattle.ecma_parse_statements.specs.Lists as lists
+use Rattle.ecma_parse_statements.proofs.switches.cases.Goals as goal
+
+pub returns-in_err-cases_turn-clause-value : goal.returns-in_err-cases_turn-clause-value
+unfolding lists.switch_cases spec.iterate spec.iterate_n
+returns-in_err-cases_turn-clause-value g c = search (rules, iterates)
+
+pub returns-clause-value : goal.returns-clause-value
+returns-clause-value g c = c.turns.invariant.reads ∙ iterate_done _ _ _ _ _ _ (search rules)

@@ -1,0 +1,2 @@
+-- What the rules of statements share.
+pub mod Lists

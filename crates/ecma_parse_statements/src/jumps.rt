@@ -1,0 +1,156 @@
+//! Statements that leave a place: `return`, `throw`, `break`, `continue`; and `debugger`.
+ghost use Rattle.std.specs.Prelude.{◌≡◌, None, ◌<◌, ◌≤◌, ◌||◌, IfOk};
+ghost use Rattle.ecma_token.specs.Kinds.{break_kind, continue_kind};
+ghost use Rattle.ecma_node.specs.Placed.{holds_stmt, inner};
+ghost use Rattle.ecma_node.specs.View.{view_ident};
+ghost use Rattle.ecma_tree.specs.Tree.{break_stmt, continue_stmt, part_by};
+ghost use Rattle.ecma_reading.specs.Source as spec;
+ghost use Rattle.ecma_reading.specs.Statements as reads;
+ghost use Rattle.ecma_parse_state.specs.Answers.{Gives};
+ghost use Rattle.ecma_parse_state.specs.Codes.{code_of};
+ghost use Rattle.ecma_parse_state.specs.Fronts.{machine_of};
+ghost use Rattle.ecma_parse_state.specs.Stands.{stand};
+
+use crate::made;
+use ecma_node::{Ident, StmtBox};
+use ecma_parse_base::Nested;
+use ecma_parse_state::operators::{EXPRESSION, PLAIN_END};
+use ecma_parse_state::{Around, Failure, Parser, kinds};
+use ecma_tokens::Tokens;
+
+/// Whether nothing of the statement follows on its line.
+fn ends_here<'a, I: Tokens<'a> + Drop, N: Nested<'a, I>>(
+    p: &Parser<'a, I>,
+    _nested: &N,
+    code: Around,
+) -> bool
+    ensures { result ≡ reads.ends_here (machine_of I.machine) (N.reads _nested.now I.State I.machine) (code_of code) (stand I.state p.now) }
+{
+    p.at(kinds::SEMICOLON) || (p.at(kinds::RIGHT_BRACE) || (p.at(kinds::END) || p.breaks()))
+}
+
+/// `return`.
+#[inline(never)]
+#[tactic(auto, using(ecma_parse_state::proofs::Marks::marks), unfolding(ecma_reading::specs::Statements::return_by))]
+pub fn return_stmt<'a, I: Tokens<'a> + Drop, N: Nested<'a, I>>(
+    p: &mut Parser<'a, I>,
+    nested: &N,
+    code: Around,
+) -> Result<StmtBox, Failure>
+    requires ready { N.ready nested.now }
+    ensures value { Gives (λ x. (inner x.part.value, stand I.state p.new)) result (reads.return_by (machine_of I.machine) (N.reads nested.now I.State I.machine) (code_of code) (stand I.state p.old)) }
+    ensures holds { IfOk result (λ x. holds_stmt x.part.value) }
+    ensures shorter { IfOk result (λ _. spec.bound (machine_of I.machine) (stand I.state p.new) < spec.bound (machine_of I.machine) (stand I.state p.old)) }
+{
+    let start = p.lo();
+    p.eat_word(code, kinds::RETURN)?;
+    if ends_here(p, nested, code) {
+        p.end_of(code, PLAIN_END)?;
+        return made::return_stmt(p.alloc, p.since(start), None);
+    }
+    let arg = nested.expr(p, code, EXPRESSION)?;
+    p.end_of(code, arg.end)?;
+    made::return_stmt(p.alloc, p.since(start), Some(arg))
+}
+
+/// `throw`, with its operand on its line.
+#[inline(never)]
+#[tactic(auto, using(ecma_parse_state::proofs::Marks::marks), unfolding(ecma_reading::specs::Statements::throw_by))]
+pub fn throw_stmt<'a, I: Tokens<'a> + Drop, N: Nested<'a, I>>(
+    p: &mut Parser<'a, I>,
+    nested: &N,
+    code: Around,
+) -> Result<StmtBox, Failure>
+    requires ready { N.ready nested.now }
+    ensures value { Gives (λ x. (inner x.part.value, stand I.state p.new)) result (reads.throw_by (machine_of I.machine) (N.reads nested.now I.State I.machine) (code_of code) (stand I.state p.old)) }
+    ensures holds { IfOk result (λ x. holds_stmt x.part.value) }
+    ensures shorter { IfOk result (λ _. spec.bound (machine_of I.machine) (stand I.state p.new) < spec.bound (machine_of I.machine) (stand I.state p.old)) }
+{
+    let start = p.lo();
+    p.eat_word(code, kinds::THROW)?;
+    if p.breaks() {
+        return Err(p.unexpected());
+    }
+    let arg = nested.expr(p, code, EXPRESSION)?;
+    p.end_of(code, arg.end)?;
+    made::throw_stmt(p.alloc, p.since(start), arg)
+}
+
+/// A label on its line, or none.
+#[inline(never)]
+#[tactic(auto, using(ecma_parse_state::proofs::Marks::marks), unfolding(ecma_reading::specs::Statements::label_by))]
+pub fn label<'a, I: Tokens<'a> + Drop, N: Nested<'a, I>>(
+    p: &mut Parser<'a, I>,
+    _nested: &N,
+    code: Around,
+) -> Result<Option<Ident>, Failure>
+    requires ready { N.ready _nested.now }
+    ensures value { Gives (λ x. (part_by view_ident x, stand I.state p.new)) result (reads.label_by (machine_of I.machine) (N.reads _nested.now I.State I.machine) (code_of code) (stand I.state p.old)) }
+    ensures not_longer { IfOk result (λ _. spec.bound (machine_of I.machine) (stand I.state p.new) ≤ spec.bound (machine_of I.machine) (stand I.state p.old)) }
+{
+    if ends_here(p, _nested, code) {
+        return Ok(None);
+    }
+    let span = p.place();
+    let sym = p.name(code)?;
+    Ok(Some(Ident { span, sym }))
+}
+
+/// `break`.
+#[inline(never)]
+#[tactic(auto, using(ecma_parse_state::proofs::Marks::marks), unfolding(ecma_reading::specs::Statements::jump_by))]
+pub fn break_stmt<'a, I: Tokens<'a> + Drop, N: Nested<'a, I>>(
+    p: &mut Parser<'a, I>,
+    nested: &N,
+    code: Around,
+) -> Result<StmtBox, Failure>
+    requires ready { N.ready nested.now }
+    ensures value { Gives (λ x. (inner x.part.value, stand I.state p.new)) result (reads.jump_by (machine_of I.machine) (N.reads nested.now I.State I.machine) break_kind break_stmt (code_of code) (stand I.state p.old)) }
+    ensures holds { IfOk result (λ x. holds_stmt x.part.value) }
+    ensures shorter { IfOk result (λ _. spec.bound (machine_of I.machine) (stand I.state p.new) < spec.bound (machine_of I.machine) (stand I.state p.old)) }
+{
+    let start = p.lo();
+    p.eat_word(code, kinds::BREAK)?;
+    let to = label(p, nested, code)?;
+    p.end_of(code, PLAIN_END)?;
+    made::break_stmt(p.alloc, p.since(start), to)
+}
+
+/// `continue`.
+#[inline(never)]
+#[tactic(auto, using(ecma_parse_state::proofs::Marks::marks), unfolding(ecma_reading::specs::Statements::jump_by))]
+pub fn continue_stmt<'a, I: Tokens<'a> + Drop, N: Nested<'a, I>>(
+    p: &mut Parser<'a, I>,
+    nested: &N,
+    code: Around,
+) -> Result<StmtBox, Failure>
+    requires ready { N.ready nested.now }
+    ensures value { Gives (λ x. (inner x.part.value, stand I.state p.new)) result (reads.jump_by (machine_of I.machine) (N.reads nested.now I.State I.machine) continue_kind continue_stmt (code_of code) (stand I.state p.old)) }
+    ensures holds { IfOk result (λ x. holds_stmt x.part.value) }
+    ensures shorter { IfOk result (λ _. spec.bound (machine_of I.machine) (stand I.state p.new) < spec.bound (machine_of I.machine) (stand I.state p.old)) }
+{
+    let start = p.lo();
+    p.eat_word(code, kinds::CONTINUE)?;
+    let to = label(p, nested, code)?;
+    p.end_of(code, PLAIN_END)?;
+    made::continue_stmt(p.alloc, p.since(start), to)
+}
+
+/// `debugger`.
+#[inline(never)]
+#[tactic(auto, using(ecma_parse_state::proofs::Marks::marks), unfolding(ecma_reading::specs::Statements::debugger_by))]
+pub fn debugger_stmt<'a, I: Tokens<'a> + Drop, N: Nested<'a, I>>(
+    p: &mut Parser<'a, I>,
+    _nested: &N,
+    code: Around,
+) -> Result<StmtBox, Failure>
+    requires ready { N.ready _nested.now }
+    ensures value { Gives (λ x. (inner x.part.value, stand I.state p.new)) result (reads.debugger_by (machine_of I.machine) (N.reads _nested.now I.State I.machine) (code_of code) (stand I.state p.old)) }
+    ensures holds { IfOk result (λ x. holds_stmt x.part.value) }
+    ensures shorter { IfOk result (λ _. spec.bound (machine_of I.machine) (stand I.state p.new) < spec.bound (machine_of I.machine) (stand I.state p.old)) }
+{
+    let start = p.lo();
+    p.eat_word(code, kinds::DEBUGGER)?;
+    p.end_of(code, PLAIN_END)?;
+    made::debugger_stmt(p.alloc, p.since(start))
+}

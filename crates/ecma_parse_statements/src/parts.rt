@@ -1,0 +1,80 @@
+//! Parts of statements: a test in its parentheses, and a statement as a part of another.
+ghost use Rattle.std.specs.Prelude.{◌≡◌, ◌<◌, ◌||◌, ◌&&◌, true, false, IfOk};
+ghost use Rattle.ecma_syntax.specs.Shape as shape;
+ghost use Rattle.ecma_node.specs.Placed.{holds_stmt, inner};
+ghost use Rattle.ecma_reading.specs.Source as spec;
+ghost use Rattle.ecma_reading.specs.Statements as reads;
+ghost use Rattle.ecma_parse_state.specs.Answers.{Gives};
+ghost use Rattle.ecma_parse_state.specs.Codes.{code_of};
+ghost use Rattle.ecma_parse_state.specs.Fronts.{machine_of};
+ghost use Rattle.ecma_parse_state.specs.Stands.{stand};
+ghost use Rattle.ecma_parse_base.specs.Operands.{tree_of};
+
+use ecma_node::{Decl, Stmt, StmtBox, StmtKind, VarDeclKind};
+use ecma_parse_base::{Nested, Operand};
+use ecma_parse_state::code::alone;
+use ecma_parse_state::operators::EXPRESSION;
+use ecma_parse_state::{Around, Failure, Parser, kinds};
+use ecma_tokens::Tokens;
+
+/// Whether a statement is one, and no declaration (ECMA-262, clause 14).
+fn is_statement(stmt: &Stmt) -> bool
+    ensures { result ≡ shape.is_statement stmt.now }
+{
+    match &stmt.kind {
+        StmtKind::Decl(Decl::Var(x)) => matches!(x.kind, VarDeclKind::Var),
+        StmtKind::Decl(_) => false,
+        _ => true,
+    }
+}
+
+/// Whether a statement is a plain function, neither async nor a generator (ECMA-262, B.3.1, B.3.3).
+fn is_plain_function(stmt: &Stmt) -> bool
+    ensures { result ≡ shape.is_plain_function stmt.now }
+{
+    match &stmt.kind {
+        StmtKind::Decl(Decl::Fn(x)) => !x.function.is_generator && !x.function.is_async,
+        _ => false,
+    }
+}
+
+/// A test in its parentheses.
+#[inline(never)]
+#[tactic(auto, unfolding(ecma_reading::specs::Statements::in_parens))]
+pub fn in_parens<'a, I: Tokens<'a> + Drop, N: Nested<'a, I>>(
+    p: &mut Parser<'a, I>,
+    nested: &N,
+    code: Around,
+) -> Result<Operand, Failure>
+    requires ready { N.ready nested.now }
+    ensures value { Gives (λ x. (tree_of x, stand I.state p.new)) result (reads.in_parens (machine_of I.machine) (N.reads nested.now I.State I.machine) (code_of code) (stand I.state p.old)) }
+    ensures shorter { IfOk result (λ _. spec.bound (machine_of I.machine) (stand I.state p.new) < spec.bound (machine_of I.machine) (stand I.state p.old)) }
+{
+    p.expect(kinds::LEFT_PAREN)?;
+    let test = nested.expr(p, code, EXPRESSION)?;
+    p.expect(kinds::RIGHT_PAREN)?;
+    Ok(test)
+}
+
+/// A statement as a part of another one; where it may be a plain function, that.
+#[inline(never)]
+#[tactic(auto, unfolding(ecma_reading::specs::Statements::sub_by))]
+pub fn sub<'a, I: Tokens<'a> + Drop, N: Nested<'a, I>>(
+    p: &mut Parser<'a, I>,
+    nested: &N,
+    code: Around,
+    functions: bool,
+) -> Result<StmtBox, Failure>
+    requires ready { N.ready nested.now }
+    ensures value { Gives (λ x. (inner x.part.value, stand I.state p.new)) result (reads.sub_by (machine_of I.machine) (N.reads nested.now I.State I.machine) (code_of code) functions (stand I.state p.old)) }
+    ensures holds { IfOk result (λ x. holds_stmt x.part.value) }
+    ensures shorter { IfOk result (λ _. spec.bound (machine_of I.machine) (stand I.state p.new) < spec.bound (machine_of I.machine) (stand I.state p.old)) }
+{
+    let read = nested.stmt(p, alone(code))?;
+    if is_statement(read.get())
+        || (functions && !code.context.strict && is_plain_function(read.get()))
+    {
+        return Ok(read);
+    }
+    Err(p.unexpected())
+}

@@ -1,0 +1,156 @@
+//! Statements round an expression: `with`, `while`, `do`, labels, and an expression by itself.
+ghost use Rattle.std.specs.Prelude.{◌≡◌, ◌<◌, ◌&&◌, not, true, false, IfOk};
+ghost use Rattle.ecma_syntax.specs.Shape as shape;
+ghost use Rattle.ecma_node.specs.Placed.{holds_stmt, inner};
+ghost use Rattle.ecma_node.specs.View.{view_ident};
+ghost use Rattle.ecma_reading.specs.Source as spec;
+ghost use Rattle.ecma_reading.specs.Statements as reads;
+ghost use Rattle.ecma_parse_state.specs.Answers.{Gives};
+ghost use Rattle.ecma_parse_state.specs.Codes.{code_of};
+ghost use Rattle.ecma_parse_state.specs.Fronts.{machine_of};
+ghost use Rattle.ecma_parse_state.specs.Stands.{from, stand};
+ghost use Rattle.ecma_parse_base.specs.Operands.{tree_of};
+
+use crate::made;
+use crate::parts::{in_parens, sub};
+use ecma_node::{ExprKind, Ident, StmtBox};
+use ecma_parse_base::{Nested, Operand};
+use ecma_parse_state::operators::{EXPRESSION, LET_END};
+use ecma_parse_state::{Around, Failure, Parser, kinds};
+use ecma_token::BytePos;
+use ecma_tokens::Tokens;
+
+/// `with`.
+#[inline(never)]
+#[tactic(auto, using(ecma_parse_state::proofs::Marks::marks), unfolding(ecma_reading::specs::Statements::with_by))]
+pub fn with<'a, I: Tokens<'a> + Drop, N: Nested<'a, I>>(
+    p: &mut Parser<'a, I>,
+    nested: &N,
+    code: Around,
+) -> Result<StmtBox, Failure>
+    requires ready { N.ready nested.now }
+    ensures value { Gives (λ x. (inner x.part.value, stand I.state p.new)) result (reads.with_by (machine_of I.machine) (N.reads nested.now I.State I.machine) (code_of code) (stand I.state p.old)) }
+    ensures holds { IfOk result (λ x. holds_stmt x.part.value) }
+    ensures shorter { IfOk result (λ _. spec.bound (machine_of I.machine) (stand I.state p.new) < spec.bound (machine_of I.machine) (stand I.state p.old)) }
+{
+    let start = p.lo();
+    p.eat_word(code, kinds::WITH)?;
+    let test = in_parens(p, nested, code)?;
+    let body = sub(p, nested, code, false)?;
+    made::with_stmt(p.alloc, p.since(start), test, body)
+}
+
+/// `while`.
+#[inline(never)]
+#[tactic(auto, using(ecma_parse_state::proofs::Marks::marks), unfolding(ecma_reading::specs::Statements::while_by))]
+pub fn while_loop<'a, I: Tokens<'a> + Drop, N: Nested<'a, I>>(
+    p: &mut Parser<'a, I>,
+    nested: &N,
+    code: Around,
+) -> Result<StmtBox, Failure>
+    requires ready { N.ready nested.now }
+    ensures value { Gives (λ x. (inner x.part.value, stand I.state p.new)) result (reads.while_by (machine_of I.machine) (N.reads nested.now I.State I.machine) (code_of code) (stand I.state p.old)) }
+    ensures holds { IfOk result (λ x. holds_stmt x.part.value) }
+    ensures shorter { IfOk result (λ _. spec.bound (machine_of I.machine) (stand I.state p.new) < spec.bound (machine_of I.machine) (stand I.state p.old)) }
+{
+    let start = p.lo();
+    p.eat_word(code, kinds::WHILE)?;
+    let test = in_parens(p, nested, code)?;
+    let body = sub(p, nested, code, false)?;
+    made::while_stmt(p.alloc, p.since(start), test, body)
+}
+
+/// `do`, with a semicolon behind it or with none.
+#[inline(never)]
+#[tactic(auto, using(ecma_parse_state::proofs::Marks::marks), unfolding(ecma_reading::specs::Statements::do_by))]
+pub fn do_loop<'a, I: Tokens<'a> + Drop, N: Nested<'a, I>>(
+    p: &mut Parser<'a, I>,
+    nested: &N,
+    code: Around,
+) -> Result<StmtBox, Failure>
+    requires ready { N.ready nested.now }
+    ensures value { Gives (λ x. (inner x.part.value, stand I.state p.new)) result (reads.do_by (machine_of I.machine) (N.reads nested.now I.State I.machine) (code_of code) (stand I.state p.old)) }
+    ensures holds { IfOk result (λ x. holds_stmt x.part.value) }
+    ensures shorter { IfOk result (λ _. spec.bound (machine_of I.machine) (stand I.state p.new) < spec.bound (machine_of I.machine) (stand I.state p.old)) }
+{
+    let start = p.lo();
+    p.eat_word(code, kinds::DO)?;
+    let body = sub(p, nested, code, false)?;
+    p.eat_word(code, kinds::WHILE)?;
+    let test = in_parens(p, nested, code)?;
+    if p.eat(kinds::SEMICOLON)? {
+        return made::do_while_stmt(p.alloc, p.since(start), test, body);
+    }
+    made::do_while_stmt(p.alloc, p.since(start), test, body)
+}
+
+/// Whether an expression is one name, not in parentheses.
+fn is_name(operand: &Operand) -> bool
+    ensures { result ≡ shape.is_name (tree_of operand.now) }
+{
+    matches!(&operand.expr.get().kind, ExprKind::Ident(_))
+}
+
+/// The name that an expression is.
+fn into_name(operand: Operand) -> Ident
+    requires { shape.is_name (tree_of operand) ≡ true }
+    ensures { view_ident result ≡ tree_of operand }
+{
+    match operand.expr.into_inner().kind {
+        ExprKind::Ident(x) => x,
+        _ => unreachable!(),
+    }
+}
+
+/// What follows a label, from its colon on.
+#[inline(never)]
+#[tactic(auto, using(ecma_parse_state::proofs::Marks::marks), unfolding(ecma_reading::specs::Statements::labelled_by))]
+pub fn labelled<'a, I: Tokens<'a> + Drop, N: Nested<'a, I>>(
+    p: &mut Parser<'a, I>,
+    nested: &N,
+    code: Around,
+    start: BytePos,
+    label: Ident,
+) -> Result<StmtBox, Failure>
+    requires ready { N.ready nested.now }
+    ensures value { Gives (λ x. (inner x.part.value, stand I.state p.new)) result (reads.labelled_by (machine_of I.machine) (N.reads nested.now I.State I.machine) (code_of code) (from start.0) (view_ident label) (stand I.state p.old)) }
+    ensures holds { IfOk result (λ x. holds_stmt x.part.value) }
+    ensures shorter { IfOk result (λ _. spec.bound (machine_of I.machine) (stand I.state p.new) < spec.bound (machine_of I.machine) (stand I.state p.old)) }
+{
+    p.bump()?;
+    let body = sub(p, nested, code, true)?;
+    made::labeled_stmt(p.alloc, p.since(start), label, body)
+}
+
+/// An expression that starts a statement: a label where it is a name before a colon.
+#[inline(never)]
+#[tactic(auto, using(ecma_parse_state::proofs::Marks::marks, crate::proofs::Starts::starts), unfolding(ecma_reading::specs::Statements::expression_by))]
+pub fn expression<'a, I: Tokens<'a> + Drop, N: Nested<'a, I>>(
+    p: &mut Parser<'a, I>,
+    nested: &N,
+    code: Around,
+) -> Result<StmtBox, Failure>
+    requires ready { N.ready nested.now }
+    ensures value { Gives (λ x. (inner x.part.value, stand I.state p.new)) result (reads.expression_by (machine_of I.machine) (N.reads nested.now I.State I.machine) (code_of code) (stand I.state p.old)) }
+    ensures holds { IfOk result (λ x. holds_stmt x.part.value) }
+    ensures shorter { IfOk result (λ _. spec.bound (machine_of I.machine) (stand I.state p.new) < spec.bound (machine_of I.machine) (stand I.state p.old)) }
+{
+    let start = p.lo();
+    let lets = p.at(kinds::LET);
+    if lets && p.second()?.0 == kinds::LEFT_BRACKET {
+        return Err(p.unexpected());
+    }
+    let expr = nested.expr(p, code, EXPRESSION)?;
+    let named = is_name(&expr);
+    if named && p.at(kinds::COLON) {
+        let label = into_name(expr);
+        return labelled(p, nested, code, start, label);
+    }
+    let end = if code.listed && (lets && named) {
+        LET_END
+    } else {
+        expr.end
+    };
+    p.end_of(code, end)?;
+    made::expr_stmt(p.alloc, p.since(start), expr)
+}
