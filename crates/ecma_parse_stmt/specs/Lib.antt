@@ -1,0 +1,2 @@
+-- Parts of the rules of statements.
+pub mod Parts

@@ -1,0 +1,208 @@
+//! A statement of any kind.
+ghost use Rattle.std.specs.Prelude.{◌≡◌, ◌<◌, ◌&&◌, true, false, IfErr, IfOk};
+ghost use Rattle.ecma_syntax.specs.Input.{kind};
+ghost use Rattle.ecma_node.specs.Placed.{holds_stmt, inner};
+ghost use Rattle.ecma_reading.specs.Source as spec;
+ghost use Rattle.ecma_reading.specs.Statements as reads;
+ghost use Rattle.ecma_parse_state.specs.Answers.{Gives, IsMemory};
+ghost use Rattle.ecma_parse_state.specs.Codes.{code_of};
+ghost use Rattle.ecma_parse_state.specs.Fronts.{machine_of};
+ghost use Rattle.ecma_parse_state.specs.Stands.{from, stand};
+ghost use Rattle.ecma_parse_stmt.specs.Parts.{declared_stmt, jump_stmt, variable_stmt};
+
+use crate::loops::for_loop;
+use ecma_node::{EmptyStmt, StmtBox, StmtKind, VarDeclKind};
+use ecma_parse_base::Nested;
+use ecma_parse_blocks::blocks::block;
+use ecma_parse_classes::classes::class_decl;
+use ecma_parse_loops::functions::function_decl;
+use ecma_parse_loops::starts::{starts_await_using, starts_let, starts_using};
+use ecma_parse_state::{Around, Failure, Parser, kinds};
+use ecma_parse_statements::chains::if_stmt;
+use ecma_parse_statements::declarations::{using, variables};
+use ecma_parse_statements::jumps::{
+    break_stmt, continue_stmt, debugger_stmt, return_stmt, throw_stmt,
+};
+use ecma_parse_statements::made::stmt;
+use ecma_parse_statements::simple::{do_loop, expression, while_loop, with};
+use ecma_parse_statements::switches::switch;
+use ecma_parse_statements::tries::try_stmt;
+use ecma_tokens::Tokens;
+
+/// Whether `async` comes before `function` on its line.
+///
+/// # Errors
+///
+/// Want of memory.
+pub fn starts_async<'a, I: Tokens<'a> + Drop, N: Nested<'a, I>>(
+    p: &Parser<'a, I>,
+    _nested: &N,
+) -> Result<bool, Failure>
+    ensures value { IfOk result (λ b. b ≡ reads.starts_async (machine_of I.machine) (N.reads _nested.now I.State I.machine) (stand I.state p.now)) }
+    ensures full { IfErr result IsMemory }
+{
+    if !p.at(kinds::ASYNC) {
+        return Ok(false);
+    }
+    let (second, breaks) = p.second()?;
+    Ok(second == kinds::FUNCTION && !breaks)
+}
+
+/// What declares variables, or an expression.
+#[inline(never)]
+#[tactic(auto, using(ecma_parse_state::proofs::Marks::marks, crate::proofs::Starts::starts), unfolding(crate::specs::Parts::variable_stmt))]
+pub fn variables_or_expression<'a, I: Tokens<'a> + Drop, N: Nested<'a, I>>(
+    p: &mut Parser<'a, I>,
+    nested: &N,
+    code: Around,
+) -> Result<StmtBox, Failure>
+    requires ready { N.ready nested.now }
+    ensures value { Gives (λ x. (inner x.part.value, stand I.state p.new)) result (variable_stmt (machine_of I.machine) (N.reads nested.now I.State I.machine) (code_of code) (stand I.state p.old)) }
+    ensures holds { IfOk result (λ x. holds_stmt x.part.value) }
+    ensures shorter { IfOk result (λ _. spec.bound (machine_of I.machine) (stand I.state p.new) < spec.bound (machine_of I.machine) (stand I.state p.old)) }
+{
+    let start = p.lo();
+    if p.at(kinds::VAR) {
+        return variables(p, nested, code, VarDeclKind::Var);
+    }
+    if !code.listed {
+        return expression(p, nested, code);
+    }
+    if p.at(kinds::CONST) {
+        return variables(p, nested, code, VarDeclKind::Const);
+    }
+    if starts_let(p, nested)? {
+        return variables(p, nested, code, VarDeclKind::Let);
+    }
+    if starts_using(p, nested, code)? {
+        return using(p, nested, code, start, false);
+    }
+    if starts_await_using(p, nested, code)? {
+        p.bump()?;
+        return using(p, nested, code, start, true);
+    }
+    expression(p, nested, code)
+}
+
+/// A function, a class, or what no word starts alone.
+#[inline(never)]
+#[tactic(auto, using(ecma_parse_state::proofs::Marks::marks, crate::proofs::Starts::starts), unfolding(crate::specs::Parts::declared_stmt, crate::specs::Parts::variable_stmt))]
+pub fn declared<'a, I: Tokens<'a> + Drop, N: Nested<'a, I>>(
+    p: &mut Parser<'a, I>,
+    nested: &N,
+    code: Around,
+) -> Result<StmtBox, Failure>
+    requires ready { N.ready nested.now }
+    ensures value { Gives (λ x. (inner x.part.value, stand I.state p.new)) result (declared_stmt (machine_of I.machine) (N.reads nested.now I.State I.machine) (code_of code) (stand I.state p.old)) }
+    ensures holds { IfOk result (λ x. holds_stmt x.part.value) }
+    ensures shorter { IfOk result (λ _. spec.bound (machine_of I.machine) (stand I.state p.new) < spec.bound (machine_of I.machine) (stand I.state p.old)) }
+{
+    let start = p.lo();
+    if p.at(kinds::FUNCTION) {
+        return function_decl(p, nested, code, start, false);
+    }
+    if p.at(kinds::CLASS) {
+        if !code.listed {
+            return Err(p.unexpected());
+        }
+        return class_decl(p, nested, code);
+    }
+    if starts_async(p, nested)? {
+        if !code.listed {
+            return Err(p.unexpected());
+        }
+        p.bump()?;
+        return function_decl(p, nested, code, start, true);
+    }
+    variables_or_expression(p, nested, code)
+}
+
+/// A statement that leaves a place, or one of the others.
+#[inline(never)]
+#[tactic(auto, unfolding(crate::specs::Parts::jump_stmt, crate::specs::Parts::declared_stmt))]
+pub fn jump<'a, I: Tokens<'a> + Drop, N: Nested<'a, I>>(
+    p: &mut Parser<'a, I>,
+    nested: &N,
+    code: Around,
+) -> Result<StmtBox, Failure>
+    requires ready { N.ready nested.now }
+    ensures value { Gives (λ x. (inner x.part.value, stand I.state p.new)) result (jump_stmt (machine_of I.machine) (N.reads nested.now I.State I.machine) (code_of code) (stand I.state p.old)) }
+    ensures holds { IfOk result (λ x. holds_stmt x.part.value) }
+    ensures shorter { IfOk result (λ _. spec.bound (machine_of I.machine) (stand I.state p.new) < spec.bound (machine_of I.machine) (stand I.state p.old)) }
+{
+    match p.kind() {
+        kinds::THROW => throw_stmt(p, nested, code),
+        kinds::BREAK => break_stmt(p, nested, code),
+        kinds::CONTINUE => continue_stmt(p, nested, code),
+        kinds::WITH => with(p, nested, code),
+        kinds::DEBUGGER => debugger_stmt(p, nested, code),
+        _ => declared(p, nested, code),
+    }
+}
+
+/// A statement that a word starts, or an expression.
+#[inline(never)]
+#[tactic(auto, unfolding(ecma_reading::specs::Statements::keyword_stmt, crate::specs::Parts::jump_stmt, crate::specs::Parts::declared_stmt, crate::specs::Parts::variable_stmt))]
+pub fn keyword<'a, I: Tokens<'a> + Drop, N: Nested<'a, I>>(
+    p: &mut Parser<'a, I>,
+    nested: &N,
+    code: Around,
+) -> Result<StmtBox, Failure>
+    requires ready { N.ready nested.now }
+    ensures value { Gives (λ x. (inner x.part.value, stand I.state p.new)) result (reads.keyword_stmt (machine_of I.machine) (N.reads nested.now I.State I.machine) (code_of code) (stand I.state p.old)) }
+    ensures holds { IfOk result (λ x. holds_stmt x.part.value) }
+    ensures shorter { IfOk result (λ _. spec.bound (machine_of I.machine) (stand I.state p.new) < spec.bound (machine_of I.machine) (stand I.state p.old)) }
+{
+    match p.kind() {
+        kinds::IF => if_stmt(p, nested, code),
+        kinds::RETURN => return_stmt(p, nested, code),
+        kinds::FOR => for_loop(p, nested, code),
+        kinds::WHILE => while_loop(p, nested, code),
+        kinds::DO => do_loop(p, nested, code),
+        kinds::SWITCH => switch(p, nested, code),
+        kinds::TRY => try_stmt(p, nested, code),
+        _ => jump(p, nested, code),
+    }
+}
+
+/// A statement, from a token on that is no slash.
+#[inline(never)]
+#[tactic(auto, unfolding(ecma_reading::specs::Statements::stmt_by))]
+pub fn any_stmt<'a, I: Tokens<'a> + Drop, N: Nested<'a, I>>(
+    p: &mut Parser<'a, I>,
+    nested: &N,
+    code: Around,
+) -> Result<StmtBox, Failure>
+    requires ready { N.ready nested.now }
+    ensures value { Gives (λ x. (inner x.part.value, stand I.state p.new)) result (reads.stmt_by (machine_of I.machine) (N.reads nested.now I.State I.machine) (code_of code) (stand I.state p.old)) }
+    ensures holds { IfOk result (λ x. holds_stmt x.part.value) }
+    ensures shorter { IfOk result (λ _. spec.bound (machine_of I.machine) (stand I.state p.new) < spec.bound (machine_of I.machine) (stand I.state p.old)) }
+{
+    if p.at(kinds::SEMICOLON) {
+        let span = p.place();
+        p.bump()?;
+        return stmt(p.alloc, StmtKind::Empty(EmptyStmt { span }));
+    }
+    if p.at(kinds::LEFT_BRACE) {
+        let read = block(p, nested, code)?;
+        return stmt(p.alloc, StmtKind::Block(read));
+    }
+    keyword(p, nested, code)
+}
+
+/// A statement; where the code says so, a declaration. A slash that comes starts a regular expression.
+#[inline(never)]
+#[tactic(auto, unfolding(ecma_reading::specs::Statements::stmt_from))]
+pub fn statement<'a, I: Tokens<'a> + Drop, N: Nested<'a, I>>(
+    p: &mut Parser<'a, I>,
+    nested: &N,
+    code: Around,
+) -> Result<StmtBox, Failure>
+    requires ready { N.ready nested.now }
+    ensures value { Gives (λ x. (inner x.part.value, stand I.state p.new)) result (reads.stmt_from (machine_of I.machine) (N.reads nested.now I.State I.machine) (code_of code) (stand I.state p.old)) }
+    ensures holds { IfOk result (λ x. holds_stmt x.part.value) }
+    ensures shorter { IfOk result (λ _. spec.bound (machine_of I.machine) (stand I.state p.new) < spec.bound (machine_of I.machine) (stand I.state p.old)) }
+{
+    p.operand()?;
+    any_stmt(p, nested, code)
+}
