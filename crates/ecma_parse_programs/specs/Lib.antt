@@ -1,2 +1,0 @@
--- What scripts and modules share.
-pub mod Items
