@@ -10,32 +10,16 @@ ghost use Rattle.ecma_parse_state.specs.Answers.{Gives};
 ghost use Rattle.ecma_parse_state.specs.Codes.{code_of};
 ghost use Rattle.ecma_parse_state.specs.Fronts.{machine_of};
 ghost use Rattle.ecma_parse_state.specs.Stands.{from, stand};
-ghost use Rattle.ecma_parse_programs.specs.Items.{items_by, line_by};
+ghost use Rattle.ecma_parse_programs.specs.Items.{items_by};
 
 use crate::items::module_items;
 use crate::scripts::script_items;
 use ecma_atom::Atom;
 use ecma_node::{Module, Script};
 use ecma_parse_base::Nested;
-use ecma_parse_state::{Around, Failure, Parser, kinds};
-use ecma_token::{BytePos, Token};
+use ecma_parse_state::{Around, Failure, Parser};
+use ecma_token::BytePos;
 use ecma_tokens::Tokens;
-
-/// The text of a hashbang (ECMA-262, 12.5).
-#[inline(never)]
-#[tactic(auto, unfolding(crate::specs::Items::line_by, ecma_parse_state::specs::Fronts::machine_of))]
-pub fn line<'a, I: Tokens<'a> + Drop>(p: &mut Parser<'a, I>) -> Result<Atom, Failure>
-    ensures value { Gives (λ x. (x, stand I.state p.new)) result (line_by (machine_of I.machine) (stand I.state p.old)) }
-{
-    let fault = p.unexpected();
-    let Some(token) = p.take()? else {
-        return Err(fault);
-    };
-    match token.token {
-        Token::Shebang(text) => Ok(Atom::new(p.alloc, text)?),
-        _ => Err(fault),
-    }
-}
 
 /// A script, after its hashbang.
 #[inline(never)]
@@ -79,42 +63,4 @@ pub fn module_rest<'a, I: Tokens<'a> + Drop, N: Nested<'a, I>>(
         body: read.items,
         shebang,
     })
-}
-
-/// A script.
-#[tactic(auto, using(ecma_parse_state::proofs::Marks::marks, crate::proofs::Lines::programs))]
-pub fn script<'a, I: Tokens<'a> + Drop, N: Nested<'a, I>>(
-    p: &mut Parser<'a, I>,
-    nested: &N,
-    code: Around,
-) -> Result<Script, Failure>
-    requires ready { N.ready nested.now }
-    ensures value { Gives (λ x. (view_script inner x, stand I.state p.new)) result (reads.program_by (machine_of I.machine) (N.reads nested.now I.State I.machine) false (code_of code) (stand I.state p.old)) }
-    ensures fits { IfOk result (λ x. fits_script (λ p. p) x) }
-{
-    let start = p.lo();
-    if p.at(kinds::SHEBANG) {
-        let text = line(p)?;
-        return script_rest(p, nested, code, start, Some(text));
-    }
-    script_rest(p, nested, code, start, None)
-}
-
-/// A module.
-#[tactic(auto, using(ecma_parse_state::proofs::Marks::marks, crate::proofs::Lines::programs))]
-pub fn module<'a, I: Tokens<'a> + Drop, N: Nested<'a, I>>(
-    p: &mut Parser<'a, I>,
-    nested: &N,
-    code: Around,
-) -> Result<Module, Failure>
-    requires ready { N.ready nested.now }
-    ensures value { Gives (λ x. (view_module inner x, stand I.state p.new)) result (reads.program_by (machine_of I.machine) (N.reads nested.now I.State I.machine) true (code_of code) (stand I.state p.old)) }
-    ensures fits { IfOk result (λ x. fits_module (λ p. p) x) }
-{
-    let start = p.lo();
-    if p.at(kinds::SHEBANG) {
-        let text = line(p)?;
-        return module_rest(p, nested, code, start, Some(text));
-    }
-    module_rest(p, nested, code, start, None)
 }
