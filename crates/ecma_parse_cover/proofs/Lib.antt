@@ -1,3 +1,4 @@
 pub mod Rows
 pub mod Commas
 pub mod Defaults
+pub mod Lasts

@@ -63,4 +63,8 @@ array_read binds commas s xs ps h e = rw (h, e) refl
 pub object_read : (binds : Bool) (commas : List ℕ) (s : Span) (xs ps : Trees) → has s.lo.0 commas ≡ false → to_items true binds commas xs ≡ Ok ps → to_item binds commas (object_lit s xs) ≡ Ok (object_pat s ps)
 object_read binds commas s xs ps h e = rw (h, e) refl
 
+pub unpacked : {A : Type 0} (f : A → Tree) (xs : List A) → unpack (trees_by f xs) ≡ map f xs
+unpacked f [] = refl
+unpacked f (x ∷ xs) = ap (λ ys. f x ∷ ys) (unpacked f xs)
+
 pub ruleset items = (items_is, more_left, packed)

@@ -6,4 +6,5 @@ pub mod items;
 pub mod leaves;
 pub mod made;
 pub mod names;
+pub mod params;
 pub mod targets;

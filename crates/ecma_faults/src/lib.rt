@@ -1,0 +1,24 @@
+//! The early errors of a finished program: the code of the walk that defines them.
+#![tactic(auto)]
+
+mod bodies;
+mod check;
+mod declarations;
+mod expressions;
+mod functions;
+mod inits;
+mod knot;
+mod literals;
+mod members;
+mod modes;
+mod names;
+mod objects;
+mod patterns;
+mod program;
+mod programs;
+mod protos;
+mod questions;
+mod statements;
+mod targets;
+
+pub use program::check_program;

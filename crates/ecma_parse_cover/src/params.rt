@@ -1,0 +1,62 @@
+//! The parameters of an arrow, which were read as the elements of a parenthesis (15.3).
+ghost use Rattle.std.specs.Prelude.{◌≡◌, false, true, All, IfOk, map, reverse};
+ghost use Rattle.ecma_tree.specs.Tree.{trees_by};
+ghost use Rattle.ecma_node.specs.Placed.{holds_pat, inner};
+ghost use Rattle.ecma_node.specs.View.{view_expr_or_spread};
+ghost use Rattle.ecma_reading.specs.Cover.{last_rests, to_items};
+ghost use Rattle.ecma_parse_state.specs.Answers.{Gives};
+ghost use Rattle.ecma_parse_base.specs.Lists.{arguments_of};
+ghost use Rattle.ecma_parse_cover.specs.Items.{parameters_of};
+
+use crate::items::element;
+use crate::made;
+use ecma_node::{ExprOrSpread, PatBox};
+use ecma_parse_base::lists::Arguments;
+use ecma_parse_state::Failure;
+use ecma_token::DUMMY_SP;
+use std::alloc::Global;
+
+/// Whether the last element is spread.
+#[tactic(auto, using(crate::proofs::Lasts::rests_at, crate::proofs::Lasts::rests_none))]
+fn ends_in_rest(items: &[ExprOrSpread]) -> bool
+    ensures { result ≡ last_rests (map (view_expr_or_spread inner) items.now) }
+{
+    match items.last() {
+        Some(last) => last.spread.is_some(),
+        None => false,
+    }
+}
+
+/// Elements as patterns that bind, of which a rest stands last.
+#[tactic(auto, using(crate::proofs::Rows::items), unfolding(crate::specs::Items::items_from, crate::specs::Items::item_by))]
+fn all_params(
+    alloc: Global,
+    commas: &[u32],
+    items: Vec<ExprOrSpread>,
+) -> Result<Vec<PatBox>, Failure>
+    ensures value { Gives (λ x. trees_by (λ y. inner y.part.value) x.items) result (to_items false true (reverse commas.now) (trees_by (view_expr_or_spread inner) items.items)) }
+    ensures fits { IfOk result (λ x. All (λ y. holds_pat y.part.value) x.items) }
+{
+    let mut left = items.len();
+    let mut params = Vec::new(alloc);
+    'params: for x in items {
+        left -= 1;
+        if left > 0 && x.spread.is_some() {
+            return Err(made::refused(x.span));
+        }
+        params.push(element(alloc, true, commas, x)?)?;
+    }
+    Ok(params)
+}
+
+/// What stands between parentheses, as the parameters of an arrow: `parameters_of` is what is read of them, without a machine.
+#[tactic(auto, using(crate::proofs::Rows::items, crate::proofs::Rows::unpacked))]
+pub fn params(alloc: Global, commas: &[u32], list: Arguments) -> Result<Vec<PatBox>, Failure>
+    ensures value { Gives (λ x. map (λ y. inner y.part.value) x.items) result (parameters_of (reverse commas.now) (arguments_of list)) }
+    ensures fits { IfOk result (λ x. All (λ y. holds_pat y.part.value) x.items) }
+{
+    if list.comma && ends_in_rest(list.items.as_slice()) {
+        return Err(made::refused(DUMMY_SP));
+    }
+    all_params(alloc, commas, list.items)
+}

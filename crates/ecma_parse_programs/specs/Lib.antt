@@ -1,0 +1,2 @@
+-- What scripts and modules share.
+pub mod Items

@@ -1,0 +1,87 @@
+//! The statements of scripts.
+ghost use Rattle.std.specs.Prelude.{◌≡◌, ◌<◌, ◌≤◌, false, true, IfOk, IsTrue};
+ghost use Rattle.ecma_node.specs.Placed.{inner};
+ghost use Rattle.ecma_reading.specs.Source as spec;
+ghost use Rattle.ecma_reading.specs.Modules as reads;
+ghost use Rattle.ecma_parse_state.specs.Answers.{Gives, going_on};
+ghost use Rattle.ecma_parse_state.specs.Codes.{code_of};
+ghost use Rattle.ecma_parse_state.specs.Fronts.{machine_of};
+ghost use Rattle.ecma_parse_state.specs.Stands.{stand};
+ghost use Rattle.ecma_parse_blocks.specs.Lists.{body_of, FitBody};
+ghost use Rattle.ecma_parse_programs.specs.Items.{items_by};
+
+use crate::items::{ended, is_directive, is_use_strict, script_item};
+use ecma_parse_base::Nested;
+use ecma_parse_blocks::BodySoFar;
+use ecma_parse_blocks::lookahead::turned;
+use ecma_parse_state::code::{in_list, turned_strict};
+use ecma_parse_state::{Around, Failure, Parser};
+use ecma_tokens::Tokens;
+
+/// One more statement of a script. A directive may turn what follows strict.
+#[inline(never)]
+#[tactic(auto, unfolding(ecma_reading::specs::Modules::program_item))]
+pub fn next_stmt<'a, I: Tokens<'a> + Drop, N: Nested<'a, I>>(
+    p: &mut Parser<'a, I>,
+    nested: &N,
+    body: &mut BodySoFar,
+) -> Result<(), Failure>
+    requires ready { N.ready nested.now }
+    requires fits { FitBody body.old }
+    ensures value { Gives (λ _. (spec.go_on (body_of body.new), stand I.state p.new)) result (reads.program_item (machine_of I.machine) (N.reads nested.now I.State I.machine) false (body_of body.old) (stand I.state p.old)) }
+    ensures fits { IfOk result (λ _. FitBody body.new) }
+    ensures shorter { IfOk result (λ _. spec.bound (machine_of I.machine) (stand I.state p.new) < spec.bound (machine_of I.machine) (stand I.state p.old)) }
+{
+    let read = script_item(p, nested, in_list(body.code))?;
+    if body.starts && is_use_strict(read.get()) {
+        body.code = turned_strict(body.code);
+        turned(p, body.code.context);
+    } else {
+        body.starts = body.starts && is_directive(read.get());
+    }
+    body.items.push(read)?;
+    Ok(())
+}
+
+/// One more statement of a script, or its end. Whether another may follow.
+#[inline(never)]
+#[tactic(auto, unfolding(ecma_reading::specs::Modules::program_step))]
+pub fn stmt_turn<'a, I: Tokens<'a> + Drop, N: Nested<'a, I>>(
+    p: &mut Parser<'a, I>,
+    nested: &N,
+    body: &mut BodySoFar,
+) -> Result<bool, Failure>
+    requires ready { N.ready nested.now }
+    requires fits { FitBody body.old }
+    ensures value { Gives (λ x. (going_on x (body_of body.new), stand I.state p.new)) result (reads.program_step (machine_of I.machine) (N.reads nested.now I.State I.machine) false (body_of body.old) (stand I.state p.old)) }
+    ensures fits { IfOk result (λ _. FitBody body.new) }
+    ensures shorter { IfOk result (λ b. IsTrue b → spec.bound (machine_of I.machine) (stand I.state p.new) < spec.bound (machine_of I.machine) (stand I.state p.old)) }
+{
+    if ended(p) {
+        return Ok(false);
+    }
+    p.operand()?;
+    next_stmt(p, nested, body)?;
+    Ok(true)
+}
+
+/// The statements of a script.
+#[inline(never)]
+#[tactic(auto, using(ecma_parse_state::proofs::Iterate::iterates), unfolding(crate::specs::Items::items_by))]
+pub fn script_items<'a, I: Tokens<'a> + Drop, N: Nested<'a, I>>(
+    p: &mut Parser<'a, I>,
+    nested: &N,
+    code: Around,
+) -> Result<BodySoFar, Failure>
+    requires ready { N.ready nested.now }
+    ensures value { Gives (λ x. (body_of x, stand I.state p.new)) result (items_by (machine_of I.machine) (N.reads nested.now I.State I.machine) false (code_of code) (stand I.state p.old)) }
+    ensures fits { IfOk result (λ x. FitBody x) }
+{
+    let mut read = BodySoFar {
+        items: Vec::new(p.alloc),
+        code,
+        starts: true,
+    };
+    'turns: while stmt_turn(p, nested, &mut read)? {}
+    Ok(read)
+}
