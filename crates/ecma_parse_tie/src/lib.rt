@@ -2,7 +2,9 @@
 #![tactic(auto)]
 
 pub mod layer;
+pub mod parser;
 pub mod rules;
 pub mod tie;
 
 pub use layer::{Inside, Layer, Stood};
+pub use parser::Through;

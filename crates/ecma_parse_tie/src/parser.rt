@@ -20,15 +20,15 @@ ghost use Rattle.ecma_parse_base.specs.Lists.{arguments_of};
 use crate::layer::{Inside, Layer, Stood};
 use ecma_node::{AssignTarget, BlockStmt, Class, PatBox, StmtBox};
 use ecma_parse_base::lists::Arguments;
-use ecma_parse_prefix::exprs::expr;
-use ecma_parse_patterns::patterns::pattern;
-use ecma_parse_stmt::stmts::statement;
+use ecma_parse_base::{Nested, Operand};
 use ecma_parse_blocks::body::body;
 use ecma_parse_classes::classes::class_tail;
 use ecma_parse_cover::params::params;
 use ecma_parse_cover::targets::target;
-use ecma_parse_base::{Nested, Operand};
+use ecma_parse_patterns::patterns::pattern;
+use ecma_parse_prefix::exprs::expr;
 use ecma_parse_state::{Around, Failure, Parser};
+use ecma_parse_stmt::stmts::statement;
 use ecma_token::BytePos;
 use ecma_tokens::Tokens;
 
@@ -80,6 +80,7 @@ impl<'a, 'n, I: Tokens<'a> + Drop, N: Inside<Parser<'a, I>>> Nested<'a, I> for T
         target(p.alloc, p.commas.as_slice(), kind, left.expr)
     }
 
+    #[tactic(auto, unfolding(ecma_reading::specs::Expressions::params_of))]
     fn params(&self, p: &Parser<'a, I>, list: Arguments) -> Result<Vec<PatBox>, Failure> {
         params(p.alloc, p.commas.as_slice(), list)
     }
