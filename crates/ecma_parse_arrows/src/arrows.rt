@@ -1,14 +1,12 @@
 //! Arrow functions (15.3), after their parameters.
-ghost use Rattle.std.specs.Prelude.{◌≡◌, ◌≢◌, false, true, ◌<◌, ◌≤◌, All, IfOk, IsTrue, map};
-ghost use Rattle.ecma_syntax.specs.Input.{brk, kind, kind2, lo, first_span, span, text};
-ghost use Rattle.ecma_node.specs.Placed.{holds_expr, holds_pat, inner};
+ghost use Rattle.std.specs.Prelude.{◌≡◌, ◌≢◌, false, true, ◌<◌, ◌≤◌, All, IfOk, map};
+ghost use Rattle.ecma_node.specs.Placed.{holds_pat, inner};
 ghost use Rattle.ecma_reading.specs.Source as spec;
 ghost use Rattle.ecma_reading.specs.Expressions as reads;
 ghost use Rattle.ecma_parse_state.specs.Answers.{Gives};
 ghost use Rattle.ecma_parse_state.specs.Codes.{code_of};
 ghost use Rattle.ecma_parse_state.specs.Fronts.{machine_of};
 ghost use Rattle.ecma_parse_state.specs.Stands.{from, from_span, stand};
-ghost use Rattle.ecma_parse_base.specs.Lists.{arguments_of, FitArguments};
 ghost use Rattle.ecma_parse_base.specs.Operands.{tree_of};
 
 use crate::made;

@@ -1,14 +1,12 @@
 //! The word `async`: of a function, of an arrow, or a name.
-ghost use Rattle.std.specs.Prelude.{◌≡◌, ◌≢◌, false, true, ◌<◌, ◌≤◌, All, IfOk, IsTrue, map};
-ghost use Rattle.ecma_syntax.specs.Input.{brk, kind, kind2, lo, first_span, span, text};
-ghost use Rattle.ecma_node.specs.Placed.{holds_expr, holds_pat, inner};
+ghost use Rattle.std.specs.Prelude.{◌≡◌, ◌≢◌, false, true, ◌<◌, ◌≤◌, IfOk};
+ghost use Rattle.ecma_syntax.specs.Input.{brk, kind, kind2, span};
 ghost use Rattle.ecma_reading.specs.Source as spec;
 ghost use Rattle.ecma_reading.specs.Expressions as reads;
 ghost use Rattle.ecma_parse_state.specs.Answers.{Gives};
 ghost use Rattle.ecma_parse_state.specs.Codes.{code_of};
 ghost use Rattle.ecma_parse_state.specs.Fronts.{machine_of};
-ghost use Rattle.ecma_parse_state.specs.Stands.{from, from_span, stand};
-ghost use Rattle.ecma_parse_base.specs.Lists.{arguments_of, FitArguments};
+ghost use Rattle.ecma_parse_state.specs.Stands.{from_span, stand};
 ghost use Rattle.ecma_parse_base.specs.Operands.{tree_of};
 ghost use Rattle.std.specs.Prelude.{not, ◌&&◌, ◌==◌, IfErr};
 ghost use Rattle.ecma_syntax.specs.Input.{brk2};
@@ -17,7 +15,7 @@ ghost use Rattle.ecma_parse_state.specs.Answers.{IsMemory};
 ghost use Rattle.ecma_parse_arrows.specs.Asyncs.{async_arrow, async_call, async_end};
 
 use crate::arrows::{arrow, ident_end, is_arrow};
-use crate::function_exprs::function_expr;
+use crate::function_exprs::function_operand;
 use crate::made;
 use ecma_atom::Atom;
 use ecma_parse_base::{Nested, Operand};
@@ -99,7 +97,7 @@ pub fn async_end<'a, I: Tokens<'a> + Drop, N: Nested<'a, I>>(
     ensures not_longer { IfOk result (λ _. spec.bound (machine_of I.machine) (stand I.state p.new) ≤ spec.bound (machine_of I.machine) (stand I.state p.old)) }
 {
     if p.at(kinds::FUNCTION) && !p.breaks() {
-        return function_expr(p, nested, code, place.lo, true);
+        return function_operand(p, nested, code, place.lo, true);
     }
     if is_param(p, code)? {
         return async_arrow(p, nested, code, place);

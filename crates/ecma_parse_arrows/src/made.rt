@@ -1,17 +1,17 @@
 //! Makers of arrows, functions and parentheses. Each stands in a function of its own, so that rules keep small frames.
 ghost use Rattle.std.specs.Prelude.{◌≡◌, [], ◌∷◌, All, IfErr, IfOk, map};
-ghost use Rattle.ecma_tree.specs.Tree.{arrow_expr, binding_ident, fn_expr, ident, paren_expr, part_by, trees_by};
+ghost use Rattle.ecma_tree.specs.Tree.{arrow_expr, binding_ident, ident, paren_expr, trees_by};
 ghost use Rattle.ecma_syntax.specs.Shape as shape;
-ghost use Rattle.ecma_node.specs.Fits.{fits_block_stmt, fits_function};
+ghost use Rattle.ecma_node.specs.Fits.{fits_block_stmt, fits_fn_expr};
 ghost use Rattle.ecma_node.specs.Placed.{holds_expr, holds_pat, inner};
-ghost use Rattle.ecma_node.specs.View.{view_block_stmt, view_function, view_ident};
+ghost use Rattle.ecma_node.specs.View.{view_block_stmt, view_fn_expr};
 ghost use Rattle.ecma_parse_state.specs.Answers.{IsMemory};
 ghost use Rattle.ecma_parse_base.specs.Operands.{tree_of};
 
 use ecma_atom::Atom;
 use ecma_node::{
-    ArrowExpr, BindingIdent, BlockStmt, BlockStmtOrExpr, ExprBox, ExprKind, FnExpr, Function,
-    Ident, ParenExpr, Pat, PatBox, PatKind,
+    ArrowExpr, BindingIdent, BlockStmt, BlockStmtOrExpr, ExprBox, ExprKind, FnExpr, Ident,
+    ParenExpr, Pat, PatBox, PatKind,
 };
 use ecma_parse_base::Operand;
 use ecma_parse_base::made::operand;
@@ -97,21 +97,11 @@ pub fn one_param(alloc: Global, span: Span, sym: Atom) -> Result<Vec<PatBox>, Fa
 
 /// A function as an expression.
 #[inline(never)]
-pub fn fn_expr(
-    alloc: Global,
-    span: Span,
-    ident: Option<Ident>,
-    function: Box<Function>,
-) -> Result<Operand, Failure>
-    requires { fits_function (λ p. p) function.value }
-    ensures value { IfOk result (λ o. tree_of o ≡ fn_expr span (part_by view_ident ident) (view_function inner function.value)) }
+pub fn fn_expr(alloc: Global, node: FnExpr) -> Result<Operand, Failure>
+    requires { fits_fn_expr (λ p. p) node }
+    ensures value { IfOk result (λ o. tree_of o ≡ view_fn_expr inner node) }
     ensures full { IfErr result IsMemory }
 {
-    let node = FnExpr {
-        span,
-        ident,
-        function,
-    };
     operand(alloc, ExprKind::Fn(node), PRIMARY, OTHER_END)
 }
 

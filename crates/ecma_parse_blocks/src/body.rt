@@ -30,7 +30,7 @@ pub struct BodySoFar {
 }
 
 /// Whether a statement is the directive `use strict`, without an escape (ECMA-262, 11.2.1).
-fn is_use_strict(stmt: &Stmt) -> bool
+pub fn is_use_strict(stmt: &Stmt) -> bool
     ensures { result ≡ shape.is_use_strict stmt.now }
 {
     match &stmt.kind {
@@ -46,7 +46,7 @@ fn is_use_strict(stmt: &Stmt) -> bool
 }
 
 /// Whether a statement is a string without parentheses, as a directive is (ECMA-262, 11.2.1).
-fn is_directive(stmt: &Stmt) -> bool
+pub fn is_directive(stmt: &Stmt) -> bool
     ensures { result ≡ shape.is_directive stmt.now }
 {
     match &stmt.kind {

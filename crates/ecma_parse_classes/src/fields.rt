@@ -1,7 +1,5 @@
 //! Keys of members, and fields.
 ghost use Rattle.std.specs.Prelude.{◌≡◌, ◌<◌, ◌≤◌, IfOk};
-ghost use Rattle.ecma_syntax.specs.Input.{kind};
-ghost use Rattle.ecma_syntax.specs.Shape as shape;
 ghost use Rattle.ecma_tree.specs.Tree.{part_by};
 ghost use Rattle.ecma_node.specs.Fits.{fits_class_member, fits_held, fits_key};
 ghost use Rattle.ecma_node.specs.Placed.{holds_expr, inner};

@@ -1,8 +1,5 @@
 //! Members of classes.
 ghost use Rattle.std.specs.Prelude.{◌≡◌, false, true, ◌<◌, ◌≤◌, IfOk};
-ghost use Rattle.ecma_token.specs.Kinds.{get_kind, mul_kind, set_kind};
-ghost use Rattle.ecma_syntax.specs.Input.{kind};
-ghost use Rattle.ecma_syntax.specs.Shape as shape;
 ghost use Rattle.ecma_node.specs.Fits.{fits_class_member, fits_key};
 ghost use Rattle.ecma_node.specs.Placed.{inner};
 ghost use Rattle.ecma_node.specs.View.{view_class_member, view_key};

@@ -1,6 +1,5 @@
 //! What holds no other item: the target of an assignment, and questions about expressions.
 ghost use Rattle.std.specs.Prelude.{◌≡◌, ◌==◌, false, true, reverse, IfOk, Ok, ℕ, List, Bool, if◌then◌else◌};
-ghost use Rattle.std.specs.List.{list_any};
 ghost use Rattle.ecma_token.specs.Kinds.{assign_kind};
 ghost use Rattle.ecma_token.specs.OperatorKinds.{assign_op_kind};
 ghost use Rattle.ecma_node.specs.Fits.{fits_assign_expr, fits_assign_target, fits_expr_kind};

@@ -1,6 +1,5 @@
 //! Makers of keys, parameters and functions. Each stands in a function of its own, so that rules keep small frames.
 ghost use Rattle.std.specs.Prelude.{◌≡◌, All, IfErr, IfOk, Some};
-ghost use Rattle.std.specs.Cow.{cow_str_bytes};
 ghost use Rattle.ecma_node.specs.Fits.{fits_block_stmt, fits_function, fits_param, fits_prop_name};
 ghost use Rattle.ecma_node.specs.Placed.{holds_pat, inner};
 ghost use Rattle.ecma_node.specs.View.{view_block_stmt, view_function, view_param, view_prop_name};

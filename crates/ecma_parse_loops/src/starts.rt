@@ -39,6 +39,25 @@ pub fn behind<'a, I: Tokens<'a> + Drop>(p: &Parser<'a, I>) -> Result<(u8, bool),
     }
 }
 
+/// Whether `async` comes before `function` on its line.
+///
+/// # Errors
+///
+/// Want of memory.
+pub fn starts_async<'a, I: Tokens<'a> + Drop, N: Nested<'a, I>>(
+    p: &Parser<'a, I>,
+    _nested: &N,
+) -> Result<bool, Failure>
+    ensures value { IfOk result (λ b. b ≡ reads.starts_async (machine_of I.machine) (N.reads _nested.now I.State I.machine) (stand I.state p.now)) }
+    ensures full { IfErr result IsMemory }
+{
+    if !p.at(kinds::ASYNC) {
+        return Ok(false);
+    }
+    let (second, breaks) = p.second()?;
+    Ok(second == kinds::FUNCTION && !breaks)
+}
+
 /// Whether `let` starts a declaration: before a name, `[` and `{`.
 ///
 /// # Errors

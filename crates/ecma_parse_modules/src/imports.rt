@@ -3,7 +3,7 @@ ghost use Rattle.std.specs.Prelude.{◌≡◌, ◌<◌, ◌≤◌, ◌++◌, fal
 ghost use Rattle.ecma_token.specs.Kinds.{mul_kind};
 ghost use Rattle.ecma_node.specs.Fits.{fits_import_decl};
 ghost use Rattle.ecma_node.specs.Placed.{inner};
-ghost use Rattle.ecma_node.specs.View.{view_ident, view_import_decl, view_import_specifier, view_import_star_as_specifier};
+ghost use Rattle.ecma_node.specs.View.{view_import_decl, view_import_specifier};
 ghost use Rattle.ecma_reading.specs.Source as spec;
 ghost use Rattle.ecma_reading.specs.Modules as reads;
 ghost use Rattle.ecma_parse_state.specs.Answers.{Gives, IsMemory, going_on};

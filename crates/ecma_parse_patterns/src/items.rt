@@ -1,12 +1,11 @@
 //! Items of patterns, with an initialiser or without, and what follows them.
-ghost use Rattle.std.specs.Prelude.{◌≡◌, ◌<◌, ◌≤◌, ◌&&◌, true, false, IfErr, IfOk};
-ghost use Rattle.ecma_syntax.specs.Input.{dots_at, lo};
+ghost use Rattle.std.specs.Prelude.{◌≡◌, ◌<◌, ◌≤◌, ◌&&◌, true, false, IfOk};
 ghost use Rattle.ecma_node.specs.Fits.{fits_rest_pat};
 ghost use Rattle.ecma_node.specs.Placed.{holds_pat, inner};
 ghost use Rattle.ecma_node.specs.View.{view_rest_pat};
 ghost use Rattle.ecma_reading.specs.Source as spec;
 ghost use Rattle.ecma_reading.specs.Statements as reads;
-ghost use Rattle.ecma_parse_state.specs.Answers.{Gives, IsMemory};
+ghost use Rattle.ecma_parse_state.specs.Answers.{Gives};
 ghost use Rattle.ecma_parse_state.specs.Codes.{code_of};
 ghost use Rattle.ecma_parse_state.specs.Fronts.{machine_of};
 ghost use Rattle.ecma_parse_state.specs.Stands.{from, stand};
@@ -15,10 +14,11 @@ ghost use Rattle.ecma_parse_patterns.specs.Items.{after_by, item_by, rest_by};
 use crate::made;
 use ecma_node::{PatBox, RestPat};
 use ecma_parse_base::Nested;
+use ecma_parse_functions::made::dots;
 use ecma_parse_state::code::with_in;
 use ecma_parse_state::operators::ASSIGNMENT;
 use ecma_parse_state::{Around, Failure, Parser, kinds};
-use ecma_token::{BytePos, Span};
+use ecma_token::BytePos;
 use ecma_tokens::Tokens;
 
 /// A pattern with an initialiser, where one follows.
@@ -62,25 +62,6 @@ pub fn item<'a, I: Tokens<'a> + Drop, N: Nested<'a, I>>(
     initial(p, nested, code, start, pat)
 }
 
-/// The place of the dots that come: three bytes.
-///
-/// # Errors
-///
-/// Want of memory, where no place has a number as large as that of their end.
-pub fn dots<'a, I: Tokens<'a> + Drop>(p: &Parser<'a, I>) -> Result<Span, Failure>
-    ensures value { IfOk result (λ s. s ≡ dots_at (lo (spec.input (machine_of I.machine) (stand I.state p.now)))) }
-    ensures full { IfErr result IsMemory }
-{
-    let start = p.lo();
-    match start.0.checked_add(3) {
-        Some(end) => Ok(Span {
-            lo: start,
-            hi: BytePos(end),
-        }),
-        None => Err(Failure::Memory),
-    }
-}
-
 /// A rest, from its dots on.
 #[inline(never)]
 #[tactic(auto, using(ecma_parse_state::proofs::Marks::marks), unfolding(crate::specs::Items::rest_by))]
@@ -95,7 +76,7 @@ pub fn rest<'a, I: Tokens<'a> + Drop, N: Nested<'a, I>>(
     ensures shorter { IfOk result (λ _. spec.bound (machine_of I.machine) (stand I.state p.new) < spec.bound (machine_of I.machine) (stand I.state p.old)) }
 {
     let start = p.lo();
-    let dot3_token = dots(p)?;
+    let dot3_token = dots(start)?;
     p.bump()?;
     let arg = nested.pat(p, with_in(code))?;
     let span = p.since(start);

@@ -1,6 +1,5 @@
 //! Arrays and objects of patterns, and a pattern of any kind.
 ghost use Rattle.std.specs.Prelude.{◌≡◌, ◌++◌, ◌∷◌, [], ◌<◌, true, false, All, IfErr, IfOk, map};
-ghost use Rattle.ecma_syntax.specs.Input.{kind};
 ghost use Rattle.ecma_syntax.specs.Shape as shape;
 ghost use Rattle.ecma_node.specs.Fits.{fits_held, fits_object_pat_prop};
 ghost use Rattle.ecma_node.specs.Placed.{holds_pat, inner};
@@ -11,7 +10,7 @@ ghost use Rattle.ecma_reading.specs.Statements as reads;
 ghost use Rattle.ecma_parse_state.specs.Answers.{Gives, going_on, IsMemory};
 ghost use Rattle.ecma_parse_state.specs.Codes.{code_of};
 ghost use Rattle.ecma_parse_state.specs.Fronts.{machine_of};
-ghost use Rattle.ecma_parse_state.specs.Stands.{from, stand};
+ghost use Rattle.ecma_parse_state.specs.Stands.{stand};
 ghost use Rattle.ecma_parse_patterns.specs.Items.{array_items, object_items, object_rest};
 
 use crate::items::{goes_on, item, rest};

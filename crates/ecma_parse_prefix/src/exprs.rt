@@ -1,6 +1,5 @@
 //! Whole expressions.
 ghost use Rattle.std.specs.Prelude.{◌≡◌, ◌<◌, false, true, IfOk};
-ghost use Rattle.ecma_node.specs.View.{view_private_name};
 ghost use Rattle.ecma_reading.specs.Source as spec;
 ghost use Rattle.ecma_reading.specs.Expressions as reads;
 ghost use Rattle.ecma_parse_state.specs.Answers.{Gives};

@@ -13,7 +13,7 @@ ghost use Rattle.ecma_parse_prefix.specs.Words as words;
 use crate::imports::import;
 use ecma_parse_arrows::arrows::ident_end;
 use ecma_parse_arrows::asyncs::async_expr;
-use ecma_parse_arrows::function_exprs::function_expr;
+use ecma_parse_arrows::function_exprs::function_operand;
 use ecma_parse_base::ops::unary_op;
 use ecma_parse_base::{Nested, Operand, made};
 use ecma_parse_classes::classes::class_operand;
@@ -124,7 +124,7 @@ pub fn definition_word<'a, I: Tokens<'a> + Drop, N: Nested<'a, I>>(
 {
     if p.at(kinds::FUNCTION) {
         let start = p.lo();
-        return function_expr(p, nested, code, start, false);
+        return function_operand(p, nested, code, start, false);
     }
     if p.at(kinds::CLASS) {
         return class_operand(p, nested, code);

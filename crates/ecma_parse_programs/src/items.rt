@@ -12,15 +12,15 @@ ghost use Rattle.ecma_parse_state.specs.Fronts.{machine_of};
 ghost use Rattle.ecma_parse_state.specs.Stands.{stand};
 ghost use Rattle.ecma_parse_programs.specs.Items.{items_by, items_of, FitItems};
 
-use ecma_node::{ExprKind, Lit, ModuleDecl, ModuleItem, Stmt, StmtBox, StmtKind};
+use ecma_node::{ModuleDecl, ModuleItem, StmtBox};
 use ecma_parse_base::Nested;
+use ecma_parse_blocks::body::{is_directive, is_use_strict};
 use ecma_parse_blocks::lookahead::turned;
 use ecma_parse_modules::imports::import_decl;
 use ecma_parse_modules::items::export;
 use ecma_parse_state::code::{in_list, turned_strict};
 use ecma_parse_state::{Around, Failure, Parser, kinds};
 use ecma_tokens::Tokens;
-use std::convert::AsStr;
 
 /// The items of a module so far, the code after them, and whether its directives may go on.
 #[derive(Drop)]
@@ -95,32 +95,6 @@ pub fn module_item<'a, I: Tokens<'a> + Drop, N: Nested<'a, I>>(
     }
     let stmt = nested.stmt(p, code)?;
     Ok(ModuleItem::Stmt(stmt))
-}
-
-/// Whether a statement is the directive `use strict`, without an escape (ECMA-262, 11.2.1).
-pub fn is_use_strict(stmt: &Stmt) -> bool
-    ensures { result ≡ shape.is_use_strict stmt.now }
-{
-    match &stmt.kind {
-        StmtKind::Expr(x) => match &x.expr.get().kind {
-            ExprKind::Lit(Lit::Str(text)) => match &text.raw {
-                Some(raw) => raw.as_str() == "\"use strict\"" || raw.as_str() == "'use strict'",
-                None => false,
-            },
-            _ => false,
-        },
-        _ => false,
-    }
-}
-
-/// Whether a statement is a string without parentheses, as a directive is (ECMA-262, 11.2.1).
-pub fn is_directive(stmt: &Stmt) -> bool
-    ensures { result ≡ shape.is_directive stmt.now }
-{
-    match &stmt.kind {
-        StmtKind::Expr(x) => matches!(&x.expr.get().kind, ExprKind::Lit(Lit::Str(_))),
-        _ => false,
-    }
 }
 
 /// Whether an item is the directive `use strict`.

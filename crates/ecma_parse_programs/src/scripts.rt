@@ -1,6 +1,5 @@
 //! The statements of scripts.
 ghost use Rattle.std.specs.Prelude.{◌≡◌, ◌<◌, ◌≤◌, false, true, IfOk, IsTrue};
-ghost use Rattle.ecma_node.specs.Placed.{inner};
 ghost use Rattle.ecma_reading.specs.Source as spec;
 ghost use Rattle.ecma_reading.specs.Modules as reads;
 ghost use Rattle.ecma_parse_state.specs.Answers.{Gives, going_on};
@@ -10,9 +9,10 @@ ghost use Rattle.ecma_parse_state.specs.Stands.{stand};
 ghost use Rattle.ecma_parse_blocks.specs.Lists.{body_of, FitBody};
 ghost use Rattle.ecma_parse_programs.specs.Items.{items_by};
 
-use crate::items::{ended, is_directive, is_use_strict, script_item};
+use crate::items::{ended, script_item};
 use ecma_parse_base::Nested;
 use ecma_parse_blocks::BodySoFar;
+use ecma_parse_blocks::body::{is_directive, is_use_strict};
 use ecma_parse_blocks::lookahead::turned;
 use ecma_parse_state::code::{in_list, turned_strict};
 use ecma_parse_state::{Around, Failure, Parser};

@@ -1,13 +1,12 @@
 //! A statement of any kind.
-ghost use Rattle.std.specs.Prelude.{◌≡◌, ◌<◌, ◌&&◌, true, false, IfErr, IfOk};
-ghost use Rattle.ecma_syntax.specs.Input.{kind};
+ghost use Rattle.std.specs.Prelude.{◌≡◌, ◌<◌, ◌&&◌, true, false, IfOk};
 ghost use Rattle.ecma_node.specs.Placed.{holds_stmt, inner};
 ghost use Rattle.ecma_reading.specs.Source as spec;
 ghost use Rattle.ecma_reading.specs.Statements as reads;
-ghost use Rattle.ecma_parse_state.specs.Answers.{Gives, IsMemory};
+ghost use Rattle.ecma_parse_state.specs.Answers.{Gives};
 ghost use Rattle.ecma_parse_state.specs.Codes.{code_of};
 ghost use Rattle.ecma_parse_state.specs.Fronts.{machine_of};
-ghost use Rattle.ecma_parse_state.specs.Stands.{from, stand};
+ghost use Rattle.ecma_parse_state.specs.Stands.{stand};
 ghost use Rattle.ecma_parse_stmt.specs.Parts.{declared_stmt, jump_stmt, variable_stmt};
 
 use crate::loops::for_loop;
@@ -16,7 +15,7 @@ use ecma_parse_base::Nested;
 use ecma_parse_blocks::blocks::block;
 use ecma_parse_classes::classes::class_decl;
 use ecma_parse_loops::functions::function_decl;
-use ecma_parse_loops::starts::{starts_await_using, starts_let, starts_using};
+use ecma_parse_loops::starts::{starts_async, starts_await_using, starts_let, starts_using};
 use ecma_parse_state::{Around, Failure, Parser, kinds};
 use ecma_parse_statements::chains::if_stmt;
 use ecma_parse_statements::declarations::{using, variables};
@@ -28,25 +27,6 @@ use ecma_parse_statements::simple::{do_loop, expression, while_loop, with};
 use ecma_parse_statements::switches::switch;
 use ecma_parse_statements::tries::try_stmt;
 use ecma_tokens::Tokens;
-
-/// Whether `async` comes before `function` on its line.
-///
-/// # Errors
-///
-/// Want of memory.
-pub fn starts_async<'a, I: Tokens<'a> + Drop, N: Nested<'a, I>>(
-    p: &Parser<'a, I>,
-    _nested: &N,
-) -> Result<bool, Failure>
-    ensures value { IfOk result (λ b. b ≡ reads.starts_async (machine_of I.machine) (N.reads _nested.now I.State I.machine) (stand I.state p.now)) }
-    ensures full { IfErr result IsMemory }
-{
-    if !p.at(kinds::ASYNC) {
-        return Ok(false);
-    }
-    let (second, breaks) = p.second()?;
-    Ok(second == kinds::FUNCTION && !breaks)
-}
 
 /// What declares variables, or an expression.
 #[inline(never)]
