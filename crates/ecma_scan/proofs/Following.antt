@@ -12,7 +12,7 @@ use Rattle.ecma_scan.specs.Characters.{is_line_terminator}
 use Rattle.ecma_scan.specs.Classes.{is_line_char}
 use Rattle.ecma_scan.specs.Names.{is_nil}
 use Rattle.ecma_scan.specs.Runs.{after}
-use Rattle.ecma_scan.specs.Trivia.{Piece, Follow, IsPiece, breaks}
+use Rattle.ecma_scan.specs.Trivia.{Piece, WhiteSpace, LineTerminator, Follow, IsBlank, IsPiece, breaks}
 
 or_false : (b : Bool) → (b || false) ≡ b
 or_false true = refl
@@ -57,6 +57,24 @@ skipped_more goal first text mid rest broke now p h k e = record {
   follow = follow_push goal first text h.pieces mid p rest h.follow (subst (λ b. IsPiece goal (first || b) mid p rest) h.broken k);
   broken = e ∙ ap (λ b. b || breaks p) h.broken ∙ sym (any_push h.pieces p);
 }
+
+-- the piece that a blank is
+abbrev blank_piece : Bool → Piece
+blank_piece false = WhiteSpace
+blank_piece true = LineTerminator
+
+blank_is : (goal : Goal) (first b : Bool) (text rest : List ℕ) → IsBlank text b rest → IsPiece goal first text (blank_piece b) rest
+blank_is goal first false text rest h = h
+blank_is goal first true text rest h = h
+
+blank_breaks : (b : Bool) → breaks (blank_piece b) ≡ b
+blank_breaks false = refl
+blank_breaks true = refl
+
+pub skipped_blank : (goal : Goal) (first : Bool) (text mid rest : List ℕ) (broke b : Bool) (h : Skipped goal first text broke mid) → IsBlank mid b rest
+    → Skipped goal first text (broke || b) rest
+skipped_blank goal first text mid rest broke b h k =
+    skipped_more goal first text mid rest broke (broke || b) (blank_piece b) h (blank_is goal (first || broke) b mid rest k) (ap (λ x. broke || x) (sym (blank_breaks b)))
 
 -- ---- whether a text holds a line terminator
 

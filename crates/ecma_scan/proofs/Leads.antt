@@ -1,9 +1,9 @@
 -- What the class of a text's first byte tells of the trivia at its front.
 use Rattle.std.proofs.Common.{◌≡◌, ◌≢◌, ℕ, ◌<◌, ◌≤◌, ⊎_elim, Bool, true, false, not, ◌&&◌, List, [], ◌∷◌, ◌++◌, drop, length, slice_index_or, refl, sym, ap, subst, ◌∙◌, arith, IsUtf8, IsCharBoundary}
-use Rattle.std.specs.Prelude.{◌==◌, nat_lt, Option, None, Some, Ok, MatchOption}
+use Rattle.std.specs.Prelude.{◌==◌, ◌||◌, if◌then◌else◌, nat_lt, Option, None, Some, Ok, MatchOption}
 use Rattle.std.specs.Borrow.{Bor}
 use Rattle.std.specs.Str.{chars}
-use Rattle.std.proofs.lemmas.Bool.{and_parts, cases_lt, not-true}
+use Rattle.std.proofs.lemmas.Bool.{and_parts, cases_lt, false≢true, not-true}
 use Rattle.std.proofs.lemmas.Bool.Decides.{nat_tests}
 use Rattle.std.proofs.lemmas.Str.{IsCharBoundary-at_seam, chars-encodes, chars-nil, encode_ascii, encodes-chars, scalars-chars}
 use Rattle.std.proofs.Math.Seq.{drop-append_seam}
@@ -12,12 +12,13 @@ use Rattle.unicode_ident.proofs.Computing.{unicode_ident}
 use Rattle.ecma_scan.specs.declared.bytes.ByteClass.{ByteClass}
 use Rattle.ecma_scan.specs.declared.bytes.ByteClass.TheVariants as b
 use Rattle.ecma_scan.specs.declared.trivia.Goal.{Goal}
+use Rattle.ecma_scan.specs.declared.trivia.LineMark.TheVariants.{HtmlClose}
 use Rattle.ecma_scan.specs.declared.trivia.Trivia.{Trivia}
 use Rattle.ecma_scan.specs.Bytes.{IsLead, class_of}
 use Rattle.ecma_scan.specs.Characters.{is_white_space, is_line_terminator}
 use Rattle.ecma_scan.specs.Runs.{after}
 use Rattle.ecma_scan.specs.Trivia.{WhiteSpace, LineTerminator}
-use Rattle.ecma_scan.specs.ReadingTrivia.{Agrees, Reading, Nothing, Found, after_break, mark, read, read_by, view, wide}
+use Rattle.ecma_scan.specs.ReadingTrivia.{Agrees, Reading, Nothing, Found, after_break, html, mark, past_html_close, read, read_by, view, wide}
 use Rattle.ecma_scan.proofs.Tables.{same_from_table}
 use Rattle.ecma_scan.proofs.Wide.{head_of}
 
@@ -235,3 +236,27 @@ pub agrees_wide : (end : ℕ) (text : List ℕ) (r : Reading) (o : Option (Trivi
     → MatchOption o (wide text ≡ Nothing) (λ x. wide text ≡ Found (view x.0) (chars x.1.now)) → Agrees end text r (Ok o)
 agrees_wide end text r None e h = e ∙ h
 agrees_wide end text r (Some x) e h = e ∙ h
+
+-- ---- whether trivia may stand at a front
+
+or_parts : (a b : Bool) → (a || b) ≡ false → (a ≡ false) × (b ≡ false)
+or_parts true b e = absurd (false≢true (sym e))
+or_parts false b e = (refl, e)
+
+dash_none : (goal : Goal) (first dash : Bool) (cs : List ℕ) → (dash && first) ≡ false → (if dash then (if first then html goal HtmlClose (past_html_close cs) else Nothing) else Nothing) ≡ Nothing
+dash_none goal true true cs e = absurd (false≢true (sym e))
+dash_none goal true false cs e = refl
+dash_none goal false true cs e = refl
+dash_none goal false false cs e = refl
+
+pub opens_none : (goal : Goal) (first : Bool) (x : ℕ) (cs : List ℕ) → (x == 47 || (x == 60 || (x == 45 && first))) ≡ false → mark goal first x cs ≡ Nothing
+opens_none goal first x cs e =
+    let k = or_parts (x == 47) (x == 60 || (x == 45 && first)) e in
+    let m = or_parts (x == 60) (x == 45 && first) k.1 in
+    rw k.0 (rw m.0 (dash_none goal first (x == 45) cs m.1))
+
+pub none_marked : (goal : Goal) (first : Bool) (text : List ℕ) (x : ℕ) → IsLead x text → x < 256 → class_of x ≡ b.Punctuator → (x == 47 || (x == 60 || (x == 45 && first))) ≡ false
+    → read goal first text ≡ Nothing
+none_marked goal first text x lead h e n =
+    let k = leads x text lead in
+    reads_mark goal first text k.rest x k.head lead h e k.whole ∙ opens_none goal first x k.rest n

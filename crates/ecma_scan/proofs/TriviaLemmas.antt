@@ -1,5 +1,5 @@
 -- The functions that read a piece of trivia are its definition.
-use Rattle.std.proofs.Common.{◌≡◌, ◌≢◌, ℕ, inl, inr, ⊎_elim, Bool, true, false, cond, List, [], ◌∷◌, ◌++◌, refl, sym, ap, subst, ◌∙◌}
+use Rattle.std.proofs.Common.{◌≡◌, ◌≢◌, ℕ, IsUtf8, inl, inr, ⊎_elim, Bool, true, false, cond, List, [], ◌∷◌, ◌++◌, refl, sym, ap, subst, ◌∙◌}
 use Rattle.std.specs.Prelude.{◌==◌, Option, None, Some, Result, Ok, Err, MatchOption, MatchResult, option_and_then}
 use Rattle.std.specs.Borrow.{Bor}
 use Rattle.std.specs.Str.{chars}
@@ -17,6 +17,7 @@ use Rattle.ecma_scan.specs.Runs.{Each, Ends, IsRun, run, after}
 use Rattle.ecma_scan.specs.Trivia.{Piece, WhiteSpace, LineTerminator, LineComment, BlockComment, IsFault, IsPiece, IsLineBreak, IsOpenBlock, IsLegacy, MayOpen, NoPiece, NoTrivia, OnePiece, is_html, is_line_feed, opens, spelled}
 use Rattle.ecma_scan.specs.ReadingTrivia.{Agrees, IsFaultOf, Reading, view, Nothing, Found, Open, Legacy, block, block_by, html, line, past, past_html_open, past_html_close, after_slash, after_break, read, read_by}
 use Rattle.ecma_scan.proofs.Apart.{terminator_no_space}
+use Rattle.ecma_scan.proofs.Passing.{Seam, seam}
 use Rattle.ecma_scan.proofs.Ending.{block_cut, no_end_past, some_past, none_past}
 
 pub reads_block : (cs own rest : List ℕ) → IsBlock cs own rest → block cs ≡ Found (BlockComment own) rest
@@ -292,3 +293,7 @@ one_piece goal first text p q r s h = (
 
 pub run_is : (p : ℕ → Bool) (cs own rest : List ℕ) → own ≡ run p cs → rest ≡ after p cs → IsRun p cs own rest
 run_is p cs own rest e f = subst (λ l. IsRun p cs l rest) (sym e) (subst (λ l. IsRun p cs (run p cs) l) (sym f) (is_run p cs))
+
+-- where a run ends in a text
+pub run_seam : (p : ℕ → Bool) (text rest : List ℕ) → IsUtf8 text → IsUtf8 rest → chars rest ≡ after p (chars text) → Seam text rest (run p (chars text))
+run_seam p text rest u v e = seam text rest (run p (chars text)) u v ((is_run p (chars text)).0 ∙ ap (λ l. run p (chars text) ++ l) (sym e))

@@ -59,6 +59,11 @@ IsPiece goal first text (LineComment mark own) rest =
     MayOpen goal first mark × ((inner : List ℕ) × (text ≡ spelled mark ++ inner) × IsRun is_line_char inner own rest)
 IsPiece goal first text (BlockComment own) rest = (inner : List ℕ) × (text ≡ 47 ∷ 42 ∷ inner) × IsBlock inner own rest
 
+-- White space as far as it goes, or one line break, as the mark says.
+abbrev pub IsBlank : List ℕ → Bool → List ℕ → Type 0
+IsBlank text false rest = (own : List ℕ) × (own ≢ []) × IsRun is_white_space text own rest
+IsBlank text true rest = IsLineBreak text rest
+
 -- a block comment with no end
 abbrev pub IsOpenBlock : List ℕ → Type 0
 IsOpenBlock text = (inner : List ℕ) × (text ≡ 47 ∷ 42 ∷ inner) × NoEnd inner

@@ -12,7 +12,7 @@ use crate::bytes::{ByteClass, byte_class};
 use crate::characters::{CharExt, first_byte, past_ascii, pop};
 use crate::escapes::digits;
 use crate::place::{fault, out_of_memory};
-use crate::runs::{split_name_part, strip};
+use crate::runs::{after_name_part, split_name_part, strip};
 use ecma_token::{Error, SyntaxError};
 use std::alloc::Global;
 
@@ -89,17 +89,19 @@ fn copied(alloc: Global, text: &str) -> Result<String, Error>
 
 /// The front of a name up to its first escape, and what follows it. `after` follows its first
 /// character.
+#[inline(always)]
 fn split_front<'a>(text: &'a str, after: &str) -> (&'a str, &'a str)
     requires start { (c : ℕ) × (spec.is_name_start c ≡ true) × (chars text.now ≡ c ∷ chars after.now) }
     requires order { length after.now ≤ length text.now }
     ensures front { IsBareFront (chars text.now) (chars result.0.now) (chars result.1.now) }
     ensures rest { IsUtf8 result.0.now × IsUtf8 result.1.now × (length result.1.now ≤ length text.now) }
 {
-    let (_, rest) = split_name_part(after);
+    let rest = after_name_part(after);
     text.split_at(text.len() - rest.len())
 }
 
 /// The front of a name that begins with a character past ASCII.
+#[inline(never)]
 fn wide_front<'a>(text: &'a str) -> Option<(&'a str, &'a str)>
     ensures front { MatchOption result (Ends spec.is_name_start (chars text.now)) (λ x. IsBareFront (chars text.now) (chars x.0.now) (chars x.1.now)) }
     ensures rest { IfSome result (λ x. IsUtf8 x.0.now × IsUtf8 x.1.now × (length x.1.now ≤ length text.now)) }
@@ -114,6 +116,7 @@ fn wide_front<'a>(text: &'a str) -> Option<(&'a str, &'a str)>
 
 /// The front of a name up to its first escape, and what follows it, or nothing where no name begins.
 /// The class of the first byte tells, except past ASCII.
+#[inline(always)]
 fn bare<'a>(text: &'a str) -> Option<(&'a str, &'a str)>
     ensures front { MatchOption result (Ends is_opening (chars text.now)) (λ x. IsBareFront (chars text.now) (chars x.0.now) (chars x.1.now)) }
     ensures rest { IfSome result (λ x. IsUtf8 x.0.now × IsUtf8 x.1.now × (length x.1.now ≤ length text.now)) }

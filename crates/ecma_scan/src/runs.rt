@@ -94,13 +94,11 @@ fn skip_plain(text: &str, class: Class) -> &str
     &text[len..]
 }
 
-/// The run of characters of the class at the front of a text, and what follows it.
+/// What follows the run of characters of the class at the front of a text.
 #[inline(always)]
-fn split_run(text: &str, class: Class) -> (&str, &str)
-    ensures run { chars result.0.now ≡ run (member class) (chars text.now) }
-    ensures after { chars result.1.now ≡ after (member class) (chars text.now) }
-    ensures lengths { length result.0.now + length result.1.now ≡ length text.now }
-    ensures texts { IsUtf8 result.0.now × IsUtf8 result.1.now }
+fn after_run(text: &str, class: Class) -> &str
+    ensures after { chars result.now ≡ after (member class) (chars text.now) }
+    ensures rest { IsUtf8 result.now × (length result.now ≤ length text.now) }
 {
     let mut rest = skip_plain(text, class);
     while let Some((c, more)) = pop(rest) {
@@ -109,7 +107,37 @@ fn split_run(text: &str, class: Class) -> (&str, &str)
         }
         rest = skip_plain(more, class);
     }
+    rest
+}
+
+/// The run of characters of the class at the front of a text, and what follows it.
+#[inline(always)]
+fn split_run(text: &str, class: Class) -> (&str, &str)
+    ensures run { chars result.0.now ≡ run (member class) (chars text.now) }
+    ensures after { chars result.1.now ≡ after (member class) (chars text.now) }
+    ensures lengths { length result.0.now + length result.1.now ≡ length text.now }
+    ensures texts { IsUtf8 result.0.now × IsUtf8 result.1.now }
+{
+    let rest = after_run(text, class);
     text.split_at(text.len() - rest.len())
+}
+
+/// What follows what a name goes on with at the front of a text (ECMA-262, 12.7).
+#[inline]
+pub(crate) fn after_name_part(text: &str) -> &str
+    ensures after { chars result.now ≡ after spec.is_name_part (chars text.now) }
+    ensures rest { IsUtf8 result.now × (length result.now ≤ length text.now) }
+{
+    after_run(text, Class::NamePart)
+}
+
+/// What follows the white space at the front of a text (ECMA-262, 12.2).
+#[inline]
+pub(crate) fn after_white_space(text: &str) -> &str
+    ensures after { chars result.now ≡ after spec.is_white_space (chars text.now) }
+    ensures rest { IsUtf8 result.now × (length result.now ≤ length text.now) }
+{
+    after_run(text, Class::WhiteSpace)
 }
 
 /// What a name goes on with at the front of a text (ECMA-262, 12.7), and what follows it.

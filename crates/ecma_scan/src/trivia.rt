@@ -1,15 +1,15 @@
 //! Trivia at the front of a text: white space, line terminators and comments.
-ghost use Rattle.std.specs.Prelude.{◌≡◌, ◌<◌, ◌≤◌, length, option_map, IfOk, IfSome, IsUtf8, MatchOption, MatchResult};
+ghost use Rattle.std.specs.Prelude.{◌≡◌, ◌==◌, ◌||◌, ◌&&◌, false, ◌<◌, ◌≤◌, length, option_map, IfOk, IfSome, IsUtf8, MatchOption, MatchResult};
 ghost use Rattle.std.specs.Str.{chars};
 ghost use Rattle.ecma_scan.specs.ReadingTrivia as reading;
 ghost use Rattle.ecma_scan.specs.ReadingTrivia.{Agrees, Found, view};
-ghost use Rattle.ecma_scan.specs.Trivia.{IsFault, IsFaultAfter, IsHashbang, IsPiece, IsSkipped, NoHashbang, NoPiece, NoTrivia, breaks};
+ghost use Rattle.ecma_scan.specs.Trivia.{IsBlank, IsFault, IsFaultAfter, IsHashbang, IsPiece, IsSkipped, NoHashbang, NoPiece, NoTrivia, breaks};
 ghost use Rattle.ecma_scan.specs.declared.trivia.Goal.{Goal};
 
 use crate::bytes::{ByteClass, byte_class};
 use crate::characters::{CharExt, first_byte, past_ascii, pop};
 use crate::place::fault;
-use crate::runs::{split_block, split_line, split_white_space, strip};
+use crate::runs::{after_white_space, split_block, split_line, split_white_space, strip};
 use ecma_token::{Error, SyntaxError};
 
 /// The goal symbol under which a text is read (ECMA-262, clause 16).
@@ -220,6 +220,44 @@ pub fn trivia_piece<'a>(
     read(end, goal, first, text)
 }
 
+/// The white space or the one line break at the front of a text that begins with a character of ASCII:
+/// whether it breaks the line, and what follows it.
+#[inline(always)]
+fn blank(text: &str) -> Option<(bool, &str)>
+    ensures blank { IfSome result (λ x. IsBlank (chars text.now) x.0 (chars x.1.now)) }
+    ensures rest { IfSome result (λ x. IsUtf8 x.1.now × (length x.1.now < length text.now)) }
+{
+    let byte = first_byte(text)?;
+    match byte_class(byte) {
+        ByteClass::WhiteSpace => Some((false, after_white_space(past_ascii(text)))),
+        ByteClass::LineTerminator => Some((true, after_break(byte as char, past_ascii(text)))),
+        _ => None,
+    }
+}
+
+/// Whether a comment may begin with the byte.
+#[inline(always)]
+fn may_open(first: bool, byte: u8) -> bool
+    ensures { result ≡ (byte == 47 || (byte == 60 || (byte == 45 && first))) }
+{
+    byte == b'/' || byte == b'<' || (byte == b'-' && first)
+}
+
+/// Whether trivia may stand at the front of a text, as far as the class of its first byte tells.
+#[inline(always)]
+fn may_begin(first: bool, text: &str) -> bool
+    ensures { result ≡ false → (goal : Goal) → NoTrivia goal first (chars text.now) }
+{
+    let Some(byte) = first_byte(text) else {
+        return false;
+    };
+    match byte_class(byte) {
+        ByteClass::WhiteSpace | ByteClass::LineTerminator | ByteClass::NonAscii => true,
+        ByteClass::Punctuator => may_open(first, byte),
+        _ => false,
+    }
+}
+
 /// Passes all trivia at the front of a text, which runs to the place `end`. Answers whether it breaks
 /// the line, and the text after it. `first` and the faults are those of `trivia_piece`.
 pub fn skip_trivia<'a>(
@@ -236,6 +274,13 @@ pub fn skip_trivia<'a>(
 {
     let mut rest = text;
     let mut broke = false;
+    while let Some((line_break, more)) = blank(rest) {
+        broke |= line_break;
+        rest = more;
+    }
+    if !may_begin(first | broke, rest) {
+        return Ok((broke, rest));
+    }
     while let Some((piece, more)) = trivia_piece(end, goal, first | broke, rest)? {
         if piece.breaks_line() {
             broke = true;

@@ -6,14 +6,14 @@ use Rattle.ecma_scan.proofs.names.split_front.Goals as goal
 pub split_at-requires : goal.split_at-requires
 split_at-requires c =
     let h = c.requires.start in
-    (front_seam c.args.text.now c.split_name_part.result.1.now (chars c.args.after.now) h.0 c.utf8.text c.split_name_part.ensures.texts.1 h.2 c.split_name_part.ensures.after).boundary
+    (front_seam c.args.text.now c.after_name_part-rest.result.now (chars c.args.after.now) h.0 c.utf8.text c.after_name_part-rest.ensures.rest.0 h.2 c.after_name_part-rest.ensures.after).boundary
 
 pub returns-clause-front : goal.returns-clause-front
 returns-clause-front c =
     let h = c.requires.start in
-    let m = front_seam c.args.text.now c.split_name_part.result.1.now (chars c.args.after.now) h.0 c.utf8.text c.split_name_part.ensures.texts.1 h.2 c.split_name_part.ensures.after in
+    let m = front_seam c.args.text.now c.after_name_part-rest.result.now (chars c.args.after.now) h.0 c.utf8.text c.after_name_part-rest.ensures.rest.0 h.2 c.after_name_part-rest.ensures.after in
     bare_front _ (chars c.args.after.now) _ _ h.0 h.2 h.1
-    (ap chars c.split_at.ensures.front ∙ m.before) (ap chars c.split_at.ensures.back ∙ ap chars m.behind ∙ c.split_name_part.ensures.after)
+    (ap chars c.split_at.ensures.front ∙ m.before) (ap chars c.split_at.ensures.back ∙ ap chars m.behind ∙ c.after_name_part-rest.ensures.after)
 
 pub overflow_sub-text : goal.overflow_sub-text
-overflow_sub-text c = omega (arith, c.split_name_part.ensures.lengths, c.requires.order)
+overflow_sub-text c = omega (arith, c.after_name_part-rest.ensures.rest.1, c.requires.order)

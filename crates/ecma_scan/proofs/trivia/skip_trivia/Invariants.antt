@@ -5,6 +5,12 @@ use Rattle.std.specs.Str.{chars}
 use Rattle.ecma_scan.proofs.Following.{Skipped}
 use Rattle.ecma_scan.proofs.trivia.skip_trivia.Given as goal
 
+abbrev pub invariant-loop-line_break : goal.invariant-loop-line_break
+invariant-loop-line_break l = shadow (Utf8 l.rest) × (length l.rest ≤ length l.text) × Skipped l.goal l.first (chars l.text) l.broke (chars l.rest)
+
+abbrev pub decreases-loop-line_break : goal.decreases-loop-line_break
+decreases-loop-line_break l = length l.rest
+
 abbrev pub invariant-loop-piece : goal.invariant-loop-piece
 invariant-loop-piece l = shadow (Utf8 l.rest) × (length l.rest ≤ length l.text) × Skipped l.goal l.first (chars l.text) l.broke (chars l.rest)
 

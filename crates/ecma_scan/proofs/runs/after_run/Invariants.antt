@@ -4,7 +4,7 @@ use denote.Shadow.{shadow}
 use Rattle.std.specs.Str.{chars}
 use Rattle.ecma_scan.specs.Classes.{member}
 use Rattle.ecma_scan.specs.Runs.{Passed}
-use Rattle.ecma_scan.proofs.runs.split_run.Given as goal
+use Rattle.ecma_scan.proofs.runs.after_run.Given as goal
 
 abbrev pub invariant-loop-c : goal.invariant-loop-c
 invariant-loop-c l = shadow (Utf8 l.rest) × (length l.rest ≤ length l.text) × Passed (member l.class) (chars l.text) (chars l.rest)
