@@ -87,10 +87,12 @@ module _ (end : ℕ) (goal : Goal) (first : Bool) (text : List ℕ) (p q : Place
   -- one stands where a slash opens a regular expression, the other where it is an operator
   module _ (a : h.0 ≡ g.0) (b : h.1 ≡ g.1) where
     parts_at : SpellsPattern g.1 h.2 r → IsMark g.1 g.2 s → Apart p q
-    parts_at x y = ((ap (λ (z : Spot). z.token.kind) h.5 ∙ ap (λ (z : SpecLexeme). z.token.kind) x.3, encode_utf8_all x.0, encode_utf8_all x.1, ap (λ (z : Spot). z.token.content) h.5 ∙ ap (λ (z : SpecLexeme). without_fault z.token.content) x.3),
-        (kinds (slashed g.1 s _ y.0 x.2.1.1 y.1), ap (λ (z : Spot). z.token.content) g.5 ∙ ap (λ (z : SpecLexeme). without_fault z.token.content) y.2),
-        ap (λ (z : Spot). z.lo) h.5 ∙ (ap (λ (z : List ℕ). place end z) b ∙ sym (ap (λ (z : Spot). z.lo) g.5)),
-        ap (λ (z : Spot). z.line_break) h.5 ∙ (a ∙ sym (ap (λ (z : Spot). z.line_break) g.5)))
+    parts_at x y = (
+      (ap (λ (z : Spot). z.token.kind) h.5 ∙ ap (λ (z : SpecLexeme). z.token.kind) x.3, encode_utf8_all x.0, encode_utf8_all x.1, ap (λ (z : Spot). z.token.content) h.5 ∙ ap (λ (z : SpecLexeme). without_fault z.token.content) x.3),
+      (kinds (slashed g.1 s _ y.0 x.2.1.1 y.1), ap (λ (z : Spot). z.token.content) g.5 ∙ ap (λ (z : SpecLexeme). without_fault z.token.content) y.2),
+      ap (λ (z : Spot). z.lo) h.5 ∙ (ap (λ (z : List ℕ). place end z) b ∙ sym (ap (λ (z : Spot). z.lo) g.5)),
+      ap (λ (z : Spot). z.line_break) h.5 ∙ (a ∙ sym (ap (λ (z : Spot). z.line_break) g.5)),
+    )
       where
         kind_is : q.spot.token.kind ≡ token_kind_number y.0
         kind_is = ap (λ (z : Spot). z.token.kind) g.5 ∙ ap (λ (z : SpecLexeme). z.token.kind) y.2
