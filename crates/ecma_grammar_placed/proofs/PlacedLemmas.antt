@@ -63,7 +63,7 @@ bared_worn : (xs : List Place) → Worn false xs (bared xs)
 bared_worn [] = tt
 bared_worn (x ∷ xs) = ((refl, refl, refl), (refl, refl), bared_worn xs)
 
-bare_same : (x y : Place) → SameToken x y → bare x ≡ bare y
+pub bare_same : (x y : Place) → SameToken x y → bare x ≡ bare y
 bare_same x y h = ap (λ (s : Spot). placed_so s x.escaped x.legacy div_goal no_context) h.0 ∙ (ap (λ (e : Bool). placed_so y.spot e x.legacy div_goal no_context) h.1 ∙ ap (λ (l : Option SyntaxError). placed_so y.spot y.escaped l div_goal no_context) h.2)
 
 bared_same : (xs ys : List Place) → SameTokens xs ys → bared xs ≡ bared ys
@@ -72,12 +72,12 @@ bared_same [] (y ∷ ys) w = absurd w
 bared_same (x ∷ xs) [] w = absurd w
 bared_same (x ∷ xs) (y ∷ ys) w = ap (λ (z : Place). z ∷ bared xs) (bare_same x y w.0) ∙ ap (λ (zs : List Place). bare y ∷ zs) (bared_same xs ys w.1)
 
-bared_order : (n : ℕ) (xs : List Place) → InOrder n xs → InOrder n (bared xs)
+pub bared_order : (n : ℕ) (xs : List Place) → InOrder n xs → InOrder n (bared xs)
 bared_order n [] h = tt
 bared_order n (x ∷ xs) h = (h.0, h.1, h.2, bared_order x.spot.hi xs h.3)
 
 -- what is derived is derived of its tokens without goals and contexts
-strip : (c : Code) (t : Tree) (start : ℕ) (ps : List Place) (r : Input) → Derives t c (record { last = start; places = ps }) r → (o : Input) × Derives t (placing false c) (record { last = start; places = bared ps }) o
+pub strip : (c : Code) (t : Tree) (start : ℕ) (ps : List Place) (r : Input) → Derives t c (record { last = start; places = ps }) r → (o : Input) × Derives t (placing false c) (record { last = start; places = bared ps }) o
 strip c t start ps r d = let o : Input = record { last = r.last; places = bared r.places } in
     let z = move false t c (record { last = start; places = ps }) r o d.0 (record { last = refl; worn = bared_worn r.places }) in
     let f = subst (λ (n : ℕ). Spells t (placing false c) (record { last = n; places = z.0.places }) o) (sym z.1.last) z.2 in

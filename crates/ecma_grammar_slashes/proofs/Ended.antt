@@ -4,7 +4,7 @@ use Rattle.ecma_token.specs.Kinds.{shebang_kind}
 use Rattle.ecma_tree.specs.Tree.{Tree}
 use Rattle.ecma_syntax.specs.Input.{Input, Code, content, in_list, turned_strict}
 use Rattle.ecma_syntax.specs.Shape.{is_use_strict, is_directive}
-use Rattle.ecma_reading.specs.Source.{Fault, ◌>>=◌, unexpected, is_nil, Machine, Stand, Read, input, operand, past, turned, bound, at, ended, Step, go_on, finished, next_by, iterate_n, iterate, Inner}
+use Rattle.ecma_reading.specs.Source.{Fault, ◌>>=◌, unexpected, is_nil, Stand, Read, input, operand, past, turned, bound, at, ended, Step, go_on, finished, next_by, iterate_n, iterate, Inner}
 use Rattle.ecma_reading.specs.Statements.{Body}
 use Rattle.ecma_reading.specs.Modules.{item_by, program_item, program_step, program_rest, program_by, line_of}
 use Rattle.ecma_grammar_slashes.proofs.Twins.{lm}

@@ -1,18 +1,16 @@
 -- Expressions (ECMA-262, clause 13): their rules over two such lists.
-use Rattle.std.proofs.Common.{◌≡◌, ◌≤◌, ℕ, zero, suc, Bool, true, false, not, ◌&&◌, ◌||◌, ◌==◌, cond, nat_le, nat_lt, if◌then◌else◌, List, [], ◌∷◌, ◌++◌, Option, Some, None, Result, Ok, Err, refl, sym, ap, ◌∙◌, subst, true≢false, arith}
+use Rattle.std.proofs.Common.{◌≡◌, ◌≤◌, ℕ, Bool, true, false, not, ◌&&◌, ◌||◌, ◌==◌, cond, nat_le, nat_lt, if◌then◌else◌, List, [], ◌∷◌, ◌++◌, Option, Some, None, Result, Ok, refl, sym, ap, ◌∙◌, subst, true≢false, arith}
 use Rattle.ecma_token.specs.declared.place.Span.{Span}
-use Rattle.ecma_token.specs.Kinds.{div_kind, regex_kind, arrow_kind, hash_kind, dot_kind, dot_dot_dot_kind, left_paren_kind, right_paren_kind, left_bracket_kind, right_bracket_kind, left_brace_kind, right_brace_kind, comma_kind, back_quote_kind, template_kind, colon_kind, dollar_brace_kind, question_mark_kind, str_kind, num_kind, big_int_kind, regex_kind, mul_kind, assign_kind, null_kind, true_kind, false_kind, await_kind, function_kind, class_kind, new_kind, this_kind, super_kind, import_kind, yield_kind, in_kind, add_kind, sub_kind, bang_kind, tilde_kind, typeof_kind, void_kind, delete_kind, plus_plus_kind, minus_minus_kind, async_kind, meta_kind, target_kind, get_kind, set_kind, semicolon_kind}
-use Rattle.ecma_token.specs.Tokens.{Content, Quoted, Piece, Pattern, Numeral, BigNumeral}
-use Rattle.ecma_tree.specs.Tree.{Tree, none, more, pack, unpack, function, ident_name, computed_prop_name, private_name, this_expr, array_lit, object_lit, fn_expr, unary_expr, update_expr, bin_expr, assign_expr, member_expr, super_prop_expr, cond_expr, call_expr, new_expr, seq_expr, ident, tpl, tpl_element, tagged_tpl, arrow_expr, class_expr, yield_expr, meta_prop_expr, await_expr, paren_expr, opt_chain_expr, opt_call, super, import, expr_or_spread, spread_element, key_value_prop, assign_prop, getter_prop, setter_prop, method_prop, str_lit, bool_lit, null_lit, number_lit, big_int_lit, regex_lit, binding_ident, assign_pat, rest_pat, param, absent, hole, list}
-use Rattle.ecma_tree.specs.Places.{place_of}
-use Rattle.ecma_syntax.specs.Input.{Place, Input, Code, kind, kind2, brk, brk2, lo, hi, dots_at, text, content, span, first_span, is_word, has_in, with_in, by, in_body, in_arrow, turned_strict, in_list}
-use Rattle.ecma_syntax.specs.Operators.{closed_end, expression_level, assignment_level, coalesce_level, unary_level, new_level, call_level, member_level, binary_level, right_level, is_assign_op, operates, goes_expr, between, starts_key, other_end}
-use Rattle.ecma_syntax.specs.Shape.{level, ends, fits_left, is_chain, is_cooked, is_spread}
-use Rattle.ecma_reading.specs.Source.{Fault, unexpected, ◌>>=◌, Machine, Stand, input, past, operand, turned, bound, spanned, at, ended, eat, eat_word, is_name, name, any_word, end_of, Step, go_on, finished, iterate, Inner}
-use Rattle.ecma_reading.specs.Cover.{to_items, last_rests, to_target}
-use Rattle.ecma_reading.specs.Expressions.{first, literal_by, element_by, after_element, element_step, elements_by, noted, array_by, computed_by, key_by, private_by, parameter_by, is_rest_param, parameter_step, parameters_by, function_by, setter_parameter, pattern_of, is_accessor, is_async_head, star, method_prop_by, getter_by, setter_by, prop_rest, prop_by, prop_step, object_by, quasi, quasi_end, quasi_step, template_by, arrows, arrow_by, params_of, group_end, group_by, ident_end, arguments_by, async_group, function_expr_name, function_expr_by, async_by, class_expr_by, new_end, callee_by, new_by, super_end, fits_import, import_by, unary_by, update_by, await_by, ends_yield, yield_end, yield_by, word_by, fixed, keyword_by, prefix_by, member_name, on_chain, member_by, index_by, call_tree, call_by, chain_by, cond_by, assign_by, binary_by, step_by, loop_step, loop_by, private_in, expr_from, expr_by, Elements, Spans, literal, joined, last_end, plain_elements, no_elements, is_unary, extended}
+use Rattle.ecma_token.specs.Kinds.{div_kind, regex_kind, arrow_kind, hash_kind, dot_kind, dot_dot_dot_kind, left_paren_kind, right_paren_kind, left_bracket_kind, right_bracket_kind, left_brace_kind, right_brace_kind, comma_kind, back_quote_kind, template_kind, colon_kind, dollar_brace_kind, question_mark_kind, regex_kind, mul_kind, assign_kind, null_kind, true_kind, false_kind, await_kind, function_kind, class_kind, new_kind, this_kind, super_kind, import_kind, yield_kind, in_kind, plus_plus_kind, minus_minus_kind, async_kind, meta_kind, target_kind, get_kind, set_kind}
+use Rattle.ecma_tree.specs.Tree.{Tree, none, pack, ident_name, this_expr, update_expr, bin_expr, assign_expr, member_expr, super_prop_expr, cond_expr, call_expr, new_expr, ident, tagged_tpl, arrow_expr, class_expr, yield_expr, meta_prop_expr, paren_expr, opt_chain_expr, opt_call, super, import, assign_prop, bool_lit, null_lit, binding_ident, assign_pat, param, absent, list}
+use Rattle.ecma_syntax.specs.Input.{Place, Input, Code, kind, kind2, brk, brk2, lo, text, span, is_word, has_in, with_in, by, in_body, in_arrow, turned_strict, in_list}
+use Rattle.ecma_syntax.specs.Operators.{closed_end, expression_level, assignment_level, coalesce_level, unary_level, new_level, call_level, member_level, binary_level, right_level, is_assign_op, operates, goes_expr, between, other_end}
+use Rattle.ecma_syntax.specs.Shape.{level, ends, fits_left, is_chain, is_cooked}
+use Rattle.ecma_reading.specs.Source.{Fault, unexpected, ◌>>=◌, Stand, input, past, spanned, at, eat, eat_word, is_name, name, any_word, Step, go_on, finished, Inner}
+use Rattle.ecma_reading.specs.Cover.{last_rests}
+use Rattle.ecma_reading.specs.Expressions.{first, literal_by, element_by, after_element, element_step, elements_by, array_by, computed_by, key_by, private_by, parameter_by, is_rest_param, parameter_step, parameters_by, function_by, setter_parameter, is_accessor, is_async_head, star, method_prop_by, getter_by, setter_by, prop_rest, prop_by, prop_step, object_by, quasi, quasi_end, quasi_step, template_by, arrows, arrow_by, params_of, group_end, group_by, ident_end, arguments_by, async_group, function_expr_name, function_expr_by, async_by, class_expr_by, new_end, callee_by, new_by, super_end, fits_import, import_by, unary_by, update_by, await_by, ends_yield, yield_end, yield_by, word_by, fixed, keyword_by, prefix_by, member_name, on_chain, member_by, index_by, call_tree, call_by, chain_by, cond_by, assign_by, binary_by, step_by, loop_step, loop_by, private_in, expr_from, expr_by, Elements, Spans, literal, joined, last_end, plain_elements, no_elements, is_unary, extended}
 use Rattle.std.proofs.lemmas.Bool.{lt-ltb, ltb-true}
-use Rattle.ecma_grammar_slashes.proofs.Twins.{lm, Parting, regexps, slashes, slashes_by, on, Twins, twin_ok, never, unanswered, twin_then, twin_if, twin_no, cut, parted, same, Plain, plain_at, lo_same, no_and, no_and2, off_first, off_left, off_deep, end_as, no_third, eat_on, eat_at, eat_none, word_on, word_at, word_none, name_on, name_at, name_none, any_on, any_at, any_none, end_at, twin_pure, iterate_twin, Told}
+use Rattle.ecma_grammar_slashes.proofs.Twins.{lm, Parting, regexps, slashes, slashes_by, on, Twins, twin_ok, never, unanswered, twin_then, twin_if, twin_no, cut, parted, same, Plain, plain_at, lo_same, no_and, no_third, eat_on, eat_at, eat_none, word_on, word_at, word_none, name_on, name_none, any_on, any_at, any_none, twin_pure, iterate_twin, Told}
 
 module _ (w : Parting) (inner : Inner Input) (told : Told w inner) where
   pub literal_by_twin : (o : List ℕ) (n : ℕ) (l : List Place) → Twins w (literal_by lm inner (on o n (l ++ regexps w))) (literal_by lm inner (on o n (l ++ slashes w)))
@@ -114,7 +112,7 @@ module _ (w : Parting) (inner : Inner Input) (told : Told w inner) where
   pub prop_by_twin : (c : Code) (o : List ℕ) (n : ℕ) (l : List Place) → Twins w (prop_by lm inner c (on o n ((l ++ regexps w)))) (prop_by lm inner c (on o n ((l ++ slashes w))))
   unfolding prop_by
   prop_by_twin c o n [] = twin_no w (at lm dot_dot_dot_kind (on o n (slashes w))) (parted w (λ z. at lm dot_dot_dot_kind (on o n z)) refl refl) _ _ _ (twin_no w (at lm mul_kind (on o n (slashes w))) (parted w (λ z. at lm mul_kind (on o n z)) refl refl) _ _ _ (twin_no w (is_async_head lm inner (on o n (slashes w))) (parted w (λ z. is_async_head lm inner (on o n z)) refl refl) _ _ _ (twin_no w (is_accessor lm inner get_kind (on o n (slashes w))) (parted w (λ z. is_accessor lm inner get_kind (on o n z)) refl refl) _ _ _ (twin_no w (is_accessor lm inner set_kind (on o n (slashes w))) (parted w (λ z. is_accessor lm inner set_kind (on o n z)) refl refl) _ _ _ (key_nil c o n _ _)))))
-  prop_by_twin c o n (p ∷ l) = twin_if w (at lm dot_dot_dot_kind (on o n (p ∷ (l ++ regexps w)))) (at lm dot_dot_dot_kind (on o n (p ∷ (l ++ slashes w)))) refl _ _ _ _ (λ yes. twin_then w _ _ _ _ (told.expr (with_in c) assignment_level o p.spot.hi l) (λ ev eo en el. twin_ok w _ _ eo en el refl)) (λ no. twin_if w (at lm mul_kind (on o n (p ∷ (l ++ regexps w)))) (at lm mul_kind (on o n (p ∷ (l ++ slashes w)))) refl _ _ _ _ (λ yes. method_prop_by_twin c (lo (input lm (on o n (p ∷ (l ++ regexps w))))) true false o p.spot.hi l) (λ no. twin_if w (is_async_head lm inner (on o n (p ∷ (l ++ regexps w)))) (is_async_head lm inner (on o n (p ∷ (l ++ slashes w)))) (same w (λ z. is_async_head lm inner (on o n (p ∷ z))) refl refl (λ p. refl) (λ p. refl) (λ p q. refl) (λ p q. refl) (λ p q r l m n. refl) l) _ _ _ _ (λ yes. twin_then w _ _ _ _ (star_twin  o p.spot.hi l) (λ gv go gn gl. method_prop_by_twin c (lo (input lm (on o n (p ∷ (l ++ regexps w))))) gv true go gn gl)) (λ no. twin_if w (is_accessor lm inner get_kind (on o n (p ∷ (l ++ regexps w)))) (is_accessor lm inner get_kind (on o n (p ∷ (l ++ slashes w)))) (same w (λ z. is_accessor lm inner get_kind (on o n (p ∷ z))) refl refl (λ p. refl) (λ p. refl) (λ p q. refl) (λ p q. refl) (λ p q r l m n. refl) l) _ _ _ _ (λ yes. getter_by_twin c o n p l) (λ no. twin_if w (is_accessor lm inner set_kind (on o n (p ∷ (l ++ regexps w)))) (is_accessor lm inner set_kind (on o n (p ∷ (l ++ slashes w)))) (same w (λ z. is_accessor lm inner set_kind (on o n (p ∷ z))) refl refl (λ p. refl) (λ p. refl) (λ p q. refl) (λ p q. refl) (λ p q r l m n. refl) l) _ _ _ _ (λ yes. setter_by_twin c o n p l) (λ no. twin_then w _ _ _ _ (key_by_twin c o n (p ∷ l)) (λ kv ko kn kl. prop_rest_twin c o n p l kv ko kn kl))))))
+  prop_by_twin c o n (p ∷ l) = twin_if w (at lm dot_dot_dot_kind (on o n (p ∷ (l ++ regexps w)))) (at lm dot_dot_dot_kind (on o n (p ∷ (l ++ slashes w)))) refl _ _ _ _ (λ yes. twin_then w _ _ _ _ (told.expr (with_in c) assignment_level o p.spot.hi l) (λ ev eo en el. twin_ok w _ _ eo en el refl)) (λ no. twin_if w (at lm mul_kind (on o n (p ∷ (l ++ regexps w)))) (at lm mul_kind (on o n (p ∷ (l ++ slashes w)))) refl _ _ _ _ (λ yes. method_prop_by_twin c (lo (input lm (on o n (p ∷ (l ++ regexps w))))) true false o p.spot.hi l) (λ no. twin_if w (is_async_head lm inner (on o n (p ∷ (l ++ regexps w)))) (is_async_head lm inner (on o n (p ∷ (l ++ slashes w)))) (same w (λ z. is_async_head lm inner (on o n (p ∷ z))) refl refl (λ p. refl) (λ p. refl) (λ p q. refl) (λ p q. refl) (λ p q r l m n. refl) l) _ _ _ _ (λ yes. twin_then w _ _ _ _ (star_twin o p.spot.hi l) (λ gv go gn gl. method_prop_by_twin c (lo (input lm (on o n (p ∷ (l ++ regexps w))))) gv true go gn gl)) (λ no. twin_if w (is_accessor lm inner get_kind (on o n (p ∷ (l ++ regexps w)))) (is_accessor lm inner get_kind (on o n (p ∷ (l ++ slashes w)))) (same w (λ z. is_accessor lm inner get_kind (on o n (p ∷ z))) refl refl (λ p. refl) (λ p. refl) (λ p q. refl) (λ p q. refl) (λ p q r l m n. refl) l) _ _ _ _ (λ yes. getter_by_twin c o n p l) (λ no. twin_if w (is_accessor lm inner set_kind (on o n (p ∷ (l ++ regexps w)))) (is_accessor lm inner set_kind (on o n (p ∷ (l ++ slashes w)))) (same w (λ z. is_accessor lm inner set_kind (on o n (p ∷ z))) refl refl (λ p. refl) (λ p. refl) (λ p q. refl) (λ p q. refl) (λ p q r l m n. refl) l) _ _ _ _ (λ yes. setter_by_twin c o n p l) (λ no. twin_then w _ _ _ _ (key_by_twin c o n (p ∷ l)) (λ kv ko kn kl. prop_rest_twin c o n p l kv ko kn kl))))))
 
   pub prop_step_twin : (c : Code) (xs : Elements) (o : List ℕ) (n : ℕ) (l : List Place) → Twins w (prop_step lm inner c xs (on o n ((l ++ regexps w)))) (prop_step lm inner c xs (on o n ((l ++ slashes w))))
   unfolding prop_step
@@ -197,7 +195,7 @@ module _ (w : Parting) (inner : Inner Input) (told : Told w inner) where
 
   pub function_expr_by_twin : (c : Code) (starto : List ℕ) (startn : ℕ) (startp : Place) (startl : List Place) (async : Bool) (o : List ℕ) (n : ℕ) (l : List Place) → Twins w (function_expr_by lm inner c (on starto startn (startp ∷ (startl ++ regexps w))) async (on o n ((l ++ regexps w)))) (function_expr_by lm inner c (on starto startn (startp ∷ (startl ++ slashes w))) async (on o n ((l ++ slashes w))))
   unfolding function_expr_by
-  function_expr_by_twin c starto startn startp startl async o n l = word_at w c function_kind (refl, refl, refl) o n l _ _ (λ rn rl. twin_then w _ _ _ _ (star_twin  o rn rl) (λ gv go gn gl. function_expr_name_twin c starto startn startp startl gv async go gn gl))
+  function_expr_by_twin c starto startn startp startl async o n l = word_at w c function_kind (refl, refl, refl) o n l _ _ (λ rn rl. twin_then w _ _ _ _ (star_twin o rn rl) (λ gv go gn gl. function_expr_name_twin c starto startn startp startl gv async go gn gl))
 
   pub async_by_twin : (c : Code) (o : List ℕ) (n1 : ℕ) (p : Place) (l : List Place) → Twins w (async_by lm inner c (on o n1 (p ∷ (l ++ regexps w)))) (async_by lm inner c (on o n1 (p ∷ (l ++ slashes w))))
   unfolding async_by
@@ -272,13 +270,13 @@ module _ (w : Parting) (inner : Inner Input) (told : Told w inner) where
 
   pub prefix_by_twin : (c : Code) (o : List ℕ) (n : ℕ) (l : List Place) → Twins w (prefix_by lm inner c (on o n ((l ++ regexps w)))) (prefix_by lm inner c (on o n ((l ++ slashes w))))
   unfolding prefix_by
-  prefix_by_twin c o n [] = twin_no w (is_word (kind (input lm (on o n (slashes w))))) (parted w (λ z. is_word (kind (input lm (on o n z)))) refl refl) _ _ _ (twin_no w (at lm left_paren_kind (on o n (slashes w))) (parted w (λ z. at lm left_paren_kind (on o n z)) refl refl) _ _ _ (twin_no w (at lm left_bracket_kind (on o n (slashes w))) (parted w (λ z. at lm left_bracket_kind (on o n z)) refl refl) _ _ _ (twin_no w (at lm left_brace_kind (on o n (slashes w))) (parted w (λ z. at lm left_brace_kind (on o n z)) refl refl) _ _ _ (twin_no w (at lm back_quote_kind (on o n (slashes w))) (parted w (λ z. at lm back_quote_kind (on o n z)) refl refl) _ _ _ (twin_no w (is_unary (kind (input lm (on o n (slashes w))))) (parted w (λ z. is_unary (kind (input lm (on o n z)))) refl refl) _ _ _ (twin_no w (between plus_plus_kind minus_minus_kind (kind (input lm (on o n (slashes w))))) (parted w (λ z. between plus_plus_kind minus_minus_kind (kind (input lm (on o n z)))) refl refl) _ _ _ (literal_by_twin  o n [])))))))
-  prefix_by_twin c o n (p ∷ l) = twin_if w (is_word (kind (input lm (on o n (p ∷ (l ++ regexps w)))))) (is_word (kind (input lm (on o n (p ∷ (l ++ slashes w)))))) refl _ _ _ _ (λ yes. keyword_by_twin c o n (p ∷ l)) (λ no. twin_if w (at lm left_paren_kind (on o n (p ∷ (l ++ regexps w)))) (at lm left_paren_kind (on o n (p ∷ (l ++ slashes w)))) refl _ _ _ _ (λ yes. group_by_twin c o n p l) (λ no. twin_if w (at lm left_bracket_kind (on o n (p ∷ (l ++ regexps w)))) (at lm left_bracket_kind (on o n (p ∷ (l ++ slashes w)))) refl _ _ _ _ (λ yes. array_by_twin c o n p l) (λ no. twin_if w (at lm left_brace_kind (on o n (p ∷ (l ++ regexps w)))) (at lm left_brace_kind (on o n (p ∷ (l ++ slashes w)))) refl _ _ _ _ (λ yes. object_by_twin c o n p l) (λ no. twin_if w (at lm back_quote_kind (on o n (p ∷ (l ++ regexps w)))) (at lm back_quote_kind (on o n (p ∷ (l ++ slashes w)))) refl _ _ _ _ (λ yes. template_by_twin c false o n p l) (λ no. twin_if w (is_unary (kind (input lm (on o n (p ∷ (l ++ regexps w)))))) (is_unary (kind (input lm (on o n (p ∷ (l ++ slashes w)))))) refl _ _ _ _ (λ yes. unary_by_twin c o n p l) (λ no. twin_if w (between plus_plus_kind minus_minus_kind (kind (input lm (on o n (p ∷ (l ++ regexps w)))))) (between plus_plus_kind minus_minus_kind (kind (input lm (on o n (p ∷ (l ++ slashes w)))))) refl _ _ _ _ (λ yes. update_by_twin c o n p l) (λ no. literal_by_twin  o n (p ∷ l))))))))
+  prefix_by_twin c o n [] = twin_no w (is_word (kind (input lm (on o n (slashes w))))) (parted w (λ z. is_word (kind (input lm (on o n z)))) refl refl) _ _ _ (twin_no w (at lm left_paren_kind (on o n (slashes w))) (parted w (λ z. at lm left_paren_kind (on o n z)) refl refl) _ _ _ (twin_no w (at lm left_bracket_kind (on o n (slashes w))) (parted w (λ z. at lm left_bracket_kind (on o n z)) refl refl) _ _ _ (twin_no w (at lm left_brace_kind (on o n (slashes w))) (parted w (λ z. at lm left_brace_kind (on o n z)) refl refl) _ _ _ (twin_no w (at lm back_quote_kind (on o n (slashes w))) (parted w (λ z. at lm back_quote_kind (on o n z)) refl refl) _ _ _ (twin_no w (is_unary (kind (input lm (on o n (slashes w))))) (parted w (λ z. is_unary (kind (input lm (on o n z)))) refl refl) _ _ _ (twin_no w (between plus_plus_kind minus_minus_kind (kind (input lm (on o n (slashes w))))) (parted w (λ z. between plus_plus_kind minus_minus_kind (kind (input lm (on o n z)))) refl refl) _ _ _ (literal_by_twin o n [])))))))
+  prefix_by_twin c o n (p ∷ l) = twin_if w (is_word (kind (input lm (on o n (p ∷ (l ++ regexps w)))))) (is_word (kind (input lm (on o n (p ∷ (l ++ slashes w)))))) refl _ _ _ _ (λ yes. keyword_by_twin c o n (p ∷ l)) (λ no. twin_if w (at lm left_paren_kind (on o n (p ∷ (l ++ regexps w)))) (at lm left_paren_kind (on o n (p ∷ (l ++ slashes w)))) refl _ _ _ _ (λ yes. group_by_twin c o n p l) (λ no. twin_if w (at lm left_bracket_kind (on o n (p ∷ (l ++ regexps w)))) (at lm left_bracket_kind (on o n (p ∷ (l ++ slashes w)))) refl _ _ _ _ (λ yes. array_by_twin c o n p l) (λ no. twin_if w (at lm left_brace_kind (on o n (p ∷ (l ++ regexps w)))) (at lm left_brace_kind (on o n (p ∷ (l ++ slashes w)))) refl _ _ _ _ (λ yes. object_by_twin c o n p l) (λ no. twin_if w (at lm back_quote_kind (on o n (p ∷ (l ++ regexps w)))) (at lm back_quote_kind (on o n (p ∷ (l ++ slashes w)))) refl _ _ _ _ (λ yes. template_by_twin c false o n p l) (λ no. twin_if w (is_unary (kind (input lm (on o n (p ∷ (l ++ regexps w)))))) (is_unary (kind (input lm (on o n (p ∷ (l ++ slashes w)))))) refl _ _ _ _ (λ yes. unary_by_twin c o n p l) (λ no. twin_if w (between plus_plus_kind minus_minus_kind (kind (input lm (on o n (p ∷ (l ++ regexps w)))))) (between plus_plus_kind minus_minus_kind (kind (input lm (on o n (p ∷ (l ++ slashes w)))))) refl _ _ _ _ (λ yes. update_by_twin c o n p l) (λ no. literal_by_twin o n (p ∷ l))))))))
 
   pub member_name_twin : (may_private : Bool) (o : List ℕ) (n1 : ℕ) (l : List Place) → Twins w (member_name lm inner may_private (on o n1 ((l ++ regexps w)))) (member_name lm inner may_private (on o n1 ((l ++ slashes w))))
   unfolding member_name
   member_name_twin may_private o n1 [] = twin_no w (at lm hash_kind (on o n1 (slashes w))) (parted w (λ z. at lm hash_kind (on o n1 z)) refl refl) _ _ _ (any_none w o n1 _ _)
-  member_name_twin may_private o n1 (p ∷ l) = twin_if w (at lm hash_kind (on o n1 (p ∷ (l ++ regexps w)))) (at lm hash_kind (on o n1 (p ∷ (l ++ slashes w)))) refl _ _ _ _ (λ yes. twin_if w (may_private) (may_private) refl _ _ _ _ (λ yes. private_by_twin  o n1 (p ∷ l)) (λ no. never w _ _)) (λ no. any_on w o n1 p l _ _ (λ nv. twin_ok w _ _ o p.spot.hi l refl))
+  member_name_twin may_private o n1 (p ∷ l) = twin_if w (at lm hash_kind (on o n1 (p ∷ (l ++ regexps w)))) (at lm hash_kind (on o n1 (p ∷ (l ++ slashes w)))) refl _ _ _ _ (λ yes. twin_if w (may_private) (may_private) refl _ _ _ _ (λ yes. private_by_twin o n1 (p ∷ l)) (λ no. never w _ _)) (λ no. any_on w o n1 p l _ _ (λ nv. twin_ok w _ _ o p.spot.hi l refl))
 
   pub member_by_twin : (c : Code) (starto : List ℕ) (startn : ℕ) (startl : List Place) (t : Tree) (o : List ℕ) (n : ℕ) (p : Place) (l : List Place) → Twins w (member_by lm inner c (on starto startn ((startl ++ regexps w))) t (on o n (p ∷ (l ++ regexps w)))) (member_by lm inner c (on starto startn ((startl ++ slashes w))) t (on o n (p ∷ (l ++ slashes w))))
   unfolding member_by
@@ -360,7 +358,7 @@ module _ (w : Parting) (inner : Inner Input) (told : Told w inner) where
 
   pub private_in_twin : (c : Code) (l : ℕ) (o : List ℕ) (n : ℕ) (l1 : List Place) → Twins w (private_in lm inner c l (on o n ((l1 ++ regexps w)))) (private_in lm inner c l (on o n ((l1 ++ slashes w))))
   unfolding private_in
-  private_in_twin c l o n l1 = twin_then w _ _ _ _ (private_by_twin  o n l1) (λ pv po pn pl. cut w (λ z. Twins w (if at lm in_kind (on po pn ((z ++ regexps w))) && (has_in c && nat_le l (binary_level in_kind)) then (binary_by lm inner c (on o n ((l1 ++ regexps w))) pv (on po pn ((z ++ regexps w))) >>= λ t. loop_by lm inner c l (on o n ((l1 ++ regexps w))) t.0 t.1) else unexpected) (if at lm in_kind (on po pn ((z ++ slashes w))) && (has_in c && nat_le l (binary_level in_kind)) then (binary_by lm inner c (on o n ((l1 ++ slashes w))) pv (on po pn ((z ++ slashes w))) >>= λ t. loop_by lm inner c l (on o n ((l1 ++ slashes w))) t.0 t.1) else unexpected)) pl (never w _ _) (λ pp pq. twin_if w (at lm in_kind (on po pn (pp ∷ (pq ++ regexps w))) && (has_in c && nat_le l (binary_level in_kind))) (at lm in_kind (on po pn (pp ∷ (pq ++ slashes w))) && (has_in c && nat_le l (binary_level in_kind))) refl _ _ _ _ (λ yes. twin_then w _ _ _ _ (binary_by_twin c o n l1 pv po pn pp pq) (λ tv to tn tl. loop_by_twin c l o n l1 tv to tn tl)) (λ no. never w _ _)))
+  private_in_twin c l o n l1 = twin_then w _ _ _ _ (private_by_twin o n l1) (λ pv po pn pl. cut w (λ z. Twins w (if at lm in_kind (on po pn ((z ++ regexps w))) && (has_in c && nat_le l (binary_level in_kind)) then (binary_by lm inner c (on o n ((l1 ++ regexps w))) pv (on po pn ((z ++ regexps w))) >>= λ t. loop_by lm inner c l (on o n ((l1 ++ regexps w))) t.0 t.1) else unexpected) (if at lm in_kind (on po pn ((z ++ slashes w))) && (has_in c && nat_le l (binary_level in_kind)) then (binary_by lm inner c (on o n ((l1 ++ slashes w))) pv (on po pn ((z ++ slashes w))) >>= λ t. loop_by lm inner c l (on o n ((l1 ++ slashes w))) t.0 t.1) else unexpected)) pl (never w _ _) (λ pp pq. twin_if w (at lm in_kind (on po pn (pp ∷ (pq ++ regexps w))) && (has_in c && nat_le l (binary_level in_kind))) (at lm in_kind (on po pn (pp ∷ (pq ++ slashes w))) && (has_in c && nat_le l (binary_level in_kind))) refl _ _ _ _ (λ yes. twin_then w _ _ _ _ (binary_by_twin c o n l1 pv po pn pp pq) (λ tv to tn tl. loop_by_twin c l o n l1 tv to tn tl)) (λ no. never w _ _)))
 
   pub expr_from_twin : (c : Code) (l : ℕ) (o : List ℕ) (n : ℕ) (l1 : List Place) → Twins w (expr_from lm inner c l (on o n ((l1 ++ regexps w)))) (expr_from lm inner c l (on o n ((l1 ++ slashes w))))
   unfolding expr_from

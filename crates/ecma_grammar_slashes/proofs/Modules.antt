@@ -1,29 +1,26 @@
 -- Scripts and modules (ECMA-262, clause 16): their rules over two such lists.
-use Rattle.std.proofs.Common.{◌≡◌, ◌≤◌, ℕ, zero, suc, Bool, true, false, not, ◌&&◌, ◌||◌, ◌==◌, cond, nat_le, nat_lt, if◌then◌else◌, List, [], ◌∷◌, ◌++◌, Option, Some, None, Result, Ok, Err, refl, sym, ap, ◌∙◌, subst, true≢false, arith}
-use Rattle.ecma_token.specs.declared.place.Span.{Span}
-use Rattle.ecma_token.specs.Kinds.{left_paren_kind, dot_kind, left_brace_kind, right_brace_kind, comma_kind, mul_kind, str_kind, shebang_kind, default_kind, function_kind, with_kind, class_kind, export_kind, import_kind, as_kind, assert_kind, from_kind}
-use Rattle.ecma_token.specs.Tokens.{Content, Line}
-use Rattle.ecma_tree.specs.Tree.{Tree, Trees, none, more, pack, script, es_module, import_decl, export_decl, named_export, export_default_decl, export_default_expr, export_all, import_named_specifier, import_default_specifier, import_star_as_specifier, export_namespace_specifier, export_named_specifier, ident, absent}
-use Rattle.ecma_syntax.specs.Input.{Place, Input, span, Code, kind, kind2, brk, content, is_word, in_list, turned_strict}
+use Rattle.std.proofs.Common.{ℕ, Bool, true, false, not, ◌&&◌, ◌||◌, ◌==◌, if◌then◌else◌, List, [], ◌∷◌, ◌++◌, Option, Some, None, Ok, refl, ap}
+use Rattle.ecma_token.specs.Kinds.{left_brace_kind, right_brace_kind, comma_kind, mul_kind, str_kind, shebang_kind, default_kind, function_kind, with_kind, class_kind, export_kind, import_kind, as_kind, assert_kind, from_kind}
+use Rattle.ecma_tree.specs.Tree.{Tree, none, more, pack, import_decl, named_export, export_default_decl, export_default_expr, export_all, import_default_specifier, export_namespace_specifier, absent}
+use Rattle.ecma_syntax.specs.Input.{Place, Input, span, Code, kind, brk, is_word, in_list}
 use Rattle.ecma_syntax.specs.Operators.{assignment_level, exports_end, source_end, plain_end}
-use Rattle.ecma_syntax.specs.Shape.{ends, is_use_strict, is_directive, is_attributes, is_exportable}
-use Rattle.ecma_reading.specs.Source.{Fault, unexpected, ◌>>=◌, Machine, Stand, input, past, operand, turned, bound, spanned, at, ended, eat, eat_word, name, any_word, end_of, Step, go_on, finished, iterate, Inner}
-use Rattle.ecma_reading.specs.Expressions.{first, literal_by, object_by, function_expr_by, class_expr_by}
-use Rattle.ecma_reading.specs.Statements.{Body, starts_async, starts_variables}
-use Rattle.ecma_reading.specs.Modules.{string_by, export_name_by, local_by, attributes_by, source_by, named_import, named_export_item, specifier_step, specifiers_by, star_import, import_end, import_rest, import_default, import_decl_by, export_default, export_star, export_list, starts_declaration, export_by, starts_import, item_by, program_item, program_step, line_of, program_tree, program_rest, program_by, From}
-use Rattle.ecma_grammar_slashes.proofs.Expressions.{literal_by_twin, element_by_twin, after_element_twin, element_step_twin, elements_by_twin, array_by_twin, computed_by_twin, key_by_twin, private_by_twin, parameter_by_twin, parameter_step_twin, parameters_by_twin, function_by_twin, setter_parameter_twin, star_twin, method_prop_by_twin, getter_by_twin, setter_by_twin, prop_rest_twin, prop_by_twin, prop_step_twin, object_by_twin, quasi_end_twin, quasi_step_twin, template_by_twin, arrow_by_twin, group_end_twin, group_by_twin, ident_end_twin, arguments_by_twin, async_group_twin, function_expr_name_twin, function_expr_by_twin, async_by_twin, class_expr_by_twin, new_end_twin, callee_by_twin, new_by_twin, super_end_twin, import_by_twin, unary_by_twin, update_by_twin, await_by_twin, yield_end_twin, yield_by_twin, word_by_twin, fixed_twin, keyword_by_twin, prefix_by_twin, member_name_twin, member_by_twin, index_by_twin, call_by_twin, chain_by_twin, cond_by_twin, assign_by_twin, binary_by_twin, step_by_twin, loop_step_twin, loop_by_twin, private_in_twin, expr_from_twin, expr_by_twin, key_nil}
-use Rattle.ecma_grammar_slashes.proofs.Statements.{initial_pat_twin, after_item_twin, array_item_twin, array_pat_by_twin, keyed_item_twin, named_item_twin, pattern_prop_twin, object_item_twin, object_pat_by_twin, pat_by_twin, block_step_twin, block_rest_twin, block_by_twin, body_item_twin, body_step_twin, body_by_twin, declarator_by_twin, declarator_step_twin, declarators_by_twin, variables_by_twin, using_by_twin, function_decl_by_twin, class_decl_by_twin, field_value_twin, class_key_twin, class_method_by_twin, class_getter_twin, class_setter_twin, accessor_by_twin, field_or_method_twin, generator_member_twin, member_rest_twin, static_by_twin, member_step_twin, members_by_twin, class_tail_by_twin, in_parens_twin, sub_by_twin, with_by_twin, while_by_twin, do_by_twin, else_by_twin, if_step_twin, if_by_twin, return_by_twin, throw_by_twin, label_by_twin, jump_by_twin, debugger_by_twin, case_step_twin, case_rest_twin, case_by_twin, cases_step_twin, switch_by_twin, catch_by_twin, finally_by_twin, try_by_twin, clause_by_twin, for_rest_twin, over_rest_twin, in_rest_twin, of_rest_twin, head_rest_twin, for_variables_twin, for_using_twin, for_expression_rest_twin, for_expression_twin, for_head_twin, for_by_twin, labelled_by_twin, expression_by_twin, keyword_stmt_twin, stmt_by_twin, stmt_from_twin}
-use Rattle.ecma_grammar_slashes.proofs.Twins.{lm, Parting, regexps, slashes, slashes_by, on, Twins, twin_ok, never, unanswered, twin_then, twin_if, twin_no, cut, parted, same, Plain, plain_at, lo_same, no_and, no_and2, off_first, off_left, off_deep, end_as, no_third, eat_on, eat_at, eat_none, word_on, word_at, word_none, name_on, name_at, name_none, any_on, any_at, any_none, end_at, twin_pure, iterate_twin, Told}
+use Rattle.ecma_syntax.specs.Shape.{ends, is_use_strict, is_attributes, is_exportable}
+use Rattle.ecma_reading.specs.Source.{unexpected, ◌>>=◌, input, past, spanned, at, ended, eat, eat_word, name, end_of, go_on, finished, Inner}
+use Rattle.ecma_reading.specs.Expressions.{first}
+use Rattle.ecma_reading.specs.Statements.{Body, starts_async}
+use Rattle.ecma_reading.specs.Modules.{string_by, export_name_by, local_by, attributes_by, source_by, named_import, named_export_item, specifier_step, specifiers_by, star_import, import_end, import_rest, import_default, import_decl_by, export_default, export_star, export_list, starts_declaration, export_by, starts_import, item_by, program_item, program_step, line_of, program_tree, program_rest, program_by}
+use Rattle.ecma_grammar_slashes.proofs.Expressions.{literal_by_twin, object_by_twin, function_expr_by_twin, class_expr_by_twin}
+use Rattle.ecma_grammar_slashes.proofs.Twins.{lm, Parting, regexps, slashes, on, Twins, twin_ok, never, twin_then, twin_if, twin_no, cut, parted, same, lo_same, no_and, eat_on, eat_at, eat_none, word_on, word_at, word_none, name_on, name_none, any_on, any_none, end_at, iterate_twin, Told}
 
 module _ (w : Parting) (inner : Inner Input) (told : Told w inner) where
   pub string_by_twin : (o : List ℕ) (n : ℕ) (l : List Place) → Twins w (string_by lm inner (on o n ((l ++ regexps w)))) (string_by lm inner (on o n ((l ++ slashes w))))
   unfolding string_by
-  string_by_twin o n l = twin_if w (at lm str_kind (on o n ((l ++ regexps w)))) (at lm str_kind (on o n ((l ++ slashes w)))) (same w (λ z. at lm str_kind (on o n z)) refl refl (λ p. refl) (λ p. refl) (λ p q. refl) (λ p q. refl) (λ p q r l m n. refl) l) _ _ _ _ (λ yes. literal_by_twin w inner told  o n l) (λ no. never w _ _)
+  string_by_twin o n l = twin_if w (at lm str_kind (on o n ((l ++ regexps w)))) (at lm str_kind (on o n ((l ++ slashes w)))) (same w (λ z. at lm str_kind (on o n z)) refl refl (λ p. refl) (λ p. refl) (λ p q. refl) (λ p q. refl) (λ p q r l m n. refl) l) _ _ _ _ (λ yes. literal_by_twin w inner told o n l) (λ no. never w _ _)
 
   pub export_name_by_twin : (o : List ℕ) (n1 : ℕ) (l : List Place) → Twins w (export_name_by lm inner (on o n1 ((l ++ regexps w)))) (export_name_by lm inner (on o n1 ((l ++ slashes w))))
   unfolding export_name_by
   export_name_by_twin o n1 [] = twin_no w (at lm str_kind (on o n1 (slashes w))) (parted w (λ z. at lm str_kind (on o n1 z)) refl refl) _ _ _ (any_none w o n1 _ _)
-  export_name_by_twin o n1 (p ∷ l) = twin_if w (at lm str_kind (on o n1 (p ∷ (l ++ regexps w)))) (at lm str_kind (on o n1 (p ∷ (l ++ slashes w)))) refl _ _ _ _ (λ yes. literal_by_twin w inner told  o n1 (p ∷ l)) (λ no. any_on w o n1 p l _ _ (λ nv. twin_ok w _ _ o p.spot.hi l refl))
+  export_name_by_twin o n1 (p ∷ l) = twin_if w (at lm str_kind (on o n1 (p ∷ (l ++ regexps w)))) (at lm str_kind (on o n1 (p ∷ (l ++ slashes w)))) refl _ _ _ _ (λ yes. literal_by_twin w inner told o n1 (p ∷ l)) (λ no. any_on w o n1 p l _ _ (λ nv. twin_ok w _ _ o p.spot.hi l refl))
 
   pub local_by_twin : (c : Code) (o : List ℕ) (n1 : ℕ) (l : List Place) → Twins w (local_by lm inner c (on o n1 ((l ++ regexps w)))) (local_by lm inner c (on o n1 ((l ++ slashes w))))
   unfolding local_by
@@ -37,17 +34,17 @@ module _ (w : Parting) (inner : Inner Input) (told : Told w inner) where
 
   pub source_by_twin : (c : Code) (o1 : List ℕ) (n : ℕ) (l : List Place) → Twins w (source_by lm inner c (on o1 n ((l ++ regexps w)))) (source_by lm inner c (on o1 n ((l ++ slashes w))))
   unfolding source_by
-  source_by_twin c o1 n l = twin_then w _ _ _ _ (string_by_twin  o1 n l) (λ fv fo fn fl. cut w (λ z. Twins w (if c.syntax.import_attributes && (at lm with_kind (on fo fn ((z ++ regexps w))) || (at lm assert_kind (on fo fn ((z ++ regexps w))) && not (brk (input lm (on fo fn ((z ++ regexps w))))))) then (eat_word lm c (kind (input lm (on fo fn ((z ++ regexps w))))) (on fo fn ((z ++ regexps w))) >>= λ w. attributes_by lm inner c w >>= λ o. end_of lm c plain_end o.1 >>= λ e. Ok (record { src = fv; with_ = o.0 }, e)) else (end_of lm c source_end (on fo fn ((z ++ regexps w))) >>= λ e. Ok (record { src = fv; with_ = absent }, e))) (if c.syntax.import_attributes && (at lm with_kind (on fo fn ((z ++ slashes w))) || (at lm assert_kind (on fo fn ((z ++ slashes w))) && not (brk (input lm (on fo fn ((z ++ slashes w))))))) then (eat_word lm c (kind (input lm (on fo fn ((z ++ slashes w))))) (on fo fn ((z ++ slashes w))) >>= λ w. attributes_by lm inner c w >>= λ o. end_of lm c plain_end o.1 >>= λ e. Ok (record { src = fv; with_ = o.0 }, e)) else (end_of lm c source_end (on fo fn ((z ++ slashes w))) >>= λ e. Ok (record { src = fv; with_ = absent }, e)))) fl (twin_if w (c.syntax.import_attributes && (at lm with_kind (on fo fn (regexps w)) || (at lm assert_kind (on fo fn (regexps w)) && not (brk (input lm (on fo fn (regexps w))))))) (c.syntax.import_attributes && (at lm with_kind (on fo fn (slashes w)) || (at lm assert_kind (on fo fn (slashes w)) && not (brk (input lm (on fo fn (slashes w))))))) (parted w (λ z. c.syntax.import_attributes && (at lm with_kind (on fo fn z) || (at lm assert_kind (on fo fn z) && not (brk (input lm (on fo fn z)))))) refl refl) _ _ _ _ (λ yes. absurd (no_and w _ yes)) (λ no. end_at w c source_end fo fn [] _ _ (λ en el. twin_ok w _ _ fo en el refl))) (λ fp fq. twin_if w (c.syntax.import_attributes && (at lm with_kind (on fo fn (fp ∷ (fq ++ regexps w))) || (at lm assert_kind (on fo fn (fp ∷ (fq ++ regexps w))) && not (brk (input lm (on fo fn (fp ∷ (fq ++ regexps w)))))))) (c.syntax.import_attributes && (at lm with_kind (on fo fn (fp ∷ (fq ++ slashes w))) || (at lm assert_kind (on fo fn (fp ∷ (fq ++ slashes w))) && not (brk (input lm (on fo fn (fp ∷ (fq ++ slashes w)))))))) refl _ _ _ _ (λ yes. word_on w c (kind (input lm (on fo fn (fp ∷ (fq ++ regexps w))))) fo fn fp fq _ _ (twin_then w _ _ _ _ (attributes_by_twin c fo fp.spot.hi fq) (λ ov oo on1 ol. end_at w c plain_end oo on1 ol _ _ (λ en el. twin_ok w _ _ oo en el refl)))) (λ no. end_at w c source_end fo fn (fp ∷ fq) _ _ (λ en el. twin_ok w _ _ fo en el refl))))
+  source_by_twin c o1 n l = twin_then w _ _ _ _ (string_by_twin o1 n l) (λ fv fo fn fl. cut w (λ z. Twins w (if c.syntax.import_attributes && (at lm with_kind (on fo fn ((z ++ regexps w))) || (at lm assert_kind (on fo fn ((z ++ regexps w))) && not (brk (input lm (on fo fn ((z ++ regexps w))))))) then (eat_word lm c (kind (input lm (on fo fn ((z ++ regexps w))))) (on fo fn ((z ++ regexps w))) >>= λ w. attributes_by lm inner c w >>= λ o. end_of lm c plain_end o.1 >>= λ e. Ok (record { src = fv; with_ = o.0 }, e)) else (end_of lm c source_end (on fo fn ((z ++ regexps w))) >>= λ e. Ok (record { src = fv; with_ = absent }, e))) (if c.syntax.import_attributes && (at lm with_kind (on fo fn ((z ++ slashes w))) || (at lm assert_kind (on fo fn ((z ++ slashes w))) && not (brk (input lm (on fo fn ((z ++ slashes w))))))) then (eat_word lm c (kind (input lm (on fo fn ((z ++ slashes w))))) (on fo fn ((z ++ slashes w))) >>= λ w. attributes_by lm inner c w >>= λ o. end_of lm c plain_end o.1 >>= λ e. Ok (record { src = fv; with_ = o.0 }, e)) else (end_of lm c source_end (on fo fn ((z ++ slashes w))) >>= λ e. Ok (record { src = fv; with_ = absent }, e)))) fl (twin_if w (c.syntax.import_attributes && (at lm with_kind (on fo fn (regexps w)) || (at lm assert_kind (on fo fn (regexps w)) && not (brk (input lm (on fo fn (regexps w))))))) (c.syntax.import_attributes && (at lm with_kind (on fo fn (slashes w)) || (at lm assert_kind (on fo fn (slashes w)) && not (brk (input lm (on fo fn (slashes w))))))) (parted w (λ z. c.syntax.import_attributes && (at lm with_kind (on fo fn z) || (at lm assert_kind (on fo fn z) && not (brk (input lm (on fo fn z)))))) refl refl) _ _ _ _ (λ yes. absurd (no_and w _ yes)) (λ no. end_at w c source_end fo fn [] _ _ (λ en el. twin_ok w _ _ fo en el refl))) (λ fp fq. twin_if w (c.syntax.import_attributes && (at lm with_kind (on fo fn (fp ∷ (fq ++ regexps w))) || (at lm assert_kind (on fo fn (fp ∷ (fq ++ regexps w))) && not (brk (input lm (on fo fn (fp ∷ (fq ++ regexps w)))))))) (c.syntax.import_attributes && (at lm with_kind (on fo fn (fp ∷ (fq ++ slashes w))) || (at lm assert_kind (on fo fn (fp ∷ (fq ++ slashes w))) && not (brk (input lm (on fo fn (fp ∷ (fq ++ slashes w)))))))) refl _ _ _ _ (λ yes. word_on w c (kind (input lm (on fo fn (fp ∷ (fq ++ regexps w))))) fo fn fp fq _ _ (twin_then w _ _ _ _ (attributes_by_twin c fo fp.spot.hi fq) (λ ov oo on1 ol. end_at w c plain_end oo on1 ol _ _ (λ en el. twin_ok w _ _ oo en el refl)))) (λ no. end_at w c source_end fo fn (fp ∷ fq) _ _ (λ en el. twin_ok w _ _ fo en el refl))))
 
   pub named_import_twin : (c : Code) (o : List ℕ) (n1 : ℕ) (l1 : List Place) → Twins w (named_import lm inner c (on o n1 ((l1 ++ regexps w)))) (named_import lm inner c (on o n1 ((l1 ++ slashes w))))
   unfolding named_import
-  named_import_twin c o n1 [] = twin_then w _ _ _ _ (export_name_by_twin  o n1 []) (λ nv no1 nn nl. twin_if w (at lm as_kind (on no1 nn ((nl ++ regexps w)))) (at lm as_kind (on no1 nn ((nl ++ slashes w)))) (same w (λ z. at lm as_kind (on no1 nn z)) refl refl (λ p. refl) (λ p. refl) (λ p q. refl) (λ p q. refl) (λ p q r l m n. refl) nl) _ _ _ _ (λ yes. word_at w c as_kind (refl, refl, refl) no1 nn nl _ _ (λ an al. twin_then w _ _ _ _ (local_by_twin c no1 an al) (λ lv lo ln ll. twin_ok w _ _ lo ln ll refl))) (λ no. twin_then w _ _ _ _ (local_by_twin c o n1 []) (λ lv lo ln ll. twin_ok w _ _ lo ln ll refl)))
-  named_import_twin c o n1 (p ∷ l1) = twin_then w _ _ _ _ (export_name_by_twin  o n1 (p ∷ l1)) (λ nv no1 nn nl. twin_if w (at lm as_kind (on no1 nn ((nl ++ regexps w)))) (at lm as_kind (on no1 nn ((nl ++ slashes w)))) (same w (λ z. at lm as_kind (on no1 nn z)) refl refl (λ p. refl) (λ p. refl) (λ p q. refl) (λ p q. refl) (λ p q r l m n. refl) nl) _ _ _ _ (λ yes. word_at w c as_kind (refl, refl, refl) no1 nn nl _ _ (λ an al. twin_then w _ _ _ _ (local_by_twin c no1 an al) (λ lv lo ln ll. twin_ok w _ _ lo ln ll refl))) (λ no. twin_then w _ _ _ _ (local_by_twin c o n1 (p ∷ l1)) (λ lv lo ln ll. twin_ok w _ _ lo ln ll refl)))
+  named_import_twin c o n1 [] = twin_then w _ _ _ _ (export_name_by_twin o n1 []) (λ nv no1 nn nl. twin_if w (at lm as_kind (on no1 nn ((nl ++ regexps w)))) (at lm as_kind (on no1 nn ((nl ++ slashes w)))) (same w (λ z. at lm as_kind (on no1 nn z)) refl refl (λ p. refl) (λ p. refl) (λ p q. refl) (λ p q. refl) (λ p q r l m n. refl) nl) _ _ _ _ (λ yes. word_at w c as_kind (refl, refl, refl) no1 nn nl _ _ (λ an al. twin_then w _ _ _ _ (local_by_twin c no1 an al) (λ lv lo ln ll. twin_ok w _ _ lo ln ll refl))) (λ no. twin_then w _ _ _ _ (local_by_twin c o n1 []) (λ lv lo ln ll. twin_ok w _ _ lo ln ll refl)))
+  named_import_twin c o n1 (p ∷ l1) = twin_then w _ _ _ _ (export_name_by_twin o n1 (p ∷ l1)) (λ nv no1 nn nl. twin_if w (at lm as_kind (on no1 nn ((nl ++ regexps w)))) (at lm as_kind (on no1 nn ((nl ++ slashes w)))) (same w (λ z. at lm as_kind (on no1 nn z)) refl refl (λ p. refl) (λ p. refl) (λ p q. refl) (λ p q. refl) (λ p q r l m n. refl) nl) _ _ _ _ (λ yes. word_at w c as_kind (refl, refl, refl) no1 nn nl _ _ (λ an al. twin_then w _ _ _ _ (local_by_twin c no1 an al) (λ lv lo ln ll. twin_ok w _ _ lo ln ll refl))) (λ no. twin_then w _ _ _ _ (local_by_twin c o n1 (p ∷ l1)) (λ lv lo ln ll. twin_ok w _ _ lo ln ll refl)))
 
   pub named_export_item_twin : (c : Code) (o : List ℕ) (n1 : ℕ) (l : List Place) → Twins w (named_export_item lm inner c (on o n1 ((l ++ regexps w)))) (named_export_item lm inner c (on o n1 ((l ++ slashes w))))
   unfolding named_export_item
-  named_export_item_twin c o n1 [] = twin_then w _ _ _ _ (export_name_by_twin  o n1 []) (λ nv no1 nn nl. twin_if w (at lm as_kind (on no1 nn ((nl ++ regexps w)))) (at lm as_kind (on no1 nn ((nl ++ slashes w)))) (same w (λ z. at lm as_kind (on no1 nn z)) refl refl (λ p. refl) (λ p. refl) (λ p q. refl) (λ p q. refl) (λ p q r l m n. refl) nl) _ _ _ _ (λ yes. word_at w c as_kind (refl, refl, refl) no1 nn nl _ _ (λ an al. twin_then w _ _ _ _ (export_name_by_twin  no1 an al) (λ ev eo en el. twin_ok w _ _ eo en el refl))) (λ no. twin_ok w _ _ no1 nn nl refl))
-  named_export_item_twin c o n1 (p ∷ l) = twin_then w _ _ _ _ (export_name_by_twin  o n1 (p ∷ l)) (λ nv no1 nn nl. twin_if w (at lm as_kind (on no1 nn ((nl ++ regexps w)))) (at lm as_kind (on no1 nn ((nl ++ slashes w)))) (same w (λ z. at lm as_kind (on no1 nn z)) refl refl (λ p. refl) (λ p. refl) (λ p q. refl) (λ p q. refl) (λ p q r l m n. refl) nl) _ _ _ _ (λ yes. word_at w c as_kind (refl, refl, refl) no1 nn nl _ _ (λ an al. twin_then w _ _ _ _ (export_name_by_twin  no1 an al) (λ ev eo en el. twin_ok w _ _ eo en el refl))) (λ no. twin_ok w _ _ no1 nn nl refl))
+  named_export_item_twin c o n1 [] = twin_then w _ _ _ _ (export_name_by_twin o n1 []) (λ nv no1 nn nl. twin_if w (at lm as_kind (on no1 nn ((nl ++ regexps w)))) (at lm as_kind (on no1 nn ((nl ++ slashes w)))) (same w (λ z. at lm as_kind (on no1 nn z)) refl refl (λ p. refl) (λ p. refl) (λ p q. refl) (λ p q. refl) (λ p q r l m n. refl) nl) _ _ _ _ (λ yes. word_at w c as_kind (refl, refl, refl) no1 nn nl _ _ (λ an al. twin_then w _ _ _ _ (export_name_by_twin no1 an al) (λ ev eo en el. twin_ok w _ _ eo en el refl))) (λ no. twin_ok w _ _ no1 nn nl refl))
+  named_export_item_twin c o n1 (p ∷ l) = twin_then w _ _ _ _ (export_name_by_twin o n1 (p ∷ l)) (λ nv no1 nn nl. twin_if w (at lm as_kind (on no1 nn ((nl ++ regexps w)))) (at lm as_kind (on no1 nn ((nl ++ slashes w)))) (same w (λ z. at lm as_kind (on no1 nn z)) refl refl (λ p. refl) (λ p. refl) (λ p q. refl) (λ p q. refl) (λ p q r l m n. refl) nl) _ _ _ _ (λ yes. word_at w c as_kind (refl, refl, refl) no1 nn nl _ _ (λ an al. twin_then w _ _ _ _ (export_name_by_twin no1 an al) (λ ev eo en el. twin_ok w _ _ eo en el refl))) (λ no. twin_ok w _ _ no1 nn nl refl))
 
   pub specifier_step_twin : (imports : Bool) (c : Code) (xs : List Tree) (o : List ℕ) (n : ℕ) (l : List Place) → Twins w (specifier_step lm inner imports c xs (on o n ((l ++ regexps w)))) (specifier_step lm inner imports c xs (on o n ((l ++ slashes w))))
   unfolding specifier_step
@@ -89,7 +86,7 @@ module _ (w : Parting) (inner : Inner Input) (told : Told w inner) where
   pub export_star_twin : (c : Code) (starto : List ℕ) (startn : ℕ) (startl : List Place) (o : List ℕ) (n1 : ℕ) (l : List Place) → Twins w (export_star lm inner c (on starto startn ((startl ++ regexps w))) (on o n1 ((l ++ regexps w)))) (export_star lm inner c (on starto startn ((startl ++ slashes w))) (on o n1 ((l ++ slashes w))))
   unfolding export_star
   export_star_twin c starto startn startl o n1 [] = eat_none w mul_kind (refl, refl, refl) o n1 _ _
-  export_star_twin c starto startn startl o n1 (p ∷ l) = eat_on w mul_kind o n1 p l _ _ (twin_if w (at lm as_kind (on o p.spot.hi ((l ++ regexps w)))) (at lm as_kind (on o p.spot.hi ((l ++ slashes w)))) (same w (λ z. at lm as_kind (on o p.spot.hi z)) refl refl (λ p. refl) (λ p. refl) (λ p q. refl) (λ p q. refl) (λ p q r l m n. refl) l) _ _ _ _ (λ yes. word_at w c as_kind (refl, refl, refl) o p.spot.hi l _ _ (λ an al. twin_then w _ _ _ _ (export_name_by_twin  o an al) (λ nv no1 nn nl. word_at w c from_kind (refl, refl, refl) no1 nn nl _ _ (λ fn fl. twin_then w _ _ _ _ (source_by_twin c no1 fn fl) (λ xv xo xn xl. twin_ok w _ _ xo xn xl (ap (λ (z : ℕ). named_export (span z xn) (more (export_namespace_specifier (spanned lm (on o n1 (p ∷ (l ++ regexps w))) (on no1 nn ((nl ++ regexps w)))) nv) none) xv.src xv.with_) (lo_same w starto startn startl))))))) (λ no. word_at w c from_kind (refl, refl, refl) o p.spot.hi l _ _ (λ fn fl. twin_then w _ _ _ _ (source_by_twin c o fn fl) (λ xv xo xn xl. twin_ok w _ _ xo xn xl (ap (λ (z : ℕ). export_all (span z xn) xv.src xv.with_) (lo_same w starto startn startl))))))
+  export_star_twin c starto startn startl o n1 (p ∷ l) = eat_on w mul_kind o n1 p l _ _ (twin_if w (at lm as_kind (on o p.spot.hi ((l ++ regexps w)))) (at lm as_kind (on o p.spot.hi ((l ++ slashes w)))) (same w (λ z. at lm as_kind (on o p.spot.hi z)) refl refl (λ p. refl) (λ p. refl) (λ p q. refl) (λ p q. refl) (λ p q r l m n. refl) l) _ _ _ _ (λ yes. word_at w c as_kind (refl, refl, refl) o p.spot.hi l _ _ (λ an al. twin_then w _ _ _ _ (export_name_by_twin o an al) (λ nv no1 nn nl. word_at w c from_kind (refl, refl, refl) no1 nn nl _ _ (λ fn fl. twin_then w _ _ _ _ (source_by_twin c no1 fn fl) (λ xv xo xn xl. twin_ok w _ _ xo xn xl (ap (λ (z : ℕ). named_export (span z xn) (more (export_namespace_specifier (spanned lm (on o n1 (p ∷ (l ++ regexps w))) (on no1 nn ((nl ++ regexps w)))) nv) none) xv.src xv.with_) (lo_same w starto startn startl))))))) (λ no. word_at w c from_kind (refl, refl, refl) o p.spot.hi l _ _ (λ fn fl. twin_then w _ _ _ _ (source_by_twin c o fn fl) (λ xv xo xn xl. twin_ok w _ _ xo xn xl (ap (λ (z : ℕ). export_all (span z xn) xv.src xv.with_) (lo_same w starto startn startl))))))
 
   pub export_list_twin : (c : Code) (starto : List ℕ) (startn : ℕ) (startl : List Place) (o : List ℕ) (n : ℕ) (l : List Place) → Twins w (export_list lm inner c (on starto startn ((startl ++ regexps w))) (on o n ((l ++ regexps w)))) (export_list lm inner c (on starto startn ((startl ++ slashes w))) (on o n ((l ++ slashes w))))
   unfolding export_list

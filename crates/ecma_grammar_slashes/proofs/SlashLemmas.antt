@@ -1,14 +1,14 @@
 -- Of two lists that begin alike and go on with a regular expression and with a slash, not both are read.
-use Rattle.std.proofs.Common.{◌≡◌, ◌⊎◌, inl, inr, ℕ, zero, suc, Bool, true, false, cond, List, [], ◌∷◌, ◌++◌, Result, Ok, Err, if◌then◌else◌, refl, sym, ap, ◌∙◌, subst, true≢false}
+use Rattle.std.proofs.Common.{◌≡◌, inl, inr, ℕ, zero, suc, Bool, true, false, List, [], ◌∷◌, ◌++◌, Result, Ok, Err, if◌then◌else◌, refl, sym, ap, ◌∙◌, subst, true≢false}
 use Rattle.ecma_token.specs.declared.syntax.EsSyntax.{EsSyntax}
-use Rattle.ecma_token.specs.Kinds.{regex_kind, div_kind, div_assign_kind}
+use Rattle.ecma_token.specs.Kinds.{regex_kind}
 use Rattle.ecma_token.specs.Tokens.{Content, Bare, Pattern}
 use Rattle.ecma_tree.specs.Tree.{Tree}
 use Rattle.ecma_syntax.specs.Input.{Place, Input, Code, script_code, module_code}
-use Rattle.ecma_reading.specs.Source.{Fault, TooDeep, ◌>>=◌, unexpected, is_nil, Stand, Inner}
+use Rattle.ecma_reading.specs.Source.{Fault, ◌>>=◌, is_nil, Stand}
 use Rattle.ecma_reading.specs.Reading.{readers, finish, read_program, read_list}
 use Rattle.ecma_reading.specs.Modules.{program_by}
-use Rattle.ecma_grammar_slashes.specs.Laws.{IsPattern, IsSlash, SlashesTold}
+use Rattle.ecma_grammar_slashes.specs.Laws.{IsPattern, SlashesTold}
 use Rattle.ecma_grammar_slashes.proofs.Twins.{lm, Parting, Rest, regexps, slashes, slash, on, Twins, never, Told}
 use Rattle.ecma_grammar_slashes.proofs.Expressions.{expr_by_twin}
 use Rattle.ecma_grammar_slashes.proofs.Statements.{pat_by_twin, stmt_from_twin, body_by_twin, class_tail_by_twin}

@@ -1,17 +1,16 @@
 -- Patterns, statements, functions and classes (ECMA-262, clauses 14 and 15): their rules over two such lists.
-use Rattle.std.proofs.Common.{◌≡◌, ◌≤◌, ℕ, zero, suc, Bool, true, false, not, ◌&&◌, ◌||◌, ◌==◌, cond, nat_le, nat_lt, if◌then◌else◌, List, [], ◌∷◌, ◌++◌, Option, Some, None, Result, Ok, Err, refl, sym, ap, ◌∙◌, subst, true≢false, arith}
+use Rattle.std.proofs.Common.{◌≡◌, ℕ, Bool, true, false, not, ◌&&◌, ◌||◌, ◌==◌, cond, if◌then◌else◌, List, [], ◌∷◌, ◌++◌, Result, Ok, refl, sym, ap, ◌∙◌, true≢false}
 use Rattle.ecma_token.specs.declared.place.Span.{Span}
-use Rattle.ecma_token.specs.Kinds.{end_kind, dot_dot_dot_kind, left_paren_kind, right_paren_kind, left_bracket_kind, right_bracket_kind, left_brace_kind, right_brace_kind, semicolon_kind, comma_kind, colon_kind, hash_kind, mul_kind, assign_kind, await_kind, break_kind, case_kind, catch_kind, continue_kind, debugger_kind, default_kind, do_kind, else_kind, finally_kind, for_kind, function_kind, if_kind, return_kind, switch_kind, throw_kind, try_kind, var_kind, let_kind, const_kind, while_kind, with_kind, class_kind, extends_kind, in_kind, async_kind, of_kind, using_kind, static_kind, accessor_kind, get_kind, set_kind}
-use Rattle.ecma_tree.specs.Tree.{Tree, none, more, pack, plain_method, block_stmt, empty_stmt, debugger_stmt, with_stmt, return_stmt, labeled_stmt, break_stmt, continue_stmt, if_stmt, switch_stmt, switch_case, throw_stmt, try_stmt, catch_clause, while_stmt, do_while_stmt, for_stmt, for_in_stmt, for_of_stmt, expr_stmt, class_decl, fn_decl, var_decl, using_decl, var_declarator, function, class, constructor, class_method, private_method, class_prop, private_prop, static_block, auto_accessor, ident, binding_ident, array_pat, rest_pat, object_pat, assign_pat, key_value_pat_prop, assign_pat_prop, absent, hole}
+use Rattle.ecma_token.specs.Kinds.{dot_dot_dot_kind, left_paren_kind, right_paren_kind, left_bracket_kind, right_bracket_kind, left_brace_kind, right_brace_kind, semicolon_kind, comma_kind, colon_kind, hash_kind, mul_kind, assign_kind, await_kind, break_kind, case_kind, catch_kind, continue_kind, debugger_kind, default_kind, do_kind, else_kind, finally_kind, for_kind, function_kind, if_kind, return_kind, switch_kind, throw_kind, try_kind, var_kind, let_kind, const_kind, while_kind, with_kind, class_kind, extends_kind, in_kind, async_kind, of_kind, using_kind, static_kind, accessor_kind, get_kind, set_kind}
+use Rattle.ecma_tree.specs.Tree.{Tree, none, more, pack, block_stmt, labeled_stmt, break_stmt, continue_stmt, switch_case, try_stmt, catch_clause, do_while_stmt, for_stmt, for_in_stmt, for_of_stmt, expr_stmt, class_decl, fn_decl, var_decl, using_decl, var_declarator, function, static_block, auto_accessor, ident, binding_ident, rest_pat, assign_pat, key_value_pat_prop, assign_pat_prop, absent}
 use Rattle.ecma_syntax.specs.Input.{Place, Input, Code, kind, kind2, brk, brk2, lo, dots_at, span, rest, barred, is_strict, with_in, without_in, in_list, alone, in_body, in_field, in_static, turned_strict}
-use Rattle.ecma_syntax.specs.Operators.{expression_level, assignment_level, new_level, starts_key, may_name, plain_end, let_end}
-use Rattle.ecma_syntax.specs.Shape.{ends, is_name, is_absent, is_private, is_structured, is_bare_declarator, is_default_case, is_use_strict, is_directive, is_plain_function, constructs, field_end, declarators_end, is_statement}
-use Rattle.ecma_reading.specs.Source.{Fault, unexpected, ◌>>=◌, Machine, Stand, input, past, operand, turned, bound, spanned, at, ended, eat, eat_word, name, any_word, end_of, Step, go_on, finished, iterate, Inner}
-use Rattle.ecma_reading.specs.Cover.{to_head}
-use Rattle.ecma_reading.specs.Expressions.{first, key_by, private_by, star, function_by, setter_parameter, is_async_head}
-use Rattle.ecma_reading.specs.Statements.{initial_pat, after_item, array_item, array_pat_by, keyed_item, named_item, pattern_prop, object_item, object_pat_by, pat_by, block_step, block_rest, block_by, body_item, body_step, body_by, declarator_by, declarator_step, declarators_by, starts_let, starts_variables, variables_by, starts_using, starts_await_using, using_by, function_decl_by, class_decl_by, field_value, class_key, method_tree, constructor_of, class_method_by, class_getter, class_setter, accessor_by, field_or_method, generator_member, member_rest, starts_static, static_by, member_step, members_by, class_tail_by, in_parens, sub_by, with_by, while_by, do_by, branched, else_by, if_step, if_by, ends_here, return_by, throw_by, label_by, jump_by, debugger_by, case_step, case_rest, case_by, has_default, cases_step, switch_by, catch_by, finally_by, try_by, clause_by, for_rest, over_rest, in_rest, of_rest, one_bare, head_rest, for_variables, for_using, for_expression_rest, for_expression, for_head, for_by, statement_class, labelled_by, expression_by, starts_async, keyword_stmt, stmt_by, stmt_from, Body, Chain}
-use Rattle.ecma_grammar_slashes.proofs.Expressions.{literal_by_twin, element_by_twin, after_element_twin, element_step_twin, elements_by_twin, array_by_twin, computed_by_twin, key_by_twin, private_by_twin, parameter_by_twin, parameter_step_twin, parameters_by_twin, function_by_twin, setter_parameter_twin, star_twin, method_prop_by_twin, getter_by_twin, setter_by_twin, prop_rest_twin, prop_by_twin, prop_step_twin, object_by_twin, quasi_end_twin, quasi_step_twin, template_by_twin, arrow_by_twin, group_end_twin, group_by_twin, ident_end_twin, arguments_by_twin, async_group_twin, function_expr_name_twin, function_expr_by_twin, async_by_twin, class_expr_by_twin, new_end_twin, callee_by_twin, new_by_twin, super_end_twin, import_by_twin, unary_by_twin, update_by_twin, await_by_twin, yield_end_twin, yield_by_twin, word_by_twin, fixed_twin, keyword_by_twin, prefix_by_twin, member_name_twin, member_by_twin, index_by_twin, call_by_twin, chain_by_twin, cond_by_twin, assign_by_twin, binary_by_twin, step_by_twin, loop_step_twin, loop_by_twin, private_in_twin, expr_from_twin, expr_by_twin, key_nil}
-use Rattle.ecma_grammar_slashes.proofs.Twins.{lm, Parting, regexps, slashes, slashes_by, on, Twins, twin_ok, never, unanswered, twin_then, twin_if, twin_no, cut, parted, same, Plain, plain_at, lo_same, no_and, no_and2, off_first, off_left, off_deep, end_as, no_third, eat_on, eat_at, eat_none, word_on, word_at, word_none, name_on, name_at, name_none, any_on, any_at, any_none, end_at, twin_pure, iterate_twin, Told}
+use Rattle.ecma_syntax.specs.Operators.{expression_level, assignment_level, new_level, starts_key, plain_end}
+use Rattle.ecma_syntax.specs.Shape.{ends, is_name, is_absent, is_private, is_structured, is_default_case, is_use_strict, is_plain_function, constructs, field_end, declarators_end, is_statement}
+use Rattle.ecma_reading.specs.Source.{Fault, unexpected, ◌>>=◌, Stand, input, past, operand, spanned, at, eat, name, end_of, go_on, finished, Inner}
+use Rattle.ecma_reading.specs.Expressions.{first, key_by, function_by, is_async_head}
+use Rattle.ecma_reading.specs.Statements.{initial_pat, after_item, array_item, array_pat_by, keyed_item, named_item, pattern_prop, object_item, object_pat_by, pat_by, block_step, block_rest, block_by, body_item, body_step, body_by, declarator_by, declarator_step, declarators_by, starts_let, starts_variables, variables_by, starts_using, starts_await_using, using_by, function_decl_by, class_decl_by, field_value, class_key, method_tree, class_method_by, class_getter, class_setter, accessor_by, field_or_method, generator_member, member_rest, starts_static, static_by, member_step, members_by, class_tail_by, in_parens, sub_by, with_by, while_by, do_by, branched, else_by, if_step, if_by, ends_here, return_by, throw_by, label_by, jump_by, debugger_by, case_step, case_rest, case_by, has_default, cases_step, switch_by, catch_by, finally_by, try_by, clause_by, for_rest, over_rest, in_rest, of_rest, one_bare, head_rest, for_variables, for_using, for_expression_rest, for_expression, for_head, for_by, statement_class, labelled_by, expression_by, starts_async, keyword_stmt, stmt_by, stmt_from, Body, Chain}
+use Rattle.ecma_grammar_slashes.proofs.Expressions.{key_by_twin, private_by_twin, function_by_twin, setter_parameter_twin, star_twin}
+use Rattle.ecma_grammar_slashes.proofs.Twins.{lm, Parting, regexps, slashes, slashes_by, on, Twins, twin_ok, never, twin_then, twin_if, twin_no, cut, parted, same, Plain, plain_at, lo_same, no_and, no_and2, off_first, off_left, off_deep, end_as, eat_on, eat_at, eat_none, word_on, word_at, word_none, name_on, name_none, end_at, twin_pure, iterate_twin, Told}
 
 module _ (w : Parting) (inner : Inner Input) (told : Told w inner) where
   pub initial_pat_twin : (c : Code) (starto : List ℕ) (startn : ℕ) (startl : List Place) (p : Tree) (o : List ℕ) (n : ℕ) (l : List Place) → Twins w (initial_pat lm inner c (on starto startn ((startl ++ regexps w))) p (on o n ((l ++ regexps w)))) (initial_pat lm inner c (on starto startn ((startl ++ slashes w))) p (on o n ((l ++ slashes w))))
@@ -110,7 +109,7 @@ module _ (w : Parting) (inner : Inner Input) (told : Told w inner) where
 
   pub function_decl_by_twin : (c : Code) (starto : List ℕ) (startn : ℕ) (startp : Place) (startl : List Place) (async : Bool) (o : List ℕ) (n1 : ℕ) (l : List Place) → Twins w (function_decl_by lm inner c (on starto startn (startp ∷ (startl ++ regexps w))) async (on o n1 ((l ++ regexps w)))) (function_decl_by lm inner c (on starto startn (startp ∷ (startl ++ slashes w))) async (on o n1 ((l ++ slashes w))))
   unfolding function_decl_by
-  function_decl_by_twin c starto startn startp startl async o n1 l = word_at w c function_kind (refl, refl, refl) o n1 l _ _ (λ rn rl. twin_then w _ _ _ _ (star_twin w inner told  o rn rl) (λ gv go gn gl. cut w (λ z. Twins w (name lm c (on go gn ((z ++ regexps w))) >>= λ n. function_by lm inner c (lo (input lm (on starto startn (startp ∷ (startl ++ regexps w))))) gv async n.1 >>= λ f. Ok (fn_decl (spanned lm (on starto startn (startp ∷ (startl ++ regexps w))) f.1) (ident (first lm inner (on go gn ((z ++ regexps w)))) n.0) f.0, f.1)) (name lm c (on go gn ((z ++ slashes w))) >>= λ n. function_by lm inner c (lo (input lm (on starto startn (startp ∷ (startl ++ slashes w))))) gv async n.1 >>= λ f. Ok (fn_decl (spanned lm (on starto startn (startp ∷ (startl ++ slashes w))) f.1) (ident (first lm inner (on go gn ((z ++ slashes w)))) n.0) f.0, f.1))) gl (name_none w c go gn _ _) (λ gp gq. name_on w c go gn gp gq _ _ (λ nv. twin_then w _ _ _ _ (function_by_twin w inner told c (lo (input lm (on starto startn (startp ∷ (startl ++ regexps w))))) gv async go gp.spot.hi gq) (λ fv fo fn fl. twin_ok w _ _ fo fn fl refl)))))
+  function_decl_by_twin c starto startn startp startl async o n1 l = word_at w c function_kind (refl, refl, refl) o n1 l _ _ (λ rn rl. twin_then w _ _ _ _ (star_twin w inner told o rn rl) (λ gv go gn gl. cut w (λ z. Twins w (name lm c (on go gn ((z ++ regexps w))) >>= λ n. function_by lm inner c (lo (input lm (on starto startn (startp ∷ (startl ++ regexps w))))) gv async n.1 >>= λ f. Ok (fn_decl (spanned lm (on starto startn (startp ∷ (startl ++ regexps w))) f.1) (ident (first lm inner (on go gn ((z ++ regexps w)))) n.0) f.0, f.1)) (name lm c (on go gn ((z ++ slashes w))) >>= λ n. function_by lm inner c (lo (input lm (on starto startn (startp ∷ (startl ++ slashes w))))) gv async n.1 >>= λ f. Ok (fn_decl (spanned lm (on starto startn (startp ∷ (startl ++ slashes w))) f.1) (ident (first lm inner (on go gn ((z ++ slashes w)))) n.0) f.0, f.1))) gl (name_none w c go gn _ _) (λ gp gq. name_on w c go gn gp gq _ _ (λ nv. twin_then w _ _ _ _ (function_by_twin w inner told c (lo (input lm (on starto startn (startp ∷ (startl ++ regexps w))))) gv async go gp.spot.hi gq) (λ fv fo fn fl. twin_ok w _ _ fo fn fl refl)))))
 
   pub class_decl_by_twin : (c : Code) (o : List ℕ) (n1 : ℕ) (l : List Place) → Twins w (class_decl_by lm inner c (on o n1 ((l ++ regexps w)))) (class_decl_by lm inner c (on o n1 ((l ++ slashes w))))
   unfolding class_decl_by
@@ -124,7 +123,7 @@ module _ (w : Parting) (inner : Inner Input) (told : Told w inner) where
 
   pub class_key_twin : (c : Code) (o : List ℕ) (n : ℕ) (l : List Place) → Twins w (class_key lm inner c (on o n ((l ++ regexps w)))) (class_key lm inner c (on o n ((l ++ slashes w))))
   unfolding class_key
-  class_key_twin c o n l = twin_if w (at lm hash_kind (on o n ((l ++ regexps w)))) (at lm hash_kind (on o n ((l ++ slashes w)))) (same w (λ z. at lm hash_kind (on o n z)) refl refl (λ p. refl) (λ p. refl) (λ p q. refl) (λ p q. refl) (λ p q r l m n. refl) l) _ _ _ _ (λ yes. private_by_twin w inner told  o n l) (λ no. key_by_twin w inner told c o n l)
+  class_key_twin c o n l = twin_if w (at lm hash_kind (on o n ((l ++ regexps w)))) (at lm hash_kind (on o n ((l ++ slashes w)))) (same w (λ z. at lm hash_kind (on o n z)) refl refl (λ p. refl) (λ p. refl) (λ p q. refl) (λ p q. refl) (λ p q r l m n. refl) l) _ _ _ _ (λ yes. private_by_twin w inner told o n l) (λ no. key_by_twin w inner told c o n l)
 
   -- where they part, no key of a class stands, and so no member
   pub class_key_nil : {A : Type 0} (c : Code) (o : List ℕ) (n : ℕ) (f : Tree × Stand Input → Result (A × Stand Input) Fault) (y : Result (A × Stand Input) Fault) → Twins w (class_key lm inner c (on o n (regexps w)) >>= f) y
@@ -156,7 +155,7 @@ module _ (w : Parting) (inner : Inner Input) (told : Told w inner) where
 
   pub generator_member_twin : (c : Code) (starto : List ℕ) (startn : ℕ) (startp : Place) (startl : List Place) (is_static : Bool) (async : Bool) (o : List ℕ) (n : ℕ) (l : List Place) → Twins w (generator_member lm inner c (on starto startn (startp ∷ (startl ++ regexps w))) is_static async (on o n ((l ++ regexps w)))) (generator_member lm inner c (on starto startn (startp ∷ (startl ++ slashes w))) is_static async (on o n ((l ++ slashes w))))
   unfolding generator_member
-  generator_member_twin c starto startn startp startl is_static async o n l = twin_then w _ _ _ _ (star_twin w inner told  o n l) (λ gv go gn gl. twin_then w _ _ _ _ (class_key_twin c go gn gl) (λ kv ko kn kl. class_method_by_twin c starto startn startp startl is_static gv async kv ko kn kl))
+  generator_member_twin c starto startn startp startl is_static async o n l = twin_then w _ _ _ _ (star_twin w inner told o n l) (λ gv go gn gl. twin_then w _ _ _ _ (class_key_twin c go gn gl) (λ kv ko kn kl. class_method_by_twin c starto startn startp startl is_static gv async kv ko kn kl))
 
   pub member_rest_twin : (c : Code) (starto : List ℕ) (startn : ℕ) (startp : Place) (startl : List Place) (is_static : Bool) (o : List ℕ) (n : ℕ) (l : List Place) → Twins w (member_rest lm inner c (on starto startn (startp ∷ (startl ++ regexps w))) is_static (on o n ((l ++ regexps w)))) (member_rest lm inner c (on starto startn (startp ∷ (startl ++ slashes w))) is_static (on o n ((l ++ slashes w))))
   unfolding member_rest

@@ -1,10 +1,9 @@
 -- Two readings over lists that begin alike, and part where one has a regular expression and the other a slash.
-use Rattle.std.proofs.Common.{◌≡◌, ℕ, zero, suc, ◌==◌, Bool, true, false, not, ◌&&◌, ◌||◌, cond, eqb, nat_le, ltb, if◌then◌else◌, List, [], ◌∷◌, ◌++◌, length, Option, Some, None, Result, Ok, Err, refl, sym, ap, ◌∙◌, subst, true≢false}
+use Rattle.std.proofs.Common.{◌≡◌, ℕ, zero, suc, Bool, true, false, not, ◌&&◌, cond, eqb, nat_le, List, [], ◌∷◌, ◌++◌, Option, Result, Ok, Err, refl, sym, ap, ◌∙◌, subst, true≢false}
 use Rattle.ecma_token.specs.declared.context.Context.{Context}
 use Rattle.ecma_token.specs.declared.error.SyntaxError.{SyntaxError}
 use Rattle.ecma_token.specs.Kinds.{regex_kind, div_kind, div_assign_kind, semicolon_kind}
 use Rattle.ecma_token.specs.Tokens.{Bare, Pattern}
-use Rattle.ecma_tree.specs.Tree.{Tree}
 use Rattle.ecma_syntax.specs.Input.{Place, Input, Code, kind, lo, text, is_word, barred}
 use Rattle.ecma_syntax.specs.Operators.{assignment_level, binary_level, goes_expr, pauses, closed_end, other_end}
 use Rattle.ecma_reading.specs.Source.{Fault, ◌>>=◌, unexpected, Machine, list_machine, Stand, Read, input, past, at, bound, eat, eat_word, is_name, name, any_word, end_of, Step, go_on, finished, next_by, iterate_n, iterate, Inner}

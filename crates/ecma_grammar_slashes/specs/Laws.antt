@@ -1,5 +1,5 @@
 -- After the same tokens a slash is an operator or opens a regular expression, never both: the statement of the law.
-use Rattle.std.specs.Prelude.{◌≡◌, ◌⊎◌, ◌==◌, ℕ, Bool, List, ◌∷◌, ◌++◌, Ok}
+use Rattle.std.specs.Prelude.{◌≡◌, ◌⊎◌, ℕ, Bool, List, ◌∷◌, ◌++◌, Ok}
 use Rattle.ecma_token.specs.declared.syntax.EsSyntax.{EsSyntax}
 use Rattle.ecma_token.specs.Kinds.{regex_kind, div_kind, div_assign_kind}
 use Rattle.ecma_token.specs.Tokens.{Bare, Pattern}

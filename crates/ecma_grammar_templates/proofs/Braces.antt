@@ -1,15 +1,15 @@
 -- What a tree spells keeps the braces and templates that are open: by induction on the tree, a line a node.
-use Rattle.std.proofs.Common.{◌≡◌, ◌⊎◌, inl, inr, ℕ, Bool, true, false, ◌||◌, ◌&&◌, if◌then◌else◌, List, [], ◌∷◌, Option, Some, None, refl, sym, ap, ◌∙◌, subst, true≢false, arith}
+use Rattle.std.proofs.Common.{◌≡◌, Bool, true, false, ◌&&◌, if◌then◌else◌, List, [], ◌∷◌, Option, Some, None, refl, sym, ap, ◌∙◌, subst, true≢false, arith}
 use Rattle.ecma_token.specs.declared.place.Span.{Span}
 use Rattle.ecma_token.specs.Kinds.{null_kind, true_kind, false_kind, break_kind, continue_kind, this_kind, template_kind}
 use Rattle.ecma_tree.specs.Tree.{Tree, Trees, script, es_module, import_decl, export_decl, named_export, export_default_decl, export_default_expr, export_all, import_named_specifier, import_default_specifier, import_star_as_specifier, export_namespace_specifier, export_named_specifier, block_stmt, empty_stmt, debugger_stmt, with_stmt, return_stmt, labeled_stmt, break_stmt, continue_stmt, if_stmt, switch_stmt, switch_case, throw_stmt, try_stmt, catch_clause, while_stmt, do_while_stmt, for_stmt, for_in_stmt, for_of_stmt, expr_stmt, class_decl, fn_decl, var_decl, using_decl, var_declarator, function, param, class, constructor, class_method, private_method, class_prop, private_prop, static_block, auto_accessor, ident_name, computed_prop_name, private_name, this_expr, array_lit, object_lit, fn_expr, unary_expr, update_expr, bin_expr, assign_expr, member_expr, super_prop_expr, cond_expr, call_expr, new_expr, seq_expr, ident, tpl, tpl_element, tagged_tpl, arrow_expr, class_expr, yield_expr, meta_prop_expr, await_expr, paren_expr, opt_chain_expr, opt_call, super, import, expr_or_spread, spread_element, key_value_prop, assign_prop, getter_prop, setter_prop, method_prop, str_lit, bool_lit, null_lit, number_lit, big_int_lit, regex_lit, binding_ident, array_pat, rest_pat, object_pat, assign_pat, key_value_pat_prop, assign_pat_prop, expr_pat, list, absent, none, more}
 use Rattle.ecma_syntax.specs.Input.{Place, Input, Code, template_goal, turned_strict}
 use Rattle.ecma_syntax.specs.Operators.{expression_level, assignment_level}
-use Rattle.ecma_syntax.specs.Shape.{is_private, is_item, is_module_decl, function_parts, class_span, is_key, declarators_end, FunctionParts, is_use_strict, is_directive}
-use Rattle.ecma_grammar.specs.Parts.{part, Part, is_quasi, is_module_item, Items, AtEnd}
+use Rattle.ecma_syntax.specs.Shape.{is_private, is_item, function_parts, class_span, is_key, declarators_end, FunctionParts, is_use_strict, is_directive}
+use Rattle.ecma_grammar.specs.Parts.{part, Part, is_module_item, Items, AtEnd}
 use Rattle.ecma_grammar.specs.Grammar.{Spells, parts}
-use Rattle.ecma_grammar_templates.specs.Laws.{Region, Outside, Inside, Behind, over, ProgramsMatch}
-use Rattle.ecma_grammar_templates.proofs.Walks.{Goes, Walked, AllWalked, proper, sorted, plain, Plain, takes_in}
+use Rattle.ecma_grammar_templates.specs.Laws.{Outside, Inside, Behind, over, ProgramsMatch}
+use Rattle.ecma_grammar_templates.proofs.Walks.{Goes, AllWalked, proper, sorted, plain, Plain, takes_in}
 use Rattle.ecma_grammar_templates.proofs.Expressions.{accessed_name_walk, array_literal_walk, assignment_walk, await_walk, big_int_literal_walk, binary_walk, bracketed_walk, call_walk, chain_call_walk, chain_member_walk, conditional_walk, cover_initialized_name_walk, dotted_walk, element_walk, identifier_name_walk, identifier_walk, import_call_walk, keyword_walk, member_walk, meta_property_walk, new_bare_walk, new_with_walk, numeric_literal_walk, object_literal_walk, parenthesized_expression_walk, private_identifier_walk, property_value_walk, regular_expression_literal_walk, sequence_walk, spread_walk, string_literal_walk, super_call_walk, super_property_walk, tagged_template_walk, template_literal_walk, unary_walk, update_walk, yield_bare_walk, yield_walk, Quasi, AllQuasis}
 use Rattle.ecma_grammar_templates.proofs.Patterns.{array_pattern_walk, initialised_walk, keyed_item_walk, named_item_walk, object_pattern_walk, rest_walk}
 use Rattle.ecma_grammar_templates.proofs.Functions.{arrow_block_walk, arrow_expression_walk, auto_accessor_walk, class_declaration_walk, class_expression_walk, class_method_walk, class_tail_walk, constructor_walk, field_walk, function_declaration_walk, function_expression_walk, function_walk, getter_walk, object_method_walk, parameter_walk, setter_walk, static_block_walk}

@@ -1,18 +1,17 @@
 -- Expressions: what each production consumes keeps the braces and templates that are open.
-use Rattle.std.proofs.Common.{◌≡◌, ◌≤◌, ◌<◌, ◌⊎◌, inl, inr, ℕ, ◌+◌, Bool, true, false, not, ◌&&◌, ◌||◌, ◌==◌, cond, nat_le, List, [], ◌∷◌, Option, Some, None, refl, sym, subst, arith}
+use Rattle.std.proofs.Common.{◌≡◌, ◌≤◌, ◌⊎◌, inl, inr, ℕ, ◌+◌, Bool, true, false, ◌&&◌, ◌||◌, ◌==◌, cond, nat_le, List, [], ◌∷◌, Option, Some, None, refl, sym, subst, arith}
 use Rattle.std.proofs.lemmas.Bool.{eqb-true, leb-true}
 use Rattle.ecma_number.specs.Numbers.{SpecNumber}
 use Rattle.ecma_token.specs.declared.place.Span.{Span}
 use Rattle.ecma_tree.specs.Tree.{Tree}
-use Rattle.ecma_token.specs.Kinds.{exp_kind, nullish_coalescing_kind, in_kind, hash_kind, dot_kind, dot_dot_dot_kind, bang_kind, left_paren_kind, right_paren_kind, left_bracket_kind, right_bracket_kind, left_brace_kind, right_brace_kind, back_quote_kind, template_kind, colon_kind, dollar_brace_kind, question_mark_kind, plus_plus_kind, minus_minus_kind, tilde_kind, str_kind, regex_kind, num_kind, big_int_kind, add_kind, sub_kind, mul_kind, assign_kind, await_kind, new_kind, super_kind, import_kind, yield_kind, typeof_kind, void_kind, delete_kind, meta_kind, target_kind}
-use Rattle.ecma_token.specs.Tokens.{Quoted, Piece, Pattern, Numeral, BigNumeral}
-use Rattle.ecma_syntax.specs.Input.{has_in, Input, Code, Takes, TakesWord, TakesAnyWord, TakesName, TakesIn, Spans, first_span, brk, lo, content, with_in, assigning, template_goal, template_end_goal}
-use Rattle.ecma_syntax.specs.Operators.{exponent_level, bit_or_level, binary_level, update_level, expression_level, assignment_level, coalesce_level, unary_level, new_level, call_level, member_level, is_assign_op, right_level, operates, goes_expr, other_end}
-use Rattle.ecma_syntax.specs.Shape.{level, fits_left, is_chain, is_target, is_element, is_spread, is_prop, is_key, is_word_name, is_private, is_cooked, is_tail}
-use Rattle.ecma_grammar.specs.Parts.{is_ident, is_quasi, Part, By, IsEmpty, Expr, Sorted, Maybe, Listed, CommaThen, Commas, Items, Ends, AtEnd, is_module_item}
-use Rattle.ecma_grammar.specs.Expressions.{Keyword, Identifier, IdentifierName, PrivateIdentifier, StringLiteral, NumericLiteral, BigIntLiteral, RegularExpressionLiteral, Element, ArrayLiteral, ObjectLiteral, PropertyValue, CoverInitializedName, Spread, Bracketed, Characters, TemplateSpans, TemplateLiteral, ParenthesizedExpression, AccessedName, Dotted, Member, SuperProperty, ArgumentList, Arguments, Call, SuperCall, ImportArguments, ImportCall, NewWith, NewBare, Optional, ChainMember, ChainCall, TaggedTemplate, MetaProperty, Update, Unary, Await, Binary, Conditional, Assignment, Sequence, YieldBare, Yield, is_at_most_one, is_plain_element, is_update_op, is_unary_op}
+use Rattle.ecma_token.specs.Kinds.{exp_kind, nullish_coalescing_kind, in_kind, hash_kind, dot_kind, dot_dot_dot_kind, left_paren_kind, right_paren_kind, left_bracket_kind, right_bracket_kind, right_brace_kind, back_quote_kind, colon_kind, dollar_brace_kind, question_mark_kind, str_kind, regex_kind, num_kind, big_int_kind, mul_kind, assign_kind, await_kind, new_kind, super_kind, import_kind, yield_kind, meta_kind, target_kind}
+use Rattle.ecma_syntax.specs.Input.{has_in, Input, Code, with_in, assigning, template_end_goal}
+use Rattle.ecma_syntax.specs.Operators.{exponent_level, bit_or_level, binary_level, update_level, expression_level, assignment_level, coalesce_level, unary_level, new_level, call_level, member_level, is_assign_op, right_level, operates}
+use Rattle.ecma_syntax.specs.Shape.{level, fits_left, is_chain, is_element, is_prop, is_key, is_word_name, is_private}
+use Rattle.ecma_grammar.specs.Parts.{is_ident, is_quasi, Part, Expr, Sorted}
+use Rattle.ecma_grammar.specs.Expressions.{Keyword, Identifier, IdentifierName, PrivateIdentifier, StringLiteral, NumericLiteral, BigIntLiteral, RegularExpressionLiteral, Element, ArrayLiteral, ObjectLiteral, PropertyValue, CoverInitializedName, Spread, Bracketed, TemplateSpans, TemplateLiteral, ParenthesizedExpression, AccessedName, Dotted, Member, SuperProperty, ArgumentList, Arguments, Call, SuperCall, ImportArguments, ImportCall, NewWith, NewBare, Optional, ChainMember, ChainCall, TaggedTemplate, MetaProperty, Update, Unary, Await, Binary, Conditional, Assignment, Sequence, YieldBare, Yield, is_update_op, is_unary_op}
 use Rattle.ecma_grammar_templates.specs.Laws.{Outside, Inside, Behind}
-use Rattle.ecma_grammar_templates.proofs.Walks.{Goes, go, stay, Plain, plain_by, plain, a_word, takes, takes_word, takes_any, takes_name, opens, closes, quotes, goes_on, takes_in, proper, sorted, off, placed, an_item, a_target, leveled, Walked, AllWalked, either, one_of, maybe, paused, listed, comma_then, commas, items}
+use Rattle.ecma_grammar_templates.proofs.Walks.{Goes, go, Plain, plain_by, plain, takes, takes_word, takes_any, takes_name, opens, closes, quotes, goes_on, takes_in, proper, sorted, off, a_target, leveled, Walked, AllWalked, either, one_of, listed, comma_then}
 
 right_some : (k : ℕ) → 1 ≤ right_level k
 right_some k = by_test (k == exp_kind) (k == nullish_coalescing_kind)

@@ -1,15 +1,15 @@
 -- Functions and classes: what each production consumes keeps the braces and templates that are open.
-use Rattle.std.proofs.Common.{◌≡◌, ◌≤◌, ◌<◌, ◌⊎◌, inl, inr, ℕ, ◌+◌, Bool, true, false, not, ◌&&◌, ◌||◌, ◌==◌, cond, nat_le, List, [], ◌∷◌, Option, Some, None, refl, sym, subst, arith}
+use Rattle.std.proofs.Common.{◌≡◌, ◌⊎◌, inl, inr, ℕ, Bool, true, false, ◌==◌, List, [], ◌∷◌, Option, Some, None, refl, sym, subst, arith}
 use Rattle.ecma_token.specs.declared.place.Span.{Span}
-use Rattle.ecma_token.specs.Kinds.{arrow_kind, left_paren_kind, right_paren_kind, left_brace_kind, right_brace_kind, mul_kind, assign_kind, function_kind, class_kind, extends_kind, accessor_kind, async_kind, get_kind, set_kind, static_kind}
+use Rattle.ecma_token.specs.Kinds.{arrow_kind, left_paren_kind, right_paren_kind, mul_kind, assign_kind, function_kind, class_kind, extends_kind, accessor_kind, async_kind, get_kind, set_kind, static_kind}
 use Rattle.ecma_tree.specs.Tree.{Tree, plain_method}
-use Rattle.ecma_syntax.specs.Input.{assigning, Input, Code, Takes, TakesWord, Spans, kind, brk, with_in, by, binding, setting, turned_strict, in_body, in_arrow, in_field, in_static, in_list}
+use Rattle.ecma_syntax.specs.Input.{assigning, Input, Code, kind, with_in, by, binding, setting, turned_strict, in_body, in_arrow, in_field, in_static, in_list}
 use Rattle.ecma_syntax.specs.Operators.{assignment_level, new_level}
-use Rattle.ecma_syntax.specs.Shape.{ends, is_absent, is_bound_name, is_item_pat, is_param, is_rest, is_key, is_any_key, is_item, is_member, constructs, field_end, FunctionParts}
-use Rattle.ecma_grammar.specs.Parts.{is_ident, is_quasi, Part, By, IsEmpty, Expr, Sorted, Maybe, Listed, CommaThen, Commas, Items, Ends, AtEnd, is_module_item}
+use Rattle.ecma_syntax.specs.Shape.{ends, is_absent, is_bound_name, is_param, is_key, is_any_key, is_item, is_member, constructs, field_end, FunctionParts}
+use Rattle.ecma_grammar.specs.Parts.{is_ident, Part, Sorted}
 use Rattle.ecma_grammar.specs.Functions.{Parameter, Parameters, SetParameter, Closes, Body, Function, Star, Async, FunctionHead, FunctionDeclaration, Named, FunctionExpression, ArrowPattern, BareName, ArrowParameters, ArrowHead, ArrowBlock, ArrowExpression, MethodHead, Method, ObjectMethod, Getter, Setter, Heritage, Members, ClassTail, ClassDeclaration, ClassExpression, Static, Constructor, ClassMethod, Initial, Field, AutoAccessor, StaticBlock}
-use Rattle.ecma_grammar_templates.specs.Laws.{Outside, Inside, Behind}
-use Rattle.ecma_grammar_templates.proofs.Walks.{Goes, go, stay, Plain, plain_by, plain, a_word, takes, takes_word, takes_any, takes_name, opens, closes, quotes, goes_on, takes_in, proper, sorted, off, placed, an_item, a_target, leveled, Walked, AllWalked, either, one_of, maybe, paused, listed, comma_then, commas, items}
+use Rattle.ecma_grammar_templates.specs.Laws.{Outside}
+use Rattle.ecma_grammar_templates.proofs.Walks.{Goes, go, stay, Plain, plain, takes, takes_word, opens, closes, proper, sorted, an_item, leveled, Walked, AllWalked, either, one_of, maybe, paused, listed, items}
 
 pub parameter_walk : (c : Code) (pl : c.placed ≡ true) (s : Span) (decorators : List Part) (decoratorsw : AllWalked decorators) (p : Part) (pw : Walked p) (gs : List Bool) (ts r : Input) → Parameter c s decorators p ts r → Goes (Outside gs) (Outside gs) ts r
 parameter_walk c pl s decorators decoratorsw p pw gs ts r h = pw (binding (with_in c)) pl gs ts r (an_item true p.tree h.1) h.2

@@ -1,16 +1,15 @@
 -- Modules and programs: what each production consumes keeps the braces and templates that are open.
-use Rattle.std.proofs.Common.{◌≡◌, ◌≤◌, ◌<◌, ◌⊎◌, inl, inr, ℕ, ◌+◌, Bool, true, false, not, ◌&&◌, ◌||◌, ◌==◌, cond, nat_le, List, [], ◌∷◌, Option, Some, None, refl, sym, subst, arith}
+use Rattle.std.proofs.Common.{◌≡◌, ℕ, Bool, true, false, List, [], ◌∷◌, Option, Some, None, refl, arith}
 use Rattle.ecma_token.specs.declared.place.Span.{Span}
-use Rattle.ecma_token.specs.Kinds.{left_brace_kind, right_brace_kind, comma_kind, mul_kind, shebang_kind, default_kind, function_kind, with_kind, class_kind, export_kind, import_kind, as_kind, assert_kind, async_kind, from_kind}
-use Rattle.ecma_token.specs.Tokens.{Line}
+use Rattle.ecma_token.specs.Kinds.{right_brace_kind, comma_kind, mul_kind, shebang_kind, default_kind, with_kind, export_kind, import_kind, as_kind, assert_kind, from_kind}
 use Rattle.ecma_tree.specs.Tree.{Tree}
-use Rattle.ecma_syntax.specs.Input.{assigning, Input, Code, Takes, TakesWord, TakesAnyWord, Spans, kind, kind2, brk, brk2, content, in_list}
+use Rattle.ecma_syntax.specs.Input.{assigning, Input, Code, in_list}
 use Rattle.ecma_syntax.specs.Operators.{assignment_level, exports_end, source_end, plain_end}
 use Rattle.ecma_syntax.specs.Shape.{ends, is_absent, is_string, is_exportable, is_default_import, is_star_import, is_named_import, is_star_export, is_named_export, is_default_decl, export_name, is_attributes}
-use Rattle.ecma_grammar.specs.Parts.{is_ident, is_quasi, Part, By, IsEmpty, Expr, Sorted, Maybe, Listed, CommaThen, Commas, Items, Ends, AtEnd, is_module_item}
-use Rattle.ecma_grammar.specs.Modules.{ExportName, NamedImport, DefaultImport, StarImport, NamedImports, AfterDefault, ImportClause, Attributes, Source, Import, NamedExport, StarExport, NamedExports, ExportList, ExportStarAs, Specified, Exports, ExportAll, ExportDeclaration, ExportDefault, DefaultDeclaration, DefaultExpression, Hashbang, Program, starts_default}
-use Rattle.ecma_grammar_templates.specs.Laws.{Outside, Inside, Behind}
-use Rattle.ecma_grammar_templates.proofs.Walks.{Goes, go, stay, Plain, plain_by, plain, a_word, takes, takes_word, takes_any, takes_name, opens, closes, quotes, goes_on, takes_in, proper, sorted, off, placed, an_item, a_target, leveled, Walked, AllWalked, either, one_of, maybe, paused, listed, comma_then, commas, items}
+use Rattle.ecma_grammar.specs.Parts.{is_ident, Part, Sorted, AtEnd}
+use Rattle.ecma_grammar.specs.Modules.{ExportName, NamedImport, DefaultImport, StarImport, NamedImports, AfterDefault, ImportClause, Attributes, Source, Import, NamedExport, StarExport, NamedExports, ExportList, ExportStarAs, Specified, Exports, ExportAll, ExportDeclaration, ExportDefault, DefaultDeclaration, DefaultExpression, Hashbang, Program}
+use Rattle.ecma_grammar_templates.specs.Laws.{Outside}
+use Rattle.ecma_grammar_templates.proofs.Walks.{Goes, go, stay, plain, takes, takes_word, takes_any, opens, closes, proper, sorted, leveled, Walked, AllWalked, either, one_of, paused, listed, items}
 
 pub export_name_walk : (c : Code) (pl : c.placed ≡ true) (a1 : Option (List ℕ × Span)) (p : Part) (pw : Walked p) (gs : List Bool) (ts r : Input) → ExportName c a1 p ts r → Goes (Outside gs) (Outside gs) ts r
 export_name_walk c pl (Some n) p pw gs ts r h = takes_any c pl n.0 gs ts r h.0

@@ -1,15 +1,14 @@
 -- Patterns: what each production consumes keeps the braces and templates that are open.
-use Rattle.std.proofs.Common.{◌≡◌, ◌≤◌, ◌<◌, ◌⊎◌, inl, inr, ℕ, ◌+◌, Bool, true, false, not, ◌&&◌, ◌||◌, ◌==◌, cond, nat_le, List, [], ◌∷◌, Option, Some, None, refl, sym, subst, arith}
+use Rattle.std.proofs.Common.{◌≡◌, Bool, true, false, List, ◌∷◌, refl, arith}
 use Rattle.ecma_token.specs.declared.place.Span.{Span}
-use Rattle.ecma_token.specs.Kinds.{dot_dot_dot_kind, left_bracket_kind, right_bracket_kind, left_brace_kind, right_brace_kind, colon_kind, assign_kind}
-use Rattle.ecma_syntax.specs.Input.{Input, Code, Takes, Spans, lo, dots_at, with_in, assigning}
+use Rattle.ecma_token.specs.Kinds.{dot_dot_dot_kind, left_bracket_kind, right_bracket_kind, right_brace_kind, colon_kind, assign_kind}
+use Rattle.ecma_syntax.specs.Input.{Input, Code, with_in, assigning}
 use Rattle.ecma_syntax.specs.Operators.{assignment_level}
-use Rattle.ecma_syntax.specs.Shape.{is_absent, is_key, is_bound_name, is_place, is_item_pat, is_pattern_prop, is_rest, takes_rest}
-use Rattle.ecma_tree.specs.Tree.{Tree}
-use Rattle.ecma_grammar.specs.Parts.{is_ident, is_quasi, Part, By, IsEmpty, Expr, Sorted, Maybe, Listed, CommaThen, Commas, Items, Ends, AtEnd, is_module_item}
+use Rattle.ecma_syntax.specs.Shape.{is_absent, is_key, is_bound_name, is_pattern_prop}
+use Rattle.ecma_grammar.specs.Parts.{Part}
 use Rattle.ecma_grammar.specs.Patterns.{Item, ArrayPattern, Property, ObjectPattern, Initialised, Rest, KeyedItem, NamedItem}
-use Rattle.ecma_grammar_templates.specs.Laws.{Outside, Inside, Behind}
-use Rattle.ecma_grammar_templates.proofs.Walks.{Goes, go, stay, Plain, plain_by, plain, a_word, takes, takes_word, takes_any, takes_name, opens, closes, quotes, goes_on, takes_in, proper, sorted, off, placed, an_item, a_target, leveled, Walked, AllWalked, either, one_of, maybe, paused, listed, comma_then, commas, items}
+use Rattle.ecma_grammar_templates.specs.Laws.{Outside}
+use Rattle.ecma_grammar_templates.proofs.Walks.{Goes, go, stay, plain, takes, opens, closes, sorted, placed, an_item, leveled, Walked, AllWalked, either, listed}
 
 pub item_walk : (c : Code) (pl : c.placed ≡ true) (p : Part) (pw : Walked p) (gs : List Bool) (ts r : Input) → Item c p ts r → Goes (Outside gs) (Outside gs) ts r
 item_walk c pl p pw gs ts r h = pw (with_in c) pl gs ts r (an_item c.binds p.tree h.0) h.1

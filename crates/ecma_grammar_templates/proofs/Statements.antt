@@ -1,15 +1,14 @@
 -- Statements: what each production consumes keeps the braces and templates that are open.
-use Rattle.std.proofs.Common.{◌≡◌, ◌≤◌, ◌<◌, ◌⊎◌, inl, inr, ℕ, ◌+◌, Bool, true, false, not, ◌&&◌, ◌||◌, ◌==◌, cond, nat_le, List, [], ◌∷◌, Option, Some, None, refl, sym, subst, arith}
+use Rattle.std.proofs.Common.{◌≡◌, ◌≤◌, ℕ, Bool, true, false, not, ◌&&◌, ◌||◌, List, [], ◌∷◌, refl, arith}
 use Rattle.ecma_token.specs.declared.place.Span.{Span}
-use Rattle.ecma_token.specs.Kinds.{left_paren_kind, right_paren_kind, left_bracket_kind, left_brace_kind, right_brace_kind, semicolon_kind, colon_kind, assign_kind, await_kind, case_kind, catch_kind, debugger_kind, default_kind, do_kind, else_kind, finally_kind, for_kind, function_kind, if_kind, return_kind, switch_kind, throw_kind, try_kind, var_kind, let_kind, const_kind, while_kind, with_kind, class_kind, in_kind, async_kind, of_kind, using_kind}
-use Rattle.ecma_tree.specs.Tree.{Tree}
-use Rattle.ecma_syntax.specs.Input.{Input, Code, Takes, TakesWord, Spans, kind, kind2, brk, brk2, rest, without_in, alone, binding, assigning, is_strict}
-use Rattle.ecma_syntax.specs.Operators.{expression_level, assignment_level, let_end, plain_end}
-use Rattle.ecma_syntax.specs.Shape.{ends, is_name, is_absent, is_block, is_binding, is_place, is_statement, is_plain_function, is_declarator, is_bare_declarator, is_case, is_default_case, is_catch, is_item}
-use Rattle.ecma_grammar.specs.Parts.{is_ident, is_quasi, Part, By, IsEmpty, Expr, Sorted, Maybe, Listed, CommaThen, Commas, Items, Ends, AtEnd, is_module_item}
-use Rattle.ecma_grammar.specs.Statements.{Sub, SubOrFunction, InParens, ClosesBlock, Block, Empty, Debugger, Declarator, Bindings, Variables, UsingBindings, Using, ExpressionStatement, If, DoWhile, While, Clause, ForRest, ForOpen, ForExpression, ForVariables, ForUsing, Over, HeadVariables, HeadUsing, HeadTarget, ForIn, ForAwaitOpen, ForOf, OfTarget, Jump, Return, Throw, With, Labelled, ClosesCase, Case, Cases, Switch, Catch, Try, is_var_word, starts_pattern, starts_using, starts_expression_statement, statement_end, starts_head, OneBare, starts_of}
-use Rattle.ecma_grammar_templates.specs.Laws.{Outside, Inside, Behind}
-use Rattle.ecma_grammar_templates.proofs.Walks.{Goes, go, stay, Plain, plain_by, plain, a_word, takes, takes_word, takes_any, takes_name, opens, closes, quotes, goes_on, takes_in, proper, sorted, off, placed, an_item, a_target, leveled, Walked, AllWalked, either, one_of, maybe, paused, listed, comma_then, commas, items}
+use Rattle.ecma_token.specs.Kinds.{left_paren_kind, right_paren_kind, semicolon_kind, colon_kind, assign_kind, await_kind, case_kind, catch_kind, debugger_kind, default_kind, do_kind, else_kind, finally_kind, for_kind, if_kind, return_kind, switch_kind, throw_kind, try_kind, while_kind, with_kind, in_kind, of_kind, using_kind}
+use Rattle.ecma_syntax.specs.Input.{Input, Code, without_in, alone, binding, assigning, is_strict}
+use Rattle.ecma_syntax.specs.Operators.{expression_level, assignment_level, plain_end}
+use Rattle.ecma_syntax.specs.Shape.{ends, is_absent, is_block, is_binding, is_statement, is_plain_function, is_declarator, is_case, is_default_case, is_catch, is_item}
+use Rattle.ecma_grammar.specs.Parts.{is_ident, Part, Expr, Sorted}
+use Rattle.ecma_grammar.specs.Statements.{Sub, SubOrFunction, InParens, ClosesBlock, Block, Empty, Debugger, Declarator, Bindings, Variables, UsingBindings, Using, ExpressionStatement, If, DoWhile, While, Clause, ForRest, ForOpen, ForExpression, ForVariables, ForUsing, Over, HeadVariables, HeadUsing, HeadTarget, ForIn, ForAwaitOpen, ForOf, OfTarget, Jump, Return, Throw, With, Labelled, ClosesCase, Case, Cases, Switch, Catch, Try, is_var_word, statement_end}
+use Rattle.ecma_grammar_templates.specs.Laws.{Outside}
+use Rattle.ecma_grammar_templates.proofs.Walks.{Goes, go, stay, Plain, plain_by, plain, takes, takes_word, opens, closes, sorted, off, placed, leveled, Walked, AllWalked, either, one_of, maybe, paused, commas, items}
 
 pub sub_walk : (c : Code) (pl : c.placed ≡ true) (b : Part) (bw : Walked b) (gs : List Bool) (ts r : Input) → Sub c b ts r → Goes (Outside gs) (Outside gs) ts r
 sub_walk c pl b bw gs ts r h = bw (alone c) pl gs ts r (sorted is_statement (λ s t w u. refl) (λ e. refl) b.tree h.0) h.1

@@ -1,13 +1,13 @@
 -- What a production consumes leads from a region to one with the same braces open.
-use Rattle.std.proofs.Common.{◌≡◌, ◌≤◌, if◌then◌else◌, not, ◌&&◌, Option, arith, ℕ, zero, suc, ◌==◌, ◌||◌, Bool, true, false, cond, nat_le, eqb, List, [], ◌∷◌, refl, sym, ap, ◌∙◌, subst, true≢false, ◌⊎◌, inl, inr}
+use Rattle.std.proofs.Common.{◌≡◌, ◌≤◌, if◌then◌else◌, not, ◌&&◌, Option, arith, ℕ, ◌==◌, ◌||◌, Bool, true, false, cond, nat_le, eqb, List, [], ◌∷◌, refl, sym, ap, ◌∙◌, subst, true≢false, ◌⊎◌, inl, inr}
 use Rattle.std.proofs.lemmas.Bool.{le-leb, eqb-true, eq-eqb, and_parts}
 use Rattle.ecma_token.specs.Kinds.{regex_kind, div_kind, div_assign_kind, assign_kind, comma_kind, left_brace_kind, right_brace_kind, back_quote_kind, template_kind, dollar_brace_kind, semicolon_kind}
-use Rattle.ecma_syntax.specs.Input.{Place, Input, Code, Takes, TakesWord, TakesAnyWord, TakesName, TakesIn, Stands, Only, usual, div_goal, regexp_goal, goal_of, kind, kind_of, rest, others, is_word, in_list, assigning, turned_strict}
+use Rattle.ecma_syntax.specs.Input.{Place, Input, Code, Takes, TakesWord, TakesAnyWord, TakesName, TakesIn, Stands, Only, usual, div_goal, regexp_goal, goal_of, kind, kind_of, rest, others, is_word, in_list, turned_strict}
 use Rattle.ecma_syntax.specs.Shape.{is_absent, is_hole, is_rest, is_use_strict, is_directive, level, is_simple, is_target_expr, is_place, is_item_pat, is_target}
 use Rattle.ecma_token.specs.declared.place.Span.{Span}
 use Rattle.ecma_tree.specs.Tree.{Tree, tpl_element, expr_pat}
-use Rattle.ecma_grammar.specs.Parts.{Part, By, IsEmpty, Expr, Sorted, Maybe, Listed, CommaThen, Commas, Ends, Items, AtEnd}
-use Rattle.ecma_grammar_templates.specs.Laws.{Region, Outside, Inside, Behind, Nowhere, closing, after, fits, over}
+use Rattle.ecma_grammar.specs.Parts.{Part, By, IsEmpty, Maybe, Listed, CommaThen, Commas, Ends, Items}
+use Rattle.ecma_grammar_templates.specs.Laws.{Region, Outside, Inside, Nowhere, after, fits, over}
 
 pub record Goes (a b : Region) (ts r : Input) : Type 0 where
   pub so : over a ts.places ≡ over b r.places
@@ -169,7 +169,7 @@ listed holes P c pl close s t shut f [] w ts r h = shut ts r h
 listed holes P c pl close s t shut f (x ∷ xs) w ts r h = by_test (holes && is_hole x.tree) (Outside s) (Outside t) ts r h
     (λ (g : (m : Input) × Takes c comma_kind ts m × Listed holes P c close xs m r). go _ _ _ ts g.0 r (takes c pl comma_kind s ts g.0 comma g.1) (listed holes P c pl close s t shut f xs w.1 g.0 r g.2))
     (λ (g : (m : Input) × P x ts m × (((is_rest x.tree ≡ false) × (n : Input) × Takes c comma_kind m n × Listed holes P c close xs n r) ⊎ (IsEmpty xs × Takes c close m r))). go _ _ _ ts g.0 r (f x ts g.0 w.0 g.1) (one_of (Outside s) (Outside t) g.0 r g.2
-        (λ k. go _ _ _ g.0 k.1 r (takes c pl comma_kind s g.0 k.1 comma k.2) (listed holes P c pl close s t shut f xs w.1 k.1 r k.3)) (λ k. shut g.0 r k.1)))
+    (λ k. go _ _ _ g.0 k.1 r (takes c pl comma_kind s g.0 k.1 comma k.2) (listed holes P c pl close s t shut f xs w.1 k.1 r k.3)) (λ k. shut g.0 r k.1)))
 
 pub comma_then : (P : Part → Input → Input → Type 0) (c : Code) (pl : c.placed ≡ true) (s : List Bool) → ((x : Part) (ts r : Input) → Walked x → P x ts r → Goes (Outside s) (Outside s) ts r)
     → (xs : List Part) → AllWalked xs → (ts r : Input) → CommaThen P c xs ts r → Goes (Outside s) (Outside s) ts r
