@@ -1,2 +1,3 @@
 -- What scripts and modules share.
 pub mod Items
+pub mod Lines

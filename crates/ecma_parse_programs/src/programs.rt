@@ -1,6 +1,6 @@
 //! Scripts and modules, with their hashbang.
-ghost use Rattle.std.specs.Prelude.{◌≡◌, ◌<◌, ◌≤◌, false, true, IfOk, option_map};
-ghost use Rattle.ecma_token.specs.Kinds.{shebang_kind};
+ghost use Rattle.std.specs.Prelude.{◌≡◌, false, true, IfOk, option_map};
+ghost use Rattle.ecma_syntax.specs.Input.{content};
 ghost use Rattle.ecma_node.specs.Fits.{fits_module, fits_script};
 ghost use Rattle.ecma_node.specs.Placed.{inner};
 ghost use Rattle.ecma_node.specs.View.{view_module, view_script};
@@ -11,14 +11,15 @@ ghost use Rattle.ecma_parse_state.specs.Codes.{code_of};
 ghost use Rattle.ecma_parse_state.specs.Fronts.{machine_of};
 ghost use Rattle.ecma_parse_state.specs.Stands.{from, stand};
 ghost use Rattle.ecma_parse_programs.specs.Items.{items_by};
+ghost use Rattle.ecma_parse_programs.specs.Lines.{led_by, line_by};
 
 use crate::items::module_items;
 use crate::scripts::script_items;
 use ecma_atom::Atom;
 use ecma_node::{Module, Script};
 use ecma_parse_base::Nested;
-use ecma_parse_state::{Around, Failure, Parser};
-use ecma_token::BytePos;
+use ecma_parse_state::{Around, Failure, Parser, kinds};
+use ecma_token::{BytePos, Token};
 use ecma_tokens::Tokens;
 
 /// A script, after its hashbang.
@@ -63,4 +64,110 @@ pub fn module_rest<'a, I: Tokens<'a> + Drop, N: Nested<'a, I>>(
         body: read.items,
         shebang,
     })
+}
+
+/// The text of the hashbang that comes, where one does.
+#[tactic(auto, unfolding(ecma_parse_state::specs::Fronts::machine_of))]
+fn hashbang<'p, 'a, I: Tokens<'a> + Drop, N: Nested<'a, I>>(
+    p: &'p Parser<'a, I>,
+    _nested: &N,
+) -> Option<&'p str>
+    ensures { option_map (λ t. t.now) result ≡ reads.line_of (machine_of I.machine) (N.reads _nested.now I.State I.machine) (content (spec.input (machine_of I.machine) (stand I.state p.now))) }
+{
+    match &p.ahead.token {
+        Some(token) => match &token.token {
+            Token::Shebang(text) => Some(text),
+            _ => None,
+        },
+        None => None,
+    }
+}
+
+/// Takes a hashbang, and keeps its text.
+#[inline(never)]
+#[tactic(auto, unfolding(crate::specs::Lines::line_by))]
+pub fn line<'a, I: Tokens<'a> + Drop, N: Nested<'a, I>>(
+    p: &mut Parser<'a, I>,
+    nested: &N,
+) -> Result<Atom, Failure>
+    ensures { Gives (λ x. (x, stand I.state p.new)) result (line_by (machine_of I.machine) (N.reads nested.now I.State I.machine) (stand I.state p.old)) }
+{
+    let Some(text) = hashbang(p, nested) else {
+        return Err(p.unexpected());
+    };
+    let text = Atom::new(p.alloc, text)?;
+    p.bump()?;
+    Ok(text)
+}
+
+/// A script that a hashbang leads.
+#[inline(never)]
+#[tactic(auto, unfolding(crate::specs::Lines::led_by))]
+pub fn led_script<'a, I: Tokens<'a> + Drop, N: Nested<'a, I>>(
+    p: &mut Parser<'a, I>,
+    nested: &N,
+    code: Around,
+    start: BytePos,
+) -> Result<Script, Failure>
+    requires ready { N.ready nested.now }
+    ensures value { Gives (λ x. (view_script inner x, stand I.state p.new)) result (led_by (machine_of I.machine) (N.reads nested.now I.State I.machine) false (code_of code) (from start.0) (stand I.state p.old)) }
+    ensures fits { IfOk result (λ x. fits_script (λ p. p) x) }
+{
+    let text = line(p, nested)?;
+    script_rest(p, nested, code, start, Some(text))
+}
+
+/// A module that a hashbang leads.
+#[inline(never)]
+#[tactic(auto, unfolding(crate::specs::Lines::led_by))]
+pub fn led_module<'a, I: Tokens<'a> + Drop, N: Nested<'a, I>>(
+    p: &mut Parser<'a, I>,
+    nested: &N,
+    code: Around,
+    start: BytePos,
+) -> Result<Module, Failure>
+    requires ready { N.ready nested.now }
+    ensures value { Gives (λ x. (view_module inner x, stand I.state p.new)) result (led_by (machine_of I.machine) (N.reads nested.now I.State I.machine) true (code_of code) (from start.0) (stand I.state p.old)) }
+    ensures fits { IfOk result (λ x. fits_module (λ p. p) x) }
+{
+    let text = line(p, nested)?;
+    module_rest(p, nested, code, start, Some(text))
+}
+
+/// A script.
+#[inline(never)]
+#[tactic(auto, using(crate::proofs::Lines::lines))]
+pub fn script<'a, I: Tokens<'a> + Drop, N: Nested<'a, I>>(
+    p: &mut Parser<'a, I>,
+    nested: &N,
+    code: Around,
+) -> Result<Script, Failure>
+    requires ready { N.ready nested.now }
+    ensures value { Gives (λ x. (view_script inner x, stand I.state p.new)) result (reads.program_by (machine_of I.machine) (N.reads nested.now I.State I.machine) false (code_of code) (stand I.state p.old)) }
+    ensures fits { IfOk result (λ x. fits_script (λ p. p) x) }
+{
+    let start = p.lo();
+    if p.at(kinds::SHEBANG) {
+        return led_script(p, nested, code, start);
+    }
+    script_rest(p, nested, code, start, None)
+}
+
+/// A module.
+#[inline(never)]
+#[tactic(auto, using(crate::proofs::Lines::lines))]
+pub fn module<'a, I: Tokens<'a> + Drop, N: Nested<'a, I>>(
+    p: &mut Parser<'a, I>,
+    nested: &N,
+    code: Around,
+) -> Result<Module, Failure>
+    requires ready { N.ready nested.now }
+    ensures value { Gives (λ x. (view_module inner x, stand I.state p.new)) result (reads.program_by (machine_of I.machine) (N.reads nested.now I.State I.machine) true (code_of code) (stand I.state p.old)) }
+    ensures fits { IfOk result (λ x. fits_module (λ p. p) x) }
+{
+    let start = p.lo();
+    if p.at(kinds::SHEBANG) {
+        return led_module(p, nested, code, start);
+    }
+    module_rest(p, nested, code, start, None)
 }
