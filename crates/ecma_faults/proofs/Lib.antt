@@ -1,2 +1,3 @@
 mod Asking
 mod Sorted
+pub mod Rights

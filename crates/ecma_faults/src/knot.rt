@@ -1,9 +1,14 @@
 //! Expressions, statements, patterns and programs.
+ghost use Rattle.std.specs.Prelude.{◌≡◌, ◌++◌, IfOk};
 ghost use Rattle.ecma_node.specs.Placed.{inner};
+ghost use Rattle.ecma_spine.specs.Spines.{Linked};
+ghost use Rattle.ecma_faults_base.specs.Around.{scope_of};
+ghost use Rattle.ecma_faults.specs.Rights.{right_faults};
 
 use crate::check::Check;
 use ecma_faults_base::Code;
 use ecma_node::{Expr, ExprKind, Part, PartKind, Pat, Program, Stmt, StmtKind};
+use ecma_spine::{below, links};
 use ecma_token::Error;
 use std::alloc::AllocError;
 
@@ -24,9 +29,45 @@ impl Check for Expr {
     ghost tree = { λ t. t };
 
     #[cycle(check)]
+    #[tactic(auto, using(crate::proofs::Rights::at_the_top))]
     fn check(&self, code: Code<'_>, faults: &mut Vec<Error>) -> Result<(), AllocError> {
-        self.kind.check(code, faults)
+        let links = links(self);
+        if links == 0 {
+            return self.kind.check(code, faults);
+        }
+        below(self, links).check(code, faults)?;
+        check_rights(self, links, code, faults)?;
+        Ok(())
     }
+}
+
+/// Puts the faults of the right operands of so many links behind the others, the innermost first: those of the inner half, then
+/// those of the outer half, so that no chain is too long for the stack.
+#[cycle(check)]
+#[tactic(auto, using(crate::proofs::Rights::rights))]
+fn check_rights(
+    top: &Expr,
+    links: u32,
+    code: Code<'_>,
+    faults: &mut Vec<Error>,
+) -> Result<(), AllocError>
+    requires linked { Linked links top.now }
+    ensures { IfOk result (λ _. faults.new.items ≡ faults.old.items ++ right_faults links top.now (scope_of code.entry)) }
+{
+    match links {
+        0 => {}
+        1 => {
+            if let ExprKind::Bin(bin) = &top.kind {
+                bin.right.check(code, faults)?;
+            }
+        }
+        _ => {
+            let outer = links / 2;
+            check_rights(below(top, outer), links - outer, code, faults)?;
+            check_rights(top, outer, code, faults)?;
+        }
+    }
+    Ok(())
 }
 
 impl Check for Stmt {

@@ -1,8 +1,10 @@
 //! Goes over expressions, statements, patterns and programs.
 ghost use Rattle.ecma_node.specs.Placed.{inner};
 
+use crate::spines::{enter_links, leave_ifs, leave_links};
 use crate::watch::{Inside, Node, Walk, Watch};
-use ecma_node::{Expr, Part, PartKind, Pat, Program, Stmt};
+use ecma_node::{Expr, Part, PartKind, Pat, Program, Stmt, StmtKind};
+use ecma_spine::there;
 
 impl Walk for Part {
     ghost tree = { inner };
@@ -21,11 +23,17 @@ impl Walk for Expr {
     ghost tree = { λ t. t };
 
     #[cycle(walk)]
-    #[tactic(auto, using(crate::proofs::Whole::whole))]
+    #[tactic(auto, using(crate::proofs::Whole::whole, crate::proofs::Chains::spine, crate::proofs::Chains::none_entered_yet))]
     fn walk<V: Watch>(&self, visitor: &mut V) {
-        visitor.enter(Node::Expr(self));
-        self.kind.inside(visitor);
-        visitor.leave(Node::Expr(self));
+        let (rest, links) = enter_links(self, visitor);
+        if links == 0 {
+            visitor.enter(Node::Expr(self));
+            self.kind.inside(visitor);
+            visitor.leave(Node::Expr(self));
+            return;
+        }
+        rest.walk(visitor);
+        leave_links(self, links, visitor);
     }
 }
 
@@ -33,11 +41,31 @@ impl Walk for Stmt {
     ghost tree = { λ t. t };
 
     #[cycle(walk)]
-    #[tactic(auto, using(crate::proofs::Whole::whole))]
+    #[tactic(auto, using(crate::proofs::Whole::whole, crate::proofs::Chains::if_spine, crate::proofs::Chains::along_ifs, crate::proofs::Chains::none_entered_yet))]
     fn walk<V: Watch>(&self, visitor: &mut V) {
-        visitor.enter(Node::Stmt(self));
-        self.kind.inside(visitor);
-        visitor.leave(Node::Stmt(self));
+        let mut rest = self;
+        let mut links: u32 = 0;
+        'links: while let StmtKind::If(branch) = &rest.kind {
+            let Some(alt) = &branch.alt else {
+                break;
+            };
+            if links == u32::MAX {
+                break;
+            }
+            visitor.enter(Node::Stmt(rest));
+            branch.test.walk(visitor);
+            branch.cons.walk(visitor);
+            rest = there(alt.get());
+            links += 1;
+        }
+        if links == 0 {
+            visitor.enter(Node::Stmt(self));
+            self.kind.inside(visitor);
+            visitor.leave(Node::Stmt(self));
+            return;
+        }
+        rest.walk(visitor);
+        leave_ifs(self, links, visitor);
     }
 }
 

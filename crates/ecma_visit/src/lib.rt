@@ -13,6 +13,7 @@ mod literals;
 mod objects;
 mod patterns;
 mod programs;
+mod spines;
 mod statements;
 pub mod watch;
 
