@@ -1,12 +1,12 @@
 #!/usr/bin/env node
 // Rows of the parser, made by an independent one. It reads the texts of texts.txt, one a line, with the marks of docs/ROWS.md, and asks acorn for
 // each as a script and as a module. It writes trees.rows, the texts that acorn takes with their trees in the form of ecma_outline, and refused.rows,
-// those that it refuses for their grammar. What it refuses for an early error, or for a rule that isn't among ours, is printed: those rows are
-// written by hand (faults.rows).
+// those that it refuses for their grammar. Rows by hand stand there too: early errors (faults.rows), and what acorn reads otherwise (departures.rows);
+// a text is left out where it has such a row. What acorn refuses for an early error, or for a rule that isn't among ours, and has none is printed.
 //
 //   tools/rows/by_acorn.js ACORN FOLDER
 //
-// ACORN is the path of acorn's module, as dist/acorn.js of Debian's package node-acorn; FOLDER is where the rows go.
+// ACORN is the path of acorn's module, as dist/acorn.js of Debian's package node-acorn; FOLDER is that of the rows, crates/ecma_parser_rows/data.
 const fs = require("fs"), path = require("path"), acorn = require(path.resolve(process.argv[2]));
 
 // The marks of control characters and of those that mean something in a row.
@@ -49,7 +49,7 @@ function tree(text, module) {
   const ident = (n) => node(`Ident ${n.name}`, n.start, n.end);
   const word = (n) => node(`IdentName ${n.name}`, n.start, n.end);
   const str = (n) => node(`Str ${esc(raw(n))}`, n.start, n.end);
-  const binding = (n) => node(`BindingIdent ${n.name}`, n.start, n.end);
+  const binding = (n) => node(`BindingIdent ${n.name}`, n.start, n.end, ident(n));
   const priv = (n) => node(`PrivateName ${n.name}`, n.start, n.end);
   function key(n, computed) {
     if (computed) { const a = before(n.start), b = after(n.end); return node("ComputedPropName", a.start, b.end, expr(n)); }
@@ -80,7 +80,9 @@ function tree(text, module) {
     }
   }
   const targets = { MemberExpression: 1, ParenthesizedExpression: 1 };
-  function target(n) { return targets[n.type] ? expr(n) : pattern(n); }
+  // where a pattern is no child of the sort of patterns, the outline has its kind alone
+  const bare = (line) => line.replace(/^\((\w+)( [^ ()]+)*? (\d+\.\.\d+)/, "($1 $3");
+  function target(n) { return targets[n.type] ? expr(n) : n.type === "ArrayPattern" ? bare(pattern(n)) : pattern(n); }
   const param = (n) => node("Param", n.start, n.end, pattern(n));
   const flags = (n) => (n.async ? "async " : "") + (n.generator ? "*" : "");
   const kindOf = (kind, ...words) => [kind, ...words.filter((x) => x)].join(" ");
@@ -162,7 +164,7 @@ function tree(text, module) {
   }
   const name = (n) => (n.type === "Literal" ? str(n) : ident(n));
   function varDecl(n) { return node(`VarDecl ${n.kind}`, n.start, n.end, list(n.declarations, (d) => node("VarDeclarator", d.start, d.end, pattern(d.id), opt(d.init, expr)))); }
-  const head = (n) => (n.type === "VariableDeclaration" ? varDecl(n) : pattern(n));
+  const head = (n) => (n.type === "VariableDeclaration" ? bare(stmt(n)) : pattern(n));
   function stmt(n) {
     const at = (kind, ...parts) => node(kind, n.start, n.end, ...parts);
     switch (n.type) {
@@ -180,7 +182,7 @@ function tree(text, module) {
       case "TryStatement": return at("TryStmt", body(n.block), opt(n.handler, (h) => node("CatchClause", h.start, h.end, opt(h.param, pattern), body(h.body))), opt(n.finalizer, body));
       case "WhileStatement": return at("WhileStmt", expr(n.test), stmt(n.body));
       case "DoWhileStatement": return at("DoWhileStmt", stmt(n.body), expr(n.test));
-      case "ForStatement": return at("ForStmt", opt(n.init, (x) => x.type === "VariableDeclaration" ? varDecl(x) : expr(x)), opt(n.test, expr), opt(n.update, expr), stmt(n.body));
+      case "ForStatement": return at("ForStmt", opt(n.init, (x) => x.type === "VariableDeclaration" ? bare(stmt(x)) : expr(x)), opt(n.test, expr), opt(n.update, expr), stmt(n.body));
       case "ForInStatement": return at("ForInStmt", head(n.left), expr(n.right), stmt(n.body));
       case "ForOfStatement": return at(kindOf("ForOfStmt", n.await && "await"), head(n.left), expr(n.right), stmt(n.body));
       case "ClassDeclaration": return at("ClassDecl", ident(n.id), klass(n, n.start));
@@ -194,11 +196,11 @@ function tree(text, module) {
         return here("ImportNamedSpecifier", ident(s.local), s.imported.start === s.local.start ? "" : name(s.imported));
       }), str(n.source));
       case "ExportNamedDeclaration":
-        if (n.declaration) return at("ExportDecl", stmt(n.declaration));
+        if (n.declaration) return at("ExportDecl", bare(stmt(n.declaration)));
         return at("NamedExport", list(n.specifiers, (s) => node("ExportNamedSpecifier", s.start, s.end, name(s.local), s.exported.start === s.local.start ? "" : name(s.exported))), opt(n.source, str));
       case "ExportDefaultDeclaration": {
         const d = n.declaration;
-        if (d.type === "FunctionDeclaration") return at("ExportDefaultDecl", node(kindOf("FnExpr", d.async && "async", d.generator && "*"), d.start, d.end, opt(d.id, ident), fn(d, d.start, d.end)));
+        if (d.type === "FunctionDeclaration") return at("ExportDefaultDecl", node("FnExpr", d.start, d.end, opt(d.id, ident), fn(d, d.start, d.end)));
         if (d.type === "ClassDeclaration") return at("ExportDefaultDecl", node("ClassExpr", d.start, d.end, opt(d.id, ident), klass(d, d.start)));
         return at("ExportDefaultExpr", expr(d));
       }
@@ -229,10 +231,33 @@ const grammar = [/^Unexpected token/, /^'import' and 'export'/, /^Assigning to r
   /^for-(in|of) loop variable/, /^getter should/, /^Setter cannot/, /^Object pattern can't/, /^Bad escape/, /^Cannot use new with/, /^Rest elements/, /^Cannot use await in class/, /^Private identifier can only/, /^Unexpected character/,
   /^Unterminated template/, /^The only valid meta/, /^Trailing comma is not/, /^Only '='/, /^Illegal newline/, /^Multiple default/, /^Missing catch/, /^The left-hand side of a for-of/, /^Binding rvalue/, /^A string literal cannot/, /^Await expression cannot be/];
 const left = [], modes = ["both", "script", "module"];
+// the texts that have a row in a file, with how each is read
+function byHand(name) {
+  const found = new Set();
+  let how = [];
+  for (const line of fs.readFileSync(path.join(process.argv[3], name), "utf8").split("\n")) {
+    if (line.startsWith("@ ")) how = line.startsWith("@ both") ? ["script", "module"] : [line.split(" ")[1]];
+    else if (line.includes(" → ")) for (const m of how) found.add(`${m}\t${line.split(" → ")[0]}`);
+  }
+  return found;
+}
+const departs = byHand("departures.rows"), faulty = byHand("faults.rows");
 // rows by their settings
 const sets = (...words) => Object.fromEntries(words.flatMap((w) => modes.map((m) => [`${m} ${w}`, []])));
 const trees = sets("tree"), refused = sets("refused place", "refused");
 const seen = new Set();
+// an unexpected token is told with its place
+const isToken = (a) => /^Unexpected token/.test(a.fault);
+const told = (a) => (isToken(a) ? ` → ${a.at}` : " → refused"), how = (a) => (isToken(a) ? "refused place" : "refused");
+const isRefused = (a) => a.fault && grammar.some((g) => g.test(a.fault));
+// adds the row of a text as a script or as a module
+function tell(a, k, shown) {
+  if (departs.has(`${k}\t${shown}`)) return;
+  if (a.tree) trees[`${k} tree`].push(`${shown} → ${a.tree}`);
+  else if (faulty.has(`${k}\t${shown}`)) return;
+  else if (isRefused(a)) refused[`${k} ${how(a)}`].push(shown + told(a));
+  else left.push(`${k}\t${shown}\t${a.fault}`);
+}
 for (const line of fs.readFileSync(path.join(__dirname, "texts.txt"), "utf8").split("\n")) {
   if (line.startsWith("# ")) {
     for (const x of [trees, refused]) for (const k in x) x[k].push(line);
@@ -240,18 +265,13 @@ for (const line of fs.readFileSync(path.join(__dirname, "texts.txt"), "utf8").sp
   }
   if (line === "" || seen.has(line)) continue; seen.add(line);
   const [s, m] = [false, true].map((x) => answer(unesc(line), x));
-  // an unexpected token is told with its place
-  const isToken = (a) => /^Unexpected token/.test(a.fault);
-  const told = (a) => (isToken(a) ? ` → ${a.at}` : " → refused"), how = (a) => (isToken(a) ? "refused place" : "refused");
-  const isRefused = (a) => a.fault && grammar.some((g) => g.test(a.fault));
   const shown = /^(#|@)( |$)/.test(line) || line[0] === "→" || line.startsWith("  ") ? line.replace(/^./, (c) => "«U+" + c.codePointAt(0).toString(16) + "»") : line.trim() === "" ? "«SP»" : line;
-  if (s.tree && m.tree && s.tree.replace("(Script", "(Module") === m.tree) { trees["both tree"].push(`${shown} → ${s.tree}`); continue; }
-  if (isRefused(s) && isRefused(m) && told(s) === told(m)) { refused[`both ${how(s)}`].push(shown + told(s)); continue; }
-  for (const [a, k] of [[s, "script"], [m, "module"]]) {
-    if (a.tree) trees[`${k} tree`].push(`${shown} → ${a.tree}`);
-    else if (isRefused(a)) refused[`${k} ${how(a)}`].push(shown + told(a));
-    else left.push(`${k}\t${shown}\t${a.fault}`);
-  }
+  const hand = ["script", "module"].some((k) => departs.has(`${k}\t${shown}`) || faulty.has(`${k}\t${shown}`));
+  const departing = ["script", "module"].some((k) => departs.has(`${k}\t${shown}`));
+  if (!departing && s.tree && m.tree && s.tree.replace("(Script", "(Module") === m.tree) { trees["both tree"].push(`${shown} → ${s.tree}`); continue; }
+  if (!hand && isRefused(s) && isRefused(m) && told(s) === told(m)) { refused[`both ${how(s)}`].push(shown + told(s)); continue; }
+  tell(s, "script", shown);
+  tell(m, "module", shown);
 }
 const tidy = (xs) => xs.filter((x, i) => !(x.startsWith("# ") && (i + 1 === xs.length || xs[i + 1].startsWith("# "))));
 const file = (head, sets) => head + Object.keys(sets).filter((k) => tidy(sets[k]).length).map((k) => `\n@ ${k}\n${tidy(sets[k]).join("\n")}\n`).join("");
