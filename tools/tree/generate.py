@@ -7,6 +7,7 @@ from pathlib import Path
 
 import build
 import equal
+import goal
 import nesting
 import node_types
 import program
@@ -21,7 +22,7 @@ def main():
     root = Path(sys.argv[1]) if len(sys.argv) > 1 else HERE.parent.parent
     table = Table()
     written = {}
-    for part in (spec_tree, program, equal, node_types, nesting, visit, visit_mut, build, same):
+    for part in (spec_tree, program, equal, node_types, nesting, visit, visit_mut, build, same, goal):
         written.update(part.files(table))
     for name, text in written.items():
         path = root / name

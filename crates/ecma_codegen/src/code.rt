@@ -1,36 +1,46 @@
 //! A node as a text.
+ghost use Rattle.std.specs.Prelude.{◌≡◌};
+ghost use Rattle.ecma_layout.specs.Layout.{laid};
+ghost use Rattle.ecma_layout.specs.declared.look.Stand.TheVariants.{Alone};
+ghost use Rattle.ecma_codegen.specs.Codes.{Codes};
+ghost use Rattle.ecma_codegen.specs.Settings as settings;
 
 use crate::emit::{emit, look_of};
 use ecma_emit::Print;
+use ecma_layout::Look;
 use ecma_settings::Config;
 use ecma_token::Counted;
 use ecma_write::{EmitError, JsWriter};
 use std::alloc::Global;
 use std::io::ErrorKind;
 
-/// Prints a node with the default settings, behind what is written.
-fn write_code<N: Print>(
-    alloc: Global,
-    node: &N,
-    out: &mut Counted<Vec<u8>>,
-) -> Result<(), EmitError> {
-    let mut wr = JsWriter::new(alloc, "\n", out, None);
-    emit(node, &mut wr, look_of(Config::default()))
+/// How a text looks by the default settings.
+fn default_look() -> Look
+    ensures { result ≡ settings.default_look }
+{
+    look_of(Config::default())
 }
 
 /// The text of a node, by the default settings. A refused growth of the text is want of memory.
 ///
 /// # Errors
 ///
-/// `EmitError::Memory` where there is no memory for the text, `EmitError::Node` for what can't be printed.
-pub fn to_code<N: Print>(alloc: Global, node: &N) -> Result<String, EmitError> {
-    let mut out = Counted::new(Vec::new(alloc));
-    match write_code(alloc, node, &mut out) {
+/// `EmitError::Memory` where there is no memory for the text, `EmitError::Node` for what can't be printed, and
+/// `EmitError::Write` were the bytes no UTF-8.
+#[tactic(auto, using(ecma_pieces::proofs::Resolving::calls_resolve))]
+pub fn to_code<N: Print>(alloc: Global, node: &N) -> Result<String, EmitError>
+    ensures { Codes (laid settings.default_look Alone (N.tree node.now)) result }
+{
+    let out: Counted<Vec<u8>> = Counted::new(Vec::new(alloc));
+    let mut wr = JsWriter::new(alloc, "\n", out, None);
+    let ended = emit(node, &mut wr, default_look());
+    let bytes = wr.into_inner().into_inner();
+    match ended {
         Ok(()) => {}
         Err(EmitError::Write(_)) => return Err(EmitError::Memory),
         Err(fault) => return Err(fault),
     }
-    match String::from_utf8(out.into_inner()) {
+    match String::from_utf8(bytes) {
         Ok(text) => Ok(text),
         Err(_) => Err(EmitError::Write(ErrorKind::InvalidData)),
     }

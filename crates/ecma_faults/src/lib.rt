@@ -21,4 +21,4 @@ mod questions;
 mod statements;
 mod targets;
 
-pub use program::check_program;
+pub use program::{check_module, check_program, check_script};

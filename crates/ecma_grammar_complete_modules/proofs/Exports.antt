@@ -18,12 +18,12 @@ use Rattle.ecma_reading.specs.Statements.{starts_async}
 use Rattle.ecma_reading.specs.Modules.{export_name_by, source_by, specifiers_by, export_default, export_star, export_list, starts_declaration, export_by}
 use Rattle.ecma_grammar_complete_base.proofs.Yields.{lm, from, coded, Reads, Is, named, then_is, then_eat, then_word, then_name, onto, here, if_no, if_yes}
 use Rattle.ecma_grammar_complete_base.proofs.Trees.{by_cases, no_kind}
-use Rattle.ecma_grammar_complete_rules.proofs.Lists.{pack_unpack, two_asked}
+use Rattle.ecma_grammar_complete_parts.proofs.Passed.{pack_unpack, two_asked}
 use Rattle.ecma_grammar_complete_parts.proofs.Nested.{Nested, may_follow}
 use Rattle.ecma_grammar_complete_parts.proofs.Within.{Within, within}
 use Rattle.ecma_grammar_complete_parts.proofs.Follows.{end_follows, ends_two, then_end}
 use Rattle.ecma_grammar_complete_parts.proofs.Starts.{ident_is}
-use Rattle.ecma_grammar_complete_functions.proofs.Functions.{empty_none, function_expressed}
+use Rattle.ecma_grammar_complete_parts.proofs.Functions.{empty_none, function_expressed}
 use Rattle.ecma_grammar_complete_statements.proofs.Simple.{absent_is}
 use Rattle.ecma_grammar_complete_statements.proofs.Variables.{declarators_start, var_on}
 use Rattle.ecma_grammar_complete_modules.proofs.Sources.{Attributed, attributed, export_name_found, source_found}

@@ -13,11 +13,11 @@ use Rattle.ecma_reading.specs.Source.{Fault, ◌>>=◌, Stand, any_word, go_on, 
 use Rattle.ecma_reading.specs.Modules.{export_name_by, local_by, source_by, named_import, named_export_item, specifier_step, specifiers_by, star_import, import_end, import_rest, import_default, import_decl_by}
 use Rattle.ecma_grammar_complete_base.proofs.Yields.{lm, from, len, coded, first_at, Reads, Is, then_is, then_eat, then_word, onto, here, past_here, if_no, if_yes, Loops, loop_on, loop_end, looped}
 use Rattle.ecma_grammar_complete_base.proofs.Trees.{by_cases, takes, no_kind}
-use Rattle.ecma_grammar_complete_rules.proofs.Lists.{pack_unpack}
+use Rattle.ecma_grammar_complete_parts.proofs.Passed.{pack_unpack}
 use Rattle.ecma_grammar_complete_parts.proofs.Nested.{Nested}
 use Rattle.ecma_grammar_complete_parts.proofs.Starts.{ident_is}
 use Rattle.ecma_grammar_complete_base.proofs.Cuts.{cut}
-use Rattle.ecma_grammar_complete_functions.proofs.Functions.{empty_none}
+use Rattle.ecma_grammar_complete_parts.proofs.Functions.{empty_none}
 use Rattle.ecma_grammar_complete_statements.proofs.Simple.{absent_is}
 use Rattle.ecma_grammar_complete_modules.proofs.Sources.{Attributed, attributed, Divides, divides_kind, export_name_found, local_found, source_found}
 

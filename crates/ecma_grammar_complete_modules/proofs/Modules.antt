@@ -14,7 +14,7 @@ use Rattle.ecma_grammar_complete_base.proofs.Trees.{no_kind}
 use Rattle.ecma_grammar_complete_parts.proofs.Nested.{Nested, may_follow}
 use Rattle.ecma_grammar_complete_parts.proofs.Within.{Each, most}
 use Rattle.ecma_grammar_complete_base.proofs.Cuts.{cut}
-use Rattle.ecma_grammar_complete_programs.proofs.Programs.{begins_item, ItemsRead, program_found, statements_read}
+use Rattle.ecma_grammar_complete_modules.proofs.Programs.{begins_item, ItemsRead, program_found, statements_read}
 use Rattle.ecma_grammar_complete_modules.proofs.Sources.{InModule, in_module}
 use Rattle.ecma_grammar_complete_modules.proofs.Imports.{begins_clause, import_found, after_import}
 use Rattle.ecma_grammar_complete_modules.proofs.Exports.{default_decl_found, default_expr_found, declaration_found, all_found, named_found}

@@ -16,14 +16,14 @@ use Rattle.ecma_reading.specs.Modules.{string_by, export_name_by, local_by, attr
 use Rattle.ecma_grammar_complete_base.proofs.Yields.{lm, from, coded, first_at, Reads, Is, then_is, then_past, then_eat, then_word, then_any, then_noted, here, past_here, if_no, if_yes, Loops, loop_on, loop_end, looped}
 use Rattle.ecma_grammar_complete_base.proofs.Levels.{Follow, closed_by, comma_after}
 use Rattle.ecma_grammar_complete_base.proofs.Trees.{by_cases, takes, no_kind}
-use Rattle.ecma_grammar_complete_rules.proofs.Prefixes.{literal_found}
-use Rattle.ecma_grammar_complete_rules.proofs.Lists.{Has, pack_unpack, two_asked}
-use Rattle.ecma_grammar_complete_rules.proofs.Objects.{str_read, begins_key, key_starts, OneWord}
+use Rattle.ecma_grammar_complete_parts.proofs.Passed.{literal_found}
+use Rattle.ecma_grammar_complete_parts.proofs.Passed.{Has, pack_unpack, two_asked}
+use Rattle.ecma_grammar_complete_parts.proofs.Passed.{str_read, begins_key, key_starts, OneWord}
 use Rattle.ecma_grammar_complete_parts.proofs.Nested.{Nested}
 use Rattle.ecma_grammar_complete_parts.proofs.Within.{Within, within}
 use Rattle.ecma_grammar_complete_parts.proofs.Follows.{then_end}
 use Rattle.ecma_grammar_complete_base.proofs.Cuts.{cut}
-use Rattle.ecma_grammar_complete_functions.proofs.Functions.{key_found, empty_none}
+use Rattle.ecma_grammar_complete_parts.proofs.Functions.{key_found, empty_none}
 use Rattle.ecma_grammar_complete_statements.proofs.Simple.{absent_is, then_ident}
 
 -- ---- what an item of a module hands on to the readers of nested parts

@@ -14,7 +14,7 @@ use Rattle.ecma_grammar.specs.Grammar.{Spells, parts}
 use Rattle.ecma_reading.specs.Source.{Fault, ◌>>=◌, Stand, Inner, Step, go_on, finished}
 use Rattle.ecma_reading.specs.Statements.{Body as Gathered, block_step, block_rest, block_by, body_item, body_step, body_by, case_step, case_rest, case_by, cases_step, has_default, switch_by, catch_by, finally_by, try_by, in_parens}
 use Rattle.ecma_grammar_complete_base.proofs.Yields.{lm, from, len, coded, both, Reads, Is, then_is, then_reads, then_eat, then_word, then_past, here, past_here, ended, if_no, if_yes, Loops, loop_on, loop_end, looped}
-use Rattle.ecma_grammar_complete_rules.proofs.Lists.{pack_unpack}
+use Rattle.ecma_grammar_complete_parts.proofs.Passed.{pack_unpack}
 use Rattle.ecma_grammar_complete_base.proofs.Trees.{by_cases, takes}
 use Rattle.ecma_grammar_complete_parts.proofs.Nested.{Nested, may_follow}
 use Rattle.ecma_grammar_complete_parts.proofs.Within.{Each, most, Within, Withins, within, withins}

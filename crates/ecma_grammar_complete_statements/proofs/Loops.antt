@@ -16,7 +16,7 @@ use Rattle.ecma_reading.specs.Cover.{to_head}
 use Rattle.ecma_reading.specs.Statements.{clause_by, for_rest, over_rest, in_rest, of_rest, one_bare, head_rest, for_variables, for_using, for_expression_rest, for_expression, for_head, for_by, sub_by, declarators_by, starts_let, starts_using, starts_await_using}
 use Rattle.ecma_grammar_complete_base.proofs.Yields.{lm, from, coded, Reads, Is, then_is, then_reads, then_eat, then_word, onto, here, past_here, ended, if_no, if_yes}
 use Rattle.ecma_grammar_complete_base.proofs.Levels.{Follow, Asked, quiet, ends_operand}
-use Rattle.ecma_grammar_complete_rules.proofs.Lists.{pack_unpack, one_asked, two_asked}
+use Rattle.ecma_grammar_complete_parts.proofs.Passed.{pack_unpack, one_asked, two_asked}
 use Rattle.ecma_grammar_complete_base.proofs.Trees.{by_cases}
 use Rattle.ecma_grammar_complete_parts.proofs.Nested.{Nested, IsHead, may_follow}
 use Rattle.ecma_grammar_complete_parts.proofs.Within.{Within, Withins, within, withins}

@@ -14,7 +14,7 @@ use Rattle.ecma_reading.specs.Source.{Fault, ◌>>=◌, Stand, Inner, name}
 use Rattle.ecma_reading.specs.Statements.{sub_by, in_parens, debugger_by, return_by, throw_by, with_by, while_by, do_by, jump_by, label_by, ends_here, labelled_by}
 use Rattle.ecma_grammar_complete_base.proofs.Yields.{lm, from, coded, Reads, Is, then_is, then_eat, then_word, then_name, then_past, here, past_here, ended, if_no, if_yes}
 use Rattle.ecma_grammar_complete_base.proofs.Levels.{Follow}
-use Rattle.ecma_grammar_complete_rules.proofs.Lists.{one_asked}
+use Rattle.ecma_grammar_complete_parts.proofs.Passed.{one_asked}
 use Rattle.ecma_grammar_complete_base.proofs.Trees.{by_cases}
 use Rattle.ecma_grammar_complete_parts.proofs.Nested.{Nested, allowed, may_follow}
 use Rattle.ecma_grammar_complete_parts.proofs.Within.{Within, within}

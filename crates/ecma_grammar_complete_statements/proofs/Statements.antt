@@ -19,7 +19,7 @@ use Rattle.ecma_grammar_complete_parts.proofs.Nested.{Nested, allowed, may_follo
 use Rattle.ecma_grammar_complete_parts.proofs.Within.{Within, within}
 use Rattle.ecma_grammar_complete_parts.proofs.Follows.{halted, statement_follows, then_end, built, lifted}
 use Rattle.ecma_grammar_complete_parts.proofs.Starts.{opens, Opening, After, one_name, tame, opening, level_opener, no_open, ident_is, name_may}
-use Rattle.ecma_grammar_complete_functions.proofs.Functions.{function_declared, class_declared}
+use Rattle.ecma_grammar_complete_parts.proofs.Functions.{function_declared, class_declared}
 use Rattle.ecma_grammar_complete_statements.proofs.Branches.{if_found}
 use Rattle.ecma_grammar_complete_statements.proofs.Simple.{one_found, debugger_found, return_found, throw_found, jump_found, with_found, while_found, do_found, labelled_found}
 use Rattle.ecma_grammar_complete_statements.proofs.Lists.{block_found, switch_found, try_found}

@@ -15,7 +15,7 @@ use Rattle.ecma_reading.specs.Source.{Fault, ◌>>=◌, Stand, Inner, go_on, fin
 use Rattle.ecma_reading.specs.Statements.{declarator_by, declarator_step, declarators_by, variables_by, using_by, starts_let, starts_using, starts_await_using}
 use Rattle.ecma_grammar_complete_base.proofs.Yields.{lm, from, len, coded, Reads, Is, then_is, then_word, then_past, here, past_here, ended, if_no, if_yes, Loops, loop_on, loop_end, looped}
 use Rattle.ecma_grammar_complete_base.proofs.Levels.{Follow, quiet, ends_operand, comma_after, goes_comma}
-use Rattle.ecma_grammar_complete_rules.proofs.Lists.{pack_unpack, two_asked}
+use Rattle.ecma_grammar_complete_parts.proofs.Passed.{pack_unpack, two_asked}
 use Rattle.ecma_grammar_complete_base.proofs.Trees.{by_cases, takes}
 use Rattle.ecma_grammar_complete_parts.proofs.Nested.{Nested}
 use Rattle.ecma_grammar_complete_parts.proofs.Within.{Within, Withins, within, withins}

@@ -6,3 +6,4 @@ mod Statements
 mod Modules
 mod Placed
 pub mod PlacedLemmas
+pub mod Passed

@@ -20,8 +20,8 @@ use Rattle.ecma_grammar_complete_rules.proofs.Objects.{begins_key, key_starts, O
 use Rattle.ecma_grammar_complete_parts.proofs.Nested.{Nested}
 use Rattle.ecma_grammar_complete_parts.proofs.Within.{ItemIn, item_in, Within, within}
 use Rattle.ecma_grammar_complete_parts.proofs.Starts.{ident_is}
-use Rattle.ecma_grammar_complete_functions.proofs.Functions.{key_found, function_found, function_expressed, star_found, setter_found}
-use Rattle.ecma_grammar_complete_statements.proofs.Simple.{absent_is}
+use Rattle.ecma_grammar_complete_parts.proofs.Functions.{key_found, function_found, function_expressed, star_found, setter_found}
+use Rattle.ecma_grammar_complete_modules.proofs.Passed.{absent_is}
 
 module _ (inner : Inner Input) (c : Code) (ts : Input) (k : List ℕ) (V : Tree × Stand Input → Type 0) (Q : Type 0) where
   at_function : kind ts ≡ function_kind → Reads (from ts k) (function_expr_by lm inner c (from ts k) false (from ts k)) V Q → Reads (from ts k) (prefix_by lm inner c (from ts k)) V Q

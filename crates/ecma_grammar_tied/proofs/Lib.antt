@@ -1,3 +1,4 @@
 pub mod Sizes
 pub mod Expressed
 pub mod Tied
+pub mod Passed

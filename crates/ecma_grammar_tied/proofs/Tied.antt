@@ -17,12 +17,12 @@ use Rattle.ecma_grammar_complete_rules.proofs.Lists.{Finds, Deep}
 use Rattle.ecma_grammar_complete_rules.proofs.Finds.{Comes, finds}
 use Rattle.ecma_grammar_complete.proofs.Comes.{comes_none, comes_next}
 use Rattle.ecma_grammar_complete.proofs.Heads.{head_found}
-use Rattle.ecma_grammar_complete_patterns.proofs.Patterns.{binds}
+use Rattle.ecma_grammar_complete_parts.proofs.Patterns.{binds}
 use Rattle.ecma_grammar_complete_parts.proofs.Nested.{Nested, patterned, allowed, may_follow, IsHead}
 use Rattle.ecma_grammar_complete_parts.proofs.Within.{within}
-use Rattle.ecma_grammar_complete_statements.proofs.Statements.{stmt_found}
-use Rattle.ecma_grammar_complete_statements.proofs.Lists.{body_found}
-use Rattle.ecma_grammar_complete_classes.proofs.Classes.{class_tail_found}
+use Rattle.ecma_grammar_complete_modules.proofs.Passed.{stmt_found}
+use Rattle.ecma_grammar_complete_modules.proofs.Passed.{body_found}
+use Rattle.ecma_grammar_complete_modules.proofs.Classes.{class_tail_found}
 use Rattle.ecma_grammar_tied.proofs.Sizes.{Small, each_small, inward, within_reach, most_reaches, is_called, called_reach}
 use Rattle.ecma_grammar_tied.proofs.Expressed.{function_read, class_read, method_read}
 

@@ -15,9 +15,9 @@ use Rattle.ecma_grammar_complete_base.specs.Laws.{coded, InOrder}
 use Rattle.ecma_grammar_complete_base.proofs.Yields.{lm, from, Fresh, After, Yields, Reads, Is}
 use Rattle.ecma_grammar_complete_base.proofs.Trees.{size, sizes, reach, reaches}
 use Rattle.ecma_grammar_complete_parts.proofs.Within.{most}
-use Rattle.ecma_grammar_complete_programs.proofs.Programs.{script_found}
-use Rattle.ecma_grammar_complete_modules.proofs.Sources.{in_module}
-use Rattle.ecma_grammar_complete_modules.proofs.Modules.{module_found}
+use Rattle.ecma_grammar_tied.proofs.Passed.{script_found}
+use Rattle.ecma_grammar_tied.proofs.Passed.{in_module}
+use Rattle.ecma_grammar_tied.proofs.Passed.{module_found}
 use Rattle.ecma_grammar_tied.proofs.Sizes.{each_small, most_reaches, items_small, items_reach}
 use Rattle.ecma_grammar_tied.proofs.Tied.{complete}
 use Rattle.ecma_grammar_whole.specs.Laws.{Answered, Decided, Stands, Level, ExpressionsComplete, OneExpression, Bound, PatternsComplete, OnePattern, ScriptsComplete, OneScript, NoScript, ModulesComplete, OneModule, NoModule}

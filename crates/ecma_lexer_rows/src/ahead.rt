@@ -39,23 +39,48 @@ fn wait<'a>(
     Ok(())
 }
 
+/// Takes two tokens, which wait before, or says that the text ended.
+fn take_two<'a>(
+    buffer: &mut Buffer<'a, Lexer<'a>>,
+    text: &str,
+    waited: &mut String,
+    out: &mut String,
+) -> anyhow::Result<bool> {
+    wait(buffer, text, waited)?;
+    if !take(buffer, text, out)? {
+        return Ok(false);
+    }
+    take(buffer, text, out)
+}
+
+/// Takes all tokens, two at a time.
+fn take_all<'a>(
+    buffer: &mut Buffer<'a, Lexer<'a>>,
+    text: &str,
+    waited: &mut String,
+    out: &mut String,
+) -> anyhow::Result<()> {
+    for _ in 0..text.len().saturating_add(1) {
+        if !take_two(buffer, text, waited, out)? {
+            return Ok(());
+        }
+    }
+    failed("more than two tokens a byte in a buffer")
+}
+
 /// The tokens that a buffer hands out, up to the end. Each waits before it is taken.
 pub fn tell_ahead(source: Lexer<'_>, text: &str, alloc: Global) -> anyhow::Result<String> {
     let mut out = String::new(alloc);
     let mut waited = String::new(alloc);
     let mut buffer = Buffer::new(source);
-    for _ in 0..text.len().saturating_add(1) {
-        wait(&mut buffer, text, &mut waited)?;
-        if take(&mut buffer, text, &mut out)? && take(&mut buffer, text, &mut out)? {
-            continue;
-        }
-        return if out == waited {
-            Ok(out)
-        } else {
-            failed("other tokens wait in a buffer")
-        };
+    let ended = take_all(&mut buffer, text, &mut waited, &mut out);
+    drop(buffer);
+    ended?;
+    if out == waited {
+        Ok(out)
+    } else {
+        failed("other tokens wait in a buffer")
     }
-    failed("more than two tokens a byte in a buffer")
 }
 
 /// Turns the code around the next token.
@@ -106,20 +131,56 @@ fn step<'a>(
     Ok(())
 }
 
-/// The tokens of a text as a buffer hands them out by steps, and then up to the end.
-pub fn by_steps(row: &Row<'_>, text: &str, steps: &str, answer: &mut Answer) -> anyhow::Result<()> {
-    let alloc = answer.alloc();
-    let mut out = String::new(alloc);
-    let mut buffer = Buffer::new(lexer(row, text, alloc)?);
+/// Takes steps, one after another.
+fn take_steps<'a>(
+    buffer: &mut Buffer<'a, Lexer<'a>>,
+    steps: &str,
+    text: &str,
+    out: &mut String,
+) -> anyhow::Result<()> {
     for word in steps.split(' ') {
-        step(&mut buffer, word, text, &mut out)?;
+        step(buffer, word, text, out)?;
     }
+    Ok(())
+}
+
+/// Adds the tokens that are left, and the end.
+fn to_the_end<'a>(
+    buffer: &mut Buffer<'a, Lexer<'a>>,
+    text: &str,
+    out: &mut String,
+) -> anyhow::Result<()> {
     for _ in 0..text.len().saturating_mul(2).saturating_add(2) {
-        if !bump(&mut buffer, text, &mut out)? {
-            answer.say(out)?;
-            let mut source = buffer.input().try_clone()?;
-            return tell_faults(source.take_errors().as_slice(), answer);
+        if !bump(buffer, text, out)? {
+            return Ok(());
         }
     }
     failed("more than two tokens a byte in a buffer")
+}
+
+/// Adds the faults that the source of a buffer has recorded.
+fn tell_recorded<'a>(buffer: &Buffer<'a, Lexer<'a>>, answer: &mut Answer) -> anyhow::Result<()> {
+    let mut source = buffer.input().try_clone()?;
+    let faults = source.take_errors();
+    tell_faults(faults.as_slice(), answer)
+}
+
+/// Adds the tokens that a buffer hands out by steps and then up to the end, and the recorded faults.
+fn tell_steps<'a>(
+    buffer: &mut Buffer<'a, Lexer<'a>>,
+    text: &str,
+    steps: &str,
+    answer: &mut Answer,
+) -> anyhow::Result<()> {
+    let mut out = String::new(answer.alloc());
+    take_steps(buffer, steps, text, &mut out)?;
+    to_the_end(buffer, text, &mut out)?;
+    answer.say(out)?;
+    tell_recorded(buffer, answer)
+}
+
+/// The tokens of a text as a buffer hands them out by steps, and then up to the end.
+pub fn by_steps(row: &Row<'_>, text: &str, steps: &str, answer: &mut Answer) -> anyhow::Result<()> {
+    let mut buffer = Buffer::new(lexer(row, text, answer.alloc())?);
+    tell_steps(&mut buffer, text, steps, answer)
 }

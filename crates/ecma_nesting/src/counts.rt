@@ -31,6 +31,13 @@ pub(crate) fn above(deepest: u32) -> u32
     deepest.saturating_add(1)
 }
 
+/// So many levels more.
+pub(crate) fn plus(levels: u32, deepest: u32) -> u32
+    ensures { result ≡ capped (levels + deepest) }
+{
+    levels.saturating_add(deepest)
+}
+
 /// The deepest of a list.
 fn deepest<T: Nesting>(items: &[T]) -> u32
     ensures { result ≡ capped (nesting_of_all (trees_by T.tree items.now)) }

@@ -1,11 +1,14 @@
-//! Expressions, statements, patterns and programs. Left operands and `else if` go in loops, so that no
-//! chain of them is too long.
+//! Expressions, statements, patterns and programs. Left operands, what stands before a point, a bracket, arguments or
+//! a template, and `else if` go in loops, so that no chain of them is too long.
 ghost use Rattle.std.specs.Prelude.{◌≡◌};
 ghost use Rattle.ecma_node.specs.Placed.{inner};
 ghost use Rattle.ecma_nesting.specs.Nesting.{is_if};
 
-use crate::counts::{Held, Nesting, above};
-use ecma_node::{Expr, ExprKind, Part, PartKind, Pat, Program, Stmt, StmtKind};
+use crate::counts::{Held, Nesting, above, plus};
+use ecma_node::{
+    CallExpr, Callee, Expr, ExprKind, OptChainBase, OptChainExpr, Part, PartKind, Pat, Program,
+    Stmt, StmtKind,
+};
 
 impl Nesting for Part {
     ghost tree = { inner };
@@ -62,12 +65,58 @@ impl Nesting for Expr {
     #[cycle(nesting)]
     fn nesting(&self) -> u32 {
         let mut deepest = 0;
+        let mut levels = 0;
         let mut expr = self;
-        while let ExprKind::Bin(bin) = &expr.kind {
-            deepest = above(bin.right.nesting()).max(deepest);
-            expr = bin.left.get();
+        'chain: loop {
+            match &expr.kind {
+                ExprKind::Bin(x) => {
+                    deepest = plus(levels, above(x.right.nesting())).max(deepest);
+                    expr = x.left.get();
+                }
+                ExprKind::Member(x) => {
+                    levels = above(levels);
+                    deepest = plus(levels, x.prop.nesting()).max(deepest);
+                    expr = x.obj.get();
+                }
+                ExprKind::Call(
+                    CallExpr {
+                        callee: Callee::Expr(callee),
+                        args,
+                        ..
+                    },
+                ) => {
+                    levels = above(levels);
+                    deepest = plus(levels, args.nesting()).max(deepest);
+                    expr = callee.get();
+                }
+                ExprKind::TaggedTpl(x) => {
+                    levels = above(levels);
+                    deepest = plus(levels, x.tpl.nesting()).max(deepest);
+                    expr = x.tag.get();
+                }
+                ExprKind::OptChain(
+                    OptChainExpr {
+                        base: OptChainBase::Member(x),
+                        ..
+                    },
+                ) => {
+                    levels = plus(levels, 2);
+                    deepest = plus(levels, x.prop.nesting()).max(deepest);
+                    expr = x.obj.get();
+                }
+                ExprKind::OptChain(
+                    OptChainExpr {
+                        base: OptChainBase::Call(x),
+                        ..
+                    },
+                ) => {
+                    levels = plus(levels, 2);
+                    deepest = plus(levels, x.args.nesting()).max(deepest);
+                    expr = x.callee.get();
+                }
+                _ => return plus(levels, expr.kind.nesting()).max(deepest),
+            }
         }
-        expr.kind.nesting().max(deepest)
     }
 }
 

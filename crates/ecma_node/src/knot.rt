@@ -4,7 +4,10 @@ ghost use Rattle.std.specs.Prelude.{◌≡◌};
 ghost use Rattle.ecma_node.specs.Placed.{part_tree, inner};
 ghost use Rattle.ecma_tree.specs.Places.{place_of};
 
-use crate::expressions::{BinExprOf, ExprKind, ExprKindOf};
+use crate::expressions::{
+    BinExprOf, CallExprOf, CalleeOf, ExprKind, ExprKindOf, MemberExprOf, OptCallOf, OptChainBaseOf,
+    OptChainExprOf, TaggedTplOf,
+};
 use crate::patterns::PatKind;
 use crate::programs::ProgramKind;
 use crate::statements::{IfStmtOf, StmtKind, StmtKindOf};
@@ -199,7 +202,8 @@ impl Part {
 }
 
 impl Drop for Part {
-    /// Goes down left operands and alternatives of `if` in a loop, so that no chain of them is too long.
+    /// Goes down what a chain begins with in a loop, so that no chain is too long: left operands, objects of
+    /// members, callees, tags of templates, and alternatives of `if`.
     fn drop(mut self) {
         'chain: loop {
             let Part { sort } = self;
@@ -215,6 +219,58 @@ impl Drop for Part {
                                 right: _right,
                             } = b;
                             self = Box::into_inner(left.part);
+                        }
+                        ExprKindOf::Member(m) => {
+                            let MemberExprOf {
+                                span: _,
+                                obj,
+                                prop: _prop,
+                            } = m;
+                            self = Box::into_inner(obj.part);
+                        }
+                        ExprKindOf::TaggedTpl(t) => {
+                            let TaggedTplOf {
+                                span: _,
+                                tag,
+                                tpl: _tpl,
+                            } = t;
+                            self = Box::into_inner(tag.part);
+                        }
+                        ExprKindOf::Call(c) => {
+                            let CallExprOf {
+                                span: _,
+                                callee,
+                                args: _args,
+                            } = c;
+                            match callee {
+                                CalleeOf::Expr(callee) => self = Box::into_inner(callee.part),
+                                _callee => return,
+                            }
+                        }
+                        ExprKindOf::OptChain(o) => {
+                            let OptChainExprOf {
+                                span: _,
+                                optional: _,
+                                base,
+                            } = o;
+                            match base {
+                                OptChainBaseOf::Member(m) => {
+                                    let MemberExprOf {
+                                        span: _,
+                                        obj,
+                                        prop: _prop,
+                                    } = m;
+                                    self = Box::into_inner(obj.part);
+                                }
+                                OptChainBaseOf::Call(c) => {
+                                    let OptCallOf {
+                                        span: _,
+                                        callee,
+                                        args: _args,
+                                    } = c;
+                                    self = Box::into_inner(callee.part);
+                                }
+                            }
                         }
                         _other => return,
                     }

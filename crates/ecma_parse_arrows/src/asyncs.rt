@@ -19,7 +19,7 @@ use crate::function_exprs::function_operand;
 use crate::made;
 use ecma_atom::Atom;
 use ecma_parse_base::{Nested, Operand};
-use ecma_parse_expr::lists::group_items;
+use ecma_parse_functions::group_items;
 use ecma_parse_state::code::with_in;
 use ecma_parse_state::{Around, Failure, Parser, kinds};
 use ecma_token::Span;

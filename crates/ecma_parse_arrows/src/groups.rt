@@ -21,7 +21,7 @@ use crate::made;
 use ecma_node::{Expr, ExprBox, ExprKind, ExprOrSpread, SeqExpr};
 use ecma_parse_base::lists::Arguments;
 use ecma_parse_base::{Nested, Operand};
-use ecma_parse_expr::lists::group_items;
+use ecma_parse_functions::group_items;
 use ecma_parse_state::code::with_in;
 use ecma_parse_state::{Around, Failure, Parser};
 use ecma_token::{BytePos, Error, Span, SyntaxError};

@@ -22,6 +22,16 @@ pub fn refused(span: Span) -> Failure
     })
 }
 
+/// What is said of an expression that an operator cannot assign to, at its place.
+pub fn no_target(span: Span) -> Failure
+    ensures { IsSyntax result }
+{
+    Failure::Syntax(Error {
+        span,
+        kind: SyntaxError::NotSimpleAssign,
+    })
+}
+
 /// The place of the dots that start here.
 ///
 /// # Errors

@@ -42,7 +42,7 @@ pub fn target(
     ensures fits { IfOk result (λ x. fits_assign_target (λ p. p) x) }
 {
     if !is_target(kind, &left) {
-        return Err(made::refused(left.span()));
+        return Err(made::no_target(left.span()));
     }
     match left.into_inner().kind {
         ExprKind::Ident(x) => Ok(AssignTarget::Ident(made::name(x))),

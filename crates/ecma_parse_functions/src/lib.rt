@@ -5,3 +5,6 @@ pub mod functions;
 pub mod heads;
 pub mod keys;
 pub mod made;
+
+pub use ecma_parse_expr::lists::group_items;
+pub use ecma_parse_expr::operators::private_name;

@@ -14,6 +14,7 @@ use ecma_parse_base::lists::Arguments;
 use ecma_parse_base::{Nested, Operand, made};
 use ecma_parse_expr::lists::group_items;
 use ecma_parse_state::{Around, Failure, Parser, kinds};
+use ecma_token::SyntaxError;
 use ecma_tokens::Tokens;
 
 /// Whether a call of `import` takes these arguments: one, which no dots spread; with import attributes two, and a last comma.
@@ -52,7 +53,12 @@ pub fn import<'a, I: Tokens<'a> + Drop, N: Nested<'a, I>>(
         p.eat_word(code, kinds::META)?;
         return made::meta_prop_expr(p.alloc, p.since(start), MetaPropKind::ImportMeta);
     }
-    p.expect(kinds::LEFT_PAREN)?;
+    let fault = if code.context.module_ {
+        SyntaxError::Unexpected
+    } else {
+        SyntaxError::ImportExportInScript
+    };
+    p.expect_or(kinds::LEFT_PAREN, place, fault)?;
     let list = group_items(p, nested, code)?;
     if !fits_import(p, nested, code, &list) {
         return Err(p.unexpected());

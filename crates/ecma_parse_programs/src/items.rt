@@ -6,7 +6,7 @@ ghost use Rattle.ecma_node.specs.Placed.{holds_stmt, inner};
 ghost use Rattle.ecma_node.specs.View.{view_module_item};
 ghost use Rattle.ecma_reading.specs.Source as spec;
 ghost use Rattle.ecma_reading.specs.Modules as reads;
-ghost use Rattle.ecma_parse_state.specs.Answers.{Gives, IsMemory, going_on};
+ghost use Rattle.ecma_parse_state.specs.Answers.{Gives, IsMemory, IsSyntax, going_on};
 ghost use Rattle.ecma_parse_state.specs.Codes.{code_of};
 ghost use Rattle.ecma_parse_state.specs.Fronts.{machine_of};
 ghost use Rattle.ecma_parse_state.specs.Stands.{stand};
@@ -20,6 +20,7 @@ use ecma_parse_modules::imports::import_decl;
 use ecma_parse_modules::items::export;
 use ecma_parse_state::code::{in_list, turned_strict};
 use ecma_parse_state::{Around, Failure, Parser, kinds};
+use ecma_token::{Error, Span, SyntaxError};
 use ecma_tokens::Tokens;
 
 /// The items of a module so far, the code after them, and whether its directives may go on.
@@ -53,6 +54,16 @@ pub fn starts_import<'a, I: Tokens<'a> + Drop, N: Nested<'a, I>>(
     Ok(second != kinds::LEFT_PAREN && second != kinds::DOT)
 }
 
+/// What is said of an import or an export in a script, where it has no tree.
+fn module_declaration(span: Span) -> Failure
+    ensures { IsSyntax result }
+{
+    Failure::Syntax(Error {
+        span,
+        kind: SyntaxError::ImportExportInScript,
+    })
+}
+
 /// A statement of a script, where no import and no export may stand.
 #[inline(never)]
 #[tactic(auto, unfolding(ecma_reading::specs::Modules::item_by))]
@@ -67,7 +78,7 @@ pub fn script_item<'a, I: Tokens<'a> + Drop, N: Nested<'a, I>>(
     ensures shorter { IfOk result (λ _. spec.bound (machine_of I.machine) (stand I.state p.new) < spec.bound (machine_of I.machine) (stand I.state p.old)) }
 {
     if starts_import(p, nested)? || p.at(kinds::EXPORT) {
-        return Err(p.unexpected());
+        return Err(module_declaration(p.place()));
     }
     nested.stmt(p, code)
 }

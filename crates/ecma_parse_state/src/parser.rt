@@ -222,6 +222,7 @@ impl<'a, I: Tokens<'a> + Drop> Parser<'a, I> {
         let kind = match &self.ahead.token {
             Some(token) => match &token.token {
                 Token::Error(error) => error.into_kind(),
+                Token::Word(_) => self.unexpected_word(),
                 _ => SyntaxError::Unexpected,
             },
             None => SyntaxError::Eof,
@@ -229,6 +230,20 @@ impl<'a, I: Tokens<'a> + Drop> Parser<'a, I> {
         Failure::Syntax(Error {
             span: self.place(),
             kind,
+        })
+    }
+
+    /// What is wrong with the token that comes, where what stands before it should have ended: an operator that
+    /// assigns stands behind what is no target.
+    pub fn unexpected_end(&self) -> Failure
+        ensures { IsSyntax result }
+    {
+        if self.ahead.kind < kinds::ASSIGN || self.ahead.kind > kinds::NULLISH_ASSIGN {
+            return self.unexpected();
+        }
+        Failure::Syntax(Error {
+            span: self.place(),
+            kind: SyntaxError::NotSimpleAssign,
         })
     }
 
@@ -246,7 +261,25 @@ impl<'a, I: Tokens<'a> + Drop> Parser<'a, I> {
         if self.eat(kind)? {
             Ok(())
         } else {
-            Err(self.unexpected())
+            Err(self.unexpected_end())
+        }
+    }
+
+    /// Takes a token of this kind, where any other is a fault of what stands here.
+    ///
+    /// # Errors
+    ///
+    /// The fault of this kind in this place, where another token comes.
+    #[tactic(auto, unfolding(ecma_reading::specs::Source::eat))]
+    pub fn expect_or(&mut self, kind: u8, span: Span, fault: SyntaxError) -> Result<(), Failure>
+        requires { 0 < kind }
+        ensures value { Gives (λ _. stand I.state self.new) result (spec.eat (machine_of I.machine) kind (stand I.state self.old)) }
+        ensures shorter { IfOk result (λ _. spec.bound (machine_of I.machine) (stand I.state self.new) < spec.bound (machine_of I.machine) (stand I.state self.old)) }
+    {
+        if self.eat(kind)? {
+            Ok(())
+        } else {
+            Err(Failure::Syntax(Error { span, kind: fault }))
         }
     }
 

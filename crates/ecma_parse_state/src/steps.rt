@@ -13,7 +13,7 @@ use crate::kinds;
 use crate::parser::Parser;
 use crate::words::{no_name, strict_reserved};
 use ecma_atom::Atom;
-use ecma_token::Context;
+use ecma_token::{Context, SyntaxError};
 use ecma_tokens::Tokens;
 
 impl<'a, I: Tokens<'a> + Drop> Parser<'a, I> {
@@ -25,6 +25,18 @@ impl<'a, I: Tokens<'a> + Drop> Parser<'a, I> {
     {
         let kind = self.kind();
         self.is_escaped() && (no_name(context, kind) || (strict_reserved(kind) && context.strict))
+    }
+
+    /// What is wrong with a word, where the grammar has no place for it.
+    pub fn unexpected_word(&self) -> SyntaxError {
+        let context = self.input.ctx();
+        if self.is_barred(context) {
+            SyntaxError::EscapeInReservedWord
+        } else if self.at(kinds::EXPORT) && !context.module_ {
+            SyntaxError::ImportExportInScript
+        } else {
+            SyntaxError::Unexpected
+        }
     }
 
     /// Whether the token that comes is a word that is a name here.

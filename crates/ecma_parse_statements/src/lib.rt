@@ -9,3 +9,5 @@ pub mod parts;
 pub mod simple;
 pub mod switches;
 pub mod tries;
+
+pub use ecma_parse_blocks::lookahead::third;

@@ -3,3 +3,5 @@
 
 pub mod loops;
 pub mod stmts;
+
+pub use ecma_parse_classes::classes::class_tail;

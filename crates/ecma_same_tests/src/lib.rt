@@ -1,12 +1,8 @@
-//! Which programs are the same: parts that are, though they are spelled differently or stand elsewhere, and parts that
-//! aren't. Each pair is compared both ways.
+//! Which programs are the same, where no text tells it: chains of a million links, and trees that no text has. Pairs of
+//! programs as texts stand in `ecma_same_rows`.
 #![tactic(auto)]
 
 #[cfg(test)]
 mod chains;
 #[cfg(test)]
-mod kinds;
-#[cfg(test)]
-mod leaves;
-#[cfg(test)]
-mod respelled;
+mod unspelled;

@@ -1,6 +1,6 @@
 -- Which of script and module a text is read as where neither is said (own): a module where that is clean and only a module can be meant.
 use Rattle.std.specs.Prelude.{◌≡◌, ◌⊎◌, ℕ, Bool, true, false, ◌||◌, List, [], ◌∷◌}
-use Rattle.ecma_tree.specs.Tree.{Tree, function, arrow_expr, constructor, getter_prop, setter_prop, await_expr, for_of_stmt, using_decl, import_decl, export_decl, named_export, export_default_decl, export_default_expr, export_all}
+use Rattle.ecma_tree.specs.Tree.{Tree, function, arrow_expr, await_expr, for_of_stmt, using_decl, import_decl, export_decl, named_export, export_default_decl, export_default_expr, export_all}
 use Rattle.ecma_tree.specs.Folds.{fold}
 use Rattle.ecma_spells.specs.Text.{Setting, TreeSpells}
 
@@ -12,12 +12,8 @@ abbrev pub in_some : List (List Bool) → Bool
 in_some [] = false
 in_some (bs ∷ kids) = some_true bs || in_some kids
 
--- what the first part tells alone: the key of what is a function beside it
-abbrev pub in_first : List (List Bool) → Bool
-in_first [] = false
-in_first (bs ∷ kids) = some_true bs
-
 -- Whether a tree tells that it is a module: an import or export, or outside functions an `await`, an awaiting `for` or an awaiting `using`.
+-- No constructor and no getter or setter of an object is asynchronous, so an `await` in one, outside nested functions, stands in its key.
 abbrev pub telling : Tree → List (List Bool) → Bool
 telling (import_decl s xs f w) kids = true
 telling (export_decl s d) kids = true
@@ -30,9 +26,6 @@ telling (for_of_stmt s true l r b) kids = true
 telling (using_decl s true ds) kids = true
 telling (function s ps ds b g a) kids = false
 telling (arrow_expr s ps b a) kids = false
-telling (constructor s k ps b) kids = in_first kids
-telling (getter_prop s k b) kids = in_first kids
-telling (setter_prop s k p b) kids = in_first kids
 telling t kids = in_some kids
 
 unfoldable pub tells_module : Tree → Bool

@@ -1,2 +1,3 @@
 pub mod Ordered
 pub mod Alone
+pub mod Passed

@@ -16,7 +16,7 @@ use Rattle.ecma_tokens.specs.Machine.{without_fault}
 use Rattle.ecma_lexing.specs.States.{shebang, spot_at, place}
 use Rattle.ecma_lexing.proofs.TriviaLemmas.{one_hashbang, one_skipped}
 use Rattle.ecma_syntax.specs.Input.{Place, template_goal, template_end_goal}
-use Rattle.ecma_grammar_placed.specs.Laws.{SameToken, SameTokens}
+use Rattle.ecma_spells_laws.proofs.Passed.{SameToken, SameTokens}
 use Rattle.ecma_grammar_slashes.specs.Laws.{IsPattern, IsSlash}
 use Rattle.ecma_grammar_templates.specs.Laws.{Region, Outside, Inside, Behind, Nowhere, after, fits, over}
 use Rattle.ecma_spells.specs.Tiled.{goal_at, whole, IsBeforeBy, IsBefore, IsTile, AreTiles, IsHashbangTile, AfterHashbang, Tile}

@@ -9,10 +9,7 @@ use Rattle.ecma_syntax.specs.Input.{Place, Input, script_code, module_code}
 use Rattle.ecma_reading.specs.Source.{Fault, Unexpected, TooDeep}
 use Rattle.ecma_reading.specs.Reading.{read_list}
 use Rattle.ecma_grammar.specs.Grammar.{Derives}
-use Rattle.ecma_grammar_whole.specs.Laws.{Decided}
-use Rattle.ecma_grammar_whole.proofs.WholeLemmas.{scripts_complete, modules_complete}
-use Rattle.ecma_grammar_placed.specs.Laws.{SameTokens}
-use Rattle.ecma_grammar_placed.proofs.PlacedLemmas.{bare, bared, bare_same, bared_order, strip, one_script_of_tokens, one_module_of_tokens}
+use Rattle.ecma_spells_laws.proofs.Passed.{Decided, SameTokens, modules_complete, scripts_complete, bare, bared, bare_same, bared_order, strip, one_script_of_tokens, one_module_of_tokens}
 use Rattle.ecma_grammar_slashes.proofs.SlashLemmas.{slashes_told}
 use Rattle.ecma_grammar_templates.proofs.Braces.{programs_match}
 use Rattle.ecma_spells.specs.Text.{Reads, text_start}

@@ -1,5 +1,5 @@
 -- Laws of chains of left operands.
-use Rattle.std.proofs.Common.{◌≡◌, ◌+◌, ◌*◌, ◌-◌, ◌≤◌, ◌<◌, ℕ, zero, suc, Bool, true, false, not, if◌then◌else◌, refl, sym, ap, ◌∙◌, arith, subst}
+use Rattle.std.proofs.Common.{◌≡◌, ◌+◌, ◌*◌, ◌-◌, ◌≤◌, ◌<◌, ℕ, zero, suc, Bool, true, false, not, if◌then◌else◌, refl, sym, ap, ◌∙◌, arith, subst, max}
 use Rattle.ecma_tree.specs.Tree.{Tree, script, es_module, import_decl, export_decl, named_export, export_default_decl, export_default_expr, export_all, import_named_specifier, import_default_specifier, import_star_as_specifier, export_namespace_specifier, export_default_specifier, export_named_specifier, block_stmt, empty_stmt, debugger_stmt, with_stmt, return_stmt, labeled_stmt, break_stmt, continue_stmt, if_stmt, switch_stmt, switch_case, throw_stmt, try_stmt, catch_clause, while_stmt, do_while_stmt, for_stmt, for_in_stmt, for_of_stmt, expr_stmt, class_decl, fn_decl, var_decl, using_decl, var_declarator, function, param, decorator, class, constructor, class_method, private_method, class_prop, private_prop, static_block, auto_accessor, ident_name, computed_prop_name, private_name, this_expr, array_lit, object_lit, fn_expr, unary_expr, update_expr, bin_expr, assign_expr, member_expr, super_prop_expr, cond_expr, call_expr, new_expr, seq_expr, ident, tpl, tpl_element, tagged_tpl, arrow_expr, class_expr, yield_expr, meta_prop_expr, await_expr, paren_expr, opt_chain_expr, opt_call, super, import, invalid, expr_or_spread, spread_element, key_value_prop, assign_prop, getter_prop, setter_prop, method_prop, str_lit, bool_lit, null_lit, number_lit, big_int_lit, regex_lit, binding_ident, array_pat, rest_pat, object_pat, assign_pat, key_value_pat_prop, assign_pat_prop, expr_pat, invalid_pat, invalid_target, list, absent, hole}
 use Rattle.ecma_tree.specs.Codes.{tree_size}
 use Rattle.ecma_node.specs.View.{view_lit}
@@ -328,9 +328,6 @@ further_smaller zero t h = omega (arith)
 further_smaller (suc n) t h = let a : tree_size (further_on n t) + 2 * n ≤ tree_size t = further_smaller n t h.0 in
     let b : tree_size (alternative (further_on n t)) + 2 ≤ tree_size (further_on n t) = shorter (further_on n t) h.1 in omega (arith)
 
-pub link_parts : (t : Tree) → is_binary t ≡ true → tree_size (left_operand t) + tree_size (right_operand t) + 2 ≤ tree_size t
-link_parts t h = parts t h
-
 -- ---- one link more
 
 next : (n : ℕ) → n + 1 ≡ suc n
@@ -514,3 +511,11 @@ some_size hole = omega (arith)
 
 pub top_falls : (n : ℕ) (t : Tree) → 2 * (tree_size t - tree_size (below n t)) + 1 < 2 * tree_size t
 top_falls n t = let a : 0 < tree_size t = some_size t in let b : 0 < tree_size (below n t) = some_size (below n t) in omega (arith)
+
+-- the right operand of the one link that is left is smaller, as sizes of the code's boxes count
+pub right_is_left : (n m : ℕ) (top right : Tree) → n ≡ 1 → Linked n top → right_operand top ≡ right → 2 * (tree_size top - tree_size (below n top)) + 1 ≡ m
+    → max (2 * (tree_size right + 1 + 1) + 0) 0 < m
+right_is_left n m top right e l o h =
+    let a : 2 * (tree_size (right_operand top) + 2) < 2 * (tree_size top - tree_size (below 1 top)) + 1 = right_falls top (subst (λ x. Linked x top) e l) in
+    let b : 2 * (tree_size right + 2) < 2 * (tree_size top - tree_size (below 1 top)) + 1 = subst (λ x. 2 * (tree_size x + 2) < 2 * (tree_size top - tree_size (below 1 top)) + 1) o a in
+    let c : 2 * (tree_size top - tree_size (below 1 top)) + 1 ≡ m = subst (λ x. 2 * (tree_size top - tree_size (below x top)) + 1 ≡ m) e h in omega (arith)

@@ -2,16 +2,17 @@
 //! links down. What goes over all nodes goes along them in loops.
 #![tactic(auto)]
 
-ghost use Rattle.std.specs.Prelude.{◌≡◌, false};
-ghost use Rattle.ecma_spine.specs.Spines.{Linked, below, further_on, is_absent};
+ghost use Rattle.std.specs.Prelude.{◌≡◌, ◌<◌, false};
+ghost use Rattle.ecma_spine.specs.Spines.{Linked, below, further_on, is_absent, is_binary};
 
 use ecma_node::{Expr, ExprKind, Stmt, StmtKind};
 
 /// How many links a chain of left operands has, from this expression down: none, where it is no binary expression. A chain of
 /// 4,294,967,295 links or more has so many.
-#[tactic(auto, using(crate::proofs::Spines::counted))]
+#[tactic(auto, using(crate::proofs::Spines::counted, crate::proofs::Spines::literal_is_none))]
 pub fn links(expr: &Expr) -> u32
-    ensures { Linked result expr.now }
+    ensures linked { Linked result expr.now }
+    ensures whole { result < 4294967295 → is_binary (below result expr.now) ≡ false }
 {
     let mut rest = expr;
     let mut links: u32 = 0;
@@ -39,7 +40,7 @@ pub fn below<'e>(expr: &'e Expr, links: u32) -> &'e Expr
     at
 }
 
-/// A statement is there, whatever it is.
+/// The statement itself, with the fact that no statement is an absent part.
 #[tactic(auto, using(crate::proofs::Spines::declaration_is_there))]
 pub fn there(stmt: &Stmt) -> &Stmt
     ensures same { result.now ≡ stmt.now }

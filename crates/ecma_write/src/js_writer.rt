@@ -55,6 +55,14 @@ impl<'a, W: CountedWrite> JsWriter<'a, W> {
         &self.wr
     }
 
+    /// The writer behind, once nothing more is written.
+    pub fn into_inner(self) -> W
+        ensures { result ≡ js_behind self.entry }
+    {
+        let JsWriter { wr, .. } = self;
+        wr
+    }
+
     /// Indents with this text from now on.
     pub fn set_indent_str(&mut self, indent_str: &'static str)
         ensures page { js_page W.contents self.new ≡ record (js_page W.contents self.old) { indent = indent_str.now } }

@@ -1,2 +1,0 @@
-//! Laws of the grammar: what classes and their members spell is read.
-#![tactic(auto)]

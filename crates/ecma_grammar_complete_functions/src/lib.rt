@@ -1,2 +1,0 @@
-//! Laws of the grammar: what functions and classes spell is read.
-#![tactic(auto)]

@@ -1,0 +1,2 @@
+-- Whole programs within the limit of nesting.
+pub mod Within

@@ -1,0 +1,25 @@
+-- What an entry answers beside what is read.
+use Rattle.std.specs.Prelude.{◌≡◌, ◌≢◌, ◌++◌, List, Result, Ok, Err}
+use Rattle.ecma_token.specs.declared.error.Error.{Error}
+use Rattle.ecma_token.specs.declared.error.SyntaxError.{SyntaxError}
+use Rattle.ecma_token.specs.declared.error.SyntaxError.TheVariants as kinds
+use Rattle.ecma_token.specs.declared.syntax.EsSyntax.{EsSyntax}
+use Rattle.ecma_tree.specs.Tree.{Tree}
+use Rattle.ecma_early.specs.Early.{early_errors}
+use Rattle.ecma_reading.specs.Source.{Fault, Unexpected, TooDeep}
+use Rattle.ecma_parse_state.specs.declared.failure.Failure.{Failure}
+use Rattle.ecma_parse_state.specs.Answers.{Fails}
+
+-- An entry answers a fault of this kind: too deep where reading is, another kind where nothing is read. Of want of memory nothing is said.
+pub record Refuses (k : SyntaxError) (read : Result Tree Fault) : Type 0 where
+  pub deep : k ≡ kinds.TooDeep → read ≡ Err TooDeep
+  pub fault : k ≢ kinds.Memory → k ≢ kinds.TooDeep → read ≡ Err Unexpected
+
+-- the kind of fault that tells of a failure, whatever is read
+abbrev pub Tells : Failure → SyntaxError → Type 0
+Tells e k = (read : Result Tree Fault) → Fails e read → Refuses k read
+
+-- An entry answers the tree that is read, and its early errors come behind the faults that were recorded; or it answers a fault, and records none.
+abbrev pub Parses : {X : Type 0} → (X → Tree) → EsSyntax → Result X Error → Result Tree Fault → List Error → List Error → Type 0
+Parses view syntax (Ok x) read old new = (read ≡ Ok (view x)) × (new ≡ old ++ early_errors syntax (view x))
+Parses view syntax (Err e) read old new = Refuses e.kind read × (new ≡ old)

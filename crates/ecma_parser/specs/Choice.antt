@@ -1,0 +1,23 @@
+-- Which of script and module a text is parsed as where neither is said.
+use Rattle.std.specs.Prelude.{◌≡◌, ◌⊎◌, true, List, [], Result, Ok, Err}
+use Rattle.ecma_token.specs.declared.error.Error.{Error}
+use Rattle.ecma_token.specs.declared.error.SyntaxError.TheVariants as kinds
+use Rattle.ecma_token.specs.declared.syntax.EsSyntax.{EsSyntax}
+use Rattle.ecma_tree.specs.Tree.{Tree}
+use Rattle.ecma_early.specs.Early.{early_errors}
+use Rattle.ecma_reading.specs.Source.{Fault}
+use Rattle.ecma_spells.specs.Choice.{tells_module}
+use Rattle.ecma_parser.specs.Answers.{Parses}
+
+-- A module is meant: what is read as one has no early error, and tells that it is one.
+abbrev pub IsMeant : EsSyntax → Result Tree Fault → Tree → Type 0
+IsMeant syntax read t = (read ≡ Ok t) × (early_errors syntax t ≡ []) × (tells_module t ≡ true)
+
+abbrev pub NotMeant : EsSyntax → Result Tree Fault → Type 0
+NotMeant syntax read = (t : Tree) → IsMeant syntax read t → ⊥
+
+-- The answer is the module that is meant, and no fault is recorded; or none is meant, and it is that of the script. Of want of memory nothing is said but
+-- that no fault is recorded.
+abbrev pub Chooses : EsSyntax → Result Tree Error → Result Tree Fault → Result Tree Fault → List Error → List Error → Type 0
+Chooses syntax (Ok t) modules scripts old new = (IsMeant syntax modules t × (new ≡ old)) ⊎ (NotMeant syntax modules × Parses (λ x. x) syntax (Ok t) scripts old new)
+Chooses syntax (Err e) modules scripts old new = (new ≡ old) × ((e.kind ≡ kinds.Memory) ⊎ (NotMeant syntax modules × Parses (λ x. x) syntax (Err e) scripts old new))

@@ -1,0 +1,4 @@
+-- What the entries of the parser promise.
+pub mod Answers
+pub mod Entries
+pub mod Choice

@@ -1,0 +1,75 @@
+//! A program that is not said to be a script or a module: it is parsed as a module where it tells that it is one.
+ghost use Rattle.std.specs.Prelude.{◌≡◌, false, true, IfOk, IfSome, MatchOption, MatchResult};
+ghost use Rattle.ecma_token.specs.declared.error.SyntaxError.TheVariants.{Memory};
+ghost use Rattle.ecma_node.specs.Fits.{fits_module};
+ghost use Rattle.ecma_node.specs.Placed.{inner};
+ghost use Rattle.ecma_node.specs.View.{view_module};
+ghost use Rattle.ecma_syntax.specs.Input.{module_code, script_code};
+ghost use Rattle.ecma_parse_state.specs.Fronts.{machine_of};
+ghost use Rattle.ecma_parse_entries.specs.Within.{program_within};
+ghost use Rattle.ecma_parser.specs.Choice.{Chooses, IsMeant, NotMeant};
+ghost use Rattle.ecma_parser.specs.Entries.{ctx_in, faults_in, limit_in, opened, syntax_in};
+
+use crate::entries::Entries;
+use crate::faults::PResult;
+use ecma_goal::tells_module;
+use ecma_node::{Module, Program, ProgramKind};
+use ecma_parse_state::Parser;
+use ecma_token::SyntaxError;
+use ecma_tokens::Tokens;
+
+impl<'a, I: Tokens<'a> + Drop> Entries<Parser<'a, I>> {
+    /// The rest of the source as a module, where that reading has no early error and holds an import, an export or,
+    /// outside functions, an `await`, an awaiting `for` or an awaiting `using`; else as a script.
+    ///
+    /// # Errors
+    ///
+    /// Want of memory, or the fault of the script.
+    pub fn parse_program(&mut self) -> PResult<Program>
+        ensures value { Chooses (syntax_in I.state self.old) result (program_within (machine_of I.machine) (limit_in self.old) true (module_code (syntax_in I.state self.old)) (opened I.machine I.state (module_code (syntax_in I.state self.old)).context self.old)) (program_within (machine_of I.machine) (limit_in self.old) false (script_code (syntax_in I.state self.old)) (opened I.machine I.state (script_code (syntax_in I.state self.old)).context self.old)) (faults_in self.old) (faults_in self.new) }
+        ensures context { ctx_in I.state self.new ≡ ctx_in I.state self.old }
+        ensures limit { limit_in self.new ≡ limit_in self.old }
+    {
+        if let Some(module) = self.meant_module()? {
+            return Ok(Program {
+                kind: ProgramKind::Module(module),
+            });
+        }
+        let script = self.parse_script()?;
+        Ok(Program {
+            kind: ProgramKind::Script(script),
+        })
+    }
+
+    /// The rest of the source as a module, where one is meant. Else nothing is read.
+    ///
+    /// # Errors
+    ///
+    /// Want of memory.
+    fn meant_module(&mut self) -> PResult<Option<Module>>
+        ensures meant { IfOk result (λ m. MatchOption m (NotMeant (syntax_in I.state self.old) (program_within (machine_of I.machine) (limit_in self.old) true (module_code (syntax_in I.state self.old)) (opened I.machine I.state (module_code (syntax_in I.state self.old)).context self.old))) (λ x. IsMeant (syntax_in I.state self.old) (program_within (machine_of I.machine) (limit_in self.old) true (module_code (syntax_in I.state self.old)) (opened I.machine I.state (module_code (syntax_in I.state self.old)).context self.old)) (view_module inner x))) }
+        ensures stays { IfOk result (λ m. MatchOption m (self.new ≡ self.old) (λ x. ctx_in I.state self.new ≡ ctx_in I.state self.old)) }
+        ensures fits { IfOk result (λ m. IfSome m (λ x. fits_module (λ p. p) x)) }
+        ensures failed { MatchResult result (λ m. limit_in self.new ≡ limit_in self.old) (λ e. (e.kind ≡ Memory) × (self.new ≡ self.old)) }
+        ensures faults { faults_in self.new ≡ faults_in self.old }
+    {
+        let mut copy = self.try_clone()?;
+        let recorded = copy.take_errors();
+        match copy.parse_module() {
+            Ok(module) => {
+                if !copy.faults.is_empty() || !tells_module(&module) {
+                    return Ok(None);
+                }
+                copy.faults = recorded;
+                *self = copy;
+                Ok(Some(module))
+            }
+            Err(error) => {
+                if error.kind == SyntaxError::Memory {
+                    return Err(error);
+                }
+                Ok(None)
+            }
+        }
+    }
+}

@@ -1,0 +1,198 @@
+//! A parser as a user holds it.
+ghost use Rattle.std.specs.Prelude.{◌≡◌, ◌<◌, ◌+◌, ◌^◌, [], false, length, min, option_map, IfErr, IfOk, OnOk};
+ghost use Rattle.std.specs.Str.{chars};
+ghost use Rattle.ecma_token.specs.declared.error.SyntaxError.TheVariants.{Memory};
+ghost use Rattle.ecma_token.specs.declared.version.EsVersion.TheVariants.{EsNext};
+ghost use Rattle.ecma_tokens.specs.Machine.{shown_spot};
+ghost use Rattle.ecma_lexing.specs.States.{at_start_of};
+ghost use Rattle.ecma_lexer.specs.Lexer.{state_in};
+ghost use Rattle.ecma_parse_state.specs.Stands.{stand};
+
+use ecma_lexer::Lexer;
+use ecma_parse_state::ahead::Ahead;
+use ecma_token::{BytePos, Context, Error, EsVersion, Syntax, TokenAndSpan};
+use ecma_tokens::Tokens;
+use ecma_tokens::settings::out_of_memory;
+use std::alloc::{AllocError, Global};
+use std::mem;
+
+/// A parser, over what it reads from.
+#[derive(Drop)]
+pub struct Entries<P> {
+    /// What it reads from.
+    pub(crate) reading: P,
+    /// Whether the first token was read.
+    pub(crate) started: bool,
+    /// How deep a tree may nest.
+    pub(crate) limit: u32,
+    /// The faults that were recorded.
+    pub(crate) faults: Vec<Error>,
+    ghost limit_fits: { limit < 4294967295 },
+}
+
+/// A parser over a source of tokens.
+pub type Parser<'a, I> = Entries<ecma_parse_state::Parser<'a, I>>;
+
+/// How deep a tree may nest at first.
+const NESTING: u32 = 256;
+
+impl<'a> Entries<ecma_parse_state::Parser<'a, Lexer<'a>>> {
+    ghost use Rattle.ecma_parser.specs.Entries.{faults_in, limit_in, source_in};
+
+    /// A parser of a text. Its places count from 1.
+    pub fn new(alloc: Global, syntax: Syntax, text: &'a str) -> Self
+        requires fits { 1 + length text.now < 2 ^ 32 }
+        ensures source { source_in state_in result ≡ at_start_of syntax EsNext 1 (chars text.now) (1 + length text.now) }
+        ensures limit { limit_in result ≡ 256 }
+        ensures faults { faults_in result ≡ [] }
+    {
+        let lexer = Lexer::new(alloc, syntax, EsVersion::latest(), text, BytePos(1), false);
+        Entries::new_from(alloc, lexer)
+    }
+}
+
+impl<'a, I: Tokens<'a> + Drop> Entries<ecma_parse_state::Parser<'a, I>> {
+    ghost use Rattle.ecma_parser.specs.Entries.{faults_in, limit_in, opened, source_in};
+
+    /// A parser over a source of tokens. No token is read yet, and trees may nest 256 deep.
+    pub fn new_from(alloc: Global, input: I) -> Self
+        ensures source { source_in I.state result ≡ I.state input }
+        ensures limit { limit_in result ≡ 256 }
+        ensures faults { faults_in result ≡ [] }
+    {
+        Entries {
+            reading: ecma_parse_state::Parser {
+                alloc,
+                input,
+                ahead: Ahead::new(None),
+                last: BytePos(0),
+                commas: Vec::new(alloc),
+            },
+            started: false,
+            limit: NESTING,
+            faults: Vec::new(alloc),
+        }
+    }
+
+    /// Sets how deep a tree may nest, 4,294,967,294 at most: a leaf counts 1, and another node one more than its deepest
+    /// child.
+    pub fn set_nesting(&mut self, limit: u32)
+        ensures limit { limit_in self.new ≡ min limit 4294967294 }
+        ensures reading { self.new.reading ≡ self.old.reading }
+        ensures started { self.new.started ≡ self.old.started }
+        ensures faults { faults_in self.new ≡ faults_in self.old }
+    {
+        self.limit = limit.min(u32::MAX - 1);
+    }
+
+    /// The source of tokens. It stands behind the token that was read ahead, where one was.
+    pub fn input(&self) -> &I
+        ensures { I.state result.now ≡ source_in I.state self.now }
+    {
+        &self.reading.input
+    }
+
+    /// Takes the recorded faults away, in order. It takes no memory.
+    pub fn take_errors(&mut self) -> Vec<Error>
+        ensures answer { result.items ≡ faults_in self.old }
+        ensures taken { faults_in self.new ≡ [] }
+        ensures reading { self.new.reading ≡ self.old.reading }
+        ensures started { self.new.started ≡ self.old.started }
+        ensures limit { limit_in self.new ≡ limit_in self.old }
+    {
+        mem::replace(&mut self.faults, Vec::new(self.reading.alloc))
+    }
+
+    /// Tells the source of the code, and stands in front of the token that comes.
+    ///
+    /// # Errors
+    ///
+    /// Want of memory.
+    pub(crate) fn open(&mut self, ctx: Context) -> Result<(), Error>
+        ensures stand { OnOk result (stand I.state self.new.reading ≡ opened I.machine I.state ctx self.old) }
+        ensures limit { limit_in self.new ≡ limit_in self.old }
+        ensures faults { faults_in self.new ≡ faults_in self.old }
+        ensures full { IfErr result (λ e. e.kind ≡ Memory) }
+    {
+        self.reading.commas.clear();
+        self.reading.input.set_ctx(ctx);
+        if !self.started {
+            self.reading.last = self.reading.input.start_pos();
+            self.reading.ahead = Ahead::new(self.reading.input.next()?);
+            self.started = true;
+        }
+        Ok(())
+    }
+
+    /// A parser that stands where this one stands, with the same faults.
+    ///
+    /// # Errors
+    ///
+    /// Want of memory.
+    pub fn try_clone(&self) -> Result<Self, Error>
+        ensures stand { IfOk result (λ c. stand I.state c.reading ≡ stand I.state self.now.reading) }
+        ensures source { IfOk result (λ c. source_in I.state c ≡ source_in I.state self.now) }
+        ensures opened { IfOk result (λ c. (ctx : _) → opened I.machine I.state ctx c ≡ opened I.machine I.state ctx self.now) }
+        ensures started { IfOk result (λ c. c.started ≡ self.now.started) }
+        ensures limit { IfOk result (λ c. limit_in c ≡ limit_in self.now) }
+        ensures faults { IfOk result (λ c. faults_in c ≡ faults_in self.now) }
+        ensures full { IfErr result (λ e. e.kind ≡ Memory) }
+    {
+        let input = self.reading.input.try_clone()?;
+        let (ahead, commas, faults) = self.copied().map_err(out_of_memory)?;
+        Ok(Entries {
+            reading: ecma_parse_state::Parser {
+                alloc: self.reading.alloc,
+                input,
+                ahead,
+                last: self.reading.last,
+                commas,
+            },
+            started: self.started,
+            limit: self.limit,
+            faults,
+        })
+    }
+
+    /// The token that comes, the noted starts and the faults once more.
+    ///
+    /// # Errors
+    ///
+    /// Want of memory.
+    fn copied(&self) -> Result<(Ahead<'a>, Vec<u32>, Vec<Error>), AllocError>
+        ensures ahead { IfOk result (λ x. option_map shown_spot x.0.token ≡ option_map shown_spot self.now.reading.ahead.token) }
+        ensures commas { IfOk result (λ x. x.1.items ≡ self.now.reading.commas.items) }
+        ensures faults { IfOk result (λ x. x.2.items ≡ self.now.faults.items) }
+    {
+        let alloc = self.reading.alloc;
+        let ahead = copy_of(&self.reading.ahead)?;
+        let commas = Vec::from_slice(alloc, self.reading.commas.as_slice())?;
+        let faults = Vec::from_slice(alloc, self.faults.as_slice())?;
+        Ok((ahead, commas, faults))
+    }
+}
+
+/// A token once more.
+///
+/// # Errors
+///
+/// Want of memory, for a name, a string or a number that has a text of its own.
+fn clone_token<'a>(token: &TokenAndSpan<'a>) -> Result<TokenAndSpan<'a>, AllocError>
+    ensures { IfOk result (λ t. shown_spot t ≡ shown_spot token.now) }
+{
+    token.clone()
+}
+
+/// The token that comes once more.
+///
+/// # Errors
+///
+/// Want of memory.
+fn copy_of<'a>(ahead: &Ahead<'a>) -> Result<Ahead<'a>, AllocError>
+    ensures { IfOk result (λ x. option_map shown_spot x.token ≡ option_map shown_spot ahead.now.token) }
+{
+    match &ahead.token {
+        Some(token) => Ok(Ahead::new(Some(clone_token(token)?))),
+        None => Ok(Ahead::new(None)),
+    }
+}

@@ -1,0 +1,130 @@
+//! Whole scripts and modules (ECMA-262, clause 16).
+ghost use Rattle.std.specs.Prelude.{◌≡◌, false, true, IfOk};
+ghost use Rattle.ecma_node.specs.Fits.{fits_module, fits_script};
+ghost use Rattle.ecma_node.specs.Placed.{inner};
+ghost use Rattle.ecma_node.specs.View.{view_module, view_script};
+ghost use Rattle.ecma_syntax.specs.Input.{module_code, script_code};
+ghost use Rattle.ecma_parse_state.specs.Codes.{code_of};
+ghost use Rattle.ecma_parse_state.specs.Fronts.{machine_of};
+ghost use Rattle.ecma_parse_entries.specs.Within.{program_within};
+ghost use Rattle.ecma_parser.specs.Answers.{Parses};
+ghost use Rattle.ecma_parser.specs.Entries.{ctx_in, faults_in, limit_in, opened, syntax_in};
+
+use crate::entries::Entries;
+use crate::faults::{PResult, told};
+use ecma_early_errors::{module_errors, script_errors};
+use ecma_node::{Module, Script};
+use ecma_parse_entries::within::{module_within, script_within};
+use ecma_parse_state::{Around, Failure, Parser};
+use ecma_token::{Context, EsSyntax, Syntax};
+use ecma_tokens::Tokens;
+use ecma_tokens::settings::out_of_memory;
+
+/// The code around a script's tokens.
+fn in_script(syntax: EsSyntax) -> Around
+    ensures { code_of result ≡ script_code syntax }
+{
+    let context = Context {
+        include_in_expr: true,
+        ..Context::default()
+    };
+    Around {
+        syntax,
+        context,
+        listed: true,
+    }
+}
+
+/// The code around a module's tokens.
+fn in_module(syntax: EsSyntax) -> Around
+    ensures { code_of result ≡ module_code syntax }
+{
+    let context = Context {
+        include_in_expr: true,
+        module_: true,
+        strict: true,
+        in_async: true,
+        ..Context::default()
+    };
+    Around {
+        syntax,
+        context,
+        listed: true,
+    }
+}
+
+impl<'a, I: Tokens<'a> + Drop> Entries<Parser<'a, I>> {
+    /// The rest of the source as a script. Its early errors are recorded.
+    ///
+    /// # Errors
+    ///
+    /// Want of memory, a text that nests deeper than the limit, or a fault of the text.
+    pub fn parse_script(&mut self) -> PResult<Script>
+        ensures value { Parses (view_script inner) (syntax_in I.state self.old) result (program_within (machine_of I.machine) (limit_in self.old) false (script_code (syntax_in I.state self.old)) (opened I.machine I.state (script_code (syntax_in I.state self.old)).context self.old)) (faults_in self.old) (faults_in self.new) }
+        ensures fits { IfOk result (λ x. fits_script (λ p. p) x) }
+        ensures context { ctx_in I.state self.new ≡ ctx_in I.state self.old }
+        ensures limit { limit_in self.new ≡ limit_in self.old }
+    {
+        let before = self.reading.input.ctx();
+        let script = self.script();
+        self.reading.input.set_ctx(before);
+        script
+    }
+
+    /// The rest of the source as a module. Its early errors are recorded.
+    ///
+    /// # Errors
+    ///
+    /// Want of memory, a text that nests deeper than the limit, or a fault of the text.
+    pub fn parse_module(&mut self) -> PResult<Module>
+        ensures value { Parses (view_module inner) (syntax_in I.state self.old) result (program_within (machine_of I.machine) (limit_in self.old) true (module_code (syntax_in I.state self.old)) (opened I.machine I.state (module_code (syntax_in I.state self.old)).context self.old)) (faults_in self.old) (faults_in self.new) }
+        ensures fits { IfOk result (λ x. fits_module (λ p. p) x) }
+        ensures context { ctx_in I.state self.new ≡ ctx_in I.state self.old }
+        ensures limit { limit_in self.new ≡ limit_in self.old }
+    {
+        let before = self.reading.input.ctx();
+        let module = self.module();
+        self.reading.input.set_ctx(before);
+        module
+    }
+
+    /// A script, in its own code.
+    fn script(&mut self) -> PResult<Script>
+        ensures value { Parses (view_script inner) (syntax_in I.state self.old) result (program_within (machine_of I.machine) (limit_in self.old) false (script_code (syntax_in I.state self.old)) (opened I.machine I.state (script_code (syntax_in I.state self.old)).context self.old)) (faults_in self.old) (faults_in self.new) }
+        ensures fits { IfOk result (λ x. fits_script (λ p. p) x) }
+        ensures limit { limit_in self.new ≡ limit_in self.old }
+    {
+        let Syntax::Es(syntax) = self.reading.input.syntax();
+        let code = in_script(syntax);
+        self.open(code.context)?;
+        let script = match script_within(&mut self.reading, self.limit, code) {
+            Ok(script) => script,
+            Err(failure) => return Err(told(failure)),
+        };
+        let mut faults = script_errors(self.reading.alloc, syntax, &script).map_err(out_of_memory)?;
+        match self.faults.append(&mut faults) {
+            Ok(()) => Ok(script),
+            Err(_) => Err(told(Failure::Memory)),
+        }
+    }
+
+    /// A module, in its own code.
+    fn module(&mut self) -> PResult<Module>
+        ensures value { Parses (view_module inner) (syntax_in I.state self.old) result (program_within (machine_of I.machine) (limit_in self.old) true (module_code (syntax_in I.state self.old)) (opened I.machine I.state (module_code (syntax_in I.state self.old)).context self.old)) (faults_in self.old) (faults_in self.new) }
+        ensures fits { IfOk result (λ x. fits_module (λ p. p) x) }
+        ensures limit { limit_in self.new ≡ limit_in self.old }
+    {
+        let Syntax::Es(syntax) = self.reading.input.syntax();
+        let code = in_module(syntax);
+        self.open(code.context)?;
+        let module = match module_within(&mut self.reading, self.limit, code) {
+            Ok(module) => module,
+            Err(failure) => return Err(told(failure)),
+        };
+        let mut faults = module_errors(self.reading.alloc, syntax, &module).map_err(out_of_memory)?;
+        match self.faults.append(&mut faults) {
+            Ok(()) => Ok(module),
+            Err(_) => Err(told(Failure::Memory)),
+        }
+    }
+}

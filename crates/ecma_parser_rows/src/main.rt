@@ -1,0 +1,30 @@
+//! Rows of the parser: programs with their trees, texts that are none, early errors, and nesting.
+#![tactic(auto)]
+
+mod cuts;
+mod read;
+mod told;
+
+use ecma_rows::{Answer, Row, Subject, judge_files};
+use std::process::ExitCode;
+
+/// Texts, and what the parser makes of them.
+struct Parsing;
+
+impl Subject for Parsing {
+    fn asked(&self, row: &Row<'_>) -> usize {
+        if row.has("nesting") { 2 } else { 1 }
+    }
+
+    fn answer(&self, row: &Row<'_>, answer: &mut Answer) -> anyhow::Result<()> {
+        let Some(text) = row.text(0) else {
+            return told::failed("no text");
+        };
+        cuts::judge_beginnings(row, text, answer.alloc())?;
+        told::tell(row, text, answer)
+    }
+}
+
+fn main(rt: HostRuntime) -> anyhow::Result<ExitCode> {
+    judge_files(&rt, &Parsing)
+}
