@@ -1,7 +1,9 @@
-//! Rows of the parser: programs with their trees, texts that are none, early errors, and nesting.
+//! Rows of the parser: programs with their trees, texts that are none, early errors, nesting, and which programs are
+//! the same.
 #![tactic(auto)]
 
 mod cuts;
+mod pairs;
 mod read;
 mod told;
 
@@ -13,13 +15,19 @@ struct Parsing;
 
 impl Subject for Parsing {
     fn asked(&self, row: &Row<'_>) -> usize {
-        if row.has("nesting") { 2 } else { 1 }
+        if row.has("nesting") || row.has("pair") { 2 } else { 1 }
     }
 
     fn answer(&self, row: &Row<'_>, answer: &mut Answer) -> anyhow::Result<()> {
         let Some(text) = row.text(0) else {
             return told::failed("no text");
         };
+        if row.has("pair") {
+            return pairs::tell_pair(row, answer);
+        }
+        if row.has("apart") {
+            return pairs::tell_apart(row, text, answer);
+        }
         cuts::judge_beginnings(row, text, answer.alloc())?;
         told::tell(row, text, answer)
     }
