@@ -189,11 +189,11 @@ begins_append p (c ∷ cs) rest e = e
 pub mark_begins : (text : List ℕ) (kind : TokenKind) (rest : List ℕ) → IsPunctuator text kind rest → begins begins_mark text ≡ true
 mark_begins text kind rest h = rw h.1.2 (begins_append begins_mark h.1.0 rest (among_begins begins_mark punctuators h.1.0 kind marks_begin h.1.1))
 
-all_kinds : (TokenKind → Bool) → List Spelling → Bool
+unfoldable pub all_kinds : (TokenKind → Bool) → List Spelling → Bool
 all_kinds p [] = true
 all_kinds p (x ∷ xs) = p x.1 && all_kinds p xs
 
-among_kinds : (p : TokenKind → Bool) (xs : List Spelling) (s : List ℕ) (k : TokenKind) → all_kinds p xs ≡ true → IsAmong xs s k → p k ≡ true
+pub among_kinds : (p : TokenKind → Bool) (xs : List Spelling) (s : List ℕ) (k : TokenKind) → all_kinds p xs ≡ true → IsAmong xs s k → p k ≡ true
 unfolding all_kinds
 among_kinds p [] s k e h = absurd h
 among_kinds p (x ∷ xs) s k e (inl h) = sym (ap p h.1) ∙ (and_parts (p x.1) (all_kinds p xs) e).0

@@ -12,3 +12,4 @@ mod words;
 pub use goal::LexicalGoal;
 pub use lexeme::Lexeme;
 pub use read::read_token;
+pub use words::mark_token;

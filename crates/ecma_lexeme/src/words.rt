@@ -54,7 +54,8 @@ pub(crate) fn word(alloc: Global, text: &str, end: u32) -> Result<Lexeme<'_>, Er
 }
 
 /// The token of a punctuator's kind.
-fn mark_token<'a>(kind: TokenKind) -> Token<'a>
+#[inline]
+pub fn mark_token<'a>(kind: TokenKind) -> Token<'a>
     requires { is_mark kind ≡ true }
     ensures { token_view result ≡ bare (token_kind_number kind) }
 {

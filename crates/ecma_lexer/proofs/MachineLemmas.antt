@@ -1,5 +1,5 @@
 -- The step of the machine is the step that is made.
-use Rattle.std.proofs.Common.{◌≡◌, ℕ, Option, Some, None, Result, Ok, Err, refl, sym, ap, subst, ◌∙◌}
+use Rattle.std.proofs.Common.{◌≡◌, Option, Some, None, Result, Ok, Err}
 use Rattle.std.specs.Prelude.{option_map, MatchOption, IfOk, ◌<◌, ◌≤◌}
 use Rattle.ecma_token.specs.Tokens.{Spot}
 use Rattle.ecma_token.specs.declared.error.Error.{Error}

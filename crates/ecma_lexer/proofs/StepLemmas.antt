@@ -1,5 +1,5 @@
 -- A step, as the code makes it.
-use Rattle.std.proofs.Common.{◌≡◌, ◌≢◌, ℕ, ◌+◌, ◌-◌, ◌==◌, ◌⊎◌, inl, inr, ⊎_elim, Bool, true, false, List, [], ◌∷◌, length, IsUtf8, Option, Some, None, Result, Ok, Err, refl, sym, ap, subst, ◌∙◌, arith}
+use Rattle.std.proofs.Common.{◌≡◌, ◌≢◌, ℕ, ◌+◌, ◌-◌, ◌==◌, inl, inr, Bool, true, false, List, [], ◌∷◌, length, IsUtf8, Option, Some, None, Result, Ok, Err, refl, sym, ap, subst, ◌∙◌, arith}
 use Rattle.std.proofs.lemmas.Str.{chars-nil}
 use Rattle.std.proofs.lemmas.Bool.{false≢true}
 use Rattle.std.specs.Prelude.{MatchBool}
@@ -12,15 +12,13 @@ use Rattle.ecma_scan.specs.declared.trivia.Goal.{Goal}
 use Rattle.ecma_scan.specs.Names.{is_nil}
 use Rattle.ecma_scan.specs.Places.{bytes}
 use Rattle.ecma_scan.proofs.Following.{empty_text}
-use Rattle.ecma_scan.specs.Trivia.{IsFault, IsFaultAfter, IsHashbang, IsSkipped, IsOpenBlock, IsLegacy}
+use Rattle.ecma_scan.specs.Trivia.{IsFaultAfter, IsHashbang, IsSkipped}
 use Rattle.ecma_lexeme.specs.declared.goal.LexicalGoal.{LexicalGoal}
 use Rattle.ecma_lexeme.specs.declared.goal.LexicalGoal.TheVariants.{Div, TemplateTail}
 use Rattle.ecma_lexeme.specs.Lexemes.{SpecLexeme, plain}
 use Rattle.ecma_lexeme.proofs.SpelledLemmas.{encoded}
-use Rattle.ecma_tokens.specs.Machine.{shown_spot}
 use Rattle.ecma_lexing.specs.States as spec
 use Rattle.ecma_lexing.specs.States.{Last, Start, State, behind, faulty, faulty_from, goal_of, is_start, place, shebang, spot_at, stopped}
-use Rattle.ecma_lexing.specs.Steps as steps
 use Rattle.ecma_lexing.specs.Steps.{Ends, IsBadTrivia, IsFirst, IsOutside, IsPlain, IsRead}
 use Rattle.ecma_lexer.specs.Stepping.{IsTaken, Steps}
 

@@ -4,3 +4,4 @@ pub mod Order
 pub mod Kept
 pub mod Stepping
 pub mod Machine
+pub mod Quick

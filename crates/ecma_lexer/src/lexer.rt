@@ -3,9 +3,14 @@ ghost use Rattle.std.specs.Prelude.{◌≡◌, ◌<◌, ◌+◌, ◌^◌, is_err
 ghost use Rattle.ecma_lexer.specs.Order.{BackFits};
 
 use crate::last::Last;
+use crate::quick::quiet_mark;
+use crate::step::{goal_of, part};
 use ecma_comments::Comments;
+use ecma_lexeme::mark_token;
+use ecma_scan::bare_name;
 use ecma_scan::place::out_of_memory;
-use ecma_token::{BytePos, Error, EsVersion, Syntax, TokenAndSpan};
+use ecma_scan::trivia::skip_trivia;
+use ecma_token::{BytePos, Error, EsVersion, Syntax, Token, TokenAndSpan, Word};
 use ecma_tokens::Settings;
 use std::alloc::{AllocError, Global};
 
@@ -88,16 +93,32 @@ impl<'a> Lexer<'a> {
         ensures keeps { keeps_comments self.new ≡ keeps_comments self.old }
         ensures told { SameTold (settings_in self.old.settings) (settings_in self.new.settings) }
     {
-        if self.full {
-            return Err(out_of_memory());
+        if self.full || self.keeps || !self.is_outside() {
+            return self.next_of_any();
         }
-        let token = if self.keeps {
-            self.advance_noting()
-        } else {
-            self.advance()
+        let goal = goal_of(self.settings.ctx);
+        let Ok((line_break, from)) = skip_trivia(self.end, goal, false, self.rest) else {
+            return self.next_of_any();
         };
-        self.full = token.is_err();
-        token
+        if let Some((name, rest)) = bare_name(from) {
+            let span = part(self.end, from, rest);
+            self.pass(line_break, rest);
+            return Ok(Some(TokenAndSpan {
+                token: Token::Word(Word::from_str(name)),
+                had_line_break: line_break,
+                span,
+            }));
+        }
+        if let Some((kind, rest)) = quiet_mark(from) {
+            let span = part(self.end, from, rest);
+            self.pass(line_break, rest);
+            return Ok(Some(TokenAndSpan {
+                token: mark_token(kind),
+                had_line_break: line_break,
+                span,
+            }));
+        }
+        self.next_behind(line_break, from)
     }
 
     /// A lexer that stands where this one stands, with the same comments. The text is shared.

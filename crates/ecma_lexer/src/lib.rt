@@ -5,6 +5,7 @@ mod calls;
 mod kept;
 mod last;
 pub mod lexer;
+mod quick;
 mod step;
 
 pub use ecma_canonical::canonical_text;

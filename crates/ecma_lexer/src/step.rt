@@ -216,7 +216,7 @@ impl<'a> Lexer<'a> {
     }
 
     /// Reads what stands at the front of this text under a goal.
-    fn read(
+    pub(crate) fn read(
         &mut self,
         goal: LexicalGoal,
         line_break: bool,

@@ -59,6 +59,10 @@ NoName text = (name : List ℕ) (rest : List ℕ) → IsName text name rest → 
 abbrev pub OneName : List ℕ → Type 0
 OneName text = (a b r s : List ℕ) → IsName text a r → IsName text b s → (a ≡ b) × (r ≡ s)
 
+-- a backslash behind characters that a name goes on with
+abbrev pub HasEscape : List ℕ → Type 0
+HasEscape text = (front : List ℕ) × (more : List ℕ) × (text ≡ front ++ 92 ∷ more) × Each is_name_part front
+
 -- ---- the parts of a name
 
 -- the characters of a name up to its first escape

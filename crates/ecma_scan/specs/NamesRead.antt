@@ -1,14 +1,11 @@
 -- The names that the code answers.
-use Rattle.std.specs.Prelude.{◌≡◌, ℕ, List, ◌∷◌, ◌++◌, string_bytes}
+use Rattle.std.specs.Prelude.{◌≡◌, ℕ, List, ◌++◌, string_bytes}
 use Rattle.std.specs.Str.{chars}
 use Rattle.ecma_scan.specs.declared.names.Name.{Name}
 use Rattle.ecma_scan.specs.declared.names.Name.TheVariants.{Bare, Escaped}
-use Rattle.ecma_scan.specs.Characters.{is_name_part}
-use Rattle.ecma_scan.specs.Names.{IsName}
-use Rattle.ecma_scan.specs.Runs.{Each}
+use Rattle.ecma_scan.specs.Names.{HasEscape, IsName}
 
 -- A name with no escape is what stands there, and one with an escape has a backslash after some characters that are spelled as they are.
 abbrev pub IsNamed : List ℕ → Name → List ℕ → Type 0
 IsNamed text (Bare own) rest = IsName text (chars own.now) rest × (text ≡ chars own.now ++ rest)
-IsNamed text (Escaped own) rest = IsName text (chars (string_bytes own)) rest
-    × ((front : List ℕ) × (more : List ℕ) × (text ≡ front ++ 92 ∷ more) × Each is_name_part front)
+IsNamed text (Escaped own) rest = IsName text (chars (string_bytes own)) rest × HasEscape text

@@ -18,7 +18,7 @@ pub mod words;
 pub use bytes::{ByteClass, byte_class};
 pub use characters::CharExt;
 pub use comments::{Comment, CommentKind, collect_trivia};
-pub use names::{Name, identifier_name};
+pub use names::{Name, bare_name, identifier_name};
 pub use punctuators::punctuator;
 pub use regexps::{RegExp, regular_expression};
 pub use runs::{split_block, split_line, split_name_part, split_reg_exp_char, split_white_space};

@@ -3,7 +3,7 @@ ghost use Rattle.std.specs.Prelude.{ℕ, true, ◌≡◌, ◌<◌, ◌≤◌, �
 ghost use Rattle.std.specs.Str.{chars, encode_utf8_all};
 ghost use Rattle.ecma_token.specs.declared.error.SyntaxError.TheVariants.{Memory};
 ghost use Rattle.ecma_scan.specs.Characters as spec;
-ghost use Rattle.ecma_scan.specs.Names.{IsBad, IsBareFront, IsFaultWithin, IsNameChar, IsNameFault, IsUnescaped, NoName, is_name_char, is_nil, is_opening};
+ghost use Rattle.ecma_scan.specs.Names.{HasEscape, IsBad, IsBareFront, IsFaultWithin, IsName, IsNameChar, IsNameFault, IsUnescaped, NoName, is_name_char, is_nil, is_opening};
 ghost use Rattle.ecma_scan.specs.NamesRead.{IsNamed};
 ghost use Rattle.ecma_scan.specs.Words.{name_bytes};
 ghost use Rattle.ecma_scan.specs.Runs.{Ends};
@@ -156,6 +156,23 @@ fn unescape<'a>(
         left = next;
     }
     Ok((made, left))
+}
+
+/// The name at the front of a text that is spelled without an escape (ECMA-262, 12.7), and what follows it, or nothing
+/// where no name begins there or an escape stands in it.
+#[inline(always)]
+pub fn bare_name<'a>(text: &'a str) -> Option<(&'a str, &'a str)>
+    ensures name { MatchOption result (Ends is_opening (chars text.now) ⊎ HasEscape (chars text.now))
+        (λ x. IsName (chars text.now) (chars x.0.now) (chars x.1.now) × (chars text.now ≡ chars x.0.now ++ chars x.1.now)) }
+    ensures rest { IfSome result (λ x. IsUtf8 x.0.now × IsUtf8 x.1.now × (length x.1.now ≤ length text.now)) }
+{
+    let Some((own, rest)) = bare(text) else {
+        return None;
+    };
+    match strip(rest, '\\') {
+        Some(_escape) => None,
+        None => Some((own, rest)),
+    }
 }
 
 /// The name at the front of a text (ECMA-262, 12.7), and what follows it, or nothing where none begins

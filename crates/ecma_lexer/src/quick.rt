@@ -1,0 +1,122 @@
+//! The common way of a step: where no template is open, a word without an escape or a punctuator, which open and close
+//! nothing.
+ghost use Rattle.std.specs.Prelude.{◌≡◌, ◌<◌, ◌≤◌, [], false, true, is_err, length, option_map, IfOk, IfSome, IsErr, IsUtf8};
+ghost use Rattle.std.specs.Str.{chars};
+ghost use Rattle.ecma_scan.specs.Punctuators.{IsPunctuator};
+ghost use Rattle.ecma_lexeme.specs.declared.goal.LexicalGoal.TheVariants.{Div};
+ghost use Rattle.ecma_tokens.specs.Machine.{SameTold, shown_spot};
+ghost use Rattle.ecma_tokens.specs.Settings.{settings_in};
+ghost use Rattle.ecma_lexing.specs.States as spec;
+ghost use Rattle.ecma_lexing.specs.Steps.{IsRead, IsStep};
+ghost use Rattle.ecma_lexer.specs.Kept.{KeepsAsAsked};
+ghost use Rattle.ecma_lexer.specs.Lexer.{comments_in, is_full, keeps_comments, state_in};
+ghost use Rattle.ecma_lexer.specs.Quick.{is_quiet_mark, passed};
+ghost use Rattle.ecma_lexer.specs.Stepping.{Steps};
+
+use crate::last::Last;
+use crate::lexer::Lexer;
+use ecma_lexeme::LexicalGoal;
+use ecma_scan::place::out_of_memory;
+use ecma_scan::punctuator;
+use ecma_token::operator::{AssignOp, BinOpToken};
+use ecma_token::token::TokenKind;
+use ecma_token::{Error, TokenAndSpan};
+
+/// Whether a punctuator opens and closes nothing where nothing is open, and is no slash.
+#[inline(always)]
+fn is_quiet_mark(kind: TokenKind) -> bool
+    ensures { result ≡ is_quiet_mark kind }
+{
+    !matches!(
+        kind,
+        TokenKind::BackQuote
+            | TokenKind::BinOp(BinOpToken::Div)
+            | TokenKind::AssignOp(AssignOp::DivAssign)
+    )
+}
+
+/// The punctuator at the front of a text, and what follows it, where it opens and closes nothing and is no slash.
+#[inline(always)]
+pub(crate) fn quiet_mark<'a>(text: &'a str) -> Option<(TokenKind, &'a str)>
+    ensures mark { IfSome result (λ x. IsPunctuator (chars text.now) x.0 (chars x.1.now) × (is_quiet_mark x.0 ≡ true)) }
+    ensures rest { IfSome result (λ x. IsUtf8 x.1.now × (length x.1.now < length text.now)) }
+{
+    match punctuator(text) {
+        Some((kind, rest)) if is_quiet_mark(kind) => Some((kind, rest)),
+        _ => None,
+    }
+}
+
+impl<'a> Lexer<'a> {
+    /// Whether no template is open, and neither a slash nor a fault came last nor the text starts here.
+    #[inline(always)]
+    #[tactic(auto, using(crate::proofs::QuickLemmas::nil_of))]
+    pub(crate) fn is_outside(&self) -> bool
+        ensures last { result ≡ true → (state_in self.now).tokens.last ≡ spec.Other }
+        ensures open { result ≡ true → (state_in self.now).settings.contexts ≡ [] }
+    {
+        matches!(self.last, Last::Other) && self.settings.contexts.is_empty()
+    }
+
+    /// Goes on behind a token that opens and closes nothing.
+    #[inline(always)]
+    pub(crate) fn pass(&mut self, line_break: bool, rest: &'a str)
+        requires { length rest.now < self.old.end }
+        ensures state { state_in self.new ≡ passed (state_in self.old) line_break (chars rest.now) }
+        ensures full { is_full self.new ≡ is_full self.old }
+        ensures kept { (comments_in self.new ≡ comments_in self.old) × (keeps_comments self.new ≡ keeps_comments self.old) }
+        ensures told { SameTold (settings_in self.old.settings) (settings_in self.new.settings) }
+    {
+        self.last = Last::Other;
+        self.rest = rest;
+        self.had_line_break = line_break;
+    }
+
+    /// What stands behind trivia, outside of templates.
+    ///
+    /// # Errors
+    ///
+    /// Want of memory.
+    #[inline(never)]
+    pub(crate) fn next_behind(
+        &mut self,
+        line_break: bool,
+        from: &'a str,
+    ) -> Result<Option<TokenAndSpan<'a>>, Error>
+        requires within { length from.now < self.old.end }
+        ensures step { Steps (IsRead Div line_break (chars from.now) (state_in self.old)) result (state_in self.new) }
+        ensures full { is_full self.new ≡ is_err result }
+        ensures kept { (comments_in self.new ≡ comments_in self.old) × (keeps_comments self.new ≡ keeps_comments self.old) }
+        ensures told { SameTold (settings_in self.old.settings) (settings_in self.new.settings) }
+    {
+        let token = self.read(LexicalGoal::Div, line_break, from);
+        self.full = token.is_err();
+        token
+    }
+
+    /// The next token, of any kind.
+    ///
+    /// # Errors
+    ///
+    /// Want of memory.
+    #[inline(never)]
+    pub(crate) fn next_of_any(&mut self) -> Result<Option<TokenAndSpan<'a>>, Error>
+        ensures step { Steps (IsStep (state_in self.old)) result (state_in self.new) }
+        ensures full { is_full self.new ≡ is_err result }
+        ensures stays_full { is_full self.old ≡ true → IsErr result }
+        ensures comments { IfOk result (λ t. KeepsAsAsked (keeps_comments self.old) (state_in self.old) (option_map shown_spot t) (comments_in self.old) (comments_in self.new)) }
+        ensures keeps { keeps_comments self.new ≡ keeps_comments self.old }
+        ensures told { SameTold (settings_in self.old.settings) (settings_in self.new.settings) }
+    {
+        if self.full {
+            return Err(out_of_memory());
+        }
+        let read = if self.keeps {
+            self.advance_noting()
+        } else {
+            self.advance()
+        };
+        self.full = read.is_err();
+        read
+    }
+}
