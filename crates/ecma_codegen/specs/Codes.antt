@@ -17,3 +17,11 @@ Codes l (Err Memory) = Unit {0}
 Codes l (Err Node) = is_refused l ≡ true
 Codes l (Err Position) = ⊥
 Codes l (Err (Write kind)) = IsUtf8 (bytes_of l) → ⊥
+
+-- The text with comments between the parts of a node, of which only that is said: whether something can't be printed.
+abbrev pub Noted : {Z : Type 0} → Laid → Result (String Z) EmitError → Type 0
+Noted l (Ok text) = is_refused l ≡ false
+Noted l (Err Memory) = Unit {0}
+Noted l (Err Node) = is_refused l ≡ true
+Noted l (Err Position) = ⊥
+Noted l (Err (Write kind)) = Unit {0}

@@ -27,6 +27,11 @@ Emits tells state l old new (Ok x) = (is_refused l ≡ false) × (tells old → 
 Emits tells state l old new (Err e) =
     MayRefuse e l (state old) × (tells old → tells new × IsFront (state new).page.out (emitted l (state old)).page.out × FaultFits e (emitted l (state old)).page)
 
+-- Of a writer that writes comments between, whose bytes are not known: only whether something can't be printed.
+abbrev pub Notes : {S : Type 0} → (S → State) → Laid → S → Result (Unit {0}) EmitError → Type 0
+Notes state l old (Ok x) = is_refused l ≡ false
+Notes state l old (Err e) = MayRefuse e l (state old)
+
 -- What stays: whether positions are kept, the loans, and the count of failed writes, which rises by one exactly where the answer is `Write`.
 abbrev pub Stays : {S : Type 0} → (S → State) → (S → ℕ) → (S → List GName) → S → S → Result (Unit {0}) EmitError → Type 0
 Stays state failed loans old new r =

@@ -1,15 +1,16 @@
 //! A node as a text.
-ghost use Rattle.std.specs.Prelude.{◌≡◌};
+ghost use Rattle.std.specs.Prelude.{◌≡◌, None};
 ghost use Rattle.ecma_layout.specs.Layout.{laid};
 ghost use Rattle.ecma_layout.specs.declared.look.Stand.TheVariants.{Alone};
-ghost use Rattle.ecma_codegen.specs.Codes.{Codes};
+ghost use Rattle.ecma_codegen.specs.Codes.{Codes, Noted};
 ghost use Rattle.ecma_codegen.specs.Settings as settings;
 
-use crate::emit::{emit, look_of};
+use crate::emit::{emit, emit_noting, look_of};
+use ecma_comments::Comments;
 use ecma_emit::Print;
 use ecma_layout::Look;
-use ecma_settings::Config;
-use ecma_token::Counted;
+use ecma_settings::{Config, SourceMapper};
+use ecma_token::{Counted, Spanned};
 use ecma_write::{EmitError, JsWriter};
 use std::alloc::Global;
 use std::io::ErrorKind;
@@ -34,6 +35,68 @@ pub fn to_code<N: Print>(alloc: Global, node: &N) -> Result<String, EmitError>
     let out: Counted<Vec<u8>> = Counted::new(Vec::new(alloc));
     let mut wr = JsWriter::new(alloc, "\n", out, None);
     let ended = emit(node, &mut wr, default_look());
+    let bytes = wr.into_inner().into_inner();
+    match ended {
+        Ok(()) => {}
+        Err(EmitError::Write(_)) => return Err(EmitError::Memory),
+        Err(fault) => return Err(fault),
+    }
+    match String::from_utf8(bytes) {
+        Ok(text) => Ok(text),
+        Err(_) => Err(EmitError::Write(ErrorKind::InvalidData)),
+    }
+}
+
+/// The text of a node with the comments of its source between its parts, by the default settings. A comment is taken from its store as it
+/// is written. A refused growth of the text is want of memory.
+///
+/// # Errors
+///
+/// Those of `to_code`.
+pub fn to_code_with_comments<N: Print + Spanned>(
+    alloc: Global,
+    comments: Option<&mut Comments>,
+    node: &N,
+) -> Result<String, EmitError>
+    ensures bare { comments.entry ≡ None → Codes (laid settings.default_look Alone (N.tree node.now)) result }
+    ensures noted { Noted (laid settings.default_look Alone (N.tree node.now)) result }
+{
+    match comments {
+        None => to_code(alloc, node),
+        Some(comments) => code_noting(alloc, comments, node),
+    }
+}
+
+/// The text of a node with the comments of its source between its parts, by the default settings. Who knows the lines of the source is
+/// not asked.
+///
+/// # Errors
+///
+/// Those of `to_code`.
+pub fn to_code_default<S: SourceMapper + Drop, N: Print + Spanned>(
+    alloc: Global,
+    _cm: S,
+    comments: Option<&mut Comments>,
+    node: &N,
+) -> Result<String, EmitError>
+    ensures bare { comments.entry ≡ None → Codes (laid settings.default_look Alone (N.tree node.now)) result }
+    ensures noted { Noted (laid settings.default_look Alone (N.tree node.now)) result }
+{
+    to_code_with_comments(alloc, comments, node)
+}
+
+/// The text of a node with these comments between its parts.
+fn code_noting<N: Print + Spanned>(
+    alloc: Global,
+    comments: &mut Comments,
+    node: &N,
+) -> Result<String, EmitError>
+    ensures { Noted (laid settings.default_look Alone (N.tree node.now)) result }
+{
+    let out: Counted<Vec<u8>> = Counted::new(Vec::new(alloc));
+    let mut wr = JsWriter::new(alloc, "\n", out, None);
+    let end = node.span_hi();
+    let ended = emit_noting(node, end, &mut wr, comments, default_look());
     let bytes = wr.into_inner().into_inner();
     match ended {
         Ok(()) => {}

@@ -2,14 +2,17 @@
 ghost use Rattle.std.specs.Prelude.{◌≡◌};
 ghost use Rattle.ecma_layout.specs.Layout.{laid};
 ghost use Rattle.ecma_layout.specs.declared.look.Stand.TheVariants.{Alone};
-ghost use Rattle.ecma_codegen.specs.Emits.{Emits, Stays};
+ghost use Rattle.ecma_codegen.specs.Emits.{Emits, Notes, Stays};
 ghost use Rattle.ecma_codegen.specs.Settings as settings;
 
+use ecma_comments::Comments;
 use ecma_emit::Print;
 use ecma_layout::{Look, Stand};
+use ecma_print_comments::WithComments;
 use ecma_printer::Printer;
 use ecma_settings::Config;
 use ecma_spell_base::Style;
+use ecma_token::BytePos;
 use ecma_write::{EmitError, WriteJs};
 
 /// How a text looks by these settings.
@@ -39,5 +42,23 @@ pub(crate) fn emit<N: Print, W: WriteJs>(node: &N, wr: &mut W, look: Look) -> Re
     match fault {
         None => Ok(()),
         Some(fault) => Err(fault),
+    }
+}
+
+/// Prints a node that ends at this place, and the comments of its source up to there between its parts.
+pub(crate) fn emit_noting<N: Print, W: WriteJs>(
+    node: &N,
+    end: BytePos,
+    wr: &mut W,
+    comments: &mut Comments,
+    look: Look,
+) -> Result<(), EmitError>
+    ensures value { Notes W.state (laid look Alone (N.tree node.now)) wr.old result }
+    ensures keeps { Stays W.state W.failed_writes W.loans wr.old wr.new result }
+{
+    let mut noting = WithComments::new(wr, comments, look.style.minify);
+    match emit(node, &mut noting, look) {
+        Ok(()) => noting.finish(end),
+        Err(fault) => Err(fault),
     }
 }

@@ -8,7 +8,7 @@ pub mod node;
 pub mod text_writer;
 pub mod util;
 
-pub use code::to_code;
+pub use code::{to_code, to_code_default, to_code_with_comments};
 pub use ecma_settings::{Config, ListFormat, NoPlaces, SourceMapper, SourceMapperExt};
 pub use ecma_write::{EmitError, Gather};
 pub use emitter::Emitter;
