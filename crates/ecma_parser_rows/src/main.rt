@@ -15,7 +15,11 @@ struct Parsing;
 
 impl Subject for Parsing {
     fn asked(&self, row: &Row<'_>) -> usize {
-        if row.has("nesting") || row.has("pair") { 2 } else { 1 }
+        if row.has("nesting") || row.has("pair") {
+            2
+        } else {
+            1
+        }
     }
 
     fn answer(&self, row: &Row<'_>, answer: &mut Answer) -> anyhow::Result<()> {
