@@ -4,7 +4,7 @@ ghost use Rattle.std.specs.Prelude.{◌<◌, length};
 
 use ecma_lexer::{Lexer, Tokens};
 use ecma_token::{
-    AssignOp, BinOpToken, BytePos, Error, EsVersion, Keyword, Syntax, Token, TokenAndSpan, Word,
+    AssignOp, BinOpToken, BytePos, Error, EsVersion, Keyword, Syntax, Token, Word,
 };
 use std::alloc::Global;
 
@@ -27,25 +27,32 @@ fn divides(token: &Token<'_>) -> bool {
     }
 }
 
-fn is_slash(token: &Token<'_>) -> bool {
-    matches!(
-        token,
-        Token::BinOp(BinOpToken::Div) | Token::AssignOp(AssignOp::DivAssign)
-    )
-}
-
-/// The next token, where a slash opens a regular expression if none divides there.
-fn next<'a>(lexer: &mut Lexer<'a>, may_divide: bool) -> Result<Option<TokenAndSpan<'a>>, Error> {
-    let token = lexer.next()?;
-    match &token {
-        Some(slash) if !may_divide && is_slash(&slash.token) => {
-            lexer.set_next_regexp(Some(slash.span.lo));
-        }
-        _ => return Ok(token),
-    }
+/// Reads the token that begins where a slash was read, a regular expression, and says whether a slash behind it divides.
+#[inline(never)]
+fn read_again(lexer: &mut Lexer<'_>, lo: BytePos) -> Result<Option<bool>, Error> {
+    lexer.set_next_regexp(Some(lo));
     let again = lexer.next()?;
     lexer.set_next_regexp(None);
-    Ok(again)
+    match again {
+        Some(read) => Ok(Some(divides(&read.token))),
+        None => Ok(None),
+    }
+}
+
+/// Reads the next token, and says whether a slash behind it divides. A slash opens a regular expression where none
+/// divides.
+#[inline(always)]
+fn read(lexer: &mut Lexer<'_>, may_divide: bool) -> Result<Option<bool>, Error> {
+    let Some(read) = lexer.next()? else {
+        return Ok(None);
+    };
+    match &read.token {
+        Token::Error(error) => Err(*error),
+        Token::BinOp(BinOpToken::Div) | Token::AssignOp(AssignOp::DivAssign) if !may_divide => {
+            read_again(lexer, read.span.lo)
+        }
+        token => Ok(Some(divides(token))),
+    }
 }
 
 /// Counts the tokens of a script.
@@ -60,14 +67,11 @@ pub fn count(alloc: Global, text: &str, keeps: bool) -> Result<u32, Error>
     let mut lexer = Lexer::new(alloc, syntax, EsVersion::latest(), text, BytePos(1), keeps);
     let mut tokens = 0u32;
     let mut may_divide = false;
-    'tokens: for _ in 0..=2 * text.len() {
-        let Some(token) = next(&mut lexer, may_divide)? else {
+    for _ in 0..=2 * text.len() {
+        let Some(divides) = read(&mut lexer, may_divide)? else {
             break;
         };
-        if let Token::Error(error) = token.token {
-            return Err(error);
-        }
-        may_divide = divides(&token.token);
+        may_divide = divides;
         tokens = tokens.saturating_add(1);
     }
     Ok(tokens)

@@ -258,8 +258,34 @@ fn may_begin(first: bool, text: &str) -> bool
     }
 }
 
+/// Passes all trivia at the front of a text, a piece at a time, as `skip_trivia` does.
+#[inline(never)]
+fn skip_pieces<'a>(
+    end: u32,
+    goal: Goal,
+    first: bool,
+    text: &'a str,
+) -> Result<(bool, &'a str), Error>
+    requires { length text.now < end }
+    ensures trivia { MatchResult result
+        (λ x. IsSkipped goal first (chars text.now) x.0 (chars x.1.now))
+        (λ e. IsFaultAfter end goal first (chars text.now) e) }
+    ensures rest { IfOk result (λ x. IsUtf8 x.1.now × (length x.1.now ≤ length text.now)) }
+{
+    let mut rest = text;
+    let mut broke = false;
+    while let Some((piece, more)) = trivia_piece(end, goal, first | broke, rest)? {
+        if piece.breaks_line() {
+            broke = true;
+        }
+        rest = more;
+    }
+    Ok((broke, rest))
+}
+
 /// Passes all trivia at the front of a text, which runs to the place `end`. Answers whether it breaks
 /// the line, and the text after it. `first` and the faults are those of `trivia_piece`.
+#[inline(always)]
 pub fn skip_trivia<'a>(
     end: u32,
     goal: Goal,
@@ -278,14 +304,8 @@ pub fn skip_trivia<'a>(
         broke |= line_break;
         rest = more;
     }
-    if !may_begin(first | broke, rest) {
-        return Ok((broke, rest));
-    }
-    while let Some((piece, more)) = trivia_piece(end, goal, first | broke, rest)? {
-        if piece.breaks_line() {
-            broke = true;
-        }
-        rest = more;
+    if may_begin(first | broke, rest) {
+        return skip_pieces(end, goal, first, text);
     }
     Ok((broke, rest))
 }

@@ -1,10 +1,11 @@
 -- Lemmas on the tables of words.
-use Rattle.std.proofs.Common.{◌≡◌, ◌≢◌, ◌≤◌, length, slice_index_or, ℕ, Bool, true, false, not, ◌&&◌, ◌||◌, List, [], ◌∷◌, ◌++◌, refl, sym, ap, ◌∙◌, ◌<◌, lit<, eq-eqb, arith}
+use Rattle.std.proofs.Common.{◌≡◌, ◌≢◌, length, ℕ, Bool, true, false, not, ◌&&◌, ◌||◌, List, [], ◌∷◌, ◌++◌, refl, sym, ap, ◌∙◌, ◌<◌, ◌≤◌, ◌⊎◌, inl, inr, leb, ⊎_elim, subst, lit<, eq-eqb, arith}
 use Rattle.std.specs.Prelude.{◌==◌, bytes_eq, codes, if◌then◌else◌}
 use Rattle.std.proofs.lemmas.Slice.Eq.{bytes_eq-Decides}
 use Rattle.std.proofs.lemmas.Bool.Decides.{nat_tests}
 use Rattle.ecma_token.specs.Kinds.{name_kind, null_kind, true_kind, false_kind}
-use Rattle.ecma_token.specs.Words.{SpecWord, begins_with, has_shape, own_words, keyword_words, literal_words, known_words, kind_among, text_among, kind_of, own_text, own_word, word_of, IsOwnName}
+use Rattle.ecma_token.specs.Words.{SpecWord, own_words, keyword_words, literal_words, known_words, kind_among, text_among, kind_of, own_text, own_word, word_of, IsOwnName}
+use Rattle.ecma_token.specs.WordTable.{kind_at, place_of, text_at}
 use Rattle.ecma_token.specs.WordKinds.{keyword_kind, known_kind}
 use Rattle.ecma_token.specs.declared.word.Keyword.{Keyword}
 use Rattle.ecma_token.specs.declared.word.KnownIdent.{KnownIdent}
@@ -38,50 +39,93 @@ either_false : (a b : Bool) → (a || b) ≡ false → (a ≡ false) × (b ≡ f
 either_false true b h = cc
 either_false false b h = (refl, h)
 
-own_shape : (word : List ℕ) (c : ℕ) (cs : List ℕ) → word ≡ c ∷ cs → (begins_with c word && length word == length (c ∷ cs)) ≡ true
-own_shape word c cs e =
-    let first : (c == c) ≡ true = grind (arith, nat_tests) in
-    let len : (length (c ∷ cs) == length (c ∷ cs)) ≡ true = grind (arith, nat_tests) in
-    rw e (rw first len)
-
-unlike : (word : List ℕ) (c : ℕ) (cs : List ℕ) → (begins_with c word && length word == length (c ∷ cs)) ≡ false → word ≡ c ∷ cs → ⊥
-unlike word c cs other e = let k : false ≡ true = sym other ∙ own_shape word c cs e in cc
-
--- where none of the words has the shape of a text, its kind is that of a plain name
-none_shaped : (words : List (ℕ × List ℕ)) (c : ℕ) (cs : List ℕ) → has_shape words c (length (c ∷ cs)) ≡ false → kind_among words (c ∷ cs) ≡ name_kind
-none_shaped [] c cs h = refl
-none_shaped (word ∷ words) c cs h =
-    let parts = either_false (begins_with c word.1 && length word.1 == length (c ∷ cs)) (has_shape words c (length (c ∷ cs))) h in
-    rw (different_false word.1 (c ∷ cs) (λ e. unlike word.1 c cs parts.0 (sym e))) (none_shaped words c cs parts.1)
-
-pub not_own : (bytes text : List ℕ) → bytes ≡ text → 1 ≤ length bytes → has_shape own_words (slice_index_or bytes 0 0) (length text) ≡ false → kind_of text ≡ name_kind
-unfolding kind_of
-not_own bytes [] same n h = absurd (omega (arith, n, ap length same))
-not_own bytes (c ∷ cs) same n h = none_shaped own_words c cs (sym (ap (λ t. has_shape own_words (slice_index_or t 0 0) (length (c ∷ cs))) same) ∙ h)
-
-pub empty_not_own : (bytes text : List ℕ) → bytes ≡ text → length bytes < 1 → kind_of text ≡ name_kind
-unfolding kind_of
-empty_not_own bytes [] same n = refl
-empty_not_own bytes (c ∷ cs) same n = absurd (omega (arith, n, ap length same))
-
--- each word's text is the one that the table has for its kind
-abbrev faithful : List (ℕ × List ℕ) → List (ℕ × List ℕ) → Bool
-faithful table [] = true
-faithful table (word ∷ words) = bytes_eq (text_among table word.0) word.1 && faithful table words
-
--- no word has the kind of a plain name
-abbrev unlike_names : List (ℕ × List ℕ) → Bool
-unlike_names [] = true
-unlike_names (word ∷ words) = not (word.0 == name_kind) && unlike_names words
-
 and_parts : (a b : Bool) → (a && b) ≡ true → (a ≡ true) × (b ≡ true)
 and_parts true true h = (refl, refl)
 and_parts true false h = (refl, h)
 and_parts false true h = (h, refl)
 and_parts false false h = (h, h)
 
-unlike_name : (kind : ℕ) → not (kind == name_kind) ≡ true → kind ≢ name_kind
-unlike_name kind unlike same = let equal : (kind == name_kind) ≡ true = eq-eqb kind name_kind same in cc
+same_place : (word text : List ℕ) → text ≡ word → (place_of word == place_of text) ≡ true
+same_place word text e =
+    let n = place_of word in
+    let same : (n == n) ≡ true = grind (arith, nat_tests) in
+    subst (λ t. (place_of word == place_of t) ≡ true) (sym e) same
+
+other_place : (word text : List ℕ) → (place_of word == place_of text) ≡ false → text ≡ word → ⊥
+other_place word text apart e = let k : false ≡ true = sym apart ∙ same_place word text e in cc
+
+-- where a text stands at its place, its kind stands there
+pub found_at : (words : List (ℕ × List ℕ)) (text : List ℕ) → bytes_eq (text_at words (place_of text)) text ≡ true → kind_at words (place_of text) ≡ kind_among words text
+found_at [] text same = refl
+found_at (word ∷ words) text same =
+    let place = place_of text in
+    let both : (b : Bool) → (place_of word.1 == place) ≡ b → bytes_eq (if b then word.1 else text_at words place) text ≡ true
+    → (if b then word.0 else kind_at words place) ≡ kind_among (word ∷ words) text = λ b e.
+    elim b as (λ v. (place_of word.1 == place) ≡ v → bytes_eq (if v then word.1 else text_at words place) text ≡ true → (if v then word.0 else kind_at words place) ≡ kind_among (word ∷ words) text) [
+      | true ↦ λ _ here. rw here refl
+      | false ↦ λ apart there. rw (different_false word.1 text (other_place word.1 text apart)) (found_at words text there)
+    ] e
+    in both (place_of word.1 == place) refl same
+
+-- each word stands at its place
+abbrev placed : List (ℕ × List ℕ) → List (ℕ × List ℕ) → Bool
+placed table [] = true
+placed table (word ∷ words) = bytes_eq (text_at table (place_of word.1)) word.1 && placed table words
+
+not_at : (table : List (ℕ × List ℕ)) (word text : List ℕ) → bytes_eq (text_at table (place_of word)) word ≡ true → bytes_eq (text_at table (place_of text)) text ≡ false → text ≡ word → ⊥
+not_at table word text is other e =
+    let k : bytes_eq (text_at table (place_of word)) word ≡ false = subst (λ t. bytes_eq (text_at table (place_of t)) t ≡ false) e other in
+    let j : false ≡ true = sym k ∙ is in cc
+
+-- a text that doesn't stand at its place is none of the words
+missing_at : (table words : List (ℕ × List ℕ)) (text : List ℕ) → placed table words ≡ true → bytes_eq (text_at table (place_of text)) text ≡ false → kind_among words text ≡ name_kind
+missing_at table [] text whole other = refl
+missing_at table (word ∷ words) text whole other =
+    let parts : (bytes_eq (text_at table (place_of word.1)) word.1 ≡ true) × (placed table words ≡ true) = and_parts _ _ whole in
+    rw (different_false word.1 text (not_at table word.1 text parts.0 other)) (missing_at table words text parts.1 other)
+
+pub own_found_at : (text : List ℕ) (place : ℕ) → place ≡ place_of text → bytes_eq (text_at own_words place) text ≡ true → kind_at own_words place ≡ kind_of text
+unfolding kind_of
+own_found_at text place e same = subst (λ p. bytes_eq (text_at own_words p) text ≡ true → kind_at own_words p ≡ kind_of text) (sym e) (found_at own_words text) same
+
+pub own_missing_at : (text : List ℕ) (place : ℕ) → place ≡ place_of text → bytes_eq (text_at own_words place) text ≡ false → name_kind ≡ kind_of text
+unfolding kind_of
+own_missing_at text place e other = sym (missing_at own_words own_words text refl (subst (λ p. bytes_eq (text_at own_words p) text ≡ false) e other))
+
+-- each word has from two to ten bytes
+abbrev within : List (ℕ × List ℕ) → Bool
+within [] = true
+within (word ∷ words) = (leb 2 (length word.1) && leb (length word.1) 10) && within words
+
+at_most : (a b : ℕ) → leb a b ≡ true → a ≤ b
+at_most a b h = grind (arith, nat_tests)
+
+other_length : (word text : List ℕ) → leb 2 (length word) ≡ true → leb (length word) 10 ≡ true → (length text < 2) ⊎ (10 < length text) → text ≡ word → ⊥
+other_length word text low high out e =
+    let same : length text ≡ length word = ap length e in
+    let least : 2 ≤ length word = at_most 2 (length word) low in
+    let most : length word ≤ 10 = at_most (length word) 10 high in
+    ⊎_elim (λ (h : length text < 2). omega (arith, h, least, same)) (λ (h : 10 < length text). omega (arith, h, most, same)) out
+
+none_within : (words : List (ℕ × List ℕ)) (text : List ℕ) → within words ≡ true → (length text < 2) ⊎ (10 < length text) → kind_among words text ≡ name_kind
+none_within [] text whole out = refl
+none_within (word ∷ words) text whole out =
+    let parts : ((leb 2 (length word.1) && leb (length word.1) 10) ≡ true) × (within words ≡ true) = and_parts _ _ whole in
+    let ends : (leb 2 (length word.1) ≡ true) × (leb (length word.1) 10 ≡ true) = and_parts _ _ parts.0 in
+    rw (different_false word.1 text (other_length word.1 text ends.0 ends.1 out)) (none_within words text parts.1 out)
+
+pub short_not_own : (bytes text : List ℕ) → bytes ≡ text → length bytes < 2 → kind_of text ≡ name_kind
+unfolding kind_of
+short_not_own bytes text same short = none_within own_words text refl (inl (subst (λ t. length t < 2) same short))
+
+pub long_not_own : (text : List ℕ) → 10 < length text → kind_of text ≡ name_kind
+unfolding kind_of
+long_not_own text long = none_within own_words text refl (inr long)
+
+-- each word's text is the one that the table has for its kind
+abbrev faithful : List (ℕ × List ℕ) → List (ℕ × List ℕ) → Bool
+faithful table [] = true
+faithful table (word ∷ words) = bytes_eq (text_among table word.0) word.1 && faithful table words
 
 -- by whether the first word is the text
 by_first : (word : ℕ × List ℕ) (words : List (ℕ × List ℕ)) (text : List ℕ) (P : ℕ → Type 0) → (word.1 ≡ text → P word.0) → P (kind_among words text) → P (kind_among (word ∷ words) text)
@@ -102,23 +146,6 @@ text_of_found table (word ∷ words) text whole found =
     (λ other. text_of_found table words text parts.1 other)
     found
 
--- what a first table finds, the joined table finds
-pub found_first : (words more : List (ℕ × List ℕ)) (text : List ℕ) → kind_among words text ≢ name_kind → kind_among (words ++ more) text ≡ kind_among words text
-found_first [] more text found = absurd (found refl)
-found_first (word ∷ words) more text found =
-    let both : (b : Bool) → (if b then word.0 else kind_among words text) ≢ name_kind → (if b then word.0 else kind_among (words ++ more) text) ≡ (if b then word.0 else kind_among words text) =
-    elim [ true ↦ λ _. refl | false ↦ λ other. found_first words more text other ]
-    in both (bytes_eq word.1 text) found
-
--- what a first table does not find, the second does
-pub found_second : (words more : List (ℕ × List ℕ)) (text : List ℕ) → unlike_names words ≡ true → kind_among words text ≡ name_kind → kind_among (words ++ more) text ≡ kind_among more text
-found_second [] more text unlike none = refl
-found_second (word ∷ words) more text unlike none =
-    let parts : (not (word.0 == name_kind) ≡ true) × (unlike_names words ≡ true) = and_parts _ _ unlike in
-    let both : (b : Bool) → (if b then word.0 else kind_among words text) ≡ name_kind → (if b then word.0 else kind_among (words ++ more) text) ≡ kind_among more text =
-    elim [ true ↦ λ same. absurd (unlike_name word.0 parts.0 same) | false ↦ λ other. found_second words more text parts.1 other ]
-    in both (bytes_eq word.1 text) none
-
 pub keyword_below : (keyword : Keyword) → keyword_kind keyword < name_kind
 keyword_below Await = lit< tt
 keyword_below _ = lit< tt
@@ -127,18 +154,12 @@ pub known_below : (known : KnownIdent) → known_kind known < name_kind
 known_below Accessor = lit< tt
 known_below _ = lit< tt
 
-same_word : (kind kind' : ℕ) (text text' : List ℕ) → kind ≡ kind' → text ≡ text' → (let word : SpecWord = record { kind = kind; text = text } in word) ≡ (let word : SpecWord = record { kind = kind'; text = text' } in word)
+pub same_word : (kind kind' : ℕ) (text text' : List ℕ) → kind ≡ kind' → text ≡ text' → (let word : SpecWord = record { kind = kind; text = text } in word) ≡ (let word : SpecWord = record { kind = kind'; text = text' } in word)
 same_word kind kind' text text' e f = cc
 
 own_faithful : (words : List (ℕ × List ℕ)) (text : List ℕ) → faithful own_words words ≡ true → kind_among words text ≢ name_kind → own_text (kind_among words text) ≡ text
 unfolding own_text
 own_faithful words text whole found = text_of_found own_words words text whole found
-
--- the text of a keyword that was found
-pub keyword_text : (keyword : Keyword) (text : List ℕ) → keyword_kind keyword ≡ kind_among keyword_words text → own_text (keyword_kind keyword) ≡ text
-keyword_text keyword text found =
-    let below : keyword_kind keyword < name_kind = keyword_below keyword in
-    rw found (own_faithful keyword_words text refl (λ none. absurd (omega arith)))
 
 -- the text of a known name that was found
 pub known_text : (known : KnownIdent) (text : List ℕ) → known_kind known ≡ kind_among known_words text → own_text (known_kind known) ≡ text
@@ -146,41 +167,16 @@ known_text known text found =
     let below : known_kind known < name_kind = known_below known in
     rw found (own_faithful known_words text refl (λ none. absurd (omega arith)))
 
--- the word of a keyword's text
-pub keyword_word : (keyword : Keyword) (text : List ℕ) → keyword_kind keyword ≡ kind_among keyword_words text → own_word (keyword_kind keyword) ≡ word_of text
-unfolding kind_of
-keyword_word keyword text found =
-    let below : keyword_kind keyword < name_kind = keyword_below keyword in
-    let first : kind_among own_words text ≡ kind_among keyword_words text = found_first keyword_words (literal_words ++ known_words) text (λ none. absurd (omega arith)) in
-    same_word _ _ _ _ (found ∙ sym first) (keyword_text keyword text found)
-
 -- the name of a text with a kind that was found among the known names
 pub found_name : (known : KnownIdent) (text : List ℕ) → known_kind known ≡ kind_among known_words text → own_word (known_kind known) ≡ record { kind = kind_among known_words text; text = text }
 found_name known text found = same_word _ _ _ _ found (known_text known text found)
 
--- the word of a text that is neither a keyword nor a word that is a value
-pub name_word : (text : List ℕ) → Differs literal_words text → name_kind ≡ kind_among keyword_words text → kind_among known_words text ≡ kind_of text
+-- the word of a text with a kind of its own
+pub own_kind_word : (kind : ℕ) (text : List ℕ) → kind ≡ kind_of text → kind < name_kind → own_word kind ≡ word_of text
 unfolding kind_of
-name_word text differs none =
-    let second : kind_among own_words text ≡ kind_among (literal_words ++ known_words) text = found_second keyword_words (literal_words ++ known_words) text refl (sym none) in
-    let third : kind_among (literal_words ++ known_words) text ≡ kind_among known_words text = found_second literal_words known_words text refl (sym (none_among literal_words text differs)) in
-    sym (second ∙ third)
-
-pub null_word : own_word null_kind ≡ word_of (codes "null")
-unfolding kind_of own_text
-null_word = refl
-
-pub true_word : own_word true_kind ≡ word_of (codes "true")
-unfolding kind_of own_text
-true_word = refl
-
-pub false_word : own_word false_kind ≡ word_of (codes "false")
-unfolding kind_of own_text
-false_word = refl
-
--- the token of a text that is neither a keyword nor a word that is a value
-pub name_of_text : (name : SpecWord) (text : List ℕ) → name ≡ record { kind = kind_among known_words text; text = text } → Differs literal_words text → name_kind ≡ kind_among keyword_words text → name ≡ word_of text
-name_of_text name text is differs none = is ∙ same_word _ _ _ _ (name_word text differs none) refl
+own_kind_word kind text found below =
+    let text_is : own_text kind ≡ text = rw found (own_faithful own_words text refl (λ none. absurd (omega (arith, found, none, below)))) in
+    same_word _ _ _ _ found text_is
 
 keyword_again : (keyword : Keyword) → kind_of (own_text (keyword_kind keyword)) ≡ keyword_kind keyword
 unfolding kind_of own_text

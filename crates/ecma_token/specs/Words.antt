@@ -89,16 +89,6 @@ abbrev pub kind_among : List (ℕ × List ℕ) → List ℕ → ℕ
 kind_among [] text = name_kind
 kind_among (word ∷ words) text = if bytes_eq word.1 text then word.0 else kind_among words text
 
--- whether a text begins with this byte
-abbrev pub begins_with : ℕ → List ℕ → Bool
-begins_with first [] = false
-begins_with first (c ∷ cs) = c == first
-
--- whether one of the words begins with this byte and has this length
-abbrev pub has_shape : List (ℕ × List ℕ) → ℕ → ℕ → Bool
-has_shape [] first len = false
-has_shape (word ∷ words) first len = (begins_with first word.1 && length word.1 == len) || has_shape words first len
-
 -- the text of a kind, by a list of words with kinds
 abbrev pub text_among : List (ℕ × List ℕ) → ℕ → List ℕ
 text_among [] kind = []

@@ -13,6 +13,7 @@ pub mod token;
 pub mod utf16;
 pub mod version;
 pub mod word;
+mod word_table;
 
 pub use context::Context;
 pub use counted::{Counted, CountedRead, CountedWrite, Failing};

@@ -1,8 +1,9 @@
 //! Words: keywords, the words that are values, and names (ECMA-262, 12.7).
 ghost use Rattle.std.specs.Prelude.{◌≡◌, false, Some};
 ghost use Rattle.ecma_token.specs.Kinds.{name_kind};
-ghost use Rattle.ecma_token.specs.Words.{has_shape, keyword_words, known_words, kind_among, kind_of, own_text, own_word, own_words, word_of, IsOwnName};
+ghost use Rattle.ecma_token.specs.Words.{keyword_words, known_words, kind_among, own_text, own_word, word_of, IsOwnName};
 
+use crate::word_table::kind_of;
 use std::borrow::CowStr;
 use std::convert::AsStr;
 use std::fmt;
@@ -336,46 +337,6 @@ pub enum WordKind {
     Ident(IdentKind),
 }
 
-/// Whether a word that has a kind of its own begins with this byte and has this length.
-fn has_own_shape(first: u8, len: usize) -> bool
-    ensures { result ≡ has_shape own_words first len }
-{
-    match first {
-        b'a' => matches!(len, 2 | 5 | 6 | 8),
-        b'b' => len == 5,
-        b'c' => matches!(len, 4 | 5 | 8),
-        b'd' => matches!(len, 2 | 6 | 7 | 8),
-        b'e' => matches!(len, 4 | 6 | 7),
-        b'f' => matches!(len, 3 | 4 | 5 | 7 | 8),
-        b'g' => len == 3,
-        b'i' => matches!(len, 2 | 6 | 9 | 10),
-        b'l' => len == 3,
-        b'm' => len == 4,
-        b'n' => matches!(len, 3 | 4),
-        b'o' => len == 2,
-        b'p' => matches!(len, 6 | 7 | 9),
-        b'r' => len == 6,
-        b's' => matches!(len, 3 | 5 | 6),
-        b't' => matches!(len, 3 | 4 | 5 | 6),
-        b'u' => matches!(len, 5 | 9),
-        b'v' => matches!(len, 3 | 4),
-        b'w' => matches!(len, 4 | 5),
-        b'y' => len == 5,
-        _ => false,
-    }
-}
-
-/// Whether a text may be a word that has a kind of its own. Most names are known by it for plain ones.
-#[inline]
-fn may_be_own(text: &str) -> bool
-    ensures { result ≡ false → kind_of text.now ≡ name_kind }
-{
-    match text.as_bytes() {
-        [first, ..] => has_own_shape(*first, text.len()),
-        [] => false,
-    }
-}
-
 impl<'a> Word<'a> {
     ghost use Rattle.ecma_token.specs.WordViews.{word_view, word_kind_number};
 
@@ -383,17 +344,15 @@ impl<'a> Word<'a> {
     pub fn from_str(text: &'a str) -> Word<'a>
         ensures { word_view result ≡ word_of text.now }
     {
-        if !may_be_own(text) {
-            return Word::Ident(IdentLike::Other(CowStr::Borrowed(text)));
-        }
-        match text {
-            "null" => Word::Null,
-            "true" => Word::True,
-            "false" => Word::False,
-            _ => match text.parse::<Keyword>() {
-                Ok(keyword) => Word::Keyword(keyword),
-                Err(_) => Word::Ident(IdentLike::from(text)),
-            },
+        match kind_of(text) {
+            WordKind::Keyword(keyword) => Word::Keyword(keyword),
+            WordKind::Null => Word::Null,
+            WordKind::True => Word::True,
+            WordKind::False => Word::False,
+            WordKind::Ident(IdentKind::Known(known)) => Word::Ident(IdentLike::Known(known)),
+            WordKind::Ident(IdentKind::Other) => {
+                Word::Ident(IdentLike::Other(CowStr::Borrowed(text)))
+            }
         }
     }
 

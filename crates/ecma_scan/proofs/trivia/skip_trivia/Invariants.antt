@@ -10,9 +10,3 @@ invariant-loop-line_break l = shadow (Utf8 l.rest) × (length l.rest ≤ length 
 
 abbrev pub decreases-loop-line_break : goal.decreases-loop-line_break
 decreases-loop-line_break l = length l.rest
-
-abbrev pub invariant-loop-piece : goal.invariant-loop-piece
-invariant-loop-piece l = shadow (Utf8 l.rest) × (length l.rest ≤ length l.text) × Skipped l.goal l.first (chars l.text) l.broke (chars l.rest)
-
-abbrev pub decreases-loop-piece : goal.decreases-loop-piece
-decreases-loop-piece l = length l.rest
