@@ -4,4 +4,5 @@ pub mod Chosen
 pub mod Named
 pub mod Parts
 pub mod Sorted
+pub mod Spines
 pub mod Templated

@@ -3,4 +3,5 @@ pub mod Betweens
 pub mod Chains
 pub mod Sorts
 pub mod Specifiers
+pub mod Spines
 pub mod Templates

@@ -51,7 +51,6 @@ impl<T: PrintPart> Print for UsingDeclOf<T> {
 
     fn print<W: WriteJs>(&self, p: &mut Printer<W>, look: Look, _stand: Stand) {
         p.commit();
-        p.start(self.span);
         p.word_if(self.is_await, Text::Await);
         p.text(Text::Using);
         p.blank();

@@ -3,10 +3,17 @@ ghost use Rattle.std.specs.Prelude.{◌≡◌, false, MatchOption};
 ghost use Rattle.ecma_token.specs.OperatorKinds.{binary_op_kind};
 ghost use Rattle.ecma_node.specs.Placed.{inner};
 ghost use Rattle.ecma_node.specs.View.{unary_op_word, view_expr_kind, view_number, view_pat_kind, view_stmt_kind};
+ghost use Rattle.ecma_spine.specs.Spines.{Linked};
 ghost use Rattle.ecma_edge.specs.Edges.{is_word_operator};
+ghost use Rattle.ecma_layout.specs.Layout as layout;
+ghost use Rattle.ecma_layout.specs.Layout.{closing};
+ghost use Rattle.ecma_printer.specs.Prints.{Prints};
 ghost use Rattle.ecma_emit.specs.Asks.{is_number};
+ghost use Rattle.ecma_emit.specs.Spines.{lines_laid, rights_laid};
 ghost use Rattle.ecma_emit.specs.Sorts.{expression, is_expression, is_pattern, is_statement, pattern, sort_of, statement};
 
+use crate::branches::{print_consequence, print_else};
+use crate::operators::{marks_operator, print_operator};
 use crate::print::{Print, PrintItem, PrintPart};
 use ecma_edge::gaps::{gap_after, gap_before, gap_of_unary};
 use ecma_edge::{EndsWithAlphaNum, StartsWithAlphaNum};
@@ -16,7 +23,8 @@ use ecma_node::{
     UnaryOp,
 };
 use ecma_printer::Printer;
-use ecma_token::BinaryOp;
+use ecma_spine::{below, links, there};
+use ecma_token::{BinaryOp, Spanned};
 use ecma_write::WriteJs;
 
 impl Print for Part {
@@ -36,8 +44,42 @@ impl Print for Expr {
     ghost tree = { λ t. t };
 
     #[cycle(print)]
+    #[tactic(auto, using(crate::proofs::Spines::at_the_top))]
     fn print<W: WriteJs>(&self, p: &mut Printer<W>, look: Look, stand: Stand) {
-        self.kind.print(p, look, stand)
+        let links = links(self);
+        if links == 0 {
+            self.kind.print(p, look, stand);
+            return;
+        }
+        p.start_if(marks_operator(stand), self.span());
+        below(self, links).print(p, look, Stand::Operand);
+        print_rights(self, links, p, look);
+    }
+}
+
+/// Prints the operators and the right operands of so many links, from the innermost outwards: those of the inner half, then those
+/// of the outer half, so that no chain is too long for the stack.
+#[cycle(print)]
+#[tactic(auto, using(crate::proofs::Spines::rights))]
+fn print_rights<W: WriteJs>(top: &Expr, links: u32, p: &mut Printer<W>, look: Look)
+    requires linked { Linked links top.now }
+    ensures { Prints W.tells W.state W.failed_writes W.loans (rights_laid look links top.now) p.old.wr p.old.fault p.new.wr p.new.fault }
+{
+    match links {
+        0 => {}
+        1 => {
+            if let ExprKind::Bin(bin) = &top.kind {
+                let before = gap_before(bin.op, bin.left.get());
+                let after = gap_after(bin.op, bin.right.get());
+                print_operator(bin.op, before, after, p, look);
+                bin.right.print(p, look, Stand::Alone);
+            }
+        }
+        _ => {
+            let outer = links / 2;
+            print_rights(below(top, outer), links - outer, p, look);
+            print_rights(top, outer, p, look);
+        }
     }
 }
 
@@ -45,9 +87,71 @@ impl Print for Stmt {
     ghost tree = { λ t. t };
 
     #[cycle(print)]
+    #[tactic(auto, using(crate::proofs::Spines::along_branches))]
     fn print<W: WriteJs>(&self, p: &mut Printer<W>, look: Look, stand: Stand) {
-        self.kind.print(p, look, stand)
+        let mut rest = self;
+        let mut links: u32 = 0;
+        'links: while let StmtKind::If(branch) = &rest.kind {
+            let Some(alt) = &branch.alt else {
+                break;
+            };
+            if links == u32::MAX {
+                break;
+            }
+            print_consequence(branch, p, look);
+            rest = there(alt.get());
+            let before_word = rest.starts_with_alpha_num();
+            print_else(is_block(branch.cons.get()), before_word, p, look);
+            links += 1;
+        }
+        if links == 0 {
+            self.kind.print(p, look, stand);
+            return;
+        }
+        rest.print(p, look, Stand::Alone);
+        print_end(rest, p, look);
+        print_lines(links - 1, p, look);
     }
+}
+
+/// Prints what stands behind the last alternative of a chain.
+#[tactic(auto, unfolding(ecma_layout::specs::Layout::closing))]
+fn print_end<W: WriteJs>(last: &Stmt, p: &mut Printer<W>, look: Look)
+    ensures { Prints W.tells W.state W.failed_writes W.loans (closing look last.now) p.old.wr p.old.fault p.new.wr p.new.fault }
+{
+    if is_block(last) {
+        return;
+    }
+    if is_variables(last) {
+        p.semi();
+    }
+    p.line(look);
+}
+
+/// Ends so many lines when formatting: what stands behind the alternatives that are `if` statements themselves.
+fn print_lines<W: WriteJs>(count: u32, p: &mut Printer<W>, look: Look)
+    ensures { Prints W.tells W.state W.failed_writes W.loans (lines_laid look count) p.old.wr p.old.fault p.new.wr p.new.fault }
+{
+    for _ in 0..count {
+        p.line(look);
+    }
+}
+
+/// Whether a statement is a block.
+fn is_block(stmt: &Stmt) -> bool
+    ensures { result ≡ layout.is_block stmt.now }
+{
+    matches!(&stmt.kind, StmtKind::Block(_))
+}
+
+/// Whether a statement declares variables.
+fn is_variables(stmt: &Stmt) -> bool
+    ensures { result ≡ layout.is_variables stmt.now }
+{
+    matches!(
+        &stmt.kind,
+        StmtKind::Decl(DeclOf::Var(_)) | StmtKind::Decl(DeclOf::Using(_))
+    )
 }
 
 impl Print for Pat {
@@ -128,17 +232,14 @@ fn pat_sort(kind: &PatKind)
 impl PrintItem for Part {
     fn is_block(&self) -> bool {
         match as_stmt(self) {
-            Some(x) => matches!(&x.kind, StmtKind::Block(_)),
+            Some(x) => is_block(x),
             None => false,
         }
     }
 
     fn is_variables(&self) -> bool {
         match as_stmt(self) {
-            Some(x) => matches!(
-                &x.kind,
-                StmtKind::Decl(DeclOf::Var(_)) | StmtKind::Decl(DeclOf::Using(_))
-            ),
+            Some(x) => is_variables(x),
             None => false,
         }
     }

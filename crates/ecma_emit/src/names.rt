@@ -73,5 +73,6 @@ impl Print for PrivateName {
         p.commit();
         p.start(self.span);
         print_name(p, look.style, self.name.as_str());
+        p.end(self.span);
     }
 }

@@ -1,8 +1,10 @@
 //! Operators.
 ghost use Rattle.std.specs.Prelude.{◌≡◌, if◌then◌else◌, codes};
+ghost use Rattle.ecma_token.specs.OperatorKinds.{binary_op_kind};
+ghost use Rattle.ecma_token.specs.Operators.{operator_text};
 ghost use Rattle.ecma_edge.specs.Edges as edges;
 ghost use Rattle.ecma_node.specs.View.{view_unary_expr, view_update_expr, view_bin_expr, view_cond_expr, view_await_expr, view_yield_expr, view_paren_expr, view_seq_expr, unary_op_word, update_op_word};
-ghost use Rattle.ecma_layout.specs.Looks.{when, gap_or, blank};
+ghost use Rattle.ecma_layout.specs.Looks.{◌·◌, when, gap_or, blank, text};
 ghost use Rattle.ecma_layout.specs.Layout.{marked_as_operand};
 ghost use Rattle.ecma_layout.specs.Words.{sign_of};
 ghost use Rattle.ecma_printer.specs.Prints.{Prints};
@@ -15,7 +17,7 @@ use ecma_node::{
     UpdateOp, YieldExprOf,
 };
 use ecma_printer::{Printer, Text};
-use ecma_token::Keyword;
+use ecma_token::{BinaryOp, Keyword};
 use ecma_write::WriteJs;
 
 impl<T: PrintPart> Print for UnaryExprOf<T> {
@@ -94,15 +96,31 @@ impl<T: PrintPart> Print for BinExprOf<T> {
     fn print<W: WriteJs>(&self, p: &mut Printer<W>, look: Look, stand: Stand) {
         p.start_if(marks_operator(stand), self.span);
         self.left.print(p, look, Stand::Operand);
-        p.gap_or(look, self.left.gap_before(self.op));
-        p.write(self.op.as_str());
-        p.gap_or(look, self.right.gap_after(self.op));
+        let gap_before = self.left.gap_before(self.op);
+        let gap_after = self.right.gap_after(self.op);
+        print_operator(self.op, gap_before, gap_after, p, look);
         self.right.print(p, look, Stand::Alone);
     }
 }
 
+/// Prints an operator between two operands, and the blanks round it.
+pub(crate) fn print_operator<W: WriteJs>(
+    op: BinaryOp,
+    gap_before: bool,
+    gap_after: bool,
+    p: &mut Printer<W>,
+    look: Look,
+)
+    ensures { Prints W.tells W.state W.failed_writes W.loans
+        (gap_or look gap_before · text (operator_text (binary_op_kind op)) · gap_or look gap_after) p.old.wr p.old.fault p.new.wr p.new.fault }
+{
+    p.gap_or(look, gap_before);
+    p.write(op.as_str());
+    p.gap_or(look, gap_after);
+}
+
 /// Whether an operator that stands so marks its start.
-fn marks_operator(stand: Stand) -> bool
+pub(crate) fn marks_operator(stand: Stand) -> bool
     ensures { result ≡ marked_as_operand stand }
 {
     !matches!(stand, Stand::Operand)

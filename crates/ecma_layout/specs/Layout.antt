@@ -313,7 +313,7 @@ abbrev mutual
   laid look s (var_decl span kind decls) =
       commit · start span · word (own_text kind) · (if starts_bracketed decls then gap look else blank) · separated look (comma look) decls
   laid look s (using_decl span is_await decls) =
-      commit · start span · when is_await (word (codes "await") · blank) · word (codes "using") · blank · separated look (comma look) decls
+      commit · when is_await (word (codes "await") · blank) · word (codes "using") · blank · separated look (comma look) decls
   laid look s (var_declarator span name_ init) =
       start span · laid look Alone name_ · initial look init (laid look Alone init)
   laid look s (fn_decl span id (function at params decorators body generates waits)) =

@@ -44,7 +44,7 @@ abbrev pub key_word : Look → Span → List ℕ → Laid
 key_word look span sym = commit · start span · text (key_bytes look.style sym)
 
 abbrev pub hash_name : Look → Span → List ℕ → Laid
-hash_name look span sym = start span · text (codes "#") · name look span sym
+hash_name look span sym = start span · text (codes "#") · name look span sym · end span
 
 abbrev pub string : Look → Span → List ℕ → Option (List ℕ) → Laid
 string look span units raw =

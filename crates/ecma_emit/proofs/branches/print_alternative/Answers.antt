@@ -1,5 +1,9 @@
-use Rattle.ecma_printer.proofs.Steps.{◌▸◌, present, gap_as}
+use Rattle.std.proofs.Common.{ap}
+use Rattle.ecma_layout.specs.Looks.{Laid}
+use Rattle.ecma_printer.proofs.Steps.{◌▸◌, present, laid_as}
+use Rattle.ecma_emit.specs.Spines.{else_laid}
 use Rattle.ecma_emit.proofs.branches.print_alternative.Goals as goal
 
 pub returns-in-Some : goal.returns-in-Some
-returns-in-Some g c = rw c.in-Some.is (present c.print.ensures.there (c.gap_if.ensures ▸ (c.text.ensures ▸ (gap_as c.args.look c.starts_with_word.ensures c.gap_or.ensures ▸ (c.print.ensures.laid ▸ c.print_closing.ensures)))))
+returns-in-Some g c = rw c.in-Some.is (present c.print.ensures.there
+    (laid_as (ap (else_laid c.args.look c.args.behind_block) c.starts_with_word.ensures) c.print_else.ensures ▸ (c.print.ensures.laid ▸ c.print_closing.ensures)))

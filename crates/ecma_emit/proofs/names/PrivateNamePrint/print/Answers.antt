@@ -5,4 +5,4 @@ use Rattle.ecma_printer.proofs.Steps.{◌▸◌, laid_as}
 use Rattle.ecma_emit.proofs.names.PrivateNamePrint.print.Goals as goal
 
 pub returns-clause-laid : goal.returns-clause-laid
-returns-clause-laid g c = c.start.ensures ▸ (c.text.ensures ▸ (c.commit.ensures ▸ (c.start-2.ensures ▸ laid_as (ap (λ (b : List ℕ). text (name_bytes c.args.look.style b)) c.as_str.ensures) c.print_name.ensures)))
+returns-clause-laid g c = c.start.ensures ▸ (c.text.ensures ▸ ((c.commit.ensures ▸ (c.start-2.ensures ▸ laid_as (ap (λ (b : List ℕ). text (name_bytes c.args.look.style b)) c.as_str.ensures) c.print_name.ensures)) ▸ c.end.ensures))
