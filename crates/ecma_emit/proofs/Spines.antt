@@ -94,8 +94,8 @@ if_is look s span test cons alt a = when_like (is_there alt) (else_laid look (is
 -- the same of an `if` of the code
 if_laid : {T : Type 0} (f : T → Tree) (look : Look) (branch : IfStmtOf T) (a : Asked)
     → lay (consequence_laid look (view_if_stmt f branch)
-        · when (is_there (part_by (λ x. f x.part.value) branch.alt)) (else_laid look (is_block (f branch.cons.part.value)) (starts_with_word (part_by (λ x. f x.part.value) branch.alt))
-        · laid look Alone (part_by (λ x. f x.part.value) branch.alt) · closing look (part_by (λ x. f x.part.value) branch.alt))) a
+    · when (is_there (part_by (λ x. f x.part.value) branch.alt)) (else_laid look (is_block (f branch.cons.part.value)) (starts_with_word (part_by (λ x. f x.part.value) branch.alt))
+    · laid look Alone (part_by (λ x. f x.part.value) branch.alt) · closing look (part_by (λ x. f x.part.value) branch.alt))) a
     ≡ lay (laid look Alone (view_if_stmt f branch)) a
 if_laid f look branch a = if_is look Alone branch.span (f branch.test.part.value) (f branch.cons.part.value) (part_by (λ x. f x.part.value) branch.alt) a
 
@@ -214,8 +214,8 @@ module _ {S : Type 0} {tells : S → Type 0} {state : S → State} {failed : S �
       → b ≡ is_block (p branch.cons.part.value)
       → Prints {S = S} tells state failed loans (consequence_laid look (view_if_stmt p branch)) w f v g
       → Prints {S = S} tells state failed loans
-          (when (is_there (part_by (λ x. p x.part.value) branch.alt)) (else_laid look b (starts_with_word (part_by (λ x. p x.part.value) branch.alt))
-          · laid look Alone (part_by (λ x. p x.part.value) branch.alt) · closing look (part_by (λ x. p x.part.value) branch.alt))) v g u e
+      (when (is_there (part_by (λ x. p x.part.value) branch.alt)) (else_laid look b (starts_with_word (part_by (λ x. p x.part.value) branch.alt))
+      · laid look Alone (part_by (λ x. p x.part.value) branch.alt) · closing look (part_by (λ x. p x.part.value) branch.alt))) v g u e
       → Prints {S = S} tells state failed loans (laid look Alone (view_if_stmt p branch)) w f u e
   if_printed p look branch z h k = laid_like (if_laid p look branch)
       (h ▸ laid_as (ap (λ (b : Bool). when (is_there (part_by (λ x. p x.part.value) branch.alt)) (else_laid look b (starts_with_word (part_by (λ x. p x.part.value) branch.alt))

@@ -3,9 +3,7 @@
 ghost use Rattle.std.specs.Prelude.{◌<◌, length};
 
 use ecma_lexer::{Lexer, Tokens};
-use ecma_token::{
-    AssignOp, BinOpToken, BytePos, Error, EsVersion, Keyword, Syntax, Token, Word,
-};
+use ecma_token::{AssignOp, BinOpToken, BytePos, Error, EsVersion, Keyword, Syntax, Token, Word};
 use std::alloc::Global;
 
 /// Whether a slash behind this token divides. Of brackets it is a guess that holds for most code.
