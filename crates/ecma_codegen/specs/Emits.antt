@@ -1,5 +1,6 @@
 -- What emitting a node makes of a writer.
-use Rattle.std.specs.Prelude.{◌≡◌, ℕ, true, false, List, [], Result, Ok, Err}
+use Rattle.std.specs.Prelude.{◌≡◌, ℕ, true, false, List, [], Option, None, Some, Result, Ok, Err}
+use Rattle.std.specs.Borrow.{MutBor}
 use base.Fml.{GName}
 use Rattle.ecma_token.specs.Counts.{count_after}
 use Rattle.ecma_write.specs.Pages.{IsFront}
@@ -36,3 +37,9 @@ Notes state l old (Err e) = MayRefuse e l (state old)
 abbrev pub Stays : {S : Type 0} → (S → State) → (S → ℕ) → (S → List GName) → S → S → Result (Unit {0}) EmitError → Type 0
 Stays state failed loans old new r =
     (has_places (state new) ≡ has_places (state old)) × (loans new ≡ loans old) × (failed new ≡ count_after (answers_write r) (failed old))
+
+-- The comments of a printer stay where they were lent; with none there are none.
+abbrev pub IsHeld : {C : Type 0} → Option (MutBor C) → Option (MutBor C) → Type 0
+IsHeld None new = new ≡ None
+IsHeld (Some x) None = ⊥
+IsHeld (Some x) (Some y) = y.ghost_name ≡ x.ghost_name

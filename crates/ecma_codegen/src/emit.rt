@@ -1,8 +1,8 @@
 //! Printing a node to a writer.
-ghost use Rattle.std.specs.Prelude.{◌≡◌};
+ghost use Rattle.std.specs.Prelude.{◌≡◌, None};
 ghost use Rattle.ecma_layout.specs.Layout.{laid};
 ghost use Rattle.ecma_layout.specs.declared.look.Stand.TheVariants.{Alone};
-ghost use Rattle.ecma_codegen.specs.Emits.{Emits, Notes, Stays};
+ghost use Rattle.ecma_codegen.specs.Emits.{Emits, Notes, Stays, IsHeld};
 ghost use Rattle.ecma_codegen.specs.Settings as settings;
 
 use ecma_comments::Comments;
@@ -45,10 +45,19 @@ pub(crate) fn emit<N: Print, W: WriteJs>(node: &N, wr: &mut W, look: Look) -> Re
     }
 }
 
-/// Prints a node that ends at this place, and the comments of its source up to there between its parts.
+/// Where the comments end that a node is printed with.
+#[derive(Clone, Copy, Drop)]
+pub(crate) enum Until {
+    /// The place where the node ends.
+    Place(BytePos),
+    /// The place that its text reached.
+    Reached,
+}
+
+/// Prints a node, and the comments of its source between its parts and behind it, as far as they are wanted.
 pub(crate) fn emit_noting<N: Print, W: WriteJs>(
     node: &N,
-    end: BytePos,
+    until: Until,
     wr: &mut W,
     comments: &mut Comments,
     look: Look,
@@ -58,7 +67,30 @@ pub(crate) fn emit_noting<N: Print, W: WriteJs>(
 {
     let mut noting = WithComments::new(wr, comments, look.style.minify);
     match emit(node, &mut noting, look) {
-        Ok(()) => noting.finish(end),
-        Err(fault) => Err(fault),
+        Ok(()) => {}
+        Err(fault) => return Err(fault),
+    }
+    match until {
+        Until::Place(end) => noting.finish(end),
+        Until::Reached => noting.finish_reached(),
+    }
+}
+
+/// Prints a node, with comments where there are some.
+pub(crate) fn emit_with_comments<N: Print, W: WriteJs>(
+    node: &N,
+    until: Until,
+    wr: &mut W,
+    comments: &mut Option<&mut Comments>,
+    look: Look,
+) -> Result<(), EmitError>
+    ensures bare { comments.old ≡ None → Emits W.tells W.state (laid look Alone (N.tree node.now)) wr.old wr.new result }
+    ensures noted { Notes W.state (laid look Alone (N.tree node.now)) wr.old result }
+    ensures keeps { Stays W.state W.failed_writes W.loans wr.old wr.new result }
+    ensures held { IsHeld comments.old comments.new }
+{
+    match comments {
+        None => emit(node, wr, look),
+        Some(comments) => emit_noting(node, until, wr, comments, look),
     }
 }

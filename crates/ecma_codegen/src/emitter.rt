@@ -1,20 +1,21 @@
 //! The printer over a writer.
-ghost use Rattle.std.specs.Prelude.{◌≡◌};
+ghost use Rattle.std.specs.Prelude.{◌≡◌, None};
 ghost use Rattle.ecma_layout.specs.Layout.{laid};
 ghost use Rattle.ecma_layout.specs.declared.look.Stand.TheVariants.{Alone};
 ghost use Rattle.ecma_node.specs.Placed.{inner};
 ghost use Rattle.ecma_node.specs.View.{view_module, view_module_export_name, view_module_item, view_script};
-ghost use Rattle.ecma_codegen.specs.Emits.{Emits, Stays};
+ghost use Rattle.ecma_codegen.specs.Emits.{Emits, Notes, Stays, IsHeld};
 ghost use Rattle.ecma_codegen.specs.Settings as settings;
 
-use crate::emit::{emit, look_of};
+use crate::emit::{Until, emit_with_comments, look_of};
 use ecma_comments::Comments;
 use ecma_node::{Module, ModuleExportName, ModuleItem, Program, Script};
 use ecma_settings::Config;
+use ecma_token::Spanned;
 use ecma_write::{EmitError, WriteJs};
 use std::alloc::Global;
 
-/// A printer over a writer. Comments are not printed yet.
+/// A printer over a writer.
 #[derive(Drop)]
 pub struct Emitter<'a, S, W> {
     /// What allocates.
@@ -23,65 +24,100 @@ pub struct Emitter<'a, S, W> {
     pub cfg: Config,
     /// Who knows the lines of the source.
     pub cm: S,
-    /// The comments of the source.
+    /// The comments of the source. Each is taken from them as it is printed.
     pub comments: Option<&'a mut Comments>,
     /// The writer.
     pub wr: W,
 }
 
 impl<'a, S, W: WriteJs> Emitter<'a, S, W> {
-    /// Prints a program: its layout, or with a fault a beginning of it.
+    /// Prints a program: its layout, or with a fault a beginning of it, and the comments up to its end.
     pub fn emit_program(&mut self, node: &Program) -> Result<(), EmitError>
-        ensures value { Emits W.tells W.state (laid (settings.look_of self.old.cfg) Alone (node.now)) self.old.wr self.new.wr result }
+        ensures value { self.old.comments ≡ None → Emits W.tells W.state (laid (settings.look_of self.old.cfg) Alone (node.now)) self.old.wr self.new.wr result }
+        ensures noted { Notes W.state (laid (settings.look_of self.old.cfg) Alone (node.now)) self.old.wr result }
         ensures keeps { Stays W.state W.failed_writes W.loans self.old.wr self.new.wr result }
         ensures settings { self.new.cfg ≡ self.old.cfg }
         ensures source { self.new.cm ≡ self.old.cm }
-        ensures comments { self.new.comments ≡ self.old.comments }
+        ensures comments { IsHeld self.old.comments self.new.comments }
     {
-        emit(node, &mut self.wr, look_of(self.cfg))
+        emit_with_comments(
+            node,
+            Until::Place(node.span_hi()),
+            &mut self.wr,
+            &mut self.comments,
+            look_of(self.cfg),
+        )
     }
 
-    /// Prints a module: its layout, or with a fault a beginning of it.
+    /// Prints a module: its layout, or with a fault a beginning of it, and the comments up to its end.
     pub fn emit_module(&mut self, node: &Module) -> Result<(), EmitError>
-        ensures value { Emits W.tells W.state (laid (settings.look_of self.old.cfg) Alone (view_module inner node.now)) self.old.wr self.new.wr result }
+        ensures value { self.old.comments ≡ None → Emits W.tells W.state (laid (settings.look_of self.old.cfg) Alone (view_module inner node.now)) self.old.wr self.new.wr result }
+        ensures noted { Notes W.state (laid (settings.look_of self.old.cfg) Alone (view_module inner node.now)) self.old.wr result }
         ensures keeps { Stays W.state W.failed_writes W.loans self.old.wr self.new.wr result }
         ensures settings { self.new.cfg ≡ self.old.cfg }
         ensures source { self.new.cm ≡ self.old.cm }
-        ensures comments { self.new.comments ≡ self.old.comments }
+        ensures comments { IsHeld self.old.comments self.new.comments }
     {
-        emit(node, &mut self.wr, look_of(self.cfg))
+        emit_with_comments(
+            node,
+            Until::Place(node.span_hi()),
+            &mut self.wr,
+            &mut self.comments,
+            look_of(self.cfg),
+        )
     }
 
-    /// Prints a script: its layout, or with a fault a beginning of it.
+    /// Prints a script: its layout, or with a fault a beginning of it, and the comments up to its end.
     pub fn emit_script(&mut self, node: &Script) -> Result<(), EmitError>
-        ensures value { Emits W.tells W.state (laid (settings.look_of self.old.cfg) Alone (view_script inner node.now)) self.old.wr self.new.wr result }
+        ensures value { self.old.comments ≡ None → Emits W.tells W.state (laid (settings.look_of self.old.cfg) Alone (view_script inner node.now)) self.old.wr self.new.wr result }
+        ensures noted { Notes W.state (laid (settings.look_of self.old.cfg) Alone (view_script inner node.now)) self.old.wr result }
         ensures keeps { Stays W.state W.failed_writes W.loans self.old.wr self.new.wr result }
         ensures settings { self.new.cfg ≡ self.old.cfg }
         ensures source { self.new.cm ≡ self.old.cm }
-        ensures comments { self.new.comments ≡ self.old.comments }
+        ensures comments { IsHeld self.old.comments self.new.comments }
     {
-        emit(node, &mut self.wr, look_of(self.cfg))
+        emit_with_comments(
+            node,
+            Until::Place(node.span_hi()),
+            &mut self.wr,
+            &mut self.comments,
+            look_of(self.cfg),
+        )
     }
 
-    /// Prints a part of a module: its layout, or with a fault a beginning of it.
+    /// Prints a part of a module: its layout, or with a fault a beginning of it, and the comments up to its end.
     pub fn emit_module_item(&mut self, node: &ModuleItem) -> Result<(), EmitError>
-        ensures value { Emits W.tells W.state (laid (settings.look_of self.old.cfg) Alone (view_module_item inner node.now)) self.old.wr self.new.wr result }
+        ensures value { self.old.comments ≡ None → Emits W.tells W.state (laid (settings.look_of self.old.cfg) Alone (view_module_item inner node.now)) self.old.wr self.new.wr result }
+        ensures noted { Notes W.state (laid (settings.look_of self.old.cfg) Alone (view_module_item inner node.now)) self.old.wr result }
         ensures keeps { Stays W.state W.failed_writes W.loans self.old.wr self.new.wr result }
         ensures settings { self.new.cfg ≡ self.old.cfg }
         ensures source { self.new.cm ≡ self.old.cm }
-        ensures comments { self.new.comments ≡ self.old.comments }
+        ensures comments { IsHeld self.old.comments self.new.comments }
     {
-        emit(node, &mut self.wr, look_of(self.cfg))
+        emit_with_comments(
+            node,
+            Until::Place(node.span_hi()),
+            &mut self.wr,
+            &mut self.comments,
+            look_of(self.cfg),
+        )
     }
 
-    /// Prints a name of an import or an export: its layout, or with a fault a beginning of it.
+    /// Prints a name of an import or an export: its layout, or with a fault a beginning of it, and the comments up to its end.
     pub fn emit_module_export_name(&mut self, node: &ModuleExportName) -> Result<(), EmitError>
-        ensures value { Emits W.tells W.state (laid (settings.look_of self.old.cfg) Alone (view_module_export_name node.now)) self.old.wr self.new.wr result }
+        ensures value { self.old.comments ≡ None → Emits W.tells W.state (laid (settings.look_of self.old.cfg) Alone (view_module_export_name node.now)) self.old.wr self.new.wr result }
+        ensures noted { Notes W.state (laid (settings.look_of self.old.cfg) Alone (view_module_export_name node.now)) self.old.wr result }
         ensures keeps { Stays W.state W.failed_writes W.loans self.old.wr self.new.wr result }
         ensures settings { self.new.cfg ≡ self.old.cfg }
         ensures source { self.new.cm ≡ self.old.cm }
-        ensures comments { self.new.comments ≡ self.old.comments }
+        ensures comments { IsHeld self.old.comments self.new.comments }
     {
-        emit(node, &mut self.wr, look_of(self.cfg))
+        emit_with_comments(
+            node,
+            Until::Place(node.span_hi()),
+            &mut self.wr,
+            &mut self.comments,
+            look_of(self.cfg),
+        )
     }
 }

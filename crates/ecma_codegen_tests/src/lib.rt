@@ -2,7 +2,17 @@
 #![tactic(auto)]
 
 #[cfg(test)]
+mod chains;
+#[cfg(test)]
+mod comments;
+#[cfg(test)]
+mod entries;
+#[cfg(test)]
 mod faults;
+#[cfg(test)]
+mod placed;
+#[cfg(test)]
+mod printed;
 #[cfg(test)]
 mod programs;
 #[cfg(test)]

@@ -11,8 +11,9 @@ use std::convert::AsStr;
 /// which bytes it has written is not known, since comments stand between them.
 ///
 /// A comment of a place is written at the mark of that place. At the start of a line, and behind a semicolon, all are
-/// written that stand before the mark. Before the end of a line those are written that stand before what was
-/// written last, as far as it is spelled as it was read.
+/// written that stand before the mark. Before the end of a line, and before what follows a semicolon, those are written
+/// that stand before what was written last, and before a semicolon those that trail it, as far as it is spelled as it
+/// was read.
 #[derive(Drop)]
 pub struct WithComments<'a, W> {
     wr: W,
@@ -24,6 +25,8 @@ pub struct WithComments<'a, W> {
     reached: u32,
     /// Whether a statement may start here.
     is_fresh: bool,
+    /// Whether nothing stands on the line yet.
+    starts_line: bool,
 }
 
 impl<'a, W: WriteJs> WithComments<'a, W> {
@@ -40,6 +43,7 @@ impl<'a, W: WriteJs> WithComments<'a, W> {
             done: 0,
             reached: 0,
             is_fresh: true,
+            starts_line: true,
         }
     }
 
@@ -54,13 +58,25 @@ impl<'a, W: WriteJs> WithComments<'a, W> {
         self.write_before(end.0)
     }
 
+    /// Writes the comments that stand up to the place that was reached and are still to be written.
+    ///
+    /// # Errors
+    ///
+    /// Those of the writer.
+    pub fn finish_reached(&mut self) -> Result<(), EmitError>
+        ensures { Keeps (λ w. W.state w.wr) (λ w. W.failed_writes w.wr) (λ w. W.loans w.wr) self.old self.new result }
+    {
+        self.write_before(self.reached)
+    }
+
     /// Writes one comment.
     fn write_one(&mut self, comment: &Comment, trails: bool) -> Result<(), EmitError>
         ensures { Keeps (λ w. W.state w.wr) (λ w. W.failed_writes w.wr) (λ w. W.loans w.wr) self.old self.new result }
     {
-        if trails && !self.minify {
+        if trails && !self.minify && !self.starts_line {
             self.wr.write_comment(" ")?;
         }
+        self.starts_line = matches!(comment.kind, CommentKind::Line);
         self.wr.add_srcmap(comment.span.lo)?;
         match comment.kind {
             CommentKind::Line => self.write_line_comment(comment),
@@ -103,12 +119,19 @@ impl<'a, W: WriteJs> WithComments<'a, W> {
         Ok(())
     }
 
+    /// Writes the comments that trail what ends at this place.
+    fn write_trailing(&mut self, pos: u32) -> Result<(), EmitError>
+        ensures { Keeps (λ w. W.state w.wr) (λ w. W.failed_writes w.wr) (λ w. W.loans w.wr) self.old self.new result }
+    {
+        let trailing = self.comments.take_trailing(BytePos(pos));
+        self.write_all(trailing.as_slice(), true)
+    }
+
     /// Writes the comments of a place: those that trail what ends there, and those that lead what begins there.
     fn write_at(&mut self, pos: u32) -> Result<(), EmitError>
         ensures { Keeps (λ w. W.state w.wr) (λ w. W.failed_writes w.wr) (λ w. W.loans w.wr) self.old self.new result }
     {
-        let trailing = self.comments.take_trailing(BytePos(pos));
-        self.write_all(trailing.as_slice(), true)?;
+        self.write_trailing(pos)?;
         let leading = self.comments.take_leading(BytePos(pos));
         self.write_all(leading.as_slice(), false)
     }
@@ -136,13 +159,19 @@ impl<'a, W: WriteJs> WithComments<'a, W> {
         self.write_at(pos)
     }
 
-    /// A text comes next, which is no blank: what was written is further by its length.
-    fn pass(&mut self, text: &str)
-        ensures { self.new.wr ≡ self.old.wr }
+    /// A text comes next, which is no blank: what was written is further by its length. Behind a semicolon the comments
+    /// up to the place that was reached are written first.
+    fn pass(&mut self, text: &str) -> Result<(), EmitError>
+        ensures { Keeps (λ w. W.state w.wr) (λ w. W.failed_writes w.wr) (λ w. W.loans w.wr) self.old self.new result }
     {
+        if self.is_fresh {
+            self.write_before(self.reached)?;
+        }
         let length = u32::try_from(text.len()).unwrap_or(u32::MAX);
         self.reached = self.reached.saturating_add(length);
         self.is_fresh = false;
+        self.starts_line = false;
+        Ok(())
     }
 }
 
@@ -164,7 +193,8 @@ impl<'a, W: WriteJs> WriteJs for WithComments<'a, W> {
     }
 
     fn write_semi(&mut self, span: Option<Span>) -> Result<(), EmitError> {
-        self.pass(";");
+        self.write_trailing(self.reached)?;
+        self.pass(";")?;
         self.is_fresh = true;
         self.wr.write_semi(span)
     }
@@ -174,33 +204,34 @@ impl<'a, W: WriteJs> WriteJs for WithComments<'a, W> {
     }
 
     fn write_keyword(&mut self, span: Option<Span>, s: &'static str) -> Result<(), EmitError> {
-        self.pass(s);
+        self.pass(s)?;
         self.wr.write_keyword(span, s)
     }
 
     fn write_operator(&mut self, span: Option<Span>, s: &str) -> Result<(), EmitError> {
-        self.pass(s);
+        self.pass(s)?;
         self.wr.write_operator(span, s)
     }
 
     fn write_param(&mut self, s: &str) -> Result<(), EmitError> {
-        self.pass(s);
+        self.pass(s)?;
         self.wr.write_param(s)
     }
 
     fn write_property(&mut self, s: &str) -> Result<(), EmitError> {
-        self.pass(s);
+        self.pass(s)?;
         self.wr.write_property(s)
     }
 
     fn write_line(&mut self) -> Result<(), EmitError> {
         self.write_before(self.reached)?;
         self.is_fresh = true;
+        self.starts_line = true;
         self.wr.write_line()
     }
 
     fn write_lit(&mut self, span: Span, s: &str) -> Result<(), EmitError> {
-        self.pass(s);
+        self.pass(s)?;
         self.wr.write_lit(span, s)
     }
 
@@ -209,22 +240,22 @@ impl<'a, W: WriteJs> WriteJs for WithComments<'a, W> {
     }
 
     fn write_str_lit(&mut self, span: Span, s: &str) -> Result<(), EmitError> {
-        self.pass(s);
+        self.pass(s)?;
         self.wr.write_str_lit(span, s)
     }
 
     fn write_str(&mut self, s: &str) -> Result<(), EmitError> {
-        self.pass(s);
+        self.pass(s)?;
         self.wr.write_str(s)
     }
 
     fn write_symbol(&mut self, span: Span, s: &str) -> Result<(), EmitError> {
-        self.pass(s);
+        self.pass(s)?;
         self.wr.write_symbol(span, s)
     }
 
     fn write_punct(&mut self, span: Option<Span>, s: &'static str) -> Result<(), EmitError> {
-        self.pass(s);
+        self.pass(s)?;
         self.wr.write_punct(span, s)
     }
 

@@ -3,3 +3,5 @@
 
 #[cfg(test)]
 mod places;
+#[cfg(test)]
+mod semicolons;

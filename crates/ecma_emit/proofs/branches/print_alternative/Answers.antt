@@ -1,5 +1,4 @@
 use Rattle.std.proofs.Common.{ap}
-use Rattle.ecma_layout.specs.Looks.{Laid}
 use Rattle.ecma_printer.proofs.Steps.{◌▸◌, present, laid_as}
 use Rattle.ecma_emit.specs.Spines.{else_laid}
 use Rattle.ecma_emit.proofs.branches.print_alternative.Goals as goal
