@@ -5,7 +5,7 @@ ghost use Rattle.ecma_layout.specs.declared.look.Stand.TheVariants.{Alone};
 ghost use Rattle.ecma_codegen.specs.Codes.{Codes, Noted};
 ghost use Rattle.ecma_codegen.specs.Settings as settings;
 
-use crate::emit::{Until, emit, emit_noting, look_of};
+use crate::emit::{emit, emit_noting, look_of};
 use ecma_comments::Comments;
 use ecma_emit::Print;
 use ecma_layout::Look;
@@ -95,8 +95,7 @@ fn code_noting<N: Print + Spanned>(
 {
     let out: Counted<Vec<u8>> = Counted::new(Vec::new(alloc));
     let mut wr = JsWriter::new(alloc, "\n", out, None);
-    let end = Until::Place(node.span_hi());
-    let ended = emit_noting(node, end, &mut wr, comments, default_look());
+    let ended = emit_noting(node, &mut wr, comments, default_look());
     let bytes = wr.into_inner().into_inner();
     match ended {
         Ok(()) => {}

@@ -12,7 +12,7 @@ use ecma_print_comments::WithComments;
 use ecma_printer::Printer;
 use ecma_settings::Config;
 use ecma_spell_base::Style;
-use ecma_token::BytePos;
+use ecma_token::Spanned;
 use ecma_write::{EmitError, WriteJs};
 
 /// How a text looks by these settings.
@@ -45,19 +45,9 @@ pub(crate) fn emit<N: Print, W: WriteJs>(node: &N, wr: &mut W, look: Look) -> Re
     }
 }
 
-/// Where the comments end that a node is printed with.
-#[derive(Clone, Copy, Drop)]
-pub(crate) enum Until {
-    /// The place where the node ends.
-    Place(BytePos),
-    /// The place that its text reached.
-    Reached,
-}
-
-/// Prints a node, and the comments of its source between its parts and behind it, as far as they are wanted.
-pub(crate) fn emit_noting<N: Print, W: WriteJs>(
+/// Prints a node, and the comments of its source between its parts and up to its end.
+pub(crate) fn emit_noting<N: Print + Spanned, W: WriteJs>(
     node: &N,
-    until: Until,
     wr: &mut W,
     comments: &mut Comments,
     look: Look,
@@ -70,16 +60,12 @@ pub(crate) fn emit_noting<N: Print, W: WriteJs>(
         Ok(()) => {}
         Err(fault) => return Err(fault),
     }
-    match until {
-        Until::Place(end) => noting.finish(end),
-        Until::Reached => noting.finish_reached(),
-    }
+    noting.finish(node.span_hi())
 }
 
 /// Prints a node, with comments where there are some.
-pub(crate) fn emit_with_comments<N: Print, W: WriteJs>(
+pub(crate) fn emit_with_comments<N: Print + Spanned, W: WriteJs>(
     node: &N,
-    until: Until,
     wr: &mut W,
     comments: &mut Option<&mut Comments>,
     look: Look,
@@ -91,6 +77,6 @@ pub(crate) fn emit_with_comments<N: Print, W: WriteJs>(
 {
     match comments {
         None => emit(node, wr, look),
-        Some(comments) => emit_noting(node, until, wr, comments, look),
+        Some(comments) => emit_noting(node, wr, comments, look),
     }
 }

@@ -7,11 +7,10 @@ ghost use Rattle.ecma_node.specs.View.{view_module, view_module_export_name, vie
 ghost use Rattle.ecma_codegen.specs.Emits.{Emits, Notes, Stays, IsHeld};
 ghost use Rattle.ecma_codegen.specs.Settings as settings;
 
-use crate::emit::{Until, emit_with_comments, look_of};
+use crate::emit::{emit_with_comments, look_of};
 use ecma_comments::Comments;
 use ecma_node::{Module, ModuleExportName, ModuleItem, Program, Script};
 use ecma_settings::Config;
-use ecma_token::Spanned;
 use ecma_write::{EmitError, WriteJs};
 use std::alloc::Global;
 
@@ -40,13 +39,7 @@ impl<'a, S, W: WriteJs> Emitter<'a, S, W> {
         ensures source { self.new.cm ≡ self.old.cm }
         ensures comments { IsHeld self.old.comments self.new.comments }
     {
-        emit_with_comments(
-            node,
-            Until::Place(node.span_hi()),
-            &mut self.wr,
-            &mut self.comments,
-            look_of(self.cfg),
-        )
+        emit_with_comments(node, &mut self.wr, &mut self.comments, look_of(self.cfg))
     }
 
     /// Prints a module: its layout, or with a fault a beginning of it, and the comments up to its end.
@@ -58,13 +51,7 @@ impl<'a, S, W: WriteJs> Emitter<'a, S, W> {
         ensures source { self.new.cm ≡ self.old.cm }
         ensures comments { IsHeld self.old.comments self.new.comments }
     {
-        emit_with_comments(
-            node,
-            Until::Place(node.span_hi()),
-            &mut self.wr,
-            &mut self.comments,
-            look_of(self.cfg),
-        )
+        emit_with_comments(node, &mut self.wr, &mut self.comments, look_of(self.cfg))
     }
 
     /// Prints a script: its layout, or with a fault a beginning of it, and the comments up to its end.
@@ -76,13 +63,7 @@ impl<'a, S, W: WriteJs> Emitter<'a, S, W> {
         ensures source { self.new.cm ≡ self.old.cm }
         ensures comments { IsHeld self.old.comments self.new.comments }
     {
-        emit_with_comments(
-            node,
-            Until::Place(node.span_hi()),
-            &mut self.wr,
-            &mut self.comments,
-            look_of(self.cfg),
-        )
+        emit_with_comments(node, &mut self.wr, &mut self.comments, look_of(self.cfg))
     }
 
     /// Prints a part of a module: its layout, or with a fault a beginning of it, and the comments up to its end.
@@ -94,13 +75,7 @@ impl<'a, S, W: WriteJs> Emitter<'a, S, W> {
         ensures source { self.new.cm ≡ self.old.cm }
         ensures comments { IsHeld self.old.comments self.new.comments }
     {
-        emit_with_comments(
-            node,
-            Until::Place(node.span_hi()),
-            &mut self.wr,
-            &mut self.comments,
-            look_of(self.cfg),
-        )
+        emit_with_comments(node, &mut self.wr, &mut self.comments, look_of(self.cfg))
     }
 
     /// Prints a name of an import or an export: its layout, or with a fault a beginning of it, and the comments up to its end.
@@ -112,12 +87,6 @@ impl<'a, S, W: WriteJs> Emitter<'a, S, W> {
         ensures source { self.new.cm ≡ self.old.cm }
         ensures comments { IsHeld self.old.comments self.new.comments }
     {
-        emit_with_comments(
-            node,
-            Until::Place(node.span_hi()),
-            &mut self.wr,
-            &mut self.comments,
-            look_of(self.cfg),
-        )
+        emit_with_comments(node, &mut self.wr, &mut self.comments, look_of(self.cfg))
     }
 }

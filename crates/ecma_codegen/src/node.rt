@@ -5,14 +5,15 @@ ghost use Rattle.ecma_layout.specs.declared.look.Stand.TheVariants.{Alone};
 ghost use Rattle.ecma_codegen.specs.Emits.{Emits, Notes, Stays, IsHeld};
 ghost use Rattle.ecma_codegen.specs.Settings as settings;
 
-use crate::emit::{Until, emit_with_comments, look_of};
+use crate::emit::{emit_with_comments, look_of};
 use crate::emitter::Emitter;
 use ecma_emit::Print;
+use ecma_token::Spanned;
 use ecma_write::{EmitError, WriteJs};
 
-/// A part of a tree that can be printed: every node, also in a box and where it may be left out.
-pub trait Node: Print {
-    /// Prints it to the writer of a printer: its layout, or with a fault a beginning of it.
+/// A part of a tree that can be printed and has a place: every node, also lent, in a box and where it may be left out.
+pub trait Node: Print + Spanned {
+    /// Prints it to the writer of a printer: its layout, or with a fault a beginning of it, and the comments up to its end.
     fn emit_with<S, W: WriteJs>(&self, emitter: &mut Emitter<'_, S, W>) -> Result<(), EmitError>
         ensures value { emitter.old.comments ≡ None → Emits W.tells W.state (laid (settings.look_of emitter.old.cfg) Alone (Self.tree self.now)) emitter.old.wr emitter.new.wr result }
         ensures noted { Notes W.state (laid (settings.look_of emitter.old.cfg) Alone (Self.tree self.now)) emitter.old.wr result }
@@ -22,11 +23,10 @@ pub trait Node: Print {
         ensures comments { IsHeld emitter.old.comments emitter.new.comments };
 }
 
-impl<N: Print> Node for N {
+impl<N: Print + Spanned> Node for N {
     fn emit_with<S, W: WriteJs>(&self, emitter: &mut Emitter<'_, S, W>) -> Result<(), EmitError> {
         emit_with_comments(
             self,
-            Until::Reached,
             &mut emitter.wr,
             &mut emitter.comments,
             look_of(emitter.cfg),

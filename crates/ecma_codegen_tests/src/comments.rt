@@ -259,8 +259,10 @@ fn a_node_of_its_own_has_the_comments_behind_it(rt: HostRuntime) -> Result<(), F
     let text = formatted_node(rt.alloc(), Some(&mut comments), &stmt)?;
     assert_eq!(rt; text.as_str(), "a; // t\n");
     assert_eq!(rt; left(&comments, 20), 1);
-    let absent = formatted_node(rt.alloc(), Some(&mut comments), &Some(stmt))?;
-    assert_eq!(rt; absent.as_str(), "a;");
+    let lent = formatted_node(rt.alloc(), Some(&mut comments), &&stmt)?;
+    assert_eq!(rt; lent.as_str(), "a;");
+    let there = formatted_node(rt.alloc(), Some(&mut comments), &Some(stmt))?;
+    assert_eq!(rt; there.as_str(), "a;");
     assert_eq!(rt; left(&comments, 20), 1);
     Ok(())
 }

@@ -165,6 +165,14 @@ impl<T: PrintPart, K> PrintPart for Child<T, K> {
     }
 }
 
+impl<T: Print> Print for &T {
+    ghost tree = { λ r. T.tree r.now };
+
+    fn print<W: WriteJs>(&self, p: &mut Printer<W>, look: Look, stand: Stand) {
+        (**self).print(p, look, stand)
+    }
+}
+
 impl<T: Print> Print for Box<T> {
     ghost tree = { λ b. T.tree b.value };
 

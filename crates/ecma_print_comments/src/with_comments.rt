@@ -58,17 +58,6 @@ impl<'a, W: WriteJs> WithComments<'a, W> {
         self.write_before(end.0)
     }
 
-    /// Writes the comments that stand up to the place that was reached and are still to be written.
-    ///
-    /// # Errors
-    ///
-    /// Those of the writer.
-    pub fn finish_reached(&mut self) -> Result<(), EmitError>
-        ensures { Keeps (λ w. W.state w.wr) (λ w. W.failed_writes w.wr) (λ w. W.loans w.wr) self.old self.new result }
-    {
-        self.write_before(self.reached)
-    }
-
     /// Writes one comment.
     fn write_one(&mut self, comment: &Comment, trails: bool) -> Result<(), EmitError>
         ensures { Keeps (λ w. W.state w.wr) (λ w. W.failed_writes w.wr) (λ w. W.loans w.wr) self.old self.new result }

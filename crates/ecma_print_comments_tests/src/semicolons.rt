@@ -37,7 +37,7 @@ fn print<W: WriteJs + Drop>(wr: W, comments: &mut Comments) -> Result<(), EmitEr
     wr.write_semi(None)?;
     wr.write_str("else")?;
     wr.write_line()?;
-    wr.finish_reached()
+    wr.finish(BytePos(2))
 }
 
 /// Writes a name at the place 1, a line, and a name at the place 20.

@@ -1,6 +1,7 @@
 //! Places in a text.
 ghost use Rattle.std.specs.Prelude.{◌≡◌, ◌<◌, ◌↔◌, IsTrue};
 ghost use Rattle.std.specs.declared.cmp.Ordering.TheVariants.{Equal, Less};
+ghost use Rattle.ecma_token.specs.Spans.{span_or_none};
 
 /// A place in a text, in bytes from a start that the reader chooses. 0 alone stands for no place.
 #[derive(Clone, Copy, Debug, Default, PartialEq, Eq, PartialOrd, Ord, Hash)]
@@ -77,5 +78,33 @@ impl Spanned for Span {
 
     fn span(&self) -> Span {
         *self
+    }
+}
+
+impl<T: Spanned> Spanned for &T {
+    ghost span_of = { λ r. T.span_of r.now };
+
+    fn span(&self) -> Span {
+        (**self).span()
+    }
+}
+
+impl<T: Spanned> Spanned for Box<T> {
+    ghost span_of = { λ b. T.span_of b.value };
+
+    fn span(&self) -> Span {
+        (**self).span()
+    }
+}
+
+/// A part that may be left out is no part of the text where it is.
+impl<T: Spanned> Spanned for Option<T> {
+    ghost span_of = { span_or_none T.span_of };
+
+    fn span(&self) -> Span {
+        match self {
+            Some(x) => x.span(),
+            None => DUMMY_SP,
+        }
     }
 }
