@@ -1,0 +1,75 @@
+//! Reading a text.
+ghost use Rattle.std.specs.Prelude.{◌≤◌, ◌≢◌, length, IfErr};
+ghost use Rattle.ecma_reprint.specs.declared.fault.Fault.TheVariants.{TooLong};
+
+use crate::Fault;
+use ecma_lexer::Lexer;
+use ecma_node::{Program, ProgramKind};
+use ecma_parser::{PResult, Parser};
+use ecma_token::{EsSyntax, Syntax};
+use std::alloc::Global;
+
+/// The longest text that has places for all its bytes.
+pub(crate) const LONGEST: usize = 0xFFFF_FFFE;
+
+/// As what a text is read.
+#[derive(Clone, Copy, Debug)]
+pub struct Reading {
+    /// Whether it is a script, and no module.
+    pub script: bool,
+    /// The optional parts of the language.
+    pub syntax: EsSyntax,
+    /// How deep it may nest.
+    pub nesting: u32,
+}
+
+impl Default for Reading {
+    /// A module with attributes of imports, 256 deep.
+    fn default() -> Reading {
+        Reading {
+            script: false,
+            syntax: EsSyntax {
+                import_attributes: true,
+                ..EsSyntax::default()
+            },
+            nesting: 256,
+        }
+    }
+}
+
+/// The rest of a text as a script.
+fn script<'a>(parser: &mut Parser<'a, Lexer<'a>>) -> PResult<Program> {
+    let script = parser.parse_script()?;
+    Ok(Program {
+        kind: ProgramKind::Script(script),
+    })
+}
+
+/// The rest of a text as a module.
+fn module<'a>(parser: &mut Parser<'a, Lexer<'a>>) -> PResult<Program> {
+    let module = parser.parse_module()?;
+    Ok(Program {
+        kind: ProgramKind::Module(module),
+    })
+}
+
+/// The program that a text is. Its first early error refuses it.
+pub(crate) fn read(alloc: Global, text: &str, reading: Reading) -> Result<Program, Fault>
+    requires { length text.now ≤ LONGEST }
+    ensures { IfErr result (λ fault. fault ≢ TooLong) }
+{
+    let mut parser: Parser<'_, Lexer<'_>> = Parser::new(alloc, Syntax::Es(reading.syntax), text);
+    parser.set_nesting(reading.nesting);
+    let program = if reading.script {
+        script(&mut parser)
+    } else {
+        module(&mut parser)
+    };
+    match program {
+        Err(error) => Err(Fault::Refused(error)),
+        Ok(program) => match parser.take_errors().first() {
+            Some(error) => Err(Fault::Refused(*error)),
+            None => Ok(program),
+        },
+    }
+}
