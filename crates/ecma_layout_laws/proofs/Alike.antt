@@ -1,0 +1,79 @@
+-- Two layouts are alike: equal, or equal but for where marks stand.
+use Rattle.std.proofs.Common.{◌≡◌, Bool, true, false, if◌then◌else◌, List, ◌||◌, refl, ap, ap₂, ◌∙◌, subst}
+use Rattle.ecma_token.specs.declared.place.Span.{Span}
+use Rattle.ecma_pieces.specs.Pieces.{Piece}
+use Rattle.ecma_layout.specs.Looks.{Laid, nothing, one, both, refused, listed, is_refused, when, start, end, last}
+use Rattle.ecma_layout_laws.specs.Bare.{kept_place}
+use Rattle.ecma_layout_laws.specs.Marks.{unmarked_piece, unmarked}
+
+-- what is seen of a layout: all of it, or all but where marks stand
+abbrev pub seen_piece : Bool → Piece → Piece
+seen_piece true x = x
+seen_piece false x = unmarked_piece x
+
+abbrev pub seen : Bool → Laid → Laid
+seen places nothing = nothing
+seen places (one x) = one (seen_piece places x)
+seen places (both f g) = both (seen places f) (seen places g)
+seen places refused = refused
+
+pub record Alike (places : Bool) (f g : Laid) : Type 0 where
+  pub so : seen places f ≡ seen places g
+
+pub same : {places : Bool} {f : Laid} → Alike places f f
+same = record { so = refl }
+
+pub equal : {places : Bool} {f g : Laid} → f ≡ g → Alike places f g
+equal {places} e = record { so = ap (λ h. seen places h) e }
+
+infixr 35 ◌▸◌
+pub ◌▸◌ : {places : Bool} {f g h k : Laid} → Alike places f g → Alike places h k → Alike places (both f h) (both g k)
+◌▸◌ a b = record { so = ap₂ (λ x y. both x y) a.so b.so }
+
+pub if_same : {places : Bool} {f g h k : Laid} (b : Bool) → Alike places f g → Alike places h k → Alike places (if b then f else h) (if b then g else k)
+if_same true x y = x
+if_same false x y = y
+
+pub if_alike : {places : Bool} {f g h k : Laid} (b c : Bool) → b ≡ c → Alike places f g → Alike places h k → Alike places (if b then f else h) (if c then g else k)
+if_alike {places} {f} {g} {h} {k} b c e x y = subst (λ (z : Bool). Alike places (if b then f else h) (if z then g else k)) e (if_same b x y)
+
+pub when_same : {places : Bool} {f g : Laid} (b : Bool) → Alike places f g → Alike places (when b f) (when b g)
+when_same true x = x
+when_same false x = same
+
+pub when_alike : {places : Bool} {f g : Laid} (b c : Bool) → b ≡ c → Alike places f g → Alike places (when b f) (when c g)
+when_alike {places} {f} {g} b c e x = subst (λ (z : Bool). Alike places (when b f) (when z g)) e (when_same b x)
+
+-- ---- marks
+
+pub start_alike : {places : Bool} (span : Span) → Alike places (start (kept_place places span)) (start span)
+start_alike {places = true} span = same
+start_alike {places = false} span = record { so = refl }
+
+pub end_alike : {places : Bool} (span : Span) → Alike places (end (kept_place places span)) (end span)
+end_alike {places = true} span = same
+end_alike {places = false} span = record { so = refl }
+
+pub last_alike : {places : Bool} (span : Span) → Alike places (last (kept_place places span)) (last span)
+last_alike {places = true} span = same
+last_alike {places = false} span = record { so = refl }
+
+-- ---- what is written
+
+pub all_seen : (f : Laid) → seen true f ≡ f
+all_seen nothing = refl
+all_seen (one x) = refl
+all_seen (both f g) = ap₂ (λ x y. both x y) (all_seen f) (all_seen g)
+all_seen refused = refl
+
+pub listed_seen : (f : Laid) (xs : List Piece) → unmarked (listed f xs) ≡ listed (seen false f) (unmarked xs)
+listed_seen nothing xs = refl
+listed_seen (one x) xs = refl
+listed_seen (both f g) xs = listed_seen f (listed g xs) ∙ ap (λ ys. listed (seen false f) ys) (listed_seen g xs)
+listed_seen refused xs = refl
+
+pub refused_seen : (f : Laid) → is_refused (seen false f) ≡ is_refused f
+refused_seen nothing = refl
+refused_seen (one x) = refl
+refused_seen (both f g) = ap₂ (λ x y. x || y) (refused_seen f) (refused_seen g)
+refused_seen refused = refl
