@@ -224,6 +224,11 @@ module_clean p ts l = walks (list ts) true
 
 pub ruleset finds = (script_clean, module_clean)
 
+-- and so is any other part
+pub part_clean : (t : Tree) → walk_of after_event t true ≡ is_clean t
+unfolding is_clean
+part_clean t = walks t true
+
 -- what a visitor is told of a tree
 pub told_of : (t : Tree) (s : Bool) → told (λ x. after_event (enter x)) (seen_of t) s ≡ (if covers t then false else s)
 told_of (script _ _ _) s = refl

@@ -96,6 +96,16 @@ impl Watch for Clean {
     fn leave(&mut self, _node: Node<'_>) {}
 }
 
+/// Whether nothing of a cover is left in a part of a tree.
+#[tactic(auto, using(crate::proofs::Walks::part_clean))]
+pub fn is_clean<T: Walk>(part: &T) -> bool
+    ensures { result ≡ is_clean (T.tree part.now) }
+{
+    let mut watch = Clean { clean: true };
+    part.walk(&mut watch);
+    watch.clean
+}
+
 /// Whether nothing of a cover is left in a script.
 #[tactic(auto, using(crate::proofs::Walks::finds))]
 pub fn script_is_clean(script: &Script) -> bool

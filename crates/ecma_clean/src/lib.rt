@@ -3,4 +3,4 @@
 
 mod clean;
 
-pub use clean::{module_is_clean, script_is_clean};
+pub use clean::{is_clean, module_is_clean, script_is_clean};

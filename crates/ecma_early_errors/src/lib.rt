@@ -1,14 +1,16 @@
-//! The early errors of a finished program.
+//! The early errors of a finished program, and of a part of one.
 #![tactic(auto)]
 
-ghost use Rattle.std.specs.Prelude.{◌≡◌, IfOk};
-ghost use Rattle.ecma_early.specs.Early.{early_errors};
+ghost use Rattle.std.specs.Prelude.{◌≡◌, IfOk, None};
+ghost use Rattle.ecma_early.specs.Early.{early_errors, faults_in, outermost};
+ghost use Rattle.ecma_tree.specs.Places.{no_place};
+ghost use Rattle.ecma_tree.specs.Tree.{more, none, script};
 ghost use Rattle.ecma_node.specs.Placed.{inner};
 ghost use Rattle.ecma_node.specs.View.{view_module, view_script};
 
-use ecma_faults::{check_module, check_program, check_script};
+use ecma_faults::{Check, check_item, check_module, check_part, check_program, check_script};
 use ecma_faults_order::put_in_order;
-use ecma_node::{Module, Program, Script};
+use ecma_node::{Module, Program, Script, StmtBox};
 use ecma_token::{Error, EsSyntax};
 use std::alloc::{AllocError, Global};
 
@@ -66,6 +68,45 @@ pub fn module_errors(
 {
     let mut faults = Vec::new(alloc);
     check_module(syntax, program, &mut faults)?;
+    put_in_order(&mut faults)?;
+    Ok(faults)
+}
+
+/// The early errors of a part of a program that stands alone, in strict code or not, in the same order.
+///
+/// # Errors
+///
+/// Want of memory.
+#[tactic(auto, unfolding(ecma_early::specs::Early::faults_in))]
+pub fn part_errors<T: Check>(
+    alloc: Global,
+    syntax: EsSyntax,
+    strict: bool,
+    part: &T,
+) -> Result<Vec<Error>, AllocError>
+    ensures { IfOk result (λ faults. faults.items ≡ faults_in (outermost syntax strict) (T.tree part.now)) }
+{
+    let mut faults = Vec::new(alloc);
+    check_part(syntax, strict, part, &mut faults)?;
+    put_in_order(&mut faults)?;
+    Ok(faults)
+}
+
+/// The early errors of a statement that stands directly in a script's body, in the same order.
+///
+/// # Errors
+///
+/// Want of memory.
+#[tactic(auto, unfolding(ecma_early::specs::Early::early_errors, ecma_early::specs::Early::faults_in))]
+pub fn item_errors(
+    alloc: Global,
+    syntax: EsSyntax,
+    stmt: &StmtBox,
+) -> Result<Vec<Error>, AllocError>
+    ensures { IfOk result (λ faults. faults.items ≡ early_errors syntax (script no_place (more (inner stmt.now.part.value) none) None)) }
+{
+    let mut faults = Vec::new(alloc);
+    check_item(syntax, stmt, &mut faults)?;
     put_in_order(&mut faults)?;
     Ok(faults)
 }

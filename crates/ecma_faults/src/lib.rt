@@ -13,6 +13,7 @@ mod members;
 mod modes;
 mod names;
 mod objects;
+mod parts;
 mod patterns;
 mod program;
 mod programs;
@@ -21,4 +22,6 @@ mod questions;
 mod statements;
 mod targets;
 
+pub use check::Check;
+pub use parts::{check_item, check_part};
 pub use program::{check_module, check_program, check_script};

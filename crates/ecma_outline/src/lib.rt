@@ -5,5 +5,5 @@ mod line;
 mod names;
 mod words;
 
-pub use line::outline;
+pub use line::{outline, outline_part};
 pub use names::kind_name;

@@ -69,18 +69,27 @@ impl Watch for Line {
     }
 }
 
-/// The outline of a program: each node in parentheses, with the name of its kind, what it spells itself, its place,
-/// and the nodes below it in the order of the source, as `(Script 1..2 (ExprStmt 1..2 (Ident a 1..2)))`.
+/// The outline of a part of a tree: each node in parentheses, with the name of its kind, what it spells itself, its place,
+/// and the nodes below it in the order of the source, as `(ExprStmt 1..2 (Ident a 1..2))`.
+///
+/// # Errors
+///
+/// Want of memory.
+pub fn outline_part<T: Walk>(alloc: Global, part: &T) -> Result<String, AllocError> {
+    let mut line = Line {
+        text: String::new(alloc),
+        full: false,
+    };
+    part.walk(&mut line);
+    let Line { text, full } = line;
+    if full { Err(AllocError) } else { Ok(text) }
+}
+
+/// The outline of a program, in the same way, as `(Script 1..2 (ExprStmt 1..2 (Ident a 1..2)))`.
 ///
 /// # Errors
 ///
 /// Want of memory.
 pub fn outline(alloc: Global, program: &Program) -> Result<String, AllocError> {
-    let mut line = Line {
-        text: String::new(alloc),
-        full: false,
-    };
-    program.walk(&mut line);
-    let Line { text, full } = line;
-    if full { Err(AllocError) } else { Ok(text) }
+    outline_part(alloc, program)
 }

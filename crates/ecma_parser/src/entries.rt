@@ -1,5 +1,5 @@
 //! A parser as a user holds it.
-ghost use Rattle.std.specs.Prelude.{◌≡◌, ◌<◌, ◌+◌, ◌^◌, [], false, length, min, option_map, IfErr, IfOk, OnOk};
+ghost use Rattle.std.specs.Prelude.{◌≡◌, ◌<◌, ◌+◌, ◌^◌, [], false, true, length, min, option_map, IfErr, IfOk, OnOk};
 ghost use Rattle.std.specs.Str.{chars};
 ghost use Rattle.ecma_token.specs.declared.error.SyntaxError.TheVariants.{Memory};
 ghost use Rattle.ecma_token.specs.declared.version.EsVersion.TheVariants.{EsNext};
@@ -110,6 +110,7 @@ impl<'a, I: Tokens<'a> + Drop> Entries<ecma_parse_state::Parser<'a, I>> {
     /// Want of memory.
     pub(crate) fn open(&mut self, ctx: Context) -> Result<(), Error>
         ensures stand { OnOk result (stand I.state self.new.reading ≡ opened I.machine I.state ctx self.old) }
+        ensures started { IfOk result (λ _. self.new.started ≡ true) }
         ensures limit { limit_in self.new ≡ limit_in self.old }
         ensures faults { faults_in self.new ≡ faults_in self.old }
         ensures full { IfErr result (λ e. e.kind ≡ Memory) }

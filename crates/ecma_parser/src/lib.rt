@@ -4,7 +4,10 @@
 pub mod choice;
 pub mod entries;
 pub mod faults;
+pub mod object;
+pub mod parts;
 pub mod programs;
 
 pub use entries::{Entries, Parser};
 pub use faults::PResult;
+pub use object::ParseObject;

@@ -21,8 +21,9 @@ use ecma_tokens::Tokens;
 use ecma_tokens::settings::out_of_memory;
 
 /// The code around a script's tokens.
-fn in_script(syntax: EsSyntax) -> Around
-    ensures { code_of result ≡ script_code syntax }
+pub(crate) fn in_script(syntax: EsSyntax) -> Around
+    ensures code { code_of result ≡ script_code syntax }
+    ensures syntax { result.syntax ≡ syntax }
 {
     let context = Context {
         include_in_expr: true,
@@ -36,8 +37,9 @@ fn in_script(syntax: EsSyntax) -> Around
 }
 
 /// The code around a module's tokens.
-fn in_module(syntax: EsSyntax) -> Around
-    ensures { code_of result ≡ module_code syntax }
+pub(crate) fn in_module(syntax: EsSyntax) -> Around
+    ensures code { code_of result ≡ module_code syntax }
+    ensures syntax { result.syntax ≡ syntax }
 {
     let context = Context {
         include_in_expr: true,

@@ -1,14 +1,14 @@
 -- Fronts of lists of tokens that a part of the language derives: an expression, a pattern, parameters, a key, a statement, an item of a module.
 -- Each stands in the code of a new parser, a script's; an item of a module in a module's.
-use Rattle.std.specs.Prelude.{◌≡◌, ◌≤◌, ◌<◌, ◌⊎◌, ℕ, Bool, true, false, if◌then◌else◌, List, [], ◌∷◌, ◌++◌, length, None}
+use Rattle.std.specs.Prelude.{◌≡◌, ◌≤◌, ◌<◌, ◌⊎◌, ℕ, Bool, true, false, ◌||◌, ◌==◌, if◌then◌else◌, List, [], ◌∷◌, ◌++◌, length, None}
 use Rattle.ecma_token.specs.declared.error.Error.{Error}
 use Rattle.ecma_token.specs.declared.syntax.EsSyntax.{EsSyntax}
-use Rattle.ecma_token.specs.Kinds.{comma_kind}
-use Rattle.ecma_tree.specs.Places.{no_place}
-use Rattle.ecma_tree.specs.Tree.{Tree, none, more, script, list}
+use Rattle.ecma_token.specs.Kinds.{comma_kind, plus_plus_kind, minus_minus_kind, arrow_kind}
+use Rattle.ecma_tree.specs.Places.{no_place, place_of}
+use Rattle.ecma_tree.specs.Tree.{Tree, Trees, none, more, script, list, param, assign_pat, absent}
 use Rattle.ecma_nesting.specs.Nesting.{nesting}
-use Rattle.ecma_syntax.specs.Input.{Place, Input, Code, Takes, script_code, module_code, binding, alone, in_list}
-use Rattle.ecma_syntax.specs.Operators.{expression_level, assignment_level, goes_expr}
+use Rattle.ecma_syntax.specs.Input.{Place, Input, Code, Takes, kind, script_code, module_code, binding, alone, in_list}
+use Rattle.ecma_syntax.specs.Operators.{between, expression_level, assignment_level, goes_expr}
 use Rattle.ecma_syntax.specs.Shape.{level, ends, is_binding, is_key, is_param, is_rest, is_statement, is_item, is_clean}
 use Rattle.ecma_grammar.specs.Parts.{Part, IsEmpty, Sorted, is_module_item}
 use Rattle.ecma_grammar.specs.Grammar.{Derives, parts}
@@ -51,17 +51,33 @@ ModuleItem c t ts r = (is_module_item t ≡ true) × Derives t (in_list c) ts r
 
 -- ---- complete fronts
 
--- the tokens with no line break before the first
-abbrev pub unmarked_of : List Place → List Place
-unmarked_of [] = []
-unmarked_of (p ∷ ps) = record p { spot = record p.spot { line_break = false } } ∷ ps
+-- The table of semicolons after an expression, whatever line break stands there: `++`, `--` and `=>` are not in it, so on a line of their own they go on
+-- with nothing.
+abbrev pub goes_after : Code → ℕ → Input → ℕ
+goes_after c e r = if between plus_plus_kind minus_minus_kind (kind r) || (kind r == arrow_kind) then 0 else goes_expr c e r
 
-abbrev pub unmarked : Input → Input
-unmarked r = record r { places = unmarked_of r.places }
-
--- Nothing goes on with an expression at a level, or a tighter one, whatever line break stands before it.
+-- Nothing goes on with an expression at a level, or a tighter one.
 abbrev pub Stops : ℕ → Code → Tree → Input → Type 0
-Stops l c t r = goes_expr c (ends t) (unmarked r) < l
+Stops l c t r = goes_after c (ends t) r < l
+
+-- the initialiser of the last parameter
+abbrev pub initial_of : Tree → Tree
+initial_of (param s ds (assign_pat t p e)) = e
+initial_of _ = absent
+
+abbrev pub last_initial : Trees → Tree
+last_initial none = absent
+last_initial (more p none) = initial_of p
+last_initial (more p (more q ps)) = last_initial (more q ps)
+
+-- The same of an initialiser with which parameters end: no comma stands behind it.
+abbrev pub StopsAfter : Code → Tree → Input → Type 0
+StopsAfter c absent r = Unit {0}
+StopsAfter c e r = (place_of e).hi.0 ≡ r.last → Stops assignment_level c e r
+
+abbrev pub ParametersStop : Code → Tree → Input → Type 0
+ParametersStop c (list ps) r = StopsAfter c (last_initial ps) r
+ParametersStop c _ r = Unit {0}
 
 -- what isn't asked of other parts
 abbrev pub Anything : Tree → Input → Type 0
@@ -102,7 +118,7 @@ abbrev pub KeyFront : Setting → Tree → Input → Input → Type 0
 KeyFront x t ts r = Fronts x (Key (script_code x.syntax)) Anything (early_errors x.syntax t) t ts r
 
 abbrev pub ParametersFront : Setting → Tree → Input → Input → Type 0
-ParametersFront x t ts r = Fronts x (Parameters (script_code x.syntax)) Anything (early_errors x.syntax t) t ts r
+ParametersFront x t ts r = Fronts x (Parameters (script_code x.syntax)) (ParametersStop (script_code x.syntax)) (early_errors x.syntax t) t ts r
 
 -- the early errors of an item that stands directly in a script's body, or within something else
 abbrev pub item_errors : EsSyntax → Bool → Tree → List Error

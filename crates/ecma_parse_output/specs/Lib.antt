@@ -1,0 +1,2 @@
+-- What an element of a pattern is for.
+pub mod Patterns

@@ -1,0 +1,25 @@
+//! What a pattern is for.
+ghost use Rattle.std.specs.Prelude.{◌≡◌};
+ghost use Rattle.ecma_parse_output.specs.Patterns.{element_of};
+
+/// What a pattern is for: it binds names (ECMA-262, 14.3.3) or assigns to targets (13.15.5), as a whole or as an element
+/// of another one.
+#[derive(Clone, Copy, Debug, PartialEq, Eq)]
+pub enum PatType {
+    BindingPat,
+    BindingElement,
+    AssignPat,
+    AssignElement,
+}
+
+impl PatType {
+    /// The element of its pair: what an element of such a pattern is for.
+    pub fn element(self) -> PatType
+        ensures { result ≡ element_of self }
+    {
+        match self {
+            PatType::BindingPat | PatType::BindingElement => PatType::BindingElement,
+            PatType::AssignPat | PatType::AssignElement => PatType::AssignElement,
+        }
+    }
+}

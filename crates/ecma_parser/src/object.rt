@@ -1,0 +1,192 @@
+//! Objects, as expressions and as patterns: their properties, and what is made of them.
+ghost use Rattle.std.specs.Prelude.{◌≡◌, ◌≢◌, true, false, All, IfErr, IfOk, map};
+ghost use Rattle.ecma_token.specs.declared.error.SyntaxError.TheVariants.{Memory};
+ghost use Rattle.ecma_tree.specs.Tree.{object_lit, object_pat, trees_by};
+ghost use Rattle.ecma_node.specs.Fits.{fits_object_pat_prop, fits_prop_or_spread};
+ghost use Rattle.ecma_node.specs.Placed.{holds_expr, holds_pat, inner};
+ghost use Rattle.ecma_node.specs.View.{view_object_pat_prop, view_prop_or_spread};
+ghost use Rattle.ecma_early.specs.Early.{early_errors};
+ghost use Rattle.ecma_parse_state.specs.Fronts.{machine_of};
+ghost use Rattle.ecma_parse_state.specs.Stands.{stand};
+ghost use Rattle.ecma_parse_props.specs.Props as reads;
+ghost use Rattle.ecma_parser.specs.Entries.{ctx_in, faults_in, limit_in, syntax_in};
+ghost use Rattle.ecma_parser.specs.Parts.{ParsesPart, ReadsPart, script_part};
+
+use crate::entries::Entries;
+use crate::faults::{PResult, told};
+use ecma_early_errors::part_errors;
+use ecma_node::{
+    Expr, ExprBox, ExprKind, ObjectLit, ObjectPat, ObjectPatProp, Pat, PatBox, PatKind,
+    PropOrSpread,
+};
+use ecma_parse_props::parts::{item_part, prop_part};
+use ecma_parse_state::{Failure, Parser};
+use ecma_token::{Error, Span, SyntaxError};
+use ecma_tokens::Tokens;
+use ecma_tokens::settings::out_of_memory;
+
+/// How objects of a sort are parsed, as expressions or as patterns.
+pub trait ParseObject<Obj> {
+    /// A property.
+    type Prop;
+
+    /// Its children are of their sorts.
+    ghost fits: { Self.Prop → Type 0 };
+
+    /// An object of properties, where a comma may stand behind the last one.
+    ///
+    /// # Errors
+    ///
+    /// Want of memory, or properties that are no such object's.
+    fn make_object(
+        &mut self,
+        span: Span,
+        props: Vec<Self::Prop>,
+        trailing_comma: Option<Span>,
+    ) -> PResult<Obj>
+        requires { All fits props.items };
+
+    /// A property, as in a script, in the way of the entries for parts.
+    ///
+    /// # Errors
+    ///
+    /// Want of memory, a text that nests deeper than the limit, or a fault of the text.
+    fn parse_object_prop(&mut self) -> PResult<Self::Prop>
+        ensures fits { IfOk result fits };
+}
+
+impl<'a, I: Tokens<'a> + Drop> ParseObject<ExprBox> for Entries<Parser<'a, I>> {
+    type Prop = PropOrSpread;
+
+    ghost fits = { λ x. fits_prop_or_spread (λ p. p) x };
+
+    fn make_object(
+        &mut self,
+        span: Span,
+        props: Vec<PropOrSpread>,
+        _trailing_comma: Option<Span>,
+    ) -> PResult<ExprBox>
+        ensures value { IfOk result (λ x. inner x.part.value ≡ object_lit span (trees_by (view_prop_or_spread inner) props.items)) }
+        ensures holds { IfOk result (λ x. holds_expr x.part.value) }
+        ensures full { IfErr result (λ e. e.kind ≡ Memory) }
+        ensures stays { self.new ≡ self.old }
+    {
+        let kind = ExprKind::Object(ObjectLit { span, props });
+        match ExprBox::new(self.reading.alloc, Expr { kind }) {
+            Ok(expr) => Ok(expr),
+            Err(_) => Err(told(Failure::Memory)),
+        }
+    }
+
+    #[tactic(auto, unfolding(crate::specs::Parts::left_in))]
+    fn parse_object_prop(&mut self) -> PResult<PropOrSpread>
+        ensures value { ParsesPart (machine_of I.machine) (ctx_in I.state self.old) (view_prop_or_spread inner) (early_errors (syntax_in I.state self.old)) result (script_part I.machine I.state (reads.prop_part (machine_of I.machine)) self.old) (stand I.state self.new.reading) (faults_in self.old) (faults_in self.new) }
+        ensures fits { IfOk result (λ x. fits_prop_or_spread (λ p. p) x) }
+        ensures context { ctx_in I.state self.new ≡ ctx_in I.state self.old }
+        ensures started { IfOk result (λ _. self.new.started ≡ true) }
+        ensures limit { limit_in self.new ≡ limit_in self.old }
+    {
+        let before = self.reading.input.ctx();
+        let answer = self.prop();
+        self.leave(before);
+        Ok(answer?)
+    }
+}
+
+impl<'a, I: Tokens<'a> + Drop> ParseObject<PatBox> for Entries<Parser<'a, I>> {
+    type Prop = ObjectPatProp;
+
+    ghost fits = { λ x. fits_object_pat_prop (λ p. p) x };
+
+    /// A rest stands last, and no comma behind it.
+    fn make_object(
+        &mut self,
+        span: Span,
+        props: Vec<ObjectPatProp>,
+        trailing_comma: Option<Span>,
+    ) -> PResult<PatBox>
+        ensures value { IfOk result (λ x. inner x.part.value ≡ object_pat span (trees_by (view_object_pat_prop inner) props.items)) }
+        ensures rests { IfOk result (λ _. reads.rests_last (reads.is_held trailing_comma) false (map (view_object_pat_prop inner) props.items) ≡ true) }
+        ensures holds { IfOk result (λ x. holds_pat x.part.value) }
+        ensures refused { IfErr result (λ e. e.kind ≢ Memory → reads.rests_last (reads.is_held trailing_comma) false (map (view_object_pat_prop inner) props.items) ≡ false) }
+        ensures stays { self.new ≡ self.old }
+    {
+        if !rests_last(props.as_slice(), trailing_comma.is_some()) {
+            return Err(Error {
+                span,
+                kind: SyntaxError::Unexpected,
+            });
+        }
+        let kind = PatKind::Object(ObjectPat { span, props });
+        match PatBox::new(self.reading.alloc, Pat { kind }) {
+            Ok(pat) => Ok(pat),
+            Err(_) => Err(told(Failure::Memory)),
+        }
+    }
+
+    #[tactic(auto, unfolding(crate::specs::Parts::left_in))]
+    fn parse_object_prop(&mut self) -> PResult<ObjectPatProp>
+        ensures value { ParsesPart (machine_of I.machine) (ctx_in I.state self.old) (view_object_pat_prop inner) (early_errors (syntax_in I.state self.old)) result (script_part I.machine I.state (reads.item_part (machine_of I.machine)) self.old) (stand I.state self.new.reading) (faults_in self.old) (faults_in self.new) }
+        ensures fits { IfOk result (λ x. fits_object_pat_prop (λ p. p) x) }
+        ensures context { ctx_in I.state self.new ≡ ctx_in I.state self.old }
+        ensures started { IfOk result (λ _. self.new.started ≡ true) }
+        ensures limit { limit_in self.new ≡ limit_in self.old }
+    {
+        let before = self.reading.input.ctx();
+        let answer = self.item();
+        self.leave(before);
+        Ok(answer?)
+    }
+}
+
+/// Whether a rest stands last alone, and no comma behind it.
+fn rests_last(props: &[ObjectPatProp], comma: bool) -> bool
+    ensures { result ≡ reads.rests_last comma false (map (view_object_pat_prop inner) props.now) }
+{
+    let mut rest = false;
+    'props: for prop in props {
+        if rest {
+            return false;
+        }
+        rest = matches!(prop, ObjectPatProp::Rest(_));
+    }
+    !(comma && rest)
+}
+
+impl<'a, I: Tokens<'a> + Drop> Entries<Parser<'a, I>> {
+    /// A property of an object.
+    #[tactic(auto, using(crate::proofs::Read::fails_read), unfolding(ecma_early::specs::Early::early_errors))]
+    fn prop(&mut self) -> PResult<PropOrSpread>
+        ensures value { ReadsPart (view_prop_or_spread inner) (early_errors (syntax_in I.state self.old)) result (script_part I.machine I.state (reads.prop_part (machine_of I.machine)) self.old) (stand I.state self.new.reading) (faults_in self.old) (faults_in self.new) }
+        ensures fits { IfOk result (λ x. fits_prop_or_spread (λ p. p) x) }
+        ensures started { IfOk result (λ _. self.new.started ≡ true) }
+        ensures limit { limit_in self.new ≡ limit_in self.old }
+    {
+        let code = self.open_script()?;
+        let prop = match prop_part(&mut self.reading, self.limit, code) {
+            Ok(prop) => prop,
+            Err(failure) => return Err(told(failure)),
+        };
+        let found = part_errors(self.reading.alloc, code.syntax, false, &prop);
+        self.record(found.map_err(out_of_memory)?)?;
+        Ok(prop)
+    }
+
+    /// A property of a pattern, or its rest.
+    #[tactic(auto, using(crate::proofs::Read::fails_read), unfolding(ecma_early::specs::Early::early_errors))]
+    fn item(&mut self) -> PResult<ObjectPatProp>
+        ensures value { ReadsPart (view_object_pat_prop inner) (early_errors (syntax_in I.state self.old)) result (script_part I.machine I.state (reads.item_part (machine_of I.machine)) self.old) (stand I.state self.new.reading) (faults_in self.old) (faults_in self.new) }
+        ensures fits { IfOk result (λ x. fits_object_pat_prop (λ p. p) x) }
+        ensures started { IfOk result (λ _. self.new.started ≡ true) }
+        ensures limit { limit_in self.new ≡ limit_in self.old }
+    {
+        let code = self.open_script()?;
+        let item = match item_part(&mut self.reading, self.limit, code) {
+            Ok(item) => item,
+            Err(failure) => return Err(told(failure)),
+        };
+        let found = part_errors(self.reading.alloc, code.syntax, false, &item);
+        self.record(found.map_err(out_of_memory)?)?;
+        Ok(item)
+    }
+}
