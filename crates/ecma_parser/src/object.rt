@@ -20,7 +20,7 @@ use ecma_node::{
     PropOrSpread,
 };
 use ecma_parse_props::parts::{item_part, prop_part};
-use ecma_parse_state::{Failure, Parser};
+use ecma_parse_state::Parser;
 use ecma_token::{Error, Span, SyntaxError};
 use ecma_tokens::Tokens;
 use ecma_tokens::settings::out_of_memory;
@@ -66,16 +66,14 @@ impl<'a, I: Tokens<'a> + Drop> ParseObject<ExprBox> for Entries<Parser<'a, I>> {
         props: Vec<PropOrSpread>,
         _trailing_comma: Option<Span>,
     ) -> PResult<ExprBox>
+        requires fit { All (λ x. fits_prop_or_spread (λ p. p) x) props.items }
         ensures value { IfOk result (λ x. inner x.part.value ≡ object_lit span (trees_by (view_prop_or_spread inner) props.items)) }
         ensures holds { IfOk result (λ x. holds_expr x.part.value) }
         ensures full { IfErr result (λ e. e.kind ≡ Memory) }
         ensures stays { self.new ≡ self.old }
     {
         let kind = ExprKind::Object(ObjectLit { span, props });
-        match ExprBox::new(self.reading.alloc, Expr { kind }) {
-            Ok(expr) => Ok(expr),
-            Err(_) => Err(told(Failure::Memory)),
-        }
+        ExprBox::new(self.reading.alloc, Expr { kind }).map_err(out_of_memory)
     }
 
     #[tactic(auto, unfolding(crate::specs::Parts::left_in))]
@@ -105,6 +103,7 @@ impl<'a, I: Tokens<'a> + Drop> ParseObject<PatBox> for Entries<Parser<'a, I>> {
         props: Vec<ObjectPatProp>,
         trailing_comma: Option<Span>,
     ) -> PResult<PatBox>
+        requires fit { All (λ x. fits_object_pat_prop (λ p. p) x) props.items }
         ensures value { IfOk result (λ x. inner x.part.value ≡ object_pat span (trees_by (view_object_pat_prop inner) props.items)) }
         ensures rests { IfOk result (λ _. reads.rests_last (reads.is_held trailing_comma) false (map (view_object_pat_prop inner) props.items) ≡ true) }
         ensures holds { IfOk result (λ x. holds_pat x.part.value) }
@@ -118,10 +117,7 @@ impl<'a, I: Tokens<'a> + Drop> ParseObject<PatBox> for Entries<Parser<'a, I>> {
             });
         }
         let kind = PatKind::Object(ObjectPat { span, props });
-        match PatBox::new(self.reading.alloc, Pat { kind }) {
-            Ok(pat) => Ok(pat),
-            Err(_) => Err(told(Failure::Memory)),
-        }
+        PatBox::new(self.reading.alloc, Pat { kind }).map_err(out_of_memory)
     }
 
     #[tactic(auto, unfolding(crate::specs::Parts::left_in))]
