@@ -1,5 +1,5 @@
 //! Trees that go as deep as a program may, and chains of a million links: made, measured, gone over, changed and dropped on
-//! the stack of the main thread. A walk and a change take a level for each link, so chains are only measured and dropped.
+//! the stack of the main thread. Chains are measured, compared and dropped.
 ghost use Rattle.ecma_node.specs.Placed.{holds_expr, holds_stmt};
 
 use crate::made::{empty, ok, var};
@@ -7,6 +7,7 @@ use crate::places::Places;
 use ecma_build::Build;
 use ecma_nesting::Nesting;
 use ecma_node::{BlockStmt, ExprBox, Function, StmtBox};
+use ecma_same::Same;
 use ecma_token::{BinaryOp, DUMMY_SP};
 use ecma_visit::{Node, Walk, Watch};
 use ecma_visit_mut::{VisitMutWith, Words};
@@ -48,11 +49,12 @@ impl Watch for Count {
     fn leave(&mut self, _node: Node<'_>) {}
 }
 
-/// `a` in so many of a shape.
-fn exprs(rt: &impl Abort, b: &Build, shape: Shape, count: u32) -> ExprBox
+/// An expression in so many of a shape.
+fn exprs(rt: &impl Abort, b: &Build, shape: Shape, inmost: ExprBox, count: u32) -> ExprBox
+    requires { holds_expr inmost.part.value }
     ensures { holds_expr result.part.value }
 {
-    let mut expr = var(rt, b);
+    let mut expr = inmost;
     for _i in 0..count {
         expr = expr_in(rt, b, shape, expr);
     }
@@ -94,11 +96,12 @@ fn function(rt: &impl Abort, b: &Build, expr: ExprBox) -> ExprBox
     ok(rt, b.fn_expr(None, ok(rt, Box::new(b.alloc, function))))
 }
 
-/// `;` in so many of a frame.
-fn stmts(rt: &impl Abort, b: &Build, frame: Frame, count: u32) -> StmtBox
+/// A statement in so many of a frame.
+fn stmts(rt: &impl Abort, b: &Build, frame: Frame, inmost: StmtBox, count: u32) -> StmtBox
+    requires { holds_stmt inmost.part.value }
     ensures { holds_stmt result.part.value }
 {
-    let mut stmt = empty(rt, b);
+    let mut stmt = inmost;
     for _i in 0..count {
         let made = match frame {
             Frame::Block => b.block_stmt(ok(rt, vec![in b.alloc; stmt])),
@@ -125,21 +128,34 @@ fn check<T: Walk + VisitMutWith + Nesting>(rt: &impl Abort, tree: &mut T, levels
 #[test]
 fn deep_trees(rt: HostRuntime) {
     let b = &Build { alloc: rt.alloc() };
-    let mut tree = exprs(&rt, b, Shape::Paren, 4_095);
+    let mut tree = exprs(&rt, b, Shape::Paren, var(&rt, b), 4_095);
     check(&rt, tree.get_mut(), 4_096);
-    let mut tree = exprs(&rt, b, Shape::Array, 2_047);
+    let mut tree = exprs(&rt, b, Shape::Array, var(&rt, b), 2_047);
     check(&rt, tree.get_mut(), 4_095);
-    let mut tree = exprs(&rt, b, Shape::Function, 1_023);
+    let mut tree = exprs(&rt, b, Shape::Function, var(&rt, b), 1_023);
     check(&rt, tree.get_mut(), 4_093);
-    let mut tree = stmts(&rt, b, Frame::Block, 4_095);
+    let mut tree = stmts(&rt, b, Frame::Block, empty(&rt, b), 4_095);
     check(&rt, tree.get_mut(), 4_096);
 }
 
 #[test]
 fn long_chains(rt: HostRuntime) {
     let b = &Build { alloc: rt.alloc() };
-    let sum = exprs(&rt, b, Shape::Sum, 1_000_000);
+    let sum = exprs(&rt, b, Shape::Sum, var(&rt, b), 1_000_000);
     assert_eq!(rt; sum.nesting(), 2);
-    let branches = stmts(&rt, b, Frame::ElseIf, 1_000_000);
+    let same = exprs(&rt, b, Shape::Sum, var(&rt, b), 1_000_000);
+    assert!(rt; sum.same(&same));
+    let other = exprs(&rt, b, Shape::Sum, ok(&rt, b.this_expr()), 1_000_000);
+    assert!(rt; !sum.same(&other));
+}
+
+#[test]
+fn long_branches(rt: HostRuntime) {
+    let b = &Build { alloc: rt.alloc() };
+    let branches = stmts(&rt, b, Frame::ElseIf, empty(&rt, b), 1_000_000);
     assert_eq!(rt; branches.nesting(), 2);
+    let same = stmts(&rt, b, Frame::ElseIf, empty(&rt, b), 1_000_000);
+    assert!(rt; branches.same(&same));
+    let other = stmts(&rt, b, Frame::ElseIf, ok(&rt, b.debugger_stmt()), 1_000_000);
+    assert!(rt; !branches.same(&other));
 }

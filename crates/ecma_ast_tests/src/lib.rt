@@ -1,4 +1,5 @@
-//! Tests of the tree and of what stands on it: a tree of every kind of node, trees that go deep, and long chains.
+//! Tests of the tree and of what stands on it: a tree of every kind of node, trees that go deep, long chains, and which trees
+//! without a text are the same program. Pairs of programs as texts stand in `ecma_parser_rows`.
 #![tactic(auto)]
 
 #[cfg(test)]
@@ -19,3 +20,5 @@ mod places;
 mod statements;
 #[cfg(test)]
 mod told;
+#[cfg(test)]
+mod unspelled;
