@@ -1,9 +1,10 @@
 //! A statement of any kind.
-ghost use Rattle.std.specs.Prelude.{◌≡◌, ◌<◌, ◌&&◌, true, false, IfOk};
+ghost use Rattle.std.specs.Prelude.{◌≡◌, ◌<◌, ◌&&◌, true, false, IfErr, IfOk};
 ghost use Rattle.ecma_node.specs.Placed.{holds_stmt, inner};
 ghost use Rattle.ecma_reading.specs.Source as spec;
 ghost use Rattle.ecma_reading.specs.Statements as reads;
-ghost use Rattle.ecma_parse_state.specs.Answers.{Gives};
+ghost use Rattle.ecma_parse_state.specs.Answers.{Gives, IsMemory};
+ghost use Rattle.ecma_tree.specs.Tree.{empty_stmt};
 ghost use Rattle.ecma_parse_state.specs.Codes.{code_of};
 ghost use Rattle.ecma_parse_state.specs.Fronts.{machine_of};
 ghost use Rattle.ecma_parse_state.specs.Stands.{stand};
@@ -26,7 +27,9 @@ use ecma_parse_statements::made::stmt;
 use ecma_parse_statements::simple::{do_loop, expression, while_loop, with};
 use ecma_parse_statements::switches::switch;
 use ecma_parse_statements::tries::try_stmt;
+use ecma_token::Span;
 use ecma_tokens::Tokens;
+use std::alloc::Global;
 
 /// What declares variables, or an expression.
 #[inline(never)]
@@ -65,7 +68,7 @@ pub fn variables_or_expression<'a, I: Tokens<'a> + Drop, N: Nested<'a, I>>(
 }
 
 /// A function, a class, or what no word starts alone.
-#[inline(never)]
+#[inline(always)]
 #[tactic(auto, using(ecma_parse_state::proofs::Marks::marks, crate::proofs::Starts::starts), unfolding(crate::specs::Parts::declared_stmt, crate::specs::Parts::variable_stmt))]
 pub fn declared<'a, I: Tokens<'a> + Drop, N: Nested<'a, I>>(
     p: &mut Parser<'a, I>,
@@ -98,7 +101,7 @@ pub fn declared<'a, I: Tokens<'a> + Drop, N: Nested<'a, I>>(
 }
 
 /// A statement that leaves a place, or one of the others.
-#[inline(never)]
+#[inline(always)]
 #[tactic(auto, unfolding(crate::specs::Parts::jump_stmt, crate::specs::Parts::declared_stmt))]
 pub fn jump<'a, I: Tokens<'a> + Drop, N: Nested<'a, I>>(
     p: &mut Parser<'a, I>,
@@ -121,7 +124,7 @@ pub fn jump<'a, I: Tokens<'a> + Drop, N: Nested<'a, I>>(
 }
 
 /// A statement that a word starts, or an expression.
-#[inline(never)]
+#[inline(always)]
 #[tactic(auto, unfolding(ecma_reading::specs::Statements::keyword_stmt, crate::specs::Parts::jump_stmt, crate::specs::Parts::declared_stmt, crate::specs::Parts::variable_stmt))]
 pub fn keyword<'a, I: Tokens<'a> + Drop, N: Nested<'a, I>>(
     p: &mut Parser<'a, I>,
@@ -145,8 +148,34 @@ pub fn keyword<'a, I: Tokens<'a> + Drop, N: Nested<'a, I>>(
     }
 }
 
-/// A statement, from a token on that is no slash.
+/// An empty statement.
 #[inline(never)]
+fn empty_stmt(alloc: Global, span: Span) -> Result<StmtBox, Failure>
+    ensures value { IfOk result (λ x. inner x.part.value ≡ empty_stmt span) }
+    ensures holds { IfOk result (λ x. holds_stmt x.part.value) }
+    ensures full { IfErr result IsMemory }
+{
+    stmt(alloc, StmtKind::Empty(EmptyStmt { span }))
+}
+
+/// A block as a statement.
+#[inline(never)]
+pub fn block_stmt<'a, I: Tokens<'a> + Drop, N: Nested<'a, I>>(
+    p: &mut Parser<'a, I>,
+    nested: &N,
+    code: Around,
+) -> Result<StmtBox, Failure>
+    requires ready { N.ready nested.now }
+    ensures value { Gives (λ x. (inner x.part.value, stand I.state p.new)) result (reads.block_by (machine_of I.machine) (N.reads nested.now I.State I.machine) (code_of code) (stand I.state p.old)) }
+    ensures holds { IfOk result (λ x. holds_stmt x.part.value) }
+    ensures shorter { IfOk result (λ _. spec.bound (machine_of I.machine) (stand I.state p.new) < spec.bound (machine_of I.machine) (stand I.state p.old)) }
+{
+    let read = block(p, nested, code)?;
+    stmt(p.alloc, StmtKind::Block(read))
+}
+
+/// A statement, from a token on that is no slash.
+#[inline(always)]
 #[tactic(auto, unfolding(ecma_reading::specs::Statements::stmt_by))]
 pub fn any_stmt<'a, I: Tokens<'a> + Drop, N: Nested<'a, I>>(
     p: &mut Parser<'a, I>,
@@ -161,11 +190,10 @@ pub fn any_stmt<'a, I: Tokens<'a> + Drop, N: Nested<'a, I>>(
     if p.at(kinds::SEMICOLON) {
         let span = p.place();
         p.bump()?;
-        return stmt(p.alloc, StmtKind::Empty(EmptyStmt { span }));
+        return empty_stmt(p.alloc, span);
     }
     if p.at(kinds::LEFT_BRACE) {
-        let read = block(p, nested, code)?;
-        return stmt(p.alloc, StmtKind::Block(read));
+        return block_stmt(p, nested, code);
     }
     keyword(p, nested, code)
 }
