@@ -22,7 +22,7 @@ use ecma_token::BytePos;
 use ecma_tokens::Tokens;
 
 /// What follows `function` and its star: a name or none, parameters and a body.
-#[inline(never)]
+#[inline(always)]
 #[tactic(auto, using(ecma_parse_state::proofs::Marks::marks), unfolding(ecma_reading::specs::Expressions::function_expr_name))]
 pub fn function_expr_name<'a, I: Tokens<'a> + Drop, N: Nested<'a, I>>(
     p: &mut Parser<'a, I>,
@@ -53,7 +53,7 @@ pub fn function_expr_name<'a, I: Tokens<'a> + Drop, N: Nested<'a, I>>(
 }
 
 /// A function from its word on, which begins at a mark.
-#[inline(never)]
+#[inline(always)]
 #[tactic(auto, unfolding(ecma_reading::specs::Expressions::function_expr_by))]
 pub fn function_expr<'a, I: Tokens<'a> + Drop, N: Nested<'a, I>>(
     p: &mut Parser<'a, I>,

@@ -81,7 +81,7 @@ pub fn item<'a, I: Tokens<'a> + Drop, N: Nested<'a, I>>(
 }
 
 /// One more statement of a body, or its brace. Whether another may follow.
-#[inline(never)]
+#[inline(always)]
 #[tactic(auto, unfolding(ecma_reading::specs::Statements::body_step))]
 pub fn body_turn<'a, I: Tokens<'a> + Drop, N: Nested<'a, I>>(
     p: &mut Parser<'a, I>,
@@ -102,7 +102,7 @@ pub fn body_turn<'a, I: Tokens<'a> + Drop, N: Nested<'a, I>>(
 }
 
 /// The statements of a body, after its first brace.
-#[inline(never)]
+#[inline(always)]
 #[tactic(auto, using(ecma_parse_state::proofs::Iterate::iterates), unfolding(crate::specs::Lists::body_items))]
 pub fn body_items<'a, I: Tokens<'a> + Drop, N: Nested<'a, I>>(
     p: &mut Parser<'a, I>,

@@ -24,7 +24,7 @@ use ecma_parse_state::{Around, Failure, Parser, kinds};
 use ecma_tokens::Tokens;
 
 /// An element, after dots where it is spread.
-#[inline(never)]
+#[inline(always)]
 #[tactic(auto, using(ecma_parse_state::proofs::Marks::marks), unfolding(ecma_reading::specs::Expressions::element_by))]
 pub fn element<'a, I: Tokens<'a> + Drop, N: Nested<'a, I>>(
     p: &mut Parser<'a, I>,
@@ -125,7 +125,7 @@ pub fn elements<'a, I: Tokens<'a> + Drop, N: Nested<'a, I>>(
 }
 
 /// One more argument, or the end of the arguments. Whether another may follow.
-#[inline(never)]
+#[inline(always)]
 #[tactic(auto, using(ecma_parse_state::proofs::Marks::marks), unfolding(ecma_reading::specs::Expressions::element_step, ecma_reading::specs::Expressions::after_element, crate::specs::Lists::after_item))]
 pub fn argument_turn<'a, I: Tokens<'a> + Drop, N: Nested<'a, I>>(
     p: &mut Parser<'a, I>,

@@ -95,7 +95,7 @@ pub fn characters<'a, I: Tokens<'a> + Drop, N: Nested<'a, I>>(
 }
 
 /// What stands in a template, after its first back quote.
-#[inline(never)]
+#[inline(always)]
 #[tactic(auto, using(ecma_parse_state::proofs::Iterate::iterates), unfolding(crate::specs::Pieces::spans_by))]
 pub fn spans<'a, I: Tokens<'a> + Drop, N: Nested<'a, I>>(
     p: &mut Parser<'a, I>,

@@ -41,7 +41,7 @@ pub fn private_in<'a, I: Tokens<'a> + Drop, N: Nested<'a, I>>(
 }
 
 /// An expression of a level or a tighter one, whose first token is read as what starts one.
-#[inline(never)]
+#[inline(always)]
 #[tactic(auto, using(ecma_parse_state::proofs::Marks::marks, ecma_parse_state::proofs::Marks::loop_from), unfolding(ecma_reading::specs::Expressions::expr_from))]
 pub fn expr_from<'a, I: Tokens<'a> + Drop, N: Nested<'a, I>>(
     p: &mut Parser<'a, I>,
