@@ -19,7 +19,7 @@ use ecma_token::BytePos;
 use ecma_tokens::Tokens;
 
 /// One more statement of a block, or its brace. Whether another may follow.
-#[inline(never)]
+#[inline(always)]
 #[tactic(auto, unfolding(ecma_reading::specs::Statements::block_step))]
 pub fn block_turn<'a, I: Tokens<'a> + Drop, N: Nested<'a, I>>(
     p: &mut Parser<'a, I>,

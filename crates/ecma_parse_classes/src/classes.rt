@@ -65,7 +65,7 @@ fn add(list: &mut Vec<ClassMember>, member: ClassMember) -> Result<(), Failure>
 }
 
 /// One more member of a class, or its brace. Whether another may follow.
-#[inline(never)]
+#[inline(always)]
 #[tactic(auto, using(crate::proofs::Starts::starts), unfolding(ecma_reading::specs::Statements::member_step))]
 pub fn member_turn<'a, I: Tokens<'a> + Drop, N: Nested<'a, I>>(
     p: &mut Parser<'a, I>,

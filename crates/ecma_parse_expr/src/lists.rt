@@ -69,7 +69,7 @@ pub fn goes_on<'a, I: Tokens<'a> + Drop>(p: &mut Parser<'a, I>, close: u8) -> Re
 }
 
 /// One more element or hole of an array, or its end. Whether another may follow.
-#[inline(never)]
+#[inline(always)]
 #[tactic(auto, using(ecma_parse_base::proofs::Packs::rests_more), unfolding(ecma_reading::specs::Expressions::element_step, ecma_reading::specs::Expressions::after_element, crate::specs::Lists::after_item))]
 pub fn array_turn<'a, I: Tokens<'a> + Drop, N: Nested<'a, I>>(
     p: &mut Parser<'a, I>,

@@ -67,7 +67,7 @@ pub fn characters_end<'a, I: Tokens<'a> + Drop, N: Nested<'a, I>>(
 }
 
 /// The next characters of a template, and what ends them. Whether more follow.
-#[inline(never)]
+#[inline(always)]
 #[tactic(auto, using(ecma_parse_state::proofs::Marks::marks), unfolding(ecma_reading::specs::Expressions::quasi_step, ecma_reading::specs::Source::eat, ecma_parse_state::specs::Fronts::machine_of))]
 pub fn characters<'a, I: Tokens<'a> + Drop, N: Nested<'a, I>>(
     p: &mut Parser<'a, I>,

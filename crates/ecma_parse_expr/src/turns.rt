@@ -149,7 +149,7 @@ pub fn step<'a, I: Tokens<'a> + Drop, N: Nested<'a, I>>(
 }
 
 /// One operator behind what was read, if it binds as tightly as asked. Whether there was one.
-#[inline(never)]
+#[inline(always)]
 #[tactic(auto, using(ecma_parse_state::proofs::Marks::marks), unfolding(ecma_reading::specs::Expressions::loop_step))]
 pub fn turn<'a, I: Tokens<'a> + Drop, N: Nested<'a, I>>(
     p: &mut Parser<'a, I>,

@@ -59,7 +59,7 @@ pub fn is_rest<'a, I: Tokens<'a> + Drop, N: Nested<'a, I>>(
 }
 
 /// One more parameter, or the end of the parameters. Whether another may follow.
-#[inline(never)]
+#[inline(always)]
 #[tactic(auto, unfolding(ecma_reading::specs::Expressions::parameter_step))]
 pub fn parameter_turn<'a, I: Tokens<'a> + Drop, N: Nested<'a, I>>(
     p: &mut Parser<'a, I>,

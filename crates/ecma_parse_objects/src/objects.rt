@@ -32,7 +32,7 @@ pub fn is_spread(item: &PropOrSpread) -> bool
 }
 
 /// One more property, or the end of the object. Whether another may follow.
-#[inline(never)]
+#[inline(always)]
 #[tactic(auto, using(ecma_parse_base::proofs::Packs::rests_more), unfolding(ecma_reading::specs::Expressions::prop_step, ecma_reading::specs::Expressions::after_element, ecma_parse_expr::specs::Lists::after_item))]
 pub fn prop_turn<'a, I: Tokens<'a> + Drop, N: Nested<'a, I>>(
     p: &mut Parser<'a, I>,

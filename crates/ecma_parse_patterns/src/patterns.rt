@@ -33,7 +33,7 @@ fn is_structured(pat: &Pat) -> bool
 }
 
 /// One more item or hole of an array, or its bracket. Whether another may follow.
-#[inline(never)]
+#[inline(always)]
 #[tactic(auto, unfolding(ecma_reading::specs::Statements::array_item, ecma_reading::specs::Statements::after_item, crate::specs::Items::after_by, crate::specs::Items::item_by, crate::specs::Items::rest_by))]
 pub fn array_turn<'a, I: Tokens<'a> + Drop, N: Nested<'a, I>>(
     p: &mut Parser<'a, I>,
@@ -135,7 +135,7 @@ fn add(list: &mut Vec<ObjectPatProp>, item: ObjectPatProp) -> Result<(), Failure
 }
 
 /// One more property of an object, or its brace. Whether another may follow.
-#[inline(never)]
+#[inline(always)]
 #[tactic(auto, unfolding(ecma_reading::specs::Statements::object_item, ecma_reading::specs::Statements::after_item, crate::specs::Items::after_by, crate::specs::Items::object_rest))]
 pub fn object_turn<'a, I: Tokens<'a> + Drop, N: Nested<'a, I>>(
     p: &mut Parser<'a, I>,

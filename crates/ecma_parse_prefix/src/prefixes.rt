@@ -66,7 +66,7 @@ pub fn list_mark<'a, I: Tokens<'a> + Drop, N: Nested<'a, I>>(
 }
 
 /// What starts an expression, up to the operators behind it.
-#[inline(never)]
+#[inline(always)]
 #[tactic(auto, unfolding(ecma_reading::specs::Expressions::prefix_by, crate::specs::Words::list_mark, crate::specs::Words::operator_mark))]
 pub fn prefix<'a, I: Tokens<'a> + Drop, N: Nested<'a, I>>(
     p: &mut Parser<'a, I>,

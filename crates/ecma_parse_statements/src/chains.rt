@@ -94,7 +94,7 @@ pub fn alternative<'a, I: Tokens<'a> + Drop, N: Nested<'a, I>>(
 }
 
 /// One `if` of a chain. Whether another follows.
-#[inline(never)]
+#[inline(always)]
 #[tactic(auto, using(ecma_parse_state::proofs::Marks::marks), unfolding(ecma_reading::specs::Statements::if_step))]
 pub fn chain_turn<'a, I: Tokens<'a> + Drop, N: Nested<'a, I>>(
     p: &mut Parser<'a, I>,

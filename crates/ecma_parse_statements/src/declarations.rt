@@ -85,7 +85,7 @@ pub fn declarator<'a, I: Tokens<'a> + Drop, N: Nested<'a, I>>(
 }
 
 /// One more declarator. Whether another follows, behind a comma.
-#[inline(never)]
+#[inline(always)]
 #[tactic(auto, using(crate::proofs::Lists::declared_more), unfolding(ecma_reading::specs::Statements::declarator_step))]
 pub fn declarator_turn<'a, I: Tokens<'a> + Drop, N: Nested<'a, I>>(
     p: &mut Parser<'a, I>,

@@ -29,7 +29,7 @@ pub struct CaseList {
 }
 
 /// One more statement of a case, if one follows. Whether one did.
-#[inline(never)]
+#[inline(always)]
 #[tactic(auto, unfolding(ecma_reading::specs::Statements::case_step))]
 pub fn case_turn<'a, I: Tokens<'a> + Drop, N: Nested<'a, I>>(
     p: &mut Parser<'a, I>,
@@ -121,7 +121,7 @@ fn is_default(case: &SwitchCase) -> bool
 }
 
 /// One more case of a `switch`, or its brace. Whether another may follow.
-#[inline(never)]
+#[inline(always)]
 #[tactic(auto, using(crate::proofs::Lists::default_more), unfolding(ecma_reading::specs::Statements::cases_step))]
 pub fn cases_turn<'a, I: Tokens<'a> + Drop, N: Nested<'a, I>>(
     p: &mut Parser<'a, I>,
