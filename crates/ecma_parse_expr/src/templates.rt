@@ -1,10 +1,10 @@
 //! Templates.
-ghost use Rattle.std.specs.Prelude.{◌≡◌, ◌≢◌, false, true, ◌<◌, ◌≤◌, All, IfErr, IfOk, IsTrue, map};
+ghost use Rattle.std.specs.Prelude.{◌≡◌, ◌≢◌, ◌++◌, ◌∷◌, [], false, true, ◌<◌, ◌≤◌, All, IfErr, IfOk, IsTrue, map};
 ghost use Rattle.ecma_token.specs.OperatorKinds.{assign_op_kind, binary_op_kind};
 ghost use Rattle.ecma_syntax.specs.Input.{kind};
 ghost use Rattle.ecma_node.specs.Fits.{fits_tpl};
 ghost use Rattle.ecma_node.specs.Placed.{holds_expr, inner};
-ghost use Rattle.ecma_node.specs.View.{unary_op_word, update_op_word, view_computed_prop_name, view_expr_or_spread, view_member_prop, view_private_name, view_tpl};
+ghost use Rattle.ecma_node.specs.View.{unary_op_word, update_op_word, view_computed_prop_name, view_expr_or_spread, view_member_prop, view_private_name, view_tpl, view_tpl_element};
 ghost use Rattle.ecma_reading.specs.Source as spec;
 ghost use Rattle.ecma_reading.specs.Expressions as reads;
 ghost use Rattle.ecma_parse_state.specs.Answers.{Gives, IsMemory, going_on};
@@ -26,6 +26,20 @@ use ecma_parse_state::{Around, Failure, Parser, kinds};
 use ecma_token::{BytePos, Span, Token};
 use ecma_tokens::Tokens;
 use std::alloc::Global;
+
+/// Adds characters and the expression behind them.
+#[inline(never)]
+fn add(spans: &mut Spans, element: TplElement, read: Operand) -> Result<(), Failure>
+    requires fits { FitSpans spans.old }
+    ensures exprs { IfOk result (λ _. (spans_of spans.new).exprs ≡ (spans_of spans.old).exprs ++ tree_of read ∷ []) }
+    ensures quasis { IfOk result (λ _. (spans_of spans.new).quasis ≡ (spans_of spans.old).quasis ++ view_tpl_element element ∷ []) }
+    ensures fits { IfOk result (λ _. FitSpans spans.new) }
+    ensures full { IfErr result IsMemory }
+{
+    spans.exprs.push(read.expr)?;
+    spans.quasis.push(element)?;
+    Ok(())
+}
 
 /// What ends the characters of a template: its end, or an expression. Whether more characters follow.
 #[inline(never)]
@@ -61,8 +75,7 @@ pub fn characters_end<'a, I: Tokens<'a> + Drop, N: Nested<'a, I>>(
     if !fits {
         return Err(p.unexpected());
     }
-    spans.exprs.push(read.expr)?;
-    spans.quasis.push(element)?;
+    add(spans, element, read)?;
     Ok(true)
 }
 
