@@ -1,10 +1,11 @@
 -- What the readers of arrows answer: their parameters are read as a name, or as the elements of a parenthesis that are refined (ECMA-262, 15.3, 15.9).
-use Rattle.std.proofs.Common.{◌≡◌, ℕ, zero, suc, ◌<◌, ◌≤◌, ◌⊎◌, inl, inr, max, Bool, true, false, not, ◌&&◌, ◌||◌, ◌==◌, cond, eqb, List, [], ◌∷◌, Result, Ok, Err, refl, sym, ap, ◌∙◌, subst, ⊎_elim, true≢false, arith}
-use Rattle.std.proofs.lemmas.Bool.{ne_eqb, eq-eqb, cases_eq, eqb-true, and_parts, or_parts, and_from, and_left, and_right, or_left, or_from}
+use Rattle.std.proofs.Common.{◌≡◌, ℕ, zero, suc, ◌<◌, ◌≤◌, ◌⊎◌, inl, inr, max, Bool, true, false, not, ◌&&◌, ◌||◌, ◌==◌, cond, eqb, leb, List, [], ◌∷◌, Result, Ok, Err, refl, sym, ap, ◌∙◌, subst, ⊎_elim, true≢false, arith}
+use Rattle.std.proofs.lemmas.Bool.{ne_eqb, eq-eqb, cases_eq, eqb-true, le-leb, and_parts, or_parts, and_from, and_left, and_right, or_left, or_from}
 use Rattle.ecma_token.specs.declared.place.Span.{Span}
 use Rattle.ecma_token.specs.Kinds.{arrow_kind, async_kind, function_kind, left_paren_kind, right_paren_kind, left_brace_kind}
 use Rattle.ecma_tree.specs.Tree.{Tree, Trees, none, more, pack, unpack, ident, arrow_expr, binding_ident, array_pat, object_pat, assign_pat, rest_pat, key_value_pat_prop, assign_pat_prop, hole}
 use Rattle.ecma_syntax.specs.Input.{Input, Code, Takes, kind, kind2, brk, brk2, lo, text, rest, span, first_span, is_word, no_name, barred, always_reserved, with_in, in_arrow, binding, in_list}
+use Rattle.ecma_syntax.specs.Operators.{assignment_level}
 use Rattle.ecma_syntax.specs.Shape.{is_binding, is_place, is_item_pat, is_pattern_prop, is_bound_name, is_hole, is_rest}
 use Rattle.ecma_grammar.specs.Parts.{Part, part, By, IsEmpty, Sorted, Listed}
 use Rattle.ecma_grammar.specs.Patterns.{Item, Property}
@@ -12,11 +13,12 @@ use Rattle.ecma_grammar.specs.Functions.{ArrowPattern, ArrowHead, BareName}
 use Rattle.ecma_grammar.specs.Grammar.{Spells, parts}
 use Rattle.ecma_reading.specs.Source.{Fault, ◌>>=◌, Stand, Inner, name}
 use Rattle.ecma_reading.specs.Cover.{binds_names, all_bind}
-use Rattle.ecma_reading.specs.Expressions.{Elements, elements_by, arrow_by, ident_end, word_by, async_by, async_group, group_by, group_end, params_of, prefix_by, arrows, function_expr_by}
+use Rattle.ecma_reading.specs.Expressions.{Elements, elements_by, arrow_by, ident_end, word_by, async_by, async_group, group_by, group_end, params_of, prefix_by, arrows_at, heads_params, is_read, function_expr_by}
 use Rattle.ecma_reading.specs.Reading.{readers}
 use Rattle.ecma_grammar_complete_base.proofs.Yields.{lm, from, coded, first_at, IsName, named, Reads, then_reads, Is, then_is, then_past, then_past_reads, then_name, after_one, onto, here, if_no, if_yes, reads_deep, reads_map}
 use Rattle.ecma_grammar_complete_base.proofs.Trees.{Covered, CoveredAll, size, sizes, reach, reaches, by_cases, no_kind}
-use Rattle.ecma_grammar_complete_rules.proofs.Prefixes.{named_word, arrowed}
+use Rattle.ecma_grammar_complete_base.proofs.Levels.{arrowed}
+use Rattle.ecma_grammar_complete_rules.proofs.Prefixes.{named_word}
 use Rattle.ecma_grammar_complete_rules.proofs.Lists.{pack_unpack, hole_is}
 use Rattle.ecma_grammar_complete.proofs.Covers.{FitAll, Covering, Covered_list, covers_found}
 
@@ -169,15 +171,15 @@ block_body inner c i e m n r P a q b y = record {
       (then_past m n h (inner.body (in_list (with_in (in_arrow i c)))) _ e r P _ _ q (y h) (λ u. u) (λ l. here refl));
 }
 
-module _ (inner : Inner Input) (c : Code) (ts : Input) (k : List ℕ) where
+module _ (inner : Inner Input) (c : Code) (lev : ℕ) (low : lev ≤ assignment_level) (ts : Input) (k : List ℕ) where
   -- after the parameters
   arrow_body : (i : Bool) (ps : Trees) (s : Span) (e : Tree) (m n r : Input) (j : List ℕ) (P : Type 0) {Q : Type 0} → Body_read inner c i e m n r P → (P → Q) → s ≡ span (lo ts) r.last → Reads (from m j) (arrow_by lm inner c (from ts k) i (unpack ps) (from m j)) (Is (arrow_expr s ps e i) r) Q
   arrow_body i ps s e m n r j P y f p = reads_deep f (reads_map _ (λ z v. (v.0 ∙ (ap (λ (w : Span). arrow_expr w (pack (unpack ps)) e i) (sym p) ∙ ap (λ ys. arrow_expr s ys e i) (pack_unpack ps)), v.1)) (y.found (from ts k) (unpack ps) j))
 
   ident_arrow : (q : Span) (x : List ℕ) (s : Span) (e : Tree) (m n r : Input) (P : Type 0) {Q : Type 0} → rest ts ≡ m → q ≡ span (lo ts) m.last → Body_read inner c false e m n r P → (P → Q) → s ≡ span (lo ts) r.last
-      → Reads (from m k) (ident_end lm inner c (from ts k) x (from m k)) (Is (arrow_expr s (more (binding_ident q (ident q x)) none) e false) r) Q
+      → Reads (from m k) (ident_end lm inner c lev (from ts k) x (from m k)) (Is (arrow_expr s (more (binding_ident q (ident q x)) none) e false) r) Q
   unfolding ident_end
-  ident_arrow q x s e m n r P {Q = Q} o sp y f p = if_yes (arrows lm inner (from m k)) _ _ _ _ y.arrow
+  ident_arrow q x s e m n r P {Q = Q} o sp y f p = if_yes (arrows_at lm inner lev (from m k)) _ _ _ _ (and_from (arrowed m) _ y.arrow (le-leb lev assignment_level low))
       (subst (λ (w : Span). Reads (from m k) (arrow_by lm inner c (from ts k) false (binding_ident (first_span ts) (ident (first_span ts) x) ∷ []) (from m k)) (Is (arrow_expr s (more (binding_ident w (ident w x)) none) e false) r) Q) (first_at ts m q o sp)
       (arrow_body false (more (binding_ident (first_span ts) (ident (first_span ts) x)) none) s e m n r k P y f p))
 
@@ -186,14 +188,14 @@ module _ (inner : Inner Input) (c : Code) (ts : Input) (k : List ℕ) where
 
   -- one bare name
   pub arrow_bare : (q : Span) (x : List ℕ) (s : Span) (e : Tree) (m n r : Input) (P : Type 0) {Q : Type 0} → IsName c ts → text ts ≡ x → rest ts ≡ m → q ≡ span (lo ts) m.last → Body_read inner c false e m n r P → (P → Q) → s ≡ span (lo ts) r.last
-      → Reads (from ts k) (prefix_by lm inner c (from ts k)) (Is (arrow_expr s (more (binding_ident q (ident q x)) none) e false) r) Q
+      → Reads (from ts k) (prefix_by lm inner c lev (from ts k)) (Is (arrow_expr s (more (binding_ident q (ident q x)) none) e false) r) Q
   unfolding word_by async_by
-  arrow_bare q x s e m n r P {Q = Q} is t o sp y f p = named_word inner c ts k (Is (arrow_expr s (more (binding_ident q (ident q x)) none) e false) r) Q is (⊎_elim
+  arrow_bare q x s e m n r P {Q = Q} is t o sp y f p = named_word inner c lev ts k (Is (arrow_expr s (more (binding_ident q (ident q x)) none) e false) r) Q is (⊎_elim
       (λ (w : kind ts ≡ async_kind). if_yes (eqb (kind ts) async_kind) _ _ _ _ (eq-eqb (kind ts) async_kind w)
       (if_no ((kind (rest ts) == function_kind) && not (brk (rest ts))) _ _ _ _ (and_left (kind (rest ts) == function_kind) _ (no function_kind refl))
-      (if_no ((is_word (kind (rest ts)) && (not (no_name c.context (kind (rest ts))) && not (barred c.context (rest ts)))) && (not (brk (rest ts)) && (kind2 (rest ts) == arrow_kind) && not (brk2 (rest ts)))) _ _ _ _ (and_left _ _ (and_left (is_word (kind (rest ts))) _ no_word))
+      (if_no ((is_word (kind (rest ts)) && (not (no_name c.context (kind (rest ts))) && not (barred c.context (rest ts)))) && ((not (brk (rest ts)) && (kind2 (rest ts) == arrow_kind) && not (brk2 (rest ts))) && leb lev assignment_level)) _ _ _ _ (and_left _ _ (and_left (is_word (kind (rest ts))) _ no_word))
       (if_no ((kind (rest ts) == left_paren_kind) && not (brk (rest ts))) _ _ _ _ (and_left (kind (rest ts) == left_paren_kind) _ (no left_paren_kind refl))
-      (onto ts m k (λ z. ident_end lm inner c (from ts k) (text ts) z) _ _ o (subst (λ (u : List ℕ). Reads (from m k) (ident_end lm inner c (from ts k) u (from m k)) (Is (arrow_expr s (more (binding_ident q (ident q x)) none) e false) r) Q) (sym t) (ident_arrow q x s e m n r P o sp y f p)))))))
+      (onto ts m k (λ z. ident_end lm inner c lev (from ts k) (text ts) z) _ _ o (subst (λ (u : List ℕ). Reads (from m k) (ident_end lm inner c lev (from ts k) u (from m k)) (Is (arrow_expr s (more (binding_ident q (ident q x)) none) e false) r) Q) (sym t) (ident_arrow q x s e m n r P o sp y f p)))))))
       (λ (w : kind ts ≡ async_kind → ⊥). if_no (eqb (kind ts) async_kind) _ _ _ _ (ne_eqb (kind ts) async_kind w) (then_name c ts m x k _ _ Q is t o (ident_arrow q x s e m n r P o sp y f p)))
       (cases_eq (kind ts) async_kind))
     where
@@ -211,16 +213,19 @@ module _ (inner : Inner Input) (c : Code) (ts : Input) (k : List ℕ) where
   unfolding params_of
   params_read ps o y v b = rw (v.comma, v.rows.so true (subst (λ ys. all_bind ys ≡ true) (sym (pack_unpack ps)) b) y.1.commas (λ n q. refl)) (ap Ok (unpack_packed (unpack ps)))
 
+  heads : (ps : Trees) (o : Input) (y : Elements × Stand Input) → Covered_list false (unpack ps) o y → all_bind ps ≡ true → arrowed o ≡ true → heads_params lm inner lev y.0 y.1 ≡ true
+  heads ps o y v b a = and_from (arrows_at lm inner lev y.1) _ (and_from (arrowed y.1.source) _ (subst (λ (x : Input). arrowed x ≡ true) (sym v.source) a) (le-leb lev assignment_level low)) (ap (λ x. is_read x) (params_read ps o y v b))
+
   after_params : (i : Bool) (ps : Trees) (s : Span) (e : Tree) (o n r : Input) (P : Type 0) {Q : Type 0} (y : Elements × Stand Input) → Covered_list false (unpack ps) o y → all_bind ps ≡ true → Body_read inner c i e o n r P → (P → Q) → s ≡ span (lo ts) r.last
       → Reads y.1 (params_of lm inner y.1.commas y.0 >>= λ xs. arrow_by lm inner c (from ts k) i xs y.1) (Is (arrow_expr s ps e i) r) Q
   after_params i ps s e o n r P {Q = Q} y v b w f p = rw (params_read ps o y v b)
       (subst (λ (u : Input). Reads (from u y.1.commas) (arrow_by lm inner c (from ts k) i (unpack ps) (from u y.1.commas)) (Is (arrow_expr s ps e i) r) Q) (sym v.source) (arrow_body i ps s e o n r y.1.commas P w f p))
 
   pub arrow_paren : (ps : Trees) (s : Span) (e : Tree) (m o n r : Input) (P R : Type 0) {Q : Type 0} → kind ts ≡ left_paren_kind → rest ts ≡ m → Reads (from m k) (elements_by lm inner (with_in c) false right_paren_kind (from m k)) (Covered_list false (unpack ps) o) R → (R → Q) → all_bind ps ≡ true
-      → Body_read inner c false e o n r P → (P → Q) → s ≡ span (lo ts) r.last → Reads (from ts k) (prefix_by lm inner c (from ts k)) (Is (arrow_expr s ps e false) r) Q
+      → Body_read inner c false e o n r P → (P → Q) → s ≡ span (lo ts) r.last → Reads (from ts k) (prefix_by lm inner c lev (from ts k)) (Is (arrow_expr s ps e false) r) Q
   unfolding prefix_by group_by group_end
   arrow_paren ps s e m o n r P R {Q = Q} g q y i b w f p = rw g (then_past_reads ts m k (elements_by lm inner (with_in c) false right_paren_kind) _ (Covered_list false (unpack ps) o) R _ Q q y i
-      (λ u v. if_yes (arrowed u.1.source) _ _ _ _ (subst (λ (x : Input). arrowed x ≡ true) (sym v.source) w.arrow) (after_params false ps s e o n r P u v b w f p)))
+      (λ u v. if_yes (heads_params lm inner lev u.0 u.1) _ _ _ _ (heads ps o u v b w.arrow) (after_params false ps s e o n r P u v b w f p)))
 
   -- after `async`
   async_name : kind ts ≡ async_kind → barred c.context ts ≡ false → IsName c ts
@@ -228,15 +233,15 @@ module _ (inner : Inner Input) (c : Code) (ts : Input) (k : List ℕ) where
 
   pub async_paren : (ps : Trees) (s : Span) (e : Tree) (m l o n r : Input) (P R : Type 0) {Q : Type 0} → kind ts ≡ async_kind → barred c.context ts ≡ false → rest ts ≡ m → brk m ≡ false → kind m ≡ left_paren_kind → rest m ≡ l
       → Reads (from l k) (elements_by lm inner (with_in c) false right_paren_kind (from l k)) (Covered_list false (unpack ps) o) R → (R → Q) → all_bind ps ≡ true → Body_read inner c true e o n r P → (P → Q) → s ≡ span (lo ts) r.last
-      → Reads (from ts k) (prefix_by lm inner c (from ts k)) (Is (arrow_expr s ps e true) r) Q
+      → Reads (from ts k) (prefix_by lm inner c lev (from ts k)) (Is (arrow_expr s ps e true) r) Q
   unfolding word_by async_by async_group
-  async_paren ps s e m l o n r P R {Q = Q} a ba q nb g t y i b w f p = named_word inner c ts k (Is (arrow_expr s ps e true) r) Q (async_name a ba) (if_yes (eqb (kind ts) async_kind) _ _ _ _ (eq-eqb (kind ts) async_kind a)
+  async_paren ps s e m l o n r P R {Q = Q} a ba q nb g t y i b w f p = named_word inner c lev ts k (Is (arrow_expr s ps e true) r) Q (async_name a ba) (if_yes (eqb (kind ts) async_kind) _ _ _ _ (eq-eqb (kind ts) async_kind a)
       (if_no ((kind (rest ts) == function_kind) && not (brk (rest ts))) _ _ _ _ (and_left (kind (rest ts) == function_kind) _ (no function_kind refl))
-      (if_no ((is_word (kind (rest ts)) && (not (no_name c.context (kind (rest ts))) && not (barred c.context (rest ts)))) && (not (brk (rest ts)) && (kind2 (rest ts) == arrow_kind) && not (brk2 (rest ts)))) _ _ _ _
+      (if_no ((is_word (kind (rest ts)) && (not (no_name c.context (kind (rest ts))) && not (barred c.context (rest ts)))) && ((not (brk (rest ts)) && (kind2 (rest ts) == arrow_kind) && not (brk2 (rest ts))) && leb lev assignment_level)) _ _ _ _
       (and_left _ _ (and_left (is_word (kind (rest ts))) _ (subst (λ (u : ℕ). is_word u ≡ false) (sym at) refl)))
       (if_yes ((kind (rest ts) == left_paren_kind) && not (brk (rest ts))) _ _ _ _ (and_from _ _ (eq-eqb (kind (rest ts)) left_paren_kind at) (ap not line))
       (after_one (from ts k) _ _ Q (then_past_reads (rest ts) l k (elements_by lm inner (with_in c) false right_paren_kind) _ (Covered_list false (unpack ps) o) R _ Q (ap (λ (u : Input). rest u) q ∙ t) y i
-      (λ u v. if_yes (arrowed u.1.source && not (brk (rest ts))) _ _ _ _ (and_from (arrowed u.1.source) _ (subst (λ (x : Input). arrowed x ≡ true) (sym v.source) w.arrow) (ap not line)) (after_params true ps s e o n r P u v b w f p))))))))
+      (λ u v. if_yes (heads_params lm inner lev u.0 u.1 && not (brk (rest ts))) _ _ _ _ (and_from (heads_params lm inner lev u.0 u.1) _ (heads ps o u v b w.arrow) (ap not line)) (after_params true ps s e o n r P u v b w f p))))))))
     where
       at : kind (rest ts) ≡ left_paren_kind
       at = ap (λ (u : Input). kind u) q ∙ g
@@ -251,16 +256,17 @@ module _ (inner : Inner Input) (c : Code) (ts : Input) (k : List ℕ) where
   abbrev async_rest : Input → Result (Tree × Stand Input) Fault
   async_rest i =
       cond ((kind i == function_kind) && not (brk i)) (function_expr_by lm inner c (from ts k) true (from i k))
-      (cond ((is_word (kind i) && (not (no_name c.context (kind i)) && not (barred c.context i))) && (not (brk i) && (kind2 i == arrow_kind) && not (brk2 i)))
+      (cond ((is_word (kind i) && (not (no_name c.context (kind i)) && not (barred c.context i))) && ((not (brk i) && (kind2 i == arrow_kind) && not (brk2 i)) && leb lev assignment_level))
       (name lm c (from i k) >>= λ n. arrow_by lm inner c (from ts k) true (binding_ident (first_span i) (ident (first_span i) n.0) ∷ []) n.1)
-      (cond ((kind i == left_paren_kind) && not (brk i)) (async_group lm inner c (from ts k) (from i k)) (ident_end lm inner c (from ts k) (text ts) (from i k))))
+      (cond ((kind i == left_paren_kind) && not (brk i)) (async_group lm inner c lev (from ts k) (from i k)) (ident_end lm inner c lev (from ts k) (text ts) (from i k))))
 
   pub async_bare : (q : Span) (x : List ℕ) (s : Span) (e : Tree) (m o n r : Input) (P : Type 0) {Q : Type 0} → kind ts ≡ async_kind → barred c.context ts ≡ false → rest ts ≡ m → brk m ≡ false → IsName c m → text m ≡ x → rest m ≡ o → q ≡ span (lo m) o.last → Body_read inner c true e o n r P → (P → Q) → s ≡ span (lo ts) r.last
-      → Reads (from ts k) (prefix_by lm inner c (from ts k)) (Is (arrow_expr s (more (binding_ident q (ident q x)) none) e true) r) Q
+      → Reads (from ts k) (prefix_by lm inner c lev (from ts k)) (Is (arrow_expr s (more (binding_ident q (ident q x)) none) e true) r) Q
   unfolding word_by async_by
-  async_bare q x s e m o n r P {Q = Q} a ba t nb is tx u sp w f p = named_word inner c ts k (Is (arrow_expr s (more (binding_ident q (ident q x)) none) e true) r) Q (async_name a ba) (if_yes (eqb (kind ts) async_kind) _ _ _ _ (eq-eqb (kind ts) async_kind a)
+  async_bare q x s e m o n r P {Q = Q} a ba t nb is tx u sp w f p = named_word inner c lev ts k (Is (arrow_expr s (more (binding_ident q (ident q x)) none) e true) r) Q (async_name a ba) (if_yes (eqb (kind ts) async_kind) _ _ _ _ (eq-eqb (kind ts) async_kind a)
       (onto_all (if_no ((kind m == function_kind) && not (brk m)) _ _ _ _ (and_left (kind m == function_kind) _ (ne_eqb (kind m) function_kind (λ i. true≢false (sym (ap always_reserved i) ∙ (or_parts (always_reserved (kind m)) _ is.1).0))))
-      (if_yes ((is_word (kind m) && (not (no_name c.context (kind m)) && not (barred c.context m))) && (not (brk m) && (kind2 m == arrow_kind) && not (brk2 m))) _ _ _ _ (and_from _ _ (named c m k is) (all (not (brk m)) (kind2 m == arrow_kind) (not (brk2 m)) (ap not nb) two three))
+      (if_yes ((is_word (kind m) && (not (no_name c.context (kind m)) && not (barred c.context m))) && ((not (brk m) && (kind2 m == arrow_kind) && not (brk2 m)) && leb lev assignment_level)) _ _ _ _
+      (and_from _ _ (named c m k is) (and_from _ _ (all (not (brk m)) (kind2 m == arrow_kind) (not (brk2 m)) (ap not nb) two three) (le-leb lev assignment_level low)))
       (then_name c m o x k _ _ Q is tx u (subst (λ (i : Span). Reads (from o k) (arrow_by lm inner c (from ts k) true (binding_ident (first_span m) (ident (first_span m) x) ∷ []) (from o k)) (Is (arrow_expr s (more (binding_ident i (ident i x)) none) e true) r) Q) (first_at m o q u sp)
       (arrow_body true (more (binding_ident (first_span m) (ident (first_span m) x)) none) s e o n r k P w f p)))))))
     where

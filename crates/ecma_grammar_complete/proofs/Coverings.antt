@@ -20,11 +20,11 @@ use Rattle.ecma_grammar_complete.proofs.Covers.{Fit, Refines, Cover_read, Coveri
 use Rattle.ecma_grammar_complete_rules.proofs.Finds.{Comes, finds}
 
 -- what is read of a pattern in brackets, by the readers of one call more
-pub structured_read : (z d : ℕ) (f : Finds z d) (cov : Covering z d) (p : Bool) (c : Code) (t : Tree) (ts r : Input) (k : List ℕ) (n : ℕ) → size t < suc z → Covered t → is_structured t ≡ true → Spells t (coded p c) ts r → reach t ≤ n
-    → Reads (from ts k) (prefix_by lm (readers lm d) c (from ts k)) (Cover_read t r) (suc d < n)
-structured_read z d f cov p c (array_pat s xs) ts r k n sz g e h le = array_cover z d cov p c s xs ts h.0 r k (suc d < n) (omega arith) g h.1.0 h.1.2 h.2 h.3 (λ u. omega arith)
-structured_read z d f cov p c (object_pat s xs) ts r k n sz g e h le = object_cover z d f cov p c s xs ts h.0 r k (suc d < n) (omega arith) g h.1.0 h.1.2 h.2 h.3 (λ u. omega arith)
-structured_read z d f cov p c _ ts r k n sz g e h le = absurd (true≢false (sym e))
+pub structured_read : (z d : ℕ) (f : Finds z d) (cov : Covering z d) (p : Bool) (c : Code) (lev : ℕ) (t : Tree) (ts r : Input) (k : List ℕ) (n : ℕ) → size t < suc z → Covered t → is_structured t ≡ true → Spells t (coded p c) ts r → reach t ≤ n
+    → Reads (from ts k) (prefix_by lm (readers lm d) c lev (from ts k)) (Cover_read t r) (suc d < n)
+structured_read z d f cov p c lev (array_pat s xs) ts r k n sz g e h le = array_cover z d cov p c lev s xs ts h.0 r k (suc d < n) (omega arith) g h.1.0 h.1.2 h.2 h.3 (λ u. omega arith)
+structured_read z d f cov p c lev (object_pat s xs) ts r k n sz g e h le = object_cover z d f cov p c lev s xs ts h.0 r k (suc d < n) (omega arith) g h.1.0 h.1.2 h.2 h.3 (λ u. omega arith)
+structured_read z d f cov p c lev _ ts r k n sz g e h le = absurd (true≢false (sym e))
 
 pub structured_starts : (t : Tree) (c : Code) (ts r : Input) → is_structured t ≡ true → Spells t c ts r → eqb (kind ts) hash_kind ≡ false
 structured_starts (array_pat s xs) c ts r e h = ne_eqb (kind ts) hash_kind (λ q. omega (arith, q, h.1.0))
@@ -43,7 +43,7 @@ structured_item : (z d : ℕ) (f : Finds z d) (cov : Covering z d) (p : Bool) (c
     → Reads (from ts k) (expr_by lm (readers lm d) c 2 (from ts k)) (λ y. (y.1.source ≡ r) × Refines false y.0 t y.1) (suc d < reach t)
 unfolding expr_by expr_from loop_by
 structured_item z d f cov p c t ts r k sz g e h fo = if_no (eqb (kind ts) hash_kind) _ _ _ _ (structured_starts t (coded p c) ts r e h)
-    (then_reads (prefix_by lm (readers lm d) c (from ts k)) _ (Cover_read t r) (suc d < reach t) _ _ (structured_read z d f cov p c t ts r k (reach t) sz g e h (omega arith)) (λ u. u)
+    (then_reads (prefix_by lm (readers lm d) c 2 (from ts k)) _ (Cover_read t r) (suc d < reach t) _ _ (structured_read z d f cov p c 2 t ts r k (reach t) sz g e h (omega arith)) (λ u. u)
     (λ y v. if_yes (leb 2 (level y.0)) _ _ _ _ (le-leb 2 (level y.0) (omega (arith, v.tight)))
     (looped (loop_step lm (readers lm d) c 2 (from ts k)) y.0 y.1.source y.1.commas _ _ (stops_here (readers lm d) c 2 (from ts k) y.1 y.0 _ _ (subst (λ (i : Input). goes_expr c (ends y.0) i < 2) (sym v.source) (fo (ends y.0)).stop) (v.source, v.refines)))))
 

@@ -279,10 +279,10 @@ not_noted : (ts : Input) (k : List ℕ) (s : Stand Input) → Fresh (from ts k) 
 not_noted ts k s fr a b af i h = let w = starts_here ts.last ts.places fr.order a b in
     h (lo ts) (omega (arith, w.1, af.last)) ∙ af.kept (lo ts) w.1 ∙ false_from_ne_true (has (lo ts) k) (λ q. omega (arith, fr.below (lo ts) q, w.0))
 
-pub array_cover : (z d : ℕ) (cov : Covering z d) (p : Bool) (c : Code) (s : Span) (xs : Trees) (ts m r : Input) (k : List ℕ) (Q : Type 0) → sizes xs < z → CoveredAll xs → kind ts ≡ left_bracket_kind → rest ts ≡ m → Listed true (Item (coded p c)) (coded p c) right_bracket_kind (parts xs) m r → s ≡ span (lo ts) r.last → (d < reaches xs → Q)
-    → Reads (from ts k) (prefix_by lm (readers lm d) c (from ts k)) (Cover_read (array_pat s xs) r) Q
+pub array_cover : (z d : ℕ) (cov : Covering z d) (p : Bool) (c : Code) (lev : ℕ) (s : Span) (xs : Trees) (ts m r : Input) (k : List ℕ) (Q : Type 0) → sizes xs < z → CoveredAll xs → kind ts ≡ left_bracket_kind → rest ts ≡ m → Listed true (Item (coded p c)) (coded p c) right_bracket_kind (parts xs) m r → s ≡ span (lo ts) r.last → (d < reaches xs → Q)
+    → Reads (from ts k) (prefix_by lm (readers lm d) c lev (from ts k)) (Cover_read (array_pat s xs) r) Q
 unfolding prefix_by array_by
-array_cover z d cov p c s xs ts m r k Q sz g e q h sp i = rw e (noted_then ts m k (elements_by lm (readers lm d) c true right_bracket_kind) _ _ (Covered_list false (unpack xs) r) (d < reaches xs) (Cover_read (array_pat s xs) r) Q (λ u. omega (arith, e, u)) (λ u. omega (arith, e, u)) q
+array_cover z d cov p c lev s xs ts m r k Q sz g e q h sp i = rw e (noted_then ts m k (elements_by lm (readers lm d) c true right_bracket_kind) _ _ (Covered_list false (unpack xs) r) (d < reaches xs) (Cover_read (array_pat s xs) r) Q (λ u. omega (arith, e, u)) (λ u. omega (arith, e, u)) q
     (covers_found z d cov p c true right_bracket_kind (coded p c) refl refl refl xs m r k (reaches xs) sz g h (omega arith)) i
     (λ y v fr a. subst (λ b. Cover_read (array_pat s xs) r (array_lit (span (lo ts) y.1.source.last) (pack y.0.items), noted_at b (lo ts) y.1)) (sym v.comma) (record {
       source = v.source;
@@ -426,10 +426,10 @@ module _ (z d : ℕ) (f : Finds z d) (cov : Covering z d) (p : Bool) (c : Code) 
       })))
       h.2
 
-  pub object_cover : (s : Span) (xs : Trees) (ts m r : Input) (k : List ℕ) (Q : Type 0) → sizes xs < z → CoveredAll xs → kind ts ≡ left_brace_kind → rest ts ≡ m → Listed false (Property (coded p c)) (coded p c) right_brace_kind (parts xs) m r → s ≡ span (lo ts) r.last → (d < reaches xs → Q)
-      → Reads (from ts k) (prefix_by lm within c (from ts k)) (Cover_read (object_pat s xs) r) Q
+  pub object_cover : (lev : ℕ) (s : Span) (xs : Trees) (ts m r : Input) (k : List ℕ) (Q : Type 0) → sizes xs < z → CoveredAll xs → kind ts ≡ left_brace_kind → rest ts ≡ m → Listed false (Property (coded p c)) (coded p c) right_brace_kind (parts xs) m r → s ≡ span (lo ts) r.last → (d < reaches xs → Q)
+      → Reads (from ts k) (prefix_by lm within c lev (from ts k)) (Cover_read (object_pat s xs) r) Q
   unfolding prefix_by object_by
-  object_cover s xs ts m r k Q sz g e q h sp i = rw e (noted_then ts m k (iterate (bound lm) (prop_step lm within c) no_elements) _ _ (Covered_list true (unpack xs) r) (d < reaches xs) (Cover_read (object_pat s xs) r) Q (λ u. omega (arith, e, u)) (λ u. omega (arith, e, u)) q
+  object_cover lev s xs ts m r k Q sz g e q h sp i = rw e (noted_then ts m k (iterate (bound lm) (prop_step lm within c) no_elements) _ _ (Covered_list true (unpack xs) r) (d < reaches xs) (Cover_read (object_pat s xs) r) Q (λ u. omega (arith, e, u)) (λ u. omega (arith, e, u)) q
       (looped (prop_step lm within c) no_elements m k (Covered_list true (unpack xs) r) (d < reaches xs) (props_loop xs [] [] false m r k (reaches xs) sz g h (omega arith) tt)) i
       (λ y v fr a. subst (λ b. Cover_read (object_pat s xs) r (object_lit (span (lo ts) y.1.source.last) (pack y.0.items), noted_at b (lo ts) y.1)) (sym v.comma) (record {
         source = v.source;

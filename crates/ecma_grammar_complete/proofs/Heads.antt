@@ -27,7 +27,7 @@ structured_head : (z : ℕ) → ((e : ℕ) → Finds z e) → (d : ℕ) (p : Boo
 unfolding readers expr_by expr_from loop_by
 structured_head z f zero p c t ts r k sz g e h fo = too_deep _ _ (positive_cover t e)
 structured_head z f (suc d) p c t ts r k sz g e h fo = if_no (eqb (kind ts) hash_kind) _ _ _ _ (structured_starts t (coded p c) ts r e h)
-    (then_reads (prefix_by lm (readers lm d) c (from ts k)) _ (Cover_read t r) (suc d < reach t) _ _ (structured_read z d (f d) (coverings z f d) p c t ts r k (reach t) (omega arith) g e h (omega arith)) (λ u. u)
+    (then_reads (prefix_by lm (readers lm d) c 1 (from ts k)) _ (Cover_read t r) (suc d < reach t) _ _ (structured_read z d (f d) (coverings z f d) p c 1 t ts r k (reach t) (omega arith) g e h (omega arith)) (λ u. u)
     (λ y v. if_yes (leb 1 (level y.0)) _ _ _ _ (le-leb 1 (level y.0) (omega (arith, v.tight)))
     (looped (loop_step lm (readers lm d) c 1 (from ts k)) y.0 y.1.source y.1.commas _ _ (stops_here (readers lm d) c 1 (from ts k) y.1 y.0 _ _ (subst (λ (i : Input). goes_expr c (ends y.0) i < 1) (sym v.source) (subst (λ (e : ℕ). goes_expr c e r < 1) (sym v.closed) fo.stop))
     (v.head y.1.commas ∙ v.refines.so false refl y.1.commas (λ n q. refl), v.source)))))

@@ -4,9 +4,9 @@ use Rattle.std.proofs.lemmas.Bool.{eqb-true, eqb-false, ne_eqb, eq-eqb, cases_Bo
 use Rattle.ecma_token.specs.Kinds.{nullish_coalescing_kind, logical_or_kind, logical_and_kind, bit_or_kind, bit_xor_kind, bit_and_kind, eq_eq_kind, not_eq_eq_kind, lt_kind, gt_eq_kind, left_shift_kind, zero_fill_right_shift_kind, add_kind, sub_kind, mul_kind, mod_kind, exp_kind, in_kind, instanceof_kind, comma_kind, question_mark_kind, regex_kind, left_paren_kind, left_bracket_kind, dot_kind, back_quote_kind, arrow_kind, function_kind}
 use Rattle.ecma_tree.specs.Tree.{Tree, Trees, unary_expr, update_expr, await_expr, bin_expr, cond_expr, assign_expr, arrow_expr, yield_expr, seq_expr, member_expr, tagged_tpl, new_expr, absent}
 use Rattle.ecma_syntax.specs.Input.{Input, Code, kind, kind2, brk, brk2, is_word, no_name, barred, always_reserved}
-use Rattle.ecma_syntax.specs.Operators.{binary_level, right_level, operates, is_assign_op, goes_expr, between}
+use Rattle.ecma_syntax.specs.Operators.{assignment_level, binary_level, right_level, operates, is_assign_op, goes_expr, between}
 use Rattle.ecma_syntax.specs.Shape.{level, ends, fits_left, is_private}
-pub use Rattle.ecma_grammar_complete_base.specs.Laws.{Asked, Follow, sober, ends_operand, quits}
+pub use Rattle.ecma_grammar_complete_base.specs.Laws.{Asked, Follow, sober, arrowed, ends_operand, quits}
 
 -- ---- tests
 
@@ -144,6 +144,20 @@ tail_stops (member_expr s o k) l n h x le = omega arith
 tail_stops (tagged_tpl s o k) l n h x le = omega arith
 tail_stops _ l n h x le = omega arith
 
+-- an assignment may stand as the last operand only where one may stand
+pub tail_calm : (t : Tree) (l : ℕ) → l ≤ level t → Asked l → tail t ≤ assignment_level → l ≤ assignment_level
+tail_calm (bin_expr s op a b) l h x le = omega (arith, right_least op)
+tail_calm (cond_expr s a b d) l h x le = omega (arith, x.conditional)
+tail_calm (update_expr s op true a) l h x le = absurd (omega arith)
+tail_calm (update_expr s op false a) l h x le = absurd (omega arith)
+tail_calm (unary_expr s op a) l h x le = absurd (omega arith)
+tail_calm (await_expr s a) l h x le = absurd (omega arith)
+tail_calm (assign_expr s op a b) l h x le = omega arith
+tail_calm (arrow_expr s ps b i) l h x le = omega arith
+tail_calm (yield_expr s a g) l h x le = omega arith
+tail_calm (seq_expr s xs) l h x le = omega arith
+tail_calm _ l h x le = absurd (omega arith)
+
 pub from_no : (b x y : Bool) → b ≡ false → cond b x y ≡ true → y ≡ true
 from_no true x y e h = absurd (true≢false e)
 from_no false x y e h = h
@@ -195,21 +209,26 @@ abbrev pub closes : ℕ → Bool
 closes k = (k == 8) || ((k == 10) || ((k == 12) || (k == 17)))
 
 silent : (c : Code) (e k : ℕ) (m : Input) → kind m ≡ k → eqb k comma_kind ≡ false → is_assign_op k ≡ false → eqb k question_mark_kind ≡ false → operates c k ≡ false → eqb k regex_kind ≡ false → between 20 21 k ≡ false → eqb k left_paren_kind ≡ false
-    → ((k == left_bracket_kind) || ((k == dot_kind) || (k == back_quote_kind))) ≡ false → eqb k arrow_kind ≡ false → goes_expr c e m ≡ 0
-silent c e k m q h0 h1 h2 h3 h4 h5 h6 h7 h8 =
+    → ((k == left_bracket_kind) || ((k == dot_kind) || (k == back_quote_kind))) ≡ false → goes_expr c e m ≡ 0
+silent c e k m q h0 h1 h2 h3 h4 h5 h6 h7 =
     let to : (P : ℕ → Bool) → P k ≡ false → P (kind m) ≡ false = λ P z. subst (λ (k : ℕ). P k ≡ false) (sym q) z in
     cond_no _ _ _ _ (to (λ k. k == comma_kind) h0) (cond_any (leb 2 e) _ (cond_no _ _ _ _ (to is_assign_op h1) (cond_no _ _ _ _ (to (λ k. k == question_mark_kind) h2) (cond_no _ _ _ _ (to (operates c) h3) (cond_no _ _ _ _ (to (λ k. k == regex_kind) h4)
-    (cond_any (leb 1 e) _ (cond_no _ _ _ _ (to (between 20 21) h5) (cond_no _ _ _ _ (to (λ k. k == left_paren_kind) h6) (cond_no _ _ _ _ (to (λ k. (k == left_bracket_kind) || ((k == dot_kind) || (k == back_quote_kind))) h7) (cond_no _ _ _ _ (to (λ k. k == arrow_kind) h8) refl))))))))))
+    (cond_any (leb 1 e) _ (cond_no _ _ _ _ (to (between 20 21) h5) (cond_no _ _ _ _ (to (λ k. k == left_paren_kind) h6) (cond_no _ _ _ _ (to (λ k. (k == left_bracket_kind) || ((k == dot_kind) || (k == back_quote_kind))) h7) refl)))))))))
   where
     cond_any : (b : Bool) (y : ℕ) → y ≡ 0 → cond b 0 y ≡ 0
     cond_any true y h = refl
     cond_any false y h = h
 
+-- what goes on is no `=>`
+pub goes_calm : (c : Code) (e : ℕ) (m : Input) → 1 ≤ goes_expr c e m → arrowed m ≡ false
+goes_calm c e m h = ⊎_elim (λ (q : kind m ≡ arrow_kind). let z = silent c e arrow_kind m q refl refl refl refl refl refl refl refl in absurd (omega (arith, z)))
+    (λ (n : kind m ≡ arrow_kind → ⊥). and_left (kind m == arrow_kind) (not (brk m)) (ne_eqb (kind m) arrow_kind n)) (cases_eq (kind m) arrow_kind)
+
 pub goes_close : (c : Code) (e k : ℕ) (m : Input) → kind m ≡ k → closes k ≡ true → goes_expr c e m ≡ 0
 goes_close c e k m q h =
     let at : (n : ℕ) → (kind m ≡ n → goes_expr c e m ≡ 0) → eqb k n ≡ true → goes_expr c e m ≡ 0 = λ n f z. f (q ∙ eqb-true k n z) in
-    ⊎_elim (at 8 (λ z. silent c e 8 m z refl refl refl refl refl refl refl refl refl)) (λ h. ⊎_elim (at 10 (λ z. silent c e 10 m z refl refl refl refl refl refl refl refl refl)) (λ h. ⊎_elim (at 12 (λ z. silent c e 12 m z refl refl refl refl refl refl refl refl refl))
-    (at 17 (λ z. silent c e 17 m z refl refl refl refl refl refl refl refl refl)) (or_cases (eqb k 12) (eqb k 17) h)) (or_cases (eqb k 10) ((k == 12) || (k == 17)) h)) (or_cases (eqb k 8) ((k == 10) || ((k == 12) || (k == 17))) h)
+    ⊎_elim (at 8 (λ z. silent c e 8 m z refl refl refl refl refl refl refl refl)) (λ h. ⊎_elim (at 10 (λ z. silent c e 10 m z refl refl refl refl refl refl refl refl)) (λ h. ⊎_elim (at 12 (λ z. silent c e 12 m z refl refl refl refl refl refl refl refl))
+    (at 17 (λ z. silent c e 17 m z refl refl refl refl refl refl refl refl)) (or_cases (eqb k 12) (eqb k 17) h)) (or_cases (eqb k 10) ((k == 12) || (k == 17)) h)) (or_cases (eqb k 8) ((k == 10) || ((k == 12) || (k == 17))) h)
 
 -- a token that is no name, nor `function`
 abbrev pub quiet : ℕ → Bool
@@ -233,8 +252,17 @@ closes_quits k h =
     let at : (n : ℕ) → ends_operand n ≡ true → eqb k n ≡ true → ends_operand k ≡ true = λ n f z. subst (λ (k : ℕ). ends_operand k ≡ true) (sym (eqb-true k n z)) f in
     ⊎_elim (at 8 refl) (λ h. ⊎_elim (at 10 refl) (λ h. ⊎_elim (at 12 refl) (at 17 refl) (or_cases (eqb k 12) (eqb k 17) h)) (or_cases (eqb k 10) ((k == 12) || (k == 17)) h)) (or_cases (eqb k 8) ((k == 10) || ((k == 12) || (k == 17))) h)
 
+pub calm_by : (k : ℕ) (m : Input) → kind m ≡ k → eqb k arrow_kind ≡ false → arrowed m ≡ false
+calm_by k m q h = and_left (kind m == arrow_kind) _ (subst (λ (k : ℕ). eqb k arrow_kind ≡ false) (sym q) h)
+
+pub calm_at : (l : ℕ) (m : Input) → (l ≤ assignment_level → arrowed m ≡ false) → (arrowed m && leb l assignment_level) ≡ false
+calm_at l m h = ⊎_elim (λ (e : leb l assignment_level ≡ true). and_left (arrowed m) _ (h (leb-true l assignment_level e))) (λ (e : leb l assignment_level ≡ false). and_right (arrowed m) _ e) (cases_Bool (leb l assignment_level))
+
+closes_calm : (k : ℕ) → closes k ≡ true → eqb k arrow_kind ≡ false
+closes_calm k h = ne_eqb k arrow_kind (λ e. true≢false (sym h ∙ ap closes e))
+
 pub closed_by : (c : Code) (e l k : ℕ) (m : Input) → kind m ≡ k → closes k ≡ true → quiet k ≡ true → 1 ≤ l → Follow c e l m
-closed_by c e l k m q h s le = let z : goes_expr c e m ≡ 0 = goes_close c e k m q h in record { stop = omega arith; sober = sober_by c k m q s; quits = λ _. quits_by k m q (closes_quits k h) }
+closed_by c e l k m q h s le = let z : goes_expr c e m ≡ 0 = goes_close c e k m q h in record { stop = omega arith; calm = λ _ _. calm_by k m q (closes_calm k h); sober = sober_by c k m q s; quits = λ _. quits_by k m q (closes_quits k h) }
 
 pub comma_after : (c : Code) (e l : ℕ) (m : Input) → kind m ≡ comma_kind → 2 ≤ l → Follow c e l m
-comma_after c e l m q le = let z : goes_expr c e m ≡ 1 = goes_comma c e m q in record { stop = omega arith; sober = sober_by c comma_kind m q refl; quits = λ _. quits_by comma_kind m q refl }
+comma_after c e l m q le = let z : goes_expr c e m ≡ 1 = goes_comma c e m q in record { stop = omega arith; calm = λ _ _. calm_by comma_kind m q refl; sober = sober_by c comma_kind m q refl; quits = λ _. quits_by comma_kind m q refl }

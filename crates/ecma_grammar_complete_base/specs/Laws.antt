@@ -3,7 +3,7 @@ use Rattle.std.specs.Prelude.{◌≡◌, ◌≤◌, ◌<◌, ℕ, suc, max, Bool
 use Rattle.ecma_token.specs.Kinds.{template_kind, arrow_kind, function_kind}
 use Rattle.ecma_tree.specs.Tree.{Tree, Trees, none, more, this_expr, null_lit, bool_lit, ident, str_lit, number_lit, big_int_lit, regex_lit, paren_expr, array_lit, expr_or_spread, hole, unary_expr, update_expr, await_expr, bin_expr, cond_expr, seq_expr, member_expr, computed_prop_name, ident_name, private_name, call_expr, new_expr, list, absent, super, import, tpl, tpl_element, tagged_tpl, opt_chain_expr, opt_call, super_prop_expr, meta_prop_expr, yield_expr, object_lit, key_value_prop, assign_prop, spread_element, binding_ident, array_pat, object_pat, assign_pat, rest_pat, key_value_pat_prop, assign_pat_prop, expr_pat, assign_expr, arrow_expr}
 use Rattle.ecma_syntax.specs.Input.{Place, Input, Code, kind, kind2, brk, brk2, is_word, always_reserved}
-use Rattle.ecma_syntax.specs.Operators.{goes_expr}
+use Rattle.ecma_syntax.specs.Operators.{goes_expr, assignment_level, other_end}
 use Rattle.ecma_syntax.specs.Shape.{level, ends, is_rest}
 use Rattle.ecma_grammar.specs.Grammar.{Spells}
 use Rattle.ecma_reading.specs.Source.{Fault, Unexpected, TooDeep, Stand, list_machine}
@@ -35,6 +35,10 @@ pub record Asked (l : ℕ) : Type 0 where
 abbrev pub sober : Code → Input → Bool
 sober c m = brk m || not ((kind m == function_kind) || ((is_word (kind m) && not (always_reserved (kind m))) && (not (brk m) && (kind2 m == arrow_kind) && not (brk2 m))))
 
+-- `=>` on its line
+abbrev pub arrowed : Input → Bool
+arrowed m = (kind m == arrow_kind) && not (brk m)
+
 -- what can't start an operand of `yield` on its line
 abbrev pub ends_operand : ℕ → Bool
 ends_operand k = (k == 0) || ((k == 8) || ((k == 10) || ((k == 12) || ((k == 14) || ((k == 13) || ((k == 17) || (k == 130)))))))
@@ -42,8 +46,10 @@ ends_operand k = (k == 0) || ((k == 8) || ((k == 10) || ((k == 12) || ((k == 14)
 abbrev pub quits : Input → Bool
 quits m = brk m || ends_operand (kind m)
 
--- What may follow an expression of this end at this level; a bare `yield` also asks that no operand starts on its line.
+-- What may follow an expression of this end at this level. Where an assignment may stand, no `=>` follows on the line what may end in a name
+-- or a group, of which it would make parameters; a bare `yield` also asks that no operand starts there.
 pub record Follow (c : Code) (e l : ℕ) (m : Input) : Type 0 where
   pub stop : goes_expr c e m < l
+  pub calm : e ≡ other_end → l ≤ assignment_level → arrowed m ≡ false
   pub sober : sober c m ≡ true
   pub quits : 2 ≤ e → quits m ≡ true

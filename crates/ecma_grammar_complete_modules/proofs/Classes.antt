@@ -99,7 +99,7 @@ ends_sober p c d e m r (inl h) = sober_by d semicolon_kind m h.0 refl
 ends_sober p c d e m r (inr h) = ⊎_elim (λ q. sober_by d right_brace_kind m (eqb-true (kind m) right_brace_kind q) refl) (λ q. ⊎_elim (λ q. sober_by d end_kind m (eqb-true (kind m) end_kind q) refl) (λ q. or_left (brk m) _ (and_parts (brk m) _ q).0) (or_cases (kind m == end_kind) _ q)) (or_cases (kind m == right_brace_kind) _ h.1)
 
 field_follows : (p : Bool) (c : Code) (e : ℕ) (m r : Input) → has_in c ≡ true → Ends (coded p c) e m r → e ≤ 2 → Follow (in_field c) e 2 m
-field_follows p c e m r i h le = let f = end_follows p c e m r h le in let g = goes_same c (in_field c) e m i in record { stop = omega (arith, f.stop, g); sober = ends_sober p c (in_field c) e m r h; quits = f.quits }
+field_follows p c e m r i h le = let f = end_follows p c e m r h le in let g = goes_same c (in_field c) e m i in record { stop = omega (arith, f.stop, g); calm = λ o _. f.calm o (omega arith); sober = ends_sober p c (in_field c) e m r h; quits = f.quits }
 
 new_asked : Asked new_level
 new_asked = record { conditional = λ e. omega (arith, e); update = λ e. omega (arith, e) }

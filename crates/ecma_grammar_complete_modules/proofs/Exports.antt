@@ -120,7 +120,7 @@ module _ (z : Nested) (p : Bool) (c : Code) where
     unfolding export_default
     default_expression x n g o le h v = let y = or_parts (kind ts == function_kind) _ (not-true _ o) in let w = or_parts (kind ts == class_kind) _ y.1 in let u = end_follows p c (ends x) n r v (ends_two x) in
         if_no (kind ts == function_kind) _ _ _ _ y.0 (if_no (starts_async lm z.inner (from ts k)) _ _ _ _ w.1 (if_no (kind ts == class_kind) _ _ _ _ w.0
-        (then_is (z.inner.expr c assignment_level (from ts k)) _ x n (z.depth < z.reach x) _ _ (z.expr x p c 2 ts n k g h (omega arith) (omega arith) two_asked le (record { stop = omega (arith, u.stop); sober = u.sober; quits = u.quits })) (λ u. u)
+        (then_is (z.inner.expr c assignment_level (from ts k)) _ x n (z.depth < z.reach x) _ _ (z.expr x p c 2 ts n k g h (omega arith) (omega arith) two_asked le (record { stop = omega (arith, u.stop); calm = λ o _. u.calm o (omega arith); sober = u.sober; quits = u.quits })) (λ u. u)
         (λ j. then_end p c (ends x) n r j _ _ _ v (here (ap (λ (d : Span). export_default_expr d x) (sym e)))))))
 
   -- `export` and `default`, after which one of these stands

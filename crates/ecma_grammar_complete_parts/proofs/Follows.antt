@@ -1,6 +1,6 @@
 -- What may follow an expression, and what ends a statement.
 use Rattle.std.proofs.Common.{◌≡◌, ℕ, zero, suc, ◌<◌, ◌≤◌, ◌⊎◌, inl, inr, Bool, true, false, not, ◌&&◌, ◌||◌, ◌==◌, cond, eqb, leb, List, Result, Ok, Err, refl, sym, ap, ◌∙◌, subst, ⊎_elim, true≢false, arith}
-use Rattle.std.proofs.lemmas.Bool.{eqb-true, ne_eqb, eq-eqb, cases_Bool, leb-true, le-leb, or_cases, or_left, or_parts, and_parts, not-true, false_from_ne_true}
+use Rattle.std.proofs.lemmas.Bool.{eqb-true, ne_eqb, eq-eqb, cases_Bool, leb-true, le-leb, or_cases, or_left, or_parts, and_parts, and_right, not-true, false_from_ne_true}
 use Rattle.ecma_token.specs.declared.place.Span.{Span}
 use Rattle.ecma_token.specs.Kinds.{end_kind, comma_kind, semicolon_kind, right_brace_kind, let_kind, left_paren_kind, left_bracket_kind, dot_kind, back_quote_kind, question_mark_kind, regex_kind, arrow_kind, left_brace_kind}
 use Rattle.ecma_tree.specs.Tree.{Tree, Trees, none, more, ident, unary_expr, update_expr, await_expr, bin_expr, cond_expr, assign_expr, arrow_expr, yield_expr, seq_expr}
@@ -11,11 +11,11 @@ use Rattle.ecma_grammar.specs.Parts.{Ends}
 use Rattle.ecma_grammar.specs.Statements.{statement_end}
 use Rattle.ecma_reading.specs.Source.{Fault, Unexpected, TooDeep, ◌>>=◌, Stand, end_of}
 use Rattle.ecma_grammar_complete_base.proofs.Yields.{lm, from, coded, Yields, After, Reads, Is, onto, here}
-use Rattle.ecma_grammar_complete_base.proofs.Levels.{Follow, sober, quiet, sober_by, ends_operand, quits_by, cond_no}
+use Rattle.ecma_grammar_complete_base.proofs.Levels.{Follow, sober, quiet, sober_by, ends_operand, quits_by, arrowed, calm_by, cond_no}
 
 -- ---- expressions
 
--- a token with which nothing goes on, where `in` is barred too
+-- a token with which nothing goes on, where `in` is barred too, and no `=>`
 abbrev pub halts : Code → ℕ → Bool
 halts c k = not (k == comma_kind) && (not (is_assign_op k) && (not (k == question_mark_kind) && (not (operates c k) && (not (k == regex_kind) && (not (between 20 21 k) && (not (k == left_paren_kind)
     && (not ((k == left_bracket_kind) || ((k == dot_kind) || (k == back_quote_kind))) && not (k == arrow_kind))))))))
@@ -34,12 +34,18 @@ goes_nowhere c e m h =
     let a = without (k == comma_kind) _ h in let b = without (is_assign_op k) _ a.1 in let d = without (k == question_mark_kind) _ b.1 in let f = without (operates c k) _ d.1 in let g = without (k == regex_kind) _ f.1 in
     let i = without (between 20 21 k) _ g.1 in let j = without (k == left_paren_kind) _ i.1 in let l = without ((k == left_bracket_kind) || ((k == dot_kind) || (k == back_quote_kind))) _ j.1 in
     cond_no (k == comma_kind) _ _ _ a.0 (cond_any (leb 2 e) _ (cond_no (is_assign_op k) _ _ _ b.0 (cond_no (k == question_mark_kind) _ _ _ d.0 (cond_no (operates c k) _ _ _ f.0 (cond_no (k == regex_kind) _ _ _ g.0
-    (cond_any (leb 1 e) _ (cond_no (between 20 21 k) _ _ _ i.0 (cond_no (k == left_paren_kind) _ _ _ j.0 (cond_no ((k == left_bracket_kind) || ((k == dot_kind) || (k == back_quote_kind))) _ _ _ l.0
-    (cond_no (k == arrow_kind) _ _ _ (not-true (k == arrow_kind) l.1) refl))))))))))
+    (cond_any (leb 1 e) _ (cond_no (between 20 21 k) _ _ _ i.0 (cond_no (k == left_paren_kind) _ _ _ j.0 (cond_no ((k == left_bracket_kind) || ((k == dot_kind) || (k == back_quote_kind))) _ _ _ l.0 refl)))))))))
+
+-- nor on the next line
+pub calm_line : (m : Input) → brk m ≡ true → arrowed m ≡ false
+calm_line m b = and_right (kind m == arrow_kind) _ (ap not b)
+
+halts_calm : (c : Code) (k : ℕ) → halts c k ≡ true → eqb k arrow_kind ≡ false
+halts_calm c k h = ne_eqb k arrow_kind (λ e. true≢false (sym h ∙ ap (halts c) e))
 
 -- a token that goes on with nothing and is neither a name nor `function` ends any expression
 pub halted : (c : Code) (e l k : ℕ) (m : Input) → kind m ≡ k → halts c k ≡ true → quiet k ≡ true → (2 ≤ e → ends_operand k ≡ true) → 1 ≤ l → Follow c e l m
-halted c e l k m q h s d le = let z : goes_expr c e m ≡ 0 = goes_nowhere c e m (subst (λ (k : ℕ). halts c k ≡ true) (sym q) h) in record { stop = omega arith; sober = sober_by c k m q s; quits = λ u. quits_by k m q (d u) }
+halted c e l k m q h s d le = let z : goes_expr c e m ≡ 0 = goes_nowhere c e m (subst (λ (k : ℕ). halts c k ≡ true) (sym q) h) in record { stop = omega arith; calm = λ _ _. calm_by k m q (halts_calm c k h); sober = sober_by c k m q s; quits = λ u. quits_by k m q (d u) }
 
 -- ---- ends of statements
 
@@ -74,7 +80,7 @@ mutual
 paused : (c : Code) (e : ℕ) (m : Input) → ((brk m && not (goes_on c e m)) ≡ true → goes_expr c e m ≡ 0) → pauses c e m ≡ true → Follow c e 1 m
 paused c e m f h = ⊎_elim (λ (q : eqb (kind m) right_brace_kind ≡ true). halted c e 1 right_brace_kind m (eqb-true (kind m) right_brace_kind q) refl refl (λ _. refl) (omega arith))
     (λ h. ⊎_elim (λ (q : eqb (kind m) end_kind ≡ true). halted c e 1 end_kind m (eqb-true (kind m) end_kind q) refl refl (λ _. refl) (omega arith))
-    (λ (q : (brk m && not (goes_on c e m)) ≡ true). let z : goes_expr c e m ≡ 0 = f q in let b = (and_parts (brk m) _ q).0 in record { stop = omega arith; sober = or_left (brk m) _ b; quits = λ _. or_left (brk m) _ b })
+    (λ (q : (brk m && not (goes_on c e m)) ≡ true). let z : goes_expr c e m ≡ 0 = f q in let b = (and_parts (brk m) _ q).0 in record { stop = omega arith; calm = λ _ _. calm_line m b; sober = or_left (brk m) _ b; quits = λ _. or_left (brk m) _ b })
     (or_cases (eqb (kind m) end_kind) _ h)) (or_cases (eqb (kind m) right_brace_kind) _ h)
 
 zero_of : (n : ℕ) → leb 1 n ≡ false → n ≡ 0
@@ -106,7 +112,7 @@ statement_follows p c ts e m r h = by_word (c.listed && ((kind ts == let_kind) &
     paused_let : (not (goes_on c let_end m) ≡ true → goes_on c let_end m ≡ false) → pauses c let_end m ≡ true → Follow c 0 1 m
     paused_let f h = ⊎_elim (λ (q : eqb (kind m) right_brace_kind ≡ true). halted c 0 1 right_brace_kind m (eqb-true (kind m) right_brace_kind q) refl refl (λ _. refl) (omega arith))
         (λ h. ⊎_elim (λ (q : eqb (kind m) end_kind ≡ true). halted c 0 1 end_kind m (eqb-true (kind m) end_kind q) refl refl (λ _. refl) (omega arith))
-        (λ (q : (brk m && not (goes_on c let_end m)) ≡ true). let y = and_parts (brk m) _ q in let z : goes_expr c 0 m ≡ 0 = let_goes c m (f y.1) in record { stop = omega arith; sober = or_left (brk m) _ y.0; quits = λ _. or_left (brk m) _ y.0 })
+        (λ (q : (brk m && not (goes_on c let_end m)) ≡ true). let y = and_parts (brk m) _ q in let z : goes_expr c 0 m ≡ 0 = let_goes c m (f y.1) in record { stop = omega arith; calm = λ _ _. calm_line m y.0; sober = or_left (brk m) _ y.0; quits = λ _. or_left (brk m) _ y.0 })
         (or_cases (eqb (kind m) end_kind) _ h)) (or_cases (eqb (kind m) right_brace_kind) _ h)
 
     of_let : (c.listed && ((kind ts == let_kind) && is_name e)) ≡ true → Ends (coded p c) let_end m r → Follow c (ends e) 1 m

@@ -5,7 +5,7 @@ use Rattle.ecma_token.specs.declared.place.Span.{Span}
 use Rattle.ecma_token.specs.Kinds.{async_kind, comma_kind, dot_kind, question_mark_kind, left_paren_kind, left_bracket_kind, function_kind}
 use Rattle.ecma_tree.specs.Tree.{Tree, this_expr, null_lit, bool_lit, ident, str_lit, number_lit, big_int_lit, regex_lit, paren_expr, array_lit, unary_expr, update_expr, await_expr, bin_expr, cond_expr, seq_expr, member_expr, call_expr, new_expr, computed_prop_name, ident_name, private_name, expr_or_spread, hole, absent, list, tpl, tagged_tpl, opt_chain_expr, opt_call, super, import, super_prop_expr, meta_prop_expr, yield_expr, object_lit, key_value_prop, assign_prop, spread_element, binding_ident, array_pat, object_pat, assign_pat, rest_pat, key_value_pat_prop, assign_pat_prop, expr_pat, assign_expr, arrow_expr, fn_expr, class_expr}
 use Rattle.ecma_syntax.specs.Input.{Input, Code, kind, kind2, brk, lo, rest, span, first_span, is_word}
-use Rattle.ecma_syntax.specs.Operators.{operates, goes_expr, is_assign_op}
+use Rattle.ecma_syntax.specs.Operators.{assignment_level, other_end, operates, goes_expr, is_assign_op}
 use Rattle.ecma_syntax.specs.Shape.{level, ends}
 use Rattle.ecma_grammar.specs.Expressions.{is_update_op}
 use Rattle.ecma_grammar.specs.Grammar.{Spells}
@@ -13,7 +13,7 @@ use Rattle.ecma_reading.specs.Source.{Stand, Inner}
 use Rattle.ecma_reading.specs.Expressions.{expr_by, loop_step}
 use Rattle.ecma_reading.specs.Reading.{readers}
 use Rattle.ecma_grammar_complete_base.proofs.Yields.{lm, from, coded, Is, Loops, loop_end, Reads, here, past_here, ended, if_no, if_yes, too_deep}
-use Rattle.ecma_grammar_complete_base.proofs.Levels.{Follow, sober, Asked, tail, binary_cases, tail_stops, operated, quiet, cond_no, cond_yes}
+use Rattle.ecma_grammar_complete_base.proofs.Levels.{Follow, sober, arrowed, Asked, tail, binary_cases, tail_stops, tail_calm, operated, quiet, cond_no, cond_yes}
 use Rattle.ecma_grammar_complete_base.proofs.Trees.{Covered, size, reach, by_update}
 use Rattle.ecma_grammar_complete_rules.proofs.Lists.{Finds}
 
@@ -22,9 +22,13 @@ abbrev pub Bare : Tree → Input → Input → Type 0
 Bare (ident s n) ts r = kind ts ≡ async_kind → kind r ≡ left_paren_kind → brk r ≡ true
 Bare _ ts r = Unit {0}
 
+-- Where an assignment may stand, no `=>` follows what may end in a name or a group.
+pub record Calm (e l : ℕ) (r : Input) : Type 0 where
+  pub calm : e ≡ other_end → l ≤ assignment_level → arrowed r ≡ false
+
 -- Reading comes to the loop with this tree in hand: what the loop answers is what reading answers.
 abbrev pub Comes : ℕ → ℕ → Type 1
-Comes z d = (t : Tree) (p : Bool) (c : Code) (l : ℕ) (ts r : Input) (k : List ℕ) (W : Tree × Stand Input → Type 0) (n : ℕ) → size t < z → Covered t → Spells t (coded p c) ts r → 1 ≤ l → l ≤ level t → Follow c (ends t) (tail t) r → Bare t ts r → reach t ≤ n
+Comes z d = (t : Tree) (p : Bool) (c : Code) (l : ℕ) (ts r : Input) (k : List ℕ) (W : Tree × Stand Input → Type 0) (n : ℕ) → size t < z → Covered t → Spells t (coded p c) ts r → 1 ≤ l → l ≤ level t → Follow c (ends t) (tail t) r → Bare t ts r → Calm (ends t) l r → reach t ≤ n
     → ((j : List ℕ) → Loops (loop_step lm (readers lm d) c l (from ts k)) t r j W (suc d < n)) → Reads (from ts k) (expr_by lm (readers lm d) c l (from ts k)) W (suc d < n)
 
 pub bare_by : (t : Tree) (ts r : Input) → (kind r ≡ left_paren_kind → ⊥) → Bare t ts r
@@ -132,7 +136,7 @@ pub reads : (z d : ℕ) → ((e : ℕ) → Comes z e) → (t : Tree) (p : Bool) 
     → Reads (from ts k) ((readers lm d).expr c l (from ts k)) (Is t r) (d < reach t)
 unfolding readers
 reads z zero ih t p c l ts r k sz g h one asked le fo ba = too_deep _ _ (positive t _ ts r g h (omega arith))
-reads z (suc d) ih t p c l ts r k sz g h one asked le fo ba = ih d t p c l ts r k (Is t r) (reach t) sz g h one le (record { stop = tail_stops t l (goes_expr c (ends t) r) le asked fo.stop; sober = fo.sober; quits = fo.quits }) ba (omega arith)
+reads z (suc d) ih t p c l ts r k sz g h one asked le fo ba = ih d t p c l ts r k (Is t r) (reach t) sz g h one le (record { stop = tail_stops t l (goes_expr c (ends t) r) le asked fo.stop; calm = λ e u. fo.calm e (tail_calm t l le asked u); sober = fo.sober; quits = fo.quits }) ba (record { calm = fo.calm }) (omega arith)
     (λ j. loop_stops (readers lm d) c l (from ts k) t r j (suc d < reach t) fo.stop)
 
 pub finds : (z d : ℕ) → ((e : ℕ) → Comes z e) → Finds z d

@@ -31,8 +31,8 @@ Finds z d = (t : Tree) (p : Bool) (c : Code) (l : ℕ) (ts r : Input) (k : List 
 
 -- What is nested in functions, classes and methods is read so too: what the readers of such nodes find, by calls so deep.
 pub record Deep (z d : ℕ) : Type 0 where
-  pub functions : (s : Span) (n f : Tree) (p : Bool) (c : Code) (ts r : Input) (k : List ℕ) → size (fn_expr s n f) < suc z → Spells (fn_expr s n f) (coded p c) ts r → Reads (from ts k) (prefix_by lm (readers lm d) c (from ts k)) (Is (fn_expr s n f) r) (suc d < reach (fn_expr s n f))
-  pub classes : (s : Span) (n t : Tree) (p : Bool) (c : Code) (ts r : Input) (k : List ℕ) → size (class_expr s n t) < suc z → Spells (class_expr s n t) (coded p c) ts r → Reads (from ts k) (prefix_by lm (readers lm d) c (from ts k)) (Is (class_expr s n t) r) (suc d < reach (class_expr s n t))
+  pub functions : (s : Span) (n f : Tree) (p : Bool) (c : Code) (l : ℕ) (ts r : Input) (k : List ℕ) → size (fn_expr s n f) < suc z → Spells (fn_expr s n f) (coded p c) ts r → Reads (from ts k) (prefix_by lm (readers lm d) c l (from ts k)) (Is (fn_expr s n f) r) (suc d < reach (fn_expr s n f))
+  pub classes : (s : Span) (n t : Tree) (p : Bool) (c : Code) (l : ℕ) (ts r : Input) (k : List ℕ) → size (class_expr s n t) < suc z → Spells (class_expr s n t) (coded p c) ts r → Reads (from ts k) (prefix_by lm (readers lm d) c l (from ts k)) (Is (class_expr s n t) r) (suc d < reach (class_expr s n t))
   pub bodies : (s : Span) (ss : Trees) (p : Bool) (c : Code) (ts r : Input) (k : List ℕ) → size (block_stmt s ss) < z → Body (coded p c) s (parts ss) ts r → Reads (from ts k) ((readers lm d).body c (from ts k)) (Is (block_stmt s ss) r) (d < reach (block_stmt s ss))
   pub methods : (t : Tree) (p : Bool) (c : Code) (ts r : Input) (k : List ℕ) → is_method t ≡ true → size t < z → Spells t (coded p c) ts r → Reads (from ts k) (prop_by lm (readers lm d) c (from ts k)) (Is t r) (d < reach t)
 

@@ -157,6 +157,6 @@ module _ (z d : ℕ) (f : Finds z d) (p : Bool) (c : Code) (tagged : Bool) where
         v.2,
       ))
 
-pub prefix_template : (inner : Inner Input) (c : Code) (ts : Input) (k : List ℕ) (V : Tree × Stand Input → Type 0) (Q : Type 0) → kind ts ≡ back_quote_kind → Reads (from ts k) (template_by lm inner c false (from ts k)) V Q → Reads (from ts k) (prefix_by lm inner c (from ts k)) V Q
+pub prefix_template : (inner : Inner Input) (c : Code) (lev : ℕ) (ts : Input) (k : List ℕ) (V : Tree × Stand Input → Type 0) (Q : Type 0) → kind ts ≡ back_quote_kind → Reads (from ts k) (template_by lm inner c false (from ts k)) V Q → Reads (from ts k) (prefix_by lm inner c lev (from ts k)) V Q
 unfolding prefix_by
-prefix_template inner c ts k V Q e y = rw e y
+prefix_template inner c lev ts k V Q e y = rw e y

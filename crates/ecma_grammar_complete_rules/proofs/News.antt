@@ -119,13 +119,13 @@ alone (fn_expr s x f) c m n g b h a o = absurd (function_alone s x f c m n h a o
 alone (class_expr s x k) c m n g b h a o = absurd (omega (arith, a, h.2.0))
 alone _ c m n g b h a o = absurd (omega (arith, b))
 
-module _ (inner : Inner Input) (c : Code) (ts : Input) (k : List ℕ) (s : Span) (f : Tree) (m n : Input) (P Q : Type 0) where
-  pub prefix_new : (V : Tree × Stand Input → Type 0) → kind ts ≡ new_kind → Reads (from ts k) (new_by lm inner c (from ts k)) V Q → Reads (from ts k) (prefix_by lm inner c (from ts k)) V Q
+module _ (inner : Inner Input) (c : Code) (lev : ℕ) (ts : Input) (k : List ℕ) (s : Span) (f : Tree) (m n : Input) (P Q : Type 0) where
+  pub prefix_new : (V : Tree × Stand Input → Type 0) → kind ts ≡ new_kind → Reads (from ts k) (new_by lm inner c (from ts k)) V Q → Reads (from ts k) (prefix_by lm inner c lev (from ts k)) V Q
   unfolding prefix_by keyword_by
   prefix_new V e y = rw e y
 
   pub bare_found : kind ts ≡ new_kind → barred c.context ts ≡ false → rest ts ≡ m → eqb (kind m) dot_kind ≡ false → ((j : List ℕ) → Reads (from m j) (callee_by lm inner c (from m j)) (Is f n) P) → (P → Q) → (level f ≡ 18) ⊎ (20 ≤ level f) → goes_expr c 0 n < 19 → s ≡ span (lo ts) n.last
-      → Reads (from ts k) (prefix_by lm inner c (from ts k)) (Is (new_expr s f absent) n) Q
+      → Reads (from ts k) (prefix_by lm inner c lev (from ts k)) (Is (new_expr s f absent) n) Q
   unfolding new_by new_end
   bare_found e b q d y i l st p = prefix_new (Is (new_expr s f absent) n) e (then_word c new_kind ts m k _ _ _ e b q (if_no (eqb (kind m) dot_kind) _ _ _ _ d (then_is (callee_by lm inner c (from m k)) _ f n P _ Q (y k) i
       (λ j. if_no (eqb (kind n) left_paren_kind && leb 20 (level f)) _ _ _ _ (and_left (eqb (kind n) left_paren_kind) _ (ne_eqb (kind n) left_paren_kind (λ x. omega (arith, st, paren_goes c n x))))
@@ -134,7 +134,7 @@ module _ (inner : Inner Input) (c : Code) (ts : Input) (k : List ℕ) (s : Span)
       (here (ap (λ (z : Span). new_expr z f absent) (sym p))))))))
 
   pub with_found : (xs : Trees) (o r : Input) (R : Type 0) → kind ts ≡ new_kind → barred c.context ts ≡ false → rest ts ≡ m → eqb (kind m) dot_kind ≡ false → ((j : List ℕ) → Reads (from m j) (callee_by lm inner c (from m j)) (Is f n) P) → (P → Q) → 20 ≤ level f → kind n ≡ left_paren_kind → rest n ≡ o
-      → ((h : List ℕ) → Reads (from o h) (elements_by lm inner c false right_paren_kind (from o h)) (Has (unpack xs) r) R) → (R → Q) → s ≡ span (lo ts) r.last → Reads (from ts k) (prefix_by lm inner c (from ts k)) (Is (new_expr s f (list xs)) r) Q
+      → ((h : List ℕ) → Reads (from o h) (elements_by lm inner c false right_paren_kind (from o h)) (Has (unpack xs) r) R) → (R → Q) → s ≡ span (lo ts) r.last → Reads (from ts k) (prefix_by lm inner c lev (from ts k)) (Is (new_expr s f (list xs)) r) Q
   unfolding new_by new_end arguments_by
   with_found xs o r R e b q d y i l u v w x p = prefix_new (Is (new_expr s f (list xs)) r) e (then_word c new_kind ts m k _ _ _ e b q (if_no (eqb (kind m) dot_kind) _ _ _ _ d (then_is (callee_by lm inner c (from m k)) _ f n P _ Q (y k) i
       (λ j. if_yes (eqb (kind n) left_paren_kind && leb 20 (level f)) _ _ _ _ (and_from (eqb (kind n) left_paren_kind) _ (eq-eqb (kind n) left_paren_kind u) (le-leb 20 (level f) l))
@@ -173,18 +173,18 @@ module _ (z : ℕ) (ih : (e : ℕ) → Comes z e) (p : Bool) (c : Code) where
 
   tight : (f : Tree) (m r : Input) (d : ℕ) (k : List ℕ) → size f < z → Covered f → 20 ≤ level f → Spells f (coded p c) m r → After c r → NoAsync m → Reads (from m k) ((readers lm d).expr c 20 (from m k)) (Is f r) (d < reach f)
   tight f m r d k sz g b h fo na = reads z d ih f p c 20 m r k sz g h (omega arith) (record { conditional = λ e. omega (arith, e); update = λ e. omega (arith, e) }) b
-      (record { stop = subst (λ (e : ℕ). goes_expr c e r < 20) (sym (ends_high f (omega (arith, b)))) fo.stop; sober = fo.sober; quits = λ q. absurd (omega (arith, q, ends_high f (omega (arith, b)))) }) (bare_here f m r h na)
+      (record { stop = subst (λ (e : ℕ). goes_expr c e r < 20) (sym (ends_high f (omega (arith, b)))) fo.stop; calm = λ _ u. absurd (omega arith); sober = fo.sober; quits = λ q. absurd (omega (arith, q, ends_high f (omega (arith, b)))) }) (bare_here f m r h na)
 
   -- a bare `new` is handed on, though it doesn't bind as tightly as a member
-  handed : (f : Tree) (m r : Input) (d : ℕ) (k : List ℕ) (Q : Type 0) → level f ≡ 18 → kind m ≡ new_kind → Reads (from m k) (prefix_by lm (readers lm d) c (from m k)) (Is f r) Q → Reads (from m k) (expr_by lm (readers lm d) c 20 (from m k)) (Is f r) Q
+  handed : (f : Tree) (m r : Input) (d : ℕ) (k : List ℕ) (Q : Type 0) → level f ≡ 18 → kind m ≡ new_kind → Reads (from m k) (prefix_by lm (readers lm d) c 20 (from m k)) (Is f r) Q → Reads (from m k) (expr_by lm (readers lm d) c 20 (from m k)) (Is f r) Q
   unfolding expr_by expr_from loop_by
-  handed f m r d k Q l e y = if_no (eqb (kind m) hash_kind) _ _ _ _ (subst (λ (x : ℕ). eqb x hash_kind ≡ false) (sym e) refl) (then_is (prefix_by lm (readers lm d) c (from m k)) _ f r Q _ Q y (λ u. u)
+  handed f m r d k Q l e y = if_no (eqb (kind m) hash_kind) _ _ _ _ (subst (λ (x : ℕ). eqb x hash_kind ≡ false) (sym e) refl) (then_is (prefix_by lm (readers lm d) c 20 (from m k)) _ f r Q _ Q y (λ u. u)
       (λ j. rw l (here refl)))
 
   pub callee_found : (f : Tree) (m r : Input) (d : ℕ) (k : List ℕ) → size f < z → Covered f → Callee f → Spells f (coded p c) m r → After c r → Reads (from m k) (callee_by lm (readers lm d) c (from m k)) (Is f r) (d < reach f)
   unfolding readers
   callee_found (new_expr s f absent) m r zero k sz g b h fo = either (new_expr s f absent) m r zero k g b h (λ na. too_deep _ _ (omega arith))
   callee_found (new_expr s f absent) m r (suc d) k sz g b h fo = either (new_expr s f absent) m r (suc d) k g b h (λ na. let w = callee_of f (coded p c) h.0 r g.0 h.3 h.2 in
-      handed (new_expr s f absent) m r d k (suc d < suc (max (reach f) 0)) refl h.1.0 (bare_found (readers lm d) c m k s f h.0 r (d < reach f) (suc d < suc (max (reach f) 0)) h.1.0 h.1.1 h.1.3 (no_dot f (coded p c) h.0 r g.0 w h.3)
+      handed (new_expr s f absent) m r d k (suc d < suc (max (reach f) 0)) refl h.1.0 (bare_found (readers lm d) c 20 m k s f h.0 r (d < reach f) (suc d < suc (max (reach f) 0)) h.1.0 h.1.1 h.1.3 (no_dot f (coded p c) h.0 r g.0 w h.3)
       (λ j. callee_found f h.0 r d j (omega arith) g.0 w h.3 fo) (λ u. omega arith) h.2 h.4 h.5))
   callee_found f m r d k sz g b h fo = either f m r d k g b h (λ na. tight f m r d k sz g b h fo na)

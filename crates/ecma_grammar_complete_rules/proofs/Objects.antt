@@ -204,9 +204,9 @@ module _ (z d : ℕ) (f : Finds z d) (p : Bool) (c : Code) where
       (λ l. (ap (λ ys. acc ++ (x ∷ ys)) (sym (no_more xs v.0)), refl)))
       h.2
 
-  pub object_found : Deep z d → (s : Span) (xs : Trees) (ts m r : Input) (k : List ℕ) {Q : Type 0} → sizes xs < z → CoveredAll xs → kind ts ≡ left_brace_kind → rest ts ≡ m → Listed false (Sorted is_prop (coded p c)) (coded p c) right_brace_kind (parts xs) m r → s ≡ span (lo ts) r.last → (d < reaches xs → Q)
-      → Reads (from ts k) (prefix_by lm inner c (from ts k)) (Is (object_lit s xs) r) Q
+  pub object_found : Deep z d → (lev : ℕ) (s : Span) (xs : Trees) (ts m r : Input) (k : List ℕ) {Q : Type 0} → sizes xs < z → CoveredAll xs → kind ts ≡ left_brace_kind → rest ts ≡ m → Listed false (Sorted is_prop (coded p c)) (coded p c) right_brace_kind (parts xs) m r → s ≡ span (lo ts) r.last → (d < reaches xs → Q)
+      → Reads (from ts k) (prefix_by lm inner c lev (from ts k)) (Is (object_lit s xs) r) Q
   unfolding prefix_by object_by
-  object_found dp s xs ts m r k {Q = Q} sz g e q h sp i = rw e (then_noted ts m k (iterate (bound lm) (prop_step lm inner c) no_elements) _ _ (Has (unpack xs) r) (d < reaches xs) (Is (object_lit s xs) r) Q (λ u. omega (arith, e, u)) (λ u. omega (arith, e, u)) q
+  object_found dp lev s xs ts m r k {Q = Q} sz g e q h sp i = rw e (then_noted ts m k (iterate (bound lm) (prop_step lm inner c) no_elements) _ _ (Has (unpack xs) r) (d < reaches xs) (Is (object_lit s xs) r) Q (λ u. omega (arith, e, u)) (λ u. omega (arith, e, u)) q
       (looped (prop_step lm inner c) no_elements m k (Has (unpack xs) r) (d < reaches xs) (object_loop dp xs [] false m r k (reaches xs) sz g h (omega arith))) i
       (λ x v. (ap (λ ys. object_lit (span (lo ts) x.1.source.last) (pack ys)) v.0 ∙ ap (λ ys. object_lit (span (lo ts) x.1.source.last) ys) (pack_unpack xs) ∙ ap (λ (z : Input). object_lit (span (lo ts) z.last) xs) v.1 ∙ ap (λ z. object_lit z xs) (sym sp), v.1)))

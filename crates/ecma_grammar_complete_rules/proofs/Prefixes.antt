@@ -1,34 +1,23 @@
 -- What the readers of prefixes answer: words, literals, prefix operators.
-use Rattle.std.proofs.Common.{◌≡◌, ℕ, zero, suc, ◌+◌, ◌<◌, ◌≤◌, ◌⊎◌, inl, inr, max, Bool, true, false, not, ◌&&◌, ◌||◌, ◌==◌, cond, eqb, leb, ltb, List, [], ◌∷◌, length, Option, Some, None, Result, Ok, Err, refl, sym, ap, ◌∙◌, subst, ⊎_elim, true≢false, arith}
-use Rattle.std.proofs.lemmas.Bool.{eqb-true, eqb-false, ne_eqb, eq-eqb, cases_Bool, cases_eq, le-leb, le-ltb, leb-true, or_parts, or_from, and_left, and_right, and_parts, not-true, true_from_ne_false, false_from_ne_true}
+use Rattle.std.proofs.Common.{◌≡◌, ℕ, zero, suc, ◌+◌, ◌<◌, ◌≤◌, ◌⊎◌, inl, inr, max, Bool, true, false, not, ◌&&◌, ◌||◌, ◌==◌, cond, eqb, leb, ltb, List, [], ◌∷◌, length, Option, Some, None, Result, Ok, Err, refl, sym, ap, ◌∙◌, subst, ⊎_elim, true≢false}
+use Rattle.std.proofs.lemmas.Bool.{eqb-true, eqb-false, ne_eqb, eq-eqb, cases_eq, le-leb, le-ltb, leb-true, or_parts, or_from, and_left, and_right, and_parts, not-true, true_from_ne_false, false_from_ne_true}
 use Rattle.ecma_token.specs.declared.place.Span.{Span}
 use Rattle.ecma_token.specs.Kinds.{hash_kind, arrow_kind, left_paren_kind, left_bracket_kind, left_brace_kind, back_quote_kind, str_kind, num_kind, big_int_kind, regex_kind, sub_kind, add_kind, bang_kind, tilde_kind, typeof_kind, void_kind, delete_kind, this_kind, null_kind, true_kind, false_kind, function_kind, class_kind, new_kind, super_kind, import_kind, await_kind, yield_kind, async_kind, plus_plus_kind, minus_minus_kind}
 use Rattle.ecma_token.specs.Tokens.{Quoted, Piece, Pattern, Numeral, BigNumeral}
 use Rattle.ecma_tree.specs.Tree.{Tree, this_expr, null_lit, bool_lit, ident, str_lit, number_lit, big_int_lit, regex_lit, unary_expr, update_expr, await_expr}
 use Rattle.ecma_syntax.specs.Input.{Input, Code, kind, kind2, brk, brk2, lo, text, content, rest, span, first_span, is_word, no_name, barred, always_reserved, operator_word}
-use Rattle.ecma_syntax.specs.Operators.{goes_expr, unary_level, between}
+use Rattle.ecma_syntax.specs.Operators.{assignment_level, unary_level, between}
 use Rattle.ecma_syntax.specs.Shape.{level}
 use Rattle.ecma_grammar.specs.Expressions.{is_unary_op, is_update_op}
 use Rattle.ecma_reading.specs.Source.{Fault, ◌>>=◌, unexpected, Stand, Inner, eat_word, name}
-use Rattle.ecma_reading.specs.Expressions.{literal, literal_by, is_unary, prefix_by, keyword_by, word_by, async_by, ident_end, fixed, unary_by, update_by, await_by, arrows}
+use Rattle.ecma_reading.specs.Expressions.{literal, literal_by, is_unary, prefix_by, keyword_by, word_by, async_by, ident_end, fixed, unary_by, update_by, await_by, arrows_at}
 use Rattle.ecma_grammar_complete_base.proofs.Yields.{lm, from, Is, then_is, then_word, then_name, IsName, named, Reads, here, past_here, ended, if_no, if_yes, then_past, after_one}
-use Rattle.ecma_grammar_complete_base.proofs.Levels.{sober, Follow, cond_no}
+use Rattle.ecma_grammar_complete_base.proofs.Levels.{sober, arrowed, calm_at}
 use Rattle.ecma_grammar_complete_base.proofs.Trees.{by_unary, by_update, no_kind}
 
--- `=>` on its line
-abbrev pub arrowed : Input → Bool
-arrowed r = (kind r == arrow_kind) && not (brk r)
-
--- where less than an arrow goes on, there is none
-pub no_arrow : (c : Code) (r : Input) → goes_expr c 0 r < 21 → arrowed r ≡ false
-no_arrow c r h = ⊎_elim
-    (λ (e : kind r ≡ arrow_kind). ⊎_elim (λ (b : brk r ≡ true). and_right (kind r == arrow_kind) (not (brk r)) (ap not b))
-    (λ (b : brk r ≡ false). let z : goes_expr c 0 r ≡ 21 = rw (e, b) refl in absurd (omega arith)) (cases_Bool (brk r)))
-    (λ (n : kind r ≡ arrow_kind → ⊥). and_left (kind r == arrow_kind) (not (brk r)) (ne_eqb (kind r) arrow_kind n)) (cases_eq (kind r) arrow_kind)
-
 -- a name is read as a word
-module _ (inner : Inner Input) (c : Code) (ts : Input) (k : List ℕ) (V : Tree × Stand Input → Type 0) (Q : Type 0) where
-  pub named_word : IsName c ts → Reads (from ts k) (word_by lm inner c (from ts k)) V Q → Reads (from ts k) (prefix_by lm inner c (from ts k)) V Q
+module _ (inner : Inner Input) (c : Code) (lev : ℕ) (ts : Input) (k : List ℕ) (V : Tree × Stand Input → Type 0) (Q : Type 0) where
+  pub named_word : IsName c ts → Reads (from ts k) (word_by lm inner c lev (from ts k)) V Q → Reads (from ts k) (prefix_by lm inner c lev (from ts k)) V Q
   unfolding prefix_by keyword_by
   named_word n y =
       let o = or_parts (always_reserved (kind ts)) (operator_word c.context (kind ts)) n.1 in
@@ -53,19 +42,20 @@ module _ (inner : Inner Input) (c : Code) (ts : Input) (k : List ℕ) (V : Tree 
   unfolding literal_by
   literal_found t r e q = rw e (past_here refl q)
 
-  pub prefix_str : kind ts ≡ str_kind → Reads (from ts k) (literal_by lm inner (from ts k)) V Q → Reads (from ts k) (prefix_by lm inner c (from ts k)) V Q
+module _ (inner : Inner Input) (c : Code) (lev : ℕ) (ts : Input) (k : List ℕ) (V : Tree × Stand Input → Type 0) (Q : Type 0) where
+  pub prefix_str : kind ts ≡ str_kind → Reads (from ts k) (literal_by lm inner (from ts k)) V Q → Reads (from ts k) (prefix_by lm inner c lev (from ts k)) V Q
   unfolding prefix_by
   prefix_str e y = rw e y
 
-  pub prefix_num : kind ts ≡ num_kind → Reads (from ts k) (literal_by lm inner (from ts k)) V Q → Reads (from ts k) (prefix_by lm inner c (from ts k)) V Q
+  pub prefix_num : kind ts ≡ num_kind → Reads (from ts k) (literal_by lm inner (from ts k)) V Q → Reads (from ts k) (prefix_by lm inner c lev (from ts k)) V Q
   unfolding prefix_by
   prefix_num e y = rw e y
 
-  pub prefix_big : kind ts ≡ big_int_kind → Reads (from ts k) (literal_by lm inner (from ts k)) V Q → Reads (from ts k) (prefix_by lm inner c (from ts k)) V Q
+  pub prefix_big : kind ts ≡ big_int_kind → Reads (from ts k) (literal_by lm inner (from ts k)) V Q → Reads (from ts k) (prefix_by lm inner c lev (from ts k)) V Q
   unfolding prefix_by
   prefix_big e y = rw e y
 
-  pub prefix_regex : kind ts ≡ regex_kind → Reads (from ts k) (literal_by lm inner (from ts k)) V Q → Reads (from ts k) (prefix_by lm inner c (from ts k)) V Q
+  pub prefix_regex : kind ts ≡ regex_kind → Reads (from ts k) (literal_by lm inner (from ts k)) V Q → Reads (from ts k) (prefix_by lm inner c lev (from ts k)) V Q
   unfolding prefix_by
   prefix_regex e y = rw e y
 
@@ -74,33 +64,33 @@ module _ (inner : Inner Input) (c : Code) (ts : Input) (k : List ℕ) (V : Tree 
   fixed_found : (f : Span → Tree) (r : Input) (s : Span) (K : ℕ) → kind ts ≡ K → barred c.context ts ≡ false → rest ts ≡ r → s ≡ span (lo ts) r.last → Reads (from ts k) (fixed lm inner c f (from ts k)) (Is (f s) r) Q
   fixed_found f r s K e b q p = then_word c (kind ts) ts r k _ _ _ refl b q (here (ap f (sym p)))
 
-  pub prefix_this : (r : Input) (s : Span) → kind ts ≡ this_kind → barred c.context ts ≡ false → rest ts ≡ r → s ≡ span (lo ts) r.last → Reads (from ts k) (prefix_by lm inner c (from ts k)) (Is (this_expr s) r) Q
+  pub prefix_this : (r : Input) (s : Span) → kind ts ≡ this_kind → barred c.context ts ≡ false → rest ts ≡ r → s ≡ span (lo ts) r.last → Reads (from ts k) (prefix_by lm inner c lev (from ts k)) (Is (this_expr s) r) Q
   unfolding prefix_by keyword_by
   prefix_this r s e b q p = rw e (rw e at (fixed_found this_expr r s this_kind e b q p))
 
-  pub prefix_null : (r : Input) (s : Span) → kind ts ≡ null_kind → barred c.context ts ≡ false → rest ts ≡ r → s ≡ span (lo ts) r.last → Reads (from ts k) (prefix_by lm inner c (from ts k)) (Is (null_lit s) r) Q
+  pub prefix_null : (r : Input) (s : Span) → kind ts ≡ null_kind → barred c.context ts ≡ false → rest ts ≡ r → s ≡ span (lo ts) r.last → Reads (from ts k) (prefix_by lm inner c lev (from ts k)) (Is (null_lit s) r) Q
   unfolding prefix_by keyword_by
   prefix_null r s e b q p = rw e (rw e at (fixed_found null_lit r s null_kind e b q p))
 
-  pub prefix_true : (r : Input) (s : Span) → kind ts ≡ true_kind → barred c.context ts ≡ false → rest ts ≡ r → s ≡ span (lo ts) r.last → Reads (from ts k) (prefix_by lm inner c (from ts k)) (Is (bool_lit s true) r) Q
+  pub prefix_true : (r : Input) (s : Span) → kind ts ≡ true_kind → barred c.context ts ≡ false → rest ts ≡ r → s ≡ span (lo ts) r.last → Reads (from ts k) (prefix_by lm inner c lev (from ts k)) (Is (bool_lit s true) r) Q
   unfolding prefix_by keyword_by
   prefix_true r s e b q p = rw e (rw e at (fixed_found (λ p. bool_lit p true) r s true_kind e b q p))
 
-  pub prefix_false : (r : Input) (s : Span) → kind ts ≡ false_kind → barred c.context ts ≡ false → rest ts ≡ r → s ≡ span (lo ts) r.last → Reads (from ts k) (prefix_by lm inner c (from ts k)) (Is (bool_lit s false) r) Q
+  pub prefix_false : (r : Input) (s : Span) → kind ts ≡ false_kind → barred c.context ts ≡ false → rest ts ≡ r → s ≡ span (lo ts) r.last → Reads (from ts k) (prefix_by lm inner c lev (from ts k)) (Is (bool_lit s false) r) Q
   unfolding prefix_by keyword_by
   prefix_false r s e b q p = rw e (rw e at (fixed_found (λ p. bool_lit p false) r s false_kind e b q p))
 
   -- ---- prefix operators
 
-  pub prefix_unary : (op : ℕ) → kind ts ≡ op → is_unary_op op ≡ true → Reads (from ts k) (unary_by lm inner c (from ts k)) V Q → Reads (from ts k) (prefix_by lm inner c (from ts k)) V Q
+  pub prefix_unary : (op : ℕ) → kind ts ≡ op → is_unary_op op ≡ true → Reads (from ts k) (unary_by lm inner c (from ts k)) V Q → Reads (from ts k) (prefix_by lm inner c lev (from ts k)) V Q
   unfolding prefix_by keyword_by
-  prefix_unary op e u y = by_unary op (λ o. kind ts ≡ o → Reads (from ts k) (prefix_by lm inner c (from ts k)) V Q) u (λ e. rw e y) (λ e. rw e y) (λ e. rw e y) (λ e. rw e y) (λ e. rw e y) (λ e. rw e y) (λ e. rw e y) e
+  prefix_unary op e u y = by_unary op (λ o. kind ts ≡ o → Reads (from ts k) (prefix_by lm inner c lev (from ts k)) V Q) u (λ e. rw e y) (λ e. rw e y) (λ e. rw e y) (λ e. rw e y) (λ e. rw e y) (λ e. rw e y) (λ e. rw e y) e
 
-  pub prefix_update : (op : ℕ) → kind ts ≡ op → is_update_op op ≡ true → Reads (from ts k) (update_by lm inner c (from ts k)) V Q → Reads (from ts k) (prefix_by lm inner c (from ts k)) V Q
+  pub prefix_update : (op : ℕ) → kind ts ≡ op → is_update_op op ≡ true → Reads (from ts k) (update_by lm inner c (from ts k)) V Q → Reads (from ts k) (prefix_by lm inner c lev (from ts k)) V Q
   unfolding prefix_by
-  prefix_update op e u y = by_update op (λ o. kind ts ≡ o → Reads (from ts k) (prefix_by lm inner c (from ts k)) V Q) u (λ e. rw e y) (λ e. rw e y) e
+  prefix_update op e u y = by_update op (λ o. kind ts ≡ o → Reads (from ts k) (prefix_by lm inner c lev (from ts k)) V Q) u (λ e. rw e y) (λ e. rw e y) e
 
-  pub prefix_await : kind ts ≡ await_kind → c.context.in_async ≡ true → Reads (from ts k) (await_by lm inner c (from ts k)) V Q → Reads (from ts k) (prefix_by lm inner c (from ts k)) V Q
+  pub prefix_await : kind ts ≡ await_kind → c.context.in_async ≡ true → Reads (from ts k) (await_by lm inner c (from ts k)) V Q → Reads (from ts k) (prefix_by lm inner c lev (from ts k)) V Q
   unfolding prefix_by keyword_by
   prefix_await e u y = rw e (if_yes c.context.in_async _ _ V Q u y)
 
@@ -122,9 +112,9 @@ module _ (inner : Inner Input) (c : Code) (ts : Input) (k : List ℕ) (V : Tree 
 
   -- ---- names
 
-  ident_ends : (s : Span) (n : List ℕ) (r : Input) → rest ts ≡ r → text ts ≡ n → s ≡ span (lo ts) r.last → arrowed r ≡ false → Reads (from r k) (ident_end lm inner c (from ts k) n (from r k)) (Is (ident s n) r) Q
+  ident_ends : (s : Span) (n : List ℕ) (r : Input) → rest ts ≡ r → text ts ≡ n → s ≡ span (lo ts) r.last → (lev ≤ assignment_level → arrowed r ≡ false) → Reads (from r k) (ident_end lm inner c lev (from ts k) n (from r k)) (Is (ident s n) r) Q
   unfolding ident_end
-  ident_ends s n r q t p a = if_no (arrows lm inner (from r k)) _ _ _ _ a (here (ap (λ (z : Span). ident z n) (named_span q p)))
+  ident_ends s n r q t p a = if_no (arrows_at lm inner lev (from r k)) _ _ _ _ (calm_at lev r a) (here (ap (λ (z : Span). ident z n) (named_span q p)))
     where
       named_span : rest ts ≡ r → s ≡ span (lo ts) r.last → first_span ts ≡ s
       named_span q p = ap (λ (z : Input). span (lo ts) z.last) q ∙ sym p
@@ -138,9 +128,14 @@ module _ (inner : Inner Input) (c : Code) (ts : Input) (k : List ℕ) (V : Tree 
       by_line false false x h = refl
 
   sober_arrow : (m : Input) → sober c m ≡ true
-      → ((is_word (kind m) && (not (no_name c.context (kind m)) && not (barred c.context m))) && (not (brk m) && (kind2 m == arrow_kind) && not (brk2 m))) ≡ false
-  sober_arrow m h = by_line (brk m) (kind m == function_kind) (is_word (kind m)) (always_reserved (kind m)) (operator_word c.context (kind m)) (barred c.context m) (kind2 m == arrow_kind) (not (brk2 m)) h
+      → ((is_word (kind m) && (not (no_name c.context (kind m)) && not (barred c.context m))) && ((not (brk m) && (kind2 m == arrow_kind) && not (brk2 m)) && leb lev assignment_level)) ≡ false
+  sober_arrow m h = any_level _ _ (leb lev assignment_level) (by_line (brk m) (kind m == function_kind) (is_word (kind m)) (always_reserved (kind m)) (operator_word c.context (kind m)) (barred c.context m) (kind2 m == arrow_kind) (not (brk2 m)) h)
     where
+      any_level : (x y z : Bool) → (x && y) ≡ false → (x && (y && z)) ≡ false
+      any_level false y z h = refl
+      any_level true false z h = refl
+      any_level true true z h = absurd (true≢false h)
+
       by_line : (b f w a o x y z : Bool) → (b || not (f || ((w && not a) && (not b && y && z)))) ≡ true → ((w && (not (a || o) && not x)) && (not b && y && z)) ≡ false
       by_line true f w a o x y z h = and_right (w && (not (a || o) && not x)) (false && y && z) refl
       by_line false true w a o x y z h = absurd (true≢false (sym h))
@@ -148,17 +143,17 @@ module _ (inner : Inner Input) (c : Code) (ts : Input) (k : List ℕ) (V : Tree 
       by_line false false true true o x y z h = refl
       by_line false false true false o x y z h = and_right (not o && not x) (true && y && z) (not-true (true && y && z) h)
 
-  pub prefix_ident : (s : Span) (n : List ℕ) (r : Input) → IsName c ts → text ts ≡ n → rest ts ≡ r → s ≡ span (lo ts) r.last → goes_expr c 0 r < 21 → sober c r ≡ true → (kind ts ≡ async_kind → kind r ≡ left_paren_kind → brk r ≡ true)
-      → Reads (from ts k) (prefix_by lm inner c (from ts k)) (Is (ident s n) r) Q
+  pub prefix_ident : (s : Span) (n : List ℕ) (r : Input) → IsName c ts → text ts ≡ n → rest ts ≡ r → s ≡ span (lo ts) r.last → (lev ≤ assignment_level → arrowed r ≡ false) → sober c r ≡ true → (kind ts ≡ async_kind → kind r ≡ left_paren_kind → brk r ≡ true)
+      → Reads (from ts k) (prefix_by lm inner c lev (from ts k)) (Is (ident s n) r) Q
   unfolding word_by async_by
   prefix_ident s n r i t q p g o b = keyword_at (⊎_elim
       (λ (e : kind ts ≡ async_kind). if_yes (eqb (kind ts) async_kind) _ _ _ _ (eq-eqb (kind ts) async_kind e)
-      (subst (λ (z : Input). Reads (from ts k) (async_by lm inner c (from ts k)) (Is (ident s n) z) Q) q
+      (subst (λ (z : Input). Reads (from ts k) (async_by lm inner c lev (from ts k)) (Is (ident s n) z) Q) q
       (if_no _ _ _ _ _ (sober_function (rest ts) (back (λ z. sober c z ≡ true) o))
       (if_no _ _ _ _ _ (sober_arrow (rest ts) (back (λ z. sober c z ≡ true) o))
       (if_no ((kind (rest ts) == left_paren_kind) && not (brk (rest ts))) _ _ _ _ (paren_off (back (λ z. kind z ≡ left_paren_kind → brk z ≡ true) (b e)))
-      (subst (λ (n : List ℕ). Reads (from ts k) (ident_end lm inner c (from ts k) (text ts) (from (rest ts) k)) (Is (ident s n) (rest ts)) Q) t (after_one (from ts k) _ _ Q (ident_ends s (text ts) (rest ts) refl refl (back (λ z. s ≡ span (lo ts) z.last) p) (back (λ z. arrowed z ≡ false) (no_arrow c r g))))))))))
-      (λ (x : kind ts ≡ async_kind → ⊥). if_no (eqb (kind ts) async_kind) _ _ _ _ (ne_eqb (kind ts) async_kind x) (then_name c ts r n k _ _ Q i t q (ident_ends s n r q t p (no_arrow c r g))))
+      (subst (λ (n : List ℕ). Reads (from ts k) (ident_end lm inner c lev (from ts k) (text ts) (from (rest ts) k)) (Is (ident s n) (rest ts)) Q) t (after_one (from ts k) _ _ Q (ident_ends s (text ts) (rest ts) refl refl (back (λ z. s ≡ span (lo ts) z.last) p) (back (λ z. lev ≤ assignment_level → arrowed z ≡ false) g)))))))))
+      (λ (x : kind ts ≡ async_kind → ⊥). if_no (eqb (kind ts) async_kind) _ _ _ _ (ne_eqb (kind ts) async_kind x) (then_name c ts r n k _ _ Q i t q (ident_ends s n r q t p g)))
       (cases_eq (kind ts) async_kind))
     where
       back : (P : Input → Type 0) → P r → P (rest ts)
@@ -168,5 +163,5 @@ module _ (inner : Inner Input) (c : Code) (ts : Input) (k : List ℕ) (V : Tree 
       paren_off h = ⊎_elim (λ (e : kind (rest ts) ≡ left_paren_kind). and_right (kind (rest ts) == left_paren_kind) (not (brk (rest ts))) (ap not (h e)))
           (λ (x : kind (rest ts) ≡ left_paren_kind → ⊥). and_left (kind (rest ts) == left_paren_kind) (not (brk (rest ts))) (ne_eqb (kind (rest ts)) left_paren_kind x)) (cases_eq (kind (rest ts)) left_paren_kind)
 
-      keyword_at : Reads (from ts k) (word_by lm inner c (from ts k)) (Is (ident s n) r) Q → Reads (from ts k) (prefix_by lm inner c (from ts k)) (Is (ident s n) r) Q
-      keyword_at y = named_word inner c ts k (Is (ident s n) r) Q i y
+      keyword_at : Reads (from ts k) (word_by lm inner c lev (from ts k)) (Is (ident s n) r) Q → Reads (from ts k) (prefix_by lm inner c lev (from ts k)) (Is (ident s n) r) Q
+      keyword_at y = named_word inner c lev ts k (Is (ident s n) r) Q i y

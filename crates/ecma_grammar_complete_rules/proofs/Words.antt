@@ -24,15 +24,15 @@ use Rattle.ecma_grammar_complete_rules.proofs.Members.{Lists, listed, no_more}
 abbrev pub Imported : Inner Input → Code → Trees → Input → Elements × Stand Input → Type 0
 Imported inner c xs r x = (fits_import lm inner c x.0 ≡ true) × (x.0.items ≡ unpack xs) × (x.1.source ≡ r)
 
-module _ (inner : Inner Input) (c : Code) (ts : Input) (k : List ℕ) (m : Input) (Q : Type 0) where
+module _ (inner : Inner Input) (c : Code) (lev : ℕ) (ts : Input) (k : List ℕ) (m : Input) (Q : Type 0) where
   -- ---- `super`
 
-  super_found : (V : Tree × Stand Input → Type 0) → kind ts ≡ super_kind → barred c.context ts ≡ false → rest ts ≡ m → Reads (from m k) (super_end lm inner c (from ts k) (from m k)) V Q → Reads (from ts k) (prefix_by lm inner c (from ts k)) V Q
+  super_found : (V : Tree × Stand Input → Type 0) → kind ts ≡ super_kind → barred c.context ts ≡ false → rest ts ≡ m → Reads (from m k) (super_end lm inner c (from ts k) (from m k)) V Q → Reads (from ts k) (prefix_by lm inner c lev (from ts k)) V Q
   unfolding prefix_by keyword_by
   super_found V e b q y = rw e (then_word c super_kind ts m k _ V Q e b q y)
 
   pub super_call : (s t : Span) (xs : Trees) (n r : Input) (P : Type 0) → kind ts ≡ super_kind → barred c.context ts ≡ false → rest ts ≡ m → t ≡ span (lo ts) m.last → kind m ≡ left_paren_kind → rest m ≡ n → Lists inner c xs n r P → (P → Q) → s ≡ span (lo ts) r.last
-      → Reads (from ts k) (prefix_by lm inner c (from ts k)) (Is (call_expr s (super t) xs) r) Q
+      → Reads (from ts k) (prefix_by lm inner c lev (from ts k)) (Is (call_expr s (super t) xs) r) Q
   unfolding super_end
   super_call s t xs n r P e b q o g v y i p = super_found _ e b q (if_yes (eqb (kind m) left_paren_kind) _ _ _ _ (eq-eqb (kind m) left_paren_kind g)
       (subst (λ (w : Tree). Reads (from m k) (arguments_by lm inner c (from (rest m) k) >>= λ x. Ok (call_expr (span (lo ts) x.1.source.last) (super (first_span ts)) (pack x.0), x.1)) (Is w r) Q) (ap (λ (w : Span). call_expr s (super w) (pack (unpack xs))) (first_at ts m t q o) ∙ ap (λ ys. call_expr s (super t) ys) (pack_unpack xs))
@@ -40,14 +40,14 @@ module _ (inner : Inner Input) (c : Code) (ts : Input) (k : List ℕ) (m : Input
 
   pub super_index : (s t u : Span) (x : Tree) (n o r : Input) (P : Type 0) → kind ts ≡ super_kind → barred c.context ts ≡ false → rest ts ≡ m → t ≡ span (lo ts) m.last → kind m ≡ left_bracket_kind → rest m ≡ n
       → ((h : List ℕ) → Reads (from n h) (inner.expr (with_in c) expression_level (from n h)) (Is x o) P) → (P → Q) → kind o ≡ 10 → rest o ≡ r → u ≡ span (lo m) r.last → s ≡ span (lo ts) r.last
-      → Reads (from ts k) (prefix_by lm inner c (from ts k)) (Is (super_prop_expr s (super t) (computed_prop_name u x)) r) Q
+      → Reads (from ts k) (prefix_by lm inner c lev (from ts k)) (Is (super_prop_expr s (super t) (computed_prop_name u x)) r) Q
   unfolding super_end
   super_index s t u x n o r P e b q w g v y i f h l p = super_found _ e b q (if_no (eqb (kind m) left_paren_kind) _ _ _ _ (ne_eqb (kind m) left_paren_kind (λ z. omega (arith, z, g))) (if_yes (eqb (kind m) left_bracket_kind) _ _ _ _ (eq-eqb (kind m) left_bracket_kind g)
       (then_is (computed_by lm inner c expression_level (from m k)) _ (computed_prop_name u x) r Q _ Q (computed_found inner c ts k absent m k Q expression_level u x n o r P v y i f h l) (λ z. z)
       (λ j. here (ap (λ (z : Span). super_prop_expr z (super (first_span ts)) (computed_prop_name u x)) (sym p) ∙ ap (λ (z : Span). super_prop_expr s (super z) (computed_prop_name u x)) (first_at ts m t q w))))))
 
   pub super_name : (a : Code) (s t : Span) (x : Tree) (r : Input) → kind ts ≡ super_kind → barred c.context ts ≡ false → rest ts ≡ m → t ≡ span (lo ts) m.last → Dotted false a (part x (λ y. Spells x y)) m r → s ≡ span (lo ts) r.last
-      → Reads (from ts k) (prefix_by lm inner c (from ts k)) (Is (super_prop_expr s (super t) x) r) Q
+      → Reads (from ts k) (prefix_by lm inner c lev (from ts k)) (Is (super_prop_expr s (super t) x) r) Q
   unfolding super_end
   super_name a s t (ident_name u n) r e b q w h p = super_found _ e b q (if_no (eqb (kind m) left_paren_kind) _ _ _ _ (ne_eqb (kind m) left_paren_kind (λ z. omega (arith, z, h.1.0))) (if_no (eqb (kind m) left_bracket_kind) _ _ _ _ (ne_eqb (kind m) left_bracket_kind (λ z. omega (arith, z, h.1.0)))
       (then_eat dot_kind m h.0 k _ _ _ h.1.0 h.1.2 (then_any h.0 r n k _ _ _ h.2.1.0.0 h.2.1.0.1 h.2.1.0.3
@@ -56,7 +56,7 @@ module _ (inner : Inner Input) (c : Code) (ts : Input) (k : List ℕ) (m : Input
 
   -- ---- meta properties
 
-  pub meta_found : (a : Code) (s : Span) (o : ℕ) (r : Input) → MetaProperty a s o ts r → (a.context ≡ c.context) → Reads (from ts k) (prefix_by lm inner c (from ts k)) (Is (meta_prop_expr s o) r) Q
+  pub meta_found : (a : Code) (s : Span) (o : ℕ) (r : Input) → MetaProperty a s o ts r → (a.context ≡ c.context) → Reads (from ts k) (prefix_by lm inner c lev (from ts k)) (Is (meta_prop_expr s o) r) Q
   unfolding prefix_by keyword_by new_by import_by
   meta_found a s o r h x = ⊎_elim
       (λ (e : (o ≡ new_kind) × TakesWord a target_kind h.1 r). let g : kind ts ≡ new_kind = h.2.0 ∙ e.0 in rw g (then_word c new_kind ts h.0 k _ _ _ g (subst (λ y. barred y ts ≡ false) x h.2.1) h.2.3 (if_yes (eqb (kind h.0) dot_kind) _ _ _ _ (eq-eqb (kind h.0) dot_kind h.3.0)
@@ -68,11 +68,11 @@ module _ (inner : Inner Input) (c : Code) (ts : Input) (k : List ℕ) (m : Input
 
   -- ---- `yield`
 
-  yields : (V : Tree × Stand Input → Type 0) → kind ts ≡ yield_kind → barred c.context ts ≡ false → rest ts ≡ m → c.context.in_generator ≡ true → Reads (from m k) (yield_end lm inner c (from ts k) (from m k)) V Q → Reads (from ts k) (prefix_by lm inner c (from ts k)) V Q
+  yields : (V : Tree × Stand Input → Type 0) → kind ts ≡ yield_kind → barred c.context ts ≡ false → rest ts ≡ m → c.context.in_generator ≡ true → Reads (from m k) (yield_end lm inner c (from ts k) (from m k)) V Q → Reads (from ts k) (prefix_by lm inner c lev (from ts k)) V Q
   unfolding prefix_by keyword_by yield_by
   yields V e b q g y = rw e (if_yes c.context.in_generator _ _ V Q g (then_word c yield_kind ts m k _ V Q e b q y))
 
-  pub yield_bare : (s : Span) → kind ts ≡ yield_kind → barred c.context ts ≡ false → rest ts ≡ m → c.context.in_generator ≡ true → quits m ≡ true → s ≡ span (lo ts) m.last → Reads (from ts k) (prefix_by lm inner c (from ts k)) (Is (yield_expr s absent false) m) Q
+  pub yield_bare : (s : Span) → kind ts ≡ yield_kind → barred c.context ts ≡ false → rest ts ≡ m → c.context.in_generator ≡ true → quits m ≡ true → s ≡ span (lo ts) m.last → Reads (from ts k) (prefix_by lm inner c lev (from ts k)) (Is (yield_expr s absent false) m) Q
   unfolding yield_end
   yield_bare s e b q g u p = yields _ e b q g (if_yes (quits m) _ _ _ _ u (here (ap (λ (z : Span). yield_expr z absent false) (sym p))))
 
@@ -80,7 +80,7 @@ module _ (inner : Inner Input) (c : Code) (ts : Input) (k : List ℕ) (m : Input
   goes_with b e = or_from (brk m) _ b e
 
   pub yield_operand : (s : Span) (x : Tree) (r : Input) (P : Type 0) → kind ts ≡ yield_kind → barred c.context ts ≡ false → rest ts ≡ m → c.context.in_generator ≡ true → brk m ≡ false → begins (kind m) ≡ true → ((h : List ℕ) → Reads (from m h) (inner.expr c assignment_level (from m h)) (Is x r) P) → (P → Q)
-      → s ≡ span (lo ts) r.last → Reads (from ts k) (prefix_by lm inner c (from ts k)) (Is (yield_expr s x false) r) Q
+      → s ≡ span (lo ts) r.last → Reads (from ts k) (prefix_by lm inner c lev (from ts k)) (Is (yield_expr s x false) r) Q
   unfolding yield_end
   yield_operand s x r P e b q g n u y i p = yields _ e b q g (if_no (quits m) _ _ _ _ (goes_with n no_end) (if_no (eqb (kind m) mul_kind) _ _ _ _ (no_kind begins (kind m) mul_kind u refl)
       (then_is (inner.expr c assignment_level (from m k)) _ x r P _ Q (y k) i (λ j. here (ap (λ (z : Span). yield_expr z x false) (sym p))))))
@@ -92,7 +92,7 @@ module _ (inner : Inner Input) (c : Code) (ts : Input) (k : List ℕ) (m : Input
       no_end = or_from _ _ (no 0 refl) (or_from _ _ (no 8 refl) (or_from _ _ (no 10 refl) (or_from _ _ (no 12 refl) (or_from _ _ (no 14 refl) (or_from _ _ (no 13 refl) (or_from _ _ (no 17 refl) (no 130 refl)))))))
 
   pub yield_star : (s : Span) (x : Tree) (n r : Input) (P : Type 0) → kind ts ≡ yield_kind → barred c.context ts ≡ false → rest ts ≡ m → c.context.in_generator ≡ true → brk m ≡ false → kind m ≡ mul_kind → rest m ≡ n → ((h : List ℕ) → Reads (from n h) (inner.expr c assignment_level (from n h)) (Is x r) P) → (P → Q)
-      → s ≡ span (lo ts) r.last → Reads (from ts k) (prefix_by lm inner c (from ts k)) (Is (yield_expr s x true) r) Q
+      → s ≡ span (lo ts) r.last → Reads (from ts k) (prefix_by lm inner c lev (from ts k)) (Is (yield_expr s x true) r) Q
   unfolding yield_end
   yield_star s x n r P e b q g l u v y i p = yields _ e b q g (if_no (quits m) _ _ _ _ (goes_with l (subst (λ (w : ℕ). ends_operand w ≡ false) (sym u) refl)) (if_yes (eqb (kind m) mul_kind) _ _ _ _ (eq-eqb (kind m) mul_kind u)
       (then_past m n k (inner.expr c assignment_level) _ x r P _ Q v (y k) i (λ j. here (ap (λ (z : Span). yield_expr z x true) (sym p))))))
@@ -100,7 +100,7 @@ module _ (inner : Inner Input) (c : Code) (ts : Input) (k : List ℕ) (m : Input
   -- ---- `import(..)`
 
   pub import_found : (s t : Span) (xs : Trees) (n r : Input) (P : Type 0) → kind ts ≡ import_kind → barred c.context ts ≡ false → rest ts ≡ m → t ≡ span (lo ts) m.last → kind m ≡ left_paren_kind → rest m ≡ n
-      → Reads (from n k) (elements_by lm inner c false right_paren_kind (from n k)) (Imported inner c xs r) P → (P → Q) → s ≡ span (lo ts) r.last → Reads (from ts k) (prefix_by lm inner c (from ts k)) (Is (call_expr s (import t) xs) r) Q
+      → Reads (from n k) (elements_by lm inner c false right_paren_kind (from n k)) (Imported inner c xs r) P → (P → Q) → s ≡ span (lo ts) r.last → Reads (from ts k) (prefix_by lm inner c lev (from ts k)) (Is (call_expr s (import t) xs) r) Q
   unfolding prefix_by keyword_by import_by
   import_found s t xs n r P e b q o g v y i p = rw e (then_word c import_kind ts m k _ _ _ e b q (if_no (eqb (kind m) dot_kind) _ _ _ _ (ne_eqb (kind m) dot_kind (λ z. omega (arith, z, g)))
       (then_eat left_paren_kind m n k _ _ _ g v (then_reads (elements_by lm inner c false right_paren_kind (from n k)) _ (Imported inner c xs r) P _ Q y i

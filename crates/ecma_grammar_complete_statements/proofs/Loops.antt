@@ -15,7 +15,7 @@ use Rattle.ecma_reading.specs.Source.{Fault, ◌>>=◌, Stand, Inner}
 use Rattle.ecma_reading.specs.Cover.{to_head}
 use Rattle.ecma_reading.specs.Statements.{clause_by, for_rest, over_rest, in_rest, of_rest, one_bare, head_rest, for_variables, for_using, for_expression_rest, for_expression, for_head, for_by, sub_by, declarators_by, starts_let, starts_using, starts_await_using}
 use Rattle.ecma_grammar_complete_base.proofs.Yields.{lm, from, coded, Reads, Is, then_is, then_reads, then_eat, then_word, onto, here, past_here, ended, if_no, if_yes}
-use Rattle.ecma_grammar_complete_base.proofs.Levels.{Follow, Asked, quiet, ends_operand}
+use Rattle.ecma_grammar_complete_base.proofs.Levels.{calm_by, Follow, Asked, quiet, ends_operand}
 use Rattle.ecma_grammar_complete_parts.proofs.Passed.{pack_unpack, one_asked, two_asked}
 use Rattle.ecma_grammar_complete_base.proofs.Trees.{by_cases}
 use Rattle.ecma_grammar_complete_parts.proofs.Nested.{Nested, IsHead, may_follow}
@@ -41,7 +41,7 @@ no_of x = not (kind x == of_kind)
 
 of_follows : (c : Code) (e : ℕ) (m : Input) → e ≤ 1 → kind m ≡ of_kind → eqb (kind2 m) arrow_kind ≡ false → Follow c e 1 m
 of_follows c e m le q a = let z : goes_expr c e m ≡ 0 = goes_nowhere c e m (subst (λ (k : ℕ). halts c k ≡ true) (sym q) refl) in
-    record { stop = omega (arith, z); sober = by_line (brk m) (kind m == function_kind) (is_word (kind m) && not (always_reserved (kind m))) (kind2 m == arrow_kind) (not (brk2 m)) (subst (λ (k : ℕ). eqb k function_kind ≡ false) (sym q) refl) a; quits = λ u. absurd (omega (arith, u, le)) }
+    record { stop = omega (arith, z); calm = λ _ _. calm_by of_kind m q refl; sober = by_line (brk m) (kind m == function_kind) (is_word (kind m) && not (always_reserved (kind m))) (kind2 m == arrow_kind) (not (brk2 m)) (subst (λ (k : ℕ). eqb k function_kind ≡ false) (sym q) refl) a; quits = λ u. absurd (omega (arith, u, le)) }
   where
     by_line : (b f x y v : Bool) → f ≡ false → y ≡ false → (b || not (f || (x && (not b && y && v)))) ≡ true
     by_line true f x y v e h = refl

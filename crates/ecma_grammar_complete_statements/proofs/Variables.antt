@@ -19,7 +19,7 @@ use Rattle.ecma_grammar_complete_parts.proofs.Passed.{pack_unpack, two_asked}
 use Rattle.ecma_grammar_complete_base.proofs.Trees.{by_cases, takes}
 use Rattle.ecma_grammar_complete_parts.proofs.Nested.{Nested}
 use Rattle.ecma_grammar_complete_parts.proofs.Within.{Within, Withins, within, withins}
-use Rattle.ecma_grammar_complete_parts.proofs.Follows.{halts, halted, ends_two, end_follows, low_goes, then_end, lifted}
+use Rattle.ecma_grammar_complete_parts.proofs.Follows.{calm_line, halts, halted, ends_two, end_follows, low_goes, then_end, lifted}
 use Rattle.ecma_grammar_complete_base.proofs.Cuts.{cut}
 use Rattle.ecma_grammar_complete_statements.proofs.Simple.{absent_is}
 use Rattle.ecma_grammar_complete_parts.proofs.Starts.{Opening, After, Names, named_after, one_name, tame, starts_binding, binding_starts}
@@ -70,7 +70,7 @@ settled_end p c ds m r h = by_class (declarators_end ds) (declarators_class ds) 
   where
     on_line : (e : ℕ) → Class e → brk m ≡ true → goes_on c e m ≡ false → Settled c e m
     on_line e (inl le) b g = let z : goes_expr c e m ≡ 0 = low_goes c e m le g in
-        record { no_comma = ne_eqb (kind m) comma_kind (λ q. omega (arith, z, goes_comma c e m q)); settles = record { no_value = λ q. absurd (omega (arith, q, le)); follow = λ _. record { stop = omega (arith, z); sober = or_left (brk m) _ b; quits = λ _. or_left (brk m) _ b } } }
+        record { no_comma = ne_eqb (kind m) comma_kind (λ q. omega (arith, z, goes_comma c e m q)); settles = record { no_value = λ q. absurd (omega (arith, q, le)); follow = λ _. record { stop = omega (arith, z); calm = λ _ _. calm_line m b; sober = or_left (brk m) _ b; quits = λ _. or_left (brk m) _ b } } }
     on_line e (inr q) b g = let y = or_parts (kind m == assign_kind) _ (subst (λ (e : ℕ). goes_on c e m ≡ false) q g) in
         record { no_comma = y.1; settles = record { no_value = λ _. y.0; follow = λ le. absurd (omega (arith, q, le)) } }
 

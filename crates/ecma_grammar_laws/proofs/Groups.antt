@@ -1,5 +1,5 @@
 -- Templates, arrows, and what stands in parentheses.
-use Rattle.std.proofs.Common.{◌≡◌, ℕ, ◌≤◌, Bool, true, false, not, ◌&&◌, ◌||◌, cond, eqb, List, [], ◌∷◌, ◌++◌, Option, Some, None, Result, Ok, Err, refl, sym, ap, subst, ⊎_elim, true≢false, append_assoc, append-nil, arith}
+use Rattle.std.proofs.Common.{◌≡◌, ℕ, ◌≤◌, Bool, true, false, not, ◌&&◌, ◌||◌, cond, eqb, leb, List, [], ◌∷◌, ◌++◌, Option, Some, None, Result, Ok, Err, refl, sym, ap, subst, ⊎_elim, true≢false, append_assoc, append-nil, arith}
 use Rattle.std.proofs.lemmas.Bool.{eqb-true, and_parts, not-true}
 use Rattle.ecma_token.specs.declared.place.Span.{Span}
 use Rattle.ecma_token.specs.Kinds.{comma_kind, arrow_kind, left_paren_kind, right_paren_kind, left_brace_kind, right_brace_kind, dollar_brace_kind, back_quote_kind, template_kind}
@@ -16,7 +16,7 @@ use Rattle.ecma_grammar.specs.Functions.{Async, ArrowPattern, ArrowParameters, A
 use Rattle.ecma_grammar.specs.Grammar.{Spells, parts}
 use Rattle.ecma_reading.specs.Source.{Fault, ◌>>=◌, unexpected, Stand, Inner, Step, go_on, finished, iterate}
 use Rattle.ecma_reading.specs.Cover.{as_prop, last_rests, to_item, to_items}
-use Rattle.ecma_reading.specs.Expressions.{Elements, Spans as Parted, quasi, quasi_end, quasi_step, template_by, arrows, arrow_by, params_of, plain_element, plain_elements, last_end, joined, group_end}
+use Rattle.ecma_reading.specs.Expressions.{Elements, Spans as Parted, quasi, quasi_end, quasi_step, template_by, arrows, arrows_at, heads_params, is_read, arrow_by, params_of, plain_element, plain_elements, last_end, joined, group_end}
 use Rattle.ecma_grammar_laws.proofs.Sure.{lm, seen, next, Sure, done, then_sure, if_sure, test_sure, only_sure, eat_sure, StepSure, loop_sure}
 use Rattle.ecma_grammar_laws.proofs.Covers.{plain, Holds, then_holds, if_holds, holds_map, IsItem, Elems, IsNil, Element, first_item, items_refine}
 use Rattle.ecma_grammar_laws.proofs.Nested.{Sound, Made, body_is, dull}
@@ -162,13 +162,19 @@ module _ (inner : Inner Input) (good : Sound inner) where
       done (arrow_expr (span (lo (seen start)) x.1.source.last) (pack ps) x.0 async, x.1) (Made c start) (dull c start (arrow_expr (span (lo (seen start)) x.1.source.last) (pack ps) x.0 async) x.1
       (arrow_with (plain c) (span (lo (seen start)) x.1.source.last) (pack ps) x.0 async (seen start) (seen x.1) k.0 (seen (next s), (h.0, seen s, h.1, h.2, n, (e, tt, refl)), q, (k.0, k.1.spelled), refl)) (λ l k. refl))))
 
+  pub at_arrow : (l : ℕ) (s : Stand Input) → arrows_at lm inner l s ≡ true → arrows lm inner s ≡ true
+  at_arrow l s a = (and_parts (arrows lm inner s) (leb l assignment_level) a).0
+
+  pub heads_arrow : (l : ℕ) (xs : Elements) (s : Stand Input) → heads_params lm inner l xs s ≡ true → arrows lm inner s ≡ true
+  heads_arrow l xs s a = at_arrow l s (and_parts (arrows_at lm inner l s) (is_read (params_of lm inner s.commas xs)) a).0
+
   -- ---- parentheses
 
-  pub paren_sure : (c : Code) (start : Stand Input) (xs : Elements) (s : Stand Input) → kind (seen start) ≡ left_paren_kind → Elems (Element s.commas (with_in c)) false (plain (with_in c)) right_paren_kind xs.comma false xs.items (seen (next start)) (seen s)
-      → ((ps : List Tree) → IsParams c (seen (next start)) (seen s) ps → Heads false c start ps s) → Sure s.commas (group_end lm inner c start (next start) xs s) (Made c start)
+  pub paren_sure : (c : Code) (l : ℕ) (start : Stand Input) (xs : Elements) (s : Stand Input) → kind (seen start) ≡ left_paren_kind → Elems (Element s.commas (with_in c)) false (plain (with_in c)) right_paren_kind xs.comma false xs.items (seen (next start)) (seen s)
+      → ((ps : List Tree) → IsParams c (seen (next start)) (seen s) ps → Heads false c start ps s) → Sure s.commas (group_end lm inner c l start (next start) xs s) (Made c start)
   unfolding group_end
-  paren_sure c start xs s e h f = if_sure s.commas (arrows lm inner s) _ _ _
-      (λ a. then_made s.commas (params_of lm inner s.commas xs) _ (IsParams c (seen (next start)) (seen s)) _ (params_hold inner c s.commas xs (seen (next start)) (seen s) h) (λ ps q. arrow_sure c start false ps s (f ps q) a))
+  paren_sure c l start xs s e h f = if_sure s.commas (heads_params lm inner l xs s) _ _ _
+      (λ a. then_made s.commas (params_of lm inner s.commas xs) _ (IsParams c (seen (next start)) (seen s)) _ (params_hold inner c s.commas xs (seen (next start)) (seen s) h) (λ ps q. arrow_sure c start false ps s (f ps q) (heads_arrow l xs s a)))
       (λ _. if_sure s.commas xs.comma _ _ _ (λ _. record { so = tt }) (λ z. inside (plain_elements xs.items) (seq_holds s.commas c false xs.items (seen (next start)) (seen s) (subst (λ b. Elems (Element s.commas (with_in c)) false (plain (with_in c)) right_paren_kind b false xs.items (seen (next start)) (seen s)) z h))))
     where
       inside : (o : Option (List Tree)) → Holds_some o (IsSeq (with_in c) false (seen (next start)) (seen s) xs.items) → Sure s.commas (elim o [

@@ -2,10 +2,10 @@
 use Rattle.std.proofs.Common.{◌≡◌, ℕ, ◌≤◌, ◌⊎◌, inl, inr, Bool, true, false, not, ◌&&◌, ◌||◌, cond, eqb, leb, ltb, List, [], ◌∷◌, ◌++◌, Result, Ok, Err, refl, sym, ap, ◌∙◌, subst, true≢false, arith}
 use Rattle.std.proofs.lemmas.Bool.{eqb-true, and_parts, not-true, leb-true, ltb-false, ne_eqb}
 use Rattle.ecma_token.specs.declared.place.Span.{Span}
-use Rattle.ecma_token.specs.Kinds.{arrow_kind, hash_kind, dot_kind, left_paren_kind, left_bracket_kind, comma_kind, colon_kind, back_quote_kind, question_mark_kind, plus_plus_kind, minus_minus_kind, regex_kind, div_kind, in_kind, exp_kind, nullish_coalescing_kind, assign_kind, logical_or_kind, logical_and_kind, bit_or_kind, bit_xor_kind, bit_and_kind, eq_eq_kind, not_eq_eq_kind, lt_kind, gt_eq_kind, instanceof_kind, left_shift_kind, zero_fill_right_shift_kind, add_kind, sub_kind, mul_kind, mod_kind}
+use Rattle.ecma_token.specs.Kinds.{hash_kind, dot_kind, left_paren_kind, left_bracket_kind, comma_kind, colon_kind, back_quote_kind, question_mark_kind, plus_plus_kind, minus_minus_kind, regex_kind, div_kind, in_kind, exp_kind, nullish_coalescing_kind, assign_kind, logical_or_kind, logical_and_kind, bit_or_kind, bit_xor_kind, bit_and_kind, eq_eq_kind, not_eq_eq_kind, lt_kind, gt_eq_kind, instanceof_kind, left_shift_kind, zero_fill_right_shift_kind, add_kind, sub_kind, mul_kind, mod_kind}
 use Rattle.ecma_tree.specs.Tree.{Tree, Trees, none, more, pack, unpack, seq_expr, assign_expr, cond_expr, bin_expr, update_expr, call_expr, member_expr, opt_chain_expr, opt_call, tagged_tpl, tpl, new_expr, super, import, absent, ident, ident_name, private_name, computed_prop_name, array_lit, object_lit, array_pat, object_pat, expr_pat}
 use Rattle.ecma_syntax.specs.Input.{Input, Code, kind, kind2, brk, text, Takes, lo, hi, span, first_span, with_in, has_in}
-use Rattle.ecma_syntax.specs.Operators.{expression_level, assignment_level, conditional_level, coalesce_level, update_level, new_level, call_level, member_level, primary_level, binary_level, right_level, is_assign_op, operates, goes_expr, between}
+use Rattle.ecma_syntax.specs.Operators.{expression_level, assignment_level, conditional_level, coalesce_level, update_level, new_level, call_level, member_level, binary_level, right_level, is_assign_op, operates, goes_expr, between}
 use Rattle.ecma_syntax.specs.Shape.{level, ends, fits_left, is_chain, is_private, is_target, is_target_expr, is_bound_name, is_simple, is_word_name, is_structured}
 use Rattle.ecma_grammar.specs.Parts.{part, By, Expr, CommaThen}
 use Rattle.ecma_grammar.specs.Expressions.{Member, Dotted, AccessedName, ChainMember, Optional, Call}
@@ -30,8 +30,7 @@ cap c q k =
     (cond (eqb k regex_kind) (binary_level div_kind)
     (cond (between plus_plus_kind minus_minus_kind k) update_level
     (cond (eqb k left_paren_kind) call_level
-    (cond (eqb k left_bracket_kind || (eqb k dot_kind || eqb k back_quote_kind)) member_level
-    (cond (eqb k arrow_kind) primary_level 0))))))))
+    (cond (eqb k left_bracket_kind || (eqb k dot_kind || eqb k back_quote_kind)) member_level 0)))))))
 
 cond_le : (b : Bool) (x y z w : ℕ) → x ≤ z → y ≤ w → cond b x y ≤ cond b z w
 cond_le true x y z w h k = h
@@ -58,8 +57,7 @@ goes_le c e s = let k = kind (seen s) in
     cond_le (eqb k regex_kind) _ _ _ _ (omega arith) (cond_zero (leb 1 e) _ _ (
     cond_le (between plus_plus_kind minus_minus_kind k) _ _ _ _ (cond_zero (brk (seen s)) _ _ (omega arith)) (
     cond_le (eqb k left_paren_kind) _ _ _ _ (omega arith) (
-    cond_le (eqb k left_bracket_kind || (eqb k dot_kind || eqb k back_quote_kind)) _ _ _ _ (omega arith) (
-    cond_le (eqb k arrow_kind) _ _ _ _ (cond_zero (brk (seen s)) _ _ (omega arith)) (omega arith)))))))))))
+    cond_le (eqb k left_bracket_kind || (eqb k dot_kind || eqb k back_quote_kind)) _ _ _ _ (omega arith) (omega arith))))))))))
 
 cond_if : (b : Bool) (x y n : ℕ) → (b ≡ true → x ≤ n) → (b ≡ false → y ≤ n) → cond b x y ≤ n
 cond_if true x y n h k = h refl
@@ -422,4 +420,4 @@ module _ (inner : Inner Input) (good : Sound inner) where
   pub expr_sure : (c : Code) (l : ℕ) (s : Stand Input) → 1 ≤ l → Sure s.commas (expr_by lm inner c l s) (GotExpr c l s)
   unfolding expr_by expr_from
   expr_sure c l s l1 = test_sure s.commas (kind (seen s)) hash_kind _ _ _ (λ _. private_in_sure c l (operand lm s) l1)
-      (λ _. then_sure s.commas (prefix_by lm inner c (operand lm s)) _ _ _ (prefix_sure inner good c (operand lm s)) (λ t m. loop_by_sure l c (operand lm s) t.0 t.1 l1 m))
+      (λ _. then_sure s.commas (prefix_by lm inner c l (operand lm s)) _ _ _ (prefix_sure inner good c l (operand lm s)) (λ t m. loop_by_sure l c (operand lm s) t.0 t.1 l1 m))

@@ -12,13 +12,13 @@ use Rattle.ecma_grammar.specs.Expressions.{ArgumentList, ImportArguments, Yield,
 use Rattle.ecma_grammar.specs.Functions.{Async, FunctionExpression, FunctionHead, ClassExpression}
 use Rattle.ecma_grammar.specs.Grammar.{Spells, parts}
 use Rattle.ecma_reading.specs.Source.{unexpected, Stand, Inner, operand, is_name}
-use Rattle.ecma_reading.specs.Expressions.{is_unary, literal_by, elements_by, computed_by, function_by, template_by, arrows, params_of, group_by, ident_end, arguments_by, async_group, function_expr_name, function_expr_by, async_by, class_expr_by, new_end, callee_by, new_by, super_end, fits_import, import_by, unary_by, update_by, await_by, ends_yield, yield_end, yield_by, word_by, fixed, keyword_by, prefix_by}
+use Rattle.ecma_reading.specs.Expressions.{is_unary, literal_by, elements_by, computed_by, function_by, template_by, heads_params, arrows_at, is_async_param, params_of, group_by, ident_end, arguments_by, async_group, function_expr_name, function_expr_by, async_by, class_expr_by, new_end, callee_by, new_by, super_end, fits_import, import_by, unary_by, update_by, await_by, ends_yield, yield_end, yield_by, word_by, fixed, keyword_by, prefix_by}
 use Rattle.ecma_grammar_laws.proofs.Sure.{lm, seen, next, same, Sure, done, then_sure, sure_map, if_sure, test_sure, only_sure, eat_sure, word_sure, IsName, name_sure, any_sure}
 use Rattle.ecma_grammar_laws.proofs.Covers.{plain, by_yes, by_no, Holds, IsItem, Elems, IsNil, Element, first_item, listed}
 use Rattle.ecma_grammar_laws.proofs.Nested.{Sound, Made, named, elements_sure, literal_sure, dull, bracketed_is, computed_sure}
 use Rattle.ecma_grammar_laws.proofs.Functions.{function_sure, star_sure}
 use Rattle.ecma_grammar_laws.proofs.Primaries.{element_sorted, and_no, soft, array_sure, object_sure}
-use Rattle.ecma_grammar_laws.proofs.Groups.{IsTemplate, template_sure, then_made, IsParams, params_hold, arrow_sure, paren_sure}
+use Rattle.ecma_grammar_laws.proofs.Groups.{IsTemplate, template_sure, then_made, IsParams, params_hold, arrow_sure, at_arrow, heads_arrow, paren_sure}
 
 -- ---- names
 
@@ -84,25 +84,25 @@ module _ (inner : Inner Input) (good : Sound inner) where
   unfolding arguments_by
   arguments_sure c s = then_sure s.commas (elements_by lm inner c false right_paren_kind s) _ _ _ (elements_sure inner good c false right_paren_kind s) (λ xs w. done (xs.0.items, xs.1) _ (argument_list xs.1.commas c xs.0.comma xs.0.items (seen s) (seen xs.1) (w.so xs.1.commas (same xs.1.commas))))
 
-  group_sure : (c : Code) (s : Stand Input) → kind (seen s) ≡ left_paren_kind → Sure s.commas (group_by lm inner c s) (Made c s)
+  group_sure : (c : Code) (l : ℕ) (s : Stand Input) → kind (seen s) ≡ left_paren_kind → Sure s.commas (group_by lm inner c l s) (Made c s)
   unfolding group_by
-  group_sure c s e = then_sure s.commas (elements_by lm inner (with_in c) false right_paren_kind (next s)) _ _ _ (elements_sure inner good (with_in c) false right_paren_kind (next s)) (λ xs w.
-      paren_sure inner good c s xs.0 xs.1 e (w.so xs.1.commas (same xs.1.commas)) (λ ps q. (seen s, refl, inr (seen (next s), (e, tt, refl), q))))
+  group_sure c l s e = then_sure s.commas (elements_by lm inner (with_in c) false right_paren_kind (next s)) _ _ _ (elements_sure inner good (with_in c) false right_paren_kind (next s)) (λ xs w.
+      paren_sure inner good c l s xs.0 xs.1 e (w.so xs.1.commas (same xs.1.commas)) (λ ps q. (seen s, refl, inr (seen (next s), (e, tt, refl), q))))
 
-  ident_sure : (c : Code) (s : Stand Input) → IsName c s → Sure s.commas (ident_end lm inner c s (text (seen s)) (next s)) (Made c s)
+  ident_sure : (c : Code) (l : ℕ) (s : Stand Input) → IsName c s → Sure s.commas (ident_end lm inner c l s (text (seen s)) (next s)) (Made c s)
   unfolding ident_end
-  ident_sure c s i = if_sure s.commas (arrows lm inner (next s)) _ _ _
-      (λ a. arrow_sure inner good c s false (binding_ident (first_span (seen s)) (ident (first_span (seen s)) (text (seen s))) ∷ []) (next s) (seen s, refl, inl (tt, (refl, (refl, named c s i)))) a)
+  ident_sure c l s i = if_sure s.commas (arrows_at lm inner l (next s)) _ _ _
+      (λ a. arrow_sure inner good c s false (binding_ident (first_span (seen s)) (ident (first_span (seen s)) (text (seen s))) ∷ []) (next s) (seen s, refl, inl (tt, (refl, (refl, named c s i)))) (at_arrow inner good l (next s) a))
       (λ _. done (ident (first_span (seen s)) (text (seen s)), next s) (Made c s) (made_name c s i))
 
-  async_group_sure : (c : Code) (s : Stand Input) → kind (seen s) ≡ async_kind → kind (seen (next s)) ≡ left_paren_kind → Sure s.commas (async_group lm inner c s (next s)) (Made c s)
+  async_group_sure : (c : Code) (l : ℕ) (s : Stand Input) → kind (seen s) ≡ async_kind → kind (seen (next s)) ≡ left_paren_kind → Sure s.commas (async_group lm inner c l s (next s)) (Made c s)
   unfolding async_group
-  async_group_sure c s e o = then_sure s.commas (elements_by lm inner (with_in c) false right_paren_kind (next (next s))) _ _ _ (elements_sure inner good (with_in c) false right_paren_kind (next (next s))) (λ xs w.
+  async_group_sure c l s e o = then_sure s.commas (elements_by lm inner (with_in c) false right_paren_kind (next (next s))) _ _ _ (elements_sure inner good (with_in c) false right_paren_kind (next (next s))) (λ xs w.
       let h = w.so xs.1.commas (same xs.1.commas) in
-      if_sure xs.1.commas (arrows lm inner xs.1 && not (brk (seen (next s)))) _ _ _
-      (λ a. let b = and_parts (arrows lm inner xs.1) (not (brk (seen (next s)))) a in
+      if_sure xs.1.commas (heads_params lm inner l xs.0 xs.1 && not (brk (seen (next s)))) _ _ _
+      (λ a. let b = and_parts (heads_params lm inner l xs.0 xs.1) (not (brk (seen (next s)))) a in
       then_made xs.1.commas (params_of lm inner xs.1.commas xs.0) _ (IsParams c (seen (next (next s))) (seen xs.1)) _ (params_hold inner c xs.1.commas xs.0 (seen (next (next s))) (seen xs.1) h) (λ ps q.
-      arrow_sure inner good c s true ps xs.1 (seen (next s), ((e, soft c async_kind s e and_no, tt, refl), not-true (brk (seen (next s))) b.1), inr (seen (next (next s)), (o, tt, refl), q)) b.0))
+      arrow_sure inner good c s true ps xs.1 (seen (next s), ((e, soft c async_kind s e and_no, tt, refl), not-true (brk (seen (next s))) b.1), inr (seen (next (next s)), (o, tt, refl), q)) (heads_arrow inner good l xs.0 xs.1 b.0)))
       (λ _. let t = call_expr (span (lo (seen s)) xs.1.source.last) (ident (first_span (seen s)) (text (seen s))) (pack xs.0.items) in
       done (t, xs.1) (Made c s) (dull c s t xs.1 (seen (next s), refl, (omega arith, named c s (soft_name c s e)), (seen (next (next s)), (o, tt, refl), argument_list_in xs.1.commas c xs.0.comma xs.0.items (seen (next (next s))) (seen xs.1) h), refl) (λ b k. refl))))
 
@@ -136,20 +136,20 @@ module _ (inner : Inner Input) (good : Sound inner) where
       let p = span (lo (seen s)) k.1.source.last in
       done (class_expr p absent k.0, k.1) _ (dull c s (class_expr p absent k.0) k.1 (class_spelled c p absent k.0 (seen s) (seen k.1) h.0 (seen (next s), seen (next s), (e, b, tt, refl), refl, h.1, refl, refl)) (λ z l. refl), refl))))
 
-  async_sure : (c : Code) (s : Stand Input) → kind (seen s) ≡ async_kind → Sure s.commas (async_by lm inner c s) (Made c s)
+  async_sure : (c : Code) (l : ℕ) (s : Stand Input) → kind (seen s) ≡ async_kind → Sure s.commas (async_by lm inner c l s) (Made c s)
   unfolding async_by
-  async_sure c s e = let t = soft c async_kind s e and_no in
+  async_sure c l s e = let t = soft c async_kind s e and_no in
       if_sure s.commas (eqb (kind (seen (next s))) function_kind && not (brk (seen (next s)))) _ _ _
       (λ z. let b = and_parts (eqb (kind (seen (next s))) function_kind) (not (brk (seen (next s)))) z in
       sure_map s.commas (function_expr_by lm inner c s true (next s)) _ _ (function_expr_sure c s true (next s) ((e, t, tt, refl), not-true (brk (seen (next s))) b.1)) (λ x h. h.0))
-      (λ _. if_sure s.commas (is_name lm c (next s) && (not (brk (seen (next s))) && eqb (kind2 (seen (next s))) arrow_kind && not (brk2 (seen (next s))))) _ _ _
-      (λ z. let b = and_parts (is_name lm c (next s)) (not (brk (seen (next s))) && eqb (kind2 (seen (next s))) arrow_kind && not (brk2 (seen (next s)))) z in
-      let d = and3 (not (brk (seen (next s)))) (eqb (kind2 (seen (next s))) arrow_kind) (not (brk2 (seen (next s)))) b.1 in
+      (λ _. if_sure s.commas (is_async_param lm inner c l (next s)) _ _ _
+      (λ z. let b = and_parts (is_name lm c (next s)) _ z in let y = and_parts (not (brk (seen (next s))) && eqb (kind2 (seen (next s))) arrow_kind && not (brk2 (seen (next s)))) (leb l assignment_level) b.1 in
+      let d = and3 (not (brk (seen (next s)))) (eqb (kind2 (seen (next s))) arrow_kind) (not (brk2 (seen (next s)))) y.0 in
       name_sure c (next s) _ _ (λ i. arrow_sure inner good c s true (binding_ident (first_span (seen (next s))) (ident (first_span (seen (next s))) (text (seen (next s)))) ∷ []) (next (next s))
       (seen (next s), ((e, t, tt, refl), not-true (brk (seen (next s))) d.0), inl (tt, (refl, (refl, named c (next s) i)))) d.1))
       (λ _. if_sure s.commas (eqb (kind (seen (next s))) left_paren_kind && not (brk (seen (next s)))) _ _ _
-      (λ z. async_group_sure c s e (eqb-true (kind (seen (next s))) left_paren_kind (and_parts (eqb (kind (seen (next s))) left_paren_kind) _ z).0))
-      (λ _. ident_sure c s (soft_name c s e))))
+      (λ z. async_group_sure c l s e (eqb-true (kind (seen (next s))) left_paren_kind (and_parts (eqb (kind (seen (next s))) left_paren_kind) _ z).0))
+      (λ _. ident_sure c l s (soft_name c s e))))
     where
       and3 : (x y z : Bool) → (x && y && z) ≡ true → (x ≡ true) × ((y && z) ≡ true)
       and3 true y z e = (refl, e)
@@ -256,16 +256,16 @@ module _ (inner : Inner Input) (good : Sound inner) where
       no_break true y e = absurd (true≢false e)
       no_break false y e = refl
 
-  word_by_sure : (c : Code) (s : Stand Input) → Sure s.commas (word_by lm inner c s) (Made c s)
+  word_by_sure : (c : Code) (l : ℕ) (s : Stand Input) → Sure s.commas (word_by lm inner c l s) (Made c s)
   unfolding word_by
-  word_by_sure c s = test_sure s.commas (kind (seen s)) async_kind _ _ _ (λ e. async_sure inner good c s e) (λ _. name_sure c s _ _ (λ i. ident_sure inner good c s i))
+  word_by_sure c l s = test_sure s.commas (kind (seen s)) async_kind _ _ _ (λ e. async_sure inner good c l s e) (λ _. name_sure c s _ _ (λ i. ident_sure inner good c l s i))
 
   fixed_sure : (c : Code) (s : Stand Input) (f : Span → Tree) → (barred c.context (seen s) ≡ false → Made c s (f (span (lo (seen s)) (hi (seen s))), next s)) → Sure s.commas (fixed lm inner c f s) (Made c s)
   fixed_sure c s f h = word_sure c (kind (seen s)) s _ _ (λ e b. done (f (span (lo (seen s)) (hi (seen s))), next s) (Made c s) (h b))
 
-  keyword_sure : (c : Code) (s : Stand Input) → Sure s.commas (keyword_by lm inner c s) (Made c s)
+  keyword_sure : (c : Code) (l : ℕ) (s : Stand Input) → Sure s.commas (keyword_by lm inner c l s) (Made c s)
   unfolding keyword_by
-  keyword_sure c s =
+  keyword_sure c l s =
       test_sure s.commas (kind (seen s)) this_kind _ _ _ (λ e. fixed_sure c s this_expr (λ b. dull c s _ (next s) ((e, b, tt, refl), refl) (λ b k. refl))) (λ _.
       test_sure s.commas (kind (seen s)) null_kind _ _ _ (λ e. fixed_sure c s null_lit (λ b. dull c s _ (next s) ((e, b, tt, refl), refl) (λ b k. refl))) (λ _.
       test_sure s.commas (kind (seen s)) true_kind _ _ _ (λ e. fixed_sure c s (λ p. bool_lit p true) (λ b. dull c s _ (next s) ((e, b, tt, refl), refl) (λ b k. refl))) (λ _.
@@ -278,13 +278,13 @@ module _ (inner : Inner Input) (good : Sound inner) where
       if_sure s.commas (is_unary (kind (seen s))) _ _ _ (λ u. unary_sure c s u) (λ _.
       if_sure s.commas (eqb (kind (seen s)) await_kind && c.context.in_async) _ _ _ (λ z. await_sure c s (and_parts (eqb (kind (seen s)) await_kind) c.context.in_async z).1) (λ _.
       if_sure s.commas (eqb (kind (seen s)) yield_kind && c.context.in_generator) _ _ _ (λ z. yield_sure c s (and_parts (eqb (kind (seen s)) yield_kind) c.context.in_generator z).1) (λ _.
-      word_by_sure c s))))))))))))
+      word_by_sure c l s))))))))))))
 
-  pub prefix_sure : (c : Code) (s : Stand Input) → Sure s.commas (prefix_by lm inner c s) (Made c s)
+  pub prefix_sure : (c : Code) (l : ℕ) (s : Stand Input) → Sure s.commas (prefix_by lm inner c l s) (Made c s)
   unfolding prefix_by
-  prefix_sure c s =
-      if_sure s.commas (is_word (kind (seen s))) _ _ _ (λ _. keyword_sure c s) (λ _.
-      test_sure s.commas (kind (seen s)) left_paren_kind _ _ _ (λ e. group_sure inner good c s e) (λ _.
+  prefix_sure c l s =
+      if_sure s.commas (is_word (kind (seen s))) _ _ _ (λ _. keyword_sure c l s) (λ _.
+      test_sure s.commas (kind (seen s)) left_paren_kind _ _ _ (λ e. group_sure inner good c l s e) (λ _.
       test_sure s.commas (kind (seen s)) left_bracket_kind _ _ _ (λ e. array_sure inner good c s e) (λ _.
       test_sure s.commas (kind (seen s)) left_brace_kind _ _ _ (λ e. object_sure inner good c s e) (λ _.
       test_sure s.commas (kind (seen s)) back_quote_kind _ _ _ (λ e. sure_map s.commas (template_by lm inner c false s) _ _ (template_sure inner good c false s e)

@@ -1,16 +1,16 @@
 -- Expressions (ECMA-262, clause 13): their rules over two such lists.
 use Rattle.std.proofs.Common.{◌≡◌, ◌≤◌, ℕ, Bool, true, false, not, ◌&&◌, ◌||◌, ◌==◌, cond, nat_le, nat_lt, if◌then◌else◌, List, [], ◌∷◌, ◌++◌, Option, Some, None, Result, Ok, refl, sym, ap, ◌∙◌, subst, true≢false, arith}
 use Rattle.ecma_token.specs.declared.place.Span.{Span}
-use Rattle.ecma_token.specs.Kinds.{div_kind, regex_kind, arrow_kind, hash_kind, dot_kind, dot_dot_dot_kind, left_paren_kind, right_paren_kind, left_bracket_kind, right_bracket_kind, left_brace_kind, right_brace_kind, comma_kind, back_quote_kind, template_kind, colon_kind, dollar_brace_kind, question_mark_kind, regex_kind, mul_kind, assign_kind, null_kind, true_kind, false_kind, await_kind, function_kind, class_kind, new_kind, this_kind, super_kind, import_kind, yield_kind, in_kind, plus_plus_kind, minus_minus_kind, async_kind, meta_kind, target_kind, get_kind, set_kind}
+use Rattle.ecma_token.specs.Kinds.{div_kind, regex_kind, hash_kind, dot_kind, dot_dot_dot_kind, left_paren_kind, right_paren_kind, left_bracket_kind, right_bracket_kind, left_brace_kind, right_brace_kind, comma_kind, back_quote_kind, template_kind, colon_kind, dollar_brace_kind, question_mark_kind, regex_kind, mul_kind, assign_kind, null_kind, true_kind, false_kind, await_kind, function_kind, class_kind, new_kind, this_kind, super_kind, import_kind, yield_kind, in_kind, plus_plus_kind, minus_minus_kind, async_kind, meta_kind, target_kind, get_kind, set_kind}
 use Rattle.ecma_tree.specs.Tree.{Tree, none, pack, ident_name, this_expr, update_expr, bin_expr, assign_expr, member_expr, super_prop_expr, cond_expr, call_expr, new_expr, ident, tagged_tpl, arrow_expr, class_expr, yield_expr, meta_prop_expr, paren_expr, opt_chain_expr, opt_call, super, import, assign_prop, bool_lit, null_lit, binding_ident, assign_pat, param, absent, list}
-use Rattle.ecma_syntax.specs.Input.{Place, Input, Code, kind, kind2, brk, brk2, lo, text, span, is_word, has_in, with_in, by, in_body, in_arrow, turned_strict, in_list}
+use Rattle.ecma_syntax.specs.Input.{Place, Input, Code, kind, kind2, brk, lo, text, span, is_word, has_in, with_in, by, in_body, in_arrow, turned_strict, in_list}
 use Rattle.ecma_syntax.specs.Operators.{closed_end, expression_level, assignment_level, coalesce_level, unary_level, new_level, call_level, member_level, binary_level, right_level, is_assign_op, operates, goes_expr, between, other_end}
 use Rattle.ecma_syntax.specs.Shape.{level, ends, fits_left, is_chain, is_cooked}
 use Rattle.ecma_reading.specs.Source.{Fault, unexpected, ◌>>=◌, Stand, input, past, spanned, at, eat, eat_word, is_name, name, any_word, Step, go_on, finished, Inner}
 use Rattle.ecma_reading.specs.Cover.{last_rests}
-use Rattle.ecma_reading.specs.Expressions.{first, literal_by, element_by, after_element, element_step, elements_by, array_by, computed_by, key_by, private_by, parameter_by, is_rest_param, parameter_step, parameters_by, function_by, setter_parameter, is_accessor, is_async_head, star, method_prop_by, getter_by, setter_by, prop_rest, prop_by, prop_step, object_by, quasi, quasi_end, quasi_step, template_by, arrows, arrow_by, params_of, group_end, group_by, ident_end, arguments_by, async_group, function_expr_name, function_expr_by, async_by, class_expr_by, new_end, callee_by, new_by, super_end, fits_import, import_by, unary_by, update_by, await_by, ends_yield, yield_end, yield_by, word_by, fixed, keyword_by, prefix_by, member_name, on_chain, member_by, index_by, call_tree, call_by, chain_by, cond_by, assign_by, binary_by, step_by, loop_step, loop_by, private_in, expr_from, expr_by, Elements, Spans, literal, joined, last_end, plain_elements, no_elements, is_unary, extended}
+use Rattle.ecma_reading.specs.Expressions.{first, literal_by, element_by, after_element, element_step, elements_by, array_by, computed_by, key_by, private_by, parameter_by, is_rest_param, parameter_step, parameters_by, function_by, setter_parameter, is_accessor, is_async_head, star, method_prop_by, getter_by, setter_by, prop_rest, prop_by, prop_step, object_by, quasi, quasi_end, quasi_step, template_by, arrows_at, heads_params, is_async_param, arrow_by, params_of, group_end, group_by, ident_end, arguments_by, async_group, function_expr_name, function_expr_by, async_by, class_expr_by, new_end, callee_by, new_by, super_end, fits_import, import_by, unary_by, update_by, await_by, ends_yield, yield_end, yield_by, word_by, fixed, keyword_by, prefix_by, member_name, on_chain, member_by, index_by, call_tree, call_by, chain_by, cond_by, assign_by, binary_by, step_by, loop_step, loop_by, private_in, expr_from, expr_by, Elements, Spans, literal, joined, last_end, plain_elements, no_elements, is_unary, extended}
 use Rattle.std.proofs.lemmas.Bool.{lt-ltb, ltb-true}
-use Rattle.ecma_grammar_slashes.proofs.Twins.{lm, Parting, regexps, slashes, slashes_by, on, Twins, twin_ok, never, unanswered, twin_then, twin_if, twin_no, cut, parted, same, Plain, plain_at, lo_same, no_and, no_third, eat_on, eat_at, eat_none, word_on, word_at, word_none, name_on, name_none, any_on, any_at, any_none, twin_pure, iterate_twin, Told}
+use Rattle.ecma_grammar_slashes.proofs.Twins.{lm, Parting, regexps, slashes, slashes_by, on, Twins, twin_ok, never, unanswered, twin_then, twin_if, twin_no, cut, parted, same, Plain, plain_at, lo_same, no_and, no_fourth, eat_on, eat_at, eat_none, word_on, word_at, word_none, name_on, name_none, any_on, any_at, any_none, twin_pure, iterate_twin, Told}
 
 module _ (w : Parting) (inner : Inner Input) (told : Told w inner) where
   pub literal_by_twin : (o : List ℕ) (n : ℕ) (l : List Place) → Twins w (literal_by lm inner (on o n (l ++ regexps w))) (literal_by lm inner (on o n (l ++ slashes w)))
@@ -164,29 +164,29 @@ module _ (w : Parting) (inner : Inner Input) (told : Told w inner) where
       alone (Some []) = never w _ _
       alone (Some (e ∷ es)) = twin_ok w _ _ o n l (ap (λ (z : ℕ). paren_expr (span startp.spot.lo n) (joined (e ∷ es) (span z (last_end xs.items)))) (lo_same w open_o open_n open_l))
 
-  pub group_end_twin : (c : Code) (starto : List ℕ) (startn : ℕ) (startp : Place) (startl : List Place) (open_o : List ℕ) (open_n : ℕ) (open_l : List Place) (xs : Elements) (o : List ℕ) (n : ℕ) (l : List Place)
-      → Twins w (group_end lm inner c (on starto startn (startp ∷ (startl ++ regexps w))) (on open_o open_n (open_l ++ regexps w)) xs (on o n (l ++ regexps w))) (group_end lm inner c (on starto startn (startp ∷ (startl ++ slashes w))) (on open_o open_n (open_l ++ slashes w)) xs (on o n (l ++ slashes w)))
+  pub group_end_twin : (c : Code) (v : ℕ) (starto : List ℕ) (startn : ℕ) (startp : Place) (startl : List Place) (open_o : List ℕ) (open_n : ℕ) (open_l : List Place) (xs : Elements) (o : List ℕ) (n : ℕ) (l : List Place)
+      → Twins w (group_end lm inner c v (on starto startn (startp ∷ (startl ++ regexps w))) (on open_o open_n (open_l ++ regexps w)) xs (on o n (l ++ regexps w))) (group_end lm inner c v (on starto startn (startp ∷ (startl ++ slashes w))) (on open_o open_n (open_l ++ slashes w)) xs (on o n (l ++ slashes w)))
   unfolding group_end
-  group_end_twin c starto startn startp startl open_o open_n open_l xs o n [] = twin_no w (arrows lm inner (on o n (slashes w))) (parted w (λ z. arrows lm inner (on o n z)) refl refl) _ _ _ (closed_twin c starto startn startp startl open_o open_n open_l xs o n [])
-  group_end_twin c starto startn startp startl open_o open_n open_l xs o n (p ∷ q) = twin_if w (arrows lm inner (on o n (p ∷ (q ++ regexps w)))) (arrows lm inner (on o n (p ∷ (q ++ slashes w)))) refl _ _ _ _
+  group_end_twin c v starto startn startp startl open_o open_n open_l xs o n [] = twin_no w (heads_params lm inner v xs (on o n (slashes w))) (parted w (λ z. heads_params lm inner v xs (on o n z)) refl refl) _ _ _ (closed_twin c starto startn startp startl open_o open_n open_l xs o n [])
+  group_end_twin c v starto startn startp startl open_o open_n open_l xs o n (p ∷ q) = twin_if w (heads_params lm inner v xs (on o n (p ∷ (q ++ regexps w)))) (heads_params lm inner v xs (on o n (p ∷ (q ++ slashes w)))) refl _ _ _ _
       (λ yes. twin_pure w _ _ _ (λ ps. arrow_by_twin c starto startn (startp ∷ startl) false ps o n p q)) (λ yes. closed_twin c starto startn startp startl open_o open_n open_l xs o n (p ∷ q))
 
-  pub group_by_twin : (c : Code) (o : List ℕ) (n : ℕ) (p : Place) (l : List Place) → Twins w (group_by lm inner c (on o n (p ∷ (l ++ regexps w)))) (group_by lm inner c (on o n (p ∷ (l ++ slashes w))))
+  pub group_by_twin : (c : Code) (v : ℕ) (o : List ℕ) (n : ℕ) (p : Place) (l : List Place) → Twins w (group_by lm inner c v (on o n (p ∷ (l ++ regexps w)))) (group_by lm inner c v (on o n (p ∷ (l ++ slashes w))))
   unfolding group_by
-  group_by_twin c o n p l = twin_then w _ _ _ _ (elements_by_twin (with_in c) false right_paren_kind (refl, refl, refl) o p.spot.hi l) (λ xsv xso xsn xsl. group_end_twin c o n p l o p.spot.hi l xsv xso xsn xsl)
+  group_by_twin c v o n p l = twin_then w _ _ _ _ (elements_by_twin (with_in c) false right_paren_kind (refl, refl, refl) o p.spot.hi l) (λ xsv xso xsn xsl. group_end_twin c v o n p l o p.spot.hi l xsv xso xsn xsl)
 
-  pub ident_end_twin : (c : Code) (starto : List ℕ) (startn : ℕ) (startp : Place) (startl : List Place) (n : List ℕ) (o : List ℕ) (n1 : ℕ) (l : List Place) → Twins w (ident_end lm inner c (on starto startn (startp ∷ (startl ++ regexps w))) n (on o n1 ((l ++ regexps w)))) (ident_end lm inner c (on starto startn (startp ∷ (startl ++ slashes w))) n (on o n1 ((l ++ slashes w))))
+  pub ident_end_twin : (c : Code) (v : ℕ) (starto : List ℕ) (startn : ℕ) (startp : Place) (startl : List Place) (n : List ℕ) (o : List ℕ) (n1 : ℕ) (l : List Place) → Twins w (ident_end lm inner c v (on starto startn (startp ∷ (startl ++ regexps w))) n (on o n1 ((l ++ regexps w)))) (ident_end lm inner c v (on starto startn (startp ∷ (startl ++ slashes w))) n (on o n1 ((l ++ slashes w))))
   unfolding ident_end
-  ident_end_twin c starto startn startp startl n o n1 [] = twin_no w (arrows lm inner (on o n1 (slashes w))) (parted w (λ z. arrows lm inner (on o n1 z)) refl refl) _ _ _ (twin_ok w _ _ o n1 [] refl)
-  ident_end_twin c starto startn startp startl n o n1 (p ∷ l) = twin_if w (arrows lm inner (on o n1 (p ∷ (l ++ regexps w)))) (arrows lm inner (on o n1 (p ∷ (l ++ slashes w)))) refl _ _ _ _ (λ yes. arrow_by_twin c starto startn (startp ∷ startl) false (binding_ident (first lm inner (on starto startn (startp ∷ (startl ++ regexps w)))) (ident (first lm inner (on starto startn (startp ∷ (startl ++ regexps w)))) n) ∷ []) o n1 p l) (λ no. twin_ok w _ _ o n1 (p ∷ l) refl)
+  ident_end_twin c v starto startn startp startl n o n1 [] = twin_no w (arrows_at lm inner v (on o n1 (slashes w))) (parted w (λ z. arrows_at lm inner v (on o n1 z)) refl refl) _ _ _ (twin_ok w _ _ o n1 [] refl)
+  ident_end_twin c v starto startn startp startl n o n1 (p ∷ l) = twin_if w (arrows_at lm inner v (on o n1 (p ∷ (l ++ regexps w)))) (arrows_at lm inner v (on o n1 (p ∷ (l ++ slashes w)))) refl _ _ _ _ (λ yes. arrow_by_twin c starto startn (startp ∷ startl) false (binding_ident (first lm inner (on starto startn (startp ∷ (startl ++ regexps w)))) (ident (first lm inner (on starto startn (startp ∷ (startl ++ regexps w)))) n) ∷ []) o n1 p l) (λ no. twin_ok w _ _ o n1 (p ∷ l) refl)
 
   pub arguments_by_twin : (c : Code) (o : List ℕ) (n : ℕ) (l : List Place) → Twins w (arguments_by lm inner c (on o n ((l ++ regexps w)))) (arguments_by lm inner c (on o n ((l ++ slashes w))))
   unfolding arguments_by
   arguments_by_twin c o n l = twin_then w _ _ _ _ (elements_by_twin c false right_paren_kind (refl, refl, refl) o n l) (λ xsv xso xsn xsl. twin_ok w _ _ xso xsn xsl refl)
 
-  pub async_group_twin : (c : Code) (starto : List ℕ) (startn : ℕ) (startp : Place) (startl : List Place) (o : List ℕ) (n : ℕ) (p : Place) (l : List Place) → Twins w (async_group lm inner c (on starto startn (startp ∷ (startl ++ regexps w))) (on o n (p ∷ (l ++ regexps w)))) (async_group lm inner c (on starto startn (startp ∷ (startl ++ slashes w))) (on o n (p ∷ (l ++ slashes w))))
+  pub async_group_twin : (c : Code) (v : ℕ) (starto : List ℕ) (startn : ℕ) (startp : Place) (startl : List Place) (o : List ℕ) (n : ℕ) (p : Place) (l : List Place) → Twins w (async_group lm inner c v (on starto startn (startp ∷ (startl ++ regexps w))) (on o n (p ∷ (l ++ regexps w)))) (async_group lm inner c v (on starto startn (startp ∷ (startl ++ slashes w))) (on o n (p ∷ (l ++ slashes w))))
   unfolding async_group
-  async_group_twin c starto startn startp startl o n p l = twin_then w _ _ _ _ (elements_by_twin (with_in c) false right_paren_kind (refl, refl, refl) o p.spot.hi l) (λ xsv xso xsn xsl. cut w (λ z. Twins w (if arrows lm inner (on xso xsn ((z ++ regexps w))) && not (brk (input lm (on o n (p ∷ (l ++ regexps w))))) then (params_of lm inner xso xsv >>= λ ps. arrow_by lm inner c (on starto startn (startp ∷ (startl ++ regexps w))) true ps (on xso xsn ((z ++ regexps w)))) else Ok (call_expr (spanned lm (on starto startn (startp ∷ (startl ++ regexps w))) (on xso xsn ((z ++ regexps w)))) (ident (first lm inner (on starto startn (startp ∷ (startl ++ regexps w)))) (text (input lm (on starto startn (startp ∷ (startl ++ regexps w)))))) (pack xsv.items), (on xso xsn ((z ++ regexps w))))) (if arrows lm inner (on xso xsn ((z ++ slashes w))) && not (brk (input lm (on o n (p ∷ (l ++ slashes w))))) then (params_of lm inner xso xsv >>= λ ps. arrow_by lm inner c (on starto startn (startp ∷ (startl ++ slashes w))) true ps (on xso xsn ((z ++ slashes w)))) else Ok (call_expr (spanned lm (on starto startn (startp ∷ (startl ++ slashes w))) (on xso xsn ((z ++ slashes w)))) (ident (first lm inner (on starto startn (startp ∷ (startl ++ slashes w)))) (text (input lm (on starto startn (startp ∷ (startl ++ slashes w)))))) (pack xsv.items), (on xso xsn ((z ++ slashes w)))))) xsl (twin_no w (arrows lm inner (on xso xsn (slashes w)) && not (brk (input lm (on o n (p ∷ (l ++ slashes w)))))) (parted w (λ z. arrows lm inner (on xso xsn z) && not (brk (input lm (on o n (p ∷ (l ++ regexps w)))))) refl refl) _ _ _ (twin_ok w _ _ xso xsn [] refl)) (λ xsp xsq. twin_if w (arrows lm inner (on xso xsn (xsp ∷ (xsq ++ regexps w))) && not (brk (input lm (on o n (p ∷ (l ++ regexps w)))))) (arrows lm inner (on xso xsn (xsp ∷ (xsq ++ slashes w))) && not (brk (input lm (on o n (p ∷ (l ++ slashes w)))))) refl _ _ _ _ (λ yes. twin_pure w _ _ _ (λ psv. arrow_by_twin c starto startn (startp ∷ startl) true psv xso xsn xsp xsq)) (λ no. twin_ok w _ _ xso xsn (xsp ∷ xsq) refl)))
+  async_group_twin c v starto startn startp startl o n p l = twin_then w _ _ _ _ (elements_by_twin (with_in c) false right_paren_kind (refl, refl, refl) o p.spot.hi l) (λ xsv xso xsn xsl. cut w (λ z. Twins w (if heads_params lm inner v xsv (on xso xsn ((z ++ regexps w))) && not (brk (input lm (on o n (p ∷ (l ++ regexps w))))) then (params_of lm inner xso xsv >>= λ ps. arrow_by lm inner c (on starto startn (startp ∷ (startl ++ regexps w))) true ps (on xso xsn ((z ++ regexps w)))) else Ok (call_expr (spanned lm (on starto startn (startp ∷ (startl ++ regexps w))) (on xso xsn ((z ++ regexps w)))) (ident (first lm inner (on starto startn (startp ∷ (startl ++ regexps w)))) (text (input lm (on starto startn (startp ∷ (startl ++ regexps w)))))) (pack xsv.items), (on xso xsn ((z ++ regexps w))))) (if heads_params lm inner v xsv (on xso xsn ((z ++ slashes w))) && not (brk (input lm (on o n (p ∷ (l ++ slashes w))))) then (params_of lm inner xso xsv >>= λ ps. arrow_by lm inner c (on starto startn (startp ∷ (startl ++ slashes w))) true ps (on xso xsn ((z ++ slashes w)))) else Ok (call_expr (spanned lm (on starto startn (startp ∷ (startl ++ slashes w))) (on xso xsn ((z ++ slashes w)))) (ident (first lm inner (on starto startn (startp ∷ (startl ++ slashes w)))) (text (input lm (on starto startn (startp ∷ (startl ++ slashes w)))))) (pack xsv.items), (on xso xsn ((z ++ slashes w)))))) xsl (twin_no w (heads_params lm inner v xsv (on xso xsn (slashes w)) && not (brk (input lm (on o n (p ∷ (l ++ slashes w)))))) (parted w (λ z. heads_params lm inner v xsv (on xso xsn z) && not (brk (input lm (on o n (p ∷ (l ++ regexps w)))))) refl refl) _ _ _ (twin_ok w _ _ xso xsn [] refl)) (λ xsp xsq. twin_if w (heads_params lm inner v xsv (on xso xsn (xsp ∷ (xsq ++ regexps w))) && not (brk (input lm (on o n (p ∷ (l ++ regexps w)))))) (heads_params lm inner v xsv (on xso xsn (xsp ∷ (xsq ++ slashes w))) && not (brk (input lm (on o n (p ∷ (l ++ slashes w)))))) refl _ _ _ _ (λ yes. twin_pure w _ _ _ (λ psv. arrow_by_twin c starto startn (startp ∷ startl) true psv xso xsn xsp xsq)) (λ no. twin_ok w _ _ xso xsn (xsp ∷ xsq) refl)))
 
   pub function_expr_name_twin : (c : Code) (starto : List ℕ) (startn : ℕ) (startp : Place) (startl : List Place) (generator : Bool) (async : Bool) (o : List ℕ) (n1 : ℕ) (l : List Place) → Twins w (function_expr_name lm inner c (on starto startn (startp ∷ (startl ++ regexps w))) generator async (on o n1 ((l ++ regexps w)))) (function_expr_name lm inner c (on starto startn (startp ∷ (startl ++ slashes w))) generator async (on o n1 ((l ++ slashes w))))
   unfolding function_expr_name
@@ -197,11 +197,11 @@ module _ (w : Parting) (inner : Inner Input) (told : Told w inner) where
   unfolding function_expr_by
   function_expr_by_twin c starto startn startp startl async o n l = word_at w c function_kind (refl, refl, refl) o n l _ _ (λ rn rl. twin_then w _ _ _ _ (star_twin o rn rl) (λ gv go gn gl. function_expr_name_twin c starto startn startp startl gv async go gn gl))
 
-  pub async_by_twin : (c : Code) (o : List ℕ) (n1 : ℕ) (p : Place) (l : List Place) → Twins w (async_by lm inner c (on o n1 (p ∷ (l ++ regexps w)))) (async_by lm inner c (on o n1 (p ∷ (l ++ slashes w))))
+  pub async_by_twin : (c : Code) (v : ℕ) (o : List ℕ) (n1 : ℕ) (p : Place) (l : List Place) → Twins w (async_by lm inner c v (on o n1 (p ∷ (l ++ regexps w)))) (async_by lm inner c v (on o n1 (p ∷ (l ++ slashes w))))
   unfolding async_by
-  async_by_twin c o n1 p [] = twin_no w (at lm function_kind (past lm (on o n1 (p ∷ slashes w))) && not (brk (input lm (past lm (on o n1 (p ∷ slashes w)))))) (parted w (λ z. at lm function_kind (past lm (on o n1 (p ∷ z))) && not (brk (input lm (past lm (on o n1 (p ∷ z)))))) refl refl) _ _ _ (twin_no w (is_name lm c (past lm (on o n1 (p ∷ slashes w))) && (not (brk (input lm (past lm (on o n1 (p ∷ slashes w))))) && (kind2 (input lm (past lm (on o n1 (p ∷ slashes w)))) == arrow_kind) && not (brk2 (input lm (past lm (on o n1 (p ∷ slashes w))))))) (parted w (λ z. is_name lm c (past lm (on o n1 (p ∷ z))) && (not (brk (input lm (past lm (on o n1 (p ∷ z))))) && (kind2 (input lm (past lm (on o n1 (p ∷ z)))) == arrow_kind) && not (brk2 (input lm (past lm (on o n1 (p ∷ z))))))) refl refl) _ _ _ (twin_no w (at lm left_paren_kind (past lm (on o n1 (p ∷ slashes w))) && not (brk (input lm (past lm (on o n1 (p ∷ slashes w)))))) (parted w (λ z. at lm left_paren_kind (past lm (on o n1 (p ∷ z))) && not (brk (input lm (past lm (on o n1 (p ∷ z)))))) refl refl) _ _ _ (ident_end_twin c o n1 p [] (text (input lm (on o n1 (p ∷ regexps w)))) o p.spot.hi [])))
-  async_by_twin c o n1 p (p2 ∷ []) = twin_if w (at lm function_kind (past lm (on o n1 (p ∷ p2 ∷ regexps w))) && not (brk (input lm (past lm (on o n1 (p ∷ p2 ∷ regexps w)))))) (at lm function_kind (past lm (on o n1 (p ∷ p2 ∷ slashes w))) && not (brk (input lm (past lm (on o n1 (p ∷ p2 ∷ slashes w)))))) (parted w (λ z. at lm function_kind (past lm (on o n1 (p ∷ p2 ∷ z))) && not (brk (input lm (past lm (on o n1 (p ∷ p2 ∷ z)))))) refl refl) _ _ _ _ (λ yes. function_expr_by_twin c o n1 p (p2 ∷ []) true o p.spot.hi (p2 ∷ [])) (λ no. twin_if w (is_name lm c (past lm (on o n1 (p ∷ p2 ∷ regexps w))) && (not (brk (input lm (past lm (on o n1 (p ∷ p2 ∷ regexps w))))) && (kind2 (input lm (past lm (on o n1 (p ∷ p2 ∷ regexps w)))) == arrow_kind) && not (brk2 (input lm (past lm (on o n1 (p ∷ p2 ∷ regexps w))))))) (is_name lm c (past lm (on o n1 (p ∷ p2 ∷ slashes w))) && (not (brk (input lm (past lm (on o n1 (p ∷ p2 ∷ slashes w))))) && (kind2 (input lm (past lm (on o n1 (p ∷ p2 ∷ slashes w)))) == arrow_kind) && not (brk2 (input lm (past lm (on o n1 (p ∷ p2 ∷ slashes w))))))) (parted w (λ z. is_name lm c (past lm (on o n1 (p ∷ p2 ∷ z))) && (not (brk (input lm (past lm (on o n1 (p ∷ p2 ∷ z))))) && (kind2 (input lm (past lm (on o n1 (p ∷ p2 ∷ z)))) == arrow_kind) && not (brk2 (input lm (past lm (on o n1 (p ∷ p2 ∷ z))))))) refl refl) _ _ _ _ (λ yes. absurd (no_third w _ _ _ yes)) (λ no. twin_if w (at lm left_paren_kind (past lm (on o n1 (p ∷ p2 ∷ regexps w))) && not (brk (input lm (past lm (on o n1 (p ∷ p2 ∷ regexps w)))))) (at lm left_paren_kind (past lm (on o n1 (p ∷ p2 ∷ slashes w))) && not (brk (input lm (past lm (on o n1 (p ∷ p2 ∷ slashes w)))))) (parted w (λ z. at lm left_paren_kind (past lm (on o n1 (p ∷ p2 ∷ z))) && not (brk (input lm (past lm (on o n1 (p ∷ p2 ∷ z)))))) refl refl) _ _ _ _ (λ yes. async_group_twin c o n1 p (p2 ∷ []) o p.spot.hi p2 []) (λ no. ident_end_twin c o n1 p (p2 ∷ []) (text (input lm (on o n1 (p ∷ p2 ∷ regexps w)))) o p.spot.hi (p2 ∷ []))))
-  async_by_twin c o n1 p (p2 ∷ (p3 ∷ l)) = twin_if w (at lm function_kind (past lm (on o n1 (p ∷ p2 ∷ p3 ∷ (l ++ regexps w)))) && not (brk (input lm (past lm (on o n1 (p ∷ p2 ∷ p3 ∷ (l ++ regexps w))))))) (at lm function_kind (past lm (on o n1 (p ∷ p2 ∷ p3 ∷ (l ++ slashes w)))) && not (brk (input lm (past lm (on o n1 (p ∷ p2 ∷ p3 ∷ (l ++ slashes w))))))) refl _ _ _ _ (λ yes. function_expr_by_twin c o n1 p (p2 ∷ p3 ∷ l) true o p.spot.hi (p2 ∷ p3 ∷ l)) (λ no. twin_if w (is_name lm c (past lm (on o n1 (p ∷ p2 ∷ p3 ∷ (l ++ regexps w)))) && (not (brk (input lm (past lm (on o n1 (p ∷ p2 ∷ p3 ∷ (l ++ regexps w)))))) && (kind2 (input lm (past lm (on o n1 (p ∷ p2 ∷ p3 ∷ (l ++ regexps w))))) == arrow_kind) && not (brk2 (input lm (past lm (on o n1 (p ∷ p2 ∷ p3 ∷ (l ++ regexps w)))))))) (is_name lm c (past lm (on o n1 (p ∷ p2 ∷ p3 ∷ (l ++ slashes w)))) && (not (brk (input lm (past lm (on o n1 (p ∷ p2 ∷ p3 ∷ (l ++ slashes w)))))) && (kind2 (input lm (past lm (on o n1 (p ∷ p2 ∷ p3 ∷ (l ++ slashes w))))) == arrow_kind) && not (brk2 (input lm (past lm (on o n1 (p ∷ p2 ∷ p3 ∷ (l ++ slashes w)))))))) (same w (λ z. is_name lm c (past lm (on o n1 (p ∷ p2 ∷ p3 ∷ z))) && (not (brk (input lm (past lm (on o n1 (p ∷ p2 ∷ p3 ∷ z))))) && (kind2 (input lm (past lm (on o n1 (p ∷ p2 ∷ p3 ∷ z)))) == arrow_kind) && not (brk2 (input lm (past lm (on o n1 (p ∷ p2 ∷ p3 ∷ z))))))) refl refl (λ p. refl) (λ p. refl) (λ p q. refl) (λ p q. refl) (λ p q r l m n. refl) l) _ _ _ _ (λ yes. name_on w c o p.spot.hi p2 (p3 ∷ l) _ _ (λ nv. arrow_by_twin c o n1 (p ∷ p2 ∷ p3 ∷ l) true (binding_ident (first lm inner (past lm (on o n1 (p ∷ p2 ∷ p3 ∷ (l ++ regexps w))))) (ident (first lm inner (past lm (on o n1 (p ∷ p2 ∷ p3 ∷ (l ++ regexps w))))) nv) ∷ []) o p2.spot.hi p3 l)) (λ no. twin_if w (at lm left_paren_kind (past lm (on o n1 (p ∷ p2 ∷ p3 ∷ (l ++ regexps w)))) && not (brk (input lm (past lm (on o n1 (p ∷ p2 ∷ p3 ∷ (l ++ regexps w))))))) (at lm left_paren_kind (past lm (on o n1 (p ∷ p2 ∷ p3 ∷ (l ++ slashes w)))) && not (brk (input lm (past lm (on o n1 (p ∷ p2 ∷ p3 ∷ (l ++ slashes w))))))) refl _ _ _ _ (λ yes. async_group_twin c o n1 p (p2 ∷ p3 ∷ l) o p.spot.hi p2 (p3 ∷ l)) (λ no. ident_end_twin c o n1 p (p2 ∷ p3 ∷ l) (text (input lm (on o n1 (p ∷ p2 ∷ p3 ∷ (l ++ regexps w))))) o p.spot.hi (p2 ∷ p3 ∷ l))))
+  async_by_twin c v o n1 p [] = twin_no w (at lm function_kind (past lm (on o n1 (p ∷ slashes w))) && not (brk (input lm (past lm (on o n1 (p ∷ slashes w)))))) (parted w (λ z. at lm function_kind (past lm (on o n1 (p ∷ z))) && not (brk (input lm (past lm (on o n1 (p ∷ z)))))) refl refl) _ _ _ (twin_no w (is_async_param lm inner c v (past lm (on o n1 (p ∷ slashes w)))) (parted w (λ z. is_async_param lm inner c v (past lm (on o n1 (p ∷ z)))) refl refl) _ _ _ (twin_no w (at lm left_paren_kind (past lm (on o n1 (p ∷ slashes w))) && not (brk (input lm (past lm (on o n1 (p ∷ slashes w)))))) (parted w (λ z. at lm left_paren_kind (past lm (on o n1 (p ∷ z))) && not (brk (input lm (past lm (on o n1 (p ∷ z)))))) refl refl) _ _ _ (ident_end_twin c v o n1 p [] (text (input lm (on o n1 (p ∷ regexps w)))) o p.spot.hi [])))
+  async_by_twin c v o n1 p (p2 ∷ []) = twin_if w (at lm function_kind (past lm (on o n1 (p ∷ p2 ∷ regexps w))) && not (brk (input lm (past lm (on o n1 (p ∷ p2 ∷ regexps w)))))) (at lm function_kind (past lm (on o n1 (p ∷ p2 ∷ slashes w))) && not (brk (input lm (past lm (on o n1 (p ∷ p2 ∷ slashes w)))))) (parted w (λ z. at lm function_kind (past lm (on o n1 (p ∷ p2 ∷ z))) && not (brk (input lm (past lm (on o n1 (p ∷ p2 ∷ z)))))) refl refl) _ _ _ _ (λ yes. function_expr_by_twin c o n1 p (p2 ∷ []) true o p.spot.hi (p2 ∷ [])) (λ no. twin_if w (is_async_param lm inner c v (past lm (on o n1 (p ∷ p2 ∷ regexps w)))) (is_async_param lm inner c v (past lm (on o n1 (p ∷ p2 ∷ slashes w)))) (parted w (λ z. is_async_param lm inner c v (past lm (on o n1 (p ∷ p2 ∷ z)))) refl refl) _ _ _ _ (λ yes. absurd (no_fourth w _ _ _ _ yes)) (λ no. twin_if w (at lm left_paren_kind (past lm (on o n1 (p ∷ p2 ∷ regexps w))) && not (brk (input lm (past lm (on o n1 (p ∷ p2 ∷ regexps w)))))) (at lm left_paren_kind (past lm (on o n1 (p ∷ p2 ∷ slashes w))) && not (brk (input lm (past lm (on o n1 (p ∷ p2 ∷ slashes w)))))) (parted w (λ z. at lm left_paren_kind (past lm (on o n1 (p ∷ p2 ∷ z))) && not (brk (input lm (past lm (on o n1 (p ∷ p2 ∷ z)))))) refl refl) _ _ _ _ (λ yes. async_group_twin c v o n1 p (p2 ∷ []) o p.spot.hi p2 []) (λ no. ident_end_twin c v o n1 p (p2 ∷ []) (text (input lm (on o n1 (p ∷ p2 ∷ regexps w)))) o p.spot.hi (p2 ∷ []))))
+  async_by_twin c v o n1 p (p2 ∷ (p3 ∷ l)) = twin_if w (at lm function_kind (past lm (on o n1 (p ∷ p2 ∷ p3 ∷ (l ++ regexps w)))) && not (brk (input lm (past lm (on o n1 (p ∷ p2 ∷ p3 ∷ (l ++ regexps w))))))) (at lm function_kind (past lm (on o n1 (p ∷ p2 ∷ p3 ∷ (l ++ slashes w)))) && not (brk (input lm (past lm (on o n1 (p ∷ p2 ∷ p3 ∷ (l ++ slashes w))))))) refl _ _ _ _ (λ yes. function_expr_by_twin c o n1 p (p2 ∷ p3 ∷ l) true o p.spot.hi (p2 ∷ p3 ∷ l)) (λ no. twin_if w (is_async_param lm inner c v (past lm (on o n1 (p ∷ p2 ∷ p3 ∷ (l ++ regexps w))))) (is_async_param lm inner c v (past lm (on o n1 (p ∷ p2 ∷ p3 ∷ (l ++ slashes w))))) (same w (λ z. is_async_param lm inner c v (past lm (on o n1 (p ∷ p2 ∷ p3 ∷ z)))) refl refl (λ p. refl) (λ p. refl) (λ p q. refl) (λ p q. refl) (λ p q r l m n. refl) l) _ _ _ _ (λ yes. name_on w c o p.spot.hi p2 (p3 ∷ l) _ _ (λ nv. arrow_by_twin c o n1 (p ∷ p2 ∷ p3 ∷ l) true (binding_ident (first lm inner (past lm (on o n1 (p ∷ p2 ∷ p3 ∷ (l ++ regexps w))))) (ident (first lm inner (past lm (on o n1 (p ∷ p2 ∷ p3 ∷ (l ++ regexps w))))) nv) ∷ []) o p2.spot.hi p3 l)) (λ no. twin_if w (at lm left_paren_kind (past lm (on o n1 (p ∷ p2 ∷ p3 ∷ (l ++ regexps w)))) && not (brk (input lm (past lm (on o n1 (p ∷ p2 ∷ p3 ∷ (l ++ regexps w))))))) (at lm left_paren_kind (past lm (on o n1 (p ∷ p2 ∷ p3 ∷ (l ++ slashes w)))) && not (brk (input lm (past lm (on o n1 (p ∷ p2 ∷ p3 ∷ (l ++ slashes w))))))) refl _ _ _ _ (λ yes. async_group_twin c v o n1 p (p2 ∷ p3 ∷ l) o p.spot.hi p2 (p3 ∷ l)) (λ no. ident_end_twin c v o n1 p (p2 ∷ p3 ∷ l) (text (input lm (on o n1 (p ∷ p2 ∷ p3 ∷ (l ++ regexps w))))) o p.spot.hi (p2 ∷ p3 ∷ l))))
 
   pub class_expr_by_twin : (c : Code) (o : List ℕ) (n1 : ℕ) (l : List Place) → Twins w (class_expr_by lm inner c (on o n1 ((l ++ regexps w)))) (class_expr_by lm inner c (on o n1 ((l ++ slashes w))))
   unfolding class_expr_by
@@ -255,23 +255,23 @@ module _ (w : Parting) (inner : Inner Input) (told : Told w inner) where
   unfolding yield_by
   yield_by_twin c o n l = word_at w c yield_kind (refl, refl, refl) o n l _ _ (λ rn rl. yield_end_twin c o n l o rn rl)
 
-  pub word_by_twin : (c : Code) (o : List ℕ) (n1 : ℕ) (l : List Place) → Twins w (word_by lm inner c (on o n1 ((l ++ regexps w)))) (word_by lm inner c (on o n1 ((l ++ slashes w))))
+  pub word_by_twin : (c : Code) (v : ℕ) (o : List ℕ) (n1 : ℕ) (l : List Place) → Twins w (word_by lm inner c v (on o n1 ((l ++ regexps w)))) (word_by lm inner c v (on o n1 ((l ++ slashes w))))
   unfolding word_by
-  word_by_twin c o n1 [] = twin_no w (at lm async_kind (on o n1 (slashes w))) (parted w (λ z. at lm async_kind (on o n1 z)) refl refl) _ _ _ (name_none w c o n1 _ _)
-  word_by_twin c o n1 (p ∷ l) = twin_if w (at lm async_kind (on o n1 (p ∷ (l ++ regexps w)))) (at lm async_kind (on o n1 (p ∷ (l ++ slashes w)))) refl _ _ _ _ (λ yes. async_by_twin c o n1 p l) (λ no. name_on w c o n1 p l _ _ (λ nv. ident_end_twin c o n1 p l nv o p.spot.hi l))
+  word_by_twin c v o n1 [] = twin_no w (at lm async_kind (on o n1 (slashes w))) (parted w (λ z. at lm async_kind (on o n1 z)) refl refl) _ _ _ (name_none w c o n1 _ _)
+  word_by_twin c v o n1 (p ∷ l) = twin_if w (at lm async_kind (on o n1 (p ∷ (l ++ regexps w)))) (at lm async_kind (on o n1 (p ∷ (l ++ slashes w)))) refl _ _ _ _ (λ yes. async_by_twin c v o n1 p l) (λ no. name_on w c o n1 p l _ _ (λ nv. ident_end_twin c v o n1 p l nv o p.spot.hi l))
 
   pub fixed_twin : (c : Code) (f : Span → Tree) (o : List ℕ) (n : ℕ) (p : Place) (l : List Place) → Twins w (fixed lm inner c f (on o n (p ∷ (l ++ regexps w)))) (fixed lm inner c f (on o n (p ∷ (l ++ slashes w))))
   fixed_twin c f o n p l = word_on w c (kind (input lm (on o n (p ∷ (l ++ regexps w))))) o n p l _ _ (twin_ok w _ _ o p.spot.hi l refl)
 
-  pub keyword_by_twin : (c : Code) (o : List ℕ) (n : ℕ) (l : List Place) → Twins w (keyword_by lm inner c (on o n ((l ++ regexps w)))) (keyword_by lm inner c (on o n ((l ++ slashes w))))
+  pub keyword_by_twin : (c : Code) (v : ℕ) (o : List ℕ) (n : ℕ) (l : List Place) → Twins w (keyword_by lm inner c v (on o n ((l ++ regexps w)))) (keyword_by lm inner c v (on o n ((l ++ slashes w))))
   unfolding keyword_by
-  keyword_by_twin c o n [] = twin_no w (at lm this_kind (on o n (slashes w))) (parted w (λ z. at lm this_kind (on o n z)) refl refl) _ _ _ (twin_no w (at lm null_kind (on o n (slashes w))) (parted w (λ z. at lm null_kind (on o n z)) refl refl) _ _ _ (twin_no w (at lm true_kind (on o n (slashes w))) (parted w (λ z. at lm true_kind (on o n z)) refl refl) _ _ _ (twin_no w (at lm false_kind (on o n (slashes w))) (parted w (λ z. at lm false_kind (on o n z)) refl refl) _ _ _ (twin_no w (at lm function_kind (on o n (slashes w))) (parted w (λ z. at lm function_kind (on o n z)) refl refl) _ _ _ (twin_no w (at lm class_kind (on o n (slashes w))) (parted w (λ z. at lm class_kind (on o n z)) refl refl) _ _ _ (twin_no w (at lm new_kind (on o n (slashes w))) (parted w (λ z. at lm new_kind (on o n z)) refl refl) _ _ _ (twin_no w (at lm super_kind (on o n (slashes w))) (parted w (λ z. at lm super_kind (on o n z)) refl refl) _ _ _ (twin_no w (at lm import_kind (on o n (slashes w))) (parted w (λ z. at lm import_kind (on o n z)) refl refl) _ _ _ (twin_no w (is_unary (kind (input lm (on o n (slashes w))))) (parted w (λ z. is_unary (kind (input lm (on o n z)))) refl refl) _ _ _ (twin_no w (at lm await_kind (on o n (slashes w)) && c.context.in_async) (parted w (λ z. at lm await_kind (on o n z) && c.context.in_async) refl refl) _ _ _ (twin_no w (at lm yield_kind (on o n (slashes w)) && c.context.in_generator) (parted w (λ z. at lm yield_kind (on o n z) && c.context.in_generator) refl refl) _ _ _ (word_by_twin c o n []))))))))))))
-  keyword_by_twin c o n (p1 ∷ l) = twin_if w (at lm this_kind (on o n (p1 ∷ (l ++ regexps w)))) (at lm this_kind (on o n (p1 ∷ (l ++ slashes w)))) refl _ _ _ _ (λ yes. fixed_twin c this_expr o n p1 l) (λ no. twin_if w (at lm null_kind (on o n (p1 ∷ (l ++ regexps w)))) (at lm null_kind (on o n (p1 ∷ (l ++ slashes w)))) refl _ _ _ _ (λ yes. fixed_twin c null_lit o n p1 l) (λ no. twin_if w (at lm true_kind (on o n (p1 ∷ (l ++ regexps w)))) (at lm true_kind (on o n (p1 ∷ (l ++ slashes w)))) refl _ _ _ _ (λ yes. fixed_twin c (λ p. bool_lit p true) o n p1 l) (λ no. twin_if w (at lm false_kind (on o n (p1 ∷ (l ++ regexps w)))) (at lm false_kind (on o n (p1 ∷ (l ++ slashes w)))) refl _ _ _ _ (λ yes. fixed_twin c (λ p. bool_lit p false) o n p1 l) (λ no. twin_if w (at lm function_kind (on o n (p1 ∷ (l ++ regexps w)))) (at lm function_kind (on o n (p1 ∷ (l ++ slashes w)))) refl _ _ _ _ (λ yes. function_expr_by_twin c o n p1 l false o n (p1 ∷ l)) (λ no. twin_if w (at lm class_kind (on o n (p1 ∷ (l ++ regexps w)))) (at lm class_kind (on o n (p1 ∷ (l ++ slashes w)))) refl _ _ _ _ (λ yes. class_expr_by_twin c o n (p1 ∷ l)) (λ no. twin_if w (at lm new_kind (on o n (p1 ∷ (l ++ regexps w)))) (at lm new_kind (on o n (p1 ∷ (l ++ slashes w)))) refl _ _ _ _ (λ yes. new_by_twin c o n (p1 ∷ l)) (λ no. twin_if w (at lm super_kind (on o n (p1 ∷ (l ++ regexps w)))) (at lm super_kind (on o n (p1 ∷ (l ++ slashes w)))) refl _ _ _ _ (λ yes. word_on w c super_kind o n p1 l _ _ (super_end_twin c o n p1 l o p1.spot.hi l)) (λ no. twin_if w (at lm import_kind (on o n (p1 ∷ (l ++ regexps w)))) (at lm import_kind (on o n (p1 ∷ (l ++ slashes w)))) refl _ _ _ _ (λ yes. import_by_twin c o n (p1 ∷ l)) (λ no. twin_if w (is_unary (kind (input lm (on o n (p1 ∷ (l ++ regexps w)))))) (is_unary (kind (input lm (on o n (p1 ∷ (l ++ slashes w)))))) refl _ _ _ _ (λ yes. unary_by_twin c o n p1 l) (λ no. twin_if w (at lm await_kind (on o n (p1 ∷ (l ++ regexps w))) && c.context.in_async) (at lm await_kind (on o n (p1 ∷ (l ++ slashes w))) && c.context.in_async) refl _ _ _ _ (λ yes. await_by_twin c o n (p1 ∷ l)) (λ no. twin_if w (at lm yield_kind (on o n (p1 ∷ (l ++ regexps w))) && c.context.in_generator) (at lm yield_kind (on o n (p1 ∷ (l ++ slashes w))) && c.context.in_generator) refl _ _ _ _ (λ yes. yield_by_twin c o n (p1 ∷ l)) (λ no. word_by_twin c o n (p1 ∷ l)))))))))))))
+  keyword_by_twin c v o n [] = twin_no w (at lm this_kind (on o n (slashes w))) (parted w (λ z. at lm this_kind (on o n z)) refl refl) _ _ _ (twin_no w (at lm null_kind (on o n (slashes w))) (parted w (λ z. at lm null_kind (on o n z)) refl refl) _ _ _ (twin_no w (at lm true_kind (on o n (slashes w))) (parted w (λ z. at lm true_kind (on o n z)) refl refl) _ _ _ (twin_no w (at lm false_kind (on o n (slashes w))) (parted w (λ z. at lm false_kind (on o n z)) refl refl) _ _ _ (twin_no w (at lm function_kind (on o n (slashes w))) (parted w (λ z. at lm function_kind (on o n z)) refl refl) _ _ _ (twin_no w (at lm class_kind (on o n (slashes w))) (parted w (λ z. at lm class_kind (on o n z)) refl refl) _ _ _ (twin_no w (at lm new_kind (on o n (slashes w))) (parted w (λ z. at lm new_kind (on o n z)) refl refl) _ _ _ (twin_no w (at lm super_kind (on o n (slashes w))) (parted w (λ z. at lm super_kind (on o n z)) refl refl) _ _ _ (twin_no w (at lm import_kind (on o n (slashes w))) (parted w (λ z. at lm import_kind (on o n z)) refl refl) _ _ _ (twin_no w (is_unary (kind (input lm (on o n (slashes w))))) (parted w (λ z. is_unary (kind (input lm (on o n z)))) refl refl) _ _ _ (twin_no w (at lm await_kind (on o n (slashes w)) && c.context.in_async) (parted w (λ z. at lm await_kind (on o n z) && c.context.in_async) refl refl) _ _ _ (twin_no w (at lm yield_kind (on o n (slashes w)) && c.context.in_generator) (parted w (λ z. at lm yield_kind (on o n z) && c.context.in_generator) refl refl) _ _ _ (word_by_twin c v o n []))))))))))))
+  keyword_by_twin c v o n (p1 ∷ l) = twin_if w (at lm this_kind (on o n (p1 ∷ (l ++ regexps w)))) (at lm this_kind (on o n (p1 ∷ (l ++ slashes w)))) refl _ _ _ _ (λ yes. fixed_twin c this_expr o n p1 l) (λ no. twin_if w (at lm null_kind (on o n (p1 ∷ (l ++ regexps w)))) (at lm null_kind (on o n (p1 ∷ (l ++ slashes w)))) refl _ _ _ _ (λ yes. fixed_twin c null_lit o n p1 l) (λ no. twin_if w (at lm true_kind (on o n (p1 ∷ (l ++ regexps w)))) (at lm true_kind (on o n (p1 ∷ (l ++ slashes w)))) refl _ _ _ _ (λ yes. fixed_twin c (λ p. bool_lit p true) o n p1 l) (λ no. twin_if w (at lm false_kind (on o n (p1 ∷ (l ++ regexps w)))) (at lm false_kind (on o n (p1 ∷ (l ++ slashes w)))) refl _ _ _ _ (λ yes. fixed_twin c (λ p. bool_lit p false) o n p1 l) (λ no. twin_if w (at lm function_kind (on o n (p1 ∷ (l ++ regexps w)))) (at lm function_kind (on o n (p1 ∷ (l ++ slashes w)))) refl _ _ _ _ (λ yes. function_expr_by_twin c o n p1 l false o n (p1 ∷ l)) (λ no. twin_if w (at lm class_kind (on o n (p1 ∷ (l ++ regexps w)))) (at lm class_kind (on o n (p1 ∷ (l ++ slashes w)))) refl _ _ _ _ (λ yes. class_expr_by_twin c o n (p1 ∷ l)) (λ no. twin_if w (at lm new_kind (on o n (p1 ∷ (l ++ regexps w)))) (at lm new_kind (on o n (p1 ∷ (l ++ slashes w)))) refl _ _ _ _ (λ yes. new_by_twin c o n (p1 ∷ l)) (λ no. twin_if w (at lm super_kind (on o n (p1 ∷ (l ++ regexps w)))) (at lm super_kind (on o n (p1 ∷ (l ++ slashes w)))) refl _ _ _ _ (λ yes. word_on w c super_kind o n p1 l _ _ (super_end_twin c o n p1 l o p1.spot.hi l)) (λ no. twin_if w (at lm import_kind (on o n (p1 ∷ (l ++ regexps w)))) (at lm import_kind (on o n (p1 ∷ (l ++ slashes w)))) refl _ _ _ _ (λ yes. import_by_twin c o n (p1 ∷ l)) (λ no. twin_if w (is_unary (kind (input lm (on o n (p1 ∷ (l ++ regexps w)))))) (is_unary (kind (input lm (on o n (p1 ∷ (l ++ slashes w)))))) refl _ _ _ _ (λ yes. unary_by_twin c o n p1 l) (λ no. twin_if w (at lm await_kind (on o n (p1 ∷ (l ++ regexps w))) && c.context.in_async) (at lm await_kind (on o n (p1 ∷ (l ++ slashes w))) && c.context.in_async) refl _ _ _ _ (λ yes. await_by_twin c o n (p1 ∷ l)) (λ no. twin_if w (at lm yield_kind (on o n (p1 ∷ (l ++ regexps w))) && c.context.in_generator) (at lm yield_kind (on o n (p1 ∷ (l ++ slashes w))) && c.context.in_generator) refl _ _ _ _ (λ yes. yield_by_twin c o n (p1 ∷ l)) (λ no. word_by_twin c v o n (p1 ∷ l)))))))))))))
 
-  pub prefix_by_twin : (c : Code) (o : List ℕ) (n : ℕ) (l : List Place) → Twins w (prefix_by lm inner c (on o n ((l ++ regexps w)))) (prefix_by lm inner c (on o n ((l ++ slashes w))))
+  pub prefix_by_twin : (c : Code) (v : ℕ) (o : List ℕ) (n : ℕ) (l : List Place) → Twins w (prefix_by lm inner c v (on o n ((l ++ regexps w)))) (prefix_by lm inner c v (on o n ((l ++ slashes w))))
   unfolding prefix_by
-  prefix_by_twin c o n [] = twin_no w (is_word (kind (input lm (on o n (slashes w))))) (parted w (λ z. is_word (kind (input lm (on o n z)))) refl refl) _ _ _ (twin_no w (at lm left_paren_kind (on o n (slashes w))) (parted w (λ z. at lm left_paren_kind (on o n z)) refl refl) _ _ _ (twin_no w (at lm left_bracket_kind (on o n (slashes w))) (parted w (λ z. at lm left_bracket_kind (on o n z)) refl refl) _ _ _ (twin_no w (at lm left_brace_kind (on o n (slashes w))) (parted w (λ z. at lm left_brace_kind (on o n z)) refl refl) _ _ _ (twin_no w (at lm back_quote_kind (on o n (slashes w))) (parted w (λ z. at lm back_quote_kind (on o n z)) refl refl) _ _ _ (twin_no w (is_unary (kind (input lm (on o n (slashes w))))) (parted w (λ z. is_unary (kind (input lm (on o n z)))) refl refl) _ _ _ (twin_no w (between plus_plus_kind minus_minus_kind (kind (input lm (on o n (slashes w))))) (parted w (λ z. between plus_plus_kind minus_minus_kind (kind (input lm (on o n z)))) refl refl) _ _ _ (literal_by_twin o n [])))))))
-  prefix_by_twin c o n (p ∷ l) = twin_if w (is_word (kind (input lm (on o n (p ∷ (l ++ regexps w)))))) (is_word (kind (input lm (on o n (p ∷ (l ++ slashes w)))))) refl _ _ _ _ (λ yes. keyword_by_twin c o n (p ∷ l)) (λ no. twin_if w (at lm left_paren_kind (on o n (p ∷ (l ++ regexps w)))) (at lm left_paren_kind (on o n (p ∷ (l ++ slashes w)))) refl _ _ _ _ (λ yes. group_by_twin c o n p l) (λ no. twin_if w (at lm left_bracket_kind (on o n (p ∷ (l ++ regexps w)))) (at lm left_bracket_kind (on o n (p ∷ (l ++ slashes w)))) refl _ _ _ _ (λ yes. array_by_twin c o n p l) (λ no. twin_if w (at lm left_brace_kind (on o n (p ∷ (l ++ regexps w)))) (at lm left_brace_kind (on o n (p ∷ (l ++ slashes w)))) refl _ _ _ _ (λ yes. object_by_twin c o n p l) (λ no. twin_if w (at lm back_quote_kind (on o n (p ∷ (l ++ regexps w)))) (at lm back_quote_kind (on o n (p ∷ (l ++ slashes w)))) refl _ _ _ _ (λ yes. template_by_twin c false o n p l) (λ no. twin_if w (is_unary (kind (input lm (on o n (p ∷ (l ++ regexps w)))))) (is_unary (kind (input lm (on o n (p ∷ (l ++ slashes w)))))) refl _ _ _ _ (λ yes. unary_by_twin c o n p l) (λ no. twin_if w (between plus_plus_kind minus_minus_kind (kind (input lm (on o n (p ∷ (l ++ regexps w)))))) (between plus_plus_kind minus_minus_kind (kind (input lm (on o n (p ∷ (l ++ slashes w)))))) refl _ _ _ _ (λ yes. update_by_twin c o n p l) (λ no. literal_by_twin o n (p ∷ l))))))))
+  prefix_by_twin c v o n [] = twin_no w (is_word (kind (input lm (on o n (slashes w))))) (parted w (λ z. is_word (kind (input lm (on o n z)))) refl refl) _ _ _ (twin_no w (at lm left_paren_kind (on o n (slashes w))) (parted w (λ z. at lm left_paren_kind (on o n z)) refl refl) _ _ _ (twin_no w (at lm left_bracket_kind (on o n (slashes w))) (parted w (λ z. at lm left_bracket_kind (on o n z)) refl refl) _ _ _ (twin_no w (at lm left_brace_kind (on o n (slashes w))) (parted w (λ z. at lm left_brace_kind (on o n z)) refl refl) _ _ _ (twin_no w (at lm back_quote_kind (on o n (slashes w))) (parted w (λ z. at lm back_quote_kind (on o n z)) refl refl) _ _ _ (twin_no w (is_unary (kind (input lm (on o n (slashes w))))) (parted w (λ z. is_unary (kind (input lm (on o n z)))) refl refl) _ _ _ (twin_no w (between plus_plus_kind minus_minus_kind (kind (input lm (on o n (slashes w))))) (parted w (λ z. between plus_plus_kind minus_minus_kind (kind (input lm (on o n z)))) refl refl) _ _ _ (literal_by_twin o n [])))))))
+  prefix_by_twin c v o n (p ∷ l) = twin_if w (is_word (kind (input lm (on o n (p ∷ (l ++ regexps w)))))) (is_word (kind (input lm (on o n (p ∷ (l ++ slashes w)))))) refl _ _ _ _ (λ yes. keyword_by_twin c v o n (p ∷ l)) (λ no. twin_if w (at lm left_paren_kind (on o n (p ∷ (l ++ regexps w)))) (at lm left_paren_kind (on o n (p ∷ (l ++ slashes w)))) refl _ _ _ _ (λ yes. group_by_twin c v o n p l) (λ no. twin_if w (at lm left_bracket_kind (on o n (p ∷ (l ++ regexps w)))) (at lm left_bracket_kind (on o n (p ∷ (l ++ slashes w)))) refl _ _ _ _ (λ yes. array_by_twin c o n p l) (λ no. twin_if w (at lm left_brace_kind (on o n (p ∷ (l ++ regexps w)))) (at lm left_brace_kind (on o n (p ∷ (l ++ slashes w)))) refl _ _ _ _ (λ yes. object_by_twin c o n p l) (λ no. twin_if w (at lm back_quote_kind (on o n (p ∷ (l ++ regexps w)))) (at lm back_quote_kind (on o n (p ∷ (l ++ slashes w)))) refl _ _ _ _ (λ yes. template_by_twin c false o n p l) (λ no. twin_if w (is_unary (kind (input lm (on o n (p ∷ (l ++ regexps w)))))) (is_unary (kind (input lm (on o n (p ∷ (l ++ slashes w)))))) refl _ _ _ _ (λ yes. unary_by_twin c o n p l) (λ no. twin_if w (between plus_plus_kind minus_minus_kind (kind (input lm (on o n (p ∷ (l ++ regexps w)))))) (between plus_plus_kind minus_minus_kind (kind (input lm (on o n (p ∷ (l ++ slashes w)))))) refl _ _ _ _ (λ yes. update_by_twin c o n p l) (λ no. literal_by_twin o n (p ∷ l))))))))
 
   pub member_name_twin : (may_private : Bool) (o : List ℕ) (n1 : ℕ) (l : List Place) → Twins w (member_name lm inner may_private (on o n1 ((l ++ regexps w)))) (member_name lm inner may_private (on o n1 ((l ++ slashes w))))
   unfolding member_name
@@ -362,7 +362,7 @@ module _ (w : Parting) (inner : Inner Input) (told : Told w inner) where
 
   pub expr_from_twin : (c : Code) (l : ℕ) (o : List ℕ) (n : ℕ) (l1 : List Place) → Twins w (expr_from lm inner c l (on o n ((l1 ++ regexps w)))) (expr_from lm inner c l (on o n ((l1 ++ slashes w))))
   unfolding expr_from
-  expr_from_twin c l o n l1 = twin_if w (at lm hash_kind (on o n ((l1 ++ regexps w)))) (at lm hash_kind (on o n ((l1 ++ slashes w)))) (same w (λ z. at lm hash_kind (on o n z)) refl refl (λ p. refl) (λ p. refl) (λ p q. refl) (λ p q. refl) (λ p q r l m n. refl) l1) _ _ _ _ (λ yes. private_in_twin c l o n l1) (λ no. twin_then w _ _ _ _ (prefix_by_twin c o n l1) (λ tv to tn tl. loop_by_twin c l o n l1 tv to tn tl))
+  expr_from_twin c l o n l1 = twin_if w (at lm hash_kind (on o n ((l1 ++ regexps w)))) (at lm hash_kind (on o n ((l1 ++ slashes w)))) (same w (λ z. at lm hash_kind (on o n z)) refl refl (λ p. refl) (λ p. refl) (λ p q. refl) (λ p q. refl) (λ p q r l m n. refl) l1) _ _ _ _ (λ yes. private_in_twin c l o n l1) (λ no. twin_then w _ _ _ _ (prefix_by_twin c l o n l1) (λ tv to tn tl. loop_by_twin c l o n l1 tv to tn tl))
 
   pub expr_by_twin : (c : Code) (l : ℕ) (o : List ℕ) (n : ℕ) (l1 : List Place) → Twins w (expr_by lm inner c l (on o n ((l1 ++ regexps w)))) (expr_by lm inner c l (on o n ((l1 ++ slashes w))))
   unfolding expr_by

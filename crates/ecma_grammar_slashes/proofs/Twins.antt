@@ -113,10 +113,10 @@ module _ (w : Parting) where
   off_deep true true true false g x y = refl
   off_deep true true true true g x y = off_left g x y
 
-  pub no_third : (a b d : Bool) → (a && (b && false && d)) ≡ true → ⊥
-  no_third true true d e = true≢false (sym e)
-  no_third true false d e = true≢false (sym e)
-  no_third false b d e = true≢false (sym e)
+  pub no_fourth : (a b d e : Bool) → (a && ((b && false && d) && e)) ≡ true → ⊥
+  no_fourth true true d e h = true≢false (sym h)
+  no_fourth true false d e h = true≢false (sym h)
+  no_fourth false b d e h = true≢false (sym h)
 
   pub cut : (P : List Place → Type 0) (l : List Place) → P [] → ((p : Place) (q : List Place) → P (p ∷ q)) → P l
   cut P [] a b = a

@@ -1,14 +1,14 @@
 -- Expressions (ECMA-262, clause 13): where their rules over two readers of nested parts agree.
 use Rattle.std.proofs.Common.{◌≡◌, ℕ, Bool, true, false, not, ◌&&◌, ◌||◌, ◌==◌, nat_le, nat_lt, if◌then◌else◌, List, [], ◌∷◌, ◌++◌, Option, Some, None, Result, Ok, refl, sym, ap, subst}
 use Rattle.ecma_token.specs.declared.place.Span.{Span}
-use Rattle.ecma_token.specs.Kinds.{arrow_kind, hash_kind, dot_kind, dot_dot_dot_kind, left_paren_kind, right_paren_kind, left_bracket_kind, right_bracket_kind, left_brace_kind, right_brace_kind, comma_kind, back_quote_kind, template_kind, colon_kind, dollar_brace_kind, question_mark_kind, regex_kind, mul_kind, assign_kind, null_kind, true_kind, false_kind, await_kind, function_kind, class_kind, new_kind, this_kind, super_kind, import_kind, yield_kind, in_kind, plus_plus_kind, minus_minus_kind, async_kind, get_kind, set_kind}
+use Rattle.ecma_token.specs.Kinds.{hash_kind, dot_kind, dot_dot_dot_kind, left_paren_kind, right_paren_kind, left_bracket_kind, right_bracket_kind, left_brace_kind, right_brace_kind, comma_kind, back_quote_kind, template_kind, colon_kind, dollar_brace_kind, question_mark_kind, regex_kind, mul_kind, assign_kind, null_kind, true_kind, false_kind, await_kind, function_kind, class_kind, new_kind, this_kind, super_kind, import_kind, yield_kind, in_kind, plus_plus_kind, minus_minus_kind, async_kind, get_kind, set_kind}
 use Rattle.ecma_tree.specs.Tree.{Tree, this_expr, ident, setter_prop, bool_lit, null_lit, binding_ident}
-use Rattle.ecma_syntax.specs.Input.{Code, kind, kind2, brk, brk2, lo, text, content, is_word, has_in, with_in, by, in_body, in_arrow, turned_strict, in_list}
+use Rattle.ecma_syntax.specs.Input.{Code, kind, kind2, brk, lo, text, content, is_word, has_in, with_in, by, in_body, in_arrow, turned_strict, in_list}
 use Rattle.ecma_syntax.specs.Operators.{expression_level, assignment_level, coalesce_level, unary_level, call_level, member_level, binary_level, right_level, is_assign_op, operates, goes_expr, between}
 use Rattle.ecma_syntax.specs.Shape.{level, ends, fits_left, is_chain}
 use Rattle.ecma_reading.specs.Source.{◌>>=◌, Machine, Stand, input, past, operand, bound, spanned, at, eat, eat_word, is_name, name, Inner}
 use Rattle.ecma_reading.specs.Cover.{to_target}
-use Rattle.ecma_reading.specs.Expressions.{first, literal_by, element_by, after_element, element_step, elements_by, array_by, computed_by, key_by, private_by, parameter_by, parameter_step, parameters_by, function_by, setter_parameter, is_accessor, is_async_head, star, method_prop_by, getter_by, setter_by, prop_rest, prop_by, prop_step, object_by, quasi, quasi_end, quasi_step, template_by, arrows, arrow_by, params_of, group_end, group_by, ident_end, arguments_by, async_group, function_expr_name, function_expr_by, async_by, class_expr_by, new_end, callee_by, new_by, super_end, import_by, unary_by, update_by, await_by, ends_yield, yield_end, yield_by, word_by, fixed, keyword_by, prefix_by, member_name, member_by, index_by, call_by, chain_by, cond_by, assign_by, binary_by, step_by, loop_step, loop_by, private_in, expr_from, expr_by, Elements, Spans, is_unary, no_elements}
+use Rattle.ecma_reading.specs.Expressions.{first, literal_by, element_by, after_element, element_step, elements_by, array_by, computed_by, key_by, private_by, parameter_by, parameter_step, parameters_by, function_by, setter_parameter, is_accessor, is_async_head, star, method_prop_by, getter_by, setter_by, prop_rest, prop_by, prop_step, object_by, quasi, quasi_end, quasi_step, template_by, arrows_at, heads_params, is_async_param, arrow_by, params_of, group_end, group_by, ident_end, arguments_by, async_group, function_expr_name, function_expr_by, async_by, class_expr_by, new_end, callee_by, new_by, super_end, import_by, unary_by, update_by, await_by, ends_yield, yield_end, yield_by, word_by, fixed, keyword_by, prefix_by, member_name, member_by, index_by, call_by, chain_by, cond_by, assign_by, binary_by, step_by, loop_step, loop_by, private_in, expr_from, expr_by, Elements, Spans, is_unary, no_elements}
 use Rattle.ecma_grammar_steady.proofs.Agrees.{Agrees, agree_same, agree_equal, agree_then, agree_after, agree_if, agree_by, agree_iterate, Steady, same_rest, same_pattern, same_quasi}
 
 module _ {S : Type 0} (m : Machine S) (few many : Inner S) (same : Steady few many) where
@@ -120,25 +120,25 @@ module _ {S : Type 0} (m : Machine S) (few many : Inner S) (same : Steady few ma
   unfolding params_of
   params_of_steady commas xs = agree_same _
 
-  pub group_end_steady : (c : Code) (start : Stand S) (open_ : Stand S) (xs : Elements) (s : Stand S) → Agrees (group_end m few c start open_ xs s) (group_end m many c start open_ xs s)
-  unfolding group_end
-  group_end_steady c start open_ xs s = agree_if (arrows m few s) _ _ _ _ (agree_then _ _ _ _ (params_of_steady s.commas xs) (λ ps. arrow_by_steady c start false ps s)) (agree_same _)
+  pub group_end_steady : (c : Code) (l : ℕ) (start : Stand S) (open_ : Stand S) (xs : Elements) (s : Stand S) → Agrees (group_end m few c l start open_ xs s) (group_end m many c l start open_ xs s)
+  unfolding group_end params_of
+  group_end_steady c l start open_ xs s = agree_if (heads_params m few l xs s) _ _ _ _ (agree_then _ _ _ _ (params_of_steady s.commas xs) (λ ps. arrow_by_steady c start false ps s)) (agree_same _)
 
-  pub group_by_steady : (c : Code) (s : Stand S) → Agrees (group_by m few c s) (group_by m many c s)
+  pub group_by_steady : (c : Code) (l : ℕ) (s : Stand S) → Agrees (group_by m few c l s) (group_by m many c l s)
   unfolding group_by
-  group_by_steady c s = agree_then _ _ _ _ (elements_by_steady (with_in c) false right_paren_kind (past m s)) (λ xs. group_end_steady c s (past m s) xs.0 xs.1)
+  group_by_steady c l s = agree_then _ _ _ _ (elements_by_steady (with_in c) false right_paren_kind (past m s)) (λ xs. group_end_steady c l s (past m s) xs.0 xs.1)
 
-  pub ident_end_steady : (c : Code) (start : Stand S) (n : List ℕ) (s : Stand S) → Agrees (ident_end m few c start n s) (ident_end m many c start n s)
+  pub ident_end_steady : (c : Code) (l : ℕ) (start : Stand S) (n : List ℕ) (s : Stand S) → Agrees (ident_end m few c l start n s) (ident_end m many c l start n s)
   unfolding ident_end
-  ident_end_steady c start n s = agree_if (arrows m few s) _ _ _ _ (arrow_by_steady c start false (binding_ident (first m few start) (ident (first m few start) n) ∷ []) s) (agree_same _)
+  ident_end_steady c l start n s = agree_if (arrows_at m few l s) _ _ _ _ (arrow_by_steady c start false (binding_ident (first m few start) (ident (first m few start) n) ∷ []) s) (agree_same _)
 
   pub arguments_by_steady : (c : Code) (s : Stand S) → Agrees (arguments_by m few c s) (arguments_by m many c s)
   unfolding arguments_by
   arguments_by_steady c s = agree_then _ _ _ _ (elements_by_steady c false right_paren_kind s) (λ xs. agree_same _)
 
-  pub async_group_steady : (c : Code) (start : Stand S) (s : Stand S) → Agrees (async_group m few c start s) (async_group m many c start s)
-  unfolding async_group
-  async_group_steady c start s = agree_then _ _ _ _ (elements_by_steady (with_in c) false right_paren_kind (past m s)) (λ xs. agree_if (arrows m few xs.1 && not (brk (input m s))) _ _ _ _ (agree_then _ _ _ _ (params_of_steady xs.1.commas xs.0) (λ ps. arrow_by_steady c start true ps xs.1)) (agree_same _))
+  pub async_group_steady : (c : Code) (l : ℕ) (start : Stand S) (s : Stand S) → Agrees (async_group m few c l start s) (async_group m many c l start s)
+  unfolding async_group params_of
+  async_group_steady c l start s = agree_then _ _ _ _ (elements_by_steady (with_in c) false right_paren_kind (past m s)) (λ xs. agree_if (heads_params m few l xs.0 xs.1 && not (brk (input m s))) _ _ _ _ (agree_then _ _ _ _ (params_of_steady xs.1.commas xs.0) (λ ps. arrow_by_steady c start true ps xs.1)) (agree_same _))
 
   pub function_expr_name_steady : (c : Code) (start : Stand S) (generator : Bool) (async : Bool) (s : Stand S) → Agrees (function_expr_name m few c start generator async s) (function_expr_name m many c start generator async s)
   unfolding function_expr_name
@@ -148,9 +148,9 @@ module _ {S : Type 0} (m : Machine S) (few many : Inner S) (same : Steady few ma
   unfolding function_expr_by
   function_expr_by_steady c start async s = agree_after (eat_word m c function_kind s) _ _ (λ r. agree_then _ _ _ _ (star_steady r) (λ g. function_expr_name_steady c start g.0 async g.1))
 
-  pub async_by_steady : (c : Code) (s : Stand S) → Agrees (async_by m few c s) (async_by m many c s)
+  pub async_by_steady : (c : Code) (l : ℕ) (s : Stand S) → Agrees (async_by m few c l s) (async_by m many c l s)
   unfolding async_by
-  async_by_steady c s = agree_if (at m function_kind (past m s) && not (brk (input m (past m s)))) _ _ _ _ (function_expr_by_steady c s true (past m s)) (agree_if (is_name m c (past m s) && (not (brk (input m (past m s))) && (kind2 (input m (past m s)) == arrow_kind) && not (brk2 (input m (past m s))))) _ _ _ _ (agree_after (name m c (past m s)) _ _ (λ n. arrow_by_steady c s true (binding_ident (first m few (past m s)) (ident (first m few (past m s)) n.0) ∷ []) n.1)) (agree_if (at m left_paren_kind (past m s) && not (brk (input m (past m s)))) _ _ _ _ (async_group_steady c s (past m s)) (ident_end_steady c s (text (input m s)) (past m s))))
+  async_by_steady c l s = agree_if (at m function_kind (past m s) && not (brk (input m (past m s)))) _ _ _ _ (function_expr_by_steady c s true (past m s)) (agree_if (is_async_param m few c l (past m s)) _ _ _ _ (agree_after (name m c (past m s)) _ _ (λ n. arrow_by_steady c s true (binding_ident (first m few (past m s)) (ident (first m few (past m s)) n.0) ∷ []) n.1)) (agree_if (at m left_paren_kind (past m s) && not (brk (input m (past m s)))) _ _ _ _ (async_group_steady c l s (past m s)) (ident_end_steady c l s (text (input m s)) (past m s))))
 
   pub class_expr_by_steady : (c : Code) (s : Stand S) → Agrees (class_expr_by m few c s) (class_expr_by m many c s)
   unfolding class_expr_by
@@ -194,22 +194,22 @@ module _ {S : Type 0} (m : Machine S) (few many : Inner S) (same : Steady few ma
 
   pub yield_by_steady : (c : Code) (s : Stand S) → Agrees (yield_by m few c s) (yield_by m many c s)
   unfolding yield_by
-  yield_by_steady c s = agree_after (eat_word m c yield_kind s) _ _ (λ r. yield_end_steady c s (operand m r))
+  yield_by_steady c s = agree_after (eat_word m c yield_kind s) _ _ (λ r. yield_end_steady c s r)
 
-  pub word_by_steady : (c : Code) (s : Stand S) → Agrees (word_by m few c s) (word_by m many c s)
+  pub word_by_steady : (c : Code) (l : ℕ) (s : Stand S) → Agrees (word_by m few c l s) (word_by m many c l s)
   unfolding word_by
-  word_by_steady c s = agree_if (at m async_kind s) _ _ _ _ (async_by_steady c s) (agree_after (name m c s) _ _ (λ n. ident_end_steady c s n.0 n.1))
+  word_by_steady c l s = agree_if (at m async_kind s) _ _ _ _ (async_by_steady c l s) (agree_after (name m c s) _ _ (λ n. ident_end_steady c l s n.0 n.1))
 
   pub fixed_steady : (c : Code) (f : (Span → Tree)) (s : Stand S) → Agrees (fixed m few c f s) (fixed m many c f s)
   fixed_steady c f s = agree_same _
 
-  pub keyword_by_steady : (c : Code) (s : Stand S) → Agrees (keyword_by m few c s) (keyword_by m many c s)
+  pub keyword_by_steady : (c : Code) (l : ℕ) (s : Stand S) → Agrees (keyword_by m few c l s) (keyword_by m many c l s)
   unfolding keyword_by
-  keyword_by_steady c s = agree_if (at m this_kind s) _ _ _ _ (fixed_steady c this_expr s) (agree_if (at m null_kind s) _ _ _ _ (fixed_steady c null_lit s) (agree_if (at m true_kind s) _ _ _ _ (fixed_steady c (λ p. bool_lit p true) s) (agree_if (at m false_kind s) _ _ _ _ (fixed_steady c (λ p. bool_lit p false) s) (agree_if (at m function_kind s) _ _ _ _ (function_expr_by_steady c s false s) (agree_if (at m class_kind s) _ _ _ _ (class_expr_by_steady c s) (agree_if (at m new_kind s) _ _ _ _ (new_by_steady c s) (agree_if (at m super_kind s) _ _ _ _ (agree_after (eat_word m c super_kind s) _ _ (λ r. super_end_steady c s r)) (agree_if (at m import_kind s) _ _ _ _ (import_by_steady c s) (agree_if (is_unary (kind (input m s))) _ _ _ _ (unary_by_steady c s) (agree_if (at m await_kind s && c.context.in_async) _ _ _ _ (await_by_steady c s) (agree_if (at m yield_kind s && c.context.in_generator) _ _ _ _ (yield_by_steady c s) (word_by_steady c s))))))))))))
+  keyword_by_steady c l s = agree_if (at m this_kind s) _ _ _ _ (fixed_steady c this_expr s) (agree_if (at m null_kind s) _ _ _ _ (fixed_steady c null_lit s) (agree_if (at m true_kind s) _ _ _ _ (fixed_steady c (λ p. bool_lit p true) s) (agree_if (at m false_kind s) _ _ _ _ (fixed_steady c (λ p. bool_lit p false) s) (agree_if (at m function_kind s) _ _ _ _ (function_expr_by_steady c s false s) (agree_if (at m class_kind s) _ _ _ _ (class_expr_by_steady c s) (agree_if (at m new_kind s) _ _ _ _ (new_by_steady c s) (agree_if (at m super_kind s) _ _ _ _ (agree_after (eat_word m c super_kind s) _ _ (λ r. super_end_steady c s r)) (agree_if (at m import_kind s) _ _ _ _ (import_by_steady c s) (agree_if (is_unary (kind (input m s))) _ _ _ _ (unary_by_steady c s) (agree_if (at m await_kind s && c.context.in_async) _ _ _ _ (await_by_steady c s) (agree_if (at m yield_kind s && c.context.in_generator) _ _ _ _ (yield_by_steady c s) (word_by_steady c l s))))))))))))
 
-  pub prefix_by_steady : (c : Code) (s : Stand S) → Agrees (prefix_by m few c s) (prefix_by m many c s)
+  pub prefix_by_steady : (c : Code) (l : ℕ) (s : Stand S) → Agrees (prefix_by m few c l s) (prefix_by m many c l s)
   unfolding prefix_by
-  prefix_by_steady c s = agree_if (is_word (kind (input m s))) _ _ _ _ (keyword_by_steady c s) (agree_if (at m left_paren_kind s) _ _ _ _ (group_by_steady c s) (agree_if (at m left_bracket_kind s) _ _ _ _ (array_by_steady c s) (agree_if (at m left_brace_kind s) _ _ _ _ (object_by_steady c s) (agree_if (at m back_quote_kind s) _ _ _ _ (template_by_steady c false s) (agree_if (is_unary (kind (input m s))) _ _ _ _ (unary_by_steady c s) (agree_if (between plus_plus_kind minus_minus_kind (kind (input m s))) _ _ _ _ (update_by_steady c s) (literal_by_steady s)))))))
+  prefix_by_steady c l s = agree_if (is_word (kind (input m s))) _ _ _ _ (keyword_by_steady c l s) (agree_if (at m left_paren_kind s) _ _ _ _ (group_by_steady c l s) (agree_if (at m left_bracket_kind s) _ _ _ _ (array_by_steady c s) (agree_if (at m left_brace_kind s) _ _ _ _ (object_by_steady c s) (agree_if (at m back_quote_kind s) _ _ _ _ (template_by_steady c false s) (agree_if (is_unary (kind (input m s))) _ _ _ _ (unary_by_steady c s) (agree_if (between plus_plus_kind minus_minus_kind (kind (input m s))) _ _ _ _ (update_by_steady c s) (literal_by_steady s)))))))
 
   pub member_name_steady : (may_private : Bool) (s : Stand S) → Agrees (member_name m few may_private s) (member_name m many may_private s)
   unfolding member_name
@@ -261,7 +261,7 @@ module _ {S : Type 0} (m : Machine S) (few many : Inner S) (same : Steady few ma
 
   pub expr_from_steady : (c : Code) (l : ℕ) (s : Stand S) → Agrees (expr_from m few c l s) (expr_from m many c l s)
   unfolding expr_from
-  expr_from_steady c l s = agree_if (at m hash_kind s) _ _ _ _ (private_in_steady c l s) (agree_then _ _ _ _ (prefix_by_steady c s) (λ t. loop_by_steady c l s t.0 t.1))
+  expr_from_steady c l s = agree_if (at m hash_kind s) _ _ _ _ (private_in_steady c l s) (agree_then _ _ _ _ (prefix_by_steady c l s) (λ t. loop_by_steady c l s t.0 t.1))
 
   pub expr_by_steady : (c : Code) (l : ℕ) (s : Stand S) → Agrees (expr_by m few c l s) (expr_by m many c l s)
   unfolding expr_by

@@ -23,21 +23,21 @@ use Rattle.ecma_grammar_complete_parts.proofs.Starts.{ident_is}
 use Rattle.ecma_grammar_complete_parts.proofs.Functions.{key_found, function_found, function_expressed, star_found, setter_found}
 use Rattle.ecma_grammar_complete_modules.proofs.Passed.{absent_is}
 
-module _ (inner : Inner Input) (c : Code) (ts : Input) (k : List ℕ) (V : Tree × Stand Input → Type 0) (Q : Type 0) where
-  at_function : kind ts ≡ function_kind → Reads (from ts k) (function_expr_by lm inner c (from ts k) false (from ts k)) V Q → Reads (from ts k) (prefix_by lm inner c (from ts k)) V Q
+module _ (inner : Inner Input) (c : Code) (lev : ℕ) (ts : Input) (k : List ℕ) (V : Tree × Stand Input → Type 0) (Q : Type 0) where
+  at_function : kind ts ≡ function_kind → Reads (from ts k) (function_expr_by lm inner c (from ts k) false (from ts k)) V Q → Reads (from ts k) (prefix_by lm inner c lev (from ts k)) V Q
   unfolding prefix_by keyword_by
   at_function e y = rw e y
 
-  at_class : kind ts ≡ class_kind → Reads (from ts k) (class_expr_by lm inner c (from ts k)) V Q → Reads (from ts k) (prefix_by lm inner c (from ts k)) V Q
+  at_class : kind ts ≡ class_kind → Reads (from ts k) (class_expr_by lm inner c (from ts k)) V Q → Reads (from ts k) (prefix_by lm inner c lev (from ts k)) V Q
   unfolding prefix_by keyword_by
   at_class e y = rw e y
 
   async_name : kind ts ≡ async_kind → barred c.context ts ≡ false → IsName c ts
   async_name e b = (subst (λ (x : ℕ). is_word x ≡ true) (sym e) refl, subst (λ (x : ℕ). no_name c.context x ≡ false) (sym e) refl, b)
 
-  at_async : kind ts ≡ async_kind → barred c.context ts ≡ false → kind (rest ts) ≡ function_kind → brk (rest ts) ≡ false → Reads (from ts k) (function_expr_by lm inner c (from ts k) true (from (rest ts) k)) V Q → Reads (from ts k) (prefix_by lm inner c (from ts k)) V Q
+  at_async : kind ts ≡ async_kind → barred c.context ts ≡ false → kind (rest ts) ≡ function_kind → brk (rest ts) ≡ false → Reads (from ts k) (function_expr_by lm inner c (from ts k) true (from (rest ts) k)) V Q → Reads (from ts k) (prefix_by lm inner c lev (from ts k)) V Q
   unfolding word_by async_by
-  at_async e b f n y = named_word inner c ts k V Q (async_name e b) (if_yes (eqb (kind ts) async_kind) _ _ V Q (eq-eqb (kind ts) async_kind e)
+  at_async e b f n y = named_word inner c lev ts k V Q (async_name e b) (if_yes (eqb (kind ts) async_kind) _ _ V Q (eq-eqb (kind ts) async_kind e)
       (if_yes ((kind (rest ts) == function_kind) && not (brk (rest ts))) _ _ V Q (and_from (kind (rest ts) == function_kind) _ (eq-eqb (kind (rest ts)) function_kind f) (ap not n)) y))
 
 -- a key starts as a member's
@@ -71,12 +71,12 @@ some_none x e = subst IsSome e tt
 module _ (z : Nested) (p : Bool) (c : Code) (ts : Input) (k : List ℕ) (r : Input) where
   -- ---- functions
 
-  pub function_read : (s : Span) (x f : Tree) → Within z.Covered (fn_expr s x f) → Spells (fn_expr s x f) (coded p c) ts r → Reads (from ts k) (prefix_by lm z.inner c (from ts k)) (Is (fn_expr s x f) r) (z.depth < within z.reach (fn_expr s x f))
-  function_read s x (function t ps ds b g false) w h = let y = function_expressed z p c s x t ps ds b g false ts r k w h in
-      at_function z.inner c ts k _ _ (ap (λ (d : Input). kind d) y.1 ∙ y.2) (subst (λ (d : Input). Reads (from d k) (function_expr_by lm z.inner c (from ts k) false (from d k)) (Is (fn_expr s x (function t ps ds b g false)) r) (z.depth < within z.reach (function t ps ds b g false))) (sym y.1) (y.3 k))
-  function_read s x (function t ps ds b g true) w h = let y = function_expressed z p c s x t ps ds b g true ts r k w h in
-      at_async z.inner c ts k _ _ y.1.0.0 y.1.0.1 (ap (λ (d : Input). kind d) y.1.0.3 ∙ y.2) (ap (λ (d : Input). brk d) y.1.0.3 ∙ y.1.1) (onto ts y.0 k (λ d. function_expr_by lm z.inner c (from ts k) true d) _ _ y.1.0.3 (y.3 k))
-  function_read s x _ w h = absurd h
+  pub function_read : (lev : ℕ) (s : Span) (x f : Tree) → Within z.Covered (fn_expr s x f) → Spells (fn_expr s x f) (coded p c) ts r → Reads (from ts k) (prefix_by lm z.inner c lev (from ts k)) (Is (fn_expr s x f) r) (z.depth < within z.reach (fn_expr s x f))
+  function_read lev s x (function t ps ds b g false) w h = let y = function_expressed z p c s x t ps ds b g false ts r k w h in
+      at_function z.inner c lev ts k _ _ (ap (λ (d : Input). kind d) y.1 ∙ y.2) (subst (λ (d : Input). Reads (from d k) (function_expr_by lm z.inner c (from ts k) false (from d k)) (Is (fn_expr s x (function t ps ds b g false)) r) (z.depth < within z.reach (function t ps ds b g false))) (sym y.1) (y.3 k))
+  function_read lev s x (function t ps ds b g true) w h = let y = function_expressed z p c s x t ps ds b g true ts r k w h in
+      at_async z.inner c lev ts k _ _ y.1.0.0 y.1.0.1 (ap (λ (d : Input). kind d) y.1.0.3 ∙ y.2) (ap (λ (d : Input). brk d) y.1.0.3 ∙ y.1.1) (onto ts y.0 k (λ d. function_expr_by lm z.inner c (from ts k) true d) _ _ y.1.0.3 (y.3 k))
+  function_read lev s x _ w h = absurd h
 
   -- ---- classes
 
@@ -99,8 +99,8 @@ module _ (z : Nested) (p : Bool) (c : Code) (ts : Input) (k : List ℕ) (r : Inp
       (then_name (turned_strict c) m n q.0 k _ _ _ q.2 q.3 q.4 (then_is (z.inner.class_tail (turned_strict (with_in c)) (lo ts) (from n k)) _ t r (z.depth < z.reach t) _ _ (z.class_tail t (lo ts) p (turned_strict (with_in c)) n r k g refl (o ∙ ap Some e) h) (λ u. u)
       (λ j. here (ap (λ (d : Span). class_expr d (ident (first_span m) q.0) t) (sym e) ∙ ap (λ (d : Tree). class_expr s d t) (sym q.1))))))
 
-  pub class_read : (s : Span) (x t : Tree) → z.Covered t → Spells (class_expr s x t) (coded p c) ts r → Reads (from ts k) (prefix_by lm z.inner c (from ts k)) (Is (class_expr s x t) r) (z.depth < z.reach t)
-  class_read s x t g h = at_class z.inner c ts k _ _ h.2.0 (by_cases (is_absent x) _ _ _ h.3
+  pub class_read : (lev : ℕ) (s : Span) (x t : Tree) → z.Covered t → Spells (class_expr s x t) (coded p c) ts r → Reads (from ts k) (prefix_by lm z.inner c lev (from ts k)) (Is (class_expr s x t) r) (z.depth < z.reach t)
+  class_read lev s x t g h = at_class z.inner c lev ts k _ _ h.2.0 (by_cases (is_absent x) _ _ _ h.3
       (λ q y. subst (λ (d : Tree). Reads (from ts k) (class_expr_by lm z.inner c (from ts k)) (Is (class_expr s d t) r) (z.depth < z.reach t)) (sym (absent_is x q))
       (unnamed_class s t h.0 g h.2 (subst (λ (d : Input). Spells t (coded p (turned_strict (with_in c))) d r) (sym y) h.4) h.5 h.6))
       (λ q y. named_class s x t h.0 h.1 g h.2 y.0 y.1 h.4 h.5 h.6))

@@ -82,8 +82,8 @@ nested z d f = record { inner = readers lm d; depth = d; Covered = Small z; reac
 -- what is nested in functions, classes and methods
 deep_of : (z d : ℕ) → Facts z d → Deep z d
 deep_of z d f = record {
-  functions = λ s n g p c ts r k sz h. reads_deep (λ u. omega (arith, u, called_reach (fn_expr s n g) refl)) (function_read (nested z d f) p c ts k r s n g (inward z (fn_expr s n g) sz) h);
-  classes = λ s n t p c ts r k sz h. reads_deep (λ u. omega (arith, u)) (class_read (nested z d f) p c ts k r s n t (omega (arith, sz)) h);
+  functions = λ s n g p c l ts r k sz h. reads_deep (λ u. omega (arith, u, called_reach (fn_expr s n g) refl)) (function_read (nested z d f) p c ts k r l s n g (inward z (fn_expr s n g) sz) h);
+  classes = λ s n t p c l ts r k sz h. reads_deep (λ u. omega (arith, u)) (class_read (nested z d f) p c ts k r l s n t (omega (arith, sz)) h);
   bodies = λ s ss p c ts r k sz h. f.body s ss p c ts r k sz h;
   methods = λ t p c ts r k i sz h. reads_deep (λ u. omega (arith, u, within_reach t)) (method_read (nested z d f) p c ts k r t i (inward z t (omega (arith, sz))) h);
 }

@@ -1,10 +1,10 @@
 -- Elements without dots, from left to right.
-use Rattle.std.proofs.Common.{◌≡◌, ℕ, ◌<◌, List, [], ◌∷◌, ◌++◌, map, length, Option, None, Some, Result, Ok, Err, refl, arith, ap, sym, ◌∙◌, append_assoc}
+use Rattle.std.proofs.Common.{◌≡◌, ℕ, ◌<◌, List, [], ◌∷◌, ◌++◌, map, length, Option, None, Some, Ok, refl, arith, ap, sym, ◌∙◌, append_assoc}
 use Rattle.std.proofs.lemmas.List.{append-nil}
 use Rattle.ecma_token.specs.declared.place.Span.{Span}
 use Rattle.ecma_tree.specs.Tree.{Tree, pack, trees_by, more, seq_expr}
 use Rattle.ecma_tree.specs.Places.{place_of}
-use Rattle.ecma_reading.specs.Source.{Fault, unexpected, ◌>>=◌}
+use Rattle.ecma_reading.specs.Source.{unexpected, ◌>>=◌}
 use Rattle.ecma_reading.specs.Expressions.{joined, last_end, plain_element, plain_elements}
 use Rattle.ecma_parse_arrows.specs.Groups.{found, group_tree, grouped, joined_or_none, plain_from, plain_list}
 

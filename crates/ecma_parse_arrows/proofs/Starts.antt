@@ -5,7 +5,7 @@ use Rattle.ecma_tokens.specs.Machine as tokens
 use Rattle.ecma_tree.specs.Tree.{Tree, paren_expr}
 use Rattle.ecma_syntax.specs.Input.{Code, lo, hi, first_span, span, text}
 use Rattle.ecma_reading.specs.Source.{Fault, unexpected, ◌>>=◌, Machine, Stand, Inner, input, past, spanned}
-use Rattle.ecma_reading.specs.Expressions.{Elements, arrow_by, arrows, joined, last_end, params_of, plain_elements, async_by, async_group, function_expr_by, function_expr_name, group_end, ident_end}
+use Rattle.ecma_reading.specs.Expressions.{Elements, arrow_by, heads_params, joined, last_end, params_of, plain_elements, async_by, async_group, function_expr_by, function_expr_name, group_end, ident_end}
 use Rattle.ecma_parse_state.specs.Fronts.{Front, machine_of}
 use Rattle.ecma_parse_state.specs.Stands.{from, from_span}
 use Rattle.ecma_parse_state.proofs.Marks.{lo_from, lo_from_span, first_from_span}
@@ -17,9 +17,9 @@ module _ {S : Type 0} (m : Machine S) (inner : Inner S) (c : Code) (a b : Stand 
   unfolding arrow_by
   arrow_same e i ps r = rw e refl
 
-  ident_same : lo (input m a) ≡ lo (input m b) → hi (input m a) ≡ hi (input m b) → (n : List ℕ) (r : Stand S) → ident_end m inner c a n r ≡ ident_end m inner c b n r
+  ident_same : lo (input m a) ≡ lo (input m b) → hi (input m a) ≡ hi (input m b) → (l : ℕ) (n : List ℕ) (r : Stand S) → ident_end m inner c l a n r ≡ ident_end m inner c l b n r
   unfolding ident_end arrow_by
-  ident_same e f n r = rw (e, f) refl
+  ident_same e f l n r = rw (e, f) refl
 
   function_same : lo (input m a) ≡ lo (input m b) → (g i : Bool) (r : Stand S) → function_expr_name m inner c a g i r ≡ function_expr_name m inner c b g i r
   unfolding function_expr_name
@@ -29,14 +29,14 @@ module _ {S : Type 0} (m : Machine S) (inner : Inner S) (c : Code) (a b : Stand 
   unfolding function_expr_by function_expr_name
   function_expr_same e i r = rw e refl
 
-  rest_same : (k : ℕ) → lo (input m a) ≡ lo (input m b) → (xs : Elements) (r : Stand S) → group_rest m inner c a k xs r ≡ group_rest m inner c b k xs r
+  rest_same : (l k : ℕ) → lo (input m a) ≡ lo (input m b) → (xs : Elements) (r : Stand S) → group_rest m inner c l a k xs r ≡ group_rest m inner c l b k xs r
   unfolding group_rest arrow_by
-  rest_same k e xs r = rw e refl
+  rest_same l k e xs r = rw e refl
 
-  group_is : (o : Stand S) (xs : Elements) (r : Stand S) → group_end m inner c a o xs r ≡ group_rest m inner c a (lo (input m o)) xs r
+  group_is : (l : ℕ) (o : Stand S) (xs : Elements) (r : Stand S) → group_end m inner c l a o xs r ≡ group_rest m inner c l a (lo (input m o)) xs r
   unfolding group_end group_rest group_tree
-  group_is o xs r =
-      ap (λ (t : Result (Tree × Stand S) Fault). if arrows m inner r then (params_of m inner r.commas xs >>= λ ps. arrow_by m inner c a false ps r) else (if xs.comma then unexpected else t)) (go (plain_elements xs.items))
+  group_is l o xs r =
+      ap (λ (t : Result (Tree × Stand S) Fault). if heads_params m inner l xs r then (params_of m inner r.commas xs >>= λ ps. arrow_by m inner c a false ps r) else (if xs.comma then unexpected else t)) (go (plain_elements xs.items))
     where
       go : (es : Option (List Tree)) → elim es [
         | None ↦ unexpected
@@ -47,9 +47,9 @@ module _ {S : Type 0} (m : Machine S) (inner : Inner S) (c : Code) (a b : Stand 
       go (Some []) = refl
       go (Some (e ∷ es)) = refl
 
-  async_same : lo (input m a) ≡ lo (input m b) → hi (input m a) ≡ hi (input m b) → (n : List ℕ) (r : Stand S) → async_end m inner c a n r ≡ async_end m inner c b n r
+  async_same : lo (input m a) ≡ lo (input m b) → hi (input m a) ≡ hi (input m b) → (l : ℕ) (n : List ℕ) (r : Stand S) → async_end m inner c l a n r ≡ async_end m inner c l b n r
   unfolding async_end async_arrow async_call ident_end arrow_by function_expr_by function_expr_name
-  async_same e f n r = rw (e, f) refl
+  async_same e f l n r = rw (e, f) refl
 
 module _ {S : Type 0} (m : tokens.Machine S) (inner : Inner (Front S)) (c : Code) where
   -- from a mark that was made there
@@ -65,17 +65,17 @@ module _ {S : Type 0} (m : tokens.Machine S) (inner : Inner (Front S)) (c : Code
   pub function_from_span : (s : Span) (i : Bool) (r : Stand (Front S)) → function_expr_by (machine_of m) inner c (from_span s) i r ≡ function_expr_by (machine_of m) inner c (from s.lo.0) i r
   function_from_span s i r = function_from (from_span s) s.lo.0 (sym (lo_from_span m s)) i r
 
-  pub group_from : (a o : Stand (Front S)) (n k : ℕ) → n ≡ lo (input (machine_of m) a) → k ≡ lo (input (machine_of m) o) → (xs : Elements) (r : Stand (Front S)) → group_end (machine_of m) inner c a o xs r ≡ group_rest (machine_of m) inner c (from n) k xs r
-  group_from a o n k e f xs r =
-      group_is (machine_of m) inner c a (from n) o xs r ∙ ap (λ (j : ℕ). group_rest (machine_of m) inner c a j xs r) (sym f)
-      ∙ rest_same (machine_of m) inner c a (from n) k (sym e ∙ sym (lo_from m n)) xs r
+  pub group_from : (l : ℕ) (a o : Stand (Front S)) (n k : ℕ) → n ≡ lo (input (machine_of m) a) → k ≡ lo (input (machine_of m) o) → (xs : Elements) (r : Stand (Front S)) → group_end (machine_of m) inner c l a o xs r ≡ group_rest (machine_of m) inner c l (from n) k xs r
+  group_from l a o n k e f xs r =
+      group_is (machine_of m) inner c a (from n) l o xs r ∙ ap (λ (j : ℕ). group_rest (machine_of m) inner c l a j xs r) (sym f)
+      ∙ rest_same (machine_of m) inner c a (from n) l k (sym e ∙ sym (lo_from m n)) xs r
 
-  pub ident_from : (a : Stand (Front S)) (s : Span) → s ≡ first_span (input (machine_of m) a) → (n : List ℕ) (r : Stand (Front S)) → ident_end (machine_of m) inner c a n r ≡ ident_end (machine_of m) inner c (from_span s) n r
-  ident_from a s e n r = let f = sym e ∙ sym (first_from_span m s) in ident_same (machine_of m) inner c a (from_span s) (ap (λ (s : Span). s.lo.0) f) (ap (λ (s : Span). s.hi.0) f) n r
+  pub ident_from : (a : Stand (Front S)) (s : Span) → s ≡ first_span (input (machine_of m) a) → (l : ℕ) (n : List ℕ) (r : Stand (Front S)) → ident_end (machine_of m) inner c l a n r ≡ ident_end (machine_of m) inner c l (from_span s) n r
+  ident_from a s e l n r = let f = sym e ∙ sym (first_from_span m s) in ident_same (machine_of m) inner c a (from_span s) (ap (λ (s : Span). s.lo.0) f) (ap (λ (s : Span). s.hi.0) f) l n r
 
   -- the word `async`, and what follows it
-  pub async_is : (s : Stand (Front S)) (place : Span) → place ≡ first_span (input (machine_of m) s) → async_by (machine_of m) inner c s ≡ async_end (machine_of m) inner c (from_span place) (text (input (machine_of m) s)) (past (machine_of m) s)
+  pub async_is : (l : ℕ) (s : Stand (Front S)) (place : Span) → place ≡ first_span (input (machine_of m) s) → async_by (machine_of m) inner c l s ≡ async_end (machine_of m) inner c l (from_span place) (text (input (machine_of m) s)) (past (machine_of m) s)
   unfolding async_by async_end async_arrow async_group async_call
-  async_is s place e = let f = sym e ∙ sym (first_from_span m place) in async_same (machine_of m) inner c s (from_span place) (ap (λ (s : Span). s.lo.0) f) (ap (λ (s : Span). s.hi.0) f) (text (input (machine_of m) s)) (past (machine_of m) s)
+  async_is l s place e = let f = sym e ∙ sym (first_from_span m place) in async_same (machine_of m) inner c s (from_span place) (ap (λ (s : Span). s.lo.0) f) (ap (λ (s : Span). s.hi.0) f) l (text (input (machine_of m) s)) (past (machine_of m) s)
 
 pub ruleset starts = (arrow_from_span, function_from_span)

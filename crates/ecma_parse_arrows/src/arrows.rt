@@ -19,11 +19,15 @@ use ecma_parse_state::{Around, Failure, Parser, kinds};
 use ecma_token::{BytePos, Span};
 use ecma_tokens::Tokens;
 
-/// Whether `=>` comes, on the line of what stands before it.
-pub fn is_arrow<'a, I: Tokens<'a> + Drop, N: Nested<'a, I>>(p: &Parser<'a, I>, _nested: &N) -> bool
-    ensures { result ≡ reads.arrows (machine_of I.machine) (N.reads _nested.now I.State I.machine) (stand I.state p.now) }
+/// Whether `=>` comes, on the line of what stands before it, where an expression of this level may be an arrow.
+pub fn is_arrow<'a, I: Tokens<'a> + Drop, N: Nested<'a, I>>(
+    p: &Parser<'a, I>,
+    _nested: &N,
+    level: u8,
+) -> bool
+    ensures { result ≡ reads.arrows_at (machine_of I.machine) (N.reads _nested.now I.State I.machine) level (stand I.state p.now) }
 {
-    p.at(kinds::ARROW) && !p.breaks()
+    p.at(kinds::ARROW) && !p.breaks() && level <= ASSIGNMENT
 }
 
 /// An arrow and its body.
@@ -58,14 +62,15 @@ pub fn ident_end<'a, I: Tokens<'a> + Drop, N: Nested<'a, I>>(
     p: &mut Parser<'a, I>,
     nested: &N,
     code: Around,
+    level: u8,
     place: Span,
     sym: Atom,
 ) -> Result<Operand, Failure>
     requires ready { N.ready nested.now }
-    ensures value { Gives (λ x. (tree_of x, stand I.state p.new)) result (reads.ident_end (machine_of I.machine) (N.reads nested.now I.State I.machine) (code_of code) (from_span place) sym (stand I.state p.old)) }
+    ensures value { Gives (λ x. (tree_of x, stand I.state p.new)) result (reads.ident_end (machine_of I.machine) (N.reads nested.now I.State I.machine) (code_of code) level (from_span place) sym (stand I.state p.old)) }
     ensures not_longer { IfOk result (λ _. spec.bound (machine_of I.machine) (stand I.state p.new) ≤ spec.bound (machine_of I.machine) (stand I.state p.old)) }
 {
-    if is_arrow(p, nested) {
+    if is_arrow(p, nested, level) {
         let params = made::one_param(p.alloc, place, sym)?;
         return arrow(p, nested, code, place.lo, false, params);
     }

@@ -8,8 +8,9 @@ ghost use Rattle.ecma_parse_state.specs.Codes.{code_of};
 ghost use Rattle.ecma_parse_state.specs.Fronts.{machine_of};
 ghost use Rattle.ecma_parse_state.specs.Stands.{from_span, stand};
 ghost use Rattle.ecma_parse_base.specs.Operands.{tree_of};
-ghost use Rattle.std.specs.Prelude.{not, ◌&&◌, ◌==◌, IfErr};
+ghost use Rattle.std.specs.Prelude.{not, ◌&&◌, ◌==◌, nat_le, IfErr};
 ghost use Rattle.ecma_syntax.specs.Input.{brk2};
+ghost use Rattle.ecma_syntax.specs.Operators.{assignment_level};
 ghost use Rattle.ecma_token.specs.Kinds.{arrow_kind, async_kind};
 ghost use Rattle.ecma_parse_state.specs.Answers.{IsMemory};
 ghost use Rattle.ecma_parse_arrows.specs.Asyncs.{async_arrow, async_call, async_end};
@@ -21,6 +22,7 @@ use ecma_atom::Atom;
 use ecma_parse_base::{Nested, Operand};
 use ecma_parse_functions::group_items;
 use ecma_parse_state::code::with_in;
+use ecma_parse_state::operators::ASSIGNMENT;
 use ecma_parse_state::{Around, Failure, Parser, kinds};
 use ecma_token::Span;
 use ecma_tokens::Tokens;
@@ -32,17 +34,18 @@ pub fn call_or_arrow<'a, I: Tokens<'a> + Drop, N: Nested<'a, I>>(
     p: &mut Parser<'a, I>,
     nested: &N,
     code: Around,
+    level: u8,
     place: Span,
     sym: Atom,
 ) -> Result<Operand, Failure>
     requires ready { N.ready nested.now }
-    ensures value { Gives (λ x. (tree_of x, stand I.state p.new)) result (async_call (machine_of I.machine) (N.reads nested.now I.State I.machine) (code_of code) (from_span place) sym (stand I.state p.old)) }
+    ensures value { Gives (λ x. (tree_of x, stand I.state p.new)) result (async_call (machine_of I.machine) (N.reads nested.now I.State I.machine) (code_of code) level (from_span place) sym (stand I.state p.old)) }
     ensures shorter { IfOk result (λ _. spec.bound (machine_of I.machine) (stand I.state p.new) < spec.bound (machine_of I.machine) (stand I.state p.old)) }
 {
     let breaks = p.breaks();
     p.bump()?;
     let list = group_items(p, nested, with_in(code))?;
-    if !breaks && is_arrow(p, nested) {
+    if !breaks && is_arrow(p, nested, level) && nested.are_params(p, &list) {
         let params = nested.params(p, list)?;
         return arrow(p, nested, code, place.lo, true, params);
     }
@@ -52,15 +55,19 @@ pub fn call_or_arrow<'a, I: Tokens<'a> + Drop, N: Nested<'a, I>>(
 
 /// Whether a name comes that is the one parameter of an arrow, all on one line.
 #[tactic(auto)]
-fn is_param<'a, I: Tokens<'a> + Drop>(p: &Parser<'a, I>, code: Around) -> Result<bool, Failure>
-    ensures value { IfOk result (λ b. b ≡ (spec.is_name (machine_of I.machine) (code_of code) (stand I.state p.now) && (not (brk (spec.input (machine_of I.machine) (stand I.state p.now))) && (kind2 (spec.input (machine_of I.machine) (stand I.state p.now)) == arrow_kind) && not (brk2 (spec.input (machine_of I.machine) (stand I.state p.now)))))) }
+fn is_param<'a, I: Tokens<'a> + Drop>(
+    p: &Parser<'a, I>,
+    code: Around,
+    level: u8,
+) -> Result<bool, Failure>
+    ensures value { IfOk result (λ b. b ≡ (spec.is_name (machine_of I.machine) (code_of code) (stand I.state p.now) && ((not (brk (spec.input (machine_of I.machine) (stand I.state p.now))) && (kind2 (spec.input (machine_of I.machine) (stand I.state p.now)) == arrow_kind) && not (brk2 (spec.input (machine_of I.machine) (stand I.state p.now)))) && nat_le level assignment_level))) }
     ensures full { IfErr result IsMemory }
 {
     if !p.is_name(code) || p.breaks() {
         return Ok(false);
     }
     let (second, breaks) = p.second()?;
-    Ok(second == kinds::ARROW && !breaks)
+    Ok(second == kinds::ARROW && !breaks && level <= ASSIGNMENT)
 }
 
 /// The parameter and the rest of an arrow behind `async`.
@@ -89,23 +96,24 @@ pub fn async_end<'a, I: Tokens<'a> + Drop, N: Nested<'a, I>>(
     p: &mut Parser<'a, I>,
     nested: &N,
     code: Around,
+    level: u8,
     place: Span,
     sym: Atom,
 ) -> Result<Operand, Failure>
     requires ready { N.ready nested.now }
-    ensures value { Gives (λ x. (tree_of x, stand I.state p.new)) result (async_end (machine_of I.machine) (N.reads nested.now I.State I.machine) (code_of code) (from_span place) sym (stand I.state p.old)) }
+    ensures value { Gives (λ x. (tree_of x, stand I.state p.new)) result (async_end (machine_of I.machine) (N.reads nested.now I.State I.machine) (code_of code) level (from_span place) sym (stand I.state p.old)) }
     ensures not_longer { IfOk result (λ _. spec.bound (machine_of I.machine) (stand I.state p.new) ≤ spec.bound (machine_of I.machine) (stand I.state p.old)) }
 {
     if p.at(kinds::FUNCTION) && !p.breaks() {
         return function_operand(p, nested, code, place.lo, true);
     }
-    if is_param(p, code)? {
+    if is_param(p, code, level)? {
         return async_arrow(p, nested, code, place);
     }
     if p.at(kinds::LEFT_PAREN) && !p.breaks() {
-        return call_or_arrow(p, nested, code, place, sym);
+        return call_or_arrow(p, nested, code, level, place, sym);
     }
-    ident_end(p, nested, code, place, sym)
+    ident_end(p, nested, code, level, place, sym)
 }
 
 /// The word `async`, and what follows it.
@@ -115,14 +123,15 @@ pub fn async_expr<'a, I: Tokens<'a> + Drop, N: Nested<'a, I>>(
     p: &mut Parser<'a, I>,
     nested: &N,
     code: Around,
+    level: u8,
 ) -> Result<Operand, Failure>
     requires ready { N.ready nested.now }
     requires word { kind (spec.input (machine_of I.machine) (stand I.state p.old)) ≡ async_kind }
-    ensures value { Gives (λ x. (tree_of x, stand I.state p.new)) result (reads.async_by (machine_of I.machine) (N.reads nested.now I.State I.machine) (code_of code) (stand I.state p.old)) }
+    ensures value { Gives (λ x. (tree_of x, stand I.state p.new)) result (reads.async_by (machine_of I.machine) (N.reads nested.now I.State I.machine) (code_of code) level (stand I.state p.old)) }
     ensures shorter { IfOk result (λ _. spec.bound (machine_of I.machine) (stand I.state p.new) < spec.bound (machine_of I.machine) (stand I.state p.old)) }
 {
     let place = p.place();
     let sym = Atom::new(p.alloc, p.text())?;
     p.bump()?;
-    async_end(p, nested, code, place, sym)
+    async_end(p, nested, code, level, place, sym)
 }

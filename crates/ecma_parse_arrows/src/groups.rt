@@ -101,16 +101,17 @@ pub fn group_end<'a, I: Tokens<'a> + Drop, N: Nested<'a, I>>(
     p: &mut Parser<'a, I>,
     nested: &N,
     code: Around,
+    level: u8,
     start: BytePos,
     paren: Span,
     list: Arguments,
 ) -> Result<Operand, Failure>
     requires ready { N.ready nested.now }
     requires fits { FitArguments list }
-    ensures value { Gives (λ x. (tree_of x, stand I.state p.new)) result (group_rest (machine_of I.machine) (N.reads nested.now I.State I.machine) (code_of code) (from start.0) paren.lo.0 (arguments_of list) (stand I.state p.old)) }
+    ensures value { Gives (λ x. (tree_of x, stand I.state p.new)) result (group_rest (machine_of I.machine) (N.reads nested.now I.State I.machine) (code_of code) level (from start.0) paren.lo.0 (arguments_of list) (stand I.state p.old)) }
     ensures not_longer { IfOk result (λ _. spec.bound (machine_of I.machine) (stand I.state p.new) ≤ spec.bound (machine_of I.machine) (stand I.state p.old)) }
 {
-    if is_arrow(p, nested) {
+    if is_arrow(p, nested, level) && nested.are_params(p, &list) {
         let params = nested.params(p, list)?;
         return arrow(p, nested, code, start, false, params);
     }
@@ -128,14 +129,15 @@ pub fn group<'a, I: Tokens<'a> + Drop, N: Nested<'a, I>>(
     p: &mut Parser<'a, I>,
     nested: &N,
     code: Around,
+    level: u8,
 ) -> Result<Operand, Failure>
     requires ready { N.ready nested.now }
-    ensures value { Gives (λ x. (tree_of x, stand I.state p.new)) result (reads.group_by (machine_of I.machine) (N.reads nested.now I.State I.machine) (code_of code) (stand I.state p.old)) }
+    ensures value { Gives (λ x. (tree_of x, stand I.state p.new)) result (reads.group_by (machine_of I.machine) (N.reads nested.now I.State I.machine) (code_of code) level (stand I.state p.old)) }
     ensures shorter { IfOk result (λ _. spec.bound (machine_of I.machine) (stand I.state p.new) < spec.bound (machine_of I.machine) (stand I.state p.old)) }
 {
     let start = p.lo();
     p.bump()?;
     let paren = p.place();
     let list = group_items(p, nested, with_in(code))?;
-    group_end(p, nested, code, start, paren, list)
+    group_end(p, nested, code, level, start, paren, list)
 }

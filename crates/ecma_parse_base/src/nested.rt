@@ -6,14 +6,14 @@ ghost use Rattle.ecma_node.specs.View.{view_assign_target, view_block_stmt, view
 ghost use Rattle.ecma_reading.specs.Source as spec;
 ghost use Rattle.ecma_reading.specs.Source.{Inner};
 ghost use Rattle.ecma_reading.specs.Cover.{to_target};
-ghost use Rattle.ecma_reading.specs.Expressions.{params_of};
+ghost use Rattle.ecma_reading.specs.Expressions.{is_read, params_of};
 ghost use Rattle.ecma_tokens.specs.Machine.{Machine};
 ghost use Rattle.ecma_parse_state.specs.Answers.{Gives};
 ghost use Rattle.ecma_parse_state.specs.Codes.{code_of};
 ghost use Rattle.ecma_parse_state.specs.Fronts.{Front, machine_of};
 ghost use Rattle.ecma_parse_state.specs.Stands.{stand};
 ghost use Rattle.ecma_parse_base.specs.Operands.{tree_of};
-ghost use Rattle.ecma_parse_base.specs.Lists.{arguments_of};
+ghost use Rattle.ecma_parse_base.specs.Lists.{arguments_of, FitArguments};
 
 use crate::lists::Arguments;
 use crate::operand::Operand;
@@ -73,6 +73,11 @@ pub trait Nested<'a, I: Tokens<'a> + Drop> {
     fn target(&self, p: &Parser<'a, I>, kind: u8, left: Operand) -> Result<AssignTarget, Failure>
         ensures value { Gives (λ x. view_assign_target inner x) result (to_target kind (stand I.state p.now).commas (tree_of left)) }
         ensures fits { IfOk result (λ x. fits_assign_target (λ p. p) x) };
+
+    /// Whether what stands between parentheses may be the parameters of an arrow.
+    fn are_params(&self, p: &Parser<'a, I>, list: &Arguments) -> bool
+        requires { FitArguments list.now }
+        ensures { result ≡ is_read (params_of (machine_of I.machine) (reads self.now I.State I.machine) (stand I.state p.now).commas (arguments_of list.now)) };
 
     /// What stands between parentheses, as the parameters of an arrow.
     fn params(&self, p: &Parser<'a, I>, list: Arguments) -> Result<Vec<PatBox>, Failure>

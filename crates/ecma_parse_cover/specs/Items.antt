@@ -1,11 +1,11 @@
 -- The items of a pattern from left to right, and what an item is made of.
-use Rattle.std.specs.Prelude.{ℕ, Bool, true, false, not, ◌&&◌, ◌||◌, ◌==◌, if◌then◌else◌, List, [], ◌∷◌, ◌++◌, Option, None, Some, Result, Ok}
+use Rattle.std.specs.Prelude.{ℕ, Bool, true, false, not, ◌&&◌, ◌==◌, if◌then◌else◌, List, [], ◌∷◌, ◌++◌, Result, Ok}
 use Rattle.ecma_tree.specs.Tree.{Tree, Trees, none, more, pack, unpack, ident, array_lit, object_lit, assign_expr, member_expr, super_prop_expr, paren_expr, expr_pat}
 use Rattle.ecma_token.specs.Kinds.{assign_kind}
 use Rattle.ecma_syntax.specs.Shape.{is_simple, is_target_expr}
 use Rattle.ecma_reading.specs.Source.{Fault, unexpected, ◌>>=◌}
 use Rattle.ecma_reading.specs.Cover.{to_item, to_items, as_prop, is_rest_item, if_binds, last_rests}
-use Rattle.ecma_reading.specs.Expressions.{Elements}
+use Rattle.ecma_reading.specs.Expressions.{Elements, is_read}
 
 -- one item of an object or of an array
 unfoldable pub item_by : Bool → Bool → List ℕ → Tree → Result Tree Fault
@@ -52,3 +52,8 @@ may_be_target op t = is_target_expr t && is_simple t
 -- the elements of a parenthesis as parameters
 abbrev pub parameters_of : List ℕ → Elements → Result (List Tree) Fault
 parameters_of commas xs = if xs.comma && last_rests xs.items then unexpected else (to_items false true commas (pack xs.items) >>= λ ps. Ok (unpack ps))
+
+-- whether each item of an array or an object is read as one that binds, of which a rest stands last
+abbrev pub all_told : Bool → List ℕ → Trees → Bool
+all_told props commas none = true
+all_told props commas (more x xs) = not (is_more xs && is_rest_item x) && (is_read (item_by props true commas x) && all_told props commas xs)

@@ -41,11 +41,18 @@ pub fn item(alloc: Global, binds: bool, commas: &[u32], expr: ExprBox) -> Result
 }
 
 /// Whether an element is spread.
-fn is_rest_elem(elem: &Option<ExprOrSpread>) -> bool
+pub fn is_rest(element: &ExprOrSpread) -> bool
+    ensures { result ≡ is_rest_item (view_expr_or_spread inner element.now) }
+{
+    element.spread.is_some()
+}
+
+/// Whether an element of an array is spread. A hole is not.
+pub fn is_rest_elem(elem: &Option<ExprOrSpread>) -> bool
     ensures { result ≡ is_rest_item (element_by (view_expr_or_spread inner) elem.now) }
 {
     match elem {
-        Some(x) => x.spread.is_some(),
+        Some(x) => is_rest(x),
         None => false,
     }
 }
@@ -116,7 +123,7 @@ pub fn element(
 }
 
 /// Whether a part of an object is spread.
-fn is_rest_prop(prop: &PropOrSpread) -> bool
+pub fn is_rest_prop(prop: &PropOrSpread) -> bool
     ensures { result ≡ is_rest_item (view_prop_or_spread inner prop.now) }
 {
     match prop {

@@ -7,4 +7,5 @@ pub mod leaves;
 pub mod made;
 pub mod names;
 pub mod params;
+pub mod questions;
 pub mod targets;

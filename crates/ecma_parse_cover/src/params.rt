@@ -1,15 +1,18 @@
 //! The parameters of an arrow, which were read as the elements of a parenthesis (15.3).
 ghost use Rattle.std.specs.Prelude.{◌≡◌, false, true, All, IfOk, map, reverse};
 ghost use Rattle.ecma_tree.specs.Tree.{trees_by};
+ghost use Rattle.ecma_node.specs.Fits.{fits_expr_or_spread};
 ghost use Rattle.ecma_node.specs.Placed.{holds_pat, inner};
 ghost use Rattle.ecma_node.specs.View.{view_expr_or_spread};
 ghost use Rattle.ecma_reading.specs.Cover.{last_rests, to_items};
+ghost use Rattle.ecma_reading.specs.Expressions.{is_read};
 ghost use Rattle.ecma_parse_state.specs.Answers.{Gives};
-ghost use Rattle.ecma_parse_base.specs.Lists.{arguments_of};
+ghost use Rattle.ecma_parse_base.specs.Lists.{arguments_of, FitArguments};
 ghost use Rattle.ecma_parse_cover.specs.Items.{parameters_of};
 
-use crate::items::element;
+use crate::items::{element, is_rest};
 use crate::made;
+use crate::questions::is_element;
 use ecma_node::{ExprOrSpread, PatBox};
 use ecma_parse_base::lists::Arguments;
 use ecma_parse_state::Failure;
@@ -47,6 +50,37 @@ fn all_params(
         params.push(element(alloc, true, commas, x)?)?;
     }
     Ok(params)
+}
+
+/// Whether elements are patterns that bind, of which a rest stands last.
+#[tactic(auto, using(crate::proofs::Rows::more_left), unfolding(crate::specs::Items::item_by))]
+fn are_items(commas: &[u32], items: &[ExprOrSpread]) -> bool
+    requires { All (λ x. fits_expr_or_spread (λ p. p) x) items.now }
+    ensures { result ≡ is_read (to_items false true (reverse commas.now) (trees_by (view_expr_or_spread inner) items.now)) }
+{
+    let mut left = items.len();
+    for x in items {
+        left -= 1;
+        if left > 0 && is_rest(x) {
+            return false;
+        }
+        if !is_element(commas, x) {
+            return false;
+        }
+    }
+    true
+}
+
+/// Whether what stands between parentheses may be the parameters of an arrow.
+#[tactic(auto, using(crate::proofs::Told::params_told, ecma_parse_base::proofs::Packs::packed))]
+pub fn are_params(commas: &[u32], list: &Arguments) -> bool
+    requires { FitArguments list.now }
+    ensures { result ≡ is_read (parameters_of (reverse commas.now) (arguments_of list.now)) }
+{
+    if list.comma && ends_in_rest(list.items.as_slice()) {
+        return false;
+    }
+    are_items(commas, list.items.as_slice())
 }
 
 /// What stands between parentheses, as the parameters of an arrow: `parameters_of` is what is read of them, without a machine.

@@ -6,9 +6,13 @@ ghost use Rattle.ecma_parse_output.specs.Patterns.{element_of};
 /// of another one.
 #[derive(Clone, Copy, Debug, PartialEq, Eq)]
 pub enum PatType {
+    /// A whole pattern that binds names.
     BindingPat,
+    /// An element of one.
     BindingElement,
+    /// A whole pattern that assigns to targets.
     AssignPat,
+    /// An element of one.
     AssignElement,
 }
 

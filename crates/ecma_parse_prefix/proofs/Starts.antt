@@ -5,15 +5,15 @@ use Rattle.ecma_tokens.specs.Machine as tokens
 use Rattle.ecma_tree.specs.Tree.{Tree}
 use Rattle.ecma_syntax.specs.Input.{Code, lo, hi, first_span}
 use Rattle.ecma_reading.specs.Source.{Machine, Stand, Inner, input}
-use Rattle.ecma_reading.specs.Expressions.{arrow_by, binary_by, function_by, function_expr_by, function_expr_name, ident_end, super_end}
+use Rattle.ecma_reading.specs.Expressions.{arrow_by, binary_by, function_expr_by, function_expr_name, ident_end, super_end}
 use Rattle.ecma_parse_state.specs.Fronts.{Front, machine_of}
 use Rattle.ecma_parse_state.specs.Stands.{from, from_span}
 use Rattle.ecma_parse_state.proofs.Marks.{lo_from, lo_from_span}
 
 module _ {S : Type 0} (m : Machine S) (inner : Inner S) (c : Code) (a b : Stand S) where
-  ident_same : lo (input m a) ≡ lo (input m b) → hi (input m a) ≡ hi (input m b) → (n : List ℕ) (r : Stand S) → ident_end m inner c a n r ≡ ident_end m inner c b n r
+  ident_same : lo (input m a) ≡ lo (input m b) → hi (input m a) ≡ hi (input m b) → (l : ℕ) (n : List ℕ) (r : Stand S) → ident_end m inner c l a n r ≡ ident_end m inner c l b n r
   unfolding ident_end arrow_by
-  ident_same e f n r = rw (e, f) refl
+  ident_same e f l n r = rw (e, f) refl
 
   super_same : lo (input m a) ≡ lo (input m b) → hi (input m a) ≡ hi (input m b) → (r : Stand S) → super_end m inner c a r ≡ super_end m inner c b r
   unfolding super_end
@@ -33,8 +33,8 @@ hi_from_span m s = refl
 
 -- from a mark that was made there
 pub ident_from : {S : Type 0} (m : tokens.Machine S) (inner : Inner (Front S)) (c : Code) (a : Stand (Front S)) (p : Span) → p.lo.0 ≡ lo (input (machine_of m) a) → p ≡ first_span (input (machine_of m) a)
-    → (n : List ℕ) (r : Stand (Front S)) → ident_end (machine_of m) inner c a n r ≡ ident_end (machine_of m) inner c (from_span p) n r
-ident_from m inner c a p e f n r = ident_same (machine_of m) inner c a (from_span p) (sym e ∙ sym (lo_from_span m p)) (sym (ap (λ s. s.hi.0) f) ∙ sym (hi_from_span m p)) n r
+    → (l : ℕ) (n : List ℕ) (r : Stand (Front S)) → ident_end (machine_of m) inner c l a n r ≡ ident_end (machine_of m) inner c l (from_span p) n r
+ident_from m inner c a p e f l n r = ident_same (machine_of m) inner c a (from_span p) (sym e ∙ sym (lo_from_span m p)) (sym (ap (λ s. s.hi.0) f) ∙ sym (hi_from_span m p)) l n r
 
 pub super_from : {S : Type 0} (m : tokens.Machine S) (inner : Inner (Front S)) (c : Code) (a : Stand (Front S)) (p : Span) → p.lo.0 ≡ lo (input (machine_of m) a) → p ≡ first_span (input (machine_of m) a)
     → (r : Stand (Front S)) → super_end (machine_of m) inner c a r ≡ super_end (machine_of m) inner c (from_span p) r

@@ -1,41 +1,41 @@
 -- Words that start an expression, by parts: those that are values, those of functions and classes, and operators (ECMA-262, 13.2, 13.3 and 13.5).
-use Rattle.std.specs.Prelude.{◌&&◌, ◌||◌, if◌then◌else◌, true, false, Ok}
-use Rattle.ecma_token.specs.Kinds.{null_kind, true_kind, false_kind, await_kind, yield_kind, function_kind, class_kind, new_kind, super_kind, import_kind, this_kind, back_quote_kind, left_paren_kind, left_bracket_kind, left_brace_kind, plus_plus_kind, minus_minus_kind}
-use Rattle.ecma_tree.specs.Tree.{Tree, this_expr, null_lit, bool_lit}
+use Rattle.std.specs.Prelude.{ℕ, ◌&&◌, if◌then◌else◌, true, false}
+use Rattle.ecma_token.specs.Kinds.{true_kind, false_kind, await_kind, yield_kind, function_kind, class_kind, new_kind, super_kind, import_kind, back_quote_kind, left_bracket_kind, left_brace_kind, plus_plus_kind, minus_minus_kind}
+use Rattle.ecma_tree.specs.Tree.{Tree, bool_lit}
 use Rattle.ecma_syntax.specs.Input.{Code, kind}
 use Rattle.ecma_syntax.specs.Operators.{between}
-use Rattle.ecma_reading.specs.Source.{◌>>=◌, Machine, Stand, Read, Inner, input, at, eat_word}
-use Rattle.ecma_reading.specs.Expressions.{is_unary, fixed, function_expr_by, class_expr_by, new_by, super_end, import_by, unary_by, update_by, await_by, yield_by, word_by, array_by, object_by, template_by, group_by, literal_by}
+use Rattle.ecma_reading.specs.Source.{◌>>=◌, Machine, Read, Inner, input, at, eat_word}
+use Rattle.ecma_reading.specs.Expressions.{is_unary, fixed, function_expr_by, class_expr_by, new_by, super_end, import_by, unary_by, update_by, await_by, yield_by, word_by, array_by, object_by, template_by, literal_by}
 
 module _ {S : Type 0} (m : Machine S) (inner : Inner S) where
   unfoldable pub super_by : Code → Read S Tree
   super_by c s = eat_word m c super_kind s >>= λ r. super_end m inner c s r
 
-  unfoldable pub operator_word : Code → Read S Tree
-  operator_word c s =
+  unfoldable pub operator_word : Code → ℕ → Read S Tree
+  operator_word c l s =
       if is_unary (kind (input m s)) then unary_by m inner c s
       else (if at m await_kind s && c.context.in_async then await_by m inner c s
       else (if at m yield_kind s && c.context.in_generator then yield_by m inner c s
-      else word_by m inner c s))
+      else word_by m inner c l s))
 
-  unfoldable pub member_word : Code → Read S Tree
-  member_word c s =
+  unfoldable pub member_word : Code → ℕ → Read S Tree
+  member_word c l s =
       if at m new_kind s then new_by m inner c s
       else (if at m super_kind s then super_by c s
       else (if at m import_kind s then import_by m inner c s
-      else operator_word c s))
+      else operator_word c l s))
 
-  unfoldable pub definition_word : Code → Read S Tree
-  definition_word c s =
+  unfoldable pub definition_word : Code → ℕ → Read S Tree
+  definition_word c l s =
       if at m function_kind s then function_expr_by m inner c s false s
       else (if at m class_kind s then class_expr_by m inner c s
-      else member_word c s)
+      else member_word c l s)
 
-  unfoldable pub boolean_word : Code → Read S Tree
-  boolean_word c s =
+  unfoldable pub boolean_word : Code → ℕ → Read S Tree
+  boolean_word c l s =
       if at m true_kind s then fixed m inner c (λ p. bool_lit p true) s
       else (if at m false_kind s then fixed m inner c (λ p. bool_lit p false) s
-      else definition_word c s)
+      else definition_word c l s)
 
   -- operators before an operand, and literals
   unfoldable pub operator_mark : Code → Read S Tree

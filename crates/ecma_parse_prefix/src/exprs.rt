@@ -57,7 +57,7 @@ pub fn expr_from<'a, I: Tokens<'a> + Drop, N: Nested<'a, I>>(
         return private_in(p, nested, code, level);
     }
     let start = p.lo();
-    let first = prefix(p, nested, code)?;
+    let first = prefix(p, nested, code, level)?;
     operators(p, nested, code, level, start, first)
 }
 

@@ -72,16 +72,17 @@ pub fn prefix<'a, I: Tokens<'a> + Drop, N: Nested<'a, I>>(
     p: &mut Parser<'a, I>,
     nested: &N,
     code: Around,
+    level: u8,
 ) -> Result<Operand, Failure>
     requires ready { N.ready nested.now }
-    ensures value { Gives (λ x. (tree_of x, stand I.state p.new)) result (reads.prefix_by (machine_of I.machine) (N.reads nested.now I.State I.machine) (code_of code) (stand I.state p.old)) }
+    ensures value { Gives (λ x. (tree_of x, stand I.state p.new)) result (reads.prefix_by (machine_of I.machine) (N.reads nested.now I.State I.machine) (code_of code) level (stand I.state p.old)) }
     ensures shorter { IfOk result (λ _. spec.bound (machine_of I.machine) (stand I.state p.new) < spec.bound (machine_of I.machine) (stand I.state p.old)) }
 {
     if p.is_word() {
-        return keyword(p, nested, code);
+        return keyword(p, nested, code, level);
     }
     if p.at(kinds::LEFT_PAREN) {
-        return group(p, nested, code);
+        return group(p, nested, code, level);
     }
     list_mark(p, nested, code)
 }

@@ -29,17 +29,18 @@ pub fn word<'a, I: Tokens<'a> + Drop, N: Nested<'a, I>>(
     p: &mut Parser<'a, I>,
     nested: &N,
     code: Around,
+    level: u8,
 ) -> Result<Operand, Failure>
     requires ready { N.ready nested.now }
-    ensures value { Gives (λ x. (tree_of x, stand I.state p.new)) result (reads.word_by (machine_of I.machine) (N.reads nested.now I.State I.machine) (code_of code) (stand I.state p.old)) }
+    ensures value { Gives (λ x. (tree_of x, stand I.state p.new)) result (reads.word_by (machine_of I.machine) (N.reads nested.now I.State I.machine) (code_of code) level (stand I.state p.old)) }
     ensures shorter { IfOk result (λ _. spec.bound (machine_of I.machine) (stand I.state p.new) < spec.bound (machine_of I.machine) (stand I.state p.old)) }
 {
     if p.at(kinds::ASYNC) {
-        return async_expr(p, nested, code);
+        return async_expr(p, nested, code, level);
     }
     let place = p.place();
     let sym = p.name(code)?;
-    ident_end(p, nested, code, place, sym)
+    ident_end(p, nested, code, level, place, sym)
 }
 
 /// `super` with what follows it.
@@ -66,10 +67,11 @@ pub fn operator_word<'a, I: Tokens<'a> + Drop, N: Nested<'a, I>>(
     p: &mut Parser<'a, I>,
     nested: &N,
     code: Around,
+    level: u8,
 ) -> Result<Operand, Failure>
     requires ready { N.ready nested.now }
     requires word { is_word (kind (spec.input (machine_of I.machine) (stand I.state p.old))) ≡ true }
-    ensures value { Gives (λ x. (tree_of x, stand I.state p.new)) result (words.operator_word (machine_of I.machine) (N.reads nested.now I.State I.machine) (code_of code) (stand I.state p.old)) }
+    ensures value { Gives (λ x. (tree_of x, stand I.state p.new)) result (words.operator_word (machine_of I.machine) (N.reads nested.now I.State I.machine) (code_of code) level (stand I.state p.old)) }
     ensures shorter { IfOk result (λ _. spec.bound (machine_of I.machine) (stand I.state p.new) < spec.bound (machine_of I.machine) (stand I.state p.old)) }
 {
     if let Some(op) = unary_op(p.kind()) {
@@ -81,7 +83,7 @@ pub fn operator_word<'a, I: Tokens<'a> + Drop, N: Nested<'a, I>>(
     if p.at(kinds::YIELD) && code.context.in_generator {
         return yielded(p, nested, code);
     }
-    word(p, nested, code)
+    word(p, nested, code, level)
 }
 
 /// `new`, `super` or `import`, or another word.
@@ -91,10 +93,11 @@ pub fn member_word<'a, I: Tokens<'a> + Drop, N: Nested<'a, I>>(
     p: &mut Parser<'a, I>,
     nested: &N,
     code: Around,
+    level: u8,
 ) -> Result<Operand, Failure>
     requires ready { N.ready nested.now }
     requires word { is_word (kind (spec.input (machine_of I.machine) (stand I.state p.old))) ≡ true }
-    ensures value { Gives (λ x. (tree_of x, stand I.state p.new)) result (words.member_word (machine_of I.machine) (N.reads nested.now I.State I.machine) (code_of code) (stand I.state p.old)) }
+    ensures value { Gives (λ x. (tree_of x, stand I.state p.new)) result (words.member_word (machine_of I.machine) (N.reads nested.now I.State I.machine) (code_of code) level (stand I.state p.old)) }
     ensures shorter { IfOk result (λ _. spec.bound (machine_of I.machine) (stand I.state p.new) < spec.bound (machine_of I.machine) (stand I.state p.old)) }
 {
     if p.at(kinds::NEW) {
@@ -106,7 +109,7 @@ pub fn member_word<'a, I: Tokens<'a> + Drop, N: Nested<'a, I>>(
     if p.at(kinds::IMPORT) {
         return import(p, nested, code);
     }
-    operator_word(p, nested, code)
+    operator_word(p, nested, code, level)
 }
 
 /// A function or a class, or another word.
@@ -116,10 +119,11 @@ pub fn definition_word<'a, I: Tokens<'a> + Drop, N: Nested<'a, I>>(
     p: &mut Parser<'a, I>,
     nested: &N,
     code: Around,
+    level: u8,
 ) -> Result<Operand, Failure>
     requires ready { N.ready nested.now }
     requires word { is_word (kind (spec.input (machine_of I.machine) (stand I.state p.old))) ≡ true }
-    ensures value { Gives (λ x. (tree_of x, stand I.state p.new)) result (words.definition_word (machine_of I.machine) (N.reads nested.now I.State I.machine) (code_of code) (stand I.state p.old)) }
+    ensures value { Gives (λ x. (tree_of x, stand I.state p.new)) result (words.definition_word (machine_of I.machine) (N.reads nested.now I.State I.machine) (code_of code) level (stand I.state p.old)) }
     ensures shorter { IfOk result (λ _. spec.bound (machine_of I.machine) (stand I.state p.new) < spec.bound (machine_of I.machine) (stand I.state p.old)) }
 {
     if p.at(kinds::FUNCTION) {
@@ -129,7 +133,7 @@ pub fn definition_word<'a, I: Tokens<'a> + Drop, N: Nested<'a, I>>(
     if p.at(kinds::CLASS) {
         return class_operand(p, nested, code);
     }
-    member_word(p, nested, code)
+    member_word(p, nested, code, level)
 }
 
 /// `true` or `false`, or another word.
@@ -139,10 +143,11 @@ pub fn boolean_word<'a, I: Tokens<'a> + Drop, N: Nested<'a, I>>(
     p: &mut Parser<'a, I>,
     nested: &N,
     code: Around,
+    level: u8,
 ) -> Result<Operand, Failure>
     requires ready { N.ready nested.now }
     requires word { is_word (kind (spec.input (machine_of I.machine) (stand I.state p.old))) ≡ true }
-    ensures value { Gives (λ x. (tree_of x, stand I.state p.new)) result (words.boolean_word (machine_of I.machine) (N.reads nested.now I.State I.machine) (code_of code) (stand I.state p.old)) }
+    ensures value { Gives (λ x. (tree_of x, stand I.state p.new)) result (words.boolean_word (machine_of I.machine) (N.reads nested.now I.State I.machine) (code_of code) level (stand I.state p.old)) }
     ensures shorter { IfOk result (λ _. spec.bound (machine_of I.machine) (stand I.state p.new) < spec.bound (machine_of I.machine) (stand I.state p.old)) }
 {
     if p.at(kinds::TRUE) {
@@ -153,7 +158,7 @@ pub fn boolean_word<'a, I: Tokens<'a> + Drop, N: Nested<'a, I>>(
         let span = fixed(p, code)?;
         return made::bool_lit(p.alloc, span, false);
     }
-    definition_word(p, nested, code)
+    definition_word(p, nested, code, level)
 }
 
 /// What a word starts.
@@ -163,10 +168,11 @@ pub fn keyword<'a, I: Tokens<'a> + Drop, N: Nested<'a, I>>(
     p: &mut Parser<'a, I>,
     nested: &N,
     code: Around,
+    level: u8,
 ) -> Result<Operand, Failure>
     requires ready { N.ready nested.now }
     requires word { is_word (kind (spec.input (machine_of I.machine) (stand I.state p.old))) ≡ true }
-    ensures value { Gives (λ x. (tree_of x, stand I.state p.new)) result (reads.keyword_by (machine_of I.machine) (N.reads nested.now I.State I.machine) (code_of code) (stand I.state p.old)) }
+    ensures value { Gives (λ x. (tree_of x, stand I.state p.new)) result (reads.keyword_by (machine_of I.machine) (N.reads nested.now I.State I.machine) (code_of code) level (stand I.state p.old)) }
     ensures shorter { IfOk result (λ _. spec.bound (machine_of I.machine) (stand I.state p.new) < spec.bound (machine_of I.machine) (stand I.state p.old)) }
 {
     if p.at(kinds::THIS) {
@@ -177,5 +183,5 @@ pub fn keyword<'a, I: Tokens<'a> + Drop, N: Nested<'a, I>>(
         let span = fixed(p, code)?;
         return made::null_lit(p.alloc, span);
     }
-    boolean_word(p, nested, code)
+    boolean_word(p, nested, code, level)
 }

@@ -259,6 +259,5 @@ pub fn yielded<'a, I: Tokens<'a> + Drop, N: Nested<'a, I>>(
 {
     let start = p.lo();
     p.eat_word(code, kinds::YIELD)?;
-    p.operand()?;
     yield_end(p, nested, code, start)
 }

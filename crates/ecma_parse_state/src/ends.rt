@@ -13,8 +13,8 @@ use crate::failure::Failure;
 use crate::kinds;
 use crate::operators::{
     ACCESSOR_END, ASSIGNMENT, BINDING_END, CALL, CLOSED_END, CONDITIONAL, EXPORTS_END, EXPRESSION,
-    KEY_END, LET_END, MEMBER, OTHER_END, POSTFIX_END, PRIMARY, SOURCE_END, STATIC_END,
-    UPDATE_LEVEL, between, binary_level, is_assign_op, may_name, operates, starts_key,
+    KEY_END, LET_END, MEMBER, OTHER_END, POSTFIX_END, SOURCE_END, STATIC_END, UPDATE_LEVEL,
+    between, binary_level, is_assign_op, may_name, operates, starts_key,
 };
 use crate::parser::Parser;
 use ecma_token::{Error, SyntaxError};
@@ -57,8 +57,6 @@ impl<'a, I: Tokens<'a> + Drop> Parser<'a, I> {
             CALL
         } else if kind == kinds::LEFT_BRACKET || (kind == kinds::DOT || kind == kinds::BACK_QUOTE) {
             MEMBER
-        } else if kind == kinds::ARROW {
-            if self.breaks() { 0 } else { PRIMARY }
         } else {
             0
         }

@@ -148,7 +148,7 @@ pub fn keyword<'a, I: Tokens<'a> + Drop, N: Nested<'a, I>>(
     }
 }
 
-/// An empty statement.
+/// An empty statement (ECMA-262, 14.4).
 #[inline(never)]
 fn empty_stmt(alloc: Global, span: Span) -> Result<StmtBox, Failure>
     ensures value { IfOk result (λ x. inner x.part.value ≡ empty_stmt span) }
@@ -158,9 +158,9 @@ fn empty_stmt(alloc: Global, span: Span) -> Result<StmtBox, Failure>
     stmt(alloc, StmtKind::Empty(EmptyStmt { span }))
 }
 
-/// A block as a statement.
+/// A block as a statement (ECMA-262, 14.2).
 #[inline(never)]
-pub fn block_stmt<'a, I: Tokens<'a> + Drop, N: Nested<'a, I>>(
+fn block_stmt<'a, I: Tokens<'a> + Drop, N: Nested<'a, I>>(
     p: &mut Parser<'a, I>,
     nested: &N,
     code: Around,

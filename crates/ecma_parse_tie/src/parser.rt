@@ -22,7 +22,7 @@ use ecma_node::{AssignTarget, BlockStmt, Class, PatBox, StmtBox};
 use ecma_parse_base::lists::Arguments;
 use ecma_parse_base::{Nested, Operand};
 use ecma_parse_blocks::body::body;
-use ecma_parse_cover::params::params;
+use ecma_parse_cover::params::{are_params, params};
 use ecma_parse_cover::targets::target;
 use ecma_parse_patterns::patterns::pattern;
 use ecma_parse_prefix::exprs::expr;
@@ -78,6 +78,11 @@ impl<'a, 'n, I: Tokens<'a> + Drop, N: Inside<Parser<'a, I>>> Nested<'a, I> for T
 
     fn target(&self, p: &Parser<'a, I>, kind: u8, left: Operand) -> Result<AssignTarget, Failure> {
         target(p.alloc, p.commas.as_slice(), kind, left.expr)
+    }
+
+    #[tactic(auto, unfolding(ecma_reading::specs::Expressions::params_of))]
+    fn are_params(&self, p: &Parser<'a, I>, list: &Arguments) -> bool {
+        are_params(p.commas.as_slice(), list)
     }
 
     #[tactic(auto, unfolding(ecma_reading::specs::Expressions::params_of))]

@@ -33,7 +33,8 @@ pub trait ParseObject<Obj> {
     /// Its children are of their sorts.
     ghost fits: { Self.Prop → Type 0 };
 
-    /// An object of properties, where a comma may stand behind the last one.
+    /// An object of properties, with the place of the comma behind the last one where one stands there (ECMA-262, 13.2.5 and
+    /// 14.3.3).
     ///
     /// # Errors
     ///
@@ -46,7 +47,7 @@ pub trait ParseObject<Obj> {
     ) -> PResult<Obj>
         requires { All fits props.items };
 
-    /// A property, as in a script, in the way of the entries for parts.
+    /// A property (ECMA-262, 13.2.5 and 14.3.3), as in a script, in the way of the entries for parts.
     ///
     /// # Errors
     ///
@@ -96,7 +97,7 @@ impl<'a, I: Tokens<'a> + Drop> ParseObject<PatBox> for Entries<Parser<'a, I>> {
 
     ghost fits = { λ x. fits_object_pat_prop (λ p. p) x };
 
-    /// A rest stands last, and no comma behind it.
+    /// A rest stands last, and no comma behind it: else the answer is `Unexpected`, at the place of the object.
     fn make_object(
         &mut self,
         span: Span,

@@ -1,5 +1,5 @@
 -- Reading expressions (ECMA-262, clause 13): a prefix, then one loop over infix and postfix operators.
-use Rattle.std.specs.Prelude.{ℕ, Bool, true, false, not, ◌&&◌, ◌||◌, ◌==◌, nat_le, nat_lt, if◌then◌else◌, List, [], ◌∷◌, ◌++◌, Option, Some, None, Result, Ok}
+use Rattle.std.specs.Prelude.{ℕ, Bool, true, false, not, ◌&&◌, ◌||◌, ◌==◌, nat_le, nat_lt, if◌then◌else◌, List, [], ◌∷◌, ◌++◌, Option, Some, None, Result, Ok, Err}
 use Rattle.ecma_token.specs.declared.place.Span.{Span}
 use Rattle.ecma_token.specs.Kinds.{arrow_kind, hash_kind, dot_kind, dot_dot_dot_kind, left_paren_kind, right_paren_kind, left_bracket_kind, right_bracket_kind, left_brace_kind, right_brace_kind, comma_kind, back_quote_kind, template_kind, colon_kind, dollar_brace_kind, question_mark_kind, str_kind, num_kind, big_int_kind, regex_kind, mul_kind, assign_kind, null_kind, true_kind, false_kind, await_kind, function_kind, class_kind, new_kind, this_kind, super_kind, import_kind, yield_kind, in_kind, add_kind, sub_kind, bang_kind, tilde_kind, typeof_kind, void_kind, delete_kind, plus_plus_kind, minus_minus_kind, async_kind, meta_kind, target_kind, get_kind, set_kind, semicolon_kind}
 use Rattle.ecma_token.specs.Tokens.{Content, Quoted, Piece, Pattern, Numeral, BigNumeral}
@@ -41,6 +41,11 @@ joined (t ∷ (u ∷ ts)) s = seq_expr s (pack (t ∷ u ∷ ts))
 abbrev pub extended : Tree → Tree → Span → Tree
 extended (seq_expr s xs) t n = seq_expr n (pack (unpack xs ++ t ∷ []))
 extended u t n = seq_expr n (more u (more t none))
+
+-- whether anything is read
+abbrev pub is_read : {A : Type 0} → Result A Fault → Bool
+is_read (Ok x) = true
+is_read (Err e) = false
 
 -- an element without dots, as the expression that it is
 abbrev pub plain_element : Tree → Option Tree
@@ -228,6 +233,10 @@ module _ {S : Type 0} (m : Machine S) (inner : Inner S) where
   abbrev pub arrows : Stand S → Bool
   arrows s = at m arrow_kind s && not (brk (input m s))
 
+  -- An arrow goes on with a name: where an assignment may stand.
+  abbrev pub arrows_at : ℕ → Stand S → Bool
+  arrows_at l s = arrows s && nat_le l assignment_level
+
   unfoldable pub arrow_by : Code → Stand S → Bool → List Tree → Read S Tree
   arrow_by c start async ps s =
       if at m left_brace_kind (past m s) then (inner.body (in_list (with_in (in_arrow async c))) (past m s) >>= λ b. Ok (arrow_expr (spanned m start b.1) (pack ps) b.0 async, b.1))
@@ -237,31 +246,35 @@ module _ {S : Type 0} (m : Machine S) (inner : Inner S) where
   unfoldable pub params_of : List ℕ → Elements → Result (List Tree) Fault
   params_of commas xs = if xs.comma && last_rests xs.items then unexpected else (to_items false true commas (pack xs.items) >>= λ ps. Ok (unpack ps))
 
+  -- An arrow goes on with a group: where an assignment may stand, and its elements are parameters.
+  abbrev pub heads_params : ℕ → Elements → Stand S → Bool
+  heads_params l xs s = arrows_at l s && is_read (params_of s.commas xs)
+
   -- after the `)` of a group: an arrow, or an expression in parentheses
-  unfoldable pub group_end : Code → Stand S → Stand S → Elements → Read S Tree
-  group_end c start open_ xs s =
-      if arrows s then (params_of s.commas xs >>= λ ps. arrow_by c start false ps s)
+  unfoldable pub group_end : Code → ℕ → Stand S → Stand S → Elements → Read S Tree
+  group_end c l start open_ xs s =
+      if heads_params l xs s then (params_of s.commas xs >>= λ ps. arrow_by c start false ps s)
       else (if xs.comma then unexpected else elim (plain_elements xs.items) [
         | None ↦ unexpected
         | Some [] ↦ unexpected
         | Some (e ∷ es) ↦ Ok (paren_expr (spanned m start s) (joined (e ∷ es) (span (lo (input m open_)) (last_end xs.items))), s)
       ])
 
-  unfoldable pub group_by : Code → Read S Tree
-  group_by c s = elements_by (with_in c) false right_paren_kind (past m s) >>= λ xs. group_end c s (past m s) xs.0 xs.1
+  unfoldable pub group_by : Code → ℕ → Read S Tree
+  group_by c l s = elements_by (with_in c) false right_paren_kind (past m s) >>= λ xs. group_end c l s (past m s) xs.0 xs.1
 
   -- a name, which may be the one parameter of an arrow
-  unfoldable pub ident_end : Code → Stand S → List ℕ → Read S Tree
-  ident_end c start n s = if arrows s then arrow_by c start false (binding_ident (first start) (ident (first start) n) ∷ []) s else Ok (ident (first start) n, s)
+  unfoldable pub ident_end : Code → ℕ → Stand S → List ℕ → Read S Tree
+  ident_end c l start n s = if arrows_at l s then arrow_by c start false (binding_ident (first start) (ident (first start) n) ∷ []) s else Ok (ident (first start) n, s)
 
   -- arguments, after their parenthesis
   unfoldable pub arguments_by : Code → Read S (List Tree)
   arguments_by c s = elements_by c false right_paren_kind s >>= λ xs. Ok (xs.0.items, xs.1)
 
   -- `async` and a parenthesis: a call, or an arrow's parameters
-  unfoldable pub async_group : Code → Stand S → Read S Tree
-  async_group c start s = elements_by (with_in c) false right_paren_kind (past m s) >>= λ xs.
-      if arrows xs.1 && not (brk (input m s)) then (params_of xs.1.commas xs.0 >>= λ ps. arrow_by c start true ps xs.1)
+  unfoldable pub async_group : Code → ℕ → Stand S → Read S Tree
+  async_group c l start s = elements_by (with_in c) false right_paren_kind (past m s) >>= λ xs.
+      if heads_params l xs.0 xs.1 && not (brk (input m s)) then (params_of xs.1.commas xs.0 >>= λ ps. arrow_by c start true ps xs.1)
       else Ok (call_expr (spanned m start xs.1) (ident (first start) (text (input m start))) (pack xs.0.items), xs.1)
 
   -- what follows `function`, from the keyword on
@@ -273,14 +286,18 @@ module _ {S : Type 0} (m : Machine S) (inner : Inner S) where
   unfoldable pub function_expr_by : Code → Stand S → Bool → Read S Tree
   function_expr_by c start async s = eat_word m c function_kind s >>= λ r. star r >>= λ g. function_expr_name c start g.0 async g.1
 
+  -- a name that is the one parameter of an arrow behind `async`, all on one line
+  abbrev pub is_async_param : Code → ℕ → Stand S → Bool
+  is_async_param c l s = is_name m c s && ((not (brk (input m s)) && (kind2 (input m s) == arrow_kind) && not (brk2 (input m s))) && nat_le l assignment_level)
+
   -- the word `async`: of a function, of an arrow, or a name
-  unfoldable pub async_by : Code → Read S Tree
-  async_by c s =
+  unfoldable pub async_by : Code → ℕ → Read S Tree
+  async_by c l s =
       if at m function_kind (past m s) && not (brk (input m (past m s))) then function_expr_by c s true (past m s)
-      else (if is_name m c (past m s) && (not (brk (input m (past m s))) && (kind2 (input m (past m s)) == arrow_kind) && not (brk2 (input m (past m s)))) then (name m c (past m s) >>= λ n.
+      else (if is_async_param c l (past m s) then (name m c (past m s) >>= λ n.
       arrow_by c s true (binding_ident (first (past m s)) (ident (first (past m s)) n.0) ∷ []) n.1)
-      else (if at m left_paren_kind (past m s) && not (brk (input m (past m s))) then async_group c s (past m s)
-      else ident_end c s (text (input m s)) (past m s)))
+      else (if at m left_paren_kind (past m s) && not (brk (input m (past m s))) then async_group c l s (past m s)
+      else ident_end c l s (text (input m s)) (past m s)))
 
   unfoldable pub class_expr_by : Code → Read S Tree
   class_expr_by c s =
@@ -348,18 +365,18 @@ module _ {S : Type 0} (m : Machine S) (inner : Inner S) where
       else (inner.expr c assignment_level r >>= λ e. Ok (yield_expr (spanned m s e.1) e.0 false, e.1)))
 
   unfoldable pub yield_by : Code → Read S Tree
-  yield_by c s = eat_word m c yield_kind s >>= λ r. yield_end c s (operand m r)
+  yield_by c s = eat_word m c yield_kind s >>= λ r. yield_end c s r
 
-  unfoldable pub word_by : Code → Read S Tree
-  word_by c s =
-      if at m async_kind s then async_by c s
-      else (name m c s >>= λ n. ident_end c s n.0 n.1)
+  unfoldable pub word_by : Code → ℕ → Read S Tree
+  word_by c l s =
+      if at m async_kind s then async_by c l s
+      else (name m c s >>= λ n. ident_end c l s n.0 n.1)
 
   abbrev pub fixed : Code → (Span → Tree) → Read S Tree
   fixed c f s = eat_word m c (kind (input m s)) s >>= λ r. Ok (f (spanned m s r), r)
 
-  unfoldable pub keyword_by : Code → Read S Tree
-  keyword_by c s =
+  unfoldable pub keyword_by : Code → ℕ → Read S Tree
+  keyword_by c l s =
       if at m this_kind s then fixed c this_expr s
       else (if at m null_kind s then fixed c null_lit s
       else (if at m true_kind s then fixed c (λ p. bool_lit p true) s
@@ -372,12 +389,12 @@ module _ {S : Type 0} (m : Machine S) (inner : Inner S) where
       else (if is_unary (kind (input m s)) then unary_by c s
       else (if at m await_kind s && c.context.in_async then await_by c s
       else (if at m yield_kind s && c.context.in_generator then yield_by c s
-      else word_by c s)))))))))))
+      else word_by c l s)))))))))))
 
-  unfoldable pub prefix_by : Code → Read S Tree
-  prefix_by c s =
-      if is_word (kind (input m s)) then keyword_by c s
-      else (if at m left_paren_kind s then group_by c s
+  unfoldable pub prefix_by : Code → ℕ → Read S Tree
+  prefix_by c l s =
+      if is_word (kind (input m s)) then keyword_by c l s
+      else (if at m left_paren_kind s then group_by c l s
       else (if at m left_bracket_kind s then array_by c s
       else (if at m left_brace_kind s then object_by c s
       else (if at m back_quote_kind s then template_by c false s
@@ -456,7 +473,7 @@ module _ {S : Type 0} (m : Machine S) (inner : Inner S) where
   private_in c l s = private_by s >>= λ p. if at m in_kind p.1 && (has_in c && nat_le l (binary_level in_kind)) then (binary_by c s p.0 p.1 >>= λ t. loop_by c l s t.0 t.1) else unexpected
 
   unfoldable pub expr_from : Code → ℕ → Read S Tree
-  expr_from c l s = if at m hash_kind s then private_in c l s else (prefix_by c s >>= λ t. loop_by c l s t.0 t.1)
+  expr_from c l s = if at m hash_kind s then private_in c l s else (prefix_by c l s >>= λ t. loop_by c l s t.0 t.1)
 
   -- an expression of a level or a tighter one
   unfoldable pub expr_by : Code → ℕ → Read S Tree

@@ -1,9 +1,9 @@
 -- Fronts of lists of tokens that a part of the language derives: an expression, a pattern, parameters, a key, a statement, an item of a module.
 -- Each stands in the code of a new parser, a script's; an item of a module in a module's.
-use Rattle.std.specs.Prelude.{◌≡◌, ◌≤◌, ◌<◌, ◌⊎◌, ℕ, Bool, true, false, ◌||◌, ◌==◌, if◌then◌else◌, List, [], ◌∷◌, ◌++◌, length, None}
+use Rattle.std.specs.Prelude.{◌≡◌, ◌≤◌, ◌<◌, ◌⊎◌, ℕ, Bool, true, false, if◌then◌else◌, List, [], ◌∷◌, ◌++◌, length, None}
 use Rattle.ecma_token.specs.declared.error.Error.{Error}
 use Rattle.ecma_token.specs.declared.syntax.EsSyntax.{EsSyntax}
-use Rattle.ecma_token.specs.Kinds.{comma_kind, plus_plus_kind, minus_minus_kind, arrow_kind}
+use Rattle.ecma_token.specs.Kinds.{comma_kind, plus_plus_kind, minus_minus_kind}
 use Rattle.ecma_tree.specs.Places.{no_place, place_of}
 use Rattle.ecma_tree.specs.Tree.{Tree, Trees, none, more, script, list, param, assign_pat, absent}
 use Rattle.ecma_nesting.specs.Nesting.{nesting}
@@ -51,10 +51,10 @@ ModuleItem c t ts r = (is_module_item t ≡ true) × Derives t (in_list c) ts r
 
 -- ---- complete fronts
 
--- The table of semicolons after an expression, whatever line break stands there: `++`, `--` and `=>` are not in it, so on a line of their own they go on
+-- The table of semicolons after an expression, whatever line break stands there: `++` and `--` are not in it, so on a line of their own they go on
 -- with nothing.
 abbrev pub goes_after : Code → ℕ → Input → ℕ
-goes_after c e r = if between plus_plus_kind minus_minus_kind (kind r) || (kind r == arrow_kind) then 0 else goes_expr c e r
+goes_after c e r = if between plus_plus_kind minus_minus_kind (kind r) then 0 else goes_expr c e r
 
 -- Nothing goes on with an expression at a level, or a tighter one.
 abbrev pub Stops : ℕ → Code → Tree → Input → Type 0

@@ -1,6 +1,6 @@
 -- How tightly operators bind, and what goes on after the last part of an expression, a binding, a field or an import.
 use Rattle.std.specs.Prelude.{ℕ, ◌+◌, Bool, false, not, ◌&&◌, ◌||◌, ◌==◌, nat_le, if◌then◌else◌}
-use Rattle.ecma_token.specs.Kinds.{end_kind, hash_kind, dot_kind, left_paren_kind, left_bracket_kind, left_brace_kind, right_brace_kind, comma_kind, back_quote_kind, question_mark_kind, plus_plus_kind, minus_minus_kind, str_kind, regex_kind, num_kind, big_int_kind, arrow_kind, nullish_coalescing_kind, logical_or_kind, logical_and_kind, bit_or_kind, bit_xor_kind, bit_and_kind, eq_eq_kind, not_eq_eq_kind, lt_kind, gt_eq_kind, left_shift_kind, zero_fill_right_shift_kind, add_kind, sub_kind, mul_kind, div_kind, mod_kind, exp_kind, in_kind, instanceof_kind, assign_kind, nullish_assign_kind, from_kind, with_kind}
+use Rattle.ecma_token.specs.Kinds.{end_kind, hash_kind, dot_kind, left_paren_kind, left_bracket_kind, left_brace_kind, right_brace_kind, comma_kind, back_quote_kind, question_mark_kind, plus_plus_kind, minus_minus_kind, str_kind, regex_kind, num_kind, big_int_kind, nullish_coalescing_kind, logical_or_kind, logical_and_kind, bit_or_kind, bit_xor_kind, bit_and_kind, eq_eq_kind, not_eq_eq_kind, lt_kind, gt_eq_kind, left_shift_kind, zero_fill_right_shift_kind, add_kind, sub_kind, mul_kind, div_kind, mod_kind, exp_kind, in_kind, instanceof_kind, assign_kind, nullish_assign_kind, from_kind, with_kind}
 use Rattle.ecma_syntax.specs.Input.{Input, Code, kind, kind2, brk, is_word, always_reserved, has_in}
 
 -- ---- the levels of clause 13, from the loosest
@@ -140,8 +140,7 @@ goes_expr c e ts =
     else (if between plus_plus_kind minus_minus_kind (kind ts) then (if brk ts then 0 else update_level)
     else (if kind ts == left_paren_kind then call_level
     else (if (kind ts == left_bracket_kind) || ((kind ts == dot_kind) || (kind ts == back_quote_kind)) then member_level
-    else (if kind ts == arrow_kind then (if brk ts then 0 else primary_level)
-    else 0))))))))))
+    else 0)))))))))
 
 -- The table of semicolons: whether the next token goes on after what ends so (own).
 abbrev pub goes_on : Code → ℕ → Input → Bool

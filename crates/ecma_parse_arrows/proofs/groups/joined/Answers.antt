@@ -1,4 +1,4 @@
-use Rattle.std.proofs.Common.{rules, ◌≡◌, ◌∙◌, sym, arith}
+use Rattle.std.proofs.Common.{rules, ◌∙◌, sym}
 use Rattle.ecma_node.specs.Placed.{inner}
 use Rattle.ecma_parse_arrows.proofs.Plain.{joined_long}
 use Rattle.ecma_parse_arrows.proofs.groups.joined.Goals as goal

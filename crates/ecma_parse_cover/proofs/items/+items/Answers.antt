@@ -1,4 +1,4 @@
-use Rattle.std.proofs.Common.{rules, ◌≡◌, ◌∙◌, reverse, false, true, sym}
+use Rattle.std.proofs.Common.{rules, ◌∙◌, reverse, false, true, sym}
 use Rattle.ecma_tree.specs.Tree.{element_by, trees_by}
 use Rattle.ecma_node.specs.Placed.{inner}
 use Rattle.ecma_node.specs.View.{view_expr_or_spread, view_object_pat_prop, view_prop_or_spread}

@@ -1,4 +1,4 @@
-use Rattle.std.proofs.Common.{rules, ◌≡◌, refl}
+use Rattle.std.proofs.Common.{refl}
 use Rattle.ecma_parse_cover.proofs.names.+names.Goals as goal
 
 pub array_binds-loop-elem-init : goal.array_binds-loop-elem-init

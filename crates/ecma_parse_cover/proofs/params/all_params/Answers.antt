@@ -1,4 +1,4 @@
-use Rattle.std.proofs.Common.{rules, ◌≡◌, ◌∙◌, reverse, false, true}
+use Rattle.std.proofs.Common.{rules, ◌∙◌, reverse, false, true}
 use Rattle.ecma_node.specs.Placed.{inner}
 use Rattle.ecma_node.specs.View.{view_expr_or_spread}
 use Rattle.ecma_parse_cover.proofs.Rows.{items_done}

@@ -1,4 +1,4 @@
-use Rattle.std.proofs.Common.{◌≡◌, ◌∙◌, sym, ap}
+use Rattle.std.proofs.Common.{◌∙◌, sym, ap}
 use Rattle.std.specs.Option.{option_copied}
 use Rattle.ecma_parse_cover.proofs.Lasts.{rests_at}
 use Rattle.ecma_parse_cover.proofs.params.ends_in_rest.Goals as goal

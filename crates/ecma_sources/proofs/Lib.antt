@@ -1,0 +1,5 @@
+pub mod Beside
+pub mod Expressions
+pub mod Statements
+pub mod Modules
+pub mod SourceLemmas
