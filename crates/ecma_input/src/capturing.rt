@@ -1,5 +1,8 @@
 //! A source that keeps the tokens that another hands out.
-ghost use Rattle.std.specs.Prelude.{◌≡◌, ◌<◌, ◌≤◌, [], map, IfOk, MatchOption, OnOk};
+ghost use Rattle.std.specs.Prelude.{◌≡◌, ◌<◌, ◌≤◌, ◌==◌, ◌||◌, [], map, IfOk, MatchOption, OnOk, Some};
+ghost use Rattle.ecma_token.specs.Kinds.{div_kind, div_assign_kind};
+ghost use Rattle.ecma_token.specs.OperatorKinds.{bin_op_kind, assign_op_kind};
+ghost use Rattle.ecma_token.specs.TokenViews.{token_view};
 ghost use Rattle.ecma_tokens.specs.Machine.{SameTold, StepGives, shown_spot};
 ghost use Rattle.ecma_input.specs.Captures.{captured_with, is_slash_at, without_reread};
 
@@ -20,15 +23,36 @@ pub struct Capturing<'a, I> {
     captured: Vec<TokenAndSpan<'a>>,
 }
 
+/// Whether an operator is a division.
+fn is_div(op: BinOpToken) -> bool
+    ensures { result ≡ (bin_op_kind op == div_kind) }
+{
+    matches!(op, BinOpToken::Div)
+}
+
+/// Whether an operator divides what it assigns to.
+fn is_div_assign(op: AssignOp) -> bool
+    ensures { result ≡ (assign_op_kind op == div_assign_kind) }
+{
+    matches!(op, AssignOp::DivAssign)
+}
+
+/// Whether a token is a slash.
+fn is_slash(token: &Token<'_>) -> bool
+    ensures { result ≡ ((token_view token.now).kind == div_kind || (token_view token.now).kind == div_assign_kind) }
+{
+    match token {
+        Token::BinOp(op) => is_div(*op),
+        Token::AssignOp(op) => is_div_assign(*op),
+        _ => false,
+    }
+}
+
 /// Whether a token is a slash that begins at this place.
 fn is_slash_at(token: &TokenAndSpan<'_>, lo: BytePos) -> bool
     ensures { result ≡ is_slash_at lo.0 (shown_spot token.now) }
 {
-    let is_slash = matches!(
-        &token.token,
-        Token::BinOp(BinOpToken::Div) | Token::AssignOp(AssignOp::DivAssign)
-    );
-    is_slash && token.span.lo.0 == lo.0
+    is_slash(&token.token) && token.span.lo.0 == lo.0
 }
 
 /// Leaves the last token where it is a slash at this place, since it is read again.
@@ -46,6 +70,22 @@ fn leave_reread(captured: &mut Vec<TokenAndSpan<'_>>, lo: BytePos) -> Result<(),
     if !is_slash_at(&last, lo) {
         captured.push(last)?;
     }
+    Ok(())
+}
+
+/// Keeps a copy of a token that comes.
+///
+/// # Errors
+///
+/// Want of memory.
+fn keep<'a>(
+    captured: &mut Vec<TokenAndSpan<'a>>,
+    token: &TokenAndSpan<'a>,
+) -> Result<(), AllocError>
+    ensures { OnOk result (map shown_spot captured.new.items ≡ captured_with (Some token.now) (map shown_spot captured.old.items)) }
+{
+    leave_reread(captured, token.span.lo)?;
+    captured.push(clone_token(token)?)?;
     Ok(())
 }
 
@@ -96,12 +136,8 @@ impl<'a, I: Tokens<'a> + Drop> Tokens<'a> for Capturing<'a, I> {
         let Some(token) = self.input.next()? else {
             return Ok(None);
         };
-        leave_reread(&mut self.captured, token.span.lo).map_err(out_of_memory)?;
-        let copy = clone_token(&token).map_err(out_of_memory)?;
-        match self.captured.push(copy) {
-            Ok(()) => Ok(Some(token)),
-            Err(e) => Err(out_of_memory(e.into())),
-        }
+        keep(&mut self.captured, &token).map_err(out_of_memory)?;
+        Ok(Some(token))
     }
 
     fn try_clone(&self) -> Result<Self, Error> {

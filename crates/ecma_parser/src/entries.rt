@@ -45,6 +45,7 @@ impl<'a> Entries<ecma_parse_state::Parser<'a, Lexer<'a>>> {
         ensures source { source_in state_in result ≡ at_start_of syntax EsNext 1 (chars text.now) (1 + length text.now) }
         ensures limit { limit_in result ≡ 256 }
         ensures faults { faults_in result ≡ [] }
+        ensures started { result.started ≡ false }
     {
         let lexer = Lexer::new(alloc, syntax, EsVersion::latest(), text, BytePos(1), false);
         Entries::new_from(alloc, lexer)
@@ -59,6 +60,7 @@ impl<'a, I: Tokens<'a> + Drop> Entries<ecma_parse_state::Parser<'a, I>> {
         ensures source { source_in I.state result ≡ I.state input }
         ensures limit { limit_in result ≡ 256 }
         ensures faults { faults_in result ≡ [] }
+        ensures started { result.started ≡ false }
     {
         Entries {
             reading: ecma_parse_state::Parser {

@@ -3,7 +3,6 @@
 use crate::script::token::{BinaryOp, Number};
 
 /// An expression. Its texts are parts of the text that was read.
-#[derive(Drop)]
 #[cycle(tree)]
 pub(crate) enum Expr<'a> {
     Name(&'a str),
@@ -15,6 +14,18 @@ pub(crate) enum Expr<'a> {
     /// deep tree.
     Chain(Box<Expr<'a>>, Vec<Operand<'a>>),
     Call(Box<Expr<'a>>, Vec<Expr<'a>>),
+}
+
+impl Drop for Expr<'_> {
+    #[cycle(let_go)]
+    fn drop(self) {
+        match self {
+            Expr::Name(_) | Expr::Number(_) | Expr::Text(_) => {}
+            Expr::Paren(_inner) => {}
+            Expr::Chain(_first, _rest) => {}
+            Expr::Call(_callee, _args) => {}
+        }
+    }
 }
 
 /// An operator and the operand to its right.

@@ -1,0 +1,69 @@
+-- How a token is handed out: it comes, or a slash comes that is read again as it.
+use Rattle.std.proofs.Common.{◌≡◌, ℕ, Bool, true, cond, List, [], ◌∷◌, Option, Some, None, inl, inr, refl, sym, ap, subst}
+use Rattle.ecma_token.specs.Tokens.{Spot}
+use Rattle.ecma_tokens.specs.Machine as tokens
+use Rattle.ecma_tokens.specs.Machine.{Source}
+use Rattle.ecma_syntax.specs.Input.{Place}
+use Rattle.ecma_lexing.specs.States.{State}
+use Rattle.ecma_lexing.specs.Steps.{IsStep}
+use Rattle.ecma_lexer.specs.Machine.{step_of, lexer_machine}
+use Rattle.ecma_lexer.proofs.MachineLemmas.{step_is}
+use Rattle.ecma_parse_state.specs.Fronts.{Front, place_of, places, asked, withdrawn, read_on, machine_of}
+use Rattle.ecma_sources.specs.Sources.{is_slash, Rereads, HandsOut}
+use Rattle.ecma_sources_of.proofs.Fronts.{front}
+
+-- ---- a source of tokens
+
+module _ {S : Type 0} (m : tokens.Machine S) where
+  hands_none : (f : Option Spot) (s : Source S) (n : ℕ) → f ≡ None → HandsOut (machine_of m) [] (front f s n)
+  unfolding machine_of
+  hands_none f s n e = ap (λ (z : Option Spot). places m 2 z (Some s)) e
+
+  hands_some : (f : Option Spot) (s : Source S) (n : ℕ) (t : Spot) (ps : List Place) → f ≡ Some t → HandsOut (machine_of m) ps (read_on (m.step s) t.hi) → HandsOut (machine_of m) (place_of t ∷ ps) (front f s n)
+  unfolding machine_of
+  hands_some f s n t ps e h = subst (λ (z : Option Spot). HandsOut (machine_of m) (place_of t ∷ ps) (front z s n)) (sym e) (inl (places m 1 (m.step s).0 (Some (m.step s).1), refl, h))
+
+  -- this token comes, and behind it these
+  abbrev Begins : Spot → List Place → Front S → Type 0
+  Begins t ps q = (rs : List Place) × ((machine_of m).seen q ≡ place_of t ∷ rs) × HandsOut (machine_of m) ps ((machine_of m).after q)
+
+  begins_at : (f : Option Spot) (s : Source S) (n : ℕ) (t : Spot) (ps : List Place) → f ≡ Some t → HandsOut (machine_of m) ps (read_on (m.step s) t.hi) → Begins t ps (front f s n)
+  unfolding machine_of
+  begins_at f s n t ps e h = subst (λ (z : Option Spot). Begins t ps (front z s n)) (sym e) (places m 1 (m.step s).0 (Some (m.step s).1), refl, h)
+
+  begins_again : (s : Source S) (n : ℕ) (q t : Spot) (ps : List Place) → is_slash q.token.kind ≡ true → (m.step (asked (Some q.lo) s)).0 ≡ Some t
+      → HandsOut (machine_of m) ps (read_on (m.step (asked None (m.step (asked (Some q.lo) s)).1)) t.hi) → Begins t ps ((machine_of m).operand (front (Some q) s n))
+  unfolding machine_of
+  begins_again s n q t ps k i h = subst (λ (b : Bool). Begins t ps (cond b (read_on (withdrawn (m.step (asked (Some q.lo) s))) n) (front (Some q) s n))) (sym k)
+      (begins_at (m.step (asked (Some q.lo) s)).0 (asked None (m.step (asked (Some q.lo) s)).1) n t ps i h)
+
+  hands_again : (f : Option Spot) (s : Source S) (n : ℕ) (q t : Spot) (ps : List Place) → f ≡ Some q → Rereads (place_of q) (place_of t) → Begins t ps ((machine_of m).operand (front (Some q) s n))
+      → HandsOut (machine_of m) (place_of t ∷ ps) (front f s n)
+  unfolding machine_of
+  hands_again f s n q t ps e r h = subst (λ (z : Option Spot). HandsOut (machine_of m) (place_of t ∷ ps) (front z s n)) (sym e)
+      (inr (place_of q, places m 1 (m.step s).0 (Some (m.step s).1), h.0, refl, r, h.1, h.2))
+
+-- ---- the lexer
+
+-- from this state on a parser is handed these tokens
+abbrev pub Hands : List Place → State → Type 0
+Hands ps s = (n : ℕ) → HandsOut (machine_of lexer_machine) ps (read_on (lexer_machine.step s) n)
+
+pub take_none : (s new : State) → IsStep s None new → Hands [] s
+take_none s new i n = hands_none lexer_machine (step_of s).0 (step_of s).1 n (sym (step_is s new None i).0)
+
+pub take : (s new : State) (t : Spot) (ps : List Place) → IsStep s (Some t) new → Hands ps new → Hands (place_of t ∷ ps) s
+take s new t ps i h n = let k = step_is s new (Some t) i in
+    hands_some lexer_machine (step_of s).0 (step_of s).1 n t ps (sym k.0) (subst (λ (z : State). HandsOut (machine_of lexer_machine) ps (read_on (step_of z) t.hi)) k.1 (h t.hi))
+
+-- behind a slash: read again, this token comes, and behind it these
+abbrev Again : Spot → Spot → List Place → State → Type 0
+Again q t ps z = ((step_of (asked (Some q.lo) z)).0 ≡ Some t) × HandsOut (machine_of lexer_machine) ps (read_on (step_of (asked None (step_of (asked (Some q.lo) z)).1)) t.hi)
+
+again_at : (mid new : State) (q t : Spot) (ps : List Place) → IsStep (asked (Some q.lo) mid) (Some t) new → Hands ps (asked None new) → Again q t ps mid
+again_at mid new q t ps j h = let b = step_is (asked (Some q.lo) mid) new (Some t) j in (sym b.0, subst (λ (z : State). HandsOut (machine_of lexer_machine) ps (read_on (step_of (asked None z)) t.hi)) b.1 (h t.hi))
+
+pub take_again : (s mid new : State) (q t : Spot) (ps : List Place) → IsStep s (Some q) mid → is_slash q.token.kind ≡ true → IsStep (asked (Some q.lo) mid) (Some t) new → Rereads (place_of q) (place_of t)
+    → Hands ps (asked None new) → Hands (place_of t ∷ ps) s
+take_again s mid new q t ps i k j r h n = let a = step_is s mid (Some q) i in let g = subst (λ (z : State). Again q t ps z) a.1 (again_at mid new q t ps j h) in
+    hands_again lexer_machine (step_of s).0 (step_of s).1 n q t ps (sym a.0) r (begins_again lexer_machine (step_of s).1 n q t ps k g.0 g.1)

@@ -1,0 +1,28 @@
+-- What a lexer at its start hands out to a parser tiles the text: the statement of the law.
+use Rattle.std.specs.Prelude.{◌≡◌, ◌≢◌, nat_le, ℕ, Bool, true, List, [], ◌∷◌}
+use Rattle.ecma_token.specs.Kinds.{error_kind}
+use Rattle.ecma_syntax.specs.Input.{Place, regexp_goal, usual}
+use Rattle.ecma_grammar_templates.specs.Laws.{Outside, over}
+use Rattle.ecma_lexing.specs.States.{State}
+use Rattle.ecma_lexer.specs.Machine.{lexer_machine}
+use Rattle.ecma_parse_state.specs.Fronts.{read_on, machine_of}
+use Rattle.ecma_sources.specs.Sources.{HandsOut}
+use Rattle.ecma_spells.specs.Tiled.{Tile}
+use Rattle.ecma_handed_lexed.specs.Handed.{handed, AtStart}
+
+-- the same tokens in the same places, under the same goals and in the same contexts, whatever escapes and old forms are told of them
+abbrev pub SameSpots : List Place → List Place → Type 0
+SameSpots [] [] = Unit {0}
+SameSpots (x ∷ xs) (y ∷ ys) = (x.spot ≡ y.spot) × (x.goal ≡ y.goal) × (x.context ≡ y.context) × SameSpots xs ys
+SameSpots _ _ = ⊥
+
+-- No token is a fault, and each that stands outside the characters of templates stands under a goal that is usual for it.
+abbrev pub AreUsual : List Place → Type 0
+AreUsual [] = Unit {0}
+AreUsual (p ∷ ps) = (p.spot.token.kind ≢ error_kind) × (nat_le p.goal regexp_goal ≡ true → usual p.spot.token.kind p.goal ≡ true) × AreUsual ps
+
+-- Tokens that are handed out to a parser, from the first one on, tile the text under any goals that are theirs: where each brace and each template has its
+-- partner, and each token stands under a goal of its region and kind.
+abbrev pub HandedTile : Type 0
+HandedTile = (start : ℕ) (modules : Bool) (text : List ℕ) (ps : List Place) (s : State) (last : ℕ) → AtStart start modules text s → over (Outside []) ps ≡ Outside [] → AreUsual ps
+    → HandsOut (machine_of lexer_machine) (handed ps) (read_on (lexer_machine.step s) last) → (qs : List Place) × SameSpots ps qs × Tile start modules text qs
