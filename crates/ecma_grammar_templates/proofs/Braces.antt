@@ -20,8 +20,8 @@ use Rattle.ecma_grammar.specs.Functions.{ClassMethod, FunctionDeclaration, Funct
 use Rattle.ecma_grammar.specs.Statements.{HeadTarget, HeadUsing, HeadVariables, OfTarget}
 
 constant : (v : Bool) → Plain (if v then true_kind else false_kind)
-constant true = plain true_kind refl refl refl refl refl refl
-constant false = plain false_kind refl refl refl refl refl refl
+constant true = plain true_kind refl refl refl refl refl refl refl
+constant false = plain false_kind refl refl refl refl refl refl refl
 
 has_parts : (f : Tree) → (function_parts f ≡ None → ⊥) → proper f ≡ true
 has_parts (tpl_element s t w u) h = absurd (h refl)
@@ -51,8 +51,8 @@ module_sort t h = sorted is_module_item (λ s t w u. refl) (λ e. refl) t h
 
 mutual
   pub walk : (t : Tree) (c : Code) (pl : c.placed ≡ true) (gs : List Bool) (ts r : Input) → proper t ≡ true → Spells t c ts r → Goes (Outside gs) (Outside gs) ts r
-  walk (this_expr s) c pl gs ts r pp hh = keyword_walk this_kind (plain this_kind refl refl refl refl refl refl) c pl s gs ts r hh
-  walk (null_lit s) c pl gs ts r pp hh = keyword_walk null_kind (plain null_kind refl refl refl refl refl refl) c pl s gs ts r hh
+  walk (this_expr s) c pl gs ts r pp hh = keyword_walk this_kind (plain this_kind refl refl refl refl refl refl refl) c pl s gs ts r hh
+  walk (null_lit s) c pl gs ts r pp hh = keyword_walk null_kind (plain null_kind refl refl refl refl refl refl refl) c pl s gs ts r hh
   walk (bool_lit s v) c pl gs ts r pp hh = keyword_walk (if v then true_kind else false_kind) (constant v) c pl s gs ts r hh
   walk (ident s n) c pl gs ts r pp hh = identifier_walk c pl s n gs ts r hh
   walk (ident_name s n) c pl gs ts r pp hh = identifier_name_walk c pl s n gs ts r hh
@@ -150,8 +150,8 @@ mutual
   walk (for_of_stmt s w (var_decl v k ds) e b) c pl gs ts r pp hh = for_of_walk c pl s w (λ m n. HeadVariables c v k (parts ds) m n) (λ yg ym yn yh. head_variables_walk c pl v k (parts ds) (walks ds) yg ym yn yh) (part e (λ y. Spells e y)) (walk e) (part b (λ y. Spells b y)) (walk b) gs ts r hh
   walk (for_of_stmt s w (using_decl v i ds) e b) c pl gs ts r pp hh = for_of_walk c pl s w (λ m n. HeadUsing c v i (parts ds) m n) (λ yg ym yn yh. head_using_walk c pl v i (parts ds) (walks ds) yg ym yn yh) (part e (λ y. Spells e y)) (walk e) (part b (λ y. Spells b y)) (walk b) gs ts r hh
   walk (for_of_stmt s w a e b) c pl gs ts r pp hh = for_of_walk c pl s w (λ m n. OfTarget c w (part a (λ y. Spells a y)) m n) (λ yg ym yn yh. of_target_walk c pl w (part a (λ y. Spells a y)) (walk a) yg ym yn yh) (part e (λ y. Spells e y)) (walk e) (part b (λ y. Spells b y)) (walk b) gs ts r hh
-  walk (continue_stmt s l) c pl gs ts r pp hh = jump_walk continue_kind (plain continue_kind refl refl refl refl refl refl) c pl s (part l (λ y. Spells l y)) (walk l) gs ts r hh
-  walk (break_stmt s l) c pl gs ts r pp hh = jump_walk break_kind (plain break_kind refl refl refl refl refl refl) c pl s (part l (λ y. Spells l y)) (walk l) gs ts r hh
+  walk (continue_stmt s l) c pl gs ts r pp hh = jump_walk continue_kind (plain continue_kind refl refl refl refl refl refl refl) c pl s (part l (λ y. Spells l y)) (walk l) gs ts r hh
+  walk (break_stmt s l) c pl gs ts r pp hh = jump_walk break_kind (plain break_kind refl refl refl refl refl refl refl) c pl s (part l (λ y. Spells l y)) (walk l) gs ts r hh
   walk (return_stmt s e) c pl gs ts r pp hh = return_walk c pl s (part e (λ y. Spells e y)) (walk e) gs ts r hh
   walk (with_stmt s e b) c pl gs ts r pp hh = with_walk c pl s (part e (λ y. Spells e y)) (walk e) (part b (λ y. Spells b y)) (walk b) gs ts r hh
   walk (switch_stmt s e xs) c pl gs ts r pp hh = switch_walk c pl s (part e (λ y. Spells e y)) (walk e) (parts xs) (walks xs) gs ts r hh

@@ -1,3 +1,4 @@
+pub mod Fits
 pub mod Walks
 pub mod Expressions
 pub mod Patterns

@@ -1,8 +1,8 @@
 -- What a production consumes leads from a region to one with the same braces open.
-use Rattle.std.proofs.Common.{◌≡◌, ◌≤◌, if◌then◌else◌, not, ◌&&◌, Option, arith, ℕ, ◌==◌, ◌||◌, Bool, true, false, cond, nat_le, eqb, List, [], ◌∷◌, refl, sym, ap, ◌∙◌, subst, true≢false, ◌⊎◌, inl, inr}
-use Rattle.std.proofs.lemmas.Bool.{le-leb, eqb-true, eq-eqb, and_parts}
-use Rattle.ecma_token.specs.Kinds.{regex_kind, div_kind, div_assign_kind, assign_kind, comma_kind, left_brace_kind, right_brace_kind, back_quote_kind, template_kind, dollar_brace_kind, semicolon_kind}
-use Rattle.ecma_syntax.specs.Input.{Place, Input, Code, Takes, TakesWord, TakesAnyWord, TakesName, TakesIn, Stands, Only, usual, div_goal, regexp_goal, goal_of, kind, kind_of, rest, others, is_word, in_list, turned_strict}
+use Rattle.std.proofs.Common.{◌≡◌, ◌≤◌, if◌then◌else◌, not, ◌&&◌, Option, arith, ℕ, ◌==◌, Bool, true, false, cond, eqb, List, [], ◌∷◌, refl, sym, ap, ◌∙◌, subst, true≢false, ◌⊎◌, inl, inr}
+use Rattle.std.proofs.lemmas.Bool.{eqb-true, eq-eqb, and_parts}
+use Rattle.ecma_token.specs.Kinds.{error_kind, assign_kind, comma_kind, left_brace_kind, right_brace_kind, back_quote_kind, template_kind, dollar_brace_kind, semicolon_kind}
+use Rattle.ecma_syntax.specs.Input.{Place, Input, Code, Takes, TakesWord, TakesAnyWord, TakesName, TakesIn, Stands, Only, usual, goal_of, kind, kind_of, rest, others, is_word, in_list, turned_strict}
 use Rattle.ecma_syntax.specs.Shape.{is_absent, is_hole, is_rest, is_use_strict, is_directive, level, is_simple, is_target_expr, is_place, is_item_pat, is_target}
 use Rattle.ecma_token.specs.declared.place.Span.{Span}
 use Rattle.ecma_tree.specs.Tree.{Tree, tpl_element, expr_pat}
@@ -23,11 +23,12 @@ stay a ts r e = record { so = ap (λ (x : Input). over a x.places) e }
 -- a token that is no brace and no part of a template
 pub record Plain (k : ℕ) : Type 0 where
   pub some : eqb k 0 ≡ false
+  pub sound : eqb k error_kind ≡ false
   pub same : (s : List Bool) → after (Outside s) k ≡ Outside s
 
 -- a kind of which a test holds that fails for those
-pub plain_by : (f : ℕ → Bool) → f 0 ≡ false → f 11 ≡ false → f 12 ≡ false → f 15 ≡ false → f 16 ≡ false → f 18 ≡ false → (k : ℕ) → f k ≡ true → Plain k
-plain_by f a b c d e g k h = record { some = no 0 a; same = λ s. rw (no left_brace_kind b) (rw (no right_brace_kind c) (rw (no back_quote_kind d) (rw (no template_kind e) (rw (no dollar_brace_kind g) refl)))) }
+pub plain_by : (f : ℕ → Bool) → f 0 ≡ false → f 11 ≡ false → f 12 ≡ false → f 15 ≡ false → f 16 ≡ false → f 18 ≡ false → f 28 ≡ false → (k : ℕ) → f k ≡ true → Plain k
+plain_by f a b c d e g i k h = record { some = no 0 a; sound = no error_kind i; same = λ s. rw (no left_brace_kind b) (rw (no right_brace_kind c) (rw (no back_quote_kind d) (rw (no template_kind e) (rw (no dollar_brace_kind g) refl)))) }
   where
     no : (j : ℕ) → f j ≡ false → eqb k j ≡ false
     no j q = by_test (eqb k j) refl
@@ -37,64 +38,55 @@ plain_by f a b c d e g k h = record { some = no 0 a; same = λ s. rw (no left_br
         by_test false e = refl
 
 -- a kind that is none of those
-pub plain : (k : ℕ) → eqb 0 k ≡ false → eqb 11 k ≡ false → eqb 12 k ≡ false → eqb 15 k ≡ false → eqb 16 k ≡ false → eqb 18 k ≡ false → Plain k
-plain k a b c d e g = plain_by (λ x. x == k) a b c d e g k (eq-eqb k k refl)
+pub plain : (k : ℕ) → eqb 0 k ≡ false → eqb 11 k ≡ false → eqb 12 k ≡ false → eqb 15 k ≡ false → eqb 16 k ≡ false → eqb 18 k ≡ false → eqb 28 k ≡ false → Plain k
+plain k a b c d e g h = plain_by (λ x. x == k) a b c d e g h k (eq-eqb k k refl)
 
--- a usual goal is one of the first two
-low : (k g : ℕ) → usual k g ≡ true → nat_le g regexp_goal ≡ true
-low k g h = by_tests (k == regex_kind) ((k == div_kind) || (k == div_assign_kind)) h
-  where
-    one : (n : ℕ) → n ≤ 1 → (g == n) ≡ true → nat_le g 1 ≡ true
-    one n e f = le-leb g 1 (subst (λ (x : ℕ). x ≤ 1) (sym (eqb-true g n f)) e)
-
-    by_tests : (a b : Bool) → cond a (g == regexp_goal) (cond b (g == div_goal) (nat_le g regexp_goal)) ≡ true → nat_le g regexp_goal ≡ true
-    by_tests true b e = one 1 (omega arith) e
-    by_tests false true e = one 0 (omega arith) e
-    by_tests false false e = e
-
-step : (a b : Region) (k : ℕ) (ts r : Input) → eqb k 0 ≡ false → after a k ≡ b → fits a (goal_of ts.places) ≡ true → kind ts ≡ k → rest ts ≡ r → Goes a b ts r
+step : (a b : Region) (k : ℕ) (ts r : Input) → eqb k 0 ≡ false → after a k ≡ b → fits a k (goal_of ts.places) ≡ true → kind ts ≡ k → rest ts ≡ r → Goes a b ts r
 step a b k ts r n e f i j = record { so = stepped ts.places i f ∙ ap (λ (x : Input). over b x.places) j }
   where
-    stepped : (l : List Place) → kind_of l ≡ k → fits a (goal_of l) ≡ true → over a l ≡ over b (others l)
+    stepped : (l : List Place) → kind_of l ≡ k → fits a k (goal_of l) ≡ true → over a l ≡ over b (others l)
     stepped [] i f = absurd (true≢false (subst (λ (x : ℕ). eqb x 0 ≡ false) (sym i) n))
-    stepped (p ∷ l) i f = ap (λ (z : Bool). over (cond z (after a p.spot.token.kind) Nowhere) l) f ∙ ap (λ (x : Region). over x l) (ap (λ (x : ℕ). after a x) i ∙ e)
+    stepped (p ∷ l) i f = ap (λ (z : Bool). over (cond z (after a p.spot.token.kind) Nowhere) l) (subst (λ (x : ℕ). fits a x p.goal ≡ true) (sym i) f) ∙ ap (λ (x : Region). over x l) (ap (λ (x : ℕ). after a x) i ∙ e)
 
 only : {P : Type 0} (b : Bool) → b ≡ true → Only b P → P
 only true e h = h
 only false e h = absurd (true≢false (sym e))
 
-standing : (c : Code) → c.placed ≡ true → (s : List Bool) (ts : Input) → Stands c ts → fits (Outside s) (goal_of ts.places) ≡ true
-standing c pl s ts h = low (kind ts) (goal_of ts.places) (only c.placed pl h).0
+both : (a b : Bool) → a ≡ true → b ≡ false → (a && not b) ≡ true
+both a b p q = rw (p, q) refl
+
+standing : (c : Code) → c.placed ≡ true → (s : List Bool) (ts : Input) (k : ℕ) → kind ts ≡ k → eqb k error_kind ≡ false → Stands c ts → fits (Outside s) k (goal_of ts.places) ≡ true
+standing c pl s ts k e n h = both (usual k (goal_of ts.places)) (k == error_kind) (subst (λ (x : ℕ). usual x (goal_of ts.places) ≡ true) e (only c.placed pl h).0) n
 
 pub takes : (c : Code) (pl : c.placed ≡ true) (k : ℕ) (s : List Bool) (ts r : Input) → Plain k → Takes c k ts r → Goes (Outside s) (Outside s) ts r
-takes c pl k s ts r p h = step (Outside s) (Outside s) k ts r p.some (p.same s) (standing c pl s ts h.1) h.0 h.2
+takes c pl k s ts r p h = step (Outside s) (Outside s) k ts r p.some (p.same s) (standing c pl s ts k h.0 p.sound h.1) h.0 h.2
 
 pub takes_word : (c : Code) (pl : c.placed ≡ true) (k : ℕ) (s : List Bool) (ts r : Input) → Plain k → TakesWord c k ts r → Goes (Outside s) (Outside s) ts r
-takes_word c pl k s ts r p h = step (Outside s) (Outside s) k ts r p.some (p.same s) (standing c pl s ts h.2) h.0 h.3
+takes_word c pl k s ts r p h = step (Outside s) (Outside s) k ts r p.some (p.same s) (standing c pl s ts k h.0 p.sound h.2) h.0 h.3
 
 pub a_word : (k : ℕ) → is_word k ≡ true → Plain k
-a_word k h = plain_by is_word refl refl refl refl refl refl k h
+a_word k h = plain_by is_word refl refl refl refl refl refl refl k h
 
 pub takes_any : (c : Code) (pl : c.placed ≡ true) (n : List ℕ) (s : List Bool) (ts r : Input) → TakesAnyWord c n ts r → Goes (Outside s) (Outside s) ts r
-takes_any c pl n s ts r h = let p = a_word (kind ts) h.0 in step (Outside s) (Outside s) (kind ts) ts r p.some (p.same s) (standing c pl s ts h.2) refl h.3
+takes_any c pl n s ts r h = let p = a_word (kind ts) h.0 in step (Outside s) (Outside s) (kind ts) ts r p.some (p.same s) (standing c pl s ts (kind ts) refl p.sound h.2) refl h.3
 
 pub takes_name : (c : Code) (pl : c.placed ≡ true) (n : List ℕ) (s : List Bool) (ts r : Input) → TakesName c n ts r → Goes (Outside s) (Outside s) ts r
-takes_name c pl n s ts r h = let p = a_word (kind ts) h.0 in step (Outside s) (Outside s) (kind ts) ts r p.some (p.same s) (standing c pl s ts h.4) refl h.5
+takes_name c pl n s ts r h = let p = a_word (kind ts) h.0 in step (Outside s) (Outside s) (kind ts) ts r p.some (p.same s) (standing c pl s ts (kind ts) refl p.sound h.4) refl h.5
 
 pub opens : (c : Code) (pl : c.placed ≡ true) (s : List Bool) (ts r : Input) → Takes c left_brace_kind ts r → Goes (Outside s) (Outside (false ∷ s)) ts r
-opens c pl s ts r h = step (Outside s) (Outside (false ∷ s)) left_brace_kind ts r refl refl (standing c pl s ts h.1) h.0 h.2
+opens c pl s ts r h = step (Outside s) (Outside (false ∷ s)) left_brace_kind ts r refl refl (standing c pl s ts left_brace_kind h.0 refl h.1) h.0 h.2
 
 pub closes : (c : Code) (pl : c.placed ≡ true) (s : List Bool) (ts r : Input) → Takes c right_brace_kind ts r → Goes (Outside (false ∷ s)) (Outside s) ts r
-closes c pl s ts r h = step (Outside (false ∷ s)) (Outside s) right_brace_kind ts r refl refl (standing c pl (false ∷ s) ts h.1) h.0 h.2
+closes c pl s ts r h = step (Outside (false ∷ s)) (Outside s) right_brace_kind ts r refl refl (standing c pl (false ∷ s) ts right_brace_kind h.0 refl h.1) h.0 h.2
 
 pub quotes : (c : Code) (pl : c.placed ≡ true) (s : List Bool) (ts r : Input) → Takes c back_quote_kind ts r → Goes (Outside s) (Inside s) ts r
-quotes c pl s ts r h = step (Outside s) (Inside s) back_quote_kind ts r refl refl (standing c pl s ts h.1) h.0 h.2
+quotes c pl s ts r h = step (Outside s) (Inside s) back_quote_kind ts r refl refl (standing c pl s ts back_quote_kind h.0 refl h.1) h.0 h.2
 
 pub goes_on : (c : Code) (pl : c.placed ≡ true) (s : List Bool) (ts r : Input) → Takes c right_brace_kind ts r → Goes (Outside (true ∷ s)) (Inside s) ts r
-goes_on c pl s ts r h = step (Outside (true ∷ s)) (Inside s) right_brace_kind ts r refl refl (standing c pl (true ∷ s) ts h.1) h.0 h.2
+goes_on c pl s ts r h = step (Outside (true ∷ s)) (Inside s) right_brace_kind ts r refl refl (standing c pl (true ∷ s) ts right_brace_kind h.0 refl h.1) h.0 h.2
 
-pub takes_in : (c : Code) (pl : c.placed ≡ true) (g k : ℕ) (a b : Region) (ts r : Input) → eqb k 0 ≡ false → after a k ≡ b → fits a g ≡ true → TakesIn c g k ts r → Goes a b ts r
-takes_in c pl g k a b ts r n e f h = step a b k ts r n e (subst (λ (x : ℕ). fits a x ≡ true) (sym (only c.placed pl h.1).0) f) h.0 h.2
+pub takes_in : (c : Code) (pl : c.placed ≡ true) (g k : ℕ) (a b : Region) (ts r : Input) → eqb k 0 ≡ false → after a k ≡ b → fits a k g ≡ true → TakesIn c g k ts r → Goes a b ts r
+takes_in c pl g k a b ts r n e f h = step a b k ts r n e (subst (λ (x : ℕ). fits a k x ≡ true) (sym (only c.placed pl h.1).0) f) h.0 h.2
 
 -- ---- forms
 
@@ -157,10 +149,10 @@ pub maybe : (P : Code → Part → Input → Input → Type 0) (c : Code) (x : P
 maybe P c x s ts r f h = either (is_absent x.tree) (Outside s) (Outside s) ts r h (λ e k. stay (Outside s) ts r k) f
 
 pub paused : (c : Code) (pl : c.placed ≡ true) (e : ℕ) (s : List Bool) (ts r : Input) → Ends c e ts r → Goes (Outside s) (Outside s) ts r
-paused c pl e s ts r h = one_of (Outside s) (Outside s) ts r h (λ g. takes c pl semicolon_kind s ts r (plain semicolon_kind refl refl refl refl refl refl) g) (λ g. stay (Outside s) ts r g.2)
+paused c pl e s ts r h = one_of (Outside s) (Outside s) ts r h (λ g. takes c pl semicolon_kind s ts r (plain semicolon_kind refl refl refl refl refl refl refl) g) (λ g. stay (Outside s) ts r g.2)
 
 comma : Plain comma_kind
-comma = plain comma_kind refl refl refl refl refl refl
+comma = plain comma_kind refl refl refl refl refl refl refl
 
 -- a list up to what closes it
 pub listed : (holes : Bool) (P : Part → Input → Input → Type 0) (c : Code) (pl : c.placed ≡ true) (close : ℕ) (s t : List Bool) → ((ts r : Input) → Takes c close ts r → Goes (Outside s) (Outside t) ts r)

@@ -1,8 +1,8 @@
 -- Templates match (ECMA-262, 13.2.8): which tokens stand among a template's characters is told by the tokens before them.
-use Rattle.std.specs.Prelude.{◌≡◌, nat_le, ℕ, Bool, true, false, ◌||◌, ◌==◌, if◌then◌else◌, List, [], ◌∷◌}
-use Rattle.ecma_token.specs.Kinds.{left_brace_kind, right_brace_kind, back_quote_kind, template_kind, dollar_brace_kind}
+use Rattle.std.specs.Prelude.{◌≡◌, ℕ, Bool, true, false, not, ◌&&◌, ◌||◌, ◌==◌, if◌then◌else◌, List, [], ◌∷◌}
+use Rattle.ecma_token.specs.Kinds.{left_brace_kind, right_brace_kind, back_quote_kind, template_kind, dollar_brace_kind, error_kind}
 use Rattle.ecma_tree.specs.Tree.{Tree, script, es_module}
-use Rattle.ecma_syntax.specs.Input.{Place, Input, Code, regexp_goal, template_goal, template_end_goal}
+use Rattle.ecma_syntax.specs.Input.{Place, Input, Code, usual, template_goal, template_end_goal}
 use Rattle.ecma_grammar.specs.Grammar.{Spells}
 
 -- Where a token stands, by the braces that are open there, the innermost first (true: one that `${` opened): outside the characters of templates;
@@ -29,17 +29,17 @@ after (Inside s) k = if k == template_kind then Behind s else Nowhere
 after (Behind s) k = if k == back_quote_kind then Outside s else (if k == dollar_brace_kind then Outside (true ∷ s) else Nowhere)
 after Nowhere k = Nowhere
 
--- whether a token stands under a goal of its region
-abbrev pub fits : Region → ℕ → Bool
-fits (Outside s) goal = nat_le goal regexp_goal
-fits (Inside s) goal = goal == template_goal
-fits (Behind s) goal = goal == template_end_goal
-fits Nowhere goal = false
+-- whether a token of a kind stands under a goal of its region: outside the characters of templates one that is usual for it, and no fault stands there
+abbrev pub fits : Region → ℕ → ℕ → Bool
+fits (Outside s) k goal = usual k goal && not (k == error_kind)
+fits (Inside s) k goal = goal == template_goal
+fits (Behind s) k goal = goal == template_end_goal
+fits Nowhere k goal = false
 
 -- the region after some tokens, which stand under goals of theirs
 abbrev pub over : Region → List Place → Region
 over g [] = g
-over g (p ∷ ps) = over (if fits g p.goal then after g p.spot.token.kind else Nowhere) ps
+over g (p ∷ ps) = over (if fits g p.spot.token.kind p.goal then after g p.spot.token.kind else Nowhere) ps
 
 -- a script or a module that spells tokens
 abbrev pub Programmed : Tree → Code → Input → Input → Type 0

@@ -25,6 +25,7 @@ use Rattle.ecma_tree.specs.Tree.{Tree, script, es_module}
 use Rattle.ecma_token.specs.declared.syntax.EsSyntax.{EsSyntax}
 use Rattle.ecma_syntax.specs.Input.{Place, Input}
 use Rattle.ecma_grammar_templates.specs.Laws.{Region, Outside, Inside, Behind, Nowhere, after, over}
+use Rattle.ecma_grammar_templates.proofs.Fits.{not_lost, fits_on, low_there}
 use Rattle.ecma_grammar_templates.proofs.Braces.{programs_match}
 use Rattle.ecma_lexing.specs.States.{Last, Start, Slash, Characters, Fault, Other, State, again, again_by, behind, ended, goal_of, is_start, place, shebang, spot_at, template_goal, contexts_after, last_after}
 use Rattle.ecma_lexing.specs.Steps.{IsRead, IsPlain, IsOutside, IsGoing, IsStepBy, IsStepOf, IsStep}
@@ -34,7 +35,7 @@ use Rattle.ecma_grammar.specs.Grammar.{Derives}
 use Rattle.ecma_spells.specs.Text.{code_of, is_of_goal, text_start}
 use Rattle.ecma_spells.specs.Tiled.{goal_at, whole, IsBefore, IsTile, AreTiles, AfterHashbang}
 use Rattle.ecma_handed_lexed.specs.Handed.{handed, AtStart, NewAtStart, TilesHanded, ReadHanded}
-use Rattle.ecma_handed_lexed.proofs.Regions.{held, IsNoFault, At, no_goal, next, past_start, not_lost, fits_on}
+use Rattle.ecma_handed_lexed.proofs.Regions.{held, IsNoFault, At, no_goal, next, past_start}
 use Rattle.ecma_handed_lexed.proofs.Takes.{Hands, take_none, take, take_again}
 
 -- ---- a slash where a regular expression stands
@@ -202,7 +203,7 @@ module _ (end : ℕ) (modules : Bool) where
 
   step : (p : Place) (ps : List Place) → Goes ps → Goes (p ∷ ps)
   step p ps k (Outside s) u l br text first f at i n t o = let m = fits_on (Outside s) p ps o in
-      by_goal p ps k u l br text first f i n t.0 t.1 t.2 s at m.1 p.goal refl m.0
+      by_goal p ps k u l br text first f i n t.0 t.1 t.2 s at m.1 p.goal refl (low_there s p.spot.token.kind p.goal m.0)
   step p ps k (Inside s) u l br text first f at i n t o = let m = fits_on (Inside s) p ps o in let e = eqb-true p.goal 2 m.0 in
       let before = subst (λ (z : ℕ). IsBefore z (whole modules) first text t.1.0 t.1.1) e t.1.3 in
       in_template p ps k u l br text first f i n t.0 t.1 t.2 (Inside s) at m.1 (subst (λ (z : Last). IsNoFault z) (sym at.1) tt) TemplateTail
@@ -262,7 +263,7 @@ pub tiles_handed : TilesHanded
 tiles_handed start modules text ps s last h t o = start_as (λ z. Hands (handed ps) z) start modules text s h
     (whole_text (start + bytes text) modules s.settings s.tokens.line_break text (record { unasked = h.next_regexp; told = h.goal }) h.contexts ps t o) last
 
-matched : (modules : Bool) (syntax : EsSyntax) (t : Tree) (ps : List Place) (r : Input) → is_of_goal modules t ≡ true → Derives t (code_of modules syntax) (record { last = text_start; places = ps }) r → over (Outside []) ps ≡ Outside []
+pub matched : (modules : Bool) (syntax : EsSyntax) (t : Tree) (ps : List Place) (r : Input) → is_of_goal modules t ≡ true → Derives t (code_of modules syntax) (record { last = text_start; places = ps }) r → over (Outside []) ps ≡ Outside []
 matched false syntax (script s ss l) ps r e d = programs_match (script s ss l) (code_of false syntax) (record { last = text_start; places = ps }) r refl d.0
 matched true syntax (es_module s ss l) ps r e d = programs_match (es_module s ss l) (code_of true syntax) (record { last = text_start; places = ps }) r refl d.0
 matched false syntax t ps r e d = absurd (true≢false (sym e))

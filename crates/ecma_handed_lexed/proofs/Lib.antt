@@ -4,3 +4,4 @@ pub mod Hands
 pub mod Untakes
 pub mod Tiles
 pub mod Escapes
+pub mod Usual

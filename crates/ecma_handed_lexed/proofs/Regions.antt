@@ -1,13 +1,12 @@
 -- Regions of templates beside a lexer's token contexts.
-use Rattle.std.proofs.Common.{◌≡◌, ℕ, Bool, true, false, cond, ◌||◌, List, [], ◌∷◌, None, refl, sym, ◌∙◌, subst, true≢false, ⊎_elim}
+use Rattle.std.proofs.Common.{◌≡◌, ℕ, Bool, true, false, cond, ◌||◌, List, [], ◌∷◌, None, refl, sym, subst, true≢false, ⊎_elim}
 use Rattle.std.specs.Prelude.{◌==◌}
 use Rattle.std.proofs.lemmas.Bool.{cases_Bool, eqb-true}
 use Rattle.ecma_token.specs.Kinds.{left_brace_kind, right_brace_kind, back_quote_kind, template_kind, dollar_brace_kind, div_kind, div_assign_kind}
-use Rattle.ecma_syntax.specs.Input.{Place}
 use Rattle.ecma_tokens.specs.declared.contexts.TokenContext.{TokenContext}
 use Rattle.ecma_tokens.specs.declared.contexts.TokenContext.TheVariants.{TplQuasi, Tpl}
 use Rattle.ecma_lexing.specs.States.{Last, Slash, Characters, Fault, Other, is_start, template_goal, opened, closed, quoted, contexts_after, last_after}
-use Rattle.ecma_grammar_templates.specs.Laws.{Region, Outside, Inside, Behind, Nowhere, closing, after, fits, over}
+use Rattle.ecma_grammar_templates.specs.Laws.{Region, Outside, Inside, Behind, Nowhere, closing, after}
 
 -- the contexts that a lexer keeps of braces that are open: none outside of all templates
 abbrev pub held : List Bool → List TokenContext
@@ -131,23 +130,3 @@ past_start k from = by_tests (k == template_kind) ((k == div_kind) || (k == div_
     by_tests true s = refl
     by_tests false true = refl
     by_tests false false = refl
-
--- ---- a list that matches
-
-abbrev IsSomewhere : Region → Type 0
-IsSomewhere Nowhere = ⊥
-IsSomewhere g = Unit {0}
-
-lost : (ps : List Place) → over Nowhere ps ≡ Nowhere
-lost [] = refl
-lost (p ∷ ps) = lost ps
-
-pub not_lost : (ps : List Place) → over Nowhere ps ≡ Outside [] → ⊥
-not_lost ps h = subst (λ (g : Region). IsSomewhere g) (sym (sym (lost ps) ∙ h)) tt
-
-pub fits_on : (g : Region) (p : Place) (ps : List Place) → over g (p ∷ ps) ≡ Outside [] → (fits g p.goal ≡ true) × (over (after g p.spot.token.kind) ps ≡ Outside [])
-fits_on g p ps h = by_test (fits g p.goal) h
-  where
-    by_test : (b : Bool) → over (cond b (after g p.spot.token.kind) Nowhere) ps ≡ Outside [] → (b ≡ true) × (over (after g p.spot.token.kind) ps ≡ Outside [])
-    by_test true e = (refl, e)
-    by_test false e = absurd (not_lost ps e)

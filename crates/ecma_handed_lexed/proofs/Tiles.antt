@@ -31,6 +31,7 @@ use Rattle.ecma_tokens.specs.declared.contexts.TokenContext.{TokenContext}
 use Rattle.ecma_tokens.specs.declared.contexts.TokenContext.TheVariants.{Tpl}
 use Rattle.ecma_syntax.specs.Input.{Place, usual}
 use Rattle.ecma_grammar_templates.specs.Laws.{Region, Outside, Inside, Behind, Nowhere, after, over}
+use Rattle.ecma_grammar_templates.proofs.Fits.{not_lost, fits_on, low_there, usual_there, sound_on}
 use Rattle.ecma_lexing.specs.States.{Last, Start, Slash, Characters, Fault, Other, State, again, again_by, behind, goal_of, is_start, place, shebang, spot_at, template_goal, contexts_after, last_after}
 use Rattle.ecma_lexing.specs.Steps.{IsRead, IsPlain, IsOutside, IsGoing, IsStepBy, IsStepOf, IsStep}
 use Rattle.ecma_lexing.proofs.StepLemmas.{one_step}
@@ -41,10 +42,10 @@ use Rattle.ecma_parse_state.specs.Fronts.{asked}
 use Rattle.ecma_sources.specs.Sources.{is_slash}
 use Rattle.ecma_spells.specs.Tiled.{goal_at, whole, IsBefore, AreTiles, AfterHashbang, Tile}
 use Rattle.ecma_handed_lexed.specs.Handed.{handed}
-use Rattle.ecma_handed_lexed.specs.Tiled.{SameSpots, AreUsual, HandedTile}
-use Rattle.ecma_handed_lexed.proofs.Regions.{held, IsNoFault, At, no_goal, next, past_start, not_lost, fits_on}
+use Rattle.ecma_handed_lexed.specs.Tiled.{SameSpots, HandedTile, DerivedTile}
+use Rattle.ecma_handed_lexed.proofs.Regions.{held, IsNoFault, At, no_goal, next, past_start}
 use Rattle.ecma_handed_lexed.proofs.Untakes.{Took, Comes, untake, untake_none}
-use Rattle.ecma_handed_lexed.proofs.Hands.{IsSlash, slash_at, mk, start_as}
+use Rattle.ecma_handed_lexed.proofs.Hands.{IsSlash, slash_at, mk, start_as, matched}
 
 -- ---- lexemes under both goals
 
@@ -194,22 +195,22 @@ module _ (end : ℕ) (modules : Bool) where
   abbrev Tiles : Bool → List ℕ → List Place → Type 0
   Tiles first text ps = (qs : List Place) × SameSpots ps qs × AreTiles end (whole modules) first text qs
 
-  -- What such a state hands out tiles the text, where it matches and is usual.
+  -- What such a state hands out tiles the text, where it matches.
   abbrev Back : List Place → Type 0
   Back ps = (g : Region) (u : Settings) (l : Last) (br : Bool) (text : List ℕ) (first : Bool) → u.next_regexp ≡ None → u.ctx.module_ ≡ modules → At g u.contexts l → is_start l ≡ first
-      → (is_start l ≡ true → NoHashbang text) → over g ps ≡ Outside [] → AreUsual ps → Comes (handed ps) (mk end u l br text) → Tiles first text ps
+      → (is_start l ≡ true → NoHashbang text) → over g ps ≡ Outside [] → Comes (handed ps) (mk end u l br text) → Tiles first text ps
 
   no_start : (k : ℕ) (from text : List ℕ) → is_start (last_after k from) ≡ true → NoHashbang text
   no_start k from text e = absurd (true≢false (sym e ∙ past_start k from))
 
-  module _ (p : Place) (ps : List Place) (k : Back ps) (g : Region) (first : Bool) (text : List ℕ) (o : over (after g p.spot.token.kind) ps ≡ Outside []) (usuals : AreUsual ps) where
+  module _ (p : Place) (ps : List Place) (k : Back ps) (g : Region) (first : Bool) (text : List ℕ) (o : over (after g p.spot.token.kind) ps ≡ Outside []) where
     -- a token in front of what tiles the rest
     on : (u : Settings) (br : Bool) (from : List ℕ) (x : SpecLexeme) (rest : List ℕ) → u.next_regexp ≡ None → u.ctx.module_ ≡ modules → At (after g x.token.kind) u.contexts (last_after x.token.kind from)
         → p.spot ≡ spot_at end br x.token from rest → Comes (handed ps) (mk end u (last_after x.token.kind from) br rest)
         → IsBefore p.goal (whole modules) first text br from → IsLexeme (goal_at p.goal) from x rest → Tiles first text (p ∷ ps)
     on u br from x rest un md at e h before lex =
         let z = k (after g x.token.kind) u (last_after x.token.kind from) br rest false un md at (past_start x.token.kind from) (no_start x.token.kind from rest)
-        (subst (λ (y : Spot). over (after g y.token.kind) ps ≡ Outside []) e o) usuals h in
+        (subst (λ (y : Spot). over (after g y.token.kind) ps ≡ Outside []) e o) h in
         (marked p x ∷ z.0, (refl, refl, refl, z.1), (rest, (br, from, x, before, lex, e, refl, refl), z.2))
 
 -- ---- one token, outside of the characters of templates
@@ -234,7 +235,7 @@ reread s new from t e i n h = read_back s new RegExp s.tokens.line_break from t 
     here = ap (λ (z : Last). again_by z s.settings.next_regexp s.tokens.end) e ∙ (ap (λ (z : Option ℕ). again_by (Slash from) z s.tokens.end) i ∙ ap (λ (y : Bool). cond y (Some from) None) (same_place (place s.tokens.end from)))
 
 module _ (end : ℕ) (modules : Bool) (p : Place) (ps : List Place) (k : Back end modules ps) (u : Settings) (l : Last) (br : Bool) (text : List ℕ) (first : Bool) (un : u.next_regexp ≡ None) (md : u.ctx.module_ ≡ modules)
-    (i : is_start l ≡ first) (sound : p.spot.token.kind ≡ error_kind → ⊥) (usuals : AreUsual ps) where
+    (i : is_start l ≡ first) (sound : p.spot.token.kind ≡ error_kind → ⊥) where
   abbrev stand : State
   stand = mk end u l br text
 
@@ -258,7 +259,7 @@ module _ (end : ℕ) (modules : Bool) (p : Place) (ps : List Place) (k : Back en
 
     came_plain : nat_le p.goal 1 ≡ true → Read end modules u l br text un md first i p.spot (step_of stand).1 → Comes (handed ps) (step_of stand).1 → Tiles end modules first text (p ∷ ps)
     came_plain le r h = let g = plain_goal p.goal refl le r.0 r.1 r.3.0 r.3.1 r.3.3 r.2 r.3.2 in
-        on end modules p ps k (Outside s) first text o usuals (behind stand r.0 r.1 r.3.0 r.3.1).settings r.0 r.1 r.3.0 r.3.1 un md (next r.1 (Outside s) u.contexts l r.3.0.token.kind at) r.3.3
+        on end modules p ps k (Outside s) first text o (behind stand r.0 r.1 r.3.0 r.3.1).settings r.0 r.1 r.3.0 r.3.1 un md (next r.1 (Outside s) u.contexts l r.3.0.token.kind at) r.3.3
         (subst (λ (z : State). Comes (handed ps) z) r.3.4 h) g.0 g.1
 
     -- behind a slash, which was read again as it
@@ -271,7 +272,7 @@ module _ (end : ℕ) (modules : Bool) (p : Place) (ps : List Place) (k : Back en
         let h2 : Second mid (place end r.1) = subst (λ (z : ℕ). Second mid z) (ap (λ (y : Spot). y.lo) r.3.3) (subst (λ (z : State). Second z q.lo) {y = mid} r.3.4 h) in
         let w = reread told (step_of told).1 r.1 p.spot (slash_last x.token.kind r.1 kind) (refl {a = Some (place end r.1)}) sound (made told (Some p.spot) h2.0) in
         let e : p.goal ≡ 1 = regex_usual p.spot.token.kind p.goal regex fit in
-        on end modules p ps k (Outside s) first text o usuals (asked None (behind told r.0 r.1 w.0 w.1)).settings r.0 r.1 w.0 w.1 (refl {a = None}) md
+        on end modules p ps k (Outside s) first text o (asked None (behind told r.0 r.1 w.0 w.1)).settings r.0 r.1 w.0 w.1 (refl {a = None}) md
         (next r.1 (Outside s) (contexts_after x.token.kind u.contexts) l w.0.token.kind (slash_keeps x.token.kind u.contexts kind ∙ at.0, at.1)) w.3
         (subst (λ (z : State). Comes (handed ps) (asked None z)) {y = behind told r.0 r.1 w.0 w.1} w.4 h2.1)
         (subst (λ (z : ℕ). IsBefore z (whole modules) first text r.0 r.1) (sym e) r.2) (subst (λ (z : ℕ). IsLexeme (goal_at z) r.1 w.0 w.1) (sym e) w.2)
@@ -293,7 +294,7 @@ module _ (end : ℕ) (modules : Bool) (p : Place) (ps : List Place) (k : Back en
 
     template_back : Took_here → Tiles end modules first text (p ∷ ps)
     template_back (inl h) = let r = read_in p.spot sound h.0 in let w = give r.0 r.1 r.2 in
-        on end modules p ps k g first text o usuals (behind stand false text r.0 r.1).settings false text r.0 r.1 un md (next text g u.contexts l r.0.token.kind at) r.3
+        on end modules p ps k g first text o (behind stand false text r.0 r.1).settings false text r.0 r.1 un md (next text g u.contexts l r.0.token.kind at) r.3
         (subst (λ (z : State). Comes (handed ps) z) r.4 (p.spot.hi, h.1)) w.0 w.1
     template_back (inr h) = absurd (no_slash_in h.0 h.2 (read_in h.0 (no_error h.0 h.2) h.1))
 
@@ -309,19 +310,19 @@ end_apart text x rest h = ap (λ (z : SpecLexeme). is_slash z.token.kind) h.2 �
 
 module _ (end : ℕ) (modules : Bool) where
   step_back : (p : Place) (ps : List Place) → Back end modules ps → Back end modules (p ∷ ps)
-  step_back p ps k (Outside s) u l br text first un md at i n o v c = let m = fits_on (Outside s) p ps o in
-      outside_back end modules p ps k u l br text first un md i v.0 v.2 s at n m.1 (v.1 m.0) m.0 (untake (mk end u l br text) p.spot (handed ps) c)
-  step_back p ps k (Inside s) u l br text first un md at i n o v c = let m = fits_on (Inside s) p ps o in let e : p.goal ≡ 2 = eqb-true p.goal 2 m.0 in
-      template_back end modules p ps k u l br text first un md i v.0 v.2 (Inside s) at (subst (λ (z : Last). IsNoFault z) (sym at.1) tt) TemplateTail
+  step_back p ps k (Outside s) u l br text first un md at i n o c = let m = fits_on (Outside s) p ps o in
+      outside_back end modules p ps k u l br text first un md i (sound_on (Outside s) p ps o) s at n m.1 (usual_there s p.spot.token.kind p.goal m.0) (low_there s p.spot.token.kind p.goal m.0) (untake (mk end u l br text) p.spot (handed ps) c)
+  step_back p ps k (Inside s) u l br text first un md at i n o c = let m = fits_on (Inside s) p ps o in let e : p.goal ≡ 2 = eqb-true p.goal 2 m.0 in
+      template_back end modules p ps k u l br text first un md i (sound_on (Inside s) p ps o) (Inside s) at (subst (λ (z : Last). IsNoFault z) (sym at.1) tt) TemplateTail
       (ap (λ (z : List TokenContext). template_goal z l) at.0 ∙ ap (λ (z : Last). template_goal (Tpl ∷ held s) z) at.1) m.1 (tail_apart text)
       (λ x rest h. (subst (λ (z : ℕ). IsBefore z (whole modules) first text false text) (sym e) (refl, refl), subst (λ (z : ℕ). IsLexeme (goal_at z) text x rest) (sym e) h))
       (untake (mk end u l br text) p.spot (handed ps) c)
-  step_back p ps k (Behind s) u l br text first un md at i n o v c = let m = fits_on (Behind s) p ps o in let e : p.goal ≡ 3 = eqb-true p.goal 3 m.0 in
-      template_back end modules p ps k u l br text first un md i v.0 v.2 (Behind s) at (subst (λ (z : Last). IsNoFault z) (sym at.1) tt) TemplateEnd
+  step_back p ps k (Behind s) u l br text first un md at i n o c = let m = fits_on (Behind s) p ps o in let e : p.goal ≡ 3 = eqb-true p.goal 3 m.0 in
+      template_back end modules p ps k u l br text first un md i (sound_on (Behind s) p ps o) (Behind s) at (subst (λ (z : Last). IsNoFault z) (sym at.1) tt) TemplateEnd
       (ap (λ (z : List TokenContext). template_goal z l) at.0 ∙ ap (λ (z : Last). template_goal (Tpl ∷ held s) z) at.1) m.1 (end_apart text)
       (λ x rest h. (subst (λ (z : ℕ). IsBefore z (whole modules) first text false text) (sym e) (refl, refl), subst (λ (z : ℕ). IsLexeme (goal_at z) text x rest) (sym e) h))
       (untake (mk end u l br text) p.spot (handed ps) c)
-  step_back p ps k Nowhere u l br text first un md at i n o v c = absurd (not_lost (p ∷ ps) o)
+  step_back p ps k Nowhere u l br text first un md at i n o c = absurd (not_lost (p ∷ ps) o)
 
   no_inside : (s : List Bool) → Inside s ≡ Outside [] → ⊥
   no_inside s e = cc
@@ -330,10 +331,10 @@ module _ (end : ℕ) (modules : Bool) where
   no_behind s e = cc
 
   done_back : Back end modules []
-  done_back (Outside s) u l br text first un md at i n o v c = ([], tt, ends_outside end modules u l br text un md first i s at n (untake_none (mk end u l br text) c))
-  done_back (Inside s) u l br text first un md at i n o v c = absurd (no_inside s o)
-  done_back (Behind s) u l br text first un md at i n o v c = absurd (no_behind s o)
-  done_back Nowhere u l br text first un md at i n o v c = absurd (not_lost [] o)
+  done_back (Outside s) u l br text first un md at i n o c = ([], tt, ends_outside end modules u l br text un md first i s at n (untake_none (mk end u l br text) c))
+  done_back (Inside s) u l br text first un md at i n o c = absurd (no_inside s o)
+  done_back (Behind s) u l br text first un md at i n o c = absurd (no_behind s o)
+  done_back Nowhere u l br text first un md at i n o c = absurd (not_lost [] o)
 
   back : (ps : List Place) → Back end modules ps
   back [] = done_back
@@ -371,24 +372,27 @@ module _ (end : ℕ) (modules : Bool) where
       no_slash_first : (q : Spot) → is_slash q.token.kind ≡ true → (step_of opening).0 ≡ Some q → ⊥
       no_slash_first q s e = false≢true (sym (ap (λ (z : Spot). is_slash z.token.kind) (some_is q token (same (Some q) e).0)) ∙ s)
 
-      line_back : (p : Place) (ps : List Place) → over (Outside []) (p ∷ ps) ≡ Outside [] → AreUsual ps → Took lexer_machine (step_of opening).0 (step_of opening).1 p.spot (handed ps) → Whole (p ∷ ps)
-      line_back p ps o v (inl h) = let k = same (Some p.spot) h.0 in let e : p.spot ≡ token = some_is p.spot token k.0 in
+      line_back : (p : Place) (ps : List Place) → over (Outside []) (p ∷ ps) ≡ Outside [] → Took lexer_machine (step_of opening).0 (step_of opening).1 p.spot (handed ps) → Whole (p ∷ ps)
+      line_back p ps o (inl h) = let k = same (Some p.spot) h.0 in let e : p.spot ≡ token = some_is p.spot token k.0 in
           let z = back ps (after (Outside []) (shebang own).token.kind) past.settings (last_after (shebang own).token.kind text) false rest false un md
           (next text (Outside []) u.contexts Start (shebang own).token.kind (at, tt)) (past_start (shebang own).token.kind text) (no_start end modules (shebang own).token.kind text rest)
-          (subst (λ (y : Spot). over (after (Outside []) y.token.kind) ps ≡ Outside []) e (fits_on (Outside []) p ps o).1) v (subst (λ (y : State). Comes (handed ps) y) k.1 (p.spot.hi, h.1)) in
+          (subst (λ (y : Spot). over (after (Outside []) y.token.kind) ps ≡ Outside []) e (fits_on (Outside []) p ps o).1) (subst (λ (y : State). Comes (handed ps) y) k.1 (p.spot.hi, h.1)) in
           (marked p (shebang own) ∷ z.0, (refl, refl, refl, z.1), inr (rest, (own, line, e, refl, refl), z.2))
-      line_back p ps o v (inr h) = absurd (no_slash_first h.0 h.2 h.1)
+      line_back p ps o (inr h) = absurd (no_slash_first h.0 h.2 h.1)
 
-      hashbang_back : (ps : List Place) → over (Outside []) ps ≡ Outside [] → AreUsual ps → Comes (handed ps) opening → Whole ps
-      hashbang_back [] o v c = absurd (no_some token (sym (same None (untake_none opening c)).0))
-      hashbang_back (p ∷ ps) o v c = line_back p ps o v.2 (untake opening p.spot (handed ps) c)
+      hashbang_back : (ps : List Place) → over (Outside []) ps ≡ Outside [] → Comes (handed ps) opening → Whole ps
+      hashbang_back [] o c = absurd (no_some token (sym (same None (untake_none opening c)).0))
+      hashbang_back (p ∷ ps) o c = line_back p ps o (untake opening p.spot (handed ps) c)
 
-    whole_by : ((own : List ℕ) × (rest : List ℕ) × IsHashbang text own rest) ⊎ NoHashbang text → (ps : List Place) → over (Outside []) ps ≡ Outside [] → AreUsual ps → Comes (handed ps) opening → Whole ps
-    whole_by (inl h) ps o v c = hashbang_back h.0 h.1 h.2 ps o v c
-    whole_by (inr h) ps o v c = let z = back ps (Outside []) u Start br text true un md (at, tt) refl (λ e. h) o v c in (z.0, z.1, inl (h, z.2))
+    whole_by : ((own : List ℕ) × (rest : List ℕ) × IsHashbang text own rest) ⊎ NoHashbang text → (ps : List Place) → over (Outside []) ps ≡ Outside [] → Comes (handed ps) opening → Whole ps
+    whole_by (inl h) ps o c = hashbang_back h.0 h.1 h.2 ps o c
+    whole_by (inr h) ps o c = let z = back ps (Outside []) u Start br text true un md (at, tt) refl (λ e. h) o c in (z.0, z.1, inl (h, z.2))
 
--- ---- the law
+-- ---- the laws
 
 pub handed_tile : HandedTile
-handed_tile start modules text ps s last h o v c = start_as (λ (z : State). Comes (handed ps) z → (qs : List Place) × SameSpots ps qs × Tile start modules text qs) start modules text s h
-    (λ k. whole_by (start + bytes text) modules s.settings s.tokens.line_break text h.next_regexp h.goal h.contexts (hashbang_or_not text) ps o v k) (last, c)
+handed_tile start modules text ps s last h o c = start_as (λ (z : State). Comes (handed ps) z → (qs : List Place) × SameSpots ps qs × Tile start modules text qs) start modules text s h
+    (λ k. whole_by (start + bytes text) modules s.settings s.tokens.line_break text h.next_regexp h.goal h.contexts (hashbang_or_not text) ps o k) (last, c)
+
+pub derived_tile : DerivedTile
+derived_tile start modules syntax t text ps r s last h d c = handed_tile start modules text ps s last h (matched modules syntax t ps r d.0 d.1) c

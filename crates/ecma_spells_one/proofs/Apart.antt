@@ -1,5 +1,5 @@
 -- Tokens that tile one text and match are the same, up to a place where one list has a regular expression and the other a slash.
-use Rattle.std.proofs.Common.{◌≡◌, ◌⊎◌, inl, inr, ℕ, zero, suc, ◌+◌, Bool, true, false, not, ◌&&◌, ◌||◌, eqb, nat_le, if◌then◌else◌, List, [], ◌∷◌, ◌++◌, refl, sym, ap, ◌∙◌, subst, true≢false, arith}
+use Rattle.std.proofs.Common.{◌≡◌, ◌⊎◌, inl, inr, ℕ, zero, suc, ◌+◌, Bool, true, false, not, ◌&&◌, ◌||◌, eqb, nat_le, List, [], ◌∷◌, ◌++◌, refl, sym, ap, ◌∙◌, subst, true≢false, arith}
 use Rattle.std.specs.Prelude.{encode_utf8_all}
 use Rattle.std.proofs.lemmas.Bool.{eqb-true, leb-true, or_cases, and_parts}
 use Rattle.ecma_token.specs.declared.token.TokenKind.{TokenKind}
@@ -19,6 +19,7 @@ use Rattle.ecma_syntax.specs.Input.{Place, template_goal, template_end_goal}
 use Rattle.ecma_spells_laws.proofs.Passed.{SameToken, SameTokens}
 use Rattle.ecma_grammar_slashes.specs.Laws.{IsPattern, IsSlash}
 use Rattle.ecma_grammar_templates.specs.Laws.{Region, Outside, Inside, Behind, Nowhere, after, fits, over}
+use Rattle.ecma_grammar_templates.proofs.Fits.{fits_on, low_there}
 use Rattle.ecma_spells.specs.Tiled.{goal_at, whole, IsBeforeBy, IsBefore, IsTile, AreTiles, IsHashbangTile, AfterHashbang, Tile}
 
 -- ---- punctuators that a slash begins
@@ -117,35 +118,23 @@ module _ (end : ℕ) (goal : Goal) (first : Bool) (text : List ℕ) (p q : Place
 
 -- ---- regions
 
-abbrev IsSomewhere : Region → Type 0
-IsSomewhere Nowhere = ⊥
-IsSomewhere g = Unit {0}
-
-lost : (ps : List Place) → over Nowhere ps ≡ Nowhere
-lost [] = refl
-lost (p ∷ ps) = lost ps
-
-fits_on : (g : Region) (p : Place) (ps : List Place) → over g (p ∷ ps) ≡ Outside [] → (fits g p.goal ≡ true) × (over (after g p.spot.token.kind) ps ≡ Outside [])
-fits_on g p ps h = by_test (fits g p.goal) h
-  where
-    by_test : (b : Bool) → over (if b then after g p.spot.token.kind else Nowhere) ps ≡ Outside [] → (b ≡ true) × (over (after g p.spot.token.kind) ps ≡ Outside [])
-    by_test true e = (refl, e)
-    by_test false e = absurd (subst IsSomewhere (sym (sym (lost ps) ∙ e)) tt)
-
 abbrev Goals : ℕ → ℕ → Type 0
 Goals a b = (a ≡ b) ⊎ (((a ≡ 1) × (b ≡ 0)) ⊎ ((a ≡ 0) × (b ≡ 1)))
 
-goals : (g : Region) (a b : ℕ) → fits g a ≡ true → fits g b ≡ true → Goals a b
-goals (Outside s) zero zero h i = inl refl
-goals (Outside s) (suc zero) (suc zero) h i = inl refl
-goals (Outside s) (suc zero) zero h i = inr (inl (refl, refl))
-goals (Outside s) zero (suc zero) h i = inr (inr (refl, refl))
-goals (Outside s) (suc (suc n)) b h i = absurd (omega (arith, leb-true (suc (suc n)) 1 h))
-goals (Outside s) zero (suc (suc n)) h i = absurd (omega (arith, leb-true (suc (suc n)) 1 i))
-goals (Outside s) (suc zero) (suc (suc n)) h i = absurd (omega (arith, leb-true (suc (suc n)) 1 i))
-goals (Inside s) a b h i = inl (eqb-true a template_goal h ∙ sym (eqb-true b template_goal i))
-goals (Behind s) a b h i = inl (eqb-true a template_end_goal h ∙ sym (eqb-true b template_end_goal i))
-goals Nowhere a b h i = absurd (true≢false (sym h))
+of_two : (a b : ℕ) → nat_le a 1 ≡ true → nat_le b 1 ≡ true → Goals a b
+of_two zero zero h i = inl refl
+of_two (suc zero) (suc zero) h i = inl refl
+of_two (suc zero) zero h i = inr (inl (refl, refl))
+of_two zero (suc zero) h i = inr (inr (refl, refl))
+of_two (suc (suc n)) b h i = absurd (omega (arith, leb-true (suc (suc n)) 1 h))
+of_two zero (suc (suc n)) h i = absurd (omega (arith, leb-true (suc (suc n)) 1 i))
+of_two (suc zero) (suc (suc n)) h i = absurd (omega (arith, leb-true (suc (suc n)) 1 i))
+
+goals : (g : Region) (j k a b : ℕ) → fits g j a ≡ true → fits g k b ≡ true → Goals a b
+goals (Outside s) j k a b h i = of_two a b (low_there s j a h) (low_there s k b i)
+goals (Inside s) j k a b h i = inl (eqb-true a template_goal h ∙ sym (eqb-true b template_goal i))
+goals (Behind s) j k a b h i = inl (eqb-true a template_end_goal h ∙ sym (eqb-true b template_end_goal i))
+goals Nowhere j k a b h i = absurd (true≢false (sym h))
 
 -- ---- all tokens
 
@@ -180,10 +169,10 @@ module _ (end : ℕ) (goal : Goal) where
 
   pub tiles : (ps qs : List Place) (g : Region) (first : Bool) (text : List ℕ) → AreTiles end goal first text ps → AreTiles end goal first text qs → over g ps ≡ Outside [] → over g qs ≡ Outside [] → SameTokens ps qs ⊎ Slashed ps qs
   tiles [] [] g first text h k a b = inl tt
-  tiles [] (y ∷ ys) g first text h k a b = let t = k.1 in absurd (nothing y.goal goal first text h.0 t.0 t.1 t.2 _ (subst (λ (z : Region). fits z y.goal ≡ true) a (fits_on g y ys b).0) h.1 t.3 t.4)
-  tiles (x ∷ xs) [] g first text h k a b = let t = h.1 in absurd (nothing x.goal goal first text k.0 t.0 t.1 t.2 _ (subst (λ (z : Region). fits z x.goal ≡ true) b (fits_on g x xs a).0) k.1 t.3 t.4)
+  tiles [] (y ∷ ys) g first text h k a b = let t = k.1 in absurd (nothing y.goal goal first text h.0 t.0 t.1 t.2 _ (low_there [] y.spot.token.kind y.goal (subst (λ (z : Region). fits z y.spot.token.kind y.goal ≡ true) a (fits_on g y ys b).0)) h.1 t.3 t.4)
+  tiles (x ∷ xs) [] g first text h k a b = let t = h.1 in absurd (nothing x.goal goal first text k.0 t.0 t.1 t.2 _ (low_there [] x.spot.token.kind x.goal (subst (λ (z : Region). fits z x.spot.token.kind x.goal ≡ true) b (fits_on g x xs a).0)) k.1 t.3 t.4)
   tiles (x ∷ xs) (y ∷ ys) g first text h k a b = let f = fits_on g x xs a in let d = fits_on g y ys b in
-      told_by (one_of first text x y h.0 k.0 h.1 k.1 (goals g x.goal y.goal f.0 d.0))
+      told_by (one_of first text x y h.0 k.0 h.1 k.1 (goals g x.spot.token.kind y.spot.token.kind x.goal y.goal f.0 d.0))
       (λ e i. tiles xs ys (after g x.spot.token.kind) false k.0 (subst (λ (t : List ℕ). AreTiles end goal false t xs) e h.2) k.2 f.1 (subst (λ (z : Spot). over (after g z.token.kind) ys ≡ Outside []) (sym i) d.1))
     where
       told_by : (SameToken x y × (h.0 ≡ k.0)) ⊎ (Apart x y ⊎ Apart y x) → (h.0 ≡ k.0 → x.spot ≡ y.spot → SameTokens xs ys ⊎ Slashed xs ys) → SameTokens (x ∷ xs) (y ∷ ys) ⊎ Slashed (x ∷ xs) (y ∷ ys)

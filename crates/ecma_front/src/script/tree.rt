@@ -3,6 +3,7 @@
 use crate::script::token::{BinaryOp, Number};
 
 /// An expression. Its texts are parts of the text that was read.
+#[derive(Drop)]
 #[cycle(tree)]
 pub(crate) enum Expr<'a> {
     Name(&'a str),
@@ -14,18 +15,6 @@ pub(crate) enum Expr<'a> {
     /// deep tree.
     Chain(Box<Expr<'a>>, Vec<Operand<'a>>),
     Call(Box<Expr<'a>>, Vec<Expr<'a>>),
-}
-
-impl Drop for Expr<'_> {
-    #[cycle(let_go)]
-    fn drop(self) {
-        match self {
-            Expr::Name(_) | Expr::Number(_) | Expr::Text(_) => {}
-            Expr::Paren(_inner) => {}
-            Expr::Chain(_first, _rest) => {}
-            Expr::Call(_callee, _args) => {}
-        }
-    }
 }
 
 /// An operator and the operand to its right.
