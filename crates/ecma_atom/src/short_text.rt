@@ -15,9 +15,15 @@ const INLINE_LEN: usize = 22;
 
 /// A short text that owns its bytes, as a name: up to 22 bytes in the value itself, more in an
 /// allocation. A contract sees its bytes.
-#[derive(Drop)]
 pub struct Atom {
     form: Form,
+}
+
+impl Drop for Atom {
+    #[inline(always)]
+    fn drop(self) {
+        let Atom { form: _form } = self;
+    }
 }
 
 #[derive(Drop)]

@@ -167,7 +167,7 @@ module _ (p : Bool) where
 
   front_like : (c : Code) (g n : ℕ) (xs : List Place) (r q : Input) → inp (hi_of n xs) (others xs) ≡ r → Like r q → Like (inp n xs) (front c g n xs q)
   front_like c g n [] r q e l = record { last = refl; worn = tt }
-  front_like c g n (x ∷ xs) r q e l = record { last = refl; worn = ((refl, refl, refl), bared p g c.context, subst (λ (z : List Place). Worn z q.places) (sym (ap (λ (z : Input). z.places) e)) l.worn) }
+  front_like c g n (x ∷ xs) r q e l = record { last = refl; worn = ((refl, refl), bared p g c.context, subst (λ (z : List Place). Worn z q.places) (sym (ap (λ (z : Input). z.places) e)) l.worn) }
 
   stood : (b : Bool) (k : ℕ) (d : Context) → Only b ((usual k (if b then own_goal k else div_goal) ≡ true) × (judged (if b then d else no_context) ≡ judged d))
   stood true k d = (own_usual k, refl)

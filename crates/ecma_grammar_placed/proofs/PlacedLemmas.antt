@@ -1,7 +1,6 @@
 -- The laws: places for what is read, and at most one tree of the same tokens.
-use Rattle.std.proofs.Common.{◌≡◌, ℕ, Bool, true, false, List, [], ◌∷◌, Option, refl, sym, ap, ◌∙◌, subst}
+use Rattle.std.proofs.Common.{◌≡◌, ℕ, Bool, true, false, List, [], ◌∷◌, refl, sym, ap, ◌∙◌, subst}
 use Rattle.ecma_token.specs.declared.context.Context.{Context}
-use Rattle.ecma_token.specs.declared.error.SyntaxError.{SyntaxError}
 use Rattle.ecma_token.specs.Tokens.{Spot}
 use Rattle.ecma_tree.specs.Tree.{Tree, script, es_module}
 use Rattle.ecma_syntax.specs.Input.{Place, Input, Code, div_goal, no_context, script_code, module_code}
@@ -18,7 +17,7 @@ use Rattle.ecma_grammar_placed.proofs.Placed.{move}
 
 own : (xs : List Place) → Worn true xs xs
 own [] = tt
-own (x ∷ xs) = ((refl, refl, refl), tt, own xs)
+own (x ∷ xs) = ((refl, refl), tt, own xs)
 
 worn_same : (b : Bool) (xs ys : List Place) → Worn b xs ys → SameTokens xs ys
 worn_same b [] [] w = tt
@@ -46,12 +45,12 @@ abbrev pub bared : List Place → List Place
 bared [] = []
 bared (x ∷ xs) = bare x ∷ bared xs
 
-abbrev placed_so : Spot → Bool → Option SyntaxError → ℕ → Context → Place
-placed_so s e l g d = record { spot = s; escaped = e; legacy = l; goal = g; context = d }
+abbrev placed_so : Spot → Bool → ℕ → Context → Place
+placed_so s e g d = record { spot = s; escaped = e; goal = g; context = d }
 
 bare_is : (x y : Place) → SameToken x y → Bare false y → bare x ≡ y
-bare_is x y h b = ap (λ (s : Spot). placed_so s x.escaped x.legacy div_goal no_context) h.0 ∙ (ap (λ (e : Bool). placed_so y.spot e x.legacy div_goal no_context) h.1
-    ∙ (ap (λ (l : Option SyntaxError). placed_so y.spot y.escaped l div_goal no_context) h.2 ∙ (ap (λ (g : ℕ). placed_so y.spot y.escaped y.legacy g no_context) (sym b.0) ∙ ap (λ (d : Context). placed_so y.spot y.escaped y.legacy y.goal d) (sym b.1))))
+bare_is x y h b = ap (λ (s : Spot). placed_so s x.escaped div_goal no_context) h.0 ∙ (ap (λ (e : Bool). placed_so y.spot e div_goal no_context) h.1
+    ∙ (ap (λ (g : ℕ). placed_so y.spot y.escaped g no_context) (sym b.0) ∙ ap (λ (d : Context). placed_so y.spot y.escaped y.goal d) (sym b.1)))
 
 bared_is : (xs ys : List Place) → Worn false xs ys → bared xs ≡ ys
 bared_is [] [] w = refl
@@ -61,10 +60,10 @@ bared_is (x ∷ xs) (y ∷ ys) w = ap (λ (z : Place). z ∷ bared xs) (bare_is 
 
 bared_worn : (xs : List Place) → Worn false xs (bared xs)
 bared_worn [] = tt
-bared_worn (x ∷ xs) = ((refl, refl, refl), (refl, refl), bared_worn xs)
+bared_worn (x ∷ xs) = ((refl, refl), (refl, refl), bared_worn xs)
 
 pub bare_same : (x y : Place) → SameToken x y → bare x ≡ bare y
-bare_same x y h = ap (λ (s : Spot). placed_so s x.escaped x.legacy div_goal no_context) h.0 ∙ (ap (λ (e : Bool). placed_so y.spot e x.legacy div_goal no_context) h.1 ∙ ap (λ (l : Option SyntaxError). placed_so y.spot y.escaped l div_goal no_context) h.2)
+bare_same x y h = ap (λ (s : Spot). placed_so s x.escaped div_goal no_context) h.0 ∙ ap (λ (e : Bool). placed_so y.spot e div_goal no_context) h.1
 
 bared_same : (xs ys : List Place) → SameTokens xs ys → bared xs ≡ bared ys
 bared_same [] [] w = refl

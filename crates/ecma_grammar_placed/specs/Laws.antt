@@ -12,7 +12,7 @@ use Rattle.ecma_grammar_complete_base.specs.Laws.{coded, InOrder}
 
 -- the same token in the same place, whatever the goal under which it was read and the context in which it stands
 abbrev pub SameToken : Place → Place → Type 0
-SameToken x y = (x.spot ≡ y.spot) × (x.escaped ≡ y.escaped) × (x.legacy ≡ y.legacy)
+SameToken x y = (x.spot ≡ y.spot) × (x.escaped ≡ y.escaped)
 
 abbrev pub SameTokens : List Place → List Place → Type 0
 SameTokens [] [] = Unit {0}

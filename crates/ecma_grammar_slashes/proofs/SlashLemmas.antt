@@ -46,13 +46,13 @@ never_both w (Err d) y t u h e i j = absurd (wrong d t i)
 -- ---- places
 
 abbrev made : ℕ → Content → ℕ → Bool → Place → Place
-made k v a b p = record { spot = record { token = record { kind = k; content = v }; line_break = b; lo = a; hi = p.spot.hi }; escaped = p.escaped; legacy = p.legacy; goal = p.goal; context = p.context }
+made k v a b p = record { spot = record { token = record { kind = k; content = v }; line_break = b; lo = a; hi = p.spot.hi }; escaped = p.escaped; goal = p.goal; context = p.context }
 
 is_made : (p : Place) (k : ℕ) (v : Content) (a : ℕ) (b : Bool) → p.spot.token.kind ≡ k → p.spot.token.content ≡ v → p.spot.lo ≡ a → p.spot.line_break ≡ b → p ≡ made k v a b p
 is_made p k v a b e f g h = ap (λ (x : ℕ). made x p.spot.token.content p.spot.lo p.spot.line_break p) e ∙ (ap (λ (x : Content). made k x p.spot.lo p.spot.line_break p) f ∙ (ap (λ (x : ℕ). made k v x p.spot.line_break p) g ∙ ap (λ (x : Bool). made k v a x p) h))
 
 abbrev rest_of : Place → List Place → Rest
-rest_of p ps = record { hi = p.spot.hi; escaped = p.escaped; legacy = p.legacy; goal = p.goal; context = p.context; more = ps }
+rest_of p ps = record { hi = p.spot.hi; escaped = p.escaped; goal = p.goal; context = p.context; more = ps }
 
 abbrev parting : Place → List ℕ → List ℕ → Bool → List Place → Place → List Place → Parting
 parting p body flags b ps q qs = record { lo = p.spot.lo; line_break = p.spot.line_break; body = body; flags = flags; one = rest_of p ps; other = rest_of q qs; assigns = b }

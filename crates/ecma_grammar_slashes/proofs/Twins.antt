@@ -1,7 +1,6 @@
 -- Two readings over lists that begin alike, and part where one has a regular expression and the other a slash.
 use Rattle.std.proofs.Common.{◌≡◌, ℕ, zero, suc, Bool, true, false, not, ◌&&◌, cond, eqb, nat_le, List, [], ◌∷◌, ◌++◌, Option, Result, Ok, Err, refl, sym, ap, ◌∙◌, subst, true≢false}
 use Rattle.ecma_token.specs.declared.context.Context.{Context}
-use Rattle.ecma_token.specs.declared.error.SyntaxError.{SyntaxError}
 use Rattle.ecma_token.specs.Kinds.{regex_kind, div_kind, div_assign_kind, semicolon_kind}
 use Rattle.ecma_token.specs.Tokens.{Bare, Pattern}
 use Rattle.ecma_syntax.specs.Input.{Place, Input, Code, kind, lo, text, is_word, barred}
@@ -15,7 +14,6 @@ lm = list_machine
 pub record Rest : Type 0 where
   pub hi : ℕ
   pub escaped : Bool
-  pub legacy : Option SyntaxError
   pub goal : ℕ
   pub context : Context
   pub more : List Place
@@ -31,14 +29,14 @@ pub record Parting : Type 0 where
   pub assigns : Bool
 
 abbrev pub regexps : Parting → List Place
-regexps w = record { spot = record { token = record { kind = regex_kind; content = Pattern w.body w.flags }; line_break = w.line_break; lo = w.lo; hi = w.one.hi }; escaped = w.one.escaped; legacy = w.one.legacy; goal = w.one.goal; context = w.one.context } ∷ w.one.more
+regexps w = record { spot = record { token = record { kind = regex_kind; content = Pattern w.body w.flags }; line_break = w.line_break; lo = w.lo; hi = w.one.hi }; escaped = w.one.escaped; goal = w.one.goal; context = w.one.context } ∷ w.one.more
 
 abbrev pub slash : Bool → ℕ
 slash true = div_assign_kind
 slash false = div_kind
 
 abbrev pub slashes_by : Bool → Parting → List Place
-slashes_by b w = record { spot = record { token = record { kind = slash b; content = Bare }; line_break = w.line_break; lo = w.lo; hi = w.other.hi }; escaped = w.other.escaped; legacy = w.other.legacy; goal = w.other.goal; context = w.other.context } ∷ w.other.more
+slashes_by b w = record { spot = record { token = record { kind = slash b; content = Bare }; line_break = w.line_break; lo = w.lo; hi = w.other.hi }; escaped = w.other.escaped; goal = w.other.goal; context = w.other.context } ∷ w.other.more
 
 abbrev pub slashes : Parting → List Place
 slashes w = slashes_by w.assigns w

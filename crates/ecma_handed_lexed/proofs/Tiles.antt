@@ -187,9 +187,9 @@ module _ (end : ℕ) (modules : Bool) (u : Settings) (l : Last) (br : Bool) (tex
 
 -- ---- a list
 
--- a place with the escape and the old form of a token
+-- a place with the escape of a token
 abbrev marked : Place → SpecLexeme → Place
-marked p x = record p { escaped = x.escaped; legacy = x.legacy }
+marked p x = record p { escaped = x.escaped }
 
 module _ (end : ℕ) (modules : Bool) where
   abbrev Tiles : Bool → List ℕ → List Place → Type 0
@@ -211,7 +211,7 @@ module _ (end : ℕ) (modules : Bool) where
     on u br from x rest un md at e h before lex =
         let z = k (after g x.token.kind) u (last_after x.token.kind from) br rest false un md at (past_start x.token.kind from) (no_start x.token.kind from rest)
         (subst (λ (y : Spot). over (after g y.token.kind) ps ≡ Outside []) e o) h in
-        (marked p x ∷ z.0, (refl, refl, refl, z.1), (rest, (br, from, x, before, lex, e, refl, refl), z.2))
+        (marked p x ∷ z.0, (refl, refl, refl, z.1), (rest, (br, from, x, before, lex, e, refl), z.2))
 
 -- ---- one token, outside of the characters of templates
 
@@ -377,7 +377,7 @@ module _ (end : ℕ) (modules : Bool) where
           let z = back ps (after (Outside []) (shebang own).token.kind) past.settings (last_after (shebang own).token.kind text) false rest false un md
           (next text (Outside []) u.contexts Start (shebang own).token.kind (at, tt)) (past_start (shebang own).token.kind text) (no_start end modules (shebang own).token.kind text rest)
           (subst (λ (y : Spot). over (after (Outside []) y.token.kind) ps ≡ Outside []) e (fits_on (Outside []) p ps o).1) (subst (λ (y : State). Comes (handed ps) y) k.1 (p.spot.hi, h.1)) in
-          (marked p (shebang own) ∷ z.0, (refl, refl, refl, z.1), inr (rest, (own, line, e, refl, refl), z.2))
+          (marked p (shebang own) ∷ z.0, (refl, refl, refl, z.1), inr (rest, (own, line, e, refl), z.2))
       line_back p ps o (inr h) = absurd (no_slash_first h.0 h.2 h.1)
 
       hashbang_back : (ps : List Place) → over (Outside []) ps ≡ Outside [] → Comes (handed ps) opening → Whole ps

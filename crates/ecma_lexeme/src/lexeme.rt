@@ -13,7 +13,7 @@ use ecma_token::word::Word;
 use ecma_token::{Context, Error, SyntaxError, Token};
 
 /// A token at the front of a text.
-#[derive(Debug, Drop)]
+#[derive(Debug)]
 pub struct Lexeme<'a> {
     /// The token.
     pub token: Token<'a>,
@@ -23,6 +23,33 @@ pub struct Lexeme<'a> {
     pub legacy: Option<SyntaxError>,
     /// The text behind it.
     pub rest: &'a str,
+}
+
+impl<'a> Lexeme<'a> {
+    /// The token alone.
+    pub fn into_token(self) -> Token<'a>
+        ensures { result ≡ self.entry.token }
+    {
+        let Lexeme {
+            token,
+            escaped: _,
+            legacy: _,
+            rest: _,
+        } = self;
+        token
+    }
+}
+
+impl Drop for Lexeme<'_> {
+    #[inline(always)]
+    fn drop(self) {
+        let Lexeme {
+            token: _token,
+            escaped: _,
+            legacy: _,
+            rest: _,
+        } = self;
+    }
 }
 
 /// The word that a token is.

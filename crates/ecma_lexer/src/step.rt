@@ -171,12 +171,8 @@ impl<'a> Lexer<'a> {
         ensures kept { (self.new.comments ≡ self.old.comments) × (self.new.keeps ≡ self.old.keeps) }
         ensures told { SameTold (settings_in self.old.settings) (settings_in self.new.settings) }
     {
-        let Lexeme {
-            token,
-            escaped: _,
-            legacy,
-            rest,
-        } = lexeme;
+        let (legacy, rest) = (lexeme.legacy, lexeme.rest);
+        let token = lexeme.into_token();
         let span = part(self.end, from, rest);
         if follow(&mut self.settings.contexts, &token).is_err() {
             return Err(out_of_memory());

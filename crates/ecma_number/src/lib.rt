@@ -23,9 +23,16 @@ pub(crate) mod exponent;
 pub(crate) mod spelling;
 
 /// The value of a number, exact. A contract sees digits and a power of ten, or a radix and digits.
-#[derive(Debug, Drop)]
+#[derive(Debug)]
 pub struct NumValue {
     form: Form,
+}
+
+impl Drop for NumValue {
+    #[inline(always)]
+    fn drop(self) {
+        let NumValue { form: _form } = self;
+    }
 }
 
 #[derive(Debug, Drop)]

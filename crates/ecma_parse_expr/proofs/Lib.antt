@@ -1,0 +1,2 @@
+-- What is read behind the characters of a template.
+pub mod Steps

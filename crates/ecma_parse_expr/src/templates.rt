@@ -1,17 +1,17 @@
 //! Templates.
-ghost use Rattle.std.specs.Prelude.{◌≡◌, ◌≢◌, ◌++◌, ◌∷◌, [], false, true, ◌<◌, ◌≤◌, All, IfErr, IfOk, IsTrue, map};
-ghost use Rattle.ecma_token.specs.OperatorKinds.{assign_op_kind, binary_op_kind};
-ghost use Rattle.ecma_syntax.specs.Input.{kind};
+ghost use Rattle.std.specs.Prelude.{◌≡◌, ◌++◌, ◌∷◌, [], false, true, ◌<◌, IfErr, IfOk};
+ghost use Rattle.ecma_syntax.specs.Input.{content, first_span};
+ghost use Rattle.ecma_token.specs.Kinds.{template_kind};
 ghost use Rattle.ecma_node.specs.Fits.{fits_tpl};
-ghost use Rattle.ecma_node.specs.Placed.{holds_expr, inner};
-ghost use Rattle.ecma_node.specs.View.{unary_op_word, update_op_word, view_computed_prop_name, view_expr_or_spread, view_member_prop, view_private_name, view_tpl, view_tpl_element};
+ghost use Rattle.ecma_node.specs.Placed.{inner};
+ghost use Rattle.ecma_node.specs.View.{view_tpl, view_tpl_element};
 ghost use Rattle.ecma_reading.specs.Source as spec;
 ghost use Rattle.ecma_reading.specs.Expressions as reads;
 ghost use Rattle.ecma_parse_state.specs.Answers.{Gives, IsMemory, going_on};
 ghost use Rattle.ecma_tree.specs.Tree.{pack, tpl};
 ghost use Rattle.ecma_parse_state.specs.Codes.{code_of};
 ghost use Rattle.ecma_parse_state.specs.Fronts.{machine_of};
-ghost use Rattle.ecma_parse_state.specs.Stands.{from, from_span, stand};
+ghost use Rattle.ecma_parse_state.specs.Stands.{from, stand};
 ghost use Rattle.ecma_parse_base.specs.Lists.{spans_of, FitSpans};
 ghost use Rattle.ecma_parse_base.specs.Operands.{tree_of};
 ghost use Rattle.ecma_parse_expr.specs.Pieces.{element_at, spans_by};
@@ -79,9 +79,32 @@ pub fn characters_end<'a, I: Tokens<'a> + Drop, N: Nested<'a, I>>(
     Ok(true)
 }
 
+/// The characters of a template that come. The token is let go here, so that a nested template has no such frame below it.
+#[inline(never)]
+#[tactic(auto, using(ecma_parse_state::proofs::Marks::marks), unfolding(ecma_reading::specs::Source::eat, ecma_parse_state::specs::Fronts::machine_of))]
+fn quasi<'a, I: Tokens<'a> + Drop, N: Nested<'a, I>>(
+    p: &mut Parser<'a, I>,
+    _nested: &N,
+) -> Result<TplElement, Failure>
+    ensures value { Gives (λ _. stand I.state p.new) result (spec.eat (machine_of I.machine) template_kind (stand I.state p.old)) }
+    ensures element { IfOk result (λ x. element_at x ≡ reads.quasi (machine_of I.machine) (N.reads _nested.now I.State I.machine) (content (spec.input (machine_of I.machine) (stand I.state p.old))) (first_span (spec.input (machine_of I.machine) (stand I.state p.old)))) }
+    ensures tail { IfOk result (λ x. x.tail ≡ false) }
+    ensures shorter { IfOk result (λ _. spec.bound (machine_of I.machine) (stand I.state p.new) < spec.bound (machine_of I.machine) (stand I.state p.old)) }
+{
+    let span = p.place();
+    let fault = p.unexpected();
+    let Some(token) = p.take()? else {
+        return Err(fault);
+    };
+    let Token::Template { raw, cooked } = token.into_token() else {
+        return Err(fault);
+    };
+    literals::tpl_element(p.alloc, span, raw, cooked)
+}
+
 /// The next characters of a template, and what ends them. Whether more follow.
 #[inline(always)]
-#[tactic(auto, using(ecma_parse_state::proofs::Marks::marks), unfolding(ecma_reading::specs::Expressions::quasi_step, ecma_reading::specs::Source::eat, ecma_parse_state::specs::Fronts::machine_of))]
+#[tactic(auto, using(ecma_parse_state::proofs::Marks::marks, crate::proofs::Steps::step_by))]
 pub fn characters<'a, I: Tokens<'a> + Drop, N: Nested<'a, I>>(
     p: &mut Parser<'a, I>,
     nested: &N,
@@ -95,15 +118,7 @@ pub fn characters<'a, I: Tokens<'a> + Drop, N: Nested<'a, I>>(
     ensures fits { IfOk result (λ _. FitSpans spans.new) }
     ensures shorter { IfOk result (λ _. spec.bound (machine_of I.machine) (stand I.state p.new) < spec.bound (machine_of I.machine) (stand I.state p.old)) }
 {
-    let span = p.place();
-    let fault = p.unexpected();
-    let Some(token) = p.take()? else {
-        return Err(fault);
-    };
-    let Token::Template { raw, cooked } = token.token else {
-        return Err(fault);
-    };
-    let element = literals::tpl_element(p.alloc, span, raw, cooked)?;
+    let element = quasi(p, nested)?;
     characters_end(p, nested, code, tagged, element, spans)
 }
 

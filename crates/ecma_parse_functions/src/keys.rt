@@ -39,7 +39,7 @@ pub fn literal_key<'a, I: Tokens<'a> + Drop, N: Nested<'a, I>>(
     let Some(token) = p.take()? else {
         return Err(fault);
     };
-    match token.token {
+    match token.into_token() {
         Token::Str { units, raw } => made::str_key(p.alloc, span, units, raw),
         Token::Num { value, raw } => made::number_key(p.alloc, span, value, raw),
         Token::BigInt { radix, digits, raw } => {

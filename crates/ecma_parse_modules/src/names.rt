@@ -46,7 +46,7 @@ pub fn string<'a, I: Tokens<'a> + Drop, N: Nested<'a, I>>(
     let Some(token) = p.take()? else {
         return Err(fault);
     };
-    match token.token {
+    match token.into_token() {
         Token::Str { units, raw } => made::text(p.alloc, span, units, raw),
         _ => Err(fault),
     }

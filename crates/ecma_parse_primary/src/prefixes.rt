@@ -41,7 +41,7 @@ pub fn literal<'a, I: Tokens<'a> + Drop, N: Nested<'a, I>>(
     let Some(token) = p.take()? else {
         return Err(fault);
     };
-    match token.token {
+    match token.into_token() {
         Token::Str { units, raw } => literals::str_lit(p.alloc, span, units, raw),
         Token::Num { value, raw } => literals::number_lit(p.alloc, span, value, raw),
         Token::BigInt { radix, digits, raw } => {

@@ -25,7 +25,7 @@ is_escaped t = is_word t.token.kind && not (t.lo + length (text_in t.token.conte
 
 -- A token in its place. Reading asks for no goal, no context and no spelling of literals.
 abbrev pub place_of : Spot → Place
-place_of t = record { spot = t; escaped = is_escaped t; legacy = None; goal = div_goal; context = no_context }
+place_of t = record { spot = t; escaped = is_escaped t; goal = div_goal; context = no_context }
 
 -- the token that comes, and up to so many behind it
 abbrev pub places : {S : Type 0} → tokens.Machine S → ℕ → Option Spot → Option (Source S) → List Place

@@ -2,7 +2,6 @@
 use Rattle.std.proofs.Common.{◌≡◌, ℕ, Bool, true, false, List, [], Option, Some, option_map, if◌then◌else◌, Result, Ok, Err, refl, sym, ap, ◌∙◌, subst}
 use Rattle.ecma_token.specs.declared.context.Context.{Context}
 use Rattle.ecma_token.specs.declared.error.Error.{Error}
-use Rattle.ecma_token.specs.declared.error.SyntaxError.{SyntaxError}
 use Rattle.ecma_token.specs.declared.syntax.EsSyntax.{EsSyntax}
 use Rattle.ecma_token.specs.Tokens.{Spot}
 use Rattle.ecma_tokens.specs.Machine as tokens
@@ -18,13 +17,13 @@ use Rattle.ecma_parsed.specs.Within as parsed
 use Rattle.ecma_parsed_exact.specs.Exact.{read_within}
 use Rattle.ecma_parsed_of.specs.Settled.{SettledBy, Settled}
 use Rattle.ecma_parsed_of.proofs.SettledLemmas.{first_settled}
-use Rattle.ecma_parser.specs.Answers.{Refuses, Parses}
+use Rattle.ecma_parser.specs.Answers.{Parses}
 use Rattle.ecma_parser.specs.Entries.{syntax_in, limit_in, first_of, opened}
 use Rattle.ecma_parser.specs.declared.entries.Entries.{Entries}
-use Rattle.ecma_parsed_entries.specs.Answered.{Refused, AnsweredBy, Comes, Answered, EntriesAnswer}
+use Rattle.ecma_parsed_entries.specs.Answered.{AnsweredBy, Comes, Answered, EntriesAnswer}
 
 -- both crates say of a program within the limit the same
-same_program : {S : Type 0} (m : Machine S) (limit : ℕ) (modules : Bool) (c : Code) (s : Stand S) → parsed.program_within m limit modules c s ≡ entries.program_within m limit modules c s
+pub same_program : {S : Type 0} (m : Machine S) (limit : ℕ) (modules : Bool) (c : Code) (s : Stand S) → parsed.program_within m limit modules c s ≡ entries.program_within m limit modules c s
 unfolding parsed.program_within parsed.within entries.program_within entries.within
 same_program m limit modules c s = refl
 
@@ -34,39 +33,42 @@ no_tree {t} {e} h = cc
 tree_of : (u t : Tree) → ◌≡◌ {A = Result Tree Fault} (Ok u) (Ok t) → u ≡ t
 tree_of u t h = cc
 
-module _ {S : Type 0} (m : Machine S) (limit : ℕ) (modules : Bool) (syntax : EsSyntax) (s : S) where
-  refused : (k : SyntaxError) (x : Result Tree Fault) → SettledBy m limit modules syntax s x → Refuses k x → Refused m limit modules syntax s k
-  refused k x h r = record {
-    deep = λ e. subst (λ (y : Result Tree Fault). SettledBy m limit modules syntax s y) (r.deep e) h;
-    fault = λ i j. subst (λ (y : Result Tree Fault). SettledBy m limit modules syntax s y) (r.fault i j) h;
+-- what is read is answered
+pub comes_by : {X : Type 0} (view : X → Tree) (syntax : EsSyntax) (old new : List Error) (result : Result X Error) (x : Result Tree Fault) (t : Tree) → x ≡ Ok t → Parses view syntax result x old new → Comes view t result
+comes_by view syntax old new (Ok u) x t e p = tree_of (view u) t (sym p.0 ∙ e)
+comes_by view syntax old new (Err f) x t e p = λ n. no_tree (sym (p.0.fault n (λ d. no_tree (sym (p.0.deep d) ∙ e))) ∙ e)
+
+-- what holds of the answer of a reading is told by what is answered
+pub answered_by : {X : Type 0} (By : Result Tree Fault → Type 0) (view : X → Tree) (syntax : EsSyntax) (old new : List Error) (result : Result X Error) (x : Result Tree Fault) → By x → Parses view syntax result x old new
+    → AnsweredBy By view syntax result old new
+answered_by By view syntax old new (Ok u) x h p = (subst (λ (y : Result Tree Fault). By y) p.0 h, p.1)
+answered_by By view syntax old new (Err e) x h p = (
+  record {
+    deep = λ i. subst (λ (y : Result Tree Fault). By y) (p.0.deep i) h;
+    fault = λ i j. subst (λ (y : Result Tree Fault). By y) (p.0.fault i j) h;
+  },
+  p.1,
+)
+
+module _ {S : Type 0} (m : Machine S) (limit : ℕ) (modules : Bool) (syntax : EsSyntax) (s : S) {X : Type 0} (view : X → Tree) (old new : List Error) where
+  answered : (result : Result X Error) → Settled m limit modules syntax s → Parses view syntax result (read_within m limit modules syntax s) old new → Answered m limit modules syntax s view result old new
+  answered result h p = record {
+    answer = answered_by (SettledBy m limit modules syntax s) view syntax old new result (read_within m limit modules syntax s) h.read p;
+    found = λ placed ps t g o d i. comes_by view syntax old new result (read_within m limit modules syntax s) t (h.found placed ps t g o d i) p;
   }
 
-  module _ {X : Type 0} (view : X → Tree) (old new : List Error) where
-    answered_by : (result : Result X Error) (x : Result Tree Fault) → SettledBy m limit modules syntax s x → Parses view syntax result x old new → AnsweredBy m limit modules syntax s view result old new
-    answered_by (Ok u) x h p = (subst (λ (y : Result Tree Fault). SettledBy m limit modules syntax s y) p.0 h, p.1)
-    answered_by (Err e) x h p = (refused e.kind x h p.0, p.1)
-
-    comes_by : (result : Result X Error) (x : Result Tree Fault) (t : Tree) → x ≡ Ok t → Parses view syntax result x old new → Comes m limit modules syntax s view t result
-    comes_by (Ok u) x t e p = tree_of (view u) t (sym p.0 ∙ e)
-    comes_by (Err f) x t e p = λ n. no_tree (sym (p.0.fault n (λ d. no_tree (sym (p.0.deep d) ∙ e))) ∙ e)
-
-    answered : (result : Result X Error) → Settled m limit modules syntax s → Parses view syntax result (read_within m limit modules syntax s) old new → Answered m limit modules syntax s view result old new
-    answered result h p = record {
-      answer = answered_by result (read_within m limit modules syntax s) h.read p;
-      found = λ placed ps t g o d i. comes_by result (read_within m limit modules syntax s) t (h.found placed ps t g o d i) p;
-    }
-
 -- the code of a script is that of a script, and that of a module of a module
-of_goal : (modules : Bool) (syntax : EsSyntax) → (code_of modules syntax).context.module_ ≡ modules
+pub of_goal : (modules : Bool) (syntax : EsSyntax) → (code_of modules syntax).context.module_ ≡ modules
 of_goal true syntax = refl
 of_goal false syntax = refl
 
-module _ {I S : Type 0} (m : tokens.Machine S) (state : I → Source S) (Good : Source S → Type 0) (Same : Source S → Source S → Type 0) (Last : Option Spot → Source S → Type 0) where
+module _ {I S : Type 0} (m : tokens.Machine S) (state : I → Source S) where
   -- a parser that read no token opens in front of the first
-  opened_first : (ctx : Context) (e : Entries (Parser I)) → e.started ≡ false → opened m state ctx e ≡ first_of m (told_of ctx (state e.reading.input))
+  pub opened_first : (ctx : Context) (e : Entries (Parser I)) → e.started ≡ false → opened m state ctx e ≡ first_of m (told_of ctx (state e.reading.input))
   opened_first ctx e h = ap (λ (b : Bool). if b then (record { source = record { first = option_map shown_spot e.reading.ahead.token; behind = Some (told_of ctx (state e.reading.input)); last = e.reading.last.0 }; commas = [] })
       else first_of m (told_of ctx (state e.reading.input))) h
 
+module _ {I S : Type 0} (m : tokens.Machine S) (state : I → Source S) (Good : Source S → Type 0) (Same : Source S → Source S → Type 0) (Last : Option Spot → Source S → Type 0) where
   pub entries_answer : {X : Type 0} (view : X → Tree) → EntriesAnswer m state Good Same Last view
   entries_answer view modules w v e h good result old new p =
       let syntax : EsSyntax = syntax_in state e in
@@ -76,4 +78,4 @@ module _ {I S : Type 0} (m : tokens.Machine S) (state : I → Source S) (Good : 
       let settled : Settled (machine_of m) (limit_in e) modules syntax first.source = first_settled m Good Same Last modules w v (limit_in e) syntax told told.settings.start (w.good_told code.context (state e.reading.input) (of_goal modules syntax) good) in
       answered (machine_of m) (limit_in e) modules syntax first.source view old new result settled
       (subst (λ (x : Result Tree Fault). Parses view syntax result x old new) (sym (same_program (machine_of m) (limit_in e) modules code first))
-      (subst (λ (s : Stand (Front S)). Parses view syntax result (entries.program_within (machine_of m) (limit_in e) modules code s) old new) (opened_first code.context e h) p))
+      (subst (λ (s : Stand (Front S)). Parses view syntax result (entries.program_within (machine_of m) (limit_in e) modules code s) old new) (opened_first m state code.context e h) p))

@@ -10,7 +10,7 @@ use Rattle.ecma_tokens.specs.Machine.{Source}
 use Rattle.ecma_tree.specs.Tree.{Tree}
 use Rattle.ecma_nesting.specs.Nesting.{nesting}
 use Rattle.ecma_early.specs.Early.{early_errors}
-use Rattle.ecma_reading.specs.Source.{Machine}
+use Rattle.ecma_reading.specs.Source.{Fault, Unexpected, TooDeep, Machine}
 use Rattle.ecma_spells.specs.Text.{code_of}
 use Rattle.ecma_parse_state.specs.Fronts.{Front, told_of, machine_of}
 use Rattle.ecma_parse_state.specs.declared.parser.Parser.{Parser}
@@ -18,34 +18,34 @@ use Rattle.ecma_parse_entries.specs.Within.{program_within}
 use Rattle.ecma_sources_of.specs.Constant.{Constant}
 use Rattle.ecma_consumed_of.specs.Standing.{Rereading}
 use Rattle.ecma_parsed.specs.Parsed.{EachDerived}
-use Rattle.ecma_parsed_of.specs.Settled.{OnlyTree, NoTree, OnlyDeeper}
+use Rattle.ecma_parsed_of.specs.Settled.{SettledBy}
 use Rattle.ecma_parser.specs.Answers.{Parses}
 use Rattle.ecma_parser.specs.Entries.{syntax_in, limit_in, first_of, opened}
 use Rattle.ecma_parser.specs.declared.entries.Entries.{Entries}
 
-module _ {S : Type 0} (m : Machine S) (limit : ℕ) (modules : Bool) (syntax : EsSyntax) (s : S) where
-  -- A fault of kind TooDeep is answered only where each tree that is derived nests deeper than the limit; one of another kind only where none of
-  -- any nesting is derived. Of want of memory nothing is said.
-  pub record Refused (k : SyntaxError) : Type 0 where
-    pub deep : k ≡ kinds.TooDeep → OnlyDeeper m limit modules syntax s
-    pub fault : k ≢ kinds.Memory → k ≢ kinds.TooDeep → NoTree m limit modules syntax s
+-- This tree is answered, but for want of memory.
+abbrev pub Comes : {X : Type 0} → (X → Tree) → Tree → Result X Error → Type 0
+Comes view t (Ok x) = view x ≡ t
+Comes view t (Err e) = e.kind ≢ kinds.Memory → ⊥
 
-  module _ {X : Type 0} (view : X → Tree) where
-    -- The only tree is answered, and its early errors come behind the faults that were recorded; or a fault is answered, and none is recorded.
-    abbrev pub AnsweredBy : Result X Error → List Error → List Error → Type 0
-    AnsweredBy (Ok x) old new = OnlyTree m limit modules syntax s (view x) × (new ≡ old ++ early_errors syntax (view x))
-    AnsweredBy (Err e) old new = Refused e.kind × (new ≡ old)
+-- Where each answer of a reading tells something, so does a fault of its kind: TooDeep what reading too deep tells, any other but want of memory what an
+-- unexpected token tells. Of want of memory nothing is said.
+pub record Refused (By : Result Tree Fault → Type 0) (k : SyntaxError) : Type 0 where
+  pub deep : k ≡ kinds.TooDeep → By (Err TooDeep)
+  pub fault : k ≢ kinds.Memory → k ≢ kinds.TooDeep → By (Err Unexpected)
 
-    -- This tree is answered, but for want of memory.
-    abbrev pub Comes : Tree → Result X Error → Type 0
-    Comes t (Ok x) = view x ≡ t
-    Comes t (Err e) = e.kind ≢ kinds.Memory → ⊥
+-- A tree is answered of which that holds, and its early errors come behind the faults that were recorded; or a fault is answered, and none is recorded.
+abbrev pub AnsweredBy : {X : Type 0} → (Result Tree Fault → Type 0) → (X → Tree) → EsSyntax → Result X Error → List Error → List Error → Type 0
+AnsweredBy By view syntax (Ok x) old new = By (Ok (view x)) × (new ≡ old ++ early_errors syntax (view x))
+AnsweredBy By view syntax (Err e) old new = Refused By e.kind × (new ≡ old)
 
-    -- An entry's answer, and the faults before and after it, by the grammar.
-    pub record Answered (result : Result X Error) (old new : List Error) : Type 0 where
-      pub answer : AnsweredBy result old new
-      -- what is derived from tokens that the source hands out, within the limit, is answered
-      pub found : EachDerived m modules syntax s (λ t. nesting t ≤ limit → Comes t result)
+module _ {S : Type 0} (m : Machine S) (limit : ℕ) (modules : Bool) (syntax : EsSyntax) (s : S) {X : Type 0} (view : X → Tree) where
+  -- An entry's answer, and the faults before and after it, by the grammar. The tree is the only one that is derived, within the limit; a fault comes only where
+  -- none of any nesting is, and too deep only where each that is nests deeper.
+  pub record Answered (result : Result X Error) (old new : List Error) : Type 0 where
+    pub answer : AnsweredBy (SettledBy m limit modules syntax s) view syntax result old new
+    -- what is derived from tokens that the source hands out, within the limit, is answered
+    pub found : EachDerived m modules syntax s (λ t. nesting t ≤ limit → Comes view t result)
 
 module _ {I S : Type 0} (m : tokens.Machine S) (state : I → Source S) where
   -- in front of the first token of an entry's source, which was told the code of a script, or of a module

@@ -46,7 +46,7 @@ pub record Cut : Type 0 where
   pub text : List ℕ
 
 abbrev pub place : Bool → Bool → ℕ → Content → ℕ → ℕ → Place
-place line esc k content lo hi = record { spot = record { token = record { kind = k; content = content }; line_break = line; lo = lo; hi = hi }; escaped = esc; legacy = None; goal = div_goal; context = no_context }
+place line esc k content lo hi = record { spot = record { token = record { kind = k; content = content }; line_break = line; lo = lo; hi = hi }; escaped = esc; goal = div_goal; context = no_context }
 
 abbrev pub made : List Bool → Bool → ℕ → Content → ℕ → ℕ → List ℕ → Cut
 made braces line k content n here text = record { places = place line false k content here (here + n) ∷ []; braces = braces; line = false; here = here + n; text = drop n text }

@@ -1,5 +1,5 @@
 -- Tokens in their places that tile a text (ECMA-262, clause 12): trivia, a token under the lexical goal of its place, trivia, and so on to the end.
-use Rattle.std.specs.Prelude.{◌≡◌, ◌⊎◌, ℕ, ◌+◌, Bool, true, false, ◌==◌, nat_le, if◌then◌else◌, List, [], ◌∷◌, None}
+use Rattle.std.specs.Prelude.{◌≡◌, ◌⊎◌, ℕ, ◌+◌, Bool, true, false, ◌==◌, nat_le, if◌then◌else◌, List, [], ◌∷◌}
 use Rattle.ecma_scan.specs.Places.{bytes}
 use Rattle.ecma_scan.specs.Trivia.{IsSkipped, IsHashbang, NoHashbang}
 use Rattle.ecma_scan.specs.declared.trivia.Goal.{Goal}
@@ -28,10 +28,10 @@ abbrev pub IsBefore : ℕ → Goal → Bool → List ℕ → Bool → List ℕ �
 IsBefore g goal first text line_break from = IsBeforeBy (nat_le template_goal g) goal first text line_break from
 
 -- A token in its place, with what stands before it; the text goes on with the rest, and ends at the place `end`. The token, its line break, its
--- place, whether it is a word with an escape, and what strict code has with its spelling are those of the text.
+-- place, and whether it is a word with an escape are those of the text.
 abbrev pub IsTile : ℕ → Goal → Bool → List ℕ → Place → List ℕ → Type 0
 IsTile end goal first text p rest = (line_break : Bool) × (from : List ℕ) × (x : SpecLexeme) × IsBefore p.goal goal first text line_break from
-    × IsLexeme (goal_at p.goal) from x rest × (p.spot ≡ spot_at end line_break x.token from rest) × (p.escaped ≡ x.escaped) × (p.legacy ≡ x.legacy)
+    × IsLexeme (goal_at p.goal) from x rest × (p.spot ≡ spot_at end line_break x.token from rest) × (p.escaped ≡ x.escaped)
 
 -- such tokens up to the end of the text, before which trivia may stand
 abbrev pub AreTiles : ℕ → Goal → Bool → List ℕ → List Place → Type 0
@@ -40,7 +40,7 @@ AreTiles end goal first text (p ∷ ps) = (rest : List ℕ) × IsTile end goal f
 
 -- a hashbang (12.5), which stands at the very start
 abbrev pub IsHashbangTile : ℕ → List ℕ → Place → List ℕ → Type 0
-IsHashbangTile end text p rest = (own : List ℕ) × IsHashbang text own rest × (p.spot ≡ spot_at end false (shebang own).token text rest) × (p.escaped ≡ false) × (p.legacy ≡ None)
+IsHashbangTile end text p rest = (own : List ℕ) × IsHashbang text own rest × (p.spot ≡ spot_at end false (shebang own).token text rest) × (p.escaped ≡ false)
 
 abbrev pub AfterHashbang : ℕ → Goal → List ℕ → List Place → Type 0
 AfterHashbang end goal text [] = ⊥

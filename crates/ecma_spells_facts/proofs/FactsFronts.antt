@@ -15,11 +15,11 @@ use Rattle.ecma_spells.specs.Fronts.{ExpressionFront, AssignmentFront}
 
 -- a token that its kind tells, on a line of its own or not
 abbrev mark : Bool → ℕ → Place
-mark line_break k = record { spot = record { token = record { kind = k; content = Bare }; line_break = line_break; lo = 3; hi = 4 }; escaped = false; legacy = None; goal = div_goal; context = no_context }
+mark line_break k = record { spot = record { token = record { kind = k; content = Bare }; line_break = line_break; lo = 3; hi = 4 }; escaped = false; goal = div_goal; context = no_context }
 
 -- `a`, a word that is no word of the grammar
 abbrev name : Place
-name = record { spot = record { token = record { kind = kind_of (97 ∷ []); content = Named (97 ∷ []) }; line_break = false; lo = 1; hi = 2 }; escaped = false; legacy = None; goal = div_goal; context = no_context }
+name = record { spot = record { token = record { kind = kind_of (97 ∷ []); content = Named (97 ∷ []) }; line_break = false; lo = 1; hi = 2 }; escaped = false; goal = div_goal; context = no_context }
 
 abbrev at_name : List Place → Input
 at_name ps = record { last = 1; places = name ∷ ps }

@@ -50,7 +50,7 @@ empty_module x le = record {
 
 -- `;`
 abbrev semicolon : Place
-semicolon = record { spot = record { token = record { kind = semicolon_kind; content = Bare }; line_break = false; lo = 1; hi = 2 }; escaped = false; legacy = None; goal = div_goal; context = no_context }
+semicolon = record { spot = record { token = record { kind = semicolon_kind; content = Bare }; line_break = false; lo = 1; hi = 2 }; escaped = false; goal = div_goal; context = no_context }
 
 abbrev semicolon_script : Tree
 semicolon_script = script (span 1 2) (more (empty_stmt (span 1 2)) none) None
@@ -62,7 +62,7 @@ one_semicolon x le = record {
     semicolon ∷ [],
     record { last = 2; places = [] },
     refl,
-    inl (no_hashbang (59 ∷ []) refl, ([], (false, 59 ∷ [], plain (bare semicolon_kind), ([], (refl, no_trivia Script true (59 ∷ []) refl), refl), inr (inr (refl, (Semi, is_read (59 ∷ []) Semi [] refl, refl))), refl, refl, refl), (false, nothing_left Script false))),
+    inl (no_hashbang (59 ∷ []) refl, ([], (false, 59 ∷ [], plain (bare semicolon_kind), ([], (refl, no_trivia Script true (59 ∷ []) refl), refl), inr (inr (refl, (Semi, is_read (59 ∷ []) Semi [] refl, refl))), refl, refl), (false, nothing_left Script false))),
     ((record { last = 1; places = semicolon ∷ [] }, refl, (record { last = 2; places = [] }, refl, ((refl, (refl, refl), refl), refl), (refl, refl)), refl), refl),
   );
   clean = refl;

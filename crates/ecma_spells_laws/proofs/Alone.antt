@@ -75,7 +75,7 @@ one_tile end goal first text p q r s e h g =
     let j = ap (λ (z : Spot). region_of q.goal z.token.kind) g.5 in
     let k = one_at p.goal q.goal goal first text h.0 g.0 h.1 g.1 h.2 g.2 r s (sym i ∙ e ∙ j) h.3 g.3 h.4 g.4 in
     let o = spots_same end h.0 g.0 h.2.token g.2.token h.1 g.1 r s k.0 k.1 (ap (λ (z : SpecLexeme). z.token) k.2) k.3 in
-    ((h.5 ∙ o ∙ sym g.5, h.6 ∙ ap (λ (z : SpecLexeme). z.escaped) k.2 ∙ sym g.6, h.7 ∙ ap (λ (z : SpecLexeme). z.legacy) k.2 ∙ sym g.7), k.3)
+    ((h.5 ∙ o ∙ sym g.5, h.6 ∙ ap (λ (z : SpecLexeme). z.escaped) k.2 ∙ sym g.6), k.3)
 
 -- where one list ends, the other has a part of a template
 ended_at : (n k : ℕ) (goal : Goal) (first : Bool) (text : List ℕ) (a b : Bool) (f : List ℕ) (x : SpecLexeme) (r : List ℕ) → IsBeforeBy false goal first text a []
@@ -102,7 +102,7 @@ tiles (x ∷ xs) (y ∷ ys) end goal first text h g = parted (cases_Bool (eqb (r
 one_hashbang_tile : (end : ℕ) (text : List ℕ) (p q : Place) (r s : List ℕ) → IsHashbangTile end text p r → IsHashbangTile end text q s → SameToken p q × (r ≡ s)
 one_hashbang_tile end text p q r s h g = let k = one_hashbang text h.0 g.0 r s h.1 g.1 in
     let o = spots_same end false false (shebang h.0).token (shebang g.0).token text text r s refl refl (ap (λ (z : List ℕ). (shebang z).token) k.0) k.1 in
-    ((h.2 ∙ o ∙ sym g.2, h.3 ∙ sym g.3, h.4 ∙ sym g.4), k.1)
+    ((h.2 ∙ o ∙ sym g.2, h.3 ∙ sym g.3), k.1)
 
 after_hashbangs : (ps qs : List Place) (end : ℕ) (goal : Goal) (text : List ℕ) → AfterHashbang end goal text ps → AfterHashbang end goal text qs → SameTokens ps qs ⊎ Part ps qs
 after_hashbangs [] qs end goal text h g = absurd h

@@ -18,7 +18,7 @@ use Rattle.ecma_grammar_complete_base.specs.Laws.{InOrder}
 use Rattle.ecma_spells.specs.Tiled.{goal_at, whole, IsBeforeBy, AreTiles, AfterHashbang, Tile}
 
 -- what is left takes fewer bytes, and no more
-bytes_fall : (text rest : List ℕ) → Behind text rest → bytes rest ≤ bytes text
+pub bytes_fall : (text rest : List ℕ) → Behind text rest → bytes rest ≤ bytes text
 bytes_fall text rest h =
     let e = ap bytes h.1 in
     let a = ap length (encodes-append h.0 rest) in
@@ -35,7 +35,7 @@ bytes_fewer text rest h l =
     let g = length-le-encodes h.0 in
     omega (arith, e, a, b, d, f, g, l)
 
-before_behind : (b : Bool) (goal : Goal) (first : Bool) (text : List ℕ) (line_break : Bool) (from : List ℕ) → IsBeforeBy b goal first text line_break from → Behind text from
+pub before_behind : (b : Bool) (goal : Goal) (first : Bool) (text : List ℕ) (line_break : Bool) (from : List ℕ) → IsBeforeBy b goal first text line_break from → Behind text from
 before_behind true goal first text line_break from h = here text from h.0
 before_behind false goal first text line_break from h = follow_behind goal first text h.0 from h.1.0
 

@@ -78,7 +78,7 @@ module _ (end : ℕ) (goal : Goal) (first : Bool) (text : List ℕ) (p q : Place
 
   joined : h.0 ≡ g.0 → h.1 ≡ g.1 → h.2 ≡ g.2 → r ≡ s → Same
   joined a b d e = let o = spots_same end h.0 g.0 h.2.token g.2.token h.1 g.1 r s a b (ap (λ (z : SpecLexeme). z.token) d) e in
-      ((h.5 ∙ o ∙ sym g.5, h.6 ∙ ap (λ (z : SpecLexeme). z.escaped) d ∙ sym g.6, h.7 ∙ ap (λ (z : SpecLexeme). z.legacy) d ∙ sym g.7), e)
+      ((h.5 ∙ o ∙ sym g.5, h.6 ∙ ap (λ (z : SpecLexeme). z.escaped) d ∙ sym g.6), e)
 
   same_goal : p.goal ≡ q.goal → Same
   same_goal e = let k = one_before (nat_le template_goal q.goal) goal first text h.0 g.0 h.1 g.1 (subst (λ (n : ℕ). IsBefore n goal first text h.0 h.1) e h.3) g.3 in
@@ -164,7 +164,7 @@ module _ (end : ℕ) (goal : Goal) where
   one_of first text x y r s h g (inr (inr e)) = right (across end goal first text y x s r g h e.1 e.0)
     where
       right : (SameToken y x × (s ≡ r)) ⊎ Apart y x → (SameToken x y × (r ≡ s)) ⊎ (Apart x y ⊎ Apart y x)
-      right (inl z) = inl ((sym z.0.0, sym z.0.1, sym z.0.2), sym z.1)
+      right (inl z) = inl ((sym z.0.0, sym z.0.1), sym z.1)
       right (inr z) = inr (inr z)
 
   pub tiles : (ps qs : List Place) (g : Region) (first : Bool) (text : List ℕ) → AreTiles end goal first text ps → AreTiles end goal first text qs → over g ps ≡ Outside [] → over g qs ≡ Outside [] → SameTokens ps qs ⊎ Slashed ps qs
@@ -182,7 +182,7 @@ module _ (end : ℕ) (goal : Goal) where
   one_hashbang_tile : (text : List ℕ) (p q : Place) (r s : List ℕ) → IsHashbangTile end text p r → IsHashbangTile end text q s → SameToken p q × (r ≡ s)
   one_hashbang_tile text p q r s h g = let k = one_hashbang text h.0 g.0 r s h.1 g.1 in
       let o = spots_same end false false (shebang h.0).token (shebang g.0).token text text r s refl refl (ap (λ (z : List ℕ). (shebang z).token) k.0) k.1 in
-      ((h.2 ∙ o ∙ sym g.2, h.3 ∙ sym g.3, h.4 ∙ sym g.4), k.1)
+      ((h.2 ∙ o ∙ sym g.2, h.3 ∙ sym g.3), k.1)
 
   pub after_hashbangs : (ps qs : List Place) (text : List ℕ) → AfterHashbang end goal text ps → AfterHashbang end goal text qs → over (Outside []) ps ≡ Outside [] → over (Outside []) qs ≡ Outside [] → SameTokens ps qs ⊎ Slashed ps qs
   after_hashbangs [] qs text h k a b = absurd h

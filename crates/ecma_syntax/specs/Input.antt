@@ -1,7 +1,6 @@
 -- What a program is read from: tokens in their places, and what consuming one of them says.
-use Rattle.std.specs.Prelude.{◌≡◌, ℕ, ◌+◌, Bool, true, false, not, ◌&&◌, ◌||◌, ◌==◌, nat_le, if◌then◌else◌, List, [], ◌∷◌, Option, None}
+use Rattle.std.specs.Prelude.{◌≡◌, ℕ, ◌+◌, Bool, true, false, not, ◌&&◌, ◌||◌, ◌==◌, nat_le, if◌then◌else◌, List, [], ◌∷◌}
 use Rattle.ecma_token.specs.declared.context.Context.{Context}
-use Rattle.ecma_token.specs.declared.error.SyntaxError.{SyntaxError}
 use Rattle.ecma_token.specs.declared.place.Span.{Span}
 use Rattle.ecma_token.specs.declared.syntax.EsSyntax.{EsSyntax}
 use Rattle.ecma_token.specs.Kinds.{end_kind, regex_kind, div_kind, div_assign_kind, null_kind, false_kind, await_kind, break_kind, let_kind, yield_kind, delete_kind, enum_kind, implements_kind, interface_kind, package_kind, private_kind, protected_kind, public_kind, static_kind}
@@ -21,12 +20,10 @@ template_goal = 2
 abbrev pub template_end_goal : ℕ
 template_end_goal = 3
 
--- A token in its place: whether a word is spelled with an escape, what strict code has with its spelling, and the lexical goal and the
--- context under which it stands.
+-- A token in its place: whether a word is spelled with an escape, and the lexical goal and the context under which it stands.
 pub record Place : Type 0 where
   pub spot : Spot
   pub escaped : Bool
-  pub legacy : Option SyntaxError
   pub goal : ℕ
   pub context : Context
 
@@ -52,10 +49,6 @@ content_of (p ∷ ps) = p.spot.token.content
 abbrev pub escaped_of : List Place → Bool
 escaped_of [] = false
 escaped_of (p ∷ ps) = p.escaped
-
-abbrev pub legacy_of : List Place → Option SyntaxError
-legacy_of [] = None
-legacy_of (p ∷ ps) = p.legacy
 
 abbrev pub lo_of : ℕ → List Place → ℕ
 lo_of last [] = last

@@ -9,9 +9,16 @@ use std::marker::Model;
 
 /// UTF-16 units: the value of a string, or of a piece of a template. They are those of a text of the
 /// source, and then take no memory, or a list of their own. A contract sees the list.
-#[derive(Debug, Drop)]
+#[derive(Debug)]
 pub struct Units<'a> {
     form: Form<'a>,
+}
+
+impl Drop for Units<'_> {
+    #[inline(always)]
+    fn drop(self) {
+        let Units { form: _form } = self;
+    }
 }
 
 #[derive(Debug, Drop)]

@@ -127,12 +127,37 @@ pub enum TokenKind {
 }
 
 /// A token, whether a line break stands before it, and its place.
-#[derive(Clone, Debug, Drop)]
+#[derive(Clone, Debug)]
 pub struct TokenAndSpan<'a> {
     pub token: Token<'a>,
     /// Whether a line break stands between it and the token before.
     pub had_line_break: bool,
     pub span: Span,
+}
+
+impl<'a> TokenAndSpan<'a> {
+    /// The token alone.
+    pub fn into_token(self) -> Token<'a>
+        ensures { result ≡ self.entry.token }
+    {
+        let TokenAndSpan {
+            token,
+            had_line_break: _,
+            span: _,
+        } = self;
+        token
+    }
+}
+
+impl Drop for TokenAndSpan<'_> {
+    #[inline(always)]
+    fn drop(self) {
+        let TokenAndSpan {
+            token: _token,
+            had_line_break: _,
+            span: _,
+        } = self;
+    }
 }
 
 impl Spanned for TokenAndSpan<'_> {

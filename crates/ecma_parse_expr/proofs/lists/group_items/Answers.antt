@@ -1,7 +1,7 @@
-use Rattle.std.proofs.Common.{rules, ◌≡◌, ◌∙◌}
+use Rattle.std.proofs.Common.{rules, ◌∙◌}
 use Rattle.ecma_reading.specs.Source as spec
 use Rattle.ecma_reading.specs.Expressions as reads
-use Rattle.ecma_parse_state.proofs.Iterate.{iterate_done, iterate_stops, iterates}
+use Rattle.ecma_parse_state.proofs.Iterate.{iterate_done, iterates}
 use Rattle.ecma_parse_expr.proofs.lists.group_items.Goals as goal
 
 pub returns-in_err-argument_turn-clause-value : goal.returns-in_err-argument_turn-clause-value

@@ -1,4 +1,4 @@
-use Rattle.std.proofs.Common.{rules, ◌≡◌}
+use Rattle.std.proofs.Common.{rules}
 use Rattle.ecma_node.specs.Placed.{inner}
 use Rattle.ecma_parse_base.proofs.Packs.{packed_more}
 use Rattle.ecma_parse_expr.proofs.sequences.more_seq.Goals as goal

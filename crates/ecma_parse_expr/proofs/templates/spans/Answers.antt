@@ -1,6 +1,6 @@
-use Rattle.std.proofs.Common.{rules, ◌≡◌, ◌∙◌}
+use Rattle.std.proofs.Common.{rules, ◌∙◌}
 use Rattle.ecma_reading.specs.Source as spec
-use Rattle.ecma_parse_state.proofs.Iterate.{iterate_done, iterate_stops, iterates}
+use Rattle.ecma_parse_state.proofs.Iterate.{iterate_done, iterates}
 use Rattle.ecma_parse_expr.specs.Pieces as reads
 use Rattle.ecma_parse_expr.proofs.templates.spans.Goals as goal
 
