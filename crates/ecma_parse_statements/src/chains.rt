@@ -8,7 +8,7 @@ ghost use Rattle.ecma_reading.specs.Source as spec;
 ghost use Rattle.ecma_reading.specs.Statements as reads;
 ghost use Rattle.ecma_parse_state.specs.Answers.{Gives, going_on, IsMemory};
 ghost use Rattle.ecma_parse_state.specs.Codes.{code_of};
-ghost use Rattle.ecma_parse_state.specs.Fronts.{machine_of};
+ghost use Rattle.ecma_parse_state.specs.Fronts.{is_slash, machine_of};
 ghost use Rattle.ecma_parse_state.specs.Stands.{stand};
 ghost use Rattle.ecma_syntax.specs.Input as input;
 ghost use Rattle.ecma_parse_statements.specs.Lists.{branch_of, chain_of, chain_items, FitBranches, FitChain};
@@ -40,19 +40,18 @@ pub struct Links {
     pub last: Option<StmtBox>,
 }
 
-/// The kind of the token that comes, where a slash is read as a regular expression.
+/// The kind of what starts with the slash that comes, read as a regular expression, in a copy of the source.
 ///
 /// # Errors
 ///
 /// Want of memory.
+#[inline(never)]
 #[tactic(auto, unfolding(ecma_parse_state::specs::Fronts::machine_of))]
-pub fn operand_kind<'a, I: Tokens<'a> + Drop>(p: &Parser<'a, I>) -> Result<u8, Failure>
+fn reread_kind<'a, I: Tokens<'a> + Drop>(p: &Parser<'a, I>) -> Result<u8, Failure>
+    requires slash { is_slash (kind (spec.input (machine_of I.machine) (stand I.state p.now))) ≡ true }
     ensures value { IfOk result (λ k. k ≡ kind (spec.input (machine_of I.machine) (spec.operand (machine_of I.machine) (stand I.state p.now)))) }
     ensures full { IfErr result IsMemory }
 {
-    if !p.at(kinds::DIV) && !p.at(kinds::DIV_ASSIGN) {
-        return Ok(p.kind());
-    }
     let Some(token) = &p.ahead.token else {
         return Ok(p.kind());
     };
@@ -64,6 +63,24 @@ pub fn operand_kind<'a, I: Tokens<'a> + Drop>(p: &Parser<'a, I>) -> Result<u8, F
         Ok(Some(next)) => Ok(token_number(&next.token)),
         Ok(None) => Ok(kinds::END),
         Err(_) => Err(Failure::Memory),
+    }
+}
+
+/// The kind of the token that comes, where a slash is read as a regular expression. A function that is called twice is not
+/// inlined, so that no `if` has room for a copy of the source in its frame.
+///
+/// # Errors
+///
+/// Want of memory.
+#[tactic(auto, unfolding(ecma_parse_state::specs::Fronts::machine_of))]
+pub fn operand_kind<'a, I: Tokens<'a> + Drop>(p: &Parser<'a, I>) -> Result<u8, Failure>
+    ensures value { IfOk result (λ k. k ≡ kind (spec.input (machine_of I.machine) (spec.operand (machine_of I.machine) (stand I.state p.now)))) }
+    ensures full { IfErr result IsMemory }
+{
+    match p.kind() {
+        kinds::DIV => reread_kind(p),
+        kinds::DIV_ASSIGN => reread_kind(p),
+        kind => Ok(kind),
     }
 }
 

@@ -123,8 +123,8 @@ pub fn jump<'a, I: Tokens<'a> + Drop, N: Nested<'a, I>>(
     }
 }
 
-/// A statement that a word starts, or an expression.
-#[inline(always)]
+/// A statement that a word starts, or an expression. Not inlined: its frame is wide, and blocks and functions in one another go past it.
+#[inline(never)]
 #[tactic(auto, unfolding(ecma_reading::specs::Statements::keyword_stmt, crate::specs::Parts::jump_stmt, crate::specs::Parts::declared_stmt, crate::specs::Parts::variable_stmt))]
 pub fn keyword<'a, I: Tokens<'a> + Drop, N: Nested<'a, I>>(
     p: &mut Parser<'a, I>,
@@ -176,7 +176,7 @@ fn block_stmt<'a, I: Tokens<'a> + Drop, N: Nested<'a, I>>(
 
 /// A statement, from a token on that is no slash.
 #[inline(always)]
-#[tactic(auto, unfolding(ecma_reading::specs::Statements::stmt_by))]
+#[tactic(auto, using(ecma_parse_state::proofs::Marks::marks, crate::proofs::Starts::starts), unfolding(ecma_reading::specs::Statements::stmt_by, ecma_reading::specs::Statements::keyword_stmt))]
 pub fn any_stmt<'a, I: Tokens<'a> + Drop, N: Nested<'a, I>>(
     p: &mut Parser<'a, I>,
     nested: &N,
@@ -195,7 +195,11 @@ pub fn any_stmt<'a, I: Tokens<'a> + Drop, N: Nested<'a, I>>(
     if p.at(kinds::LEFT_BRACE) {
         return block_stmt(p, nested, code);
     }
-    keyword(p, nested, code)
+    let start = p.lo();
+    match p.kind() {
+        kinds::FUNCTION => function_decl(p, nested, code, start, false),
+        _ => keyword(p, nested, code),
+    }
 }
 
 /// A statement; where the code says so, a declaration. A slash that comes starts a regular expression.

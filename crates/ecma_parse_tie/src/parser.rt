@@ -51,22 +51,27 @@ impl<'a, 'n, I: Tokens<'a> + Drop, N: Inside<Parser<'a, I>>> Nested<'a, I> for T
 
     ghost ready = { λ t. N.ready t.inside.now };
 
+    #[inline(always)]
     fn expr(&self, p: &mut Parser<'a, I>, code: Around, level: u8) -> Result<Operand, Failure> {
         self.inside.expr(p, code, level)
     }
 
+    #[inline(always)]
     fn pat(&self, p: &mut Parser<'a, I>, code: Around) -> Result<PatBox, Failure> {
         self.inside.pat(p, code)
     }
 
+    #[inline(always)]
     fn stmt(&self, p: &mut Parser<'a, I>, code: Around) -> Result<StmtBox, Failure> {
         self.inside.stmt(p, code)
     }
 
+    #[inline(always)]
     fn body(&self, p: &mut Parser<'a, I>, code: Around) -> Result<BlockStmt, Failure> {
         self.inside.body(p, code)
     }
 
+    #[inline(always)]
     fn class_tail(
         &self,
         p: &mut Parser<'a, I>,
@@ -92,6 +97,7 @@ impl<'a, 'n, I: Tokens<'a> + Drop, N: Inside<Parser<'a, I>>> Nested<'a, I> for T
 }
 
 impl<'a, I: Tokens<'a> + Drop> Layer for Parser<'a, I> {
+    #[inline(always)]
     fn read_expr<N: Inside<Parser<'a, I>>>(
         &mut self,
         nested: &N,
@@ -101,6 +107,7 @@ impl<'a, I: Tokens<'a> + Drop> Layer for Parser<'a, I> {
         expr(self, &Through { inside: nested }, code, level)
     }
 
+    #[inline(always)]
     fn read_pat<N: Inside<Parser<'a, I>>>(
         &mut self,
         nested: &N,
@@ -109,6 +116,7 @@ impl<'a, I: Tokens<'a> + Drop> Layer for Parser<'a, I> {
         pattern(self, &Through { inside: nested }, code)
     }
 
+    #[inline(always)]
     fn read_stmt<N: Inside<Parser<'a, I>>>(
         &mut self,
         nested: &N,
@@ -117,6 +125,7 @@ impl<'a, I: Tokens<'a> + Drop> Layer for Parser<'a, I> {
         statement(self, &Through { inside: nested }, code)
     }
 
+    #[inline(always)]
     fn read_body<N: Inside<Parser<'a, I>>>(
         &mut self,
         nested: &N,
@@ -125,6 +134,7 @@ impl<'a, I: Tokens<'a> + Drop> Layer for Parser<'a, I> {
         body(self, &Through { inside: nested }, code)
     }
 
+    #[inline(always)]
     fn read_class_tail<N: Inside<Parser<'a, I>>>(
         &mut self,
         nested: &N,

@@ -64,22 +64,27 @@ impl<
       });
     } };
 
+    #[inline(always)]
     fn expr(&self, p: &mut T, code: Around, level: u8) -> Result<Operand, Failure> {
         (self.expr)(p, self.left, code, level)
     }
 
+    #[inline(always)]
     fn pat(&self, p: &mut T, code: Around) -> Result<PatBox, Failure> {
         (self.pat)(p, self.left, code)
     }
 
+    #[inline(always)]
     fn stmt(&self, p: &mut T, code: Around) -> Result<StmtBox, Failure> {
         (self.stmt)(p, self.left, code)
     }
 
+    #[inline(always)]
     fn body(&self, p: &mut T, code: Around) -> Result<BlockStmt, Failure> {
         (self.body)(p, self.left, code)
     }
 
+    #[inline(always)]
     fn class_tail(&self, p: &mut T, code: Around, whole: BytePos) -> Result<Box<Class>, Failure> {
         (self.class_tail)(p, self.left, code, whole)
     }
