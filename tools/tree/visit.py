@@ -176,7 +176,7 @@ class Visit:
         trees = self.trees()
         out += "use Rattle.ecma_tree.specs.Tree.{Tree, %s, list, absent, hole}\n" % ", ".join(t for t, _, _ in trees)
         out += "use Rattle.ecma_visit.specs.declared.kinds.Kind.{Kind}\n"
-        out += "use Rattle.ecma_visit.specs.declared.kinds.Kind.TheVariants as Kind\n\n"
+        out += "\n"
         out += "-- a node as a visitor is told of it; the text is a name's bytes, a string's units and nothing of other nodes\n"
         out += "pub record Seen : Type 0 where\n  pub kind : Kind\n  pub place : Span\n  pub text : List ℕ\n\n"
         out += "abbrev pub seen : Kind → Span → List ℕ → Seen\n"

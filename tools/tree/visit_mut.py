@@ -9,9 +9,9 @@ CRATE = "crates/ecma_visit_mut"
 
 # Hooks of a type, by what they are called with.
 ENTERED = ["Function", "Class"]
-LEFT = ["Function", "Class", "ClassMember", "Decl", "VarDeclarator", "MemberExpr", "AssignTarget", "Prop", "PropName", "Tpl", "ModuleItem"]
+LEFT = ["Function", "Class"]
 CHANGED = ["Ident", "IdentName", "PrivateName", "Str", "Number", "BigInt", "TplElement"]
-LISTS = {"Vec<Stmt>": "leave_stmts", "Vec<ModuleItem>": "leave_module_items"}
+LISTS = {"Vec<Stmt>": "leave_stmts"}
 
 
 class VisitMut:
@@ -22,16 +22,16 @@ class VisitMut:
     def struct_lines(self, name):
         table, lines = self.table, []
         if name in ENTERED:
-            lines.append("T::enter_%s(visitor, self);" % snake(name))
+            lines.append("by.enter_%s(self);" % snake(name))
         for f, t in self.visit.fields(name):
             lines += self.field_lines("self." + f, t)
             if t in LISTS:
-                lines.append("T::%s(visitor, &mut self.%s);" % (LISTS[t], f))
+                lines.append("by.%s(&mut self.%s);" % (LISTS[t], f))
         for f, t in [("span", "Span")] + table.fields_of[name]:
             if t == "Span":
-                lines.append("visitor.span(&mut self.%s);" % f)
+                lines.append("by.word(Word::Span(&mut self.%s));" % f)
             elif t == "Option<Span>":
-                lines += ["if let Some(span) = &mut self.%s {" % f, "    visitor.span(span);", "}"]
+                lines += ["if let Some(span) = &mut self.%s {" % f, "    by.word(Word::Span(span));", "}"]
         return lines + self.end(name)
 
     def field_lines(self, field, text):
@@ -40,28 +40,27 @@ class VisitMut:
         items, part = inside(text, "Vec"), inside(text, "Option")
         if items:
             call = "walk_elements" if inside(items, "Hole") else "walk_all"
-            return ["%s(%s, nested, visitor);" % (call, "&mut " + field if "." in field else field)]
+            return ["%s(%s, by);" % (call, "&mut " + field if "." in field else field)]
         if part:
             return ["if let Some(x) = &mut %s {" % field] + ["    " + line for line in self.field_lines("x", part)] + ["}"]
-        return ["%s.walk_mut(nested, visitor);" % field]
+        return ["%s.walk_mut(by);" % field]
 
     def end(self, name):
         if name in CHANGED:
-            return ["visitor.%s(self);" % snake(name)]
-        return ["T::leave_%s(visitor, self);" % snake(name)] if name in LEFT else []
+            return ["by.word(Word::%s(self));" % name]
+        return ["by.leave_%s(self);" % snake(name)] if name in LEFT else []
 
     def enum_lines(self, name):
         own = name + "Of" if self.table.is_generic(name) else name
-        arms = ["    %s::%s(x) => x.walk_mut(nested, visitor)," % (own, v) for v, _ in self.table.variants_of[name]]
+        arms = ["    %s::%s(x) => x.walk_mut(by)," % (own, v) for v, _ in self.table.variants_of[name]]
         return ["match self {"] + arms + ["}"] + self.end(name)
 
     def impl(self, name, lines):
         generic = self.table.is_generic(name)
-        fits = "fits_%s T.placed" % snake(name) if generic else "λ _. Unit {0}"
-        used = any("nested" in line for line in lines)
-        own = "impl<T: Held> WalkMut for %sOf<T>" % name if generic else "impl WalkMut for %s" % name
+        fits = "λ p x. fits_%s p x" % snake(name) if generic else "λ _ _. Unit {0}"
+        own = "impl<T> WalkMut<T> for %s" % (name + "Of<T>" if generic else name)
         head = "%s {\n    ghost fits = { %s };\n\n" % (own, fits)
-        head += "    fn walk_mut<V: VisitMut, N: Nested<V>>(&mut self, %s: &N, visitor: &mut V) {\n" % ("nested" if used else "_nested")
+        head += "    fn walk_mut<C: Change<T>>(&mut self, by: &mut C) {\n"
         return head + "".join("        %s\n" % line for line in lines) + "    }\n}\n\n"
 
     def module(self, module):
@@ -77,10 +76,10 @@ class VisitMut:
         head = "//! Changes %s.\n" % WHAT[module]
         if fits:
             head += "ghost use Rattle.ecma_node.specs.Fits.{%s};\n\n" % ", ".join(fits)
-        held = "use crate::held::Held;\n" if fits else ""
         text = "".join(body)
+        used = ["Change", "WalkMut"] + [it for it in ("Word",) if it + "::" in text]
         helpers = [it for it in ("walk_all", "walk_elements") if it + "(" in text]
-        head += held + "use crate::hooks::VisitMut;\n" + use_line("crate::walk", ["Nested", "WalkMut"] + helpers)
+        head += use_line("crate::walk", used + helpers)
         head += use_line("ecma_node", sorted(names))
         return head + "\n" + "".join(body).rstrip("\n") + "\n"
 

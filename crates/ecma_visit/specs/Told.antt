@@ -3,7 +3,6 @@ use Rattle.std.specs.Prelude.{[], Option, Some}
 use Rattle.ecma_node.specs.View.{view_ident, view_ident_name, view_private_name, view_str, view_number, view_big_int, view_tpl_element, view_binding_ident}
 use Rattle.ecma_visit.specs.Seen.{Seen, seen, seen_of}
 use Rattle.ecma_visit.specs.declared.watch.Node.{Node}
-use Rattle.ecma_visit.specs.declared.watch.Node.TheVariants as Node
 
 abbrev pub seen_in : Node → Option Seen
 seen_in (Node.Program t) = seen_of t.now

@@ -1,12 +1,9 @@
 //! Hooks for families of nodes, which do nothing by themselves.
-ghost use Rattle.ecma_node.specs.Fits.{fits_member_expr, fits_call_expr, fits_fn_expr, fits_arrow_expr, fits_class_expr, fits_object_lit, fits_tpl, fits_fn_decl, fits_class_decl, fits_var_decl};
-
 use crate::kinds::Kind;
 use crate::watch::{Node, Watch};
 use ecma_node::{
-    ArrowExpr, BigInt, BindingIdent, CallExpr, ClassDecl, ClassExpr, DeclOf, Expr, ExprKindOf,
-    FnDecl, FnExpr, Ident, IdentName, Lit, MemberExpr, Number, ObjectLit, Pat, PatKindOf,
-    PrivateName, Program, Regex, Stmt, StmtKindOf, Str, Tpl, TplElement, VarDecl,
+    BigInt, BindingIdent, Expr, ExprKindOf, Ident, IdentName, Lit, Number, Pat, PatKindOf,
+    PrivateName, Program, Regex, Stmt, Str, TplElement,
 };
 use ecma_token::Span;
 
@@ -33,53 +30,6 @@ pub trait Visit {
     fn enter_part(&mut self, _kind: Kind, _span: Span) {}
 
     fn leave_part(&mut self, _kind: Kind, _span: Span) {}
-
-    /// A declaration of variables, as a statement.
-    fn enter_var_decl(&mut self, _decl: &VarDecl)
-        requires { fits_var_decl (λ p. p) _decl.now }
-    {}
-
-    /// A function with its name, as a statement.
-    fn enter_fn_decl(&mut self, _decl: &FnDecl)
-        requires { fits_fn_decl (λ p. p) _decl.now }
-    {}
-
-    /// A class with its name, as a statement.
-    fn enter_class_decl(&mut self, _decl: &ClassDecl)
-        requires { fits_class_decl (λ p. p) _decl.now }
-    {}
-
-    /// A function, as an expression.
-    fn enter_fn_expr(&mut self, _function: &FnExpr)
-        requires { fits_fn_expr (λ p. p) _function.now }
-    {}
-
-    fn enter_arrow_expr(&mut self, _arrow: &ArrowExpr)
-        requires { fits_arrow_expr (λ p. p) _arrow.now }
-    {}
-
-    /// A class, as an expression.
-    fn enter_class_expr(&mut self, _class: &ClassExpr)
-        requires { fits_class_expr (λ p. p) _class.now }
-    {}
-
-    fn enter_object(&mut self, _object: &ObjectLit)
-        requires { fits_object_lit (λ p. p) _object.now }
-    {}
-
-    /// A member, as an expression.
-    fn enter_member(&mut self, _member: &MemberExpr)
-        requires { fits_member_expr (λ p. p) _member.now }
-    {}
-
-    fn enter_call(&mut self, _call: &CallExpr)
-        requires { fits_call_expr (λ p. p) _call.now }
-    {}
-
-    /// A template without a tag.
-    fn enter_tpl(&mut self, _tpl: &Tpl)
-        requires { fits_tpl (λ p. p) _tpl.now }
-    {}
 
     fn tpl_element(&mut self, _text: &TplElement) {}
 
@@ -136,7 +86,7 @@ impl<V: Visit> Watch for Hooks<V> {
 fn enter_node<V: Visit>(visit: &mut V, node: Node<'_>) {
     match node {
         Node::Program(x) => visit.enter_program(x),
-        Node::Stmt(x) => enter_stmt(visit, x),
+        Node::Stmt(x) => visit.enter_stmt(x),
         Node::Expr(x) => enter_expr(visit, x),
         Node::Pat(x) => enter_pat(visit, x),
         Node::Ident(x) => visit.ident(x),
@@ -151,19 +101,6 @@ fn enter_node<V: Visit>(visit: &mut V, node: Node<'_>) {
     }
 }
 
-/// Calls the hooks of a statement that is entered.
-fn enter_stmt<V: Visit>(visit: &mut V, stmt: &Stmt) {
-    visit.enter_stmt(stmt);
-    if let StmtKindOf::Decl(decl) = &stmt.kind {
-        match decl {
-            DeclOf::Class(x) => visit.enter_class_decl(x),
-            DeclOf::Fn(x) => visit.enter_fn_decl(x),
-            DeclOf::Var(x) => visit.enter_var_decl(x),
-            DeclOf::Using(_) => {}
-        }
-    }
-}
-
 /// Calls the hooks of an expression that is entered.
 fn enter_expr<V: Visit>(visit: &mut V, expr: &Expr) {
     visit.enter_expr(expr);
@@ -171,13 +108,6 @@ fn enter_expr<V: Visit>(visit: &mut V, expr: &Expr) {
         ExprKindOf::Ident(x) => visit.ident(x),
         ExprKindOf::PrivateName(x) => visit.private_name(x),
         ExprKindOf::Lit(x) => enter_lit(visit, x),
-        ExprKindOf::Fn(x) => visit.enter_fn_expr(x),
-        ExprKindOf::Arrow(x) => visit.enter_arrow_expr(x),
-        ExprKindOf::Class(x) => visit.enter_class_expr(x),
-        ExprKindOf::Object(x) => visit.enter_object(x),
-        ExprKindOf::Member(x) => visit.enter_member(x),
-        ExprKindOf::Call(x) => visit.enter_call(x),
-        ExprKindOf::Tpl(x) => visit.enter_tpl(x),
         _ => {}
     }
 }

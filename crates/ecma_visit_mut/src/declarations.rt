@@ -1,72 +1,68 @@
 //! Changes declarations (ECMA-262, 14.3, 15.2 and 15.7).
 ghost use Rattle.ecma_node.specs.Fits.{fits_decl, fits_class_decl, fits_fn_decl, fits_var_decl, fits_using_decl, fits_var_declarator};
 
-use crate::held::Held;
-use crate::hooks::VisitMut;
-use crate::walk::{Nested, WalkMut, walk_all};
+use crate::walk::{Change, WalkMut, Word, walk_all};
 use ecma_node::{ClassDeclOf, DeclOf, FnDeclOf, UsingDeclOf, VarDeclOf, VarDeclaratorOf};
 
-impl<T: Held> WalkMut for DeclOf<T> {
-    ghost fits = { fits_decl T.placed };
+impl<T> WalkMut<T> for DeclOf<T> {
+    ghost fits = { λ p x. fits_decl p x };
 
-    fn walk_mut<V: VisitMut, N: Nested<V>>(&mut self, nested: &N, visitor: &mut V) {
+    fn walk_mut<C: Change<T>>(&mut self, by: &mut C) {
         match self {
-            DeclOf::Class(x) => x.walk_mut(nested, visitor),
-            DeclOf::Fn(x) => x.walk_mut(nested, visitor),
-            DeclOf::Var(x) => x.walk_mut(nested, visitor),
-            DeclOf::Using(x) => x.walk_mut(nested, visitor),
+            DeclOf::Class(x) => x.walk_mut(by),
+            DeclOf::Fn(x) => x.walk_mut(by),
+            DeclOf::Var(x) => x.walk_mut(by),
+            DeclOf::Using(x) => x.walk_mut(by),
         }
-        T::leave_decl(visitor, self);
     }
 }
 
-impl<T: Held> WalkMut for ClassDeclOf<T> {
-    ghost fits = { fits_class_decl T.placed };
+impl<T> WalkMut<T> for ClassDeclOf<T> {
+    ghost fits = { λ p x. fits_class_decl p x };
 
-    fn walk_mut<V: VisitMut, N: Nested<V>>(&mut self, nested: &N, visitor: &mut V) {
-        self.ident.walk_mut(nested, visitor);
-        self.class.walk_mut(nested, visitor);
-        visitor.span(&mut self.span);
+    fn walk_mut<C: Change<T>>(&mut self, by: &mut C) {
+        self.ident.walk_mut(by);
+        self.class.walk_mut(by);
+        by.word(Word::Span(&mut self.span));
     }
 }
 
-impl<T: Held> WalkMut for FnDeclOf<T> {
-    ghost fits = { fits_fn_decl T.placed };
+impl<T> WalkMut<T> for FnDeclOf<T> {
+    ghost fits = { λ p x. fits_fn_decl p x };
 
-    fn walk_mut<V: VisitMut, N: Nested<V>>(&mut self, nested: &N, visitor: &mut V) {
-        self.ident.walk_mut(nested, visitor);
-        self.function.walk_mut(nested, visitor);
-        visitor.span(&mut self.span);
+    fn walk_mut<C: Change<T>>(&mut self, by: &mut C) {
+        self.ident.walk_mut(by);
+        self.function.walk_mut(by);
+        by.word(Word::Span(&mut self.span));
     }
 }
 
-impl<T: Held> WalkMut for VarDeclOf<T> {
-    ghost fits = { fits_var_decl T.placed };
+impl<T> WalkMut<T> for VarDeclOf<T> {
+    ghost fits = { λ p x. fits_var_decl p x };
 
-    fn walk_mut<V: VisitMut, N: Nested<V>>(&mut self, nested: &N, visitor: &mut V) {
-        walk_all(&mut self.decls, nested, visitor);
-        visitor.span(&mut self.span);
+    fn walk_mut<C: Change<T>>(&mut self, by: &mut C) {
+        walk_all(&mut self.decls, by);
+        by.word(Word::Span(&mut self.span));
     }
 }
 
-impl<T: Held> WalkMut for UsingDeclOf<T> {
-    ghost fits = { fits_using_decl T.placed };
+impl<T> WalkMut<T> for UsingDeclOf<T> {
+    ghost fits = { λ p x. fits_using_decl p x };
 
-    fn walk_mut<V: VisitMut, N: Nested<V>>(&mut self, nested: &N, visitor: &mut V) {
-        walk_all(&mut self.decls, nested, visitor);
-        visitor.span(&mut self.span);
+    fn walk_mut<C: Change<T>>(&mut self, by: &mut C) {
+        walk_all(&mut self.decls, by);
+        by.word(Word::Span(&mut self.span));
     }
 }
 
-impl<T: Held> WalkMut for VarDeclaratorOf<T> {
-    ghost fits = { fits_var_declarator T.placed };
+impl<T> WalkMut<T> for VarDeclaratorOf<T> {
+    ghost fits = { λ p x. fits_var_declarator p x };
 
-    fn walk_mut<V: VisitMut, N: Nested<V>>(&mut self, nested: &N, visitor: &mut V) {
-        self.name.walk_mut(nested, visitor);
+    fn walk_mut<C: Change<T>>(&mut self, by: &mut C) {
+        self.name.walk_mut(by);
         if let Some(x) = &mut self.init {
-            x.walk_mut(nested, visitor);
+            x.walk_mut(by);
         }
-        visitor.span(&mut self.span);
-        T::leave_var_declarator(visitor, self);
+        by.word(Word::Span(&mut self.span));
     }
 }

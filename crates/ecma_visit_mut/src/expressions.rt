@@ -1,9 +1,7 @@
 //! Changes expressions (ECMA-262, clause 13).
 ghost use Rattle.ecma_node.specs.Fits.{fits_expr_kind, fits_array_lit, fits_object_lit, fits_fn_expr, fits_unary_expr, fits_update_expr, fits_bin_expr, fits_assign_expr, fits_member_expr, fits_super_prop_expr, fits_cond_expr, fits_call_expr, fits_new_expr, fits_seq_expr, fits_tpl, fits_tagged_tpl, fits_arrow_expr, fits_class_expr, fits_yield_expr, fits_await_expr, fits_paren_expr, fits_opt_chain_expr, fits_opt_call, fits_expr_or_spread, fits_spread_element, fits_callee, fits_member_prop, fits_super_prop, fits_opt_chain_base, fits_block_stmt_or_expr};
 
-use crate::held::Held;
-use crate::hooks::VisitMut;
-use crate::walk::{Nested, WalkMut, walk_all, walk_elements};
+use crate::walk::{Change, WalkMut, Word, walk_all, walk_elements};
 use ecma_node::{
     ArrayLitOf, ArrowExprOf, AssignExprOf, AwaitExprOf, BinExprOf, BlockStmtOrExprOf, CallExprOf,
     CalleeOf, ClassExprOf, CondExprOf, ExprKindOf, ExprOrSpreadOf, FnExprOf, Ident, Import,
@@ -13,396 +11,394 @@ use ecma_node::{
     UpdateExprOf, YieldExprOf,
 };
 
-impl<T: Held> WalkMut for ExprKindOf<T> {
-    ghost fits = { fits_expr_kind T.placed };
+impl<T> WalkMut<T> for ExprKindOf<T> {
+    ghost fits = { λ p x. fits_expr_kind p x };
 
-    fn walk_mut<V: VisitMut, N: Nested<V>>(&mut self, nested: &N, visitor: &mut V) {
+    fn walk_mut<C: Change<T>>(&mut self, by: &mut C) {
         match self {
-            ExprKindOf::This(x) => x.walk_mut(nested, visitor),
-            ExprKindOf::Array(x) => x.walk_mut(nested, visitor),
-            ExprKindOf::Object(x) => x.walk_mut(nested, visitor),
-            ExprKindOf::Fn(x) => x.walk_mut(nested, visitor),
-            ExprKindOf::Unary(x) => x.walk_mut(nested, visitor),
-            ExprKindOf::Update(x) => x.walk_mut(nested, visitor),
-            ExprKindOf::Bin(x) => x.walk_mut(nested, visitor),
-            ExprKindOf::Assign(x) => x.walk_mut(nested, visitor),
-            ExprKindOf::Member(x) => x.walk_mut(nested, visitor),
-            ExprKindOf::SuperProp(x) => x.walk_mut(nested, visitor),
-            ExprKindOf::Cond(x) => x.walk_mut(nested, visitor),
-            ExprKindOf::Call(x) => x.walk_mut(nested, visitor),
-            ExprKindOf::New(x) => x.walk_mut(nested, visitor),
-            ExprKindOf::Seq(x) => x.walk_mut(nested, visitor),
-            ExprKindOf::Ident(x) => x.walk_mut(nested, visitor),
-            ExprKindOf::Lit(x) => x.walk_mut(nested, visitor),
-            ExprKindOf::Tpl(x) => x.walk_mut(nested, visitor),
-            ExprKindOf::TaggedTpl(x) => x.walk_mut(nested, visitor),
-            ExprKindOf::Arrow(x) => x.walk_mut(nested, visitor),
-            ExprKindOf::Class(x) => x.walk_mut(nested, visitor),
-            ExprKindOf::Yield(x) => x.walk_mut(nested, visitor),
-            ExprKindOf::MetaProp(x) => x.walk_mut(nested, visitor),
-            ExprKindOf::Await(x) => x.walk_mut(nested, visitor),
-            ExprKindOf::Paren(x) => x.walk_mut(nested, visitor),
-            ExprKindOf::PrivateName(x) => x.walk_mut(nested, visitor),
-            ExprKindOf::OptChain(x) => x.walk_mut(nested, visitor),
-            ExprKindOf::Invalid(x) => x.walk_mut(nested, visitor),
+            ExprKindOf::This(x) => x.walk_mut(by),
+            ExprKindOf::Array(x) => x.walk_mut(by),
+            ExprKindOf::Object(x) => x.walk_mut(by),
+            ExprKindOf::Fn(x) => x.walk_mut(by),
+            ExprKindOf::Unary(x) => x.walk_mut(by),
+            ExprKindOf::Update(x) => x.walk_mut(by),
+            ExprKindOf::Bin(x) => x.walk_mut(by),
+            ExprKindOf::Assign(x) => x.walk_mut(by),
+            ExprKindOf::Member(x) => x.walk_mut(by),
+            ExprKindOf::SuperProp(x) => x.walk_mut(by),
+            ExprKindOf::Cond(x) => x.walk_mut(by),
+            ExprKindOf::Call(x) => x.walk_mut(by),
+            ExprKindOf::New(x) => x.walk_mut(by),
+            ExprKindOf::Seq(x) => x.walk_mut(by),
+            ExprKindOf::Ident(x) => x.walk_mut(by),
+            ExprKindOf::Lit(x) => x.walk_mut(by),
+            ExprKindOf::Tpl(x) => x.walk_mut(by),
+            ExprKindOf::TaggedTpl(x) => x.walk_mut(by),
+            ExprKindOf::Arrow(x) => x.walk_mut(by),
+            ExprKindOf::Class(x) => x.walk_mut(by),
+            ExprKindOf::Yield(x) => x.walk_mut(by),
+            ExprKindOf::MetaProp(x) => x.walk_mut(by),
+            ExprKindOf::Await(x) => x.walk_mut(by),
+            ExprKindOf::Paren(x) => x.walk_mut(by),
+            ExprKindOf::PrivateName(x) => x.walk_mut(by),
+            ExprKindOf::OptChain(x) => x.walk_mut(by),
+            ExprKindOf::Invalid(x) => x.walk_mut(by),
         }
     }
 }
 
-impl WalkMut for ThisExpr {
-    ghost fits = { λ _. Unit {0} };
+impl<T> WalkMut<T> for ThisExpr {
+    ghost fits = { λ _ _. Unit {0} };
 
-    fn walk_mut<V: VisitMut, N: Nested<V>>(&mut self, _nested: &N, visitor: &mut V) {
-        visitor.span(&mut self.span);
+    fn walk_mut<C: Change<T>>(&mut self, by: &mut C) {
+        by.word(Word::Span(&mut self.span));
     }
 }
 
-impl<T: Held> WalkMut for ArrayLitOf<T> {
-    ghost fits = { fits_array_lit T.placed };
+impl<T> WalkMut<T> for ArrayLitOf<T> {
+    ghost fits = { λ p x. fits_array_lit p x };
 
-    fn walk_mut<V: VisitMut, N: Nested<V>>(&mut self, nested: &N, visitor: &mut V) {
-        walk_elements(&mut self.elems, nested, visitor);
-        visitor.span(&mut self.span);
+    fn walk_mut<C: Change<T>>(&mut self, by: &mut C) {
+        walk_elements(&mut self.elems, by);
+        by.word(Word::Span(&mut self.span));
     }
 }
 
-impl<T: Held> WalkMut for ObjectLitOf<T> {
-    ghost fits = { fits_object_lit T.placed };
+impl<T> WalkMut<T> for ObjectLitOf<T> {
+    ghost fits = { λ p x. fits_object_lit p x };
 
-    fn walk_mut<V: VisitMut, N: Nested<V>>(&mut self, nested: &N, visitor: &mut V) {
-        walk_all(&mut self.props, nested, visitor);
-        visitor.span(&mut self.span);
+    fn walk_mut<C: Change<T>>(&mut self, by: &mut C) {
+        walk_all(&mut self.props, by);
+        by.word(Word::Span(&mut self.span));
     }
 }
 
-impl<T: Held> WalkMut for FnExprOf<T> {
-    ghost fits = { fits_fn_expr T.placed };
+impl<T> WalkMut<T> for FnExprOf<T> {
+    ghost fits = { λ p x. fits_fn_expr p x };
 
-    fn walk_mut<V: VisitMut, N: Nested<V>>(&mut self, nested: &N, visitor: &mut V) {
+    fn walk_mut<C: Change<T>>(&mut self, by: &mut C) {
         if let Some(x) = &mut self.ident {
-            x.walk_mut(nested, visitor);
+            x.walk_mut(by);
         }
-        self.function.walk_mut(nested, visitor);
-        visitor.span(&mut self.span);
+        self.function.walk_mut(by);
+        by.word(Word::Span(&mut self.span));
     }
 }
 
-impl<T: Held> WalkMut for UnaryExprOf<T> {
-    ghost fits = { fits_unary_expr T.placed };
+impl<T> WalkMut<T> for UnaryExprOf<T> {
+    ghost fits = { λ p x. fits_unary_expr p x };
 
-    fn walk_mut<V: VisitMut, N: Nested<V>>(&mut self, nested: &N, visitor: &mut V) {
-        self.arg.walk_mut(nested, visitor);
-        visitor.span(&mut self.span);
+    fn walk_mut<C: Change<T>>(&mut self, by: &mut C) {
+        self.arg.walk_mut(by);
+        by.word(Word::Span(&mut self.span));
     }
 }
 
-impl<T: Held> WalkMut for UpdateExprOf<T> {
-    ghost fits = { fits_update_expr T.placed };
+impl<T> WalkMut<T> for UpdateExprOf<T> {
+    ghost fits = { λ p x. fits_update_expr p x };
 
-    fn walk_mut<V: VisitMut, N: Nested<V>>(&mut self, nested: &N, visitor: &mut V) {
-        self.arg.walk_mut(nested, visitor);
-        visitor.span(&mut self.span);
+    fn walk_mut<C: Change<T>>(&mut self, by: &mut C) {
+        self.arg.walk_mut(by);
+        by.word(Word::Span(&mut self.span));
     }
 }
 
-impl<T: Held> WalkMut for BinExprOf<T> {
-    ghost fits = { fits_bin_expr T.placed };
+impl<T> WalkMut<T> for BinExprOf<T> {
+    ghost fits = { λ p x. fits_bin_expr p x };
 
-    fn walk_mut<V: VisitMut, N: Nested<V>>(&mut self, nested: &N, visitor: &mut V) {
-        self.left.walk_mut(nested, visitor);
-        self.right.walk_mut(nested, visitor);
-        visitor.span(&mut self.span);
+    fn walk_mut<C: Change<T>>(&mut self, by: &mut C) {
+        self.left.walk_mut(by);
+        self.right.walk_mut(by);
+        by.word(Word::Span(&mut self.span));
     }
 }
 
-impl<T: Held> WalkMut for AssignExprOf<T> {
-    ghost fits = { fits_assign_expr T.placed };
+impl<T> WalkMut<T> for AssignExprOf<T> {
+    ghost fits = { λ p x. fits_assign_expr p x };
 
-    fn walk_mut<V: VisitMut, N: Nested<V>>(&mut self, nested: &N, visitor: &mut V) {
-        self.left.walk_mut(nested, visitor);
-        self.right.walk_mut(nested, visitor);
-        visitor.span(&mut self.span);
+    fn walk_mut<C: Change<T>>(&mut self, by: &mut C) {
+        self.left.walk_mut(by);
+        self.right.walk_mut(by);
+        by.word(Word::Span(&mut self.span));
     }
 }
 
-impl<T: Held> WalkMut for MemberExprOf<T> {
-    ghost fits = { fits_member_expr T.placed };
+impl<T> WalkMut<T> for MemberExprOf<T> {
+    ghost fits = { λ p x. fits_member_expr p x };
 
-    fn walk_mut<V: VisitMut, N: Nested<V>>(&mut self, nested: &N, visitor: &mut V) {
-        self.obj.walk_mut(nested, visitor);
-        self.prop.walk_mut(nested, visitor);
-        visitor.span(&mut self.span);
-        T::leave_member_expr(visitor, self);
+    fn walk_mut<C: Change<T>>(&mut self, by: &mut C) {
+        self.obj.walk_mut(by);
+        self.prop.walk_mut(by);
+        by.word(Word::Span(&mut self.span));
     }
 }
 
-impl<T: Held> WalkMut for SuperPropExprOf<T> {
-    ghost fits = { fits_super_prop_expr T.placed };
+impl<T> WalkMut<T> for SuperPropExprOf<T> {
+    ghost fits = { λ p x. fits_super_prop_expr p x };
 
-    fn walk_mut<V: VisitMut, N: Nested<V>>(&mut self, nested: &N, visitor: &mut V) {
-        self.obj.walk_mut(nested, visitor);
-        self.prop.walk_mut(nested, visitor);
-        visitor.span(&mut self.span);
+    fn walk_mut<C: Change<T>>(&mut self, by: &mut C) {
+        self.obj.walk_mut(by);
+        self.prop.walk_mut(by);
+        by.word(Word::Span(&mut self.span));
     }
 }
 
-impl<T: Held> WalkMut for CondExprOf<T> {
-    ghost fits = { fits_cond_expr T.placed };
+impl<T> WalkMut<T> for CondExprOf<T> {
+    ghost fits = { λ p x. fits_cond_expr p x };
 
-    fn walk_mut<V: VisitMut, N: Nested<V>>(&mut self, nested: &N, visitor: &mut V) {
-        self.test.walk_mut(nested, visitor);
-        self.cons.walk_mut(nested, visitor);
-        self.alt.walk_mut(nested, visitor);
-        visitor.span(&mut self.span);
+    fn walk_mut<C: Change<T>>(&mut self, by: &mut C) {
+        self.test.walk_mut(by);
+        self.cons.walk_mut(by);
+        self.alt.walk_mut(by);
+        by.word(Word::Span(&mut self.span));
     }
 }
 
-impl<T: Held> WalkMut for CallExprOf<T> {
-    ghost fits = { fits_call_expr T.placed };
+impl<T> WalkMut<T> for CallExprOf<T> {
+    ghost fits = { λ p x. fits_call_expr p x };
 
-    fn walk_mut<V: VisitMut, N: Nested<V>>(&mut self, nested: &N, visitor: &mut V) {
-        self.callee.walk_mut(nested, visitor);
-        walk_all(&mut self.args, nested, visitor);
-        visitor.span(&mut self.span);
+    fn walk_mut<C: Change<T>>(&mut self, by: &mut C) {
+        self.callee.walk_mut(by);
+        walk_all(&mut self.args, by);
+        by.word(Word::Span(&mut self.span));
     }
 }
 
-impl<T: Held> WalkMut for NewExprOf<T> {
-    ghost fits = { fits_new_expr T.placed };
+impl<T> WalkMut<T> for NewExprOf<T> {
+    ghost fits = { λ p x. fits_new_expr p x };
 
-    fn walk_mut<V: VisitMut, N: Nested<V>>(&mut self, nested: &N, visitor: &mut V) {
-        self.callee.walk_mut(nested, visitor);
+    fn walk_mut<C: Change<T>>(&mut self, by: &mut C) {
+        self.callee.walk_mut(by);
         if let Some(x) = &mut self.args {
-            walk_all(x, nested, visitor);
+            walk_all(x, by);
         }
-        visitor.span(&mut self.span);
+        by.word(Word::Span(&mut self.span));
     }
 }
 
-impl<T: Held> WalkMut for SeqExprOf<T> {
-    ghost fits = { fits_seq_expr T.placed };
+impl<T> WalkMut<T> for SeqExprOf<T> {
+    ghost fits = { λ p x. fits_seq_expr p x };
 
-    fn walk_mut<V: VisitMut, N: Nested<V>>(&mut self, nested: &N, visitor: &mut V) {
-        walk_all(&mut self.exprs, nested, visitor);
-        visitor.span(&mut self.span);
+    fn walk_mut<C: Change<T>>(&mut self, by: &mut C) {
+        walk_all(&mut self.exprs, by);
+        by.word(Word::Span(&mut self.span));
     }
 }
 
-impl WalkMut for Ident {
-    ghost fits = { λ _. Unit {0} };
+impl<T> WalkMut<T> for Ident {
+    ghost fits = { λ _ _. Unit {0} };
 
-    fn walk_mut<V: VisitMut, N: Nested<V>>(&mut self, _nested: &N, visitor: &mut V) {
-        visitor.span(&mut self.span);
-        visitor.ident(self);
+    fn walk_mut<C: Change<T>>(&mut self, by: &mut C) {
+        by.word(Word::Span(&mut self.span));
+        by.word(Word::Ident(self));
     }
 }
 
-impl<T: Held> WalkMut for TplOf<T> {
-    ghost fits = { fits_tpl T.placed };
+impl<T> WalkMut<T> for TplOf<T> {
+    ghost fits = { λ p x. fits_tpl p x };
 
-    fn walk_mut<V: VisitMut, N: Nested<V>>(&mut self, nested: &N, visitor: &mut V) {
-        walk_all(&mut self.exprs, nested, visitor);
-        walk_all(&mut self.quasis, nested, visitor);
-        visitor.span(&mut self.span);
-        T::leave_tpl(visitor, self);
+    fn walk_mut<C: Change<T>>(&mut self, by: &mut C) {
+        walk_all(&mut self.exprs, by);
+        walk_all(&mut self.quasis, by);
+        by.word(Word::Span(&mut self.span));
     }
 }
 
-impl WalkMut for TplElement {
-    ghost fits = { λ _. Unit {0} };
+impl<T> WalkMut<T> for TplElement {
+    ghost fits = { λ _ _. Unit {0} };
 
-    fn walk_mut<V: VisitMut, N: Nested<V>>(&mut self, _nested: &N, visitor: &mut V) {
-        visitor.span(&mut self.span);
-        visitor.tpl_element(self);
+    fn walk_mut<C: Change<T>>(&mut self, by: &mut C) {
+        by.word(Word::Span(&mut self.span));
+        by.word(Word::TplElement(self));
     }
 }
 
-impl<T: Held> WalkMut for TaggedTplOf<T> {
-    ghost fits = { fits_tagged_tpl T.placed };
+impl<T> WalkMut<T> for TaggedTplOf<T> {
+    ghost fits = { λ p x. fits_tagged_tpl p x };
 
-    fn walk_mut<V: VisitMut, N: Nested<V>>(&mut self, nested: &N, visitor: &mut V) {
-        self.tag.walk_mut(nested, visitor);
-        self.tpl.walk_mut(nested, visitor);
-        visitor.span(&mut self.span);
+    fn walk_mut<C: Change<T>>(&mut self, by: &mut C) {
+        self.tag.walk_mut(by);
+        self.tpl.walk_mut(by);
+        by.word(Word::Span(&mut self.span));
     }
 }
 
-impl<T: Held> WalkMut for ArrowExprOf<T> {
-    ghost fits = { fits_arrow_expr T.placed };
+impl<T> WalkMut<T> for ArrowExprOf<T> {
+    ghost fits = { λ p x. fits_arrow_expr p x };
 
-    fn walk_mut<V: VisitMut, N: Nested<V>>(&mut self, nested: &N, visitor: &mut V) {
-        walk_all(&mut self.params, nested, visitor);
-        self.body.walk_mut(nested, visitor);
-        visitor.span(&mut self.span);
+    fn walk_mut<C: Change<T>>(&mut self, by: &mut C) {
+        walk_all(&mut self.params, by);
+        self.body.walk_mut(by);
+        by.word(Word::Span(&mut self.span));
     }
 }
 
-impl<T: Held> WalkMut for ClassExprOf<T> {
-    ghost fits = { fits_class_expr T.placed };
+impl<T> WalkMut<T> for ClassExprOf<T> {
+    ghost fits = { λ p x. fits_class_expr p x };
 
-    fn walk_mut<V: VisitMut, N: Nested<V>>(&mut self, nested: &N, visitor: &mut V) {
+    fn walk_mut<C: Change<T>>(&mut self, by: &mut C) {
         if let Some(x) = &mut self.ident {
-            x.walk_mut(nested, visitor);
+            x.walk_mut(by);
         }
-        self.class.walk_mut(nested, visitor);
-        visitor.span(&mut self.span);
+        self.class.walk_mut(by);
+        by.word(Word::Span(&mut self.span));
     }
 }
 
-impl<T: Held> WalkMut for YieldExprOf<T> {
-    ghost fits = { fits_yield_expr T.placed };
+impl<T> WalkMut<T> for YieldExprOf<T> {
+    ghost fits = { λ p x. fits_yield_expr p x };
 
-    fn walk_mut<V: VisitMut, N: Nested<V>>(&mut self, nested: &N, visitor: &mut V) {
+    fn walk_mut<C: Change<T>>(&mut self, by: &mut C) {
         if let Some(x) = &mut self.arg {
-            x.walk_mut(nested, visitor);
+            x.walk_mut(by);
         }
-        visitor.span(&mut self.span);
+        by.word(Word::Span(&mut self.span));
     }
 }
 
-impl WalkMut for MetaPropExpr {
-    ghost fits = { λ _. Unit {0} };
+impl<T> WalkMut<T> for MetaPropExpr {
+    ghost fits = { λ _ _. Unit {0} };
 
-    fn walk_mut<V: VisitMut, N: Nested<V>>(&mut self, _nested: &N, visitor: &mut V) {
-        visitor.span(&mut self.span);
+    fn walk_mut<C: Change<T>>(&mut self, by: &mut C) {
+        by.word(Word::Span(&mut self.span));
     }
 }
 
-impl<T: Held> WalkMut for AwaitExprOf<T> {
-    ghost fits = { fits_await_expr T.placed };
+impl<T> WalkMut<T> for AwaitExprOf<T> {
+    ghost fits = { λ p x. fits_await_expr p x };
 
-    fn walk_mut<V: VisitMut, N: Nested<V>>(&mut self, nested: &N, visitor: &mut V) {
-        self.arg.walk_mut(nested, visitor);
-        visitor.span(&mut self.span);
+    fn walk_mut<C: Change<T>>(&mut self, by: &mut C) {
+        self.arg.walk_mut(by);
+        by.word(Word::Span(&mut self.span));
     }
 }
 
-impl<T: Held> WalkMut for ParenExprOf<T> {
-    ghost fits = { fits_paren_expr T.placed };
+impl<T> WalkMut<T> for ParenExprOf<T> {
+    ghost fits = { λ p x. fits_paren_expr p x };
 
-    fn walk_mut<V: VisitMut, N: Nested<V>>(&mut self, nested: &N, visitor: &mut V) {
-        self.expr.walk_mut(nested, visitor);
-        visitor.span(&mut self.span);
+    fn walk_mut<C: Change<T>>(&mut self, by: &mut C) {
+        self.expr.walk_mut(by);
+        by.word(Word::Span(&mut self.span));
     }
 }
 
-impl<T: Held> WalkMut for OptChainExprOf<T> {
-    ghost fits = { fits_opt_chain_expr T.placed };
+impl<T> WalkMut<T> for OptChainExprOf<T> {
+    ghost fits = { λ p x. fits_opt_chain_expr p x };
 
-    fn walk_mut<V: VisitMut, N: Nested<V>>(&mut self, nested: &N, visitor: &mut V) {
-        self.base.walk_mut(nested, visitor);
-        visitor.span(&mut self.span);
+    fn walk_mut<C: Change<T>>(&mut self, by: &mut C) {
+        self.base.walk_mut(by);
+        by.word(Word::Span(&mut self.span));
     }
 }
 
-impl<T: Held> WalkMut for OptCallOf<T> {
-    ghost fits = { fits_opt_call T.placed };
+impl<T> WalkMut<T> for OptCallOf<T> {
+    ghost fits = { λ p x. fits_opt_call p x };
 
-    fn walk_mut<V: VisitMut, N: Nested<V>>(&mut self, nested: &N, visitor: &mut V) {
-        self.callee.walk_mut(nested, visitor);
-        walk_all(&mut self.args, nested, visitor);
-        visitor.span(&mut self.span);
+    fn walk_mut<C: Change<T>>(&mut self, by: &mut C) {
+        self.callee.walk_mut(by);
+        walk_all(&mut self.args, by);
+        by.word(Word::Span(&mut self.span));
     }
 }
 
-impl WalkMut for Super {
-    ghost fits = { λ _. Unit {0} };
+impl<T> WalkMut<T> for Super {
+    ghost fits = { λ _ _. Unit {0} };
 
-    fn walk_mut<V: VisitMut, N: Nested<V>>(&mut self, _nested: &N, visitor: &mut V) {
-        visitor.span(&mut self.span);
+    fn walk_mut<C: Change<T>>(&mut self, by: &mut C) {
+        by.word(Word::Span(&mut self.span));
     }
 }
 
-impl WalkMut for Import {
-    ghost fits = { λ _. Unit {0} };
+impl<T> WalkMut<T> for Import {
+    ghost fits = { λ _ _. Unit {0} };
 
-    fn walk_mut<V: VisitMut, N: Nested<V>>(&mut self, _nested: &N, visitor: &mut V) {
-        visitor.span(&mut self.span);
+    fn walk_mut<C: Change<T>>(&mut self, by: &mut C) {
+        by.word(Word::Span(&mut self.span));
     }
 }
 
-impl WalkMut for Invalid {
-    ghost fits = { λ _. Unit {0} };
+impl<T> WalkMut<T> for Invalid {
+    ghost fits = { λ _ _. Unit {0} };
 
-    fn walk_mut<V: VisitMut, N: Nested<V>>(&mut self, _nested: &N, visitor: &mut V) {
-        visitor.span(&mut self.span);
+    fn walk_mut<C: Change<T>>(&mut self, by: &mut C) {
+        by.word(Word::Span(&mut self.span));
     }
 }
 
-impl<T: Held> WalkMut for ExprOrSpreadOf<T> {
-    ghost fits = { fits_expr_or_spread T.placed };
+impl<T> WalkMut<T> for ExprOrSpreadOf<T> {
+    ghost fits = { λ p x. fits_expr_or_spread p x };
 
-    fn walk_mut<V: VisitMut, N: Nested<V>>(&mut self, nested: &N, visitor: &mut V) {
-        self.expr.walk_mut(nested, visitor);
-        visitor.span(&mut self.span);
+    fn walk_mut<C: Change<T>>(&mut self, by: &mut C) {
+        self.expr.walk_mut(by);
+        by.word(Word::Span(&mut self.span));
         if let Some(span) = &mut self.spread {
-            visitor.span(span);
+            by.word(Word::Span(span));
         }
     }
 }
 
-impl<T: Held> WalkMut for SpreadElementOf<T> {
-    ghost fits = { fits_spread_element T.placed };
+impl<T> WalkMut<T> for SpreadElementOf<T> {
+    ghost fits = { λ p x. fits_spread_element p x };
 
-    fn walk_mut<V: VisitMut, N: Nested<V>>(&mut self, nested: &N, visitor: &mut V) {
-        self.expr.walk_mut(nested, visitor);
-        visitor.span(&mut self.span);
+    fn walk_mut<C: Change<T>>(&mut self, by: &mut C) {
+        self.expr.walk_mut(by);
+        by.word(Word::Span(&mut self.span));
     }
 }
 
-impl<T: Held> WalkMut for CalleeOf<T> {
-    ghost fits = { fits_callee T.placed };
+impl<T> WalkMut<T> for CalleeOf<T> {
+    ghost fits = { λ p x. fits_callee p x };
 
-    fn walk_mut<V: VisitMut, N: Nested<V>>(&mut self, nested: &N, visitor: &mut V) {
+    fn walk_mut<C: Change<T>>(&mut self, by: &mut C) {
         match self {
-            CalleeOf::Super(x) => x.walk_mut(nested, visitor),
-            CalleeOf::Import(x) => x.walk_mut(nested, visitor),
-            CalleeOf::Expr(x) => x.walk_mut(nested, visitor),
+            CalleeOf::Super(x) => x.walk_mut(by),
+            CalleeOf::Import(x) => x.walk_mut(by),
+            CalleeOf::Expr(x) => x.walk_mut(by),
         }
     }
 }
 
-impl<T: Held> WalkMut for MemberPropOf<T> {
-    ghost fits = { fits_member_prop T.placed };
+impl<T> WalkMut<T> for MemberPropOf<T> {
+    ghost fits = { λ p x. fits_member_prop p x };
 
-    fn walk_mut<V: VisitMut, N: Nested<V>>(&mut self, nested: &N, visitor: &mut V) {
+    fn walk_mut<C: Change<T>>(&mut self, by: &mut C) {
         match self {
-            MemberPropOf::Ident(x) => x.walk_mut(nested, visitor),
-            MemberPropOf::PrivateName(x) => x.walk_mut(nested, visitor),
-            MemberPropOf::Computed(x) => x.walk_mut(nested, visitor),
+            MemberPropOf::Ident(x) => x.walk_mut(by),
+            MemberPropOf::PrivateName(x) => x.walk_mut(by),
+            MemberPropOf::Computed(x) => x.walk_mut(by),
         }
     }
 }
 
-impl<T: Held> WalkMut for SuperPropOf<T> {
-    ghost fits = { fits_super_prop T.placed };
+impl<T> WalkMut<T> for SuperPropOf<T> {
+    ghost fits = { λ p x. fits_super_prop p x };
 
-    fn walk_mut<V: VisitMut, N: Nested<V>>(&mut self, nested: &N, visitor: &mut V) {
+    fn walk_mut<C: Change<T>>(&mut self, by: &mut C) {
         match self {
-            SuperPropOf::Ident(x) => x.walk_mut(nested, visitor),
-            SuperPropOf::Computed(x) => x.walk_mut(nested, visitor),
+            SuperPropOf::Ident(x) => x.walk_mut(by),
+            SuperPropOf::Computed(x) => x.walk_mut(by),
         }
     }
 }
 
-impl<T: Held> WalkMut for OptChainBaseOf<T> {
-    ghost fits = { fits_opt_chain_base T.placed };
+impl<T> WalkMut<T> for OptChainBaseOf<T> {
+    ghost fits = { λ p x. fits_opt_chain_base p x };
 
-    fn walk_mut<V: VisitMut, N: Nested<V>>(&mut self, nested: &N, visitor: &mut V) {
+    fn walk_mut<C: Change<T>>(&mut self, by: &mut C) {
         match self {
-            OptChainBaseOf::Member(x) => x.walk_mut(nested, visitor),
-            OptChainBaseOf::Call(x) => x.walk_mut(nested, visitor),
+            OptChainBaseOf::Member(x) => x.walk_mut(by),
+            OptChainBaseOf::Call(x) => x.walk_mut(by),
         }
     }
 }
 
-impl<T: Held> WalkMut for BlockStmtOrExprOf<T> {
-    ghost fits = { fits_block_stmt_or_expr T.placed };
+impl<T> WalkMut<T> for BlockStmtOrExprOf<T> {
+    ghost fits = { λ p x. fits_block_stmt_or_expr p x };
 
-    fn walk_mut<V: VisitMut, N: Nested<V>>(&mut self, nested: &N, visitor: &mut V) {
+    fn walk_mut<C: Change<T>>(&mut self, by: &mut C) {
         match self {
-            BlockStmtOrExprOf::BlockStmt(x) => x.walk_mut(nested, visitor),
-            BlockStmtOrExprOf::Expr(x) => x.walk_mut(nested, visitor),
+            BlockStmtOrExprOf::BlockStmt(x) => x.walk_mut(by),
+            BlockStmtOrExprOf::Expr(x) => x.walk_mut(by),
         }
     }
 }

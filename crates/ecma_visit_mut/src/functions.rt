@@ -1,208 +1,204 @@
 //! Changes functions, classes and keys (ECMA-262, clause 15).
 ghost use Rattle.ecma_node.specs.Fits.{fits_function, fits_param, fits_decorator, fits_class, fits_class_member, fits_constructor, fits_class_method, fits_private_method, fits_class_prop, fits_private_prop, fits_static_block, fits_auto_accessor, fits_key, fits_prop_name, fits_computed_prop_name};
 
-use crate::held::Held;
-use crate::hooks::VisitMut;
-use crate::walk::{Nested, WalkMut, walk_all};
+use crate::walk::{Change, WalkMut, Word, walk_all};
 use ecma_node::{
     AutoAccessorOf, ClassMemberOf, ClassMethodOf, ClassOf, ClassPropOf, ComputedPropNameOf,
     ConstructorOf, DecoratorOf, FunctionOf, IdentName, KeyOf, ParamOf, PrivateMethodOf,
     PrivateName, PrivatePropOf, PropNameOf, StaticBlockOf,
 };
 
-impl<T: Held> WalkMut for FunctionOf<T> {
-    ghost fits = { fits_function T.placed };
+impl<T> WalkMut<T> for FunctionOf<T> {
+    ghost fits = { λ p x. fits_function p x };
 
-    fn walk_mut<V: VisitMut, N: Nested<V>>(&mut self, nested: &N, visitor: &mut V) {
-        T::enter_function(visitor, self);
-        walk_all(&mut self.decorators, nested, visitor);
-        walk_all(&mut self.params, nested, visitor);
-        self.body.walk_mut(nested, visitor);
-        visitor.span(&mut self.span);
-        T::leave_function(visitor, self);
+    fn walk_mut<C: Change<T>>(&mut self, by: &mut C) {
+        by.enter_function(self);
+        walk_all(&mut self.decorators, by);
+        walk_all(&mut self.params, by);
+        self.body.walk_mut(by);
+        by.word(Word::Span(&mut self.span));
+        by.leave_function(self);
     }
 }
 
-impl<T: Held> WalkMut for ParamOf<T> {
-    ghost fits = { fits_param T.placed };
+impl<T> WalkMut<T> for ParamOf<T> {
+    ghost fits = { λ p x. fits_param p x };
 
-    fn walk_mut<V: VisitMut, N: Nested<V>>(&mut self, nested: &N, visitor: &mut V) {
-        walk_all(&mut self.decorators, nested, visitor);
-        self.pat.walk_mut(nested, visitor);
-        visitor.span(&mut self.span);
+    fn walk_mut<C: Change<T>>(&mut self, by: &mut C) {
+        walk_all(&mut self.decorators, by);
+        self.pat.walk_mut(by);
+        by.word(Word::Span(&mut self.span));
     }
 }
 
-impl<T: Held> WalkMut for DecoratorOf<T> {
-    ghost fits = { fits_decorator T.placed };
+impl<T> WalkMut<T> for DecoratorOf<T> {
+    ghost fits = { λ p x. fits_decorator p x };
 
-    fn walk_mut<V: VisitMut, N: Nested<V>>(&mut self, nested: &N, visitor: &mut V) {
-        self.expr.walk_mut(nested, visitor);
-        visitor.span(&mut self.span);
+    fn walk_mut<C: Change<T>>(&mut self, by: &mut C) {
+        self.expr.walk_mut(by);
+        by.word(Word::Span(&mut self.span));
     }
 }
 
-impl<T: Held> WalkMut for ClassOf<T> {
-    ghost fits = { fits_class T.placed };
+impl<T> WalkMut<T> for ClassOf<T> {
+    ghost fits = { λ p x. fits_class p x };
 
-    fn walk_mut<V: VisitMut, N: Nested<V>>(&mut self, nested: &N, visitor: &mut V) {
-        T::enter_class(visitor, self);
-        walk_all(&mut self.decorators, nested, visitor);
+    fn walk_mut<C: Change<T>>(&mut self, by: &mut C) {
+        by.enter_class(self);
+        walk_all(&mut self.decorators, by);
         if let Some(x) = &mut self.super_class {
-            x.walk_mut(nested, visitor);
+            x.walk_mut(by);
         }
-        walk_all(&mut self.body, nested, visitor);
-        visitor.span(&mut self.span);
-        T::leave_class(visitor, self);
+        walk_all(&mut self.body, by);
+        by.word(Word::Span(&mut self.span));
+        by.leave_class(self);
     }
 }
 
-impl<T: Held> WalkMut for ClassMemberOf<T> {
-    ghost fits = { fits_class_member T.placed };
+impl<T> WalkMut<T> for ClassMemberOf<T> {
+    ghost fits = { λ p x. fits_class_member p x };
 
-    fn walk_mut<V: VisitMut, N: Nested<V>>(&mut self, nested: &N, visitor: &mut V) {
+    fn walk_mut<C: Change<T>>(&mut self, by: &mut C) {
         match self {
-            ClassMemberOf::Constructor(x) => x.walk_mut(nested, visitor),
-            ClassMemberOf::Method(x) => x.walk_mut(nested, visitor),
-            ClassMemberOf::PrivateMethod(x) => x.walk_mut(nested, visitor),
-            ClassMemberOf::ClassProp(x) => x.walk_mut(nested, visitor),
-            ClassMemberOf::PrivateProp(x) => x.walk_mut(nested, visitor),
-            ClassMemberOf::StaticBlock(x) => x.walk_mut(nested, visitor),
-            ClassMemberOf::AutoAccessor(x) => x.walk_mut(nested, visitor),
-            ClassMemberOf::Empty(x) => x.walk_mut(nested, visitor),
+            ClassMemberOf::Constructor(x) => x.walk_mut(by),
+            ClassMemberOf::Method(x) => x.walk_mut(by),
+            ClassMemberOf::PrivateMethod(x) => x.walk_mut(by),
+            ClassMemberOf::ClassProp(x) => x.walk_mut(by),
+            ClassMemberOf::PrivateProp(x) => x.walk_mut(by),
+            ClassMemberOf::StaticBlock(x) => x.walk_mut(by),
+            ClassMemberOf::AutoAccessor(x) => x.walk_mut(by),
+            ClassMemberOf::Empty(x) => x.walk_mut(by),
         }
-        T::leave_class_member(visitor, self);
     }
 }
 
-impl<T: Held> WalkMut for ConstructorOf<T> {
-    ghost fits = { fits_constructor T.placed };
+impl<T> WalkMut<T> for ConstructorOf<T> {
+    ghost fits = { λ p x. fits_constructor p x };
 
-    fn walk_mut<V: VisitMut, N: Nested<V>>(&mut self, nested: &N, visitor: &mut V) {
-        self.key.walk_mut(nested, visitor);
-        walk_all(&mut self.params, nested, visitor);
-        self.body.walk_mut(nested, visitor);
-        visitor.span(&mut self.span);
+    fn walk_mut<C: Change<T>>(&mut self, by: &mut C) {
+        self.key.walk_mut(by);
+        walk_all(&mut self.params, by);
+        self.body.walk_mut(by);
+        by.word(Word::Span(&mut self.span));
     }
 }
 
-impl<T: Held> WalkMut for ClassMethodOf<T> {
-    ghost fits = { fits_class_method T.placed };
+impl<T> WalkMut<T> for ClassMethodOf<T> {
+    ghost fits = { λ p x. fits_class_method p x };
 
-    fn walk_mut<V: VisitMut, N: Nested<V>>(&mut self, nested: &N, visitor: &mut V) {
-        self.key.walk_mut(nested, visitor);
-        self.function.walk_mut(nested, visitor);
-        visitor.span(&mut self.span);
+    fn walk_mut<C: Change<T>>(&mut self, by: &mut C) {
+        self.key.walk_mut(by);
+        self.function.walk_mut(by);
+        by.word(Word::Span(&mut self.span));
     }
 }
 
-impl<T: Held> WalkMut for PrivateMethodOf<T> {
-    ghost fits = { fits_private_method T.placed };
+impl<T> WalkMut<T> for PrivateMethodOf<T> {
+    ghost fits = { λ p x. fits_private_method p x };
 
-    fn walk_mut<V: VisitMut, N: Nested<V>>(&mut self, nested: &N, visitor: &mut V) {
-        self.key.walk_mut(nested, visitor);
-        self.function.walk_mut(nested, visitor);
-        visitor.span(&mut self.span);
+    fn walk_mut<C: Change<T>>(&mut self, by: &mut C) {
+        self.key.walk_mut(by);
+        self.function.walk_mut(by);
+        by.word(Word::Span(&mut self.span));
     }
 }
 
-impl<T: Held> WalkMut for ClassPropOf<T> {
-    ghost fits = { fits_class_prop T.placed };
+impl<T> WalkMut<T> for ClassPropOf<T> {
+    ghost fits = { λ p x. fits_class_prop p x };
 
-    fn walk_mut<V: VisitMut, N: Nested<V>>(&mut self, nested: &N, visitor: &mut V) {
-        walk_all(&mut self.decorators, nested, visitor);
-        self.key.walk_mut(nested, visitor);
+    fn walk_mut<C: Change<T>>(&mut self, by: &mut C) {
+        walk_all(&mut self.decorators, by);
+        self.key.walk_mut(by);
         if let Some(x) = &mut self.value {
-            x.walk_mut(nested, visitor);
+            x.walk_mut(by);
         }
-        visitor.span(&mut self.span);
+        by.word(Word::Span(&mut self.span));
     }
 }
 
-impl<T: Held> WalkMut for PrivatePropOf<T> {
-    ghost fits = { fits_private_prop T.placed };
+impl<T> WalkMut<T> for PrivatePropOf<T> {
+    ghost fits = { λ p x. fits_private_prop p x };
 
-    fn walk_mut<V: VisitMut, N: Nested<V>>(&mut self, nested: &N, visitor: &mut V) {
-        walk_all(&mut self.decorators, nested, visitor);
-        self.key.walk_mut(nested, visitor);
+    fn walk_mut<C: Change<T>>(&mut self, by: &mut C) {
+        walk_all(&mut self.decorators, by);
+        self.key.walk_mut(by);
         if let Some(x) = &mut self.value {
-            x.walk_mut(nested, visitor);
+            x.walk_mut(by);
         }
-        visitor.span(&mut self.span);
+        by.word(Word::Span(&mut self.span));
     }
 }
 
-impl<T: Held> WalkMut for StaticBlockOf<T> {
-    ghost fits = { fits_static_block T.placed };
+impl<T> WalkMut<T> for StaticBlockOf<T> {
+    ghost fits = { λ p x. fits_static_block p x };
 
-    fn walk_mut<V: VisitMut, N: Nested<V>>(&mut self, nested: &N, visitor: &mut V) {
-        self.body.walk_mut(nested, visitor);
-        visitor.span(&mut self.span);
+    fn walk_mut<C: Change<T>>(&mut self, by: &mut C) {
+        self.body.walk_mut(by);
+        by.word(Word::Span(&mut self.span));
     }
 }
 
-impl<T: Held> WalkMut for AutoAccessorOf<T> {
-    ghost fits = { fits_auto_accessor T.placed };
+impl<T> WalkMut<T> for AutoAccessorOf<T> {
+    ghost fits = { λ p x. fits_auto_accessor p x };
 
-    fn walk_mut<V: VisitMut, N: Nested<V>>(&mut self, nested: &N, visitor: &mut V) {
-        walk_all(&mut self.decorators, nested, visitor);
-        self.key.walk_mut(nested, visitor);
+    fn walk_mut<C: Change<T>>(&mut self, by: &mut C) {
+        walk_all(&mut self.decorators, by);
+        self.key.walk_mut(by);
         if let Some(x) = &mut self.value {
-            x.walk_mut(nested, visitor);
+            x.walk_mut(by);
         }
-        visitor.span(&mut self.span);
+        by.word(Word::Span(&mut self.span));
     }
 }
 
-impl<T: Held> WalkMut for KeyOf<T> {
-    ghost fits = { fits_key T.placed };
+impl<T> WalkMut<T> for KeyOf<T> {
+    ghost fits = { λ p x. fits_key p x };
 
-    fn walk_mut<V: VisitMut, N: Nested<V>>(&mut self, nested: &N, visitor: &mut V) {
+    fn walk_mut<C: Change<T>>(&mut self, by: &mut C) {
         match self {
-            KeyOf::Private(x) => x.walk_mut(nested, visitor),
-            KeyOf::Public(x) => x.walk_mut(nested, visitor),
+            KeyOf::Private(x) => x.walk_mut(by),
+            KeyOf::Public(x) => x.walk_mut(by),
         }
     }
 }
 
-impl<T: Held> WalkMut for PropNameOf<T> {
-    ghost fits = { fits_prop_name T.placed };
+impl<T> WalkMut<T> for PropNameOf<T> {
+    ghost fits = { λ p x. fits_prop_name p x };
 
-    fn walk_mut<V: VisitMut, N: Nested<V>>(&mut self, nested: &N, visitor: &mut V) {
+    fn walk_mut<C: Change<T>>(&mut self, by: &mut C) {
         match self {
-            PropNameOf::Ident(x) => x.walk_mut(nested, visitor),
-            PropNameOf::Str(x) => x.walk_mut(nested, visitor),
-            PropNameOf::Num(x) => x.walk_mut(nested, visitor),
-            PropNameOf::BigInt(x) => x.walk_mut(nested, visitor),
-            PropNameOf::Computed(x) => x.walk_mut(nested, visitor),
+            PropNameOf::Ident(x) => x.walk_mut(by),
+            PropNameOf::Str(x) => x.walk_mut(by),
+            PropNameOf::Num(x) => x.walk_mut(by),
+            PropNameOf::BigInt(x) => x.walk_mut(by),
+            PropNameOf::Computed(x) => x.walk_mut(by),
         }
-        T::leave_prop_name(visitor, self);
     }
 }
 
-impl WalkMut for IdentName {
-    ghost fits = { λ _. Unit {0} };
+impl<T> WalkMut<T> for IdentName {
+    ghost fits = { λ _ _. Unit {0} };
 
-    fn walk_mut<V: VisitMut, N: Nested<V>>(&mut self, _nested: &N, visitor: &mut V) {
-        visitor.span(&mut self.span);
-        visitor.ident_name(self);
+    fn walk_mut<C: Change<T>>(&mut self, by: &mut C) {
+        by.word(Word::Span(&mut self.span));
+        by.word(Word::IdentName(self));
     }
 }
 
-impl<T: Held> WalkMut for ComputedPropNameOf<T> {
-    ghost fits = { fits_computed_prop_name T.placed };
+impl<T> WalkMut<T> for ComputedPropNameOf<T> {
+    ghost fits = { λ p x. fits_computed_prop_name p x };
 
-    fn walk_mut<V: VisitMut, N: Nested<V>>(&mut self, nested: &N, visitor: &mut V) {
-        self.expr.walk_mut(nested, visitor);
-        visitor.span(&mut self.span);
+    fn walk_mut<C: Change<T>>(&mut self, by: &mut C) {
+        self.expr.walk_mut(by);
+        by.word(Word::Span(&mut self.span));
     }
 }
 
-impl WalkMut for PrivateName {
-    ghost fits = { λ _. Unit {0} };
+impl<T> WalkMut<T> for PrivateName {
+    ghost fits = { λ _ _. Unit {0} };
 
-    fn walk_mut<V: VisitMut, N: Nested<V>>(&mut self, _nested: &N, visitor: &mut V) {
-        visitor.span(&mut self.span);
-        visitor.private_name(self);
+    fn walk_mut<C: Change<T>>(&mut self, by: &mut C) {
+        by.word(Word::Span(&mut self.span));
+        by.word(Word::PrivateName(self));
     }
 }

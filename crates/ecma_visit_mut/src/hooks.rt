@@ -1,12 +1,11 @@
 //! What a visitor does with the nodes of a tree.
 ghost use Rattle.std.specs.Prelude.{All};
 ghost use Rattle.ecma_node.specs.Placed.{holds_stmt};
-ghost use Rattle.ecma_node.specs.Fits.{fits_function, fits_class, fits_class_member, fits_decl, fits_var_declarator, fits_member_expr, fits_assign_target, fits_prop, fits_prop_name, fits_tpl, fits_module_item};
+ghost use Rattle.ecma_node.specs.Fits.{fits_function, fits_class, fits_module_item};
 
 use ecma_node::{
-    AssignTarget, BigInt, Class, ClassMember, Decl, Expr, Function, Ident, IdentName, MemberExpr,
-    ModuleItem, Number, Pat, PrivateName, Program, Prop, PropName, Stmt, StmtBox, Str, Tpl,
-    TplElement, VarDeclarator,
+    BigInt, Class, Expr, Function, Ident, IdentName, ModuleItem, Number, Pat, PrivateName, Program,
+    Stmt, StmtBox, Str, TplElement,
 };
 use ecma_token::Span;
 
@@ -42,21 +41,6 @@ pub trait VisitMut {
         ensures { All (fits_module_item (λ p. p)) _items.new.items }
     {}
 
-    fn leave_module_item(&mut self, _item: &mut ModuleItem)
-        requires { fits_module_item (λ p. p) _item.old }
-        ensures { fits_module_item (λ p. p) _item.new }
-    {}
-
-    fn leave_decl(&mut self, _decl: &mut Decl)
-        requires { fits_decl (λ p. p) _decl.old }
-        ensures { fits_decl (λ p. p) _decl.new }
-    {}
-
-    fn leave_var_declarator(&mut self, _declarator: &mut VarDeclarator)
-        requires { fits_var_declarator (λ p. p) _declarator.old }
-        ensures { fits_var_declarator (λ p. p) _declarator.new }
-    {}
-
     fn enter_function(&mut self, _function: &Function)
         requires { fits_function (λ p. p) _function.now }
     {}
@@ -73,36 +57,6 @@ pub trait VisitMut {
     fn leave_class(&mut self, _class: &mut Class)
         requires { fits_class (λ p. p) _class.old }
         ensures { fits_class (λ p. p) _class.new }
-    {}
-
-    fn leave_class_member(&mut self, _member: &mut ClassMember)
-        requires { fits_class_member (λ p. p) _member.old }
-        ensures { fits_class_member (λ p. p) _member.new }
-    {}
-
-    fn leave_member_expr(&mut self, _member: &mut MemberExpr)
-        requires { fits_member_expr (λ p. p) _member.old }
-        ensures { fits_member_expr (λ p. p) _member.new }
-    {}
-
-    fn leave_assign_target(&mut self, _target: &mut AssignTarget)
-        requires { fits_assign_target (λ p. p) _target.old }
-        ensures { fits_assign_target (λ p. p) _target.new }
-    {}
-
-    fn leave_prop(&mut self, _prop: &mut Prop)
-        requires { fits_prop (λ p. p) _prop.old }
-        ensures { fits_prop (λ p. p) _prop.new }
-    {}
-
-    fn leave_prop_name(&mut self, _key: &mut PropName)
-        requires { fits_prop_name (λ p. p) _key.old }
-        ensures { fits_prop_name (λ p. p) _key.new }
-    {}
-
-    fn leave_tpl(&mut self, _tpl: &mut Tpl)
-        requires { fits_tpl (λ p. p) _tpl.old }
-        ensures { fits_tpl (λ p. p) _tpl.new }
     {}
 
     fn tpl_element(&mut self, _text: &mut TplElement) {}

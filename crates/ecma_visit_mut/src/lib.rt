@@ -5,7 +5,6 @@
 mod declarations;
 mod expressions;
 mod functions;
-pub mod held;
 pub mod hooks;
 mod literals;
 mod objects;

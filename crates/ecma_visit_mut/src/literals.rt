@@ -1,70 +1,69 @@
 //! Changes literals (ECMA-262, 13.2.3, 13.2.7 and 13.2.8).
-use crate::hooks::VisitMut;
-use crate::walk::{Nested, WalkMut};
+use crate::walk::{Change, WalkMut, Word};
 use ecma_node::{BigInt, Bool, Lit, Null, Number, Regex, Str};
 
-impl WalkMut for Lit {
-    ghost fits = { λ _. Unit {0} };
+impl<T> WalkMut<T> for Lit {
+    ghost fits = { λ _ _. Unit {0} };
 
-    fn walk_mut<V: VisitMut, N: Nested<V>>(&mut self, nested: &N, visitor: &mut V) {
+    fn walk_mut<C: Change<T>>(&mut self, by: &mut C) {
         match self {
-            Lit::Str(x) => x.walk_mut(nested, visitor),
-            Lit::Bool(x) => x.walk_mut(nested, visitor),
-            Lit::Null(x) => x.walk_mut(nested, visitor),
-            Lit::Num(x) => x.walk_mut(nested, visitor),
-            Lit::BigInt(x) => x.walk_mut(nested, visitor),
-            Lit::Regex(x) => x.walk_mut(nested, visitor),
+            Lit::Str(x) => x.walk_mut(by),
+            Lit::Bool(x) => x.walk_mut(by),
+            Lit::Null(x) => x.walk_mut(by),
+            Lit::Num(x) => x.walk_mut(by),
+            Lit::BigInt(x) => x.walk_mut(by),
+            Lit::Regex(x) => x.walk_mut(by),
         }
     }
 }
 
-impl WalkMut for Str {
-    ghost fits = { λ _. Unit {0} };
+impl<T> WalkMut<T> for Str {
+    ghost fits = { λ _ _. Unit {0} };
 
-    fn walk_mut<V: VisitMut, N: Nested<V>>(&mut self, _nested: &N, visitor: &mut V) {
-        visitor.span(&mut self.span);
-        visitor.str(self);
+    fn walk_mut<C: Change<T>>(&mut self, by: &mut C) {
+        by.word(Word::Span(&mut self.span));
+        by.word(Word::Str(self));
     }
 }
 
-impl WalkMut for Bool {
-    ghost fits = { λ _. Unit {0} };
+impl<T> WalkMut<T> for Bool {
+    ghost fits = { λ _ _. Unit {0} };
 
-    fn walk_mut<V: VisitMut, N: Nested<V>>(&mut self, _nested: &N, visitor: &mut V) {
-        visitor.span(&mut self.span);
+    fn walk_mut<C: Change<T>>(&mut self, by: &mut C) {
+        by.word(Word::Span(&mut self.span));
     }
 }
 
-impl WalkMut for Null {
-    ghost fits = { λ _. Unit {0} };
+impl<T> WalkMut<T> for Null {
+    ghost fits = { λ _ _. Unit {0} };
 
-    fn walk_mut<V: VisitMut, N: Nested<V>>(&mut self, _nested: &N, visitor: &mut V) {
-        visitor.span(&mut self.span);
+    fn walk_mut<C: Change<T>>(&mut self, by: &mut C) {
+        by.word(Word::Span(&mut self.span));
     }
 }
 
-impl WalkMut for Number {
-    ghost fits = { λ _. Unit {0} };
+impl<T> WalkMut<T> for Number {
+    ghost fits = { λ _ _. Unit {0} };
 
-    fn walk_mut<V: VisitMut, N: Nested<V>>(&mut self, _nested: &N, visitor: &mut V) {
-        visitor.span(&mut self.span);
-        visitor.number(self);
+    fn walk_mut<C: Change<T>>(&mut self, by: &mut C) {
+        by.word(Word::Span(&mut self.span));
+        by.word(Word::Number(self));
     }
 }
 
-impl WalkMut for BigInt {
-    ghost fits = { λ _. Unit {0} };
+impl<T> WalkMut<T> for BigInt {
+    ghost fits = { λ _ _. Unit {0} };
 
-    fn walk_mut<V: VisitMut, N: Nested<V>>(&mut self, _nested: &N, visitor: &mut V) {
-        visitor.span(&mut self.span);
-        visitor.big_int(self);
+    fn walk_mut<C: Change<T>>(&mut self, by: &mut C) {
+        by.word(Word::Span(&mut self.span));
+        by.word(Word::BigInt(self));
     }
 }
 
-impl WalkMut for Regex {
-    ghost fits = { λ _. Unit {0} };
+impl<T> WalkMut<T> for Regex {
+    ghost fits = { λ _ _. Unit {0} };
 
-    fn walk_mut<V: VisitMut, N: Nested<V>>(&mut self, _nested: &N, visitor: &mut V) {
-        visitor.span(&mut self.span);
+    fn walk_mut<C: Change<T>>(&mut self, by: &mut C) {
+        by.word(Word::Span(&mut self.span));
     }
 }

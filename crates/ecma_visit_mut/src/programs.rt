@@ -1,9 +1,7 @@
 //! Changes scripts, modules, imports and exports (ECMA-262, 16.1 and 16.2).
 ghost use Rattle.ecma_node.specs.Fits.{fits_program_kind, fits_script, fits_module, fits_module_item, fits_module_decl, fits_import_decl, fits_export_decl, fits_named_export, fits_export_default_decl, fits_export_default_expr, fits_export_all, fits_default_decl};
 
-use crate::held::Held;
-use crate::hooks::VisitMut;
-use crate::walk::{Nested, WalkMut, walk_all};
+use crate::walk::{Change, WalkMut, Word, walk_all};
 use ecma_node::{
     DefaultDeclOf, ExportAllOf, ExportDeclOf, ExportDefaultDeclOf, ExportDefaultExprOf,
     ExportDefaultSpecifier, ExportNamedSpecifier, ExportNamespaceSpecifier, ExportSpecifier,
@@ -12,233 +10,231 @@ use ecma_node::{
     ProgramKindOf, ScriptOf,
 };
 
-impl<T: Held> WalkMut for ProgramKindOf<T> {
-    ghost fits = { fits_program_kind T.placed };
+impl<T> WalkMut<T> for ProgramKindOf<T> {
+    ghost fits = { λ p x. fits_program_kind p x };
 
-    fn walk_mut<V: VisitMut, N: Nested<V>>(&mut self, nested: &N, visitor: &mut V) {
+    fn walk_mut<C: Change<T>>(&mut self, by: &mut C) {
         match self {
-            ProgramKindOf::Script(x) => x.walk_mut(nested, visitor),
-            ProgramKindOf::Module(x) => x.walk_mut(nested, visitor),
+            ProgramKindOf::Script(x) => x.walk_mut(by),
+            ProgramKindOf::Module(x) => x.walk_mut(by),
         }
     }
 }
 
-impl<T: Held> WalkMut for ScriptOf<T> {
-    ghost fits = { fits_script T.placed };
+impl<T> WalkMut<T> for ScriptOf<T> {
+    ghost fits = { λ p x. fits_script p x };
 
-    fn walk_mut<V: VisitMut, N: Nested<V>>(&mut self, nested: &N, visitor: &mut V) {
-        walk_all(&mut self.body, nested, visitor);
-        T::leave_stmts(visitor, &mut self.body);
-        visitor.span(&mut self.span);
+    fn walk_mut<C: Change<T>>(&mut self, by: &mut C) {
+        walk_all(&mut self.body, by);
+        by.leave_stmts(&mut self.body);
+        by.word(Word::Span(&mut self.span));
     }
 }
 
-impl<T: Held> WalkMut for ModuleOf<T> {
-    ghost fits = { fits_module T.placed };
+impl<T> WalkMut<T> for ModuleOf<T> {
+    ghost fits = { λ p x. fits_module p x };
 
-    fn walk_mut<V: VisitMut, N: Nested<V>>(&mut self, nested: &N, visitor: &mut V) {
-        walk_all(&mut self.body, nested, visitor);
-        T::leave_module_items(visitor, &mut self.body);
-        visitor.span(&mut self.span);
+    fn walk_mut<C: Change<T>>(&mut self, by: &mut C) {
+        walk_all(&mut self.body, by);
+        by.word(Word::Span(&mut self.span));
     }
 }
 
-impl<T: Held> WalkMut for ModuleItemOf<T> {
-    ghost fits = { fits_module_item T.placed };
+impl<T> WalkMut<T> for ModuleItemOf<T> {
+    ghost fits = { λ p x. fits_module_item p x };
 
-    fn walk_mut<V: VisitMut, N: Nested<V>>(&mut self, nested: &N, visitor: &mut V) {
+    fn walk_mut<C: Change<T>>(&mut self, by: &mut C) {
         match self {
-            ModuleItemOf::ModuleDecl(x) => x.walk_mut(nested, visitor),
-            ModuleItemOf::Stmt(x) => x.walk_mut(nested, visitor),
-        }
-        T::leave_module_item(visitor, self);
-    }
-}
-
-impl<T: Held> WalkMut for ModuleDeclOf<T> {
-    ghost fits = { fits_module_decl T.placed };
-
-    fn walk_mut<V: VisitMut, N: Nested<V>>(&mut self, nested: &N, visitor: &mut V) {
-        match self {
-            ModuleDeclOf::Import(x) => x.walk_mut(nested, visitor),
-            ModuleDeclOf::ExportDecl(x) => x.walk_mut(nested, visitor),
-            ModuleDeclOf::ExportNamed(x) => x.walk_mut(nested, visitor),
-            ModuleDeclOf::ExportDefaultDecl(x) => x.walk_mut(nested, visitor),
-            ModuleDeclOf::ExportDefaultExpr(x) => x.walk_mut(nested, visitor),
-            ModuleDeclOf::ExportAll(x) => x.walk_mut(nested, visitor),
+            ModuleItemOf::ModuleDecl(x) => x.walk_mut(by),
+            ModuleItemOf::Stmt(x) => x.walk_mut(by),
         }
     }
 }
 
-impl<T: Held> WalkMut for ImportDeclOf<T> {
-    ghost fits = { fits_import_decl T.placed };
+impl<T> WalkMut<T> for ModuleDeclOf<T> {
+    ghost fits = { λ p x. fits_module_decl p x };
 
-    fn walk_mut<V: VisitMut, N: Nested<V>>(&mut self, nested: &N, visitor: &mut V) {
-        walk_all(&mut self.specifiers, nested, visitor);
-        self.src.walk_mut(nested, visitor);
+    fn walk_mut<C: Change<T>>(&mut self, by: &mut C) {
+        match self {
+            ModuleDeclOf::Import(x) => x.walk_mut(by),
+            ModuleDeclOf::ExportDecl(x) => x.walk_mut(by),
+            ModuleDeclOf::ExportNamed(x) => x.walk_mut(by),
+            ModuleDeclOf::ExportDefaultDecl(x) => x.walk_mut(by),
+            ModuleDeclOf::ExportDefaultExpr(x) => x.walk_mut(by),
+            ModuleDeclOf::ExportAll(x) => x.walk_mut(by),
+        }
+    }
+}
+
+impl<T> WalkMut<T> for ImportDeclOf<T> {
+    ghost fits = { λ p x. fits_import_decl p x };
+
+    fn walk_mut<C: Change<T>>(&mut self, by: &mut C) {
+        walk_all(&mut self.specifiers, by);
+        self.src.walk_mut(by);
         if let Some(x) = &mut self.with_ {
-            x.walk_mut(nested, visitor);
+            x.walk_mut(by);
         }
-        visitor.span(&mut self.span);
+        by.word(Word::Span(&mut self.span));
     }
 }
 
-impl<T: Held> WalkMut for ExportDeclOf<T> {
-    ghost fits = { fits_export_decl T.placed };
+impl<T> WalkMut<T> for ExportDeclOf<T> {
+    ghost fits = { λ p x. fits_export_decl p x };
 
-    fn walk_mut<V: VisitMut, N: Nested<V>>(&mut self, nested: &N, visitor: &mut V) {
-        self.decl.walk_mut(nested, visitor);
-        visitor.span(&mut self.span);
+    fn walk_mut<C: Change<T>>(&mut self, by: &mut C) {
+        self.decl.walk_mut(by);
+        by.word(Word::Span(&mut self.span));
     }
 }
 
-impl<T: Held> WalkMut for NamedExportOf<T> {
-    ghost fits = { fits_named_export T.placed };
+impl<T> WalkMut<T> for NamedExportOf<T> {
+    ghost fits = { λ p x. fits_named_export p x };
 
-    fn walk_mut<V: VisitMut, N: Nested<V>>(&mut self, nested: &N, visitor: &mut V) {
-        walk_all(&mut self.specifiers, nested, visitor);
+    fn walk_mut<C: Change<T>>(&mut self, by: &mut C) {
+        walk_all(&mut self.specifiers, by);
         if let Some(x) = &mut self.src {
-            x.walk_mut(nested, visitor);
+            x.walk_mut(by);
         }
         if let Some(x) = &mut self.with_ {
-            x.walk_mut(nested, visitor);
+            x.walk_mut(by);
         }
-        visitor.span(&mut self.span);
+        by.word(Word::Span(&mut self.span));
     }
 }
 
-impl<T: Held> WalkMut for ExportDefaultDeclOf<T> {
-    ghost fits = { fits_export_default_decl T.placed };
+impl<T> WalkMut<T> for ExportDefaultDeclOf<T> {
+    ghost fits = { λ p x. fits_export_default_decl p x };
 
-    fn walk_mut<V: VisitMut, N: Nested<V>>(&mut self, nested: &N, visitor: &mut V) {
-        self.decl.walk_mut(nested, visitor);
-        visitor.span(&mut self.span);
+    fn walk_mut<C: Change<T>>(&mut self, by: &mut C) {
+        self.decl.walk_mut(by);
+        by.word(Word::Span(&mut self.span));
     }
 }
 
-impl<T: Held> WalkMut for ExportDefaultExprOf<T> {
-    ghost fits = { fits_export_default_expr T.placed };
+impl<T> WalkMut<T> for ExportDefaultExprOf<T> {
+    ghost fits = { λ p x. fits_export_default_expr p x };
 
-    fn walk_mut<V: VisitMut, N: Nested<V>>(&mut self, nested: &N, visitor: &mut V) {
-        self.expr.walk_mut(nested, visitor);
-        visitor.span(&mut self.span);
+    fn walk_mut<C: Change<T>>(&mut self, by: &mut C) {
+        self.expr.walk_mut(by);
+        by.word(Word::Span(&mut self.span));
     }
 }
 
-impl<T: Held> WalkMut for ExportAllOf<T> {
-    ghost fits = { fits_export_all T.placed };
+impl<T> WalkMut<T> for ExportAllOf<T> {
+    ghost fits = { λ p x. fits_export_all p x };
 
-    fn walk_mut<V: VisitMut, N: Nested<V>>(&mut self, nested: &N, visitor: &mut V) {
-        self.src.walk_mut(nested, visitor);
+    fn walk_mut<C: Change<T>>(&mut self, by: &mut C) {
+        self.src.walk_mut(by);
         if let Some(x) = &mut self.with_ {
-            x.walk_mut(nested, visitor);
+            x.walk_mut(by);
         }
-        visitor.span(&mut self.span);
+        by.word(Word::Span(&mut self.span));
     }
 }
 
-impl<T: Held> WalkMut for DefaultDeclOf<T> {
-    ghost fits = { fits_default_decl T.placed };
+impl<T> WalkMut<T> for DefaultDeclOf<T> {
+    ghost fits = { λ p x. fits_default_decl p x };
 
-    fn walk_mut<V: VisitMut, N: Nested<V>>(&mut self, nested: &N, visitor: &mut V) {
+    fn walk_mut<C: Change<T>>(&mut self, by: &mut C) {
         match self {
-            DefaultDeclOf::Class(x) => x.walk_mut(nested, visitor),
-            DefaultDeclOf::Fn(x) => x.walk_mut(nested, visitor),
+            DefaultDeclOf::Class(x) => x.walk_mut(by),
+            DefaultDeclOf::Fn(x) => x.walk_mut(by),
         }
     }
 }
 
-impl WalkMut for ImportSpecifier {
-    ghost fits = { λ _. Unit {0} };
+impl<T> WalkMut<T> for ImportSpecifier {
+    ghost fits = { λ _ _. Unit {0} };
 
-    fn walk_mut<V: VisitMut, N: Nested<V>>(&mut self, nested: &N, visitor: &mut V) {
+    fn walk_mut<C: Change<T>>(&mut self, by: &mut C) {
         match self {
-            ImportSpecifier::Named(x) => x.walk_mut(nested, visitor),
-            ImportSpecifier::Default(x) => x.walk_mut(nested, visitor),
-            ImportSpecifier::Namespace(x) => x.walk_mut(nested, visitor),
+            ImportSpecifier::Named(x) => x.walk_mut(by),
+            ImportSpecifier::Default(x) => x.walk_mut(by),
+            ImportSpecifier::Namespace(x) => x.walk_mut(by),
         }
     }
 }
 
-impl WalkMut for ImportNamedSpecifier {
-    ghost fits = { λ _. Unit {0} };
+impl<T> WalkMut<T> for ImportNamedSpecifier {
+    ghost fits = { λ _ _. Unit {0} };
 
-    fn walk_mut<V: VisitMut, N: Nested<V>>(&mut self, nested: &N, visitor: &mut V) {
-        self.local.walk_mut(nested, visitor);
+    fn walk_mut<C: Change<T>>(&mut self, by: &mut C) {
+        self.local.walk_mut(by);
         if let Some(x) = &mut self.imported {
-            x.walk_mut(nested, visitor);
+            x.walk_mut(by);
         }
-        visitor.span(&mut self.span);
+        by.word(Word::Span(&mut self.span));
     }
 }
 
-impl WalkMut for ImportDefaultSpecifier {
-    ghost fits = { λ _. Unit {0} };
+impl<T> WalkMut<T> for ImportDefaultSpecifier {
+    ghost fits = { λ _ _. Unit {0} };
 
-    fn walk_mut<V: VisitMut, N: Nested<V>>(&mut self, nested: &N, visitor: &mut V) {
-        self.local.walk_mut(nested, visitor);
-        visitor.span(&mut self.span);
+    fn walk_mut<C: Change<T>>(&mut self, by: &mut C) {
+        self.local.walk_mut(by);
+        by.word(Word::Span(&mut self.span));
     }
 }
 
-impl WalkMut for ImportStarAsSpecifier {
-    ghost fits = { λ _. Unit {0} };
+impl<T> WalkMut<T> for ImportStarAsSpecifier {
+    ghost fits = { λ _ _. Unit {0} };
 
-    fn walk_mut<V: VisitMut, N: Nested<V>>(&mut self, nested: &N, visitor: &mut V) {
-        self.local.walk_mut(nested, visitor);
-        visitor.span(&mut self.span);
+    fn walk_mut<C: Change<T>>(&mut self, by: &mut C) {
+        self.local.walk_mut(by);
+        by.word(Word::Span(&mut self.span));
     }
 }
 
-impl WalkMut for ExportSpecifier {
-    ghost fits = { λ _. Unit {0} };
+impl<T> WalkMut<T> for ExportSpecifier {
+    ghost fits = { λ _ _. Unit {0} };
 
-    fn walk_mut<V: VisitMut, N: Nested<V>>(&mut self, nested: &N, visitor: &mut V) {
+    fn walk_mut<C: Change<T>>(&mut self, by: &mut C) {
         match self {
-            ExportSpecifier::Namespace(x) => x.walk_mut(nested, visitor),
-            ExportSpecifier::Default(x) => x.walk_mut(nested, visitor),
-            ExportSpecifier::Named(x) => x.walk_mut(nested, visitor),
+            ExportSpecifier::Namespace(x) => x.walk_mut(by),
+            ExportSpecifier::Default(x) => x.walk_mut(by),
+            ExportSpecifier::Named(x) => x.walk_mut(by),
         }
     }
 }
 
-impl WalkMut for ExportNamespaceSpecifier {
-    ghost fits = { λ _. Unit {0} };
+impl<T> WalkMut<T> for ExportNamespaceSpecifier {
+    ghost fits = { λ _ _. Unit {0} };
 
-    fn walk_mut<V: VisitMut, N: Nested<V>>(&mut self, nested: &N, visitor: &mut V) {
-        self.name.walk_mut(nested, visitor);
-        visitor.span(&mut self.span);
+    fn walk_mut<C: Change<T>>(&mut self, by: &mut C) {
+        self.name.walk_mut(by);
+        by.word(Word::Span(&mut self.span));
     }
 }
 
-impl WalkMut for ExportDefaultSpecifier {
-    ghost fits = { λ _. Unit {0} };
+impl<T> WalkMut<T> for ExportDefaultSpecifier {
+    ghost fits = { λ _ _. Unit {0} };
 
-    fn walk_mut<V: VisitMut, N: Nested<V>>(&mut self, nested: &N, visitor: &mut V) {
-        self.exported.walk_mut(nested, visitor);
-        visitor.span(&mut self.span);
+    fn walk_mut<C: Change<T>>(&mut self, by: &mut C) {
+        self.exported.walk_mut(by);
+        by.word(Word::Span(&mut self.span));
     }
 }
 
-impl WalkMut for ExportNamedSpecifier {
-    ghost fits = { λ _. Unit {0} };
+impl<T> WalkMut<T> for ExportNamedSpecifier {
+    ghost fits = { λ _ _. Unit {0} };
 
-    fn walk_mut<V: VisitMut, N: Nested<V>>(&mut self, nested: &N, visitor: &mut V) {
-        self.orig.walk_mut(nested, visitor);
+    fn walk_mut<C: Change<T>>(&mut self, by: &mut C) {
+        self.orig.walk_mut(by);
         if let Some(x) = &mut self.exported {
-            x.walk_mut(nested, visitor);
+            x.walk_mut(by);
         }
-        visitor.span(&mut self.span);
+        by.word(Word::Span(&mut self.span));
     }
 }
 
-impl WalkMut for ModuleExportName {
-    ghost fits = { λ _. Unit {0} };
+impl<T> WalkMut<T> for ModuleExportName {
+    ghost fits = { λ _ _. Unit {0} };
 
-    fn walk_mut<V: VisitMut, N: Nested<V>>(&mut self, nested: &N, visitor: &mut V) {
+    fn walk_mut<C: Change<T>>(&mut self, by: &mut C) {
         match self {
-            ModuleExportName::Ident(x) => x.walk_mut(nested, visitor),
-            ModuleExportName::Str(x) => x.walk_mut(nested, visitor),
+            ModuleExportName::Ident(x) => x.walk_mut(by),
+            ModuleExportName::Str(x) => x.walk_mut(by),
         }
     }
 }

@@ -1,91 +1,155 @@
-//! What can be changed in place, and what changes the children.
+//! What can be changed in place, and who changes it.
 ghost use Rattle.std.specs.Prelude.{All};
-ghost use Rattle.ecma_node.specs.Placed.{holds_expr, holds_stmt, holds_pat};
-ghost use Rattle.ecma_node.specs.Fits.{fits_held};
+ghost use Rattle.ecma_node.specs.Placed.{Placed, holds_expr, holds_stmt, holds_pat};
+ghost use Rattle.ecma_node.specs.Fits.{fits_held, fits_function, fits_class};
 
-use crate::held::Held;
-use crate::hooks::VisitMut;
-use ecma_node::{Child, Expr, ExprTag, Pat, PatTag, Stmt, StmtTag};
+use ecma_node::{
+    BigInt, Child, ClassOf, ExprTag, FunctionOf, Ident, IdentName, Number, PatTag, PrivateName,
+    StmtTag, Str, TplElement,
+};
+use ecma_token::Span;
 
-/// What changes the expressions, statements and patterns below a node.
-pub trait Nested<V: VisitMut> {
+/// A name, a literal, a text of a template or a place.
+pub enum Word<'a> {
+    Ident(&'a mut Ident),
+    IdentName(&'a mut IdentName),
+    PrivateName(&'a mut PrivateName),
+    Str(&'a mut Str),
+    Number(&'a mut Number),
+    BigInt(&'a mut BigInt),
+    TplElement(&'a mut TplElement),
+    Span(&'a mut Span),
+}
+
+/// Who changes the parts of a tree whose children's boxes keep `T`: it changes what these keep, and hands a visitor the
+/// other nodes that it has hooks for. The walk is generic in `T`, so that no function of it has a type that reaches the
+/// whole tree.
+pub trait Change<T> {
+    /// The node and the sort of its place, of what a box keeps.
+    ghost placed: { T → Placed };
+
     /// That it may be called.
     ghost ready: { Self → Type 0 };
 
-    fn expr(&self, visitor: &mut V, expr: &mut Expr)
-        requires { ready self.now };
+    /// Changes an expression.
+    fn expr(&mut self, child: &mut T)
+        requires ready { ready self.old }
+        requires holds { holds_expr (placed child.old) }
+        ensures ready { ready self.new }
+        ensures holds { holds_expr (placed child.new) };
 
-    fn stmt(&self, visitor: &mut V, stmt: &mut Stmt)
-        requires { ready self.now };
+    /// Changes a statement.
+    fn stmt(&mut self, child: &mut T)
+        requires ready { ready self.old }
+        requires holds { holds_stmt (placed child.old) }
+        ensures ready { ready self.new }
+        ensures holds { holds_stmt (placed child.new) };
 
-    fn pat(&self, visitor: &mut V, pat: &mut Pat)
-        requires { ready self.now };
+    /// Changes a pattern.
+    fn pat(&mut self, child: &mut T)
+        requires ready { ready self.old }
+        requires holds { holds_pat (placed child.old) }
+        ensures ready { ready self.new }
+        ensures holds { holds_pat (placed child.new) };
+
+    /// Hands a function, before what is below it is changed.
+    fn enter_function(&mut self, node: &FunctionOf<T>)
+        requires ready { ready self.old }
+        requires fits { fits_function placed node.now }
+        ensures ready { ready self.new };
+
+    /// Hands a function, after what is below it was changed.
+    fn leave_function(&mut self, node: &mut FunctionOf<T>)
+        requires ready { ready self.old }
+        requires fits { fits_function placed node.old }
+        ensures ready { ready self.new }
+        ensures fits { fits_function placed node.new };
+
+    /// Hands a class, before what is below it is changed.
+    fn enter_class(&mut self, node: &ClassOf<T>)
+        requires ready { ready self.old }
+        requires fits { fits_class placed node.now }
+        ensures ready { ready self.new };
+
+    /// Hands a class, after what is below it was changed.
+    fn leave_class(&mut self, node: &mut ClassOf<T>)
+        requires ready { ready self.old }
+        requires fits { fits_class placed node.old }
+        ensures ready { ready self.new }
+        ensures fits { fits_class placed node.new };
+
+    /// Hands the statements of a block, a script or a clause of `switch`, after each was changed.
+    fn leave_stmts(&mut self, stmts: &mut Vec<Child<T, StmtTag>>)
+        requires ready { ready self.old }
+        requires holds { All (λ x. holds_stmt (placed x.part.value)) stmts.old.items }
+        ensures ready { ready self.new }
+        ensures holds { All (λ x. holds_stmt (placed x.part.value)) stmts.new.items };
+
+    /// Hands a name, a literal, a text of a template or a place.
+    fn word(&mut self, word: Word<'_>)
+        requires ready { ready self.old }
+        ensures ready { ready self.new };
 }
 
-/// What can be changed: a part of a tree.
-pub trait WalkMut {
+/// What can be changed: a part of a tree whose children's boxes keep `T`.
+pub trait WalkMut<T> {
     /// That each child is of the sort of its place.
-    ghost fits: { Self → Type 0 };
+    ghost fits: { (T → Placed) → Self → Type 0 };
 
     /// Changes what is below it, and then itself.
-    fn walk_mut<V: VisitMut, N: Nested<V>>(&mut self, nested: &N, visitor: &mut V)
-        requires nested { N.ready nested.now }
-        requires fits { fits self.old }
-        ensures { fits self.new };
+    fn walk_mut<C: Change<T>>(&mut self, by: &mut C)
+        requires ready { C.ready by.old }
+        requires fits { fits C.placed self.old }
+        ensures ready { C.ready by.new }
+        ensures fits { fits C.placed self.new };
 }
 
-impl<T: Held> WalkMut for Child<T, ExprTag> {
-    ghost fits = { λ c. holds_expr (T.placed c.part.value) };
+impl<T> WalkMut<T> for Child<T, ExprTag> {
+    ghost fits = { λ p c. holds_expr (p c.part.value) };
 
-    fn walk_mut<V: VisitMut, N: Nested<V>>(&mut self, nested: &N, visitor: &mut V) {
-        self.part.change_expr(nested, visitor);
+    fn walk_mut<C: Change<T>>(&mut self, by: &mut C) {
+        by.expr(&mut *self.part);
     }
 }
 
-impl<T: Held> WalkMut for Child<T, StmtTag> {
-    ghost fits = { λ c. holds_stmt (T.placed c.part.value) };
+impl<T> WalkMut<T> for Child<T, StmtTag> {
+    ghost fits = { λ p c. holds_stmt (p c.part.value) };
 
-    fn walk_mut<V: VisitMut, N: Nested<V>>(&mut self, nested: &N, visitor: &mut V) {
-        self.part.change_stmt(nested, visitor);
+    fn walk_mut<C: Change<T>>(&mut self, by: &mut C) {
+        by.stmt(&mut *self.part);
     }
 }
 
-impl<T: Held> WalkMut for Child<T, PatTag> {
-    ghost fits = { λ c. holds_pat (T.placed c.part.value) };
+impl<T> WalkMut<T> for Child<T, PatTag> {
+    ghost fits = { λ p c. holds_pat (p c.part.value) };
 
-    fn walk_mut<V: VisitMut, N: Nested<V>>(&mut self, nested: &N, visitor: &mut V) {
-        self.part.change_pat(nested, visitor);
+    fn walk_mut<C: Change<T>>(&mut self, by: &mut C) {
+        by.pat(&mut *self.part);
     }
 }
 
 /// Changes each of a list.
-pub(crate) fn walk_all<T: WalkMut, V: VisitMut, N: Nested<V>>(
-    items: &mut Vec<T>,
-    nested: &N,
-    visitor: &mut V,
-)
-    requires nested { N.ready nested.now }
-    requires fits { All T.fits items.old.items }
-    ensures { All T.fits items.new.items }
+pub(crate) fn walk_all<T, X: WalkMut<T>, C: Change<T>>(items: &mut Vec<X>, by: &mut C)
+    requires ready { C.ready by.old }
+    requires fits { All (X.fits C.placed) items.old.items }
+    ensures ready { C.ready by.new }
+    ensures fits { All (X.fits C.placed) items.new.items }
 {
     for x in items.iter_mut() {
-        x.walk_mut(nested, visitor);
+        x.walk_mut(by);
     }
 }
 
 /// Changes each of a list whose elements may be left out.
-pub(crate) fn walk_elements<T: WalkMut, V: VisitMut, N: Nested<V>>(
-    items: &mut Vec<Option<T>>,
-    nested: &N,
-    visitor: &mut V,
-)
-    requires nested { N.ready nested.now }
-    requires fits { All (λ x. fits_held T.fits x) items.old.items }
-    ensures { All (λ x. fits_held T.fits x) items.new.items }
+pub(crate) fn walk_elements<T, X: WalkMut<T>, C: Change<T>>(items: &mut Vec<Option<X>>, by: &mut C)
+    requires ready { C.ready by.old }
+    requires fits { All (λ x. fits_held (X.fits C.placed) x) items.old.items }
+    ensures ready { C.ready by.new }
+    ensures fits { All (λ x. fits_held (X.fits C.placed) x) items.new.items }
 {
     for x in items.iter_mut() {
         if let Some(x) = x {
-            x.walk_mut(nested, visitor);
+            x.walk_mut(by);
         }
     }
 }

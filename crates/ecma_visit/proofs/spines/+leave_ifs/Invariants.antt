@@ -1,4 +1,3 @@
-use Rattle.std.proofs.Common.{ℕ}
 use Rattle.ecma_visit.proofs.spines.+leave_ifs.Given as goal
 
 abbrev pub decreases-leave_ifs : goal.decreases-leave_ifs
