@@ -169,9 +169,16 @@ pub type StmtBox = Child<Part, StmtTag>;
 pub type PatBox = Child<Part, PatTag>;
 
 /// A script or a module. A contract sees its spec tree.
-#[derive(Debug, Drop)]
+#[derive(Debug)]
 pub struct Program {
     pub kind: ProgramKind,
+}
+
+impl Drop for Program {
+    /// One call where one is let go, in place of a step for each part.
+    fn drop(self) {
+        let Program { kind: _kind } = self;
+    }
 }
 
 impl Model for Program {

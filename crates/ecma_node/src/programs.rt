@@ -17,32 +17,64 @@ pub enum ProgramKindOf<T> {
 pub type ProgramKind = ProgramKindOf<Part>;
 
 /// A script: statements, after a hashbang's text without `#!`.
-#[derive(Debug, Drop)]
+#[derive(Debug)]
 pub struct ScriptOf<T> {
     pub span: Span,
     pub body: Vec<Child<T, StmtTag>>,
     pub shebang: Option<Atom>,
 }
 
+impl<T: Drop> Drop for ScriptOf<T> {
+    /// One call where one is let go, in place of a step for each part.
+    fn drop(self) {
+        let ScriptOf {
+            span: _span,
+            body: _body,
+            shebang: _shebang,
+        } = self;
+    }
+}
+
 /// A script: statements, after a hashbang's text without `#!`.
 pub type Script = ScriptOf<Part>;
 
 /// A module: statements and module declarations, after a hashbang's text without `#!`.
-#[derive(Debug, Drop)]
+#[derive(Debug)]
 pub struct ModuleOf<T> {
     pub span: Span,
     pub body: Vec<ModuleItemOf<T>>,
     pub shebang: Option<Atom>,
 }
 
+impl<T: Drop> Drop for ModuleOf<T> {
+    /// One call where one is let go, in place of a step for each part.
+    fn drop(self) {
+        let ModuleOf {
+            span: _span,
+            body: _body,
+            shebang: _shebang,
+        } = self;
+    }
+}
+
 /// A module: statements and module declarations, after a hashbang's text without `#!`.
 pub type Module = ModuleOf<Part>;
 
 /// A part of a module.
-#[derive(Debug, Drop)]
+#[derive(Debug)]
 pub enum ModuleItemOf<T> {
     ModuleDecl(ModuleDeclOf<T>),
     Stmt(Child<T, StmtTag>),
+}
+
+impl<T: Drop> Drop for ModuleItemOf<T> {
+    /// One call where one is let go, in place of a step for each part.
+    fn drop(self) {
+        match self {
+            ModuleItemOf::ModuleDecl(_moduledecl) => {}
+            ModuleItemOf::Stmt(_stmt) => {}
+        }
+    }
 }
 
 /// A part of a module.
