@@ -4,5 +4,6 @@
 pub mod blocks;
 pub mod body;
 pub mod lookahead;
+pub mod starts;
 
 pub use body::BodySoFar;

@@ -9,11 +9,12 @@ ghost use Rattle.ecma_parse_state.specs.Fronts.{machine_of};
 ghost use Rattle.ecma_parse_state.specs.Stands.{stand};
 ghost use Rattle.ecma_parse_entries.specs.Within.{program_within};
 
-use crate::whole::{tied_module, tied_script};
 use ecma_clean::{module_is_clean, script_is_clean};
 use ecma_nesting::Nesting;
 use ecma_node::{Module, Script};
+use ecma_parse_programs::programs::{module, script};
 use ecma_parse_state::{Around, Failure, Parser};
+use ecma_parse_tie::Depth;
 use ecma_token::{Error, SyntaxError};
 use ecma_tokens::Tokens;
 
@@ -32,7 +33,7 @@ pub fn script_within<'a, I: Tokens<'a> + Drop>(
     ensures value { Gives (view_script inner) result (program_within (machine_of I.machine) limit false (code_of code) (stand I.state p.old)) }
     ensures fits { IfOk result (λ x. fits_script (λ p. p) x) }
 {
-    let script = tied_script(p, limit, code)?;
+    let script = script(p, &Depth { levels: limit }, code)?;
     if script.nesting() > limit {
         return Err(Failure::TooDeep);
     }
@@ -60,7 +61,7 @@ pub fn module_within<'a, I: Tokens<'a> + Drop>(
     ensures value { Gives (view_module inner) result (program_within (machine_of I.machine) limit true (code_of code) (stand I.state p.old)) }
     ensures fits { IfOk result (λ x. fits_module (λ p. p) x) }
 {
-    let program = tied_module(p, limit, code)?;
+    let program = module(p, &Depth { levels: limit }, code)?;
     if program.nesting() > limit {
         return Err(Failure::TooDeep);
     }

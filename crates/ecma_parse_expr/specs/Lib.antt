@@ -1,4 +1,3 @@
 -- What the rules of expressions share.
-pub mod Lists
 pub mod Pieces
 pub mod Steps

@@ -14,10 +14,11 @@ ghost use Rattle.ecma_parse_state.specs.Stands.{from, from_span, stand};
 ghost use Rattle.ecma_parse_base.specs.Lists.{arguments_of, elements_of, FitArguments, FitElements};
 ghost use Rattle.ecma_parse_base.specs.Operands.{tree_of};
 
-use crate::lists::arguments;
-use ecma_node::{ComputedPropName, IdentName, MemberProp, PrivateName};
+use ecma_node::{IdentName, MemberProp};
 use ecma_parse_base::ops::{assign_op, binary_op, update_op};
 use ecma_parse_base::{Nested, Operand, made};
+use ecma_parse_lists::lists::arguments;
+use ecma_parse_lists::names::{computed, private_name};
 use ecma_parse_state::code::with_in;
 use ecma_parse_state::operators::{
     ASSIGNMENT, CALL, COALESCE, EXPRESSION, MEMBER, NEW_LEVEL, UNARY, right_level,
@@ -90,54 +91,6 @@ pub fn assignment<'a, I: Tokens<'a> + Drop, N: Nested<'a, I>>(
     p.bump()?;
     let right = nested.expr(p, code, ASSIGNMENT)?;
     made::assign_expr(p.alloc, p.since(start), op, target, right)
-}
-
-/// A private name, whose `#` touches it.
-#[inline(never)]
-#[tactic(auto, using(ecma_parse_state::proofs::Marks::marks), unfolding(ecma_reading::specs::Expressions::private_by))]
-pub fn private_name<'a, I: Tokens<'a> + Drop, N: Nested<'a, I>>(
-    p: &mut Parser<'a, I>,
-    _nested: &N,
-) -> Result<PrivateName, Failure>
-    requires ready { N.ready _nested.now }
-    ensures value { Gives (λ x. (view_private_name x, stand I.state p.new)) result (reads.private_by (machine_of I.machine) (N.reads _nested.now I.State I.machine) (stand I.state p.old)) }
-    ensures shorter { IfOk result (λ _. spec.bound (machine_of I.machine) (stand I.state p.new) < spec.bound (machine_of I.machine) (stand I.state p.old)) }
-{
-    let start = p.lo();
-    let end = p.hi();
-    p.expect(kinds::HASH)?;
-    if p.lo().0 != end.0 {
-        return Err(p.unexpected());
-    }
-    let name = p.any_word()?;
-    Ok(PrivateName {
-        span: p.since(start),
-        name,
-    })
-}
-
-/// A key in brackets.
-#[inline(never)]
-#[tactic(auto, using(ecma_parse_state::proofs::Marks::marks), unfolding(ecma_reading::specs::Expressions::computed_by))]
-pub fn computed<'a, I: Tokens<'a> + Drop, N: Nested<'a, I>>(
-    p: &mut Parser<'a, I>,
-    nested: &N,
-    code: Around,
-    level: u8,
-) -> Result<ComputedPropName, Failure>
-    requires ready { N.ready nested.now }
-    ensures value { Gives (λ x. (view_computed_prop_name inner x, stand I.state p.new)) result (reads.computed_by (machine_of I.machine) (N.reads nested.now I.State I.machine) (code_of code) level (stand I.state p.old)) }
-    ensures fits { IfOk result (λ x. holds_expr x.expr.part.value) }
-    ensures shorter { IfOk result (λ _. spec.bound (machine_of I.machine) (stand I.state p.new) < spec.bound (machine_of I.machine) (stand I.state p.old)) }
-{
-    let start = p.lo();
-    p.bump()?;
-    let key = nested.expr(p, with_in(code), level)?;
-    p.expect(kinds::RIGHT_BRACKET)?;
-    Ok(ComputedPropName {
-        span: p.since(start),
-        expr: key.expr,
-    })
 }
 
 /// What follows a dot: a name, or a private one.

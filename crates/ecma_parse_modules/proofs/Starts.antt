@@ -1,26 +1,18 @@
--- Where an import or an export began shows in the places of nodes alone.
-use Rattle.std.proofs.Common.{◌≡◌, ℕ, Bool, refl, sym, ◌∙◌, List}
+-- Where an export began shows in the places of nodes alone.
+use Rattle.std.proofs.Common.{◌≡◌, ℕ, Bool, refl, sym, ◌∙◌}
 use Rattle.ecma_token.specs.Kinds.{export_kind}
 use Rattle.ecma_tokens.specs.Machine as tokens
 use Rattle.ecma_tree.specs.Tree.{Tree}
 use Rattle.ecma_syntax.specs.Input.{Code, lo}
 use Rattle.ecma_reading.specs.Source.{◌>>=◌, Machine, Stand, Inner, input, eat_word}
 use Rattle.ecma_reading.specs.Expressions.{function_expr_by, function_expr_name}
-use Rattle.ecma_reading.specs.Modules.{import_end, import_rest, import_default, export_by, export_default, export_list, export_star}
+use Rattle.ecma_reading.specs.Modules.{export_by, export_default, export_list, export_star}
 use Rattle.ecma_parse_modules.specs.Steps.{after_by, decl_by, listed_by}
 use Rattle.ecma_parse_state.specs.Fronts.{Front, machine_of}
 use Rattle.ecma_parse_state.specs.Stands.{from}
 use Rattle.ecma_parse_state.proofs.Marks.{lo_from}
 
 module _ {S : Type 0} (m : Machine S) (inner : Inner S) (c : Code) (a b : Stand S) (e : lo (input m a) ≡ lo (input m b)) where
-  rest_same : (xs : List Tree) (r : Stand S) → import_rest m inner c a xs r ≡ import_rest m inner c b xs r
-  unfolding import_rest import_end
-  rest_same xs r = rw e refl
-
-  default_same : (r : Stand S) → import_default m inner c a r ≡ import_default m inner c b r
-  unfolding import_default import_rest import_end
-  default_same r = rw e refl
-
   function_same : (async : Bool) (r : Stand S) → function_expr_by m inner c a async r ≡ function_expr_by m inner c b async r
   unfolding function_expr_by function_expr_name
   function_same async r = rw e refl
@@ -34,12 +26,6 @@ module _ {S : Type 0} (m : tokens.Machine S) (inner : Inner (Front S)) (c : Code
   at_mark : lo (input (machine_of m) a) ≡ lo (input (machine_of m) (from n))
   at_mark = sym e ∙ sym (lo_from m n)
 
-  pub rest_from : (xs : List Tree) (r : Stand (Front S)) → import_rest (machine_of m) inner c a xs r ≡ import_rest (machine_of m) inner c (from n) xs r
-  rest_from = rest_same (machine_of m) inner c a (from n) at_mark
-
-  pub default_from : (r : Stand (Front S)) → import_default (machine_of m) inner c a r ≡ import_default (machine_of m) inner c (from n) r
-  default_from = default_same (machine_of m) inner c a (from n) at_mark
-
   pub function_from : (async : Bool) (r : Stand (Front S)) → function_expr_by (machine_of m) inner c a async r ≡ function_expr_by (machine_of m) inner c (from n) async r
   function_from = function_same (machine_of m) inner c a (from n) at_mark
 
@@ -50,4 +36,4 @@ module _ {S : Type 0} (m : tokens.Machine S) (inner : Inner (Front S)) (c : Code
   pub export_from : export_by (machine_of m) inner c a ≡ (eat_word (machine_of m) c export_kind a >>= λ r. after_by (machine_of m) inner c (from n) r)
   export_from = export_is ∙ (λ i. eat_word (machine_of m) c export_kind a >>= λ r. after_same (machine_of m) inner c a (from n) at_mark r i)
 
-pub ruleset starts = (rest_from, default_from, function_from, export_from)
+pub ruleset starts = (function_from, export_from)

@@ -1,4 +1,2 @@
--- What the rules of modules share.
-pub mod Sources
+-- What the rules of exports share.
 pub mod Steps
-pub mod Attributes

@@ -14,8 +14,8 @@ ghost use Rattle.ecma_parse_modules.specs.Steps.{default_expr_by, default_fn_by,
 use ecma_node::{DefaultDecl, ExportDefaultDecl, ExportDefaultExpr, ModuleDecl};
 use ecma_parse_arrows::function_exprs::function_expr;
 use ecma_parse_base::Nested;
+use ecma_parse_blocks::starts::starts_async;
 use ecma_parse_classes::classes::class_expr;
-use ecma_parse_loops::starts::starts_async;
 use ecma_parse_state::operators::ASSIGNMENT;
 use ecma_parse_state::{Around, Failure, Parser, kinds};
 use ecma_token::BytePos;

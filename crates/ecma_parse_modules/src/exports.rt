@@ -11,12 +11,12 @@ ghost use Rattle.ecma_parse_state.specs.Fronts.{machine_of};
 ghost use Rattle.ecma_parse_state.specs.Stands.{from, stand};
 ghost use Rattle.ecma_parse_modules.specs.Steps.{namespace_by};
 
-use crate::names::{export_name, source};
 use ecma_node::{
     ExportAll, ExportNamedSpecifier, ExportNamespaceSpecifier, ExportSpecifier, ModuleDecl,
     NamedExport,
 };
 use ecma_parse_base::Nested;
+use ecma_parse_sources::names::{export_name, source};
 use ecma_parse_state::operators::EXPORTS_END;
 use ecma_parse_state::{Around, Failure, Parser, kinds};
 use ecma_token::BytePos;

@@ -12,9 +12,9 @@ ghost use Rattle.ecma_parse_state.specs.Stands.{from, stand};
 ghost use Rattle.ecma_parse_modules.specs.Steps.{after_by, decl_by, listed_by};
 
 use crate::defaults::export_default;
+use crate::exportable::exportable;
 use crate::exports::{export_list, export_star};
 use crate::openings::starts_declaration;
-use crate::questions::exportable;
 use ecma_node::{ExportDecl, ModuleDecl};
 use ecma_parse_base::Nested;
 use ecma_parse_state::code::in_list;

@@ -1,11 +1,8 @@
-//! The rules of modules: imports and exports (ECMA-262, 16.2).
+//! The rules of exports (ECMA-262, 16.2.3).
 #![tactic(auto)]
 
 pub mod defaults;
+pub mod exportable;
 pub mod exports;
-pub mod imports;
 pub mod items;
-pub mod made;
-pub mod names;
 pub mod openings;
-pub mod questions;

@@ -7,7 +7,7 @@ ghost use Rattle.ecma_parse_state.specs.Fronts.{machine_of};
 ghost use Rattle.ecma_parse_state.specs.Stands.{stand};
 
 use ecma_parse_base::Nested;
-use ecma_parse_loops::starts::{starts_async, starts_variables};
+use ecma_parse_blocks::starts::{starts_async, starts_variables};
 use ecma_parse_state::{Around, Failure, Parser, kinds};
 use ecma_tokens::Tokens;
 

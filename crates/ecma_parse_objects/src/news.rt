@@ -11,7 +11,7 @@ ghost use Rattle.ecma_parse_objects.specs.News as pieces;
 
 use ecma_node::MetaPropKind;
 use ecma_parse_base::{Nested, Operand, made};
-use ecma_parse_expr::lists::arguments;
+use ecma_parse_lists::lists::arguments;
 use ecma_parse_primary::prefixes::callee;
 use ecma_parse_state::operators::{CALL, MEMBER, NEW_LEVEL, OTHER_END};
 use ecma_parse_state::{Around, Failure, Parser, kinds};

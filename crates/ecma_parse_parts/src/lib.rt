@@ -1,9 +1,5 @@
-//! Parts of programs within the limit of nesting: expressions, patterns, keys, parameters, statements and items.
+//! Parts of programs within the limit of nesting: expressions, patterns, keys and parameters.
 #![tactic(auto)]
 
-pub mod ends;
 pub mod params;
 pub mod parts;
-pub mod rules;
-
-pub use rules::Parts;

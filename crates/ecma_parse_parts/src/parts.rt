@@ -1,50 +1,26 @@
 //! Finished parts: they nest no deeper than the limit, which is looked at first, and nothing of a cover is left.
 ghost use Rattle.std.specs.Prelude.{◌≡◌, ◌<◌, All, IfOk, map};
 ghost use Rattle.ecma_tree.specs.Tree.{list, trees_by};
-ghost use Rattle.ecma_node.specs.Fits.{fits_module_item, fits_param, fits_prop_name};
-ghost use Rattle.ecma_node.specs.Placed.{holds_expr, holds_pat, holds_stmt, inner};
-ghost use Rattle.ecma_node.specs.View.{view_module_item, view_param, view_prop_name};
-ghost use Rattle.ecma_syntax.specs.Shape as shape;
-ghost use Rattle.ecma_parse_state.specs.Answers.{Gives, IsSyntax};
+ghost use Rattle.ecma_node.specs.Fits.{fits_param, fits_prop_name};
+ghost use Rattle.ecma_node.specs.Placed.{holds_expr, holds_pat, inner};
+ghost use Rattle.ecma_node.specs.View.{view_param, view_prop_name};
+ghost use Rattle.ecma_parse_state.specs.Answers.{Gives};
 ghost use Rattle.ecma_parse_state.specs.Codes.{code_of};
 ghost use Rattle.ecma_parse_state.specs.Fronts.{machine_of};
 ghost use Rattle.ecma_parse_state.specs.Stands.{stand};
 ghost use Rattle.ecma_parse_parts.specs.Parts as parts;
 
-use crate::ends::{heads_arrow, params_async_end, sequence_async_end};
-use crate::rules::{tied_key, tied_module_item, tied_params};
+use crate::params::bare_params;
 use ecma_clean::is_clean;
 use ecma_nesting::Nesting;
-use ecma_node::{
-    Decl, ExprBox, ModuleItem, Param, PatBox, PropName, Stmt, StmtBox, StmtKind, VarDeclKind,
-};
-use ecma_parse_state::code::{alone, in_list};
+use ecma_node::{ExprBox, Param, PatBox, PropName};
+use ecma_parse_ends::ends::{heads_arrow, params_async_end, sequence_async_end};
+use ecma_parse_ends::left::left_over;
+use ecma_parse_functions::keys::key;
 use ecma_parse_state::{Around, Failure, Parser};
-use ecma_parse_tie::tie::{parse_expr, parse_pat, parse_stmt};
-use ecma_token::{BytePos, Error, SyntaxError};
+use ecma_parse_tie::Depth;
+use ecma_parse_tie::tie::{parse_expr, parse_pat};
 use ecma_tokens::Tokens;
-
-/// What is said of a part that is read and may not stand here, as one in which something of a cover is left: it reaches
-/// from here to the last token that was taken.
-pub fn left_over<'a, I: Tokens<'a> + Drop>(p: &Parser<'a, I>, start: BytePos) -> Failure
-    ensures { IsSyntax result }
-{
-    Failure::Syntax(Error {
-        span: p.since(start),
-        kind: SyntaxError::Unexpected,
-    })
-}
-
-/// Whether a statement is one, and no declaration (ECMA-262, clause 14).
-fn is_statement(stmt: &Stmt) -> bool
-    ensures { result ≡ shape.is_statement stmt.now }
-{
-    match &stmt.kind {
-        StmtKind::Decl(Decl::Var(x)) => matches!(x.kind, VarDeclKind::Var),
-        StmtKind::Decl(_) => false,
-        _ => true,
-    }
-}
 
 /// An expression of a level or a tighter one. All that goes on with it is read; the name that an arrow would take after
 /// `async` is not.
@@ -52,7 +28,7 @@ fn is_statement(stmt: &Stmt) -> bool
 /// # Errors
 ///
 /// Want of memory, a text that nests deeper, or a fault of the text.
-#[tactic(auto, unfolding(crate::specs::Parts::expression_part, crate::specs::Parts::settled))]
+#[tactic(auto, unfolding(crate::specs::Parts::expression_part, ecma_parse_ends::specs::Ends::settled))]
 pub fn expression_part<'a, I: Tokens<'a> + Drop>(
     p: &mut Parser<'a, I>,
     limit: u32,
@@ -82,7 +58,7 @@ pub fn expression_part<'a, I: Tokens<'a> + Drop>(
 /// # Errors
 ///
 /// Want of memory, a text that nests deeper, or a fault of the text.
-#[tactic(auto, unfolding(crate::specs::Parts::binding_part, crate::specs::Parts::settled))]
+#[tactic(auto, unfolding(crate::specs::Parts::binding_part, ecma_parse_ends::specs::Ends::settled))]
 pub fn binding_part<'a, I: Tokens<'a> + Drop>(
     p: &mut Parser<'a, I>,
     limit: u32,
@@ -108,7 +84,7 @@ pub fn binding_part<'a, I: Tokens<'a> + Drop>(
 /// # Errors
 ///
 /// Want of memory, a text that nests deeper, or a fault of the text.
-#[tactic(auto, unfolding(crate::specs::Parts::key_part, crate::specs::Parts::settled))]
+#[tactic(auto, unfolding(crate::specs::Parts::key_part, ecma_parse_ends::specs::Ends::settled))]
 pub fn key_part<'a, I: Tokens<'a> + Drop>(
     p: &mut Parser<'a, I>,
     limit: u32,
@@ -119,7 +95,7 @@ pub fn key_part<'a, I: Tokens<'a> + Drop>(
     ensures fits { IfOk result (λ x. fits_prop_name (λ p. p) x) }
 {
     let start = p.lo();
-    let key = tied_key(p, limit, code)?;
+    let key = key(p, &Depth { levels: limit }, code)?;
     if key.nesting() > limit {
         return Err(Failure::TooDeep);
     }
@@ -134,7 +110,7 @@ pub fn key_part<'a, I: Tokens<'a> + Drop>(
 /// # Errors
 ///
 /// Want of memory, a text that nests deeper, or a fault of the text.
-#[tactic(auto, using(ecma_parse_base::proofs::Packs::packs), unfolding(crate::specs::Parts::parameters_part, crate::specs::Parts::settled))]
+#[tactic(auto, using(ecma_parse_base::proofs::Packs::packs), unfolding(crate::specs::Parts::parameters_part, ecma_parse_ends::specs::Ends::settled))]
 pub fn parameters_part<'a, I: Tokens<'a> + Drop>(
     p: &mut Parser<'a, I>,
     limit: u32,
@@ -145,7 +121,7 @@ pub fn parameters_part<'a, I: Tokens<'a> + Drop>(
     ensures fits { IfOk result (λ x. All (λ x. fits_param (λ p. p) x) x.items) }
 {
     let start = p.lo();
-    let params = tied_params(p, limit, code)?;
+    let params = bare_params(p, &Depth { levels: limit }, code)?;
     if params.nesting() > limit {
         return Err(Failure::TooDeep);
     }
@@ -156,85 +132,4 @@ pub fn parameters_part<'a, I: Tokens<'a> + Drop>(
         return Err(p.unexpected_end());
     }
     Ok(params)
-}
-
-/// A statement that is no declaration.
-///
-/// # Errors
-///
-/// Want of memory, a text that nests deeper, or a fault of the text.
-#[tactic(auto, unfolding(crate::specs::Parts::statement_part, crate::specs::Parts::settled))]
-pub fn statement_part<'a, I: Tokens<'a> + Drop>(
-    p: &mut Parser<'a, I>,
-    limit: u32,
-    code: Around,
-) -> Result<StmtBox, Failure>
-    requires { limit < 4294967295 }
-    ensures value { Gives (λ x. (inner x.part.value, stand I.state p.new)) result (parts.statement_part (machine_of I.machine) limit (code_of code) (stand I.state p.old)) }
-    ensures holds { IfOk result (λ x. holds_stmt x.part.value) }
-{
-    let start = p.lo();
-    let stmt = parse_stmt(p, limit, alone(code))?;
-    if !is_statement(stmt.get()) {
-        return Err(left_over(p, start));
-    }
-    if stmt.nesting() > limit {
-        return Err(Failure::TooDeep);
-    }
-    if !is_clean(&stmt) {
-        return Err(left_over(p, start));
-    }
-    Ok(stmt)
-}
-
-/// A statement or a declaration.
-///
-/// # Errors
-///
-/// Want of memory, a text that nests deeper, or a fault of the text.
-#[tactic(auto, unfolding(crate::specs::Parts::list_item_part, crate::specs::Parts::settled))]
-pub fn list_item_part<'a, I: Tokens<'a> + Drop>(
-    p: &mut Parser<'a, I>,
-    limit: u32,
-    code: Around,
-) -> Result<StmtBox, Failure>
-    requires { limit < 4294967295 }
-    ensures value { Gives (λ x. (inner x.part.value, stand I.state p.new)) result (parts.list_item_part (machine_of I.machine) limit (code_of code) (stand I.state p.old)) }
-    ensures holds { IfOk result (λ x. holds_stmt x.part.value) }
-{
-    let start = p.lo();
-    let stmt = parse_stmt(p, limit, in_list(code))?;
-    if stmt.nesting() > limit {
-        return Err(Failure::TooDeep);
-    }
-    if !is_clean(&stmt) {
-        return Err(left_over(p, start));
-    }
-    Ok(stmt)
-}
-
-/// An item of a module: an import, an export, a statement or a declaration.
-///
-/// # Errors
-///
-/// Want of memory, a text that nests deeper, or a fault of the text.
-#[tactic(auto, unfolding(crate::specs::Parts::module_item_part, crate::specs::Parts::settled))]
-pub fn module_item_part<'a, I: Tokens<'a> + Drop>(
-    p: &mut Parser<'a, I>,
-    limit: u32,
-    code: Around,
-) -> Result<ModuleItem, Failure>
-    requires { limit < 4294967295 }
-    ensures value { Gives (λ x. (view_module_item inner x, stand I.state p.new)) result (parts.module_item_part (machine_of I.machine) limit (code_of code) (stand I.state p.old)) }
-    ensures fits { IfOk result (λ x. fits_module_item (λ p. p) x) }
-{
-    let start = p.lo();
-    let item = tied_module_item(p, limit, in_list(code))?;
-    if item.nesting() > limit {
-        return Err(Failure::TooDeep);
-    }
-    if !is_clean(&item) {
-        return Err(left_over(p, start));
-    }
-    Ok(item)
 }

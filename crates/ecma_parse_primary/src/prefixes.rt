@@ -17,8 +17,8 @@ ghost use Rattle.ecma_parse_primary.specs.Words.{fixed_word};
 
 use ecma_node::{IdentName, SuperProp, UnaryOp, UpdateOp};
 use ecma_parse_base::{Nested, Operand, literals, made};
-use ecma_parse_expr::lists::{arguments, elements};
-use ecma_parse_expr::operators::computed;
+use ecma_parse_lists::lists::{arguments, elements};
+use ecma_parse_lists::names::computed;
 use ecma_parse_state::operators::{ASSIGNMENT, EXPRESSION, MEMBER, UNARY};
 use ecma_parse_state::{Around, Failure, Parser, kinds};
 use ecma_token::{BytePos, Span, Token};

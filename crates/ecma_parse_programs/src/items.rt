@@ -16,7 +16,7 @@ use ecma_node::{ModuleDecl, ModuleItem, StmtBox};
 use ecma_parse_base::Nested;
 use ecma_parse_blocks::body::{is_directive, is_use_strict};
 use ecma_parse_blocks::lookahead::turned;
-use ecma_parse_modules::imports::import_decl;
+use ecma_parse_imports::imports::import_decl;
 use ecma_parse_modules::items::export;
 use ecma_parse_state::code::{in_list, turned_strict};
 use ecma_parse_state::{Around, Failure, Parser, kinds};

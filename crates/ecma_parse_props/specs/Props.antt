@@ -1,4 +1,4 @@
--- What is read of a property of an object, and of one of a pattern, within the limit, as of other parts (`ecma_parse_parts`, `Parts`).
+-- What is read of a property of an object, and of one of a pattern, within the limit, as of other parts (`ecma_parse_ends`, `Ends`).
 use Rattle.std.specs.Prelude.{ℕ, Bool, true, false, not, ◌&&◌, if◌then◌else◌, List, [], ◌∷◌, Option, None, Some, Result, Ok}
 use Rattle.ecma_token.specs.Kinds.{dot_dot_dot_kind}
 use Rattle.ecma_tree.specs.Tree.{Tree, spread_element, key_value_prop, key_value_pat_prop, assign_pat_prop, assign_pat, rest_pat, absent}
@@ -7,7 +7,7 @@ use Rattle.ecma_reading.specs.Source.{unexpected, ◌>>=◌, Machine, Inner, Rea
 use Rattle.ecma_reading.specs.Expressions.{prop_by}
 use Rattle.ecma_reading.specs.Statements.{pattern_prop}
 use Rattle.ecma_reading.specs.Reading.{readers}
-use Rattle.ecma_parse_parts.specs.Parts.{async_end, heads_arrow, settled}
+use Rattle.ecma_parse_ends.specs.Ends.{async_end, heads_arrow, settled}
 use Rattle.ecma_parse_patterns.specs.Items.{object_rest}
 
 -- the expression with which a property ends

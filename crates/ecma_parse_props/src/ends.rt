@@ -4,17 +4,17 @@ ghost use Rattle.ecma_node.specs.Fits.{fits_object_pat_prop, fits_prop_or_spread
 ghost use Rattle.ecma_node.specs.Placed.{inner};
 ghost use Rattle.ecma_node.specs.View.{view_object_pat_prop, view_prop_or_spread};
 ghost use Rattle.ecma_parse_state.specs.Codes.{code_of};
-ghost use Rattle.ecma_parse_parts.specs.Parts as parts;
+ghost use Rattle.ecma_parse_ends.specs.Ends as ends;
 ghost use Rattle.ecma_parse_props.specs.Props.{value_of};
 
 use ecma_node::{ObjectPatProp, PatKind, Prop, PropOrSpread};
-use ecma_parse_parts::ends::async_end;
+use ecma_parse_ends::ends::async_end;
 use ecma_parse_state::Around;
 
 /// Where a property of an object ends with that word in the place of an arrow, the code there.
 pub fn prop_async_end(code: Around, prop: &PropOrSpread) -> Option<Around>
     requires { fits_prop_or_spread (λ p. p) prop.now }
-    ensures { option_map code_of result ≡ parts.async_end (code_of code) (value_of (view_prop_or_spread inner prop.now)) }
+    ensures { option_map code_of result ≡ ends.async_end (code_of code) (value_of (view_prop_or_spread inner prop.now)) }
 {
     match prop {
         PropOrSpread::Spread(spread) => async_end(code, spread.expr.get()),
@@ -28,7 +28,7 @@ pub fn prop_async_end(code: Around, prop: &PropOrSpread) -> Option<Around>
 /// The same of a property of a pattern.
 pub fn item_async_end(code: Around, prop: &ObjectPatProp) -> Option<Around>
     requires { fits_object_pat_prop (λ p. p) prop.now }
-    ensures { option_map code_of result ≡ parts.async_end (code_of code) (value_of (view_object_pat_prop inner prop.now)) }
+    ensures { option_map code_of result ≡ ends.async_end (code_of code) (value_of (view_object_pat_prop inner prop.now)) }
 {
     match prop {
         ObjectPatProp::KeyValue(pair) => match &pair.value.get().kind {

@@ -4,5 +4,3 @@
 pub mod ends;
 pub mod parts;
 pub mod rules;
-
-pub use rules::Props;

@@ -10,13 +10,15 @@ ghost use Rattle.ecma_parse_state.specs.Stands.{stand};
 ghost use Rattle.ecma_parse_props.specs.Props as props;
 
 use crate::ends::{item_async_end, prop_async_end};
-use crate::rules::{tied_item, tied_prop};
+use crate::rules::item;
 use ecma_clean::is_clean;
 use ecma_nesting::Nesting;
 use ecma_node::{ObjectPatProp, PropOrSpread};
-use ecma_parse_parts::ends::heads_arrow;
-use ecma_parse_parts::parts::left_over;
+use ecma_parse_ends::ends::heads_arrow;
+use ecma_parse_ends::left::left_over;
+use ecma_parse_objects::props::prop;
 use ecma_parse_state::{Around, Failure, Parser};
+use ecma_parse_tie::Depth;
 use ecma_tokens::Tokens;
 
 /// A property of an object.
@@ -24,7 +26,7 @@ use ecma_tokens::Tokens;
 /// # Errors
 ///
 /// Want of memory, a text that nests deeper, or a fault of the text.
-#[tactic(auto, unfolding(crate::specs::Props::prop_part, ecma_parse_parts::specs::Parts::settled))]
+#[tactic(auto, unfolding(crate::specs::Props::prop_part, ecma_parse_ends::specs::Ends::settled))]
 pub fn prop_part<'a, I: Tokens<'a> + Drop>(
     p: &mut Parser<'a, I>,
     limit: u32,
@@ -35,7 +37,7 @@ pub fn prop_part<'a, I: Tokens<'a> + Drop>(
     ensures fits { IfOk result (λ x. fits_prop_or_spread (λ p. p) x) }
 {
     let start = p.lo();
-    let prop = tied_prop(p, limit, code)?;
+    let prop = prop(p, &Depth { levels: limit }, code)?;
     if prop.nesting() > limit {
         return Err(Failure::TooDeep);
     }
@@ -53,7 +55,7 @@ pub fn prop_part<'a, I: Tokens<'a> + Drop>(
 /// # Errors
 ///
 /// Want of memory, a text that nests deeper, or a fault of the text.
-#[tactic(auto, unfolding(crate::specs::Props::item_part, ecma_parse_parts::specs::Parts::settled))]
+#[tactic(auto, unfolding(crate::specs::Props::item_part, ecma_parse_ends::specs::Ends::settled))]
 pub fn item_part<'a, I: Tokens<'a> + Drop>(
     p: &mut Parser<'a, I>,
     limit: u32,
@@ -64,7 +66,7 @@ pub fn item_part<'a, I: Tokens<'a> + Drop>(
     ensures fits { IfOk result (λ x. fits_object_pat_prop (λ p. p) x) }
 {
     let start = p.lo();
-    let item = tied_item(p, limit, code)?;
+    let item = item(p, &Depth { levels: limit }, code)?;
     if item.nesting() > limit {
         return Err(Failure::TooDeep);
     }

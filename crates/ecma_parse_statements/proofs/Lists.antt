@@ -1,19 +1,11 @@
 -- Lists by what was added last.
 use Rattle.std.proofs.Common.{◌≡◌, ℕ, zero, suc, Bool, true, false, ◌||◌, List, [], ◌∷◌, ◌++◌, All, map, refl, sym, ap, arith, ◌∙◌}
-use Rattle.ecma_token.specs.declared.place.Span.{Span}
-use Rattle.ecma_tree.specs.Tree.{Tree, Trees, pack, if_stmt}
-use Rattle.ecma_tokens.specs.Machine as tokens
+use Rattle.ecma_tree.specs.Tree.{Tree, if_stmt}
 use Rattle.ecma_syntax.specs.Input.{span}
-use Rattle.ecma_syntax.specs.Shape.{declarator_end, declarators_end, is_default_case}
+use Rattle.ecma_syntax.specs.Shape.{is_default_case}
 use Rattle.ecma_reading.specs.Source.{Machine, Inner}
 use Rattle.ecma_reading.specs.Statements.{Branch, chained, has_default}
 use Rattle.ecma_parse_statements.specs.Lists.{any_default}
-
--- declarators end as their last does
-pub declared_more : {A : Type 0} (f : A → Tree) (xs : List A) (y : A) → declarators_end (pack (map f (xs ++ y ∷ []))) ≡ declarator_end (f y)
-declared_more f [] y = refl
-declared_more f (x ∷ []) y = refl
-declared_more f (x ∷ (z ∷ xs)) y = declared_more f (z ∷ xs) y
 
 or_assoc : (a b c : Bool) → ((a || b) || c) ≡ (a || (b || c))
 or_assoc true b c = refl

@@ -1,32 +1,19 @@
--- Declarators, branches and cases that are being read.
-use Rattle.std.specs.Prelude.{◌≡◌, ℕ, Bool, List, [], ◌∷◌, All, map, true, false, ◌||◌}
-use Rattle.ecma_tree.specs.Tree.{Tree, absent, pack, part_by}
+-- Branches and cases that are being read.
+use Rattle.std.specs.Prelude.{◌≡◌, Bool, List, [], ◌∷◌, All, map, false, ◌||◌}
+use Rattle.ecma_tree.specs.Tree.{Tree, absent, part_by}
 use Rattle.ecma_syntax.specs.Input.{Code}
-use Rattle.ecma_syntax.specs.Shape.{declarators_end, is_default_case}
+use Rattle.ecma_syntax.specs.Shape.{is_default_case}
 use Rattle.ecma_token.specs.Kinds.{colon_kind}
-use Rattle.ecma_node.specs.Fits.{fits_held, fits_switch_case, fits_var_declarator}
+use Rattle.ecma_node.specs.Fits.{fits_held, fits_switch_case}
 use Rattle.ecma_node.specs.Placed.{holds_stmt, inner}
-use Rattle.ecma_node.specs.View.{view_switch_case, view_var_declarator}
+use Rattle.ecma_node.specs.View.{view_switch_case}
 use Rattle.ecma_reading.specs.Source.{Machine, Inner, Read, ◌>>=◌, eat, iterate, bound}
 use Rattle.ecma_reading.specs.Statements as reads
 use Rattle.ecma_parse_state.specs.Codes.{code_of}
 use Rattle.ecma_parse_base.specs.Operands.{tree_of}
 use Rattle.ecma_parse_statements.specs.declared.chains.Branch.{Branch}
 use Rattle.ecma_parse_statements.specs.declared.chains.Links.{Links}
-use Rattle.ecma_parse_statements.specs.declared.declarations.DeclaratorList.{DeclaratorList}
 use Rattle.ecma_parse_statements.specs.declared.switches.CaseList.{CaseList}
-
--- ---- declarators
-
-abbrev pub declarators_of : DeclaratorList → List Tree
-declarators_of d = map (view_var_declarator inner) d.items.items
-
-abbrev pub FitDeclarators : DeclaratorList → Type 0
-FitDeclarators d = All (λ x. fits_var_declarator (λ p. p) x) d.items.items
-
--- the class of the last one's end is told
-abbrev pub TellsEnd : DeclaratorList → Type 0
-TellsEnd d = d.end ≡ declarators_end (pack (declarators_of d))
 
 -- ---- chains
 

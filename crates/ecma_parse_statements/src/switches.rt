@@ -12,10 +12,10 @@ ghost use Rattle.ecma_parse_state.specs.Fronts.{machine_of};
 ghost use Rattle.ecma_parse_state.specs.Stands.{from, stand};
 ghost use Rattle.ecma_parse_statements.specs.Lists.{case_items, switch_cases, cases_of, FitCases, TellsDefault};
 
-use crate::made;
-use crate::parts::in_parens;
 use ecma_node::{ExprKind, StmtBox, SwitchCase};
 use ecma_parse_base::Nested;
+use ecma_parse_declarations::made;
+use ecma_parse_declarations::parts::in_parens;
 use ecma_parse_state::code::in_list;
 use ecma_parse_state::operators::EXPRESSION;
 use ecma_parse_state::{Around, Failure, Parser, kinds};

@@ -11,10 +11,10 @@ ghost use Rattle.ecma_parse_state.specs.Codes.{code_of};
 ghost use Rattle.ecma_parse_state.specs.Fronts.{machine_of};
 ghost use Rattle.ecma_parse_state.specs.Stands.{from, stand};
 
-use crate::made;
 use ecma_node::{BlockStmt, CatchClause, StmtBox};
 use ecma_parse_base::Nested;
 use ecma_parse_blocks::blocks::block;
+use ecma_parse_declarations::made;
 use ecma_parse_state::{Around, Failure, Parser, kinds};
 use ecma_token::BytePos;
 use ecma_tokens::Tokens;

@@ -14,16 +14,16 @@ use crate::loops::for_loop;
 use ecma_node::{EmptyStmt, StmtBox, StmtKind, VarDeclKind};
 use ecma_parse_base::Nested;
 use ecma_parse_blocks::blocks::block;
+use ecma_parse_blocks::starts::{starts_async, starts_await_using, starts_let, starts_using};
 use ecma_parse_classes::classes::class_decl;
+use ecma_parse_declarations::declarations::{using, variables};
+use ecma_parse_declarations::made::stmt;
 use ecma_parse_loops::functions::function_decl;
-use ecma_parse_loops::starts::{starts_async, starts_await_using, starts_let, starts_using};
 use ecma_parse_state::{Around, Failure, Parser, kinds};
 use ecma_parse_statements::chains::if_stmt;
-use ecma_parse_statements::declarations::{using, variables};
 use ecma_parse_statements::jumps::{
     break_stmt, continue_stmt, debugger_stmt, return_stmt, throw_stmt,
 };
-use ecma_parse_statements::made::stmt;
 use ecma_parse_statements::simple::{do_loop, expression, while_loop, with};
 use ecma_parse_statements::switches::switch;
 use ecma_parse_statements::tries::try_stmt;

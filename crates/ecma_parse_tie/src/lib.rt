@@ -1,10 +1,12 @@
 //! The tie of the rules: each calls the others by one level less, and answers too deep at none.
 #![tactic(auto)]
 
+pub mod depth;
 pub mod layer;
 pub mod parser;
 pub mod rules;
 pub mod tie;
 
+pub use depth::Depth;
 pub use layer::{Inside, Layer, Stood};
 pub use parser::Through;

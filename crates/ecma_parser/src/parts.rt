@@ -14,6 +14,7 @@ ghost use Rattle.ecma_reading.specs.Source as spec;
 ghost use Rattle.ecma_parse_state.specs.Codes.{code_of};
 ghost use Rattle.ecma_parse_state.specs.Fronts.{machine_of};
 ghost use Rattle.ecma_parse_state.specs.Stands.{stand};
+ghost use Rattle.ecma_parse_items.specs.Items as items;
 ghost use Rattle.ecma_parse_parts.specs.Parts as reads;
 ghost use Rattle.ecma_parser.specs.Entries.{ctx_in, faults_in, limit_in, opened, syntax_in};
 ghost use Rattle.ecma_parser.specs.Parts.{ParsesPart, ReadsPart, module_part, script_part};
@@ -23,10 +24,8 @@ use crate::faults::{PResult, told};
 use crate::programs::{in_module, in_script};
 use ecma_early_errors::{item_errors, part_errors};
 use ecma_node::{ExprBox, ModuleItem, Param, PatBox, PropName, StmtBox};
-use ecma_parse_parts::parts::{
-    binding_part, expression_part, key_part, list_item_part, module_item_part, parameters_part,
-    statement_part,
-};
+use ecma_parse_items::items::{list_item_part, module_item_part, statement_part};
+use ecma_parse_parts::parts::{binding_part, expression_part, key_part, parameters_part};
 use ecma_parse_state::operators::{ASSIGNMENT, EXPRESSION};
 use ecma_parse_state::{Around, Parser};
 use ecma_token::{Context, Error, EsSyntax, Syntax};
@@ -156,7 +155,7 @@ impl<'a, I: Tokens<'a> + Drop> Entries<Parser<'a, I>> {
     /// Want of memory, a text that nests deeper than the limit, or a fault of the text.
     #[tactic(auto, unfolding(crate::specs::Parts::left_in))]
     pub fn parse_stmt(&mut self, top_level: bool) -> PResult<StmtBox>
-        ensures value { ParsesPart (machine_of I.machine) (ctx_in I.state self.old) (λ x. inner x.part.value) (fronts.item_errors (syntax_in I.state self.old) top_level) result (script_part I.machine I.state (reads.statement_part (machine_of I.machine)) self.old) (stand I.state self.new.reading) (faults_in self.old) (faults_in self.new) }
+        ensures value { ParsesPart (machine_of I.machine) (ctx_in I.state self.old) (λ x. inner x.part.value) (fronts.item_errors (syntax_in I.state self.old) top_level) result (script_part I.machine I.state (items.statement_part (machine_of I.machine)) self.old) (stand I.state self.new.reading) (faults_in self.old) (faults_in self.new) }
         ensures holds { IfOk result (λ x. holds_stmt x.part.value) }
         ensures context { ctx_in I.state self.new ≡ ctx_in I.state self.old }
         ensures started { IfOk result (λ _. self.new.started ≡ true) }
@@ -176,7 +175,7 @@ impl<'a, I: Tokens<'a> + Drop> Entries<Parser<'a, I>> {
     /// Want of memory, a text that nests deeper than the limit, or a fault of the text.
     #[tactic(auto, unfolding(crate::specs::Parts::left_in))]
     pub fn parse_stmt_list_item(&mut self, top_level: bool) -> PResult<StmtBox>
-        ensures value { ParsesPart (machine_of I.machine) (ctx_in I.state self.old) (λ x. inner x.part.value) (fronts.item_errors (syntax_in I.state self.old) top_level) result (script_part I.machine I.state (reads.list_item_part (machine_of I.machine)) self.old) (stand I.state self.new.reading) (faults_in self.old) (faults_in self.new) }
+        ensures value { ParsesPart (machine_of I.machine) (ctx_in I.state self.old) (λ x. inner x.part.value) (fronts.item_errors (syntax_in I.state self.old) top_level) result (script_part I.machine I.state (items.list_item_part (machine_of I.machine)) self.old) (stand I.state self.new.reading) (faults_in self.old) (faults_in self.new) }
         ensures holds { IfOk result (λ x. holds_stmt x.part.value) }
         ensures context { ctx_in I.state self.new ≡ ctx_in I.state self.old }
         ensures started { IfOk result (λ _. self.new.started ≡ true) }
@@ -196,7 +195,7 @@ impl<'a, I: Tokens<'a> + Drop> Entries<Parser<'a, I>> {
     /// Want of memory, a text that nests deeper than the limit, or a fault of the text.
     #[tactic(auto, unfolding(crate::specs::Parts::left_in))]
     pub fn parse_module_item(&mut self) -> PResult<ModuleItem>
-        ensures value { ParsesPart (machine_of I.machine) (ctx_in I.state self.old) (view_module_item inner) (early.faults_in (outermost (syntax_in I.state self.old) true)) result (module_part I.machine I.state (reads.module_item_part (machine_of I.machine)) self.old) (stand I.state self.new.reading) (faults_in self.old) (faults_in self.new) }
+        ensures value { ParsesPart (machine_of I.machine) (ctx_in I.state self.old) (view_module_item inner) (early.faults_in (outermost (syntax_in I.state self.old) true)) result (module_part I.machine I.state (items.module_item_part (machine_of I.machine)) self.old) (stand I.state self.new.reading) (faults_in self.old) (faults_in self.new) }
         ensures fits { IfOk result (λ x. fits_module_item (λ p. p) x) }
         ensures context { ctx_in I.state self.new ≡ ctx_in I.state self.old }
         ensures started { IfOk result (λ _. self.new.started ≡ true) }
@@ -357,7 +356,7 @@ impl<'a, I: Tokens<'a> + Drop> Entries<Parser<'a, I>> {
     /// A statement that is no declaration.
     #[tactic(auto, using(crate::proofs::Read::fails_read))]
     fn statement(&mut self, top_level: bool) -> PResult<StmtBox>
-        ensures value { ReadsPart (λ x. inner x.part.value) (fronts.item_errors (syntax_in I.state self.old) top_level) result (script_part I.machine I.state (reads.statement_part (machine_of I.machine)) self.old) (stand I.state self.new.reading) (faults_in self.old) (faults_in self.new) }
+        ensures value { ReadsPart (λ x. inner x.part.value) (fronts.item_errors (syntax_in I.state self.old) top_level) result (script_part I.machine I.state (items.statement_part (machine_of I.machine)) self.old) (stand I.state self.new.reading) (faults_in self.old) (faults_in self.new) }
         ensures holds { IfOk result (λ x. holds_stmt x.part.value) }
         ensures started { IfOk result (λ _. self.new.started ≡ true) }
         ensures limit { limit_in self.new ≡ limit_in self.old }
@@ -374,7 +373,7 @@ impl<'a, I: Tokens<'a> + Drop> Entries<Parser<'a, I>> {
     /// A statement or a declaration.
     #[tactic(auto, using(crate::proofs::Read::fails_read))]
     fn list_item(&mut self, top_level: bool) -> PResult<StmtBox>
-        ensures value { ReadsPart (λ x. inner x.part.value) (fronts.item_errors (syntax_in I.state self.old) top_level) result (script_part I.machine I.state (reads.list_item_part (machine_of I.machine)) self.old) (stand I.state self.new.reading) (faults_in self.old) (faults_in self.new) }
+        ensures value { ReadsPart (λ x. inner x.part.value) (fronts.item_errors (syntax_in I.state self.old) top_level) result (script_part I.machine I.state (items.list_item_part (machine_of I.machine)) self.old) (stand I.state self.new.reading) (faults_in self.old) (faults_in self.new) }
         ensures holds { IfOk result (λ x. holds_stmt x.part.value) }
         ensures started { IfOk result (λ _. self.new.started ≡ true) }
         ensures limit { limit_in self.new ≡ limit_in self.old }
@@ -391,7 +390,7 @@ impl<'a, I: Tokens<'a> + Drop> Entries<Parser<'a, I>> {
     /// An item of a module.
     #[tactic(auto, using(crate::proofs::Read::fails_read))]
     fn module_item(&mut self) -> PResult<ModuleItem>
-        ensures value { ReadsPart (view_module_item inner) (early.faults_in (outermost (syntax_in I.state self.old) true)) result (module_part I.machine I.state (reads.module_item_part (machine_of I.machine)) self.old) (stand I.state self.new.reading) (faults_in self.old) (faults_in self.new) }
+        ensures value { ReadsPart (view_module_item inner) (early.faults_in (outermost (syntax_in I.state self.old) true)) result (module_part I.machine I.state (items.module_item_part (machine_of I.machine)) self.old) (stand I.state self.new.reading) (faults_in self.old) (faults_in self.new) }
         ensures fits { IfOk result (λ x. fits_module_item (λ p. p) x) }
         ensures started { IfOk result (λ _. self.new.started ≡ true) }
         ensures limit { limit_in self.new ≡ limit_in self.old }

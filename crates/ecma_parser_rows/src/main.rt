@@ -1,9 +1,10 @@
 //! Rows of the parser: programs with their trees, texts that are none, early errors, nesting, and which programs are
-//! the same.
+//! the same; and parts of programs, with where each ends.
 #![tactic(auto)]
 
 mod cuts;
 mod pairs;
+mod parts;
 mod read;
 mod told;
 
@@ -12,6 +13,18 @@ use std::process::ExitCode;
 
 /// Texts, and what the parser makes of them.
 struct Parsing;
+
+/// Answers a row of a whole program, or of several that are compared.
+fn tell_program(row: &Row<'_>, text: &str, answer: &mut Answer) -> anyhow::Result<()> {
+    if row.has("pair") {
+        return pairs::tell_pair(row, answer);
+    }
+    if row.has("apart") {
+        return pairs::tell_apart(row, text, answer);
+    }
+    cuts::judge_beginnings(row, text, answer.alloc())?;
+    told::tell(row, text, answer)
+}
 
 impl Subject for Parsing {
     fn asked(&self, row: &Row<'_>) -> usize {
@@ -26,14 +39,10 @@ impl Subject for Parsing {
         let Some(text) = row.text(0) else {
             return told::failed("no text");
         };
-        if row.has("pair") {
-            return pairs::tell_pair(row, answer);
+        match row.subject() {
+            "script" | "module" | "both" => tell_program(row, text, answer),
+            _ => parts::tell(row, text, answer),
         }
-        if row.has("apart") {
-            return pairs::tell_apart(row, text, answer);
-        }
-        cuts::judge_beginnings(row, text, answer.alloc())?;
-        told::tell(row, text, answer)
     }
 }
 

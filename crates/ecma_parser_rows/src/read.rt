@@ -23,7 +23,7 @@ pub enum Outcome {
 }
 
 /// The optional parts of the language that a row's words turn on.
-fn syntax(row: &Row<'_>) -> Syntax {
+pub fn syntax(row: &Row<'_>) -> Syntax {
     Syntax::Es(EsSyntax {
         import_attributes: row.has("attributes"),
         explicit_resource_management: row.has("using"),

@@ -16,7 +16,7 @@ pub fn failed<T>(reason: &'static str) -> anyhow::Result<T> {
 }
 
 /// The kind of a fault, and its place where that is asked for.
-fn tell_fault(error: &Error, placed: bool, out: &mut String) -> anyhow::Result<()> {
+pub fn tell_fault(error: &Error, placed: bool, out: &mut String) -> anyhow::Result<()> {
     if !out.is_empty() {
         out.push_str(" | ")?;
     }
@@ -90,7 +90,7 @@ fn is_alike(script: &str, module: &str) -> bool {
 }
 
 /// The limit of a row, in its second field.
-fn limit(row: &Row<'_>) -> anyhow::Result<u32> {
+pub fn limit(row: &Row<'_>) -> anyhow::Result<u32> {
     if !row.has("nesting") {
         return Ok(NESTING);
     }

@@ -1,5 +1,5 @@
 //! Reading a text.
-ghost use Rattle.std.specs.Prelude.{◌≤◌, ◌≢◌, length, IfErr};
+ghost use Rattle.std.specs.Prelude.{◌≡◌, ◌≤◌, ◌<◌, ◌≢◌, length, Err, IfErr};
 ghost use Rattle.ecma_reprint.specs.declared.fault.Fault.TheVariants.{TooLong};
 
 use crate::Fault;
@@ -53,8 +53,8 @@ fn module<'a>(parser: &mut Parser<'a, Lexer<'a>>) -> PResult<Program> {
     })
 }
 
-/// The program that a text is. Its first early error refuses it.
-pub(crate) fn read(alloc: Global, text: &str, reading: Reading) -> Result<Program, Fault>
+/// The program that a text with places for its bytes is. Its first early error refuses it.
+fn read(alloc: Global, text: &str, reading: Reading) -> Result<Program, Fault>
     requires { length text.now ≤ LONGEST }
     ensures { IfErr result (λ fault. fault ≢ TooLong) }
 {
@@ -72,4 +72,19 @@ pub(crate) fn read(alloc: Global, text: &str, reading: Reading) -> Result<Progra
             None => Ok(program),
         },
     }
+}
+
+/// The program that a text is. Its first early error refuses it.
+///
+/// # Errors
+///
+/// `TooLong` where the text has more bytes than places; `Refused` where it is no program, or memory ran out.
+pub fn read_program(alloc: Global, text: &str, reading: Reading) -> Result<Program, Fault>
+    ensures long { LONGEST < length text.now → result ≡ Err TooLong }
+    ensures fits { length text.now ≤ LONGEST → IfErr result (λ fault. fault ≢ TooLong) }
+{
+    if text.len() > LONGEST {
+        return Err(Fault::TooLong);
+    }
+    read(alloc, text, reading)
 }

@@ -4,7 +4,7 @@ ghost use Rattle.ecma_reprint.specs.Faults.{Leaves};
 ghost use Rattle.ecma_reprint.specs.declared.fault.Fault.TheVariants.{TooLong};
 
 use crate::print::print_to;
-use crate::read::{LONGEST, read};
+use crate::read::{LONGEST, read_program};
 use crate::{Fault, Reading, Style};
 use ecma_token::{BytePos, Counted, CountedWrite, LineCol};
 use ecma_write::EmitError;
@@ -30,10 +30,7 @@ pub fn reprint_to<W: CountedWrite>(
     ensures fits { length text.now ≤ LONGEST → IfErr result (λ fault. fault ≢ TooLong) }
     ensures untouched { Leaves result out.old out.new }
 {
-    if text.len() > LONGEST {
-        return Err(Fault::TooLong);
-    }
-    let program = read(alloc, text, reading)?;
+    let program = read_program(alloc, text, reading)?;
     match print_to(alloc, &program, style, marks, out) {
         Ok(()) => Ok(()),
         Err(fault) => Err(Fault::Written(fault)),

@@ -1,7 +1,6 @@
-use Rattle.std.proofs.Common.{rules, ◌≡◌, ◌∙◌}
+use Rattle.std.proofs.Common.{rules, ◌∙◌}
 use Rattle.ecma_reading.specs.Source as spec
-use Rattle.ecma_reading.specs.Statements as reads
-use Rattle.ecma_parse_state.proofs.Iterate.{iterate_done, iterate_stops, iterates}
+use Rattle.ecma_parse_state.proofs.Iterate.{iterate_done, iterates}
 use Rattle.ecma_parse_statements.specs.Lists as lists
 use Rattle.ecma_parse_statements.proofs.switches.case_items.Goals as goal
 

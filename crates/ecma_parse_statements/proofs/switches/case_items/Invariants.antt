@@ -1,4 +1,4 @@
-use Rattle.std.proofs.Common.{◌≡◌, ◌≤◌, ◌<◌, All, map, length, true, false}
+use Rattle.std.proofs.Common.{◌≡◌, ◌<◌, All, map}
 use Rattle.ecma_parse_statements.specs.Lists.{case_items}
 use Rattle.ecma_reading.specs.Statements.{case_step}
 use Rattle.ecma_node.specs.Placed.{holds_stmt, inner}

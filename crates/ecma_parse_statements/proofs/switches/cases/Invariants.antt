@@ -1,4 +1,4 @@
-use Rattle.std.proofs.Common.{◌≡◌, ◌≤◌, ◌<◌, All, map, length, true, false}
+use Rattle.std.proofs.Common.{◌≡◌, ◌≤◌}
 use Rattle.ecma_parse_statements.specs.Lists.{switch_cases, cases_of, FitCases, TellsDefault}
 use Rattle.ecma_reading.specs.Statements.{cases_step}
 use Rattle.ecma_reading.specs.Source.{iterate, bound}

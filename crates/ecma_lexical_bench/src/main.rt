@@ -1,0 +1,40 @@
+//! `ecma_lexical_bench WORD ..`: what the lexical layer and the writers take, for the scripts in `bench/`.
+//!
+//! - `tokens FILE TIMES [comments]`: reads the tokens of a script so many times over, and prints how many there are.
+//! - `pieces FILE [KIND]`: cuts a script into its tokens without a lexer, and prints how many there are of each kind.
+//! - `spell KIND COUNT`: writes so many spellings of a kind to standard output.
+//! - `write KIND COUNT`: gives a writer so many short texts, or marks, of a kind.
+//!
+//! Nothing is proved of it but that it is safe: what is read and written, the crates below promise.
+#![tactic(auto)]
+
+mod lexing;
+mod pieces;
+mod spelling;
+mod writing;
+
+use std::env;
+
+/// What the program is called with.
+const USAGE: &str =
+    "usage: ecma_lexical_bench tokens FILE TIMES [comments] | pieces FILE [KIND] | spell KIND COUNT | write KIND COUNT";
+
+/// Does what the first of two or more words asks for.
+fn run(rt: &HostRuntime, word: &str, first: &str, rest: &[String]) -> anyhow::Result<()> {
+    let second = rest.first().map(|it| it.as_str());
+    match (word, second) {
+        ("tokens", Some(times)) => lexing::run(rt, first, times.parse::<u32>()?, rest.len() > 1),
+        ("pieces", only) => pieces::run(rt, first, only),
+        ("spell", Some(count)) => spelling::run(rt, first, count.parse::<u32>()?),
+        ("write", Some(count)) => writing::run(rt, first, count.parse::<u32>()?),
+        _ => Err(anyhow::Error::msg(USAGE)),
+    }
+}
+
+fn main(rt: HostRuntime) -> anyhow::Result<()> {
+    let words: Vec<String> = env::args(&rt)?.collect(rt.alloc())?;
+    match words.as_slice() {
+        [_, word, first, rest @ ..] => run(&rt, word.as_str(), first.as_str(), rest),
+        _ => Err(anyhow::Error::msg(USAGE)),
+    }
+}

@@ -1,0 +1,147 @@
+//! What starts a declaration: the tokens behind the first one tell.
+ghost use Rattle.std.specs.Prelude.{◌≡◌, ◌<◌, ◌||◌, ◌&&◌, true, false, IfErr, IfOk};
+ghost use Rattle.ecma_syntax.specs.Input.{brk2, kind};
+ghost use Rattle.ecma_reading.specs.Source as spec;
+ghost use Rattle.ecma_reading.specs.Statements as reads;
+ghost use Rattle.ecma_parse_state.specs.Answers.{IsMemory};
+ghost use Rattle.ecma_parse_state.specs.Codes.{code_of};
+ghost use Rattle.ecma_parse_state.specs.Fronts.{machine_of};
+ghost use Rattle.ecma_parse_state.specs.Stands.{stand};
+
+use crate::lookahead::third;
+use ecma_parse_base::Nested;
+use ecma_parse_state::numbers::token_number;
+use ecma_parse_state::operators::may_name;
+use ecma_parse_state::{Around, Failure, Parser, kinds};
+use ecma_tokens::Tokens;
+
+/// The kind of the second token, and whether a line break stands before it.
+///
+/// # Errors
+///
+/// Want of memory.
+#[tactic(auto, unfolding(ecma_parse_state::specs::Fronts::machine_of))]
+pub fn behind<'a, I: Tokens<'a> + Drop>(p: &Parser<'a, I>) -> Result<(u8, bool), Failure>
+    ensures kind { IfOk result (λ x. x.0 ≡ kind (spec.input (machine_of I.machine) (spec.past (machine_of I.machine) (stand I.state p.now)))) }
+    ensures breaks { IfOk result (λ x. x.1 ≡ brk2 (spec.input (machine_of I.machine) (stand I.state p.now))) }
+    ensures full { IfErr result IsMemory }
+{
+    if p.ahead.token.is_none() {
+        return Ok((kinds::END, false));
+    }
+    let Ok(mut copy) = p.input.try_clone() else {
+        return Err(Failure::Memory);
+    };
+    match copy.next() {
+        Ok(Some(token)) => Ok((token_number(&token.token), token.had_line_break)),
+        Ok(None) => Ok((kinds::END, false)),
+        Err(_) => Err(Failure::Memory),
+    }
+}
+
+/// Whether `async` comes before `function` on its line.
+///
+/// # Errors
+///
+/// Want of memory.
+pub fn starts_async<'a, I: Tokens<'a> + Drop, N: Nested<'a, I>>(
+    p: &Parser<'a, I>,
+    _nested: &N,
+) -> Result<bool, Failure>
+    ensures value { IfOk result (λ b. b ≡ reads.starts_async (machine_of I.machine) (N.reads _nested.now I.State I.machine) (stand I.state p.now)) }
+    ensures full { IfErr result IsMemory }
+{
+    if !p.at(kinds::ASYNC) {
+        return Ok(false);
+    }
+    let (second, breaks) = p.second()?;
+    Ok(second == kinds::FUNCTION && !breaks)
+}
+
+/// Whether `let` starts a declaration: before a name, `[` and `{`.
+///
+/// # Errors
+///
+/// Want of memory.
+pub fn starts_let<'a, I: Tokens<'a> + Drop, N: Nested<'a, I>>(
+    p: &Parser<'a, I>,
+    _nested: &N,
+) -> Result<bool, Failure>
+    ensures value { IfOk result (λ b. b ≡ reads.starts_let (machine_of I.machine) (N.reads _nested.now I.State I.machine) (stand I.state p.now)) }
+    ensures full { IfErr result IsMemory }
+{
+    if !p.at(kinds::LET) {
+        return Ok(false);
+    }
+    let (second, _) = p.second()?;
+    Ok(may_name(second) || (second == kinds::LEFT_BRACKET || second == kinds::LEFT_BRACE))
+}
+
+/// Whether variables are declared here: by `let` and `const` where a declaration may stand.
+///
+/// # Errors
+///
+/// Want of memory.
+pub fn starts_variables<'a, I: Tokens<'a> + Drop, N: Nested<'a, I>>(
+    p: &Parser<'a, I>,
+    _nested: &N,
+    code: Around,
+) -> Result<bool, Failure>
+    ensures value { IfOk result (λ b. b ≡ reads.starts_variables (machine_of I.machine) (N.reads _nested.now I.State I.machine) (code_of code) (stand I.state p.now)) }
+    ensures full { IfErr result IsMemory }
+{
+    if p.at(kinds::VAR) {
+        return Ok(true);
+    }
+    if !code.listed {
+        return Ok(false);
+    }
+    if p.at(kinds::CONST) {
+        return Ok(true);
+    }
+    starts_let(p, _nested)
+}
+
+/// Whether `using` starts a declaration: before a name on its line.
+///
+/// # Errors
+///
+/// Want of memory.
+pub fn starts_using<'a, I: Tokens<'a> + Drop, N: Nested<'a, I>>(
+    p: &Parser<'a, I>,
+    _nested: &N,
+    code: Around,
+) -> Result<bool, Failure>
+    ensures value { IfOk result (λ b. b ≡ reads.starts_using (machine_of I.machine) (N.reads _nested.now I.State I.machine) (code_of code) (stand I.state p.now)) }
+    ensures full { IfErr result IsMemory }
+{
+    if !code.syntax.explicit_resource_management || !p.at(kinds::USING) {
+        return Ok(false);
+    }
+    let (second, breaks) = p.second()?;
+    Ok(may_name(second) && !breaks)
+}
+
+/// Whether `await using` starts a declaration: before a name on its line.
+///
+/// # Errors
+///
+/// Want of memory.
+pub fn starts_await_using<'a, I: Tokens<'a> + Drop, N: Nested<'a, I>>(
+    p: &Parser<'a, I>,
+    _nested: &N,
+    code: Around,
+) -> Result<bool, Failure>
+    ensures value { IfOk result (λ b. b ≡ reads.starts_await_using (machine_of I.machine) (N.reads _nested.now I.State I.machine) (code_of code) (stand I.state p.now)) }
+    ensures full { IfErr result IsMemory }
+{
+    if !code.context.in_async || !p.at(kinds::AWAIT) || p.is_barred(code.context) {
+        return Ok(false);
+    }
+    let (second, breaks) = behind(p)?;
+    if breaks || !code.syntax.explicit_resource_management || second != kinds::USING {
+        return Ok(false);
+    }
+    let (name, apart) = third(p)?;
+    Ok(may_name(name) && !apart)
+}

@@ -1,0 +1,2 @@
+-- What declarations of variables share.
+pub mod Lists

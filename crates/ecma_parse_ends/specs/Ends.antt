@@ -1,0 +1,48 @@
+-- Where a part of a program ends that is read alone: its end doesn't go on as an arrow, and what was read is a finished tree within the limit.
+use Rattle.std.specs.Prelude.{ℕ, Bool, false, not, ◌&&◌, nat_le, if◌then◌else◌, List, [], ◌∷◌, Option, Some, None, Result, Ok, Err, codes, bytes_eq}
+use Rattle.ecma_tree.specs.Tree.{Tree, Trees, none, more, ident, seq_expr, assign_expr, cond_expr, arrow_expr, yield_expr, param, assign_pat, absent}
+use Rattle.ecma_nesting.specs.Nesting.{nesting}
+use Rattle.ecma_syntax.specs.Input.{Code, brk, in_arrow}
+use Rattle.ecma_syntax.specs.Shape.{is_clean}
+use Rattle.ecma_reading.specs.Source.{Fault, TooDeep, unexpected, Machine, Stand, input, is_name}
+
+-- ---- the word `async` at the end of an expression
+
+-- Where the last operand of an AssignmentExpression is that word, the code in which it stands: with a name behind it an arrow would start there (15.9).
+abbrev pub async_end : Code → Tree → Option Code
+async_end c (ident s n) = if bytes_eq n (codes "async") then Some c else None
+async_end c (assign_expr s op p e) = async_end c e
+async_end c (cond_expr s a b d) = async_end c d
+async_end c (arrow_expr s ps b i) = async_end (in_arrow i c) b
+async_end c (yield_expr s e g) = async_end c e
+async_end c _ = None
+
+-- the last of some trees, and that of a sequence
+abbrev pub last_tree : Trees → Tree
+last_tree none = absent
+last_tree (more t none) = t
+last_tree (more t (more u ts)) = last_tree (more u ts)
+
+abbrev pub last_of : Tree → Tree
+last_of (seq_expr s xs) = last_tree xs
+last_of t = t
+
+-- the initialiser of the last parameter
+abbrev pub initial_of : Tree → Tree
+initial_of (param s ds (assign_pat t p e)) = e
+initial_of _ = absent
+
+abbrev pub last_initial : List Tree → Tree
+last_initial [] = absent
+last_initial (p ∷ []) = initial_of p
+last_initial (p ∷ (q ∷ ps)) = last_initial (q ∷ ps)
+
+module _ {S : Type 0} (m : Machine S) where
+  -- Such a word ends a tree, and a name stands on its line.
+  abbrev pub heads_arrow : Option Code → Stand S → Bool
+  heads_arrow None s = false
+  heads_arrow (Some c) s = not (brk (input m s)) && is_name m c s
+
+  -- What is read nests no deeper than the limit, and nothing of a cover is left in it.
+  unfoldable pub settled : ℕ → Tree × Stand S → Result (Tree × Stand S) Fault
+  settled limit x = if nat_le (nesting x.0) limit then (if is_clean x.0 then Ok x else unexpected) else Err TooDeep

@@ -1,0 +1,2 @@
+-- Where a part ends that is read alone.
+pub mod Ends

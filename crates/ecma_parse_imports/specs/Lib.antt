@@ -1,0 +1,2 @@
+-- What the rules of imports share.
+pub mod Firsts

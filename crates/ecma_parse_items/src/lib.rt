@@ -1,0 +1,4 @@
+//! Statements, declarations and items of modules within the limit of nesting.
+#![tactic(auto)]
+
+pub mod items;

@@ -1,0 +1,2 @@
+-- What the rules of lists share.
+pub mod Lists

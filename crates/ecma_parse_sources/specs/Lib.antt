@@ -1,0 +1,3 @@
+-- What imports and exports share.
+pub mod Sources
+pub mod Attributes
