@@ -59,8 +59,8 @@ class Nodes:
         names = [(what, n) for what, n in table.order if self.module_of(n) == module]
         used = set()
         body = []
-        derive = "#[derive(Debug, Drop)]\n"
         for what, n in names:
+            derive = "#[derive(Debug)]\n" if n in OWN_DROPS else "#[derive(Debug, Drop)]\n"
             doc = "".join("/// %s\n" % line for line in table.doc_of[n])
             if what == "words":
                 body.append("%s#[derive(Clone, Copy, Debug, PartialEq, Eq, Hash)]\npub enum %s {\n" % (doc, n))
@@ -81,6 +81,8 @@ class Nodes:
                     self.names_in(t, used)
                     body.append("    %s(%s),\n" % (v, self.rust(t)))
             body.append("}\n\n")
+            if n in OWN_DROPS:
+                body.append(self.own_drop(what, n, generic))
             if generic:
                 body.append("%spub type %s = %sOf<Part>;\n\n" % ("".join("/// %s\n" % line for line in table.doc_of[n][:1]), n, n))
         generic_here = any(table.is_generic(n) for what, n in names if what != "words")
@@ -98,6 +100,19 @@ class Nodes:
             uses.setdefault("crate::knot", set()).add("Part")
         lines = "".join(use_line(m, sorted(ns, key=fmt_key)) for m, ns in sorted(uses.items()))
         return "//! %s\n%s\n%s" % (table.module_doc[module], lines, "".join(body).rstrip("\n") + "\n")
+
+    def own_drop(self, what, n, generic):
+        """The drop of a type that many crates let go: what is derived would be proved anew in each."""
+        name, bound, of = (n + "Of", "<T: Drop>", "<T>") if generic else (n, "", "")
+        if what == "struct":
+            fields = ["span"] + [f for f, _ in self.table.fields_of[n]]
+            parts = ", ".join("%s: _%s" % (f, f.strip("_")) for f in fields)
+            inside = "let %s { %s } = self;" % (name, parts)
+        else:
+            arms = "".join("%s::%s(_%s) => {}\n" % (name, v, v.lower()) for v, _ in self.table.variants_of[n])
+            inside = "match self {\n%s}" % arms
+        doc = "/// One call where one is let go, in place of a step for each part."
+        return "impl%s Drop for %s%s {\n%s\nfn drop(self) {\n%s\n}\n}\n\n" % (bound, name, of, doc, inside)
 
     def places_module(self):
         table = self.table
@@ -366,6 +381,9 @@ def use_line(module, names, before=0):
             row = "   "
         row += " " + n + ","
     return out + row + "\n};\n"
+
+# The types that many crates let go, which have a drop of their own.
+OWN_DROPS = {"Script", "Module", "ModuleItem"}
 
 
 class Sizes:
