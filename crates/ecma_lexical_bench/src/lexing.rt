@@ -3,13 +3,11 @@
 
 ghost use Rattle.std.specs.Prelude.{◌<◌, length};
 
+use crate::LONGEST;
 use ecma_lexer::{Lexer, Tokens};
 use ecma_token::{AssignOp, BinOpToken, BytePos, Error, EsVersion, Keyword, Syntax, Token, Word};
 use std::alloc::Global;
 use std::fs;
-
-/// The greatest length of a file.
-const LONGEST: usize = 0xFFFF_FFFE;
 
 /// Whether a slash behind this token divides. Of brackets it is a guess that holds for most code.
 fn divides(token: &Token<'_>) -> bool {

@@ -19,14 +19,20 @@ use std::env;
 const USAGE: &str =
     "usage: ecma_lexical_bench tokens FILE TIMES [comments] | pieces FILE [KIND] | spell KIND COUNT | write KIND COUNT";
 
+/// The greatest length of a file whose bytes have places.
+const LONGEST: usize = 0xFFFF_FFFE;
+
 /// Does what the first of two or more words asks for.
 fn run(rt: &HostRuntime, word: &str, first: &str, rest: &[String]) -> anyhow::Result<()> {
-    let second = rest.first().map(|it| it.as_str());
-    match (word, second) {
-        ("tokens", Some(times)) => lexing::run(rt, first, times.parse::<u32>()?, rest.len() > 1),
-        ("pieces", only) => pieces::run(rt, first, only),
-        ("spell", Some(count)) => spelling::run(rt, first, count.parse::<u32>()?),
-        ("write", Some(count)) => writing::run(rt, first, count.parse::<u32>()?),
+    match (word, rest) {
+        ("tokens", [times]) => lexing::run(rt, first, times.as_str().parse::<u32>()?, false),
+        ("tokens", [times, last]) if last.as_str() == "comments" => {
+            lexing::run(rt, first, times.as_str().parse::<u32>()?, true)
+        }
+        ("pieces", []) => pieces::run(rt, first, None),
+        ("pieces", [kind]) => pieces::run(rt, first, Some(kind.as_str())),
+        ("spell", [count]) => spelling::run(rt, first, count.as_str().parse::<u32>()?),
+        ("write", [count]) => writing::run(rt, first, count.as_str().parse::<u32>()?),
         _ => Err(anyhow::Error::msg(USAGE)),
     }
 }

@@ -4,15 +4,13 @@
 
 mod tokens;
 
+use crate::LONGEST;
 use ecma_lexeme::LexicalGoal;
 use std::fs;
 use tokens::{Kind, Tally, count};
 
 /// The word for the length of the file.
 const BYTES: &str = "bytes";
-
-/// The greatest length of a file.
-const LONGEST: usize = 0xFFFF_FFFE;
 
 /// The goal that says what a slash is, where tokens of this kind are asked for.
 fn goal(only: Option<&str>) -> LexicalGoal {

@@ -15,6 +15,7 @@ use ecma_tokens::Tokens;
 /// The parsers of nested parts, each up to so many levels deep.
 #[derive(Clone, Copy, Debug)]
 pub struct Depth {
+    /// How many levels may still be entered; at none the answer is too deep.
     pub levels: u32,
 }
 
