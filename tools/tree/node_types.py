@@ -60,7 +60,8 @@ class Nodes:
         used = set()
         body = []
         for what, n in names:
-            derive = "#[derive(Debug)]\n" if n in OWN_DROPS else "#[derive(Debug, Drop)]\n"
+            derived = ([] if what == "enum" else ["Debug"]) + ([] if n in OWN_DROPS else ["Drop"])
+            derive = "#[derive(%s)]\n" % ", ".join(derived) if derived else ""
             doc = "".join("/// %s\n" % line for line in table.doc_of[n])
             if what == "words":
                 body.append("%s#[derive(Clone, Copy, Debug, PartialEq, Eq, Hash)]\npub enum %s {\n" % (doc, n))
@@ -81,6 +82,8 @@ class Nodes:
                     self.names_in(t, used)
                     body.append("    %s(%s),\n" % (v, self.rust(t)))
             body.append("}\n\n")
+            if what == "enum":
+                body.append(self.own_debug(n, generic))
             if n in OWN_DROPS:
                 body.append(self.own_drop(what, n, generic))
             if generic:
@@ -99,7 +102,16 @@ class Nodes:
         if generic_here:
             uses.setdefault("crate::knot", set()).add("Part")
         lines = "".join(use_line(m, sorted(ns, key=fmt_key)) for m, ns in sorted(uses.items()))
+        if any(what == "enum" for what, _ in names):
+            lines += "use std::fmt;\n"
         return "//! %s\n%s\n%s" % (table.module_doc[module], lines, "".join(body).rstrip("\n") + "\n")
+
+    def own_debug(self, n, generic):
+        """Shows what it holds, which says of what kind it is: what is derived takes the prover more than twice as long."""
+        name, bound, of = (n + "Of", "<T: fmt::Debug>", "<T>") if generic else (n, "", "")
+        arms = "".join("%s::%s(x) => fmt::Debug::fmt(x, f),\n" % (name, v) for v, _ in self.table.variants_of[n])
+        head = "impl%s fmt::Debug for %s%s {\n" % (bound, name, of)
+        return head + "fn fmt<W: fmt::Write>(&self, f: &mut fmt::Formatter<W>) -> fmt::Result {\nmatch self {\n%s}\n}\n}\n\n" % arms
 
     def own_drop(self, what, n, generic):
         """The drop of a type that many crates let go: what is derived would be proved anew in each."""

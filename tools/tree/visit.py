@@ -80,14 +80,20 @@ class Visit:
     def field_lines(self, name):
         if name == "Tpl":
             return ["walk_template(self.quasis.as_slice(), self.exprs.as_slice(), visitor);"]
-        lines = []
-        for f, t in self.fields(name):
-            held = inside(t, "Vec")
-            if held and inside(held, "Hole"):
-                lines.append("walk_elements(self.%s.as_slice(), visitor);" % f)
-            else:
-                lines.append("self.%s.walk(visitor);" % f)
-        return lines
+        return [line for f, t in self.fields(name) for line in self.part_lines("self." + f, t)]
+
+    def part_lines(self, part, text):
+        """Goes over what a field holds. The impls for lists and for parts that may be left out are for users alone: an
+        impl for a list of what is generic costs ten times as much wherever it is used."""
+        items, held = inside(text, "Vec"), inside(text, "Option")
+        if items:
+            call = "walk_elements" if inside(items, "Hole") else "walk_all"
+            return ["%s(%s.as_slice(), visitor);" % (call, part)]
+        if held and not inside(held, "Box"):
+            return ["walk_part(&%s, visitor);" % part]
+        if held:
+            return ["if let Some(x) = &%s {" % part] + ["    " + line for line in self.part_lines("x", held)] + ["}"]
+        return ["%s.walk(visitor);" % part]
 
     def arms(self, name, own, call):
         lines = ["match self {"]
@@ -96,8 +102,8 @@ class Visit:
                 lines.append("    %s::%s(_) => {}" % (own, v))
             elif (name, v) == ("AssignTarget", "Invalid"):
                 lines.append("    %s::%s(x) => {" % (own, v))
-                lines.append("        visitor.enter(Node::Part(Kind::InvalidTarget, x.span));")
-                lines.append("        visitor.leave(Node::Part(Kind::InvalidTarget, x.span));")
+                lines.append("        enter_part(Kind::InvalidTarget, x.span, visitor);")
+                lines.append("        leave_part(Kind::InvalidTarget, x.span, visitor);")
                 lines.append("    }")
             else:
                 method = "walk" if bare(t) in SORTS else call
@@ -119,10 +125,15 @@ class Visit:
         if opened:
             out.append(self.impl(name, "Inside", own))
         if name in self.walked:
-            node = "Node::%s(self)" % name if name in HANDED else "Node::Part(Kind::%s, self.span)" % name
             within = ["self.inside(visitor);"] if opened else own
-            out.append(self.impl(name, "Walk", ["visitor.enter(%s);" % node] + within + ["visitor.leave(%s);" % node]))
+            out.append(self.impl(name, "Walk", [self.event(name, "enter")] + within + [self.event(name, "leave")]))
         return "".join(out)
+
+    def event(self, name, call):
+        """Tells the visitor of a struct. A call that is handed no `Node` costs the prover a third of one that is."""
+        if name in HANDED:
+            return "visitor.%s(Node::%s(self));" % (call, name)
+        return "%s_part(Kind::%s, self.span, visitor);" % (call, name)
 
     def enum(self, name):
         own = name + "Of" if self.table.is_generic(name) else name
@@ -145,7 +156,8 @@ class Visit:
                 names.append(n + "Of" if table.is_generic(n) else n)
                 views.append("view_" + snake(n))
         text = "".join(body)
-        helpers = [h for h in ("Inside", "Node", "Walk", "Watch", "walk_elements", "walk_template") if h in text]
+        helpers = [h for h in ("Inside", "Node", "Walk", "Watch", "enter_part", "leave_part", "walk_all", "walk_elements", "walk_part", "walk_template") if h in text]
+        helpers = [h for h in helpers if h != "Node" or "Node::" in text]
         head = "//! Goes over %s.\n" % WHAT[module]
         head += "ghost use Rattle.ecma_node.specs.View.{%s};\n\n" % ", ".join(views)
         if "Kind::" in text.replace("PatKind::", ""):

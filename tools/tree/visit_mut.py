@@ -29,9 +29,9 @@ class VisitMut:
                 lines.append("by.%s(&mut self.%s);" % (LISTS[t], f))
         for f, t in [("span", "Span")] + table.fields_of[name]:
             if t == "Span":
-                lines.append("by.word(Word::Span(&mut self.%s));" % f)
+                lines.append("by.span(&mut self.%s);" % f)
             elif t == "Option<Span>":
-                lines += ["if let Some(span) = &mut self.%s {" % f, "    by.word(Word::Span(span));", "}"]
+                lines.append("walk_place(&mut self.%s, by);" % f)
         return lines + self.end(name)
 
     def field_lines(self, field, text):
@@ -41,6 +41,8 @@ class VisitMut:
         if items:
             call = "walk_elements" if inside(items, "Hole") else "walk_all"
             return ["%s(%s, by);" % (call, "&mut " + field if "." in field else field)]
+        if part and (part in SORTS or self.table.is_generic(part)):
+            return ["walk_part(&mut %s, by);" % field]
         if part:
             return ["if let Some(x) = &mut %s {" % field] + ["    " + line for line in self.field_lines("x", part)] + ["}"]
         return ["%s.walk_mut(by);" % field]
@@ -57,10 +59,10 @@ class VisitMut:
 
     def impl(self, name, lines):
         generic = self.table.is_generic(name)
-        fits = "λ p x. fits_%s p x" % snake(name) if generic else "λ _ _. Unit {0}"
-        own = "impl<T> WalkMut<T> for %s" % (name + "Of<T>" if generic else name)
+        fits = "λ x. fits_%s C.placed x" % snake(name) if generic else "λ _. Unit {0}"
+        own = "impl<T, C: Change<T>> WalkMut<T, C> for %s" % (name + "Of<T>" if generic else name)
         head = "%s {\n    ghost fits = { %s };\n\n" % (own, fits)
-        head += "    fn walk_mut<C: Change<T>>(&mut self, by: &mut C) {\n"
+        head += "    fn walk_mut(&mut self, by: &mut C) {\n"
         return head + "".join("        %s\n" % line for line in lines) + "    }\n}\n\n"
 
     def module(self, module):
@@ -78,7 +80,7 @@ class VisitMut:
             head += "ghost use Rattle.ecma_node.specs.Fits.{%s};\n\n" % ", ".join(fits)
         text = "".join(body)
         used = ["Change", "WalkMut"] + [it for it in ("Word",) if it + "::" in text]
-        helpers = [it for it in ("walk_all", "walk_elements") if it + "(" in text]
+        helpers = [it for it in ("walk_all", "walk_elements", "walk_part", "walk_place") if it + "(" in text]
         head += use_line("crate::walk", used + helpers)
         head += use_line("ecma_node", sorted(names))
         return head + "\n" + "".join(body).rstrip("\n") + "\n"

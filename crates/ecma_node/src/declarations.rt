@@ -3,14 +3,26 @@ use crate::expressions::Ident;
 use crate::functions::{ClassOf, FunctionOf};
 use crate::knot::{Child, ExprTag, Part, PatTag};
 use ecma_token::Span;
+use std::fmt;
 
 /// A declaration.
-#[derive(Debug, Drop)]
+#[derive(Drop)]
 pub enum DeclOf<T> {
     Class(ClassDeclOf<T>),
     Fn(FnDeclOf<T>),
     Var(VarDeclOf<T>),
     Using(UsingDeclOf<T>),
+}
+
+impl<T: fmt::Debug> fmt::Debug for DeclOf<T> {
+    fn fmt<W: fmt::Write>(&self, f: &mut fmt::Formatter<W>) -> fmt::Result {
+        match self {
+            DeclOf::Class(x) => fmt::Debug::fmt(x, f),
+            DeclOf::Fn(x) => fmt::Debug::fmt(x, f),
+            DeclOf::Var(x) => fmt::Debug::fmt(x, f),
+            DeclOf::Using(x) => fmt::Debug::fmt(x, f),
+        }
+    }
 }
 
 /// A declaration.

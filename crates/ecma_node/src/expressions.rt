@@ -7,9 +7,10 @@ use crate::patterns::AssignTargetOf;
 use crate::statements::BlockStmtOf;
 use ecma_atom::{Atom, StrValue};
 use ecma_token::{AssignOp, BinaryOp, Span};
+use std::fmt;
 
 /// An expression of any kind.
-#[derive(Debug, Drop)]
+#[derive(Drop)]
 pub enum ExprKindOf<T> {
     This(ThisExpr),
     Array(ArrayLitOf<T>),
@@ -38,6 +39,40 @@ pub enum ExprKindOf<T> {
     PrivateName(PrivateName),
     OptChain(OptChainExprOf<T>),
     Invalid(Invalid),
+}
+
+impl<T: fmt::Debug> fmt::Debug for ExprKindOf<T> {
+    fn fmt<W: fmt::Write>(&self, f: &mut fmt::Formatter<W>) -> fmt::Result {
+        match self {
+            ExprKindOf::This(x) => fmt::Debug::fmt(x, f),
+            ExprKindOf::Array(x) => fmt::Debug::fmt(x, f),
+            ExprKindOf::Object(x) => fmt::Debug::fmt(x, f),
+            ExprKindOf::Fn(x) => fmt::Debug::fmt(x, f),
+            ExprKindOf::Unary(x) => fmt::Debug::fmt(x, f),
+            ExprKindOf::Update(x) => fmt::Debug::fmt(x, f),
+            ExprKindOf::Bin(x) => fmt::Debug::fmt(x, f),
+            ExprKindOf::Assign(x) => fmt::Debug::fmt(x, f),
+            ExprKindOf::Member(x) => fmt::Debug::fmt(x, f),
+            ExprKindOf::SuperProp(x) => fmt::Debug::fmt(x, f),
+            ExprKindOf::Cond(x) => fmt::Debug::fmt(x, f),
+            ExprKindOf::Call(x) => fmt::Debug::fmt(x, f),
+            ExprKindOf::New(x) => fmt::Debug::fmt(x, f),
+            ExprKindOf::Seq(x) => fmt::Debug::fmt(x, f),
+            ExprKindOf::Ident(x) => fmt::Debug::fmt(x, f),
+            ExprKindOf::Lit(x) => fmt::Debug::fmt(x, f),
+            ExprKindOf::Tpl(x) => fmt::Debug::fmt(x, f),
+            ExprKindOf::TaggedTpl(x) => fmt::Debug::fmt(x, f),
+            ExprKindOf::Arrow(x) => fmt::Debug::fmt(x, f),
+            ExprKindOf::Class(x) => fmt::Debug::fmt(x, f),
+            ExprKindOf::Yield(x) => fmt::Debug::fmt(x, f),
+            ExprKindOf::MetaProp(x) => fmt::Debug::fmt(x, f),
+            ExprKindOf::Await(x) => fmt::Debug::fmt(x, f),
+            ExprKindOf::Paren(x) => fmt::Debug::fmt(x, f),
+            ExprKindOf::PrivateName(x) => fmt::Debug::fmt(x, f),
+            ExprKindOf::OptChain(x) => fmt::Debug::fmt(x, f),
+            ExprKindOf::Invalid(x) => fmt::Debug::fmt(x, f),
+        }
+    }
 }
 
 /// An expression of any kind.
@@ -354,52 +389,99 @@ pub struct SpreadElementOf<T> {
 pub type SpreadElement = SpreadElementOf<Part>;
 
 /// What is called.
-#[derive(Debug, Drop)]
+#[derive(Drop)]
 pub enum CalleeOf<T> {
     Super(Super),
     Import(Import),
     Expr(Child<T, ExprTag>),
 }
 
+impl<T: fmt::Debug> fmt::Debug for CalleeOf<T> {
+    fn fmt<W: fmt::Write>(&self, f: &mut fmt::Formatter<W>) -> fmt::Result {
+        match self {
+            CalleeOf::Super(x) => fmt::Debug::fmt(x, f),
+            CalleeOf::Import(x) => fmt::Debug::fmt(x, f),
+            CalleeOf::Expr(x) => fmt::Debug::fmt(x, f),
+        }
+    }
+}
+
 /// What is called.
 pub type Callee = CalleeOf<Part>;
 
 /// What follows an object in a member.
-#[derive(Debug, Drop)]
+#[derive(Drop)]
 pub enum MemberPropOf<T> {
     Ident(IdentName),
     PrivateName(PrivateName),
     Computed(ComputedPropNameOf<T>),
 }
 
+impl<T: fmt::Debug> fmt::Debug for MemberPropOf<T> {
+    fn fmt<W: fmt::Write>(&self, f: &mut fmt::Formatter<W>) -> fmt::Result {
+        match self {
+            MemberPropOf::Ident(x) => fmt::Debug::fmt(x, f),
+            MemberPropOf::PrivateName(x) => fmt::Debug::fmt(x, f),
+            MemberPropOf::Computed(x) => fmt::Debug::fmt(x, f),
+        }
+    }
+}
+
 /// What follows an object in a member.
 pub type MemberProp = MemberPropOf<Part>;
 
 /// What follows `super` in a member.
-#[derive(Debug, Drop)]
+#[derive(Drop)]
 pub enum SuperPropOf<T> {
     Ident(IdentName),
     Computed(ComputedPropNameOf<T>),
+}
+
+impl<T: fmt::Debug> fmt::Debug for SuperPropOf<T> {
+    fn fmt<W: fmt::Write>(&self, f: &mut fmt::Formatter<W>) -> fmt::Result {
+        match self {
+            SuperPropOf::Ident(x) => fmt::Debug::fmt(x, f),
+            SuperPropOf::Computed(x) => fmt::Debug::fmt(x, f),
+        }
+    }
 }
 
 /// What follows `super` in a member.
 pub type SuperProp = SuperPropOf<Part>;
 
 /// What an optional chain ends with.
-#[derive(Debug, Drop)]
+#[derive(Drop)]
 pub enum OptChainBaseOf<T> {
     Member(MemberExprOf<T>),
     Call(OptCallOf<T>),
+}
+
+impl<T: fmt::Debug> fmt::Debug for OptChainBaseOf<T> {
+    fn fmt<W: fmt::Write>(&self, f: &mut fmt::Formatter<W>) -> fmt::Result {
+        match self {
+            OptChainBaseOf::Member(x) => fmt::Debug::fmt(x, f),
+            OptChainBaseOf::Call(x) => fmt::Debug::fmt(x, f),
+        }
+    }
 }
 
 /// What an optional chain ends with.
 pub type OptChainBase = OptChainBaseOf<Part>;
 
 /// The body of an arrow function.
-#[derive(Debug, Drop)]
+#[derive(Drop)]
 pub enum BlockStmtOrExprOf<T> {
     BlockStmt(BlockStmtOf<T>),
     Expr(Child<T, ExprTag>),
+}
+
+impl<T: fmt::Debug> fmt::Debug for BlockStmtOrExprOf<T> {
+    fn fmt<W: fmt::Write>(&self, f: &mut fmt::Formatter<W>) -> fmt::Result {
+        match self {
+            BlockStmtOrExprOf::BlockStmt(x) => fmt::Debug::fmt(x, f),
+            BlockStmtOrExprOf::Expr(x) => fmt::Debug::fmt(x, f),
+        }
+    }
 }
 
 /// The body of an arrow function.

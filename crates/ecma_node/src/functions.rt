@@ -4,6 +4,7 @@ use crate::literals::{BigInt, Number, Str};
 use crate::statements::{BlockStmtOf, EmptyStmt};
 use ecma_atom::Atom;
 use ecma_token::Span;
+use std::fmt;
 
 /// Parameters and body of a function or a method.
 #[derive(Debug, Drop)]
@@ -53,7 +54,7 @@ pub struct ClassOf<T> {
 pub type Class = ClassOf<Part>;
 
 /// A member of a class.
-#[derive(Debug, Drop)]
+#[derive(Drop)]
 pub enum ClassMemberOf<T> {
     Constructor(ConstructorOf<T>),
     Method(ClassMethodOf<T>),
@@ -63,6 +64,21 @@ pub enum ClassMemberOf<T> {
     StaticBlock(StaticBlockOf<T>),
     AutoAccessor(AutoAccessorOf<T>),
     Empty(EmptyStmt),
+}
+
+impl<T: fmt::Debug> fmt::Debug for ClassMemberOf<T> {
+    fn fmt<W: fmt::Write>(&self, f: &mut fmt::Formatter<W>) -> fmt::Result {
+        match self {
+            ClassMemberOf::Constructor(x) => fmt::Debug::fmt(x, f),
+            ClassMemberOf::Method(x) => fmt::Debug::fmt(x, f),
+            ClassMemberOf::PrivateMethod(x) => fmt::Debug::fmt(x, f),
+            ClassMemberOf::ClassProp(x) => fmt::Debug::fmt(x, f),
+            ClassMemberOf::PrivateProp(x) => fmt::Debug::fmt(x, f),
+            ClassMemberOf::StaticBlock(x) => fmt::Debug::fmt(x, f),
+            ClassMemberOf::AutoAccessor(x) => fmt::Debug::fmt(x, f),
+            ClassMemberOf::Empty(x) => fmt::Debug::fmt(x, f),
+        }
+    }
 }
 
 /// A member of a class.
@@ -164,23 +180,44 @@ pub enum MethodKind {
 }
 
 /// The key of an auto accessor.
-#[derive(Debug, Drop)]
+#[derive(Drop)]
 pub enum KeyOf<T> {
     Private(PrivateName),
     Public(PropNameOf<T>),
+}
+
+impl<T: fmt::Debug> fmt::Debug for KeyOf<T> {
+    fn fmt<W: fmt::Write>(&self, f: &mut fmt::Formatter<W>) -> fmt::Result {
+        match self {
+            KeyOf::Private(x) => fmt::Debug::fmt(x, f),
+            KeyOf::Public(x) => fmt::Debug::fmt(x, f),
+        }
+    }
 }
 
 /// The key of an auto accessor.
 pub type Key = KeyOf<Part>;
 
 /// The key of a property or of a member.
-#[derive(Debug, Drop)]
+#[derive(Drop)]
 pub enum PropNameOf<T> {
     Ident(IdentName),
     Str(Str),
     Num(Number),
     BigInt(Box<BigInt>),
     Computed(ComputedPropNameOf<T>),
+}
+
+impl<T: fmt::Debug> fmt::Debug for PropNameOf<T> {
+    fn fmt<W: fmt::Write>(&self, f: &mut fmt::Formatter<W>) -> fmt::Result {
+        match self {
+            PropNameOf::Ident(x) => fmt::Debug::fmt(x, f),
+            PropNameOf::Str(x) => fmt::Debug::fmt(x, f),
+            PropNameOf::Num(x) => fmt::Debug::fmt(x, f),
+            PropNameOf::BigInt(x) => fmt::Debug::fmt(x, f),
+            PropNameOf::Computed(x) => fmt::Debug::fmt(x, f),
+        }
+    }
 }
 
 /// The key of a property or of a member.

@@ -1,9 +1,10 @@
 //! Literals (ECMA-262, 13.2.3, 13.2.7 and 13.2.8).
 use ecma_atom::{Atom, StrValue};
 use ecma_token::{NumValue, Span};
+use std::fmt;
 
 /// A literal.
-#[derive(Debug, Drop)]
+#[derive(Drop)]
 pub enum Lit {
     Str(Str),
     Bool(Bool),
@@ -11,6 +12,19 @@ pub enum Lit {
     Num(Number),
     BigInt(BigInt),
     Regex(Regex),
+}
+
+impl fmt::Debug for Lit {
+    fn fmt<W: fmt::Write>(&self, f: &mut fmt::Formatter<W>) -> fmt::Result {
+        match self {
+            Lit::Str(x) => fmt::Debug::fmt(x, f),
+            Lit::Bool(x) => fmt::Debug::fmt(x, f),
+            Lit::Null(x) => fmt::Debug::fmt(x, f),
+            Lit::Num(x) => fmt::Debug::fmt(x, f),
+            Lit::BigInt(x) => fmt::Debug::fmt(x, f),
+            Lit::Regex(x) => fmt::Debug::fmt(x, f),
+        }
+    }
 }
 
 /// A string: its units, and its spelling with the quotes where it was read.

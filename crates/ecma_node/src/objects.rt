@@ -4,19 +4,29 @@ use crate::functions::{FunctionOf, PropNameOf};
 use crate::knot::{Child, ExprTag, Part, PatTag};
 use crate::statements::BlockStmtOf;
 use ecma_token::Span;
+use std::fmt;
 
 /// A part of an object.
-#[derive(Debug, Drop)]
+#[derive(Drop)]
 pub enum PropOrSpreadOf<T> {
     Spread(SpreadElementOf<T>),
     Prop(Box<PropOf<T>>),
+}
+
+impl<T: fmt::Debug> fmt::Debug for PropOrSpreadOf<T> {
+    fn fmt<W: fmt::Write>(&self, f: &mut fmt::Formatter<W>) -> fmt::Result {
+        match self {
+            PropOrSpreadOf::Spread(x) => fmt::Debug::fmt(x, f),
+            PropOrSpreadOf::Prop(x) => fmt::Debug::fmt(x, f),
+        }
+    }
 }
 
 /// A part of an object.
 pub type PropOrSpread = PropOrSpreadOf<Part>;
 
 /// A property of an object.
-#[derive(Debug, Drop)]
+#[derive(Drop)]
 pub enum PropOf<T> {
     Shorthand(Ident),
     KeyValue(KeyValuePropOf<T>),
@@ -24,6 +34,19 @@ pub enum PropOf<T> {
     Getter(GetterPropOf<T>),
     Setter(SetterPropOf<T>),
     Method(MethodPropOf<T>),
+}
+
+impl<T: fmt::Debug> fmt::Debug for PropOf<T> {
+    fn fmt<W: fmt::Write>(&self, f: &mut fmt::Formatter<W>) -> fmt::Result {
+        match self {
+            PropOf::Shorthand(x) => fmt::Debug::fmt(x, f),
+            PropOf::KeyValue(x) => fmt::Debug::fmt(x, f),
+            PropOf::Assign(x) => fmt::Debug::fmt(x, f),
+            PropOf::Getter(x) => fmt::Debug::fmt(x, f),
+            PropOf::Setter(x) => fmt::Debug::fmt(x, f),
+            PropOf::Method(x) => fmt::Debug::fmt(x, f),
+        }
+    }
 }
 
 /// A property of an object.

@@ -5,9 +5,10 @@ use crate::expressions::{
 use crate::functions::PropNameOf;
 use crate::knot::{Child, ExprTag, Part, PatTag};
 use ecma_token::Span;
+use std::fmt;
 
 /// A pattern of any kind.
-#[derive(Debug, Drop)]
+#[derive(Drop)]
 pub enum PatKindOf<T> {
     Ident(BindingIdent),
     Array(ArrayPatOf<T>),
@@ -16,6 +17,20 @@ pub enum PatKindOf<T> {
     Assign(AssignPatOf<T>),
     Expr(Child<T, ExprTag>),
     Invalid(Invalid),
+}
+
+impl<T: fmt::Debug> fmt::Debug for PatKindOf<T> {
+    fn fmt<W: fmt::Write>(&self, f: &mut fmt::Formatter<W>) -> fmt::Result {
+        match self {
+            PatKindOf::Ident(x) => fmt::Debug::fmt(x, f),
+            PatKindOf::Array(x) => fmt::Debug::fmt(x, f),
+            PatKindOf::Rest(x) => fmt::Debug::fmt(x, f),
+            PatKindOf::Object(x) => fmt::Debug::fmt(x, f),
+            PatKindOf::Assign(x) => fmt::Debug::fmt(x, f),
+            PatKindOf::Expr(x) => fmt::Debug::fmt(x, f),
+            PatKindOf::Invalid(x) => fmt::Debug::fmt(x, f),
+        }
+    }
 }
 
 /// A pattern of any kind.
@@ -71,11 +86,21 @@ pub struct AssignPatOf<T> {
 pub type AssignPat = AssignPatOf<Part>;
 
 /// A part of an object pattern.
-#[derive(Debug, Drop)]
+#[derive(Drop)]
 pub enum ObjectPatPropOf<T> {
     KeyValue(KeyValuePatPropOf<T>),
     Assign(AssignPatPropOf<T>),
     Rest(RestPatOf<T>),
+}
+
+impl<T: fmt::Debug> fmt::Debug for ObjectPatPropOf<T> {
+    fn fmt<W: fmt::Write>(&self, f: &mut fmt::Formatter<W>) -> fmt::Result {
+        match self {
+            ObjectPatPropOf::KeyValue(x) => fmt::Debug::fmt(x, f),
+            ObjectPatPropOf::Assign(x) => fmt::Debug::fmt(x, f),
+            ObjectPatPropOf::Rest(x) => fmt::Debug::fmt(x, f),
+        }
+    }
 }
 
 /// A part of an object pattern.
@@ -104,7 +129,7 @@ pub struct AssignPatPropOf<T> {
 pub type AssignPatProp = AssignPatPropOf<Part>;
 
 /// What an assignment assigns to.
-#[derive(Debug, Drop)]
+#[derive(Drop)]
 pub enum AssignTargetOf<T> {
     Ident(BindingIdent),
     Member(Box<MemberExprOf<T>>),
@@ -114,6 +139,21 @@ pub enum AssignTargetOf<T> {
     Array(ArrayPatOf<T>),
     Object(ObjectPatOf<T>),
     Invalid(Invalid),
+}
+
+impl<T: fmt::Debug> fmt::Debug for AssignTargetOf<T> {
+    fn fmt<W: fmt::Write>(&self, f: &mut fmt::Formatter<W>) -> fmt::Result {
+        match self {
+            AssignTargetOf::Ident(x) => fmt::Debug::fmt(x, f),
+            AssignTargetOf::Member(x) => fmt::Debug::fmt(x, f),
+            AssignTargetOf::SuperProp(x) => fmt::Debug::fmt(x, f),
+            AssignTargetOf::Paren(x) => fmt::Debug::fmt(x, f),
+            AssignTargetOf::OptChain(x) => fmt::Debug::fmt(x, f),
+            AssignTargetOf::Array(x) => fmt::Debug::fmt(x, f),
+            AssignTargetOf::Object(x) => fmt::Debug::fmt(x, f),
+            AssignTargetOf::Invalid(x) => fmt::Debug::fmt(x, f),
+        }
+    }
 }
 
 /// What an assignment assigns to.

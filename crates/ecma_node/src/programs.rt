@@ -5,12 +5,22 @@ use crate::knot::{Child, ExprTag, Part, StmtTag};
 use crate::literals::Str;
 use ecma_atom::Atom;
 use ecma_token::Span;
+use std::fmt;
 
 /// A script or a module.
-#[derive(Debug, Drop)]
+#[derive(Drop)]
 pub enum ProgramKindOf<T> {
     Script(ScriptOf<T>),
     Module(ModuleOf<T>),
+}
+
+impl<T: fmt::Debug> fmt::Debug for ProgramKindOf<T> {
+    fn fmt<W: fmt::Write>(&self, f: &mut fmt::Formatter<W>) -> fmt::Result {
+        match self {
+            ProgramKindOf::Script(x) => fmt::Debug::fmt(x, f),
+            ProgramKindOf::Module(x) => fmt::Debug::fmt(x, f),
+        }
+    }
 }
 
 /// A script or a module.
@@ -61,10 +71,18 @@ impl<T: Drop> Drop for ModuleOf<T> {
 pub type Module = ModuleOf<Part>;
 
 /// A part of a module.
-#[derive(Debug)]
 pub enum ModuleItemOf<T> {
     ModuleDecl(ModuleDeclOf<T>),
     Stmt(Child<T, StmtTag>),
+}
+
+impl<T: fmt::Debug> fmt::Debug for ModuleItemOf<T> {
+    fn fmt<W: fmt::Write>(&self, f: &mut fmt::Formatter<W>) -> fmt::Result {
+        match self {
+            ModuleItemOf::ModuleDecl(x) => fmt::Debug::fmt(x, f),
+            ModuleItemOf::Stmt(x) => fmt::Debug::fmt(x, f),
+        }
+    }
 }
 
 impl<T: Drop> Drop for ModuleItemOf<T> {
@@ -81,7 +99,7 @@ impl<T: Drop> Drop for ModuleItemOf<T> {
 pub type ModuleItem = ModuleItemOf<Part>;
 
 /// An import or an export.
-#[derive(Debug, Drop)]
+#[derive(Drop)]
 pub enum ModuleDeclOf<T> {
     Import(ImportDeclOf<T>),
     ExportDecl(ExportDeclOf<T>),
@@ -89,6 +107,19 @@ pub enum ModuleDeclOf<T> {
     ExportDefaultDecl(ExportDefaultDeclOf<T>),
     ExportDefaultExpr(ExportDefaultExprOf<T>),
     ExportAll(ExportAllOf<T>),
+}
+
+impl<T: fmt::Debug> fmt::Debug for ModuleDeclOf<T> {
+    fn fmt<W: fmt::Write>(&self, f: &mut fmt::Formatter<W>) -> fmt::Result {
+        match self {
+            ModuleDeclOf::Import(x) => fmt::Debug::fmt(x, f),
+            ModuleDeclOf::ExportDecl(x) => fmt::Debug::fmt(x, f),
+            ModuleDeclOf::ExportNamed(x) => fmt::Debug::fmt(x, f),
+            ModuleDeclOf::ExportDefaultDecl(x) => fmt::Debug::fmt(x, f),
+            ModuleDeclOf::ExportDefaultExpr(x) => fmt::Debug::fmt(x, f),
+            ModuleDeclOf::ExportAll(x) => fmt::Debug::fmt(x, f),
+        }
+    }
 }
 
 /// An import or an export.
@@ -160,21 +191,40 @@ pub struct ExportAllOf<T> {
 pub type ExportAll = ExportAllOf<Part>;
 
 /// A function or a class after `export default`, with or without a name.
-#[derive(Debug, Drop)]
+#[derive(Drop)]
 pub enum DefaultDeclOf<T> {
     Class(ClassExprOf<T>),
     Fn(FnExprOf<T>),
+}
+
+impl<T: fmt::Debug> fmt::Debug for DefaultDeclOf<T> {
+    fn fmt<W: fmt::Write>(&self, f: &mut fmt::Formatter<W>) -> fmt::Result {
+        match self {
+            DefaultDeclOf::Class(x) => fmt::Debug::fmt(x, f),
+            DefaultDeclOf::Fn(x) => fmt::Debug::fmt(x, f),
+        }
+    }
 }
 
 /// A function or a class after `export default`, with or without a name.
 pub type DefaultDecl = DefaultDeclOf<Part>;
 
 /// What an import brings.
-#[derive(Debug, Drop)]
+#[derive(Drop)]
 pub enum ImportSpecifier {
     Named(ImportNamedSpecifier),
     Default(ImportDefaultSpecifier),
     Namespace(ImportStarAsSpecifier),
+}
+
+impl fmt::Debug for ImportSpecifier {
+    fn fmt<W: fmt::Write>(&self, f: &mut fmt::Formatter<W>) -> fmt::Result {
+        match self {
+            ImportSpecifier::Named(x) => fmt::Debug::fmt(x, f),
+            ImportSpecifier::Default(x) => fmt::Debug::fmt(x, f),
+            ImportSpecifier::Namespace(x) => fmt::Debug::fmt(x, f),
+        }
+    }
 }
 
 /// `imported as local` between braces, or `local` alone.
@@ -200,11 +250,21 @@ pub struct ImportStarAsSpecifier {
 }
 
 /// What an export gives.
-#[derive(Debug, Drop)]
+#[derive(Drop)]
 pub enum ExportSpecifier {
     Namespace(ExportNamespaceSpecifier),
     Default(ExportDefaultSpecifier),
     Named(ExportNamedSpecifier),
+}
+
+impl fmt::Debug for ExportSpecifier {
+    fn fmt<W: fmt::Write>(&self, f: &mut fmt::Formatter<W>) -> fmt::Result {
+        match self {
+            ExportSpecifier::Namespace(x) => fmt::Debug::fmt(x, f),
+            ExportSpecifier::Default(x) => fmt::Debug::fmt(x, f),
+            ExportSpecifier::Named(x) => fmt::Debug::fmt(x, f),
+        }
+    }
 }
 
 /// `* as name`.
@@ -230,8 +290,17 @@ pub struct ExportNamedSpecifier {
 }
 
 /// The name of an export: a word or a string.
-#[derive(Debug, Drop)]
+#[derive(Drop)]
 pub enum ModuleExportName {
     Ident(Ident),
     Str(Str),
+}
+
+impl fmt::Debug for ModuleExportName {
+    fn fmt<W: fmt::Write>(&self, f: &mut fmt::Formatter<W>) -> fmt::Result {
+        match self {
+            ModuleExportName::Ident(x) => fmt::Debug::fmt(x, f),
+            ModuleExportName::Str(x) => fmt::Debug::fmt(x, f),
+        }
+    }
 }

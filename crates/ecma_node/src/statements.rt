@@ -3,9 +3,10 @@ use crate::declarations::{DeclOf, UsingDeclOf, VarDeclOf};
 use crate::expressions::Ident;
 use crate::knot::{Child, ExprTag, Part, PatTag, StmtTag};
 use ecma_token::Span;
+use std::fmt;
 
 /// A statement or a declaration, of any kind.
-#[derive(Debug, Drop)]
+#[derive(Drop)]
 pub enum StmtKindOf<T> {
     Block(BlockStmtOf<T>),
     Empty(EmptyStmt),
@@ -26,6 +27,32 @@ pub enum StmtKindOf<T> {
     ForOf(ForOfStmtOf<T>),
     Decl(DeclOf<T>),
     Expr(ExprStmtOf<T>),
+}
+
+impl<T: fmt::Debug> fmt::Debug for StmtKindOf<T> {
+    fn fmt<W: fmt::Write>(&self, f: &mut fmt::Formatter<W>) -> fmt::Result {
+        match self {
+            StmtKindOf::Block(x) => fmt::Debug::fmt(x, f),
+            StmtKindOf::Empty(x) => fmt::Debug::fmt(x, f),
+            StmtKindOf::Debugger(x) => fmt::Debug::fmt(x, f),
+            StmtKindOf::With(x) => fmt::Debug::fmt(x, f),
+            StmtKindOf::Return(x) => fmt::Debug::fmt(x, f),
+            StmtKindOf::Labeled(x) => fmt::Debug::fmt(x, f),
+            StmtKindOf::Break(x) => fmt::Debug::fmt(x, f),
+            StmtKindOf::Continue(x) => fmt::Debug::fmt(x, f),
+            StmtKindOf::If(x) => fmt::Debug::fmt(x, f),
+            StmtKindOf::Switch(x) => fmt::Debug::fmt(x, f),
+            StmtKindOf::Throw(x) => fmt::Debug::fmt(x, f),
+            StmtKindOf::Try(x) => fmt::Debug::fmt(x, f),
+            StmtKindOf::While(x) => fmt::Debug::fmt(x, f),
+            StmtKindOf::DoWhile(x) => fmt::Debug::fmt(x, f),
+            StmtKindOf::For(x) => fmt::Debug::fmt(x, f),
+            StmtKindOf::ForIn(x) => fmt::Debug::fmt(x, f),
+            StmtKindOf::ForOf(x) => fmt::Debug::fmt(x, f),
+            StmtKindOf::Decl(x) => fmt::Debug::fmt(x, f),
+            StmtKindOf::Expr(x) => fmt::Debug::fmt(x, f),
+        }
+    }
 }
 
 /// A statement or a declaration, of any kind.
@@ -237,22 +264,42 @@ pub struct ExprStmtOf<T> {
 pub type ExprStmt = ExprStmtOf<Part>;
 
 /// What a `for` begins with.
-#[derive(Debug, Drop)]
+#[derive(Drop)]
 pub enum VarDeclOrExprOf<T> {
     VarDecl(Box<VarDeclOf<T>>),
     UsingDecl(Box<UsingDeclOf<T>>),
     Expr(Child<T, ExprTag>),
 }
 
+impl<T: fmt::Debug> fmt::Debug for VarDeclOrExprOf<T> {
+    fn fmt<W: fmt::Write>(&self, f: &mut fmt::Formatter<W>) -> fmt::Result {
+        match self {
+            VarDeclOrExprOf::VarDecl(x) => fmt::Debug::fmt(x, f),
+            VarDeclOrExprOf::UsingDecl(x) => fmt::Debug::fmt(x, f),
+            VarDeclOrExprOf::Expr(x) => fmt::Debug::fmt(x, f),
+        }
+    }
+}
+
 /// What a `for` begins with.
 pub type VarDeclOrExpr = VarDeclOrExprOf<Part>;
 
 /// What a `for` with `in` or `of` binds or assigns to.
-#[derive(Debug, Drop)]
+#[derive(Drop)]
 pub enum ForHeadOf<T> {
     VarDecl(Box<VarDeclOf<T>>),
     UsingDecl(Box<UsingDeclOf<T>>),
     Pat(Child<T, PatTag>),
+}
+
+impl<T: fmt::Debug> fmt::Debug for ForHeadOf<T> {
+    fn fmt<W: fmt::Write>(&self, f: &mut fmt::Formatter<W>) -> fmt::Result {
+        match self {
+            ForHeadOf::VarDecl(x) => fmt::Debug::fmt(x, f),
+            ForHeadOf::UsingDecl(x) => fmt::Debug::fmt(x, f),
+            ForHeadOf::Pat(x) => fmt::Debug::fmt(x, f),
+        }
+    }
 }
 
 /// What a `for` with `in` or `of` binds or assigns to.

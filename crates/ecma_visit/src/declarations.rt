@@ -2,7 +2,8 @@
 ghost use Rattle.ecma_node.specs.View.{view_decl, view_class_decl, view_fn_decl, view_var_decl, view_using_decl, view_var_declarator};
 
 use crate::kinds::Kind;
-use crate::watch::{Inside, Node, Walk, Watch};
+use crate::lists::{walk_all, walk_part};
+use crate::watch::{Inside, Walk, Watch, enter_part, leave_part};
 use ecma_node::{ClassDeclOf, DeclOf, FnDeclOf, UsingDeclOf, VarDeclOf, VarDeclaratorOf};
 
 impl<T: Walk> Inside for DeclOf<T> {
@@ -44,9 +45,9 @@ impl<T: Walk> Walk for ClassDeclOf<T> {
     ghost tree = { view_class_decl T.tree };
 
     fn walk<V: Watch>(&self, visitor: &mut V) {
-        visitor.enter(Node::Part(Kind::ClassDecl, self.span));
+        enter_part(Kind::ClassDecl, self.span, visitor);
         self.inside(visitor);
-        visitor.leave(Node::Part(Kind::ClassDecl, self.span));
+        leave_part(Kind::ClassDecl, self.span, visitor);
     }
 }
 
@@ -63,9 +64,9 @@ impl<T: Walk> Walk for FnDeclOf<T> {
     ghost tree = { view_fn_decl T.tree };
 
     fn walk<V: Watch>(&self, visitor: &mut V) {
-        visitor.enter(Node::Part(Kind::FnDecl, self.span));
+        enter_part(Kind::FnDecl, self.span, visitor);
         self.inside(visitor);
-        visitor.leave(Node::Part(Kind::FnDecl, self.span));
+        leave_part(Kind::FnDecl, self.span, visitor);
     }
 }
 
@@ -73,7 +74,7 @@ impl<T: Walk> Inside for VarDeclOf<T> {
     ghost tree = { view_var_decl T.tree };
 
     fn inside<V: Watch>(&self, visitor: &mut V) {
-        self.decls.walk(visitor);
+        walk_all(self.decls.as_slice(), visitor);
     }
 }
 
@@ -81,9 +82,9 @@ impl<T: Walk> Walk for VarDeclOf<T> {
     ghost tree = { view_var_decl T.tree };
 
     fn walk<V: Watch>(&self, visitor: &mut V) {
-        visitor.enter(Node::Part(Kind::VarDecl, self.span));
+        enter_part(Kind::VarDecl, self.span, visitor);
         self.inside(visitor);
-        visitor.leave(Node::Part(Kind::VarDecl, self.span));
+        leave_part(Kind::VarDecl, self.span, visitor);
     }
 }
 
@@ -91,7 +92,7 @@ impl<T: Walk> Inside for UsingDeclOf<T> {
     ghost tree = { view_using_decl T.tree };
 
     fn inside<V: Watch>(&self, visitor: &mut V) {
-        self.decls.walk(visitor);
+        walk_all(self.decls.as_slice(), visitor);
     }
 }
 
@@ -99,9 +100,9 @@ impl<T: Walk> Walk for UsingDeclOf<T> {
     ghost tree = { view_using_decl T.tree };
 
     fn walk<V: Watch>(&self, visitor: &mut V) {
-        visitor.enter(Node::Part(Kind::UsingDecl, self.span));
+        enter_part(Kind::UsingDecl, self.span, visitor);
         self.inside(visitor);
-        visitor.leave(Node::Part(Kind::UsingDecl, self.span));
+        leave_part(Kind::UsingDecl, self.span, visitor);
     }
 }
 
@@ -109,9 +110,9 @@ impl<T: Walk> Walk for VarDeclaratorOf<T> {
     ghost tree = { view_var_declarator T.tree };
 
     fn walk<V: Watch>(&self, visitor: &mut V) {
-        visitor.enter(Node::Part(Kind::VarDeclarator, self.span));
+        enter_part(Kind::VarDeclarator, self.span, visitor);
         self.name.walk(visitor);
-        self.init.walk(visitor);
-        visitor.leave(Node::Part(Kind::VarDeclarator, self.span));
+        walk_part(&self.init, visitor);
+        leave_part(Kind::VarDeclarator, self.span, visitor);
     }
 }

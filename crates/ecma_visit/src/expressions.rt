@@ -2,8 +2,8 @@
 ghost use Rattle.ecma_node.specs.View.{view_expr_kind, view_array_lit, view_object_lit, view_fn_expr, view_unary_expr, view_update_expr, view_bin_expr, view_assign_expr, view_member_expr, view_super_prop_expr, view_cond_expr, view_call_expr, view_new_expr, view_seq_expr, view_ident, view_tpl, view_tpl_element, view_tagged_tpl, view_arrow_expr, view_class_expr, view_yield_expr, view_await_expr, view_paren_expr, view_opt_chain_expr, view_opt_call, view_super, view_import, view_invalid, view_expr_or_spread, view_spread_element, view_callee, view_member_prop, view_super_prop, view_opt_chain_base, view_block_stmt_or_expr};
 
 use crate::kinds::Kind;
-use crate::lists::{walk_elements, walk_template};
-use crate::watch::{Inside, Node, Walk, Watch};
+use crate::lists::{walk_all, walk_elements, walk_part, walk_template};
+use crate::watch::{Inside, Node, Walk, Watch, enter_part, leave_part};
 use ecma_node::{
     ArrayLitOf, ArrowExprOf, AssignExprOf, AwaitExprOf, BinExprOf, BlockStmtOrExprOf, CallExprOf,
     CalleeOf, ClassExprOf, CondExprOf, ExprKindOf, ExprOrSpreadOf, FnExprOf, Ident, Import,
@@ -60,7 +60,7 @@ impl<T: Walk> Inside for ObjectLitOf<T> {
     ghost tree = { view_object_lit T.tree };
 
     fn inside<V: Watch>(&self, visitor: &mut V) {
-        self.props.walk(visitor);
+        walk_all(self.props.as_slice(), visitor);
     }
 }
 
@@ -68,9 +68,9 @@ impl<T: Walk> Walk for ObjectLitOf<T> {
     ghost tree = { view_object_lit T.tree };
 
     fn walk<V: Watch>(&self, visitor: &mut V) {
-        visitor.enter(Node::Part(Kind::ObjectLit, self.span));
+        enter_part(Kind::ObjectLit, self.span, visitor);
         self.inside(visitor);
-        visitor.leave(Node::Part(Kind::ObjectLit, self.span));
+        leave_part(Kind::ObjectLit, self.span, visitor);
     }
 }
 
@@ -78,7 +78,7 @@ impl<T: Walk> Inside for FnExprOf<T> {
     ghost tree = { view_fn_expr T.tree };
 
     fn inside<V: Watch>(&self, visitor: &mut V) {
-        self.ident.walk(visitor);
+        walk_part(&self.ident, visitor);
         self.function.walk(visitor);
     }
 }
@@ -87,9 +87,9 @@ impl<T: Walk> Walk for FnExprOf<T> {
     ghost tree = { view_fn_expr T.tree };
 
     fn walk<V: Watch>(&self, visitor: &mut V) {
-        visitor.enter(Node::Part(Kind::FnExpr, self.span));
+        enter_part(Kind::FnExpr, self.span, visitor);
         self.inside(visitor);
-        visitor.leave(Node::Part(Kind::FnExpr, self.span));
+        leave_part(Kind::FnExpr, self.span, visitor);
     }
 }
 
@@ -140,9 +140,9 @@ impl<T: Walk> Walk for MemberExprOf<T> {
     ghost tree = { view_member_expr T.tree };
 
     fn walk<V: Watch>(&self, visitor: &mut V) {
-        visitor.enter(Node::Part(Kind::MemberExpr, self.span));
+        enter_part(Kind::MemberExpr, self.span, visitor);
         self.inside(visitor);
-        visitor.leave(Node::Part(Kind::MemberExpr, self.span));
+        leave_part(Kind::MemberExpr, self.span, visitor);
     }
 }
 
@@ -159,9 +159,9 @@ impl<T: Walk> Walk for SuperPropExprOf<T> {
     ghost tree = { view_super_prop_expr T.tree };
 
     fn walk<V: Watch>(&self, visitor: &mut V) {
-        visitor.enter(Node::Part(Kind::SuperPropExpr, self.span));
+        enter_part(Kind::SuperPropExpr, self.span, visitor);
         self.inside(visitor);
-        visitor.leave(Node::Part(Kind::SuperPropExpr, self.span));
+        leave_part(Kind::SuperPropExpr, self.span, visitor);
     }
 }
 
@@ -180,7 +180,7 @@ impl<T: Walk> Inside for CallExprOf<T> {
 
     fn inside<V: Watch>(&self, visitor: &mut V) {
         self.callee.walk(visitor);
-        self.args.walk(visitor);
+        walk_all(self.args.as_slice(), visitor);
     }
 }
 
@@ -189,7 +189,7 @@ impl<T: Walk> Inside for NewExprOf<T> {
 
     fn inside<V: Watch>(&self, visitor: &mut V) {
         self.callee.walk(visitor);
-        self.args.walk(visitor);
+        walk_part(&self.args, visitor);
     }
 }
 
@@ -197,7 +197,7 @@ impl<T: Walk> Inside for SeqExprOf<T> {
     ghost tree = { view_seq_expr T.tree };
 
     fn inside<V: Watch>(&self, visitor: &mut V) {
-        self.exprs.walk(visitor);
+        walk_all(self.exprs.as_slice(), visitor);
     }
 }
 
@@ -222,9 +222,9 @@ impl<T: Walk> Walk for TplOf<T> {
     ghost tree = { view_tpl T.tree };
 
     fn walk<V: Watch>(&self, visitor: &mut V) {
-        visitor.enter(Node::Part(Kind::Tpl, self.span));
+        enter_part(Kind::Tpl, self.span, visitor);
         self.inside(visitor);
-        visitor.leave(Node::Part(Kind::Tpl, self.span));
+        leave_part(Kind::Tpl, self.span, visitor);
     }
 }
 
@@ -250,7 +250,7 @@ impl<T: Walk> Inside for ArrowExprOf<T> {
     ghost tree = { view_arrow_expr T.tree };
 
     fn inside<V: Watch>(&self, visitor: &mut V) {
-        self.params.walk(visitor);
+        walk_all(self.params.as_slice(), visitor);
         self.body.walk(visitor);
     }
 }
@@ -259,7 +259,7 @@ impl<T: Walk> Inside for ClassExprOf<T> {
     ghost tree = { view_class_expr T.tree };
 
     fn inside<V: Watch>(&self, visitor: &mut V) {
-        self.ident.walk(visitor);
+        walk_part(&self.ident, visitor);
         self.class.walk(visitor);
     }
 }
@@ -268,9 +268,9 @@ impl<T: Walk> Walk for ClassExprOf<T> {
     ghost tree = { view_class_expr T.tree };
 
     fn walk<V: Watch>(&self, visitor: &mut V) {
-        visitor.enter(Node::Part(Kind::ClassExpr, self.span));
+        enter_part(Kind::ClassExpr, self.span, visitor);
         self.inside(visitor);
-        visitor.leave(Node::Part(Kind::ClassExpr, self.span));
+        leave_part(Kind::ClassExpr, self.span, visitor);
     }
 }
 
@@ -278,7 +278,7 @@ impl<T: Walk> Inside for YieldExprOf<T> {
     ghost tree = { view_yield_expr T.tree };
 
     fn inside<V: Watch>(&self, visitor: &mut V) {
-        self.arg.walk(visitor);
+        walk_part(&self.arg, visitor);
     }
 }
 
@@ -302,9 +302,9 @@ impl<T: Walk> Walk for ParenExprOf<T> {
     ghost tree = { view_paren_expr T.tree };
 
     fn walk<V: Watch>(&self, visitor: &mut V) {
-        visitor.enter(Node::Part(Kind::ParenExpr, self.span));
+        enter_part(Kind::ParenExpr, self.span, visitor);
         self.inside(visitor);
-        visitor.leave(Node::Part(Kind::ParenExpr, self.span));
+        leave_part(Kind::ParenExpr, self.span, visitor);
     }
 }
 
@@ -320,9 +320,9 @@ impl<T: Walk> Walk for OptChainExprOf<T> {
     ghost tree = { view_opt_chain_expr T.tree };
 
     fn walk<V: Watch>(&self, visitor: &mut V) {
-        visitor.enter(Node::Part(Kind::OptChainExpr, self.span));
+        enter_part(Kind::OptChainExpr, self.span, visitor);
         self.inside(visitor);
-        visitor.leave(Node::Part(Kind::OptChainExpr, self.span));
+        leave_part(Kind::OptChainExpr, self.span, visitor);
     }
 }
 
@@ -330,10 +330,10 @@ impl<T: Walk> Walk for OptCallOf<T> {
     ghost tree = { view_opt_call T.tree };
 
     fn walk<V: Watch>(&self, visitor: &mut V) {
-        visitor.enter(Node::Part(Kind::OptCall, self.span));
+        enter_part(Kind::OptCall, self.span, visitor);
         self.callee.walk(visitor);
-        self.args.walk(visitor);
-        visitor.leave(Node::Part(Kind::OptCall, self.span));
+        walk_all(self.args.as_slice(), visitor);
+        leave_part(Kind::OptCall, self.span, visitor);
     }
 }
 
@@ -341,8 +341,8 @@ impl Walk for Super {
     ghost tree = { view_super };
 
     fn walk<V: Watch>(&self, visitor: &mut V) {
-        visitor.enter(Node::Part(Kind::Super, self.span));
-        visitor.leave(Node::Part(Kind::Super, self.span));
+        enter_part(Kind::Super, self.span, visitor);
+        leave_part(Kind::Super, self.span, visitor);
     }
 }
 
@@ -350,8 +350,8 @@ impl Walk for Import {
     ghost tree = { view_import };
 
     fn walk<V: Watch>(&self, visitor: &mut V) {
-        visitor.enter(Node::Part(Kind::Import, self.span));
-        visitor.leave(Node::Part(Kind::Import, self.span));
+        enter_part(Kind::Import, self.span, visitor);
+        leave_part(Kind::Import, self.span, visitor);
     }
 }
 
@@ -359,8 +359,8 @@ impl Walk for Invalid {
     ghost tree = { view_invalid };
 
     fn walk<V: Watch>(&self, visitor: &mut V) {
-        visitor.enter(Node::Part(Kind::Invalid, self.span));
-        visitor.leave(Node::Part(Kind::Invalid, self.span));
+        enter_part(Kind::Invalid, self.span, visitor);
+        leave_part(Kind::Invalid, self.span, visitor);
     }
 }
 
@@ -368,9 +368,9 @@ impl<T: Walk> Walk for ExprOrSpreadOf<T> {
     ghost tree = { view_expr_or_spread T.tree };
 
     fn walk<V: Watch>(&self, visitor: &mut V) {
-        visitor.enter(Node::Part(Kind::ExprOrSpread, self.span));
+        enter_part(Kind::ExprOrSpread, self.span, visitor);
         self.expr.walk(visitor);
-        visitor.leave(Node::Part(Kind::ExprOrSpread, self.span));
+        leave_part(Kind::ExprOrSpread, self.span, visitor);
     }
 }
 
@@ -378,9 +378,9 @@ impl<T: Walk> Walk for SpreadElementOf<T> {
     ghost tree = { view_spread_element T.tree };
 
     fn walk<V: Watch>(&self, visitor: &mut V) {
-        visitor.enter(Node::Part(Kind::SpreadElement, self.span));
+        enter_part(Kind::SpreadElement, self.span, visitor);
         self.expr.walk(visitor);
-        visitor.leave(Node::Part(Kind::SpreadElement, self.span));
+        leave_part(Kind::SpreadElement, self.span, visitor);
     }
 }
 

@@ -2,7 +2,8 @@
 ghost use Rattle.ecma_node.specs.View.{view_function, view_param, view_decorator, view_class, view_class_member, view_constructor, view_class_method, view_private_method, view_class_prop, view_private_prop, view_static_block, view_auto_accessor, view_key, view_prop_name, view_ident_name, view_computed_prop_name, view_private_name};
 
 use crate::kinds::Kind;
-use crate::watch::{Node, Walk, Watch};
+use crate::lists::{walk_all, walk_part};
+use crate::watch::{Node, Walk, Watch, enter_part, leave_part};
 use ecma_node::{
     AutoAccessorOf, ClassMemberOf, ClassMethodOf, ClassOf, ClassPropOf, ComputedPropNameOf,
     ConstructorOf, DecoratorOf, FunctionOf, IdentName, KeyOf, ParamOf, PrivateMethodOf,
@@ -13,11 +14,11 @@ impl<T: Walk> Walk for FunctionOf<T> {
     ghost tree = { view_function T.tree };
 
     fn walk<V: Watch>(&self, visitor: &mut V) {
-        visitor.enter(Node::Part(Kind::Function, self.span));
-        self.decorators.walk(visitor);
-        self.params.walk(visitor);
+        enter_part(Kind::Function, self.span, visitor);
+        walk_all(self.decorators.as_slice(), visitor);
+        walk_all(self.params.as_slice(), visitor);
         self.body.walk(visitor);
-        visitor.leave(Node::Part(Kind::Function, self.span));
+        leave_part(Kind::Function, self.span, visitor);
     }
 }
 
@@ -25,10 +26,10 @@ impl<T: Walk> Walk for ParamOf<T> {
     ghost tree = { view_param T.tree };
 
     fn walk<V: Watch>(&self, visitor: &mut V) {
-        visitor.enter(Node::Part(Kind::Param, self.span));
-        self.decorators.walk(visitor);
+        enter_part(Kind::Param, self.span, visitor);
+        walk_all(self.decorators.as_slice(), visitor);
         self.pat.walk(visitor);
-        visitor.leave(Node::Part(Kind::Param, self.span));
+        leave_part(Kind::Param, self.span, visitor);
     }
 }
 
@@ -36,9 +37,9 @@ impl<T: Walk> Walk for DecoratorOf<T> {
     ghost tree = { view_decorator T.tree };
 
     fn walk<V: Watch>(&self, visitor: &mut V) {
-        visitor.enter(Node::Part(Kind::Decorator, self.span));
+        enter_part(Kind::Decorator, self.span, visitor);
         self.expr.walk(visitor);
-        visitor.leave(Node::Part(Kind::Decorator, self.span));
+        leave_part(Kind::Decorator, self.span, visitor);
     }
 }
 
@@ -46,11 +47,11 @@ impl<T: Walk> Walk for ClassOf<T> {
     ghost tree = { view_class T.tree };
 
     fn walk<V: Watch>(&self, visitor: &mut V) {
-        visitor.enter(Node::Part(Kind::Class, self.span));
-        self.decorators.walk(visitor);
-        self.super_class.walk(visitor);
-        self.body.walk(visitor);
-        visitor.leave(Node::Part(Kind::Class, self.span));
+        enter_part(Kind::Class, self.span, visitor);
+        walk_all(self.decorators.as_slice(), visitor);
+        walk_part(&self.super_class, visitor);
+        walk_all(self.body.as_slice(), visitor);
+        leave_part(Kind::Class, self.span, visitor);
     }
 }
 
@@ -75,11 +76,11 @@ impl<T: Walk> Walk for ConstructorOf<T> {
     ghost tree = { view_constructor T.tree };
 
     fn walk<V: Watch>(&self, visitor: &mut V) {
-        visitor.enter(Node::Part(Kind::Constructor, self.span));
+        enter_part(Kind::Constructor, self.span, visitor);
         self.key.walk(visitor);
-        self.params.walk(visitor);
+        walk_all(self.params.as_slice(), visitor);
         self.body.walk(visitor);
-        visitor.leave(Node::Part(Kind::Constructor, self.span));
+        leave_part(Kind::Constructor, self.span, visitor);
     }
 }
 
@@ -87,10 +88,10 @@ impl<T: Walk> Walk for ClassMethodOf<T> {
     ghost tree = { view_class_method T.tree };
 
     fn walk<V: Watch>(&self, visitor: &mut V) {
-        visitor.enter(Node::Part(Kind::ClassMethod, self.span));
+        enter_part(Kind::ClassMethod, self.span, visitor);
         self.key.walk(visitor);
         self.function.walk(visitor);
-        visitor.leave(Node::Part(Kind::ClassMethod, self.span));
+        leave_part(Kind::ClassMethod, self.span, visitor);
     }
 }
 
@@ -98,10 +99,10 @@ impl<T: Walk> Walk for PrivateMethodOf<T> {
     ghost tree = { view_private_method T.tree };
 
     fn walk<V: Watch>(&self, visitor: &mut V) {
-        visitor.enter(Node::Part(Kind::PrivateMethod, self.span));
+        enter_part(Kind::PrivateMethod, self.span, visitor);
         self.key.walk(visitor);
         self.function.walk(visitor);
-        visitor.leave(Node::Part(Kind::PrivateMethod, self.span));
+        leave_part(Kind::PrivateMethod, self.span, visitor);
     }
 }
 
@@ -109,11 +110,11 @@ impl<T: Walk> Walk for ClassPropOf<T> {
     ghost tree = { view_class_prop T.tree };
 
     fn walk<V: Watch>(&self, visitor: &mut V) {
-        visitor.enter(Node::Part(Kind::ClassProp, self.span));
-        self.decorators.walk(visitor);
+        enter_part(Kind::ClassProp, self.span, visitor);
+        walk_all(self.decorators.as_slice(), visitor);
         self.key.walk(visitor);
-        self.value.walk(visitor);
-        visitor.leave(Node::Part(Kind::ClassProp, self.span));
+        walk_part(&self.value, visitor);
+        leave_part(Kind::ClassProp, self.span, visitor);
     }
 }
 
@@ -121,11 +122,11 @@ impl<T: Walk> Walk for PrivatePropOf<T> {
     ghost tree = { view_private_prop T.tree };
 
     fn walk<V: Watch>(&self, visitor: &mut V) {
-        visitor.enter(Node::Part(Kind::PrivateProp, self.span));
-        self.decorators.walk(visitor);
+        enter_part(Kind::PrivateProp, self.span, visitor);
+        walk_all(self.decorators.as_slice(), visitor);
         self.key.walk(visitor);
-        self.value.walk(visitor);
-        visitor.leave(Node::Part(Kind::PrivateProp, self.span));
+        walk_part(&self.value, visitor);
+        leave_part(Kind::PrivateProp, self.span, visitor);
     }
 }
 
@@ -133,9 +134,9 @@ impl<T: Walk> Walk for StaticBlockOf<T> {
     ghost tree = { view_static_block T.tree };
 
     fn walk<V: Watch>(&self, visitor: &mut V) {
-        visitor.enter(Node::Part(Kind::StaticBlock, self.span));
+        enter_part(Kind::StaticBlock, self.span, visitor);
         self.body.walk(visitor);
-        visitor.leave(Node::Part(Kind::StaticBlock, self.span));
+        leave_part(Kind::StaticBlock, self.span, visitor);
     }
 }
 
@@ -143,11 +144,11 @@ impl<T: Walk> Walk for AutoAccessorOf<T> {
     ghost tree = { view_auto_accessor T.tree };
 
     fn walk<V: Watch>(&self, visitor: &mut V) {
-        visitor.enter(Node::Part(Kind::AutoAccessor, self.span));
-        self.decorators.walk(visitor);
+        enter_part(Kind::AutoAccessor, self.span, visitor);
+        walk_all(self.decorators.as_slice(), visitor);
         self.key.walk(visitor);
-        self.value.walk(visitor);
-        visitor.leave(Node::Part(Kind::AutoAccessor, self.span));
+        walk_part(&self.value, visitor);
+        leave_part(Kind::AutoAccessor, self.span, visitor);
     }
 }
 
@@ -189,9 +190,9 @@ impl<T: Walk> Walk for ComputedPropNameOf<T> {
     ghost tree = { view_computed_prop_name T.tree };
 
     fn walk<V: Watch>(&self, visitor: &mut V) {
-        visitor.enter(Node::Part(Kind::ComputedPropName, self.span));
+        enter_part(Kind::ComputedPropName, self.span, visitor);
         self.expr.walk(visitor);
-        visitor.leave(Node::Part(Kind::ComputedPropName, self.span));
+        leave_part(Kind::ComputedPropName, self.span, visitor);
     }
 }
 

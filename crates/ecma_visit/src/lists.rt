@@ -1,9 +1,9 @@
-//! Goes over lists.
+//! Goes over lists, and over what may be left out.
 ghost use Rattle.std.specs.Prelude.{◌≡◌};
 ghost use Rattle.ecma_node.specs.View.{view_tpl_element};
-ghost use Rattle.ecma_tree.specs.Tree.{trees_by, element_by, list};
+ghost use Rattle.ecma_tree.specs.Tree.{trees_by, part_by, element_by, list};
 ghost use Rattle.ecma_tree.specs.Folds.{folds};
-ghost use Rattle.ecma_visit.specs.Walk.{walk_of_all, walk_step, by_turns};
+ghost use Rattle.ecma_visit.specs.Walk.{walk_of, walk_of_all, walk_step, by_turns};
 
 use crate::watch::{Walk, Watch};
 use ecma_node::TplElement;
@@ -16,8 +16,25 @@ impl<T: Walk> Walk for Vec<T> {
     }
 }
 
+impl<T: Walk> Walk for Option<T> {
+    ghost tree = { part_by T.tree };
+
+    fn walk<V: Watch>(&self, visitor: &mut V) {
+        walk_part(self, visitor);
+    }
+}
+
+/// Goes over a part that may be left out.
+pub(crate) fn walk_part<T: Walk, V: Watch>(part: &Option<T>, visitor: &mut V)
+    ensures { V.state visitor.new ≡ walk_of V.step (part_by T.tree part.now) (V.state visitor.old) }
+{
+    if let Some(x) = part {
+        x.walk(visitor);
+    }
+}
+
 /// Goes over a list.
-fn walk_all<T: Walk, V: Watch>(items: &[T], visitor: &mut V)
+pub(crate) fn walk_all<T: Walk, V: Watch>(items: &[T], visitor: &mut V)
     ensures { V.state visitor.new ≡ walk_of_all V.step (trees_by T.tree items.now) (V.state visitor.old) }
 {
     for x in items {

@@ -2,7 +2,7 @@
 ghost use Rattle.ecma_node.specs.View.{view_prop_or_spread, view_prop, view_key_value_prop, view_assign_prop, view_getter_prop, view_setter_prop, view_method_prop};
 
 use crate::kinds::Kind;
-use crate::watch::{Node, Walk, Watch};
+use crate::watch::{Walk, Watch, enter_part, leave_part};
 use ecma_node::{
     AssignPropOf, GetterPropOf, KeyValuePropOf, MethodPropOf, PropOf, PropOrSpreadOf, SetterPropOf,
 };
@@ -37,10 +37,10 @@ impl<T: Walk> Walk for KeyValuePropOf<T> {
     ghost tree = { view_key_value_prop T.tree };
 
     fn walk<V: Watch>(&self, visitor: &mut V) {
-        visitor.enter(Node::Part(Kind::KeyValueProp, self.span));
+        enter_part(Kind::KeyValueProp, self.span, visitor);
         self.key.walk(visitor);
         self.value.walk(visitor);
-        visitor.leave(Node::Part(Kind::KeyValueProp, self.span));
+        leave_part(Kind::KeyValueProp, self.span, visitor);
     }
 }
 
@@ -48,10 +48,10 @@ impl<T: Walk> Walk for AssignPropOf<T> {
     ghost tree = { view_assign_prop T.tree };
 
     fn walk<V: Watch>(&self, visitor: &mut V) {
-        visitor.enter(Node::Part(Kind::AssignProp, self.span));
+        enter_part(Kind::AssignProp, self.span, visitor);
         self.key.walk(visitor);
         self.value.walk(visitor);
-        visitor.leave(Node::Part(Kind::AssignProp, self.span));
+        leave_part(Kind::AssignProp, self.span, visitor);
     }
 }
 
@@ -59,10 +59,10 @@ impl<T: Walk> Walk for GetterPropOf<T> {
     ghost tree = { view_getter_prop T.tree };
 
     fn walk<V: Watch>(&self, visitor: &mut V) {
-        visitor.enter(Node::Part(Kind::GetterProp, self.span));
+        enter_part(Kind::GetterProp, self.span, visitor);
         self.key.walk(visitor);
         self.body.walk(visitor);
-        visitor.leave(Node::Part(Kind::GetterProp, self.span));
+        leave_part(Kind::GetterProp, self.span, visitor);
     }
 }
 
@@ -70,11 +70,11 @@ impl<T: Walk> Walk for SetterPropOf<T> {
     ghost tree = { view_setter_prop T.tree };
 
     fn walk<V: Watch>(&self, visitor: &mut V) {
-        visitor.enter(Node::Part(Kind::SetterProp, self.span));
+        enter_part(Kind::SetterProp, self.span, visitor);
         self.key.walk(visitor);
         self.param.walk(visitor);
         self.body.walk(visitor);
-        visitor.leave(Node::Part(Kind::SetterProp, self.span));
+        leave_part(Kind::SetterProp, self.span, visitor);
     }
 }
 
@@ -82,9 +82,9 @@ impl<T: Walk> Walk for MethodPropOf<T> {
     ghost tree = { view_method_prop T.tree };
 
     fn walk<V: Watch>(&self, visitor: &mut V) {
-        visitor.enter(Node::Part(Kind::MethodProp, self.span));
+        enter_part(Kind::MethodProp, self.span, visitor);
         self.key.walk(visitor);
         self.function.walk(visitor);
-        visitor.leave(Node::Part(Kind::MethodProp, self.span));
+        leave_part(Kind::MethodProp, self.span, visitor);
     }
 }

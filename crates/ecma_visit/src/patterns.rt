@@ -2,8 +2,8 @@
 ghost use Rattle.ecma_node.specs.View.{view_pat_kind, view_binding_ident, view_array_pat, view_rest_pat, view_object_pat, view_assign_pat, view_object_pat_prop, view_key_value_pat_prop, view_assign_pat_prop, view_assign_target};
 
 use crate::kinds::Kind;
-use crate::lists::walk_elements;
-use crate::watch::{Inside, Node, Walk, Watch};
+use crate::lists::{walk_all, walk_elements, walk_part};
+use crate::watch::{Inside, Node, Walk, Watch, enter_part, leave_part};
 use ecma_node::{
     ArrayPatOf, AssignPatOf, AssignPatPropOf, AssignTargetOf, BindingIdent, KeyValuePatPropOf,
     ObjectPatOf, ObjectPatPropOf, PatKindOf, RestPatOf,
@@ -55,9 +55,9 @@ impl<T: Walk> Walk for ArrayPatOf<T> {
     ghost tree = { view_array_pat T.tree };
 
     fn walk<V: Watch>(&self, visitor: &mut V) {
-        visitor.enter(Node::Part(Kind::ArrayPat, self.span));
+        enter_part(Kind::ArrayPat, self.span, visitor);
         self.inside(visitor);
-        visitor.leave(Node::Part(Kind::ArrayPat, self.span));
+        leave_part(Kind::ArrayPat, self.span, visitor);
     }
 }
 
@@ -73,9 +73,9 @@ impl<T: Walk> Walk for RestPatOf<T> {
     ghost tree = { view_rest_pat T.tree };
 
     fn walk<V: Watch>(&self, visitor: &mut V) {
-        visitor.enter(Node::Part(Kind::RestPat, self.span));
+        enter_part(Kind::RestPat, self.span, visitor);
         self.inside(visitor);
-        visitor.leave(Node::Part(Kind::RestPat, self.span));
+        leave_part(Kind::RestPat, self.span, visitor);
     }
 }
 
@@ -83,7 +83,7 @@ impl<T: Walk> Inside for ObjectPatOf<T> {
     ghost tree = { view_object_pat T.tree };
 
     fn inside<V: Watch>(&self, visitor: &mut V) {
-        self.props.walk(visitor);
+        walk_all(self.props.as_slice(), visitor);
     }
 }
 
@@ -91,9 +91,9 @@ impl<T: Walk> Walk for ObjectPatOf<T> {
     ghost tree = { view_object_pat T.tree };
 
     fn walk<V: Watch>(&self, visitor: &mut V) {
-        visitor.enter(Node::Part(Kind::ObjectPat, self.span));
+        enter_part(Kind::ObjectPat, self.span, visitor);
         self.inside(visitor);
-        visitor.leave(Node::Part(Kind::ObjectPat, self.span));
+        leave_part(Kind::ObjectPat, self.span, visitor);
     }
 }
 
@@ -122,10 +122,10 @@ impl<T: Walk> Walk for KeyValuePatPropOf<T> {
     ghost tree = { view_key_value_pat_prop T.tree };
 
     fn walk<V: Watch>(&self, visitor: &mut V) {
-        visitor.enter(Node::Part(Kind::KeyValuePatProp, self.span));
+        enter_part(Kind::KeyValuePatProp, self.span, visitor);
         self.key.walk(visitor);
         self.value.walk(visitor);
-        visitor.leave(Node::Part(Kind::KeyValuePatProp, self.span));
+        leave_part(Kind::KeyValuePatProp, self.span, visitor);
     }
 }
 
@@ -133,10 +133,10 @@ impl<T: Walk> Walk for AssignPatPropOf<T> {
     ghost tree = { view_assign_pat_prop T.tree };
 
     fn walk<V: Watch>(&self, visitor: &mut V) {
-        visitor.enter(Node::Part(Kind::AssignPatProp, self.span));
+        enter_part(Kind::AssignPatProp, self.span, visitor);
         self.key.walk(visitor);
-        self.value.walk(visitor);
-        visitor.leave(Node::Part(Kind::AssignPatProp, self.span));
+        walk_part(&self.value, visitor);
+        leave_part(Kind::AssignPatProp, self.span, visitor);
     }
 }
 
@@ -153,8 +153,8 @@ impl<T: Walk> Walk for AssignTargetOf<T> {
             AssignTargetOf::Array(x) => x.walk(visitor),
             AssignTargetOf::Object(x) => x.walk(visitor),
             AssignTargetOf::Invalid(x) => {
-                visitor.enter(Node::Part(Kind::InvalidTarget, x.span));
-                visitor.leave(Node::Part(Kind::InvalidTarget, x.span));
+                enter_part(Kind::InvalidTarget, x.span, visitor);
+                leave_part(Kind::InvalidTarget, x.span, visitor);
             }
         }
     }

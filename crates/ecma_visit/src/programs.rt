@@ -2,7 +2,8 @@
 ghost use Rattle.ecma_node.specs.View.{view_program_kind, view_script, view_module, view_module_item, view_module_decl, view_import_decl, view_export_decl, view_named_export, view_export_default_decl, view_export_default_expr, view_export_all, view_default_decl, view_import_specifier, view_import_named_specifier, view_import_default_specifier, view_import_star_as_specifier, view_export_specifier, view_export_namespace_specifier, view_export_default_specifier, view_export_named_specifier, view_module_export_name};
 
 use crate::kinds::Kind;
-use crate::watch::{Inside, Node, Walk, Watch};
+use crate::lists::{walk_all, walk_part};
+use crate::watch::{Inside, Walk, Watch, enter_part, leave_part};
 use ecma_node::{
     DefaultDeclOf, ExportAllOf, ExportDeclOf, ExportDefaultDeclOf, ExportDefaultExprOf,
     ExportDefaultSpecifier, ExportNamedSpecifier, ExportNamespaceSpecifier, ExportSpecifier,
@@ -26,7 +27,7 @@ impl<T: Walk> Inside for ScriptOf<T> {
     ghost tree = { view_script T.tree };
 
     fn inside<V: Watch>(&self, visitor: &mut V) {
-        self.body.walk(visitor);
+        walk_all(self.body.as_slice(), visitor);
     }
 }
 
@@ -34,7 +35,7 @@ impl<T: Walk> Inside for ModuleOf<T> {
     ghost tree = { view_module T.tree };
 
     fn inside<V: Watch>(&self, visitor: &mut V) {
-        self.body.walk(visitor);
+        walk_all(self.body.as_slice(), visitor);
     }
 }
 
@@ -68,11 +69,13 @@ impl<T: Walk> Walk for ImportDeclOf<T> {
     ghost tree = { view_import_decl T.tree };
 
     fn walk<V: Watch>(&self, visitor: &mut V) {
-        visitor.enter(Node::Part(Kind::ImportDecl, self.span));
-        self.specifiers.walk(visitor);
+        enter_part(Kind::ImportDecl, self.span, visitor);
+        walk_all(self.specifiers.as_slice(), visitor);
         self.src.walk(visitor);
-        self.with_.walk(visitor);
-        visitor.leave(Node::Part(Kind::ImportDecl, self.span));
+        if let Some(x) = &self.with_ {
+            x.walk(visitor);
+        }
+        leave_part(Kind::ImportDecl, self.span, visitor);
     }
 }
 
@@ -80,9 +83,9 @@ impl<T: Walk> Walk for ExportDeclOf<T> {
     ghost tree = { view_export_decl T.tree };
 
     fn walk<V: Watch>(&self, visitor: &mut V) {
-        visitor.enter(Node::Part(Kind::ExportDecl, self.span));
+        enter_part(Kind::ExportDecl, self.span, visitor);
         self.decl.walk(visitor);
-        visitor.leave(Node::Part(Kind::ExportDecl, self.span));
+        leave_part(Kind::ExportDecl, self.span, visitor);
     }
 }
 
@@ -90,11 +93,15 @@ impl<T: Walk> Walk for NamedExportOf<T> {
     ghost tree = { view_named_export T.tree };
 
     fn walk<V: Watch>(&self, visitor: &mut V) {
-        visitor.enter(Node::Part(Kind::NamedExport, self.span));
-        self.specifiers.walk(visitor);
-        self.src.walk(visitor);
-        self.with_.walk(visitor);
-        visitor.leave(Node::Part(Kind::NamedExport, self.span));
+        enter_part(Kind::NamedExport, self.span, visitor);
+        walk_all(self.specifiers.as_slice(), visitor);
+        if let Some(x) = &self.src {
+            x.walk(visitor);
+        }
+        if let Some(x) = &self.with_ {
+            x.walk(visitor);
+        }
+        leave_part(Kind::NamedExport, self.span, visitor);
     }
 }
 
@@ -102,9 +109,9 @@ impl<T: Walk> Walk for ExportDefaultDeclOf<T> {
     ghost tree = { view_export_default_decl T.tree };
 
     fn walk<V: Watch>(&self, visitor: &mut V) {
-        visitor.enter(Node::Part(Kind::ExportDefaultDecl, self.span));
+        enter_part(Kind::ExportDefaultDecl, self.span, visitor);
         self.decl.walk(visitor);
-        visitor.leave(Node::Part(Kind::ExportDefaultDecl, self.span));
+        leave_part(Kind::ExportDefaultDecl, self.span, visitor);
     }
 }
 
@@ -112,9 +119,9 @@ impl<T: Walk> Walk for ExportDefaultExprOf<T> {
     ghost tree = { view_export_default_expr T.tree };
 
     fn walk<V: Watch>(&self, visitor: &mut V) {
-        visitor.enter(Node::Part(Kind::ExportDefaultExpr, self.span));
+        enter_part(Kind::ExportDefaultExpr, self.span, visitor);
         self.expr.walk(visitor);
-        visitor.leave(Node::Part(Kind::ExportDefaultExpr, self.span));
+        leave_part(Kind::ExportDefaultExpr, self.span, visitor);
     }
 }
 
@@ -122,10 +129,12 @@ impl<T: Walk> Walk for ExportAllOf<T> {
     ghost tree = { view_export_all T.tree };
 
     fn walk<V: Watch>(&self, visitor: &mut V) {
-        visitor.enter(Node::Part(Kind::ExportAll, self.span));
+        enter_part(Kind::ExportAll, self.span, visitor);
         self.src.walk(visitor);
-        self.with_.walk(visitor);
-        visitor.leave(Node::Part(Kind::ExportAll, self.span));
+        if let Some(x) = &self.with_ {
+            x.walk(visitor);
+        }
+        leave_part(Kind::ExportAll, self.span, visitor);
     }
 }
 
@@ -156,10 +165,10 @@ impl Walk for ImportNamedSpecifier {
     ghost tree = { view_import_named_specifier };
 
     fn walk<V: Watch>(&self, visitor: &mut V) {
-        visitor.enter(Node::Part(Kind::ImportNamedSpecifier, self.span));
+        enter_part(Kind::ImportNamedSpecifier, self.span, visitor);
         self.local.walk(visitor);
-        self.imported.walk(visitor);
-        visitor.leave(Node::Part(Kind::ImportNamedSpecifier, self.span));
+        walk_part(&self.imported, visitor);
+        leave_part(Kind::ImportNamedSpecifier, self.span, visitor);
     }
 }
 
@@ -167,9 +176,9 @@ impl Walk for ImportDefaultSpecifier {
     ghost tree = { view_import_default_specifier };
 
     fn walk<V: Watch>(&self, visitor: &mut V) {
-        visitor.enter(Node::Part(Kind::ImportDefaultSpecifier, self.span));
+        enter_part(Kind::ImportDefaultSpecifier, self.span, visitor);
         self.local.walk(visitor);
-        visitor.leave(Node::Part(Kind::ImportDefaultSpecifier, self.span));
+        leave_part(Kind::ImportDefaultSpecifier, self.span, visitor);
     }
 }
 
@@ -177,9 +186,9 @@ impl Walk for ImportStarAsSpecifier {
     ghost tree = { view_import_star_as_specifier };
 
     fn walk<V: Watch>(&self, visitor: &mut V) {
-        visitor.enter(Node::Part(Kind::ImportStarAsSpecifier, self.span));
+        enter_part(Kind::ImportStarAsSpecifier, self.span, visitor);
         self.local.walk(visitor);
-        visitor.leave(Node::Part(Kind::ImportStarAsSpecifier, self.span));
+        leave_part(Kind::ImportStarAsSpecifier, self.span, visitor);
     }
 }
 
@@ -199,9 +208,9 @@ impl Walk for ExportNamespaceSpecifier {
     ghost tree = { view_export_namespace_specifier };
 
     fn walk<V: Watch>(&self, visitor: &mut V) {
-        visitor.enter(Node::Part(Kind::ExportNamespaceSpecifier, self.span));
+        enter_part(Kind::ExportNamespaceSpecifier, self.span, visitor);
         self.name.walk(visitor);
-        visitor.leave(Node::Part(Kind::ExportNamespaceSpecifier, self.span));
+        leave_part(Kind::ExportNamespaceSpecifier, self.span, visitor);
     }
 }
 
@@ -209,9 +218,9 @@ impl Walk for ExportDefaultSpecifier {
     ghost tree = { view_export_default_specifier };
 
     fn walk<V: Watch>(&self, visitor: &mut V) {
-        visitor.enter(Node::Part(Kind::ExportDefaultSpecifier, self.span));
+        enter_part(Kind::ExportDefaultSpecifier, self.span, visitor);
         self.exported.walk(visitor);
-        visitor.leave(Node::Part(Kind::ExportDefaultSpecifier, self.span));
+        leave_part(Kind::ExportDefaultSpecifier, self.span, visitor);
     }
 }
 
@@ -219,10 +228,10 @@ impl Walk for ExportNamedSpecifier {
     ghost tree = { view_export_named_specifier };
 
     fn walk<V: Watch>(&self, visitor: &mut V) {
-        visitor.enter(Node::Part(Kind::ExportNamedSpecifier, self.span));
+        enter_part(Kind::ExportNamedSpecifier, self.span, visitor);
         self.orig.walk(visitor);
-        self.exported.walk(visitor);
-        visitor.leave(Node::Part(Kind::ExportNamedSpecifier, self.span));
+        walk_part(&self.exported, visitor);
+        leave_part(Kind::ExportNamedSpecifier, self.span, visitor);
     }
 }
 

@@ -2,7 +2,8 @@
 ghost use Rattle.ecma_node.specs.View.{view_stmt_kind, view_block_stmt, view_empty_stmt, view_with_stmt, view_return_stmt, view_labeled_stmt, view_break_stmt, view_continue_stmt, view_if_stmt, view_switch_stmt, view_switch_case, view_throw_stmt, view_try_stmt, view_catch_clause, view_while_stmt, view_do_while_stmt, view_for_stmt, view_for_in_stmt, view_for_of_stmt, view_expr_stmt, view_var_decl_or_expr, view_for_head};
 
 use crate::kinds::Kind;
-use crate::watch::{Inside, Node, Walk, Watch};
+use crate::lists::{walk_all, walk_part};
+use crate::watch::{Inside, Walk, Watch, enter_part, leave_part};
 use ecma_node::{
     BlockStmtOf, BreakStmt, CatchClauseOf, ContinueStmt, DoWhileStmtOf, EmptyStmt, ExprStmtOf,
     ForHeadOf, ForInStmtOf, ForOfStmtOf, ForStmtOf, IfStmtOf, LabeledStmtOf, ReturnStmtOf,
@@ -42,7 +43,7 @@ impl<T: Walk> Inside for BlockStmtOf<T> {
     ghost tree = { view_block_stmt T.tree };
 
     fn inside<V: Watch>(&self, visitor: &mut V) {
-        self.stmts.walk(visitor);
+        walk_all(self.stmts.as_slice(), visitor);
     }
 }
 
@@ -50,9 +51,9 @@ impl<T: Walk> Walk for BlockStmtOf<T> {
     ghost tree = { view_block_stmt T.tree };
 
     fn walk<V: Watch>(&self, visitor: &mut V) {
-        visitor.enter(Node::Part(Kind::BlockStmt, self.span));
+        enter_part(Kind::BlockStmt, self.span, visitor);
         self.inside(visitor);
-        visitor.leave(Node::Part(Kind::BlockStmt, self.span));
+        leave_part(Kind::BlockStmt, self.span, visitor);
     }
 }
 
@@ -60,8 +61,8 @@ impl Walk for EmptyStmt {
     ghost tree = { view_empty_stmt };
 
     fn walk<V: Watch>(&self, visitor: &mut V) {
-        visitor.enter(Node::Part(Kind::EmptyStmt, self.span));
-        visitor.leave(Node::Part(Kind::EmptyStmt, self.span));
+        enter_part(Kind::EmptyStmt, self.span, visitor);
+        leave_part(Kind::EmptyStmt, self.span, visitor);
     }
 }
 
@@ -78,7 +79,7 @@ impl<T: Walk> Inside for ReturnStmtOf<T> {
     ghost tree = { view_return_stmt T.tree };
 
     fn inside<V: Watch>(&self, visitor: &mut V) {
-        self.arg.walk(visitor);
+        walk_part(&self.arg, visitor);
     }
 }
 
@@ -95,7 +96,7 @@ impl Inside for BreakStmt {
     ghost tree = { view_break_stmt };
 
     fn inside<V: Watch>(&self, visitor: &mut V) {
-        self.label.walk(visitor);
+        walk_part(&self.label, visitor);
     }
 }
 
@@ -103,7 +104,7 @@ impl Inside for ContinueStmt {
     ghost tree = { view_continue_stmt };
 
     fn inside<V: Watch>(&self, visitor: &mut V) {
-        self.label.walk(visitor);
+        walk_part(&self.label, visitor);
     }
 }
 
@@ -113,7 +114,7 @@ impl<T: Walk> Inside for IfStmtOf<T> {
     fn inside<V: Watch>(&self, visitor: &mut V) {
         self.test.walk(visitor);
         self.cons.walk(visitor);
-        self.alt.walk(visitor);
+        walk_part(&self.alt, visitor);
     }
 }
 
@@ -122,7 +123,7 @@ impl<T: Walk> Inside for SwitchStmtOf<T> {
 
     fn inside<V: Watch>(&self, visitor: &mut V) {
         self.discriminant.walk(visitor);
-        self.cases.walk(visitor);
+        walk_all(self.cases.as_slice(), visitor);
     }
 }
 
@@ -130,10 +131,10 @@ impl<T: Walk> Walk for SwitchCaseOf<T> {
     ghost tree = { view_switch_case T.tree };
 
     fn walk<V: Watch>(&self, visitor: &mut V) {
-        visitor.enter(Node::Part(Kind::SwitchCase, self.span));
-        self.test.walk(visitor);
-        self.cons.walk(visitor);
-        visitor.leave(Node::Part(Kind::SwitchCase, self.span));
+        enter_part(Kind::SwitchCase, self.span, visitor);
+        walk_part(&self.test, visitor);
+        walk_all(self.cons.as_slice(), visitor);
+        leave_part(Kind::SwitchCase, self.span, visitor);
     }
 }
 
@@ -150,8 +151,8 @@ impl<T: Walk> Inside for TryStmtOf<T> {
 
     fn inside<V: Watch>(&self, visitor: &mut V) {
         self.block.walk(visitor);
-        self.handler.walk(visitor);
-        self.finalizer.walk(visitor);
+        walk_part(&self.handler, visitor);
+        walk_part(&self.finalizer, visitor);
     }
 }
 
@@ -159,10 +160,10 @@ impl<T: Walk> Walk for CatchClauseOf<T> {
     ghost tree = { view_catch_clause T.tree };
 
     fn walk<V: Watch>(&self, visitor: &mut V) {
-        visitor.enter(Node::Part(Kind::CatchClause, self.span));
-        self.param.walk(visitor);
+        enter_part(Kind::CatchClause, self.span, visitor);
+        walk_part(&self.param, visitor);
         self.body.walk(visitor);
-        visitor.leave(Node::Part(Kind::CatchClause, self.span));
+        leave_part(Kind::CatchClause, self.span, visitor);
     }
 }
 
@@ -188,9 +189,9 @@ impl<T: Walk> Inside for ForStmtOf<T> {
     ghost tree = { view_for_stmt T.tree };
 
     fn inside<V: Watch>(&self, visitor: &mut V) {
-        self.init.walk(visitor);
-        self.test.walk(visitor);
-        self.update.walk(visitor);
+        walk_part(&self.init, visitor);
+        walk_part(&self.test, visitor);
+        walk_part(&self.update, visitor);
         self.body.walk(visitor);
     }
 }

@@ -1,6 +1,7 @@
 //! Who is told of the nodes, and what can be gone over.
-ghost use Rattle.std.specs.Prelude.{◌≡◌};
-ghost use Rattle.ecma_tree.specs.Tree.{Tree, trees_by, part_by, list};
+ghost use Rattle.std.specs.Prelude.{◌≡◌, []};
+ghost use Rattle.ecma_tree.specs.Tree.{Tree};
+ghost use Rattle.ecma_visit.specs.Seen.{seen};
 ghost use Rattle.ecma_visit.specs.Walk.{Event, enter, leave, told, walk_of, inside_of};
 ghost use Rattle.ecma_visit.specs.Told.{seen_in};
 
@@ -80,29 +81,16 @@ impl<T: Walk, K> Walk for Child<T, K> {
     }
 }
 
-impl<T: Walk> Walk for Option<T> {
-    ghost tree = { part_by T.tree };
-
-    fn walk<V: Watch>(&self, visitor: &mut V) {
-        match self {
-            Some(x) => x.walk(visitor),
-            None => {}
-        }
-    }
+/// Tells a visitor that a node is entered which is no expression, statement, pattern or program, and holds no text.
+pub(crate) fn enter_part<V: Watch>(kind: Kind, span: Span, visitor: &mut V)
+    ensures { V.state visitor.new ≡ V.step (enter (seen kind span [])) (V.state visitor.old) }
+{
+    visitor.enter(Node::Part(kind, span));
 }
 
-impl<T: Walk> Walk for Box<T> {
-    ghost tree = { λ b. T.tree b.value };
-
-    fn walk<V: Watch>(&self, visitor: &mut V) {
-        (**self).walk(visitor);
-    }
-}
-
-impl<T: Inside> Inside for Box<T> {
-    ghost tree = { λ b. T.tree b.value };
-
-    fn inside<V: Watch>(&self, visitor: &mut V) {
-        (**self).inside(visitor);
-    }
+/// Tells a visitor that it is left.
+pub(crate) fn leave_part<V: Watch>(kind: Kind, span: Span, visitor: &mut V)
+    ensures { V.state visitor.new ≡ V.step (leave (seen kind span [])) (V.state visitor.old) }
+{
+    visitor.leave(Node::Part(kind, span));
 }

@@ -1,7 +1,7 @@
 //! Changes expressions (ECMA-262, clause 13).
 ghost use Rattle.ecma_node.specs.Fits.{fits_expr_kind, fits_array_lit, fits_object_lit, fits_fn_expr, fits_unary_expr, fits_update_expr, fits_bin_expr, fits_assign_expr, fits_member_expr, fits_super_prop_expr, fits_cond_expr, fits_call_expr, fits_new_expr, fits_seq_expr, fits_tpl, fits_tagged_tpl, fits_arrow_expr, fits_class_expr, fits_yield_expr, fits_await_expr, fits_paren_expr, fits_opt_chain_expr, fits_opt_call, fits_expr_or_spread, fits_spread_element, fits_callee, fits_member_prop, fits_super_prop, fits_opt_chain_base, fits_block_stmt_or_expr};
 
-use crate::walk::{Change, WalkMut, Word, walk_all, walk_elements};
+use crate::walk::{Change, WalkMut, Word, walk_all, walk_elements, walk_part, walk_place};
 use ecma_node::{
     ArrayLitOf, ArrowExprOf, AssignExprOf, AwaitExprOf, BinExprOf, BlockStmtOrExprOf, CallExprOf,
     CalleeOf, ClassExprOf, CondExprOf, ExprKindOf, ExprOrSpreadOf, FnExprOf, Ident, Import,
@@ -11,10 +11,10 @@ use ecma_node::{
     UpdateExprOf, YieldExprOf,
 };
 
-impl<T> WalkMut<T> for ExprKindOf<T> {
-    ghost fits = { λ p x. fits_expr_kind p x };
+impl<T, C: Change<T>> WalkMut<T, C> for ExprKindOf<T> {
+    ghost fits = { λ x. fits_expr_kind C.placed x };
 
-    fn walk_mut<C: Change<T>>(&mut self, by: &mut C) {
+    fn walk_mut(&mut self, by: &mut C) {
         match self {
             ExprKindOf::This(x) => x.walk_mut(by),
             ExprKindOf::Array(x) => x.walk_mut(by),
@@ -47,309 +47,305 @@ impl<T> WalkMut<T> for ExprKindOf<T> {
     }
 }
 
-impl<T> WalkMut<T> for ThisExpr {
-    ghost fits = { λ _ _. Unit {0} };
+impl<T, C: Change<T>> WalkMut<T, C> for ThisExpr {
+    ghost fits = { λ _. Unit {0} };
 
-    fn walk_mut<C: Change<T>>(&mut self, by: &mut C) {
-        by.word(Word::Span(&mut self.span));
+    fn walk_mut(&mut self, by: &mut C) {
+        by.span(&mut self.span);
     }
 }
 
-impl<T> WalkMut<T> for ArrayLitOf<T> {
-    ghost fits = { λ p x. fits_array_lit p x };
+impl<T, C: Change<T>> WalkMut<T, C> for ArrayLitOf<T> {
+    ghost fits = { λ x. fits_array_lit C.placed x };
 
-    fn walk_mut<C: Change<T>>(&mut self, by: &mut C) {
+    fn walk_mut(&mut self, by: &mut C) {
         walk_elements(&mut self.elems, by);
-        by.word(Word::Span(&mut self.span));
+        by.span(&mut self.span);
     }
 }
 
-impl<T> WalkMut<T> for ObjectLitOf<T> {
-    ghost fits = { λ p x. fits_object_lit p x };
+impl<T, C: Change<T>> WalkMut<T, C> for ObjectLitOf<T> {
+    ghost fits = { λ x. fits_object_lit C.placed x };
 
-    fn walk_mut<C: Change<T>>(&mut self, by: &mut C) {
+    fn walk_mut(&mut self, by: &mut C) {
         walk_all(&mut self.props, by);
-        by.word(Word::Span(&mut self.span));
+        by.span(&mut self.span);
     }
 }
 
-impl<T> WalkMut<T> for FnExprOf<T> {
-    ghost fits = { λ p x. fits_fn_expr p x };
+impl<T, C: Change<T>> WalkMut<T, C> for FnExprOf<T> {
+    ghost fits = { λ x. fits_fn_expr C.placed x };
 
-    fn walk_mut<C: Change<T>>(&mut self, by: &mut C) {
+    fn walk_mut(&mut self, by: &mut C) {
         if let Some(x) = &mut self.ident {
             x.walk_mut(by);
         }
         self.function.walk_mut(by);
-        by.word(Word::Span(&mut self.span));
+        by.span(&mut self.span);
     }
 }
 
-impl<T> WalkMut<T> for UnaryExprOf<T> {
-    ghost fits = { λ p x. fits_unary_expr p x };
+impl<T, C: Change<T>> WalkMut<T, C> for UnaryExprOf<T> {
+    ghost fits = { λ x. fits_unary_expr C.placed x };
 
-    fn walk_mut<C: Change<T>>(&mut self, by: &mut C) {
+    fn walk_mut(&mut self, by: &mut C) {
         self.arg.walk_mut(by);
-        by.word(Word::Span(&mut self.span));
+        by.span(&mut self.span);
     }
 }
 
-impl<T> WalkMut<T> for UpdateExprOf<T> {
-    ghost fits = { λ p x. fits_update_expr p x };
+impl<T, C: Change<T>> WalkMut<T, C> for UpdateExprOf<T> {
+    ghost fits = { λ x. fits_update_expr C.placed x };
 
-    fn walk_mut<C: Change<T>>(&mut self, by: &mut C) {
+    fn walk_mut(&mut self, by: &mut C) {
         self.arg.walk_mut(by);
-        by.word(Word::Span(&mut self.span));
+        by.span(&mut self.span);
     }
 }
 
-impl<T> WalkMut<T> for BinExprOf<T> {
-    ghost fits = { λ p x. fits_bin_expr p x };
+impl<T, C: Change<T>> WalkMut<T, C> for BinExprOf<T> {
+    ghost fits = { λ x. fits_bin_expr C.placed x };
 
-    fn walk_mut<C: Change<T>>(&mut self, by: &mut C) {
+    fn walk_mut(&mut self, by: &mut C) {
         self.left.walk_mut(by);
         self.right.walk_mut(by);
-        by.word(Word::Span(&mut self.span));
+        by.span(&mut self.span);
     }
 }
 
-impl<T> WalkMut<T> for AssignExprOf<T> {
-    ghost fits = { λ p x. fits_assign_expr p x };
+impl<T, C: Change<T>> WalkMut<T, C> for AssignExprOf<T> {
+    ghost fits = { λ x. fits_assign_expr C.placed x };
 
-    fn walk_mut<C: Change<T>>(&mut self, by: &mut C) {
+    fn walk_mut(&mut self, by: &mut C) {
         self.left.walk_mut(by);
         self.right.walk_mut(by);
-        by.word(Word::Span(&mut self.span));
+        by.span(&mut self.span);
     }
 }
 
-impl<T> WalkMut<T> for MemberExprOf<T> {
-    ghost fits = { λ p x. fits_member_expr p x };
+impl<T, C: Change<T>> WalkMut<T, C> for MemberExprOf<T> {
+    ghost fits = { λ x. fits_member_expr C.placed x };
 
-    fn walk_mut<C: Change<T>>(&mut self, by: &mut C) {
+    fn walk_mut(&mut self, by: &mut C) {
         self.obj.walk_mut(by);
         self.prop.walk_mut(by);
-        by.word(Word::Span(&mut self.span));
+        by.span(&mut self.span);
     }
 }
 
-impl<T> WalkMut<T> for SuperPropExprOf<T> {
-    ghost fits = { λ p x. fits_super_prop_expr p x };
+impl<T, C: Change<T>> WalkMut<T, C> for SuperPropExprOf<T> {
+    ghost fits = { λ x. fits_super_prop_expr C.placed x };
 
-    fn walk_mut<C: Change<T>>(&mut self, by: &mut C) {
+    fn walk_mut(&mut self, by: &mut C) {
         self.obj.walk_mut(by);
         self.prop.walk_mut(by);
-        by.word(Word::Span(&mut self.span));
+        by.span(&mut self.span);
     }
 }
 
-impl<T> WalkMut<T> for CondExprOf<T> {
-    ghost fits = { λ p x. fits_cond_expr p x };
+impl<T, C: Change<T>> WalkMut<T, C> for CondExprOf<T> {
+    ghost fits = { λ x. fits_cond_expr C.placed x };
 
-    fn walk_mut<C: Change<T>>(&mut self, by: &mut C) {
+    fn walk_mut(&mut self, by: &mut C) {
         self.test.walk_mut(by);
         self.cons.walk_mut(by);
         self.alt.walk_mut(by);
-        by.word(Word::Span(&mut self.span));
+        by.span(&mut self.span);
     }
 }
 
-impl<T> WalkMut<T> for CallExprOf<T> {
-    ghost fits = { λ p x. fits_call_expr p x };
+impl<T, C: Change<T>> WalkMut<T, C> for CallExprOf<T> {
+    ghost fits = { λ x. fits_call_expr C.placed x };
 
-    fn walk_mut<C: Change<T>>(&mut self, by: &mut C) {
+    fn walk_mut(&mut self, by: &mut C) {
         self.callee.walk_mut(by);
         walk_all(&mut self.args, by);
-        by.word(Word::Span(&mut self.span));
+        by.span(&mut self.span);
     }
 }
 
-impl<T> WalkMut<T> for NewExprOf<T> {
-    ghost fits = { λ p x. fits_new_expr p x };
+impl<T, C: Change<T>> WalkMut<T, C> for NewExprOf<T> {
+    ghost fits = { λ x. fits_new_expr C.placed x };
 
-    fn walk_mut<C: Change<T>>(&mut self, by: &mut C) {
+    fn walk_mut(&mut self, by: &mut C) {
         self.callee.walk_mut(by);
         if let Some(x) = &mut self.args {
             walk_all(x, by);
         }
-        by.word(Word::Span(&mut self.span));
+        by.span(&mut self.span);
     }
 }
 
-impl<T> WalkMut<T> for SeqExprOf<T> {
-    ghost fits = { λ p x. fits_seq_expr p x };
+impl<T, C: Change<T>> WalkMut<T, C> for SeqExprOf<T> {
+    ghost fits = { λ x. fits_seq_expr C.placed x };
 
-    fn walk_mut<C: Change<T>>(&mut self, by: &mut C) {
+    fn walk_mut(&mut self, by: &mut C) {
         walk_all(&mut self.exprs, by);
-        by.word(Word::Span(&mut self.span));
+        by.span(&mut self.span);
     }
 }
 
-impl<T> WalkMut<T> for Ident {
-    ghost fits = { λ _ _. Unit {0} };
+impl<T, C: Change<T>> WalkMut<T, C> for Ident {
+    ghost fits = { λ _. Unit {0} };
 
-    fn walk_mut<C: Change<T>>(&mut self, by: &mut C) {
-        by.word(Word::Span(&mut self.span));
+    fn walk_mut(&mut self, by: &mut C) {
+        by.span(&mut self.span);
         by.word(Word::Ident(self));
     }
 }
 
-impl<T> WalkMut<T> for TplOf<T> {
-    ghost fits = { λ p x. fits_tpl p x };
+impl<T, C: Change<T>> WalkMut<T, C> for TplOf<T> {
+    ghost fits = { λ x. fits_tpl C.placed x };
 
-    fn walk_mut<C: Change<T>>(&mut self, by: &mut C) {
+    fn walk_mut(&mut self, by: &mut C) {
         walk_all(&mut self.exprs, by);
         walk_all(&mut self.quasis, by);
-        by.word(Word::Span(&mut self.span));
+        by.span(&mut self.span);
     }
 }
 
-impl<T> WalkMut<T> for TplElement {
-    ghost fits = { λ _ _. Unit {0} };
+impl<T, C: Change<T>> WalkMut<T, C> for TplElement {
+    ghost fits = { λ _. Unit {0} };
 
-    fn walk_mut<C: Change<T>>(&mut self, by: &mut C) {
-        by.word(Word::Span(&mut self.span));
+    fn walk_mut(&mut self, by: &mut C) {
+        by.span(&mut self.span);
         by.word(Word::TplElement(self));
     }
 }
 
-impl<T> WalkMut<T> for TaggedTplOf<T> {
-    ghost fits = { λ p x. fits_tagged_tpl p x };
+impl<T, C: Change<T>> WalkMut<T, C> for TaggedTplOf<T> {
+    ghost fits = { λ x. fits_tagged_tpl C.placed x };
 
-    fn walk_mut<C: Change<T>>(&mut self, by: &mut C) {
+    fn walk_mut(&mut self, by: &mut C) {
         self.tag.walk_mut(by);
         self.tpl.walk_mut(by);
-        by.word(Word::Span(&mut self.span));
+        by.span(&mut self.span);
     }
 }
 
-impl<T> WalkMut<T> for ArrowExprOf<T> {
-    ghost fits = { λ p x. fits_arrow_expr p x };
+impl<T, C: Change<T>> WalkMut<T, C> for ArrowExprOf<T> {
+    ghost fits = { λ x. fits_arrow_expr C.placed x };
 
-    fn walk_mut<C: Change<T>>(&mut self, by: &mut C) {
+    fn walk_mut(&mut self, by: &mut C) {
         walk_all(&mut self.params, by);
         self.body.walk_mut(by);
-        by.word(Word::Span(&mut self.span));
+        by.span(&mut self.span);
     }
 }
 
-impl<T> WalkMut<T> for ClassExprOf<T> {
-    ghost fits = { λ p x. fits_class_expr p x };
+impl<T, C: Change<T>> WalkMut<T, C> for ClassExprOf<T> {
+    ghost fits = { λ x. fits_class_expr C.placed x };
 
-    fn walk_mut<C: Change<T>>(&mut self, by: &mut C) {
+    fn walk_mut(&mut self, by: &mut C) {
         if let Some(x) = &mut self.ident {
             x.walk_mut(by);
         }
         self.class.walk_mut(by);
-        by.word(Word::Span(&mut self.span));
+        by.span(&mut self.span);
     }
 }
 
-impl<T> WalkMut<T> for YieldExprOf<T> {
-    ghost fits = { λ p x. fits_yield_expr p x };
+impl<T, C: Change<T>> WalkMut<T, C> for YieldExprOf<T> {
+    ghost fits = { λ x. fits_yield_expr C.placed x };
 
-    fn walk_mut<C: Change<T>>(&mut self, by: &mut C) {
-        if let Some(x) = &mut self.arg {
-            x.walk_mut(by);
-        }
-        by.word(Word::Span(&mut self.span));
+    fn walk_mut(&mut self, by: &mut C) {
+        walk_part(&mut self.arg, by);
+        by.span(&mut self.span);
     }
 }
 
-impl<T> WalkMut<T> for MetaPropExpr {
-    ghost fits = { λ _ _. Unit {0} };
+impl<T, C: Change<T>> WalkMut<T, C> for MetaPropExpr {
+    ghost fits = { λ _. Unit {0} };
 
-    fn walk_mut<C: Change<T>>(&mut self, by: &mut C) {
-        by.word(Word::Span(&mut self.span));
+    fn walk_mut(&mut self, by: &mut C) {
+        by.span(&mut self.span);
     }
 }
 
-impl<T> WalkMut<T> for AwaitExprOf<T> {
-    ghost fits = { λ p x. fits_await_expr p x };
+impl<T, C: Change<T>> WalkMut<T, C> for AwaitExprOf<T> {
+    ghost fits = { λ x. fits_await_expr C.placed x };
 
-    fn walk_mut<C: Change<T>>(&mut self, by: &mut C) {
+    fn walk_mut(&mut self, by: &mut C) {
         self.arg.walk_mut(by);
-        by.word(Word::Span(&mut self.span));
+        by.span(&mut self.span);
     }
 }
 
-impl<T> WalkMut<T> for ParenExprOf<T> {
-    ghost fits = { λ p x. fits_paren_expr p x };
+impl<T, C: Change<T>> WalkMut<T, C> for ParenExprOf<T> {
+    ghost fits = { λ x. fits_paren_expr C.placed x };
 
-    fn walk_mut<C: Change<T>>(&mut self, by: &mut C) {
+    fn walk_mut(&mut self, by: &mut C) {
         self.expr.walk_mut(by);
-        by.word(Word::Span(&mut self.span));
+        by.span(&mut self.span);
     }
 }
 
-impl<T> WalkMut<T> for OptChainExprOf<T> {
-    ghost fits = { λ p x. fits_opt_chain_expr p x };
+impl<T, C: Change<T>> WalkMut<T, C> for OptChainExprOf<T> {
+    ghost fits = { λ x. fits_opt_chain_expr C.placed x };
 
-    fn walk_mut<C: Change<T>>(&mut self, by: &mut C) {
+    fn walk_mut(&mut self, by: &mut C) {
         self.base.walk_mut(by);
-        by.word(Word::Span(&mut self.span));
+        by.span(&mut self.span);
     }
 }
 
-impl<T> WalkMut<T> for OptCallOf<T> {
-    ghost fits = { λ p x. fits_opt_call p x };
+impl<T, C: Change<T>> WalkMut<T, C> for OptCallOf<T> {
+    ghost fits = { λ x. fits_opt_call C.placed x };
 
-    fn walk_mut<C: Change<T>>(&mut self, by: &mut C) {
+    fn walk_mut(&mut self, by: &mut C) {
         self.callee.walk_mut(by);
         walk_all(&mut self.args, by);
-        by.word(Word::Span(&mut self.span));
+        by.span(&mut self.span);
     }
 }
 
-impl<T> WalkMut<T> for Super {
-    ghost fits = { λ _ _. Unit {0} };
+impl<T, C: Change<T>> WalkMut<T, C> for Super {
+    ghost fits = { λ _. Unit {0} };
 
-    fn walk_mut<C: Change<T>>(&mut self, by: &mut C) {
-        by.word(Word::Span(&mut self.span));
+    fn walk_mut(&mut self, by: &mut C) {
+        by.span(&mut self.span);
     }
 }
 
-impl<T> WalkMut<T> for Import {
-    ghost fits = { λ _ _. Unit {0} };
+impl<T, C: Change<T>> WalkMut<T, C> for Import {
+    ghost fits = { λ _. Unit {0} };
 
-    fn walk_mut<C: Change<T>>(&mut self, by: &mut C) {
-        by.word(Word::Span(&mut self.span));
+    fn walk_mut(&mut self, by: &mut C) {
+        by.span(&mut self.span);
     }
 }
 
-impl<T> WalkMut<T> for Invalid {
-    ghost fits = { λ _ _. Unit {0} };
+impl<T, C: Change<T>> WalkMut<T, C> for Invalid {
+    ghost fits = { λ _. Unit {0} };
 
-    fn walk_mut<C: Change<T>>(&mut self, by: &mut C) {
-        by.word(Word::Span(&mut self.span));
+    fn walk_mut(&mut self, by: &mut C) {
+        by.span(&mut self.span);
     }
 }
 
-impl<T> WalkMut<T> for ExprOrSpreadOf<T> {
-    ghost fits = { λ p x. fits_expr_or_spread p x };
+impl<T, C: Change<T>> WalkMut<T, C> for ExprOrSpreadOf<T> {
+    ghost fits = { λ x. fits_expr_or_spread C.placed x };
 
-    fn walk_mut<C: Change<T>>(&mut self, by: &mut C) {
+    fn walk_mut(&mut self, by: &mut C) {
         self.expr.walk_mut(by);
-        by.word(Word::Span(&mut self.span));
-        if let Some(span) = &mut self.spread {
-            by.word(Word::Span(span));
-        }
+        by.span(&mut self.span);
+        walk_place(&mut self.spread, by);
     }
 }
 
-impl<T> WalkMut<T> for SpreadElementOf<T> {
-    ghost fits = { λ p x. fits_spread_element p x };
+impl<T, C: Change<T>> WalkMut<T, C> for SpreadElementOf<T> {
+    ghost fits = { λ x. fits_spread_element C.placed x };
 
-    fn walk_mut<C: Change<T>>(&mut self, by: &mut C) {
+    fn walk_mut(&mut self, by: &mut C) {
         self.expr.walk_mut(by);
-        by.word(Word::Span(&mut self.span));
+        by.span(&mut self.span);
     }
 }
 
-impl<T> WalkMut<T> for CalleeOf<T> {
-    ghost fits = { λ p x. fits_callee p x };
+impl<T, C: Change<T>> WalkMut<T, C> for CalleeOf<T> {
+    ghost fits = { λ x. fits_callee C.placed x };
 
-    fn walk_mut<C: Change<T>>(&mut self, by: &mut C) {
+    fn walk_mut(&mut self, by: &mut C) {
         match self {
             CalleeOf::Super(x) => x.walk_mut(by),
             CalleeOf::Import(x) => x.walk_mut(by),
@@ -358,10 +354,10 @@ impl<T> WalkMut<T> for CalleeOf<T> {
     }
 }
 
-impl<T> WalkMut<T> for MemberPropOf<T> {
-    ghost fits = { λ p x. fits_member_prop p x };
+impl<T, C: Change<T>> WalkMut<T, C> for MemberPropOf<T> {
+    ghost fits = { λ x. fits_member_prop C.placed x };
 
-    fn walk_mut<C: Change<T>>(&mut self, by: &mut C) {
+    fn walk_mut(&mut self, by: &mut C) {
         match self {
             MemberPropOf::Ident(x) => x.walk_mut(by),
             MemberPropOf::PrivateName(x) => x.walk_mut(by),
@@ -370,10 +366,10 @@ impl<T> WalkMut<T> for MemberPropOf<T> {
     }
 }
 
-impl<T> WalkMut<T> for SuperPropOf<T> {
-    ghost fits = { λ p x. fits_super_prop p x };
+impl<T, C: Change<T>> WalkMut<T, C> for SuperPropOf<T> {
+    ghost fits = { λ x. fits_super_prop C.placed x };
 
-    fn walk_mut<C: Change<T>>(&mut self, by: &mut C) {
+    fn walk_mut(&mut self, by: &mut C) {
         match self {
             SuperPropOf::Ident(x) => x.walk_mut(by),
             SuperPropOf::Computed(x) => x.walk_mut(by),
@@ -381,10 +377,10 @@ impl<T> WalkMut<T> for SuperPropOf<T> {
     }
 }
 
-impl<T> WalkMut<T> for OptChainBaseOf<T> {
-    ghost fits = { λ p x. fits_opt_chain_base p x };
+impl<T, C: Change<T>> WalkMut<T, C> for OptChainBaseOf<T> {
+    ghost fits = { λ x. fits_opt_chain_base C.placed x };
 
-    fn walk_mut<C: Change<T>>(&mut self, by: &mut C) {
+    fn walk_mut(&mut self, by: &mut C) {
         match self {
             OptChainBaseOf::Member(x) => x.walk_mut(by),
             OptChainBaseOf::Call(x) => x.walk_mut(by),
@@ -392,10 +388,10 @@ impl<T> WalkMut<T> for OptChainBaseOf<T> {
     }
 }
 
-impl<T> WalkMut<T> for BlockStmtOrExprOf<T> {
-    ghost fits = { λ p x. fits_block_stmt_or_expr p x };
+impl<T, C: Change<T>> WalkMut<T, C> for BlockStmtOrExprOf<T> {
+    ghost fits = { λ x. fits_block_stmt_or_expr C.placed x };
 
-    fn walk_mut<C: Change<T>>(&mut self, by: &mut C) {
+    fn walk_mut(&mut self, by: &mut C) {
         match self {
             BlockStmtOrExprOf::BlockStmt(x) => x.walk_mut(by),
             BlockStmtOrExprOf::Expr(x) => x.walk_mut(by),

@@ -2,10 +2,10 @@
 use crate::walk::{Change, WalkMut, Word};
 use ecma_node::{BigInt, Bool, Lit, Null, Number, Regex, Str};
 
-impl<T> WalkMut<T> for Lit {
-    ghost fits = { λ _ _. Unit {0} };
+impl<T, C: Change<T>> WalkMut<T, C> for Lit {
+    ghost fits = { λ _. Unit {0} };
 
-    fn walk_mut<C: Change<T>>(&mut self, by: &mut C) {
+    fn walk_mut(&mut self, by: &mut C) {
         match self {
             Lit::Str(x) => x.walk_mut(by),
             Lit::Bool(x) => x.walk_mut(by),
@@ -17,53 +17,53 @@ impl<T> WalkMut<T> for Lit {
     }
 }
 
-impl<T> WalkMut<T> for Str {
-    ghost fits = { λ _ _. Unit {0} };
+impl<T, C: Change<T>> WalkMut<T, C> for Str {
+    ghost fits = { λ _. Unit {0} };
 
-    fn walk_mut<C: Change<T>>(&mut self, by: &mut C) {
-        by.word(Word::Span(&mut self.span));
+    fn walk_mut(&mut self, by: &mut C) {
+        by.span(&mut self.span);
         by.word(Word::Str(self));
     }
 }
 
-impl<T> WalkMut<T> for Bool {
-    ghost fits = { λ _ _. Unit {0} };
+impl<T, C: Change<T>> WalkMut<T, C> for Bool {
+    ghost fits = { λ _. Unit {0} };
 
-    fn walk_mut<C: Change<T>>(&mut self, by: &mut C) {
-        by.word(Word::Span(&mut self.span));
+    fn walk_mut(&mut self, by: &mut C) {
+        by.span(&mut self.span);
     }
 }
 
-impl<T> WalkMut<T> for Null {
-    ghost fits = { λ _ _. Unit {0} };
+impl<T, C: Change<T>> WalkMut<T, C> for Null {
+    ghost fits = { λ _. Unit {0} };
 
-    fn walk_mut<C: Change<T>>(&mut self, by: &mut C) {
-        by.word(Word::Span(&mut self.span));
+    fn walk_mut(&mut self, by: &mut C) {
+        by.span(&mut self.span);
     }
 }
 
-impl<T> WalkMut<T> for Number {
-    ghost fits = { λ _ _. Unit {0} };
+impl<T, C: Change<T>> WalkMut<T, C> for Number {
+    ghost fits = { λ _. Unit {0} };
 
-    fn walk_mut<C: Change<T>>(&mut self, by: &mut C) {
-        by.word(Word::Span(&mut self.span));
+    fn walk_mut(&mut self, by: &mut C) {
+        by.span(&mut self.span);
         by.word(Word::Number(self));
     }
 }
 
-impl<T> WalkMut<T> for BigInt {
-    ghost fits = { λ _ _. Unit {0} };
+impl<T, C: Change<T>> WalkMut<T, C> for BigInt {
+    ghost fits = { λ _. Unit {0} };
 
-    fn walk_mut<C: Change<T>>(&mut self, by: &mut C) {
-        by.word(Word::Span(&mut self.span));
+    fn walk_mut(&mut self, by: &mut C) {
+        by.span(&mut self.span);
         by.word(Word::BigInt(self));
     }
 }
 
-impl<T> WalkMut<T> for Regex {
-    ghost fits = { λ _ _. Unit {0} };
+impl<T, C: Change<T>> WalkMut<T, C> for Regex {
+    ghost fits = { λ _. Unit {0} };
 
-    fn walk_mut<C: Change<T>>(&mut self, by: &mut C) {
-        by.word(Word::Span(&mut self.span));
+    fn walk_mut(&mut self, by: &mut C) {
+        by.span(&mut self.span);
     }
 }

@@ -1,16 +1,16 @@
 //! Changes patterns (ECMA-262, 13.15.5 and 14.3.3).
 ghost use Rattle.ecma_node.specs.Fits.{fits_pat_kind, fits_array_pat, fits_rest_pat, fits_object_pat, fits_assign_pat, fits_object_pat_prop, fits_key_value_pat_prop, fits_assign_pat_prop, fits_assign_target};
 
-use crate::walk::{Change, WalkMut, Word, walk_all, walk_elements};
+use crate::walk::{Change, WalkMut, walk_all, walk_elements, walk_part};
 use ecma_node::{
     ArrayPatOf, AssignPatOf, AssignPatPropOf, AssignTargetOf, BindingIdent, KeyValuePatPropOf,
     ObjectPatOf, ObjectPatPropOf, PatKindOf, RestPatOf,
 };
 
-impl<T> WalkMut<T> for PatKindOf<T> {
-    ghost fits = { λ p x. fits_pat_kind p x };
+impl<T, C: Change<T>> WalkMut<T, C> for PatKindOf<T> {
+    ghost fits = { λ x. fits_pat_kind C.placed x };
 
-    fn walk_mut<C: Change<T>>(&mut self, by: &mut C) {
+    fn walk_mut(&mut self, by: &mut C) {
         match self {
             PatKindOf::Ident(x) => x.walk_mut(by),
             PatKindOf::Array(x) => x.walk_mut(by),
@@ -23,57 +23,57 @@ impl<T> WalkMut<T> for PatKindOf<T> {
     }
 }
 
-impl<T> WalkMut<T> for BindingIdent {
-    ghost fits = { λ _ _. Unit {0} };
+impl<T, C: Change<T>> WalkMut<T, C> for BindingIdent {
+    ghost fits = { λ _. Unit {0} };
 
-    fn walk_mut<C: Change<T>>(&mut self, by: &mut C) {
+    fn walk_mut(&mut self, by: &mut C) {
         self.id.walk_mut(by);
-        by.word(Word::Span(&mut self.span));
+        by.span(&mut self.span);
     }
 }
 
-impl<T> WalkMut<T> for ArrayPatOf<T> {
-    ghost fits = { λ p x. fits_array_pat p x };
+impl<T, C: Change<T>> WalkMut<T, C> for ArrayPatOf<T> {
+    ghost fits = { λ x. fits_array_pat C.placed x };
 
-    fn walk_mut<C: Change<T>>(&mut self, by: &mut C) {
+    fn walk_mut(&mut self, by: &mut C) {
         walk_elements(&mut self.elems, by);
-        by.word(Word::Span(&mut self.span));
+        by.span(&mut self.span);
     }
 }
 
-impl<T> WalkMut<T> for RestPatOf<T> {
-    ghost fits = { λ p x. fits_rest_pat p x };
+impl<T, C: Change<T>> WalkMut<T, C> for RestPatOf<T> {
+    ghost fits = { λ x. fits_rest_pat C.placed x };
 
-    fn walk_mut<C: Change<T>>(&mut self, by: &mut C) {
+    fn walk_mut(&mut self, by: &mut C) {
         self.arg.walk_mut(by);
-        by.word(Word::Span(&mut self.span));
-        by.word(Word::Span(&mut self.dot3_token));
+        by.span(&mut self.span);
+        by.span(&mut self.dot3_token);
     }
 }
 
-impl<T> WalkMut<T> for ObjectPatOf<T> {
-    ghost fits = { λ p x. fits_object_pat p x };
+impl<T, C: Change<T>> WalkMut<T, C> for ObjectPatOf<T> {
+    ghost fits = { λ x. fits_object_pat C.placed x };
 
-    fn walk_mut<C: Change<T>>(&mut self, by: &mut C) {
+    fn walk_mut(&mut self, by: &mut C) {
         walk_all(&mut self.props, by);
-        by.word(Word::Span(&mut self.span));
+        by.span(&mut self.span);
     }
 }
 
-impl<T> WalkMut<T> for AssignPatOf<T> {
-    ghost fits = { λ p x. fits_assign_pat p x };
+impl<T, C: Change<T>> WalkMut<T, C> for AssignPatOf<T> {
+    ghost fits = { λ x. fits_assign_pat C.placed x };
 
-    fn walk_mut<C: Change<T>>(&mut self, by: &mut C) {
+    fn walk_mut(&mut self, by: &mut C) {
         self.left.walk_mut(by);
         self.right.walk_mut(by);
-        by.word(Word::Span(&mut self.span));
+        by.span(&mut self.span);
     }
 }
 
-impl<T> WalkMut<T> for ObjectPatPropOf<T> {
-    ghost fits = { λ p x. fits_object_pat_prop p x };
+impl<T, C: Change<T>> WalkMut<T, C> for ObjectPatPropOf<T> {
+    ghost fits = { λ x. fits_object_pat_prop C.placed x };
 
-    fn walk_mut<C: Change<T>>(&mut self, by: &mut C) {
+    fn walk_mut(&mut self, by: &mut C) {
         match self {
             ObjectPatPropOf::KeyValue(x) => x.walk_mut(by),
             ObjectPatPropOf::Assign(x) => x.walk_mut(by),
@@ -82,32 +82,30 @@ impl<T> WalkMut<T> for ObjectPatPropOf<T> {
     }
 }
 
-impl<T> WalkMut<T> for KeyValuePatPropOf<T> {
-    ghost fits = { λ p x. fits_key_value_pat_prop p x };
+impl<T, C: Change<T>> WalkMut<T, C> for KeyValuePatPropOf<T> {
+    ghost fits = { λ x. fits_key_value_pat_prop C.placed x };
 
-    fn walk_mut<C: Change<T>>(&mut self, by: &mut C) {
+    fn walk_mut(&mut self, by: &mut C) {
         self.key.walk_mut(by);
         self.value.walk_mut(by);
-        by.word(Word::Span(&mut self.span));
+        by.span(&mut self.span);
     }
 }
 
-impl<T> WalkMut<T> for AssignPatPropOf<T> {
-    ghost fits = { λ p x. fits_assign_pat_prop p x };
+impl<T, C: Change<T>> WalkMut<T, C> for AssignPatPropOf<T> {
+    ghost fits = { λ x. fits_assign_pat_prop C.placed x };
 
-    fn walk_mut<C: Change<T>>(&mut self, by: &mut C) {
+    fn walk_mut(&mut self, by: &mut C) {
         self.key.walk_mut(by);
-        if let Some(x) = &mut self.value {
-            x.walk_mut(by);
-        }
-        by.word(Word::Span(&mut self.span));
+        walk_part(&mut self.value, by);
+        by.span(&mut self.span);
     }
 }
 
-impl<T> WalkMut<T> for AssignTargetOf<T> {
-    ghost fits = { λ p x. fits_assign_target p x };
+impl<T, C: Change<T>> WalkMut<T, C> for AssignTargetOf<T> {
+    ghost fits = { λ x. fits_assign_target C.placed x };
 
-    fn walk_mut<C: Change<T>>(&mut self, by: &mut C) {
+    fn walk_mut(&mut self, by: &mut C) {
         match self {
             AssignTargetOf::Ident(x) => x.walk_mut(by),
             AssignTargetOf::Member(x) => x.walk_mut(by),

@@ -1,7 +1,7 @@
 //! Changes scripts, modules, imports and exports (ECMA-262, 16.1 and 16.2).
 ghost use Rattle.ecma_node.specs.Fits.{fits_program_kind, fits_script, fits_module, fits_module_item, fits_module_decl, fits_import_decl, fits_export_decl, fits_named_export, fits_export_default_decl, fits_export_default_expr, fits_export_all, fits_default_decl};
 
-use crate::walk::{Change, WalkMut, Word, walk_all};
+use crate::walk::{Change, WalkMut, walk_all};
 use ecma_node::{
     DefaultDeclOf, ExportAllOf, ExportDeclOf, ExportDefaultDeclOf, ExportDefaultExprOf,
     ExportDefaultSpecifier, ExportNamedSpecifier, ExportNamespaceSpecifier, ExportSpecifier,
@@ -10,10 +10,10 @@ use ecma_node::{
     ProgramKindOf, ScriptOf,
 };
 
-impl<T> WalkMut<T> for ProgramKindOf<T> {
-    ghost fits = { λ p x. fits_program_kind p x };
+impl<T, C: Change<T>> WalkMut<T, C> for ProgramKindOf<T> {
+    ghost fits = { λ x. fits_program_kind C.placed x };
 
-    fn walk_mut<C: Change<T>>(&mut self, by: &mut C) {
+    fn walk_mut(&mut self, by: &mut C) {
         match self {
             ProgramKindOf::Script(x) => x.walk_mut(by),
             ProgramKindOf::Module(x) => x.walk_mut(by),
@@ -21,29 +21,29 @@ impl<T> WalkMut<T> for ProgramKindOf<T> {
     }
 }
 
-impl<T> WalkMut<T> for ScriptOf<T> {
-    ghost fits = { λ p x. fits_script p x };
+impl<T, C: Change<T>> WalkMut<T, C> for ScriptOf<T> {
+    ghost fits = { λ x. fits_script C.placed x };
 
-    fn walk_mut<C: Change<T>>(&mut self, by: &mut C) {
+    fn walk_mut(&mut self, by: &mut C) {
         walk_all(&mut self.body, by);
         by.leave_stmts(&mut self.body);
-        by.word(Word::Span(&mut self.span));
+        by.span(&mut self.span);
     }
 }
 
-impl<T> WalkMut<T> for ModuleOf<T> {
-    ghost fits = { λ p x. fits_module p x };
+impl<T, C: Change<T>> WalkMut<T, C> for ModuleOf<T> {
+    ghost fits = { λ x. fits_module C.placed x };
 
-    fn walk_mut<C: Change<T>>(&mut self, by: &mut C) {
+    fn walk_mut(&mut self, by: &mut C) {
         walk_all(&mut self.body, by);
-        by.word(Word::Span(&mut self.span));
+        by.span(&mut self.span);
     }
 }
 
-impl<T> WalkMut<T> for ModuleItemOf<T> {
-    ghost fits = { λ p x. fits_module_item p x };
+impl<T, C: Change<T>> WalkMut<T, C> for ModuleItemOf<T> {
+    ghost fits = { λ x. fits_module_item C.placed x };
 
-    fn walk_mut<C: Change<T>>(&mut self, by: &mut C) {
+    fn walk_mut(&mut self, by: &mut C) {
         match self {
             ModuleItemOf::ModuleDecl(x) => x.walk_mut(by),
             ModuleItemOf::Stmt(x) => x.walk_mut(by),
@@ -51,10 +51,10 @@ impl<T> WalkMut<T> for ModuleItemOf<T> {
     }
 }
 
-impl<T> WalkMut<T> for ModuleDeclOf<T> {
-    ghost fits = { λ p x. fits_module_decl p x };
+impl<T, C: Change<T>> WalkMut<T, C> for ModuleDeclOf<T> {
+    ghost fits = { λ x. fits_module_decl C.placed x };
 
-    fn walk_mut<C: Change<T>>(&mut self, by: &mut C) {
+    fn walk_mut(&mut self, by: &mut C) {
         match self {
             ModuleDeclOf::Import(x) => x.walk_mut(by),
             ModuleDeclOf::ExportDecl(x) => x.walk_mut(by),
@@ -66,32 +66,32 @@ impl<T> WalkMut<T> for ModuleDeclOf<T> {
     }
 }
 
-impl<T> WalkMut<T> for ImportDeclOf<T> {
-    ghost fits = { λ p x. fits_import_decl p x };
+impl<T, C: Change<T>> WalkMut<T, C> for ImportDeclOf<T> {
+    ghost fits = { λ x. fits_import_decl C.placed x };
 
-    fn walk_mut<C: Change<T>>(&mut self, by: &mut C) {
+    fn walk_mut(&mut self, by: &mut C) {
         walk_all(&mut self.specifiers, by);
         self.src.walk_mut(by);
         if let Some(x) = &mut self.with_ {
             x.walk_mut(by);
         }
-        by.word(Word::Span(&mut self.span));
+        by.span(&mut self.span);
     }
 }
 
-impl<T> WalkMut<T> for ExportDeclOf<T> {
-    ghost fits = { λ p x. fits_export_decl p x };
+impl<T, C: Change<T>> WalkMut<T, C> for ExportDeclOf<T> {
+    ghost fits = { λ x. fits_export_decl C.placed x };
 
-    fn walk_mut<C: Change<T>>(&mut self, by: &mut C) {
+    fn walk_mut(&mut self, by: &mut C) {
         self.decl.walk_mut(by);
-        by.word(Word::Span(&mut self.span));
+        by.span(&mut self.span);
     }
 }
 
-impl<T> WalkMut<T> for NamedExportOf<T> {
-    ghost fits = { λ p x. fits_named_export p x };
+impl<T, C: Change<T>> WalkMut<T, C> for NamedExportOf<T> {
+    ghost fits = { λ x. fits_named_export C.placed x };
 
-    fn walk_mut<C: Change<T>>(&mut self, by: &mut C) {
+    fn walk_mut(&mut self, by: &mut C) {
         walk_all(&mut self.specifiers, by);
         if let Some(x) = &mut self.src {
             x.walk_mut(by);
@@ -99,44 +99,44 @@ impl<T> WalkMut<T> for NamedExportOf<T> {
         if let Some(x) = &mut self.with_ {
             x.walk_mut(by);
         }
-        by.word(Word::Span(&mut self.span));
+        by.span(&mut self.span);
     }
 }
 
-impl<T> WalkMut<T> for ExportDefaultDeclOf<T> {
-    ghost fits = { λ p x. fits_export_default_decl p x };
+impl<T, C: Change<T>> WalkMut<T, C> for ExportDefaultDeclOf<T> {
+    ghost fits = { λ x. fits_export_default_decl C.placed x };
 
-    fn walk_mut<C: Change<T>>(&mut self, by: &mut C) {
+    fn walk_mut(&mut self, by: &mut C) {
         self.decl.walk_mut(by);
-        by.word(Word::Span(&mut self.span));
+        by.span(&mut self.span);
     }
 }
 
-impl<T> WalkMut<T> for ExportDefaultExprOf<T> {
-    ghost fits = { λ p x. fits_export_default_expr p x };
+impl<T, C: Change<T>> WalkMut<T, C> for ExportDefaultExprOf<T> {
+    ghost fits = { λ x. fits_export_default_expr C.placed x };
 
-    fn walk_mut<C: Change<T>>(&mut self, by: &mut C) {
+    fn walk_mut(&mut self, by: &mut C) {
         self.expr.walk_mut(by);
-        by.word(Word::Span(&mut self.span));
+        by.span(&mut self.span);
     }
 }
 
-impl<T> WalkMut<T> for ExportAllOf<T> {
-    ghost fits = { λ p x. fits_export_all p x };
+impl<T, C: Change<T>> WalkMut<T, C> for ExportAllOf<T> {
+    ghost fits = { λ x. fits_export_all C.placed x };
 
-    fn walk_mut<C: Change<T>>(&mut self, by: &mut C) {
+    fn walk_mut(&mut self, by: &mut C) {
         self.src.walk_mut(by);
         if let Some(x) = &mut self.with_ {
             x.walk_mut(by);
         }
-        by.word(Word::Span(&mut self.span));
+        by.span(&mut self.span);
     }
 }
 
-impl<T> WalkMut<T> for DefaultDeclOf<T> {
-    ghost fits = { λ p x. fits_default_decl p x };
+impl<T, C: Change<T>> WalkMut<T, C> for DefaultDeclOf<T> {
+    ghost fits = { λ x. fits_default_decl C.placed x };
 
-    fn walk_mut<C: Change<T>>(&mut self, by: &mut C) {
+    fn walk_mut(&mut self, by: &mut C) {
         match self {
             DefaultDeclOf::Class(x) => x.walk_mut(by),
             DefaultDeclOf::Fn(x) => x.walk_mut(by),
@@ -144,10 +144,10 @@ impl<T> WalkMut<T> for DefaultDeclOf<T> {
     }
 }
 
-impl<T> WalkMut<T> for ImportSpecifier {
-    ghost fits = { λ _ _. Unit {0} };
+impl<T, C: Change<T>> WalkMut<T, C> for ImportSpecifier {
+    ghost fits = { λ _. Unit {0} };
 
-    fn walk_mut<C: Change<T>>(&mut self, by: &mut C) {
+    fn walk_mut(&mut self, by: &mut C) {
         match self {
             ImportSpecifier::Named(x) => x.walk_mut(by),
             ImportSpecifier::Default(x) => x.walk_mut(by),
@@ -156,40 +156,40 @@ impl<T> WalkMut<T> for ImportSpecifier {
     }
 }
 
-impl<T> WalkMut<T> for ImportNamedSpecifier {
-    ghost fits = { λ _ _. Unit {0} };
+impl<T, C: Change<T>> WalkMut<T, C> for ImportNamedSpecifier {
+    ghost fits = { λ _. Unit {0} };
 
-    fn walk_mut<C: Change<T>>(&mut self, by: &mut C) {
+    fn walk_mut(&mut self, by: &mut C) {
         self.local.walk_mut(by);
         if let Some(x) = &mut self.imported {
             x.walk_mut(by);
         }
-        by.word(Word::Span(&mut self.span));
+        by.span(&mut self.span);
     }
 }
 
-impl<T> WalkMut<T> for ImportDefaultSpecifier {
-    ghost fits = { λ _ _. Unit {0} };
+impl<T, C: Change<T>> WalkMut<T, C> for ImportDefaultSpecifier {
+    ghost fits = { λ _. Unit {0} };
 
-    fn walk_mut<C: Change<T>>(&mut self, by: &mut C) {
+    fn walk_mut(&mut self, by: &mut C) {
         self.local.walk_mut(by);
-        by.word(Word::Span(&mut self.span));
+        by.span(&mut self.span);
     }
 }
 
-impl<T> WalkMut<T> for ImportStarAsSpecifier {
-    ghost fits = { λ _ _. Unit {0} };
+impl<T, C: Change<T>> WalkMut<T, C> for ImportStarAsSpecifier {
+    ghost fits = { λ _. Unit {0} };
 
-    fn walk_mut<C: Change<T>>(&mut self, by: &mut C) {
+    fn walk_mut(&mut self, by: &mut C) {
         self.local.walk_mut(by);
-        by.word(Word::Span(&mut self.span));
+        by.span(&mut self.span);
     }
 }
 
-impl<T> WalkMut<T> for ExportSpecifier {
-    ghost fits = { λ _ _. Unit {0} };
+impl<T, C: Change<T>> WalkMut<T, C> for ExportSpecifier {
+    ghost fits = { λ _. Unit {0} };
 
-    fn walk_mut<C: Change<T>>(&mut self, by: &mut C) {
+    fn walk_mut(&mut self, by: &mut C) {
         match self {
             ExportSpecifier::Namespace(x) => x.walk_mut(by),
             ExportSpecifier::Default(x) => x.walk_mut(by),
@@ -198,40 +198,40 @@ impl<T> WalkMut<T> for ExportSpecifier {
     }
 }
 
-impl<T> WalkMut<T> for ExportNamespaceSpecifier {
-    ghost fits = { λ _ _. Unit {0} };
+impl<T, C: Change<T>> WalkMut<T, C> for ExportNamespaceSpecifier {
+    ghost fits = { λ _. Unit {0} };
 
-    fn walk_mut<C: Change<T>>(&mut self, by: &mut C) {
+    fn walk_mut(&mut self, by: &mut C) {
         self.name.walk_mut(by);
-        by.word(Word::Span(&mut self.span));
+        by.span(&mut self.span);
     }
 }
 
-impl<T> WalkMut<T> for ExportDefaultSpecifier {
-    ghost fits = { λ _ _. Unit {0} };
+impl<T, C: Change<T>> WalkMut<T, C> for ExportDefaultSpecifier {
+    ghost fits = { λ _. Unit {0} };
 
-    fn walk_mut<C: Change<T>>(&mut self, by: &mut C) {
+    fn walk_mut(&mut self, by: &mut C) {
         self.exported.walk_mut(by);
-        by.word(Word::Span(&mut self.span));
+        by.span(&mut self.span);
     }
 }
 
-impl<T> WalkMut<T> for ExportNamedSpecifier {
-    ghost fits = { λ _ _. Unit {0} };
+impl<T, C: Change<T>> WalkMut<T, C> for ExportNamedSpecifier {
+    ghost fits = { λ _. Unit {0} };
 
-    fn walk_mut<C: Change<T>>(&mut self, by: &mut C) {
+    fn walk_mut(&mut self, by: &mut C) {
         self.orig.walk_mut(by);
         if let Some(x) = &mut self.exported {
             x.walk_mut(by);
         }
-        by.word(Word::Span(&mut self.span));
+        by.span(&mut self.span);
     }
 }
 
-impl<T> WalkMut<T> for ModuleExportName {
-    ghost fits = { λ _ _. Unit {0} };
+impl<T, C: Change<T>> WalkMut<T, C> for ModuleExportName {
+    ghost fits = { λ _. Unit {0} };
 
-    fn walk_mut<C: Change<T>>(&mut self, by: &mut C) {
+    fn walk_mut(&mut self, by: &mut C) {
         match self {
             ModuleExportName::Ident(x) => x.walk_mut(by),
             ModuleExportName::Str(x) => x.walk_mut(by),

@@ -7,6 +7,7 @@ use crate::walk::{Change, WalkMut, Word};
 use ecma_node::{
     Class, Expr, Function, Part, PartKind, Pat, Program, ProgramKindOf, Stmt, StmtBox,
 };
+use ecma_token::Span;
 
 /// A visitor, the functions that change expressions, statements and patterns, and the levels that are left.
 #[derive(Drop)]
@@ -80,8 +81,11 @@ impl<
             Word::Number(x) => self.visitor.number(x),
             Word::BigInt(x) => self.visitor.big_int(x),
             Word::TplElement(x) => self.visitor.tpl_element(x),
-            Word::Span(x) => self.visitor.span(x),
         }
+    }
+
+    fn span(&mut self, span: &mut Span) {
+        self.visitor.span(span);
     }
 }
 

@@ -9,7 +9,7 @@ use ecma_node::{
 };
 use ecma_token::Span;
 
-/// A name, a literal, a text of a template or a place.
+/// A name, a literal or a text of a template.
 pub enum Word<'a> {
     Ident(&'a mut Ident),
     IdentName(&'a mut IdentName),
@@ -18,7 +18,6 @@ pub enum Word<'a> {
     Number(&'a mut Number),
     BigInt(&'a mut BigInt),
     TplElement(&'a mut TplElement),
-    Span(&'a mut Span),
 }
 
 /// Who changes the parts of a tree whose children's boxes keep `T`: it changes what these keep, and hands a visitor the
@@ -85,55 +84,60 @@ pub trait Change<T> {
         ensures ready { ready self.new }
         ensures holds { All (λ x. holds_stmt (placed x.part.value)) stmts.new.items };
 
-    /// Hands a name, a literal, a text of a template or a place.
+    /// Hands a name, a literal or a text of a template.
     fn word(&mut self, word: Word<'_>)
+        requires ready { ready self.old }
+        ensures ready { ready self.new };
+
+    /// Hands the place of a node, or of the dots before one.
+    fn span(&mut self, span: &mut Span)
         requires ready { ready self.old }
         ensures ready { ready self.new };
 }
 
 /// What can be changed: a part of a tree whose children's boxes keep `T`.
-pub trait WalkMut<T> {
+pub trait WalkMut<T, C: Change<T>> {
     /// That each child is of the sort of its place.
-    ghost fits: { (T → Placed) → Self → Type 0 };
+    ghost fits: { Self → Type 0 };
 
     /// Changes what is below it, and then itself.
-    fn walk_mut<C: Change<T>>(&mut self, by: &mut C)
+    fn walk_mut(&mut self, by: &mut C)
         requires ready { C.ready by.old }
-        requires fits { fits C.placed self.old }
+        requires fits { fits self.old }
         ensures ready { C.ready by.new }
-        ensures fits { fits C.placed self.new };
+        ensures fits { fits self.new };
 }
 
-impl<T> WalkMut<T> for Child<T, ExprTag> {
-    ghost fits = { λ p c. holds_expr (p c.part.value) };
+impl<T, C: Change<T>> WalkMut<T, C> for Child<T, ExprTag> {
+    ghost fits = { λ c. holds_expr (C.placed c.part.value) };
 
-    fn walk_mut<C: Change<T>>(&mut self, by: &mut C) {
+    fn walk_mut(&mut self, by: &mut C) {
         by.expr(&mut *self.part);
     }
 }
 
-impl<T> WalkMut<T> for Child<T, StmtTag> {
-    ghost fits = { λ p c. holds_stmt (p c.part.value) };
+impl<T, C: Change<T>> WalkMut<T, C> for Child<T, StmtTag> {
+    ghost fits = { λ c. holds_stmt (C.placed c.part.value) };
 
-    fn walk_mut<C: Change<T>>(&mut self, by: &mut C) {
+    fn walk_mut(&mut self, by: &mut C) {
         by.stmt(&mut *self.part);
     }
 }
 
-impl<T> WalkMut<T> for Child<T, PatTag> {
-    ghost fits = { λ p c. holds_pat (p c.part.value) };
+impl<T, C: Change<T>> WalkMut<T, C> for Child<T, PatTag> {
+    ghost fits = { λ c. holds_pat (C.placed c.part.value) };
 
-    fn walk_mut<C: Change<T>>(&mut self, by: &mut C) {
+    fn walk_mut(&mut self, by: &mut C) {
         by.pat(&mut *self.part);
     }
 }
 
 /// Changes each of a list.
-pub(crate) fn walk_all<T, X: WalkMut<T>, C: Change<T>>(items: &mut Vec<X>, by: &mut C)
+pub(crate) fn walk_all<T, C: Change<T>, X: WalkMut<T, C>>(items: &mut Vec<X>, by: &mut C)
     requires ready { C.ready by.old }
-    requires fits { All (X.fits C.placed) items.old.items }
+    requires fits { All X.fits items.old.items }
     ensures ready { C.ready by.new }
-    ensures fits { All (X.fits C.placed) items.new.items }
+    ensures fits { All X.fits items.new.items }
 {
     for x in items.iter_mut() {
         x.walk_mut(by);
@@ -141,15 +145,40 @@ pub(crate) fn walk_all<T, X: WalkMut<T>, C: Change<T>>(items: &mut Vec<X>, by: &
 }
 
 /// Changes each of a list whose elements may be left out.
-pub(crate) fn walk_elements<T, X: WalkMut<T>, C: Change<T>>(items: &mut Vec<Option<X>>, by: &mut C)
+pub(crate) fn walk_elements<T, C: Change<T>, X: WalkMut<T, C>>(
+    items: &mut Vec<Option<X>>,
+    by: &mut C,
+)
     requires ready { C.ready by.old }
-    requires fits { All (λ x. fits_held (X.fits C.placed) x) items.old.items }
+    requires fits { All (λ x. fits_held X.fits x) items.old.items }
     ensures ready { C.ready by.new }
-    ensures fits { All (λ x. fits_held (X.fits C.placed) x) items.new.items }
+    ensures fits { All (λ x. fits_held X.fits x) items.new.items }
 {
     for x in items.iter_mut() {
         if let Some(x) = x {
             x.walk_mut(by);
         }
+    }
+}
+
+/// Changes a part that may be left out.
+pub(crate) fn walk_part<T, C: Change<T>, X: WalkMut<T, C>>(part: &mut Option<X>, by: &mut C)
+    requires ready { C.ready by.old }
+    requires fits { fits_held X.fits part.old }
+    ensures ready { C.ready by.new }
+    ensures fits { fits_held X.fits part.new }
+{
+    if let Some(x) = part {
+        x.walk_mut(by);
+    }
+}
+
+/// Changes the place of dots, where they stand.
+pub(crate) fn walk_place<T, C: Change<T>>(place: &mut Option<Span>, by: &mut C)
+    requires { C.ready by.old }
+    ensures { C.ready by.new }
+{
+    if let Some(span) = place {
+        by.span(span);
     }
 }
