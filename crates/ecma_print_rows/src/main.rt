@@ -2,6 +2,7 @@
 //! and laws that hold for each of them.
 #![tactic(auto)]
 
+mod commented;
 mod laws;
 mod settings;
 mod through;
@@ -28,6 +29,7 @@ impl Subject for Printing {
             "refused" => told::refused(row, text, answer),
             "marks" => told::marks(row, text, answer),
             "places" => told::places(row, text, answer),
+            "comments" => commented::tell(row, text, answer),
             "through" => through::tell(row, text, answer),
             _ => told::failed("no such subject"),
         }

@@ -1,6 +1,7 @@
 //! A text read as a program and printed again: for rows of tests, and for measuring.
 #![tactic(auto)]
 
+mod commented;
 mod fault;
 mod print;
 mod read;
@@ -8,6 +9,7 @@ mod reprint;
 mod same;
 mod style;
 
+pub use commented::reprint_with_comments;
 pub use fault::Fault;
 pub use read::{Reading, read_program};
 pub use reprint::{reprint_text, reprint_to};

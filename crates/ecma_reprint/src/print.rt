@@ -2,6 +2,7 @@
 
 use crate::Style;
 use ecma_codegen::{Config, Emitter, Gather, JsWriter, NoPlaces, WriteJs, omit_trailing_semi};
+use ecma_comments::Comments;
 use ecma_node::Program;
 use ecma_token::{BytePos, CountedWrite, LineCol};
 use ecma_write::EmitError;
@@ -12,13 +13,14 @@ fn emit<W: WriteJs>(
     alloc: Global,
     program: &Program,
     cfg: Config,
+    comments: Option<&mut Comments>,
     wr: &mut W,
 ) -> Result<(), EmitError> {
     let mut emitter = Emitter {
         alloc,
         cfg,
         cm: NoPlaces,
-        comments: None,
+        comments,
         wr,
     };
     emitter.emit_program(program)
@@ -31,16 +33,17 @@ fn emit_to<W: CountedWrite + Drop>(
     program: &Program,
     style: Style,
     marks: Option<&mut Vec<(BytePos, LineCol)>>,
+    comments: Option<&mut Comments>,
     out: W,
 ) -> (W, Result<(), EmitError>) {
     let mut wr = JsWriter::new(alloc, style.line_end, out, marks);
     wr.set_indent_str(style.indent);
     if style.cfg.minify {
         let mut wr = omit_trailing_semi(wr);
-        let ended = emit(alloc, program, style.cfg, &mut wr);
+        let ended = emit(alloc, program, style.cfg, comments, &mut wr);
         (wr.into_inner().into_inner(), ended)
     } else {
-        let ended = emit(alloc, program, style.cfg, &mut wr);
+        let ended = emit(alloc, program, style.cfg, comments, &mut wr);
         (wr.into_inner(), ended)
     }
 }
@@ -51,9 +54,10 @@ pub(crate) fn print_to<W: CountedWrite>(
     program: &Program,
     style: Style,
     marks: Option<&mut Vec<(BytePos, LineCol)>>,
+    comments: Option<&mut Comments>,
     out: &mut W,
 ) -> Result<(), EmitError> {
-    let (mut block, ended) = emit_to(alloc, program, style, marks, Gather::new(out));
+    let (mut block, ended) = emit_to(alloc, program, style, marks, comments, Gather::new(out));
     ended?;
     match block.finish() {
         Ok(()) => Ok(()),

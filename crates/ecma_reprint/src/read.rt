@@ -53,17 +53,18 @@ fn module<'a>(parser: &mut Parser<'a, Lexer<'a>>) -> PResult<Program> {
     })
 }
 
-/// The program that a text with places for its bytes is. Its first early error refuses it.
-fn read(alloc: Global, text: &str, reading: Reading) -> Result<Program, Fault>
-    requires { length text.now ≤ LONGEST }
+/// The program in front of a parser. Its first early error refuses it.
+pub(crate) fn program<'a>(
+    parser: &mut Parser<'a, Lexer<'a>>,
+    reading: Reading,
+) -> Result<Program, Fault>
     ensures { IfErr result (λ fault. fault ≢ TooLong) }
 {
-    let mut parser: Parser<'_, Lexer<'_>> = Parser::new(alloc, Syntax::Es(reading.syntax), text);
     parser.set_nesting(reading.nesting);
     let program = if reading.script {
-        script(&mut parser)
+        script(parser)
     } else {
-        module(&mut parser)
+        module(parser)
     };
     match program {
         Err(error) => Err(Fault::Refused(error)),
@@ -72,6 +73,15 @@ fn read(alloc: Global, text: &str, reading: Reading) -> Result<Program, Fault>
             None => Ok(program),
         },
     }
+}
+
+/// The program that a text with places for its bytes is.
+fn read(alloc: Global, text: &str, reading: Reading) -> Result<Program, Fault>
+    requires { length text.now ≤ LONGEST }
+    ensures { IfErr result (λ fault. fault ≢ TooLong) }
+{
+    let mut parser: Parser<'_, Lexer<'_>> = Parser::new(alloc, Syntax::Es(reading.syntax), text);
+    program(&mut parser, reading)
 }
 
 /// The program that a text is. Its first early error refuses it.

@@ -31,7 +31,7 @@ pub fn reprint_to<W: CountedWrite>(
     ensures untouched { Leaves result out.old out.new }
 {
     let program = read_program(alloc, text, reading)?;
-    match print_to(alloc, &program, style, marks, out) {
+    match print_to(alloc, &program, style, marks, None, out) {
         Ok(()) => Ok(()),
         Err(fault) => Err(Fault::Written(fault)),
     }
