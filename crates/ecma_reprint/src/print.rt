@@ -9,12 +9,12 @@ use ecma_write::EmitError;
 use std::alloc::Global;
 
 /// Prints a program to a writer of words and lines.
-fn emit<W: WriteJs>(
+fn emit<W: WriteJs + Drop>(
     alloc: Global,
     program: &Program,
     cfg: Config,
     comments: Option<&mut Comments>,
-    wr: &mut W,
+    wr: W,
 ) -> Result<(), EmitError> {
     let mut emitter = Emitter {
         alloc,
