@@ -8,10 +8,10 @@ use ecma_rows::{Answer, Row};
 use ecma_token::{BytePos, Counted};
 use std::alloc::Global;
 
-/// Whether a comment of a text of so many bytes is left.
-fn is_left(comments: &Comments, len: usize) -> bool {
-    for before in 0..len + 1 {
-        let pos = BytePos((before as u32).saturating_add(1));
+/// Whether a comment is left at one of so many places.
+fn is_left(comments: &Comments, places: u32) -> bool {
+    'places: for before in 0..places {
+        let pos = BytePos(before + 1);
         if comments.has_leading(pos) || comments.has_trailing(pos) {
             return true;
         }
@@ -22,8 +22,9 @@ fn is_left(comments: &Comments, len: usize) -> bool {
 /// The text that is written, with all comments.
 fn written(row: &Row<'_>, text: &str, style: Style, alloc: Global) -> anyhow::Result<Vec<u8>> {
     let mut out: Counted<Vec<u8>> = Counted::new(Vec::new(alloc));
+    let len = u32::try_from(text.len()).unwrap_or(u32::MAX);
     match reprint_with_comments(alloc, text, reading(row), style, &mut out) {
-        Ok(left) if is_left(&left, text.len()) => failed("a comment is not written"),
+        Ok(left) if is_left(&left, len.saturating_add(1)) => failed("a comment is not written"),
         Ok(_) => Ok(out.into_inner()),
         Err(fault) => faulty(fault),
     }
