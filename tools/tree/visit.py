@@ -130,7 +130,7 @@ class Visit:
         return "".join(out)
 
     def event(self, name, call):
-        """Tells the visitor of a struct. A call that is handed no `Node` costs the prover a third of one that is."""
+        """Tells the visitor of a struct. A call that is handed a `Node` costs the prover more than one that isn't."""
         if name in HANDED:
             return "visitor.%s(Node::%s(self));" % (call, name)
         return "%s_part(Kind::%s, self.span, visitor);" % (call, name)
