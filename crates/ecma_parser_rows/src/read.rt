@@ -56,7 +56,7 @@ pub fn read(
     limit: u32,
     alloc: Global,
 ) -> anyhow::Result<Outcome> {
-    if text.len() > 1_000_000 {
+    if text.len() > 20_000_000 {
         return failed("too long");
     }
     let mut parser: Parser<'_, Lexer<'_>> = Parser::new(alloc, syntax(row), text);
