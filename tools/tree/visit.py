@@ -1,5 +1,7 @@
 """Writes the walk over all nodes of the code's tree, from the table."""
 
+import re
+
 from nesting import WHAT
 from node_types import inside, snake, use_line
 from table import SORTS
@@ -23,6 +25,25 @@ ORDER = {
 }
 
 KNOTS = ["ProgramKind", "StmtKind", "ExprKind", "PatKind"]
+
+# The calls that go over all that is below a struct, by the shapes of its fields, and those that also tell of the struct
+# itself. Where there is such a call no method for what is below the struct is needed.
+BELOW = {
+    "node": "%s.walk(visitor)",
+    "node node": "walk_two(&%s, &%s, visitor)",
+    "node node node": "walk_three(&%s, &%s, &%s, visitor)",
+    "part": "walk_part(&%s, visitor)",
+    "list": "walk_all(%s.as_slice(), visitor)",
+    "elements": "walk_elements(%s.as_slice(), visitor)",
+    "node list": "walk_headed(&%s, %s.as_slice(), visitor)",
+}
+TELLS = ["enter_part", "leave_part", "tell_leaf", "tell_list", "tell_one", "tell_two"]
+TOLD = {
+    "": "tell_leaf(%s, visitor)",
+    "node": "tell_one(%s, &%s, visitor)",
+    "node node": "tell_two(%s, &%s, &%s, visitor)",
+    "list": "tell_list(%s, %s.as_slice(), visitor)",
+}
 
 
 def bare(text):
@@ -77,9 +98,33 @@ class Visit:
             return all(self.is_leaf(bare(t)) for _, t in self.table.variants_of[name])
         return not self.fields(name)
 
-    def field_lines(self, name):
+    def shape(self, text):
+        """What a field holds, as far as the calls differ that go over it."""
+        items, held = inside(text, "Vec"), inside(text, "Option")
+        if items:
+            return "elements" if inside(items, "Hole") else "list"
+        if held:
+            return "boxed part" if inside(held, "Box") else "part"
+        return "node"
+
+    def in_one_call(self, calls, name, place, *before):
+        """The one call for a struct's fields, if there is one."""
+        call = calls.get(" ".join(self.shape(t) for _, t in self.fields(name)))
+        if not call:
+            return None
+        lent = ["*" * ("&%s" in call and bool(inside(t, "Box"))) + place + "." + f for f, t in self.fields(name)]
+        return call % (*before, *lent)
+
+    def below(self, name, place):
+        """The one call that goes over what is below a struct, if there is one."""
         if name == "Tpl":
-            return ["walk_template(self.quasis.as_slice(), self.exprs.as_slice(), visitor);"]
+            return "walk_template(%s.quasis.as_slice(), %s.exprs.as_slice(), visitor)" % (place, place)
+        return name in self.table.fields_of and self.in_one_call(BELOW, name, place)
+
+    def field_lines(self, name):
+        below = self.below(name, "self")
+        if below:
+            return [below + ";"]
         return [line for f, t in self.fields(name) for line in self.part_lines("self." + f, t)]
 
     def part_lines(self, part, text):
@@ -100,11 +145,10 @@ class Visit:
         for v, t in self.table.variants_of[name]:
             if call == "inside" and self.is_leaf(bare(t)):
                 lines.append("    %s::%s(_) => {}" % (own, v))
+            elif call == "inside" and self.below(bare(t), "x"):
+                lines.append("    %s::%s(x) => %s," % (own, v, self.below(bare(t), "x")))
             elif (name, v) == ("AssignTarget", "Invalid"):
-                lines.append("    %s::%s(x) => {" % (own, v))
-                lines.append("        enter_part(Kind::InvalidTarget, x.span, visitor);")
-                lines.append("        leave_part(Kind::InvalidTarget, x.span, visitor);")
-                lines.append("    }")
+                lines.append("    %s::%s(x) => tell_leaf(Kind::InvalidTarget, x.span, visitor)," % (own, v))
             else:
                 method = "walk" if bare(t) in SORTS else call
                 lines.append("    %s::%s(x) => x.%s(visitor)," % (own, v, method))
@@ -121,10 +165,13 @@ class Visit:
 
     def struct(self, name):
         own, out = self.field_lines(name), []
-        opened = name in self.opened and not self.is_leaf(name)
+        opened = name in self.opened and not self.is_leaf(name) and not self.below(name, "self")
         if opened:
             out.append(self.impl(name, "Inside", own))
-        if name in self.walked:
+        told = name not in HANDED and self.in_one_call(TOLD, name, "self", "Kind::%s, self.span" % name)
+        if name in self.walked and told:
+            out.append(self.impl(name, "Walk", [told + ";"]))
+        elif name in self.walked:
             within = ["self.inside(visitor);"] if opened else own
             out.append(self.impl(name, "Walk", [self.event(name, "enter")] + within + [self.event(name, "leave")]))
         return "".join(out)
@@ -156,16 +203,18 @@ class Visit:
                 names.append(n + "Of" if table.is_generic(n) else n)
                 views.append("view_" + snake(n))
         text = "".join(body)
-        helpers = [h for h in ("Inside", "Node", "Walk", "Watch", "enter_part", "leave_part", "walk_all", "walk_elements", "walk_part", "walk_template") if h in text]
-        helpers = [h for h in helpers if h != "Node" or "Node::" in text]
+        watch = [h for h in ("Inside", "Node", "Walk", "Watch", *TELLS) if re.search(r"\b%s\b" % h, text)]
+        lists = [h for h in ("walk_all", "walk_elements", "walk_headed", "walk_part", "walk_template", "walk_three", "walk_two") if h + "(" in text]
+        tells = [h for h in watch if h in TELLS]
         head = "//! Goes over %s.\n" % WHAT[module]
         head += "ghost use Rattle.ecma_node.specs.View.{%s};\n\n" % ", ".join(views)
         if "Kind::" in text.replace("PatKind::", ""):
             head += "use crate::kinds::Kind;\n"
-        lists = [h for h in helpers if h.startswith("walk_")]
         if lists:
             head += use_line("crate::lists", lists)
-        head += use_line("crate::watch", [h for h in helpers if not h.startswith("walk_")])
+        if tells:
+            head += use_line("crate::told", tells)
+        head += use_line("crate::watch", [h for h in watch if h not in tells])
         head += use_line("ecma_node", sorted(names))
         return head + "\n" + text.rstrip("\n") + "\n"
 

@@ -3,7 +3,7 @@
 from nesting import WHAT
 from node_types import inside, snake, use_line
 from table import SORTS
-from visit import Visit
+from visit import Visit, bare
 
 CRATE = "crates/ecma_visit_mut"
 
@@ -11,7 +11,14 @@ CRATE = "crates/ecma_visit_mut"
 ENTERED = ["Function", "Class"]
 LEFT = ["Function", "Class"]
 CHANGED = ["Ident", "IdentName", "PrivateName", "Str", "Number", "BigInt", "TplElement"]
-LISTS = {"Vec<Stmt>": "leave_stmts"}
+# The functions for what several structs hold. A call that is handed a type to go over costs ten times as much as one that isn't.
+SHARED = {
+    "Option<Expr>": "walk_value",
+    "Vec<Stmt>": "walk_stmts",
+    "Vec<Decorator>": "walk_decorators",
+    "Vec<ExprOrSpread>": "walk_args",
+}
+HELPERS = ["walk_all", "walk_elements", "walk_part", "walk_place", *SHARED.values()]
 
 
 class VisitMut:
@@ -19,32 +26,37 @@ class VisitMut:
         self.table = table
         self.visit = Visit(table)
 
+    def is_leaf(self, name):
+        """Whether all there is to change is the place of the node itself, which is then changed where the node stands."""
+        return name in self.table.fields_of and name not in CHANGED and not self.visit.fields(name) and not self.dots(name)
+
+    def dots(self, name):
+        """The places of dots that it keeps."""
+        return [(f, t) for f, t in self.table.fields_of[name] if bare(t) == "Span"]
+
     def struct_lines(self, name):
-        table, lines = self.table, []
-        if name in ENTERED:
-            lines.append("by.enter_%s(self);" % snake(name))
+        lines = ["by.enter_%s(self);" % snake(name)] if name in ENTERED else []
         for f, t in self.visit.fields(name):
             lines += self.field_lines("self." + f, t)
-            if t in LISTS:
-                lines.append("by.%s(&mut self.%s);" % (LISTS[t], f))
-        for f, t in [("span", "Span")] + table.fields_of[name]:
-            if t == "Span":
-                lines.append("by.span(&mut self.%s);" % f)
-            elif t == "Option<Span>":
-                lines.append("walk_place(&mut self.%s, by);" % f)
+        for f, t in [("span", "Span")] + self.dots(name):
+            lines.append("by.span(&mut self.%s);" % f if t == "Span" else "walk_place(&mut self.%s, by);" % f)
         return lines + self.end(name)
 
     def field_lines(self, field, text):
         """Changes what a field holds. Lists and parts that may be left out are no `WalkMut` of their own: an impl for a
         list of what is generic costs ten times as much wherever it is used."""
         items, part = inside(text, "Vec"), inside(text, "Option")
+        lent = "&mut " + field if "." in field else field
+        if text in SHARED:
+            return ["%s(%s, by);" % (SHARED[text], lent)]
         if items:
-            call = "walk_elements" if inside(items, "Hole") else "walk_all"
-            return ["%s(%s, by);" % (call, "&mut " + field if "." in field else field)]
+            return ["%s(%s, by);" % ("walk_elements" if inside(items, "Hole") else "walk_all", lent)]
         if part and (part in SORTS or self.table.is_generic(part)):
-            return ["walk_part(&mut %s, by);" % field]
+            return ["walk_part(%s, by);" % lent]
         if part:
             return ["if let Some(x) = &mut %s {" % field] + ["    " + line for line in self.field_lines("x", part)] + ["}"]
+        if self.is_leaf(text):
+            return ["by.span(&mut %s.span);" % field]
         return ["%s.walk_mut(by);" % field]
 
     def end(self, name):
@@ -54,7 +66,10 @@ class VisitMut:
 
     def enum_lines(self, name):
         own = name + "Of" if self.table.is_generic(name) else name
-        arms = ["    %s::%s(x) => x.walk_mut(by)," % (own, v) for v, _ in self.table.variants_of[name]]
+        arms = []
+        for v, t in self.table.variants_of[name]:
+            call = "by.span(&mut x.span)" if self.is_leaf(t) else "x.walk_mut(by)"
+            arms.append("    %s::%s(x) => %s," % (own, v, call))
         return ["match self {"] + arms + ["}"] + self.end(name)
 
     def impl(self, name, lines):
@@ -69,7 +84,7 @@ class VisitMut:
         table = self.table
         body, names, fits = [], set(), []
         for what, n in table.order:
-            if what == "words" or table.module_of[n] != module:
+            if what == "words" or table.module_of[n] != module or self.is_leaf(n):
                 continue
             body.append(self.impl(n, self.struct_lines(n) if what == "struct" else self.enum_lines(n)))
             names.add(n + "Of" if table.is_generic(n) else n)
@@ -80,7 +95,7 @@ class VisitMut:
             head += "ghost use Rattle.ecma_node.specs.Fits.{%s};\n\n" % ", ".join(fits)
         text = "".join(body)
         used = ["Change", "WalkMut"] + [it for it in ("Word",) if it + "::" in text]
-        helpers = [it for it in ("walk_all", "walk_elements", "walk_part", "walk_place") if it + "(" in text]
+        helpers = [it for it in sorted(HELPERS) if it + "(" in text]
         head += use_line("crate::walk", used + helpers)
         head += use_line("ecma_node", sorted(names))
         return head + "\n" + "".join(body).rstrip("\n") + "\n"

@@ -1,7 +1,8 @@
 //! Objects, as expressions and as patterns: their properties, and what is made of them.
-ghost use Rattle.std.specs.Prelude.{◌≡◌, ◌≢◌, true, false, All, IfErr, IfOk, map};
+ghost use Rattle.std.specs.Prelude.{◌≡◌, ◌≢◌, Bool, List, Option, true, false, All, IfErr, IfOk, map};
 ghost use Rattle.ecma_token.specs.declared.error.SyntaxError.TheVariants.{Memory};
-ghost use Rattle.ecma_tree.specs.Tree.{object_lit, object_pat, trees_by};
+ghost use Rattle.ecma_token.specs.declared.place.Span.{Span};
+ghost use Rattle.ecma_tree.specs.Tree.{Tree, object_lit, object_pat, trees_by};
 ghost use Rattle.ecma_node.specs.Fits.{fits_object_pat_prop, fits_prop_or_spread};
 ghost use Rattle.ecma_node.specs.Placed.{holds_expr, holds_pat, inner};
 ghost use Rattle.ecma_node.specs.View.{view_object_pat_prop, view_prop_or_spread};
@@ -33,8 +34,17 @@ pub trait ParseObject<Obj> {
     /// Its children are of their sorts.
     ghost fits: { Self.Prop → Type 0 };
 
+    /// What an object stands for.
+    ghost tree: { Obj → Tree };
+
+    /// The object of properties, at a place.
+    ghost object: { Span → List Self.Prop → Tree };
+
+    /// Whether properties, and a comma behind them where there is one, are such an object's.
+    ghost allowed: { List Self.Prop → Option Span → Bool };
+
     /// An object of properties, with the place of the comma behind the last one where one stands there (ECMA-262, 13.2.5 and
-    /// 14.3.3).
+    /// 14.3.3). The parser stays as it is.
     ///
     /// # Errors
     ///
@@ -45,7 +55,11 @@ pub trait ParseObject<Obj> {
         props: Vec<Self::Prop>,
         trailing_comma: Option<Span>,
     ) -> PResult<Obj>
-        requires { All fits props.items };
+        requires { All fits props.items }
+        ensures value { IfOk result (λ x. tree x ≡ object span props.items) }
+        ensures allowed { IfOk result (λ _. allowed props.items trailing_comma ≡ true) }
+        ensures refused { IfErr result (λ e. e.kind ≢ Memory → allowed props.items trailing_comma ≡ false) }
+        ensures stays { self.new ≡ self.old };
 
     /// A property (ECMA-262, 13.2.5 and 14.3.3), as in a script, in the way of the entries for parts.
     ///
@@ -60,6 +74,12 @@ impl<'a, I: Tokens<'a> + Drop> ParseObject<ExprBox> for Entries<Parser<'a, I>> {
     type Prop = PropOrSpread;
 
     ghost fits = { λ x. fits_prop_or_spread (λ p. p) x };
+
+    ghost tree = { λ x. inner x.part.value };
+
+    ghost object = { λ span props. object_lit span (trees_by (view_prop_or_spread inner) props) };
+
+    ghost allowed = { λ _ _. true };
 
     fn make_object(
         &mut self,
@@ -96,6 +116,12 @@ impl<'a, I: Tokens<'a> + Drop> ParseObject<PatBox> for Entries<Parser<'a, I>> {
     type Prop = ObjectPatProp;
 
     ghost fits = { λ x. fits_object_pat_prop (λ p. p) x };
+
+    ghost tree = { λ x. inner x.part.value };
+
+    ghost object = { λ span props. object_pat span (trees_by (view_object_pat_prop inner) props) };
+
+    ghost allowed = { λ props comma. reads.rests_last (reads.is_held comma) false (map (view_object_pat_prop inner) props) };
 
     /// A rest stands last, and no comma behind it: else the answer is `Unexpected`, at the place of the object.
     fn make_object(

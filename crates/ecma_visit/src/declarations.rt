@@ -2,8 +2,9 @@
 ghost use Rattle.ecma_node.specs.View.{view_decl, view_class_decl, view_fn_decl, view_var_decl, view_using_decl, view_var_declarator};
 
 use crate::kinds::Kind;
-use crate::lists::{walk_all, walk_part};
-use crate::watch::{Inside, Walk, Watch, enter_part, leave_part};
+use crate::lists::{walk_all, walk_part, walk_two};
+use crate::told::{enter_part, leave_part, tell_list, tell_two};
+use crate::watch::{Inside, Walk, Watch};
 use ecma_node::{ClassDeclOf, DeclOf, FnDeclOf, UsingDeclOf, VarDeclOf, VarDeclaratorOf};
 
 impl<T: Walk> Inside for DeclOf<T> {
@@ -11,10 +12,10 @@ impl<T: Walk> Inside for DeclOf<T> {
 
     fn inside<V: Watch>(&self, visitor: &mut V) {
         match self {
-            DeclOf::Class(x) => x.inside(visitor),
-            DeclOf::Fn(x) => x.inside(visitor),
-            DeclOf::Var(x) => x.inside(visitor),
-            DeclOf::Using(x) => x.inside(visitor),
+            DeclOf::Class(x) => walk_two(&x.ident, &*x.class, visitor),
+            DeclOf::Fn(x) => walk_two(&x.ident, &*x.function, visitor),
+            DeclOf::Var(x) => walk_all(x.decls.as_slice(), visitor),
+            DeclOf::Using(x) => walk_all(x.decls.as_slice(), visitor),
         }
     }
 }
@@ -32,31 +33,17 @@ impl<T: Walk> Walk for DeclOf<T> {
     }
 }
 
-impl<T: Walk> Inside for ClassDeclOf<T> {
-    ghost tree = { view_class_decl T.tree };
-
-    fn inside<V: Watch>(&self, visitor: &mut V) {
-        self.ident.walk(visitor);
-        self.class.walk(visitor);
-    }
-}
-
 impl<T: Walk> Walk for ClassDeclOf<T> {
     ghost tree = { view_class_decl T.tree };
 
     fn walk<V: Watch>(&self, visitor: &mut V) {
-        enter_part(Kind::ClassDecl, self.span, visitor);
-        self.inside(visitor);
-        leave_part(Kind::ClassDecl, self.span, visitor);
-    }
-}
-
-impl<T: Walk> Inside for FnDeclOf<T> {
-    ghost tree = { view_fn_decl T.tree };
-
-    fn inside<V: Watch>(&self, visitor: &mut V) {
-        self.ident.walk(visitor);
-        self.function.walk(visitor);
+        tell_two(
+            Kind::ClassDecl,
+            self.span,
+            &self.ident,
+            &*self.class,
+            visitor,
+        );
     }
 }
 
@@ -64,17 +51,13 @@ impl<T: Walk> Walk for FnDeclOf<T> {
     ghost tree = { view_fn_decl T.tree };
 
     fn walk<V: Watch>(&self, visitor: &mut V) {
-        enter_part(Kind::FnDecl, self.span, visitor);
-        self.inside(visitor);
-        leave_part(Kind::FnDecl, self.span, visitor);
-    }
-}
-
-impl<T: Walk> Inside for VarDeclOf<T> {
-    ghost tree = { view_var_decl T.tree };
-
-    fn inside<V: Watch>(&self, visitor: &mut V) {
-        walk_all(self.decls.as_slice(), visitor);
+        tell_two(
+            Kind::FnDecl,
+            self.span,
+            &self.ident,
+            &*self.function,
+            visitor,
+        );
     }
 }
 
@@ -82,17 +65,7 @@ impl<T: Walk> Walk for VarDeclOf<T> {
     ghost tree = { view_var_decl T.tree };
 
     fn walk<V: Watch>(&self, visitor: &mut V) {
-        enter_part(Kind::VarDecl, self.span, visitor);
-        self.inside(visitor);
-        leave_part(Kind::VarDecl, self.span, visitor);
-    }
-}
-
-impl<T: Walk> Inside for UsingDeclOf<T> {
-    ghost tree = { view_using_decl T.tree };
-
-    fn inside<V: Watch>(&self, visitor: &mut V) {
-        walk_all(self.decls.as_slice(), visitor);
+        tell_list(Kind::VarDecl, self.span, self.decls.as_slice(), visitor);
     }
 }
 
@@ -100,9 +73,7 @@ impl<T: Walk> Walk for UsingDeclOf<T> {
     ghost tree = { view_using_decl T.tree };
 
     fn walk<V: Watch>(&self, visitor: &mut V) {
-        enter_part(Kind::UsingDecl, self.span, visitor);
-        self.inside(visitor);
-        leave_part(Kind::UsingDecl, self.span, visitor);
+        tell_list(Kind::UsingDecl, self.span, self.decls.as_slice(), visitor);
     }
 }
 

@@ -1,15 +1,17 @@
 //! Goes over expressions (ECMA-262, clause 13).
-ghost use Rattle.ecma_node.specs.View.{view_expr_kind, view_array_lit, view_object_lit, view_fn_expr, view_unary_expr, view_update_expr, view_bin_expr, view_assign_expr, view_member_expr, view_super_prop_expr, view_cond_expr, view_call_expr, view_new_expr, view_seq_expr, view_ident, view_tpl, view_tpl_element, view_tagged_tpl, view_arrow_expr, view_class_expr, view_yield_expr, view_await_expr, view_paren_expr, view_opt_chain_expr, view_opt_call, view_super, view_import, view_invalid, view_expr_or_spread, view_spread_element, view_callee, view_member_prop, view_super_prop, view_opt_chain_base, view_block_stmt_or_expr};
+ghost use Rattle.ecma_node.specs.View.{view_expr_kind, view_object_lit, view_fn_expr, view_member_expr, view_super_prop_expr, view_new_expr, view_ident, view_tpl, view_tpl_element, view_arrow_expr, view_class_expr, view_paren_expr, view_opt_chain_expr, view_opt_call, view_super, view_import, view_invalid, view_expr_or_spread, view_spread_element, view_callee, view_member_prop, view_super_prop, view_opt_chain_base, view_block_stmt_or_expr};
 
 use crate::kinds::Kind;
-use crate::lists::{walk_all, walk_elements, walk_part, walk_template};
-use crate::watch::{Inside, Node, Walk, Watch, enter_part, leave_part};
+use crate::lists::{
+    walk_all, walk_elements, walk_headed, walk_part, walk_template, walk_three, walk_two,
+};
+use crate::told::{enter_part, leave_part, tell_leaf, tell_list, tell_one, tell_two};
+use crate::watch::{Inside, Node, Walk, Watch};
 use ecma_node::{
-    ArrayLitOf, ArrowExprOf, AssignExprOf, AwaitExprOf, BinExprOf, BlockStmtOrExprOf, CallExprOf,
-    CalleeOf, ClassExprOf, CondExprOf, ExprKindOf, ExprOrSpreadOf, FnExprOf, Ident, Import,
-    Invalid, MemberExprOf, MemberPropOf, NewExprOf, ObjectLitOf, OptCallOf, OptChainBaseOf,
-    OptChainExprOf, ParenExprOf, SeqExprOf, SpreadElementOf, Super, SuperPropExprOf, SuperPropOf,
-    TaggedTplOf, TplElement, TplOf, UnaryExprOf, UpdateExprOf, YieldExprOf,
+    ArrowExprOf, BlockStmtOrExprOf, CalleeOf, ClassExprOf, ExprKindOf, ExprOrSpreadOf, FnExprOf,
+    Ident, Import, Invalid, MemberExprOf, MemberPropOf, NewExprOf, ObjectLitOf, OptCallOf,
+    OptChainBaseOf, OptChainExprOf, ParenExprOf, SpreadElementOf, Super, SuperPropExprOf,
+    SuperPropOf, TplElement, TplOf,
 };
 
 impl<T: Walk> Inside for ExprKindOf<T> {
@@ -18,49 +20,33 @@ impl<T: Walk> Inside for ExprKindOf<T> {
     fn inside<V: Watch>(&self, visitor: &mut V) {
         match self {
             ExprKindOf::This(_) => {}
-            ExprKindOf::Array(x) => x.inside(visitor),
-            ExprKindOf::Object(x) => x.inside(visitor),
+            ExprKindOf::Array(x) => walk_elements(x.elems.as_slice(), visitor),
+            ExprKindOf::Object(x) => walk_all(x.props.as_slice(), visitor),
             ExprKindOf::Fn(x) => x.inside(visitor),
-            ExprKindOf::Unary(x) => x.inside(visitor),
-            ExprKindOf::Update(x) => x.inside(visitor),
-            ExprKindOf::Bin(x) => x.inside(visitor),
-            ExprKindOf::Assign(x) => x.inside(visitor),
-            ExprKindOf::Member(x) => x.inside(visitor),
-            ExprKindOf::SuperProp(x) => x.inside(visitor),
-            ExprKindOf::Cond(x) => x.inside(visitor),
-            ExprKindOf::Call(x) => x.inside(visitor),
+            ExprKindOf::Unary(x) => x.arg.walk(visitor),
+            ExprKindOf::Update(x) => x.arg.walk(visitor),
+            ExprKindOf::Bin(x) => walk_two(&x.left, &x.right, visitor),
+            ExprKindOf::Assign(x) => walk_two(&x.left, &x.right, visitor),
+            ExprKindOf::Member(x) => walk_two(&x.obj, &x.prop, visitor),
+            ExprKindOf::SuperProp(x) => walk_two(&x.obj, &x.prop, visitor),
+            ExprKindOf::Cond(x) => walk_three(&x.test, &x.cons, &x.alt, visitor),
+            ExprKindOf::Call(x) => walk_headed(&x.callee, x.args.as_slice(), visitor),
             ExprKindOf::New(x) => x.inside(visitor),
-            ExprKindOf::Seq(x) => x.inside(visitor),
+            ExprKindOf::Seq(x) => walk_all(x.exprs.as_slice(), visitor),
             ExprKindOf::Ident(_) => {}
             ExprKindOf::Lit(_) => {}
-            ExprKindOf::Tpl(x) => x.inside(visitor),
-            ExprKindOf::TaggedTpl(x) => x.inside(visitor),
+            ExprKindOf::Tpl(x) => walk_template(x.quasis.as_slice(), x.exprs.as_slice(), visitor),
+            ExprKindOf::TaggedTpl(x) => walk_two(&x.tag, &*x.tpl, visitor),
             ExprKindOf::Arrow(x) => x.inside(visitor),
             ExprKindOf::Class(x) => x.inside(visitor),
-            ExprKindOf::Yield(x) => x.inside(visitor),
+            ExprKindOf::Yield(x) => walk_part(&x.arg, visitor),
             ExprKindOf::MetaProp(_) => {}
-            ExprKindOf::Await(x) => x.inside(visitor),
-            ExprKindOf::Paren(x) => x.inside(visitor),
+            ExprKindOf::Await(x) => x.arg.walk(visitor),
+            ExprKindOf::Paren(x) => x.expr.walk(visitor),
             ExprKindOf::PrivateName(_) => {}
-            ExprKindOf::OptChain(x) => x.inside(visitor),
+            ExprKindOf::OptChain(x) => x.base.walk(visitor),
             ExprKindOf::Invalid(_) => {}
         }
-    }
-}
-
-impl<T: Walk> Inside for ArrayLitOf<T> {
-    ghost tree = { view_array_lit T.tree };
-
-    fn inside<V: Watch>(&self, visitor: &mut V) {
-        walk_elements(self.elems.as_slice(), visitor);
-    }
-}
-
-impl<T: Walk> Inside for ObjectLitOf<T> {
-    ghost tree = { view_object_lit T.tree };
-
-    fn inside<V: Watch>(&self, visitor: &mut V) {
-        walk_all(self.props.as_slice(), visitor);
     }
 }
 
@@ -68,9 +54,7 @@ impl<T: Walk> Walk for ObjectLitOf<T> {
     ghost tree = { view_object_lit T.tree };
 
     fn walk<V: Watch>(&self, visitor: &mut V) {
-        enter_part(Kind::ObjectLit, self.span, visitor);
-        self.inside(visitor);
-        leave_part(Kind::ObjectLit, self.span, visitor);
+        tell_list(Kind::ObjectLit, self.span, self.props.as_slice(), visitor);
     }
 }
 
@@ -93,65 +77,11 @@ impl<T: Walk> Walk for FnExprOf<T> {
     }
 }
 
-impl<T: Walk> Inside for UnaryExprOf<T> {
-    ghost tree = { view_unary_expr T.tree };
-
-    fn inside<V: Watch>(&self, visitor: &mut V) {
-        self.arg.walk(visitor);
-    }
-}
-
-impl<T: Walk> Inside for UpdateExprOf<T> {
-    ghost tree = { view_update_expr T.tree };
-
-    fn inside<V: Watch>(&self, visitor: &mut V) {
-        self.arg.walk(visitor);
-    }
-}
-
-impl<T: Walk> Inside for BinExprOf<T> {
-    ghost tree = { view_bin_expr T.tree };
-
-    fn inside<V: Watch>(&self, visitor: &mut V) {
-        self.left.walk(visitor);
-        self.right.walk(visitor);
-    }
-}
-
-impl<T: Walk> Inside for AssignExprOf<T> {
-    ghost tree = { view_assign_expr T.tree };
-
-    fn inside<V: Watch>(&self, visitor: &mut V) {
-        self.left.walk(visitor);
-        self.right.walk(visitor);
-    }
-}
-
-impl<T: Walk> Inside for MemberExprOf<T> {
-    ghost tree = { view_member_expr T.tree };
-
-    fn inside<V: Watch>(&self, visitor: &mut V) {
-        self.obj.walk(visitor);
-        self.prop.walk(visitor);
-    }
-}
-
 impl<T: Walk> Walk for MemberExprOf<T> {
     ghost tree = { view_member_expr T.tree };
 
     fn walk<V: Watch>(&self, visitor: &mut V) {
-        enter_part(Kind::MemberExpr, self.span, visitor);
-        self.inside(visitor);
-        leave_part(Kind::MemberExpr, self.span, visitor);
-    }
-}
-
-impl<T: Walk> Inside for SuperPropExprOf<T> {
-    ghost tree = { view_super_prop_expr T.tree };
-
-    fn inside<V: Watch>(&self, visitor: &mut V) {
-        self.obj.walk(visitor);
-        self.prop.walk(visitor);
+        tell_two(Kind::MemberExpr, self.span, &self.obj, &self.prop, visitor);
     }
 }
 
@@ -159,28 +89,13 @@ impl<T: Walk> Walk for SuperPropExprOf<T> {
     ghost tree = { view_super_prop_expr T.tree };
 
     fn walk<V: Watch>(&self, visitor: &mut V) {
-        enter_part(Kind::SuperPropExpr, self.span, visitor);
-        self.inside(visitor);
-        leave_part(Kind::SuperPropExpr, self.span, visitor);
-    }
-}
-
-impl<T: Walk> Inside for CondExprOf<T> {
-    ghost tree = { view_cond_expr T.tree };
-
-    fn inside<V: Watch>(&self, visitor: &mut V) {
-        self.test.walk(visitor);
-        self.cons.walk(visitor);
-        self.alt.walk(visitor);
-    }
-}
-
-impl<T: Walk> Inside for CallExprOf<T> {
-    ghost tree = { view_call_expr T.tree };
-
-    fn inside<V: Watch>(&self, visitor: &mut V) {
-        self.callee.walk(visitor);
-        walk_all(self.args.as_slice(), visitor);
+        tell_two(
+            Kind::SuperPropExpr,
+            self.span,
+            &self.obj,
+            &self.prop,
+            visitor,
+        );
     }
 }
 
@@ -193,14 +108,6 @@ impl<T: Walk> Inside for NewExprOf<T> {
     }
 }
 
-impl<T: Walk> Inside for SeqExprOf<T> {
-    ghost tree = { view_seq_expr T.tree };
-
-    fn inside<V: Watch>(&self, visitor: &mut V) {
-        walk_all(self.exprs.as_slice(), visitor);
-    }
-}
-
 impl Walk for Ident {
     ghost tree = { view_ident };
 
@@ -210,20 +117,12 @@ impl Walk for Ident {
     }
 }
 
-impl<T: Walk> Inside for TplOf<T> {
-    ghost tree = { view_tpl T.tree };
-
-    fn inside<V: Watch>(&self, visitor: &mut V) {
-        walk_template(self.quasis.as_slice(), self.exprs.as_slice(), visitor);
-    }
-}
-
 impl<T: Walk> Walk for TplOf<T> {
     ghost tree = { view_tpl T.tree };
 
     fn walk<V: Watch>(&self, visitor: &mut V) {
         enter_part(Kind::Tpl, self.span, visitor);
-        self.inside(visitor);
+        walk_template(self.quasis.as_slice(), self.exprs.as_slice(), visitor);
         leave_part(Kind::Tpl, self.span, visitor);
     }
 }
@@ -234,15 +133,6 @@ impl Walk for TplElement {
     fn walk<V: Watch>(&self, visitor: &mut V) {
         visitor.enter(Node::TplElement(self));
         visitor.leave(Node::TplElement(self));
-    }
-}
-
-impl<T: Walk> Inside for TaggedTplOf<T> {
-    ghost tree = { view_tagged_tpl T.tree };
-
-    fn inside<V: Watch>(&self, visitor: &mut V) {
-        self.tag.walk(visitor);
-        self.tpl.walk(visitor);
     }
 }
 
@@ -274,45 +164,11 @@ impl<T: Walk> Walk for ClassExprOf<T> {
     }
 }
 
-impl<T: Walk> Inside for YieldExprOf<T> {
-    ghost tree = { view_yield_expr T.tree };
-
-    fn inside<V: Watch>(&self, visitor: &mut V) {
-        walk_part(&self.arg, visitor);
-    }
-}
-
-impl<T: Walk> Inside for AwaitExprOf<T> {
-    ghost tree = { view_await_expr T.tree };
-
-    fn inside<V: Watch>(&self, visitor: &mut V) {
-        self.arg.walk(visitor);
-    }
-}
-
-impl<T: Walk> Inside for ParenExprOf<T> {
-    ghost tree = { view_paren_expr T.tree };
-
-    fn inside<V: Watch>(&self, visitor: &mut V) {
-        self.expr.walk(visitor);
-    }
-}
-
 impl<T: Walk> Walk for ParenExprOf<T> {
     ghost tree = { view_paren_expr T.tree };
 
     fn walk<V: Watch>(&self, visitor: &mut V) {
-        enter_part(Kind::ParenExpr, self.span, visitor);
-        self.inside(visitor);
-        leave_part(Kind::ParenExpr, self.span, visitor);
-    }
-}
-
-impl<T: Walk> Inside for OptChainExprOf<T> {
-    ghost tree = { view_opt_chain_expr T.tree };
-
-    fn inside<V: Watch>(&self, visitor: &mut V) {
-        self.base.walk(visitor);
+        tell_one(Kind::ParenExpr, self.span, &self.expr, visitor);
     }
 }
 
@@ -320,9 +176,7 @@ impl<T: Walk> Walk for OptChainExprOf<T> {
     ghost tree = { view_opt_chain_expr T.tree };
 
     fn walk<V: Watch>(&self, visitor: &mut V) {
-        enter_part(Kind::OptChainExpr, self.span, visitor);
-        self.inside(visitor);
-        leave_part(Kind::OptChainExpr, self.span, visitor);
+        tell_one(Kind::OptChainExpr, self.span, &self.base, visitor);
     }
 }
 
@@ -331,8 +185,7 @@ impl<T: Walk> Walk for OptCallOf<T> {
 
     fn walk<V: Watch>(&self, visitor: &mut V) {
         enter_part(Kind::OptCall, self.span, visitor);
-        self.callee.walk(visitor);
-        walk_all(self.args.as_slice(), visitor);
+        walk_headed(&self.callee, self.args.as_slice(), visitor);
         leave_part(Kind::OptCall, self.span, visitor);
     }
 }
@@ -341,8 +194,7 @@ impl Walk for Super {
     ghost tree = { view_super };
 
     fn walk<V: Watch>(&self, visitor: &mut V) {
-        enter_part(Kind::Super, self.span, visitor);
-        leave_part(Kind::Super, self.span, visitor);
+        tell_leaf(Kind::Super, self.span, visitor);
     }
 }
 
@@ -350,8 +202,7 @@ impl Walk for Import {
     ghost tree = { view_import };
 
     fn walk<V: Watch>(&self, visitor: &mut V) {
-        enter_part(Kind::Import, self.span, visitor);
-        leave_part(Kind::Import, self.span, visitor);
+        tell_leaf(Kind::Import, self.span, visitor);
     }
 }
 
@@ -359,8 +210,7 @@ impl Walk for Invalid {
     ghost tree = { view_invalid };
 
     fn walk<V: Watch>(&self, visitor: &mut V) {
-        enter_part(Kind::Invalid, self.span, visitor);
-        leave_part(Kind::Invalid, self.span, visitor);
+        tell_leaf(Kind::Invalid, self.span, visitor);
     }
 }
 
@@ -368,9 +218,7 @@ impl<T: Walk> Walk for ExprOrSpreadOf<T> {
     ghost tree = { view_expr_or_spread T.tree };
 
     fn walk<V: Watch>(&self, visitor: &mut V) {
-        enter_part(Kind::ExprOrSpread, self.span, visitor);
-        self.expr.walk(visitor);
-        leave_part(Kind::ExprOrSpread, self.span, visitor);
+        tell_one(Kind::ExprOrSpread, self.span, &self.expr, visitor);
     }
 }
 
@@ -378,9 +226,7 @@ impl<T: Walk> Walk for SpreadElementOf<T> {
     ghost tree = { view_spread_element T.tree };
 
     fn walk<V: Watch>(&self, visitor: &mut V) {
-        enter_part(Kind::SpreadElement, self.span, visitor);
-        self.expr.walk(visitor);
-        leave_part(Kind::SpreadElement, self.span, visitor);
+        tell_one(Kind::SpreadElement, self.span, &self.expr, visitor);
     }
 }
 

@@ -3,7 +3,8 @@ ghost use Rattle.ecma_node.specs.View.{view_function, view_param, view_decorator
 
 use crate::kinds::Kind;
 use crate::lists::{walk_all, walk_part};
-use crate::watch::{Node, Walk, Watch, enter_part, leave_part};
+use crate::told::{enter_part, leave_part, tell_one, tell_two};
+use crate::watch::{Node, Walk, Watch};
 use ecma_node::{
     AutoAccessorOf, ClassMemberOf, ClassMethodOf, ClassOf, ClassPropOf, ComputedPropNameOf,
     ConstructorOf, DecoratorOf, FunctionOf, IdentName, KeyOf, ParamOf, PrivateMethodOf,
@@ -37,9 +38,7 @@ impl<T: Walk> Walk for DecoratorOf<T> {
     ghost tree = { view_decorator T.tree };
 
     fn walk<V: Watch>(&self, visitor: &mut V) {
-        enter_part(Kind::Decorator, self.span, visitor);
-        self.expr.walk(visitor);
-        leave_part(Kind::Decorator, self.span, visitor);
+        tell_one(Kind::Decorator, self.span, &self.expr, visitor);
     }
 }
 
@@ -88,10 +87,13 @@ impl<T: Walk> Walk for ClassMethodOf<T> {
     ghost tree = { view_class_method T.tree };
 
     fn walk<V: Watch>(&self, visitor: &mut V) {
-        enter_part(Kind::ClassMethod, self.span, visitor);
-        self.key.walk(visitor);
-        self.function.walk(visitor);
-        leave_part(Kind::ClassMethod, self.span, visitor);
+        tell_two(
+            Kind::ClassMethod,
+            self.span,
+            &self.key,
+            &*self.function,
+            visitor,
+        );
     }
 }
 
@@ -99,10 +101,13 @@ impl<T: Walk> Walk for PrivateMethodOf<T> {
     ghost tree = { view_private_method T.tree };
 
     fn walk<V: Watch>(&self, visitor: &mut V) {
-        enter_part(Kind::PrivateMethod, self.span, visitor);
-        self.key.walk(visitor);
-        self.function.walk(visitor);
-        leave_part(Kind::PrivateMethod, self.span, visitor);
+        tell_two(
+            Kind::PrivateMethod,
+            self.span,
+            &self.key,
+            &*self.function,
+            visitor,
+        );
     }
 }
 
@@ -134,9 +139,7 @@ impl<T: Walk> Walk for StaticBlockOf<T> {
     ghost tree = { view_static_block T.tree };
 
     fn walk<V: Watch>(&self, visitor: &mut V) {
-        enter_part(Kind::StaticBlock, self.span, visitor);
-        self.body.walk(visitor);
-        leave_part(Kind::StaticBlock, self.span, visitor);
+        tell_one(Kind::StaticBlock, self.span, &self.body, visitor);
     }
 }
 
@@ -190,9 +193,7 @@ impl<T: Walk> Walk for ComputedPropNameOf<T> {
     ghost tree = { view_computed_prop_name T.tree };
 
     fn walk<V: Watch>(&self, visitor: &mut V) {
-        enter_part(Kind::ComputedPropName, self.span, visitor);
-        self.expr.walk(visitor);
-        leave_part(Kind::ComputedPropName, self.span, visitor);
+        tell_one(Kind::ComputedPropName, self.span, &self.expr, visitor);
     }
 }
 

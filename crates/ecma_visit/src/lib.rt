@@ -15,6 +15,7 @@ mod patterns;
 mod programs;
 mod spines;
 mod statements;
+mod told;
 pub mod watch;
 
 pub use hooks::{Hooks, Visit};

@@ -1,4 +1,4 @@
-//! Goes over lists, and over what may be left out.
+//! Goes over lists, over what may be left out, and over parts one after another.
 ghost use Rattle.std.specs.Prelude.{◌≡◌};
 ghost use Rattle.ecma_node.specs.View.{view_tpl_element};
 ghost use Rattle.ecma_tree.specs.Tree.{trees_by, part_by, element_by, list};
@@ -49,6 +49,36 @@ pub(crate) fn walk_elements<T: Walk, V: Watch>(items: &[Option<T>], visitor: &mu
     for x in items {
         x.walk(visitor);
     }
+}
+
+/// Goes over two parts.
+pub(crate) fn walk_two<T: Walk, U: Walk, V: Watch>(first: &T, second: &U, visitor: &mut V)
+    ensures { V.state visitor.new ≡ walk_of V.step (U.tree second.now) (walk_of V.step (T.tree first.now) (V.state visitor.old)) }
+{
+    first.walk(visitor);
+    second.walk(visitor);
+}
+
+/// Goes over three parts.
+pub(crate) fn walk_three<T: Walk, U: Walk, W: Walk, V: Watch>(
+    first: &T,
+    second: &U,
+    third: &W,
+    visitor: &mut V,
+)
+    ensures { V.state visitor.new ≡ walk_of V.step (W.tree third.now) (walk_of V.step (U.tree second.now) (walk_of V.step (T.tree first.now) (V.state visitor.old))) }
+{
+    first.walk(visitor);
+    second.walk(visitor);
+    third.walk(visitor);
+}
+
+/// Goes over a part and a list.
+pub(crate) fn walk_headed<T: Walk, U: Walk, V: Watch>(head: &T, items: &[U], visitor: &mut V)
+    ensures { V.state visitor.new ≡ walk_of_all V.step (trees_by U.tree items.now) (walk_of V.step (T.tree head.now) (V.state visitor.old)) }
+{
+    head.walk(visitor);
+    walk_all(items, visitor);
 }
 
 /// Goes over the texts of a template and its expressions by turns.

@@ -2,7 +2,9 @@
 ghost use Rattle.ecma_node.specs.View.{view_prop_or_spread, view_prop, view_key_value_prop, view_assign_prop, view_getter_prop, view_setter_prop, view_method_prop};
 
 use crate::kinds::Kind;
-use crate::watch::{Walk, Watch, enter_part, leave_part};
+use crate::lists::walk_three;
+use crate::told::{enter_part, leave_part, tell_two};
+use crate::watch::{Walk, Watch};
 use ecma_node::{
     AssignPropOf, GetterPropOf, KeyValuePropOf, MethodPropOf, PropOf, PropOrSpreadOf, SetterPropOf,
 };
@@ -37,10 +39,13 @@ impl<T: Walk> Walk for KeyValuePropOf<T> {
     ghost tree = { view_key_value_prop T.tree };
 
     fn walk<V: Watch>(&self, visitor: &mut V) {
-        enter_part(Kind::KeyValueProp, self.span, visitor);
-        self.key.walk(visitor);
-        self.value.walk(visitor);
-        leave_part(Kind::KeyValueProp, self.span, visitor);
+        tell_two(
+            Kind::KeyValueProp,
+            self.span,
+            &self.key,
+            &self.value,
+            visitor,
+        );
     }
 }
 
@@ -48,10 +53,7 @@ impl<T: Walk> Walk for AssignPropOf<T> {
     ghost tree = { view_assign_prop T.tree };
 
     fn walk<V: Watch>(&self, visitor: &mut V) {
-        enter_part(Kind::AssignProp, self.span, visitor);
-        self.key.walk(visitor);
-        self.value.walk(visitor);
-        leave_part(Kind::AssignProp, self.span, visitor);
+        tell_two(Kind::AssignProp, self.span, &self.key, &self.value, visitor);
     }
 }
 
@@ -59,10 +61,7 @@ impl<T: Walk> Walk for GetterPropOf<T> {
     ghost tree = { view_getter_prop T.tree };
 
     fn walk<V: Watch>(&self, visitor: &mut V) {
-        enter_part(Kind::GetterProp, self.span, visitor);
-        self.key.walk(visitor);
-        self.body.walk(visitor);
-        leave_part(Kind::GetterProp, self.span, visitor);
+        tell_two(Kind::GetterProp, self.span, &self.key, &self.body, visitor);
     }
 }
 
@@ -71,9 +70,7 @@ impl<T: Walk> Walk for SetterPropOf<T> {
 
     fn walk<V: Watch>(&self, visitor: &mut V) {
         enter_part(Kind::SetterProp, self.span, visitor);
-        self.key.walk(visitor);
-        self.param.walk(visitor);
-        self.body.walk(visitor);
+        walk_three(&self.key, &self.param, &self.body, visitor);
         leave_part(Kind::SetterProp, self.span, visitor);
     }
 }
@@ -82,9 +79,12 @@ impl<T: Walk> Walk for MethodPropOf<T> {
     ghost tree = { view_method_prop T.tree };
 
     fn walk<V: Watch>(&self, visitor: &mut V) {
-        enter_part(Kind::MethodProp, self.span, visitor);
-        self.key.walk(visitor);
-        self.function.walk(visitor);
-        leave_part(Kind::MethodProp, self.span, visitor);
+        tell_two(
+            Kind::MethodProp,
+            self.span,
+            &self.key,
+            &*self.function,
+            visitor,
+        );
     }
 }

@@ -1,12 +1,13 @@
 //! Goes over patterns (ECMA-262, 13.15.5 and 14.3.3).
-ghost use Rattle.ecma_node.specs.View.{view_pat_kind, view_binding_ident, view_array_pat, view_rest_pat, view_object_pat, view_assign_pat, view_object_pat_prop, view_key_value_pat_prop, view_assign_pat_prop, view_assign_target};
+ghost use Rattle.ecma_node.specs.View.{view_pat_kind, view_binding_ident, view_array_pat, view_rest_pat, view_object_pat, view_object_pat_prop, view_key_value_pat_prop, view_assign_pat_prop, view_assign_target};
 
 use crate::kinds::Kind;
-use crate::lists::{walk_all, walk_elements, walk_part};
-use crate::watch::{Inside, Node, Walk, Watch, enter_part, leave_part};
+use crate::lists::{walk_all, walk_elements, walk_part, walk_two};
+use crate::told::{enter_part, leave_part, tell_leaf, tell_list, tell_one, tell_two};
+use crate::watch::{Inside, Node, Walk, Watch};
 use ecma_node::{
-    ArrayPatOf, AssignPatOf, AssignPatPropOf, AssignTargetOf, BindingIdent, KeyValuePatPropOf,
-    ObjectPatOf, ObjectPatPropOf, PatKindOf, RestPatOf,
+    ArrayPatOf, AssignPatPropOf, AssignTargetOf, BindingIdent, KeyValuePatPropOf, ObjectPatOf,
+    ObjectPatPropOf, PatKindOf, RestPatOf,
 };
 
 impl<T: Walk> Inside for PatKindOf<T> {
@@ -14,22 +15,14 @@ impl<T: Walk> Inside for PatKindOf<T> {
 
     fn inside<V: Watch>(&self, visitor: &mut V) {
         match self {
-            PatKindOf::Ident(x) => x.inside(visitor),
-            PatKindOf::Array(x) => x.inside(visitor),
-            PatKindOf::Rest(x) => x.inside(visitor),
-            PatKindOf::Object(x) => x.inside(visitor),
-            PatKindOf::Assign(x) => x.inside(visitor),
+            PatKindOf::Ident(x) => x.id.walk(visitor),
+            PatKindOf::Array(x) => walk_elements(x.elems.as_slice(), visitor),
+            PatKindOf::Rest(x) => x.arg.walk(visitor),
+            PatKindOf::Object(x) => walk_all(x.props.as_slice(), visitor),
+            PatKindOf::Assign(x) => walk_two(&x.left, &x.right, visitor),
             PatKindOf::Expr(x) => x.walk(visitor),
             PatKindOf::Invalid(_) => {}
         }
-    }
-}
-
-impl Inside for BindingIdent {
-    ghost tree = { view_binding_ident };
-
-    fn inside<V: Watch>(&self, visitor: &mut V) {
-        self.id.walk(visitor);
     }
 }
 
@@ -38,16 +31,8 @@ impl Walk for BindingIdent {
 
     fn walk<V: Watch>(&self, visitor: &mut V) {
         visitor.enter(Node::BindingIdent(self));
-        self.inside(visitor);
+        self.id.walk(visitor);
         visitor.leave(Node::BindingIdent(self));
-    }
-}
-
-impl<T: Walk> Inside for ArrayPatOf<T> {
-    ghost tree = { view_array_pat T.tree };
-
-    fn inside<V: Watch>(&self, visitor: &mut V) {
-        walk_elements(self.elems.as_slice(), visitor);
     }
 }
 
@@ -56,16 +41,8 @@ impl<T: Walk> Walk for ArrayPatOf<T> {
 
     fn walk<V: Watch>(&self, visitor: &mut V) {
         enter_part(Kind::ArrayPat, self.span, visitor);
-        self.inside(visitor);
+        walk_elements(self.elems.as_slice(), visitor);
         leave_part(Kind::ArrayPat, self.span, visitor);
-    }
-}
-
-impl<T: Walk> Inside for RestPatOf<T> {
-    ghost tree = { view_rest_pat T.tree };
-
-    fn inside<V: Watch>(&self, visitor: &mut V) {
-        self.arg.walk(visitor);
     }
 }
 
@@ -73,17 +50,7 @@ impl<T: Walk> Walk for RestPatOf<T> {
     ghost tree = { view_rest_pat T.tree };
 
     fn walk<V: Watch>(&self, visitor: &mut V) {
-        enter_part(Kind::RestPat, self.span, visitor);
-        self.inside(visitor);
-        leave_part(Kind::RestPat, self.span, visitor);
-    }
-}
-
-impl<T: Walk> Inside for ObjectPatOf<T> {
-    ghost tree = { view_object_pat T.tree };
-
-    fn inside<V: Watch>(&self, visitor: &mut V) {
-        walk_all(self.props.as_slice(), visitor);
+        tell_one(Kind::RestPat, self.span, &self.arg, visitor);
     }
 }
 
@@ -91,18 +58,7 @@ impl<T: Walk> Walk for ObjectPatOf<T> {
     ghost tree = { view_object_pat T.tree };
 
     fn walk<V: Watch>(&self, visitor: &mut V) {
-        enter_part(Kind::ObjectPat, self.span, visitor);
-        self.inside(visitor);
-        leave_part(Kind::ObjectPat, self.span, visitor);
-    }
-}
-
-impl<T: Walk> Inside for AssignPatOf<T> {
-    ghost tree = { view_assign_pat T.tree };
-
-    fn inside<V: Watch>(&self, visitor: &mut V) {
-        self.left.walk(visitor);
-        self.right.walk(visitor);
+        tell_list(Kind::ObjectPat, self.span, self.props.as_slice(), visitor);
     }
 }
 
@@ -122,10 +78,13 @@ impl<T: Walk> Walk for KeyValuePatPropOf<T> {
     ghost tree = { view_key_value_pat_prop T.tree };
 
     fn walk<V: Watch>(&self, visitor: &mut V) {
-        enter_part(Kind::KeyValuePatProp, self.span, visitor);
-        self.key.walk(visitor);
-        self.value.walk(visitor);
-        leave_part(Kind::KeyValuePatProp, self.span, visitor);
+        tell_two(
+            Kind::KeyValuePatProp,
+            self.span,
+            &self.key,
+            &self.value,
+            visitor,
+        );
     }
 }
 
@@ -152,10 +111,7 @@ impl<T: Walk> Walk for AssignTargetOf<T> {
             AssignTargetOf::OptChain(x) => x.walk(visitor),
             AssignTargetOf::Array(x) => x.walk(visitor),
             AssignTargetOf::Object(x) => x.walk(visitor),
-            AssignTargetOf::Invalid(x) => {
-                enter_part(Kind::InvalidTarget, x.span, visitor);
-                leave_part(Kind::InvalidTarget, x.span, visitor);
-            }
+            AssignTargetOf::Invalid(x) => tell_leaf(Kind::InvalidTarget, x.span, visitor),
         }
     }
 }

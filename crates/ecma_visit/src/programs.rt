@@ -1,15 +1,16 @@
 //! Goes over scripts, modules, imports and exports (ECMA-262, 16.1 and 16.2).
-ghost use Rattle.ecma_node.specs.View.{view_program_kind, view_script, view_module, view_module_item, view_module_decl, view_import_decl, view_export_decl, view_named_export, view_export_default_decl, view_export_default_expr, view_export_all, view_default_decl, view_import_specifier, view_import_named_specifier, view_import_default_specifier, view_import_star_as_specifier, view_export_specifier, view_export_namespace_specifier, view_export_default_specifier, view_export_named_specifier, view_module_export_name};
+ghost use Rattle.ecma_node.specs.View.{view_program_kind, view_module_item, view_module_decl, view_import_decl, view_export_decl, view_named_export, view_export_default_decl, view_export_default_expr, view_export_all, view_default_decl, view_import_specifier, view_import_named_specifier, view_import_default_specifier, view_import_star_as_specifier, view_export_specifier, view_export_namespace_specifier, view_export_default_specifier, view_export_named_specifier, view_module_export_name};
 
 use crate::kinds::Kind;
 use crate::lists::{walk_all, walk_part};
-use crate::watch::{Inside, Walk, Watch, enter_part, leave_part};
+use crate::told::{enter_part, leave_part, tell_one};
+use crate::watch::{Inside, Walk, Watch};
 use ecma_node::{
     DefaultDeclOf, ExportAllOf, ExportDeclOf, ExportDefaultDeclOf, ExportDefaultExprOf,
     ExportDefaultSpecifier, ExportNamedSpecifier, ExportNamespaceSpecifier, ExportSpecifier,
     ImportDeclOf, ImportDefaultSpecifier, ImportNamedSpecifier, ImportSpecifier,
-    ImportStarAsSpecifier, ModuleDeclOf, ModuleExportName, ModuleItemOf, ModuleOf, NamedExportOf,
-    ProgramKindOf, ScriptOf,
+    ImportStarAsSpecifier, ModuleDeclOf, ModuleExportName, ModuleItemOf, NamedExportOf,
+    ProgramKindOf,
 };
 
 impl<T: Walk> Inside for ProgramKindOf<T> {
@@ -17,25 +18,9 @@ impl<T: Walk> Inside for ProgramKindOf<T> {
 
     fn inside<V: Watch>(&self, visitor: &mut V) {
         match self {
-            ProgramKindOf::Script(x) => x.inside(visitor),
-            ProgramKindOf::Module(x) => x.inside(visitor),
+            ProgramKindOf::Script(x) => walk_all(x.body.as_slice(), visitor),
+            ProgramKindOf::Module(x) => walk_all(x.body.as_slice(), visitor),
         }
-    }
-}
-
-impl<T: Walk> Inside for ScriptOf<T> {
-    ghost tree = { view_script T.tree };
-
-    fn inside<V: Watch>(&self, visitor: &mut V) {
-        walk_all(self.body.as_slice(), visitor);
-    }
-}
-
-impl<T: Walk> Inside for ModuleOf<T> {
-    ghost tree = { view_module T.tree };
-
-    fn inside<V: Watch>(&self, visitor: &mut V) {
-        walk_all(self.body.as_slice(), visitor);
     }
 }
 
@@ -83,9 +68,7 @@ impl<T: Walk> Walk for ExportDeclOf<T> {
     ghost tree = { view_export_decl T.tree };
 
     fn walk<V: Watch>(&self, visitor: &mut V) {
-        enter_part(Kind::ExportDecl, self.span, visitor);
-        self.decl.walk(visitor);
-        leave_part(Kind::ExportDecl, self.span, visitor);
+        tell_one(Kind::ExportDecl, self.span, &self.decl, visitor);
     }
 }
 
@@ -109,9 +92,7 @@ impl<T: Walk> Walk for ExportDefaultDeclOf<T> {
     ghost tree = { view_export_default_decl T.tree };
 
     fn walk<V: Watch>(&self, visitor: &mut V) {
-        enter_part(Kind::ExportDefaultDecl, self.span, visitor);
-        self.decl.walk(visitor);
-        leave_part(Kind::ExportDefaultDecl, self.span, visitor);
+        tell_one(Kind::ExportDefaultDecl, self.span, &self.decl, visitor);
     }
 }
 
@@ -119,9 +100,7 @@ impl<T: Walk> Walk for ExportDefaultExprOf<T> {
     ghost tree = { view_export_default_expr T.tree };
 
     fn walk<V: Watch>(&self, visitor: &mut V) {
-        enter_part(Kind::ExportDefaultExpr, self.span, visitor);
-        self.expr.walk(visitor);
-        leave_part(Kind::ExportDefaultExpr, self.span, visitor);
+        tell_one(Kind::ExportDefaultExpr, self.span, &self.expr, visitor);
     }
 }
 
@@ -176,9 +155,12 @@ impl Walk for ImportDefaultSpecifier {
     ghost tree = { view_import_default_specifier };
 
     fn walk<V: Watch>(&self, visitor: &mut V) {
-        enter_part(Kind::ImportDefaultSpecifier, self.span, visitor);
-        self.local.walk(visitor);
-        leave_part(Kind::ImportDefaultSpecifier, self.span, visitor);
+        tell_one(
+            Kind::ImportDefaultSpecifier,
+            self.span,
+            &self.local,
+            visitor,
+        );
     }
 }
 
@@ -186,9 +168,7 @@ impl Walk for ImportStarAsSpecifier {
     ghost tree = { view_import_star_as_specifier };
 
     fn walk<V: Watch>(&self, visitor: &mut V) {
-        enter_part(Kind::ImportStarAsSpecifier, self.span, visitor);
-        self.local.walk(visitor);
-        leave_part(Kind::ImportStarAsSpecifier, self.span, visitor);
+        tell_one(Kind::ImportStarAsSpecifier, self.span, &self.local, visitor);
     }
 }
 
@@ -208,9 +188,12 @@ impl Walk for ExportNamespaceSpecifier {
     ghost tree = { view_export_namespace_specifier };
 
     fn walk<V: Watch>(&self, visitor: &mut V) {
-        enter_part(Kind::ExportNamespaceSpecifier, self.span, visitor);
-        self.name.walk(visitor);
-        leave_part(Kind::ExportNamespaceSpecifier, self.span, visitor);
+        tell_one(
+            Kind::ExportNamespaceSpecifier,
+            self.span,
+            &self.name,
+            visitor,
+        );
     }
 }
 
@@ -218,9 +201,12 @@ impl Walk for ExportDefaultSpecifier {
     ghost tree = { view_export_default_specifier };
 
     fn walk<V: Watch>(&self, visitor: &mut V) {
-        enter_part(Kind::ExportDefaultSpecifier, self.span, visitor);
-        self.exported.walk(visitor);
-        leave_part(Kind::ExportDefaultSpecifier, self.span, visitor);
+        tell_one(
+            Kind::ExportDefaultSpecifier,
+            self.span,
+            &self.exported,
+            visitor,
+        );
     }
 }
 

@@ -1,14 +1,13 @@
 //! Goes over statements (ECMA-262, clause 14).
-ghost use Rattle.ecma_node.specs.View.{view_stmt_kind, view_block_stmt, view_empty_stmt, view_with_stmt, view_return_stmt, view_labeled_stmt, view_break_stmt, view_continue_stmt, view_if_stmt, view_switch_stmt, view_switch_case, view_throw_stmt, view_try_stmt, view_catch_clause, view_while_stmt, view_do_while_stmt, view_for_stmt, view_for_in_stmt, view_for_of_stmt, view_expr_stmt, view_var_decl_or_expr, view_for_head};
+ghost use Rattle.ecma_node.specs.View.{view_stmt_kind, view_block_stmt, view_empty_stmt, view_if_stmt, view_switch_case, view_try_stmt, view_catch_clause, view_for_stmt, view_var_decl_or_expr, view_for_head};
 
 use crate::kinds::Kind;
-use crate::lists::{walk_all, walk_part};
-use crate::watch::{Inside, Walk, Watch, enter_part, leave_part};
+use crate::lists::{walk_all, walk_headed, walk_part, walk_three, walk_two};
+use crate::told::{enter_part, leave_part, tell_leaf, tell_list};
+use crate::watch::{Inside, Walk, Watch};
 use ecma_node::{
-    BlockStmtOf, BreakStmt, CatchClauseOf, ContinueStmt, DoWhileStmtOf, EmptyStmt, ExprStmtOf,
-    ForHeadOf, ForInStmtOf, ForOfStmtOf, ForStmtOf, IfStmtOf, LabeledStmtOf, ReturnStmtOf,
-    StmtKindOf, SwitchCaseOf, SwitchStmtOf, ThrowStmtOf, TryStmtOf, VarDeclOrExprOf, WhileStmtOf,
-    WithStmtOf,
+    BlockStmtOf, CatchClauseOf, EmptyStmt, ForHeadOf, ForStmtOf, IfStmtOf, StmtKindOf,
+    SwitchCaseOf, TryStmtOf, VarDeclOrExprOf,
 };
 
 impl<T: Walk> Inside for StmtKindOf<T> {
@@ -16,34 +15,26 @@ impl<T: Walk> Inside for StmtKindOf<T> {
 
     fn inside<V: Watch>(&self, visitor: &mut V) {
         match self {
-            StmtKindOf::Block(x) => x.inside(visitor),
+            StmtKindOf::Block(x) => walk_all(x.stmts.as_slice(), visitor),
             StmtKindOf::Empty(_) => {}
             StmtKindOf::Debugger(_) => {}
-            StmtKindOf::With(x) => x.inside(visitor),
-            StmtKindOf::Return(x) => x.inside(visitor),
-            StmtKindOf::Labeled(x) => x.inside(visitor),
-            StmtKindOf::Break(x) => x.inside(visitor),
-            StmtKindOf::Continue(x) => x.inside(visitor),
+            StmtKindOf::With(x) => walk_two(&x.obj, &x.body, visitor),
+            StmtKindOf::Return(x) => walk_part(&x.arg, visitor),
+            StmtKindOf::Labeled(x) => walk_two(&x.label, &x.body, visitor),
+            StmtKindOf::Break(x) => walk_part(&x.label, visitor),
+            StmtKindOf::Continue(x) => walk_part(&x.label, visitor),
             StmtKindOf::If(x) => x.inside(visitor),
-            StmtKindOf::Switch(x) => x.inside(visitor),
-            StmtKindOf::Throw(x) => x.inside(visitor),
+            StmtKindOf::Switch(x) => walk_headed(&x.discriminant, x.cases.as_slice(), visitor),
+            StmtKindOf::Throw(x) => x.arg.walk(visitor),
             StmtKindOf::Try(x) => x.inside(visitor),
-            StmtKindOf::While(x) => x.inside(visitor),
-            StmtKindOf::DoWhile(x) => x.inside(visitor),
+            StmtKindOf::While(x) => walk_two(&x.test, &x.body, visitor),
+            StmtKindOf::DoWhile(x) => walk_two(&x.body, &x.test, visitor),
             StmtKindOf::For(x) => x.inside(visitor),
-            StmtKindOf::ForIn(x) => x.inside(visitor),
-            StmtKindOf::ForOf(x) => x.inside(visitor),
+            StmtKindOf::ForIn(x) => walk_three(&x.left, &x.right, &x.body, visitor),
+            StmtKindOf::ForOf(x) => walk_three(&x.left, &x.right, &x.body, visitor),
             StmtKindOf::Decl(x) => x.inside(visitor),
-            StmtKindOf::Expr(x) => x.inside(visitor),
+            StmtKindOf::Expr(x) => x.expr.walk(visitor),
         }
-    }
-}
-
-impl<T: Walk> Inside for BlockStmtOf<T> {
-    ghost tree = { view_block_stmt T.tree };
-
-    fn inside<V: Watch>(&self, visitor: &mut V) {
-        walk_all(self.stmts.as_slice(), visitor);
     }
 }
 
@@ -51,9 +42,7 @@ impl<T: Walk> Walk for BlockStmtOf<T> {
     ghost tree = { view_block_stmt T.tree };
 
     fn walk<V: Watch>(&self, visitor: &mut V) {
-        enter_part(Kind::BlockStmt, self.span, visitor);
-        self.inside(visitor);
-        leave_part(Kind::BlockStmt, self.span, visitor);
+        tell_list(Kind::BlockStmt, self.span, self.stmts.as_slice(), visitor);
     }
 }
 
@@ -61,50 +50,7 @@ impl Walk for EmptyStmt {
     ghost tree = { view_empty_stmt };
 
     fn walk<V: Watch>(&self, visitor: &mut V) {
-        enter_part(Kind::EmptyStmt, self.span, visitor);
-        leave_part(Kind::EmptyStmt, self.span, visitor);
-    }
-}
-
-impl<T: Walk> Inside for WithStmtOf<T> {
-    ghost tree = { view_with_stmt T.tree };
-
-    fn inside<V: Watch>(&self, visitor: &mut V) {
-        self.obj.walk(visitor);
-        self.body.walk(visitor);
-    }
-}
-
-impl<T: Walk> Inside for ReturnStmtOf<T> {
-    ghost tree = { view_return_stmt T.tree };
-
-    fn inside<V: Watch>(&self, visitor: &mut V) {
-        walk_part(&self.arg, visitor);
-    }
-}
-
-impl<T: Walk> Inside for LabeledStmtOf<T> {
-    ghost tree = { view_labeled_stmt T.tree };
-
-    fn inside<V: Watch>(&self, visitor: &mut V) {
-        self.label.walk(visitor);
-        self.body.walk(visitor);
-    }
-}
-
-impl Inside for BreakStmt {
-    ghost tree = { view_break_stmt };
-
-    fn inside<V: Watch>(&self, visitor: &mut V) {
-        walk_part(&self.label, visitor);
-    }
-}
-
-impl Inside for ContinueStmt {
-    ghost tree = { view_continue_stmt };
-
-    fn inside<V: Watch>(&self, visitor: &mut V) {
-        walk_part(&self.label, visitor);
+        tell_leaf(Kind::EmptyStmt, self.span, visitor);
     }
 }
 
@@ -118,15 +64,6 @@ impl<T: Walk> Inside for IfStmtOf<T> {
     }
 }
 
-impl<T: Walk> Inside for SwitchStmtOf<T> {
-    ghost tree = { view_switch_stmt T.tree };
-
-    fn inside<V: Watch>(&self, visitor: &mut V) {
-        self.discriminant.walk(visitor);
-        walk_all(self.cases.as_slice(), visitor);
-    }
-}
-
 impl<T: Walk> Walk for SwitchCaseOf<T> {
     ghost tree = { view_switch_case T.tree };
 
@@ -135,14 +72,6 @@ impl<T: Walk> Walk for SwitchCaseOf<T> {
         walk_part(&self.test, visitor);
         walk_all(self.cons.as_slice(), visitor);
         leave_part(Kind::SwitchCase, self.span, visitor);
-    }
-}
-
-impl<T: Walk> Inside for ThrowStmtOf<T> {
-    ghost tree = { view_throw_stmt T.tree };
-
-    fn inside<V: Watch>(&self, visitor: &mut V) {
-        self.arg.walk(visitor);
     }
 }
 
@@ -167,24 +96,6 @@ impl<T: Walk> Walk for CatchClauseOf<T> {
     }
 }
 
-impl<T: Walk> Inside for WhileStmtOf<T> {
-    ghost tree = { view_while_stmt T.tree };
-
-    fn inside<V: Watch>(&self, visitor: &mut V) {
-        self.test.walk(visitor);
-        self.body.walk(visitor);
-    }
-}
-
-impl<T: Walk> Inside for DoWhileStmtOf<T> {
-    ghost tree = { view_do_while_stmt T.tree };
-
-    fn inside<V: Watch>(&self, visitor: &mut V) {
-        self.body.walk(visitor);
-        self.test.walk(visitor);
-    }
-}
-
 impl<T: Walk> Inside for ForStmtOf<T> {
     ghost tree = { view_for_stmt T.tree };
 
@@ -193,34 +104,6 @@ impl<T: Walk> Inside for ForStmtOf<T> {
         walk_part(&self.test, visitor);
         walk_part(&self.update, visitor);
         self.body.walk(visitor);
-    }
-}
-
-impl<T: Walk> Inside for ForInStmtOf<T> {
-    ghost tree = { view_for_in_stmt T.tree };
-
-    fn inside<V: Watch>(&self, visitor: &mut V) {
-        self.left.walk(visitor);
-        self.right.walk(visitor);
-        self.body.walk(visitor);
-    }
-}
-
-impl<T: Walk> Inside for ForOfStmtOf<T> {
-    ghost tree = { view_for_of_stmt T.tree };
-
-    fn inside<V: Watch>(&self, visitor: &mut V) {
-        self.left.walk(visitor);
-        self.right.walk(visitor);
-        self.body.walk(visitor);
-    }
-}
-
-impl<T: Walk> Inside for ExprStmtOf<T> {
-    ghost tree = { view_expr_stmt T.tree };
-
-    fn inside<V: Watch>(&self, visitor: &mut V) {
-        self.expr.walk(visitor);
     }
 }
 

@@ -1,7 +1,6 @@
 //! Who is told of the nodes, and what can be gone over.
-ghost use Rattle.std.specs.Prelude.{◌≡◌, []};
+ghost use Rattle.std.specs.Prelude.{◌≡◌};
 ghost use Rattle.ecma_tree.specs.Tree.{Tree};
-ghost use Rattle.ecma_visit.specs.Seen.{seen};
 ghost use Rattle.ecma_visit.specs.Walk.{Event, enter, leave, told, walk_of, inside_of};
 ghost use Rattle.ecma_visit.specs.Told.{seen_in};
 
@@ -79,18 +78,4 @@ impl<T: Walk, K> Walk for Child<T, K> {
     fn walk<V: Watch>(&self, visitor: &mut V) {
         self.part.walk(visitor);
     }
-}
-
-/// Tells a visitor that a node is entered which is no expression, statement, pattern or program, and holds no text.
-pub(crate) fn enter_part<V: Watch>(kind: Kind, span: Span, visitor: &mut V)
-    ensures { V.state visitor.new ≡ V.step (enter (seen kind span [])) (V.state visitor.old) }
-{
-    visitor.enter(Node::Part(kind, span));
-}
-
-/// Tells a visitor that it is left.
-pub(crate) fn leave_part<V: Watch>(kind: Kind, span: Span, visitor: &mut V)
-    ensures { V.state visitor.new ≡ V.step (leave (seen kind span [])) (V.state visitor.old) }
-{
-    visitor.leave(Node::Part(kind, span));
 }

@@ -1,7 +1,7 @@
 //! Changes declarations (ECMA-262, 14.3, 15.2 and 15.7).
 ghost use Rattle.ecma_node.specs.Fits.{fits_decl, fits_class_decl, fits_fn_decl, fits_var_decl, fits_using_decl, fits_var_declarator};
 
-use crate::walk::{Change, WalkMut, walk_all, walk_part};
+use crate::walk::{Change, WalkMut, walk_all, walk_value};
 use ecma_node::{ClassDeclOf, DeclOf, FnDeclOf, UsingDeclOf, VarDeclOf, VarDeclaratorOf};
 
 impl<T, C: Change<T>> WalkMut<T, C> for DeclOf<T> {
@@ -60,7 +60,7 @@ impl<T, C: Change<T>> WalkMut<T, C> for VarDeclaratorOf<T> {
 
     fn walk_mut(&mut self, by: &mut C) {
         self.name.walk_mut(by);
-        walk_part(&mut self.init, by);
+        walk_value(&mut self.init, by);
         by.span(&mut self.span);
     }
 }

@@ -1,14 +1,15 @@
 //! Changes expressions (ECMA-262, clause 13).
 ghost use Rattle.ecma_node.specs.Fits.{fits_expr_kind, fits_array_lit, fits_object_lit, fits_fn_expr, fits_unary_expr, fits_update_expr, fits_bin_expr, fits_assign_expr, fits_member_expr, fits_super_prop_expr, fits_cond_expr, fits_call_expr, fits_new_expr, fits_seq_expr, fits_tpl, fits_tagged_tpl, fits_arrow_expr, fits_class_expr, fits_yield_expr, fits_await_expr, fits_paren_expr, fits_opt_chain_expr, fits_opt_call, fits_expr_or_spread, fits_spread_element, fits_callee, fits_member_prop, fits_super_prop, fits_opt_chain_base, fits_block_stmt_or_expr};
 
-use crate::walk::{Change, WalkMut, Word, walk_all, walk_elements, walk_part, walk_place};
+use crate::walk::{
+    Change, WalkMut, Word, walk_all, walk_args, walk_elements, walk_place, walk_value,
+};
 use ecma_node::{
     ArrayLitOf, ArrowExprOf, AssignExprOf, AwaitExprOf, BinExprOf, BlockStmtOrExprOf, CallExprOf,
-    CalleeOf, ClassExprOf, CondExprOf, ExprKindOf, ExprOrSpreadOf, FnExprOf, Ident, Import,
-    Invalid, MemberExprOf, MemberPropOf, MetaPropExpr, NewExprOf, ObjectLitOf, OptCallOf,
-    OptChainBaseOf, OptChainExprOf, ParenExprOf, SeqExprOf, SpreadElementOf, Super,
-    SuperPropExprOf, SuperPropOf, TaggedTplOf, ThisExpr, TplElement, TplOf, UnaryExprOf,
-    UpdateExprOf, YieldExprOf,
+    CalleeOf, ClassExprOf, CondExprOf, ExprKindOf, ExprOrSpreadOf, FnExprOf, Ident, MemberExprOf,
+    MemberPropOf, NewExprOf, ObjectLitOf, OptCallOf, OptChainBaseOf, OptChainExprOf, ParenExprOf,
+    SeqExprOf, SpreadElementOf, SuperPropExprOf, SuperPropOf, TaggedTplOf, TplElement, TplOf,
+    UnaryExprOf, UpdateExprOf, YieldExprOf,
 };
 
 impl<T, C: Change<T>> WalkMut<T, C> for ExprKindOf<T> {
@@ -16,7 +17,7 @@ impl<T, C: Change<T>> WalkMut<T, C> for ExprKindOf<T> {
 
     fn walk_mut(&mut self, by: &mut C) {
         match self {
-            ExprKindOf::This(x) => x.walk_mut(by),
+            ExprKindOf::This(x) => by.span(&mut x.span),
             ExprKindOf::Array(x) => x.walk_mut(by),
             ExprKindOf::Object(x) => x.walk_mut(by),
             ExprKindOf::Fn(x) => x.walk_mut(by),
@@ -37,21 +38,13 @@ impl<T, C: Change<T>> WalkMut<T, C> for ExprKindOf<T> {
             ExprKindOf::Arrow(x) => x.walk_mut(by),
             ExprKindOf::Class(x) => x.walk_mut(by),
             ExprKindOf::Yield(x) => x.walk_mut(by),
-            ExprKindOf::MetaProp(x) => x.walk_mut(by),
+            ExprKindOf::MetaProp(x) => by.span(&mut x.span),
             ExprKindOf::Await(x) => x.walk_mut(by),
             ExprKindOf::Paren(x) => x.walk_mut(by),
             ExprKindOf::PrivateName(x) => x.walk_mut(by),
             ExprKindOf::OptChain(x) => x.walk_mut(by),
-            ExprKindOf::Invalid(x) => x.walk_mut(by),
+            ExprKindOf::Invalid(x) => by.span(&mut x.span),
         }
-    }
-}
-
-impl<T, C: Change<T>> WalkMut<T, C> for ThisExpr {
-    ghost fits = { λ _. Unit {0} };
-
-    fn walk_mut(&mut self, by: &mut C) {
-        by.span(&mut self.span);
     }
 }
 
@@ -137,7 +130,7 @@ impl<T, C: Change<T>> WalkMut<T, C> for SuperPropExprOf<T> {
     ghost fits = { λ x. fits_super_prop_expr C.placed x };
 
     fn walk_mut(&mut self, by: &mut C) {
-        self.obj.walk_mut(by);
+        by.span(&mut self.obj.span);
         self.prop.walk_mut(by);
         by.span(&mut self.span);
     }
@@ -159,7 +152,7 @@ impl<T, C: Change<T>> WalkMut<T, C> for CallExprOf<T> {
 
     fn walk_mut(&mut self, by: &mut C) {
         self.callee.walk_mut(by);
-        walk_all(&mut self.args, by);
+        walk_args(&mut self.args, by);
         by.span(&mut self.span);
     }
 }
@@ -170,7 +163,7 @@ impl<T, C: Change<T>> WalkMut<T, C> for NewExprOf<T> {
     fn walk_mut(&mut self, by: &mut C) {
         self.callee.walk_mut(by);
         if let Some(x) = &mut self.args {
-            walk_all(x, by);
+            walk_args(x, by);
         }
         by.span(&mut self.span);
     }
@@ -249,15 +242,7 @@ impl<T, C: Change<T>> WalkMut<T, C> for YieldExprOf<T> {
     ghost fits = { λ x. fits_yield_expr C.placed x };
 
     fn walk_mut(&mut self, by: &mut C) {
-        walk_part(&mut self.arg, by);
-        by.span(&mut self.span);
-    }
-}
-
-impl<T, C: Change<T>> WalkMut<T, C> for MetaPropExpr {
-    ghost fits = { λ _. Unit {0} };
-
-    fn walk_mut(&mut self, by: &mut C) {
+        walk_value(&mut self.arg, by);
         by.span(&mut self.span);
     }
 }
@@ -294,31 +279,7 @@ impl<T, C: Change<T>> WalkMut<T, C> for OptCallOf<T> {
 
     fn walk_mut(&mut self, by: &mut C) {
         self.callee.walk_mut(by);
-        walk_all(&mut self.args, by);
-        by.span(&mut self.span);
-    }
-}
-
-impl<T, C: Change<T>> WalkMut<T, C> for Super {
-    ghost fits = { λ _. Unit {0} };
-
-    fn walk_mut(&mut self, by: &mut C) {
-        by.span(&mut self.span);
-    }
-}
-
-impl<T, C: Change<T>> WalkMut<T, C> for Import {
-    ghost fits = { λ _. Unit {0} };
-
-    fn walk_mut(&mut self, by: &mut C) {
-        by.span(&mut self.span);
-    }
-}
-
-impl<T, C: Change<T>> WalkMut<T, C> for Invalid {
-    ghost fits = { λ _. Unit {0} };
-
-    fn walk_mut(&mut self, by: &mut C) {
+        walk_args(&mut self.args, by);
         by.span(&mut self.span);
     }
 }
@@ -347,8 +308,8 @@ impl<T, C: Change<T>> WalkMut<T, C> for CalleeOf<T> {
 
     fn walk_mut(&mut self, by: &mut C) {
         match self {
-            CalleeOf::Super(x) => x.walk_mut(by),
-            CalleeOf::Import(x) => x.walk_mut(by),
+            CalleeOf::Super(x) => by.span(&mut x.span),
+            CalleeOf::Import(x) => by.span(&mut x.span),
             CalleeOf::Expr(x) => x.walk_mut(by),
         }
     }

@@ -1,7 +1,7 @@
 //! Changes functions, classes and keys (ECMA-262, clause 15).
 ghost use Rattle.ecma_node.specs.Fits.{fits_function, fits_param, fits_decorator, fits_class, fits_class_member, fits_constructor, fits_class_method, fits_private_method, fits_class_prop, fits_private_prop, fits_static_block, fits_auto_accessor, fits_key, fits_prop_name, fits_computed_prop_name};
 
-use crate::walk::{Change, WalkMut, Word, walk_all, walk_part};
+use crate::walk::{Change, WalkMut, Word, walk_all, walk_decorators, walk_value};
 use ecma_node::{
     AutoAccessorOf, ClassMemberOf, ClassMethodOf, ClassOf, ClassPropOf, ComputedPropNameOf,
     ConstructorOf, DecoratorOf, FunctionOf, IdentName, KeyOf, ParamOf, PrivateMethodOf,
@@ -13,7 +13,7 @@ impl<T, C: Change<T>> WalkMut<T, C> for FunctionOf<T> {
 
     fn walk_mut(&mut self, by: &mut C) {
         by.enter_function(self);
-        walk_all(&mut self.decorators, by);
+        walk_decorators(&mut self.decorators, by);
         walk_all(&mut self.params, by);
         self.body.walk_mut(by);
         by.span(&mut self.span);
@@ -25,7 +25,7 @@ impl<T, C: Change<T>> WalkMut<T, C> for ParamOf<T> {
     ghost fits = { λ x. fits_param C.placed x };
 
     fn walk_mut(&mut self, by: &mut C) {
-        walk_all(&mut self.decorators, by);
+        walk_decorators(&mut self.decorators, by);
         self.pat.walk_mut(by);
         by.span(&mut self.span);
     }
@@ -45,8 +45,8 @@ impl<T, C: Change<T>> WalkMut<T, C> for ClassOf<T> {
 
     fn walk_mut(&mut self, by: &mut C) {
         by.enter_class(self);
-        walk_all(&mut self.decorators, by);
-        walk_part(&mut self.super_class, by);
+        walk_decorators(&mut self.decorators, by);
+        walk_value(&mut self.super_class, by);
         walk_all(&mut self.body, by);
         by.span(&mut self.span);
         by.leave_class(self);
@@ -65,7 +65,7 @@ impl<T, C: Change<T>> WalkMut<T, C> for ClassMemberOf<T> {
             ClassMemberOf::PrivateProp(x) => x.walk_mut(by),
             ClassMemberOf::StaticBlock(x) => x.walk_mut(by),
             ClassMemberOf::AutoAccessor(x) => x.walk_mut(by),
-            ClassMemberOf::Empty(x) => x.walk_mut(by),
+            ClassMemberOf::Empty(x) => by.span(&mut x.span),
         }
     }
 }
@@ -105,9 +105,9 @@ impl<T, C: Change<T>> WalkMut<T, C> for ClassPropOf<T> {
     ghost fits = { λ x. fits_class_prop C.placed x };
 
     fn walk_mut(&mut self, by: &mut C) {
-        walk_all(&mut self.decorators, by);
+        walk_decorators(&mut self.decorators, by);
         self.key.walk_mut(by);
-        walk_part(&mut self.value, by);
+        walk_value(&mut self.value, by);
         by.span(&mut self.span);
     }
 }
@@ -116,9 +116,9 @@ impl<T, C: Change<T>> WalkMut<T, C> for PrivatePropOf<T> {
     ghost fits = { λ x. fits_private_prop C.placed x };
 
     fn walk_mut(&mut self, by: &mut C) {
-        walk_all(&mut self.decorators, by);
+        walk_decorators(&mut self.decorators, by);
         self.key.walk_mut(by);
-        walk_part(&mut self.value, by);
+        walk_value(&mut self.value, by);
         by.span(&mut self.span);
     }
 }
@@ -136,9 +136,9 @@ impl<T, C: Change<T>> WalkMut<T, C> for AutoAccessorOf<T> {
     ghost fits = { λ x. fits_auto_accessor C.placed x };
 
     fn walk_mut(&mut self, by: &mut C) {
-        walk_all(&mut self.decorators, by);
+        walk_decorators(&mut self.decorators, by);
         self.key.walk_mut(by);
-        walk_part(&mut self.value, by);
+        walk_value(&mut self.value, by);
         by.span(&mut self.span);
     }
 }

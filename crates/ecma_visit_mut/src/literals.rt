@@ -1,6 +1,6 @@
 //! Changes literals (ECMA-262, 13.2.3, 13.2.7 and 13.2.8).
 use crate::walk::{Change, WalkMut, Word};
-use ecma_node::{BigInt, Bool, Lit, Null, Number, Regex, Str};
+use ecma_node::{BigInt, Lit, Number, Str};
 
 impl<T, C: Change<T>> WalkMut<T, C> for Lit {
     ghost fits = { λ _. Unit {0} };
@@ -8,11 +8,11 @@ impl<T, C: Change<T>> WalkMut<T, C> for Lit {
     fn walk_mut(&mut self, by: &mut C) {
         match self {
             Lit::Str(x) => x.walk_mut(by),
-            Lit::Bool(x) => x.walk_mut(by),
-            Lit::Null(x) => x.walk_mut(by),
+            Lit::Bool(x) => by.span(&mut x.span),
+            Lit::Null(x) => by.span(&mut x.span),
             Lit::Num(x) => x.walk_mut(by),
             Lit::BigInt(x) => x.walk_mut(by),
-            Lit::Regex(x) => x.walk_mut(by),
+            Lit::Regex(x) => by.span(&mut x.span),
         }
     }
 }
@@ -23,22 +23,6 @@ impl<T, C: Change<T>> WalkMut<T, C> for Str {
     fn walk_mut(&mut self, by: &mut C) {
         by.span(&mut self.span);
         by.word(Word::Str(self));
-    }
-}
-
-impl<T, C: Change<T>> WalkMut<T, C> for Bool {
-    ghost fits = { λ _. Unit {0} };
-
-    fn walk_mut(&mut self, by: &mut C) {
-        by.span(&mut self.span);
-    }
-}
-
-impl<T, C: Change<T>> WalkMut<T, C> for Null {
-    ghost fits = { λ _. Unit {0} };
-
-    fn walk_mut(&mut self, by: &mut C) {
-        by.span(&mut self.span);
     }
 }
 
@@ -57,13 +41,5 @@ impl<T, C: Change<T>> WalkMut<T, C> for BigInt {
     fn walk_mut(&mut self, by: &mut C) {
         by.span(&mut self.span);
         by.word(Word::BigInt(self));
-    }
-}
-
-impl<T, C: Change<T>> WalkMut<T, C> for Regex {
-    ghost fits = { λ _. Unit {0} };
-
-    fn walk_mut(&mut self, by: &mut C) {
-        by.span(&mut self.span);
     }
 }

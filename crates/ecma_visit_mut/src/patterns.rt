@@ -1,7 +1,7 @@
 //! Changes patterns (ECMA-262, 13.15.5 and 14.3.3).
 ghost use Rattle.ecma_node.specs.Fits.{fits_pat_kind, fits_array_pat, fits_rest_pat, fits_object_pat, fits_assign_pat, fits_object_pat_prop, fits_key_value_pat_prop, fits_assign_pat_prop, fits_assign_target};
 
-use crate::walk::{Change, WalkMut, walk_all, walk_elements, walk_part};
+use crate::walk::{Change, WalkMut, walk_all, walk_elements, walk_value};
 use ecma_node::{
     ArrayPatOf, AssignPatOf, AssignPatPropOf, AssignTargetOf, BindingIdent, KeyValuePatPropOf,
     ObjectPatOf, ObjectPatPropOf, PatKindOf, RestPatOf,
@@ -18,7 +18,7 @@ impl<T, C: Change<T>> WalkMut<T, C> for PatKindOf<T> {
             PatKindOf::Object(x) => x.walk_mut(by),
             PatKindOf::Assign(x) => x.walk_mut(by),
             PatKindOf::Expr(x) => x.walk_mut(by),
-            PatKindOf::Invalid(x) => x.walk_mut(by),
+            PatKindOf::Invalid(x) => by.span(&mut x.span),
         }
     }
 }
@@ -97,7 +97,7 @@ impl<T, C: Change<T>> WalkMut<T, C> for AssignPatPropOf<T> {
 
     fn walk_mut(&mut self, by: &mut C) {
         self.key.walk_mut(by);
-        walk_part(&mut self.value, by);
+        walk_value(&mut self.value, by);
         by.span(&mut self.span);
     }
 }
@@ -114,7 +114,7 @@ impl<T, C: Change<T>> WalkMut<T, C> for AssignTargetOf<T> {
             AssignTargetOf::OptChain(x) => x.walk_mut(by),
             AssignTargetOf::Array(x) => x.walk_mut(by),
             AssignTargetOf::Object(x) => x.walk_mut(by),
-            AssignTargetOf::Invalid(x) => x.walk_mut(by),
+            AssignTargetOf::Invalid(x) => by.span(&mut x.span),
         }
     }
 }

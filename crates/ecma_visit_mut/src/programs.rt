@@ -1,7 +1,7 @@
 //! Changes scripts, modules, imports and exports (ECMA-262, 16.1 and 16.2).
 ghost use Rattle.ecma_node.specs.Fits.{fits_program_kind, fits_script, fits_module, fits_module_item, fits_module_decl, fits_import_decl, fits_export_decl, fits_named_export, fits_export_default_decl, fits_export_default_expr, fits_export_all, fits_default_decl};
 
-use crate::walk::{Change, WalkMut, walk_all};
+use crate::walk::{Change, WalkMut, walk_all, walk_stmts};
 use ecma_node::{
     DefaultDeclOf, ExportAllOf, ExportDeclOf, ExportDefaultDeclOf, ExportDefaultExprOf,
     ExportDefaultSpecifier, ExportNamedSpecifier, ExportNamespaceSpecifier, ExportSpecifier,
@@ -25,8 +25,7 @@ impl<T, C: Change<T>> WalkMut<T, C> for ScriptOf<T> {
     ghost fits = { λ x. fits_script C.placed x };
 
     fn walk_mut(&mut self, by: &mut C) {
-        walk_all(&mut self.body, by);
-        by.leave_stmts(&mut self.body);
+        walk_stmts(&mut self.body, by);
         by.span(&mut self.span);
     }
 }

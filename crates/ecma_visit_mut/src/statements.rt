@@ -1,12 +1,11 @@
 //! Changes statements (ECMA-262, clause 14).
 ghost use Rattle.ecma_node.specs.Fits.{fits_stmt_kind, fits_block_stmt, fits_with_stmt, fits_return_stmt, fits_labeled_stmt, fits_if_stmt, fits_switch_stmt, fits_switch_case, fits_throw_stmt, fits_try_stmt, fits_catch_clause, fits_while_stmt, fits_do_while_stmt, fits_for_stmt, fits_for_in_stmt, fits_for_of_stmt, fits_expr_stmt, fits_var_decl_or_expr, fits_for_head};
 
-use crate::walk::{Change, WalkMut, walk_all, walk_part};
+use crate::walk::{Change, WalkMut, walk_all, walk_part, walk_stmts, walk_value};
 use ecma_node::{
-    BlockStmtOf, BreakStmt, CatchClauseOf, ContinueStmt, DebuggerStmt, DoWhileStmtOf, EmptyStmt,
-    ExprStmtOf, ForHeadOf, ForInStmtOf, ForOfStmtOf, ForStmtOf, IfStmtOf, LabeledStmtOf,
-    ReturnStmtOf, StmtKindOf, SwitchCaseOf, SwitchStmtOf, ThrowStmtOf, TryStmtOf, VarDeclOrExprOf,
-    WhileStmtOf, WithStmtOf,
+    BlockStmtOf, BreakStmt, CatchClauseOf, ContinueStmt, DoWhileStmtOf, ExprStmtOf, ForHeadOf,
+    ForInStmtOf, ForOfStmtOf, ForStmtOf, IfStmtOf, LabeledStmtOf, ReturnStmtOf, StmtKindOf,
+    SwitchCaseOf, SwitchStmtOf, ThrowStmtOf, TryStmtOf, VarDeclOrExprOf, WhileStmtOf, WithStmtOf,
 };
 
 impl<T, C: Change<T>> WalkMut<T, C> for StmtKindOf<T> {
@@ -15,8 +14,8 @@ impl<T, C: Change<T>> WalkMut<T, C> for StmtKindOf<T> {
     fn walk_mut(&mut self, by: &mut C) {
         match self {
             StmtKindOf::Block(x) => x.walk_mut(by),
-            StmtKindOf::Empty(x) => x.walk_mut(by),
-            StmtKindOf::Debugger(x) => x.walk_mut(by),
+            StmtKindOf::Empty(x) => by.span(&mut x.span),
+            StmtKindOf::Debugger(x) => by.span(&mut x.span),
             StmtKindOf::With(x) => x.walk_mut(by),
             StmtKindOf::Return(x) => x.walk_mut(by),
             StmtKindOf::Labeled(x) => x.walk_mut(by),
@@ -41,24 +40,7 @@ impl<T, C: Change<T>> WalkMut<T, C> for BlockStmtOf<T> {
     ghost fits = { λ x. fits_block_stmt C.placed x };
 
     fn walk_mut(&mut self, by: &mut C) {
-        walk_all(&mut self.stmts, by);
-        by.leave_stmts(&mut self.stmts);
-        by.span(&mut self.span);
-    }
-}
-
-impl<T, C: Change<T>> WalkMut<T, C> for EmptyStmt {
-    ghost fits = { λ _. Unit {0} };
-
-    fn walk_mut(&mut self, by: &mut C) {
-        by.span(&mut self.span);
-    }
-}
-
-impl<T, C: Change<T>> WalkMut<T, C> for DebuggerStmt {
-    ghost fits = { λ _. Unit {0} };
-
-    fn walk_mut(&mut self, by: &mut C) {
+        walk_stmts(&mut self.stmts, by);
         by.span(&mut self.span);
     }
 }
@@ -77,7 +59,7 @@ impl<T, C: Change<T>> WalkMut<T, C> for ReturnStmtOf<T> {
     ghost fits = { λ x. fits_return_stmt C.placed x };
 
     fn walk_mut(&mut self, by: &mut C) {
-        walk_part(&mut self.arg, by);
+        walk_value(&mut self.arg, by);
         by.span(&mut self.span);
     }
 }
@@ -139,9 +121,8 @@ impl<T, C: Change<T>> WalkMut<T, C> for SwitchCaseOf<T> {
     ghost fits = { λ x. fits_switch_case C.placed x };
 
     fn walk_mut(&mut self, by: &mut C) {
-        walk_part(&mut self.test, by);
-        walk_all(&mut self.cons, by);
-        by.leave_stmts(&mut self.cons);
+        walk_value(&mut self.test, by);
+        walk_stmts(&mut self.cons, by);
         by.span(&mut self.span);
     }
 }
@@ -201,8 +182,8 @@ impl<T, C: Change<T>> WalkMut<T, C> for ForStmtOf<T> {
 
     fn walk_mut(&mut self, by: &mut C) {
         walk_part(&mut self.init, by);
-        walk_part(&mut self.test, by);
-        walk_part(&mut self.update, by);
+        walk_value(&mut self.test, by);
+        walk_value(&mut self.update, by);
         self.body.walk_mut(by);
         by.span(&mut self.span);
     }

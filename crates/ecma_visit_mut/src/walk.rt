@@ -1,11 +1,11 @@
 //! What can be changed in place, and who changes it.
 ghost use Rattle.std.specs.Prelude.{All};
 ghost use Rattle.ecma_node.specs.Placed.{Placed, holds_expr, holds_stmt, holds_pat};
-ghost use Rattle.ecma_node.specs.Fits.{fits_held, fits_function, fits_class};
+ghost use Rattle.ecma_node.specs.Fits.{fits_held, fits_function, fits_class, fits_decorator, fits_expr_or_spread};
 
 use ecma_node::{
-    BigInt, Child, ClassOf, ExprTag, FunctionOf, Ident, IdentName, Number, PatTag, PrivateName,
-    StmtTag, Str, TplElement,
+    BigInt, Child, ClassOf, DecoratorOf, ExprOrSpreadOf, ExprTag, FunctionOf, Ident, IdentName,
+    Number, PatTag, PrivateName, StmtTag, Str, TplElement,
 };
 use ecma_token::Span;
 
@@ -171,6 +171,49 @@ pub(crate) fn walk_part<T, C: Change<T>, X: WalkMut<T, C>>(part: &mut Option<X>,
     if let Some(x) = part {
         x.walk_mut(by);
     }
+}
+
+/// Changes an expression that may be left out.
+pub(crate) fn walk_value<T, C: Change<T>>(value: &mut Option<Child<T, ExprTag>>, by: &mut C)
+    requires ready { C.ready by.old }
+    requires fits { fits_held (λ x. holds_expr (C.placed x.part.value)) value.old }
+    ensures ready { C.ready by.new }
+    ensures fits { fits_held (λ x. holds_expr (C.placed x.part.value)) value.new }
+{
+    if let Some(x) = value {
+        by.expr(&mut *x.part);
+    }
+}
+
+/// Changes each of a list of statements, and then hands the list.
+pub(crate) fn walk_stmts<T, C: Change<T>>(stmts: &mut Vec<Child<T, StmtTag>>, by: &mut C)
+    requires ready { C.ready by.old }
+    requires fits { All (λ x. holds_stmt (C.placed x.part.value)) stmts.old.items }
+    ensures ready { C.ready by.new }
+    ensures fits { All (λ x. holds_stmt (C.placed x.part.value)) stmts.new.items }
+{
+    walk_all(stmts, by);
+    by.leave_stmts(stmts);
+}
+
+/// Changes each decorator of a list.
+pub(crate) fn walk_decorators<T, C: Change<T>>(decorators: &mut Vec<DecoratorOf<T>>, by: &mut C)
+    requires ready { C.ready by.old }
+    requires fits { All (λ x. fits_decorator C.placed x) decorators.old.items }
+    ensures ready { C.ready by.new }
+    ensures fits { All (λ x. fits_decorator C.placed x) decorators.new.items }
+{
+    walk_all(decorators, by);
+}
+
+/// Changes each argument of a list.
+pub(crate) fn walk_args<T, C: Change<T>>(args: &mut Vec<ExprOrSpreadOf<T>>, by: &mut C)
+    requires ready { C.ready by.old }
+    requires fits { All (λ x. fits_expr_or_spread C.placed x) args.old.items }
+    ensures ready { C.ready by.new }
+    ensures fits { All (λ x. fits_expr_or_spread C.placed x) args.new.items }
+{
+    walk_all(args, by);
 }
 
 /// Changes the place of dots, where they stand.
