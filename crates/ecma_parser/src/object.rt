@@ -90,7 +90,9 @@ impl<'a, I: Tokens<'a> + Drop> ParseObject<ExprBox> for Entries<Parser<'a, I>> {
         requires fit { All (λ x. fits_prop_or_spread (λ p. p) x) props.items }
         ensures value { IfOk result (λ x. inner x.part.value ≡ object_lit span (trees_by (view_prop_or_spread inner) props.items)) }
         ensures holds { IfOk result (λ x. holds_expr x.part.value) }
+        ensures allowed { IfOk result (λ _. true ≡ true) }
         ensures full { IfErr result (λ e. e.kind ≡ Memory) }
+        ensures refused { IfErr result (λ e. e.kind ≢ Memory → true ≡ false) }
         ensures stays { self.new ≡ self.old }
     {
         let kind = ExprKind::Object(ObjectLit { span, props });
