@@ -27,6 +27,7 @@ impl<'a, I: Tokens<'a> + Drop> Entries<Parser<'a, I>> {
     /// Want of memory, or the fault of the script.
     pub fn parse_program(&mut self) -> PResult<Program>
         ensures value { Chooses (syntax_in I.state self.old) result (program_within (machine_of I.machine) (limit_in self.old) true (module_code (syntax_in I.state self.old)) (opened I.machine I.state (module_code (syntax_in I.state self.old)).context self.old)) (program_within (machine_of I.machine) (limit_in self.old) false (script_code (syntax_in I.state self.old)) (opened I.machine I.state (script_code (syntax_in I.state self.old)).context self.old)) (faults_in self.old) (faults_in self.new) }
+        ensures started { IfOk result (λ _. self.new.started ≡ true) }
         ensures context { ctx_in I.state self.new ≡ ctx_in I.state self.old }
         ensures limit { limit_in self.new ≡ limit_in self.old }
     {
@@ -50,6 +51,7 @@ impl<'a, I: Tokens<'a> + Drop> Entries<Parser<'a, I>> {
         ensures meant { IfOk result (λ m. MatchOption m (NotMeant (syntax_in I.state self.old) (program_within (machine_of I.machine) (limit_in self.old) true (module_code (syntax_in I.state self.old)) (opened I.machine I.state (module_code (syntax_in I.state self.old)).context self.old))) (λ x. IsMeant (syntax_in I.state self.old) (program_within (machine_of I.machine) (limit_in self.old) true (module_code (syntax_in I.state self.old)) (opened I.machine I.state (module_code (syntax_in I.state self.old)).context self.old)) (view_module inner x))) }
         ensures stays { IfOk result (λ m. MatchOption m (self.new ≡ self.old) (λ x. ctx_in I.state self.new ≡ ctx_in I.state self.old)) }
         ensures fits { IfOk result (λ m. IfSome m (λ x. fits_module (λ p. p) x)) }
+        ensures started { IfOk result (λ m. IfSome m (λ _. self.new.started ≡ true)) }
         ensures failed { MatchResult result (λ m. limit_in self.new ≡ limit_in self.old) (λ e. (e.kind ≡ Memory) × (self.new ≡ self.old)) }
         ensures faults { faults_in self.new ≡ faults_in self.old }
     {

@@ -64,6 +64,7 @@ impl<'a, I: Tokens<'a> + Drop> Entries<Parser<'a, I>> {
     pub fn parse_script(&mut self) -> PResult<Script>
         ensures value { Parses (view_script inner) (syntax_in I.state self.old) result (program_within (machine_of I.machine) (limit_in self.old) false (script_code (syntax_in I.state self.old)) (opened I.machine I.state (script_code (syntax_in I.state self.old)).context self.old)) (faults_in self.old) (faults_in self.new) }
         ensures fits { IfOk result (λ x. fits_script (λ p. p) x) }
+        ensures started { IfOk result (λ _. self.new.started ≡ true) }
         ensures context { ctx_in I.state self.new ≡ ctx_in I.state self.old }
         ensures limit { limit_in self.new ≡ limit_in self.old }
     {
@@ -81,6 +82,7 @@ impl<'a, I: Tokens<'a> + Drop> Entries<Parser<'a, I>> {
     pub fn parse_module(&mut self) -> PResult<Module>
         ensures value { Parses (view_module inner) (syntax_in I.state self.old) result (program_within (machine_of I.machine) (limit_in self.old) true (module_code (syntax_in I.state self.old)) (opened I.machine I.state (module_code (syntax_in I.state self.old)).context self.old)) (faults_in self.old) (faults_in self.new) }
         ensures fits { IfOk result (λ x. fits_module (λ p. p) x) }
+        ensures started { IfOk result (λ _. self.new.started ≡ true) }
         ensures context { ctx_in I.state self.new ≡ ctx_in I.state self.old }
         ensures limit { limit_in self.new ≡ limit_in self.old }
     {
@@ -94,6 +96,7 @@ impl<'a, I: Tokens<'a> + Drop> Entries<Parser<'a, I>> {
     fn script(&mut self) -> PResult<Script>
         ensures value { Parses (view_script inner) (syntax_in I.state self.old) result (program_within (machine_of I.machine) (limit_in self.old) false (script_code (syntax_in I.state self.old)) (opened I.machine I.state (script_code (syntax_in I.state self.old)).context self.old)) (faults_in self.old) (faults_in self.new) }
         ensures fits { IfOk result (λ x. fits_script (λ p. p) x) }
+        ensures started { IfOk result (λ _. self.new.started ≡ true) }
         ensures limit { limit_in self.new ≡ limit_in self.old }
     {
         let Syntax::Es(syntax) = self.reading.input.syntax();
@@ -114,6 +117,7 @@ impl<'a, I: Tokens<'a> + Drop> Entries<Parser<'a, I>> {
     fn module(&mut self) -> PResult<Module>
         ensures value { Parses (view_module inner) (syntax_in I.state self.old) result (program_within (machine_of I.machine) (limit_in self.old) true (module_code (syntax_in I.state self.old)) (opened I.machine I.state (module_code (syntax_in I.state self.old)).context self.old)) (faults_in self.old) (faults_in self.new) }
         ensures fits { IfOk result (λ x. fits_module (λ p. p) x) }
+        ensures started { IfOk result (λ _. self.new.started ≡ true) }
         ensures limit { limit_in self.new ≡ limit_in self.old }
     {
         let Syntax::Es(syntax) = self.reading.input.syntax();
