@@ -37,13 +37,15 @@ BELOW = {
     "elements": "walk_elements(%s.as_slice(), visitor)",
     "node list": "walk_headed(&%s, %s.as_slice(), visitor)",
 }
-TELLS = ["enter_part", "leave_part", "tell_leaf", "tell_list", "tell_one", "tell_two"]
 TOLD = {
     "": "tell_leaf(%s, visitor)",
     "node": "tell_one(%s, &%s, visitor)",
     "node node": "tell_two(%s, &%s, &%s, visitor)",
     "list": "tell_list(%s, %s.as_slice(), visitor)",
 }
+
+# What tells of a node by its kind and place.
+TELLS = ["enter_part", "leave_part", "tell_leaf", "tell_list", "tell_one", "tell_two"]
 
 
 def bare(text):

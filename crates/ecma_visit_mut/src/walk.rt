@@ -173,6 +173,8 @@ pub(crate) fn walk_part<T, C: Change<T>, X: WalkMut<T, C>>(part: &mut Option<X>,
     }
 }
 
+// What several structs hold: a call that is handed no type to go over costs the prover a tenth of one that is.
+
 /// Changes an expression that may be left out.
 pub(crate) fn walk_value<T, C: Change<T>>(value: &mut Option<Child<T, ExprTag>>, by: &mut C)
     requires ready { C.ready by.old }
