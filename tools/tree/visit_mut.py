@@ -17,6 +17,8 @@ SHARED = {
     "Vec<Stmt>": "walk_stmts",
     "Vec<Decorator>": "walk_decorators",
     "Vec<ExprOrSpread>": "walk_args",
+    "Vec<Param>": "walk_params",
+    "Vec<VarDeclarator>": "walk_declarators",
 }
 HELPERS = ["walk_all", "walk_elements", "walk_part", "walk_place", *SHARED.values()]
 

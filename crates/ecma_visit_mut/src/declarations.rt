@@ -1,7 +1,7 @@
 //! Changes declarations (ECMA-262, 14.3, 15.2 and 15.7).
 ghost use Rattle.ecma_node.specs.Fits.{fits_decl, fits_class_decl, fits_fn_decl, fits_var_decl, fits_using_decl, fits_var_declarator};
 
-use crate::walk::{Change, WalkMut, walk_all, walk_value};
+use crate::walk::{Change, WalkMut, walk_declarators, walk_value};
 use ecma_node::{ClassDeclOf, DeclOf, FnDeclOf, UsingDeclOf, VarDeclOf, VarDeclaratorOf};
 
 impl<T, C: Change<T>> WalkMut<T, C> for DeclOf<T> {
@@ -41,7 +41,7 @@ impl<T, C: Change<T>> WalkMut<T, C> for VarDeclOf<T> {
     ghost fits = { λ x. fits_var_decl C.placed x };
 
     fn walk_mut(&mut self, by: &mut C) {
-        walk_all(&mut self.decls, by);
+        walk_declarators(&mut self.decls, by);
         by.span(&mut self.span);
     }
 }
@@ -50,7 +50,7 @@ impl<T, C: Change<T>> WalkMut<T, C> for UsingDeclOf<T> {
     ghost fits = { λ x. fits_using_decl C.placed x };
 
     fn walk_mut(&mut self, by: &mut C) {
-        walk_all(&mut self.decls, by);
+        walk_declarators(&mut self.decls, by);
         by.span(&mut self.span);
     }
 }

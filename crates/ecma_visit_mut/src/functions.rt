@@ -1,7 +1,7 @@
 //! Changes functions, classes and keys (ECMA-262, clause 15).
 ghost use Rattle.ecma_node.specs.Fits.{fits_function, fits_param, fits_decorator, fits_class, fits_class_member, fits_constructor, fits_class_method, fits_private_method, fits_class_prop, fits_private_prop, fits_static_block, fits_auto_accessor, fits_key, fits_prop_name, fits_computed_prop_name};
 
-use crate::walk::{Change, WalkMut, Word, walk_all, walk_decorators, walk_value};
+use crate::walk::{Change, WalkMut, Word, walk_all, walk_decorators, walk_params, walk_value};
 use ecma_node::{
     AutoAccessorOf, ClassMemberOf, ClassMethodOf, ClassOf, ClassPropOf, ComputedPropNameOf,
     ConstructorOf, DecoratorOf, FunctionOf, IdentName, KeyOf, ParamOf, PrivateMethodOf,
@@ -14,7 +14,7 @@ impl<T, C: Change<T>> WalkMut<T, C> for FunctionOf<T> {
     fn walk_mut(&mut self, by: &mut C) {
         by.enter_function(self);
         walk_decorators(&mut self.decorators, by);
-        walk_all(&mut self.params, by);
+        walk_params(&mut self.params, by);
         self.body.walk_mut(by);
         by.span(&mut self.span);
         by.leave_function(self);
@@ -75,7 +75,7 @@ impl<T, C: Change<T>> WalkMut<T, C> for ConstructorOf<T> {
 
     fn walk_mut(&mut self, by: &mut C) {
         self.key.walk_mut(by);
-        walk_all(&mut self.params, by);
+        walk_params(&mut self.params, by);
         self.body.walk_mut(by);
         by.span(&mut self.span);
     }

@@ -1,11 +1,11 @@
 //! What can be changed in place, and who changes it.
 ghost use Rattle.std.specs.Prelude.{All};
 ghost use Rattle.ecma_node.specs.Placed.{Placed, holds_expr, holds_stmt, holds_pat};
-ghost use Rattle.ecma_node.specs.Fits.{fits_held, fits_function, fits_class, fits_decorator, fits_expr_or_spread};
+ghost use Rattle.ecma_node.specs.Fits.{fits_held, fits_function, fits_class, fits_decorator, fits_expr_or_spread, fits_param, fits_var_declarator};
 
 use ecma_node::{
     BigInt, Child, ClassOf, DecoratorOf, ExprOrSpreadOf, ExprTag, FunctionOf, Ident, IdentName,
-    Number, PatTag, PrivateName, StmtTag, Str, TplElement,
+    Number, ParamOf, PatTag, PrivateName, StmtTag, Str, TplElement, VarDeclaratorOf,
 };
 use ecma_token::Span;
 
@@ -216,6 +216,29 @@ pub(crate) fn walk_args<T, C: Change<T>>(args: &mut Vec<ExprOrSpreadOf<T>>, by: 
     ensures fits { All (λ x. fits_expr_or_spread C.placed x) args.new.items }
 {
     walk_all(args, by);
+}
+
+/// Changes each parameter of a list.
+pub(crate) fn walk_params<T, C: Change<T>>(params: &mut Vec<ParamOf<T>>, by: &mut C)
+    requires ready { C.ready by.old }
+    requires fits { All (λ x. fits_param C.placed x) params.old.items }
+    ensures ready { C.ready by.new }
+    ensures fits { All (λ x. fits_param C.placed x) params.new.items }
+{
+    walk_all(params, by);
+}
+
+/// Changes each declarator of a list.
+pub(crate) fn walk_declarators<T, C: Change<T>>(
+    declarators: &mut Vec<VarDeclaratorOf<T>>,
+    by: &mut C,
+)
+    requires ready { C.ready by.old }
+    requires fits { All (λ x. fits_var_declarator C.placed x) declarators.old.items }
+    ensures ready { C.ready by.new }
+    ensures fits { All (λ x. fits_var_declarator C.placed x) declarators.new.items }
+{
+    walk_all(declarators, by);
 }
 
 /// Changes the place of dots, where they stand.
