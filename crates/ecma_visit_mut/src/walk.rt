@@ -155,9 +155,7 @@ pub(crate) fn walk_elements<T, C: Change<T>, X: WalkMut<T, C>>(
     ensures fits { All (λ x. fits_held X.fits x) items.new.items }
 {
     for x in items.iter_mut() {
-        if let Some(x) = x {
-            x.walk_mut(by);
-        }
+        walk_part(x, by);
     }
 }
 
