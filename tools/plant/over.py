@@ -2,8 +2,9 @@
 """Judges bodies over the real functions of a crate: python3 tools/plant/over.py [--each N] [--batch N] [--minutes N] CRATE
 
 `rt plant` tries bodies that give up first and all others after these, so that in a large crate its time ends before a body over the real function
-(another argument, called twice, another answer or field behind it) is judged. This takes the same bodies, as the kit's own makers write them, up to
-N a function (3 if left out), and judges them N in one check (60 if left out), over the crate's kept work, each function beside its unchanged call.
+(another argument, called twice, another answer or field behind it) is judged. This takes the same bodies, as the kit's own makers write them, the
+first that compile of each function (`--each`, 3 if left out), and judges many in one check (`--batch`, 60 if left out), over the crate's kept work, each
+function beside its unchanged call.
 It prints each body that wasn't refused, and counts them:
 
   proves      the body meets the contract: strengthen that, unless the body is right
