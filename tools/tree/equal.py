@@ -72,6 +72,10 @@ def nested(items):
     return "%s && (%s)" % (items[0], nested(items[1:]))
 
 
+# How many fields a kind has, in words.
+COUNTS = {2: "two", 3: "three", 4: "four", 5: "five", 6: "six"}
+
+
 def equal_module(table):
     out = [EQUAL_HEAD, tree_imports(table), EQUAL_PARTS]
     for name, _, fields in table.trees():
@@ -175,7 +179,9 @@ from_equal_number (InRadix r d) (InRadix r2 d2) h =
 from_equal_number (Scaled d e) (InRadix r d2) h = no h
 from_equal_number (InRadix r d) (Scaled d2 e) h = no h
 
-mutual
+"""
+
+LEMMAS_SAME = """mutual
   same_equal : (t : Tree) → equal t t ≡ true
 """
 
@@ -202,26 +208,49 @@ equal_decides t u = (from_equal t u, λ h. rw h (same_equal u))
 """
 
 
+def families():
+    """For each number of fields: that each of some tests holds where all do, and that what is made of equal fields is equal."""
+    out = []
+    for n, word in COUNTS.items():
+        tests, fewer = list("abcdef"[:n]), COUNTS.get(n - 1)
+        held = " × ".join("(%s ≡ true)" % it for it in tests)
+        behind = "rest a (%s) h" % nested(tests[1:])
+        out.append("each_of_%s : (%s : Bool) → (%s) ≡ true → %s\n" % (word, " ".join(tests), nested(tests), held))
+        start = "each_of_%s %s h = " % (word, " ".join(tests))
+        if fewer:
+            parts = ", ".join("k.%d" % i for i in range(n - 1))
+            out.append(start + "let k = each_of_%s %s (%s) in (first a (%s) h, %s)\n\n" % (fewer, " ".join(tests[1:]), behind, nested(tests[1:]), parts))
+        else:
+            out.append(start + "(first a b h, rest a b h)\n\n")
+    for n, word in COUNTS.items():
+        own = list("abcdef"[:n])
+        types = [it.upper() for it in own]
+        given = " ".join("{%s %s2 : %s}" % (it, it, it.upper()) for it in own)
+        equal = " → ".join("%s ≡ %s2" % (it, it) for it in own)
+        out.append("congr_%s : {%s X : Type 0} (make : %s → X) %s\n" % (word, " ".join(types), " → ".join(types), given))
+        out.append("    → %s → make %s ≡ make %s\n" % (equal, " ".join(own), " ".join(second(own))))
+        hidden = " ".join("{%s = %s} {%s2 = %s2}" % (it, it, it, it) for it in own)
+        steps = ["ap (λ x. make %s) p%s" % (" ".join(second(own[:i]) + ["x"] + own[i + 1 :]), own[i]) for i in range(n)]
+        out.append("congr_%s make %s %s =\n    %s\n\n" % (word, hidden, " ".join("p" + it for it in own), " ∙ ".join(steps)))
+    return "".join(out)
+
+
 def from_clause(name, fields, args):
     """Each field is equal, and so the trees are."""
-    checks = tests(fields, args)
-    proof, steps = "h", []
-    for i, (a, (_, t)) in enumerate(zip(args, fields)):
-        lemma = "from_" + TEST[t]
-        last = i + 1 == len(args)
-        if last:
-            fact = proof
-        else:
-            tail = nested(checks[i + 1 :])
-            fact = "(first (%s) (%s) %s)" % (checks[i], tail, proof)
-            proof = "(rest (%s) (%s) %s)" % (checks[i], tail, proof)
-        around = second(args[:i]) + ["x"] + args[i + 1 :]
-        steps.append("ap (λ x. %s) (%s %s %s2 %s)" % (" ".join([name] + around), lemma, a, a, fact))
-    return " ∙ ".join(steps) or "refl"
+    checks, lemmas = tests(fields, args), ["from_" + TEST[t] for _, t in fields]
+    if not args:
+        return "refl"
+    if len(args) == 1:
+        return "ap (λ x. %s x) (%s %s %s2 h)" % (name, lemmas[0], args[0], args[0])
+    count = COUNTS[len(args)]
+    split = "each_of_%s %s h" % (count, " ".join("(%s)" % it for it in checks))
+    facts = ["(%s %s %s2 k.%d)" % (lemma, a, a, i) for i, (lemma, a) in enumerate(zip(lemmas, args))]
+    names = "abcdef"[: len(args)]
+    return "let k = %s in congr_%s (λ %s. %s %s) %s" % (split, count, " ".join(names), name, " ".join(names), " ".join(facts))
 
 
 def lemmas_module(table):
-    out = [LEMMAS_HEAD, tree_imports(table), LEMMAS_PARTS]
+    out = [LEMMAS_HEAD, tree_imports(table), LEMMAS_PARTS, families(), LEMMAS_SAME]
     for name, _, fields in table.trees():
         args = arguments(fields)
         facts = ["(same_%s %s)" % (TEST[t], a) for a, (_, t) in zip(args, fields)]

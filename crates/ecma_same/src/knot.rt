@@ -142,7 +142,7 @@ impl Same for Expr {
             let (ExprKind::Bin(x), ExprKind::Bin(y)) = (&expr.kind, &other_expr.kind) else {
                 return expr.kind.same(&other_expr.kind);
             };
-            if !same_binary_op(x.op, y.op) || !x.right.same(&y.right) {
+            if !same_binary_op(x.op, y.op) || !(*x.right.part).same(&*y.right.part) {
                 return false;
             }
             expr = x.left.get();
@@ -163,7 +163,7 @@ impl Same for Stmt {
             let (StmtKind::If(x), StmtKind::If(y)) = (&stmt.kind, &other_stmt.kind) else {
                 return stmt.kind.same(&other_stmt.kind);
             };
-            if !x.test.same(&y.test) || !x.cons.same(&y.cons) {
+            if !(*x.test.part).same(&*y.test.part) || !(*x.cons.part).same(&*y.cons.part) {
                 return false;
             }
             match (&x.alt, &y.alt) {

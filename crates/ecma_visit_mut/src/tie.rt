@@ -1,6 +1,8 @@
 //! The recursion, tied, and its entries. It counts levels down from the greatest number of 64 bits, more than memory
 //! holds nodes.
+ghost use Rattle.std.specs.Prelude.{ℕ};
 ghost use Rattle.ecma_visit_mut.specs.Runs.{Runs};
+ghost use Rattle.ecma_visit_mut.specs.Sorts.{SameSort};
 
 use crate::hooks::VisitMut;
 use crate::walk::{Change, WalkMut, Word};
@@ -8,48 +10,55 @@ use ecma_node::{
     Class, Expr, Function, Part, PartKind, Pat, Program, ProgramKindOf, Stmt, StmtBox,
 };
 use ecma_token::Span;
+use std::marker::Model;
 
-/// A visitor, the functions that change expressions, statements and patterns, and the levels that are left.
-#[derive(Drop)]
-struct Levels<'a, V, E, S, P> {
-    visitor: &'a mut V,
-    depth: u64,
-    expr: E,
-    stmt: S,
-    pat: P,
+/// What changes the part in a child's box. It is told the levels that are left.
+trait Runner<V> {
+    /// That it may be called with so many levels.
+    ghost runs: { Self → ℕ → Type 0 };
+
+    /// Changes a part. Its sort stays.
+    fn run(&self, visitor: &mut V, part: &mut Part, depth: u64)
+        requires { runs self.now depth }
+        ensures { SameSort part.old part.new };
 }
 
-impl<
-    'a,
-    V: VisitMut,
-    E: Fn(&mut V, &mut Expr, u64),
-    S: Fn(&mut V, &mut Stmt, u64),
-    P: Fn(&mut V, &mut Pat, u64),
-> Change<Part> for Levels<'a, V, E, S, P> {
+/// A function as what changes a part.
+#[derive(Drop)]
+struct Call<F> {
+    change: F,
+}
+
+impl<V, F: Fn(&mut V, &mut Part, u64)> Runner<V> for Call<F> {
+    ghost runs = { λ r depth. Runs depth (F.pre r.change) (F.post r.change) };
+
+    fn run(&self, visitor: &mut V, part: &mut Part, depth: u64) {
+        (self.change)(visitor, part, depth);
+    }
+}
+
+/// A visitor, what changes the parts in children's boxes, and the levels that are left. That it may be called is true of
+/// each of these, so no function of the walk has to say it.
+#[derive(Drop)]
+struct Levels<'a, V, R: Runner<V> + Drop> {
+    visitor: &'a mut V,
+    depth: u64,
+    runner: R,
+}
+
+impl<'a, V, R: Runner<V> + Drop> Model for Levels<'a, V, R> {
+    ghost Value = { Unit {0} };
+
+    ghost view = { λ r. tt };
+
+    ghost invariant = { λ r. R.runs r.runner r.depth };
+}
+
+impl<'a, V: VisitMut, R: Runner<V> + Drop> Change<Part> for Levels<'a, V, R> {
     ghost placed = { λ p. p };
 
-    ghost ready = { λ r. record {
-      expr : Runs r.depth (E.pre r.expr);
-      stmt : Runs r.depth (S.pre r.stmt);
-      pat : Runs r.depth (P.pre r.pat);
-    } };
-
-    fn expr(&mut self, child: &mut Part) {
-        if let PartKind::Expr(x) = &mut child.sort {
-            (self.expr)(self.visitor, x, self.depth);
-        }
-    }
-
-    fn stmt(&mut self, child: &mut Part) {
-        if let PartKind::Stmt(x) = &mut child.sort {
-            (self.stmt)(self.visitor, x, self.depth);
-        }
-    }
-
-    fn pat(&mut self, child: &mut Part) {
-        if let PartKind::Pat(x) = &mut child.sort {
-            (self.pat)(self.visitor, x, self.depth);
-        }
+    fn child(&mut self, child: &mut Part) {
+        self.runner.run(self.visitor, child, self.depth);
     }
 
     fn enter_function(&mut self, node: &Function) {
@@ -90,18 +99,19 @@ impl<
 }
 
 /// Changes an expression and what is below it.
-#[cycle(tie)]
-fn change_expr<V: VisitMut>(visitor: &mut V, node: &mut Expr, depth: u64) {
-    if depth == 0 {
-        return;
-    }
+pub(crate) fn change_expr<V: VisitMut, R: Runner<V> + Drop>(
+    visitor: &mut V,
+    node: &mut Expr,
+    depth: u64,
+    runner: R,
+)
+    requires { R.runs runner depth }
+{
     visitor.enter_expr(node);
     let mut levels = Levels {
         visitor: &mut *visitor,
-        depth: depth - 1,
-        expr: change_expr::<V>,
-        stmt: change_stmt::<V>,
-        pat: change_pat::<V>,
+        depth,
+        runner,
     };
     node.kind.walk_mut(&mut levels);
     drop(levels);
@@ -109,18 +119,19 @@ fn change_expr<V: VisitMut>(visitor: &mut V, node: &mut Expr, depth: u64) {
 }
 
 /// Changes a statement and what is below it.
-#[cycle(tie)]
-fn change_stmt<V: VisitMut>(visitor: &mut V, node: &mut Stmt, depth: u64) {
-    if depth == 0 {
-        return;
-    }
+pub(crate) fn change_stmt<V: VisitMut, R: Runner<V> + Drop>(
+    visitor: &mut V,
+    node: &mut Stmt,
+    depth: u64,
+    runner: R,
+)
+    requires { R.runs runner depth }
+{
     visitor.enter_stmt(node);
     let mut levels = Levels {
         visitor: &mut *visitor,
-        depth: depth - 1,
-        expr: change_expr::<V>,
-        stmt: change_stmt::<V>,
-        pat: change_pat::<V>,
+        depth,
+        runner,
     };
     node.kind.walk_mut(&mut levels);
     drop(levels);
@@ -128,22 +139,65 @@ fn change_stmt<V: VisitMut>(visitor: &mut V, node: &mut Stmt, depth: u64) {
 }
 
 /// Changes a pattern and what is below it.
-#[cycle(tie)]
-fn change_pat<V: VisitMut>(visitor: &mut V, node: &mut Pat, depth: u64) {
-    if depth == 0 {
-        return;
-    }
+pub(crate) fn change_pat<V: VisitMut, R: Runner<V> + Drop>(
+    visitor: &mut V,
+    node: &mut Pat,
+    depth: u64,
+    runner: R,
+)
+    requires { R.runs runner depth }
+{
     visitor.enter_pat(node);
     let mut levels = Levels {
         visitor: &mut *visitor,
-        depth: depth - 1,
-        expr: change_expr::<V>,
-        stmt: change_stmt::<V>,
-        pat: change_pat::<V>,
+        depth,
+        runner,
     };
     node.kind.walk_mut(&mut levels);
     drop(levels);
     visitor.leave_pat(node);
+}
+
+/// Changes a program and what is below it.
+pub(crate) fn change_program<V: VisitMut, R: Runner<V> + Drop>(
+    visitor: &mut V,
+    node: &mut Program,
+    depth: u64,
+    runner: R,
+)
+    requires { R.runs runner depth }
+{
+    visitor.enter_program(node);
+    let mut levels = Levels {
+        visitor: &mut *visitor,
+        depth,
+        runner,
+    };
+    node.kind.walk_mut(&mut levels);
+    drop(levels);
+    // Only a program holds parts of a module, so the walk below it need not know of their hook.
+    if let ProgramKindOf::Module(module) = &mut node.kind {
+        visitor.leave_module_items(&mut module.body);
+    }
+    visitor.leave_program(node);
+}
+
+/// Changes the part in a child's box, and what is below it.
+#[cycle(tie)]
+fn change_part<V: VisitMut>(visitor: &mut V, part: &mut Part, depth: u64)
+    ensures { SameSort part.old part.new }
+{
+    if depth == 0 {
+        return;
+    }
+    let runner = Call {
+        change: change_part::<V>,
+    };
+    match &mut part.sort {
+        PartKind::Expr(x) => change_expr(visitor, x, depth - 1, runner),
+        PartKind::Stmt(x) => change_stmt(visitor, x, depth - 1, runner),
+        PartKind::Pat(x) => change_pat(visitor, x, depth - 1, runner),
+    }
 }
 
 /// What a visitor can change.
@@ -154,38 +208,28 @@ pub trait VisitMutWith {
 
 impl VisitMutWith for Expr {
     fn visit_mut_with<V: VisitMut>(&mut self, visitor: &mut V) {
-        change_expr(visitor, self, u64::MAX);
+        let change = change_part::<V>;
+        change_expr(visitor, self, u64::MAX, Call { change });
     }
 }
 
 impl VisitMutWith for Stmt {
     fn visit_mut_with<V: VisitMut>(&mut self, visitor: &mut V) {
-        change_stmt(visitor, self, u64::MAX);
+        let change = change_part::<V>;
+        change_stmt(visitor, self, u64::MAX, Call { change });
     }
 }
 
 impl VisitMutWith for Pat {
     fn visit_mut_with<V: VisitMut>(&mut self, visitor: &mut V) {
-        change_pat(visitor, self, u64::MAX);
+        let change = change_part::<V>;
+        change_pat(visitor, self, u64::MAX, Call { change });
     }
 }
 
 impl VisitMutWith for Program {
     fn visit_mut_with<V: VisitMut>(&mut self, visitor: &mut V) {
-        visitor.enter_program(self);
-        let mut levels = Levels {
-            visitor: &mut *visitor,
-            depth: u64::MAX,
-            expr: change_expr::<V>,
-            stmt: change_stmt::<V>,
-            pat: change_pat::<V>,
-        };
-        self.kind.walk_mut(&mut levels);
-        drop(levels);
-        // Only a program holds parts of a module, so the walk below it need not know of their hook.
-        if let ProgramKindOf::Module(module) = &mut self.kind {
-            visitor.leave_module_items(&mut module.body);
-        }
-        visitor.leave_program(self);
+        let change = change_part::<V>;
+        change_program(visitor, self, u64::MAX, Call { change });
     }
 }

@@ -3,4 +3,4 @@ use Rattle.ecma_node.specs.Fits.{fits_held}
 use Rattle.ecma_visit_mut.proofs.walk.walk_elements.Given as goal
 
 abbrev pub invariant-loop-x : goal.invariant-loop-x
-invariant-loop-x g l = g.C.Change.ready l.by × All (λ x. fits_held g.X.WalkMut.fits x) l.x-items
+invariant-loop-x g l = All (λ x. fits_held g.X.WalkMut.fits x) l.x-items
