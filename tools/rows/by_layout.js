@@ -7,7 +7,7 @@
 //
 //   tools/rows/by_layout.js ACORN FOLDER
 //
-// ACORN is the path of acorn's module, as dist/acorn.js of Debian's package node-acorn; FOLDER is that of the rows, crates/ecma_print_rows/data.
+// ACORN is the path of acorn's module, as dist/acorn.js of Debian's package node-acorn; FOLDER is that of the rows, crates/ecma_program_rows/data/print.
 const fs = require("fs"), path = require("path"), acorn = require(path.resolve(process.argv[2]));
 
 // What pieces are resolved to. A semicolon that may go waits when minifying.
@@ -771,15 +771,15 @@ if (require.main === module) {
   const folder = process.argv[3], here = (name) => fs.readFileSync(path.join(__dirname, name), "utf8").split("\n");
   const byHand = new Set();
   for (const name of ["departures.rows", "faults.rows"])
-    for (const line of fs.readFileSync(path.join(folder, "../../ecma_parser_rows/data", name), "utf8").split("\n"))
+    for (const line of fs.readFileSync(path.join(folder, "../parse", name), "utf8").split("\n"))
       if (line.includes(" → ")) byHand.add(line.split(" → ")[0]);
   const write = (name, head, lines, subject, fields) => {
     const [text, count] = rowsOf(lines.filter((x) => !byHand.has(x)), subject, fields);
     fs.writeFileSync(path.join(folder, name), `# Made by tools/rows/by_layout.js: programs, and ${head}, formatted and minified.\n${text}`);
     console.log(`${name}: ${count} rows`);
   };
-  write("texts.rows", "what a plain printer writes for them", here("texts.txt"), "both", texts);
-  write("layouts.rows", "what a plain printer writes for them", here("layouts.txt"), "both", texts);
-  write("neighbours.rows", "what a plain printer writes for them", neighbours(), "both", texts);
+  write("texts.rows", "what a plain printer writes for them", here("texts.txt"), "printed", texts);
+  write("layouts.rows", "what a plain printer writes for them", here("layouts.txt"), "printed", texts);
+  write("neighbours.rows", "what a plain printer writes for them", neighbours(), "printed", texts);
   write("places.rows", "where the places of their source are written by a plain printer", here("layouts.txt"), "places", places);
 }

@@ -351,7 +351,7 @@ class Nodes:
             "//! patterns are the sorts of children; each child stands in a box of its sort, and a contract sees the spec\n",
             "//! tree (`ecma_tree`).\n#![tactic(auto)]\n\n",
         ]
-        for m in sorted(private + ["knot"] + table.modules):
+        for m in sorted(private + ["knot", "spine"] + table.modules):
             out.append("%smod %s;\n" % ("" if m in private else "pub ", m))
         out.append("\n")
         for m in sorted(table.modules + ["knot"]):

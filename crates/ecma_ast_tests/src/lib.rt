@@ -1,5 +1,5 @@
 //! Tests of the tree and of what stands on it: a tree of every kind of node, trees that go deep, long chains, and which trees
-//! without a text are the same program. Pairs of programs as texts stand in `ecma_parser_rows`.
+//! without a text are the same program. Pairs of programs as texts stand in `ecma_program_rows`.
 #![tactic(auto)]
 
 #[cfg(test)]

@@ -1,4 +1,4 @@
-//! Comments of a source between what is printed. Whole texts with comments are rows of `ecma_print_rows`.
+//! Comments of a source between what is printed. Whole texts with comments are rows of `ecma_program_rows`.
 use crate::placed::{comment, comments, name_stmt, ok, script};
 use crate::printed::formatted;
 use ecma_build::Build;

@@ -24,8 +24,8 @@ use Rattle.ecma_layout.specs.Looks.{Laid, nothing, ◌·◌, when, start, text, 
 use Rattle.ecma_layout.specs.Layout.{laid, closing, is_block, marked_as_operand, word}
 use Rattle.ecma_printer.specs.Prints.{Asked, lay, Prints}
 use Rattle.ecma_printer.proofs.Steps.{◌▸◌, idle, laid_as}
-use Rattle.ecma_spine.specs.Spines.{Chained, Linked, alternative, below, further_on, has_alternative, is_absent, is_binary, left_operand}
-use Rattle.ecma_spine.proofs.Spines.{below_falls, chained_next, counted, further, further_falls, further_next, further_smaller, inner_falls, inner_links, literal_is_none, none_chained, none_further, none_more, one_link, one_more, outer_falls, outer_links, right_falls, sum, top_falls}
+use Rattle.ecma_node.specs.Spines.{Chained, Linked, alternative, below, further_on, has_alternative, is_absent, is_binary, left_operand}
+use Rattle.ecma_node.proofs.Spines.{below_falls, chained_next, counted, further, further_falls, further_next, further_smaller, inner_falls, inner_links, literal_is_none, none_chained, none_further, none_more, one_link, one_more, outer_falls, outer_links, right_falls, sum, top_falls}
 use Rattle.ecma_emit.specs.Spines.{branch_laid, branches_laid, consequence_laid, else_laid, ends_laid, lines_laid, right_laid, rights_laid}
 use Rattle.ecma_emit.proofs.Parts.{laid_like}
 

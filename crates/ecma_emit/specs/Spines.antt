@@ -8,7 +8,7 @@ use Rattle.ecma_layout.specs.declared.look.Look.{Look}
 use Rattle.ecma_layout.specs.declared.look.Stand.TheVariants.{Alone}
 use Rattle.ecma_layout.specs.Looks.{Laid, nothing, ◌·◌, when, commit, start, text, gap, gap_or, line}
 use Rattle.ecma_layout.specs.Layout.{laid, closing, in_parens, is_block, word}
-use Rattle.ecma_spine.specs.Spines.{below, further_on}
+use Rattle.ecma_node.specs.Spines.{below, further_on}
 
 -- ---- left operands
 

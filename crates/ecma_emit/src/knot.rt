@@ -3,7 +3,7 @@ ghost use Rattle.std.specs.Prelude.{◌≡◌, false, MatchOption};
 ghost use Rattle.ecma_token.specs.OperatorKinds.{binary_op_kind};
 ghost use Rattle.ecma_node.specs.Placed.{inner};
 ghost use Rattle.ecma_node.specs.View.{unary_op_word, view_expr_kind, view_number, view_pat_kind, view_stmt_kind};
-ghost use Rattle.ecma_spine.specs.Spines.{Linked};
+ghost use Rattle.ecma_node.specs.Spines.{Linked};
 ghost use Rattle.ecma_edge.specs.Edges.{is_word_operator};
 ghost use Rattle.ecma_layout.specs.Layout as layout;
 ghost use Rattle.ecma_layout.specs.Layout.{closing};
@@ -18,12 +18,12 @@ use crate::print::{Print, PrintItem, PrintPart};
 use ecma_edge::gaps::{gap_after, gap_before, gap_of_unary};
 use ecma_edge::{EndsWithAlphaNum, StartsWithAlphaNum};
 use ecma_layout::{Look, Stand};
+use ecma_node::spine::{below, links, there};
 use ecma_node::{
     DeclOf, Expr, ExprKind, Lit, Number, Part, PartKind, Pat, PatKind, Program, Stmt, StmtKind,
     UnaryOp,
 };
 use ecma_printer::Printer;
-use ecma_spine::{below, links, there};
 use ecma_token::{BinaryOp, Spanned};
 use ecma_write::WriteJs;
 

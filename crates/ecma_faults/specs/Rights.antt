@@ -3,7 +3,7 @@ use Rattle.std.specs.Prelude.{ℕ, zero, suc, List, [], ◌++◌}
 use Rattle.ecma_token.specs.declared.error.Error.{Error}
 use Rattle.ecma_tree.specs.Tree.{Tree}
 use Rattle.ecma_tree.specs.Folds.{fold}
-use Rattle.ecma_spine.specs.Spines.{below, right_operand}
+use Rattle.ecma_node.specs.Spines.{below, right_operand}
 use Rattle.ecma_early.specs.Early.{Scope, step}
 
 -- the faults of the right operands of so many links, the innermost first

@@ -1,14 +1,14 @@
 //! Expressions, statements, patterns and programs.
 ghost use Rattle.std.specs.Prelude.{◌≡◌, ◌++◌, IfOk};
 ghost use Rattle.ecma_node.specs.Placed.{inner};
-ghost use Rattle.ecma_spine.specs.Spines.{Linked};
+ghost use Rattle.ecma_node.specs.Spines.{Linked};
 ghost use Rattle.ecma_faults_base.specs.Around.{scope_of};
 ghost use Rattle.ecma_faults.specs.Rights.{right_faults};
 
 use crate::check::Check;
 use ecma_faults_base::Code;
+use ecma_node::spine::{below, links};
 use ecma_node::{Expr, ExprKind, Part, PartKind, Pat, Program, Stmt, StmtKind};
-use ecma_spine::{below, links};
 use ecma_token::Error;
 use std::alloc::AllocError;
 

@@ -1,5 +1,6 @@
 //! The command line: the statuses and what is printed where something fails.
 
+use crate::made::ok;
 use crate::over_memory::{ROOM, minify_within};
 use ecma_front::memory::{MemReader, MemWriter};
 use ecma_front::{EsSyntax, Fault, Goal, Invocation, Options, Style, Syntax, answer, invocation};
@@ -57,7 +58,7 @@ fn ends(
 
 #[test]
 fn no_words_are_the_name_alone(rt: HostRuntime) -> Result<(), Fail> {
-    let asked = invocation(rt.alloc(), Vec::new(rt.alloc()))?;
+    let asked = ok(&rt, invocation(rt.alloc(), Vec::new(rt.alloc())));
     assert!(rt; asked.options == program(Goal::Module, Style::Format));
     assert!(rt; asked.path.is_none());
     Ok(())
@@ -85,8 +86,8 @@ fn failures_and_refused_settings_answer_3(rt: HostRuntime) -> Result<(), Fail> {
         ),
         (minify_within(0), None, None, "options refused\n", ""),
     ] {
-        let ends = ends(rt.alloc(), b"a;b", read_fails, write_fails)?;
-        let (status, output, errors) = answered(rt.alloc(), options, ends, None)?;
+        let ends = ok(&rt, ends(rt.alloc(), b"a;b", read_fails, write_fails));
+        let (status, output, errors) = ok(&rt, answered(rt.alloc(), options, ends, None));
         assert!(rt; status == 3, "{told}");
         assert!(rt; errors.bytes() == told.as_bytes(), "{told}");
         assert!(rt; output.bytes() == written.as_bytes(), "{told}");
@@ -103,9 +104,9 @@ fn errors_that_cannot_be_printed_change_nothing(rt: HostRuntime) -> Result<(), F
         (b"a", 0, 3, b""),
     ] {
         for fail_at in 1..5 {
-            let ends = ends(rt.alloc(), bytes, None, None)?;
+            let ends = ok(&rt, ends(rt.alloc(), bytes, None, None));
             let options = minify_within(nesting);
-            let (status, output, _) = answered(rt.alloc(), options, ends, Some(fail_at))?;
+            let (status, output, _) = ok(&rt, answered(rt.alloc(), options, ends, Some(fail_at)));
             assert!(rt; status == want, "call {fail_at}");
             assert!(rt; output.bytes() == written, "call {fail_at}");
         }
@@ -127,7 +128,10 @@ fn faults_are_told_in_one_line(rt: HostRuntime) -> Result<(), Fail> {
         (Fault::Node, "node cannot be printed"),
         (Fault::Options, "options refused"),
     ] {
-        assert!(rt; fault.to_string(rt.alloc())?.as_str() == line, "{line}");
+        assert!(rt;
+            ok(&rt, fault.to_string(rt.alloc())).as_str() == line,
+            "{line}"
+        );
     }
     Ok(())
 }

@@ -1,6 +1,7 @@
 //! All texts up to a length over small alphabets: `run` answers for each what the plain program
 //! finds.
 
+use crate::made::ok;
 use crate::over_memory::{Ran, minify_within, run_in_pieces};
 use crate::plain::grammar::{Reading, scripts};
 use crate::plain::lexical::tilings;
@@ -29,12 +30,12 @@ struct Tally {
 /// The script that spells a text, if one does. No two ways to cut the text, and no two scripts, may
 /// be found.
 fn script_of(rt: &impl Abort, alloc: Global, text: &str) -> Result<Option<Reading>, AllocError> {
-    let characters: Vec<char> = text.chars().collect(alloc)?;
-    let tilings = tilings(alloc, characters.as_slice())?;
+    let characters: Vec<char> = ok(rt, text.chars().collect(alloc));
+    let tilings = ok(rt, tilings(alloc, characters.as_slice()));
     assert!(rt; tilings.len() <= 1, "two lists of tokens are {text:?}");
     let mut found = None;
     for tokens in tilings.iter() {
-        for script in scripts(alloc, tokens.as_slice())? {
+        for script in ok(rt, scripts(alloc, tokens.as_slice())) {
             assert!(rt; found.is_none(), "two scripts spell {text:?}");
             found = Some(script);
         }
@@ -89,7 +90,10 @@ fn compare(
     spelled: Option<&Reading>,
     tally: &mut Tally,
 ) -> Result<(), AllocError> {
-    let ran = run_in_pieces(alloc, text.as_bytes(), (3, 2), minify_within(limit))?;
+    let ran = ok(
+        rt,
+        run_in_pieces(alloc, text.as_bytes(), (3, 2), minify_within(limit)),
+    );
     let want = wanted(spelled, limit);
     let found = answered(&ran);
     // what no script spells may nest past a low limit before its fault is reached
@@ -127,16 +131,19 @@ fn compare_all(
     limits: &[u32],
 ) -> Result<Tally, AllocError> {
     let mut tally = Tally::default();
-    let mut texts = vec![in alloc; String::new(alloc)]?;
+    let mut texts = ok(rt, vec![in alloc; String::new(alloc)]);
     for length in 0..longest.saturating_add(1) {
         if length > 0 {
-            texts = longer(alloc, texts.as_slice(), alphabet)?;
+            texts = ok(rt, longer(alloc, texts.as_slice(), alphabet));
         }
         for text in texts.iter() {
             let text = text.as_str();
-            let spelled = script_of(rt, alloc, text)?;
+            let spelled = ok(rt, script_of(rt, alloc, text));
             for limit in limits {
-                compare(rt, alloc, text, *limit, spelled.as_ref(), &mut tally)?;
+                ok(
+                    rt,
+                    compare(rt, alloc, text, *limit, spelled.as_ref(), &mut tally),
+                );
             }
         }
     }
@@ -153,7 +160,7 @@ fn expect_tally(
     limits: &[u32],
     counted: [u32; 3],
 ) -> Result<(), AllocError> {
-    let tally = compare_all(rt, alloc, alphabet, longest, limits)?;
+    let tally = ok(rt, compare_all(rt, alloc, alphabet, longest, limits));
     let [written, too_deep, refused] = counted;
     let want = Tally {
         written,
@@ -168,7 +175,10 @@ fn expect_tally(
 fn statements(rt: HostRuntime) -> Result<(), Fail> {
     // A script of `a` and `;` begins with no `;` and has no two in a row. Of the lengths from 0 to 8
     // there are as many as the Fibonacci numbers: 1 + 1 + 2 + 3 + 5 + 8 + 13 + 21 + 34 = 88.
-    expect_tally(&rt, rt.alloc(), "a;", 8, &NO_LIMIT, [88, 0, 423])?;
+    ok(
+        &rt,
+        expect_tally(&rt, rt.alloc(), "a;", 8, &NO_LIMIT, [88, 0, 423]),
+    );
     Ok(())
 }
 
@@ -178,7 +188,10 @@ fn every_kind_of_token(rt: HostRuntime) -> Result<(), Fail> {
         ("a10'\"+*(),; \n", 4, [1405, 0, 29_536]),
         ("a(,);", 6, [93, 0, 19_438]),
     ] {
-        expect_tally(&rt, rt.alloc(), alphabet, longest, &NO_LIMIT, counted)?;
+        ok(
+            &rt,
+            expect_tally(&rt, rt.alloc(), alphabet, longest, &NO_LIMIT, counted),
+        );
     }
     Ok(())
 }
@@ -189,7 +202,10 @@ fn calls_within_limits(rt: HostRuntime) -> Result<(), Fail> {
         ("a()", 7, [277, 267, 25_696]),
         ("a(),", 6, [164, 124, 43_400]),
     ] {
-        expect_tally(&rt, rt.alloc(), alphabet, longest, &LIMITS, counted)?;
+        ok(
+            &rt,
+            expect_tally(&rt, rt.alloc(), alphabet, longest, &LIMITS, counted),
+        );
     }
     Ok(())
 }
@@ -201,7 +217,10 @@ fn operators_within_limits(rt: HostRuntime) -> Result<(), Fail> {
         ("a+-*/", 5, [234, 134, 30_880]),
         ("a+*()", 5, [219, 141, 30_888]),
     ] {
-        expect_tally(&rt, rt.alloc(), alphabet, longest, &LIMITS, counted)?;
+        ok(
+            &rt,
+            expect_tally(&rt, rt.alloc(), alphabet, longest, &LIMITS, counted),
+        );
     }
     Ok(())
 }
@@ -213,7 +232,10 @@ fn numbers(rt: HostRuntime) -> Result<(), Fail> {
         ("109 ", 5, [543, 0, 822]),
         ("0a1;", 5, [418, 0, 947]),
     ] {
-        expect_tally(&rt, rt.alloc(), alphabet, longest, &NO_LIMIT, counted)?;
+        ok(
+            &rt,
+            expect_tally(&rt, rt.alloc(), alphabet, longest, &NO_LIMIT, counted),
+        );
     }
     Ok(())
 }
@@ -226,7 +248,10 @@ fn strings(rt: HostRuntime) -> Result<(), Fail> {
         ("'\"\u{0}\u{1F}\u{2028}", 5, [298, 0, 3608]),
         ("'\u{7}\u{8}\r\u{C}", 5, [235, 0, 3671]),
     ] {
-        expect_tally(&rt, rt.alloc(), alphabet, longest, &NO_LIMIT, counted)?;
+        ok(
+            &rt,
+            expect_tally(&rt, rt.alloc(), alphabet, longest, &NO_LIMIT, counted),
+        );
     }
     Ok(())
 }
@@ -240,7 +265,10 @@ fn names_and_reserved_words(rt: HostRuntime) -> Result<(), Fail> {
         ("$_1\u{E9}\u{301}", 4, [473, 0, 308]),
         ("va\u{1F600}r", 4, [120, 0, 221]),
     ] {
-        expect_tally(&rt, rt.alloc(), alphabet, longest, &NO_LIMIT, counted)?;
+        ok(
+            &rt,
+            expect_tally(&rt, rt.alloc(), alphabet, longest, &NO_LIMIT, counted),
+        );
     }
     Ok(())
 }
@@ -253,7 +281,10 @@ fn trivia(rt: HostRuntime) -> Result<(), Fail> {
         ("a;\u{2028}\u{2029}\u{200B}", 4, [154, 0, 627]),
         ("a\u{C}\u{3000}\u{85}", 4, [103, 0, 238]),
     ] {
-        expect_tally(&rt, rt.alloc(), alphabet, longest, &NO_LIMIT, counted)?;
+        ok(
+            &rt,
+            expect_tally(&rt, rt.alloc(), alphabet, longest, &NO_LIMIT, counted),
+        );
     }
     Ok(())
 }

@@ -1,5 +1,6 @@
 //! Readers and writers that fail, each call in turn.
 
+use crate::made::ok;
 use crate::over_memory::{ROOM, Ran, minify_within, run_through};
 use ecma_front::memory::{MemReader, MemWriter};
 use ecma_front::{Counted, Failing, Fault, Positions, run};
@@ -104,7 +105,10 @@ fn a_read_that_fails_writes_nothing(rt: HostRuntime) -> Result<(), Fail> {
     // the number of reads: the pieces of 34 bytes, and the read that tells the end
     for (piece, reads) in [(1, 35), (2, 18), (7, 6), (64, 2)] {
         for fail_at in 1..reads + 1 {
-            let ran = run_text(rt.alloc(), piece, (Some(fail_at), None), ROOM)?;
+            let ran = ok(
+                &rt,
+                run_text(rt.alloc(), piece, (Some(fail_at), None), ROOM),
+            );
             expect(&rt, &ran, "read", b"");
             let calls = (ran.reader.calls(), ran.writer.calls());
             assert!(rt;
@@ -112,7 +116,10 @@ fn a_read_that_fails_writes_nothing(rt: HostRuntime) -> Result<(), Fail> {
                 "piece {piece}, call {fail_at}"
             );
         }
-        let ran = run_text(rt.alloc(), piece, (Some(reads + 1), None), ROOM)?;
+        let ran = ok(
+            &rt,
+            run_text(rt.alloc(), piece, (Some(reads + 1), None), ROOM),
+        );
         expect(&rt, &ran, "written", WRITTEN.as_bytes());
     }
     Ok(())
@@ -127,23 +134,26 @@ fn beginning(count: usize) -> &'static [u8] {
 fn a_write_that_fails_leaves_a_beginning(rt: HostRuntime) -> Result<(), Fail> {
     for before in 0..23u8 {
         let fail_at = u32::from(before).saturating_add(1);
-        let ran = run_text(rt.alloc(), 7, (None, Some(fail_at)), ROOM)?;
+        let ran = ok(&rt, run_text(rt.alloc(), 7, (None, Some(fail_at)), ROOM));
         expect(&rt, &ran, "write", beginning(usize::from(before)));
         assert!(rt; ran.writer.calls() == u64::from(fail_at), "call {fail_at}");
         // a writer without more room
-        let ran = run_text(rt.alloc(), 64, (None, None), usize::from(before))?;
+        let ran = ok(
+            &rt,
+            run_text(rt.alloc(), 64, (None, None), usize::from(before)),
+        );
         expect(&rt, &ran, "write", beginning(usize::from(before)));
     }
     // a failure after the last write is none
-    let ran = run_text(rt.alloc(), 64, (None, Some(24)), ROOM)?;
+    let ran = ok(&rt, run_text(rt.alloc(), 64, (None, Some(24)), ROOM));
     expect(&rt, &ran, "written", WRITTEN.as_bytes());
     Ok(())
 }
 
 #[test]
 fn an_empty_output_needs_no_write(rt: HostRuntime) -> Result<(), Fail> {
-    let reader = MemReader::new(rt.alloc(), b" \n", 1, None)?;
-    let writer = MemWriter::new(rt.alloc(), 0, 1, Some(1))?;
+    let reader = ok(&rt, MemReader::new(rt.alloc(), b" \n", 1, None));
+    let writer = ok(&rt, MemWriter::new(rt.alloc(), 0, 1, Some(1)));
     let ran = run_through(rt.alloc(), reader, writer, minify_within(256));
     expect(&rt, &ran, "written", b"");
     assert!(rt; ran.writer.calls() == 0);
@@ -156,7 +166,7 @@ fn an_interrupted_read_fails(rt: HostRuntime) -> Result<(), Fail> {
         left: b"a;",
         is_interrupted: false,
     });
-    let mut written = MemWriter::new(rt.alloc(), ROOM, 1, None)?;
+    let mut written = ok(&rt, MemWriter::new(rt.alloc(), ROOM, 1, None));
     let answer = run(rt.alloc(), &mut reader, &mut written, minify_within(256));
     assert!(rt; answer == Err(Fault::Read(ErrorKind::Interrupted)));
     assert!(rt; reader.failures() == 1);
@@ -203,8 +213,8 @@ fn any_reader_and_writer_can_be_counted(rt: HostRuntime) -> Result<(), Fail> {
 
 #[test]
 fn a_lent_end_counts_as_its_owner(rt: HostRuntime) -> Result<(), Fail> {
-    let mut reader = MemReader::new(rt.alloc(), TEXT.as_bytes(), 7, Some(3))?;
-    let mut writer = MemWriter::new(rt.alloc(), ROOM, 1, None)?;
+    let mut reader = ok(&rt, MemReader::new(rt.alloc(), TEXT.as_bytes(), 7, Some(3)));
+    let mut writer = ok(&rt, MemWriter::new(rt.alloc(), ROOM, 1, None));
     let mut lent = &mut reader;
     let answer = run(rt.alloc(), &mut lent, &mut &mut writer, minify_within(256));
     assert!(rt; matches!(answer, Err(Fault::Read(_))));
@@ -216,7 +226,7 @@ fn a_lent_end_counts_as_its_owner(rt: HostRuntime) -> Result<(), Fail> {
 
 #[test]
 fn what_a_writer_had_stays(rt: HostRuntime) -> Result<(), Fail> {
-    let mut writer = Counted::new(b"old;".to_vec(rt.alloc())?);
+    let mut writer = Counted::new(ok(&rt, b"old;".to_vec(rt.alloc())));
     let mut refused = Counted::new(b"a b".as_slice());
     let answer = run(rt.alloc(), &mut refused, &mut writer, minify_within(256));
     assert!(rt; matches!(answer, Err(Fault::Syntax(_))));

@@ -11,6 +11,8 @@ mod failing;
 #[cfg(test)]
 mod kept;
 #[cfg(test)]
+mod made;
+#[cfg(test)]
 mod over_memory;
 #[cfg(test)]
 mod plain;

@@ -1,6 +1,7 @@
 //! Settings that are refused before anything is read or written, and their neighbours, which are
 //! taken.
 
+use crate::made::ok;
 use crate::over_memory::{minify_within, run_at_once};
 use ecma_front::{
     EsSyntax, EsVersion, Failing, Fault, Goal, Indent, LineEnd, Options, Style, Syntax,
@@ -71,7 +72,7 @@ fn are_refused_each_alone(rt: HostRuntime) -> Result<(), Fail> {
     for options in rows {
         assert!(rt; options.are_refused(), "{options:?}");
         for text in [b"a".as_slice(), b"a b", b"((((a))))", b"\xFF"] {
-            let ran = run_at_once(rt.alloc(), text, options)?;
+            let ran = ok(&rt, run_at_once(rt.alloc(), text, options));
             assert!(rt; ran.answer == Err(Fault::Options), "{options:?}");
             assert!(rt;
                 ran.reader.calls() == 0 && ran.reader.failures() == 0,
@@ -123,7 +124,7 @@ fn neighbours_are_taken(rt: HostRuntime) -> Result<(), Fail> {
     ];
     for options in rows {
         assert!(rt; !options.are_refused(), "{options:?}");
-        let ran = run_at_once(rt.alloc(), b" a ; b ;", options)?;
+        let ran = ok(&rt, run_at_once(rt.alloc(), b" a ; b ;", options));
         assert!(rt; ran.answer == Ok(None), "{options:?}");
         assert!(rt; ran.writer.bytes() == b"a;b".as_slice(), "{options:?}");
     }

@@ -1,13 +1,17 @@
-//! Rows of the lexer: texts and steps, and the tokens that they give.
+//! Rows of the lexer: texts and steps, and the tokens that they give. Called with other words than files of rows, it
+//! measures the lexical layer (`bench`). Nothing is proved of it but that it is safe: what is read and written, the
+//! crates below promise.
 #![tactic(auto)]
 
 mod again;
 mod ahead;
+mod bench;
 mod run;
 mod steps;
 mod told;
 
 use ecma_rows::{Answer, Row, Subject, judge_files};
+use std::env;
 use std::process::ExitCode;
 
 /// Texts, and what the lexer makes of them.
@@ -34,5 +38,12 @@ impl Subject for Lexing {
 }
 
 fn main(rt: HostRuntime) -> anyhow::Result<ExitCode> {
-    judge_files(&rt, &Lexing)
+    let words: Vec<String> = env::args(&rt)?.collect(rt.alloc())?;
+    match words.as_slice().get(1) {
+        Some(first) if first.as_str().ends_with(".rows") => judge_files(&rt, &Lexing),
+        _ => {
+            bench::run(&rt, words.as_slice())?;
+            Ok(ExitCode::SUCCESS)
+        }
+    }
 }

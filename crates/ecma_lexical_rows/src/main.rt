@@ -1,6 +1,6 @@
 //! Rows of the lexical layer: values of numbers, words, code units; the pieces between literals, literals and
-//! whole tokens at the front of a text; and rows themselves. `docs/ROWS.md` has the format, and the comments in
-//! `data/` say what each subject answers.
+//! whole tokens at the front of a text; written spellings and what writers write; and rows themselves.
+//! `docs/ROWS.md` has the format, and the comments in `data/` say what each subject answers.
 #![tactic(auto)]
 
 mod classes;
@@ -8,10 +8,12 @@ mod format;
 mod kinds;
 mod literals;
 mod names;
+mod spellings;
 mod tokens;
 mod told;
 mod trivia;
 mod values;
+mod write;
 
 use ecma_rows::{Answer, Row, Subject, judge_files};
 use std::process::ExitCode;
@@ -36,12 +38,20 @@ fn answer_base(row: &Row<'_>, text: &str, answer: &mut Answer) -> anyhow::Result
 
 impl Subject for Lexical {
     fn asked(&self, row: &Row<'_>) -> usize {
-        if row.subject() == "same" { 2 } else { 1 }
+        match row.subject() {
+            "same" => 2,
+            "spell" if spellings::has_raw(row) => 2,
+            _ => 1,
+        }
     }
 
     fn answer(&self, row: &Row<'_>, answer: &mut Answer) -> anyhow::Result<()> {
-        if row.subject() == "shown" {
-            return format::shown(row.bytes(0), answer);
+        match row.subject() {
+            "shown" => return format::shown(row.bytes(0), answer),
+            "gather" | "whole" | "js" | "omit" | "twice" | "lent" | "boxed" => {
+                return write::tell(row, answer);
+            }
+            _ => {}
         }
         let text = told::asked(row)?;
         match row.subject() {
@@ -68,6 +78,7 @@ impl Subject for Lexical {
             "count" => tokens::count(row, text, answer),
             "context" => tokens::context(row, text, answer),
             "reserved" => tokens::reserved(text, answer),
+            "spell" => spellings::spell(row, text, answer),
             _ => answer_base(row, text, answer),
         }
     }

@@ -4,3 +4,4 @@ pub mod Fits
 pub mod Sizes
 pub mod Lending
 pub mod Questions
+pub mod Spines

@@ -15,6 +15,7 @@ pub mod patterns;
 mod places;
 pub mod programs;
 mod questions;
+pub mod spine;
 pub mod statements;
 mod stmt_box;
 

@@ -1,3 +1,4 @@
--- What rules of the parser make.
+-- What rules of the parser make, and what lists with commas share.
 pub mod Operands
 pub mod Lists
+pub mod Elements

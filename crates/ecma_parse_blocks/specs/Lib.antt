@@ -1,2 +1,3 @@
--- What the rules of blocks and bodies share.
+-- What the rules of blocks and bodies share, and what declarations of variables do.
 pub mod Lists
+pub mod Declarators

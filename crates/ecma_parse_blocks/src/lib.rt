@@ -1,9 +1,13 @@
-//! Blocks and bodies, and the steps on the parser's state that they and what stands above them need.
+//! Blocks and bodies, and the steps on the parser's state that they and what stands above them need; makers and parts
+//! of statements, and declarations of variables.
 #![tactic(auto)]
 
 pub mod blocks;
 pub mod body;
+pub mod declarations;
 pub mod lookahead;
+pub mod made;
+pub mod parts;
 pub mod starts;
 
 pub use body::BodySoFar;

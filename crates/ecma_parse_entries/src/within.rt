@@ -9,7 +9,7 @@ ghost use Rattle.ecma_parse_state.specs.Fronts.{machine_of};
 ghost use Rattle.ecma_parse_state.specs.Stands.{stand};
 ghost use Rattle.ecma_parse_entries.specs.Within.{program_within};
 
-use ecma_clean::{module_is_clean, script_is_clean};
+use crate::{module_is_clean, script_is_clean};
 use ecma_nesting::Nesting;
 use ecma_node::{Module, Script};
 use ecma_parse_programs::programs::{module, script};

@@ -1,2 +1,3 @@
 -- What is read behind the characters of a template.
 pub mod Steps
+pub mod Starts

@@ -15,10 +15,10 @@ ghost use Rattle.ecma_parse_base.specs.Lists.{arguments_of, elements_of, FitArgu
 ghost use Rattle.ecma_parse_base.specs.Operands.{tree_of};
 
 use ecma_node::{IdentName, MemberProp};
+use ecma_parse_base::elements::arguments;
+use ecma_parse_base::names::{computed, private_name};
 use ecma_parse_base::ops::{assign_op, binary_op, update_op};
 use ecma_parse_base::{Nested, Operand, made};
-use ecma_parse_lists::lists::arguments;
-use ecma_parse_lists::names::{computed, private_name};
 use ecma_parse_state::code::with_in;
 use ecma_parse_state::operators::{
     ASSIGNMENT, CALL, COALESCE, EXPRESSION, MEMBER, NEW_LEVEL, UNARY, right_level,

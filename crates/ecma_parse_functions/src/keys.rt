@@ -14,7 +14,7 @@ ghost use Rattle.ecma_parse_state.specs.Stands.{stand};
 use crate::made;
 use ecma_node::{IdentName, PropName};
 use ecma_parse_base::Nested;
-use ecma_parse_lists::names::computed;
+use ecma_parse_base::names::computed;
 use ecma_parse_state::operators::ASSIGNMENT;
 use ecma_parse_state::{Around, Failure, Parser, kinds};
 use ecma_token::Token;

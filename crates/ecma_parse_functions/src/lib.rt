@@ -6,5 +6,5 @@ pub mod heads;
 pub mod keys;
 pub mod made;
 
-pub use ecma_parse_lists::lists::group_items;
-pub use ecma_parse_lists::names::private_name;
+pub use ecma_parse_base::elements::group_items;
+pub use ecma_parse_base::names::private_name;

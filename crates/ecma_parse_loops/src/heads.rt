@@ -19,7 +19,7 @@ use ecma_node::{
     ExprKind, ForHead, StmtBox, UsingDecl, VarDecl, VarDeclKind, VarDeclOrExpr, VarDeclarator,
 };
 use ecma_parse_base::Nested;
-use ecma_parse_declarations::declarations::declarators;
+use ecma_parse_blocks::declarations::declarators;
 use ecma_parse_state::code::without_in;
 use ecma_parse_state::{Around, Failure, Parser, kinds};
 use ecma_token::BytePos;

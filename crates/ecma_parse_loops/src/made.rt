@@ -12,7 +12,7 @@ use ecma_node::{
     UsingDecl, VarDecl, VarDeclKind, VarDeclOrExpr, VarDeclarator,
 };
 use ecma_parse_base::Operand;
-use ecma_parse_declarations::made::stmt;
+use ecma_parse_blocks::made::stmt;
 use ecma_parse_state::Failure;
 use ecma_token::Span;
 use std::alloc::Global;

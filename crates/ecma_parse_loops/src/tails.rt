@@ -16,7 +16,7 @@ ghost use Rattle.ecma_parse_loops.specs.Heads.{over_by};
 use crate::made;
 use ecma_node::{ForHead, StmtBox, VarDeclOrExpr};
 use ecma_parse_base::{Nested, Operand};
-use ecma_parse_declarations::parts::sub;
+use ecma_parse_blocks::parts::sub;
 use ecma_parse_state::operators::{ASSIGNMENT, EXPRESSION};
 use ecma_parse_state::{Around, Failure, Parser, kinds};
 use ecma_token::BytePos;

@@ -15,8 +15,8 @@ ghost use Rattle.ecma_parse_objects.specs.Lists.{FitProps, TellsRest, props_by, 
 use crate::lists::Props;
 use crate::props::prop;
 use ecma_node::PropOrSpread;
+use ecma_parse_base::elements::goes_on;
 use ecma_parse_base::{Nested, Operand, made};
-use ecma_parse_lists::lists::goes_on;
 use ecma_parse_state::{Around, Failure, Parser, kinds};
 use ecma_tokens::Tokens;
 
@@ -33,7 +33,7 @@ pub fn is_spread(item: &PropOrSpread) -> bool
 
 /// One more property, or the end of the object. Whether another may follow.
 #[inline(always)]
-#[tactic(auto, using(ecma_parse_base::proofs::Packs::rests_more), unfolding(ecma_reading::specs::Expressions::prop_step, ecma_reading::specs::Expressions::after_element, ecma_parse_lists::specs::Lists::after_item))]
+#[tactic(auto, using(ecma_parse_base::proofs::Packs::rests_more), unfolding(ecma_reading::specs::Expressions::prop_step, ecma_reading::specs::Expressions::after_element, ecma_parse_base::specs::Elements::after_item))]
 pub fn prop_turn<'a, I: Tokens<'a> + Drop, N: Nested<'a, I>>(
     p: &mut Parser<'a, I>,
     nested: &N,

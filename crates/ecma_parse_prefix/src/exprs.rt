@@ -9,10 +9,10 @@ ghost use Rattle.ecma_parse_state.specs.Stands.{stand};
 ghost use Rattle.ecma_parse_base.specs.Operands.{tree_of};
 
 use crate::prefixes::prefix;
+use ecma_parse_base::names::private_name;
 use ecma_parse_base::{Nested, Operand, made};
 use ecma_parse_expr::operators::binary;
 use ecma_parse_expr::turns::operators;
-use ecma_parse_lists::names::private_name;
 use ecma_parse_state::operators::binary_level;
 use ecma_parse_state::{Around, Failure, Parser, kinds};
 use ecma_token::BinaryOp;

@@ -10,9 +10,9 @@ ghost use Rattle.ecma_parse_base.specs.Operands.{tree_of};
 ghost use Rattle.ecma_parse_base.specs.Lists.{arguments_of};
 
 use ecma_node::MetaPropKind;
+use ecma_parse_base::elements::group_items;
 use ecma_parse_base::lists::Arguments;
 use ecma_parse_base::{Nested, Operand, made};
-use ecma_parse_lists::lists::group_items;
 use ecma_parse_state::{Around, Failure, Parser, kinds};
 use ecma_token::SyntaxError;
 use ecma_tokens::Tokens;

@@ -13,9 +13,9 @@ use crate::words::keyword;
 use ecma_parse_arrows::groups::group;
 use ecma_parse_base::ops::{unary_op, update_op};
 use ecma_parse_base::{Nested, Operand, literals};
+use ecma_parse_expr::prefixes::{array, literal, unary, update};
 use ecma_parse_expr::templates::template;
 use ecma_parse_objects::objects::object;
-use ecma_parse_primary::prefixes::{array, literal, unary, update};
 use ecma_parse_state::{Around, Failure, Parser, kinds};
 use ecma_tokens::Tokens;
 

@@ -1,1 +1,4 @@
 pub mod Lines
+pub mod Attributes
+pub mod Starts
+pub mod Exported

@@ -12,12 +12,12 @@ ghost use Rattle.ecma_parse_state.specs.Fronts.{machine_of};
 ghost use Rattle.ecma_parse_state.specs.Stands.{stand};
 ghost use Rattle.ecma_parse_programs.specs.Items.{items_by, items_of, FitItems};
 
+use crate::after_export::export;
+use crate::imports::import_decl;
 use ecma_node::{ModuleDecl, ModuleItem, StmtBox};
 use ecma_parse_base::Nested;
 use ecma_parse_blocks::body::{is_directive, is_use_strict};
 use ecma_parse_blocks::lookahead::turned;
-use ecma_parse_imports::imports::import_decl;
-use ecma_parse_modules::items::export;
 use ecma_parse_state::code::{in_list, turned_strict};
 use ecma_parse_state::{Around, Failure, Parser, kinds};
 use ecma_token::{Error, Span, SyntaxError};

@@ -1,6 +1,15 @@
-//! Scripts and modules (ECMA-262, clause 16).
+//! Scripts and modules (ECMA-262, clause 16), with their imports and exports.
 #![tactic(auto)]
 
+pub mod after_export;
+pub mod defaults;
+pub mod exportable;
+pub mod exports;
+pub mod imports;
 pub mod items;
+pub mod made;
+pub mod names;
+pub mod openings;
 pub mod programs;
+pub mod questions;
 pub mod scripts;

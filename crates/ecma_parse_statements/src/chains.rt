@@ -15,8 +15,8 @@ ghost use Rattle.ecma_parse_statements.specs.Lists.{branch_of, chain_of, chain_i
 
 use ecma_node::StmtBox;
 use ecma_parse_base::{Nested, Operand};
-use ecma_parse_declarations::made;
-use ecma_parse_declarations::parts::{in_parens, sub};
+use ecma_parse_blocks::made;
+use ecma_parse_blocks::parts::{in_parens, sub};
 use ecma_parse_state::code::alone;
 use ecma_parse_state::numbers::token_number;
 use ecma_parse_state::{Around, Failure, Parser, kinds};

@@ -13,7 +13,7 @@ ghost use Rattle.ecma_parse_state.specs.Stands.{stand};
 
 use ecma_node::{Ident, StmtBox};
 use ecma_parse_base::Nested;
-use ecma_parse_declarations::made;
+use ecma_parse_blocks::made;
 use ecma_parse_state::operators::{EXPRESSION, PLAIN_END};
 use ecma_parse_state::{Around, Failure, Parser, kinds};
 use ecma_tokens::Tokens;

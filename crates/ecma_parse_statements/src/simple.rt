@@ -13,8 +13,8 @@ ghost use Rattle.ecma_parse_base.specs.Operands.{tree_of};
 
 use ecma_node::{ExprKind, Ident, StmtBox};
 use ecma_parse_base::{Nested, Operand};
-use ecma_parse_declarations::made;
-use ecma_parse_declarations::parts::{in_parens, sub};
+use ecma_parse_blocks::made;
+use ecma_parse_blocks::parts::{in_parens, sub};
 use ecma_parse_state::operators::{EXPRESSION, LET_END};
 use ecma_parse_state::{Around, Failure, Parser, kinds};
 use ecma_token::BytePos;

@@ -14,8 +14,8 @@ ghost use Rattle.ecma_parse_statements.specs.Lists.{case_items, switch_cases, ca
 
 use ecma_node::{ExprKind, StmtBox, SwitchCase};
 use ecma_parse_base::Nested;
-use ecma_parse_declarations::made;
-use ecma_parse_declarations::parts::in_parens;
+use ecma_parse_blocks::made;
+use ecma_parse_blocks::parts::in_parens;
 use ecma_parse_state::code::in_list;
 use ecma_parse_state::operators::EXPRESSION;
 use ecma_parse_state::{Around, Failure, Parser, kinds};

@@ -14,7 +14,7 @@ ghost use Rattle.ecma_parse_state.specs.Stands.{from, stand};
 use ecma_node::{BlockStmt, CatchClause, StmtBox};
 use ecma_parse_base::Nested;
 use ecma_parse_blocks::blocks::block;
-use ecma_parse_declarations::made;
+use ecma_parse_blocks::made;
 use ecma_parse_state::{Around, Failure, Parser, kinds};
 use ecma_token::BytePos;
 use ecma_tokens::Tokens;

@@ -1,10 +1,22 @@
-//! Law of the parser: what it reads of a source is what the grammar derives from the tokens that the source hands out. The
-//! function here is a law alone.
+//! Laws of the parser: what it reads of a source is what the grammar derives from the tokens that the source hands out, exactly; from the first token
+//! of a source on, and of a text through a lexer; and what its entries promise of a new parser is what the grammar says of these. The functions here
+//! are laws alone.
 #![tactic(auto)]
 
+ghost use Rattle.ecma_lexing.specs.States.{State};
+ghost use Rattle.ecma_parsed.specs.Answered.{EntriesAnswer};
+ghost use Rattle.ecma_parsed.specs.Exact.{OneProgram, ProgramsExact};
 ghost use Rattle.ecma_parsed.specs.Parsed.{ProgramsJudged};
+ghost use Rattle.ecma_parsed.specs.Settled.{FirstSettled};
+ghost use Rattle.ecma_parsed.specs.TextRead.{TextsSettled};
+ghost use Rattle.ecma_parsed.specs.Texts.{NewAnswered, TextsAnswered};
+ghost use Rattle.ecma_token.specs.Tokens.{Spot};
+ghost use Rattle.ecma_tokens.specs.Machine.{Source, Machine};
+ghost use Rattle.ecma_tree.specs.Tree.{Tree};
+ghost use Rattle.std.specs.Prelude.{Option};
 
 use ecma_sources::Sourced;
+use ecma_sources_of::Reread;
 
 /// Law: a script or a module that is read of a source within a limit of nesting is the only one that
 /// derives tokens which the source hands out. Where a token is unexpected none is derived, and where
@@ -12,4 +24,87 @@ use ecma_sources::Sourced;
 #[tactic(auto)]
 pub fn parsed_law<I: Sourced>()
     ensures programs { ProgramsJudged I.machine I.live }
+{}
+
+/// Law: a script or a module that is read of a source within a limit of nesting derives tokens which
+/// the source hands out, and nests no deeper than the limit. Each that derives tokens which the source
+/// hands out, in the order of their places, and nests no deeper, is what is read. So at most one does,
+/// of whatever nesting.
+#[tactic(auto)]
+pub fn exact_law<I: Sourced>()
+    ensures programs { ProgramsExact I.machine I.live }
+    ensures one { OneProgram I.machine I.live }
+{}
+
+/// Law: where steps fall, the code around changes no token, and a slash is read again in its place, a
+/// script or a module that is read within a limit of nesting, from the first token of a good source on,
+/// is the only one that derives tokens which the source hands out, and what derives such tokens within
+/// the limit is read. Where a token is unexpected no tree of any nesting does, and where reading is too
+/// deep each that does nests deeper.
+#[tactic(auto)]
+pub fn first_law<I: Reread>()
+    ensures settled { FirstSettled I.machine I.good I.same I.last }
+{}
+
+/// Law: a script or a module that is read within a limit of nesting, through a lexer that stands at the
+/// start of a text, reads the text, and no other tree does; a tree that reads the text within the limit is
+/// what is read. A token is unexpected only where no tree of any nesting reads the text, and reading is
+/// too deep only where each that does nests deeper.
+#[tactic(auto)]
+pub fn text_law()
+    ensures settled { TextsSettled }
+{}
+
+/// What a parser reads from, as a source of tokens: which of its states are good, which are the same, and
+/// which token was the last; and what an entry answers, with its tree.
+pub trait Entered {
+    ghost Input: { Type 0 };
+
+    ghost State: { Type 0 };
+
+    ghost machine: { Machine State };
+
+    ghost state: { Input → Source State };
+
+    ghost good: { Source State → Type 0 };
+
+    ghost same: { Source State → Source State → Type 0 };
+
+    ghost last: { Option Spot → Source State → Type 0 };
+
+    ghost Answer: { Type 0 };
+
+    ghost view: { Answer → Tree };
+}
+
+/// Law: a parser that read no token yet answers a script or a module only where it is the one tree that
+/// is derived, within the limit, from tokens that the source hands out, and records its early errors.
+/// Where such a tree is derived it is answered, but for want of memory. A fault of another kind than want
+/// of memory and too deep is answered only where no tree of any nesting is derived, too deep only where
+/// each that is derived nests deeper, and then no fault is recorded.
+#[tactic(auto)]
+pub fn entries_law<I: Entered>()
+    ensures answer { EntriesAnswer I.machine I.state I.good I.same I.last I.view }
+{}
+
+/// What a parser reads a text by, with what stands behind it; and what an entry answers, with its tree.
+pub trait Lexed {
+    ghost Input: { Type 0 };
+
+    ghost state: { Input → State };
+
+    ghost Answer: { Type 0 };
+
+    ghost view: { Answer → Tree };
+}
+
+/// Law: a new parser of a text answers a script or a module, and records no fault, exactly where that is
+/// the tree which spells the text, but for want of memory; no other tree reads the text. A fault of
+/// another kind than want of memory and too deep is answered only where no tree of any nesting reads the
+/// text, too deep only where each that does nests deeper, and then no fault is recorded. So it is of a
+/// parser that `Entries::new` made, by what that promises.
+#[tactic(auto)]
+pub fn texts_law<I: Lexed>()
+    ensures answer { TextsAnswered I.state I.view }
+    ensures made { NewAnswered I.state I.view }
 {}

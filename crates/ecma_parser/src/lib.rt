@@ -5,11 +5,13 @@ pub mod choice;
 pub mod entries;
 pub mod faults;
 pub mod object;
+mod part;
 pub mod parts;
 pub mod programs;
+mod rules;
 
 pub use ecma_input::{Capturing, TokensInput};
-pub use ecma_parse_output::{OutputType, PatType};
+pub use ecma_parse_entries::{OutputType, PatType};
 pub use entries::{Entries, Parser};
 pub use faults::PResult;
 pub use object::ParseObject;

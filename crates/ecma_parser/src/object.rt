@@ -9,18 +9,17 @@ ghost use Rattle.ecma_node.specs.View.{view_object_pat_prop, view_prop_or_spread
 ghost use Rattle.ecma_early.specs.Early.{early_errors};
 ghost use Rattle.ecma_parse_state.specs.Fronts.{machine_of};
 ghost use Rattle.ecma_parse_state.specs.Stands.{stand};
-ghost use Rattle.ecma_parse_props.specs.Props as reads;
+ghost use Rattle.ecma_parse_entries.specs.Props as reads;
 ghost use Rattle.ecma_parser.specs.Entries.{ctx_in, faults_in, limit_in, syntax_in};
-ghost use Rattle.ecma_parser.specs.Parts.{ParsesPart, ReadsPart, script_part};
+ghost use Rattle.ecma_parser.specs.Parts.{ParsesPart, script_part};
 
 use crate::entries::Entries;
-use crate::faults::{PResult, told};
-use ecma_early_errors::part_errors;
+use crate::faults::PResult;
+use crate::rules::{PatternProperty, Property};
 use ecma_node::{
     Expr, ExprBox, ExprKind, ObjectLit, ObjectPat, ObjectPatProp, Pat, PatBox, PatKind,
     PropOrSpread,
 };
-use ecma_parse_props::parts::{item_part, prop_part};
 use ecma_parse_state::Parser;
 use ecma_token::{Error, Span, SyntaxError};
 use ecma_tokens::Tokens;
@@ -99,7 +98,6 @@ impl<'a, I: Tokens<'a> + Drop> ParseObject<ExprBox> for Entries<Parser<'a, I>> {
         ExprBox::new(self.reading.alloc, Expr { kind }).map_err(out_of_memory)
     }
 
-    #[tactic(auto, unfolding(crate::specs::Parts::left_in))]
     fn parse_object_prop(&mut self) -> PResult<PropOrSpread>
         ensures value { ParsesPart (machine_of I.machine) (ctx_in I.state self.old) (view_prop_or_spread inner) (early_errors (syntax_in I.state self.old)) result (script_part I.machine I.state (reads.prop_part (machine_of I.machine)) self.old) (stand I.state self.new.reading) (faults_in self.old) (faults_in self.new) }
         ensures fits { IfOk result (λ x. fits_prop_or_spread (λ p. p) x) }
@@ -107,10 +105,7 @@ impl<'a, I: Tokens<'a> + Drop> ParseObject<ExprBox> for Entries<Parser<'a, I>> {
         ensures started { IfOk result (λ _. self.new.started ≡ true) }
         ensures limit { limit_in self.new ≡ limit_in self.old }
     {
-        let before = self.reading.input.ctx();
-        let answer = self.prop();
-        self.leave(before);
-        Ok(answer?)
+        self.parse_part(&Property)
     }
 }
 
@@ -149,7 +144,6 @@ impl<'a, I: Tokens<'a> + Drop> ParseObject<PatBox> for Entries<Parser<'a, I>> {
         PatBox::new(self.reading.alloc, Pat { kind }).map_err(out_of_memory)
     }
 
-    #[tactic(auto, unfolding(crate::specs::Parts::left_in))]
     fn parse_object_prop(&mut self) -> PResult<ObjectPatProp>
         ensures value { ParsesPart (machine_of I.machine) (ctx_in I.state self.old) (view_object_pat_prop inner) (early_errors (syntax_in I.state self.old)) result (script_part I.machine I.state (reads.item_part (machine_of I.machine)) self.old) (stand I.state self.new.reading) (faults_in self.old) (faults_in self.new) }
         ensures fits { IfOk result (λ x. fits_object_pat_prop (λ p. p) x) }
@@ -157,10 +151,7 @@ impl<'a, I: Tokens<'a> + Drop> ParseObject<PatBox> for Entries<Parser<'a, I>> {
         ensures started { IfOk result (λ _. self.new.started ≡ true) }
         ensures limit { limit_in self.new ≡ limit_in self.old }
     {
-        let before = self.reading.input.ctx();
-        let answer = self.item();
-        self.leave(before);
-        Ok(answer?)
+        self.parse_part(&PatternProperty)
     }
 }
 
@@ -176,42 +167,4 @@ fn rests_last(props: &[ObjectPatProp], comma: bool) -> bool
         rest = matches!(prop, ObjectPatProp::Rest(_));
     }
     !(comma && rest)
-}
-
-impl<'a, I: Tokens<'a> + Drop> Entries<Parser<'a, I>> {
-    /// A property of an object.
-    #[tactic(auto, using(crate::proofs::Read::fails_read), unfolding(ecma_early::specs::Early::early_errors))]
-    fn prop(&mut self) -> PResult<PropOrSpread>
-        ensures value { ReadsPart (view_prop_or_spread inner) (early_errors (syntax_in I.state self.old)) result (script_part I.machine I.state (reads.prop_part (machine_of I.machine)) self.old) (stand I.state self.new.reading) (faults_in self.old) (faults_in self.new) }
-        ensures fits { IfOk result (λ x. fits_prop_or_spread (λ p. p) x) }
-        ensures started { IfOk result (λ _. self.new.started ≡ true) }
-        ensures limit { limit_in self.new ≡ limit_in self.old }
-    {
-        let code = self.open_script()?;
-        let prop = match prop_part(&mut self.reading, self.limit, code) {
-            Ok(prop) => prop,
-            Err(failure) => return Err(told(failure)),
-        };
-        let found = part_errors(self.reading.alloc, code.syntax, false, &prop);
-        self.record(found.map_err(out_of_memory)?)?;
-        Ok(prop)
-    }
-
-    /// A property of a pattern, or its rest.
-    #[tactic(auto, using(crate::proofs::Read::fails_read), unfolding(ecma_early::specs::Early::early_errors))]
-    fn item(&mut self) -> PResult<ObjectPatProp>
-        ensures value { ReadsPart (view_object_pat_prop inner) (early_errors (syntax_in I.state self.old)) result (script_part I.machine I.state (reads.item_part (machine_of I.machine)) self.old) (stand I.state self.new.reading) (faults_in self.old) (faults_in self.new) }
-        ensures fits { IfOk result (λ x. fits_object_pat_prop (λ p. p) x) }
-        ensures started { IfOk result (λ _. self.new.started ≡ true) }
-        ensures limit { limit_in self.new ≡ limit_in self.old }
-    {
-        let code = self.open_script()?;
-        let item = match item_part(&mut self.reading, self.limit, code) {
-            Ok(item) => item,
-            Err(failure) => return Err(told(failure)),
-        };
-        let found = part_errors(self.reading.alloc, code.syntax, false, &item);
-        self.record(found.map_err(out_of_memory)?)?;
-        Ok(item)
-    }
 }

@@ -14,21 +14,21 @@ ghost use Rattle.ecma_reading.specs.Source as spec;
 ghost use Rattle.ecma_parse_state.specs.Codes.{code_of};
 ghost use Rattle.ecma_parse_state.specs.Fronts.{machine_of};
 ghost use Rattle.ecma_parse_state.specs.Stands.{stand};
-ghost use Rattle.ecma_parse_items.specs.Items as items;
-ghost use Rattle.ecma_parse_parts.specs.Parts as reads;
+ghost use Rattle.ecma_parse_entries.specs.Items as items;
+ghost use Rattle.ecma_parse_entries.specs.Parts as reads;
 ghost use Rattle.ecma_parser.specs.Entries.{ctx_in, faults_in, limit_in, opened, syntax_in};
 ghost use Rattle.ecma_parser.specs.Parts.{ParsesPart, ReadsPart, module_part, script_part};
 
 use crate::entries::Entries;
 use crate::faults::{PResult, told};
 use crate::programs::{in_module, in_script};
-use ecma_early_errors::{item_errors, part_errors};
+use crate::rules::{Binding, Expression, Key, ListItem, Parameters, Statement};
+use ecma_early_errors::part_errors;
 use ecma_node::{ExprBox, ModuleItem, Param, PatBox, PropName, StmtBox};
-use ecma_parse_items::items::{list_item_part, module_item_part, statement_part};
-use ecma_parse_parts::parts::{binding_part, expression_part, key_part, parameters_part};
+use ecma_parse_entries::items::module_item_part;
 use ecma_parse_state::operators::{ASSIGNMENT, EXPRESSION};
 use ecma_parse_state::{Around, Parser};
-use ecma_token::{Context, Error, EsSyntax, Syntax};
+use ecma_token::{Context, Error, Syntax};
 use ecma_tokens::Tokens;
 use ecma_tokens::settings::out_of_memory;
 
@@ -39,7 +39,6 @@ impl<'a, I: Tokens<'a> + Drop> Entries<Parser<'a, I>> {
     ///
     /// Want of memory, a text that nests deeper than the limit, or a fault of the text: also where the expression would
     /// go on, or a line break alone keeps the next token off.
-    #[tactic(auto, unfolding(crate::specs::Parts::left_in))]
     pub fn parse_expr(&mut self) -> PResult<ExprBox>
         ensures value { ParsesPart (machine_of I.machine) (ctx_in I.state self.old) (λ x. inner x.part.value) (early_errors (syntax_in I.state self.old)) result (script_part I.machine I.state (reads.expression_part (machine_of I.machine) expression_level) self.old) (stand I.state self.new.reading) (faults_in self.old) (faults_in self.new) }
         ensures holds { IfOk result (λ x. holds_expr x.part.value) }
@@ -47,10 +46,7 @@ impl<'a, I: Tokens<'a> + Drop> Entries<Parser<'a, I>> {
         ensures started { IfOk result (λ _. self.new.started ≡ true) }
         ensures limit { limit_in self.new ≡ limit_in self.old }
     {
-        let before = self.reading.input.ctx();
-        let answer = self.expr(EXPRESSION);
-        self.leave(before);
-        Ok(answer?)
+        self.parse_part(&Expression { level: EXPRESSION })
     }
 
     /// An expression without commas of its own (ECMA-262, 13.15), in the same way. A comma may follow it.
@@ -59,7 +55,6 @@ impl<'a, I: Tokens<'a> + Drop> Entries<Parser<'a, I>> {
     ///
     /// Want of memory, a text that nests deeper than the limit, or a fault of the text: also where the expression would
     /// go on, or a line break alone keeps the next token off.
-    #[tactic(auto, unfolding(crate::specs::Parts::left_in))]
     pub fn parse_assignment_expr(&mut self) -> PResult<ExprBox>
         ensures value { ParsesPart (machine_of I.machine) (ctx_in I.state self.old) (λ x. inner x.part.value) (early_errors (syntax_in I.state self.old)) result (script_part I.machine I.state (reads.expression_part (machine_of I.machine) assignment_level) self.old) (stand I.state self.new.reading) (faults_in self.old) (faults_in self.new) }
         ensures holds { IfOk result (λ x. holds_expr x.part.value) }
@@ -67,10 +62,7 @@ impl<'a, I: Tokens<'a> + Drop> Entries<Parser<'a, I>> {
         ensures started { IfOk result (λ _. self.new.started ≡ true) }
         ensures limit { limit_in self.new ≡ limit_in self.old }
     {
-        let before = self.reading.input.ctx();
-        let answer = self.expr(ASSIGNMENT);
-        self.leave(before);
-        Ok(answer?)
+        self.parse_part(&Expression { level: ASSIGNMENT })
     }
 
     /// A name or a pattern that binds (ECMA-262, 14.3.3), without an initialiser, as in a script. Its early errors are
@@ -79,7 +71,6 @@ impl<'a, I: Tokens<'a> + Drop> Entries<Parser<'a, I>> {
     /// # Errors
     ///
     /// Want of memory, a text that nests deeper than the limit, or a fault of the text.
-    #[tactic(auto, unfolding(crate::specs::Parts::left_in))]
     pub fn parse_pat(&mut self) -> PResult<PatBox>
         ensures value { ParsesPart (machine_of I.machine) (ctx_in I.state self.old) (λ x. inner x.part.value) (early_errors (syntax_in I.state self.old)) result (script_part I.machine I.state (reads.binding_part (machine_of I.machine)) self.old) (stand I.state self.new.reading) (faults_in self.old) (faults_in self.new) }
         ensures holds { IfOk result (λ x. holds_pat x.part.value) }
@@ -87,10 +78,7 @@ impl<'a, I: Tokens<'a> + Drop> Entries<Parser<'a, I>> {
         ensures started { IfOk result (λ _. self.new.started ≡ true) }
         ensures limit { limit_in self.new ≡ limit_in self.old }
     {
-        let before = self.reading.input.ctx();
-        let answer = self.pat();
-        self.leave(before);
-        Ok(answer?)
+        self.parse_part(&Binding)
     }
 
     /// The same as `parse_pat`.
@@ -114,7 +102,6 @@ impl<'a, I: Tokens<'a> + Drop> Entries<Parser<'a, I>> {
     /// # Errors
     ///
     /// Want of memory, a text that nests deeper than the limit, or a fault of the text.
-    #[tactic(auto, unfolding(crate::specs::Parts::left_in))]
     pub fn parse_formal_params(&mut self) -> PResult<Vec<Param>>
         ensures value { ParsesPart (machine_of I.machine) (ctx_in I.state self.old) (λ x. list (trees_by (view_param inner) x.items)) (early_errors (syntax_in I.state self.old)) result (script_part I.machine I.state (reads.parameters_part (machine_of I.machine)) self.old) (stand I.state self.new.reading) (faults_in self.old) (faults_in self.new) }
         ensures fits { IfOk result (λ x. All (λ x. fits_param (λ p. p) x) x.items) }
@@ -122,10 +109,7 @@ impl<'a, I: Tokens<'a> + Drop> Entries<Parser<'a, I>> {
         ensures started { IfOk result (λ _. self.new.started ≡ true) }
         ensures limit { limit_in self.new ≡ limit_in self.old }
     {
-        let before = self.reading.input.ctx();
-        let answer = self.params();
-        self.leave(before);
-        Ok(answer?)
+        self.parse_part(&Parameters)
     }
 
     /// The key of a property (ECMA-262, 13.2.5), as in a script. Its early errors are recorded.
@@ -133,7 +117,6 @@ impl<'a, I: Tokens<'a> + Drop> Entries<Parser<'a, I>> {
     /// # Errors
     ///
     /// Want of memory, a text that nests deeper than the limit, or a fault of the text.
-    #[tactic(auto, unfolding(crate::specs::Parts::left_in))]
     pub fn parse_prop_name(&mut self) -> PResult<PropName>
         ensures value { ParsesPart (machine_of I.machine) (ctx_in I.state self.old) (view_prop_name inner) (early_errors (syntax_in I.state self.old)) result (script_part I.machine I.state (reads.key_part (machine_of I.machine)) self.old) (stand I.state self.new.reading) (faults_in self.old) (faults_in self.new) }
         ensures fits { IfOk result (λ x. fits_prop_name (λ p. p) x) }
@@ -141,10 +124,7 @@ impl<'a, I: Tokens<'a> + Drop> Entries<Parser<'a, I>> {
         ensures started { IfOk result (λ _. self.new.started ≡ true) }
         ensures limit { limit_in self.new ≡ limit_in self.old }
     {
-        let before = self.reading.input.ctx();
-        let answer = self.key();
-        self.leave(before);
-        Ok(answer?)
+        self.parse_part(&Key)
     }
 
     /// A statement that is no declaration (ECMA-262, clause 14), as in a script: directly in its body or not. Its early
@@ -153,7 +133,6 @@ impl<'a, I: Tokens<'a> + Drop> Entries<Parser<'a, I>> {
     /// # Errors
     ///
     /// Want of memory, a text that nests deeper than the limit, or a fault of the text.
-    #[tactic(auto, unfolding(crate::specs::Parts::left_in))]
     pub fn parse_stmt(&mut self, top_level: bool) -> PResult<StmtBox>
         ensures value { ParsesPart (machine_of I.machine) (ctx_in I.state self.old) (λ x. inner x.part.value) (fronts.item_errors (syntax_in I.state self.old) top_level) result (script_part I.machine I.state (items.statement_part (machine_of I.machine)) self.old) (stand I.state self.new.reading) (faults_in self.old) (faults_in self.new) }
         ensures holds { IfOk result (λ x. holds_stmt x.part.value) }
@@ -161,10 +140,7 @@ impl<'a, I: Tokens<'a> + Drop> Entries<Parser<'a, I>> {
         ensures started { IfOk result (λ _. self.new.started ≡ true) }
         ensures limit { limit_in self.new ≡ limit_in self.old }
     {
-        let before = self.reading.input.ctx();
-        let answer = self.statement(top_level);
-        self.leave(before);
-        Ok(answer?)
+        self.parse_part(&Statement { top_level })
     }
 
     /// A statement or a declaration (ECMA-262, 14.2), as in a script: directly in its body or not. Its early errors are
@@ -173,7 +149,6 @@ impl<'a, I: Tokens<'a> + Drop> Entries<Parser<'a, I>> {
     /// # Errors
     ///
     /// Want of memory, a text that nests deeper than the limit, or a fault of the text.
-    #[tactic(auto, unfolding(crate::specs::Parts::left_in))]
     pub fn parse_stmt_list_item(&mut self, top_level: bool) -> PResult<StmtBox>
         ensures value { ParsesPart (machine_of I.machine) (ctx_in I.state self.old) (λ x. inner x.part.value) (fronts.item_errors (syntax_in I.state self.old) top_level) result (script_part I.machine I.state (items.list_item_part (machine_of I.machine)) self.old) (stand I.state self.new.reading) (faults_in self.old) (faults_in self.new) }
         ensures holds { IfOk result (λ x. holds_stmt x.part.value) }
@@ -181,10 +156,7 @@ impl<'a, I: Tokens<'a> + Drop> Entries<Parser<'a, I>> {
         ensures started { IfOk result (λ _. self.new.started ≡ true) }
         ensures limit { limit_in self.new ≡ limit_in self.old }
     {
-        let before = self.reading.input.ctx();
-        let answer = self.list_item(top_level);
-        self.leave(before);
-        Ok(answer?)
+        self.parse_part(&ListItem { top_level })
     }
 
     /// An item of a module (ECMA-262, 16.2): an import, an export, a statement or a declaration. Its early errors are
@@ -261,130 +233,6 @@ impl<'a, I: Tokens<'a> + Drop> Entries<Parser<'a, I>> {
     {
         let mut found = found;
         self.faults.append(&mut found).map_err(out_of_memory)
-    }
-
-    /// Records the early errors of a statement, which stands directly in a script's body or not.
-    #[tactic(auto, unfolding(ecma_early::specs::Early::early_errors))]
-    fn record_item(&mut self, syntax: EsSyntax, top_level: bool, stmt: &StmtBox) -> PResult<()>
-        ensures faults { MatchResult result (λ _. faults_in self.new ≡ faults_in self.old ++ fronts.item_errors syntax top_level (inner stmt.now.part.value)) (λ _. faults_in self.new ≡ faults_in self.old) }
-        ensures reading { self.new.reading ≡ self.old.reading }
-        ensures started { self.new.started ≡ self.old.started }
-        ensures limit { limit_in self.new ≡ limit_in self.old }
-        ensures full { IfErr result (λ e. e.kind ≡ Memory) }
-    {
-        let alloc = self.reading.alloc;
-        if top_level {
-            let found = item_errors(alloc, syntax, stmt);
-            return self.record(found.map_err(out_of_memory)?);
-        }
-        let found = part_errors(alloc, syntax, false, stmt);
-        self.record(found.map_err(out_of_memory)?)
-    }
-
-    /// An expression of a level.
-    #[tactic(auto, using(crate::proofs::Read::fails_read), unfolding(ecma_early::specs::Early::early_errors))]
-    fn expr(&mut self, level: u8) -> PResult<ExprBox>
-        ensures value { ReadsPart (λ x. inner x.part.value) (early_errors (syntax_in I.state self.old)) result (script_part I.machine I.state (reads.expression_part (machine_of I.machine) level) self.old) (stand I.state self.new.reading) (faults_in self.old) (faults_in self.new) }
-        ensures holds { IfOk result (λ x. holds_expr x.part.value) }
-        ensures started { IfOk result (λ _. self.new.started ≡ true) }
-        ensures limit { limit_in self.new ≡ limit_in self.old }
-    {
-        let code = self.open_script()?;
-        let expr = match expression_part(&mut self.reading, self.limit, code, level) {
-            Ok(expr) => expr,
-            Err(failure) => return Err(told(failure)),
-        };
-        let found = part_errors(self.reading.alloc, code.syntax, false, &expr);
-        self.record(found.map_err(out_of_memory)?)?;
-        Ok(expr)
-    }
-
-    /// A name or a pattern that binds.
-    #[tactic(auto, using(crate::proofs::Read::fails_read), unfolding(ecma_early::specs::Early::early_errors))]
-    fn pat(&mut self) -> PResult<PatBox>
-        ensures value { ReadsPart (λ x. inner x.part.value) (early_errors (syntax_in I.state self.old)) result (script_part I.machine I.state (reads.binding_part (machine_of I.machine)) self.old) (stand I.state self.new.reading) (faults_in self.old) (faults_in self.new) }
-        ensures holds { IfOk result (λ x. holds_pat x.part.value) }
-        ensures started { IfOk result (λ _. self.new.started ≡ true) }
-        ensures limit { limit_in self.new ≡ limit_in self.old }
-    {
-        let code = self.open_script()?;
-        let pat = match binding_part(&mut self.reading, self.limit, code) {
-            Ok(pat) => pat,
-            Err(failure) => return Err(told(failure)),
-        };
-        let found = part_errors(self.reading.alloc, code.syntax, false, &pat);
-        self.record(found.map_err(out_of_memory)?)?;
-        Ok(pat)
-    }
-
-    /// Parameters without their parentheses.
-    #[tactic(auto, using(crate::proofs::Read::fails_read), unfolding(ecma_early::specs::Early::early_errors))]
-    fn params(&mut self) -> PResult<Vec<Param>>
-        ensures value { ReadsPart (λ x. list (trees_by (view_param inner) x.items)) (early_errors (syntax_in I.state self.old)) result (script_part I.machine I.state (reads.parameters_part (machine_of I.machine)) self.old) (stand I.state self.new.reading) (faults_in self.old) (faults_in self.new) }
-        ensures fits { IfOk result (λ x. All (λ x. fits_param (λ p. p) x) x.items) }
-        ensures started { IfOk result (λ _. self.new.started ≡ true) }
-        ensures limit { limit_in self.new ≡ limit_in self.old }
-    {
-        let code = self.open_script()?;
-        let params = match parameters_part(&mut self.reading, self.limit, code) {
-            Ok(params) => params,
-            Err(failure) => return Err(told(failure)),
-        };
-        let found = part_errors(self.reading.alloc, code.syntax, false, &params);
-        self.record(found.map_err(out_of_memory)?)?;
-        Ok(params)
-    }
-
-    /// The key of a property.
-    #[tactic(auto, using(crate::proofs::Read::fails_read), unfolding(ecma_early::specs::Early::early_errors))]
-    fn key(&mut self) -> PResult<PropName>
-        ensures value { ReadsPart (view_prop_name inner) (early_errors (syntax_in I.state self.old)) result (script_part I.machine I.state (reads.key_part (machine_of I.machine)) self.old) (stand I.state self.new.reading) (faults_in self.old) (faults_in self.new) }
-        ensures fits { IfOk result (λ x. fits_prop_name (λ p. p) x) }
-        ensures started { IfOk result (λ _. self.new.started ≡ true) }
-        ensures limit { limit_in self.new ≡ limit_in self.old }
-    {
-        let code = self.open_script()?;
-        let key = match key_part(&mut self.reading, self.limit, code) {
-            Ok(key) => key,
-            Err(failure) => return Err(told(failure)),
-        };
-        let found = part_errors(self.reading.alloc, code.syntax, false, &key);
-        self.record(found.map_err(out_of_memory)?)?;
-        Ok(key)
-    }
-
-    /// A statement that is no declaration.
-    #[tactic(auto, using(crate::proofs::Read::fails_read))]
-    fn statement(&mut self, top_level: bool) -> PResult<StmtBox>
-        ensures value { ReadsPart (λ x. inner x.part.value) (fronts.item_errors (syntax_in I.state self.old) top_level) result (script_part I.machine I.state (items.statement_part (machine_of I.machine)) self.old) (stand I.state self.new.reading) (faults_in self.old) (faults_in self.new) }
-        ensures holds { IfOk result (λ x. holds_stmt x.part.value) }
-        ensures started { IfOk result (λ _. self.new.started ≡ true) }
-        ensures limit { limit_in self.new ≡ limit_in self.old }
-    {
-        let code = self.open_script()?;
-        let stmt = match statement_part(&mut self.reading, self.limit, code) {
-            Ok(stmt) => stmt,
-            Err(failure) => return Err(told(failure)),
-        };
-        self.record_item(code.syntax, top_level, &stmt)?;
-        Ok(stmt)
-    }
-
-    /// A statement or a declaration.
-    #[tactic(auto, using(crate::proofs::Read::fails_read))]
-    fn list_item(&mut self, top_level: bool) -> PResult<StmtBox>
-        ensures value { ReadsPart (λ x. inner x.part.value) (fronts.item_errors (syntax_in I.state self.old) top_level) result (script_part I.machine I.state (items.list_item_part (machine_of I.machine)) self.old) (stand I.state self.new.reading) (faults_in self.old) (faults_in self.new) }
-        ensures holds { IfOk result (λ x. holds_stmt x.part.value) }
-        ensures started { IfOk result (λ _. self.new.started ≡ true) }
-        ensures limit { limit_in self.new ≡ limit_in self.old }
-    {
-        let code = self.open_script()?;
-        let stmt = match list_item_part(&mut self.reading, self.limit, code) {
-            Ok(stmt) => stmt,
-            Err(failure) => return Err(told(failure)),
-        };
-        self.record_item(code.syntax, top_level, &stmt)?;
-        Ok(stmt)
     }
 
     /// An item of a module.

@@ -3,3 +3,9 @@ pub mod Expressions
 pub mod Statements
 pub mod Modules
 pub mod SourceLemmas
+pub mod Backs
+pub mod Solids
+pub mod ConsumedExpressions
+pub mod ConsumedStatements
+pub mod ConsumedModules
+pub mod ConsumedLemmas

@@ -1,7 +1,9 @@
-//! Law of the grammar: reading from a source of tokens is reading from the list that it hands out. The function here is a law alone.
+//! Laws of the grammar: reading from a source of tokens is reading from the list that it hands out, and what is read of a source is read of a list that
+//! it hands out. The functions here are laws alone.
 #![tactic(auto)]
 
 ghost use Rattle.ecma_reading.specs.Source.{Machine};
+ghost use Rattle.ecma_sources.specs.Consumed.{ProgramsConsumed};
 ghost use Rattle.ecma_sources.specs.Laws.{ProgramsRead, PartsRead};
 
 /// A source of tokens, and its states that a reading comes to.
@@ -19,4 +21,11 @@ pub trait Sourced {
 pub fn sources_law<I: Sourced>()
     ensures programs { ProgramsRead I.machine I.live }
     ensures parts { PartsRead I.machine I.live }
+{}
+
+/// Law: what is read of a source is read of a list that it hands out, by calls as deep: a script or a
+/// module.
+#[tactic(auto)]
+pub fn consumed_law<I: Sourced>()
+    ensures programs { ProgramsConsumed I.machine I.live }
 {}

@@ -1,1 +1,9 @@
 pub mod Lexes
+pub mod Slashes
+pub mod Regions
+pub mod Takes
+pub mod Hands
+pub mod Untakes
+pub mod Tiles
+pub mod Escapes
+pub mod Usual

@@ -1,1 +1,5 @@
 pub mod Lexed
+pub mod Standing
+pub mod Handed
+pub mod Tiled
+pub mod Escapes

@@ -1,7 +1,12 @@
-//! Law of the grammar: what is read of a list of tokens is read of the lexer that hands it out. The function here is a law alone.
+//! Laws of the lexer and the parser: what is read of a list of tokens is read of the lexer that hands it out, and what is read of the lexer is read of a
+//! list of tokens that it hands out; and the tokens that tile a text are handed out. The functions here are laws alone.
 #![tactic(auto)]
 
+ghost use Rattle.ecma_sources_lexed.specs.Escapes.{EscapesTold};
+ghost use Rattle.ecma_sources_lexed.specs.Handed.{NewAtStart, TilesHanded, ReadHanded};
 ghost use Rattle.ecma_sources_lexed.specs.Lexed.{LexerConstant, LexerRead};
+ghost use Rattle.ecma_sources_lexed.specs.Standing.{LexerRereads, LexerStands, LexerConsumed};
+ghost use Rattle.ecma_sources_lexed.specs.Tiled.{DerivedTile, DerivedUsual, HandedTile, MatchedUsual};
 
 /// Law: a lexer's steps lower a bound, and no code around changes its tokens, as long as it is of the
 /// same goal; so what is read of a list of tokens is read of a lexer that hands it out.
@@ -9,4 +14,42 @@ ghost use Rattle.ecma_sources_lexed.specs.Lexed.{LexerConstant, LexerRead};
 pub fn lexer_law()
     ensures constant { LexerConstant }
     ensures read { LexerRead }
+{}
+
+/// Law: a lexer reads a slash again in its place, as a regular expression or a fault; so what is read of
+/// a lexer from its first token on is read of a list of tokens that it hands out.
+#[tactic(auto)]
+pub fn lexer_consumed_law()
+    ensures rereads { LexerRereads }
+    ensures stands { LexerStands }
+    ensures consumed { LexerConsumed }
+{}
+
+/// Law: tokens that tile a text, among which each brace and each template has its partner, are those that
+/// a lexer at the start of the text hands out to a parser, which reads a slash again where the text has a
+/// regular expression; so the tokens by which a tree reads a text are handed out.
+#[tactic(auto)]
+pub fn handed_law()
+    ensures starts { NewAtStart }
+    ensures tiles { TilesHanded }
+    ensures read { ReadHanded }
+{}
+
+/// Law: tokens that a lexer at the start of a text hands out to a parser tile the text, under any goals
+/// that are those of their regions and kinds. Such are the tokens that a script or a module derives: none
+/// is a fault, and each stands under a goal that is usual for it, so they tile the text where they were
+/// handed out.
+#[tactic(auto)]
+pub fn tiled_law()
+    ensures tile { HandedTile }
+    ensures usual { MatchedUsual }
+    ensures derived { DerivedUsual }
+    ensures programs { DerivedTile }
+{}
+
+/// Law: of each token a parser tells whether it is a word that is spelled with an escape as the text has
+/// it.
+#[tactic(auto)]
+pub fn escapes_law()
+    ensures told { EscapesTold }
 {}

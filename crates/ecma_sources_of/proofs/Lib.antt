@@ -1,1 +1,3 @@
 pub mod Fronts
+pub mod Stands
+pub mod Alikes

@@ -1,4 +1,5 @@
 //! Faults, places and editions.
+use crate::made::ok;
 use ecma_token::{BytePos, Error, EsVersion, JscTarget, Span, Spanned, SyntaxError};
 use std::test::Fail;
 
@@ -19,7 +20,7 @@ fn a_fault_says_what_it_is(rt: HostRuntime) -> Result<(), Fail> {
         "'import', and 'export' cannot be used outside of module code"
     );
     assert_eq!(rt;
-        format!(in rt.alloc(); "{fault}")?.as_str(),
+        ok(&rt, format!(in rt.alloc(); "{fault}")).as_str(),
         "'import', and 'export' cannot be used outside of module code"
     );
     assert_eq!(rt; fault.into_kind(), SyntaxError::ImportExportInScript);

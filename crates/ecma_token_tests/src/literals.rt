@@ -1,4 +1,5 @@
 //! Values of literals and tokens. What kind a token is of and how an operator is written, the contracts say of every one.
+use crate::made::ok;
 use ecma_token::utf16::push_code;
 use ecma_token::{
     BytePos, DUMMY_SP, Error, NumValue, Span, Spanned, SyntaxError, Token, TokenAndSpan, TokenKind,
@@ -11,16 +12,16 @@ use std::test::Fail;
 
 #[test]
 fn units_of_a_list_are_that_list(rt: HostRuntime) -> Result<(), Fail> {
-    let units = Units::from([0xd83d, 0x61].to_vec(rt.alloc())?);
+    let units = Units::from(ok(&rt, [0xd83d, 0x61].to_vec(rt.alloc())));
     assert_eq!(rt; units.as_plain(), None);
-    let copy = units.clone()?;
+    let copy = ok(&rt, units.clone());
     assert_eq!(rt; copy.as_plain(), None);
     assert_eq!(rt;
-        copy.into_vec(rt.alloc())?.as_slice(),
+        ok(&rt, copy.into_vec(rt.alloc())).as_slice(),
         [0xd83d, 0x61].as_slice()
     );
     assert_eq!(rt;
-        units.into_vec(rt.alloc())?.as_slice(),
+        ok(&rt, units.into_vec(rt.alloc())).as_slice(),
         [0xd83d, 0x61].as_slice()
     );
     Ok(())
@@ -29,22 +30,22 @@ fn units_of_a_list_are_that_list(rt: HostRuntime) -> Result<(), Fail> {
 #[test]
 fn a_code_point_has_its_units(rt: HostRuntime) -> Result<(), Fail> {
     let mut units = Vec::new(rt.alloc());
-    push_code(&mut units, 0xd800)?;
-    push_code(&mut units, 0x1f600)?;
+    ok(&rt, push_code(&mut units, 0xd800));
+    ok(&rt, push_code(&mut units, 0x1f600));
     assert_eq!(rt; units.as_slice(), [0xd800, 0xd83d, 0xde00].as_slice());
     Ok(())
 }
 
-fn number(alloc: Global) -> Result<TokenAndSpan<'static>, Fail> {
-    let value = NumValue::read(alloc, "1.5")?.ok_or("no number")?;
-    Ok(TokenAndSpan {
+fn number(rt: &impl Abort, alloc: Global) -> TokenAndSpan<'static> {
+    let value = ok(rt, ok(rt, NumValue::read(alloc, "1.5")).ok_or("no number"));
+    TokenAndSpan {
         token: Token::Num { value, raw: "1.5" },
         had_line_break: true,
         span: Span {
             lo: BytePos(1),
             hi: BytePos(4),
         },
-    })
+    }
 }
 
 fn is_one_and_a_half(rt: &impl Abort, token: &Token) {
@@ -60,7 +61,7 @@ fn is_one_and_a_half(rt: &impl Abort, token: &Token) {
 
 #[test]
 fn a_number_is_copied_whole(rt: HostRuntime) -> Result<(), Fail> {
-    let copy = number(rt.alloc())?.clone()?;
+    let copy = ok(&rt, number(&rt, rt.alloc()).clone());
     assert_eq!(rt; copy.span_lo(), BytePos(1));
     assert_eq!(rt; copy.span_hi(), BytePos(4));
     assert!(rt; copy.had_line_break);
@@ -75,7 +76,7 @@ fn strings_are_copied(rt: HostRuntime) -> Result<(), Fail> {
         units: Units::from("a"),
         raw: "'a'",
     };
-    match string.clone()? {
+    match ok(&rt, string.clone()) {
         Token::Str { units, raw } => {
             assert_eq!(rt; units.as_plain(), Some("a"));
             assert_eq!(rt; raw, "'a'");
@@ -87,14 +88,14 @@ fn strings_are_copied(rt: HostRuntime) -> Result<(), Fail> {
 
 #[test]
 fn big_integers_are_copied(rt: HostRuntime) -> Result<(), Fail> {
-    let own = CowStr::Owned(String::from_str(rt.alloc(), "ff")?);
+    let own = CowStr::Owned(ok(&rt, String::from_str(rt.alloc(), "ff")));
     for digits in [CowStr::Borrowed("ff"), own] {
         let big = Token::BigInt {
             radix: 16,
             digits,
             raw: "0xf_fn",
         };
-        match big.clone()? {
+        match ok(&rt, big.clone()) {
             Token::BigInt { radix, digits, raw } => {
                 assert_eq!(rt; radix, 16);
                 assert_eq!(rt; digits.as_str(), "ff");
@@ -115,6 +116,6 @@ fn a_bad_escape_is_copied(rt: HostRuntime) -> Result<(), Fail> {
             kind: SyntaxError::BadCharacterEscapeSequence,
         }),
     };
-    assert_eq!(rt; bad.clone()?.kind(), TokenKind::Template);
+    assert_eq!(rt; ok(&rt, bad.clone()).kind(), TokenKind::Template);
     Ok(())
 }

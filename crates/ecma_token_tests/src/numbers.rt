@@ -1,5 +1,6 @@
 //! Numbers whose value takes no memory. More spellings with their values stand in the rows of
 //! `ecma_lexical_rows`.
+use crate::made::ok;
 use ecma_token::NumValue;
 use std::process::Abort;
 use std::test::Fail;
@@ -113,10 +114,13 @@ fn is_read_as(
 #[test]
 fn numbers_that_fit(rt: HostRuntime) -> Result<(), Fail> {
     for row in &FITTING {
-        let value = NumValue::read(rt.alloc(), row.0)?.ok_or("no number")?;
+        let value = ok(
+            &rt,
+            ok(&rt, NumValue::read(rt.alloc(), row.0)).ok_or("no number"),
+        );
         is_read_as(&rt, &value, *row);
-        is_read_as(&rt, &value.clone()?, *row);
-        assert!(rt; value.clone()?.is_same(&value), "{}", row.0);
+        is_read_as(&rt, &ok(&rt, value.clone()), *row);
+        assert!(rt; ok(&rt, value.clone()).is_same(&value), "{}", row.0);
     }
     Ok(())
 }

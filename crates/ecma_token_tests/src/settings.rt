@@ -1,4 +1,5 @@
 //! The keys under which settings are written and read.
+use crate::made::ok;
 use ecma_token::{EsSyntax, Syntax};
 use std::test::Fail;
 
@@ -33,8 +34,8 @@ fn flags(parts: &EsSyntax) -> [bool; 10] {
 #[test]
 fn each_key_sets_its_part_alone(rt: HostRuntime) -> Result<(), Fail> {
     for (i, key) in KEYS.iter().enumerate() {
-        let text = format!(in rt.alloc(); "{{\"{key}\":true}}")?;
-        let read: EsSyntax = serde_json::from_str(rt.alloc(), text.as_str())?;
+        let text = ok(&rt, format!(in rt.alloc(); "{{\"{key}\":true}}"));
+        let read: EsSyntax = ok(&rt, serde_json::from_str(rt.alloc(), text.as_str()));
         let mut wanted = [false; 10];
         if i < 10 {
             wanted[i] = true;
@@ -51,21 +52,24 @@ fn each_part_is_written_under_its_key(rt: HostRuntime) -> Result<(), Fail> {
         auto_accessors: true,
         ..EsSyntax::default()
     };
-    let text = serde_json::to_string(rt.alloc(), &parts)?;
+    let text = ok(&rt, serde_json::to_string(rt.alloc(), &parts));
     assert_eq!(rt;
         text.as_str(),
         "{\"jsx\":false,\"functionBind\":false,\"decorators\":true,\"decoratorsBeforeExport\":false,\"exportDefaultFrom\":false,\"importAttributes\":false,\"allowSuperOutsideMethod\":false,\"allowReturnOutsideFunction\":false,\"autoAccessors\":true,\"explicitResourceManagement\":false}"
     );
-    let again: EsSyntax = serde_json::from_str(rt.alloc(), text.as_str())?;
+    let again: EsSyntax = ok(&rt, serde_json::from_str(rt.alloc(), text.as_str()));
     assert_eq!(rt; again, parts);
     Ok(())
 }
 
 #[test]
 fn absent_keys_are_off_and_the_older_key_is_read(rt: HostRuntime) -> Result<(), Fail> {
-    let empty: EsSyntax = serde_json::from_str(rt.alloc(), "{}")?;
+    let empty: EsSyntax = ok(&rt, serde_json::from_str(rt.alloc(), "{}"));
     assert_eq!(rt; empty, EsSyntax::default());
-    let older: EsSyntax = serde_json::from_str(rt.alloc(), "{\"importAssertions\":true}")?;
+    let older: EsSyntax = ok(
+        &rt,
+        serde_json::from_str(rt.alloc(), "{\"importAssertions\":true}"),
+    );
     assert!(rt; Syntax::Es(older).import_attributes());
     assert_eq!(rt; Syntax::default(), Syntax::Es(empty));
     Ok(())

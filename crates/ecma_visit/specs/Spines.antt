@@ -2,7 +2,7 @@
 -- over and the link is left. Of `else if` each is entered and gone over on the way down, but for its alternative, and left on the way back.
 use Rattle.std.specs.Prelude.{ℕ, zero, suc}
 use Rattle.ecma_tree.specs.Tree.{Tree, if_stmt}
-use Rattle.ecma_spine.specs.Spines.{below, further_on, right_operand}
+use Rattle.ecma_node.specs.Spines.{below, further_on, right_operand}
 use Rattle.ecma_visit.specs.Walk.{Event, entered, left, walk_of}
 
 -- so many links are entered

@@ -3,8 +3,8 @@ ghost use Rattle.ecma_node.specs.Placed.{inner};
 
 use crate::spines::{enter_links, leave_ifs, leave_links};
 use crate::watch::{Inside, Node, Walk, Watch};
+use ecma_node::spine::there;
 use ecma_node::{Expr, Part, PartKind, Pat, Program, Stmt, StmtKind};
-use ecma_spine::there;
 
 impl Walk for Part {
     ghost tree = { inner };

@@ -1,12 +1,12 @@
 //! Goes over left operands and `else if` in loops, so that no chain of them is too long for the stack. What is told on the way back
 //! begins with the innermost link, so a chain is gone back over by halves, the inner half first.
 ghost use Rattle.std.specs.Prelude.{◌≡◌};
-ghost use Rattle.ecma_spine.specs.Spines.{Linked, below, further_on};
+ghost use Rattle.ecma_node.specs.Spines.{Linked, below, further_on};
 ghost use Rattle.ecma_visit.specs.Spines.{entered_links, left_ifs, left_links};
 
 use crate::watch::{Node, Walk, Watch};
+use ecma_node::spine::{below, further_on};
 use ecma_node::{Expr, ExprKind, Stmt};
-use ecma_spine::{below, further_on};
 
 /// Enters a binary expression and its left operands. Answers the last of them, which is not entered, and how many links lead there.
 #[tactic(auto, using(crate::proofs::Chains::on_the_way_down))]

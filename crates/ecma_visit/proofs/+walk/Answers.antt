@@ -1,8 +1,8 @@
 use Rattle.std.proofs.Common.{rules, sym, ap, ◌∙◌}
 use Rattle.ecma_node.specs.Placed.{inner}
 use Rattle.ecma_node.specs.View.{view_expr_kind}
-use Rattle.ecma_spine.specs.Spines.{right_operand}
-use Rattle.ecma_spine.proofs.Spines.{right_is_left}
+use Rattle.ecma_node.specs.Spines.{right_operand}
+use Rattle.ecma_node.proofs.Spines.{right_is_left}
 use Rattle.ecma_visit.proofs.+walk.Goals as goal
 
 -- src/spines.rt

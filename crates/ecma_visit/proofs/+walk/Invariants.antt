@@ -1,6 +1,6 @@
 use Rattle.std.proofs.Common.{◌≡◌, ◌+◌, ◌*◌, ◌-◌, ◌≤◌}
 use Rattle.ecma_tree.specs.Codes.{tree_size}
-use Rattle.ecma_spine.specs.Spines.{Chained, below, further_on}
+use Rattle.ecma_node.specs.Spines.{Chained, below, further_on}
 use Rattle.ecma_visit.specs.Spines.{entered_ifs}
 use Rattle.ecma_visit.proofs.+walk.Given as goal
 

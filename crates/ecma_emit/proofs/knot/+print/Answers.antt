@@ -7,8 +7,8 @@ use Rattle.ecma_layout.specs.declared.look.Stand.TheVariants.{Alone, Operand}
 use Rattle.ecma_layout.specs.Looks.{when, start}
 use Rattle.ecma_layout.specs.Layout.{laid, closing, is_block, marked_as_operand}
 use Rattle.ecma_printer.proofs.Steps.{laid_as, when_as}
-use Rattle.ecma_spine.specs.Spines.{is_binary, right_operand}
-use Rattle.ecma_spine.proofs.Spines.{right_is_left}
+use Rattle.ecma_node.specs.Spines.{is_binary, right_operand}
+use Rattle.ecma_node.proofs.Spines.{right_is_left}
 use Rattle.ecma_emit.specs.Spines.{rights_laid}
 use Rattle.ecma_emit.proofs.Spines.{alternative_is, behind_none, chain_printed, goes_on_to_next, half, halves_printed, ifs_printed, link_printed, no_link, no_other, none_printed, sets_out_on_ifs}
 use Rattle.ecma_emit.proofs.knot.+print.Goals as goal

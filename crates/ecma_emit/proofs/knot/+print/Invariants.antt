@@ -1,6 +1,6 @@
 use Rattle.std.proofs.Common.{◌≡◌, ◌+◌, ◌*◌, ◌-◌, ◌≤◌}
 use Rattle.ecma_tree.specs.Codes.{tree_size}
-use Rattle.ecma_spine.specs.Spines.{Chained, below, further_on}
+use Rattle.ecma_node.specs.Spines.{Chained, below, further_on}
 use Rattle.ecma_printer.specs.Prints.{Prints}
 use Rattle.ecma_emit.specs.Spines.{branches_laid}
 use Rattle.ecma_emit.proofs.knot.+print.Given as goal

@@ -4,8 +4,8 @@ use Rattle.ecma_tree.specs.Tree.{Tree}
 use Rattle.ecma_tree.specs.Folds.{fold}
 use Rattle.ecma_node.specs.Placed.{inner}
 use Rattle.ecma_node.specs.View.{view_expr_kind}
-use Rattle.ecma_spine.specs.Spines.{right_operand}
-use Rattle.ecma_spine.proofs.Spines.{right_is_left}
+use Rattle.ecma_node.specs.Spines.{right_operand}
+use Rattle.ecma_node.proofs.Spines.{right_is_left}
 use Rattle.ecma_early.specs.Early.{Scope, step}
 use Rattle.ecma_faults_base.specs.Around.{scope_of}
 use Rattle.ecma_faults.specs.Rights.{right_faults}

@@ -1,5 +1,5 @@
 use Rattle.std.proofs.Common.{◌≡◌}
-use Rattle.ecma_spine.specs.Spines.{Linked, below}
+use Rattle.ecma_node.specs.Spines.{Linked, below}
 use Rattle.ecma_visit.specs.Spines.{entered_links}
 use Rattle.ecma_visit.proofs.spines.enter_links.Given as goal
 

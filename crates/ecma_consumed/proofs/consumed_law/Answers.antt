@@ -1,5 +1,0 @@
-use Rattle.ecma_consumed.proofs.ConsumedLemmas.{programs_consumed}
-use Rattle.ecma_consumed.proofs.consumed_law.Goals as goal
-
-pub returns : goal.returns
-returns g c = record { programs = programs_consumed g.I.Sourced.machine g.I.Sourced.live }

@@ -1,0 +1,64 @@
+//! Names with a `#`, and keys in brackets.
+ghost use Rattle.std.specs.Prelude.{◌<◌, IfOk};
+ghost use Rattle.ecma_node.specs.Placed.{holds_expr, inner};
+ghost use Rattle.ecma_node.specs.View.{view_computed_prop_name, view_private_name};
+ghost use Rattle.ecma_reading.specs.Source as spec;
+ghost use Rattle.ecma_reading.specs.Expressions as reads;
+ghost use Rattle.ecma_parse_state.specs.Answers.{Gives};
+ghost use Rattle.ecma_parse_state.specs.Codes.{code_of};
+ghost use Rattle.ecma_parse_state.specs.Fronts.{machine_of};
+ghost use Rattle.ecma_parse_state.specs.Stands.{stand};
+
+use crate::Nested;
+use ecma_node::{ComputedPropName, PrivateName};
+use ecma_parse_state::code::with_in;
+use ecma_parse_state::{Around, Failure, Parser, kinds};
+use ecma_tokens::Tokens;
+
+/// A private name, whose `#` touches it.
+#[inline(never)]
+#[tactic(auto, using(ecma_parse_state::proofs::Marks::marks), unfolding(ecma_reading::specs::Expressions::private_by))]
+pub fn private_name<'a, I: Tokens<'a> + Drop, N: Nested<'a, I>>(
+    p: &mut Parser<'a, I>,
+    _nested: &N,
+) -> Result<PrivateName, Failure>
+    requires ready { N.ready _nested.now }
+    ensures value { Gives (λ x. (view_private_name x, stand I.state p.new)) result (reads.private_by (machine_of I.machine) (N.reads _nested.now I.State I.machine) (stand I.state p.old)) }
+    ensures shorter { IfOk result (λ _. spec.bound (machine_of I.machine) (stand I.state p.new) < spec.bound (machine_of I.machine) (stand I.state p.old)) }
+{
+    let start = p.lo();
+    let end = p.hi();
+    p.expect(kinds::HASH)?;
+    if p.lo().0 != end.0 {
+        return Err(p.unexpected());
+    }
+    let name = p.any_word()?;
+    Ok(PrivateName {
+        span: p.since(start),
+        name,
+    })
+}
+
+/// A key in brackets.
+#[inline(never)]
+#[tactic(auto, using(ecma_parse_state::proofs::Marks::marks), unfolding(ecma_reading::specs::Expressions::computed_by))]
+pub fn computed<'a, I: Tokens<'a> + Drop, N: Nested<'a, I>>(
+    p: &mut Parser<'a, I>,
+    nested: &N,
+    code: Around,
+    level: u8,
+) -> Result<ComputedPropName, Failure>
+    requires ready { N.ready nested.now }
+    ensures value { Gives (λ x. (view_computed_prop_name inner x, stand I.state p.new)) result (reads.computed_by (machine_of I.machine) (N.reads nested.now I.State I.machine) (code_of code) level (stand I.state p.old)) }
+    ensures fits { IfOk result (λ x. holds_expr x.expr.part.value) }
+    ensures shorter { IfOk result (λ _. spec.bound (machine_of I.machine) (stand I.state p.new) < spec.bound (machine_of I.machine) (stand I.state p.old)) }
+{
+    let start = p.lo();
+    p.bump()?;
+    let key = nested.expr(p, with_in(code), level)?;
+    p.expect(kinds::RIGHT_BRACKET)?;
+    Ok(ComputedPropName {
+        span: p.since(start),
+        expr: key.expr,
+    })
+}

@@ -1,0 +1,185 @@
+//! Declarations of variables (ECMA-262, 14.3).
+ghost use Rattle.std.specs.Prelude.{◌≡◌, ◌≢◌, None, MatchOption, ◌<◌, false, IfOk};
+ghost use Rattle.ecma_token.specs.Kinds.{const_kind, let_kind, var_kind};
+ghost use Rattle.ecma_syntax.specs.Input.{kind};
+ghost use Rattle.ecma_syntax.specs.Shape as shape;
+ghost use Rattle.ecma_node.specs.Fits.{fits_var_declarator};
+ghost use Rattle.ecma_node.specs.Placed.{holds_stmt, inner};
+ghost use Rattle.ecma_node.specs.View.{var_decl_kind_word, view_var_declarator};
+ghost use Rattle.ecma_reading.specs.Source as spec;
+ghost use Rattle.ecma_reading.specs.Statements as reads;
+ghost use Rattle.ecma_parse_state.specs.Answers.{Gives, going_on};
+ghost use Rattle.ecma_parse_state.specs.Codes.{code_of};
+ghost use Rattle.ecma_parse_state.specs.Fronts.{machine_of};
+ghost use Rattle.ecma_parse_state.specs.Stands.{from, stand};
+ghost use Rattle.ecma_parse_base.specs.Operands.{tree_of};
+ghost use Rattle.ecma_parse_blocks.specs.Declarators.{declarators_of, FitDeclarators, TellsEnd};
+
+use crate::made;
+use ecma_node::{ExprKind, StmtBox, VarDeclKind, VarDeclarator};
+use ecma_parse_base::{Nested, Operand};
+use ecma_parse_state::operators::{ASSIGNMENT, BINDING_END};
+use ecma_parse_state::{Around, Failure, Parser, kinds};
+use ecma_token::BytePos;
+use ecma_tokens::Tokens;
+
+/// Declarators so far, and the class of the last one's end.
+#[derive(Drop)]
+pub struct DeclaratorList {
+    pub items: Vec<VarDeclarator>,
+    pub end: u8,
+}
+
+/// Whether an expression is left out, which none is.
+fn is_absent(operand: &Operand) -> bool
+    ensures { result ≡ shape.is_absent (tree_of operand.now) }
+{
+    match &operand.expr.get().kind {
+        ExprKind::Seq(_) => false,
+        _ => false,
+    }
+}
+
+/// A name or a pattern, and its initialiser where one follows; beside the class of its end.
+#[inline(never)]
+#[tactic(auto, using(ecma_parse_state::proofs::Marks::marks), unfolding(ecma_reading::specs::Statements::declarator_by))]
+pub fn declarator<'a, I: Tokens<'a> + Drop, N: Nested<'a, I>>(
+    p: &mut Parser<'a, I>,
+    nested: &N,
+    code: Around,
+) -> Result<(VarDeclarator, u8), Failure>
+    requires ready { N.ready nested.now }
+    ensures value { Gives (λ x. (view_var_declarator inner x.0, stand I.state p.new)) result (reads.declarator_by (machine_of I.machine) (N.reads nested.now I.State I.machine) (code_of code) (stand I.state p.old)) }
+    ensures fits { IfOk result (λ x. fits_var_declarator (λ p. p) x.0) }
+    ensures end { IfOk result (λ x. x.1 ≡ shape.declarator_end (view_var_declarator inner x.0)) }
+    ensures shorter { IfOk result (λ _. spec.bound (machine_of I.machine) (stand I.state p.new) < spec.bound (machine_of I.machine) (stand I.state p.old)) }
+{
+    let start = p.lo();
+    let name = nested.pat(p, code)?;
+    if p.eat(kinds::ASSIGN)? {
+        let init = nested.expr(p, code, ASSIGNMENT)?;
+        let end = if is_absent(&init) {
+            BINDING_END
+        } else {
+            init.end
+        };
+        let span = p.since(start);
+        return Ok((
+            VarDeclarator {
+                span,
+                name,
+                init: Some(init.expr),
+            },
+            end,
+        ));
+    }
+    let span = p.since(start);
+    Ok((
+        VarDeclarator {
+            span,
+            name,
+            init: None,
+        },
+        BINDING_END,
+    ))
+}
+
+/// One more declarator. Whether another follows, behind a comma.
+#[inline(always)]
+#[tactic(auto, using(crate::proofs::Declarators::declared_more), unfolding(ecma_reading::specs::Statements::declarator_step))]
+pub fn declarator_turn<'a, I: Tokens<'a> + Drop, N: Nested<'a, I>>(
+    p: &mut Parser<'a, I>,
+    nested: &N,
+    code: Around,
+    list: &mut DeclaratorList,
+) -> Result<bool, Failure>
+    requires ready { N.ready nested.now }
+    requires fits { FitDeclarators list.old }
+    ensures value { Gives (λ x. (going_on x (declarators_of list.new), stand I.state p.new)) result (reads.declarator_step (machine_of I.machine) (N.reads nested.now I.State I.machine) (code_of code) (declarators_of list.old) (stand I.state p.old)) }
+    ensures fits { IfOk result (λ x. FitDeclarators list.new) }
+    ensures end { IfOk result (λ _. TellsEnd list.new) }
+    ensures shorter { IfOk result (λ _. spec.bound (machine_of I.machine) (stand I.state p.new) < spec.bound (machine_of I.machine) (stand I.state p.old)) }
+{
+    let (item, end) = declarator(p, nested, code)?;
+    list.items.push(item)?;
+    list.end = end;
+    p.eat(kinds::COMMA)
+}
+
+/// The declarators of a declaration.
+#[inline(never)]
+#[tactic(auto, using(ecma_parse_state::proofs::Iterate::iterates), unfolding(ecma_reading::specs::Statements::declarators_by))]
+pub fn declarators<'a, I: Tokens<'a> + Drop, N: Nested<'a, I>>(
+    p: &mut Parser<'a, I>,
+    nested: &N,
+    code: Around,
+) -> Result<DeclaratorList, Failure>
+    requires ready { N.ready nested.now }
+    ensures value { Gives (λ x. (declarators_of x, stand I.state p.new)) result (reads.declarators_by (machine_of I.machine) (N.reads nested.now I.State I.machine) (code_of code) (stand I.state p.old)) }
+    ensures fits { IfOk result (λ x. FitDeclarators x) }
+    ensures end { IfOk result (λ x. TellsEnd x) }
+    ensures shorter { IfOk result (λ _. spec.bound (machine_of I.machine) (stand I.state p.new) < spec.bound (machine_of I.machine) (stand I.state p.old)) }
+{
+    let mut list = DeclaratorList {
+        items: Vec::new(p.alloc),
+        end: BINDING_END,
+    };
+    'turns: while declarator_turn(p, nested, code, &mut list)? {}
+    Ok(list)
+}
+
+/// The word that declares variables, of this kind.
+pub fn var_kind(kind: u8) -> Option<VarDeclKind>
+    ensures { MatchOption result ((kind ≡ var_kind → ⊥) × ((kind ≡ let_kind → ⊥) × (kind ≡ const_kind → ⊥))) (λ x. var_decl_kind_word x ≡ kind) }
+{
+    match kind {
+        kinds::VAR => Some(VarDeclKind::Var),
+        kinds::LET => Some(VarDeclKind::Let),
+        kinds::CONST => Some(VarDeclKind::Const),
+        _ => None,
+    }
+}
+
+/// `var`, `let` or `const`, with what it declares.
+#[inline(never)]
+#[tactic(auto, using(ecma_parse_state::proofs::Marks::marks, ecma_parse_base::proofs::Packs::packs), unfolding(ecma_reading::specs::Statements::variables_by))]
+pub fn variables<'a, I: Tokens<'a> + Drop, N: Nested<'a, I>>(
+    p: &mut Parser<'a, I>,
+    nested: &N,
+    code: Around,
+    word: VarDeclKind,
+) -> Result<StmtBox, Failure>
+    requires ready { N.ready nested.now }
+    requires kind { var_decl_kind_word word ≡ kind (spec.input (machine_of I.machine) (stand I.state p.old)) }
+    requires some { kind (spec.input (machine_of I.machine) (stand I.state p.old)) ≢ 0 }
+    ensures value { Gives (λ x. (inner x.part.value, stand I.state p.new)) result (reads.variables_by (machine_of I.machine) (N.reads nested.now I.State I.machine) (code_of code) (stand I.state p.old)) }
+    ensures holds { IfOk result (λ x. holds_stmt x.part.value) }
+    ensures shorter { IfOk result (λ _. spec.bound (machine_of I.machine) (stand I.state p.new) < spec.bound (machine_of I.machine) (stand I.state p.old)) }
+{
+    let start = p.lo();
+    p.eat_word(code, p.kind())?;
+    let list = declarators(p, nested, code)?;
+    p.end_of(code, list.end)?;
+    made::var_decl(p.alloc, p.since(start), word, list.items)
+}
+
+/// `using`, with what it declares. Before it `await` may stand.
+#[inline(never)]
+#[tactic(auto, using(ecma_parse_state::proofs::Marks::marks, ecma_parse_base::proofs::Packs::packs), unfolding(ecma_reading::specs::Statements::using_by))]
+pub fn using<'a, I: Tokens<'a> + Drop, N: Nested<'a, I>>(
+    p: &mut Parser<'a, I>,
+    nested: &N,
+    code: Around,
+    start: BytePos,
+    awaits: bool,
+) -> Result<StmtBox, Failure>
+    requires ready { N.ready nested.now }
+    ensures value { Gives (λ x. (inner x.part.value, stand I.state p.new)) result (reads.using_by (machine_of I.machine) (N.reads nested.now I.State I.machine) (code_of code) (from start.0) awaits (stand I.state p.old)) }
+    ensures holds { IfOk result (λ x. holds_stmt x.part.value) }
+    ensures shorter { IfOk result (λ _. spec.bound (machine_of I.machine) (stand I.state p.new) < spec.bound (machine_of I.machine) (stand I.state p.old)) }
+{
+    p.eat_word(code, kinds::USING)?;
+    let list = declarators(p, nested, code)?;
+    p.end_of(code, list.end)?;
+    made::using_decl(p.alloc, p.since(start), awaits, list.items)
+}

@@ -1,2 +1,0 @@
--- What declarations of variables share.
-pub mod Lists

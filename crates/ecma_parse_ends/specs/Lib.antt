@@ -1,2 +1,0 @@
--- Where a part ends that is read alone.
-pub mod Ends

@@ -1,0 +1,52 @@
+//! What is asked of each finished part: it nests no deeper than the limit, which is looked at first, and nothing of a cover
+//! is left in it.
+ghost use Rattle.std.specs.Prelude.{◌≡◌, ◌<◌, IfOk};
+ghost use Rattle.ecma_parse_state.specs.Answers.{Gives, IsSyntax};
+ghost use Rattle.ecma_parse_state.specs.Fronts.{machine_of};
+ghost use Rattle.ecma_parse_state.specs.Stands.{stand};
+ghost use Rattle.ecma_parse_entries.specs.Ends as ends;
+
+use crate::is_clean;
+use ecma_nesting::Nesting;
+use ecma_parse_state::{Failure, Parser};
+use ecma_token::{BytePos, Error, SyntaxError};
+use ecma_tokens::Tokens;
+use ecma_visit::Walk;
+
+/// What is said of a part that is read and may not stand here, as one in which something of a cover is left: it reaches
+/// from here to the last token that was taken.
+pub fn left_over<'a, I: Tokens<'a> + Drop>(p: &Parser<'a, I>, start: BytePos) -> Failure
+    ensures { IsSyntax result }
+{
+    Failure::Syntax(Error {
+        span: p.since(start),
+        kind: SyntaxError::Unexpected,
+    })
+}
+
+/// A part that was read from here on, where it is finished.
+///
+/// # Errors
+///
+/// A part that nests deeper than the limit, or in which something of a cover is left.
+#[inline(never)]
+#[tactic(auto, unfolding(crate::specs::Ends::settled))]
+pub fn settle<'a, I: Tokens<'a> + Drop, T: Nesting + Walk + Drop>(
+    p: &Parser<'a, I>,
+    start: BytePos,
+    limit: u32,
+    part: T,
+) -> Result<T, Failure>
+    requires limit { limit < 4294967295 }
+    requires tree { T.Walk.tree part ≡ T.Nesting.tree part }
+    ensures value { Gives (λ x. (T.Nesting.tree x, stand I.state p.now)) result (ends.settled (machine_of I.machine) limit (T.Nesting.tree part, stand I.state p.now)) }
+    ensures stays { IfOk result (λ x. x ≡ part) }
+{
+    if part.nesting() > limit {
+        return Err(Failure::TooDeep);
+    }
+    if !is_clean(&part) {
+        return Err(left_over(p, start));
+    }
+    Ok(part)
+}

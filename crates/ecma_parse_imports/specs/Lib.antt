@@ -1,2 +1,0 @@
--- What the rules of imports share.
-pub mod Firsts

@@ -1,2 +1,0 @@
--- What is read of a statement or an item that stands alone.
-pub mod Items

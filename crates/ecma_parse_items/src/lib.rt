@@ -1,4 +1,0 @@
-//! Statements, declarations and items of modules within the limit of nesting.
-#![tactic(auto)]
-
-pub mod items;

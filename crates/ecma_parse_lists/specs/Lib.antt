@@ -1,2 +1,0 @@
--- What the rules of lists share.
-pub mod Lists

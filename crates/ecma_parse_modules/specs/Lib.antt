@@ -1,2 +1,0 @@
--- What the rules of exports share.
-pub mod Steps

@@ -1,2 +1,0 @@
--- What an element of a pattern is for.
-pub mod Patterns

@@ -1,2 +1,0 @@
--- What the rules of primary expressions share.
-pub mod Words

@@ -1,0 +1,113 @@
+//! What follows `export`.
+ghost use Rattle.std.specs.Prelude.{◌≡◌, ◌<◌, ◌≤◌, false, true, IfOk};
+ghost use Rattle.ecma_node.specs.Fits.{fits_module_decl};
+ghost use Rattle.ecma_node.specs.Placed.{inner};
+ghost use Rattle.ecma_node.specs.View.{view_module_decl};
+ghost use Rattle.ecma_reading.specs.Source as spec;
+ghost use Rattle.ecma_reading.specs.Modules as reads;
+ghost use Rattle.ecma_parse_state.specs.Answers.{Gives};
+ghost use Rattle.ecma_parse_state.specs.Codes.{code_of};
+ghost use Rattle.ecma_parse_state.specs.Fronts.{machine_of};
+ghost use Rattle.ecma_parse_state.specs.Stands.{from, stand};
+ghost use Rattle.ecma_parse_programs.specs.Steps.{after_by, decl_by, listed_by};
+
+use crate::defaults::export_default;
+use crate::exportable::exportable;
+use crate::exports::{export_list, export_star};
+use crate::openings::starts_declaration;
+use ecma_node::{ExportDecl, ModuleDecl};
+use ecma_parse_base::Nested;
+use ecma_parse_state::code::in_list;
+use ecma_parse_state::{Around, Failure, Parser, kinds};
+use ecma_token::BytePos;
+use ecma_tokens::Tokens;
+
+/// A declaration that is exported.
+#[inline(never)]
+#[tactic(auto, using(ecma_parse_state::proofs::Marks::marks), unfolding(crate::specs::Steps::decl_by))]
+pub fn export_decl<'a, I: Tokens<'a> + Drop, N: Nested<'a, I>>(
+    p: &mut Parser<'a, I>,
+    nested: &N,
+    code: Around,
+    start: BytePos,
+) -> Result<ModuleDecl, Failure>
+    requires ready { N.ready nested.now }
+    ensures value { Gives (λ x. (view_module_decl inner x, stand I.state p.new)) result (decl_by (machine_of I.machine) (N.reads nested.now I.State I.machine) (code_of code) (from start.0) (stand I.state p.old)) }
+    ensures fits { IfOk result (λ x. fits_module_decl (λ p. p) x) }
+    ensures shorter { IfOk result (λ _. spec.bound (machine_of I.machine) (stand I.state p.new) < spec.bound (machine_of I.machine) (stand I.state p.old)) }
+{
+    let stmt = nested.stmt(p, in_list(code))?;
+    match exportable(stmt.into_inner()) {
+        Some(decl) => Ok(ModuleDecl::ExportDecl(ExportDecl {
+            span: p.since(start),
+            decl,
+        })),
+        None => Err(p.unexpected()),
+    }
+}
+
+/// A star, names in braces, or a declaration.
+#[inline(never)]
+#[tactic(auto, unfolding(crate::specs::Steps::listed_by))]
+pub fn export_listed<'a, I: Tokens<'a> + Drop, N: Nested<'a, I>>(
+    p: &mut Parser<'a, I>,
+    nested: &N,
+    code: Around,
+    start: BytePos,
+) -> Result<ModuleDecl, Failure>
+    requires ready { N.ready nested.now }
+    ensures value { Gives (λ x. (view_module_decl inner x, stand I.state p.new)) result (listed_by (machine_of I.machine) (N.reads nested.now I.State I.machine) (code_of code) (from start.0) (stand I.state p.old)) }
+    ensures fits { IfOk result (λ x. fits_module_decl (λ p. p) x) }
+    ensures shorter { IfOk result (λ _. spec.bound (machine_of I.machine) (stand I.state p.new) < spec.bound (machine_of I.machine) (stand I.state p.old)) }
+{
+    if p.at(kinds::MUL) {
+        return export_star(p, nested, code, start);
+    }
+    if p.at(kinds::LEFT_BRACE) {
+        return export_list(p, nested, code, start);
+    }
+    if starts_declaration(p, nested, in_list(code))? {
+        export_decl(p, nested, code, start)
+    } else {
+        Err(p.unexpected())
+    }
+}
+
+/// What follows `export`.
+#[inline(never)]
+#[tactic(auto, unfolding(crate::specs::Steps::after_by))]
+pub fn after_export<'a, I: Tokens<'a> + Drop, N: Nested<'a, I>>(
+    p: &mut Parser<'a, I>,
+    nested: &N,
+    code: Around,
+    start: BytePos,
+) -> Result<ModuleDecl, Failure>
+    requires ready { N.ready nested.now }
+    ensures value { Gives (λ x. (view_module_decl inner x, stand I.state p.new)) result (after_by (machine_of I.machine) (N.reads nested.now I.State I.machine) (code_of code) (from start.0) (stand I.state p.old)) }
+    ensures fits { IfOk result (λ x. fits_module_decl (λ p. p) x) }
+    ensures shorter { IfOk result (λ _. spec.bound (machine_of I.machine) (stand I.state p.new) < spec.bound (machine_of I.machine) (stand I.state p.old)) }
+{
+    if !p.at(kinds::DEFAULT) {
+        return export_listed(p, nested, code, start);
+    }
+    p.eat_word(code, kinds::DEFAULT)?;
+    p.operand()?;
+    export_default(p, nested, code, start)
+}
+
+/// An export.
+#[tactic(auto, using(crate::proofs::Exported::starts))]
+pub fn export<'a, I: Tokens<'a> + Drop, N: Nested<'a, I>>(
+    p: &mut Parser<'a, I>,
+    nested: &N,
+    code: Around,
+) -> Result<ModuleDecl, Failure>
+    requires ready { N.ready nested.now }
+    ensures value { Gives (λ x. (view_module_decl inner x, stand I.state p.new)) result (reads.export_by (machine_of I.machine) (N.reads nested.now I.State I.machine) (code_of code) (stand I.state p.old)) }
+    ensures fits { IfOk result (λ x. fits_module_decl (λ p. p) x) }
+    ensures shorter { IfOk result (λ _. spec.bound (machine_of I.machine) (stand I.state p.new) < spec.bound (machine_of I.machine) (stand I.state p.old)) }
+{
+    let start = p.lo();
+    p.eat_word(code, kinds::EXPORT)?;
+    after_export(p, nested, code, start)
+}

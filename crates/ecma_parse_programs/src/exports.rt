@@ -1,0 +1,182 @@
+//! Exports (ECMA-262, 16.2.3).
+ghost use Rattle.std.specs.Prelude.{◌≡◌, ◌<◌, ◌≤◌, false, true, IfOk, map};
+ghost use Rattle.ecma_node.specs.Fits.{fits_module_decl};
+ghost use Rattle.ecma_node.specs.Placed.{inner};
+ghost use Rattle.ecma_node.specs.View.{view_export_specifier, view_module_decl};
+ghost use Rattle.ecma_reading.specs.Source as spec;
+ghost use Rattle.ecma_reading.specs.Modules as reads;
+ghost use Rattle.ecma_parse_state.specs.Answers.{Gives, going_on};
+ghost use Rattle.ecma_parse_state.specs.Codes.{code_of};
+ghost use Rattle.ecma_parse_state.specs.Fronts.{machine_of};
+ghost use Rattle.ecma_parse_state.specs.Stands.{from, stand};
+ghost use Rattle.ecma_parse_programs.specs.Steps.{namespace_by};
+
+use crate::names::{export_name, source};
+use ecma_node::{
+    ExportAll, ExportNamedSpecifier, ExportNamespaceSpecifier, ExportSpecifier, ModuleDecl,
+    NamedExport,
+};
+use ecma_parse_base::Nested;
+use ecma_parse_state::operators::EXPORTS_END;
+use ecma_parse_state::{Around, Failure, Parser, kinds};
+use ecma_token::BytePos;
+use ecma_tokens::Tokens;
+
+/// In braces: a name, and perhaps `as` another.
+#[inline(never)]
+#[tactic(auto, using(ecma_parse_state::proofs::Marks::marks), unfolding(ecma_reading::specs::Modules::named_export_item))]
+pub fn named_export<'a, I: Tokens<'a> + Drop, N: Nested<'a, I>>(
+    p: &mut Parser<'a, I>,
+    nested: &N,
+    code: Around,
+) -> Result<ExportSpecifier, Failure>
+    ensures value { Gives (λ x. (view_export_specifier x, stand I.state p.new)) result (reads.named_export_item (machine_of I.machine) (N.reads nested.now I.State I.machine) (code_of code) (stand I.state p.old)) }
+    ensures shorter { IfOk result (λ _. spec.bound (machine_of I.machine) (stand I.state p.new) < spec.bound (machine_of I.machine) (stand I.state p.old)) }
+{
+    let start = p.lo();
+    let orig = export_name(p, nested)?;
+    let exported = if p.at(kinds::AS) {
+        p.eat_word(code, kinds::AS)?;
+        Some(export_name(p, nested)?)
+    } else {
+        None
+    };
+    Ok(ExportSpecifier::Named(ExportNamedSpecifier {
+        span: p.since(start),
+        orig,
+        exported,
+    }))
+}
+
+/// One more name in braces, or their end. Whether another may follow.
+#[inline(never)]
+#[tactic(auto, using(ecma_parse_state::proofs::Marks::marks), unfolding(ecma_reading::specs::Modules::specifier_step))]
+pub fn export_turn<'a, I: Tokens<'a> + Drop, N: Nested<'a, I>>(
+    p: &mut Parser<'a, I>,
+    nested: &N,
+    code: Around,
+    list: &mut Vec<ExportSpecifier>,
+) -> Result<bool, Failure>
+    ensures value { Gives (λ x. (going_on x (map view_export_specifier list.new.items), stand I.state p.new)) result (reads.specifier_step (machine_of I.machine) (N.reads nested.now I.State I.machine) false (code_of code) (map view_export_specifier list.old.items) (stand I.state p.old)) }
+    ensures shorter { IfOk result (λ _. spec.bound (machine_of I.machine) (stand I.state p.new) < spec.bound (machine_of I.machine) (stand I.state p.old)) }
+{
+    if p.eat(kinds::RIGHT_BRACE)? {
+        return Ok(false);
+    }
+    let item = named_export(p, nested, code)?;
+    list.push(item)?;
+    if p.eat(kinds::COMMA)? {
+        return Ok(true);
+    }
+    p.expect(kinds::RIGHT_BRACE)?;
+    Ok(false)
+}
+
+/// What stands in braces, after the first.
+#[inline(never)]
+#[tactic(auto, using(ecma_parse_state::proofs::Iterate::iterates), unfolding(ecma_reading::specs::Modules::specifiers_by))]
+pub fn named_exports<'a, I: Tokens<'a> + Drop, N: Nested<'a, I>>(
+    p: &mut Parser<'a, I>,
+    nested: &N,
+    code: Around,
+) -> Result<Vec<ExportSpecifier>, Failure>
+    ensures value { Gives (λ x. (map view_export_specifier x.items, stand I.state p.new)) result (reads.specifiers_by (machine_of I.machine) (N.reads nested.now I.State I.machine) false (code_of code) (stand I.state p.old)) }
+    ensures shorter { IfOk result (λ _. spec.bound (machine_of I.machine) (stand I.state p.new) < spec.bound (machine_of I.machine) (stand I.state p.old)) }
+{
+    let mut list = Vec::new(p.alloc);
+    'turns: while export_turn(p, nested, code, &mut list)? {}
+    Ok(list)
+}
+
+/// What another module exports, under one name.
+#[inline(never)]
+#[tactic(auto, using(ecma_parse_state::proofs::Marks::marks), unfolding(crate::specs::Steps::namespace_by))]
+pub fn export_namespace<'a, I: Tokens<'a> + Drop, N: Nested<'a, I>>(
+    p: &mut Parser<'a, I>,
+    nested: &N,
+    code: Around,
+    start: BytePos,
+    star: BytePos,
+) -> Result<ModuleDecl, Failure>
+    requires ready { N.ready nested.now }
+    ensures value { Gives (λ x. (view_module_decl inner x, stand I.state p.new)) result (namespace_by (machine_of I.machine) (N.reads nested.now I.State I.machine) (code_of code) (from start.0) (from star.0) (stand I.state p.old)) }
+    ensures fits { IfOk result (λ x. fits_module_decl (λ p. p) x) }
+    ensures shorter { IfOk result (λ _. spec.bound (machine_of I.machine) (stand I.state p.new) < spec.bound (machine_of I.machine) (stand I.state p.old)) }
+{
+    p.eat_word(code, kinds::AS)?;
+    let name = export_name(p, nested)?;
+    let span = p.since(star);
+    p.eat_word(code, kinds::FROM)?;
+    let from = source(p, nested, code)?;
+    let mut specifiers = Vec::new(p.alloc);
+    specifiers.push(ExportSpecifier::Namespace(ExportNamespaceSpecifier { span, name }))?;
+    Ok(ModuleDecl::ExportNamed(NamedExport {
+        span: p.since(start),
+        specifiers,
+        src: Some(from.src),
+        with_: from.with_,
+    }))
+}
+
+/// `*`: what another module exports, under its names or under one.
+#[inline(never)]
+#[tactic(auto, using(ecma_parse_state::proofs::Marks::marks), unfolding(ecma_reading::specs::Modules::export_star, crate::specs::Steps::namespace_by))]
+pub fn export_star<'a, I: Tokens<'a> + Drop, N: Nested<'a, I>>(
+    p: &mut Parser<'a, I>,
+    nested: &N,
+    code: Around,
+    start: BytePos,
+) -> Result<ModuleDecl, Failure>
+    requires ready { N.ready nested.now }
+    ensures value { Gives (λ x. (view_module_decl inner x, stand I.state p.new)) result (reads.export_star (machine_of I.machine) (N.reads nested.now I.State I.machine) (code_of code) (from start.0) (stand I.state p.old)) }
+    ensures fits { IfOk result (λ x. fits_module_decl (λ p. p) x) }
+    ensures shorter { IfOk result (λ _. spec.bound (machine_of I.machine) (stand I.state p.new) < spec.bound (machine_of I.machine) (stand I.state p.old)) }
+{
+    let star = p.lo();
+    p.expect(kinds::MUL)?;
+    if p.at(kinds::AS) {
+        return export_namespace(p, nested, code, start, star);
+    }
+    p.eat_word(code, kinds::FROM)?;
+    let from = source(p, nested, code)?;
+    Ok(ModuleDecl::ExportAll(ExportAll {
+        span: p.since(start),
+        src: from.src,
+        with_: from.with_,
+    }))
+}
+
+/// Names in braces, of this module or another.
+#[inline(never)]
+#[tactic(auto, using(ecma_parse_state::proofs::Marks::marks, ecma_parse_base::proofs::Packs::packs), unfolding(ecma_reading::specs::Modules::export_list))]
+pub fn export_list<'a, I: Tokens<'a> + Drop, N: Nested<'a, I>>(
+    p: &mut Parser<'a, I>,
+    nested: &N,
+    code: Around,
+    start: BytePos,
+) -> Result<ModuleDecl, Failure>
+    requires ready { N.ready nested.now }
+    ensures value { Gives (λ x. (view_module_decl inner x, stand I.state p.new)) result (reads.export_list (machine_of I.machine) (N.reads nested.now I.State I.machine) (code_of code) (from start.0) (stand I.state p.old)) }
+    ensures fits { IfOk result (λ x. fits_module_decl (λ p. p) x) }
+    ensures shorter { IfOk result (λ _. spec.bound (machine_of I.machine) (stand I.state p.new) < spec.bound (machine_of I.machine) (stand I.state p.old)) }
+{
+    p.expect(kinds::LEFT_BRACE)?;
+    let specifiers = named_exports(p, nested, code)?;
+    if p.at(kinds::FROM) {
+        p.eat_word(code, kinds::FROM)?;
+        let from = source(p, nested, code)?;
+        return Ok(ModuleDecl::ExportNamed(NamedExport {
+            span: p.since(start),
+            specifiers,
+            src: Some(from.src),
+            with_: from.with_,
+        }));
+    }
+    p.end_of(code, EXPORTS_END)?;
+    Ok(ModuleDecl::ExportNamed(NamedExport {
+        span: p.since(start),
+        specifiers,
+        src: None,
+        with_: None,
+    }))
+}

@@ -1,3 +1,0 @@
--- What imports and exports share.
-pub mod Sources
-pub mod Attributes

@@ -1,0 +1,64 @@
+-- What a parser that is new on a source of tokens answers, by the grammar alone: the statements of the law.
+use Rattle.std.specs.Prelude.{◌≡◌, ◌≢◌, ◌≤◌, ◌++◌, ℕ, Bool, false, List, Option, Result, Ok, Err}
+use Rattle.ecma_token.specs.declared.error.Error.{Error}
+use Rattle.ecma_token.specs.declared.error.SyntaxError.{SyntaxError}
+use Rattle.ecma_token.specs.declared.error.SyntaxError.TheVariants as kinds
+use Rattle.ecma_token.specs.declared.syntax.EsSyntax.{EsSyntax}
+use Rattle.ecma_token.specs.Tokens.{Spot}
+use Rattle.ecma_tokens.specs.Machine as tokens
+use Rattle.ecma_tokens.specs.Machine.{Source}
+use Rattle.ecma_tree.specs.Tree.{Tree}
+use Rattle.ecma_nesting.specs.Nesting.{nesting}
+use Rattle.ecma_early.specs.Early.{early_errors}
+use Rattle.ecma_reading.specs.Source.{Fault, Unexpected, TooDeep, Machine}
+use Rattle.ecma_spells.specs.Text.{code_of}
+use Rattle.ecma_parse_state.specs.Fronts.{Front, told_of, machine_of}
+use Rattle.ecma_parse_state.specs.declared.parser.Parser.{Parser}
+use Rattle.ecma_parse_entries.specs.Within.{program_within}
+use Rattle.ecma_sources_of.specs.Constant.{Constant}
+use Rattle.ecma_sources_of.specs.Standing.{Rereading}
+use Rattle.ecma_parsed.specs.Parsed.{EachDerived}
+use Rattle.ecma_parsed.specs.Settled.{SettledBy}
+use Rattle.ecma_parser.specs.Answers.{Parses}
+use Rattle.ecma_parser.specs.Entries.{syntax_in, limit_in, first_of, opened}
+use Rattle.ecma_parser.specs.declared.entries.Entries.{Entries}
+
+-- This tree is answered, but for want of memory.
+abbrev pub Comes : {X : Type 0} → (X → Tree) → Tree → Result X Error → Type 0
+Comes view t (Ok x) = view x ≡ t
+Comes view t (Err e) = e.kind ≢ kinds.Memory → ⊥
+
+-- Where each answer of a reading tells something, so does a fault of its kind: TooDeep what reading too deep tells, any other but want of memory what an
+-- unexpected token tells. Of want of memory nothing is said.
+pub record Refused (By : Result Tree Fault → Type 0) (k : SyntaxError) : Type 0 where
+  pub deep : k ≡ kinds.TooDeep → By (Err TooDeep)
+  pub fault : k ≢ kinds.Memory → k ≢ kinds.TooDeep → By (Err Unexpected)
+
+-- A tree is answered of which that holds, and its early errors come behind the faults that were recorded; or a fault is answered, and none is recorded.
+abbrev pub AnsweredBy : {X : Type 0} → (Result Tree Fault → Type 0) → (X → Tree) → EsSyntax → Result X Error → List Error → List Error → Type 0
+AnsweredBy By view syntax (Ok x) old new = By (Ok (view x)) × (new ≡ old ++ early_errors syntax (view x))
+AnsweredBy By view syntax (Err e) old new = Refused By e.kind × (new ≡ old)
+
+module _ {S : Type 0} (m : Machine S) (limit : ℕ) (modules : Bool) (syntax : EsSyntax) (s : S) {X : Type 0} (view : X → Tree) where
+  -- An entry's answer, and the faults before and after it, by the grammar. The tree is the only one that is derived, within the limit; a fault comes only where
+  -- none of any nesting is, and too deep only where each that is nests deeper.
+  pub record Answered (result : Result X Error) (old new : List Error) : Type 0 where
+    pub answer : AnsweredBy (SettledBy m limit modules syntax s) view syntax result old new
+    -- what is derived from tokens that the source hands out, within the limit, is answered
+    pub found : EachDerived m modules syntax s (λ t. nesting t ≤ limit → Comes view t result)
+
+module _ {I S : Type 0} (m : tokens.Machine S) (state : I → Source S) where
+  -- in front of the first token of an entry's source, which was told the code of a script, or of a module
+  abbrev pub front_of : Bool → Entries (Parser I) → Front S
+  front_of modules e = (first_of m (told_of (code_of modules (syntax_in state e)).context (state e.reading.input))).source
+
+  -- What the entry of scripts promises, or that of modules, of its answer and of the faults before and after it.
+  abbrev pub Promised : {X : Type 0} → (X → Tree) → Bool → Entries (Parser I) → Result X Error → List Error → List Error → Type 0
+  Promised view modules e result old new = let syntax = syntax_in state e in let code = code_of modules syntax in
+      Parses view syntax result (program_within (machine_of m) (limit_in e) modules code (opened m state code.context e)) old new
+
+  -- A parser that read no token yet, on a good source of tokens, answers by the grammar: what an entry promises is so much.
+  abbrev pub EntriesAnswer : (Good : Source S → Type 0) (Same : Source S → Source S → Type 0) (Last : Option Spot → Source S → Type 0) {X : Type 0} → (X → Tree) → Type 0
+  EntriesAnswer Good Same Last {X} view = (modules : Bool) → Constant m Good Same modules → Rereading m Good Same Last → (e : Entries (Parser I)) → e.started ≡ false → Good (state e.reading.input)
+      → (result : Result X Error) (old new : List Error) → Promised view modules e result old new
+      → Answered (machine_of m) (limit_in e) modules (syntax_in state e) (front_of modules e) view result old new

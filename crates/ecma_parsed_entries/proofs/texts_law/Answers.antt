@@ -1,8 +1,0 @@
-use Rattle.ecma_parsed_entries.proofs.TextLemmas.{texts_answered, new_answered}
-use Rattle.ecma_parsed_entries.proofs.texts_law.Goals as goal
-
-pub returns-clause-answer : goal.returns-clause-answer
-returns-clause-answer g c = texts_answered g.I.Lexed.state g.I.Lexed.view
-
-pub returns-clause-made : goal.returns-clause-made
-returns-clause-made g c = new_answered g.I.Lexed.state g.I.Lexed.view
