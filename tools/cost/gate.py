@@ -1,10 +1,11 @@
 #!/usr/bin/env python3
 """What the gate pays for some crates: python3 tools/cost/gate.py [--jobs N] [--room FOLDER] NAME..
 
-Copies the repository, proves these crates and the libraries of it below them there from nothing, each by the commands that `rt ci` runs (the libraries
-below as statements, one process a check), N crates side by side, and prints the seconds of the processor that each took as it ends, and in the
-end the sum of those that were named. Tests, edits and runs are not in it. With --room, the copy is made in that folder and stays there, and what
-an earlier call proved in it is not proved again.
+Copies the repository, proves these crates with their tests and the libraries of it below them there from nothing, each by the commands that `rt ci`
+runs (the libraries below as statements), and runs the programs and the tests. N processes work side by side, first on the crates with the longest
+chain of others behind them; a check gets those that no other waits for. Prints the seconds of the processor that each crate took as it ends, and in
+the end the sum of those that were named. Edits are not in it. With --room, the copy is made in that folder and stays there, and what an earlier call
+proved in it is not proved again.
 
 A virtual processor may do half as much in a second as a minute before, when others share the machine. So a loop of a million turns is timed every
 15 seconds, and the sum is also told as it were had each second done as much as those of this run in which the loop was quickest (the twentieth part
@@ -35,8 +36,8 @@ def load_rt():
     return made
 
 
-def prove(room, name):
-    """Proves one crate of the copy as `rt ci` does, and returns its status."""
+def prove(room, name, jobs):
+    """Proves one crate of the copy and its tests as `rt ci` does, by so many processes, runs them, and returns the status."""
     rt = load_rt()
     rt.rtlib.stop = rt.stop
     # (its first call sets a signal's handler, which only the main thread may)
@@ -48,19 +49,32 @@ def prove(room, name):
     crate = next(it for it in rt.rtlib.crates_below(room) if it.name == name)
     rt.read_files(crate)
     os.makedirs(f"{crate.folder}/out", exist_ok=True)
-    return crate.ci(["--jobs", "1"], False)
+    for tests in (False, True):
+        if tests and not crate.has_tests():
+            continue
+        status = crate.ci(["--jobs", str(jobs)], tests)
+        if status:
+            return status
+        made = f"{crate.folder}/out/{crate.name}{'_tests' if tests else ''}"
+        ends = [it for it in rt.BACKENDS.values() if (tests or crate.is_program) and os.path.isfile(made + it)]
+        if not all(rt.run(crate, tests, it) for it in ends):
+            return 1
+    return 0
 
 
 def copy(room):
-    """Copies what a check reads; a crate's out/ is left as it is."""
+    """Copies what a check reads and what a run is given; a crate's out/ is left as it is."""
     for name in ("crates.txt", "HANDLES"):
         shutil.copy(f"{ROOT}/{name}", room)
     for name in os.listdir(f"{ROOT}/crates"):
-        for part in ("src", "specs", "proofs"):
+        for part in ("src", "specs", "proofs", "data"):
             of, to = f"{ROOT}/crates/{name}/{part}", f"{room}/crates/{name}/{part}"
             shutil.rmtree(to, ignore_errors=True)
             if os.path.isdir(of):
                 shutil.copytree(of, to)
+        for part in ("args", "stdin", "stdout", "status"):
+            if os.path.isfile(f"{ROOT}/crates/{name}/{part}"):
+                shutil.copy(f"{ROOT}/crates/{name}/{part}", f"{room}/crates/{name}/{part}")
 
 
 def wanted(names, below):
@@ -78,11 +92,20 @@ def wanted(names, below):
     return found
 
 
-def start(room, name):
-    """Starts the check of one crate."""
+def longest_first(names, below):
+    """These crates, first those with the longest chain of others behind them."""
+    listed, behind = chain.seconds(), {}
+    for name in reversed(names):
+        users = (behind[it] for it in names if name in below[it])
+        behind[name] = listed.get(name, 60) + max(users, default=0)
+    return sorted(names, key=lambda it: -behind[it])
+
+
+def start(room, name, jobs):
+    """Starts the check of one crate by so many processes."""
     with open(f"{room}/{name}.log", "w") as log:
         how = {"stdout": log, "stderr": subprocess.STDOUT, "stdin": subprocess.DEVNULL}
-        return subprocess.Popen([sys.executable, os.path.abspath(__file__), "--room", room, "--alone", name], **how)
+        return subprocess.Popen([sys.executable, os.path.abspath(__file__), "--room", room, "--jobs", str(jobs), "--alone", name], **how)
 
 
 class Pace(threading.Thread):
@@ -113,19 +136,24 @@ class Pace(threading.Thread):
 
 def run_all(room, names, below, jobs):
     """Proves these crates, as many side by side as asked, and returns the seconds that each took, when it began and when it ended."""
-    took, running, left = {}, {}, [it for it in names if not os.path.exists(f"{room}/{it}.proved")]
+    took, running = {}, {}
+    left = [it for it in longest_first(names, below) if not os.path.exists(f"{room}/{it}.proved")]
     done = set(names) - set(left)
     while left or running:
         ready = [it for it in left if all(dep in done for dep in below[it])]
-        for name in ready[: jobs - len(running)]:
+        for at, name in enumerate(ready):
+            idle = jobs - sum(each for _, _, _, each in running.values())
+            if not idle:
+                break
             left.remove(name)
-            started = start(room, name)
-            running[started.pid] = name, started, time.time()
+            each = max(1, idle // (len(ready) - at))
+            started = start(room, name, each)
+            running[started.pid] = name, started, time.time(), each
         pid, status, used = os.wait4(-1, 0)
-        name, started, began = running.pop(pid)
+        name, started, began, _ = running.pop(pid)
         started.returncode = os.waitstatus_to_exitcode(status)
         if started.returncode:
-            for _, other, _ in running.values():
+            for _, other, _, _ in running.values():
                 other.terminate()
             with open(f"{room}/{name}.log", errors="replace") as log:
                 sys.exit(f"{log.read()}gate: {name} is not proved")
@@ -138,20 +166,20 @@ def run_all(room, names, below, jobs):
 
 def main():
     words = argparse.ArgumentParser(description=__doc__, formatter_class=argparse.RawDescriptionHelpFormatter)
-    words.add_argument("--jobs", type=int, default=2)
+    words.add_argument("--jobs", type=int)
     words.add_argument("--room")
     words.add_argument("--alone", action="store_true", help=argparse.SUPPRESS)
     words.add_argument("names", nargs="+", metavar="NAME")
     asked = words.parse_args()
     if asked.alone:
-        return prove(asked.room, asked.names[0])
+        return prove(asked.room, asked.names[0], asked.jobs or 1)
     room = asked.room or tempfile.mkdtemp(prefix="gate-")
     os.makedirs(room, exist_ok=True)
     try:
         copy(room)
         below, pace = chain.rows(), Pace()
         pace.start()
-        took = run_all(room, wanted(asked.names, below), below, asked.jobs)
+        took = run_all(room, wanted(asked.names, below), below, asked.jobs or 2)
     finally:
         if not asked.room:
             shutil.rmtree(room, ignore_errors=True)
