@@ -1,6 +1,5 @@
 -- Which settings a run refuses.
 use Rattle.std.specs.Prelude.{ℕ, Bool, true, false, ◌||◌, ◌==◌, nat_lt}
-use Rattle.ecma_token.specs.declared.version.EsVersion.{EsVersion}
 use Rattle.ecma_token.specs.declared.version.EsVersion.TheVariants as v
 use Rattle.ecma_token.specs.declared.syntax.Syntax.{Syntax}
 use Rattle.ecma_token.specs.declared.syntax.Syntax.TheVariants.{Es}
@@ -33,17 +32,9 @@ abbrev pub is_format : Style → Bool
 is_format s.Format = true
 is_format s.Minify = false
 
-abbrev pub is_before_es2015 : EsVersion → Bool
-is_before_es2015 v.Es3 = true
-is_before_es2015 v.Es5 = true
-is_before_es2015 _ = false
-
--- what the first path does not take: modules, formatting, old targets, and the settings of the whole printer
-abbrev pub are_not_yet : Options → Bool
-are_not_yet o = is_module o.goal || is_format o.style || is_before_es2015 o.target || o.ascii_only || o.inline_script || o.positions
-
+-- Positions are not taken yet.
 abbrev pub are_refused : Options → Bool
-are_refused o = are_out_of_range o || are_not_yet o
+are_refused o = are_out_of_range o || o.positions
 
 -- no optional part of the syntax
 abbrev pub plain_syntax : EsSyntax

@@ -62,8 +62,7 @@ impl Default for Indent {
     }
 }
 
-/// The settings of a run. Until the other parts stand, a run takes scripts to be minified, for ES2015
-/// and later, with neither `ascii_only`, `inline_script` nor `positions`.
+/// The settings of a run. Until the places of names are promised, a run refuses `positions`.
 #[derive(Clone, Copy, Debug, PartialEq, Eq, Hash)]
 pub struct Options {
     pub goal: Goal,
@@ -107,7 +106,7 @@ impl Default for Options {
 
 impl Options {
     ghost use Rattle.std.specs.Prelude.{◌≡◌};
-    ghost use Rattle.ecma_command.specs.Options.{are_refused, are_out_of_range, are_not_yet};
+    ghost use Rattle.ecma_command.specs.Options.{are_refused, are_out_of_range};
 
     /// The deepest nesting that may be asked for.
     pub const DEEPEST: u32 = 1024;
@@ -119,7 +118,7 @@ impl Options {
     pub fn are_refused(&self) -> bool
         ensures { result ≡ are_refused self.now }
     {
-        self.are_out_of_range() || self.are_not_yet()
+        self.are_out_of_range() || self.positions
     }
 
     fn are_out_of_range(&self) -> bool
@@ -130,16 +129,5 @@ impl Options {
             || self.nesting == 0
             || self.nesting > Options::DEEPEST
             || self.indent.width() > Options::WIDEST
-    }
-
-    fn are_not_yet(&self) -> bool
-        ensures { result ≡ are_not_yet self.now }
-    {
-        self.goal == Goal::Module
-            || self.style == Style::Format
-            || self.target < EsVersion::Es2015
-            || self.ascii_only
-            || self.inline_script
-            || self.positions
     }
 }
