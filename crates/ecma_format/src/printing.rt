@@ -42,7 +42,8 @@ fn blanks(count: u8) -> &'static str
         5 => "     ",
         6 => "      ",
         7 => "       ",
-        _ => "        ",
+        8 => "        ",
+        _ => unreachable!(),
     }
 }
 
@@ -60,7 +61,8 @@ fn tabs(count: u8) -> &'static str
         5 => "\t\t\t\t\t",
         6 => "\t\t\t\t\t\t",
         7 => "\t\t\t\t\t\t\t",
-        _ => "\t\t\t\t\t\t\t\t",
+        8 => "\t\t\t\t\t\t\t\t",
+        _ => unreachable!(),
     }
 }
 

@@ -4,20 +4,28 @@ use Rattle.std.specs.Prelude.{IfSome}
 use Rattle.std.specs.Io.KnownBytes.{Consumes, IsAtEnd, Appends}
 use Rattle.std.proofs.KnownBytes.{Consumes-all}
 use Rattle.ecma_command.specs.declared.options.Options.{Options}
-use Rattle.ecma_front.specs.declared.fault.Fault.{Fault}
-use Rattle.ecma_front.specs.declared.fault.Fault.TheVariants as f
+use Rattle.ecma_format.specs.declared.fault.Fault.{Fault}
+use Rattle.ecma_format.specs.declared.fault.Fault.TheVariants as f
 use Rattle.ecma_command.specs.Options.{are_refused}
-use Rattle.ecma_front.specs.Faults.{is_text_fault, is_refusal, is_failure, is_read_fault, is_write_fault}
+use Rattle.ecma_format.specs.Faults.{is_text_fault, is_refusal, is_failure, is_read_fault, is_write_fault}
+use Rattle.std.proofs.Common.{inl, inr, chars}
+use Rattle.ecma_token.specs.Dialect.{parts_of}
+use Rattle.ecma_token.specs.declared.error.Error.{Error}
+use Rattle.ecma_early.specs.Early.{early_errors}
+use Rattle.ecma_format.specs.Programs.{IsFaulty, IsProgramOf, Spells}
+use Rattle.ecma_format.specs.Layouts.{is_printable}
 use Rattle.ecma_front.specs.Command.{IsUnread}
-use Rattle.ecma_front.specs.Tree.{Tree}
-use Rattle.ecma_front.specs.Run.{Answers, IsReadable, IsRefused, IsScriptOf, SucceedsExactly, WritesBeginning, WritesScript, longest_text, written_under}
+use Rattle.ecma_tree.specs.Tree.{Tree}
+use Rattle.ecma_format.specs.Layouts.{layout}
+use Rattle.ecma_format.specs.Formats.{IsProgramIn, IsRefused, longest_text}
+use Rattle.ecma_front.specs.Run.{Answers, IsReadable, SucceedsExactly, WritesBeginning, WritesProgram}
 
 -- what was kept of a reader that was read to its end is what it had
 pub kept_all : (a b : Option (List ℕ)) (kept : List ℕ) → Consumes a b kept → IsAtEnd b → IfSome a (λ bytes. kept ≡ bytes)
 kept_all a b kept consumed end = Consumes-all a b kept [] kept consumed end refl
 
 text_fault_at : (P : Type 0) (options : Options) (bytes : List ℕ) (before after : Option (List ℕ)) (fault : Fault) → is_text_fault fault ≡ true
-    → IsRefused options.nesting bytes fault → length bytes ≤ longest_text → Answers {P = P} options (Some bytes) before after (Err fault)
+    → IsRefused options bytes fault → length bytes ≤ longest_text → Answers {P = P} options (Some bytes) before after (Err fault)
 text_fault_at P options bytes before after (f.NotUtf8 n) is h fits = (h, fits)
 text_fault_at P options bytes before after (f.Syntax e) is h fits = (h, fits)
 text_fault_at P options bytes before after f.TooDeep is h fits = (h, fits)
@@ -26,7 +34,7 @@ text_fault_at P options bytes before after (f.Read k) is h fits = absurd (cc)
 text_fault_at P options bytes before after f.TooLong is h fits = absurd (cc)
 text_fault_at P options bytes before after (f.Write k) is h fits = absurd (cc)
 text_fault_at P options bytes before after f.Position is h fits = absurd (cc)
-text_fault_at P options bytes before after f.Node is h fits = absurd (cc)
+text_fault_at P options bytes before after f.Node is h fits = (h, fits)
 text_fault_at P options bytes before after f.Options is h fits = absurd (cc)
 
 unknown_text_fault : (P : Type 0) (options : Options) (before after : Option (List ℕ)) (fault : Fault) → is_text_fault fault ≡ true → Answers {P = P} options None before after (Err fault)
@@ -43,22 +51,22 @@ unknown_text_fault P options before after f.Options is = tt
 
 -- a text that is refused
 pub text_fault_answers : (P : Type 0) (options : Options) (input before after : Option (List ℕ)) (kept : List ℕ) (fault : Fault) → IfSome input (λ bytes. kept ≡ bytes)
-    → is_text_fault fault ≡ true → IsRefused options.nesting kept fault → length kept ≤ longest_text → Answers {P = P} options input before after (Err fault)
+    → is_text_fault fault ≡ true → IsRefused options kept fault → length kept ≤ longest_text → Answers {P = P} options input before after (Err fault)
 text_fault_answers P options None before after kept fault same is h fits = unknown_text_fault P options before after fault is
 text_fault_answers P options (Some bytes) before after kept fault same is h fits =
-    text_fault_at P options bytes before after fault is (subst (λ (bs : List ℕ). IsRefused options.nesting bs fault) same h) (subst (λ (bs : List ℕ). length bs ≤ longest_text) same fits)
+    text_fault_at P options bytes before after fault is (subst (λ (bs : List ℕ). IsRefused options bs fault) same h) (subst (λ (bs : List ℕ). length bs ≤ longest_text) same fits)
 
 -- a text that is written
-pub script_answers : (options : Options) (input before after : Option (List ℕ)) (kept out : List ℕ) → IfSome input (λ bytes. kept ≡ bytes)
-    → ((xs : List Tree) × IsScriptOf options.nesting kept xs × (out ≡ written_under options xs)) → length kept ≤ longest_text
-    → Appends before after out → IfSome input (λ bytes. WritesScript options bytes before after)
-script_answers options None before after kept out same h fits sent = tt
-script_answers options (Some bytes) before after kept out same h fits sent =
-    subst (λ (bs : List ℕ). WritesScript options bs before after) same (fits, (h.0, h.1, subst (Appends before after) h.2 sent))
+pub program_answers : (options : Options) (input before after : Option (List ℕ)) (kept out : List ℕ) → IfSome input (λ bytes. kept ≡ bytes)
+    → ((t : Tree) × IsProgramIn options kept t × (out ≡ layout options t)) → length kept ≤ longest_text
+    → Appends before after out → IfSome input (λ bytes. WritesProgram options bytes before after)
+program_answers options None before after kept out same h fits sent = tt
+program_answers options (Some bytes) before after kept out same h fits sent =
+    subst (λ (bs : List ℕ). WritesProgram options bs before after) same (fits, (h.0, h.1, subst (Appends before after) h.2 sent))
 
 -- a text of which a beginning is written
 pub beginning_answers : (options : Options) (input before after : Option (List ℕ)) (kept out : List ℕ) → IfSome input (λ bytes. kept ≡ bytes)
-    → ((xs : List Tree) × IsScriptOf options.nesting kept xs × (out ≡ written_under options xs)) → length kept ≤ longest_text
+    → ((t : Tree) × IsProgramIn options kept t × (out ≡ layout options t)) → length kept ≤ longest_text
     → ((n : ℕ) × Appends before after (take n out)) → IfSome input (λ bytes. WritesBeginning options bytes before after)
 beginning_answers options None before after kept out same h fits sent = tt
 beginning_answers options (Some bytes) before after kept out same h fits sent =
@@ -80,7 +88,7 @@ write_fault_is P options input before after f.Options is h = absurd (cc)
 
 -- a writer that failed
 pub write_fault_answers : (P : Type 0) (options : Options) (input before after : Option (List ℕ)) (kept out : List ℕ) (fault : Fault) → IfSome input (λ bytes. kept ≡ bytes)
-    → ((xs : List Tree) × IsScriptOf options.nesting kept xs × (out ≡ written_under options xs)) → length kept ≤ longest_text
+    → ((t : Tree) × IsProgramIn options kept t × (out ≡ layout options t)) → length kept ≤ longest_text
     → ((n : ℕ) × Appends before after (take n out)) → is_write_fault fault ≡ true → Answers {P = P} options input before after (Err fault)
 write_fault_answers P options input before after kept out fault same h fits sent is =
     write_fault_is P options input before after fault is (beginning_answers options input before after kept out same h fits sent)
@@ -101,12 +109,27 @@ text_fault_no_read f.Options is = refl
 pub text_fault_no_settings : (fault : Fault) → is_text_fault fault ≡ true → fault ≡ f.Options → ⊥
 text_fault_no_settings fault is e = let no = ap is_text_fault e in cc
 
--- a text that is refused is spelled by no script within the limit, or is too long
-unread_at : (options : Options) (bytes : List ℕ) (fault : Fault) → is_refusal fault ≡ true → IsRefused options.nesting bytes fault → IsUnread options bytes
-unread_at options bytes (f.NotUtf8 n) is h = λ xs s deep fits. h.0 s.0
-unread_at options bytes f.TooLong is h = λ xs s deep fits. omega arith
-unread_at options bytes (f.Syntax e) is h = λ xs s deep fits. h.1 xs s
-unread_at options bytes f.TooDeep is h = λ xs s deep fits. let past = h.1 xs s in omega arith
+-- no tree spells a text that has a fault
+faulty : (options : Options) (text : List ℕ) (e : Error) (t : Tree) → IsFaulty options text e → Spells options t text → ⊥
+faulty options text e t (inl none) s = none t s.reads
+faulty options text e t (inr one) s =
+    let same = one.1.1.1.1.0 t s.reads in
+    let list = one.1.1.1.1.1 in
+    let clean = ap (λ (u : Tree). early_errors (parts_of options.syntax) u) same in
+    absurd (cc (list, clean, s.clean))
+
+-- a program of which a part has no text can't be printed
+no_text : (options : Options) (text : List ℕ) → ((t : Tree) × IsProgramOf options text t × (is_printable options t ≡ false)) → ((t : Tree) × Spells options t text × (is_printable options t ≡ true)) → ⊥
+no_text options text p r =
+    let same = ap (λ (u : Tree). is_printable options u) (p.1.0.1 r.0 r.1.0.reads) in
+    absurd (cc (same, p.1.1, r.1.1))
+
+-- a text that is refused is spelled by no program within the limit, or is too long
+unread_at : (options : Options) (bytes : List ℕ) (fault : Fault) → is_refusal fault ≡ true → IsRefused options bytes fault → IsUnread options bytes
+unread_at options bytes (f.NotUtf8 n) is h = λ t u s fits. h.0 u
+unread_at options bytes f.TooLong is h = λ t u s fits. omega arith
+unread_at options bytes (f.Syntax e) is h = λ t u s fits. faulty options (chars bytes) e t h.1 s
+unread_at options bytes f.TooDeep is h = λ t u s fits. let past = h.1 t s.reads in omega (arith, past, s.within)
 unread_at options bytes (f.Read k) is h = absurd (cc)
 unread_at options bytes f.Memory is h = absurd (cc)
 unread_at options bytes (f.Write k) is h = absurd (cc)
@@ -115,7 +138,7 @@ unread_at options bytes f.Node is h = absurd (cc)
 unread_at options bytes f.Options is h = absurd (cc)
 
 refused_as : (P : Type 0) (options : Options) (bytes : List ℕ) (before after : Option (List ℕ)) (fault : Fault) → is_refusal fault ≡ true
-    → Answers {P = P} options (Some bytes) before after (Err fault) → IsRefused options.nesting bytes fault
+    → Answers {P = P} options (Some bytes) before after (Err fault) → IsRefused options bytes fault
 refused_as P options bytes before after (f.NotUtf8 n) is h = h.0
 refused_as P options bytes before after f.TooLong is h = h.0
 refused_as P options bytes before after (f.Syntax e) is h = h.0
@@ -149,15 +172,15 @@ refusal_no_settings fault is e = let no = ap is_refusal e in cc
 
 refused_unreadable : (P : Type 0) (options : Options) (bytes : List ℕ) (before after : Option (List ℕ)) (fault : Fault) → is_failure fault ≡ false
     → (fault ≡ f.Options → ⊥) → Answers {P = P} options (Some bytes) before after (Err fault) → IsReadable options bytes → ⊥
-refused_unreadable P options bytes before after (f.NotUtf8 n) is not h r = h.0.0 r.1.1.0
+refused_unreadable P options bytes before after (f.NotUtf8 n) is not h r = h.0.0 r.1.0
 refused_unreadable P options bytes before after f.TooLong is not h r = omega (arith, h.0, r.0)
-refused_unreadable P options bytes before after (f.Syntax e) is not h r = h.0.1 r.1.0 r.1.1
-refused_unreadable P options bytes before after f.TooDeep is not h r = let past = h.0.1 r.1.0 r.1.1 in omega (arith, past, r.1.2)
+refused_unreadable P options bytes before after (f.Syntax e) is not h r = faulty options (chars bytes) e r.1.1.0 h.0.1 r.1.1.1.0
+refused_unreadable P options bytes before after f.TooDeep is not h r = let past = h.0.1 r.1.1.0 r.1.1.1.0.reads in omega (arith, past, r.1.1.1.0.within)
 refused_unreadable P options bytes before after (f.Read k) is not h r = cc
 refused_unreadable P options bytes before after f.Memory is not h r = cc
 refused_unreadable P options bytes before after (f.Write k) is not h r = cc
 refused_unreadable P options bytes before after f.Position is not h r = h.0
-refused_unreadable P options bytes before after f.Node is not h r = h.0
+refused_unreadable P options bytes before after f.Node is not h r = no_text options (chars bytes) h.0.1 r.1.1
 refused_unreadable P options bytes before after f.Options is not h r = not refl
 
 -- an answer and what the settings say of it make success exact
@@ -165,7 +188,7 @@ pub answers_exactly : (P : Type 0) (options : Options) (input before after : Opt
     → (result ≡ Err f.Options → are_refused options ≡ true) → Answers options input before after result → SucceedsExactly options input result
 answers_exactly P options None before after result settings h = λ taken found. tt
 answers_exactly P options (Some bytes) before after (Ok x) settings h = λ taken found.
-    (λ _. (h.1.0, (h.1.1.0, h.1.1.1.0, h.1.1.1.1)), λ _. refl)
+    (λ _. (h.1.0, (h.1.1.1.0.0, (h.1.1.0, h.1.1.1.0.1.0.0, h.1.1.1.0.1.1))), λ _. refl)
 answers_exactly P options (Some bytes) before after (Err fault) settings h = λ taken found.
     (λ e. absurd (cc), λ r. absurd (refused_unreadable P options bytes before after fault found (λ e. let refused = settings (ap (λ (x : Fault). Err x) e) in cc) h r))
 

@@ -3,15 +3,16 @@ use Rattle.std.specs.Prelude.{◌≡◌, ℕ, ◌<◌, ◌≤◌, ◌-◌, ◌^�
 use Rattle.std.specs.Str.{chars, IsUtf8, IsValidUpTo}
 use Rattle.ecma_token.specs.declared.place.LineCol.{LineCol}
 use Rattle.ecma_command.specs.declared.options.Options.{Options}
-use Rattle.ecma_front.specs.declared.fault.Fault.{Fault}
-use Rattle.ecma_front.specs.declared.fault.Fault.TheVariants as f
+use Rattle.ecma_tree.specs.Tree.{Tree}
+use Rattle.ecma_format.specs.declared.fault.Fault.{Fault}
+use Rattle.ecma_format.specs.declared.fault.Fault.TheVariants as f
+use Rattle.ecma_format.specs.Programs.{Spells}
+use Rattle.ecma_format.specs.Formats.{longest_text}
 use Rattle.ecma_front.specs.Lines.{place_of}
-use Rattle.ecma_front.specs.Tree.{Tree, nest_script}
-use Rattle.ecma_front.specs.Run.{Spells, longest_text}
 
--- No script within the limit spells the bytes, or they are too many.
+-- No program within the limit spells the bytes, or they are too many.
 abbrev pub IsUnread : Options → List ℕ → Type 0
-IsUnread options bytes = (xs : List Tree) → Spells xs bytes → nest_script xs ≤ options.nesting → length bytes ≤ longest_text → ⊥
+IsUnread options bytes = (t : Tree) → IsUtf8 bytes → Spells options t (chars bytes) → length bytes ≤ longest_text → ⊥
 
 -- Where a fault of a text lies: the part of the text that it is about, the end of the front that is UTF-8, or else the start.
 abbrev pub LiesAt : List ℕ → Fault → LineCol → Type 0

@@ -2,12 +2,12 @@
 ghost use Rattle.std.specs.Prelude.{◌≡◌, ◌≢◌, ◌⊎◌, ◌<◌, ◌-◌, ◌^◌, true, is_some, IfSome, IsUtf8};
 ghost use Rattle.std.specs.Str.{chars};
 ghost use Rattle.ecma_command.specs.Options.{are_refused};
-ghost use Rattle.ecma_front.specs.Faults.{is_refusal};
+ghost use Rattle.ecma_format.specs.Faults.{is_refusal};
 ghost use Rattle.ecma_front.specs.Lines as lines;
-ghost use Rattle.ecma_front.specs.Run.{WritesBeginning, WritesScript};
+ghost use Rattle.ecma_front.specs.Run.{WritesBeginning, WritesProgram};
 ghost use Rattle.ecma_front.specs.Command.{IsUnread, LiesAt};
 
-use crate::fault::Fault;
+use ecma_format::Fault;
 use crate::line_col::place;
 use crate::pipeline::run_kept;
 use ecma_command::Invocation;
@@ -71,7 +71,7 @@ pub fn answer<R: CountedRead, W: CountedWrite, E: Write>(
 ) -> u8
     ensures among { (result ≡ 0) ⊎ ((result ≡ 1) ⊎ (result ≡ 3)) }
     ensures settings { are_refused invocation.now.options ≡ true → (result ≡ 3) × (input.new ≡ input.old) × (output.new ≡ output.old) }
-    ensures written { result ≡ 0 → IfSome (R.remaining input.old) (λ bytes. WritesScript invocation.now.options bytes (W.contents output.old) (W.contents output.new)) }
+    ensures written { result ≡ 0 → IfSome (R.remaining input.old) (λ bytes. WritesProgram invocation.now.options bytes (W.contents output.old) (W.contents output.new)) }
     ensures refused { result ≡ 1 → IfSome (R.remaining input.old) (IsUnread invocation.now.options) }
     ensures unwritten { result ≡ 1 → output.new ≡ output.old }
     ensures begun { result ≡ 3 → (output.new ≡ output.old) ⊎ IfSome (R.remaining input.old) (λ bytes. WritesBeginning invocation.now.options bytes (W.contents output.old) (W.contents output.new)) }

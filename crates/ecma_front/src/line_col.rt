@@ -1,11 +1,21 @@
 //! Lines and columns.
 
-ghost use Rattle.std.specs.Prelude.{◌≡◌};
+ghost use Rattle.std.specs.Prelude.{◌≡◌, ◌<◌, [], ◌∷◌, length, IfSome, IsUtf8, MatchOption};
 ghost use Rattle.std.specs.Str.{chars};
 ghost use Rattle.ecma_front.specs.Lines.{ends_line, place_of};
 
-use crate::script::characters::pop;
 use ecma_token::LineCol;
+
+/// The first character of a text, and what follows it.
+fn pop(text: &str) -> Option<(char, &str)>
+    ensures cut { MatchOption result (chars text.now ≡ []) (λ x. chars text.now ≡ x.0 ∷ chars x.1.now) }
+    ensures text { IfSome result (λ x. IsUtf8 x.1.now) }
+    ensures shorter { IfSome result (λ x. length x.1.now < length text.now) }
+{
+    let mut left = text.chars();
+    let c = left.next()?;
+    Some((c, left.as_str()))
+}
 
 /// Whether a character ends a line, before this text.
 fn ends_line(c: char, rest: &str) -> bool

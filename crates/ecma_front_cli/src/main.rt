@@ -1,4 +1,4 @@
-//! `ecma-front [--script] [--minify] [PATH]`: reads a program from a file or from standard input, and
+//! `ecma-front`: reads a program from a file or from standard input, and
 //! writes it to standard output. What a command line means and what is answered is the library's.
 #![tactic(auto)]
 

@@ -1,4 +1,4 @@
-//! Rows of the first path from text to text: what is written, what is refused and how, and the command line.
+//! Rows of whole runs, from text to text: what is written, what is refused and how, and the command line.
 //! `docs/ROWS.md` has the format, and the comments in `data/` say what each subject answers.
 #![tactic(auto)]
 
@@ -9,7 +9,7 @@ mod texts;
 use ecma_rows::{Answer, Row, Subject, judge_files};
 use std::process::ExitCode;
 
-/// The first path.
+/// Whole runs.
 struct Front;
 
 impl Subject for Front {
@@ -23,7 +23,6 @@ impl Subject for Front {
             "written" => texts::written(row, text, answer),
             "refused" => texts::refused(row, text, answer),
             "fault" => texts::syntax_fault(row, text, answer),
-            "reserved" => texts::reserved(text, answer),
             "nesting" => texts::nesting(text, answer),
             "answer" => command::answer_to(row, text, answer),
             "words" => command::words(row, answer),

@@ -1,7 +1,9 @@
 //! Runs from memory to memory.
 
 use ecma_front::memory::{MemReader, MemWriter};
-use ecma_front::{Failing, Fault, Goal, Options, Style, run_kept};
+use ecma_front::{
+    EsSyntax, Failing, Fault, Goal, Indent, LineEnd, Options, Style, Syntax, run_kept,
+};
 use ecma_rows::Row;
 use std::alloc::Global;
 
@@ -18,11 +20,48 @@ pub fn minify_within(nesting: u32) -> Options {
     }
 }
 
-/// The settings for minifying a script within the limit that the last word of the setting is, or 256.
+/// The settings that the words of a row's setting ask for: without any, those for minifying a script that nests no deeper
+/// than 256. A number behind `within` is another limit.
 pub fn options(row: &Row<'_>) -> Options {
-    match row.setting.rsplit_once(' ') {
+    let taken = match row.setting.rsplit_once(' ') {
         Some((_, last)) => minify_within(last.parse::<u32>().unwrap_or(256)),
         None => minify_within(256),
+    };
+    Options {
+        goal: if row.has("module") {
+            Goal::Module
+        } else {
+            Goal::Script
+        },
+        style: if row.has("format") {
+            Style::Format
+        } else {
+            Style::Minify
+        },
+        ascii_only: row.has("ascii"),
+        inline_script: row.has("inline"),
+        line_end: if row.has("crlf") {
+            LineEnd::CrLf
+        } else {
+            LineEnd::Lf
+        },
+        indent: indent(row),
+        syntax: Syntax::Es(EsSyntax {
+            import_attributes: row.has("attributes"),
+            ..EsSyntax::default()
+        }),
+        ..taken
+    }
+}
+
+/// The step of indentation: four blanks, but with `tab` a tab, and with `blanks` two blanks.
+fn indent(row: &Row<'_>) -> Indent {
+    if row.has("tab") {
+        Indent::Tabs(1)
+    } else if row.has("blanks") {
+        Indent::Blanks(2)
+    } else {
+        Indent::default()
     }
 }
 

@@ -30,53 +30,17 @@ pub fn refused(row: &Row<'_>, text: &[u8], answer: &mut Answer) -> anyhow::Resul
     }
 }
 
-/// What is wrong with the syntax of a text, and where.
+/// What is wrong with the syntax of a text, and where; with `kind` in the setting only what.
 pub fn syntax_fault(row: &Row<'_>, text: &[u8], answer: &mut Answer) -> anyhow::Result<()> {
     let ran = run_all(answer.alloc(), text, options(row))?;
     let Some(Fault::Syntax(error)) = ran.fault else {
         return Err(anyhow::Error::msg("the syntax isn't wrong"));
     };
+    if row.has("kind") {
+        return Ok(answer.say(format_args!("{:?}", error.kind))?);
+    }
     let (lo, hi) = (error.span.lo.0, error.span.hi.0);
     Ok(answer.say(format_args!("{:?} {lo}..{hi}", error.kind))?)
-}
-
-/// Whether a text is written as it is.
-fn stays(alloc: Global, text: &str) -> anyhow::Result<bool> {
-    let ran = run_all(alloc, text.as_bytes(), minify_within(256))?;
-    Ok(ran.fault.is_none() && ran.written.as_slice() == text.as_bytes())
-}
-
-/// Whether the syntax of a text is wrong.
-fn is_wrong(alloc: Global, text: &str) -> anyhow::Result<bool> {
-    let ran = run_all(alloc, text.as_bytes(), minify_within(256))?;
-    Ok(matches!(ran.fault, Some(Fault::Syntax(_))))
-}
-
-/// Where a word is refused, alone and in an expression, and which names that are near it are written as
-/// they are.
-pub fn reserved(text: &[u8], answer: &mut Answer) -> anyhow::Result<()> {
-    let alloc = answer.alloc();
-    let word = str::from_utf8(text)?;
-    for text in [
-        format!(in alloc; "{word}")?,
-        format!(in alloc; "a+{word};")?,
-    ] {
-        if !is_wrong(alloc, text.as_str())? {
-            return Err(anyhow::Error::msg("the word is taken"));
-        }
-    }
-    for name in [
-        format!(in alloc; "{word}s")?,
-        format!(in alloc; "{word}$")?,
-        format!(in alloc; "_{word}")?,
-        format!(in alloc; "{word}\u{200D}")?,
-        format!(in alloc; "{word}{word}")?,
-    ] {
-        if !stays(alloc, name.as_str())? {
-            return Err(anyhow::Error::msg("a longer name is refused"));
-        }
-    }
-    Ok(answer.say("reserved")?)
 }
 
 /// The greatest limit that may be set.

@@ -70,20 +70,6 @@ fn failures_and_refused_settings_answer_3(rt: HostRuntime) -> Result<(), Fail> {
     for (options, read_fails, write_fails, told, written) in [
         (taken, Some(3), None, "read failed\n", ""),
         (taken, None, Some(3), "write failed\n", "a;"),
-        (
-            program(Goal::Module, Style::Minify),
-            None,
-            None,
-            "options refused\n",
-            "",
-        ),
-        (
-            program(Goal::Script, Style::Format),
-            None,
-            None,
-            "options refused\n",
-            "",
-        ),
         (minify_within(0), None, None, "options refused\n", ""),
     ] {
         let ends = ok(&rt, ends(rt.alloc(), b"a;b", read_fails, write_fails));

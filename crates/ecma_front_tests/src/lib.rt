@@ -1,11 +1,9 @@
-//! Tests of `ecma_front` through its public calls, and a slow, plain program beside it that
-//! computes what its definitions say.
+//! Tests of `ecma_front` through its public calls: readers and writers that fail, settings, what is kept, and what the
+//! program prints. What is written is asked by rows.
 #![tactic(auto)]
 
 #[cfg(test)]
 mod command;
-#[cfg(test)]
-mod enumerated;
 #[cfg(test)]
 mod failing;
 #[cfg(test)]
@@ -14,7 +12,5 @@ mod kept;
 mod made;
 #[cfg(test)]
 mod over_memory;
-#[cfg(test)]
-mod plain;
 #[cfg(test)]
 mod settings;

@@ -3,9 +3,7 @@
 
 use crate::made::ok;
 use crate::over_memory::{minify_within, run_at_once};
-use ecma_front::{
-    EsSyntax, EsVersion, Failing, Fault, Goal, Indent, LineEnd, Options, Style, Syntax,
-};
+use ecma_front::{EsSyntax, EsVersion, Failing, Fault, Goal, Indent, LineEnd, Options, Syntax};
 use std::test::Fail;
 
 /// The settings that are taken, with these parts of the syntax.
@@ -35,27 +33,9 @@ fn are_refused_each_alone(rt: HostRuntime) -> Result<(), Fail> {
     let taken = minify_within(256);
     let rows = [
         Options {
-            goal: Goal::Module,
-            ..taken
-        },
-        Options {
-            style: Style::Format,
-            ..taken
-        },
-        Options {
-            ascii_only: true,
-            ..taken
-        },
-        Options {
-            inline_script: true,
-            ..taken
-        },
-        Options {
             positions: true,
             ..taken
         },
-        with_target(EsVersion::Es3),
-        with_target(EsVersion::Es5),
         with_syntax(EsSyntax {
             jsx: true,
             ..EsSyntax::default()
@@ -67,7 +47,6 @@ fn are_refused_each_alone(rt: HostRuntime) -> Result<(), Fail> {
         minify_within(0),
         minify_within(1025),
         minify_within(u32::MAX),
-        Options::default(),
     ];
     for options in rows {
         assert!(rt; options.are_refused(), "{options:?}");
@@ -100,6 +79,20 @@ fn neighbours_are_taken(rt: HostRuntime) -> Result<(), Fail> {
             line_end: LineEnd::CrLf,
             ..minify_within(256)
         },
+        Options {
+            goal: Goal::Module,
+            ..minify_within(256)
+        },
+        Options {
+            ascii_only: true,
+            ..minify_within(256)
+        },
+        Options {
+            inline_script: true,
+            ..minify_within(256)
+        },
+        with_target(EsVersion::Es3),
+        with_target(EsVersion::Es5),
         with_target(EsVersion::Es2015),
         with_target(EsVersion::Es2016),
         with_target(EsVersion::Es2017),

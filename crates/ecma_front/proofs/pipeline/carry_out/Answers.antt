@@ -1,9 +1,8 @@
 use Rattle.std.proofs.Common.{refl, arith, Vec, Global}
 use Rattle.ecma_token.specs.declared.place.BytePos.{BytePos}
 use Rattle.ecma_token.specs.declared.place.LineCol.{LineCol}
-use Rattle.std.specs.String.{string_bytes}
 use Rattle.std.proofs.lemmas.Result.{err_from_is_err_and}
-use Rattle.ecma_front.proofs.Answering.{kept_all, text_fault_answers, script_answers, write_fault_answers, text_fault_no_read, text_fault_no_settings}
+use Rattle.ecma_front.proofs.Answering.{kept_all, text_fault_answers, program_answers, write_fault_answers, text_fault_no_read, text_fault_no_settings}
 use Rattle.ecma_front.proofs.pipeline.carry_out.Goals as goal
 
 pub returns-in_err-text-clause-settings : goal.returns-in_err-text-clause-settings
@@ -28,14 +27,14 @@ returns-in_err-write_all-clause-answer g c =
     let p = err_from_is_err_and c.from_residual-in_err-write_all.result c.from_residual-in_err-write_all.ensures.1 in
     let r = c.in_ok-read_to_end.ensures in
     let same = kept_all _ _ _ r.kept r.whole in
-    rw (p.1, p.2) (write_fault_answers (Vec (BytePos × LineCol) Global) c.args.options _ _ _ c.read_to_end.new.kept.items (string_bytes c.in_ok-text.text) _ same (rw c.as_slice.ensures.value at c.in_ok-text.ensures.answer) (omega (arith, c.read_to_end.new.kept.ok.0, r.fits))
-    (rw c.as_bytes.ensures.value at c.in_err-write_all.ensures.beginning) c.in_err-write_all.ensures.kinds)
+    rw (p.1, p.2) (write_fault_answers (Vec (BytePos × LineCol) Global) c.args.options _ _ _ c.read_to_end.new.kept.items c.in_ok-text.text.items _ same (rw c.as_slice.ensures.value at c.in_ok-text.ensures.answer) (omega (arith, c.read_to_end.new.kept.ok.0, r.fits))
+    (rw c.as_slice-2.ensures.value at c.in_err-write_all.ensures.beginning) c.in_err-write_all.ensures.kinds)
 
 pub returns-clause-answer : goal.returns-clause-answer
 returns-clause-answer g c =
     let r = c.in_ok-read_to_end.ensures in
     let same = kept_all _ _ _ r.kept r.whole in (
       refl,
-      script_answers c.args.options _ _ _ c.read_to_end.new.kept.items (string_bytes c.in_ok-text.text) same (rw c.as_slice.ensures.value at c.in_ok-text.ensures.answer) (omega (arith, c.read_to_end.new.kept.ok.0, r.fits))
-          (rw c.as_bytes.ensures.value at c.in_ok-write_all.ensures.written),
+      program_answers c.args.options _ _ _ c.read_to_end.new.kept.items c.in_ok-text.text.items same (rw c.as_slice.ensures.value at c.in_ok-text.ensures.answer) (omega (arith, c.read_to_end.new.kept.ok.0, r.fits))
+          (rw c.as_slice-2.ensures.value at c.in_ok-write_all.ensures.written),
     )
