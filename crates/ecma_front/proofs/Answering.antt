@@ -4,20 +4,20 @@ use Rattle.std.specs.Prelude.{IfSome}
 use Rattle.std.specs.Io.KnownBytes.{Consumes, IsAtEnd, Appends}
 use Rattle.std.proofs.KnownBytes.{Consumes-all}
 use Rattle.ecma_command.specs.declared.options.Options.{Options}
-use Rattle.ecma_format.specs.declared.fault.Fault.{Fault}
-use Rattle.ecma_format.specs.declared.fault.Fault.TheVariants as f
+use Rattle.ecma_front.specs.declared.fault.Fault.{Fault}
+use Rattle.ecma_front.specs.declared.fault.Fault.TheVariants as f
 use Rattle.ecma_command.specs.Options.{are_refused}
-use Rattle.ecma_format.specs.Faults.{is_text_fault, is_refusal, is_failure, is_read_fault, is_write_fault}
+use Rattle.ecma_front.specs.Faults.{is_text_fault, is_refusal, is_failure, is_read_fault, is_write_fault}
 use Rattle.std.proofs.Common.{inl, inr, chars}
 use Rattle.ecma_token.specs.Dialect.{parts_of}
 use Rattle.ecma_token.specs.declared.error.Error.{Error}
 use Rattle.ecma_early.specs.Early.{early_errors}
-use Rattle.ecma_format.specs.Programs.{IsFaulty, IsProgramOf, Spells}
-use Rattle.ecma_format.specs.Layouts.{is_printable}
+use Rattle.ecma_front.specs.Programs.{IsFaulty, IsProgramOf, Spells}
+use Rattle.ecma_front.specs.Layouts.{is_printable}
 use Rattle.ecma_front.specs.Command.{IsUnread}
 use Rattle.ecma_tree.specs.Tree.{Tree}
-use Rattle.ecma_format.specs.Layouts.{layout}
-use Rattle.ecma_format.specs.Formats.{IsProgramIn, IsRefused, longest_text}
+use Rattle.ecma_front.specs.Layouts.{layout}
+use Rattle.ecma_front.specs.Formats.{IsProgramIn, IsRefused, longest_text}
 use Rattle.ecma_front.specs.Run.{Answers, IsReadable, SucceedsExactly, WritesBeginning, WritesProgram}
 
 -- what was kept of a reader that was read to its end is what it had

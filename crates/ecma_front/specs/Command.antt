@@ -4,10 +4,10 @@ use Rattle.std.specs.Str.{chars, IsUtf8, IsValidUpTo}
 use Rattle.ecma_token.specs.declared.place.LineCol.{LineCol}
 use Rattle.ecma_command.specs.declared.options.Options.{Options}
 use Rattle.ecma_tree.specs.Tree.{Tree}
-use Rattle.ecma_format.specs.declared.fault.Fault.{Fault}
-use Rattle.ecma_format.specs.declared.fault.Fault.TheVariants as f
-use Rattle.ecma_format.specs.Programs.{Spells}
-use Rattle.ecma_format.specs.Formats.{longest_text}
+use Rattle.ecma_front.specs.declared.fault.Fault.{Fault}
+use Rattle.ecma_front.specs.declared.fault.Fault.TheVariants as f
+use Rattle.ecma_front.specs.Programs.{Spells}
+use Rattle.ecma_front.specs.Formats.{longest_text}
 use Rattle.ecma_front.specs.Lines.{place_of}
 
 -- No program within the limit spells the bytes, or they are too many.

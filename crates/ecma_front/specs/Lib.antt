@@ -1,6 +1,11 @@
 -- What is promised: read these in order.
+pub mod Programs
+pub mod Layouts
+pub mod Faults
+pub mod Formats
 pub mod Run
 pub mod Lines
 pub mod Command
--- What reading a reader may answer. No public clause cites it.
+-- What the steps of a run may answer. No public clause cites these.
 pub mod Input
+pub mod Steps

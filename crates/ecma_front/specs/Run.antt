@@ -5,12 +5,12 @@ use Rattle.std.specs.Io.KnownBytes.{Appends}
 use Rattle.ecma_tree.specs.Tree.{Tree}
 use Rattle.ecma_command.specs.declared.options.Options.{Options}
 use Rattle.ecma_command.specs.Options.{are_refused}
-use Rattle.ecma_format.specs.declared.fault.Fault.{Fault}
-use Rattle.ecma_format.specs.declared.fault.Fault.TheVariants as f
-use Rattle.ecma_format.specs.Faults.{answers_fault, is_failure}
-use Rattle.ecma_format.specs.Layouts.{is_printable, layout}
-use Rattle.ecma_format.specs.Programs.{Spells}
-use Rattle.ecma_format.specs.Formats.{IsProgramIn, IsRefused, longest_text}
+use Rattle.ecma_front.specs.declared.fault.Fault.{Fault}
+use Rattle.ecma_front.specs.declared.fault.Fault.TheVariants as f
+use Rattle.ecma_front.specs.Faults.{answers_fault, is_failure}
+use Rattle.ecma_front.specs.Layouts.{is_printable, layout}
+use Rattle.ecma_front.specs.Programs.{Spells}
+use Rattle.ecma_front.specs.Formats.{IsProgramIn, IsRefused, longest_text}
 
 -- no more than the longest text, unless that is what the fault says
 abbrev pub FitsUnless : Fault → List ℕ → Type 0

@@ -2,12 +2,12 @@
 ghost use Rattle.std.specs.Prelude.{◌≡◌, ◌≢◌, ◌⊎◌, ◌<◌, ◌-◌, ◌^◌, true, is_some, IfSome, IsUtf8};
 ghost use Rattle.std.specs.Str.{chars};
 ghost use Rattle.ecma_command.specs.Options.{are_refused};
-ghost use Rattle.ecma_format.specs.Faults.{is_refusal};
+ghost use Rattle.ecma_front.specs.Faults.{is_refusal};
 ghost use Rattle.ecma_front.specs.Lines as lines;
 ghost use Rattle.ecma_front.specs.Run.{WritesBeginning, WritesProgram};
 ghost use Rattle.ecma_front.specs.Command.{IsUnread, LiesAt};
 
-use ecma_format::Fault;
+use crate::fault::Fault;
 use crate::line_col::place;
 use crate::pipeline::run_kept;
 use ecma_command::Invocation;

@@ -2,10 +2,10 @@
 ghost use Rattle.std.specs.Prelude.{◌≡◌, ◌≤◌, ◌<◌, ◌+◌, ◌^◌, [], OnOk, IfErr, IsErrOf, vec_len};
 ghost use Rattle.std.specs.Io.KnownBytes.{Consumes, IsAtEnd};
 ghost use Rattle.ecma_token.specs.Counts.{count_after};
-ghost use Rattle.ecma_format.specs.Faults.{answers_fault, is_read_fault};
+ghost use Rattle.ecma_front.specs.Faults.{answers_fault, is_read_fault};
 ghost use Rattle.ecma_front.specs.Input.{IsInputFault};
 
-use ecma_format::Fault;
+use crate::fault::Fault;
 use ecma_token::CountedRead;
 
 /// The longest text that is read, in bytes: the place after its end still fits `u32`.

@@ -2,9 +2,9 @@
 ghost use Rattle.std.specs.Prelude.{◌≡◌, ℕ, OnOk, OnErr, IfErr, take, true};
 ghost use Rattle.std.specs.Io.KnownBytes.{Appends};
 ghost use Rattle.ecma_token.specs.Counts.{count_after};
-ghost use Rattle.ecma_format.specs.Faults.{answers_fault, is_write_fault};
+ghost use Rattle.ecma_front.specs.Faults.{answers_fault, is_write_fault};
 
-use ecma_format::Fault;
+use crate::fault::Fault;
 use ecma_token::CountedWrite;
 use std::io::ErrorKind;
 

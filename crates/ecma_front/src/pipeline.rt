@@ -3,13 +3,14 @@ ghost use Rattle.std.specs.Prelude.{◌≡◌, ◌↔◌, true, false, [], IsErr
 ghost use Rattle.std.specs.Io.KnownBytes.{Consumes};
 ghost use Rattle.ecma_token.specs.Counts.{count_after};
 ghost use Rattle.ecma_command.specs.Options.{are_refused};
-ghost use Rattle.ecma_format.specs.Faults.{answers_fault, is_read_fault, is_write_fault};
+ghost use Rattle.ecma_front.specs.Faults.{answers_fault, is_read_fault, is_write_fault};
 ghost use Rattle.ecma_front.specs.Run.{Answers, SucceedsExactly};
 
+use crate::fault::Fault;
+use crate::formatted::formatted;
 use crate::input::read_to_end;
 use crate::output::write_all;
 use ecma_command::Options;
-use ecma_format::{Fault, formatted};
 use ecma_token::{BytePos, CountedRead, CountedWrite, LineCol};
 use std::alloc::Global;
 

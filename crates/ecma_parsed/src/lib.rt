@@ -1,6 +1,6 @@
 //! Laws of the parser: what it reads of a source is what the grammar derives from the tokens that the source hands out, exactly; from the first token
 //! of a source on, and of a text through a lexer; and what its entries promise of a new parser is what the grammar says of these. The functions here
-//! are laws alone.
+//! are laws alone. Who uses the parser by them takes it from here too.
 #![tactic(auto)]
 
 ghost use Rattle.ecma_lexing.specs.States.{State};
@@ -14,6 +14,8 @@ ghost use Rattle.ecma_token.specs.Tokens.{Spot};
 ghost use Rattle.ecma_tokens.specs.Machine.{Source, Machine};
 ghost use Rattle.ecma_tree.specs.Tree.{Tree};
 ghost use Rattle.std.specs.Prelude.{Option};
+
+pub use ecma_parser::{PResult, Parser};
 
 use ecma_sources::Sourced;
 use ecma_sources_of::Reread;

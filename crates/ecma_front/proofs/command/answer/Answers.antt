@@ -1,7 +1,7 @@
 use Rattle.std.proofs.Common.{◌≡◌, true, sym, ◌∙◌, Vec, Global}
 use Rattle.ecma_token.specs.declared.place.BytePos.{BytePos}
 use Rattle.ecma_token.specs.declared.place.LineCol.{LineCol}
-use Rattle.ecma_format.specs.Faults.{is_refusal}
+use Rattle.ecma_front.specs.Faults.{is_refusal}
 use Rattle.ecma_front.proofs.Answering.{refusal_unread, refusal_no_read, refusal_no_write, refusal_no_settings}
 use Rattle.ecma_front.proofs.command.answer.Goals as goal
 

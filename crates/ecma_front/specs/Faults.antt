@@ -1,0 +1,43 @@
+-- The faults of a run.
+use Rattle.std.specs.Prelude.{Bool, true, false, Result, Ok, Err}
+use Rattle.ecma_front.specs.declared.fault.Fault.{Fault}
+use Rattle.ecma_front.specs.declared.fault.Fault.TheVariants.{Read, NotUtf8, TooLong, Syntax, TooDeep, Memory, Write, Node}
+
+-- the fault says that the reader failed
+abbrev pub is_read_fault : Fault → Bool
+is_read_fault (Read kind) = true
+is_read_fault _ = false
+
+-- the fault says that the writer failed
+abbrev pub is_write_fault : Fault → Bool
+is_write_fault (Write kind) = true
+is_write_fault _ = false
+
+-- the fault is one of the text itself, of what it has no text for, or of memory
+abbrev pub is_text_fault : Fault → Bool
+is_text_fault (NotUtf8 valid) = true
+is_text_fault (Syntax e) = true
+is_text_fault TooDeep = true
+is_text_fault Node = true
+is_text_fault Memory = true
+is_text_fault _ = false
+
+-- the fault refuses the text that was read
+abbrev pub is_refusal : Fault → Bool
+is_refusal (NotUtf8 valid) = true
+is_refusal TooLong = true
+is_refusal (Syntax e) = true
+is_refusal TooDeep = true
+is_refusal _ = false
+
+-- the fault is one of the reader, of the writer or of memory
+abbrev pub is_failure : Fault → Bool
+is_failure (Read kind) = true
+is_failure (Write kind) = true
+is_failure Memory = true
+is_failure _ = false
+
+-- the answer is a fault that passes
+abbrev pub answers_fault : {A : Type 0} → (Fault → Bool) → Result A Fault → Bool
+answers_fault p (Ok x) = false
+answers_fault p (Err f) = p f
