@@ -1,12 +1,12 @@
 -- Expressions and patterns that spell tokens can be printed.
-use Rattle.std.proofs.Common.{◌≡◌, ◌+◌, ◌==◌, ℕ, Bool, true, false, List, Option, Some, None, refl, ap}
+use Rattle.std.proofs.Common.{◌≡◌, ◌+◌, ◌==◌, ℕ, Bool, true, false, Option, Some, None, refl, ap}
 use Rattle.std.proofs.lemmas.Bool.{eq-eqb}
 use Rattle.ecma_token.specs.declared.place.Span.{Span}
 use Rattle.ecma_token.specs.Kinds.{right_paren_kind, right_bracket_kind, right_brace_kind}
 use Rattle.ecma_tree.specs.Tree.{Tree, Trees, none, more, array_lit, object_lit, unary_expr, update_expr, bin_expr, assign_expr, member_expr, super_prop_expr, cond_expr, call_expr, new_expr, seq_expr, tpl, tagged_tpl, yield_expr, await_expr, paren_expr, opt_chain_expr, opt_call, computed_prop_name, super, import, expr_or_spread, spread_element, key_value_prop, assign_prop, number_lit, array_pat, object_pat, rest_pat, assign_pat, key_value_pat_prop, assign_pat_prop, list, absent}
-use Rattle.ecma_syntax.specs.Input.{Input, Code, with_in}
+use Rattle.ecma_syntax.specs.Input.{Input, Code}
 use Rattle.ecma_syntax.specs.Operators.{assignment_level}
-use Rattle.ecma_syntax.specs.Shape.{is_absent, is_element, is_prop}
+use Rattle.ecma_syntax.specs.Shape.{is_element, is_prop}
 use Rattle.ecma_grammar.specs.Parts.{part, IsEmpty, Expr}
 use Rattle.ecma_grammar.specs.Expressions.{Bracketed, TemplateSpans, TemplateLiteral, Dotted, AccessedName, Member, SuperProperty, Arguments, Call, ImportArguments, ChainMember, Yield}
 use Rattle.ecma_grammar.specs.Patterns.{Item, Property}
@@ -16,7 +16,7 @@ use Rattle.ecma_layout.specs.declared.look.Stand.TheVariants.{Alone, Operand, He
 use Rattle.ecma_layout.specs.Layout.{count}
 use Rattle.ecma_printable.proofs.Fine.{◌▸◌, ok, empty, when_fine, if_fine, then_fine, maybe, comma_fine, in_parens_fine, number_fine, number_before_fine, initial_fine, indented_fine}
 use Rattle.ecma_printable.proofs.Lists.{Good, AllGood, commas_fine, lines_fine, template_fine}
-use Rattle.ecma_printable.proofs.Forms.{Sound, AllSound, either, absent_good, maybe_good, none_good, listed, comma_then, all_sorted}
+use Rattle.ecma_printable.proofs.Forms.{Sound, AllSound, either, maybe_good, none_good, listed, comma_then, all_sorted}
 
 no_count : (ts : Trees) → IsEmpty (parts ts) → count ts ≡ 0
 no_count none h = refl

@@ -1,12 +1,12 @@
 -- Functions and classes that spell tokens can be printed.
-use Rattle.std.proofs.Common.{◌≡◌, ◌==◌, ◌⊎◌, inl, inr, ℕ, Bool, true, false, List, Option, Some, None}
+use Rattle.std.proofs.Common.{◌==◌, inl, inr, ℕ, Bool, true, false}
 use Rattle.std.proofs.lemmas.Option.{none-some}
 use Rattle.ecma_token.specs.declared.place.Span.{Span}
 use Rattle.ecma_token.specs.Kinds.{right_paren_kind}
 use Rattle.ecma_tree.specs.Tree.{Tree, Trees, none, more, plain_method, block_stmt, function, param, class, constructor, class_method, private_method, class_prop, private_prop, static_block, auto_accessor, fn_decl, class_decl, fn_expr, class_expr, arrow_expr, getter_prop, setter_prop, method_prop}
 use Rattle.ecma_syntax.specs.Input.{Input, Code}
 use Rattle.ecma_syntax.specs.Shape.{is_item, is_param, count_of}
-use Rattle.ecma_grammar.specs.Parts.{Part, part, IsEmpty}
+use Rattle.ecma_grammar.specs.Parts.{part, IsEmpty}
 use Rattle.ecma_grammar.specs.Functions.{Parameters, SetParameter, Body, Closes, ArrowPattern, BareName, ArrowParameters, ArrowExpression, Method, Members}
 use Rattle.ecma_grammar.specs.Grammar.{Spells, parts}
 use Rattle.ecma_layout.specs.declared.look.Look.{Look}

@@ -1,5 +1,5 @@
 -- Scripts and modules that spell tokens can be printed.
-use Rattle.std.proofs.Common.{◌≡◌, ◌⊎◌, inl, inr, ℕ, Bool, true, false, List, Option}
+use Rattle.std.proofs.Common.{ℕ, true, false, List, Option}
 use Rattle.ecma_token.specs.declared.place.Span.{Span}
 use Rattle.ecma_token.specs.Kinds.{right_brace_kind}
 use Rattle.ecma_tree.specs.Tree.{Tree, Trees, none, more, script, es_module, import_decl, export_decl, named_export, export_default_decl, export_default_expr, export_all, import_named_specifier, import_default_specifier, import_star_as_specifier, export_namespace_specifier, export_named_specifier, class_decl, class_expr, class, ident, absent}
@@ -18,7 +18,7 @@ use Rattle.ecma_printable.proofs.Forms.{Sound, AllSound, either, absent_good, ma
 module _ (look : Look) where
   -- ---- 16.2.2 imports
 
-  -- a word as a name of an export spells what any word does
+  -- a name of an export: any word, or a string
   named : (t : Tree) → Sound look t → (c : Code) (ts r : Input) → ExportName c (export_name t) (part t (λ y. Spells t y)) ts r → Good look t
   named (ident s n) f c ts r h st = name_fine look s n
   named t f c ts r h st = f c ts r h.1 st

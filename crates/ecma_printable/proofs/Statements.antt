@@ -1,19 +1,18 @@
 -- Statements and declarations that spell tokens can be printed.
-use Rattle.std.proofs.Common.{◌≡◌, ◌||◌, ◌⊎◌, ℕ, Bool, true, false, List}
+use Rattle.std.proofs.Common.{◌||◌, ℕ, Bool, true, false}
 use Rattle.ecma_token.specs.declared.place.Span.{Span}
 use Rattle.ecma_token.specs.Kinds.{semicolon_kind, right_paren_kind}
 use Rattle.ecma_tree.specs.Tree.{Tree, Trees, none, more, block_stmt, with_stmt, return_stmt, labeled_stmt, break_stmt, continue_stmt, if_stmt, switch_stmt, switch_case, throw_stmt, try_stmt, catch_clause, while_stmt, do_while_stmt, for_stmt, for_in_stmt, for_of_stmt, expr_stmt, var_decl, using_decl, var_declarator}
 use Rattle.ecma_syntax.specs.Input.{Input, Code, without_in}
-use Rattle.ecma_syntax.specs.Operators.{expression_level}
 use Rattle.ecma_syntax.specs.Shape.{is_declarator, is_default_case, is_item}
 use Rattle.ecma_grammar.specs.Parts.{part, Sorted}
-use Rattle.ecma_grammar.specs.Statements.{InParens, ClosesBlock, Bindings, UsingBindings, Clause, ForRest, ForExpression, ForIn, ForOf, Over, HeadVariables, HeadUsing, HeadTarget, OfTarget, ClosesCase, Cases}
+use Rattle.ecma_grammar.specs.Statements.{InParens, ClosesBlock, Bindings, UsingBindings, Clause, ForRest, ForExpression, ForIn, ForOf, HeadVariables, HeadUsing, HeadTarget, OfTarget, ClosesCase, Cases}
 use Rattle.ecma_grammar.specs.Grammar.{Spells, parts}
 use Rattle.ecma_layout.specs.declared.look.Look.{Look}
 use Rattle.ecma_layout.specs.declared.look.Stand.TheVariants.{Alone}
-use Rattle.ecma_printable.proofs.Fine.{◌▸◌, ok, empty, when_fine, if_fine, maybe, in_parens_fine, closing_fine, initial_fine, indented_or_line_fine}
+use Rattle.ecma_printable.proofs.Fine.{◌▸◌, ok, when_fine, if_fine, maybe, in_parens_fine, closing_fine, initial_fine, indented_or_line_fine}
 use Rattle.ecma_printable.proofs.Lists.{Good, AllGood, rows_fine, commas_fine}
-use Rattle.ecma_printable.proofs.Forms.{Sound, AllSound, either, maybe_good, sorted, commas, items}
+use Rattle.ecma_printable.proofs.Forms.{Sound, AllSound, maybe_good, commas, items}
 use Rattle.ecma_printable.proofs.Functions.{block_good}
 
 module _ (look : Look) where
