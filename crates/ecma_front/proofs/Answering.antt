@@ -12,8 +12,7 @@ use Rattle.std.proofs.Common.{inl, inr, chars}
 use Rattle.ecma_token.specs.Dialect.{parts_of}
 use Rattle.ecma_token.specs.declared.error.Error.{Error}
 use Rattle.ecma_early.specs.Early.{early_errors}
-use Rattle.ecma_front.specs.Programs.{IsFaulty, IsProgramOf, Spells}
-use Rattle.ecma_front.specs.Layouts.{is_printable}
+use Rattle.ecma_front.specs.Programs.{IsFaulty, Spells}
 use Rattle.ecma_front.specs.Command.{IsUnread}
 use Rattle.ecma_tree.specs.Tree.{Tree}
 use Rattle.ecma_front.specs.Layouts.{layout}
@@ -34,7 +33,7 @@ text_fault_at P options bytes before after (f.Read k) is h fits = absurd (cc)
 text_fault_at P options bytes before after f.TooLong is h fits = absurd (cc)
 text_fault_at P options bytes before after (f.Write k) is h fits = absurd (cc)
 text_fault_at P options bytes before after f.Position is h fits = absurd (cc)
-text_fault_at P options bytes before after f.Node is h fits = (h, fits)
+text_fault_at P options bytes before after f.Node is h fits = absurd (cc)
 text_fault_at P options bytes before after f.Options is h fits = absurd (cc)
 
 unknown_text_fault : (P : Type 0) (options : Options) (before after : Option (List ℕ)) (fault : Fault) → is_text_fault fault ≡ true → Answers {P = P} options None before after (Err fault)
@@ -118,12 +117,6 @@ faulty options text e t (inr one) s =
     let clean = ap (λ (u : Tree). early_errors (parts_of options.syntax) u) same in
     absurd (cc (list, clean, s.clean))
 
--- a program of which a part has no text can't be printed
-no_text : (options : Options) (text : List ℕ) → ((t : Tree) × IsProgramOf options text t × (is_printable options t ≡ false)) → ((t : Tree) × Spells options t text × (is_printable options t ≡ true)) → ⊥
-no_text options text p r =
-    let same = ap (λ (u : Tree). is_printable options u) (p.1.0.1 r.0 r.1.0.reads) in
-    absurd (cc (same, p.1.1, r.1.1))
-
 -- a text that is refused is spelled by no program within the limit, or is too long
 unread_at : (options : Options) (bytes : List ℕ) (fault : Fault) → is_refusal fault ≡ true → IsRefused options bytes fault → IsUnread options bytes
 unread_at options bytes (f.NotUtf8 n) is h = λ t u s fits. h.0 u
@@ -174,13 +167,13 @@ refused_unreadable : (P : Type 0) (options : Options) (bytes : List ℕ) (before
     → (fault ≡ f.Options → ⊥) → Answers {P = P} options (Some bytes) before after (Err fault) → IsReadable options bytes → ⊥
 refused_unreadable P options bytes before after (f.NotUtf8 n) is not h r = h.0.0 r.1.0
 refused_unreadable P options bytes before after f.TooLong is not h r = omega (arith, h.0, r.0)
-refused_unreadable P options bytes before after (f.Syntax e) is not h r = faulty options (chars bytes) e r.1.1.0 h.0.1 r.1.1.1.0
-refused_unreadable P options bytes before after f.TooDeep is not h r = let past = h.0.1 r.1.1.0 r.1.1.1.0.reads in omega (arith, past, r.1.1.1.0.within)
+refused_unreadable P options bytes before after (f.Syntax e) is not h r = faulty options (chars bytes) e r.1.1.0 h.0.1 r.1.1.1
+refused_unreadable P options bytes before after f.TooDeep is not h r = let past = h.0.1 r.1.1.0 r.1.1.1.reads in omega (arith, past, r.1.1.1.within)
 refused_unreadable P options bytes before after (f.Read k) is not h r = cc
 refused_unreadable P options bytes before after f.Memory is not h r = cc
 refused_unreadable P options bytes before after (f.Write k) is not h r = cc
 refused_unreadable P options bytes before after f.Position is not h r = h.0
-refused_unreadable P options bytes before after f.Node is not h r = no_text options (chars bytes) h.0.1 r.1.1
+refused_unreadable P options bytes before after f.Node is not h r = h.0
 refused_unreadable P options bytes before after f.Options is not h r = not refl
 
 -- an answer and what the settings say of it make success exact
@@ -188,7 +181,7 @@ pub answers_exactly : (P : Type 0) (options : Options) (input before after : Opt
     → (result ≡ Err f.Options → are_refused options ≡ true) → Answers options input before after result → SucceedsExactly options input result
 answers_exactly P options None before after result settings h = λ taken found. tt
 answers_exactly P options (Some bytes) before after (Ok x) settings h = λ taken found.
-    (λ _. (h.1.0, (h.1.1.1.0.0, (h.1.1.0, h.1.1.1.0.1.0.0, h.1.1.1.0.1.1))), λ _. refl)
+    (λ _. (h.1.0, (h.1.1.1.0.0, (h.1.1.0, h.1.1.1.0.1.0))), λ _. refl)
 answers_exactly P options (Some bytes) before after (Err fault) settings h = λ taken found.
     (λ e. absurd (cc), λ r. absurd (refused_unreadable P options bytes before after fault found (λ e. let refused = settings (ap (λ (x : Fault). Err x) e) in cc) h r))
 

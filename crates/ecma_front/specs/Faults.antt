@@ -1,7 +1,7 @@
 -- The faults of a run.
 use Rattle.std.specs.Prelude.{Bool, true, false, Result, Ok, Err}
 use Rattle.ecma_front.specs.declared.fault.Fault.{Fault}
-use Rattle.ecma_front.specs.declared.fault.Fault.TheVariants.{Read, NotUtf8, TooLong, Syntax, TooDeep, Memory, Write, Node}
+use Rattle.ecma_front.specs.declared.fault.Fault.TheVariants.{Read, NotUtf8, TooLong, Syntax, TooDeep, Memory, Write}
 
 -- the fault says that the reader failed
 abbrev pub is_read_fault : Fault → Bool
@@ -13,12 +13,11 @@ abbrev pub is_write_fault : Fault → Bool
 is_write_fault (Write kind) = true
 is_write_fault _ = false
 
--- the fault is one of the text itself, of what it has no text for, or of memory
+-- the fault is one of the text itself, or of memory
 abbrev pub is_text_fault : Fault → Bool
 is_text_fault (NotUtf8 valid) = true
 is_text_fault (Syntax e) = true
 is_text_fault TooDeep = true
-is_text_fault Node = true
 is_text_fault Memory = true
 is_text_fault _ = false
 

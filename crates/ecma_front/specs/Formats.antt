@@ -1,11 +1,11 @@
 -- What is known of a text from what reading it and printing its program answered.
-use Rattle.std.specs.Prelude.{◌≡◌, ℕ, ◌<◌, true, false, List, length, Result, Ok, Err}
+use Rattle.std.specs.Prelude.{◌≡◌, ℕ, ◌<◌, List, length, Result, Ok, Err}
 use Rattle.std.specs.Str.{chars, IsUtf8, IsValidUpTo}
 use Rattle.ecma_tree.specs.Tree.{Tree}
 use Rattle.ecma_command.specs.declared.options.Options.{Options}
 use Rattle.ecma_front.specs.declared.fault.Fault.{Fault}
 use Rattle.ecma_front.specs.declared.fault.Fault.TheVariants as f
-use Rattle.ecma_front.specs.Layouts.{is_printable, layout}
+use Rattle.ecma_front.specs.Layouts.{layout}
 use Rattle.ecma_front.specs.Programs.{IsProgramOf, IsFaulty, IsTooDeep}
 
 -- the longest text, in bytes
@@ -24,16 +24,9 @@ abbrev pub Reads : Options → List ℕ → Result Tree Fault → Type 0
 Reads o text (Ok t) = IsProgramOf o text t
 Reads o text (Err fault) = LacksProgram o text fault
 
--- What printing a program answers: its layout; or that part of it has no text. Of want of memory nothing is said.
-abbrev pub Prints : {X : Type 0} → (X → List ℕ) → Options → Tree → Result X Fault → Type 0
-Prints view o t (Ok x) = (is_printable o t ≡ true) × (view x ≡ layout o t)
-Prints view o t (Err f.Memory) = Unit {0}
-Prints view o t (Err f.Node) = is_printable o t ≡ false
-Prints view o t (Err _) = ⊥
-
--- The program spells the bytes, which are UTF-8, within the limit of nesting, and no other reads them; and each part of it has a text.
+-- The program spells the bytes, which are UTF-8, within the limit of nesting, and no other reads them.
 abbrev pub IsProgramIn : Options → List ℕ → Tree → Type 0
-IsProgramIn o bytes t = IsUtf8 bytes × IsProgramOf o (chars bytes) t × (is_printable o t ≡ true)
+IsProgramIn o bytes t = IsUtf8 bytes × IsProgramOf o (chars bytes) t
 
 -- why bytes are not printed again
 abbrev pub IsRefused : Options → List ℕ → Fault → Type 0
@@ -41,12 +34,12 @@ IsRefused o bytes (f.NotUtf8 valid) = (IsUtf8 bytes → ⊥) × IsValidUpTo byte
 IsRefused o bytes f.TooLong = longest_text < length bytes
 IsRefused o bytes (f.Syntax e) = IsUtf8 bytes × IsFaulty o (chars bytes) e
 IsRefused o bytes f.TooDeep = IsUtf8 bytes × IsTooDeep o (chars bytes)
-IsRefused o bytes f.Node = IsUtf8 bytes × ((t : Tree) × IsProgramOf o (chars bytes) t × (is_printable o t ≡ false))
 IsRefused o bytes f.Memory = Unit {0}
 IsRefused o bytes (f.Read kind) = Unit {0}
 IsRefused o bytes f.Options = Unit {0}
 IsRefused o bytes (f.Write kind) = ⊥
 IsRefused o bytes f.Position = ⊥
+IsRefused o bytes f.Node = ⊥
 
 -- What printing bytes again answers: the layout of the one program that spells them; or why not.
 abbrev pub Formats : {X : Type 0} → (X → List ℕ) → Options → List ℕ → Result X Fault → Type 0

@@ -1,12 +1,12 @@
 -- The layout of a program by the settings of a run: its bytes.
-use Rattle.std.specs.Prelude.{ℕ, Bool, true, false, not, if◌then◌else◌, List, [], None, codes}
+use Rattle.std.specs.Prelude.{ℕ, not, if◌then◌else◌, List, [], None, codes}
 use Rattle.ecma_tree.specs.Tree.{Tree}
 use Rattle.ecma_write.specs.Pages.{Page, times}
 use Rattle.ecma_write.specs.Views.{first_page}
 use Rattle.ecma_pieces.specs.Pieces.{resolved, shortened}
 use Rattle.ecma_layout.specs.declared.look.Look.{Look}
 use Rattle.ecma_layout.specs.declared.look.Stand.TheVariants.{Alone}
-use Rattle.ecma_layout.specs.Looks.{Laid, listed, is_refused}
+use Rattle.ecma_layout.specs.Looks.{Laid, listed}
 use Rattle.ecma_layout.specs.Layout.{laid}
 use Rattle.ecma_command.specs.Options.{is_format}
 use Rattle.ecma_command.specs.declared.options.Options.{Options}
@@ -40,10 +40,6 @@ page_of o = record (first_page [] (line_end_of o.line_end) None) { indent = inde
 -- what a tree writes
 unfoldable pub laid_of : Options → Tree → Laid
 laid_of o t = laid (look_of o) Alone t
-
--- Nothing in the tree lacks a text: it holds no node that stands for what could not be read, and none of another shape than the grammar's.
-abbrev pub is_printable : Options → Tree → Bool
-is_printable o t = not (is_refused (laid_of o t))
 
 -- The layout of a tree: its pieces, resolved to bytes. Where it is minified, a semicolon that may go goes before `}` and at the end.
 unfoldable pub layout : Options → Tree → List ℕ

@@ -1,5 +1,5 @@
 -- What a run answers and writes.
-use Rattle.std.specs.Prelude.{◌≡◌, ℕ, ◌≤◌, ◌↔◌, true, false, List, length, take, Option, None, Result, Ok, Err, IfSome, IsOk}
+use Rattle.std.specs.Prelude.{◌≡◌, ℕ, ◌≤◌, ◌↔◌, false, List, length, take, Option, None, Result, Ok, Err, IfSome, IsOk}
 use Rattle.std.specs.Str.{chars, IsUtf8}
 use Rattle.std.specs.Io.KnownBytes.{Appends}
 use Rattle.ecma_tree.specs.Tree.{Tree}
@@ -8,7 +8,7 @@ use Rattle.ecma_command.specs.Options.{are_refused}
 use Rattle.ecma_front.specs.declared.fault.Fault.{Fault}
 use Rattle.ecma_front.specs.declared.fault.Fault.TheVariants as f
 use Rattle.ecma_front.specs.Faults.{answers_fault, is_failure}
-use Rattle.ecma_front.specs.Layouts.{is_printable, layout}
+use Rattle.ecma_front.specs.Layouts.{layout}
 use Rattle.ecma_front.specs.Programs.{Spells}
 use Rattle.ecma_front.specs.Formats.{IsProgramIn, IsRefused, longest_text}
 
@@ -34,9 +34,9 @@ Answers options input before after (Ok positions) = (positions ≡ None) × IfSo
 Answers options input before after (Err (f.Write kind)) = IfSome input (λ bytes. WritesBeginning options bytes before after)
 Answers options input before after (Err fault) = IfSome input (λ bytes. IsRefused options bytes fault × FitsUnless fault bytes)
 
--- A program within the limit spells the bytes, which are no more than the longest text, and each part of it has a text.
+-- A program within the limit spells the bytes, which are no more than the longest text.
 abbrev pub IsReadable : Options → List ℕ → Type 0
-IsReadable options bytes = (length bytes ≤ longest_text) × IsUtf8 bytes × ((t : Tree) × Spells options t (chars bytes) × (is_printable options t ≡ true))
+IsReadable options bytes = (length bytes ≤ longest_text) × IsUtf8 bytes × ((t : Tree) × Spells options t (chars bytes))
 
 -- The answer is Ok exactly where the input is readable: with settings that aren't refused, where neither the
 -- reader nor the writer failed and memory was found.

@@ -6,9 +6,8 @@ ghost use Rattle.ecma_codegen.specs.Emits.{Emits};
 ghost use Rattle.ecma_codegen.specs.Settings as settings;
 ghost use Rattle.ecma_write.specs.Pages.{times};
 ghost use Rattle.ecma_command.specs.Options.{is_format, width_of};
-ghost use Rattle.ecma_front.specs.Formats.{Prints};
 ghost use Rattle.ecma_front.specs.Layouts.{indent_of, line_end_of, look_of};
-ghost use Rattle.ecma_front.specs.Steps.{TellsPrinter};
+ghost use Rattle.ecma_front.specs.Steps.{Prints, TellsPrinter};
 
 use crate::fault::Fault;
 use ecma_codegen::{Config, EmitError, Emitter, JsWriter, NoPlaces, WriteJs, omit_trailing_semi};
