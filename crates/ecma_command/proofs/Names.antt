@@ -1,4 +1,4 @@
--- The values of the command line's options.
+-- What the names of editions, of steps of indentation and of numbers stand for.
 use Rattle.std.proofs.Common.{◌≡◌, ◌∙◌, ◌<◌, ◌&&◌, ◌^◌, ℕ, Bool, true, false, List, [], ◌∷◌, refl, sym, ap, subst, length, Some, None, Result, Ok, Err}
 use Rattle.std.proofs.lemmas.Bool.{lt-ltb, ltb-true, eqb-true}
 use Rattle.std.specs.Prelude.{◌==◌, bytes_eq, nat_lt, slice_index, OkIff}

@@ -1,7 +1,6 @@
 //! The program's command line.
 ghost use Rattle.std.specs.Prelude.{◌≡◌, [], true, false, map, option_map, IfErr, IfOk, OnOk, codes, string_bytes};
 ghost use Rattle.clap.specs.Words.{app_of, first_of, found_of, kind_of, new_rule, one_of, rows_of, rule_of};
-ghost use Rattle.ecma_command.specs.Options.{default_options};
 ghost use Rattle.ecma_command.specs.Command.{Asks, SetsFlag, SetsGoal, SetsIndent, SetsLineEnd, SetsNesting, SetsStyle, SetsTarget};
 ghost use Rattle.ecma_command.specs.Command.{are_listed, are_taken, faults_in, flag, found_in, program, program_syntax, valued};
 

@@ -16,7 +16,7 @@ const EDITIONS: &str =
 const STEPS: &str = "\n  [possible values: 0, 1, 2, 3, 4, 5, 6, 7, 8, tab]";
 
 /// And of numbers.
-const NUMBERS: &str = ": it is no number in 0..=4294967295";
+const NUMBERS: &str = ": not a number in 0..=4294967295";
 
 /// The edition of a name.
 #[tactic(auto, unfolding(crate::specs::Values::target_of))]
@@ -68,16 +68,11 @@ fn nesting_of(text: &str) -> Option<u32>
     }
 }
 
-/// The fault of a value that an option doesn't take, with a text as clap writes it.
+/// The fault of a value that an option doesn't take, with a text in clap's form.
 fn refusal(alloc: Global, value: &str, option: &str, wanted: &str) -> Result<CliFault, AllocError> {
-    let end = "\n\nFor more information, try '--help'.\n";
-    let text = if value.is_empty() {
-        format!(in alloc;
-            "error: a value is required for '{option}' but none was supplied{wanted}{end}"
-        )?
-    } else {
-        format!(in alloc; "error: invalid value '{value}' for '{option}'{wanted}{end}")?
-    };
+    let text = format!(in alloc;
+        "error: invalid value '{value}' for '{option}'{wanted}\n\nFor more information, try '--help'.\n"
+    )?;
     Ok(CliFault::Refused(text))
 }
 
