@@ -1,10 +1,12 @@
 //! The program's command line.
 ghost use Rattle.std.specs.Prelude.{◌≡◌, [], true, false, map, option_map, IfErr, IfOk, OnOk, codes, string_bytes};
-ghost use Rattle.clap.specs.Words.{app_of, first_of, found_of, kind_of, new_rule, one_of, one_text, rows_of, rule_of};
-ghost use Rattle.ecma_command.specs.Command.{SetsGoal, SetsStyle, are_taken, faults_in, flag, found_in, program, program_options};
+ghost use Rattle.clap.specs.Words.{app_of, first_of, found_of, kind_of, new_rule, one_of, rows_of, rule_of};
+ghost use Rattle.ecma_command.specs.Command.{Asks, SetsFlag, SetsGoal, SetsIndent, SetsLineEnd, SetsNesting, SetsStyle, SetsTarget};
+ghost use Rattle.ecma_command.specs.Command.{are_listed, are_taken, faults_in, flag, found_in, program, program_syntax, valued};
 
-use crate::options::{Goal, Options, Style};
+use crate::options::{Goal, LineEnd, Options, Style};
 use crate::request::{CliFault, Invocation};
+use crate::values::{indent, nesting, target};
 use clap::error::ErrorKind;
 use clap::{Arg, ArgAction, ArgMatches, Command, Error};
 use ecma_token::{EsSyntax, Syntax};
@@ -24,6 +26,17 @@ fn flag<'a>(alloc: Global, name: &'a str, help: &'a str) -> Arg<'a>
         .action(ArgAction::SetTrue)
 }
 
+/// An option with a value, which `value` names in the help.
+fn valued<'a>(alloc: Global, name: &'a str, value: &'a str, help: &'a str) -> Arg<'a>
+    ensures rule { rule_of result ≡ valued name.entry.now }
+    ensures local { result.global ≡ false }
+{
+    Arg::new(alloc, name)
+        .long(name)
+        .value_name(value)
+        .help(help)
+}
+
 /// The file to read.
 fn path<'a>(alloc: Global) -> Arg<'a>
     ensures rule { rule_of result ≡ new_rule (codes "PATH") }
@@ -32,44 +45,146 @@ fn path<'a>(alloc: Global) -> Arg<'a>
     Arg::new(alloc, "PATH").help("The file to read; without it, standard input")
 }
 
+/// The edition that the output is written for.
+fn target_option<'a>(alloc: Global) -> Arg<'a>
+    ensures rule { rule_of result ≡ valued (codes "target") }
+    ensures local { result.global ≡ false }
+{
+    let help = "The edition to write for: es2015 to es2022, or esnext [default: esnext]";
+    valued(alloc, "target", "TARGET", help)
+}
+
+/// The step of indentation.
+fn indent_option<'a>(alloc: Global) -> Arg<'a>
+    ensures rule { rule_of result ≡ valued (codes "indent") }
+    ensures local { result.global ≡ false }
+{
+    let help = "A step of indentation: 0 to 8 blanks, or tab [default: 4]";
+    valued(alloc, "indent", "INDENT", help)
+}
+
+/// How deep the tree may nest.
+fn nesting_option<'a>(alloc: Global) -> Arg<'a>
+    ensures rule { rule_of result ≡ valued (codes "nesting") }
+    ensures local { result.global ≡ false }
+{
+    let help = "How deep the program may nest: 1 to 1024 [default: 256]";
+    valued(alloc, "nesting", "N", help)
+}
+
 /// What the program takes.
 fn command<'a>(alloc: Global) -> Result<Command<'a>, AllocError>
     ensures { IfOk result (λ command. app_of command ≡ program) }
 {
     let script = flag(alloc, "script", "Read a script; without it, a module");
     let minify = flag(alloc, "minify", "Write as little as the program needs");
+    let ascii = flag(
+        alloc,
+        "ascii-only",
+        "Write escapes for characters past ASCII",
+    );
+    let inline = flag(
+        alloc,
+        "inline-script",
+        "Write what may stand in a script element",
+    );
+    let crlf = flag(alloc, "crlf", "End lines by CR and LF; without it, by LF");
     Command::new(alloc, "ecma-front")
         .bin_name("ecma-front")?
         .about("Formats or minifies an ECMAScript program")
         .arg(script)?
         .arg(minify)?
+        .arg(target_option(alloc))?
+        .arg(ascii)?
+        .arg(inline)?
+        .arg(crlf)?
+        .arg(indent_option(alloc))?
+        .arg(nesting_option(alloc))?
         .arg(path(alloc))
 }
 
+/// Whether a flag is given.
+fn is_on(matches: &ArgMatches<'_>, name: &str) -> bool
+    ensures { SetsFlag (one_of name.now (rows_of (found_of matches.now))) result }
+{
+    matches.get_flag(name)
+}
+
+/// The value of an option or of the path, where it is given.
+fn value<'a>(matches: &ArgMatches<'a>, name: &str) -> Option<&'a str>
+    ensures { option_map (λ s. s.now) result ≡ first_of name.now (rows_of (found_of matches.now)) }
+{
+    matches.get_str(name)
+}
+
+/// What the text is read as.
+fn goal(matches: &ArgMatches<'_>) -> Goal
+    ensures { SetsGoal (one_of (codes "script") (rows_of (found_of matches.now))) result }
+{
+    if is_on(matches, "script") {
+        Goal::Script
+    } else {
+        Goal::Module
+    }
+}
+
+/// How the program is laid out.
+fn style(matches: &ArgMatches<'_>) -> Style
+    ensures { SetsStyle (one_of (codes "minify") (rows_of (found_of matches.now))) result }
+{
+    if is_on(matches, "minify") {
+        Style::Minify
+    } else {
+        Style::Format
+    }
+}
+
+/// What ends a line.
+fn line_end(matches: &ArgMatches<'_>) -> LineEnd
+    ensures { SetsLineEnd (one_of (codes "crlf") (rows_of (found_of matches.now))) result }
+{
+    if is_on(matches, "crlf") {
+        LineEnd::CrLf
+    } else {
+        LineEnd::Lf
+    }
+}
+
 /// The settings that the words ask for. Import attributes are read.
-fn options_of(matches: &ArgMatches<'_>) -> Options
-    ensures settings { result ≡ program_options result.goal result.style }
-    ensures goal { SetsGoal (one_text (found_of matches.now) (codes "script")) result.goal }
-    ensures style { SetsStyle (one_text (found_of matches.now) (codes "minify")) result.style }
+fn options_of(alloc: Global, matches: &ArgMatches<'_>) -> Result<Options, CliFault>
+    ensures asked { IfOk result (Asks (rows_of (found_of matches.now))) }
+    ensures refused { IfErr result (λ fault. are_listed (rows_of (found_of matches.now)) ≡ true → fault ≡ CliFault.Memory) }
 {
     let syntax = EsSyntax {
         import_attributes: true,
         ..EsSyntax::default()
     };
-    Options {
-        goal: if matches.get_flag("script") {
-            Goal::Script
-        } else {
-            Goal::Module
-        },
-        style: if matches.get_flag("minify") {
-            Style::Minify
-        } else {
-            Style::Format
-        },
+    Ok(Options {
+        goal: goal(matches),
+        style: style(matches),
+        target: target(alloc, value(matches, "target"))?,
+        ascii_only: is_on(matches, "ascii-only"),
+        inline_script: is_on(matches, "inline-script"),
+        line_end: line_end(matches),
+        indent: indent(alloc, value(matches, "indent"))?,
+        nesting: nesting(alloc, value(matches, "nesting"))?,
         syntax: Syntax::Es(syntax),
-        ..Options::default()
-    }
+        positions: false,
+    })
+}
+
+/// What the words ask for, where clap takes them.
+fn asked(alloc: Global, matches: &ArgMatches<'_>) -> Result<Invocation, CliFault>
+    ensures asked { IfOk result (λ asked. Asks (rows_of (found_of matches.now)) asked.options) }
+    ensures path { IfOk result (λ asked. option_map string_bytes asked.path ≡ first_of (codes "PATH") (rows_of (found_of matches.now))) }
+    ensures refused { IfErr result (λ fault. are_listed (rows_of (found_of matches.now)) ≡ true → fault ≡ CliFault.Memory) }
+{
+    let options = options_of(alloc, matches)?;
+    let path = match value(matches, "PATH") {
+        Some(path) => Some(String::from_str(alloc, path)?),
+        None => None,
+    };
+    Ok(Invocation { options, path })
 }
 
 /// What clap finds in the words of a command line.
@@ -91,27 +206,25 @@ fn matches_in<'a>(alloc: Global, words: &'a [String]) -> Result<ArgMatches<'a>, 
 ///
 /// # Errors
 ///
-/// `Refused` with the text to show, where the words are not those of the program or ask for help;
-/// `Memory` where a growth was refused.
+/// `Refused` with the text to show, where the words are not those of the program or ask for help, or
+/// where the value of an option is none of those that it takes; `Memory` where a growth was refused.
 pub fn invocation(alloc: Global, words: Vec<String>) -> Result<Invocation, CliFault>
-    ensures settings { IfOk result (λ asked. asked.options ≡ program_options asked.options.goal asked.options.style) }
     ensures goal { IfOk result (λ asked. SetsGoal (one_of (codes "script") (found_in (map string_bytes words.items))) asked.options.goal) }
     ensures style { IfOk result (λ asked. SetsStyle (one_of (codes "minify") (found_in (map string_bytes words.items))) asked.options.style) }
+    ensures target { IfOk result (λ asked. SetsTarget (first_of (codes "target") (found_in (map string_bytes words.items))) asked.options.target) }
+    ensures ascii_only { IfOk result (λ asked. SetsFlag (one_of (codes "ascii-only") (found_in (map string_bytes words.items))) asked.options.ascii_only) }
+    ensures inline_script { IfOk result (λ asked. SetsFlag (one_of (codes "inline-script") (found_in (map string_bytes words.items))) asked.options.inline_script) }
+    ensures line_end { IfOk result (λ asked. SetsLineEnd (one_of (codes "crlf") (found_in (map string_bytes words.items))) asked.options.line_end) }
+    ensures indent { IfOk result (λ asked. SetsIndent (first_of (codes "indent") (found_in (map string_bytes words.items))) asked.options.indent) }
+    ensures nesting { IfOk result (λ asked. SetsNesting (first_of (codes "nesting") (found_in (map string_bytes words.items))) asked.options.nesting) }
+    ensures syntax { IfOk result (λ asked. asked.options.syntax ≡ program_syntax) }
+    ensures positions { IfOk result (λ asked. asked.options.positions ≡ false) }
     ensures path { IfOk result (λ asked. option_map string_bytes asked.path ≡ first_of (codes "PATH") (found_in (map string_bytes words.items))) }
     ensures taken { OnOk result (faults_in (map string_bytes words.items) ≡ []) }
-    ensures refused { IfErr result (λ fault. are_taken (map string_bytes words.items) ≡ true → fault ≡ CliFault.Memory) }
+    ensures refused { IfErr result (λ fault. are_taken (map string_bytes words.items) ≡ true → are_listed (found_in (map string_bytes words.items)) ≡ true → fault ≡ CliFault.Memory) }
 {
     match matches_in(alloc, words.as_slice()) {
-        Ok(matches) => {
-            let path = match matches.get_str("PATH") {
-                Some(path) => Some(String::from_str(alloc, path)?),
-                None => None,
-            };
-            Ok(Invocation {
-                options: options_of(&matches),
-                path,
-            })
-        }
+        Ok(matches) => asked(alloc, &matches),
         Err(error) if error.kind() == ErrorKind::OutOfMemory => Err(CliFault::Memory),
         Err(error) => Err(CliFault::Refused(error.to_string(alloc)?)),
     }

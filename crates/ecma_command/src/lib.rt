@@ -4,6 +4,7 @@
 pub mod arguments;
 pub mod options;
 pub mod request;
+mod values;
 
 pub use arguments::invocation;
 pub use options::{Goal, Indent, LineEnd, Options, Style};
