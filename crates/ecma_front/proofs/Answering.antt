@@ -112,8 +112,8 @@ text_fault_no_settings fault is e = let no = ap is_text_fault e in cc
 faulty : (options : Options) (text : List ℕ) (e : Error) (t : Tree) → IsFaulty options text e → Spells options t text → ⊥
 faulty options text e t (inl none) s = none t s.reads
 faulty options text e t (inr one) s =
-    let same = one.1.1.1.1.0 t s.reads in
-    let list = one.1.1.1.1.1 in
+    let same = one.4 t s.reads in
+    let list = one.5 in
     let clean = ap (λ (u : Tree). early_errors (parts_of options.syntax) u) same in
     absurd (cc (list, clean, s.clean))
 
@@ -165,10 +165,10 @@ refusal_no_settings fault is e = let no = ap is_refusal e in cc
 
 refused_unreadable : (P : Type 0) (options : Options) (bytes : List ℕ) (before after : Option (List ℕ)) (fault : Fault) → is_failure fault ≡ false
     → (fault ≡ f.Options → ⊥) → Answers {P = P} options (Some bytes) before after (Err fault) → IsReadable options bytes → ⊥
-refused_unreadable P options bytes before after (f.NotUtf8 n) is not h r = h.0.0 r.1.0
+refused_unreadable P options bytes before after (f.NotUtf8 n) is not h r = h.0.0 r.1
 refused_unreadable P options bytes before after f.TooLong is not h r = omega (arith, h.0, r.0)
-refused_unreadable P options bytes before after (f.Syntax e) is not h r = faulty options (chars bytes) e r.1.1.0 h.0.1 r.1.1.1
-refused_unreadable P options bytes before after f.TooDeep is not h r = let past = h.0.1 r.1.1.0 r.1.1.1.reads in omega (arith, past, r.1.1.1.within)
+refused_unreadable P options bytes before after (f.Syntax e) is not h r = faulty options (chars bytes) e r.2.0 h.0.1 r.2.1
+refused_unreadable P options bytes before after f.TooDeep is not h r = let past = h.0.1 r.2.0 r.2.1.reads in omega (arith, past, r.2.1.within)
 refused_unreadable P options bytes before after (f.Read k) is not h r = cc
 refused_unreadable P options bytes before after f.Memory is not h r = cc
 refused_unreadable P options bytes before after (f.Write k) is not h r = cc
@@ -181,7 +181,7 @@ pub answers_exactly : (P : Type 0) (options : Options) (input before after : Opt
     → (result ≡ Err f.Options → are_refused options ≡ true) → Answers options input before after result → SucceedsExactly options input result
 answers_exactly P options None before after result settings h = λ taken found. tt
 answers_exactly P options (Some bytes) before after (Ok x) settings h = λ taken found.
-    (λ _. (h.1.0, (h.1.1.1.0.0, (h.1.1.0, h.1.1.1.0.1.0))), λ _. refl)
+    (λ _. (h.1.0, h.1.1.1.0, (h.1.1.0, h.1.1.1.1.0)), λ _. refl)
 answers_exactly P options (Some bytes) before after (Err fault) settings h = λ taken found.
     (λ e. absurd (cc), λ r. absurd (refused_unreadable P options bytes before after fault found (λ e. let refused = settings (ap (λ (x : Fault). Err x) e) in cc) h r))
 

@@ -29,7 +29,7 @@ module _ (o : Options) (text : List ℕ) {X : Type 0} (view : X → Tree) where
       subst (λ (z : Fault). LacksProgram o text z) (sym j) (inr (view x, es, a.answer.0.reads, a.answer.0.within, λ other r. a.answer.0.only other r, sym a.answer.1))
   lacks_of (Err e) recorded f.Memory j a = tt
   lacks_of (Err e) recorded f.TooDeep j a = λ other r. a.answer.0.deep j other r
-  lacks_of (Err e) recorded (f.Syntax d) j a = inl (λ other r. a.answer.0.fault j.1.0 j.1.1 other r)
+  lacks_of (Err e) recorded (f.Syntax d) j a = inl (λ other r. a.answer.0.fault j.1 j.2 other r)
   lacks_of (Err e) recorded (f.Read k) j a = absurd j
   lacks_of (Err e) recorded (f.NotUtf8 n) j a = absurd j
   lacks_of (Err e) recorded f.TooLong j a = absurd j

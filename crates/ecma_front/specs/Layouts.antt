@@ -1,5 +1,5 @@
 -- The layout of a program by the settings of a run: its bytes.
-use Rattle.std.specs.Prelude.{ℕ, not, if◌then◌else◌, List, [], None, codes}
+use Rattle.std.specs.Prelude.{ℕ, false, not, if◌then◌else◌, List, [], None, codes}
 use Rattle.ecma_tree.specs.Tree.{Tree}
 use Rattle.ecma_write.specs.Pages.{Page, times}
 use Rattle.ecma_write.specs.Views.{first_page}
