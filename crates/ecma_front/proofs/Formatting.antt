@@ -1,5 +1,5 @@
 -- What the steps from bytes to a layout answer together.
-use Rattle.std.proofs.Common.{◌≡◌, ℕ, true, List, Result, Ok, Err, IsUtf8, chars, refl}
+use Rattle.std.proofs.Common.{◌≡◌, ℕ, true, List, Result, Ok, Err, IsUtf8, chars, refl, IfErr}
 use Rattle.ecma_token.specs.Dialect.{parts_of}
 use Rattle.ecma_tree.specs.Tree.{Tree}
 use Rattle.ecma_command.specs.Options.{is_module}
@@ -70,3 +70,8 @@ printing_is_of_text o text t p view f.TooLong h = absurd h
 printing_is_of_text o text t p view (f.Write k) h = absurd h
 printing_is_of_text o text t p view f.Position h = absurd h
 printing_is_of_text o text t p view f.Options h = absurd h
+
+-- so what printing it answers is of the text
+pub printing_kind : (o : Options) (text : List ℕ) (t : Tree) → IsProgramOf o text t → {X : Type 0} (view : X → List ℕ) (result : Result X Fault) → Prints view o t result → IfErr result (λ fault. is_text_fault fault ≡ true)
+printing_kind o text t p view (Ok x) h = tt
+printing_kind o text t p view (Err fault) h = printing_is_of_text o text t p view fault h

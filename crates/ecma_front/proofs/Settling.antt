@@ -1,10 +1,9 @@
 -- What a parsed text tells of its program.
-use Rattle.std.proofs.Common.{◌≡◌, ◌≤◌, ℕ, min, Bool, List, [], ◌∷◌, Result, Ok, Err, inl, inr, refl, sym, ap, ◌∙◌, subst, arith}
+use Rattle.std.proofs.Common.{◌≡◌, ℕ, Bool, List, [], ◌∷◌, Result, Ok, Err, inl, inr, refl, sym, subst}
 use Rattle.ecma_token.specs.Dialect.{parts_of}
 use Rattle.ecma_token.specs.declared.error.Error.{Error}
 use Rattle.ecma_token.specs.declared.syntax.Syntax.{Syntax}
 use Rattle.ecma_tree.specs.Tree.{Tree}
-use Rattle.ecma_spells.specs.Text.{Setting}
 use Rattle.ecma_command.specs.Options.{is_module}
 use Rattle.ecma_command.specs.declared.options.Options.{Options}
 use Rattle.ecma_parsed.specs.Texts.{TextAnswered}
@@ -23,7 +22,7 @@ module _ (o : Options) (text : List ℕ) {X : Type 0} (view : X → Tree) where
   taken_of (Ok x) (e ∷ es) y j a = absurd j
   taken_of (Err e) recorded y j a = absurd j
 
-  lacks_of : (result : Result X Error) (recorded : List Error) (fault : Fault) → Judges {Y = X} result recorded (Err fault) → Answered (is_module o.goal) result recorded → LacksProgram o text fault
+  lacks_of : (result : Result X Error) (recorded : List Error) (fault : Fault) → Judges {X = X} result recorded (Err fault) → Answered (is_module o.goal) result recorded → LacksProgram o text fault
   lacks_of (Ok x) [] fault j a = absurd j
   lacks_of (Ok x) (e ∷ es) fault j a =
       subst (λ (z : Fault). LacksProgram o text z) (sym j) (inr (view x, es, a.answer.0.reads, a.answer.0.within, λ other r. a.answer.0.only other r, sym a.answer.1))
@@ -54,5 +53,5 @@ module _ (o : Options) (text : List ℕ) {X : Type 0} (view : X → Tree) where
 
   -- else it has none within the limit
   pub lacks : (modules : Bool) (limit : ℕ) (result : Result X Error) (recorded : List Error) (fault : Fault) → is_module o.goal ≡ modules → limit ≡ o.nesting
-      → Judges {Y = X} result recorded (Err fault) → AnsweredIn modules limit o.syntax result recorded → LacksProgram o text fault
+      → Judges {X = X} result recorded (Err fault) → AnsweredIn modules limit o.syntax result recorded → LacksProgram o text fault
   lacks modules limit result recorded fault goal same j a = lacks_of result recorded fault j (told modules limit result recorded goal same a)

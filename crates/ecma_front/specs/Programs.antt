@@ -1,9 +1,7 @@
 -- The program that a text is, by the settings of a run.
 use Rattle.std.specs.Prelude.{◌≡◌, ◌⊎◌, ℕ, ◌≤◌, ◌<◌, List, ◌∷◌}
-use Rattle.std.specs.Str.{chars, IsUtf8}
 use Rattle.ecma_token.specs.Dialect.{parts_of}
 use Rattle.ecma_token.specs.declared.error.Error.{Error}
-use Rattle.ecma_token.specs.declared.syntax.EsSyntax.{EsSyntax}
 use Rattle.ecma_tree.specs.Tree.{Tree}
 use Rattle.ecma_nesting.specs.Nesting.{nesting}
 use Rattle.ecma_early.specs.Early.{early_errors}

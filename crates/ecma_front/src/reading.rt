@@ -30,7 +30,7 @@ fn told(error: Error) -> Fault
 
 /// What was parsed, where no fault was recorded; else the first of them.
 fn judged<T: Drop>(parsed: PResult<T>, recorded: &[Error]) -> Result<T, Fault>
-    ensures { Judges parsed.entry recorded.now result }
+    ensures { Judges parsed recorded.now result }
 {
     match parsed {
         Err(error) => Err(told(error)),

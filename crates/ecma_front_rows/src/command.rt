@@ -7,20 +7,7 @@ use ecma_front::{
 };
 use ecma_rows::{Answer, Row};
 use std::alloc::{AllocError, Global};
-
-/// The settings of the program with this goal and this style.
-fn program(goal: Goal, style: Style) -> Options {
-    let syntax = EsSyntax {
-        import_attributes: true,
-        ..EsSyntax::default()
-    };
-    Options {
-        goal,
-        style,
-        syntax: Syntax::Es(syntax),
-        ..Options::default()
-    }
-}
+use std::fmt::Write;
 
 /// The words of a command line, the program's name first.
 fn command_line(alloc: Global, words: &str) -> Result<Vec<String>, AllocError> {
@@ -34,28 +21,64 @@ fn command_line(alloc: Global, words: &str) -> Result<Vec<String>, AllocError> {
     Ok(line)
 }
 
-/// The goal and the style that settings of the program have.
-fn told(options: Options) -> Option<&'static str> {
-    for (goal, style, words) in [
-        (Goal::Module, Style::Format, "module, format"),
-        (Goal::Script, Style::Format, "script, format"),
-        (Goal::Module, Style::Minify, "module, minify"),
-        (Goal::Script, Style::Minify, "script, minify"),
-    ] {
-        if options == program(goal, style) {
-            return Some(words);
-        }
+/// The goal and the style that words ask for.
+fn goal_and_style(options: Options) -> &'static str {
+    match (options.goal, options.style) {
+        (Goal::Module, Style::Format) => "module, format",
+        (Goal::Script, Style::Format) => "script, format",
+        (Goal::Module, Style::Minify) => "module, minify",
+        (Goal::Script, Style::Minify) => "script, minify",
     }
-    None
 }
 
-/// What words ask for: goal, style and path; or that they are refused with a text.
+/// What else they ask for: the settings that aren't those of a program that is asked for nothing.
+fn others(alloc: Global, options: Options) -> anyhow::Result<String> {
+    let usual = Options::default();
+    let mut told = String::new(alloc);
+    if options.target != usual.target {
+        write!(told, "{:?} ", options.target)?;
+    }
+    if options.ascii_only {
+        told.push_str("ascii ")?;
+    }
+    if options.inline_script {
+        told.push_str("inline ")?;
+    }
+    if options.line_end != usual.line_end {
+        write!(told, "{:?} ", options.line_end)?;
+    }
+    if options.indent != usual.indent {
+        write!(told, "{:?} ", options.indent)?;
+    }
+    if options.nesting != usual.nesting {
+        write!(told, "{} deep ", options.nesting)?;
+    }
+    Ok(told)
+}
+
+/// Whether import attributes are on, and nothing else of the syntax.
+fn has_attributes(options: Options) -> bool {
+    let syntax = EsSyntax {
+        import_attributes: true,
+        ..EsSyntax::default()
+    };
+    options.syntax == Syntax::Es(syntax)
+}
+
+/// What words ask for: goal and style, other settings, and path; or that they are refused with a text.
 pub fn words(row: &Row<'_>, answer: &mut Answer) -> anyhow::Result<()> {
     let alloc = answer.alloc();
     let words = row.text(0).unwrap_or_default();
     match invocation(alloc, command_line(alloc, words)?) {
         Ok(asked) => {
-            answer.say(told(asked.options).unwrap_or("other settings"))?;
+            if !has_attributes(asked.options) || asked.options.positions {
+                return Err(anyhow::Error::msg("another syntax, or positions"));
+            }
+            answer.say(goal_and_style(asked.options))?;
+            let others = others(alloc, asked.options)?;
+            if !others.is_empty() {
+                answer.say(others.trim_end())?;
+            }
             match &asked.path {
                 Some(path) => Ok(answer.say(format_args!("<{path}>"))?),
                 None => Ok(()),
