@@ -5,7 +5,7 @@ import re
 from node_types import Nodes, inside, snake, use_line
 from table import tree_name
 
-CRATE = "crates/ecma_build"
+CRATE = "crates/ecma_ast"
 
 SORTS = [
     ("exprs", "Expr", "ExprKind", "expressions"),

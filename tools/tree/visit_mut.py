@@ -20,7 +20,13 @@ SHARED = {
     "Vec<Param>": "walk_params",
     "Vec<VarDeclarator>": "walk_declarators",
 }
-HELPERS = ["walk_all", "walk_elements", "walk_part", "walk_place", *SHARED.values()]
+# The functions for the last of a struct's fields with the struct's own place: one call with two loans costs less than two calls.
+LAST = {
+    "Expr": "walk_expr_at",
+    "Option<Expr>": "walk_value_at",
+    "Stmt": "walk_stmt_at",
+}
+HELPERS = ["walk_all", "walk_elements", "walk_part", "walk_place", *SHARED.values(), *LAST.values()]
 
 
 class VisitMut:
@@ -28,21 +34,40 @@ class VisitMut:
         self.table = table
         self.visit = Visit(table)
 
-    def is_leaf(self, name):
-        """Whether all there is to change is the place of the node itself, which is then changed where the node stands."""
-        return name in self.table.fields_of and name not in CHANGED and not self.visit.fields(name) and not self.dots(name)
-
     def dots(self, name):
         """The places of dots that it keeps."""
         return [(f, t) for f, t in self.table.fields_of[name] if bare(t) == "Span"]
 
+    def is_opened(self, name):
+        """Whether it is changed where it is met, and is no `WalkMut` of its own: that takes one call, or it is met as a variant
+        of one enum alone. A call in an arm costs a quarter of an impl."""
+        if name not in self.table.fields_of or name in CHANGED + ENTERED + LEFT:
+            return False
+        uses = [t for fields in self.table.fields_of.values() for _, t in fields if bare(t) == name]
+        variants = [t for fields in self.table.variants_of.values() for _, t in fields if bare(t) == name]
+        if any(t != name for t in uses + variants):
+            return False
+        return len(self.lines("x", name)) == 1 or not uses and len(variants) == 1
+
+    def lines(self, place, name):
+        """Changes what a struct holds, and its place."""
+        fields = list(self.visit.fields(name))
+        own = "by.span(&mut %s.span);" % place
+        if fields and fields[-1][1] in LAST:
+            f, t = fields.pop()
+            own = "%s(&mut %s.%s, &mut %s.span, by);" % (LAST[t], place, f, place)
+        lines = [line for f, t in fields for line in self.field_lines("%s.%s" % (place, f), t)] + [own]
+        for f, t in self.dots(name):
+            lines.append("by.span(&mut %s.%s);" % (place, f) if t == "Span" else "walk_place(&mut %s.%s, by);" % (place, f))
+        return lines
+
+    def met(self, place, name):
+        """Changes a part where it stands."""
+        return self.lines(place, name) if self.is_opened(name) else ["%s.walk_mut(by);" % place]
+
     def struct_lines(self, name):
-        lines = ["by.enter_%s(self);" % snake(name)] if name in ENTERED else []
-        for f, t in self.visit.fields(name):
-            lines += self.field_lines("self." + f, t)
-        for f, t in [("span", "Span")] + self.dots(name):
-            lines.append("by.span(&mut self.%s);" % f if t == "Span" else "walk_place(&mut self.%s, by);" % f)
-        return lines + self.end(name)
+        entered = ["by.enter_%s(self);" % snake(name)] if name in ENTERED else []
+        return entered + self.lines("self", name) + self.end(name)
 
     def field_lines(self, field, text):
         """Changes what a field holds. Lists and parts that may be left out are no `WalkMut` of their own: an impl for a
@@ -56,10 +81,8 @@ class VisitMut:
         if part and (part in SORTS or self.table.is_generic(part)):
             return ["walk_part(%s, by);" % lent]
         if part:
-            return ["if let Some(x) = &mut %s {" % field] + ["    " + line for line in self.field_lines("x", part)] + ["}"]
-        if self.is_leaf(text):
-            return ["by.span(&mut %s.span);" % field]
-        return ["%s.walk_mut(by);" % field]
+            return ["if let Some(part) = &mut %s {" % field] + ["    " + line for line in self.field_lines("part", part)] + ["}"]
+        return self.met(field, bare(text))
 
     def end(self, name):
         if name in CHANGED:
@@ -70,8 +93,11 @@ class VisitMut:
         own = name + "Of" if self.table.is_generic(name) else name
         arms = []
         for v, t in self.table.variants_of[name]:
-            call = "by.span(&mut x.span)" if self.is_leaf(t) else "x.walk_mut(by)"
-            arms.append("    %s::%s(x) => %s," % (own, v, call))
+            lines = self.met("x", bare(t))
+            if len(lines) == 1:
+                arms.append("    %s::%s(x) => %s," % (own, v, lines[0].rstrip(";")))
+            else:
+                arms += ["    %s::%s(x) => {" % (own, v)] + ["        " + line for line in lines] + ["    }"]
         return ["match self {"] + arms + ["}"] + self.end(name)
 
     def impl(self, name, lines):
@@ -86,7 +112,7 @@ class VisitMut:
         table = self.table
         body, names, fits = [], set(), []
         for what, n in table.order:
-            if what == "words" or table.module_of[n] != module or self.is_leaf(n):
+            if what == "words" or table.module_of[n] != module or self.is_opened(n):
                 continue
             body.append(self.impl(n, self.struct_lines(n) if what == "struct" else self.enum_lines(n)))
             names.add(n + "Of" if table.is_generic(n) else n)

@@ -1,10 +1,16 @@
-//! The syntax tree with all that stands on it: tokens and places, texts, nodes, comments, nesting, walks and trees made
-//! by hand. Each is brought in by its own name: of a whole crate under a name, each function would be checked again.
+//! The syntax tree with all that stands on it: tokens and places, texts, nodes, comments, nesting and walks, each brought
+//! in by its own name: of a whole crate under a name, each function would be checked again. What makes trees by hand
+//! (`Build`) stands here: a function for each kind of expression, statement and pattern, and short ones for names and
+//! arguments.
 #![tactic(auto)]
+
+mod exprs;
+mod made;
+mod pats;
+mod stmts;
 
 pub use ecma_atom::Atom;
 pub use ecma_atom::StrValue;
-pub use ecma_build::Build;
 pub use ecma_comments::Comment;
 pub use ecma_comments::CommentKind;
 pub use ecma_comments::Comments;
@@ -297,3 +303,4 @@ pub use ecma_visit_mut::VisitMut;
 pub use ecma_visit_mut::VisitMutWith;
 pub use ecma_visit_mut::VisitMutWords;
 pub use ecma_visit_mut::Words;
+pub use made::Build;

@@ -2,9 +2,7 @@
 ghost use Rattle.std.specs.Prelude.{IfOk};
 ghost use Rattle.ecma_node.specs.Placed.{holds_expr, holds_stmt};
 
-use ecma_build::Build;
-use ecma_node::{Callee, ExprBox, Program, ProgramKind, Script, StmtBox};
-use ecma_token::{BinaryOp, DUMMY_SP};
+use ecma_ast::{BinaryOp, Build, Callee, DUMMY_SP, ExprBox, Program, ProgramKind, Script, StmtBox};
 use std::alloc::{AllocError, Global};
 
 /// `a + f(b)`.

@@ -1,7 +1,6 @@
 //! Trees compared.
 use crate::remove_debugger::remove_debugger;
-use ecma_node::Program;
-use ecma_same::same_program;
+use ecma_ast::{Program, same_program};
 
 /// Whether a program is what another one becomes without its `debugger` statements; places and spellings don't count.
 pub fn is_cleaned(program: &Program, mut other: Program) -> bool {

@@ -1,6 +1,5 @@
 //! A lint that counts names.
-use ecma_node::{Ident, Program};
-use ecma_visit::{Hooks, Visit, Walk};
+use ecma_ast::{Hooks, Ident, Program, Visit, Walk};
 
 /// How many names were seen.
 struct Names {

@@ -1,9 +1,9 @@
 //! A codemod that removes `debugger` statements.
 ghost use Rattle.ecma_node.specs.Placed.{holds_stmt};
 
-use ecma_node::{EmptyStmt, Program, Stmt, StmtBox, StmtKind, StmtKindOf};
-use ecma_token::Spanned;
-use ecma_visit_mut::{VisitMut, VisitMutWith};
+use ecma_ast::{
+    EmptyStmt, Program, Spanned, Stmt, StmtBox, StmtKind, StmtKindOf, VisitMut, VisitMutWith,
+};
 
 /// Removes `debugger`.
 #[derive(Drop)]

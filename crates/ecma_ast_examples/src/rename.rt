@@ -1,7 +1,5 @@
 //! A codemod that writes one name for another.
-use ecma_atom::Atom;
-use ecma_node::{Ident, Program};
-use ecma_visit_mut::{VisitMutWith, VisitMutWords, Words};
+use ecma_ast::{Atom, Ident, Program, VisitMutWith, VisitMutWords, Words};
 use std::alloc::AllocError;
 
 /// Which name is written for which, and whether memory wanted.

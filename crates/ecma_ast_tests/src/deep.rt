@@ -4,7 +4,7 @@ ghost use Rattle.ecma_node.specs.Placed.{holds_expr, holds_stmt};
 
 use crate::made::{empty, ok, var};
 use crate::places::Places;
-use ecma_build::Build;
+use ecma_ast::Build;
 use ecma_nesting::Nesting;
 use ecma_node::{BlockStmt, ExprBox, Function, StmtBox};
 use ecma_same::Same;

@@ -4,7 +4,7 @@ ghost use Rattle.ecma_node.specs.Fits.{fits_assign_target, fits_expr_or_spread, 
 
 use crate::made::{atom, deep, deeper, name, ok, private, str, var, word};
 use crate::told::expr;
-use ecma_build::Build;
+use ecma_ast::Build;
 use ecma_node::{
     AssignTarget, BindingIdent, Callee, ComputedPropName, ExprOrSpread, Import, Invalid,
     MemberExpr, MemberProp, MetaPropKind, OptCall, OptChainBase, OptChainExpr, ParenExpr, Super,

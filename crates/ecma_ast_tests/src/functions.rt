@@ -4,7 +4,7 @@ ghost use Rattle.ecma_node.specs.Fits.{fits_class, fits_class_member, fits_decor
 
 use crate::made::{atom, block, bound, deep, deeper, name, ok, private, str, var, word};
 use crate::told::{expr, stmt};
-use ecma_build::Build;
+use ecma_ast::Build;
 use ecma_node::{
     AssignProp, AutoAccessor, BigInt, BlockStmtOrExpr, Class, ClassMember, ClassMethod, ClassProp,
     ComputedPropName, Constructor, Decorator, EmptyStmt, Function, GetterProp, Key, KeyValueProp,

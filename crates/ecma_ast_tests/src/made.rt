@@ -3,8 +3,8 @@ ghost use Rattle.std.specs.Prelude.{◌≡◌, Ok};
 ghost use Rattle.ecma_node.specs.Placed.{holds_expr, holds_pat, holds_stmt};
 ghost use Rattle.ecma_node.specs.Fits.{fits_block_stmt};
 
+use ecma_ast::Build;
 use ecma_atom::{Atom, StrValue};
-use ecma_build::Build;
 use ecma_node::{BlockStmt, ExprBox, Ident, IdentName, PatBox, PrivateName, StmtBox, Str};
 use ecma_token::DUMMY_SP;
 use std::process::Abort;

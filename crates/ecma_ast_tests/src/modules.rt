@@ -3,7 +3,7 @@ ghost use Rattle.ecma_node.specs.Fits.{fits_default_decl, fits_module_decl, fits
 
 use crate::made::{atom, deep, deep_stmt, name, ok, str};
 use crate::told::program;
-use ecma_build::Build;
+use ecma_ast::Build;
 use ecma_node::{
     BlockStmt, Class, ClassExpr, Decl, DefaultDecl, ExportAll, ExportDecl, ExportDefaultDecl,
     ExportDefaultExpr, ExportDefaultSpecifier, ExportNamedSpecifier, ExportNamespaceSpecifier,

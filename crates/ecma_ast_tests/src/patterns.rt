@@ -3,7 +3,7 @@ ghost use Rattle.ecma_node.specs.Fits.{fits_object_pat_prop};
 
 use crate::made::{bound, deep, deeper, name, ok, var};
 use crate::told::{expr, pat};
-use ecma_build::Build;
+use ecma_ast::Build;
 use ecma_node::{
     ArrayPat, AssignPatProp, AssignTarget, BindingIdent, ComputedPropName, KeyValuePatProp,
     ObjectPat, ObjectPatProp, PropName, RestPat,

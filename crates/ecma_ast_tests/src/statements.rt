@@ -4,7 +4,7 @@ ghost use Rattle.ecma_node.specs.Fits.{fits_var_declarator};
 
 use crate::made::{block, bound, deep, deep_stmt, deeper, empty, name, ok, var};
 use crate::told::stmt;
-use ecma_build::Build;
+use ecma_ast::Build;
 use ecma_node::{
     CatchClause, ForHead, SwitchCase, UsingDecl, VarDecl, VarDeclKind, VarDeclOrExpr, VarDeclarator,
 };

@@ -7,7 +7,7 @@ ghost use Rattle.ecma_node.specs.Placed.{holds_expr, holds_pat, holds_stmt};
 
 use crate::made::ok;
 use crate::places::Places;
-use ecma_build::Build;
+use ecma_ast::Build;
 use ecma_nesting::Nesting;
 use ecma_node::{ExprBox, PatBox, Program, StmtBox};
 use ecma_token::{Span, Spanned};

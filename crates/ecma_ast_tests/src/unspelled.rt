@@ -1,8 +1,8 @@
 //! Which trees are the same program where no text has them.
 
 use crate::made::ok;
+use ecma_ast::Build;
 use ecma_atom::{Atom, StrValue};
-use ecma_build::Build;
 use ecma_same::Same;
 
 #[test]

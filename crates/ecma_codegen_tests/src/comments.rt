@@ -1,7 +1,7 @@
 //! Comments of a source between what is printed. Whole texts with comments are rows of `ecma_program_rows`.
 use crate::placed::{comment, comments, name_stmt, ok, script};
 use crate::printed::formatted;
-use ecma_build::Build;
+use ecma_ast::Build;
 use ecma_codegen::{EmitError, NoPlaces, to_code, to_code_default, to_code_with_comments};
 use ecma_comments::{CommentKind, Comments};
 use ecma_token::BytePos;

@@ -1,6 +1,6 @@
 //! The entries of a printer, with the comments of one source.
 use crate::placed::{comment, ident, name_stmt, ok, span};
-use ecma_build::Build;
+use ecma_ast::Build;
 use ecma_codegen::{Config, EmitError, Emitter, JsWriter, NoPlaces, WriteJs};
 use ecma_comments::{CommentKind, Comments};
 use ecma_node::{Module, ModuleExportName, ModuleItem, Script};

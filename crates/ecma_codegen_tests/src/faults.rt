@@ -1,5 +1,5 @@
 //! What can't be printed.
-use ecma_build::Build;
+use ecma_ast::Build;
 use ecma_codegen::{EmitError, to_code};
 use std::test::Fail;
 

@@ -2,8 +2,8 @@
 ghost use Rattle.std.specs.Prelude.{◌≡◌, Ok};
 ghost use Rattle.ecma_node.specs.Placed.{holds_stmt};
 
+use ecma_ast::Build;
 use ecma_atom::Atom;
-use ecma_build::Build;
 use ecma_comments::{Comment, CommentKind, Comments};
 use ecma_node::{ExprKind, ExprStmt, Ident, Program, ProgramKind, Script, StmtBox, StmtKind};
 use ecma_token::{BytePos, Span};

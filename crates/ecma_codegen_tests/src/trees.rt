@@ -1,5 +1,5 @@
 //! Trees built by hand.
-use ecma_build::Build;
+use ecma_ast::Build;
 use ecma_node::{Callee, Program, ProgramKind, Script};
 use ecma_token::{BinaryOp, DUMMY_SP};
 use std::alloc::{AllocError, Global};

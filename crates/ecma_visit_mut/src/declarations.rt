@@ -1,39 +1,27 @@
 //! Changes declarations (ECMA-262, 14.3, 15.2 and 15.7).
-ghost use Rattle.ecma_node.specs.Fits.{fits_decl, fits_class_decl, fits_fn_decl, fits_var_decl, fits_using_decl, fits_var_declarator};
+ghost use Rattle.ecma_node.specs.Fits.{fits_decl, fits_var_decl, fits_using_decl, fits_var_declarator};
 
-use crate::walk::{Change, WalkMut, walk_declarators, walk_value};
-use ecma_node::{ClassDeclOf, DeclOf, FnDeclOf, UsingDeclOf, VarDeclOf, VarDeclaratorOf};
+use crate::walk::{Change, WalkMut, walk_declarators, walk_value_at};
+use ecma_node::{DeclOf, UsingDeclOf, VarDeclOf, VarDeclaratorOf};
 
 impl<T, C: Change<T>> WalkMut<T, C> for DeclOf<T> {
     ghost fits = { λ x. fits_decl C.placed x };
 
     fn walk_mut(&mut self, by: &mut C) {
         match self {
-            DeclOf::Class(x) => x.walk_mut(by),
-            DeclOf::Fn(x) => x.walk_mut(by),
+            DeclOf::Class(x) => {
+                x.ident.walk_mut(by);
+                x.class.walk_mut(by);
+                by.span(&mut x.span);
+            }
+            DeclOf::Fn(x) => {
+                x.ident.walk_mut(by);
+                x.function.walk_mut(by);
+                by.span(&mut x.span);
+            }
             DeclOf::Var(x) => x.walk_mut(by),
             DeclOf::Using(x) => x.walk_mut(by),
         }
-    }
-}
-
-impl<T, C: Change<T>> WalkMut<T, C> for ClassDeclOf<T> {
-    ghost fits = { λ x. fits_class_decl C.placed x };
-
-    fn walk_mut(&mut self, by: &mut C) {
-        self.ident.walk_mut(by);
-        self.class.walk_mut(by);
-        by.span(&mut self.span);
-    }
-}
-
-impl<T, C: Change<T>> WalkMut<T, C> for FnDeclOf<T> {
-    ghost fits = { λ x. fits_fn_decl C.placed x };
-
-    fn walk_mut(&mut self, by: &mut C) {
-        self.ident.walk_mut(by);
-        self.function.walk_mut(by);
-        by.span(&mut self.span);
     }
 }
 
@@ -60,7 +48,6 @@ impl<T, C: Change<T>> WalkMut<T, C> for VarDeclaratorOf<T> {
 
     fn walk_mut(&mut self, by: &mut C) {
         self.name.walk_mut(by);
-        walk_value(&mut self.init, by);
-        by.span(&mut self.span);
+        walk_value_at(&mut self.init, &mut self.span, by);
     }
 }

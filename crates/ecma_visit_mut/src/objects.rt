@@ -1,17 +1,15 @@
 //! Changes properties of objects (ECMA-262, 13.2.5).
-ghost use Rattle.ecma_node.specs.Fits.{fits_prop_or_spread, fits_prop, fits_key_value_prop, fits_assign_prop, fits_getter_prop, fits_setter_prop, fits_method_prop};
+ghost use Rattle.ecma_node.specs.Fits.{fits_prop_or_spread, fits_prop};
 
-use crate::walk::{Change, WalkMut};
-use ecma_node::{
-    AssignPropOf, GetterPropOf, KeyValuePropOf, MethodPropOf, PropOf, PropOrSpreadOf, SetterPropOf,
-};
+use crate::walk::{Change, WalkMut, walk_expr_at};
+use ecma_node::{PropOf, PropOrSpreadOf};
 
 impl<T, C: Change<T>> WalkMut<T, C> for PropOrSpreadOf<T> {
     ghost fits = { λ x. fits_prop_or_spread C.placed x };
 
     fn walk_mut(&mut self, by: &mut C) {
         match self {
-            PropOrSpreadOf::Spread(x) => x.walk_mut(by),
+            PropOrSpreadOf::Spread(x) => walk_expr_at(&mut x.expr, &mut x.span, by),
             PropOrSpreadOf::Prop(x) => x.walk_mut(by),
         }
     }
@@ -23,62 +21,30 @@ impl<T, C: Change<T>> WalkMut<T, C> for PropOf<T> {
     fn walk_mut(&mut self, by: &mut C) {
         match self {
             PropOf::Shorthand(x) => x.walk_mut(by),
-            PropOf::KeyValue(x) => x.walk_mut(by),
-            PropOf::Assign(x) => x.walk_mut(by),
-            PropOf::Getter(x) => x.walk_mut(by),
-            PropOf::Setter(x) => x.walk_mut(by),
-            PropOf::Method(x) => x.walk_mut(by),
+            PropOf::KeyValue(x) => {
+                x.key.walk_mut(by);
+                walk_expr_at(&mut x.value, &mut x.span, by);
+            }
+            PropOf::Assign(x) => {
+                x.key.walk_mut(by);
+                walk_expr_at(&mut x.value, &mut x.span, by);
+            }
+            PropOf::Getter(x) => {
+                x.key.walk_mut(by);
+                x.body.walk_mut(by);
+                by.span(&mut x.span);
+            }
+            PropOf::Setter(x) => {
+                x.key.walk_mut(by);
+                x.param.walk_mut(by);
+                x.body.walk_mut(by);
+                by.span(&mut x.span);
+            }
+            PropOf::Method(x) => {
+                x.key.walk_mut(by);
+                x.function.walk_mut(by);
+                by.span(&mut x.span);
+            }
         }
-    }
-}
-
-impl<T, C: Change<T>> WalkMut<T, C> for KeyValuePropOf<T> {
-    ghost fits = { λ x. fits_key_value_prop C.placed x };
-
-    fn walk_mut(&mut self, by: &mut C) {
-        self.key.walk_mut(by);
-        self.value.walk_mut(by);
-        by.span(&mut self.span);
-    }
-}
-
-impl<T, C: Change<T>> WalkMut<T, C> for AssignPropOf<T> {
-    ghost fits = { λ x. fits_assign_prop C.placed x };
-
-    fn walk_mut(&mut self, by: &mut C) {
-        self.key.walk_mut(by);
-        self.value.walk_mut(by);
-        by.span(&mut self.span);
-    }
-}
-
-impl<T, C: Change<T>> WalkMut<T, C> for GetterPropOf<T> {
-    ghost fits = { λ x. fits_getter_prop C.placed x };
-
-    fn walk_mut(&mut self, by: &mut C) {
-        self.key.walk_mut(by);
-        self.body.walk_mut(by);
-        by.span(&mut self.span);
-    }
-}
-
-impl<T, C: Change<T>> WalkMut<T, C> for SetterPropOf<T> {
-    ghost fits = { λ x. fits_setter_prop C.placed x };
-
-    fn walk_mut(&mut self, by: &mut C) {
-        self.key.walk_mut(by);
-        self.param.walk_mut(by);
-        self.body.walk_mut(by);
-        by.span(&mut self.span);
-    }
-}
-
-impl<T, C: Change<T>> WalkMut<T, C> for MethodPropOf<T> {
-    ghost fits = { λ x. fits_method_prop C.placed x };
-
-    fn walk_mut(&mut self, by: &mut C) {
-        self.key.walk_mut(by);
-        self.function.walk_mut(by);
-        by.span(&mut self.span);
     }
 }

@@ -1,10 +1,9 @@
 //! Changes patterns (ECMA-262, 13.15.5 and 14.3.3).
-ghost use Rattle.ecma_node.specs.Fits.{fits_pat_kind, fits_array_pat, fits_rest_pat, fits_object_pat, fits_assign_pat, fits_object_pat_prop, fits_key_value_pat_prop, fits_assign_pat_prop, fits_assign_target};
+ghost use Rattle.ecma_node.specs.Fits.{fits_pat_kind, fits_array_pat, fits_rest_pat, fits_object_pat, fits_object_pat_prop, fits_assign_target};
 
-use crate::walk::{Change, WalkMut, walk_all, walk_elements, walk_value};
+use crate::walk::{Change, WalkMut, walk_all, walk_elements, walk_expr_at, walk_value_at};
 use ecma_node::{
-    ArrayPatOf, AssignPatOf, AssignPatPropOf, AssignTargetOf, BindingIdent, KeyValuePatPropOf,
-    ObjectPatOf, ObjectPatPropOf, PatKindOf, RestPatOf,
+    ArrayPatOf, AssignTargetOf, BindingIdent, ObjectPatOf, ObjectPatPropOf, PatKindOf, RestPatOf,
 };
 
 impl<T, C: Change<T>> WalkMut<T, C> for PatKindOf<T> {
@@ -16,7 +15,10 @@ impl<T, C: Change<T>> WalkMut<T, C> for PatKindOf<T> {
             PatKindOf::Array(x) => x.walk_mut(by),
             PatKindOf::Rest(x) => x.walk_mut(by),
             PatKindOf::Object(x) => x.walk_mut(by),
-            PatKindOf::Assign(x) => x.walk_mut(by),
+            PatKindOf::Assign(x) => {
+                x.left.walk_mut(by);
+                walk_expr_at(&mut x.right, &mut x.span, by);
+            }
             PatKindOf::Expr(x) => x.walk_mut(by),
             PatKindOf::Invalid(x) => by.span(&mut x.span),
         }
@@ -60,45 +62,22 @@ impl<T, C: Change<T>> WalkMut<T, C> for ObjectPatOf<T> {
     }
 }
 
-impl<T, C: Change<T>> WalkMut<T, C> for AssignPatOf<T> {
-    ghost fits = { λ x. fits_assign_pat C.placed x };
-
-    fn walk_mut(&mut self, by: &mut C) {
-        self.left.walk_mut(by);
-        self.right.walk_mut(by);
-        by.span(&mut self.span);
-    }
-}
-
 impl<T, C: Change<T>> WalkMut<T, C> for ObjectPatPropOf<T> {
     ghost fits = { λ x. fits_object_pat_prop C.placed x };
 
     fn walk_mut(&mut self, by: &mut C) {
         match self {
-            ObjectPatPropOf::KeyValue(x) => x.walk_mut(by),
-            ObjectPatPropOf::Assign(x) => x.walk_mut(by),
+            ObjectPatPropOf::KeyValue(x) => {
+                x.key.walk_mut(by);
+                x.value.walk_mut(by);
+                by.span(&mut x.span);
+            }
+            ObjectPatPropOf::Assign(x) => {
+                x.key.walk_mut(by);
+                walk_value_at(&mut x.value, &mut x.span, by);
+            }
             ObjectPatPropOf::Rest(x) => x.walk_mut(by),
         }
-    }
-}
-
-impl<T, C: Change<T>> WalkMut<T, C> for KeyValuePatPropOf<T> {
-    ghost fits = { λ x. fits_key_value_pat_prop C.placed x };
-
-    fn walk_mut(&mut self, by: &mut C) {
-        self.key.walk_mut(by);
-        self.value.walk_mut(by);
-        by.span(&mut self.span);
-    }
-}
-
-impl<T, C: Change<T>> WalkMut<T, C> for AssignPatPropOf<T> {
-    ghost fits = { λ x. fits_assign_pat_prop C.placed x };
-
-    fn walk_mut(&mut self, by: &mut C) {
-        self.key.walk_mut(by);
-        walk_value(&mut self.value, by);
-        by.span(&mut self.span);
     }
 }
 
@@ -110,7 +89,7 @@ impl<T, C: Change<T>> WalkMut<T, C> for AssignTargetOf<T> {
             AssignTargetOf::Ident(x) => x.walk_mut(by),
             AssignTargetOf::Member(x) => x.walk_mut(by),
             AssignTargetOf::SuperProp(x) => x.walk_mut(by),
-            AssignTargetOf::Paren(x) => x.walk_mut(by),
+            AssignTargetOf::Paren(x) => walk_expr_at(&mut x.expr, &mut x.span, by),
             AssignTargetOf::OptChain(x) => x.walk_mut(by),
             AssignTargetOf::Array(x) => x.walk_mut(by),
             AssignTargetOf::Object(x) => x.walk_mut(by),

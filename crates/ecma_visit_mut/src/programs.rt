@@ -1,13 +1,10 @@
 //! Changes scripts, modules, imports and exports (ECMA-262, 16.1 and 16.2).
-ghost use Rattle.ecma_node.specs.Fits.{fits_program_kind, fits_script, fits_module, fits_module_item, fits_module_decl, fits_import_decl, fits_export_decl, fits_named_export, fits_export_default_decl, fits_export_default_expr, fits_export_all, fits_default_decl};
+ghost use Rattle.ecma_node.specs.Fits.{fits_program_kind, fits_module_item, fits_module_decl, fits_default_decl};
 
-use crate::walk::{Change, WalkMut, walk_all, walk_stmts};
+use crate::walk::{Change, WalkMut, walk_all, walk_expr_at, walk_stmts};
 use ecma_node::{
-    DefaultDeclOf, ExportAllOf, ExportDeclOf, ExportDefaultDeclOf, ExportDefaultExprOf,
-    ExportDefaultSpecifier, ExportNamedSpecifier, ExportNamespaceSpecifier, ExportSpecifier,
-    ImportDeclOf, ImportDefaultSpecifier, ImportNamedSpecifier, ImportSpecifier,
-    ImportStarAsSpecifier, ModuleDeclOf, ModuleExportName, ModuleItemOf, ModuleOf, NamedExportOf,
-    ProgramKindOf, ScriptOf,
+    DefaultDeclOf, ExportSpecifier, ImportSpecifier, ModuleDeclOf, ModuleExportName, ModuleItemOf,
+    ProgramKindOf,
 };
 
 impl<T, C: Change<T>> WalkMut<T, C> for ProgramKindOf<T> {
@@ -15,27 +12,15 @@ impl<T, C: Change<T>> WalkMut<T, C> for ProgramKindOf<T> {
 
     fn walk_mut(&mut self, by: &mut C) {
         match self {
-            ProgramKindOf::Script(x) => x.walk_mut(by),
-            ProgramKindOf::Module(x) => x.walk_mut(by),
+            ProgramKindOf::Script(x) => {
+                walk_stmts(&mut x.body, by);
+                by.span(&mut x.span);
+            }
+            ProgramKindOf::Module(x) => {
+                walk_all(&mut x.body, by);
+                by.span(&mut x.span);
+            }
         }
-    }
-}
-
-impl<T, C: Change<T>> WalkMut<T, C> for ScriptOf<T> {
-    ghost fits = { λ x. fits_script C.placed x };
-
-    fn walk_mut(&mut self, by: &mut C) {
-        walk_stmts(&mut self.body, by);
-        by.span(&mut self.span);
-    }
-}
-
-impl<T, C: Change<T>> WalkMut<T, C> for ModuleOf<T> {
-    ghost fits = { λ x. fits_module C.placed x };
-
-    fn walk_mut(&mut self, by: &mut C) {
-        walk_all(&mut self.body, by);
-        by.span(&mut self.span);
     }
 }
 
@@ -55,80 +40,41 @@ impl<T, C: Change<T>> WalkMut<T, C> for ModuleDeclOf<T> {
 
     fn walk_mut(&mut self, by: &mut C) {
         match self {
-            ModuleDeclOf::Import(x) => x.walk_mut(by),
-            ModuleDeclOf::ExportDecl(x) => x.walk_mut(by),
-            ModuleDeclOf::ExportNamed(x) => x.walk_mut(by),
-            ModuleDeclOf::ExportDefaultDecl(x) => x.walk_mut(by),
-            ModuleDeclOf::ExportDefaultExpr(x) => x.walk_mut(by),
-            ModuleDeclOf::ExportAll(x) => x.walk_mut(by),
+            ModuleDeclOf::Import(x) => {
+                walk_all(&mut x.specifiers, by);
+                x.src.walk_mut(by);
+                if let Some(part) = &mut x.with_ {
+                    part.walk_mut(by);
+                }
+                by.span(&mut x.span);
+            }
+            ModuleDeclOf::ExportDecl(x) => {
+                x.decl.walk_mut(by);
+                by.span(&mut x.span);
+            }
+            ModuleDeclOf::ExportNamed(x) => {
+                walk_all(&mut x.specifiers, by);
+                if let Some(part) = &mut x.src {
+                    part.walk_mut(by);
+                }
+                if let Some(part) = &mut x.with_ {
+                    part.walk_mut(by);
+                }
+                by.span(&mut x.span);
+            }
+            ModuleDeclOf::ExportDefaultDecl(x) => {
+                x.decl.walk_mut(by);
+                by.span(&mut x.span);
+            }
+            ModuleDeclOf::ExportDefaultExpr(x) => walk_expr_at(&mut x.expr, &mut x.span, by),
+            ModuleDeclOf::ExportAll(x) => {
+                x.src.walk_mut(by);
+                if let Some(part) = &mut x.with_ {
+                    part.walk_mut(by);
+                }
+                by.span(&mut x.span);
+            }
         }
-    }
-}
-
-impl<T, C: Change<T>> WalkMut<T, C> for ImportDeclOf<T> {
-    ghost fits = { λ x. fits_import_decl C.placed x };
-
-    fn walk_mut(&mut self, by: &mut C) {
-        walk_all(&mut self.specifiers, by);
-        self.src.walk_mut(by);
-        if let Some(x) = &mut self.with_ {
-            x.walk_mut(by);
-        }
-        by.span(&mut self.span);
-    }
-}
-
-impl<T, C: Change<T>> WalkMut<T, C> for ExportDeclOf<T> {
-    ghost fits = { λ x. fits_export_decl C.placed x };
-
-    fn walk_mut(&mut self, by: &mut C) {
-        self.decl.walk_mut(by);
-        by.span(&mut self.span);
-    }
-}
-
-impl<T, C: Change<T>> WalkMut<T, C> for NamedExportOf<T> {
-    ghost fits = { λ x. fits_named_export C.placed x };
-
-    fn walk_mut(&mut self, by: &mut C) {
-        walk_all(&mut self.specifiers, by);
-        if let Some(x) = &mut self.src {
-            x.walk_mut(by);
-        }
-        if let Some(x) = &mut self.with_ {
-            x.walk_mut(by);
-        }
-        by.span(&mut self.span);
-    }
-}
-
-impl<T, C: Change<T>> WalkMut<T, C> for ExportDefaultDeclOf<T> {
-    ghost fits = { λ x. fits_export_default_decl C.placed x };
-
-    fn walk_mut(&mut self, by: &mut C) {
-        self.decl.walk_mut(by);
-        by.span(&mut self.span);
-    }
-}
-
-impl<T, C: Change<T>> WalkMut<T, C> for ExportDefaultExprOf<T> {
-    ghost fits = { λ x. fits_export_default_expr C.placed x };
-
-    fn walk_mut(&mut self, by: &mut C) {
-        self.expr.walk_mut(by);
-        by.span(&mut self.span);
-    }
-}
-
-impl<T, C: Change<T>> WalkMut<T, C> for ExportAllOf<T> {
-    ghost fits = { λ x. fits_export_all C.placed x };
-
-    fn walk_mut(&mut self, by: &mut C) {
-        self.src.walk_mut(by);
-        if let Some(x) = &mut self.with_ {
-            x.walk_mut(by);
-        }
-        by.span(&mut self.span);
     }
 }
 
@@ -148,40 +94,22 @@ impl<T, C: Change<T>> WalkMut<T, C> for ImportSpecifier {
 
     fn walk_mut(&mut self, by: &mut C) {
         match self {
-            ImportSpecifier::Named(x) => x.walk_mut(by),
-            ImportSpecifier::Default(x) => x.walk_mut(by),
-            ImportSpecifier::Namespace(x) => x.walk_mut(by),
+            ImportSpecifier::Named(x) => {
+                x.local.walk_mut(by);
+                if let Some(part) = &mut x.imported {
+                    part.walk_mut(by);
+                }
+                by.span(&mut x.span);
+            }
+            ImportSpecifier::Default(x) => {
+                x.local.walk_mut(by);
+                by.span(&mut x.span);
+            }
+            ImportSpecifier::Namespace(x) => {
+                x.local.walk_mut(by);
+                by.span(&mut x.span);
+            }
         }
-    }
-}
-
-impl<T, C: Change<T>> WalkMut<T, C> for ImportNamedSpecifier {
-    ghost fits = { λ _. Unit {0} };
-
-    fn walk_mut(&mut self, by: &mut C) {
-        self.local.walk_mut(by);
-        if let Some(x) = &mut self.imported {
-            x.walk_mut(by);
-        }
-        by.span(&mut self.span);
-    }
-}
-
-impl<T, C: Change<T>> WalkMut<T, C> for ImportDefaultSpecifier {
-    ghost fits = { λ _. Unit {0} };
-
-    fn walk_mut(&mut self, by: &mut C) {
-        self.local.walk_mut(by);
-        by.span(&mut self.span);
-    }
-}
-
-impl<T, C: Change<T>> WalkMut<T, C> for ImportStarAsSpecifier {
-    ghost fits = { λ _. Unit {0} };
-
-    fn walk_mut(&mut self, by: &mut C) {
-        self.local.walk_mut(by);
-        by.span(&mut self.span);
     }
 }
 
@@ -190,40 +118,22 @@ impl<T, C: Change<T>> WalkMut<T, C> for ExportSpecifier {
 
     fn walk_mut(&mut self, by: &mut C) {
         match self {
-            ExportSpecifier::Namespace(x) => x.walk_mut(by),
-            ExportSpecifier::Default(x) => x.walk_mut(by),
-            ExportSpecifier::Named(x) => x.walk_mut(by),
+            ExportSpecifier::Namespace(x) => {
+                x.name.walk_mut(by);
+                by.span(&mut x.span);
+            }
+            ExportSpecifier::Default(x) => {
+                x.exported.walk_mut(by);
+                by.span(&mut x.span);
+            }
+            ExportSpecifier::Named(x) => {
+                x.orig.walk_mut(by);
+                if let Some(part) = &mut x.exported {
+                    part.walk_mut(by);
+                }
+                by.span(&mut x.span);
+            }
         }
-    }
-}
-
-impl<T, C: Change<T>> WalkMut<T, C> for ExportNamespaceSpecifier {
-    ghost fits = { λ _. Unit {0} };
-
-    fn walk_mut(&mut self, by: &mut C) {
-        self.name.walk_mut(by);
-        by.span(&mut self.span);
-    }
-}
-
-impl<T, C: Change<T>> WalkMut<T, C> for ExportDefaultSpecifier {
-    ghost fits = { λ _. Unit {0} };
-
-    fn walk_mut(&mut self, by: &mut C) {
-        self.exported.walk_mut(by);
-        by.span(&mut self.span);
-    }
-}
-
-impl<T, C: Change<T>> WalkMut<T, C> for ExportNamedSpecifier {
-    ghost fits = { λ _. Unit {0} };
-
-    fn walk_mut(&mut self, by: &mut C) {
-        self.orig.walk_mut(by);
-        if let Some(x) = &mut self.exported {
-            x.walk_mut(by);
-        }
-        by.span(&mut self.span);
     }
 }
 

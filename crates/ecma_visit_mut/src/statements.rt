@@ -1,11 +1,12 @@
 //! Changes statements (ECMA-262, clause 14).
-ghost use Rattle.ecma_node.specs.Fits.{fits_stmt_kind, fits_block_stmt, fits_with_stmt, fits_return_stmt, fits_labeled_stmt, fits_if_stmt, fits_switch_stmt, fits_switch_case, fits_throw_stmt, fits_try_stmt, fits_catch_clause, fits_while_stmt, fits_do_while_stmt, fits_for_stmt, fits_for_in_stmt, fits_for_of_stmt, fits_expr_stmt, fits_var_decl_or_expr, fits_for_head};
+ghost use Rattle.ecma_node.specs.Fits.{fits_stmt_kind, fits_block_stmt, fits_switch_case, fits_try_stmt, fits_catch_clause, fits_var_decl_or_expr, fits_for_head};
 
-use crate::walk::{Change, WalkMut, walk_all, walk_part, walk_stmts, walk_value};
+use crate::walk::{
+    Change, WalkMut, walk_all, walk_expr_at, walk_part, walk_stmt_at, walk_stmts, walk_value,
+    walk_value_at,
+};
 use ecma_node::{
-    BlockStmtOf, BreakStmt, CatchClauseOf, ContinueStmt, DoWhileStmtOf, ExprStmtOf, ForHeadOf,
-    ForInStmtOf, ForOfStmtOf, ForStmtOf, IfStmtOf, LabeledStmtOf, ReturnStmtOf, StmtKindOf,
-    SwitchCaseOf, SwitchStmtOf, ThrowStmtOf, TryStmtOf, VarDeclOrExprOf, WhileStmtOf, WithStmtOf,
+    BlockStmtOf, CatchClauseOf, ForHeadOf, StmtKindOf, SwitchCaseOf, TryStmtOf, VarDeclOrExprOf,
 };
 
 impl<T, C: Change<T>> WalkMut<T, C> for StmtKindOf<T> {
@@ -16,22 +17,66 @@ impl<T, C: Change<T>> WalkMut<T, C> for StmtKindOf<T> {
             StmtKindOf::Block(x) => x.walk_mut(by),
             StmtKindOf::Empty(x) => by.span(&mut x.span),
             StmtKindOf::Debugger(x) => by.span(&mut x.span),
-            StmtKindOf::With(x) => x.walk_mut(by),
-            StmtKindOf::Return(x) => x.walk_mut(by),
-            StmtKindOf::Labeled(x) => x.walk_mut(by),
-            StmtKindOf::Break(x) => x.walk_mut(by),
-            StmtKindOf::Continue(x) => x.walk_mut(by),
-            StmtKindOf::If(x) => x.walk_mut(by),
-            StmtKindOf::Switch(x) => x.walk_mut(by),
-            StmtKindOf::Throw(x) => x.walk_mut(by),
+            StmtKindOf::With(x) => {
+                x.obj.walk_mut(by);
+                walk_stmt_at(&mut x.body, &mut x.span, by);
+            }
+            StmtKindOf::Return(x) => walk_value_at(&mut x.arg, &mut x.span, by),
+            StmtKindOf::Labeled(x) => {
+                x.label.walk_mut(by);
+                walk_stmt_at(&mut x.body, &mut x.span, by);
+            }
+            StmtKindOf::Break(x) => {
+                if let Some(part) = &mut x.label {
+                    part.walk_mut(by);
+                }
+                by.span(&mut x.span);
+            }
+            StmtKindOf::Continue(x) => {
+                if let Some(part) = &mut x.label {
+                    part.walk_mut(by);
+                }
+                by.span(&mut x.span);
+            }
+            StmtKindOf::If(x) => {
+                x.test.walk_mut(by);
+                x.cons.walk_mut(by);
+                walk_part(&mut x.alt, by);
+                by.span(&mut x.span);
+            }
+            StmtKindOf::Switch(x) => {
+                x.discriminant.walk_mut(by);
+                walk_all(&mut x.cases, by);
+                by.span(&mut x.span);
+            }
+            StmtKindOf::Throw(x) => walk_expr_at(&mut x.arg, &mut x.span, by),
             StmtKindOf::Try(x) => x.walk_mut(by),
-            StmtKindOf::While(x) => x.walk_mut(by),
-            StmtKindOf::DoWhile(x) => x.walk_mut(by),
-            StmtKindOf::For(x) => x.walk_mut(by),
-            StmtKindOf::ForIn(x) => x.walk_mut(by),
-            StmtKindOf::ForOf(x) => x.walk_mut(by),
+            StmtKindOf::While(x) => {
+                x.test.walk_mut(by);
+                walk_stmt_at(&mut x.body, &mut x.span, by);
+            }
+            StmtKindOf::DoWhile(x) => {
+                x.body.walk_mut(by);
+                walk_expr_at(&mut x.test, &mut x.span, by);
+            }
+            StmtKindOf::For(x) => {
+                walk_part(&mut x.init, by);
+                walk_value(&mut x.test, by);
+                walk_value(&mut x.update, by);
+                walk_stmt_at(&mut x.body, &mut x.span, by);
+            }
+            StmtKindOf::ForIn(x) => {
+                x.left.walk_mut(by);
+                x.right.walk_mut(by);
+                walk_stmt_at(&mut x.body, &mut x.span, by);
+            }
+            StmtKindOf::ForOf(x) => {
+                x.left.walk_mut(by);
+                x.right.walk_mut(by);
+                walk_stmt_at(&mut x.body, &mut x.span, by);
+            }
             StmtKindOf::Decl(x) => x.walk_mut(by),
-            StmtKindOf::Expr(x) => x.walk_mut(by),
+            StmtKindOf::Expr(x) => walk_expr_at(&mut x.expr, &mut x.span, by),
         }
     }
 }
@@ -45,93 +90,12 @@ impl<T, C: Change<T>> WalkMut<T, C> for BlockStmtOf<T> {
     }
 }
 
-impl<T, C: Change<T>> WalkMut<T, C> for WithStmtOf<T> {
-    ghost fits = { λ x. fits_with_stmt C.placed x };
-
-    fn walk_mut(&mut self, by: &mut C) {
-        self.obj.walk_mut(by);
-        self.body.walk_mut(by);
-        by.span(&mut self.span);
-    }
-}
-
-impl<T, C: Change<T>> WalkMut<T, C> for ReturnStmtOf<T> {
-    ghost fits = { λ x. fits_return_stmt C.placed x };
-
-    fn walk_mut(&mut self, by: &mut C) {
-        walk_value(&mut self.arg, by);
-        by.span(&mut self.span);
-    }
-}
-
-impl<T, C: Change<T>> WalkMut<T, C> for LabeledStmtOf<T> {
-    ghost fits = { λ x. fits_labeled_stmt C.placed x };
-
-    fn walk_mut(&mut self, by: &mut C) {
-        self.label.walk_mut(by);
-        self.body.walk_mut(by);
-        by.span(&mut self.span);
-    }
-}
-
-impl<T, C: Change<T>> WalkMut<T, C> for BreakStmt {
-    ghost fits = { λ _. Unit {0} };
-
-    fn walk_mut(&mut self, by: &mut C) {
-        if let Some(x) = &mut self.label {
-            x.walk_mut(by);
-        }
-        by.span(&mut self.span);
-    }
-}
-
-impl<T, C: Change<T>> WalkMut<T, C> for ContinueStmt {
-    ghost fits = { λ _. Unit {0} };
-
-    fn walk_mut(&mut self, by: &mut C) {
-        if let Some(x) = &mut self.label {
-            x.walk_mut(by);
-        }
-        by.span(&mut self.span);
-    }
-}
-
-impl<T, C: Change<T>> WalkMut<T, C> for IfStmtOf<T> {
-    ghost fits = { λ x. fits_if_stmt C.placed x };
-
-    fn walk_mut(&mut self, by: &mut C) {
-        self.test.walk_mut(by);
-        self.cons.walk_mut(by);
-        walk_part(&mut self.alt, by);
-        by.span(&mut self.span);
-    }
-}
-
-impl<T, C: Change<T>> WalkMut<T, C> for SwitchStmtOf<T> {
-    ghost fits = { λ x. fits_switch_stmt C.placed x };
-
-    fn walk_mut(&mut self, by: &mut C) {
-        self.discriminant.walk_mut(by);
-        walk_all(&mut self.cases, by);
-        by.span(&mut self.span);
-    }
-}
-
 impl<T, C: Change<T>> WalkMut<T, C> for SwitchCaseOf<T> {
     ghost fits = { λ x. fits_switch_case C.placed x };
 
     fn walk_mut(&mut self, by: &mut C) {
         walk_value(&mut self.test, by);
         walk_stmts(&mut self.cons, by);
-        by.span(&mut self.span);
-    }
-}
-
-impl<T, C: Change<T>> WalkMut<T, C> for ThrowStmtOf<T> {
-    ghost fits = { λ x. fits_throw_stmt C.placed x };
-
-    fn walk_mut(&mut self, by: &mut C) {
-        self.arg.walk_mut(by);
         by.span(&mut self.span);
     }
 }
@@ -153,69 +117,6 @@ impl<T, C: Change<T>> WalkMut<T, C> for CatchClauseOf<T> {
     fn walk_mut(&mut self, by: &mut C) {
         walk_part(&mut self.param, by);
         self.body.walk_mut(by);
-        by.span(&mut self.span);
-    }
-}
-
-impl<T, C: Change<T>> WalkMut<T, C> for WhileStmtOf<T> {
-    ghost fits = { λ x. fits_while_stmt C.placed x };
-
-    fn walk_mut(&mut self, by: &mut C) {
-        self.test.walk_mut(by);
-        self.body.walk_mut(by);
-        by.span(&mut self.span);
-    }
-}
-
-impl<T, C: Change<T>> WalkMut<T, C> for DoWhileStmtOf<T> {
-    ghost fits = { λ x. fits_do_while_stmt C.placed x };
-
-    fn walk_mut(&mut self, by: &mut C) {
-        self.body.walk_mut(by);
-        self.test.walk_mut(by);
-        by.span(&mut self.span);
-    }
-}
-
-impl<T, C: Change<T>> WalkMut<T, C> for ForStmtOf<T> {
-    ghost fits = { λ x. fits_for_stmt C.placed x };
-
-    fn walk_mut(&mut self, by: &mut C) {
-        walk_part(&mut self.init, by);
-        walk_value(&mut self.test, by);
-        walk_value(&mut self.update, by);
-        self.body.walk_mut(by);
-        by.span(&mut self.span);
-    }
-}
-
-impl<T, C: Change<T>> WalkMut<T, C> for ForInStmtOf<T> {
-    ghost fits = { λ x. fits_for_in_stmt C.placed x };
-
-    fn walk_mut(&mut self, by: &mut C) {
-        self.left.walk_mut(by);
-        self.right.walk_mut(by);
-        self.body.walk_mut(by);
-        by.span(&mut self.span);
-    }
-}
-
-impl<T, C: Change<T>> WalkMut<T, C> for ForOfStmtOf<T> {
-    ghost fits = { λ x. fits_for_of_stmt C.placed x };
-
-    fn walk_mut(&mut self, by: &mut C) {
-        self.left.walk_mut(by);
-        self.right.walk_mut(by);
-        self.body.walk_mut(by);
-        by.span(&mut self.span);
-    }
-}
-
-impl<T, C: Change<T>> WalkMut<T, C> for ExprStmtOf<T> {
-    ghost fits = { λ x. fits_expr_stmt C.placed x };
-
-    fn walk_mut(&mut self, by: &mut C) {
-        self.expr.walk_mut(by);
         by.span(&mut self.span);
     }
 }

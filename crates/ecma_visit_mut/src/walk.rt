@@ -146,6 +146,47 @@ pub(crate) fn walk_value<T, C: Change<T>>(value: &mut Option<Child<T, ExprTag>>,
     }
 }
 
+/// Changes an expression that may be left out, and the place of what holds it.
+pub(crate) fn walk_value_at<T, C: Change<T>>(
+    value: &mut Option<Child<T, ExprTag>>,
+    span: &mut Span,
+    by: &mut C,
+)
+    requires { fits_held (λ x. holds_expr (C.placed x.part.value)) value.old }
+    ensures { fits_held (λ x. holds_expr (C.placed x.part.value)) value.new }
+{
+    walk_value(value, by);
+    by.span(span);
+}
+
+/// Changes an expression, and the place of what holds it.
+#[tactic(auto, using(crate::proofs::Sorts::expr_stays))]
+pub(crate) fn walk_expr_at<T, C: Change<T>>(
+    expr: &mut Child<T, ExprTag>,
+    span: &mut Span,
+    by: &mut C,
+)
+    requires { holds_expr (C.placed expr.old.part.value) }
+    ensures { holds_expr (C.placed expr.new.part.value) }
+{
+    by.child(&mut *expr.part);
+    by.span(span);
+}
+
+/// Changes a statement, and the place of what holds it.
+#[tactic(auto, using(crate::proofs::Sorts::stmt_stays))]
+pub(crate) fn walk_stmt_at<T, C: Change<T>>(
+    stmt: &mut Child<T, StmtTag>,
+    span: &mut Span,
+    by: &mut C,
+)
+    requires { holds_stmt (C.placed stmt.old.part.value) }
+    ensures { holds_stmt (C.placed stmt.new.part.value) }
+{
+    by.child(&mut *stmt.part);
+    by.span(span);
+}
+
 /// Changes each of a list of statements, and then hands the list.
 pub(crate) fn walk_stmts<T, C: Change<T>>(stmts: &mut Vec<Child<T, StmtTag>>, by: &mut C)
     requires { All (λ x. holds_stmt (C.placed x.part.value)) stmts.old.items }
