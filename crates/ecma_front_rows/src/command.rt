@@ -86,8 +86,11 @@ pub fn words(row: &Row<'_>, answer: &mut Answer) -> anyhow::Result<()> {
         }
         Err(CliFault::Refused(text)) => {
             let text = text.as_str();
-            if !text.contains("ecma-front") || !text.ends_with('\n') {
-                return Err(anyhow::Error::msg("the text doesn't name the program, or has no end"));
+            let names = text.contains("ecma-front") || text.starts_with("error: invalid value");
+            if !names || !text.ends_with('\n') {
+                return Err(anyhow::Error::msg(
+                    "the text doesn't name what is wrong, or has no end",
+                ));
             }
             Ok(answer.say("refused")?)
         }
