@@ -86,7 +86,7 @@ pub fn words(row: &Row<'_>, answer: &mut Answer) -> anyhow::Result<()> {
         }
         Err(CliFault::Refused(text)) => {
             let text = text.as_str();
-            let names = text.contains("ecma-front") || text.starts_with("error: invalid value");
+            let names = text.contains("ecma-front") || text.starts_with("error: ");
             if !names || !text.ends_with('\n') {
                 return Err(anyhow::Error::msg(
                     "the text doesn't name what is wrong, or has no end",
