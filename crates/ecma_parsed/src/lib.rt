@@ -16,7 +16,6 @@ ghost use Rattle.ecma_tree.specs.Tree.{Tree};
 ghost use Rattle.std.specs.Prelude.{Option};
 
 pub use ecma_parser::{PResult, Parser};
-
 use ecma_sources::Sourced;
 use ecma_sources_of::Reread;
 
