@@ -24,6 +24,7 @@ impl Subject for Front {
             "refused" => texts::refused(row, text, answer),
             "fault" => texts::syntax_fault(row, text, answer),
             "nesting" => texts::nesting(text, answer),
+            "read" => texts::read_as(row, answer),
             "answer" => command::answer_to(row, text, answer),
             "words" => command::words(row, answer),
             "place" => command::place_of(row, answer),

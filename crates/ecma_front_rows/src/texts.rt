@@ -1,7 +1,8 @@
 //! Texts that are written, and texts that are refused.
 
 use crate::ran::{minify_within, options, run_all, run_in_pieces};
-use ecma_front::Fault;
+use ecma_front::{Fault, read};
+use ecma_node::ProgramKind;
 use ecma_rows::{Answer, Row};
 use std::alloc::Global;
 
@@ -41,6 +42,25 @@ pub fn syntax_fault(row: &Row<'_>, text: &[u8], answer: &mut Answer) -> anyhow::
     }
     let (lo, hi) = (error.span.lo.0, error.span.hi.0);
     Ok(answer.say(format_args!("{:?} {lo}..{hi}", error.kind))?)
+}
+
+/// The program that a text is read as, by its goal and how many parts stand in its body; or why it has none.
+pub fn read_as(row: &Row<'_>, answer: &mut Answer) -> anyhow::Result<()> {
+    let Some(text) = row.text(0) else {
+        return Err(anyhow::Error::msg("no text"));
+    };
+    match read(answer.alloc(), text, options(row)) {
+        Ok(program) => match &program.kind {
+            ProgramKind::Script(script) => {
+                Ok(answer.say(format_args!("script of {}", script.body.len()))?)
+            }
+            ProgramKind::Module(module) => {
+                Ok(answer.say(format_args!("module of {}", module.body.len()))?)
+            }
+        },
+        Err(Fault::Syntax(error)) => Ok(answer.say(format_args!("{:?}", error.kind))?),
+        Err(fault) => Ok(answer.say(fault)?),
+    }
 }
 
 /// The greatest limit that may be set.
