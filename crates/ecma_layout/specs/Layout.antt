@@ -1,5 +1,5 @@
 -- The layout of a tree: what is written for each kind of node. It reads no place but to mark it.
-use Rattle.std.specs.Prelude.{ℕ, ◌+◌, Bool, true, false, not, ◌&&◌, ◌||◌, ◌==◌, if◌then◌else◌, List, [], Option, Some, None, is_some, codes}
+use Rattle.std.specs.Prelude.{ℕ, ◌+◌, Bool, true, false, not, ◌&&◌, ◌||◌, ◌==◌, if◌then◌else◌, List, [], ◌∷◌, Option, Some, None, is_some, codes}
 use Rattle.ecma_number.specs.Numbers.{SpecNumber}
 use Rattle.ecma_token.specs.Kinds.{new_kind}
 use Rattle.ecma_token.specs.Operators.{operator_text}
@@ -12,7 +12,7 @@ use Rattle.ecma_pieces.specs.Pieces.{Piece}
 use Rattle.ecma_layout.specs.declared.look.Look.{Look}
 use Rattle.ecma_layout.specs.declared.look.Stand.{Stand}
 use Rattle.ecma_layout.specs.declared.look.Stand.TheVariants.{Alone, Operand, Body, Head, Key, Tagged}
-use Rattle.ecma_layout.specs.Looks.{Laid, nothing, refused, ◌·◌, listed, text, brace, blank, line_always, semi, semi_kept, commit, when, formats, gap, line, deeper, back, gap_or, start, end, last}
+use Rattle.ecma_layout.specs.Looks.{Laid, nothing, meant, refused, regular_expression, template_characters, template_end, hashbang_comment, touching, ◌·◌, listed, text, brace, blank, line_always, semi, semi_kept, commit, when, formats, gap, line, deeper, back, gap_or, start, end, last}
 use Rattle.ecma_layout.specs.Literals.{name, key_word, hash_name, string, number, number_before_point, big_integer, quasi_bytes}
 use Rattle.ecma_layout.specs.Words.{sign_of}
 
@@ -160,7 +160,7 @@ closing look t = when (not (is_block t)) (when (is_variables t) semi · line loo
 -- a hashbang, on a line of its own in any style
 abbrev pub hashbang : Option (List ℕ) → Laid
 hashbang None = nothing
-hashbang (Some said) = text (codes "#!") · text said · line_always
+hashbang (Some said) = meant (hashbang_comment said) · line_always
 
 abbrev pub from : Look → Laid → Laid
 from look source = word (codes "from") · gap look · source
@@ -199,6 +199,16 @@ class_head look id id_laid parent parent_laid =
 abbrev pub class_tail : Look → Span → Trees → Laid → Laid
 class_tail look span members f = gap look · text (codes "{") · indented_or_line look members f · last span · brace
 
+-- `new.target` and `import.meta` (13.3.12), and what goes on with an optional chain (13.3.9)
+abbrev pub new_target : Laid
+new_target = meant (touching (codes "new" ∷ codes "." ∷ codes "target" ∷ []))
+
+abbrev pub import_meta : Laid
+import_meta = meant (touching (codes "import" ∷ codes "." ∷ codes "meta" ∷ []))
+
+abbrev pub optional_dot : Laid
+optional_dot = meant (touching (codes "?" ∷ codes "." ∷ []))
+
 -- before the name of a member: a point, and none before a bracket
 abbrev pub point_before : Tree → Laid
 point_before prop = when (not (is_computed prop)) (text (codes "."))
@@ -214,7 +224,7 @@ as_expression s span = when (not (is_key s)) (start span)
 
 -- a piece of a template
 abbrev pub quasi : Look → Stand → Tree → Laid
-quasi look s (tpl_element span is_last raw cooked) = start span · text (quasi_bytes look.style (is_tagged s) raw) · end span
+quasi look s (tpl_element span is_last raw cooked) = start span · meant (template_characters (quasi_bytes look.style (is_tagged s) raw)) · end span
 quasi look s t = nothing
 
 -- names in braces
@@ -354,7 +364,7 @@ abbrev mutual
   laid look s (this_expr span) = commit · start span · word (codes "this") · end span
   laid look s (super span) = commit · start span · word (codes "super") · end span
   laid look s (import span) = commit · start span · word (codes "import") · end span
-  laid look s (meta_prop_expr span kind) = start span · word (if kind == new_kind then codes "new.target" else codes "import.meta")
+  laid look s (meta_prop_expr span kind) = start span · (if kind == new_kind then new_target else import_meta)
   laid look s (array_lit span elems) =
       start span · text (codes "[")
       · indented look elems (separated look (comma_line look) elems · when (ends_with_hole elems) (comma look))
@@ -387,11 +397,11 @@ abbrev mutual
   laid look s (member_expr span obj prop) = start span · laid look Head obj · point_before prop · laid look Alone prop · end span
   laid look s (super_prop_expr span obj prop) = start span · laid look Alone obj · point_before prop · laid look Alone prop
   laid look s (opt_chain_expr span optional (member_expr at (number_lit place value raw) prop)) =
-      (if optional then start place · number look place value raw · text (codes "?.") else number_before look place value raw prop · point_before prop) · laid look Alone prop
+      (if optional then start place · number look place value raw · optional_dot else number_before look place value raw prop · point_before prop) · laid look Alone prop
   laid look s (opt_chain_expr span optional (member_expr at obj prop)) =
-      laid look Head obj · (if optional then text (codes "?.") else point_before prop) · laid look Alone prop
+      laid look Head obj · (if optional then optional_dot else point_before prop) · laid look Alone prop
   laid look s (opt_chain_expr span optional (opt_call at callee args)) =
-      laid look Head callee · when optional (text (codes "?.")) · in_parens (separated look (comma look) args)
+      laid look Head callee · when optional optional_dot · in_parens (separated look (comma look) args)
   laid look s (opt_call at callee args) = laid look Head callee · in_parens (separated look (comma look) args)
   laid look s (paren_expr span e) = commit · start span · text (codes "(") · laid look Alone e · last span · text (codes ")")
   laid look s (arrow_expr span params body waits) =
@@ -419,10 +429,10 @@ abbrev mutual
   laid look s (big_int_lit span radix digits raw) = as_expression s span · big_integer look span radix digits raw
   laid look s (bool_lit span value) = start span · word (if value then codes "true" else codes "false")
   laid look s (null_lit span) = start span · word (codes "null")
-  laid look s (regex_lit span body flags) = start span · text (codes "/") · text body · text (codes "/") · text flags
+  laid look s (regex_lit span body flags) = start span · meant (regular_expression body flags)
   -- templates
   laid look s (tpl span exprs quasis) =
-      if count quasis == count exprs + 1 then start span · text (codes "`") · template look s exprs quasis · text (codes "`") · end span else refused
+      if count quasis == count exprs + 1 then start span · text (codes "`") · template look s exprs quasis · meant (template_end (codes "`")) · end span else refused
   laid look s (tagged_tpl span tag tpl_) = start span · laid look Head tag · laid look Tagged tpl_ · end span
   laid look s (tpl_element span is_last raw cooked) = quasi look s (tpl_element span is_last raw cooked)
   -- patterns
@@ -485,7 +495,7 @@ abbrev mutual
   -- the pieces of a template with the expressions between them
   pub template : Look → Stand → Trees → Trees → Laid
   template look s exprs (more q none) = quasi look s q
-  template look s (more e es) (more q qs) = quasi look s q · text (codes "${") · laid look Alone e · brace · template look s es qs
+  template look s (more e es) (more q qs) = quasi look s q · meant (template_end (codes "${")) · laid look Alone e · brace · template look s es qs
   template look s exprs quasis = nothing
 
 -- ---- what is written

@@ -1,13 +1,26 @@
 -- What a layout is made of: pieces before whatever follows, by the settings of a look.
-use Rattle.std.specs.Prelude.{ℕ, ◌-◌, Bool, true, false, not, ◌||◌, List, [], ◌∷◌, None, codes}
+use Rattle.std.specs.Prelude.{ℕ, ◌-◌, Bool, true, false, not, ◌||◌, List, [], ◌∷◌, ◌++◌, None, codes}
 use Rattle.ecma_token.specs.declared.place.Span.{Span}
 use Rattle.ecma_layout.specs.declared.look.Look.{Look}
 use Rattle.ecma_pieces.specs.Pieces.{Piece, Text, Brace, Blank, Line, Deeper, Back, Semicolon, Commit, Mark}
+
+-- What texts are together: one token that none of them is alone, or tokens that touch one another (clause 12).
+pub data Meaning : Type 0 where
+  -- a regular expression, by its body and its flags (12.9.5)
+  regular_expression : List ℕ → List ℕ → Meaning
+  -- characters of a template, and what ends them: a back quote or `${` (12.9.6)
+  template_characters : List ℕ → Meaning
+  template_end : List ℕ → Meaning
+  -- a hashbang, by what stands behind `#!` (12.5)
+  hashbang_comment : List ℕ → Meaning
+  -- punctuators and words with nothing between them
+  touching : List (List ℕ) → Meaning
 
 -- what a part writes
 pub data Laid : Type 0 where
   nothing : Laid
   one : Piece → Laid
+  meant : Meaning → Laid
   both : Laid → Laid → Laid
   -- what can't be printed, which ends the list: nothing behind it is written
   refused : Laid
@@ -17,10 +30,27 @@ infixr 35 ◌·◌
 abbrev pub ◌·◌ : Laid → Laid → Laid
 f · g = both f g
 
+abbrev pub joined : List (List ℕ) → List ℕ
+joined [] = []
+joined (own ∷ others) = own ++ joined others
+
+-- the texts that are written, one piece each: those of tokens that touch are one
+abbrev pub texts_of : Meaning → List (List ℕ)
+texts_of (regular_expression body flags) = codes "/" ∷ body ∷ codes "/" ∷ flags ∷ []
+texts_of (template_characters own) = own ∷ []
+texts_of (template_end own) = own ∷ []
+texts_of (hashbang_comment own) = codes "#!" ∷ own ∷ []
+texts_of (touching own) = joined own ∷ []
+
+abbrev pub texts_before : List (List ℕ) → List Piece → List Piece
+texts_before [] rest = rest
+texts_before (own ∷ others) rest = Text None own ∷ texts_before others rest
+
 -- the pieces, before those that follow
 abbrev pub listed : Laid → List Piece → List Piece
 listed nothing rest = rest
 listed (one x) rest = x ∷ rest
+listed (meant m) rest = texts_before (texts_of m) rest
 listed (both f g) rest = listed f (listed g rest)
 listed refused rest = []
 
@@ -28,6 +58,7 @@ listed refused rest = []
 abbrev pub is_refused : Laid → Bool
 is_refused nothing = false
 is_refused (one x) = false
+is_refused (meant m) = false
 is_refused (both f g) = is_refused f || is_refused g
 is_refused refused = true
 
