@@ -223,6 +223,7 @@ impl<'a, I: Tokens<'a> + Drop> Parser<'a, I> {
             Some(token) => match &token.token {
                 Token::Error(error) => error.into_kind(),
                 Token::Word(_) => self.unexpected_word(),
+                Token::Arrow => SyntaxError::ArrowNotAllowed,
                 _ => SyntaxError::Unexpected,
             },
             None => SyntaxError::Eof,

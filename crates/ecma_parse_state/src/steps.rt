@@ -32,10 +32,12 @@ impl<'a, I: Tokens<'a> + Drop> Parser<'a, I> {
         let context = self.input.ctx();
         if self.is_barred(context) {
             SyntaxError::EscapeInReservedWord
-        } else if self.at(kinds::EXPORT) && !context.module_ {
-            SyntaxError::ImportExportInScript
-        } else {
+        } else if !self.at(kinds::EXPORT) {
             SyntaxError::Unexpected
+        } else if context.module_ {
+            SyntaxError::ExportNotAllowed
+        } else {
+            SyntaxError::ImportExportInScript
         }
     }
 
