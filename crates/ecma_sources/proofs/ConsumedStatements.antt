@@ -280,6 +280,14 @@ module _ {S : Type 0} {m : Machine S} {Live : S → Type 0} {modular : Bool} (w 
   unfolding do_by
   do_by_backed s c ce sl' = back_word w {s = s} c do_kind (refl, refl, refl, refl) refl sl' _ _ (λ j1. back_then _ _ _ _ (sub_by_backed (past m s) c ce false (live_past w j1)) (λ b2a b2s b2u. back_word w {s = b2s} c while_kind (refl, refl, refl, refl) refl b2u.live _ _ (λ j4. back_then _ _ _ _ (in_parens_backed (past m b2s) c ce (live_past w j4)) (λ e5a e5s e5u. back_at w {s = e5s} semicolon_kind (refl, refl, refl, refl) refl e5u.live _ _ _ _ (λ j7. back_weak _ (back_past w {s = e5s} j7 _ (λ r' q'. Ok (do_while_stmt (spanned lm (was m Live (join (join (join (token w j1) b2u) (token w j4)) e5u) r') q') e5a b2a, q')) (back_ok {s = (past m e5s)} _ _ (live_past w j7) (λ qs' h'. ap (λ (z' : ℕ). do_while_stmt ((span z' (m.last (past m e5s).source))) e5a b2a) (lo_was w (join (join (join (join (token w j1) b2u) (token w j4)) e5u) (token w j7)) qs' h')) (λ i'. absurd (true≢false i'))))) (back_ok {s = e5s} _ _ e5u.live (λ qs' h'. ap (λ (z' : ℕ). do_while_stmt ((span z' (m.last e5s.source))) e5a b2a) (lo_was w (join (join (join (token w j1) b2u) (token w j4)) e5u) qs' h')) (λ i'. absurd (true≢false i')))))))
 
+  -- a slash is no `if`
+  no_if : (k : ℕ) → is_slash k ≡ true → eqb k if_kind ≡ false
+  no_if k e = by_test (eqb k if_kind) (λ i. eqb-true k if_kind i)
+    where
+      by_test : (b : Bool) → (b ≡ true → k ≡ if_kind) → b ≡ false
+      by_test false f = refl
+      by_test true f = absurd (true≢false (sym e ∙ ap (λ (n : ℕ). is_slash n) (f refl)))
+
   operand_if : (s : Stand S) → Live s.source → is_slash (kind (input m s)) ≡ true → at m if_kind (operand m s) ≡ false
   operand_if s l e = by_seen (m.seen s.source) refl e (m.seen (m.operand s.source)) refl
     where
@@ -288,16 +296,13 @@ module _ {S : Type 0} {m : Machine S} {Live : S → Type 0} {modular : Bool} (w 
       by_seen [] i o (p ∷ u) a = absurd (true≢false (sym o))
       by_seen (q ∷ v) i o (p ∷ u) a = ap (λ z. eqb (kind_of z) if_kind) a ∙ by_reread (bw.reread s.source q p v u l i o a)
         where
-          by_reread : (p.spot.token.kind ≡ error_kind) ⊎ Rereads q p → eqb p.spot.token.kind if_kind ≡ false
+          by_reread : (p.spot.token.kind ≡ error_kind) ⊎ (Rereads q p ⊎ (m.operand s.source ≡ s.source)) → eqb p.spot.token.kind if_kind ≡ false
           by_reread (inl z) = ap (λ (k : ℕ). eqb k if_kind) z
-          by_reread (inr z) = ap (λ (k : ℕ). eqb k if_kind) z.1
+          by_reread (inr (inl z)) = ap (λ (k : ℕ). eqb k if_kind) z.1
+          by_reread (inr (inr z)) = ap (λ (y : List Place). eqb (kind_of y) if_kind) (sym a ∙ (ap (λ (y : S). m.seen y) z ∙ i)) ∙ no_if q.spot.token.kind o
 
   slash_if : (s : Stand S) → is_slash (kind (input m s)) ≡ true → at m if_kind s ≡ false
-  slash_if s e = by_test (at m if_kind s) (λ i. eqb-true (kind (input m s)) if_kind i)
-    where
-      by_test : (b : Bool) → (b ≡ true → kind (input m s) ≡ if_kind) → b ≡ false
-      by_test false f = refl
-      by_test true f = absurd (true≢false (sym e ∙ ap (λ (k : ℕ). is_slash k) (f refl)))
+  slash_if s e = no_if (kind (input m s)) e
 
   pub else_by_backed : (s : Stand S) (x : Chain) (xe : x.code.context.module_ ≡ modular) (sl' : Live s.source) → Backed m Live closed false closed_end s (else_by m im x s) (λ r'. else_by lm il x r')
   unfolding else_by
