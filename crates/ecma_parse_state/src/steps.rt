@@ -13,7 +13,7 @@ use crate::failure::Failure;
 use crate::kinds;
 use crate::numbers::token_number;
 use crate::parser::Parser;
-use crate::words::{no_name, strict_reserved};
+use crate::words::{no_name, starts_operand, strict_reserved};
 use ecma_atom::Atom;
 use ecma_token::{Context, SyntaxError, TokenAndSpan};
 use ecma_tokens::Tokens;
@@ -38,6 +38,14 @@ impl<'a, I: Tokens<'a> + Drop> Parser<'a, I> {
     {
         let kind = self.kind();
         self.is_escaped() && (no_name(context, kind) || (strict_reserved(kind) && context.strict))
+    }
+
+    /// Whether the token that comes follows the name `await`, and could be its operand.
+    pub fn follows_await(&self) -> bool {
+        match self.awaited {
+            Some(end) => end.0 == self.last.0 && starts_operand(self.ahead.kind),
+            None => false,
+        }
     }
 
     /// What is wrong with a word, where the grammar has no place for it.
@@ -110,6 +118,9 @@ impl<'a, I: Tokens<'a> + Drop> Parser<'a, I> {
             return Err(self.unexpected());
         }
         let text = Atom::new(self.alloc, self.text())?;
+        if self.at(kinds::AWAIT) {
+            self.awaited = Some(self.hi());
+        }
         self.bump()?;
         Ok(text)
     }
