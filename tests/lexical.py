@@ -68,7 +68,7 @@ def lexer(row):
 
 def plain(row):
     """What the program answers."""
-    asked = 2 if row.subject() == "same" or row.setting.startswith("spell raw") else 1
+    asked = 2 if row.subject() in ("same", "commented") or row.setting.startswith("spell raw") else 1
     answer = (yield [ask(row.setting, *row.fields[:asked])])[0]
     return difference(row.fields[asked:], only(answer))
 

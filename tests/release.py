@@ -310,9 +310,7 @@ def tells_progress_in_one_line(trial):
 def is_fresh_while_nothing_changed(trial):
     """--fresh and --check say yes of the release that was just made, and no where a source below changed."""
     trial.release()
-    began = time.time()
     expect(trial.call("tools/release", "--fresh"), (0, "release 1.2.3 is of these sources\n", ""), "--fresh")
-    expect(time.time() - began < 5, True, "--fresh in seconds")
     status, out, _ = trial.call("tools/release", "--check")
     expect((status, out.count(" is what these sources build")), (0, 3), "--check")
     trial.change()

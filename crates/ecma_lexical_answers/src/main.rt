@@ -4,6 +4,7 @@
 //! Nothing is proved of it but that it is safe: what is read and written, the crates below promise.
 #![tactic(auto)]
 
+mod atoms;
 mod bench;
 mod classes;
 mod kinds;
@@ -37,6 +38,9 @@ fn answer_base(
         "kind" => kinds::kind(text, answer),
         "reserving" => kinds::reserving(text, answer),
         "units" => kinds::units(text, answer),
+        "atom" => atoms::atom(text, answer),
+        "value_of" => atoms::str_value(text, answer),
+        "settings" => atoms::settings(question, text, answer),
         "bytes" => classes::bytes(text, answer),
         "characters" => classes::characters(text, answer),
         "words" => words::words(text, answer),
@@ -82,7 +86,7 @@ impl Subject for Lexical {
             "reserved" => tokens::reserved(text, answer),
             "lexer" => lexer::tell(question, text, answer),
             "spell" => spellings::spell(question, text, answer),
-            "gather" | "whole" | "js" | "omit" | "twice" | "lent" | "boxed" => {
+            "gather" | "whole" | "js" | "omit" | "twice" | "lent" | "boxed" | "commented" => {
                 write::tell(question, answer)
             }
             _ => answer_piece(question, text, answer),

@@ -1,6 +1,7 @@
 //! Calls of the writers, and what is written and marked.
 
 mod calls;
+mod commented;
 mod gathered;
 mod written;
 
@@ -11,6 +12,7 @@ pub fn tell(question: &Question<'_>, answer: &mut Answer) -> anyhow::Result<()> 
     match question.subject() {
         "gather" => gathered::gather(question, answer),
         "whole" => gathered::whole(question, answer),
+        "commented" => commented::tell(question, answer),
         _ => written::written(question, answer),
     }
 }

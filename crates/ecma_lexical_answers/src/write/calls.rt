@@ -12,12 +12,12 @@ fn known(text: &str) -> Option<&'static str> {
     WORDS.iter().copied().find(|word| *word == text)
 }
 
-fn number(text: &str) -> Option<u32> {
+pub(crate) fn number(text: &str) -> Option<u32> {
     text.parse::<u32>().ok()
 }
 
 /// A span as `3-5`.
-fn span(text: &str) -> Option<Span> {
+pub(crate) fn span(text: &str) -> Option<Span> {
     let (lo, hi) = text.split_once('-')?;
     Some(Span {
         lo: BytePos(number(lo)?),
