@@ -149,6 +149,8 @@ class Asker:
                 verdicts[name] = end.value
             except Wrong as wrong:
                 verdicts[name] = str(wrong)
+            except Exception as wrong:
+                verdicts[name] = f"the test ended: {type(wrong).__name__}: {wrong}"
 
         for name, test in tests:
             step(name, test, None)

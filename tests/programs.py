@@ -18,9 +18,9 @@ def beginnings(text):
     return [whole[:end].encode() for end in range(len(whole))]
 
 
-def reading(row, goal, limit=NESTING):
-    """The setting that asks for the tree of a text."""
-    return " ".join(["read", goal, *(it for it in LANGUAGE if row.has(it)), f"nesting={limit}"])
+def reading(row, goal, limit=NESTING, *words):
+    """The setting that asks what a text is read as."""
+    return " ".join(["read", goal, *words, *(it for it in LANGUAGE if row.has(it)), f"nesting={limit}"])
 
 
 def goals(row):
@@ -61,7 +61,8 @@ def tree(row):
     text, limit = row.field(0), int(row.text(1)) if row.has("nesting") else NESTING
     if len(text) <= SHORT:
         yield from judge_beginnings([reading(row, goal) for goal in goals(row)], text)
-    answers = yield [ask(reading(row, goal, limit), text) for goal in goals(row)]
+    words = ["tree"] if row.has("tree") else []
+    answers = yield [ask(reading(row, goal, limit, *words), text) for goal in goals(row)]
     all_told = [told(row, only(it)) for it in answers]
     found = all_told[0]
     if row.has("both") and all_told[1].replace("(Module", "(Script", 1) != found:

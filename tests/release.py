@@ -11,7 +11,7 @@ import tempfile
 import time
 
 ROOT = os.path.dirname(os.path.dirname(os.path.realpath(__file__)))
-SCRIPTS = ("ecma-front", "tools/sources", "tools/build", "tools/release", "tools/released.py", "tools/cost/chain.py")
+SCRIPTS = (".ci/run", "ecma-front", "tools/sources", "tools/build", "tools/release", "tools/released.py", "tools/cost/chain.py")
 CRATES = """\
 # libraries, and the programs over them
 ecma_low:
@@ -25,6 +25,7 @@ RT = """\
 #!/usr/bin/env bash
 name=${PWD##*/}
 [ "$1" = version ] && { echo pretended-kit; exit; }
+[ "$1" = ci ] && { echo "what the gate says"; echo "3 passed, ${REFUSED:-0} failed (of all)"; exit "$((${REFUSED:-0} > 0))"; }
 echo "begin $name" >>"$TRIAL/rt.log"
 sleep "${SLOW:-0}"
 [ "${BROKEN-}" = "$name" ] && { echo "$name: not proved"; exit 1; }
@@ -365,11 +366,32 @@ def has_a_version(trial):
     expect(trial.call("tools/release")[0], 2, "without a version")
 
 
+def adds_up_the_gate(trial):
+    """The gate counts what rt ci and ./test count and the release, and fails where one of them does."""
+    trial.release()
+    trial.write("repository/test", '#!/bin/sh\necho "$* ${WRONG:-0}"\necho "5 passed, ${WRONG:-0} failed"\n[ "${WRONG:-0}" = 0 ]\n', True)
+    status, out, _ = trial.call(".ci/run")
+    expect((status, out.splitlines()[-1]), (0, "9 passed, 0 failed"), "all is well")
+    expect_in("what the gate says\n3 passed", out, "what rt ci says")
+    expect_in("--built 0\n5 passed", out, "what ./test says")
+    status, out, _ = trial.call(".ci/run", WRONG="2")
+    expect((status, out.splitlines()[-1]), (1, "9 passed, 2 failed"), "tests that fail")
+    status, out, _ = trial.call(".ci/run", REFUSED="1")
+    expect((status, out.splitlines()[-1]), (1, "3 passed, 1 failed"), "a proof that fails")
+    with open(f"{trial.root}/crates/ecma_front_cli/out/ecma_front_cli", "a") as it:
+        it.write("# otherwise\n")
+    status, out, _ = trial.call(".ci/run")
+    expect((status, out.splitlines()[-1]), (1, "8 passed, 1 failed"), "another program of the same sources")
+    shutil.rmtree(f"{trial.root}/release")
+    status, out, _ = trial.call(".ci/run")
+    expect((status, out.splitlines()[-1]), (0, "8 passed, 0 failed"), "no release")
+
+
 TRIALS = (
     runs_at_once, checks_once, remembers_no_new_file, refuses_a_changed_byte, refuses_an_unnamed_program, builds_without_release,
     builds_where_a_file_is_gone, builds_when_asked, builds_on_other_machines, needs_the_toolchain, tells_what_is_not_built,
     builds_side_by_side, keeps_what_is_proved, tells_of_changed_sources, tells_progress_in_one_line, is_fresh_while_nothing_changed,
-    is_of_what_it_reads, compares_what_is_built, has_a_version,
+    is_of_what_it_reads, compares_what_is_built, has_a_version, adds_up_the_gate,
 )  # fmt: skip
 
 

@@ -88,13 +88,17 @@ pub fn tell_faults(faults: &[Error], answer: &mut Answer) -> anyhow::Result<()> 
     Ok(())
 }
 
-/// The tree of a text and its early errors, or why it is refused.
+/// The tree of a text where that is asked for, and its early errors; or why it is refused.
 pub fn tell(question: &Question<'_>, answer: &mut Answer) -> anyhow::Result<()> {
     let alloc = answer.alloc();
     match read(alloc, question.text(0), reading(question))? {
         Ok((program, faults)) => {
             answer.say("read")?;
-            answer.say(outline(alloc, &program)?.as_str())?;
+            if question.has("tree") {
+                answer.say(outline(alloc, &program)?.as_str())?;
+            } else {
+                answer.say("")?;
+            }
             tell_faults(faults.as_slice(), answer)
         }
         Err(error) => refuse(&error, answer),
