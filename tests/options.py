@@ -82,6 +82,13 @@ def not_utf8():
     return difference([b"1", b"", b"2:2: the text is not UTF-8\n"], [str(done.status).encode(), done.out, done.err])
 
 
+def bad_word():
+    """A word of the command line that is no UTF-8 is refused."""
+    done = ran((yield [Run((b"--minify", b"\xff"), b"a")])[0])
+    wanted = [b"2", b"", b"error: invalid UTF-8 was detected in one or more arguments\n"]
+    return difference(wanted, [str(done.status).encode(), done.out, done.err])
+
+
 def tests(paths):
     """The tests of the command line, each with its name."""
     found = [(f"options {case[0]} < {case[1]!r}", option(*case)) for case in CASES]
@@ -90,5 +97,6 @@ def tests(paths):
         ("options: a file, minified", from_file(("--minify", "--script"), b"with (a) b", b"with(a)b")),
         ("options: a full disk", full(paths["ecma-front"])),
         ("options: not UTF-8", not_utf8()),
+        ("options: a word that is not UTF-8", bad_word()),
     ]
     return found

@@ -9,7 +9,7 @@ from asking import Ask, Refused, ask_batch
 
 PROCESSORS = len(os.sched_getaffinity(0))
 # how many texts of a family are tried at most, and how many in one batch
-MOST, BATCH = 25_000, 5_000
+MOST, BATCH = 42_000, 5_000
 LS, E, SNOWMAN, ZWJ = "\u2028", "\u00e9", "\u2603", "\u200d"
 # all characters that some rule asks for, and some others
 ALL = f"'\"\\0 18_.exnu/*[]<!->=?\n\r{LS}a{E}`${{}}#{SNOWMAN}"
