@@ -76,6 +76,18 @@ def full(path):
     yield
 
 
+def silent(path, text, status, out):
+    """Errors that can't be printed change nothing else."""
+    for errors in ("/dev/full", os.devnull):
+        if os.path.exists(errors):
+            with open(errors, "wb") as err:
+                done = subprocess.run([path, "--script", "--minify"], input=text, stdout=subprocess.PIPE, stderr=err, timeout=30)
+            if (done.returncode, done.stdout) != (status, out):
+                return f"expected {status} and {out}, got {done.returncode} and {done.stdout}"
+    return None
+    yield
+
+
 def not_utf8():
     """A text that is no UTF-8, with the place of its first byte that is none."""
     done = ran((yield [Run(("--minify",), b"a;\n'\xff'")])[0])
@@ -96,6 +108,10 @@ def tests(paths):
         ("options: a file", from_file((), b"a;b", b"a;\nb;\n")),
         ("options: a file, minified", from_file(("--minify", "--script"), b"with (a) b", b"with(a)b")),
         ("options: a full disk", full(paths["ecma-front"])),
+        ("options: no room for errors, a text", silent(paths["ecma-front"], b"a", 0, b"a")),
+        ("options: no room for errors, a fault", silent(paths["ecma-front"], b"a b", 1, b"")),
+        ("options: no room for errors, no text", silent(paths["ecma-front"], b"\xff", 1, b"")),
+        ("options: a folder", option("/", "a", 3, "", "read failed\n")),
         ("options: not UTF-8", not_utf8()),
         ("options: a word that is not UTF-8", bad_word()),
     ]

@@ -25,6 +25,8 @@ impl Subject for Programs {
             "print" => print::tell(question, answer),
             "count" => families::tell(question, answer),
             "front" => front::tell(question, answer),
+            "run" => front::tell_run(question, answer),
+            "messages" => front::tell_messages(answer),
             "place" => front::tell_place(question, answer),
             _ => Err(anyhow::Error::msg("no such question")),
         }
