@@ -25,6 +25,7 @@ RT = """\
 #!/usr/bin/env bash
 name=${PWD##*/}
 [ "$1" = version ] && { echo pretended-kit; exit; }
+[ "$1" = ci ] && [ -n "${REBUILT-}" ] && echo "# $REBUILT" >>crates/ecma_front_cli/out/ecma_front_cli
 [ "$1" = ci ] && { echo "what the gate says"; echo "3 passed, ${REFUSED:-0} failed (of all)"; exit "$((${REFUSED:-0} > 0))"; }
 echo "begin $name" >>"$TRIAL/rt.log"
 sleep "${SLOW:-0}"
@@ -378,10 +379,12 @@ def adds_up_the_gate(trial):
     expect((status, out.splitlines()[-1]), (1, "9 passed, 2 failed"), "tests that fail")
     status, out, _ = trial.call(".ci/run", REFUSED="1")
     expect((status, out.splitlines()[-1]), (1, "3 passed, 1 failed"), "a proof that fails")
-    with open(f"{trial.root}/crates/ecma_front_cli/out/ecma_front_cli", "a") as it:
-        it.write("# otherwise\n")
-    status, out, _ = trial.call(".ci/run")
+    status, out, _ = trial.call(".ci/run", REBUILT="otherwise")
     expect((status, out.splitlines()[-1]), (1, "8 passed, 1 failed"), "another program of the same sources")
+    status, out, _ = trial.call(".ci/run")
+    expect((status, out.splitlines()[-1]), (1, "3 passed, 1 failed"), "programs of earlier sources")
+    for name in ("ecma_front_cli", "ecma_lexical_answers", "ecma_program_answers"):
+        shutil.rmtree(f"{trial.root}/crates/{name}/out")
     shutil.rmtree(f"{trial.root}/release")
     status, out, _ = trial.call(".ci/run")
     expect((status, out.splitlines()[-1]), (0, "8 passed, 0 failed"), "no release")
