@@ -36,10 +36,10 @@ def of_token(goal):
     sorts = {"Str": "Str", "Num": "Number", "BigInt": "Number", "Regex": "RegExp"}
 
     def found(text, fields):
-        word = fields[0].split(" ")[0]
         if fields == ["end"]:
             return fields
-        if re.fullmatch(r"[A-Za-z]+ \d+\.\.\d+", fields[0]) and word not in ("Null", "True", "False") and word in FAULTS:
+        word = fields[0].split(" ")[0]
+        if is_fault(fields[:1]):
             return None
         is_word = word in ("Null", "True", "False") or word.startswith(("Ident(", "Keyword("))
         sort = sorts.get(word) or ("Word" if is_word else "Punctuator")
@@ -49,16 +49,14 @@ def of_token(goal):
     return f"tokens {goal}", wanted, found
 
 
-FAULTS = {
-    "UnterminatedStrLit", "UnterminatedRegExp", "UnexpectedChar", "Unexpected", "IdentAfterNum", "ExpectedDigit", "UnterminatedTpl",
-    "NumericSeparatorIsAllowedOnlyBetweenTwoDigits", "NumLitTerminatedWithExp", "InvalidStrEscape", "BadCharacterEscapeSequence",
-    "InvalidIdentChar", "InvalidUnicodeEscape", "ExpectedHexChars", "UnterminatedBlockComment", "LegacyCommentInModule",
-}  # fmt: skip
+# the kinds of punctuators that are told by one word
+MARKS = """LBrace LParen RParen LBracket RBracket RBrace Dot DotDotDot Semi Comma Bang Tilde PlusPlus MinusMinus QuestionMark Colon Arrow Hash
+    At BackQuote DollarLBrace Null True False""".split()
 
 
 def is_fault(fields):
     """Whether an answer is one fault alone."""
-    return len(fields) == 1 and bool(re.fullmatch(r"[A-Z][A-Za-z]+ \d+\.\.\d+", fields[0])) and fields[0].split(" ")[0] in FAULTS
+    return len(fields) == 1 and bool(re.fullmatch(r"[A-Z][A-Za-z]+ \d+\.\.\d+", fields[0])) and fields[0].split(" ")[0] not in MARKS
 
 
 def of_piece():

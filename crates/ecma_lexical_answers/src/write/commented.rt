@@ -7,7 +7,7 @@ use ecma_atom::Atom;
 use ecma_comments::{Comment, CommentKind, Comments};
 use ecma_print_comments::WithComments;
 use ecma_token::BytePos;
-use ecma_write::JsWriter;
+use ecma_write::{EmitError, JsWriter, WriteJs};
 use std::alloc::Global;
 
 /// The comment of a line `leads 8 block 1-8 text`, which is added to the others.
@@ -34,6 +34,22 @@ fn add(alloc: Global, line: &str, comments: &mut Comments) -> anyhow::Result<()>
     }
 }
 
+/// Makes the calls of a question over a writer that writes comments, and writes the comments up to its end.
+fn write<W: WriteJs + Drop>(
+    question: &Question<'_>,
+    wr: W,
+    comments: &mut Comments,
+) -> anyhow::Result<Option<EmitError>> {
+    let mut wr = WithComments::new(wr, comments, question.has("minify"));
+    if let Some(fault) = perform(&mut wr, question.text(0))? {
+        return Ok(Some(fault));
+    }
+    match question.number("end") {
+        Some(end) => Ok(wr.finish(BytePos(end)).err()),
+        None => Ok(None),
+    }
+}
+
 /// What the calls of the first field write between the comments of the second, one a line, of a text that ends at the place of the
 /// setting.
 pub(crate) fn tell(question: &Question<'_>, answer: &mut Answer) -> anyhow::Result<()> {
@@ -44,15 +60,8 @@ pub(crate) fn tell(question: &Question<'_>, answer: &mut Answer) -> anyhow::Resu
     }
     let mut memory = memory(alloc, question)?;
     let js = JsWriter::new(alloc, "\n", &mut memory, None);
-    let mut wr = WithComments::new(js, &mut comments, question.has("minify"));
-    let mut ended = perform(&mut wr, question.text(0))?;
-    if let (None, Some(end)) = (ended, question.number("end")) {
-        ended = wr.finish(BytePos(end)).err();
+    match write(question, js, &mut comments)? {
+        None => Ok(answer.push(memory.bytes())?),
+        Some(_) => Err(anyhow::Error::msg("it is not written whole")),
     }
-    drop(wr);
-    answer.push(memory.bytes())?;
-    if ended.is_some() {
-        return Err(anyhow::Error::msg("it is not written whole"));
-    }
-    Ok(())
 }
