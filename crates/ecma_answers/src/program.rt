@@ -16,11 +16,7 @@ pub trait Subject {
 }
 
 /// The line that answers a question: `ok` and the fields, or `error` and why there is no answer.
-fn answer_line<S: Subject>(
-    rt: &HostRuntime,
-    subject: &S,
-    line: &str,
-) -> anyhow::Result<Vec<u8>> {
+fn answer_line<S: Subject>(rt: &HostRuntime, subject: &S, line: &str) -> anyhow::Result<Vec<u8>> {
     let alloc = rt.alloc();
     let question = read(alloc, line)?;
     let mut answer = Answer::new(alloc);

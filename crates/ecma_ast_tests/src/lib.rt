@@ -3,10 +3,9 @@
 //! texts are asked by rows.
 #![tactic(auto)]
 
-pub mod examples;
-
 #[cfg(test)]
 mod deep;
+pub mod examples;
 #[cfg(test)]
 mod expressions;
 #[cfg(test)]

@@ -1,11 +1,11 @@
 //! Strings, pieces of templates and numbers.
 
 use crate::told::{end_of, failed, fault, units, value};
+use ecma_answers::{Answer, Question};
 use ecma_literal::{
     Ending, Numeral, NumericLiteral, StringLiteral, TemplatePiece, begins_number, raw_text,
     read_number, read_string, read_template,
 };
-use ecma_answers::{Answer, Question};
 use ecma_scan::characters::pop;
 use ecma_token::Units;
 use std::borrow::CowStr;

@@ -27,11 +27,7 @@ use std::process::ExitCode;
 struct Lexical;
 
 /// Answers a question of what every layer speaks of.
-fn answer_base(
-    question: &Question<'_>,
-    text: &str,
-    answer: &mut Answer,
-) -> anyhow::Result<()> {
+fn answer_base(question: &Question<'_>, text: &str, answer: &mut Answer) -> anyhow::Result<()> {
     match question.subject() {
         "value" => values::value(text, answer),
         "same" => values::same(text, question.text(1), answer),
@@ -49,11 +45,7 @@ fn answer_base(
 }
 
 /// Answers a question of the pieces between literals.
-fn answer_piece(
-    question: &Question<'_>,
-    text: &str,
-    answer: &mut Answer,
-) -> anyhow::Result<()> {
+fn answer_piece(question: &Question<'_>, text: &str, answer: &mut Answer) -> anyhow::Result<()> {
     match question.subject() {
         "piece" => trivia::piece(question, text, answer),
         "skip" => trivia::skip(question, text, answer),

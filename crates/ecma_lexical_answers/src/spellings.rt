@@ -1,8 +1,8 @@
 //! Written spellings: strings by their units, names and keys, pieces of templates by their raw
 //! texts, numbers by a spelling of theirs, big integers.
 
-use ecma_number::NumValue;
 use ecma_answers::{Answer, Question};
+use ecma_number::NumValue;
 use ecma_spell_base::Style;
 use ecma_spell_number::{
     FormattedText, NumberText, big_int, formatted, formatted_big_int, minified, takes_point,

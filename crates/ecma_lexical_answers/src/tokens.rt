@@ -3,8 +3,8 @@
 ghost use Rattle.std.specs.Prelude.{IfOk, IfSome, IsUtf8};
 
 use crate::told::{end_of, failed, fault, units, value};
-use ecma_lexeme::{Lexeme, LexicalGoal, read_token};
 use ecma_answers::{Answer, Question};
+use ecma_lexeme::{Lexeme, LexicalGoal, read_token};
 use ecma_scan::is_escaped_reserved;
 use ecma_token::{Context, Error, Token};
 use std::alloc::Global;

@@ -78,7 +78,13 @@ pub fn comments(question: &Question<'_>, text: &str, answer: &mut Answer) -> any
         return failed("too long");
     }
     let mut comments = Vec::new(answer.alloc());
-    let passed = collect_trivia(end, goal(question), question.has("first"), text, &mut comments);
+    let passed = collect_trivia(
+        end,
+        goal(question),
+        question.has("first"),
+        text,
+        &mut comments,
+    );
     if question.has("counted") {
         answer.say(comments.len())?;
     } else {

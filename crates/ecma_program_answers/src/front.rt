@@ -93,7 +93,13 @@ pub fn tell_run(question: &Question<'_>, answer: &mut Answer) -> anyhow::Result<
     let mut reader = MemReader::new(alloc, text, read, question.number("read_fails"))?;
     let mut writer = MemWriter::new(alloc, room, written, question.number("write_fails"))?;
     let mut kept = Vec::new(alloc);
-    let ended = run_kept(alloc, &mut reader, &mut writer, options(question), &mut kept);
+    let ended = run_kept(
+        alloc,
+        &mut reader,
+        &mut writer,
+        options(question),
+        &mut kept,
+    );
     match ended {
         Ok(positions) if positions.is_none() => answer.say("written")?,
         Ok(_) => answer.say("positions")?,

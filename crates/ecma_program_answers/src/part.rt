@@ -11,10 +11,7 @@ use ecma_visit::Walk;
 use std::alloc::Global;
 
 /// The outline of what an entry answered.
-fn shown<T: Walk + Drop>(
-    alloc: Global,
-    part: PResult<T>,
-) -> anyhow::Result<Result<String, Error>> {
+fn shown<T: Walk + Drop>(alloc: Global, part: PResult<T>) -> anyhow::Result<Result<String, Error>> {
     match part {
         Ok(part) => Ok(Ok(outline_part(alloc, &part)?)),
         Err(error) => Ok(Err(error)),

@@ -8,7 +8,7 @@ use ecma_lexer::Lexer;
 use ecma_memory::MemWriter;
 use ecma_node::Program;
 use ecma_parser::Parser;
-use ecma_token::{BytePos, Error, EsVersion, LineCol};
+use ecma_token::{BytePos, CountedWrite, Error, EsVersion, LineCol};
 use ecma_write::EmitError;
 use std::alloc::Global;
 
@@ -120,25 +120,39 @@ fn emit<W: WriteJs + Drop>(
     emitter.emit_program(program)
 }
 
-/// Prints a program through one block. Only where it is minified may a semicolon before `}` and at the end go.
-fn print_to(
+/// Prints a program to a writer of bytes, and hands the writer back. Only where it is minified may a semicolon before `}`
+/// and at the end go.
+fn emit_to<W: CountedWrite + Drop>(
     alloc: Global,
     program: &Program,
     style: Style,
     marks: Option<&mut Vec<(BytePos, LineCol)>>,
     comments: Option<&mut Comments>,
-    out: &mut MemWriter,
-) -> Result<(), EmitError> {
-    let mut wr = JsWriter::new(alloc, style.line_end, Gather::new(out), marks);
+    out: W,
+) -> (W, Result<(), EmitError>) {
+    let mut wr = JsWriter::new(alloc, style.line_end, out, marks);
     wr.set_indent_str(style.indent);
-    let mut block = if style.cfg.minify {
+    if style.cfg.minify {
         let mut wr = omit_trailing_semi(wr);
-        emit(alloc, program, style.cfg, comments, &mut wr)?;
-        wr.into_inner().into_inner()
+        let ended = emit(alloc, program, style.cfg, comments, &mut wr);
+        (wr.into_inner().into_inner(), ended)
     } else {
-        emit(alloc, program, style.cfg, comments, &mut wr)?;
-        wr.into_inner()
-    };
+        let ended = emit(alloc, program, style.cfg, comments, &mut wr);
+        (wr.into_inner(), ended)
+    }
+}
+
+/// Prints a program through one block. Where it fails in between, what waits in the block is not written.
+fn print_to<W: CountedWrite>(
+    alloc: Global,
+    program: &Program,
+    style: Style,
+    marks: Option<&mut Vec<(BytePos, LineCol)>>,
+    comments: Option<&mut Comments>,
+    out: &mut W,
+) -> Result<(), EmitError> {
+    let (mut block, ended) = emit_to(alloc, program, style, marks, comments, Gather::new(out));
+    ended?;
     match block.finish() {
         Ok(()) => Ok(()),
         Err(error) => Err(EmitError::Write(error.kind())),

@@ -1,9 +1,9 @@
 //! Comments of a source between what is printed. Whole texts with comments are asked by rows.
+use crate::examples::build;
 use crate::made::ok;
 use crate::printer::placed::{comment, comments, name_stmt, script};
 use crate::printer::printed::formatted;
 use ecma_ast::Build;
-use crate::examples::build;
 use ecma_codegen::{EmitError, NoPlaces, to_code, to_code_default, to_code_with_comments};
 use ecma_comments::{CommentKind, Comments};
 use ecma_token::BytePos;

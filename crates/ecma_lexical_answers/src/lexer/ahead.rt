@@ -2,9 +2,9 @@
 
 use crate::lexer::run::lexer;
 use crate::lexer::told::{failed, tell, tell_as, tell_end, tell_faults};
+use ecma_answers::{Answer, Question};
 use ecma_buffer::Buffer;
 use ecma_lexer::{Lexer, Tokens};
-use ecma_answers::{Answer, Question};
 use std::alloc::Global;
 
 /// Adds the next token, which ends at the last place then, or says that the text ended.
@@ -180,7 +180,12 @@ fn tell_steps<'a>(
 }
 
 /// The tokens of a text as a buffer hands them out by steps, and then up to the end.
-pub fn by_steps(question: &Question<'_>, text: &str, steps: &str, answer: &mut Answer) -> anyhow::Result<()> {
+pub fn by_steps(
+    question: &Question<'_>,
+    text: &str,
+    steps: &str,
+    answer: &mut Answer,
+) -> anyhow::Result<()> {
     let mut buffer = Buffer::new(lexer(question, text, answer.alloc())?);
     tell_steps(&mut buffer, text, steps, answer)
 }

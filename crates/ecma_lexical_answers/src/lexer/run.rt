@@ -4,9 +4,9 @@ use crate::lexer::again::read_again;
 use crate::lexer::ahead::tell_ahead;
 use crate::lexer::steps;
 use crate::lexer::told::{failed, tell, tell_comments, tell_faults, tell_list};
+use ecma_answers::{Answer, Question};
 use ecma_input::{Capturing, TokensInput};
 use ecma_lexer::{Lexer, Tokens, canonical_text};
-use ecma_answers::{Answer, Question};
 use ecma_token::{BytePos, Context, EsVersion, Syntax, Token, TokenAndSpan};
 use std::alloc::Global;
 
@@ -20,7 +20,11 @@ fn context(question: &Question<'_>) -> Context {
 }
 
 /// A lexer at the start of a text, whose first place is 1.
-pub fn lexer<'a>(question: &Question<'_>, text: &'a str, alloc: Global) -> anyhow::Result<Lexer<'a>> {
+pub fn lexer<'a>(
+    question: &Question<'_>,
+    text: &'a str,
+    alloc: Global,
+) -> anyhow::Result<Lexer<'a>> {
     if text.len() > 1_000_000 {
         return failed("too long");
     }
@@ -147,7 +151,12 @@ fn canonical(
 }
 
 /// The tokens of a text by steps, and then up to the end; or its canonical text.
-pub fn by_steps(question: &Question<'_>, text: &str, steps: &str, answer: &mut Answer) -> anyhow::Result<()> {
+pub fn by_steps(
+    question: &Question<'_>,
+    text: &str,
+    steps: &str,
+    answer: &mut Answer,
+) -> anyhow::Result<()> {
     let alloc = answer.alloc();
     let mut told = String::new(alloc);
     tell_all(question, text, steps, answer, &mut told)?;

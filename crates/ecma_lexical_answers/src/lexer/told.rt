@@ -1,7 +1,7 @@
 //! What is told of tokens and faults.
 
-use ecma_comments::{Comment, CommentKind, Comments};
 use ecma_answers::Answer;
+use ecma_comments::{Comment, CommentKind, Comments};
 use ecma_token::{BytePos, Error, Span, Token, TokenAndSpan};
 use std::alloc::Global;
 use std::convert::AsStr;

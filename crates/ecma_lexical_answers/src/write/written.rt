@@ -1,8 +1,8 @@
 //! What a writer writes and marks.
 
 use crate::write::calls::perform;
-use ecma_memory::MemWriter;
 use ecma_answers::{Answer, Question};
+use ecma_memory::MemWriter;
 use ecma_token::{BytePos, CountedWrite, LineCol};
 use ecma_write::{EmitError, JsWriter, WriteJs, omit_trailing_semi};
 use std::alloc::Global;
