@@ -2,9 +2,6 @@
 //! writes it to standard output. What a command line means and what is answered is the library's.
 #![tactic(auto)]
 
-#[cfg(test)]
-mod tests;
-
 use ecma_front::{CliFault, Counted, Invocation, answer, invocation};
 use std::fs::File;
 use std::io::Write;
