@@ -1,9 +1,10 @@
 -- The entry of programs answers the tree that is chosen.
-use Rattle.std.proofs.Common.{◌≡◌, ◌≤◌, ◌⊎◌, ◌+◌, ℕ, Bool, true, false, List, [], Result, Ok, Err, inl, inr, refl, sym, ap, ◌∙◌, subst}
+use Rattle.std.proofs.Common.{◌≡◌, ◌⊎◌, ◌+◌, ℕ, Bool, true, false, List, [], Result, Ok, Err, inl, inr, refl, sym, ap, ◌∙◌, subst}
 use Rattle.std.specs.Str.{chars}
 use Rattle.ecma_token.specs.declared.error.Error.{Error}
 use Rattle.ecma_token.specs.declared.error.SyntaxError.TheVariants as kinds
 use Rattle.ecma_token.specs.declared.version.EsVersion.TheVariants.{EsNext}
+use Rattle.ecma_token.specs.declared.syntax.EsSyntax.{EsSyntax}
 use Rattle.ecma_token.specs.Dialect.{parts_of}
 use Rattle.ecma_token.specs.Tokens.{Spot}
 use Rattle.ecma_tokens.specs.Machine as tokens
@@ -11,24 +12,25 @@ use Rattle.ecma_tokens.specs.Machine.{Source}
 use Rattle.ecma_input.specs.Lists.{list_machine}
 use Rattle.ecma_scan.specs.Places.{bytes}
 use Rattle.ecma_tree.specs.Tree.{Tree}
-use Rattle.ecma_nesting.specs.Nesting.{nesting}
 use Rattle.ecma_early.specs.Early.{early_errors}
 use Rattle.ecma_grammar_complete_base.specs.Laws.{InOrder}
 use Rattle.ecma_reading.specs.Source.{Fault}
 use Rattle.ecma_lexing.specs.States.{State, at_start_of}
 use Rattle.ecma_lexer.specs.Machine.{lexer_machine}
-use Rattle.ecma_spells.specs.Text.{Setting, Reads, TreeSpells, text_start}
-use Rattle.ecma_spells.specs.Choice.{tells_module, TreeChosen}
+use Rattle.ecma_spells.specs.Text.{Setting, Reads, TreeSpells, code_of, text_start}
+use Rattle.ecma_spells.specs.Choice.{tells_module}
+use Rattle.ecma_parse_state.specs.Fronts.{machine_of}
 use Rattle.ecma_parse_state.specs.declared.parser.Parser.{Parser}
+use Rattle.ecma_parse_entries.specs.Within.{program_within}
 use Rattle.ecma_parser.specs.Answers.{Parses}
 use Rattle.ecma_parser.specs.Choice.{IsMeant, NotMeant, Chooses}
-use Rattle.ecma_parser.specs.Entries.{syntax_in, limit_in}
+use Rattle.ecma_parser.specs.Entries.{syntax_in, limit_in, opened}
 use Rattle.ecma_parser.specs.declared.entries.Entries.{Entries}
 use Rattle.ecma_parsed.specs.Answered.{SpelledBy, NewAnswer}
 use Rattle.ecma_parsed.specs.Judged.{JudgedBy, Judged}
 use Rattle.ecma_parsed.specs.ListRead.{seen, ReadsList}
 use Rattle.ecma_parsed.specs.Lists.{SpellsList}
-use Rattle.ecma_parsed.specs.Chosen.{NoModule, Chosen, AnswersModule, ChosenAnswer, PromisedChoice, TextsChosen, NewChosen, ListChosen, ListsChosen, NewListChosen}
+use Rattle.ecma_parsed.specs.Chosen.{NoModule, Chosen, ChosenAnswer, PromisedChoice, TextsChosen, NewChosen, ListChosen, ListsChosen, NewListChosen}
 use Rattle.ecma_parsed.proofs.AnsweredLemmas.{Joins, new_answer, first_read, read_first}
 use Rattle.ecma_parsed.proofs.TextLemmas.{text_joins, text_first, chars_start}
 use Rattle.ecma_parsed.proofs.ListAnswers.{list_joins, list_first}
@@ -111,8 +113,14 @@ module _ {I S : Type 0} (m : tokens.Machine S) (state : I → Source S) (e : Ent
   pub choice_first : e.started ≡ false → (z : Source S) → state e.reading.input ≡ z → PromisedChoice m state e result [] recorded
       → Chooses (parts_of z.settings.syntax) result (first_read m state true e z) (first_read m state false e z) [] recorded
   choice_first h z source p = subst (λ (y : Source S). Chooses (parts_of y.settings.syntax) result (first_read m state true e z) (first_read m state false e z) [] recorded) source
-      (subst (λ (r : Result Tree Fault). Chooses (syntax_in state e) result r (first_read m state false e z) [] recorded) (read_first m state true e h z source)
-      (subst (λ (r : Result Tree Fault). Chooses (syntax_in state e) result _ r [] recorded) (read_first m state false e h z source) p))
+      (subst (λ (r : Result Tree Fault). Chooses syntax result (first_read m state true e z) r [] recorded) (read_first m state false e h z source)
+      (subst (λ (r : Result Tree Fault). Chooses syntax result r (read false) [] recorded) (read_first m state true e h z source) p))
+    where
+      syntax : EsSyntax
+      syntax = syntax_in state e
+
+      read : Bool → Result Tree Fault
+      read modules = program_within (machine_of m) (limit_in e) modules (code_of modules syntax) (opened m state (code_of modules syntax).context e)
 
 pub texts_chosen : {I : Type 0} (state : I → State) → TextsChosen state
 texts_chosen state syntax target text e h source result recorded p =

@@ -1,10 +1,9 @@
 -- What an entry answers of a list of tokens.
-use Rattle.std.proofs.Common.{◌≡◌, ℕ, Bool, List, [], Result, refl, sym, subst}
+use Rattle.std.proofs.Common.{ℕ, Bool, List, [], Result, refl, subst}
 use Rattle.ecma_token.specs.Tokens.{Spot}
 use Rattle.ecma_token.specs.Dialect.{parts_of}
-use Rattle.ecma_token.specs.declared.error.Error.{Error}
 use Rattle.ecma_tokens.specs.Machine.{Source}
-use Rattle.ecma_input.specs.Lists.{list_machine, start_of, list_in}
+use Rattle.ecma_input.specs.Lists.{list_machine}
 use Rattle.ecma_tree.specs.Tree.{Tree}
 use Rattle.ecma_reading.specs.Source.{Fault}
 use Rattle.ecma_grammar_complete_base.specs.Laws.{InOrder}
@@ -14,7 +13,6 @@ use Rattle.ecma_parse_state.specs.declared.parser.Parser.{Parser}
 use Rattle.ecma_parser.specs.Answers.{Parses}
 use Rattle.ecma_parser.specs.Entries.{syntax_in, limit_in}
 use Rattle.ecma_parser.specs.declared.entries.Entries.{Entries}
-use Rattle.ecma_parsed.specs.Answered.{Promised}
 use Rattle.ecma_parsed.specs.ListRead.{seen, ReadsList, ListSettled}
 use Rattle.ecma_parsed.specs.Lists.{SpellsList, ListAnswered, ListsAnswered, NewListAnswered}
 use Rattle.ecma_parsed.proofs.ListLemmas.{lists_settled}
@@ -46,5 +44,5 @@ lists_answered state view modules e h o result recorded p =
 pub new_list_answered : {I : Type 0} (state : I → Source (List Spot)) {X : Type 0} (view : X → Tree) → NewListAnswered state view
 new_list_answered state view modules spots ctx syntax target e h source o result recorded p =
     subst (λ (z : Source (List Spot)). InOrder z.settings.start (seen z.tokens)
-        → ListAnswered (record { syntax = parts_of z.settings.syntax; limit = limit_in e }) modules z.settings.start z.tokens view result recorded) source
+    → ListAnswered (record { syntax = parts_of z.settings.syntax; limit = limit_in e }) modules z.settings.start z.tokens view result recorded) source
     (λ i. lists_answered state view modules e h i result recorded p) o

@@ -1,5 +1,5 @@
 -- A list hands out its tokens, and no slash of it is read again; so a reading is settled by the list.
-use Rattle.std.proofs.Common.{◌≡◌, ◌≤◌, ◌<◌, ℕ, Bool, true, false, ◌&&◌, ◌||◌, cond, eqb, List, [], ◌∷◌, Option, None, Some, Result, Ok, Err, inl, inr, refl, sym, ap, ◌∙◌, subst, true≢false, eqb-true, arith, le_refl}
+use Rattle.std.proofs.Common.{◌≡◌, ℕ, Bool, true, false, ◌&&◌, ◌||◌, cond, eqb, List, [], ◌∷◌, Option, None, Some, Result, Ok, Err, inl, inr, refl, sym, ap, ◌∙◌, subst, true≢false, eqb-true, arith, le_refl}
 use Rattle.ecma_token.specs.Kinds.{template_kind, regex_kind, error_kind}
 use Rattle.ecma_token.specs.Tokens.{Spot}
 use Rattle.ecma_token.specs.declared.syntax.EsSyntax.{EsSyntax}
@@ -7,12 +7,11 @@ use Rattle.ecma_tokens.specs.Machine.{Source}
 use Rattle.ecma_tokens.specs.Settings.{Settings}
 use Rattle.ecma_input.specs.Lists.{list_step, list_machine}
 use Rattle.ecma_tree.specs.Tree.{Tree}
-use Rattle.ecma_nesting.specs.Nesting.{nesting}
 use Rattle.ecma_syntax.specs.Input.{Place}
 use Rattle.ecma_grammar_complete_base.specs.Laws.{InOrder}
 use Rattle.ecma_reading.specs.Source.{Fault, Unexpected, TooDeep, is_nil}
-use Rattle.ecma_parse_state.specs.Fronts.{Front, place_of, places, asked, in_place, same_mark, read_on, after_by, reread_by, operand_by, machine_of}
-use Rattle.ecma_sources.specs.Sources.{is_slash, Rereads, HandsOut}
+use Rattle.ecma_parse_state.specs.Fronts.{Front, place_of, places, asked, in_place, same_mark, read_on, reread_by, operand_by, machine_of}
+use Rattle.ecma_sources.specs.Sources.{is_slash, HandsOut}
 use Rattle.ecma_sources_of.specs.Constant.{Falls}
 use Rattle.ecma_parsed.specs.Parsed.{DerivesList}
 use Rattle.ecma_parsed.specs.Exact.{read_within}
@@ -108,7 +107,6 @@ module _ (t : Spot) (settings : Settings) (last start : ℕ) where
   stays : (ts : List Spot) → InOrder start (seen (t ∷ ts)) → Stays ts
   stays [] o = by_kind [] (is_slash t.token.kind) refl (λ k e. true≢false (sym e))
   stays (u ∷ us) o = by_kind (u ∷ us) (is_slash t.token.kind) refl (λ k e. apart t u us start o k e)
-
 
 no_other : (spots : List Spot) (settings : Settings) (start last : ℕ) (ps : List Place) → InOrder start (seen spots) → HandsOut (machine_of list_machine) ps (read_on (list_step spots settings) last) → ps ≡ seen spots
 unfolding machine_of

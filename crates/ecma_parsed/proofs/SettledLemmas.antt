@@ -1,5 +1,5 @@
 -- What is read of a source from a state that a reading comes to is settled; so is what is read from the first token on.
-use Rattle.std.proofs.Common.{◌≡◌, ◌≤◌, ℕ, Bool, Result, Ok, Err, refl}
+use Rattle.std.proofs.Common.{◌≡◌, ℕ, Bool, Result, Ok, Err, refl}
 use Rattle.ecma_token.specs.declared.syntax.EsSyntax.{EsSyntax}
 use Rattle.ecma_tokens.specs.Machine as tokens
 use Rattle.ecma_tokens.specs.Machine.{Source}

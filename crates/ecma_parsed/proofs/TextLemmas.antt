@@ -1,5 +1,5 @@
 -- What an entry answers of a text.
-use Rattle.std.proofs.Common.{◌≡◌, ◌+◌, ℕ, Bool, false, List, [], length, chars, Result, sym, ap, ◌∙◌, subst}
+use Rattle.std.proofs.Common.{◌≡◌, ◌+◌, ℕ, Bool, List, [], length, chars, Result, sym, ap, ◌∙◌, subst}
 use Rattle.std.specs.Str.{IsUtf8}
 use Rattle.std.proofs.lemmas.Str.{encodes-chars}
 use Rattle.ecma_token.specs.declared.syntax.Syntax.{Syntax}
@@ -9,7 +9,7 @@ use Rattle.ecma_token.specs.Dialect.{parts_of}
 use Rattle.ecma_scan.specs.Places.{bytes}
 use Rattle.ecma_tree.specs.Tree.{Tree}
 use Rattle.ecma_reading.specs.Source.{Fault}
-use Rattle.ecma_lexing.specs.States.{Text, State, at_start_of}
+use Rattle.ecma_lexing.specs.States.{State, at_start_of}
 use Rattle.ecma_lexer.specs.Machine.{lexer_machine}
 use Rattle.ecma_spells.specs.Text.{Setting, Reads, TreeSpells, code_of, text_start}
 use Rattle.ecma_parse_state.specs.Fronts.{told_of}
