@@ -78,7 +78,7 @@ fn parts_of_a_module_have_the_comments_up_to_their_ends(rt: HostRuntime) {
         &rt,
         print_items(rt.alloc(), &mut store, js, &first, &second),
     );
-    assert_eq!(rt; out.inner().as_slice(), b"a; // t\n/* l */ b;".as_slice());
+    assert_eq!(rt; out.inner().as_slice(), b"a; // t\n/* l */ b;\n".as_slice());
 }
 
 // `/* s */ a`, behind it `/* m */ b`, and behind that `/* n */ c`

@@ -1,6 +1,6 @@
 //! Trees built by hand.
 use ecma_ast::Build;
-use ecma_node::{Callee, Program, ProgramKind, Script};
+use ecma_node::{Callee, Program, ProgramKind, Script, StmtBox, VarDeclKind, VarDeclarator};
 use ecma_token::{BinaryOp, DUMMY_SP};
 use std::alloc::{AllocError, Global};
 
@@ -20,4 +20,14 @@ pub fn script(alloc: Global) -> Result<Program, AllocError> {
             shebang: None,
         }),
     })
+}
+
+/// `var a`, as a statement.
+pub fn variables(b: &Build) -> Result<StmtBox, AllocError> {
+    let declarator = VarDeclarator {
+        span: DUMMY_SP,
+        name: b.binding_ident(b.name("a")?)?,
+        init: None,
+    };
+    b.var_decl(VarDeclKind::Var, vec![in b.alloc; declarator]?)
 }
