@@ -220,14 +220,6 @@ impl<T: PrintAlone, K> PrintAlone for Child<T, K> {
     }
 }
 
-impl<T: PrintAlone> PrintAlone for &T {
-    ghost alone = { λ look r. T.alone look r.now };
-
-    fn print_alone<W: WriteJs>(&self, p: &mut Printer<W>, look: Look) {
-        (**self).print_alone(p, look)
-    }
-}
-
 impl<T: PrintAlone> PrintAlone for Box<T> {
     ghost alone = { λ look b. T.alone look b.value };
 
@@ -245,6 +237,64 @@ impl<T: PrintAlone> PrintAlone for Option<T> {
         }
     }
 }
+
+impl PrintAlone for &Stmt {
+    ghost alone = { λ look r. item_laid look r.now };
+
+    fn print_alone<W: WriteJs>(&self, p: &mut Printer<W>, look: Look) {
+        (**self).print_alone(p, look)
+    }
+}
+
+impl<T: PrintPart> PrintAlone for &ModuleDeclOf<T> {
+    ghost alone = { λ look r. item_laid look (view_module_decl T.tree r.now) };
+
+    fn print_alone<W: WriteJs>(&self, p: &mut Printer<W>, look: Look) {
+        (**self).print_alone(p, look)
+    }
+}
+
+impl<T: PrintPart> PrintAlone for &ModuleItemOf<T> {
+    ghost alone = { λ look r. item_laid look (view_module_item T.tree r.now) };
+
+    fn print_alone<W: WriteJs>(&self, p: &mut Printer<W>, look: Look) {
+        (**self).print_alone(p, look)
+    }
+}
+
+impl PrintAlone for &Part {
+    ghost alone = { λ look r. placed_laid look r.now };
+
+    fn print_alone<W: WriteJs>(&self, p: &mut Printer<W>, look: Look) {
+        (**self).print_alone(p, look)
+    }
+}
+
+impl<T: PrintAlone, K> PrintAlone for &Child<T, K> {
+    ghost alone = { λ look r. T.alone look r.now.part.value };
+
+    fn print_alone<W: WriteJs>(&self, p: &mut Printer<W>, look: Look) {
+        (**self).print_alone(p, look)
+    }
+}
+
+impl<T: PrintAlone> PrintAlone for &Box<T> {
+    ghost alone = { λ look r. T.alone look r.now.value };
+
+    fn print_alone<W: WriteJs>(&self, p: &mut Printer<W>, look: Look) {
+        (**self).print_alone(p, look)
+    }
+}
+
+impl<T: PrintAlone> PrintAlone for &Option<T> {
+    ghost alone = { λ look r. element_laid (T.alone look) r.now };
+
+    fn print_alone<W: WriteJs>(&self, p: &mut Printer<W>, look: Look) {
+        (**self).print_alone(p, look)
+    }
+}
+
+impl<T: WithoutEnd> WithoutEnd for &T {}
 
 impl<T: PrintPart> WithoutEnd for ArrayLitOf<T> {}
 
