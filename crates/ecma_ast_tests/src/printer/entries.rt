@@ -4,7 +4,9 @@ use crate::printer::placed::{comment, ident, name_stmt, span};
 use ecma_ast::Build;
 use ecma_codegen::{Config, EmitError, Emitter, JsWriter, NoPlaces, WriteJs, to_code};
 use ecma_comments::{CommentKind, Comments};
-use ecma_node::{Module, ModuleExportName, ModuleItem, Script, StmtBox, VarDeclKind, VarDeclarator};
+use ecma_node::{
+    Module, ModuleExportName, ModuleItem, Script, StmtBox, VarDeclKind, VarDeclarator,
+};
 use ecma_token::{BytePos, Counted, DUMMY_SP};
 use std::alloc::Global;
 use std::process::Abort;
@@ -130,7 +132,10 @@ fn variables(rt: &impl Abort, b: &Build) -> StmtBox {
 fn a_statement_alone_has_its_end(rt: HostRuntime) {
     let b = Build { alloc: rt.alloc() };
     let declared = variables(&rt, &b);
-    assert_eq!(rt; ok(&rt, to_code(rt.alloc(), &declared)).as_str(), "var a;\n");
+    assert_eq!(rt;
+        ok(&rt, to_code(rt.alloc(), &declared)).as_str(),
+        "var a;\n"
+    );
     let item = ModuleItem::Stmt(declared);
     assert_eq!(rt; ok(&rt, to_code(rt.alloc(), &item)).as_str(), "var a;\n");
     let named = ok(&rt, b.expr_stmt(var(&rt, &b)));
