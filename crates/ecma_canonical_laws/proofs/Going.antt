@@ -21,7 +21,7 @@ use Rattle.ecma_lexeme.specs.declared.goal.LexicalGoal.TheVariants.{TemplateTail
 use Rattle.ecma_lexing.specs.States.{Last, Start, Slash, Characters, Fault, Other, State, again, again_by, is_start, last_after, place, template_goal}
 use Rattle.ecma_lexing.specs.Steps.{IsGoing, IsOutside, IsPlain, IsStep, IsStepBy, IsStepOf}
 use Rattle.ecma_stepping.proofs.Trivia.{follow_no_longer, piece_shorter}
-use Rattle.ecma_tilings.proofs.Steps.{none_some}
+use Rattle.ecma_stepping.proofs.Going.{none_some}
 use Rattle.ecma_canonical.specs.Canonical.{Edge, gap, is_word}
 use Rattle.ecma_canonical_laws.specs.Turns.{Turn, asked, is_reread, is_slash_kind}
 use Rattle.ecma_canonical_laws.proofs.Fronts.{Free, is_space, no_trivia_by}

@@ -17,7 +17,7 @@ use Rattle.ecma_lexeme.specs.declared.goal.LexicalGoal.TheVariants.{Div, Templat
 use Rattle.ecma_lexeme.specs.Lexemes.{SpecLexeme, IsLexeme, ending_kind}
 use Rattle.ecma_lexing.specs.States.{Last, Start, Characters, Other, State, behind, contexts_after, last_after, place, shebang, spot_at, template_goal}
 use Rattle.ecma_lexing.specs.Steps.{IsGoing, IsOutside}
-use Rattle.ecma_tilings.proofs.Steps.{none_some}
+use Rattle.ecma_stepping.proofs.Going.{none_some}
 use Rattle.ecma_canonical.specs.Canonical.{Edge, blank, edge_of, gap, own_bytes, touches}
 use Rattle.ecma_canonical.specs.Moved.{moved_to}
 use Rattle.ecma_canonical_laws.specs.Turns.{begin_at, end_at}

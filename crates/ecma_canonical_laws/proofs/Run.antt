@@ -31,7 +31,7 @@ use Rattle.ecma_lexeme.proofs.LexemeLemmas.{none_at_end}
 use Rattle.ecma_lexeme.proofs.SortLemmas.{string_begins, word_begins}
 use Rattle.ecma_lexing.specs.States.{Last, Start, State, behind, contexts_after, goal_of, is_start, last_after, place, spot_at, template_goal}
 use Rattle.ecma_lexing.specs.Steps.{IsGoing, IsStep}
-use Rattle.ecma_tilings.proofs.Steps.{none_some}
+use Rattle.ecma_stepping.proofs.Going.{none_some}
 use Rattle.ecma_canonical.specs.Canonical.{Edge, edge_of, gap, is_word, text_behind}
 use Rattle.ecma_canonical_laws.specs.Turns.{Turn, Turns, kept, moved_behind, told}
 use Rattle.ecma_canonical_laws.proofs.Words.{Parted}

@@ -15,7 +15,7 @@ use Rattle.ecma_lexeme.specs.declared.goal.LexicalGoal.{LexicalGoal}
 use Rattle.ecma_lexeme.specs.declared.goal.LexicalGoal.TheVariants.{Div, RegExp, TemplateTail, TemplateEnd}
 use Rattle.ecma_lexing.specs.States.{Start, Fault, State, again, behind, contexts_after, ended, goal_of, is_start, spot_at, template_goal}
 use Rattle.ecma_lexing.specs.Steps.{IsGoing, IsStep}
-use Rattle.ecma_tilings.proofs.Steps.{Goes, goes, last_going, no_again, none_some}
+use Rattle.ecma_stepping.proofs.Going.{Goes, goes, last_going, no_again, none_some}
 use Rattle.ecma_canonical.specs.Canonical.{Edge, edge_of, gap, own_bytes, text_behind}
 use Rattle.ecma_canonical.specs.Moved.{moved_to}
 use Rattle.ecma_canonical_laws.specs.Turns.{Turn, Turns, asked, begin_at, end_at, is_reread, kept, moved_behind, told}

@@ -11,7 +11,7 @@ use Rattle.ecma_lexeme.specs.Lexemes.{SpecLexeme, IsCharacters, IsEnd, IsLexeme}
 use Rattle.ecma_lexing.specs.States.{Last, Start, Slash, Characters, Fault, Other, State, behind, goal_of, is_start, shebang, spot_at, template_goal}
 use Rattle.ecma_lexing.specs.Steps.{IsFirst, IsGoing, IsOutside, IsPlain, IsRead}
 use Rattle.ecma_tilings.proofs.Behind.{Behind, follow_behind, hashbang_behind, here, lexeme_behind}
-use Rattle.ecma_tilings.proofs.Steps.{none_some, same_some}
+use Rattle.ecma_stepping.proofs.Going.{none_some, same_some}
 
 -- the characters of a template, where they come
 pub record Tail (s : State) (line_break : Bool) (from : List ℕ) (x : SpecLexeme) (rest : List ℕ) : Type 0 where

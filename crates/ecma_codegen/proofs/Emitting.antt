@@ -3,12 +3,14 @@ use Rattle.std.proofs.Common.{MutBor, get_or, drop, ◌≡◌, ℕ, Bool, true, 
 use base.Fml.{GName}
 use Rattle.ecma_token.specs.Counts.{count_after}
 use Rattle.ecma_write.specs.Pages.{IsFront}
+use Rattle.ecma_write.proofs.Growing.{front_same}
 use Rattle.ecma_write.specs.States.{State, FaultFits, has_places, is_write}
 use Rattle.ecma_write.specs.declared.fault.EmitError.{EmitError}
 use Rattle.ecma_write.specs.declared.fault.EmitError.TheVariants.{Write, Memory, Node, Position}
-use Rattle.ecma_pieces.specs.Pieces.{Piece, call, calls}
-use Rattle.ecma_layout.specs.Looks.{Laid, nothing, one, both, refused, listed, is_refused}
-use Rattle.ecma_printer.specs.Prints.{Asked, ask, stop, lay, IsAt, Prints, MayFault, failed_by}
+use Rattle.ecma_pieces.specs.Pieces.{Piece, Text, call, calls}
+use Rattle.ecma_pieces.specs.Utf8.{IsUtf8Page}
+use Rattle.ecma_layout.specs.Looks.{Laid, nothing, one, meant, both, refused, texts_of, texts_before, listed, is_refused}
+use Rattle.ecma_printer.specs.Prints.{Asked, ask, stop, lay, lay_texts, IsAt, Prints, MayFault, failed_by}
 use Rattle.ecma_codegen.specs.Emits.{emitted, MayRefuse, Emits, Stays}
 
 -- ---- what there is to write is the pieces of a layout
@@ -22,9 +24,14 @@ stop_stays : (a : Asked) → a.stops ≡ true → stop a ≡ a
 unfolding stop
 stop_stays a e = rw (sym e) refl
 
+texts_stay : (texts : List (List ℕ)) (a : Asked) → a.stops ≡ true → lay_texts texts a ≡ a
+texts_stay [] a e = refl
+texts_stay (own ∷ others) a e = ap (λ b. lay_texts others b) (ask_stays (Text None own) a e) ∙ texts_stay others a e
+
 stays : (l : Laid) (a : Asked) → a.stops ≡ true → lay l a ≡ a
 stays nothing a e = refl
 stays (one x) a e = ask_stays x a e
+stays (meant m) a e = texts_stay (texts_of m) a e
 stays (both f g) a e = ap (lay g) (stays f a e) ∙ stays g a e
 stays refused a e = stop_stays a e
 
@@ -53,9 +60,21 @@ record Whole (l : Laid) (a : Asked) (rest : List Piece) : Type 0 where
   goes : (lay l a).stops ≡ false
   calls_it : calls (listed l rest) a.state ≡ calls rest (lay l a).state
 
+-- texts are asked for one after the other
+record AllTexts (texts : List (List ℕ)) (a : Asked) (rest : List Piece) : Type 0 where
+  goes : (lay_texts texts a).stops ≡ false
+  calls_it : calls (texts_before texts rest) a.state ≡ calls rest (lay_texts texts a).state
+
+all_texts : (texts : List (List ℕ)) (a : Asked) (rest : List Piece) → a.stops ≡ false → AllTexts texts a rest
+all_texts [] a rest s = record { goes = s; calls_it = refl }
+all_texts (own ∷ others) a rest s =
+    let x = all_texts others (ask (Text None own) a) rest (asked_stops (Text None own) a s) in
+    record { goes = x.goes; calls_it = ap (λ (t : State). calls (texts_before others rest) t) (sym (asked_state (Text None own) a s)) ∙ x.calls_it }
+
 whole : (l : Laid) (a : Asked) (rest : List Piece) → a.stops ≡ false → is_refused l ≡ false → Whole l a rest
 whole nothing a rest s r = record { goes = s; calls_it = refl }
 whole (one x) a rest s r = record { goes = asked_stops x a s; calls_it = ap (calls rest) (sym (asked_state x a s)) }
+whole (meant m) a rest s r = let x = all_texts (texts_of m) a rest s in record { goes = x.goes; calls_it = x.calls_it }
 whole (both f g) a rest s r =
     let x = whole f a (listed g rest) s (or_left (is_refused f) (is_refused g) r) in
     let y = whole g (lay f a) rest x.goes (or_right (is_refused f) (is_refused g) r) in
@@ -78,6 +97,7 @@ stop_state a = refl
 cut : (l : Laid) (a : Asked) (rest : List Piece) → a.stops ≡ false → is_refused l ≡ true → Cut l a rest
 cut nothing a rest s r = absurd (cc)
 cut (one x) a rest s r = absurd (cc)
+cut (meant m) a rest s r = absurd (cc)
 cut (both f g) a rest s r = cut_both f g a rest s r (cut f a (listed g rest) s) (λ b. cut g (lay f a) rest b) (is_refused f) refl
   where
     cut_both : (f g : Laid) (a : Asked) (rest : List Piece) → a.stops ≡ false → (is_refused f || is_refused g) ≡ true
@@ -110,29 +130,46 @@ stops_where l a s = stops_by l a s (is_refused l) refl
 
 -- what a writer had at first stays in what there is to write
 record Same (a b : Asked) : Type 0 where
+  before : b.before ≡ a.before
   known : b.known ≡ a.known
+  textual : b.textual ≡ a.textual
   failures : b.failures ≡ a.failures
   loans : b.loans ≡ a.loans
   places : b.places ≡ a.places
 
+same_as : (a : Asked) → Same a a
+same_as a = record { before = refl; known = refl; textual = refl; failures = refl; loans = refl; places = refl }
+
+same_then : {a b c : Asked} → Same a b → Same b c → Same a c
+same_then x y = record {
+  before = y.before ∙ x.before;
+  known = y.known ∙ x.known;
+  textual = y.textual ∙ x.textual;
+  failures = y.failures ∙ x.failures;
+  loans = y.loans ∙ x.loans;
+  places = y.places ∙ x.places;
+}
+
 same_asked : (x : Piece) (a : Asked) → Same a (ask x a)
 unfolding ask
 same_asked x a = elim a.stops as (λ (b : Bool). Same a (if b then a else record a { state = call x a.state })) [
-  | true ↦ record { known = refl; failures = refl; loans = refl; places = refl }
-  | false ↦ record { known = refl; failures = refl; loans = refl; places = refl }
+  | true ↦ same_as a
+  | false ↦ record { before = refl; known = refl; textual = refl; failures = refl; loans = refl; places = refl }
 ]
 
 same_stopped : (a : Asked) → Same a (stop a)
 unfolding stop
-same_stopped a = record { known = refl; failures = refl; loans = refl; places = refl }
+same_stopped a = record { before = refl; known = refl; textual = refl; failures = refl; loans = refl; places = refl }
+
+same_texts : (texts : List (List ℕ)) (a : Asked) → Same a (lay_texts texts a)
+same_texts [] a = same_as a
+same_texts (own ∷ others) a = same_then (same_asked (Text None own) a) (same_texts others (ask (Text None own) a))
 
 same_laid : (l : Laid) (a : Asked) → Same a (lay l a)
-same_laid nothing a = record { known = refl; failures = refl; loans = refl; places = refl }
+same_laid nothing a = same_as a
 same_laid (one x) a = same_asked x a
-same_laid (both f g) a =
-    let x = same_laid f a in
-    let y = same_laid g (lay f a) in
-    record { known = y.known ∙ x.known; failures = y.failures ∙ x.failures; loans = y.loans ∙ x.loans; places = y.places ∙ x.places }
+same_laid (meant m) a = same_texts (texts_of m) a
+same_laid (both f g) a = same_then (same_laid f a) (same_laid g (lay f a))
 same_laid refused a = same_stopped a
 
 -- ---- a writer before and after
@@ -141,46 +178,70 @@ answer None = Ok tt
 answer (Some e) = Err e
 
 module _ {S : Type 0} (tells : S → Type 0) (state : S → State) (failed : S → ℕ) (loans : S → List GName) where
-  abbrev at_first : S → Bool → Asked
-  at_first w k = record { state = state w; stops = false; known = k; failures = failed w; loans = loans w; places = has_places (state w) }
+  -- of a writer whose bytes are known, or aren't, and whose page is one of text, or isn't
+  abbrev at_first : S → Bool → Bool → Asked
+  at_first w k u = record {
+    state = state w;
+    stops = false;
+    before = (state w).page.out;
+    known = k;
+    textual = u;
+    failures = failed w;
+    loans = loans w;
+    places = has_places (state w);
+  }
 
-  is_at_first : (w : S) (k : Bool) → (k ≡ true → tells w) → IsAt {S = S} tells state failed loans w None (at_first w k)
-  is_at_first w k t = record { wrote = (refl, λ e. (t e, refl)); failures = refl; lent = refl; places = refl }
+  is_at_first : (w : S) (k u : Bool) → (k ≡ true → tells w) → (u ≡ true → IsUtf8Page (state w).page) → IsAt {S = S} tells state failed loans w None (at_first w k u)
+  is_at_first w k u t x = record { wrote = (refl, λ e. (t e, refl)); begun = front_same (state w).page.out; text = x; failures = refl; lent = refl; places = refl }
 
-  may : (e : EmitError) (l : Laid) (w : S) (k : Bool) → MayFault e (lay l (at_first w k)) → MayRefuse e l (state w)
-  may (Write kind) l w k h = tt
-  may Memory l w k h = sym (same_laid l (at_first w k)).places ∙ h
-  may Position l w k h = sym (same_laid l (at_first w k)).places ∙ h
-  may Node l w k h = sym (stops_where l (at_first w k) refl) ∙ h
+  may : (e : EmitError) (l : Laid) (w : S) (k u : Bool) → MayFault e (lay l (at_first w k u)) → MayRefuse e l (state w)
+  may (Write kind) l w k u h = tt
+  may Memory l w k u h = sym (same_laid l (at_first w k u)).places ∙ h
+  may Position l w k u h = sym (same_laid l (at_first w k u)).places ∙ h
+  may Node l w k u h = sym (stops_where l (at_first w k u) refl) ∙ h
 
-  value_by : (l : Laid) (w v : S) (g : Option EmitError) → ((k : Bool) → (k ≡ true → tells w) → IsAt {S = S} tells state failed loans v g (lay l (at_first w k))) → Emits {S = S} tells state l w v (answer g)
-  value_by l w v None h =
-      let a = at_first w false in (
-        sym (stops_where l a refl) ∙ (h false (λ e. absurd (cc))).wrote.0,
-        λ t.
-            let z = (h true (λ e. t)).wrote.1 (same_laid l (at_first w true)).known in
-            (z.0, z.1 ∙ same_state l (at_first w true) refl),
-      )
-  value_by l w v (Some e) h = (
-    may e l w false (h false (λ d. absurd (cc))).wrote.0,
+  abbrev Reaches : Laid → S → S → Option EmitError → Type 0
+  Reaches l w v g = (k u : Bool) → (k ≡ true → tells w) → (u ≡ true → IsUtf8Page (state w).page) → IsAt {S = S} tells state failed loans v g (lay l (at_first w k u))
+
+  text_by : (l : Laid) (w v : S) (g : Option EmitError) → Reaches l w v g → tells w → IsUtf8Page (state w).page → IsUtf8Page (emitted l (state w)).page
+  text_by l w v g h t x =
+      let a = at_first w true true in
+      subst (λ (s : State). IsUtf8Page s.page) (same_state l a refl) ((h true true (λ e. t) (λ e. x)).text (same_laid l a).textual)
+
+  value_by : (l : Laid) (w v : S) (g : Option EmitError) → Reaches l w v g → Emits {S = S} tells state l w v (answer g)
+  value_by l w v None h = (
+    sym (stops_where l (at_first w false false) refl) ∙ (h false false (λ e. absurd (cc)) (λ e. absurd (cc))).wrote.0,
     λ t.
-        let z = (h true (λ d. t)).wrote.1 (same_laid l (at_first w true)).known in
-        let q = same_state l (at_first w true) refl in
-        (z.0, subst (λ (s : State). IsFront (state v).page.out s.page.out) q z.1, subst (λ (s : State). FaultFits e s.page) q z.2),
+        let a = at_first w true false in
+        let z = (h true false (λ e. t) (λ e. absurd (cc))).wrote.1 (same_laid l a).known in
+        let q = z.1 ∙ same_state l a refl in
+        (z.0, q, λ x. subst (λ (s : State). IsUtf8Page s.page) (sym q) (text_by l w v None h t x)),
+  )
+  value_by l w v (Some e) h = (
+    may e l w false false (h false false (λ d. absurd (cc)) (λ d. absurd (cc))).wrote.0,
+    λ t.
+        let a = at_first w true false in
+        let z = (h true false (λ d. t) (λ d. absurd (cc))).wrote.1 (same_laid l a).known in
+        let q = same_state l a refl in (
+          z.0,
+          subst (λ (xs : List ℕ). IsFront xs (state v).page.out) (same_laid l a).before z.1,
+          subst (λ (s : State). IsFront (state v).page.out s.page.out) q z.2,
+          subst (λ (s : State). FaultFits e s.page) q z.3,
+        ),
   )
 
-  stays_by : (l : Laid) (w v : S) (g : Option EmitError) → IsAt {S = S} tells state failed loans v g (lay l (at_first w false)) → Stays {S = S} state failed loans w v (answer g)
-  stays_by l w v None h = let s = same_laid l (at_first w false) in (h.places ∙ s.places, h.lent ∙ s.loans, h.failures ∙ s.failures)
-  stays_by l w v (Some e) h = let s = same_laid l (at_first w false) in (h.places ∙ s.places, h.lent ∙ s.loans, h.failures ∙ ap (count_after (is_write e)) s.failures)
+  stays_by : (l : Laid) (w v : S) (g : Option EmitError) → IsAt {S = S} tells state failed loans v g (lay l (at_first w false false)) → Stays {S = S} state failed loans w v (answer g)
+  stays_by l w v None h = let s = same_laid l (at_first w false false) in (h.places ∙ s.places, h.lent ∙ s.loans, h.failures ∙ s.failures)
+  stays_by l w v (Some e) h = let s = same_laid l (at_first w false false) in (h.places ∙ s.places, h.lent ∙ s.loans, h.failures ∙ ap (count_after (is_write e)) s.failures)
 
 module _ {S : Type 0} {tells : S → Type 0} {state : S → State} {failed : S → ℕ} {loans : S → List GName} where
   pub emits : {l : Laid} {w v : S} (g : Option EmitError) → Prints {S = S} tells state failed loans l w None v g → Emits {S = S} tells state l w v (answer g)
-  emits {l} {w} {v} g h = value_by tells state failed loans l w v g (λ k t. h.so (at_first tells state failed loans w k) (is_at_first tells state failed loans w k t))
+  emits {l} {w} {v} g h = value_by tells state failed loans l w v g (λ k u t x. h.so (at_first tells state failed loans w k u) (is_at_first tells state failed loans w k u t x))
 
   pub keeps : {l : Laid} {w v : S} (g : Option EmitError) → Prints {S = S} tells state failed loans l w None v g → Stays {S = S} state failed loans w v (answer g)
   keeps {l} {w} {v} g h =
       stays_by tells state failed loans l w v g
-      (h.so (at_first tells state failed loans w false) (is_at_first tells state failed loans w false (λ e. absurd (cc))))
+      (h.so (at_first tells state failed loans w false false) (is_at_first tells state failed loans w false false (λ e. absurd (cc)) (λ e. absurd (cc))))
 
 -- ---- a writer that was lent, whose value at the end is that of the loan
 

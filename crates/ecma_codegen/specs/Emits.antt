@@ -8,6 +8,7 @@ use Rattle.ecma_write.specs.States.{State, FaultFits, answers_write, has_places}
 use Rattle.ecma_write.specs.declared.fault.EmitError.{EmitError}
 use Rattle.ecma_write.specs.declared.fault.EmitError.TheVariants.{Write, Memory, Node, Position}
 use Rattle.ecma_pieces.specs.Pieces.{calls}
+use Rattle.ecma_pieces.specs.Utf8.{IsUtf8Page}
 use Rattle.ecma_layout.specs.Looks.{Laid, listed, is_refused}
 
 -- The state that a layout makes: its pieces, one after another.
@@ -22,11 +23,14 @@ MayRefuse Memory l s = has_places s ≡ true
 MayRefuse Position l s = has_places s ≡ true
 MayRefuse Node l s = is_refused l ≡ true
 
--- What was written and marked, to a writer whose bytes are known: the layout, or with a fault a beginning of it.
+-- What was written and marked, to a writer whose bytes are known: the layout, or with a fault a beginning of it, behind what was written
+-- before. What a page of text gets is text.
 abbrev pub Emits : {S : Type 0} → (S → Type 0) → (S → State) → Laid → S → S → Result (Unit {0}) EmitError → Type 0
-Emits tells state l old new (Ok x) = (is_refused l ≡ false) × (tells old → tells new × (state new ≡ emitted l (state old)))
+Emits tells state l old new (Ok x) =
+    (is_refused l ≡ false) × (tells old → tells new × (state new ≡ emitted l (state old)) × (IsUtf8Page (state old).page → IsUtf8Page (state new).page))
 Emits tells state l old new (Err e) =
-    MayRefuse e l (state old) × (tells old → tells new × IsFront (state new).page.out (emitted l (state old)).page.out × FaultFits e (emitted l (state old)).page)
+    MayRefuse e l (state old)
+    × (tells old → tells new × IsFront (state old).page.out (state new).page.out × IsFront (state new).page.out (emitted l (state old)).page.out × FaultFits e (emitted l (state old)).page)
 
 -- Of a writer that writes comments between, whose bytes are not known: only whether something can't be printed.
 abbrev pub Notes : {S : Type 0} → (S → State) → Laid → S → Result (Unit {0}) EmitError → Type 0

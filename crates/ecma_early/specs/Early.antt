@@ -3,7 +3,7 @@
 use Rattle.std.specs.Prelude.{ℕ, Bool, true, false, not, ◌&&◌, ◌||◌, ◌==◌, nat_le, nat_lt, if◌then◌else◌, List, [], ◌∷◌, ◌++◌, Option, Some, None, codes, bytes_eq}
 use Rattle.ecma_token.specs.declared.error.Error.{Error}
 use Rattle.ecma_token.specs.declared.error.SyntaxError.{SyntaxError}
-use Rattle.ecma_token.specs.declared.error.SyntaxError.TheVariants.{InvalidIdentInStrict, EvalAndArgumentsInStrict, LegacyOctal, LegacyDecimal, WithInStrict, NotSimpleAssign, UndefinedLabel, DuplicateLabel, IllegalBreak, IllegalContinue, ReturnNotAllowed, InvalidSuper, InvalidSuperCall, InvalidNewTarget, DuplicateConstructor, DuplicateProto, IllegalLanguageModeDirective, InitRequired, UsingDeclNotAllowed, UsingDeclNotAllowedForForInLoop, InvalidNameInUsingDecl, InitRequiredForUsingDecl}
+use Rattle.ecma_token.specs.declared.error.SyntaxError.TheVariants.{Unexpected, InvalidIdentInStrict, EvalAndArgumentsInStrict, LegacyOctal, LegacyDecimal, WithInStrict, NotSimpleAssign, UndefinedLabel, DuplicateLabel, IllegalBreak, IllegalContinue, ReturnNotAllowed, InvalidSuper, InvalidSuperCall, InvalidNewTarget, DuplicateConstructor, DuplicateProto, IllegalLanguageModeDirective, InitRequired, UsingDeclNotAllowed, UsingDeclNotAllowedForForInLoop, InvalidNameInUsingDecl, InitRequiredForUsingDecl}
 use Rattle.ecma_token.specs.declared.place.Span.{Span}
 use Rattle.ecma_token.specs.declared.syntax.EsSyntax.{EsSyntax}
 use Rattle.ecma_token.specs.Kinds.{const_kind, new_kind}
@@ -30,6 +30,8 @@ pub record Scope : Type 0 where
   -- the next function is a method; the next declaration heads a `for`-`in` or `for`-`of`
   pub method : Bool
   pub heads : Bool
+  -- among the parameters of an async arrow, where `await` is no name
+  pub awaits : Bool
   pub syntax : EsSyntax
 
 abbrev pub Walk : Type 0
@@ -73,24 +75,28 @@ switching x = record x { breaks = true }
 
 -- Where a function begins, labels and loops end. An arrow keeps what `super` and `new.target` mean; a function that is no method has no `super`.
 abbrev pub in_arrow : Scope → Scope
-in_arrow x = record x { starts = false; heads = false; labels = []; loops = false; breaks = false; returns = true }
+in_arrow x = record x { starts = false; heads = false; labels = []; loops = false; breaks = false; returns = true; awaits = false }
+
+-- An arrow's parameters. Those of an async one are an AsyncArrowHead, in which `await` is reserved (15.9.1), as in the arrows among them.
+abbrev pub in_arrow_params : Bool → Scope → Scope
+in_arrow_params async x = record (in_arrow x) { awaits = async || x.awaits }
 
 abbrev pub in_function : Scope → Scope
-in_function x = record x { starts = false; heads = false; labels = []; loops = false; breaks = false; returns = true; supers = x.method; calls = false; targets = true; method = false }
+in_function x = record x { starts = false; heads = false; labels = []; loops = false; breaks = false; returns = true; supers = x.method; calls = false; targets = true; method = false; awaits = false }
 
 abbrev pub in_constructor : Bool → Scope → Scope
-in_constructor derived x = record x { starts = false; heads = false; labels = []; loops = false; breaks = false; returns = true; supers = true; calls = derived; targets = true; method = false }
+in_constructor derived x = record x { starts = false; heads = false; labels = []; loops = false; breaks = false; returns = true; supers = true; calls = derived; targets = true; method = false; awaits = false }
 
 -- the value of a field, and a static block
 abbrev pub in_part : Scope → Scope
-in_part x = record x { starts = false; heads = false; labels = []; loops = false; breaks = false; returns = false; supers = true; calls = false; targets = true; method = false }
+in_part x = record x { starts = false; heads = false; labels = []; loops = false; breaks = false; returns = false; supers = true; calls = false; targets = true; method = false; awaits = false }
 
--- a function that is a method, and one that is none
+-- a function that is a method, and one that is none: its name stands under its own [Await] (15.2)
 abbrev pub as_method : Scope → Scope
 as_method x = record x { method = true }
 
 abbrev pub as_function : Scope → Scope
-as_function x = record x { method = false }
+as_function x = record x { method = false; awaits = false }
 
 -- the statements of a body: those after `'use strict'` among its directives are strict (11.2.1)
 abbrev pub as_body : Scope → Scope
@@ -120,6 +126,9 @@ unless true es = []
 unless false es = es
 
 -- ---- names (13.1.1, 13.15.1)
+
+abbrev pub is_await : List ℕ → Bool
+is_await name = bytes_eq name (codes "await")
 
 abbrev pub is_evil : List ℕ → Bool
 is_evil name = bytes_eq name (codes "eval") || bytes_eq name (codes "arguments")
@@ -177,6 +186,11 @@ legacy_string (Some raw) s = fault (has_octal raw) LegacyOctal s
 
 abbrev pub where_strict : Scope → List Error → List Error
 where_strict x faults = if x.strict then faults else []
+
+-- ModuleExportName (16.2): a string is judged as any other, a word is no name that strict code judges
+abbrev pub export_name : Tree → Walk
+export_name (str_lit s u w) x = where_strict x (legacy_string w s)
+export_name _ x = []
 
 -- ---- labels (14.8.1, 14.9.1, 14.13.1)
 
@@ -307,7 +321,7 @@ top_using (more t ts) = top_using ts
 
 -- what each node lists, before its parts; `kids` are its parts, a list for each field
 abbrev pub step : Tree → List (List Walk) → Walk
-step (ident s n) kids x = fault (x.strict && is_among strict_reserved n) InvalidIdentInStrict s
+step (ident s n) kids x = fault (x.awaits && is_await n) Unexpected s ++ fault (x.strict && is_among strict_reserved n) InvalidIdentInStrict s
 step (binding_ident s i) kids x = within kids x ++ evil_name i x
 step (str_lit s u w) kids x = where_strict x (legacy_string w s)
 step (number_lit s v w) kids x = where_strict x (legacy_number w s)
@@ -338,7 +352,7 @@ step (using_decl s w ds) kids x = bad_using ds ++ (unless x.heads (unset_using d
 step (fn_decl s n f) kids x = evil_name n x ++ within kids (as_function x)
 step (fn_expr s n f) kids x = evil_name n x ++ within kids (as_function x)
 step (function s ps ds b g a) kids x = mode ps b ++ (first kids (in_function x) ++ within (later kids) (as_body (in_function x)))
-step (arrow_expr s ps b a) kids x = mode ps b ++ (first kids (in_arrow x) ++ within (later kids) (as_body (in_arrow x)))
+step (arrow_expr s ps b a) kids x = mode ps b ++ (first kids (in_arrow_params a x) ++ within (later kids) (as_body (in_arrow x)))
 step (method_prop s k f) kids x = first kids x ++ within (later kids) (as_method x)
 step (getter_prop s k b) kids x = first kids x ++ within (later kids) (as_body (in_function (as_method x)))
 step (setter_prop s k p b) kids x = mode (more p none) b ++ (first kids x ++ (first (later kids) (in_function (as_method x)) ++ within (later (later kids)) (as_body (in_function (as_method x)))))
@@ -352,11 +366,11 @@ step (class_prop s k v i ds) kids x = first kids x ++ within (later kids) (in_pa
 step (private_prop s k v i ds) kids x = within kids (in_part x)
 step (auto_accessor s k v i ds) kids x = first kids x ++ within (later kids) (in_part x)
 step (static_block s b) kids x = within kids (in_part x)
-step (import_named_specifier s l i) kids x = evil_name l x ++ first kids x
+step (import_named_specifier s l i) kids x = evil_name l x ++ (first kids x ++ export_name i x)
 step (import_default_specifier s l) kids x = evil_name l x ++ within kids x
 step (import_star_as_specifier s l) kids x = evil_name l x ++ within kids x
-step (export_named_specifier s o e) kids x = []
-step (export_namespace_specifier s n) kids x = []
+step (export_named_specifier s o e) kids x = export_name o x ++ export_name e x
+step (export_namespace_specifier s n) kids x = export_name n x
 step _ kids x = within kids x
 
 -- ---- the list
@@ -400,7 +414,7 @@ in_order (e ∷ es) = put e (in_order es)
 
 -- the code at the start of a script or a module
 abbrev pub outermost : EsSyntax → Bool → Scope
-outermost syntax strict = record { strict = strict; starts = false; labels = []; loops = false; breaks = false; returns = false; supers = false; calls = false; targets = false; method = false; heads = false; syntax = syntax }
+outermost syntax strict = record { strict = strict; starts = false; labels = []; loops = false; breaks = false; returns = false; supers = false; calls = false; targets = false; method = false; heads = false; awaits = false; syntax = syntax }
 
 -- the early errors of a tree in some code, and of a program
 unfoldable pub faults_in : Scope → Tree → List Error

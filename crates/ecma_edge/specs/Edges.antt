@@ -130,16 +130,16 @@ is_minus (unary_expr span op arg) = op == sub_kind
 is_minus (update_expr span op true arg) = op == minus_minus_kind
 is_minus t = false
 
--- `--` before its operand, and behind it
+-- `--` with its operand, and with that before it
 abbrev pub is_decrement : Tree → Bool
-is_decrement (update_expr span op true arg) = op == minus_minus_kind
+is_decrement (update_expr span op prefix arg) = op == minus_minus_kind
 is_decrement t = false
 
 abbrev pub is_postfix_decrement : Tree → Bool
 is_postfix_decrement (update_expr span op false arg) = op == minus_minus_kind
 is_postfix_decrement t = false
 
--- `!--`, which behind `<` opens a comment in a page (B.1.1)
+-- `!` of a `--`: `!--` behind `<` opens a comment (B.1.1)
 abbrev pub is_not_of_decrement : Tree → Bool
 is_not_of_decrement (unary_expr span op arg) = op == bang_kind && is_decrement arg
 is_not_of_decrement t = false
@@ -150,17 +150,25 @@ is_regexp (regex_lit span body flags) = true
 is_regexp t = false
 
 -- whether the first token is a regular expression, which behind `/` opens a comment
-abbrev pub starts_with_regexp : Tree → Bool
-starts_with_regexp (regex_lit span body flags) = true
-starts_with_regexp (bin_expr span op left right) = starts_with_regexp left
-starts_with_regexp (cond_expr span test cons alt) = starts_with_regexp test
-starts_with_regexp (call_expr span callee args) = starts_with_regexp callee
-starts_with_regexp (member_expr span obj prop) = starts_with_regexp obj
-starts_with_regexp (opt_chain_expr span optional base) = starts_with_regexp base
-starts_with_regexp (opt_call span callee args) = starts_with_regexp callee
-starts_with_regexp (tagged_tpl span tag tpl_) = starts_with_regexp tag
-starts_with_regexp (update_expr span op false arg) = starts_with_regexp arg
-starts_with_regexp t = false
+abbrev mutual
+  pub starts_with_regexp : Tree → Bool
+  starts_with_regexp (regex_lit span body flags) = true
+  starts_with_regexp (bin_expr span op left right) = starts_with_regexp left
+  starts_with_regexp (assign_expr span op left right) = starts_with_regexp left
+  starts_with_regexp (cond_expr span test cons alt) = starts_with_regexp test
+  starts_with_regexp (seq_expr span exprs) = first_starts_with_regexp exprs
+  starts_with_regexp (call_expr span callee args) = starts_with_regexp callee
+  starts_with_regexp (member_expr span obj prop) = starts_with_regexp obj
+  starts_with_regexp (opt_chain_expr span optional base) = starts_with_regexp base
+  starts_with_regexp (opt_call span callee args) = starts_with_regexp callee
+  starts_with_regexp (tagged_tpl span tag tpl_) = starts_with_regexp tag
+  starts_with_regexp (update_expr span op false arg) = starts_with_regexp arg
+  starts_with_regexp t = false
+
+  -- that of the first of some expressions
+  pub first_starts_with_regexp : Trees → Bool
+  first_starts_with_regexp none = false
+  first_starts_with_regexp (more t ts) = starts_with_regexp t
 
 -- Whether a blank stands before an operator and after it where as few stand as the program needs.
 abbrev pub gap_before : ℕ → Tree → Bool

@@ -6,3 +6,4 @@ pub mod Parts
 pub mod Sorted
 pub mod Spines
 pub mod Templated
+pub mod Tokens

@@ -5,7 +5,7 @@ use Rattle.ecma_layout.specs.declared.look.Look.{Look}
 use Rattle.ecma_layout.specs.declared.look.Stand.TheVariants.{Alone, Head}
 use Rattle.ecma_layout.specs.Looks.{Laid, ◌·◌, start, text, when}
 use Rattle.ecma_layout.specs.Literals.{number, number_before_point}
-use Rattle.ecma_layout.specs.Layout.{laid, is_computed}
+use Rattle.ecma_layout.specs.Layout.{laid, is_computed, optional_dot}
 
 -- an object: a number takes a point of its own before the point of a name, and none before a bracket and before `?.`
 abbrev pub object_laid : Look → Bool → Tree → Laid
@@ -14,7 +14,7 @@ object_laid look keeps t = laid look Head t
 
 -- the sign between an object and a name in an optional chain
 abbrev pub link_laid : Bool → Bool → Laid
-link_laid optional computed = if optional then text (codes "?.") else when (not computed) (text (codes "."))
+link_laid optional computed = if optional then optional_dot else when (not computed) (text (codes "."))
 
 -- a member in an optional chain
 abbrev pub chain_laid : Look → Bool → Tree → Tree → Laid

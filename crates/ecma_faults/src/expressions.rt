@@ -8,7 +8,7 @@ use crate::protos::second_protos;
 use crate::targets::{evil_target, is_super};
 use ecma_faults_base::Code;
 use ecma_faults_base::listed::add;
-use ecma_faults_base::texts::is_strict_reserved;
+use ecma_faults_base::texts::{is_await, is_strict_reserved};
 use ecma_node::{
     ArrayLitOf, ArrowExprOf, AssignExprOf, AwaitExprOf, BinExprOf, BlockStmtOrExprOf, CallExprOf,
     CalleeOf, ClassExprOf, CondExprOf, ExprKindOf, ExprOrSpreadOf, FnExprOf, Ident, MemberExprOf,
@@ -188,8 +188,11 @@ impl Check for Ident {
     ghost tree = { view_ident };
 
     fn check(&self, code: Code<'_>, faults: &mut Vec<Error>) -> Result<(), AllocError> {
-        let holds = code.strict && is_strict_reserved(self.sym.as_str());
-        add(faults, holds, SyntaxError::InvalidIdentInStrict, self.span)
+        let name = self.sym.as_str();
+        let awaits = code.awaits && is_await(name);
+        add(faults, awaits, SyntaxError::Unexpected, self.span)?;
+        let reserved = code.strict && is_strict_reserved(name);
+        add(faults, reserved, SyntaxError::InvalidIdentInStrict, self.span)
     }
 }
 
@@ -220,7 +223,8 @@ impl<T: Held> Check for ArrowExprOf<T> {
         let inside = code.in_arrow();
         let bare = are_bare(self.params.as_slice());
         mode(bare, arrow_use_strict(&self.body), faults)?;
-        self.params.check(inside, faults)?;
+        let params = code.in_arrow_params(self.is_async);
+        self.params.check(params, faults)?;
         self.body.check(inside.as_body(), faults)
     }
 }

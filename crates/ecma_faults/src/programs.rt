@@ -1,5 +1,9 @@
 //! Scripts, modules, imports and exports (ECMA-262, 16.1 and 16.2).
 ghost use Rattle.ecma_node.specs.View.{view_program_kind, view_script, view_module, view_module_item, view_module_decl, view_import_decl, view_export_decl, view_named_export, view_export_default_decl, view_export_default_expr, view_export_all, view_default_decl, view_import_specifier, view_import_named_specifier, view_import_default_specifier, view_import_star_as_specifier, view_export_specifier, view_export_default_specifier, view_module_export_name};
+ghost use Rattle.std.specs.Prelude.{◌≡◌, ◌++◌, IfOk};
+ghost use Rattle.ecma_tree.specs.Tree.{part_by};
+ghost use Rattle.ecma_early.specs.Early.{export_name};
+ghost use Rattle.ecma_faults_base.specs.Around.{scope_of};
 
 use crate::bodies::{check_statements, top_using};
 use crate::check::{Check, Held};
@@ -136,6 +140,35 @@ impl<T: Held> Check for DefaultDeclOf<T> {
     }
 }
 
+/// The faults of a name of an import or an export: those of a string. A word is no name that strict
+/// code judges.
+fn export_name(
+    name: &ModuleExportName,
+    code: Code<'_>,
+    faults: &mut Vec<Error>,
+) -> Result<(), AllocError>
+    ensures { IfOk result (λ _. faults.new.items ≡ faults.old.items ++ export_name (view_module_export_name name.now) (scope_of code.entry)) }
+{
+    match name {
+        ModuleExportName::Ident(_) => Ok(()),
+        ModuleExportName::Str(x) => x.check(code, faults),
+    }
+}
+
+/// The same of a name that may be left out.
+fn export_name_option(
+    name: &Option<ModuleExportName>,
+    code: Code<'_>,
+    faults: &mut Vec<Error>,
+) -> Result<(), AllocError>
+    ensures { IfOk result (λ _. faults.new.items ≡ faults.old.items ++ export_name (part_by view_module_export_name name.now) (scope_of code.entry)) }
+{
+    match name {
+        Some(name) => export_name(name, code, faults),
+        None => Ok(()),
+    }
+}
+
 impl Check for ImportSpecifier {
     ghost tree = { view_import_specifier };
 
@@ -153,7 +186,8 @@ impl Check for ImportNamedSpecifier {
 
     fn check(&self, code: Code<'_>, faults: &mut Vec<Error>) -> Result<(), AllocError> {
         evil(&self.local, code, faults)?;
-        self.local.check(code, faults)
+        self.local.check(code, faults)?;
+        export_name_option(&self.imported, code, faults)
     }
 }
 
@@ -180,9 +214,12 @@ impl Check for ExportSpecifier {
 
     fn check(&self, code: Code<'_>, faults: &mut Vec<Error>) -> Result<(), AllocError> {
         match self {
-            ExportSpecifier::Namespace(_) => Ok(()),
+            ExportSpecifier::Namespace(x) => export_name(&x.name, code, faults),
             ExportSpecifier::Default(x) => x.check(code, faults),
-            ExportSpecifier::Named(_) => Ok(()),
+            ExportSpecifier::Named(x) => {
+                export_name(&x.orig, code, faults)?;
+                export_name_option(&x.exported, code, faults)
+            }
         }
     }
 }

@@ -23,6 +23,7 @@ scope_of c = record {
   targets = c.targets;
   method = c.method;
   heads = c.heads;
+  awaits = c.awaits;
   syntax = c.syntax;
 }
 

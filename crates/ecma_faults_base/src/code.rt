@@ -1,6 +1,6 @@
 //! The code around a node.
 ghost use Rattle.std.specs.Prelude.{◌≡◌, true, false, ◌&&◌, ◌||◌};
-ghost use Rattle.ecma_early.specs.Early.{as_block, as_body, as_function, as_method, heading, in_arrow, in_constructor, in_function, in_part, looping, outermost, past_head, strictly, switching};
+ghost use Rattle.ecma_early.specs.Early.{as_block, as_body, as_function, as_method, heading, in_arrow, in_arrow_params, in_constructor, in_function, in_part, looping, outermost, past_head, strictly, switching};
 ghost use Rattle.ecma_faults_base.specs.Around.{scope_of, after_statement, labels_of};
 
 use crate::labels::Labels;
@@ -31,6 +31,8 @@ pub struct Code<'a> {
     pub method: bool,
     /// The next declaration heads a `for`-`in` or a `for`-`of`.
     pub heads: bool,
+    /// Among the parameters of an async arrow, where `await` is no name.
+    pub awaits: bool,
     /// Optional parts of the language.
     pub syntax: EsSyntax,
 }
@@ -52,6 +54,7 @@ impl<'a> Code<'a> {
             targets: false,
             method: false,
             heads: false,
+            awaits: false,
             syntax,
         }
     }
@@ -98,7 +101,18 @@ impl<'a> Code<'a> {
             loops: false,
             breaks: false,
             returns: true,
+            awaits: false,
             ..self
+        }
+    }
+
+    /// Among the parameters of an arrow function, which is async or not.
+    pub fn in_arrow_params(self, is_async: bool) -> Code<'a>
+        ensures { scope_of result ≡ in_arrow_params is_async (scope_of self.entry) }
+    {
+        Code {
+            awaits: is_async || self.awaits,
+            ..self.in_arrow()
         }
     }
 
@@ -152,12 +166,13 @@ impl<'a> Code<'a> {
         }
     }
 
-    /// Before a function that is no method.
+    /// Before a function that is no method, and its name.
     pub fn as_function(self) -> Code<'a>
         ensures { scope_of result ≡ as_function (scope_of self.entry) }
     {
         Code {
             method: false,
+            awaits: false,
             ..self
         }
     }

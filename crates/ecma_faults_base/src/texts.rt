@@ -1,6 +1,6 @@
-//! Names and spellings that strict code refuses (ECMA-262, 13.1.1, 13.15.1, B.1.1 and B.1.2).
+//! Names and spellings that strict code and async arrows refuse (ECMA-262, 13.1.1, 13.15.1, 15.9.1, B.1.1 and B.1.2).
 ghost use Rattle.std.specs.Prelude.{◌≡◌, List, ℕ};
-ghost use Rattle.ecma_early.specs.Early.{all_octal, has_octal, is_evil, is_legacy};
+ghost use Rattle.ecma_early.specs.Early.{all_octal, has_octal, is_await, is_evil, is_legacy};
 ghost use Rattle.ecma_token.specs.Reserved.{is_among, strict_reserved};
 
 /// Whether a name is `eval` or `arguments`.
@@ -8,6 +8,13 @@ pub fn is_evil(name: &str) -> bool
     ensures { result ≡ is_evil name.now }
 {
     name == "eval" || name == "arguments"
+}
+
+/// Whether a name is `await`.
+pub fn is_await(name: &str) -> bool
+    ensures { result ≡ is_await name.now }
+{
+    name == "await"
 }
 
 /// Whether a word is no name in strict code.

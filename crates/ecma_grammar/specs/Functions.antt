@@ -4,7 +4,7 @@ use Rattle.ecma_token.specs.declared.place.Span.{Span}
 use Rattle.ecma_token.specs.Kinds.{arrow_kind, left_paren_kind, right_paren_kind, left_brace_kind, right_brace_kind, mul_kind, assign_kind, function_kind, class_kind, extends_kind, accessor_kind, async_kind, get_kind, set_kind, static_kind}
 use Rattle.ecma_tree.specs.Tree.{Tree, plain_method}
 use Rattle.ecma_syntax.specs.Input.{Input, Code, Takes, TakesWord, Spans, kind, brk, with_in, by, binding, setting, turned_strict, in_body, in_arrow, in_field, in_static, in_list}
-use Rattle.ecma_syntax.specs.Operators.{assignment_level, new_level}
+use Rattle.ecma_syntax.specs.Operators.{assignment_level, new_level, key_end}
 use Rattle.ecma_syntax.specs.Shape.{ends, is_absent, is_bound_name, is_item_pat, is_param, is_rest, is_key, is_any_key, is_item, is_member, constructs, field_end, FunctionParts}
 use Rattle.ecma_grammar.specs.Parts.{is_ident, Part, By, IsEmpty, Expr, Sorted, Maybe, Listed, Items, Ends}
 
@@ -64,7 +64,8 @@ FunctionExpression c s name f (Some parts) ts r = (m : Input) × (n : Input) × 
 
 -- ---- 15.3, 15.9 arrows
 
--- ArrowParameters: one bare name, or patterns in parentheses. They stand in the code around the arrow, whether it is async or not (own).
+-- ArrowParameters: one bare name, or patterns in parentheses, in the code around the arrow. That `await` is no name among those of an async one
+-- is an early error (15.9.1).
 abbrev pub ArrowPattern : Code → Part → Input → Input → Type 0
 ArrowPattern c p ts r = (is_item_pat true p.tree ≡ true) × p.spelled (binding (with_in c)) ts r
 
@@ -161,10 +162,10 @@ abbrev pub Field : (Tree → Bool) → Code → Span → Part → Part → Bool 
 Field may c s key value is_static decorators ts r = (m : Input) × (n : Input) × IsEmpty decorators × (may key.tree ≡ true) × Static is_static c ts m × key.spelled c m n
     × Initial c (field_end is_static (kind m)) value n r × Spans s ts r
 
--- an auto accessor: `accessor` and its key stand on one line (own, where its flag is on)
+-- an auto accessor: `accessor` and its key, any key, stand on one line (own, where its flag is on)
 abbrev pub AutoAccessor : Code → Span → Part → Part → Bool → List Part → Input → Input → Type 0
 AutoAccessor c s key value is_static decorators ts r = (m : Input) × (n : Input) × (o : Input) × (c.syntax.auto_accessors ≡ true) × IsEmpty decorators × Static is_static c ts m
-    × TakesWord c accessor_kind m n × (brk n ≡ false) × Sorted is_any_key c key n o × Initial c (field_end true (kind n)) value o r × Spans s ts r
+    × TakesWord c accessor_kind m n × (brk n ≡ false) × Sorted is_any_key c key n o × Initial c key_end value o r × Spans s ts r
 
 -- ClassStaticBlock
 abbrev pub StaticBlock : Code → Span → Span → List Part → Input → Input → Type 0

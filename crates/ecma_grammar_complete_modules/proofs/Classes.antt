@@ -5,7 +5,7 @@ use Rattle.ecma_token.specs.declared.place.Span.{Span}
 use Rattle.ecma_token.specs.Kinds.{end_kind, left_paren_kind, right_paren_kind, left_brace_kind, right_brace_kind, semicolon_kind, hash_kind, str_kind, num_kind, big_int_kind, left_bracket_kind, mul_kind, assign_kind, extends_kind, accessor_kind, async_kind, get_kind, set_kind, static_kind}
 use Rattle.ecma_tree.specs.Tree.{Tree, Trees, none, more, pack, unpack, plain_method, block_stmt, empty_stmt, function, class, constructor, class_method, private_method, class_prop, private_prop, static_block, auto_accessor, private_name, ident_name, str_lit, script, es_module, expr_pat, absent}
 use Rattle.ecma_syntax.specs.Input.{Input, Code, kind, kind2, brk, brk2, lo, span, first_span, rest, is_word, has_in, setting, in_body, in_field, in_static, Takes, TakesWord}
-use Rattle.ecma_syntax.specs.Operators.{assignment_level, new_level, starts_key, goes_expr, goes_on, pauses}
+use Rattle.ecma_syntax.specs.Operators.{assignment_level, new_level, starts_key, goes_expr, goes_on, pauses, key_end}
 use Rattle.ecma_syntax.specs.Shape.{level, ends, is_absent, is_key, is_private, is_any_key, is_member, constructs, field_end, class_span, function_parts, FunctionParts, count_of}
 use Rattle.ecma_grammar.specs.Parts.{By, IsEmpty, part, Sorted, Ends}
 use Rattle.ecma_grammar.specs.Functions.{Members, Static, Async, Star, Body, Parameters, Method, Initial, ClassMethod, Field}
@@ -85,6 +85,13 @@ ended_field p c st m y r (inl h) = (plain_at st m y semicolon_kind h.0 refl refl
 ended_field p c st m y r (inr h) = ⊎_elim (λ q. let e = eqb-true (kind y) right_brace_kind q in (plain_at st m y right_brace_kind e refl refl refl, stops_at st (kind m) right_brace_kind y e refl refl refl refl refl))
     (λ q. ⊎_elim (λ q. let e = eqb-true (kind y) end_kind q in (plain_at st m y end_kind e refl refl refl, stops_at st (kind m) end_kind y e refl refl refl refl refl))
     (λ q. let w = and_parts (brk y) _ q in let u = stops c st (kind m) y (not-true _ w.1) in (record { line = and_right _ (not (brk y)) (ap not w.0); accessor = u.accessor; static_ = u.static_ }, u)) (or_cases (kind y == end_kind) _ q)) (or_cases (kind y == right_brace_kind) _ h.1)
+
+-- an auto accessor's key without a value
+unset_key : (p : Bool) (c : Code) (y r : Input) → Ends (coded p c) key_end y r → eqb (kind y) assign_kind ≡ false
+unset_key p c y r (inl h) = subst (λ (k : ℕ). eqb k assign_kind ≡ false) (sym h.0) refl
+unset_key p c y r (inr h) = ⊎_elim (λ q. subst (λ (k : ℕ). eqb k assign_kind ≡ false) (sym (eqb-true (kind y) right_brace_kind q)) refl)
+    (λ q. ⊎_elim (λ q. subst (λ (k : ℕ). eqb k assign_kind ≡ false) (sym (eqb-true (kind y) end_kind q)) refl)
+    (λ q. let w = and_parts (brk y) _ q in let v = or_parts (kind y == assign_kind) _ (not-true _ w.1) in v.0) (or_cases (kind y == end_kind) _ q)) (or_cases (kind y == right_brace_kind) _ h.1)
 
 plain_field : (p : Bool) (c : Code) (st : Bool) (v : Tree) (m y r : Input) → Initial (coded p c) (field_end st (kind m)) (part v (λ y. Spells v y)) y r → Plain st m y × (eqb (kind y) left_paren_kind ≡ false)
 plain_field p c st v m y r h = by_cases (is_absent v) _ _ _ h (λ q x. let w = ended_field p c st m y r x in (w.0, w.1.paren)) (λ q x. (plain_at st m y assign_kind x.2.0 refl refl refl, subst (λ (k : ℕ). eqb k left_paren_kind ≡ false) (sym x.2.0) refl))
@@ -279,7 +286,7 @@ module _ (z : Nested) (p : Bool) (c : Code) (i : has_in c ≡ true) where
         is_no : (n : ℕ) → eqb set_kind n ≡ false → eqb (kind m) n ≡ false
         is_no n w = subst (λ (d : ℕ). eqb d n ≡ false) (sym e) w
 
-    accessor_read : (v : Tree) (ds : Trees) (m y n r : Input) (j : List ℕ) → z.Covered v → c.syntax.auto_accessors ≡ true → IsEmpty (parts ds) → kind m ≡ accessor_kind → rest m ≡ y → brk y ≡ false → Spells x (coded p c) y n → Initial (coded p c) (field_end true (kind y)) (part v (λ y. Spells v y)) n r → s ≡ span (lo ts) r.last
+    accessor_read : (v : Tree) (ds : Trees) (m y n r : Input) (j : List ℕ) → z.Covered v → c.syntax.auto_accessors ≡ true → IsEmpty (parts ds) → kind m ≡ accessor_kind → rest m ≡ y → brk y ≡ false → Spells x (coded p c) y n → Initial (coded p c) key_end (part v (λ y. Spells v y)) n r → s ≡ span (lo ts) r.last
         → Reads (from m j) (member_rest lm z.inner c (from ts k) st (from m j)) (Is (auto_accessor s x v st ds) r) (z.depth < max (within z.reach x) (z.reach v))
     unfolding member_rest accessor_by
     accessor_read v ds m y n r j g on em e u b h t w = if_no (kind m == mul_kind) _ _ _ _ (is_no mul_kind refl) (if_no (is_async_head lm z.inner (from m j)) _ _ _ _ (and_left (kind m == async_kind) _ (is_no async_kind refl))
@@ -287,8 +294,7 @@ module _ (z : Nested) (p : Bool) (c : Code) (i : has_in c ≡ true) where
         (if_yes (c.syntax.auto_accessors && ((kind m == accessor_kind) && (starts_key (kind2 m) && not (brk2 m)))) _ _ _ _ (and_from c.syntax.auto_accessors _ on (and_from (kind m == accessor_kind) _ (eq-eqb (kind m) accessor_kind e)
         (subst (λ (d : Input). (starts_key (kind d) && not (brk d)) ≡ true) (sym u) (and_from _ _ (any_key_starts x (coded p c) y n i1 h).0 (ap not b)))))
         (then_past m y j (class_key lm z.inner c) _ x n (z.depth < within z.reach x) _ _ u (any_key_found z p c x y n j i1 gx h) (λ le. omega arith)
-        (λ l. then_is (field_value lm z.inner c (field_end true (kind (rest m))) (from n l)) _ v r (z.depth < z.reach v) _ _
-        (subst (λ (d : Input). Reads (from n l) (field_value lm z.inner c (field_end true (kind d)) (from n l)) (Is v r) (z.depth < z.reach v)) (sym u) (value_found (field_end true (kind y)) v n r l g (λ d. (ended_field p c true y n r d).1.value) t)) (λ le. omega arith)
+        (λ l. then_is (field_value lm z.inner c key_end (from n l)) _ v r (z.depth < z.reach v) _ _ (value_found key_end v n r l g (λ d. unset_key p c n r d) t) (λ le. omega arith)
         (λ f. here (ap (λ (y : Span). auto_accessor y x v st none) (sym w) ∙ ap (λ (y : Trees). auto_accessor s x v st y) (sym (empty_none ds em))))))))))
       where
         is_no : (n : ℕ) → eqb accessor_kind n ≡ false → eqb (kind m) n ≡ false

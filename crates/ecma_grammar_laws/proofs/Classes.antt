@@ -5,7 +5,7 @@ use Rattle.ecma_token.specs.declared.place.Span.{Span}
 use Rattle.ecma_token.specs.Kinds.{left_paren_kind, right_paren_kind, left_brace_kind, right_brace_kind, semicolon_kind, hash_kind, mul_kind, assign_kind, extends_kind, async_kind, static_kind, accessor_kind, get_kind, set_kind}
 use Rattle.ecma_tree.specs.Tree.{Tree, none, more, pack, plain_method, absent, block_stmt, empty_stmt, function, class, class_method, private_method, class_prop, private_prop, static_block, auto_accessor}
 use Rattle.ecma_syntax.specs.Input.{Input, Code, kind, kind2, brk, brk2, Takes, Spans, lo, span, first_span, in_body, in_field, in_static, setting}
-use Rattle.ecma_syntax.specs.Operators.{assignment_level, new_level, starts_key}
+use Rattle.ecma_syntax.specs.Operators.{assignment_level, new_level, starts_key, key_end}
 use Rattle.ecma_syntax.specs.Shape.{ends, is_absent, is_private, is_key, is_member, constructs, field_end, FunctionParts, function_parts, class_span}
 use Rattle.ecma_grammar.specs.Parts.{part, By, Expr, Ends}
 use Rattle.ecma_grammar.specs.Functions.{Async, MethodHead, Method, Static, ClassMethod, Initial, Members, Heritage, Closes}
@@ -145,7 +145,7 @@ module _ (inner : Inner Input) (good : Sound inner) where
 
   accessor_sure : (c : Code) (start : Stand Input) (st : Bool) (s : Stand Input) → Static st (plain c) (seen start) (seen s) → c.syntax.auto_accessors ≡ true → kind (seen s) ≡ accessor_kind → brk (seen (next s)) ≡ false → Sure s.commas (accessor_by lm inner c start st s) (GotMember c start)
   unfolding accessor_by
-  accessor_sure c start st s t on e n = then_sure s.commas (class_key lm inner c (next s)) _ _ _ (class_key_sure c (next s)) (λ k q. then_sure k.1.commas (field_value lm inner c (field_end true (kind (seen (next s)))) k.1) _ _ _ (value_sure c (field_end true (kind (seen (next s)))) k.1) (λ v h.
+  accessor_sure c start st s t on e n = then_sure s.commas (class_key lm inner c (next s)) _ _ _ (class_key_sure c (next s)) (λ k q. then_sure k.1.commas (field_value lm inner c key_end k.1) _ _ _ (value_sure c key_end k.1) (λ v h.
       done (auto_accessor (span (lo (seen start)) v.1.source.last) k.0 v.0 st none, v.1) (GotMember c start) (refl, (seen s, seen (next s), seen k.1, on, tt, t, (e, soft c accessor_kind s e and_no, tt, refl), n, (any_key k.0 q.0, q.1), h, refl))))
 
   field_sure : (c : Code) (start : Stand Input) (st : Bool) (s : Stand Input) → Static st (plain c) (seen start) (seen s) → Sure s.commas (field_or_method lm inner c start st s) (GotMember c start)

@@ -4,7 +4,7 @@ use Rattle.ecma_token.specs.declared.place.Span.{Span}
 use Rattle.ecma_token.specs.Kinds.{arrow_kind, left_paren_kind, right_paren_kind, left_brace_kind, right_brace_kind, mul_kind, assign_kind, function_kind, class_kind, extends_kind, accessor_kind, async_kind, get_kind, set_kind, static_kind}
 use Rattle.ecma_tree.specs.Tree.{Tree, plain_method}
 use Rattle.ecma_syntax.specs.Input.{Input, Code, Spans, kind, with_in, by, binding, setting, turned_strict, in_body, in_arrow, in_field, in_static, in_list}
-use Rattle.ecma_syntax.specs.Operators.{assignment_level, new_level}
+use Rattle.ecma_syntax.specs.Operators.{assignment_level, new_level, key_end}
 use Rattle.ecma_syntax.specs.Shape.{ends, is_absent, is_bound_name, is_param, is_key, is_any_key, is_item, is_member, field_end, FunctionParts}
 use Rattle.ecma_grammar.specs.Parts.{is_ident, Part, By, Sorted}
 use Rattle.ecma_grammar.specs.Functions.{Parameter, Parameters, SetParameter, Closes, Body, Function, Star, Async, FunctionHead, FunctionDeclaration, Named, FunctionExpression, ArrowPattern, BareName, ArrowParameters, ArrowHead, ArrowBlock, ArrowExpression, MethodHead, Method, ObjectMethod, Getter, Setter, Heritage, Members, ClassTail, ClassDeclaration, ClassExpression, Static, Constructor, ClassMethod, Initial, Field, AutoAccessor, StaticBlock}
@@ -153,8 +153,8 @@ module _ (p : Bool) where
       (x.0, x.1, (y.0, z.0, h.2, h.3, x.2, y.2, subst (λ (n : ℕ). Initial (placing p c) (field_end i n) v z.0 q) (kind_like p h.0 y.0 y.1) z.2, sp s ts x.0 r q x.1 l h.7))
 
   pub accessor : (c : Code) (s : Span) (k v : Part) (i : Bool) (ds : List Part) → Moved p k → Moved p v → Moves p (AutoAccessor c s k v i ds) (AutoAccessor (placing p c) s k v i ds)
-  accessor c s k v i ds f g ts r q h l = let z = initial c (field_end true (kind h.1)) v g h.2 r q h.9 l in let y = sorted p is_any_key c k f h.1 h.2 z.0 h.8 z.1 in let x = take_word p c accessor_kind h.0 h.1 y.0 h.6 y.1 in let w = static_on i c ts h.0 x.0 h.5 x.1 in
-      (w.0, w.1, (x.0, y.0, z.0, h.3, h.4, w.2, x.2, sym (brk_like p h.1 y.0 y.1) ∙ h.7, y.2, subst (λ (n : ℕ). Initial (placing p c) (field_end true n) v z.0 q) (kind_like p h.1 y.0 y.1) z.2, sp s ts w.0 r q w.1 l h.10))
+  accessor c s k v i ds f g ts r q h l = let z = initial c key_end v g h.2 r q h.9 l in let y = sorted p is_any_key c k f h.1 h.2 z.0 h.8 z.1 in let x = take_word p c accessor_kind h.0 h.1 y.0 h.6 y.1 in let w = static_on i c ts h.0 x.0 h.5 x.1 in
+      (w.0, w.1, (x.0, y.0, z.0, h.3, h.4, w.2, x.2, sym (brk_like p h.1 y.0 y.1) ∙ h.7, y.2, z.2, sp s ts w.0 r q w.1 l h.10))
 
   pub static_block_on : (c : Code) (s t : Span) (ss : List Part) → AllMoved p ss → Moves p (StaticBlock c s t ss) (StaticBlock (placing p c) s t ss)
   static_block_on c s t ss a ts r q h l = let d = in_static c in let z = items p is_item Closes (λ d. brace p d) d false ss a h.1 r q h.4 l in let y = take p d left_brace_kind h.0 h.1 z.0 h.3 z.1 in let x = take_word p c static_kind ts h.0 y.0 h.2 y.1 in

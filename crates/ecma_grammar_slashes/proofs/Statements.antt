@@ -4,7 +4,7 @@ use Rattle.ecma_token.specs.declared.place.Span.{Span}
 use Rattle.ecma_token.specs.Kinds.{dot_dot_dot_kind, left_paren_kind, right_paren_kind, left_bracket_kind, right_bracket_kind, left_brace_kind, right_brace_kind, semicolon_kind, comma_kind, colon_kind, hash_kind, mul_kind, assign_kind, await_kind, break_kind, case_kind, catch_kind, continue_kind, debugger_kind, default_kind, do_kind, else_kind, finally_kind, for_kind, function_kind, if_kind, return_kind, switch_kind, throw_kind, try_kind, var_kind, let_kind, const_kind, while_kind, with_kind, class_kind, extends_kind, in_kind, async_kind, of_kind, using_kind, static_kind, accessor_kind, get_kind, set_kind}
 use Rattle.ecma_tree.specs.Tree.{Tree, none, more, pack, block_stmt, labeled_stmt, break_stmt, continue_stmt, switch_case, try_stmt, catch_clause, do_while_stmt, for_stmt, for_in_stmt, for_of_stmt, expr_stmt, class_decl, fn_decl, var_decl, using_decl, var_declarator, function, static_block, auto_accessor, ident, binding_ident, rest_pat, assign_pat, key_value_pat_prop, assign_pat_prop, absent}
 use Rattle.ecma_syntax.specs.Input.{Place, Input, Code, kind, kind2, brk, brk2, lo, dots_at, span, rest, barred, is_strict, with_in, without_in, in_list, alone, in_body, in_field, in_static, turned_strict}
-use Rattle.ecma_syntax.specs.Operators.{expression_level, assignment_level, new_level, starts_key, plain_end}
+use Rattle.ecma_syntax.specs.Operators.{expression_level, assignment_level, new_level, starts_key, plain_end, key_end}
 use Rattle.ecma_syntax.specs.Shape.{ends, is_name, is_absent, is_private, is_structured, is_default_case, is_use_strict, is_plain_function, constructs, field_end, declarators_end, is_statement}
 use Rattle.ecma_reading.specs.Source.{Fault, unexpected, ◌>>=◌, Stand, input, past, operand, spanned, at, eat, name, end_of, go_on, finished, Inner}
 use Rattle.ecma_reading.specs.Expressions.{first, key_by, function_by, is_async_head}
@@ -145,7 +145,7 @@ module _ (w : Parting) (inner : Inner Input) (told : Told w inner) where
   pub accessor_by_twin : (c : Code) (starto : List ℕ) (startn : ℕ) (startl : List Place) (is_static : Bool) (o : List ℕ) (n : ℕ) (p : Place) (l : List Place) → Twins w (accessor_by lm inner c (on starto startn (startl ++ regexps w)) is_static (on o n (p ∷ (l ++ regexps w)))) (accessor_by lm inner c (on starto startn (startl ++ slashes w)) is_static (on o n (p ∷ (l ++ slashes w))))
   unfolding accessor_by
   accessor_by_twin c starto startn startl is_static o n p [] = class_key_nil c o p.spot.hi _ _
-  accessor_by_twin c starto startn startl is_static o n p (q ∷ l) = twin_then w _ _ _ _ (class_key_twin c o p.spot.hi (q ∷ l)) (λ kv ko kn kl. twin_then w _ _ _ _ (field_value_twin c (field_end true q.spot.token.kind) ko kn kl)
+  accessor_by_twin c starto startn startl is_static o n p (q ∷ l) = twin_then w _ _ _ _ (class_key_twin c o p.spot.hi (q ∷ l)) (λ kv ko kn kl. twin_then w _ _ _ _ (field_value_twin c key_end ko kn kl)
       (λ vv vo vn vl. twin_ok w _ _ vo vn vl (ap (λ (z : ℕ). auto_accessor (span z vn) kv vv is_static none) (lo_same w starto startn startl))))
 
   pub field_or_method_twin : (c : Code) (starto : List ℕ) (startn : ℕ) (startp : Place) (startl : List Place) (is_static : Bool) (o : List ℕ) (n : ℕ) (l : List Place) → Twins w (field_or_method lm inner c (on starto startn (startp ∷ (startl ++ regexps w))) is_static (on o n ((l ++ regexps w)))) (field_or_method lm inner c (on starto startn (startp ∷ (startl ++ slashes w))) is_static (on o n ((l ++ slashes w))))

@@ -4,7 +4,7 @@ use Rattle.ecma_token.specs.declared.place.Span.{Span}
 use Rattle.ecma_token.specs.Kinds.{dot_dot_dot_kind, left_paren_kind, right_paren_kind, left_bracket_kind, right_bracket_kind, left_brace_kind, right_brace_kind, semicolon_kind, comma_kind, colon_kind, hash_kind, mul_kind, assign_kind, await_kind, break_kind, case_kind, catch_kind, continue_kind, debugger_kind, default_kind, do_kind, else_kind, finally_kind, for_kind, function_kind, if_kind, return_kind, switch_kind, throw_kind, try_kind, var_kind, let_kind, const_kind, while_kind, with_kind, class_kind, extends_kind, in_kind, async_kind, of_kind, using_kind, static_kind, accessor_kind, get_kind, set_kind}
 use Rattle.ecma_tree.specs.Tree.{Tree, pack, break_stmt, continue_stmt, for_in_stmt, for_of_stmt, var_decl, using_decl, rest_pat, absent}
 use Rattle.ecma_syntax.specs.Input.{Code, kind, kind2, brk, brk2, lo, dots_at, rest, with_in, without_in, in_list, alone, in_body, in_field, in_static, turned_strict}
-use Rattle.ecma_syntax.specs.Operators.{expression_level, assignment_level, new_level, starts_key}
+use Rattle.ecma_syntax.specs.Operators.{expression_level, assignment_level, new_level, starts_key, key_end}
 use Rattle.ecma_syntax.specs.Shape.{is_name, is_structured, is_default_case, constructs, field_end}
 use Rattle.ecma_reading.specs.Source.{◌>>=◌, Machine, Stand, input, past, operand, bound, spanned, at, eat, eat_word, name, Inner}
 use Rattle.ecma_reading.specs.Cover.{to_head}
@@ -128,7 +128,7 @@ module _ {S : Type 0} (m : Machine S) (few many : Inner S) (same : Steady few ma
 
   pub accessor_by_steady : (c : Code) (start : Stand S) (is_static : Bool) (s : Stand S) → Agrees (accessor_by m few c start is_static s) (accessor_by m many c start is_static s)
   unfolding accessor_by
-  accessor_by_steady c start is_static s = agree_then _ _ _ _ (class_key_steady c (past m s)) (λ k. agree_then _ _ _ _ (field_value_steady c (field_end true (kind (input m (past m s)))) k.1) (λ v. agree_same _))
+  accessor_by_steady c start is_static s = agree_then _ _ _ _ (class_key_steady c (past m s)) (λ k. agree_then _ _ _ _ (field_value_steady c key_end k.1) (λ v. agree_same _))
 
   pub field_or_method_steady : (c : Code) (start : Stand S) (is_static : Bool) (s : Stand S) → Agrees (field_or_method m few c start is_static s) (field_or_method m many c start is_static s)
   unfolding field_or_method

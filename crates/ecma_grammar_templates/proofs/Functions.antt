@@ -4,7 +4,7 @@ use Rattle.ecma_token.specs.declared.place.Span.{Span}
 use Rattle.ecma_token.specs.Kinds.{arrow_kind, left_paren_kind, right_paren_kind, mul_kind, assign_kind, function_kind, class_kind, extends_kind, accessor_kind, async_kind, get_kind, set_kind, static_kind}
 use Rattle.ecma_tree.specs.Tree.{Tree, plain_method}
 use Rattle.ecma_syntax.specs.Input.{assigning, Input, Code, kind, with_in, by, binding, setting, turned_strict, in_body, in_arrow, in_field, in_static, in_list}
-use Rattle.ecma_syntax.specs.Operators.{assignment_level, new_level}
+use Rattle.ecma_syntax.specs.Operators.{assignment_level, new_level, key_end}
 use Rattle.ecma_syntax.specs.Shape.{ends, is_absent, is_bound_name, is_param, is_key, is_any_key, is_item, is_member, constructs, field_end, FunctionParts}
 use Rattle.ecma_grammar.specs.Parts.{is_ident, Part, Sorted}
 use Rattle.ecma_grammar.specs.Functions.{Parameter, Parameters, SetParameter, Closes, Body, Function, Star, Async, FunctionHead, FunctionDeclaration, Named, FunctionExpression, ArrowPattern, BareName, ArrowParameters, ArrowHead, ArrowBlock, ArrowExpression, MethodHead, Method, ObjectMethod, Getter, Setter, Heritage, Members, ClassTail, ClassDeclaration, ClassExpression, Static, Constructor, ClassMethod, Initial, Field, AutoAccessor, StaticBlock}
@@ -124,7 +124,7 @@ pub field_walk : (may : Tree → Bool) (sort : (t : Tree) → may t ≡ true →
 field_walk may sort c pl s key keyw value valuew is_static decorators decoratorsw gs ts r h = go _ _ _ ts h.0 r (static_walk is_static c pl gs ts h.0 h.4) (go _ _ _ h.0 h.1 r (keyw c pl gs h.0 h.1 (sort key.tree h.3) h.5) (initial_walk c pl (field_end is_static (kind h.0)) value valuew gs h.1 r h.6))
 
 pub auto_accessor_walk : (c : Code) (pl : c.placed ≡ true) (s : Span) (key : Part) (keyw : Walked key) (value : Part) (valuew : Walked value) (is_static : Bool) (decorators : List Part) (decoratorsw : AllWalked decorators) (gs : List Bool) (ts r : Input) → AutoAccessor c s key value is_static decorators ts r → Goes (Outside gs) (Outside gs) ts r
-auto_accessor_walk c pl s key keyw value valuew is_static decorators decoratorsw gs ts r h = go _ _ _ ts h.0 r (static_walk is_static c pl gs ts h.0 h.5) (go _ _ _ h.0 h.1 r (takes_word c pl accessor_kind gs h.0 h.1 (plain accessor_kind refl refl refl refl refl refl refl) h.6) (go _ _ _ h.1 h.2 r (keyw c pl gs h.1 h.2 (sorted is_any_key (λ s t w u. refl) (λ e. refl) key.tree h.8.0) h.8.1) (initial_walk c pl (field_end true (kind h.1)) value valuew gs h.2 r h.9)))
+auto_accessor_walk c pl s key keyw value valuew is_static decorators decoratorsw gs ts r h = go _ _ _ ts h.0 r (static_walk is_static c pl gs ts h.0 h.5) (go _ _ _ h.0 h.1 r (takes_word c pl accessor_kind gs h.0 h.1 (plain accessor_kind refl refl refl refl refl refl refl) h.6) (go _ _ _ h.1 h.2 r (keyw c pl gs h.1 h.2 (sorted is_any_key (λ s t w u. refl) (λ e. refl) key.tree h.8.0) h.8.1) (initial_walk c pl key_end value valuew gs h.2 r h.9)))
 
 pub static_block_walk : (c : Code) (pl : c.placed ≡ true) (s : Span) (block : Span) (ss : List Part) (ssw : AllWalked ss) (gs : List Bool) (ts r : Input) → StaticBlock c s block ss ts r → Goes (Outside gs) (Outside gs) ts r
 static_block_walk c pl s block ss ssw gs ts r h = go _ _ _ ts h.0 r (takes_word c pl static_kind gs ts h.0 (plain static_kind refl refl refl refl refl refl refl) h.2) (go _ _ _ h.0 h.1 r (opens (in_static c) pl gs h.0 h.1 h.3) (items is_item Closes (false ∷ gs) gs (λ d dp y z j9. closes d dp gs y z j9) (λ t e. sorted is_item (λ s t w u. refl) (λ e. refl) t e) (in_static c) pl false ss ssw h.1 r h.4))

@@ -1,3 +1,4 @@
 -- Sources of tokens besides the lexer.
 pub mod Lists
 pub mod Captures
+pub mod Lending

@@ -1,10 +1,10 @@
 -- A list as a source of tokens.
-use Rattle.std.specs.Prelude.{ℕ, List, [], ◌∷◌, length, map, reverse, Option, None, Some}
+use Rattle.std.specs.Prelude.{◌≡◌, refl, ℕ, List, [], ◌∷◌, length, map, reverse, Option, None, Some}
 use Rattle.ecma_token.specs.Tokens.{Spot}
 use Rattle.ecma_token.specs.declared.context.Context.{Context}
 use Rattle.ecma_token.specs.declared.syntax.Syntax.{Syntax}
 use Rattle.ecma_token.specs.declared.version.EsVersion.{EsVersion}
-use Rattle.ecma_tokens.specs.Machine.{Machine, Source, shown_spot}
+use Rattle.ecma_tokens.specs.Machine.{Machine, Source, shown_spot, told_of}
 use Rattle.ecma_tokens.specs.Settings.{Settings, at_start, settings_in, with_ctx}
 use Rattle.ecma_input.specs.declared.list.TokensInput.{TokensInput}
 
@@ -13,9 +13,19 @@ abbrev pub list_step : List Spot → Settings → Option Spot × Source (List Sp
 list_step [] settings = (None, record { tokens = []; settings = settings })
 list_step (spot ∷ spots) settings = (Some spot, record { tokens = spots; settings = settings })
 
+-- an empty list stays empty, whatever the source is told
+pub list_ends : (spots : List Spot) (old settings : Settings) → (list_step spots old).0 ≡ None
+    → list_step (list_step spots old).1.tokens settings ≡ (None, told_of settings (list_step spots old).1)
+list_ends [] old settings e = refl
+list_ends (spot ∷ spots) old settings e = cc
+
 -- The tokens come as they stand in the list, whatever the source is told.
 abbrev pub list_machine : Machine (List Spot)
-list_machine = record { step = λ s. list_step s.tokens s.settings; bound = λ spots. length spots }
+list_machine = record {
+  step = λ s. list_step s.tokens s.settings;
+  bound = λ spots. length spots;
+  end_stays = λ s settings none end same. list_ends s.tokens s.settings settings end;
+}
 
 -- a list as a source; it is kept from its end
 abbrev pub list_source : TokensInput → Source (List Spot)

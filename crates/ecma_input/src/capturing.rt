@@ -1,9 +1,12 @@
 //! A source that keeps the tokens that another hands out.
-ghost use Rattle.std.specs.Prelude.{◌≡◌, ◌<◌, ◌≤◌, ◌==◌, ◌||◌, [], map, IfOk, MatchOption, OnOk, Some};
+ghost use Rattle.std.specs.Prelude.{◌≡◌, ◌<◌, ◌≤◌, ◌==◌, ◌||◌, [], map, option_map, IfErr, IfOk, MatchOption, OnErr, OnOk, Some};
 ghost use Rattle.ecma_token.specs.Kinds.{div_kind, div_assign_kind};
 ghost use Rattle.ecma_token.specs.OperatorKinds.{bin_op_kind, assign_op_kind};
 ghost use Rattle.ecma_token.specs.TokenViews.{token_view};
+ghost use Rattle.ecma_token.specs.declared.error.SyntaxError.TheVariants.{Memory};
+ghost use Rattle.ecma_tokens.specs.Contexts.{outward};
 ghost use Rattle.ecma_tokens.specs.Machine.{SameTold, StepGives, shown_spot};
+ghost use Rattle.ecma_tokens.specs.Settings as spec;
 ghost use Rattle.ecma_input.specs.Captures.{captured_with, is_slash_at, without_reread};
 
 use crate::copies::{clone_token, clone_tokens};
@@ -140,7 +143,11 @@ impl<'a, I: Tokens<'a> + Drop> Tokens<'a> for Capturing<'a, I> {
         Ok(Some(token))
     }
 
-    fn try_clone(&self) -> Result<Self, Error> {
+    fn try_clone(&self) -> Result<Self, Error>
+        ensures same { IfOk result (λ c. I.state c.input ≡ I.state self.now.input) }
+        ensures full { IfErr result (λ e. e.kind ≡ Memory) }
+        ensures captured { IfOk result (λ c. map shown_spot c.captured.items ≡ map shown_spot self.now.captured.items) }
+    {
         let captured = clone_tokens(self.alloc, self.captured.as_slice()).map_err(out_of_memory)?;
         let input = self.input.try_clone()?;
         Ok(Capturing {
@@ -150,7 +157,10 @@ impl<'a, I: Tokens<'a> + Drop> Tokens<'a> for Capturing<'a, I> {
         })
     }
 
-    fn set_ctx(&mut self, ctx: Context) {
+    fn set_ctx(&mut self, ctx: Context)
+        ensures state { I.state self.new.input ≡ record (I.state self.old.input) { settings = spec.with_ctx ctx (I.state self.old.input).settings } }
+        ensures captured { self.new.captured.items ≡ self.old.captured.items }
+    {
         self.input.set_ctx(ctx);
     }
 
@@ -170,11 +180,17 @@ impl<'a, I: Tokens<'a> + Drop> Tokens<'a> for Capturing<'a, I> {
         self.input.start_pos()
     }
 
-    fn set_expr_allowed(&mut self, allowed: bool) {
+    fn set_expr_allowed(&mut self, allowed: bool)
+        ensures state { I.state self.new.input ≡ record (I.state self.old.input) { settings = spec.with_expr_allowed allowed (I.state self.old.input).settings } }
+        ensures captured { self.new.captured.items ≡ self.old.captured.items }
+    {
         self.input.set_expr_allowed(allowed);
     }
 
-    fn set_next_regexp(&mut self, place: Option<BytePos>) {
+    fn set_next_regexp(&mut self, place: Option<BytePos>)
+        ensures state { I.state self.new.input ≡ record (I.state self.old.input) { settings = spec.with_next_regexp (option_map (λ p. p.0) place) (I.state self.old.input).settings } }
+        ensures captured { self.new.captured.items ≡ self.old.captured.items }
+    {
         self.input.set_next_regexp(place);
     }
 
@@ -186,19 +202,36 @@ impl<'a, I: Tokens<'a> + Drop> Tokens<'a> for Capturing<'a, I> {
         self.input.token_context_mut()
     }
 
-    fn set_token_context(&mut self, contexts: TokenContexts) {
+    fn set_token_context(&mut self, contexts: TokenContexts)
+        ensures state { I.state self.new.input ≡ record (I.state self.old.input) { settings = spec.with_contexts (outward contexts) (I.state self.old.input).settings } }
+        ensures captured { self.new.captured.items ≡ self.old.captured.items }
+    {
         self.input.set_token_context(contexts);
     }
 
-    fn add_error(&mut self, error: Error) -> Result<(), Error> {
+    fn add_error(&mut self, error: Error) -> Result<(), Error>
+        ensures added { OnOk result (I.state self.new.input ≡ record (I.state self.old.input) { settings = spec.with_error error (I.state self.old.input).settings }) }
+        ensures unchanged { OnErr result (I.state self.new.input ≡ I.state self.old.input) }
+        ensures full { IfErr result (λ e. e.kind ≡ Memory) }
+        ensures captured { self.new.captured.items ≡ self.old.captured.items }
+    {
         self.input.add_error(error)
     }
 
-    fn add_module_mode_error(&mut self, error: Error) -> Result<(), Error> {
+    fn add_module_mode_error(&mut self, error: Error) -> Result<(), Error>
+        ensures added { OnOk result (I.state self.new.input ≡ record (I.state self.old.input) { settings = spec.with_module_error error (I.state self.old.input).settings }) }
+        ensures unchanged { OnErr result (I.state self.new.input ≡ I.state self.old.input) }
+        ensures full { IfErr result (λ e. e.kind ≡ Memory) }
+        ensures captured { self.new.captured.items ≡ self.old.captured.items }
+    {
         self.input.add_module_mode_error(error)
     }
 
-    fn take_errors(&mut self) -> Vec<Error> {
+    fn take_errors(&mut self) -> Vec<Error>
+        ensures answer { result.items ≡ (I.state self.old.input).settings.recorded }
+        ensures taken { I.state self.new.input ≡ record (I.state self.old.input) { settings = spec.without_errors (I.state self.old.input).settings } }
+        ensures captured { self.new.captured.items ≡ self.old.captured.items }
+    {
         self.input.take_errors()
     }
 }

@@ -1,6 +1,9 @@
 //! A list as a source of tokens.
 ghost use Rattle.std.specs.Prelude.{◌≡◌, List, map};
+ghost use Rattle.std.specs.Borrow.{sem};
 ghost use Rattle.ecma_token.specs.Tokens.{Spot};
+ghost use Rattle.ecma_tokens.specs.Contexts.{outward};
+ghost use Rattle.ecma_input.specs.Lending.{LendsContexts};
 ghost use Rattle.ecma_tokens.specs.Machine.{shown_spot};
 ghost use Rattle.ecma_input.specs.Lists.{list_in, list_machine, list_source, start_of};
 
@@ -106,7 +109,10 @@ impl<'a> Tokens<'a> for TokensInput<'a> {
         &self.settings.contexts
     }
 
-    fn token_context_mut(&mut self) -> &mut TokenContexts {
+    fn token_context_mut(&mut self) -> &mut TokenContexts
+        ensures* writes_back { sem 𝓛 (LendsContexts self.entry result) }
+        ensures value { outward result.now ≡ (list_source self.old).settings.contexts }
+    {
         self.settings.contexts_mut()
     }
 

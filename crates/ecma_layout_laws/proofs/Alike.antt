@@ -1,8 +1,8 @@
 -- Two layouts are alike: equal, or equal but for where marks stand.
-use Rattle.std.proofs.Common.{◌≡◌, Bool, true, false, if◌then◌else◌, List, ◌||◌, refl, ap, ap₂, ◌∙◌, subst}
+use Rattle.std.proofs.Common.{◌≡◌, ℕ, Bool, true, false, if◌then◌else◌, List, [], ◌∷◌, None, ◌||◌, refl, ap, ap₂, ◌∙◌, subst}
 use Rattle.ecma_token.specs.declared.place.Span.{Span}
-use Rattle.ecma_pieces.specs.Pieces.{Piece}
-use Rattle.ecma_layout.specs.Looks.{Laid, nothing, one, both, refused, listed, is_refused, when, start, end, last}
+use Rattle.ecma_pieces.specs.Pieces.{Piece, Text}
+use Rattle.ecma_layout.specs.Looks.{Laid, nothing, one, meant, both, refused, texts_of, texts_before, listed, is_refused, when, start, end, last}
 use Rattle.ecma_layout_laws.specs.Bare.{kept_place}
 use Rattle.ecma_layout_laws.specs.Marks.{unmarked_piece, unmarked}
 
@@ -14,6 +14,7 @@ seen_piece false x = unmarked_piece x
 abbrev pub seen : Bool → Laid → Laid
 seen places nothing = nothing
 seen places (one x) = one (seen_piece places x)
+seen places (meant m) = meant m
 seen places (both f g) = both (seen places f) (seen places g)
 seen places refused = refused
 
@@ -63,17 +64,24 @@ last_alike {places = false} span = record { so = refl }
 pub all_seen : (f : Laid) → seen true f ≡ f
 all_seen nothing = refl
 all_seen (one x) = refl
+all_seen (meant m) = refl
 all_seen (both f g) = ap₂ (λ x y. both x y) (all_seen f) (all_seen g)
 all_seen refused = refl
+
+texts_seen : (texts : List (List ℕ)) (xs : List Piece) → unmarked (texts_before texts xs) ≡ texts_before texts (unmarked xs)
+texts_seen [] xs = refl
+texts_seen (own ∷ others) xs = ap (λ ys. Text None own ∷ ys) (texts_seen others xs)
 
 pub listed_seen : (f : Laid) (xs : List Piece) → unmarked (listed f xs) ≡ listed (seen false f) (unmarked xs)
 listed_seen nothing xs = refl
 listed_seen (one x) xs = refl
+listed_seen (meant m) xs = texts_seen (texts_of m) xs
 listed_seen (both f g) xs = listed_seen f (listed g xs) ∙ ap (λ ys. listed (seen false f) ys) (listed_seen g xs)
 listed_seen refused xs = refl
 
 pub refused_seen : (f : Laid) → is_refused (seen false f) ≡ is_refused f
 refused_seen nothing = refl
 refused_seen (one x) = refl
+refused_seen (meant m) = refl
 refused_seen (both f g) = ap₂ (λ x y. x || y) (refused_seen f) (refused_seen g)
 refused_seen refused = refl

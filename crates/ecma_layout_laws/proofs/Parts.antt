@@ -8,7 +8,7 @@ use Rattle.ecma_edge.specs.Edges.{is_there, starts_with_word, ends_with_word, ga
 use Rattle.ecma_layout.specs.declared.look.Look.{Look}
 use Rattle.ecma_layout.specs.declared.look.Stand.{Stand}
 use Rattle.ecma_layout.specs.Looks.{Laid, ◌·◌, text, when, semi, end, blank, gap, gap_or, formats}
-use Rattle.ecma_layout.specs.Layout.{word, method_marks, in_parens, indented, indented_or_line, closing, attributes, initial, field_value, function_tail, after_static, class_head, class_tail, point_before, number_before, as_expression, quasi, in_braces, imports, exports, is_variables}
+use Rattle.ecma_layout.specs.Layout.{word, method_marks, in_parens, indented, indented_or_line, closing, attributes, initial, field_value, function_tail, after_static, class_head, class_tail, optional_dot, point_before, number_before, as_expression, quasi, in_braces, imports, exports, is_variables}
 use Rattle.ecma_layout_laws.specs.Bare.{kept_place, kept_raw, bare, bares}
 use Rattle.ecma_layout_laws.proofs.Alike.{Alike, same, ◌▸◌, if_same, if_alike, when_same, when_alike, start_alike, end_alike, last_alike}
 use Rattle.ecma_layout_laws.proofs.Questions
@@ -83,8 +83,8 @@ module _ (places raws : Bool) (look : Look) where
   point_before_alike prop = when_alike _ _ (ap (λ b. not b) (Questions.same_is_computed places raws prop)) same
 
   pub optional_point_alike : (optional : Bool) (prop : Tree)
-      → Alike places (if optional then text (codes "?.") else point_before (bare places raws prop)) (if optional then text (codes "?.") else point_before prop)
-  optional_point_alike optional prop = if_same {f = text (codes "?.")} optional same (point_before_alike prop)
+      → Alike places (if optional then optional_dot else point_before (bare places raws prop)) (if optional then optional_dot else point_before prop)
+  optional_point_alike optional prop = if_same {f = optional_dot} optional same (point_before_alike prop)
 
   -- behind an exported declaration
   pub exported_alike : (span : Span) (decl : Tree) → Alike places (when (is_variables (bare places raws decl)) (semi · end (kept_place places span))) (when (is_variables decl) (semi · end span))

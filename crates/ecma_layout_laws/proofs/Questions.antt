@@ -4,7 +4,7 @@ use Rattle.ecma_token.specs.declared.place.Span.{Span}
 use Rattle.ecma_token.specs.Kinds.{bang_kind}
 use Rattle.ecma_tree.specs.Places.{no_place, place_of}
 use Rattle.ecma_tree.specs.Tree.{Tree, Trees, none, more, absent, hole, list, seq_expr, block_stmt, var_decl, using_decl, str_lit, computed_prop_name, array_pat, object_pat, rest_pat, var_declarator, binding_ident, import_default_specifier, import_named_specifier, export_namespace_specifier, expr_pat, bin_expr, unary_expr, update_expr, arrow_expr, member_expr, opt_chain_expr, opt_call, call_expr, cond_expr, assign_expr, tagged_tpl, expr_or_spread, assign_pat, expr_stmt, regex_lit}
-use Rattle.ecma_edge.specs.Edges.{is_there, starts_with_word, first_starts_with_word, alone_starts_with_word, ends_with_word, last_ends_with_word, first_operand, is_plus, is_minus, is_decrement, is_postfix_decrement, is_not_of_decrement, starts_with_regexp, gap_before, gap_after, gap_of_unary}
+use Rattle.ecma_edge.specs.Edges.{is_there, starts_with_word, first_starts_with_word, alone_starts_with_word, ends_with_word, last_ends_with_word, first_operand, is_plus, is_minus, is_decrement, is_postfix_decrement, is_not_of_decrement, starts_with_regexp, first_starts_with_regexp, gap_before, gap_after, gap_of_unary}
 use Rattle.ecma_layout.specs.Layout.{is_empty, count, ends_with_hole, is_block, is_sequence, is_variables, is_bracketed_key, is_computed, is_bracketed_name, starts_bracketed, is_one_name, has_arguments, is_default, starts_with_default, is_named, has_named, has_default, is_namespace, is_no_namespace, has_namespace, has_other}
 use Rattle.ecma_layout_laws.specs.Bare.{kept_place, kept_spread, bare, bares}
 
@@ -176,8 +176,7 @@ module _ (places raws : Bool) where
   same_is_minus _ = refl
 
   pub same_is_decrement : (t : Tree) → is_decrement (bare places raws t) ≡ is_decrement t
-  same_is_decrement (update_expr span op true arg) = refl
-  same_is_decrement (update_expr span op false arg) = refl
+  same_is_decrement (update_expr span op prefix arg) = refl
   same_is_decrement _ = refl
 
   pub same_is_postfix_decrement : (t : Tree) → is_postfix_decrement (bare places raws t) ≡ is_postfix_decrement t
@@ -189,18 +188,25 @@ module _ (places raws : Bool) where
   same_is_not_of_decrement (unary_expr span op arg) = ap (λ b. op == bang_kind && b) (same_is_decrement arg)
   same_is_not_of_decrement _ = refl
 
-  pub same_starts_with_regexp : (t : Tree) → starts_with_regexp (bare places raws t) ≡ starts_with_regexp t
-  same_starts_with_regexp (regex_lit span body flags) = refl
-  same_starts_with_regexp (bin_expr span op left right) = same_starts_with_regexp left
-  same_starts_with_regexp (cond_expr span test cons alt) = same_starts_with_regexp test
-  same_starts_with_regexp (call_expr span callee args) = same_starts_with_regexp callee
-  same_starts_with_regexp (member_expr span obj prop) = same_starts_with_regexp obj
-  same_starts_with_regexp (opt_chain_expr span optional base) = same_starts_with_regexp base
-  same_starts_with_regexp (opt_call span callee args) = same_starts_with_regexp callee
-  same_starts_with_regexp (tagged_tpl span tag tpl_) = same_starts_with_regexp tag
-  same_starts_with_regexp (update_expr span op false arg) = same_starts_with_regexp arg
-  same_starts_with_regexp (update_expr span op true arg) = refl
-  same_starts_with_regexp _ = refl
+  mutual
+    pub same_starts_with_regexp : (t : Tree) → starts_with_regexp (bare places raws t) ≡ starts_with_regexp t
+    same_starts_with_regexp (regex_lit span body flags) = refl
+    same_starts_with_regexp (bin_expr span op left right) = same_starts_with_regexp left
+    same_starts_with_regexp (assign_expr span op left right) = same_starts_with_regexp left
+    same_starts_with_regexp (cond_expr span test cons alt) = same_starts_with_regexp test
+    same_starts_with_regexp (seq_expr span exprs) = same_first_starts_with_regexp exprs
+    same_starts_with_regexp (call_expr span callee args) = same_starts_with_regexp callee
+    same_starts_with_regexp (member_expr span obj prop) = same_starts_with_regexp obj
+    same_starts_with_regexp (opt_chain_expr span optional base) = same_starts_with_regexp base
+    same_starts_with_regexp (opt_call span callee args) = same_starts_with_regexp callee
+    same_starts_with_regexp (tagged_tpl span tag tpl_) = same_starts_with_regexp tag
+    same_starts_with_regexp (update_expr span op false arg) = same_starts_with_regexp arg
+    same_starts_with_regexp (update_expr span op true arg) = refl
+    same_starts_with_regexp _ = refl
+
+    same_first_starts_with_regexp : (ts : Trees) → first_starts_with_regexp (bares places raws ts) ≡ first_starts_with_regexp ts
+    same_first_starts_with_regexp none = refl
+    same_first_starts_with_regexp (more t ts) = same_starts_with_regexp t
 
   bare_first_operand : (t : Tree) → first_operand (bare places raws t) ≡ bare places raws (first_operand t)
   bare_first_operand (bin_expr span op left right) = bare_first_operand left

@@ -1,5 +1,5 @@
 -- What contracts see of a lexer.
-use Rattle.std.specs.Prelude.{Bool}
+use Rattle.std.specs.Prelude.{◌≡◌, Bool}
 use Rattle.std.specs.Str.{chars}
 use Rattle.ecma_comments.specs.declared.store.Comments.{Comments}
 use Rattle.ecma_tokens.specs.Settings.{settings_in}
@@ -35,3 +35,9 @@ keeps_comments x = x.keeps
 -- those that it kept so far
 abbrev pub comments_in : code.Lexer → Comments
 comments_in x = x.comments
+
+-- What a lexer keeps beside its state stays: the comments, whether they are kept, and whether memory ran out.
+pub record SameKept (old new : code.Lexer) : Type 0 where
+  pub comments : comments_in new ≡ comments_in old
+  pub keeps : keeps_comments new ≡ keeps_comments old
+  pub full : is_full new ≡ is_full old

@@ -1,14 +1,32 @@
 -- The lexer as a source of tokens.
-use Rattle.std.specs.Prelude.{Option}
+use Rattle.std.specs.Prelude.{◌≡◌, ℕ, Option, None, refl, sym, ap, subst, ◌∙◌}
 use Rattle.ecma_token.specs.Tokens.{Spot}
-use Rattle.ecma_tokens.specs.Machine.{Machine}
+use Rattle.ecma_tokens.specs.Machine.{EndStays, Machine, told_of}
 use Rattle.ecma_lexing.specs.States.{State, Text}
+use Rattle.ecma_lexing.specs.Steps.{IsStep}
+use Rattle.ecma_lexing.proofs.StepLemmas.{one_step}
 use Rattle.ecma_stepping.specs.Bounds.{bound}
+use Rattle.ecma_stepping.proofs.Ends.{end_stays}
+use Rattle.ecma_stepping.proofs.Going.{no_again}
 use Rattle.ecma_stepping.proofs.Steps.{always_steps}
 
 -- The one step that is made from a state: what it hands out, and the state behind it.
 unfoldable pub step_of : State → Option Spot × State
 step_of s = ((always_steps s).0, (always_steps s).1)
 
+-- Where a step is made from a state that hands out nothing and leaves it, it is the one.
+nothing_comes : (s : State) → IsStep s None s → step_of s ≡ (None, s)
+unfolding step_of
+nothing_comes s h =
+    let k = one_step s s (always_steps s).1 None (always_steps s).0 h (always_steps s).2 in
+    ap (λ (o : Option Spot). (o, (always_steps s).1)) (sym k.0) ∙ ap (λ (new : State). (None, new)) (sym k.1)
+
+-- The end of a text stays its end.
+pub steps_end : EndStays step_of
+unfolding step_of
+steps_end s settings none end may =
+    let over : IsStep s None (always_steps s).1 = subst (λ o. IsStep s o (always_steps s).1) end (always_steps s).2 in
+    nothing_comes (told_of settings (always_steps s).1) (end_stays s (always_steps s).1 settings (no_again s none) over may)
+
 abbrev pub lexer_machine : Machine Text
-lexer_machine = record { step = step_of; bound = bound }
+lexer_machine = record { step = step_of; bound = bound; end_stays = steps_end }

@@ -4,7 +4,7 @@ ghost use Rattle.ecma_token.specs.declared.error.SyntaxError.TheVariants.{Memory
 ghost use Rattle.ecma_tokens.specs.Contexts.{outward};
 ghost use Rattle.ecma_tokens.specs.Settings as spec;
 ghost use Rattle.ecma_lexing.specs.States.{Text};
-ghost use Rattle.ecma_lexer.specs.Lexer.{comments_in, state_in};
+ghost use Rattle.ecma_lexer.specs.Lexer.{SameKept, state_in};
 ghost use Rattle.ecma_lexer.specs.Machine.{lexer_machine};
 
 use crate::lexer::Lexer;
@@ -30,7 +30,7 @@ impl<'a> Tokens<'a> for Lexer<'a> {
 
     fn set_ctx(&mut self, ctx: Context)
         ensures state { state_in self.new ≡ record (state_in self.old) { settings = spec.with_ctx ctx (state_in self.old).settings } }
-        ensures comments { comments_in self.new ≡ comments_in self.old }
+        ensures kept { SameKept self.old self.new }
     {
         self.settings.set_ctx(ctx);
     }
@@ -54,14 +54,14 @@ impl<'a> Tokens<'a> for Lexer<'a> {
     // No token depends on it: a slash is a punctuator until it is asked for again.
     fn set_expr_allowed(&mut self, allowed: bool)
         ensures state { state_in self.new ≡ record (state_in self.old) { settings = spec.with_expr_allowed allowed (state_in self.old).settings } }
-        ensures comments { comments_in self.new ≡ comments_in self.old }
+        ensures kept { SameKept self.old self.new }
     {
         self.settings.expr_allowed = allowed;
     }
 
     fn set_next_regexp(&mut self, place: Option<BytePos>)
         ensures state { state_in self.new ≡ record (state_in self.old) { settings = spec.with_next_regexp (option_map (λ p. p.0) place) (state_in self.old).settings } }
-        ensures comments { comments_in self.new ≡ comments_in self.old }
+        ensures kept { SameKept self.old self.new }
     {
         self.settings.next_regexp = place;
     }
@@ -76,7 +76,7 @@ impl<'a> Tokens<'a> for Lexer<'a> {
 
     fn set_token_context(&mut self, contexts: TokenContexts)
         ensures state { state_in self.new ≡ record (state_in self.old) { settings = spec.with_contexts (outward contexts) (state_in self.old).settings } }
-        ensures comments { comments_in self.new ≡ comments_in self.old }
+        ensures kept { SameKept self.old self.new }
     {
         self.settings.contexts = contexts;
     }
@@ -85,7 +85,7 @@ impl<'a> Tokens<'a> for Lexer<'a> {
         ensures added { OnOk result (state_in self.new ≡ record (state_in self.old) { settings = spec.with_error error (state_in self.old).settings }) }
         ensures unchanged { OnErr result (state_in self.new ≡ state_in self.old) }
         ensures full { IfErr result (λ e. e.kind ≡ Memory) }
-        ensures comments { comments_in self.new ≡ comments_in self.old }
+        ensures kept { SameKept self.old self.new }
     {
         match self.settings.add_error(error) {
             Ok(()) => Ok(()),
@@ -97,7 +97,7 @@ impl<'a> Tokens<'a> for Lexer<'a> {
         ensures added { OnOk result (state_in self.new ≡ record (state_in self.old) { settings = spec.with_module_error error (state_in self.old).settings }) }
         ensures unchanged { OnErr result (state_in self.new ≡ state_in self.old) }
         ensures full { IfErr result (λ e. e.kind ≡ Memory) }
-        ensures comments { comments_in self.new ≡ comments_in self.old }
+        ensures kept { SameKept self.old self.new }
     {
         match self.settings.add_module_mode_error(error) {
             Ok(()) => Ok(()),
@@ -108,7 +108,7 @@ impl<'a> Tokens<'a> for Lexer<'a> {
     fn take_errors(&mut self) -> Vec<Error>
         ensures answer { result.items ≡ (state_in self.old).settings.recorded }
         ensures taken { state_in self.new ≡ record (state_in self.old) { settings = spec.without_errors (state_in self.old).settings } }
-        ensures comments { comments_in self.new ≡ comments_in self.old }
+        ensures kept { SameKept self.old self.new }
     {
         self.settings.take_errors()
     }

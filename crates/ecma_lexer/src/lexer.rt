@@ -1,5 +1,5 @@
 //! The lexer of a text.
-ghost use Rattle.std.specs.Prelude.{◌≡◌, ◌<◌, ◌+◌, ◌^◌, is_err, length, option_map, true, IfErr, IfOk, IsErr};
+ghost use Rattle.std.specs.Prelude.{◌≡◌, ◌<◌, ◌+◌, ◌^◌, false, is_err, length, option_map, true, IfErr, IfOk, IsErr};
 ghost use Rattle.ecma_lexer.specs.Order.{BackFits};
 
 use crate::last::Last;
@@ -56,6 +56,7 @@ impl<'a> Lexer<'a> {
         ensures state { state_in result ≡ at_start_of syntax target start.0 (chars text.now) (start.0 + length text.now) }
         ensures keeps { keeps_comments result ≡ keep_comments }
         ensures comments { IsEmpty (comments_in result) }
+        ensures full { is_full result ≡ false }
     {
         Lexer {
             alloc,

@@ -4,7 +4,7 @@ ghost use Rattle.ecma_syntax.specs.Shape as shape;
 ghost use Rattle.ecma_node.specs.Placed.{holds_stmt, inner};
 ghost use Rattle.ecma_reading.specs.Source as spec;
 ghost use Rattle.ecma_reading.specs.Statements as reads;
-ghost use Rattle.ecma_parse_state.specs.Answers.{Gives};
+ghost use Rattle.ecma_parse_state.specs.Answers.{Gives, IsSyntax};
 ghost use Rattle.ecma_parse_state.specs.Codes.{code_of};
 ghost use Rattle.ecma_parse_state.specs.Fronts.{machine_of};
 ghost use Rattle.ecma_parse_state.specs.Stands.{stand};
@@ -15,6 +15,7 @@ use ecma_parse_base::{Nested, Operand};
 use ecma_parse_state::code::alone;
 use ecma_parse_state::operators::EXPRESSION;
 use ecma_parse_state::{Around, Failure, Parser, kinds};
+use ecma_token::{Error, Span, Spanned, SyntaxError};
 use ecma_tokens::Tokens;
 
 /// Whether a statement is one, and no declaration (ECMA-262, clause 14).
@@ -56,6 +57,16 @@ pub fn in_parens<'a, I: Tokens<'a> + Drop, N: Nested<'a, I>>(
     Ok(test)
 }
 
+/// What is said of a declaration where none may stand, at its place.
+pub fn not_allowed(span: Span) -> Failure
+    ensures { IsSyntax result }
+{
+    Failure::Syntax(Error {
+        span,
+        kind: SyntaxError::DeclNotAllowed,
+    })
+}
+
 /// A statement as a part of another one; where it may be a plain function, that.
 #[inline(never)]
 #[tactic(auto, unfolding(ecma_reading::specs::Statements::sub_by))]
@@ -76,5 +87,5 @@ pub fn sub<'a, I: Tokens<'a> + Drop, N: Nested<'a, I>>(
     {
         return Ok(read);
     }
-    Err(p.unexpected())
+    Err(not_allowed(read.get().span()))
 }

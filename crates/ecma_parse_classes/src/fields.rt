@@ -12,13 +12,12 @@ ghost use Rattle.ecma_parse_state.specs.Fronts.{machine_of};
 ghost use Rattle.ecma_parse_state.specs.Stands.{from, stand};
 ghost use Rattle.ecma_parse_classes.specs.Members.{field_by};
 
-use crate::heads::field_end;
 use crate::made;
 use ecma_node::{ClassMember, ExprBox, Key};
 use ecma_parse_base::Nested;
 use ecma_parse_blocks::lookahead::in_field;
 use ecma_parse_functions::{keys, private_name};
-use ecma_parse_state::operators::ASSIGNMENT;
+use ecma_parse_state::operators::{ASSIGNMENT, KEY_END};
 use ecma_parse_state::{Around, Failure, Parser, kinds};
 use ecma_token::BytePos;
 use ecma_tokens::Tokens;
@@ -103,8 +102,7 @@ pub fn auto_accessor<'a, I: Tokens<'a> + Drop, N: Nested<'a, I>>(
     ensures shorter { IfOk result (λ _. spec.bound (machine_of I.machine) (stand I.state p.new) < spec.bound (machine_of I.machine) (stand I.state p.old)) }
 {
     p.bump()?;
-    let end = field_end(true, p.kind());
     let key = class_key(p, nested, code)?;
-    let value = field_value(p, nested, code, end)?;
+    let value = field_value(p, nested, code, KEY_END)?;
     Ok(made::auto_accessor(p.alloc, p.since(start), key, value, is_static))
 }

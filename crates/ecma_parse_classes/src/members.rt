@@ -16,12 +16,12 @@ use crate::heads::{field_end, is_auto_accessor, is_before_key};
 use crate::made;
 use ecma_node::{ClassMember, Key, MethodKind};
 use ecma_parse_base::Nested;
-use ecma_parse_functions::functions::{function, setter_parameter};
+use ecma_parse_functions::functions::{close_parameters, function, setter_parameter};
 use ecma_parse_functions::heads::{is_async_head, star};
 use ecma_parse_functions::made as functions;
 use ecma_parse_state::code::in_body;
 use ecma_parse_state::{Around, Failure, Parser, kinds};
-use ecma_token::BytePos;
+use ecma_token::{BytePos, SyntaxError};
 use ecma_tokens::Tokens;
 
 /// A method, after its key; by its key a constructor.
@@ -66,7 +66,7 @@ pub fn getter<'a, I: Tokens<'a> + Drop, N: Nested<'a, I>>(
     p.bump()?;
     let key = class_key(p, nested, code)?;
     p.expect(kinds::LEFT_PAREN)?;
-    p.expect(kinds::RIGHT_PAREN)?;
+    close_parameters(p, SyntaxError::GetterParam)?;
     let body = nested.body(p, in_body(false, false, code))?;
     let span = p.since(start);
     let function = functions::function(p.alloc, span, Vec::new(p.alloc), body, false, false)?;

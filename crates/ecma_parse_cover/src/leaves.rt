@@ -100,7 +100,7 @@ pub fn rest(span: Span, pat: PatBox) -> Result<RestPat, Failure>
     if has_default(&pat) {
         return Err(made::refused(span));
     }
-    let dot3_token = made::dots(span.lo)?;
+    let dot3_token = made::dots(span.lo);
     Ok(RestPat {
         span,
         dot3_token,

@@ -32,22 +32,14 @@ pub fn no_target(span: Span) -> Failure
     })
 }
 
-/// The place of the dots that start here.
-///
-/// # Errors
-///
-/// Where no dots fit below the greatest place, as in no text, it answers as for want of memory.
-pub fn dots(start: BytePos) -> Result<Span, Failure>
-    ensures value { IfOk result (λ s. s ≡ dots_at start.0) }
-    ensures full { IfErr result IsMemory }
+/// The place of the dots that start here. It ends at the greatest place where no dots fit, as in no text.
+pub fn dots(start: BytePos) -> Span
+    ensures { result ≡ dots_at start.0 }
 {
-    let Some(end) = start.0.checked_add(3) else {
-        return Err(Failure::Memory);
-    };
-    Ok(Span {
+    Span {
         lo: start,
-        hi: BytePos(end),
-    })
+        hi: BytePos(start.0.saturating_add(3)),
+    }
 }
 
 /// A pattern in its box.

@@ -18,6 +18,7 @@ use ecma_parse_state::code::{alone, in_list};
 use ecma_parse_state::{Around, Failure, Parser};
 use ecma_parse_tie::Depth;
 use ecma_parse_tie::tie::parse_stmt;
+use ecma_token::SyntaxError;
 use ecma_tokens::Tokens;
 
 /// Whether a statement is one, and no declaration (ECMA-262, clause 14).
@@ -49,7 +50,7 @@ pub fn statement_part<'a, I: Tokens<'a> + Drop>(
     let start = p.lo();
     let stmt = parse_stmt(p, limit, alone(code))?;
     if !is_statement(stmt.get()) {
-        return Err(left_over(p, start));
+        return Err(left_over(p, start, SyntaxError::DeclNotAllowed));
     }
     settle(p, start, limit, stmt)
 }

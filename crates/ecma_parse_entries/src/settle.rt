@@ -13,14 +13,18 @@ use ecma_token::{BytePos, Error, SyntaxError};
 use ecma_tokens::Tokens;
 use ecma_visit::Walk;
 
-/// What is said of a part that is read and may not stand here, as one in which something of a cover is left: it reaches
-/// from here to the last token that was taken.
-pub fn left_over<'a, I: Tokens<'a> + Drop>(p: &Parser<'a, I>, start: BytePos) -> Failure
+/// What is said of a part that is read and may not stand here, as one in which something of a cover is left: a fault of
+/// this kind, from here to the last token that was taken.
+pub fn left_over<'a, I: Tokens<'a> + Drop>(
+    p: &Parser<'a, I>,
+    start: BytePos,
+    kind: SyntaxError,
+) -> Failure
     ensures { IsSyntax result }
 {
     Failure::Syntax(Error {
         span: p.since(start),
-        kind: SyntaxError::Unexpected,
+        kind,
     })
 }
 
@@ -46,7 +50,7 @@ pub fn settle<'a, I: Tokens<'a> + Drop, T: Nesting + Walk + Drop>(
         return Err(Failure::TooDeep);
     }
     if !is_clean(&part) {
-        return Err(left_over(p, start));
+        return Err(left_over(p, start, SyntaxError::Unexpected));
     }
     Ok(part)
 }

@@ -21,7 +21,7 @@ use ecma_parse_base::names::computed;
 use ecma_parse_base::{Nested, Operand, literals, made};
 use ecma_parse_state::operators::{ASSIGNMENT, EXPRESSION, MEMBER, UNARY};
 use ecma_parse_state::{Around, Failure, Parser, kinds};
-use ecma_token::{BytePos, Span, Token};
+use ecma_token::{BytePos, Error, Span, SyntaxError, Token};
 use ecma_tokens::Tokens;
 use std::convert::AsStr;
 
@@ -236,7 +236,15 @@ pub fn super_end<'a, I: Tokens<'a> + Drop, N: Nested<'a, I>>(
     }
     p.expect(kinds::DOT)?;
     let span = p.place();
-    let sym = p.any_word()?;
+    let private = p.at(kinds::HASH);
+    let sym = match p.any_word() {
+        Ok(sym) => sym,
+        Err(Failure::Syntax(_)) if private => {
+            let kind = SyntaxError::InvalidSuperPrivateName;
+            return Err(Failure::Syntax(Error { span, kind }));
+        }
+        Err(failure) => return Err(failure),
+    };
     made::super_prop_expr(
         p.alloc,
         p.since(place.lo),

@@ -1,11 +1,12 @@
 //! Parameters and functions.
 ghost use Rattle.std.specs.Prelude.{◌≡◌, ◌<◌, All, IfOk, map};
+ghost use Rattle.ecma_token.specs.Kinds.{right_paren_kind};
 ghost use Rattle.ecma_node.specs.Fits.{fits_function, fits_param};
 ghost use Rattle.ecma_node.specs.Placed.{inner};
 ghost use Rattle.ecma_node.specs.View.{view_function, view_param};
 ghost use Rattle.ecma_reading.specs.Source as spec;
 ghost use Rattle.ecma_reading.specs.Expressions as reads;
-ghost use Rattle.ecma_parse_state.specs.Answers.{Gives, going_on};
+ghost use Rattle.ecma_parse_state.specs.Answers.{Gives, going_on, IsSyntax};
 ghost use Rattle.ecma_parse_state.specs.Codes.{code_of};
 ghost use Rattle.ecma_parse_state.specs.Fronts.{machine_of};
 ghost use Rattle.ecma_parse_state.specs.Stands.{stand};
@@ -16,7 +17,7 @@ use ecma_parse_base::Nested;
 use ecma_parse_state::code::{in_body, with_in};
 use ecma_parse_state::operators::ASSIGNMENT;
 use ecma_parse_state::{Around, Failure, Parser, kinds};
-use ecma_token::BytePos;
+use ecma_token::{BytePos, Error, Span, SyntaxError};
 use ecma_tokens::Tokens;
 
 /// A parameter: a pattern, with an initialiser or without, or a rest.
@@ -34,7 +35,7 @@ pub fn parameter<'a, I: Tokens<'a> + Drop, N: Nested<'a, I>>(
 {
     let start = p.lo();
     if p.eat(kinds::DOT_DOT_DOT)? {
-        let dots = made::dots(start)?;
+        let dots = made::dots(start);
         let arg = nested.pat(p, with_in(code))?;
         return made::rest_param(p.alloc, p.since(start), dots, arg);
     }
@@ -127,7 +128,42 @@ pub fn function<'a, I: Tokens<'a> + Drop, N: Nested<'a, I>>(
     made::function(p.alloc, p.since(whole), params, body, generator, is_async)
 }
 
+/// A fault of the text.
+fn fault(span: Span, kind: SyntaxError) -> Failure
+    ensures { IsSyntax result }
+{
+    Failure::Syntax(Error { span, kind })
+}
+
+/// The end of the parameters of a getter or a setter, which has no more.
+///
+/// # Errors
+///
+/// The fault of this kind, at the token that comes in its place. The end of the text and a token that is a fault are told as such.
+#[tactic(auto, unfolding(ecma_reading::specs::Source::eat))]
+pub fn close_parameters<'a, I: Tokens<'a> + Drop>(
+    p: &mut Parser<'a, I>,
+    kind: SyntaxError,
+) -> Result<(), Failure>
+    ensures value { Gives (λ _. stand I.state p.new) result (spec.eat (machine_of I.machine) right_paren_kind (stand I.state p.old)) }
+    ensures shorter { IfOk result (λ _. spec.bound (machine_of I.machine) (stand I.state p.new) < spec.bound (machine_of I.machine) (stand I.state p.old)) }
+{
+    if p.eat(kinds::RIGHT_PAREN)? {
+        return Ok(());
+    }
+    match p.unexpected() {
+        Failure::Syntax(error) if error.kind == SyntaxError::Unexpected => {
+            Err(fault(error.span, kind))
+        }
+        other => Err(other),
+    }
+}
+
 /// The one parameter of a setter, in its parentheses: no rest, and no comma behind it.
+///
+/// # Errors
+///
+/// No parameter is `SetterParamRequired`, a rest `RestPatInSetter`, more than one parameter `SetterParam`.
 #[inline(never)]
 #[tactic(auto, unfolding(ecma_reading::specs::Expressions::setter_parameter))]
 pub fn setter_parameter<'a, I: Tokens<'a> + Drop, N: Nested<'a, I>>(
@@ -141,10 +177,18 @@ pub fn setter_parameter<'a, I: Tokens<'a> + Drop, N: Nested<'a, I>>(
     ensures shorter { IfOk result (λ _. spec.bound (machine_of I.machine) (stand I.state p.new) < spec.bound (machine_of I.machine) (stand I.state p.old)) }
 {
     p.expect(kinds::LEFT_PAREN)?;
-    let param = parameter(p, nested, code)?;
+    let place = p.place();
+    let none = p.at(kinds::RIGHT_PAREN);
+    let param = match parameter(p, nested, code) {
+        Ok(param) => param,
+        Err(Failure::Syntax(_)) if none => {
+            return Err(fault(place, SyntaxError::SetterParamRequired));
+        }
+        Err(failure) => return Err(failure),
+    };
     if is_rest(p, nested, &param) {
-        return Err(p.unexpected());
+        return Err(fault(param.span, SyntaxError::RestPatInSetter));
     }
-    p.expect(kinds::RIGHT_PAREN)?;
+    close_parameters(p, SyntaxError::SetterParam)?;
     Ok(param)
 }

@@ -16,13 +16,13 @@ use crate::made;
 use ecma_atom::Atom;
 use ecma_node::{PropName, PropOrSpread};
 use ecma_parse_base::Nested;
-use ecma_parse_functions::functions::{function, setter_parameter};
+use ecma_parse_functions::functions::{close_parameters, function, setter_parameter};
 use ecma_parse_functions::heads::{is_accessor, is_async_head, star};
 use ecma_parse_functions::keys::key;
 use ecma_parse_state::code::{in_body, with_in};
 use ecma_parse_state::operators::ASSIGNMENT;
 use ecma_parse_state::{Around, Failure, Parser, kinds};
-use ecma_token::{BytePos, Span};
+use ecma_token::{BytePos, Span, SyntaxError};
 use ecma_tokens::Tokens;
 
 /// A method, from its key on. The whole of it starts at `whole`.
@@ -63,7 +63,7 @@ pub fn getter<'a, I: Tokens<'a> + Drop, N: Nested<'a, I>>(
     p.bump()?;
     let key = key(p, nested, code)?;
     p.expect(kinds::LEFT_PAREN)?;
-    p.expect(kinds::RIGHT_PAREN)?;
+    close_parameters(p, SyntaxError::GetterParam)?;
     let body = nested.body(p, in_body(false, false, code))?;
     made::getter(p.alloc, p.since(start), key, body)
 }

@@ -76,7 +76,7 @@ pub fn rest<'a, I: Tokens<'a> + Drop, N: Nested<'a, I>>(
     ensures shorter { IfOk result (λ _. spec.bound (machine_of I.machine) (stand I.state p.new) < spec.bound (machine_of I.machine) (stand I.state p.old)) }
 {
     let start = p.lo();
-    let dot3_token = dots(start)?;
+    let dot3_token = dots(start);
     p.bump()?;
     let arg = nested.pat(p, with_in(code))?;
     let span = p.since(start);

@@ -54,7 +54,7 @@ pub fn import<'a, I: Tokens<'a> + Drop, N: Nested<'a, I>>(
         return made::meta_prop_expr(p.alloc, p.since(start), MetaPropKind::ImportMeta);
     }
     let fault = if code.context.module_ {
-        SyntaxError::Unexpected
+        SyntaxError::InvalidImport
     } else {
         SyntaxError::ImportExportInScript
     };

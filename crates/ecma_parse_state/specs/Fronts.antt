@@ -1,7 +1,7 @@
 -- Where a parser stands in a source of tokens, and how reading goes on from there: the machine of the reading functions over any source.
-use Rattle.std.specs.Prelude.{ℕ, zero, suc, ◌+◌, Bool, false, not, ◌&&◌, ◌||◌, ◌==◌, if◌then◌else◌, List, [], ◌∷◌, length, Option, None, Some, option_map}
+use Rattle.std.specs.Prelude.{ℕ, zero, suc, ◌+◌, Bool, true, false, not, ◌&&◌, ◌||◌, ◌==◌, if◌then◌else◌, List, [], ◌∷◌, length, Option, None, Some, option_map}
 use Rattle.ecma_token.specs.declared.context.Context.{Context}
-use Rattle.ecma_token.specs.Kinds.{end_kind, div_kind, div_assign_kind}
+use Rattle.ecma_token.specs.Kinds.{end_kind, div_kind, div_assign_kind, regex_kind, error_kind}
 use Rattle.ecma_token.specs.Tokens.{Spot}
 use Rattle.ecma_tokens.specs.Machine as tokens
 use Rattle.ecma_tokens.specs.Machine.{Source}
@@ -61,9 +61,23 @@ asked place s = record s { settings = with_next_regexp place s.settings }
 abbrev pub withdrawn : {S : Type 0} → Option Spot × Source S → Option Spot × Source S
 withdrawn x = (x.0, asked None x.1)
 
+-- both line-break marks, or neither
+abbrev pub same_mark : Bool → Bool → Bool
+same_mark true b = b
+same_mark false b = not b
+
+-- A regular expression, or a fault of one, in a slash's place (ECMA-262, 12.9.5): it begins where the slash does, with the same line-break mark.
+abbrev pub in_place : Spot → Option Spot → Bool
+in_place t None = false
+in_place t (Some u) = ((u.token.kind == regex_kind) || (u.token.kind == error_kind)) && ((u.lo == t.lo) && same_mark u.line_break t.line_break)
+
+-- What a slash that comes is read again as, and the source behind it. Where the source hands out no such token, the slash stays, and the source stands as it did.
+abbrev pub reread_by : {S : Type 0} → Spot → Option Spot × Source S → Front S → Front S
+reread_by t x q = if in_place t x.0 then read_on (withdrawn x) q.last else q
+
 -- A slash that comes is read as a regular expression.
 abbrev pub operand_by : {S : Type 0} → tokens.Machine S → Option Spot → Option (Source S) → Front S → Front S
-operand_by m (Some t) (Some s) q = if is_slash t.token.kind then read_on (withdrawn (m.step (asked (Some t.lo) s))) q.last else q
+operand_by m (Some t) (Some s) q = if is_slash t.token.kind then reread_by t (m.step (asked (Some t.lo) s)) q else q
 operand_by m first behind q = q
 
 -- ---- the code around the tokens behind the one that comes

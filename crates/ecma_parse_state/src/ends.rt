@@ -17,7 +17,6 @@ use crate::operators::{
     between, binary_level, is_assign_op, may_name, operates, starts_key,
 };
 use crate::parser::Parser;
-use ecma_token::{Error, SyntaxError};
 use ecma_tokens::Tokens;
 
 impl<'a, I: Tokens<'a> + Drop> Parser<'a, I> {
@@ -152,20 +151,8 @@ impl<'a, I: Tokens<'a> + Drop> Parser<'a, I> {
     /// # Errors
     ///
     /// A fault where one is needed.
-    pub fn end_of(&mut self, code: Around, end: u8) -> Result<(), Failure>
-        ensures value { Gives (λ _. stand I.state self.new) result (spec.end_of (machine_of I.machine) (code_of code) end (stand I.state self.old)) }
-        ensures not_longer { IfOk result (λ _. spec.bound (machine_of I.machine) (stand I.state self.new) ≤ spec.bound (machine_of I.machine) (stand I.state self.old)) }
-    {
-        self.end_of_await(code, end, false)
-    }
-
-    /// The same, where what ends may be only the word `await` as a name: what comes is then no operand of it.
-    ///
-    /// # Errors
-    ///
-    /// A fault where a semicolon is needed.
     #[tactic(auto, unfolding(ecma_reading::specs::Source::end_of))]
-    pub fn end_of_await(&mut self, code: Around, end: u8, is_await: bool) -> Result<(), Failure>
+    pub fn end_of(&mut self, code: Around, end: u8) -> Result<(), Failure>
         ensures value { Gives (λ _. stand I.state self.new) result (spec.end_of (machine_of I.machine) (code_of code) end (stand I.state self.old)) }
         ensures not_longer { IfOk result (λ _. spec.bound (machine_of I.machine) (stand I.state self.new) ≤ spec.bound (machine_of I.machine) (stand I.state self.old)) }
     {
@@ -174,12 +161,6 @@ impl<'a, I: Tokens<'a> + Drop> Parser<'a, I> {
         }
         if self.pauses(code, end)? {
             return Ok(());
-        }
-        if is_await {
-            return Err(Failure::Syntax(Error {
-                span: self.place(),
-                kind: SyntaxError::TopLevelAwaitInScript,
-            }));
         }
         Err(self.unexpected_end())
     }

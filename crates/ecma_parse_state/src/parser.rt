@@ -29,6 +29,8 @@ pub struct Parser<'a, I: Tokens<'a> + Drop> {
     pub last: BytePos,
     /// The starts of arrays and objects in which a comma follows a last spread.
     pub commas: Vec<u32>,
+    /// Where the last `await` that was taken as a name ends.
+    pub awaited: Option<BytePos>,
 }
 
 impl<'a, I: Tokens<'a> + Drop> Parser<'a, I> {
@@ -222,7 +224,9 @@ impl<'a, I: Tokens<'a> + Drop> Parser<'a, I> {
         let kind = match &self.ahead.token {
             Some(token) => match &token.token {
                 Token::Error(error) => error.into_kind(),
+                _ if self.follows_await() => SyntaxError::TopLevelAwaitInScript,
                 Token::Word(_) => self.unexpected_word(),
+                Token::Arrow => SyntaxError::ArrowNotAllowed,
                 _ => SyntaxError::Unexpected,
             },
             None => SyntaxError::Eof,

@@ -44,3 +44,17 @@ pub fn no_name(context: Context, kind: u8) -> bool
         || (kind == kinds::AWAIT
             && (context.in_async || context.in_static_block || context.module_))
 }
+
+/// Whether a token of this kind may start the operand of `await` (ECMA-262, 15.8) and can't follow a name.
+pub fn starts_operand(kind: u8) -> bool {
+    match kind {
+        kinds::BANG | kinds::TILDE | kinds::LEFT_BRACE => true,
+        kinds::STR | kinds::NUM | kinds::BIG_INT => true,
+        kinds::NULL | kinds::TRUE | kinds::FALSE => true,
+        kinds::AWAIT | kinds::LET | kinds::YIELD => true,
+        kinds::FUNCTION | kinds::CLASS | kinds::NEW => true,
+        kinds::THIS | kinds::SUPER | kinds::IMPORT => true,
+        kinds::TYPEOF | kinds::VOID | kinds::DELETE => true,
+        _ => kind >= kinds::ACCESSOR && kind != kinds::ENUM,
+    }
+}

@@ -8,7 +8,7 @@ ghost use Rattle.ecma_reading.specs.Source as spec;
 ghost use Rattle.ecma_reading.specs.Statements as reads;
 ghost use Rattle.ecma_parse_state.specs.Answers.{Gives, going_on, IsMemory};
 ghost use Rattle.ecma_parse_state.specs.Codes.{code_of};
-ghost use Rattle.ecma_parse_state.specs.Fronts.{is_slash, machine_of};
+ghost use Rattle.ecma_parse_state.specs.Fronts.{machine_of};
 ghost use Rattle.ecma_parse_state.specs.Stands.{stand};
 ghost use Rattle.ecma_syntax.specs.Input as input;
 ghost use Rattle.ecma_parse_statements.specs.Lists.{branch_of, chain_of, chain_items, FitBranches, FitChain};
@@ -18,7 +18,6 @@ use ecma_parse_base::{Nested, Operand};
 use ecma_parse_blocks::made;
 use ecma_parse_blocks::parts::{in_parens, sub};
 use ecma_parse_state::code::alone;
-use ecma_parse_state::numbers::token_number;
 use ecma_parse_state::{Around, Failure, Parser, kinds};
 use ecma_token::{BytePos, Span};
 use ecma_tokens::Tokens;
@@ -40,32 +39,6 @@ pub struct Links {
     pub last: Option<StmtBox>,
 }
 
-/// The kind of what starts with the slash that comes, read as a regular expression, in a copy of the source.
-///
-/// # Errors
-///
-/// Want of memory.
-#[inline(never)]
-#[tactic(auto, unfolding(ecma_parse_state::specs::Fronts::machine_of))]
-fn reread_kind<'a, I: Tokens<'a> + Drop>(p: &Parser<'a, I>) -> Result<u8, Failure>
-    requires slash { is_slash (kind (spec.input (machine_of I.machine) (stand I.state p.now))) ≡ true }
-    ensures value { IfOk result (λ k. k ≡ kind (spec.input (machine_of I.machine) (spec.operand (machine_of I.machine) (stand I.state p.now)))) }
-    ensures full { IfErr result IsMemory }
-{
-    let Some(token) = &p.ahead.token else {
-        return Ok(p.kind());
-    };
-    let Ok(mut copy) = p.input.try_clone() else {
-        return Err(Failure::Memory);
-    };
-    copy.set_next_regexp(Some(token.span.lo));
-    match copy.next() {
-        Ok(Some(next)) => Ok(token_number(&next.token)),
-        Ok(None) => Ok(kinds::END),
-        Err(_) => Err(Failure::Memory),
-    }
-}
-
 /// The kind of the token that comes, where a slash is read as a regular expression. A function that is called twice is not
 /// inlined, so that no `if` has room for a copy of the source in its frame.
 ///
@@ -78,8 +51,8 @@ pub fn operand_kind<'a, I: Tokens<'a> + Drop>(p: &Parser<'a, I>) -> Result<u8, F
     ensures full { IfErr result IsMemory }
 {
     match p.kind() {
-        kinds::DIV => reread_kind(p),
-        kinds::DIV_ASSIGN => reread_kind(p),
+        kinds::DIV => p.reread_kind(),
+        kinds::DIV_ASSIGN => p.reread_kind(),
         kind => Ok(kind),
     }
 }

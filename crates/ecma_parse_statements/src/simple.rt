@@ -137,7 +137,6 @@ pub fn expression<'a, I: Tokens<'a> + Drop, N: Nested<'a, I>>(
 {
     let start = p.lo();
     let lets = p.at(kinds::LET);
-    let awaits = p.at(kinds::AWAIT);
     if lets && p.second()?.0 == kinds::LEFT_BRACKET {
         return Err(p.unexpected());
     }
@@ -152,6 +151,6 @@ pub fn expression<'a, I: Tokens<'a> + Drop, N: Nested<'a, I>>(
     } else {
         expr.end
     };
-    p.end_of_await(code, end, named && awaits)?;
+    p.end_of(code, end)?;
     made::expr_stmt(p.alloc, p.since(start), expr)
 }

@@ -16,9 +16,11 @@ use ecma_parse_base::Nested;
 use ecma_parse_blocks::blocks::block;
 use ecma_parse_blocks::declarations::{using, variables};
 use ecma_parse_blocks::made::stmt;
+use ecma_parse_blocks::parts::not_allowed;
 use ecma_parse_blocks::starts::{starts_async, starts_await_using, starts_let, starts_using};
 use ecma_parse_classes::classes::class_decl;
 use ecma_parse_loops::functions::function_decl;
+use ecma_parse_state::operators::may_name;
 use ecma_parse_state::{Around, Failure, Parser, kinds};
 use ecma_parse_statements::chains::if_stmt;
 use ecma_parse_statements::jumps::{
@@ -27,9 +29,60 @@ use ecma_parse_statements::jumps::{
 use ecma_parse_statements::simple::{do_loop, expression, while_loop, with};
 use ecma_parse_statements::switches::switch;
 use ecma_parse_statements::tries::try_stmt;
-use ecma_token::Span;
+use ecma_token::{Error, Span, SyntaxError};
 use ecma_tokens::Tokens;
 use std::alloc::Global;
+
+/// What is wrong with a statement that begins here, if it is none: `const`, `let` before what it declares, and `using` before a name
+/// on its line begin declarations.
+///
+/// # Errors
+///
+/// Want of memory.
+fn barred<'a, I: Tokens<'a> + Drop, N: Nested<'a, I>>(
+    p: &Parser<'a, I>,
+    nested: &N,
+    code: Around,
+) -> Result<Option<SyntaxError>, Failure>
+    ensures full { IfErr result IsMemory }
+{
+    if p.at(kinds::CONST) || starts_let(p, nested)? {
+        return Ok(Some(SyntaxError::DeclNotAllowed));
+    }
+    if !p.at(kinds::USING) {
+        return Ok(None);
+    }
+    let (second, breaks) = p.second()?;
+    if breaks || !may_name(second) {
+        return Ok(None);
+    }
+    if code.syntax.explicit_resource_management {
+        return Ok(Some(SyntaxError::DeclNotAllowed));
+    }
+    Ok(Some(SyntaxError::UsingDeclNotEnabled))
+}
+
+/// An expression that starts a statement; where a declaration stands in its place, that is the fault.
+#[inline(never)]
+fn told_expression<'a, I: Tokens<'a> + Drop, N: Nested<'a, I>>(
+    p: &mut Parser<'a, I>,
+    nested: &N,
+    code: Around,
+) -> Result<StmtBox, Failure>
+    requires ready { N.ready nested.now }
+    ensures value { Gives (λ x. (inner x.part.value, stand I.state p.new)) result (reads.expression_by (machine_of I.machine) (N.reads nested.now I.State I.machine) (code_of code) (stand I.state p.old)) }
+    ensures holds { IfOk result (λ x. holds_stmt x.part.value) }
+    ensures shorter { IfOk result (λ _. spec.bound (machine_of I.machine) (stand I.state p.new) < spec.bound (machine_of I.machine) (stand I.state p.old)) }
+{
+    let kind = barred(p, nested, code)?;
+    match (expression(p, nested, code), kind) {
+        (Err(Failure::Syntax(error)), Some(kind)) => {
+            let span = error.span;
+            Err(Failure::Syntax(Error { span, kind }))
+        }
+        (read, _) => read,
+    }
+}
 
 /// What declares variables, or an expression.
 #[inline(never)]
@@ -49,7 +102,7 @@ pub fn variables_or_expression<'a, I: Tokens<'a> + Drop, N: Nested<'a, I>>(
         return variables(p, nested, code, VarDeclKind::Var);
     }
     if !code.listed {
-        return expression(p, nested, code);
+        return told_expression(p, nested, code);
     }
     if p.at(kinds::CONST) {
         return variables(p, nested, code, VarDeclKind::Const);
@@ -64,7 +117,7 @@ pub fn variables_or_expression<'a, I: Tokens<'a> + Drop, N: Nested<'a, I>>(
         p.bump()?;
         return using(p, nested, code, start, true);
     }
-    expression(p, nested, code)
+    told_expression(p, nested, code)
 }
 
 /// A function, a class, or what no word starts alone.
@@ -86,13 +139,13 @@ pub fn declared<'a, I: Tokens<'a> + Drop, N: Nested<'a, I>>(
     }
     if p.at(kinds::CLASS) {
         if !code.listed {
-            return Err(p.unexpected());
+            return Err(not_allowed(p.place()));
         }
         return class_decl(p, nested, code);
     }
     if starts_async(p, nested)? {
         if !code.listed {
-            return Err(p.unexpected());
+            return Err(not_allowed(p.place()));
         }
         p.bump()?;
         return function_decl(p, nested, code, start, true);

@@ -1,2 +1,3 @@
 pub mod Resolving
 pub mod Depths
+pub mod Utf8

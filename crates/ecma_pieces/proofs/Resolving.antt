@@ -2,9 +2,9 @@
 use Rattle.std.proofs.Common.{◌≡◌, List, [], ◌∷◌, None, Some, true, false, refl}
 use Rattle.ecma_token.specs.declared.place.Span.{Span}
 use Rattle.ecma_write.specs.Pages.{Page, put, put_line, put_mark, deeper, shallower}
-use Rattle.ecma_write.specs.States.{State, text, punct, line, increase, decrease, semi, commit, mark, span_or_none}
+use Rattle.ecma_write.specs.States.{text, punct, line, increase, decrease, semi, commit, mark, span_or_none}
 use Rattle.std.specs.Prelude.{codes}
-use Rattle.ecma_pieces.specs.Pieces.{Piece, Text, Brace, Blank, Line, Deeper, Back, Semicolon, Commit, Mark, call, calls, resolved, shortened, behind, semicolon}
+use Rattle.ecma_pieces.specs.Pieces.{Piece, Text, Brace, Blank, Line, Deeper, Back, Semicolon, Commit, Mark, calls, resolved, shortened, behind, semicolon}
 
 pub calls_resolve : (xs : List Piece) (p : Page) → (calls xs (record { page = p; held = None; holds = false })).page ≡ resolved xs p
 unfolding text punct line increase decrease semi commit mark

@@ -1,8 +1,7 @@
 -- Laws of pieces and of the indentation.
-use Rattle.std.specs.Prelude.{◌≡◌, ℕ, ◌<◌, true, false, List, Some, None}
+use Rattle.std.specs.Prelude.{◌≡◌, ◌<◌, true, false, List, Some, None}
 use Rattle.ecma_token.specs.declared.place.Span.{Span}
 use Rattle.ecma_write.specs.Pages.{Page, deeper, shallower, last_depth}
-use Rattle.ecma_write.specs.States.{State}
 use Rattle.ecma_pieces.specs.Pieces.{Piece, calls, resolved, shortened, behind}
 
 -- The calls of a writer in which no semicolon waits write and mark what the pieces are resolved to.

@@ -1,5 +1,5 @@
 -- The pieces of a text, and what they are resolved to: bytes and marks.
-use Rattle.std.specs.Prelude.{ℕ, Bool, true, false, List, [], ◌∷◌, Option, Some, None, codes}
+use Rattle.std.specs.Prelude.{ℕ, List, [], ◌∷◌, Option, Some, None, codes}
 use Rattle.ecma_token.specs.declared.place.BytePos.{BytePos}
 use Rattle.ecma_token.specs.declared.place.Span.{Span}
 use Rattle.ecma_write.specs.Pages.{Page, put, put_line, put_mark, deeper, shallower}

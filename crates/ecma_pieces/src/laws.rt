@@ -1,5 +1,6 @@
 //! Laws over the definitions alone. Each is the contract of a function that does nothing.
 ghost use Rattle.ecma_pieces.specs.Laws.{CallsResolve, CallsShorten, CallsGoOn, DepthComesBack, DepthStays};
+ghost use Rattle.ecma_pieces.specs.Utf8.{TextStays};
 
 /// The calls of a writer, one after another, write and mark what the pieces are resolved to: where each
 /// semicolon stands, where those before `}` go, and where one waits when the pieces begin.
@@ -14,4 +15,9 @@ pub fn calls_resolve_pieces()
 pub fn depth_comes_back()
     ensures back { DepthComesBack }
     ensures ends { DepthStays }
+{}
+
+/// Pieces whose texts are UTF-8 are resolved to UTF-8, on a page of UTF-8.
+pub fn text_stays()
+    ensures { TextStays }
 {}

@@ -14,7 +14,7 @@ use Rattle.ecma_grammar.specs.Grammar.{Spells, parts}
 use Rattle.ecma_layout.specs.declared.look.Look.{Look}
 use Rattle.ecma_layout.specs.declared.look.Stand.TheVariants.{Alone, Operand, Head, Key, Tagged}
 use Rattle.ecma_layout.specs.Layout.{count}
-use Rattle.ecma_printable.proofs.Fine.{◌▸◌, ok, empty, when_fine, if_fine, then_fine, maybe, comma_fine, in_parens_fine, number_fine, number_before_fine, initial_fine, indented_fine}
+use Rattle.ecma_printable.proofs.Fine.{◌▸◌, ok, token, empty, when_fine, if_fine, then_fine, maybe, comma_fine, in_parens_fine, number_fine, number_before_fine, initial_fine, indented_fine}
 use Rattle.ecma_printable.proofs.Lists.{Good, AllGood, commas_fine, lines_fine, template_fine}
 use Rattle.ecma_printable.proofs.Forms.{Sound, AllSound, either, maybe_good, none_good, listed, comma_then, all_sorted}
 
@@ -58,7 +58,7 @@ module _ (look : Look) where
 
   pub template : (tagged : Bool) (s : Span) (es qs : Trees) → AllSound look es → (c : Code) (ts r : Input) → TemplateLiteral tagged c s (parts es) (parts qs) ts r → Good look (tpl s es qs)
   template tagged s es qs a c ts r h st = let z = template_spans tagged c es qs a h.0 _ h.2 in
-      then_fine _ (count qs == count es + 1) (eq-eqb (count qs) (count es + 1) z.1) (ok ▸ ok ▸ template_fine look st es qs z.0 ▸ ok ▸ ok)
+      then_fine _ (count qs == count es + 1) (eq-eqb (count qs) (count es + 1) z.1) (ok ▸ ok ▸ template_fine look st es qs z.0 ▸ token ▸ ok)
 
   -- ---- 13.3 left-hand-side expressions
 
@@ -102,8 +102,8 @@ module _ (look : Look) where
   new_bare s e f c ts r h st = ok ▸ ok ▸ ok ▸ maybe _ _ ▸ f _ _ _ h.3 Head ▸ when_fine _ (in_parens_fine empty)
 
   chain_good : (s : Span) (q : Bool) (t : Span) (o k : Tree) → Good look o → Good look k → Good look (opt_chain_expr s q (member_expr t o k))
-  chain_good s q t (number_lit at value raw) k f g st = if_fine q (ok ▸ number_fine look at value raw ▸ ok) (number_before_fine look at value raw k ▸ maybe _ _) ▸ g Alone
-  chain_good s q t o k f g st = f Head ▸ if_fine q ok (maybe _ _) ▸ g Alone
+  chain_good s q t (number_lit at value raw) k f g st = if_fine q (ok ▸ number_fine look at value raw ▸ token) (number_before_fine look at value raw k ▸ maybe _ _) ▸ g Alone
+  chain_good s q t o k f g st = f Head ▸ if_fine q token (maybe _ _) ▸ g Alone
 
   pub chain_member : (s : Span) (q : Bool) (t : Span) (o k : Tree) → Sound look o → (c : Code) (A B : Input → Input → Type 0) → ((m n : Input) → A m n → Good look k) → ((m n : Input) → B m n → Good look k)
       → (ts r : Input) → ChainMember c s q t (part o (λ y. Spells o y)) A B ts r → Good look (opt_chain_expr s q (member_expr t o k))
@@ -111,7 +111,7 @@ module _ (look : Look) where
   chain_member s false t o k f c A B g i ts r h = chain_good s false t o k (f _ _ _ h.2) (g _ _ h.3)
 
   pub chain_call : (s : Span) (q : Bool) (t : Span) (e : Tree) (xs : Trees) → Sound look e → AllSound look xs → Sound look (opt_chain_expr s q (opt_call t e xs))
-  chain_call s true t e xs f a c ts r h st = f _ _ _ h.2.1 Head ▸ ok ▸ in_parens_fine (commas_fine look xs (arguments xs a c h.1 r h.4))
+  chain_call s true t e xs f a c ts r h st = f _ _ _ h.2.1 Head ▸ token ▸ in_parens_fine (commas_fine look xs (arguments xs a c h.1 r h.4))
   chain_call s false t e xs f a c ts r h st = f _ _ _ h.2 Head ▸ empty ▸ in_parens_fine (commas_fine look xs (arguments xs a c h.0 r h.3))
 
   pub tagged : (s : Span) (e : Tree) (t : Span) (es qs : Trees) → Sound look e → AllSound look es → Sound look (tagged_tpl s e (tpl t es qs))

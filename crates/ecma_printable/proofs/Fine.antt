@@ -8,7 +8,7 @@ use Rattle.ecma_edge.specs.Edges.{starts_with_word}
 use Rattle.ecma_pieces.specs.Pieces.{Piece}
 use Rattle.ecma_layout.specs.declared.look.Look.{Look}
 use Rattle.ecma_layout.specs.declared.look.Stand.{Stand}
-use Rattle.ecma_layout.specs.Looks.{Laid, ◌·◌, nothing, one, both, is_refused, when, semi, end, gap_or}
+use Rattle.ecma_layout.specs.Looks.{Laid, Meaning, ◌·◌, nothing, one, meant, both, is_refused, when, semi, end, gap_or}
 use Rattle.ecma_layout.specs.Literals.{name, number}
 use Rattle.ecma_layout.specs.Layout.{word, comma, in_parens, indented, indented_or_line, closing, hashbang, from, attributes, initial, field_value, function_tail, method_marks, after_static, class_head, class_tail, number_before, quasi, in_braces, imports, exports, is_variables}
 
@@ -37,9 +37,12 @@ first h = record { so = not_first _ _ h.so }
 pub second : {f g : Laid} → Fine (both f g) → Fine g
 second h = record { so = not_second _ _ h.so }
 
--- a piece, and nothing
+-- a piece, texts that are together one token, and nothing
 pub ok : {x : Piece} → Fine (one x)
 ok = record { so = refl }
+
+pub token : {m : Meaning} → Fine (meant m)
+token = record { so = refl }
 
 pub empty : Fine nothing
 empty = record { so = refl }
@@ -66,7 +69,7 @@ in_parens_fine x = ok ▸ x ▸ ok
 
 pub hashbang_fine : (line : Option (List ℕ)) → Fine (hashbang line)
 hashbang_fine None = empty
-hashbang_fine (Some said) = ok ▸ ok ▸ ok
+hashbang_fine (Some said) = token ▸ ok
 
 -- behind an exported declaration
 pub ended_fine : (t : Tree) (span : Span) → Fine (when (is_variables t) (semi · end span))
@@ -128,7 +131,7 @@ module _ (look : Look) where
   class_tail_fine span members x = maybe _ _ ▸ ok ▸ indented_or_line_fine members x ▸ ok ▸ ok
 
   pub quasi_fine : (s : Stand) (t : Tree) → Fine (quasi look s t)
-  quasi_fine s (tpl_element span is_last raw cooked) = ok ▸ ok ▸ ok
+  quasi_fine s (tpl_element span is_last raw cooked) = ok ▸ token ▸ ok
   quasi_fine s _ = empty
 
   pub in_braces_fine : {f : Laid} → Fine f → Fine (in_braces look f)

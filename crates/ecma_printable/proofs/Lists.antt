@@ -8,7 +8,7 @@ use Rattle.ecma_layout.specs.declared.look.Stand.{Stand}
 use Rattle.ecma_layout.specs.declared.look.Stand.TheVariants.{Alone}
 use Rattle.ecma_layout.specs.Looks.{Laid}
 use Rattle.ecma_layout.specs.Layout.{laid, statements, rows, separated, each, import_heads, named_items, first_namespace, template, comma, comma_line}
-use Rattle.ecma_printable.proofs.Fine.{Fine, ◌▸◌, ok, empty, when_fine, if_fine, maybe, comma_fine, closing_fine, quasi_fine}
+use Rattle.ecma_printable.proofs.Fine.{Fine, ◌▸◌, ok, token, empty, when_fine, if_fine, maybe, comma_fine, closing_fine, quasi_fine}
 
 module _ (look : Look) where
   -- a tree that can be printed, wherever it stands
@@ -64,4 +64,4 @@ module _ (look : Look) where
   template_fine s none (more q (more r qs)) a = empty
   template_fine s (more e es) none a = empty
   template_fine s (more e es) (more q none) a = quasi_fine look s q
-  template_fine s (more e es) (more q (more r qs)) a = quasi_fine look s q ▸ ok ▸ a.0 Alone ▸ ok ▸ template_fine s es (more r qs) a.1
+  template_fine s (more e es) (more q (more r qs)) a = quasi_fine look s q ▸ token ▸ a.0 Alone ▸ ok ▸ template_fine s es (more r qs) a.1

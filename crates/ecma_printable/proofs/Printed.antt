@@ -5,7 +5,7 @@ use Rattle.ecma_syntax.specs.Operators.{expression_level, assignment_level}
 use Rattle.ecma_layout.specs.declared.look.Look.{Look}
 use Rattle.ecma_layout.specs.declared.look.Stand.TheVariants.{Alone}
 use Rattle.ecma_layout.specs.Layout.{is_key}
-use Rattle.ecma_printable.proofs.Fine.{◌▸◌, ok, if_fine, maybe, name_fine, number_fine}
+use Rattle.ecma_printable.proofs.Fine.{◌▸◌, ok, token, if_fine, maybe, name_fine, number_fine}
 use Rattle.ecma_printable.proofs.Forms.{Sound, AllSound}
 use Rattle.ecma_printable.proofs.Expressions.{element, array, object, property, cover, spread, bracketed, parens, template, accessed, dotted, member, super_property, call, super_call, import_call, new_with, new_bare, chain_member, chain_call, tagged, update, unary, awaits, binary, conditional, assignment, sequence, yield_bare, yields, array_pattern, object_pattern, initialised, rests, keyed_item, named_item}
 use Rattle.ecma_printable.proofs.Functions.{InnerSound, parameter, function_inner, function_good, function_declared, function_expressed, arrow_block, arrow_expression, object_method, getter, setter, class_inner, class_good, class_declared, class_expressed, constructs, class_method_on, private_method_on, field, private_field, accessor, static_block_on}
@@ -24,7 +24,7 @@ module _ (look : Look) where
     good (str_lit s u w) c = λ ts r h st. maybe _ _ ▸ ok ▸ ok ▸ ok ▸ maybe _ _
     good (number_lit s v w) c = λ ts r h st. maybe _ _ ▸ number_fine look s v w
     good (big_int_lit s b d w) c = λ ts r h st. maybe _ _ ▸ ok ▸ ok ▸ ok ▸ ok
-    good (regex_lit s e f) c = λ ts r h st. ok ▸ ok ▸ ok ▸ ok ▸ ok
+    good (regex_lit s e f) c = λ ts r h st. ok ▸ token
     good (expr_or_spread s d e) c = element look s d e (good e) c
     good (array_lit s xs) c = array look s xs (goods xs) c
     good (object_lit s ps) c = object look s ps (goods ps) c
@@ -32,7 +32,7 @@ module _ (look : Look) where
     good (assign_prop s k e) c = cover look s k e (good k) (good e) c
     good (spread_element s e) c = spread look s e (good e) c
     good (computed_prop_name s e) c = bracketed look assignment_level s e (good e) c
-    good (tpl_element s t w u) c = λ ts r h st. ok ▸ ok ▸ ok
+    good (tpl_element s t w u) c = λ ts r h st. ok ▸ token ▸ ok
     good (tpl s es qs) c = template look false s es qs (goods es) c
     good (paren_expr s e) c = parens look s e (good e) c
     good (member_expr s o (computed_prop_name t e)) c = member look s o (computed_prop_name t e) (good o) c _ (bracketed look expression_level t e (good e) c)
@@ -52,7 +52,7 @@ module _ (look : Look) where
     good (opt_chain_expr s q _) c = λ ts r h. absurd h
     good (tagged_tpl s t (tpl q es qs)) c = tagged look s t q es qs (good t) (goods es) c
     good (tagged_tpl s t _) c = λ ts r h. absurd h
-    good (meta_prop_expr s k) c = λ ts r h st. ok ▸ ok
+    good (meta_prop_expr s k) c = λ ts r h st. ok ▸ if_fine _ token token
     good (update_expr s op b a) c = update look s op b a (good a) c
     good (unary_expr s op a) c = unary look s op a (good a) c
     good (await_expr s a) c = awaits look s a (good a) c

@@ -9,6 +9,8 @@ use Rattle.ecma_write.specs.declared.fault.EmitError.{EmitError}
 use Rattle.ecma_write.specs.declared.fault.EmitError.TheVariants.{Write, Memory, Node, Position}
 use Rattle.ecma_write.proofs.Growing.{front_same, front_trans}
 use Rattle.ecma_pieces.specs.Pieces.{Piece, call}
+use Rattle.ecma_pieces.specs.Utf8.{IsUtf8Page, IsUtf8Piece}
+use Rattle.ecma_pieces.proofs.Utf8.{call_text}
 use Rattle.ecma_printer.specs.Prints.{Asked, ask, stop, lay, IsAt, Prints, MayFault, failed_by}
 use Rattle.ecma_layout.specs.Looks.{Laid, nothing, one, both, refused, when, gap_or}
 use Rattle.ecma_layout.specs.declared.look.Look.{Look}
@@ -18,24 +20,27 @@ use Rattle.ecma_printer.proofs.Onward.{Onward, onward_same, call_onward, fits_on
 record More (a b : Asked) : Type 0 where
   onward : Onward a.state b.state
   stops : a.stops ≡ true → b.stops ≡ true
+  text : IsUtf8Page a.state.page → IsUtf8Page b.state.page
+  before : b.before ≡ a.before
   known : b.known ≡ a.known
+  textual : b.textual ≡ a.textual
   failures : b.failures ≡ a.failures
   loans : b.loans ≡ a.loans
   places : b.places ≡ a.places
 
 more_same : (a : Asked) → More a a
-more_same a = record { onward = onward_same a.state; stops = λ p. p; known = refl; failures = refl; loans = refl; places = refl }
+more_same a = record { onward = onward_same a.state; stops = λ p. p; text = λ u. u; before = refl; known = refl; textual = refl; failures = refl; loans = refl; places = refl }
 
-more_asked : (x : Piece) (a : Asked) → More a (ask x a)
+more_asked : (x : Piece) (a : Asked) → IsUtf8Piece x → More a (ask x a)
 unfolding ask
-more_asked x a = elim a.stops as (λ (b : Bool). More a (if b then a else record a { state = call x a.state })) [
+more_asked x a u = elim a.stops as (λ (b : Bool). More a (if b then a else record a { state = call x a.state })) [
   | true ↦ more_same a
-  | false ↦ record { onward = call_onward x a.state; stops = λ p. p; known = refl; failures = refl; loans = refl; places = refl }
+  | false ↦ record { onward = call_onward x a.state; stops = λ p. p; text = call_text x a.state u; before = refl; known = refl; textual = refl; failures = refl; loans = refl; places = refl }
 ]
 
 more_stopped : (a : Asked) → More a (stop a)
 unfolding stop
-more_stopped a = record { onward = onward_same a.state; stops = λ p. refl; known = refl; failures = refl; loans = refl; places = refl }
+more_stopped a = record { onward = onward_same a.state; stops = λ p. refl; text = λ u. u; before = refl; known = refl; textual = refl; failures = refl; loans = refl; places = refl }
 
 may_more : (e : EmitError) (a b : Asked) → More a b → MayFault e a → MayFault e b
 may_more (Write kind) a b m h = h
@@ -52,17 +57,23 @@ module _ {S : Type 0} (tells : S → Type 0) (state : S → State) (failed : S �
     wrote = (
       may_more e a b m h.wrote.0,
       λ k.
-          let z = h.wrote.1 (sym m.known ∙ k) in
-          (z.0, front_trans (state w).page.out a.state.page.out b.state.page.out z.1 m.onward.out, fits_on e a.state b.state m.onward z.2),
+          let z = h.wrote.1 (sym m.known ∙ k) in (
+            z.0,
+            subst (λ (l : List ℕ). IsFront l (state w).page.out) (sym m.before) z.1,
+            front_trans (state w).page.out a.state.page.out b.state.page.out z.2 m.onward.out,
+            fits_on e a.state b.state m.onward z.3,
+          ),
     );
+    begun = subst (λ (l : List ℕ). IsFront l b.state.page.out) (sym m.before) (front_trans a.before a.state.page.out b.state.page.out h.begun m.onward.out);
+    text = λ t. m.text (h.text (sym m.textual ∙ t));
     failures = h.failures ∙ ap (count_after (failed_by (Some e))) (sym m.failures);
     lent = h.lent ∙ sym m.loans;
     places = h.places ∙ sym m.places;
   }
 
   -- behind a fault nothing is called
-  pub passed : (x : Piece) (w : S) (e : EmitError) (a : Asked) → At w (Some e) a → At w (Some e) (ask x a)
-  passed x w e a h = later w e a (ask x a) (more_asked x a) h
+  pub passed : (x : Piece) (w : S) (e : EmitError) (a : Asked) → IsUtf8Piece x → At w (Some e) a → At w (Some e) (ask x a)
+  passed x w e a u h = later w e a (ask x a) (more_asked x a u) h
 
   pub passed_stop : (w : S) (e : EmitError) (a : Asked) → At w (Some e) a → At w (Some e) (stop a)
   passed_stop w e a h = later w e a (stop a) (more_stopped a) h
@@ -73,23 +84,34 @@ module _ {S : Type 0} (tells : S → Type 0) (state : S → State) (failed : S �
   may_fault Position b p q m = sym q ∙ m
   may_fault Node b p q m = absurd m
 
-  asked_by : (x : Piece) (old new : S) (r : Result (Unit {0}) EmitError) → Does tells state (call x) old new r → Keeps state failed loans old new r
+  more_begun : (x : Piece) (a : Asked) → IsFront a.before a.state.page.out → IsFront a.before (call x a.state).page.out
+  more_begun x a h = front_trans a.before a.state.page.out (call x a.state).page.out h (call_onward x a.state).out
+
+  asked_by : (x : Piece) → IsUtf8Piece x → (old new : S) (r : Result (Unit {0}) EmitError) → Does tells state (call x) old new r → Keeps state failed loans old new r
       → (a : Asked) → At old None a → At new (result_err r) (record a { state = call x a.state })
-  asked_by x old new (Ok u) d k a h = record {
+  asked_by x u old new (Ok v) d k a h = record {
     wrote = (h.wrote.0, λ t. let z = h.wrote.1 t in let y = d z.0 in (y.0, y.1 ∙ ap (call x) z.1));
+    begun = more_begun x a h.begun;
+    text = λ t. call_text x a.state u (h.text t);
     failures = k.2 ∙ h.failures;
     lent = k.1 ∙ h.lent;
     places = k.0 ∙ h.places;
   }
-  asked_by x old new (Err e) d k a h = record {
+  asked_by x u old new (Err e) d k a h = record {
     wrote = (
       may_fault e (record a { state = call x a.state }) (has_places (state old)) h.places k.3,
       λ t.
           let z = h.wrote.1 t in
           let y = d z.0 in
-          let same : call x (state old) ≡ call x a.state = ap (call x) z.1 in
-          (y.0, subst (λ (s : State). IsFront (state new).page.out s.page.out) same y.1.beginning, subst (λ (s : State). FaultFits e s.page) same y.2),
+          let same : call x (state old) ≡ call x a.state = ap (call x) z.1 in (
+            y.0,
+            front_trans a.before (state old).page.out (state new).page.out (subst (λ (s : State). IsFront a.before s.page.out) (sym z.1) h.begun) y.1.kept,
+            subst (λ (s : State). IsFront (state new).page.out s.page.out) same y.1.beginning,
+            subst (λ (s : State). FaultFits e s.page) same y.2,
+          ),
     );
+    begun = more_begun x a h.begun;
+    text = λ t. call_text x a.state u (h.text t);
     failures = k.2 ∙ ap (count_after (is_write e)) h.failures;
     lent = k.1 ∙ h.lent;
     places = k.0 ∙ h.places;
@@ -100,19 +122,30 @@ module _ {S : Type 0} (tells : S → Type 0) (state : S → State) (failed : S �
   going x a e = rw e refl
 
   -- a call is made where there is no fault: it was made, or it failed
-  called : (x : Piece) (old new : S) (r : Result (Unit {0}) EmitError) (f : Option EmitError) → is_some f ≡ false
+  called : (x : Piece) → IsUtf8Piece x → (old new : S) (r : Result (Unit {0}) EmitError) (f : Option EmitError) → is_some f ≡ false
       → Does tells state (call x) old new r → Keeps state failed loans old new r → (a : Asked) → At old f a → At new (result_err r) (ask x a)
-  called x old new r None e d k a h = subst (At new (result_err r)) (going x a h.wrote.0) (asked_by x old new r d k a h)
-  called x old new r (Some v) e d k a h = absurd (cc)
+  called x u old new r None e d k a h = subst (At new (result_err r)) (going x a h.wrote.0) (asked_by x u old new r d k a h)
+  called x u old new r (Some v) e d k a h = absurd (cc)
 
-  passed_by : (x : Piece) (w : S) (f : Option EmitError) → is_some f ≡ true → (a : Asked) → At w f a → At w f (ask x a)
-  passed_by x w (Some e) p a h = passed x w e a h
-  passed_by x w None p a h = absurd (cc)
+  passed_by : (x : Piece) → IsUtf8Piece x → (w : S) (f : Option EmitError) → is_some f ≡ true → (a : Asked) → At w f a → At w f (ask x a)
+  passed_by x u w (Some e) p a h = passed x w e a u h
+  passed_by x u w None p a h = absurd (cc)
 
   refuses : (w : S) (f : Option EmitError) → is_some f ≡ false → (a : Asked) → At w f a → At w (Some Node) (stop a)
   unfolding stop
   refuses w None e a h = record {
-    wrote = (refl, λ t. let z = h.wrote.1 t in (z.0, subst (λ (s : State). IsFront s.page.out a.state.page.out) (sym z.1) (front_same a.state.page.out), tt));
+    wrote = (
+      refl,
+      λ t.
+          let z = h.wrote.1 t in (
+            z.0,
+            subst (λ (s : State). IsFront a.before s.page.out) (sym z.1) h.begun,
+            subst (λ (s : State). IsFront s.page.out a.state.page.out) (sym z.1) (front_same a.state.page.out),
+            tt,
+          ),
+    );
+    begun = h.begun;
+    text = h.text;
     failures = h.failures;
     lent = h.lent;
     places = h.places;
@@ -125,17 +158,17 @@ module _ {S : Type 0} (tells : S → Type 0) (state : S → State) (failed : S �
 
 -- ---- what a function of the printer made: a call where there was no fault, and nothing behind one
 pub asks : {S : Type 0} {tells : S → Type 0} {state : S → State} {failed : S → ℕ} {loans : S → List GName} {old new : S} {f g : Option EmitError} {b : Bool} {step : State → State}
-    (x : Piece) → step ≡ call x → (r : Result (Unit {0}) EmitError) → is_some f ≡ not b → b ≡ true → g ≡ result_err r
+    (x : Piece) → IsUtf8Piece x → step ≡ call x → (r : Result (Unit {0}) EmitError) → is_some f ≡ not b → b ≡ true → g ≡ result_err r
     → Does {S = S} {A = Unit {0}} tells state step old new r → Keeps {S = S} {A = Unit {0}} state failed loans old new r
     → Prints {S = S} tells state failed loans (one x) old f new g
-asks {S} {tells} {state} {failed} {loans} {old} {new} {f} {g} x q r n b e d k = record {
+asks {S} {tells} {state} {failed} {loans} {old} {new} {f} {g} x u q r n b e d k = record {
   so = λ a h. subst (λ (z : Option EmitError). IsAt {S = S} tells state failed loans new z (ask x a)) (sym e)
-      (called tells state failed loans x old new r f (n ∙ ap not b) (subst (λ (h : State → State). Does {S = S} {A = Unit {0}} tells state h old new r) q d) k a h);
+      (called tells state failed loans x u old new r f (n ∙ ap not b) (subst (λ (h : State → State). Does {S = S} {A = Unit {0}} tells state h old new r) q d) k a h);
 }
 
 pub passes : {S : Type 0} {tells : S → Type 0} {state : S → State} {failed : S → ℕ} {loans : S → List GName} {w : S} {f : Option EmitError} {b : Bool}
-    (x : Piece) → is_some f ≡ not b → b ≡ false → Prints {S = S} tells state failed loans (one x) w f w f
-passes {S} {tells} {state} {failed} {loans} {w} {f} x n b = record { so = λ a h. passed_by tells state failed loans x w f (n ∙ ap not b) a h }
+    (x : Piece) → IsUtf8Piece x → is_some f ≡ not b → b ≡ false → Prints {S = S} tells state failed loans (one x) w f w f
+passes {S} {tells} {state} {failed} {loans} {w} {f} x u n b = record { so = λ a h. passed_by tells state failed loans x u w f (n ∙ ap not b) a h }
 
 pub refuses_now : {S : Type 0} {tells : S → Type 0} {state : S → State} {failed : S → ℕ} {loans : S → List GName} {w : S} {f : Option EmitError} {b : Bool}
     → is_some f ≡ not b → b ≡ true → Prints {S = S} tells state failed loans refused w f w (Some Node)

@@ -45,3 +45,14 @@ rows_3 : Hold (
     no_script (codes "#a in #b in c") ∷ [])
 unfolding opened
 rows_3 = refl
+
+rows_4 : Hold (
+    full_row (codes "class A{accessor get\na(){}}") (codes "(classdecl A (body (accessor get -) (method a (of (block))) -))") ∷
+    full_row (codes "class A{accessor set\na}") (codes "(classdecl A (body (accessor set -) (field a -) -))") ∷
+    full_row (codes "class A{static accessor get\n[a]=1}") (codes "(classdecl A (body (saccessor get -) (field (at a) 1) -))") ∷
+    full_row (codes "class A{accessor get\n=1}") (codes "(classdecl A (body (accessor get 1) -))") ∷
+    full_row (codes "class A{accessor get\n(){}}") (codes "no") ∷
+    full_row (codes "class A{accessor get a(){}}") (codes "no") ∷
+    script_row (codes "class A{accessor\nget\na(){}}") (codes "(classdecl A (body (field accessor -) (get a (of (block))) -))") ∷ [])
+unfolding opened
+rows_4 = refl

@@ -1,6 +1,6 @@
 -- Modules.
 use Rattle.std.proofs.Common.{[], ◌∷◌, codes, refl}
-use Rattle.ecma_reading.proofs.Rows.{Hold, opened, full_row, module_row, no_module, no_script}
+use Rattle.ecma_reading.proofs.Rows.{Hold, opened, full_row, module_faults, module_row, no_module, no_script}
 
 rows_1 : Hold (
     module_row (codes "import 'a'") (codes "(import 'a' -)") ∷
@@ -63,3 +63,13 @@ rows_4 : Hold (
     full_row (codes "export*from'a'with{}") (codes "(exportall 'a' (object))") ∷ [])
 unfolding opened
 rows_4 = refl
+
+rows_5 : Hold (
+    module_faults (codes "import{'\\01'as a}from'a'") (3 ∷ 8 ∷ 13 ∷ []) ∷
+    module_faults (codes "export{'\\8'as a}from'a'") (3 ∷ 8 ∷ 12 ∷ []) ∷
+    module_faults (codes "export{a as'\\01'}") (3 ∷ 12 ∷ 17 ∷ []) ∷
+    module_faults (codes "export*as'\\01'from'a'") (3 ∷ 10 ∷ 15 ∷ []) ∷
+    module_faults (codes "import{eval as a,'\\0'as b,let as c}from'a'") ([]) ∷
+    module_faults (codes "export{eval,a as let,b as'\\0'}") ([]) ∷ [])
+unfolding opened
+rows_5 = refl

@@ -10,6 +10,7 @@ mod FactsOperators
 mod FactsUpdatesTheConditional
 mod FactsAssignment
 mod FactsArrows
+mod FactsReservedAwait
 mod FactsFunctionsYieldAnd
 mod FactsClasses
 mod FactsFieldsThatWords

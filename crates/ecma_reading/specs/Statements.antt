@@ -4,7 +4,7 @@ use Rattle.ecma_token.specs.declared.place.Span.{Span}
 use Rattle.ecma_token.specs.Kinds.{end_kind, dot_dot_dot_kind, left_paren_kind, right_paren_kind, left_bracket_kind, right_bracket_kind, left_brace_kind, right_brace_kind, semicolon_kind, comma_kind, colon_kind, hash_kind, mul_kind, assign_kind, await_kind, break_kind, case_kind, catch_kind, continue_kind, debugger_kind, default_kind, do_kind, else_kind, finally_kind, for_kind, function_kind, if_kind, return_kind, switch_kind, throw_kind, try_kind, var_kind, let_kind, const_kind, while_kind, with_kind, class_kind, extends_kind, in_kind, async_kind, of_kind, using_kind, static_kind, accessor_kind, get_kind, set_kind}
 use Rattle.ecma_tree.specs.Tree.{Tree, none, more, pack, plain_method, block_stmt, empty_stmt, debugger_stmt, with_stmt, return_stmt, labeled_stmt, break_stmt, continue_stmt, if_stmt, switch_stmt, switch_case, throw_stmt, try_stmt, catch_clause, while_stmt, do_while_stmt, for_stmt, for_in_stmt, for_of_stmt, expr_stmt, class_decl, fn_decl, var_decl, using_decl, var_declarator, function, class, constructor, class_method, private_method, class_prop, private_prop, static_block, auto_accessor, ident, binding_ident, array_pat, rest_pat, object_pat, assign_pat, key_value_pat_prop, assign_pat_prop, absent, hole}
 use Rattle.ecma_syntax.specs.Input.{Code, kind, kind2, brk, brk2, lo, dots_at, span, rest, barred, is_strict, with_in, without_in, in_list, alone, in_body, in_field, in_static, turned_strict}
-use Rattle.ecma_syntax.specs.Operators.{expression_level, assignment_level, new_level, starts_key, may_name, plain_end, let_end}
+use Rattle.ecma_syntax.specs.Operators.{expression_level, assignment_level, new_level, starts_key, may_name, key_end, plain_end, let_end}
 use Rattle.ecma_syntax.specs.Shape.{ends, is_name, is_absent, is_private, is_structured, is_bare_declarator, is_default_case, is_use_strict, is_directive, is_plain_function, constructs, field_end, declarators_end, is_statement}
 use Rattle.ecma_reading.specs.Source.{unexpected, ◌>>=◌, Machine, Stand, Read, input, past, operand, turned, bound, spanned, at, eat, eat_word, name, end_of, Step, go_on, finished, iterate, Inner}
 use Rattle.ecma_reading.specs.Cover.{to_head}
@@ -181,7 +181,7 @@ module _ {S : Type 0} (m : Machine S) (inner : Inner S) where
       Ok (method_tree (spanned m start b.1) k.0 (function (spanned m start b.1) (more p.0 none) none b.0 false false) set_kind is_static, b.1)
 
   unfoldable pub accessor_by : Code → Stand S → Bool → Read S Tree
-  accessor_by c start is_static s = class_key c (past m s) >>= λ k. field_value c (field_end true (kind (input m (past m s)))) k.1 >>= λ v. Ok (auto_accessor (spanned m start v.1) k.0 v.0 is_static none, v.1)
+  accessor_by c start is_static s = class_key c (past m s) >>= λ k. field_value c key_end k.1 >>= λ v. Ok (auto_accessor (spanned m start v.1) k.0 v.0 is_static none, v.1)
 
   unfoldable pub field_or_method : Code → Stand S → Bool → Read S Tree
   field_or_method c start is_static s = class_key c s >>= λ k.

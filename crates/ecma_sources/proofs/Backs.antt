@@ -626,14 +626,16 @@ module _ {S : Type 0} {m : Machine S} {Live : S → Type 0} {modular : Bool} (w 
         by_seen (q ∷ v) e i [] h o = absurd o
         by_seen (q ∷ v) e i (p ∷ ps) (inl h) o = by_reread (r.reread s.source q p v h.0 l e i h.1)
           where
-            by_reread : (p.spot.token.kind ≡ error_kind) ⊎ Rereads q p → HandsOut m (p ∷ ps) s.source
+            by_reread : (p.spot.token.kind ≡ error_kind) ⊎ (Rereads q p ⊎ (m.operand s.source ≡ s.source)) → HandsOut m (p ∷ ps) s.source
             by_reread (inl f) = absurd (true≢false (ap (λ (k : ℕ). eqb k error_kind) (sym f) ∙ o))
-            by_reread (inr f) = inr (q, v, h.0, e, f, h.1, h.2)
+            by_reread (inr (inl f)) = inr (q, v, h.0, e, f, h.1, h.2)
+            by_reread (inr (inr f)) = subst (λ (z : S). HandsOut m (p ∷ ps) z) f (inl h)
         by_seen (q ∷ v) e i (p ∷ ps) (inr h) o = by_reread (r.reread s.source q h.0 v h.1 l e i h.3)
           where
-            by_reread : (h.0.spot.token.kind ≡ error_kind) ⊎ Rereads q h.0 → HandsOut m (p ∷ ps) s.source
+            by_reread : (h.0.spot.token.kind ≡ error_kind) ⊎ (Rereads q h.0 ⊎ (m.operand s.source ≡ s.source)) → HandsOut m (p ∷ ps) s.source
             by_reread (inl f) = absurd (true≢false (sym h.4.0 ∙ ap (λ (k : ℕ). is_slash k) f))
-            by_reread (inr f) = absurd (true≢false (sym h.4.0 ∙ ap (λ (k : ℕ). is_slash k) f.1))
+            by_reread (inr (inl f)) = absurd (true≢false (sym h.4.0 ∙ ap (λ (k : ℕ). is_slash k) f.1))
+            by_reread (inr (inr f)) = subst (λ (z : S). HandsOut m (p ∷ ps) z) f (inr h)
 
         by_slash : (b : Bool) → is_slash (kind_of (m.seen s.source)) ≡ b → HandsOut m qs s.source
         by_slash true i = by_seen (m.seen s.source) refl i qs h o

@@ -5,7 +5,7 @@ use Rattle.ecma_token.specs.Kinds.{div_assign_kind, semicolon_kind, hash_kind, d
 use Rattle.ecma_tree.specs.Tree.{Tree, rest_pat, function, none, pack, ident, binding_ident, assign_pat, absent, more, hole, plain_method, block_stmt, empty_stmt, debugger_stmt, with_stmt, return_stmt, labeled_stmt, break_stmt, continue_stmt, switch_stmt, switch_case, throw_stmt, try_stmt, catch_clause, while_stmt, do_while_stmt, for_stmt, for_in_stmt, for_of_stmt, expr_stmt, class_decl, fn_decl, var_decl, using_decl, var_declarator, class_prop, private_prop, static_block, auto_accessor, array_pat, object_pat, key_value_pat_prop, assign_pat_prop}
 use Rattle.ecma_syntax.specs.Input.{Place, Input, Code, kind, kind_of, others, lo, barred, span, kind2, brk, brk2, dots_at, with_in, in_list, in_body, turned_strict, rest, is_strict, without_in, alone, in_field, in_static}
 use Rattle.ecma_syntax.specs.Shape.{is_default_case, ends, is_name, is_absent, is_private, is_structured, is_use_strict, is_plain_function, constructs, field_end, is_statement, declarators_end}
-use Rattle.ecma_syntax.specs.Operators.{assignment_level, pauses, closed_end, expression_level, new_level, starts_key, may_name, let_end, plain_end}
+use Rattle.ecma_syntax.specs.Operators.{assignment_level, pauses, closed_end, expression_level, new_level, starts_key, may_name, let_end, plain_end, key_end}
 use Rattle.ecma_reading.specs.Source.{◌>>=◌, unexpected, Machine, Stand, input, past, operand, at, bound, spanned, eat, eat_word, end_of, Step, go_on, finished, iterate, Inner}
 use Rattle.ecma_reading.specs.Expressions.{first, function_by, setter_parameter, is_async_head}
 use Rattle.ecma_reading.specs.Statements.{constructor_of, has_default, one_bare, Body, Chain, initial_pat, after_item, array_item, array_pat_by, keyed_item, named_item, pattern_prop, object_item, object_pat_by, pat_by, block_step, block_rest, block_by, body_item, body_step, body_by, declarator_by, declarator_step, declarators_by, starts_let, starts_variables, variables_by, starts_using, starts_await_using, using_by, function_decl_by, class_decl_by, field_value, class_key, method_tree, class_method_by, class_getter, class_setter, accessor_by, field_or_method, generator_member, member_rest, starts_static, static_by, member_step, members_by, class_tail_by, in_parens, sub_by, with_by, while_by, do_by, branched, else_by, if_step, if_by, ends_here, return_by, throw_by, label_by, jump_by, debugger_by, case_step, case_rest, case_by, cases_step, switch_by, catch_by, finally_by, try_by, clause_by, for_rest, over_rest, in_rest, of_rest, head_rest, for_variables, for_using, for_expression_rest, for_expression, for_head, for_by, labelled_by, expression_by, starts_async, keyword_stmt, stmt_by, stmt_from}
@@ -230,7 +230,7 @@ module _ {S : Type 0} {m : Machine S} {Live : S → Type 0} {modular : Bool} (w 
 
   pub accessor_by_backed : {e' : ℕ} (s : Stand S) (c : Code) (ce : c.context.module_ ≡ modular) (start : Stand S) (startu : Path m Live start s) (is_static : Bool) (j' : Here m Live s) → Backed m Live closed true e' s (accessor_by m im c start is_static s) (λ r'. accessor_by lm il c (was m Live startu r') is_static r')
   unfolding accessor_by
-  accessor_by_backed s c ce start startu is_static j' = back_past w {s = s} j' _ (λ r' q'. (class_key lm il c q' >>= λ k. (field_value lm il c (field_end true (kind (input lm q'))) k.1 >>= λ v. Ok (auto_accessor (spanned lm (was m Live startu r') v.1) k.0 v.0 is_static none, v.1)))) (back_then _ _ _ _ (class_key_backed (past m s) c ce (live_past w j')) (λ k1a k1s k1u. back_then _ _ _ _ (back_same _ (λ r'. field_value lm il c ((field_end true (kind (input m (past m s))))) r') (λ r'. field_value lm il c (field_end true (kind (input lm (was m Live k1u r')))) r') (λ qs' h'. ap (λ (z' : ℕ). field_value lm il c (z') (list_at m Live k1s qs')) (agrees_was w (λ z'. field_end true (kind (input lm (on [] 0 z')))) ((λ p' q' l' v'. refl), (λ p' q' l' v'. refl), (λ n' p' q' l' v'. refl), (λ n' p' q' l' v'. refl), (λ n' o' p' q' l' v'. refl), (λ n' o' p' q' l' v'. refl), (λ n' o' p' l' v'. refl)) k1u qs' h')) (field_value_backed k1s c ce (field_end true (kind (input m (past m s)))) k1u.live)) (λ v3a v3s v3u. back_ok {s = v3s} _ _ v3u.live (λ qs' h'. ap (λ (z' : ℕ). auto_accessor ((span z' (m.last v3s.source))) k1a v3a is_static none) (lo_was w (join (join (join startu (token w j')) k1u) v3u) qs' h')) (λ i'. absurd (true≢false i')))))
+  accessor_by_backed s c ce start startu is_static j' = back_past w {s = s} j' _ (λ r' q'. (class_key lm il c q' >>= λ k. (field_value lm il c key_end k.1 >>= λ v. Ok (auto_accessor (spanned lm (was m Live startu r') v.1) k.0 v.0 is_static none, v.1)))) (back_then _ _ _ _ (class_key_backed (past m s) c ce (live_past w j')) (λ k1a k1s k1u. back_then _ _ _ _ (field_value_backed k1s c ce key_end k1u.live) (λ v3a v3s v3u. back_ok {s = v3s} _ _ v3u.live (λ qs' h'. ap (λ (z' : ℕ). auto_accessor ((span z' (m.last v3s.source))) k1a v3a is_static none) (lo_was w (join (join (join startu (token w j')) k1u) v3u) qs' h')) (λ i'. absurd (true≢false i')))))
 
   pub field_or_method_backed : {e' : ℕ} (s : Stand S) (c : Code) (ce : c.context.module_ ≡ modular) (start : Stand S) (startu : Path m Live start s) (is_static : Bool) (sl' : Live s.source) → Backed m Live closed true e' s (field_or_method m im c start is_static s) (λ r'. field_or_method lm il c (was m Live startu r') is_static r')
   unfolding field_or_method
@@ -280,6 +280,14 @@ module _ {S : Type 0} {m : Machine S} {Live : S → Type 0} {modular : Bool} (w 
   unfolding do_by
   do_by_backed s c ce sl' = back_word w {s = s} c do_kind (refl, refl, refl, refl) refl sl' _ _ (λ j1. back_then _ _ _ _ (sub_by_backed (past m s) c ce false (live_past w j1)) (λ b2a b2s b2u. back_word w {s = b2s} c while_kind (refl, refl, refl, refl) refl b2u.live _ _ (λ j4. back_then _ _ _ _ (in_parens_backed (past m b2s) c ce (live_past w j4)) (λ e5a e5s e5u. back_at w {s = e5s} semicolon_kind (refl, refl, refl, refl) refl e5u.live _ _ _ _ (λ j7. back_weak _ (back_past w {s = e5s} j7 _ (λ r' q'. Ok (do_while_stmt (spanned lm (was m Live (join (join (join (token w j1) b2u) (token w j4)) e5u) r') q') e5a b2a, q')) (back_ok {s = (past m e5s)} _ _ (live_past w j7) (λ qs' h'. ap (λ (z' : ℕ). do_while_stmt ((span z' (m.last (past m e5s).source))) e5a b2a) (lo_was w (join (join (join (join (token w j1) b2u) (token w j4)) e5u) (token w j7)) qs' h')) (λ i'. absurd (true≢false i'))))) (back_ok {s = e5s} _ _ e5u.live (λ qs' h'. ap (λ (z' : ℕ). do_while_stmt ((span z' (m.last e5s.source))) e5a b2a) (lo_was w (join (join (join (token w j1) b2u) (token w j4)) e5u) qs' h')) (λ i'. absurd (true≢false i')))))))
 
+  -- a slash is no `if`
+  no_if : (k : ℕ) → is_slash k ≡ true → eqb k if_kind ≡ false
+  no_if k e = by_test (eqb k if_kind) (λ i. eqb-true k if_kind i)
+    where
+      by_test : (b : Bool) → (b ≡ true → k ≡ if_kind) → b ≡ false
+      by_test false f = refl
+      by_test true f = absurd (true≢false (sym e ∙ ap (λ (n : ℕ). is_slash n) (f refl)))
+
   operand_if : (s : Stand S) → Live s.source → is_slash (kind (input m s)) ≡ true → at m if_kind (operand m s) ≡ false
   operand_if s l e = by_seen (m.seen s.source) refl e (m.seen (m.operand s.source)) refl
     where
@@ -288,16 +296,13 @@ module _ {S : Type 0} {m : Machine S} {Live : S → Type 0} {modular : Bool} (w 
       by_seen [] i o (p ∷ u) a = absurd (true≢false (sym o))
       by_seen (q ∷ v) i o (p ∷ u) a = ap (λ z. eqb (kind_of z) if_kind) a ∙ by_reread (bw.reread s.source q p v u l i o a)
         where
-          by_reread : (p.spot.token.kind ≡ error_kind) ⊎ Rereads q p → eqb p.spot.token.kind if_kind ≡ false
+          by_reread : (p.spot.token.kind ≡ error_kind) ⊎ (Rereads q p ⊎ (m.operand s.source ≡ s.source)) → eqb p.spot.token.kind if_kind ≡ false
           by_reread (inl z) = ap (λ (k : ℕ). eqb k if_kind) z
-          by_reread (inr z) = ap (λ (k : ℕ). eqb k if_kind) z.1
+          by_reread (inr (inl z)) = ap (λ (k : ℕ). eqb k if_kind) z.1
+          by_reread (inr (inr z)) = ap (λ (y : List Place). eqb (kind_of y) if_kind) (sym a ∙ (ap (λ (y : S). m.seen y) z ∙ i)) ∙ no_if q.spot.token.kind o
 
   slash_if : (s : Stand S) → is_slash (kind (input m s)) ≡ true → at m if_kind s ≡ false
-  slash_if s e = by_test (at m if_kind s) (λ i. eqb-true (kind (input m s)) if_kind i)
-    where
-      by_test : (b : Bool) → (b ≡ true → kind (input m s) ≡ if_kind) → b ≡ false
-      by_test false f = refl
-      by_test true f = absurd (true≢false (sym e ∙ ap (λ (k : ℕ). is_slash k) (f refl)))
+  slash_if s e = no_if (kind (input m s)) e
 
   pub else_by_backed : (s : Stand S) (x : Chain) (xe : x.code.context.module_ ≡ modular) (sl' : Live s.source) → Backed m Live closed false closed_end s (else_by m im x s) (λ r'. else_by lm il x r')
   unfolding else_by

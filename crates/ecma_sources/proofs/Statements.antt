@@ -4,7 +4,7 @@ use Rattle.ecma_token.specs.declared.place.Span.{Span}
 use Rattle.ecma_token.specs.Kinds.{div_kind, div_assign_kind, dot_dot_dot_kind, left_paren_kind, right_paren_kind, left_bracket_kind, right_bracket_kind, left_brace_kind, right_brace_kind, semicolon_kind, comma_kind, colon_kind, hash_kind, mul_kind, assign_kind, await_kind, break_kind, case_kind, catch_kind, continue_kind, debugger_kind, default_kind, do_kind, else_kind, finally_kind, for_kind, function_kind, if_kind, return_kind, switch_kind, throw_kind, try_kind, var_kind, let_kind, const_kind, while_kind, with_kind, class_kind, extends_kind, in_kind, async_kind, of_kind, using_kind, static_kind, accessor_kind, get_kind, set_kind}
 use Rattle.ecma_tree.specs.Tree.{Tree, none, more, pack, plain_method, block_stmt, empty_stmt, debugger_stmt, with_stmt, return_stmt, labeled_stmt, break_stmt, continue_stmt, switch_stmt, switch_case, throw_stmt, try_stmt, catch_clause, while_stmt, do_while_stmt, for_stmt, for_in_stmt, for_of_stmt, expr_stmt, class_decl, fn_decl, var_decl, using_decl, var_declarator, function, class, class_prop, private_prop, static_block, auto_accessor, ident, binding_ident, array_pat, rest_pat, object_pat, assign_pat, key_value_pat_prop, assign_pat_prop, absent}
 use Rattle.ecma_syntax.specs.Input.{Input, Code, kind, kind_of, kind2, brk, brk2, lo, dots_at, rest, others, span, barred, is_strict, with_in, without_in, in_list, alone, in_body, in_field, in_static, turned_strict}
-use Rattle.ecma_syntax.specs.Operators.{expression_level, assignment_level, new_level, starts_key, may_name, let_end}
+use Rattle.ecma_syntax.specs.Operators.{expression_level, assignment_level, new_level, starts_key, may_name, let_end, key_end}
 use Rattle.ecma_syntax.specs.Shape.{ends, is_name, is_absent, is_private, is_structured, is_default_case, is_use_strict, is_plain_function, constructs, field_end, is_statement}
 use Rattle.ecma_reading.specs.Source.{Fault, unexpected, ◌>>=◌, Machine, Stand, input, past, operand, turned, spanned, at, eat_word, Step, go_on, finished, Inner}
 use Rattle.ecma_reading.specs.Cover.{to_head}
@@ -196,7 +196,7 @@ module _ {S : Type 0} {m : Machine S} {Live : S → Type 0} {modular : Bool} (w 
 
   pub accessor_by_told : (k : Ceiling) (c : Code) (ce : c.context.module_ ≡ modular) (startc : Ceiling) (start : Stand S) (start' : Stand Input) (starth : Beside m Live startc start start') (is_static : Bool) (s : Stand S) (s' : Stand Input) (sj : Joined m Live k s s') → Told m Live k (accessor_by lm il c start' is_static s') (accessor_by m im c start is_static s)
   unfolding accessor_by
-  accessor_by_told k c ce startc start start' starth is_static s s' sj = told_then w k _ _ _ _ (class_key_told k c ce (past m s) (past lm s') sj.after) (λ k0 k1 k1' k1h. told_then w k _ _ _ _ (subst (λ (z : ℕ). Told m Live k (field_value lm il c (field_end true (kind (input lm (past lm s')))) k1') (field_value m im c z k1)) (ap (λ (z : ℕ). z) (agree1 w (λ z. field_end true (kind_of z)) (λ p q l v. refl) (λ p q l v. refl) (λ p l v. refl) k (past m s) (past lm s') sj.after)) (field_value_told k c ce (field_end true (kind (input lm (past lm s')))) k1 k1' k1h)) (λ v0 v1 v1' v1h. told_ok w k _ _ v1 v1' v1h (ap (λ (z : Span). auto_accessor z k0 v0 is_static none) (span_same w startc k start v1 start' v1' starth v1h))))
+  accessor_by_told k c ce startc start start' starth is_static s s' sj = told_then w k _ _ _ _ (class_key_told k c ce (past m s) (past lm s') sj.after) (λ k0 k1 k1' k1h. told_then w k _ _ _ _ (field_value_told k c ce key_end k1 k1' k1h) (λ v0 v1 v1' v1h. told_ok w k _ _ v1 v1' v1h (ap (λ (z : Span). auto_accessor z k0 v0 is_static none) (span_same w startc k start v1 start' v1' starth v1h))))
 
   pub field_or_method_told : (k : Ceiling) (c : Code) (ce : c.context.module_ ≡ modular) (startc : Ceiling) (start : Stand S) (start' : Stand Input) (starth : Beside m Live startc start start') (is_static : Bool) (s : Stand S) (s' : Stand Input) (sh : Beside m Live k s s') → Told m Live k (field_or_method lm il c start' is_static s') (field_or_method m im c start is_static s)
   unfolding field_or_method

@@ -13,9 +13,9 @@ use Rattle.ecma_sources.specs.Sources.{is_slash, Rereads, HandsOut, Orderly}
 pub record Backward {S : Type 0} (m : Machine S) (Live : S → Type 0) (modules : Bool) : Type 0 where
   -- what it hands out under other code around, it handed out before
   pub told_back : (x : Context) (s : S) (ps : List Place) → x.module_ ≡ modules → Live s → HandsOut m ps (m.turned x s) → HandsOut m ps s
-  -- a slash is read again as a regular expression in its place, or as a fault
+  -- a slash is read again as a regular expression in its place, or as a fault, or it stays
   pub reread : (s : S) (q p : Place) (qs rs : List Place) → Live s → m.seen s ≡ q ∷ qs → is_slash q.spot.token.kind ≡ true → m.seen (m.operand s) ≡ p ∷ rs
-      → (p.spot.token.kind ≡ error_kind) ⊎ Rereads q p
+      → (p.spot.token.kind ≡ error_kind) ⊎ (Rereads q p ⊎ (m.operand s ≡ s))
 
 module _ {S : Type 0} (m : Machine S) (Live : S → Type 0) where
   -- What tree is read of a source, as a script or a module, is read of a list that the source hands out, by calls so deep.

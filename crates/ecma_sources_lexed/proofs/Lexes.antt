@@ -153,6 +153,7 @@ lexer_constant modules = record {
   same_first = λ s t e. let k = moved s t e in (step_is t k.0 (step_of s).0 k.1).0;
   same_step = λ s t e. let k = moved s t e in subst (λ z. SameText (step_of s).1 z) (step_is t k.0 (step_of s).0 k.1).1 k.2;
   same_asked = λ place s t e. (e.0, e.1, refl, e.3);
+  same_back = λ s t e. (sym e.0, sym e.1, sym e.2, sym e.3);
   same_told = λ x s e g. (refl, refl, refl, g ∙ sym e);
 }
 

@@ -1,7 +1,7 @@
 pub mod Lexes
+pub mod Takes
 pub mod Slashes
 pub mod Regions
-pub mod Takes
 pub mod Hands
 pub mod Untakes
 pub mod Tiles

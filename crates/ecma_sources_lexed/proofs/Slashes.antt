@@ -21,12 +21,13 @@ use Rattle.ecma_lexing.specs.Steps.{IsRead, IsPlain, IsFirst, IsOutside, IsGoing
 use Rattle.ecma_stepping.proofs.Bounds.{no_slash}
 use Rattle.ecma_stepping.proofs.Steps.{always_steps}
 use Rattle.ecma_lexer.specs.Machine.{step_of, lexer_machine}
-use Rattle.ecma_parse_state.specs.Fronts.{place_of, asked, told_of}
-use Rattle.ecma_sources.specs.Sources.{is_slash, Rereads}
+use Rattle.ecma_parse_state.specs.Fronts.{asked, told_of, in_place}
+use Rattle.ecma_sources.specs.Sources.{is_slash}
 use Rattle.ecma_sources_lexed.specs.Lexed.{OfGoal, SameText}
 use Rattle.ecma_sources_lexed.proofs.Lexes.{lexer_constant}
-use Rattle.ecma_sources_of.proofs.Stands.{parser_stands, tokens_consumed}
-use Rattle.ecma_sources_lexed.specs.Standing.{LastToken, LexerRereads, LexerStands, LexerConsumed}
+use Rattle.ecma_sources_lexed.proofs.Takes.{in_place_at}
+use Rattle.ecma_sources_of.proofs.Slashes.{tokens_consumed}
+use Rattle.ecma_sources_lexed.specs.Standing.{LastToken, LexerRereads, LexerConsumed}
 
 -- ---- a slash begins with a slash, and under the goal RegExp with it begins a regular expression
 
@@ -134,15 +135,15 @@ some_is x y e = cc
 no_some : (x : Spot) → None ≡ Some x → ⊥
 no_some x e = cc
 
-Answers : Spot → Spot → Type 0
-Answers t p = (p.token.kind ≡ error_kind) ⊎ Rereads (place_of t) (place_of p)
-
 module _ (t p : Spot) (s new : State) (from : List ℕ) (b : Bool) (k : is_slash t.token.kind ≡ true) (starts_here : starts from ≡ true) (lo : t.lo ≡ place s.tokens.end from) (breaks : t.line_break ≡ b) where
-  read_again : (out : Option Spot) → out ≡ Some p → IsRead RegExp b from s out new → Answers t p
-  unfolding Answers
+  -- a token that begins there, with this mark
+  there : p.lo ≡ place s.tokens.end from → p.line_break ≡ b → ((p.token.kind ≡ regex_kind) ⊎ (p.token.kind ≡ error_kind)) → in_place t (Some p) ≡ true
+  there i j h = in_place_at t p (i ∙ sym lo) (j ∙ sym breaks) h
+
+  read_again : (out : Option Spot) → out ≡ Some p → IsRead RegExp b from s out new → in_place t (Some p) ≡ true
   read_again out e (inl h) = let q = some_is _ _ (sym e ∙ h.3) in
-      inr (k, ap (λ (z : Spot). z.token.kind) q ∙ reads_pattern from h.0 h.1 starts_here h.2, ap (λ (z : Spot). z.lo) q ∙ sym lo, ap (λ (z : Spot). z.line_break) q ∙ sym breaks)
-  read_again out e (inr (inl h)) = inl (ap (λ (z : Spot). z.token.kind) (some_is _ _ (sym e ∙ h.2)))
+      there (ap (λ (z : Spot). z.lo) q) (ap (λ (z : Spot). z.line_break) q) (inl (ap (λ (z : Spot). z.token.kind) q ∙ reads_pattern from h.0 h.1 starts_here h.2))
+  read_again out e (inr (inl h)) = let q = some_is _ _ (sym e ∙ h.2) in there (ap (λ (z : Spot). z.lo) q) (ap (λ (z : Spot). z.line_break) q) (inr (ap (λ (z : Spot). z.token.kind) q))
   read_again out e (inr (inr h)) = absurd (no_some p (sym h.1 ∙ e))
 
 same_place : (n : ℕ) → (n == n) ≡ true
@@ -151,24 +152,19 @@ same_place n = grind (arith, nat_tests)
 again_from : (a : State) (last : Last) (from : List ℕ) (n : ℕ) → last ≡ Slash from → n ≡ place a.tokens.end from → again_by last (Some n) a.tokens.end ≡ Some from
 again_from a last from n e i = ap (λ z. again_by z (Some n) a.tokens.end) e ∙ (ap (λ (z : ℕ). again_by (Slash from) (Some z) a.tokens.end) i ∙ ap (λ (y : Bool). cond y (Some from) None) (same_place (place a.tokens.end from)))
 
-slash_again : (t p : Spot) (s : State) → LastToken (Some t) s → is_slash t.token.kind ≡ true → (step_of (asked (Some t.lo) s)).0 ≡ Some p → Answers t p
+slash_again : (t p : Spot) (s : State) → LastToken (Some t) s → is_slash t.token.kind ≡ true → (step_of (asked (Some t.lo) s)).0 ≡ Some p → in_place t (Some p) ≡ true
 unfolding step_of
 slash_again t p s l k e = let a = asked (Some t.lo) s in let h = l k in read_again t p a (always_steps a).1 h.0 s.tokens.line_break k h.2 h.3 h.4 (always_steps a).0 e
     (subst (λ (z : Option (List ℕ)). IsStepBy z a (always_steps a).0 (always_steps a).1) (again_from a s.tokens.last h.0 t.lo h.1 h.3)
     (subst (λ (z : Last). IsStepOf z a (always_steps a).0 (always_steps a).1) h.1 (always_steps a).2.is))
 
 pub lexer_rereads : LexerRereads
-unfolding Answers
-lexer_rereads modules = record {
-  same_back = λ s t e. (sym e.0, sym e.1, sym e.2, sym e.3);
-  last_step = λ s g. step_last s;
+lexer_rereads = record {
+  last_step = λ s. step_last s;
   last_asked = λ place f s h. told_last f s (asked place s) refl h;
   last_told = λ x f s h. told_last f s (told_of x s) refl h;
-  reread = λ t p s g l k e. slash_again t p s l k e;
+  reread = λ t p s l k e. slash_again t p s l k e;
 }
 
-pub lexer_stands : LexerStands
-lexer_stands modules s last g = parser_stands lexer_machine (OfGoal modules) SameText LastToken modules (lexer_constant modules) (lexer_rereads modules) s last g
-
 pub lexer_consumed : LexerConsumed
-lexer_consumed modules depth syntax q t b e = tokens_consumed lexer_machine (OfGoal modules) SameText LastToken modules (lexer_constant modules) (lexer_rereads modules) depth syntax q t b e
+lexer_consumed modules depth syntax q t b e = tokens_consumed lexer_machine (OfGoal modules) SameText modules (lexer_constant modules) depth syntax q t b e

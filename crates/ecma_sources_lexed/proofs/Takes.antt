@@ -1,5 +1,8 @@
 -- How a token is handed out: it comes, or a slash comes that is read again as it.
-use Rattle.std.proofs.Common.{◌≡◌, ℕ, Bool, true, cond, List, [], ◌∷◌, Option, Some, None, inl, inr, refl, sym, ap, subst}
+use Rattle.std.proofs.Common.{◌≡◌, ◌⊎◌, ℕ, Bool, true, false, ◌&&◌, ◌||◌, cond, List, [], ◌∷◌, Option, Some, None, inl, inr, refl, sym, ap, ◌∙◌, subst, arith}
+use Rattle.std.specs.Prelude.{◌==◌}
+use Rattle.std.proofs.lemmas.Bool.Decides.{nat_tests}
+use Rattle.ecma_token.specs.Kinds.{regex_kind, error_kind}
 use Rattle.ecma_token.specs.Tokens.{Spot}
 use Rattle.ecma_tokens.specs.Machine as tokens
 use Rattle.ecma_tokens.specs.Machine.{Source}
@@ -8,9 +11,31 @@ use Rattle.ecma_lexing.specs.States.{State}
 use Rattle.ecma_lexing.specs.Steps.{IsStep}
 use Rattle.ecma_lexer.specs.Machine.{step_of, lexer_machine}
 use Rattle.ecma_lexer.proofs.MachineLemmas.{step_is}
-use Rattle.ecma_parse_state.specs.Fronts.{Front, place_of, places, asked, withdrawn, read_on, machine_of}
+use Rattle.ecma_parse_state.specs.Fronts.{Front, place_of, places, asked, withdrawn, same_mark, in_place, read_on, reread_by, machine_of}
 use Rattle.ecma_sources.specs.Sources.{is_slash, Rereads, HandsOut}
 use Rattle.ecma_sources_of.proofs.Fronts.{front}
+
+-- ---- a regular expression in a slash's place
+
+same_place : (n : ℕ) → (n == n) ≡ true
+same_place n = grind (arith, nat_tests)
+
+same_marks : (a : Bool) → same_mark a a ≡ true
+same_marks true = refl
+same_marks false = refl
+
+-- a regular expression or a fault that begins where a slash does, with the same mark
+pub in_place_at : (q t : Spot) → t.lo ≡ q.lo → t.line_break ≡ q.line_break → (t.token.kind ≡ regex_kind) ⊎ (t.token.kind ≡ error_kind) → in_place q (Some t) ≡ true
+in_place_at q t e f h = by_kind h
+  where
+    there : ((t.lo == q.lo) && same_mark t.line_break q.line_break) ≡ true
+    there = subst (λ (n : ℕ). ((n == q.lo) && same_mark t.line_break q.line_break) ≡ true) (sym e)
+        (subst (λ (b : Bool). ((q.lo == q.lo) && same_mark b q.line_break) ≡ true) (sym f)
+        (subst (λ (b : Bool). (b && same_mark q.line_break q.line_break) ≡ true) (sym (same_place q.lo)) (same_marks q.line_break)))
+
+    by_kind : (t.token.kind ≡ regex_kind) ⊎ (t.token.kind ≡ error_kind) → in_place q (Some t) ≡ true
+    by_kind (inl k) = subst (λ (n : ℕ). (((n == regex_kind) || (n == error_kind)) && ((t.lo == q.lo) && same_mark t.line_break q.line_break)) ≡ true) (sym k) there
+    by_kind (inr k) = subst (λ (n : ℕ). (((n == regex_kind) || (n == error_kind)) && ((t.lo == q.lo) && same_mark t.line_break q.line_break)) ≡ true) (sym k) there
 
 -- ---- a source of tokens
 
@@ -31,11 +56,13 @@ module _ {S : Type 0} (m : tokens.Machine S) where
   unfolding machine_of
   begins_at f s n t ps e h = subst (λ (z : Option Spot). Begins t ps (front z s n)) (sym e) (places m 1 (m.step s).0 (Some (m.step s).1), refl, h)
 
-  begins_again : (s : Source S) (n : ℕ) (q t : Spot) (ps : List Place) → is_slash q.token.kind ≡ true → (m.step (asked (Some q.lo) s)).0 ≡ Some t
+  begins_again : (s : Source S) (n : ℕ) (q t : Spot) (ps : List Place) → is_slash q.token.kind ≡ true → Rereads (place_of q) (place_of t) → (m.step (asked (Some q.lo) s)).0 ≡ Some t
       → HandsOut (machine_of m) ps (read_on (m.step (asked None (m.step (asked (Some q.lo) s)).1)) t.hi) → Begins t ps ((machine_of m).operand (front (Some q) s n))
   unfolding machine_of
-  begins_again s n q t ps k i h = subst (λ (b : Bool). Begins t ps (cond b (read_on (withdrawn (m.step (asked (Some q.lo) s))) n) (front (Some q) s n))) (sym k)
-      (begins_at (m.step (asked (Some q.lo) s)).0 (asked None (m.step (asked (Some q.lo) s)).1) n t ps i h)
+  begins_again s n q t ps k r i h = let x = m.step (asked (Some q.lo) s) in
+      subst (λ (b : Bool). Begins t ps (cond b (reread_by q x (front (Some q) s n)) (front (Some q) s n))) (sym k)
+      (subst (λ (b : Bool). Begins t ps (cond b (read_on (withdrawn x) n) (front (Some q) s n))) (sym (ap (λ (z : Option Spot). in_place q z) i ∙ in_place_at q t r.2 r.3 (inl r.1)))
+      (begins_at x.0 (asked None x.1) n t ps i h))
 
   hands_again : (f : Option Spot) (s : Source S) (n : ℕ) (q t : Spot) (ps : List Place) → f ≡ Some q → Rereads (place_of q) (place_of t) → Begins t ps ((machine_of m).operand (front (Some q) s n))
       → HandsOut (machine_of m) (place_of t ∷ ps) (front f s n)
@@ -66,4 +93,4 @@ again_at mid new q t ps j h = let b = step_is (asked (Some q.lo) mid) new (Some 
 pub take_again : (s mid new : State) (q t : Spot) (ps : List Place) → IsStep s (Some q) mid → is_slash q.token.kind ≡ true → IsStep (asked (Some q.lo) mid) (Some t) new → Rereads (place_of q) (place_of t)
     → Hands ps (asked None new) → Hands (place_of t ∷ ps) s
 take_again s mid new q t ps i k j r h n = let a = step_is s mid (Some q) i in let g = subst (λ (z : State). Again q t ps z) a.1 (again_at mid new q t ps j h) in
-    hands_again lexer_machine (step_of s).0 (step_of s).1 n q t ps (sym a.0) r (begins_again lexer_machine (step_of s).1 n q t ps k g.0 g.1)
+    hands_again lexer_machine (step_of s).0 (step_of s).1 n q t ps (sym a.0) r (begins_again lexer_machine (step_of s).1 n q t ps k r g.0 g.1)

@@ -7,7 +7,7 @@ use Rattle.ecma_syntax.specs.Input.{Place}
 use Rattle.ecma_reading.specs.Source.{is_nil}
 use Rattle.ecma_lexing.specs.States.{State}
 use Rattle.ecma_lexer.specs.Machine.{step_of, lexer_machine}
-use Rattle.ecma_parse_state.specs.Fronts.{place_of, places, asked, withdrawn, read_on, after_by, operand_by, machine_of}
+use Rattle.ecma_parse_state.specs.Fronts.{Front, place_of, places, asked, withdrawn, in_place, read_on, after_by, reread_by, operand_by, machine_of}
 use Rattle.ecma_sources.specs.Sources.{is_slash, Rereads, HandsOut}
 use Rattle.ecma_sources_of.proofs.Fronts.{front}
 
@@ -55,14 +55,29 @@ module _ {S : Type 0} (m : tokens.Machine S) where
       slash : is_slash u.token.kind ≡ true
       slash = ap (λ (z : Spot). is_slash z.token.kind) here ∙ r.0
 
-      by_test : (b : Bool) → b ≡ true
-          → places m 2 (cond b (read_on (withdrawn (m.step (asked (Some u.lo) s))) n) (front (Some u) s n)).first (cond b (read_on (withdrawn (m.step (asked (Some u.lo) s))) n) (front (Some u) s n)).behind ≡ place_of t ∷ rs
-          → HandsOut (machine_of m) ps (after_by m (cond b (read_on (withdrawn (m.step (asked (Some u.lo) s))) n) (front (Some u) s n)).first (cond b (read_on (withdrawn (m.step (asked (Some u.lo) s))) n) (front (Some u) s n)).behind (cond b (read_on (withdrawn (m.step (asked (Some u.lo) s))) n) (front (Some u) s n)))
-          → ((m.step (asked (Some u.lo) s)).0 ≡ Some t) × HandsOut (machine_of m) ps (read_on (m.step (asked None (m.step (asked (Some u.lo) s)).1)) t.hi)
-      by_test true k i h = came (m.step (asked (Some u.lo) s)).0 (asked None (m.step (asked (Some u.lo) s)).1) n t rs ps i h
+      abbrev x : Option Spot × Source S
+      x = m.step (asked (Some u.lo) s)
+
+      abbrev Came : Type 0
+      Came = (x.0 ≡ Some t) × HandsOut (machine_of m) ps (read_on (m.step (asked None x.1)) t.hi)
+
+      -- from a front that shows this token first
+      abbrev Shown : Front S → Type 0
+      Shown o = places m 2 o.first o.behind ≡ place_of t ∷ rs → HandsOut (machine_of m) ps (after_by m o.first o.behind o) → Came
+
+      -- a slash that stays is no regular expression
+      stays : places m 2 (Some u) (Some s) ≡ place_of t ∷ rs → ⊥
+      stays j = true≢false (sym slash ∙ ap (λ (z : ℕ). is_slash z) (ap (λ (z : Spot). z.token.kind) (ap (λ (z : List Place). spot_or u z) j) ∙ r.1))
+
+      by_place : (b : Bool) → Shown (cond b (read_on (withdrawn x) n) (front (Some u) s n))
+      by_place true j k = came x.0 (asked None x.1) n t rs ps j k
+      by_place false j k = absurd (stays j)
+
+      by_test : (b : Bool) → b ≡ true → Shown (cond b (reread_by u x (front (Some u) s n)) (front (Some u) s n))
+      by_test true k i h = by_place (in_place u x.0) i h
       by_test false k i h = absurd (true≢false (sym k))
 
-      z : ((m.step (asked (Some u.lo) s)).0 ≡ Some t) × HandsOut (machine_of m) ps (read_on (m.step (asked None (m.step (asked (Some u.lo) s)).1)) t.hi)
+      z : Came
       z = by_test (is_slash u.token.kind) slash i h
 
   took : (f : Option Spot) (s : Source S) (n : ℕ) (t : Spot) (ps : List Place) → HandsOut (machine_of m) (place_of t ∷ ps) (front f s n) → Took f s t ps

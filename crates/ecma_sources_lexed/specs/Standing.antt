@@ -1,5 +1,6 @@
 -- The lexer as a source of tokens that reads a slash again in its place.
 use Rattle.std.specs.Prelude.{◌≡◌, ℕ, Bool, true, List, Option, None, Some, Ok}
+use Rattle.ecma_token.specs.declared.context.Context.{Context}
 use Rattle.ecma_token.specs.declared.syntax.EsSyntax.{EsSyntax}
 use Rattle.ecma_token.specs.Tokens.{Spot}
 use Rattle.ecma_literal.specs.Escapes.{begins}
@@ -9,10 +10,10 @@ use Rattle.ecma_syntax.specs.Input.{Place}
 use Rattle.ecma_reading.specs.Reading.{read_program, read_list}
 use Rattle.ecma_lexing.specs.States.{Slash, State, Text, place}
 use Rattle.ecma_lexer.specs.Machine.{lexer_machine}
-use Rattle.ecma_parse_state.specs.Fronts.{Front, read_on, machine_of}
+use Rattle.ecma_parse_state.specs.Fronts.{Front, asked, told_of, in_place, machine_of}
 use Rattle.ecma_sources.specs.Sources.{is_slash, HandsOut}
-use Rattle.ecma_sources_lexed.specs.Lexed.{OfGoal, SameText}
-use Rattle.ecma_sources_of.specs.Standing.{Rereading, Standing}
+use Rattle.ecma_sources_lexed.specs.Lexed.{OfGoal}
+use Rattle.ecma_sources_of.specs.Constant.{Before}
 
 -- Where a slash was the last token, the lexer knows the text from it on.
 abbrev pub LastToken : Option Spot → State → Type 0
@@ -20,15 +21,16 @@ LastToken None s = Unit {0}
 LastToken (Some t) s = is_slash t.token.kind ≡ true
     → (from : List ℕ) × (s.tokens.last ≡ Slash from) × (begins lexeme.is_slash from ≡ true) × (t.lo ≡ place s.tokens.end from) × (t.line_break ≡ s.tokens.line_break)
 
-abbrev pub LexerRereads : Type 0
-LexerRereads = (modules : Bool) → Rereading lexer_machine (OfGoal modules) SameText LastToken
-
--- A parser that took the first token of a lexer stands behind its last token.
-abbrev pub LexerStands : Type 0
-LexerStands = (modules : Bool) (s : State) (last : ℕ) → OfGoal modules s → Standing (OfGoal modules) LastToken (read_on (lexer_machine.step s) last)
+-- The token that a lexer handed out last is known behind it, and a slash that was is read again in its place: what then comes is a regular expression there, or a fault.
+pub record LexerRereads : Type 0 where
+  -- what a step hands out is the last token behind it, and stays it whatever the lexer is told
+  pub last_step : (s : State) → LastToken (lexer_machine.step s).0 (lexer_machine.step s).1
+  pub last_asked : (place : Option ℕ) (f : Option Spot) (s : State) → LastToken f s → LastToken f (asked place s)
+  pub last_told : (x : Context) (f : Option Spot) (s : State) → LastToken f s → LastToken f (told_of x s)
+  pub reread : (t p : Spot) (s : State) → LastToken (Some t) s → is_slash t.token.kind ≡ true → (lexer_machine.step (asked (Some t.lo) s)).0 ≡ Some p → in_place t (Some p) ≡ true
 
 -- What tree is read of the lexer, as a script or a module, is read of a list of tokens that the lexer hands out, by calls so deep.
 abbrev pub LexerConsumed : Type 0
-LexerConsumed = (modules : Bool) (depth : ℕ) (syntax : EsSyntax) (q : Front Text) (t : Tree) → Standing (OfGoal modules) LastToken q
+LexerConsumed = (modules : Bool) (depth : ℕ) (syntax : EsSyntax) (q : Front Text) (t : Tree) → Before (OfGoal modules) q
     → read_program (machine_of lexer_machine) depth modules syntax q ≡ Ok t
     → (ps : List Place) × HandsOut (machine_of lexer_machine) ps q × (read_list depth modules syntax q.last ps ≡ Ok t)

@@ -5,7 +5,7 @@
 ghost use Rattle.ecma_sources_lexed.specs.Escapes.{EscapesTold};
 ghost use Rattle.ecma_sources_lexed.specs.Handed.{NewAtStart, TilesHanded, ReadHanded};
 ghost use Rattle.ecma_sources_lexed.specs.Lexed.{LexerConstant, LexerRead};
-ghost use Rattle.ecma_sources_lexed.specs.Standing.{LexerRereads, LexerStands, LexerConsumed};
+ghost use Rattle.ecma_sources_lexed.specs.Standing.{LexerRereads, LexerConsumed};
 ghost use Rattle.ecma_sources_lexed.specs.Tiled.{DerivedTile, DerivedUsual, HandedTile, MatchedUsual};
 
 /// Law: a lexer's steps lower a bound, and no code around changes its tokens, as long as it is of the
@@ -16,12 +16,11 @@ pub fn lexer_law()
     ensures read { LexerRead }
 {}
 
-/// Law: a lexer reads a slash again in its place, as a regular expression or a fault; so what is read of
-/// a lexer from its first token on is read of a list of tokens that it hands out.
+/// Law: a lexer reads a slash that was its last token again in its place, as a regular expression or a
+/// fault; and what is read of a lexer is read of a list of tokens that it hands out.
 #[tactic(auto)]
 pub fn lexer_consumed_law()
     ensures rereads { LexerRereads }
-    ensures stands { LexerStands }
     ensures consumed { LexerConsumed }
 {}
 

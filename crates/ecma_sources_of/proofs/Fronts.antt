@@ -5,7 +5,7 @@ use Rattle.ecma_token.specs.Tokens.{Spot}
 use Rattle.ecma_tokens.specs.Machine.{Source, Machine}
 use Rattle.ecma_syntax.specs.Input.{Place, kind_of, hi_of, others}
 use Rattle.ecma_reading.specs.Source.{is_nil}
-use Rattle.ecma_parse_state.specs.Fronts.{Front, place_of, places, asked, withdrawn, told_of, read_on, after_by, operand_by, one_in, bound_in, machine_of}
+use Rattle.ecma_parse_state.specs.Fronts.{Front, place_of, places, asked, withdrawn, told_of, in_place, read_on, after_by, reread_by, operand_by, one_in, bound_in, machine_of}
 use Rattle.ecma_sources.specs.Sources.{is_slash, one, two, HandsOut, Orderly}
 use Rattle.ecma_sources.proofs.SourceLemmas.{programs_read}
 use Rattle.ecma_sources_of.specs.Constant.{Falls, Constant, Before, ParserOrderly, TokensRead}
@@ -66,16 +66,25 @@ module _ {S : Type 0} {m : Machine S} {Good : Source S → Type 0} {Same : Sourc
   operand_on None s t n o e = (refl, s, t, refl, refl, e)
   operand_on (Some u) s t n o e = by_kind (is_slash u.token.kind)
     where
-      by_kind : (b : Bool) → Alike (cond b (read_on (withdrawn (m.step (asked (Some u.lo) s))) n) (front (Some u) s n)) (cond b (read_on (withdrawn (m.step (asked (Some u.lo) t))) o) (front (Some u) t o))
+      abbrev x : Option Spot × Source S
+      x = m.step (asked (Some u.lo) s)
+
+      abbrev y : Option Spot × Source S
+      y = m.step (asked (Some u.lo) t)
+
+      first : x.0 ≡ y.0
+      first = w.same_first (asked (Some u.lo) s) (asked (Some u.lo) t) (w.same_asked (Some u.lo) s t e)
+
+      by_place : (b : Bool) → Alike (cond b (read_on (withdrawn x) n) (front (Some u) s n)) (cond b (read_on (withdrawn y) o) (front (Some u) t o))
+      by_place false = (refl, s, t, refl, refl, e)
+      by_place true = (first, asked None x.1, asked None y.1, refl, refl, w.same_asked None x.1 y.1 (w.same_step (asked (Some u.lo) s) (asked (Some u.lo) t) (w.same_asked (Some u.lo) s t e)))
+
+      again : Alike (reread_by u x (front (Some u) s n)) (reread_by u y (front (Some u) t o))
+      again = subst (λ (z : Option Spot). Alike (reread_by u x (front (Some u) s n)) (cond (in_place u z) (read_on (withdrawn y) o) (front (Some u) t o))) first (by_place (in_place u x.0))
+
+      by_kind : (b : Bool) → Alike (cond b (reread_by u x (front (Some u) s n)) (front (Some u) s n)) (cond b (reread_by u y (front (Some u) t o)) (front (Some u) t o))
       by_kind false = (refl, s, t, refl, refl, e)
-      by_kind true = let a = w.same_asked (Some u.lo) s t e in (
-        w.same_first (asked (Some u.lo) s) (asked (Some u.lo) t) a,
-        asked None (m.step (asked (Some u.lo) s)).1,
-        asked None (m.step (asked (Some u.lo) t)).1,
-        refl,
-        refl,
-        w.same_asked None (m.step (asked (Some u.lo) s)).1 (m.step (asked (Some u.lo) t)).1 (w.same_step (asked (Some u.lo) s) (asked (Some u.lo) t) a),
-      )
+      by_kind true = again
 
   operand_alike : (q r : Front S) → Alike q r → Alike ((machine_of m).operand q) ((machine_of m).operand r)
   unfolding machine_of
@@ -99,6 +108,14 @@ module _ {S : Type 0} {m : Machine S} {Good : Source S → Type 0} {Same : Sourc
   unfolding machine_of Alike
   told_alike x q e b = (refl, b.0, told_of x b.0, b.1, ap (λ z. option_map (told_of x) z) b.1, w.same_told x b.0 e b.2)
 
+  told_back : (x : Context) (q : Front S) → x.module_ ≡ modules → Before Good q → Alike ((machine_of m).turned x q) q
+  unfolding machine_of Alike
+  told_back x q e b = (refl, told_of x b.0, b.0, ap (λ z. option_map (told_of x) z) b.1, b.1, w.same_back b.0 (told_of x b.0) (w.same_told x b.0 e b.2))
+
+  -- what comes once other code around was told came before
+  pub hands_back : (x : Context) (q : Front S) (ps : List Place) → x.module_ ≡ modules → Before Good q → HandsOut (machine_of m) ps ((machine_of m).turned x q) → HandsOut (machine_of m) ps q
+  hands_back x q ps e b h = hands_alike ps ((machine_of m).turned x q) q (told_back x q e b) h
+
   -- ---- one step
 
   behind_on : (f : Option Spot) (s : Source S) (n : ℕ) (p : Place) (ps : List Place) → places m 2 f (Some s) ≡ p ∷ ps → ps ≡ two (places m 2 (after_by m f (Some s) (front f s n)).first (after_by m f (Some s) (front f s n)).behind)
@@ -111,7 +128,7 @@ module _ {S : Type 0} {m : Machine S} {Good : Source S → Type 0} {Same : Sourc
 
   plain_on : (f : Option Spot) (s : Source S) (n : ℕ) → is_slash (kind_of (places m 2 f (Some s))) ≡ false → operand_by m f (Some s) (front f s n) ≡ front f s n
   plain_on None s n e = refl
-  plain_on (Some t) s n e = ap (λ (b : Bool). cond b (read_on (withdrawn (m.step (asked (Some t.lo) s))) n) (front (Some t) s n)) e
+  plain_on (Some t) s n e = ap (λ (b : Bool). cond b (reread_by t (m.step (asked (Some t.lo) s)) (front (Some t) s n)) (front (Some t) s n)) e
 
   -- the source behind is good after it
   after_good : (f : Option Spot) (s : Source S) (n : ℕ) → Good s → Before Good (after_by m f (Some s) (front f s n))
@@ -120,19 +137,21 @@ module _ {S : Type 0} {m : Machine S} {Good : Source S → Type 0} {Same : Sourc
 
   operand_good : (f : Option Spot) (s : Source S) (n : ℕ) → Good s → Before Good (operand_by m f (Some s) (front f s n))
   operand_good None s n g = (s, refl, g)
-  operand_good (Some t) s n g = by_kind (is_slash t.token.kind)
+  operand_good (Some t) s n g = by_kind (is_slash t.token.kind) (in_place t (m.step (asked (Some t.lo) s)).0)
     where
-      by_kind : (b : Bool) → Before Good (cond b (read_on (withdrawn (m.step (asked (Some t.lo) s))) n) (front (Some t) s n))
-      by_kind false = (s, refl, g)
-      by_kind true = (asked None (m.step (asked (Some t.lo) s)).1, refl, w.good_asked None (m.step (asked (Some t.lo) s)).1 (w.good_step (asked (Some t.lo) s) (w.good_asked (Some t.lo) s g)))
+      by_kind : (b c : Bool) → Before Good (cond b (cond c (read_on (withdrawn (m.step (asked (Some t.lo) s))) n) (front (Some t) s n)) (front (Some t) s n))
+      by_kind false c = (s, refl, g)
+      by_kind true false = (s, refl, g)
+      by_kind true true = (asked None (m.step (asked (Some t.lo) s)).1, refl, w.good_asked None (m.step (asked (Some t.lo) s)).1 (w.good_step (asked (Some t.lo) s) (w.good_asked (Some t.lo) s g)))
 
   operand_last : (f : Option Spot) (s : Source S) (n : ℕ) → (operand_by m f (Some s) (front f s n)).last ≡ n
   operand_last None s n = refl
-  operand_last (Some t) s n = by_kind (is_slash t.token.kind)
+  operand_last (Some t) s n = by_kind (is_slash t.token.kind) (in_place t (m.step (asked (Some t.lo) s)).0)
     where
-      by_kind : (b : Bool) → (cond b (read_on (withdrawn (m.step (asked (Some t.lo) s))) n) (front (Some t) s n)).last ≡ n
-      by_kind false = refl
-      by_kind true = refl
+      by_kind : (b c : Bool) → (cond b (cond c (read_on (withdrawn (m.step (asked (Some t.lo) s))) n) (front (Some t) s n)) (front (Some t) s n)).last ≡ n
+      by_kind false c = refl
+      by_kind true false = refl
+      by_kind true true = refl
 
   -- ---- bounds
 
@@ -148,11 +167,15 @@ module _ {S : Type 0} {m : Machine S} {Good : Source S → Type 0} {Same : Sourc
   operand_falls : (f : Option Spot) (s : Source S) (n : ℕ) → Good s
       → one_in (operand_by m f (Some s) (front f s n)).first + bound_in m (operand_by m f (Some s) (front f s n)).behind ≤ one_in f + bound_in m (Some s)
   operand_falls None s n g = le_refl _
-  operand_falls (Some t) s n g = by_kind (is_slash t.token.kind)
+  operand_falls (Some t) s n g = by_kind (is_slash t.token.kind) (in_place t (m.step (asked (Some t.lo) s)).0)
     where
-      by_kind : (b : Bool) → one_in (cond b (read_on (withdrawn (m.step (asked (Some t.lo) s))) n) (front (Some t) s n)).first + bound_in m (cond b (read_on (withdrawn (m.step (asked (Some t.lo) s))) n) (front (Some t) s n)).behind ≤ 1 + m.bound s.tokens
-      by_kind false = le_refl _
-      by_kind true = let h = step_falls (m.step (asked (Some t.lo) s)).0 (m.bound s.tokens) (m.bound (m.step (asked (Some t.lo) s)).1.tokens) (w.falls (asked (Some t.lo) s) (w.good_asked (Some t.lo) s g)) in omega (arith, h)
+      abbrev again : Bool → Bool → Front S
+      again b c = cond b (cond c (read_on (withdrawn (m.step (asked (Some t.lo) s))) n) (front (Some t) s n)) (front (Some t) s n)
+
+      by_kind : (b c : Bool) → one_in (again b c).first + bound_in m (again b c).behind ≤ 1 + m.bound s.tokens
+      by_kind false c = le_refl _
+      by_kind true false = le_refl _
+      by_kind true true = let h = step_falls (m.step (asked (Some t.lo) s)).0 (m.bound s.tokens) (m.bound (m.step (asked (Some t.lo) s)).1.tokens) (w.falls (asked (Some t.lo) s) (w.good_asked (Some t.lo) s g)) in omega (arith, h)
 
   -- ---- orderly
 

@@ -1,3 +1,2 @@
 pub mod Fronts
-pub mod Stands
-pub mod Alikes
+pub mod Slashes

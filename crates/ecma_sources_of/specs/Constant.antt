@@ -26,6 +26,7 @@ pub record Constant {S : Type 0} (m : Machine S) (Good : Source S → Type 0) (S
   pub same_first : (s t : Source S) → Same s t → (m.step s).0 ≡ (m.step t).0
   pub same_step : (s t : Source S) → Same s t → Same (m.step s).1 (m.step t).1
   pub same_asked : (place : Option ℕ) (s t : Source S) → Same s t → Same (asked place s) (asked place t)
+  pub same_back : (s t : Source S) → Same s t → Same t s
   -- the code around changes no token
   pub same_told : (x : Context) (s : Source S) → x.module_ ≡ modules → Good s → Same s (told_of x s)
 

@@ -1,2 +1,2 @@
 pub mod Constant
-pub mod Standing
+pub mod Backward

@@ -2,11 +2,9 @@
 //! laws alone.
 #![tactic(auto)]
 
+ghost use Rattle.ecma_sources_of.specs.Backward.{ParserBackward, TokensConsumed};
 ghost use Rattle.ecma_sources_of.specs.Constant.{ParserOrderly, TokensRead};
-ghost use Rattle.ecma_sources_of.specs.Standing.{ParserStands, ParserBackward, TokensConsumed};
-ghost use Rattle.ecma_token.specs.Tokens.{Spot};
 ghost use Rattle.ecma_tokens.specs.Machine.{Source, Machine};
-ghost use Rattle.std.specs.Prelude.{Option};
 
 /// A source of tokens, which of its states are good, and which are the same.
 pub trait Tokened {
@@ -27,24 +25,11 @@ pub fn tokens_law<I: Tokened>()
     ensures read { TokensRead I.machine I.good I.same }
 {}
 
-/// A source of tokens: which of its states are good, which are the same, and which token was the last.
-pub trait Reread {
-    ghost State: { Type 0 };
-
-    ghost machine: { Machine State };
-
-    ghost good: { Source State → Type 0 };
-
-    ghost same: { Source State → Source State → Type 0 };
-
-    ghost last: { Option Spot → Source State → Type 0 };
-}
-
-/// Law: where steps fall, the code around changes no token, and a slash is read again in its place, what
-/// is read of a source of tokens is read of a list of tokens that it hands out.
+/// Law: where steps fall and the code around changes no token, the machine that a parser reads from is
+/// orderly backward, since a slash is read again in its place or stays; so what is read of a source of
+/// tokens is read of a list of tokens that it hands out.
 #[tactic(auto)]
-pub fn back_law<I: Reread>()
-    ensures stands { ParserStands I.machine I.good I.same I.last }
-    ensures backward { ParserBackward I.machine I.good I.same I.last }
-    ensures consumed { TokensConsumed I.machine I.good I.same I.last }
+pub fn back_law<I: Tokened>()
+    ensures backward { ParserBackward I.machine I.good I.same }
+    ensures consumed { TokensConsumed I.machine I.good I.same }
 {}

@@ -8,3 +8,5 @@ pub mod Tokens
 pub mod Trivia
 pub mod Steps
 pub mod Bounds
+pub mod Going
+pub mod Ends

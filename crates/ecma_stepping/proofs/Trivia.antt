@@ -20,6 +20,11 @@ use Rattle.ecma_stepping.proofs.Deciding.{heads, tails, no_nil}
 
 -- ---- a piece takes characters
 
+some_mark : (m : LineMark) → 0 < length (spelled m)
+some_mark Slashes = omega arith
+some_mark HtmlOpen = omega arith
+some_mark HtmlClose = omega arith
+
 pub piece_shorter : (goal : Goal) (first : Bool) (text : List ℕ) (p : Piece) (rest : List ℕ) → IsPiece goal first text p rest → length rest < length text
 piece_shorter goal first text WhiteSpace rest h = white h.0 h.1 h.2.0
   where
@@ -31,11 +36,6 @@ piece_shorter goal first text LineTerminator rest (inr h) = let k = ap length h.
 piece_shorter goal first text (LineComment mark own) rest h =
     let k = ap length h.1.1 in let l = ap length h.1.2.0 in let m = some_mark mark in
     omega (arith, k, l, m, length-append (spelled mark) h.1.0, length-append own rest)
-  where
-    some_mark : (m : LineMark) → 0 < length (spelled m)
-    some_mark Slashes = omega arith
-    some_mark HtmlOpen = omega arith
-    some_mark HtmlClose = omega arith
 piece_shorter goal first text (BlockComment own) rest h =
     let k = ap length h.1 in let l = ap length h.2.0 in omega (arith, k, l, length-append own (42 ∷ 47 ∷ rest))
 
@@ -125,3 +125,9 @@ hashbang_or_not (a ∷ b ∷ inner) = ⊎_elim
 
 pub hashbang_shorter : (text own rest : List ℕ) → IsHashbang text own rest → length rest < length text
 hashbang_shorter text own rest h = let k = ap length h.1 in let l = ap length h.2.0 in omega (arith, k, l, length-append own rest)
+
+-- ---- what goes wrong takes characters
+
+pub wrong_some : (goal : Goal) (first : Bool) (text : List ℕ) → IsOpenBlock text ⊎ ((inner : List ℕ) × IsLegacy goal first text inner) → 0 < length text
+wrong_some goal first text (inl h) = let k = ap length h.1 in omega (arith, k)
+wrong_some goal first text (inr h) = let k = ap length h.1.1.3 in let m = some_mark h.1.1.0 in omega (arith, k, m, length-append (spelled h.1.1.0) h.0)

@@ -1,3 +1,3 @@
--- That a lexer always has a step to make, and how far its steps go.
+-- That a lexer always has a step to make, how far its steps go, and that its end stays.
 pub mod Bounds
 pub mod Laws

@@ -1,7 +1,7 @@
-//! That a lexer always has a step to make, and how far its steps go: laws, as functions that do nothing.
+//! That a lexer always has a step to make, how far its steps go, and that its end stays: laws, as functions that do nothing.
 #![tactic(auto)]
 
-ghost use Rattle.ecma_stepping.specs.Laws.{AlwaysSteps, BoundFalls};
+ghost use Rattle.ecma_stepping.specs.Laws.{AlwaysSteps, BoundFalls, EndStays};
 
 /// Law: a step is made from every state.
 #[tactic(auto, using(crate::proofs::Steps::always_steps))]
@@ -13,4 +13,10 @@ pub fn a_step_is_made()
 #[tactic(auto, using(crate::proofs::Bounds::bound_falls))]
 pub fn the_bound_falls()
     ensures { BoundFalls }
+{}
+
+/// Law: behind the end the end comes again, while no slash is asked for again and the token contexts stay.
+#[tactic(auto, using(crate::proofs::Ends::end_stays))]
+pub fn the_end_stays()
+    ensures { EndStays }
 {}

@@ -1,5 +1,5 @@
 -- What a program is read from: tokens in their places, and what consuming one of them says.
-use Rattle.std.specs.Prelude.{◌≡◌, ℕ, ◌+◌, Bool, true, false, not, ◌&&◌, ◌||◌, ◌==◌, nat_le, if◌then◌else◌, List, [], ◌∷◌}
+use Rattle.std.specs.Prelude.{◌≡◌, ℕ, ◌+◌, min, Bool, true, false, not, ◌&&◌, ◌||◌, ◌==◌, nat_le, if◌then◌else◌, List, [], ◌∷◌}
 use Rattle.ecma_token.specs.declared.context.Context.{Context}
 use Rattle.ecma_token.specs.declared.place.Span.{Span}
 use Rattle.ecma_token.specs.declared.syntax.EsSyntax.{EsSyntax}
@@ -109,9 +109,9 @@ span a b = record { lo = record { 0 = a }; hi = record { 0 = b } }
 abbrev pub Spans : Span → Input → Input → Type 0
 Spans s ts r = s ≡ span (lo ts) r.last
 
--- the three bytes of the dots at a place
+-- the three bytes of the dots at a place; places go up to 2 ^ 32 - 1
 abbrev pub dots_at : ℕ → Span
-dots_at a = span a (a + 3)
+dots_at a = span a (min (a + 3) 4294967295)
 
 -- that of the first token
 abbrev pub first_span : Input → Span

@@ -1,6 +1,4 @@
-pub mod Steps
 pub mod Room
 pub mod Tiles
-pub mod Ends
 pub mod Behind
 pub mod Spans

@@ -1,25 +1,22 @@
 -- A run in which no slash is read again hands out two tokens a byte at most.
-use Rattle.std.proofs.Common.{◌≡◌, ◌≢◌, ℕ, ◌+◌, ◌*◌, ◌<◌, ◌≤◌, ◌⊎◌, inl, inr, Bool, false, List, [], ◌∷◌, length, length-append, Option, Some, None, refl, sym, ap, subst, ◌∙◌, arith}
+use Rattle.std.proofs.Common.{◌≡◌, ◌≢◌, ℕ, ◌+◌, ◌*◌, ◌<◌, ◌≤◌, inl, inr, Bool, false, List, [], ◌∷◌, length, Option, Some, None, refl, sym, ap, subst, ◌∙◌, arith}
 use Rattle.std.proofs.lemmas.Str.{length-le-encodes}
 use Rattle.ecma_token.specs.Kinds.{template_kind}
 use Rattle.ecma_token.specs.Tokens.{Spot}
 use Rattle.ecma_tokens.specs.declared.contexts.TokenContext.{TokenContext}
 use Rattle.ecma_tokens.specs.declared.contexts.TokenContext.TheVariants as t
+use Rattle.ecma_tokens.specs.Machine.{SameContexts, told_of}
 use Rattle.ecma_scan.specs.Places.{bytes}
-use Rattle.ecma_scan.specs.Trivia.{IsLegacy, IsOpenBlock, spelled}
-use Rattle.ecma_scan.specs.declared.trivia.Goal.{Goal}
-use Rattle.ecma_scan.specs.declared.trivia.LineMark.{LineMark}
-use Rattle.ecma_scan.specs.declared.trivia.LineMark.TheVariants.{Slashes, HtmlOpen, HtmlClose}
 use Rattle.ecma_lexeme.specs.declared.goal.LexicalGoal.{LexicalGoal}
 use Rattle.ecma_lexeme.specs.declared.goal.LexicalGoal.TheVariants.{Div, RegExp, TemplateTail, TemplateEnd}
 use Rattle.ecma_lexeme.specs.Lexemes.{SpecLexeme, IsCharacters, IsLexeme}
 use Rattle.ecma_lexing.specs.States.{Last, Start, Slash, Characters, Fault, Other, State, again, behind, contexts_after, goal_of, is_start, last_after, shebang, template_goal}
 use Rattle.ecma_lexing.specs.Steps.{Ends, IsFirst, IsGoing, IsOutside, IsPlain, IsRead, IsStep}
 use Rattle.ecma_stepping.proofs.Tokens.{token_no_longer, token_shorter}
-use Rattle.ecma_stepping.proofs.Trivia.{follow_no_longer, hashbang_shorter}
+use Rattle.ecma_stepping.proofs.Trivia.{follow_no_longer, hashbang_shorter, wrong_some}
 use Rattle.ecma_tilings.specs.Room.{room, room_by, room_under}
-use Rattle.ecma_tilings.specs.Runs.{IsAtStart, Runs, SameContexts, told_of}
-use Rattle.ecma_tilings.proofs.Steps.{Goes, goes, no_again, none_some}
+use Rattle.ecma_tilings.specs.Runs.{IsAtStart, Runs}
+use Rattle.ecma_stepping.proofs.Going.{Goes, goes, no_again, none_some}
 
 -- ---- how much room there is
 
@@ -83,15 +80,6 @@ other_room goal line_break from s new spot m n l h = read_room goal line_break f
     (λ x rest g. shorter_room line_break from s x rest n l (token_shorter goal from x rest m g))
     (λ e. let a = some_left from (λ nil. e (m, nil)) in let b = least_here s n in omega (arith, a, b, l))
     h
-
-some_mark : (m : LineMark) → 0 < length (spelled m)
-some_mark Slashes = omega arith
-some_mark HtmlOpen = omega arith
-some_mark HtmlClose = omega arith
-
-pub wrong_some : (goal : Goal) (first : Bool) (text : List ℕ) → IsOpenBlock text ⊎ ((inner : List ℕ) × IsLegacy goal first text inner) → 0 < length text
-wrong_some goal first text (inl h) = let k = ap length h.1 in omega (arith, k)
-wrong_some goal first text (inr h) = let k = ap length h.1.1.3 in let m = some_mark h.1.1.0 in omega (arith, k, m, length-append (spelled h.1.1.0) h.0)
 
 plain_room : (s new : State) (spot : Spot) → s.tokens.last ≢ Fault → IsPlain s (Some spot) new → room new < room s
 plain_room s new spot n (inl h) =

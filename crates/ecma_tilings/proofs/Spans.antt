@@ -6,10 +6,11 @@ use Rattle.ecma_lexeme.specs.declared.goal.LexicalGoal.TheVariants.{Div}
 use Rattle.ecma_lexeme.specs.Lexemes.{SpecLexeme}
 use Rattle.ecma_lexing.specs.States.{Last, Start, Slash, Characters, Fault, Other, State, behind, goal_of, is_start, place, shebang, stopped, template_goal}
 use Rattle.ecma_lexing.specs.Steps.{IsFirst, IsGoing, IsOutside, IsPlain, IsRead}
-use Rattle.ecma_tilings.specs.Runs.{IsAtStart, NoReread, Runs, told_of}
+use Rattle.ecma_tilings.specs.Runs.{IsAtStart, NoReread, Runs}
+use Rattle.ecma_tokens.specs.Machine.{told_of}
 use Rattle.ecma_tilings.specs.Spans.{Rise}
 use Rattle.ecma_tilings.proofs.Behind.{Behind, follow_behind, hashbang_behind, here, lexeme_behind, nothing_behind, place_rises}
-use Rattle.ecma_tilings.proofs.Steps.{Goes, goes, no_again, none_some, same_some}
+use Rattle.ecma_stepping.proofs.Going.{Goes, goes, no_again, none_some, same_some}
 
 -- A token lies behind where the step began, and the next step begins where it ends.
 abbrev Lies : State → Spot → State → Type 0

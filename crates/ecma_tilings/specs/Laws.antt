@@ -2,17 +2,12 @@
 use Rattle.std.specs.Prelude.{◌≡◌, ◌*◌, ◌≤◌, List, [], length, None}
 use Rattle.ecma_token.specs.Tokens.{Spot}
 use Rattle.ecma_scan.specs.Places.{bytes}
-use Rattle.ecma_tokens.specs.Settings.{Settings}
-use Rattle.ecma_lexing.specs.States.{State, again, place}
+use Rattle.ecma_tokens.specs.Machine.{SameContexts}
+use Rattle.ecma_lexing.specs.States.{State, place}
 use Rattle.ecma_lexing.specs.Steps.{IsStep}
-use Rattle.ecma_tilings.specs.Runs.{Clean, IsAtStart, NoReread, Runs, SameContexts, told_of}
+use Rattle.ecma_tilings.specs.Runs.{Clean, IsAtStart, NoReread, Runs}
 use Rattle.ecma_tilings.specs.Spans.{Rise}
 use Rattle.ecma_tilings.specs.Tilings.{Tile}
-
--- After the end the end comes again and nothing changes, whatever is told but a slash to be read again and other token contexts.
-abbrev pub EndStays : Type 0
-EndStays = (s new : State) (told : Settings) → again s ≡ None → IsStep s None new → SameContexts new.settings told
-    → IsStep (told_of told new) None (told_of told new)
 
 -- From the start of a text at most twice as many tokens are handed out as it has bytes.
 abbrev pub TwoTokensAByte : Type 0

@@ -2,6 +2,7 @@
 use Rattle.std.specs.Prelude.{◌≡◌, ◌≢◌, List, [], ◌∷◌, None, Some}
 use Rattle.ecma_token.specs.Kinds.{error_kind}
 use Rattle.ecma_token.specs.Tokens.{Spot}
+use Rattle.ecma_tokens.specs.Machine.{told_of}
 use Rattle.ecma_tokens.specs.Settings.{Settings}
 use Rattle.ecma_lexing.specs.States.{Start, State}
 use Rattle.ecma_lexing.specs.Steps.{IsStep}
@@ -9,15 +10,6 @@ use Rattle.ecma_lexing.specs.Steps.{IsStep}
 -- What may be told between two steps: anything but that a slash is to be read again.
 abbrev pub NoReread : Settings → Settings → Type 0
 NoReread old new = new.next_regexp ≡ None
-
--- The same, and the token contexts stay as they are.
-pub record SameContexts (old new : Settings) : Type 0 where
-  pub next_regexp : new.next_regexp ≡ None
-  pub contexts : new.contexts ≡ old.contexts
-
--- the state with other settings
-abbrev pub told_of : Settings → State → State
-told_of settings s = record s { settings = settings }
 
 -- These tokens are handed out one after the other, and after each something may be told.
 abbrev pub Runs : (Settings → Settings → Type 0) → State → List Spot → State → Type 0

@@ -1,13 +1,7 @@
-//! How the tokens of a text lie in it, and where they end: laws of runs of a lexer, as functions that do nothing.
+//! How the tokens of a text lie in it, and how many there are: laws of runs of a lexer, as functions that do nothing.
 #![tactic(auto)]
 
-ghost use Rattle.ecma_tilings.specs.Laws.{EndStays, SpansRise, TilesText, TwoTokensAByte};
-
-/// Law: after the end the end comes again, while no slash is asked for again and the token contexts stay.
-#[tactic(auto, using(crate::proofs::Ends::end_stays))]
-pub fn the_end_stays()
-    ensures { EndStays }
-{}
+ghost use Rattle.ecma_tilings.specs.Laws.{SpansRise, TilesText, TwoTokensAByte};
 
 /// Law: a run in which no slash is read again hands out at most twice as many tokens as the text has bytes.
 #[tactic(auto, using(crate::proofs::Room::two_tokens_a_byte))]

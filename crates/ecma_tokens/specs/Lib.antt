@@ -3,3 +3,4 @@ pub mod Contexts
 pub mod Faults
 pub mod Settings
 pub mod Machine
+pub mod Lending

@@ -1,5 +1,5 @@
 -- How a source of tokens goes on.
-use Rattle.std.specs.Prelude.{◌≡◌, ℕ, Option, Result, Ok, Err, option_map}
+use Rattle.std.specs.Prelude.{◌≡◌, ℕ, Option, None, Result, Ok, Err, option_map}
 use Rattle.ecma_token.specs.declared.error.Error.{Error}
 use Rattle.ecma_token.specs.declared.error.SyntaxError.TheVariants.{Memory}
 use Rattle.ecma_token.specs.declared.token.TokenAndSpan.{TokenAndSpan}
@@ -12,11 +12,26 @@ pub record Source (S : Type 0) : Type 0 where
   pub tokens : S
   pub settings : Settings
 
--- How a source goes on: the token that comes, or nothing at the end, and the source behind it; and a bound on how many tokens come,
--- which no setting changes.
+-- the source with other settings
+abbrev pub told_of : {S : Type 0} → Settings → Source S → Source S
+told_of settings s = record s { settings = settings }
+
+-- No slash is to be read again, and the token contexts are as they were. Whatever else was told may differ.
+pub record SameContexts (old new : Settings) : Type 0 where
+  pub next_regexp : new.next_regexp ≡ None
+  pub contexts : new.contexts ≡ old.contexts
+
+-- Behind the end the end comes again and nothing changes, while no slash is to be read again and the token contexts stay.
+abbrev pub EndStays : {S : Type 0} → (Source S → Option Spot × Source S) → Type 0
+EndStays {S} step = (s : Source S) (settings : Settings) → s.settings.next_regexp ≡ None → (step s).0 ≡ None → SameContexts (step s).1.settings settings
+    → step (told_of settings (step s).1) ≡ (None, told_of settings (step s).1)
+
+-- How a source goes on: the token that comes, or nothing at the end, and the source behind it; a bound on how many tokens come, which no
+-- setting changes; and that the end stays the end.
 pub record Machine (S : Type 0) : Type 0 where
   pub step : Source S → Option Spot × Source S
   pub bound : S → ℕ
+  pub end_stays : EndStays step
 
 -- a token without which fault it is, where it is one
 abbrev pub without_fault : Content → Content

@@ -1,7 +1,9 @@
 //! What every source of tokens keeps besides its tokens.
 ghost use Rattle.std.specs.Prelude.{◌≡◌, [], None, false, option_map, IfErr, IfOk, OnErr, OnOk};
 ghost use Rattle.ecma_token.specs.declared.error.SyntaxError.TheVariants.{Memory};
+ghost use Rattle.std.specs.Borrow.{sem};
 ghost use Rattle.ecma_tokens.specs.Contexts.{outward};
+ghost use Rattle.ecma_tokens.specs.Lending.{LendsContexts};
 ghost use Rattle.ecma_tokens.specs.Settings as spec;
 
 use crate::contexts::TokenContexts;
@@ -97,7 +99,8 @@ impl Settings {
 
     /// What encloses the next token, to change it.
     pub fn contexts_mut(&mut self) -> &mut TokenContexts
-        ensures { outward result.now ≡ (spec.settings_in self.old).contexts }
+        ensures* writes_back { sem 𝓛 (LendsContexts self.entry result) }
+        ensures value { outward result.now ≡ (spec.settings_in self.old).contexts }
     {
         &mut self.contexts
     }

@@ -13,13 +13,14 @@ pub trait Tokens<'a> {
     /// The form in which a source keeps its tokens.
     ghost State: { Type 0 };
 
-    /// How sources of this type go on.
+    /// How sources of this type go on, and that their end stays the end (`Machine.end_stays`).
     ghost machine: { Machine State };
 
     /// A source at one moment.
     ghost state: { Self → Source State };
 
-    /// The next token, or nothing at the end.
+    /// The next token, or nothing at the end. Behind the end nothing comes and nothing changes, while no
+    /// slash is asked for and no token contexts are set, whatever else is told: `machine.end_stays`.
     ///
     /// # Errors
     ///

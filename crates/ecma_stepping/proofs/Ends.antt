@@ -1,16 +1,15 @@
 -- The end comes again.
 use Rattle.std.proofs.Common.{◌≡◌, ◌≢◌, ℕ, ◌≤◌, inl, inr, ⊎_elim, Bool, false, List, [], ◌∷◌, length, Option, Some, None, refl, sym, ap, subst, ◌∙◌, arith}
 use Rattle.ecma_tokens.specs.declared.contexts.TokenContext.{TokenContext}
+use Rattle.ecma_tokens.specs.Machine.{SameContexts, told_of}
 use Rattle.ecma_tokens.specs.Settings.{Settings}
 use Rattle.ecma_scan.specs.Trivia.{IsSkipped}
 use Rattle.ecma_lexeme.specs.declared.goal.LexicalGoal.{LexicalGoal}
 use Rattle.ecma_lexeme.specs.declared.goal.LexicalGoal.TheVariants.{Div, TemplateTail}
 use Rattle.ecma_lexing.specs.States.{Last, Start, Slash, Characters, Fault, Other, State, again, ended, goal_of, is_start, template_goal}
 use Rattle.ecma_lexing.specs.Steps.{IsBadTrivia, IsGoing, IsOutside, IsPlain, IsRead, IsStep, IsStepBy, IsStepOf}
-use Rattle.ecma_stepping.proofs.Trivia.{follow_no_longer, skipped_or_bad}
-use Rattle.ecma_tilings.specs.Runs.{SameContexts, told_of}
-use Rattle.ecma_tilings.proofs.Steps.{Goes, goes, no_again, none_left, none_some}
-use Rattle.ecma_tilings.proofs.Room.{wrong_some}
+use Rattle.ecma_stepping.proofs.Trivia.{follow_no_longer, skipped_or_bad, wrong_some}
+use Rattle.ecma_stepping.proofs.Going.{Goes, goes, no_again, none_left, none_some}
 
 -- ---- a step to the end
 
