@@ -41,28 +41,6 @@ pub no_else : {v : Bool} (ts0 r0 ts r : Input) → Begins v ts0 r0 ts r → kind
 no_else ts0 r0 ts r (same_start e f) h = sym e ∙ h
 no_else ts0 r0 ts r (fine i e f) h = absurd (f h)
 
--- the level, and that of a target in a pattern
-abbrev pub grade : Tree → ℕ
-grade (expr_pat e) = 1
-grade t = level t
-
-pub no_grade : (t : Tree) → grade t ≡ 0 → 1 ≤ level t → ⊥
-no_grade (expr_pat e) g h = omega arith
-no_grade t g h = none_of (level t) g h
-  where
-    none_of : (n : ℕ) → n ≡ 0 → 1 ≤ n → ⊥
-    none_of n e h = omega arith
-
-pub flat_grade : (t : Tree) → grade t ≡ 0 → 1 ≤ grade t → ⊥
-flat_grade t g h = none_of (grade t) g h
-  where
-    none_of : (n : ℕ) → n ≡ 0 → 1 ≤ n → ⊥
-    none_of n e h = omega arith
-
-pub item_grade : (t : Tree) → 1 ≤ grade t → is_item t ≡ true → ⊥
-item_grade (expr_pat e) h i = true≢false (sym i)
-item_grade t h i = no_item t h i
-
 pub no_variables : (t : Tree) → 1 ≤ level t → is_variables t ≡ false
 no_variables (var_decl s k ds) h = absurd (omega arith)
 no_variables (using_decl s w ds) h = absurd (omega arith)

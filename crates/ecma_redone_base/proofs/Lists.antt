@@ -7,6 +7,7 @@ use Rattle.ecma_syntax.specs.Input.{Code, Input, Takes, brk, kind, unplaced}
 use Rattle.ecma_syntax.specs.Shape.{is_hole, is_item, is_rest, level}
 use Rattle.ecma_grammar.specs.Grammar.{Spells, parts}
 use Rattle.ecma_grammar.specs.Parts.{By, CommaThen, Expr, IsEmpty, Listed, Part, Sorted, part}
+use Rattle.ecma_grammar_complete_base.proofs.Trees.{begins}
 use Rattle.ecma_layout.specs.Layout.{comma, comma_line, ends_with_hole, is_variables, laid, separated}
 use Rattle.ecma_layout.specs.Looks.{Laid, both, formats, semi, when}
 use Rattle.ecma_layout.specs.declared.look.Look.{Look}
@@ -18,7 +19,7 @@ use Rattle.ecma_written.specs.Texts.{mark_text}
 use Rattle.ecma_written.specs.Told.{Told, says}
 use Rattle.ecma_redone.specs.Redo.{AllSame, Leaves, Mode, Plain, Same, redo}
 use Rattle.ecma_redone.specs.Written.{leaves_of}
-use Rattle.ecma_redone_base.proofs.Begins.{Starts, grade, is_loose, is_weak, no_grade, starts_on}
+use Rattle.ecma_redone_base.proofs.Begins.{Starts, is_loose, is_weak, starts_on}
 use Rattle.ecma_redone_base.proofs.Follow.{calm, closed_calm, closes, no_item}
 use Rattle.ecma_redone_base.proofs.Shapes.{alike, re_is_hole, re_is_rest}
 use Rattle.ecma_redone_base.proofs.Sound.{AllSound, Sound, expr, expr_low, tight_of}
@@ -32,9 +33,6 @@ more_same l m t u ts us s a = record { so = λ n. ap₂ (λ (x : Tree) (xs : Tre
 
 comma_no_function : comma_kind ≡ function_kind → ⊥
 comma_no_function e = omega arith
-
-none_so : (n : ℕ) → 1 ≤ n → n ≡ 0 → ⊥
-none_so n h e = omega arith
 
 hole_same : (l : Leaves) (ts us : Trees) → AllSame l Plain ts us → AllSame l Plain (more hole ts) (more hole us)
 hole_same l ts us a = record { so = λ n. ap (λ (xs : Trees). more hole xs) (a.so n) }
@@ -71,17 +69,17 @@ module _ (look : Look) (x : Lexicon look.style) where
       → says (laid look Alone t) b ts K → Got Q t ts0 r0 b ts K
 
   -- of a sort
-  pub sorted : (is_sort : Tree → Bool) → ((l : Leaves) (m : Mode) (t : Tree) → is_sort (redo l m t) ≡ is_sort t) → ((t : Tree) → is_sort t ≡ true → (is_variables t ≡ false) × (grade t ≡ 0) × (is_item t ≡ false)) → (c : Code) → Each (Sorted is_sort c) (Sorted is_sort (unplaced c))
+  pub sorted : (is_sort : Tree → Bool) → ((l : Leaves) (m : Mode) (t : Tree) → is_sort (redo l m t) ≡ is_sort t) → ((t : Tree) → is_sort t ≡ true → (is_variables t ≡ false) × (is_item t ≡ false)) → (c : Code) → Each (Sorted is_sort c) (Sorted is_sort (unplaced c))
   sorted is_sort re nv c t f ts0 r0 h k b ts K q =
-      let z = f c (λ i. absurd (none_so (grade t) i (nv t h.0).1)) ts0 r0 h.1 k b ts K (subst (λ (v : Bool). says (both (laid look Alone t) (when v semi)) b ts K) (sym (nv t h.0).0) q) in record {
+      let z = f c ts0 r0 h.1 k b ts K (subst (λ (v : Bool). says (both (laid look Alone t) (when v semi)) b ts K) (sym (nv t h.0).0) q) in record {
         d = z.d;
         m = z.m;
         more = z.more;
         known = z.known;
         begins = z.begins;
         broke = z.broke;
-        tight = λ i. absurd (no_grade t (nv t h.0).1 i);
-        again = λ g. let w = z.again (record { quiet = λ e. g; other = λ i. absurd (true≢false (sym i ∙ (nv t h.0).2)) }) in (w.tree, (alike is_sort re (leaves_of look) Plain t w.tree w.same ∙ h.0, w.spelled), w.same);
+        tight = λ i. z.tight (tight_of t i);
+        again = λ g. let w = z.again (record { quiet = λ e. g; other = λ i. absurd (true≢false (sym i ∙ (nv t h.0).1)) }) in (w.tree, (alike is_sort re (leaves_of look) Plain t w.tree w.same ∙ h.0, w.spelled), w.same);
       }
 
   -- expressions of a level

@@ -7,6 +7,7 @@ use Rattle.ecma_syntax.specs.Input.{Code, Input, assigning, brk, unplaced}
 use Rattle.ecma_syntax.specs.Shape.{is_bound_name, is_private, is_use_strict, is_word_name, level}
 use Rattle.ecma_grammar.specs.Grammar.{Spells}
 use Rattle.ecma_grammar.specs.Parts.{Expr, is_ident, part}
+use Rattle.ecma_grammar_complete_base.proofs.Trees.{begins}
 use Rattle.ecma_layout.specs.Layout.{is_variables, laid}
 use Rattle.ecma_layout.specs.Looks.{Laid, both, semi, when, ◌·◌}
 use Rattle.ecma_layout.specs.declared.look.Look.{Look}
@@ -17,7 +18,7 @@ use Rattle.ecma_written.specs.Means.{Known}
 use Rattle.ecma_written.specs.Told.{says}
 use Rattle.ecma_redone.specs.Redo.{Headed, Mode, Same}
 use Rattle.ecma_redone.specs.Written.{leaves_of, mode_of}
-use Rattle.ecma_redone_base.proofs.Begins.{Begins, Starts, begun, grade, is_loose, is_weak, no_variables, strong}
+use Rattle.ecma_redone_base.proofs.Begins.{Begins, Starts, begun, is_loose, is_weak, no_variables, strong}
 use Rattle.ecma_redone_base.proofs.Follow.{Follow}
 use Rattle.ecma_redone_base.proofs.Levels.{level_head, level_low}
 
@@ -59,9 +60,9 @@ pub record Out (look : Look) (s : Stand) (t : Tree) (c : Code) (ts0 r0 : Input) 
   -- where what follows lets it, they are derived again
   pub again : Follow s t r0 m → Again look (mode_of s) t c ts m
 
--- Whatever a tree spells in a code, what the layout of it says is derived in this code again. In a pattern that binds (14.3.3) this is asked of no expression.
+-- Whatever a tree spells in a code, what the layout of it says is derived in this code again.
 abbrev pub Sound : Look → Stand → Tree → Type 1
-Sound look s t = (c : Code) → (1 ≤ grade t → (c.binds ≡ false) × (is_weak t ≡ false)) → (ts0 r0 : Input) → Spells t c ts0 r0 → Known ts0.places → (b : Gap) (ts : Input) (K : Gap → Input → Type 0) → says (full look s t) b ts K → Out look s t c ts0 r0 b ts K
+Sound look s t = (c : Code) → (ts0 r0 : Input) → Spells t c ts0 r0 → Known ts0.places → (b : Gap) (ts : Input) (K : Gap → Input → Type 0) → says (full look s t) b ts K → Out look s t c ts0 r0 b ts K
 
 abbrev pub AllSound : Look → Trees → Type 1
 AllSound look none = Unit {1}
@@ -70,13 +71,13 @@ AllSound look (more t ts) = Sound look Alone t × AllSound look ts
 module _ (look : Look) where
   -- ---- parts of a production
 
-  pub plain_part : (s : Stand) (e : Tree) → Sound look s e → is_variables e ≡ false → (c : Code) → (1 ≤ grade e → (c.binds ≡ false) × (is_weak e ≡ false)) → (ts0 r0 : Input) → Spells e c ts0 r0 → Known ts0.places
+  pub plain_part : (s : Stand) (e : Tree) → Sound look s e → is_variables e ≡ false → (c : Code) → (ts0 r0 : Input) → Spells e c ts0 r0 → Known ts0.places
       → (b : Gap) (ts : Input) (K : Gap → Input → Type 0) → says (laid look s e) b ts K → Out look s e c ts0 r0 b ts K
-  plain_part s e f n c o ts0 r0 h k b ts K q = f c o ts0 r0 h k b ts K (subst (λ (v : Bool). says (both (laid look s e) (when v semi)) b ts K) (sym n) q)
+  plain_part s e f n c ts0 r0 h k b ts K q = f c ts0 r0 h k b ts K (subst (λ (v : Bool). says (both (laid look s e) (when v semi)) b ts K) (sym n) q)
 
   pub expr : (l : ℕ) (s : Stand) (e : Tree) → Sound look s e → 1 ≤ l → (c : Code) (ts0 r0 : Input) → Expr l c (part e (λ y. Spells e y)) ts0 r0 → Known ts0.places
       → (b : Gap) (ts : Input) (K : Gap → Input → Type 0) → says (laid look s e) b ts K → Out look s e (assigning c) ts0 r0 b ts K
-  expr l s e f n c ts0 r0 h k b ts K q = f (assigning c) (λ z. (refl, strong e (omega (arith, n, h.0)))) ts0 r0 h.1 k b ts K
+  expr l s e f n c ts0 r0 h k b ts K q = f (assigning c) ts0 r0 h.1 k b ts K
       (subst (λ (v : Bool). says (both (laid look s e) (when v semi)) b ts K) (sym (no_variables e (omega (arith, n, h.0)))) q)
 
   pub expr_begins : (s : Stand) (e : Tree) (c : Code) (ts0 r0 : Input) (b : Gap) (ts : Input) (K : Gap → Input → Type 0) → 1 ≤ level e → (o : Out look s e c ts0 r0 b ts K) → Begins (is_loose e) ts0 r0 ts o.m

@@ -2,6 +2,7 @@
 use Rattle.std.proofs.Common.{Bool, ap₂, arith, false, nat_le, not, refl, sym, true, true≢false, ℕ, ◌&&◌, ◌==◌, ◌||◌, ◌∙◌, ◌≡◌}
 use Rattle.std.proofs.lemmas.Bool.{and_parts, leb-true, ne_eqb}
 use Rattle.ecma_token.specs.Kinds.{assign_kind, back_quote_kind, dot_kind, else_kind, function_kind, left_bracket_kind, left_paren_kind, nullish_assign_kind, question_mark_kind}
+use Rattle.ecma_token.specs.Tokens.{after}
 use Rattle.ecma_token.specs.declared.place.Span.{Span}
 use Rattle.ecma_tree.specs.Places.{no_place}
 use Rattle.ecma_tree.specs.Tree.{Tree, array_pat, assign_expr, binding_ident, member_expr, more, object_pat, paren_expr, super_prop_expr}
@@ -51,9 +52,9 @@ target_plain op _ h = absurd (and_off (op == assign_kind) h)
 
 module _ (look : Look) (x : Lexicon look.style) where
   pub assign_on : (s : Span) (op : ℕ) (a b : Tree) → Sound look Alone a → Sound look Alone b → (st : Stand) → Sound look st (assign_expr s op a b)
-  assign_on s op a b f g st c ok ts0 r0 h k br ts K q =
+  assign_on s op a b f g st c ts0 r0 h k br ts K q =
       let t = target_plain op a h.3 in
-      let y = plain_part look Alone a f t.0 (assigning c) (λ i. (refl, t.1)) ts0 h.0 h.4 k br ts _ q in
+      let y = plain_part look Alone a f t.0 (assigning c) ts0 h.0 h.4 k br ts _ q in
       let i = skip (formats look) _ _ _ y.more in
       let p = x.operators op _ _ _ i.1.means in
       let j = skip (formats look) _ _ _ i.2 in

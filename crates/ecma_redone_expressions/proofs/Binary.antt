@@ -2,10 +2,11 @@
 use Rattle.std.proofs.Common.{Bool, ap₂, arith, cond, false, inl, inr, leb, not, refl, subst, sym, true, true≢false, ℕ, ⊎_elim, ◌&&◌, ◌==◌, ◌||◌, ◌∙◌, ◌≡◌, ◌≤◌, ◌⊎◌}
 use Rattle.std.proofs.lemmas.Bool.{cases_Bool, eq-eqb, eqb-true, le-leb, leb-true, lt-leb, or_cases, or_left, or_right}
 use Rattle.ecma_token.specs.Kinds.{back_quote_kind, dot_kind, else_kind, exp_kind, function_kind, in_kind, left_bracket_kind, left_paren_kind, nullish_coalescing_kind, question_mark_kind}
+use Rattle.ecma_token.specs.Tokens.{after}
 use Rattle.ecma_token.specs.declared.place.Span.{Span}
 use Rattle.ecma_tree.specs.Places.{no_place}
 use Rattle.ecma_tree.specs.Tree.{Tree, bin_expr, more, private_name}
-use Rattle.ecma_syntax.specs.Input.{escaped, kind, lo, span}
+use Rattle.ecma_syntax.specs.Input.{assigning, escaped, kind, lo, span}
 use Rattle.ecma_syntax.specs.Operators.{binary_level, right_level}
 use Rattle.ecma_syntax.specs.Shape.{fits_left, is_private, level}
 use Rattle.ecma_grammar_complete_base.proofs.Levels.{binary_low, fits, not_binary, operated, right_five, right_most}
@@ -81,10 +82,10 @@ fits_again op a u e f g h = subst (λ (p : Bool). cond p (op == in_kind) (cond (
 
 module _ (look : Look) (x : Lexicon look.style) where
   pub binary_on : (s : Span) (op : ℕ) (a b : Tree) → Sound look Operand a → Sound look Alone b → (st : Stand) → Sound look st (bin_expr s op a b)
-  binary_on s op a b f g st c ok ts0 r0 h k br ts K q =
+  binary_on s op a b f g st c ts0 r0 h k br ts K q =
       let o = operated c op h.2 in
       let i = skip_mark (marked_as_operand st) s.lo _ _ _ q in
-      let y = plain_part look Operand a f (left_plain op a o h.3) c (λ i. ((ok (omega (arith, o))).0, left_strong op a o h.3)) ts0 h.0 h.4 k br ts _ i in
+      let y = plain_part look Operand a f (left_plain op a o h.3) (assigning c) ts0 h.0 h.4 k br ts _ i in
       let j = skip (gap_before op a || formats look) _ _ _ y.more in
       let p = x.operators op _ _ _ j.1.means in
       let z = expr look (right_level op) Alone b g (right_some op o) c h.1 r0 h.6 (x.later h.0 h.1 h.5.3 y.known) _ j.0 K (skip (gap_after op b || formats look) _ _ _ j.2) in record {

@@ -22,7 +22,7 @@ use Rattle.ecma_written.specs.Means.{Known}
 use Rattle.ecma_written.specs.Told.{says}
 use Rattle.ecma_redone.specs.Redo.{AllSame, Headed, Leaves, Mode, Plain, kept, redo, redos}
 use Rattle.ecma_redone.specs.Written.{leaves_of}
-use Rattle.ecma_redone_base.proofs.Begins.{before, firm, grade, led}
+use Rattle.ecma_redone_base.proofs.Begins.{before, firm, led}
 use Rattle.ecma_redone_base.proofs.Ends.{above}
 use Rattle.ecma_redone_base.proofs.Follow.{closed_calm}
 use Rattle.ecma_redone_base.proofs.Lists.{Gone, comma_on, listed, more_same, none_same, sorted}
@@ -31,8 +31,8 @@ use Rattle.ecma_redone_base.proofs.Sound.{AllSound, Out, Sound, expr, expr_begin
 use Rattle.ecma_redone_base.proofs.Tokens.{keyed, marked, took, worded}
 use Rattle.ecma_redone_expressions.proofs.Heads.{at_least_new, follow_head, no_seven, over_call}
 
-pub element_plain : (t : Tree) → is_element t ≡ true → (is_variables t ≡ false) × (grade t ≡ 0) × (is_item t ≡ false)
-element_plain (expr_or_spread s d e) h = (refl, refl, refl)
+pub element_plain : (t : Tree) → is_element t ≡ true → (is_variables t ≡ false) × (is_item t ≡ false)
+element_plain (expr_or_spread s d e) h = (refl, refl)
 element_plain _ h = absurd (true≢false (sym h))
 
 as_call : (s : Span) (f : Tree) (xs : Trees) (c : Code) (ts r : Input) → Call c s (part f (λ y. Spells f y)) (parts xs) ts r → Spells (call_expr s f xs) c ts r
@@ -105,7 +105,7 @@ module _ (look : Look) (x : Lexicon look.style) where
       record { m = o.0; more = o.2; known = z.known; lead = marked look x left_paren_kind q.1; again = (w.0, (q.0, took look x c left_paren_kind q.1, w.1), w.2) }
 
   pub super_call : (s t : Span) (xs : Trees) → AllSound look xs → (st : Stand) → Sound look st (call_expr s (super t) xs)
-  super_call s t xs a st c ok ts0 r0 h k b ts K q =
+  super_call s t xs a st c ts0 r0 h k b ts K q =
       let z = passed_on xs a c h.0 r0 h.3 (x.later ts0 h.0 h.1.3 k) Touching q.0 K q.2 in record {
         d = Touching;
         m = z.m;
@@ -191,7 +191,7 @@ module _ (look : Look) (x : Lexicon look.style) where
       absurd (subst (λ (v : Bool). By v ((is_at_most_one (parts (more u us)) ≡ true) × ArgumentList c (parts (more t (more u us))) ts0 r0) (⊥ × (m : Input) × Sorted is_element c (part t (λ y. Spells t y)) ts0 m × Takes c right_paren_kind m r0)) e h.1).0
 
   pub import_call : (s t : Span) (xs : Trees) → AllSound look xs → (st : Stand) → Sound look st (call_expr s (import t) xs)
-  import_call s t xs a st c ok ts0 r0 h k b ts K q =
+  import_call s t xs a st c ts0 r0 h k b ts K q =
       let p = q.2 in
       let z = imported_on c.syntax.import_attributes xs a c refl h.1 r0 h.5 (x.later h.0 h.1 h.4.2 (x.later ts0 h.0 h.2.3 k)) Touching p.0 K p.2 in record {
         d = Touching;

@@ -35,7 +35,7 @@ use Rattle.ecma_redone_base.proofs.Sound.{AllSound, Out, Sound, expr, expr_begin
 use Rattle.ecma_redone_base.proofs.Tokens.{marked, took}
 use Rattle.ecma_redone_expressions.proofs.Calls.{passed_on}
 use Rattle.ecma_redone_expressions.proofs.Heads.{at_least_new, follow_chain, no_seven, over_call}
-use Rattle.ecma_redone_expressions.proofs.Members.{Accessed, BracketsAgain, DotsAgain, bracketed_on, dotted_on, is_number, named_flat, named_no_item, named_plain, named_still, named_tight, object, object_on, pointed_same, re_named}
+use Rattle.ecma_redone_expressions.proofs.Members.{Accessed, BracketsAgain, DotsAgain, bracketed_on, dotted_on, is_number, named_no_item, named_plain, named_still, named_tight, object, object_on, pointed_same, re_named}
 
 question_function : question_mark_kind ≡ function_kind → ⊥
 question_function e = omega arith
@@ -51,7 +51,7 @@ as_named s t o _ q c ts r e h = absurd (true≢false (sym e))
 
 module _ (look : Look) (x : Lexicon look.style) where
   pub private_on : (s : Span) (n : List ℕ) (st : Stand) → Sound look st (private_name s n)
-  private_on s n st c ok ts0 r0 h k b ts K q =
+  private_on s n st c ts0 r0 h k b ts K q =
       let i = q.2 in
       let z = x.names h.0 _ _ _ (x.later ts0 h.0 h.1.2 k) h.3.0 (subst (λ (w : List ℕ). Means Div (name_bytes look.style w) (kind q.0) (content q.0) (escaped q.0)) (sym h.3.1) i.1.means) in record {
         d = Touching;
@@ -117,7 +117,7 @@ module _ (look : Look) (x : Lexicon look.style) where
 
   named_on : (k : Tree) → Sound look Alone k → (c : Code) (ts0 r0 : Input) → AccessedName true c (part k (λ y. Spells k y)) ts0 r0 → Known ts0.places → (b : Gap) (ts : Input) (K : Gap → Input → Type 0) → says (laid look Alone k) b ts K → Taken k (NamedAgain c) r0 ts K
   named_on k f c ts0 r0 h l b ts K q =
-      let y = plain_part look Alone k f (named_plain k h.0) c (λ i. absurd (named_flat k h.0 i)) ts0 r0 h.1 l b ts K q in record {
+      let y = plain_part look Alone k f (named_plain k h.0) c ts0 r0 h.1 l b ts K q in record {
         d = y.d;
         m = y.m;
         more = y.more;
@@ -155,7 +155,7 @@ module _ (look : Look) (x : Lexicon look.style) where
       }
 
   pub asked_square : (s t : Span) (o : Tree) (p : Span) (e : Tree) → Sound look Head o → Sound look Alone e → (st : Stand) → Sound look st (opt_chain_expr s true (member_expr t o (computed_prop_name p e)))
-  asked_square s t o p e f g st c ok ts0 r0 h l b ts K q =
+  asked_square s t o p e f g st c ts0 r0 h l b ts K q =
       asked_on s t o (computed_prop_name p e) f c (λ m n. Bracketed expression_level c p (part e (λ y. Spells e y)) m n) (SquareAgain c) (λ m0 r a l d m K q. square_on p e g c m0 r a l d m K q)
       (λ p u v ts m n r e o a i. as_square p u v c ts m n r e o a i) st ts0 h.0 h.1 r0 h.2 h.3 h.4 l b ts K q
     where
@@ -166,7 +166,7 @@ module _ (look : Look) (x : Lexicon look.style) where
   -- ---- calls with `?.`
 
   pub asked_call : (s t : Span) (e : Tree) (xs : Trees) → Sound look Head e → AllSound look xs → (st : Stand) → Sound look st (opt_chain_expr s true (opt_call t e xs))
-  asked_call s t e xs f a st c ok ts0 r0 h l b ts K q =
+  asked_call s t e xs f a st c ts0 r0 h l b ts K q =
       let y = expr look call_level Head e f (omega arith) c ts0 h.0 h.2 l b ts _ q in
       let i = y.more in let j = i.2 in
       let z = passed_on look x xs a c h.1 r0 h.4 (x.later h.3.0 h.1 h.3.2.2 (x.later h.0 h.3.0 h.3.1.2 y.known)) Touching j.0 K j.2 in
@@ -197,11 +197,11 @@ module _ (look : Look) (x : Lexicon look.style) where
     known : Known r0.places
     broke : brk ts ≡ is_broken b
     begins : Begins false ts0 r0 ts m
-    again : (kind m ≡ else_kind → ⊥) → (u : Tree) × (is_chain u ≡ true) × Spells u (unplaced c) ts m × Same (leaves_of look) Headed o u
+    again : (kind m ≡ else_kind → ⊥) → (u : Tree) × (is_chain u ≡ true) × Spells u (unplaced (assigning c)) ts m × Same (leaves_of look) Headed o u
 
-  chain_on : (o : Tree) → Sound look Head o → is_chain o ≡ true → (c : Code) → c.binds ≡ false → (ts0 r0 : Input) → Spells o c ts0 r0 → Known ts0.places → (b : Gap) (ts : Input) (K : Gap → Input → Type 0) → says (laid look Head o) b ts K → Headed_chain o c ts0 r0 b ts K
-  chain_on (opt_chain_expr s q e) f i c n ts0 r0 h l b ts K p =
-      let y = plain_part look Head (opt_chain_expr s q e) f refl c (λ g. (n, refl)) ts0 r0 h l b ts K p in record {
+  chain_on : (o : Tree) → Sound look Head o → is_chain o ≡ true → (c : Code) (ts0 r0 : Input) → Spells o (assigning c) ts0 r0 → Known ts0.places → (b : Gap) (ts : Input) (K : Gap → Input → Type 0) → says (laid look Head o) b ts K → Headed_chain o c ts0 r0 b ts K
+  chain_on (opt_chain_expr s q e) f i c ts0 r0 h l b ts K p =
+      let y = plain_part look Head (opt_chain_expr s q e) f refl (assigning c) ts0 r0 h l b ts K p in record {
         d = y.d;
         m = y.m;
         more = y.more;
@@ -210,7 +210,7 @@ module _ (look : Look) (x : Lexicon look.style) where
         begins = y.begins;
         again = λ g. let w = y.again (follow_chain (opt_chain_expr s q e) r0 y.m (omega arith) g) in (w.tree, alike is_chain re_is_chain (leaves_of look) Headed (opt_chain_expr s q e) w.tree w.same, w.spelled, w.same);
       }
-  chain_on _ f i c n ts0 r0 h l b ts K p = absurd (true≢false (sym i))
+  chain_on _ f i c ts0 r0 h l b ts K p = absurd (true≢false (sym i))
 
   chain_no_number : (o : Tree) → is_chain o ≡ true → is_number o ≡ false
   chain_no_number (number_lit at v w) i = absurd (true≢false (sym i))
@@ -227,11 +227,11 @@ module _ (look : Look) (x : Lexicon look.style) where
 
   on_chain : (s t : Span) (o k : Tree) → Sound look Head o → (c : Code) (A : Input → Input → Type 0) (B : Tree → Input → Input → Type 0)
       → ((m0 r0 : Input) → A m0 r0 → Known m0.places → (b : Gap) (m : Input) (K : Gap → Input → Type 0) → says (point_before k · laid look Alone k · end s) b m K → Accessed look x k B m0 r0 b m K)
-      → ((p : Span) (u v : Tree) (ts m r : Input) → is_chain u ≡ true → Spells u (unplaced c) ts m → B v m r → Spans p ts r → Spells (opt_chain_expr p false (member_expr p u v)) (unplaced c) ts r)
-      → c.binds ≡ false → (st : Stand) (ts0 m0 r0 : Input) → is_chain o ≡ true → Spells o c ts0 m0 → A m0 r0 → Known ts0.places → (b : Gap) (ts : Input) (K : Gap → Input → Type 0)
+      → ((p : Span) (u v : Tree) (ts m r : Input) → is_chain u ≡ true → Spells u (unplaced (assigning c)) ts m → B v m r → Spans p ts r → Spells (opt_chain_expr p false (member_expr p u v)) (unplaced c) ts r)
+      → (st : Stand) (ts0 m0 r0 : Input) → is_chain o ≡ true → Spells o (assigning c) ts0 m0 → A m0 r0 → Known ts0.places → (b : Gap) (ts : Input) (K : Gap → Input → Type 0)
       → says (full look st (opt_chain_expr s false (member_expr t o k))) b ts K → Out look st (opt_chain_expr s false (member_expr t o k)) c ts0 r0 b ts K
-  on_chain s t o k f c A B g j n st ts0 m0 r0 i e a l b ts K q =
-      let y = chain_on o f i c n ts0 m0 e l b ts (λ d m. says (point_before k · laid look Alone k · end s) d m K) (chain_laid o k s t st i b ts K q) in
+  on_chain s t o k f c A B g j st ts0 m0 r0 i e a l b ts K q =
+      let y = chain_on o f i c ts0 m0 e l b ts (λ d m. says (point_before k · laid look Alone k · end s) d m K) (chain_laid o k s t st i b ts K q) in
       let z = g m0 r0 a y.known y.d y.m K y.more in record {
         d = z.d;
         m = z.m;
@@ -249,24 +249,24 @@ module _ (look : Look) (x : Lexicon look.style) where
         };
       }
 
-  pub chain_named : (s t : Span) (o k : Tree) → Sound look Head o → Sound look Alone k → (st : Stand) (c : Code) → c.binds ≡ false → (ts0 r0 : Input) → ChainMember c s false t (part o (λ y. Spells o y)) (λ m n. Dotted true c (part k (λ y. Spells k y)) m n) (λ m n. AccessedName true c (part k (λ y. Spells k y)) m n) ts0 r0
+  pub chain_named : (s t : Span) (o k : Tree) → Sound look Head o → Sound look Alone k → (st : Stand) (c : Code) (ts0 r0 : Input) → ChainMember c s false t (part o (λ y. Spells o y)) (λ m n. Dotted true c (part k (λ y. Spells k y)) m n) (λ m n. AccessedName true c (part k (λ y. Spells k y)) m n) ts0 r0
       → Known ts0.places → (b : Gap) (ts : Input) (K : Gap → Input → Type 0) → says (full look st (opt_chain_expr s false (member_expr t o k))) b ts K → Out look st (opt_chain_expr s false (member_expr t o k)) c ts0 r0 b ts K
-  chain_named s t o k f g st c n ts0 r0 h l b ts K q =
+  chain_named s t o k f g st c ts0 r0 h l b ts K q =
       on_chain s t o k f c (λ m n. Dotted true c (part k (λ y. Spells k y)) m n) (DotsAgain look x c) (λ m0 r a l b m K q. dotted_on look x k g s c m0 r a l b m K q)
-      (λ p u v ts m r e d a i. as_named p p u v false (unplaced c) ts r a.0 (m, e, d, a.1, i, i)) n st ts0 h.0 r0 h.1 h.2 h.3 l b ts K q
+      (λ p u v ts m r e d a i. as_named p p u v false (unplaced c) ts r a.0 (m, e, d, a.1, i, i)) st ts0 h.0 r0 h.1 h.2 h.3 l b ts K q
 
   pub chain_square : (s t : Span) (o : Tree) (p : Span) (e : Tree) → Sound look Head o → Sound look Alone e → (st : Stand) → Sound look st (opt_chain_expr s false (member_expr t o (computed_prop_name p e)))
-  chain_square s t o p e f g st c ok ts0 r0 h l b ts K q =
+  chain_square s t o p e f g st c ts0 r0 h l b ts K q =
       on_chain s t o (computed_prop_name p e) f c (λ m n. Bracketed expression_level c p (part e (λ y. Spells e y)) m n) (BracketsAgain look x c) (λ m0 r a l b m K q. bracketed_on look x p e g s c m0 r a l b m K q)
-      (λ p u v ts m r i d a n. as_square p u v ts m r i d a n) (ok (omega arith)).0 st ts0 h.0 r0 h.1 h.2 h.3 l b ts K q
+      (λ p u v ts m r i d a n. as_square p u v ts m r i d a n) st ts0 h.0 r0 h.1 h.2 h.3 l b ts K q
     where
-      as_square : (p : Span) (u v : Tree) (ts m r : Input) → is_chain u ≡ true → Spells u (unplaced c) ts m → BracketsAgain look x c v m r → Spans p ts r → Spells (opt_chain_expr p false (member_expr p u v)) (unplaced c) ts r
+      as_square : (p : Span) (u v : Tree) (ts m r : Input) → is_chain u ≡ true → Spells u (unplaced (assigning c)) ts m → BracketsAgain look x c v m r → Spans p ts r → Spells (opt_chain_expr p false (member_expr p u v)) (unplaced c) ts r
       as_square p u (computed_prop_name t e) ts m r i d a n = (m, i, d, a, n, n)
       as_square p u _ ts m r i d a n = absurd a
 
   pub chain_call : (s t : Span) (e : Tree) (xs : Trees) → Sound look Head e → AllSound look xs → (st : Stand) → Sound look st (opt_chain_expr s false (opt_call t e xs))
-  chain_call s t e xs f a st c ok ts0 r0 h l b ts K q =
-      let y = chain_on e f h.1 c (ok (omega arith)).0 ts0 h.0 h.2 l b ts _ q in
+  chain_call s t e xs f a st c ts0 r0 h l b ts K q =
+      let y = chain_on e f h.1 c ts0 h.0 h.2 l b ts _ q in
       let z = passed_on look x xs a c h.0 r0 h.3 y.known y.d y.m K y.more in record {
         d = Touching;
         m = z.m;

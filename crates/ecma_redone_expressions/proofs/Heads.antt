@@ -1,9 +1,9 @@
 -- What stands at the head of a call, a member or `new`, and what may follow it there (13.3).
-use Rattle.std.proofs.Common.{Bool, ap, arith, false, inl, inr, leb, not, refl, sym, true, true≢false, ℕ, ◌&&◌, ◌≡◌, ◌≤◌, ◌⊎◌}
+use Rattle.std.proofs.Common.{Bool, arith, false, inl, inr, leb, not, refl, sym, true, true≢false, ℕ, ◌&&◌, ◌≡◌, ◌≤◌, ◌⊎◌}
 use Rattle.std.proofs.lemmas.Bool.{le-leb}
 use Rattle.ecma_token.specs.Kinds.{dot_kind, else_kind, function_kind, left_bracket_kind, left_paren_kind}
 use Rattle.ecma_tree.specs.Tree.{Tree}
-use Rattle.ecma_syntax.specs.Input.{Code, Input, assigning, kind, unplaced}
+use Rattle.ecma_syntax.specs.Input.{Input, kind}
 use Rattle.ecma_syntax.specs.Operators.{call_level}
 use Rattle.ecma_syntax.specs.Shape.{level}
 use Rattle.ecma_layout.specs.Layout.{is_head as is_head_stand}
@@ -58,9 +58,3 @@ leads_on ts (inr e) = (λ i. omega (arith, e, i), λ i. omega (arith, e, i))
 
 pub no_seven : left_paren_kind ≡ function_kind → ⊥
 no_seven e = omega arith
-
-pub bound : (c : Code) → c.binds ≡ false → assigning c ≡ c
-bound c e = ap (λ (b : Bool). record c { binds = b }) (sym e)
-
-pub bound_code : (c : Code) → c.binds ≡ false → unplaced (assigning c) ≡ unplaced c
-bound_code c e = ap unplaced (bound c e)

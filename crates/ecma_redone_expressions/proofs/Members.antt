@@ -1,5 +1,5 @@
 -- Members derived again (13.3.2, 13.3.7).
-use Rattle.std.proofs.Common.{Bool, List, Option, Some, ap, ap₂, arith, codes, false, if◌then◌else◌, inl, inr, not, refl, subst, sym, true, true≢false, ℕ, ◌&&◌, ◌||◌, ◌∙◌, ◌≡◌, ◌≤◌}
+use Rattle.std.proofs.Common.{Bool, List, Option, Some, ap, ap₂, arith, codes, false, if◌then◌else◌, inl, inr, not, refl, subst, sym, true, true≢false, ℕ, ◌&&◌, ◌||◌, ◌∙◌, ◌≡◌}
 use Rattle.ecma_number.specs.Numbers.{SpecNumber}
 use Rattle.ecma_token.specs.Kinds.{dot_kind, else_kind, function_kind, left_bracket_kind, num_kind, right_bracket_kind, super_kind}
 use Rattle.ecma_token.specs.Tokens.{Numeral, after}
@@ -27,7 +27,7 @@ use Rattle.ecma_written.specs.Means.{Known, Means}
 use Rattle.ecma_written.specs.Told.{says}
 use Rattle.ecma_redone.specs.Redo.{Headed, Leaves, Mode, Plain, Pointed, Same, is_head, object_mode, redo}
 use Rattle.ecma_redone.specs.Written.{leaves_of, mode_of}
-use Rattle.ecma_redone_base.proofs.Begins.{Begins, before, firm, grade, is_loose, led, tighten}
+use Rattle.ecma_redone_base.proofs.Begins.{Begins, before, firm, is_loose, led, tighten}
 use Rattle.ecma_redone_base.proofs.Ends.{above}
 use Rattle.ecma_redone_base.proofs.Follow.{Follow, follow_by, needs_calm}
 use Rattle.ecma_redone_base.proofs.Levels.{level_head}
@@ -85,11 +85,6 @@ pub named_still : (k : Tree) → (is_word_name k || (true && is_private k)) ≡ 
 named_still (ident_name t n) h z = true≢false (sym z)
 named_still (private_name t n) h z = true≢false (sym z)
 named_still _ h z = true≢false (sym h)
-
-pub named_flat : (k : Tree) → (is_word_name k || (true && is_private k)) ≡ true → 1 ≤ grade k → ⊥
-named_flat (ident_name t n) h z = omega arith
-named_flat (private_name t n) h z = omega arith
-named_flat _ h z = true≢false (sym h)
 
 pub named_no_item : (k : Tree) → (is_word_name k || (true && is_private k)) ≡ true → is_item k ≡ true → ⊥
 named_no_item (ident_name t n) h z = true≢false (sym z)
@@ -182,7 +177,7 @@ module _ (look : Look) (x : Lexicon look.style) where
     pub again : (u : Tree) × A u ts m × Same (leaves_of look) Plain k u
 
   pub word_name_on : (s : Span) (n : List ℕ) → Sound look Alone (ident_name s n)
-  word_name_on s n c ok ts0 r0 h k b ts K q =
+  word_name_on s n c ts0 r0 h k b ts K q =
       let z = x.names ts0 _ _ _ k h.0.0 (subst (λ (w : List ℕ). Means Div (name_bytes look.style w) (kind ts) (content ts) (escaped ts)) (sym h.0.1) q.1.means) in record {
         d = Touching;
         m = q.0;
@@ -202,7 +197,7 @@ module _ (look : Look) (x : Lexicon look.style) where
   dotted_on k f s c ts0 r0 h l b ts K q = go (subst (λ (v : Bool). says (when (not v) (text (codes ".")) · laid look Alone k · end s) b ts K) (named_no_computed k h.2.0) q)
     where
       go : says (text (codes ".") · laid look Alone k · end s) b ts K → Accessed k (DotsAgain c) ts0 r0 b ts K
-      go p = let y = plain_part look Alone k f (named_plain k h.2.0) c (λ i. absurd (named_flat k h.2.0 i)) h.0 r0 h.2.1 (x.later ts0 h.0 h.1.2 l) _ p.0 _ p.2 in record {
+      go p = let y = plain_part look Alone k f (named_plain k h.2.0) c h.0 r0 h.2.1 (x.later ts0 h.0 h.1.2 l) _ p.0 _ p.2 in record {
         d = y.d;
         m = y.m;
         more = y.more;
@@ -303,7 +298,7 @@ module _ (look : Look) (x : Lexicon look.style) where
       }
 
   pub super_named : (s t u : Span) (n : List ℕ) (st : Stand) → Sound look st (super_prop_expr s (super t) (ident_name u n))
-  super_named s t u n st c ok ts0 r0 h l b ts K q =
+  super_named s t u n st c ts0 r0 h l b ts K q =
       super_on s t (ident_name u n) c (λ m r. Dotted true c (part (ident_name u n) (λ y. Spells (ident_name u n) y)) m r) (DotsAgain c) (λ m0 r a l b m K q. dotted_on (ident_name u n) (word_name_on u n) s c m0 r a l b m K q)
       (λ p o v ts m r e w i a d. as_super p o v ts m r e w i a d) st ts0 r0 h l b ts K q
     where
@@ -312,7 +307,7 @@ module _ (look : Look) (x : Lexicon look.style) where
       as_super p o _ ts m r e w i a d = absurd (true≢false (sym e))
 
   pub super_computed : (s t u : Span) (e : Tree) → Sound look Alone e → (st : Stand) → Sound look st (super_prop_expr s (super t) (computed_prop_name u e))
-  super_computed s t u e f st c ok ts0 r0 h l b ts K q =
+  super_computed s t u e f st c ts0 r0 h l b ts K q =
       super_on s t (computed_prop_name u e) c (λ m r. Bracketed expression_level c u (part e (λ y. Spells e y)) m r) (BracketsAgain c) (λ m0 r a l b m K q. bracketed_on u e f s c m0 r a l b m K q)
       (λ p o v ts m r e w i a d. as_super p o v ts m r w i a d) st ts0 r0 h l b ts K q
     where

@@ -23,14 +23,14 @@ use Rattle.ecma_written.specs.Means.{Known}
 use Rattle.ecma_written.specs.Told.{says}
 use Rattle.ecma_redone.specs.Redo.{AllSame, Headed, Plain, is_head, redo, redos}
 use Rattle.ecma_redone.specs.Written.{given_none, leaves_of, mode_of, new_arguments}
-use Rattle.ecma_redone_base.proofs.Begins.{led, no_variables, strong}
+use Rattle.ecma_redone_base.proofs.Begins.{led, no_variables}
 use Rattle.ecma_redone_base.proofs.Follow.{low_goes, needs_calm}
 use Rattle.ecma_redone_base.proofs.Levels.{callee_level}
 use Rattle.ecma_redone_base.proofs.Lists.{none_same}
 use Rattle.ecma_redone_base.proofs.Sound.{AllSound, Out, Sound, full, plain_part, tight_of}
 use Rattle.ecma_redone_base.proofs.Tokens.{gapped, keyed, marked, skip, took, worded}
 use Rattle.ecma_redone_expressions.proofs.Calls.{arguments_on}
-use Rattle.ecma_redone_expressions.proofs.Heads.{bound, bound_code, follow_head, follow_none, head_mode}
+use Rattle.ecma_redone_expressions.proofs.Heads.{follow_head, follow_none, head_mode}
 
 abbrev is_args : Tree → Bool
 is_args absent = true
@@ -104,12 +104,12 @@ module _ (look : Look) (x : Lexicon look.style) where
       by false v e = refl
 
   -- `new` and its callee, and then arguments or none
-  new_on : (s : Span) (e a : Tree) → Sound look Head e → (st : Stand) (c : Code) → c.binds ≡ false → (ts0 m0 n0 r0 : Input) → TakesWord c new_kind ts0 m0 → Spells e (assigning c) m0 n0 → ((level e ≡ new_level) ⊎ (member_level ≤ level e)) → Known ts0.places
+  new_on : (s : Span) (e a : Tree) → Sound look Head e → (st : Stand) (c : Code) (ts0 m0 n0 r0 : Input) → TakesWord c new_kind ts0 m0 → Spells e (assigning c) m0 n0 → ((level e ≡ new_level) ⊎ (member_level ≤ level e)) → Known ts0.places
       → ((b : Gap) (ts : Input) (K : Gap → Input → Type 0) → Known n0.places → says (in_parens (laid look Alone a)) b ts K → Given a c r0 b ts K) → (asks st a ≡ false → Known n0.places → Known r0.places)
       → is_args a ≡ true
       → (b : Gap) (ts : Input) (K : Gap → Input → Type 0) → says (full look st (new_expr s e a)) b ts K → Out look st (new_expr s e a) c ts0 r0 b ts K
-  new_on s e a f st c o ts0 m0 n0 r0 t h v l g without p b ts K q =
-      let y = plain_part look Head e f (no_variables e (callee_there e v)) (assigning c) (λ i. (refl, strong e (callee_there e v))) m0 n0 h (x.later ts0 m0 t.3 l) _ q.0 _ (skip (starts_with_word e || formats look) _ _ _ q.2) in
+  new_on s e a f st c ts0 m0 n0 r0 t h v l g without p b ts K q =
+      let y = plain_part look Head e f (no_variables e (callee_there e v)) (assigning c) m0 n0 h (x.later ts0 m0 t.3 l) _ q.0 _ (skip (starts_with_word e || formats look) _ _ _ q.2) in
       by y (asks st a) refl y.more
     where
       by : (y : Out look Head e (assigning c) m0 n0 (gapped (starts_with_word e || formats look) Touching) q.0 (λ d m. says (when (asks st a) (in_parens (laid look Alone a))) d m K)) (j : Bool) → asks st a ≡ j → says (when j (in_parens (laid look Alone a))) y.d y.m K → Out look st (new_expr s e a) c ts0 r0 b ts K
@@ -139,7 +139,7 @@ module _ (look : Look) (x : Lexicon look.style) where
         begins = led ts0 r0 ts y.m new_kind t.0 (keyed look x new_kind q.1) refl;
         again = λ k. let w = y.again (follow_none e n0 y.m (callee_high e v)) in record {
           tree = new_expr (span (lo ts) y.m.last) w.tree absent;
-          spelled = (q.0, worded look x c new_kind q.1, inr (callee_level look e w.tree w.same v), subst (λ (d : Code). Spells w.tree d q.0 y.m) (bound_code c o) w.spelled, low_goes (unplaced c) other_end y.m (k.quiet (calm_asked st s e a i)), refl);
+          spelled = (q.0, worded look x c new_kind q.1, inr (callee_level look e w.tree w.same v), w.spelled, low_goes (unplaced c) other_end y.m (k.quiet (calm_asked st s e a i)), refl);
           directive = refl;
           quoted = λ p q. refl;
           same = record { so = λ n. ap₂ (λ (r w : Tree). new_expr no_place r w) (w.same.so Headed) (args_no st a p i) };
@@ -155,9 +155,9 @@ module _ (look : Look) (x : Lexicon look.style) where
       middle false = refl
 
   pub new_with : (s : Span) (e : Tree) (xs : Trees) → Sound look Head e → AllSound look xs → (st : Stand) → Sound look st (new_expr s e (list xs))
-  new_with s e xs f a st c ok ts0 r0 h l b ts K q =
-      new_on s e (list xs) f st c (ok (omega arith)).0 ts0 h.0 h.1 r0 h.2 h.3.1 (inr h.3.0) l (λ b ts K l q. given xs a c h.1 r0 h.4 l b ts K q) (λ e l. arguments_known c xs st h.1 r0 e h.4 l) refl b ts K q
+  new_with s e xs f a st c ts0 r0 h l b ts K q =
+      new_on s e (list xs) f st c ts0 h.0 h.1 r0 h.2 h.3.1 (inr h.3.0) l (λ b ts K l q. given xs a c h.1 r0 h.4 l b ts K q) (λ e l. arguments_known c xs st h.1 r0 e h.4 l) refl b ts K q
 
   pub new_bare : (s : Span) (e : Tree) → Sound look Head e → (st : Stand) → Sound look st (new_expr s e absent)
-  new_bare s e f st c ok ts0 r0 h l b ts K q =
-      new_on s e absent f st c (ok (omega arith)).0 ts0 h.0 r0 r0 h.1 (subst (λ (d : Code). Spells e d h.0 r0) (sym (bound c (ok (omega arith)).0)) h.3) h.2 l (λ b ts K l q. none_given c r0 l b ts K q) (λ e l. l) refl b ts K q
+  new_bare s e f st c ts0 r0 h l b ts K q =
+      new_on s e absent f st c ts0 h.0 r0 r0 h.1 h.3 h.2 l (λ b ts K l q. none_given c r0 l b ts K q) (λ e l. l) refl b ts K q

@@ -2,6 +2,7 @@
 use Rattle.std.proofs.Common.{Bool, ap, ap₂, arith, false, if◌then◌else◌, not, refl, subst, sym, true, true≢false, ℕ, ◌&&◌, ◌==◌, ◌||◌, ◌∙◌, ◌≡◌, ◌≤◌}
 use Rattle.std.proofs.lemmas.Bool.{ne_eqb, or_right}
 use Rattle.ecma_token.specs.Kinds.{await_kind, colon_kind, dot_kind, function_kind, question_mark_kind}
+use Rattle.ecma_token.specs.Tokens.{after}
 use Rattle.ecma_token.specs.declared.place.Span.{Span}
 use Rattle.ecma_tree.specs.Places.{no_place}
 use Rattle.ecma_tree.specs.Tree.{Tree, await_expr, cond_expr, more, unary_expr, update_expr}
@@ -47,7 +48,7 @@ module _ (look : Look) (x : Lexicon look.style) where
   unary_gap op a false b ts K i = (_, skip (gap_of_unary op a) b ts K i)
 
   pub unary_on : (s : Span) (op : ℕ) (a : Tree) → Sound look Alone a → (st : Stand) → Sound look st (unary_expr s op a)
-  unary_on s op a f st c ok ts0 r0 h k b ts K q =
+  unary_on s op a f st c ts0 r0 h k b ts K q =
       let o = x.signs op _ _ _ q.1.means in
       let y = expr look unary_level Alone a f (omega arith) c h.0 r0 h.3 (x.later ts0 h.0 h.2.3 k) _ q.0 K (unary_gap op a (is_word_operator op) Touching q.0 _ q.2).1 in record {
         d = y.d;
@@ -67,7 +68,7 @@ module _ (look : Look) (x : Lexicon look.style) where
       }
 
   pub update_on : (s : Span) (op : ℕ) (p : Bool) (a : Tree) → Sound look Alone a → (st : Stand) → Sound look st (update_expr s op p a)
-  update_on s op true a f st c ok ts0 r0 h k b ts K q =
+  update_on s op true a f st c ts0 r0 h k b ts K q =
       let o = x.signs op _ _ _ q.1.means in
       let y = expr look unary_level Alone a f (omega arith) c h.0 r0 h.3 (x.later ts0 h.0 h.2.2 k) _ q.0 K q.2 in record {
         d = y.d;
@@ -85,7 +86,7 @@ module _ (look : Look) (x : Lexicon look.style) where
           same = record { so = λ n. ap (λ (t : Tree). update_expr no_place op true t) (w.same.so Plain) };
         };
       }
-  update_on s op false a f st c ok ts0 r0 h k b ts K q =
+  update_on s op false a f st c ts0 r0 h k b ts K q =
       let n = above new_level (level a) (omega arith) h.2.0 in
       let y = expr look new_level Alone a f (omega arith) c ts0 h.0 h.2 k b ts _ q in
       let p = y.more in
@@ -107,7 +108,7 @@ module _ (look : Look) (x : Lexicon look.style) where
       }
 
   pub conditional_on : (s : Span) (a b d : Tree) → Sound look Alone a → Sound look Alone b → Sound look Alone d → (st : Stand) → Sound look st (cond_expr s a b d)
-  conditional_on s a b d f g j st c ok ts0 r0 h k br ts K q =
+  conditional_on s a b d f g j st c ts0 r0 h k br ts K q =
       let y = expr look coalesce_level Alone a f (omega arith) c ts0 h.0 h.4 k br ts _ q in
       let i = skip (formats look) _ _ _ y.more in
       let l = skip (formats look) _ _ _ i.2 in
@@ -146,7 +147,7 @@ module _ (look : Look) (x : Lexicon look.style) where
       no_point h e = true≢false (sym (ap begins (sym e) ∙ h))
 
   pub await_on : (s : Span) (a : Tree) → Sound look Alone a → (st : Stand) → Sound look st (await_expr s a)
-  await_on s a f st c ok ts0 r0 h k b ts K q =
+  await_on s a f st c ts0 r0 h k b ts K q =
       let n = above unary_level (level a) (omega arith) h.3.0 in
       let y = expr look unary_level Alone a f (omega arith) c h.0 r0 h.3 (x.later ts0 h.0 h.2.3 k) _ q.0 K q.2 in record {
         d = y.d;

@@ -31,7 +31,7 @@ use Rattle.ecma_redone_expressions.proofs.Heads.{never_pointed}
 
 module _ (look : Look) (x : Lexicon look.style) where
   pub name_on : (s : Span) (n : List ℕ) (st : Stand) → Sound look st (ident s n)
-  name_on s n st c ok ts0 r0 h k b ts K q =
+  name_on s n st c ts0 r0 h k b ts K q =
       let z = named look x c n ts0 r0 ts q.0 h.0 k q.1 in record {
         d = Touching;
         m = q.0;
@@ -44,7 +44,7 @@ module _ (look : Look) (x : Lexicon look.style) where
       }
 
   pub number_on : (s : Span) (v : SpecNumber) (w : Option (List ℕ)) (st : Stand) → Sound look st (number_lit s v w)
-  number_on s v w st c ok ts0 r0 h k b ts K q =
+  number_on s v w st c ts0 r0 h k b ts K q =
       let y = skip_mark (not (is_key_stand st)) s.lo b ts _ q in
       let z = x.numbers ts0 v h.0 _ _ _ k h.2 (subst (λ (o : Option (List ℕ)). Means Div (number_bytes look.style v o) (kind ts) (content ts) (escaped ts)) h.1 y.1.means) in record {
         d = Touching;
@@ -64,7 +64,7 @@ module _ (look : Look) (x : Lexicon look.style) where
       }
 
   pub string_on : (s : Span) (u : List ℕ) (w : Option (List ℕ)) (st : Stand) → Sound look st (str_lit s u w)
-  string_on s u w st c ok ts0 r0 h k b ts K q =
+  string_on s u w st c ts0 r0 h k b ts K q =
       let y = skip_mark (not (is_key_stand st)) s.lo b ts _ q in
       let z = x.strings ts0 u h.0 _ _ _ k h.2 (subst (λ (o : Option (List ℕ)). Means Div (string_bytes look.style u o) (kind ts) (content ts) (escaped ts)) h.1 y.1.means) in record {
         d = Touching;
@@ -84,7 +84,7 @@ module _ (look : Look) (x : Lexicon look.style) where
       }
 
   pub parens_on : (s : Span) (e : Tree) → Sound look Alone e → (st : Stand) → Sound look st (paren_expr s e)
-  parens_on s e f st c ok ts0 r0 h k b ts K q =
+  parens_on s e f st c ts0 r0 h k b ts K q =
       let y = expr look expression_level Alone e f (omega arith) (with_in c) h.0 h.1 h.3 (x.later ts0 h.0 h.2.2 k) _ q.0 _ q.2 in
       let z = y.more in record {
         d = Touching;
@@ -104,7 +104,7 @@ module _ (look : Look) (x : Lexicon look.style) where
       }
 
   pub big_on : (s : Span) (r : ℕ) (d : List ℕ) (w : Option (List ℕ)) (st : Stand) → Sound look st (big_int_lit s r d w)
-  big_on s r d w st c ok ts0 r0 h k b ts K q =
+  big_on s r d w st c ts0 r0 h k b ts K q =
       let y = skip_mark (not (is_key_stand st)) s.lo b ts _ q in
       let z = x.big_integers ts0 r d h.0 _ _ _ k h.2 (subst (λ (o : Option (List ℕ)). Means Div (big_bytes look.style r d o) (kind ts) (content ts) (escaped ts)) h.1 y.1.means) in record {
         d = Touching;
@@ -124,7 +124,7 @@ module _ (look : Look) (x : Lexicon look.style) where
       }
 
   pub regexp_on : (s : Span) (e f : List ℕ) (st : Stand) → Sound look st (regex_lit s e f)
-  regexp_on s e f st c ok ts0 r0 h k b ts K q =
+  regexp_on s e f st c ts0 r0 h k b ts K q =
       let z = x.patterns ts0 e f _ _ _ k h.0 q.1.means in record {
         d = Touching;
         m = q.0;
@@ -139,7 +139,7 @@ module _ (look : Look) (x : Lexicon look.style) where
   -- ---- words of the grammar
 
   pub this_on : (s : Span) (st : Stand) → Sound look st (this_expr s)
-  this_on s st c ok ts0 r0 h k b ts K q = record {
+  this_on s st c ts0 r0 h k b ts K q = record {
     d = Touching;
     m = q.0;
     more = q.2;
@@ -151,7 +151,7 @@ module _ (look : Look) (x : Lexicon look.style) where
   }
 
   pub null_on : (s : Span) (st : Stand) → Sound look st (null_lit s)
-  null_on s st c ok ts0 r0 h k b ts K q = record {
+  null_on s st c ts0 r0 h k b ts K q = record {
     d = Touching;
     m = q.0;
     more = q.2;
@@ -163,7 +163,7 @@ module _ (look : Look) (x : Lexicon look.style) where
   }
 
   pub bool_on : (s : Span) (v : Bool) (st : Stand) → Sound look st (bool_lit s v)
-  bool_on s true st c ok ts0 r0 h k b ts K q = record {
+  bool_on s true st c ts0 r0 h k b ts K q = record {
     d = Touching;
     m = q.0;
     more = q.2;
@@ -173,7 +173,7 @@ module _ (look : Look) (x : Lexicon look.style) where
     begins = led ts0 r0 ts q.0 true_kind h.0.0 (keyed look x true_kind q.1) refl;
     again = λ g. record { tree = bool_lit (span (lo ts) q.0.last) true; spelled = (worded look x c true_kind q.1, refl); directive = refl; quoted = λ p q. refl; same = record { so = λ m. refl } };
   }
-  bool_on s false st c ok ts0 r0 h k b ts K q = record {
+  bool_on s false st c ts0 r0 h k b ts K q = record {
     d = Touching;
     m = q.0;
     more = q.2;
@@ -225,7 +225,7 @@ module _ (look : Look) (x : Lexicon look.style) where
   }
 
   pub meta_on : (s : Span) (k : ℕ) (st : Stand) → Sound look st (meta_prop_expr s k)
-  meta_on s k st c ok ts0 r0 h l b ts K q = by h.4 q
+  meta_on s k st c ts0 r0 h l b ts K q = by h.4 q
     where
       by : ((k ≡ new_kind) × TakesWord c target_kind h.1 r0) ⊎ ((k ≡ import_kind) × TakesWord c meta_kind h.1 r0) → says (full look st (meta_prop_expr s k)) b ts K → Out look st (meta_prop_expr s k) c ts0 r0 b ts K
       by (inl e) = subst (λ (j : ℕ). says (full look st (meta_prop_expr s j)) b ts K → Out look st (meta_prop_expr s j) c ts0 r0 b ts K) (sym e.0)

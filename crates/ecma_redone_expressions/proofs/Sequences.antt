@@ -35,7 +35,7 @@ dots_no_else e = omega arith
 
 module _ (look : Look) (x : Lexicon look.style) where
   pub element_on : (s : Span) (d : Option Span) (e : Tree) → Sound look Alone e → (st : Stand) → Sound look st (expr_or_spread s d e)
-  element_on s None e f st c ok ts0 r0 h k b ts K q =
+  element_on s None e f st c ts0 r0 h k b ts K q =
       let y = expr look assignment_level Alone e f (omega arith) (with_in c) ts0 r0 h.0 k b ts K q in record {
         d = y.d;
         m = y.m;
@@ -52,7 +52,7 @@ module _ (look : Look) (x : Lexicon look.style) where
           same = record { so = λ n. ap (λ (t : Tree). expr_or_spread no_place None t) (w.same.so Plain) };
         };
       }
-  element_on s (Some p) e f st c ok ts0 r0 h k b ts K q =
+  element_on s (Some p) e f st c ts0 r0 h k b ts K q =
       let y = expr look assignment_level Alone e f (omega arith) (with_in c) h.0 r0 h.3 (x.later ts0 h.0 h.1.2 k) _ q.0 K q.2 in record {
         d = y.d;
         m = y.m;
@@ -77,7 +77,7 @@ module _ (look : Look) (x : Lexicon look.style) where
   elements_on c xs a ts0 r0 h k b ts K peek q = holed look x _ _ _ c right_bracket_kind refl (comma_line look) (comma_line_on look x) xs a ts0 r0 h k b ts K peek q
 
   pub array_on : (s : Span) (xs : Trees) → AllSound look xs → (st : Stand) → Sound look st (array_lit s xs)
-  array_on s none a st c ok ts0 r0 h k b ts K q =
+  array_on s none a st c ts0 r0 h k b ts K q =
       let o = q.2 in record {
         d = Touching;
         m = o.0;
@@ -94,7 +94,7 @@ module _ (look : Look) (x : Lexicon look.style) where
           same = record { so = λ n. refl };
         };
       }
-  array_on s (more t ts') a st c ok ts0 r0 h k b ts K q =
+  array_on s (more t ts') a st c ts0 r0 h k b ts K q =
       let i = skip_line (formats look) _ _ _ q.2 in
       let j = skip_deeper (formats look) _ _ _ i.1 in
       let z = elements_on c (more t ts') a h.0 r0 h.2 (x.later ts0 h.0 h.1.2 k) i.0 q.0 _ (λ d m u. let v = skip_line (formats look) _ _ _ (skip_back (formats look) _ _ _ u) in marked look x right_bracket_kind v.1.1) j in
@@ -117,9 +117,9 @@ module _ (look : Look) (x : Lexicon look.style) where
       }
 
   pub sequence_on : (s : Span) (xs : Trees) → AllSound look xs → (st : Stand) → Sound look st (seq_expr s xs)
-  sequence_on s none a st c ok ts0 r0 h k b ts K q = absurd h
-  sequence_on s (more t none) a st c ok ts0 r0 h k b ts K q = absurd h
-  sequence_on s (more t (more u us)) a st c ok ts0 r0 h k b ts K q =
+  sequence_on s none a st c ts0 r0 h k b ts K q = absurd h
+  sequence_on s (more t none) a st c ts0 r0 h k b ts K q = absurd h
+  sequence_on s (more t (more u us)) a st c ts0 r0 h k b ts K q =
       let z = run look x (Expr assignment_level c) (Expr assignment_level (unplaced c)) (exprs look x assignment_level (omega arith) (omega arith) c) c t (more u us) a.0 a.1 ts0 h.0 r0 h.1 h.2 k b ts K q in record {
         d = z.d;
         m = z.m;

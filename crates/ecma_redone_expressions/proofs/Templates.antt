@@ -178,7 +178,7 @@ module _ (look : Look) (x : Lexicon look.style) where
       }
 
   pub template_on : (s : Span) (es qs : Trees) → AllSound look es → (st : Stand) → Sound look st (tpl s es qs)
-  template_on s es qs a st c ok ts0 r0 h k b ts K q =
+  template_on s es qs a st c ts0 r0 h k b ts K q =
       let z = quoted_on false st (λ e. absurd (true≢false (sym e))) s es qs a c ts0 r0 h k b ts K q in record {
         d = Touching;
         m = z.m;
@@ -203,7 +203,7 @@ module _ (look : Look) (x : Lexicon look.style) where
   quote_else e = omega arith
 
   pub tagged_on : (s : Span) (t : Tree) (p : Span) (es qs : Trees) → Sound look Head t → AllSound look es → (st : Stand) → Sound look st (tagged_tpl s t (tpl p es qs))
-  tagged_on s t p es qs f a st c ok ts0 r0 h k b ts K q =
+  tagged_on s t p es qs f a st c ts0 r0 h k b ts K q =
       let y = expr look call_level Head t f (omega arith) c ts0 h.0 h.2 k b ts _ q in
       let z = quoted_on true Tagged (λ e. refl) p es qs a c h.0 r0 h.3 y.known y.d y.m K y.more in record {
         d = Touching;

@@ -38,8 +38,8 @@ as_yield s _ g c ts r n h = h
 
 module _ (look : Look) (x : Lexicon look.style) where
   pub yield_bare : (s : Span) (g : Bool) (st : Stand) → Sound look st (yield_expr s absent g)
-  yield_bare s true st c ok ts0 r0 h k b ts K q = absurd (true≢false h.0)
-  yield_bare s false st c ok ts0 r0 h k b ts K q = record {
+  yield_bare s true st c ts0 r0 h k b ts K q = absurd (true≢false h.0)
+  yield_bare s false st c ts0 r0 h k b ts K q = record {
     d = Touching;
     m = q.0;
     more = q.2;
