@@ -83,18 +83,32 @@ text_scalars style u raw a b = by (keeps_raw style u raw)
 some_is : {A : Type 0} (x y : A) → Some x ≡ Some y → x ≡ y
 some_is x y e = cc
 
-pub strings : (style : Style) (ts : Input) (u w : List ℕ) (j : ℕ) (x : Content) (e : Bool) → Known ts.places → content ts ≡ Quoted u w
-    → Means Div (string_bytes style u (Some w)) j x e → (j ≡ str_kind) × (x ≡ Quoted u (string_bytes style u (Some w)))
-strings style ts u w j x e k c h =
+-- A string that was read, as it is written: of the same units, alone and before any rest.
+pub record Text (units text : List ℕ) : Type 0 where
+  pub legacy : Bool
+  pub are_scalars : scalars text ≡ true
+  pub read : SpellsString units legacy text []
+
+pub string_written : (style : Style) (ts : Input) (u w : List ℕ) → Known ts.places → content ts ≡ Quoted u w → Text u (string_text style u (Some (chars w)))
+string_written style ts u w k c =
     let f = from_of ts (Quoted u w) k c in
     let own = f.origin.0 in
     let raw : chars w ≡ own = decoded own w f.from f.behind f.are_scalars f.origin.3 f.origin.4 in
     let read : SpellsString u f.origin.1 own [] = string_alone u f.origin.1 own f.behind (subst (λ (l : List ℕ). SpellsString u f.origin.1 l f.behind) f.origin.3 f.origin.2) in
     let us : AreUnits u = string_units u f.origin.1 f.from f.behind f.are_scalars f.origin.2 in
     let again = string_is_read style u (Some (chars w)) [] us (λ t q. (f.origin.1, subst (λ (l : List ℕ). SpellsString u f.origin.1 l []) (sym raw ∙ some_is (chars w) t q) read)) in
-    let s : scalars (chars w) ≡ true = ap scalars raw ∙ scalars_front own f.behind (sym (ap scalars f.origin.3) ∙ f.are_scalars) in
-    let m = means_by (string_bytes style u (Some w)) (string_lexeme u (string_text style u (Some (chars w))) again.0)
-    (string_lexes u (string_text style u (Some (chars w))) again.0 (text_scalars style u (chars w) s (quoted_scalars style u us)) again.1) j x e h in
+    let s : scalars (chars w) ≡ true = ap scalars raw ∙ scalars_front own f.behind (sym (ap scalars f.origin.3) ∙ f.are_scalars) in record {
+      legacy = again.0;
+      are_scalars = text_scalars style u (chars w) s (quoted_scalars style u us);
+      read = subst (λ (l : List ℕ). SpellsString u again.0 l []) (append-nil (string_text style u (Some (chars w)))) again.1;
+    }
+
+pub strings : (style : Style) (ts : Input) (u w : List ℕ) (j : ℕ) (x : Content) (e : Bool) → Known ts.places → content ts ≡ Quoted u w
+    → Means Div (string_bytes style u (Some w)) j x e → (j ≡ str_kind) × (x ≡ Quoted u (string_bytes style u (Some w)))
+strings style ts u w j x e k c h =
+    let f = string_written style ts u w k c in
+    let text = string_text style u (Some (chars w)) in
+    let m = means_by (string_bytes style u (Some w)) (string_lexeme u text f.legacy) (string_lexes u text f.legacy f.are_scalars (subst (λ (l : List ℕ). SpellsString u f.legacy l []) (sym (append-nil text)) f.read)) j x e h in
     (m.0, m.1)
 
 -- ---- numbers
@@ -176,35 +190,55 @@ quasi_means text bytes u b s p j x e h =
     let same = (one_lexeme TemplateTail (chars bytes ++ 96 ∷ []) h.0 (template_lexeme text u) (96 ∷ []) (96 ∷ []) h.1 i).0 in
     (h.2 ∙ ap (λ (l : SpecLexeme). l.token.kind) same, h.3 ∙ (ap (λ (l : SpecLexeme). (told l.token).content) same ∙ ap (λ (l : List ℕ). Piece l u) (sym b)))
 
-characters_tagged : (style : Style) (ts : Input) (w : List ℕ) (u : Option (List ℕ)) (j : ℕ) (x : Content) (e : Bool) → Known ts.places → content ts ≡ Piece w u
-    → Means TemplateTail (quasi_bytes style true w) j x e → (j ≡ template_kind) × (x ≡ Piece (quasi_bytes style true w) u)
-characters_tagged style ts w u j x e k c h =
+-- Characters of a template that were read, as they are written: of the same units, before whatever ends them.
+pub record Characters (bytes : List ℕ) (units : Option (List ℕ)) : Type 0 where
+  pub text : List ℕ
+  pub same : bytes ≡ encode_utf8_all text
+  pub are_scalars : scalars text ≡ true
+  pub read : (e : Ending) (after rest : List ℕ) → templates.Ends e after rest → templates.SpellsPiece text units e (text ++ after) rest
+
+tagged_written : (style : Style) (ts : Input) (w : List ℕ) (u : Option (List ℕ)) → Known ts.places → content ts ≡ Piece w u → Characters (quasi_bytes style true w) u
+tagged_written style ts w u k c =
     let f = from_of ts (Piece w u) k c in
     let own = f.origin.0 in
-    let whole = f.origin.3 in
-    let s : scalars own ≡ true = scalars_front own _ (sym (ap scalars whole.4) ∙ f.are_scalars) in
-    quasi_means own w u f.origin.5 s (tagged_is_read own f.from f.origin.2 u f.origin.1 whole BackQuote (96 ∷ []) [] refl) j x e h
+    let whole = f.origin.3 in record {
+      text = own;
+      same = f.origin.5;
+      are_scalars = scalars_front own _ (sym (ap scalars whole.4) ∙ f.are_scalars);
+      read = λ e after rest h. tagged_is_read own f.from f.origin.2 u f.origin.1 whole e after rest h;
+    }
 
-characters_plain : (style : Style) (ts : Input) (w units : List ℕ) (j : ℕ) (x : Content) (e : Bool) → Known ts.places → content ts ≡ Piece w (Some units)
-    → Means TemplateTail (quasi_bytes style false w) j x e → (j ≡ template_kind) × (x ≡ Piece (quasi_bytes style false w) (Some units))
-characters_plain style ts w units j x e k c h =
+ends_same : (e : Ending) (a b r : List ℕ) → templates.Ends e a r → templates.Ends e b r → a ≡ b
+ends_same BackQuote a b r f g = f ∙ sym g
+ends_same Substitution a b r f g = f ∙ sym g
+
+plain_written : (style : Style) (ts : Input) (w units : List ℕ) → Known ts.places → content ts ≡ Piece w (Some units) → Characters (quasi_bytes style false w) (Some units)
+plain_written style ts w units k c =
     let f = from_of ts (Piece w (Some units)) k c in
     let own = f.origin.0 in
     let whole = f.origin.3 in
     let s : scalars own ≡ true = scalars_front own _ (sym (ap scalars whole.4) ∙ f.are_scalars) in
     let raw : chars w ≡ own = ap chars f.origin.5 ∙ chars-encodes own s in
-    let t = template_text style own [] in
-    let p : templates.SpellsPiece t (Some units) BackQuote (template_text style own (96 ∷ [])) [] = template_is_read style own units f.from f.origin.2 f.origin.1 whole (code_points_of own s) BackQuote (96 ∷ []) [] refl in
-    let split : template_text style own (96 ∷ []) ≡ t ++ 96 ∷ [] = p.4 ∙ ap (λ (l : List ℕ). t ++ l) p.3 in
-    quasi_means t (quasi_bytes style false w) (Some units) (ap (λ (l : List ℕ). encode_utf8_all (template_text style l [])) raw) (template_scalars style own s)
-    (subst (λ (l : List ℕ). templates.SpellsPiece t (Some units) BackQuote l []) split p) j x e h
+    let t = template_text style own [] in record {
+      text = t;
+      same = ap (λ (l : List ℕ). encode_utf8_all (template_text style l [])) raw;
+      are_scalars = template_scalars style own s;
+      read = λ e after rest h.
+          let p : templates.SpellsPiece t (Some units) e (template_text style own after) rest = template_is_read style own units f.from f.origin.2 f.origin.1 whole (code_points_of own s) e after rest h in
+          subst (λ (l : List ℕ). templates.SpellsPiece t (Some units) e l rest) (p.4 ∙ ap (λ (l : List ℕ). t ++ l) (ends_same e p.1 after rest p.3 h)) p;
+    }
 
 -- with cooked units, where no tag stands before it
+pub piece_written : (style : Style) (ts : Input) (tagged : Bool) (w : List ℕ) (u : Option (List ℕ)) → Known ts.places → content ts ≡ Piece w u → (tagged || is_some u) ≡ true → Characters (quasi_bytes style tagged w) u
+piece_written style ts true w u k c t = tagged_written style ts w u k c
+piece_written style ts false w (Some u) k c t = plain_written style ts w u k c
+piece_written style ts false w None k c t = absurd (false≢true t)
+
 pub characters : (style : Style) (ts : Input) (tagged : Bool) (w : List ℕ) (u : Option (List ℕ)) (j : ℕ) (x : Content) (e : Bool) → Known ts.places → content ts ≡ Piece w u → (tagged || is_some u) ≡ true
     → Means TemplateTail (quasi_bytes style tagged w) j x e → (j ≡ template_kind) × (x ≡ Piece (quasi_bytes style tagged w) u)
-characters style ts true w u j x e k c t h = characters_tagged style ts w u j x e k c h
-characters style ts false w (Some u) j x e k c t h = characters_plain style ts w u j x e k c h
-characters style ts false w None j x e k c t h = absurd (false≢true t)
+characters style ts tagged w u j x e k c t h =
+    let p = piece_written style ts tagged w u k c t in
+    quasi_means p.text (quasi_bytes style tagged w) u p.same p.are_scalars (p.read BackQuote (96 ∷ []) [] refl) j x e h
 
 -- ---- regular expressions
 
@@ -212,20 +246,39 @@ pattern_bytes : (b f : List ℕ) → joined (codes "/" ∷ encode_utf8_all b ∷
 unfolding lib.Utf8.encode
 pattern_bytes b f = ap (λ (l : List ℕ). 47 ∷ l) (ap (λ (l : List ℕ). encode_utf8_all b ++ 47 ∷ l) (sym (encodes-append f [])) ∙ sym (encodes-append b (47 ∷ (f ++ []))))
 
-pub patterns : (ts : Input) (b f : List ℕ) (j : ℕ) (x : Content) (e : Bool) → Known ts.places → content ts ≡ Pattern b f → Means RegExp (joined (codes "/" ∷ b ∷ codes "/" ∷ f ∷ [])) j x e
-    → (j ≡ regex_kind) × (x ≡ Pattern b f)
-patterns ts b f j x e k c h =
+-- a regular expression that was read, by its characters
+pub record Expression (b f : List ℕ) : Type 0 where
+  pub body : List ℕ
+  pub flags : List ℕ
+  pub body_same : b ≡ encode_utf8_all body
+  pub flags_same : f ≡ encode_utf8_all flags
+  pub are_scalars : scalars (reg_exp_text body flags []) ≡ true
+  pub same : joined (codes "/" ∷ b ∷ codes "/" ∷ f ∷ []) ≡ encode_utf8_all (reg_exp_text body flags [])
+  pub read : IsRegExp (reg_exp_text body flags []) body flags []
+
+pub pattern_written : (ts : Input) (b f : List ℕ) → Known ts.places → content ts ≡ Pattern b f → Expression b f
+pattern_written ts b f k c =
     let o = from_of ts (Pattern b f) k c in
     let body = o.origin.0 in
     let flags = o.origin.1 in
     let r = o.origin.2 in
     let whole : o.from ≡ (47 ∷ body ++ 47 ∷ (flags ++ [])) ++ o.behind =
-    r.1.1 ∙ (ap (λ (l : List ℕ). 47 ∷ body ++ 47 ∷ l) r.1.2.0 ∙ (ap (λ (l : List ℕ). 47 ∷ body ++ 47 ∷ (l ++ o.behind)) (sym (append-nil flags)) ∙ ap (λ (l : List ℕ). 47 ∷ l) (sym (append_assoc body (47 ∷ (flags ++ [])) o.behind)))) in
-    let s : scalars (reg_exp_text body flags []) ≡ true = scalars_front (reg_exp_text body flags []) o.behind (sym (ap scalars whole) ∙ o.are_scalars) in
-    let bytes : joined (codes "/" ∷ b ∷ codes "/" ∷ f ∷ []) ≡ encode_utf8_all (reg_exp_text body flags []) =
-    ap (λ (l : List ℕ). joined (codes "/" ∷ l ∷ codes "/" ∷ f ∷ [])) o.origin.3 ∙ (ap (λ (l : List ℕ). joined (codes "/" ∷ encode_utf8_all body ∷ codes "/" ∷ l ∷ [])) o.origin.4 ∙ pattern_bytes body flags) in
-    let l = pattern_lexeme body flags in
-    let i : IsLexeme RegExp (chars (joined (codes "/" ∷ b ∷ codes "/" ∷ f ∷ []))) l [] = subst (λ (t : List ℕ). IsLexeme RegExp t l []) (sym (ap chars bytes ∙ chars-encodes (reg_exp_text body flags []) s))
-    (inr (inl (refl, (body, flags, reg_exp_is_read o.from body flags o.behind [] r tt, refl)))) in
+        r.1.1 ∙ (ap (λ (l : List ℕ). 47 ∷ body ++ 47 ∷ l) r.1.2.0 ∙ (ap (λ (l : List ℕ). 47 ∷ body ++ 47 ∷ (l ++ o.behind)) (sym (append-nil flags)) ∙ ap (λ (l : List ℕ). 47 ∷ l) (sym (append_assoc body (47 ∷ (flags ++ [])) o.behind)))) in record {
+      body = body;
+      flags = flags;
+      body_same = o.origin.3;
+      flags_same = o.origin.4;
+      are_scalars = scalars_front (reg_exp_text body flags []) o.behind (sym (ap scalars whole) ∙ o.are_scalars);
+      same = ap (λ (l : List ℕ). joined (codes "/" ∷ l ∷ codes "/" ∷ f ∷ [])) o.origin.3 ∙ (ap (λ (l : List ℕ). joined (codes "/" ∷ encode_utf8_all body ∷ codes "/" ∷ l ∷ [])) o.origin.4 ∙ pattern_bytes body flags);
+      read = reg_exp_is_read o.from body flags o.behind [] r tt;
+    }
+
+pub patterns : (ts : Input) (b f : List ℕ) (j : ℕ) (x : Content) (e : Bool) → Known ts.places → content ts ≡ Pattern b f → Means RegExp (joined (codes "/" ∷ b ∷ codes "/" ∷ f ∷ [])) j x e
+    → (j ≡ regex_kind) × (x ≡ Pattern b f)
+patterns ts b f j x e k c h =
+    let p = pattern_written ts b f k c in
+    let l = pattern_lexeme p.body p.flags in
+    let i : IsLexeme RegExp (chars (joined (codes "/" ∷ b ∷ codes "/" ∷ f ∷ []))) l [] = subst (λ (t : List ℕ). IsLexeme RegExp t l []) (sym (ap chars p.same ∙ chars-encodes (reg_exp_text p.body p.flags []) p.are_scalars))
+        (inr (inl (refl, (p.body, p.flags, p.read, refl)))) in
     let same = (one_lexeme RegExp (chars (joined (codes "/" ∷ b ∷ codes "/" ∷ f ∷ []))) h.0 l [] [] h.1 i).0 in
-    (h.2 ∙ ap (λ (l : SpecLexeme). l.token.kind) same, h.3 ∙ (ap (λ (l : SpecLexeme). (told l.token).content) same ∙ (ap (λ (t : List ℕ). Pattern t (encode_utf8_all flags)) (sym o.origin.3) ∙ ap (λ (t : List ℕ). Pattern b t) (sym o.origin.4))))
+    (h.2 ∙ ap (λ (l : SpecLexeme). l.token.kind) same, h.3 ∙ (ap (λ (l : SpecLexeme). (told l.token).content) same ∙ (ap (λ (t : List ℕ). Pattern t (encode_utf8_all p.flags)) (sym p.body_same) ∙ ap (λ (t : List ℕ). Pattern b t) (sym p.flags_same))))

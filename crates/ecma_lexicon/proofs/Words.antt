@@ -181,17 +181,37 @@ same_mark text name = ⊎_elim
     (λ (f : bytes_eq text name ≡ false). (true, λ rest e. false≢true (sym f ∙ (bytes_eq-Decides text name).1 (append_cancel_right text name rest e))))
     (cases_Bool (bytes_eq text name))
 
+-- The first token is a word: its name, by its characters.
+pub record Name (ts : Input) : Type 0 where
+  pub name : List ℕ
+  pub some : name ≢ []
+  pub are : AreNameChars true name
+  pub same : chars (text ts) ≡ name
+  pub kind_is : kind ts ≡ kind_of (encode_utf8_all name)
+  pub text_is : text ts ≡ encode_utf8_all name
+
+pub name_of : (ts : Input) → Known ts.places → is_word (kind ts) ≡ true → Name ts
+name_of ts k w =
+    let f = known_word ts.places k w in
+    let a = chars_are true f.from f.name f.behind f.are f.is_name.1 in record {
+      name = f.name;
+      some = f.is_name.0;
+      are = a;
+      same = ap chars f.text_is ∙ chars-encodes f.name (are_scalars true f.name a);
+      kind_is = f.kind_is;
+      text_is = f.text_is;
+    }
+
 pub names : (style : Style) (ts : Input) (j : ℕ) (x : Content) (e : Bool) → Known ts.places → is_word (kind ts) ≡ true → Means Div (name_bytes style (text ts)) j x e
     → (j ≡ kind ts) × (text_in x ≡ text ts) × (e ≡ true → j ≡ name_kind)
 names style ts j x e k w h =
-    let f = known_word ts.places k w in
-    let a = chars_are true f.from f.name f.behind f.are f.is_name.1 in
+    let f = name_of ts k w in
+    let a = f.are in
     let own = name_text style f.name [] in
-    let same : chars (text ts) ≡ f.name = ap chars f.text_is ∙ chars-encodes f.name (are_scalars true f.name a) in
-    let bytes : name_bytes style (text ts) ≡ encode_utf8_all own = ap (λ (l : List ℕ). encode_utf8_all (name_text style l [])) same in
+    let bytes : name_bytes style (text ts) ≡ encode_utf8_all own = ap (λ (l : List ℕ). encode_utf8_all (name_text style l [])) f.same in
     let m = same_mark own f.name in
     let marked = subst (λ (l : List ℕ). IsMarked l f.name [] m.0) (append-nil own) (m.1 []) in
-    let read : IsName own f.name [] = name_is_read style f.name [] f.is_name.0 a tt in
+    let read : IsName own f.name [] = name_is_read style f.name [] f.some a tt in
     let i : IsLexeme Div (chars (name_bytes style (text ts))) (word_lexeme f.name m.0) [] = subst (λ (l : List ℕ). IsLexeme Div l (word_lexeme f.name m.0) []) (sym (ap chars bytes ∙ chars-encodes own (name_scal style false true f.name [] a stop).so)) (inl (inl (f.name, m.0, read, marked, refl))) in
     let one = (one_lexeme Div (chars (name_bytes style (text ts))) h.0 (word_lexeme f.name m.0) [] [] h.1 i).0 in
     let kinds : j ≡ kind_of (encode_utf8_all f.name) = h.2 ∙ ap (λ (l : SpecLexeme). l.token.kind) one in
@@ -209,7 +229,7 @@ names style ts j x e k w h =
 
 -- ---- a word as a key in quotes
 
-key_scalars : (style : Style) (cs : List ℕ) → AreNameChars true cs → is_quoted_key style cs ≡ true → scalars (key_text style cs []) ≡ true
+pub key_scalars : (style : Style) (cs : List ℕ) → AreNameChars true cs → is_quoted_key style cs ≡ true → scalars (key_text style cs []) ≡ true
 key_scalars style cs a q =
     subst (λ (b : Bool). scalars (if b then 34 ∷ name_chars style true cs (34 ∷ []) else name_text style cs []) ≡ true) (sym q)
     (low {n = 34} (omega arith) (name_scal style true true cs (34 ∷ []) a (low {n = 34} (omega arith) stop))).so
@@ -217,9 +237,9 @@ key_scalars style cs a q =
 pub quoted_keys : (style : Style) (ts : Input) (j : ℕ) (x : Content) (e : Bool) → Known ts.places → is_word (kind ts) ≡ true → is_quoted_key style (chars (text ts)) ≡ true
     → Means Div (key_bytes style (text ts)) j x e → (j ≡ str_kind) × (x ≡ Quoted (flat_map encode_utf16 (chars (text ts))) (key_bytes style (text ts)))
 quoted_keys style ts j x e k w q h =
-    let f = known_word ts.places k w in
-    let a = chars_are true f.from f.name f.behind f.are f.is_name.1 in
-    let same : chars (text ts) ≡ f.name = ap chars f.text_is ∙ chars-encodes f.name (are_scalars true f.name a) in
+    let f = name_of ts k w in
+    let a = f.are in
+    let same = f.same in
     let own = key_text style f.name [] in
     let quoted : is_quoted_key style f.name ≡ true = sym (ap (is_quoted_key style) same) ∙ q in
     let units = flat_map encode_utf16 f.name in
