@@ -88,12 +88,12 @@ hash_mark = plain_mark never 35 [] t.Hash Hash refl refl refl refl refl (λ rest
 -- ---- operators
 
 -- an operator that begins with none of the characters of trivia
-operator_mark : (c : ℕ) (cs : List ℕ) (kind : TokenKind) → is_ascii (c ∷ cs) ≡ true → look spellings (c ∷ cs) ≡ Some kind → all_stay is_joining (c ∷ cs) spellings ≡ true → is_lead c ≡ false → (c == 46) ≡ false
+pub operator_mark : (c : ℕ) (cs : List ℕ) (kind : TokenKind) → is_ascii (c ∷ cs) ≡ true → look spellings (c ∷ cs) ≡ Some kind → all_stay is_joining (c ∷ cs) spellings ≡ true → is_lead c ≡ false → (c == 46) ≡ false
     → is_dotty c ≡ false → not_hash c ≡ true → is_wordy c ≡ false → Fits Div (c ∷ cs) Operator
 operator_mark c cs kind asc e a l p d o w = plain_mark is_joining c cs kind Operator asc e a l p (λ rest h. h) (record { first = c; others = cs; whole = refl; one = o; two = d; three = w })
 
 -- one that begins with one of them
-led_mark : (c : ℕ) (cs : List ℕ) (kind : TokenKind) → is_ascii (c ∷ cs) ≡ true → look spellings (c ∷ cs) ≡ Some kind → all_stay is_joining (c ∷ cs) spellings ≡ true → (c == 46) ≡ false
+pub led_mark : (c : ℕ) (cs : List ℕ) (kind : TokenKind) → is_ascii (c ∷ cs) ≡ true → look spellings (c ∷ cs) ≡ Some kind → all_stay is_joining (c ∷ cs) spellings ≡ true → (c == 46) ≡ false
     → is_dotty c ≡ false → not_hash c ≡ true → is_wordy c ≡ false → ((rest : List ℕ) → Quiet ((c ∷ cs) ++ rest) × Arrowless Operator ((c ∷ cs) ++ rest)) → Fits Div (c ∷ cs) Operator
 led_mark c cs kind asc e a p d o w q =
     mark_fits is_joining (c ∷ cs) kind Operator asc e a (λ rest h. h) (no_dot c (cs ++ []) p) (λ rest h. no_dot c (cs ++ rest) p)
