@@ -1,0 +1,16 @@
+-- What a tree has in common with one whose spellings are those of the text written of it.
+use Rattle.std.specs.Prelude.{◌≡◌}
+use Rattle.ecma_tree.specs.Tree.{Tree}
+use Rattle.ecma_nesting.specs.Nesting.{nesting}
+use Rattle.ecma_syntax.specs.Shape.{is_clean}
+use Rattle.ecma_layout.specs.declared.look.Look.{Look}
+use Rattle.ecma_redone.specs.Redo.{Mode, Same}
+use Rattle.ecma_redone.specs.Written.{leaves_of}
+
+-- It nests as deep.
+abbrev pub NestsAlike : Type 0
+NestsAlike = (look : Look) (mode : Mode) (t u : Tree) → Same (leaves_of look) mode t u → nesting u ≡ nesting t
+
+-- Where nothing of a cover is left in the one, nothing is in the other.
+abbrev pub CleanAlike : Type 0
+CleanAlike = (look : Look) (mode : Mode) (t u : Tree) → Same (leaves_of look) mode t u → is_clean u ≡ is_clean t

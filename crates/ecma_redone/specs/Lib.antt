@@ -1,0 +1,3 @@
+pub mod Redo
+pub mod Written
+pub mod Laws
