@@ -1,3 +1,4 @@
 pub mod Redo
 pub mod Written
+pub mod Every
 pub mod Laws
