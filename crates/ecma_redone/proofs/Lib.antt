@@ -1,3 +1,6 @@
 pub mod Folded
+pub mod Ascii
 pub mod Keys
 pub mod Shapes
+pub mod Programs
+pub mod Early

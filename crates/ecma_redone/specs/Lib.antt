@@ -1,4 +1,5 @@
 pub mod Redo
 pub mod Written
 pub mod Every
+pub mod Faithful
 pub mod Laws
