@@ -4,3 +4,9 @@ pub mod Keys
 pub mod Shapes
 pub mod Programs
 pub mod Early
+pub mod FoundParts
+pub mod FoundExpressions
+pub mod FoundFunctions
+pub mod FoundStatements
+pub mod FoundModules
+pub mod Found

@@ -2,4 +2,5 @@ pub mod Redo
 pub mod Written
 pub mod Every
 pub mod Faithful
+pub mod Read
 pub mod Laws
