@@ -17,7 +17,7 @@ use Rattle.ecma_tree.specs.Tree.{Tree, Trees, none, more, script, es_module, imp
 use Rattle.ecma_tree.specs.Folds.{fold}
 use Rattle.ecma_tree.specs.Places.{no_place}
 use Rattle.ecma_syntax.specs.Shape.{is_absent, is_bound_name, is_use_strict, is_directive}
-use Rattle.ecma_early.specs.Early.{Scope, Walk, fault, every as every_walk, within, first, later, statements, block, as_block, as_body, name_in, evil, evil_name, legacy_string, legacy_number, where_strict, is_loop, labelled, doubled, breaks_out, continues, is_bare, are_bare, own_use_strict, mode_fault, mode, second_constructors, members, class_body, is_proto, span_of_prop, proto_fault, second_protos, is_updatable, unset, unset_using, bad_using, top_using, unless, step, put, in_order, comes_after, faults_in, early_errors, outermost, looping, switching, heading, past_head, strictly, in_arrow, in_function, in_constructor, in_part, as_method, as_function}
+use Rattle.ecma_early.specs.Early.{Scope, Walk, fault, every as every_walk, within, first, later, statements, block, as_block, as_body, name_in, evil, evil_name, legacy_string, legacy_number, where_strict, is_loop, labelled, doubled, breaks_out, continues, is_bare, are_bare, own_use_strict, mode_fault, mode, second_constructors, members, class_body, is_proto, span_of_prop, proto_fault, second_protos, is_updatable, unset, unset_using, bad_using, top_using, unless, step, put, in_order, comes_after, faults_in, early_errors, outermost, looping, switching, heading, past_head, strictly, in_arrow, in_arrow_params, export_name, in_function, in_constructor, in_part, as_method, as_function}
 use Rattle.ecma_spell_base.specs.declared.style.Style.{Style}
 use Rattle.ecma_spell_string.specs.Names.{is_latin, is_quoted_key}
 use Rattle.ecma_layout.specs.declared.look.Look.{Look}
@@ -304,13 +304,17 @@ module _ (d : Bool) where
           by true = h
           by false = none_both d
 
+      export_name_kept : (t : Tree) → every P Plain t → R (export_name (redo l Plain t)) (export_name t)
+      export_name_kept (str_lit s u w) k x = strict_kept x _ _ (legal.string Plain s u w k no_place s)
+      export_name_kept _ k x = none_both d
+
       -- ---- the walk
 
       re_absent : (t : Tree) → not (is_absent (redo l Plain t)) ≡ not (is_absent t)
       re_absent t = ap (λ (v : Bool). not v) (is_absent_same l Plain t)
 
       node : (m : Mode) (t : Tree) → every P m t → (us vs : List (List Walk)) → Kids R us vs → R (step (redo l m t) us) (step t vs)
-      node m (ident s n) k us vs h x = faulty d _ _ _ no_place s refl
+      node m (ident s n) k us vs h x = joined d _ _ _ _ (faulty d _ _ _ no_place s refl) (faulty d _ _ _ no_place s refl)
       node m (binding_ident s i) k us vs h x = joined d _ _ _ _ (within_kept us vs h x) (evil_kept Plain i x)
       node m (str_lit s u w) k us vs h x = strict_kept x _ _ (legal.string m s u w k no_place s)
       node m (number_lit s v w) k us vs h x = strict_kept x _ _ (legal.number m s v w k no_place s)
@@ -344,7 +348,7 @@ module _ (d : Bool) where
       node m (fn_decl s n f) k us vs h x = joined d _ _ _ _ (evil_kept Plain n x) (within_kept us vs h (as_function x))
       node m (fn_expr s n f) k us vs h x = joined d _ _ _ _ (evil_kept Plain n x) (within_kept us vs h (as_function x))
       node m (function s ps ds b g a) k us vs h x = joined d _ _ _ _ (mode_kept ps b k.3) (joined d _ _ _ _ (first_field us vs h (in_function x)) (within_kept (later us) (later vs) (later_fields us vs h) (as_body (in_function x))))
-      node m (arrow_expr s ps b a) k us vs h x = joined d _ _ _ _ (mode_kept ps b k.2) (joined d _ _ _ _ (first_field us vs h (in_arrow x)) (within_kept (later us) (later vs) (later_fields us vs h) (as_body (in_arrow x))))
+      node m (arrow_expr s ps b a) k us vs h x = joined d _ _ _ _ (mode_kept ps b k.2) (joined d _ _ _ _ (first_field us vs h (in_arrow_params a x)) (within_kept (later us) (later vs) (later_fields us vs h) (as_body (in_arrow x))))
       node m (method_prop s a f) k us vs h x = joined d _ _ _ _ (first_field us vs h x) (within_kept (later us) (later vs) (later_fields us vs h) (as_method x))
       node m (getter_prop s a b) k us vs h x = joined d _ _ _ _ (first_field us vs h x) (within_kept (later us) (later vs) (later_fields us vs h) (as_body (in_function (as_method x))))
       node m (setter_prop s a p b) k us vs h x = joined d _ _ _ _ (mode_kept (more p none) b k.3) (joined d _ _ _ _ (first_field us vs h x) (joined d _ _ _ _ (first_field (later us) (later vs) (later_fields us vs h) (in_function (as_method x)))
@@ -361,11 +365,11 @@ module _ (d : Bool) where
       node m (private_prop s a v i ds) k us vs h x = within_kept us vs h (in_part x)
       node m (auto_accessor s a v i ds) k us vs h x = joined d _ _ _ _ (first_field us vs h x) (within_kept (later us) (later vs) (later_fields us vs h) (in_part x))
       node m (static_block s b) k us vs h x = within_kept us vs h (in_part x)
-      node m (import_named_specifier s a i) k us vs h x = joined d _ _ _ _ (evil_kept Plain a x) (first_field us vs h x)
+      node m (import_named_specifier s a i) k us vs h x = joined d _ _ _ _ (evil_kept Plain a x) (joined d _ _ _ _ (first_field us vs h x) (export_name_kept i k.2 x))
       node m (import_default_specifier s a) k us vs h x = joined d _ _ _ _ (evil_kept Plain a x) (within_kept us vs h x)
       node m (import_star_as_specifier s a) k us vs h x = joined d _ _ _ _ (evil_kept Plain a x) (within_kept us vs h x)
-      node m (export_named_specifier s o e) k us vs h x = none_both d
-      node m (export_namespace_specifier s n) k us vs h x = none_both d
+      node m (export_named_specifier s o e) k us vs h x = joined d _ _ _ _ (export_name_kept o k.1 x) (export_name_kept e k.2 x)
+      node m (export_namespace_specifier s n) k us vs h x = export_name_kept n k.1 x
       node m _ k us vs h x = within_kept us vs h x
 
 -- ---- the whole

@@ -5,6 +5,7 @@ use Rattle.ecma_token.specs.Kinds.{right_paren_kind, get_kind, set_kind}
 use Rattle.ecma_tree.specs.Tree.{Tree, Trees, none, more, block_stmt, class_decl, fn_decl, function, param, class, constructor, static_block, auto_accessor, fn_expr, arrow_expr, class_expr, getter_prop, setter_prop, method_prop, plain_method}
 use Rattle.ecma_syntax.specs.Input.{Input, Code, kind, TakesWord, in_body, in_static, setting}
 use Rattle.ecma_syntax.specs.Shape.{is_absent, is_item, is_param, function_parts, field_end, FunctionParts}
+use Rattle.ecma_syntax.specs.Operators.{key_end}
 use Rattle.ecma_grammar.specs.Parts.{part, By, IsEmpty}
 use Rattle.ecma_grammar.specs.Functions.{Parameters, SetParameter, Body, Closes, Star, Async, FunctionHead, Named, ArrowPattern, ArrowParameters, ArrowHead, MethodHead, Heritage, Members, Static, Initial, FunctionDeclaration, FunctionExpression, ArrowExpression, ObjectMethod, ClassMethod, Field}
 use Rattle.ecma_grammar.specs.Grammar.{Spells, parts}
@@ -149,7 +150,7 @@ module _ (know : Knowledge) where
 
   pub accessor_found : (s : Span) (k v : Tree) (i : Bool) (ds : Trees) → Found know k → Found know v → Found know (auto_accessor s k v i ds)
   accessor_found s k v i ds f g mode n c ts r h l =
-      let y = f Plain refl _ h.1 h.2 h.8.1 (word know c _ h.0 h.1 h.6 (fixed i c ts h.0 h.5 l)) in let z = initial (field_end true (kind h.1)) c v g h.2 r h.9 y.1 in ((tt, y.0, z.0, no_parts ds h.4), z.1)
+      let y = f Plain refl _ h.1 h.2 h.8.1 (word know c _ h.0 h.1 h.6 (fixed i c ts h.0 h.5 l)) in let z = initial key_end c v g h.2 r h.9 y.1 in ((tt, y.0, z.0, no_parts ds h.4), z.1)
 
   pub static_block_found : (s b : Span) (ss : Trees) → AllFound know ss → Found know (static_block s (block_stmt b ss))
   static_block_found s b ss a mode n c ts r h l = let z = items know is_item Closes (closes know) (in_static c) false ss a h.1 r h.4 (took know (in_static c) _ h.0 h.1 h.3 (word know c _ ts h.0 h.2 l)) in ((tt, (tt, z.0)), z.1)
