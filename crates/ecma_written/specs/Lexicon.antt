@@ -17,19 +17,19 @@ use Rattle.ecma_layout.specs.Looks.{regular_expression, joined, texts_of}
 use Rattle.ecma_layout.specs.Literals.{name_bytes, key_bytes, string_bytes, number_bytes, big_bytes, quasi_bytes}
 use Rattle.ecma_layout.specs.Words.{sign_of}
 use Rattle.ecma_written.specs.Texts.{mark_text, ending_text, word_text, is_strict_text}
-use Rattle.ecma_written.specs.Means.{Means, Known}
+use Rattle.ecma_written.specs.Means.{Means, TellsKinds, Known}
 
 pub record Lexicon (style : Style) : Type 0 where
   -- behind a token that was read are such tokens
   pub later : (ts m : Input) → rest ts ≡ m → Known ts.places → Known m.places
 
   -- Punctuators, words and operators are tokens of their kind, without an escape.
-  pub marks : (k j : ℕ) (x : Content) (e : Bool) → Means Div (mark_text k) j x e → (j ≡ k) × (e ≡ false)
-  pub words : (k j : ℕ) (x : Content) (e : Bool) → Means Div (own_text k) j x e → (j ≡ k) × (e ≡ false)
-  pub keywords : (k j : ℕ) (x : Content) (e : Bool) → Means Div (word_text k) j x e → (j ≡ k) × (e ≡ false)
-  pub signs : (k j : ℕ) (x : Content) (e : Bool) → Means Div (sign_of k) j x e → (j ≡ k) × (e ≡ false)
-  pub operators : (k j : ℕ) (x : Content) (e : Bool) → Means Div (operator_text k) j x e → (j ≡ k) × (e ≡ false)
-  pub endings : (k j : ℕ) (x : Content) (e : Bool) → Means TemplateEnd (ending_text k) j x e → (j ≡ k) × (e ≡ false)
+  pub marks : TellsKinds Div mark_text
+  pub words : TellsKinds Div own_text
+  pub keywords : TellsKinds Div word_text
+  pub signs : TellsKinds Div sign_of
+  pub operators : TellsKinds Div operator_text
+  pub endings : TellsKinds TemplateEnd ending_text
 
   -- The text of a word that was read is that word again, and has an escape only where it is no reserved word.
   pub names : (ts : Input) (j : ℕ) (x : Content) (e : Bool) → Known ts.places → is_word (kind ts) ≡ true → Means Div (name_bytes style (text ts)) j x e
