@@ -60,6 +60,9 @@ punctuates q s rest kind e a n d = (
   (s, look_among punctuators s kind e, refl, λ other more k i f. no_longer q s other rest more (one_stays q s punctuators other k a i) n f),
 )
 
--- what nothing follows
+-- no character, and any
 abbrev pub never : ℕ → Bool
 never c = false
+
+abbrev pub always : ℕ → Bool
+always c = true

@@ -26,7 +26,7 @@ use Rattle.ecma_layout.specs.Words.{sign_of}
 use Rattle.ecma_written.specs.Means.{Means, TellsKinds}
 use Rattle.ecma_written.specs.Texts.{punctuators, mark_text, ending_text, word_text}
 use Rattle.ecma_written.proofs.Ascii.{Ascii, ascii, is_ascii}
-use Rattle.ecma_written.proofs.Punctuators.{look, stays, all_stay, punctuates}
+use Rattle.ecma_written.proofs.Punctuators.{look, stays, all_stay, punctuates, always}
 use Rattle.ecma_written.proofs.PlainWords.{is_plain_word, are_parts, spell_parts}
 use Rattle.ecma_lexeme.proofs.SortLemmas.{word_begins, string_begins}
 use Rattle.ecma_literal.proofs.NumeralLemmas.{numeral_starts}
