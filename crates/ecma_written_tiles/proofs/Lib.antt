@@ -1,0 +1,4 @@
+pub mod Pen
+pub mod Gaps
+pub mod Walks
+pub mod Touch
