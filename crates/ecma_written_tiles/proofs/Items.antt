@@ -13,7 +13,7 @@ use Rattle.ecma_written.specs.Says.{SaysPiece, SaysTexts, SaysMeaning, Says}
 use Rattle.ecma_written_tiles.specs.Classes.{State, Clear, Shut, Class, Word, Number, Big, Member, Str, Regex, Operator, Arrow, Closed, Quasi, End, is_open, takes, behind}
 use Rattle.ecma_written_tiles.specs.Following.{Front}
 use Rattle.ecma_written_tiles.specs.Goes.{When, GoesText, GoesPiece, GoesTexts, GoesMeaning, Goes}
-use Rattle.ecma_written_tiles.proofs.Walks.{mono, reach}
+use Rattle.ecma_written_tiles.proofs.Walks.{mono, reach, When_mono}
 
 pub data Item : Type 0 where
   Plain : Piece → Item
@@ -77,6 +77,25 @@ says_of (both f g) s P rest a b ts r w h =
     let y = says_of g t.0 P rest x.0 b x.1 r t.1 x.3 in
     (y.0, y.1, (x.0, x.1, x.2, y.2), y.3)
 says_of refused s P rest a b ts r g h = absurd g
+
+-- ---- texts that touch, one by one
+
+abbrev pub apart : List (List ℕ) → List Item → List Item
+apart [] xs = xs
+apart (own ∷ others) xs = Plain (Text None own) ∷ apart others xs
+
+pub spread_apart : (texts : List (List ℕ)) (xs : List Item) → spread (apart texts xs) ≡ texts_before texts (spread xs)
+spread_apart [] xs = refl
+spread_apart (own ∷ others) xs = ap (λ (ys : List Piece). Text None own ∷ ys) (spread_apart others xs)
+
+pub goes_apart : (texts : List (List ℕ)) (xs : List Item) (s : State) → GoesTexts texts s (λ t. GoesAll xs t) → GoesAll (apart texts xs) s
+goes_apart [] xs s g = g
+goes_apart (own ∷ others) xs s g =
+    (g.0, g.1, When_mono (takes g.0 s) (GoesTexts others (behind g.0 s) (λ t. GoesAll xs t)) (GoesAll (apart others xs) (behind g.0 s)) g.2 (λ h. goes_apart others xs (behind g.0 s) h))
+
+pub says_apart : (texts : List (List ℕ)) (xs : List Item) (a b : Gap) (ts r : Input) → SaysAll (apart texts xs) a ts b r → (k : Gap) × (m : Input) × SaysTexts texts a ts k m × SaysAll xs k m b r
+says_apart [] xs a b ts r h = (a, ts, (refl, refl), h)
+says_apart (own ∷ others) xs a b ts r h = let y = says_apart others xs h.0 b h.1 r h.3 in (y.0, y.1, (h.0, h.1, h.2, y.2), y.3)
 
 -- ---- behind a mark that nothing runs into
 

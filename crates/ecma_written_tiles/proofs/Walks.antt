@@ -31,7 +31,7 @@ texts_mono : (texts : List (List ℕ)) (s : State) (P Q : State → Type 0) → 
 texts_mono [] s P Q h f = f s h
 texts_mono (own ∷ others) s P Q h f = text_mono Div own s (λ t. GoesTexts others t P) (λ t. GoesTexts others t Q) h (λ t k. texts_mono others t P Q k f)
 
-meaning_mono : (m : Meaning) (s : State) (P Q : State → Type 0) → GoesMeaning m s P → ((t : State) → P t → Q t) → GoesMeaning m s Q
+pub meaning_mono : (m : Meaning) (s : State) (P Q : State → Type 0) → GoesMeaning m s P → ((t : State) → P t → Q t) → GoesMeaning m s Q
 meaning_mono (regular_expression body flags) s P Q h f = text_mono RegExp (joined (texts_of (regular_expression body flags))) s P Q h f
 meaning_mono (template_characters own) s P Q h f = text_mono TemplateTail own s P Q h f
 meaning_mono (template_end own) s P Q h f = text_mono TemplateEnd own s P Q h f
@@ -76,7 +76,8 @@ unfolding Reached
 texts_reach [] s P h = (s, h)
 texts_reach (own ∷ others) s P h = let x = text_reach Div own s (λ t. GoesTexts others t P) h in texts_reach others x.0 P x.1
 
-meaning_reach : (m : Meaning) (s : State) (P : State → Type 0) → GoesMeaning m s P → Reached P
+pub meaning_reach : (m : Meaning) (s : State) (P : State → Type 0) → GoesMeaning m s P → (t : State) × P t
+unfolding Reached
 meaning_reach (regular_expression body flags) s P h = text_reach RegExp (joined (texts_of (regular_expression body flags))) s P h
 meaning_reach (template_characters own) s P h = text_reach TemplateTail own s P h
 meaning_reach (template_end own) s P h = text_reach TemplateEnd own s P h
