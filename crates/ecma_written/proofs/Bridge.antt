@@ -1,6 +1,6 @@
 -- The tokens that a layout says are told to whatever goes on behind them.
-use Rattle.std.proofs.Common.{◌≡◌, ℕ, ◌⊎◌, inl, inr, Bool, List, [], ◌∷◌, refl, sym, ap, subst, ◌∙◌}
-use Rattle.std.specs.Prelude.{◌+◌, codes, length}
+use Rattle.std.proofs.Common.{◌≡◌, ℕ, inl, inr, Bool, List, [], ◌∷◌, sym, ap, subst, ◌∙◌}
+use Rattle.std.specs.Prelude.{codes}
 use Rattle.ecma_token.specs.Tokens.{SpecToken}
 use Rattle.ecma_lexeme.specs.declared.goal.LexicalGoal.{LexicalGoal}
 use Rattle.ecma_lexeme.specs.declared.goal.LexicalGoal.TheVariants.{Div, RegExp, TemplateTail, TemplateEnd}

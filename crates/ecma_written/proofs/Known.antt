@@ -1,14 +1,14 @@
 -- The tokens that tile a text of scalar values are known: what is left behind each is such a text again.
-use Rattle.std.proofs.Common.{◌≡◌, ◌≢◌, ℕ, ◌+◌, ◌⊎◌, inl, inr, ⊎_elim, Bool, true, false, ◌&&◌, List, [], ◌∷◌, ◌++◌, refl, sym, ap, subst, ◌∙◌}
+use Rattle.std.proofs.Common.{◌≡◌, ℕ, ◌+◌, inl, inr, ⊎_elim, Bool, true, false, ◌&&◌, List, [], ◌∷◌, ◌++◌, refl, sym, ap, ◌∙◌}
 use Rattle.std.proofs.lemmas.Bool.{and_parts}
 use Rattle.std.specs.Prelude.{◌||◌, nat_le}
 use Rattle.std.specs.Char.{IsScalar}
 use lib.Utf8.{scalars, scalar}
 use Rattle.ecma_token.specs.Tokens.{Spot}
 use Rattle.ecma_scan.specs.Escapes.{IsEscape, IsDigits}
-use Rattle.ecma_scan.specs.Names.{IsName, Spell, IsNameChar}
+use Rattle.ecma_scan.specs.Names.{Spell, IsNameChar}
 use Rattle.ecma_scan.specs.Places.{bytes}
-use Rattle.ecma_scan.specs.Trivia.{Piece, WhiteSpace, LineTerminator, LineComment, BlockComment, IsPiece, IsLineBreak, Follow, IsSkipped, spelled, breaks}
+use Rattle.ecma_scan.specs.Trivia.{Piece, WhiteSpace, LineTerminator, LineComment, BlockComment, IsPiece, IsLineBreak, Follow, spelled, breaks}
 use Rattle.ecma_scan.specs.declared.trivia.Goal.{Goal}
 use Rattle.ecma_literal.specs.declared.template.Ending.{Ending}
 use Rattle.ecma_literal.specs.declared.template.Ending.TheVariants.{BackQuote, Substitution}
@@ -17,7 +17,7 @@ use Rattle.ecma_lexeme.specs.declared.goal.LexicalGoal.{LexicalGoal}
 use Rattle.ecma_lexeme.specs.declared.goal.LexicalGoal.TheVariants.{Div, RegExp, TemplateTail, TemplateEnd}
 use Rattle.ecma_lexeme.specs.Lexemes.{SpecLexeme, IsLexeme, IsOutside}
 use Rattle.ecma_syntax.specs.Input.{Place, template_goal}
-use Rattle.ecma_spells.specs.Tiled.{goal_at, whole, IsBeforeBy, AreTiles, AfterHashbang, Tile}
+use Rattle.ecma_spells.specs.Tiled.{goal_at, whole, IsBeforeBy, AreTiles, AfterHashbang}
 use Rattle.ecma_written.specs.Means.{Known}
 use Rattle.ecma_written.specs.Laws.{TokensAreKnown}
 

@@ -1,31 +1,29 @@
 -- Texts that tables have by kinds mean the tokens of these kinds.
-use Rattle.std.proofs.Common.{◌≡◌, ◌≢◌, ℕ, ◌⊎◌, inl, inr, ⊎_elim, Bool, true, false, cond, ◌&&◌, ◌||◌, not, List, [], ◌∷◌, ◌++◌, Option, Some, None, refl, sym, ap, subst, ◌∙◌}
-use Rattle.std.specs.Prelude.{◌==◌, codes, if◌then◌else◌, nat_le, encode_utf8_all}
+use Rattle.std.proofs.Common.{◌≡◌, ℕ, ◌⊎◌, inl, inr, ⊎_elim, Bool, true, false, ◌&&◌, ◌||◌, not, List, [], ◌∷◌, ◌++◌, Option, Some, None, refl, sym, ap, subst, ◌∙◌}
+use Rattle.std.specs.Prelude.{◌==◌, codes, if◌then◌else◌, encode_utf8_all}
 use Rattle.std.specs.Str.{chars}
-use Rattle.std.proofs.lemmas.Bool.{cases_Bool, false≢true, and_parts, eqb-true, or_cases}
+use Rattle.std.proofs.lemmas.Bool.{false≢true, and_parts, eqb-true, or_cases}
 use Rattle.std.proofs.lemmas.List.{append-nil}
 use Rattle.std.proofs.lemmas.Str.{chars-nil}
 use Rattle.unicode_ident.proofs.Computing.{unicode_ident}
 use Rattle.ecma_token.specs.Kinds.{plus_plus_kind, minus_minus_kind, bang_kind, tilde_kind, add_kind, sub_kind, back_quote_kind, dollar_brace_kind}
 use Rattle.ecma_token.specs.Operators.{operators, operator_text}
 use Rattle.ecma_token.specs.Words.{own_words, own_text, text_among, kind_of}
-use Rattle.ecma_token.specs.Tokens.{SpecToken, Content, bare}
+use Rattle.ecma_token.specs.Tokens.{Content, bare}
 use Rattle.ecma_token.specs.TokenViews.{token_kind_number}
 use Rattle.ecma_token.specs.declared.token.TokenKind.{TokenKind}
-use Rattle.ecma_tokens.specs.Machine.{told}
-use Rattle.ecma_scan.specs.Characters.{is_decimal_digit, is_name_start, is_name_part}
-use Rattle.ecma_scan.specs.Names.{is_opening, Spell}
-use Rattle.ecma_scan.specs.Punctuators.{Spelling, punctuators as spellings, IsAmong, IsNumberDot, IsPunctuator}
-use Rattle.ecma_literal.specs.Escapes.{begins}
+use Rattle.ecma_scan.specs.Characters.{is_decimal_digit, is_name_start}
+use Rattle.ecma_scan.specs.Names.{Spell}
+use Rattle.ecma_scan.specs.Punctuators.{Spelling, punctuators as spellings, IsAmong, IsNumberDot}
 use Rattle.ecma_literal.specs.declared.template.Ending.TheVariants.{BackQuote, Substitution}
 use Rattle.ecma_lexeme.specs.declared.goal.LexicalGoal.TheVariants.{Div, TemplateEnd}
-use Rattle.ecma_lexeme.specs.Lexemes.{SpecLexeme, IsLexeme, IsMark, IsWord, IsNumber, IsQuoted, IsPattern, plain, word_lexeme}
+use Rattle.ecma_lexeme.specs.Lexemes.{SpecLexeme, IsLexeme, plain, word_lexeme}
 use Rattle.ecma_lexeme.proofs.LexemeLemmas.{one_lexeme}
 use Rattle.ecma_lexeme.proofs.SpelledLemmas.{encoded}
 use Rattle.ecma_layout.specs.Words.{sign_of}
 use Rattle.ecma_written.specs.Means.{Means, TellsKinds}
 use Rattle.ecma_written.specs.Texts.{punctuators, mark_text, ending_text, word_text}
-use Rattle.ecma_written.proofs.Ascii.{Ascii, ascii, is_ascii}
+use Rattle.ecma_written.proofs.Ascii.{ascii, is_ascii}
 use Rattle.ecma_written.proofs.Punctuators.{look, stays, all_stay, punctuates, always}
 use Rattle.ecma_written.proofs.PlainWords.{is_plain_word, are_parts, spell_parts}
 use Rattle.ecma_lexeme.proofs.SortLemmas.{word_begins, string_begins}

@@ -1,11 +1,9 @@
 -- Blanks and ends of lines are trivia (ECMA-262, 12.2 and 12.3).
-use Rattle.std.proofs.Common.{◌≡◌, ◌≢◌, ℕ, ◌⊎◌, inl, inr, Bool, true, false, ◌&&◌, ◌||◌, List, [], ◌∷◌, ◌++◌, refl, sym, ap, subst, ◌∙◌, append_assoc}
-use Rattle.std.specs.Prelude.{◌==◌}
+use Rattle.std.proofs.Common.{◌≡◌, ℕ, ◌⊎◌, inl, inr, Bool, true, false, ◌||◌, List, [], ◌∷◌, refl, sym, ap, subst, ◌∙◌}
 use Rattle.std.specs.List.{list_any}
-use Rattle.std.proofs.lemmas.Bool.{false≢true}
-use Rattle.ecma_scan.specs.Characters.{is_white_space, is_line_terminator}
-use Rattle.ecma_scan.specs.Runs.{Ends, Each}
-use Rattle.ecma_scan.specs.Trivia.{Piece, WhiteSpace, LineTerminator, LineComment, BlockComment, Follow, IsPiece, IsSkipped, NoTrivia, breaks}
+use Rattle.ecma_scan.specs.Characters.{is_white_space}
+use Rattle.ecma_scan.specs.Runs.{Ends}
+use Rattle.ecma_scan.specs.Trivia.{Piece, WhiteSpace, LineTerminator, Follow, IsSkipped, NoTrivia, breaks}
 use Rattle.ecma_scan.specs.declared.trivia.Goal.{Goal}
 
 -- a character of white space, LF, and CR with LF

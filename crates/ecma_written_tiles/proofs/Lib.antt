@@ -9,3 +9,4 @@ pub mod Tiling
 pub mod Settled
 pub mod NoHashbang
 pub mod Retiled
+pub mod Texts

@@ -1,7 +1,6 @@
 -- Punctuators are tokens of their classes.
-use Rattle.std.proofs.Common.{◌≡◌, ◌≢◌, ℕ, ◌⊎◌, inl, inr, Bool, true, false, ◌||◌, List, [], ◌∷◌, ◌++◌, Option, Some, None, refl, sym, subst, ◌∙◌}
+use Rattle.std.proofs.Common.{◌≡◌, ◌≢◌, ℕ, inr, Bool, true, false, ◌||◌, List, [], ◌∷◌, ◌++◌, Some, refl, sym, subst, ◌∙◌}
 use Rattle.std.specs.Prelude.{◌==◌, codes}
-use Rattle.std.specs.Str.{chars}
 use Rattle.std.proofs.lemmas.Bool.{false≢true, eq-eqb}
 use Rattle.std.proofs.lemmas.List.{append-nil}
 use Rattle.unicode_ident.proofs.Computing.{unicode_ident}
@@ -15,10 +14,10 @@ use Rattle.ecma_scan.specs.Runs.{Ends}
 use Rattle.ecma_scan.specs.Punctuators.{punctuators as spellings, IsNumberDot}
 use Rattle.ecma_lexeme.specs.declared.goal.LexicalGoal.TheVariants.{Div}
 use Rattle.ecma_lexeme.specs.Lexemes.{SpecLexeme, IsLexeme, plain}
-use Rattle.ecma_written.proofs.Ascii.{Ascii, ascii, is_ascii}
+use Rattle.ecma_written.proofs.Ascii.{ascii, is_ascii}
 use Rattle.ecma_written.proofs.Punctuators.{look, stays, all_stay, punctuates}
-use Rattle.ecma_written_tiles.specs.Classes.{Class, Word, Number, Big, Member, Str, Regex, Plus, Incr, Minus, Decr, Bang, Slash, Less, Dot, Dots, Operator, Arrow, Hash, Closed, Quasi, End}
-use Rattle.ecma_written_tiles.specs.Following.{Needs, Front, Starts, Quiet, Arrowless, is_wordy, is_dotty, is_safe, never}
+use Rattle.ecma_written_tiles.specs.Classes.{Class, Decr, Closed}
+use Rattle.ecma_written_tiles.specs.Following.{Needs, Front, Quiet, Arrowless, is_wordy, is_dotty, is_safe, never}
 use Rattle.ecma_written_tiles.specs.Goes.{Fits}
 
 -- ---- no trivia
@@ -39,9 +38,10 @@ quiet_plain c cs e =
     let x = or_none (is_white_space c) _ e in
     let y = or_none (is_line_terminator c) _ x.1 in
     let z = or_none (c == 47) _ y.1 in
-    let w = or_none (c == 60) _ z.1 in
-    (record { white = x.0; line = y.0; slashes = λ inner. not_first c 47 cs (47 ∷ inner) z.0; block = λ inner. not_first c 47 cs (42 ∷ inner) z.0; html = λ inner. not_first c 60 cs (33 ∷ 45 ∷ 45 ∷ inner) w.0 },
-    λ inner. not_first c 45 cs (45 ∷ 62 ∷ inner) w.1)
+    let w = or_none (c == 60) _ z.1 in (
+      record { white = x.0; line = y.0; slashes = λ inner. not_first c 47 cs (47 ∷ inner) z.0; block = λ inner. not_first c 47 cs (42 ∷ inner) z.0; html = λ inner. not_first c 60 cs (33 ∷ 45 ∷ 45 ∷ inner) w.0 },
+      λ inner. not_first c 45 cs (45 ∷ 62 ∷ inner) w.1,
+    )
 
 pub tail_is : (c : ℕ) (cs ds : List ℕ) → c ∷ cs ≡ c ∷ ds → cs ≡ ds
 tail_is c cs ds e = cc

@@ -1,6 +1,6 @@
 -- No layout begins with the mark of a hashbang.
-use Rattle.std.proofs.Common.{◌≡◌, ◌≢◌, ℕ, Bool, true, false, not, List, [], ◌∷◌, ◌++◌, refl, sym, ap, subst, ◌∙◌, append_assoc, ⊎_elim}
-use Rattle.std.specs.Prelude.{◌==◌, codes}
+use Rattle.std.proofs.Common.{◌≡◌, ℕ, true, false, not, List, [], ◌∷◌, ◌++◌, refl, sym, ap, subst, ◌∙◌, append_assoc, ⊎_elim}
+use Rattle.std.specs.Prelude.{◌==◌}
 use Rattle.std.specs.Str.{chars, IsUtf8}
 use Rattle.std.proofs.lemmas.Str.{chars-append, chars-nil}
 use Rattle.std.proofs.lemmas.Bool.{cases_Bool, false≢true, not-true, eqb-true, eq-eqb}
@@ -9,14 +9,14 @@ use Rattle.ecma_scan.specs.Trivia.{NoHashbang}
 use Rattle.ecma_lexeme.specs.declared.goal.LexicalGoal.{LexicalGoal}
 use Rattle.ecma_lexeme.specs.declared.goal.LexicalGoal.TheVariants.{Div, RegExp, TemplateTail, TemplateEnd}
 use Rattle.ecma_pieces.specs.Pieces.{Piece, Text, Brace, Blank, Line, Deeper, Back, Semicolon, Commit, Mark}
-use Rattle.ecma_layout.specs.Looks.{Meaning, regular_expression, template_characters, template_end, hashbang_comment, touching, joined, texts_of}
+use Rattle.ecma_layout.specs.Looks.{regular_expression, template_characters, template_end, hashbang_comment, touching, joined, texts_of}
 use Rattle.ecma_written.proofs.Ascii.{Ascii, ascii}
-use Rattle.ecma_written_tiles.specs.Classes.{State, Fresh, Class, Word, Number, Big, Member, Str, Regex, Plus, Incr, Minus, Decr, Bang, Slash, Less, Dot, Dots, Operator, Arrow, Hash, Closed, Quasi, End, takes, behind}
+use Rattle.ecma_written_tiles.specs.Classes.{Fresh, Class, Word, Number, Big, Member, Str, Regex, Plus, Incr, Minus, Decr, Bang, Slash, Less, Dot, Dots, Operator, Arrow, Hash, Closed, Quasi, End, takes, behind}
 use Rattle.ecma_written_tiles.specs.Following.{Front, Follows, is_safe}
 use Rattle.ecma_written_tiles.specs.Goes.{GoesText}
 use Rattle.ecma_written_tiles.proofs.Gaps.{Blankness, White, Feed, Return, gap_before, AreBlank}
 use Rattle.ecma_written_tiles.proofs.Items.{Item, Plain, Meant, spread, GoesAll, apart, spread_apart, goes_apart, front_nil}
-use Rattle.ecma_written_tiles.proofs.Leads.{Lines, Lead, lead_of, gap_append, wrote_texts, next_lines, text_lines, follows}
+use Rattle.ecma_written_tiles.proofs.Leads.{Lines, lead_of, gap_append, wrote_texts, next_lines, text_lines, follows}
 use Rattle.ecma_written_tiles.proofs.Pen.{Pen, lead, own_text, after_text, own, next, wrote}
 use Rattle.ecma_written_tiles.proofs.Touch.{safe_not}
 use Rattle.ecma_written_tiles.proofs.Walks.{when_so}

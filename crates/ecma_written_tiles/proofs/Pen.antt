@@ -1,12 +1,12 @@
 -- What pieces write on a page, as a list of its own, by the pen alone: how deep it is indented, and whether a line starts.
-use Rattle.std.proofs.Common.{◌≡◌, ℕ, ◌+◌, ◌-◌, ⊎_elim, Bool, true, false, cond, List, [], ◌∷◌, ◌++◌, length, Option, Some, None, refl, sym, ap, ◌∙◌, append_assoc, arith}
-use Rattle.std.specs.Prelude.{if◌then◌else◌, ◌==◌, nat_lt, codes, option_map}
+use Rattle.std.proofs.Common.{◌≡◌, ℕ, ◌+◌, ◌-◌, ⊎_elim, Bool, true, false, List, [], ◌∷◌, ◌++◌, length, Option, Some, None, refl, sym, ap, ◌∙◌, append_assoc, arith}
+use Rattle.std.specs.Prelude.{if◌then◌else◌, ◌==◌, nat_lt, codes}
 use Rattle.std.proofs.lemmas.Bool.{cases_Bool}
 use Rattle.std.proofs.lemmas.Bool.Decides.{nat_tests}
 use Rattle.std.proofs.lemmas.List.{append-nil}
 use Rattle.ecma_token.specs.declared.place.Span.{Span}
 use Rattle.ecma_token.specs.declared.place.BytePos.{BytePos}
-use Rattle.ecma_write.specs.Pages.{Page, Marks, put, put_some, put_line, put_mark, end_line, deeper, shallower, indented, with_text, marked, begun, ended, times, last_depth, moved, waiting_for, record_here}
+use Rattle.ecma_write.specs.Pages.{Page, put, put_some, put_line, put_mark, end_line, deeper, shallower, indented, with_text, marked, begun, ended, times, last_depth}
 use Rattle.ecma_pieces.specs.Pieces.{Piece, Text, Brace, Blank, Line, Deeper, Back, Semicolon, Commit, Mark, resolved}
 
 pub record Pen : Type 0 where

@@ -1,15 +1,15 @@
 -- Tokens that tile a text tile it under the goals that a derivation gives them.
-use Rattle.std.proofs.Common.{◌≡◌, ◌≢◌, ℕ, ◌+◌, ◌≤◌, ◌⊎◌, inl, inr, ⊎_elim, Bool, true, false, ◌&&◌, ◌||◌, not, List, [], ◌∷◌, ◌++◌, refl, sym, ap, subst, ◌∙◌, arith}
-use Rattle.std.specs.Prelude.{◌==◌, nat_le, codes, if◌then◌else◌, bytes_eq}
+use Rattle.std.proofs.Common.{◌≡◌, ℕ, ◌+◌, ◌⊎◌, inl, inr, ⊎_elim, Bool, true, false, ◌&&◌, ◌||◌, not, List, [], ◌∷◌, ◌++◌, refl, sym, ap, subst, ◌∙◌, arith}
+use Rattle.std.specs.Prelude.{◌==◌, nat_le, if◌then◌else◌, bytes_eq}
 use Rattle.std.specs.Str.{chars}
-use Rattle.std.proofs.lemmas.Bool.{cases_Bool, false≢true, true≢false, and_parts, not-true, eqb-true, eq-eqb, or_cases}
+use Rattle.std.proofs.lemmas.Bool.{cases_Bool, false≢true, and_parts, not-true, eqb-true, eq-eqb}
 use Rattle.std.proofs.lemmas.Bool.Decides.{nat_tests}
 use Rattle.ecma_token.specs.Kinds.{template_kind, dollar_brace_kind, back_quote_kind, regex_kind, div_kind, div_assign_kind, name_kind, error_kind, shebang_kind}
 use Rattle.ecma_token.specs.Words.{kind_of, kind_among, own_words}
-use Rattle.ecma_token.specs.Tokens.{SpecToken, Spot}
+use Rattle.ecma_token.specs.Tokens.{Spot}
 use Rattle.ecma_token.specs.TokenViews.{token_kind_number}
 use Rattle.ecma_token.specs.declared.token.TokenKind.{TokenKind}
-use Rattle.ecma_scan.specs.Punctuators.{Spelling, punctuators, IsAmong, IsPunctuator}
+use Rattle.ecma_scan.specs.Punctuators.{Spelling, punctuators, IsAmong}
 use Rattle.ecma_scan.specs.Trivia.{IsSkipped, NoTrivia, Follow, IsPiece}
 use Rattle.ecma_scan.specs.declared.trivia.Goal.{Goal}
 use Rattle.ecma_literal.specs.declared.template.Ending.{Ending}
@@ -17,7 +17,7 @@ use Rattle.ecma_literal.specs.declared.template.Ending.TheVariants.{BackQuote, S
 use Rattle.ecma_literal.specs.Escapes.{begins}
 use Rattle.ecma_literal.specs.Templates as templates
 use Rattle.ecma_lexeme.specs.declared.goal.LexicalGoal.{LexicalGoal}
-use Rattle.ecma_lexeme.specs.declared.goal.LexicalGoal.TheVariants.{Div, RegExp, TemplateTail, TemplateEnd}
+use Rattle.ecma_lexeme.specs.declared.goal.LexicalGoal.TheVariants.{Div, RegExp}
 use Rattle.ecma_lexeme.specs.Lexemes.{SpecLexeme, IsLexeme, IsOutside, IsCharacters, IsEnd, IsMark, numeral_lexeme}
 use Rattle.ecma_literal.specs.Numbers.{Meaning, Number, BigInt}
 use Rattle.ecma_lexeme.specs.Sorts.{is_slash}
@@ -425,9 +425,11 @@ module _ (goal : Goal) (end : ℕ) where
       let z = goes_on (Behind s) q qs o in
       let n : after (Behind s) q.spot.token.kind ≡ Nowhere → ⊥ = λ e. not_nowhere qs (subst (λ (r : Region). over r qs ≡ Outside []) e z.1) in
       let kind = kind_of_tile first text h.0 t q h.1 m.0 in
-      let i = behind_is s q.spot.token.kind n in
-      (h.0, behind_tile first text h.0 t q h.1 m.0 k.0 (eqb-true q.goal 3 z.0) (⊎_elim (λ (e : q.spot.token.kind ≡ back_quote_kind). inl (sym kind ∙ e)) (λ (e : q.spot.token.kind ≡ dollar_brace_kind). inr (sym kind ∙ e)) i) p.0 p.1 p.2,
-      retile (after (Behind s) q.spot.token.kind) false h.0 ts qs k.1 h.2 m.1 z.1 (behind_opens s q.spot.token.kind h.0 i))
+      let i = behind_is s q.spot.token.kind n in (
+        h.0,
+        behind_tile first text h.0 t q h.1 m.0 k.0 (eqb-true q.goal 3 z.0) (⊎_elim (λ (e : q.spot.token.kind ≡ back_quote_kind). inl (sym kind ∙ e)) (λ (e : q.spot.token.kind ≡ dollar_brace_kind). inr (sym kind ∙ e)) i) p.0 p.1 p.2,
+        retile (after (Behind s) q.spot.token.kind) false h.0 ts qs k.1 h.2 m.1 z.1 (behind_opens s q.spot.token.kind h.0 i),
+      )
     where
       behind_opens : (s : List Bool) (k : ℕ) (text : List ℕ) → (k ≡ back_quote_kind) ⊎ (k ≡ dollar_brace_kind) → Opening (after (Behind s) k) text
       behind_opens s k text (inl e) = subst (λ (j : ℕ). Opening (after (Behind s) j) text) (sym e) tt

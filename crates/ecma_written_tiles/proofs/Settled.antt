@@ -1,27 +1,22 @@
 -- Semicolons that go: items as they are left when these are gone. What is written of the items shortened is what is written of these.
-use Rattle.std.proofs.Common.{◌≡◌, ◌≢◌, ℕ, ◌+◌, ◌⊎◌, inl, inr, Bool, true, false, List, [], ◌∷◌, ◌++◌, Option, Some, None, refl, sym, ap, subst, ◌∙◌}
+use Rattle.std.proofs.Common.{◌≡◌, ℕ, ◌⊎◌, inl, inr, Bool, true, List, [], ◌∷◌, Option, Some, refl, sym, ap, subst, ◌∙◌}
 use Rattle.std.specs.Prelude.{codes}
 use Rattle.std.specs.Str.{chars}
-use Rattle.std.proofs.lemmas.List.{append-nil}
-use Rattle.std.proofs.lemmas.Bool.{false≢true}
-use Rattle.std.proofs.lemmas.Str.{chars-nil}
 use Rattle.ecma_token.specs.declared.place.Span.{Span}
-use Rattle.ecma_token.specs.Kinds.{right_brace_kind, end_kind}
-use Rattle.ecma_tokens.specs.Machine.{told}
+use Rattle.ecma_token.specs.Kinds.{right_brace_kind}
 use Rattle.ecma_lexeme.specs.declared.goal.LexicalGoal.TheVariants.{Div}
-use Rattle.ecma_lexeme.specs.Lexemes.{SpecLexeme, IsLexeme}
+use Rattle.ecma_lexeme.specs.Lexemes.{SpecLexeme}
 use Rattle.ecma_lexeme.proofs.LexemeLemmas.{one_lexeme}
 use Rattle.ecma_syntax.specs.Input.{Input, kind, kind_of}
 use Rattle.ecma_write.specs.Pages.{Page}
 use Rattle.ecma_write.specs.States.{span_or_none}
 use Rattle.ecma_pieces.specs.Pieces.{Piece, Text, Brace, Blank, Line, Deeper, Back, Semicolon, Commit, Mark, resolved, shortened, behind as held_behind}
-use Rattle.ecma_layout.specs.Looks.{Meaning, regular_expression, template_characters, template_end, hashbang_comment, touching, texts_of, texts_before}
+use Rattle.ecma_layout.specs.Looks.{regular_expression, template_characters, template_end, hashbang_comment, touching, texts_of, texts_before}
 use Rattle.ecma_written.specs.Gaps.{Gap}
 use Rattle.ecma_written.specs.Says.{IsSaid, SemicolonMayGo}
-use Rattle.ecma_written_tiles.specs.Classes.{State, Clear, Shut, Class, Closed, takes, behind, is_open}
-use Rattle.ecma_written_tiles.specs.Following.{Front}
-use Rattle.ecma_written_tiles.specs.Goes.{Fits, When, GoesText}
-use Rattle.ecma_written_tiles.proofs.Items.{Item, Plain, Meant, spread, GoesItem, GoesAll, SaysItem, SaysAll, shut_for_clear}
+use Rattle.ecma_written_tiles.specs.Classes.{State, Clear, Shut, Closed, takes, is_open}
+use Rattle.ecma_written_tiles.specs.Goes.{When}
+use Rattle.ecma_written_tiles.proofs.Items.{Item, Plain, Meant, spread, GoesAll, SaysAll, shut_for_clear}
 use Rattle.ecma_written_tiles.proofs.Marks.{right_brace, right_brace_is, semicolon_mark}
 use Rattle.ecma_written_tiles.proofs.Walks.{When_mono, when_so, meaning_mono, meaning_reach}
 use Rattle.ecma_written.proofs.Bridge.{first_kind}

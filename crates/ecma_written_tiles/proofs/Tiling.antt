@@ -1,14 +1,10 @@
 -- The bytes of items are tiled by the tokens that they say.
-use Rattle.std.proofs.Common.{◌≡◌, ◌≢◌, ℕ, ◌+◌, ◌-◌, ◌≤◌, ◌⊎◌, inl, inr, ⊎_elim, Bool, true, false, ◌&&◌, ◌||◌, not, List, [], ◌∷◌, ◌++◌, None, length, length-append, refl, sym, ap, subst, ◌∙◌, append_assoc, arith}
-use Rattle.std.specs.Prelude.{◌==◌, codes, encode_utf8_all}
-use Rattle.std.specs.List.{list_any}
+use Rattle.std.proofs.Common.{◌≡◌, ◌≢◌, ℕ, ◌+◌, ◌⊎◌, inl, inr, ⊎_elim, Bool, true, false, ◌||◌, List, [], ◌∷◌, ◌++◌, None, length, length-append, refl, sym, ap, subst, ◌∙◌, append_assoc, arith}
+use Rattle.std.specs.Prelude.{codes, encode_utf8_all}
 use Rattle.std.specs.Str.{chars, IsUtf8}
 use Rattle.std.proofs.lemmas.Str.{chars-append, chars-nil, encodes-append, encodes-chars}
 use Rattle.std.proofs.lemmas.Bool.{cases_Bool, false≢true, true≢false}
 use Rattle.std.proofs.lemmas.List.{append-nil}
-use Rattle.ecma_token.specs.declared.place.Span.{Span}
-use Rattle.ecma_token.specs.Tokens.{Spot}
-use Rattle.ecma_tokens.specs.Machine.{told}
 use Rattle.ecma_scan.specs.Places.{bytes}
 use Rattle.ecma_scan.specs.Characters.{is_white_space, is_line_terminator, is_among}
 use Rattle.ecma_scan.specs.Runs.{Ends, Each}
@@ -18,22 +14,21 @@ use Rattle.ecma_scan.specs.declared.trivia.Goal.TheVariants.{Script, Module}
 use Rattle.ecma_scan.specs.declared.trivia.LineMark.TheVariants.{Slashes, HtmlOpen, HtmlClose}
 use Rattle.ecma_lexeme.specs.declared.goal.LexicalGoal.{LexicalGoal}
 use Rattle.ecma_lexeme.specs.declared.goal.LexicalGoal.TheVariants.{Div, RegExp, TemplateTail, TemplateEnd}
-use Rattle.ecma_lexeme.specs.Lexemes.{SpecLexeme, IsLexeme}
+use Rattle.ecma_lexeme.specs.Lexemes.{IsLexeme}
 use Rattle.ecma_lexing.specs.States.{place, spot_at}
 use Rattle.ecma_syntax.specs.Input.{Place, Input, no_context}
 use Rattle.ecma_spells.specs.Tiled.{goal_at, IsBefore, IsTile, AreTiles}
 use Rattle.ecma_pieces.specs.Pieces.{Piece, Text, Brace, Blank, Line, Deeper, Back, Semicolon, Commit, Mark}
-use Rattle.ecma_layout.specs.Looks.{Meaning, regular_expression, template_characters, template_end, hashbang_comment, touching, joined, texts_of}
+use Rattle.ecma_layout.specs.Looks.{regular_expression, template_characters, template_end, hashbang_comment, touching, joined, texts_of}
 use Rattle.ecma_written.specs.Gaps.{Gap, Touching, Spaced, Broken, is_broken, blanked, Lies}
-use Rattle.ecma_written.specs.Says.{IsSaid, SaysPiece}
-use Rattle.ecma_written.proofs.Ascii.{Ascii, ascii}
-use Rattle.ecma_written_tiles.specs.Classes.{State, Fresh, Clear, Shut, Worded, Numbered, Pointed, Plused, Minused, Slashed, Lessed, LessBanged, Dotted, Operated, Decred, Quasied, Class, Word, Number, Big, Member, Str, Regex, Plus, Incr, Minus, Decr, Bang, Slash, Less, Dot, Dots, Operator, Arrow, Closed, Quasi, End, takes, behind, is_open, blank_behind}
+use Rattle.ecma_written.specs.Says.{IsSaid}
+use Rattle.ecma_written_tiles.specs.Classes.{State, Fresh, Clear, Shut, Decred, Quasied, Class, Decr, Closed, Quasi, End, takes, behind, is_open, blank_behind}
 use Rattle.ecma_written_tiles.specs.Following.{Quiet, QuietUnder, Arrowless, Follows, Front}
 use Rattle.ecma_written_tiles.specs.Tiles.{AllHaveGoals}
 use Rattle.ecma_written_tiles.specs.Goes.{Fits, When, GoesText}
-use Rattle.ecma_written_tiles.proofs.Gaps.{Blankness, White, Feed, Return, chars_of, gap_before, is_end_of_line, breaks_line, AreBlank, are_skipped}
-use Rattle.ecma_written_tiles.proofs.Items.{Item, Plain, Meant, spread, GoesItem, GoesAll, SaysItem, SaysAll, apart, spread_apart, goes_apart, says_apart, shut_for_clear, front_nil}
-use Rattle.ecma_written_tiles.proofs.Leads.{Lines, Lead, lead_of, gap_append, gap_join, blank_join, breaks_join, breaks_flat, own_running, after_running, wrote_texts, next_lines, text_lines, follows, lone_32}
+use Rattle.ecma_written_tiles.proofs.Gaps.{Blankness, White, Feed, Return, gap_before, is_end_of_line, breaks_line, AreBlank, are_skipped}
+use Rattle.ecma_written_tiles.proofs.Items.{Item, Plain, Meant, spread, GoesAll, SaysItem, SaysAll, apart, spread_apart, goes_apart, says_apart, shut_for_clear, front_nil}
+use Rattle.ecma_written_tiles.proofs.Leads.{Lines, Lead, lead_of, gap_append, gap_join, blank_join, breaks_join, breaks_flat, wrote_texts, next_lines, text_lines, follows, lone_32}
 use Rattle.ecma_written_tiles.proofs.Marks.{right_brace, semicolon_mark}
 use Rattle.ecma_written_tiles.proofs.Pen.{Pen, lead, own_text, after_text, own, next, wrote}
 use Rattle.ecma_written_tiles.proofs.Touch.{needs}
@@ -281,7 +276,7 @@ module _ (goal : Goal) (end : ℕ) where
       let same = left_text own q us w d f.utf8 empty in
       let st = led q s us first a d m in
       let one = first_token goal end g own k s (us ++ d.blanks) first a last (chars w) f st
-          (inner_blank g k s own (us ++ d.blanks) t inner st.tight st.tighter) h (ap (λ (c : List ℕ). last + bytes c) (sym same) ∙ e) in
+      (inner_blank g k s own (us ++ d.blanks) t inner st.tight st.tighter) h (ap (λ (c : List ℕ). last + bytes c) (sym same) ∙ e) in
       let more = go one.place.spot.hi one.on in record {
         places = one.place ∷ more.places;
         tiles = (chars w, subst (λ (c : List ℕ). IsTile end goal first c one.place (chars w)) (sym same) one.tile, more.tiles);
@@ -316,7 +311,7 @@ module _ (goal : Goal) (end : ℕ) where
       → Lines q → (h : GoesText g own s (λ t. GoesAll xs t)) → More q s us first a
       → last + bytes (gap_before us (chars (own_text own q ++ wrote (spread xs) (after_text own q)))) ≡ end
       → ((last2 : ℕ) → GoesAll xs (behind h.0 s) → (after_text own q).at_start ≡ false → Lines (after_text own q) → last2 + bytes (chars (wrote (spread xs) (after_text own q))) ≡ end
-          → Tiled goal end xs (chars (wrote (spread xs) (after_text own q))) false Touching last2)
+      → Tiled goal end xs (chars (wrote (spread xs) (after_text own q))) false Touching last2)
       → Tiled goal end (x ∷ xs) (gap_before us (chars (own_text own q ++ wrote (spread xs) (after_text own q)))) first a last
   goes_tiled g own x xs q s us first a last say l h m e go =
       let t = when_so (takes h.0 s) (GoesAll xs (behind h.0 s)) h.2 in
@@ -332,7 +327,7 @@ module _ (goal : Goal) (end : ℕ) where
       runs (c ∷ cs) q e = refl
 
   -- behind a text
-  text_more : (q : Pen) (s : State) → q.at_start ≡ false → More q s [] false Touching
+  pub text_more : (q : Pen) (s : State) → q.at_start ≡ false → More q s [] false Touching
   text_more q s e = record { st = behind_stands s; starts = λ b. absurd (false≢true (sym e ∙ b)); apart = λ _. e }
 
   -- a blank: one more, and the indentation before it
@@ -370,19 +365,19 @@ module _ (goal : Goal) (end : ℕ) where
       blanked_touching Spaced e = cc
       blanked_touching Touching e = cc
 
-  line_more : (q : Pen) (s : State) (us : List Blankness) (first : Bool) (a : Gap) → (l : Lines q) → q.at_start ≡ false → More q s us first a → More (next Line q) Fresh (us ++ l.line ∷ []) first Broken
+  pub line_more : (q : Pen) (s : State) (us : List Blankness) (first : Bool) (a : Gap) → (l : Lines q) → q.at_start ≡ false → More q s us first a → More (next Line q) Fresh (us ++ l.line ∷ []) first Broken
   line_more q s us first a l e m = record {
-        st = record {
-          blank = blank_join us (l.line ∷ []) m.st.blank (line_blank l.line l.line_ends);
-          fresh = λ f. refl;
-          tight = λ f. absurd cc;
-          tighter = λ f. absurd cc;
-          broke = sym (breaks_join us (l.line ∷ []) ∙ (ap (λ b. breaks_line us || (b || false)) l.line_ends ∙ or_true (breaks_line us)));
-          touching = λ f. absurd cc;
-        };
-        starts = λ f. refl;
-        apart = λ f. absurd cc;
-      }
+    st = record {
+      blank = blank_join us (l.line ∷ []) m.st.blank (line_blank l.line l.line_ends);
+      fresh = λ f. refl;
+      tight = λ f. absurd cc;
+      tighter = λ f. absurd cc;
+      broke = sym (breaks_join us (l.line ∷ []) ∙ (ap (λ b. breaks_line us || (b || false)) l.line_ends ∙ or_true (breaks_line us)));
+      touching = λ f. absurd cc;
+    };
+    starts = λ f. refl;
+    apart = λ f. absurd cc;
+  }
     where
       line_blank : (u : Blankness) → is_end_of_line u ≡ true → AreBlank (u ∷ [])
       line_blank (White c) f = absurd (false≢true f)
@@ -459,8 +454,8 @@ module _ (goal : Goal) (end : ℕ) where
       let p : Pen = after_text (codes " ") q in
       let w : List ℕ = chars (wrote (spread xs) p) in
       let same : gap_before us (chars (own_text (codes " ") q ++ wrote (spread xs) p)) ≡ gap_before vs w =
-          left_text (codes " ") q us (wrote (spread xs) p) d lone_32.utf8 (λ n. absurd cc)
-          ∙ (ap (λ (l : List ℕ). gap_before (us ++ d.blanks) (l ++ w)) lone_32.same ∙ sym (gap_join (us ++ d.blanks) (White 32 ∷ []) w)) in
+      left_text (codes " ") q us (wrote (spread xs) p) d lone_32.utf8 (λ n. absurd cc)
+      ∙ (ap (λ (l : List ℕ). gap_before (us ++ d.blanks) (l ++ w)) lone_32.same ∙ sym (gap_join (us ++ d.blanks) (White 32 ∷ []) w)) in
       at_text (Plain Blank ∷ xs) _ (gap_before vs w) first a last same
       (silent (Plain Blank) xs (gap_before vs w) first a (blanked a) last (λ ts. (refl, refl))
       (tiled xs p (blank_behind s) vs first (blanked a) last (text_lines (codes " ") q l) (when_so _ _ g).1 (blank_more q s us first a d m) (ap (λ (c : List ℕ). last + bytes c) (sym same) ∙ e)))
@@ -475,8 +470,8 @@ module _ (goal : Goal) (end : ℕ) where
       (λ (f : q.at_start ≡ false).
       let vs : List Blankness = us ++ l.line ∷ [] in
       let same : gap_before us (chars (own Line q ++ w)) ≡ gap_before vs (chars w) =
-          ap (λ (o : List ℕ). gap_before us (chars (o ++ w))) (line_goes q f)
-          ∙ (ap (gap_before us) (chars-append q.line_end w l.line_utf8 ∙ (ap (λ (o : List ℕ). o ++ chars w) l.line_chars ∙ gap_append (l.line ∷ []) [] (chars w))) ∙ sym (gap_join us (l.line ∷ []) (chars w))) in
+      ap (λ (o : List ℕ). gap_before us (chars (o ++ w))) (line_goes q f)
+      ∙ (ap (gap_before us) (chars-append q.line_end w l.line_utf8 ∙ (ap (λ (o : List ℕ). o ++ chars w) l.line_chars ∙ gap_append (l.line ∷ []) [] (chars w))) ∙ sym (gap_join us (l.line ∷ []) (chars w))) in
       at_text (Plain Line ∷ xs) _ (gap_before vs (chars w)) first a last same
       (silent (Plain Line) xs (gap_before vs (chars w)) first a Broken last (λ ts. (inl refl, refl))
       (tiled xs p Fresh vs first Broken last (next_lines Line q l) (when_so _ _ g).1 (line_more q s us first a l f m) (ap (λ (c : List ℕ). last + bytes c) (sym same) ∙ e))))
@@ -500,7 +495,7 @@ module _ (goal : Goal) (end : ℕ) where
       let texts : List (List ℕ) = texts_of (regular_expression body flags) in
       let o : List ℕ = joined texts in
       let same : gap_before us (chars (wrote (spread (Meant (regular_expression body flags) ∷ xs)) q)) ≡ gap_before us (chars (own_text o q ++ wrote (spread xs) (after_text o q))) =
-          ap (λ (t : List ℕ). gap_before us (chars t)) (wrote_texts texts (spread xs) q) in
+      ap (λ (t : List ℕ). gap_before us (chars t)) (wrote_texts texts (spread xs) q) in
       at_text (Meant (regular_expression body flags) ∷ xs) _ _ first a last same
       (goes_tiled RegExp o (Meant (regular_expression body flags)) xs q s us first a last (λ ts r h. h) l g m (ap (λ (c : List ℕ). last + bytes c) (sym same) ∙ e)
       (λ last2 h r l2 f. tiled xs (after_text o q) (behind g.0 s) [] false Touching last2 l2 h (text_more (after_text o q) (behind g.0 s) r) f))
@@ -513,7 +508,7 @@ module _ (goal : Goal) (end : ℕ) where
   tiled (Meant (hashbang_comment own) ∷ xs) q s us first a last l g m e = absurd g
   tiled (Meant (touching texts) ∷ xs) q s us first a last l g m e =
       let same : wrote (spread (Meant (touching texts) ∷ xs)) q ≡ wrote (spread (apart texts xs)) q =
-          sym (ap (λ (ys : List Piece). wrote ys q) (spread_apart texts xs) ∙ wrote_texts texts (spread xs) q) in
+      sym (ap (λ (ys : List Piece). wrote ys q) (spread_apart texts xs) ∙ wrote_texts texts (spread xs) q) in
       let t = tiled_apart texts xs (λ q s us first a last l g m e. tiled xs q s us first a last l g m e) q s us first a last l (goes_apart texts xs s g) m
-          (ap (λ (o : List ℕ). last + bytes (gap_before us (chars o))) (sym same) ∙ e) in
+      (ap (λ (o : List ℕ). last + bytes (gap_before us (chars o))) (sym same) ∙ e) in
       together texts xs (gap_before us (chars (wrote (spread (Meant (touching texts) ∷ xs)) q))) (gap_before us (chars (wrote (spread (apart texts xs)) q))) first a last (ap (λ (o : List ℕ). gap_before us (chars o)) same) t

@@ -1,14 +1,13 @@
 -- Where the automaton takes a text, it may stand behind what stands there.
-use Rattle.std.proofs.Common.{◌≡◌, ◌≢◌, ℕ, ◌⊎◌, inl, inr, ⊎_elim, Bool, true, false, ◌&&◌, ◌||◌, not, List, [], ◌∷◌, ◌++◌, refl, sym, ap, subst, ◌∙◌, arith}
+use Rattle.std.proofs.Common.{◌≡◌, ◌≢◌, ℕ, ⊎_elim, Bool, true, false, ◌&&◌, ◌||◌, not, List, [], ◌∷◌, ◌++◌, refl, sym, ap, subst, ◌∙◌, arith}
 use Rattle.std.specs.Prelude.{◌==◌}
 use Rattle.std.specs.List.{list_all}
-use Rattle.std.proofs.lemmas.Bool.{cases_Bool, false≢true, and_parts, eqb-true, not-true, or_cases}
+use Rattle.std.proofs.lemmas.Bool.{cases_Bool, false≢true, and_parts, eqb-true, not-true}
 use Rattle.unicode_ident.proofs.Computing.{unicode_ident}
 use Rattle.ecma_scan.specs.Characters.{is_among}
 use Rattle.ecma_scan.specs.Runs.{Ends}
-use Rattle.ecma_literal.specs.Escapes.{begins, is_decimal}
+use Rattle.ecma_literal.specs.Escapes.{is_decimal}
 use Rattle.ecma_literal.specs.Standing.{is_point}
-use Rattle.ecma_literal.specs.Templates as templates
 use Rattle.ecma_written_tiles.specs.Classes.{State, Fresh, Clear, Shut, Worded, Numbered, Pointed, Plused, Minused, Slashed, Lessed, LessBanged, Dotted, Operated, Decred, Hashed, Quasied, Class, Word, Number, Big, Member, Str, Regex, Plus, Incr, Minus, Decr, Bang, Slash, Less, Dot, Dots, Operator, Arrow, Hash, Closed, Quasi, End, is_open, is_end, is_wordless, is_digitless, takes, behind}
 use Rattle.ecma_written_tiles.specs.Following.{is_wordy, is_joining, is_dotty, Follows, Needs, is_safe, Starts, never, not_hash, Front}
 
