@@ -1,13 +1,18 @@
 //! Where two operators would run together without a blank between them.
-ghost use Rattle.std.specs.Prelude.{◌≡◌, ◌<◌, MatchOption};
+ghost use Rattle.std.specs.Prelude.{◌≡◌, ◌<◌, false, MatchOption};
 ghost use Rattle.ecma_token.specs.OperatorKinds.{binary_op_kind};
-ghost use Rattle.ecma_node.specs.View.{unary_op_word};
+ghost use Rattle.ecma_node.specs.Fits.{fits_assign_target, fits_opt_chain_expr, fits_seq_expr};
+ghost use Rattle.ecma_node.specs.Placed.{inner};
+ghost use Rattle.ecma_node.specs.View.{unary_op_word, view_assign_target, view_opt_chain_expr, view_seq_expr};
 ghost use Rattle.ecma_edge.specs.Edges as edges;
 ghost use Rattle.ecma_tree.specs.Codes.{tree_size};
 
 use crate::ends::EndsWithAlphaNum;
 use crate::starts::StartsWithAlphaNum;
-use ecma_node::{CalleeOf, Expr, ExprKind, Lit, OptChainBaseOf, UnaryOp, UpdateOp};
+use ecma_node::{
+    AssignTarget, AssignTargetOf, CalleeOf, Expr, ExprKind, Lit, OptChainBaseOf, OptChainExpr,
+    SeqExpr, UnaryOp, UpdateOp,
+};
 use ecma_token::BinaryOp;
 
 /// Whether a blank has to stand between a left operand and its operator. It takes no memory.
@@ -82,12 +87,12 @@ fn is_minus(expr: &Expr) -> bool
     }
 }
 
-/// Whether it is `--` with its operand behind it.
+/// Whether it is `--` with its operand.
 fn is_decrement(expr: &Expr) -> bool
     ensures { result ≡ edges.is_decrement expr.now }
 {
     match &expr.kind {
-        ExprKind::Update(x) => x.prefix && matches!(x.op, UpdateOp::MinusMinus),
+        ExprKind::Update(x) => matches!(x.op, UpdateOp::MinusMinus),
         _ => false,
     }
 }
@@ -102,7 +107,7 @@ fn is_postfix_decrement(expr: &Expr) -> bool
     }
 }
 
-/// Whether it is `!--`, which behind `<` opens a comment in a page.
+/// Whether it is `!` of a `--`: `!--` behind `<` opens a comment in a page.
 fn is_not_of_decrement(expr: &Expr) -> bool
     ensures { result ≡ edges.is_not_of_decrement expr.now }
 {
@@ -123,6 +128,45 @@ fn starts_with_regexp(expr: &Expr) -> bool
     matches!(&first.kind, ExprKind::Lit(Lit::Regex(_)))
 }
 
+/// The expression that a link of an optional chain goes on from.
+fn chain_head(chain: &OptChainExpr) -> &Expr
+    requires { fits_opt_chain_expr (λ p. p) chain.now }
+    ensures same { edges.starts_with_regexp (view_opt_chain_expr inner chain.now) ≡ edges.starts_with_regexp result.now }
+    ensures smaller { tree_size result.now < tree_size (view_opt_chain_expr inner chain.now) }
+{
+    match &chain.base {
+        OptChainBaseOf::Member(x) => x.obj.get(),
+        OptChainBaseOf::Call(x) => x.callee.get(),
+    }
+}
+
+/// The expression that the text of a target starts with.
+fn target_head(target: &AssignTarget) -> Option<&Expr>
+    requires { fits_assign_target (λ p. p) target.now }
+    ensures { MatchOption result (edges.starts_with_regexp (view_assign_target inner target.now) ≡ false)
+        (λ x. (edges.starts_with_regexp (view_assign_target inner target.now) ≡ edges.starts_with_regexp x.now)
+        × (tree_size x.now < tree_size (view_assign_target inner target.now))) }
+{
+    match target {
+        AssignTargetOf::Member(x) => Some(x.obj.get()),
+        AssignTargetOf::OptChain(x) => Some(chain_head(x)),
+        _ => None,
+    }
+}
+
+/// The first of the expressions with commas between them.
+fn first_of(seq: &SeqExpr) -> Option<&Expr>
+    requires { fits_seq_expr (λ p. p) seq.now }
+    ensures { MatchOption result (edges.starts_with_regexp (view_seq_expr inner seq.now) ≡ false)
+        (λ x. (edges.starts_with_regexp (view_seq_expr inner seq.now) ≡ edges.starts_with_regexp x.now)
+        × (tree_size x.now < tree_size (view_seq_expr inner seq.now))) }
+{
+    match seq.exprs.as_slice() {
+        [first, ..] => Some(first.get()),
+        [] => None,
+    }
+}
+
 /// The expression that the text of another starts with.
 fn head(expr: &Expr) -> Option<&Expr>
     ensures { MatchOption result (edges.starts_with_regexp expr.now ≡ edges.is_regexp expr.now)
@@ -130,7 +174,9 @@ fn head(expr: &Expr) -> Option<&Expr>
 {
     match &expr.kind {
         ExprKind::Bin(x) => Some(x.left.get()),
+        ExprKind::Assign(x) => target_head(&x.left),
         ExprKind::Cond(x) => Some(x.test.get()),
+        ExprKind::Seq(x) => first_of(x),
         ExprKind::Member(x) => Some(x.obj.get()),
         ExprKind::TaggedTpl(x) => Some(x.tag.get()),
         ExprKind::Update(x) if !x.prefix => Some(x.arg.get()),
@@ -138,10 +184,7 @@ fn head(expr: &Expr) -> Option<&Expr>
             CalleeOf::Expr(x) => Some(x.get()),
             _ => None,
         },
-        ExprKind::OptChain(x) => match &x.base {
-            OptChainBaseOf::Member(x) => Some(x.obj.get()),
-            OptChainBaseOf::Call(x) => Some(x.callee.get()),
-        },
+        ExprKind::OptChain(x) => Some(chain_head(x)),
         _ => None,
     }
 }

@@ -142,7 +142,7 @@ NewWith c s f xs ts r = (m : Input) × (n : Input) × TakesWord c new_kind ts m 
 
 -- NewExpression: a bare `new`, which no parenthesis, member, template or chain follows
 abbrev pub NewBare : Code → Span → Part → Input → Input → Type 0
-NewBare c s f ts r = (m : Input) × TakesWord c new_kind ts m × ((level f.tree ≡ new_level) ⊎ (member_level ≤ level f.tree)) × f.spelled c m r × (goes_expr c other_end r < call_level) × Spans s ts r
+NewBare c s f ts r = (m : Input) × TakesWord c new_kind ts m × ((level f.tree ≡ new_level) ⊎ (member_level ≤ level f.tree)) × f.spelled (assigning c) m r × (goes_expr c other_end r < call_level) × Spans s ts r
 
 -- OptionalExpression: the token `?` and the token `.`, then a name, brackets or arguments; on a chain plain ones go on
 abbrev pub Optional : Code → Input → Input → Type 0
@@ -150,11 +150,11 @@ Optional c ts r = (m : Input) × Takes c question_mark_kind ts m × Takes c dot_
 
 abbrev pub ChainMember : Code → Span → Bool → Span → Part → (Input → Input → Type 0) → (Input → Input → Type 0) → Input → Input → Type 0
 ChainMember c s true own o Access AccessOptional ts r = (m : Input) × (n : Input) × Expr call_level c o ts m × Optional c m n × AccessOptional n r × Spans s ts r × Spans own ts r
-ChainMember c s false own o Access AccessOptional ts r = (m : Input) × (is_chain o.tree ≡ true) × o.spelled c ts m × Access m r × Spans s ts r × Spans own ts r
+ChainMember c s false own o Access AccessOptional ts r = (m : Input) × (is_chain o.tree ≡ true) × o.spelled (assigning c) ts m × Access m r × Spans s ts r × Spans own ts r
 
 abbrev pub ChainCall : Code → Span → Bool → Span → Part → List Part → Input → Input → Type 0
 ChainCall c s true own f xs ts r = (m : Input) × (n : Input) × Expr call_level c f ts m × Optional c m n × Arguments c xs n r × Spans s ts r × Spans own ts r
-ChainCall c s false own f xs ts r = (m : Input) × (is_chain f.tree ≡ true) × f.spelled c ts m × Arguments c xs m r × Spans s ts r × Spans own ts r
+ChainCall c s false own f xs ts r = (m : Input) × (is_chain f.tree ≡ true) × f.spelled (assigning c) ts m × Arguments c xs m r × Spans s ts r × Spans own ts r
 
 -- a tagged template, of no chain
 abbrev pub TaggedTemplate : Code → Span → Part → Span → List Part → List Part → Input → Input → Type 0
@@ -187,7 +187,7 @@ Await c s a ts r = (m : Input) × (c.context.in_async ≡ true) × TakesWord c a
 
 -- ExponentiationExpression to CoalesceExpression (13.6 to 13.13), and `#x in`
 abbrev pub Binary : Code → Span → ℕ → Part → Part → Input → Input → Type 0
-Binary c s op a b ts r = (m : Input) × (n : Input) × (operates c op ≡ true) × (fits_left op a.tree ≡ true) × a.spelled c ts m × TakesWord c op m n × Expr (right_level op) c b n r × Spans s ts r
+Binary c s op a b ts r = (m : Input) × (n : Input) × (operates c op ≡ true) × (fits_left op a.tree ≡ true) × a.spelled (assigning c) ts m × TakesWord c op m n × Expr (right_level op) c b n r × Spans s ts r
 
 -- ConditionalExpression (13.14)
 abbrev pub Conditional : Code → Span → Part → Part → Part → Input → Input → Type 0

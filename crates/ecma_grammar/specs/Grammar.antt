@@ -7,7 +7,7 @@ use Rattle.ecma_syntax.specs.Operators.{expression_level, assignment_level}
 use Rattle.ecma_syntax.specs.Shape.{is_private, is_item, function_parts, class_span, is_key, declarators_end, is_clean}
 use Rattle.ecma_grammar.specs.Parts.{Part, part, is_module_item}
 use Rattle.ecma_grammar.specs.Expressions.{Keyword, Identifier, IdentifierName, PrivateIdentifier, StringLiteral, NumericLiteral, BigIntLiteral, RegularExpressionLiteral, Element, ArrayLiteral, ObjectLiteral, PropertyValue, CoverInitializedName, Spread, Bracketed, Characters, TemplateLiteral, ParenthesizedExpression, AccessedName, Dotted, Member, SuperProperty, Call, SuperCall, ImportCall, NewWith, NewBare, ChainMember, ChainCall, TaggedTemplate, MetaProperty, Update, Unary, Await, Binary, Conditional, Assignment, Sequence, YieldBare, Yield}
-use Rattle.ecma_grammar.specs.Patterns.{ArrayPattern, ObjectPattern, Initialised, Rest, KeyedItem, NamedItem}
+use Rattle.ecma_grammar.specs.Patterns.{Target, ArrayPattern, ObjectPattern, Initialised, Rest, KeyedItem, NamedItem}
 use Rattle.ecma_grammar.specs.Functions.{Parameter, Function, FunctionDeclaration, FunctionExpression, ArrowBlock, ArrowExpression, ObjectMethod, Getter, Setter, ClassTail, ClassDeclaration, ClassExpression, Constructor, ClassMethod, Field, AutoAccessor, StaticBlock}
 use Rattle.ecma_grammar.specs.Statements.{Block, Empty, Debugger, Declarator, Variables, Using, ExpressionStatement, If, DoWhile, While, ForExpression, ForVariables, ForUsing, HeadVariables, HeadUsing, HeadTarget, ForIn, ForOf, OfTarget, Jump, Return, Throw, With, Labelled, Case, Switch, Catch, Try}
 use Rattle.ecma_grammar.specs.Modules.{NamedImport, DefaultImport, StarImport, Import, NamedExport, StarExport, Exports, ExportAll, ExportDeclaration, DefaultDeclaration, DefaultExpression, Program}
@@ -70,7 +70,7 @@ abbrev mutual
   Spells (rest_pat s d a) c ts r = Rest c s d (part a (λ y. Spells a y)) ts r
   Spells (key_value_pat_prop s k a) c ts r = KeyedItem c s (part k (λ y. Spells k y)) (part a (λ y. Spells a y)) ts r
   Spells (assign_pat_prop s k e) c ts r = NamedItem c s (part k (λ y. Spells k y)) (part e (λ y. Spells e y)) ts r
-  Spells (expr_pat e) c ts r = Spells e c ts r
+  Spells (expr_pat e) c ts r = Target c (part e (λ y. Spells e y)) ts r
   -- functions and classes (clause 15)
   Spells (param s ds a) c ts r = Parameter c s (parts ds) (part a (λ y. Spells a y)) ts r
   Spells (function s ps ds (block_stmt b ss) g a) c ts r = Function c (parts ps) (parts ds) b (parts ss) g a ts r

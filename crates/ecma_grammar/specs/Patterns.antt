@@ -1,11 +1,15 @@
 -- Patterns (ECMA-262, 13.15.5 and 14.3.3): they bind names or assign to targets, by the code; no expression stands in between.
-use Rattle.std.specs.Prelude.{◌≡◌, true, false, List}
+use Rattle.std.specs.Prelude.{◌≡◌, true, false, ◌&&◌, List}
 use Rattle.ecma_token.specs.declared.place.Span.{Span}
 use Rattle.ecma_token.specs.Kinds.{dot_dot_dot_kind, left_bracket_kind, right_bracket_kind, left_brace_kind, right_brace_kind, colon_kind, assign_kind}
 use Rattle.ecma_syntax.specs.Input.{Input, Code, Takes, Spans, lo, dots_at, with_in, assigning}
 use Rattle.ecma_syntax.specs.Operators.{assignment_level}
-use Rattle.ecma_syntax.specs.Shape.{is_absent, is_key, is_bound_name, is_place, is_item_pat, is_pattern_prop, is_rest, takes_rest}
+use Rattle.ecma_syntax.specs.Shape.{is_absent, is_key, is_simple, is_target_expr, is_bound_name, is_place, is_item_pat, is_pattern_prop, is_rest, takes_rest}
 use Rattle.ecma_grammar.specs.Parts.{Part, By, Expr, Sorted, Listed}
+
+-- DestructuringAssignmentTarget (13.15.5): an expression that is a simple target, and no bare name
+abbrev pub Target : Code → Part → Input → Input → Type 0
+Target c e ts r = ((is_target_expr e.tree && is_simple e.tree) ≡ true) × e.spelled c ts r
 
 -- an item in its place
 abbrev pub Item : Code → Part → Input → Input → Type 0

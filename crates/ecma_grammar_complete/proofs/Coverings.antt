@@ -80,9 +80,9 @@ bare_target : (s : Span) (a e : Tree) (c : Code) (ts m : Input) → Covered a �
 bare_target s (binding_ident t i) e c ts m g q h = record { target = refl; spelled = h; covered = g; small = omega arith; shallow = omega arith; refines = λ bb ft i. rw ft refl }
 bare_target s (array_pat t i) e c ts m g q h = record { target = refl; spelled = h; covered = g; small = omega arith; shallow = omega arith; refines = λ bb ft i. rw ft refl }
 bare_target s (object_pat t i) e c ts m g q h = record { target = refl; spelled = h; covered = g; small = omega arith; shallow = omega arith; refines = λ bb ft i. rw ft refl }
-bare_target s (expr_pat (member_expr t o k)) e c ts m g q h = record { target = refl; spelled = h; covered = g; small = omega arith; shallow = omega arith; refines = λ bb ft i. rw (not_bound bb ft) refl }
-bare_target s (expr_pat (super_prop_expr t o k)) e c ts m g q h = record { target = refl; spelled = h; covered = g; small = omega arith; shallow = omega arith; refines = λ bb ft i. rw (not_bound bb ft) refl }
-bare_target s (expr_pat (paren_expr t x)) e c ts m g q h = record { target = rw q refl; spelled = h; covered = g; small = omega arith; shallow = omega arith; refines = λ bb ft i. rw (not_bound bb ft) refl }
+bare_target s (expr_pat (member_expr t o k)) e c ts m g q h = record { target = refl; spelled = h.1; covered = g; small = omega arith; shallow = omega arith; refines = λ bb ft i. rw (not_bound bb ft) refl }
+bare_target s (expr_pat (super_prop_expr t o k)) e c ts m g q h = record { target = refl; spelled = h.1; covered = g; small = omega arith; shallow = omega arith; refines = λ bb ft i. rw (not_bound bb ft) refl }
+bare_target s (expr_pat (paren_expr t x)) e c ts m g q h = record { target = rw q refl; spelled = h.1; covered = g; small = omega arith; shallow = omega arith; refines = λ bb ft i. rw (not_bound bb ft) refl }
 bare_target s (expr_pat x) e c ts m g q h = absurd (true≢false (sym q))
 bare_target s _ e c ts m g q h = absurd (true≢false (sym q))
 
@@ -97,7 +97,7 @@ item_by : (z d : ℕ) → Finds (suc z) d → ((t : Tree) (p : Bool) (c : Code) 
 item_by z d f b (binding_ident s (ident t n)) p c ts m k sz g i nr h fo = named_item (suc z) d f p (with_in c) (ident s n) (binding_ident s (ident t n)) ts m k (omega (arith, sz)) tt h.1 (omega arith) fo (λ bb ft i. ap (λ (y : Span). Ok (binding_ident s (ident y n))) h.0) (omega arith)
 item_by z d f b (binding_ident s x) p c ts m k sz g i nr h fo = absurd h
 item_by z d f b (expr_pat x) p c ts m k sz g i nr h fo = let w = and_parts (is_target_expr x) (is_simple x) i in
-    named_item (suc z) d f p (with_in c) x (expr_pat x) ts m k sz g h (omega (arith, target_least x (coded p (with_in c)) ts m w.0 h)) fo (target_item x w.0 w.1) (omega arith)
+    named_item (suc z) d f p (with_in c) x (expr_pat x) ts m k sz g h.1 (omega (arith, target_least x (coded p (with_in c)) ts m w.0 h.1)) fo (target_item x w.0 w.1) (omega arith)
 item_by z d f b (assign_pat s a e) p c ts m k sz g i nr h fo = valued_item (suc z) d f p c s a e ts m k sz g h fo
 item_by z d f b (array_pat s xs) p c ts m k sz g i nr h fo = b (array_pat s xs) p (with_in c) ts m k sz g refl h fo
 item_by z d f b (object_pat s xs) p c ts m k sz g i nr h fo = b (object_pat s xs) p (with_in c) ts m k sz g refl h fo

@@ -130,7 +130,7 @@ place_starts (binding_ident s (ident t n)) c ts m g e h = name_begins c ts h.1.0
 place_starts (binding_ident s i) c ts m g e h = absurd h
 place_starts (array_pat s xs) c ts m g e h = subst (λ (n : ℕ). begins n ≡ true) (sym h.1.0) refl
 place_starts (object_pat s xs) c ts m g e h = subst (λ (n : ℕ). begins n ≡ true) (sym h.1.0) refl
-place_starts (expr_pat x) c ts m g e h = starts x c ts m g (omega (arith, target_least x c ts m (and_parts (is_target_expr x) (is_simple x) e).0 h)) h
+place_starts (expr_pat x) c ts m g e h = starts x c ts m g (omega (arith, target_least x c ts m (and_parts (is_target_expr x) (is_simple x) e).0 h.1)) h.1
 place_starts _ c ts m g e h = absurd (true≢false (sym e))
 
 item_begins : (x : Tree) (c : Code) (ts m : Input) → Covered x → is_item_pat false x ≡ true → is_rest x ≡ false → Spells x (record c { binds = false }) ts m → begins (kind ts) ≡ true

@@ -48,6 +48,6 @@ head_found z f d (binding_ident s x) p c ts r k sz g e h fo = absurd h
 head_found z f d (array_pat s xs) p c ts r k sz g e h fo = structured_head z f d p c (array_pat s xs) ts r k sz g refl h fo
 head_found z f d (object_pat s xs) p c ts r k sz g e h fo = structured_head z f d p c (object_pat s xs) ts r k sz g refl h fo
 head_found z f d (expr_pat x) p c ts r k sz g e h fo = let w = and_parts (is_target_expr x) (is_simple x) e in
-    let l = target_least x (coded p c) ts r w.0 h in
-    simple_head z d (f d) p c x (expr_pat x) ts r k sz g h (omega (arith, l)) (subst (λ (i : ℕ). Follow c i 1 r) (sym (ends_high x (omega (arith, l)))) fo) (target_head x w.0 w.1) (omega arith)
+    let l = target_least x (coded p c) ts r w.0 h.1 in
+    simple_head z d (f d) p c x (expr_pat x) ts r k sz g h.1 (omega (arith, l)) (subst (λ (i : ℕ). Follow c i 1 r) (sym (ends_high x (omega (arith, l)))) fo) (target_head x w.0 w.1) (omega arith)
 head_found z f d _ p c ts r k sz g e h fo = absurd (true≢false (sym e))

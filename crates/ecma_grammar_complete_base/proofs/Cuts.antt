@@ -352,10 +352,10 @@ mutual
   cut (new_expr s f _) c ts r h = absurd h
   cut (opt_chain_expr s true (member_expr t o (computed_prop_name b e))) c ts r h = omega (arith, cut o _ ts h.0 h.2.1, optional_cut c h.0 h.1 h.3, bracketed_cut 1 b e c h.1 r (λ d m n y. cut e d m n y) h.4)
   cut (opt_chain_expr s true (member_expr t o k)) c ts r h = omega (arith, cut o (assigning c) ts h.0 h.2.1, optional_cut c h.0 h.1 h.3, cut k c h.1 r h.4.1)
-  cut (opt_chain_expr s false (member_expr t o (computed_prop_name b e))) c ts r h = omega (arith, cut o c ts h.0 h.2, bracketed_cut 1 b e c h.0 r (λ d m n y. cut e d m n y) h.3)
-  cut (opt_chain_expr s false (member_expr t o k)) c ts r h = omega (arith, cut o c ts h.0 h.2, dotted_cut true k c h.0 r (λ d m n y. cut k d m n y) h.3)
+  cut (opt_chain_expr s false (member_expr t o (computed_prop_name b e))) c ts r h = omega (arith, cut o (assigning c) ts h.0 h.2, bracketed_cut 1 b e c h.0 r (λ d m n y. cut e d m n y) h.3)
+  cut (opt_chain_expr s false (member_expr t o k)) c ts r h = omega (arith, cut o (assigning c) ts h.0 h.2, dotted_cut true k c h.0 r (λ d m n y. cut k d m n y) h.3)
   cut (opt_chain_expr s true (opt_call t f xs)) c ts r h = omega (arith, cut f (assigning c) ts h.0 h.2.1, optional_cut c h.0 h.1 h.3, arguments_cut xs c h.1 r (cuts xs) h.4)
-  cut (opt_chain_expr s false (opt_call t f xs)) c ts r h = omega (arith, cut f c ts h.0 h.2, arguments_cut xs c h.0 r (cuts xs) h.3)
+  cut (opt_chain_expr s false (opt_call t f xs)) c ts r h = omega (arith, cut f (assigning c) ts h.0 h.2, arguments_cut xs c h.0 r (cuts xs) h.3)
   cut (opt_chain_expr s q _) c ts r h = absurd h
   cut (tagged_tpl s t (tpl q es qs)) c ts r h = omega (arith, cut t _ ts h.0 h.2.1, template_cut true q es qs c h.0 r (cuts es) (cuts qs) h.3)
   cut (tagged_tpl s t _) c ts r h = absurd h
@@ -447,7 +447,7 @@ mutual
   cut (export_default_expr s e) c ts r h = omega (arith, takes export_kind ts h.2.0 h.2.1.0 (omega arith) h.2.1.3, passed h.2.0 h.0 h.2.2.3, cut e _ h.0 h.1 h.4.1, ends_cut c (ends e) h.1 r h.5)
   cut (script s ss l) c ts r h = omega (arith, hashbang_cut l c ts h.0 h.1, items_cut is_item AtEnd end_cut ss c true h.0 r (cuts ss) h.2)
   cut (es_module s ss l) c ts r h = omega (arith, hashbang_cut l c ts h.0 h.1, items_cut is_module_item AtEnd end_cut ss c true h.0 r (cuts ss) h.2)
-  cut (expr_pat e) c ts r h = omega (arith, cut e _ ts r h)
+  cut (expr_pat e) c ts r h = omega (arith, cut e _ ts r h.1)
   cut _ c ts r h = absurd h
 
   cuts : (ts : Trees) → AllShrink ts

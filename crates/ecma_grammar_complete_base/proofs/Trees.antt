@@ -395,8 +395,8 @@ starts (unary_expr s op a) c ts r g l h = at_kind begins (kind ts) op h.2.0 (by_
 starts (update_expr s op true a) c ts r g l h = at_kind begins (kind ts) op h.2.0 (by_update op (λ o. begins o ≡ true) h.1 refl refl)
 starts (update_expr s op false a) c ts r g l h = starts a (assigning c) ts h.0 g (omega (arith, h.2.0)) h.2.1
 starts (await_expr s a) c ts r g l h = at_kind begins (kind ts) await_kind h.2.0 refl
-starts (bin_expr s op a b) c ts r g l h = ⊎_elim (λ (p : is_private a ≡ true). at_kind begins (kind ts) hash_kind (private_starts a c ts h.0 p h.4) refl)
-    (λ (p : is_private a ≡ false). starts a c ts h.0 g.0 (omega (arith, binary_four op (operated c op h.2), fits op a p (operated c op h.2) h.3)) h.4) (cases_Bool (is_private a))
+starts (bin_expr s op a b) c ts r g l h = ⊎_elim (λ (p : is_private a ≡ true). at_kind begins (kind ts) hash_kind (private_starts a (assigning c) ts h.0 p h.4) refl)
+    (λ (p : is_private a ≡ false). starts a (assigning c) ts h.0 g.0 (omega (arith, binary_four op (operated c op h.2), fits op a p (operated c op h.2) h.3)) h.4) (cases_Bool (is_private a))
 starts (cond_expr s a b d) c ts r g l h = starts a (assigning c) ts h.0 g.0 (omega (arith, h.4.0)) h.4.1
 starts (seq_expr s none) c ts r g l h = absurd h
 starts (seq_expr s (more x none)) c ts r g l h = absurd h
@@ -413,9 +413,9 @@ starts (tagged_tpl s t q) c ts r g l h = absurd h
 starts (opt_chain_expr s true (member_expr t o (computed_prop_name b e))) c ts r g l h = starts o (assigning c) ts h.0 g.0 (omega (arith, h.2.0)) h.2.1
 starts (opt_chain_expr s true (member_expr t o k)) c ts r g l h = starts o (assigning c) ts h.0 g.0 (omega (arith, h.2.0)) h.2.1
 starts (opt_chain_expr s true (opt_call t f xs)) c ts r g l h = starts f (assigning c) ts h.0 g.0 (omega (arith, h.2.0)) h.2.1
-starts (opt_chain_expr s false (member_expr t o (computed_prop_name b e))) c ts r g l h = starts o c ts h.0 g.0 (omega (arith, chain_level o h.1)) h.2
-starts (opt_chain_expr s false (member_expr t o k)) c ts r g l h = starts o c ts h.0 g.0 (omega (arith, chain_level o h.1)) h.2
-starts (opt_chain_expr s false (opt_call t f xs)) c ts r g l h = starts f c ts h.0 g.0 (omega (arith, chain_level f h.1)) h.2
+starts (opt_chain_expr s false (member_expr t o (computed_prop_name b e))) c ts r g l h = starts o (assigning c) ts h.0 g.0 (omega (arith, chain_level o h.1)) h.2
+starts (opt_chain_expr s false (member_expr t o k)) c ts r g l h = starts o (assigning c) ts h.0 g.0 (omega (arith, chain_level o h.1)) h.2
+starts (opt_chain_expr s false (opt_call t f xs)) c ts r g l h = starts f (assigning c) ts h.0 g.0 (omega (arith, chain_level f h.1)) h.2
 starts (opt_chain_expr s q b) c ts r g l h = absurd h
 starts (super_prop_expr s (super t) (computed_prop_name q e)) c ts r g l h = at_kind begins (kind ts) super_kind h.1.0 refl
 starts (super_prop_expr s (super t) k) c ts r g l h = at_kind begins (kind ts) super_kind h.1.0 refl

@@ -297,7 +297,7 @@ opening (update_expr s op true a) c ts r l h = plainly c.context ts r op h.2.0 (
 opening (update_expr s op false a) c ts r l h = extend_at op c.context ts h.0 r (opening a (assigning c) ts h.0 (level_opener a (omega (arith, h.2.0))) h.2.1) h.4.0 (by_update op (λ o. tame o ≡ true) h.1 refl refl)
 opening (await_expr s a) c ts r l h = let o = opening a (assigning c) h.0 r (level_opener a (omega (arith, h.3.0))) h.3.1 in
     record { first = at opens ts await_kind h.2.0 refl; second = λ e. absurd (true≢false (sym e ∙ ap leads h.2.0)); third = λ e y u. subst (λ (w : Input). After (rest w) r) (sym h.2.3) (named_after a (rest h.0) r (o.second (at leads h.0 using_kind (sym (ap (λ (w : Input). kind w) h.2.3) ∙ u) refl))); imports = λ e. absurd (omega (arith, e, h.2.0)) }
-opening (bin_expr s op a b) c ts r l h = extend_at op c.context ts h.0 r (opening a c ts h.0 (left_opener c op a h.2 h.3) h.4) h.5.0 (tame_binary c op h.2)
+opening (bin_expr s op a b) c ts r l h = extend_at op c.context ts h.0 r (opening a (assigning c) ts h.0 (left_opener c op a h.2 h.3) h.4) h.5.0 (tame_binary c op h.2)
 opening (cond_expr s a b d) c ts r l h = extend_at question_mark_kind c.context ts h.0 r (opening a (assigning c) ts h.0 (level_opener a (omega (arith, h.4.0))) h.4.1) h.5.0 refl
 opening (assign_expr s op a b) c ts r l h = extend_at op c.context ts h.0 r (opening a (assigning c) ts h.0 (target_opener op a h.3) h.4) h.5.0 (tame_assign op h.2)
 opening (seq_expr s none) c ts r l h = absurd h
@@ -324,12 +324,12 @@ opening (tagged_tpl s t (tpl q es qs)) c ts r l h = extend_at back_quote_kind c.
 opening (tagged_tpl s t _) c ts r l h = absurd h
 opening (opt_chain_expr s true (member_expr t o (computed_prop_name b e))) c ts r l h = extend_at question_mark_kind c.context ts h.0 r (opening o (assigning c) ts h.0 (level_opener o (omega (arith, h.2.0))) h.2.1) h.3.1.0 refl
 opening (opt_chain_expr s true (member_expr t o k)) c ts r l h = extend_at question_mark_kind c.context ts h.0 r (opening o (assigning c) ts h.0 (level_opener o (omega (arith, h.2.0))) h.2.1) h.3.1.0 refl
-opening (opt_chain_expr s false (member_expr t o (computed_prop_name b e))) c ts r l h = extend_at left_bracket_kind c.context ts h.0 r (opening o c ts h.0 (chain_opener o h.1) h.2) h.3.2.0 refl
-opening (opt_chain_expr s false (member_expr t o k)) c ts r l h = extend_at dot_kind c.context ts h.0 r (opening o c ts h.0 (chain_opener o h.1) h.2) h.3.1.0 refl
+opening (opt_chain_expr s false (member_expr t o (computed_prop_name b e))) c ts r l h = extend_at left_bracket_kind c.context ts h.0 r (opening o (assigning c) ts h.0 (chain_opener o h.1) h.2) h.3.2.0 refl
+opening (opt_chain_expr s false (member_expr t o k)) c ts r l h = extend_at dot_kind c.context ts h.0 r (opening o (assigning c) ts h.0 (chain_opener o h.1) h.2) h.3.1.0 refl
 opening (opt_chain_expr s true (opt_call t f xs)) c ts r l h = extend_at question_mark_kind c.context ts h.0 r (opening f (assigning c) ts h.0 (level_opener f (omega (arith, h.2.0))) h.2.1) h.3.1.0 refl
-opening (opt_chain_expr s false (opt_call t f xs)) c ts r l h = extend_at left_paren_kind c.context ts h.0 r (opening f c ts h.0 (chain_opener f h.1) h.2) h.3.1.0 refl
+opening (opt_chain_expr s false (opt_call t f xs)) c ts r l h = extend_at left_paren_kind c.context ts h.0 r (opening f (assigning c) ts h.0 (chain_opener f h.1) h.2) h.3.1.0 refl
 opening (opt_chain_expr s q _) c ts r l h = absurd h
-opening (expr_pat e) c ts r l h = let o = opening e c ts r l h in record { first = o.first; second = o.second; third = o.third; imports = o.imports }
+opening (expr_pat e) c ts r l h = let o = opening e c ts r l h.1 in record { first = o.first; second = o.second; third = o.third; imports = o.imports }
 opening (private_name s n) c ts r l h = plainly c.context ts r hash_kind h.1.0 refl refl refl refl
 opening _ c ts r l h = absurd (true≢false (sym l))
 

@@ -49,7 +49,7 @@ assigned_taken : (b : Bool) (e : Tree) (c : Code) (ts r : Input) → (not b && (
 assigned_taken b e c ts r i h = taken e c ts r (target_level e c ts r (and_parts (is_target_expr e) _ (and_parts (not b) _ i).1).0 h) h
 
 pub item_taken : (b : Bool) (t : Tree) (c : Code) (ts r : Input) → is_item_pat b t ≡ true → Spells t c ts r → len r < len ts
-item_taken b (expr_pat e) c ts r i h = assigned_taken b e c ts r i h
+item_taken b (expr_pat e) c ts r i h = assigned_taken b e c ts r i h.1
 item_taken b (script s ss l) c ts r i h = absurd (true≢false (sym i ∙ and_never (not b)))
 item_taken b (es_module s ss l) c ts r i h = absurd (true≢false (sym i ∙ and_never (not b)))
 item_taken b t c ts r i h = omega (arith, cut t c ts r h)

@@ -154,9 +154,9 @@ assign_refines b k c s op p e ts r h w = if_holds (eqb op assign_kind) _ _ _ (λ
   where
     init : (p : Tree) (m n : Input) → is_target op p ≡ true → Spells p (plain c) ts m → op ≡ assign_kind → Takes (plain c) op m n → Expr assignment_level (with_in (plain c)) (part e (λ y. Spells e y)) n r → Spans s ts r
         → Holds (initialised b s p e) (IsItem b c ts r)
-    init (member_expr t o j) m n g0 g1 q g2 g3 g4 = if_holds b _ _ _ (λ _. record { so = tt }) (λ z. subst (λ (y : Bool). Holds (Ok (assign_pat s (expr_pat (member_expr t o j)) e)) (IsItem y c ts r)) (sym z) (made_item false c s (expr_pat (member_expr t o j)) e ts m n r refl g1 (g2.0 ∙ q, g2.1, g2.2) g3 g4))
-    init (super_prop_expr t o j) m n g0 g1 q g2 g3 g4 = if_holds b _ _ _ (λ _. record { so = tt }) (λ z. subst (λ (y : Bool). Holds (Ok (assign_pat s (expr_pat (super_prop_expr t o j)) e)) (IsItem y c ts r)) (sym z) (made_item false c s (expr_pat (super_prop_expr t o j)) e ts m n r refl g1 (g2.0 ∙ q, g2.1, g2.2) g3 g4))
-    init (paren_expr t x) m n g0 g1 q g2 g3 g4 = if_holds b _ _ _ (λ _. record { so = tt }) (λ z. subst (λ (y : Bool). Holds (Ok (assign_pat s (expr_pat (paren_expr t x)) e)) (IsItem y c ts r)) (sym z) (made_item false c s (expr_pat (paren_expr t x)) e ts m n r (or_left_only (is_simple x) (eqb op assign_kind) g0) g1 (g2.0 ∙ q, g2.1, g2.2) g3 g4))
+    init (member_expr t o j) m n g0 g1 q g2 g3 g4 = if_holds b _ _ _ (λ _. record { so = tt }) (λ z. subst (λ (y : Bool). Holds (Ok (assign_pat s (expr_pat (member_expr t o j)) e)) (IsItem y c ts r)) (sym z) (made_item false c s (expr_pat (member_expr t o j)) e ts m n r refl (refl, g1) (g2.0 ∙ q, g2.1, g2.2) g3 g4))
+    init (super_prop_expr t o j) m n g0 g1 q g2 g3 g4 = if_holds b _ _ _ (λ _. record { so = tt }) (λ z. subst (λ (y : Bool). Holds (Ok (assign_pat s (expr_pat (super_prop_expr t o j)) e)) (IsItem y c ts r)) (sym z) (made_item false c s (expr_pat (super_prop_expr t o j)) e ts m n r refl (refl, g1) (g2.0 ∙ q, g2.1, g2.2) g3 g4))
+    init (paren_expr t x) m n g0 g1 q g2 g3 g4 = if_holds b _ _ _ (λ _. record { so = tt }) (λ z. subst (λ (y : Bool). Holds (Ok (assign_pat s (expr_pat (paren_expr t x)) e)) (IsItem y c ts r)) (sym z) let w = or_left_only (is_simple x) (eqb op assign_kind) g0 in (made_item false c s (expr_pat (paren_expr t x)) e ts m n r w (w, g1) (g2.0 ∙ q, g2.1, g2.2) g3 g4))
     init (binding_ident t i) m n g0 g1 q g2 g3 g4 = bound_item b c s (binding_ident t i) e ts m n r refl g1 (g2.0 ∙ q, g2.1, g2.2) g3 g4
     init (array_pat t xs) m n g0 g1 q g2 g3 g4 = bound_item b c s (array_pat t xs) e ts m n r refl g1 (g2.0 ∙ q, g2.1, g2.2) g3 g4
     init (object_pat t xs) m n g0 g1 q g2 g3 g4 = bound_item b c s (object_pat t xs) e ts m n r refl g1 (g2.0 ∙ q, g2.1, g2.2) g3 g4

@@ -110,7 +110,7 @@ paren_made c start e s h = record { spelled = h; refines = λ k g. record { so =
     paren_item : (b : Bool) → Spells (paren_expr (span (lo (seen start)) s.source.last) e) (plain c) (seen start) (seen s)
         → Holds (cond (not b && is_simple e) (Ok (expr_pat (paren_expr (span (lo (seen start)) s.source.last) e))) unexpected) (IsItem b c (seen start) (seen s))
     paren_item true h = record { so = tt }
-    paren_item false h = if_holds (is_simple e) _ _ _ (λ z. record { so = (z, h) }) (λ _. record { so = tt })
+    paren_item false h = if_holds (is_simple e) _ _ _ (λ z. record { so = (z, (z, h)) }) (λ _. record { so = tt })
 
 module _ (inner : Inner Input) (good : Sound inner) where
   quasi_end_sure : (c : Code) (tagged : Bool) (ts : Input) (x : Parted) (s : Stand Input) → Begun tagged (plain c) ts x s → kind (seen s) ≡ template_kind → (q : Content) → content (seen s) ≡ q

@@ -40,12 +40,12 @@ head_holds k c (assign_expr s op p e) ts r l h f = record { so = tt }
 head_holds k c (ident s n) ts r l h f = record { so = (refl, (refl, h)) }
 head_holds k c (array_lit s xs) ts r l h f = placed c ts r (to_item false k (array_lit s xs)) (both_hold _ _ _ (f.so false tt) (array_stays k s xs))
 head_holds k c (object_lit s xs) ts r l h f = placed c ts r (to_item false k (object_lit s xs)) (both_hold _ _ _ (f.so false tt) (object_stays k s xs))
-head_holds k c (member_expr s o p) ts r l h f = record { so = (refl, h) }
-head_holds k c (super_prop_expr s o p) ts r l h f = record { so = (refl, h) }
+head_holds k c (member_expr s o p) ts r l h f = record { so = (refl, (refl, h)) }
+head_holds k c (super_prop_expr s o p) ts r l h f = record { so = (refl, (refl, h)) }
 head_holds k c (paren_expr s e) ts r l h f = simple (is_simple e) refl
   where
     simple : (b : Bool) → is_simple e ≡ b → Holds (cond (true && b) (Ok (expr_pat (paren_expr s e))) unexpected) (IsHead c ts r)
-    simple true q = record { so = (q, h) }
+    simple true q = record { so = (q, (q, h)) }
     simple false q = record { so = tt }
 head_holds k c (expr_or_spread s d e) ts r l h f = absurd (omega (arith, l))
 head_holds k c (spread_element s e) ts r l h f = absurd (omega (arith, l))

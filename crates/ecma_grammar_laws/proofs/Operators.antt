@@ -257,7 +257,7 @@ member_made c start s o k r h = record { spelled = h; refines = λ l g. record {
   where
     item : (b : Bool) → Holds (cond b unexpected (Ok (expr_pat (member_expr s o k)))) (IsItem b c (seen start) (seen r))
     item true = record { so = tt }
-    item false = record { so = (refl, h) }
+    item false = record { so = (refl, (refl, h)) }
 
 -- ---- one operator after what was read
 

@@ -216,7 +216,7 @@ module _ (inner : Inner Input) (good : Sound inner) where
           super_item : (b : Bool) → Spells (super_prop_expr (span (lo (seen s)) r.source.last) o k) (plain c) (seen s) (seen r)
               → Holds (cond b unexpected (Ok (expr_pat (super_prop_expr (span (lo (seen s)) r.source.last) o k)))) (IsItem b c (seen s) (seen r))
           super_item true h = record { so = tt }
-          super_item false h = record { so = (refl, h) }
+          super_item false h = record { so = (refl, (refl, h)) }
 
   import_sure : (c : Code) (s : Stand Input) → Sure s.commas (import_by lm inner c s) (Made c s)
   unfolding import_by

@@ -8,7 +8,7 @@ use Rattle.ecma_syntax.specs.Operators.{expression_level, assignment_level, coal
 use Rattle.ecma_syntax.specs.Shape.{is_absent, is_element, is_prop, is_key, is_bound_name}
 use Rattle.ecma_grammar.specs.Parts.{is_ident, is_quasi, Part, By, IsEmpty, Expr, Sorted}
 use Rattle.ecma_grammar.specs.Expressions.{Keyword, Identifier, IdentifierName, PrivateIdentifier, StringLiteral, NumericLiteral, BigIntLiteral, RegularExpressionLiteral, Element, ArrayLiteral, ObjectLiteral, PropertyValue, CoverInitializedName, Spread, Bracketed, Characters, TemplateSpans, TemplateLiteral, ParenthesizedExpression, AccessedName, Dotted, Member, SuperProperty, ArgumentList, Arguments, Call, SuperCall, is_at_most_one, ImportArguments, ImportCall, NewWith, NewBare, Optional, ChainMember, ChainCall, TaggedTemplate, MetaProperty, Update, Unary, Await, Binary, Conditional, Assignment, Sequence, YieldBare, Yield}
-use Rattle.ecma_grammar.specs.Patterns.{Item, ArrayPattern, Property, ObjectPattern, Initialised, Rest, KeyedItem, NamedItem}
+use Rattle.ecma_grammar.specs.Patterns.{Target, Item, ArrayPattern, Property, ObjectPattern, Initialised, Rest, KeyedItem, NamedItem}
 use Rattle.ecma_grammar_placed.specs.Laws.{placing}
 use Rattle.ecma_grammar_placed.proofs.Like.{Like, Moves, brk_like, content_like, lo_like, hi_like, goes_like, spans_like, take, take_word, take_any, take_name, take_in}
 use Rattle.ecma_grammar_placed.proofs.Forms.{Moved, AllMoved, same, either, expr, sorted, listed, comma_then}
@@ -140,7 +140,7 @@ module _ (p : Bool) where
       (x.0, x.1, (y.0, z.0, x.2, y.2, z.2, sp s ts x.0 r q x.1 l h.5))
 
   pub new_bare : (c : Code) (s : Span) (e : Part) → Moved p e → Moves p (NewBare c s e) (NewBare (placing p c) s e)
-  new_bare c s e f ts r q h l = let z = f c h.0 r q h.3 l in let y = take_word p c new_kind ts h.0 z.0 h.1 z.1 in
+  new_bare c s e f ts r q h l = let z = f (assigning c) h.0 r q h.3 l in let y = take_word p c new_kind ts h.0 z.0 h.1 z.1 in
       (y.0, y.1, (z.0, y.2, h.2, z.2, subst (λ (n : ℕ). n < call_level) (goes_like p c other_end r q l) h.4, sp s ts y.0 r q y.1 l h.5))
 
   optional : (c : Code) → Moves p (Optional c) (Optional (placing p c))
@@ -149,12 +149,12 @@ module _ (p : Bool) where
   pub chain_member : (c : Code) (s : Span) (b : Bool) (t : Span) (o : Part) (A B C D : Input → Input → Type 0) → Moved p o → Moves p A C → Moves p B D → Moves p (ChainMember c s b t o A B) (ChainMember (placing p c) s b t o C D)
   chain_member c s true t o A B C D f g k ts r q h l = let z = k h.1 r q h.4 l in let y = optional c h.0 h.1 z.0 h.3 z.1 in let x = expr p call_level c o f ts h.0 y.0 h.2 y.1 in
       (x.0, x.1, (y.0, z.0, x.2, y.2, z.2, sp s ts x.0 r q x.1 l h.5, sp t ts x.0 r q x.1 l h.6))
-  chain_member c s false t o A B C D f g k ts r q h l = let z = g h.0 r q h.3 l in let y = f c ts h.0 z.0 h.2 z.1 in (y.0, y.1, (z.0, h.1, y.2, z.2, sp s ts y.0 r q y.1 l h.4, sp t ts y.0 r q y.1 l h.5))
+  chain_member c s false t o A B C D f g k ts r q h l = let z = g h.0 r q h.3 l in let y = f (assigning c) ts h.0 z.0 h.2 z.1 in (y.0, y.1, (z.0, h.1, y.2, z.2, sp s ts y.0 r q y.1 l h.4, sp t ts y.0 r q y.1 l h.5))
 
   pub chain_call : (c : Code) (s : Span) (b : Bool) (t : Span) (e : Part) (xs : List Part) → Moved p e → AllMoved p xs → Moves p (ChainCall c s b t e xs) (ChainCall (placing p c) s b t e xs)
   chain_call c s true t e xs f a ts r q h l = let z = arguments c xs a h.1 r q h.4 l in let y = optional c h.0 h.1 z.0 h.3 z.1 in let x = expr p call_level c e f ts h.0 y.0 h.2 y.1 in
       (x.0, x.1, (y.0, z.0, x.2, y.2, z.2, sp s ts x.0 r q x.1 l h.5, sp t ts x.0 r q x.1 l h.6))
-  chain_call c s false t e xs f a ts r q h l = let z = arguments c xs a h.0 r q h.3 l in let y = f c ts h.0 z.0 h.2 z.1 in (y.0, y.1, (z.0, h.1, y.2, z.2, sp s ts y.0 r q y.1 l h.4, sp t ts y.0 r q y.1 l h.5))
+  chain_call c s false t e xs f a ts r q h l = let z = arguments c xs a h.0 r q h.3 l in let y = f (assigning c) ts h.0 z.0 h.2 z.1 in (y.0, y.1, (z.0, h.1, y.2, z.2, sp s ts y.0 r q y.1 l h.4, sp t ts y.0 r q y.1 l h.5))
 
   pub tagged : (c : Code) (s : Span) (e : Part) (t : Span) (es qs : List Part) → Moved p e → AllMoved p es → AllMoved p qs → Moves p (TaggedTemplate c s e t es qs) (TaggedTemplate (placing p c) s e t es qs)
   tagged c s e t es qs f a b ts r q h l = let z = template true c t es qs a b h.0 r q h.3 l in let y = expr p call_level c e f ts h.0 z.0 h.2 z.1 in (y.0, y.1, (z.0, h.1, y.2, z.2, sp s ts y.0 r q y.1 l h.4))
@@ -179,7 +179,7 @@ module _ (p : Bool) where
   awaits c s a f ts r q h l = let z = expr p unary_level c a f h.0 r q h.3 l in let y = take_word p c await_kind ts h.0 z.0 h.2 z.1 in (y.0, y.1, (z.0, h.1, y.2, z.2, sp s ts y.0 r q y.1 l h.4))
 
   pub binary : (c : Code) (s : Span) (op : ℕ) (a b : Part) → Moved p a → Moved p b → Moves p (Binary c s op a b) (Binary (placing p c) s op a b)
-  binary c s op a b f g ts r q h l = let z = expr p (right_level op) c b g h.1 r q h.6 l in let y = take_word p c op h.0 h.1 z.0 h.5 z.1 in let x = f c ts h.0 y.0 h.4 y.1 in
+  binary c s op a b f g ts r q h l = let z = expr p (right_level op) c b g h.1 r q h.6 l in let y = take_word p c op h.0 h.1 z.0 h.5 z.1 in let x = f (assigning c) ts h.0 y.0 h.4 y.1 in
       (x.0, x.1, (y.0, z.0, h.2, h.3, x.2, y.2, z.2, sp s ts x.0 r q x.1 l h.7))
 
   pub conditional : (c : Code) (s : Span) (a b d : Part) → Moved p a → Moved p b → Moved p d → Moves p (Conditional c s a b d) (Conditional (placing p c) s a b d)
@@ -219,6 +219,9 @@ module _ (p : Bool) where
   pub object_pattern : (c : Code) (s : Span) (xs : List Part) → AllMoved p xs → Moves p (ObjectPattern c s xs) (ObjectPattern (placing p c) s xs)
   object_pattern c s xs a ts r q h l = let z = listed p (Property c) (Property (placing p c)) (λ x f. pattern_property c x f) false c right_brace_kind xs a h.0 r q h.2 l in
       let y = take p c left_brace_kind ts h.0 z.0 h.1 z.1 in (y.0, y.1, (z.0, y.2, z.2, sp s ts y.0 r q y.1 l h.3))
+
+  pub target : (c : Code) (e : Part) → Moved p e → Moves p (Target c e) (Target (placing p c) e)
+  target c e f ts r q h l = let z = f c ts r q h.1 l in (z.0, z.1, (h.0, z.2))
 
   pub initialised : (c : Code) (s : Span) (a e : Part) → Moved p a → Moved p e → Moves p (Initialised c s a e) (Initialised (placing p c) s a e)
   initialised c s a e f g ts r q h l = let z = expr p assignment_level (with_in c) e g h.1 r q h.5 l in let y = take p c assign_kind h.0 h.1 z.0 h.4 z.1 in let x = f c ts h.0 y.0 h.3 y.1 in

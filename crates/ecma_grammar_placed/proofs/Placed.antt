@@ -12,7 +12,7 @@ use Rattle.ecma_grammar.specs.Grammar.{Spells, parts}
 use Rattle.ecma_grammar_placed.specs.Laws.{placing}
 use Rattle.ecma_grammar_placed.proofs.Like.{Moves}
 use Rattle.ecma_grammar_placed.proofs.Forms.{AllMoved}
-use Rattle.ecma_grammar_placed.proofs.Expressions.{keyword, identifier, identifier_name, private, string, number, big_int, regexp, element, array, object, property, cover, spread, bracketed, characters, template, parens, accessed, dotted, member, super_property, call, super_call, import_call, new_with, new_bare, chain_member, chain_call, tagged, meta_property, update, unary, awaits, binary, conditional, assignment, sequence, yield_bare, yields, array_pattern, object_pattern, initialised, rests, keyed_item, named_item}
+use Rattle.ecma_grammar_placed.proofs.Expressions.{keyword, identifier, identifier_name, private, string, number, big_int, regexp, element, array, object, property, cover, spread, bracketed, characters, template, parens, accessed, dotted, member, super_property, call, super_call, import_call, new_with, new_bare, chain_member, chain_call, tagged, meta_property, update, unary, awaits, binary, conditional, assignment, sequence, yield_bare, yields, array_pattern, object_pattern, initialised, rests, keyed_item, named_item, target}
 use Rattle.ecma_grammar_placed.proofs.Functions.{parameter, function_on, function_declaration, function_expression, arrow_block, arrow_expression, object_method, getter, setter, class_tail, class_declaration, class_expression, constructs_on, class_method_on, field, accessor, static_block_on}
 use Rattle.ecma_grammar_placed.proofs.Statements.{block, empty, debugger, declarator, variables, using_on, expression_statement, if_on, do_while, while_on, for_expression, for_variables, for_using, head_variables, head_using, head_target, of_target, for_in, for_of, jump, return_on, throw_on, with_on, labelled, case_on, switch_on, catch_on, try_on}
 use Rattle.ecma_grammar_placed.proofs.Modules.{named_import, default_import, star_import, import_on, named_export_on, star_export, exports_on, export_all_on, export_declaration, default_declaration, default_expression, program}
@@ -77,7 +77,7 @@ module _ (p : Bool) where
     move (rest_pat s d a) c = rests p c s d (part a (λ y. Spells a y)) (move a)
     move (key_value_pat_prop s k a) c = keyed_item p c s (part k (λ y. Spells k y)) (part a (λ y. Spells a y)) (move k) (move a)
     move (assign_pat_prop s k e) c = named_item p c s (part k (λ y. Spells k y)) (part e (λ y. Spells e y)) (move k) (move e)
-    move (expr_pat e) c = move e c
+    move (expr_pat e) c = target p c (part e (λ y. Spells e y)) (move e)
     move (param s ds a) c = parameter p c s (parts ds) (part a (λ y. Spells a y)) (move a)
     move (function s ps ds (block_stmt b ss) g a) c = function_on p c (parts ps) (parts ds) b (parts ss) g a (moves ps) (moves ss)
     move (function s ps ds _ g a) c = λ ts r o h g. absurd h

@@ -108,7 +108,7 @@ mutual
   walk (rest_pat s d a) c pl gs ts r pp hh = rest_walk c pl s d (part a (λ y. Spells a y)) (walk a) gs ts r hh
   walk (key_value_pat_prop s k a) c pl gs ts r pp hh = keyed_item_walk c pl s (part k (λ y. Spells k y)) (walk k) (part a (λ y. Spells a y)) (walk a) gs ts r hh
   walk (assign_pat_prop s k e) c pl gs ts r pp hh = named_item_walk c pl s (part k (λ y. Spells k y)) (walk k) (part e (λ y. Spells e y)) (walk e) gs ts r hh
-  walk (expr_pat e) c pl gs ts r pp hh = walk e c pl gs ts r pp hh
+  walk (expr_pat e) c pl gs ts r pp hh = walk e c pl gs ts r pp hh.1
   walk (param s ds a) c pl gs ts r pp hh = parameter_walk c pl s (parts ds) (walks ds) (part a (λ y. Spells a y)) (walk a) gs ts r hh
   walk (function s ps ds (block_stmt b ss) g a) c pl gs ts r pp hh = function_walk c pl (parts ps) (walks ps) (parts ds) (walks ds) b (parts ss) (walks ss) g a gs ts r hh
   walk (function s ps ds _ g a) c pl gs ts r pp hh = absurd hh

@@ -143,18 +143,18 @@ pub new_with_walk : (c : Code) (pl : c.placed ≡ true) (s : Span) (f : Part) (f
 new_with_walk c pl s f fw xs xsw gs ts r h = go _ _ _ ts h.0 r (takes_word c pl new_kind gs ts h.0 (plain new_kind refl refl refl refl refl refl refl) h.2) (go _ _ _ h.0 h.1 r (fw (assigning c) pl gs h.0 h.1 (leveled member_level f.tree (omega arith) h.3.0) h.3.1) (arguments_walk c pl xs xsw gs h.1 r h.4))
 
 pub new_bare_walk : (c : Code) (pl : c.placed ≡ true) (s : Span) (f : Part) (fw : Walked f) (gs : List Bool) (ts r : Input) → NewBare c s f ts r → Goes (Outside gs) (Outside gs) ts r
-new_bare_walk c pl s f fw gs ts r h = go _ _ _ ts h.0 r (takes_word c pl new_kind gs ts h.0 (plain new_kind refl refl refl refl refl refl refl) h.1) (fw c pl gs h.0 r (new_operand f.tree h.2) h.3)
+new_bare_walk c pl s f fw gs ts r h = go _ _ _ ts h.0 r (takes_word c pl new_kind gs ts h.0 (plain new_kind refl refl refl refl refl refl refl) h.1) (fw (assigning c) pl gs h.0 r (new_operand f.tree h.2) h.3)
 
 pub optional_walk : (c : Code) (pl : c.placed ≡ true) (gs : List Bool) (ts r : Input) → Optional c ts r → Goes (Outside gs) (Outside gs) ts r
 optional_walk c pl gs ts r h = go _ _ _ ts h.0 r (takes c pl question_mark_kind gs ts h.0 (plain question_mark_kind refl refl refl refl refl refl refl) h.1) (takes c pl dot_kind gs h.0 r (plain dot_kind refl refl refl refl refl refl refl) h.2)
 
 pub chain_member_walk : (c : Code) (pl : c.placed ≡ true) (s : Span) (a2 : Bool) (own : Span) (o : Part) (ow : Walked o) (Access : Input → Input → Type 0) (Access_walk : (gs : List Bool) (ts r : Input) → Access ts r → Goes (Outside gs) (Outside gs) ts r) (AccessOptional : Input → Input → Type 0) (AccessOptional_walk : (gs : List Bool) (ts r : Input) → AccessOptional ts r → Goes (Outside gs) (Outside gs) ts r) (gs : List Bool) (ts r : Input) → ChainMember c s a2 own o Access AccessOptional ts r → Goes (Outside gs) (Outside gs) ts r
 chain_member_walk c pl s true own o ow Access Access_walk AccessOptional AccessOptional_walk gs ts r h = go _ _ _ ts h.0 r (ow (assigning c) pl gs ts h.0 (leveled call_level o.tree (omega arith) h.2.0) h.2.1) (go _ _ _ h.0 h.1 r (optional_walk c pl gs h.0 h.1 h.3) (AccessOptional_walk gs h.1 r h.4))
-chain_member_walk c pl s false own o ow Access Access_walk AccessOptional AccessOptional_walk gs ts r h = go _ _ _ ts h.0 r (ow c pl gs ts h.0 (sorted is_chain (λ s t w u. refl) (λ e. refl) o.tree h.1) h.2) (Access_walk gs h.0 r h.3)
+chain_member_walk c pl s false own o ow Access Access_walk AccessOptional AccessOptional_walk gs ts r h = go _ _ _ ts h.0 r (ow (assigning c) pl gs ts h.0 (sorted is_chain (λ s t w u. refl) (λ e. refl) o.tree h.1) h.2) (Access_walk gs h.0 r h.3)
 
 pub chain_call_walk : (c : Code) (pl : c.placed ≡ true) (s : Span) (a2 : Bool) (own : Span) (f : Part) (fw : Walked f) (xs : List Part) (xsw : AllWalked xs) (gs : List Bool) (ts r : Input) → ChainCall c s a2 own f xs ts r → Goes (Outside gs) (Outside gs) ts r
 chain_call_walk c pl s true own f fw xs xsw gs ts r h = go _ _ _ ts h.0 r (fw (assigning c) pl gs ts h.0 (leveled call_level f.tree (omega arith) h.2.0) h.2.1) (go _ _ _ h.0 h.1 r (optional_walk c pl gs h.0 h.1 h.3) (arguments_walk c pl xs xsw gs h.1 r h.4))
-chain_call_walk c pl s false own f fw xs xsw gs ts r h = go _ _ _ ts h.0 r (fw c pl gs ts h.0 (sorted is_chain (λ s t w u. refl) (λ e. refl) f.tree h.1) h.2) (arguments_walk c pl xs xsw gs h.0 r h.3)
+chain_call_walk c pl s false own f fw xs xsw gs ts r h = go _ _ _ ts h.0 r (fw (assigning c) pl gs ts h.0 (sorted is_chain (λ s t w u. refl) (λ e. refl) f.tree h.1) h.2) (arguments_walk c pl xs xsw gs h.0 r h.3)
 
 pub tagged_template_walk : (c : Code) (pl : c.placed ≡ true) (s : Span) (t : Part) (tw : Walked t) (own : Span) (es : List Part) (esw : AllWalked es) (qs : List Part) (qsw : AllQuasis qs) (gs : List Bool) (ts r : Input) → TaggedTemplate c s t own es qs ts r → Goes (Outside gs) (Outside gs) ts r
 tagged_template_walk c pl s t tw own es esw qs qsw gs ts r h = go _ _ _ ts h.0 r (tw (assigning c) pl gs ts h.0 (leveled call_level t.tree (omega arith) h.2.0) h.2.1) (template_literal_walk true c pl own es esw qs qsw gs h.0 r h.3)
@@ -175,7 +175,7 @@ pub await_walk : (c : Code) (pl : c.placed ≡ true) (s : Span) (a : Part) (aw :
 await_walk c pl s a aw gs ts r h = go _ _ _ ts h.0 r (takes_word c pl await_kind gs ts h.0 (plain await_kind refl refl refl refl refl refl refl) h.2) (aw (assigning c) pl gs h.0 r (leveled unary_level a.tree (omega arith) h.3.0) h.3.1)
 
 pub binary_walk : (c : Code) (pl : c.placed ≡ true) (s : Span) (op : ℕ) (a : Part) (aw : Walked a) (b : Part) (bw : Walked b) (gs : List Bool) (ts r : Input) → Binary c s op a b ts r → Goes (Outside gs) (Outside gs) ts r
-binary_walk c pl s op a aw b bw gs ts r h = go _ _ _ ts h.0 r (aw c pl gs ts h.0 (left_operand c op a.tree h.2 h.3) h.4) (go _ _ _ h.0 h.1 r (takes_word c pl op gs h.0 h.1 (plain_by (λ k. operates c k) refl refl refl refl refl refl refl op h.2) h.5) (bw (assigning c) pl gs h.1 r (leveled (right_level op) b.tree (right_some op) h.6.0) h.6.1))
+binary_walk c pl s op a aw b bw gs ts r h = go _ _ _ ts h.0 r (aw (assigning c) pl gs ts h.0 (left_operand c op a.tree h.2 h.3) h.4) (go _ _ _ h.0 h.1 r (takes_word c pl op gs h.0 h.1 (plain_by (λ k. operates c k) refl refl refl refl refl refl refl op h.2) h.5) (bw (assigning c) pl gs h.1 r (leveled (right_level op) b.tree (right_some op) h.6.0) h.6.1))
 
 pub conditional_walk : (c : Code) (pl : c.placed ≡ true) (s : Span) (a : Part) (aw : Walked a) (b : Part) (bw : Walked b) (d : Part) (dw : Walked d) (gs : List Bool) (ts r : Input) → Conditional c s a b d ts r → Goes (Outside gs) (Outside gs) ts r
 conditional_walk c pl s a aw b bw d dw gs ts r h = go _ _ _ ts h.0 r (aw (assigning c) pl gs ts h.0 (leveled coalesce_level a.tree (omega arith) h.4.0) h.4.1) (go _ _ _ h.0 h.1 r (takes c pl question_mark_kind gs h.0 h.1 (plain question_mark_kind refl refl refl refl refl refl refl) h.5) (go _ _ _ h.1 h.2 r (bw (assigning (with_in c)) pl gs h.1 h.2 (leveled assignment_level b.tree (omega arith) h.6.0) h.6.1) (go _ _ _ h.2 h.3 r (takes c pl colon_kind gs h.2 h.3 (plain colon_kind refl refl refl refl refl refl refl) h.7) (dw (assigning c) pl gs h.3 r (leveled assignment_level d.tree (omega arith) h.8.0) h.8.1))))

@@ -1,5 +1,5 @@
 -- The lexer as a source of tokens.
-use Rattle.std.specs.Prelude.{◌≡◌, ℕ, Option, None, refl, sym, ap, subst, ◌∙◌}
+use Rattle.std.proofs.Common.{◌≡◌, Option, None, sym, ap, subst, ◌∙◌}
 use Rattle.ecma_token.specs.Tokens.{Spot}
 use Rattle.ecma_tokens.specs.Machine.{EndStays, Machine, told_of}
 use Rattle.ecma_lexing.specs.States.{State, Text}

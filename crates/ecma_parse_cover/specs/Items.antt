@@ -1,6 +1,6 @@
 -- The items of a pattern from left to right, and what an item is made of.
 use Rattle.std.specs.Prelude.{ℕ, Bool, true, false, not, ◌&&◌, ◌==◌, if◌then◌else◌, List, [], ◌∷◌, ◌++◌, Result, Ok}
-use Rattle.ecma_tree.specs.Tree.{Tree, Trees, none, more, pack, unpack, ident, array_lit, object_lit, assign_expr, member_expr, super_prop_expr, paren_expr, expr_pat}
+use Rattle.ecma_tree.specs.Tree.{Tree, Trees, none, more, pack, unpack, ident, array_lit, object_lit, assign_expr, member_expr, super_prop_expr, paren_expr, opt_chain_expr, expr_pat, invalid_target}
 use Rattle.ecma_token.specs.Kinds.{assign_kind}
 use Rattle.ecma_syntax.specs.Shape.{is_simple, is_target_expr}
 use Rattle.ecma_reading.specs.Source.{Fault, unexpected, ◌>>=◌}
@@ -25,6 +25,8 @@ unfoldable pub default_of : Bool → Tree → Result Tree Fault
 default_of binds (member_expr s o k) = if binds then unexpected else Ok (expr_pat (member_expr s o k))
 default_of binds (super_prop_expr s o k) = if binds then unexpected else Ok (expr_pat (super_prop_expr s o k))
 default_of binds (paren_expr s x) = if binds then unexpected else Ok (expr_pat (paren_expr s x))
+default_of binds (opt_chain_expr s q x) = unexpected
+default_of binds (invalid_target s) = unexpected
 default_of binds p = if_binds binds p
 
 -- what may be a pattern, or part of one, and has no items: a name, an assignment, a target

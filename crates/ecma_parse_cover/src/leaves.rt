@@ -108,11 +108,7 @@ pub fn rest(span: Span, pat: PatBox) -> Result<RestPat, Failure>
     })
 }
 
-/// What an assignment with `=` assigns to, as a pattern.
-///
-/// # Errors
-///
-/// The parser makes no chain a target, and a pattern has no place for one: it answers as for want of memory.
+/// What an assignment with `=` assigns to, as a pattern, which a chain is not.
 #[tactic(auto, unfolding(crate::specs::Items::default_of))]
 pub fn default_target(alloc: Global, binds: bool, target: AssignTarget) -> Result<PatBox, Failure>
     requires { fits_assign_target (λ p. p) target }
@@ -151,8 +147,8 @@ pub fn default_target(alloc: Global, binds: bool, target: AssignTarget) -> Resul
             }
             made::target(alloc, ExprKind::Paren(x))
         }
-        AssignTarget::OptChain(_x) => Err(Failure::Memory),
-        AssignTarget::Invalid(_x) => Err(Failure::Memory),
+        AssignTarget::OptChain(x) => Err(made::refused(x.span)),
+        AssignTarget::Invalid(x) => Err(made::refused(x.span)),
     }
 }
 

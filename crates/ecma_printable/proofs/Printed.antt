@@ -72,7 +72,7 @@ module _ (look : Look) where
     good (rest_pat s d a) c = rests look s d a (good a) c
     good (key_value_pat_prop s k a) c = keyed_item look s k a (good k) (good a) c
     good (assign_pat_prop s k e) c = named_item look s k e (good k) (good e) c
-    good (expr_pat e) c = λ ts r h st. good e c ts r h Alone
+    good (expr_pat e) c = λ ts r h st. good e c ts r h.1 Alone
     good (param s ds a) c = parameter look s ds a (good a) c
     good (function s ps ds (block_stmt b ss) g a) c = function_good look s ps ds (block_stmt b ss) g a (function_inner look s ps ds b ss g a (goods ps) (goods ss)) c
     good (function s ps ds _ g a) c = λ ts r h. absurd h

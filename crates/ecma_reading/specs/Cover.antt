@@ -2,7 +2,7 @@
 use Rattle.std.specs.Prelude.{ℕ, Bool, true, false, not, ◌&&◌, ◌||◌, ◌==◌, if◌then◌else◌, List, [], ◌∷◌, Some, None, Result, Ok}
 use Rattle.ecma_token.specs.declared.place.Span.{Span}
 use Rattle.ecma_token.specs.Kinds.{assign_kind}
-use Rattle.ecma_tree.specs.Tree.{Tree, Trees, none, more, array_lit, object_lit, assign_expr, ident, member_expr, super_prop_expr, paren_expr, expr_or_spread, spread_element, key_value_prop, assign_prop, binding_ident, array_pat, object_pat, assign_pat, rest_pat, key_value_pat_prop, assign_pat_prop, expr_pat, hole, absent}
+use Rattle.ecma_tree.specs.Tree.{Tree, Trees, none, more, array_lit, object_lit, assign_expr, ident, member_expr, super_prop_expr, paren_expr, opt_chain_expr, expr_or_spread, spread_element, key_value_prop, assign_prop, binding_ident, array_pat, object_pat, assign_pat, rest_pat, key_value_pat_prop, assign_pat_prop, expr_pat, invalid_target, hole, absent}
 use Rattle.ecma_syntax.specs.Input.{dots_at}
 use Rattle.ecma_syntax.specs.Shape.{is_simple, is_target_expr, is_structured}
 use Rattle.ecma_reading.specs.Source.{Fault, unexpected, ◌>>=◌}
@@ -31,11 +31,13 @@ abbrev mutual
 abbrev pub if_binds : Bool → Tree → Result Tree Fault
 if_binds binds p = if not binds || binds_names p then Ok p else unexpected
 
--- a pattern with an initialiser
+-- a pattern with an initialiser; a chain is no target (13.15.1)
 abbrev pub initialised : Bool → Span → Tree → Tree → Result Tree Fault
 initialised binds s (member_expr t o k) e = if binds then unexpected else Ok (assign_pat s (expr_pat (member_expr t o k)) e)
 initialised binds s (super_prop_expr t o k) e = if binds then unexpected else Ok (assign_pat s (expr_pat (super_prop_expr t o k)) e)
 initialised binds s (paren_expr t x) e = if binds then unexpected else Ok (assign_pat s (expr_pat (paren_expr t x)) e)
+initialised binds s (opt_chain_expr t q x) e = unexpected
+initialised binds s (invalid_target t) e = unexpected
 initialised binds s p e = if_binds binds p >>= λ q. Ok (assign_pat s q e)
 
 abbrev pub rest_of : Span → Tree → Result Tree Fault
