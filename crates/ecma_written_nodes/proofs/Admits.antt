@@ -3,7 +3,7 @@ use Rattle.std.proofs.Common.{◌≡◌, ℕ, ◌≤◌, ◌⊎◌, inl, inr, �
 use Rattle.std.specs.Prelude.{◌==◌, nat_le, codes, if◌then◌else◌}
 use Rattle.std.proofs.lemmas.Bool.{cases_Bool, false≢true, true≢false, and_parts, not-true}
 use Rattle.std.proofs.lemmas.Bool.Decides.{nat_tests}
-use Rattle.ecma_tree.specs.Tree.{Tree, Trees, none, more, member_expr, tagged_tpl, number_lit, ident_name, private_name, unary_expr, update_expr, bin_expr, new_expr, var_decl, absent, hole, var_declarator, import_decl, named_export, export_decl, export_default_decl, export_default_expr, export_all, import_named_specifier, import_default_specifier, export_named_specifier, switch_case, catch_clause, constructor, class_method, private_method, class_prop, private_prop, static_block, auto_accessor, key_value_prop, assign_prop, getter_prop, setter_prop, method_prop, key_value_pat_prop, assign_pat_prop, param, script, es_module, list}
+use Rattle.ecma_tree.specs.Tree.{Tree, Trees, none, more, member_expr, tagged_tpl, import_star_as_specifier, export_namespace_specifier, number_lit, ident_name, private_name, unary_expr, update_expr, bin_expr, new_expr, var_decl, absent, hole, var_declarator, import_decl, named_export, export_decl, export_default_decl, export_default_expr, export_all, import_named_specifier, import_default_specifier, export_named_specifier, switch_case, catch_clause, constructor, class_method, private_method, class_prop, private_prop, static_block, auto_accessor, key_value_prop, assign_prop, getter_prop, setter_prop, method_prop, key_value_pat_prop, assign_pat_prop, param, script, es_module, list}
 use Rattle.ecma_syntax.specs.Operators.{coalesce_level, unary_level, new_level, call_level, binary_level}
 use Rattle.ecma_syntax.specs.Shape.{level, is_absent, is_hole, is_private, is_word_name, is_item, is_module_decl, is_case, is_member}
 use Rattle.ecma_edge.specs.Edges.{starts_with_word, ends_with_word, first_operand, is_plus, is_minus, is_decrement, is_not_of_decrement, starts_with_regexp}
@@ -74,6 +74,21 @@ starts_otherwise (es_module a b c) = true
 starts_otherwise (list a) = true
 starts_otherwise _ = false
 
+-- with a star, or with nothing, maybe
+abbrev pub is_starred : Tree → Bool
+is_starred (import_star_as_specifier a b) = true
+is_starred (export_namespace_specifier a b) = true
+is_starred (class_method a b c d e) = true
+is_starred (private_method a b c d e) = true
+is_starred (method_prop a b c) = true
+is_starred absent = true
+is_starred hole = true
+is_starred (list a) = true
+is_starred (script a b c) = true
+is_starred (es_module a b c) = true
+is_starred _ = false
+
+-- The tree may follow where this stands last.
 abbrev pub admits : State → Tree → Bool
 admits Fresh t = true
 admits Clear t = true
@@ -87,7 +102,7 @@ admits Slashed t = is_tight t && not (starts_with_regexp t)
 admits Lessed t = is_tight t && not (is_not_of_decrement (first_operand t))
 admits LessBanged t = nat_le unary_level (level t) && not (is_decrement t)
 admits Dotted t = is_word_name t || is_private t
-admits Operated t = starts_with_word t || (is_private t || (is_computed t || nat_le 1 (level t)))
+admits Operated t = not (is_starred t)
 admits Decred t = nat_le unary_level (level t)
 admits Hashed t = false
 admits Quasied t = false
@@ -152,6 +167,17 @@ otherwise_no_level (tagged_tpl s o k) = and_zero (nat_le 1 (level (tagged_tpl s 
 otherwise_no_level (bin_expr s op a b) = and_zero (nat_le 1 (binary_level op))
 otherwise_no_level (new_expr s f xs) = and_zero (nat_le 1 (level (new_expr s f xs)))
 otherwise_no_level _ = refl
+
+starred_no_level : (t : Tree) → (nat_le 1 (level t) && is_starred t) ≡ false
+starred_no_level (member_expr s o k) = and_zero (nat_le 1 (level (member_expr s o k)))
+starred_no_level (tagged_tpl s o k) = and_zero (nat_le 1 (level (tagged_tpl s o k)))
+starred_no_level (bin_expr s op a b) = and_zero (nat_le 1 (binary_level op))
+starred_no_level (new_expr s f xs) = and_zero (nat_le 1 (level (new_expr s f xs)))
+starred_no_level _ = refl
+
+-- an expression starts with no star
+pub unstarred : (t : Tree) → 1 ≤ level t → admits Operated t ≡ true
+unstarred t h = ap not (ap (λ b. b && is_starred t) (sym (at_least 1 (level t) h)) ∙ starred_no_level t)
 
 pub expression_opens : (t : Tree) → 1 ≤ level t → starts_otherwise t ≡ false
 expression_opens t h = ap (λ b. b && starts_otherwise t) (sym (at_least 1 (level t) h)) ∙ otherwise_no_level t
@@ -306,7 +332,7 @@ head_admits Slashed t u h w r d e = both_true (is_tight u) _ (or_second (is_priv
 head_admits Lessed t u h w r d e = both_true (is_tight u) _ (or_second (is_private u) _ (at_least coalesce_level (level u) (omega arith))) (not_false _ (plain_first u h).no_bang)
 head_admits LessBanged t u h w r d e = both_true (nat_le unary_level (level u)) _ (at_least unary_level (level u) (omega arith)) (not_false _ (plain_first u h).no_decrement)
 head_admits Dotted t u h w r d e = absurd (false≢true (sym d ∙ e))
-head_admits Operated t u h w r d e = or_second (starts_with_word u) _ (or_second (is_private u) _ (or_second (is_computed u) _ (at_least 1 (level u) (omega arith))))
+head_admits Operated t u h w r d e = unstarred u (omega arith)
 head_admits Decred t u h w r d e = at_least unary_level (level u) (omega arith)
 head_admits Hashed t u h w r d e = e
 head_admits Quasied t u h w r d e = e
@@ -326,7 +352,7 @@ loose_admits Slashed t u i n d w l e = absurd (false≢true (sym i ∙ (and_part
 loose_admits Lessed t u i n d w l e = absurd (false≢true (sym i ∙ (and_parts (is_tight t) _ e).0))
 loose_admits LessBanged t u i n d w l e = absurd (false≢true (sym n ∙ (and_parts (nat_le unary_level (level t)) _ e).0))
 loose_admits Dotted t u i n d w l e = absurd (false≢true (sym d ∙ e))
-loose_admits Operated t u i n d w l e = or_second (starts_with_word u) _ (or_second (is_private u) _ (or_second (is_computed u) _ (at_least 1 (level u) l)))
+loose_admits Operated t u i n d w l e = unstarred u l
 loose_admits Decred t u i n d w l e = absurd (false≢true (sym n ∙ e))
 loose_admits Hashed t u i n d w l e = e
 loose_admits Quasied t u i n d w l e = e
@@ -344,6 +370,17 @@ tight_opens a i = ⊎_elim
     private_opens (private_name s n) t = refl
     private_opens _ t = absurd (false≢true t)
 
+-- and nor does an operand of an operator
+pub tight_unstarred : (a : Tree) → is_tight a ≡ true → admits Operated a ≡ true
+tight_unstarred a i = ⊎_elim
+    (λ (t : is_private a ≡ true). private_unstarred a t)
+    (λ (f : is_private a ≡ false). unstarred a (let h = at_most coalesce_level (level a) (sym (ap (λ b. b || nat_le coalesce_level (level a)) f) ∙ i) in omega (arith, h)))
+    (cases_Bool (is_private a))
+  where
+    private_unstarred : (a : Tree) → is_private a ≡ true → admits Operated a ≡ true
+    private_unstarred (private_name s n) t = refl
+    private_unstarred _ t = absurd (false≢true t)
+
 -- the left operand
 pub left_admits : (s : State) (sp : Rattle.ecma_token.specs.declared.place.Span.Span) (op : ℕ) (a b : Tree) → is_tight a ≡ true → admits s (bin_expr sp op a b) ≡ true → admits s a ≡ true
 left_admits Fresh sp op a b i e = refl
@@ -358,13 +395,7 @@ left_admits Slashed sp op a b i e = both_true (is_tight a) _ i (and_parts (is_ti
 left_admits Lessed sp op a b i e = both_true (is_tight a) _ i (and_parts (is_tight (bin_expr sp op a b)) _ e).1
 left_admits LessBanged sp op a b i e = absurd (binary_no_unary op (and_parts (nat_le unary_level (binary_level op)) _ e).0)
 left_admits Dotted sp op a b i e = absurd (false≢true e)
-left_admits Operated sp op a b i e = or_second (starts_with_word a) _ (tight_one a i)
-  where
-    tight_one : (a : Tree) → is_tight a ≡ true → (is_private a || (is_computed a || nat_le 1 (level a))) ≡ true
-    tight_one a i = ⊎_elim
-        (λ (t : is_private a ≡ true). ap (λ b. b || (is_computed a || nat_le 1 (level a))) t)
-        (λ (f : is_private a ≡ false). or_second (is_private a) _ (or_second (is_computed a) _ (at_least 1 (level a) (let h = at_most coalesce_level (level a) (sym (ap (λ b. b || nat_le coalesce_level (level a)) f) ∙ i) in omega (arith, h)))))
-        (cases_Bool (is_private a))
+left_admits Operated sp op a b i e = tight_unstarred a i
 left_admits Decred sp op a b i e = absurd (binary_no_unary op e)
 left_admits Hashed sp op a b i e = e
 left_admits Quasied sp op a b i e = e

@@ -23,7 +23,7 @@ use Rattle.ecma_layout.specs.Words.{sign_of}
 use Rattle.ecma_lexeme.specs.declared.goal.LexicalGoal.TheVariants.{Div}
 use Rattle.ecma_written_fits.proofs.Keywords.{delete_word, in_word, instanceof_word, typeof_word, void_word}
 use Rattle.ecma_written_fits.proofs.Marks.{and_mark, bang_mark, bit_and_mark, bit_or_mark, bit_xor_mark, coalesce_mark, equal_mark, greater_equal_mark, greater_mark, less_equal_mark, less_mark, minus_mark, not_equal_mark, not_same_mark, or_mark, plus_mark, power_mark, rest_mark, same_mark, shift_left_mark, shift_right_mark, slash_mark, tilde_mark, times_mark, zero_fill_mark}
-use Rattle.ecma_written_nodes.proofs.Admits.{admits, admits_open, admits_word, at_least, at_most, between_binary, both_true, expression_opens, expression_plain, is_ended, is_free, is_nothing, is_tight, leaves, leaves_end, leaves_open, leaves_wordless, left_admits, no_lines, numeric, or_none, or_second, passes, tight_opens, worded_admits}
+use Rattle.ecma_written_nodes.proofs.Admits.{tight_unstarred, unstarred, admits, admits_open, admits_word, at_least, at_most, between_binary, both_true, expression_opens, expression_plain, is_ended, is_free, is_nothing, is_tight, leaves, leaves_end, leaves_open, leaves_wordless, left_admits, no_lines, numeric, or_none, or_second, passes, tight_opens, worded_admits}
 use Rattle.ecma_written_nodes.proofs.Forms.{Sound}
 use Rattle.ecma_written_nodes.proofs.Steps.{Apart, Steps, apart, at, blanks, gaps_or, mark, text_by, when_goes, ◌▸◌}
 use Rattle.ecma_written_tiles.specs.Classes.{Bang, Class, Clear, Closed, Fresh, Hashed, Less, Lessed, Minus, Minused, Numbered, Operated, Operator, Plus, Plused, Pointed, Quasied, Shut, Slash, Slashed, State, Word, Worded, behind, blank_behind, is_end, is_open, is_wordless, takes}
@@ -81,7 +81,7 @@ bang_stands _ sp x e = refl
 
 bang_on : (s : State) (sp : Span) (x : Tree) → unary_level ≤ level x → admits s (unary_expr sp bang_kind x) ≡ true → admits (behind Bang s) x ≡ true
 bang_on Lessed sp x h e = both_true (nat_le unary_level (level x)) _ (at_least unary_level (level x) h) (and_parts (is_tight (unary_expr sp bang_kind x)) _ e).1
-bang_on _ sp x h e = or_second (starts_with_word x) _ (or_second (is_private x) _ (or_second (is_computed x) _ (at_least 1 (level x) (omega arith))))
+bang_on _ sp x h e = unstarred x (omega arith)
 
 bang_open : (s : State) → is_open (behind Bang s) ≡ true
 bang_open Lessed = refl
@@ -189,18 +189,12 @@ end_takes Worded e = (refl, refl, refl, refl, refl)
 end_takes Numbered e = (refl, refl, refl, refl, refl)
 end_takes _ e = absurd (false≢true e)
 
-tight_one : (b : Tree) → is_tight b ≡ true → admits Operated b ≡ true
-tight_one b i = or_second (starts_with_word b) _ (⊎_elim
-    (λ (t : is_private b ≡ true). ap (λ c. c || (is_computed b || nat_le 1 (level b))) t)
-    (λ (f : is_private b ≡ false). or_second (is_private b) _ (or_second (is_computed b) _ (at_least 1 (level b) (let h = at_most coalesce_level (level b) (sym (ap (λ c. c || nat_le coalesce_level (level b)) f) ∙ i) in omega (arith, h)))))
-    (cases_Bool (is_private b)))
-
 plain_operates : (k : ℕ) → Fits Div (operator_text k) Operator → 4 ≤ binary_level k → 4 ≤ right_level k → Operates k
 plain_operates k f l r = record {
   class = Operator; last = Operated; fits = f; low = l; right_low = r; after = λ v. refl; open_after = refl;
   left = λ st a v e n g. (end_takes v (leaves_end st a v e)).0;
   clear = refl;
-  right = λ b i g. tight_one b i;
+  right = λ b i g. tight_unstarred b i;
 }
 
 slash_operates : Operates div_kind
@@ -317,7 +311,7 @@ blank_clear : (st : Stand) (a : Tree) (v : State) → leaves st a v ≡ true →
 blank_clear st a Fresh l n = absurd (false≢true (sym (no_lines a n) ∙ l))
 blank_clear st a _ l n = refl
 
-blank_admits : (u : State) (b : Tree) → admits (blank_behind u) b ≡ true
+pub blank_admits : (u : State) (b : Tree) → admits (blank_behind u) b ≡ true
 blank_admits Fresh b = refl
 blank_admits _ b = refl
 

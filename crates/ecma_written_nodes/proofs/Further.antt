@@ -19,10 +19,10 @@ use Rattle.ecma_layout.specs.Layout.{laid, separated, comma, closing, initial, i
 use Rattle.ecma_lexeme.specs.declared.goal.LexicalGoal.TheVariants.{Div}
 use Rattle.unicode_ident.proofs.Computing.{unicode_ident}
 use Rattle.ecma_written.proofs.PlainWords.{are_parts, is_plain_word}
-use Rattle.ecma_written_fits.proofs.Keywords.{async_word, in_word}
+use Rattle.ecma_written_fits.proofs.Keywords.{for_word, static_word, async_word, in_word}
 use Rattle.ecma_written_fits.proofs.Marks.{colon_mark, comma_mark, equals_mark, left_paren, question_mark, right_paren, times_mark}
 use Rattle.ecma_written_fits.proofs.Words.{keyword}
-use Rattle.ecma_written_nodes.proofs.Admits.{admits, admits_word, and_false, at_least, both_true, expression_opens, expression_plain, free_admits, free_open, is_ended, is_free, is_nothing, leaves, leaves_end, leaves_open, leaves_wordless, loose_admits, numeric, or_second, passes, starts_otherwise, worded_admits}
+use Rattle.ecma_written_nodes.proofs.Admits.{unstarred, admits, admits_word, and_false, at_least, both_true, expression_opens, expression_plain, free_admits, free_open, is_ended, is_free, is_nothing, leaves, leaves_end, leaves_open, leaves_wordless, loose_admits, numeric, or_second, passes, starts_otherwise, worded_admits}
 use Rattle.ecma_written_nodes.proofs.Forms.{AllGood, Good, Sound}
 use Rattle.ecma_written_nodes.proofs.Names.{commas_go}
 use Rattle.ecma_written_nodes.proofs.Statements.{Item, closes}
@@ -31,31 +31,15 @@ use Rattle.ecma_written_tiles.specs.Classes.{Clear, Fresh, Numbered, Operated, O
 use Rattle.ecma_written_tiles.specs.Goes.{Fits}
 use Rattle.ecma_written_nodes.proofs.Steps.{ends}
 
-for_word : Fits Div (codes "for") Word
-unfolding is_plain_word are_parts unicode_ident
-for_word = keyword (codes "for") refl
-
-do_word : Fits Div (codes "do") Word
-unfolding is_plain_word are_parts unicode_ident
-do_word = keyword (codes "do") refl
-
-while_word : Fits Div (codes "while") Word
-unfolding is_plain_word are_parts unicode_ident
-while_word = keyword (codes "while") refl
-
-static_word : Fits Div (codes "static") Word
-unfolding is_plain_word are_parts unicode_ident
-static_word = keyword (codes "static") refl
-
-blank_end : (u : State) → is_end u ≡ true → is_end (blank_behind u) ≡ true
+pub blank_end : (u : State) → is_end u ≡ true → is_end (blank_behind u) ≡ true
 blank_end Fresh e = refl
 blank_end _ e = refl
 
-blank_free : (u : State) → is_free (blank_behind u) ≡ true
+pub blank_free : (u : State) → is_free (blank_behind u) ≡ true
 blank_free Fresh = refl
 blank_free _ = refl
 
-end_open : (u : State) → is_end u ≡ true → is_open u ≡ true
+pub end_open : (u : State) → is_end u ≡ true → is_open u ≡ true
 end_open Fresh e = refl
 end_open Clear e = refl
 end_open Shut e = refl
@@ -63,7 +47,7 @@ end_open Worded e = refl
 end_open Numbered e = refl
 end_open _ e = absurd (false≢true e)
 
-free_wordless : (u : State) → is_free u ≡ true → is_wordless u ≡ true
+pub free_wordless : (u : State) → is_free u ≡ true → is_wordless u ≡ true
 free_wordless Fresh k = refl
 free_wordless Clear k = refl
 free_wordless Shut k = refl
@@ -71,7 +55,7 @@ free_wordless _ k = absurd (false≢true k)
 
 module _ (look : Look) where
   -- an operator with a gap on each side where formatting has them, and an expression behind it
-  gapped : {bytes : List ℕ} {P : State → Type 0} (v : State) (g : Laid) → Fits Div bytes Operator → is_end v ≡ true → Steps g Operated P → Steps g Clear P → Steps (gap look · text bytes · gap look · g) v P
+  pub gapped : {bytes : List ℕ} {P : State → Type 0} (v : State) (g : Laid) → Fits Div bytes Operator → is_end v ≡ true → Steps g Operated P → Steps g Clear P → Steps (gap look · text bytes · gap look · g) v P
   gapped {bytes = bytes} {P = P} v g f e x y = gaps look (end_open v e) ▸ either (sign v e) (sign (blank_behind v) (blank_end v e))
     where
       sign : (u : State) → is_end u ≡ true → Steps (text bytes · gap look · g) u P
@@ -79,10 +63,10 @@ module _ (look : Look) where
 
   -- ---- 13.14
 
-  operated : (e : Tree) → 1 ≤ level e → admits Operated e ≡ true
-  operated e h = or_second (starts_with_word e) _ (or_second (is_private e) _ (or_second (is_computed e) _ (at_least 1 (level e) h)))
+  pub operated : (e : Tree) → 1 ≤ level e → admits Operated e ≡ true
+  operated e h = unstarred e h
 
-  last_leaves : (st : Stand) (x u : Tree) (v : State) → 1 ≤ level x → (ends_with_word u && not (is_ended u)) ≡ true → numeric st u ≡ true → leaves Alone x v ≡ true → leaves st u v ≡ true
+  pub last_leaves : (st : Stand) (x u : Tree) (v : State) → 1 ≤ level x → (ends_with_word u && not (is_ended u)) ≡ true → numeric st u ≡ true → leaves Alone x v ≡ true → leaves st u v ≡ true
   last_leaves st x u v h w n l = passes Alone st x u v l (expression_plain x h) (λ e. w) (λ e. n)
 
   pub conditional : (sp : Span) (a b d : Tree) → Sound look a → Sound look b → Sound look d → Sound look (cond_expr sp a b d)
@@ -107,14 +91,21 @@ module _ (look : Look) where
   name_worded sp (binding_ident s x) e i a = absurd (false≢true a)
   name_worded sp _ e i a = absurd (false≢true i)
 
+  name_operated : (n : Tree) → is_binding n ≡ true → admits Operated n ≡ true
+  name_operated (array_pat s xs) i = refl
+  name_operated (object_pat s ps) i = refl
+  name_operated (binding_ident s x) i = refl
+  name_operated _ i = absurd (false≢true i)
+
   name_admits : (s : State) (sp : Span) (n e : Tree) → is_binding n ≡ true → admits s (var_declarator sp n e) ≡ true → admits s n ≡ true
   name_admits Fresh sp n e i a = refl
   name_admits Clear sp n e i a = refl
   name_admits Shut sp n e i a = refl
   name_admits Worded sp n e i a = name_worded sp n e i a
+  name_admits Operated sp n e i a = name_operated n i
   name_admits _ sp n e i a = absurd (false≢true a)
 
-  binding_plain : (n : Tree) → is_binding n ≡ true → (is_ended n || is_nothing n) ≡ false
+  pub binding_plain : (n : Tree) → is_binding n ≡ true → (is_ended n || is_nothing n) ≡ false
   binding_plain (array_pat s xs) i = refl
   binding_plain (object_pat s ps) i = refl
   binding_plain (binding_ident s x) i = refl
@@ -140,7 +131,7 @@ module _ (look : Look) where
   AllDeclared none = Unit {0}
   AllDeclared (more t ts) = Good look t × (((is_ended t || is_nothing t) ≡ false) × AllDeclared ts)
 
-  declared_go : (ts : Trees) (t : Tree) (s : State) → AllDeclared (more t ts) → admits s t ≡ true → (k : Tree) (st : Stand) → (last_ends_with_word (more t ts) ≡ true → (ends_with_word k && not (is_ended k)) ≡ true) → numeric st k ≡ true
+  pub declared_go : (ts : Trees) (t : Tree) (s : State) → AllDeclared (more t ts) → admits s t ≡ true → (k : Tree) (st : Stand) → (last_ends_with_word (more t ts) ≡ true → (ends_with_word k && not (is_ended k)) ≡ true) → numeric st k ≡ true
       → Steps (separated look (comma look) (more t ts)) s (λ u. leaves st k u ≡ true)
   unfolding AllDeclared
   declared_go none t s a q k st w n = ends (a.0 Alone s q) (λ v l. passes Alone st t k v l a.1.0 w (λ e. n))
@@ -191,7 +182,7 @@ module _ (look : Look) where
       (λ g. ends (gaps_or look (starts_with_word key) refl) (λ u q. ⊎_elim (λ (x : (starts_with_word key ≡ false) × (u ≡ Worded)). inl ((e, inr (g, x.0)), x.1)) (λ (x : u ≡ Clear). inr x) q)))
       (λ e. ends (blanks refl) (λ u q. inr q))
 
-  key_opens : (k : Tree) → is_key k ≡ true → starts_otherwise k ≡ false
+  pub key_opens : (k : Tree) → is_key k ≡ true → starts_otherwise k ≡ false
   key_opens k e = by (is_key k) (starts_otherwise k) e (apart_keys k)
     where
       by : (a b : Bool) → a ≡ true → (a && b) ≡ false → b ≡ false
@@ -202,7 +193,7 @@ module _ (look : Look) where
       apart_keys (absent) = refl
       apart_keys _ = refl
 
-  key_operated : (k : Tree) → is_key k ≡ true → admits Operated k ≡ true
+  pub key_operated : (k : Tree) → is_key k ≡ true → admits Operated k ≡ true
   key_operated (ident_name s n) e = refl
   key_operated (str_lit s u w) e = refl
   key_operated (number_lit s v w) e = refl
@@ -211,7 +202,7 @@ module _ (look : Look) where
   key_operated _ e = absurd (false≢true e)
 
   -- `async` and `*` of a method, before its key
-  marks_go : (waits generates : Bool) (key : Tree) (s : State) → is_key key ≡ true → is_wordless s ≡ true → is_end s ≡ true → admits s key ≡ true → Steps (method_marks waits generates) s (λ u. admits u key ≡ true)
+  pub marks_go : (waits generates : Bool) (key : Tree) (s : State) → is_key key ≡ true → is_wordless s ≡ true → is_end s ≡ true → admits s key ≡ true → Steps (method_marks waits generates) s (λ u. admits u key ≡ true)
   marks_go true true key s i w e a = (worded async_word w ▸ at (blanks refl)) ▸ at (ends (text_by Operator times_mark refl) (λ u q. ap (λ v. admits v key) q ∙ key_operated key i))
   marks_go true false key s i w e a = (worded async_word w ▸ at (blanks refl)) ▸ at (ends nil (λ u q. ap (λ v. admits v key) q))
   marks_go false true key s i w e a = nil ▸ at (ends (text_by Operator times_mark e) (λ u q. ap (λ v. admits v key) q ∙ key_operated key i))
@@ -229,7 +220,7 @@ module _ (look : Look) where
   Kind : ℕ → Bool → Bool → Type 0
   Kind kind generates waits = (kind == plain_method) ≡ false → ((kind ≡ get_kind) ⊎ (kind ≡ set_kind))
 
-  accessed : (kind : ℕ) (generates waits : Bool) (key : Tree) (s : State) → ((kind == plain_method) ≡ false → ((kind ≡ get_kind) ⊎ (kind ≡ set_kind))) → is_key key ≡ true → is_wordless s ≡ true → is_end s ≡ true → admits s key ≡ true
+  pub accessed : (kind : ℕ) (generates waits : Bool) (key : Tree) (s : State) → ((kind == plain_method) ≡ false → ((kind ≡ get_kind) ⊎ (kind ≡ set_kind))) → is_key key ≡ true → is_wordless s ≡ true → is_end s ≡ true → admits s key ≡ true
       → Steps (if kind == plain_method then method_marks waits generates else word (own_text kind) · gap_or look (starts_with_word key)) s (λ u. admits u key ≡ true)
   accessed kind generates waits key s k i w e a = if_goes (kind == plain_method)
       (λ p. marks_go waits generates key s i w e a)
@@ -238,7 +229,7 @@ module _ (look : Look) where
       (λ (x : u ≡ Clear). ap (λ v. admits v key) x) q)))
 
   -- `static`, `async` and `*`, or `get` or `set`, up to the key
-  Head_of : Bool → ℕ → Bool → Bool → Tree → Laid
+  unfoldable pub Head_of : Bool → ℕ → Bool → Bool → Tree → Laid
   Head_of is_static kind generates waits key = when is_static (word (codes "static") · after_static look kind generates waits key)
       · (if kind == plain_method then method_marks waits generates else word (own_text kind) · gap_or look (starts_with_word key))
 
@@ -255,7 +246,7 @@ module _ (look : Look) where
       h.1))
       (λ e. absurd (false≢true (sym e ∙ p.0)))
 
-  heads : (is_static : Bool) (kind : ℕ) (generates waits : Bool) (key : Tree) (s : State) → ((kind == plain_method) ≡ false → ((kind ≡ get_kind) ⊎ (kind ≡ set_kind))) → is_key key ≡ true → is_free s ≡ true
+  pub heads : (is_static : Bool) (kind : ℕ) (generates waits : Bool) (key : Tree) (s : State) → ((kind == plain_method) ≡ false → ((kind ≡ get_kind) ⊎ (kind ≡ set_kind))) → is_key key ≡ true → is_free s ≡ true
       → Steps (Head_of is_static kind generates waits key) s (λ u. admits u key ≡ true)
   unfolding Head_of
   heads is_static kind generates waits key s k i f =

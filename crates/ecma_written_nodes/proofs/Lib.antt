@@ -7,3 +7,5 @@ pub mod Binary
 pub mod Statements
 pub mod Values
 pub mod Further
+pub mod Primaries
+pub mod Expressions

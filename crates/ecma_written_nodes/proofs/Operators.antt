@@ -54,7 +54,7 @@ module _ (look : Look) where
   decr_admits _ x h = refl
 
   -- the operand of a prefix leaves what the whole leaves
-  operand_leaves : (st : Stand) (x u : Tree) (v : State) → 1 ≤ level x → (ends_with_word u && not (is_ended u)) ≡ true → numeric st u ≡ true → leaves Alone x v ≡ true → leaves st u v ≡ true
+  pub operand_leaves : (st : Stand) (x u : Tree) (v : State) → 1 ≤ level x → (ends_with_word u && not (is_ended u)) ≡ true → numeric st u ≡ true → leaves Alone x v ≡ true → leaves st u v ≡ true
   operand_leaves st x u v h w n l = passes Alone st x u v l (expression_plain x h) (λ e. w) (λ e. n)
 
   increment : (sp : Span) (x : Tree) → unary_level ≤ level x → Good look x → Good look (update_expr sp plus_plus_kind true x)

@@ -40,7 +40,7 @@ module _ (look : Look) where
   all_items close c starts (more s ss) a ts r h = ((a.0 _ ts h.0 h.2, h.1), all_items close (if starts && is_use_strict s then turned_strict c else c) (starts && is_directive s) ss a.1 h.0 r h.3)
 
   -- what an item leaves, other than variables
-  ended_free : (t : Tree) (v : State) → is_item t ≡ true → is_variables t ≡ false → leaves Alone t v ≡ true → is_free v ≡ true
+  pub ended_free : (t : Tree) (v : State) → is_item t ≡ true → is_variables t ≡ false → leaves Alone t v ≡ true → is_free v ≡ true
   ended_free t v i n l = leaves_wordless Alone t v (ap (λ b. ends_with_word t && not b) ended ∙ and_false (ends_with_word t) false refl) l
     where
       ended : is_ended t ≡ true
@@ -95,13 +95,13 @@ module _ (look : Look) where
   plain_item (fn_decl s n (function t ps ds b g a)) e = refl
   plain_item _ e = absurd (false≢true e)
 
-  sub_item : (c : Code) (t : Tree) → (is_statement t || (not (Rattle.ecma_syntax.specs.Input.is_strict c) && is_plain_function t)) ≡ true → is_item t ≡ true
+  pub sub_item : (c : Code) (t : Tree) → (is_statement t || (not (Rattle.ecma_syntax.specs.Input.is_strict c) && is_plain_function t)) ≡ true → is_item t ≡ true
   sub_item c t e = ⊎_elim
       (λ (k : is_statement t ≡ true). ap (λ b. b || is_declaration t) k)
       (λ (k : (not (Rattle.ecma_syntax.specs.Input.is_strict c) && is_plain_function t) ≡ true). plain_item t (and_parts (not (Rattle.ecma_syntax.specs.Input.is_strict c)) (is_plain_function t) k).1)
       (or_cases (is_statement t) _ e)
 
-  item_opens : (t : Tree) → is_item t ≡ true → starts_otherwise t ≡ false
+  pub item_opens : (t : Tree) → is_item t ≡ true → starts_otherwise t ≡ false
   item_opens t i = by (is_item t) (starts_otherwise t) i (apart_items t)
     where
       by : (a b : Bool) → a ≡ true → (a && b) ≡ false → b ≡ false
@@ -173,7 +173,7 @@ module _ (look : Look) where
     one_name (more (binding_ident s i) none) a u o f = ends (a.0 Alone u (f s i)) (λ v l. leaves_end Alone (binding_ident s i) v l)
     one_name _ a u o f = absurd (false≢true o)
 
-    parameters : (u : State) → is_open u ≡ true → (is_one_name ps ≡ true → (at' : Span) (i : Tree) → admits u (binding_ident at' i) ≡ true)
+    pub parameters : (u : State) → is_open u ≡ true → (is_one_name ps ≡ true → (at' : Span) (i : Tree) → admits u (binding_ident at' i) ≡ true)
         → Steps (if is_one_name ps && not (formats look) then separated look (comma look) ps else in_parens (separated look (comma look) ps)) u (λ v. is_end v ≡ true)
     parameters u o f = if_goes (is_one_name ps && not (formats look))
         (λ e. let n = (and_parts (is_one_name ps) _ e).0 in one_name ps a u n (f n))
@@ -192,7 +192,7 @@ module _ (look : Look) where
       (λ e. ends (f Body Shut refl) (λ u m. block_leaves b (arrow_expr sp ps b w) st u e m))
       (λ e. deepens look ▸ at (f Alone Shut refl ▸ λ u m. leaving st (arrow_expr sp ps b w) (comes_back look) (passes Alone st b (arrow_expr sp ps b w) u m (expression_plain b (h e)) (λ t. refl) (λ t. refl)))))
 
-  arrow_good : (sp : Span) (ps : Trees) (b : Tree) (w : Bool) → AllGood look ps → Good look b → (is_block b ≡ false → 1 ≤ level b) → Good look (arrow_expr sp ps b w)
+  pub arrow_good : (sp : Span) (ps : Trees) (b : Tree) (w : Bool) → AllGood look ps → Good look b → (is_block b ≡ false → 1 ≤ level b) → Good look (arrow_expr sp ps b w)
   arrow_good sp ps b true a f h st s d =
       mark ▸ at ((worded async_word (admits_word s (arrow_expr sp ps b true) d refl) ▸ at (when_goes {P = λ v. ((is_one_name ps ≡ false) × (v ≡ Worded)) ⊎ (v ≡ Clear)} (formats look || is_one_name ps) (λ e. ends (blanks refl) (λ v q. inr q)) (λ e. inl ((or_none (formats look) (is_one_name ps) e).1, refl)))) ▸ apart
       (λ n. parameters ps a Worded refl (λ o. absurd (true≢false (sym o ∙ n))) ▸ λ v l. arrow_tail b f h sp ps true st v l)
