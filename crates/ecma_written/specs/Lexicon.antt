@@ -1,5 +1,5 @@
 -- What the texts of a layout mean as tokens: what a derivation asks of how names and literals are spelled.
-use Rattle.std.specs.Prelude.{◌≡◌, ◌⊎◌, ℕ, ◌||◌, Bool, true, false, List, [], ◌∷◌, Option, Some, None, is_some}
+use Rattle.std.specs.Prelude.{◌≡◌, ℕ, ◌||◌, Bool, true, List, Option, Some, is_some}
 use Rattle.std.specs.Char.Escape.{encode_utf16}
 use Rattle.std.specs.List.{flat_map}
 use Rattle.std.specs.Str.{chars}
@@ -17,27 +17,24 @@ use Rattle.ecma_layout.specs.Looks.{regular_expression, joined, texts_of}
 use Rattle.ecma_layout.specs.Literals.{name_bytes, key_bytes, string_bytes, number_bytes, big_bytes, quasi_bytes}
 use Rattle.ecma_layout.specs.Words.{sign_of}
 use Rattle.ecma_written.specs.Texts.{mark_text, ending_text, word_text, is_strict_text}
-use Rattle.ecma_written.specs.Means.{Means, Known}
+use Rattle.ecma_written.specs.Means.{Means, TellsKinds, Known}
 
 pub record Lexicon (style : Style) : Type 0 where
   -- behind a token that was read are such tokens
   pub later : (ts m : Input) → rest ts ≡ m → Known ts.places → Known m.places
-
   -- Punctuators, words and operators are tokens of their kind, without an escape.
-  pub marks : (k j : ℕ) (x : Content) (e : Bool) → Means Div (mark_text k) j x e → (j ≡ k) × (e ≡ false)
-  pub words : (k j : ℕ) (x : Content) (e : Bool) → Means Div (own_text k) j x e → (j ≡ k) × (e ≡ false)
-  pub keywords : (k j : ℕ) (x : Content) (e : Bool) → Means Div (word_text k) j x e → (j ≡ k) × (e ≡ false)
-  pub signs : (k j : ℕ) (x : Content) (e : Bool) → Means Div (sign_of k) j x e → (j ≡ k) × (e ≡ false)
-  pub operators : (k j : ℕ) (x : Content) (e : Bool) → Means Div (operator_text k) j x e → (j ≡ k) × (e ≡ false)
-  pub endings : (k j : ℕ) (x : Content) (e : Bool) → Means TemplateEnd (ending_text k) j x e → (j ≡ k) × (e ≡ false)
-
+  pub marks : TellsKinds Div mark_text
+  pub words : TellsKinds Div own_text
+  pub keywords : TellsKinds Div word_text
+  pub signs : TellsKinds Div sign_of
+  pub operators : TellsKinds Div operator_text
+  pub endings : TellsKinds TemplateEnd ending_text
   -- The text of a word that was read is that word again, and has an escape only where it is no reserved word.
   pub names : (ts : Input) (j : ℕ) (x : Content) (e : Bool) → Known ts.places → is_word (kind ts) ≡ true → Means Div (name_bytes style (text ts)) j x e
       → (j ≡ kind ts) × (text_in x ≡ text ts) × (e ≡ true → j ≡ name_kind)
   -- A word as a key that is written as a string is a string of the word's units.
   pub quoted_keys : (ts : Input) (j : ℕ) (x : Content) (e : Bool) → Known ts.places → is_word (kind ts) ≡ true → is_quoted_key style (chars (text ts)) ≡ true
       → Means Div (key_bytes style (text ts)) j x e → (j ≡ str_kind) × (x ≡ Quoted (flat_map encode_utf16 (chars (text ts))) (key_bytes style (text ts)))
-
   -- The text of a literal that was read is a literal of the same value, by that text.
   pub strings : (ts : Input) (u w : List ℕ) (j : ℕ) (x : Content) (e : Bool) → Known ts.places → content ts ≡ Quoted u w → Means Div (string_bytes style u (Some w)) j x e
       → (j ≡ str_kind) × (x ≡ Quoted u (string_bytes style u (Some w)))
@@ -53,6 +50,5 @@ pub record Lexicon (style : Style) : Type 0 where
       → Means TemplateTail (quasi_bytes style tagged w) j x e → (j ≡ template_kind) × (x ≡ Piece (quasi_bytes style tagged w) u)
   pub patterns : (ts : Input) (b f : List ℕ) (j : ℕ) (x : Content) (e : Bool) → Known ts.places → content ts ≡ Pattern b f → Means RegExp (joined (texts_of (regular_expression b f))) j x e
       → (j ≡ regex_kind) × (x ≡ Pattern b f)
-
   -- A directive stays one, and what was none becomes none (11.2.1).
   pub strict_kept : (ts : Input) (u w : List ℕ) → Known ts.places → content ts ≡ Quoted u w → is_strict_text (string_bytes style u (Some w)) ≡ is_strict_text w

@@ -4,3 +4,4 @@ pub mod Means
 pub mod Told
 pub mod Texts
 pub mod Lexicon
+pub mod Laws

@@ -1,5 +1,5 @@
 -- What a text means as a token, and what is known of tokens that were read from a text.
-use Rattle.std.specs.Prelude.{◌≡◌, ◌⊎◌, ℕ, Bool, true, List, [], ◌∷◌}
+use Rattle.std.specs.Prelude.{◌≡◌, ◌⊎◌, ℕ, Bool, true, false, List, [], ◌∷◌}
 use Rattle.std.specs.Str.{chars}
 use lib.Utf8.{scalars}
 use Rattle.ecma_token.specs.Tokens.{Content}
@@ -14,6 +14,10 @@ use Rattle.ecma_written.specs.Says.{IsOwn}
 abbrev pub Means : LexicalGoal → List ℕ → ℕ → Content → Bool → Type 0
 Means goal own kind content escaped = (x : SpecLexeme) × IsOwn goal (chars own) x
     × (kind ≡ (told x.token).kind) × (content ≡ (told x.token).content) × (escaped ≡ x.escaped)
+
+-- A table has the texts of tokens by their kinds: each text is a token of its kind, without an escape.
+abbrev pub TellsKinds : LexicalGoal → (ℕ → List ℕ) → Type 0
+TellsKinds goal table = (k kind : ℕ) (content : Content) (escaped : Bool) → Means goal (table k) kind content escaped → (kind ≡ k) × (escaped ≡ false)
 
 -- The token stands at the front of some text of scalar values, under some goal.
 abbrev pub IsRead : Place → Type 0

@@ -1,5 +1,5 @@
 -- Which tokens a layout says: the tokens, in their places, of the texts that it writes one after another.
-use Rattle.std.specs.Prelude.{◌≡◌, ◌⊎◌, ℕ, ◌+◌, Bool, true, false, List, [], ◌∷◌, ◌++◌, length, codes}
+use Rattle.std.specs.Prelude.{◌≡◌, ◌⊎◌, ℕ, ◌+◌, Bool, false, List, [], ◌∷◌, ◌++◌, length, codes}
 use Rattle.std.specs.Str.{chars}
 use Rattle.ecma_token.specs.Kinds.{right_brace_kind, end_kind, shebang_kind}
 use Rattle.ecma_token.specs.Tokens.{SpecToken, Line as Hashbang}
@@ -11,7 +11,7 @@ use Rattle.ecma_syntax.specs.Input.{Place, Input, kind}
 use Rattle.ecma_spells.specs.Tiled.{goal_at}
 use Rattle.ecma_pieces.specs.Pieces.{Piece, Text, Brace, Blank, Line, Deeper, Back, Semicolon, Commit, Mark}
 use Rattle.ecma_layout.specs.Looks.{Meaning, regular_expression, template_characters, template_end, hashbang_comment, touching, Laid, nothing, one, meant, both, refused, joined, texts_of}
-use Rattle.ecma_written.specs.Gaps.{Gap, Touching, Spaced, Broken, is_broken, blanked, Lies}
+use Rattle.ecma_written.specs.Gaps.{Gap, Touching, Broken, is_broken, blanked, Lies}
 
 -- ---- one text
 

@@ -7,7 +7,7 @@ use Rattle.ecma_lexeme.specs.declared.goal.LexicalGoal.TheVariants.{Div, RegExp,
 use Rattle.ecma_syntax.specs.Input.{Input, kind, content, escaped, brk, rest, lo}
 use Rattle.ecma_pieces.specs.Pieces.{Piece, Text, Brace, Blank, Line, Deeper, Back, Semicolon, Commit, Mark}
 use Rattle.ecma_layout.specs.Looks.{Meaning, regular_expression, template_characters, template_end, hashbang_comment, touching, Laid, nothing, one, meant, both, refused, joined, texts_of}
-use Rattle.ecma_written.specs.Gaps.{Gap, Touching, Spaced, Broken, is_broken, blanked}
+use Rattle.ecma_written.specs.Gaps.{Gap, Touching, Broken, is_broken, blanked}
 use Rattle.ecma_written.specs.Says.{SemicolonMayGo}
 use Rattle.ecma_written.specs.Means.{Means}
 
