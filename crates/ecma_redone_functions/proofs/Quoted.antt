@@ -75,7 +75,7 @@ pub constructor_means : (j : ℕ) (x : Content) (e : Bool) → Means Div (codes 
 constructor_means j x e h =
     let a = ascii (codes "constructor") is_constructor.1 in
     let own : IsLexeme Div (chars (codes "constructor")) (word_lexeme (codes "constructor") false) [] =
-        subst (λ (l : List ℕ). IsLexeme Div l (word_lexeme (codes "constructor") false) []) (sym a.same) (plain_is 99 _ is_constructor.0) in
+    subst (λ (l : List ℕ). IsLexeme Div l (word_lexeme (codes "constructor") false) []) (sym a.same) (plain_is 99 _ is_constructor.0) in
     let same = (one_lexeme Div (chars (codes "constructor")) h.0 (word_lexeme (codes "constructor") false) [] [] h.1 own).0 in
     let bytes : encode_utf8_all (codes "constructor") ≡ codes "constructor" = sym (ap encode_utf8_all a.same) ∙ sym (encoded (codes "constructor") a.utf8) in
     let kind : j ≡ name_kind = h.2 ∙ (ap (λ (l : SpecLexeme). l.token.kind) same ∙ (ap kind_of bytes ∙ is_constructor.2)) in
