@@ -2,21 +2,19 @@
 use Rattle.std.proofs.Common.{Bool, List, [], ap, ap₂, arith, codes, eqb, false, if◌then◌else◌, inl, inr, not, refl, subst, sym, true, true≢false, ℕ, ◌&&◌, ◌-◌, ◌==◌, ◌||◌, ◌∙◌, ◌∷◌, ◌≡◌, ◌≤◌, ◌⊎◌}
 use Rattle.std.proofs.lemmas.Bool.{and_parts, ne_eqb, or_parts}
 use Rattle.ecma_token.specs.Kinds.{arrow_kind, async_kind, class_kind, comma_kind, else_kind, function_kind, left_brace_kind, left_bracket_kind, left_paren_kind, let_kind, right_paren_kind}
-use Rattle.ecma_token.specs.Tokens.{after}
 use Rattle.ecma_token.specs.declared.context.Context.{Context}
 use Rattle.ecma_token.specs.declared.place.Span.{Span}
 use Rattle.ecma_tree.specs.Places.{no_place}
 use Rattle.ecma_tree.specs.Tree.{Tree, Trees, arrow_expr, binding_ident, block_stmt, ident, more, none}
-use Rattle.ecma_syntax.specs.Input.{Code, Input, Only, Place, Takes, always_reserved, binding, brk, brk2, context_of, hi, in_arrow, in_list, is_word, judged, kind, kind2, lo, no_name, operator_word, rest, span, unplaced, with_in}
+use Rattle.ecma_syntax.specs.Input.{Code, Input, Only, Place, Takes, always_reserved, binding, brk, brk2, context_of, in_arrow, in_list, is_word, judged, kind, kind2, lo, no_name, operator_word, rest, span, unplaced, with_in}
 use Rattle.ecma_syntax.specs.Operators.{assignment_level}
 use Rattle.ecma_syntax.specs.Shape.{is_bound_name, is_item_pat, is_rest, level}
 use Rattle.ecma_grammar.specs.Functions.{ArrowBlock, ArrowExpression, ArrowHead, ArrowParameters, ArrowPattern}
 use Rattle.ecma_grammar.specs.Grammar.{Spells, parts}
 use Rattle.ecma_grammar.specs.Parts.{Listed, part}
 use Rattle.ecma_grammar.specs.Statements.{starts_expression_statement}
-use Rattle.ecma_grammar_complete_base.proofs.Trees.{begins}
 use Rattle.ecma_layout.specs.Layout.{comma, in_parens, is_block as is_block_tree, is_one_name, laid, separated, word}
-use Rattle.ecma_layout.specs.Looks.{Laid, back, blank, deeper, formats, last, nothing, text, when, ◌·◌}
+use Rattle.ecma_layout.specs.Looks.{Laid, back, blank, deeper, formats, nothing, text, when, ◌·◌}
 use Rattle.ecma_layout.specs.declared.look.Look.{Look}
 use Rattle.ecma_layout.specs.declared.look.Stand.{Stand}
 use Rattle.ecma_layout.specs.declared.look.Stand.TheVariants.{Alone, Body as BodyStand}
@@ -24,7 +22,7 @@ use Rattle.ecma_written.specs.Gaps.{Gap, Touching, is_broken}
 use Rattle.ecma_written.specs.Lexicon.{Lexicon}
 use Rattle.ecma_written.specs.Means.{Known}
 use Rattle.ecma_written.specs.Told.{says}
-use Rattle.ecma_redone.specs.Redo.{AllSame, Plain, placed}
+use Rattle.ecma_redone.specs.Redo.{AllSame, Plain}
 use Rattle.ecma_redone.specs.Written.{leaves_of}
 use Rattle.ecma_redone_base.proofs.Begins.{Begins, begun, fine, is_loose, is_weak, same_start, strong}
 use Rattle.ecma_redone_base.proofs.Bodies.{braced}

@@ -1,19 +1,17 @@
 -- Parameters and functions derived again (15.1, 15.2, 15.5, 15.6, 15.8).
 use Rattle.std.proofs.Common.{Bool, [], ap, ap₂, codes, false, if◌then◌else◌, inr, refl, subst, sym, true, true≢false, ℕ, ◌+◌, ◌-◌, ◌∙◌, ◌≡◌}
 use Rattle.ecma_token.specs.Kinds.{async_kind, function_kind, left_paren_kind, mul_kind, right_paren_kind}
-use Rattle.ecma_token.specs.Tokens.{after}
 use Rattle.ecma_token.specs.declared.place.Span.{Span}
 use Rattle.ecma_tree.specs.Places.{no_place}
 use Rattle.ecma_tree.specs.Tree.{Tree, Trees, block_stmt, fn_decl, fn_expr, function, more, none, param}
-use Rattle.ecma_syntax.specs.Input.{Code, Input, binding, brk, hi, in_body, by as in_code, kind, lo, setting, span, unplaced, with_in}
+use Rattle.ecma_syntax.specs.Input.{Code, Input, binding, brk, in_body, by as in_code, kind, lo, setting, span, unplaced, with_in}
 use Rattle.ecma_syntax.specs.Shape.{count_of, is_absent, is_item_pat, is_param, is_rest}
 use Rattle.ecma_grammar.specs.Functions.{Function, FunctionHead, Parameters, SetParameter, Star}
 use Rattle.ecma_grammar.specs.Grammar.{parts}
 use Rattle.ecma_grammar.specs.Parts.{By, Sorted, is_module_item}
-use Rattle.ecma_grammar_complete_base.proofs.Trees.{begins}
 use Rattle.ecma_edge.specs.Edges.{is_there}
 use Rattle.ecma_layout.specs.Layout.{comma, function_tail, in_parens, laid, marked_as_body, separated, word}
-use Rattle.ecma_layout.specs.Looks.{Laid, blank, formats, gap, last, text, when, ◌·◌}
+use Rattle.ecma_layout.specs.Looks.{Laid, blank, formats, gap, text, when, ◌·◌}
 use Rattle.ecma_layout.specs.declared.look.Look.{Look}
 use Rattle.ecma_layout.specs.declared.look.Stand.{Stand}
 use Rattle.ecma_layout.specs.declared.look.Stand.TheVariants.{Alone, Body as BodyStand}

@@ -2,24 +2,21 @@
 use Rattle.std.proofs.Common.{Bool, List, Some, ap, arith, chars, false, if◌then◌else◌, refl, subst, sym, true, true≢false, ℕ, ◌||◌, ◌∙◌, ◌≡◌}
 use Rattle.std.proofs.lemmas.Bool.{or_left, or_right}
 use Rattle.ecma_token.specs.Kinds.{else_kind, left_bracket_kind, right_bracket_kind, str_kind}
-use Rattle.ecma_token.specs.Tokens.{Quoted, after}
+use Rattle.ecma_token.specs.Tokens.{Quoted}
 use Rattle.ecma_token.specs.Utf16.{utf16}
 use Rattle.ecma_token.specs.declared.place.Span.{Span}
 use Rattle.ecma_lexeme.specs.declared.goal.LexicalGoal.TheVariants.{Div}
-use Rattle.ecma_tree.specs.Codes.{first}
 use Rattle.ecma_tree.specs.Places.{no_place}
-use Rattle.ecma_tree.specs.Tree.{Tree, big_int_lit, computed_prop_name, ident_name, more, number_lit, private_name, str_lit}
+use Rattle.ecma_tree.specs.Tree.{Tree, big_int_lit, computed_prop_name, ident_name, number_lit, private_name, str_lit}
 use Rattle.ecma_syntax.specs.Input.{Code, Input, brk, content, escaped, is_word, kind, lo, span, unplaced, with_in}
 use Rattle.ecma_syntax.specs.Operators.{assignment_level}
 use Rattle.ecma_syntax.specs.Shape.{constructs, is_any_key, is_key, is_private}
 use Rattle.ecma_grammar.specs.Expressions.{IdentifierName}
 use Rattle.ecma_grammar.specs.Grammar.{Spells}
 use Rattle.ecma_grammar.specs.Parts.{Sorted, is_module_item, part}
-use Rattle.ecma_grammar_complete_base.proofs.Trees.{begins}
 use Rattle.ecma_spell_string.specs.Names.{is_quoted_key}
 use Rattle.ecma_layout.specs.Layout.{laid}
 use Rattle.ecma_layout.specs.Literals.{key_bytes, name_bytes}
-use Rattle.ecma_layout.specs.Looks.{last}
 use Rattle.ecma_layout.specs.declared.look.Look.{Look}
 use Rattle.ecma_layout.specs.declared.look.Stand.{Stand}
 use Rattle.ecma_layout.specs.declared.look.Stand.TheVariants.{Alone, Key}

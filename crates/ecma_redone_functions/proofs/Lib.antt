@@ -4,4 +4,5 @@ pub mod Patterns
 pub mod Functions
 pub mod Arrows
 pub mod Objects
+pub mod ClassMembers
 pub mod Classes

@@ -2,17 +2,15 @@
 use Rattle.std.proofs.Common.{Bool, ap, ap₂, arith, false, if◌then◌else◌, refl, subst, sym, true, true≢false, ◌-◌, ◌∙◌, ◌≡◌}
 use Rattle.ecma_token.specs.Kinds.{assign_kind, async_kind, colon_kind, dot_dot_dot_kind, else_kind, get_kind, left_brace_kind, left_paren_kind, mul_kind, right_brace_kind, right_paren_kind, set_kind}
 use Rattle.ecma_token.specs.declared.place.Span.{Span}
-use Rattle.ecma_tree.specs.Codes.{first}
 use Rattle.ecma_tree.specs.Places.{no_place}
 use Rattle.ecma_tree.specs.Tree.{Tree, Trees, assign_prop, block_stmt, function, getter_prop, ident, key_value_prop, method_prop, more, none, object_lit, setter_prop, spread_element}
-use Rattle.ecma_syntax.specs.Input.{Code, Input, binding, brk, hi, in_body, kind, lo, setting, span, unplaced, with_in}
+use Rattle.ecma_syntax.specs.Input.{Code, Input, binding, brk, in_body, kind, lo, setting, span, unplaced, with_in}
 use Rattle.ecma_syntax.specs.Operators.{assignment_level}
 use Rattle.ecma_syntax.specs.Shape.{is_item_pat, is_prop, is_rest, level}
 use Rattle.ecma_grammar.specs.Functions.{MethodHead}
 use Rattle.ecma_grammar.specs.Parts.{Sorted, is_module_item}
-use Rattle.ecma_grammar_complete_base.proofs.Trees.{begins}
 use Rattle.ecma_layout.specs.Layout.{comma_line, is_bracketed_key, method_marks}
-use Rattle.ecma_layout.specs.Looks.{blank, formats, gap, last}
+use Rattle.ecma_layout.specs.Looks.{blank, formats, gap}
 use Rattle.ecma_layout.specs.declared.look.Look.{Look}
 use Rattle.ecma_layout.specs.declared.look.Stand.{Stand}
 use Rattle.ecma_layout.specs.declared.look.Stand.TheVariants.{Alone, Body as BodyStand}

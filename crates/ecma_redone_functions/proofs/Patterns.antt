@@ -2,9 +2,7 @@
 use Rattle.std.proofs.Common.{Bool, ap, ap₂, arith, codes, false, inl, not, refl, subst, sym, true, true≢false, ◌&&◌, ◌∙◌, ◌≡◌}
 use Rattle.std.proofs.lemmas.Bool.{and_parts}
 use Rattle.ecma_token.specs.Kinds.{assign_kind, colon_kind, dot_dot_dot_kind, else_kind, left_brace_kind, left_bracket_kind, right_brace_kind, right_bracket_kind}
-use Rattle.ecma_token.specs.Tokens.{after}
 use Rattle.ecma_token.specs.declared.place.Span.{Span}
-use Rattle.ecma_tree.specs.Codes.{first}
 use Rattle.ecma_tree.specs.Places.{no_place}
 use Rattle.ecma_tree.specs.Tree.{Tree, Trees, array_pat, assign_pat, assign_pat_prop, binding_ident, expr_pat, ident, key_value_pat_prop, member_expr, more, none, object_pat, paren_expr, rest_pat, super_prop_expr}
 use Rattle.ecma_syntax.specs.Input.{Code, Input, assigning, dots_at, lo, span, unplaced, with_in}
@@ -12,9 +10,8 @@ use Rattle.ecma_syntax.specs.Operators.{assignment_level}
 use Rattle.ecma_syntax.specs.Shape.{is_absent, is_bound_name, is_item_pat, is_pattern_prop, is_place, is_rest, is_simple, is_target_expr, level, takes_rest}
 use Rattle.ecma_grammar.specs.Parts.{is_module_item}
 use Rattle.ecma_grammar.specs.Patterns.{Item, Property}
-use Rattle.ecma_grammar_complete_base.proofs.Trees.{begins}
 use Rattle.ecma_layout.specs.Layout.{comma, laid}
-use Rattle.ecma_layout.specs.Looks.{formats, gap, last, text, when, ◌·◌}
+use Rattle.ecma_layout.specs.Looks.{formats, gap, text, when, ◌·◌}
 use Rattle.ecma_layout.specs.declared.look.Look.{Look}
 use Rattle.ecma_layout.specs.declared.look.Stand.{Stand}
 use Rattle.ecma_layout.specs.declared.look.Stand.TheVariants.{Alone}

@@ -28,7 +28,8 @@ use Rattle.ecma_redone_expressions.proofs.Sequences.{array_on, element_on, seque
 use Rattle.ecma_redone_expressions.proofs.Templates.{tagged_on, template_on}
 use Rattle.ecma_redone_expressions.proofs.Yield.{yield_bare, yield_on}
 use Rattle.ecma_redone_functions.proofs.Arrows.{arrow_block_on, arrow_on}
-use Rattle.ecma_redone_functions.proofs.Classes.{accessor_member, class_declaration, class_on, constructor_member, field_member, method_member, private_field, private_member, static_block_member}
+use Rattle.ecma_redone_functions.proofs.ClassMembers.{accessor_member, constructor_member, field_member, method_member, private_field, private_member, static_block_member}
+use Rattle.ecma_redone_functions.proofs.Classes.{class_declaration, class_on}
 use Rattle.ecma_redone_functions.proofs.Functions.{declaration_on, function_on, param_on}
 use Rattle.ecma_redone_functions.proofs.Keys.{computed_on}
 use Rattle.ecma_redone_modules.proofs.Exports.{export_all_on, named_export_on}
