@@ -3,14 +3,12 @@ use Rattle.std.proofs.Common.{Bool, arith, codes, false, if◌then◌else◌, no
 use Rattle.std.proofs.lemmas.Bool.{or_left}
 use Rattle.ecma_token.specs.Kinds.{else_kind, left_brace_kind, right_brace_kind}
 use Rattle.ecma_token.specs.declared.place.Span.{Span}
-use Rattle.ecma_tree.specs.Codes.{first}
 use Rattle.ecma_tree.specs.Tree.{Tree, Trees, block_stmt, more, none}
 use Rattle.ecma_syntax.specs.Input.{Code, Input, Takes, brk, in_list, kind, turned_strict, unplaced}
 use Rattle.ecma_syntax.specs.Shape.{is_directive, is_item, is_use_strict}
 use Rattle.ecma_grammar.specs.Grammar.{Spells, parts}
 use Rattle.ecma_grammar.specs.Parts.{Items}
 use Rattle.ecma_grammar.specs.Statements.{ClosesBlock}
-use Rattle.ecma_grammar_complete_base.proofs.Trees.{begins}
 use Rattle.ecma_layout.specs.Layout.{closing, indented, is_block as is_block_tree, is_variables, laid, rows, statements}
 use Rattle.ecma_layout.specs.Looks.{brace, formats, line, semi, start, text, when, ◌·◌}
 use Rattle.ecma_layout.specs.declared.look.Look.{Look}

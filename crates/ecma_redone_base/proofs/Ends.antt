@@ -1,13 +1,12 @@
 -- What ends statements and fields (12.10), and parts that may be left out.
 use Rattle.std.proofs.Common.{Bool, arith, codes, false, inl, inr, not, refl, subst, sym, true, true≢false, ℕ, ◌∙◌, ◌≡◌, ◌≤◌, ◌⊎◌}
 use Rattle.ecma_token.specs.Kinds.{assign_kind, end_kind, function_kind, left_bracket_kind, right_brace_kind, semicolon_kind}
-use Rattle.ecma_tree.specs.Tree.{Tree, absent, function, more}
+use Rattle.ecma_tree.specs.Tree.{Tree, absent}
 use Rattle.ecma_syntax.specs.Input.{Code, Input, Takes, kind, unplaced}
 use Rattle.ecma_syntax.specs.Operators.{assignment_level}
 use Rattle.ecma_syntax.specs.Shape.{is_absent, level}
 use Rattle.ecma_grammar.specs.Grammar.{Spells}
 use Rattle.ecma_grammar.specs.Parts.{By, Ends, Expr, part}
-use Rattle.ecma_grammar_complete_base.proofs.Trees.{begins}
 use Rattle.ecma_edge.specs.Edges.{is_there}
 use Rattle.ecma_layout.specs.Layout.{laid}
 use Rattle.ecma_layout.specs.Looks.{formats, gap, text, when, ◌·◌}

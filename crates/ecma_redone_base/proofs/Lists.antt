@@ -7,7 +7,6 @@ use Rattle.ecma_syntax.specs.Input.{Code, Input, Takes, brk, kind, unplaced}
 use Rattle.ecma_syntax.specs.Shape.{is_hole, is_rest, level}
 use Rattle.ecma_grammar.specs.Grammar.{Spells, parts}
 use Rattle.ecma_grammar.specs.Parts.{By, CommaThen, Expr, IsEmpty, Listed, Part, Sorted, is_module_item, part}
-use Rattle.ecma_grammar_complete_base.proofs.Trees.{begins}
 use Rattle.ecma_layout.specs.Layout.{comma, comma_line, ends_with_hole, laid, separated}
 use Rattle.ecma_layout.specs.Looks.{Laid, both, formats, when}
 use Rattle.ecma_layout.specs.declared.look.Look.{Look}

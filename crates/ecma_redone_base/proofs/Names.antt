@@ -1,14 +1,13 @@
 -- Names derived again, as of functions, classes, labels and imports (13.1).
 use Rattle.std.proofs.Common.{Bool, false, not, refl, subst, sym, true, true≢false, ◌∙◌, ◌≡◌}
 use Rattle.ecma_token.specs.Kinds.{else_kind}
-use Rattle.ecma_tree.specs.Codes.{first}
-use Rattle.ecma_tree.specs.Tree.{Tree, absent, ident, more}
+use Rattle.ecma_tree.specs.Tree.{Tree, absent, ident}
 use Rattle.ecma_syntax.specs.Input.{Code, Input, brk, kind, lo, span, unplaced}
 use Rattle.ecma_syntax.specs.Shape.{is_absent}
 use Rattle.ecma_grammar.specs.Grammar.{Spells}
 use Rattle.ecma_grammar.specs.Parts.{By, Sorted, is_ident, part}
 use Rattle.ecma_layout.specs.Layout.{laid}
-use Rattle.ecma_layout.specs.Looks.{blank, last, when, ◌·◌}
+use Rattle.ecma_layout.specs.Looks.{blank, when, ◌·◌}
 use Rattle.ecma_layout.specs.declared.look.Look.{Look}
 use Rattle.ecma_layout.specs.declared.look.Stand.TheVariants.{Alone}
 use Rattle.ecma_written.specs.Gaps.{Gap, Touching, is_broken}

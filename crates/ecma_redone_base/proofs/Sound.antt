@@ -7,7 +7,6 @@ use Rattle.ecma_syntax.specs.Input.{Code, Input, assigning, brk, unplaced}
 use Rattle.ecma_syntax.specs.Shape.{is_bound_name, is_private, is_use_strict, is_word_name, level}
 use Rattle.ecma_grammar.specs.Grammar.{Spells}
 use Rattle.ecma_grammar.specs.Parts.{Expr, is_ident, part}
-use Rattle.ecma_grammar_complete_base.proofs.Trees.{begins}
 use Rattle.ecma_layout.specs.Layout.{is_variables, laid}
 use Rattle.ecma_layout.specs.Looks.{Laid, both, semi, when, ◌·◌}
 use Rattle.ecma_layout.specs.declared.look.Look.{Look}

@@ -1,7 +1,6 @@
 -- The tokens that a layout says, one at a time: what the grammar takes, and pieces that say no token.
 use Rattle.std.proofs.Common.{Bool, List, [], ap, arith, codes, false, inl, inr, refl, subst, sym, true, true≢false, ℕ, ◌&&◌, ◌||◌, ◌∙◌, ◌∷◌, ◌≡◌, ◌⊎◌}
 use Rattle.ecma_token.specs.Kinds.{name_kind, semicolon_kind}
-use Rattle.ecma_token.specs.Tokens.{after}
 use Rattle.ecma_token.specs.declared.context.Context.{Context}
 use Rattle.ecma_token.specs.declared.place.BytePos.{BytePos}
 use Rattle.ecma_lexeme.specs.declared.goal.LexicalGoal.TheVariants.{Div}

@@ -2,15 +2,13 @@
 use Rattle.std.proofs.Common.{Bool, ap₂, arith, false, nat_le, not, refl, sym, true, true≢false, ℕ, ◌&&◌, ◌==◌, ◌||◌, ◌∙◌, ◌≡◌}
 use Rattle.std.proofs.lemmas.Bool.{and_parts, leb-true, ne_eqb}
 use Rattle.ecma_token.specs.Kinds.{assign_kind, back_quote_kind, dot_kind, else_kind, function_kind, left_bracket_kind, left_paren_kind, nullish_assign_kind, question_mark_kind}
-use Rattle.ecma_token.specs.Tokens.{after}
 use Rattle.ecma_token.specs.declared.place.Span.{Span}
 use Rattle.ecma_tree.specs.Places.{no_place}
-use Rattle.ecma_tree.specs.Tree.{Tree, array_pat, assign_expr, binding_ident, member_expr, more, object_pat, paren_expr, super_prop_expr}
+use Rattle.ecma_tree.specs.Tree.{Tree, array_pat, assign_expr, binding_ident, member_expr, object_pat, paren_expr, super_prop_expr}
 use Rattle.ecma_syntax.specs.Input.{assigning, lo, span}
 use Rattle.ecma_syntax.specs.Operators.{assignment_level, is_assign_op}
 use Rattle.ecma_syntax.specs.Shape.{is_target, level}
-use Rattle.ecma_grammar_complete_base.proofs.Trees.{begins}
-use Rattle.ecma_layout.specs.Looks.{formats, last}
+use Rattle.ecma_layout.specs.Looks.{formats}
 use Rattle.ecma_layout.specs.declared.look.Look.{Look}
 use Rattle.ecma_layout.specs.declared.look.Stand.{Stand}
 use Rattle.ecma_layout.specs.declared.look.Stand.TheVariants.{Alone}

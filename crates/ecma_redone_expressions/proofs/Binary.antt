@@ -2,18 +2,16 @@
 use Rattle.std.proofs.Common.{Bool, ap₂, arith, cond, false, inl, inr, leb, not, refl, subst, sym, true, true≢false, ℕ, ⊎_elim, ◌&&◌, ◌==◌, ◌||◌, ◌∙◌, ◌≡◌, ◌≤◌, ◌⊎◌}
 use Rattle.std.proofs.lemmas.Bool.{cases_Bool, eq-eqb, eqb-true, le-leb, leb-true, lt-leb, or_cases, or_left, or_right}
 use Rattle.ecma_token.specs.Kinds.{back_quote_kind, dot_kind, else_kind, exp_kind, function_kind, in_kind, left_bracket_kind, left_paren_kind, nullish_coalescing_kind, question_mark_kind}
-use Rattle.ecma_token.specs.Tokens.{after}
 use Rattle.ecma_token.specs.declared.place.Span.{Span}
 use Rattle.ecma_tree.specs.Places.{no_place}
-use Rattle.ecma_tree.specs.Tree.{Tree, bin_expr, more, private_name}
+use Rattle.ecma_tree.specs.Tree.{Tree, bin_expr, private_name}
 use Rattle.ecma_syntax.specs.Input.{assigning, escaped, kind, lo, span}
 use Rattle.ecma_syntax.specs.Operators.{binary_level, right_level}
 use Rattle.ecma_syntax.specs.Shape.{fits_left, is_private, level}
 use Rattle.ecma_grammar_complete_base.proofs.Levels.{binary_low, fits, not_binary, operated, right_five, right_most}
-use Rattle.ecma_grammar_complete_base.proofs.Trees.{begins}
 use Rattle.ecma_edge.specs.Edges.{gap_after, gap_before}
 use Rattle.ecma_layout.specs.Layout.{is_head as is_head_stand, marked_as_operand}
-use Rattle.ecma_layout.specs.Looks.{formats, last}
+use Rattle.ecma_layout.specs.Looks.{formats}
 use Rattle.ecma_layout.specs.declared.look.Look.{Look}
 use Rattle.ecma_layout.specs.declared.look.Stand.{Stand}
 use Rattle.ecma_layout.specs.declared.look.Stand.TheVariants.{Alone, Operand}

@@ -10,9 +10,8 @@ use Rattle.ecma_syntax.specs.Shape.{is_chain, is_element, is_spread, level}
 use Rattle.ecma_grammar.specs.Expressions.{ArgumentList, Arguments, Call, ImportArguments, is_at_most_one, is_plain_element}
 use Rattle.ecma_grammar.specs.Grammar.{Spells, parts}
 use Rattle.ecma_grammar.specs.Parts.{By, IsEmpty, Listed, Sorted, is_module_item, part}
-use Rattle.ecma_grammar_complete_base.proofs.Trees.{begins}
 use Rattle.ecma_layout.specs.Layout.{comma, in_parens, laid, separated}
-use Rattle.ecma_layout.specs.Looks.{last, text, ◌·◌}
+use Rattle.ecma_layout.specs.Looks.{text, ◌·◌}
 use Rattle.ecma_layout.specs.declared.look.Look.{Look}
 use Rattle.ecma_layout.specs.declared.look.Stand.{Stand}
 use Rattle.ecma_layout.specs.declared.look.Stand.TheVariants.{Alone, Head}

@@ -1,22 +1,20 @@
 -- Optional chains and private names derived again (12.7, 13.3.9).
 use Rattle.std.proofs.Common.{Bool, List, ap, ap₂, arith, false, refl, subst, sym, true, true≢false, ℕ, ◌&&◌, ◌||◌, ◌∙◌, ◌≡◌, ◌≤◌}
 use Rattle.ecma_token.specs.Kinds.{dot_kind, else_kind, function_kind, hash_kind, left_bracket_kind, left_paren_kind, question_mark_kind, right_bracket_kind}
-use Rattle.ecma_token.specs.Tokens.{after}
 use Rattle.ecma_token.specs.declared.place.Span.{Span}
 use Rattle.ecma_lexeme.specs.declared.goal.LexicalGoal.TheVariants.{Div}
 use Rattle.ecma_tree.specs.Codes.{at}
 use Rattle.ecma_tree.specs.Places.{no_place}
-use Rattle.ecma_tree.specs.Tree.{Tree, Trees, absent, computed_prop_name, ident_name, member_expr, more, number_lit, opt_call, opt_chain_expr, private_name}
+use Rattle.ecma_tree.specs.Tree.{Tree, Trees, absent, computed_prop_name, ident_name, member_expr, number_lit, opt_call, opt_chain_expr, private_name}
 use Rattle.ecma_syntax.specs.Input.{Code, Input, Spans, assigning, brk, content, escaped, is_word, kind, lo, span, unplaced, with_in}
 use Rattle.ecma_syntax.specs.Operators.{call_level, expression_level}
 use Rattle.ecma_syntax.specs.Shape.{is_chain, is_private, is_word_name, level}
 use Rattle.ecma_grammar.specs.Expressions.{AccessedName, Bracketed, ChainMember, Dotted, Optional}
 use Rattle.ecma_grammar.specs.Grammar.{Spells}
 use Rattle.ecma_grammar.specs.Parts.{Expr, part}
-use Rattle.ecma_grammar_complete_base.proofs.Trees.{begins}
 use Rattle.ecma_layout.specs.Layout.{laid, optional_dot, point_before}
 use Rattle.ecma_layout.specs.Literals.{name_bytes}
-use Rattle.ecma_layout.specs.Looks.{end, last, ◌·◌}
+use Rattle.ecma_layout.specs.Looks.{end, ◌·◌}
 use Rattle.ecma_layout.specs.declared.look.Look.{Look}
 use Rattle.ecma_layout.specs.declared.look.Stand.{Stand}
 use Rattle.ecma_layout.specs.declared.look.Stand.TheVariants.{Alone, Head}

@@ -2,22 +2,21 @@
 use Rattle.std.proofs.Common.{Bool, List, Option, Some, ap, ap₂, arith, codes, false, if◌then◌else◌, inl, inr, not, refl, subst, sym, true, true≢false, ℕ, ◌&&◌, ◌||◌, ◌∙◌, ◌≡◌}
 use Rattle.ecma_number.specs.Numbers.{SpecNumber}
 use Rattle.ecma_token.specs.Kinds.{dot_kind, else_kind, function_kind, left_bracket_kind, num_kind, right_bracket_kind, super_kind}
-use Rattle.ecma_token.specs.Tokens.{Numeral, after}
+use Rattle.ecma_token.specs.Tokens.{Numeral}
 use Rattle.ecma_token.specs.declared.place.Span.{Span}
 use Rattle.ecma_lexeme.specs.declared.goal.LexicalGoal.TheVariants.{Div}
 use Rattle.ecma_tree.specs.Places.{no_place}
-use Rattle.ecma_tree.specs.Tree.{Tree, computed_prop_name, ident_name, member_expr, more, number_lit, private_name, super, super_prop_expr}
+use Rattle.ecma_tree.specs.Tree.{Tree, computed_prop_name, ident_name, member_expr, number_lit, private_name, super, super_prop_expr}
 use Rattle.ecma_syntax.specs.Input.{Code, Input, Spans, TakesWord, assigning, brk, content, escaped, is_word, kind, lo, span, unplaced, with_in}
 use Rattle.ecma_syntax.specs.Operators.{call_level, expression_level}
 use Rattle.ecma_syntax.specs.Shape.{is_chain, is_private, is_word_name, level}
 use Rattle.ecma_grammar.specs.Expressions.{Bracketed, Dotted, Member, SuperProperty}
 use Rattle.ecma_grammar.specs.Grammar.{Spells}
 use Rattle.ecma_grammar.specs.Parts.{Expr, is_module_item, part}
-use Rattle.ecma_grammar_complete_base.proofs.Trees.{begins}
 use Rattle.ecma_spell_number.specs.Numbers.{before_member}
 use Rattle.ecma_layout.specs.Layout.{is_computed, laid, number_before, point_before}
 use Rattle.ecma_layout.specs.Literals.{name_bytes, number, number_before_point, number_bytes}
-use Rattle.ecma_layout.specs.Looks.{Laid, end, last, start, text, when, ◌·◌}
+use Rattle.ecma_layout.specs.Looks.{Laid, end, start, text, when, ◌·◌}
 use Rattle.ecma_layout.specs.declared.look.Look.{Look}
 use Rattle.ecma_layout.specs.declared.look.Stand.{Stand}
 use Rattle.ecma_layout.specs.declared.look.Stand.TheVariants.{Alone, Head}

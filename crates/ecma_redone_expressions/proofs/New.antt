@@ -10,10 +10,9 @@ use Rattle.ecma_syntax.specs.Operators.{member_level, new_level, other_end}
 use Rattle.ecma_syntax.specs.Shape.{level}
 use Rattle.ecma_grammar.specs.Expressions.{Arguments}
 use Rattle.ecma_grammar.specs.Grammar.{Spells, parts}
-use Rattle.ecma_grammar_complete_base.proofs.Trees.{begins}
 use Rattle.ecma_edge.specs.Edges.{starts_with_word}
 use Rattle.ecma_layout.specs.Layout.{comma, has_arguments, in_parens, is_head as is_head_stand, laid, separated}
-use Rattle.ecma_layout.specs.Looks.{formats, last, nothing, when}
+use Rattle.ecma_layout.specs.Looks.{formats, nothing, when}
 use Rattle.ecma_layout.specs.declared.look.Look.{Look}
 use Rattle.ecma_layout.specs.declared.look.Stand.{Stand}
 use Rattle.ecma_layout.specs.declared.look.Stand.TheVariants.{Alone, Head}

@@ -2,10 +2,9 @@
 use Rattle.std.proofs.Common.{Bool, ap, ap₂, arith, false, if◌then◌else◌, not, refl, subst, sym, true, true≢false, ℕ, ◌&&◌, ◌==◌, ◌||◌, ◌∙◌, ◌≡◌, ◌≤◌}
 use Rattle.std.proofs.lemmas.Bool.{ne_eqb, or_right}
 use Rattle.ecma_token.specs.Kinds.{await_kind, colon_kind, dot_kind, function_kind, question_mark_kind}
-use Rattle.ecma_token.specs.Tokens.{after}
 use Rattle.ecma_token.specs.declared.place.Span.{Span}
 use Rattle.ecma_tree.specs.Places.{no_place}
-use Rattle.ecma_tree.specs.Tree.{Tree, await_expr, cond_expr, more, unary_expr, update_expr}
+use Rattle.ecma_tree.specs.Tree.{Tree, await_expr, cond_expr, unary_expr, update_expr}
 use Rattle.ecma_syntax.specs.Input.{Code, Input, assigning, escaped, kind, kind2, lo, span, unplaced, with_in}
 use Rattle.ecma_syntax.specs.Operators.{assignment_level, coalesce_level, new_level, unary_level}
 use Rattle.ecma_syntax.specs.Shape.{level}
@@ -14,7 +13,7 @@ use Rattle.ecma_grammar.specs.Grammar.{Spells}
 use Rattle.ecma_grammar_complete_base.proofs.Trees.{begins, by_unary, by_update, covered, starts}
 use Rattle.ecma_edge.specs.Edges.{gap_of_unary, is_word_operator, starts_with_word}
 use Rattle.ecma_pieces.specs.Pieces.{Blank}
-use Rattle.ecma_layout.specs.Looks.{formats, gap_or, last, one, when}
+use Rattle.ecma_layout.specs.Looks.{formats, gap_or, one, when}
 use Rattle.ecma_layout.specs.declared.look.Look.{Look}
 use Rattle.ecma_layout.specs.declared.look.Stand.{Stand}
 use Rattle.ecma_layout.specs.declared.look.Stand.TheVariants.{Alone}

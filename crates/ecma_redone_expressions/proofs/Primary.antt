@@ -2,18 +2,16 @@
 use Rattle.std.proofs.Common.{Bool, List, Option, Some, ap, arith, false, inl, inr, not, refl, subst, sym, true, ℕ, ◌≡◌, ◌⊎◌}
 use Rattle.ecma_number.specs.Numbers.{SpecNumber}
 use Rattle.ecma_token.specs.Kinds.{big_int_kind, dot_kind, false_kind, import_kind, left_paren_kind, meta_kind, new_kind, null_kind, num_kind, regex_kind, right_paren_kind, str_kind, target_kind, this_kind, true_kind}
-use Rattle.ecma_token.specs.Tokens.{BigNumeral, Numeral, Quoted, after}
+use Rattle.ecma_token.specs.Tokens.{BigNumeral, Numeral, Quoted}
 use Rattle.ecma_token.specs.declared.place.Span.{Span}
 use Rattle.ecma_lexeme.specs.declared.goal.LexicalGoal.TheVariants.{Div}
 use Rattle.ecma_tree.specs.Places.{no_place}
-use Rattle.ecma_tree.specs.Tree.{Tree, big_int_lit, bool_lit, expr_stmt, ident, meta_prop_expr, more, null_lit, number_lit, paren_expr, regex_lit, str_lit, this_expr}
-use Rattle.ecma_syntax.specs.Input.{Code, Input, Takes, TakesWord, content, escaped, hi, kind, lo, span, with_in}
+use Rattle.ecma_tree.specs.Tree.{Tree, big_int_lit, bool_lit, expr_stmt, ident, meta_prop_expr, null_lit, number_lit, paren_expr, regex_lit, str_lit, this_expr}
+use Rattle.ecma_syntax.specs.Input.{Code, Input, Takes, TakesWord, content, escaped, kind, lo, span, with_in}
 use Rattle.ecma_syntax.specs.Operators.{expression_level}
 use Rattle.ecma_syntax.specs.Shape.{is_use_strict}
-use Rattle.ecma_grammar_complete_base.proofs.Trees.{begins}
 use Rattle.ecma_layout.specs.Layout.{is_key as is_key_stand}
-use Rattle.ecma_layout.specs.Literals.{big_bytes, is_escaped_directive, number, number_bytes, string_bytes}
-use Rattle.ecma_layout.specs.Looks.{last}
+use Rattle.ecma_layout.specs.Literals.{big_bytes, is_escaped_directive, number_bytes, string_bytes}
 use Rattle.ecma_layout.specs.declared.look.Look.{Look}
 use Rattle.ecma_layout.specs.declared.look.Stand.{Stand}
 use Rattle.ecma_layout.specs.declared.look.Stand.TheVariants.{Alone}

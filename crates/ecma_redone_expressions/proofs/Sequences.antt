@@ -9,9 +9,8 @@ use Rattle.ecma_syntax.specs.Operators.{assignment_level}
 use Rattle.ecma_syntax.specs.Shape.{is_element, level}
 use Rattle.ecma_grammar.specs.Grammar.{Spells, parts}
 use Rattle.ecma_grammar.specs.Parts.{CommaThen, Expr, Listed, Sorted, part}
-use Rattle.ecma_grammar_complete_base.proofs.Trees.{begins}
 use Rattle.ecma_layout.specs.Layout.{comma, comma_line, ends_with_hole, separated}
-use Rattle.ecma_layout.specs.Looks.{formats, last, when, ◌·◌}
+use Rattle.ecma_layout.specs.Looks.{formats, when, ◌·◌}
 use Rattle.ecma_layout.specs.declared.look.Look.{Look}
 use Rattle.ecma_layout.specs.declared.look.Stand.{Stand}
 use Rattle.ecma_layout.specs.declared.look.Stand.TheVariants.{Alone}

@@ -1,7 +1,6 @@
 -- Templates and regular expressions derived again (13.2.7, 13.2.8, 13.3.11).
 use Rattle.std.proofs.Common.{Bool, List, None, Option, Some, [], ap, ap₂, arith, codes, false, if◌then◌else◌, is_some, refl, sym, true, true≢false, ℕ, ◌+◌, ◌==◌, ◌||◌, ◌∙◌, ◌≡◌}
 use Rattle.ecma_token.specs.Kinds.{back_quote_kind, dollar_brace_kind, else_kind, function_kind, right_brace_kind, template_kind}
-use Rattle.ecma_token.specs.Tokens.{after}
 use Rattle.ecma_token.specs.declared.place.Span.{Span}
 use Rattle.ecma_lexeme.specs.declared.goal.LexicalGoal.TheVariants.{TemplateEnd}
 use Rattle.ecma_tree.specs.Places.{no_place}
@@ -12,17 +11,16 @@ use Rattle.ecma_syntax.specs.Shape.{is_chain, is_cooked, is_tail, level}
 use Rattle.ecma_grammar.specs.Expressions.{TemplateLiteral, TemplateSpans}
 use Rattle.ecma_grammar.specs.Grammar.{Spells, parts}
 use Rattle.ecma_grammar.specs.Parts.{Sorted, is_quasi, part}
-use Rattle.ecma_grammar_complete_base.proofs.Trees.{begins}
 use Rattle.ecma_layout.specs.Layout.{count, is_tagged as is_tagged_stand, laid, quasi, template}
 use Rattle.ecma_layout.specs.Literals.{quasi_bytes}
-use Rattle.ecma_layout.specs.Looks.{end, last, meant, refused, start, template_end, text, ◌·◌}
+use Rattle.ecma_layout.specs.Looks.{end, meant, refused, start, template_end, text, ◌·◌}
 use Rattle.ecma_layout.specs.declared.look.Look.{Look}
 use Rattle.ecma_layout.specs.declared.look.Stand.{Stand}
 use Rattle.ecma_layout.specs.declared.look.Stand.TheVariants.{Alone, Head, Tagged}
 use Rattle.ecma_written.specs.Gaps.{Gap, Touching, is_broken}
 use Rattle.ecma_written.specs.Lexicon.{Lexicon}
 use Rattle.ecma_written.specs.Means.{Known}
-use Rattle.ecma_written.specs.Texts.{ending_text, endings}
+use Rattle.ecma_written.specs.Texts.{ending_text}
 use Rattle.ecma_written.specs.Told.{Told, says}
 use Rattle.ecma_redone.specs.Redo.{AllSame, Headed, Mode, Plain, Raw, Same, is_tagged, quasi_mode}
 use Rattle.ecma_redone.specs.Written.{leaves_of, mode_of}

@@ -3,17 +3,16 @@ use Rattle.std.proofs.Common.{Bool, ap, arith, false, not, refl, subst, true, tr
 use Rattle.ecma_token.specs.Kinds.{mul_kind, yield_kind}
 use Rattle.ecma_token.specs.declared.place.Span.{Span}
 use Rattle.ecma_tree.specs.Places.{no_place}
-use Rattle.ecma_tree.specs.Tree.{Tree, absent, more, yield_expr}
+use Rattle.ecma_tree.specs.Tree.{Tree, absent, yield_expr}
 use Rattle.ecma_syntax.specs.Input.{Code, Input, lo, span, unplaced}
 use Rattle.ecma_syntax.specs.Operators.{assignment_level}
 use Rattle.ecma_syntax.specs.Shape.{is_absent, level}
 use Rattle.ecma_grammar.specs.Expressions.{Yield}
 use Rattle.ecma_grammar.specs.Grammar.{Spells}
 use Rattle.ecma_grammar.specs.Parts.{part}
-use Rattle.ecma_grammar_complete_base.proofs.Trees.{begins}
 use Rattle.ecma_edge.specs.Edges.{starts_with_word}
 use Rattle.ecma_layout.specs.Layout.{laid}
-use Rattle.ecma_layout.specs.Looks.{formats, gap, gap_or, last, when, ◌·◌}
+use Rattle.ecma_layout.specs.Looks.{formats, gap, gap_or, when, ◌·◌}
 use Rattle.ecma_layout.specs.declared.look.Look.{Look}
 use Rattle.ecma_layout.specs.declared.look.Stand.{Stand}
 use Rattle.ecma_layout.specs.declared.look.Stand.TheVariants.{Alone}

@@ -4,17 +4,16 @@ use Rattle.std.proofs.lemmas.Bool.{eqb-true, ne_eqb, or_right}
 use Rattle.ecma_token.specs.Kinds.{async_kind, class_kind, default_kind, else_kind, export_kind, function_kind, left_brace_kind, left_bracket_kind, let_kind}
 use Rattle.ecma_token.specs.declared.place.Span.{Span}
 use Rattle.ecma_tree.specs.Places.{no_place}
-use Rattle.ecma_tree.specs.Tree.{Tree, class, class_decl, class_expr, export_decl, export_default_decl, export_default_expr, fn_decl, fn_expr, function, more, none, var_decl}
+use Rattle.ecma_tree.specs.Tree.{Tree, class, class_decl, class_expr, export_decl, export_default_decl, export_default_expr, fn_decl, fn_expr, more, none, var_decl}
 use Rattle.ecma_syntax.specs.Input.{Code, Input, assigning, brk2, in_list, kind, kind2, lo, rest, span}
 use Rattle.ecma_syntax.specs.Operators.{assignment_level}
 use Rattle.ecma_syntax.specs.Shape.{ends, is_default_decl, is_exportable, is_item, level}
 use Rattle.ecma_grammar.specs.Grammar.{Spells}
 use Rattle.ecma_grammar.specs.Modules.{DefaultDeclaration, ExportDeclaration, starts_default}
 use Rattle.ecma_grammar.specs.Parts.{is_module_item, part}
-use Rattle.ecma_grammar_complete_base.proofs.Trees.{begins}
 use Rattle.ecma_edge.specs.Edges.{starts_with_word}
 use Rattle.ecma_layout.specs.Layout.{is_variables, laid, word}
-use Rattle.ecma_layout.specs.Looks.{blank, end, formats, last, semi, when, ◌·◌}
+use Rattle.ecma_layout.specs.Looks.{blank, end, formats, semi, when, ◌·◌}
 use Rattle.ecma_layout.specs.declared.look.Look.{Look}
 use Rattle.ecma_layout.specs.declared.look.Stand.{Stand}
 use Rattle.ecma_layout.specs.declared.look.Stand.TheVariants.{Alone}
@@ -27,7 +26,7 @@ use Rattle.ecma_redone.specs.Written.{leaves_of}
 use Rattle.ecma_redone_base.proofs.Begins.{Begins, fine, is_inner, is_part, same_start}
 use Rattle.ecma_redone_base.proofs.Bodies.{follow_closed, item_closed}
 use Rattle.ecma_redone_base.proofs.Ends.{above, ended_known, quiet_at}
-use Rattle.ecma_redone_base.proofs.Follow.{calm, is_closed, no_item}
+use Rattle.ecma_redone_base.proofs.Follow.{is_closed, no_item}
 use Rattle.ecma_redone_base.proofs.Shapes.{alike}
 use Rattle.ecma_redone_base.proofs.Sound.{Out, Sound, expr, expr_begins, expr_low, outer, plain_part}
 use Rattle.ecma_redone_base.proofs.Tokens.{ended, keyed, says_map, semi_of, skip, worded}

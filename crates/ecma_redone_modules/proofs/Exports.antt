@@ -10,10 +10,9 @@ use Rattle.ecma_syntax.specs.Shape.{is_absent, is_named_export, is_star_export, 
 use Rattle.ecma_grammar.specs.Grammar.{Spells, parts}
 use Rattle.ecma_grammar.specs.Modules.{ExportList, ExportStarAs, Source, Specified}
 use Rattle.ecma_grammar.specs.Parts.{By, Ends, IsEmpty, Sorted, is_module_item, part}
-use Rattle.ecma_grammar_complete_base.proofs.Trees.{begins}
 use Rattle.ecma_edge.specs.Edges.{is_there}
 use Rattle.ecma_layout.specs.Layout.{attributes, comma, exports, first_namespace, has_namespace, has_other, in_braces, is_namespace, is_no_namespace, laid, from as laid_from, named_items}
-use Rattle.ecma_layout.specs.Looks.{Laid, blank, brace, formats, gap, last, nothing, semi, text, when, ◌·◌}
+use Rattle.ecma_layout.specs.Looks.{Laid, blank, brace, formats, gap, nothing, semi, text, when, ◌·◌}
 use Rattle.ecma_layout.specs.declared.look.Look.{Look}
 use Rattle.ecma_layout.specs.declared.look.Stand.{Stand}
 use Rattle.ecma_layout.specs.declared.look.Stand.TheVariants.{Alone, Key}

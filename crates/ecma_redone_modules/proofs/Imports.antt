@@ -9,9 +9,8 @@ use Rattle.ecma_syntax.specs.Shape.{is_default_import, is_named_import, is_star_
 use Rattle.ecma_grammar.specs.Grammar.{Spells, parts}
 use Rattle.ecma_grammar.specs.Modules.{AfterDefault, ImportClause, NamedImports}
 use Rattle.ecma_grammar.specs.Parts.{By, IsEmpty, Sorted, is_module_item}
-use Rattle.ecma_grammar_complete_base.proofs.Trees.{begins}
 use Rattle.ecma_layout.specs.Layout.{attributes, comma, has_default, has_named, import_heads, imports, in_braces, is_default, is_named, laid, named_items, starts_with_default, word}
-use Rattle.ecma_layout.specs.Looks.{Laid, blank, brace, formats, gap, last, nothing, semi, when, ◌·◌}
+use Rattle.ecma_layout.specs.Looks.{Laid, blank, brace, formats, gap, nothing, semi, when, ◌·◌}
 use Rattle.ecma_layout.specs.declared.look.Look.{Look}
 use Rattle.ecma_layout.specs.declared.look.Stand.{Stand}
 use Rattle.ecma_layout.specs.declared.look.Stand.TheVariants.{Alone, Key}

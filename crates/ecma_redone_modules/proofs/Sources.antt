@@ -3,7 +3,6 @@ use Rattle.std.proofs.Common.{Bool, List, None, Option, Some, ap, ap₂, arith, 
 use Rattle.ecma_token.specs.Kinds.{assert_kind, else_kind, str_kind, with_kind}
 use Rattle.ecma_token.specs.Utf16.{utf16}
 use Rattle.ecma_token.specs.declared.place.Span.{Span}
-use Rattle.ecma_tree.specs.Codes.{first}
 use Rattle.ecma_tree.specs.Places.{no_place}
 use Rattle.ecma_tree.specs.Tree.{Tree, Trees, absent, ident, ident_name, key_value_prop, more, none, object_lit, str_lit}
 use Rattle.ecma_syntax.specs.Input.{Code, Input, TakesWord, brk, kind, lo, span, unplaced}
@@ -12,12 +11,11 @@ use Rattle.ecma_syntax.specs.Shape.{are_attributes, export_name, is_absent, is_a
 use Rattle.ecma_grammar.specs.Grammar.{Spells}
 use Rattle.ecma_grammar.specs.Modules.{Attributes, ExportName, Source}
 use Rattle.ecma_grammar.specs.Parts.{By, Ends, Sorted, is_module_item, part}
-use Rattle.ecma_grammar_complete_base.proofs.Trees.{begins}
 use Rattle.ecma_spell_base.specs.declared.style.Style.{Style}
 use Rattle.ecma_spell_string.specs.Names.{is_quoted_key}
 use Rattle.ecma_layout.specs.Layout.{attributes, laid, word}
 use Rattle.ecma_layout.specs.Literals.{key_bytes}
-use Rattle.ecma_layout.specs.Looks.{formats, gap, last, semi, when, ◌·◌}
+use Rattle.ecma_layout.specs.Looks.{formats, gap, semi, when, ◌·◌}
 use Rattle.ecma_layout.specs.declared.look.Look.{Look}
 use Rattle.ecma_layout.specs.declared.look.Stand.TheVariants.{Alone, Key}
 use Rattle.ecma_written.specs.Gaps.{Gap, Touching, is_broken}
@@ -28,7 +26,7 @@ use Rattle.ecma_redone.specs.Redo.{Leaves, Mode, Plain, Same, kept, redo, redos}
 use Rattle.ecma_redone.specs.Written.{leaves_of, written_key}
 use Rattle.ecma_redone_base.proofs.Begins.{first_token, is_loose, is_part, is_weak}
 use Rattle.ecma_redone_base.proofs.Ends.{absent_same, ended_known, quiet_at, there, unabsent}
-use Rattle.ecma_redone_base.proofs.Follow.{calm, needs_calm}
+use Rattle.ecma_redone_base.proofs.Follow.{needs_calm}
 use Rattle.ecma_redone_base.proofs.KeyParts.{KeyPart}
 use Rattle.ecma_redone_base.proofs.Shapes.{alike, re_is_absent}
 use Rattle.ecma_redone_base.proofs.Sound.{Sound, is_tight, plain_part}

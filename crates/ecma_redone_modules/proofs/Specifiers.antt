@@ -2,7 +2,6 @@
 use Rattle.std.proofs.Common.{Bool, ap, ap₂, arith, codes, false, if◌then◌else◌, inl, inr, refl, subst, sym, true, true≢false, ℕ, ◌∙◌, ◌≡◌, ◌⊎◌}
 use Rattle.ecma_token.specs.Kinds.{as_kind, comma_kind, else_kind, mul_kind}
 use Rattle.ecma_token.specs.declared.place.Span.{Span}
-use Rattle.ecma_tree.specs.Codes.{first}
 use Rattle.ecma_tree.specs.Places.{no_place}
 use Rattle.ecma_tree.specs.Tree.{Tree, Trees, absent, export_named_specifier, export_namespace_specifier, import_default_specifier, import_named_specifier, import_star_as_specifier, more, none}
 use Rattle.ecma_syntax.specs.Input.{Code, Input, Takes, TakesWord, lo, span}
@@ -10,9 +9,8 @@ use Rattle.ecma_syntax.specs.Shape.{export_name, is_absent, is_named_export, is_
 use Rattle.ecma_grammar.specs.Grammar.{Spells, parts}
 use Rattle.ecma_grammar.specs.Modules.{ExportName}
 use Rattle.ecma_grammar.specs.Parts.{By, Listed, Sorted, is_ident, is_module_item, part}
-use Rattle.ecma_grammar_complete_base.proofs.Trees.{begins}
 use Rattle.ecma_layout.specs.Layout.{comma, laid, named_items, separated, word}
-use Rattle.ecma_layout.specs.Looks.{Laid, blank, end, formats, last, start, when, ◌·◌}
+use Rattle.ecma_layout.specs.Looks.{Laid, blank, end, formats, start, when, ◌·◌}
 use Rattle.ecma_layout.specs.declared.look.Look.{Look}
 use Rattle.ecma_layout.specs.declared.look.Stand.{Stand}
 use Rattle.ecma_layout.specs.declared.look.Stand.TheVariants.{Alone, Key}

@@ -3,18 +3,16 @@ use Rattle.std.proofs.Common.{Bool, ap, ap₂, arith, codes, false, not, refl, s
 use Rattle.std.proofs.lemmas.Bool.{and_parts, or_cases, or_left}
 use Rattle.ecma_token.specs.Kinds.{else_kind, if_kind}
 use Rattle.ecma_token.specs.declared.place.Span.{Span}
-use Rattle.ecma_tree.specs.Codes.{first}
 use Rattle.ecma_tree.specs.Places.{no_place}
-use Rattle.ecma_tree.specs.Tree.{Tree, absent, fn_decl, if_stmt, more}
+use Rattle.ecma_tree.specs.Tree.{Tree, absent, fn_decl, if_stmt}
 use Rattle.ecma_syntax.specs.Input.{Code, Input, TakesWord, alone, is_strict, kind, lo, span, unplaced}
 use Rattle.ecma_syntax.specs.Shape.{is_absent, is_item, is_plain_function, is_statement}
 use Rattle.ecma_grammar.specs.Grammar.{Spells}
 use Rattle.ecma_grammar.specs.Parts.{By, part}
 use Rattle.ecma_grammar.specs.Statements.{SubOrFunction}
-use Rattle.ecma_grammar_complete_base.proofs.Trees.{begins}
 use Rattle.ecma_edge.specs.Edges.{is_there, starts_with_word}
 use Rattle.ecma_layout.specs.Layout.{closing, is_block as is_block_tree, laid, word}
-use Rattle.ecma_layout.specs.Looks.{Laid, blank, formats, gap, gap_or, last, when, ◌·◌}
+use Rattle.ecma_layout.specs.Looks.{Laid, blank, formats, gap, gap_or, when, ◌·◌}
 use Rattle.ecma_layout.specs.declared.look.Look.{Look}
 use Rattle.ecma_layout.specs.declared.look.Stand.{Stand}
 use Rattle.ecma_layout.specs.declared.look.Stand.TheVariants.{Alone}

@@ -2,19 +2,17 @@
 use Rattle.std.proofs.Common.{Bool, ap, ap₂, arith, false, not, refl, subst, sym, true, true≢false, ℕ, ◌||◌, ◌∙◌, ◌≡◌}
 use Rattle.ecma_token.specs.Kinds.{break_kind, colon_kind, continue_kind, else_kind, return_kind, throw_kind, with_kind}
 use Rattle.ecma_token.specs.declared.place.Span.{Span}
-use Rattle.ecma_tree.specs.Codes.{first}
 use Rattle.ecma_tree.specs.Places.{no_place}
-use Rattle.ecma_tree.specs.Tree.{Tree, absent, break_stmt, continue_stmt, labeled_stmt, more, return_stmt, throw_stmt, with_stmt}
+use Rattle.ecma_tree.specs.Tree.{Tree, absent, break_stmt, continue_stmt, labeled_stmt, return_stmt, throw_stmt, with_stmt}
 use Rattle.ecma_syntax.specs.Input.{Code, Input, alone, brk, kind, lo, span, unplaced}
 use Rattle.ecma_syntax.specs.Operators.{expression_level, plain_end}
 use Rattle.ecma_syntax.specs.Shape.{ends, is_absent, level}
 use Rattle.ecma_grammar.specs.Grammar.{Spells}
 use Rattle.ecma_grammar.specs.Parts.{By, Ends, Expr, Sorted, is_ident, part}
 use Rattle.ecma_grammar.specs.Statements.{Jump}
-use Rattle.ecma_grammar_complete_base.proofs.Trees.{begins}
 use Rattle.ecma_edge.specs.Edges.{is_there, starts_with_word}
 use Rattle.ecma_layout.specs.Layout.{closing, laid}
-use Rattle.ecma_layout.specs.Looks.{blank, formats, gap_or, last, semi, text, when, ◌·◌}
+use Rattle.ecma_layout.specs.Looks.{blank, formats, gap_or, semi, text, when, ◌·◌}
 use Rattle.ecma_layout.specs.declared.look.Look.{Look}
 use Rattle.ecma_layout.specs.declared.look.Stand.{Stand}
 use Rattle.ecma_layout.specs.declared.look.Stand.TheVariants.{Alone}
@@ -28,7 +26,7 @@ use Rattle.ecma_redone.specs.Written.{leaves_of}
 use Rattle.ecma_redone_base.proofs.Begins.{item_outer}
 use Rattle.ecma_redone_base.proofs.Bodies.{follow_closed, item_closed, statement_on}
 use Rattle.ecma_redone_base.proofs.Ends.{above, absent_same, ended_known, quiet_at, there, unabsent}
-use Rattle.ecma_redone_base.proofs.Follow.{calm, no_item}
+use Rattle.ecma_redone_base.proofs.Follow.{no_item}
 use Rattle.ecma_redone_base.proofs.Names.{id_on}
 use Rattle.ecma_redone_base.proofs.Shapes.{alike, re_is_absent}
 use Rattle.ecma_redone_base.proofs.Sound.{Out, Sound, expr, expr_low}

@@ -5,17 +5,16 @@ use Rattle.ecma_token.specs.Kinds.{async_kind, class_kind, do_kind, else_kind, f
 use Rattle.ecma_token.specs.declared.place.Span.{Span}
 use Rattle.ecma_lexeme.specs.declared.goal.LexicalGoal.TheVariants.{Div}
 use Rattle.ecma_tree.specs.Places.{no_place}
-use Rattle.ecma_tree.specs.Tree.{Tree, Trees, absent, do_while_stmt, for_stmt, more, using_decl, var_decl, while_stmt}
+use Rattle.ecma_tree.specs.Tree.{Tree, Trees, absent, do_while_stmt, for_stmt, using_decl, var_decl, while_stmt}
 use Rattle.ecma_syntax.specs.Input.{Code, Input, Takes, alone, assigning, brk2, kind, kind2, lo, rest, span, unplaced, without_in}
 use Rattle.ecma_syntax.specs.Operators.{expression_level, plain_end}
 use Rattle.ecma_syntax.specs.Shape.{is_absent, is_item, is_statement, level}
 use Rattle.ecma_grammar.specs.Grammar.{Spells}
 use Rattle.ecma_grammar.specs.Parts.{By, Ends, Expr, part}
 use Rattle.ecma_grammar.specs.Statements.{Clause, ForExpression, ForRest, Sub, starts_head}
-use Rattle.ecma_grammar_complete_base.proofs.Trees.{begins, starts}
 use Rattle.ecma_edge.specs.Edges.{is_there, starts_with_word}
 use Rattle.ecma_layout.specs.Layout.{closing, in_parens, is_variables, laid, word}
-use Rattle.ecma_layout.specs.Looks.{Laid, formats, gap, last, nothing, semi, semi_kept, text, when, ◌·◌}
+use Rattle.ecma_layout.specs.Looks.{Laid, formats, gap, nothing, semi, semi_kept, text, when, ◌·◌}
 use Rattle.ecma_layout.specs.declared.look.Look.{Look}
 use Rattle.ecma_layout.specs.declared.look.Stand.{Stand}
 use Rattle.ecma_layout.specs.declared.look.Stand.TheVariants.{Alone}

@@ -11,10 +11,9 @@ use Rattle.ecma_syntax.specs.Shape.{is_bare_declarator, is_place, is_target_expr
 use Rattle.ecma_grammar.specs.Grammar.{Spells, parts}
 use Rattle.ecma_grammar.specs.Parts.{part}
 use Rattle.ecma_grammar.specs.Statements.{ForAwaitOpen, ForIn, ForOf, HeadTarget, OfTarget, OneBare, Over, starts_of}
-use Rattle.ecma_grammar_complete_base.proofs.Trees.{begins, starts}
 use Rattle.ecma_edge.specs.Edges.{ends_with_word, starts_with_word}
 use Rattle.ecma_layout.specs.Layout.{closing, is_variables, laid, word}
-use Rattle.ecma_layout.specs.Looks.{Laid, blank, formats, gap, gap_or, last, text, when, ◌·◌}
+use Rattle.ecma_layout.specs.Looks.{Laid, blank, formats, gap, gap_or, text, when, ◌·◌}
 use Rattle.ecma_layout.specs.declared.look.Look.{Look}
 use Rattle.ecma_layout.specs.declared.look.Stand.{Stand}
 use Rattle.ecma_layout.specs.declared.look.Stand.TheVariants.{Alone}

@@ -4,16 +4,14 @@ use Rattle.std.proofs.lemmas.Bool.{eqb-true, ne_eqb}
 use Rattle.ecma_token.specs.Kinds.{async_kind, class_kind, debugger_kind, else_kind, function_kind, left_brace_kind, left_bracket_kind, left_paren_kind, let_kind, right_paren_kind, semicolon_kind}
 use Rattle.ecma_token.specs.declared.place.Span.{Span}
 use Rattle.ecma_tree.specs.Places.{no_place}
-use Rattle.ecma_tree.specs.Tree.{Tree, Trees, block_stmt, debugger_stmt, empty_stmt, expr_stmt, function, more}
-use Rattle.ecma_syntax.specs.Input.{Code, Input, assigning, brk2, hi, kind, kind2, lo, rest, span, unplaced}
+use Rattle.ecma_tree.specs.Tree.{Tree, Trees, block_stmt, debugger_stmt, empty_stmt, expr_stmt}
+use Rattle.ecma_syntax.specs.Input.{Code, Input, assigning, brk2, kind, kind2, lo, rest, span, unplaced}
 use Rattle.ecma_syntax.specs.Operators.{expression_level, plain_end}
 use Rattle.ecma_syntax.specs.Shape.{level}
 use Rattle.ecma_grammar.specs.Grammar.{Spells}
 use Rattle.ecma_grammar.specs.Parts.{part}
 use Rattle.ecma_grammar.specs.Statements.{InParens, starts_expression_statement, statement_end}
-use Rattle.ecma_grammar_complete_base.proofs.Trees.{begins}
 use Rattle.ecma_layout.specs.Layout.{in_parens, laid, marked_as_body}
-use Rattle.ecma_layout.specs.Looks.{last}
 use Rattle.ecma_layout.specs.declared.look.Look.{Look}
 use Rattle.ecma_layout.specs.declared.look.Stand.{Stand}
 use Rattle.ecma_layout.specs.declared.look.Stand.TheVariants.{Alone}
@@ -26,7 +24,7 @@ use Rattle.ecma_redone.specs.Written.{leaves_of}
 use Rattle.ecma_redone_base.proofs.Begins.{Begins, fine, no_else, same_start}
 use Rattle.ecma_redone_base.proofs.Bodies.{braced}
 use Rattle.ecma_redone_base.proofs.Ends.{Quiet, above, ended_known, quiet_at}
-use Rattle.ecma_redone_base.proofs.Follow.{calm, follow_by, no_item}
+use Rattle.ecma_redone_base.proofs.Follow.{follow_by, no_item}
 use Rattle.ecma_redone_base.proofs.Sound.{AllSound, Sound, expr, expr_begins, expr_low}
 use Rattle.ecma_redone_base.proofs.Tokens.{ended, keyed, marked, semi_of, skip_mark, took, worded}
 

@@ -10,7 +10,6 @@ use Rattle.ecma_syntax.specs.Shape.{is_absent, is_case, is_default_case, is_item
 use Rattle.ecma_grammar.specs.Grammar.{Spells, parts}
 use Rattle.ecma_grammar.specs.Parts.{By, Expr, Items, Sorted, part}
 use Rattle.ecma_grammar.specs.Statements.{Cases, ClosesCase}
-use Rattle.ecma_grammar_complete_base.proofs.Trees.{begins}
 use Rattle.ecma_edge.specs.Edges.{is_there, starts_with_word}
 use Rattle.ecma_layout.specs.Layout.{indented_or_line, is_empty as is_empty_list, laid, rows, word}
 use Rattle.ecma_layout.specs.Looks.{back, brace, deeper, formats, gap_or, last, line, text, when, ◌·◌}

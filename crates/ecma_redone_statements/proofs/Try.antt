@@ -2,18 +2,16 @@
 use Rattle.std.proofs.Common.{Bool, ap, ap₂, arith, codes, false, inl, inr, not, refl, subst, sym, true, true≢false, ◌&&◌, ◌∙◌, ◌≡◌, ◌⊎◌}
 use Rattle.ecma_token.specs.Kinds.{catch_kind, else_kind, finally_kind, left_paren_kind, right_paren_kind, try_kind}
 use Rattle.ecma_token.specs.declared.place.Span.{Span}
-use Rattle.ecma_tree.specs.Codes.{first}
 use Rattle.ecma_tree.specs.Places.{no_place}
-use Rattle.ecma_tree.specs.Tree.{Tree, absent, array_pat, binding_ident, block_stmt, catch_clause, more, object_pat, try_stmt}
+use Rattle.ecma_tree.specs.Tree.{Tree, absent, array_pat, binding_ident, block_stmt, catch_clause, object_pat, try_stmt}
 use Rattle.ecma_syntax.specs.Input.{Code, Input, Takes, TakesWord, binding, brk, kind, lo, span, unplaced}
 use Rattle.ecma_syntax.specs.Shape.{is_absent, is_binding, is_block, is_catch}
 use Rattle.ecma_grammar.specs.Grammar.{Spells}
 use Rattle.ecma_grammar.specs.Parts.{By, Maybe, Sorted, is_module_item, part}
 use Rattle.ecma_grammar.specs.Statements.{Catch}
-use Rattle.ecma_grammar_complete_base.proofs.Trees.{begins}
 use Rattle.ecma_edge.specs.Edges.{is_there}
 use Rattle.ecma_layout.specs.Layout.{in_parens, laid, word}
-use Rattle.ecma_layout.specs.Looks.{Laid, formats, gap, last, when, ◌·◌}
+use Rattle.ecma_layout.specs.Looks.{Laid, formats, gap, when, ◌·◌}
 use Rattle.ecma_layout.specs.declared.look.Look.{Look}
 use Rattle.ecma_layout.specs.declared.look.Stand.{Stand}
 use Rattle.ecma_layout.specs.declared.look.Stand.TheVariants.{Alone}

@@ -2,9 +2,7 @@
 use Rattle.std.proofs.Common.{Bool, ap, ap₂, arith, codes, eqb, false, if◌then◌else◌, not, refl, subst, sym, true, true≢false, ℕ, ⊎_elim, ◌==◌, ◌∙◌, ◌≡◌}
 use Rattle.std.proofs.lemmas.Bool.{eqb-true, or_cases}
 use Rattle.ecma_token.specs.Kinds.{await_kind, const_kind, else_kind, let_kind, of_kind, using_kind, var_kind}
-use Rattle.ecma_token.specs.Tokens.{after}
 use Rattle.ecma_token.specs.declared.place.Span.{Span}
-use Rattle.ecma_tree.specs.Codes.{first}
 use Rattle.ecma_tree.specs.Places.{no_place}
 use Rattle.ecma_tree.specs.Tree.{Tree, Trees, array_pat, binding_ident, more, none, object_pat, using_decl, var_decl, var_declarator}
 use Rattle.ecma_syntax.specs.Input.{Code, Input, binding, brk, escaped, is_word, kind, kind2, lo, span, unplaced}
@@ -12,9 +10,8 @@ use Rattle.ecma_syntax.specs.Shape.{declarators_end, is_absent, is_binding, is_d
 use Rattle.ecma_grammar.specs.Grammar.{parts}
 use Rattle.ecma_grammar.specs.Parts.{Commas, Sorted, is_module_item}
 use Rattle.ecma_grammar.specs.Statements.{Bindings, UsingBindings, is_var_word, starts_pattern, starts_using}
-use Rattle.ecma_grammar_complete_base.proofs.Trees.{begins, starts}
 use Rattle.ecma_layout.specs.Layout.{comma, laid, separated, starts_bracketed}
-use Rattle.ecma_layout.specs.Looks.{blank, formats, gap, last, text, when, ◌·◌}
+use Rattle.ecma_layout.specs.Looks.{blank, formats, gap, text, when, ◌·◌}
 use Rattle.ecma_layout.specs.declared.look.Look.{Look}
 use Rattle.ecma_layout.specs.declared.look.Stand.{Stand}
 use Rattle.ecma_layout.specs.declared.look.Stand.TheVariants.{Alone}
