@@ -1,0 +1,13 @@
+pub mod Folded
+pub mod Mapped
+pub mod Ascii
+pub mod Keys
+pub mod Shapes
+pub mod Programs
+pub mod Early
+pub mod FoundParts
+pub mod FoundExpressions
+pub mod FoundFunctions
+pub mod FoundStatements
+pub mod FoundModules
+pub mod Found

@@ -1,0 +1,29 @@
+-- What a tree has in common with one whose spellings are those of the text written of it.
+use Rattle.std.specs.Prelude.{◌≡◌, []}
+use Rattle.ecma_token.specs.declared.syntax.EsSyntax.{EsSyntax}
+use Rattle.ecma_tree.specs.Tree.{Tree}
+use Rattle.ecma_nesting.specs.Nesting.{nesting}
+use Rattle.ecma_syntax.specs.Shape.{is_clean}
+use Rattle.ecma_early.specs.Early.{early_errors}
+use Rattle.ecma_layout.specs.declared.look.Look.{Look}
+use Rattle.ecma_program.specs.Program.{IsSameProgram}
+use Rattle.ecma_redone.specs.Redo.{Mode, Plain, Same}
+use Rattle.ecma_redone.specs.Every.{every}
+use Rattle.ecma_redone.specs.Faithful.{Faithful, HasElements}
+use Rattle.ecma_redone.specs.Written.{leaves_of}
+
+-- It nests as deep.
+abbrev pub NestsAlike : Type 0
+NestsAlike = (look : Look) (mode : Mode) (t u : Tree) → Same (leaves_of look) mode t u → nesting u ≡ nesting t
+
+-- Where nothing of a cover is left in the one, nothing is in the other.
+abbrev pub CleanAlike : Type 0
+CleanAlike = (look : Look) (mode : Mode) (t u : Tree) → Same (leaves_of look) mode t u → is_clean u ≡ is_clean t
+
+-- It is the same program, where each leaf is told by what is written of it.
+abbrev pub SameProgram : Type 0
+SameProgram = (look : Look) (mode : Mode) (t u : Tree) → every (Faithful look) mode t → every HasElements Plain u → Same (leaves_of look) mode t u → IsSameProgram u t
+
+-- No early error appears, where each leaf is told by what is written of it.
+abbrev pub LegalAlike : Type 0
+LegalAlike = (look : Look) (mode : Mode) (t u : Tree) → every (Faithful look) mode t → Same (leaves_of look) mode t u → (syntax : EsSyntax) → early_errors syntax t ≡ [] → early_errors syntax u ≡ []

@@ -1,0 +1,6 @@
+pub mod Redo
+pub mod Written
+pub mod Every
+pub mod Faithful
+pub mod Read
+pub mod Laws

@@ -1,0 +1,19 @@
+//! A tree whose spellings are those of the text written of it: laws of what it has in common with the tree.
+#![tactic(auto)]
+
+ghost use Rattle.ecma_redone.specs.Laws.{CleanAlike, LegalAlike, NestsAlike, SameProgram};
+
+/// Law: it nests as deep, and nothing of a cover is left in it where nothing was.
+#[tactic(auto)]
+pub fn shape_law()
+    ensures nesting { NestsAlike }
+    ensures clean { CleanAlike }
+{}
+
+/// Law: where what is written of each leaf tells what the leaf told, it is the same program, and has no early error
+/// where the tree has none.
+#[tactic(auto)]
+pub fn program_law()
+    ensures program { SameProgram }
+    ensures legal { LegalAlike }
+{}

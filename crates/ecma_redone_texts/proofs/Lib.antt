@@ -1,0 +1,6 @@
+pub mod Origins
+pub mod Octals
+pub mod Backslashes
+pub mod Units
+pub mod Numbers
+pub mod Leaves

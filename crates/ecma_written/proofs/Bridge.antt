@@ -1,0 +1,91 @@
+-- The tokens that a layout says are told to whatever goes on behind them.
+use Rattle.std.proofs.Common.{◌≡◌, ℕ, inl, inr, Bool, List, [], ◌∷◌, sym, ap, subst, ◌∙◌}
+use Rattle.std.specs.Prelude.{codes}
+use Rattle.ecma_token.specs.Tokens.{SpecToken}
+use Rattle.ecma_lexeme.specs.declared.goal.LexicalGoal.{LexicalGoal}
+use Rattle.ecma_lexeme.specs.declared.goal.LexicalGoal.TheVariants.{Div, RegExp, TemplateTail, TemplateEnd}
+use Rattle.ecma_syntax.specs.Input.{Place, Input, kind_of, content_of, escaped_of, rest, hi_of, others, lo, lo_of, brk, break_of}
+use Rattle.ecma_pieces.specs.Pieces.{Piece, Text, Brace, Blank, Line, Deeper, Back, Semicolon, Commit, Mark}
+use Rattle.ecma_layout.specs.Looks.{Meaning, regular_expression, template_characters, template_end, hashbang_comment, touching, Laid, nothing, one, meant, both, refused, joined, texts_of}
+use Rattle.ecma_written.specs.Gaps.{Gap, Touching, is_broken, blanked, Lies}
+use Rattle.ecma_written.specs.Says.{IsFirst, IsSaid, IsHashbangSaid, SaysPiece, SaysTexts, SaysMeaning, Says}
+use Rattle.ecma_written.specs.Told.{Told, ToldHashbang, said, says_texts, says_meaning, says}
+
+-- ---- the first token
+
+module _ (token : SpecToken) (escaped : Bool) (size : ℕ) (a : Gap) (ts r : Input) (h : IsFirst token escaped size a ts r) where
+  first_rest : rest ts ≡ r
+  first_rest =
+      ap (λ (ps : List Place). record { last = hi_of ts.last ps; places = others ps }) h.whole ∙ ap (λ n. record { last = n; places = r.places }) (sym h.last)
+
+  pub first_kind : kind_of ts.places ≡ token.kind
+  first_kind = ap kind_of h.whole ∙ ap (λ (x : SpecToken). x.kind) h.token_is
+
+  first_content : content_of ts.places ≡ token.content
+  first_content = ap content_of h.whole ∙ ap (λ (x : SpecToken). x.content) h.token_is
+
+  first_escaped : escaped_of ts.places ≡ escaped
+  first_escaped = ap escaped_of h.whole ∙ h.escaped_is
+
+  first_broke : brk ts ≡ is_broken a
+  first_broke = ap break_of h.whole ∙ h.broke
+
+  first_touches : a ≡ Touching → lo ts ≡ ts.last
+  first_touches e = ap (λ (ps : List Place). lo_of ts.last ps) h.whole ∙ subst (λ (x : Gap). Lies x ts.last h.place.spot.lo) e h.begins
+
+pub told_of : (goal : LexicalGoal) (own : List ℕ) (a b : Gap) (ts r : Input) → IsSaid goal own a ts b r → Told goal own a ts r
+told_of goal own a b ts r h = record {
+  means = (h.lexeme, h.is_own, first_kind _ _ _ a ts r h.first, first_content _ _ _ a ts r h.first, first_escaped _ _ _ a ts r h.first);
+  broke = first_broke _ _ _ a ts r h.first;
+  touches = first_touches _ _ _ a ts r h.first;
+  after = first_rest _ _ _ a ts r h.first;
+}
+
+hashbang_told : (own : List ℕ) (a b : Gap) (ts r : Input) → IsHashbangSaid own a ts b r → ToldHashbang own a ts r
+hashbang_told own a b ts r h = record {
+  kind_is = first_kind _ _ _ a ts r h.first;
+  content_is = first_content _ _ _ a ts r h.first;
+  broke = first_broke _ _ _ a ts r h.first;
+  touches = first_touches _ _ _ a ts r h.first;
+  after = first_rest _ _ _ a ts r h.first;
+}
+
+-- ---- layouts
+
+module _ (K : Gap → Input → Type 0) where
+  moved : (a b : Gap) (ts r : Input) → (b ≡ a) × (ts ≡ r) → K b r → K a ts
+  moved a b ts r h k = subst (λ (x : Gap). K x ts) h.0 (subst (λ (i : Input). K b i) (sym h.1) k)
+
+  one_told : (goal : LexicalGoal) (own : List ℕ) (a b : Gap) (ts r : Input) → IsSaid goal own a ts b r → K b r → (m : Input) × Told goal own a ts m × K Touching m
+  one_told goal own a b ts r h k = (r, told_of goal own a b ts r h, subst (λ (x : Gap). K x r) h.behind k)
+
+  piece_told : (x : Piece) (a b : Gap) (ts r : Input) → SaysPiece x a ts b r → K b r → said x a ts K
+  piece_told (Text span own) a b ts r h k = one_told Div own a b ts r h k
+  piece_told (Brace span) a b ts r h k = one_told Div (codes "}") a b ts r h k
+  piece_told Blank a b ts r h k = moved (blanked a) b ts r h k
+  piece_told Line a b ts r h k = (b, h.0, subst (λ (i : Input). K b i) (sym h.1) k)
+  piece_told Deeper a b ts r h k = moved a b ts r h k
+  piece_told Back a b ts r h k = moved a b ts r h k
+  piece_told (Semicolon span) a b ts r (inl h) k = inl (one_told Div (codes ";") a b ts r h k)
+  piece_told (Semicolon span) a b ts r (inr h) k = inr (h.2, moved a b ts r (h.0, h.1) k)
+  piece_told Commit a b ts r h k = moved a b ts r h k
+  piece_told (Mark pos) a b ts r h k = moved a b ts r h k
+
+  texts_told : (texts : List (List ℕ)) (a b : Gap) (ts r : Input) → SaysTexts texts a ts b r → K b r → says_texts texts a ts K
+  texts_told [] a b ts r h k = moved a b ts r h k
+  texts_told (own ∷ others) a b ts r h k =
+      (h.1, told_of Div own a h.0 ts h.1 h.2, texts_told others Touching b h.1 r (subst (λ (x : Gap). SaysTexts others x h.1 b r) h.2.behind h.3) k)
+
+  meaning_told : (m : Meaning) (a b : Gap) (ts r : Input) → SaysMeaning m a ts b r → K b r → says_meaning m a ts K
+  meaning_told (regular_expression body flags) a b ts r h k = one_told RegExp (joined (texts_of (regular_expression body flags))) a b ts r h k
+  meaning_told (template_characters own) a b ts r h k = one_told TemplateTail own a b ts r h k
+  meaning_told (template_end own) a b ts r h k = one_told TemplateEnd own a b ts r h k
+  meaning_told (hashbang_comment own) a b ts r h k = (r, hashbang_told own a b ts r h, subst (λ (x : Gap). K x r) h.behind k)
+  meaning_told (touching texts) a b ts r h k = texts_told texts a b ts r h k
+
+pub bridge : (f : Laid) (a b : Gap) (ts r : Input) (K : Gap → Input → Type 0) → Says f a ts b r → K b r → says f a ts K
+bridge nothing a b ts r K h k = moved K a b ts r h k
+bridge (one x) a b ts r K h k = piece_told K x a b ts r h k
+bridge (meant m) a b ts r K h k = meaning_told K m a b ts r h k
+bridge (both f g) a b ts r K h k = bridge f a h.0 ts h.1 (λ d m. says g d m K) h.2 (bridge g h.0 b h.1 r K h.3 k)
+bridge refused a b ts r K h k = absurd h

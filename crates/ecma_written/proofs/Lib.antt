@@ -1,0 +1,6 @@
+pub mod Ascii
+pub mod Punctuators
+pub mod PlainWords
+pub mod Tables
+pub mod Known
+pub mod Bridge

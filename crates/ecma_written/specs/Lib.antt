@@ -1,0 +1,7 @@
+pub mod Gaps
+pub mod Says
+pub mod Means
+pub mod Told
+pub mod Texts
+pub mod Lexicon
+pub mod Laws

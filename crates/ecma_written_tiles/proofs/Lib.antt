@@ -1,0 +1,12 @@
+pub mod Pen
+pub mod Gaps
+pub mod Walks
+pub mod Touch
+pub mod Marks
+pub mod Items
+pub mod Leads
+pub mod Tiling
+pub mod Settled
+pub mod NoHashbang
+pub mod Retiled
+pub mod Texts

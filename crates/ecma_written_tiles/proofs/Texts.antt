@@ -1,0 +1,251 @@
+-- The text of a layout is tiled by tokens that it says: formatted and minified, alone and behind a hashbang.
+use Rattle.std.proofs.Common.{◌≡◌, ◌≢◌, ℕ, ◌+◌, ◌-◌, ◌≤◌, ◌⊎◌, inl, inr, Bool, true, false, ◌||◌, List, [], ◌∷◌, ◌++◌, length, None, refl, sym, ap, subst, ◌∙◌, append_assoc, arith}
+use Rattle.std.specs.Prelude.{codes, if◌then◌else◌, encode_utf8_all}
+use Rattle.std.specs.Str.{chars, IsUtf8}
+use Rattle.std.proofs.lemmas.Bool.{false≢true}
+use Rattle.std.proofs.lemmas.List.{append-nil}
+use Rattle.std.proofs.lemmas.Str.{chars-append, encodes-append, encodes-chars}
+use Rattle.ecma_scan.specs.Characters.{is_white_space}
+use Rattle.ecma_scan.specs.Classes.{is_line_char}
+use Rattle.ecma_scan.specs.Places.{bytes}
+use Rattle.ecma_scan.specs.Runs.{Each, Ends}
+use Rattle.ecma_scan.specs.Trivia.{NoHashbang}
+use Rattle.ecma_lexing.specs.States.{shebang, place, spot_at}
+use Rattle.ecma_syntax.specs.Input.{Place, Input, div_goal, no_context}
+use Rattle.ecma_spells.specs.Tiled.{Tile, whole}
+use Rattle.ecma_write.specs.Pages.{Page, times}
+use Rattle.ecma_pieces.specs.Pieces.{Piece, Line, Mark, resolved, shortened}
+use Rattle.ecma_layout.specs.Looks.{Laid, nothing, one, meant, hashbang_comment, ◌·◌, line_always, listed, joined, texts_of}
+use Rattle.ecma_written.specs.Gaps.{Gap, Touching, Spaced, Broken}
+use Rattle.ecma_written.specs.Says.{Says, IsHashbangSaid, hashbang_token}
+use Rattle.ecma_written.proofs.Ascii.{ascii}
+use Rattle.ecma_written_tiles.specs.Classes.{Fresh, Shut, is_open}
+use Rattle.ecma_written_tiles.specs.Goes.{GoesWhole}
+use Rattle.ecma_written_tiles.specs.Tiles.{AllHaveGoals, SaysTiles, IsEmptyPage, IsHashbangText, IsSilent}
+use Rattle.ecma_written_tiles.specs.Laws.{LayoutsAreTiled, HashbangsAreTiled}
+use Rattle.ecma_written_tiles.proofs.Pen.{Pen, pen, lead, after_text, next, wrote, out_wrote}
+use Rattle.ecma_written_tiles.proofs.Gaps.{Blankness, White, Feed, Return, chars_of, gap_before, is_end_of_line, breaks_line, AreBlank}
+use Rattle.ecma_written_tiles.proofs.Items.{Item, Plain, Meant, items, spread, listed_items, goes_items, GoesAll, SaysAll, says_of}
+use Rattle.ecma_written_tiles.proofs.Leads.{Lines, wrote_texts, next_lines, gap_append}
+use Rattle.ecma_written_tiles.proofs.Tiling.{Tiled, tiled, line_more, text_more}
+use Rattle.ecma_written_tiles.proofs.Settled.{settled, short_settled, goes_settled, says_settled}
+use Rattle.ecma_written_tiles.proofs.NoHashbang.{no_hashbang}
+
+-- ---- an empty page
+
+whites : List ℕ → List Blankness
+whites [] = []
+whites (c ∷ cs) = White c ∷ whites cs
+
+whites_are : (cs : List ℕ) → Each is_white_space cs → AreBlank (whites cs) × (breaks_line (whites cs) ≡ false) × (cs ≡ gap_before (whites cs) [])
+unfolding whites
+whites_are [] h = (tt, refl, refl)
+whites_are (c ∷ cs) h = let m = whites_are cs h.1 in ((h.0, m.0), m.1, ap (λ (l : List ℕ). c ∷ l) m.2)
+
+record Ending (bytes : List ℕ) : Type 0 where
+  utf8 : IsUtf8 bytes
+  line : Blankness
+  ends : is_end_of_line line ≡ true
+  same : chars bytes ≡ chars_of line []
+
+ending_of : (bytes : List ℕ) → (bytes ≡ codes "\n") ⊎ (bytes ≡ codes "\r\n") → Ending bytes
+ending_of bytes (inl e) = let a = ascii (codes "\n") refl in subst (λ (l : List ℕ). Ending l) (sym e) (record { utf8 = a.utf8; line = Feed; ends = refl; same = a.same })
+ending_of bytes (inr e) = let a = ascii (codes "\r\n") refl in subst (λ (l : List ℕ). Ending l) (sym e) (record { utf8 = a.utf8; line = Return; ends = refl; same = a.same })
+
+lines_of : (p : Page) → IsEmptyPage p → Lines (pen p)
+lines_of p m =
+    let e = ending_of p.line_end m.ends in
+    let w = whites_are (chars p.indent) m.white in record {
+      line_utf8 = e.utf8;
+      line = e.line;
+      line_ends = e.ends;
+      line_chars = e.same;
+      indent_utf8 = m.utf8;
+      indents = whites (chars p.indent);
+      indents_blank = w.0;
+      indents_flat = w.1;
+      indent_chars = w.2;
+    }
+
+out_text : (xs : List Piece) (p : Page) → p.out ≡ [] → (resolved xs p).out ≡ wrote xs (pen p)
+out_text xs p e = out_wrote xs p ∙ ap (λ (o : List ℕ). o ++ wrote xs (pen p)) e
+
+short_text : (xs : List Item) (p : Page) → p.out ≡ [] → (shortened (spread xs) p).out ≡ wrote (spread (settled xs)) (pen p)
+short_text xs p e = ap (λ (q : Page). q.out) (short_settled xs p) ∙ out_text (spread (settled xs)) p e
+
+-- ---- a layout alone
+
+items_tiled : (start : ℕ) (modules : Bool) (xs : List Item) (p : Page) → IsEmptyPage p → GoesAll xs Fresh → (cs : List ℕ) → cs ≡ chars (wrote (spread xs) (pen p)) → Tiled (whole modules) (start + bytes cs) xs cs true Spaced start
+items_tiled start modules xs p m g cs e = subst (λ (t : List ℕ). Tiled (whole modules) (start + bytes t) xs t true Spaced start) (sym e)
+    (tiled (whole modules) (start + bytes (chars (wrote (spread xs) (pen p)))) xs (pen p) Fresh [] true Spaced start (lines_of p m) g
+    (record { st = record { blank = tt; fresh = λ _. refl; tight = λ f. absurd cc; tighter = λ f. absurd cc; broke = refl; touching = λ f. absurd cc }; starts = λ _. refl; apart = λ f. absurd cc })
+    refl)
+
+says_tiles : (start : ℕ) (modules : Bool) (f : Laid) (p : Page) → IsEmptyPage p → GoesWhole f → (xs : List Item) → GoesAll xs Fresh
+    → ((ts r : Input) (b : Gap) → r.places ≡ [] → SaysAll xs Spaced ts b r → SaysAll (items f []) Spaced ts b r) → (cs : List ℕ) → cs ≡ chars (wrote (spread xs) (pen p)) → SaysTiles start modules f cs
+says_tiles start modules f p m g xs all back cs e =
+    let t = items_tiled start modules xs p m all cs e in
+    let s = says_of f Fresh (λ s. is_open s ≡ true) [] Spaced t.gap (record { last = start; places = t.places }) t.over g (back _ _ _ t.all t.says) in record {
+      places = t.places;
+      tiles = inl (subst NoHashbang (sym e) (no_hashbang xs (pen p) (lines_of p m) m.starts all), t.tiles);
+      goals = t.goals;
+      gap = s.0;
+      over = s.1;
+      says = s.2;
+      all = ap (λ (r : Input). r.places) s.3.1 ∙ t.all;
+    }
+
+pub layouts_are_tiled : LayoutsAreTiled
+layouts_are_tiled start modules f p m g =
+    let xs : List Item = items f [] in
+    let all = goes_items f Fresh [] g in (
+      says_tiles start modules f p m g xs all (λ ts r b a h. h) _ (ap chars (ap (λ ys. (resolved ys p).out) (listed_items f []) ∙ out_text (spread xs) p m.nothing)),
+      says_tiles start modules f p m g (settled xs) (goes_settled xs Fresh all) (λ ts r b a h. says_settled xs Fresh Spaced b ts r all a h) _
+          (ap chars (ap (λ ys. (shortened ys p).out) (listed_items f []) ∙ short_text xs p m.nothing)),
+    )
+
+-- ---- behind a hashbang
+
+-- the items of a hashbang on its line, and those behind it
+abbrev led : List ℕ → List Item → List Item
+led own xs = Meant (hashbang_comment own) ∷ Plain Line ∷ xs
+
+record Hashed (start : ℕ) (modules : Bool) (own : List ℕ) (xs : List Item) (text : List ℕ) : Type 0 where
+  places : List Place
+  tiles : Tile start modules text places
+  goals : AllHaveGoals places
+  middle : Input
+  said : IsHashbangSaid own Spaced (record { last = start; places = places }) Touching middle
+  gap : Gap
+  over : Input
+  says : SaysAll xs Broken middle gap over
+  all : over.places ≡ []
+
+no_lead : (q : Pen) → q.depth ≡ 0 → lead q ≡ []
+no_lead q e = at q.at_start (times q.depth q.indent) (ap (λ n. times n q.indent) e)
+  where
+    at : (b : Bool) (xs : List ℕ) → xs ≡ [] → (if b then xs else []) ≡ []
+    at true xs e = e
+    at false xs e = refl
+
+-- the pen at the end of the hashbang's text
+abbrev behind_hash : List ℕ → Pen → Pen
+behind_hash own q = after_text (joined (texts_of (hashbang_comment own))) q
+
+hash_text : (own : List ℕ) (xs : List Item) (q : Pen) → q.depth ≡ 0 → wrote (spread (led own xs)) q ≡ 35 ∷ 33 ∷ (own ++ (q.line_end ++ wrote (spread xs) (next Line (behind_hash own q))))
+hash_text own xs q e =
+    wrote_texts (texts_of (hashbang_comment own)) (Line ∷ spread xs) q
+    ∙ (ap (λ (l : List ℕ). (l ++ (35 ∷ 33 ∷ (own ++ []))) ++ (q.line_end ++ wrote (spread xs) (next Line (behind_hash own q)))) (no_lead q e)
+    ∙ ap (λ (l : List ℕ). 35 ∷ 33 ∷ (l ++ (q.line_end ++ wrote (spread xs) (next Line (behind_hash own q))))) (append-nil own))
+
+-- A line ends behind the hashbang.
+line_left : (q : Pen) (w : List ℕ) (l : Lines q) → Ends is_line_char (gap_before (l.line ∷ []) (chars w))
+line_left q w l = by l.line l.line_ends
+  where
+    by : (u : Blankness) → is_end_of_line u ≡ true → Ends is_line_char (gap_before (u ∷ []) (chars w))
+    by (White c) e = absurd (false≢true e)
+    by Feed e = refl
+    by Return e = refl
+
+line_chars : (q : Pen) (w : List ℕ) (l : Lines q) → chars (q.line_end ++ w) ≡ gap_before (l.line ∷ []) (chars w)
+line_chars q w l = chars-append q.line_end w l.line_utf8 ∙ (ap (λ (o : List ℕ). o ++ chars w) l.line_chars ∙ gap_append (l.line ∷ []) [] (chars w))
+
+bytes_append : (xs ys : List ℕ) → bytes (xs ++ ys) ≡ bytes xs + bytes ys
+bytes_append xs ys = ap length (encodes-append xs ys) ∙ Rattle.std.proofs.Common.length-append (encode_utf8_all xs) (encode_utf8_all ys)
+
+hashed : (start : ℕ) (modules : Bool) (own : List ℕ) (xs : List Item) (p : Page) → IsEmptyPage p → IsHashbangText own → GoesAll xs Fresh → Hashed start modules own xs (chars (wrote (spread (led own xs)) (pen p)))
+hashed start modules own xs p m h g =
+    let q : Pen = pen p in
+    let l = lines_of p m in
+    let w : List ℕ = wrote (spread xs) (next Line (behind_hash own q)) in
+    let after : List ℕ = gap_before (l.line ∷ []) (chars w) in
+    let mark = ascii (codes "#!") refl in
+    let text : List ℕ = 35 ∷ 33 ∷ (chars own ++ after) in
+    let same : chars (wrote (spread (led own xs)) q) ≡ text =
+    ap chars (hash_text own xs q m.level)
+    ∙ (chars-append (codes "#!") (own ++ (q.line_end ++ w)) mark.utf8
+    ∙ (ap (λ (o : List ℕ). o ++ chars (own ++ (q.line_end ++ w))) mark.same
+    ∙ ap (λ (o : List ℕ). 35 ∷ 33 ∷ o) (chars-append own (q.line_end ++ w) h.utf8 ∙ ap (λ (o : List ℕ). chars own ++ o) (line_chars q w l)))) in
+    let end : ℕ = start + bytes text in
+    let two : bytes (35 ∷ 33 ∷ []) ≡ 2 = ap bytes (sym mark.same) ∙ ap length (encodes-chars (codes "#!") mark.utf8) in
+    let inner : bytes (chars own ++ after) ≡ length own + bytes after = bytes_append (chars own) after ∙ ap (λ n. n + bytes after) (ap length (encodes-chars own h.utf8)) in
+    let sum : bytes text ≡ bytes (35 ∷ 33 ∷ []) + bytes (chars own ++ after) = bytes_append (35 ∷ 33 ∷ []) (chars own ++ after) in
+    let size : bytes text ≡ 2 + (length own + bytes after) = omega (arith, two, inner, sum) in
+    let lo : place end text ≡ start = omega arith in
+    let hi : place end after ≡ start + (length own + 2) = omega (arith, size) in
+    let on : place end after + bytes after ≡ end = omega (arith, size) in
+    let first : Place = record { spot = spot_at end false (shebang (chars own)).token text after; escaped = false; goal = div_goal; context = no_context } in
+    let ran : Pen = behind_hash own q in
+    let k : Lines ran = record { line_utf8 = l.line_utf8; line = l.line; line_ends = l.line_ends; line_chars = l.line_chars; indent_utf8 = l.indent_utf8; indents = l.indents; indents_blank = l.indents_blank; indents_flat = l.indents_flat; indent_chars = l.indent_chars } in
+    let t = tiled (whole modules) end xs (next Line ran) Fresh (l.line ∷ []) false Broken (place end after) (next_lines Line ran k) g
+    (line_more (whole modules) end ran Shut [] false Touching k refl (text_more (whole modules) end ran Shut refl)) on in
+    subst (λ (c : List ℕ). Hashed start modules own xs c) (sym same) (record {
+      places = first ∷ t.places;
+      tiles = inr (after, (chars own, (chars own ++ after, refl, (refl, h.line, line_left q w l)), refl, refl), t.tiles);
+      goals = (inl refl, t.goals);
+      middle = record { last = place end after; places = t.places };
+      said = record {
+        first = record {
+          place = first;
+          whole = refl;
+          token_is = ap hashbang_token (encodes-chars own h.utf8);
+          escaped_is = refl;
+          broke = refl;
+          begins = omega (arith, lo);
+          ends = hi ∙ ap (λ n. n + (length own + 2)) (sym lo);
+          last = refl;
+        };
+        behind = refl;
+      };
+      gap = t.gap;
+      over = t.over;
+      says = t.says;
+      all = t.all;
+    })
+
+-- a mark before it changes nothing
+
+marked_text : (mark : Laid) → IsSilent mark → (xs : List Item) (q : Pen) → wrote (spread (items mark xs)) q ≡ wrote (spread xs) q
+marked_text nothing s xs q = refl
+marked_text (one (Mark pos)) s xs q = refl
+marked_text _ s xs q = absurd s
+
+marked_settled : (mark : Laid) → IsSilent mark → (xs : List Item) → settled (items mark xs) ≡ items mark (settled xs)
+marked_settled nothing s xs = refl
+marked_settled (one (Mark pos)) s xs = refl
+marked_settled _ s xs = absurd s
+
+marked_says : (mark : Laid) → IsSilent mark → (a : Gap) (ts : Input) → Says mark a ts a ts
+marked_says nothing s a ts = (refl, refl)
+marked_says (one (Mark pos)) s a ts = (refl, refl)
+marked_says _ s a ts = absurd s
+
+hashbang_tiles : (start : ℕ) (modules : Bool) (mark : Laid) (own : List ℕ) (f : Laid) → IsSilent mark → GoesWhole f → (xs : List Item)
+    → ((ts r : Input) (b : Gap) → r.places ≡ [] → SaysAll xs Broken ts b r → SaysAll (items f []) Broken ts b r) → (cs : List ℕ) → Hashed start modules own xs cs
+    → SaysTiles start modules (mark · (meant (hashbang_comment own) · line_always) · f) cs
+hashbang_tiles start modules mark own f i g xs back cs h =
+    let s = says_of f Fresh (λ s. is_open s ≡ true) [] Broken h.gap h.middle h.over g (back _ _ _ h.all h.says) in record {
+      places = h.places;
+      tiles = h.tiles;
+      goals = h.goals;
+      gap = s.0;
+      over = s.1;
+      says = (Spaced, record { last = start; places = h.places }, marked_says mark i Spaced _, (Broken, h.middle, (Touching, h.middle, h.said, (inl refl, refl)), s.2));
+      all = ap (λ (r : Input). r.places) s.3.1 ∙ h.all;
+    }
+
+pub hashbangs_are_tiled : HashbangsAreTiled
+hashbangs_are_tiled start modules mark own f p m i h g =
+    let xs : List Item = items f [] in
+    let whole_items : List Item = items mark (led own xs) in
+    let all = goes_items f Fresh [] g in
+    let short = settled xs in
+    let formatted : chars (resolved (listed (mark · (meant (hashbang_comment own) · line_always) · f) []) p).out ≡ chars (wrote (spread (led own xs)) (pen p)) =
+    ap chars (ap (λ ys. (resolved ys p).out) (listed_items (mark · (meant (hashbang_comment own) · line_always) · f) []) ∙ (out_text (spread whole_items) p m.nothing ∙ marked_text mark i (led own xs) (pen p))) in
+    let minified : chars (shortened (listed (mark · (meant (hashbang_comment own) · line_always) · f) []) p).out ≡ chars (wrote (spread (led own short)) (pen p)) =
+    ap chars (ap (λ ys. (shortened ys p).out) (listed_items (mark · (meant (hashbang_comment own) · line_always) · f) [])
+    ∙ (short_text whole_items p m.nothing ∙ (ap (λ (ys : List Item). wrote (spread ys) (pen p)) (marked_settled mark i (led own xs)) ∙ marked_text mark i (led own short) (pen p)))) in (
+      hashbang_tiles start modules mark own f i g xs (λ ts r b a k. k) _ (subst (λ (c : List ℕ). Hashed start modules own xs c) (sym formatted) (hashed start modules own xs p m h all)),
+      hashbang_tiles start modules mark own f i g short (λ ts r b a k. says_settled xs Fresh Broken b ts r all a k) _
+          (subst (λ (c : List ℕ). Hashed start modules own short c) (sym minified) (hashed start modules own short p m h (goes_settled xs Fresh all))),
+    )

@@ -1,0 +1,8 @@
+use Rattle.ecma_written_tiles.proofs.Texts.{layouts_are_tiled, hashbangs_are_tiled}
+use Rattle.ecma_written_tiles.proofs.layouts_are_tiled.Goals as goal
+
+pub returns-clause-alone : goal.returns-clause-alone
+returns-clause-alone c = layouts_are_tiled
+
+pub returns-clause-hashbang : goal.returns-clause-hashbang
+returns-clause-hashbang c = hashbangs_are_tiled

@@ -1,0 +1,76 @@
+-- Layouts whose texts may stand one after another: a walk over the layout by what stands last.
+use Rattle.std.specs.Prelude.{◌≡◌, ℕ, Bool, true, false, List, [], ◌∷◌, ◌++◌}
+use Rattle.std.specs.Str.{chars, IsUtf8}
+use Rattle.ecma_lexeme.specs.declared.goal.LexicalGoal.{LexicalGoal}
+use Rattle.ecma_lexeme.specs.declared.goal.LexicalGoal.TheVariants.{Div, RegExp, TemplateTail, TemplateEnd}
+use Rattle.ecma_lexeme.specs.Lexemes.{SpecLexeme, IsLexeme}
+use Rattle.ecma_pieces.specs.Pieces.{Piece, Text, Brace, Blank, Line, Deeper, Back, Semicolon, Commit, Mark}
+use Rattle.ecma_layout.specs.Looks.{Meaning, regular_expression, template_characters, template_end, hashbang_comment, touching, Laid, nothing, one, meant, both, refused, joined, texts_of}
+use Rattle.ecma_written.specs.Says.{IsOwn}
+use Rattle.ecma_written_tiles.specs.Classes.{State, Fresh, Clear, Shut, Class, Quasi, End, is_open, takes, behind, blank_behind}
+use Rattle.ecma_written_tiles.specs.Following.{Needs, Front, QuietUnder}
+
+-- ---- one text
+
+-- Under the goals of a template's characters and of their end there is one class each (12.9.6).
+abbrev pub KindOf : LexicalGoal → Class → Type 0
+KindOf TemplateTail k = k ≡ Quasi
+KindOf TemplateEnd k = k ≡ End
+KindOf _ k = Unit {0}
+
+-- These bytes are a token of this class: it is read before whatever the class lets follow.
+pub record Fits (goal : LexicalGoal) (bytes : List ℕ) (k : Class) : Type 0 where
+  pub kind_of : KindOf goal k
+  pub utf8 : IsUtf8 bytes
+  pub lexeme : SpecLexeme
+  pub front : Front k (chars bytes)
+  pub is_own : IsOwn goal (chars bytes) lexeme
+  pub reads : (rest : List ℕ) → Needs k rest → IsLexeme goal (chars bytes ++ rest) lexeme rest
+  pub quiet : (rest : List ℕ) → Needs k rest → QuietUnder goal k (chars bytes ++ rest)
+
+-- where a test holds
+abbrev pub When : Bool → Type 0 → Type 0
+When true P = P
+When false P = ⊥
+
+-- ---- layouts
+
+-- The text is a token of a class that may follow, and behind it P holds of what stands last.
+abbrev pub GoesText : LexicalGoal → List ℕ → State → (State → Type 0) → Type 0
+GoesText goal bytes s P = (k : Class) × Fits goal bytes k × When (takes k s) (P (behind k s))
+
+abbrev pub GoesPiece : Piece → State → (State → Type 0) → Type 0
+GoesPiece (Text span bytes) s P = GoesText Div bytes s P
+GoesPiece (Brace span) s P = When (is_open s) (P Shut)
+GoesPiece Blank s P = When (is_open s) (P (blank_behind s))
+GoesPiece Line s P = When (is_open s) (P Fresh)
+GoesPiece Deeper s P = P s
+GoesPiece Back s P = P s
+GoesPiece (Semicolon span) s P = When (is_open s) (P Clear)
+GoesPiece Commit s P = P s
+GoesPiece (Mark pos) s P = P s
+
+-- texts one after another with nothing between them
+abbrev pub GoesTexts : List (List ℕ) → State → (State → Type 0) → Type 0
+GoesTexts [] s P = P s
+GoesTexts (own ∷ others) s P = GoesText Div own s (λ t. GoesTexts others t P)
+
+-- A hashbang stands nowhere but at the very start (12.5), which is apart.
+abbrev pub GoesMeaning : Meaning → State → (State → Type 0) → Type 0
+GoesMeaning (regular_expression body flags) s P = GoesText RegExp (joined (texts_of (regular_expression body flags))) s P
+GoesMeaning (template_characters own) s P = GoesText TemplateTail own s P
+GoesMeaning (template_end own) s P = GoesText TemplateEnd own s P
+GoesMeaning (hashbang_comment own) s P = ⊥
+GoesMeaning (touching texts) s P = GoesTexts texts s P
+
+-- Goes f s P: each text of the layout may follow what stands before it, from where `s` stands last, and P holds of what stands last behind them all.
+abbrev pub Goes : Laid → State → (State → Type 0) → Type 0
+Goes nothing s P = P s
+Goes (one x) s P = GoesPiece x s P
+Goes (meant m) s P = GoesMeaning m s P
+Goes (both f g) s P = Goes f s (λ t. Goes g t P)
+Goes refused s P = ⊥
+
+-- A layout that goes as a whole text: from its start, to where the text may end.
+abbrev pub GoesWhole : Laid → Type 0
+GoesWhole f = Goes f Fresh (λ s. is_open s ≡ true)

@@ -1,0 +1,28 @@
+-- Laws of texts that are written: their statements.
+use Rattle.std.specs.Prelude.{◌≡◌, ℕ, Bool, List, []}
+use Rattle.std.specs.Str.{chars}
+use Rattle.ecma_syntax.specs.Input.{Place}
+use Rattle.ecma_grammar_templates.specs.Laws.{Outside, over}
+use Rattle.ecma_spells.specs.Tiled.{Tile}
+use Rattle.ecma_write.specs.Pages.{Page}
+use Rattle.ecma_pieces.specs.Pieces.{resolved, shortened}
+use Rattle.ecma_layout.specs.Looks.{Laid, meant, hashbang_comment, ◌·◌, line_always, listed}
+use Rattle.ecma_written_tiles.specs.Goes.{GoesWhole}
+use Rattle.ecma_written_tiles.specs.Tiles.{AllHaveGoals, SaysTiles, IsEmptyPage, IsHashbangText, IsSilent, SameTokens}
+
+-- what is written of a layout on a page, formatted and minified, is tiled by tokens that it says
+abbrev pub IsTiled : ℕ → Bool → Laid → Page → Type 0
+IsTiled start modules f p = SaysTiles start modules f (chars (resolved (listed f []) p).out) × SaysTiles start modules f (chars (shortened (listed f []) p).out)
+
+-- A layout whose texts may stand one after another is written as a text that is tiled by tokens that it says.
+abbrev pub LayoutsAreTiled : Type 0
+LayoutsAreTiled = (start : ℕ) (modules : Bool) (f : Laid) (p : Page) → IsEmptyPage p → GoesWhole f → IsTiled start modules f p
+
+-- So is one behind a hashbang.
+abbrev pub HashbangsAreTiled : Type 0
+HashbangsAreTiled = (start : ℕ) (modules : Bool) (mark : Laid) (own : List ℕ) (f : Laid) (p : Page) → IsEmptyPage p → IsSilent mark → IsHashbangText own → GoesWhole f
+    → IsTiled start modules (mark · (meant (hashbang_comment own) · line_always) · f) p
+
+-- Tokens that tile a text tile it under other goals and in other contexts, where these keep the regions of templates, as those of a derivation do.
+abbrev pub TilesAgain : Type 0
+TilesAgain = (start : ℕ) (modules : Bool) (text : List ℕ) (ps qs : List Place) → Tile start modules text ps → AllHaveGoals ps → SameTokens ps qs → over (Outside []) qs ≡ Outside [] → Tile start modules text qs

@@ -1,0 +1,60 @@
+-- A text that is tiled by the tokens that a layout says.
+use Rattle.std.specs.Prelude.{◌≡◌, ◌⊎◌, ℕ, Bool, true, List, [], ◌∷◌, codes}
+use Rattle.std.specs.Str.{chars, IsUtf8}
+use Rattle.ecma_scan.specs.Characters.{is_white_space}
+use Rattle.ecma_scan.specs.Classes.{is_line_char}
+use Rattle.ecma_scan.specs.Runs.{Each}
+use Rattle.ecma_syntax.specs.Input.{Place, Input, div_goal, regexp_goal, template_goal, template_end_goal}
+use Rattle.ecma_spells.specs.Tiled.{Tile}
+use Rattle.ecma_write.specs.Pages.{Page}
+use Rattle.ecma_pieces.specs.Pieces.{Mark}
+use Rattle.ecma_layout.specs.Looks.{Laid, nothing, one}
+use Rattle.ecma_written.specs.Gaps.{Gap, Spaced}
+use Rattle.ecma_written.specs.Says.{Says}
+
+-- The goal of a place is one of the four (clause 12).
+abbrev pub HasGoal : Place → Type 0
+HasGoal p = (p.goal ≡ div_goal) ⊎ ((p.goal ≡ regexp_goal) ⊎ ((p.goal ≡ template_goal) ⊎ (p.goal ≡ template_end_goal)))
+
+abbrev pub AllHaveGoals : List Place → Type 0
+AllHaveGoals [] = Unit {0}
+AllHaveGoals (p ∷ ps) = HasGoal p × AllHaveGoals ps
+
+-- The layout says tokens that tile the text, whose characters begin at a place, and no other.
+pub record SaysTiles (start : ℕ) (modules : Bool) (f : Laid) (text : List ℕ) : Type 0 where
+  pub places : List Place
+  pub tiles : Tile start modules text places
+  pub goals : AllHaveGoals places
+  pub gap : Gap
+  pub over : Input
+  pub says : Says f Spaced (record { last = start; places = places }) gap over
+  pub all : over.places ≡ []
+
+-- A page on which nothing is written yet: its lines end with LF or CR LF, and are indented by white space.
+pub record IsEmptyPage (p : Page) : Type 0 where
+  pub nothing : p.out ≡ []
+  pub starts : p.at_start ≡ true
+  pub level : p.depth ≡ 0
+  pub ends : (p.line_end ≡ codes "\n") ⊎ (p.line_end ≡ codes "\r\n")
+  pub utf8 : IsUtf8 p.indent
+  pub white : Each is_white_space (chars p.indent)
+
+-- what stands behind `#!` in a hashbang (12.5)
+pub record IsHashbangText (own : List ℕ) : Type 0 where
+  pub utf8 : IsUtf8 own
+  pub line : Each is_line_char (chars own)
+
+-- a mark, or nothing
+abbrev pub IsSilent : Laid → Type 0
+IsSilent nothing = Unit {0}
+IsSilent (one (Mark pos)) = Unit {0}
+IsSilent f = ⊥
+
+-- the same token, whatever the goal and the context
+abbrev pub SameToken : Place → Place → Type 0
+SameToken x y = (x.spot ≡ y.spot) × (x.escaped ≡ y.escaped)
+
+abbrev pub SameTokens : List Place → List Place → Type 0
+SameTokens [] [] = Unit {0}
+SameTokens (x ∷ xs) (y ∷ ys) = SameToken x y × SameTokens xs ys
+SameTokens _ _ = ⊥
