@@ -1,0 +1,7 @@
+pub mod Quoted
+pub mod Keys
+pub mod Patterns
+pub mod Functions
+pub mod Arrows
+pub mod Objects
+pub mod Classes
