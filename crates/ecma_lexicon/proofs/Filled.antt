@@ -1,0 +1,36 @@
+-- What texts mean, in each style.
+use Rattle.std.proofs.Common.{◌≡◌, ℕ, List, [], ◌∷◌, subst}
+use Rattle.ecma_syntax.specs.Input.{Place, Input, rest, others}
+use Rattle.ecma_written.specs.Means.{Known}
+use Rattle.ecma_written.proofs.Tables as tables
+use Rattle.ecma_lexicon.specs.Laws.{TextsMean}
+use Rattle.ecma_lexicon.proofs.Words.{names, quoted_keys}
+use Rattle.ecma_lexicon.proofs.Literals as literals
+use Rattle.ecma_lexicon.proofs.Strict.{strict_kept}
+
+later : (ts m : Input) → rest ts ≡ m → Known ts.places → Known m.places
+later ts m e k = subst (λ (i : Input). Known i.places) e (by ts.places k)
+  where
+    by : (ps : List Place) → Known ps → Known (others ps)
+    by [] k = tt
+    by (p ∷ ps) k = k.1
+
+pub texts_mean : TextsMean
+texts_mean style = record {
+  later = later;
+  marks = tables.marks;
+  words = tables.words;
+  keywords = tables.keywords;
+  signs = tables.signs_mean;
+  operators = tables.operators_mean;
+  endings = tables.endings_mean;
+  names = names style;
+  quoted_keys = quoted_keys style;
+  strings = literals.strings style;
+  numbers = literals.numbers style;
+  pointed = literals.pointed style;
+  big_integers = literals.big_integers style;
+  characters = literals.characters style;
+  patterns = literals.patterns;
+  strict_kept = strict_kept style;
+}

@@ -1,0 +1,12 @@
+pub mod Scalars
+pub mod Origins
+pub mod Alone
+pub mod Units
+pub mod Quotes
+pub mod Pieces
+pub mod Canonical
+pub mod Digits
+pub mod Words
+pub mod Literals
+pub mod Strict
+pub mod Filled

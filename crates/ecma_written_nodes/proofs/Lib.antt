@@ -1,0 +1,11 @@
+pub mod Admits
+pub mod Steps
+pub mod Forms
+pub mod Names
+pub mod Operators
+pub mod Binary
+pub mod Statements
+pub mod Values
+pub mod Further
+pub mod Primaries
+pub mod Expressions
