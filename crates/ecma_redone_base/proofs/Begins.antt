@@ -1,9 +1,10 @@
 -- How a tree derived again begins: as the tree did, as far as the look-ahead of statements and of `for` heads asks (14.5, 14.7.4, 14.7.5).
 use Rattle.std.proofs.Common.{Bool, ap, arith, false, inl, inr, not, refl, subst, sym, true, true≢false, ℕ, ◌==◌, ◌||◌, ◌∙◌, ◌≡◌, ◌≤◌, ◌⊎◌}
 use Rattle.ecma_token.specs.Kinds.{async_kind, else_kind, function_kind, let_kind}
-use Rattle.ecma_tree.specs.Tree.{Tree, array_lit, array_pat, arrow_expr, assign_expr, await_expr, big_int_lit, bin_expr, binding_ident, bool_lit, call_expr, class_expr, cond_expr, expr_pat, fn_expr, ident, member_expr, meta_prop_expr, new_expr, null_lit, number_lit, object_lit, object_pat, opt_chain_expr, paren_expr, regex_lit, seq_expr, str_lit, super_prop_expr, tagged_tpl, this_expr, tpl, unary_expr, update_expr, using_decl, var_decl, yield_expr}
+use Rattle.ecma_tree.specs.Tree.{Tree, array_lit, array_pat, arrow_expr, assign_expr, await_expr, big_int_lit, bin_expr, binding_ident, bool_lit, call_expr, catch_clause, class, class_expr, cond_expr, es_module, expr_pat, fn_expr, function, ident, member_expr, meta_prop_expr, new_expr, null_lit, number_lit, object_lit, object_pat, opt_chain_expr, paren_expr, regex_lit, script, seq_expr, str_lit, super_prop_expr, switch_case, tagged_tpl, this_expr, tpl, tpl_element, unary_expr, update_expr, using_decl, var_decl, var_declarator, yield_expr}
 use Rattle.ecma_syntax.specs.Input.{Input, brk2, kind, kind2, rest}
 use Rattle.ecma_syntax.specs.Shape.{is_item, is_private, is_target_expr, level}
+use Rattle.ecma_grammar.specs.Parts.{is_module_item}
 use Rattle.ecma_grammar.specs.Statements.{starts_expression_statement}
 use Rattle.ecma_grammar_complete_base.proofs.Levels.{binary_low}
 use Rattle.ecma_layout.specs.Layout.{is_variables}
@@ -41,10 +42,66 @@ pub no_else : {v : Bool} (ts0 r0 ts r : Input) → Begins v ts0 r0 ts r → kind
 no_else ts0 r0 ts r (same_start e f) h = sym e ∙ h
 no_else ts0 r0 ts r (fine i e f) h = absurd (f h)
 
-pub no_variables : (t : Tree) → 1 ≤ level t → is_variables t ≡ false
-no_variables (var_decl s k ds) h = absurd (omega arith)
-no_variables (using_decl s w ds) h = absurd (omega arith)
-no_variables _ h = refl
+-- inner parts, which are derived again with what holds them
+abbrev pub is_inner : Tree → Bool
+is_inner (switch_case s t ss) = true
+is_inner (function s ps ds b g a) = true
+is_inner (class s ds ms k) = true
+is_inner (tpl_element s t w u) = true
+is_inner (catch_clause s p b) = true
+is_inner (script s ss l) = true
+is_inner (es_module s ss l) = true
+is_inner _ = false
+
+-- what a production has as a part: no inner part, and no variables, which a semicolon may end
+abbrev pub is_part : Tree → Bool
+is_part (var_decl s k ds) = false
+is_part (using_decl s w ds) = false
+is_part (switch_case s t ss) = false
+is_part (function s ps ds b g a) = false
+is_part (class s ds ms k) = false
+is_part (tpl_element s t w u) = false
+is_part (catch_clause s p b) = false
+is_part (script s ss l) = false
+is_part (es_module s ss l) = false
+is_part _ = true
+
+pub part_variables : (t : Tree) → is_part t ≡ true → is_variables t ≡ false
+part_variables (var_decl s k ds) h = absurd (true≢false (sym h))
+part_variables (using_decl s w ds) h = absurd (true≢false (sym h))
+part_variables _ h = refl
+
+pub part_outer : (t : Tree) → is_part t ≡ true → is_inner t ≡ false
+part_outer (switch_case s t ss) h = absurd (true≢false (sym h))
+part_outer (function s ps ds b g a) h = absurd (true≢false (sym h))
+part_outer (class s ds ms k) h = absurd (true≢false (sym h))
+part_outer (tpl_element s t w u) h = absurd (true≢false (sym h))
+part_outer (catch_clause s p b) h = absurd (true≢false (sym h))
+part_outer (script s ss l) h = absurd (true≢false (sym h))
+part_outer (es_module s ss l) h = absurd (true≢false (sym h))
+part_outer _ h = refl
+
+pub item_outer : (t : Tree) → is_item t ≡ true → is_inner t ≡ false
+item_outer (switch_case s t ss) h = absurd (true≢false (sym h))
+item_outer (function s ps ds b g a) h = absurd (true≢false (sym h))
+item_outer (class s ds ms k) h = absurd (true≢false (sym h))
+item_outer (tpl_element s t w u) h = absurd (true≢false (sym h))
+item_outer (catch_clause s p b) h = absurd (true≢false (sym h))
+item_outer (script s ss l) h = absurd (true≢false (sym h))
+item_outer (es_module s ss l) h = absurd (true≢false (sym h))
+item_outer _ h = refl
+
+pub level_part : (t : Tree) → 1 ≤ level t → is_part t ≡ true
+level_part (var_decl s k ds) h = absurd (omega arith)
+level_part (using_decl s w ds) h = absurd (omega arith)
+level_part (switch_case s t ss) h = absurd (omega arith)
+level_part (function s ps ds b g a) h = absurd (omega arith)
+level_part (class s ds ms k) h = absurd (omega arith)
+level_part (tpl_element s t w u) h = absurd (omega arith)
+level_part (catch_clause s p b) h = absurd (omega arith)
+level_part (script s ss l) h = absurd (omega arith)
+level_part (es_module s ss l) h = absurd (omega arith)
+level_part _ h = refl
 
 -- the kinds of expressions
 abbrev pub is_expression : Tree → Bool
@@ -118,9 +175,10 @@ is_pattern (binding_ident s i) = true
 is_pattern (array_pat s xs) = true
 is_pattern (object_pat s ps) = true
 is_pattern (expr_pat e) = is_target_expr e
+is_pattern (var_declarator s n v) = true
 is_pattern _ = false
 
--- what is no expression and no pattern: nothing is asked of how it begins
+-- what is no expression, no pattern and no binding of one: nothing is asked of how it begins
 abbrev pub is_weak : Tree → Bool
 is_weak t = not (is_expression t || (is_private t || is_pattern t))
 
@@ -169,8 +227,8 @@ starts_on false v ts0 m0 ts m r0 r h e n = before ts0 m0 ts m r0 r (λ i. i) h e
 pub strong : (t : Tree) → 1 ≤ level t → is_weak t ≡ false
 strong t h = subst (λ (v : Bool). not (v || (is_private t || is_pattern t)) ≡ false) (sym (expression_of t h)) refl
 
-pub flat_item : (t : Tree) → 1 ≤ level t → is_item t ≡ false
-flat_item t h = by (is_item t) (no_item t h)
+pub flat_item : (t : Tree) → 1 ≤ level t → is_module_item t ≡ false
+flat_item t h = by (is_module_item t) (no_item t h)
   where
     by : (b : Bool) → (b ≡ true → ⊥) → b ≡ false
     by true f = absurd (f refl)

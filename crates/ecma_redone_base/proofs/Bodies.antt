@@ -21,11 +21,11 @@ use Rattle.ecma_written.specs.Means.{Known}
 use Rattle.ecma_written.specs.Told.{says}
 use Rattle.ecma_redone.specs.Redo.{AllSame, Leaves, Mode, Plain, redo}
 use Rattle.ecma_redone.specs.Written.{leaves_of}
-use Rattle.ecma_redone_base.proofs.Begins.{first_token, is_loose, is_weak}
+use Rattle.ecma_redone_base.proofs.Begins.{first_token, is_inner, is_loose, is_weak, item_outer}
 use Rattle.ecma_redone_base.proofs.Follow.{Follow, is_closed}
 use Rattle.ecma_redone_base.proofs.Lists.{more_same, none_same}
 use Rattle.ecma_redone_base.proofs.Shapes.{alike, re_is_directive, re_is_item}
-use Rattle.ecma_redone_base.proofs.Sound.{AllSound, Out, Sound}
+use Rattle.ecma_redone_base.proofs.Sound.{AllSound, Out, Sound, outer}
 use Rattle.ecma_redone_base.proofs.Tokens.{marked, says_map, skip_back, skip_deeper, skip_line, took}
 
 pub follow_closed : (t : Tree) (r m : Input) → is_closed t ≡ true → (kind m ≡ else_kind → kind r ≡ else_kind) → Follow Alone t r m
@@ -43,6 +43,9 @@ block_plain _ h = absurd (true≢false (sym h))
 pub item_closed : (t : Tree) → is_item t ≡ true → is_closed t ≡ true
 item_closed t h = or_left (is_item t) _ h
 
+pub item_flat : (t : Tree) → is_item t ≡ true → (is_closed t ≡ true) × (is_inner t ≡ false)
+item_flat t h = (item_closed t h, item_outer t h)
+
 turned : (b : Bool) (c : Code) → (if b then turned_strict (unplaced c) else unplaced c) ≡ unplaced (if b then turned_strict c else c)
 turned true c = refl
 turned false c = refl
@@ -58,13 +61,13 @@ module _ (look : Look) (x : Lexicon look.style) where
       by true p q = subst (λ (w : Bool). says (when w semi) b ts (λ d m. (e : Gap) × K e m)) (sym (p refl)) (b, q)
       by false p q = says_map (when (is_variables t) semi) b ts _ _ (λ d m j. skip_line (formats look) d m K j) q
 
-  pub statement_on : (t : Tree) → Sound look Alone t → (c : Code) (ts0 r0 : Input) → Spells t c ts0 r0 → Known ts0.places → (b : Gap) (ts : Input) (K : Gap → Input → Type 0) → says (laid look Alone t · closing look t) b ts K
+  pub statement_on : (t : Tree) → Sound look Alone t → is_inner t ≡ false → (c : Code) (ts0 r0 : Input) → Spells t c ts0 r0 → Known ts0.places → (b : Gap) (ts : Input) (K : Gap → Input → Type 0) → says (laid look Alone t · closing look t) b ts K
       → Out look Alone t c ts0 r0 b ts (λ d m. (e : Gap) × K e m)
-  statement_on t f c ts0 r0 h k b ts K q = f c ts0 r0 h k b ts _ (says_map (laid look Alone t) b ts _ _ (λ d m j. closing_on t d m K j) q)
+  statement_on t f i c ts0 r0 h k b ts K q = outer look Alone t f i c ts0 r0 h k b ts _ (says_map (laid look Alone t) b ts _ _ (λ d m j. closing_on t d m K j) q)
 
   -- ---- lists, by what they may hold and what closes them
 
-  module _ (may : Tree → Bool) (re_may : (l : Leaves) (m : Mode) (t : Tree) → may (redo l m t) ≡ may t) (flat : (t : Tree) → may t ≡ true → is_closed t ≡ true)
+  module _ (may : Tree → Bool) (re_may : (l : Leaves) (m : Mode) (t : Tree) → may (redo l m t) ≡ may t) (flat : (t : Tree) → may t ≡ true → (is_closed t ≡ true) × (is_inner t ≡ false))
       (close : Code → Input → Input → Type 0) (closed : (c : Code) (m r : Input) → close c m r → Known m.places → Known r.places) where
     cons : (c : Code) (starts : Bool) (u : Tree) (us : Trees) (a b : Bool) → is_use_strict u ≡ a → is_directive u ≡ b → may u ≡ true → (ts m r : Input) → Spells u (in_list (unplaced c)) ts m
         → Items may close (unplaced (if starts && a then turned_strict c else c)) (starts && b) (parts us) m r → Items may close (unplaced c) starts (parts (more u us)) ts r
@@ -104,7 +107,7 @@ module _ (look : Look) (x : Lexicon look.style) where
       more = v.more;
       known = v.known;
       first = first_token (is_weak t) (is_loose t) ts0 m0 ts z.m z.begins;
-      again = λ r tk. let w = z.again (follow_closed t m0 z.m (flat t i) v.first) in let o = v.again r tk in (
+      again = λ r tk. let w = z.again (follow_closed t m0 z.m (flat t i).0 v.first) in let o = v.again r tk in (
         more w.tree o.0,
         cons c starts w.tree o.0 (is_use_strict t) (is_directive t) w.directive (alike is_directive re_is_directive (leaves_of look) Plain t w.tree w.same) (alike may re_may (leaves_of look) Plain t w.tree w.same ∙ i) ts z.m r w.spelled o.1,
         more_same (leaves_of look) Plain t w.tree us o.0 w.same o.2,
@@ -116,10 +119,10 @@ module _ (look : Look) (x : Lexicon look.style) where
         → ((d : Gap) (m : Input) → K d m → kind m ≡ else_kind → ⊥) → says (rows look true ss) b ts K → Listed_again c starts ss ts0 r0 ts K
     rows_on c starts none a ts0 r0 h k b ts K peek q = none_on c starts ts0 r0 h k b ts K (peek b ts q) q
     rows_on c starts (more t none) a ts0 r0 h k b ts K peek q =
-        let z = statement_on t a.0 (in_list c) ts0 h.0 h.2 k b ts K q in
+        let z = statement_on t a.0 (flat t h.1).1 (in_list c) ts0 h.0 h.2 k b ts K q in
         more_on c starts t none h.1 ts0 h.0 r0 b ts _ K z (none_on _ _ h.0 r0 h.3 z.known z.more.0 z.m K (peek z.more.0 z.m z.more.1) z.more.1)
     rows_on c starts (more t (more u us)) a ts0 r0 h k b ts K peek q =
-        let z = statement_on t a.0 (in_list c) ts0 h.0 h.2 k b ts _ q in
+        let z = statement_on t a.0 (flat t h.1).1 (in_list c) ts0 h.0 h.2 k b ts _ q in
         let i = skip_line (formats look) z.more.0 z.m _ z.more.1 in
         more_on c starts t (more u us) h.1 ts0 h.0 r0 b ts _ K z (rows_on (if starts && is_use_strict t then turned_strict c else c) (starts && is_directive t) (more u us) a.1 h.0 r0 h.3 z.known i.0 z.m K peek i.1)
 
@@ -128,7 +131,7 @@ module _ (look : Look) (x : Lexicon look.style) where
         → ((d : Gap) (m : Input) → K d m → kind m ≡ else_kind → ⊥) → says (statements look ss) b ts K → Listed_again c starts ss ts0 r0 ts K
     statements_on c starts none a ts0 r0 h k b ts K peek q = none_on c starts ts0 r0 h k b ts K (peek b ts q) q
     statements_on c starts (more t us) a ts0 r0 h k b ts K peek q =
-        let z = statement_on t a.0 (in_list c) ts0 h.0 h.2 k b ts _ q in
+        let z = statement_on t a.0 (flat t h.1).1 (in_list c) ts0 h.0 h.2 k b ts _ q in
         more_on c starts t us h.1 ts0 h.0 r0 b ts _ K z (statements_on (if starts && is_use_strict t then turned_strict c else c) (starts && is_directive t) us a.1 h.0 r0 h.3 z.known z.more.0 z.m K peek z.more.1)
 
   -- ---- statements in braces (14.2, 15.2)
@@ -160,7 +163,7 @@ module _ (look : Look) (x : Lexicon look.style) where
   braced c starts (more s ss) a ts0 m0 r0 t h k b ts K pos q =
       let i = skip_line (formats look) Touching q.0 _ q.2 in
       let j = skip_deeper (formats look) i.0 q.0 _ i.1 in
-      let z = rows_on is_item re_is_item item_closed ClosesBlock closes_known c starts (more s ss) a m0 r0 h (x.later ts0 m0 t.2 k) i.0 q.0 _
+      let z = rows_on is_item re_is_item item_flat ClosesBlock closes_known c starts (more s ss) a m0 r0 h (x.later ts0 m0 t.2 k) i.0 q.0 _
       (λ d m u. let v = skip_line (formats look) d m _ (skip_back (formats look) d m _ u) in λ e. brace_no_else (sym (marked look x right_brace_kind v.1.1) ∙ e)) j in
       let v = skip_line (formats look) z.d z.m _ (skip_back (formats look) z.d z.m _ z.more) in
       let o = v.1 in let w = z.again o.0 (λ n. took look x n right_brace_kind o.1) in record {

@@ -7,6 +7,7 @@ use Rattle.ecma_syntax.specs.Operators.{assignment_level}
 use Rattle.ecma_syntax.specs.Shape.{is_absent, level}
 use Rattle.ecma_grammar.specs.Grammar.{Spells}
 use Rattle.ecma_grammar.specs.Parts.{By, Ends, Expr, part}
+use Rattle.ecma_grammar_complete_base.proofs.Trees.{begins}
 use Rattle.ecma_edge.specs.Edges.{is_there}
 use Rattle.ecma_layout.specs.Layout.{laid}
 use Rattle.ecma_layout.specs.Looks.{formats, gap, text, when, ◌·◌}
@@ -19,6 +20,7 @@ use Rattle.ecma_written.specs.Says.{SemicolonMayGo}
 use Rattle.ecma_written.specs.Told.{says}
 use Rattle.ecma_redone.specs.Redo.{Leaves, Mode, Plain, Same}
 use Rattle.ecma_redone.specs.Written.{leaves_of}
+use Rattle.ecma_redone_base.proofs.Begins.{Begins, before}
 use Rattle.ecma_redone_base.proofs.Follow.{calm, closed_calm, closes, no_item}
 use Rattle.ecma_redone_base.proofs.Shapes.{alike, re_is_absent}
 use Rattle.ecma_redone_base.proofs.Sound.{Sound, expr, expr_low}
@@ -40,6 +42,9 @@ absent_same l m _ e = absurd (true≢false (sym e))
 pub unabsent : (v : Bool) (A B : Type 0) → v ≡ false → B → By v A B
 unabsent true A B e h = absurd (true≢false e)
 unabsent false A B e h = h
+
+assign_function : assign_kind ≡ function_kind → ⊥
+assign_function e = omega arith
 
 -- ---- where a semicolon stands or may go
 
@@ -73,6 +78,8 @@ module _ (look : Look) (x : Lexicon look.style) where
     pub more : K d m
     pub known : Known r0.places
     pub calms : calm m ≡ true → calm ts ≡ true
+    -- where what stands before begins as it did, so does the whole
+    pub begins : (n0 n : Input) → Begins false n0 m0 n ts → Begins false n0 r0 n m
     pub again : calm m ≡ true → (u : Tree) × By (is_absent u) (ts ≡ m) ((n : Input) × Takes (unplaced c) assign_kind ts n × Expr assignment_level (unplaced o) (part u (λ y. Spells u y)) n m) × Same (leaves_of look) Plain e u
 
   pub initial_on : (e : Tree) → Sound look Alone e → (c o : Code) (v : Bool) → is_absent e ≡ v → (m0 r0 : Input) → By v (m0 ≡ r0) ((n : Input) × Takes c assign_kind m0 n × Expr assignment_level o (part e (λ y. Spells e y)) n r0) → Known m0.places → (b : Gap) (ts : Input) (K : Gap → Input → Type 0)
@@ -83,6 +90,7 @@ module _ (look : Look) (x : Lexicon look.style) where
     more = q;
     known = subst (λ (i : Input). Known i.places) h k;
     calms = λ g. g;
+    begins = λ n0 n g. subst (λ (i : Input). Begins false n0 i n ts) h g;
     again = λ g. (absent, refl, absent_same (leaves_of look) Plain e a);
   }
   initial_on e f c o false a m0 r0 h k b ts K q =
@@ -94,6 +102,7 @@ module _ (look : Look) (x : Lexicon look.style) where
         more = y.more;
         known = y.known;
         calms = λ g. closed_calm ts assign_kind (marked look x assign_kind i.1) refl;
+        begins = λ n0 n g. before n0 m0 n ts r0 y.m (λ e. e) g (marked look x assign_kind i.1 ∙ sym h.1.0) (λ e. assign_function (sym (marked look x assign_kind i.1) ∙ e));
         again = λ g. let w = y.again (record { quiet = λ z. g; other = λ z. absurd (no_item e (above assignment_level (level e) (omega arith) h.2.0) z) }) in
             (w.tree, unabsent (is_absent w.tree) _ _ (alike is_absent re_is_absent (leaves_of look) Plain e w.tree w.same ∙ a) (i.0, took look x c assign_kind i.1, expr_low look assignment_level Alone e o i.0 y.m h.2.0 (omega arith) w), w.same);
       }

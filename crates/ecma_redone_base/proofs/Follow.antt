@@ -1,10 +1,11 @@
 -- What may follow the tokens of a tree so that they are derived again: nothing that goes on with them.
 use Rattle.std.proofs.Common.{Bool, arith, cond, false, nat_le, not, refl, subst, sym, true, true≢false, ℕ, ◌&&◌, ◌<◌, ◌==◌, ◌||◌, ◌∙◌, ◌≡◌, ◌≤◌}
 use Rattle.ecma_token.specs.Kinds.{back_quote_kind, comma_kind, dot_kind, else_kind, left_bracket_kind, left_paren_kind, question_mark_kind}
-use Rattle.ecma_tree.specs.Tree.{Tree, block_stmt, break_stmt, class_decl, continue_stmt, debugger_stmt, do_while_stmt, empty_stmt, expr_stmt, fn_decl, for_in_stmt, for_of_stmt, for_stmt, if_stmt, labeled_stmt, return_stmt, switch_stmt, throw_stmt, try_stmt, using_decl, var_decl, while_stmt, with_stmt}
+use Rattle.ecma_tree.specs.Tree.{Tree, block_stmt, break_stmt, class_decl, continue_stmt, debugger_stmt, do_while_stmt, empty_stmt, export_all, export_decl, export_default_decl, export_default_expr, expr_stmt, fn_decl, for_in_stmt, for_of_stmt, for_stmt, if_stmt, import_decl, labeled_stmt, named_export, return_stmt, switch_stmt, throw_stmt, try_stmt, using_decl, var_decl, while_stmt, with_stmt}
 use Rattle.ecma_syntax.specs.Input.{Code, Input, brk, kind, kind2}
 use Rattle.ecma_syntax.specs.Operators.{binary_level, call_level, goes_expr}
-use Rattle.ecma_syntax.specs.Shape.{is_item, is_key, is_member, is_module_decl, is_private, level}
+use Rattle.ecma_syntax.specs.Shape.{is_default_decl, is_item, is_key, is_member, is_module_decl, is_private, level}
+use Rattle.ecma_grammar.specs.Parts.{is_module_item}
 use Rattle.ecma_grammar_complete_base.proofs.Levels.{binary_low}
 use Rattle.ecma_layout.specs.Layout.{is_head as is_head_stand}
 use Rattle.ecma_layout.specs.declared.look.Stand.{Stand}
@@ -22,14 +23,14 @@ closes k = not ((k == left_paren_kind) || ((k == left_bracket_kind) || ((k == do
 
 -- what ends a statement or a member is its own, and nothing goes on with a name after a point
 abbrev pub is_closed : Tree → Bool
-is_closed t = is_item t || (is_member t || (is_module_decl t || (is_key t || is_private t)))
+is_closed t = is_item t || (is_member t || (is_module_decl t || (is_key t || (is_private t || is_default_decl t))))
 
 abbrev pub needs_calm : Stand → Tree → Bool
 needs_calm s t = not (is_closed t) && not (nat_le 18 (level t) && is_head_stand s)
 
 pub record Follow (s : Stand) (t : Tree) (r m : Input) : Type 0 where
   pub quiet : needs_calm s t ≡ true → calm m ≡ true
-  pub other : is_item t ≡ true → kind m ≡ else_kind → kind r ≡ else_kind
+  pub other : is_module_item t ≡ true → kind m ≡ else_kind → kind r ≡ else_kind
 
 or_false : (a b : Bool) → not (a || b) ≡ true → (a ≡ false) × (not b ≡ true)
 or_false true b e = absurd (true≢false (sym e))
@@ -58,7 +59,7 @@ closed_calm m k e h = subst (λ (x : ℕ). calm_of x (kind2 m) ≡ true) (sym e)
 pub follow_by : (s : Stand) (t : Tree) (r m : Input) (k : ℕ) → kind m ≡ k → closes k ≡ true → Follow s t r m
 follow_by s t r m k e h = record { quiet = λ q. closed_calm m k e h; other = λ i q. absurd (closes_else k h (sym e ∙ q)) }
 
-pub no_item : (t : Tree) → 1 ≤ level t → is_item t ≡ true → ⊥
+pub no_item : (t : Tree) → 1 ≤ level t → is_module_item t ≡ true → ⊥
 no_item (block_stmt s ss) h i = omega arith
 no_item (empty_stmt s) h i = omega arith
 no_item (debugger_stmt s) h i = omega arith
@@ -81,6 +82,12 @@ no_item (var_decl s k ds) h i = omega arith
 no_item (class_decl s n k) h i = omega arith
 no_item (fn_decl s n f) h i = omega arith
 no_item (using_decl s w ds) h i = omega arith
+no_item (import_decl s xs f w) h i = omega arith
+no_item (export_decl s d) h i = omega arith
+no_item (named_export s xs f w) h i = omega arith
+no_item (export_default_decl s d) h i = omega arith
+no_item (export_default_expr s e) h i = omega arith
+no_item (export_all s f w) h i = omega arith
 no_item _ h i = true≢false (sym i)
 
 -- what may follow another that ends there as well

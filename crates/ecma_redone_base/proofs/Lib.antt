@@ -7,3 +7,4 @@ pub mod Sound
 pub mod Lists
 pub mod Ends
 pub mod Bodies
+pub mod Names

@@ -4,12 +4,12 @@ use Rattle.ecma_token.specs.Kinds.{comma_kind, function_kind}
 use Rattle.ecma_lexeme.specs.declared.goal.LexicalGoal.TheVariants.{Div}
 use Rattle.ecma_tree.specs.Tree.{Tree, Trees, hole, more, none}
 use Rattle.ecma_syntax.specs.Input.{Code, Input, Takes, brk, kind, unplaced}
-use Rattle.ecma_syntax.specs.Shape.{is_hole, is_item, is_rest, level}
+use Rattle.ecma_syntax.specs.Shape.{is_hole, is_rest, level}
 use Rattle.ecma_grammar.specs.Grammar.{Spells, parts}
-use Rattle.ecma_grammar.specs.Parts.{By, CommaThen, Expr, IsEmpty, Listed, Part, Sorted, part}
+use Rattle.ecma_grammar.specs.Parts.{By, CommaThen, Expr, IsEmpty, Listed, Part, Sorted, is_module_item, part}
 use Rattle.ecma_grammar_complete_base.proofs.Trees.{begins}
-use Rattle.ecma_layout.specs.Layout.{comma, comma_line, ends_with_hole, is_variables, laid, separated}
-use Rattle.ecma_layout.specs.Looks.{Laid, both, formats, semi, when}
+use Rattle.ecma_layout.specs.Layout.{comma, comma_line, ends_with_hole, laid, separated}
+use Rattle.ecma_layout.specs.Looks.{Laid, both, formats, when}
 use Rattle.ecma_layout.specs.declared.look.Look.{Look}
 use Rattle.ecma_layout.specs.declared.look.Stand.TheVariants.{Alone}
 use Rattle.ecma_written.specs.Gaps.{Gap, Touching, is_broken}
@@ -19,10 +19,10 @@ use Rattle.ecma_written.specs.Texts.{mark_text}
 use Rattle.ecma_written.specs.Told.{Told, says}
 use Rattle.ecma_redone.specs.Redo.{AllSame, Leaves, Mode, Plain, Same, redo}
 use Rattle.ecma_redone.specs.Written.{leaves_of}
-use Rattle.ecma_redone_base.proofs.Begins.{Starts, is_loose, is_weak, starts_on}
+use Rattle.ecma_redone_base.proofs.Begins.{Starts, is_loose, is_part, is_weak, starts_on}
 use Rattle.ecma_redone_base.proofs.Follow.{calm, closed_calm, closes, no_item}
 use Rattle.ecma_redone_base.proofs.Shapes.{alike, re_is_hole, re_is_rest}
-use Rattle.ecma_redone_base.proofs.Sound.{AllSound, Sound, expr, expr_low, tight_of}
+use Rattle.ecma_redone_base.proofs.Sound.{AllSound, Sound, expr, expr_low, plain_part, tight_of}
 use Rattle.ecma_redone_base.proofs.Tokens.{gapped, marked, skip, skip_line, took}
 
 pub none_same : (l : Leaves) → AllSame l Plain none none
@@ -69,9 +69,9 @@ module _ (look : Look) (x : Lexicon look.style) where
       → says (laid look Alone t) b ts K → Got Q t ts0 r0 b ts K
 
   -- of a sort
-  pub sorted : (is_sort : Tree → Bool) → ((l : Leaves) (m : Mode) (t : Tree) → is_sort (redo l m t) ≡ is_sort t) → ((t : Tree) → is_sort t ≡ true → (is_variables t ≡ false) × (is_item t ≡ false)) → (c : Code) → Each (Sorted is_sort c) (Sorted is_sort (unplaced c))
+  pub sorted : (is_sort : Tree → Bool) → ((l : Leaves) (m : Mode) (t : Tree) → is_sort (redo l m t) ≡ is_sort t) → ((t : Tree) → is_sort t ≡ true → (is_part t ≡ true) × (is_module_item t ≡ false)) → (c : Code) → Each (Sorted is_sort c) (Sorted is_sort (unplaced c))
   sorted is_sort re nv c t f ts0 r0 h k b ts K q =
-      let z = f c ts0 r0 h.1 k b ts K (subst (λ (v : Bool). says (both (laid look Alone t) (when v semi)) b ts K) (sym (nv t h.0).0) q) in record {
+      let z = plain_part look Alone t f (nv t h.0).0 c ts0 r0 h.1 k b ts K q in record {
         d = z.d;
         m = z.m;
         more = z.more;

@@ -18,7 +18,7 @@ use Rattle.ecma_written.specs.Means.{Known}
 use Rattle.ecma_written.specs.Told.{says}
 use Rattle.ecma_redone.specs.Redo.{Headed, Mode, Same}
 use Rattle.ecma_redone.specs.Written.{leaves_of, mode_of}
-use Rattle.ecma_redone_base.proofs.Begins.{Begins, Starts, begun, is_loose, is_weak, no_variables, strong}
+use Rattle.ecma_redone_base.proofs.Begins.{Begins, Starts, begun, is_inner, is_loose, is_part, is_weak, level_part, part_outer, part_variables, strong}
 use Rattle.ecma_redone_base.proofs.Follow.{Follow}
 use Rattle.ecma_redone_base.proofs.Levels.{level_head, level_low}
 
@@ -61,24 +61,34 @@ pub record Out (look : Look) (s : Stand) (t : Tree) (c : Code) (ts0 r0 : Input) 
   pub again : Follow s t r0 m → Again look (mode_of s) t c ts m
 
 -- Whatever a tree spells in a code, what the layout of it says is derived in this code again.
+abbrev pub Claim : Look → Stand → Tree → Type 1
+Claim look s t = (c : Code) (ts0 r0 : Input) → Spells t c ts0 r0 → Known ts0.places → (b : Gap) (ts : Input) (K : Gap → Input → Type 0) → says (full look s t) b ts K → Out look s t c ts0 r0 b ts K
+
+-- the same of all but inner parts
+abbrev pub Unless : Bool → Type 1 → Type 1
+Unless true A = Unit {1}
+Unless false A = A
+
 abbrev pub Sound : Look → Stand → Tree → Type 1
-Sound look s t = (c : Code) → (ts0 r0 : Input) → Spells t c ts0 r0 → Known ts0.places → (b : Gap) (ts : Input) (K : Gap → Input → Type 0) → says (full look s t) b ts K → Out look s t c ts0 r0 b ts K
+Sound look s t = Unless (is_inner t) (Claim look s t)
 
 abbrev pub AllSound : Look → Trees → Type 1
 AllSound look none = Unit {1}
 AllSound look (more t ts) = Sound look Alone t × AllSound look ts
 
 module _ (look : Look) where
+  pub outer : (s : Stand) (t : Tree) → Sound look s t → is_inner t ≡ false → Claim look s t
+  outer s t f e = subst (λ (v : Bool). Unless v (Claim look s t)) e f
+
   -- ---- parts of a production
 
-  pub plain_part : (s : Stand) (e : Tree) → Sound look s e → is_variables e ≡ false → (c : Code) → (ts0 r0 : Input) → Spells e c ts0 r0 → Known ts0.places
+  pub plain_part : (s : Stand) (e : Tree) → Sound look s e → is_part e ≡ true → (c : Code) (ts0 r0 : Input) → Spells e c ts0 r0 → Known ts0.places
       → (b : Gap) (ts : Input) (K : Gap → Input → Type 0) → says (laid look s e) b ts K → Out look s e c ts0 r0 b ts K
-  plain_part s e f n c ts0 r0 h k b ts K q = f c ts0 r0 h k b ts K (subst (λ (v : Bool). says (both (laid look s e) (when v semi)) b ts K) (sym n) q)
+  plain_part s e f n c ts0 r0 h k b ts K q = outer s e f (part_outer e n) c ts0 r0 h k b ts K (subst (λ (v : Bool). says (both (laid look s e) (when v semi)) b ts K) (sym (part_variables e n)) q)
 
   pub expr : (l : ℕ) (s : Stand) (e : Tree) → Sound look s e → 1 ≤ l → (c : Code) (ts0 r0 : Input) → Expr l c (part e (λ y. Spells e y)) ts0 r0 → Known ts0.places
       → (b : Gap) (ts : Input) (K : Gap → Input → Type 0) → says (laid look s e) b ts K → Out look s e (assigning c) ts0 r0 b ts K
-  expr l s e f n c ts0 r0 h k b ts K q = f (assigning c) ts0 r0 h.1 k b ts K
-      (subst (λ (v : Bool). says (both (laid look s e) (when v semi)) b ts K) (sym (no_variables e (omega (arith, n, h.0)))) q)
+  expr l s e f n c ts0 r0 h k b ts K q = plain_part s e f (level_part e (omega (arith, n, h.0))) (assigning c) ts0 r0 h.1 k b ts K q
 
   pub expr_begins : (s : Stand) (e : Tree) (c : Code) (ts0 r0 : Input) (b : Gap) (ts : Input) (K : Gap → Input → Type 0) → 1 ≤ level e → (o : Out look s e c ts0 r0 b ts K) → Begins (is_loose e) ts0 r0 ts o.m
   expr_begins s e c ts0 r0 b ts K h o = begun (is_weak e) (is_loose e) ts0 r0 ts o.m (strong e h) o.begins

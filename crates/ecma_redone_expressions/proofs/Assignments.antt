@@ -10,7 +10,6 @@ use Rattle.ecma_syntax.specs.Input.{assigning, lo, span}
 use Rattle.ecma_syntax.specs.Operators.{assignment_level, is_assign_op}
 use Rattle.ecma_syntax.specs.Shape.{is_target, level}
 use Rattle.ecma_grammar_complete_base.proofs.Trees.{begins}
-use Rattle.ecma_layout.specs.Layout.{is_variables}
 use Rattle.ecma_layout.specs.Looks.{formats, last}
 use Rattle.ecma_layout.specs.declared.look.Look.{Look}
 use Rattle.ecma_layout.specs.declared.look.Stand.{Stand}
@@ -18,7 +17,7 @@ use Rattle.ecma_layout.specs.declared.look.Stand.TheVariants.{Alone}
 use Rattle.ecma_written.specs.Lexicon.{Lexicon}
 use Rattle.ecma_redone.specs.Redo.{Plain}
 use Rattle.ecma_redone.specs.Written.{leaves_of}
-use Rattle.ecma_redone_base.proofs.Begins.{before, begun, is_loose, is_weak}
+use Rattle.ecma_redone_base.proofs.Begins.{before, begun, is_loose, is_part, is_weak}
 use Rattle.ecma_redone_base.proofs.Ends.{above}
 use Rattle.ecma_redone_base.proofs.Follow.{closes, follow_by, follow_on}
 use Rattle.ecma_redone_base.proofs.Shapes.{alike, re_is_target}
@@ -41,7 +40,7 @@ and_off : (b : Bool) → (b && false) ≡ true → ⊥
 and_off true h = true≢false (sym h)
 and_off false h = true≢false (sym h)
 
-target_plain : (op : ℕ) (t : Tree) → is_target op t ≡ true → (is_variables t ≡ false) × (is_weak t ≡ false)
+target_plain : (op : ℕ) (t : Tree) → is_target op t ≡ true → (is_part t ≡ true) × (is_weak t ≡ false)
 target_plain op (binding_ident s i) h = (refl, refl)
 target_plain op (array_pat s xs) h = (refl, refl)
 target_plain op (object_pat s ps) h = (refl, refl)

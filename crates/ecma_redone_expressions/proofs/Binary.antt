@@ -12,7 +12,7 @@ use Rattle.ecma_syntax.specs.Shape.{fits_left, is_private, level}
 use Rattle.ecma_grammar_complete_base.proofs.Levels.{binary_low, fits, not_binary, operated, right_five, right_most}
 use Rattle.ecma_grammar_complete_base.proofs.Trees.{begins}
 use Rattle.ecma_edge.specs.Edges.{gap_after, gap_before}
-use Rattle.ecma_layout.specs.Layout.{is_head as is_head_stand, is_variables, marked_as_operand}
+use Rattle.ecma_layout.specs.Layout.{is_head as is_head_stand, marked_as_operand}
 use Rattle.ecma_layout.specs.Looks.{formats, last}
 use Rattle.ecma_layout.specs.declared.look.Look.{Look}
 use Rattle.ecma_layout.specs.declared.look.Stand.{Stand}
@@ -20,7 +20,7 @@ use Rattle.ecma_layout.specs.declared.look.Stand.TheVariants.{Alone, Operand}
 use Rattle.ecma_written.specs.Lexicon.{Lexicon}
 use Rattle.ecma_redone.specs.Redo.{Plain}
 use Rattle.ecma_redone.specs.Written.{leaves_of}
-use Rattle.ecma_redone_base.proofs.Begins.{before, begun, is_loose, is_weak, no_variables, strong}
+use Rattle.ecma_redone_base.proofs.Begins.{before, begun, is_loose, is_part, is_weak, level_part, strong}
 use Rattle.ecma_redone_base.proofs.Ends.{above}
 use Rattle.ecma_redone_base.proofs.Follow.{closes, follow_by, follow_on}
 use Rattle.ecma_redone_base.proofs.Levels.{level_below, level_low}
@@ -44,10 +44,10 @@ no_function op h e = let z : 1 ≤ binary_level function_kind = subst (λ (k : �
 low_calm : (st : Stand) (op : ℕ) → (not false && not (leb 18 (binary_level op) && is_head_stand st)) ≡ true
 low_calm st op = subst (λ (v : Bool). not (v && is_head_stand st) ≡ true) (sym (lt-leb 18 (binary_level op) (omega (arith, binary_low op)))) refl
 
-left_plain : (op : ℕ) (a : Tree) → 1 ≤ binary_level op → fits_left op a ≡ true → is_variables a ≡ false
-left_plain op a o h = ⊎_elim (λ (p : is_private a ≡ true). private_plain a p) (λ (p : is_private a ≡ false). no_variables a (omega (arith, o, (fits op a p o h).0))) (cases_Bool (is_private a))
+left_plain : (op : ℕ) (a : Tree) → 1 ≤ binary_level op → fits_left op a ≡ true → is_part a ≡ true
+left_plain op a o h = ⊎_elim (λ (p : is_private a ≡ true). private_plain a p) (λ (p : is_private a ≡ false). level_part a (omega (arith, o, (fits op a p o h).0))) (cases_Bool (is_private a))
   where
-    private_plain : (a : Tree) → is_private a ≡ true → is_variables a ≡ false
+    private_plain : (a : Tree) → is_private a ≡ true → is_part a ≡ true
     private_plain (private_name s n) p = refl
     private_plain _ p = absurd (true≢false (sym p))
 

@@ -6,12 +6,12 @@ use Rattle.ecma_tree.specs.Places.{no_place}
 use Rattle.ecma_tree.specs.Tree.{Tree, Trees, call_expr, expr_or_spread, import, more, none, super}
 use Rattle.ecma_syntax.specs.Input.{Code, Input, Takes, assigning, kind, lo, span, unplaced}
 use Rattle.ecma_syntax.specs.Operators.{call_level}
-use Rattle.ecma_syntax.specs.Shape.{is_chain, is_element, is_item, is_spread, level}
+use Rattle.ecma_syntax.specs.Shape.{is_chain, is_element, is_spread, level}
 use Rattle.ecma_grammar.specs.Expressions.{ArgumentList, Arguments, Call, ImportArguments, is_at_most_one, is_plain_element}
 use Rattle.ecma_grammar.specs.Grammar.{Spells, parts}
-use Rattle.ecma_grammar.specs.Parts.{By, IsEmpty, Listed, Sorted, part}
+use Rattle.ecma_grammar.specs.Parts.{By, IsEmpty, Listed, Sorted, is_module_item, part}
 use Rattle.ecma_grammar_complete_base.proofs.Trees.{begins}
-use Rattle.ecma_layout.specs.Layout.{comma, in_parens, is_variables, laid, separated}
+use Rattle.ecma_layout.specs.Layout.{comma, in_parens, laid, separated}
 use Rattle.ecma_layout.specs.Looks.{last, text, ◌·◌}
 use Rattle.ecma_layout.specs.declared.look.Look.{Look}
 use Rattle.ecma_layout.specs.declared.look.Stand.{Stand}
@@ -22,7 +22,7 @@ use Rattle.ecma_written.specs.Means.{Known}
 use Rattle.ecma_written.specs.Told.{says}
 use Rattle.ecma_redone.specs.Redo.{AllSame, Headed, Leaves, Mode, Plain, kept, redo, redos}
 use Rattle.ecma_redone.specs.Written.{leaves_of}
-use Rattle.ecma_redone_base.proofs.Begins.{before, firm, led}
+use Rattle.ecma_redone_base.proofs.Begins.{before, firm, is_part, led}
 use Rattle.ecma_redone_base.proofs.Ends.{above}
 use Rattle.ecma_redone_base.proofs.Follow.{closed_calm}
 use Rattle.ecma_redone_base.proofs.Lists.{Gone, comma_on, listed, more_same, none_same, sorted}
@@ -31,7 +31,7 @@ use Rattle.ecma_redone_base.proofs.Sound.{AllSound, Out, Sound, expr, expr_begin
 use Rattle.ecma_redone_base.proofs.Tokens.{keyed, marked, took, worded}
 use Rattle.ecma_redone_expressions.proofs.Heads.{at_least_new, follow_head, no_seven, over_call}
 
-pub element_plain : (t : Tree) → is_element t ≡ true → (is_variables t ≡ false) × (is_item t ≡ false)
+pub element_plain : (t : Tree) → is_element t ≡ true → (is_part t ≡ true) × (is_module_item t ≡ false)
 element_plain (expr_or_spread s d e) h = (refl, refl)
 element_plain _ h = absurd (true≢false (sym h))
 

@@ -6,16 +6,16 @@ use Rattle.ecma_token.specs.Tokens.{Numeral, after}
 use Rattle.ecma_token.specs.declared.place.Span.{Span}
 use Rattle.ecma_lexeme.specs.declared.goal.LexicalGoal.TheVariants.{Div}
 use Rattle.ecma_tree.specs.Places.{no_place}
-use Rattle.ecma_tree.specs.Tree.{Tree, computed_prop_name, ident_name, member_expr, more, number_lit, private_name, super, super_prop_expr, using_decl, var_decl}
+use Rattle.ecma_tree.specs.Tree.{Tree, computed_prop_name, ident_name, member_expr, more, number_lit, private_name, super, super_prop_expr}
 use Rattle.ecma_syntax.specs.Input.{Code, Input, Spans, TakesWord, assigning, brk, content, escaped, is_word, kind, lo, span, unplaced, with_in}
 use Rattle.ecma_syntax.specs.Operators.{call_level, expression_level}
-use Rattle.ecma_syntax.specs.Shape.{is_chain, is_item, is_private, is_word_name, level}
+use Rattle.ecma_syntax.specs.Shape.{is_chain, is_private, is_word_name, level}
 use Rattle.ecma_grammar.specs.Expressions.{Bracketed, Dotted, Member, SuperProperty}
 use Rattle.ecma_grammar.specs.Grammar.{Spells}
-use Rattle.ecma_grammar.specs.Parts.{Expr, part}
+use Rattle.ecma_grammar.specs.Parts.{Expr, is_module_item, part}
 use Rattle.ecma_grammar_complete_base.proofs.Trees.{begins}
 use Rattle.ecma_spell_number.specs.Numbers.{before_member}
-use Rattle.ecma_layout.specs.Layout.{is_computed, is_variables, laid, number_before, point_before}
+use Rattle.ecma_layout.specs.Layout.{is_computed, laid, number_before, point_before}
 use Rattle.ecma_layout.specs.Literals.{name_bytes, number, number_before_point, number_bytes}
 use Rattle.ecma_layout.specs.Looks.{Laid, end, last, start, text, when, ◌·◌}
 use Rattle.ecma_layout.specs.declared.look.Look.{Look}
@@ -27,7 +27,7 @@ use Rattle.ecma_written.specs.Means.{Known, Means}
 use Rattle.ecma_written.specs.Told.{says}
 use Rattle.ecma_redone.specs.Redo.{Headed, Leaves, Mode, Plain, Pointed, Same, is_head, object_mode, redo}
 use Rattle.ecma_redone.specs.Written.{leaves_of, mode_of}
-use Rattle.ecma_redone_base.proofs.Begins.{Begins, before, firm, is_loose, led, tighten}
+use Rattle.ecma_redone_base.proofs.Begins.{Begins, before, firm, is_loose, is_part, led, tighten}
 use Rattle.ecma_redone_base.proofs.Ends.{above}
 use Rattle.ecma_redone_base.proofs.Follow.{Follow, follow_by, needs_calm}
 use Rattle.ecma_redone_base.proofs.Levels.{level_head}
@@ -71,10 +71,10 @@ pub named_no_computed : (k : Tree) → (is_word_name k || (true && is_private k)
 named_no_computed (computed_prop_name s e) h = absurd (true≢false (sym h))
 named_no_computed _ h = refl
 
-pub named_plain : (k : Tree) → (is_word_name k || (true && is_private k)) ≡ true → is_variables k ≡ false
-named_plain (var_decl s k ds) h = absurd (true≢false (sym h))
-named_plain (using_decl s w ds) h = absurd (true≢false (sym h))
-named_plain _ h = refl
+pub named_plain : (k : Tree) → (is_word_name k || (true && is_private k)) ≡ true → is_part k ≡ true
+named_plain (ident_name t n) h = refl
+named_plain (private_name t n) h = refl
+named_plain _ h = absurd (true≢false (sym h))
 
 pub named_tight : (k : Tree) → (is_word_name k || (true && is_private k)) ≡ true → is_tight k ≡ true
 named_tight (ident_name t n) h = refl
@@ -86,7 +86,7 @@ named_still (ident_name t n) h z = true≢false (sym z)
 named_still (private_name t n) h z = true≢false (sym z)
 named_still _ h z = true≢false (sym h)
 
-pub named_no_item : (k : Tree) → (is_word_name k || (true && is_private k)) ≡ true → is_item k ≡ true → ⊥
+pub named_no_item : (k : Tree) → (is_word_name k || (true && is_private k)) ≡ true → is_module_item k ≡ true → ⊥
 named_no_item (ident_name t n) h z = true≢false (sym z)
 named_no_item (private_name t n) h z = true≢false (sym z)
 named_no_item _ h z = true≢false (sym h)

@@ -23,7 +23,7 @@ use Rattle.ecma_written.specs.Means.{Known}
 use Rattle.ecma_written.specs.Told.{says}
 use Rattle.ecma_redone.specs.Redo.{AllSame, Headed, Plain, is_head, redo, redos}
 use Rattle.ecma_redone.specs.Written.{given_none, leaves_of, mode_of, new_arguments}
-use Rattle.ecma_redone_base.proofs.Begins.{led, no_variables}
+use Rattle.ecma_redone_base.proofs.Begins.{led, level_part}
 use Rattle.ecma_redone_base.proofs.Follow.{low_goes, needs_calm}
 use Rattle.ecma_redone_base.proofs.Levels.{callee_level}
 use Rattle.ecma_redone_base.proofs.Lists.{none_same}
@@ -109,7 +109,7 @@ module _ (look : Look) (x : Lexicon look.style) where
       → is_args a ≡ true
       → (b : Gap) (ts : Input) (K : Gap → Input → Type 0) → says (full look st (new_expr s e a)) b ts K → Out look st (new_expr s e a) c ts0 r0 b ts K
   new_on s e a f st c ts0 m0 n0 r0 t h v l g without p b ts K q =
-      let y = plain_part look Head e f (no_variables e (callee_there e v)) (assigning c) m0 n0 h (x.later ts0 m0 t.3 l) _ q.0 _ (skip (starts_with_word e || formats look) _ _ _ q.2) in
+      let y = plain_part look Head e f (level_part e (callee_there e v)) (assigning c) m0 n0 h (x.later ts0 m0 t.3 l) _ q.0 _ (skip (starts_with_word e || formats look) _ _ _ q.2) in
       by y (asks st a) refl y.more
     where
       by : (y : Out look Head e (assigning c) m0 n0 (gapped (starts_with_word e || formats look) Touching) q.0 (λ d m. says (when (asks st a) (in_parens (laid look Alone a))) d m K)) (j : Bool) → asks st a ≡ j → says (when j (in_parens (laid look Alone a))) y.d y.m K → Out look st (new_expr s e a) c ts0 r0 b ts K

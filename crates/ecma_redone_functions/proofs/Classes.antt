@@ -16,7 +16,7 @@ use Rattle.ecma_grammar.specs.Grammar.{Spells, parts}
 use Rattle.ecma_grammar.specs.Parts.{By, Ends, Expr, Maybe, is_ident, part}
 use Rattle.ecma_grammar_complete_base.proofs.Trees.{begins}
 use Rattle.ecma_edge.specs.Edges.{is_there, starts_with_word}
-use Rattle.ecma_layout.specs.Layout.{after_static, class_tail, comma, count, field_value, function_tail, in_parens, indented_or_line, is_sequence, is_variables, laid, method_marks, rows, separated, word}
+use Rattle.ecma_layout.specs.Layout.{after_static, class_tail, comma, count, field_value, function_tail, in_parens, indented_or_line, is_sequence, laid, method_marks, rows, separated, word}
 use Rattle.ecma_layout.specs.Looks.{Laid, blank, brace, formats, gap, gap_or, last, line, semi, text, when, ◌·◌}
 use Rattle.ecma_layout.specs.declared.look.Look.{Look}
 use Rattle.ecma_layout.specs.declared.look.Stand.{Stand}
@@ -27,15 +27,16 @@ use Rattle.ecma_written.specs.Means.{Known}
 use Rattle.ecma_written.specs.Told.{says}
 use Rattle.ecma_redone.specs.Redo.{AllSame, Leaves, Mode, Plain, Same, kept, redo}
 use Rattle.ecma_redone.specs.Written.{constructor_word, leaves_of, written_constructor_key, written_key}
-use Rattle.ecma_redone_base.proofs.Begins.{first_token, is_loose, is_weak, led}
+use Rattle.ecma_redone_base.proofs.Begins.{first_token, is_loose, is_part, is_weak, led}
 use Rattle.ecma_redone_base.proofs.Bodies.{braced, follow_closed}
 use Rattle.ecma_redone_base.proofs.Ends.{above, absent_same, ended_known, quiet_at, there, unabsent}
 use Rattle.ecma_redone_base.proofs.Follow.{calm, follow_by, is_closed, no_item}
 use Rattle.ecma_redone_base.proofs.Lists.{more_same, none_same}
+use Rattle.ecma_redone_base.proofs.Names.{id_on, maybe_on}
 use Rattle.ecma_redone_base.proofs.Shapes.{alike, re_is_absent}
 use Rattle.ecma_redone_base.proofs.Sound.{AllSound, Out, Sound, expr, expr_low, plain_part}
 use Rattle.ecma_redone_base.proofs.Tokens.{blank_broke, ended, gapped, keyed, marked, semi_of, skip, skip_back, skip_deeper, skip_line, took, unbarred, worded}
-use Rattle.ecma_redone_functions.proofs.Functions.{count_same, id_on, maybe_on, parameters_on, same_functions, tail_on}
+use Rattle.ecma_redone_functions.proofs.Functions.{count_same, parameters_on, same_functions, tail_on}
 use Rattle.ecma_redone_functions.proofs.Keys.{KeyAgain, any_key_on, key_on, private_key_on}
 use Rattle.ecma_redone_functions.proofs.Objects.{marks_on}
 use Rattle.ecma_redone_functions.proofs.Quoted.{constructor_means}
@@ -66,7 +67,7 @@ re_is_member l m (auto_accessor s k v i ds) = refl
 re_is_member l m (empty_stmt s) = refl
 re_is_member l m _ = refl
 
-member_plain : (t : Tree) → is_member t ≡ true → (is_variables t ≡ false) × (is_closed t ≡ true)
+member_plain : (t : Tree) → is_member t ≡ true → (is_part t ≡ true) × (is_closed t ≡ true)
 member_plain (constructor s k ps b) h = (refl, refl)
 member_plain (class_method s k f n i) h = (refl, refl)
 member_plain (private_method s k f n i) h = (refl, refl)

@@ -1,19 +1,18 @@
 -- Parameters and functions derived again (15.1, 15.2, 15.5, 15.6, 15.8).
-use Rattle.std.proofs.Common.{Bool, [], ap, ap₂, codes, false, if◌then◌else◌, inr, not, refl, subst, sym, true, true≢false, ℕ, ◌+◌, ◌-◌, ◌∙◌, ◌≡◌}
-use Rattle.ecma_token.specs.Kinds.{async_kind, else_kind, function_kind, left_paren_kind, mul_kind, right_paren_kind}
+use Rattle.std.proofs.Common.{Bool, [], ap, ap₂, codes, false, if◌then◌else◌, inr, refl, subst, sym, true, true≢false, ℕ, ◌+◌, ◌-◌, ◌∙◌, ◌≡◌}
+use Rattle.ecma_token.specs.Kinds.{async_kind, function_kind, left_paren_kind, mul_kind, right_paren_kind}
 use Rattle.ecma_token.specs.Tokens.{after}
 use Rattle.ecma_token.specs.declared.place.Span.{Span}
-use Rattle.ecma_tree.specs.Codes.{first}
 use Rattle.ecma_tree.specs.Places.{no_place}
-use Rattle.ecma_tree.specs.Tree.{Tree, Trees, absent, block_stmt, fn_decl, fn_expr, function, ident, more, none, param}
+use Rattle.ecma_tree.specs.Tree.{Tree, Trees, block_stmt, fn_decl, fn_expr, function, more, none, param}
 use Rattle.ecma_syntax.specs.Input.{Code, Input, binding, brk, hi, in_body, by as in_code, kind, lo, setting, span, unplaced, with_in}
-use Rattle.ecma_syntax.specs.Shape.{count_of, is_absent, is_item, is_item_pat, is_param, is_rest}
+use Rattle.ecma_syntax.specs.Shape.{count_of, is_absent, is_item_pat, is_param, is_rest}
 use Rattle.ecma_grammar.specs.Functions.{Function, FunctionHead, Parameters, SetParameter, Star}
-use Rattle.ecma_grammar.specs.Grammar.{Spells, parts}
-use Rattle.ecma_grammar.specs.Parts.{By, Sorted, is_ident, part}
+use Rattle.ecma_grammar.specs.Grammar.{parts}
+use Rattle.ecma_grammar.specs.Parts.{By, Sorted, is_module_item}
 use Rattle.ecma_grammar_complete_base.proofs.Trees.{begins}
 use Rattle.ecma_edge.specs.Edges.{is_there}
-use Rattle.ecma_layout.specs.Layout.{comma, function_tail, in_parens, is_variables, laid, marked_as_body, separated, word}
+use Rattle.ecma_layout.specs.Layout.{comma, function_tail, in_parens, laid, marked_as_body, separated, word}
 use Rattle.ecma_layout.specs.Looks.{Laid, blank, formats, gap, last, text, when, ◌·◌}
 use Rattle.ecma_layout.specs.declared.look.Look.{Look}
 use Rattle.ecma_layout.specs.declared.look.Stand.{Stand}
@@ -22,19 +21,20 @@ use Rattle.ecma_written.specs.Gaps.{Gap, Touching, blanked, is_broken}
 use Rattle.ecma_written.specs.Lexicon.{Lexicon}
 use Rattle.ecma_written.specs.Means.{Known}
 use Rattle.ecma_written.specs.Told.{says}
-use Rattle.ecma_redone.specs.Redo.{AllSame, Leaves, Mode, Plain, Same, kept, redo, redos}
+use Rattle.ecma_redone.specs.Redo.{AllSame, Leaves, Mode, Plain, kept, redo, redos}
 use Rattle.ecma_redone.specs.Written.{leaves_of}
-use Rattle.ecma_redone_base.proofs.Begins.{Begins, first_token, is_loose, is_weak, led, no_else, same_start}
+use Rattle.ecma_redone_base.proofs.Begins.{Begins, first_token, is_loose, is_part, is_weak, led, no_else, same_start}
 use Rattle.ecma_redone_base.proofs.Bodies.{braced}
-use Rattle.ecma_redone_base.proofs.Ends.{absent_same, there, unabsent}
+use Rattle.ecma_redone_base.proofs.Ends.{there}
 use Rattle.ecma_redone_base.proofs.Follow.{closed_calm}
 use Rattle.ecma_redone_base.proofs.Lists.{comma_on, listed, more_same, none_same, sorted}
-use Rattle.ecma_redone_base.proofs.Shapes.{alike, re_is_absent, re_is_item_pat, re_is_rest}
+use Rattle.ecma_redone_base.proofs.Names.{id_on, maybe_on}
+use Rattle.ecma_redone_base.proofs.Shapes.{alike, re_is_item_pat, re_is_rest}
 use Rattle.ecma_redone_base.proofs.Sound.{AllSound, Sound, plain_part}
-use Rattle.ecma_redone_base.proofs.Tokens.{keyed, marked, named, skip, skip_mark, took, worded}
+use Rattle.ecma_redone_base.proofs.Tokens.{keyed, marked, skip, skip_mark, took, worded}
 use Rattle.ecma_redone_functions.proofs.Patterns.{item_plain}
 
-param_plain : (t : Tree) → is_param t ≡ true → (is_variables t ≡ false) × (is_item t ≡ false)
+param_plain : (t : Tree) → is_param t ≡ true → (is_part t ≡ true) × (is_module_item t ≡ false)
 param_plain (param s ds p) h = (refl, refl)
 param_plain _ h = absurd (true≢false (sym h))
 
@@ -214,31 +214,11 @@ module _ (look : Look) (x : Lexicon look.style) where
         again = (q.0, i.0, (worded look x c async_kind q.1, i.1.broke), worded look x c function_kind i.1, z.1);
       }
 
-  pub record Name (i : Tree) (c : Code) (ts0 r0 : Input) (b : Gap) (ts : Input) (K : Gap → Input → Type 0) : Type 0 where
-    pub m : Input
-    pub more : K Touching m
-    pub known : Known r0.places
-    pub broke : brk ts ≡ is_broken b
-    pub first : kind ts ≡ else_kind → kind ts0 ≡ else_kind
-    pub again : (u : Tree) × Sorted is_ident (unplaced c) (part u (λ y. Spells u y)) ts m × Same (leaves_of look) Plain i u
-
-  pub id_on : (i : Tree) (c : Code) (ts0 r0 : Input) → Sorted is_ident c (part i (λ y. Spells i y)) ts0 r0 → Known ts0.places → (b : Gap) (ts : Input) (K : Gap → Input → Type 0) → says (laid look Alone i) b ts K → Name i c ts0 r0 b ts K
-  id_on (ident t n) c ts0 r0 h k b ts K q =
-      let z = named look x c n ts0 r0 ts q.0 h.1.0 k q.1 in record {
-        m = q.0;
-        more = q.2;
-        known = x.later ts0 r0 h.1.0.5 k;
-        broke = q.1.broke;
-        first = λ e. sym z.0 ∙ e;
-        again = (ident (span (lo ts) q.0.last) n, (refl, (z.1, refl)), record { so = λ m. refl });
-      }
-  id_on _ c ts0 r0 h k b ts K q = absurd (true≢false (sym h.0))
-
   pub declaration_on : (s : Span) (i : Tree) (t : Span) (ps ds : Trees) (p : Span) (ss : Trees) (g a : Bool) → AllSound look ps → AllSound look ss → (st : Stand) → Sound look st (fn_decl s i (function t ps ds (block_stmt p ss) g a))
   declaration_on s i t ps (more d ds) p ss g a f j st c ts0 r0 h k b ts K q = absurd h.4.1
   declaration_on s i t ps none p ss g a f j st c ts0 r0 h k b ts K q =
       let y = head_on g a (if g then text (codes "*") · gap look else blank) (spaced_star g) c ts0 h.0 h.2 k b ts (λ d m. says (laid look Alone i · function_tail look (separated look (comma look) ps) (laid look BodyStand (block_stmt p ss))) d m K) q in
-      let z = id_on i c h.0 h.1 h.3 y.known y.d y.m (λ d m. says (function_tail look (separated look (comma look) ps) (laid look BodyStand (block_stmt p ss))) d m K) y.more in
+      let z = id_on look x i c h.0 h.1 h.3 y.known y.d y.m (λ d m. says (function_tail look (separated look (comma look) ps) (laid look BodyStand (block_stmt p ss))) d m K) y.more in
       let w = z.again in
       let v = tail_on BodyStand ps p ss g a f j (setting false c) h.1 r0 h.4 z.known Touching z.m K z.more in record {
         d = Touching;
@@ -258,28 +238,11 @@ module _ (look : Look) (x : Lexicon look.style) where
       }
 
   -- a name that may be left out
-  pub record Maybe_name (i : Tree) (c : Code) (r0 : Input) (ts : Input) (K : Gap → Input → Type 0) : Type 0 where
-    pub d : Gap
-    pub m : Input
-    pub more : K d m
-    pub known : Known r0.places
-    pub again : (u : Tree) × By (is_absent u) (ts ≡ m) (Sorted is_ident (unplaced c) (part u (λ y. Spells u y)) ts m) × Same (leaves_of look) Plain i u
-
-  pub maybe_on : (i : Tree) (c : Code) (v : Bool) → is_absent i ≡ v → (ts0 r0 : Input) → By v (ts0 ≡ r0) (Sorted is_ident c (part i (λ y. Spells i y)) ts0 r0) → Known ts0.places → (b : Gap) (ts : Input) (K : Gap → Input → Type 0) → says (when (not v) (blank · laid look Alone i)) b ts K → Maybe_name i c r0 ts K
-  maybe_on i c true e ts0 r0 h k b ts K q = record { d = b; m = ts; more = q; known = subst (λ (i : Input). Known i.places) h k; again = (absent, refl, absent_same (leaves_of look) Plain i e) }
-  maybe_on i c false e ts0 r0 h k b ts K q = let z = id_on i c ts0 r0 h k _ ts K q in record {
-    d = Touching;
-    m = z.m;
-    more = z.more;
-    known = z.known;
-    again = (z.again.0, unabsent (is_absent z.again.0) _ _ (alike is_absent re_is_absent (leaves_of look) Plain i z.again.0 z.again.2 ∙ e) z.again.1, z.again.2);
-  }
-
   pub function_on : (s : Span) (i : Tree) (t : Span) (ps ds : Trees) (p : Span) (ss : Trees) (g a : Bool) → AllSound look ps → AllSound look ss → (st : Stand) → Sound look st (fn_expr s i (function t ps ds (block_stmt p ss) g a))
   function_on s i t ps (more d ds) p ss g a f j st c ts0 r0 h k b ts K q = absurd h.4.1
   function_on s i t ps none p ss g a f j st c ts0 r0 h k b ts K q =
       let y = head_on g a (when g (text (codes "*"))) (plain_star g) c ts0 h.0 h.2 k b ts (λ d m. says (when (is_there i) (blank · laid look Alone i) · function_tail look (separated look (comma look) ps) (laid look BodyStand (block_stmt p ss))) d m K) q in
-      let z = maybe_on i (in_code g a c) (is_absent i) refl h.0 h.1 h.3 y.known y.d y.m (λ d m. says (function_tail look (separated look (comma look) ps) (laid look BodyStand (block_stmt p ss))) d m K)
+      let z = maybe_on look x i (in_code g a c) (is_absent i) refl h.0 h.1 h.3 y.known y.d y.m (λ d m. says (function_tail look (separated look (comma look) ps) (laid look BodyStand (block_stmt p ss))) d m K)
       (subst (λ (v : Bool). says (when v (blank · laid look Alone i)) y.d y.m (λ d m. says (function_tail look (separated look (comma look) ps) (laid look BodyStand (block_stmt p ss))) d m K)) (there i) y.more) in
       let w = z.again in
       let v = tail_on BodyStand ps p ss g a f j (setting false c) h.1 r0 h.4 z.known z.d z.m K z.more in record {

@@ -11,13 +11,13 @@ use Rattle.ecma_tree.specs.Places.{no_place}
 use Rattle.ecma_tree.specs.Tree.{Tree, big_int_lit, computed_prop_name, ident_name, more, number_lit, private_name, str_lit}
 use Rattle.ecma_syntax.specs.Input.{Code, Input, brk, content, escaped, is_word, kind, lo, span, unplaced, with_in}
 use Rattle.ecma_syntax.specs.Operators.{assignment_level}
-use Rattle.ecma_syntax.specs.Shape.{constructs, is_any_key, is_item, is_key, is_private}
+use Rattle.ecma_syntax.specs.Shape.{constructs, is_any_key, is_key, is_private}
 use Rattle.ecma_grammar.specs.Expressions.{IdentifierName}
 use Rattle.ecma_grammar.specs.Grammar.{Spells}
-use Rattle.ecma_grammar.specs.Parts.{Sorted, part}
+use Rattle.ecma_grammar.specs.Parts.{Sorted, is_module_item, part}
 use Rattle.ecma_grammar_complete_base.proofs.Trees.{begins}
 use Rattle.ecma_spell_string.specs.Names.{is_quoted_key}
-use Rattle.ecma_layout.specs.Layout.{is_variables, laid}
+use Rattle.ecma_layout.specs.Layout.{laid}
 use Rattle.ecma_layout.specs.Literals.{key_bytes, name_bytes}
 use Rattle.ecma_layout.specs.Looks.{last}
 use Rattle.ecma_layout.specs.declared.look.Look.{Look}
@@ -29,14 +29,14 @@ use Rattle.ecma_written.specs.Means.{Known, Means}
 use Rattle.ecma_written.specs.Told.{Told, says}
 use Rattle.ecma_redone.specs.Redo.{Leaves, Mode, Plain, Same, kept, redo}
 use Rattle.ecma_redone.specs.Written.{leaves_of, written_key}
-use Rattle.ecma_redone_base.proofs.Begins.{first_token, is_loose, is_weak, no_else}
+use Rattle.ecma_redone_base.proofs.Begins.{first_token, is_loose, is_part, is_weak, no_else}
 use Rattle.ecma_redone_base.proofs.Follow.{Follow, follow_by}
 use Rattle.ecma_redone_base.proofs.Shapes.{alike, re_is_key, re_is_private}
 use Rattle.ecma_redone_base.proofs.Sound.{Sound, expr, expr_low, plain_part}
 use Rattle.ecma_redone_base.proofs.Tokens.{marked, took}
 use Rattle.ecma_redone_functions.proofs.Quoted.{key_as_name, quoted_constructs}
 
-key_plain : (k : Tree) → is_key k ≡ true → (is_variables k ≡ false) × (is_item k ≡ false)
+key_plain : (k : Tree) → is_key k ≡ true → (is_part k ≡ true) × (is_module_item k ≡ false)
 key_plain (ident_name s n) h = (refl, refl)
 key_plain (str_lit s u w) h = (refl, refl)
 key_plain (number_lit s v w) h = (refl, refl)

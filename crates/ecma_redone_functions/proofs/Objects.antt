@@ -7,11 +7,11 @@ use Rattle.ecma_tree.specs.Places.{no_place}
 use Rattle.ecma_tree.specs.Tree.{Tree, Trees, assign_prop, block_stmt, function, getter_prop, ident, key_value_prop, method_prop, more, none, object_lit, setter_prop, spread_element}
 use Rattle.ecma_syntax.specs.Input.{Code, Input, binding, brk, hi, in_body, kind, lo, setting, span, unplaced, with_in}
 use Rattle.ecma_syntax.specs.Operators.{assignment_level}
-use Rattle.ecma_syntax.specs.Shape.{is_item, is_item_pat, is_prop, is_rest, level}
+use Rattle.ecma_syntax.specs.Shape.{is_item_pat, is_prop, is_rest, level}
 use Rattle.ecma_grammar.specs.Functions.{MethodHead}
-use Rattle.ecma_grammar.specs.Parts.{Sorted}
+use Rattle.ecma_grammar.specs.Parts.{Sorted, is_module_item}
 use Rattle.ecma_grammar_complete_base.proofs.Trees.{begins}
-use Rattle.ecma_layout.specs.Layout.{comma_line, is_bracketed_key, is_variables, method_marks}
+use Rattle.ecma_layout.specs.Layout.{comma_line, is_bracketed_key, method_marks}
 use Rattle.ecma_layout.specs.Looks.{blank, formats, gap, last}
 use Rattle.ecma_layout.specs.declared.look.Look.{Look}
 use Rattle.ecma_layout.specs.declared.look.Stand.{Stand}
@@ -22,15 +22,16 @@ use Rattle.ecma_written.specs.Means.{Known}
 use Rattle.ecma_written.specs.Told.{says}
 use Rattle.ecma_redone.specs.Redo.{Leaves, Mode, Plain, redo}
 use Rattle.ecma_redone.specs.Written.{leaves_of}
-use Rattle.ecma_redone_base.proofs.Begins.{led}
+use Rattle.ecma_redone_base.proofs.Begins.{is_part, led}
 use Rattle.ecma_redone_base.proofs.Bodies.{braced}
 use Rattle.ecma_redone_base.proofs.Ends.{above}
 use Rattle.ecma_redone_base.proofs.Follow.{closed_calm, follow_on}
 use Rattle.ecma_redone_base.proofs.Lists.{comma_line_on, listed, sorted}
+use Rattle.ecma_redone_base.proofs.Names.{id_on}
 use Rattle.ecma_redone_base.proofs.Shapes.{alike, re_is_item_pat, re_is_rest}
 use Rattle.ecma_redone_base.proofs.Sound.{AllSound, Sound, expr, expr_low, plain_part}
 use Rattle.ecma_redone_base.proofs.Tokens.{gapped, keyed, marked, skip, skip_back, skip_deeper, skip_line, took, worded}
-use Rattle.ecma_redone_functions.proofs.Functions.{id_on, same_functions, tail_on}
+use Rattle.ecma_redone_functions.proofs.Functions.{same_functions, tail_on}
 use Rattle.ecma_redone_functions.proofs.Keys.{key_on}
 use Rattle.ecma_redone_functions.proofs.Patterns.{item_plain}
 
@@ -44,7 +45,7 @@ re_is_prop l m (setter_prop s k p b) = refl
 re_is_prop l m (method_prop s k f) = refl
 re_is_prop l m _ = refl
 
-prop_plain : (t : Tree) → is_prop t ≡ true → (is_variables t ≡ false) × (is_item t ≡ false)
+prop_plain : (t : Tree) → is_prop t ≡ true → (is_part t ≡ true) × (is_module_item t ≡ false)
 prop_plain (ident s n) h = (refl, refl)
 prop_plain (assign_prop s k e) h = (refl, refl)
 prop_plain (spread_element s e) h = (refl, refl)

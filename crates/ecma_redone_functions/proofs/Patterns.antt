@@ -9,10 +9,11 @@ use Rattle.ecma_tree.specs.Places.{no_place}
 use Rattle.ecma_tree.specs.Tree.{Tree, Trees, array_pat, assign_pat, assign_pat_prop, binding_ident, expr_pat, ident, key_value_pat_prop, member_expr, more, none, object_pat, paren_expr, rest_pat, super_prop_expr}
 use Rattle.ecma_syntax.specs.Input.{Code, Input, assigning, dots_at, lo, span, unplaced, with_in}
 use Rattle.ecma_syntax.specs.Operators.{assignment_level}
-use Rattle.ecma_syntax.specs.Shape.{is_absent, is_bound_name, is_item, is_item_pat, is_pattern_prop, is_place, is_rest, is_simple, is_target_expr, level, takes_rest}
+use Rattle.ecma_syntax.specs.Shape.{is_absent, is_bound_name, is_item_pat, is_pattern_prop, is_place, is_rest, is_simple, is_target_expr, level, takes_rest}
+use Rattle.ecma_grammar.specs.Parts.{is_module_item}
 use Rattle.ecma_grammar.specs.Patterns.{Item, Property}
 use Rattle.ecma_grammar_complete_base.proofs.Trees.{begins}
-use Rattle.ecma_layout.specs.Layout.{comma, is_variables, laid}
+use Rattle.ecma_layout.specs.Layout.{comma, laid}
 use Rattle.ecma_layout.specs.Looks.{formats, gap, last, text, when, ◌·◌}
 use Rattle.ecma_layout.specs.declared.look.Look.{Look}
 use Rattle.ecma_layout.specs.declared.look.Stand.{Stand}
@@ -22,7 +23,7 @@ use Rattle.ecma_written.specs.Lexicon.{Lexicon}
 use Rattle.ecma_written.specs.Told.{says}
 use Rattle.ecma_redone.specs.Redo.{Leaves, Mode, Plain, redo}
 use Rattle.ecma_redone.specs.Written.{leaves_of}
-use Rattle.ecma_redone_base.proofs.Begins.{Begins, Starts, begun, first_token, is_loose, is_weak, led, same_start}
+use Rattle.ecma_redone_base.proofs.Begins.{Begins, Starts, begun, first_token, is_loose, is_part, is_weak, led, same_start}
 use Rattle.ecma_redone_base.proofs.Ends.{above, initial_on, there}
 use Rattle.ecma_redone_base.proofs.Follow.{Follow, calm, closed_calm, no_item}
 use Rattle.ecma_redone_base.proofs.Lists.{Each, comma_on, holed, listed}
@@ -37,7 +38,7 @@ and_off false h = true≢false (sym h)
 
 -- what is no declaration and no statement
 abbrev pub Plainly : Tree → Type 0
-Plainly t = (is_variables t ≡ false) × (is_item t ≡ false)
+Plainly t = (is_part t ≡ true) × (is_module_item t ≡ false)
 
 pub place_plain : (b : Bool) (t : Tree) → is_place b t ≡ true → Plainly t
 place_plain b (binding_ident s i) h = (refl, refl)
@@ -73,7 +74,7 @@ re_is_target_simple : (l : Leaves) (m : Mode) (t : Tree) → (is_target_expr (re
 re_is_target_simple l m t = ap₂ (λ (a b : Bool). a && b) (re_is_target_expr l m t) (re_is_simple l m t)
 
 -- what follows a part that ends its whole
-passed : (t : Tree) (r m : Input) → is_item t ≡ false → calm m ≡ true → Follow Alone t r m
+passed : (t : Tree) (r m : Input) → is_module_item t ≡ false → calm m ≡ true → Follow Alone t r m
 passed t r m i g = record { quiet = λ e. g; other = λ e. absurd (true≢false (sym e ∙ i)) }
 
 module _ (look : Look) (x : Lexicon look.style) where
@@ -271,7 +272,7 @@ module _ (look : Look) (x : Lexicon look.style) where
         };
       }
     where
-      targets : (e : Tree) → is_target_expr e ≡ true → (is_variables e ≡ false) × (is_weak e ≡ false) × (is_loose e ≡ false) × (is_item e ≡ false)
+      targets : (e : Tree) → is_target_expr e ≡ true → (is_part e ≡ true) × (is_weak e ≡ false) × (is_loose e ≡ false) × (is_module_item e ≡ false)
       targets (member_expr s o p) h = (refl, refl, refl, refl)
       targets (super_prop_expr s o p) h = (refl, refl, refl, refl)
       targets (paren_expr s e) h = (refl, refl, refl, refl)
