@@ -8,3 +8,4 @@ pub mod Lists
 pub mod Ends
 pub mod Bodies
 pub mod Names
+pub mod KeyParts

@@ -31,6 +31,7 @@ use Rattle.ecma_redone_base.proofs.Begins.{first_token, is_loose, is_part, is_we
 use Rattle.ecma_redone_base.proofs.Bodies.{braced, follow_closed}
 use Rattle.ecma_redone_base.proofs.Ends.{above, absent_same, ended_known, quiet_at, there, unabsent}
 use Rattle.ecma_redone_base.proofs.Follow.{calm, follow_by, is_closed, no_item}
+use Rattle.ecma_redone_base.proofs.KeyParts.{KeyPart}
 use Rattle.ecma_redone_base.proofs.Lists.{more_same, none_same}
 use Rattle.ecma_redone_base.proofs.Names.{id_on, maybe_on}
 use Rattle.ecma_redone_base.proofs.Shapes.{alike, re_is_absent}
@@ -269,13 +270,13 @@ module _ (look : Look) (x : Lexicon look.style) where
         v.same_vs,
       )
 
-  key_sound : (key : Tree) → Sound look Key key → is_key key ≡ true → KeySound is_key (λ t. written_key look.style t) key
+  key_sound : (key : Tree) → KeyPart look key → is_key key ≡ true → KeySound is_key (λ t. written_key look.style t) key
   key_sound key f i c ts0 r0 h l b ts K q = key_on look x key f c ts0 r0 (i, h) l b ts K q
 
-  private_sound : (key : Tree) → Sound look Key key → is_private key ≡ true → KeySound is_private (λ t. t) key
+  private_sound : (key : Tree) → KeyPart look key → is_private key ≡ true → KeySound is_private (λ t. t) key
   private_sound key f i c ts0 r0 h l b ts K q = private_key_on look x key f i (λ t. t) refl c ts0 r0 h l b ts K q
 
-  pub method_member : (s : Span) (key : Tree) (t : Span) (ps ds : Trees) (p : Span) (ss : Trees) (g a : Bool) (k : ℕ) (i : Bool) → Sound look Key key → AllSound look ps → AllSound look ss → (st : Stand) → Sound look st (class_method s key (function t ps ds (block_stmt p ss) g a) k i)
+  pub method_member : (s : Span) (key : Tree) (t : Span) (ps ds : Trees) (p : Span) (ss : Trees) (g a : Bool) (k : ℕ) (i : Bool) → KeyPart look key → AllSound look ps → AllSound look ss → (st : Stand) → Sound look st (class_method s key (function t ps ds (block_stmt p ss) g a) k i)
   method_member s key t ps (more d ds) p ss g a k i n f j st c ts0 r0 h l b ts K q = absurd (decorated (k == plain_method) h.4)
     where
       decorated : (v : Bool) → By v (Plain_method c key (record { span = t; generator = g; async = a; count = count_of ps }) (function t ps (more d ds) (block_stmt p ss) g a) h.0 r0) (Accessor c k key (record { span = t; generator = g; async = a; count = count_of ps }) (function t ps (more d ds) (block_stmt p ss) g a) h.0 r0) → ⊥
@@ -300,7 +301,7 @@ module _ (look : Look) (x : Lexicon look.style) where
         };
       }
 
-  pub private_member : (s : Span) (key : Tree) (t : Span) (ps ds : Trees) (p : Span) (ss : Trees) (g a : Bool) (k : ℕ) (i : Bool) → Sound look Key key → AllSound look ps → AllSound look ss → (st : Stand) → Sound look st (private_method s key (function t ps ds (block_stmt p ss) g a) k i)
+  pub private_member : (s : Span) (key : Tree) (t : Span) (ps ds : Trees) (p : Span) (ss : Trees) (g a : Bool) (k : ℕ) (i : Bool) → KeyPart look key → AllSound look ps → AllSound look ss → (st : Stand) → Sound look st (private_method s key (function t ps ds (block_stmt p ss) g a) k i)
   private_member s key t ps (more d ds) p ss g a k i n f j st c ts0 r0 h l b ts K q = absurd (decorated (k == plain_method) h.4)
     where
       decorated : (v : Bool) → By v (Plain_method c key (record { span = t; generator = g; async = a; count = count_of ps }) (function t ps (more d ds) (block_stmt p ss) g a) h.0 r0) (Accessor c k key (record { span = t; generator = g; async = a; count = count_of ps }) (function t ps (more d ds) (block_stmt p ss) g a) h.0 r0) → ⊥
@@ -378,7 +379,7 @@ module _ (look : Look) (x : Lexicon look.style) where
       let z = field_end_on value f c (field_end is_static (kind h.0)) (is_absent value) refl h.1 r0 h.6 y.known y.d y.m K (value_laid value c h.1 r0 (field_end is_static (kind h.0)) (is_absent value) refl h.6 y.d y.m K y.more) in
       (z.d, z.m, z.more, z.known, w.broke y.broke, w.first y.first, y.again.0, z.again.0, (w.m, y.m, tt, y.again.1, w.again, y.again.2, z.again.1 (field_end is_static (kind w.m)), refl), y.again.3, z.again.2)
 
-  pub field_member : (s : Span) (key value : Tree) (i : Bool) (ds : Trees) → Sound look Key key → Sound look Alone value → (st : Stand) → Sound look st (class_prop s key value i ds)
+  pub field_member : (s : Span) (key value : Tree) (i : Bool) (ds : Trees) → KeyPart look key → Sound look Alone value → (st : Stand) → Sound look st (class_prop s key value i ds)
   field_member s key value i (more d ds) n f st c ts0 r0 h k b ts K q = absurd h.2
   field_member s key value i none n f st c ts0 r0 h k b ts K q =
       let z = field_on is_key (λ t. written_key look.style t) s key value i (key_sound key n h.3) f c ts0 r0 h k b ts K q in record {
@@ -398,7 +399,7 @@ module _ (look : Look) (x : Lexicon look.style) where
         };
       }
 
-  pub private_field : (s : Span) (key value : Tree) (i : Bool) (ds : Trees) → Sound look Key key → Sound look Alone value → (st : Stand) → Sound look st (private_prop s key value i ds)
+  pub private_field : (s : Span) (key value : Tree) (i : Bool) (ds : Trees) → KeyPart look key → Sound look Alone value → (st : Stand) → Sound look st (private_prop s key value i ds)
   private_field s key value i (more d ds) n f st c ts0 r0 h k b ts K q = absurd h.2
   private_field s key value i none n f st c ts0 r0 h k b ts K q =
       let z = field_on is_private (λ t. t) s key value i (private_sound key n h.3) f c ts0 r0 h k b ts K q in record {
@@ -418,7 +419,7 @@ module _ (look : Look) (x : Lexicon look.style) where
         };
       }
 
-  pub accessor_member : (s : Span) (key value : Tree) (i : Bool) (ds : Trees) → Sound look Key key → Sound look Alone value → (st : Stand) → Sound look st (auto_accessor s key value i ds)
+  pub accessor_member : (s : Span) (key value : Tree) (i : Bool) (ds : Trees) → KeyPart look key → Sound look Alone value → (st : Stand) → Sound look st (auto_accessor s key value i ds)
   accessor_member s key value i (more d ds) n f st c ts0 r0 h k b ts K q = absurd h.4
   accessor_member s key value i none n f st c ts0 r0 h k b ts K q =
       let w = static_on i blank always_blank c ts0 h.0 h.5 k b ts _ q in

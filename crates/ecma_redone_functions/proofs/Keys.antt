@@ -31,6 +31,7 @@ use Rattle.ecma_redone.specs.Redo.{Leaves, Mode, Plain, Same, kept, redo}
 use Rattle.ecma_redone.specs.Written.{leaves_of, written_key}
 use Rattle.ecma_redone_base.proofs.Begins.{first_token, is_loose, is_part, is_weak, no_else}
 use Rattle.ecma_redone_base.proofs.Follow.{Follow, follow_by}
+use Rattle.ecma_redone_base.proofs.KeyParts.{KeyPart}
 use Rattle.ecma_redone_base.proofs.Shapes.{alike, re_is_key, re_is_private}
 use Rattle.ecma_redone_base.proofs.Sound.{Sound, expr, expr_low, plain_part}
 use Rattle.ecma_redone_base.proofs.Tokens.{marked, took}
@@ -143,7 +144,7 @@ module _ (look : Look) (x : Lexicon look.style) where
         constructor_as = j u.tree u.same;
       }
 
-  pub key_on : (k : Tree) → Sound look Key k → (c : Code) (ts0 r0 : Input) → Sorted is_key c (part k (λ y. Spells k y)) ts0 r0 → Known ts0.places → (b : Gap) (ts : Input) (K : Gap → Input → Type 0) → says (laid look Key k) b ts K → KeyAgain is_key (λ t. written_key look.style t) k c ts0 r0 b ts K
+  pub key_on : (k : Tree) → KeyPart look k → (c : Code) (ts0 r0 : Input) → Sorted is_key c (part k (λ y. Spells k y)) ts0 r0 → Known ts0.places → (b : Gap) (ts : Input) (K : Gap → Input → Type 0) → says (laid look Key k) b ts K → KeyAgain is_key (λ t. written_key look.style t) k c ts0 r0 b ts K
   key_on (ident_name s n) f c ts0 r0 h l b ts K q = word_on (is_quoted_key look.style (chars n)) s n refl c ts0 r0 h.1 l b ts q.0 K q.1 q.2
   key_on (str_lit s u w) f c ts0 r0 h l b ts K q = other_on (str_lit s u w) f refl refl (λ v e i. sym (constructs_same (leaves_of look) Plain (str_lit s u w) v e) ∙ i) c ts0 r0 h.1 l b ts K q
   key_on (number_lit s v w) f c ts0 r0 h l b ts K q = other_on (number_lit s v w) f refl refl (λ u e i. sym (constructs_same (leaves_of look) Plain (number_lit s v w) u e) ∙ i) c ts0 r0 h.1 l b ts K q
@@ -152,7 +153,7 @@ module _ (look : Look) (x : Lexicon look.style) where
   key_on _ f c ts0 r0 h l b ts K q = absurd (true≢false (sym h.0))
 
   -- a private name (15.7)
-  pub private_key_on : (k : Tree) → Sound look Key k → is_private k ≡ true → (write : Tree → Tree) → write (redo (leaves_of look) Plain k) ≡ redo (leaves_of look) Plain k → (c : Code) (ts0 r0 : Input) → Spells k c ts0 r0 → Known ts0.places → (b : Gap) (ts : Input) (K : Gap → Input → Type 0) → says (laid look Key k) b ts K
+  pub private_key_on : (k : Tree) → KeyPart look k → is_private k ≡ true → (write : Tree → Tree) → write (redo (leaves_of look) Plain k) ≡ redo (leaves_of look) Plain k → (c : Code) (ts0 r0 : Input) → Spells k c ts0 r0 → Known ts0.places → (b : Gap) (ts : Input) (K : Gap → Input → Type 0) → says (laid look Key k) b ts K
       → KeyAgain is_private write k c ts0 r0 b ts K
   private_key_on (private_name s n) f i write w c ts0 r0 h l b ts K q =
       let z = plain_part look Key (private_name s n) f refl c ts0 r0 h l b ts K q in
@@ -169,7 +170,7 @@ module _ (look : Look) (x : Lexicon look.style) where
   private_key_on _ f i write w c ts0 r0 h l b ts K q = absurd (true≢false (sym i))
 
   -- either
-  pub any_key_on : (k : Tree) → Sound look Key k → (c : Code) (ts0 r0 : Input) → Sorted is_any_key c (part k (λ y. Spells k y)) ts0 r0 → Known ts0.places → (b : Gap) (ts : Input) (K : Gap → Input → Type 0) → says (laid look Key k) b ts K → KeyAgain is_any_key (λ t. written_key look.style t) k c ts0 r0 b ts K
+  pub any_key_on : (k : Tree) → KeyPart look k → (c : Code) (ts0 r0 : Input) → Sorted is_any_key c (part k (λ y. Spells k y)) ts0 r0 → Known ts0.places → (b : Gap) (ts : Input) (K : Gap → Input → Type 0) → says (laid look Key k) b ts K → KeyAgain is_any_key (λ t. written_key look.style t) k c ts0 r0 b ts K
   any_key_on k f c ts0 r0 h l b ts K q = by (is_private k) refl
     where
       left_true : (a b : Bool) → b ≡ false → (a || b) ≡ true → a ≡ true

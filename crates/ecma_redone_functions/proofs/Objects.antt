@@ -15,7 +15,7 @@ use Rattle.ecma_layout.specs.Layout.{comma_line, is_bracketed_key, method_marks}
 use Rattle.ecma_layout.specs.Looks.{blank, formats, gap, last}
 use Rattle.ecma_layout.specs.declared.look.Look.{Look}
 use Rattle.ecma_layout.specs.declared.look.Stand.{Stand}
-use Rattle.ecma_layout.specs.declared.look.Stand.TheVariants.{Alone, Body as BodyStand, Key}
+use Rattle.ecma_layout.specs.declared.look.Stand.TheVariants.{Alone, Body as BodyStand}
 use Rattle.ecma_written.specs.Gaps.{Gap, Spaced, Touching, blanked, is_broken}
 use Rattle.ecma_written.specs.Lexicon.{Lexicon}
 use Rattle.ecma_written.specs.Means.{Known}
@@ -26,6 +26,7 @@ use Rattle.ecma_redone_base.proofs.Begins.{is_part, led}
 use Rattle.ecma_redone_base.proofs.Bodies.{braced}
 use Rattle.ecma_redone_base.proofs.Ends.{above}
 use Rattle.ecma_redone_base.proofs.Follow.{closed_calm, follow_on}
+use Rattle.ecma_redone_base.proofs.KeyParts.{KeyPart}
 use Rattle.ecma_redone_base.proofs.Lists.{comma_line_on, listed, sorted}
 use Rattle.ecma_redone_base.proofs.Names.{id_on}
 use Rattle.ecma_redone_base.proofs.Shapes.{alike, re_is_item_pat, re_is_rest}
@@ -76,7 +77,7 @@ module _ (look : Look) (x : Lexicon look.style) where
   either_blank true b ts K q = (gapped (formats look) b, skip (formats look) b ts K q)
   either_blank false b ts K q = (blanked b, q)
 
-  pub property_on : (s : Span) (k e : Tree) → Sound look Key k → Sound look Alone e → (st : Stand) → Sound look st (key_value_prop s k e)
+  pub property_on : (s : Span) (k e : Tree) → KeyPart look k → Sound look Alone e → (st : Stand) → Sound look st (key_value_prop s k e)
   property_on s k e f g st c ts0 r0 h l b ts K q =
       let y = key_on look x k f c ts0 h.0 h.2 l b ts _ q in
       let t = y.more in
@@ -182,7 +183,7 @@ module _ (look : Look) (x : Lexicon look.style) where
         };
       }
 
-  pub getter_on : (s : Span) (k : Tree) (p : Span) (ss : Trees) → Sound look Key k → AllSound look ss → (st : Stand) → Sound look st (getter_prop s k (block_stmt p ss))
+  pub getter_on : (s : Span) (k : Tree) (p : Span) (ss : Trees) → KeyPart look k → AllSound look ss → (st : Stand) → Sound look st (getter_prop s k (block_stmt p ss))
   getter_on s k p ss f a st c ts0 r0 h l b ts K q =
       let d = in_body false false c in
       let y = key_on look x k f c h.0 h.1 h.5 (x.later ts0 h.0 h.4.3 l) _ q.0 _ (either_blank (is_bracketed_key k) Touching q.0 _ q.2).1 in
@@ -205,7 +206,7 @@ module _ (look : Look) (x : Lexicon look.style) where
         };
       }
 
-  pub setter_on : (s : Span) (k e : Tree) (p : Span) (ss : Trees) → Sound look Key k → Sound look Alone e → AllSound look ss → (st : Stand) → Sound look st (setter_prop s k e (block_stmt p ss))
+  pub setter_on : (s : Span) (k e : Tree) (p : Span) (ss : Trees) → KeyPart look k → Sound look Alone e → AllSound look ss → (st : Stand) → Sound look st (setter_prop s k e (block_stmt p ss))
   setter_on s k e p ss f g a st c ts0 r0 h l b ts K q =
       let d = in_body false false c in
       let y = key_on look x k f c h.0 h.1 h.6 (x.later ts0 h.0 h.5.3 l) _ q.0 _ (either_blank (is_bracketed_key k) Touching q.0 _ q.2).1 in
@@ -296,7 +297,7 @@ module _ (look : Look) (x : Lexicon look.style) where
     again = λ e. (q.0, (worded look x c async_kind q.1, i.1.broke), took look x c mul_kind i.1);
   }
 
-  pub method_on : (s : Span) (k : Tree) (t : Span) (ps ds : Trees) (p : Span) (ss : Trees) (g a : Bool) → Sound look Key k → AllSound look ps → AllSound look ss → (st : Stand) → Sound look st (method_prop s k (function t ps ds (block_stmt p ss) g a))
+  pub method_on : (s : Span) (k : Tree) (t : Span) (ps ds : Trees) (p : Span) (ss : Trees) (g a : Bool) → KeyPart look k → AllSound look ps → AllSound look ss → (st : Stand) → Sound look st (method_prop s k (function t ps ds (block_stmt p ss) g a))
   method_on s k t ps (more d ds) p ss g a n f j st c ts0 r0 h l b ts K q = absurd h.1.4.1
   method_on s k t ps none p ss g a n f j st c ts0 r0 h l b ts K q =
       let w = marks_on g a c ts0 h.1.0 h.1.2 l b ts _ q in

@@ -17,7 +17,7 @@ use Rattle.ecma_layout.specs.Layout.{comma, laid}
 use Rattle.ecma_layout.specs.Looks.{formats, gap, last, text, when, ◌·◌}
 use Rattle.ecma_layout.specs.declared.look.Look.{Look}
 use Rattle.ecma_layout.specs.declared.look.Stand.{Stand}
-use Rattle.ecma_layout.specs.declared.look.Stand.TheVariants.{Alone, Key}
+use Rattle.ecma_layout.specs.declared.look.Stand.TheVariants.{Alone}
 use Rattle.ecma_written.specs.Gaps.{Touching}
 use Rattle.ecma_written.specs.Lexicon.{Lexicon}
 use Rattle.ecma_written.specs.Told.{says}
@@ -26,6 +26,7 @@ use Rattle.ecma_redone.specs.Written.{leaves_of}
 use Rattle.ecma_redone_base.proofs.Begins.{Begins, Starts, begun, first_token, is_loose, is_part, is_weak, led, same_start}
 use Rattle.ecma_redone_base.proofs.Ends.{above, initial_on, there}
 use Rattle.ecma_redone_base.proofs.Follow.{Follow, calm, closed_calm, no_item}
+use Rattle.ecma_redone_base.proofs.KeyParts.{KeyPart}
 use Rattle.ecma_redone_base.proofs.Lists.{Each, comma_on, holed, listed}
 use Rattle.ecma_redone_base.proofs.Shapes.{alike, re_is_bound_name, re_is_item_pat, re_is_pattern_prop, re_is_place, re_is_rest, re_is_simple, re_is_structured, re_is_target_expr}
 use Rattle.ecma_redone_base.proofs.Sound.{AllSound, Sound, expr, expr_low, plain_part, tight_of}
@@ -279,7 +280,7 @@ module _ (look : Look) (x : Lexicon look.style) where
       targets _ h = absurd (true≢false (sym h))
 
   -- a key and an item
-  pub keyed_item_on : (s : Span) (k a : Tree) → Sound look Key k → Sound look Alone a → (st : Stand) → Sound look st (key_value_pat_prop s k a)
+  pub keyed_item_on : (s : Span) (k a : Tree) → KeyPart look k → Sound look Alone a → (st : Stand) → Sound look st (key_value_pat_prop s k a)
   keyed_item_on s k a f g st c ts0 r0 h l b ts K q =
       let y = key_on look x k f (assigning c) ts0 h.0 h.2 l b ts _ q in
       let t = y.more in

@@ -26,6 +26,7 @@ use Rattle.ecma_redone.specs.Written.{leaves_of}
 use Rattle.ecma_redone_base.proofs.Begins.{is_part}
 use Rattle.ecma_redone_base.proofs.Ends.{absent_same, ended_known, quiet_at, there, unabsent}
 use Rattle.ecma_redone_base.proofs.Follow.{calm, closed_calm}
+use Rattle.ecma_redone_base.proofs.KeyParts.{KeyPart}
 use Rattle.ecma_redone_base.proofs.Lists.{comma_on, listed, more_same, none_same, sorted}
 use Rattle.ecma_redone_base.proofs.Shapes.{alike, re_is_absent}
 use Rattle.ecma_redone_base.proofs.Sound.{AllSound, Sound, plain_part}
@@ -88,14 +89,14 @@ module _ (look : Look) (x : Lexicon look.style) where
   either_gap true b ts J q = (blanked b, q)
   either_gap false b ts J q = (gapped (formats look) b, skip (formats look) b ts J q)
 
-  from_source : (w : Bool) (src with_ : Tree) → Sound look Key src → Sound look Alone with_ → is_absent src ≡ false → (c : Code) (m0 n0 r0 : Input) → TakesWord c from_kind m0 n0 → Source c (part src (λ y. Spells src y)) (part with_ (λ y. Spells with_ y)) n0 r0 → Known m0.places → (b : Gap) (ts : Input) (K : Gap → Input → Type 0)
+  from_source : (w : Bool) (src with_ : Tree) → KeyPart look src → Sound look Alone with_ → is_absent src ≡ false → (c : Code) (m0 n0 r0 : Input) → TakesWord c from_kind m0 n0 → Source c (part src (λ y. Spells src y)) (part with_ (λ y. Spells with_ y)) n0 r0 → Known m0.places → (b : Gap) (ts : Input) (K : Gap → Input → Type 0)
       → says (end_laid w src with_) b ts K → (n : Input) × TakesWord (unplaced c) from_kind ts n × Sourced look x src with_ c n0 r0 n K
   from_source w src with_ f g a c m0 n0 r0 t h k b ts K q =
       let p = subst (λ (v : Bool). says (when v ((if w then blank else gap look) · laid_from look (laid look Key src) · attributes look with_ (laid look Alone with_)) · semi) b ts K) (there src ∙ ap not a) q in
       let i = (either_gap w b ts (λ d m. says (laid_from look (laid look Key src) · attributes look with_ (laid look Alone with_) · semi) d m K) p).1 in
       (i.0, worded look x c from_kind i.1, source_on look x src with_ f g c n0 r0 h (x.later m0 n0 t.3 k) _ i.0 K (skip (formats look) Touching i.0 _ i.2))
 
-  ended_on : (w : Bool) (src with_ : Tree) → Sound look Key src → Sound look Alone with_ → (c : Code) (v : Bool) → is_absent src ≡ v → (m0 r0 : Input) → By v ((is_absent with_ ≡ true) × Ends c exports_end m0 r0) ((n : Input) × TakesWord c from_kind m0 n × Source c (part src (λ y. Spells src y)) (part with_ (λ y. Spells with_ y)) n r0) → Known m0.places
+  ended_on : (w : Bool) (src with_ : Tree) → KeyPart look src → Sound look Alone with_ → (c : Code) (v : Bool) → is_absent src ≡ v → (m0 r0 : Input) → By v ((is_absent with_ ≡ true) × Ends c exports_end m0 r0) ((n : Input) × TakesWord c from_kind m0 n × Source c (part src (λ y. Spells src y)) (part with_ (λ y. Spells with_ y)) n r0) → Known m0.places
       → (b : Gap) (ts : Input) (K : Gap → Input → Type 0) → says (end_laid w src with_) b ts K → Ended_by src with_ c r0 ts K
   ended_on w src with_ f g c true a m0 r0 h k b ts K q =
       let o = semi_of b ts K (subst (λ (v : Bool). says (when v ((if w then blank else gap look) · laid_from look (laid look Key src) · attributes look with_ (laid look Alone with_)) · semi) b ts K) (there src ∙ ap not a) q) in record {
@@ -142,7 +143,7 @@ module _ (look : Look) (x : Lexicon look.style) where
   abbrev specified_laid : Trees → Tree → Tree → Laid
   specified_laid xs src with_ = first_namespace look xs · exports look xs (named_items look is_no_namespace false xs) · end_laid (has_namespace xs && not (has_other xs)) src with_
 
-  none_specified : (src with_ : Tree) → Sound look Key src → Sound look Alone with_ → (c : Code) (ts0 r0 : Input) → ExportList c [] (part src (λ y. Spells src y)) (part with_ (λ y. Spells with_ y)) ts0 r0 → Known ts0.places → (b : Gap) (ts : Input) (K : Gap → Input → Type 0) → says (specified_laid none src with_) b ts K → Specified_on none src with_ c r0 ts K
+  none_specified : (src with_ : Tree) → KeyPart look src → Sound look Alone with_ → (c : Code) (ts0 r0 : Input) → ExportList c [] (part src (λ y. Spells src y)) (part with_ (λ y. Spells with_ y)) ts0 r0 → Known ts0.places → (b : Gap) (ts : Input) (K : Gap → Input → Type 0) → says (specified_laid none src with_) b ts K → Specified_on none src with_ c r0 ts K
   none_specified src with_ f g c ts0 r0 h k b ts K q =
       let o = skip (formats look) Touching q.0 _ q.2 in
       let z = ended_on false src with_ f g c (is_absent src) refl h.0 r0 h.2 (x.later h.1.0 h.0 h.1.2.2 (x.later ts0 h.1.0 h.1.1.2 k)) Touching o.0 K o.2 in record {
@@ -159,7 +160,7 @@ module _ (look : Look) (x : Lexicon look.style) where
         same_v = z.same_v;
       }
 
-  names_specified : (t : Tree) (us : Trees) (src with_ : Tree) → AllSound look (more t us) → Sound look Key src → Sound look Alone with_ → (c : Code) (ts0 r0 : Input) → is_star_export t ≡ false → ExportList c (parts (more t us)) (part src (λ y. Spells src y)) (part with_ (λ y. Spells with_ y)) ts0 r0 → Known ts0.places
+  names_specified : (t : Tree) (us : Trees) (src with_ : Tree) → AllSound look (more t us) → KeyPart look src → Sound look Alone with_ → (c : Code) (ts0 r0 : Input) → is_star_export t ≡ false → ExportList c (parts (more t us)) (part src (λ y. Spells src y)) (part with_ (λ y. Spells with_ y)) ts0 r0 → Known ts0.places
       → (b : Gap) (ts : Input) (K : Gap → Input → Type 0) → says (specified_laid (more t us) src with_) b ts K → Specified_on (more t us) src with_ c r0 ts K
   names_specified t us src with_ a f g c ts0 r0 i h k b ts K q =
       let e = each_map is_named_export is_no_namespace no_namespace_is (more t us) (from_listed is_named_export c right_brace_kind (more t us) h.1.0 h.0 h.1.2) in
@@ -197,7 +198,7 @@ module _ (look : Look) (x : Lexicon look.style) where
       as_list none u v m h s = h
       as_list (more w ws) u v m h s = unput (is_star_export w) _ _ (first_same look t us w ws s is_star_export re_is_star_export i) h
 
-  star_specified : (t : Tree) (src with_ : Tree) → Sound look Alone t → Sound look Key src → Sound look Alone with_ → (c : Code) (ts0 r0 : Input) → is_star_export t ≡ true → ExportStarAs c (part t (λ y. Spells t y)) (part src (λ y. Spells src y)) (part with_ (λ y. Spells with_ y)) ts0 r0 → Known ts0.places
+  star_specified : (t : Tree) (src with_ : Tree) → Sound look Alone t → KeyPart look src → Sound look Alone with_ → (c : Code) (ts0 r0 : Input) → is_star_export t ≡ true → ExportStarAs c (part t (λ y. Spells t y)) (part src (λ y. Spells src y)) (part with_ (λ y. Spells with_ y)) ts0 r0 → Known ts0.places
       → (b : Gap) (ts : Input) (K : Gap → Input → Type 0) → says (specified_laid (more t none) src with_) b ts K → Specified_on (more t none) src with_ c r0 ts K
   star_specified t src with_ a f g c ts0 r0 i h k b ts K q =
       let p = namespace_sort t i in
@@ -228,7 +229,7 @@ module _ (look : Look) (x : Lexicon look.style) where
       string_there (str_lit s u w) h = refl
       string_there _ h = absurd (true≢false (sym h))
 
-  specified_on : (xs : Trees) (src with_ : Tree) → AllSound look xs → Sound look Key src → Sound look Alone with_ → (c : Code) (ts0 r0 : Input) → Specified c (parts xs) (part src (λ y. Spells src y)) (part with_ (λ y. Spells with_ y)) ts0 r0 → Known ts0.places → (b : Gap) (ts : Input) (K : Gap → Input → Type 0)
+  specified_on : (xs : Trees) (src with_ : Tree) → AllSound look xs → KeyPart look src → Sound look Alone with_ → (c : Code) (ts0 r0 : Input) → Specified c (parts xs) (part src (λ y. Spells src y)) (part with_ (λ y. Spells with_ y)) ts0 r0 → Known ts0.places → (b : Gap) (ts : Input) (K : Gap → Input → Type 0)
       → says (specified_laid xs src with_) b ts K → Specified_on xs src with_ c r0 ts K
   specified_on none src with_ a f g c ts0 r0 h k b ts K q = none_specified src with_ f g c ts0 r0 h k b ts K q
   specified_on (more t us) src with_ a f g c ts0 r0 h k b ts K q = by (is_star_export t) refl h
@@ -242,7 +243,7 @@ module _ (look : Look) (x : Lexicon look.style) where
       by true e i = lone us i.0 e i.1 q
       by false e i = names_specified t us src with_ a f g c ts0 r0 e i k b ts K q
 
-  pub named_export_on : (s : Span) (xs : Trees) (src with_ : Tree) → AllSound look xs → Sound look Key src → Sound look Alone with_ → (st : Stand) → Sound look st (named_export s xs src with_)
+  pub named_export_on : (s : Span) (xs : Trees) (src with_ : Tree) → AllSound look xs → KeyPart look src → Sound look Alone with_ → (st : Stand) → Sound look st (named_export s xs src with_)
   named_export_on s xs src with_ a f g st c ts0 r0 h k b ts K q =
       let z = specified_on xs src with_ a f g c h.0 r0 h.2 (x.later ts0 h.0 h.1.3 k) _ q.0 K (skip (formats look) Touching q.0 _ q.2) in record {
         d = z.d;
@@ -264,7 +265,7 @@ module _ (look : Look) (x : Lexicon look.style) where
       export_same : {xs us : Trees} {a b d e : Tree} → xs ≡ us → a ≡ b → d ≡ e → named_export no_place xs a d ≡ named_export no_place us b e
       export_same p q r = ap₂ (λ (us : Trees) (t : Tree × Tree). named_export no_place us t.0 t.1) p (ap₂ (λ (a b : Tree). (a, b)) q r)
 
-  pub export_all_on : (s : Span) (src with_ : Tree) → Sound look Key src → Sound look Alone with_ → (st : Stand) → Sound look st (export_all s src with_)
+  pub export_all_on : (s : Span) (src with_ : Tree) → KeyPart look src → Sound look Alone with_ → (st : Stand) → Sound look st (export_all s src with_)
   export_all_on s src with_ f g st c ts0 r0 h k b ts K q =
       let i = skip (formats look) Touching q.0 _ q.2 in
       let j = skip (formats look) Touching i.0 _ i.2 in

@@ -23,6 +23,7 @@ use Rattle.ecma_redone.specs.Redo.{AllSame, Leaves, Mode, Plain, Same, kept, red
 use Rattle.ecma_redone.specs.Written.{leaves_of}
 use Rattle.ecma_redone_base.proofs.Begins.{is_part}
 use Rattle.ecma_redone_base.proofs.Follow.{calm, closed_calm}
+use Rattle.ecma_redone_base.proofs.KeyParts.{KeyPart}
 use Rattle.ecma_redone_base.proofs.Lists.{comma_on, listed, more_same, none_same, sorted}
 use Rattle.ecma_redone_base.proofs.Shapes.{alike}
 use Rattle.ecma_redone_base.proofs.Sound.{AllSound, Sound, plain_part}
@@ -331,7 +332,7 @@ module _ (look : Look) (x : Lexicon look.style) where
       by false e true f g = lone us g.0 e f g.1 q
       by false e false f g = names_on t us a c ts0 h.0 r0 e f g h.2 k b ts K q
 
-  pub import_on : (s : Span) (xs : Trees) (src with_ : Tree) → AllSound look xs → Sound look Key src → Sound look Alone with_ → (st : Stand) → Sound look st (import_decl s xs src with_)
+  pub import_on : (s : Span) (xs : Trees) (src with_ : Tree) → AllSound look xs → KeyPart look src → Sound look Alone with_ → (st : Stand) → Sound look st (import_decl s xs src with_)
   import_on s xs src with_ a f g st c ts0 r0 h k b ts K q =
       let i = spaced (starts_with_default xs) q.0 (λ d m. says (clause_laid xs · laid look Key src · attributes look with_ (laid look Alone with_) · semi) d m K) q.2 in
       let y = clause_on xs a c h.0 h.1 h.3 (x.later ts0 h.0 h.2.3 k) i.0 q.0 (λ d m. says (laid look Key src · attributes look with_ (laid look Alone with_) · semi) d m K) i.1 in

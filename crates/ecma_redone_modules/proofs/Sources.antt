@@ -29,6 +29,7 @@ use Rattle.ecma_redone.specs.Written.{leaves_of, written_key}
 use Rattle.ecma_redone_base.proofs.Begins.{first_token, is_loose, is_part, is_weak}
 use Rattle.ecma_redone_base.proofs.Ends.{absent_same, ended_known, quiet_at, there, unabsent}
 use Rattle.ecma_redone_base.proofs.Follow.{calm, needs_calm}
+use Rattle.ecma_redone_base.proofs.KeyParts.{KeyPart}
 use Rattle.ecma_redone_base.proofs.Shapes.{alike, re_is_absent}
 use Rattle.ecma_redone_base.proofs.Sound.{Sound, is_tight, plain_part}
 use Rattle.ecma_redone_base.proofs.Tokens.{blank_broke, ended, gapped, semi_of, skip, spelled_word, worded}
@@ -107,8 +108,8 @@ module _ (look : Look) (x : Lexicon look.style) where
     pub first : kind ts ≡ else_kind → kind ts0 ≡ else_kind
     pub again : (u : Tree) × Sorted is_string (unplaced c) (part u (λ y. Spells u y)) ts m × Same (leaves_of look) Plain t u
 
-  pub string_on : (t : Tree) → Sound look Key t → (c : Code) (ts0 r0 : Input) → Sorted is_string c (part t (λ y. Spells t y)) ts0 r0 → Known ts0.places → (b : Gap) (ts : Input) (K : Gap → Input → Type 0) → says (laid look Key t) b ts K → String_on t c ts0 r0 b ts K
-  string_on t f c ts0 r0 h k b ts K q =
+  plain_string : (t : Tree) → Sound look Key t → (c : Code) (ts0 r0 : Input) → Sorted is_string c (part t (λ y. Spells t y)) ts0 r0 → Known ts0.places → (b : Gap) (ts : Input) (K : Gap → Input → Type 0) → says (laid look Key t) b ts K → String_on t c ts0 r0 b ts K
+  plain_string t f c ts0 r0 h k b ts K q =
       let p = string_key t h.0 in
       let z = plain_part look Key t f p.0 c ts0 r0 h.1 k b ts K q in
       let w = z.again (record { quiet = λ e. absurd (true≢false (sym e ∙ p.2)); other = λ e. absurd (true≢false (sym e ∙ p.3)) }) in record {
@@ -121,6 +122,10 @@ module _ (look : Look) (x : Lexicon look.style) where
         first = first_token (is_weak t) (is_loose t) ts0 r0 ts z.m z.begins;
         again = (w.tree, (alike is_string re_is_string (leaves_of look) Plain t w.tree w.same ∙ h.0, w.spelled), w.same);
       }
+
+  pub string_on : (t : Tree) → KeyPart look t → (c : Code) (ts0 r0 : Input) → Sorted is_string c (part t (λ y. Spells t y)) ts0 r0 → Known ts0.places → (b : Gap) (ts : Input) (K : Gap → Input → Type 0) → says (laid look Key t) b ts K → String_on t c ts0 r0 b ts K
+  string_on (str_lit s u w) f c ts0 r0 h k b ts K q = plain_string (str_lit s u w) f c ts0 r0 h k b ts K q
+  string_on _ f c ts0 r0 h k b ts K q = absurd (true≢false (sym h.0))
 
   -- ---- a word or a string as the name of an export
 
@@ -136,7 +141,7 @@ module _ (look : Look) (x : Lexicon look.style) where
   as_string : (u : Tree) (c : Code) (ts m : Input) → Sorted is_string c (part u (λ y. Spells u y)) ts m → ExportName c (export_name u) (part u (λ y. Spells u y)) ts m
   as_string u c ts m h = subst (λ (o : Option (List ℕ × Span)). ExportName c o (part u (λ y. Spells u y)) ts m) (sym (string_key u h.0).4) h
 
-  other_name : (t : Tree) → export_name t ≡ None → Sound look Key t → (c : Code) (ts0 r0 : Input) → ExportName c (export_name t) (part t (λ y. Spells t y)) ts0 r0 → Known ts0.places → (b : Gap) (ts : Input) (K : Gap → Input → Type 0) → says (laid look Key t) b ts K → Exported t c ts0 r0 b ts K
+  other_name : (t : Tree) → export_name t ≡ None → KeyPart look t → (c : Code) (ts0 r0 : Input) → ExportName c (export_name t) (part t (λ y. Spells t y)) ts0 r0 → Known ts0.places → (b : Gap) (ts : Input) (K : Gap → Input → Type 0) → says (laid look Key t) b ts K → Exported t c ts0 r0 b ts K
   other_name t e f c ts0 r0 h k b ts K q =
       let z = string_on t f c ts0 r0 (subst (λ (o : Option (List ℕ × Span)). ExportName c o (part t (λ y. Spells t y)) ts0 r0) e h) k b ts K q in record {
         d = z.d;
@@ -148,7 +153,7 @@ module _ (look : Look) (x : Lexicon look.style) where
         again = (z.again.0, as_string z.again.0 (unplaced c) ts z.m z.again.1, z.again.2);
       }
 
-  pub export_name_on : (t : Tree) → Sound look Key t → (c : Code) (ts0 r0 : Input) → ExportName c (export_name t) (part t (λ y. Spells t y)) ts0 r0 → Known ts0.places → (b : Gap) (ts : Input) (K : Gap → Input → Type 0) → says (laid look Key t) b ts K → Exported t c ts0 r0 b ts K
+  pub export_name_on : (t : Tree) → KeyPart look t → (c : Code) (ts0 r0 : Input) → ExportName c (export_name t) (part t (λ y. Spells t y)) ts0 r0 → Known ts0.places → (b : Gap) (ts : Input) (K : Gap → Input → Type 0) → says (laid look Key t) b ts K → Exported t c ts0 r0 b ts K
   export_name_on (ident s n) f c ts0 r0 h k b ts K q =
       let z = spelled_word look x n ts0 r0 ts q.0 c c h.0 k q.1 in record {
         d = Touching;
@@ -222,7 +227,7 @@ module _ (look : Look) (x : Lexicon look.style) where
     pub same_u : Same (leaves_of look) Plain src u
     pub same_v : Same (leaves_of look) Plain with_ v
 
-  pub source_on : (src with_ : Tree) → Sound look Key src → Sound look Alone with_ → (c : Code) (ts0 r0 : Input) → Source c (part src (λ y. Spells src y)) (part with_ (λ y. Spells with_ y)) ts0 r0 → Known ts0.places → (b : Gap) (ts : Input) (K : Gap → Input → Type 0)
+  pub source_on : (src with_ : Tree) → KeyPart look src → Sound look Alone with_ → (c : Code) (ts0 r0 : Input) → Source c (part src (λ y. Spells src y)) (part with_ (λ y. Spells with_ y)) ts0 r0 → Known ts0.places → (b : Gap) (ts : Input) (K : Gap → Input → Type 0)
       → says (laid look Key src · attributes look with_ (laid look Alone with_) · semi) b ts K → Sourced src with_ c ts0 r0 ts K
   source_on src with_ f g c ts0 r0 h k b ts K q =
       let y = string_on src f c ts0 h.0 h.1 k b ts (λ d m. says (attributes look with_ (laid look Alone with_) · semi) d m K) q in

@@ -24,6 +24,7 @@ use Rattle.ecma_redone.specs.Redo.{Leaves, Mode, Plain, redo}
 use Rattle.ecma_redone.specs.Written.{leaves_of}
 use Rattle.ecma_redone_base.proofs.Begins.{is_part}
 use Rattle.ecma_redone_base.proofs.Ends.{unabsent}
+use Rattle.ecma_redone_base.proofs.KeyParts.{KeyPart}
 use Rattle.ecma_redone_base.proofs.Names.{id_on}
 use Rattle.ecma_redone_base.proofs.Shapes.{alike, re_is_absent}
 use Rattle.ecma_redone_base.proofs.Sound.{Sound}
@@ -95,7 +96,7 @@ module _ (look : Look) (x : Lexicon look.style) where
         };
       }
 
-  pub import_as : (s : Span) (l i : Tree) → is_absent i ≡ false → Sound look Key i → (st : Stand) → Sound look st (import_named_specifier s l i)
+  pub import_as : (s : Span) (l i : Tree) → is_absent i ≡ false → KeyPart look i → (st : Stand) → Sound look st (import_named_specifier s l i)
   import_as s l i e f st c ts0 r0 h k b ts K q =
       let g = subst (λ (v : Bool). By v (Sorted is_ident c (part l (λ y. Spells l y)) ts0 r0) ((m : Input) × (n : Input) × ExportName c (export_name i) (part i (λ y. Spells i y)) ts0 m × TakesWord c as_kind m n × Sorted is_ident c (part l (λ y. Spells l y)) n r0)) e h.0 in
       let y = export_name_on look x i f c ts0 g.0 g.2 k b ts (λ d m. says (blank · word (codes "as") · blank · laid look Alone l) d m K) (subst (λ (z : Laid). says z b ts K) (laid_import look st s l i e) q) in
@@ -156,7 +157,7 @@ module _ (look : Look) (x : Lexicon look.style) where
         };
       }
 
-  pub export_bare : (s : Span) (o : Tree) → Sound look Key o → (st : Stand) → Sound look st (export_named_specifier s o absent)
+  pub export_bare : (s : Span) (o : Tree) → KeyPart look o → (st : Stand) → Sound look st (export_named_specifier s o absent)
   export_bare s o f st c ts0 r0 h k b ts K q =
       let y = export_name_on look x o f c ts0 h.0 h.1 k b ts K q in record {
         d = y.d;
@@ -175,7 +176,7 @@ module _ (look : Look) (x : Lexicon look.style) where
         };
       }
 
-  pub export_as : (s : Span) (o e : Tree) → is_absent e ≡ false → Sound look Key o → Sound look Key e → (st : Stand) → Sound look st (export_named_specifier s o e)
+  pub export_as : (s : Span) (o e : Tree) → is_absent e ≡ false → KeyPart look o → KeyPart look e → (st : Stand) → Sound look st (export_named_specifier s o e)
   export_as s o e a f g st c ts0 r0 h k b ts K q =
       let i = subst (λ (v : Bool). By v (h.0 ≡ r0) ((n : Input) × TakesWord c as_kind h.0 n × ExportName c (export_name e) (part e (λ y. Spells e y)) n r0)) a h.2 in
       let y = export_name_on look x o f c ts0 h.0 h.1 k b ts (λ d m. says (blank · word (codes "as") · blank · laid look Key e) d m K) (subst (λ (z : Laid). says z b ts K) (laid_export look st s o e a) q) in
@@ -197,7 +198,7 @@ module _ (look : Look) (x : Lexicon look.style) where
         };
       }
 
-  pub star_export : (s : Span) (n : Tree) → Sound look Key n → (st : Stand) → Sound look st (export_namespace_specifier s n)
+  pub star_export : (s : Span) (n : Tree) → KeyPart look n → (st : Stand) → Sound look st (export_namespace_specifier s n)
   star_export s n f st c ts0 r0 h k b ts K q =
       let i = skip (formats look) Touching q.0 _ q.2 in
       let z = export_name_on look x n f c h.1 r0 h.4 (x.later h.0 h.1 h.3.3 (x.later ts0 h.0 h.2.2 k)) Spaced i.0 K i.2 in record {

@@ -11,11 +11,14 @@ use Rattle.ecma_token.specs.declared.error.SyntaxError.TheVariants.{LegacyOctal,
 use Rattle.ecma_token.specs.declared.error.Error.{Error}
 use Rattle.ecma_token.specs.declared.version.EsVersion.{EsVersion}
 use Rattle.ecma_token.specs.declared.place.Span.{Span}
-use Rattle.ecma_token.specs.Tokens.{Content, Named, Quoted, Numeral}
-use Rattle.ecma_tree.specs.Tree.{Tree, str_lit, number_lit, ident_name, tpl}
+use Rattle.ecma_token.specs.Tokens.{Content, Named, Quoted, Numeral, Piece}
+use Rattle.ecma_tree.specs.Tree.{Tree, str_lit, number_lit, ident_name, tpl, tpl_element}
 use Rattle.ecma_program.specs.Program.{is_escaped}
 use Rattle.ecma_early.specs.Early.{fault, has_octal, is_legacy, all_octal, legacy_string, legacy_number}
 use Rattle.ecma_scan.specs.Names.{IsName, Spell}
+use Rattle.ecma_tree.specs.Places.{no_place}
+use Rattle.ecma_literal.specs.Templates.{SpellsPiece}
+use Rattle.ecma_syntax.specs.Shape.{is_cooked}
 use Rattle.ecma_syntax.specs.Input.{Input, content, text, text_in}
 use Rattle.ecma_spell_base.specs.declared.style.Style.{Style}
 use Rattle.ecma_spell_string.specs.CodePoints.{AreUnits}
@@ -38,6 +41,7 @@ use Rattle.ecma_redone_texts.proofs.Octals.{no_octal}
 use Rattle.ecma_redone_texts.proofs.Backslashes.{backslash_bytes}
 use Rattle.ecma_redone_texts.proofs.Units.{string_units}
 use Rattle.ecma_redone_texts.proofs.Numbers.{number_plain}
+use Rattle.ecma_redone_texts.proofs.TemplatesAgain.{Cooked}
 
 -- ---- strings
 
@@ -183,6 +187,23 @@ word_read name r = word_from (content r.at) (from_of r.at (content r.at) r.known
 
 key_faithful : (style : Style) (name : List ℕ) → ReadWord Known name → FaithfulKey style name
 key_faithful style name r q = no_octal _ _ (key_is_read style (chars name) [] q (word_read name r).names)
+
+-- ---- pieces of templates
+
+-- a piece of a template that was read: its text is UTF-8, and where no escape of it is bad it spells its units
+pub record PieceText (raw : List ℕ) (units : Option (List ℕ)) : Type 0 where
+  pub utf8 : IsUtf8 raw
+  pub cooked : is_cooked (tpl_element no_place true raw units) ≡ true → Cooked (chars raw)
+
+pub piece_read : (raw : List ℕ) (units : Option (List ℕ)) → Told Known (Piece raw units) → PieceText raw units
+piece_read raw units t = by units (from_of t.at (Piece raw units) t.known t.is)
+  where
+    by : (u : Option (List ℕ)) → From (Piece raw u) → PieceText raw u
+    by None f = record { utf8 = utf8_of f.origin.0 raw (scalars_front f.origin.0 f.origin.3.1 (sym (ap scalars f.origin.3.4) ∙ f.are_scalars)) f.origin.5; cooked = λ e. absurd (true≢false (sym e)) }
+    by (Some u) f = let s = scalars_front f.origin.0 f.origin.3.1 (sym (ap scalars f.origin.3.4) ∙ f.are_scalars) in record {
+      utf8 = utf8_of f.origin.0 raw s f.origin.5;
+      cooked = λ e. record { units = u; ending = f.origin.1; before = f.from; behind = f.origin.2; spells = subst (λ (l : List ℕ). SpellsPiece l (Some u) f.origin.1 f.from f.origin.2) (sym (ap chars f.origin.5 ∙ chars-encodes f.origin.0 s)) f.origin.3 };
+    }
 
 -- ---- the tree
 

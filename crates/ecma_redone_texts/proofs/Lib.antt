@@ -3,4 +3,6 @@ pub mod Octals
 pub mod Backslashes
 pub mod Units
 pub mod Numbers
+pub mod Again
+pub mod TemplatesAgain
 pub mod Leaves

@@ -51,7 +51,7 @@ module _ (look : Look) where
       inner u h = deepens look ▸ at (k u h ▸ λ w l. back_open w l)
 
   -- a comma behind a last hole
-  last_comma : (b : Bool) (v : State) → is_open v ≡ true → Steps (when b (comma look)) v (λ u. is_open u ≡ true)
+  pub last_comma : (b : Bool) (v : State) → is_open v ≡ true → Steps (when b (comma look)) v (λ u. is_open u ≡ true)
   last_comma b v o = when_goes b (λ e. shut comma_mark o ▸ at (ends (gaps look refl) (λ u q. ⊎_elim (λ (x : u ≡ Shut). ap is_open x) (λ (x : u ≡ Clear). ap is_open x) q))) (λ e. o)
 
   pub array_node : (sp : Span) (xs : Trees) → AllGood look xs → Good look (array_lit sp xs)

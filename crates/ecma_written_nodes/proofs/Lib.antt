@@ -9,3 +9,6 @@ pub mod Values
 pub mod Further
 pub mod Primaries
 pub mod Expressions
+pub mod Members
+pub mod Patterns
+pub mod Functions

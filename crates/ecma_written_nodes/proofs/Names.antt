@@ -102,7 +102,7 @@ module _ (look : Look) where
   pub key_leaves : (sp : Span) (o k : Tree) (st : Stand) (v : State) → WordKey k → leaves Alone k v ≡ true → leaves st (member_expr sp o k) v ≡ true
   key_leaves sp o k st v w l = passes Alone st k (member_expr sp o k) v l w.plain (λ e. w.ending sp o) (λ e. absurd (false≢true (sym w.no_number ∙ e)))
 
-  bracket_admits : (st : Stand) (o : Tree) (sp : Span) (e : Tree) (v : State) → numeric st o ≡ false → leaves st o v ≡ true → admits v (computed_prop_name sp e) ≡ true
+  pub bracket_admits : (st : Stand) (o : Tree) (sp : Span) (e : Tree) (v : State) → numeric st o ≡ false → leaves st o v ≡ true → admits v (computed_prop_name sp e) ≡ true
   bracket_admits st o sp e Fresh n l = refl
   bracket_admits st o sp e Clear n l = refl
   bracket_admits st o sp e Shut n l = refl
@@ -118,7 +118,7 @@ module _ (look : Look) where
   member_laid st sp (number_lit at' value raw) k n = absurd (true≢false n)
   member_laid st sp o k n = refl
 
-  by_laid : (f g : Laid) {s : State} {P : State → Type 0} → f ≡ g → Steps g s P → Steps f s P
+  pub by_laid : (f g : Laid) {s : State} {P : State → Type 0} → f ≡ g → Steps g s P → Steps f s P
   by_laid f g {s = s} {P = P} e x = subst (λ (l : Laid). Steps l s P) (sym e) x
 
   pub member_word : (sp : Span) (o k : Tree) → is_number o ≡ false → call_level ≤ level o → Good look o → Good look k → (is_word_name k || is_private k) ≡ true → Good look (member_expr sp o k)

@@ -179,7 +179,7 @@ module _ (look : Look) where
         (λ e. let n = (and_parts (is_one_name ps) _ e).0 in one_name ps a u n (f n))
         (λ e. shut left_paren o ▸ at (commas_go look ps Shut a refl ▸ λ v l. ends (shut right_paren l) (λ w q. ap is_end q)))
 
-  block_leaves : (b : Tree) (t : Tree) (st : Stand) (v : State) → is_block b ≡ true → leaves Body b v ≡ true → leaves st t v ≡ true
+  pub block_leaves : (b : Tree) (t : Tree) (st : Stand) (v : State) → is_block b ≡ true → leaves Body b v ≡ true → leaves st t v ≡ true
   block_leaves (block_stmt s ss) t st Fresh e l = absurd (false≢true l)
   block_leaves (block_stmt s ss) t st Clear e l = refl
   block_leaves (block_stmt s ss) t st Shut e l = refl

@@ -23,7 +23,7 @@ use Rattle.ecma_written_nodes.proofs.Forms.{AllGood, Good}
 use Rattle.ecma_written_nodes.proofs.Names.{leaving}
 use Rattle.ecma_written_nodes.proofs.Steps.{At, Steps, at, braced, committed, if_goes, mark, shut, text_by, when_goes, when_true, ◌▸◌}
 use Rattle.ecma_written_tiles.proofs.Marks.{back_quote}
-use Rattle.ecma_written_tiles.specs.Classes.{Dotted, End, Number, Numbered, Pointed, Quasi, Quasied, Regex, Shut, Slashed, State, Str, Worded, behind, is_digitless, takes}
+use Rattle.ecma_written_tiles.specs.Classes.{Dotted, End, Number, Numbered, Pointed, Quasi, Quasied, Regex, Shut, Slashed, State, Str, Worded, behind, is_digitless, takes, is_open}
 use Rattle.ecma_written_tiles.specs.Goes.{Fits}
 
 -- texts that are meant together
@@ -89,8 +89,11 @@ module _ (look : Look) where
       p.0 ▸ at (ending_by dollar_brace_ends ▸ at (a.0 Alone Shut refl ▸ λ v l. braced (leaves_open Alone e v l) ▸ at
       (template_go st es (more r qs) (suc_same _ _ n) a.1 p.1)))
 
-  pub template_node : (sp : Span) (es qs : Trees) → count qs ≡ count es + 1 → AllGood look es → ((st : Stand) → Quasis st qs) → Good look (tpl sp es qs)
-  template_node sp es qs n a f st s d =
+  pub template_at : (sp : Span) (es qs : Trees) → count qs ≡ count es + 1 → AllGood look es → (st : Stand) → Quasis st qs → (s : State) → is_open s ≡ true → Steps (laid look st (tpl sp es qs)) s (At Shut)
+  template_at sp es qs n a st f s d =
       if_goes (count qs == count es + 1)
-      (λ e. mark ▸ at (shut back_quote (admits_open s (tpl sp es qs) d) ▸ at (template_go st es qs n a (f st) ▸ at (ending_by back_quote_ends ▸ at (leaving st (tpl sp es qs) mark refl)))))
+      (λ e. mark ▸ at (shut back_quote d ▸ at (template_go st es qs n a f ▸ at (ending_by back_quote_ends ▸ at mark))))
       (λ e. absurd (false≢true (sym e ∙ eq-eqb (count qs) (count es + 1) n)))
+
+  pub template_node : (sp : Span) (es qs : Trees) → count qs ≡ count es + 1 → AllGood look es → ((st : Stand) → Quasis st qs) → Good look (tpl sp es qs)
+  template_node sp es qs n a f st s d = leaving st (tpl sp es qs) (template_at sp es qs n a st (f st) s (admits_open s (tpl sp es qs) d)) refl
