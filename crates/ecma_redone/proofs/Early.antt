@@ -482,12 +482,18 @@ proto_written look q s k u v = by (key_is look.style (leaves_of look) k)
 
 legal_written : (look : Look) → Legal true (Faithful look) (leaves_of look)
 legal_written look = record {
-  string = λ m s u w h q r. h.modern q r; strict = λ m s u w h. h.strict; number = λ m s v w h q r. h q r; proto = proto_written look;
+  string = λ m s u w h q r. h.modern q r;
+  strict = λ m s u w h. h.strict;
+  number = λ m s v w h q r. h q r;
+  proto = proto_written look;
 }
 
 keeps_written : (look : Look) → Keeps (R true) (Faithful look) step (leaves_of look)
 keeps_written look = record {
-  node = node true (Faithful look) (leaves_of look) (legal_written look); arguments = arguments_written look; key = key_written look; constructor_key = λ k e h. constructor_key_written look k h;
+  node = node true (Faithful look) (leaves_of look) (legal_written look);
+  arguments = arguments_written look;
+  key = key_written look;
+  constructor_key = λ k e h. constructor_key_written look k h;
 }
 
 pub legal_alike : LegalAlike

@@ -167,8 +167,12 @@ module _ (P : Mode → Tree → Type 0) (l : Leaves) where
 
 kept_tells : Tells HasElements kept
 kept_tells = record {
-  strings = λ m s u w h. refl; quasis = λ w. refl; elements = λ m s es qs h. h; arguments_kept = λ b a. refl;
-  key = λ k e. ap property_key e; constructor_key = λ k e. ap property_key e;
+  strings = λ m s u w h. refl;
+  quasis = λ w. refl;
+  elements = λ m s es qs h. h;
+  arguments_kept = λ b a. refl;
+  key = λ k e. ap property_key e;
+  constructor_key = λ k e. ap property_key e;
 }
 
 given_program : (v : Bool) → arguments (program (given_none v)) ≡ list none
@@ -200,8 +204,12 @@ constructor_key_same look k h = by (constructor_key_is (leaves_of look) k)
 
 written_tells : (look : Look) → Tells (Faithful look) (leaves_of look)
 written_tells look = record {
-  strings = λ m s u w h. h.plain; quasis = λ w. refl; elements = λ m s es qs h. h; arguments_kept = arguments_same look;
-  key = key_same look; constructor_key = constructor_key_same look;
+  strings = λ m s u w h. h.plain;
+  quasis = λ w. refl;
+  elements = λ m s es qs h. h;
+  arguments_kept = arguments_same look;
+  key = key_same look;
+  constructor_key = constructor_key_same look;
 }
 
 pub same_program : SameProgram

@@ -103,4 +103,3 @@ module _ (lv : Leaves) (look : Look) where
   exports_alike ts x =
       when_alike _ _ (ap₂ (λ b c. b || not c) (Questions.same_has_other lv ts) (Questions.same_has_namespace lv ts))
       (when_alike _ _ (Questions.same_has_namespace lv ts) same ▸ if_alike _ _ (Questions.same_has_other lv ts) (in_braces_alike x) same)
-

@@ -176,6 +176,7 @@ module _ (lv : Leaves) where
   same_is_minus md _ = refl
 
   pub same_is_decrement : (m : Mode) (t : Tree) → is_decrement (redo lv m t) ≡ is_decrement t
+  same_is_decrement md (update_expr span op prefix arg) = refl
   same_is_decrement md _ = refl
 
   pub same_is_postfix_decrement : (m : Mode) (t : Tree) → is_postfix_decrement (redo lv m t) ≡ is_postfix_decrement t
@@ -220,4 +221,3 @@ module _ (lv : Leaves) where
 
   pub same_gap_of_unary : (m : Mode) (op : ℕ) (t : Tree) → gap_of_unary op (redo lv m t) ≡ gap_of_unary op t
   same_gap_of_unary md op t = rw (same_starts_with_word _ t, same_is_plus _ t, same_is_minus _ t) refl
-
