@@ -1,7 +1,5 @@
-pub mod Origins
 pub mod Octals
 pub mod Backslashes
-pub mod Units
 pub mod Numbers
 pub mod Again
 pub mod TemplatesAgain

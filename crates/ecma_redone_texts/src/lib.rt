@@ -3,8 +3,7 @@
 
 ghost use Rattle.ecma_redone_texts.specs.Laws.{ReadIsFaithful};
 
-/// Law: of a tree that was read from known tokens, what is written of each leaf tells what the leaf told, where strings
-/// stay directives or none.
+/// Law: of a tree that was read from known tokens, what is written of each leaf tells what the leaf told.
 #[tactic(auto)]
 pub fn faithful_law()
     ensures { ReadIsFaithful }
