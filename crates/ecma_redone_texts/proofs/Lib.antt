@@ -4,3 +4,4 @@ pub mod Numbers
 pub mod Again
 pub mod TemplatesAgain
 pub mod Leaves
+pub mod Derived
