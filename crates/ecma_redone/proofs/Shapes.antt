@@ -2,14 +2,14 @@
 use Rattle.std.proofs.Common.{◌≡◌, ◌+◌, ◌||◌, ℕ, max, Bool, true, false, if◌then◌else◌, List, [], ◌∷◌, refl, sym, ap, ◌∙◌}
 use Rattle.ecma_tree.specs.Tree.{Tree, none, more, bin_expr, if_stmt, assign_prop, list, absent}
 use Rattle.ecma_tree.specs.Folds.{fold}
-use Rattle.ecma_nesting.specs.Nesting.{deepest, is_if, nesting_step, nesting}
+use Rattle.ecma_nesting.specs.Nesting.{deepest, is_if, nesting_step}
 use Rattle.ecma_syntax.specs.Shape.{clean_step, is_clean}
 use Rattle.ecma_layout.specs.declared.look.Look.{Look}
 use Rattle.ecma_layout.specs.Looks.{formats}
 use Rattle.ecma_redone.specs.Redo.{Mode, Plain, Leaves, kept, redo, Same}
 use Rattle.ecma_redone.specs.Written.{leaves_of, given_none, new_arguments}
 use Rattle.ecma_redone.specs.Laws.{NestsAlike, CleanAlike}
-use Rattle.ecma_redone.proofs.Folded.{Kids, Keeps, everywhere, folded, kids_equal}
+use Rattle.ecma_redone.proofs.Folded.{Kids, everywhere, folded, kids_equal}
 use Rattle.ecma_redone.proofs.Keys.{key_folded, constructor_key_folded}
 
 re_is_if : (l : Leaves) (m : Mode) (t : Tree) → is_if (redo l m t) ≡ is_if t

@@ -1,6 +1,6 @@
 -- A tree that was read and is written again is laid out as it was: formatted and formatted, formatted and minified, minified and minified, from
 -- ES2015 on, with characters past ASCII.
-use Rattle.std.proofs.Common.{◌≡◌, ◌⊎◌, ℕ, Bool, true, false, not, ◌&&◌, ◌==◌, if◌then◌else◌, List, [], ◌∷◌, Option, Some, None, refl, sym, ap, subst, ◌∙◌, chars, IsUtf8, bytes_eq}
+use Rattle.std.proofs.Common.{◌≡◌, ℕ, Bool, true, false, if◌then◌else◌, List, ◌∷◌, Option, Some, None, refl, sym, ap, subst, ◌∙◌, bytes_eq}
 use Rattle.std.specs.Prelude.{nat_lt}
 use Rattle.std.proofs.lemmas.Slice.Eq.{bytes_eq-Decides}
 use Rattle.ecma_number.specs.Numbers.{SpecNumber}
@@ -17,7 +17,7 @@ use Rattle.ecma_layout.specs.Layout.{laid}
 use Rattle.ecma_layout.specs.Literals.{string_bytes, number_bytes, big_bytes, quasi_bytes, is_escaped_directive}
 use Rattle.ecma_layout_laws.proofs.Alike.{Alike}
 use Rattle.ecma_written.specs.Means.{Known}
-use Rattle.ecma_redone.specs.Redo.{Mode, Plain, Headed, Pointed, Raw, is_head, is_pointed, is_tagged, quasi_mode, object_mode, chain_mode, placed, Leaves, redo, redos, kept, Same as RedoSame}
+use Rattle.ecma_redone.specs.Redo.{Mode, Plain, Headed, Raw, is_head, is_pointed, is_tagged, quasi_mode, object_mode, chain_mode, placed, Leaves, redo, redos, Same as RedoSame}
 use Rattle.ecma_redone.specs.Every.{every, every_all}
 use Rattle.ecma_redone.specs.Read.{Read, ReadString, ReadNumber, ReadBig, Told}
 use Rattle.ecma_redone.specs.Written.{leaves_of, new_arguments, written_key, written_constructor_key}

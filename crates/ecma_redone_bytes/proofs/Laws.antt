@@ -8,7 +8,7 @@ use Rattle.ecma_layout.specs.declared.look.Stand.TheVariants.{Alone}
 use Rattle.ecma_layout.specs.Looks.{Laid, listed, is_refused}
 use Rattle.ecma_layout.specs.Layout.{laid, pieces}
 use Rattle.ecma_layout_laws.specs.Marks.{unmarked, AreWrittenAlike}
-use Rattle.ecma_layout_laws.proofs.Alike.{Alike, seen, listed_seen, refused_seen}
+use Rattle.ecma_layout_laws.proofs.Alike.{Alike, listed_seen, refused_seen}
 use Rattle.ecma_layout_laws.proofs.Marks.{plain_resolved, plain_shortened}
 use Rattle.ecma_written.specs.Means.{Known}
 use Rattle.ecma_redone.specs.Redo.{Plain, Same}

@@ -1,49 +1,29 @@
 -- Texts of literals that are written again: formatted and formatted, formatted and minified, minified and minified, from ES2015 on, with
 -- characters past ASCII.
-use Rattle.std.proofs.Common.{◌≡◌, ℕ, zero, suc, ◌<◌, ◌≤◌, ◌+◌, ◌/◌, ltb, cond, ◌⊎◌, ⊎_elim, Bool, true, false, not, ◌&&◌, ◌||◌, ◌==◌, List, [], ◌∷◌, ◌++◌, Option, Some, None, option_map, refl, sym, ap, subst, ◌∙◌, arith, codes, bytes_eq, chars, IsUtf8, encode_utf8_all, nat_lt, nat_le, if◌then◌else◌}
-use lib.Utf8.{scalar, scalars, encode, encodes, low_scalar, next}
+use Rattle.std.proofs.Common.{◌≡◌, ℕ, ⊎_elim, Bool, true, false, not, ◌&&◌, ◌||◌, ◌==◌, List, [], ◌∷◌, ◌++◌, Some, None, refl, sym, ap, ◌∙◌, codes, bytes_eq, chars, IsUtf8, encode_utf8_all, nat_lt, if◌then◌else◌}
+use lib.Utf8.{scalars, encodes}
 use Rattle.std.specs.Prelude.{unwrap_or}
-use Rattle.std.specs.Char.{IsScalar, is_digit}
 use Rattle.std.specs.List.{list_all, list_any}
-use Rattle.std.specs.Str.Parse.{digits_value}
-use Rattle.std.proofs.lemmas.Bool.{cases_Bool, cases_lt, eqb-true, false≢true}
-use Rattle.std.proofs.lemmas.Bool.Decides.{nat_tests}
+use Rattle.std.proofs.lemmas.Bool.{cases_Bool, false≢true}
 use Rattle.std.proofs.Math.Bool.{or-true}
 use Rattle.std.proofs.lemmas.List.Elements.{filter-append}
-use Rattle.std.proofs.lemmas.Str.{encode_ascii, encodes-chars, chars-encodes, scalars-chars}
+use Rattle.std.proofs.lemmas.Str.{encodes-chars, chars-encodes, scalars-chars}
 use Rattle.ecma_number.specs.Numbers.{SpecNumber, plain, prefix_radix, is_legacy_octal}
-use Rattle.ecma_scan.specs.Runs.{Each}
 use Rattle.ecma_token.specs.Editions.{edition_rank}
 use Rattle.ecma_token.specs.declared.version.EsVersion.{EsVersion}
-use Rattle.ecma_literal.specs.Escapes.{begins, is_decimal, is_hex, is_line_feed}
 use Rattle.ecma_literal.specs.Standing.{takes_point, is_digit_or_separator}
-use Rattle.ecma_literal.specs.Templates.{SpellsPiece, line_feeds, is_brace}
-use Rattle.ecma_literal.specs.declared.template.Ending.{Ending}
-use Rattle.ecma_spell_base.specs.declared.form.Form.{Form}
-use Rattle.ecma_spell_base.specs.declared.form.Form.TheVariants.{Bare, Letter, Nul, Hex, Four, FourLower, Pair, Braced}
 use Rattle.ecma_spell_base.specs.declared.style.Style.{Style}
-use Rattle.ecma_spell_base.specs.Forms.{written, Writes}
-use Rattle.ecma_spell_base.specs.Styles.{is_up_to_es5, is_below_es2021}
-use Rattle.ecma_spell_base.proofs.AsciiLemmas.{Low, written_low}
-use Rattle.ecma_spell_string.specs.CodePoints.{AreUnits, AreCodes, code_points}
-use Rattle.ecma_spell_string.specs.Strings.{chars_text, quoted, quote_of, string_text, is_backslash, behind, form_of as string_form, keeps_raw}
-use Rattle.ecma_spell_string.specs.declared.quoted.Behind.{Behind}
-use Rattle.ecma_spell_string.proofs.CodePointLemmas.{codes_are}
-use Rattle.ecma_spell_string.proofs.QuotedLemmas.{written_on, can_write, quote_low}
-use Rattle.ecma_spell_string.proofs.StringLemmas.{quote_is}
+use Rattle.ecma_spell_base.specs.Styles.{is_below_es2021}
+use Rattle.ecma_spell_string.specs.CodePoints.{AreUnits}
+use Rattle.ecma_spell_string.specs.Strings.{quoted, string_text, is_backslash, keeps_raw}
 use Rattle.ecma_spell_string.proofs.RawLemmas.{formatted_again}
 use Rattle.ecma_spell_number.specs.Numbers.{formatted, before_member, separated, whole_text, is_new_prefix}
 use Rattle.ecma_spell_number.proofs.AgainLemmas.{separated_twice}
 use Rattle.ecma_spell_number.proofs.PlainLemmas.{plain_twice}
-use Rattle.ecma_spell_template.specs.Laws.{is_code_point}
-use Rattle.ecma_spell_template.specs.Templates.{template_text, parts, parts_text, part_text, part_at, escaped, behind_backslash, behind_x, hex_part, is_kept_code, is_printed, is_separator, stays, part_more, digit_first, dollar_behind, form_of as template_form}
-use Rattle.ecma_spell_template.specs.declared.part.Part as p
-use Rattle.ecma_spell_template.proofs.AgainLemmas.{template_again, written_again}
-use Rattle.ecma_spell_template.proofs.TextLemmas.{can_write as template_writes}
 use Rattle.ecma_lexicon.proofs.Quotes.{quoted_scalars}
 use Rattle.std.proofs.lemmas.Slice.Eq.{bytes_eq-Decides}
 use Rattle.ecma_redone_texts.proofs.Backslashes.{backslash_bytes}
-use Rattle.ecma_layout.specs.Literals.{string_bytes, number_bytes, big_bytes, quasi_bytes, is_escaped_directive}
+use Rattle.ecma_layout.specs.Literals.{string_bytes, number_bytes, big_bytes, is_escaped_directive}
 
 -- ---- in one edition
 

@@ -1,6 +1,6 @@
 -- What is derived from tokens that were read is read from these.
-use Rattle.std.proofs.Common.{◌≡◌, false, List, [], ◌∷◌, subst}
-use Rattle.ecma_syntax.specs.Input.{Place, Input, rest, others}
+use Rattle.std.proofs.Common.{List, [], ◌∷◌, subst}
+use Rattle.ecma_syntax.specs.Input.{Place, Input, others}
 use Rattle.ecma_written.specs.Means.{Known}
 use Rattle.ecma_redone.specs.Read.{Knowledge}
 use Rattle.ecma_redone.proofs.Found.{found}

@@ -1,9 +1,7 @@
 -- What is written of a leaf that was read tells what the leaf told.
-use Rattle.std.proofs.Common.{◌≡◌, ◌≢◌, ℕ, ◌⊎◌, inl, inr, ⊎_elim, Bool, true, false, not, ◌&&◌, ◌||◌, ◌==◌, if◌then◌else◌, List, [], ◌∷◌, ◌++◌, Option, Some, None, option_map, refl, sym, ap, subst, ◌∙◌, true≢false, codes, bytes_eq, chars, IsUtf8, encode_utf8_all}
+use Rattle.std.proofs.Common.{◌≡◌, ℕ, Bool, true, false, not, ◌&&◌, ◌||◌, if◌then◌else◌, List, [], ◌∷◌, ◌++◌, Option, Some, None, refl, sym, ap, subst, ◌∙◌, true≢false, codes, bytes_eq, chars, IsUtf8, encode_utf8_all}
 use lib.Utf8.{scalar, scalars}
-use Rattle.std.specs.Char.{IsScalar}
 use Rattle.std.specs.List.{list_any, list_all}
-use Rattle.std.proofs.lemmas.Bool.{cases_Bool}
 use Rattle.std.proofs.lemmas.Str.{chars-encodes, encodes-chars, chars-nil}
 use Rattle.std.proofs.lemmas.Slice.Eq.{bytes_eq-Decides}
 use Rattle.ecma_number.specs.Numbers.{SpecNumber, number_of}
@@ -14,20 +12,20 @@ use Rattle.ecma_token.specs.declared.place.Span.{Span}
 use Rattle.ecma_token.specs.Tokens.{Content, Named, Quoted, Numeral, Piece}
 use Rattle.ecma_tree.specs.Tree.{Tree, str_lit, number_lit, ident_name, tpl, tpl_element}
 use Rattle.ecma_program.specs.Program.{is_escaped}
-use Rattle.ecma_early.specs.Early.{fault, has_octal, is_legacy, all_octal, legacy_string, legacy_number}
+use Rattle.ecma_early.specs.Early.{fault, has_octal, is_legacy, all_octal, legacy_number}
 use Rattle.ecma_tree.specs.Places.{no_place}
 use Rattle.ecma_literal.specs.Templates.{SpellsPiece}
 use Rattle.ecma_syntax.specs.Shape.{is_cooked}
-use Rattle.ecma_syntax.specs.Input.{Input, content, text, text_in}
+use Rattle.ecma_syntax.specs.Input.{content, text_in}
 use Rattle.ecma_spell_base.specs.declared.style.Style.{Style}
 use Rattle.ecma_spell_string.specs.CodePoints.{AreUnits}
-use Rattle.ecma_spell_string.specs.Names.{AreNameChars, is_quoted_key}
+use Rattle.ecma_spell_string.specs.Names.{AreNameChars}
 use Rattle.ecma_spell_string.specs.Strings.{quoted, keeps_raw, is_backslash, is_ascii}
 use Rattle.ecma_spell_string.proofs.NameLemmas.{key_is_read}
 use Rattle.ecma_spell_string.proofs.StringLemmas.{quoted_is_read}
 use Rattle.ecma_spell_number.specs.Numbers.{before_member}
 use Rattle.ecma_layout.specs.declared.look.Look.{Look}
-use Rattle.ecma_layout.specs.Literals.{string_bytes, key_bytes, number_bytes}
+use Rattle.ecma_layout.specs.Literals.{string_bytes, number_bytes}
 use Rattle.ecma_written.specs.Means.{Known}
 use Rattle.ecma_written.proofs.Known.{scalars_front}
 use Rattle.ecma_redone.specs.Redo.{Mode, is_pointed}

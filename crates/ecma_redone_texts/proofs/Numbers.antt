@@ -1,13 +1,9 @@
 -- A number that is no legacy form (B.1.1) is written as none.
-use Rattle.std.proofs.Common.{◌≡◌, ℕ, zero, suc, ◌+◌, ◌-◌, ◌<◌, ◌≤◌, ◌⊎◌, ⊎_elim, Bool, true, false, not, ◌&&◌, ◌||◌, ◌==◌, if◌then◌else◌, List, [], ◌∷◌, ◌++◌, length, Option, Some, None, refl, sym, ap, subst, ◌∙◌, arith, true≢false, encode_utf8_all, take, drop, option_map}
-use Rattle.std.specs.Prelude.{nat_lt, nat_le, map, unwrap_or, ◌^◌, ℤ, pos, negsuc, ◌+ℤ◌, ◌-ℤ◌}
-use Rattle.std.specs.Char.{to_ascii_lowercase}
-use Rattle.std.specs.Fmt.{decimal}
-use Rattle.std.specs.Str.Parse.{digits_value}
-use Rattle.std.proofs.lemmas.Bool.{cases_Bool, cases_lt, eqb-true, and_parts}
-use Rattle.std.proofs.lemmas.Bool.Decides.{nat_tests}
+use Rattle.std.proofs.Common.{◌≡◌, ℕ, zero, suc, ◌+◌, ◌-◌, ⊎_elim, Bool, true, false, not, ◌&&◌, ◌||◌, ◌==◌, if◌then◌else◌, List, [], ◌∷◌, ◌++◌, length, Option, Some, None, refl, sym, ap, subst, ◌∙◌, true≢false, take, drop}
+use Rattle.std.specs.Prelude.{nat_lt, nat_le, unwrap_or, ℤ, pos, negsuc}
+use Rattle.std.proofs.lemmas.Bool.{cases_Bool, eqb-true}
 use Rattle.ecma_number.specs.Numbers.{SpecNumber, Scaled, InRadix, number_of, prefix_radix, spells_mantissa, spells_exponent, plain, before, after, trim_front, numeral, IsCanonical}
-use Rattle.ecma_early.specs.Early.{is_legacy, begins_digit, is_digit}
+use Rattle.ecma_early.specs.Early.{is_legacy, begins_digit}
 use Rattle.ecma_spell_base.specs.declared.style.Style.{Style}
 use Rattle.ecma_spell_base.specs.Styles.{is_below_es2021, is_up_to_es5}
 use Rattle.ecma_literal.specs.Standing.{takes_point}

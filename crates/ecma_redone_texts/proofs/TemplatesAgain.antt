@@ -1,26 +1,16 @@
 -- The characters of templates that are written again.
-use Rattle.std.proofs.Common.{◌≡◌, ℕ, zero, suc, ◌<◌, ◌⊎◌, ⊎_elim, Bool, true, false, not, ◌&&◌, ◌||◌, ◌==◌, List, [], ◌∷◌, ◌++◌, refl, sym, ap, subst, ◌∙◌, append-nil, chars, IsUtf8, encode_utf8_all, nat_lt, nat_le, if◌then◌else◌, Some, arith}
+use Rattle.std.proofs.Common.{◌≡◌, ℕ, Bool, true, false, List, [], ◌∷◌, refl, ap, ◌∙◌, chars, IsUtf8, encode_utf8_all, Some, arith}
 use lib.Utf8.{scalar, scalars}
-use Rattle.std.specs.Char.{IsScalar}
-use Rattle.std.specs.Str.Parse.{digits_value}
-use Rattle.std.proofs.lemmas.Bool.{cases_Bool, eqb-true, false≢true}
+use Rattle.std.proofs.lemmas.Bool.{false≢true}
 use Rattle.std.proofs.lemmas.Bool.Decides.{nat_tests}
 use Rattle.std.proofs.lemmas.Str.{chars-encodes, scalars-chars}
 use Rattle.ecma_scan.specs.Runs.{Each}
 use Rattle.ecma_token.specs.declared.version.EsVersion.{EsVersion}
-use Rattle.ecma_literal.specs.Escapes.{begins, is_decimal, is_hex, is_line_feed}
-use Rattle.ecma_literal.specs.Templates.{SpellsPiece, line_feeds, is_brace}
+use Rattle.ecma_literal.specs.Templates.{SpellsPiece}
 use Rattle.ecma_literal.specs.declared.template.Ending.{Ending}
-use Rattle.ecma_spell_base.specs.declared.form.Form.TheVariants.{Hex}
-use Rattle.ecma_spell_base.specs.declared.style.Style.{Style}
-use Rattle.ecma_spell_base.specs.Forms.{written, lower}
-use Rattle.ecma_spell_base.proofs.AsciiLemmas.{lower_low}
 use Rattle.ecma_spell_template.specs.Laws.{is_code_point}
-use Rattle.ecma_spell_template.specs.Templates.{template_text, keeps_raw, parts, parts_text, part_text, part_at, escaped, behind_backslash, behind_x, hex_part, is_kept_code, is_printed, is_separator, stays, part_more, digit_first, dollar_behind, form_of}
-use Rattle.ecma_spell_template.specs.declared.part.Part.{Part}
-use Rattle.ecma_spell_template.specs.declared.part.Part.TheVariants.{Pair, Digits, Last, Nothing, Hexed, Code}
+use Rattle.ecma_spell_template.specs.Templates.{template_text}
 use Rattle.ecma_spell_template.proofs.AgainLemmas.{template_again, written_again}
-use Rattle.ecma_spell_template.proofs.TextLemmas.{can_write}
 use Rattle.ecma_layout.specs.Literals.{quasi_bytes}
 use Rattle.ecma_lexicon.proofs.Pieces.{template_scalars}
 use Rattle.std.proofs.lemmas.Bool.{and_parts}
