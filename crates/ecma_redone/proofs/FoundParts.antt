@@ -5,7 +5,7 @@ use Rattle.std.proofs.lemmas.Bool.{leb-true, eqb-true}
 use Rattle.std.proofs.lemmas.Bool.Decides.{nat_tests}
 use Rattle.ecma_token.specs.declared.place.Span.{Span}
 use Rattle.ecma_token.specs.Kinds.{comma_kind, semicolon_kind, right_brace_kind, in_kind, exp_kind, nullish_coalescing_kind}
-use Rattle.ecma_tree.specs.Tree.{Tree, Trees, none, more, tpl_element, list, absent, hole}
+use Rattle.ecma_tree.specs.Tree.{Tree, Trees, none, more, tpl_element, absent, hole}
 use Rattle.ecma_syntax.specs.Input.{Input, Code, Takes, TakesWord, TakesIn, turned_strict, is_strict, has_in}
 use Rattle.ecma_syntax.specs.Shape.{level, is_absent, is_place, is_item_pat, is_statement, is_plain_function, class_span, fits_left, is_use_strict, is_directive, function_parts, FunctionParts}
 use Rattle.ecma_syntax.specs.Operators.{coalesce_level, bit_or_level, exponent_level, update_level, new_level, member_level, binary_level, right_level, operates}

@@ -1,5 +1,5 @@
 -- What the leaves of a tree were read from: the content of a token that is known.
-use Rattle.std.specs.Prelude.{◌≡◌, ℕ, Bool, true, false, List, Option, Some}
+use Rattle.std.specs.Prelude.{◌≡◌, ℕ, true, false, List, Option, Some}
 use Rattle.ecma_number.specs.Numbers.{SpecNumber}
 use Rattle.ecma_token.specs.Tokens.{Content, Quoted, Numeral, BigNumeral, Piece, Pattern}
 use Rattle.ecma_tree.specs.Tree.{Tree, ident, ident_name, private_name, str_lit, number_lit, big_int_lit, regex_lit, tpl, tpl_element}

@@ -1,6 +1,6 @@
 -- A tree that was read and is written again is laid out as it was: formatted and formatted, formatted and minified, minified and minified, from
 -- ES2015 on, with characters past ASCII.
-use Rattle.std.proofs.Common.{◌≡◌, ◌⊎◌, ℕ, Bool, true, false, not, ◌&&◌, ◌==◌, if◌then◌else◌, List, [], ◌∷◌, Option, Some, None, refl, sym, ap, subst, ◌∙◌, chars, IsUtf8, bytes_eq}
+use Rattle.std.proofs.Common.{◌≡◌, ℕ, Bool, true, false, if◌then◌else◌, List, ◌∷◌, Option, Some, None, refl, sym, ap, subst, ◌∙◌, bytes_eq}
 use Rattle.std.specs.Prelude.{nat_lt}
 use Rattle.std.proofs.lemmas.Slice.Eq.{bytes_eq-Decides}
 use Rattle.ecma_number.specs.Numbers.{SpecNumber}
@@ -17,7 +17,7 @@ use Rattle.ecma_layout.specs.Layout.{laid}
 use Rattle.ecma_layout.specs.Literals.{string_bytes, number_bytes, big_bytes, quasi_bytes, is_escaped_directive}
 use Rattle.ecma_layout_laws.proofs.Alike.{Alike}
 use Rattle.ecma_written.specs.Means.{Known}
-use Rattle.ecma_redone.specs.Redo.{Mode, Plain, Headed, Pointed, Raw, is_head, is_pointed, is_tagged, quasi_mode, object_mode, chain_mode, placed, Leaves, redo, redos, kept, Same as RedoSame}
+use Rattle.ecma_redone.specs.Redo.{Mode, Plain, Headed, Raw, is_head, is_pointed, is_tagged, quasi_mode, object_mode, chain_mode, placed, Leaves, redo, redos, Same as RedoSame}
 use Rattle.ecma_redone.specs.Every.{every, every_all}
 use Rattle.ecma_redone.specs.Read.{Read, ReadString, ReadNumber, ReadBig, Told}
 use Rattle.ecma_redone.specs.Written.{leaves_of, new_arguments, written_key, written_constructor_key}
@@ -142,6 +142,7 @@ module _ (t : EsVersion) (i : Bool) (modern : nat_lt (edition_rank t) 2 ≡ fals
 
   mutual
     unfolding sure
+
     agrees : (mode : Mode) (u : Tree) → every (Read Known) mode u → redo surely mode u ≡ redo (leaves_of first) mode u
     agrees mode (script span body shebang) h = λ k. script no_place (all_agree Plain body h.1 k) shebang
     agrees mode (es_module span body shebang) h = λ k. es_module no_place (all_agree Plain body h.1 k) shebang
@@ -187,12 +188,12 @@ module _ (t : EsVersion) (i : Bool) (modern : nat_lt (edition_rank t) 2 ≡ fals
     agrees mode (decorator span expr) h = λ k. decorator no_place (agrees Plain expr h.1 k)
     agrees mode (class span decorators body super_class) h = λ k. class no_place (all_agree Plain decorators h.1 k) (all_agree Plain body h.2 k) (agrees Plain super_class h.3 k)
     agrees mode (constructor span key params body) h = λ k. constructor no_place (written_constructor_key (agrees Plain key h.1 k)) (all_agree Plain params h.2 k) (agrees Plain body h.3 k)
-    agrees mode (class_method span key function_ kind is_static) h = λ k. class_method no_place (key_agrees key h.1 k) (agrees Plain function_ h.2 k) kind is_static
+    agrees mode (class_method span key function_ kind is_static) h = λ k. class_method no_place ((agrees Plain key h.1 ∙ sym (plain_key key)) k) (agrees Plain function_ h.2 k) kind is_static
     agrees mode (private_method span key function_ kind is_static) h = λ k. private_method no_place (agrees Plain key h.1 k) (agrees Plain function_ h.2 k) kind is_static
-    agrees mode (class_prop span key value is_static decorators) h = λ k. class_prop no_place (key_agrees key h.1 k) (agrees Plain value h.2 k) is_static (all_agree Plain decorators h.3 k)
+    agrees mode (class_prop span key value is_static decorators) h = λ k. class_prop no_place ((agrees Plain key h.1 ∙ sym (plain_key key)) k) (agrees Plain value h.2 k) is_static (all_agree Plain decorators h.3 k)
     agrees mode (private_prop span key value is_static decorators) h = λ k. private_prop no_place (agrees Plain key h.1 k) (agrees Plain value h.2 k) is_static (all_agree Plain decorators h.3 k)
     agrees mode (static_block span body) h = λ k. static_block no_place (agrees Plain body h.1 k)
-    agrees mode (auto_accessor span key value is_static decorators) h = λ k. auto_accessor no_place (key_agrees key h.1 k) (agrees Plain value h.2 k) is_static (all_agree Plain decorators h.3 k)
+    agrees mode (auto_accessor span key value is_static decorators) h = λ k. auto_accessor no_place ((agrees Plain key h.1 ∙ sym (plain_key key)) k) (agrees Plain value h.2 k) is_static (all_agree Plain decorators h.3 k)
     agrees mode (ident_name span sym) h = refl
     agrees mode (computed_prop_name span expr) h = λ k. computed_prop_name no_place (agrees Plain expr h.1 k)
     agrees mode (private_name span name) h = refl
@@ -227,11 +228,11 @@ module _ (t : EsVersion) (i : Bool) (modern : nat_lt (edition_rank t) 2 ≡ fals
     agrees mode (invalid span) h = refl
     agrees mode (expr_or_spread span spread expr) h = λ k. expr_or_spread no_place (placed spread) (agrees Plain expr h.1 k)
     agrees mode (spread_element span expr) h = λ k. spread_element no_place (agrees Plain expr h.1 k)
-    agrees mode (key_value_prop span key value) h = λ k. key_value_prop no_place (key_agrees key h.1 k) (agrees Plain value h.2 k)
+    agrees mode (key_value_prop span key value) h = λ k. key_value_prop no_place ((agrees Plain key h.1 ∙ sym (plain_key key)) k) (agrees Plain value h.2 k)
     agrees mode (assign_prop span key value) h = λ k. assign_prop no_place (agrees Plain key h.1 k) (agrees Plain value h.2 k)
-    agrees mode (getter_prop span key body) h = λ k. getter_prop no_place (key_agrees key h.1 k) (agrees Plain body h.2 k)
-    agrees mode (setter_prop span key param_ body) h = λ k. setter_prop no_place (key_agrees key h.1 k) (agrees Plain param_ h.2 k) (agrees Plain body h.3 k)
-    agrees mode (method_prop span key function_) h = λ k. method_prop no_place (key_agrees key h.1 k) (agrees Plain function_ h.2 k)
+    agrees mode (getter_prop span key body) h = λ k. getter_prop no_place ((agrees Plain key h.1 ∙ sym (plain_key key)) k) (agrees Plain body h.2 k)
+    agrees mode (setter_prop span key param_ body) h = λ k. setter_prop no_place ((agrees Plain key h.1 ∙ sym (plain_key key)) k) (agrees Plain param_ h.2 k) (agrees Plain body h.3 k)
+    agrees mode (method_prop span key function_) h = λ k. method_prop no_place ((agrees Plain key h.1 ∙ sym (plain_key key)) k) (agrees Plain function_ h.2 k)
     agrees mode (str_lit span units raw) h = λ k. str_lit no_place units (string_picked units raw h k)
     agrees mode (bool_lit span value) h = refl
     agrees mode (null_lit span) h = refl
@@ -243,7 +244,7 @@ module _ (t : EsVersion) (i : Bool) (modern : nat_lt (edition_rank t) 2 ≡ fals
     agrees mode (rest_pat span dot3_token arg) h = λ k. rest_pat no_place no_place (agrees Plain arg h.1 k)
     agrees mode (object_pat span props) h = λ k. object_pat no_place (all_agree Plain props h.1 k)
     agrees mode (assign_pat span left right) h = λ k. assign_pat no_place (agrees Plain left h.1 k) (agrees Plain right h.2 k)
-    agrees mode (key_value_pat_prop span key value) h = λ k. key_value_pat_prop no_place (key_agrees key h.1 k) (agrees Plain value h.2 k)
+    agrees mode (key_value_pat_prop span key value) h = λ k. key_value_pat_prop no_place ((agrees Plain key h.1 ∙ sym (plain_key key)) k) (agrees Plain value h.2 k)
     agrees mode (assign_pat_prop span key value) h = λ k. assign_pat_prop no_place (agrees Plain key h.1 k) (agrees Plain value h.2 k)
     agrees mode (expr_pat expr) h = λ k. expr_pat (agrees Plain expr h.1 k)
     agrees mode (invalid_pat span) h = refl
@@ -251,9 +252,6 @@ module _ (t : EsVersion) (i : Bool) (modern : nat_lt (edition_rank t) 2 ≡ fals
     agrees mode (list items) h = λ k. list (all_agree Plain items h.1 k)
     agrees mode absent h = refl
     agrees mode hole h = refl
-
-    key_agrees : (key : Tree) → every (Read Known) Plain key → redo surely Plain key ≡ written_key (at t i m) (redo (leaves_of first) Plain key)
-    key_agrees key h = agrees Plain key h ∙ sym (plain_key key)
 
     all_agree : (mode : Mode) (us : Trees) → every_all (Read Known) mode us → redos surely mode us ≡ redos (leaves_of first) mode us
     all_agree mode none h = refl

@@ -8,7 +8,7 @@ use Rattle.ecma_layout.specs.declared.look.Stand.TheVariants.{Alone}
 use Rattle.ecma_layout.specs.Looks.{Laid, listed, is_refused}
 use Rattle.ecma_layout.specs.Layout.{laid, pieces}
 use Rattle.ecma_layout_laws.specs.Marks.{unmarked, AreWrittenAlike}
-use Rattle.ecma_layout_laws.proofs.Alike.{Alike, seen, listed_seen, refused_seen}
+use Rattle.ecma_layout_laws.proofs.Alike.{Alike, listed_seen, refused_seen}
 use Rattle.ecma_layout_laws.proofs.Marks.{plain_resolved, plain_shortened}
 use Rattle.ecma_written.specs.Means.{Known}
 use Rattle.ecma_redone.specs.Redo.{Plain, Same}
@@ -41,12 +41,16 @@ written_alike look t u a = let e = same_pieces (laid look Alone t) (laid look Al
 module _ (one two : Look) (w : WritesAgain one two) where
   one_is : first one.style.target one.style.inline_script w.modern one.style.minify two.style.minify w.short one.omits_last one.asserts two.omits_last two.asserts ≡ one
   one_is = λ k. record {
-    style = record { target = one.style.target; minify = one.style.minify; ascii_only = sym w.wide k; inline_script = one.style.inline_script }; omits_last = one.omits_last; asserts = one.asserts;
+    style = record { target = one.style.target; minify = one.style.minify; ascii_only = sym w.wide k; inline_script = one.style.inline_script };
+    omits_last = one.omits_last;
+    asserts = one.asserts;
   }
 
   two_is : second one.style.target one.style.inline_script w.modern one.style.minify two.style.minify w.short one.omits_last one.asserts two.omits_last two.asserts ≡ two
   two_is = λ k. record {
-    style = record { target = sym w.edition k; minify = two.style.minify; ascii_only = sym w.wide_again k; inline_script = sym w.page k }; omits_last = two.omits_last; asserts = two.asserts;
+    style = record { target = sym w.edition k; minify = two.style.minify; ascii_only = sym w.wide_again k; inline_script = sym w.page k };
+    omits_last = two.omits_last;
+    asserts = two.asserts;
   }
 
   alike_again : (t u : Tree) → every (Read Known) Plain t → Same (leaves_of one) Plain t u → Alike false (laid two Alone u) (laid two Alone t)

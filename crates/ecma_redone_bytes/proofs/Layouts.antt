@@ -1,16 +1,16 @@
 -- The layout of a tree given anew is alike, where keys stay as they are.
-use Rattle.std.proofs.Common.{◌≡◌, ◌+◌, Bool, true, false, not, ◌&&◌, ◌||◌, ◌==◌, if◌then◌else◌, refl, sym, ap, ap₂, ◌∙◌, subst, true≢false, codes}
+use Rattle.std.proofs.Common.{◌≡◌, ◌+◌, Bool, true, false, not, ◌&&◌, ◌||◌, ◌==◌, if◌then◌else◌, refl, sym, ap, ap₂, ◌∙◌, true≢false}
 use Rattle.ecma_token.specs.declared.place.Span.{Span}
 use Rattle.ecma_tree.specs.Places.{no_place, place_of}
 use Rattle.ecma_tree.specs.Tree.{Tree, Trees, none, more, script, es_module, import_decl, export_decl, named_export, export_default_decl, export_default_expr, export_all, import_named_specifier, import_default_specifier, import_star_as_specifier, export_namespace_specifier, export_named_specifier, block_stmt, debugger_stmt, with_stmt, return_stmt, labeled_stmt, break_stmt, continue_stmt, if_stmt, switch_stmt, switch_case, throw_stmt, try_stmt, catch_clause, while_stmt, do_while_stmt, for_stmt, for_in_stmt, for_of_stmt, expr_stmt, class_decl, fn_decl, var_decl, using_decl, var_declarator, function, param, decorator, class, constructor, class_method, private_method, class_prop, private_prop, static_block, auto_accessor, ident_name, computed_prop_name, private_name, this_expr, array_lit, object_lit, fn_expr, unary_expr, update_expr, bin_expr, assign_expr, member_expr, super_prop_expr, cond_expr, call_expr, new_expr, seq_expr, ident, tpl, tpl_element, tagged_tpl, arrow_expr, class_expr, yield_expr, meta_prop_expr, await_expr, paren_expr, opt_chain_expr, opt_call, super, import, expr_or_spread, spread_element, key_value_prop, assign_prop, getter_prop, setter_prop, method_prop, str_lit, bool_lit, null_lit, number_lit, big_int_lit, regex_lit, binding_ident, array_pat, rest_pat, object_pat, assign_pat, key_value_pat_prop, assign_pat_prop, expr_pat, list, absent}
 use Rattle.ecma_layout.specs.declared.look.Look.{Look}
 use Rattle.ecma_layout.specs.declared.look.Stand.{Stand}
 use Rattle.ecma_layout.specs.declared.look.Stand.TheVariants.{Alone, Operand, Body, Head, Key, Tagged}
-use Rattle.ecma_layout.specs.Looks.{Laid, ◌·◌, formats, start, end, text as laid_text}
+use Rattle.ecma_layout.specs.Looks.{Laid, ◌·◌, formats, start, end}
 use Rattle.ecma_layout.specs.Layout.{laid, statements, rows, separated, each, import_heads, named_items, first_namespace, template, comma, comma_line, is_named, is_no_namespace, is_head, is_computed, is_tagged as is_tagged_stand, has_arguments, number_before, point_before, optional_dot}
 use Rattle.ecma_layout.specs.Literals.{number}
-use Rattle.ecma_redone.specs.Redo.{Mode, Plain, Headed, Pointed, Raw, is_tagged, is_asked, is_pointed, is_head as is_head_mode, object_mode, chain_mode, quasi_mode, Leaves, kept, redo, redos, Same as RedoSame}
-use Rattle.ecma_redone.specs.Written.{leaves_of, new_arguments, given_none}
+use Rattle.ecma_redone.specs.Redo.{Mode, Plain, Headed, Pointed, Raw, is_tagged, is_asked, is_pointed, is_head as is_head_mode, object_mode, quasi_mode, Leaves, kept, redo, redos, Same as RedoSame}
+use Rattle.ecma_redone.specs.Written.{new_arguments, given_none}
 use Rattle.ecma_layout_laws.proofs.Alike.{Alike, seen, same, ◌▸◌, if_same, if_alike, when_same, when_alike, start_alike, end_alike, last_alike}
 use Rattle.ecma_redone_bytes.proofs.Questions
 use Rattle.ecma_redone_bytes.proofs.Literals.{Spelt, name_alike, key_word_alike, hash_name_alike, string_alike, number_alike, number_at, number_before_alike, quasi_alike, big_integer_alike}

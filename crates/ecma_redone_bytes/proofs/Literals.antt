@@ -1,5 +1,5 @@
 -- Literals whose texts are given anew are laid out alike.
-use Rattle.std.proofs.Common.{◌≡◌, ℕ, Bool, true, false, ◌||◌, if◌then◌else◌, List, Option, refl, sym, ap, ◌∙◌, subst}
+use Rattle.std.proofs.Common.{◌≡◌, ℕ, Bool, true, false, ◌||◌, if◌then◌else◌, List, Option, sym, ap, subst}
 use Rattle.ecma_number.specs.Numbers.{SpecNumber}
 use Rattle.ecma_token.specs.declared.place.Span.{Span}
 use Rattle.ecma_tree.specs.Places.{no_place}
@@ -12,7 +12,7 @@ use Rattle.ecma_layout.specs.Looks.{◌·◌, text, meant, template_characters, 
 use Rattle.ecma_layout.specs.Layout.{laid, has_arguments, is_computed, number_before, quasi, is_tagged as is_tagged_stand}
 use Rattle.ecma_layout.specs.Literals.{string_bytes, number_bytes, big_bytes, quasi_bytes, is_escaped_directive, name, key_word, hash_name, string, number, number_before_point, big_integer}
 use Rattle.ecma_layout_laws.proofs.Alike.{Alike, same, equal, ◌▸◌, when_alike, start_alike, end_alike}
-use Rattle.ecma_redone.specs.Redo.{Mode, Plain, Headed, Pointed, is_asked, is_pointed, is_tagged, object_mode, Leaves, redo}
+use Rattle.ecma_redone.specs.Redo.{Mode, Headed, Pointed, is_asked, is_pointed, is_tagged, object_mode, Leaves, redo}
 
 pub record Spelt (look : Look) (lv : Leaves) : Type 0 where
   pub strings : (u : List ℕ) (w : Option (List ℕ)) → string_bytes look.style u (lv.string u w) ≡ string_bytes look.style u w

@@ -1,19 +1,17 @@
 -- The parts that many nodes share are laid out alike of a tree given anew.
-use Rattle.std.proofs.Common.{◌≡◌, ℕ, Bool, true, false, not, ◌&&◌, ◌||◌, ◌==◌, if◌then◌else◌, List, Option, codes, ap, ap₂}
-use Rattle.ecma_number.specs.Numbers.{SpecNumber}
+use Rattle.std.proofs.Common.{◌≡◌, ℕ, Bool, false, not, ◌&&◌, ◌||◌, ◌==◌, if◌then◌else◌, ap, ap₂}
 use Rattle.ecma_token.specs.declared.place.Span.{Span}
 use Rattle.ecma_token.specs.Words.{own_text}
-use Rattle.ecma_tree.specs.Tree.{Tree, Trees, none, more, plain_method, tpl_element}
+use Rattle.ecma_tree.specs.Tree.{Tree, Trees, none, more, plain_method}
 use Rattle.ecma_edge.specs.Edges.{is_there, starts_with_word, ends_with_word, gap_before, gap_after}
 use Rattle.ecma_layout.specs.declared.look.Look.{Look}
 use Rattle.ecma_layout.specs.declared.look.Stand.{Stand}
-use Rattle.ecma_layout.specs.Looks.{Laid, ◌·◌, text, when, semi, end, blank, gap, gap_or, formats}
-use Rattle.ecma_layout.specs.Layout.{word, method_marks, in_parens, indented, indented_or_line, closing, attributes, initial, field_value, function_tail, after_static, class_head, class_tail, point_before, optional_dot, number_before, as_expression, quasi, in_braces, imports, exports, is_variables}
+use Rattle.ecma_layout.specs.Looks.{Laid, ◌·◌, when, semi, end, blank, gap, gap_or, formats}
+use Rattle.ecma_layout.specs.Layout.{word, method_marks, in_parens, indented, indented_or_line, closing, attributes, initial, field_value, function_tail, after_static, class_head, class_tail, point_before, optional_dot, as_expression, in_braces, imports, exports, is_variables}
 use Rattle.ecma_tree.specs.Places.{no_place}
 use Rattle.ecma_redone.specs.Redo.{Mode, Plain, Leaves, redo, redos}
 use Rattle.ecma_layout_laws.proofs.Alike.{Alike, same, ◌▸◌, if_same, if_alike, when_same, when_alike, start_alike, end_alike, last_alike}
 use Rattle.ecma_redone_bytes.proofs.Questions
-use Rattle.ecma_redone_bytes.proofs.Literals.{Spelt, number_alike, number_before_point_alike}
 
 module _ (lv : Leaves) (look : Look) where
   gap_or_alike : (b c : Bool) → b ≡ c → Alike false (gap_or look b) (gap_or look c)
@@ -103,4 +101,3 @@ module _ (lv : Leaves) (look : Look) where
   exports_alike ts x =
       when_alike _ _ (ap₂ (λ b c. b || not c) (Questions.same_has_other lv ts) (Questions.same_has_namespace lv ts))
       (when_alike _ _ (Questions.same_has_namespace lv ts) same ▸ if_alike _ _ (Questions.same_has_other lv ts) (in_braces_alike x) same)
-

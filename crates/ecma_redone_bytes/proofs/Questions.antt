@@ -2,7 +2,6 @@
 use Rattle.std.proofs.Common.{◌≡◌, ℕ, ◌+◌, Bool, true, false, not, ◌&&◌, ◌||◌, ◌==◌, if◌then◌else◌, Option, Some, None, is_some, refl, ap, ap₂, ◌∙◌}
 use Rattle.ecma_token.specs.declared.place.Span.{Span}
 use Rattle.ecma_token.specs.Kinds.{bang_kind}
-use Rattle.ecma_tree.specs.Places.{no_place, place_of}
 use Rattle.ecma_tree.specs.Tree.{Tree, Trees, none, more, absent, hole, list, seq_expr, block_stmt, var_decl, using_decl, str_lit, computed_prop_name, array_pat, object_pat, rest_pat, var_declarator, binding_ident, import_default_specifier, import_named_specifier, export_namespace_specifier, expr_pat, bin_expr, unary_expr, update_expr, arrow_expr, member_expr, opt_chain_expr, opt_call, call_expr, cond_expr, assign_expr, tagged_tpl, expr_or_spread, assign_pat, expr_stmt, regex_lit}
 use Rattle.ecma_edge.specs.Edges.{is_there, starts_with_word, first_starts_with_word, alone_starts_with_word, ends_with_word, last_ends_with_word, first_operand, is_plus, is_minus, is_decrement, is_postfix_decrement, is_not_of_decrement, starts_with_regexp, first_starts_with_regexp, gap_before, gap_after, gap_of_unary}
 use Rattle.ecma_layout.specs.Layout.{is_empty, count, ends_with_hole, is_block, is_sequence, is_variables, is_bracketed_key, is_computed, is_bracketed_name, starts_bracketed, is_one_name, has_arguments, is_default, starts_with_default, is_named, has_named, has_default, is_namespace, is_no_namespace, has_namespace, has_other}
@@ -176,6 +175,7 @@ module _ (lv : Leaves) where
   same_is_minus md _ = refl
 
   pub same_is_decrement : (m : Mode) (t : Tree) → is_decrement (redo lv m t) ≡ is_decrement t
+  same_is_decrement md (update_expr span op prefix arg) = refl
   same_is_decrement md _ = refl
 
   pub same_is_postfix_decrement : (m : Mode) (t : Tree) → is_postfix_decrement (redo lv m t) ≡ is_postfix_decrement t
@@ -220,4 +220,3 @@ module _ (lv : Leaves) where
 
   pub same_gap_of_unary : (m : Mode) (op : ℕ) (t : Tree) → gap_of_unary op (redo lv m t) ≡ gap_of_unary op t
   same_gap_of_unary md op t = rw (same_starts_with_word _ t, same_is_plus _ t, same_is_minus _ t) refl
-

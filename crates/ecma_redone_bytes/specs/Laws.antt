@@ -1,5 +1,5 @@
 -- What is written of a tree that was read from what was written of another: the statement of the law.
-use Rattle.std.specs.Prelude.{◌≡◌, Bool, true, false, nat_lt}
+use Rattle.std.specs.Prelude.{◌≡◌, true, false, nat_lt}
 use Rattle.ecma_token.specs.Editions.{edition_rank}
 use Rattle.ecma_tree.specs.Tree.{Tree}
 use Rattle.ecma_layout.specs.declared.look.Look.{Look}

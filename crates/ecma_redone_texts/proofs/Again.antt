@@ -1,103 +1,29 @@
 -- Texts of literals that are written again: formatted and formatted, formatted and minified, minified and minified, from ES2015 on, with
 -- characters past ASCII.
-use Rattle.std.proofs.Common.{◌≡◌, ℕ, zero, suc, ◌<◌, ◌≤◌, ◌+◌, ◌/◌, ltb, cond, ◌⊎◌, ⊎_elim, Bool, true, false, not, ◌&&◌, ◌||◌, ◌==◌, List, [], ◌∷◌, ◌++◌, Option, Some, None, option_map, refl, sym, ap, subst, ◌∙◌, arith, codes, bytes_eq, chars, IsUtf8, encode_utf8_all, nat_lt, nat_le, if◌then◌else◌}
-use lib.Utf8.{scalar, scalars, encode, encodes, low_scalar, next}
+use Rattle.std.proofs.Common.{◌≡◌, ℕ, ⊎_elim, Bool, true, false, not, ◌&&◌, ◌||◌, ◌==◌, List, [], ◌∷◌, ◌++◌, Some, None, refl, sym, ap, ◌∙◌, codes, bytes_eq, chars, IsUtf8, encode_utf8_all, nat_lt, if◌then◌else◌}
+use lib.Utf8.{scalars, encodes}
 use Rattle.std.specs.Prelude.{unwrap_or}
-use Rattle.std.specs.Char.{IsScalar, is_digit}
 use Rattle.std.specs.List.{list_all, list_any}
-use Rattle.std.specs.Str.Parse.{digits_value}
-use Rattle.std.proofs.lemmas.Bool.{cases_Bool, cases_lt, eqb-true, false≢true}
-use Rattle.std.proofs.lemmas.Bool.Decides.{nat_tests}
+use Rattle.std.proofs.lemmas.Bool.{cases_Bool, false≢true}
 use Rattle.std.proofs.Math.Bool.{or-true}
 use Rattle.std.proofs.lemmas.List.Elements.{filter-append}
-use Rattle.std.proofs.lemmas.Str.{encode_ascii, encodes-chars, chars-encodes, scalars-chars}
+use Rattle.std.proofs.lemmas.Str.{encodes-chars, chars-encodes, scalars-chars}
 use Rattle.ecma_number.specs.Numbers.{SpecNumber, plain, prefix_radix, is_legacy_octal}
-use Rattle.ecma_scan.specs.Runs.{Each}
 use Rattle.ecma_token.specs.Editions.{edition_rank}
 use Rattle.ecma_token.specs.declared.version.EsVersion.{EsVersion}
-use Rattle.ecma_literal.specs.Escapes.{begins, is_decimal, is_hex, is_line_feed}
 use Rattle.ecma_literal.specs.Standing.{takes_point, is_digit_or_separator}
-use Rattle.ecma_literal.specs.Templates.{SpellsPiece, line_feeds, is_brace}
-use Rattle.ecma_literal.specs.declared.template.Ending.{Ending}
-use Rattle.ecma_spell_base.specs.declared.form.Form.{Form}
-use Rattle.ecma_spell_base.specs.declared.form.Form.TheVariants.{Bare, Letter, Nul, Hex, Four, FourLower, Pair, Braced}
 use Rattle.ecma_spell_base.specs.declared.style.Style.{Style}
-use Rattle.ecma_spell_base.specs.Forms.{written, Writes}
-use Rattle.ecma_spell_base.specs.Styles.{is_up_to_es5, is_below_es2021}
-use Rattle.ecma_spell_base.proofs.AsciiLemmas.{Low, written_low}
-use Rattle.ecma_spell_string.specs.CodePoints.{AreUnits, AreCodes, code_points}
-use Rattle.ecma_spell_string.specs.Strings.{chars_text, quoted, quote_of, string_text, is_backslash, behind, form_of as string_form, keeps_raw}
-use Rattle.ecma_spell_string.specs.declared.quoted.Behind.{Behind}
-use Rattle.ecma_spell_string.proofs.CodePointLemmas.{codes_are}
-use Rattle.ecma_spell_string.proofs.QuotedLemmas.{written_on, can_write, quote_low}
-use Rattle.ecma_spell_string.proofs.StringLemmas.{quote_is}
+use Rattle.ecma_spell_base.specs.Styles.{is_below_es2021}
+use Rattle.ecma_spell_string.specs.CodePoints.{AreUnits}
+use Rattle.ecma_spell_string.specs.Strings.{quoted, string_text, is_backslash, keeps_raw}
 use Rattle.ecma_spell_string.proofs.RawLemmas.{formatted_again}
 use Rattle.ecma_spell_number.specs.Numbers.{formatted, before_member, separated, whole_text, is_new_prefix}
 use Rattle.ecma_spell_number.proofs.AgainLemmas.{separated_twice}
 use Rattle.ecma_spell_number.proofs.PlainLemmas.{plain_twice}
-use Rattle.ecma_spell_template.specs.Laws.{is_code_point}
-use Rattle.ecma_spell_template.specs.Templates.{template_text, parts, parts_text, part_text, part_at, escaped, behind_backslash, behind_x, hex_part, is_kept_code, is_printed, is_separator, stays, part_more, digit_first, dollar_behind, form_of as template_form}
-use Rattle.ecma_spell_template.specs.declared.part.Part as p
-use Rattle.ecma_spell_template.proofs.AgainLemmas.{template_again, written_again}
-use Rattle.ecma_spell_template.proofs.TextLemmas.{can_write as template_writes}
+use Rattle.ecma_lexicon.proofs.Quotes.{quoted_scalars}
+use Rattle.std.proofs.lemmas.Slice.Eq.{bytes_eq-Decides}
 use Rattle.ecma_redone_texts.proofs.Backslashes.{backslash_bytes}
-use Rattle.ecma_layout.specs.Literals.{string_bytes, number_bytes, big_bytes, quasi_bytes, is_escaped_directive}
-
--- ---- what is written is of scalar values
-
-pub conj : (a b : Bool) → a ≡ true → b ≡ true → (a && b) ≡ true
-conj true b e f = f
-conj false b e f = e
-
-pub parts_of : (a b : Bool) → (a && b) ≡ true → (a ≡ true) × (b ≡ true)
-parts_of true b e = (refl, e)
-parts_of false b e = absurd (false≢true e)
-
-scalars-append : (xs ys : List ℕ) → scalars xs ≡ true → scalars ys ≡ true → scalars (xs ++ ys) ≡ true
-scalars-append [] ys e f = f
-scalars-append (x ∷ xs) ys e f = let h = parts_of (scalar x) (scalars xs) e in conj (scalar x) (scalars (xs ++ ys)) h.0 (scalars-append xs ys h.1 f)
-
-pub low_one : (c : ℕ) → c < 128 → scalar c ≡ true
-low_one c h = low_scalar c (omega arith)
-
-low_scalars : (cs : List ℕ) → Low cs → scalars cs ≡ true
-low_scalars [] h = refl
-low_scalars (c ∷ cs) h = conj (scalar c) (scalars cs) (low_scalar c (let x = h.0 in omega arith)) (low_scalars cs h.1)
-
-pub written_scalars : (f : Form) (c : ℕ) (m : List ℕ) → Writes f c → scalars m ≡ true → scalars (written f c m) ≡ true
-written_scalars f c m w s = subst (λ (l : List ℕ). scalars l ≡ true) (sym (written_on f c m)) (scalars-append (written f c []) m (own f w) s)
-  where
-    own : (f : Form) → Writes f c → scalars (written f c []) ≡ true
-    own Bare w = conj (scalar c) true w refl
-    own (Letter l) w = low_scalars (written (Letter l) c []) (written_low (Letter l) c [] (λ e. cc) (λ k e. let g : l ≡ k = cc in subst (λ (n : ℕ). n < 128) g w) tt)
-    own Nul w = low_scalars (written Nul c []) (written_low Nul c [] (λ e. cc) (λ k e. cc) tt)
-    own Hex w = low_scalars (written Hex c []) (written_low Hex c [] (λ e. cc) (λ k e. cc) tt)
-    own Four w = low_scalars (written Four c []) (written_low Four c [] (λ e. cc) (λ k e. cc) tt)
-    own FourLower w = low_scalars (written FourLower c []) (written_low FourLower c [] (λ e. cc) (λ k e. cc) tt)
-    own Pair w = low_scalars (written Pair c []) (written_low Pair c [] (λ e. cc) (λ k e. cc) tt)
-    own Braced w = low_scalars (written Braced c []) (written_low Braced c [] (λ e. cc) (λ k e. cc) tt)
-
-chars_scalars : (style : Style) (quote : ℕ) (b : Behind) (cs m : List ℕ) → quote < 128 → AreCodes cs → scalars m ≡ true → scalars (chars_text style quote b cs m) ≡ true
-chars_scalars style quote b [] m q a s = s
-chars_scalars style quote b (c ∷ cs) m q a s =
-    written_scalars (string_form style quote b c cs) c _ (can_write style quote c b cs (string_form style quote b c cs) a.0 q refl) (chars_scalars style quote (behind style b c) cs m q a.1 s)
-
-quote_scalar : (q : ℕ) → q < 128 → scalar q ≡ true
-quote_scalar q h = low_scalar q (omega arith)
-
-pub quoted_scalars : (style : Style) (units : List ℕ) → AreUnits units → scalars (quoted style units []) ≡ true
-quoted_scalars style units a =
-    let q = quote_of (code_points units) in
-    let l : q < 128 = quote_low q (quote_is (code_points units)) in
-    conj (scalar q) _ (quote_scalar q l) (chars_scalars style q _ (code_points units) (q ∷ []) l (codes_are units a) (conj (scalar q) true (quote_scalar q l) refl))
-
--- ---- equal bytes
-
-pub bytes_true : (xs ys : List ℕ) → bytes_eq xs ys ≡ true → xs ≡ ys
-bytes_true [] [] e = refl
-bytes_true [] (y ∷ ys) e = absurd (false≢true e)
-bytes_true (x ∷ xs) [] e = absurd (false≢true e)
-bytes_true (x ∷ xs) (y ∷ ys) e = let h = parts_of (x == y) (bytes_eq xs ys) e in ap (λ n. n ∷ xs) (eqb-true x y h.0) ∙ ap (λ (l : List ℕ). y ∷ l) (bytes_true xs ys h.1)
+use Rattle.ecma_layout.specs.Literals.{string_bytes, number_bytes, big_bytes, is_escaped_directive}
 
 -- ---- in one edition
 
@@ -153,7 +79,7 @@ module _ (t : EsVersion) (i : Bool) where
       by e false f =
           ap (λ x. is_escaped_directive u (Some x)) (text_is true false e f)
           ∙ ap (λ b. bytes_eq u (codes "use strict") && b)
-          (backslash_bytes (quoted (at true) u []) ∙ ap (λ x. list_any is_backslash (quoted (at true) x [])) (bytes_true u (codes "use strict") e) ∙ plain_directive ∙ sym (same_backslash ∙ f))
+          (backslash_bytes (quoted (at true) u []) ∙ ap (λ x. list_any is_backslash (quoted (at true) x [])) ((bytes_eq-Decides u (codes "use strict")).0 e) ∙ plain_directive ∙ sym (same_backslash ∙ f))
 
   -- numbers, once the edition has `0b` and `0o`
   module _ (modern : nat_lt (edition_rank t) 2 ≡ false) where

@@ -1,12 +1,10 @@
 -- What is written of a leaf that was read tells what the leaf told.
-use Rattle.std.proofs.Common.{◌≡◌, ◌≢◌, ℕ, ◌⊎◌, inl, inr, ⊎_elim, Bool, true, false, not, ◌&&◌, ◌||◌, ◌==◌, if◌then◌else◌, List, [], ◌∷◌, ◌++◌, Option, Some, None, option_map, refl, sym, ap, subst, ◌∙◌, true≢false, codes, bytes_eq, chars, IsUtf8, encode_utf8_all}
+use Rattle.std.proofs.Common.{◌≡◌, ℕ, Bool, true, false, not, ◌&&◌, ◌||◌, if◌then◌else◌, List, [], ◌∷◌, ◌++◌, Option, Some, None, refl, sym, ap, subst, ◌∙◌, true≢false, codes, bytes_eq, chars, IsUtf8, encode_utf8_all}
 use lib.Utf8.{scalar, scalars}
-use Rattle.std.specs.Char.{IsScalar}
 use Rattle.std.specs.List.{list_any, list_all}
-use Rattle.std.proofs.lemmas.Bool.{cases_Bool}
 use Rattle.std.proofs.lemmas.Str.{chars-encodes, encodes-chars, chars-nil}
 use Rattle.std.proofs.lemmas.Slice.Eq.{bytes_eq-Decides}
-use Rattle.ecma_number.specs.Numbers.{SpecNumber}
+use Rattle.ecma_number.specs.Numbers.{SpecNumber, number_of}
 use Rattle.ecma_token.specs.declared.error.SyntaxError.TheVariants.{LegacyOctal, LegacyDecimal}
 use Rattle.ecma_token.specs.declared.error.Error.{Error}
 use Rattle.ecma_token.specs.declared.version.EsVersion.{EsVersion}
@@ -14,32 +12,35 @@ use Rattle.ecma_token.specs.declared.place.Span.{Span}
 use Rattle.ecma_token.specs.Tokens.{Content, Named, Quoted, Numeral, Piece}
 use Rattle.ecma_tree.specs.Tree.{Tree, str_lit, number_lit, ident_name, tpl, tpl_element}
 use Rattle.ecma_program.specs.Program.{is_escaped}
-use Rattle.ecma_early.specs.Early.{fault, has_octal, is_legacy, all_octal, legacy_string, legacy_number}
-use Rattle.ecma_scan.specs.Names.{IsName, Spell}
+use Rattle.ecma_early.specs.Early.{fault, has_octal, is_legacy, all_octal, legacy_number}
 use Rattle.ecma_tree.specs.Places.{no_place}
 use Rattle.ecma_literal.specs.Templates.{SpellsPiece}
 use Rattle.ecma_syntax.specs.Shape.{is_cooked}
-use Rattle.ecma_syntax.specs.Input.{Input, content, text, text_in}
+use Rattle.ecma_syntax.specs.Input.{content, text_in}
 use Rattle.ecma_spell_base.specs.declared.style.Style.{Style}
 use Rattle.ecma_spell_string.specs.CodePoints.{AreUnits}
-use Rattle.ecma_spell_string.specs.Names.{AreNameChars, is_quoted_key}
+use Rattle.ecma_spell_string.specs.Names.{AreNameChars}
 use Rattle.ecma_spell_string.specs.Strings.{quoted, keeps_raw, is_backslash, is_ascii}
 use Rattle.ecma_spell_string.proofs.NameLemmas.{key_is_read}
 use Rattle.ecma_spell_string.proofs.StringLemmas.{quoted_is_read}
 use Rattle.ecma_spell_number.specs.Numbers.{before_member}
 use Rattle.ecma_layout.specs.declared.look.Look.{Look}
-use Rattle.ecma_layout.specs.Literals.{string_bytes, key_bytes, number_bytes}
+use Rattle.ecma_layout.specs.Literals.{string_bytes, number_bytes}
 use Rattle.ecma_written.specs.Means.{Known}
-use Rattle.ecma_written.proofs.Known.{scalars_front, name_char}
+use Rattle.ecma_written.proofs.Known.{scalars_front}
 use Rattle.ecma_redone.specs.Redo.{Mode, is_pointed}
 use Rattle.ecma_redone.specs.Faithful.{Faithful, FaithfulString, FaithfulNumber, FaithfulKey}
 use Rattle.ecma_redone.specs.Read.{Read, ReadString, ReadNumber, ReadWord, Told}
 use Rattle.ecma_redone.proofs.Mapped.{mapped}
-use Rattle.ecma_redone_texts.specs.Laws.{StrictStays, ReadIsFaithful}
-use Rattle.ecma_redone_texts.proofs.Origins.{From, from_of}
+use Rattle.ecma_redone_texts.specs.Laws.{ReadIsFaithful}
+use Rattle.ecma_lexicon.proofs.Origins.{From, from_of}
+use Rattle.ecma_lexicon.proofs.Digits.{number_is_ascii}
+use Rattle.ecma_lexicon.proofs.Literals.{same_ascii}
+use Rattle.ecma_lexicon.proofs.Strict.{strict_kept}
+use Rattle.ecma_lexicon.proofs.Words.{chars_are}
 use Rattle.ecma_redone_texts.proofs.Octals.{no_octal}
 use Rattle.ecma_redone_texts.proofs.Backslashes.{backslash_bytes}
-use Rattle.ecma_redone_texts.proofs.Units.{string_units}
+use Rattle.ecma_lexicon.proofs.Units.{string_units}
 use Rattle.ecma_redone_texts.proofs.Numbers.{number_plain}
 use Rattle.ecma_redone_texts.proofs.TemplatesAgain.{Cooked}
 
@@ -110,9 +111,9 @@ string_plain style u w t = by (bytes_eq u (codes "use strict")) refl
     by true e = ap (λ (b : Bool). not b) (escape_of (keeps_raw style u (chars w)) e (keeps e))
     by false e = refl
 
-string_faithful : (style : Style) → StrictStays style → (u : List ℕ) (w : Option (List ℕ)) → ReadString Known u w → FaithfulString style u w
-string_faithful style stays u w r = subst (λ (o : Option (List ℕ)). FaithfulString style u o) (sym r.is) (record {
-  strict = stays r.told.at u r.own r.told.known r.told.is;
+string_faithful : (style : Style) (u : List ℕ) (w : Option (List ℕ)) → ReadString Known u w → FaithfulString style u w
+string_faithful style u w r = subst (λ (o : Option (List ℕ)). FaithfulString style u o) (sym r.is) (record {
+  strict = strict_kept style r.told.at u r.own r.told.known r.told.is;
   plain = string_plain style u r.own (string_read u r.own r.told);
   modern = λ q s e. fault_kept _ _ LegacyOctal q s (string_modern style u r.own (string_read u r.own r.told)) e;
 })
@@ -154,14 +155,13 @@ number_faithful style before v w r = subst (λ (o : Option (List ℕ)). Faithful
     text_of : List ℕ → List ℕ
     text_of l = if before then before_member (number_bytes style v (Some l)) else number_bytes style v (Some l)
 
+    read : number_of r.own ≡ Some v
+    read = subst (λ (l : List ℕ). number_of l ≡ Some v) (sym (f.origin.2 ∙ same_ascii f.origin.0 (number_is_ascii f.origin.0 v f.origin.1.spelled))) f.origin.1.spelled
+
     by : is_legacy r.own ≡ false → (q : Span) → legacy_number (Some (text_of r.own)) q ≡ []
-    by e q = legacy_none (text_of r.own) q (subst (λ (l : List ℕ). is_legacy (text_of l) ≡ false) (sym f.origin.2) (number_plain style before v f.origin.0 f.origin.1.spelled (sym (ap is_legacy f.origin.2) ∙ e)))
+    by e q = legacy_none (text_of r.own) q (number_plain style before v r.own read e)
 
 -- ---- words
-
-name_chars : (first : Bool) (from cs rest : List ℕ) → scalars from ≡ true → Spell first from cs rest → AreNameChars first cs
-name_chars first from [] rest s h = tt
-name_chars first from (c ∷ cs) rest s h = let p = name_char first from c h.0 s h.1 in (p.0, h.1.0, name_chars false h.0 cs rest p.1 h.2)
 
 name_scalars : (first : Bool) (cs : List ℕ) → AreNameChars first cs → scalars cs ≡ true
 name_scalars first [] h = refl
@@ -179,7 +179,7 @@ word_from : (x : Content) → From x → (n : List ℕ) → text_in x ≡ n → 
 word_from (Named m) f n e = subst (λ (l : List ℕ). WordText l) e (record { names = subst (λ (l : List ℕ). AreNameChars true l) (sym (ap chars f.origin.2 ∙ chars-encodes f.origin.0 (name_scalars true f.origin.0 names))) names })
   where
     names : AreNameChars true f.origin.0
-    names = name_chars true f.from f.origin.0 f.behind f.are_scalars f.origin.1.1
+    names = chars_are true f.from f.origin.0 f.behind f.are_scalars f.origin.1.1
 word_from _ f n e = subst (λ (l : List ℕ). WordText l) e (record { names = subst (λ (l : List ℕ). AreNameChars true l) (sym chars-nil) tt })
 
 pub word_read : (name : List ℕ) → ReadWord Known name → WordText name
@@ -207,12 +207,12 @@ piece_read raw units t = by units (from_of t.at (Piece raw units) t.known t.is)
 
 -- ---- the tree
 
-leaf_faithful : (look : Look) → StrictStays look.style → (mode : Mode) (t : Tree) → Read Known mode t → Faithful look mode t
-leaf_faithful look stays mode (str_lit s u w) r = string_faithful look.style stays u w r
-leaf_faithful look stays mode (number_lit s v w) r = number_faithful look.style (is_pointed mode) v w r
-leaf_faithful look stays mode (ident_name s n) r = key_faithful look.style n r
-leaf_faithful look stays mode (tpl s es qs) r = r
-leaf_faithful look stays mode _ r = tt
+leaf_faithful : (look : Look) (mode : Mode) (t : Tree) → Read Known mode t → Faithful look mode t
+leaf_faithful look mode (str_lit s u w) r = string_faithful look.style u w r
+leaf_faithful look mode (number_lit s v w) r = number_faithful look.style (is_pointed mode) v w r
+leaf_faithful look mode (ident_name s n) r = key_faithful look.style n r
+leaf_faithful look mode (tpl s es qs) r = r
+leaf_faithful look mode _ r = tt
 
 pub read_is_faithful : ReadIsFaithful
-read_is_faithful look stays mode t e = mapped (Read Known) (Faithful look) (leaf_faithful look stays) mode t e
+read_is_faithful look mode t e = mapped (Read Known) (Faithful look) (leaf_faithful look) mode t e

@@ -1,8 +1,7 @@
-pub mod Origins
 pub mod Octals
 pub mod Backslashes
-pub mod Units
 pub mod Numbers
 pub mod Again
 pub mod TemplatesAgain
 pub mod Leaves
+pub mod Derived

@@ -1,21 +1,15 @@
 -- A number that is no legacy form (B.1.1) is written as none.
-use Rattle.std.proofs.Common.{◌≡◌, ℕ, zero, suc, ◌+◌, ◌-◌, ◌<◌, ◌≤◌, ◌⊎◌, ⊎_elim, Bool, true, false, not, ◌&&◌, ◌||◌, ◌==◌, if◌then◌else◌, List, [], ◌∷◌, ◌++◌, length, Option, Some, None, refl, sym, ap, subst, ◌∙◌, arith, true≢false, encode_utf8_all, take, drop, option_map}
-use Rattle.std.specs.Prelude.{nat_lt, nat_le, map, unwrap_or, ◌^◌, ℤ, pos, negsuc, ◌+ℤ◌, ◌-ℤ◌}
-use Rattle.std.specs.Char.{to_ascii_lowercase}
-use Rattle.std.specs.Fmt.{decimal}
-use Rattle.std.specs.Str.Parse.{digits_value}
-use Rattle.std.proofs.lemmas.Bool.{cases_Bool, cases_lt, eqb-true, and_parts}
-use Rattle.std.proofs.lemmas.Bool.Decides.{nat_tests}
-use Rattle.std.proofs.lemmas.Str.{encode_ascii}
-use lib.Utf8.{encode}
-use Rattle.ecma_number.specs.Numbers.{SpecNumber, Scaled, InRadix, number_of, number_by, prefix_radix, radix_of_letter, decimal_number, decimal_value, scaled, scaled_by, in_radix, is_legacy_octal, spells_digits, spells_mantissa, spells_exponent, exponent_value, is_mark, plain, before, after, past_first, trim_front, trim_back, onto_trimmed, numeral}
-use Rattle.ecma_early.specs.Early.{is_legacy, begins_digit, is_digit}
+use Rattle.std.proofs.Common.{◌≡◌, ℕ, zero, suc, ◌+◌, ◌-◌, ⊎_elim, Bool, true, false, not, ◌&&◌, ◌||◌, ◌==◌, if◌then◌else◌, List, [], ◌∷◌, ◌++◌, length, Option, Some, None, refl, sym, ap, subst, ◌∙◌, true≢false, take, drop}
+use Rattle.std.specs.Prelude.{nat_lt, nat_le, unwrap_or, ℤ, pos, negsuc}
+use Rattle.std.proofs.lemmas.Bool.{cases_Bool, eqb-true}
+use Rattle.ecma_number.specs.Numbers.{SpecNumber, Scaled, InRadix, number_of, prefix_radix, spells_mantissa, spells_exponent, plain, before, after, trim_front, numeral, IsCanonical}
+use Rattle.ecma_early.specs.Early.{is_legacy, begins_digit}
 use Rattle.ecma_spell_base.specs.declared.style.Style.{Style}
 use Rattle.ecma_spell_base.specs.Styles.{is_below_es2021, is_up_to_es5}
 use Rattle.ecma_literal.specs.Standing.{takes_point}
-use Rattle.ecma_spell_number.specs.Numbers.{minified, scaled_text, large_text, small_text, zeros, letter, is_prefixed, whole_digits, whole_text, separated, formatted, in_edition, is_new_prefix, before_member}
+use Rattle.ecma_spell_number.specs.Numbers.{minified, scaled_text, large_text, small_text, zeros, letter, is_prefixed, whole_digits, whole_text, separated, formatted, is_new_prefix, before_member, HasPrefix}
 use Rattle.ecma_layout.specs.Literals.{number_bytes}
-use Rattle.ecma_redone_texts.proofs.Octals.{encoded, apart}
+use Rattle.ecma_lexicon.proofs.Canonical.{number_is_canonical}
 
 -- ---- numbers whose first digit is not 0, and whose radix has a prefix
 
@@ -43,78 +37,13 @@ front (c ∷ cs) = by (c == 48) refl (front cs)
     by true e f = f
     by false e f = record { is = e }
 
-back : (ds : List ℕ) → Fronted ds → Fronted (trim_back ds)
-back [] f = record { is = tt }
-back (c ∷ cs) f = by (trim_back cs)
-  where
-    some : (b : Bool) → (c == 48) ≡ b → Fronted (if b then [] else c ∷ [])
-    some true e = record { is = tt }
-    some false e = record { is = e }
-
-    by : (ds : List ℕ) → Fronted (onto_trimmed c ds)
-    by [] = some (c == 48) refl
-    by (d ∷ ds) = record { is = f.is }
-
-led_by : (ds : List ℕ) (x : ℤ) → Fronted ds → Led (scaled_by ds x)
-led_by [] x f = record { is = tt }
-led_by (d ∷ ds) x f = record { is = f.is }
-
-led_scaled : (digits : List ℕ) (x : ℤ) → Led (scaled digits x)
-led_scaled digits x = led_by (trim_back (trim_front digits)) (x +ℤ pos (length (trim_front digits) - length (trim_back (trim_front digits)))) (back (trim_front digits) (front digits))
-
-led_radix : (radix : ℕ) (text : List ℕ) → is_prefixed radix ≡ true → Led (in_radix radix text)
-led_radix radix text p = by (nat_lt value (2 ^ 64))
-  where
-    digits : List ℕ
-    digits = trim_front (map to_ascii_lowercase (plain text))
-
-    value : ℕ
-    value = digits_value radix digits
-
-    by : (b : Bool) → Led (if b then scaled (decimal value) (pos 0) else InRadix radix digits)
-    by true = led_scaled (decimal value) (pos 0)
-    by false = record { is = p }
-
-some_if : {A : Type 0} (b : Bool) (x v : A) → (if b then Some x else None) ≡ Some v → (b ≡ true) × (x ≡ v)
-some_if true x v e = (refl, cc)
-some_if false x v e = absurd cc
-
-decimal_led : (text : List ℕ) (v : SpecNumber) → decimal_number text ≡ Some v → Led v
-decimal_led text v e =
-    let integer = before 46 (before 101 text) in
-    let fraction = after 46 (before 101 text) in
-    let p = some_if (spells_mantissa integer fraction && spells_exponent (after 101 text)) (decimal_value integer (unwrap_or fraction []) (after 101 text)) v e in
-    subst (λ (w : SpecNumber). Led w) p.1
-    (led_scaled (plain integer ++ plain (unwrap_or fraction [])) (exponent_value (after 101 text) -ℤ pos (length (plain (unwrap_or fraction [])))))
-
-unprefixed_led : (b : Bool) (text : List ℕ) (v : SpecNumber) → (if b then Some (in_radix 8 (past_first text)) else decimal_number text) ≡ Some v → Led v
-unprefixed_led true text v e = subst (λ (w : SpecNumber). Led w) (let k : in_radix 8 (past_first text) ≡ v = cc in k) (led_radix 8 (past_first text) refl)
-unprefixed_led false text v e = decimal_led text v e
-
-radix_by : (a b c : Bool) (n : ℕ) → (if a then Some 16 else (if b then Some 8 else (if c then Some 2 else None))) ≡ Some n → is_prefixed n ≡ true
-radix_by true b c n e = subst (λ (k : ℕ). is_prefixed k ≡ true) (let k : 16 ≡ n = cc in k) refl
-radix_by false true c n e = subst (λ (k : ℕ). is_prefixed k ≡ true) (let k : 8 ≡ n = cc in k) refl
-radix_by false false true n e = subst (λ (k : ℕ). is_prefixed k ≡ true) (let k : 2 ≡ n = cc in k) refl
-radix_by false false false n e = absurd cc
-
-radix_if : (b : Bool) (o : Option ℕ) (n : ℕ) → (o ≡ Some n → is_prefixed n ≡ true) → (if b then o else None) ≡ Some n → is_prefixed n ≡ true
-radix_if true o n f e = f e
-radix_if false o n f e = absurd cc
-
-prefix_is : (text : List ℕ) (n : ℕ) → prefix_radix text ≡ Some n → is_prefixed n ≡ true
-prefix_is [] n e = absurd cc
-prefix_is (c ∷ []) n e = absurd cc
-prefix_is (c ∷ (l ∷ cs)) n e = radix_if (c == 48) (radix_of_letter l) n (λ g. radix_by (is_mark 120 l) (is_mark 111 l) (is_mark 98 l) n g) e
-
-number_led : (o : Option ℕ) (text : List ℕ) (v : SpecNumber) → prefix_radix text ≡ o → number_by o text ≡ Some v → Led v
-number_led None text v f e = unprefixed_led (is_legacy_octal text) text v e
-number_led (Some n) text v f e =
-    let p = some_if (spells_digits n (past_first (past_first text))) (in_radix n (past_first (past_first text))) v e in
-    subst (λ (w : SpecNumber). Led w) p.1 (led_radix n (past_first (past_first text)) (prefix_is text n f))
+led_by : (v : SpecNumber) → IsCanonical v → HasPrefix v → Led v
+led_by (Scaled [] x) k p = record { is = tt }
+led_by (Scaled (d ∷ ds) x) k p = record { is = (subst (λ (l : List ℕ). Fronted l) k.front (front (d ∷ ds))).is }
+led_by (InRadix radix ds) k p = record { is = p }
 
 led : (text : List ℕ) (v : SpecNumber) → number_of text ≡ Some v → Led v
-unfolding number_of
-led text v e = number_led (prefix_radix text) text v refl e
+led text v e = let k = number_is_canonical text v e in led_by v k.0 k.1
 
 -- ---- their texts
 
@@ -205,63 +134,29 @@ bar_second cs v e = nothing_if _ _ v (bad (after 46 (before 101 cs))) e
     bad None = refl
     bad (Some f) = refl
 
--- the first byte of a character
-record Starts (c : ℕ) (cs : List ℕ) : Type 0 where
-  byte : ℕ
-  bytes : List ℕ
-  is : encode_utf8_all (c ∷ cs) ≡ byte ∷ bytes
-  same : (k : ℕ) → k < 128 → (byte == k) ≡ true → c ≡ k
+kept : (c : ℕ) (cs : List ℕ) → (c == 95) ≡ false → plain (c ∷ cs) ≡ c ∷ plain cs
+kept c cs e = ap (λ (z : Bool). if not z then c ∷ plain cs else plain cs) e
 
-starts : (c : ℕ) (cs : List ℕ) → Starts c cs
-starts c cs = ⊎_elim
-    (λ (l : c < 128). record { byte = c; bytes = encode_utf8_all cs; is = ap (λ (x : List ℕ). x ++ encode_utf8_all cs) (encode_ascii c l); same = λ k h e. eqb-true c k e })
-    (λ (l : 128 ≤ c). by (encode c) (encoded c l) refl)
-    (cases_lt c 128)
-  where
-    never : (x k : ℕ) → 128 ≤ x → k < 128 → (x == k) ≡ true → c ≡ k
-    never x k h l e = let f = eqb-true x k e in absurd (omega arith)
-
-    by : (xs : List ℕ) → Rattle.ecma_redone_texts.proofs.Octals.Some xs → encode c ≡ xs → Starts c cs
-    by [] h e = absurd h
-    by (x ∷ xs) h e = record { byte = x; bytes = xs ++ encode_utf8_all cs; is = ap (λ (y : List ℕ). y ++ encode_utf8_all cs) e; same = λ k l f. never x k h.0 l f }
-
-kept : (b : ℕ) (bs : List ℕ) → (b == 95) ≡ false → plain (b ∷ bs) ≡ b ∷ plain bs
-kept b bs e = ap (λ (z : Bool). if not z then b ∷ plain bs else plain bs) e
-
-second_digit : (ds : List ℕ) (v : SpecNumber) → number_of (48 ∷ ds) ≡ Some v → begins_digit (encode_utf8_all ds) ≡ false → begins_digit (plain (encode_utf8_all ds)) ≡ false
+second_digit : (ds : List ℕ) (v : SpecNumber) → number_of (48 ∷ ds) ≡ Some v → begins_digit ds ≡ false → begins_digit (plain ds) ≡ false
 second_digit [] v n e = refl
-second_digit (d ∷ ds) v n e = let s = starts d ds in ⊎_elim
-    (λ (t : (s.byte == 95) ≡ true). absurd (bar_second ds v (subst (λ (k : ℕ). number_of (48 ∷ k ∷ ds) ≡ Some v) (s.same 95 (omega arith) t) n)))
-    (λ (f : (s.byte == 95) ≡ false). ap (λ (l : List ℕ). begins_digit (plain l)) s.is ∙ (ap begins_digit (kept s.byte s.bytes f) ∙ (sym (ap begins_digit s.is) ∙ e)))
-    (cases_Bool (s.byte == 95))
+second_digit (d ∷ ds) v n e = ⊎_elim
+    (λ (t : (d == 95) ≡ true). absurd (bar_second ds v (subst (λ (k : ℕ). number_of (48 ∷ k ∷ ds) ≡ Some v) (eqb-true d 95 t) n)))
+    (λ (f : (d == 95) ≡ false). ap begins_digit (kept d ds f) ∙ e)
+    (cases_Bool (d == 95))
 
-plain_is_plain : (own : List ℕ) (v : SpecNumber) → number_of own ≡ Some v → is_legacy (encode_utf8_all own) ≡ false → is_legacy (plain (encode_utf8_all own)) ≡ false
+plain_is_plain : (own : List ℕ) (v : SpecNumber) → number_of own ≡ Some v → is_legacy own ≡ false → is_legacy (plain own) ≡ false
 plain_is_plain [] v n e = refl
-plain_is_plain (c ∷ cs) v n e = let s = starts c cs in ⊎_elim
-    (λ (t : (s.byte == 95) ≡ true). absurd (bar_first cs v (subst (λ (k : ℕ). number_of (k ∷ cs) ≡ Some v) (s.same 95 (omega arith) t) n)))
-    (λ (f : (s.byte == 95) ≡ false). ap (λ (l : List ℕ). is_legacy (plain l)) s.is ∙ (ap is_legacy (kept s.byte s.bytes f) ∙ by s f))
-    (cases_Bool (s.byte == 95))
+plain_is_plain (c ∷ cs) v n e = ⊎_elim
+    (λ (t : (c == 95) ≡ true). absurd (bar_first cs v (subst (λ (k : ℕ). number_of (k ∷ cs) ≡ Some v) (eqb-true c 95 t) n)))
+    (λ (f : (c == 95) ≡ false). ap is_legacy (kept c cs f) ∙ by)
+    (cases_Bool (c == 95))
   where
-    zero_first : (s : Starts c cs) → (s.byte == 48) ≡ true → begins_digit (plain s.bytes) ≡ false
-    zero_first s t =
-        let k : c ≡ 48 = s.same 48 (omega arith) t in
-        let m : number_of (48 ∷ cs) ≡ Some v = subst (λ (k : ℕ). number_of (k ∷ cs) ≡ Some v) k n in
-        let x : 48 ∷ encode_utf8_all cs ≡ s.byte ∷ s.bytes = sym (ap (λ (j : ℕ). encode_utf8_all (j ∷ cs)) k ∙ ap (λ (y : List ℕ). y ++ encode_utf8_all cs) (encode_ascii 48 (omega arith))) ∙ s.is in
-        let tail : encode_utf8_all cs ≡ s.bytes = tails 48 s.byte (encode_utf8_all cs) s.bytes x in
-        let old : begins_digit (encode_utf8_all cs) ≡ false = digit_second (encode_utf8_all cs) (sym (ap is_legacy (ap (λ (j : ℕ). encode_utf8_all (j ∷ cs)) k ∙ ap (λ (y : List ℕ). y ++ encode_utf8_all cs) (encode_ascii 48 (omega arith)))) ∙ e) in
-        sym (ap (λ (l : List ℕ). begins_digit (plain l)) tail) ∙ second_digit cs v m old
-      where
-        tails : (a b : ℕ) (xs ys : List ℕ) → a ∷ xs ≡ b ∷ ys → xs ≡ ys
-        tails a b xs ys e = cc
-
-        digit_second : (xs : List ℕ) → is_legacy (48 ∷ xs) ≡ false → begins_digit xs ≡ false
-        digit_second xs e = e
-
-    by : (s : Starts c cs) → (s.byte == 95) ≡ false → is_legacy (s.byte ∷ plain s.bytes) ≡ false
-    by s f = ⊎_elim
-        (λ (t : (s.byte == 48) ≡ true). ap (λ (b : Bool). b && begins_digit (plain s.bytes)) t ∙ zero_first s t)
-        (λ (t : (s.byte == 48) ≡ false). behind_lead s.byte (plain s.bytes) t)
-        (cases_Bool (s.byte == 48))
+    by : is_legacy (c ∷ plain cs) ≡ false
+    by = ⊎_elim
+        (λ (t : (c == 48) ≡ true).
+        ap (λ (b : Bool). b && begins_digit (plain cs)) t ∙ second_digit cs v (subst (λ (k : ℕ). number_of (k ∷ cs) ≡ Some v) (eqb-true c 48 t) n) (sym (ap (λ (b : Bool). b && begins_digit cs) t) ∙ e))
+        (λ (t : (c == 48) ≡ false). behind_lead c (plain cs) t)
+        (cases_Bool (c == 48))
 
 -- ---- what is written of a number
 
@@ -270,16 +165,16 @@ unwrapped true None x w e = e
 unwrapped true (Some t) x w e = w.is
 unwrapped false o x w e = e
 
-written_plain : (style : Style) (v : SpecNumber) (own : List ℕ) → number_of own ≡ Some v → is_legacy (encode_utf8_all own) ≡ false → is_legacy (number_bytes style v (Some (encode_utf8_all own))) ≡ false
+written_plain : (style : Style) (v : SpecNumber) (own : List ℕ) → number_of own ≡ Some v → is_legacy own ≡ false → is_legacy (number_bytes style v (Some own)) ≡ false
 written_plain style v own n e = by style.minify
   where
-    old : (b : Bool) → is_legacy (if b then plain (encode_utf8_all own) else encode_utf8_all own) ≡ false
+    old : (b : Bool) → is_legacy (if b then plain own else own) ≡ false
     old true = plain_is_plain own v n e
     old false = e
 
-    by : (b : Bool) → is_legacy (if b then minified v else formatted style v (Some (encode_utf8_all own))) ≡ false
+    by : (b : Bool) → is_legacy (if b then minified v else formatted style v (Some own)) ≡ false
     by true = minified_plain v (led own v n)
-    by false = unwrapped (is_up_to_es5 style && is_new_prefix (prefix_radix (encode_utf8_all own))) (whole_text v) (separated style (encode_utf8_all own)) (whole_plain v (led own v n)) (old (is_below_es2021 style))
+    by false = unwrapped (is_up_to_es5 style && is_new_prefix (prefix_radix own)) (whole_text v) (separated style own) (whole_plain v (led own v n)) (old (is_below_es2021 style))
 
 -- a point behind it changes nothing
 pointed_legacy : (text : List ℕ) → is_legacy (text ++ 46 ∷ []) ≡ is_legacy text
@@ -287,12 +182,12 @@ pointed_legacy [] = refl
 pointed_legacy (c ∷ []) = refl
 pointed_legacy (c ∷ (d ∷ ds)) = refl
 
-pub number_plain : (style : Style) (before : Bool) (v : SpecNumber) (own : List ℕ) → number_of own ≡ Some v → is_legacy (encode_utf8_all own) ≡ false
-    → is_legacy (if before then before_member (number_bytes style v (Some (encode_utf8_all own))) else number_bytes style v (Some (encode_utf8_all own))) ≡ false
+pub number_plain : (style : Style) (before : Bool) (v : SpecNumber) (own : List ℕ) → number_of own ≡ Some v → is_legacy own ≡ false
+    → is_legacy (if before then before_member (number_bytes style v (Some own)) else number_bytes style v (Some own)) ≡ false
 number_plain style before v own n e = by before
   where
     text : List ℕ
-    text = number_bytes style v (Some (encode_utf8_all own))
+    text = number_bytes style v (Some own)
 
     point : (b : Bool) → is_legacy (if b then text ++ 46 ∷ [] else text) ≡ false
     point true = pointed_legacy text ∙ written_plain style v own n e

@@ -1,8 +1,8 @@
 -- A string without an escape of B.1.2 has no octal escape among its bytes.
-use Rattle.std.proofs.Common.{◌≡◌, ℕ, ◌<◌, ◌≤◌, ◌+◌, ◌/◌, ltb, cond, ◌⊎◌, inl, inr, ⊎_elim, Bool, true, false, not, ◌&&◌, ◌||◌, ◌==◌, if◌then◌else◌, List, [], ◌∷◌, ◌++◌, refl, sym, ap, subst, ◌∙◌, arith, true≢false, encode_utf8_all}
-use lib.Utf8.{encode, next}
+use Rattle.std.proofs.Common.{◌≡◌, ℕ, ◌<◌, ◌≤◌, ltb, cond, inl, inr, ⊎_elim, Bool, true, false, not, ◌||◌, ◌==◌, if◌then◌else◌, List, [], ◌∷◌, ◌++◌, refl, sym, ap, ◌∙◌, arith, true≢false, encode_utf8_all}
+use lib.Utf8.{encode}
 use Rattle.std.specs.List.{list_any}
-use Rattle.std.proofs.lemmas.Bool.{cases_Bool, cases_lt, eqb-true, and_parts}
+use Rattle.std.proofs.lemmas.Bool.{cases_lt, eqb-true}
 use Rattle.std.proofs.lemmas.Bool.Decides.{nat_tests}
 use Rattle.std.proofs.lemmas.Str.{encode_ascii}
 use Rattle.ecma_scan.specs.Runs.{Each}
@@ -71,9 +71,10 @@ past_high (x ∷ xs) ys h = ap (λ (b : Bool). if b then is_octal_escape (xs ++ 
 past_some : (xs ys : List ℕ) → Some xs → (has_octal (xs ++ ys) ≡ has_octal ys) × (is_octal_escape (xs ++ ys) ≡ has_octal ys) × (begins_digit (xs ++ ys) ≡ false)
 past_some [] ys h = absurd h
 past_some (x ∷ xs) ys h = (
-    past_high (x ∷ xs) ys h,
-    ap (λ (b : Bool). if b then (begins_digit (xs ++ ys) || has_octal (xs ++ ys)) else (is_digit x || has_octal (xs ++ ys))) (high_other x 48 (omega arith) h.0) ∙ (ap (λ (b : Bool). b || has_octal (xs ++ ys)) (high_digit x h.0) ∙ past_high xs ys h.1),
-    high_digit x h.0)
+  past_high (x ∷ xs) ys h,
+  ap (λ (b : Bool). if b then (begins_digit (xs ++ ys) || has_octal (xs ++ ys)) else (is_digit x || has_octal (xs ++ ys))) (high_other x 48 (omega arith) h.0) ∙ (ap (λ (b : Bool). b || has_octal (xs ++ ys)) (high_digit x h.0) ∙ past_high xs ys h.1),
+  high_digit x h.0,
+)
 
 -- of a character past ASCII
 high_char : (c : ℕ) (cs : List ℕ) → 128 ≤ c → (has_octal (c ∷ cs) ≡ has_octal cs) × (is_octal_escape (c ∷ cs) ≡ has_octal cs) × (begins_digit (c ∷ cs) ≡ false)

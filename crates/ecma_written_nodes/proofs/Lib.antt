@@ -12,3 +12,4 @@ pub mod Expressions
 pub mod Members
 pub mod Patterns
 pub mod Functions
+pub mod Loops
