@@ -171,10 +171,10 @@ module _ (look : Look) where
   -- ---- 15.7 methods
 
   -- behind `static` touches a star, or a key that no word runs into
-  Touches : ℕ → Bool → Bool → Tree → Type 0
+  pub Touches : ℕ → Bool → Bool → Tree → Type 0
   Touches kind generates waits key = ((kind == plain_method && not waits) ≡ true) × ((generates ≡ true) ⊎ ((generates ≡ false) × (starts_with_word key ≡ false)))
 
-  static_gap : (kind : ℕ) (generates waits : Bool) (key : Tree) → Steps (after_static look kind generates waits key) Worded (λ u. (Touches kind generates waits key × (u ≡ Worded)) ⊎ (u ≡ Clear))
+  pub static_gap : (kind : ℕ) (generates waits : Bool) (key : Tree) → Steps (after_static look kind generates waits key) Worded (λ u. (Touches kind generates waits key × (u ≡ Worded)) ⊎ (u ≡ Clear))
   unfolding Touches
   static_gap kind generates waits key = if_goes (kind == plain_method && not waits)
       (λ e. if_goes generates
@@ -211,7 +211,7 @@ module _ (look : Look) where
   star_go : (key : Tree) → is_key key ≡ true → Steps (method_marks false true) Worded (λ u. admits u key ≡ true)
   star_go key i = nil ▸ at (ends (text_by Operator times_mark refl) (λ u q. ap (λ v. admits v key) q ∙ key_operated key i))
 
-  get_or_set : (kind : ℕ) → ((kind ≡ get_kind) ⊎ (kind ≡ set_kind)) → Fits Div (own_text kind) Word
+  pub get_or_set : (kind : ℕ) → ((kind ≡ get_kind) ⊎ (kind ≡ set_kind)) → Fits Div (own_text kind) Word
   unfolding own_text is_plain_word are_parts unicode_ident
   get_or_set kind (inl e) = subst (λ n. Fits Div (own_text n) Word) (sym e) (keyword (codes "get") refl)
   get_or_set kind (inr e) = subst (λ n. Fits Div (own_text n) Word) (sym e) (keyword (codes "set") refl)

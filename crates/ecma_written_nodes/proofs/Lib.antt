@@ -13,3 +13,4 @@ pub mod Members
 pub mod Patterns
 pub mod Functions
 pub mod Loops
+pub mod Classes

@@ -75,7 +75,7 @@ module _ (look : Look) where
   rows_out none f s g k = line_on s g
   rows_out (more t ts) f s g k = free_line look s g (λ u h. deepens look ▸ at (k u h ▸ λ w l. comes_back look ▸ at (line_on w l)))
 
-  parens_on : (e : Tree) → Good look e → (s : State) → is_open s ≡ true → Steps (in_parens (laid look Alone e)) s (At Shut)
+  pub parens_on : (e : Tree) → Good look e → (s : State) → is_open s ≡ true → Steps (in_parens (laid look Alone e)) s (At Shut)
   parens_on e f s o = shut left_paren o ▸ at (f Alone Shut refl ▸ λ v l. shut right_paren (leaves_open Alone e v l))
 
   -- the statement of a loop, and what ends it
@@ -198,7 +198,7 @@ module _ (look : Look) where
 
   -- ---- `try`
 
-  block_on : (b : Span) (ss : Trees) → AllItems look ss → (u : State) → admits u (block_stmt b ss) ≡ true → Steps (laid look Alone (block_stmt b ss)) u (λ v. is_free v ≡ true)
+  pub block_on : (b : Span) (ss : Trees) → AllItems look ss → (u : State) → admits u (block_stmt b ss) ≡ true → Steps (laid look Alone (block_stmt b ss)) u (λ v. is_free v ≡ true)
   block_on b ss a u q = ends (block_good look b ss a Alone u q) (λ v l. ended_leaves Alone (block_stmt b ss) v refl l)
 
   -- a handler, which ends with a block
