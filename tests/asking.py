@@ -47,6 +47,12 @@ class Refused(NamedTuple):
     why: str
 
 
+class Unasked(NamedTuple):
+    """A test that asks a program that is not there."""
+
+    program: str
+
+
 ESCAPES = ((b"\\", b"\\\\"), (b"\t", b"\\t"), (b"\n", b"\\n"), (b"\r", b"\\r"))
 
 
@@ -144,7 +150,12 @@ class Asker:
 
         def step(name, test, answers):
             try:
-                active.append((name, test, test.send(answers)))
+                questions = test.send(answers)
+                lacking = [it.program for it in questions if isinstance(it, Ask) and it.program not in self.paths]
+                if lacking:
+                    verdicts[name] = Unasked(lacking[0])
+                else:
+                    active.append((name, test, questions))
             except StopIteration as end:
                 verdicts[name] = end.value
             except Wrong as wrong:
