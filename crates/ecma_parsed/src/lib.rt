@@ -5,7 +5,7 @@
 
 ghost use Rattle.ecma_lexing.specs.States.{State};
 ghost use Rattle.ecma_parsed.specs.Answered.{EntriesAnswer};
-ghost use Rattle.ecma_parsed.specs.Chosen.{ListsChosen, NewChosen, NewListChosen, TextsChosen};
+ghost use Rattle.ecma_parsed.specs.Chosen.{ListsChosen, NewChosen, NewListChosen, SourcesChosen, TextsChosen};
 ghost use Rattle.ecma_parsed.specs.Exact.{OneProgram, ProgramsExact};
 ghost use Rattle.ecma_parsed.specs.ListRead.{ListConstant, ListHands, ListsSettled};
 ghost use Rattle.ecma_parsed.specs.Lists.{ListsAnswered, NewListAnswered};
@@ -16,7 +16,7 @@ ghost use Rattle.ecma_parsed.specs.Texts.{NewAnswered, TextsAnswered};
 ghost use Rattle.ecma_token.specs.Tokens.{Spot};
 ghost use Rattle.ecma_tokens.specs.Machine.{Source, Machine};
 ghost use Rattle.ecma_tree.specs.Tree.{Tree};
-ghost use Rattle.std.specs.Prelude.{List};
+ghost use Rattle.std.specs.Prelude.{Bool, List};
 
 pub use ecma_parser::{PResult, Parser};
 use ecma_sources::Sourced;
@@ -160,4 +160,27 @@ pub fn chosen_law<I: Lexed>()
 pub fn list_chosen_law<I: Listed>()
     ensures answer { ListsChosen I.state }
     ensures made { NewListChosen I.state }
+{}
+
+/// What a parser reads from where neither script nor module is said, as a source of tokens: which of its
+/// states are good as either, and which are the same.
+pub trait Undecided {
+    ghost Input: { Type 0 };
+
+    ghost State: { Type 0 };
+
+    ghost machine: { Machine State };
+
+    ghost state: { Input → Source State };
+
+    ghost good: { Bool → Source State → Type 0 };
+
+    ghost same: { Source State → Source State → Type 0 };
+}
+
+/// Law: the same of any source of tokens, which, told the code of either, ends, changes no token by the code
+/// around, and hands out its tokens in the order of their places.
+#[tactic(auto)]
+pub fn source_chosen_law<I: Undecided>()
+    ensures answer { SourcesChosen I.machine I.state I.good I.same }
 {}

@@ -72,9 +72,9 @@ fn a_node_of_its_own_has_the_comments_behind_it(rt: HostRuntime) {
     let text = formatted(&rt, rt.alloc(), Some(&mut store), &stmt);
     assert_eq!(rt; text.as_str(), "a; // t\n");
     let lent = formatted(&rt, rt.alloc(), Some(&mut store), &&stmt);
-    assert_eq!(rt; lent.as_str(), "a;");
+    assert_eq!(rt; lent.as_str(), "a;\n");
     let there = formatted(&rt, rt.alloc(), Some(&mut store), &Some(stmt));
-    assert_eq!(rt; there.as_str(), "a;");
+    assert_eq!(rt; there.as_str(), "a;\n");
     assert!(rt; store.has_leading(BytePos(20)));
 }
 

@@ -1,11 +1,13 @@
 //! The entries of a printer, with the comments of one source.
-use crate::made::ok;
+use crate::made::{bound, ok, var};
 use crate::printer::placed::{comment, ident, name_stmt, span};
 use ecma_ast::Build;
-use ecma_codegen::{Config, EmitError, Emitter, JsWriter, NoPlaces, WriteJs};
+use ecma_codegen::{Config, EmitError, Emitter, JsWriter, NoPlaces, WriteJs, to_code};
 use ecma_comments::{CommentKind, Comments};
-use ecma_node::{Module, ModuleExportName, ModuleItem, Script};
-use ecma_token::{BytePos, Counted};
+use ecma_node::{
+    Module, ModuleExportName, ModuleItem, Script, StmtBox, VarDeclKind, VarDeclarator,
+};
+use ecma_token::{BytePos, Counted, DUMMY_SP};
 use std::alloc::Global;
 use std::process::Abort;
 
@@ -79,7 +81,7 @@ fn parts_of_a_module_have_the_comments_up_to_their_ends(rt: HostRuntime) {
         &rt,
         print_items(rt.alloc(), &mut store, js, &first, &second),
     );
-    assert_eq!(rt; out.inner().as_slice(), b"a; // t\n/* l */ b;".as_slice());
+    assert_eq!(rt; out.inner().as_slice(), b"a; // t\n/* l */ b;\n".as_slice());
 }
 
 // `/* s */ a`, behind it `/* m */ b`, and behind that `/* n */ c`
@@ -113,4 +115,30 @@ fn scripts_modules_and_names_have_their_comments(rt: HostRuntime) {
         out.inner().as_slice(),
         b"/* s */ a;\n/* m */ b;\n/* n */ c".as_slice()
     );
+}
+
+/// `var a`, as a statement.
+fn variables(rt: &impl Abort, b: &Build) -> StmtBox {
+    let declarator = VarDeclarator {
+        span: DUMMY_SP,
+        name: bound(rt, b),
+        init: None,
+    };
+    let declared = ok(rt, vec![in b.alloc; declarator]);
+    ok(rt, b.var_decl(VarDeclKind::Var, declared))
+}
+
+#[test]
+fn a_statement_alone_has_its_end(rt: HostRuntime) {
+    let b = Build { alloc: rt.alloc() };
+    let declared = variables(&rt, &b);
+    assert_eq!(rt;
+        ok(&rt, to_code(rt.alloc(), &declared)).as_str(),
+        "var a;\n"
+    );
+    let item = ModuleItem::Stmt(declared);
+    assert_eq!(rt; ok(&rt, to_code(rt.alloc(), &item)).as_str(), "var a;\n");
+    let named = ok(&rt, b.expr_stmt(var(&rt, &b)));
+    assert_eq!(rt; ok(&rt, to_code(rt.alloc(), &named)).as_str(), "a;\n");
+    assert_eq!(rt; ok(&rt, to_code(rt.alloc(), &var(&rt, &b))).as_str(), "a");
 }
