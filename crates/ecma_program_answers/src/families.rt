@@ -1,6 +1,6 @@
 //! How many nodes of each family a program has.
 
-use crate::read::{Reading, read, reading, refuse};
+use crate::read::{Reading, read, reading_of, refuse};
 use ecma_answers::{Answer, Question};
 use ecma_token::{EsSyntax, Syntax};
 use ecma_visit::{Node, Walk, Watch};
@@ -70,7 +70,7 @@ impl fmt::Display for Families {
 
 /// How many nodes of each family the text of a question has, or why it is refused.
 pub fn tell(question: &Question<'_>, answer: &mut Answer) -> anyhow::Result<()> {
-    match read(answer.alloc(), question.text(0), reading(question))? {
+    match read(answer.alloc(), question.text(0), reading_of(question))? {
         Ok((program, _)) => {
             let mut families = Families::default();
             program.walk(&mut families);

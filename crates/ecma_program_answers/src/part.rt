@@ -1,6 +1,6 @@
 //! Parts of programs: expressions, patterns, parameters, keys, statements and items.
 
-use crate::read::{parser, reading, refuse, tell_faults};
+use crate::read::{parser, reading_of, refuse, tell_faults};
 use ecma_answers::{Answer, Question};
 use ecma_lexer::Lexer;
 use ecma_node::{Program, ProgramKind};
@@ -58,7 +58,7 @@ fn tell_rest<'a>(
 /// The outline of the part at the front of a text, that of what stands behind it, and the part's early errors; or why it is refused.
 pub fn tell(question: &Question<'_>, answer: &mut Answer) -> anyhow::Result<()> {
     let alloc = answer.alloc();
-    let mut parser = parser(alloc, question.text(0), reading(question))?;
+    let mut parser = parser(alloc, question.text(0), reading_of(question))?;
     match part(question, alloc, &mut parser)? {
         Ok(outline) => {
             let faults = parser.take_errors();

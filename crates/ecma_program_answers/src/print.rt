@@ -1,6 +1,6 @@
 //! What the printer writes for a text.
 
-use crate::read::{parser, program, reading, refuse};
+use crate::read::{parser, program, reading_of, refuse};
 use ecma_answers::{Answer, Question};
 use ecma_codegen::{Config, Emitter, Gather, JsWriter, NoPlaces, WriteJs, omit_trailing_semi};
 use ecma_comments::Comments;
@@ -53,7 +53,7 @@ fn indent(question: &Question<'_>) -> &'static str {
 }
 
 /// How a question's text is written.
-fn style(question: &Question<'_>) -> Style {
+fn style_of(question: &Question<'_>) -> Style {
     let minify = question.has("minify");
     Style {
         cfg: Config {
@@ -75,7 +75,7 @@ fn read(
     question: &Question<'_>,
     alloc: Global,
 ) -> anyhow::Result<Result<(Program, Option<Comments>), Error>> {
-    let (text, reading) = (question.text(0), reading(question));
+    let (text, reading) = (question.text(0), reading_of(question));
     let with_comments = question.has("comments");
     let mut parser = if with_comments && text.len() < 1_000_000 {
         let latest = EsVersion::latest();
@@ -209,7 +209,7 @@ fn write(
     } else {
         None
     };
-    let ended = print_to(alloc, program, style(question), list, comments, &mut out);
+    let ended = print_to(alloc, program, style_of(question), list, comments, &mut out);
     answer.say("written")?;
     answer.push(out.bytes())?;
     answer.say(out.calls())?;

@@ -21,7 +21,7 @@ pub struct Reading {
 }
 
 /// As what a question's text is read: a script where it doesn't say `module`, nested 1,024 deep at most where it has no limit.
-pub fn reading(question: &Question<'_>) -> Reading {
+pub fn reading_of(question: &Question<'_>) -> Reading {
     Reading {
         script: !question.has("module"),
         syntax: Syntax::Es(EsSyntax {
@@ -91,7 +91,7 @@ pub fn tell_faults(faults: &[Error], answer: &mut Answer) -> anyhow::Result<()> 
 /// The tree of a text where that is asked for, and its early errors; or why it is refused.
 pub fn tell(question: &Question<'_>, answer: &mut Answer) -> anyhow::Result<()> {
     let alloc = answer.alloc();
-    match read(alloc, question.text(0), reading(question))? {
+    match read(alloc, question.text(0), reading_of(question))? {
         Ok((program, faults)) => {
             answer.say("read")?;
             if question.has("tree") {
@@ -115,7 +115,7 @@ fn program_of(alloc: Global, text: &str, reading: Reading) -> anyhow::Result<Pro
 
 /// Whether two texts are the same program.
 pub fn tell_same(question: &Question<'_>, answer: &mut Answer) -> anyhow::Result<()> {
-    let (alloc, reading) = (answer.alloc(), reading(question));
+    let (alloc, reading) = (answer.alloc(), reading_of(question));
     let left = program_of(alloc, question.text(0), reading)?;
     let right = program_of(alloc, question.text(1), reading)?;
     let is_same = same_program(&left, &right);
