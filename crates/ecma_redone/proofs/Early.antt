@@ -10,19 +10,18 @@ use Rattle.ecma_token.specs.declared.error.Error.{Error}
 use Rattle.ecma_token.specs.declared.error.SyntaxError.{SyntaxError}
 use Rattle.ecma_token.specs.declared.error.SyntaxError.TheVariants.{LegacyOctal, InitRequiredForUsingDecl, UsingDeclNotAllowed, UsingDeclNotAllowedForForInLoop}
 use Rattle.ecma_token.specs.declared.place.Span.{Span}
-use Rattle.ecma_token.specs.declared.syntax.EsSyntax.{EsSyntax}
 use Rattle.ecma_token.specs.Kinds.{const_kind}
 use Rattle.ecma_token.specs.Utf16.{utf16}
-use Rattle.ecma_tree.specs.Tree.{Tree, Trees, none, more, script, es_module, import_decl, export_decl, named_export, export_default_decl, export_default_expr, export_all, import_named_specifier, import_default_specifier, import_star_as_specifier, export_namespace_specifier, export_default_specifier, export_named_specifier, block_stmt, empty_stmt, debugger_stmt, with_stmt, return_stmt, labeled_stmt, break_stmt, continue_stmt, if_stmt, switch_stmt, switch_case, throw_stmt, try_stmt, catch_clause, while_stmt, do_while_stmt, for_stmt, for_in_stmt, for_of_stmt, expr_stmt, class_decl, fn_decl, var_decl, using_decl, var_declarator, function, param, decorator, class, constructor, class_method, private_method, class_prop, private_prop, static_block, auto_accessor, ident_name, computed_prop_name, private_name, this_expr, array_lit, object_lit, fn_expr, unary_expr, update_expr, bin_expr, assign_expr, member_expr, super_prop_expr, cond_expr, call_expr, new_expr, seq_expr, ident, tpl, tpl_element, tagged_tpl, arrow_expr, class_expr, yield_expr, meta_prop_expr, await_expr, paren_expr, opt_chain_expr, opt_call, super, import, invalid, expr_or_spread, spread_element, key_value_prop, assign_prop, getter_prop, setter_prop, method_prop, str_lit, bool_lit, null_lit, number_lit, big_int_lit, regex_lit, binding_ident, array_pat, rest_pat, object_pat, assign_pat, key_value_pat_prop, assign_pat_prop, expr_pat, invalid_pat, invalid_target, list, absent, hole}
+use Rattle.ecma_tree.specs.Tree.{Tree, Trees, none, more, script, es_module, import_named_specifier, import_default_specifier, import_star_as_specifier, export_namespace_specifier, export_named_specifier, block_stmt, with_stmt, return_stmt, labeled_stmt, break_stmt, continue_stmt, switch_stmt, while_stmt, do_while_stmt, for_stmt, for_in_stmt, for_of_stmt, expr_stmt, class_decl, fn_decl, var_decl, using_decl, var_declarator, function, param, class, constructor, class_method, private_method, class_prop, private_prop, static_block, auto_accessor, ident_name, object_lit, fn_expr, update_expr, assign_expr, member_expr, super_prop_expr, call_expr, ident, arrow_expr, class_expr, meta_prop_expr, paren_expr, super, key_value_prop, getter_prop, setter_prop, method_prop, str_lit, number_lit, binding_ident, expr_pat, list, absent}
 use Rattle.ecma_tree.specs.Folds.{fold}
 use Rattle.ecma_tree.specs.Places.{no_place}
 use Rattle.ecma_syntax.specs.Shape.{is_absent, is_bound_name, is_use_strict, is_directive}
-use Rattle.ecma_early.specs.Early.{Scope, Walk, fault, every as every_walk, within, first, later, statements, block, as_block, as_body, name_in, evil, evil_name, legacy_string, legacy_number, where_strict, is_loop, labelled, doubled, breaks_out, continues, is_bare, are_bare, own_use_strict, mode_fault, mode, second_constructors, members, class_body, is_proto, span_of_prop, proto_fault, second_protos, is_updatable, unset, unset_using, bad_using, top_using, unless, step, put, in_order, comes_after, faults_in, early_errors, outermost, looping, switching, heading, past_head, strictly, in_arrow, in_arrow_params, export_name, in_function, in_constructor, in_part, as_method, as_function}
+use Rattle.ecma_early.specs.Early.{Scope, Walk, fault, every as every_walk, within, first, later, statements, block, as_block, as_body, name_in, evil, legacy_string, legacy_number, where_strict, is_loop, labelled, doubled, breaks_out, continues, is_bare, are_bare, own_use_strict, mode_fault, mode, second_constructors, members, class_body, is_proto, span_of_prop, proto_fault, second_protos, is_updatable, unset, unset_using, bad_using, top_using, unless, step, put, in_order, comes_after, faults_in, early_errors, outermost, looping, switching, heading, past_head, strictly, in_arrow, in_arrow_params, export_name, in_function, in_constructor, in_part, as_method, as_function}
 use Rattle.ecma_spell_base.specs.declared.style.Style.{Style}
 use Rattle.ecma_spell_string.specs.Names.{is_latin, is_quoted_key}
 use Rattle.ecma_layout.specs.declared.look.Look.{Look}
 use Rattle.ecma_layout.specs.Looks.{formats}
-use Rattle.ecma_redone.specs.Redo.{Mode, Plain, is_pointed, Leaves, kept, redo, redos, Same}
+use Rattle.ecma_redone.specs.Redo.{Mode, Plain, is_pointed, Leaves, kept, redo, redos}
 use Rattle.ecma_redone.specs.Every.{every, every_all}
 use Rattle.ecma_redone.specs.Faithful.{is_strict_text, Faithful}
 use Rattle.ecma_redone.specs.Written.{leaves_of, new_arguments, given_none, written_key, written_constructor_key}
@@ -482,12 +481,18 @@ proto_written look q s k u v = by (key_is look.style (leaves_of look) k)
 
 legal_written : (look : Look) → Legal true (Faithful look) (leaves_of look)
 legal_written look = record {
-  string = λ m s u w h q r. h.modern q r; strict = λ m s u w h. h.strict; number = λ m s v w h q r. h q r; proto = proto_written look;
+  string = λ m s u w h q r. h.modern q r;
+  strict = λ m s u w h. h.strict;
+  number = λ m s v w h q r. h q r;
+  proto = proto_written look;
 }
 
 keeps_written : (look : Look) → Keeps (R true) (Faithful look) step (leaves_of look)
 keeps_written look = record {
-  node = node true (Faithful look) (leaves_of look) (legal_written look); arguments = arguments_written look; key = key_written look; constructor_key = λ k e h. constructor_key_written look k h;
+  node = node true (Faithful look) (leaves_of look) (legal_written look);
+  arguments = arguments_written look;
+  key = key_written look;
+  constructor_key = λ k e h. constructor_key_written look k h;
 }
 
 pub legal_alike : LegalAlike

@@ -1,5 +1,5 @@
 -- How keys are written: as they are, a word as a string of its units, or a string as the word `constructor`.
-use Rattle.std.proofs.Common.{◌≡◌, Bool, true, false, if◌then◌else◌, ℕ, List, Option, Some, None, refl, sym, ap, subst, codes, bytes_eq, chars}
+use Rattle.std.proofs.Common.{◌≡◌, Bool, true, false, if◌then◌else◌, ℕ, List, Option, Some, refl, sym, ap, subst, codes, bytes_eq, chars}
 use Rattle.ecma_token.specs.declared.place.Span.{Span}
 use Rattle.ecma_token.specs.Utf16.{utf16}
 use Rattle.ecma_tree.specs.Places.{no_place}
@@ -9,7 +9,7 @@ use Rattle.ecma_spell_base.specs.declared.style.Style.{Style}
 use Rattle.ecma_spell_string.specs.Names.{is_quoted_key}
 use Rattle.ecma_layout.specs.Literals.{key_bytes}
 use Rattle.ecma_redone.specs.Redo.{Plain, Leaves, redo}
-use Rattle.ecma_redone.specs.Written.{word_key, written_key, constructor_word, written_constructor_key}
+use Rattle.ecma_redone.specs.Written.{written_key, constructor_word, written_constructor_key}
 
 -- a word as a string
 abbrev pub key_string : Style → List ℕ → Tree

@@ -1,4 +1,5 @@
 pub mod Folded
+pub mod Mapped
 pub mod Ascii
 pub mod Keys
 pub mod Shapes

@@ -1,5 +1,5 @@
 -- A tree given anew is the same program.
-use Rattle.std.proofs.Common.{◌≡◌, ℕ, Bool, true, false, not, ◌&&◌, ◌||◌, if◌then◌else◌, List, [], Option, Some, None, refl, sym, ap, ap₂, ◌∙◌, subst, codes, bytes_eq, chars}
+use Rattle.std.proofs.Common.{◌≡◌, ℕ, Bool, true, false, not, ◌&&◌, ◌||◌, if◌then◌else◌, List, [], Option, Some, None, refl, sym, ap, ap₂, ◌∙◌, codes, bytes_eq, chars}
 use Rattle.std.proofs.lemmas.Slice.Eq.{bytes_eq-Decides}
 use Rattle.ecma_token.specs.declared.place.Span.{Span}
 use Rattle.ecma_token.specs.Utf16.{utf16}
@@ -8,10 +8,10 @@ use Rattle.ecma_tree.specs.Tree.{Tree, Trees, none, more, script, es_module, imp
 use Rattle.ecma_program.specs.Program.{program, programs, property_key, arguments, is_escaped, stated, line_ends, texts, with_texts, spelled, placed as placed_program}
 use Rattle.ecma_layout.specs.declared.look.Look.{Look}
 use Rattle.ecma_layout.specs.Looks.{formats}
-use Rattle.ecma_redone.specs.Redo.{Mode, Plain, Headed, Raw, is_head, object_mode, chain_mode, quasi_mode, placed, Leaves, kept, redo, redos, Same}
+use Rattle.ecma_redone.specs.Redo.{Mode, Plain, Headed, Raw, is_head, object_mode, chain_mode, quasi_mode, placed, Leaves, kept, redo, redos}
 use Rattle.ecma_redone.specs.Every.{every, every_all}
 use Rattle.ecma_redone.specs.Written.{leaves_of, new_arguments, given_none, written_key, written_constructor_key}
-use Rattle.ecma_redone.specs.Faithful.{AreElements, HasElements, Faithful, FaithfulString}
+use Rattle.ecma_redone.specs.Faithful.{AreElements, HasElements, Faithful}
 use Rattle.ecma_redone.specs.Laws.{SameProgram}
 use Rattle.ecma_redone.proofs.Ascii.{ascii_chars}
 use Rattle.ecma_redone.proofs.Keys.{KeyIs, key_is, as_it_was, as_string, ConstructorKeyIs, constructor_key_is, constructor_as_it_was, as_word}
@@ -167,8 +167,12 @@ module _ (P : Mode → Tree → Type 0) (l : Leaves) where
 
 kept_tells : Tells HasElements kept
 kept_tells = record {
-  strings = λ m s u w h. refl; quasis = λ w. refl; elements = λ m s es qs h. h; arguments_kept = λ b a. refl;
-  key = λ k e. ap property_key e; constructor_key = λ k e. ap property_key e;
+  strings = λ m s u w h. refl;
+  quasis = λ w. refl;
+  elements = λ m s es qs h. h;
+  arguments_kept = λ b a. refl;
+  key = λ k e. ap property_key e;
+  constructor_key = λ k e. ap property_key e;
 }
 
 given_program : (v : Bool) → arguments (program (given_none v)) ≡ list none
@@ -200,8 +204,12 @@ constructor_key_same look k h = by (constructor_key_is (leaves_of look) k)
 
 written_tells : (look : Look) → Tells (Faithful look) (leaves_of look)
 written_tells look = record {
-  strings = λ m s u w h. h.plain; quasis = λ w. refl; elements = λ m s es qs h. h; arguments_kept = arguments_same look;
-  key = key_same look; constructor_key = constructor_key_same look;
+  strings = λ m s u w h. h.plain;
+  quasis = λ w. refl;
+  elements = λ m s es qs h. h;
+  arguments_kept = arguments_same look;
+  key = key_same look;
+  constructor_key = constructor_key_same look;
 }
 
 pub same_program : SameProgram

@@ -2,14 +2,14 @@
 use Rattle.std.proofs.Common.{◌≡◌, ◌+◌, ◌||◌, ℕ, max, Bool, true, false, if◌then◌else◌, List, [], ◌∷◌, refl, sym, ap, ◌∙◌}
 use Rattle.ecma_tree.specs.Tree.{Tree, none, more, bin_expr, if_stmt, assign_prop, list, absent}
 use Rattle.ecma_tree.specs.Folds.{fold}
-use Rattle.ecma_nesting.specs.Nesting.{deepest, is_if, nesting_step, nesting}
+use Rattle.ecma_nesting.specs.Nesting.{deepest, is_if, nesting_step}
 use Rattle.ecma_syntax.specs.Shape.{clean_step, is_clean}
 use Rattle.ecma_layout.specs.declared.look.Look.{Look}
 use Rattle.ecma_layout.specs.Looks.{formats}
 use Rattle.ecma_redone.specs.Redo.{Mode, Plain, Leaves, kept, redo, Same}
 use Rattle.ecma_redone.specs.Written.{leaves_of, given_none, new_arguments}
 use Rattle.ecma_redone.specs.Laws.{NestsAlike, CleanAlike}
-use Rattle.ecma_redone.proofs.Folded.{Kids, Keeps, everywhere, folded, kids_equal}
+use Rattle.ecma_redone.proofs.Folded.{Kids, everywhere, folded, kids_equal}
 use Rattle.ecma_redone.proofs.Keys.{key_folded, constructor_key_folded}
 
 re_is_if : (l : Leaves) (m : Mode) (t : Tree) → is_if (redo l m t) ≡ is_if t
@@ -48,13 +48,17 @@ module _ {A : Type 0} (step : Tree → List (List A) → A) (alike : (l : Leaves
 
   folded_kept : (m : Mode) (t : Tree) → fold step (redo kept m t) ≡ fold step t
   folded_kept m t = folded (λ a b. a ≡ b) Nothing step kept (record {
-    node = λ m t e us vs h. keeps_node kept m t us vs h; arguments = λ b a h. h; key = λ k e h. h; constructor_key = λ k e h. h;
+    node = λ m t e us vs h. keeps_node kept m t us vs h;
+    arguments = λ b a h. h;
+    key = λ k e h. h;
+    constructor_key = λ k e h. h;
   }) m t (everywhere Nothing (λ m t. tt) m t)
 
   module _ (none_alike : step (list none) ([] ∷ []) ≡ step absent []) (leaf_alike : (s : _) (n : List ℕ) (q : _) (u : List ℕ) (w : _) → fold step (Rattle.ecma_tree.specs.Tree.str_lit q u w) ≡ fold step (Rattle.ecma_tree.specs.Tree.ident_name s n)) (look : Look) where
     folded_written : (m : Mode) (t : Tree) → fold step (redo (leaves_of look) m t) ≡ fold step t
     folded_written m t = folded (λ a b. a ≡ b) Nothing step (leaves_of look) (record {
-      node = λ m t e us vs h. keeps_node (leaves_of look) m t us vs h; arguments = λ b a h. arguments_alike look step none_alike b a h;
+      node = λ m t e us vs h. keeps_node (leaves_of look) m t us vs h;
+      arguments = λ b a h. arguments_alike look step none_alike b a h;
       key = λ k e h. key_folded (λ a b. a ≡ b) step (leaves_of look) look.style k (λ s n i q. leaf_alike s n _ _ _) h;
       constructor_key = λ k e h. constructor_key_folded (λ a b. a ≡ b) step (leaves_of look) k (λ s u w i. sym (leaf_alike _ _ s u w)) h;
     }) m t (everywhere Nothing (λ m t. tt) m t)

@@ -1,11 +1,12 @@
 -- What the leaves of a tree were read from: the content of a token that is known.
-use Rattle.std.specs.Prelude.{◌≡◌, ℕ, Bool, true, false, List, Option, Some}
+use Rattle.std.specs.Prelude.{◌≡◌, ℕ, true, false, List, Option, Some}
 use Rattle.ecma_number.specs.Numbers.{SpecNumber}
 use Rattle.ecma_token.specs.Tokens.{Content, Quoted, Numeral, BigNumeral, Piece, Pattern}
-use Rattle.ecma_tree.specs.Tree.{Tree, Trees, none, more, ident, ident_name, private_name, str_lit, number_lit, big_int_lit, regex_lit, tpl, tpl_element}
+use Rattle.ecma_tree.specs.Tree.{Tree, ident, ident_name, private_name, str_lit, number_lit, big_int_lit, regex_lit, tpl, tpl_element}
 use Rattle.ecma_syntax.specs.Input.{Place, Input, rest, content, is_word, kind, text}
 use Rattle.ecma_syntax.specs.Shape.{is_cooked}
 use Rattle.ecma_redone.specs.Redo.{Mode, is_tagged}
+use Rattle.ecma_redone.specs.Faithful.{AreElements}
 
 -- What is known of the tokens of an input, and so of those after the first.
 pub record Knowledge : Type 1 where
@@ -42,13 +43,7 @@ module _ (Known : List Place → Type 0) where
     pub is : raw ≡ Some own
     pub told : Told (BigNumeral radix digits own)
 
-  -- The pieces of a template were read; those of an untagged one have no bad escape (13.2.8.1).
-  abbrev pub ReadPieces : Mode → Trees → Type 0
-  ReadPieces mode none = Unit {0}
-  ReadPieces mode (more (tpl_element span tail raw cooked) ts) = Told (Piece raw cooked) × (is_tagged mode ≡ false → is_cooked (tpl_element span tail raw cooked) ≡ true) × ReadPieces mode ts
-  ReadPieces mode (more _ ts) = ⊥
-
-  -- Each leaf was read from a known token.
+  -- Each leaf was read from a known token; the pieces of a template are pieces, and those of an untagged one have no bad escape (13.2.8.1).
   abbrev pub Read : Mode → Tree → Type 0
   Read mode (ident span name) = ReadWord name
   Read mode (ident_name span name) = ReadWord name
@@ -57,5 +52,6 @@ module _ (Known : List Place → Type 0) where
   Read mode (number_lit span value raw) = ReadNumber value raw
   Read mode (big_int_lit span radix digits raw) = ReadBig radix digits raw
   Read mode (regex_lit span body flags) = Told (Pattern body flags)
-  Read mode (tpl span exprs quasis) = ReadPieces mode quasis
+  Read mode (tpl span exprs quasis) = AreElements quasis
+  Read mode (tpl_element span tail raw cooked) = Told (Piece raw cooked) × (is_tagged mode ≡ false → is_cooked (tpl_element span tail raw cooked) ≡ true)
   Read mode _ = Unit {0}
