@@ -18,7 +18,3 @@ pub mod Modules
 pub mod Ties
 pub mod OfStatements
 pub mod OfExpressions
-pub mod OfFunctions
-pub mod OfModules
-pub mod Evidence
-pub mod Whole
