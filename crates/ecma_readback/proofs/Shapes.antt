@@ -1,5 +1,5 @@
 -- Scripts and modules, by the goal symbol of a text (clause 16).
-use Rattle.std.proofs.Common.{◌≡◌, Bool, true, false, List, [], ◌∷◌, refl, sym, absurd, true≢false}
+use Rattle.std.proofs.Common.{◌≡◌, Bool, true, false, List, [], ◌∷◌, refl, sym, true≢false}
 use Rattle.ecma_token.specs.declared.place.Span.{Span}
 use Rattle.ecma_token.specs.declared.syntax.EsSyntax.{EsSyntax}
 use Rattle.ecma_tree.specs.Tree.{Tree, script, es_module}

@@ -1,5 +1,5 @@
 -- The theorem, from the laws of its steps.
-use Rattle.std.proofs.Common.{◌≡◌, ◌≤◌, ℕ, Bool, true, false, not, List, [], Option, Some, None, refl, sym, ap, subst, absurd, true≢false, ◌∙◌}
+use Rattle.std.proofs.Common.{◌≡◌, ◌≤◌, ℕ, Bool, true, false, not, List, [], Option, Some, None, refl, sym, ap, subst, true≢false, ◌∙◌}
 use Rattle.std.specs.Str.{chars}
 use lib.Utf8.{scalars}
 use Rattle.ecma_tree.specs.Tree.{Tree, script, es_module, tpl}
