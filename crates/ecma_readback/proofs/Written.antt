@@ -1,9 +1,8 @@
 -- The theorem, from the laws of its steps.
-use Rattle.std.proofs.Common.{◌≡◌, ◌≤◌, ℕ, Bool, true, false, not, List, [], Option, Some, None, refl, sym, ap, subst, true≢false, ◌∙◌}
-use Rattle.std.specs.Str.{chars}
+use Rattle.std.proofs.Common.{◌≡◌, ◌≤◌, ℕ, Bool, true, not, List, [], Some, None, refl, sym, ap, subst, ◌∙◌}
 use lib.Utf8.{scalars}
 use Rattle.ecma_tree.specs.Tree.{Tree, script, es_module, tpl}
-use Rattle.ecma_syntax.specs.Input.{Place, Input, Code, unplaced}
+use Rattle.ecma_syntax.specs.Input.{Input, Code, unplaced}
 use Rattle.ecma_grammar.specs.Grammar.{Spells}
 use Rattle.ecma_grammar_placed.proofs.PlacedLemmas.{has_places}
 use Rattle.ecma_grammar_templates.proofs.Braces.{programs_match}
@@ -11,13 +10,11 @@ use Rattle.ecma_spells.specs.Tiled.{Tile}
 use Rattle.ecma_spells.specs.Text.{Setting, Reads, TreeSpells, code_of, is_of_goal, text_start}
 use Rattle.ecma_spells_one.proofs.OneLemmas.{one_tree_reads}
 use Rattle.ecma_write.specs.Pages.{Page}
-use Rattle.ecma_pieces.specs.Pieces.{resolved, shortened}
 use Rattle.ecma_layout.specs.declared.look.Look.{Look}
 use Rattle.ecma_layout.specs.declared.look.Stand.TheVariants.{Alone}
 use Rattle.ecma_layout.specs.Looks.{commit, start, when, ◌·◌}
-use Rattle.ecma_layout.specs.Layout.{is_empty, laid, pieces, statements}
+use Rattle.ecma_layout.specs.Layout.{is_empty, laid, statements}
 use Rattle.ecma_written.specs.Gaps.{Spaced}
-use Rattle.ecma_written.specs.Told.{says}
 use Rattle.ecma_written.proofs.Bridge.{bridge}
 use Rattle.ecma_written.proofs.Known.{tokens_are_known}
 use Rattle.ecma_written_tiles.specs.Laws.{IsTiled}
@@ -27,7 +24,7 @@ use Rattle.ecma_written_tiles.proofs.Texts.{layouts_are_tiled, hashbangs_are_til
 use Rattle.ecma_lexicon.proofs.Filled.{texts_mean}
 use Rattle.ecma_redone.specs.Redo.{Mode, Plain, kept}
 use Rattle.ecma_redone.specs.Every.{every}
-use Rattle.ecma_redone.specs.Faithful.{Faithful, HasElements}
+use Rattle.ecma_redone.specs.Faithful.{HasElements}
 use Rattle.ecma_redone.specs.Read.{Knowledge, Read}
 use Rattle.ecma_redone.specs.Written.{leaves_of}
 use Rattle.ecma_redone.proofs.Early.{legal_alike}
@@ -37,7 +34,7 @@ use Rattle.ecma_redone.proofs.Programs.{same_program}
 use Rattle.ecma_redone.proofs.Shapes.{clean_alike, nests_alike}
 use Rattle.ecma_redone_texts.proofs.Derived.{derived_is_read}
 use Rattle.ecma_redone_texts.proofs.Leaves.{read_is_faithful}
-use Rattle.ecma_redone_whole.specs.Laws.{DerivesAgain, is_program}
+use Rattle.ecma_redone_whole.specs.Laws.{is_program}
 use Rattle.ecma_redone_whole.proofs.Programs.{derived_again}
 use Rattle.ecma_readback.specs.Laws.{GoingIsReadBack, IsReadBack, ProgramGoes}
 use Rattle.ecma_readback.proofs.Shapes.{redone_goal, goal_is_program, program_is_no_quasi, programmed, goal_is_placed, placed_again, same_tokens, start_is_silent}

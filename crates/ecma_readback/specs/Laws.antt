@@ -1,5 +1,5 @@
 -- Read-back: what is written of a tree that spells a text is spelled by the same program, and by no other tree: the statements.
-use Rattle.std.specs.Prelude.{◌≡◌, ℕ, Bool, true, false, not, nat_lt, List, Option, Some, None}
+use Rattle.std.specs.Prelude.{◌≡◌, ℕ, Bool, true, false, not, nat_lt, List, Some, None}
 use Rattle.std.specs.Str.{chars}
 use lib.Utf8.{scalars}
 use Rattle.ecma_token.specs.Editions.{edition_rank}
