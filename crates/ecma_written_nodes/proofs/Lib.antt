@@ -16,5 +16,4 @@ pub mod Loops
 pub mod Classes
 pub mod Modules
 pub mod Ties
-pub mod OfStatements
 pub mod OfExpressions
