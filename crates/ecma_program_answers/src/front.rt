@@ -101,8 +101,8 @@ pub fn tell_run(question: &Question<'_>, answer: &mut Answer) -> anyhow::Result<
         &mut kept,
     );
     match ended {
-        Ok(positions) if positions.is_none() => answer.say("written")?,
-        Ok(_) => answer.say("positions")?,
+        Ok(None) => answer.say("written")?,
+        Ok(Some(_positions)) => answer.say("positions")?,
         Err(fault) => answer.say(fault)?,
     }
     answer.push(writer.bytes())?;

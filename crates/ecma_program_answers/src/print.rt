@@ -225,13 +225,15 @@ fn write(
 pub fn tell(question: &Question<'_>, answer: &mut Answer) -> anyhow::Result<()> {
     match read(question, answer.alloc())? {
         Err(error) => refuse(&error, answer),
-        Ok((program, None)) => write(question, &program, None, answer),
-        Ok((program, Some(mut comments))) => {
-            write(question, &program, Some(&mut comments), answer)?;
-            if is_left(&comments, question.text(0).len().min(1_000_000) as u32 + 1) {
-                return Err(anyhow::Error::msg("a comment is not written"));
+        Ok((program, comments)) => match comments {
+            None => write(question, &program, None, answer),
+            Some(mut comments) => {
+                write(question, &program, Some(&mut comments), answer)?;
+                if is_left(&comments, question.text(0).len().min(1_000_000) as u32 + 1) {
+                    return Err(anyhow::Error::msg("a comment is not written"));
+                }
+                Ok(())
             }
-            Ok(())
-        }
+        },
     }
 }
