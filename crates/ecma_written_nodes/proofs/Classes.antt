@@ -48,24 +48,24 @@ module _ (look : Look) where
           (λ t. blanks p ▸ at (worded extends_word (free_wordless _ (blank_free v)) ▸ at (gaps_or look (starts_with_word e) refl ▸ apart (λ n. value t Worded (worded_admits e n (expression_opens e (g t).1))) (value t Clear refl))))
           (λ t. p)
 
-  tail_on : (sp : Span) (ms : Trees) → AllRows look ms → (s : State) → is_open s ≡ true → Steps (class_tail look sp ms (rows look false ms)) s (At Shut)
-  tail_on sp ms a s o = gaps look o ▸ either (inner s o) (inner (blank_behind s) (blank_open s))
+  pub class_body : (sp : Span) (ms : Trees) → AllRows look ms → (s : State) → is_open s ≡ true → Steps (class_tail look sp ms (rows look false ms)) s (At Shut)
+  class_body sp ms a s o = gaps look o ▸ either (inner s o) (inner (blank_behind s) (blank_open s))
     where
       inner : (u : State) → is_open u ≡ true → Steps (text (codes "{") · Rattle.ecma_layout.specs.Layout.indented_or_line look ms (rows look false ms) · Rattle.ecma_layout.specs.Looks.last sp · Rattle.ecma_layout.specs.Looks.brace) u (At Shut)
       inner u p = shut left_brace p ▸ at (rows_out look ms (rows look false ms) Shut refl (λ v g. rows_on look ms v a g) ▸ λ v g. mark ▸ at (braced (free_open v g)))
 
   pub class_node : (sp : Span) (k : Tree) (at' : Span) (ms : Trees) (e : Tree) → (is_there k ≡ true → Good look k) → AllRows look ms → (is_there e ≡ true → Good look e × (1 ≤ level e)) → Good look (class_expr sp k (class at' none ms e))
   class_node sp k at' ms e f a g st s d =
-      mark ▸ at (nil ▸ at (head_on k e f g s (admits_word s (class_expr sp k (class at' none ms e)) d refl) ▸ λ u o. leaving st (class_expr sp k (class at' none ms e)) (tail_on at' ms a u o) refl))
+      mark ▸ at (nil ▸ at (head_on k e f g s (admits_word s (class_expr sp k (class at' none ms e)) d refl) ▸ λ u o. leaving st (class_expr sp k (class at' none ms e)) (class_body at' ms a u o) refl))
 
   pub class_declaration : (sp : Span) (k : Tree) (at' : Span) (ms : Trees) (e : Tree) → (is_there k ≡ true → Good look k) → AllRows look ms → (is_there e ≡ true → Good look e × (1 ≤ level e)) → Good look (class_decl sp k (class at' none ms e))
   class_declaration sp k at' ms e f a g st s d =
-      mark ▸ at (nil ▸ at (head_on k e f g s (admits_word s (class_decl sp k (class at' none ms e)) d refl) ▸ λ u o. leaving st (class_decl sp k (class at' none ms e)) (tail_on at' ms a u o) refl))
+      mark ▸ at (nil ▸ at (head_on k e f g s (admits_word s (class_decl sp k (class at' none ms e)) d refl) ▸ λ u o. leaving st (class_decl sp k (class at' none ms e)) (class_body at' ms a u o) refl))
 
   -- the text of a class without its decorators, as it is exported
   pub class_on : (k : Tree) (at' : Span) (ms : Trees) (e : Tree) → (is_there k ≡ true → Good look k) → AllRows look ms → (is_there e ≡ true → Good look e × (1 ≤ level e)) → (s : State) → is_wordless s ≡ true
       → Steps (class_head look k (laid look Alone k) e (laid look Alone e) · class_tail look at' ms (rows look false ms)) s (At Shut)
-  class_on k at' ms e f a g s o = head_on k e f g s o ▸ λ u p. tail_on at' ms a u p
+  class_on k at' ms e f a g s o = head_on k e f g s o ▸ λ u p. class_body at' ms a u p
 
   -- ---- constructors and private methods
 

@@ -36,12 +36,14 @@ module _ (look : Look) where
   waiting : (w : Bool) (s : State) → is_wordless s ≡ true → Steps (when w (word (codes "async") · blank)) s (λ u. is_wordless u ≡ true)
   waiting w s o = when_goes w (λ e. worded async_word o ▸ at (ends (blanks refl) (λ u q. ap is_wordless q))) (λ e. o)
 
-  pub function_node : (sp : Span) (k : Tree) (at' : Span) (ps ds : Trees) (b : Span) (ss : Trees) (g w : Bool) → (is_there k ≡ true → Good look k) → AllGood look ps → AllItems look ss → Good look (fn_expr sp k (function at' ps ds (block_stmt b ss) g w))
-  function_node sp k at' ps ds b ss g w f a i st s d =
-      committed ▸ at (mark ▸ at (waiting w s (admits_word s (fn_expr sp k (function at' ps ds (block_stmt b ss) g w)) d refl) ▸ λ u o. worded function_word o ▸ at
+  -- a function as an expression, behind which stands what stands behind a block
+  pub function_on : (t : Tree) (st : Stand) (sp : Span) (k : Tree) (at' : Span) (ps ds : Trees) (b : Span) (ss : Trees) (g w : Bool) → (is_there k ≡ true → Good look k) → AllGood look ps → AllItems look ss → (s : State) → is_wordless s ≡ true
+      → Steps (laid look st (fn_expr sp k (function at' ps ds (block_stmt b ss) g w))) s (λ u. leaves st t u ≡ true)
+  function_on t st sp k at' ps ds b ss g w f a i s d =
+      committed ▸ at (mark ▸ at (waiting w s d ▸ λ u o. worded function_word o ▸ at
       (when_goes {P = λ v. is_open v ≡ true} g (λ e. ends (text_by Operator times_mark refl) (λ v q. ap is_open q)) (λ e. refl) ▸ λ v p.
       when_goes {P = λ x. is_open x ≡ true} (is_there k) (λ e. ends (blanks p) (λ x q. q) ▸ λ x q. subst (λ (y : State). Steps (laid look Alone k) y (λ z. is_open z ≡ true)) (sym q) (named e v)) (λ e. p) ▸ λ x q.
-      tail (fn_expr sp k (function at' ps ds (block_stmt b ss) g w)) st ps b ss a i x q)))
+      tail t st ps b ss a i x q)))
     where
       free_blank : (v : State) → is_free (blank_behind v) ≡ true
       free_blank Fresh = refl
@@ -49,6 +51,10 @@ module _ (look : Look) where
 
       named : is_there k ≡ true → (v : State) → Steps (laid look Alone k) (blank_behind v) (λ z. is_open z ≡ true)
       named e v = ends (f e Alone (blank_behind v) (free_admits (blank_behind v) k (free_blank v))) (λ z l. leaves_open Alone k z l)
+
+  pub function_node : (sp : Span) (k : Tree) (at' : Span) (ps ds : Trees) (b : Span) (ss : Trees) (g w : Bool) → (is_there k ≡ true → Good look k) → AllGood look ps → AllItems look ss → Good look (fn_expr sp k (function at' ps ds (block_stmt b ss) g w))
+  function_node sp k at' ps ds b ss g w f a i st s d =
+      function_on (fn_expr sp k (function at' ps ds (block_stmt b ss) g w)) st sp k at' ps ds b ss g w f a i s (admits_word s (fn_expr sp k (function at' ps ds (block_stmt b ss) g w)) d refl)
 
   pub declaration_node : (sp : Span) (k : Tree) (at' : Span) (ps ds : Trees) (b : Span) (ss : Trees) (g w : Bool) → Good look k → AllGood look ps → AllItems look ss → admits Operated k ≡ true
       → Good look (fn_decl sp k (function at' ps ds (block_stmt b ss) g w))

@@ -14,3 +14,6 @@ pub mod Patterns
 pub mod Functions
 pub mod Loops
 pub mod Classes
+pub mod Modules
+pub mod Ties
+pub mod OfExpressions
