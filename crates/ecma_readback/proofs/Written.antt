@@ -36,17 +36,21 @@ use Rattle.ecma_redone_texts.proofs.Derived.{derived_is_read}
 use Rattle.ecma_redone_texts.proofs.Leaves.{read_is_faithful}
 use Rattle.ecma_redone_whole.specs.Laws.{is_program}
 use Rattle.ecma_redone_whole.proofs.Programs.{derived_again}
-use Rattle.ecma_readback.specs.Laws.{GoingIsReadBack, IsReadBack, ProgramGoes}
+use Rattle.ecma_readback.specs.Laws.{GoingIsReadBack, HasLineText, IsReadBack, ProgramGoes, ProgramsAreTiled, ProgramsGo, TiledIsReadBack}
+use Rattle.ecma_readback.proofs.Hashbangs.{line_text}
 use Rattle.ecma_readback.proofs.Shapes.{redone_goal, goal_is_program, program_is_no_quasi, programmed, goal_is_placed, placed_again, same_tokens, start_is_silent}
 
 -- ---- what is written is tiled by tokens that the layout says
 
-tiled : (look : Look) (modules : Bool) (t : Tree) (p : Page) → ProgramGoes look t → IsEmptyPage p → IsTiled text_start modules (laid look Alone t) p
-tiled look modules (script s ss None) p g m = layouts_are_tiled text_start modules _ p m g
-tiled look modules (script s ss (Some own)) p g m = hashbangs_are_tiled text_start modules (when (is_empty ss) (start s)) own (statements look ss · when (not look.omits_last) commit) p m (start_is_silent (is_empty ss) s) g.0 g.1
-tiled look modules (es_module s ss None) p g m = layouts_are_tiled text_start modules _ p m g
-tiled look modules (es_module s ss (Some own)) p g m = hashbangs_are_tiled text_start modules (when (is_empty ss) (start s)) own (statements look ss · when (not look.omits_last) commit) p m (start_is_silent (is_empty ss) s) g.0 g.1
-tiled look modules _ p g m = absurd g
+tiled : (look : Look) (modules : Bool) (t : Tree) (p : Page) → ProgramGoes look t → HasLineText t → IsEmptyPage p → IsTiled text_start modules (laid look Alone t) p
+tiled look modules (script s ss None) p g l m = layouts_are_tiled text_start modules _ p m g
+tiled look modules (script s ss (Some own)) p g l m = hashbangs_are_tiled text_start modules (when (is_empty ss) (start s)) own (statements look ss · when (not look.omits_last) commit) p m (start_is_silent (is_empty ss) s) l g
+tiled look modules (es_module s ss None) p g l m = layouts_are_tiled text_start modules _ p m g
+tiled look modules (es_module s ss (Some own)) p g l m = hashbangs_are_tiled text_start modules (when (is_empty ss) (start s)) own (statements look ss · when (not look.omits_last) commit) p m (start_is_silent (is_empty ss) s) l g
+tiled look modules _ p g l m = absurd g
+
+going_are_tiled : (look : Look) → ProgramsGo look → ProgramsAreTiled look
+going_are_tiled look go modules t c ts r p i h k l m = tiled look modules t p (go t c ts r i h k) l m
 
 -- ---- the pieces of a template that is derived are pieces
 
@@ -88,7 +92,13 @@ written look x modules t text out e h w =
       only = λ v n. one_tree_reads modules x.syntax v u out n z;
     }
 
-pub going_is_read_back : GoingIsReadBack
-going_is_read_back go look n x modules t text p e h m =
-    let w = tiled look modules t p (go look n modules x.syntax t text e h.reads) m in
+pub tiled_is_read_back : TiledIsReadBack
+tiled_is_read_back look all x modules t text p e h m =
+    let ps = h.reads.0 in
+    let k = tokens_are_known text_start modules text ps e h.reads.3 in
+    let l = line_text text_start modules text ps t (code_of modules x.syntax) h.reads.1 e h.reads.3 h.reads.4.0 in
+    let w = all modules t (code_of modules x.syntax) (record { last = text_start; places = ps }) h.reads.1 p (goal_is_program modules t h.reads.2) h.reads.4.0 k l m in
     (written look x modules t text _ e h w.0, written look x modules t text _ e h w.1)
+
+pub going_is_read_back : GoingIsReadBack
+going_is_read_back look go = tiled_is_read_back look (going_are_tiled look go)

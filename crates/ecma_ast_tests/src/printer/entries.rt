@@ -1,13 +1,11 @@
 //! The entries of a printer, with the comments of one source.
-use crate::made::{bound, ok, var};
+use crate::made::ok;
 use crate::printer::placed::{comment, ident, name_stmt, span};
 use ecma_ast::Build;
-use ecma_codegen::{Config, EmitError, Emitter, JsWriter, NoPlaces, WriteJs, to_code};
+use ecma_codegen::{Config, EmitError, Emitter, JsWriter, NoPlaces, WriteJs};
 use ecma_comments::{CommentKind, Comments};
-use ecma_node::{
-    Module, ModuleExportName, ModuleItem, Script, StmtBox, VarDeclKind, VarDeclarator,
-};
-use ecma_token::{BytePos, Counted, DUMMY_SP};
+use ecma_node::{Module, ModuleExportName, ModuleItem, Script};
+use ecma_token::{BytePos, Counted};
 use std::alloc::Global;
 use std::process::Abort;
 
@@ -115,30 +113,4 @@ fn scripts_modules_and_names_have_their_comments(rt: HostRuntime) {
         out.inner().as_slice(),
         b"/* s */ a;\n/* m */ b;\n/* n */ c".as_slice()
     );
-}
-
-/// `var a`, as a statement.
-fn variables(rt: &impl Abort, b: &Build) -> StmtBox {
-    let declarator = VarDeclarator {
-        span: DUMMY_SP,
-        name: bound(rt, b),
-        init: None,
-    };
-    let declared = ok(rt, vec![in b.alloc; declarator]);
-    ok(rt, b.var_decl(VarDeclKind::Var, declared))
-}
-
-#[test]
-fn a_statement_alone_has_its_end(rt: HostRuntime) {
-    let b = Build { alloc: rt.alloc() };
-    let declared = variables(&rt, &b);
-    assert_eq!(rt;
-        ok(&rt, to_code(rt.alloc(), &declared)).as_str(),
-        "var a;\n"
-    );
-    let item = ModuleItem::Stmt(declared);
-    assert_eq!(rt; ok(&rt, to_code(rt.alloc(), &item)).as_str(), "var a;\n");
-    let named = ok(&rt, b.expr_stmt(var(&rt, &b)));
-    assert_eq!(rt; ok(&rt, to_code(rt.alloc(), &named)).as_str(), "a;\n");
-    assert_eq!(rt; ok(&rt, to_code(rt.alloc(), &var(&rt, &b))).as_str(), "a");
 }
