@@ -1,2 +1,12 @@
-//! Each node's layout goes: its texts may stand one after another, wherever the node may stand.
+//! The layout of a tree that was read goes: its texts may stand one after another. Its one function is a law.
 #![tactic(auto)]
+
+ghost use Rattle.ecma_written_nodes.specs.Laws.{ScriptsAreTiled, ModulesAreTiled};
+
+/// Law: a script or a module that spells known tokens is written, in any look, formatted and minified, as a text that is
+/// tiled by tokens that its layout says.
+#[tactic(auto)]
+pub fn programs_are_tiled()
+    ensures scripts { ScriptsAreTiled }
+    ensures modules { ModulesAreTiled }
+{}
