@@ -6,7 +6,7 @@
 //
 //   tools/rows/by_acorn.js ACORN FOLDER
 //
-// ACORN is the path of acorn's module, as dist/acorn.js of Debian's package node-acorn; FOLDER is that of the rows, crates/ecma_program_rows/data/parse.
+// ACORN is the path of acorn's module, as dist/acorn.js of Debian's package node-acorn; FOLDER is that of the rows, tests/rows/parse.
 const fs = require("fs"), path = require("path"), acorn = require(path.resolve(process.argv[2]));
 
 // The marks of control characters and of those that mean something in a row.

@@ -7,7 +7,7 @@
 //
 //   tools/rows/by_layout.js ACORN FOLDER
 //
-// ACORN is the path of acorn's module, as dist/acorn.js of Debian's package node-acorn; FOLDER is that of the rows, crates/ecma_program_rows/data/print.
+// ACORN is the path of acorn's module, as dist/acorn.js of Debian's package node-acorn; FOLDER is that of the rows, tests/rows/print.
 const fs = require("fs"), path = require("path"), acorn = require(path.resolve(process.argv[2]));
 
 // What pieces are resolved to. A semicolon that may go waits when minifying.

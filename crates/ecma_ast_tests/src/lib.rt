@@ -1,9 +1,11 @@
-//! Tests of the tree and of what stands on it: a tree of every kind of node, trees that go deep, long chains, and which trees
-//! without a text are the same program. Pairs of programs as texts stand in `ecma_program_rows`.
+//! What a user of the tree writes (`examples`), and tests of the tree and of what stands on it: a tree of every kind of node, trees
+//! that go deep, long chains, which trees without a text are the same program, and trees that are printed. Pairs of programs as
+//! texts are asked by rows.
 #![tactic(auto)]
 
 #[cfg(test)]
 mod deep;
+pub mod examples;
 #[cfg(test)]
 mod expressions;
 #[cfg(test)]
@@ -16,6 +18,8 @@ mod modules;
 mod patterns;
 #[cfg(test)]
 mod places;
+#[cfg(test)]
+mod printer;
 #[cfg(test)]
 mod statements;
 #[cfg(test)]

@@ -43,11 +43,11 @@ asked_stops : (x : Piece) (a : Asked) → a.stops ≡ false → (ask x a).stops 
 unfolding ask
 asked_stops x a e = rw e refl
 
-or_left : (b c : Bool) → (b || c) ≡ false → b ≡ false
+pub or_left : (b c : Bool) → (b || c) ≡ false → b ≡ false
 or_left true c e = absurd (cc)
 or_left false c e = refl
 
-or_right : (b c : Bool) → (b || c) ≡ false → c ≡ false
+pub or_right : (b c : Bool) → (b || c) ≡ false → c ≡ false
 or_right true c e = absurd (cc)
 or_right false c e = e
 

@@ -1,5 +1,5 @@
 -- What the text of a node is.
-use Rattle.std.specs.Prelude.{◌≡◌, ℕ, true, false, List, [], Result, Ok, Err, None, codes, IsUtf8, String, string_bytes}
+use Rattle.std.specs.Prelude.{◌≡◌, ℕ, true, false, List, [], Result, Ok, Err, None, codes, String, string_bytes}
 use Rattle.ecma_write.specs.Views.{first_page}
 use Rattle.ecma_write.specs.declared.fault.EmitError.{EmitError}
 use Rattle.ecma_write.specs.declared.fault.EmitError.TheVariants.{Write, Memory, Node, Position}
@@ -10,13 +10,13 @@ use Rattle.ecma_layout.specs.Looks.{Laid, listed, is_refused}
 abbrev pub bytes_of : Laid → List ℕ
 bytes_of l = (resolved (listed l []) (first_page [] (codes "\n") None)).out
 
--- The text is the layout; or a part of it can't be printed; or there is no memory, of which nothing is said; or its bytes are no text.
+-- The text is the layout; or a part of it can't be printed; or there is no memory, of which nothing is said.
 abbrev pub Codes : {Z : Type 0} → Laid → Result (String Z) EmitError → Type 0
 Codes l (Ok text) = (is_refused l ≡ false) × (string_bytes text ≡ bytes_of l)
 Codes l (Err Memory) = Unit {0}
 Codes l (Err Node) = is_refused l ≡ true
 Codes l (Err Position) = ⊥
-Codes l (Err (Write kind)) = IsUtf8 (bytes_of l) → ⊥
+Codes l (Err (Write kind)) = ⊥
 
 -- The text with comments between the parts of a node, of which only that is said: whether something can't be printed.
 abbrev pub Noted : {Z : Type 0} → Laid → Result (String Z) EmitError → Type 0

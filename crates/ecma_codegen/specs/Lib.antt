@@ -1,3 +1,4 @@
 pub mod Emits
 pub mod Settings
 pub mod Codes
+pub mod Items

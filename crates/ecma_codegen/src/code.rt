@@ -1,13 +1,11 @@
 //! A node as a text.
 ghost use Rattle.std.specs.Prelude.{◌≡◌, None};
-ghost use Rattle.ecma_layout.specs.Layout.{laid};
-ghost use Rattle.ecma_layout.specs.declared.look.Stand.TheVariants.{Alone};
 ghost use Rattle.ecma_codegen.specs.Codes.{Codes, Noted};
 ghost use Rattle.ecma_codegen.specs.Settings as settings;
 
+use crate::alone::PrintAlone;
 use crate::emit::{emit, emit_noting, look_of};
 use ecma_comments::Comments;
-use ecma_emit::Print;
 use ecma_layout::Look;
 use ecma_settings::{Config, SourceMapper};
 use ecma_token::{Counted, Spanned};
@@ -26,11 +24,10 @@ fn default_look() -> Look
 ///
 /// # Errors
 ///
-/// `EmitError::Memory` where there is no memory for the text, `EmitError::Node` for what can't be printed, and
-/// `EmitError::Write` were the bytes no UTF-8.
+/// `EmitError::Memory` where there is no memory for the text, and `EmitError::Node` for what can't be printed.
 #[tactic(auto, using(ecma_pieces::proofs::Resolving::calls_resolve))]
-pub fn to_code<N: Print>(alloc: Global, node: &N) -> Result<String, EmitError>
-    ensures { Codes (laid settings.default_look Alone (N.tree node.now)) result }
+pub fn to_code<N: PrintAlone>(alloc: Global, node: &N) -> Result<String, EmitError>
+    ensures { Codes (N.alone settings.default_look node.now) result }
 {
     let out: Counted<Vec<u8>> = Counted::new(Vec::new(alloc));
     let mut wr = JsWriter::new(alloc, "\n", out, None);
@@ -43,7 +40,7 @@ pub fn to_code<N: Print>(alloc: Global, node: &N) -> Result<String, EmitError>
     }
     match String::from_utf8(bytes) {
         Ok(text) => Ok(text),
-        Err(_) => Err(EmitError::Write(ErrorKind::InvalidData)),
+        Err(_) => unreachable!(),
     }
 }
 
@@ -52,14 +49,14 @@ pub fn to_code<N: Print>(alloc: Global, node: &N) -> Result<String, EmitError>
 ///
 /// # Errors
 ///
-/// Those of `to_code`.
-pub fn to_code_with_comments<N: Print + Spanned>(
+/// Those of `to_code`, and `EmitError::Write` were the bytes with the comments no UTF-8.
+pub fn to_code_with_comments<N: PrintAlone + Spanned>(
     alloc: Global,
     comments: Option<&mut Comments>,
     node: &N,
 ) -> Result<String, EmitError>
-    ensures bare { comments.entry ≡ None → Codes (laid settings.default_look Alone (N.tree node.now)) result }
-    ensures noted { Noted (laid settings.default_look Alone (N.tree node.now)) result }
+    ensures bare { comments.entry ≡ None → Codes (N.alone settings.default_look node.now) result }
+    ensures noted { Noted (N.alone settings.default_look node.now) result }
 {
     match comments {
         None => to_code(alloc, node),
@@ -72,26 +69,26 @@ pub fn to_code_with_comments<N: Print + Spanned>(
 ///
 /// # Errors
 ///
-/// Those of `to_code`.
-pub fn to_code_default<S: SourceMapper + Drop, N: Print + Spanned>(
+/// Those of `to_code_with_comments`.
+pub fn to_code_default<S: SourceMapper + Drop, N: PrintAlone + Spanned>(
     alloc: Global,
     _cm: S,
     comments: Option<&mut Comments>,
     node: &N,
 ) -> Result<String, EmitError>
-    ensures bare { comments.entry ≡ None → Codes (laid settings.default_look Alone (N.tree node.now)) result }
-    ensures noted { Noted (laid settings.default_look Alone (N.tree node.now)) result }
+    ensures bare { comments.entry ≡ None → Codes (N.alone settings.default_look node.now) result }
+    ensures noted { Noted (N.alone settings.default_look node.now) result }
 {
     to_code_with_comments(alloc, comments, node)
 }
 
 /// The text of a node with these comments between its parts.
-fn code_noting<N: Print + Spanned>(
+fn code_noting<N: PrintAlone + Spanned>(
     alloc: Global,
     comments: &mut Comments,
     node: &N,
 ) -> Result<String, EmitError>
-    ensures { Noted (laid settings.default_look Alone (N.tree node.now)) result }
+    ensures { Noted (N.alone settings.default_look node.now) result }
 {
     let out: Counted<Vec<u8>> = Counted::new(Vec::new(alloc));
     let mut wr = JsWriter::new(alloc, "\n", out, None);

@@ -1,13 +1,11 @@
 //! Printing a node to a writer.
 ghost use Rattle.std.specs.Prelude.{◌≡◌, None};
-ghost use Rattle.ecma_layout.specs.Layout.{laid};
-ghost use Rattle.ecma_layout.specs.declared.look.Stand.TheVariants.{Alone};
 ghost use Rattle.ecma_codegen.specs.Emits.{Emits, Notes, Stays, IsHeld};
 ghost use Rattle.ecma_codegen.specs.Settings as settings;
 
+use crate::alone::PrintAlone;
 use ecma_comments::Comments;
-use ecma_emit::Print;
-use ecma_layout::{Look, Stand};
+use ecma_layout::Look;
 use ecma_print_comments::WithComments;
 use ecma_printer::Printer;
 use ecma_settings::Config;
@@ -31,13 +29,17 @@ pub(crate) fn look_of(cfg: Config) -> Look
     }
 }
 
-/// Prints a node: its layout, or with a fault a beginning of it.
-pub(crate) fn emit<N: Print, W: WriteJs>(node: &N, wr: &mut W, look: Look) -> Result<(), EmitError>
-    ensures value { Emits W.tells W.state (laid look Alone (N.tree node.now)) wr.old wr.new result }
+/// Prints a node alone: its layout, or with a fault a beginning of it.
+pub(crate) fn emit<N: PrintAlone, W: WriteJs>(
+    node: &N,
+    wr: &mut W,
+    look: Look,
+) -> Result<(), EmitError>
+    ensures value { Emits W.tells W.state (N.alone look node.now) wr.old wr.new result }
     ensures keeps { Stays W.state W.failed_writes W.loans wr.old wr.new result }
 {
     let mut p = Printer { wr, fault: None };
-    node.print(&mut p, look, Stand::Alone);
+    node.print_alone(&mut p, look);
     let Printer { wr: _, fault } = p;
     match fault {
         None => Ok(()),
@@ -46,13 +48,13 @@ pub(crate) fn emit<N: Print, W: WriteJs>(node: &N, wr: &mut W, look: Look) -> Re
 }
 
 /// Prints a node, and the comments of its source between its parts and up to its end.
-pub(crate) fn emit_noting<N: Print + Spanned, W: WriteJs>(
+pub(crate) fn emit_noting<N: PrintAlone + Spanned, W: WriteJs>(
     node: &N,
     wr: &mut W,
     comments: &mut Comments,
     look: Look,
 ) -> Result<(), EmitError>
-    ensures value { Notes W.state (laid look Alone (N.tree node.now)) wr.old result }
+    ensures value { Notes W.state (N.alone look node.now) wr.old result }
     ensures keeps { Stays W.state W.failed_writes W.loans wr.old wr.new result }
 {
     let mut noting = WithComments::new(wr, comments, look.style.minify);
@@ -64,14 +66,14 @@ pub(crate) fn emit_noting<N: Print + Spanned, W: WriteJs>(
 }
 
 /// Prints a node, with comments where there are some.
-pub(crate) fn emit_with_comments<N: Print + Spanned, W: WriteJs>(
+pub(crate) fn emit_with_comments<N: PrintAlone + Spanned, W: WriteJs>(
     node: &N,
     wr: &mut W,
     comments: &mut Option<&mut Comments>,
     look: Look,
 ) -> Result<(), EmitError>
-    ensures bare { comments.old ≡ None → Emits W.tells W.state (laid look Alone (N.tree node.now)) wr.old wr.new result }
-    ensures noted { Notes W.state (laid look Alone (N.tree node.now)) wr.old result }
+    ensures bare { comments.old ≡ None → Emits W.tells W.state (N.alone look node.now) wr.old wr.new result }
+    ensures noted { Notes W.state (N.alone look node.now) wr.old result }
     ensures keeps { Stays W.state W.failed_writes W.loans wr.old wr.new result }
     ensures held { IsHeld comments.old comments.new }
 {

@@ -5,6 +5,7 @@ ghost use Rattle.ecma_layout.specs.declared.look.Stand.TheVariants.{Alone};
 ghost use Rattle.ecma_node.specs.Placed.{inner};
 ghost use Rattle.ecma_node.specs.View.{view_module, view_module_export_name, view_module_item, view_script};
 ghost use Rattle.ecma_codegen.specs.Emits.{Emits, Notes, Stays, IsHeld};
+ghost use Rattle.ecma_codegen.specs.Items.{ItemsAreProgram, item_laid};
 ghost use Rattle.ecma_codegen.specs.Settings as settings;
 
 use crate::emit::{emit_with_comments, look_of};
@@ -66,10 +67,10 @@ impl<'a, S, W: WriteJs> Emitter<'a, S, W> {
         emit_with_comments(node, &mut self.wr, &mut self.comments, look_of(self.cfg))
     }
 
-    /// Prints a part of a module: its layout, or with a fault a beginning of it, and the comments up to its end.
+    /// Prints a part of a module with its end: its layout, or with a fault a beginning of it, and the comments up to its end.
     pub fn emit_module_item(&mut self, node: &ModuleItem) -> Result<(), EmitError>
-        ensures value { self.old.comments ≡ None → Emits W.tells W.state (laid (settings.look_of self.old.cfg) Alone (view_module_item inner node.now)) self.old.wr self.new.wr result }
-        ensures noted { Notes W.state (laid (settings.look_of self.old.cfg) Alone (view_module_item inner node.now)) self.old.wr result }
+        ensures value { self.old.comments ≡ None → Emits W.tells W.state (item_laid (settings.look_of self.old.cfg) (view_module_item inner node.now)) self.old.wr self.new.wr result }
+        ensures noted { Notes W.state (item_laid (settings.look_of self.old.cfg) (view_module_item inner node.now)) self.old.wr result }
         ensures keeps { Stays W.state W.failed_writes W.loans self.old.wr self.new.wr result }
         ensures settings { self.new.cfg ≡ self.old.cfg }
         ensures source { self.new.cm ≡ self.old.cm }
@@ -90,3 +91,8 @@ impl<'a, S, W: WriteJs> Emitter<'a, S, W> {
         emit_with_comments(node, &mut self.wr, &mut self.comments, look_of(self.cfg))
     }
 }
+
+/// Law: the parts of a program that can be printed give its text where they are printed one after the other.
+pub fn items_are_program()
+    ensures { ItemsAreProgram }
+{}

@@ -1,6 +1,7 @@
 //! From a tree to text: the printer, and the writers of a program's text, as the printer's users name them.
 #![tactic(auto)]
 
+pub mod alone;
 pub mod code;
 mod emit;
 pub mod emitter;
@@ -8,6 +9,7 @@ pub mod node;
 pub mod text_writer;
 pub mod util;
 
+pub use alone::PrintAlone;
 pub use code::{to_code, to_code_default, to_code_with_comments};
 pub use ecma_settings::{Config, ListFormat, NoPlaces, SourceMapper, SourceMapperExt};
 pub use ecma_write::{EmitError, Gather};

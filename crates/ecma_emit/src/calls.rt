@@ -142,11 +142,18 @@ fn print_new_arguments<T: PrintPart, W: WriteJs>(
         (when (formats look || (has_arguments (args_tree T.tree args.now) || is_head stand)) (in_parens (laid look Alone (args_tree T.tree args.now))))
         p.old.wr p.old.fault p.new.wr p.new.fault }
 {
-    if !look.style.minify || has_arguments(args) || matches!(stand, Stand::Head) {
+    if has_parens(args, look, stand) {
         p.text(Text::LeftParen);
         print_maybe_arguments(args, p, look);
         p.text(Text::RightParen);
     }
+}
+
+/// Whether `new` that stands so has parentheses behind what it makes.
+fn has_parens<T: PrintPart>(args: &Option<Vec<ExprOrSpreadOf<T>>>, look: Look, stand: Stand) -> bool
+    ensures { result ≡ (formats look || (has_arguments (args_tree T.tree args.now) || is_head stand)) }
+{
+    !look.style.minify || has_arguments(args) || matches!(stand, Stand::Head)
 }
 
 /// Whether there are arguments.

@@ -114,9 +114,9 @@ impl Print for Stmt {
     }
 }
 
-/// Prints what stands behind the last alternative of a chain.
+/// Prints what stands behind a statement: a semicolon behind variables, and the end of its line; nothing behind a block.
 #[tactic(auto, unfolding(ecma_layout::specs::Layout::closing))]
-fn print_end<W: WriteJs>(last: &Stmt, p: &mut Printer<W>, look: Look)
+pub fn print_end<W: WriteJs>(last: &Stmt, p: &mut Printer<W>, look: Look)
     ensures { Prints W.tells W.state W.failed_writes W.loans (closing look last.now) p.old.wr p.old.fault p.new.wr p.new.fault }
 {
     if is_block(last) {

@@ -192,7 +192,12 @@ impl Check for Ident {
         let awaits = code.awaits && is_await(name);
         add(faults, awaits, SyntaxError::Unexpected, self.span)?;
         let reserved = code.strict && is_strict_reserved(name);
-        add(faults, reserved, SyntaxError::InvalidIdentInStrict, self.span)
+        add(
+            faults,
+            reserved,
+            SyntaxError::InvalidIdentInStrict,
+            self.span,
+        )
     }
 }
 

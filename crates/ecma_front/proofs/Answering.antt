@@ -13,7 +13,9 @@ use Rattle.ecma_token.specs.Dialect.{parts_of}
 use Rattle.ecma_token.specs.declared.error.Error.{Error}
 use Rattle.ecma_early.specs.Early.{early_errors}
 use Rattle.ecma_front.specs.Programs.{IsFaulty, Spells}
-use Rattle.ecma_front.specs.Command.{IsUnread}
+use Rattle.std.specs.Prelude.{◌⊎◌}
+use Rattle.ecma_token.specs.Counts.{one_more, count_after}
+use Rattle.ecma_front.specs.Command.{End, IsHindered, IsUnread, out_of_memory}
 use Rattle.ecma_tree.specs.Tree.{Tree}
 use Rattle.ecma_front.specs.Layouts.{layout}
 use Rattle.ecma_front.specs.Formats.{IsProgramIn, IsRefused, longest_text}
@@ -196,3 +198,27 @@ refusal_no_read (f.Write k) is = refl
 refusal_no_read f.Position is = refl
 refusal_no_read f.Node is = refl
 refusal_no_read f.Options is = refl
+
+-- A fault that refuses no text comes of the settings, of an end that failed, or of memory.
+hindered_at : (P : Type 0) (options : Options) (bytes : List ℕ) (before after : Option (List ℕ)) (fault : Fault) (i j o p e d : End) → is_refusal fault ≡ false
+    → Answers {P = P} options (Some bytes) before after (Err fault) → (fault ≡ f.Options → are_refused options ≡ true)
+    → j.failures ≡ count_after (is_read_fault fault) i.failures → p.failures ≡ count_after (is_write_fault fault) o.failures
+    → (fault ≡ f.Memory → (d.failures ≡ one_more e.failures) ⊎ Appends e.bytes d.bytes out_of_memory) → IsHindered options i j o p e d
+hindered_at P options bytes before after (f.Read k) i j o p e d is h settings reader writer memory = inr (inl reader)
+hindered_at P options bytes before after (f.Write k) i j o p e d is h settings reader writer memory = inr (inr (inl writer))
+hindered_at P options bytes before after f.Memory i j o p e d is h settings reader writer memory = inr (inr (inr (memory refl)))
+hindered_at P options bytes before after f.Options i j o p e d is h settings reader writer memory = inl (settings refl)
+hindered_at P options bytes before after f.Position i j o p e d is h settings reader writer memory = absurd h.0
+hindered_at P options bytes before after f.Node i j o p e d is h settings reader writer memory = absurd h.0
+hindered_at P options bytes before after (f.NotUtf8 n) i j o p e d is h settings reader writer memory = absurd (cc)
+hindered_at P options bytes before after f.TooLong i j o p e d is h settings reader writer memory = absurd (cc)
+hindered_at P options bytes before after (f.Syntax x) i j o p e d is h settings reader writer memory = absurd (cc)
+hindered_at P options bytes before after f.TooDeep i j o p e d is h settings reader writer memory = absurd (cc)
+
+pub hindered : (P : Type 0) (options : Options) (input before after : Option (List ℕ)) (fault : Fault) (i j o p e d : End) → is_refusal fault ≡ false
+    → Answers {P = P} options input before after (Err fault) → (fault ≡ f.Options → are_refused options ≡ true)
+    → j.failures ≡ count_after (is_read_fault fault) i.failures → p.failures ≡ count_after (is_write_fault fault) o.failures
+    → (fault ≡ f.Memory → (d.failures ≡ one_more e.failures) ⊎ Appends e.bytes d.bytes out_of_memory) → IfSome input (λ _. IsHindered options i j o p e d)
+hindered P options None before after fault i j o p e d is h settings reader writer memory = tt
+hindered P options (Some bytes) before after fault i j o p e d is h settings reader writer memory =
+    hindered_at P options bytes before after fault i j o p e d is h settings reader writer memory

@@ -1,8 +1,11 @@
 -- What the program answers.
-use Rattle.std.specs.Prelude.{◌≡◌, ℕ, ◌<◌, ◌≤◌, ◌-◌, ◌^◌, List, length, take}
+use Rattle.std.specs.Prelude.{◌≡◌, ℕ, ◌<◌, ◌≤◌, ◌-◌, ◌^◌, ◌⊎◌, true, List, length, take, Option, codes}
 use Rattle.std.specs.Str.{chars, IsUtf8, IsValidUpTo}
+use Rattle.std.specs.Io.KnownBytes.{Appends}
+use Rattle.ecma_token.specs.Counts.{one_more}
 use Rattle.ecma_token.specs.declared.place.LineCol.{LineCol}
 use Rattle.ecma_command.specs.declared.options.Options.{Options}
+use Rattle.ecma_command.specs.Options.{are_refused}
 use Rattle.ecma_tree.specs.Tree.{Tree}
 use Rattle.ecma_front.specs.declared.fault.Fault.{Fault}
 use Rattle.ecma_front.specs.declared.fault.Fault.TheVariants as f
@@ -19,3 +22,21 @@ abbrev pub LiesAt : List ℕ → Fault → LineCol → Type 0
 LiesAt text (f.Syntax e) place = IsUtf8 text → place ≡ place_of (chars text) (e.span.lo.0 - 1)
 LiesAt text (f.NotUtf8 valid) place = IsValidUpTo text valid → valid < 2 ^ 32 → place ≡ place_of (chars (take valid text)) valid
 LiesAt text _ place = place ≡ record { line = 0; col = 0 }
+
+-- the line that says that memory ran out
+abbrev pub out_of_memory : List ℕ
+out_of_memory = codes "out of memory\n"
+
+-- A reader or writer, or what is printed to: what it holds, where that is known, and how often it failed.
+pub record End : Type 0 where
+  pub bytes : Option (List ℕ)
+  pub failures : ℕ
+
+abbrev pub HasFailed : End → End → Type 0
+HasFailed before after = after.failures ≡ one_more before.failures
+
+-- What kept a run from its end: the settings are refused, the reader or the writer failed, or memory ran out, which is printed unless that fails as well.
+abbrev pub IsHindered : Options → End → End → End → End → End → End → Type 0
+IsHindered options input input_after output output_after errors errors_after =
+    (are_refused options ≡ true) ⊎ (HasFailed input input_after ⊎ (HasFailed output output_after
+    ⊎ (HasFailed errors errors_after ⊎ Appends errors.bytes errors_after.bytes out_of_memory)))

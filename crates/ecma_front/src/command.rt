@@ -1,14 +1,18 @@
 //! What the program answers and prints.
 ghost use Rattle.std.specs.Prelude.{◌≡◌, ◌≢◌, ◌⊎◌, ◌<◌, ◌-◌, ◌^◌, true, is_some, IfSome, IsUtf8};
 ghost use Rattle.std.specs.Str.{chars};
+ghost use Rattle.std.specs.Io.KnownBytes.{Appends};
+ghost use Rattle.ecma_token.specs.Counts.{one_more};
 ghost use Rattle.ecma_command.specs.Options.{are_refused};
 ghost use Rattle.ecma_front.specs.Faults.{is_refusal};
 ghost use Rattle.ecma_front.specs.Lines as lines;
 ghost use Rattle.ecma_front.specs.Run.{WritesBeginning, WritesProgram};
-ghost use Rattle.ecma_front.specs.Command.{IsUnread, LiesAt};
+ghost use Rattle.ecma_front.specs.Command.{IsHindered, IsUnread, LiesAt, out_of_memory};
+ghost use Rattle.ecma_front.specs.declared.fault.Fault.TheVariants.{Memory};
 
 use crate::fault::Fault;
 use crate::line_col::place;
+use crate::output::write_all;
 use crate::pipeline::run_kept;
 use ecma_command::Invocation;
 use ecma_token::{BytePos, CountedRead, CountedWrite, LineCol};
@@ -48,21 +52,32 @@ fn place_of(fault: Fault, text: &[u8]) -> Option<LineCol>
     }
 }
 
+/// Prints that memory ran out.
+fn report_memory<E: CountedWrite>(errors: &mut E)
+    ensures { (E.failure_count errors.new ≡ one_more (E.failure_count errors.old)) ⊎ Appends (E.contents errors.old) (E.contents errors.new) out_of_memory }
+{
+    let _ = write_all(errors, b"out of memory\n");
+}
+
 /// Prints a fault: for one of the text the line and the column, both from 1, and the message.
-fn report<E: Write>(fault: Fault, place: Option<LineCol>, errors: &mut E) {
-    let _ = match place {
-        Some(place) => {
+fn report<E: CountedWrite>(fault: Fault, place: Option<LineCol>, errors: &mut E)
+    ensures { fault ≡ Memory → (E.failure_count errors.new ≡ one_more (E.failure_count errors.old)) ⊎ Appends (E.contents errors.old) (E.contents errors.new) out_of_memory }
+{
+    let _ = match (fault, place) {
+        (Fault::Memory, _) => return report_memory(errors),
+        (_, Some(place)) => {
             let line = u64::from(place.line) + 1;
             let col = u64::from(place.col) + 1;
             writeln!(errors, "{line}:{col}: {fault}")
         }
-        None => writeln!(errors, "{fault}"),
+        (_, None) => writeln!(errors, "{fault}"),
     };
 }
 
 /// Runs what a command line asks for, prints a fault to `errors`, and answers the exit status: 0 where
-/// the program was written, 1 where the text is refused, else 3. A failure of `errors` changes nothing.
-pub fn answer<R: CountedRead, W: CountedWrite, E: Write>(
+/// the program was written, 1 where the text is refused, else 3: the settings are refused, the reader or
+/// the writer failed, or memory ran out. A failure of `errors` changes nothing.
+pub fn answer<R: CountedRead, W: CountedWrite, E: CountedWrite>(
     alloc: Global,
     invocation: &Invocation,
     input: &mut R,
@@ -75,6 +90,10 @@ pub fn answer<R: CountedRead, W: CountedWrite, E: Write>(
     ensures refused { result ≡ 1 → IfSome (R.remaining input.old) (IsUnread invocation.now.options) }
     ensures unwritten { result ≡ 1 → output.new ≡ output.old }
     ensures begun { result ≡ 3 → (output.new ≡ output.old) ⊎ IfSome (R.remaining input.old) (λ bytes. WritesBeginning invocation.now.options bytes (W.contents output.old) (W.contents output.new)) }
+    ensures hindered { result ≡ 3 → IfSome (R.remaining input.old) (λ _. IsHindered invocation.now.options
+        (record { bytes = R.remaining input.old; failures = R.failure_count input.old }) (record { bytes = R.remaining input.new; failures = R.failure_count input.new })
+        (record { bytes = W.contents output.old; failures = W.failure_count output.old }) (record { bytes = W.contents output.new; failures = W.failure_count output.new })
+        (record { bytes = E.contents errors.old; failures = E.failure_count errors.old }) (record { bytes = E.contents errors.new; failures = E.failure_count errors.new })) }
     ensures unfailed { result ≢ 3 → (R.failure_count input.new ≡ R.failure_count input.old) × (W.failure_count output.new ≡ W.failure_count output.old) }
 {
     let mut kept = Vec::new(alloc);

@@ -2,12 +2,9 @@
 //! writes it to standard output. What a command line means and what is answered is the library's.
 #![tactic(auto)]
 
-#[cfg(test)]
-mod tests;
-
 use ecma_front::{CliFault, Counted, Invocation, answer, invocation};
 use std::fs::File;
-use std::io::Write;
+use std::io::ErrorKind;
 use std::process::ExitCode;
 use std::{env, io};
 
@@ -25,7 +22,7 @@ fn tell(rt: &impl Eprint, message: &str) {
 /// Runs what the command line asks for, on its file or on standard input.
 fn run(rt: &HostRuntime, asked: &Invocation) -> u8 {
     let mut output = Counted::new(rt.stdout());
-    let mut errors = rt.stderr();
+    let mut errors = Counted::new(rt.stderr());
     match &asked.path {
         None => {
             let mut input = Counted::new(rt.stdin());
@@ -49,12 +46,23 @@ fn words(rt: &HostRuntime) -> io::Result<Vec<String>> {
     Ok(env::args(rt)?.collect(rt.alloc())?)
 }
 
+/// Tells why a command line has no words, and answers the status: an argument is no text, or memory ran out.
+fn refuse_words(rt: &HostRuntime, error: &io::Error) -> u8 {
+    if error.kind() == ErrorKind::InvalidData {
+        tell(
+            rt,
+            "error: invalid UTF-8 was detected in one or more arguments",
+        );
+        REFUSED
+    } else {
+        tell(rt, "out of memory");
+        FAILED
+    }
+}
+
 fn main(rt: HostRuntime) -> ExitCode {
     let status = match words(&rt) {
-        Err(_) => {
-            tell(&rt, "out of memory");
-            FAILED
-        }
+        Err(error) => refuse_words(&rt, &error),
         Ok(words) => match invocation(rt.alloc(), words) {
             Ok(asked) => run(&rt, &asked),
             Err(CliFault::Refused(text)) => {

@@ -3,6 +3,7 @@ mod Statements
 mod Declarations
 mod Expressions
 mod Operators
+mod ByHand
 mod Patterns
 mod Modules
 mod Literals

@@ -34,6 +34,9 @@ rows_2 : Hold (
     script (codes "a-- <b") (codes "a-- < b;\n") (codes "a--<b") ++
     script (codes "a< !--b") (codes "a < !--b;\n") (codes "a< !--b") ++
     script (codes "a<<!--b") (codes "a << !--b;\n") (codes "a<< !--b") ++
+    script (codes "a<!b--") (codes "a < !b--;\n") (codes "a< !b--") ++
+    script (codes "a<<!b--") (codes "a << !b--;\n") (codes "a<< !b--") ++
+    script (codes "a<!b++") (codes "a < !b++;\n") (codes "a<!b++") ++
     script (codes "a<!b") (codes "a < !b;\n") (codes "a<!b") ++
     script (codes "a< !--b && c-- >d") (codes "a < !--b && c-- > d;\n") (codes "a< !--b&&c-- >d") ++
     script (codes "a in b") (codes "a in b;\n") (codes "a in b") ++

@@ -1,9 +1,11 @@
 -- Comments that are kept one after another.
-use Rattle.std.proofs.Common.{◌≡◌, ℕ, ◌⊎◌, inl, inr, Bool, true, false, ◌||◌, List, [], ◌∷◌, ◌++◌, length, map, take, drop, Option, append_assoc, append-nil, take-append-drop, drop_of_length-le, refl, sym, ap, subst, ◌∙◌, arith}
+use Rattle.std.proofs.Common.{◌≡◌, ℕ, ◌⊎◌, inl, inr, Bool, true, false, ◌||◌, List, [], ◌∷◌, ◌++◌, length, map, take, drop, Option, Some, None, append_assoc, append-nil, take-append-drop, drop_of_length-le, refl, sym, ap, subst, ◌∙◌, arith}
 use Rattle.std.specs.List.{list_any}
 use Rattle.std.specs.Prelude.{MatchBool, is_none}
 use Rattle.std.proofs.lemmas.Bool.{false≢true}
 use Rattle.ecma_token.specs.Tokens.{Spot}
+use Rattle.ecma_token.specs.declared.token.TokenKind.{TokenKind}
+use Rattle.ecma_scan.specs.Punctuators.{IsPunctuator, NoPunctuator}
 use Rattle.ecma_token.specs.declared.error.Error.{Error}
 use Rattle.ecma_token.specs.declared.error.SyntaxError.TheVariants.{Memory}
 use Rattle.ecma_scan.specs.Notes.{FollowNoted, IsCollected, IsCollectedUpTo}
@@ -13,11 +15,11 @@ use Rattle.ecma_scan.specs.declared.trivia.Goal.{Goal}
 use Rattle.ecma_comments.specs.Comments.{owned_comment}
 use Rattle.ecma_comments.specs.Store.{leading_at, trailing_at}
 use Rattle.ecma_comments.specs.declared.store.Comments.{Comments}
-use Rattle.ecma_lexing.specs.States.{State, goal_of, is_start, place}
+use Rattle.ecma_lexing.specs.States.{State, again, goal_of, is_start, place}
 use Rattle.ecma_lexing.proofs.TriviaLemmas.{bad_none}
 use Rattle.ecma_comments.specs.Comments.{IsAdded, IsSame}
 use Rattle.ecma_comments.specs.declared.owned.Comment.{Comment}
-use Rattle.ecma_lexer.specs.Kept.{AreAdded, AreKept, ArePassed, AreThere, lead_place}
+use Rattle.ecma_lexer.specs.Kept.{AreAdded, AreKept, AreLeft, ArePassed, AreThere, EndsSlash, lead_place}
 
 pub added_none : (old : ℕ → List Comment) (pos : ℕ) → AreAdded old old pos []
 added_none old pos = record { here = sym (append-nil (old pos)); others = λ q n. refl }
@@ -62,18 +64,40 @@ not_matched false P Q e h = h
 
 -- ---- what a step keeps
 
-pub kept_by : (s : State) (out : Option Spot) (old mid new : Comments) (notes slice : List Read) (n behind lo : ℕ) (start at_end : Bool) (count : ℕ) → ArePassed s notes
+-- what was added to the same comments
+added_from : (old mid new : ℕ → List Comment) (pos : ℕ) (cs : List Comment) → IsSame old mid → AreAdded mid new pos cs → AreAdded old new pos cs
+added_from old mid new pos cs h g = record {
+  here = g.here ∙ ap (λ l. l ++ cs) (h pos);
+  others = λ q n. g.others q n ∙ h q;
+}
+
+-- where the slash ends
+pub ends_slash : (o : Option (List ℕ)) (end : ℕ) (from rest : List ℕ) (kind : TokenKind) (p : ℕ) → Some from ≡ o → IsPunctuator from kind rest → p ≡ place end rest
+    → EndsSlash o end (Some p)
+ends_slash o end from rest kind p e h at = subst (λ (x : Option (List ℕ)). EndsSlash x end (Some p)) e (inl (kind, rest, h, ap (λ (n : ℕ). Some n) at))
+
+pub ends_none : (o : Option (List ℕ)) (end : ℕ) → None ≡ o → EndsSlash o end None
+ends_none o end e = subst (λ (x : Option (List ℕ)). EndsSlash x end None) e refl
+
+pub ends_no_mark : (o : Option (List ℕ)) (end : ℕ) (from : List ℕ) → Some from ≡ o → NoPunctuator from → EndsSlash o end None
+ends_no_mark o end from e h = subst (λ (x : Option (List ℕ)). EndsSlash x end None) e (inr (h, refl))
+
+pub kept_by : (s : State) (out : Option Spot) (old stepped mid new : Comments) (slash : Option ℕ) (notes slice : List Read) (n behind lo : ℕ) (start at_end : Bool) (count : ℕ) → ArePassed s notes
+    → EndsSlash (again s) s.tokens.end slash → AreLeft slash (trailing_at stepped) (trailing_at mid) → IsSame (leading_at stepped) (leading_at mid)
     → AreAdded (trailing_at mid) (trailing_at new) behind (map owned_comment (take n slice)) → AreAdded (leading_at mid) (leading_at new) lo (map owned_comment (drop n slice))
-    → mid ≡ old → slice ≡ notes → behind ≡ place s.tokens.end s.tokens.left → lo ≡ lead_place out behind → start ≡ is_start s.tokens.last
+    → stepped ≡ old → slice ≡ notes → behind ≡ place s.tokens.end s.tokens.left → lo ≡ lead_place out behind → start ≡ is_start s.tokens.last
     → (start ≡ true → n ≡ 0) → (start ≡ false → at_end ≡ true → n ≡ count) → count ≡ length slice → at_end ≡ is_none out → AreKept s out old new
-kept_by s out old mid new notes slice n behind lo start at_end count p t l m e b f k first last c a = record {
+kept_by s out old stepped mid new slash notes slice n behind lo start at_end count p ends w same t l m e b f k first last c a = record {
   trail = take n slice;
   lead = drop n slice;
   passed = subst (ArePassed s) (sym (take-append-drop n slice ∙ e)) p;
-  trailing = subst (λ q. AreAdded (trailing_at old) (trailing_at new) q (map owned_comment (take n slice))) b
-      (subst (λ o. AreAdded (trailing_at o) (trailing_at new) behind (map owned_comment (take n slice))) m t);
+  slash = slash;
+  behind_slash = ends;
+  left = trailing_at mid;
+  withdrawn = subst (λ o. AreLeft slash (trailing_at o) (trailing_at mid)) m w;
+  trailing = subst (λ q. AreAdded (trailing_at mid) (trailing_at new) q (map owned_comment (take n slice))) b t;
   leading = subst (λ q. AreAdded (leading_at old) (leading_at new) q (map owned_comment (drop n slice))) (f ∙ ap (lead_place out) b)
-      (subst (λ o. AreAdded (leading_at o) (leading_at new) lo (map owned_comment (drop n slice))) m l);
+      (subst (λ o. AreAdded (leading_at o) (leading_at new) lo (map owned_comment (drop n slice))) m (added_from (leading_at stepped) (leading_at mid) (leading_at new) lo _ same l));
   first = λ h. ap (λ j. take j slice) (first (k ∙ h));
   last = λ h o. let full : n ≡ length slice = last (k ∙ h) (a ∙ ap is_none o) ∙ c in ap (λ j. drop j slice) full ∙ drop_of_length-le slice (omega arith);
 }

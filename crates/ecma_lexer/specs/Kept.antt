@@ -2,10 +2,12 @@
 use Rattle.std.specs.Prelude.{◌≡◌, ◌≢◌, ◌⊎◌, ℕ, Bool, true, false, ◌||◌, List, [], ◌++◌, map, Option, None, Some}
 use Rattle.std.specs.List.{list_any}
 use Rattle.ecma_token.specs.Tokens.{Spot}
+use Rattle.ecma_token.specs.declared.token.TokenKind.{TokenKind}
 use Rattle.ecma_scan.specs.Notes.{FollowNoted}
+use Rattle.ecma_scan.specs.Punctuators.{IsPunctuator, NoPunctuator}
 use Rattle.ecma_scan.specs.Trivia.{Piece, NoHashbang, NoPiece, breaks}
 use Rattle.ecma_scan.specs.declared.comments.Comment.{Comment as Read}
-use Rattle.ecma_comments.specs.Comments.{IsSame, owned_comment}
+use Rattle.ecma_comments.specs.Comments.{IsSame, IsTaken, owned_comment}
 use Rattle.ecma_comments.specs.Store.{leading_at, trailing_at}
 use Rattle.ecma_comments.specs.declared.owned.Comment.{Comment}
 use Rattle.ecma_comments.specs.declared.store.Comments.{Comments}
@@ -36,18 +38,34 @@ pub record AreAdded (old new : ℕ → List Comment) (pos : ℕ) (comments : Lis
   pub here : new pos ≡ old pos ++ comments
   pub others : (q : ℕ) → q ≢ pos → new q ≡ old q
 
+-- Where the slash ends that the next step reads again, if it reads one again.
+abbrev pub EndsSlash : Option (List ℕ) → ℕ → Option ℕ → Type 0
+EndsSlash None end place_behind = place_behind ≡ None
+EndsSlash (Some from) end place_behind =
+    ((kind : TokenKind) × (rest : List ℕ) × IsPunctuator from kind rest × (place_behind ≡ Some (place end rest)))
+    ⊎ (NoPunctuator from × (place_behind ≡ None))
+
+-- What was kept at this place, if there is one, is kept no longer, and all else is.
+abbrev pub AreLeft : Option ℕ → (ℕ → List Comment) → (ℕ → List Comment) → Type 0
+AreLeft None old new = IsSame old new
+AreLeft (Some pos) old new = IsTaken old new pos
+
 -- Where comments lead: the place of the token that comes, or at the end the place behind the last one.
 abbrev pub lead_place : Option Spot → ℕ → ℕ
 lead_place None behind = behind
 lead_place (Some spot) behind = spot.lo
 
 -- Each comment that a step passes is kept once: it trails the last token, or leads what comes. At the start of the text none trails, and at
--- its end none leads where there was a token.
+-- its end none leads where there was a token. A slash that is read again loses those that trail it, since the text behind it is read again.
 pub record AreKept (s : State) (out : Option Spot) (old new : Comments) : Type 0 where
   pub trail : List Read
   pub lead : List Read
   pub passed : ArePassed s (trail ++ lead)
-  pub trailing : AreAdded (trailing_at old) (trailing_at new) (place s.tokens.end s.tokens.left) (map owned_comment trail)
+  pub slash : Option ℕ
+  pub behind_slash : EndsSlash (again s) s.tokens.end slash
+  pub left : ℕ → List Comment
+  pub withdrawn : AreLeft slash (trailing_at old) left
+  pub trailing : AreAdded left (trailing_at new) (place s.tokens.end s.tokens.left) (map owned_comment trail)
   pub leading : AreAdded (leading_at old) (leading_at new) (lead_place out (place s.tokens.end s.tokens.left)) (map owned_comment lead)
   pub first : is_start s.tokens.last ≡ true → trail ≡ []
   pub last : is_start s.tokens.last ≡ false → out ≡ None → lead ≡ []

@@ -4,9 +4,10 @@ ghost use Rattle.std.specs.Str.{chars};
 ghost use Rattle.ecma_token.specs.declared.error.SyntaxError.TheVariants.{Memory};
 ghost use Rattle.ecma_comments.specs.Comments.{IsSame, owned_comment};
 ghost use Rattle.ecma_comments.specs.Store.{leading_at, trailing_at};
-ghost use Rattle.ecma_lexer.specs.Kept.{AreAdded, AreKept, ArePassed, AreThere, PassesTrivia, lead_place};
+ghost use Rattle.ecma_lexer.specs.Kept.{AreAdded, AreKept, AreLeft, ArePassed, AreThere, EndsSlash, PassesTrivia, lead_place};
 ghost use Rattle.ecma_lexer.specs.Lexer.{state_in};
 ghost use Rattle.ecma_lexer.specs.Stepping.{Steps};
+ghost use Rattle.ecma_lexing.specs.States.{again};
 ghost use Rattle.ecma_lexing.specs.Steps.{IsStep};
 ghost use Rattle.ecma_tokens.specs.Machine.{SameTold, shown_spot};
 ghost use Rattle.ecma_tokens.specs.Settings.{settings_in};
@@ -17,7 +18,7 @@ use crate::step::{goal_of, part, template_goal};
 use ecma_comments::{Comment, Comments};
 use ecma_scan::place::out_of_memory;
 use ecma_scan::trivia::{Goal, Trivia, hashbang, trivia_piece};
-use ecma_scan::{Comment as Read, collect_trivia};
+use ecma_scan::{Comment as Read, collect_trivia, punctuator};
 use ecma_token::{BytePos, Error, SyntaxError, TokenAndSpan};
 use std::alloc::{AllocError, Global};
 
@@ -167,6 +168,28 @@ impl<'a> Lexer<'a> {
         }
     }
 
+    /// Where the slash ends that the next step reads again.
+    #[tactic(auto, using(crate::proofs::KeptLemmas::ends_slash))]
+    fn behind_slash(&self) -> Option<BytePos>
+        ensures { EndsSlash (again (state_in self.now)) self.now.end (option_map (λ p. p.0) result) }
+    {
+        let from = self.again()?;
+        let (_, rest) = punctuator(from)?;
+        Some(part(self.end, rest, "").lo)
+    }
+
+    /// Those that trail this place are kept no longer.
+    fn withdraw(&mut self, behind_slash: Option<BytePos>)
+        ensures trailing { AreLeft (option_map (λ p. p.0) behind_slash) (trailing_at self.old.comments) (trailing_at self.new.comments) }
+        ensures leading { IsSame (leading_at self.old.comments) (leading_at self.new.comments) }
+        ensures state { state_in self.new ≡ state_in self.old }
+        ensures keeps { self.new.keeps ≡ self.old.keeps }
+    {
+        if let Some(pos) = behind_slash {
+            drop(self.comments.take_trailing(pos));
+        }
+    }
+
     /// Keeps the comments that a step passed: so many of them trail the last token, which ends at this
     /// place, and the others lead what comes.
     fn keep(
@@ -201,12 +224,14 @@ impl<'a> Lexer<'a> {
         ensures keeps { self.new.keeps ≡ self.old.keeps }
     {
         let notes = self.passed_notes()?;
+        let behind_slash = self.behind_slash();
         let is_start = self.last.is_start();
         let here = on_this_line(self.end, goal_of(self.settings.ctx), self.rest);
         let behind = part(self.end, self.rest, "").lo;
         let token = self.advance()?;
         let trails = trailing(is_start, is_end(&token), here, notes.len());
         let lo = lead_place(&token, behind);
+        self.withdraw(behind_slash);
         self.keep(notes.as_slice(), trails, behind, lo)?;
         Ok(token)
     }

@@ -1,31 +1,14 @@
-//! Tests of the lexical crates and of the lexer through their public calls: the slow, plain programs of `ecma_plain`
-//! and one that tries every way to cut a text, compared on all short texts over small alphabets; canonical texts; and
-//! which tokens take memory. Answers from outside stand in the rows of `ecma_lexical_rows` and `ecma_lexer_rows`.
+//! Tests of the lexical layer that no row can ask: which tokens take memory, what the lexer and what keeps its tokens answer where
+//! memory runs out, and ends that fail. All that can be asked of a text is asked by rows (`docs/ROWS.md`).
 #![tactic(auto)]
 
 #[cfg(test)]
-mod again;
+mod counted;
 #[cfg(test)]
-mod memory;
+mod lexemes;
 #[cfg(test)]
-mod names;
+mod lexer;
 #[cfg(test)]
-mod numbers;
-#[cfg(test)]
-mod plain;
-#[cfg(test)]
-mod punctuators;
+mod made;
 #[cfg(test)]
 mod reading;
-#[cfg(test)]
-mod strings;
-#[cfg(test)]
-mod templates;
-#[cfg(test)]
-mod texts;
-#[cfg(test)]
-mod tokens;
-#[cfg(test)]
-mod told;
-#[cfg(test)]
-mod trivia;

@@ -263,7 +263,7 @@ pattern_written ts b f k c =
     let flags = o.origin.1 in
     let r = o.origin.2 in
     let whole : o.from ≡ (47 ∷ body ++ 47 ∷ (flags ++ [])) ++ o.behind =
-        r.1.1 ∙ (ap (λ (l : List ℕ). 47 ∷ body ++ 47 ∷ l) r.1.2.0 ∙ (ap (λ (l : List ℕ). 47 ∷ body ++ 47 ∷ (l ++ o.behind)) (sym (append-nil flags)) ∙ ap (λ (l : List ℕ). 47 ∷ l) (sym (append_assoc body (47 ∷ (flags ++ [])) o.behind)))) in record {
+    r.1.1 ∙ (ap (λ (l : List ℕ). 47 ∷ body ++ 47 ∷ l) r.1.2.0 ∙ (ap (λ (l : List ℕ). 47 ∷ body ++ 47 ∷ (l ++ o.behind)) (sym (append-nil flags)) ∙ ap (λ (l : List ℕ). 47 ∷ l) (sym (append_assoc body (47 ∷ (flags ++ [])) o.behind)))) in record {
       body = body;
       flags = flags;
       body_same = o.origin.3;
@@ -279,6 +279,6 @@ patterns ts b f j x e k c h =
     let p = pattern_written ts b f k c in
     let l = pattern_lexeme p.body p.flags in
     let i : IsLexeme RegExp (chars (joined (codes "/" ∷ b ∷ codes "/" ∷ f ∷ []))) l [] = subst (λ (t : List ℕ). IsLexeme RegExp t l []) (sym (ap chars p.same ∙ chars-encodes (reg_exp_text p.body p.flags []) p.are_scalars))
-        (inr (inl (refl, (p.body, p.flags, p.read, refl)))) in
+    (inr (inl (refl, (p.body, p.flags, p.read, refl)))) in
     let same = (one_lexeme RegExp (chars (joined (codes "/" ∷ b ∷ codes "/" ∷ f ∷ []))) h.0 l [] [] h.1 i).0 in
     (h.2 ∙ ap (λ (l : SpecLexeme). l.token.kind) same, h.3 ∙ (ap (λ (l : SpecLexeme). (told l.token).content) same ∙ (ap (λ (t : List ℕ). Pattern t (encode_utf8_all p.flags)) (sym p.body_same) ∙ ap (λ (t : List ℕ). Pattern b t) (sym p.flags_same))))

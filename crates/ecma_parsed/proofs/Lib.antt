@@ -4,5 +4,8 @@ pub mod ExactLemmas
 pub mod SettledLemmas
 pub mod Told
 pub mod TextReadLemmas
+pub mod ListLemmas
 pub mod AnsweredLemmas
 pub mod TextLemmas
+pub mod ListAnswers
+pub mod ChosenLemmas

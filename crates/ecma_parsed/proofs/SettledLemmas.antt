@@ -1,7 +1,6 @@
 -- What is read of a source from a state that a reading comes to is settled; so is what is read from the first token on.
-use Rattle.std.proofs.Common.{◌≡◌, ◌≤◌, ℕ, Bool, Option, Result, Ok, Err, refl}
+use Rattle.std.proofs.Common.{◌≡◌, ℕ, Bool, Result, Ok, Err, refl}
 use Rattle.ecma_token.specs.declared.syntax.EsSyntax.{EsSyntax}
-use Rattle.ecma_token.specs.Tokens.{Spot}
 use Rattle.ecma_tokens.specs.Machine as tokens
 use Rattle.ecma_tokens.specs.Machine.{Source}
 use Rattle.ecma_tree.specs.Tree.{Tree}
@@ -9,8 +8,9 @@ use Rattle.ecma_reading.specs.Source.{Fault, Unexpected, TooDeep, Machine}
 use Rattle.ecma_parse_state.specs.Fronts.{read_on, machine_of}
 use Rattle.ecma_sources.specs.Sources.{Orderly}
 use Rattle.ecma_sources.specs.Consumed.{Backward}
-use Rattle.ecma_sources_of.specs.Standing.{Standing}
-use Rattle.ecma_sources_of.proofs.Stands.{parser_stands, parser_backward}
+use Rattle.ecma_sources_of.specs.Constant.{Before}
+use Rattle.ecma_sources_of.proofs.Fronts.{parser_orderly}
+use Rattle.ecma_sources_of.proofs.Slashes.{parser_backward}
 use Rattle.ecma_parsed.specs.Parsed.{Judges}
 use Rattle.ecma_parsed.proofs.ParsedLemmas.{programs_judged}
 use Rattle.ecma_parsed.specs.Exact.{read_within}
@@ -29,6 +29,6 @@ module _ {S : Type 0} (m : Machine S) (Live : S → Type 0) (modules : Bool) (w 
     found = λ placed ps t g o d h. (programs_exact m Live modules w back limit syntax s t live).read placed ps g o d h;
   }
 
-pub first_settled : {S : Type 0} (m : tokens.Machine S) (Good : Source S → Type 0) (Same : Source S → Source S → Type 0) (Last : Option Spot → Source S → Type 0) → FirstSettled m Good Same Last
-first_settled m Good Same Last modules w v limit syntax s last g = let o = parser_backward m Good Same Last modules w v in
-    settled (machine_of m) (Standing Good Last) modules o.0 o.1 limit syntax (read_on (m.step s) last) (parser_stands m Good Same Last modules w v s last g)
+pub first_settled : {S : Type 0} (m : tokens.Machine S) (Good : Source S → Type 0) (Same : Source S → Source S → Type 0) → FirstSettled m Good Same
+first_settled m Good Same modules w limit syntax s last g =
+    settled (machine_of m) (Before Good) modules (parser_orderly m Good Same modules w) (parser_backward m Good Same modules w) limit syntax (read_on (m.step s) last) ((m.step s).1, refl, w.good_step s g)

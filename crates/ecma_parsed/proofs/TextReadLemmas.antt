@@ -15,8 +15,6 @@ use Rattle.ecma_parse_state.specs.Fronts.{Front, read_on, machine_of}
 use Rattle.ecma_sources.specs.Sources.{HandsOut}
 use Rattle.ecma_sources_lexed.specs.Lexed.{OfGoal, SameText}
 use Rattle.ecma_sources_lexed.proofs.Lexes.{lexer_constant}
-use Rattle.ecma_sources_lexed.specs.Standing.{LastToken}
-use Rattle.ecma_sources_lexed.proofs.Slashes.{lexer_rereads}
 use Rattle.ecma_spells.specs.Text.{code_of, text_start, Reads}
 use Rattle.ecma_spells.specs.Tiled.{Tile}
 use Rattle.ecma_spells_laws.proofs.Ordered.{places_in_order}
@@ -87,4 +85,4 @@ module _ (limit : ℕ) (modules : Bool) (syntax : EsSyntax) (text : List ℕ) (s
 
 pub texts_settled : TextsSettled
 texts_settled limit modules syntax text s st = text_settled limit modules syntax text s st
-    (first_settled lexer_machine (OfGoal modules) SameText LastToken modules (lexer_constant modules) (lexer_rereads modules) limit syntax s text_start st.goal)
+    (first_settled lexer_machine (OfGoal modules) SameText modules (lexer_constant modules) limit syntax s text_start st.goal)

@@ -1,23 +1,22 @@
 -- What a parser that is new on a source of tokens answers, by the grammar alone: the statements of the law.
-use Rattle.std.specs.Prelude.{◌≡◌, ◌≢◌, ◌≤◌, ◌++◌, ℕ, Bool, false, List, Option, Result, Ok, Err}
+use Rattle.std.specs.Prelude.{◌≡◌, ◌≢◌, ◌≤◌, ◌++◌, ℕ, Bool, false, List, [], Result, Ok, Err}
 use Rattle.ecma_token.specs.declared.error.Error.{Error}
 use Rattle.ecma_token.specs.declared.error.SyntaxError.{SyntaxError}
 use Rattle.ecma_token.specs.declared.error.SyntaxError.TheVariants as kinds
 use Rattle.ecma_token.specs.declared.syntax.EsSyntax.{EsSyntax}
-use Rattle.ecma_token.specs.Tokens.{Spot}
 use Rattle.ecma_tokens.specs.Machine as tokens
 use Rattle.ecma_tokens.specs.Machine.{Source}
 use Rattle.ecma_tree.specs.Tree.{Tree}
 use Rattle.ecma_nesting.specs.Nesting.{nesting}
 use Rattle.ecma_early.specs.Early.{early_errors}
 use Rattle.ecma_reading.specs.Source.{Fault, Unexpected, TooDeep, Machine}
-use Rattle.ecma_spells.specs.Text.{code_of}
+use Rattle.ecma_spells.specs.Text.{Setting, code_of}
 use Rattle.ecma_parse_state.specs.Fronts.{Front, told_of, machine_of}
 use Rattle.ecma_parse_state.specs.declared.parser.Parser.{Parser}
 use Rattle.ecma_parse_entries.specs.Within.{program_within}
 use Rattle.ecma_sources_of.specs.Constant.{Constant}
-use Rattle.ecma_sources_of.specs.Standing.{Rereading}
 use Rattle.ecma_parsed.specs.Parsed.{EachDerived}
+use Rattle.ecma_parsed.specs.Judged.{Each, JudgedBy}
 use Rattle.ecma_parsed.specs.Settled.{SettledBy}
 use Rattle.ecma_parser.specs.Answers.{Parses}
 use Rattle.ecma_parser.specs.Entries.{syntax_in, limit_in, first_of, opened}
@@ -39,6 +38,19 @@ abbrev pub AnsweredBy : {X : Type 0} → (Result Tree Fault → Type 0) → (X �
 AnsweredBy By view syntax (Ok x) old new = By (Ok (view x)) × (new ≡ old ++ early_errors syntax (view x))
 AnsweredBy By view syntax (Err e) old new = Refused By e.kind × (new ≡ old)
 
+-- A tree spells something exactly where it is answered and no fault is recorded, but for want of memory.
+abbrev pub SpelledBy : (Tree → Type 0) → {X : Type 0} → (X → Tree) → Result X Error → List Error → Tree → Type 0
+SpelledBy Spells view (Ok u) recorded t = ((view u ≡ t) × (recorded ≡ []) → Spells t) × (Spells t → (view u ≡ t) × (recorded ≡ []))
+SpelledBy Spells view (Err e) recorded t = Spells t → e.kind ≢ kinds.Memory → ⊥
+
+-- What a new parser answers, and the faults that are recorded. The tree is the only one that reads what was to be parsed, within the limit; a fault comes only where none of
+-- any nesting does, and too deep only where each that does nests deeper.
+pub record NewAnswer (x : Setting) (Reads Spells : Tree → Type 0) {X : Type 0} (view : X → Tree) (result : Result X Error) (recorded : List Error) : Type 0 where
+  pub answer : AnsweredBy (JudgedBy Reads x.limit) view x.syntax result [] recorded
+  -- what reads it, within the limit, is answered
+  pub found : Each Reads (λ t. nesting t ≤ x.limit → Comes view t result)
+  pub spells : (t : Tree) → SpelledBy Spells view result recorded t
+
 module _ {S : Type 0} (m : Machine S) (limit : ℕ) (modules : Bool) (syntax : EsSyntax) (s : S) {X : Type 0} (view : X → Tree) where
   -- An entry's answer, and the faults before and after it, by the grammar. The tree is the only one that is derived, within the limit; a fault comes only where
   -- none of any nesting is, and too deep only where each that is nests deeper.
@@ -58,7 +70,7 @@ module _ {I S : Type 0} (m : tokens.Machine S) (state : I → Source S) where
       Parses view syntax result (program_within (machine_of m) (limit_in e) modules code (opened m state code.context e)) old new
 
   -- A parser that read no token yet, on a good source of tokens, answers by the grammar: what an entry promises is so much.
-  abbrev pub EntriesAnswer : (Good : Source S → Type 0) (Same : Source S → Source S → Type 0) (Last : Option Spot → Source S → Type 0) {X : Type 0} → (X → Tree) → Type 0
-  EntriesAnswer Good Same Last {X} view = (modules : Bool) → Constant m Good Same modules → Rereading m Good Same Last → (e : Entries (Parser I)) → e.started ≡ false → Good (state e.reading.input)
+  abbrev pub EntriesAnswer : (Good : Source S → Type 0) (Same : Source S → Source S → Type 0) {X : Type 0} → (X → Tree) → Type 0
+  EntriesAnswer Good Same {X} view = (modules : Bool) → Constant m Good Same modules → (e : Entries (Parser I)) → e.started ≡ false → Good (state e.reading.input)
       → (result : Result X Error) (old new : List Error) → Promised view modules e result old new
       → Answered (machine_of m) (limit_in e) modules (syntax_in state e) (front_of modules e) view result old new

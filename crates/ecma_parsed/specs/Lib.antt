@@ -1,8 +1,12 @@
--- What a parser reads of a source of tokens, and of a text, and what it answers, by the grammar.
+-- What a parser reads of a source of tokens, of a list of them, and of a text, and what it answers, by the grammar.
 pub mod Within
 pub mod Parsed
 pub mod Exact
 pub mod Settled
+pub mod Judged
 pub mod TextRead
+pub mod ListRead
 pub mod Answered
 pub mod Texts
+pub mod Lists
+pub mod Chosen

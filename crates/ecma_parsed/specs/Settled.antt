@@ -1,7 +1,6 @@
 -- What a parser reads of a source of tokens from its first token on, by what the grammar derives from the tokens that the source hands out: the statements of the law.
-use Rattle.std.specs.Prelude.{◌≡◌, ◌≤◌, ◌<◌, ℕ, Bool, false, List, Option, Result, Ok, Err}
+use Rattle.std.specs.Prelude.{◌≡◌, ◌≤◌, ◌<◌, ℕ, Bool, false, List, Result, Ok, Err}
 use Rattle.ecma_token.specs.declared.syntax.EsSyntax.{EsSyntax}
-use Rattle.ecma_token.specs.Tokens.{Spot}
 use Rattle.ecma_tokens.specs.Machine as tokens
 use Rattle.ecma_tokens.specs.Machine.{Source}
 use Rattle.ecma_tree.specs.Tree.{Tree}
@@ -11,7 +10,6 @@ use Rattle.ecma_reading.specs.Source.{Fault, Unexpected, TooDeep, Machine}
 use Rattle.ecma_parse_state.specs.Fronts.{read_on, machine_of}
 use Rattle.ecma_sources.specs.Sources.{HandsOut}
 use Rattle.ecma_sources_of.specs.Constant.{Constant}
-use Rattle.ecma_sources_of.specs.Standing.{Rereading}
 use Rattle.ecma_parsed.specs.Parsed.{DerivesList, EachDerived}
 use Rattle.ecma_parsed.specs.Exact.{read_within}
 
@@ -45,6 +43,6 @@ module _ {S : Type 0} (m : Machine S) (limit : ℕ) (modules : Bool) (syntax : E
     pub found : EachDerived m modules syntax s (λ t. nesting t ≤ limit → read_within m limit modules syntax s ≡ Ok t)
 
 -- What a parser reads of a good source of tokens, from its first token on, is settled by the grammar: a script, or a module.
-abbrev pub FirstSettled : {S : Type 0} (m : tokens.Machine S) (Good : Source S → Type 0) (Same : Source S → Source S → Type 0) (Last : Option Spot → Source S → Type 0) → Type 0
-FirstSettled {S} m Good Same Last = (modules : Bool) → Constant m Good Same modules → Rereading m Good Same Last → (limit : ℕ) (syntax : EsSyntax) (s : Source S) (last : ℕ) → Good s
+abbrev pub FirstSettled : {S : Type 0} (m : tokens.Machine S) (Good : Source S → Type 0) (Same : Source S → Source S → Type 0) → Type 0
+FirstSettled {S} m Good Same = (modules : Bool) → Constant m Good Same modules → (limit : ℕ) (syntax : EsSyntax) (s : Source S) (last : ℕ) → Good s
     → Settled (machine_of m) limit modules syntax (read_on (m.step s) last)

@@ -1,37 +1,24 @@
 -- What a new parser of a text answers, by the trees that spell the text: the statements of the law.
-use Rattle.std.specs.Prelude.{◌≡◌, ◌≢◌, ◌≤◌, ◌+◌, ℕ, Bool, false, List, [], length, Result, Ok, Err}
+use Rattle.std.specs.Prelude.{◌≡◌, ◌+◌, ℕ, Bool, false, List, [], length, Result}
 use Rattle.std.specs.Str.{chars, IsUtf8}
 use Rattle.ecma_token.specs.declared.error.Error.{Error}
-use Rattle.ecma_token.specs.declared.error.SyntaxError.TheVariants as kinds
 use Rattle.ecma_token.specs.declared.syntax.Syntax.{Syntax}
 use Rattle.ecma_token.specs.declared.version.EsVersion.{EsVersion}
 use Rattle.ecma_token.specs.declared.version.EsVersion.TheVariants.{EsNext}
 use Rattle.ecma_token.specs.Dialect.{parts_of}
 use Rattle.ecma_scan.specs.Places.{bytes}
 use Rattle.ecma_tree.specs.Tree.{Tree}
-use Rattle.ecma_nesting.specs.Nesting.{nesting}
 use Rattle.ecma_lexing.specs.States.{State, at_start_of}
 use Rattle.ecma_lexer.specs.Machine.{lexer_machine}
-use Rattle.ecma_spells.specs.Text.{Setting, TreeSpells, text_start}
+use Rattle.ecma_spells.specs.Text.{Setting, Reads, TreeSpells, text_start}
 use Rattle.ecma_parse_state.specs.declared.parser.Parser.{Parser}
-use Rattle.ecma_parsed.specs.TextRead.{EachReads, TextBy}
 use Rattle.ecma_parser.specs.Entries.{source_in, limit_in}
 use Rattle.ecma_parser.specs.declared.entries.Entries.{Entries}
-use Rattle.ecma_parsed.specs.Answered.{Comes, AnsweredBy, Promised}
+use Rattle.ecma_parsed.specs.Answered.{NewAnswer, Promised}
 
-module _ (x : Setting) (modules : Bool) (text : List ℕ) {X : Type 0} (view : X → Tree) where
-  -- A tree spells the text exactly where it is answered and no fault is recorded, but for want of memory.
-  abbrev pub SpelledBy : Result X Error → List Error → Tree → Type 0
-  SpelledBy (Ok u) recorded t = ((view u ≡ t) × (recorded ≡ []) → TreeSpells x modules t text) × (TreeSpells x modules t text → (view u ≡ t) × (recorded ≡ []))
-  SpelledBy (Err e) recorded t = TreeSpells x modules t text → e.kind ≢ kinds.Memory → ⊥
-
-  -- What is answered of a text, and the faults that are recorded. The tree is the only one that reads the text, within the limit; a fault comes only where none of any
-  -- nesting does, and too deep only where each that does nests deeper.
-  pub record TextAnswered (result : Result X Error) (recorded : List Error) : Type 0 where
-    pub answer : AnsweredBy (TextBy modules x.syntax text x.limit) view x.syntax result [] recorded
-    -- what reads the text, within the limit, is answered
-    pub found : EachReads modules x.syntax text (λ t. nesting t ≤ x.limit → Comes view t result)
-    pub spells : (t : Tree) → SpelledBy result recorded t
+-- What is answered of a text, and the faults that are recorded, by the trees that read it and those that spell it.
+abbrev pub TextAnswered : Setting → Bool → List ℕ → {X : Type 0} → (X → Tree) → Result X Error → List Error → Type 0
+TextAnswered x modules text view result recorded = NewAnswer x (λ t. Reads modules x.syntax t text) (λ t. TreeSpells x modules t text) view result recorded
 
 module _ {I : Type 0} (state : I → State) where
   -- A new parser of a text, which has recorded no fault, answers by the trees that read the text: what an entry promises is so much.

@@ -1,11 +1,14 @@
 //! Laws of the parser: what it reads of a source is what the grammar derives from the tokens that the source hands out, exactly; from the first token
-//! of a source on, and of a text through a lexer; and what its entries promise of a new parser is what the grammar says of these. The functions here
-//! are laws alone. Who uses the parser by them takes it from here too.
+//! of a source on, of a list of tokens, and of a text through a lexer; and what its entries promise of a new parser is what the grammar says of these.
+//! The functions here are laws alone. Who uses the parser by them takes it from here too.
 #![tactic(auto)]
 
 ghost use Rattle.ecma_lexing.specs.States.{State};
 ghost use Rattle.ecma_parsed.specs.Answered.{EntriesAnswer};
+ghost use Rattle.ecma_parsed.specs.Chosen.{ListsChosen, NewChosen, NewListChosen, SourcesChosen, TextsChosen};
 ghost use Rattle.ecma_parsed.specs.Exact.{OneProgram, ProgramsExact};
+ghost use Rattle.ecma_parsed.specs.ListRead.{ListConstant, ListHands, ListsSettled};
+ghost use Rattle.ecma_parsed.specs.Lists.{ListsAnswered, NewListAnswered};
 ghost use Rattle.ecma_parsed.specs.Parsed.{ProgramsJudged};
 ghost use Rattle.ecma_parsed.specs.Settled.{FirstSettled};
 ghost use Rattle.ecma_parsed.specs.TextRead.{TextsSettled};
@@ -13,11 +16,11 @@ ghost use Rattle.ecma_parsed.specs.Texts.{NewAnswered, TextsAnswered};
 ghost use Rattle.ecma_token.specs.Tokens.{Spot};
 ghost use Rattle.ecma_tokens.specs.Machine.{Source, Machine};
 ghost use Rattle.ecma_tree.specs.Tree.{Tree};
-ghost use Rattle.std.specs.Prelude.{Option};
+ghost use Rattle.std.specs.Prelude.{Bool, List};
 
 pub use ecma_parser::{PResult, Parser};
 use ecma_sources::Sourced;
-use ecma_sources_of::Reread;
+use ecma_sources_of::Tokened;
 
 /// Law: a script or a module that is read of a source within a limit of nesting is the only one that
 /// derives tokens which the source hands out. Where a token is unexpected none is derived, and where
@@ -37,14 +40,23 @@ pub fn exact_law<I: Sourced>()
     ensures one { OneProgram I.machine I.live }
 {}
 
-/// Law: where steps fall, the code around changes no token, and a slash is read again in its place, a
-/// script or a module that is read within a limit of nesting, from the first token of a good source on,
-/// is the only one that derives tokens which the source hands out, and what derives such tokens within
-/// the limit is read. Where a token is unexpected no tree of any nesting does, and where reading is too
-/// deep each that does nests deeper.
+/// Law: where steps fall and the code around changes no token, a script or a module that is read within a
+/// limit of nesting, from the first token of a good source on, is the only one that derives tokens which
+/// the source hands out, and what derives such tokens within the limit is read. Where a token is
+/// unexpected no tree of any nesting does, and where reading is too deep each that does nests deeper.
 #[tactic(auto)]
-pub fn first_law<I: Reread>()
-    ensures settled { FirstSettled I.machine I.good I.same I.last }
+pub fn first_law<I: Tokened>()
+    ensures settled { FirstSettled I.machine I.good I.same }
+{}
+
+/// Law: a list of tokens is such a source, whatever it is told. In the order of their places it hands out
+/// its tokens and no others, so what is read of it within a limit of nesting is the only script or module
+/// that is derived from the whole list.
+#[tactic(auto)]
+pub fn list_law()
+    ensures constant { ListConstant }
+    ensures hands { ListHands }
+    ensures settled { ListsSettled }
 {}
 
 /// Law: a script or a module that is read within a limit of nesting, through a lexer that stands at the
@@ -56,8 +68,8 @@ pub fn text_law()
     ensures settled { TextsSettled }
 {}
 
-/// What a parser reads from, as a source of tokens: which of its states are good, which are the same, and
-/// which token was the last; and what an entry answers, with its tree.
+/// What a parser reads from, as a source of tokens: which of its states are good, and which are the same;
+/// and what an entry answers, with its tree.
 pub trait Entered {
     ghost Input: { Type 0 };
 
@@ -71,8 +83,6 @@ pub trait Entered {
 
     ghost same: { Source State → Source State → Type 0 };
 
-    ghost last: { Option Spot → Source State → Type 0 };
-
     ghost Answer: { Type 0 };
 
     ghost view: { Answer → Tree };
@@ -85,10 +95,11 @@ pub trait Entered {
 /// each that is derived nests deeper, and then no fault is recorded.
 #[tactic(auto)]
 pub fn entries_law<I: Entered>()
-    ensures answer { EntriesAnswer I.machine I.state I.good I.same I.last I.view }
+    ensures answer { EntriesAnswer I.machine I.state I.good I.same I.view }
 {}
 
-/// What a parser reads a text by, with what stands behind it; and what an entry answers, with its tree.
+/// What a parser reads a text by, a lexer or a `Capturing` of one, with what stands behind it; and what an
+/// entry answers, with its tree.
 pub trait Lexed {
     ghost Input: { Type 0 };
 
@@ -108,4 +119,68 @@ pub trait Lexed {
 pub fn texts_law<I: Lexed>()
     ensures answer { TextsAnswered I.state I.view }
     ensures made { NewAnswered I.state I.view }
+{}
+
+/// What a parser reads a list of tokens by, a `TokensInput` or a `Capturing` of one, with what stands behind
+/// it; and what an entry answers, with its tree.
+pub trait Listed {
+    ghost Input: { Type 0 };
+
+    ghost state: { Input → Source (List Spot) };
+
+    ghost Answer: { Type 0 };
+
+    ghost view: { Answer → Tree };
+}
+
+/// Law: a new parser of a list of tokens, which stand in the order of their places, answers a script or a
+/// module, and records no fault, exactly where that is the tree which is derived from the whole list,
+/// within the limit and with no early error, but for want of memory; no other tree is derived from it. A
+/// fault of another kind than want of memory and too deep is answered only where no tree of any nesting
+/// is, too deep only where each that is nests deeper, and then no fault is recorded. So it is of a parser
+/// over what `TokensInput::new` made, by what that promises.
+#[tactic(auto)]
+pub fn lists_law<I: Listed>()
+    ensures answer { ListsAnswered I.state I.view }
+    ensures made { NewListAnswered I.state I.view }
+{}
+
+/// Law: of a text of which neither script nor module is said, a new parser answers a tree, and records no
+/// fault, exactly where it is the tree that is chosen (`TreeChosen`): the module that spells the text and
+/// tells that it is one; or the script, where there is none. Where there is none the answer is else that
+/// of the script. Of want of memory nothing is said.
+#[tactic(auto)]
+pub fn chosen_law<I: Lexed>()
+    ensures answer { TextsChosen I.state }
+    ensures made { NewChosen I.state }
+{}
+
+/// Law: the same of a list of tokens, which stand in the order of their places.
+#[tactic(auto)]
+pub fn list_chosen_law<I: Listed>()
+    ensures answer { ListsChosen I.state }
+    ensures made { NewListChosen I.state }
+{}
+
+/// What a parser reads from where neither script nor module is said, as a source of tokens: which of its
+/// states are good as either, and which are the same.
+pub trait Undecided {
+    ghost Input: { Type 0 };
+
+    ghost State: { Type 0 };
+
+    ghost machine: { Machine State };
+
+    ghost state: { Input → Source State };
+
+    ghost good: { Bool → Source State → Type 0 };
+
+    ghost same: { Source State → Source State → Type 0 };
+}
+
+/// Law: the same of any source of tokens, which, told the code of either, ends, changes no token by the code
+/// around, and hands out its tokens in the order of their places.
+#[tactic(auto)]
+pub fn source_chosen_law<I: Undecided>()
+    ensures answer { SourcesChosen I.machine I.state I.good I.same }
 {}

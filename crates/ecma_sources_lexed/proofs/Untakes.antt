@@ -55,14 +55,14 @@ module _ {S : Type 0} (m : tokens.Machine S) where
       slash : is_slash u.token.kind ≡ true
       slash = ap (λ (z : Spot). is_slash z.token.kind) here ∙ r.0
 
-      abbrev x : Option Spot × Source S
+      x : Option Spot × Source S
       x = m.step (asked (Some u.lo) s)
 
-      abbrev Came : Type 0
+      Came : Type 0
       Came = (x.0 ≡ Some t) × HandsOut (machine_of m) ps (read_on (m.step (asked None x.1)) t.hi)
 
       -- from a front that shows this token first
-      abbrev Shown : Front S → Type 0
+      Shown : Front S → Type 0
       Shown o = places m 2 o.first o.behind ≡ place_of t ∷ rs → HandsOut (machine_of m) ps (after_by m o.first o.behind o) → Came
 
       -- a slash that stays is no regular expression

@@ -66,10 +66,10 @@ module _ {S : Type 0} {m : Machine S} {Good : Source S → Type 0} {Same : Sourc
   operand_on None s t n o e = (refl, s, t, refl, refl, e)
   operand_on (Some u) s t n o e = by_kind (is_slash u.token.kind)
     where
-      abbrev x : Option Spot × Source S
+      x : Option Spot × Source S
       x = m.step (asked (Some u.lo) s)
 
-      abbrev y : Option Spot × Source S
+      y : Option Spot × Source S
       y = m.step (asked (Some u.lo) t)
 
       first : x.0 ≡ y.0
@@ -169,7 +169,7 @@ module _ {S : Type 0} {m : Machine S} {Good : Source S → Type 0} {Same : Sourc
   operand_falls None s n g = le_refl _
   operand_falls (Some t) s n g = by_kind (is_slash t.token.kind) (in_place t (m.step (asked (Some t.lo) s)).0)
     where
-      abbrev again : Bool → Bool → Front S
+      again : Bool → Bool → Front S
       again b c = cond b (cond c (read_on (withdrawn (m.step (asked (Some t.lo) s))) n) (front (Some t) s n)) (front (Some t) s n)
 
       by_kind : (b c : Bool) → one_in (again b c).first + bound_in m (again b c).behind ≤ 1 + m.bound s.tokens

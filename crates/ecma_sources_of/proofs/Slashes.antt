@@ -62,7 +62,7 @@ module _ {S : Type 0} {m : Machine S} {Good : Source S → Type 0} {Same : Sourc
   reread_on None s n p o ps os e k h = absurd (no_tokens p ps e)
   reread_on (Some t) s n p o ps os e k h = by_kind (is_slash t.token.kind) slash h
     where
-      abbrev x : Option Spot × Source S
+      x : Option Spot × Source S
       x = m.step (asked (Some t.lo) s)
 
       here : place_of t ≡ p
@@ -71,7 +71,7 @@ module _ {S : Type 0} {m : Machine S} {Good : Source S → Type 0} {Same : Sourc
       slash : is_slash t.token.kind ≡ true
       slash = ap (λ (z : Place). is_slash z.spot.token.kind) here ∙ k
 
-      abbrev Says : Front S → Type 0
+      Says : Front S → Type 0
       Says r = places m 2 r.first r.behind ≡ o ∷ os → (o.spot.token.kind ≡ error_kind) ⊎ (Rereads p o ⊎ (r ≡ front (Some t) s n))
 
       taken : (u : Spot) → in_place t (Some u) ≡ true → place_of u ≡ o → (r : Front S) → (o.spot.token.kind ≡ error_kind) ⊎ (Rereads p o ⊎ (r ≡ front (Some t) s n))

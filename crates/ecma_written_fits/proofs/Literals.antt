@@ -121,9 +121,10 @@ decimal_safe : (c : ℕ) → is_decimal c ≡ true → (is_safe c ≡ true) × (
 decimal_safe c h =
     let a = or_none (c == 47) _ (not_among (47 ∷ 60 ∷ 45 ∷ []) c leads_no h) in
     let b = or_none (c == 60) _ a.1 in
-    let d = or_none (c == 45) false b.1 in
-    (ap not (not_among (33 ∷ 35 ∷ 38 ∷ 42 ∷ 43 ∷ 45 ∷ 47 ∷ 60 ∷ 61 ∷ 62 ∷ 63 ∷ 124 ∷ []) c unsafe_no h),
-    both_false (is_white_space c) _ (not_among white_space c white_no h) (both_false (is_line_terminator c) _ (not_among line_terminators c terminators_no h) (both_false (c == 47) _ a.0 (both_false (c == 60) _ b.0 d.0))))
+    let d = or_none (c == 45) false b.1 in (
+      ap not (not_among (33 ∷ 35 ∷ 38 ∷ 42 ∷ 43 ∷ 45 ∷ 47 ∷ 60 ∷ 61 ∷ 62 ∷ 63 ∷ 124 ∷ []) c unsafe_no h),
+      both_false (is_white_space c) _ (not_among white_space c white_no h) (both_false (is_line_terminator c) _ (not_among line_terminators c terminators_no h) (both_false (c == 47) _ a.0 (both_false (c == 60) _ b.0 d.0))),
+    )
 
 number_safe : (text : List ℕ) → is_number_start text ≡ true → (c : ℕ) × (ds : List ℕ) × (text ≡ c ∷ ds) × (is_safe c ≡ true) × (is_lead c ≡ false)
 number_safe [] e = absurd (false≢true e)
@@ -201,7 +202,7 @@ regex_fits bytes body flags u e b f =
     let first = body_front body b in
     let spelled : (rest : List ℕ) → (47 ∷ body ++ 47 ∷ flags) ++ rest ≡ 47 ∷ body ++ 47 ∷ (flags ++ rest) = λ rest. ap (λ (l : List ℕ). 47 ∷ l) (append_assoc body (47 ∷ flags) rest) in
     let reads : (rest : List ℕ) → Ends is_name_part rest → IsLexeme RegExp ((47 ∷ body ++ 47 ∷ flags) ++ rest) x rest =
-        λ rest h. inr (inl (refl, (body, flags, (b, (flags ++ rest, spelled rest, (refl, f, h))), refl))) in record {
+    λ rest h. inr (inl (refl, (body, flags, (b, (flags ++ rest, spelled rest, (refl, f, h))), refl))) in record {
       kind_of = tt;
       utf8 = u;
       lexeme = x;

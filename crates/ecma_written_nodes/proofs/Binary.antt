@@ -153,7 +153,6 @@ module _ (look : Look) where
       by true = gaps_or look (starts_with_word x) o
       by false = when_goes (gap_of_unary k x) (λ t. ends (blanks o) (λ u e. inr e)) (λ n. inl (n, refl))
 
-
   pub unary : (sp : Span) (k : ℕ) (x : Tree) → Sound look x → Sound look (unary_expr sp k x)
   unary sp k x f c ts r h st s a =
       let z = signs_of k h.1 in
@@ -191,7 +190,13 @@ end_takes _ e = absurd (false≢true e)
 
 plain_operates : (k : ℕ) → Fits Div (operator_text k) Operator → 4 ≤ binary_level k → 4 ≤ right_level k → Operates k
 plain_operates k f l r = record {
-  class = Operator; last = Operated; fits = f; low = l; right_low = r; after = λ v. refl; open_after = refl;
+  class = Operator;
+  last = Operated;
+  fits = f;
+  low = l;
+  right_low = r;
+  after = λ v. refl;
+  open_after = refl;
   left = λ st a v e n g. (end_takes v (leaves_end st a v e)).0;
   clear = refl;
   right = λ b i g. tight_unstarred b i;
@@ -200,7 +205,13 @@ plain_operates k f l r = record {
 slash_operates : Operates div_kind
 unfolding operator_text
 slash_operates = record {
-  class = Slash; last = Slashed; fits = slash_mark; low = omega arith; right_low = omega arith; after = λ v. refl; open_after = refl;
+  class = Slash;
+  last = Slashed;
+  fits = slash_mark;
+  low = omega arith;
+  right_low = omega arith;
+  after = λ v. refl;
+  open_after = refl;
   left = λ st a v e n g. (end_takes v (leaves_end st a v e)).1;
   clear = refl;
   right = λ b i g. both_true (is_tight b) _ i (ap not g);
@@ -209,7 +220,13 @@ slash_operates = record {
 less_operates : Operates lt_kind
 unfolding operator_text
 less_operates = record {
-  class = Less; last = Lessed; fits = less_mark; low = omega arith; right_low = omega arith; after = λ v. refl; open_after = refl;
+  class = Less;
+  last = Lessed;
+  fits = less_mark;
+  low = omega arith;
+  right_low = omega arith;
+  after = λ v. refl;
+  open_after = refl;
   left = λ st a v e n g. (end_takes v (leaves_end st a v e)).2;
   clear = refl;
   right = λ b i g. both_true (is_tight b) _ i (ap not ((or_none (is_not_of_decrement (first_operand b)) _ g).0));
@@ -218,7 +235,13 @@ less_operates = record {
 plus_operates : Operates add_kind
 unfolding operator_text
 plus_operates = record {
-  class = Plus; last = Plused; fits = plus_mark; low = omega arith; right_low = omega arith; after = λ v. refl; open_after = refl;
+  class = Plus;
+  last = Plused;
+  fits = plus_mark;
+  low = omega arith;
+  right_low = omega arith;
+  after = λ v. refl;
+  open_after = refl;
   left = λ st a v e n g. (end_takes v (leaves_end st a v e)).3;
   clear = refl;
   right = λ b i g. both_true (is_tight b) _ i (ap not ((or_none (is_plus (first_operand b)) _ g).0));
@@ -227,7 +250,13 @@ plus_operates = record {
 minus_operates : Operates sub_kind
 unfolding operator_text
 minus_operates = record {
-  class = Minus; last = Minused; fits = minus_mark; low = omega arith; right_low = omega arith; after = λ v. refl; open_after = refl;
+  class = Minus;
+  last = Minused;
+  fits = minus_mark;
+  low = omega arith;
+  right_low = omega arith;
+  after = λ v. refl;
+  open_after = refl;
   left = λ st a v e n g. (end_takes v (leaves_end st a v e)).4;
   clear = refl;
   right = λ b i g. both_true (is_tight b) _ i (ap not ((or_none (is_minus (first_operand b)) _ g).0));
@@ -241,7 +270,13 @@ free_wordless _ e = absurd (false≢true e)
 
 word_operates : (k : ℕ) → Fits Div (operator_text k) Word → 4 ≤ binary_level k → 4 ≤ right_level k → is_word_operator k ≡ true → Operates k
 word_operates k f l r w = record {
-  class = Word; last = Worded; fits = f; low = l; right_low = r; after = λ v. refl; open_after = refl;
+  class = Word;
+  last = Worded;
+  fits = f;
+  low = l;
+  right_low = r;
+  after = λ v. refl;
+  open_after = refl;
   left = λ st a v e n g. free_wordless v (leaves_wordless st a v (and_first_off (ends_with_word a) (not (is_ended a)) (and_of (is_word_operator k) (ends_with_word a) w (or_none _ _ g).0)) e);
   clear = refl;
   right = λ b i g. worded_admits b (and_of (is_word_operator k) (starts_with_word b) w (or_none _ _ g).0) (tight_opens b i);
@@ -268,13 +303,76 @@ binary_kinds = eq_eq_kind ∷ not_eq_kind ∷ eq_eq_eq_kind ∷ not_eq_eq_kind �
 
 all_operate : AllOf binary_kinds Operates
 unfolding AllOf binary_kinds operator_text
-all_operate = (plain_kind eq_eq_kind equal_mark refl refl, (plain_kind not_eq_kind not_equal_mark refl refl, (plain_kind eq_eq_eq_kind same_mark refl refl, (plain_kind not_eq_eq_kind not_same_mark refl refl,
-    (less_operates, (plain_kind lt_eq_kind less_equal_mark refl refl, (plain_kind gt_kind greater_mark refl refl, (plain_kind gt_eq_kind greater_equal_mark refl refl,
-    (plain_kind left_shift_kind shift_left_mark refl refl, (plain_kind right_shift_kind shift_right_mark refl refl, (plain_kind zero_fill_right_shift_kind zero_fill_mark refl refl,
-    (plus_operates, (minus_operates, (plain_kind mul_kind times_mark refl refl, (slash_operates, (plain_kind mod_kind rest_mark refl refl,
-    (plain_kind bit_or_kind bit_or_mark refl refl, (plain_kind bit_xor_kind bit_xor_mark refl refl, (plain_kind bit_and_kind bit_and_mark refl refl, (plain_kind exp_kind power_mark refl refl,
-    (plain_kind logical_or_kind or_mark refl refl, (plain_kind logical_and_kind and_mark refl refl, (plain_kind nullish_coalescing_kind coalesce_mark refl refl,
-    (word_kind in_kind in_word refl refl refl, (word_kind instanceof_kind instanceof_word refl refl refl, tt)))))))))))))))))))))))))
+all_operate = (
+  plain_kind eq_eq_kind equal_mark refl refl,
+  (
+    plain_kind not_eq_kind not_equal_mark refl refl,
+    (
+      plain_kind eq_eq_eq_kind same_mark refl refl,
+      (
+        plain_kind not_eq_eq_kind not_same_mark refl refl,
+        (
+          less_operates,
+          (
+            plain_kind lt_eq_kind less_equal_mark refl refl,
+            (
+              plain_kind gt_kind greater_mark refl refl,
+              (
+                plain_kind gt_eq_kind greater_equal_mark refl refl,
+                (
+                  plain_kind left_shift_kind shift_left_mark refl refl,
+                  (
+                    plain_kind right_shift_kind shift_right_mark refl refl,
+                    (
+                      plain_kind zero_fill_right_shift_kind zero_fill_mark refl refl,
+                      (
+                        plus_operates,
+                        (
+                          minus_operates,
+                          (
+                            plain_kind mul_kind times_mark refl refl,
+                            (
+                              slash_operates,
+                              (
+                                plain_kind mod_kind rest_mark refl refl,
+                                (
+                                  plain_kind bit_or_kind bit_or_mark refl refl,
+                                  (
+                                    plain_kind bit_xor_kind bit_xor_mark refl refl,
+                                    (
+                                      plain_kind bit_and_kind bit_and_mark refl refl,
+                                      (
+                                        plain_kind exp_kind power_mark refl refl,
+                                        (
+                                          plain_kind logical_or_kind or_mark refl refl,
+                                          (
+                                            plain_kind logical_and_kind and_mark refl refl,
+                                            (
+                                              plain_kind nullish_coalescing_kind coalesce_mark refl refl,
+                                              (word_kind in_kind in_word refl refl refl, (word_kind instanceof_kind instanceof_word refl refl refl, tt)),
+                                            ),
+                                          ),
+                                        ),
+                                      ),
+                                    ),
+                                  ),
+                                ),
+                              ),
+                            ),
+                          ),
+                        ),
+                      ),
+                    ),
+                  ),
+                ),
+              ),
+            ),
+          ),
+        ),
+      ),
+    ),
+  ),
+)
 
 -- a level is that of one of these
 among_binary : (k : ℕ) → nat_le 1 (binary_level k) ≡ true → is_among binary_kinds k ≡ true

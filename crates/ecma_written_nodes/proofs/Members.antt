@@ -64,7 +64,6 @@ module _ (look : Look) where
       mark ▸ at ((mark ▸ at (committed ▸ at (mark ▸ at (text_by Number f (number_admits look s at' v w (head_admits s (member_expr sp (number_lit at' v w) (computed_prop_name bp e)) (number_lit at' v w) (omega arith) refl refl refl a)))))) ▸ at (no_point look (computed_prop_name bp e) refl ▸ at
       (bracketed look bp e g Alone Numbered refl ▸ at (leaving st (member_expr sp (number_lit at' v w) (computed_prop_name bp e)) mark refl))))
 
-
   -- ---- any object
 
   -- the texts of a number as an object

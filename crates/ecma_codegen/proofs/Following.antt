@@ -1,0 +1,38 @@
+-- Layouts that are emitted one after the other.
+use Rattle.std.proofs.Common.{◌≡◌, ℕ, Bool, true, false, ◌||◌, List, [], ◌∷◌, None, refl, sym, ap, ◌∙◌}
+use Rattle.ecma_tree.specs.Tree.{Trees, none, more}
+use Rattle.ecma_write.specs.States.{State}
+use Rattle.ecma_pieces.specs.Pieces.{Piece, Text, call, calls}
+use Rattle.ecma_layout.specs.declared.look.Look.{Look}
+use Rattle.ecma_layout.specs.declared.look.Stand.TheVariants.{Alone}
+use Rattle.ecma_layout.specs.Looks.{Laid, ◌·◌, nothing, one, meant, both, refused, texts_of, texts_before, listed, is_refused}
+use Rattle.ecma_layout.specs.Layout.{laid, closing, statements}
+use Rattle.ecma_codegen.specs.Emits.{emitted}
+use Rattle.ecma_codegen.specs.Items.{item_laid, items_emitted, ItemsAreProgram}
+use Rattle.ecma_codegen.proofs.Emitting.{or_left, or_right}
+
+texts_then : (texts : List (List ℕ)) (rest : List Piece) (s : State) → calls (texts_before texts rest) s ≡ calls rest (calls (texts_before texts []) s)
+texts_then [] rest s = refl
+texts_then (own ∷ others) rest s = texts_then others rest (call (Text None own) s)
+
+-- what stands behind a layout is emitted behind it
+then_rest : (l : Laid) (rest : List Piece) (s : State) → is_refused l ≡ false → calls (listed l rest) s ≡ calls rest (emitted l s)
+then_rest nothing rest s e = refl
+then_rest (one x) rest s e = refl
+then_rest (meant m) rest s e = texts_then (texts_of m) rest s
+then_rest (both f g) rest s e =
+    let x = or_left (is_refused f) (is_refused g) e in
+    then_rest f (listed g rest) s x ∙ then_rest g rest (emitted f s) (or_right (is_refused f) (is_refused g) e) ∙ ap (calls rest) (sym (then_rest f (listed g []) s x))
+then_rest refused rest s e = absurd (cc)
+
+pub items_are_program : ItemsAreProgram
+items_are_program look none s e = refl
+items_are_program look (more t ts) s e =
+    let f = laid look Alone t in
+    let rest : is_refused (closing look t · statements look ts) ≡ false = or_right (is_refused f) _ e in
+    let x = or_left (is_refused f) _ e in
+    let y = or_left (is_refused (closing look t)) _ rest in
+    then_rest f (listed (closing look t · statements look ts) []) s x
+    ∙ then_rest (closing look t) (listed (statements look ts) []) (emitted f s) y
+    ∙ ap (emitted (statements look ts)) (sym (then_rest f (listed (closing look t) []) s x))
+    ∙ items_are_program look ts (emitted (item_laid look t) s) (or_right (is_refused (closing look t)) _ rest)

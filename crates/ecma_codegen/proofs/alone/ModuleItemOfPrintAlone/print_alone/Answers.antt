@@ -1,0 +1,5 @@
+use Rattle.ecma_printer.proofs.Steps.{◌▸◌}
+use Rattle.ecma_codegen.proofs.alone.ModuleItemOfPrintAlone.print_alone.Goals as goal
+
+pub returns : goal.returns
+returns g c = c.print.ensures.laid ▸ c.print_closing.ensures

@@ -1,0 +1,94 @@
+-- The theorem, from the laws of its steps.
+use Rattle.std.proofs.Common.{◌≡◌, ◌≤◌, ℕ, Bool, true, not, List, [], Some, None, refl, sym, ap, subst, ◌∙◌}
+use lib.Utf8.{scalars}
+use Rattle.ecma_tree.specs.Tree.{Tree, script, es_module, tpl}
+use Rattle.ecma_syntax.specs.Input.{Input, Code, unplaced}
+use Rattle.ecma_grammar.specs.Grammar.{Spells}
+use Rattle.ecma_grammar_placed.proofs.PlacedLemmas.{has_places}
+use Rattle.ecma_grammar_templates.proofs.Braces.{programs_match}
+use Rattle.ecma_spells.specs.Tiled.{Tile}
+use Rattle.ecma_spells.specs.Text.{Setting, Reads, TreeSpells, code_of, is_of_goal, text_start}
+use Rattle.ecma_spells_one.proofs.OneLemmas.{one_tree_reads}
+use Rattle.ecma_write.specs.Pages.{Page}
+use Rattle.ecma_layout.specs.declared.look.Look.{Look}
+use Rattle.ecma_layout.specs.declared.look.Stand.TheVariants.{Alone}
+use Rattle.ecma_layout.specs.Looks.{commit, start, when, ◌·◌}
+use Rattle.ecma_layout.specs.Layout.{is_empty, laid, statements}
+use Rattle.ecma_written.specs.Gaps.{Spaced}
+use Rattle.ecma_written.proofs.Bridge.{bridge}
+use Rattle.ecma_written.proofs.Known.{tokens_are_known}
+use Rattle.ecma_written_tiles.specs.Laws.{IsTiled}
+use Rattle.ecma_written_tiles.specs.Tiles.{SaysTiles, IsEmptyPage}
+use Rattle.ecma_written_tiles.proofs.Retiled.{tiles_again}
+use Rattle.ecma_written_tiles.proofs.Texts.{layouts_are_tiled, hashbangs_are_tiled}
+use Rattle.ecma_lexicon.proofs.Filled.{texts_mean}
+use Rattle.ecma_redone.specs.Redo.{Mode, Plain, kept}
+use Rattle.ecma_redone.specs.Every.{every}
+use Rattle.ecma_redone.specs.Faithful.{HasElements}
+use Rattle.ecma_redone.specs.Read.{Knowledge, Read}
+use Rattle.ecma_redone.specs.Written.{leaves_of}
+use Rattle.ecma_redone.proofs.Early.{legal_alike}
+use Rattle.ecma_redone.proofs.Found.{found}
+use Rattle.ecma_redone.proofs.Mapped.{mapped}
+use Rattle.ecma_redone.proofs.Programs.{same_program}
+use Rattle.ecma_redone.proofs.Shapes.{clean_alike, nests_alike}
+use Rattle.ecma_redone_texts.proofs.Derived.{derived_is_read}
+use Rattle.ecma_redone_texts.proofs.Leaves.{read_is_faithful}
+use Rattle.ecma_redone_whole.specs.Laws.{is_program}
+use Rattle.ecma_redone_whole.proofs.Programs.{derived_again}
+use Rattle.ecma_readback.specs.Laws.{GoingIsReadBack, IsReadBack, ProgramGoes}
+use Rattle.ecma_readback.proofs.Shapes.{redone_goal, goal_is_program, program_is_no_quasi, programmed, goal_is_placed, placed_again, same_tokens, start_is_silent}
+
+-- ---- what is written is tiled by tokens that the layout says
+
+tiled : (look : Look) (modules : Bool) (t : Tree) (p : Page) → ProgramGoes look t → IsEmptyPage p → IsTiled text_start modules (laid look Alone t) p
+tiled look modules (script s ss None) p g m = layouts_are_tiled text_start modules _ p m g
+tiled look modules (script s ss (Some own)) p g m = hashbangs_are_tiled text_start modules (when (is_empty ss) (start s)) own (statements look ss · when (not look.omits_last) commit) p m (start_is_silent (is_empty ss) s) g.0 g.1
+tiled look modules (es_module s ss None) p g m = layouts_are_tiled text_start modules _ p m g
+tiled look modules (es_module s ss (Some own)) p g m = hashbangs_are_tiled text_start modules (when (is_empty ss) (start s)) own (statements look ss · when (not look.omits_last) commit) p m (start_is_silent (is_empty ss) s) g.0 g.1
+tiled look modules _ p g m = absurd g
+
+-- ---- the pieces of a template that is derived are pieces
+
+abbrev anything : Knowledge
+anything = record { Known = λ ps. Unit {0}; later = λ ts m e k. tt }
+
+elements : (m : Mode) (t : Tree) → Read (λ ps. Unit {0}) m t → HasElements m t
+elements m (tpl s es qs) h = h
+elements m _ h = tt
+
+has_elements : (t : Tree) (c : Code) (ts r : Input) → is_program t ≡ true → Spells t c ts r → every HasElements Plain t
+has_elements t c ts r i h = mapped (Read anything.Known) HasElements elements Plain t (found anything t Plain refl (program_is_no_quasi t i) c ts r h tt).0
+
+-- ---- one written text
+
+-- Tokens that a layout says, and that tile a text, are derived again by a tree of the same program, and by no other.
+written : (look : Look) (x : Setting) (modules : Bool) (t : Tree) (text out : List ℕ) → scalars text ≡ true → TreeSpells x modules t text → SaysTiles text_start modules (laid look Alone t) out → IsReadBack x modules t out
+written look x modules t text out e h w =
+    let c : Code = code_of modules x.syntax in
+    let d = h.reads.4.0 in
+    let i = goal_is_program modules t h.reads.2 in
+    let k = tokens_are_known text_start modules text h.reads.0 e h.reads.3 in
+    let ts : Input = record { last = text_start; places = w.places } in
+    let q = bridge (laid look Alone t) Spaced w.gap ts w.over (λ b m. m.places ≡ []) w.says w.all in
+    let b = derived_again look (texts_mean look.style) t i c (record { last = text_start; places = h.reads.0 }) h.reads.1 d k Spaced ts q in
+    let u = b.0 in
+    let a = b.3 in
+    let g : is_of_goal modules u ≡ true = sym (redone_goal modules kept Plain u) ∙ (ap (λ v. is_of_goal modules v) (a.so Plain) ∙ (redone_goal modules (leaves_of look) Plain t ∙ h.reads.2)) in
+    let j = goal_is_program modules u g in
+    let o = has_places (unplaced c) u ts b.1 b.2 in
+    let s : Spells u c (record { last = text_start; places = o.0 }) b.1 = subst (λ (v : Code). Spells u v (record { last = text_start; places = o.0 }) b.1) (placed_again modules x.syntax) o.2 in
+    let f : Tile text_start modules out o.0 = tiles_again text_start modules out w.places o.0 w.tiles w.goals (same_tokens w.places o.0 o.1) (programs_match u c _ b.1 (goal_is_placed modules x.syntax) (programmed u c _ b.1 j s)) in
+    let y = read_is_faithful look Plain t (derived_is_read Plain t c _ h.reads.1 refl (program_is_no_quasi t i) d k) in
+    let z : Reads modules x.syntax u out = (o.0, b.1, g, f, (s, clean_alike look Plain t u a ∙ h.reads.4.1)) in
+    record {
+      tree = u;
+      spells = record { reads = z; clean = legal_alike look Plain t u y a x.syntax h.clean; within = subst (λ n. n ≤ x.limit) (sym (nests_alike look Plain t u a)) h.within };
+      same = same_program look Plain t u y (has_elements u c _ b.1 j s) a;
+      only = λ v n. one_tree_reads modules x.syntax v u out n z;
+    }
+
+pub going_is_read_back : GoingIsReadBack
+going_is_read_back go look n x modules t text p e h m =
+    let w = tiled look modules t p (go look n modules x.syntax t text e h.reads) m in
+    (written look x modules t text _ e h w.0, written look x modules t text _ e h w.1)

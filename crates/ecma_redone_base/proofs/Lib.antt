@@ -1,0 +1,11 @@
+pub mod Shapes
+pub mod Levels
+pub mod Follow
+pub mod Begins
+pub mod Tokens
+pub mod Sound
+pub mod Lists
+pub mod Ends
+pub mod Bodies
+pub mod Names
+pub mod KeyParts

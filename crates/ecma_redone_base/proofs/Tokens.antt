@@ -1,0 +1,149 @@
+-- The tokens that a layout says, one at a time: what the grammar takes, and pieces that say no token.
+use Rattle.std.proofs.Common.{Bool, List, [], ap, arith, codes, false, inl, inr, refl, subst, sym, true, true≢false, ℕ, ◌&&◌, ◌||◌, ◌∙◌, ◌∷◌, ◌≡◌, ◌⊎◌}
+use Rattle.ecma_token.specs.Kinds.{name_kind, semicolon_kind}
+use Rattle.ecma_token.specs.declared.context.Context.{Context}
+use Rattle.ecma_token.specs.declared.place.BytePos.{BytePos}
+use Rattle.ecma_lexeme.specs.declared.goal.LexicalGoal.TheVariants.{Div}
+use Rattle.ecma_syntax.specs.Input.{Code, Input, Takes, TakesAnyWord, TakesName, TakesWord, content, escaped, is_word, kind, no_name, strict_reserved, unplaced}
+use Rattle.ecma_syntax.specs.Operators.{pauses}
+use Rattle.ecma_grammar.specs.Parts.{Ends}
+use Rattle.ecma_pieces.specs.Pieces.{Back, Blank, Brace, Commit, Deeper, Line, Mark, Piece, Semicolon, Text}
+use Rattle.ecma_layout.specs.Literals.{name_bytes}
+use Rattle.ecma_layout.specs.Looks.{Laid, Meaning, blank, both, hashbang_comment, line_always, meant, nothing, one, refused, regular_expression, semi, template_characters, template_end, touching, when}
+use Rattle.ecma_layout.specs.declared.look.Look.{Look}
+use Rattle.ecma_written.specs.Gaps.{Broken, Gap, Spaced, Touching, blanked, is_broken}
+use Rattle.ecma_written.specs.Lexicon.{Lexicon}
+use Rattle.ecma_written.specs.Means.{Known, Means}
+use Rattle.ecma_written.specs.Says.{SemicolonMayGo}
+use Rattle.ecma_written.specs.Texts.{mark_text, word_text}
+use Rattle.ecma_written.specs.Told.{Told, said, says, says_meaning, says_texts}
+
+-- the gap behind a blank that may be written
+abbrev pub gapped : Bool → Gap → Gap
+gapped true a = blanked a
+gapped false a = a
+
+-- A blank ends no line.
+pub blank_broke : (v : Bool) (a : Gap) → is_broken (gapped v a) ≡ is_broken a
+blank_broke true Touching = refl
+blank_broke true Spaced = refl
+blank_broke true Broken = refl
+blank_broke false a = refl
+
+-- ---- pieces that say no token
+
+pub skip : (v : Bool) (a : Gap) (ts : Input) (K : Gap → Input → Type 0) → says (when v blank) a ts K → K (gapped v a) ts
+skip true a ts K h = h
+skip false a ts K h = h
+
+pub skip_mark : (v : Bool) (pos : BytePos) (a : Gap) (ts : Input) (K : Gap → Input → Type 0) → says (when v (one (Mark pos))) a ts K → K a ts
+skip_mark true pos a ts K h = h
+skip_mark false pos a ts K h = h
+
+pub skip_deeper : (v : Bool) (a : Gap) (ts : Input) (K : Gap → Input → Type 0) → says (when v (one Deeper)) a ts K → K a ts
+skip_deeper true a ts K h = h
+skip_deeper false a ts K h = h
+
+pub skip_back : (v : Bool) (a : Gap) (ts : Input) (K : Gap → Input → Type 0) → says (when v (one Back)) a ts K → K a ts
+skip_back true a ts K h = h
+skip_back false a ts K h = h
+
+pub skip_line : (v : Bool) (a : Gap) (ts : Input) (K : Gap → Input → Type 0) → says (when v line_always) a ts K → (d : Gap) × K d ts
+skip_line true a ts K h = (h.0, h.2)
+skip_line false a ts K h = (a, h)
+
+-- ---- what goes on behind a layout may be told less
+
+texts_map : (ows : List (List ℕ)) (a : Gap) (ts : Input) (K J : Gap → Input → Type 0) → ((d : Gap) (m : Input) → K d m → J d m) → says_texts ows a ts K → says_texts ows a ts J
+texts_map [] a ts K J g h = g a ts h
+texts_map (own ∷ ows) a ts K J g h = (h.0, h.1, texts_map ows Touching h.0 K J g h.2)
+
+meaning_map : (x : Meaning) (a : Gap) (ts : Input) (K J : Gap → Input → Type 0) → ((d : Gap) (m : Input) → K d m → J d m) → says_meaning x a ts K → says_meaning x a ts J
+meaning_map (regular_expression body flags) a ts K J g h = (h.0, h.1, g Touching h.0 h.2)
+meaning_map (template_characters own) a ts K J g h = (h.0, h.1, g Touching h.0 h.2)
+meaning_map (template_end own) a ts K J g h = (h.0, h.1, g Touching h.0 h.2)
+meaning_map (hashbang_comment own) a ts K J g h = (h.0, h.1, g Touching h.0 h.2)
+meaning_map (touching ows) a ts K J g h = texts_map ows a ts K J g h
+
+piece_map : (p : Piece) (a : Gap) (ts : Input) (K J : Gap → Input → Type 0) → ((d : Gap) (m : Input) → K d m → J d m) → said p a ts K → said p a ts J
+piece_map (Text s own) a ts K J g h = (h.0, h.1, g Touching h.0 h.2)
+piece_map (Brace s) a ts K J g h = (h.0, h.1, g Touching h.0 h.2)
+piece_map Blank a ts K J g h = g (blanked a) ts h
+piece_map Line a ts K J g h = (h.0, h.1, g h.0 ts h.2)
+piece_map Deeper a ts K J g h = g a ts h
+piece_map Back a ts K J g h = g a ts h
+piece_map (Semicolon s) a ts K J g (inl h) = inl (h.0, h.1, g Touching h.0 h.2)
+piece_map (Semicolon s) a ts K J g (inr h) = inr (h.0, g a ts h.1)
+piece_map Commit a ts K J g h = g a ts h
+piece_map (Mark pos) a ts K J g h = g a ts h
+
+pub says_map : (f : Laid) (a : Gap) (ts : Input) (K J : Gap → Input → Type 0) → ((d : Gap) (m : Input) → K d m → J d m) → says f a ts K → says f a ts J
+says_map nothing a ts K J g h = g a ts h
+says_map (one p) a ts K J g h = piece_map p a ts K J g h
+says_map (meant x) a ts K J g h = meaning_map x a ts K J g h
+says_map (both f k) a ts K J g h = says_map f a ts (λ d m. says k d m K) (λ d m. says k d m J) (λ d m j. says_map k d m K J g j) h
+says_map refused a ts K J g h = h
+
+-- ---- semicolons (12.10)
+
+-- A semicolon that may go: it is there, or `}` or the end comes.
+pub data Semi (a : Gap) (ts : Input) : Gap → Input → Type 0 where
+  there : {m : Input} → Told Div (codes ";") a ts m → Semi a ts Touching m
+  gone : SemicolonMayGo ts → Semi a ts a ts
+
+pub semi_of : (a : Gap) (ts : Input) (K : Gap → Input → Type 0) → says semi a ts K → (d : Gap) × (m : Input) × Semi a ts d m × K d m
+semi_of a ts K (inl h) = (Touching, h.0, there h.1, h.2)
+semi_of a ts K (inr h) = (a, ts, gone h.0, h.1)
+
+pauses_at : (c : Code) (e : ℕ) (ts : Input) → SemicolonMayGo ts → pauses c e ts ≡ true
+pauses_at c e ts (inl h) = rw h refl
+pauses_at c e ts (inr h) = rw h refl
+
+no_semicolon : (ts : Input) → SemicolonMayGo ts → kind ts ≡ semicolon_kind → ⊥
+no_semicolon ts (inl h) e = absurd (omega arith)
+no_semicolon ts (inr h) e = absurd (omega arith)
+
+-- A word with an escape is barred nowhere if it is no reserved word, and one without is barred nowhere.
+escape_bars : (z : Context) (e : Bool) (k : ℕ) → (e ≡ true → k ≡ name_kind) → (e && (no_name z k || (strict_reserved k && z.strict))) ≡ false
+escape_bars z false k h = refl
+escape_bars z true k h = subst (λ (j : ℕ). (no_name z j || (strict_reserved j && z.strict)) ≡ false) (sym (h refl)) refl
+
+pub unbarred : (z : Context) (e : Bool) (k : ℕ) → e ≡ false → (e && (no_name z k || (strict_reserved k && z.strict))) ≡ false
+unbarred z true k h = absurd (true≢false h)
+unbarred z false k h = refl
+
+module _ (look : Look) (x : Lexicon look.style) where
+  -- a punctuator
+  pub marked : (k : ℕ) {a : Gap} {ts m : Input} → Told Div (mark_text k) a ts m → kind ts ≡ k
+  marked k t = (x.marks k _ _ _ t.means).0
+
+  pub took : (c : Code) (k : ℕ) {a : Gap} {ts m : Input} → Told Div (mark_text k) a ts m → Takes (unplaced c) k ts m
+  took c k t = (marked k t, tt, t.after)
+
+  -- a word of the grammar
+  pub keyed : (k : ℕ) {a : Gap} {ts m : Input} → Told Div (word_text k) a ts m → kind ts ≡ k
+  keyed k t = (x.keywords k _ _ _ t.means).0
+
+  pub worded : (c : Code) (k : ℕ) {a : Gap} {ts m : Input} → Told Div (word_text k) a ts m → TakesWord (unplaced c) k ts m
+  worded c k {ts = ts} t = let z = x.keywords k _ _ _ t.means in (z.0, unbarred c.context (escaped ts) (kind ts) z.1, tt, t.after)
+
+  -- any word
+  pub spelled_word : (n : List ℕ) (ts0 r0 ts m : Input) {a : Gap} (c d : Code) → TakesAnyWord c n ts0 r0 → Known ts0.places → Told Div (name_bytes look.style n) a ts m → (kind ts ≡ kind ts0) × TakesAnyWord (unplaced d) n ts m
+  spelled_word n ts0 r0 ts m c d h l t =
+      let z = x.names ts0 _ _ _ l h.0 (subst (λ (w : List ℕ). Means Div (name_bytes look.style w) (kind ts) (content ts) (escaped ts)) (sym h.1) t.means) in
+      (z.0, (ap is_word z.0 ∙ h.0, z.1 ∙ h.1, tt, t.after))
+
+  -- a name
+  pub named : (c : Code) (n : List ℕ) (ts0 r0 ts m : Input) {a : Gap} → TakesName c n ts0 r0 → Known ts0.places → Told Div (name_bytes look.style n) a ts m → (kind ts ≡ kind ts0) × TakesName (unplaced c) n ts m
+  named c n ts0 r0 ts m h l t =
+      let z = x.names ts0 _ _ _ l h.0 (subst (λ (w : List ℕ). Means Div (name_bytes look.style w) (kind ts) (content ts) (escaped ts)) (sym h.3) t.means) in
+      (z.0, (ap is_word z.0 ∙ h.0, ap (λ (k : ℕ). no_name c.context k) z.0 ∙ h.1, escape_bars c.context (escaped ts) (kind ts) z.2, z.1 ∙ h.3, tt, t.after))
+
+  -- what ends a statement
+  pub ended : (c : Code) (e : ℕ) {a : Gap} {ts : Input} {d : Gap} {m : Input} → Semi a ts d m → Ends (unplaced c) e ts m
+  ended c e (there t) = inl (took c semicolon_kind t)
+  ended c e {ts = ts} (gone h) = inr (no_semicolon ts h, pauses_at (unplaced c) e ts h, refl)
+
+  pub ended_kind : {a : Gap} {ts : Input} {d : Gap} {m : Input} → Semi a ts d m → (kind ts ≡ semicolon_kind) ⊎ SemicolonMayGo ts
+  ended_kind (there t) = inl (marked semicolon_kind t)
+  ended_kind (gone h) = inr h

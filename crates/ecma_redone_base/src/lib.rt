@@ -1,0 +1,2 @@
+//! What a layout says is derived again: the forms that all productions share.
+#![tactic(auto)]

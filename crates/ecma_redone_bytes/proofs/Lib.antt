@@ -1,0 +1,6 @@
+pub mod Questions
+pub mod Literals
+pub mod Parts
+pub mod Layouts
+pub mod Again
+pub mod Laws

@@ -1,0 +1,12 @@
+pub mod Heads
+pub mod Primary
+pub mod Binary
+pub mod Calls
+pub mod Members
+pub mod New
+pub mod Chains
+pub mod Operators
+pub mod Sequences
+pub mod Assignments
+pub mod Templates
+pub mod Yield

@@ -1,0 +1,92 @@
+"""Whole runs of the library from a reader to a writer that take pieces and fail, each call in turn; and settings that are refused."""
+from asking import Ask, only
+from rows import difference
+
+TEXT = b"""foo( 1000 , 'a"b' ) * (x + 12) ; y"""
+WRITTEN = b"""foo(1e3,'a"b')*(x+12);y"""
+
+
+def run(words, text=TEXT):
+    return Ask("ecma-program-answers", " ".join(["run", *words]), (text,))
+
+
+def told(fault, output, kept, reads, writes):
+    """What is told of a run: why it ended, the output, what was read, and how many calls were made and failed."""
+    counts = (f"{reads[0]} reads, {reads[1]} failed", f"{writes[0]} writes, {writes[1]} failed")
+    return [fault.encode(), output, kept, *(it.encode() for it in counts)]
+
+
+def all_are(asked, wanted):
+    """These runs end as they are wanted to."""
+    for question, answer, want in zip(asked, (yield asked), wanted):
+        if wrong := difference(want, only(answer)):
+            return f"{question.setting}: {wrong}"
+    return None
+
+
+def read_fails(piece):
+    """A read that fails writes nothing, and leaves what was read before it; one that would fail behind the end doesn't."""
+    reads = -(-len(TEXT) // piece) + 1
+    asked = [run([f"read={piece}", "written=1", f"read_fails={at}"]) for at in range(1, reads + 2)]
+    wanted = [told("read failed", b"", TEXT[: piece * (at - 1)], (at, 1), (0, 0)) for at in range(1, reads + 1)]
+    return (yield from all_are(asked, [*wanted, told("written", WRITTEN, TEXT, (reads, 0), (len(WRITTEN), 0))]))
+
+
+def write_fails():
+    """A write that fails leaves a beginning, and so does a writer without more room."""
+    size, reads = len(WRITTEN), 2
+    asked = [run(["written=1", f"write_fails={at}"]) for at in range(1, size + 2)]
+    wanted = [told("write failed", WRITTEN[: at - 1], TEXT, (reads, 0), (at, 1)) for at in range(1, size + 1)]
+    wanted.append(told("written", WRITTEN, TEXT, (reads, 0), (size, 0)))
+    asked += [run(["written=1", f"room={room}"]) for room in range(size)]
+    wanted += [told("write failed", WRITTEN[:room], TEXT, (reads, 0), (room + 1, 1)) for room in range(size)]
+    return (yield from all_are(asked, wanted))
+
+
+def pieces():
+    """However the input and the output are cut, the output is the same."""
+    asked = [run([f"read={read}", f"written={written}"]) for read in (1, 2, 3, 7, 64) for written in (1, 2, 5, 64)]
+    for question, answer in zip(asked, (yield asked)):
+        if only(answer)[:3] != [b"written", WRITTEN, TEXT]:
+            return f"{question.setting}: {answer}"
+    return None
+
+
+def nothing_to_write():
+    """An empty output needs no write."""
+    asked = [run(["read=1", "room=0", "write_fails=1"], b" \n")]
+    return (yield from all_are(asked, [told("written", b"", b" \n", (3, 0), (0, 0))]))
+
+
+def settings_refused():
+    """Settings that are refused each alone, before anything is read or written."""
+    words = ["positions", "jsx", "blanks=9", "tabs=9", "blanks=255", "tabs=255", "nesting=0", "nesting=1025", "nesting=4294967295"]
+    asked = [run([it], text) for it in words for text in (b"a", b"a b", b"((((a))))")]
+    return (yield from all_are(asked, [told("options refused", b"", b"", (0, 0), (0, 0))] * len(asked)))
+
+
+def settings_taken():
+    """Their neighbours are taken."""
+    words = ["nesting=3", "nesting=1024", "blanks=0", "blanks=8", "tabs=0", "tabs=8", "module", "es3", "all"]
+    asked = [run([it], b" a ; b ;") for it in words]
+    for question, answer in zip(asked, (yield asked)):
+        if only(answer)[:2] != [b"written", b"a;b"]:
+            return f"{question.setting}: {answer}"
+    return None
+
+
+def messages():
+    """The line that tells each fault."""
+    wanted = (
+        "read failed", "the text is not UTF-8", "the text is too long", "nested too deeply", "out of memory", "write failed",
+        "position too large", "node cannot be printed", "options refused",
+    )  # fmt: skip
+    answer = (yield [Ask("ecma-program-answers", "messages", ())])[0]
+    return difference([it.encode() for it in wanted], only(answer))
+
+
+def tests(paths):
+    """The tests of runs, each with its name."""
+    found = [(f"runs: a read that fails, pieces of {piece}", read_fails(piece)) for piece in (1, 2, 7, 64)]
+    others = (write_fails, pieces, nothing_to_write, settings_refused, settings_taken, messages)
+    return [*found, *((f"runs: {it.__name__}", it()) for it in others)]
