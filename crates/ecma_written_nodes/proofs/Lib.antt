@@ -23,3 +23,4 @@ pub mod OfModules
 pub mod Evidence
 pub mod Whole
 pub mod Programs
+pub mod Hashbangs

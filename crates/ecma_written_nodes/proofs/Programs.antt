@@ -47,7 +47,7 @@ silent true sp = tt
 silent false sp = tt
 
 module _ (look : Look) where
-  abbrev AllClosed : Trees → Type 0
+  abbrev pub AllClosed : Trees → Type 0
   AllClosed none = Unit {0}
   AllClosed (more t ts) = (Good look t × (is_module_item t ≡ true)) × AllClosed ts
 
@@ -68,10 +68,10 @@ module _ (look : Look) where
   statements_go none s a f = ends nil (λ u e. ap is_free e ∙ f)
   statements_go (more t ts) s a f = a.0.0 Alone s (free_admits s t f) ▸ λ v l. closes_any t v a.0.1 l ▸ λ w k. statements_go ts w a.1 k
 
-  body_goes : (ss : Trees) → AllClosed ss → Steps (statements look ss · when (not look.omits_last) commit) Fresh (λ u. is_open u ≡ true)
+  pub body_goes : (ss : Trees) → AllClosed ss → Steps (statements look ss · when (not look.omits_last) commit) Fresh (λ u. is_open u ≡ true)
   body_goes ss a = statements_go ss Fresh a refl ▸ λ v f. when_goes (not look.omits_last) (λ e. ends committed (λ u q. ap is_open q ∙ free_open v f)) (λ e. free_open v f)
 
-  bare_goes : (sp : Span) (ss : Trees) → AllClosed ss → Steps (laid look Alone (script sp ss None)) Fresh (λ u. is_open u ≡ true)
+  pub bare_goes : (sp : Span) (ss : Trees) → AllClosed ss → Steps (laid look Alone (script sp ss None)) Fresh (λ u. is_open u ≡ true)
   bare_goes sp ss a = when_goes (is_empty ss) (λ e. mark) (λ e. refl) ▸ at (nil ▸ at (body_goes ss a))
 
   -- the statements of a program, as they were spelled
@@ -99,12 +99,12 @@ module _ (look : Look) where
   abbrev knowing : Knowledge
   knowing = record { Known = Known; later = (texts_mean look.style).later }
 
-  script_closed : (sp : Span) (ss : Trees) (line : Option (List ℕ)) (c : Code) (ts r : Input) → Known ts.places → Spells (script sp ss line) c ts r → AllClosed ss
+  pub script_closed : (sp : Span) (ss : Trees) (line : Option (List ℕ)) (c : Code) (ts r : Input) → Known ts.places → Spells (script sp ss line) c ts r → AllClosed ss
   script_closed sp ss line c ts r k h =
       closed_items is_item (λ t e. ap (λ x. x || is_module_decl t) e) c true ss (goods look Plain ss refl (all_mapped (Read Known) (Leaf look) leaf_of Plain ss (found knowing (script sp ss line) Plain refl refl c ts r h k).0.1)
       (whole_items is_item (λ s t w u. refl) (λ s b l. refl) (λ s b l. refl) (λ s p b. refl) AtEnd c true ss h.0 r h.2)) h.0 r h.2
 
-  module_closed : (sp : Span) (ss : Trees) (line : Option (List ℕ)) (c : Code) (ts r : Input) → Known ts.places → Spells (es_module sp ss line) c ts r → AllClosed ss
+  pub module_closed : (sp : Span) (ss : Trees) (line : Option (List ℕ)) (c : Code) (ts r : Input) → Known ts.places → Spells (es_module sp ss line) c ts r → AllClosed ss
   module_closed sp ss line c ts r k h =
       closed_items is_module_item (λ t e. e) c true ss (goods look Plain ss refl (all_mapped (Read Known) (Leaf look) leaf_of Plain ss (found knowing (es_module sp ss line) Plain refl refl c ts r h k).0.1)
       (whole_items is_module_item (λ s t w u. refl) (λ s b l. refl) (λ s b l. refl) (λ s p b. refl) AtEnd c true ss h.0 r h.2)) h.0 r h.2
