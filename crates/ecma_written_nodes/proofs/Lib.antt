@@ -16,4 +16,11 @@ pub mod Loops
 pub mod Classes
 pub mod Modules
 pub mod Ties
+pub mod OfStatements
 pub mod OfExpressions
+pub mod OfFunctions
+pub mod OfModules
+pub mod Evidence
+pub mod Whole
+pub mod Programs
+pub mod Hashbangs
