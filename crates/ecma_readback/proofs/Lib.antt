@@ -1,3 +1,4 @@
 pub mod Shapes
 pub mod Hashbangs
 pub mod Written
+pub mod Whole

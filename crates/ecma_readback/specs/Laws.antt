@@ -58,10 +58,14 @@ abbrev pub ReadBack : Look → Type 0
 ReadBack look = (x : Setting) (modules : Bool) (t : Tree) (text : List ℕ) (p : Page) → scalars text ≡ true → TreeSpells x modules t text → IsEmptyPage p
     → IsReadBack x modules t (chars (resolved (pieces look t) p).out) × IsReadBack x modules t (chars (shortened (pieces look t) p).out)
 
--- It holds where what is written is tiled,
+-- Where what is written of programs is tiled by what their layouts say, it is read back;
 abbrev pub TiledIsReadBack : Type 0
 TiledIsReadBack = (look : Look) → ProgramsAreTiled look → ReadBack look
 
 -- and so where the layouts of programs go.
 abbrev pub GoingIsReadBack : Type 0
 GoingIsReadBack = (look : Look) → ProgramsGo look → ReadBack look
+
+-- What is written of every program is read back, in every look.
+abbrev pub ProgramsReadBack : Type 0
+ProgramsReadBack = (look : Look) → ReadBack look
