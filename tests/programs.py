@@ -192,7 +192,7 @@ def judged(row):
 
 def printed(row):
     """The formatted text and the minified one."""
-    return difference(row.fields[1:], (yield from judged(row)))
+    return difference(row.fields[1:], list((yield from judged(row))))
 
 
 def one_style(row):
