@@ -2,9 +2,11 @@
 from asking import Ask, Run, Wrong, only, ran
 from rows import difference
 
-# how deep the text of a row nests at most where it doesn't say, and how long one is of which each beginning is read
-NESTING, SHORT = 1024, 512
+# how deep the text of a row nests at most where it doesn't say
+NESTING = 1024
 LANGUAGE = ("attributes", "using", "accessors", "decorators")
+# how the command line calls words of a setting
+COMMAND_WORDS = {"ascii": "--ascii-only", "page": "--inline-script", "crlf": "--crlf"}
 PARTS = ("expr", "assignment", "pat", "binding", "params", "key", "stmt", "item", "module_item")
 
 
@@ -59,8 +61,6 @@ def told(row, fields):
 def tree(row):
     """The tree of a text, its early errors, or where it is refused; as a script and as a module where both are asked."""
     text, limit = row.field(0), int(row.text(1)) if row.has("nesting") else NESTING
-    if len(text) <= SHORT:
-        yield from judge_beginnings([reading(row, goal) for goal in goals(row)], text)
     words = ["tree"] if row.has("tree") else []
     answers = yield [ask(reading(row, goal, limit, *words), text) for goal in goals(row)]
     all_told = [told(row, only(it)) for it in answers]
@@ -113,7 +113,7 @@ def part(row):
 
 def printing(row, style):
     """The setting that asks for what is written in a style."""
-    words = ["module" if row.has("module") else "script", *(it for it in row.setting.split(" ")[1:] if it not in ("module", "cuts", "min", "any"))]
+    words = ["module" if row.has("module") else "script", *(it for it in row.setting.split(" ")[1:] if it not in ("module", "min", "any"))]
     if not any(it.startswith("nesting=") for it in words):
         words.append(f"nesting={NESTING}")
     return " ".join(["print", style, "attributes", *words])
@@ -158,19 +158,28 @@ def judge_again(row, formatted, minified):
             raise Wrong(f"{wrong}: {difference([own], [one(answer)])}")
 
 
-def judge_cuts(row, text):
-    """Each beginning is written as the same program, or refused; it is neither too deep nor out of memory."""
-    asked = [ask(printing(row, style), front) for front in beginnings(text) for style in ("format", "minify")]
-    pairs = []
-    for question, answer in zip(asked, (yield asked)):
-        if only(answer)[0] == b"written":
-            pairs.append((question.fields[0], one(answer)))
-        elif answer[1] in (b"TooDeep", b"Memory"):
-            raise Wrong(f"{answer[1].decode()} at the beginning {question.fields[0].decode()!r}")
-    asked = [same_printed(row, *it) for it in pairs]
-    for question, answer in zip(asked, (yield asked)):
-        if only(answer) != [b"same"]:
-            raise Wrong(f"the beginning {question.fields[0].decode()!r} is written as another program")
+def command_words(row):
+    """The words of the command line for how a row's text is to look, or nothing where it has no setting or one that they can't say."""
+    found = []
+    for word in row.setting.split(" ")[1:]:
+        name, _, value = word.partition("=")
+        if word in COMMAND_WORDS:
+            found.append(COMMAND_WORDS[word])
+        elif name in ("indent", "target") and value not in ("es3", "es5"):
+            found += [f"--{name}", value]
+        elif word not in ("module", "min"):
+            return None
+    return found and [*found, "--nesting", str(NESTING), *([] if row.has("module") else ["--script"])]
+
+
+def judge_command(row, text, formatted, minified):
+    """The command line writes the same."""
+    words = command_words(row)
+    asked = [Run((*words, *style), text) for style in ((), ("--minify",))] if words else []
+    for own, answer in zip((formatted, minified), (yield asked)):
+        done = ran(answer)
+        if (done.status, done.out, done.err) != (0, own, b""):
+            raise Wrong(f"the command line ends with {done.status}, {difference([own], [done.out])}")
 
 
 def judged(row):
@@ -183,10 +192,9 @@ def judged(row):
     for answer in answers:
         if only(answer) != [b"same"]:
             raise Wrong("what is written is another program")
+    yield from judge_command(row, text, formatted, minified)
     if not row.has("ascii") and not row.has("target=es3") and not row.has("target=es5"):
         yield from judge_again(row, formatted, minified)
-    if row.has("cuts"):
-        yield from judge_cuts(row, text)
     return formatted, minified
 
 

@@ -2,12 +2,13 @@
 from asking import Ask, only
 from rows import difference
 
-TEXT = b"""foo( 1000 , 'a"b' ) * (x + 12) ; y"""
-WRITTEN = b"""foo(1e3,'a"b')*(x+12);y"""
+TEXT = b"import colors, { color } from 'patterns/colors';"
+WRITTEN = b'import colors,{color}from"patterns/colors"'
 
 
 def run(words, text=TEXT):
-    return Ask("ecma-program-answers", " ".join(["run", *words]), (text,))
+    goal = ["module"] if text is TEXT else []
+    return Ask("ecma-program-answers", " ".join(["run", *goal, *words]), (text,))
 
 
 def told(fault, output, kept, reads, writes):
@@ -40,6 +41,22 @@ def write_fails():
     wanted.append(told("written", WRITTEN, TEXT, (reads, 0), (size, 0)))
     asked += [run(["written=1", f"room={room}"]) for room in range(size)]
     wanted += [told("write failed", WRITTEN[:room], TEXT, (reads, 0), (room + 1, 1)) for room in range(size)]
+    return (yield from all_are(asked, wanted))
+
+
+def interrupted():
+    """A read that is interrupted is one that fails, and is not made again."""
+    asked = [run(["interrupted", "read=1", f"read_fails={at}"]) for at in (1, 2, len(TEXT) + 1)]
+    wanted = [told("read failed", b"", TEXT[: at - 1], (at, 1), (0, 0)) for at in (1, 2, len(TEXT) + 1)]
+    return (yield from all_are(asked, wanted))
+
+
+def nothing_taken():
+    """A write that takes nothing is one that fails, and is not made again."""
+    size = len(WRITTEN)
+    asked = [run(["zeros", "written=1", f"write_fails={at}"]) for at in (1, 2, size)] + [run(["zeros", f"room={room}"]) for room in (0, 9)]
+    wanted = [told("write failed", WRITTEN[: at - 1], TEXT, (2, 0), (at, 1)) for at in (1, 2, size)]
+    wanted += [told("write failed", WRITTEN[:room], TEXT, (2, 0), (writes, 1)) for room, writes in ((0, 1), (9, 2))]
     return (yield from all_are(asked, wanted))
 
 
@@ -88,5 +105,5 @@ def messages():
 def tests(paths):
     """The tests of runs, each with its name."""
     found = [(f"runs: a read that fails, pieces of {piece}", read_fails(piece)) for piece in (1, 2, 7, 64)]
-    others = (write_fails, pieces, nothing_to_write, settings_refused, settings_taken, messages)
+    others = (write_fails, interrupted, nothing_taken, pieces, nothing_to_write, settings_refused, settings_taken, messages)
     return [*found, *((f"runs: {it.__name__}", it()) for it in others)]

@@ -275,8 +275,8 @@ for (const line of fs.readFileSync(path.join(__dirname, "texts.txt"), "utf8").sp
 }
 const tidy = (xs) => xs.filter((x, i) => !(x.startsWith("# ") && (i + 1 === xs.length || xs[i + 1].startsWith("# "))));
 const file = (head, sets) => head + Object.keys(sets).filter((k) => tidy(sets[k]).length).map((k) => `\n@ ${k}\n${tidy(sets[k]).join("\n")}\n`).join("");
-fs.writeFileSync(path.join(process.argv[3], "trees.rows"), file("# Texts and their trees, each as acorn reads it: as a script and as a module alike, as a script, as a module. `tools/rows` made them.\n", trees));
-fs.writeFileSync(path.join(process.argv[3], "refused.rows"), file("# Texts that acorn refuses for their grammar: as a script and as a module, as a script, as a module. Where it finds a token\n# unexpected, the row has that token's place. `tools/rows` made them.\n", refused));
+fs.writeFileSync(path.join(process.argv[3], "trees.rows"), file("# Made by tools/rows/by_acorn.js: texts and their trees, each as acorn reads it: as a script and as a module alike, as a script, as a module.\n", trees));
+fs.writeFileSync(path.join(process.argv[3], "refused.rows"), file("# Made by tools/rows/by_acorn.js: texts that acorn refuses for their grammar: as a script and as a module, as a script, as a module. Where it\n# finds a token unexpected, the row has that token's place.\n", refused));
 console.log(left.join("\n"));
 const count = (x) => Object.values(x).flat().filter((l) => !l.startsWith("# ")).length;
 console.log(`${count(trees)} trees, ${count(refused)} refused, ${left.length} by hand`);

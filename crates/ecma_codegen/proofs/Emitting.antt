@@ -7,9 +7,9 @@ use Rattle.ecma_write.proofs.Growing.{front_same}
 use Rattle.ecma_write.specs.States.{State, FaultFits, has_places, is_write}
 use Rattle.ecma_write.specs.declared.fault.EmitError.{EmitError}
 use Rattle.ecma_write.specs.declared.fault.EmitError.TheVariants.{Write, Memory, Node, Position}
-use Rattle.ecma_pieces.specs.Pieces.{Piece, Text, call, calls}
+use Rattle.ecma_pieces.specs.Pieces.{Piece, Text, Commit, Mark, call, calls}
 use Rattle.ecma_pieces.specs.Utf8.{IsUtf8Page}
-use Rattle.ecma_layout.specs.Looks.{Laid, nothing, one, meant, both, refused, texts_of, texts_before, listed, is_refused}
+use Rattle.ecma_layout.specs.Looks.{Laid, nothing, one, meant, named, both, refused, texts_of, texts_before, listed, is_refused}
 use Rattle.ecma_printer.specs.Prints.{Asked, ask, stop, lay, lay_texts, IsAt, Prints, MayFault, failed_by}
 use Rattle.ecma_codegen.specs.Emits.{emitted, MayRefuse, Emits, Stays}
 
@@ -32,6 +32,8 @@ stays : (l : Laid) (a : Asked) → a.stops ≡ true → lay l a ≡ a
 stays nothing a e = refl
 stays (one x) a e = ask_stays x a e
 stays (meant m) a e = texts_stay (texts_of m) a e
+stays (named pos own) a e =
+    ap (λ b. ask (Text None own) (ask (Mark pos) b)) (ask_stays Commit a e) ∙ (ap (λ b. ask (Text None own) b) (ask_stays (Mark pos) a e) ∙ ask_stays (Text None own) a e)
 stays (both f g) a e = ap (lay g) (stays f a e) ∙ stays g a e
 stays refused a e = stop_stays a e
 
@@ -75,6 +77,17 @@ whole : (l : Laid) (a : Asked) (rest : List Piece) → a.stops ≡ false → is_
 whole nothing a rest s r = record { goes = s; calls_it = refl }
 whole (one x) a rest s r = record { goes = asked_stops x a s; calls_it = ap (calls rest) (sym (asked_state x a s)) }
 whole (meant m) a rest s r = let x = all_texts (texts_of m) a rest s in record { goes = x.goes; calls_it = x.calls_it }
+whole (named pos own) a rest s r =
+    let one = ask Commit a in
+    let two = ask (Mark pos) one in
+    let x = asked_stops Commit a s in
+    let y = asked_stops (Mark pos) one x in
+    record {
+      goes = asked_stops (Text None own) two y;
+      calls_it =
+          ap (λ (t : State). calls rest (call (Text None own) (call (Mark pos) t))) (sym (asked_state Commit a s))
+          ∙ (ap (λ (t : State). calls rest (call (Text None own) t)) (sym (asked_state (Mark pos) one x)) ∙ ap (calls rest) (sym (asked_state (Text None own) two y)));
+    }
 whole (both f g) a rest s r =
     let x = whole f a (listed g rest) s (or_left (is_refused f) (is_refused g) r) in
     let y = whole g (lay f a) rest x.goes (or_right (is_refused f) (is_refused g) r) in
@@ -98,6 +111,7 @@ cut : (l : Laid) (a : Asked) (rest : List Piece) → a.stops ≡ false → is_re
 cut nothing a rest s r = absurd (cc)
 cut (one x) a rest s r = absurd (cc)
 cut (meant m) a rest s r = absurd (cc)
+cut (named pos own) a rest s r = absurd (cc)
 cut (both f g) a rest s r = cut_both f g a rest s r (cut f a (listed g rest) s) (λ b. cut g (lay f a) rest b) (is_refused f) refl
   where
     cut_both : (f g : Laid) (a : Asked) (rest : List Piece) → a.stops ≡ false → (is_refused f || is_refused g) ≡ true
@@ -169,6 +183,7 @@ same_laid : (l : Laid) (a : Asked) → Same a (lay l a)
 same_laid nothing a = same_as a
 same_laid (one x) a = same_asked x a
 same_laid (meant m) a = same_texts (texts_of m) a
+same_laid (named pos own) a = same_then (same_asked Commit a) (same_then (same_asked (Mark pos) (ask Commit a)) (same_asked (Text None own) (ask (Mark pos) (ask Commit a))))
 same_laid (both f g) a = same_then (same_laid f a) (same_laid g (lay f a))
 same_laid refused a = same_stopped a
 

@@ -5,7 +5,7 @@ use Rattle.ecma_write.specs.States.{State}
 use Rattle.ecma_pieces.specs.Pieces.{Piece, Text, call, calls}
 use Rattle.ecma_layout.specs.declared.look.Look.{Look}
 use Rattle.ecma_layout.specs.declared.look.Stand.TheVariants.{Alone}
-use Rattle.ecma_layout.specs.Looks.{Laid, ◌·◌, nothing, one, meant, both, refused, texts_of, texts_before, listed, is_refused}
+use Rattle.ecma_layout.specs.Looks.{Laid, ◌·◌, nothing, one, meant, named, both, refused, texts_of, texts_before, listed, is_refused}
 use Rattle.ecma_layout.specs.Layout.{laid, closing, statements}
 use Rattle.ecma_codegen.specs.Emits.{emitted}
 use Rattle.ecma_codegen.specs.Items.{item_laid, items_emitted, ItemsAreProgram}
@@ -20,6 +20,7 @@ then_rest : (l : Laid) (rest : List Piece) (s : State) → is_refused l ≡ fals
 then_rest nothing rest s e = refl
 then_rest (one x) rest s e = refl
 then_rest (meant m) rest s e = texts_then (texts_of m) rest s
+then_rest (named pos own) rest s e = refl
 then_rest (both f g) rest s e =
     let x = or_left (is_refused f) (is_refused g) e in
     then_rest f (listed g rest) s x ∙ then_rest g rest (emitted f s) (or_right (is_refused f) (is_refused g) e) ∙ ap (calls rest) (sym (then_rest f (listed g []) s x))

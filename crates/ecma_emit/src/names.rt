@@ -9,7 +9,7 @@ ghost use Rattle.ecma_printer.specs.Prints.{Prints};
 use crate::print::Print;
 use ecma_layout::{Look, Stand};
 use ecma_node::{BindingIdent, Ident, IdentName, PrivateName};
-use ecma_print_literals::names::{print_key, print_name};
+use ecma_print_literals::names::{print_identifier, print_key, print_name};
 use ecma_printer::{Printer, Text};
 use ecma_write::WriteJs;
 use std::convert::AsStr;
@@ -18,9 +18,7 @@ impl Print for Ident {
     ghost tree = { view_ident };
 
     fn print<W: WriteJs>(&self, p: &mut Printer<W>, look: Look, _stand: Stand) {
-        p.commit();
-        p.start(self.span);
-        print_name(p, look.style, self.sym.as_str());
+        print_identifier(p, look, self.span, self.sym.as_str());
     }
 }
 
@@ -28,9 +26,7 @@ impl Print for BindingIdent {
     ghost tree = { view_binding_ident };
 
     fn print<W: WriteJs>(&self, p: &mut Printer<W>, look: Look, _stand: Stand) {
-        p.commit();
-        p.start(self.span);
-        print_name(p, look.style, self.id.sym.as_str());
+        print_identifier(p, look, self.span, self.id.sym.as_str());
     }
 }
 

@@ -19,7 +19,9 @@ use Rattle.ecma_front.specs.Command.{End, IsHindered, IsUnread, out_of_memory}
 use Rattle.ecma_tree.specs.Tree.{Tree}
 use Rattle.ecma_front.specs.Layouts.{layout}
 use Rattle.ecma_front.specs.Formats.{IsProgramIn, IsRefused, longest_text}
-use Rattle.ecma_front.specs.Run.{Answers, IsReadable, SucceedsExactly, WritesBeginning, WritesProgram}
+use Rattle.std.proofs.lemmas.Str.{scalars-chars}
+use Rattle.ecma_front.proofs.ReadAgain.{layout_utf8, read_again}
+use Rattle.ecma_front.specs.Run.{Answers, IsPrinted, IsReadable, SucceedsExactly, WritesBeginning, WritesProgram}
 
 -- what was kept of a reader that was read to its end is what it had
 pub kept_all : (a b : Option (List ℕ)) (kept : List ℕ) → Consumes a b kept → IsAtEnd b → IfSome a (λ bytes. kept ≡ bytes)
@@ -57,13 +59,21 @@ text_fault_answers P options None before after kept fault same is h fits = unkno
 text_fault_answers P options (Some bytes) before after kept fault same is h fits =
     text_fault_at P options bytes before after fault is (subst (λ (bs : List ℕ). IsRefused options bs fault) same h) (subst (λ (bs : List ℕ). length bs ≤ longest_text) same fits)
 
+-- what is written of a program is read again
+printed_of : (options : Options) (kept : List ℕ) (t : Tree) → IsProgramIn options kept t → IsPrinted options kept t
+printed_of options kept t h = let s = scalars-chars kept h.0 in record {
+  program = h;
+  utf8 = layout_utf8 options t (chars kept) s h.1.0;
+  read_again = read_again options t (chars kept) s h.1.0;
+}
+
 -- a text that is written
 pub program_answers : (options : Options) (input before after : Option (List ℕ)) (kept out : List ℕ) → IfSome input (λ bytes. kept ≡ bytes)
     → ((t : Tree) × IsProgramIn options kept t × (out ≡ layout options t)) → length kept ≤ longest_text
     → Appends before after out → IfSome input (λ bytes. WritesProgram options bytes before after)
 program_answers options None before after kept out same h fits sent = tt
 program_answers options (Some bytes) before after kept out same h fits sent =
-    subst (λ (bs : List ℕ). WritesProgram options bs before after) same (fits, (h.0, h.1, subst (Appends before after) h.2 sent))
+    subst (λ (bs : List ℕ). WritesProgram options bs before after) same (fits, (h.0, printed_of options kept h.0 h.1, subst (Appends before after) h.2 sent))
 
 -- a text of which a beginning is written
 pub beginning_answers : (options : Options) (input before after : Option (List ℕ)) (kept out : List ℕ) → IfSome input (λ bytes. kept ≡ bytes)
@@ -72,7 +82,7 @@ pub beginning_answers : (options : Options) (input before after : Option (List �
 beginning_answers options None before after kept out same h fits sent = tt
 beginning_answers options (Some bytes) before after kept out same h fits sent =
     subst (λ (bs : List ℕ). WritesBeginning options bs before after) same
-    (fits, (h.0, sent.0, h.1, subst (λ (o : List ℕ). Appends before after (take sent.0 o)) h.2 sent.1))
+    (fits, (h.0, sent.0, printed_of options kept h.0 h.1, subst (λ (o : List ℕ). Appends before after (take sent.0 o)) h.2 sent.1))
 
 write_fault_is : (P : Type 0) (options : Options) (input before after : Option (List ℕ)) (fault : Fault) → is_write_fault fault ≡ true
     → IfSome input (λ bytes. WritesBeginning options bytes before after) → Answers {P = P} options input before after (Err fault)
@@ -183,7 +193,7 @@ pub answers_exactly : (P : Type 0) (options : Options) (input before after : Opt
     → (result ≡ Err f.Options → are_refused options ≡ true) → Answers options input before after result → SucceedsExactly options input result
 answers_exactly P options None before after result settings h = λ taken found. tt
 answers_exactly P options (Some bytes) before after (Ok x) settings h = λ taken found.
-    (λ _. (h.1.0, h.1.1.1.0, (h.1.1.0, h.1.1.1.1.0)), λ _. refl)
+    (λ _. (h.1.0, h.1.1.1.program.0, (h.1.1.0, h.1.1.1.program.1.0)), λ _. refl)
 answers_exactly P options (Some bytes) before after (Err fault) settings h = λ taken found.
     (λ e. absurd (cc), λ r. absurd (refused_unreadable P options bytes before after fault found (λ e. let refused = settings (ap (λ (x : Fault). Err x) e) in cc) h r))
 

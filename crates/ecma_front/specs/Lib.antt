@@ -3,6 +3,7 @@ pub mod Programs
 pub mod Layouts
 pub mod Faults
 pub mod Formats
+pub mod ReadAgain
 pub mod Run
 pub mod Lines
 pub mod Command

@@ -10,6 +10,7 @@ use Rattle.ecma_front.specs.declared.fault.Fault.TheVariants as f
 use Rattle.ecma_front.specs.Faults.{answers_fault, is_failure}
 use Rattle.ecma_front.specs.Layouts.{layout}
 use Rattle.ecma_front.specs.Programs.{Spells}
+use Rattle.ecma_front.specs.ReadAgain.{IsReadAgain}
 use Rattle.ecma_front.specs.Formats.{IsProgramIn, IsRefused, longest_text}
 
 -- no more than the longest text, unless that is what the fault says
@@ -20,13 +21,19 @@ FitsUnless (f.Read kind) bytes = Unit {0}
 FitsUnless f.Options bytes = Unit {0}
 FitsUnless _ bytes = length bytes ≤ longest_text
 
+-- The tree is the one program of the bytes, and what is written of it, its layout, is UTF-8 and is spelled by that program and no other.
+pub record IsPrinted (options : Options) (bytes : List ℕ) (t : Tree) : Type 0 where
+  pub program : IsProgramIn options bytes t
+  pub utf8 : IsUtf8 (layout options t)
+  pub read_again : IsReadAgain options t (chars (layout options t))
+
 -- The writer got the layout of the one program that spells the input.
 abbrev pub WritesProgram : Options → List ℕ → Option (List ℕ) → Option (List ℕ) → Type 0
-WritesProgram options bytes before after = (length bytes ≤ longest_text) × ((t : Tree) × IsProgramIn options bytes t × Appends before after (layout options t))
+WritesProgram options bytes before after = (length bytes ≤ longest_text) × ((t : Tree) × IsPrinted options bytes t × Appends before after (layout options t))
 
 -- It got a beginning of it.
 abbrev pub WritesBeginning : Options → List ℕ → Option (List ℕ) → Option (List ℕ) → Type 0
-WritesBeginning options bytes before after = (length bytes ≤ longest_text) × ((t : Tree) × (n : ℕ) × IsProgramIn options bytes t × Appends before after (take n (layout options t)))
+WritesBeginning options bytes before after = (length bytes ≤ longest_text) × ((t : Tree) × (n : ℕ) × IsPrinted options bytes t × Appends before after (take n (layout options t)))
 
 -- What an answer says of a reader that tells the bytes it gives up to its end, and of what the writer held before and after.
 abbrev pub Answers : {P : Type 0} → Options → Option (List ℕ) → Option (List ℕ) → Option (List ℕ) → Result (Option P) Fault → Type 0

@@ -13,7 +13,7 @@ use Rattle.ecma_layout.specs.declared.look.Look.{Look}
 use Rattle.ecma_layout.specs.declared.look.Stand.{Stand}
 use Rattle.ecma_layout.specs.declared.look.Stand.TheVariants.{Alone, Operand, Body, Head, Key, Tagged}
 use Rattle.ecma_layout.specs.Looks.{Laid, nothing, meant, refused, regular_expression, template_characters, template_end, hashbang_comment, touching, ◌·◌, listed, text, brace, blank, line_always, semi, semi_kept, commit, when, formats, gap, line, deeper, back, gap_or, start, end, last}
-use Rattle.ecma_layout.specs.Literals.{name, key_word, hash_name, string, number, number_before_point, big_integer, quasi_bytes}
+use Rattle.ecma_layout.specs.Literals.{name, identifier, key_word, hash_name, string, number, number_before_point, big_integer, quasi_bytes}
 use Rattle.ecma_layout.specs.Words.{sign_of}
 
 abbrev pub marked_as_operand : Stand → Bool
@@ -358,8 +358,8 @@ abbrev mutual
   laid look s (ident_name span sym) = if is_key s then key_word look span sym else name look span sym
   laid look s (computed_prop_name span e) = start span · text (codes "[") · laid look Alone e · text (codes "]") · end span
   laid look s (private_name span sym) = hash_name look span sym
-  laid look s (ident span sym) = name look span sym
-  laid look s (binding_ident span (ident at sym)) = name look span sym
+  laid look s (ident span sym) = identifier look span sym
+  laid look s (binding_ident span (ident at sym)) = identifier look span sym
   -- expressions
   laid look s (this_expr span) = commit · start span · word (codes "this") · end span
   laid look s (super span) = commit · start span · word (codes "super") · end span

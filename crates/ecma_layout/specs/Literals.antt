@@ -10,7 +10,7 @@ use Rattle.ecma_spell_string.specs.Names.{name_text, key_text}
 use Rattle.ecma_spell_number.specs.Numbers.{minified, formatted, before_member, big_text, separated}
 use Rattle.ecma_spell_template.specs.Templates.{template_text}
 use Rattle.ecma_layout.specs.declared.look.Look.{Look}
-use Rattle.ecma_layout.specs.Looks.{Laid, ◌·◌, text, commit, when, start, end}
+use Rattle.ecma_layout.specs.Looks.{Laid, named, ◌·◌, text, commit, when, start, end}
 
 -- a name, and a word as a key
 abbrev pub name_bytes : Style → List ℕ → List ℕ
@@ -39,6 +39,10 @@ is_escaped_directive units (Some raw) = bytes_eq units (codes "use strict") && l
 
 abbrev pub name : Look → Span → List ℕ → Laid
 name look span sym = commit · start span · text (name_bytes look.style sym)
+
+-- a name of a variable, a label or a specifier
+abbrev pub identifier : Look → Span → List ℕ → Laid
+identifier look span sym = named span.lo (name_bytes look.style sym)
 
 abbrev pub key_word : Look → Span → List ℕ → Laid
 key_word look span sym = commit · start span · text (key_bytes look.style sym)

@@ -1,5 +1,6 @@
 -- What a layout is made of: pieces before whatever follows, by the settings of a look.
 use Rattle.std.specs.Prelude.{ℕ, ◌-◌, Bool, true, false, not, ◌||◌, List, [], ◌∷◌, ◌++◌, None, codes}
+use Rattle.ecma_token.specs.declared.place.BytePos.{BytePos}
 use Rattle.ecma_token.specs.declared.place.Span.{Span}
 use Rattle.ecma_layout.specs.declared.look.Look.{Look}
 use Rattle.ecma_pieces.specs.Pieces.{Piece, Text, Brace, Blank, Line, Deeper, Back, Semicolon, Commit, Mark}
@@ -21,6 +22,8 @@ pub data Laid : Type 0 where
   nothing : Laid
   one : Piece → Laid
   meant : Meaning → Laid
+  -- a name of a variable, a label or a specifier, with the place where it was read
+  named : BytePos → List ℕ → Laid
   both : Laid → Laid → Laid
   -- what can't be printed, which ends the list: nothing behind it is written
   refused : Laid
@@ -51,6 +54,7 @@ abbrev pub listed : Laid → List Piece → List Piece
 listed nothing rest = rest
 listed (one x) rest = x ∷ rest
 listed (meant m) rest = texts_before (texts_of m) rest
+listed (named pos own) rest = Commit ∷ Mark pos ∷ Text None own ∷ rest
 listed (both f g) rest = listed f (listed g rest)
 listed refused rest = []
 
@@ -59,6 +63,7 @@ abbrev pub is_refused : Laid → Bool
 is_refused nothing = false
 is_refused (one x) = false
 is_refused (meant m) = false
+is_refused (named pos own) = false
 is_refused (both f g) = is_refused f || is_refused g
 is_refused refused = true
 

@@ -1,8 +1,10 @@
 -- Two layouts are alike: equal, or equal but for where marks stand.
 use Rattle.std.proofs.Common.{◌≡◌, ℕ, Bool, true, false, if◌then◌else◌, List, [], ◌∷◌, None, ◌||◌, refl, ap, ap₂, ◌∙◌, subst}
+use Rattle.ecma_token.specs.declared.place.BytePos.{BytePos}
 use Rattle.ecma_token.specs.declared.place.Span.{Span}
+use Rattle.ecma_tree.specs.Places.{no_place}
 use Rattle.ecma_pieces.specs.Pieces.{Piece, Text}
-use Rattle.ecma_layout.specs.Looks.{Laid, nothing, one, meant, both, refused, texts_of, texts_before, listed, is_refused, when, start, end, last}
+use Rattle.ecma_layout.specs.Looks.{Laid, nothing, one, meant, named, both, refused, texts_of, texts_before, listed, is_refused, when, start, end, last}
 use Rattle.ecma_layout_laws.specs.Bare.{kept_place}
 use Rattle.ecma_layout_laws.specs.Marks.{unmarked_piece, unmarked}
 
@@ -11,10 +13,15 @@ abbrev pub seen_piece : Bool → Piece → Piece
 seen_piece true x = x
 seen_piece false x = unmarked_piece x
 
+abbrev pub seen_position : Bool → BytePos → BytePos
+seen_position true pos = pos
+seen_position false pos = no_place.lo
+
 abbrev pub seen : Bool → Laid → Laid
 seen places nothing = nothing
 seen places (one x) = one (seen_piece places x)
 seen places (meant m) = meant m
+seen places (named pos own) = named (seen_position places pos) own
 seen places (both f g) = both (seen places f) (seen places g)
 seen places refused = refused
 
@@ -59,12 +66,17 @@ pub last_alike : {places : Bool} (span : Span) → Alike places (last (kept_plac
 last_alike {places = true} span = same
 last_alike {places = false} span = record { so = refl }
 
+pub named_alike : {places : Bool} (span : Span) (own : List ℕ) → Alike places (named (kept_place places span).lo own) (named span.lo own)
+named_alike {places = true} span own = same
+named_alike {places = false} span own = record { so = refl }
+
 -- ---- what is written
 
 pub all_seen : (f : Laid) → seen true f ≡ f
 all_seen nothing = refl
 all_seen (one x) = refl
 all_seen (meant m) = refl
+all_seen (named pos own) = refl
 all_seen (both f g) = ap₂ (λ x y. both x y) (all_seen f) (all_seen g)
 all_seen refused = refl
 
@@ -76,6 +88,7 @@ pub listed_seen : (f : Laid) (xs : List Piece) → unmarked (listed f xs) ≡ li
 listed_seen nothing xs = refl
 listed_seen (one x) xs = refl
 listed_seen (meant m) xs = texts_seen (texts_of m) xs
+listed_seen (named pos own) xs = refl
 listed_seen (both f g) xs = listed_seen f (listed g xs) ∙ ap (λ ys. listed (seen false f) ys) (listed_seen g xs)
 listed_seen refused xs = refl
 
@@ -83,5 +96,6 @@ pub refused_seen : (f : Laid) → is_refused (seen false f) ≡ is_refused f
 refused_seen nothing = refl
 refused_seen (one x) = refl
 refused_seen (meant m) = refl
+refused_seen (named pos own) = refl
 refused_seen (both f g) = ap₂ (λ x y. x || y) (refused_seen f) (refused_seen g)
 refused_seen refused = refl

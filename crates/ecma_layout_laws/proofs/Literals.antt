@@ -9,9 +9,9 @@ use Rattle.ecma_spell_string.specs.Strings.{quoted, is_ascii}
 use Rattle.ecma_spell_number.specs.Numbers.{before_member}
 use Rattle.ecma_layout.specs.declared.look.Look.{Look}
 use Rattle.ecma_layout.specs.Looks.{text}
-use Rattle.ecma_layout.specs.Literals.{string_bytes, number_bytes, big_bytes, is_escaped_directive, name, key_word, hash_name, string, number, number_before_point, big_integer}
+use Rattle.ecma_layout.specs.Literals.{string_bytes, number_bytes, big_bytes, is_escaped_directive, name_bytes, name, identifier, key_word, hash_name, string, number, number_before_point, big_integer}
 use Rattle.ecma_layout_laws.specs.Bare.{asks_raw, kept_place, kept_raw, kept_string}
-use Rattle.ecma_layout_laws.proofs.Alike.{Alike, same, equal, ◌▸◌, when_alike, start_alike, end_alike}
+use Rattle.ecma_layout_laws.proofs.Alike.{Alike, same, equal, ◌▸◌, when_alike, start_alike, end_alike, named_alike}
 
 taken : {A : Type 0} (b : Bool) (x y z : A) → b ≡ true → (if b then x else y) ≡ (if b then x else z)
 taken b x y z e = rw e refl
@@ -75,6 +75,9 @@ module _ (places raws : Bool) (look : Look) (h : raws ≡ false → look.style.m
 
   pub name_alike : (span : Span) (sym : List ℕ) → Alike places (name look (kept_place places span) sym) (name look span sym)
   name_alike span sym = same ▸ start_alike span ▸ same
+
+  pub identifier_alike : (span : Span) (sym : List ℕ) → Alike places (identifier look (kept_place places span) sym) (identifier look span sym)
+  identifier_alike span sym = named_alike span (name_bytes look.style sym)
 
   pub key_word_alike : (span : Span) (sym : List ℕ) → Alike places (key_word look (kept_place places span) sym) (key_word look span sym)
   key_word_alike span sym = same ▸ start_alike span ▸ same

@@ -11,7 +11,7 @@ use Rattle.ecma_layout.specs.Layout.{laid, statements, rows, separated, each, im
 use Rattle.ecma_layout_laws.specs.Bare.{bare, bares}
 use Rattle.ecma_layout_laws.proofs.Alike.{Alike, same, ◌▸◌, if_same, if_alike, when_same, when_alike, start_alike, end_alike, last_alike}
 use Rattle.ecma_layout_laws.proofs.Questions
-use Rattle.ecma_layout_laws.proofs.Literals.{name_alike, key_word_alike, hash_name_alike, string_alike, number_alike, big_integer_alike}
+use Rattle.ecma_layout_laws.proofs.Literals.{name_alike, identifier_alike, key_word_alike, hash_name_alike, string_alike, number_alike, big_integer_alike}
 use Rattle.ecma_layout_laws.proofs.Parts
 
 key_mark : (places raws : Bool) (key : Tree) → Alike places (start (place_of (bare places raws key))) (start (place_of key))
@@ -125,8 +125,8 @@ module _ (places raws : Bool) (look : Look) (h : raws ≡ false → look.style.m
     laid_alike s (ident_name span sym) = if_same _ (key_word_alike places raws look h span sym) (name_alike places raws look h span sym)
     laid_alike s (computed_prop_name span e) = start_alike span ▸ same ▸ laid_alike Alone e ▸ same ▸ end_alike span
     laid_alike s (private_name span sym) = hash_name_alike places raws look h span sym
-    laid_alike s (ident span sym) = name_alike places raws look h span sym
-    laid_alike s (binding_ident span (ident at sym)) = name_alike places raws look h span sym
+    laid_alike s (ident span sym) = identifier_alike places raws look h span sym
+    laid_alike s (binding_ident span (ident at sym)) = identifier_alike places raws look h span sym
     -- expressions
     laid_alike s (this_expr span) = same ▸ start_alike span ▸ same ▸ end_alike span
     laid_alike s (super span) = same ▸ start_alike span ▸ same ▸ end_alike span

@@ -2,6 +2,7 @@
 use Rattle.std.proofs.Common.{◌≡◌, ℕ, List, [], ◌∷◌, subst}
 use Rattle.ecma_syntax.specs.Input.{Place, Input, rest, others}
 use Rattle.ecma_written.specs.Means.{Known}
+use Rattle.ecma_written.specs.Naming.{unplaced_names}
 use Rattle.ecma_written.proofs.Tables as tables
 use Rattle.ecma_lexicon.specs.Laws.{TextsMean}
 use Rattle.ecma_lexicon.proofs.Words.{names, quoted_keys}
@@ -17,6 +18,7 @@ later ts m e k = subst (λ (i : Input). Known i.places) e (by ts.places k)
 
 pub texts_mean : TextsMean
 texts_mean style = record {
+  naming = unplaced_names;
   later = later;
   marks = tables.marks;
   words = tables.words;

@@ -1,5 +1,5 @@
 -- What the reader and the writer over memory show.
-use Rattle.std.specs.Prelude.{◌≡◌, ◌↔◌, ℕ, Bool, true, ◌-◌, ◌==◌, ◌&&◌, ◌||◌, not, min, List, length, drop, Option, Result, IsErr, IfOk}
+use Rattle.std.specs.Prelude.{◌≡◌, ◌↔◌, ◌<◌, ℕ, Bool, true, ◌-◌, ◌==◌, ◌&&◌, ◌||◌, not, if◌then◌else◌, min, List, length, drop, Option, Result, IsErr, IsOk, IfOk}
 use Rattle.ecma_token.specs.Counts.{count_after, one_more, is_failed_read, is_failed_write}
 use Rattle.ecma_memory.specs.declared.MemReader.{MemReader}
 use Rattle.ecma_memory.specs.declared.MemWriter.{MemWriter}
@@ -59,3 +59,13 @@ IsOneWrite old new bytes result = (writer_calls new ≡ one_more (writer_calls o
     × (writer_piece new ≡ writer_piece old) × (writer_room new ≡ writer_room old) × (writer_fails_at new ≡ writer_fails_at old)
     × (IsErr result ↔ ((fails_at (writer_fails_at old) (writer_calls new) || is_full old bytes) ≡ true))
     × IfOk result (λ n. n ≡ min (length bytes) (min (writer_piece old) (writer_room old - length (written old))))
+
+-- What one write of these bytes did that answers 0 in place of an error: of none it took none, uncalled; else it took nothing where
+-- the writer was told to fail or had no room, and as much as it could elsewhere.
+abbrev pub IsOneTake : {E : Type 0} → MemWriter → MemWriter → List ℕ → Result ℕ E → Type 0
+IsOneTake old new bytes result = IsOk result
+    × (length bytes ≡ 0 → new ≡ old)
+    × (0 < length bytes → (writer_calls new ≡ one_more (writer_calls old))
+    × (writer_piece new ≡ writer_piece old) × (writer_room new ≡ writer_room old) × (writer_fails_at new ≡ writer_fails_at old)
+    × IfOk result (λ n. n ≡ (if fails_at (writer_fails_at old) (writer_calls new) || is_full old bytes then 0
+    else min (length bytes) (min (writer_piece old) (writer_room old - length (written old))))))

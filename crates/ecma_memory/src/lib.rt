@@ -4,12 +4,16 @@
 ghost use Rattle.std.specs.Prelude.{◌≤◌, vec_len, vec_capacity};
 
 mod calls;
+mod interrupts;
+mod zeros;
 
 use calls::Calls;
 use ecma_token::{CountedRead, CountedWrite, Failing};
+pub use interrupts::Interrupts;
 use std::alloc::{AllocError, Global};
 use std::io;
 use std::io::{Error, ErrorKind, Read, Write};
+pub use zeros::Zeros;
 
 /// A reader of bytes in memory.
 #[derive(Drop)]

@@ -10,7 +10,8 @@ ghost use Rattle.ecma_parse_entries.specs.Covers.{after_event, covers, is_cover}
 use ecma_node::{
     Expr, ExprKind, Module, Pat, PatKind, Program, ProgramKind, Script, Stmt, StmtKind,
 };
-use ecma_visit::{Kind, Node, Walk, Watch};
+use ecma_token::Span;
+use ecma_visit::{Hooks, Kind, Node, Visit, Walk, Watch};
 
 /// Whether nothing was found so far.
 #[derive(Drop)]
@@ -124,4 +125,28 @@ pub fn module_is_clean(program: &Module) -> bool
     let mut watch = Clean { clean: true };
     program.body.walk(&mut watch);
     watch.clean
+}
+
+/// The place of the first property with an initialiser that was met.
+struct Cover {
+    place: Option<Span>,
+}
+
+impl Visit for Cover {
+    fn enter_part(&mut self, kind: Kind, span: Span) {
+        if kind_covers(kind) && self.place.is_none() {
+            self.place = Some(span);
+        }
+    }
+}
+
+/// Where the first thing left of a cover stands in a part of a tree.
+pub fn cover_in<T: Walk>(part: &T) -> Option<Span> {
+    let mut hooks = Hooks {
+        visit: Cover { place: None },
+    };
+    part.walk(&mut hooks);
+    let Hooks { visit } = hooks;
+    let Cover { place } = visit;
+    place
 }

@@ -15,6 +15,6 @@ pub mod props;
 pub mod settle;
 pub mod within;
 
-pub use clean::{is_clean, module_is_clean, script_is_clean};
+pub use clean::{cover_in, is_clean, module_is_clean, script_is_clean};
 pub use output::OutputType;
 pub use pat_type::PatType;

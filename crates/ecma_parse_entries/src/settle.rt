@@ -6,15 +6,15 @@ ghost use Rattle.ecma_parse_state.specs.Fronts.{machine_of};
 ghost use Rattle.ecma_parse_state.specs.Stands.{stand};
 ghost use Rattle.ecma_parse_entries.specs.Ends as ends;
 
-use crate::is_clean;
+use crate::{cover_in, is_clean};
 use ecma_nesting::Nesting;
 use ecma_parse_state::{Failure, Parser};
-use ecma_token::{BytePos, Error, SyntaxError};
+use ecma_token::{BytePos, Error, Span, SyntaxError};
 use ecma_tokens::Tokens;
 use ecma_visit::Walk;
 
-/// What is said of a part that is read and may not stand here, as one in which something of a cover is left: a fault of
-/// this kind, from here to the last token that was taken.
+/// What is said of a part that is read and may not stand here: a fault of this kind, from here to the last token that was
+/// taken.
 pub fn left_over<'a, I: Tokens<'a> + Drop>(
     p: &Parser<'a, I>,
     start: BytePos,
@@ -25,6 +25,17 @@ pub fn left_over<'a, I: Tokens<'a> + Drop>(
     Failure::Syntax(Error {
         span: p.since(start),
         kind,
+    })
+}
+
+/// What is said of a part in which something of a cover is left: an unexpected token where that stands, and at the place of
+/// the part where it isn't found.
+pub(crate) fn unfinished<T: Walk>(part: &T, place: Span) -> Failure
+    ensures { IsSyntax result }
+{
+    Failure::Syntax(Error {
+        span: cover_in(part).unwrap_or(place),
+        kind: SyntaxError::Unexpected,
     })
 }
 
@@ -50,7 +61,7 @@ pub fn settle<'a, I: Tokens<'a> + Drop, T: Nesting + Walk + Drop>(
         return Err(Failure::TooDeep);
     }
     if !is_clean(&part) {
-        return Err(left_over(p, start, SyntaxError::Unexpected));
+        return Err(unfinished(&part, p.since(start)));
     }
     Ok(part)
 }

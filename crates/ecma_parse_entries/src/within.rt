@@ -9,13 +9,13 @@ ghost use Rattle.ecma_parse_state.specs.Fronts.{machine_of};
 ghost use Rattle.ecma_parse_state.specs.Stands.{stand};
 ghost use Rattle.ecma_parse_entries.specs.Within.{program_within};
 
+use crate::settle::unfinished;
 use crate::{module_is_clean, script_is_clean};
 use ecma_nesting::Nesting;
 use ecma_node::{Module, Script};
 use ecma_parse_programs::programs::{module, script};
 use ecma_parse_state::{Around, Failure, Parser};
 use ecma_parse_tie::Depth;
-use ecma_token::{Error, SyntaxError};
 use ecma_tokens::Tokens;
 
 /// A script within the limit of nesting.
@@ -38,10 +38,7 @@ pub fn script_within<'a, I: Tokens<'a> + Drop>(
         return Err(Failure::TooDeep);
     }
     if !script_is_clean(&script) {
-        return Err(Failure::Syntax(Error {
-            span: script.span,
-            kind: SyntaxError::Unexpected,
-        }));
+        return Err(unfinished(&script.body, script.span));
     }
     Ok(script)
 }
@@ -66,10 +63,7 @@ pub fn module_within<'a, I: Tokens<'a> + Drop>(
         return Err(Failure::TooDeep);
     }
     if !module_is_clean(&program) {
-        return Err(Failure::Syntax(Error {
-            span: program.span,
-            kind: SyntaxError::Unexpected,
-        }));
+        return Err(unfinished(&program.body, program.span));
     }
     Ok(program)
 }

@@ -1,13 +1,15 @@
 //! Names and keys.
 ghost use Rattle.std.specs.Prelude.{◌≡◌};
 ghost use Rattle.ecma_layout.specs.Looks as looks;
-ghost use Rattle.ecma_layout.specs.Literals.{name_bytes, key_bytes};
+ghost use Rattle.ecma_layout.specs.Literals.{name_bytes, key_bytes, identifier};
 ghost use Rattle.ecma_printer.specs.Prints.{Prints};
 
 use crate::parts::{print_held, print_part};
+use ecma_layout::Look;
 use ecma_printer::Printer;
 use ecma_spell_base::Style;
 use ecma_spell_string::NameText;
+use ecma_token::Span;
 use ecma_write::WriteJs;
 
 /// Prints what there is to come of a name or a key.
@@ -27,6 +29,15 @@ pub fn print_name<W: WriteJs>(p: &mut Printer<W>, style: Style, name: &str)
     ensures { Prints W.tells W.state W.failed_writes W.loans (looks.text (name_bytes style name.now)) p.old.wr p.old.fault p.new.wr p.new.fault }
 {
     print_name_parts(p, NameText::name(name, style));
+}
+
+/// Prints a name of a variable, a label or a specifier, by its text without escapes, and marks where it was read.
+pub fn print_identifier<W: WriteJs>(p: &mut Printer<W>, look: Look, span: Span, name: &str)
+    ensures { Prints W.tells W.state W.failed_writes W.loans (identifier look span name.now) p.old.wr p.old.fault p.new.wr p.new.fault }
+{
+    p.commit();
+    p.start(span);
+    print_name(p, look.style, name);
 }
 
 /// Prints a word that is a key, by its text without escapes.

@@ -9,7 +9,7 @@ use Rattle.ecma_pieces.specs.Pieces.{Piece}
 use Rattle.ecma_layout.specs.declared.look.Look.{Look}
 use Rattle.ecma_layout.specs.declared.look.Stand.{Stand}
 use Rattle.ecma_layout.specs.Looks.{Laid, Meaning, ◌·◌, nothing, one, meant, both, is_refused, when, semi, end, gap_or}
-use Rattle.ecma_layout.specs.Literals.{name, number}
+use Rattle.ecma_layout.specs.Literals.{name, identifier, number}
 use Rattle.ecma_layout.specs.Layout.{word, comma, in_parens, indented, indented_or_line, closing, hashbang, from, attributes, initial, field_value, function_tail, method_marks, after_static, class_head, class_tail, number_before, quasi, in_braces, imports, exports, is_variables}
 
 pub record Fine (f : Laid) : Type 0 where
@@ -84,6 +84,9 @@ module _ (look : Look) where
 
   pub name_fine : (span : Span) (sym : List ℕ) → Fine (name look span sym)
   name_fine span sym = ok ▸ ok ▸ ok
+
+  pub identifier_fine : (span : Span) (sym : List ℕ) → Fine (identifier look span sym)
+  identifier_fine span sym = record { so = refl }
 
   pub number_fine : (span : Span) (value : SpecNumber) (raw : Option (List ℕ)) → Fine (number look span value raw)
   number_fine span value raw = ok ▸ ok ▸ ok

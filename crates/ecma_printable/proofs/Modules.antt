@@ -11,7 +11,7 @@ use Rattle.ecma_grammar.specs.Grammar.{Spells, parts}
 use Rattle.ecma_layout.specs.declared.look.Look.{Look}
 use Rattle.ecma_layout.specs.declared.look.Stand.TheVariants.{Alone, Key}
 use Rattle.ecma_layout.specs.Layout.{is_named, is_no_namespace}
-use Rattle.ecma_printable.proofs.Fine.{◌▸◌, first, second, ok, when_fine, if_fine, maybe, ended_fine, hashbang_fine, name_fine, from_fine, attributes_fine, imports_fine, exports_fine}
+use Rattle.ecma_printable.proofs.Fine.{◌▸◌, first, second, ok, when_fine, if_fine, maybe, ended_fine, hashbang_fine, identifier_fine, from_fine, attributes_fine, imports_fine, exports_fine}
 use Rattle.ecma_printable.proofs.Lists.{Good, AllGood, statements_fine, import_heads_fine, named_items_fine, first_namespace_fine}
 use Rattle.ecma_printable.proofs.Forms.{Sound, AllSound, either, absent_good, maybe_good, none_good, all_sorted, items}
 
@@ -20,7 +20,7 @@ module _ (look : Look) where
 
   -- a name of an export: any word, or a string
   named : (t : Tree) → Sound look t → (c : Code) (ts r : Input) → ExportName c (export_name t) (part t (λ y. Spells t y)) ts r → Good look t
-  named (ident s n) f c ts r h st = name_fine look s n
+  named (ident s n) f c ts r h st = identifier_fine look s n
   named t f c ts r h st = f c ts r h.1 st
 
   import_named_good : (s : Span) (l i : Tree) → Good look l → Good look i → Good look (import_named_specifier s l i)

@@ -5,7 +5,7 @@ use Rattle.ecma_syntax.specs.Operators.{expression_level, assignment_level}
 use Rattle.ecma_layout.specs.declared.look.Look.{Look}
 use Rattle.ecma_layout.specs.declared.look.Stand.TheVariants.{Alone}
 use Rattle.ecma_layout.specs.Layout.{is_key}
-use Rattle.ecma_printable.proofs.Fine.{◌▸◌, ok, token, if_fine, maybe, name_fine, number_fine}
+use Rattle.ecma_printable.proofs.Fine.{◌▸◌, ok, token, if_fine, maybe, name_fine, identifier_fine, number_fine}
 use Rattle.ecma_printable.proofs.Forms.{Sound, AllSound}
 use Rattle.ecma_printable.proofs.Expressions.{element, array, object, property, cover, spread, bracketed, parens, template, accessed, dotted, member, super_property, call, super_call, import_call, new_with, new_bare, chain_member, chain_call, tagged, update, unary, awaits, binary, conditional, assignment, sequence, yield_bare, yields, array_pattern, object_pattern, initialised, rests, keyed_item, named_item}
 use Rattle.ecma_printable.proofs.Functions.{InnerSound, parameter, function_inner, function_good, function_declared, function_expressed, arrow_block, arrow_expression, object_method, getter, setter, class_inner, class_good, class_declared, class_expressed, constructs, class_method_on, private_method_on, field, private_field, accessor, static_block_on}
@@ -18,7 +18,7 @@ module _ (look : Look) where
     good (this_expr s) c = λ ts r h st. ok ▸ ok ▸ ok ▸ ok
     good (null_lit s) c = λ ts r h st. ok ▸ ok
     good (bool_lit s v) c = λ ts r h st. ok ▸ ok
-    good (ident s n) c = λ ts r h st. name_fine look s n
+    good (ident s n) c = λ ts r h st. identifier_fine look s n
     good (ident_name s n) c = λ ts r h st. if_fine (is_key st) (ok ▸ ok ▸ ok) (name_fine look s n)
     good (private_name s n) c = λ ts r h st. ok ▸ ok ▸ name_fine look s n ▸ ok
     good (str_lit s u w) c = λ ts r h st. maybe _ _ ▸ ok ▸ ok ▸ ok ▸ maybe _ _
@@ -64,7 +64,7 @@ module _ (look : Look) where
     good (yield_expr s absent g) c = λ ts r h. yield_bare look s g
     good (yield_expr s a g) c = yields look s a g (good a) c
     good (seq_expr s xs) c = sequence look s xs (goods xs) c
-    good (binding_ident s (ident t n)) c = λ ts r h st. name_fine look s n
+    good (binding_ident s (ident t n)) c = λ ts r h st. identifier_fine look s n
     good (binding_ident s _) c = λ ts r h. absurd h
     good (array_pat s xs) c = array_pattern look s xs (goods xs) c
     good (object_pat s ps) c = object_pattern look s ps (goods ps) c

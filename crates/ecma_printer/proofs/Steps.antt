@@ -8,11 +8,12 @@ use Rattle.ecma_write.specs.States.{State, Does, Keeps, MayAnswer, FaultFits, ha
 use Rattle.ecma_write.specs.declared.fault.EmitError.{EmitError}
 use Rattle.ecma_write.specs.declared.fault.EmitError.TheVariants.{Write, Memory, Node, Position}
 use Rattle.ecma_write.proofs.Growing.{front_same, front_trans}
-use Rattle.ecma_pieces.specs.Pieces.{Piece, call}
+use Rattle.ecma_token.specs.declared.place.BytePos.{BytePos}
+use Rattle.ecma_pieces.specs.Pieces.{Piece, Text, Commit, Mark, call}
 use Rattle.ecma_pieces.specs.Utf8.{IsUtf8Page, IsUtf8Piece}
 use Rattle.ecma_pieces.proofs.Utf8.{call_text}
 use Rattle.ecma_printer.specs.Prints.{Asked, ask, stop, lay, IsAt, Prints, MayFault, failed_by}
-use Rattle.ecma_layout.specs.Looks.{Laid, nothing, one, both, refused, when, gap_or}
+use Rattle.ecma_layout.specs.Looks.{Laid, nothing, one, named, both, refused, when, gap_or}
 use Rattle.ecma_layout.specs.declared.look.Look.{Look}
 use Rattle.ecma_printer.proofs.Onward.{Onward, onward_same, call_onward, fits_on}
 
@@ -203,6 +204,11 @@ when_as {S} {tells} {state} {failed} {loans} l {w} {v} {f} {g} e h = subst (λ (
 pub laid_as : {S : Type 0} {tells : S → Type 0} {state : S → State} {failed : S → ℕ} {loans : S → List GName} {l m : Laid} {w v : S} {f g : Option EmitError}
     → l ≡ m → Prints {S = S} tells state failed loans l w f v g → Prints {S = S} tells state failed loans m w f v g
 laid_as {S} {tells} {state} {failed} {loans} {l} {m} {w} {v} {f} {g} e h = subst (λ (k : Laid). Prints {S = S} tells state failed loans k w f v g) e h
+
+-- a name with the place where it was read
+pub named_as : {S : Type 0} {tells : S → Type 0} {state : S → State} {failed : S → ℕ} {loans : S → List GName} {pos : BytePos} {own : List ℕ} {w v : S} {f g : Option EmitError}
+    → Prints {S = S} tells state failed loans (both (one Commit) (both (one (Mark pos)) (one (Text None own)))) w f v g → Prints {S = S} tells state failed loans (named pos own) w f v g
+named_as h = record { so = h.so }
 
 -- a blank that words ask for, where it is asked otherwise
 pub gap_as : {S : Type 0} {tells : S → Type 0} {state : S → State} {failed : S → ℕ} {loans : S → List GName} (look : Look) {w v : S} {f g : Option EmitError} {b d : Bool}

@@ -6,9 +6,9 @@ use Rattle.ecma_write.specs.Pages.{IsFront}
 use Rattle.ecma_write.specs.States.{State, FaultFits, has_places, is_write}
 use Rattle.ecma_write.specs.declared.fault.EmitError.{EmitError}
 use Rattle.ecma_write.specs.declared.fault.EmitError.TheVariants.{Write, Memory, Node, Position}
-use Rattle.ecma_pieces.specs.Pieces.{Piece, Text, call}
+use Rattle.ecma_pieces.specs.Pieces.{Piece, Text, Commit, Mark, call}
 use Rattle.ecma_pieces.specs.Utf8.{IsUtf8Page}
-use Rattle.ecma_layout.specs.Looks.{Laid, nothing, one, meant, both, refused, texts_of}
+use Rattle.ecma_layout.specs.Looks.{Laid, nothing, one, meant, named, both, refused, texts_of}
 
 -- What there is to write so far: the state that it makes of a writer, and whether something in it can't be printed, behind which
 -- nothing is to be written. Beside it what a writer had at first: its bytes, whether they are known, whether its page is one of text, and
@@ -39,6 +39,7 @@ abbrev pub lay : Laid → Asked → Asked
 lay nothing a = a
 lay (one x) a = ask x a
 lay (meant m) a = lay_texts (texts_of m) a
+lay (named pos own) a = ask (Text None own) (ask (Mark pos) (ask Commit a))
 lay (both f g) a = lay g (lay f a)
 lay refused a = stop a
 

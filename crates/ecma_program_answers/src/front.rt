@@ -1,13 +1,18 @@
 //! What `ecma_front` answers that no command line says.
 
+use crate::print::tell_marks;
 use ecma_answers::{Answer, Question};
-use ecma_front::memory::{MemReader, MemWriter};
+use ecma_front::memory::{Interrupts, MemReader, MemWriter, Zeros};
 use ecma_front::{
-    EsSyntax, EsVersion, Failing, Fault, Goal, Indent, Options, Style, Syntax, place, read,
-    run_kept,
+    CountedRead, EsSyntax, EsVersion, Failing, Fault, Goal, Indent, Options, Positions, Style,
+    Syntax, place, read, run_kept,
 };
 use ecma_node::ProgramKind;
+use std::alloc::Global;
 use std::io::ErrorKind;
+
+/// How a run ended.
+type Ended = Result<Option<Positions>, Fault>;
 
 /// The optional parts of the language that a question's text may have.
 fn syntax(question: &Question<'_>) -> EsSyntax {
@@ -45,7 +50,11 @@ fn options(question: &Question<'_>) -> Options {
         } else {
             Goal::Script
         },
-        style: Style::Minify,
+        style: if question.has("format") {
+            Style::Format
+        } else {
+            Style::Minify
+        },
         target: if question.has("es3") {
             EsVersion::Es3
         } else {
@@ -81,34 +90,54 @@ pub fn tell(question: &Question<'_>, answer: &mut Answer) -> anyhow::Result<()> 
     }
 }
 
-/// A run from a reader to a writer that take pieces and fail where the question says: its fault, the output, what was kept of the
-/// input, and the calls and failures of both.
+/// A run to a writer that fails where the question says, with `zeros` by taking nothing: the writer, and how the run ended.
+fn run_to<R: CountedRead>(
+    question: &Question<'_>,
+    alloc: Global,
+    reader: &mut R,
+    kept: &mut Vec<u8>,
+) -> anyhow::Result<(MemWriter, Ended)> {
+    let piece = question.number("written").unwrap_or(64).max(1) as usize;
+    let room = question.number("room").unwrap_or(65_536) as usize;
+    let mut writer = MemWriter::new(alloc, room, piece, question.number("write_fails"))?;
+    if question.has("zeros") {
+        let mut writer = Zeros::new(writer);
+        let ended = run_kept(alloc, reader, &mut writer, options(question), kept);
+        return Ok((writer.into_inner(), ended));
+    }
+    let ended = run_kept(alloc, reader, &mut writer, options(question), kept);
+    Ok((writer, ended))
+}
+
+/// A run from a reader and to a writer that take pieces and fail where the question says, the reader with `interrupted` by being
+/// interrupted: the fault, the output, what was kept of the input, the calls and failures of both, and the positions where they are asked
+/// for.
 pub fn tell_run(question: &Question<'_>, answer: &mut Answer) -> anyhow::Result<()> {
     let alloc = answer.alloc();
-    let (read, written) = (question.number("read"), question.number("written"));
-    let read = read.unwrap_or(64).max(1) as usize;
-    let written = written.unwrap_or(64).max(1) as usize;
-    let room = question.number("room").unwrap_or(65_536) as usize;
+    let piece = question.number("read").unwrap_or(64).max(1) as usize;
     let text = question.text(0).as_bytes();
-    let mut reader = MemReader::new(alloc, text, read, question.number("read_fails"))?;
-    let mut writer = MemWriter::new(alloc, room, written, question.number("write_fails"))?;
+    let mut reader = MemReader::new(alloc, text, piece, question.number("read_fails"))?;
     let mut kept = Vec::new(alloc);
-    let ended = run_kept(
-        alloc,
-        &mut reader,
-        &mut writer,
-        options(question),
-        &mut kept,
-    );
-    match ended {
-        Ok(None) => answer.say("written")?,
-        Ok(Some(_positions)) => answer.say("positions")?,
+    let (writer, ended) = if question.has("interrupted") {
+        let mut halted = Interrupts::new(reader);
+        let done = run_to(question, alloc, &mut halted, &mut kept)?;
+        reader = halted.into_inner();
+        done
+    } else {
+        run_to(question, alloc, &mut reader, &mut kept)?
+    };
+    match &ended {
+        Ok(_) => answer.say("written")?,
         Err(fault) => answer.say(fault)?,
     }
     answer.push(writer.bytes())?;
     answer.push(kept.as_slice())?;
     answer.say(format_args!("{} reads, {} failed", reader.calls(), reader.failures()))?;
-    Ok(answer.say(format_args!("{} writes, {} failed", writer.calls(), writer.failures()))?)
+    answer.say(format_args!("{} writes, {} failed", writer.calls(), writer.failures()))?;
+    match ended {
+        Ok(Some(positions)) => tell_marks(positions.as_slice(), answer),
+        _ => Ok(()),
+    }
 }
 
 /// The messages of all faults but those of the syntax.

@@ -170,7 +170,7 @@ fn message(fault: EmitError) -> &'static str {
 }
 
 /// Tells each place of the source with the line and the column at which it stands in what is written.
-fn tell_marks(marks: &[(BytePos, LineCol)], answer: &mut Answer) -> anyhow::Result<()> {
+pub fn tell_marks(marks: &[(BytePos, LineCol)], answer: &mut Answer) -> anyhow::Result<()> {
     let alloc = answer.alloc();
     let mut places = String::new(alloc);
     for (pos, place) in marks {

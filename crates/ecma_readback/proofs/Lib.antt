@@ -2,3 +2,4 @@ pub mod Shapes
 pub mod Hashbangs
 pub mod Written
 pub mod Whole
+pub mod Marked

@@ -15,28 +15,33 @@ use Rattle.ecma_layout.specs.declared.look.Stand.TheVariants.{Alone}
 use Rattle.ecma_layout.specs.Looks.{commit, start, when, ◌·◌}
 use Rattle.ecma_layout.specs.Layout.{is_empty, laid, statements}
 use Rattle.ecma_written.specs.Gaps.{Spaced}
+use Rattle.ecma_written.specs.Naming.{Naming, StandsFor, unplaced_names}
 use Rattle.ecma_written.proofs.Bridge.{bridge}
 use Rattle.ecma_written.proofs.Known.{tokens_are_known}
 use Rattle.ecma_written_tiles.specs.Laws.{IsTiled}
-use Rattle.ecma_written_tiles.specs.Tiles.{SaysTiles, IsEmptyPage}
+use Rattle.ecma_written_tiles.specs.Tiles.{SaysTiles, anywhere, IsEmptyPage}
+use Rattle.ecma_written_tiles.proofs.Names.{tiles_weaker}
 use Rattle.ecma_written_tiles.proofs.Retiled.{tiles_again}
 use Rattle.ecma_written_tiles.proofs.Texts.{layouts_are_tiled, hashbangs_are_tiled}
 use Rattle.ecma_lexicon.proofs.Filled.{texts_mean}
-use Rattle.ecma_redone.specs.Redo.{Mode, Plain, kept}
+use Rattle.ecma_redone.specs.Redo.{Mode, Plain, kept_at, nowhere, Same}
 use Rattle.ecma_redone.specs.Every.{every}
 use Rattle.ecma_redone.specs.Faithful.{HasElements}
 use Rattle.ecma_redone.specs.Read.{Knowledge, Read}
-use Rattle.ecma_redone.specs.Written.{leaves_of}
+use Rattle.ecma_redone.specs.Written.{leaves_by}
+use Rattle.ecma_redone.specs.Laws.{kept_names}
 use Rattle.ecma_redone.proofs.Early.{legal_alike}
 use Rattle.ecma_redone.proofs.Found.{found}
 use Rattle.ecma_redone.proofs.Mapped.{mapped}
+use Rattle.ecma_redone.proofs.Names.{names_alike}
 use Rattle.ecma_redone.proofs.Programs.{same_program}
 use Rattle.ecma_redone.proofs.Shapes.{clean_alike, nests_alike}
 use Rattle.ecma_redone_texts.proofs.Derived.{derived_is_read}
 use Rattle.ecma_redone_texts.proofs.Leaves.{read_is_faithful}
+use Rattle.ecma_redone_bytes.proofs.Laws.{written_again}
 use Rattle.ecma_redone_whole.specs.Laws.{is_program}
 use Rattle.ecma_redone_whole.proofs.Programs.{derived_again}
-use Rattle.ecma_readback.specs.Laws.{GoingIsReadBack, HasLineText, IsReadBack, ProgramGoes, ProgramsAreTiled, ProgramsGo, TiledIsReadBack}
+use Rattle.ecma_readback.specs.Laws.{GoingIsReadBack, HasLineText, IsReadBack, NamesReadBack, ProgramGoes, ProgramsAreTiled, ProgramsGo, TiledIsReadBack}
 use Rattle.ecma_readback.proofs.Hashbangs.{line_text}
 use Rattle.ecma_readback.proofs.Shapes.{redone_goal, goal_is_program, program_is_no_quasi, programmed, goal_is_placed, placed_again, same_tokens, start_is_silent}
 
@@ -66,30 +71,57 @@ has_elements t c ts r i h = mapped (Read anything.Known) HasElements elements Pl
 
 -- ---- one written text
 
--- Tokens that a layout says, and that tile a text, are derived again by a tree of the same program, and by no other.
-written : (look : Look) (x : Setting) (modules : Bool) (t : Tree) (text out : List ℕ) → scalars text ≡ true → TreeSpells x modules t text → SaysTiles text_start modules (laid look Alone t) out → IsReadBack x modules t out
-written look x modules t text out e h w =
+-- A tree that reads a text is this one but for places and spellings, and its names stand for those of this one.
+record ReadAs (n : Naming) (look : Look) (x : Setting) (modules : Bool) (t : Tree) (out : List ℕ) : Type 0 where
+  tree : Tree
+  reads : Reads modules x.syntax tree out
+  same : Same (leaves_by look n.read n.written) Plain t tree
+  whole : every HasElements Plain tree
+
+-- Tokens that a layout says, and that tile a text, are derived again.
+read_as : (n : Naming) (look : Look) (x : Setting) (modules : Bool) (t : Tree) (text out : List ℕ) → scalars text ≡ true → TreeSpells x modules t text → SaysTiles (StandsFor n) text_start modules (laid look Alone t) out → ReadAs n look x modules t out
+read_as n look x modules t text out e h w =
     let c : Code = code_of modules x.syntax in
-    let d = h.reads.4.0 in
     let i = goal_is_program modules t h.reads.2 in
     let k = tokens_are_known text_start modules text h.reads.0 e h.reads.3 in
     let ts : Input = record { last = text_start; places = w.places } in
-    let q = bridge (laid look Alone t) Spaced w.gap ts w.over (λ b m. m.places ≡ []) w.says w.all in
-    let b = derived_again look (texts_mean look.style) t i c (record { last = text_start; places = h.reads.0 }) h.reads.1 d k Spaced ts q in
+    let q = bridge n (laid look Alone t) Spaced w.gap ts w.over (λ b m. m.places ≡ []) w.says w.all in
+    let b = derived_again n look (texts_mean look.style) t i c (record { last = text_start; places = h.reads.0 }) h.reads.1 h.reads.4.0 k Spaced ts q in
     let u = b.0 in
     let a = b.3 in
-    let g : is_of_goal modules u ≡ true = sym (redone_goal modules kept Plain u) ∙ (ap (λ v. is_of_goal modules v) (a.so Plain) ∙ (redone_goal modules (leaves_of look) Plain t ∙ h.reads.2)) in
+    let g : is_of_goal modules u ≡ true = sym (redone_goal modules (kept_at n.written) Plain u) ∙ (ap (λ v. is_of_goal modules v) (a.so Plain) ∙ (redone_goal modules (leaves_by look n.read n.written) Plain t ∙ h.reads.2)) in
     let j = goal_is_program modules u g in
     let o = has_places (unplaced c) u ts b.1 b.2 in
     let s : Spells u c (record { last = text_start; places = o.0 }) b.1 = subst (λ (v : Code). Spells u v (record { last = text_start; places = o.0 }) b.1) (placed_again modules x.syntax) o.2 in
     let f : Tile text_start modules out o.0 = tiles_again text_start modules out w.places o.0 w.tiles w.goals (same_tokens w.places o.0 o.1) (programs_match u c _ b.1 (goal_is_placed modules x.syntax) (programmed u c _ b.1 j s)) in
-    let y = read_is_faithful look Plain t (derived_is_read Plain t c _ h.reads.1 refl (program_is_no_quasi t i) d k) in
-    let z : Reads modules x.syntax u out = (o.0, b.1, g, f, (s, clean_alike look Plain t u a ∙ h.reads.4.1)) in
     record {
       tree = u;
-      spells = record { reads = z; clean = legal_alike look Plain t u y a x.syntax h.clean; within = subst (λ n. n ≤ x.limit) (sym (nests_alike look Plain t u a)) h.within };
-      same = same_program look Plain t u y (has_elements u c _ b.1 j s) a;
-      only = λ v n. one_tree_reads modules x.syntax v u out n z;
+      reads = (o.0, b.1, g, f, (s, clean_alike look n.read n.written Plain t u a ∙ h.reads.4.1));
+      same = a;
+      whole = has_elements u c _ b.1 j s;
+    }
+
+-- The names of each tree that reads such a text stand for those of this one.
+pub names_stand : NamesReadBack
+names_stand n look x modules t text out e h w v r =
+    let a = read_as n look x modules t text out e h w in
+    subst (λ (u : Tree). kept_names n.written u ≡ kept_names n.read t) (sym (one_tree_reads modules x.syntax v a.tree out r a.reads)) (names_alike look n.read n.written Plain t a.tree a.same)
+
+-- Such a tree is of the same program, and no other reads the text; and it is written as the other.
+written : (look : Look) (x : Setting) (modules : Bool) (t : Tree) (text out : List ℕ) → scalars text ≡ true → TreeSpells x modules t text → SaysTiles anywhere text_start modules (laid look Alone t) out → IsReadBack look x modules t out
+written look x modules t text out e h w =
+    let b = read_as unplaced_names look x modules t text out e h (tiles_weaker anywhere (StandsFor unplaced_names) (λ pos at k. refl) text_start modules (laid look Alone t) out w) in
+    let u = b.tree in
+    let a = b.same in
+    let k = tokens_are_known text_start modules text h.reads.0 e h.reads.3 in
+    let read = derived_is_read Plain t (code_of modules x.syntax) _ h.reads.1 refl (program_is_no_quasi t (goal_is_program modules t h.reads.2)) h.reads.4.0 k in
+    let y = read_is_faithful look Plain t read in
+    record {
+      tree = u;
+      spells = record { reads = b.reads; clean = legal_alike look nowhere nowhere Plain t u y a x.syntax h.clean; within = subst (λ n. n ≤ x.limit) (sym (nests_alike look nowhere nowhere Plain t u a)) h.within };
+      same = same_program look nowhere nowhere Plain t u y b.whole a;
+      only = λ v n. one_tree_reads modules x.syntax v u out n b.reads;
+      again = λ two m. written_again look two m t u read a;
     }
 
 pub tiled_is_read_back : TiledIsReadBack

@@ -13,10 +13,14 @@ use Rattle.ecma_layout.specs.declared.look.Look.{Look}
 use Rattle.ecma_layout.specs.declared.look.Stand.TheVariants.{Alone}
 use Rattle.ecma_layout.specs.Looks.{◌·◌, when, commit}
 use Rattle.ecma_layout.specs.Layout.{laid, statements, pieces}
+use Rattle.ecma_layout_laws.specs.Marks.{AreWrittenAlike}
 use Rattle.ecma_written.specs.Means.{Known}
+use Rattle.ecma_written.specs.Naming.{Naming, StandsFor}
 use Rattle.ecma_written_tiles.specs.Goes.{GoesWhole}
 use Rattle.ecma_written_tiles.specs.Laws.{IsTiled}
-use Rattle.ecma_written_tiles.specs.Tiles.{IsEmptyPage, IsHashbangText}
+use Rattle.ecma_written_tiles.specs.Tiles.{SaysTiles, IsEmptyPage, IsHashbangText}
+use Rattle.ecma_redone_bytes.specs.Laws.{WritesAgain}
+use Rattle.ecma_redone.specs.Laws.{kept_names}
 use Rattle.ecma_redone_whole.specs.Laws.{is_program}
 
 -- Behind a hashbang (12.5) each text of the statements may follow what stands before it.
@@ -46,17 +50,18 @@ abbrev pub ProgramsAreTiled : Look → Type 0
 ProgramsAreTiled look = (modules : Bool) (t : Tree) (c : Code) (ts r : Input) (p : Page) → is_program t ≡ true → Spells t c ts r → Known ts.places → HasLineText t → IsEmptyPage p
     → IsTiled text_start modules (laid look Alone t) p
 
--- A tree of the same program spells the text, and no other reads it.
-pub record IsReadBack (x : Setting) (modules : Bool) (t : Tree) (text : List ℕ) : Type 0 where
+-- A tree of the same program spells the text that is written of another in a look, no other reads it, and in each look in which that text may be written again it is written as the other.
+pub record IsReadBack (look : Look) (x : Setting) (modules : Bool) (t : Tree) (text : List ℕ) : Type 0 where
   pub tree : Tree
   pub spells : TreeSpells x modules tree text
   pub same : IsSameProgram tree t
   pub only : (v : Tree) → Reads modules x.syntax v text → v ≡ tree
+  pub again : (two : Look) → WritesAgain look two → AreWrittenAlike two tree t
 
 -- A tree that spells a text is written in a look, formatted and minified, as a text that the same program spells.
 abbrev pub ReadBack : Look → Type 0
 ReadBack look = (x : Setting) (modules : Bool) (t : Tree) (text : List ℕ) (p : Page) → scalars text ≡ true → TreeSpells x modules t text → IsEmptyPage p
-    → IsReadBack x modules t (chars (resolved (pieces look t) p).out) × IsReadBack x modules t (chars (shortened (pieces look t) p).out)
+    → IsReadBack look x modules t (chars (resolved (pieces look t) p).out) × IsReadBack look x modules t (chars (shortened (pieces look t) p).out)
 
 -- Where what is written of programs is tiled by what their layouts say, it is read back;
 abbrev pub TiledIsReadBack : Type 0
@@ -69,3 +74,9 @@ GoingIsReadBack = (look : Look) → ProgramsGo look → ReadBack look
 -- What is written of every program is read back, in every look.
 abbrev pub ProgramsReadBack : Type 0
 ProgramsReadBack = (look : Look) → ReadBack look
+
+-- Where tokens that tile a text are said by the layout of a tree that spells one, each name where it stands for the one that was read, a tree that reads that text has as many names,
+-- the i-th of both is the same word, and the one stands for the other.
+abbrev pub NamesReadBack : Type 0
+NamesReadBack = (n : Naming) (look : Look) (x : Setting) (modules : Bool) (t : Tree) (text out : List ℕ) → scalars text ≡ true → TreeSpells x modules t text
+    → SaysTiles (StandsFor n) text_start modules (laid look Alone t) out → (v : Tree) → Reads modules x.syntax v out → kept_names n.written v ≡ kept_names n.read t

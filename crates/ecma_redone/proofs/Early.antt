@@ -21,10 +21,10 @@ use Rattle.ecma_spell_base.specs.declared.style.Style.{Style}
 use Rattle.ecma_spell_string.specs.Names.{is_latin, is_quoted_key}
 use Rattle.ecma_layout.specs.declared.look.Look.{Look}
 use Rattle.ecma_layout.specs.Looks.{formats}
-use Rattle.ecma_redone.specs.Redo.{Mode, Plain, is_pointed, Leaves, kept, redo, redos}
+use Rattle.ecma_redone.specs.Redo.{Mode, Plain, is_pointed, Leaves, kept_at, redo, redos}
 use Rattle.ecma_redone.specs.Every.{every, every_all}
 use Rattle.ecma_redone.specs.Faithful.{is_strict_text, Faithful}
-use Rattle.ecma_redone.specs.Written.{leaves_of, new_arguments, given_none, written_key, written_constructor_key}
+use Rattle.ecma_redone.specs.Written.{leaves_by, new_arguments, given_none, written_key, written_constructor_key}
 use Rattle.ecma_redone.specs.Laws.{LegalAlike}
 use Rattle.ecma_redone.proofs.Folded.{All, Kids, Keeps, everywhere, folded}
 use Rattle.ecma_redone.proofs.Ascii.{ascii_chars}
@@ -157,7 +157,7 @@ module _ (d : Bool) where
       -- ---- names
 
       evil_kept : (m : Mode) (t : Tree) → R (evil (name_in (redo l m t))) (evil (name_in t))
-      evil_kept m (ident s n) x = faulty d _ _ _ no_place s refl
+      evil_kept m (ident s n) x = faulty d _ _ _ (l.read s.lo.0) s refl
       evil_kept m (paren_expr s e) x = evil_kept Plain e x
       evil_kept m _ x = none_both d
 
@@ -175,7 +175,7 @@ module _ (d : Bool) where
       labelled_same _ b x = refl
 
       doubled_kept : (a : Tree) → R (doubled (redo l Plain a)) (doubled a)
-      doubled_kept (ident s n) x = faulty d _ _ _ no_place s refl
+      doubled_kept (ident s n) x = faulty d _ _ _ (l.read s.lo.0) s refl
       doubled_kept _ x = none_both d
 
       breaks_kept : (a : Tree) (q s : Span) → R (breaks_out (redo l Plain a) q) (breaks_out a s)
@@ -313,7 +313,7 @@ module _ (d : Bool) where
       re_absent t = ap (λ (v : Bool). not v) (is_absent_same l Plain t)
 
       node : (m : Mode) (t : Tree) → every P m t → (us vs : List (List Walk)) → Kids R us vs → R (step (redo l m t) us) (step t vs)
-      node m (ident s n) k us vs h x = joined d _ _ _ _ (faulty d _ _ _ no_place s refl) (faulty d _ _ _ no_place s refl)
+      node m (ident s n) k us vs h x = joined d _ _ _ _ (faulty d _ _ _ (l.read s.lo.0) s refl) (faulty d _ _ _ (l.read s.lo.0) s refl)
       node m (binding_ident s i) k us vs h x = joined d _ _ _ _ (within_kept us vs h x) (evil_kept Plain i x)
       node m (str_lit s u w) k us vs h x = strict_kept x _ _ (legal.string m s u w k no_place s)
       node m (number_lit s v w) k us vs h x = strict_kept x _ _ (legal.number m s v w k no_place s)
@@ -401,16 +401,16 @@ number_kept (Some raw) q r e = both_empty _ _ (fault_empty _ _ q r (first_empty 
 abbrev Anything : Mode → Tree → Type 0
 Anything m t = Unit {0}
 
-proto_as_it_was : (q s : Span) (k u v : Tree) → is_proto (key_value_prop q (redo kept Plain k) u) ≡ is_proto (key_value_prop s k v)
-proto_as_it_was q s (ident_name t n) u v = refl
-proto_as_it_was q s (str_lit t n w) u v = refl
-proto_as_it_was q s _ u v = refl
+proto_as_it_was : (places : ℕ → Span) (q s : Span) (k u v : Tree) → is_proto (key_value_prop q (redo (kept_at places) Plain k) u) ≡ is_proto (key_value_prop s k v)
+proto_as_it_was places q s (ident_name t n) u v = refl
+proto_as_it_was places q s (str_lit t n w) u v = refl
+proto_as_it_was places q s _ u v = refl
 
-legal_kept : Legal false Anything kept
-legal_kept = record { string = λ m s u w h q r. text_kept w q r; strict = λ m s u w h. refl; number = λ m s v w h q r. number_kept w q r; proto = proto_as_it_was }
+legal_kept : (places : ℕ → Span) → Legal false Anything (kept_at places)
+legal_kept places = record { string = λ m s u w h q r. text_kept w q r; strict = λ m s u w h. refl; number = λ m s v w h q r. number_kept w q r; proto = proto_as_it_was places }
 
-keeps_kept : Keeps (R false) Anything step kept
-keeps_kept = record { node = node false Anything kept legal_kept; arguments = λ b a h. h; key = λ k e h. h; constructor_key = λ k e h. h }
+keeps_kept : (places : ℕ → Span) → Keeps (R false) Anything step (kept_at places)
+keeps_kept places = record { node = node false Anything (kept_at places) (legal_kept places); arguments = λ b a h. h; key = λ k e h. h; constructor_key = λ k e h. h }
 
 -- ---- a tree as it is written
 
@@ -418,11 +418,11 @@ given_empty : (v : Bool) (x : Scope) → fold step (given_none v) x ≡ []
 given_empty true x = refl
 given_empty false x = refl
 
-arguments_written : (look : Look) (b : Bool) (a : Tree) → R true (fold step (redo (leaves_of look) Plain a)) (fold step a) → R true (fold step (new_arguments look b (redo (leaves_of look) Plain a))) (fold step a)
-arguments_written look b absent h x = λ e. given_empty (formats look || b) x
-arguments_written look b (list none) h x = λ e. given_empty (formats look || b) x
-arguments_written look b (list (more t ts)) h x = h x
-arguments_written look b _ h x = h x
+arguments_written : (look : Look) (read written : ℕ → Span) (b : Bool) (a : Tree) → R true (fold step (redo (leaves_by look read written) Plain a)) (fold step a) → R true (fold step (new_arguments look b (redo (leaves_by look read written) Plain a))) (fold step a)
+arguments_written look read written b absent h x = λ e. given_empty (formats look || b) x
+arguments_written look read written b (list none) h x = λ e. given_empty (formats look || b) x
+arguments_written look read written b (list (more t ts)) h x = h x
+arguments_written look read written b _ h x = h x
 
 none_where_strict : (x : Scope) (es : List Error) → es ≡ [] → where_strict x es ≡ []
 none_where_strict x es e = by x.strict
@@ -431,14 +431,14 @@ none_where_strict x es e = by x.strict
     by true = e
     by false = refl
 
-key_written : (look : Look) (k : Tree) → every (Faithful look) Plain k → R true (fold step (redo (leaves_of look) Plain k)) (fold step k)
-    → R true (fold step (written_key look.style (redo (leaves_of look) Plain k))) (fold step k)
-key_written look k e h = key_folded (R true) step (leaves_of look) look.style k
+key_written : (look : Look) (read written : ℕ → Span) (k : Tree) → every (Faithful look) Plain k → R true (fold step (redo (leaves_by look read written) Plain k)) (fold step k)
+    → R true (fold step (written_key look.style (redo (leaves_by look read written) Plain k))) (fold step k)
+key_written look read written k e h = key_folded (R true) step (leaves_by look read written) look.style k
     (λ s n i q x f. none_where_strict x _ (ap (λ (v : Bool). fault v LegacyOctal no_place) ((subst (λ (t : Tree). every (Faithful look) Plain t) i e) q))) h
 
-constructor_key_written : (look : Look) (k : Tree) → R true (fold step (redo (leaves_of look) Plain k)) (fold step k)
-    → R true (fold step (written_constructor_key (redo (leaves_of look) Plain k))) (fold step k)
-constructor_key_written look k h = constructor_key_folded (R true) step (leaves_of look) k (λ s u w i x e. refl) h
+constructor_key_written : (look : Look) (read written : ℕ → Span) (k : Tree) → R true (fold step (redo (leaves_by look read written) Plain k)) (fold step k)
+    → R true (fold step (written_constructor_key (redo (leaves_by look read written) Plain k))) (fold step k)
+constructor_key_written look read written k h = constructor_key_folded (R true) step (leaves_by look read written) k (λ s u w i x e. refl) h
 
 -- a word with a character past ASCII is not `__proto__`, nor are its units
 latin_units : (cs : List ℕ) → list_any is_latin cs ≡ true → list_any is_latin (utf16 cs) ≡ true
@@ -465,40 +465,40 @@ word_apart n h = not_true (bytes_eq n (codes "__proto__")) (λ e. true≢false (
     not_true true f = absurd (f refl)
     not_true false f = refl
 
-proto_plain : (look : Look) (q s : Span) (k u v : Tree) → is_proto (key_value_prop q (redo (leaves_of look) Plain k) u) ≡ is_proto (key_value_prop s k v)
-proto_plain look q s (ident_name t n) u v = refl
-proto_plain look q s (str_lit t n w) u v = refl
-proto_plain look q s _ u v = refl
+proto_plain : (look : Look) (read written : ℕ → Span) (q s : Span) (k u v : Tree) → is_proto (key_value_prop q (redo (leaves_by look read written) Plain k) u) ≡ is_proto (key_value_prop s k v)
+proto_plain look read written q s (ident_name t n) u v = refl
+proto_plain look read written q s (str_lit t n w) u v = refl
+proto_plain look read written q s _ u v = refl
 
-proto_written : (look : Look) (q s : Span) (k u v : Tree) → is_proto (key_value_prop q (written_key look.style (redo (leaves_of look) Plain k)) u) ≡ is_proto (key_value_prop s k v)
-proto_written look q s k u v = by (key_is look.style (leaves_of look) k)
+proto_written : (look : Look) (read written : ℕ → Span) (q s : Span) (k u v : Tree) → is_proto (key_value_prop q (written_key look.style (redo (leaves_by look read written) Plain k)) u) ≡ is_proto (key_value_prop s k v)
+proto_written look read written q s k u v = by (key_is look.style (leaves_by look read written) k)
   where
-    by : KeyIs look.style (leaves_of look) k → is_proto (key_value_prop q (written_key look.style (redo (leaves_of look) Plain k)) u) ≡ is_proto (key_value_prop s k v)
-    by (as_it_was e) = ap (λ (t : Tree). is_proto (key_value_prop q t u)) e ∙ proto_plain look q s k u v
+    by : KeyIs look.style (leaves_by look read written) k → is_proto (key_value_prop q (written_key look.style (redo (leaves_by look read written) Plain k)) u) ≡ is_proto (key_value_prop s k v)
+    by (as_it_was e) = ap (λ (t : Tree). is_proto (key_value_prop q t u)) e ∙ proto_plain look read written q s k u v
     by (as_string t n i h e) =
         let z = latin_key look.style (chars n) h in
         ap (λ (t : Tree). is_proto (key_value_prop q t u)) e ∙ (apart (utf16 (chars n)) (latin_units (chars n) z) ∙ sym (ap (λ (t : Tree). is_proto (key_value_prop s t v)) i ∙ word_apart n z))
 
-legal_written : (look : Look) → Legal true (Faithful look) (leaves_of look)
-legal_written look = record {
+legal_written : (look : Look) (read written : ℕ → Span) → Legal true (Faithful look) (leaves_by look read written)
+legal_written look read written = record {
   string = λ m s u w h q r. h.modern q r;
   strict = λ m s u w h. h.strict;
   number = λ m s v w h q r. h q r;
-  proto = proto_written look;
+  proto = proto_written look read written;
 }
 
-keeps_written : (look : Look) → Keeps (R true) (Faithful look) step (leaves_of look)
-keeps_written look = record {
-  node = node true (Faithful look) (leaves_of look) (legal_written look);
-  arguments = arguments_written look;
-  key = key_written look;
-  constructor_key = λ k e h. constructor_key_written look k h;
+keeps_written : (look : Look) (read written : ℕ → Span) → Keeps (R true) (Faithful look) step (leaves_by look read written)
+keeps_written look read written = record {
+  node = node true (Faithful look) (leaves_by look read written) (legal_written look read written);
+  arguments = arguments_written look read written;
+  key = key_written look read written;
+  constructor_key = λ k e h. constructor_key_written look read written k h;
 }
 
 pub legal_alike : LegalAlike
 unfolding early_errors faults_in
-legal_alike look m t u f s syntax e =
+legal_alike look read written m t u f s syntax e =
     let z = outermost syntax false in
-    let a = folded (R true) (Faithful look) step (leaves_of look) (keeps_written look) m t f z (order_empty (fold step t z) e) in
-    let b = folded (R false) Anything step kept keeps_kept Plain u (everywhere Anything (λ m t. tt) Plain u) z (ap (λ (w : Tree). fold step w z) (s.so Plain) ∙ a) in
+    let a = folded (R true) (Faithful look) step (leaves_by look read written) (keeps_written look read written) m t f z (order_empty (fold step t z) e) in
+    let b = folded (R false) Anything step (kept_at written) (keeps_kept written) Plain u (everywhere Anything (λ m t. tt) Plain u) z (ap (λ (w : Tree). fold step w z) (s.so Plain) ∙ a) in
     order_none (fold step u z) b

@@ -1,5 +1,5 @@
 -- A tree that is derived from known tokens is read from these: by induction, a line a node.
-use Rattle.std.proofs.Common.{ℕ, true, false, ◌&&◌, List, Option, refl, true≢false}
+use Rattle.std.proofs.Common.{ℕ, true, false, ◌&&◌, List, Option, ap, refl, sym, ◌∙◌, true≢false}
 use Rattle.ecma_number.specs.Numbers.{SpecNumber}
 use Rattle.ecma_token.specs.declared.place.Span.{Span}
 use Rattle.ecma_tree.specs.Tree.{Tree, Trees, none, more, script, es_module, import_decl, export_decl, named_export, export_default_decl, export_default_expr, export_all, import_named_specifier, import_default_specifier, import_star_as_specifier, export_namespace_specifier, export_named_specifier, block_stmt, empty_stmt, debugger_stmt, with_stmt, return_stmt, labeled_stmt, break_stmt, continue_stmt, if_stmt, switch_stmt, switch_case, throw_stmt, try_stmt, catch_clause, while_stmt, do_while_stmt, for_stmt, for_in_stmt, for_of_stmt, expr_stmt, class_decl, fn_decl, var_decl, using_decl, var_declarator, function, param, class, constructor, class_method, private_method, class_prop, private_prop, static_block, auto_accessor, ident_name, computed_prop_name, private_name, this_expr, array_lit, object_lit, fn_expr, unary_expr, update_expr, bin_expr, assign_expr, member_expr, super_prop_expr, cond_expr, call_expr, new_expr, seq_expr, ident, tpl, tpl_element, tagged_tpl, arrow_expr, class_expr, yield_expr, meta_prop_expr, await_expr, paren_expr, opt_chain_expr, opt_call, super, import, expr_or_spread, spread_element, key_value_prop, assign_prop, getter_prop, setter_prop, method_prop, str_lit, bool_lit, null_lit, number_lit, big_int_lit, regex_lit, binding_ident, array_pat, rest_pat, object_pat, assign_pat, key_value_pat_prop, assign_pat_prop, expr_pat, list, absent}
@@ -17,7 +17,7 @@ module _ (know : Knowledge) where
   -- ---- the induction
 
   pub word_found : (s : Span) (k : List ℕ) → Found know (ident s k)
-  word_found s k mode n whole c ts r h l = (record { at = ts; known = l; word = h.0.0; is = h.0.3 }, know.later ts r h.0.5 l)
+  word_found s k mode n whole c ts r h l = (record { at = ts; known = l; word = h.0.0; is = h.0.3; begins = ap (λ (p : Span). p.lo.0) h.1 }, know.later ts r h.0.5 l)
 
   pub key_found : (s : Span) (k : List ℕ) → Found know (ident_name s k)
   key_found s k mode n whole c ts r h l = (record { at = ts; known = l; word = h.0.0; is = h.0.1 }, know.later ts r h.0.3 l)
@@ -38,7 +38,7 @@ module _ (know : Knowledge) where
   pattern_found s e f mode n whole c ts r h l = (record { at = ts; known = l; is = h.0 }, took know c _ ts r h.1 l)
 
   pub bound_found : (s t : Span) (k : List ℕ) → Found know (binding_ident s (ident t k))
-  bound_found s t k mode n whole c ts r h l = ((tt, record { at = ts; known = l; word = h.1.0.0; is = h.1.0.3 }), know.later ts r h.1.0.5 l)
+  bound_found s t k mode n whole c ts r h l = ((tt, record { at = ts; known = l; word = h.1.0.0; is = h.1.0.3; begins = ap (λ (p : Span). p.lo.0) (sym h.0 ∙ h.1.1) }), know.later ts r h.1.0.5 l)
 
   mutual
     pub found : (t : Tree) → Found know t

@@ -1,5 +1,5 @@
 -- Imports, exports and programs that are derived from known tokens are read from these.
-use Rattle.std.proofs.Common.{◌≡◌, ◌⊎◌, inl, inr, ℕ, Bool, true, false, List, Option, Some, None, refl}
+use Rattle.std.proofs.Common.{◌≡◌, ◌⊎◌, inl, inr, ℕ, Bool, true, false, List, Option, Some, None, ap, refl}
 use Rattle.ecma_token.specs.declared.place.Span.{Span}
 use Rattle.ecma_token.specs.Kinds.{right_brace_kind, as_kind, with_kind, assert_kind, from_kind}
 use Rattle.ecma_tree.specs.Tree.{Tree, Trees, none, more, script, es_module, import_decl, export_decl, named_export, export_default_decl, export_default_expr, export_all, import_named_specifier, import_default_specifier, import_star_as_specifier, export_namespace_specifier, export_named_specifier, ident}
@@ -19,7 +19,7 @@ module _ (know : Knowledge) where
   -- ---- modules
 
   pub export_name_found : (c : Code) (t : Tree) → Found know t → (ts r : Input) → ExportName c (export_name t) (part t (λ y. Spells t y)) ts r → know.Known ts.places → Fine know Plain t r
-  export_name_found c (ident s k) f ts r h l = ((record { at = ts; known = l; word = h.0.0; is = h.0.1 }), know.later ts r h.0.3 l)
+  export_name_found c (ident s k) f ts r h l = (record { at = ts; known = l; word = h.0.0; is = h.0.1; begins = ap (λ (p : Span). p.lo.0) h.1 }, know.later ts r h.0.3 l)
   export_name_found c t f ts r h l = named t f h
     where
       named : (t : Tree) → Found know t → ExportName c None (part t (λ y. Spells t y)) ts r → Fine know Plain t r

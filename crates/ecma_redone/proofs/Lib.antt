@@ -3,6 +3,7 @@ pub mod Mapped
 pub mod Ascii
 pub mod Keys
 pub mod Shapes
+pub mod Names
 pub mod Programs
 pub mod Early
 pub mod FoundParts
@@ -11,3 +12,4 @@ pub mod FoundFunctions
 pub mod FoundStatements
 pub mod FoundModules
 pub mod Found
+pub mod Begins

@@ -8,9 +8,9 @@ use Rattle.ecma_tree.specs.Tree.{Tree, Trees, none, more, script, es_module, imp
 use Rattle.ecma_program.specs.Program.{program, programs, property_key, arguments, is_escaped, stated, line_ends, texts, with_texts, spelled, placed as placed_program}
 use Rattle.ecma_layout.specs.declared.look.Look.{Look}
 use Rattle.ecma_layout.specs.Looks.{formats}
-use Rattle.ecma_redone.specs.Redo.{Mode, Plain, Headed, Raw, is_head, object_mode, chain_mode, quasi_mode, placed, Leaves, kept, redo, redos}
+use Rattle.ecma_redone.specs.Redo.{Mode, Plain, Headed, Raw, is_head, object_mode, chain_mode, quasi_mode, placed, Leaves, kept_at, redo, redos}
 use Rattle.ecma_redone.specs.Every.{every, every_all}
-use Rattle.ecma_redone.specs.Written.{leaves_of, new_arguments, given_none, written_key, written_constructor_key}
+use Rattle.ecma_redone.specs.Written.{leaves_by, new_arguments, given_none, written_key, written_constructor_key}
 use Rattle.ecma_redone.specs.Faithful.{AreElements, HasElements, Faithful}
 use Rattle.ecma_redone.specs.Laws.{SameProgram}
 use Rattle.ecma_redone.proofs.Ascii.{ascii_chars}
@@ -165,8 +165,8 @@ module _ (P : Mode → Tree → Type 0) (l : Leaves) where
 
 -- ---- as it was, and as the text written has it
 
-kept_tells : Tells HasElements kept
-kept_tells = record {
+kept_tells : (places : ℕ → Span) → Tells HasElements (kept_at places)
+kept_tells places = record {
   strings = λ m s u w h. refl;
   quasis = λ w. refl;
   elements = λ m s es qs h. h;
@@ -185,32 +185,32 @@ arguments_same look b (list none) = given_program (formats look || b)
 arguments_same look b (list (more t ts)) = refl
 arguments_same look b _ = refl
 
-key_same : (look : Look) (k : Tree) → program (redo (leaves_of look) Plain k) ≡ program k → property_key (program (written_key look.style (redo (leaves_of look) Plain k))) ≡ property_key (program k)
-key_same look k h = by (key_is look.style (leaves_of look) k)
+key_same : (look : Look) (read written : ℕ → Span) (k : Tree) → program (redo (leaves_by look read written) Plain k) ≡ program k → property_key (program (written_key look.style (redo (leaves_by look read written) Plain k))) ≡ property_key (program k)
+key_same look read written k h = by (key_is look.style (leaves_by look read written) k)
   where
-    by : KeyIs look.style (leaves_of look) k → property_key (program (written_key look.style (redo (leaves_of look) Plain k))) ≡ property_key (program k)
+    by : KeyIs look.style (leaves_by look read written) k → property_key (program (written_key look.style (redo (leaves_by look read written) Plain k))) ≡ property_key (program k)
     by (as_it_was e) = ap (λ (t : Tree). property_key (program t)) e ∙ ap property_key h
     by (as_string s n i q e) = ap (λ (t : Tree). property_key (program t)) e ∙ sym (ap (λ (t : Tree). property_key (program t)) i)
 
 constructor_units : (u : List ℕ) → bytes_eq u (codes "constructor") ≡ true → str_lit no_place (utf16 (chars (codes "constructor"))) None ≡ str_lit no_place u None
 constructor_units u e = ap (λ (v : List ℕ). str_lit no_place (utf16 v) None) (ascii_chars (codes "constructor") refl) ∙ ap (λ (v : List ℕ). str_lit no_place v None) (sym ((bytes_eq-Decides u (codes "constructor")).0 e))
 
-constructor_key_same : (look : Look) (k : Tree) → program (redo (leaves_of look) Plain k) ≡ program k → property_key (program (written_constructor_key (redo (leaves_of look) Plain k))) ≡ property_key (program k)
-constructor_key_same look k h = by (constructor_key_is (leaves_of look) k)
+constructor_key_same : (look : Look) (read written : ℕ → Span) (k : Tree) → program (redo (leaves_by look read written) Plain k) ≡ program k → property_key (program (written_constructor_key (redo (leaves_by look read written) Plain k))) ≡ property_key (program k)
+constructor_key_same look read written k h = by (constructor_key_is (leaves_by look read written) k)
   where
-    by : ConstructorKeyIs (leaves_of look) k → property_key (program (written_constructor_key (redo (leaves_of look) Plain k))) ≡ property_key (program k)
+    by : ConstructorKeyIs (leaves_by look read written) k → property_key (program (written_constructor_key (redo (leaves_by look read written) Plain k))) ≡ property_key (program k)
     by (constructor_as_it_was e) = ap (λ (t : Tree). property_key (program t)) e ∙ ap property_key h
     by (as_word s u w i q e) = ap (λ (t : Tree). property_key (program t)) e ∙ (constructor_units u q ∙ sym (ap (λ (t : Tree). property_key (program t)) i))
 
-written_tells : (look : Look) → Tells (Faithful look) (leaves_of look)
-written_tells look = record {
+written_tells : (look : Look) (read written : ℕ → Span) → Tells (Faithful look) (leaves_by look read written)
+written_tells look read written = record {
   strings = λ m s u w h. h.plain;
   quasis = λ w. refl;
   elements = λ m s es qs h. h;
   arguments_kept = arguments_same look;
-  key = key_same look;
-  constructor_key = constructor_key_same look;
+  key = key_same look read written;
+  constructor_key = constructor_key_same look read written;
 }
 
 pub same_program : SameProgram
-same_program look m t u f h s = sym (same HasElements kept kept_tells Plain u h) ∙ (ap program (s.so Plain) ∙ same (Faithful look) (leaves_of look) (written_tells look) m t f)
+same_program look read written m t u f h s = sym (same HasElements (kept_at written) (kept_tells written) Plain u h) ∙ (ap program (s.so Plain) ∙ same (Faithful look) (leaves_by look read written) (written_tells look read written) m t f)

@@ -1,7 +1,9 @@
 -- What a tree has in common with one whose spellings are those of the text written of it.
-use Rattle.std.specs.Prelude.{◌≡◌, []}
+use Rattle.std.specs.Prelude.{◌≡◌, ℕ, List, [], map}
+use Rattle.ecma_token.specs.declared.place.Span.{Span}
 use Rattle.ecma_token.specs.declared.syntax.EsSyntax.{EsSyntax}
 use Rattle.ecma_tree.specs.Tree.{Tree}
+use Rattle.ecma_names.specs.Names.{Identifier, names}
 use Rattle.ecma_nesting.specs.Nesting.{nesting}
 use Rattle.ecma_syntax.specs.Shape.{is_clean}
 use Rattle.ecma_early.specs.Early.{early_errors}
@@ -10,20 +12,28 @@ use Rattle.ecma_program.specs.Program.{IsSameProgram}
 use Rattle.ecma_redone.specs.Redo.{Mode, Plain, Same}
 use Rattle.ecma_redone.specs.Every.{every}
 use Rattle.ecma_redone.specs.Faithful.{Faithful, HasElements}
-use Rattle.ecma_redone.specs.Written.{leaves_of}
+use Rattle.ecma_redone.specs.Written.{leaves_by}
 
 -- It nests as deep.
 abbrev pub NestsAlike : Type 0
-NestsAlike = (look : Look) (mode : Mode) (t u : Tree) → Same (leaves_of look) mode t u → nesting u ≡ nesting t
+NestsAlike = (look : Look) (read written : ℕ → Span) (mode : Mode) (t u : Tree) → Same (leaves_by look read written) mode t u → nesting u ≡ nesting t
 
 -- Where nothing of a cover is left in the one, nothing is in the other.
 abbrev pub CleanAlike : Type 0
-CleanAlike = (look : Look) (mode : Mode) (t u : Tree) → Same (leaves_of look) mode t u → is_clean u ≡ is_clean t
+CleanAlike = (look : Look) (read written : ℕ → Span) (mode : Mode) (t u : Tree) → Same (leaves_by look read written) mode t u → is_clean u ≡ is_clean t
 
 -- It is the same program, where each leaf is told by what is written of it.
 abbrev pub SameProgram : Type 0
-SameProgram = (look : Look) (mode : Mode) (t u : Tree) → every (Faithful look) mode t → every HasElements Plain u → Same (leaves_of look) mode t u → IsSameProgram u t
+SameProgram = (look : Look) (read written : ℕ → Span) (mode : Mode) (t u : Tree) → every (Faithful look) mode t → every HasElements Plain u → Same (leaves_by look read written) mode t u → IsSameProgram u t
 
 -- No early error appears, where each leaf is told by what is written of it.
 abbrev pub LegalAlike : Type 0
-LegalAlike = (look : Look) (mode : Mode) (t u : Tree) → every (Faithful look) mode t → Same (leaves_of look) mode t u → (syntax : EsSyntax) → early_errors syntax t ≡ [] → early_errors syntax u ≡ []
+LegalAlike = (look : Look) (read written : ℕ → Span) (mode : Mode) (t u : Tree) → every (Faithful look) mode t → Same (leaves_by look read written) mode t u → (syntax : EsSyntax) → early_errors syntax t ≡ [] → early_errors syntax u ≡ []
+
+-- The names of a tree, with the place of each kept as this.
+abbrev pub kept_names : (ℕ → Span) → Tree → List Identifier
+kept_names places t = map (λ n. record { sym = n.sym; span = places n.at }) (names t)
+
+-- It has as many names, each the same name, and the i-th of the one stands for the i-th of the other.
+abbrev pub NamesAlike : Type 0
+NamesAlike = (look : Look) (read written : ℕ → Span) (mode : Mode) (t u : Tree) → Same (leaves_by look read written) mode t u → kept_names written u ≡ kept_names read t

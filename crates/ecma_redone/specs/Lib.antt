@@ -3,4 +3,5 @@ pub mod Written
 pub mod Every
 pub mod Faithful
 pub mod Read
+pub mod Begins
 pub mod Laws

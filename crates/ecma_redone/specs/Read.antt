@@ -2,8 +2,9 @@
 use Rattle.std.specs.Prelude.{◌≡◌, ℕ, true, false, List, Option, Some}
 use Rattle.ecma_number.specs.Numbers.{SpecNumber}
 use Rattle.ecma_token.specs.Tokens.{Content, Quoted, Numeral, BigNumeral, Piece, Pattern}
+use Rattle.ecma_token.specs.declared.place.Span.{Span}
 use Rattle.ecma_tree.specs.Tree.{Tree, ident, ident_name, private_name, str_lit, number_lit, big_int_lit, regex_lit, tpl, tpl_element}
-use Rattle.ecma_syntax.specs.Input.{Place, Input, rest, content, is_word, kind, text}
+use Rattle.ecma_syntax.specs.Input.{Place, Input, rest, lo, content, is_word, kind, text}
 use Rattle.ecma_syntax.specs.Shape.{is_cooked}
 use Rattle.ecma_redone.specs.Redo.{Mode, is_tagged}
 use Rattle.ecma_redone.specs.Faithful.{AreElements}
@@ -27,6 +28,14 @@ module _ (Known : List Place → Type 0) where
     pub word : is_word (kind at) ≡ true
     pub is : text at ≡ name
 
+  -- The same, where it is a name that begins where its token does.
+  pub record ReadName (span : Span) (name : List ℕ) : Type 0 where
+    pub at : Input
+    pub known : Known at.places
+    pub word : is_word (kind at) ≡ true
+    pub is : text at ≡ name
+    pub begins : span.lo.0 ≡ lo at
+
   -- A literal with its raw text, which a known token has.
   pub record ReadString (units : List ℕ) (raw : Option (List ℕ)) : Type 0 where
     pub own : List ℕ
@@ -45,7 +54,7 @@ module _ (Known : List Place → Type 0) where
 
   -- Each leaf was read from a known token; the pieces of a template are pieces, and those of an untagged one have no bad escape (13.2.8.1).
   abbrev pub Read : Mode → Tree → Type 0
-  Read mode (ident span name) = ReadWord name
+  Read mode (ident span name) = ReadName span name
   Read mode (ident_name span name) = ReadWord name
   Read mode (private_name span name) = ReadWord name
   Read mode (str_lit span units raw) = ReadString units raw

@@ -68,14 +68,35 @@ pub record Leaves : Type 0 where
   -- the key of a property or a member of a class (13.2.5), and that of the constructor (15.7)
   pub key : Tree → Tree
   pub constructor_key : Tree → Tree
+  -- As what the place of a name (13.1) is kept, by where it begins: of a name of the tree, and of one of the tree that it is compared with.
+  pub read : ℕ → Span
+  pub written : ℕ → Span
+
+-- no place is kept
+abbrev pub nowhere : ℕ → Span
+nowhere at = no_place
+
+-- all as it was, with the places of names kept as these
+abbrev pub kept_at : (ℕ → Span) → Leaves
+kept_at places = record {
+  string = λ units raw. raw;
+  number = λ before value raw. raw;
+  big = λ radix digits raw. raw;
+  quasi = λ tagged raw. raw;
+  arguments = λ head args. args;
+  key = λ t. t;
+  constructor_key = λ t. t;
+  read = places;
+  written = places;
+}
 
 -- all as it was
 abbrev pub kept : Leaves
-kept = record { string = λ units raw. raw; number = λ before value raw. raw; big = λ radix digits raw. raw; quasi = λ tagged raw. raw; arguments = λ head args. args; key = λ t. t; constructor_key = λ t. t }
+kept = kept_at nowhere
 
 module _ (leaves : Leaves) where
   abbrev mutual
-    -- the tree in its place, without places, with its spellings given anew
+    -- the tree in its place, without places but for those of names, with its spellings given anew
     pub redo : Mode → Tree → Tree
     redo mode (script span body shebang) = script no_place (redos Plain body) shebang
     redo mode (es_module span body shebang) = es_module no_place (redos Plain body) shebang
@@ -144,7 +165,7 @@ module _ (leaves : Leaves) where
     redo mode (call_expr span callee args) = call_expr no_place (redo Headed callee) (redos Plain args)
     redo mode (new_expr span callee args) = new_expr no_place (redo Headed callee) (leaves.arguments (is_head mode) (redo Plain args))
     redo mode (seq_expr span exprs) = seq_expr no_place (redos Plain exprs)
-    redo mode (ident span sym) = ident no_place sym
+    redo mode (ident span sym) = ident (leaves.read span.lo.0) sym
     redo mode (tpl span exprs quasis) = tpl no_place (redos Plain exprs) (redos (quasi_mode mode) quasis)
     redo mode (tpl_element span tail raw cooked) = tpl_element no_place tail (leaves.quasi (is_tagged mode) raw) cooked
     redo mode (tagged_tpl span tag tpl_) = tagged_tpl no_place (redo Headed tag) (redo Raw tpl_)
@@ -190,13 +211,13 @@ module _ (leaves : Leaves) where
     redos mode none = none
     redos mode (more t ts) = more (redo mode t) (redos mode ts)
 
--- A tree is this one but for places and for spellings, which are those that are given.
+-- A tree is this one but for places and for spellings, which are those that are given; and its names stand for those of this one.
 pub record Same (leaves : Leaves) (mode : Mode) (t u : Tree) : Type 0 where
-  pub so : (n : Mode) → redo kept n u ≡ redo leaves mode t
+  pub so : (n : Mode) → redo (kept_at leaves.written) n u ≡ redo leaves mode t
 
 pub record AllSame (leaves : Leaves) (mode : Mode) (ts us : Trees) : Type 0 where
-  pub so : (n : Mode) → redos kept n us ≡ redos leaves mode ts
+  pub so : (n : Mode) → redos (kept_at leaves.written) n us ≡ redos leaves mode ts
 
 -- the same of a key
 pub record SameKey (leaves : Leaves) (t u : Tree) : Type 0 where
-  pub so : (n : Mode) → redo kept n u ≡ leaves.key (redo leaves Plain t)
+  pub so : (n : Mode) → redo (kept_at leaves.written) n u ≡ leaves.key (redo leaves Plain t)

@@ -2,6 +2,7 @@
 use Rattle.std.specs.Prelude.{ℕ, Bool, true, false, ◌||◌, if◌then◌else◌, List, Some, codes, bytes_eq}
 use Rattle.std.specs.Str.{chars}
 use Rattle.ecma_token.specs.Utf16.{utf16}
+use Rattle.ecma_token.specs.declared.place.Span.{Span}
 use Rattle.ecma_tree.specs.Places.{no_place}
 use Rattle.ecma_tree.specs.Tree.{Tree, none, ident_name, str_lit, list, absent}
 use Rattle.ecma_spell_base.specs.declared.style.Style.{Style}
@@ -12,7 +13,7 @@ use Rattle.ecma_layout.specs.declared.look.Stand.{Stand}
 use Rattle.ecma_layout.specs.declared.look.Stand.TheVariants.{Head, Tagged}
 use Rattle.ecma_layout.specs.Looks.{formats}
 use Rattle.ecma_layout.specs.Literals.{key_bytes, string_bytes, number_bytes, big_bytes, quasi_bytes}
-use Rattle.ecma_redone.specs.Redo.{Mode, Plain, Headed, Raw, Leaves}
+use Rattle.ecma_redone.specs.Redo.{Mode, Plain, Headed, Raw, Leaves, nowhere}
 
 -- the place that a stand of the layout is
 abbrev pub mode_of : Stand → Mode
@@ -48,9 +49,9 @@ abbrev pub written_constructor_key : Tree → Tree
 written_constructor_key (str_lit span units raw) = constructor_word (bytes_eq units (codes "constructor")) (str_lit span units raw)
 written_constructor_key t = t
 
--- What the text written in a look spells.
-abbrev pub leaves_of : Look → Leaves
-leaves_of look = record {
+-- What the text written in a look spells, with the places of names that were read and of those that are written kept as these.
+abbrev pub leaves_by : Look → (ℕ → Span) → (ℕ → Span) → Leaves
+leaves_by look read written = record {
   string = λ units raw. Some (string_bytes look.style units raw);
   number = λ before value raw. Some (if before then before_member (number_bytes look.style value raw) else number_bytes look.style value raw);
   big = λ radix digits raw. Some (big_bytes look.style radix digits raw);
@@ -58,4 +59,9 @@ leaves_of look = record {
   arguments = λ head args. new_arguments look head args;
   key = λ t. written_key look.style t;
   constructor_key = λ t. written_constructor_key t;
+  read = read;
+  written = written;
 }
+
+abbrev pub leaves_of : Look → Leaves
+leaves_of look = leaves_by look nowhere nowhere

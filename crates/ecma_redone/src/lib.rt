@@ -1,7 +1,8 @@
 //! A tree whose spellings are those of the text written of it: laws of what it has in common with the tree.
 #![tactic(auto)]
 
-ghost use Rattle.ecma_redone.specs.Laws.{CleanAlike, LegalAlike, NestsAlike, SameProgram};
+ghost use Rattle.ecma_redone.specs.Begins.{NamesBeginThere};
+ghost use Rattle.ecma_redone.specs.Laws.{CleanAlike, LegalAlike, NamesAlike, NestsAlike, SameProgram};
 
 /// Law: it nests as deep, and nothing of a cover is left in it where nothing was.
 #[tactic(auto)]
@@ -16,4 +17,16 @@ pub fn shape_law()
 pub fn program_law()
     ensures program { SameProgram }
     ensures legal { LegalAlike }
+{}
+
+/// Law: it has as many names, each the same name, and the i-th of the one stands for the i-th of the other.
+#[tactic(auto)]
+pub fn names_law()
+    ensures names { NamesAlike }
+{}
+
+/// Law: the names of what is derived begin where its tokens do.
+#[tactic(auto)]
+pub fn places_law()
+    ensures places { NamesBeginThere }
 {}

@@ -18,7 +18,7 @@ use Rattle.ecma_written.specs.Lexicon.{Lexicon}
 use Rattle.ecma_written.specs.Means.{Known}
 use Rattle.ecma_written.specs.Told.{says}
 use Rattle.ecma_redone.specs.Redo.{AllSame, Leaves, Mode, Plain, redo}
-use Rattle.ecma_redone.specs.Written.{leaves_of}
+use Rattle.ecma_redone_base.proofs.Naming.{leaves_at}
 use Rattle.ecma_redone_base.proofs.Begins.{first_token, is_inner, is_loose, is_weak, item_outer}
 use Rattle.ecma_redone_base.proofs.Follow.{Follow, is_closed}
 use Rattle.ecma_redone_base.proofs.Lists.{more_same, none_same}
@@ -51,17 +51,17 @@ turned false c = refl
 module _ (look : Look) (x : Lexicon look.style) where
   -- ---- a statement and what stands behind it
 
-  closing_on : (t : Tree) (b : Gap) (ts : Input) (K : Gap → Input → Type 0) → says (closing look t) b ts K → says (when (is_variables t) semi) b ts (λ d m. (e : Gap) × K e m)
+  closing_on : (t : Tree) (b : Gap) (ts : Input) (K : Gap → Input → Type 0) → says x.naming (closing look t) b ts K → says x.naming (when (is_variables t) semi) b ts (λ d m. (e : Gap) × K e m)
   unfolding closing
   closing_on t b ts K q = by (is_block_tree t) (block_plain t) q
     where
-      by : (v : Bool) → (v ≡ true → is_variables t ≡ false) → says (when (not v) (when (is_variables t) semi · line look)) b ts K → says (when (is_variables t) semi) b ts (λ d m. (e : Gap) × K e m)
-      by true p q = subst (λ (w : Bool). says (when w semi) b ts (λ d m. (e : Gap) × K e m)) (sym (p refl)) (b, q)
-      by false p q = says_map (when (is_variables t) semi) b ts _ _ (λ d m j. skip_line (formats look) d m K j) q
+      by : (v : Bool) → (v ≡ true → is_variables t ≡ false) → says x.naming (when (not v) (when (is_variables t) semi · line look)) b ts K → says x.naming (when (is_variables t) semi) b ts (λ d m. (e : Gap) × K e m)
+      by true p q = subst (λ (w : Bool). says x.naming (when w semi) b ts (λ d m. (e : Gap) × K e m)) (sym (p refl)) (b, q)
+      by false p q = says_map x.naming (when (is_variables t) semi) b ts _ _ (λ d m j. skip_line x.naming (formats look) d m K j) q
 
-  pub statement_on : (t : Tree) → Sound look Alone t → is_inner t ≡ false → (c : Code) (ts0 r0 : Input) → Spells t c ts0 r0 → Known ts0.places → (b : Gap) (ts : Input) (K : Gap → Input → Type 0) → says (laid look Alone t · closing look t) b ts K
-      → Out look Alone t c ts0 r0 b ts (λ d m. (e : Gap) × K e m)
-  statement_on t f i c ts0 r0 h k b ts K q = outer look Alone t f i c ts0 r0 h k b ts _ (says_map (laid look Alone t) b ts _ _ (λ d m j. closing_on t d m K j) q)
+  pub statement_on : (t : Tree) → Sound look x.naming Alone t → is_inner t ≡ false → (c : Code) (ts0 r0 : Input) → Spells t c ts0 r0 → Known ts0.places → (b : Gap) (ts : Input) (K : Gap → Input → Type 0) → says x.naming (laid look Alone t · closing look t) b ts K
+      → Out look x.naming Alone t c ts0 r0 b ts (λ d m. (e : Gap) × K e m)
+  statement_on t f i c ts0 r0 h k b ts K q = outer look x.naming Alone t f i c ts0 r0 h k b ts _ (says_map x.naming (laid look Alone t) b ts _ _ (λ d m j. closing_on t d m K j) q)
 
   -- ---- lists, by what they may hold and what closes them
 
@@ -84,7 +84,7 @@ module _ (look : Look) (x : Lexicon look.style) where
       pub known : Known r0.places
       pub first : kind ts ≡ else_kind → kind ts0 ≡ else_kind
       -- before what closes the list in whatever code
-      pub again : (r : Input) → ((o : Code) → close (unplaced o) m r) → (us : Trees) × Items may close (unplaced c) starts (parts us) ts r × AllSame (leaves_of look) Plain ss us
+      pub again : (r : Input) → ((o : Code) → close (unplaced o) m r) → (us : Trees) × Items may close (unplaced c) starts (parts us) ts r × AllSame (leaves_at look x.naming) Plain ss us
 
     none_on : (c : Code) (starts : Bool) (ts0 r0 : Input) → close c ts0 r0 → Known ts0.places → (b : Gap) (ts : Input) (K : Gap → Input → Type 0) → (kind ts ≡ else_kind → ⊥) → K b ts → Listed_again c starts none ts0 r0 ts K
     none_on c starts ts0 r0 h k b ts K peek q = record {
@@ -93,11 +93,11 @@ module _ (look : Look) (x : Lexicon look.style) where
       more = q;
       known = closed c ts0 r0 h k;
       first = λ e. absurd (peek e);
-      again = λ r t. (none, t c, none_same (leaves_of look));
+      again = λ r t. (none, t c, none_same (leaves_at look x.naming));
     }
 
     -- a statement before the others
-    more_on : (c : Code) (starts : Bool) (t : Tree) (us : Trees) → may t ≡ true → (ts0 m0 r0 : Input) (b : Gap) (ts : Input) (J K : Gap → Input → Type 0) → (z : Out look Alone t (in_list c) ts0 m0 b ts J)
+    more_on : (c : Code) (starts : Bool) (t : Tree) (us : Trees) → may t ≡ true → (ts0 m0 r0 : Input) (b : Gap) (ts : Input) (J K : Gap → Input → Type 0) → (z : Out look x.naming Alone t (in_list c) ts0 m0 b ts J)
         → Listed_again (if starts && is_use_strict t then turned_strict c else c) (starts && is_directive t) us m0 r0 z.m K → Listed_again c starts (more t us) ts0 r0 ts K
     more_on c starts t us i ts0 m0 r0 b ts J K z v = record {
       d = v.d;
@@ -107,26 +107,26 @@ module _ (look : Look) (x : Lexicon look.style) where
       first = first_token (is_weak t) (is_loose t) ts0 m0 ts z.m z.begins;
       again = λ r tk. let w = z.again (follow_closed t m0 z.m (flat t i).0 v.first) in let o = v.again r tk in (
         more w.tree o.0,
-        cons c starts w.tree o.0 (is_use_strict t) (is_directive t) w.directive (alike is_directive re_is_directive (leaves_of look) Plain t w.tree w.same) (alike may re_may (leaves_of look) Plain t w.tree w.same ∙ i) ts z.m r w.spelled o.1,
-        more_same (leaves_of look) Plain t w.tree us o.0 w.same o.2,
+        cons c starts w.tree o.0 (is_use_strict t) (is_directive t) w.directive (alike is_directive re_is_directive (leaves_at look x.naming) Plain t w.tree w.same) (alike may re_may (leaves_at look x.naming) Plain t w.tree w.same ∙ i) ts z.m r w.spelled o.1,
+        more_same (leaves_at look x.naming) Plain t w.tree us o.0 w.same o.2,
       );
     }
 
     -- with a line between two of them, as in braces
-    pub rows_on : (c : Code) (starts : Bool) (ss : Trees) → AllSound look ss → (ts0 r0 : Input) → Items may close c starts (parts ss) ts0 r0 → Known ts0.places → (b : Gap) (ts : Input) (K : Gap → Input → Type 0)
-        → ((d : Gap) (m : Input) → K d m → kind m ≡ else_kind → ⊥) → says (rows look true ss) b ts K → Listed_again c starts ss ts0 r0 ts K
+    pub rows_on : (c : Code) (starts : Bool) (ss : Trees) → AllSound look x.naming ss → (ts0 r0 : Input) → Items may close c starts (parts ss) ts0 r0 → Known ts0.places → (b : Gap) (ts : Input) (K : Gap → Input → Type 0)
+        → ((d : Gap) (m : Input) → K d m → kind m ≡ else_kind → ⊥) → says x.naming (rows look true ss) b ts K → Listed_again c starts ss ts0 r0 ts K
     rows_on c starts none a ts0 r0 h k b ts K peek q = none_on c starts ts0 r0 h k b ts K (peek b ts q) q
     rows_on c starts (more t none) a ts0 r0 h k b ts K peek q =
         let z = statement_on t a.0 (flat t h.1).1 (in_list c) ts0 h.0 h.2 k b ts K q in
         more_on c starts t none h.1 ts0 h.0 r0 b ts _ K z (none_on _ _ h.0 r0 h.3 z.known z.more.0 z.m K (peek z.more.0 z.m z.more.1) z.more.1)
     rows_on c starts (more t (more u us)) a ts0 r0 h k b ts K peek q =
         let z = statement_on t a.0 (flat t h.1).1 (in_list c) ts0 h.0 h.2 k b ts _ q in
-        let i = skip_line (formats look) z.more.0 z.m _ z.more.1 in
+        let i = skip_line x.naming (formats look) z.more.0 z.m _ z.more.1 in
         more_on c starts t (more u us) h.1 ts0 h.0 r0 b ts _ K z (rows_on (if starts && is_use_strict t then turned_strict c else c) (starts && is_directive t) (more u us) a.1 h.0 r0 h.3 z.known i.0 z.m K peek i.1)
 
     -- each closed, as of a program
-    pub statements_on : (c : Code) (starts : Bool) (ss : Trees) → AllSound look ss → (ts0 r0 : Input) → Items may close c starts (parts ss) ts0 r0 → Known ts0.places → (b : Gap) (ts : Input) (K : Gap → Input → Type 0)
-        → ((d : Gap) (m : Input) → K d m → kind m ≡ else_kind → ⊥) → says (statements look ss) b ts K → Listed_again c starts ss ts0 r0 ts K
+    pub statements_on : (c : Code) (starts : Bool) (ss : Trees) → AllSound look x.naming ss → (ts0 r0 : Input) → Items may close c starts (parts ss) ts0 r0 → Known ts0.places → (b : Gap) (ts : Input) (K : Gap → Input → Type 0)
+        → ((d : Gap) (m : Input) → K d m → kind m ≡ else_kind → ⊥) → says x.naming (statements look ss) b ts K → Listed_again c starts ss ts0 r0 ts K
     statements_on c starts none a ts0 r0 h k b ts K peek q = none_on c starts ts0 r0 h k b ts K (peek b ts q) q
     statements_on c starts (more t us) a ts0 r0 h k b ts K peek q =
         let z = statement_on t a.0 (flat t h.1).1 (in_list c) ts0 h.0 h.2 k b ts _ q in
@@ -146,24 +146,24 @@ module _ (look : Look) (x : Lexicon look.style) where
     pub known : Known r0.places
     pub broke : brk ts ≡ is_broken b
     pub lead : kind ts ≡ left_brace_kind
-    pub again : (us : Trees) × (n : Input) × Takes (unplaced c) left_brace_kind ts n × Items is_item ClosesBlock (unplaced c) starts (parts us) n m × AllSame (leaves_of look) Plain ss us
+    pub again : (us : Trees) × (n : Input) × Takes (unplaced c) left_brace_kind ts n × Items is_item ClosesBlock (unplaced c) starts (parts us) n m × AllSame (leaves_at look x.naming) Plain ss us
 
-  pub braced : (c : Code) (starts : Bool) (ss : Trees) → AllSound look ss → (ts0 m0 r0 : Input) → Takes c left_brace_kind ts0 m0 → Items is_item ClosesBlock c starts (parts ss) m0 r0 → Known ts0.places → (b : Gap) (ts : Input) (K : Gap → Input → Type 0)
-      → (pos : Span) → says (text (codes "{") · indented look ss (rows look true ss) · start pos · brace) b ts K → Braced c starts ss ts0 r0 b ts K
+  pub braced : (c : Code) (starts : Bool) (ss : Trees) → AllSound look x.naming ss → (ts0 m0 r0 : Input) → Takes c left_brace_kind ts0 m0 → Items is_item ClosesBlock c starts (parts ss) m0 r0 → Known ts0.places → (b : Gap) (ts : Input) (K : Gap → Input → Type 0)
+      → (pos : Span) → says x.naming (text (codes "{") · indented look ss (rows look true ss) · start pos · brace) b ts K → Braced c starts ss ts0 r0 b ts K
   braced c starts none a ts0 m0 r0 t h k b ts K pos q = let o = q.2 in record {
     m = o.0;
     more = o.2;
     known = x.later m0 r0 h.2 (x.later ts0 m0 t.2 k);
     broke = q.1.broke;
     lead = marked look x left_brace_kind q.1;
-    again = (none, q.0, took look x c left_brace_kind q.1, took look x c right_brace_kind o.1, none_same (leaves_of look));
+    again = (none, q.0, took look x c left_brace_kind q.1, took look x c right_brace_kind o.1, none_same (leaves_at look x.naming));
   }
   braced c starts (more s ss) a ts0 m0 r0 t h k b ts K pos q =
-      let i = skip_line (formats look) Touching q.0 _ q.2 in
-      let j = skip_deeper (formats look) i.0 q.0 _ i.1 in
+      let i = skip_line x.naming (formats look) Touching q.0 _ q.2 in
+      let j = skip_deeper x.naming (formats look) i.0 q.0 _ i.1 in
       let z = rows_on is_item re_is_item item_flat ClosesBlock closes_known c starts (more s ss) a m0 r0 h (x.later ts0 m0 t.2 k) i.0 q.0 _
-      (λ d m u. let v = skip_line (formats look) d m _ (skip_back (formats look) d m _ u) in λ e. brace_no_else (sym (marked look x right_brace_kind v.1.1) ∙ e)) j in
-      let v = skip_line (formats look) z.d z.m _ (skip_back (formats look) z.d z.m _ z.more) in
+      (λ d m u. let v = skip_line x.naming (formats look) d m _ (skip_back x.naming (formats look) d m _ u) in λ e. brace_no_else (sym (marked look x right_brace_kind v.1.1) ∙ e)) j in
+      let v = skip_line x.naming (formats look) z.d z.m _ (skip_back x.naming (formats look) z.d z.m _ z.more) in
       let o = v.1 in let w = z.again o.0 (λ n. took look x n right_brace_kind o.1) in record {
         m = o.0;
         more = o.2;

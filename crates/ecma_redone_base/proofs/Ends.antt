@@ -18,7 +18,7 @@ use Rattle.ecma_written.specs.Means.{Known}
 use Rattle.ecma_written.specs.Says.{SemicolonMayGo}
 use Rattle.ecma_written.specs.Told.{says}
 use Rattle.ecma_redone.specs.Redo.{Leaves, Mode, Plain, Same}
-use Rattle.ecma_redone.specs.Written.{leaves_of}
+use Rattle.ecma_redone_base.proofs.Naming.{leaves_at}
 use Rattle.ecma_redone_base.proofs.Begins.{Begins, before}
 use Rattle.ecma_redone_base.proofs.Follow.{calm, closed_calm, closes, no_item}
 use Rattle.ecma_redone_base.proofs.Shapes.{alike, re_is_absent}
@@ -79,10 +79,10 @@ module _ (look : Look) (x : Lexicon look.style) where
     pub calms : calm m ≡ true → calm ts ≡ true
     -- where what stands before begins as it did, so does the whole
     pub begins : (n0 n : Input) → Begins false n0 m0 n ts → Begins false n0 r0 n m
-    pub again : calm m ≡ true → (u : Tree) × By (is_absent u) (ts ≡ m) ((n : Input) × Takes (unplaced c) assign_kind ts n × Expr assignment_level (unplaced o) (part u (λ y. Spells u y)) n m) × Same (leaves_of look) Plain e u
+    pub again : calm m ≡ true → (u : Tree) × By (is_absent u) (ts ≡ m) ((n : Input) × Takes (unplaced c) assign_kind ts n × Expr assignment_level (unplaced o) (part u (λ y. Spells u y)) n m) × Same (leaves_at look x.naming) Plain e u
 
-  pub initial_on : (e : Tree) → Sound look Alone e → (c o : Code) (v : Bool) → is_absent e ≡ v → (m0 r0 : Input) → By v (m0 ≡ r0) ((n : Input) × Takes c assign_kind m0 n × Expr assignment_level o (part e (λ y. Spells e y)) n r0) → Known m0.places → (b : Gap) (ts : Input) (K : Gap → Input → Type 0)
-      → says (when (not v) (gap look · text (codes "=") · gap look · laid look Alone e)) b ts K → Initialised e c o m0 r0 b ts K
+  pub initial_on : (e : Tree) → Sound look x.naming Alone e → (c o : Code) (v : Bool) → is_absent e ≡ v → (m0 r0 : Input) → By v (m0 ≡ r0) ((n : Input) × Takes c assign_kind m0 n × Expr assignment_level o (part e (λ y. Spells e y)) n r0) → Known m0.places → (b : Gap) (ts : Input) (K : Gap → Input → Type 0)
+      → says x.naming (when (not v) (gap look · text (codes "=") · gap look · laid look Alone e)) b ts K → Initialised e c o m0 r0 b ts K
   initial_on e f c o true a m0 r0 h k b ts K q = record {
     d = b;
     m = ts;
@@ -90,12 +90,12 @@ module _ (look : Look) (x : Lexicon look.style) where
     known = subst (λ (i : Input). Known i.places) h k;
     calms = λ g. g;
     begins = λ n0 n g. subst (λ (i : Input). Begins false n0 i n ts) h g;
-    again = λ g. (absent, refl, absent_same (leaves_of look) Plain e a);
+    again = λ g. (absent, refl, absent_same (leaves_at look x.naming) Plain e a);
   }
   initial_on e f c o false a m0 r0 h k b ts K q =
-      let i = skip (formats look) b ts _ q in
-      let j = skip (formats look) Touching i.0 _ i.2 in
-      let y = expr look assignment_level Alone e f (omega arith) o h.0 r0 h.2 (x.later m0 h.0 h.1.2 k) _ i.0 K j in record {
+      let i = skip x.naming (formats look) b ts _ q in
+      let j = skip x.naming (formats look) Touching i.0 _ i.2 in
+      let y = expr look x.naming assignment_level Alone e f (omega arith) o h.0 r0 h.2 (x.later m0 h.0 h.1.2 k) _ i.0 K j in record {
         d = y.d;
         m = y.m;
         more = y.more;
@@ -103,5 +103,5 @@ module _ (look : Look) (x : Lexicon look.style) where
         calms = λ g. closed_calm ts assign_kind (marked look x assign_kind i.1) refl;
         begins = λ n0 n g. before n0 m0 n ts r0 y.m (λ e. e) g (marked look x assign_kind i.1 ∙ sym h.1.0) (λ e. assign_function (sym (marked look x assign_kind i.1) ∙ e));
         again = λ g. let w = y.again (record { quiet = λ z. g; other = λ z. absurd (no_item e (above assignment_level (level e) (omega arith) h.2.0) z) }) in
-            (w.tree, unabsent (is_absent w.tree) _ _ (alike is_absent re_is_absent (leaves_of look) Plain e w.tree w.same ∙ a) (i.0, took look x c assign_kind i.1, expr_low look assignment_level Alone e o i.0 y.m h.2.0 (omega arith) w), w.same);
+            (w.tree, unabsent (is_absent w.tree) _ _ (alike is_absent re_is_absent (leaves_at look x.naming) Plain e w.tree w.same ∙ a) (i.0, took look x c assign_kind i.1, expr_low look x.naming assignment_level Alone e o i.0 y.m h.2.0 (omega arith) w), w.same);
       }

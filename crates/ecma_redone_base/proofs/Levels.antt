@@ -1,5 +1,6 @@
 -- The level of a tree that is given anew: that of `new` alone may change, with its parentheses (13.3.5).
 use Rattle.std.proofs.Common.{Bool, ap, arith, false, if◌then◌else◌, inl, inr, min, refl, subst, sym, true, true≢false, ℕ, ◌||◌, ◌∙◌, ◌≡◌, ◌≤◌, ◌⊎◌}
+use Rattle.ecma_token.specs.declared.place.Span.{Span}
 use Rattle.ecma_tree.specs.Places.{no_place}
 use Rattle.ecma_tree.specs.Tree.{Tree, absent, bin_expr, ident, list, member_expr, more, new_expr, none, tagged_tpl}
 use Rattle.ecma_syntax.specs.Operators.{member_level, new_level}
@@ -8,8 +9,10 @@ use Rattle.ecma_grammar_complete_base.proofs.Levels.{binary_low}
 use Rattle.ecma_layout.specs.Layout.{is_computed}
 use Rattle.ecma_layout.specs.Looks.{formats}
 use Rattle.ecma_layout.specs.declared.look.Look.{Look}
-use Rattle.ecma_redone.specs.Redo.{Headed, Leaves, Mode, Plain, Pointed, Same, is_asked, is_head, kept, object_mode, redo}
-use Rattle.ecma_redone.specs.Written.{given_none, leaves_of, new_arguments}
+use Rattle.ecma_written.specs.Naming.{Naming}
+use Rattle.ecma_redone.specs.Redo.{Headed, Leaves, Mode, Plain, Pointed, Same, is_asked, is_head, kept_at, object_mode, redo}
+use Rattle.ecma_redone.specs.Written.{given_none, new_arguments}
+use Rattle.ecma_redone_base.proofs.Naming.{leaves_at}
 
 -- the level, that of `new` always as with arguments
 abbrev pub high : Tree → ℕ
@@ -40,7 +43,7 @@ level_high (new_expr s f _) = inl refl
 level_high _ = inl refl
 
 high_same : (l : Leaves) (m : Mode) (t u : Tree) → Same l m t u → high u ≡ high t
-high_same l m t u s = sym (re_high kept Plain u) ∙ (ap high (s.so Plain) ∙ re_high l m t)
+high_same l m t u s = sym (re_high (kept_at l.written) Plain u) ∙ (ap high (s.so Plain) ∙ re_high l m t)
 
 low_by : (l a b x y : ℕ) → Near a b → Near x y → y ≡ b → l ≤ a → l ≤ 18 → l ≤ x
 low_by l a b x y (inl e) (inl f) g h k = omega arith
@@ -70,12 +73,12 @@ object_head m p = by (is_asked m || is_computed p)
     by true = refl
     by false = refl
 
-pub kept_level : (n : Mode) (t : Tree) → level (redo kept n t) ≡ level t
-kept_level n (member_expr s o p) = ap (λ (x : ℕ). min member_level x) (kept_level (object_mode n p) o)
-kept_level n (tagged_tpl s t q) = ap (λ (x : ℕ). min member_level x) (kept_level Headed t)
-kept_level n (new_expr s f absent) = refl
-kept_level n (new_expr s f _) = refl
-kept_level n _ = refl
+pub kept_level : (places : ℕ → Span) (n : Mode) (t : Tree) → level (redo (kept_at places) n t) ≡ level t
+kept_level places n (member_expr s o p) = ap (λ (x : ℕ). min member_level x) (kept_level places (object_mode n p) o)
+kept_level places n (tagged_tpl s t q) = ap (λ (x : ℕ). min member_level x) (kept_level places Headed t)
+kept_level places n (new_expr s f absent) = refl
+kept_level places n (new_expr s f _) = refl
+kept_level places n _ = refl
 
 some : (v : Bool) → (v || true) ≡ true
 some true = refl
@@ -91,17 +94,17 @@ new_head look f (list none) = given_level (formats look || true) f (some (format
 new_head look f (list (more t ts)) = refl
 new_head look f _ = refl
 
-pub head_level : (look : Look) (m : Mode) (t : Tree) → is_head m ≡ true → level (redo (leaves_of look) m t) ≡ high t
-head_level look m (member_expr s o p) e = ap (λ (x : ℕ). min member_level x) (head_level look (object_mode m p) o (object_head m p))
-head_level look m (tagged_tpl s t q) e = ap (λ (x : ℕ). min member_level x) (head_level look Headed t refl)
-head_level look m (new_expr s f a) e =
-    subst (λ (h : Bool). level (new_expr no_place (redo (leaves_of look) Headed f) (new_arguments look h (redo (leaves_of look) Plain a))) ≡ member_level) (sym e)
-    (new_head look (redo (leaves_of look) Headed f) (redo (leaves_of look) Plain a))
-head_level look m _ e = refl
+pub head_level : (look : Look) (naming : Naming) (m : Mode) (t : Tree) → is_head m ≡ true → level (redo (leaves_at look naming) m t) ≡ high t
+head_level look naming m (member_expr s o p) e = ap (λ (x : ℕ). min member_level x) (head_level look naming (object_mode m p) o (object_head m p))
+head_level look naming m (tagged_tpl s t q) e = ap (λ (x : ℕ). min member_level x) (head_level look naming Headed t refl)
+head_level look naming m (new_expr s f a) e =
+    subst (λ (h : Bool). level (new_expr no_place (redo (leaves_at look naming) Headed f) (new_arguments look h (redo (leaves_at look naming) Plain a))) ≡ member_level) (sym e)
+    (new_head look (redo (leaves_at look naming) Headed f) (redo (leaves_at look naming) Plain a))
+head_level look naming m _ e = refl
 
 -- what any level asks, at a head
-pub level_head : (look : Look) (m : Mode) (t u : Tree) → is_head m ≡ true → Same (leaves_of look) m t u → (n : ℕ) → n ≤ level t → n ≤ level u
-level_head look m t u e s n h = over n (level t) (high t) (level u) (level_high t) (sym (kept_level Plain u) ∙ (ap level (s.so Plain) ∙ head_level look m t e)) h
+pub level_head : (look : Look) (naming : Naming) (m : Mode) (t u : Tree) → is_head m ≡ true → Same (leaves_at look naming) m t u → (n : ℕ) → n ≤ level t → n ≤ level u
+level_head look naming m t u e s n h = over n (level t) (high t) (level u) (level_high t) (sym (kept_level naming.written Plain u) ∙ (ap level (s.so Plain) ∙ head_level look naming m t e)) h
   where
     over : (n a b x : ℕ) → Near a b → x ≡ b → n ≤ a → n ≤ x
     over n a b x (inl f) g h = omega arith
@@ -118,6 +121,6 @@ new_high (new_expr s f a) h = refl
 new_high (bin_expr s op a b) h = absurd (omega (arith, binary_low op, h))
 new_high _ h = absurd (omega arith)
 
-pub callee_level : (look : Look) (t u : Tree) → Same (leaves_of look) Headed t u → (level t ≡ new_level) ⊎ (member_level ≤ level t) → member_level ≤ level u
-callee_level look t u s (inl e) = subst (λ (n : ℕ). member_level ≤ n) (sym (sym (kept_level Plain u) ∙ (ap level (s.so Plain) ∙ (head_level look Headed t refl ∙ new_high t e)))) (omega arith)
-callee_level look t u s (inr h) = level_head look Headed t u refl s member_level h
+pub callee_level : (look : Look) (naming : Naming) (t u : Tree) → Same (leaves_at look naming) Headed t u → (level t ≡ new_level) ⊎ (member_level ≤ level t) → member_level ≤ level u
+callee_level look naming t u s (inl e) = subst (λ (n : ℕ). member_level ≤ n) (sym (sym (kept_level naming.written Plain u) ∙ (ap level (s.so Plain) ∙ (head_level look naming Headed t refl ∙ new_high t e)))) (omega arith)
+callee_level look naming t u s (inr h) = level_head look naming Headed t u refl s member_level h

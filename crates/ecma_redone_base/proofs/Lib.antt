@@ -1,3 +1,4 @@
+pub mod Naming
 pub mod Shapes
 pub mod Levels
 pub mod Follow

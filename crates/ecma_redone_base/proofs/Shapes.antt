@@ -5,11 +5,11 @@ use Rattle.ecma_tree.specs.Tree.{Tree, absent, array_pat, assign_pat, assign_pat
 use Rattle.ecma_syntax.specs.Shape.{is_absent, is_assigned, is_binding, is_block, is_bound_name, is_chain, is_declaration, is_declarator, is_directive, is_element, is_hole, is_item, is_item_pat, is_key, is_name, is_pattern_prop, is_place, is_plain_function, is_private, is_rest, is_simple, is_statement, is_structured, is_target, is_target_expr, is_word_name}
 use Rattle.ecma_grammar.specs.Parts.{is_ident}
 use Rattle.ecma_layout.specs.Layout.{is_variables}
-use Rattle.ecma_redone.specs.Redo.{Leaves, Mode, Plain, Same, kept, redo}
+use Rattle.ecma_redone.specs.Redo.{Leaves, Mode, Plain, Same, kept_at, redo}
 
 -- A question that has the same answer however the tree is given anew has it of the two trees.
 pub alike : {A : Type 0} (p : Tree → A) → ((l : Leaves) (m : Mode) (t : Tree) → p (redo l m t) ≡ p t) → (l : Leaves) (m : Mode) (t u : Tree) → Same l m t u → p u ≡ p t
-alike p f l m t u s = sym (f kept Plain u) ∙ (ap p (s.so Plain) ∙ f l m t)
+alike p f l m t u s = sym (f (kept_at l.written) Plain u) ∙ (ap p (s.so Plain) ∙ f l m t)
 
 pub re_is_absent : (l : Leaves) (m : Mode) (t : Tree) → is_absent (redo l m t) ≡ is_absent t
 re_is_absent lv md absent = refl

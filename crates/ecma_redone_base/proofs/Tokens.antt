@@ -1,5 +1,5 @@
 -- The tokens that a layout says, one at a time: what the grammar takes, and pieces that say no token.
-use Rattle.std.proofs.Common.{Bool, List, [], ap, arith, codes, false, inl, inr, refl, subst, sym, true, true≢false, ℕ, ◌&&◌, ◌||◌, ◌∙◌, ◌∷◌, ◌≡◌, ◌⊎◌}
+use Rattle.std.proofs.Common.{Bool, List, None, [], ap, arith, codes, false, inl, inr, refl, subst, sym, true, true≢false, ℕ, ◌&&◌, ◌||◌, ◌∙◌, ◌∷◌, ◌≡◌, ◌⊎◌}
 use Rattle.ecma_token.specs.Kinds.{name_kind, semicolon_kind}
 use Rattle.ecma_token.specs.declared.context.Context.{Context}
 use Rattle.ecma_token.specs.declared.place.BytePos.{BytePos}
@@ -9,11 +9,12 @@ use Rattle.ecma_syntax.specs.Operators.{pauses}
 use Rattle.ecma_grammar.specs.Parts.{Ends}
 use Rattle.ecma_pieces.specs.Pieces.{Back, Blank, Brace, Commit, Deeper, Line, Mark, Piece, Semicolon, Text}
 use Rattle.ecma_layout.specs.Literals.{name_bytes}
-use Rattle.ecma_layout.specs.Looks.{Laid, Meaning, blank, both, hashbang_comment, line_always, meant, nothing, one, refused, regular_expression, semi, template_characters, template_end, touching, when}
+use Rattle.ecma_layout.specs.Looks.{Laid, Meaning, blank, both, hashbang_comment, line_always, meant, named as named_piece, nothing, one, refused, regular_expression, template_characters, template_end, touching, when}
 use Rattle.ecma_layout.specs.declared.look.Look.{Look}
 use Rattle.ecma_written.specs.Gaps.{Broken, Gap, Spaced, Touching, blanked, is_broken}
 use Rattle.ecma_written.specs.Lexicon.{Lexicon}
 use Rattle.ecma_written.specs.Means.{Known, Means}
+use Rattle.ecma_written.specs.Naming.{Naming}
 use Rattle.ecma_written.specs.Says.{SemicolonMayGo}
 use Rattle.ecma_written.specs.Texts.{mark_text, word_text}
 use Rattle.ecma_written.specs.Told.{Told, said, says, says_meaning, says_texts}
@@ -32,25 +33,25 @@ blank_broke false a = refl
 
 -- ---- pieces that say no token
 
-pub skip : (v : Bool) (a : Gap) (ts : Input) (K : Gap → Input → Type 0) → says (when v blank) a ts K → K (gapped v a) ts
-skip true a ts K h = h
-skip false a ts K h = h
+pub skip : (n : Naming) (v : Bool) (a : Gap) (ts : Input) (K : Gap → Input → Type 0) → says n (when v blank) a ts K → K (gapped v a) ts
+skip n true a ts K h = h
+skip n false a ts K h = h
 
-pub skip_mark : (v : Bool) (pos : BytePos) (a : Gap) (ts : Input) (K : Gap → Input → Type 0) → says (when v (one (Mark pos))) a ts K → K a ts
-skip_mark true pos a ts K h = h
-skip_mark false pos a ts K h = h
+pub skip_mark : (n : Naming) (v : Bool) (pos : BytePos) (a : Gap) (ts : Input) (K : Gap → Input → Type 0) → says n (when v (one (Mark pos))) a ts K → K a ts
+skip_mark n true pos a ts K h = h
+skip_mark n false pos a ts K h = h
 
-pub skip_deeper : (v : Bool) (a : Gap) (ts : Input) (K : Gap → Input → Type 0) → says (when v (one Deeper)) a ts K → K a ts
-skip_deeper true a ts K h = h
-skip_deeper false a ts K h = h
+pub skip_deeper : (n : Naming) (v : Bool) (a : Gap) (ts : Input) (K : Gap → Input → Type 0) → says n (when v (one Deeper)) a ts K → K a ts
+skip_deeper n true a ts K h = h
+skip_deeper n false a ts K h = h
 
-pub skip_back : (v : Bool) (a : Gap) (ts : Input) (K : Gap → Input → Type 0) → says (when v (one Back)) a ts K → K a ts
-skip_back true a ts K h = h
-skip_back false a ts K h = h
+pub skip_back : (n : Naming) (v : Bool) (a : Gap) (ts : Input) (K : Gap → Input → Type 0) → says n (when v (one Back)) a ts K → K a ts
+skip_back n true a ts K h = h
+skip_back n false a ts K h = h
 
-pub skip_line : (v : Bool) (a : Gap) (ts : Input) (K : Gap → Input → Type 0) → says (when v line_always) a ts K → (d : Gap) × K d ts
-skip_line true a ts K h = (h.0, h.2)
-skip_line false a ts K h = (a, h)
+pub skip_line : (n : Naming) (v : Bool) (a : Gap) (ts : Input) (K : Gap → Input → Type 0) → says n (when v line_always) a ts K → (d : Gap) × K d ts
+skip_line n true a ts K h = (h.0, h.2)
+skip_line n false a ts K h = (a, h)
 
 -- ---- what goes on behind a layout may be told less
 
@@ -77,12 +78,13 @@ piece_map (Semicolon s) a ts K J g (inr h) = inr (h.0, g a ts h.1)
 piece_map Commit a ts K J g h = g a ts h
 piece_map (Mark pos) a ts K J g h = g a ts h
 
-pub says_map : (f : Laid) (a : Gap) (ts : Input) (K J : Gap → Input → Type 0) → ((d : Gap) (m : Input) → K d m → J d m) → says f a ts K → says f a ts J
-says_map nothing a ts K J g h = g a ts h
-says_map (one p) a ts K J g h = piece_map p a ts K J g h
-says_map (meant x) a ts K J g h = meaning_map x a ts K J g h
-says_map (both f k) a ts K J g h = says_map f a ts (λ d m. says k d m K) (λ d m. says k d m J) (λ d m j. says_map k d m K J g j) h
-says_map refused a ts K J g h = h
+pub says_map : (n : Naming) (f : Laid) (a : Gap) (ts : Input) (K J : Gap → Input → Type 0) → ((d : Gap) (m : Input) → K d m → J d m) → says n f a ts K → says n f a ts J
+says_map n nothing a ts K J g h = g a ts h
+says_map n (one p) a ts K J g h = piece_map p a ts K J g h
+says_map n (meant x) a ts K J g h = meaning_map x a ts K J g h
+says_map n (both f k) a ts K J g h = says_map n f a ts (λ d m. says n k d m K) (λ d m. says n k d m J) (λ d m j. says_map n k d m K J g j) h
+says_map n (named_piece pos own) a ts K J g h = (h.0, h.1, g Touching h.0 h.2)
+says_map n refused a ts K J g h = h
 
 -- ---- semicolons (12.10)
 
@@ -91,7 +93,7 @@ pub data Semi (a : Gap) (ts : Input) : Gap → Input → Type 0 where
   there : {m : Input} → Told Div (codes ";") a ts m → Semi a ts Touching m
   gone : SemicolonMayGo ts → Semi a ts a ts
 
-pub semi_of : (a : Gap) (ts : Input) (K : Gap → Input → Type 0) → says semi a ts K → (d : Gap) × (m : Input) × Semi a ts d m × K d m
+pub semi_of : (a : Gap) (ts : Input) (K : Gap → Input → Type 0) → said (Semicolon None) a ts K → (d : Gap) × (m : Input) × Semi a ts d m × K d m
 semi_of a ts K (inl h) = (Touching, h.0, there h.1, h.2)
 semi_of a ts K (inr h) = (a, ts, gone h.0, h.1)
 

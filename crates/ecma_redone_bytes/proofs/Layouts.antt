@@ -1,5 +1,5 @@
 -- The layout of a tree given anew is alike, where keys stay as they are.
-use Rattle.std.proofs.Common.{◌≡◌, ◌+◌, Bool, true, false, not, ◌&&◌, ◌||◌, ◌==◌, if◌then◌else◌, refl, sym, ap, ap₂, ◌∙◌, true≢false}
+use Rattle.std.proofs.Common.{◌≡◌, ℕ, ◌+◌, Bool, true, false, not, ◌&&◌, ◌||◌, ◌==◌, if◌then◌else◌, refl, sym, ap, ap₂, ◌∙◌, true≢false}
 use Rattle.ecma_token.specs.declared.place.Span.{Span}
 use Rattle.ecma_tree.specs.Places.{no_place, place_of}
 use Rattle.ecma_tree.specs.Tree.{Tree, Trees, none, more, script, es_module, import_decl, export_decl, named_export, export_default_decl, export_default_expr, export_all, import_named_specifier, import_default_specifier, import_star_as_specifier, export_namespace_specifier, export_named_specifier, block_stmt, debugger_stmt, with_stmt, return_stmt, labeled_stmt, break_stmt, continue_stmt, if_stmt, switch_stmt, switch_case, throw_stmt, try_stmt, catch_clause, while_stmt, do_while_stmt, for_stmt, for_in_stmt, for_of_stmt, expr_stmt, class_decl, fn_decl, var_decl, using_decl, var_declarator, function, param, decorator, class, constructor, class_method, private_method, class_prop, private_prop, static_block, auto_accessor, ident_name, computed_prop_name, private_name, this_expr, array_lit, object_lit, fn_expr, unary_expr, update_expr, bin_expr, assign_expr, member_expr, super_prop_expr, cond_expr, call_expr, new_expr, seq_expr, ident, tpl, tpl_element, tagged_tpl, arrow_expr, class_expr, yield_expr, meta_prop_expr, await_expr, paren_expr, opt_chain_expr, opt_call, super, import, expr_or_spread, spread_element, key_value_prop, assign_prop, getter_prop, setter_prop, method_prop, str_lit, bool_lit, null_lit, number_lit, big_int_lit, regex_lit, binding_ident, array_pat, rest_pat, object_pat, assign_pat, key_value_pat_prop, assign_pat_prop, expr_pat, list, absent}
@@ -9,11 +9,11 @@ use Rattle.ecma_layout.specs.declared.look.Stand.TheVariants.{Alone, Operand, Bo
 use Rattle.ecma_layout.specs.Looks.{Laid, ◌·◌, formats, start, end}
 use Rattle.ecma_layout.specs.Layout.{laid, statements, rows, separated, each, import_heads, named_items, first_namespace, template, comma, comma_line, is_named, is_no_namespace, is_head, is_computed, is_tagged as is_tagged_stand, has_arguments, number_before, point_before, optional_dot}
 use Rattle.ecma_layout.specs.Literals.{number}
-use Rattle.ecma_redone.specs.Redo.{Mode, Plain, Headed, Pointed, Raw, is_tagged, is_asked, is_pointed, is_head as is_head_mode, object_mode, quasi_mode, Leaves, kept, redo, redos, Same as RedoSame}
+use Rattle.ecma_redone.specs.Redo.{Mode, Plain, Headed, Pointed, Raw, is_tagged, is_asked, is_pointed, is_head as is_head_mode, object_mode, quasi_mode, Leaves, kept_at, redo, redos, Same as RedoSame}
 use Rattle.ecma_redone.specs.Written.{new_arguments, given_none}
 use Rattle.ecma_layout_laws.proofs.Alike.{Alike, seen, same, ◌▸◌, if_same, if_alike, when_same, when_alike, start_alike, end_alike, last_alike}
 use Rattle.ecma_redone_bytes.proofs.Questions
-use Rattle.ecma_redone_bytes.proofs.Literals.{Spelt, name_alike, key_word_alike, hash_name_alike, string_alike, number_alike, number_at, number_before_alike, quasi_alike, big_integer_alike}
+use Rattle.ecma_redone_bytes.proofs.Literals.{Spelt, name_alike, identifier_alike, key_word_alike, hash_name_alike, string_alike, number_alike, number_at, number_before_alike, quasi_alike, big_integer_alike}
 use Rattle.ecma_redone_bytes.proofs.Parts as Parts
 
 key_mark : (lv : Leaves) (key : Tree) → Alike false (start (place_of (redo lv Plain key))) (start (place_of key))
@@ -251,8 +251,8 @@ module _ (given : Leaves) (look : Look) (h : Spelt look (keyless given)) where
     laid_alike s m (ident_name span sym) f = if_same _ (key_word_alike (keyless given) look h span sym) (name_alike (keyless given) look h span sym)
     laid_alike s m (computed_prop_name span e) f = start_alike span ▸ same ▸ laid_alike Alone Plain e (at_alone (is_number e)) ▸ same ▸ end_alike span
     laid_alike s m (private_name span sym) f = hash_name_alike (keyless given) look h span sym
-    laid_alike s m (ident span sym) f = name_alike (keyless given) look h span sym
-    laid_alike s m (binding_ident span (ident at sym)) f = name_alike (keyless given) look h span sym
+    laid_alike s m (ident span sym) f = identifier_alike (keyless given) look h (given.read span.lo.0).lo span sym
+    laid_alike s m (binding_ident span (ident at sym)) f = identifier_alike (keyless given) look h no_place.lo span sym
     -- expressions
     laid_alike s m (this_expr span) f = same ▸ start_alike span ▸ same ▸ end_alike span
     laid_alike s m (super span) f = same ▸ start_alike span ▸ same ▸ end_alike span
@@ -382,9 +382,9 @@ module _ (given : Leaves) (look : Look) (h : Spelt look (keyless given)) where
 
 -- ---- the tree that is this one but for spellings
 
-pub alike_with : (given : Leaves) (two : Look) → Spelt two kept → Spelt two (keyless given) → (t u : Tree) → RedoSame (keyless given) Plain t u → Alike false (laid two Alone u) (laid two Alone t)
+pub alike_with : (given : Leaves) (two : Look) → Spelt two (kept_at given.written) → Spelt two (keyless given) → (t u : Tree) → RedoSame (keyless given) Plain t u → Alike false (laid two Alone u) (laid two Alone t)
 alike_with given two k w t u s = record {
-  so = sym (laid_alike kept two k Alone Plain u (at_alone (is_number u))).so ∙ (ap (λ (v : Tree). seen false (laid two Alone v)) (s.so Plain) ∙ (laid_alike given two w Alone Plain t (at_alone (is_number t))).so);
+  so = sym (laid_alike (kept_at given.written) two k Alone Plain u (at_alone (is_number u))).so ∙ (ap (λ (v : Tree). seen false (laid two Alone v)) (s.so Plain) ∙ (laid_alike given two w Alone Plain t (at_alone (is_number t))).so);
 }
 
 pub given_there : (one : Look) (b : Bool) (a : Tree) → has_arguments (new_arguments one b a) ≡ has_arguments a
@@ -415,5 +415,5 @@ given_laid one two b (list none) = by (formats one || b)
 given_laid one two b (list (more t ts)) = same
 given_laid one two b _ = same
 
-pub kept_spelt : (two : Look) → Spelt two kept
-kept_spelt two = record { strings = λ u w. refl; directives = λ u w. refl; numbers = λ v w. refl; pointed = λ v w. refl; bigs = λ r d w. refl; quasis = λ b w. refl; given_there = λ b a. refl; given_laid = λ b a. same }
+pub kept_spelt : (two : Look) (places : ℕ → Span) → Spelt two (kept_at places)
+kept_spelt two places = record { strings = λ u w. refl; directives = λ u w. refl; numbers = λ v w. refl; pointed = λ v w. refl; bigs = λ r d w. refl; quasis = λ b w. refl; given_there = λ b a. refl; given_laid = λ b a. same }

@@ -1,6 +1,7 @@
 -- Literals whose texts are given anew are laid out alike.
-use Rattle.std.proofs.Common.{◌≡◌, ℕ, Bool, true, false, ◌||◌, if◌then◌else◌, List, Option, sym, ap, subst}
+use Rattle.std.proofs.Common.{◌≡◌, ℕ, Bool, true, false, ◌||◌, if◌then◌else◌, List, Option, refl, sym, ap, subst}
 use Rattle.ecma_number.specs.Numbers.{SpecNumber}
+use Rattle.ecma_token.specs.declared.place.BytePos.{BytePos}
 use Rattle.ecma_token.specs.declared.place.Span.{Span}
 use Rattle.ecma_tree.specs.Places.{no_place}
 use Rattle.ecma_tree.specs.Tree.{Tree, tpl_element}
@@ -8,9 +9,9 @@ use Rattle.ecma_spell_number.specs.Numbers.{before_member}
 use Rattle.ecma_layout.specs.declared.look.Look.{Look}
 use Rattle.ecma_layout.specs.declared.look.Stand.{Stand}
 use Rattle.ecma_layout.specs.declared.look.Stand.TheVariants.{Alone}
-use Rattle.ecma_layout.specs.Looks.{◌·◌, text, meant, template_characters, start}
+use Rattle.ecma_layout.specs.Looks.{◌·◌, text, named, meant, template_characters, start}
 use Rattle.ecma_layout.specs.Layout.{laid, has_arguments, is_computed, number_before, quasi, is_tagged as is_tagged_stand}
-use Rattle.ecma_layout.specs.Literals.{string_bytes, number_bytes, big_bytes, quasi_bytes, is_escaped_directive, name, key_word, hash_name, string, number, number_before_point, big_integer}
+use Rattle.ecma_layout.specs.Literals.{string_bytes, number_bytes, big_bytes, quasi_bytes, is_escaped_directive, name_bytes, name, identifier, key_word, hash_name, string, number, number_before_point, big_integer}
 use Rattle.ecma_layout_laws.proofs.Alike.{Alike, same, equal, ◌▸◌, when_alike, start_alike, end_alike}
 use Rattle.ecma_redone.specs.Redo.{Mode, Headed, Pointed, is_asked, is_pointed, is_tagged, object_mode, Leaves, redo}
 
@@ -30,6 +31,9 @@ module _ (lv : Leaves) (look : Look) (h : Spelt look lv) where
 
   pub name_alike : (span : Span) (sym : List ℕ) → Alike false (name look no_place sym) (name look span sym)
   name_alike span sym = same ▸ start_alike span ▸ same
+
+  pub identifier_alike : (pos : BytePos) (span : Span) (sym : List ℕ) → Alike false (named pos (name_bytes look.style sym)) (identifier look span sym)
+  identifier_alike pos span sym = record { so = refl }
 
   pub key_word_alike : (span : Span) (sym : List ℕ) → Alike false (key_word look no_place sym) (key_word look span sym)
   key_word_alike span sym = same ▸ start_alike span ▸ same

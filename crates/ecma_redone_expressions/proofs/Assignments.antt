@@ -14,7 +14,7 @@ use Rattle.ecma_layout.specs.declared.look.Stand.{Stand}
 use Rattle.ecma_layout.specs.declared.look.Stand.TheVariants.{Alone}
 use Rattle.ecma_written.specs.Lexicon.{Lexicon}
 use Rattle.ecma_redone.specs.Redo.{Plain}
-use Rattle.ecma_redone.specs.Written.{leaves_of}
+use Rattle.ecma_redone_base.proofs.Naming.{leaves_at}
 use Rattle.ecma_redone_base.proofs.Begins.{before, begun, is_loose, is_part, is_weak}
 use Rattle.ecma_redone_base.proofs.Ends.{above}
 use Rattle.ecma_redone_base.proofs.Follow.{closes, follow_by, follow_on}
@@ -48,14 +48,14 @@ target_plain op (paren_expr s e) h = (refl, refl)
 target_plain op _ h = absurd (and_off (op == assign_kind) h)
 
 module _ (look : Look) (x : Lexicon look.style) where
-  pub assign_on : (s : Span) (op : ℕ) (a b : Tree) → Sound look Alone a → Sound look Alone b → (st : Stand) → Sound look st (assign_expr s op a b)
+  pub assign_on : (s : Span) (op : ℕ) (a b : Tree) → Sound look x.naming Alone a → Sound look x.naming Alone b → (st : Stand) → Sound look x.naming st (assign_expr s op a b)
   assign_on s op a b f g st c ts0 r0 h k br ts K q =
       let t = target_plain op a h.3 in
-      let y = plain_part look Alone a f t.0 (assigning c) ts0 h.0 h.4 k br ts _ q in
-      let i = skip (formats look) _ _ _ y.more in
+      let y = plain_part look x.naming Alone a f t.0 (assigning c) ts0 h.0 h.4 k br ts _ q in
+      let i = skip x.naming (formats look) _ _ _ y.more in
       let p = x.operators op _ _ _ i.1.means in
-      let j = skip (formats look) _ _ _ i.2 in
-      let z = expr look assignment_level Alone b g (omega arith) c h.1 r0 h.6 (x.later h.0 h.1 h.5.2 y.known) _ i.0 K j in record {
+      let j = skip x.naming (formats look) _ _ _ i.2 in
+      let z = expr look x.naming assignment_level Alone b g (omega arith) c h.1 r0 h.6 (x.later h.0 h.1 h.5.2 y.known) _ i.0 K j in record {
         d = z.d;
         m = z.m;
         more = z.more;
@@ -65,7 +65,7 @@ module _ (look : Look) (x : Lexicon look.style) where
         begins = before ts0 h.0 ts y.m r0 z.m (λ l. refl) (begun (is_weak a) (is_loose a) ts0 h.0 ts y.m t.1 y.begins) (p.0 ∙ sym h.5.0) (λ e. assign_function op h.2 (sym p.0 ∙ e));
         again = λ l. let u = y.again (follow_by Alone a h.0 y.m op p.0 (assign_closes op h.2)) in let w = z.again (follow_on st (assign_expr s op a b) Alone b r0 r0 z.m refl (above assignment_level (level b) (omega arith) h.6.0) l) in record {
           tree = assign_expr (span (lo ts) z.m.last) op u.tree w.tree;
-          spelled = (y.m, i.0, h.2, alike (is_target op) (re_is_target op) (leaves_of look) Plain a u.tree u.same ∙ h.3, u.spelled, (p.0, tt, i.1.after), expr_low look assignment_level Alone b c i.0 z.m h.6.0 (omega arith) w, refl);
+          spelled = (y.m, i.0, h.2, alike (is_target op) (re_is_target op) (leaves_at look x.naming) Plain a u.tree u.same ∙ h.3, u.spelled, (p.0, tt, i.1.after), expr_low look x.naming assignment_level Alone b c i.0 z.m h.6.0 (omega arith) w, refl);
           directive = refl;
           quoted = λ p q. refl;
           same = record { so = λ n. ap₂ (λ (t v : Tree). assign_expr no_place op t v) (u.same.so Plain) (w.same.so Plain) };

@@ -17,7 +17,7 @@ use Rattle.ecma_layout.specs.declared.look.Stand.{Stand}
 use Rattle.ecma_layout.specs.declared.look.Stand.TheVariants.{Alone, Operand}
 use Rattle.ecma_written.specs.Lexicon.{Lexicon}
 use Rattle.ecma_redone.specs.Redo.{Plain}
-use Rattle.ecma_redone.specs.Written.{leaves_of}
+use Rattle.ecma_redone_base.proofs.Naming.{leaves_at}
 use Rattle.ecma_redone_base.proofs.Begins.{before, begun, is_loose, is_part, is_weak, level_part, strong}
 use Rattle.ecma_redone_base.proofs.Ends.{above}
 use Rattle.ecma_redone_base.proofs.Follow.{closes, follow_by, follow_on}
@@ -79,14 +79,14 @@ fits_again op a u e f g h = subst (λ (p : Bool). cond p (op == in_kind) (cond (
     (fits_by op (is_private a) (level a) (level u) f g h)
 
 module _ (look : Look) (x : Lexicon look.style) where
-  pub binary_on : (s : Span) (op : ℕ) (a b : Tree) → Sound look Operand a → Sound look Alone b → (st : Stand) → Sound look st (bin_expr s op a b)
+  pub binary_on : (s : Span) (op : ℕ) (a b : Tree) → Sound look x.naming Operand a → Sound look x.naming Alone b → (st : Stand) → Sound look x.naming st (bin_expr s op a b)
   binary_on s op a b f g st c ts0 r0 h k br ts K q =
       let o = operated c op h.2 in
-      let i = skip_mark (marked_as_operand st) s.lo _ _ _ q in
-      let y = plain_part look Operand a f (left_plain op a o h.3) (assigning c) ts0 h.0 h.4 k br ts _ i in
-      let j = skip (gap_before op a || formats look) _ _ _ y.more in
+      let i = skip_mark x.naming (marked_as_operand st) s.lo _ _ _ q in
+      let y = plain_part look x.naming Operand a f (left_plain op a o h.3) (assigning c) ts0 h.0 h.4 k br ts _ i in
+      let j = skip x.naming (gap_before op a || formats look) _ _ _ y.more in
       let p = x.operators op _ _ _ j.1.means in
-      let z = expr look (right_level op) Alone b g (right_some op o) c h.1 r0 h.6 (x.later h.0 h.1 h.5.3 y.known) _ j.0 K (skip (gap_after op b || formats look) _ _ _ j.2) in record {
+      let z = expr look x.naming (right_level op) Alone b g (right_some op o) c h.1 r0 h.6 (x.later h.0 h.1 h.5.3 y.known) _ j.0 K (skip x.naming (gap_after op b || formats look) _ _ _ j.2) in record {
         d = z.d;
         m = z.m;
         more = z.more;
@@ -100,10 +100,10 @@ module _ (look : Look) (x : Lexicon look.style) where
             y.m,
             j.0,
             h.2,
-            fits_again op a u.tree (alike is_private re_is_private (leaves_of look) Plain a u.tree u.same) (level_low (leaves_of look) Plain a u.tree u.same) (level_below (leaves_of look) Plain a u.tree u.same) h.3,
+            fits_again op a u.tree (alike is_private re_is_private (leaves_at look x.naming) Plain a u.tree u.same) (level_low (leaves_at look x.naming) Plain a u.tree u.same) (level_below (leaves_at look x.naming) Plain a u.tree u.same) h.3,
             u.spelled,
             (p.0, unbarred c.context (escaped y.m) (kind y.m) p.1, tt, j.1.after),
-            expr_low look (right_level op) Alone b c j.0 z.m h.6.0 (right_fits op) w,
+            expr_low look x.naming (right_level op) Alone b c j.0 z.m h.6.0 (right_fits op) w,
             refl,
           );
           directive = refl;

@@ -21,7 +21,8 @@ use Rattle.ecma_written.specs.Lexicon.{Lexicon}
 use Rattle.ecma_written.specs.Means.{Known}
 use Rattle.ecma_written.specs.Told.{says}
 use Rattle.ecma_redone.specs.Redo.{AllSame, Headed, Plain, is_head, redo, redos}
-use Rattle.ecma_redone.specs.Written.{given_none, leaves_of, mode_of, new_arguments}
+use Rattle.ecma_redone.specs.Written.{given_none, mode_of, new_arguments}
+use Rattle.ecma_redone_base.proofs.Naming.{leaves_at}
 use Rattle.ecma_redone_base.proofs.Begins.{led, level_part}
 use Rattle.ecma_redone_base.proofs.Follow.{low_goes, needs_calm}
 use Rattle.ecma_redone_base.proofs.Levels.{callee_level}
@@ -68,28 +69,28 @@ module _ (look : Look) (x : Lexicon look.style) where
     more : K Touching m
     known : Known r0.places
     lead : kind ts ≡ left_paren_kind
-    again : (us : Trees) × Arguments (unplaced c) (parts us) ts m × AllSame (leaves_of look) Plain (items_of a) us
+    again : (us : Trees) × Arguments (unplaced c) (parts us) ts m × AllSame (leaves_at look x.naming) Plain (items_of a) us
 
-  given : (xs : Trees) → AllSound look xs → (c : Code) (ts0 r0 : Input) → Arguments c (parts xs) ts0 r0 → Known ts0.places → (b : Gap) (ts : Input) (K : Gap → Input → Type 0) → says (in_parens (separated look (comma look) xs)) b ts K → Given (list xs) c r0 b ts K
+  given : (xs : Trees) → AllSound look x.naming xs → (c : Code) (ts0 r0 : Input) → Arguments c (parts xs) ts0 r0 → Known ts0.places → (b : Gap) (ts : Input) (K : Gap → Input → Type 0) → says x.naming (in_parens (separated look (comma look) xs)) b ts K → Given (list xs) c r0 b ts K
   given xs a c ts0 r0 h l b ts K q =
       let z = arguments_on look x c xs a h.0 r0 h.2 (x.later ts0 h.0 h.1.2 l) _ q.0 _ (λ d m o. marked look x right_paren_kind o.1) q.2 in
       let o = z.more in let w = z.again o.0 (took look x c right_paren_kind o.1) in
       record { m = o.0; more = o.2; known = z.known; lead = marked look x left_paren_kind q.1; again = (w.0, (q.0, took look x c left_paren_kind q.1, w.1), w.2) }
 
-  none_given : (c : Code) (r0 : Input) → Known r0.places → (b : Gap) (ts : Input) (K : Gap → Input → Type 0) → says (in_parens nothing) b ts K → Given absent c r0 b ts K
+  none_given : (c : Code) (r0 : Input) → Known r0.places → (b : Gap) (ts : Input) (K : Gap → Input → Type 0) → says x.naming (in_parens nothing) b ts K → Given absent c r0 b ts K
   none_given c r0 l b ts K q = let o = q.2 in
-      record { m = o.0; more = o.2; known = l; lead = marked look x left_paren_kind q.1; again = (none, (q.0, took look x c left_paren_kind q.1, took look x c right_paren_kind o.1), none_same (leaves_of look)) }
+      record { m = o.0; more = o.2; known = l; lead = marked look x left_paren_kind q.1; again = (none, (q.0, took look x c left_paren_kind q.1, took look x c right_paren_kind o.1), none_same (leaves_at look x.naming)) }
 
   abbrev asks : Stand → Tree → Bool
   asks st a = formats look || (has_arguments a || is_head_stand st)
 
-  args_yes : (st : Stand) (a : Tree) → is_args a ≡ true → asks st a ≡ true → list (redos (leaves_of look) Plain (items_of a)) ≡ new_arguments look (is_head (mode_of st)) (redo (leaves_of look) Plain a)
+  args_yes : (st : Stand) (a : Tree) → is_args a ≡ true → asks st a ≡ true → list (redos (leaves_at look x.naming) Plain (items_of a)) ≡ new_arguments look (is_head (mode_of st)) (redo (leaves_at look x.naming) Plain a)
   args_yes st absent p e = given_yes (formats look || is_head (mode_of st)) (ap (λ (v : Bool). formats look || v) (head_mode st) ∙ e)
   args_yes st (list none) p e = given_yes (formats look || is_head (mode_of st)) (ap (λ (v : Bool). formats look || v) (head_mode st) ∙ e)
   args_yes st (list (more t ts)) p e = refl
   args_yes st _ p e = absurd (true≢false (sym p))
 
-  args_no : (st : Stand) (a : Tree) → is_args a ≡ true → asks st a ≡ false → absent ≡ new_arguments look (is_head (mode_of st)) (redo (leaves_of look) Plain a)
+  args_no : (st : Stand) (a : Tree) → is_args a ≡ true → asks st a ≡ false → absent ≡ new_arguments look (is_head (mode_of st)) (redo (leaves_at look x.naming) Plain a)
   args_no st absent p e = given_no (formats look || is_head (mode_of st)) (ap (λ (v : Bool). formats look || v) (head_mode st) ∙ e)
   args_no st (list none) p e = given_no (formats look || is_head (mode_of st)) (ap (λ (v : Bool). formats look || v) (head_mode st) ∙ e)
   args_no st (list (more t ts)) p e = absurd (true≢false (sym (middle_true (formats look) (is_head_stand st)) ∙ e))
@@ -103,15 +104,15 @@ module _ (look : Look) (x : Lexicon look.style) where
       by false v e = refl
 
   -- `new` and its callee, and then arguments or none
-  new_on : (s : Span) (e a : Tree) → Sound look Head e → (st : Stand) (c : Code) (ts0 m0 n0 r0 : Input) → TakesWord c new_kind ts0 m0 → Spells e (assigning c) m0 n0 → ((level e ≡ new_level) ⊎ (member_level ≤ level e)) → Known ts0.places
-      → ((b : Gap) (ts : Input) (K : Gap → Input → Type 0) → Known n0.places → says (in_parens (laid look Alone a)) b ts K → Given a c r0 b ts K) → (asks st a ≡ false → Known n0.places → Known r0.places)
+  new_on : (s : Span) (e a : Tree) → Sound look x.naming Head e → (st : Stand) (c : Code) (ts0 m0 n0 r0 : Input) → TakesWord c new_kind ts0 m0 → Spells e (assigning c) m0 n0 → ((level e ≡ new_level) ⊎ (member_level ≤ level e)) → Known ts0.places
+      → ((b : Gap) (ts : Input) (K : Gap → Input → Type 0) → Known n0.places → says x.naming (in_parens (laid look Alone a)) b ts K → Given a c r0 b ts K) → (asks st a ≡ false → Known n0.places → Known r0.places)
       → is_args a ≡ true
-      → (b : Gap) (ts : Input) (K : Gap → Input → Type 0) → says (full look st (new_expr s e a)) b ts K → Out look st (new_expr s e a) c ts0 r0 b ts K
+      → (b : Gap) (ts : Input) (K : Gap → Input → Type 0) → says x.naming (full look st (new_expr s e a)) b ts K → Out look x.naming st (new_expr s e a) c ts0 r0 b ts K
   new_on s e a f st c ts0 m0 n0 r0 t h v l g without p b ts K q =
-      let y = plain_part look Head e f (level_part e (callee_there e v)) (assigning c) m0 n0 h (x.later ts0 m0 t.3 l) _ q.0 _ (skip (starts_with_word e || formats look) _ _ _ q.2) in
+      let y = plain_part look x.naming Head e f (level_part e (callee_there e v)) (assigning c) m0 n0 h (x.later ts0 m0 t.3 l) _ q.0 _ (skip x.naming (starts_with_word e || formats look) _ _ _ q.2) in
       by y (asks st a) refl y.more
     where
-      by : (y : Out look Head e (assigning c) m0 n0 (gapped (starts_with_word e || formats look) Touching) q.0 (λ d m. says (when (asks st a) (in_parens (laid look Alone a))) d m K)) (j : Bool) → asks st a ≡ j → says (when j (in_parens (laid look Alone a))) y.d y.m K → Out look st (new_expr s e a) c ts0 r0 b ts K
+      by : (y : Out look x.naming Head e (assigning c) m0 n0 (gapped (starts_with_word e || formats look) Touching) q.0 (λ d m. says x.naming (when (asks st a) (in_parens (laid look Alone a))) d m K)) (j : Bool) → asks st a ≡ j → says x.naming (when j (in_parens (laid look Alone a))) y.d y.m K → Out look x.naming st (new_expr s e a) c ts0 r0 b ts K
       by y true i u = let z = g y.d y.m K y.known u in record {
         d = Touching;
         m = z.m;
@@ -122,7 +123,7 @@ module _ (look : Look) (x : Lexicon look.style) where
         begins = led ts0 r0 ts z.m new_kind t.0 (keyed look x new_kind q.1) refl;
         again = λ k. let w = y.again (follow_head e n0 y.m (callee_high e v) z.lead) in record {
           tree = new_expr (span (lo ts) z.m.last) w.tree (list z.again.0);
-          spelled = (q.0, y.m, worded look x c new_kind q.1, (callee_level look e w.tree w.same v, w.spelled), z.again.1, refl);
+          spelled = (q.0, y.m, worded look x c new_kind q.1, (callee_level look x.naming e w.tree w.same v, w.spelled), z.again.1, refl);
           directive = refl;
           quoted = λ p q. refl;
           same = record { so = λ n. ap₂ (λ (r w : Tree). new_expr no_place r w) (w.same.so Headed) (ap (λ (us : Trees). list us) (z.again.2.so Plain) ∙ args_yes st a p i) };
@@ -138,7 +139,7 @@ module _ (look : Look) (x : Lexicon look.style) where
         begins = led ts0 r0 ts y.m new_kind t.0 (keyed look x new_kind q.1) refl;
         again = λ k. let w = y.again (follow_none e n0 y.m (callee_high e v)) in record {
           tree = new_expr (span (lo ts) y.m.last) w.tree absent;
-          spelled = (q.0, worded look x c new_kind q.1, inr (callee_level look e w.tree w.same v), w.spelled, low_goes (unplaced c) other_end y.m (k.quiet (calm_asked st s e a i)), refl);
+          spelled = (q.0, worded look x c new_kind q.1, inr (callee_level look x.naming e w.tree w.same v), w.spelled, low_goes (unplaced c) other_end y.m (k.quiet (calm_asked st s e a i)), refl);
           directive = refl;
           quoted = λ p q. refl;
           same = record { so = λ n. ap₂ (λ (r w : Tree). new_expr no_place r w) (w.same.so Headed) (args_no st a p i) };
@@ -153,10 +154,10 @@ module _ (look : Look) (x : Lexicon look.style) where
       middle true = refl
       middle false = refl
 
-  pub new_with : (s : Span) (e : Tree) (xs : Trees) → Sound look Head e → AllSound look xs → (st : Stand) → Sound look st (new_expr s e (list xs))
+  pub new_with : (s : Span) (e : Tree) (xs : Trees) → Sound look x.naming Head e → AllSound look x.naming xs → (st : Stand) → Sound look x.naming st (new_expr s e (list xs))
   new_with s e xs f a st c ts0 r0 h l b ts K q =
       new_on s e (list xs) f st c ts0 h.0 h.1 r0 h.2 h.3.1 (inr h.3.0) l (λ b ts K l q. given xs a c h.1 r0 h.4 l b ts K q) (λ e l. arguments_known c xs st h.1 r0 e h.4 l) refl b ts K q
 
-  pub new_bare : (s : Span) (e : Tree) → Sound look Head e → (st : Stand) → Sound look st (new_expr s e absent)
+  pub new_bare : (s : Span) (e : Tree) → Sound look x.naming Head e → (st : Stand) → Sound look x.naming st (new_expr s e absent)
   new_bare s e f st c ts0 r0 h l b ts K q =
       new_on s e absent f st c ts0 h.0 r0 r0 h.1 h.3 h.2 l (λ b ts K l q. none_given c r0 l b ts K q) (λ e l. l) refl b ts K q

@@ -42,14 +42,14 @@ asked_calm m e n = subst (λ (k : ℕ). calm_of k (kind2 m) ≡ true) (sym e) (b
     by false e = refl
 
 module _ (look : Look) (x : Lexicon look.style) where
-  unary_gap : (op : ℕ) (a : Tree) (v : Bool) (b : Gap) (ts : Input) (K : Gap → Input → Type 0) → says (if v then gap_or look (starts_with_word a) else when (gap_of_unary op a) (one Blank)) b ts K → (d : Gap) × K d ts
-  unary_gap op a true b ts K i = (_, skip (starts_with_word a || formats look) b ts K i)
-  unary_gap op a false b ts K i = (_, skip (gap_of_unary op a) b ts K i)
+  unary_gap : (op : ℕ) (a : Tree) (v : Bool) (b : Gap) (ts : Input) (K : Gap → Input → Type 0) → says x.naming (if v then gap_or look (starts_with_word a) else when (gap_of_unary op a) (one Blank)) b ts K → (d : Gap) × K d ts
+  unary_gap op a true b ts K i = (_, skip x.naming (starts_with_word a || formats look) b ts K i)
+  unary_gap op a false b ts K i = (_, skip x.naming (gap_of_unary op a) b ts K i)
 
-  pub unary_on : (s : Span) (op : ℕ) (a : Tree) → Sound look Alone a → (st : Stand) → Sound look st (unary_expr s op a)
+  pub unary_on : (s : Span) (op : ℕ) (a : Tree) → Sound look x.naming Alone a → (st : Stand) → Sound look x.naming st (unary_expr s op a)
   unary_on s op a f st c ts0 r0 h k b ts K q =
       let o = x.signs op _ _ _ q.1.means in
-      let y = expr look unary_level Alone a f (omega arith) c h.0 r0 h.3 (x.later ts0 h.0 h.2.3 k) _ q.0 K (unary_gap op a (is_word_operator op) Touching q.0 _ q.2).1 in record {
+      let y = expr look x.naming unary_level Alone a f (omega arith) c h.0 r0 h.3 (x.later ts0 h.0 h.2.3 k) _ q.0 K (unary_gap op a (is_word_operator op) Touching q.0 _ q.2).1 in record {
         d = y.d;
         m = y.m;
         more = y.more;
@@ -59,17 +59,17 @@ module _ (look : Look) (x : Lexicon look.style) where
         begins = led ts0 r0 ts y.m op h.2.0 o.0 (by_unary op (λ o. two_told o ≡ false) h.1 refl refl refl refl refl refl refl);
         again = λ g. let w = y.again (follow_on st (unary_expr s op a) Alone a r0 r0 y.m refl (above unary_level (level a) (omega arith) h.3.0) g) in record {
           tree = unary_expr (span (lo ts) y.m.last) op w.tree;
-          spelled = (q.0, h.1, (o.0, unbarred c.context (escaped ts) (kind ts) o.1, tt, q.1.after), expr_low look unary_level Alone a c q.0 y.m h.3.0 (omega arith) w, refl);
+          spelled = (q.0, h.1, (o.0, unbarred c.context (escaped ts) (kind ts) o.1, tt, q.1.after), expr_low look x.naming unary_level Alone a c q.0 y.m h.3.0 (omega arith) w, refl);
           directive = refl;
           quoted = λ p q. refl;
           same = record { so = λ n. ap (λ (t : Tree). unary_expr no_place op t) (w.same.so Plain) };
         };
       }
 
-  pub update_on : (s : Span) (op : ℕ) (p : Bool) (a : Tree) → Sound look Alone a → (st : Stand) → Sound look st (update_expr s op p a)
+  pub update_on : (s : Span) (op : ℕ) (p : Bool) (a : Tree) → Sound look x.naming Alone a → (st : Stand) → Sound look x.naming st (update_expr s op p a)
   update_on s op true a f st c ts0 r0 h k b ts K q =
       let o = x.signs op _ _ _ q.1.means in
-      let y = expr look unary_level Alone a f (omega arith) c h.0 r0 h.3 (x.later ts0 h.0 h.2.2 k) _ q.0 K q.2 in record {
+      let y = expr look x.naming unary_level Alone a f (omega arith) c h.0 r0 h.3 (x.later ts0 h.0 h.2.2 k) _ q.0 K q.2 in record {
         d = y.d;
         m = y.m;
         more = y.more;
@@ -79,7 +79,7 @@ module _ (look : Look) (x : Lexicon look.style) where
         begins = led ts0 r0 ts y.m op h.2.0 o.0 (by_update op (λ o. two_told o ≡ false) h.1 refl refl);
         again = λ g. let w = y.again (follow_on st (update_expr s op true a) Alone a r0 r0 y.m refl (above unary_level (level a) (omega arith) h.3.0) g) in record {
           tree = update_expr (span (lo ts) y.m.last) op true w.tree;
-          spelled = (q.0, h.1, (o.0, tt, q.1.after), expr_low look unary_level Alone a c q.0 y.m h.3.0 (omega arith) w, refl);
+          spelled = (q.0, h.1, (o.0, tt, q.1.after), expr_low look x.naming unary_level Alone a c q.0 y.m h.3.0 (omega arith) w, refl);
           directive = refl;
           quoted = λ p q. refl;
           same = record { so = λ n. ap (λ (t : Tree). update_expr no_place op true t) (w.same.so Plain) };
@@ -87,7 +87,7 @@ module _ (look : Look) (x : Lexicon look.style) where
       }
   update_on s op false a f st c ts0 r0 h k b ts K q =
       let n = above new_level (level a) (omega arith) h.2.0 in
-      let y = expr look new_level Alone a f (omega arith) c ts0 h.0 h.2 k b ts _ q in
+      let y = expr look x.naming new_level Alone a f (omega arith) c ts0 h.0 h.2 k b ts _ q in
       let p = y.more in
       let o = x.signs op _ _ _ p.1.means in record {
         d = Touching;
@@ -96,25 +96,25 @@ module _ (look : Look) (x : Lexicon look.style) where
         known = x.later h.0 r0 h.4.2 y.known;
         broke = y.broke;
         tight = λ e. refl;
-        begins = before ts0 h.0 ts y.m r0 p.0 (λ l. refl) (expr_begins look Alone a (assigning c) ts0 h.0 b ts _ n y) (o.0 ∙ sym h.4.0) (λ e. by_update op (λ o. o ≡ function_kind → ⊥) h.1 (λ e. omega arith) (λ e. omega arith) (sym o.0 ∙ e));
+        begins = before ts0 h.0 ts y.m r0 p.0 (λ l. refl) (expr_begins look x.naming Alone a (assigning c) ts0 h.0 b ts _ n y) (o.0 ∙ sym h.4.0) (λ e. by_update op (λ o. o ≡ function_kind → ⊥) h.1 (λ e. omega arith) (λ e. omega arith) (sym o.0 ∙ e));
         again = λ g. let w = y.again (follow_by Alone a h.0 y.m op o.0 (by_update op (λ o. closes o ≡ true) h.1 refl refl)) in record {
           tree = update_expr (span (lo ts) p.0.last) op false w.tree;
-          spelled = (y.m, h.1, expr_low look new_level Alone a c ts y.m h.2.0 (omega arith) w, p.1.broke ∙ ap is_broken (y.tight (tight_of a n)), (o.0, tt, p.1.after), refl);
+          spelled = (y.m, h.1, expr_low look x.naming new_level Alone a c ts y.m h.2.0 (omega arith) w, p.1.broke ∙ ap is_broken (y.tight (tight_of a n)), (o.0, tt, p.1.after), refl);
           directive = refl;
           quoted = λ p q. refl;
           same = record { so = λ n. ap (λ (t : Tree). update_expr no_place op false t) (w.same.so Plain) };
         };
       }
 
-  pub conditional_on : (s : Span) (a b d : Tree) → Sound look Alone a → Sound look Alone b → Sound look Alone d → (st : Stand) → Sound look st (cond_expr s a b d)
+  pub conditional_on : (s : Span) (a b d : Tree) → Sound look x.naming Alone a → Sound look x.naming Alone b → Sound look x.naming Alone d → (st : Stand) → Sound look x.naming st (cond_expr s a b d)
   conditional_on s a b d f g j st c ts0 r0 h k br ts K q =
-      let y = expr look coalesce_level Alone a f (omega arith) c ts0 h.0 h.4 k br ts _ q in
-      let i = skip (formats look) _ _ _ y.more in
-      let l = skip (formats look) _ _ _ i.2 in
-      let z = expr look assignment_level Alone b g (omega arith) (with_in c) h.1 h.2 h.6 (x.later h.0 h.1 h.5.2 y.known) _ i.0 _ l in
-      let n = skip (formats look) _ _ _ z.more in
-      let o = skip (formats look) _ _ _ n.2 in
-      let v = expr look assignment_level Alone d j (omega arith) c h.3 r0 h.8 (x.later h.2 h.3 h.7.2 z.known) _ n.0 K o in
+      let y = expr look x.naming coalesce_level Alone a f (omega arith) c ts0 h.0 h.4 k br ts _ q in
+      let i = skip x.naming (formats look) _ _ _ y.more in
+      let l = skip x.naming (formats look) _ _ _ i.2 in
+      let z = expr look x.naming assignment_level Alone b g (omega arith) (with_in c) h.1 h.2 h.6 (x.later h.0 h.1 h.5.2 y.known) _ i.0 _ l in
+      let n = skip x.naming (formats look) _ _ _ z.more in
+      let o = skip x.naming (formats look) _ _ _ n.2 in
+      let v = expr look x.naming assignment_level Alone d j (omega arith) c h.3 r0 h.8 (x.later h.2 h.3 h.7.2 z.known) _ n.0 K o in
       let t = marked look x question_mark_kind i.1 in record {
         d = v.d;
         m = v.m;
@@ -122,14 +122,14 @@ module _ (look : Look) (x : Lexicon look.style) where
         known = v.known;
         broke = y.broke;
         tight = λ e. v.tight (tight_of d (above assignment_level (level d) (omega arith) h.8.0));
-        begins = before ts0 h.0 ts y.m r0 v.m (λ l. refl) (expr_begins look Alone a (assigning c) ts0 h.0 br ts _ (above coalesce_level (level a) (omega arith) h.4.0) y) (t ∙ sym h.5.0) (λ e. conditional_function (sym t ∙ e));
+        begins = before ts0 h.0 ts y.m r0 v.m (λ l. refl) (expr_begins look x.naming Alone a (assigning c) ts0 h.0 br ts _ (above coalesce_level (level a) (omega arith) h.4.0) y) (t ∙ sym h.5.0) (λ e. conditional_function (sym t ∙ e));
         again = λ u.
             let p = z.again (follow_by Alone b h.2 z.m colon_kind (marked look x colon_kind n.1) refl) in
-            let r = expr_low look assignment_level Alone b (with_in c) i.0 z.m h.6.0 (omega arith) p in
+            let r = expr_low look x.naming assignment_level Alone b (with_in c) i.0 z.m h.6.0 (omega arith) p in
             let w = y.again (record { quiet = λ e. asked_calm y.m t (λ e. no_point (begins_at p.tree (assigning (with_in (unplaced c))) i.0 z.m (above assignment_level (level p.tree) (omega arith) r.0) r.1) (sym (ap kind i.1.after) ∙ e)); other = λ e. absurd (no_item a (above coalesce_level (level a) (omega arith) h.4.0) e) }) in
             let m = v.again (follow_on st (cond_expr s a b d) Alone d r0 r0 v.m refl (above assignment_level (level d) (omega arith) h.8.0) u) in record {
               tree = cond_expr (span (lo ts) v.m.last) w.tree p.tree m.tree;
-              spelled = (y.m, i.0, z.m, n.0, expr_low look coalesce_level Alone a c ts y.m h.4.0 (omega arith) w, took look x c question_mark_kind i.1, r, took look x c colon_kind n.1, expr_low look assignment_level Alone d c n.0 v.m h.8.0 (omega arith) m, refl);
+              spelled = (y.m, i.0, z.m, n.0, expr_low look x.naming coalesce_level Alone a c ts y.m h.4.0 (omega arith) w, took look x c question_mark_kind i.1, r, took look x c colon_kind n.1, expr_low look x.naming assignment_level Alone d c n.0 v.m h.8.0 (omega arith) m, refl);
               directive = refl;
               quoted = λ p q. refl;
               same = record { so = λ n. three (w.same.so Plain) (p.same.so Plain) (m.same.so Plain) };
@@ -145,10 +145,10 @@ module _ (look : Look) (x : Lexicon look.style) where
       no_point : {k : ℕ} → begins k ≡ true → k ≡ dot_kind → ⊥
       no_point h e = true≢false (sym (ap begins (sym e) ∙ h))
 
-  pub await_on : (s : Span) (a : Tree) → Sound look Alone a → (st : Stand) → Sound look st (await_expr s a)
+  pub await_on : (s : Span) (a : Tree) → Sound look x.naming Alone a → (st : Stand) → Sound look x.naming st (await_expr s a)
   await_on s a f st c ts0 r0 h k b ts K q =
       let n = above unary_level (level a) (omega arith) h.3.0 in
-      let y = expr look unary_level Alone a f (omega arith) c h.0 r0 h.3 (x.later ts0 h.0 h.2.3 k) _ q.0 K q.2 in record {
+      let y = expr look x.naming unary_level Alone a f (omega arith) c h.0 r0 h.3 (x.later ts0 h.0 h.2.3 k) _ q.0 K q.2 in record {
         d = y.d;
         m = y.m;
         more = y.more;
@@ -158,7 +158,7 @@ module _ (look : Look) (x : Lexicon look.style) where
         begins = led ts0 r0 ts y.m await_kind h.2.0 (keyed look x await_kind q.1) refl;
         again = λ g. let w = y.again (follow_on st (await_expr s a) Alone a r0 r0 y.m refl n g) in record {
           tree = await_expr (span (lo ts) y.m.last) w.tree;
-          spelled = (q.0, h.1, worded look x c await_kind q.1, expr_low look unary_level Alone a c q.0 y.m h.3.0 (omega arith) w, refl);
+          spelled = (q.0, h.1, worded look x c await_kind q.1, expr_low look x.naming unary_level Alone a c q.0 y.m h.3.0 (omega arith) w, refl);
           directive = refl;
           quoted = λ p q. refl;
           same = record { so = λ n. ap (λ (t : Tree). await_expr no_place t) (w.same.so Plain) };

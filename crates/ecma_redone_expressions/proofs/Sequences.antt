@@ -19,7 +19,8 @@ use Rattle.ecma_written.specs.Lexicon.{Lexicon}
 use Rattle.ecma_written.specs.Means.{Known}
 use Rattle.ecma_written.specs.Told.{says}
 use Rattle.ecma_redone.specs.Redo.{AllSame, Plain, Same, redo, redos}
-use Rattle.ecma_redone.specs.Written.{leaves_of, mode_of}
+use Rattle.ecma_redone.specs.Written.{mode_of}
+use Rattle.ecma_redone_base.proofs.Naming.{leaves_at}
 use Rattle.ecma_redone_base.proofs.Begins.{begun, is_loose, is_weak, led, loosen, no_else, strong}
 use Rattle.ecma_redone_base.proofs.Ends.{above}
 use Rattle.ecma_redone_base.proofs.Follow.{follow_on}
@@ -33,26 +34,26 @@ dots_no_else : dot_dot_dot_kind ≡ else_kind → ⊥
 dots_no_else e = omega arith
 
 module _ (look : Look) (x : Lexicon look.style) where
-  pub element_on : (s : Span) (d : Option Span) (e : Tree) → Sound look Alone e → (st : Stand) → Sound look st (expr_or_spread s d e)
+  pub element_on : (s : Span) (d : Option Span) (e : Tree) → Sound look x.naming Alone e → (st : Stand) → Sound look x.naming st (expr_or_spread s d e)
   element_on s None e f st c ts0 r0 h k b ts K q =
-      let y = expr look assignment_level Alone e f (omega arith) (with_in c) ts0 r0 h.0 k b ts K q in record {
+      let y = expr look x.naming assignment_level Alone e f (omega arith) (with_in c) ts0 r0 h.0 k b ts K q in record {
         d = y.d;
         m = y.m;
         more = y.more;
         known = y.known;
         broke = y.broke;
         tight = λ i. absurd (true≢false (sym i));
-        begins = no_else ts0 r0 ts y.m (expr_begins look Alone e (assigning (with_in c)) ts0 r0 b ts K (above assignment_level (level e) (omega arith) h.0.0) y);
+        begins = no_else ts0 r0 ts y.m (expr_begins look x.naming Alone e (assigning (with_in c)) ts0 r0 b ts K (above assignment_level (level e) (omega arith) h.0.0) y);
         again = λ g. let w = y.again (follow_on st (expr_or_spread s None e) Alone e r0 r0 y.m refl (above assignment_level (level e) (omega arith) h.0.0) g) in record {
           tree = expr_or_spread (span (lo ts) y.m.last) None w.tree;
-          spelled = (expr_low look assignment_level Alone e (with_in c) ts y.m h.0.0 (omega arith) w, refl);
+          spelled = (expr_low look x.naming assignment_level Alone e (with_in c) ts y.m h.0.0 (omega arith) w, refl);
           directive = refl;
           quoted = λ p q. refl;
           same = record { so = λ n. ap (λ (t : Tree). expr_or_spread no_place None t) (w.same.so Plain) };
         };
       }
   element_on s (Some p) e f st c ts0 r0 h k b ts K q =
-      let y = expr look assignment_level Alone e f (omega arith) (with_in c) h.0 r0 h.3 (x.later ts0 h.0 h.1.2 k) _ q.0 K q.2 in record {
+      let y = expr look x.naming assignment_level Alone e f (omega arith) (with_in c) h.0 r0 h.3 (x.later ts0 h.0 h.1.2 k) _ q.0 K q.2 in record {
         d = y.d;
         m = y.m;
         more = y.more;
@@ -62,7 +63,7 @@ module _ (look : Look) (x : Lexicon look.style) where
         begins = λ e. absurd (dots_no_else (sym (marked look x dot_dot_dot_kind q.1) ∙ e));
         again = λ g. let w = y.again (follow_on st (expr_or_spread s (Some p) e) Alone e r0 r0 y.m refl (above assignment_level (level e) (omega arith) h.3.0) g) in record {
           tree = expr_or_spread (span (lo ts) y.m.last) (Some (first_span ts)) w.tree;
-          spelled = (q.0, took look x c dot_dot_dot_kind q.1, refl, expr_low look assignment_level Alone e (with_in c) q.0 y.m h.3.0 (omega arith) w, refl);
+          spelled = (q.0, took look x c dot_dot_dot_kind q.1, refl, expr_low look x.naming assignment_level Alone e (with_in c) q.0 y.m h.3.0 (omega arith) w, refl);
           directive = refl;
           quoted = λ p q. refl;
           same = record { so = λ n. ap (λ (t : Tree). expr_or_spread no_place (Some no_place) t) (w.same.so Plain) };
@@ -70,12 +71,12 @@ module _ (look : Look) (x : Lexicon look.style) where
       }
 
   -- the layout of the elements, in lines of their own
-  elements_on : (c : Code) (xs : Trees) → AllSound look xs → (ts0 r0 : Input) → Listed true (Sorted is_element c) c right_bracket_kind (parts xs) ts0 r0 → Known ts0.places → (b : Gap) (ts : Input) (K : Gap → Input → Type 0)
-      → ((d : Gap) (m : Input) → K d m → kind m ≡ right_bracket_kind) → says (separated look (comma_line look) xs · when (ends_with_hole xs) (comma look)) b ts K
+  elements_on : (c : Code) (xs : Trees) → AllSound look x.naming xs → (ts0 r0 : Input) → Listed true (Sorted is_element c) c right_bracket_kind (parts xs) ts0 r0 → Known ts0.places → (b : Gap) (ts : Input) (K : Gap → Input → Type 0)
+      → ((d : Gap) (m : Input) → K d m → kind m ≡ right_bracket_kind) → says x.naming (separated look (comma_line look) xs · when (ends_with_hole xs) (comma look)) b ts K
       → Gone look x (Sorted is_element c) (Sorted is_element (unplaced c)) (sorted look x is_element re_is_element element_plain c) c right_bracket_kind refl true xs r0 ts K
   elements_on c xs a ts0 r0 h k b ts K peek q = holed look x _ _ _ c right_bracket_kind refl (comma_line look) (comma_line_on look x) xs a ts0 r0 h k b ts K peek q
 
-  pub array_on : (s : Span) (xs : Trees) → AllSound look xs → (st : Stand) → Sound look st (array_lit s xs)
+  pub array_on : (s : Span) (xs : Trees) → AllSound look x.naming xs → (st : Stand) → Sound look x.naming st (array_lit s xs)
   array_on s none a st c ts0 r0 h k b ts K q =
       let o = q.2 in record {
         d = Touching;
@@ -94,10 +95,10 @@ module _ (look : Look) (x : Lexicon look.style) where
         };
       }
   array_on s (more t ts') a st c ts0 r0 h k b ts K q =
-      let i = skip_line (formats look) _ _ _ q.2 in
-      let j = skip_deeper (formats look) _ _ _ i.1 in
-      let z = elements_on c (more t ts') a h.0 r0 h.2 (x.later ts0 h.0 h.1.2 k) i.0 q.0 _ (λ d m u. let v = skip_line (formats look) _ _ _ (skip_back (formats look) _ _ _ u) in marked look x right_bracket_kind v.1.1) j in
-      let v = skip_line (formats look) _ _ _ (skip_back (formats look) _ _ _ z.more) in
+      let i = skip_line x.naming (formats look) _ _ _ q.2 in
+      let j = skip_deeper x.naming (formats look) _ _ _ i.1 in
+      let z = elements_on c (more t ts') a h.0 r0 h.2 (x.later ts0 h.0 h.1.2 k) i.0 q.0 _ (λ d m u. let v = skip_line x.naming (formats look) _ _ _ (skip_back x.naming (formats look) _ _ _ u) in marked look x right_bracket_kind v.1.1) j in
+      let v = skip_line x.naming (formats look) _ _ _ (skip_back x.naming (formats look) _ _ _ z.more) in
       let o = v.1 in record {
         d = Touching;
         m = o.0;
@@ -115,7 +116,7 @@ module _ (look : Look) (x : Lexicon look.style) where
         };
       }
 
-  pub sequence_on : (s : Span) (xs : Trees) → AllSound look xs → (st : Stand) → Sound look st (seq_expr s xs)
+  pub sequence_on : (s : Span) (xs : Trees) → AllSound look x.naming xs → (st : Stand) → Sound look x.naming st (seq_expr s xs)
   sequence_on s none a st c ts0 r0 h k b ts K q = absurd h
   sequence_on s (more t none) a st c ts0 r0 h k b ts K q = absurd h
   sequence_on s (more t (more u us)) a st c ts0 r0 h k b ts K q =
@@ -133,9 +134,9 @@ module _ (look : Look) (x : Lexicon look.style) where
       none_more : (ts : Trees) (t : Tree) → none ≡ more t ts → ⊥
       none_more ts t e = cc
 
-      sequenced : (v : Tree) (vs : Trees) (n m : Input) → Expr assignment_level (unplaced c) (part v (λ y. Spells v y)) ts n → CommaThen (Expr assignment_level (unplaced c)) (unplaced c) (parts vs) n m → Same (leaves_of look) Plain t v → AllSame (leaves_of look) Plain (more u us) vs
-          → Again look (mode_of st) (seq_expr s (more t (more u us))) c ts m
-      sequenced v none n m i j p r = absurd (none_more (redos (leaves_of look) Plain us) (redo (leaves_of look) Plain u) (r.so Plain))
+      sequenced : (v : Tree) (vs : Trees) (n m : Input) → Expr assignment_level (unplaced c) (part v (λ y. Spells v y)) ts n → CommaThen (Expr assignment_level (unplaced c)) (unplaced c) (parts vs) n m → Same (leaves_at look x.naming) Plain t v → AllSame (leaves_at look x.naming) Plain (more u us) vs
+          → Again look x.naming (mode_of st) (seq_expr s (more t (more u us))) c ts m
+      sequenced v none n m i j p r = absurd (none_more (redos (leaves_at look x.naming) Plain us) (redo (leaves_at look x.naming) Plain u) (r.so Plain))
       sequenced v (more y ys) n m i j p r = record {
         tree = seq_expr (span (lo ts) m.last) (more v (more y ys));
         spelled = (n, i, j, refl);

@@ -23,7 +23,7 @@ use Rattle.ecma_written.specs.Lexicon.{Lexicon}
 use Rattle.ecma_written.specs.Means.{Known}
 use Rattle.ecma_written.specs.Told.{says}
 use Rattle.ecma_redone.specs.Redo.{AllSame, Plain}
-use Rattle.ecma_redone.specs.Written.{leaves_of}
+use Rattle.ecma_redone_base.proofs.Naming.{leaves_at}
 use Rattle.ecma_redone_base.proofs.Begins.{Begins, begun, fine, is_loose, is_weak, same_start, strong}
 use Rattle.ecma_redone_base.proofs.Bodies.{braced}
 use Rattle.ecma_redone_base.proofs.Ends.{above}
@@ -120,12 +120,12 @@ module _ (look : Look) (x : Lexicon look.style) where
     broke : brk ts ≡ is_broken b
     tight : d ≡ Touching
     opened : Opened c ts m
-    again : kind m ≡ arrow_kind → (us : Trees) × ArrowParameters (unplaced c) (parts us) ts m × AllSame (leaves_of look) Plain ps us
+    again : kind m ≡ arrow_kind → (us : Trees) × ArrowParameters (unplaced c) (parts us) ts m × AllSame (leaves_at look x.naming) Plain ps us
 
   pattern_each : (c : Code) → Each look x (ArrowPattern c) (ArrowPattern (unplaced c))
   pattern_each c t f ts0 r0 h k b ts K q =
       let p = item_plain true t h.0 in
-      let z = plain_part look Alone t f p.0 (binding (with_in c)) ts0 r0 h.1 k b ts K q in record {
+      let z = plain_part look x.naming Alone t f p.0 (binding (with_in c)) ts0 r0 h.1 k b ts K q in record {
         d = z.d;
         m = z.m;
         more = z.more;
@@ -133,7 +133,7 @@ module _ (look : Look) (x : Lexicon look.style) where
         broke = z.broke;
         tight = λ i. z.tight (tight_of t i);
         begins = z.begins;
-        again = λ g. let w = z.again (record { quiet = λ e. g; other = λ i. absurd (true≢false (sym i ∙ p.1)) }) in (w.tree, (alike (is_item_pat true) (re_is_item_pat true) (leaves_of look) Plain t w.tree w.same ∙ h.0, w.spelled), w.same);
+        again = λ g. let w = z.again (record { quiet = λ e. g; other = λ i. absurd (true≢false (sym i ∙ p.1)) }) in (w.tree, (alike (is_item_pat true) (re_is_item_pat true) (leaves_at look x.naming) Plain t w.tree w.same ∙ h.0, w.spelled), w.same);
       }
 
   -- a name as it is told
@@ -143,13 +143,13 @@ module _ (look : Look) (x : Lexicon look.style) where
   bound_kinds _ c ts m e h = absurd (true≢false (sym e))
 
   -- one name, written bare
-  bare_one : (p : Tree) → Sound look Alone p → is_bound_name p ≡ true → (c : Code) (ts0 m0 r0 : Input) → Spells p (binding (with_in c)) ts0 m0 → (Known m0.places → Known r0.places) → Known ts0.places → (b : Gap) (ts : Input) (K : Gap → Input → Type 0)
-      → ((d : Gap) (m : Input) → K d m → kind m ≡ arrow_kind) → says (laid look Alone p) b ts K → Params (more p none) c r0 b ts K
+  bare_one : (p : Tree) → Sound look x.naming Alone p → is_bound_name p ≡ true → (c : Code) (ts0 m0 r0 : Input) → Spells p (binding (with_in c)) ts0 m0 → (Known m0.places → Known r0.places) → Known ts0.places → (b : Gap) (ts : Input) (K : Gap → Input → Type 0)
+      → ((d : Gap) (m : Input) → K d m → kind m ≡ arrow_kind) → says x.naming (laid look Alone p) b ts K → Params (more p none) c r0 b ts K
   bare_one p f e c ts0 m0 r0 h go k b ts K peek q =
       let i = item_plain true p (bound_item p e) in
-      let z = plain_part look Alone p f i.0 (binding (with_in c)) ts0 m0 h k b ts K q in
+      let z = plain_part look x.naming Alone p f i.0 (binding (with_in c)) ts0 m0 h k b ts K q in
       let w = z.again (record { quiet = λ j. closed_calm z.m arrow_kind (peek z.d z.m z.more) refl; other = λ j. absurd (true≢false (sym j ∙ i.1)) }) in
-      let a = alike is_bound_name re_is_bound_name (leaves_of look) Plain p w.tree w.same ∙ e in
+      let a = alike is_bound_name re_is_bound_name (leaves_at look x.naming) Plain p w.tree w.same ∙ e in
       let s = from_pattern w.tree (unplaced c) ts z.m a w.spelled in record {
         d = z.d;
         m = z.m;
@@ -158,15 +158,15 @@ module _ (look : Look) (x : Lexicon look.style) where
         broke = z.broke;
         tight = z.tight (bound_tight p e);
         opened = bound_kinds w.tree c ts z.m a s;
-        again = λ j. (more w.tree none, inl (tt, (a, s)), more_same (leaves_of look) Plain p w.tree none none w.same (none_same (leaves_of look)));
+        again = λ j. (more w.tree none, inl (tt, (a, s)), more_same (leaves_at look x.naming) Plain p w.tree none none w.same (none_same (leaves_at look x.naming)));
       }
 
   -- one name, in parentheses that it had not
-  wrapped_one : (p : Tree) → Sound look Alone p → is_bound_name p ≡ true → (c : Code) (ts0 r0 : Input) → Spells p (binding (with_in c)) ts0 r0 → Known ts0.places → (b : Gap) (ts : Input) (K : Gap → Input → Type 0)
-      → says (in_parens (laid look Alone p)) b ts K → Params (more p none) c r0 b ts K
+  wrapped_one : (p : Tree) → Sound look x.naming Alone p → is_bound_name p ≡ true → (c : Code) (ts0 r0 : Input) → Spells p (binding (with_in c)) ts0 r0 → Known ts0.places → (b : Gap) (ts : Input) (K : Gap → Input → Type 0)
+      → says x.naming (in_parens (laid look Alone p)) b ts K → Params (more p none) c r0 b ts K
   wrapped_one p f e c ts0 r0 h k b ts K q =
       let i = item_plain true p (bound_item p e) in
-      let z = plain_part look Alone p f i.0 (binding (with_in c)) ts0 r0 h k _ q.0 _ q.2 in
+      let z = plain_part look x.naming Alone p f i.0 (binding (with_in c)) ts0 r0 h k _ q.0 _ q.2 in
       let o = z.more in
       let w = z.again (record { quiet = λ j. closed_calm z.m right_paren_kind (marked look x right_paren_kind o.1) refl; other = λ j. absurd (true≢false (sym j ∙ i.1)) }) in record {
         d = Touching;
@@ -178,17 +178,17 @@ module _ (look : Look) (x : Lexicon look.style) where
         opened = inl (marked look x left_paren_kind q.1);
         again = λ j. (
           more w.tree none,
-          inr (q.0, took look x c left_paren_kind q.1, (z.m, (alike (is_item_pat true) (re_is_item_pat true) (leaves_of look) Plain p w.tree w.same ∙ bound_item p e, w.spelled), inr (tt, took look x c right_paren_kind o.1))),
-          more_same (leaves_of look) Plain p w.tree none none w.same (none_same (leaves_of look)),
+          inr (q.0, took look x c left_paren_kind q.1, (z.m, (alike (is_item_pat true) (re_is_item_pat true) (leaves_at look x.naming) Plain p w.tree w.same ∙ bound_item p e, w.spelled), inr (tt, took look x c right_paren_kind o.1))),
+          more_same (leaves_at look x.naming) Plain p w.tree none none w.same (none_same (leaves_at look x.naming)),
         );
       }
 
-  params_listed : (c : Code) (ps : Trees) → AllSound look ps → (ts0 r0 : Input) → Listed false (ArrowPattern c) c right_paren_kind (parts ps) ts0 r0 → Known ts0.places → (b : Gap) (ts : Input) (K : Gap → Input → Type 0)
-      → ((d : Gap) (m : Input) → K d m → kind m ≡ right_paren_kind) → says (separated look (comma look) ps) b ts K → Gone look x (ArrowPattern c) (ArrowPattern (unplaced c)) (pattern_each c) c right_paren_kind refl false ps r0 ts K
+  params_listed : (c : Code) (ps : Trees) → AllSound look x.naming ps → (ts0 r0 : Input) → Listed false (ArrowPattern c) c right_paren_kind (parts ps) ts0 r0 → Known ts0.places → (b : Gap) (ts : Input) (K : Gap → Input → Type 0)
+      → ((d : Gap) (m : Input) → K d m → kind m ≡ right_paren_kind) → says x.naming (separated look (comma look) ps) b ts K → Gone look x (ArrowPattern c) (ArrowPattern (unplaced c)) (pattern_each c) c right_paren_kind refl false ps r0 ts K
   params_listed c ps a ts0 r0 h k b ts K peek q = listed look x _ _ _ c right_paren_kind refl (comma look) (comma_on look x) ps a ts0 r0 h k b ts K peek q
 
-  parens_params : (ps : Trees) → AllSound look ps → (c : Code) (ts0 r0 : Input) → (m : Input) × Takes c left_paren_kind ts0 m × Listed false (ArrowPattern c) c right_paren_kind (parts ps) m r0 → Known ts0.places → (b : Gap) (ts : Input) (K : Gap → Input → Type 0)
-      → says (in_parens (separated look (comma look) ps)) b ts K → Params ps c r0 b ts K
+  parens_params : (ps : Trees) → AllSound look x.naming ps → (c : Code) (ts0 r0 : Input) → (m : Input) × Takes c left_paren_kind ts0 m × Listed false (ArrowPattern c) c right_paren_kind (parts ps) m r0 → Known ts0.places → (b : Gap) (ts : Input) (K : Gap → Input → Type 0)
+      → says x.naming (in_parens (separated look (comma look) ps)) b ts K → Params ps c r0 b ts K
   parens_params ps a c ts0 r0 h k b ts K q =
       let z = params_listed c ps a h.0 r0 h.2 (x.later ts0 h.0 h.1.2 k) _ q.0 _ (λ d m o. marked look x right_paren_kind o.1) q.2 in
       let o = z.more in let w = z.again o.0 (took look x c right_paren_kind o.1) in record {
@@ -203,8 +203,8 @@ module _ (look : Look) (x : Lexicon look.style) where
       }
 
   -- parameters, however they were written and are
-  params_on : (ps : Trees) → AllSound look ps → (c : Code) (ts0 r0 : Input) → ArrowParameters c (parts ps) ts0 r0 → Known ts0.places → (v : Bool) → (v ≡ true → is_one_name ps ≡ true) → (b : Gap) (ts : Input) (K : Gap → Input → Type 0)
-      → ((d : Gap) (m : Input) → K d m → kind m ≡ arrow_kind) → says (if v then separated look (comma look) ps else in_parens (separated look (comma look) ps)) b ts K → Params ps c r0 b ts K
+  params_on : (ps : Trees) → AllSound look x.naming ps → (c : Code) (ts0 r0 : Input) → ArrowParameters c (parts ps) ts0 r0 → Known ts0.places → (v : Bool) → (v ≡ true → is_one_name ps ≡ true) → (b : Gap) (ts : Input) (K : Gap → Input → Type 0)
+      → ((d : Gap) (m : Input) → K d m → kind m ≡ arrow_kind) → says x.naming (if v then separated look (comma look) ps else in_parens (separated look (comma look) ps)) b ts K → Params ps c r0 b ts K
   params_on none a c ts0 r0 (inl h) k v e b ts K peek q = absurd h
   params_on none a c ts0 r0 (inr h) k true e b ts K peek q = absurd (true≢false (sym (e refl)))
   params_on none a c ts0 r0 (inr h) k false e b ts K peek q = parens_params none a c ts0 r0 h k b ts K q
@@ -227,7 +227,7 @@ module _ (look : Look) (x : Lexicon look.style) where
     broke : brk ts ≡ is_broken b
     opened : starts_expression_statement ts ≡ true
     bars : kind ts ≡ else_kind → ⊥
-    again : (us : Trees) × ArrowHead i (unplaced c) (parts us) ts m × AllSame (leaves_of look) Plain ps us
+    again : (us : Trees) × ArrowHead i (unplaced c) (parts us) ts m × AllSame (leaves_at look x.naming) Plain ps us
 
   opened_starts : (c : Code) (ts m : Input) → Opened c ts m → kind m ≡ arrow_kind → starts_expression_statement ts ≡ true
   opened_starts c ts m (inl e) a = subst (λ (k : ℕ). starts_by k (kind2 ts) (brk2 ts) ≡ true) (sym e) refl
@@ -240,8 +240,8 @@ module _ (look : Look) (x : Lexicon look.style) where
   abbrev params_laid : Trees → Laid
   params_laid ps = if is_one_name ps && not (formats look) then separated look (comma look) ps else in_parens (separated look (comma look) ps)
 
-  head_on : (i : Bool) (ps : Trees) → AllSound look ps → (c : Code) (ts0 r0 : Input) → ArrowHead i c (parts ps) ts0 r0 → Known ts0.places → (b : Gap) (ts : Input) (K : Gap → Input → Type 0) (g : Laid)
-      → says (when i (word (codes "async") · when (formats look || is_one_name ps) blank) · params_laid ps · text (codes "=>")) b ts K → HeadOut i ps c r0 b ts K
+  head_on : (i : Bool) (ps : Trees) → AllSound look x.naming ps → (c : Code) (ts0 r0 : Input) → ArrowHead i c (parts ps) ts0 r0 → Known ts0.places → (b : Gap) (ts : Input) (K : Gap → Input → Type 0) (g : Laid)
+      → says x.naming (when i (word (codes "async") · when (formats look || is_one_name ps) blank) · params_laid ps · text (codes "=>")) b ts K → HeadOut i ps c r0 b ts K
   head_on false ps a c ts0 r0 h k b ts K g q =
       let y = params_on ps a c h.0 h.1 h.3 (subst (λ (n : Input). Known n.places) h.2 k) (is_one_name ps && not (formats look)) (λ e. (and_parts (is_one_name ps) (not (formats look)) e).0) b ts _ (λ d m o. marked look x arrow_kind o.1) q in
       let o = y.more in let j = marked look x arrow_kind o.1 in let w = y.again j in record {
@@ -254,7 +254,7 @@ module _ (look : Look) (x : Lexicon look.style) where
         again = (w.0, (ts, y.m, refl, w.1, o.1.broke ∙ ap is_broken y.tight, took look x c arrow_kind o.1), w.2);
       }
   head_on true ps a c ts0 r0 h k b ts K g q =
-      let i = skip (formats look || is_one_name ps) _ _ _ q.2 in
+      let i = skip x.naming (formats look || is_one_name ps) _ _ _ q.2 in
       let y = params_on ps a c h.0 h.1 h.3 (x.later ts0 h.0 h.2.0.3 k) (is_one_name ps && not (formats look)) (λ e. (and_parts (is_one_name ps) (not (formats look)) e).0) _ q.0 _ (λ d m o. marked look x arrow_kind o.1) i in
       let o = y.more in let j = marked look x arrow_kind o.1 in let w = y.again j in let z = keyed look x async_kind q.1 in record {
         m = o.0;
@@ -267,25 +267,25 @@ module _ (look : Look) (x : Lexicon look.style) where
       }
 
   -- an arrow with an expression
-  pub arrow_on : (s : Span) (ps : Trees) (e : Tree) (i : Bool) → AllSound look ps → Sound look Alone e → (st : Stand) (c : Code) (ts0 r0 : Input) → ArrowExpression c s (parts ps) (part e (λ y. Spells e y)) i ts0 r0 → Known ts0.places
-      → (b : Gap) (ts : Input) (K : Gap → Input → Type 0) → says (full look st (arrow_expr s ps e i)) b ts K → Out look st (arrow_expr s ps e i) c ts0 r0 b ts K
+  pub arrow_on : (s : Span) (ps : Trees) (e : Tree) (i : Bool) → AllSound look x.naming ps → Sound look x.naming Alone e → (st : Stand) (c : Code) (ts0 r0 : Input) → ArrowExpression c s (parts ps) (part e (λ y. Spells e y)) i ts0 r0 → Known ts0.places
+      → (b : Gap) (ts : Input) (K : Gap → Input → Type 0) → says x.naming (full look st (arrow_expr s ps e i)) b ts K → Out look x.naming st (arrow_expr s ps e i) c ts0 r0 b ts K
   arrow_on s ps e i a f st c ts0 r0 h k b ts K q =
-      let z = head_on i ps a c ts0 h.0 h.1 k b ts (λ d m. says (if is_block_tree e then laid look BodyStand e else (deeper look · laid look Alone e · back look)) d m K) nothing q in
+      let z = head_on i ps a c ts0 h.0 h.1 k b ts (λ d m. says x.naming (if is_block_tree e then laid look BodyStand e else (deeper look · laid look Alone e · back look)) d m K) nothing q in
       let n = above assignment_level (level e) (omega arith) h.3.0 in
-      let o = subst (λ (v : Bool). says (if v then laid look BodyStand e else (deeper look · laid look Alone e · back look)) Touching z.m K) (no_block e n) z.more in
-      let u = skip_deeper (formats look) _ _ _ o in
-      let y = expr look assignment_level Alone e f (omega arith) (in_arrow i c) h.0 r0 h.3 z.known _ z.m _ u in record {
+      let o = subst (λ (v : Bool). says x.naming (if v then laid look BodyStand e else (deeper look · laid look Alone e · back look)) Touching z.m K) (no_block e n) z.more in
+      let u = skip_deeper x.naming (formats look) _ _ _ o in
+      let y = expr look x.naming assignment_level Alone e f (omega arith) (in_arrow i c) h.0 r0 h.3 z.known _ z.m _ u in record {
         d = y.d;
         m = y.m;
-        more = skip_back (formats look) _ _ _ y.more;
+        more = skip_back x.naming (formats look) _ _ _ y.more;
         known = y.known;
         broke = z.broke;
         tight = λ j. y.tight (tight_of e n);
         begins = fine refl z.opened z.bars;
         again = λ g. let w = y.again (follow_on st (arrow_expr s ps e i) Alone e r0 r0 y.m refl n g) in record {
           tree = arrow_expr (span (lo ts) y.m.last) z.again.0 w.tree i;
-          spelled = as_arrow (span (lo ts) y.m.last) z.again.0 w.tree i (unplaced c) ts y.m (above assignment_level (level w.tree) (omega arith) (expr_low look assignment_level Alone e (in_arrow i c) z.m y.m h.3.0 (omega arith) w).0)
-              (z.m, z.again.1, no_brace h.0 r0 z.m y.m (begun (is_weak e) (is_loose e) h.0 r0 z.m y.m (strong e n) y.begins) h.2, expr_low look assignment_level Alone e (in_arrow i c) z.m y.m h.3.0 (omega arith) w, refl);
+          spelled = as_arrow (span (lo ts) y.m.last) z.again.0 w.tree i (unplaced c) ts y.m (above assignment_level (level w.tree) (omega arith) (expr_low look x.naming assignment_level Alone e (in_arrow i c) z.m y.m h.3.0 (omega arith) w).0)
+              (z.m, z.again.1, no_brace h.0 r0 z.m y.m (begun (is_weak e) (is_loose e) h.0 r0 z.m y.m (strong e n) y.begins) h.2, expr_low look x.naming assignment_level Alone e (in_arrow i c) z.m y.m h.3.0 (omega arith) w, refl);
           directive = refl;
           quoted = λ p q. refl;
           same = record { so = λ n. ap₂ (λ (us : Trees) (t : Tree). arrow_expr no_place us t i) (z.again.2.so Plain) (w.same.so Plain) };
@@ -293,10 +293,10 @@ module _ (look : Look) (x : Lexicon look.style) where
       }
 
   -- an arrow with a body in braces
-  pub arrow_block_on : (s : Span) (ps : Trees) (p : Span) (ss : Trees) (i : Bool) → AllSound look ps → AllSound look ss → (st : Stand) (c : Code) (ts0 r0 : Input) → ArrowBlock c s (parts ps) p (parts ss) i ts0 r0 → Known ts0.places
-      → (b : Gap) (ts : Input) (K : Gap → Input → Type 0) → says (full look st (arrow_expr s ps (block_stmt p ss) i)) b ts K → Out look st (arrow_expr s ps (block_stmt p ss) i) c ts0 r0 b ts K
+  pub arrow_block_on : (s : Span) (ps : Trees) (p : Span) (ss : Trees) (i : Bool) → AllSound look x.naming ps → AllSound look x.naming ss → (st : Stand) (c : Code) (ts0 r0 : Input) → ArrowBlock c s (parts ps) p (parts ss) i ts0 r0 → Known ts0.places
+      → (b : Gap) (ts : Input) (K : Gap → Input → Type 0) → says x.naming (full look st (arrow_expr s ps (block_stmt p ss) i)) b ts K → Out look x.naming st (arrow_expr s ps (block_stmt p ss) i) c ts0 r0 b ts K
   arrow_block_on s ps p ss i a g st c ts0 r0 h k b ts K q =
-      let z = head_on i ps a c ts0 h.0 h.1 k b ts (λ d m. says (laid look BodyStand (block_stmt p ss)) d m K) nothing q in
+      let z = head_on i ps a c ts0 h.0 h.1 k b ts (λ d m. says x.naming (laid look BodyStand (block_stmt p ss)) d m K) nothing q in
       let y = braced look x (in_list (with_in (in_arrow i c))) true ss g h.0 h.2.0 r0 h.2.1 h.2.2 z.known _ z.m K (record { lo = record { 0 = p.hi.0 - 1 }; hi = p.hi }) z.more in record {
         d = Touching;
         m = y.m;

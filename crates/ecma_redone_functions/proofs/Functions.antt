@@ -19,8 +19,8 @@ use Rattle.ecma_written.specs.Gaps.{Gap, Touching, blanked, is_broken}
 use Rattle.ecma_written.specs.Lexicon.{Lexicon}
 use Rattle.ecma_written.specs.Means.{Known}
 use Rattle.ecma_written.specs.Told.{says}
-use Rattle.ecma_redone.specs.Redo.{AllSame, Leaves, Mode, Plain, kept, redo, redos}
-use Rattle.ecma_redone.specs.Written.{leaves_of}
+use Rattle.ecma_redone.specs.Redo.{AllSame, Leaves, Mode, Plain, redo, redos, kept_at}
+use Rattle.ecma_redone_base.proofs.Naming.{leaves_at}
 use Rattle.ecma_redone_base.proofs.Begins.{Begins, first_token, is_loose, is_part, is_weak, led, no_else, same_start}
 use Rattle.ecma_redone_base.proofs.Bodies.{braced}
 use Rattle.ecma_redone_base.proofs.Ends.{there}
@@ -45,18 +45,18 @@ re_count l m none = refl
 re_count l m (more t ts) = ap (λ (n : ℕ). n + 1) (re_count l m ts)
 
 pub count_same : (l : Leaves) (m : Mode) (ts us : Trees) → AllSame l m ts us → count_of us ≡ count_of ts
-count_same l m ts us s = sym (re_count kept Plain us) ∙ (ap count_of (s.so Plain) ∙ re_count l m ts)
+count_same l m ts us s = sym (re_count (kept_at l.written) Plain us) ∙ (ap count_of (s.so Plain) ∙ re_count l m ts)
 
 -- two trees of a function, by their parts
 pub same_functions : (of : Tree → Tree → Tree) {i j : Tree} {ps us ss vs : Trees} (g a : Bool) → i ≡ j → ps ≡ us → ss ≡ vs → of i (function no_place ps none (block_stmt no_place ss) g a) ≡ of j (function no_place us none (block_stmt no_place vs) g a)
 same_functions of g a p q r = ap₂ (λ (t : Tree) (us : Trees × Trees). of t (function no_place us.0 none (block_stmt no_place us.1) g a)) p (ap₂ (λ (us vs : Trees). (us, vs)) q r)
 
 module _ (look : Look) (x : Lexicon look.style) where
-  pub param_on : (s : Span) (ds : Trees) (p : Tree) → Sound look Alone p → (st : Stand) → Sound look st (param s ds p)
+  pub param_on : (s : Span) (ds : Trees) (p : Tree) → Sound look x.naming Alone p → (st : Stand) → Sound look x.naming st (param s ds p)
   param_on s (more d ds) p f st c ts0 r0 h k b ts K q = absurd h.0
   param_on s none p f st c ts0 r0 h k b ts K q =
       let i = item_plain true p h.1 in
-      let z = plain_part look Alone p f i.0 (binding (with_in c)) ts0 r0 h.2 k b ts K q in record {
+      let z = plain_part look x.naming Alone p f i.0 (binding (with_in c)) ts0 r0 h.2 k b ts K q in record {
         d = z.d;
         m = z.m;
         more = z.more;
@@ -66,7 +66,7 @@ module _ (look : Look) (x : Lexicon look.style) where
         begins = first_token (is_weak p) (is_loose p) ts0 r0 ts z.m z.begins;
         again = λ g. let w = z.again (record { quiet = λ e. g.quiet refl; other = λ j. absurd (true≢false (sym j ∙ i.1)) }) in record {
           tree = param (span (lo ts) z.m.last) none w.tree;
-          spelled = (tt, alike (is_item_pat true) (re_is_item_pat true) (leaves_of look) Plain p w.tree w.same ∙ h.1, w.spelled, refl);
+          spelled = (tt, alike (is_item_pat true) (re_is_item_pat true) (leaves_at look x.naming) Plain p w.tree w.same ∙ h.1, w.spelled, refl);
           directive = refl;
           quoted = λ p q. refl;
           same = record { so = λ n. ap (λ (t : Tree). param no_place none t) (w.same.so Plain) };
@@ -81,9 +81,9 @@ module _ (look : Look) (x : Lexicon look.style) where
     pub known : Known r0.places
     pub us : Trees
     pub spelled : Parameters (unplaced d) (parts us) ts m
-    pub same : AllSame (leaves_of look) Plain ps us
+    pub same : AllSame (leaves_at look x.naming) Plain ps us
 
-  pub parameters_on : (ps : Trees) → AllSound look ps → (d : Code) (ts0 r0 : Input) → Parameters d (parts ps) ts0 r0 → Known ts0.places → (b : Gap) (ts : Input) (K : Gap → Input → Type 0) → says (in_parens (separated look (comma look) ps)) b ts K → Listed_parameters ps d r0 ts K
+  pub parameters_on : (ps : Trees) → AllSound look x.naming ps → (d : Code) (ts0 r0 : Input) → Parameters d (parts ps) ts0 r0 → Known ts0.places → (b : Gap) (ts : Input) (K : Gap → Input → Type 0) → says x.naming (in_parens (separated look (comma look) ps)) b ts K → Listed_parameters ps d r0 ts K
   parameters_on ps f d ts0 r0 h k b ts K q =
       let z = listed look x (Sorted is_param d) (Sorted is_param (unplaced d)) (sorted look x is_param re_is_param param_plain d) d right_paren_kind refl (comma look) (comma_on look x) ps f h.0 r0 h.2 (x.later ts0 h.0 h.1.2 k) Touching q.0 _ (λ d m o. marked look x right_paren_kind o.1) q.2 in
       let o = z.more in let w = z.again o.0 (took look x d right_paren_kind o.1) in record {
@@ -101,9 +101,9 @@ module _ (look : Look) (x : Lexicon look.style) where
     pub known : Known r0.places
     pub us : Trees
     pub spelled : SetParameter (unplaced d) (parts us) ts m
-    pub same : AllSame (leaves_of look) Plain ps us
+    pub same : AllSame (leaves_at look x.naming) Plain ps us
 
-  pub set_parameter_on : (ps : Trees) → AllSound look ps → (d : Code) (ts0 r0 : Input) → SetParameter d (parts ps) ts0 r0 → Known ts0.places → (b : Gap) (ts : Input) (K : Gap → Input → Type 0) → says (in_parens (separated look (comma look) ps)) b ts K → Set_parameter ps d r0 ts K
+  pub set_parameter_on : (ps : Trees) → AllSound look x.naming ps → (d : Code) (ts0 r0 : Input) → SetParameter d (parts ps) ts0 r0 → Known ts0.places → (b : Gap) (ts : Input) (K : Gap → Input → Type 0) → says x.naming (in_parens (separated look (comma look) ps)) b ts K → Set_parameter ps d r0 ts K
   set_parameter_on none f d ts0 r0 h k b ts K q = absurd h
   set_parameter_on (more p (more r rs)) f d ts0 r0 h k b ts K q = absurd h.2
   set_parameter_on (more p none) f d ts0 r0 h k b ts K q =
@@ -113,8 +113,8 @@ module _ (look : Look) (x : Lexicon look.style) where
         more = o.2;
         known = x.later h.1 r0 h.6.2 z.known;
         us = more w.0 none;
-        spelled = (q.0, z.m, tt, alike is_rest re_is_rest (leaves_of look) Plain p w.0 w.2 ∙ h.3, took look x d left_paren_kind q.1, w.1, took look x d right_paren_kind o.1);
-        same = more_same (leaves_of look) Plain p w.0 none none w.2 (none_same (leaves_of look));
+        spelled = (q.0, z.m, tt, alike is_rest re_is_rest (leaves_at look x.naming) Plain p w.0 w.2 ∙ h.3, took look x d left_paren_kind q.1, w.1, took look x d right_paren_kind o.1);
+        same = more_same (leaves_at look x.naming) Plain p w.0 none none w.2 (none_same (leaves_at look x.naming));
       }
 
   -- ---- parameters and a body
@@ -127,17 +127,17 @@ module _ (look : Look) (x : Lexicon look.style) where
     pub v : Span
     pub vs : Trees
     pub spelled : Function (unplaced c) (parts us) [] v (parts vs) g a ts m
-    pub same_us : AllSame (leaves_of look) Plain ps us
-    pub same_vs : AllSame (leaves_of look) Plain ss vs
+    pub same_us : AllSame (leaves_at look x.naming) Plain ps us
+    pub same_vs : AllSame (leaves_at look x.naming) Plain ss vs
 
-  pub tail_on : (body : Stand) (ps : Trees) (p : Span) (ss : Trees) (g a : Bool) → AllSound look ps → AllSound look ss → (c : Code) (ts0 r0 : Input) → Function c (parts ps) [] p (parts ss) g a ts0 r0
-      → Known ts0.places → (b : Gap) (ts : Input) (K : Gap → Input → Type 0) → says (function_tail look (separated look (comma look) ps) (laid look body (block_stmt p ss))) b ts K → Tail ps ss g a c r0 ts K
+  pub tail_on : (body : Stand) (ps : Trees) (p : Span) (ss : Trees) (g a : Bool) → AllSound look x.naming ps → AllSound look x.naming ss → (c : Code) (ts0 r0 : Input) → Function c (parts ps) [] p (parts ss) g a ts0 r0
+      → Known ts0.places → (b : Gap) (ts : Input) (K : Gap → Input → Type 0) → says x.naming (function_tail look (separated look (comma look) ps) (laid look body (block_stmt p ss))) b ts K → Tail ps ss g a c r0 ts K
   tail_on body ps p ss g a f j c ts0 r0 h k b ts K q = by c.sets refl h.2
     where
       by : (v : Bool) → c.sets ≡ v → By v (SetParameter (in_body g a c) (parts ps) ts0 h.0) (Parameters (in_body g a c) (parts ps) ts0 h.0) → Tail ps ss g a c r0 ts K
       by true e i =
-          let z = set_parameter_on ps f (in_body g a c) ts0 h.0 i k b ts (λ d m. says (gap look · laid look body (block_stmt p ss)) d m K) q in
-          let y = braced look x (in_body g a c) true ss j h.0 h.3.0 r0 h.3.1 h.3.2 z.known _ z.m K (record { lo = record { 0 = p.hi.0 - 1 }; hi = p.hi }) (skip_mark (marked_as_body body) p.lo _ _ _ (skip (formats look) Touching z.m _ z.more)) in record {
+          let z = set_parameter_on ps f (in_body g a c) ts0 h.0 i k b ts (λ d m. says x.naming (gap look · laid look body (block_stmt p ss)) d m K) q in
+          let y = braced look x (in_body g a c) true ss j h.0 h.3.0 r0 h.3.1 h.3.2 z.known _ z.m K (record { lo = record { 0 = p.hi.0 - 1 }; hi = p.hi }) (skip_mark x.naming (marked_as_body body) p.lo _ _ _ (skip x.naming (formats look) Touching z.m _ z.more)) in record {
             m = y.m;
             more = y.more;
             known = y.known;
@@ -149,8 +149,8 @@ module _ (look : Look) (x : Lexicon look.style) where
             same_vs = y.again.4;
           }
       by false e i =
-          let z = parameters_on ps f (in_body g a c) ts0 h.0 i k b ts (λ d m. says (gap look · laid look body (block_stmt p ss)) d m K) q in
-          let y = braced look x (in_body g a c) true ss j h.0 h.3.0 r0 h.3.1 h.3.2 z.known _ z.m K (record { lo = record { 0 = p.hi.0 - 1 }; hi = p.hi }) (skip_mark (marked_as_body body) p.lo _ _ _ (skip (formats look) Touching z.m _ z.more)) in record {
+          let z = parameters_on ps f (in_body g a c) ts0 h.0 i k b ts (λ d m. says x.naming (gap look · laid look body (block_stmt p ss)) d m K) q in
+          let y = braced look x (in_body g a c) true ss j h.0 h.3.0 r0 h.3.1 h.3.2 z.known _ z.m K (record { lo = record { 0 = p.hi.0 - 1 }; hi = p.hi }) (skip_mark x.naming (marked_as_body body) p.lo _ _ _ (skip x.naming (formats look) Touching z.m _ z.more)) in record {
             m = y.m;
             more = y.more;
             known = y.known;
@@ -175,21 +175,21 @@ module _ (look : Look) (x : Lexicon look.style) where
 
   -- what says the star of a generator, or nothing
   abbrev IsStar : Bool → Laid → Type 1
-  IsStar g f = (c : Code) (b : Gap) (ts : Input) (K : Gap → Input → Type 0) → says f b ts K → (m : Input) × Star g (unplaced c) ts m × ((d : Gap) × K d m)
+  IsStar g f = (c : Code) (b : Gap) (ts : Input) (K : Gap → Input → Type 0) → says x.naming f b ts K → (m : Input) × Star g (unplaced c) ts m × ((d : Gap) × K d m)
 
   plain_star : (g : Bool) → IsStar g (when g (text (codes "*")))
   plain_star true c b ts K q = (q.0, took look x c mul_kind q.1, (Touching, q.2))
   plain_star false c b ts K q = (ts, refl, (b, q))
 
   spaced_star : (g : Bool) → IsStar g (if g then text (codes "*") · gap look else blank)
-  spaced_star true c b ts K q = (q.0, took look x c mul_kind q.1, (_, skip (formats look) Touching q.0 K q.2))
+  spaced_star true c b ts K q = (q.0, took look x c mul_kind q.1, (_, skip x.naming (formats look) Touching q.0 K q.2))
   spaced_star false c b ts K q = (ts, refl, (blanked b, q))
 
   star_known : (g : Bool) (c : Code) (m r : Input) → Star g c m r → Known m.places → Known r.places
   star_known true c m r h l = x.later m r h.2 l
   star_known false c m r h l = subst (λ (i : Input). Known i.places) h l
 
-  head_on : (g a : Bool) (f : Laid) → IsStar g f → (c : Code) (ts0 r0 : Input) → FunctionHead g a c ts0 r0 → Known ts0.places → (b : Gap) (ts : Input) (K : Gap → Input → Type 0) → says (when a (word (codes "async") · blank) · word (codes "function") · f) b ts K → Function_head g a c ts0 r0 b ts K
+  head_on : (g a : Bool) (f : Laid) → IsStar g f → (c : Code) (ts0 r0 : Input) → FunctionHead g a c ts0 r0 → Known ts0.places → (b : Gap) (ts : Input) (K : Gap → Input → Type 0) → says x.naming (when a (word (codes "async") · blank) · word (codes "function") · f) b ts K → Function_head g a c ts0 r0 b ts K
   head_on g false f j c ts0 r0 h k b ts K q =
       let z = j c _ q.0 K q.2 in let n = keyed look x function_kind q.1 in record {
         d = z.2.0;
@@ -212,11 +212,11 @@ module _ (look : Look) (x : Lexicon look.style) where
         again = (q.0, i.0, (worded look x c async_kind q.1, i.1.broke), worded look x c function_kind i.1, z.1);
       }
 
-  pub declaration_on : (s : Span) (i : Tree) (t : Span) (ps ds : Trees) (p : Span) (ss : Trees) (g a : Bool) → AllSound look ps → AllSound look ss → (st : Stand) → Sound look st (fn_decl s i (function t ps ds (block_stmt p ss) g a))
+  pub declaration_on : (s : Span) (i : Tree) (t : Span) (ps ds : Trees) (p : Span) (ss : Trees) (g a : Bool) → AllSound look x.naming ps → AllSound look x.naming ss → (st : Stand) → Sound look x.naming st (fn_decl s i (function t ps ds (block_stmt p ss) g a))
   declaration_on s i t ps (more d ds) p ss g a f j st c ts0 r0 h k b ts K q = absurd h.4.1
   declaration_on s i t ps none p ss g a f j st c ts0 r0 h k b ts K q =
-      let y = head_on g a (if g then text (codes "*") · gap look else blank) (spaced_star g) c ts0 h.0 h.2 k b ts (λ d m. says (laid look Alone i · function_tail look (separated look (comma look) ps) (laid look BodyStand (block_stmt p ss))) d m K) q in
-      let z = id_on look x i c h.0 h.1 h.3 y.known y.d y.m (λ d m. says (function_tail look (separated look (comma look) ps) (laid look BodyStand (block_stmt p ss))) d m K) y.more in
+      let y = head_on g a (if g then text (codes "*") · gap look else blank) (spaced_star g) c ts0 h.0 h.2 k b ts (λ d m. says x.naming (laid look Alone i · function_tail look (separated look (comma look) ps) (laid look BodyStand (block_stmt p ss))) d m K) q in
+      let z = id_on look x i c h.0 h.1 h.3 y.known y.d y.m (λ d m. says x.naming (function_tail look (separated look (comma look) ps) (laid look BodyStand (block_stmt p ss))) d m K) y.more in
       let w = z.again in
       let v = tail_on BodyStand ps p ss g a f j (setting false c) h.1 r0 h.4 z.known Touching z.m K z.more in record {
         d = Touching;
@@ -236,12 +236,12 @@ module _ (look : Look) (x : Lexicon look.style) where
       }
 
   -- a name that may be left out
-  pub function_on : (s : Span) (i : Tree) (t : Span) (ps ds : Trees) (p : Span) (ss : Trees) (g a : Bool) → AllSound look ps → AllSound look ss → (st : Stand) → Sound look st (fn_expr s i (function t ps ds (block_stmt p ss) g a))
+  pub function_on : (s : Span) (i : Tree) (t : Span) (ps ds : Trees) (p : Span) (ss : Trees) (g a : Bool) → AllSound look x.naming ps → AllSound look x.naming ss → (st : Stand) → Sound look x.naming st (fn_expr s i (function t ps ds (block_stmt p ss) g a))
   function_on s i t ps (more d ds) p ss g a f j st c ts0 r0 h k b ts K q = absurd h.4.1
   function_on s i t ps none p ss g a f j st c ts0 r0 h k b ts K q =
-      let y = head_on g a (when g (text (codes "*"))) (plain_star g) c ts0 h.0 h.2 k b ts (λ d m. says (when (is_there i) (blank · laid look Alone i) · function_tail look (separated look (comma look) ps) (laid look BodyStand (block_stmt p ss))) d m K) q in
-      let z = maybe_on look x i (in_code g a c) (is_absent i) refl h.0 h.1 h.3 y.known y.d y.m (λ d m. says (function_tail look (separated look (comma look) ps) (laid look BodyStand (block_stmt p ss))) d m K)
-      (subst (λ (v : Bool). says (when v (blank · laid look Alone i)) y.d y.m (λ d m. says (function_tail look (separated look (comma look) ps) (laid look BodyStand (block_stmt p ss))) d m K)) (there i) y.more) in
+      let y = head_on g a (when g (text (codes "*"))) (plain_star g) c ts0 h.0 h.2 k b ts (λ d m. says x.naming (when (is_there i) (blank · laid look Alone i) · function_tail look (separated look (comma look) ps) (laid look BodyStand (block_stmt p ss))) d m K) q in
+      let z = maybe_on look x i (in_code g a c) (is_absent i) refl h.0 h.1 h.3 y.known y.d y.m (λ d m. says x.naming (function_tail look (separated look (comma look) ps) (laid look BodyStand (block_stmt p ss))) d m K)
+      (subst (λ (v : Bool). says x.naming (when v (blank · laid look Alone i)) y.d y.m (λ d m. says x.naming (function_tail look (separated look (comma look) ps) (laid look BodyStand (block_stmt p ss))) d m K)) (there i) y.more) in
       let w = z.again in
       let v = tail_on BodyStand ps p ss g a f j (setting false c) h.1 r0 h.4 z.known z.d z.m K z.more in record {
         d = Touching;

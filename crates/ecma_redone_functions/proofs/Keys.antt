@@ -24,8 +24,9 @@ use Rattle.ecma_written.specs.Gaps.{Gap, Touching, is_broken}
 use Rattle.ecma_written.specs.Lexicon.{Lexicon}
 use Rattle.ecma_written.specs.Means.{Known, Means}
 use Rattle.ecma_written.specs.Told.{Told, says}
-use Rattle.ecma_redone.specs.Redo.{Leaves, Mode, Plain, Same, kept, redo}
-use Rattle.ecma_redone.specs.Written.{leaves_of, written_key}
+use Rattle.ecma_redone.specs.Redo.{Leaves, Mode, Plain, Same, kept_at, redo}
+use Rattle.ecma_redone.specs.Written.{written_key}
+use Rattle.ecma_redone_base.proofs.Naming.{leaves_at}
 use Rattle.ecma_redone_base.proofs.Begins.{first_token, is_loose, is_part, is_weak, no_else}
 use Rattle.ecma_redone_base.proofs.Follow.{Follow, follow_by}
 use Rattle.ecma_redone_base.proofs.KeyParts.{KeyPart}
@@ -65,9 +66,9 @@ constructs_same : (l : Leaves) (m : Mode) (t u : Tree) → Same l m t u → cons
 constructs_same l m t u s = alike constructs re_constructs l m t u s
 
 module _ (look : Look) (x : Lexicon look.style) where
-  pub computed_on : (s : Span) (e : Tree) → Sound look Alone e → (st : Stand) → Sound look st (computed_prop_name s e)
+  pub computed_on : (s : Span) (e : Tree) → Sound look x.naming Alone e → (st : Stand) → Sound look x.naming st (computed_prop_name s e)
   computed_on s e f st c ts0 r0 h k b ts K q =
-      let y = expr look assignment_level Alone e f (omega arith) (with_in c) h.0 h.1 h.3 (x.later ts0 h.0 h.2.2 k) _ q.0 _ q.2 in
+      let y = expr look x.naming assignment_level Alone e f (omega arith) (with_in c) h.0 h.1 h.3 (x.later ts0 h.0 h.2.2 k) _ q.0 _ q.2 in
       let z = y.more in record {
         d = Touching;
         m = z.0;
@@ -78,7 +79,7 @@ module _ (look : Look) (x : Lexicon look.style) where
         begins = λ e. absurd (bracket_else (sym (marked look x left_bracket_kind q.1) ∙ e));
         again = λ g. let w = y.again (follow_by Alone e h.1 y.m right_bracket_kind (marked look x right_bracket_kind z.1) refl) in record {
           tree = computed_prop_name (span (lo ts) z.0.last) w.tree;
-          spelled = (q.0, y.m, took look x c left_bracket_kind q.1, expr_low look assignment_level Alone e (with_in c) q.0 y.m h.3.0 (omega arith) w, took look x c right_bracket_kind z.1, refl);
+          spelled = (q.0, y.m, took look x c left_bracket_kind q.1, expr_low look x.naming assignment_level Alone e (with_in c) q.0 y.m h.3.0 (omega arith) w, took look x c right_bracket_kind z.1, refl);
           directive = refl;
           quoted = λ p q. refl;
           same = record { so = λ n. ap (λ (t : Tree). computed_prop_name no_place t) (w.same.so Plain) };
@@ -93,7 +94,7 @@ module _ (look : Look) (x : Lexicon look.style) where
     pub known : Known r0.places
     pub broke : brk ts ≡ is_broken b
     pub first : kind ts ≡ else_kind → kind ts0 ≡ else_kind
-    pub again : (u : Tree) × (may u ≡ true) × Spells u (unplaced c) ts m × ((n : Mode) → redo kept n u ≡ write (redo (leaves_of look) Plain k))
+    pub again : (u : Tree) × (may u ≡ true) × Spells u (unplaced c) ts m × ((n : Mode) → redo (kept_at x.naming.written) n u ≡ write (redo (leaves_at look x.naming) Plain k))
     pub constructor_as : constructs again.0 ≡ true → constructs k ≡ true
 
   -- a word: as a word, or as a string of its units
@@ -125,11 +126,11 @@ module _ (look : Look) (x : Lexicon look.style) where
       }
 
   -- any other key
-  other_on : (k : Tree) → Sound look Key k → is_key k ≡ true → written_key look.style (redo (leaves_of look) Plain k) ≡ redo (leaves_of look) Plain k → ((u : Tree) → Same (leaves_of look) Plain k u → constructs u ≡ true → constructs k ≡ true) → (c : Code) (ts0 r0 : Input) → Spells k c ts0 r0 → Known ts0.places
-      → (b : Gap) (ts : Input) (K : Gap → Input → Type 0) → says (laid look Key k) b ts K → KeyAgain is_key (λ t. written_key look.style t) k c ts0 r0 b ts K
+  other_on : (k : Tree) → Sound look x.naming Key k → is_key k ≡ true → written_key look.style (redo (leaves_at look x.naming) Plain k) ≡ redo (leaves_at look x.naming) Plain k → ((u : Tree) → Same (leaves_at look x.naming) Plain k u → constructs u ≡ true → constructs k ≡ true) → (c : Code) (ts0 r0 : Input) → Spells k c ts0 r0 → Known ts0.places
+      → (b : Gap) (ts : Input) (K : Gap → Input → Type 0) → says x.naming (laid look Key k) b ts K → KeyAgain is_key (λ t. written_key look.style t) k c ts0 r0 b ts K
   other_on k f i w j c ts0 r0 h l b ts K q =
       let p = key_plain k i in
-      let z = plain_part look Key k f p.0 c ts0 r0 h l b ts K q in
+      let z = plain_part look x.naming Key k f p.0 c ts0 r0 h l b ts K q in
       let u = z.again (key_follow k i r0 z.m) in record {
         d = z.d;
         m = z.m;
@@ -137,23 +138,23 @@ module _ (look : Look) (x : Lexicon look.style) where
         known = z.known;
         broke = z.broke;
         first = first_token (is_weak k) (is_loose k) ts0 r0 ts z.m z.begins;
-        again = (u.tree, alike is_key re_is_key (leaves_of look) Plain k u.tree u.same ∙ i, u.spelled, λ n. u.same.so n ∙ sym w);
+        again = (u.tree, alike is_key re_is_key (leaves_at look x.naming) Plain k u.tree u.same ∙ i, u.spelled, λ n. u.same.so n ∙ sym w);
         constructor_as = j u.tree u.same;
       }
 
-  pub key_on : (k : Tree) → KeyPart look k → (c : Code) (ts0 r0 : Input) → Sorted is_key c (part k (λ y. Spells k y)) ts0 r0 → Known ts0.places → (b : Gap) (ts : Input) (K : Gap → Input → Type 0) → says (laid look Key k) b ts K → KeyAgain is_key (λ t. written_key look.style t) k c ts0 r0 b ts K
+  pub key_on : (k : Tree) → KeyPart look x.naming k → (c : Code) (ts0 r0 : Input) → Sorted is_key c (part k (λ y. Spells k y)) ts0 r0 → Known ts0.places → (b : Gap) (ts : Input) (K : Gap → Input → Type 0) → says x.naming (laid look Key k) b ts K → KeyAgain is_key (λ t. written_key look.style t) k c ts0 r0 b ts K
   key_on (ident_name s n) f c ts0 r0 h l b ts K q = word_on (is_quoted_key look.style (chars n)) s n refl c ts0 r0 h.1 l b ts q.0 K q.1 q.2
-  key_on (str_lit s u w) f c ts0 r0 h l b ts K q = other_on (str_lit s u w) f refl refl (λ v e i. sym (constructs_same (leaves_of look) Plain (str_lit s u w) v e) ∙ i) c ts0 r0 h.1 l b ts K q
-  key_on (number_lit s v w) f c ts0 r0 h l b ts K q = other_on (number_lit s v w) f refl refl (λ u e i. sym (constructs_same (leaves_of look) Plain (number_lit s v w) u e) ∙ i) c ts0 r0 h.1 l b ts K q
-  key_on (big_int_lit s r d w) f c ts0 r0 h l b ts K q = other_on (big_int_lit s r d w) f refl refl (λ u e i. sym (constructs_same (leaves_of look) Plain (big_int_lit s r d w) u e) ∙ i) c ts0 r0 h.1 l b ts K q
-  key_on (computed_prop_name s e) f c ts0 r0 h l b ts K q = other_on (computed_prop_name s e) f refl refl (λ u i j. sym (constructs_same (leaves_of look) Plain (computed_prop_name s e) u i) ∙ j) c ts0 r0 h.1 l b ts K q
+  key_on (str_lit s u w) f c ts0 r0 h l b ts K q = other_on (str_lit s u w) f refl refl (λ v e i. sym (constructs_same (leaves_at look x.naming) Plain (str_lit s u w) v e) ∙ i) c ts0 r0 h.1 l b ts K q
+  key_on (number_lit s v w) f c ts0 r0 h l b ts K q = other_on (number_lit s v w) f refl refl (λ u e i. sym (constructs_same (leaves_at look x.naming) Plain (number_lit s v w) u e) ∙ i) c ts0 r0 h.1 l b ts K q
+  key_on (big_int_lit s r d w) f c ts0 r0 h l b ts K q = other_on (big_int_lit s r d w) f refl refl (λ u e i. sym (constructs_same (leaves_at look x.naming) Plain (big_int_lit s r d w) u e) ∙ i) c ts0 r0 h.1 l b ts K q
+  key_on (computed_prop_name s e) f c ts0 r0 h l b ts K q = other_on (computed_prop_name s e) f refl refl (λ u i j. sym (constructs_same (leaves_at look x.naming) Plain (computed_prop_name s e) u i) ∙ j) c ts0 r0 h.1 l b ts K q
   key_on _ f c ts0 r0 h l b ts K q = absurd (true≢false (sym h.0))
 
   -- a private name (15.7)
-  pub private_key_on : (k : Tree) → KeyPart look k → is_private k ≡ true → (write : Tree → Tree) → write (redo (leaves_of look) Plain k) ≡ redo (leaves_of look) Plain k → (c : Code) (ts0 r0 : Input) → Spells k c ts0 r0 → Known ts0.places → (b : Gap) (ts : Input) (K : Gap → Input → Type 0) → says (laid look Key k) b ts K
+  pub private_key_on : (k : Tree) → KeyPart look x.naming k → is_private k ≡ true → (write : Tree → Tree) → write (redo (leaves_at look x.naming) Plain k) ≡ redo (leaves_at look x.naming) Plain k → (c : Code) (ts0 r0 : Input) → Spells k c ts0 r0 → Known ts0.places → (b : Gap) (ts : Input) (K : Gap → Input → Type 0) → says x.naming (laid look Key k) b ts K
       → KeyAgain is_private write k c ts0 r0 b ts K
   private_key_on (private_name s n) f i write w c ts0 r0 h l b ts K q =
-      let z = plain_part look Key (private_name s n) f refl c ts0 r0 h l b ts K q in
+      let z = plain_part look x.naming Key (private_name s n) f refl c ts0 r0 h l b ts K q in
       let u = z.again (record { quiet = λ e. absurd (true≢false (sym e)); other = λ e. absurd (true≢false (sym e)) }) in record {
         d = z.d;
         m = z.m;
@@ -161,20 +162,20 @@ module _ (look : Look) (x : Lexicon look.style) where
         known = z.known;
         broke = z.broke;
         first = no_else ts0 r0 ts z.m z.begins;
-        again = (u.tree, alike is_private re_is_private (leaves_of look) Plain (private_name s n) u.tree u.same, u.spelled, λ n. u.same.so n ∙ sym w);
-        constructor_as = λ j. sym (constructs_same (leaves_of look) Plain (private_name s n) u.tree u.same) ∙ j;
+        again = (u.tree, alike is_private re_is_private (leaves_at look x.naming) Plain (private_name s n) u.tree u.same, u.spelled, λ n. u.same.so n ∙ sym w);
+        constructor_as = λ j. sym (constructs_same (leaves_at look x.naming) Plain (private_name s n) u.tree u.same) ∙ j;
       }
   private_key_on _ f i write w c ts0 r0 h l b ts K q = absurd (true≢false (sym i))
 
   -- either
-  pub any_key_on : (k : Tree) → KeyPart look k → (c : Code) (ts0 r0 : Input) → Sorted is_any_key c (part k (λ y. Spells k y)) ts0 r0 → Known ts0.places → (b : Gap) (ts : Input) (K : Gap → Input → Type 0) → says (laid look Key k) b ts K → KeyAgain is_any_key (λ t. written_key look.style t) k c ts0 r0 b ts K
+  pub any_key_on : (k : Tree) → KeyPart look x.naming k → (c : Code) (ts0 r0 : Input) → Sorted is_any_key c (part k (λ y. Spells k y)) ts0 r0 → Known ts0.places → (b : Gap) (ts : Input) (K : Gap → Input → Type 0) → says x.naming (laid look Key k) b ts K → KeyAgain is_any_key (λ t. written_key look.style t) k c ts0 r0 b ts K
   any_key_on k f c ts0 r0 h l b ts K q = by (is_private k) refl
     where
       left_true : (a b : Bool) → b ≡ false → (a || b) ≡ true → a ≡ true
       left_true true b e i = refl
       left_true false b e i = absurd (true≢false (sym i ∙ e))
 
-      unwritten : (k : Tree) → is_private k ≡ true → written_key look.style (redo (leaves_of look) Plain k) ≡ redo (leaves_of look) Plain k
+      unwritten : (k : Tree) → is_private k ≡ true → written_key look.style (redo (leaves_at look x.naming) Plain k) ≡ redo (leaves_at look x.naming) Plain k
       unwritten (private_name s n) e = refl
       unwritten _ e = absurd (true≢false (sym e))
 

@@ -19,7 +19,7 @@ use Rattle.ecma_written.specs.Lexicon.{Lexicon}
 use Rattle.ecma_written.specs.Means.{Known}
 use Rattle.ecma_written.specs.Told.{says}
 use Rattle.ecma_redone.specs.Redo.{Leaves, Mode, Plain, redo}
-use Rattle.ecma_redone.specs.Written.{leaves_of}
+use Rattle.ecma_redone_base.proofs.Naming.{leaves_at}
 use Rattle.ecma_redone_base.proofs.Begins.{is_part, led}
 use Rattle.ecma_redone_base.proofs.Bodies.{braced}
 use Rattle.ecma_redone_base.proofs.Ends.{above}
@@ -71,16 +71,16 @@ dots_else e = omega arith
 
 module _ (look : Look) (x : Lexicon look.style) where
   -- a blank, or where formatting writes one
-  either_blank : (v : Bool) (b : Gap) (ts : Input) (K : Gap → Input → Type 0) → says (if v then gap look else blank) b ts K → (d : Gap) × K d ts
-  either_blank true b ts K q = (gapped (formats look) b, skip (formats look) b ts K q)
+  either_blank : (v : Bool) (b : Gap) (ts : Input) (K : Gap → Input → Type 0) → says x.naming (if v then gap look else blank) b ts K → (d : Gap) × K d ts
+  either_blank true b ts K q = (gapped (formats look) b, skip x.naming (formats look) b ts K q)
   either_blank false b ts K q = (blanked b, q)
 
-  pub property_on : (s : Span) (k e : Tree) → KeyPart look k → Sound look Alone e → (st : Stand) → Sound look st (key_value_prop s k e)
+  pub property_on : (s : Span) (k e : Tree) → KeyPart look x.naming k → Sound look x.naming Alone e → (st : Stand) → Sound look x.naming st (key_value_prop s k e)
   property_on s k e f g st c ts0 r0 h l b ts K q =
       let y = key_on look x k f c ts0 h.0 h.2 l b ts _ q in
       let t = y.more in
-      let i = skip (formats look) _ _ _ t.2 in
-      let v = expr look assignment_level Alone e g (omega arith) (with_in c) h.1 r0 h.4 (x.later h.0 h.1 h.3.2 y.known) _ t.0 K i in record {
+      let i = skip x.naming (formats look) _ _ _ t.2 in
+      let v = expr look x.naming assignment_level Alone e g (omega arith) (with_in c) h.1 r0 h.4 (x.later h.0 h.1 h.3.2 y.known) _ t.0 K i in record {
         d = v.d;
         m = v.m;
         more = v.more;
@@ -90,17 +90,17 @@ module _ (look : Look) (x : Lexicon look.style) where
         begins = y.first;
         again = λ l. let o = v.again (follow_on st (key_value_prop s k e) Alone e r0 r0 v.m refl (above assignment_level (level e) (omega arith) h.4.0) l) in record {
           tree = key_value_prop (span (lo ts) v.m.last) y.again.0 o.tree;
-          spelled = (y.m, t.0, (y.again.1, y.again.2), took look x c colon_kind t.1, expr_low look assignment_level Alone e (with_in c) t.0 v.m h.4.0 (omega arith) o, refl);
+          spelled = (y.m, t.0, (y.again.1, y.again.2), took look x c colon_kind t.1, expr_low look x.naming assignment_level Alone e (with_in c) t.0 v.m h.4.0 (omega arith) o, refl);
           directive = refl;
           quoted = λ p q. refl;
           same = record { so = λ n. ap₂ (λ (t u : Tree). key_value_prop no_place t u) (y.again.3 Plain) (o.same.so Plain) };
         };
       }
 
-  pub spread_on : (s : Span) (e : Tree) → Sound look Alone e → (st : Stand) → Sound look st (spread_element s e)
+  pub spread_on : (s : Span) (e : Tree) → Sound look x.naming Alone e → (st : Stand) → Sound look x.naming st (spread_element s e)
   spread_on s e f st c ts0 r0 h k b ts K q =
       let n = above assignment_level (level e) (omega arith) h.2.0 in
-      let y = expr look assignment_level Alone e f (omega arith) (with_in c) h.0 r0 h.2 (x.later ts0 h.0 h.1.2 k) Touching q.0 _ q.2 in record {
+      let y = expr look x.naming assignment_level Alone e f (omega arith) (with_in c) h.0 r0 h.2 (x.later ts0 h.0 h.1.2 k) Touching q.0 _ q.2 in record {
         d = y.d;
         m = y.m;
         more = y.more;
@@ -110,7 +110,7 @@ module _ (look : Look) (x : Lexicon look.style) where
         begins = λ e. absurd (dots_else (sym (marked look x dot_dot_dot_kind q.1) ∙ e));
         again = λ g. let w = y.again (follow_on st (spread_element s e) Alone e r0 r0 y.m refl n g) in record {
           tree = spread_element (span (lo ts) y.m.last) w.tree;
-          spelled = (q.0, took look x c dot_dot_dot_kind q.1, expr_low look assignment_level Alone e (with_in c) q.0 y.m h.2.0 (omega arith) w, refl);
+          spelled = (q.0, took look x c dot_dot_dot_kind q.1, expr_low look x.naming assignment_level Alone e (with_in c) q.0 y.m h.2.0 (omega arith) w, refl);
           directive = refl;
           quoted = λ p q. refl;
           same = record { so = λ n. ap (λ (t : Tree). spread_element no_place t) (w.same.so Plain) };
@@ -118,12 +118,12 @@ module _ (look : Look) (x : Lexicon look.style) where
       }
 
   -- what a cover alone has (13.2.5.1)
-  pub covered_on : (s : Span) (k e : Tree) → Sound look Alone e → (st : Stand) → Sound look st (assign_prop s k e)
+  pub covered_on : (s : Span) (k e : Tree) → Sound look x.naming Alone e → (st : Stand) → Sound look x.naming st (assign_prop s k e)
   covered_on s k e f st c ts0 r0 h l b ts K q =
       let z = id_on look x k c ts0 h.0 h.2 l b ts _ q in
       let j = z.more in
       let n = above assignment_level (level e) (omega arith) h.4.0 in
-      let y = expr look assignment_level Alone e f (omega arith) (with_in c) h.1 r0 h.4 (x.later h.0 h.1 h.3.2 z.known) Touching j.0 K j.2 in record {
+      let y = expr look x.naming assignment_level Alone e f (omega arith) (with_in c) h.1 r0 h.4 (x.later h.0 h.1 h.3.2 z.known) Touching j.0 K j.2 in record {
         d = y.d;
         m = y.m;
         more = y.more;
@@ -133,14 +133,14 @@ module _ (look : Look) (x : Lexicon look.style) where
         begins = z.first;
         again = λ g. let w = y.again (follow_on st (assign_prop s k e) Alone e r0 r0 y.m refl n g) in record {
           tree = assign_prop (span (lo ts) y.m.last) z.again.0 w.tree;
-          spelled = (z.m, j.0, z.again.1, took look x c assign_kind j.1, expr_low look assignment_level Alone e (with_in c) j.0 y.m h.4.0 (omega arith) w, refl);
+          spelled = (z.m, j.0, z.again.1, took look x c assign_kind j.1, expr_low look x.naming assignment_level Alone e (with_in c) j.0 y.m h.4.0 (omega arith) w, refl);
           directive = refl;
           quoted = λ p q. refl;
           same = record { so = λ n. ap₂ (λ (t u : Tree). assign_prop no_place t u) (z.again.2.so Plain) (w.same.so Plain) };
         };
       }
 
-  pub object_on : (s : Span) (ps : Trees) → AllSound look ps → (st : Stand) → Sound look st (object_lit s ps)
+  pub object_on : (s : Span) (ps : Trees) → AllSound look x.naming ps → (st : Stand) → Sound look x.naming st (object_lit s ps)
   object_on s none a st c ts0 r0 h k b ts K q =
       let o = q.2 in record {
         d = Touching;
@@ -159,11 +159,11 @@ module _ (look : Look) (x : Lexicon look.style) where
         };
       }
   object_on s (more t ps) a st c ts0 r0 h k b ts K q =
-      let i = skip_line (formats look) _ _ _ q.2 in
-      let j = skip_deeper (formats look) _ _ _ i.1 in
+      let i = skip_line x.naming (formats look) _ _ _ q.2 in
+      let j = skip_deeper x.naming (formats look) _ _ _ i.1 in
       let z = listed look x (Sorted is_prop c) (Sorted is_prop (unplaced c)) (sorted look x is_prop re_is_prop prop_plain c) c right_brace_kind refl (comma_line look) (comma_line_on look x) (more t ps) a h.0 r0 h.2 (x.later ts0 h.0 h.1.2 k) i.0 q.0 _
-      (λ d m u. let v = skip_line (formats look) _ _ _ (skip_back (formats look) _ _ _ u) in marked look x right_brace_kind v.1.1) j in
-      let v = skip_line (formats look) _ _ _ (skip_back (formats look) _ _ _ z.more) in
+      (λ d m u. let v = skip_line x.naming (formats look) _ _ _ (skip_back x.naming (formats look) _ _ _ u) in marked look x right_brace_kind v.1.1) j in
+      let v = skip_line x.naming (formats look) _ _ _ (skip_back x.naming (formats look) _ _ _ z.more) in
       let o = v.1 in record {
         d = Touching;
         m = o.0;
@@ -181,13 +181,13 @@ module _ (look : Look) (x : Lexicon look.style) where
         };
       }
 
-  pub getter_on : (s : Span) (k : Tree) (p : Span) (ss : Trees) → KeyPart look k → AllSound look ss → (st : Stand) → Sound look st (getter_prop s k (block_stmt p ss))
+  pub getter_on : (s : Span) (k : Tree) (p : Span) (ss : Trees) → KeyPart look x.naming k → AllSound look x.naming ss → (st : Stand) → Sound look x.naming st (getter_prop s k (block_stmt p ss))
   getter_on s k p ss f a st c ts0 r0 h l b ts K q =
       let d = in_body false false c in
       let y = key_on look x k f c h.0 h.1 h.5 (x.later ts0 h.0 h.4.3 l) _ q.0 _ (either_blank (is_bracketed_key k) Touching q.0 _ q.2).1 in
-      let j = skip (formats look) _ _ _ y.more in
+      let j = skip x.naming (formats look) _ _ _ y.more in
       let i = j.2 in
-      let z = braced look x d true ss a h.3 h.8.0 r0 h.8.1 h.8.2 (x.later h.2 h.3 h.7.2 (x.later h.1 h.2 h.6.2 y.known)) _ i.0 K (record { lo = record { 0 = p.hi.0 - 1 }; hi = p.hi }) (skip (formats look) _ _ _ i.2) in record {
+      let z = braced look x d true ss a h.3 h.8.0 r0 h.8.1 h.8.2 (x.later h.2 h.3 h.7.2 (x.later h.1 h.2 h.6.2 y.known)) _ i.0 K (record { lo = record { 0 = p.hi.0 - 1 }; hi = p.hi }) (skip x.naming (formats look) _ _ _ i.2) in record {
         d = Touching;
         m = z.m;
         more = z.more;
@@ -204,13 +204,13 @@ module _ (look : Look) (x : Lexicon look.style) where
         };
       }
 
-  pub setter_on : (s : Span) (k e : Tree) (p : Span) (ss : Trees) → KeyPart look k → Sound look Alone e → AllSound look ss → (st : Stand) → Sound look st (setter_prop s k e (block_stmt p ss))
+  pub setter_on : (s : Span) (k e : Tree) (p : Span) (ss : Trees) → KeyPart look x.naming k → Sound look x.naming Alone e → AllSound look x.naming ss → (st : Stand) → Sound look x.naming st (setter_prop s k e (block_stmt p ss))
   setter_on s k e p ss f g a st c ts0 r0 h l b ts K q =
       let d = in_body false false c in
       let y = key_on look x k f c h.0 h.1 h.6 (x.later ts0 h.0 h.5.3 l) _ q.0 _ (either_blank (is_bracketed_key k) Touching q.0 _ q.2).1 in
-      let j = skip (formats look) _ _ _ y.more in
+      let j = skip x.naming (formats look) _ _ _ y.more in
       let n = item_plain true e h.8 in
-      let v = plain_part look Alone e g n.0 (binding d) h.2 h.3 h.10 (x.later h.1 h.2 h.7.2 y.known) _ j.0 _ j.2 in
+      let v = plain_part look x.naming Alone e g n.0 (binding d) h.2 h.3 h.10 (x.later h.1 h.2 h.7.2 y.known) _ j.0 _ j.2 in
       let i = v.more in
       let w = v.again (record { quiet = λ o. closed_calm v.m right_paren_kind (marked look x right_paren_kind i.1) refl; other = λ o. absurd (true≢false (sym o ∙ n.1)) }) in
       let z = braced look x d true ss a h.4 h.12.0 r0 h.12.1 h.12.2 (x.later h.3 h.4 h.11.2 v.known) _ i.0 K (record { lo = record { 0 = p.hi.0 - 1 }; hi = p.hi }) i.2 in record {
@@ -232,8 +232,8 @@ module _ (look : Look) (x : Lexicon look.style) where
             worded look x c set_kind q.1,
             (y.again.1, y.again.2),
             took look x d left_paren_kind j.1,
-            alike (is_item_pat true) (re_is_item_pat true) (leaves_of look) Plain e w.tree w.same ∙ h.8,
-            alike is_rest re_is_rest (leaves_of look) Plain e w.tree w.same ∙ h.9,
+            alike (is_item_pat true) (re_is_item_pat true) (leaves_at look x.naming) Plain e w.tree w.same ∙ h.8,
+            alike is_rest re_is_rest (leaves_at look x.naming) Plain e w.tree w.same ∙ h.9,
             w.spelled,
             took look x d right_paren_kind i.1,
             (z.again.1, z.again.2, z.again.3, refl),
@@ -257,7 +257,7 @@ module _ (look : Look) (x : Lexicon look.style) where
     pub first : (kind m ≡ else_kind → kind r0 ≡ else_kind) → kind ts ≡ else_kind → kind ts0 ≡ else_kind
     pub again : brk m ≡ is_broken d → MethodHead g a (unplaced c) ts m
 
-  pub marks_on : (g a : Bool) (c : Code) (ts0 r0 : Input) → MethodHead g a c ts0 r0 → Known ts0.places → (b : Gap) (ts : Input) (K : Gap → Input → Type 0) → says (method_marks a g) b ts K → Marks g a c ts0 r0 b ts K
+  pub marks_on : (g a : Bool) (c : Code) (ts0 r0 : Input) → MethodHead g a c ts0 r0 → Known ts0.places → (b : Gap) (ts : Input) (K : Gap → Input → Type 0) → says x.naming (method_marks a g) b ts K → Marks g a c ts0 r0 b ts K
   marks_on false false c ts0 r0 h l b ts K q = record {
     d = b;
     m = ts;
@@ -295,12 +295,12 @@ module _ (look : Look) (x : Lexicon look.style) where
     again = λ e. (q.0, (worded look x c async_kind q.1, i.1.broke), took look x c mul_kind i.1);
   }
 
-  pub method_on : (s : Span) (k : Tree) (t : Span) (ps ds : Trees) (p : Span) (ss : Trees) (g a : Bool) → KeyPart look k → AllSound look ps → AllSound look ss → (st : Stand) → Sound look st (method_prop s k (function t ps ds (block_stmt p ss) g a))
+  pub method_on : (s : Span) (k : Tree) (t : Span) (ps ds : Trees) (p : Span) (ss : Trees) (g a : Bool) → KeyPart look x.naming k → AllSound look x.naming ps → AllSound look x.naming ss → (st : Stand) → Sound look x.naming st (method_prop s k (function t ps ds (block_stmt p ss) g a))
   method_on s k t ps (more d ds) p ss g a n f j st c ts0 r0 h l b ts K q = absurd h.1.4.1
   method_on s k t ps none p ss g a n f j st c ts0 r0 h l b ts K q =
       let w = marks_on g a c ts0 h.1.0 h.1.2 l b ts _ q in
       let y = key_on look x k n c h.1.0 h.1.1 (h.0, h.1.3) w.known w.d w.m _ w.more in
-      let v = tail_on look x BodyStand ps p ss g a f j (setting false c) h.1.1 r0 h.1.4 y.known _ y.m K (skip (formats look) y.d y.m _ y.more) in record {
+      let v = tail_on look x BodyStand ps p ss g a f j (setting false c) h.1.1 r0 h.1.4 y.known _ y.m K (skip x.naming (formats look) y.d y.m _ y.more) in record {
         d = Touching;
         m = v.m;
         more = v.more;

@@ -22,7 +22,7 @@ use Rattle.ecma_written.specs.Lexicon.{Lexicon}
 use Rattle.ecma_written.specs.Means.{Known}
 use Rattle.ecma_written.specs.Told.{says}
 use Rattle.ecma_redone.specs.Redo.{Leaves, Mode, Plain, redo}
-use Rattle.ecma_redone.specs.Written.{leaves_of}
+use Rattle.ecma_redone_base.proofs.Naming.{leaves_at}
 use Rattle.ecma_redone_base.proofs.Begins.{Begins, fine, is_inner, is_part, same_start}
 use Rattle.ecma_redone_base.proofs.Bodies.{follow_closed, item_closed}
 use Rattle.ecma_redone_base.proofs.Ends.{above, ended_known, quiet_at}
@@ -96,11 +96,11 @@ default_again ts0 m0 ts m (same_start e f) n h = bits (kind ts == function_kind)
 module _ (look : Look) (x : Lexicon look.style) where
   -- ---- `export` before a declaration
 
-  export_with : (s : Span) (t : Tree) → Sound look Alone t → (st : Stand) (c : Code) (ts0 r0 : Input) → ExportDeclaration c s (part t (λ y. Spells t y)) ts0 r0 → Known ts0.places → (b : Gap) (ts : Input) (K : Gap → Input → Type 0) → says (word (codes "export") · blank · laid look Alone t · when (is_variables t) (semi · end s)) b ts K
-      → Out look st (export_decl s t) c ts0 r0 b ts K
+  export_with : (s : Span) (t : Tree) → Sound look x.naming Alone t → (st : Stand) (c : Code) (ts0 r0 : Input) → ExportDeclaration c s (part t (λ y. Spells t y)) ts0 r0 → Known ts0.places → (b : Gap) (ts : Input) (K : Gap → Input → Type 0) → says x.naming (word (codes "export") · blank · laid look Alone t · when (is_variables t) (semi · end s)) b ts K
+      → Out look x.naming st (export_decl s t) c ts0 r0 b ts K
   export_with s t f st c ts0 r0 h k b ts K q =
       let p = exported_sort t h.2 in
-      let z = outer look Alone t f p.1 (in_list c) h.0 r0 h.3 (x.later ts0 h.0 h.1.3 k) Spaced q.0 K (says_map (laid look Alone t) Spaced q.0 _ _ (λ d m i. ended_only (is_variables t) d m i) q.2) in record {
+      let z = outer look x.naming Alone t f p.1 (in_list c) h.0 r0 h.3 (x.later ts0 h.0 h.1.3 k) Spaced q.0 K (says_map x.naming (laid look Alone t) Spaced q.0 _ _ (λ d m i. ended_only (is_variables t) d m i) q.2) in record {
         d = z.d;
         m = z.m;
         more = z.more;
@@ -110,18 +110,18 @@ module _ (look : Look) (x : Lexicon look.style) where
         begins = λ e. absurd (export_else (sym (keyed look x export_kind q.1) ∙ e));
         again = λ l. let w = z.again (follow_closed t r0 z.m (item_closed t p.0) (l.other refl)) in record {
           tree = export_decl (span (lo ts) z.m.last) w.tree;
-          spelled = (q.0, worded look x c export_kind q.1, alike is_exportable re_is_exportable (leaves_of look) Plain t w.tree w.same ∙ h.2, w.spelled, refl);
+          spelled = (q.0, worded look x c export_kind q.1, alike is_exportable re_is_exportable (leaves_at look x.naming) Plain t w.tree w.same ∙ h.2, w.spelled, refl);
           directive = refl;
           quoted = λ p q. refl;
           same = record { so = λ n. ap (λ (t : Tree). export_decl no_place t) (w.same.so Plain) };
         };
       }
     where
-      ended_only : (v : Bool) (d : Gap) (m : Input) → says (when v (semi · end s)) d m K → says (when v semi) d m K
+      ended_only : (v : Bool) (d : Gap) (m : Input) → says x.naming (when v (semi · end s)) d m K → says x.naming (when v semi) d m K
       ended_only true d m i = i
       ended_only false d m i = i
 
-  pub export_on : (s : Span) (t : Tree) → Sound look Alone t → (st : Stand) → Sound look st (export_decl s t)
+  pub export_on : (s : Span) (t : Tree) → Sound look x.naming Alone t → (st : Stand) → Sound look x.naming st (export_decl s t)
   export_on s (class_decl cs i (class t none ms p)) f st c ts0 r0 h k b ts K q = export_with s (class_decl cs i (class t none ms p)) f st c ts0 r0 h k b ts K q
   export_on s (class_decl cs i (class t (more e ds) ms p)) f st c ts0 r0 h k b ts K q = absurd h.3.4.2
   export_on s (class_decl cs i _) f st c ts0 r0 h k b ts K q = absurd (none_span cs h.3.5)
@@ -131,12 +131,12 @@ module _ (look : Look) (x : Lexicon look.style) where
 
   -- ---- `export default`
 
-  default_with : (s : Span) (t : Tree) → Sound look Alone t → (st : Stand) (c : Code) (ts0 r0 : Input) → DefaultDeclaration c s (part t (λ y. Spells t y)) ts0 r0 → Known ts0.places → (b : Gap) (ts : Input) (K : Gap → Input → Type 0) → says (word (codes "export") · blank · word (codes "default") · blank · laid look Alone t) b ts K
-      → Out look st (export_default_decl s t) c ts0 r0 b ts K
+  default_with : (s : Span) (t : Tree) → Sound look x.naming Alone t → (st : Stand) (c : Code) (ts0 r0 : Input) → DefaultDeclaration c s (part t (λ y. Spells t y)) ts0 r0 → Known ts0.places → (b : Gap) (ts : Input) (K : Gap → Input → Type 0) → says x.naming (word (codes "export") · blank · word (codes "default") · blank · laid look Alone t) b ts K
+      → Out look x.naming st (export_default_decl s t) c ts0 r0 b ts K
   default_with s t f st c ts0 r0 h k b ts K q =
       let p = default_sort t h.2 in
       let i = q.2 in
-      let z = plain_part look Alone t f p.0 c h.0 r0 h.3 (x.later h.1.0 h.0 h.1.2.3 (x.later ts0 h.1.0 h.1.1.3 k)) Spaced i.0 K i.2 in record {
+      let z = plain_part look x.naming Alone t f p.0 c h.0 r0 h.3 (x.later h.1.0 h.0 h.1.2.3 (x.later ts0 h.1.0 h.1.1.3 k)) Spaced i.0 K i.2 in record {
         d = z.d;
         m = z.m;
         more = z.more;
@@ -146,25 +146,25 @@ module _ (look : Look) (x : Lexicon look.style) where
         begins = λ e. absurd (export_else (sym (keyed look x export_kind q.1) ∙ e));
         again = λ l. let w = z.again (follow_closed t r0 z.m p.1 (l.other refl)) in record {
           tree = export_default_decl (span (lo ts) z.m.last) w.tree;
-          spelled = (i.0, (q.0, worded look x c export_kind q.1, worded look x c default_kind i.1), alike is_default_decl re_is_default_decl (leaves_of look) Plain t w.tree w.same ∙ h.2, w.spelled, refl);
+          spelled = (i.0, (q.0, worded look x c export_kind q.1, worded look x c default_kind i.1), alike is_default_decl re_is_default_decl (leaves_at look x.naming) Plain t w.tree w.same ∙ h.2, w.spelled, refl);
           directive = refl;
           quoted = λ p q. refl;
           same = record { so = λ n. ap (λ (t : Tree). export_default_decl no_place t) (w.same.so Plain) };
         };
       }
 
-  pub default_on : (s : Span) (t : Tree) → Sound look Alone t → (st : Stand) → Sound look st (export_default_decl s t)
+  pub default_on : (s : Span) (t : Tree) → Sound look x.naming Alone t → (st : Stand) → Sound look x.naming st (export_default_decl s t)
   default_on s (class_expr cs i (class t none ms p)) f st c ts0 r0 h k b ts K q = default_with s (class_expr cs i (class t none ms p)) f st c ts0 r0 h k b ts K q
   default_on s (class_expr cs i (class t (more e ds) ms p)) f st c ts0 r0 h k b ts K q = absurd h.3.4.2
   default_on s (class_expr cs i _) f st c ts0 r0 h k b ts K q = absurd (none_span cs h.3.5)
   default_on s (fn_expr t i p) f st c ts0 r0 h k b ts K q = default_with s (fn_expr t i p) f st c ts0 r0 h k b ts K q
   default_on s _ f st c ts0 r0 h k b ts K q = absurd (true≢false (sym h.2))
 
-  pub default_expression_on : (s : Span) (e : Tree) → Sound look Alone e → (st : Stand) → Sound look st (export_default_expr s e)
+  pub default_expression_on : (s : Span) (e : Tree) → Sound look x.naming Alone e → (st : Stand) → Sound look x.naming st (export_default_expr s e)
   default_expression_on s e f st c ts0 r0 h k b ts K q =
       let n = above assignment_level (level e) (omega arith) h.4.0 in
       let i = q.2 in
-      let y = expr look assignment_level Alone e f (omega arith) c h.0 h.1 h.4 (x.later h.2.0 h.0 h.2.2.3 (x.later ts0 h.2.0 h.2.1.3 k)) _ i.0 _ (skip (starts_with_word e || formats look) Touching i.0 _ i.2) in
+      let y = expr look x.naming assignment_level Alone e f (omega arith) c h.0 h.1 h.4 (x.later h.2.0 h.0 h.2.2.3 (x.later ts0 h.2.0 h.2.1.3 k)) _ i.0 _ (skip x.naming (starts_with_word e || formats look) Touching i.0 _ i.2) in
       let o = semi_of y.d y.m K y.more in let j = quiet_at look x o.2 in record {
         d = o.0;
         m = o.1;
@@ -175,7 +175,7 @@ module _ (look : Look) (x : Lexicon look.style) where
         begins = λ e. absurd (export_else (sym (keyed look x export_kind q.1) ∙ e));
         again = λ l. let w = y.again (record { quiet = λ z. j.calm; other = λ z. absurd (no_item e n z) }) in record {
           tree = export_default_expr (span (lo ts) o.1.last) w.tree;
-          spelled = (i.0, y.m, (q.0, worded look x c export_kind q.1, worded look x c default_kind i.1), default_again h.0 h.1 i.0 y.m (expr_begins look Alone e (assigning c) h.0 h.1 _ i.0 _ n y) j.function h.3, expr_low look assignment_level Alone e c i.0 y.m h.4.0 (omega arith) w, ended look x c (ends w.tree) o.2, refl);
+          spelled = (i.0, y.m, (q.0, worded look x c export_kind q.1, worded look x c default_kind i.1), default_again h.0 h.1 i.0 y.m (expr_begins look x.naming Alone e (assigning c) h.0 h.1 _ i.0 _ n y) j.function h.3, expr_low look x.naming assignment_level Alone e c i.0 y.m h.4.0 (omega arith) w, ended look x c (ends w.tree) o.2, refl);
           directive = refl;
           quoted = λ p q. refl;
           same = record { so = λ n. ap (λ (t : Tree). export_default_expr no_place t) (w.same.so Plain) };

@@ -21,7 +21,7 @@ use Rattle.ecma_written.specs.Lexicon.{Lexicon}
 use Rattle.ecma_written.specs.Means.{Known}
 use Rattle.ecma_written.specs.Told.{says}
 use Rattle.ecma_redone.specs.Redo.{AllSame, Leaves, Mode, Plain, Same, redo}
-use Rattle.ecma_redone.specs.Written.{leaves_of}
+use Rattle.ecma_redone_base.proofs.Naming.{leaves_at}
 use Rattle.ecma_redone_base.proofs.Begins.{is_part}
 use Rattle.ecma_redone_base.proofs.Ends.{absent_same, ended_known, quiet_at, there, unabsent}
 use Rattle.ecma_redone_base.proofs.Follow.{calm, closed_calm}
@@ -59,11 +59,11 @@ no_namespace_in (more t us) h = ap₂ (λ (a b : Bool). a || b) (un_not (is_name
 
 module _ (look : Look) (x : Lexicon look.style) where
   -- names are no namespace, and say nothing where that stands
-  no_first : (xs : Trees) → EachIs is_no_namespace xs → (b : Gap) (ts : Input) (K : Gap → Input → Type 0) → says (first_namespace look xs) b ts K → K b ts
+  no_first : (xs : Trees) → EachIs is_no_namespace xs → (b : Gap) (ts : Input) (K : Gap → Input → Type 0) → says x.naming (first_namespace look xs) b ts K → K b ts
   no_first none e b ts K q = q
   no_first (more t us) e b ts K q = no_first us e.1 b ts K (by (is_namespace t) (un_not (is_namespace t) e.0) q)
     where
-      by : (v : Bool) → v ≡ false → says (if v then laid look Alone t else first_namespace look us) b ts K → says (first_namespace look us) b ts K
+      by : (v : Bool) → v ≡ false → says x.naming (if v then laid look Alone t else first_namespace look us) b ts K → says x.naming (first_namespace look us) b ts K
       by true i q = absurd (true≢false i)
       by false i q = q
 
@@ -81,24 +81,24 @@ module _ (look : Look) (x : Lexicon look.style) where
     v : Tree
     calms : calm ts ≡ true
     spelled : By (is_absent u) ((is_absent v ≡ true) × Ends (unplaced c) exports_end ts m) ((n : Input) × TakesWord (unplaced c) from_kind ts n × Source (unplaced c) (part u (λ y. Spells u y)) (part v (λ y. Spells v y)) n m)
-    same_u : Same (leaves_of look) Plain src u
-    same_v : Same (leaves_of look) Plain with_ v
+    same_u : Same (leaves_at look x.naming) Plain src u
+    same_v : Same (leaves_at look x.naming) Plain with_ v
 
-  either_gap : (v : Bool) (b : Gap) (ts : Input) (J : Gap → Input → Type 0) → says (if v then blank else gap look) b ts J → (d : Gap) × J d ts
+  either_gap : (v : Bool) (b : Gap) (ts : Input) (J : Gap → Input → Type 0) → says x.naming (if v then blank else gap look) b ts J → (d : Gap) × J d ts
   either_gap true b ts J q = (blanked b, q)
-  either_gap false b ts J q = (gapped (formats look) b, skip (formats look) b ts J q)
+  either_gap false b ts J q = (gapped (formats look) b, skip x.naming (formats look) b ts J q)
 
-  from_source : (w : Bool) (src with_ : Tree) → KeyPart look src → Sound look Alone with_ → is_absent src ≡ false → (c : Code) (m0 n0 r0 : Input) → TakesWord c from_kind m0 n0 → Source c (part src (λ y. Spells src y)) (part with_ (λ y. Spells with_ y)) n0 r0 → Known m0.places → (b : Gap) (ts : Input) (K : Gap → Input → Type 0)
-      → says (end_laid w src with_) b ts K → (n : Input) × TakesWord (unplaced c) from_kind ts n × Sourced look x src with_ c n0 r0 n K
+  from_source : (w : Bool) (src with_ : Tree) → KeyPart look x.naming src → Sound look x.naming Alone with_ → is_absent src ≡ false → (c : Code) (m0 n0 r0 : Input) → TakesWord c from_kind m0 n0 → Source c (part src (λ y. Spells src y)) (part with_ (λ y. Spells with_ y)) n0 r0 → Known m0.places → (b : Gap) (ts : Input) (K : Gap → Input → Type 0)
+      → says x.naming (end_laid w src with_) b ts K → (n : Input) × TakesWord (unplaced c) from_kind ts n × Sourced look x src with_ c n0 r0 n K
   from_source w src with_ f g a c m0 n0 r0 t h k b ts K q =
-      let p = subst (λ (v : Bool). says (when v ((if w then blank else gap look) · laid_from look (laid look Key src) · attributes look with_ (laid look Alone with_)) · semi) b ts K) (there src ∙ ap not a) q in
-      let i = (either_gap w b ts (λ d m. says (laid_from look (laid look Key src) · attributes look with_ (laid look Alone with_) · semi) d m K) p).1 in
-      (i.0, worded look x c from_kind i.1, source_on look x src with_ f g c n0 r0 h (x.later m0 n0 t.3 k) _ i.0 K (skip (formats look) Touching i.0 _ i.2))
+      let p = subst (λ (v : Bool). says x.naming (when v ((if w then blank else gap look) · laid_from look (laid look Key src) · attributes look with_ (laid look Alone with_)) · semi) b ts K) (there src ∙ ap not a) q in
+      let i = (either_gap w b ts (λ d m. says x.naming (laid_from look (laid look Key src) · attributes look with_ (laid look Alone with_) · semi) d m K) p).1 in
+      (i.0, worded look x c from_kind i.1, source_on look x src with_ f g c n0 r0 h (x.later m0 n0 t.3 k) _ i.0 K (skip x.naming (formats look) Touching i.0 _ i.2))
 
-  ended_on : (w : Bool) (src with_ : Tree) → KeyPart look src → Sound look Alone with_ → (c : Code) (v : Bool) → is_absent src ≡ v → (m0 r0 : Input) → By v ((is_absent with_ ≡ true) × Ends c exports_end m0 r0) ((n : Input) × TakesWord c from_kind m0 n × Source c (part src (λ y. Spells src y)) (part with_ (λ y. Spells with_ y)) n r0) → Known m0.places
-      → (b : Gap) (ts : Input) (K : Gap → Input → Type 0) → says (end_laid w src with_) b ts K → Ended_by src with_ c r0 ts K
+  ended_on : (w : Bool) (src with_ : Tree) → KeyPart look x.naming src → Sound look x.naming Alone with_ → (c : Code) (v : Bool) → is_absent src ≡ v → (m0 r0 : Input) → By v ((is_absent with_ ≡ true) × Ends c exports_end m0 r0) ((n : Input) × TakesWord c from_kind m0 n × Source c (part src (λ y. Spells src y)) (part with_ (λ y. Spells with_ y)) n r0) → Known m0.places
+      → (b : Gap) (ts : Input) (K : Gap → Input → Type 0) → says x.naming (end_laid w src with_) b ts K → Ended_by src with_ c r0 ts K
   ended_on w src with_ f g c true a m0 r0 h k b ts K q =
-      let o = semi_of b ts K (subst (λ (v : Bool). says (when v ((if w then blank else gap look) · laid_from look (laid look Key src) · attributes look with_ (laid look Alone with_)) · semi) b ts K) (there src ∙ ap not a) q) in record {
+      let o = semi_of b ts K (subst (λ (v : Bool). says x.naming (when v ((if w then blank else gap look) · laid_from look (laid look Key src) · attributes look with_ (laid look Alone with_)) · semi) b ts K) (there src ∙ ap not a) q) in record {
         d = o.0;
         m = o.1;
         more = o.3;
@@ -107,8 +107,8 @@ module _ (look : Look) (x : Lexicon look.style) where
         v = absent;
         calms = (quiet_at look x o.2).calm;
         spelled = (refl, ended look x c exports_end o.2);
-        same_u = absent_same (leaves_of look) Plain src a;
-        same_v = absent_same (leaves_of look) Plain with_ h.0;
+        same_u = absent_same (leaves_at look x.naming) Plain src a;
+        same_v = absent_same (leaves_at look x.naming) Plain with_ h.0;
       }
   ended_on w src with_ f g c false a m0 r0 h k b ts K q =
       let y = from_source w src with_ f g a c m0 h.0 r0 h.1 h.2 k b ts K q in let z = y.2 in record {
@@ -119,7 +119,7 @@ module _ (look : Look) (x : Lexicon look.style) where
         u = z.u;
         v = z.v;
         calms = closed_calm ts from_kind y.1.0 refl;
-        spelled = unabsent (is_absent z.u) _ _ (alike is_absent re_is_absent (leaves_of look) Plain src z.u z.same_u ∙ a) (y.0, y.1, z.spelled);
+        spelled = unabsent (is_absent z.u) _ _ (alike is_absent re_is_absent (leaves_at look x.naming) Plain src z.u z.same_u ∙ a) (y.0, y.1, z.spelled);
         same_u = z.same_u;
         same_v = z.same_v;
       }
@@ -135,16 +135,16 @@ module _ (look : Look) (x : Lexicon look.style) where
     u : Tree
     v : Tree
     spelled : Specified (unplaced c) (parts us) (part u (λ y. Spells u y)) (part v (λ y. Spells v y)) ts m
-    same_us : AllSame (leaves_of look) Plain xs us
-    same_u : Same (leaves_of look) Plain src u
-    same_v : Same (leaves_of look) Plain with_ v
+    same_us : AllSame (leaves_at look x.naming) Plain xs us
+    same_u : Same (leaves_at look x.naming) Plain src u
+    same_v : Same (leaves_at look x.naming) Plain with_ v
 
   abbrev specified_laid : Trees → Tree → Tree → Laid
   specified_laid xs src with_ = first_namespace look xs · exports look xs (named_items look is_no_namespace false xs) · end_laid (has_namespace xs && not (has_other xs)) src with_
 
-  none_specified : (src with_ : Tree) → KeyPart look src → Sound look Alone with_ → (c : Code) (ts0 r0 : Input) → ExportList c [] (part src (λ y. Spells src y)) (part with_ (λ y. Spells with_ y)) ts0 r0 → Known ts0.places → (b : Gap) (ts : Input) (K : Gap → Input → Type 0) → says (specified_laid none src with_) b ts K → Specified_on none src with_ c r0 ts K
+  none_specified : (src with_ : Tree) → KeyPart look x.naming src → Sound look x.naming Alone with_ → (c : Code) (ts0 r0 : Input) → ExportList c [] (part src (λ y. Spells src y)) (part with_ (λ y. Spells with_ y)) ts0 r0 → Known ts0.places → (b : Gap) (ts : Input) (K : Gap → Input → Type 0) → says x.naming (specified_laid none src with_) b ts K → Specified_on none src with_ c r0 ts K
   none_specified src with_ f g c ts0 r0 h k b ts K q =
-      let o = skip (formats look) Touching q.0 _ q.2 in
+      let o = skip x.naming (formats look) Touching q.0 _ q.2 in
       let z = ended_on false src with_ f g c (is_absent src) refl h.0 r0 h.2 (x.later h.1.0 h.0 h.1.2.2 (x.later ts0 h.1.0 h.1.1.2 k)) Touching o.0 K o.2 in record {
         d = z.d;
         m = z.m;
@@ -154,22 +154,22 @@ module _ (look : Look) (x : Lexicon look.style) where
         u = z.u;
         v = z.v;
         spelled = (o.0, (q.0, took look x c left_brace_kind q.1, took look x c right_brace_kind o.1), z.spelled);
-        same_us = none_same (leaves_of look);
+        same_us = none_same (leaves_at look x.naming);
         same_u = z.same_u;
         same_v = z.same_v;
       }
 
-  names_specified : (t : Tree) (us : Trees) (src with_ : Tree) → AllSound look (more t us) → KeyPart look src → Sound look Alone with_ → (c : Code) (ts0 r0 : Input) → is_star_export t ≡ false → ExportList c (parts (more t us)) (part src (λ y. Spells src y)) (part with_ (λ y. Spells with_ y)) ts0 r0 → Known ts0.places
-      → (b : Gap) (ts : Input) (K : Gap → Input → Type 0) → says (specified_laid (more t us) src with_) b ts K → Specified_on (more t us) src with_ c r0 ts K
+  names_specified : (t : Tree) (us : Trees) (src with_ : Tree) → AllSound look x.naming (more t us) → KeyPart look x.naming src → Sound look x.naming Alone with_ → (c : Code) (ts0 r0 : Input) → is_star_export t ≡ false → ExportList c (parts (more t us)) (part src (λ y. Spells src y)) (part with_ (λ y. Spells with_ y)) ts0 r0 → Known ts0.places
+      → (b : Gap) (ts : Input) (K : Gap → Input → Type 0) → says x.naming (specified_laid (more t us) src with_) b ts K → Specified_on (more t us) src with_ c r0 ts K
   names_specified t us src with_ a f g c ts0 r0 i h k b ts K q =
       let e = each_map is_named_export is_no_namespace no_namespace_is (more t us) (from_listed is_named_export c right_brace_kind (more t us) h.1.0 h.0 h.1.2) in
-      let p = no_first (more t us) e b ts (λ d m. says (exports look (more t us) (named_items look is_no_namespace false (more t us)) · end_laid (has_namespace (more t us) && not (has_other (more t us))) src with_) d m K) q in
+      let p = no_first (more t us) e b ts (λ d m. says x.naming (exports look (more t us) (named_items look is_no_namespace false (more t us)) · end_laid (has_namespace (more t us) && not (has_other (more t us))) src with_) d m K) q in
       let l = shown (has_other (more t us)) (ap (λ (v : Bool). v || has_other us) e.0) (has_namespace (more t us)) (no_namespace_in (more t us) e) p in
-      let j = skip (formats look) Touching l.0 _ l.2 in
+      let j = skip x.naming (formats look) Touching l.0 _ l.2 in
       let n = items_separated look x is_no_namespace false t us e (gapped (formats look) Touching) l.0 _ j in
-      let z = listed look x (Sorted is_named_export c) (Sorted is_named_export (unplaced c)) (sorted look x is_named_export re_is_named_export named_export_part c) c right_brace_kind refl (comma look) (comma_on look x) (more t us) a h.1.0 h.0 h.1.2 (x.later ts0 h.1.0 h.1.1.2 k) (gapped (formats look) Touching) l.0 (λ d m. says (gap look · brace) d m (λ d m. says (end_laid false src with_) d m K))
-      (λ d m o. let l = skip (formats look) d m _ o in marked look x right_brace_kind l.1) n in
-      let o = skip (formats look) z.d z.m _ z.more in let w = z.again o.0 (took look x c right_brace_kind o.1) in
+      let z = listed look x (Sorted is_named_export c) (Sorted is_named_export (unplaced c)) (sorted look x is_named_export re_is_named_export named_export_part c) c right_brace_kind refl (comma look) (comma_on look x) (more t us) a h.1.0 h.0 h.1.2 (x.later ts0 h.1.0 h.1.1.2 k) (gapped (formats look) Touching) l.0 (λ d m. says x.naming (gap look · brace) d m (λ d m. says x.naming (end_laid false src with_) d m K))
+      (λ d m o. let l = skip x.naming (formats look) d m _ o in marked look x right_brace_kind l.1) n in
+      let o = skip x.naming (formats look) z.d z.m _ z.more in let w = z.again o.0 (took look x c right_brace_kind o.1) in
       let v = ended_on false src with_ f g c (is_absent src) refl h.0 r0 h.2 z.known Touching o.0 K o.2 in record {
         d = v.d;
         m = v.m;
@@ -184,8 +184,8 @@ module _ (look : Look) (x : Lexicon look.style) where
         same_v = v.same_v;
       }
     where
-      shown : (a : Bool) → a ≡ true → (d : Bool) → d ≡ false → says (when (a || not d) (when d (comma look) · (if a then in_braces look (named_items look is_no_namespace false (more t us)) else (text (codes "{") · gap look · brace))) · end_laid (d && not a) src with_) b ts K
-          → says (in_braces look (named_items look is_no_namespace false (more t us)) · end_laid false src with_) b ts K
+      shown : (a : Bool) → a ≡ true → (d : Bool) → d ≡ false → says x.naming (when (a || not d) (when d (comma look) · (if a then in_braces look (named_items look is_no_namespace false (more t us)) else (text (codes "{") · gap look · brace))) · end_laid (d && not a) src with_) b ts K
+          → says x.naming (in_braces look (named_items look is_no_namespace false (more t us)) · end_laid false src with_) b ts K
       shown true e false n q = q
       shown false e d n q = absurd (true≢false (sym e))
       shown true e true n q = absurd (true≢false n)
@@ -193,16 +193,16 @@ module _ (look : Look) (x : Lexicon look.style) where
       none_more : (ts : Trees) (t : Tree) → none ≡ more t ts → ⊥
       none_more ts t e = cc
 
-      as_list : (vs : Trees) (u v : Tree) (m : Input) → ExportList (unplaced c) (parts vs) (part u (λ y. Spells u y)) (part v (λ y. Spells v y)) ts m → AllSame (leaves_of look) Plain (more t us) vs → Specified (unplaced c) (parts vs) (part u (λ y. Spells u y)) (part v (λ y. Spells v y)) ts m
+      as_list : (vs : Trees) (u v : Tree) (m : Input) → ExportList (unplaced c) (parts vs) (part u (λ y. Spells u y)) (part v (λ y. Spells v y)) ts m → AllSame (leaves_at look x.naming) Plain (more t us) vs → Specified (unplaced c) (parts vs) (part u (λ y. Spells u y)) (part v (λ y. Spells v y)) ts m
       as_list none u v m h s = h
-      as_list (more w ws) u v m h s = unput (is_star_export w) _ _ (first_same look t us w ws s is_star_export re_is_star_export i) h
+      as_list (more w ws) u v m h s = unput (is_star_export w) _ _ (first_same look x.naming t us w ws s is_star_export re_is_star_export i) h
 
-  star_specified : (t : Tree) (src with_ : Tree) → Sound look Alone t → KeyPart look src → Sound look Alone with_ → (c : Code) (ts0 r0 : Input) → is_star_export t ≡ true → ExportStarAs c (part t (λ y. Spells t y)) (part src (λ y. Spells src y)) (part with_ (λ y. Spells with_ y)) ts0 r0 → Known ts0.places
-      → (b : Gap) (ts : Input) (K : Gap → Input → Type 0) → says (specified_laid (more t none) src with_) b ts K → Specified_on (more t none) src with_ c r0 ts K
+  star_specified : (t : Tree) (src with_ : Tree) → Sound look x.naming Alone t → KeyPart look x.naming src → Sound look x.naming Alone with_ → (c : Code) (ts0 r0 : Input) → is_star_export t ≡ true → ExportStarAs c (part t (λ y. Spells t y)) (part src (λ y. Spells src y)) (part with_ (λ y. Spells with_ y)) ts0 r0 → Known ts0.places
+      → (b : Gap) (ts : Input) (K : Gap → Input → Type 0) → says x.naming (specified_laid (more t none) src with_) b ts K → Specified_on (more t none) src with_ c r0 ts K
   star_specified t src with_ a f g c ts0 r0 i h k b ts K q =
       let p = namespace_sort t i in
       let l = shown (is_namespace t) p.1 q in
-      let z = plain_part look Alone t a p.0 c ts0 h.0 h.2 k b ts (λ d m. says (end_laid true src with_) d m K) l in
+      let z = plain_part look x.naming Alone t a p.0 c ts0 h.0 h.2 k b ts (λ d m. says x.naming (end_laid true src with_) d m K) l in
       let y = from_source true src with_ f g (string_there src h.4.1.0) c h.0 h.1 r0 h.3 h.4 z.known z.d z.m K z.more in let v = y.2 in
       let w = z.again (record { quiet = λ e. closed_calm z.m from_kind y.1.0 refl; other = λ e. absurd (true≢false (sym e ∙ p.2)) }) in record {
         d = v.d;
@@ -212,15 +212,15 @@ module _ (look : Look) (x : Lexicon look.style) where
         us = more w.tree none;
         u = v.u;
         v = v.v;
-        spelled = put (is_star_export w.tree) _ _ (alike is_star_export re_is_star_export (leaves_of look) Plain t w.tree w.same ∙ i) (tt, (z.m, y.0, w.spelled, y.1, v.spelled));
-        same_us = more_same (leaves_of look) Plain t w.tree none none w.same (none_same (leaves_of look));
+        spelled = put (is_star_export w.tree) _ _ (alike is_star_export re_is_star_export (leaves_at look x.naming) Plain t w.tree w.same ∙ i) (tt, (z.m, y.0, w.spelled, y.1, v.spelled));
+        same_us = more_same (leaves_at look x.naming) Plain t w.tree none none w.same (none_same (leaves_at look x.naming));
         same_u = v.same_u;
         same_v = v.same_v;
       }
     where
-      shown : (v : Bool) → v ≡ true → says ((if v then laid look Alone t else nothing)
+      shown : (v : Bool) → v ≡ true → says x.naming ((if v then laid look Alone t else nothing)
           · when ((not v || false) || not (v || false)) (when (v || false) (comma look) · (if (not v || false) then in_braces look (named_items look is_no_namespace false (more t none)) else (text (codes "{") · gap look · brace)))
-          · end_laid ((v || false) && not (not v || false)) src with_) b ts K → says (laid look Alone t · end_laid true src with_) b ts K
+          · end_laid ((v || false) && not (not v || false)) src with_) b ts K → says x.naming (laid look Alone t · end_laid true src with_) b ts K
       shown true e q = q
       shown false e q = absurd (true≢false (sym e))
 
@@ -228,12 +228,12 @@ module _ (look : Look) (x : Lexicon look.style) where
       string_there (str_lit s u w) h = refl
       string_there _ h = absurd (true≢false (sym h))
 
-  specified_on : (xs : Trees) (src with_ : Tree) → AllSound look xs → KeyPart look src → Sound look Alone with_ → (c : Code) (ts0 r0 : Input) → Specified c (parts xs) (part src (λ y. Spells src y)) (part with_ (λ y. Spells with_ y)) ts0 r0 → Known ts0.places → (b : Gap) (ts : Input) (K : Gap → Input → Type 0)
-      → says (specified_laid xs src with_) b ts K → Specified_on xs src with_ c r0 ts K
+  specified_on : (xs : Trees) (src with_ : Tree) → AllSound look x.naming xs → KeyPart look x.naming src → Sound look x.naming Alone with_ → (c : Code) (ts0 r0 : Input) → Specified c (parts xs) (part src (λ y. Spells src y)) (part with_ (λ y. Spells with_ y)) ts0 r0 → Known ts0.places → (b : Gap) (ts : Input) (K : Gap → Input → Type 0)
+      → says x.naming (specified_laid xs src with_) b ts K → Specified_on xs src with_ c r0 ts K
   specified_on none src with_ a f g c ts0 r0 h k b ts K q = none_specified src with_ f g c ts0 r0 h k b ts K q
   specified_on (more t us) src with_ a f g c ts0 r0 h k b ts K q = by (is_star_export t) refl h
     where
-      lone : (us : Trees) → IsEmpty (parts us) → is_star_export t ≡ true → ExportStarAs c (part t (λ y. Spells t y)) (part src (λ y. Spells src y)) (part with_ (λ y. Spells with_ y)) ts0 r0 → says (specified_laid (more t us) src with_) b ts K → Specified_on (more t us) src with_ c r0 ts K
+      lone : (us : Trees) → IsEmpty (parts us) → is_star_export t ≡ true → ExportStarAs c (part t (λ y. Spells t y)) (part src (λ y. Spells src y)) (part with_ (λ y. Spells with_ y)) ts0 r0 → says x.naming (specified_laid (more t us) src with_) b ts K → Specified_on (more t us) src with_ c r0 ts K
       lone none i e h q = star_specified t src with_ a.0 f g c ts0 r0 e h k b ts K q
       lone (more u vs) i e h q = absurd i
 
@@ -242,9 +242,9 @@ module _ (look : Look) (x : Lexicon look.style) where
       by true e i = lone us i.0 e i.1 q
       by false e i = names_specified t us src with_ a f g c ts0 r0 e i k b ts K q
 
-  pub named_export_on : (s : Span) (xs : Trees) (src with_ : Tree) → AllSound look xs → KeyPart look src → Sound look Alone with_ → (st : Stand) → Sound look st (named_export s xs src with_)
+  pub named_export_on : (s : Span) (xs : Trees) (src with_ : Tree) → AllSound look x.naming xs → KeyPart look x.naming src → Sound look x.naming Alone with_ → (st : Stand) → Sound look x.naming st (named_export s xs src with_)
   named_export_on s xs src with_ a f g st c ts0 r0 h k b ts K q =
-      let z = specified_on xs src with_ a f g c h.0 r0 h.2 (x.later ts0 h.0 h.1.3 k) _ q.0 K (skip (formats look) Touching q.0 _ q.2) in record {
+      let z = specified_on xs src with_ a f g c h.0 r0 h.2 (x.later ts0 h.0 h.1.3 k) _ q.0 K (skip x.naming (formats look) Touching q.0 _ q.2) in record {
         d = z.d;
         m = z.m;
         more = z.more;
@@ -264,11 +264,11 @@ module _ (look : Look) (x : Lexicon look.style) where
       export_same : {xs us : Trees} {a b d e : Tree} → xs ≡ us → a ≡ b → d ≡ e → named_export no_place xs a d ≡ named_export no_place us b e
       export_same p q r = ap₂ (λ (us : Trees) (t : Tree × Tree). named_export no_place us t.0 t.1) p (ap₂ (λ (a b : Tree). (a, b)) q r)
 
-  pub export_all_on : (s : Span) (src with_ : Tree) → KeyPart look src → Sound look Alone with_ → (st : Stand) → Sound look st (export_all s src with_)
+  pub export_all_on : (s : Span) (src with_ : Tree) → KeyPart look x.naming src → Sound look x.naming Alone with_ → (st : Stand) → Sound look x.naming st (export_all s src with_)
   export_all_on s src with_ f g st c ts0 r0 h k b ts K q =
-      let i = skip (formats look) Touching q.0 _ q.2 in
-      let j = skip (formats look) Touching i.0 _ i.2 in
-      let z = source_on look x src with_ f g c h.2 r0 h.6 (x.later h.1 h.2 h.5.3 (x.later h.0 h.1 h.4.2 (x.later ts0 h.0 h.3.3 k))) _ j.0 K (skip (formats look) Touching j.0 _ j.2) in record {
+      let i = skip x.naming (formats look) Touching q.0 _ q.2 in
+      let j = skip x.naming (formats look) Touching i.0 _ i.2 in
+      let z = source_on look x src with_ f g c h.2 r0 h.6 (x.later h.1 h.2 h.5.3 (x.later h.0 h.1 h.4.2 (x.later ts0 h.0 h.3.3 k))) _ j.0 K (skip x.naming (formats look) Touching j.0 _ j.2) in record {
         d = z.d;
         m = z.m;
         more = z.more;

@@ -19,7 +19,7 @@ use Rattle.ecma_written.specs.Lexicon.{Lexicon}
 use Rattle.ecma_written.specs.Means.{Known}
 use Rattle.ecma_written.specs.Told.{says}
 use Rattle.ecma_redone.specs.Redo.{Leaves, Mode, Plain, redo}
-use Rattle.ecma_redone.specs.Written.{leaves_of}
+use Rattle.ecma_redone_base.proofs.Naming.{leaves_at}
 use Rattle.ecma_redone_base.proofs.Begins.{is_part}
 use Rattle.ecma_redone_base.proofs.Ends.{unabsent}
 use Rattle.ecma_redone_base.proofs.KeyParts.{KeyPart}
@@ -75,7 +75,7 @@ each_map p q f none h = tt
 each_map p q f (more t us) h = (f t h.0, each_map p q f us h.1)
 
 module _ (look : Look) (x : Lexicon look.style) where
-  pub import_bare : (s : Span) (l : Tree) (st : Stand) → Sound look st (import_named_specifier s l absent)
+  pub import_bare : (s : Span) (l : Tree) (st : Stand) → Sound look x.naming st (import_named_specifier s l absent)
   import_bare s l st c ts0 r0 h k b ts K q =
       let z = id_on look x l c ts0 r0 h.0 k b ts K q in record {
         d = Touching;
@@ -94,10 +94,10 @@ module _ (look : Look) (x : Lexicon look.style) where
         };
       }
 
-  pub import_as : (s : Span) (l i : Tree) → is_absent i ≡ false → KeyPart look i → (st : Stand) → Sound look st (import_named_specifier s l i)
+  pub import_as : (s : Span) (l i : Tree) → is_absent i ≡ false → KeyPart look x.naming i → (st : Stand) → Sound look x.naming st (import_named_specifier s l i)
   import_as s l i e f st c ts0 r0 h k b ts K q =
       let g = subst (λ (v : Bool). By v (Sorted is_ident c (part l (λ y. Spells l y)) ts0 r0) ((m : Input) × (n : Input) × ExportName c (export_name i) (part i (λ y. Spells i y)) ts0 m × TakesWord c as_kind m n × Sorted is_ident c (part l (λ y. Spells l y)) n r0)) e h.0 in
-      let y = export_name_on look x i f c ts0 g.0 g.2 k b ts (λ d m. says (blank · word (codes "as") · blank · laid look Alone l) d m K) (subst (λ (z : Laid). says z b ts K) (laid_import look st s l i e) q) in
+      let y = export_name_on look x i f c ts0 g.0 g.2 k b ts (λ d m. says x.naming (blank · word (codes "as") · blank · laid look Alone l) d m K) (subst (λ (z : Laid). says x.naming z b ts K) (laid_import look st s l i e) q) in
       let o = y.more in
       let z = id_on look x l c g.1 r0 g.4 (x.later g.0 g.1 g.3.3 y.known) Spaced o.0 K o.2 in record {
         d = Touching;
@@ -109,14 +109,14 @@ module _ (look : Look) (x : Lexicon look.style) where
         begins = y.first;
         again = λ g. record {
           tree = import_named_specifier (span (lo ts) z.m.last) z.again.0 y.again.0;
-          spelled = (unabsent (is_absent y.again.0) _ _ (alike is_absent re_is_absent (leaves_of look) Plain i y.again.0 y.again.2 ∙ e) (y.m, o.0, y.again.1, worded look x c as_kind o.1, z.again.1), refl);
+          spelled = (unabsent (is_absent y.again.0) _ _ (alike is_absent re_is_absent (leaves_at look x.naming) Plain i y.again.0 y.again.2 ∙ e) (y.m, o.0, y.again.1, worded look x c as_kind o.1, z.again.1), refl);
           directive = refl;
           quoted = λ p q. refl;
           same = record { so = λ n. ap₂ (λ (t u : Tree). import_named_specifier no_place t u) (z.again.2.so Plain) (y.again.2.so Plain) };
         };
       }
 
-  pub default_import : (s : Span) (l : Tree) (st : Stand) → Sound look st (import_default_specifier s l)
+  pub default_import : (s : Span) (l : Tree) (st : Stand) → Sound look x.naming st (import_default_specifier s l)
   default_import s l st c ts0 r0 h k b ts K q =
       let z = id_on look x l c ts0 r0 h.0 k b ts K q in record {
         d = Touching;
@@ -135,9 +135,9 @@ module _ (look : Look) (x : Lexicon look.style) where
         };
       }
 
-  pub star_import : (s : Span) (l : Tree) (st : Stand) → Sound look st (import_star_as_specifier s l)
+  pub star_import : (s : Span) (l : Tree) (st : Stand) → Sound look x.naming st (import_star_as_specifier s l)
   star_import s l st c ts0 r0 h k b ts K q =
-      let i = skip (formats look) Touching q.0 _ q.2 in
+      let i = skip x.naming (formats look) Touching q.0 _ q.2 in
       let z = id_on look x l c h.1 r0 h.4 (x.later h.0 h.1 h.3.3 (x.later ts0 h.0 h.2.2 k)) Spaced i.0 K i.2 in record {
         d = Touching;
         m = z.m;
@@ -155,7 +155,7 @@ module _ (look : Look) (x : Lexicon look.style) where
         };
       }
 
-  pub export_bare : (s : Span) (o : Tree) → KeyPart look o → (st : Stand) → Sound look st (export_named_specifier s o absent)
+  pub export_bare : (s : Span) (o : Tree) → KeyPart look x.naming o → (st : Stand) → Sound look x.naming st (export_named_specifier s o absent)
   export_bare s o f st c ts0 r0 h k b ts K q =
       let y = export_name_on look x o f c ts0 h.0 h.1 k b ts K q in record {
         d = y.d;
@@ -174,10 +174,10 @@ module _ (look : Look) (x : Lexicon look.style) where
         };
       }
 
-  pub export_as : (s : Span) (o e : Tree) → is_absent e ≡ false → KeyPart look o → KeyPart look e → (st : Stand) → Sound look st (export_named_specifier s o e)
+  pub export_as : (s : Span) (o e : Tree) → is_absent e ≡ false → KeyPart look x.naming o → KeyPart look x.naming e → (st : Stand) → Sound look x.naming st (export_named_specifier s o e)
   export_as s o e a f g st c ts0 r0 h k b ts K q =
       let i = subst (λ (v : Bool). By v (h.0 ≡ r0) ((n : Input) × TakesWord c as_kind h.0 n × ExportName c (export_name e) (part e (λ y. Spells e y)) n r0)) a h.2 in
-      let y = export_name_on look x o f c ts0 h.0 h.1 k b ts (λ d m. says (blank · word (codes "as") · blank · laid look Key e) d m K) (subst (λ (z : Laid). says z b ts K) (laid_export look st s o e a) q) in
+      let y = export_name_on look x o f c ts0 h.0 h.1 k b ts (λ d m. says x.naming (blank · word (codes "as") · blank · laid look Key e) d m K) (subst (λ (z : Laid). says x.naming z b ts K) (laid_export look st s o e a) q) in
       let j = y.more in
       let z = export_name_on look x e g c i.0 r0 i.2 (x.later h.0 i.0 i.1.3 y.known) Spaced j.0 K j.2 in record {
         d = z.d;
@@ -189,16 +189,16 @@ module _ (look : Look) (x : Lexicon look.style) where
         begins = y.first;
         again = λ l. record {
           tree = export_named_specifier (span (lo ts) z.m.last) y.again.0 z.again.0;
-          spelled = (y.m, y.again.1, unabsent (is_absent z.again.0) _ _ (alike is_absent re_is_absent (leaves_of look) Plain e z.again.0 z.again.2 ∙ a) (j.0, worded look x c as_kind j.1, z.again.1), refl);
+          spelled = (y.m, y.again.1, unabsent (is_absent z.again.0) _ _ (alike is_absent re_is_absent (leaves_at look x.naming) Plain e z.again.0 z.again.2 ∙ a) (j.0, worded look x c as_kind j.1, z.again.1), refl);
           directive = refl;
           quoted = λ p q. refl;
           same = record { so = λ n. ap₂ (λ (t u : Tree). export_named_specifier no_place t u) (y.again.2.so Plain) (z.again.2.so Plain) };
         };
       }
 
-  pub star_export : (s : Span) (n : Tree) → KeyPart look n → (st : Stand) → Sound look st (export_namespace_specifier s n)
+  pub star_export : (s : Span) (n : Tree) → KeyPart look x.naming n → (st : Stand) → Sound look x.naming st (export_namespace_specifier s n)
   star_export s n f st c ts0 r0 h k b ts K q =
-      let i = skip (formats look) Touching q.0 _ q.2 in
+      let i = skip x.naming (formats look) Touching q.0 _ q.2 in
       let z = export_name_on look x n f c h.1 r0 h.4 (x.later h.0 h.1 h.3.3 (x.later ts0 h.0 h.2.2 k)) Spaced i.0 K i.2 in record {
         d = z.d;
         m = z.m;
@@ -217,8 +217,8 @@ module _ (look : Look) (x : Lexicon look.style) where
       }
 
   -- the names of a list, each of which stands in braces
-  pub items_separated : (p : Tree → Bool) (v : Bool) (t : Tree) (us : Trees) → EachIs p (more t us) → (b : Gap) (ts : Input) (K : Gap → Input → Type 0) → says (named_items look p v (more t us)) b ts K → says (when v (comma look) · separated look (comma look) (more t us)) b ts K
-  items_separated p v t none e b ts K q = subst (λ (w : Bool). says (if w then (when v (comma look) · laid look Alone t · named_items look p true none) else named_items look p v none) b ts K) e.0 q
+  pub items_separated : (p : Tree → Bool) (v : Bool) (t : Tree) (us : Trees) → EachIs p (more t us) → (b : Gap) (ts : Input) (K : Gap → Input → Type 0) → says x.naming (named_items look p v (more t us)) b ts K → says x.naming (when v (comma look) · separated look (comma look) (more t us)) b ts K
+  items_separated p v t none e b ts K q = subst (λ (w : Bool). says x.naming (if w then (when v (comma look) · laid look Alone t · named_items look p true none) else named_items look p v none) b ts K) e.0 q
   items_separated p v t (more u us) e b ts K q =
-      says_map (when v (comma look)) b ts _ _ (λ d m i. says_map (laid look Alone t) d m _ _ (λ d m j. items_separated p true u us e.1 d m K j) i)
-      (subst (λ (w : Bool). says (if w then (when v (comma look) · laid look Alone t · named_items look p true (more u us)) else named_items look p v (more u us)) b ts K) e.0 q)
+      says_map x.naming (when v (comma look)) b ts _ _ (λ d m i. says_map x.naming (laid look Alone t) d m _ _ (λ d m j. items_separated p true u us e.1 d m K j) i)
+      (subst (λ (w : Bool). says x.naming (if w then (when v (comma look) · laid look Alone t · named_items look p true (more u us)) else named_items look p v (more u us)) b ts K) e.0 q)

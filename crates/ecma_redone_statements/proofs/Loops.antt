@@ -24,7 +24,7 @@ use Rattle.ecma_written.specs.Means.{Known}
 use Rattle.ecma_written.specs.Texts.{mark_text}
 use Rattle.ecma_written.specs.Told.{Told, says}
 use Rattle.ecma_redone.specs.Redo.{Leaves, Plain, Same}
-use Rattle.ecma_redone.specs.Written.{leaves_of}
+use Rattle.ecma_redone_base.proofs.Naming.{leaves_at}
 use Rattle.ecma_redone_base.proofs.Begins.{Begins, fine, item_outer, same_start}
 use Rattle.ecma_redone_base.proofs.Bodies.{follow_closed, item_closed, statement_on}
 use Rattle.ecma_redone_base.proofs.Ends.{above, absent_same, there, unabsent}
@@ -92,21 +92,21 @@ module _ (look : Look) (x : Lexicon look.style) where
     pub m : Input
     pub more : K d m
     pub known : Known r0.places
-    pub again : (kind m ≡ else_kind → kind r0 ≡ else_kind) → (u : Tree) × Sub (unplaced c) (part u (λ y. Spells u y)) ts m × Same (leaves_of look) Plain t u
+    pub again : (kind m ≡ else_kind → kind r0 ≡ else_kind) → (u : Tree) × Sub (unplaced c) (part u (λ y. Spells u y)) ts m × Same (leaves_at look x.naming) Plain t u
 
-  pub body_on : (t : Tree) → Sound look Alone t → (c : Code) (ts0 r0 : Input) → Sub c (part t (λ y. Spells t y)) ts0 r0 → Known ts0.places → (b : Gap) (ts : Input) (K : Gap → Input → Type 0) → says (laid look Alone t · closing look t) b ts K → Bodied t c r0 ts K
+  pub body_on : (t : Tree) → Sound look x.naming Alone t → (c : Code) (ts0 r0 : Input) → Sub c (part t (λ y. Spells t y)) ts0 r0 → Known ts0.places → (b : Gap) (ts : Input) (K : Gap → Input → Type 0) → says x.naming (laid look Alone t · closing look t) b ts K → Bodied t c r0 ts K
   body_on t f c ts0 r0 h k b ts K q =
       let z = statement_on look x t f (item_outer t (statement_item t h.0)) (alone c) ts0 r0 h.1 k b ts K q in record {
         d = z.more.0;
         m = z.m;
         more = z.more.1;
         known = z.known;
-        again = λ l. let w = z.again (follow_closed t r0 z.m (item_closed t (statement_item t h.0)) l) in (w.tree, (alike is_statement re_is_statement (leaves_of look) Plain t w.tree w.same ∙ h.0, w.spelled), w.same);
+        again = λ l. let w = z.again (follow_closed t r0 z.m (item_closed t (statement_item t h.0)) l) in (w.tree, (alike is_statement re_is_statement (leaves_at look x.naming) Plain t w.tree w.same ∙ h.0, w.spelled), w.same);
       }
 
-  pub while_on : (s : Span) (t b : Tree) → Sound look Alone t → Sound look Alone b → (st : Stand) → Sound look st (while_stmt s t b)
+  pub while_on : (s : Span) (t b : Tree) → Sound look x.naming Alone t → Sound look x.naming Alone b → (st : Stand) → Sound look x.naming st (while_stmt s t b)
   while_on s t b f g st c ts0 r0 h k br ts K q =
-      let y = parens_in look x t f c h.0 h.1 h.3 (x.later ts0 h.0 h.2.3 k) _ q.0 (λ d m. says (laid look Alone b · closing look b) d m K) q.2 in
+      let y = parens_in look x t f c h.0 h.1 h.3 (x.later ts0 h.0 h.2.3 k) _ q.0 (λ d m. says x.naming (laid look Alone b · closing look b) d m K) q.2 in
       let z = body_on b g c h.1 r0 h.4 y.known _ y.m K y.more in record {
         d = z.d;
         m = z.m;
@@ -124,11 +124,11 @@ module _ (look : Look) (x : Lexicon look.style) where
         };
       }
 
-  pub do_while_on : (s : Span) (t b : Tree) → Sound look Alone t → Sound look Alone b → (st : Stand) → Sound look st (do_while_stmt s t b)
+  pub do_while_on : (s : Span) (t b : Tree) → Sound look x.naming Alone t → Sound look x.naming Alone b → (st : Stand) → Sound look x.naming st (do_while_stmt s t b)
   do_while_on s t b f g st c ts0 r0 h k br ts K q =
-      let z = body_on b g c h.0 h.1 h.5 (x.later ts0 h.0 h.4.3 k) _ q.0 (λ d m. says (word (codes "while") · gap look · in_parens (laid look Alone t) · semi) d m K) (skip (starts_with_word b || formats look) Touching q.0 _ q.2) in
+      let z = body_on b g c h.0 h.1 h.5 (x.later ts0 h.0 h.4.3 k) _ q.0 (λ d m. says x.naming (word (codes "while") · gap look · in_parens (laid look Alone t) · semi) d m K) (skip x.naming (starts_with_word b || formats look) Touching q.0 _ q.2) in
       let i = z.more in
-      let y = parens_in look x t f c h.2 h.3 h.7 (x.later h.1 h.2 h.6.3 z.known) _ i.0 (λ d m. says semi d m K) (skip (formats look) Touching i.0 _ i.2) in
+      let y = parens_in look x t f c h.2 h.3 h.7 (x.later h.1 h.2 h.6.3 z.known) _ i.0 (λ d m. says x.naming semi d m K) (skip x.naming (formats look) Touching i.0 _ i.2) in
       let o = semi_of Touching y.m K y.more in record {
         d = o.0;
         m = o.1;
@@ -159,24 +159,24 @@ module _ (look : Look) (x : Lexicon look.style) where
     n : Input
     more : J Touching n
     known : Known r0.places
-    again : (u : Tree) × Clause (unplaced c) close (part u (λ y. Spells u y)) ts n × Same (leaves_of look) Plain e u
+    again : (u : Tree) × Clause (unplaced c) close (part u (λ y. Spells u y)) ts n × Same (leaves_at look x.naming) Plain e u
 
-  clause_on : (e : Tree) → Sound look Alone e → (c : Code) (close : ℕ) → nat_le close 60 ≡ true → closes close ≡ true → (v : Bool) → is_absent e ≡ v → (ts0 r0 : Input) → ((m : Input) × By v (ts0 ≡ m) (Expr expression_level c (part e (λ y. Spells e y)) ts0 m) × Takes c close m r0) → Known ts0.places
-      → (b : Gap) (ts : Input) (J : Gap → Input → Type 0) → says (when (not v) (gap look · laid look Alone e)) b ts (λ d m. (n : Input) × Told Div (mark_text close) d m n × J Touching n) → Claused e c close r0 ts J
+  clause_on : (e : Tree) → Sound look x.naming Alone e → (c : Code) (close : ℕ) → nat_le close 60 ≡ true → closes close ≡ true → (v : Bool) → is_absent e ≡ v → (ts0 r0 : Input) → ((m : Input) × By v (ts0 ≡ m) (Expr expression_level c (part e (λ y. Spells e y)) ts0 m) × Takes c close m r0) → Known ts0.places
+      → (b : Gap) (ts : Input) (J : Gap → Input → Type 0) → says x.naming (when (not v) (gap look · laid look Alone e)) b ts (λ d m. (n : Input) × Told Div (mark_text close) d m n × J Touching n) → Claused e c close r0 ts J
   clause_on e f c close p g true a ts0 r0 h k b ts J q = record {
     n = q.0;
     more = q.2;
     known = x.later h.0 r0 h.2.2 (subst (λ (i : Input). Known i.places) h.1 k);
-    again = (absent, (ts, refl, took look x c close q.1), absent_same (leaves_of look) Plain e a);
+    again = (absent, (ts, refl, took look x c close q.1), absent_same (leaves_at look x.naming) Plain e a);
   }
   clause_on e f c close p g false a ts0 r0 h k b ts J q =
-      let i = skip (formats look) b ts (λ d m. says (laid look Alone e) d m (λ d m. (n : Input) × Told Div (mark_text close) d m n × J Touching n)) q in
-      let y = expr look expression_level Alone e f (omega arith) c ts0 h.0 h.1 k _ ts (λ d m. (n : Input) × Told Div (mark_text close) d m n × J Touching n) i in
+      let i = skip x.naming (formats look) b ts (λ d m. says x.naming (laid look Alone e) d m (λ d m. (n : Input) × Told Div (mark_text close) d m n × J Touching n)) q in
+      let y = expr look x.naming expression_level Alone e f (omega arith) c ts0 h.0 h.1 k _ ts (λ d m. (n : Input) × Told Div (mark_text close) d m n × J Touching n) i in
       let o = y.more in let w = y.again (follow_by Alone e h.0 y.m close (marked look x close o.1) g) in record {
         n = o.0;
         more = o.2;
         known = x.later h.0 r0 h.2.2 y.known;
-        again = (w.tree, (y.m, unabsent (is_absent w.tree) _ _ (alike is_absent re_is_absent (leaves_of look) Plain e w.tree w.same ∙ a) (expr_low look expression_level Alone e c ts y.m h.1.0 (omega arith) w), took look x c close o.1), w.same);
+        again = (w.tree, (y.m, unabsent (is_absent w.tree) _ _ (alike is_absent re_is_absent (leaves_at look x.naming) Plain e w.tree w.same ∙ a) (expr_low look x.naming expression_level Alone e c ts y.m h.1.0 (omega arith) w), took look x c close o.1), w.same);
       }
 
   record Rested (t u b : Tree) (c : Code) (r0 : Input) (ts : Input) (K : Gap → Input → Type 0) : Type 0 where
@@ -184,18 +184,18 @@ module _ (look : Look) (x : Lexicon look.style) where
     m : Input
     more : K d m
     known : Known r0.places
-    again : (kind m ≡ else_kind → kind r0 ≡ else_kind) → (v : Tree) × (w : Tree) × (y : Tree) × ForRest (unplaced c) (part v (λ y. Spells v y)) (part w (λ y. Spells w y)) (part y (λ z. Spells y z)) ts m × Same (leaves_of look) Plain t v × Same (leaves_of look) Plain u w × Same (leaves_of look) Plain b y
+    again : (kind m ≡ else_kind → kind r0 ≡ else_kind) → (v : Tree) × (w : Tree) × (y : Tree) × ForRest (unplaced c) (part v (λ y. Spells v y)) (part w (λ y. Spells w y)) (part y (λ z. Spells y z)) ts m × Same (leaves_at look x.naming) Plain t v × Same (leaves_at look x.naming) Plain u w × Same (leaves_at look x.naming) Plain b y
 
   abbrev rest_laid : Tree → Tree → Tree → Laid
   rest_laid t u b = when (is_there t) (gap look · laid look Alone t) · semi_kept · when (is_there u) (gap look · laid look Alone u) · text (codes ")") · laid look Alone b · closing look b
 
-  rest_of : (t u b : Tree) → Sound look Alone t → Sound look Alone u → Sound look Alone b → (c : Code) (ts0 r0 : Input) → ForRest c (part t (λ y. Spells t y)) (part u (λ y. Spells u y)) (part b (λ y. Spells b y)) ts0 r0 → Known ts0.places
-      → (br : Gap) (ts : Input) (K : Gap → Input → Type 0) → says (rest_laid t u b) br ts K → Rested t u b c r0 ts K
+  rest_of : (t u b : Tree) → Sound look x.naming Alone t → Sound look x.naming Alone u → Sound look x.naming Alone b → (c : Code) (ts0 r0 : Input) → ForRest c (part t (λ y. Spells t y)) (part u (λ y. Spells u y)) (part b (λ y. Spells b y)) ts0 r0 → Known ts0.places
+      → (br : Gap) (ts : Input) (K : Gap → Input → Type 0) → says x.naming (rest_laid t u b) br ts K → Rested t u b c r0 ts K
   rest_of t u b f g j c ts0 r0 h k br ts K q =
-      let y = clause_on t f c semicolon_kind refl refl (is_absent t) refl ts0 h.0 h.2 k br ts (λ d m. says (when (is_there u) (gap look · laid look Alone u) · text (codes ")") · laid look Alone b · closing look b) d m K)
-      (subst (λ (v : Bool). says (when v (gap look · laid look Alone t)) br ts (λ d m. says (semi_kept · when (is_there u) (gap look · laid look Alone u) · text (codes ")") · laid look Alone b · closing look b) d m K)) (there t) q) in
-      let z = clause_on u g c right_paren_kind refl refl (is_absent u) refl h.0 h.1 h.3 y.known _ y.n (λ d m. says (laid look Alone b · closing look b) d m K)
-      (subst (λ (v : Bool). says (when v (gap look · laid look Alone u)) Touching y.n (λ d m. says (text (codes ")") · laid look Alone b · closing look b) d m K)) (there u) y.more) in
+      let y = clause_on t f c semicolon_kind refl refl (is_absent t) refl ts0 h.0 h.2 k br ts (λ d m. says x.naming (when (is_there u) (gap look · laid look Alone u) · text (codes ")") · laid look Alone b · closing look b) d m K)
+      (subst (λ (v : Bool). says x.naming (when v (gap look · laid look Alone t)) br ts (λ d m. says x.naming (semi_kept · when (is_there u) (gap look · laid look Alone u) · text (codes ")") · laid look Alone b · closing look b) d m K)) (there t) q) in
+      let z = clause_on u g c right_paren_kind refl refl (is_absent u) refl h.0 h.1 h.3 y.known _ y.n (λ d m. says x.naming (laid look Alone b · closing look b) d m K)
+      (subst (λ (v : Bool). says x.naming (when v (gap look · laid look Alone u)) Touching y.n (λ d m. says x.naming (text (codes ")") · laid look Alone b · closing look b) d m K)) (there u) y.more) in
       let v = body_on b j c h.1 r0 h.4 z.known _ z.n K z.more in record {
         d = v.d;
         m = v.m;
@@ -207,10 +207,10 @@ module _ (look : Look) (x : Lexicon look.style) where
   same_four : {t u v w a b d e : Tree} → t ≡ a → u ≡ b → v ≡ d → w ≡ e → for_stmt no_place t u v w ≡ for_stmt no_place a b d e
   same_four p q r s = ap₂ (λ (t u : Tree × Tree). for_stmt no_place t.0 t.1 u.0 u.1) (ap₂ (λ (t u : Tree). (t, u)) p q) (ap₂ (λ (t u : Tree). (t, u)) r s)
 
-  pub for_variables : (s v : Span) (k : ℕ) (ds : Trees) (t u b : Tree) → AllSound look ds → Sound look Alone t → Sound look Alone u → Sound look Alone b → (st : Stand) → Sound look st (for_stmt s (var_decl v k ds) t u b)
+  pub for_variables : (s v : Span) (k : ℕ) (ds : Trees) (t u b : Tree) → AllSound look x.naming ds → Sound look x.naming Alone t → Sound look x.naming Alone u → Sound look x.naming Alone b → (st : Stand) → Sound look x.naming st (for_stmt s (var_decl v k ds) t u b)
   for_variables s v k ds t u b a f g j st c ts0 r0 h l br ts K q =
       let o = q.2 in
-      let y = bindings_on look x v k ds a (without_in c) h.0 h.1 h.4 (x.later h.3.0 h.0 h.3.2.2 (x.later ts0 h.3.0 h.3.1.3 l)) _ o.0 (λ d m. says (semi_kept · rest_laid t u b) d m K) o.2 in
+      let y = bindings_on look x v k ds a (without_in c) h.0 h.1 h.4 (x.later h.3.0 h.0 h.3.2.2 (x.later ts0 h.3.0 h.3.1.3 l)) _ o.0 (λ d m. says x.naming (semi_kept · rest_laid t u b) d m K) o.2 in
       let e = y.more in
       let z = rest_of t u b f g j c h.2 r0 h.7 (x.later h.1 h.2 h.6.2 y.known) _ e.0 K e.2 in
       let n = keyed look x for_kind q.1 in record {
@@ -236,18 +236,18 @@ module _ (look : Look) (x : Lexicon look.style) where
     n : Input
     more : J Touching n
     told : Takes (unplaced c) semicolon_kind m n
-    again : (u : Tree) × By (is_absent u) (ts ≡ m) ((starts_head ts ≡ true) × Expr expression_level (without_in (unplaced c)) (part u (λ y. Spells u y)) ts m) × Same (leaves_of look) Plain e u
+    again : (u : Tree) × By (is_absent u) (ts ≡ m) ((starts_head ts ≡ true) × Expr expression_level (without_in (unplaced c)) (part u (λ y. Spells u y)) ts m) × Same (leaves_at look x.naming) Plain e u
 
   semicolon_bracket : (m : Input) → kind m ≡ semicolon_kind → kind m ≡ left_bracket_kind → ⊥
   semicolon_bracket m e f = absurd (omega arith)
 
-  start_on : (e : Tree) → Sound look Alone e → (c : Code) (v : Bool) → is_absent e ≡ v → (ts0 m0 : Input) → By v (ts0 ≡ m0) ((starts_head ts0 ≡ true) × Expr expression_level (without_in c) (part e (λ y. Spells e y)) ts0 m0) → Known ts0.places
-      → (b : Gap) (ts : Input) (J : Gap → Input → Type 0) → says (laid look Alone e) b ts (λ d m. (n : Input) × Told Div (mark_text semicolon_kind) d m n × J Touching n) → (Started e c ts J) × Known m0.places
+  start_on : (e : Tree) → Sound look x.naming Alone e → (c : Code) (v : Bool) → is_absent e ≡ v → (ts0 m0 : Input) → By v (ts0 ≡ m0) ((starts_head ts0 ≡ true) × Expr expression_level (without_in c) (part e (λ y. Spells e y)) ts0 m0) → Known ts0.places
+      → (b : Gap) (ts : Input) (J : Gap → Input → Type 0) → says x.naming (laid look Alone e) b ts (λ d m. (n : Input) × Told Div (mark_text semicolon_kind) d m n × J Touching n) → (Started e c ts J) × Known m0.places
   start_on e f c true a ts0 m0 h k b ts J q =
-      let i = subst (λ (l : Laid). says l b ts (λ d m. (n : Input) × Told Div (mark_text semicolon_kind) d m n × J Touching n)) (laid_absent look e a) q in
-      (record { m = ts; n = i.0; more = i.2; told = took look x c semicolon_kind i.1; again = (absent, refl, absent_same (leaves_of look) Plain e a) }, subst (λ (i : Input). Known i.places) h k)
+      let i = subst (λ (l : Laid). says x.naming l b ts (λ d m. (n : Input) × Told Div (mark_text semicolon_kind) d m n × J Touching n)) (laid_absent look e a) q in
+      (record { m = ts; n = i.0; more = i.2; told = took look x c semicolon_kind i.1; again = (absent, refl, absent_same (leaves_at look x.naming) Plain e a) }, subst (λ (i : Input). Known i.places) h k)
   start_on e f c false a ts0 m0 h k b ts J q =
-      let y = expr look expression_level Alone e f (omega arith) (without_in c) ts0 m0 h.1 k b ts (λ d m. (n : Input) × Told Div (mark_text semicolon_kind) d m n × J Touching n) q in
+      let y = expr look x.naming expression_level Alone e f (omega arith) (without_in c) ts0 m0 h.1 k b ts (λ d m. (n : Input) × Told Div (mark_text semicolon_kind) d m n × J Touching n) q in
       let i = y.more in let j = marked look x semicolon_kind i.1 in let w = y.again (follow_by Alone e m0 y.m semicolon_kind j refl) in (
         record {
           m = y.m;
@@ -256,9 +256,9 @@ module _ (look : Look) (x : Lexicon look.style) where
           told = took look x c semicolon_kind i.1;
           again = (
             w.tree,
-            unabsent (is_absent w.tree) _ _ (alike is_absent re_is_absent (leaves_of look) Plain e w.tree w.same ∙ a) (
-              head_again ts0 m0 ts y.m (expr_begins look Alone e (assigning (without_in c)) ts0 m0 b ts _ (above expression_level (level e) (omega arith) h.1.0) y) (semicolon_bracket y.m j) h.0,
-              expr_low look expression_level Alone e (without_in c) ts y.m h.1.0 (omega arith) w,
+            unabsent (is_absent w.tree) _ _ (alike is_absent re_is_absent (leaves_at look x.naming) Plain e w.tree w.same ∙ a) (
+              head_again ts0 m0 ts y.m (expr_begins look x.naming Alone e (assigning (without_in c)) ts0 m0 b ts _ (above expression_level (level e) (omega arith) h.1.0) y) (semicolon_bracket y.m j) h.0,
+              expr_low look x.naming expression_level Alone e (without_in c) ts y.m h.1.0 (omega arith) w,
             ),
             w.same,
           );
@@ -269,11 +269,11 @@ module _ (look : Look) (x : Lexicon look.style) where
   pub re_variables : (l : Leaves) (t u : Tree) → Same l Plain t u → is_variables t ≡ false → is_variables u ≡ false
   re_variables l t u s e = alike is_variables re_is_variables l Plain t u s ∙ e
 
-  pub for_expression : (s : Span) (i t u b : Tree) → is_variables i ≡ false → Sound look Alone i → Sound look Alone t → Sound look Alone u → Sound look Alone b → (st : Stand) (c : Code) (ts0 r0 : Input)
-      → ForExpression c s (part i (λ y. Spells i y)) (part t (λ y. Spells t y)) (part u (λ y. Spells u y)) (part b (λ y. Spells b y)) ts0 r0 → Known ts0.places → (br : Gap) (ts : Input) (K : Gap → Input → Type 0) → says (full look st (for_stmt s i t u b)) br ts K → Out look st (for_stmt s i t u b) c ts0 r0 br ts K
+  pub for_expression : (s : Span) (i t u b : Tree) → is_variables i ≡ false → Sound look x.naming Alone i → Sound look x.naming Alone t → Sound look x.naming Alone u → Sound look x.naming Alone b → (st : Stand) (c : Code) (ts0 r0 : Input)
+      → ForExpression c s (part i (λ y. Spells i y)) (part t (λ y. Spells t y)) (part u (λ y. Spells u y)) (part b (λ y. Spells b y)) ts0 r0 → Known ts0.places → (br : Gap) (ts : Input) (K : Gap → Input → Type 0) → says x.naming (full look st (for_stmt s i t u b)) br ts K → Out look x.naming st (for_stmt s i t u b) c ts0 r0 br ts K
   for_expression s i t u b e d f g j st c ts0 r0 h l br ts K q =
       let o = q.2 in
-      let y = start_on i d c (is_absent i) refl h.0 h.1 h.4 (x.later h.3.0 h.0 h.3.2.2 (x.later ts0 h.3.0 h.3.1.3 l)) _ o.0 (λ d m. says (rest_laid t u b) d m K) o.2 in
+      let y = start_on i d c (is_absent i) refl h.0 h.1 h.4 (x.later h.3.0 h.0 h.3.2.2 (x.later ts0 h.3.0 h.3.1.3 l)) _ o.0 (λ d m. says x.naming (rest_laid t u b) d m K) o.2 in
       let p = y.0 in
       let z = rest_of t u b f g j c h.2 r0 h.6 (x.later h.1 h.2 h.5.2 y.1) _ p.n K p.more in
       let n = keyed look x for_kind q.1 in record {
@@ -286,7 +286,7 @@ module _ (look : Look) (x : Lexicon look.style) where
         begins = λ e. absurd (for_no_else (sym n ∙ e));
         again = λ k. let w = z.again (k.other refl) in record {
           tree = for_stmt (span (lo ts) z.m.last) p.again.0 w.0 w.1 w.2;
-          spelled = as_for (span (lo ts) z.m.last) p.again.0 w.0 w.1 w.2 (unplaced c) ts z.m (re_variables (leaves_of look) i p.again.0 p.again.2 e)
+          spelled = as_for (span (lo ts) z.m.last) p.again.0 w.0 w.1 w.2 (unplaced c) ts z.m (re_variables (leaves_at look x.naming) i p.again.0 p.again.2 e)
               (o.0, p.m, p.n, (q.0, worded look x c for_kind q.1, took look x c left_paren_kind o.1), p.again.1, p.told, w.3, refl);
           directive = refl;
           quoted = λ p q. refl;
@@ -294,10 +294,10 @@ module _ (look : Look) (x : Lexicon look.style) where
         };
       }
 
-  pub for_using : (s v : Span) (w : Bool) (ds : Trees) (t u b : Tree) → AllSound look ds → Sound look Alone t → Sound look Alone u → Sound look Alone b → (st : Stand) → Sound look st (for_stmt s (using_decl v w ds) t u b)
+  pub for_using : (s v : Span) (w : Bool) (ds : Trees) (t u b : Tree) → AllSound look x.naming ds → Sound look x.naming Alone t → Sound look x.naming Alone u → Sound look x.naming Alone b → (st : Stand) → Sound look x.naming st (for_stmt s (using_decl v w ds) t u b)
   for_using s v w ds t u b a f g j st c ts0 r0 h l br ts K q =
       let o = q.2 in
-      let y = used_on look x v w ds a (without_in c) h.0 h.1 h.5 (x.later h.3.0 h.0 h.3.2.2 (x.later ts0 h.3.0 h.3.1.3 l)) _ o.0 (λ d m. says (semi_kept · rest_laid t u b) d m K) o.2 in
+      let y = used_on look x v w ds a (without_in c) h.0 h.1 h.5 (x.later h.3.0 h.0 h.3.2.2 (x.later ts0 h.3.0 h.3.1.3 l)) _ o.0 (λ d m. says x.naming (semi_kept · rest_laid t u b) d m K) o.2 in
       let e = y.more in
       let z = rest_of t u b f g j c h.2 r0 h.8 (x.later h.1 h.2 h.7.2 y.known) _ e.0 K e.2 in
       let n = keyed look x for_kind q.1 in record {

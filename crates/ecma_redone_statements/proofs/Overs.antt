@@ -22,8 +22,8 @@ use Rattle.ecma_written.specs.Lexicon.{Lexicon}
 use Rattle.ecma_written.specs.Means.{Known}
 use Rattle.ecma_written.specs.Texts.{word_text}
 use Rattle.ecma_written.specs.Told.{says}
-use Rattle.ecma_redone.specs.Redo.{AllSame, Leaves, Mode, Plain, Same, kept, redo}
-use Rattle.ecma_redone.specs.Written.{leaves_of}
+use Rattle.ecma_redone.specs.Redo.{AllSame, Leaves, Mode, Plain, Same, redo, kept_at}
+use Rattle.ecma_redone_base.proofs.Naming.{leaves_at}
 use Rattle.ecma_redone_base.proofs.Begins.{Begins, begun, fine, is_loose, is_part, is_weak, same_start}
 use Rattle.ecma_redone_base.proofs.Follow.{closed_calm, follow_by}
 use Rattle.ecma_redone_base.proofs.Shapes.{alike, re_is_place}
@@ -51,7 +51,7 @@ one_bare l (more d none) none a h = absurd (none_more _ _ (a.so Plain))
   where
     none_more : (ts : Trees) (t : Tree) → none ≡ more t ts → ⊥
     none_more ts t e = cc
-one_bare l (more d none) (more u none) a h = (tt, sym (re_is_bare kept Plain u) ∙ (ap (λ (ts : Trees). is_bare_declarator (first_of ts)) (a.so Plain) ∙ (re_is_bare l Plain d ∙ h.1)))
+one_bare l (more d none) (more u none) a h = (tt, sym (re_is_bare (kept_at l.written) Plain u) ∙ (ap (λ (ts : Trees). is_bare_declarator (first_of ts)) (a.so Plain) ∙ (re_is_bare l Plain d ∙ h.1)))
 one_bare l (more d none) (more u (more v vs)) a h = absurd (more_none _ _ _ _ (a.so Plain))
   where
     more_none : (ts : Trees) (t u v : Tree) → more t (more u ts) ≡ more v none → ⊥
@@ -95,16 +95,16 @@ module _ (look : Look) (x : Lexicon look.style) where
     more : K d m
     known : Known r0.places
     lead : kind ts ≡ w
-    again : (kind m ≡ else_kind → kind r0 ≡ else_kind) → (u : Tree) × (v : Tree) × Over (unplaced c) w l (part u (λ y. Spells u y)) (part v (λ y. Spells v y)) ts m × Same (leaves_of look) Plain e u × Same (leaves_of look) Plain b v
+    again : (kind m ≡ else_kind → kind r0 ≡ else_kind) → (u : Tree) × (v : Tree) × Over (unplaced c) w l (part u (λ y. Spells u y)) (part v (λ y. Spells v y)) ts m × Same (leaves_at look x.naming) Plain e u × Same (leaves_at look x.naming) Plain b v
 
   abbrev over_laid : ℕ → Tree → Tree → Laid
   over_laid w e b = text (word_text w) · gap_or look (starts_with_word e) · laid look Alone e · text (codes ")") · laid look Alone b · closing look b
 
-  over_on : (w l : ℕ) → is_word w ≡ true → 1 ≤ l → l ≤ 18 → (e b : Tree) → Sound look Alone e → Sound look Alone b → (c : Code) (ts0 r0 : Input) → Over c w l (part e (λ y. Spells e y)) (part b (λ y. Spells b y)) ts0 r0 → Known ts0.places
-      → (br : Gap) (ts : Input) (K : Gap → Input → Type 0) → says (over_laid w e b) br ts K → Overed w l e b c r0 ts K
+  over_on : (w l : ℕ) → is_word w ≡ true → 1 ≤ l → l ≤ 18 → (e b : Tree) → Sound look x.naming Alone e → Sound look x.naming Alone b → (c : Code) (ts0 r0 : Input) → Over c w l (part e (λ y. Spells e y)) (part b (λ y. Spells b y)) ts0 r0 → Known ts0.places
+      → (br : Gap) (ts : Input) (K : Gap → Input → Type 0) → says x.naming (over_laid w e b) br ts K → Overed w l e b c r0 ts K
   over_on w l p i j e b f g c ts0 r0 h k br ts K q =
-      let o = skip (starts_with_word e || formats look) _ _ _ q.2 in
-      let y = expr look l Alone e f i c h.0 h.1 h.4 (x.later ts0 h.0 h.3.3 k) _ q.0 (λ d m. says (text (codes ")") · laid look Alone b · closing look b) d m K) o in
+      let o = skip x.naming (starts_with_word e || formats look) _ _ _ q.2 in
+      let y = expr look x.naming l Alone e f i c h.0 h.1 h.4 (x.later ts0 h.0 h.3.3 k) _ q.0 (λ d m. says x.naming (text (codes ")") · laid look Alone b · closing look b) d m K) o in
       let n = y.more in
       let z = body_on look x b g c h.2 r0 h.6 (x.later h.1 h.2 h.5.2 y.known) _ n.0 K n.2 in record {
         d = z.d;
@@ -113,16 +113,16 @@ module _ (look : Look) (x : Lexicon look.style) where
         known = z.known;
         lead = keyed look x w q.1;
         again = λ v. let u = z.again v in let t = y.again (follow_by Alone e h.1 y.m right_paren_kind (marked look x right_paren_kind n.1) refl) in
-            (t.tree, u.0, (q.0, y.m, n.0, worded look x c w q.1, expr_low look l Alone e c q.0 y.m h.4.0 j t, took look x c right_paren_kind n.1, u.1), t.same, u.2);
+            (t.tree, u.0, (q.0, y.m, n.0, worded look x c w q.1, expr_low look x.naming l Alone e c q.0 y.m h.4.0 j t, took look x c right_paren_kind n.1, u.1), t.same, u.2);
       }
 
-  pub for_in_target : (s : Span) (a e b : Tree) → is_variables a ≡ false → Sound look Alone a → Sound look Alone e → Sound look Alone b → (st : Stand) (c : Code) (ts0 r0 : Input)
-      → ForIn c s (λ m n. HeadTarget c (part a (λ y. Spells a y)) m n) (part e (λ y. Spells e y)) (part b (λ y. Spells b y)) ts0 r0 → Known ts0.places → (br : Gap) (ts : Input) (K : Gap → Input → Type 0) → says (full look st (for_in_stmt s a e b)) br ts K → Out look st (for_in_stmt s a e b) c ts0 r0 br ts K
+  pub for_in_target : (s : Span) (a e b : Tree) → is_variables a ≡ false → Sound look x.naming Alone a → Sound look x.naming Alone e → Sound look x.naming Alone b → (st : Stand) (c : Code) (ts0 r0 : Input)
+      → ForIn c s (λ m n. HeadTarget c (part a (λ y. Spells a y)) m n) (part e (λ y. Spells e y)) (part b (λ y. Spells b y)) ts0 r0 → Known ts0.places → (br : Gap) (ts : Input) (K : Gap → Input → Type 0) → says x.naming (full look st (for_in_stmt s a e b)) br ts K → Out look x.naming st (for_in_stmt s a e b) c ts0 r0 br ts K
   for_in_target s a e b i d f g st c ts0 r0 h l br ts K q =
       let o = q.2 in
       let t = place_strong a h.3.1 in
-      let y = plain_part look Alone a d t.0 (assigning (without_in c)) h.0 h.1 h.3.2 (x.later h.2.0 h.0 h.2.2.2 (x.later ts0 h.2.0 h.2.1.3 l)) _ o.0 (λ d m. says (gap_or look (ends_with_word a) · over_laid in_kind e b) d m K) o.2 in
-      let z = over_on in_kind expression_level refl (omega arith) (omega arith) e b f g c h.1 r0 h.4 y.known _ y.m K (skip (ends_with_word a || formats look) _ _ _ y.more) in
+      let y = plain_part look x.naming Alone a d t.0 (assigning (without_in c)) h.0 h.1 h.3.2 (x.later h.2.0 h.0 h.2.2.2 (x.later ts0 h.2.0 h.2.1.3 l)) _ o.0 (λ d m. says x.naming (gap_or look (ends_with_word a) · over_laid in_kind e b) d m K) o.2 in
+      let z = over_on in_kind expression_level refl (omega arith) (omega arith) e b f g c h.1 r0 h.4 y.known _ y.m K (skip x.naming (ends_with_word a || formats look) _ _ _ y.more) in
       let n = keyed look x for_kind q.1 in record {
         d = z.d;
         m = z.m;
@@ -133,11 +133,11 @@ module _ (look : Look) (x : Lexicon look.style) where
         begins = λ e. absurd (for_no_else (sym n ∙ e));
         again = λ k. let w = z.again (k.other refl) in let u = y.again (follow_by Alone a h.1 y.m in_kind z.lead refl) in record {
           tree = for_in_stmt (span (lo ts) z.m.last) u.tree w.0 w.1;
-          spelled = as_for_in (span (lo ts) z.m.last) u.tree w.0 w.1 (unplaced c) ts z.m (re_variables look x (leaves_of look) a u.tree u.same i) (
+          spelled = as_for_in (span (lo ts) z.m.last) u.tree w.0 w.1 (unplaced c) ts z.m (re_variables look x (leaves_at look x.naming) a u.tree u.same i) (
             o.0,
             y.m,
             (q.0, worded look x c for_kind q.1, took look x c left_paren_kind o.1),
-            (head_again h.0 h.1 o.0 y.m (begun (is_weak a) (is_loose a) h.0 h.1 o.0 y.m t.1 y.begins) (λ v. in_bracket (sym z.lead ∙ v)) h.3.0, alike (is_place false) (re_is_place false) (leaves_of look) Plain a u.tree u.same ∙ h.3.1, u.spelled),
+            (head_again h.0 h.1 o.0 y.m (begun (is_weak a) (is_loose a) h.0 h.1 o.0 y.m t.1 y.begins) (λ v. in_bracket (sym z.lead ∙ v)) h.3.0, alike (is_place false) (re_is_place false) (leaves_at look x.naming) Plain a u.tree u.same ∙ h.3.1, u.spelled),
             w.2,
             refl,
           );
@@ -162,9 +162,9 @@ module _ (look : Look) (x : Lexicon look.style) where
     lead : kind ts ≡ for_kind
     again : ForAwaitOpen w (unplaced c) ts n
 
-  open_on : (w : Bool) (c : Code) (ts0 r0 : Input) → ForAwaitOpen w c ts0 r0 → Known ts0.places → (b : Gap) (ts : Input) (K : Gap → Input → Type 0) → says (word (codes "for") · when w (blank · word (codes "await")) · gap look · text (codes "(")) b ts K → Open w c r0 b ts K
+  open_on : (w : Bool) (c : Code) (ts0 r0 : Input) → ForAwaitOpen w c ts0 r0 → Known ts0.places → (b : Gap) (ts : Input) (K : Gap → Input → Type 0) → says x.naming (word (codes "for") · when w (blank · word (codes "await")) · gap look · text (codes "(")) b ts K → Open w c r0 b ts K
   open_on false c ts0 r0 h l b ts K q =
-      let o = skip (formats look) _ _ _ q.2 in record {
+      let o = skip x.naming (formats look) _ _ _ q.2 in record {
         n = o.0;
         more = o.2;
         known = x.later h.0 r0 h.2.2 (x.later ts0 h.0 h.1.3 l);
@@ -174,7 +174,7 @@ module _ (look : Look) (x : Lexicon look.style) where
       }
   open_on true c ts0 r0 h l b ts K q =
       let i = q.2 in
-      let o = skip (formats look) _ _ _ i.2 in record {
+      let o = skip x.naming (formats look) _ _ _ i.2 in record {
         n = o.0;
         more = o.2;
         known = x.later h.1 r0 h.5.2 (x.later h.0 h.1 h.4.3 (x.later ts0 h.0 h.3.3 l));
@@ -183,13 +183,13 @@ module _ (look : Look) (x : Lexicon look.style) where
         again = (q.0, i.0, h.2, worded look x c for_kind q.1, worded look x c await_kind i.1, took look x c left_paren_kind o.1);
       }
 
-  pub for_of_target : (s : Span) (w : Bool) (a e b : Tree) → is_variables a ≡ false → Sound look Alone a → Sound look Alone e → Sound look Alone b → (st : Stand) (c : Code) (ts0 r0 : Input)
-      → ForOf c s w (λ m n. OfTarget c w (part a (λ y. Spells a y)) m n) (part e (λ y. Spells e y)) (part b (λ y. Spells b y)) ts0 r0 → Known ts0.places → (br : Gap) (ts : Input) (K : Gap → Input → Type 0) → says (full look st (for_of_stmt s w a e b)) br ts K → Out look st (for_of_stmt s w a e b) c ts0 r0 br ts K
+  pub for_of_target : (s : Span) (w : Bool) (a e b : Tree) → is_variables a ≡ false → Sound look x.naming Alone a → Sound look x.naming Alone e → Sound look x.naming Alone b → (st : Stand) (c : Code) (ts0 r0 : Input)
+      → ForOf c s w (λ m n. OfTarget c w (part a (λ y. Spells a y)) m n) (part e (λ y. Spells e y)) (part b (λ y. Spells b y)) ts0 r0 → Known ts0.places → (br : Gap) (ts : Input) (K : Gap → Input → Type 0) → says x.naming (full look st (for_of_stmt s w a e b)) br ts K → Out look x.naming st (for_of_stmt s w a e b) c ts0 r0 br ts K
   for_of_target s w a e b i d f g st c ts0 r0 h l br ts K q =
-      let o = open_on w c ts0 h.0 h.2 l br ts (λ d m. says (laid look Alone a · gap_or look (ends_with_word a) · over_laid of_kind e b) d m K) q in
+      let o = open_on w c ts0 h.0 h.2 l br ts (λ d m. says x.naming (laid look Alone a · gap_or look (ends_with_word a) · over_laid of_kind e b) d m K) q in
       let t = place_strong a h.3.1.1 in
-      let y = plain_part look Alone a d t.0 (assigning (without_in c)) h.0 h.1 h.3.1.2 o.known _ o.n (λ d m. says (gap_or look (ends_with_word a) · over_laid of_kind e b) d m K) o.more in
-      let z = over_on of_kind assignment_level refl (omega arith) (omega arith) e b f g c h.1 r0 h.4 y.known _ y.m K (skip (ends_with_word a || formats look) _ _ _ y.more) in
+      let y = plain_part look x.naming Alone a d t.0 (assigning (without_in c)) h.0 h.1 h.3.1.2 o.known _ o.n (λ d m. says x.naming (gap_or look (ends_with_word a) · over_laid of_kind e b) d m K) o.more in
+      let z = over_on of_kind assignment_level refl (omega arith) (omega arith) e b f g c h.1 r0 h.4 y.known _ y.m K (skip x.naming (ends_with_word a || formats look) _ _ _ y.more) in
       let v = begun (is_weak a) (is_loose a) h.0 h.1 o.n y.m t.1 y.begins in record {
         d = z.d;
         m = z.m;
@@ -200,13 +200,13 @@ module _ (look : Look) (x : Lexicon look.style) where
         begins = λ e. absurd (for_no_else (sym o.lead ∙ e));
         again = λ k. let j = z.again (k.other refl) in let u = y.again (follow_by Alone a h.1 y.m of_kind z.lead refl) in record {
           tree = for_of_stmt (span (lo ts) z.m.last) w u.tree j.0 j.1;
-          spelled = as_for_of (span (lo ts) z.m.last) w u.tree j.0 j.1 (unplaced c) ts z.m (re_variables look x (leaves_of look) a u.tree u.same i) (
+          spelled = as_for_of (span (lo ts) z.m.last) w u.tree j.0 j.1 (unplaced c) ts z.m (re_variables look x (leaves_at look x.naming) a u.tree u.same i) (
             o.n,
             y.m,
             o.again,
             (
               of_again w h.0 h.1 o.n y.m (subst (λ (z : Bool). Begins z h.0 h.1 o.n y.m) t.2 v) z.lead h.4.3.0 h.3.0,
-              (head_again h.0 h.1 o.n y.m v (λ n. of_bracket (sym z.lead ∙ n)) h.3.1.0, alike (is_place false) (re_is_place false) (leaves_of look) Plain a u.tree u.same ∙ h.3.1.1, u.spelled),
+              (head_again h.0 h.1 o.n y.m v (λ n. of_bracket (sym z.lead ∙ n)) h.3.1.0, alike (is_place false) (re_is_place false) (leaves_at look x.naming) Plain a u.tree u.same ∙ h.3.1.1, u.spelled),
             ),
             j.2,
             refl,
@@ -223,11 +223,11 @@ module _ (look : Look) (x : Lexicon look.style) where
       three : (z : Bool) {a u b v d w : Tree} → a ≡ u → b ≡ v → d ≡ w → for_of_stmt no_place z a b d ≡ for_of_stmt no_place z u v w
       three z p q r = ap₂ (λ (t : Tree × Tree) (e : Tree). for_of_stmt no_place z t.0 t.1 e) (ap₂ (λ (t a : Tree). (t, a)) p q) r
 
-  pub for_of_variables : (s : Span) (w : Bool) (p : Span) (k : ℕ) (ds : Trees) (e b : Tree) → AllSound look ds → Sound look Alone e → Sound look Alone b → (st : Stand) → Sound look st (for_of_stmt s w (var_decl p k ds) e b)
+  pub for_of_variables : (s : Span) (w : Bool) (p : Span) (k : ℕ) (ds : Trees) (e b : Tree) → AllSound look x.naming ds → Sound look x.naming Alone e → Sound look x.naming Alone b → (st : Stand) → Sound look x.naming st (for_of_stmt s w (var_decl p k ds) e b)
   for_of_variables s w p k ds e b a f g st c ts0 r0 h l br ts K q =
-      let o = open_on w c ts0 h.0 h.2 l br ts (λ d m. says (laid look Alone (var_decl p k ds) · gap_or look (ends_with_word (var_decl p k ds)) · over_laid of_kind e b) d m K) q in
-      let y = bindings_on look x p k ds a (without_in c) h.0 h.1 h.3.1 o.known _ o.n (λ d m. says (gap_or look (ends_with_word (var_decl p k ds)) · over_laid of_kind e b) d m K) o.more in
-      let z = over_on of_kind assignment_level refl (omega arith) (omega arith) e b f g c h.1 r0 h.4 y.known _ y.m K (skip (ends_with_word (var_decl p k ds) || formats look) y.d y.m _ y.more) in record {
+      let o = open_on w c ts0 h.0 h.2 l br ts (λ d m. says x.naming (laid look Alone (var_decl p k ds) · gap_or look (ends_with_word (var_decl p k ds)) · over_laid of_kind e b) d m K) q in
+      let y = bindings_on look x p k ds a (without_in c) h.0 h.1 h.3.1 o.known _ o.n (λ d m. says x.naming (gap_or look (ends_with_word (var_decl p k ds)) · over_laid of_kind e b) d m K) o.more in
+      let z = over_on of_kind assignment_level refl (omega arith) (omega arith) e b f g c h.1 r0 h.4 y.known _ y.m K (skip x.naming (ends_with_word (var_decl p k ds) || formats look) y.d y.m _ y.more) in record {
         d = z.d;
         m = z.m;
         more = z.more;
@@ -237,7 +237,7 @@ module _ (look : Look) (x : Lexicon look.style) where
         begins = λ e. absurd (for_no_else (sym o.lead ∙ e));
         again = λ i. let j = z.again (i.other refl) in let u = y.again (closed_calm y.m of_kind z.lead refl) in record {
           tree = for_of_stmt (span (lo ts) z.m.last) w (var_decl (span (lo o.n) y.m.last) k u.0) j.0 j.1;
-          spelled = (o.n, y.m, o.again, (one_bare (leaves_of look) ds u.0 u.2 h.3.0, u.1, refl), j.2, refl);
+          spelled = (o.n, y.m, o.again, (one_bare (leaves_at look x.naming) ds u.0 u.2 h.3.0, u.1, refl), j.2, refl);
           directive = refl;
           quoted = λ p q. refl;
           same = record { so = λ n. three w (ap (λ (us : Trees). var_decl no_place k us) (u.2.so Plain)) (j.3.so Plain) (j.4.so Plain) };
@@ -247,11 +247,11 @@ module _ (look : Look) (x : Lexicon look.style) where
       three : (z : Bool) {a u b v d w : Tree} → a ≡ u → b ≡ v → d ≡ w → for_of_stmt no_place z a b d ≡ for_of_stmt no_place z u v w
       three z p q r = ap₂ (λ (t : Tree × Tree) (e : Tree). for_of_stmt no_place z t.0 t.1 e) (ap₂ (λ (t a : Tree). (t, a)) p q) r
 
-  pub for_in_variables : (s p : Span) (k : ℕ) (ds : Trees) (e b : Tree) → AllSound look ds → Sound look Alone e → Sound look Alone b → (st : Stand) → Sound look st (for_in_stmt s (var_decl p k ds) e b)
+  pub for_in_variables : (s p : Span) (k : ℕ) (ds : Trees) (e b : Tree) → AllSound look x.naming ds → Sound look x.naming Alone e → Sound look x.naming Alone b → (st : Stand) → Sound look x.naming st (for_in_stmt s (var_decl p k ds) e b)
   for_in_variables s p k ds e b a f g st c ts0 r0 h l br ts K q =
       let o = q.2 in
-      let y = bindings_on look x p k ds a (without_in c) h.0 h.1 h.3.1 (x.later h.2.0 h.0 h.2.2.2 (x.later ts0 h.2.0 h.2.1.3 l)) _ o.0 (λ d m. says (gap_or look (ends_with_word (var_decl p k ds)) · over_laid in_kind e b) d m K) o.2 in
-      let z = over_on in_kind expression_level refl (omega arith) (omega arith) e b f g c h.1 r0 h.4 y.known _ y.m K (skip (ends_with_word (var_decl p k ds) || formats look) y.d y.m _ y.more) in
+      let y = bindings_on look x p k ds a (without_in c) h.0 h.1 h.3.1 (x.later h.2.0 h.0 h.2.2.2 (x.later ts0 h.2.0 h.2.1.3 l)) _ o.0 (λ d m. says x.naming (gap_or look (ends_with_word (var_decl p k ds)) · over_laid in_kind e b) d m K) o.2 in
+      let z = over_on in_kind expression_level refl (omega arith) (omega arith) e b f g c h.1 r0 h.4 y.known _ y.m K (skip x.naming (ends_with_word (var_decl p k ds) || formats look) y.d y.m _ y.more) in
       let n = keyed look x for_kind q.1 in record {
         d = z.d;
         m = z.m;
@@ -262,7 +262,7 @@ module _ (look : Look) (x : Lexicon look.style) where
         begins = λ e. absurd (for_no_else (sym n ∙ e));
         again = λ i. let j = z.again (i.other refl) in let u = y.again (closed_calm y.m in_kind z.lead refl) in record {
           tree = for_in_stmt (span (lo ts) z.m.last) (var_decl (span (lo o.0) y.m.last) k u.0) j.0 j.1;
-          spelled = (o.0, y.m, (q.0, worded look x c for_kind q.1, took look x c left_paren_kind o.1), (one_bare (leaves_of look) ds u.0 u.2 h.3.0, u.1, refl), j.2, refl);
+          spelled = (o.0, y.m, (q.0, worded look x c for_kind q.1, took look x c left_paren_kind o.1), (one_bare (leaves_at look x.naming) ds u.0 u.2 h.3.0, u.1, refl), j.2, refl);
           directive = refl;
           quoted = λ p q. refl;
           same = record { so = λ n. three (ap (λ (us : Trees). var_decl no_place k us) (u.2.so Plain)) (j.3.so Plain) (j.4.so Plain) };
@@ -272,11 +272,11 @@ module _ (look : Look) (x : Lexicon look.style) where
       three : {a u b v d w : Tree} → a ≡ u → b ≡ v → d ≡ w → for_in_stmt no_place a b d ≡ for_in_stmt no_place u v w
       three p q r = ap₂ (λ (t : Tree × Tree) (e : Tree). for_in_stmt no_place t.0 t.1 e) (ap₂ (λ (t a : Tree). (t, a)) p q) r
 
-  pub for_of_using : (s : Span) (w : Bool) (p : Span) (v : Bool) (ds : Trees) (e b : Tree) → AllSound look ds → Sound look Alone e → Sound look Alone b → (st : Stand) → Sound look st (for_of_stmt s w (using_decl p v ds) e b)
+  pub for_of_using : (s : Span) (w : Bool) (p : Span) (v : Bool) (ds : Trees) (e b : Tree) → AllSound look x.naming ds → Sound look x.naming Alone e → Sound look x.naming Alone b → (st : Stand) → Sound look x.naming st (for_of_stmt s w (using_decl p v ds) e b)
   for_of_using s w p v ds e b a f g st c ts0 r0 h l br ts K q =
-      let o = open_on w c ts0 h.0 h.2 l br ts (λ d m. says (laid look Alone (using_decl p v ds) · gap_or look (ends_with_word (using_decl p v ds)) · over_laid of_kind e b) d m K) q in
-      let y = used_on look x p v ds a (without_in c) h.0 h.1 h.3.2 o.known _ o.n (λ d m. says (gap_or look (ends_with_word (using_decl p v ds)) · over_laid of_kind e b) d m K) o.more in
-      let z = over_on of_kind assignment_level refl (omega arith) (omega arith) e b f g c h.1 r0 h.4 y.known _ y.m K (skip (ends_with_word (using_decl p v ds) || formats look) y.d y.m _ y.more) in record {
+      let o = open_on w c ts0 h.0 h.2 l br ts (λ d m. says x.naming (laid look Alone (using_decl p v ds) · gap_or look (ends_with_word (using_decl p v ds)) · over_laid of_kind e b) d m K) q in
+      let y = used_on look x p v ds a (without_in c) h.0 h.1 h.3.2 o.known _ o.n (λ d m. says x.naming (gap_or look (ends_with_word (using_decl p v ds)) · over_laid of_kind e b) d m K) o.more in
+      let z = over_on of_kind assignment_level refl (omega arith) (omega arith) e b f g c h.1 r0 h.4 y.known _ y.m K (skip x.naming (ends_with_word (using_decl p v ds) || formats look) y.d y.m _ y.more) in record {
         d = z.d;
         m = z.m;
         more = z.more;
@@ -286,7 +286,7 @@ module _ (look : Look) (x : Lexicon look.style) where
         begins = λ e. absurd (for_no_else (sym o.lead ∙ e));
         again = λ i. let j = z.again (i.other refl) in let u = y.again (closed_calm y.m of_kind z.lead refl) in record {
           tree = for_of_stmt (span (lo ts) z.m.last) w (using_decl (span (lo o.n) y.m.last) v u.0) j.0 j.1;
-          spelled = (o.n, y.m, o.again, (one_bare (leaves_of look) ds u.0 u.2 h.3.0, y.starts h.3.1, u.1, refl), j.2, refl);
+          spelled = (o.n, y.m, o.again, (one_bare (leaves_at look x.naming) ds u.0 u.2 h.3.0, y.starts h.3.1, u.1, refl), j.2, refl);
           directive = refl;
           quoted = λ p q. refl;
           same = record { so = λ n. three w (ap (λ (us : Trees). using_decl no_place v us) (u.2.so Plain)) (j.3.so Plain) (j.4.so Plain) };
@@ -296,11 +296,11 @@ module _ (look : Look) (x : Lexicon look.style) where
       three : (z : Bool) {a u b v d w : Tree} → a ≡ u → b ≡ v → d ≡ w → for_of_stmt no_place z a b d ≡ for_of_stmt no_place z u v w
       three z p q r = ap₂ (λ (t : Tree × Tree) (e : Tree). for_of_stmt no_place z t.0 t.1 e) (ap₂ (λ (t a : Tree). (t, a)) p q) r
 
-  pub for_in_using : (s p : Span) (v : Bool) (ds : Trees) (e b : Tree) → AllSound look ds → Sound look Alone e → Sound look Alone b → (st : Stand) → Sound look st (for_in_stmt s (using_decl p v ds) e b)
+  pub for_in_using : (s p : Span) (v : Bool) (ds : Trees) (e b : Tree) → AllSound look x.naming ds → Sound look x.naming Alone e → Sound look x.naming Alone b → (st : Stand) → Sound look x.naming st (for_in_stmt s (using_decl p v ds) e b)
   for_in_using s p v ds e b a f g st c ts0 r0 h l br ts K q =
       let o = q.2 in
-      let y = used_on look x p v ds a (without_in c) h.0 h.1 h.3.2 (x.later h.2.0 h.0 h.2.2.2 (x.later ts0 h.2.0 h.2.1.3 l)) _ o.0 (λ d m. says (gap_or look (ends_with_word (using_decl p v ds)) · over_laid in_kind e b) d m K) o.2 in
-      let z = over_on in_kind expression_level refl (omega arith) (omega arith) e b f g c h.1 r0 h.4 y.known _ y.m K (skip (ends_with_word (using_decl p v ds) || formats look) y.d y.m _ y.more) in
+      let y = used_on look x p v ds a (without_in c) h.0 h.1 h.3.2 (x.later h.2.0 h.0 h.2.2.2 (x.later ts0 h.2.0 h.2.1.3 l)) _ o.0 (λ d m. says x.naming (gap_or look (ends_with_word (using_decl p v ds)) · over_laid in_kind e b) d m K) o.2 in
+      let z = over_on in_kind expression_level refl (omega arith) (omega arith) e b f g c h.1 r0 h.4 y.known _ y.m K (skip x.naming (ends_with_word (using_decl p v ds) || formats look) y.d y.m _ y.more) in
       let n = keyed look x for_kind q.1 in record {
         d = z.d;
         m = z.m;
@@ -311,7 +311,7 @@ module _ (look : Look) (x : Lexicon look.style) where
         begins = λ e. absurd (for_no_else (sym n ∙ e));
         again = λ i. let j = z.again (i.other refl) in let u = y.again (closed_calm y.m in_kind z.lead refl) in record {
           tree = for_in_stmt (span (lo ts) z.m.last) (using_decl (span (lo o.0) y.m.last) v u.0) j.0 j.1;
-          spelled = (o.0, y.m, (q.0, worded look x c for_kind q.1, took look x c left_paren_kind o.1), (one_bare (leaves_of look) ds u.0 u.2 h.3.0, y.starts h.3.1, u.1, refl), j.2, refl);
+          spelled = (o.0, y.m, (q.0, worded look x c for_kind q.1, took look x c left_paren_kind o.1), (one_bare (leaves_at look x.naming) ds u.0 u.2 h.3.0, y.starts h.3.1, u.1, refl), j.2, refl);
           directive = refl;
           quoted = λ p q. refl;
           same = record { so = λ n. three (ap (λ (us : Trees). using_decl no_place v us) (u.2.so Plain)) (j.3.so Plain) (j.4.so Plain) };

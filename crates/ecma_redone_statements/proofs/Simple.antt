@@ -20,7 +20,7 @@ use Rattle.ecma_written.specs.Lexicon.{Lexicon}
 use Rattle.ecma_written.specs.Means.{Known}
 use Rattle.ecma_written.specs.Told.{says}
 use Rattle.ecma_redone.specs.Redo.{Plain, Same}
-use Rattle.ecma_redone.specs.Written.{leaves_of}
+use Rattle.ecma_redone_base.proofs.Naming.{leaves_at}
 use Rattle.ecma_redone_base.proofs.Begins.{Begins, fine, no_else, same_start}
 use Rattle.ecma_redone_base.proofs.Bodies.{braced}
 use Rattle.ecma_redone_base.proofs.Ends.{Quiet, above, ended_known, quiet_at}
@@ -74,10 +74,10 @@ debugger_else : debugger_kind ≡ else_kind → ⊥
 debugger_else e = omega arith
 
 module _ (look : Look) (x : Lexicon look.style) where
-  pub expression_on : (s : Span) (e : Tree) → Sound look Alone e → (st : Stand) → Sound look st (expr_stmt s e)
+  pub expression_on : (s : Span) (e : Tree) → Sound look x.naming Alone e → (st : Stand) → Sound look x.naming st (expr_stmt s e)
   expression_on s e f st c ts0 r0 h k b ts K q =
-      let y = expr look expression_level Alone e f (omega arith) c ts0 h.0 h.2 k b ts _ q in
-      let u = expr_begins look Alone e (assigning c) ts0 h.0 b ts _ (above expression_level (level e) (omega arith) h.2.0) y in
+      let y = expr look x.naming expression_level Alone e f (omega arith) c ts0 h.0 h.2 k b ts _ q in
+      let u = expr_begins look x.naming Alone e (assigning c) ts0 h.0 b ts _ (above expression_level (level e) (omega arith) h.2.0) y in
       let o = semi_of y.d y.m K y.more in let i = quiet_at look x o.2 in record {
         d = o.0;
         m = o.1;
@@ -88,16 +88,16 @@ module _ (look : Look) (x : Lexicon look.style) where
         begins = no_else ts0 h.0 ts y.m u;
         again = λ g. let w = y.again (record { quiet = λ z. i.calm; other = λ z. absurd (no_item e (above expression_level (level e) (omega arith) h.2.0) z) }) in record {
           tree = expr_stmt (span (lo ts) o.1.last) w.tree;
-          spelled = (y.m, starts_again ts0 h.0 ts y.m u i h.1, expr_low look expression_level Alone e c ts y.m h.2.0 (omega arith) w, ended look x c (statement_end (unplaced c) ts w.tree) o.2, refl);
+          spelled = (y.m, starts_again ts0 h.0 ts y.m u i h.1, expr_low look x.naming expression_level Alone e c ts y.m h.2.0 (omega arith) w, ended look x c (statement_end (unplaced c) ts w.tree) o.2, refl);
           directive = w.quoted (span (lo ts) o.1.last) s;
           quoted = λ p q. refl;
           same = record { so = λ n. ap (λ (t : Tree). expr_stmt no_place t) (w.same.so Plain) };
         };
       }
 
-  pub block_on : (s : Span) (ss : Trees) → AllSound look ss → (st : Stand) → Sound look st (block_stmt s ss)
+  pub block_on : (s : Span) (ss : Trees) → AllSound look x.naming ss → (st : Stand) → Sound look x.naming st (block_stmt s ss)
   block_on s ss a st c ts0 r0 h k b ts K q =
-      let z = braced look x c false ss a ts0 h.0 r0 h.1 h.2 k b ts K (record { lo = record { 0 = s.hi.0 - 1 }; hi = s.hi }) (skip_mark (marked_as_body st) s.lo _ _ _ q) in record {
+      let z = braced look x c false ss a ts0 h.0 r0 h.1 h.2 k b ts K (record { lo = record { 0 = s.hi.0 - 1 }; hi = s.hi }) (skip_mark x.naming (marked_as_body st) s.lo _ _ _ q) in record {
         d = Touching;
         m = z.m;
         more = z.more;
@@ -122,21 +122,21 @@ module _ (look : Look) (x : Lexicon look.style) where
     pub m : Input
     pub more : K Touching m
     pub known : Known r0.places
-    pub again : (u : Tree) × InParens (unplaced c) (part u (λ y. Spells u y)) ts m × Same (leaves_of look) Plain e u
+    pub again : (u : Tree) × InParens (unplaced c) (part u (λ y. Spells u y)) ts m × Same (leaves_at look x.naming) Plain e u
 
-  pub parens_in : (e : Tree) → Sound look Alone e → (c : Code) (ts0 r0 : Input) → InParens c (part e (λ y. Spells e y)) ts0 r0 → Known ts0.places → (b : Gap) (ts : Input) (K : Gap → Input → Type 0) → says (in_parens (laid look Alone e)) b ts K → Parens e c r0 b ts K
+  pub parens_in : (e : Tree) → Sound look x.naming Alone e → (c : Code) (ts0 r0 : Input) → InParens c (part e (λ y. Spells e y)) ts0 r0 → Known ts0.places → (b : Gap) (ts : Input) (K : Gap → Input → Type 0) → says x.naming (in_parens (laid look Alone e)) b ts K → Parens e c r0 b ts K
   parens_in e f c ts0 r0 h k b ts K q =
-      let y = expr look expression_level Alone e f (omega arith) c h.0 h.1 h.3 (x.later ts0 h.0 h.2.2 k) _ q.0 _ q.2 in
+      let y = expr look x.naming expression_level Alone e f (omega arith) c h.0 h.1 h.3 (x.later ts0 h.0 h.2.2 k) _ q.0 _ q.2 in
       let o = y.more in let w = y.again (follow_by Alone e h.1 y.m right_paren_kind (marked look x right_paren_kind o.1) refl) in record {
         m = o.0;
         more = o.2;
         known = x.later h.1 r0 h.4.2 y.known;
-        again = (w.tree, (q.0, y.m, took look x c left_paren_kind q.1, expr_low look expression_level Alone e c q.0 y.m h.3.0 (omega arith) w, took look x c right_paren_kind o.1), w.same);
+        again = (w.tree, (q.0, y.m, took look x c left_paren_kind q.1, expr_low look x.naming expression_level Alone e c q.0 y.m h.3.0 (omega arith) w, took look x c right_paren_kind o.1), w.same);
       }
 
   -- ---- 14.4, 14.16
 
-  pub empty_on : (s : Span) (st : Stand) → Sound look st (empty_stmt s)
+  pub empty_on : (s : Span) (st : Stand) → Sound look x.naming st (empty_stmt s)
   empty_on s st c ts0 r0 h k b ts K q = record {
     d = Touching;
     m = q.0;
@@ -148,7 +148,7 @@ module _ (look : Look) (x : Lexicon look.style) where
     again = λ g. record { tree = empty_stmt (span (lo ts) q.0.last); spelled = (took look x c semicolon_kind q.1, refl); directive = refl; quoted = λ p q. refl; same = record { so = λ n. refl } };
   }
 
-  pub debugger_on : (s : Span) (st : Stand) → Sound look st (debugger_stmt s)
+  pub debugger_on : (s : Span) (st : Stand) → Sound look x.naming st (debugger_stmt s)
   debugger_on s st c ts0 r0 h k b ts K q = let o = semi_of Touching q.0 K q.2 in record {
     d = o.0;
     m = o.1;

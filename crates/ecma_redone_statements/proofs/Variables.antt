@@ -20,7 +20,7 @@ use Rattle.ecma_written.specs.Lexicon.{Lexicon}
 use Rattle.ecma_written.specs.Means.{Known}
 use Rattle.ecma_written.specs.Told.{says}
 use Rattle.ecma_redone.specs.Redo.{AllSame, Plain}
-use Rattle.ecma_redone.specs.Written.{leaves_of}
+use Rattle.ecma_redone_base.proofs.Naming.{leaves_at}
 use Rattle.ecma_redone_base.proofs.Begins.{Begins, Starts, fine, is_loose, is_part, is_weak, same_start}
 use Rattle.ecma_redone_base.proofs.Ends.{ended_known, initial_on, quiet_at, there}
 use Rattle.ecma_redone_base.proofs.Follow.{calm}
@@ -61,11 +61,11 @@ module _ (look : Look) (x : Lexicon look.style) where
   binding_plain (object_pat s ps) h = (refl, refl)
   binding_plain _ h = absurd (true≢false (sym h))
 
-  pub declarator_on : (s : Span) (n e : Tree) → Sound look Alone n → Sound look Alone e → (st : Stand) → Sound look st (var_declarator s n e)
+  pub declarator_on : (s : Span) (n e : Tree) → Sound look x.naming Alone n → Sound look x.naming Alone e → (st : Stand) → Sound look x.naming st (var_declarator s n e)
   declarator_on s n e f g st c ts0 r0 h k b ts K q =
       let p = binding_plain n h.1 in
-      let y = plain_part look Alone n f p.0 (binding c) ts0 h.0 h.2 k b ts _ q in
-      let v = initial_on look x e g c c (is_absent e) refl h.0 r0 h.3 y.known y.d y.m K (subst (λ (w : Bool). says (when w (gap look · text (codes "=") · gap look · laid look Alone e)) y.d y.m K) (there e) y.more) in record {
+      let y = plain_part look x.naming Alone n f p.0 (binding c) ts0 h.0 h.2 k b ts _ q in
+      let v = initial_on look x e g c c (is_absent e) refl h.0 r0 h.3 y.known y.d y.m K (subst (λ (w : Bool). says x.naming (when w (gap look · text (codes "=") · gap look · laid look Alone e)) y.d y.m K) (there e) y.more) in record {
         d = v.d;
         m = v.m;
         more = v.more;
@@ -75,7 +75,7 @@ module _ (look : Look) (x : Lexicon look.style) where
         begins = v.begins ts0 ts (binding_begins n ts0 h.0 ts y.m h.1 y.begins);
         again = λ l. let w = y.again (record { quiet = λ z. v.calms (l.quiet refl); other = λ z. absurd (true≢false (sym z ∙ p.1)) }) in let o = v.again (l.quiet refl) in record {
           tree = var_declarator (span (lo ts) v.m.last) w.tree o.0;
-          spelled = (y.m, alike is_binding re_is_binding (leaves_of look) Plain n w.tree w.same ∙ h.1, w.spelled, o.1, refl);
+          spelled = (y.m, alike is_binding re_is_binding (leaves_at look x.naming) Plain n w.tree w.same ∙ h.1, w.spelled, o.1, refl);
           directive = refl;
           quoted = λ p q. refl;
           same = record { so = λ n. ap₂ (λ (t u : Tree). var_declarator no_place t u) (w.same.so Plain) (o.2.so Plain) };
@@ -83,8 +83,8 @@ module _ (look : Look) (x : Lexicon look.style) where
       }
 
   -- a blank, or where formatting writes one
-  either_blank : (v : Bool) (b : Gap) (ts : Input) (K : Gap → Input → Type 0) → says (if v then gap look else blank) b ts K → (d : Gap) × K d ts
-  either_blank true b ts K q = (gapped (formats look) b, skip (formats look) b ts K q)
+  either_blank : (v : Bool) (b : Gap) (ts : Input) (K : Gap → Input → Type 0) → says x.naming (if v then gap look else blank) b ts K → (d : Gap) × K d ts
+  either_blank true b ts K q = (gapped (formats look) b, skip x.naming (formats look) b ts K q)
   either_blank false b ts K q = (blanked b, q)
 
   -- declarations without what ends them
@@ -95,9 +95,9 @@ module _ (look : Look) (x : Lexicon look.style) where
     pub known : Known r0.places
     pub broke : brk ts ≡ is_broken b
     pub first : kind ts ≡ k
-    pub again : calm m ≡ true → (us : Trees) × Bindings (unplaced c) k (parts us) ts m × AllSame (leaves_of look) Plain ds us
+    pub again : calm m ≡ true → (us : Trees) × Bindings (unplaced c) k (parts us) ts m × AllSame (leaves_at look x.naming) Plain ds us
 
-  pub bindings_on : (s : Span) (k : ℕ) (ds : Trees) → AllSound look ds → (c : Code) (ts0 r0 : Input) → Bindings c k (parts ds) ts0 r0 → Known ts0.places → (b : Gap) (ts : Input) (K : Gap → Input → Type 0) → says (laid look Alone (var_decl s k ds)) b ts K → Bound c k ds r0 b ts K
+  pub bindings_on : (s : Span) (k : ℕ) (ds : Trees) → AllSound look x.naming ds → (c : Code) (ts0 r0 : Input) → Bindings c k (parts ds) ts0 r0 → Known ts0.places → (b : Gap) (ts : Input) (K : Gap → Input → Type 0) → says x.naming (laid look Alone (var_decl s k ds)) b ts K → Bound c k ds r0 b ts K
   bindings_on s k none a c ts0 r0 h l b ts K q = absurd h.3
   bindings_on s k (more t us) a c ts0 r0 h l b ts K q =
       let i = (either_blank (starts_bracketed (more t us)) Touching q.0 _ q.2).1 in
@@ -109,10 +109,10 @@ module _ (look : Look) (x : Lexicon look.style) where
         known = z.known;
         broke = q.1.broke;
         first = p.0;
-        again = λ g. let w = z.again g in (more w.0 w.1, (q.0, h.1, (p.0, unbarred c.context (escaped ts) (kind ts) p.1, tt, q.1.after), (w.2, w.3, w.4)), more_same (leaves_of look) Plain t w.0 us w.1 w.5 w.6);
+        again = λ g. let w = z.again g in (more w.0 w.1, (q.0, h.1, (p.0, unbarred c.context (escaped ts) (kind ts) p.1, tt, q.1.after), (w.2, w.3, w.4)), more_same (leaves_at look x.naming) Plain t w.0 us w.1 w.5 w.6);
       }
 
-  pub variables_on : (s : Span) (k : ℕ) (ds : Trees) → AllSound look ds → (st : Stand) → Sound look st (var_decl s k ds)
+  pub variables_on : (s : Span) (k : ℕ) (ds : Trees) → AllSound look x.naming ds → (st : Stand) → Sound look x.naming st (var_decl s k ds)
   variables_on s k ds a st c ts0 r0 h l b ts K q =
       let z = bindings_on s k ds a c ts0 h.0 h.1 l b ts _ q in
       let o = semi_of z.d z.m K z.more in record {
@@ -143,7 +143,7 @@ module _ (look : Look) (x : Lexicon look.style) where
     pub broke : brk ts ≡ is_broken b
     pub first : kind ts ≡ else_kind → ⊥
     pub starts : starts_using awaits ts0 ≡ true → starts_using awaits ts ≡ true
-    pub again : calm m ≡ true → (us : Trees) × UsingBindings (unplaced c) awaits (parts us) ts m × AllSame (leaves_of look) Plain ds us
+    pub again : calm m ≡ true → (us : Trees) × UsingBindings (unplaced c) awaits (parts us) ts m × AllSame (leaves_at look x.naming) Plain ds us
 
   -- the bindings, whose first token is the one that it was
   record Bindings_on (c : Code) (ds : Trees) (ts0 r0 : Input) (b : Gap) (ts : Input) (K : Gap → Input → Type 0) : Type 0 where
@@ -153,14 +153,14 @@ module _ (look : Look) (x : Lexicon look.style) where
     known : Known r0.places
     broke : brk ts ≡ is_broken b
     same_kind : kind ts ≡ kind ts0
-    again : calm m ≡ true → (us : Trees) × Commas (Sorted is_declarator (unplaced c)) (unplaced c) (parts us) ts m × AllSame (leaves_of look) Plain ds us
+    again : calm m ≡ true → (us : Trees) × Commas (Sorted is_declarator (unplaced c)) (unplaced c) (parts us) ts m × AllSame (leaves_at look x.naming) Plain ds us
 
   declarator_begins : (t : Tree) (ts0 r0 ts m : Input) → is_declarator t ≡ true → Starts (is_weak t) (is_loose t) ts0 r0 ts m → kind ts ≡ kind ts0
   declarator_begins (var_declarator s n e) ts0 r0 ts m i (same_start p f) = p
   declarator_begins (var_declarator s n e) ts0 r0 ts m i (fine p f g) = absurd (true≢false (sym p))
   declarator_begins _ ts0 r0 ts m i h = absurd (true≢false (sym i))
 
-  commas_on : (ds : Trees) → AllSound look ds → (c : Code) (ts0 r0 : Input) → Commas (Sorted is_declarator c) c (parts ds) ts0 r0 → Known ts0.places → (b : Gap) (ts : Input) (K : Gap → Input → Type 0) → says (separated look (comma look) ds) b ts K → Bindings_on c ds ts0 r0 b ts K
+  commas_on : (ds : Trees) → AllSound look x.naming ds → (c : Code) (ts0 r0 : Input) → Commas (Sorted is_declarator c) c (parts ds) ts0 r0 → Known ts0.places → (b : Gap) (ts : Input) (K : Gap → Input → Type 0) → says x.naming (separated look (comma look) ds) b ts K → Bindings_on c ds ts0 r0 b ts K
   commas_on none a c ts0 r0 h l b ts K q = absurd h
   commas_on (more t us) a c ts0 r0 h l b ts K q =
       let z = run look x (Sorted is_declarator c) (Sorted is_declarator (unplaced c)) (sorted look x is_declarator re_is_declarator declarator_plain c) c t us a.0 a.1 ts0 h.0 r0 h.1 h.2 l b ts K q in record {
@@ -170,10 +170,10 @@ module _ (look : Look) (x : Lexicon look.style) where
         known = z.known;
         broke = z.broke;
         same_kind = declarator_begins t ts0 r0 ts z.m h.1.0 z.begins;
-        again = λ g. let w = z.again g in (more w.0 w.1, (w.2, w.3, w.4), more_same (leaves_of look) Plain t w.0 us w.1 w.5 w.6);
+        again = λ g. let w = z.again g in (more w.0 w.1, (w.2, w.3, w.4), more_same (leaves_at look x.naming) Plain t w.0 us w.1 w.5 w.6);
       }
 
-  pub used_on : (s : Span) (awaits : Bool) (ds : Trees) → AllSound look ds → (c : Code) (ts0 r0 : Input) → UsingBindings c awaits (parts ds) ts0 r0 → Known ts0.places → (b : Gap) (ts : Input) (K : Gap → Input → Type 0) → says (laid look Alone (using_decl s awaits ds)) b ts K → Used awaits c ds ts0 r0 b ts K
+  pub used_on : (s : Span) (awaits : Bool) (ds : Trees) → AllSound look x.naming ds → (c : Code) (ts0 r0 : Input) → UsingBindings c awaits (parts ds) ts0 r0 → Known ts0.places → (b : Gap) (ts : Input) (K : Gap → Input → Type 0) → says x.naming (laid look Alone (using_decl s awaits ds)) b ts K → Used awaits c ds ts0 r0 b ts K
   used_on s false ds a c ts0 r0 h l b ts K q =
       let z = commas_on ds a c h.0 r0 h.5 (x.later ts0 h.0 h.2.3 l) Spaced q.0 K q.2 in record {
         d = z.d;
@@ -198,7 +198,7 @@ module _ (look : Look) (x : Lexicon look.style) where
         again = λ g. let w = z.again g in (w.0, (q.0, i.0, h.2, h.3, worded look x c await_kind q.1, i.1.broke, worded look x c using_kind i.1, z.broke, ap starts_pattern z.same_kind ∙ h.8, w.1), w.2);
       }
 
-  pub using_on : (s : Span) (awaits : Bool) (ds : Trees) → AllSound look ds → (st : Stand) → Sound look st (using_decl s awaits ds)
+  pub using_on : (s : Span) (awaits : Bool) (ds : Trees) → AllSound look x.naming ds → (st : Stand) → Sound look x.naming st (using_decl s awaits ds)
   using_on s awaits ds a st c ts0 r0 h l b ts K q =
       let z = used_on s awaits ds a c ts0 h.0 h.1 l b ts _ q in
       let o = semi_of z.d z.m K z.more in record {

@@ -58,9 +58,9 @@ no_method false A B f g h = g h
 
 module _ (look : Look) (x : Lexicon look.style) where
   -- a word, where it is no key
-  word_on : (s : Span) (n : List ℕ) (st : Stand) → is_key_stand st ≡ false → Sound look st (ident_name s n)
+  word_on : (s : Span) (n : List ℕ) (st : Stand) → is_key_stand st ≡ false → Sound look x.naming st (ident_name s n)
   word_on s n st e c ts0 r0 h k b ts K q =
-      let p = subst (λ (v : Bool). says (if v then key_word look s n else name look s n) b ts K) e q in
+      let p = subst (λ (v : Bool). says x.naming (if v then key_word look s n else name look s n) b ts K) e q in
       let z = spelled_word look x n ts0 r0 ts p.0 c c h.0 k p.1 in record {
         d = Touching;
         m = p.0;
@@ -73,7 +73,7 @@ module _ (look : Look) (x : Lexicon look.style) where
       }
 
   mutual
-    again : (t : Tree) (st : Stand) → is_key_stand st ≡ false → Sound look st t
+    again : (t : Tree) (st : Stand) → is_key_stand st ≡ false → Sound look x.naming st t
     -- expressions (clause 13)
     again (this_expr s) st e = this_on look x s st
     again (null_lit s) st e = null_on look x s st
@@ -214,11 +214,11 @@ module _ (look : Look) (x : Lexicon look.style) where
     -- anything else spells nothing
     again _ st e = λ c ts0 r0 h. absurd h
 
-    pub agains : (ts : Trees) → AllSound look ts
+    pub agains : (ts : Trees) → AllSound look x.naming ts
     agains none = tt
     agains (more t ts) = (again t Alone refl, agains ts)
 
-    key : (t : Tree) → KeyPart look t
+    key : (t : Tree) → KeyPart look x.naming t
     key (str_lit s u w) = string_on look x s u w Key
     key (number_lit s v w) = number_on look x s v w Key
     key (big_int_lit s r d w) = big_on look x s r d w Key
@@ -226,11 +226,11 @@ module _ (look : Look) (x : Lexicon look.style) where
     key (private_name s n) = private_on look x s n Key
     key _ = tt
 
-    handler : (t : Tree) → HandlerSound look t
+    handler : (t : Tree) → HandlerSound look x.naming t
     handler (catch_clause s p b) = (again p Alone refl, again b Alone refl)
     handler _ = tt
 
-    cases : (ts : Trees) → CasesSound look ts
+    cases : (ts : Trees) → CasesSound look x.naming ts
     cases none = tt
     cases (more (switch_case s t ss) ts) = ((again t Alone refl, agains ss), cases ts)
     cases (more _ ts) = (tt, cases ts)

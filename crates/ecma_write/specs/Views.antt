@@ -4,6 +4,9 @@ use Rattle.std.specs.BTreeSet as set
 use Rattle.std.specs.BTreeSet.{BTreeSet}
 use Rattle.std.specs.List.{All}
 use Rattle.std.specs.Ordering.{nat_cmp}
+use Rattle.std.specs.Borrow.{MutBor}
+use Rattle.std.specs.declared.vec.Vec.{Vec}
+use Rattle.std.specs.Global.{Global}
 use base.Fml.{GName}
 use Rattle.ecma_token.specs.declared.place.BytePos.{BytePos}
 use Rattle.ecma_token.specs.declared.place.LineCol.{LineCol}
@@ -73,6 +76,11 @@ js_behind w = w.wr
 
 abbrev pub js_failures : {W : Type 0} → (W → ℕ) → JsWriter W → ℕ
 js_failures count w = count w.wr
+
+-- The list in which the writer keeps its marks: with the loan that it was given, and the pairs so far.
+abbrev pub IsListOf : {W : Type 0} → (W → Option (List ℕ)) → JsWriter W → Option (MutBor (Vec (BytePos × LineCol) Global)) → Type 0
+IsListOf contents w None = w.marks ≡ None
+IsListOf contents w (Some list) = (js_loans w ≡ list.ghost_name ∷ []) × IfSome (js_page contents w).marks (λ m. m.pairs ≡ list.now.items)
 
 -- What each step of that writer keeps, and which faults it may answer.
 abbrev pub JsKeeps : {W A : Type 0} → (W → Option (List ℕ)) → (W → ℕ) → JsWriter W → JsWriter W → Result A EmitError → Type 0

@@ -23,7 +23,7 @@ pub struct JsWriter<'a, W> {
 }
 
 impl<'a, W: CountedWrite> JsWriter<'a, W> {
-    ghost use Rattle.ecma_write.specs.Views.{js_page, js_tells, js_loans, js_behind, JsKeeps, first_page, first_marks};
+    ghost use Rattle.ecma_write.specs.Views.{js_page, js_tells, js_loans, js_behind, IsListOf, JsKeeps, first_page, first_marks};
 
     /// A writer over `wr` that ends lines with `new_line` and indents with four blanks. Where it is given
     /// a list, it adds the marks to its end.
@@ -61,6 +61,18 @@ impl<'a, W: CountedWrite> JsWriter<'a, W> {
     {
         let JsWriter { wr, .. } = self;
         wr
+    }
+
+    /// The writer behind and the list of the marks, once nothing more is written.
+    pub fn into_parts(self) -> (W, Option<&'a mut Vec<(BytePos, LineCol)>>)
+        ensures behind { result.0 ≡ js_behind self.entry }
+        ensures marks { IsListOf W.contents self.entry result.1 }
+    {
+        let JsWriter { wr, marks, .. } = self;
+        match marks {
+            Some(marks) => (wr, Some(marks.into_list())),
+            None => (wr, None),
+        }
     }
 
     /// Indents with this text from now on.

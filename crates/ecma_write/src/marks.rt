@@ -53,6 +53,15 @@ impl<'a> MarkList<'a> {
         }
     }
 
+    /// The list.
+    pub(crate) fn into_list(self) -> &'a mut Vec<(BytePos, LineCol)>
+        ensures marks { (marks_of self.entry).pairs ≡ result.now.items }
+        ensures loan { result.ghost_name ≡ list_name self.entry }
+    {
+        let MarkList { list, .. } = self;
+        list
+    }
+
     /// Where a text ends that begins at the place reached.
     pub(crate) fn after(&self, text: &str) -> Result<LineCol, EmitError>
         ensures ok { IfOk result (λ end. option_and_then (λ place. after_text place (chars text.now)) (marks_of self.now).reached ≡ Some end) }

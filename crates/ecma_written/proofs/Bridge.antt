@@ -6,8 +6,9 @@ use Rattle.ecma_lexeme.specs.declared.goal.LexicalGoal.{LexicalGoal}
 use Rattle.ecma_lexeme.specs.declared.goal.LexicalGoal.TheVariants.{Div, RegExp, TemplateTail, TemplateEnd}
 use Rattle.ecma_syntax.specs.Input.{Place, Input, kind_of, content_of, escaped_of, rest, hi_of, others, lo, lo_of, brk, break_of}
 use Rattle.ecma_pieces.specs.Pieces.{Piece, Text, Brace, Blank, Line, Deeper, Back, Semicolon, Commit, Mark}
-use Rattle.ecma_layout.specs.Looks.{Meaning, regular_expression, template_characters, template_end, hashbang_comment, touching, Laid, nothing, one, meant, both, refused, joined, texts_of}
+use Rattle.ecma_layout.specs.Looks.{Meaning, regular_expression, template_characters, template_end, hashbang_comment, touching, Laid, nothing, one, meant, named, both, refused, joined, texts_of}
 use Rattle.ecma_written.specs.Gaps.{Gap, Touching, is_broken, blanked, Lies}
+use Rattle.ecma_written.specs.Naming.{Naming, StandsFor}
 use Rattle.ecma_written.specs.Says.{IsFirst, IsSaid, IsHashbangSaid, SaysPiece, SaysTexts, SaysMeaning, Says}
 use Rattle.ecma_written.specs.Told.{Told, ToldHashbang, said, says_texts, says_meaning, says}
 
@@ -83,9 +84,10 @@ module _ (K : Gap → Input → Type 0) where
   meaning_told (hashbang_comment own) a b ts r h k = (r, hashbang_told own a b ts r h, subst (λ (x : Gap). K x r) h.behind k)
   meaning_told (touching texts) a b ts r h k = texts_told texts a b ts r h k
 
-pub bridge : (f : Laid) (a b : Gap) (ts r : Input) (K : Gap → Input → Type 0) → Says f a ts b r → K b r → says f a ts K
-bridge nothing a b ts r K h k = moved K a b ts r h k
-bridge (one x) a b ts r K h k = piece_told K x a b ts r h k
-bridge (meant m) a b ts r K h k = meaning_told K m a b ts r h k
-bridge (both f g) a b ts r K h k = bridge f a h.0 ts h.1 (λ d m. says g d m K) h.2 (bridge g h.0 b h.1 r K h.3 k)
-bridge refused a b ts r K h k = absurd h
+pub bridge : (n : Naming) (f : Laid) (a b : Gap) (ts r : Input) (K : Gap → Input → Type 0) → Says (StandsFor n) f a ts b r → K b r → says n f a ts K
+bridge n nothing a b ts r K h k = moved K a b ts r h k
+bridge n (one x) a b ts r K h k = piece_told K x a b ts r h k
+bridge n (meant m) a b ts r K h k = meaning_told K m a b ts r h k
+bridge n (named pos own) a b ts r K h k = (r, record { told = told_of Div own a b ts r h.said; stands = h.stands }, subst (λ (x : Gap). K x r) h.said.behind k)
+bridge n (both f g) a b ts r K h k = bridge n f a h.0 ts h.1 (λ d m. says n g d m K) h.2 (bridge n g h.0 b h.1 r K h.3 k)
+bridge n refused a b ts r K h k = absurd h

@@ -9,14 +9,15 @@ use Rattle.ecma_spells.specs.Tiled.{Tile}
 use Rattle.ecma_layout.specs.Looks.{Laid}
 use Rattle.ecma_layout.specs.Words.{sign_of}
 use Rattle.ecma_written.specs.Gaps.{Gap}
+use Rattle.ecma_written.specs.Naming.{Naming, StandsFor}
 use Rattle.ecma_written.specs.Says.{Says}
 use Rattle.ecma_written.specs.Told.{says}
 use Rattle.ecma_written.specs.Texts.{mark_text, ending_text, word_text}
 use Rattle.ecma_written.specs.Means.{TellsKinds, Known}
 
--- What a layout says it tells: the same tokens, up to the same rest.
+-- What a layout says it tells: the same tokens, up to the same rest, and where its names stand.
 abbrev pub LayoutsTell : Type 0
-LayoutsTell = (f : Laid) (a b : Gap) (ts r : Input) → Says f a ts b r → says f a ts (λ c m. (c ≡ b) × (m ≡ r))
+LayoutsTell = (n : Naming) (f : Laid) (a b : Gap) (ts r : Input) → Says (StandsFor n) f a ts b r → says n f a ts (λ c m. (c ≡ b) × (m ≡ r))
 
 -- Punctuators, words, signs, operators and what ends the characters of a template mean the tokens of their kinds.
 abbrev pub MarksTell : Type 0

@@ -1,4 +1,4 @@
--- What the texts of a layout mean as tokens: what a derivation asks of how names and literals are spelled.
+-- What the texts of a layout mean as tokens, and where names stand: what a derivation asks of how names and literals are written.
 use Rattle.std.specs.Prelude.{◌≡◌, ℕ, ◌||◌, Bool, true, List, Option, Some, is_some}
 use Rattle.std.specs.Char.Escape.{encode_utf16}
 use Rattle.std.specs.List.{flat_map}
@@ -18,8 +18,11 @@ use Rattle.ecma_layout.specs.Literals.{name_bytes, key_bytes, string_bytes, numb
 use Rattle.ecma_layout.specs.Words.{sign_of}
 use Rattle.ecma_written.specs.Texts.{mark_text, ending_text, word_text, is_strict_text}
 use Rattle.ecma_written.specs.Means.{Means, TellsKinds, Known}
+use Rattle.ecma_written.specs.Naming.{Naming}
 
 pub record Lexicon (style : Style) : Type 0 where
+  -- where names stand
+  pub naming : Naming
   -- behind a token that was read are such tokens
   pub later : (ts m : Input) → rest ts ≡ m → Known ts.places → Known m.places
   -- Punctuators, words and operators are tokens of their kind, without an escape.

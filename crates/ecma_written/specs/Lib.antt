@@ -1,4 +1,5 @@
 pub mod Gaps
+pub mod Naming
 pub mod Says
 pub mod Means
 pub mod Told

@@ -1,16 +1,17 @@
 -- Which tokens a layout says: the tokens, in their places, of the texts that it writes one after another.
 use Rattle.std.specs.Prelude.{◌≡◌, ◌⊎◌, ℕ, ◌+◌, Bool, false, List, [], ◌∷◌, ◌++◌, length, codes}
 use Rattle.std.specs.Str.{chars}
+use Rattle.ecma_token.specs.declared.place.BytePos.{BytePos}
 use Rattle.ecma_token.specs.Kinds.{right_brace_kind, end_kind, shebang_kind}
 use Rattle.ecma_token.specs.Tokens.{SpecToken, Line as Hashbang}
 use Rattle.ecma_tokens.specs.Machine.{told}
 use Rattle.ecma_lexeme.specs.declared.goal.LexicalGoal.{LexicalGoal}
 use Rattle.ecma_lexeme.specs.declared.goal.LexicalGoal.TheVariants.{Div, RegExp, TemplateTail, TemplateEnd}
 use Rattle.ecma_lexeme.specs.Lexemes.{SpecLexeme, IsLexeme}
-use Rattle.ecma_syntax.specs.Input.{Place, Input, kind}
+use Rattle.ecma_syntax.specs.Input.{Place, Input, kind, lo}
 use Rattle.ecma_spells.specs.Tiled.{goal_at}
 use Rattle.ecma_pieces.specs.Pieces.{Piece, Text, Brace, Blank, Line, Deeper, Back, Semicolon, Commit, Mark}
-use Rattle.ecma_layout.specs.Looks.{Meaning, regular_expression, template_characters, template_end, hashbang_comment, touching, Laid, nothing, one, meant, both, refused, joined, texts_of}
+use Rattle.ecma_layout.specs.Looks.{Meaning, regular_expression, template_characters, template_end, hashbang_comment, touching, Laid, nothing, one, meant, named, both, refused, joined, texts_of}
 use Rattle.ecma_written.specs.Gaps.{Gap, Touching, Broken, is_broken, blanked, Lies}
 
 -- ---- one text
@@ -49,6 +50,11 @@ pub record IsHashbangSaid (own : List ℕ) (a : Gap) (ts : Input) (b : Gap) (r :
   pub first : IsFirst (hashbang_token own) false (length own + 2) a ts r
   pub behind : b ≡ Touching
 
+-- A name that was read at a position is the token of its text, and N holds of that position and of where the token begins.
+pub record IsNameSaid (N : ℕ → ℕ → Type 0) (pos : BytePos) (own : List ℕ) (a : Gap) (ts : Input) (b : Gap) (r : Input) : Type 0 where
+  pub said : IsSaid Div own a ts b r
+  pub stands : N pos.0 (lo ts)
+
 -- ---- layouts
 
 -- A semicolon may be left out before `}` and at the end (12.10.1).
@@ -80,10 +86,12 @@ SaysMeaning (template_end own) a ts b r = IsSaid TemplateEnd own a ts b r
 SaysMeaning (hashbang_comment own) a ts b r = IsHashbangSaid own a ts b r
 SaysMeaning (touching texts) a ts b r = SaysTexts texts a ts b r
 
--- Says f a ts b r: behind the gap `a` the layout says the tokens `ts` up to the rest `r`, and ends in the gap `b`. What can't be printed says nothing.
-abbrev pub Says : Laid → Gap → Input → Gap → Input → Type 0
-Says nothing a ts b r = (b ≡ a) × (ts ≡ r)
-Says (one x) a ts b r = SaysPiece x a ts b r
-Says (meant m) a ts b r = SaysMeaning m a ts b r
-Says (both f g) a ts b r = (k : Gap) × (m : Input) × Says f a ts k m × Says g k m b r
-Says refused a ts b r = ⊥
+-- Says N f a ts b r: behind the gap `a` the layout says the tokens `ts` up to the rest `r`, and ends in the gap `b`. N holds of where each name was read and where it is written.
+-- What can't be printed says nothing.
+abbrev pub Says : (ℕ → ℕ → Type 0) → Laid → Gap → Input → Gap → Input → Type 0
+Says N nothing a ts b r = (b ≡ a) × (ts ≡ r)
+Says N (one x) a ts b r = SaysPiece x a ts b r
+Says N (meant m) a ts b r = SaysMeaning m a ts b r
+Says N (named pos own) a ts b r = IsNameSaid N pos own a ts b r
+Says N (both f g) a ts b r = (k : Gap) × (m : Input) × Says N f a ts k m × Says N g k m b r
+Says N refused a ts b r = ⊥

@@ -1,15 +1,17 @@
 -- Which tokens a layout says, told one after another to what goes on behind them: what a derivation asks of a layout. Places are left aside, but that tokens touch.
 use Rattle.std.specs.Prelude.{◌≡◌, ◌⊎◌, ℕ, List, [], ◌∷◌, codes}
+use Rattle.ecma_token.specs.declared.place.BytePos.{BytePos}
 use Rattle.ecma_token.specs.Kinds.{shebang_kind}
 use Rattle.ecma_token.specs.Tokens.{Line as Hashbang}
 use Rattle.ecma_lexeme.specs.declared.goal.LexicalGoal.{LexicalGoal}
 use Rattle.ecma_lexeme.specs.declared.goal.LexicalGoal.TheVariants.{Div, RegExp, TemplateTail, TemplateEnd}
 use Rattle.ecma_syntax.specs.Input.{Input, kind, content, escaped, brk, rest, lo}
 use Rattle.ecma_pieces.specs.Pieces.{Piece, Text, Brace, Blank, Line, Deeper, Back, Semicolon, Commit, Mark}
-use Rattle.ecma_layout.specs.Looks.{Meaning, regular_expression, template_characters, template_end, hashbang_comment, touching, Laid, nothing, one, meant, both, refused, joined, texts_of}
+use Rattle.ecma_layout.specs.Looks.{Meaning, regular_expression, template_characters, template_end, hashbang_comment, touching, Laid, nothing, one, meant, named, both, refused, joined, texts_of}
 use Rattle.ecma_written.specs.Gaps.{Gap, Touching, Broken, is_broken, blanked}
 use Rattle.ecma_written.specs.Says.{SemicolonMayGo}
 use Rattle.ecma_written.specs.Means.{Means}
+use Rattle.ecma_written.specs.Naming.{Naming, StandsFor}
 
 -- The first token is that of the text under a goal; a line breaks before it where one was written, and it touches the last where nothing was.
 pub record Told (goal : LexicalGoal) (own : List ℕ) (a : Gap) (ts m : Input) : Type 0 where
@@ -25,6 +27,11 @@ pub record ToldHashbang (own : List ℕ) (a : Gap) (ts m : Input) : Type 0 where
   pub broke : brk ts ≡ is_broken a
   pub touches : a ≡ Touching → lo ts ≡ ts.last
   pub after : rest ts ≡ m
+
+-- The first token is that of a name which was read at a position, and it stands for that name.
+pub record ToldName (n : Naming) (pos : BytePos) (own : List ℕ) (a : Gap) (ts m : Input) : Type 0 where
+  pub told : Told Div own a ts m
+  pub stands : StandsFor n pos.0 (lo ts)
 
 abbrev pub said : Piece → Gap → Input → (Gap → Input → Type 0) → Type 0
 said (Text span own) a ts K = (m : Input) × Told Div own a ts m × K Touching m
@@ -48,10 +55,11 @@ says_meaning (template_end own) a ts K = (m : Input) × Told TemplateEnd own a t
 says_meaning (hashbang_comment own) a ts K = (m : Input) × ToldHashbang own a ts m × K Touching m
 says_meaning (touching texts) a ts K = says_texts texts a ts K
 
--- says f a ts K: behind the gap `a` the layout says the tokens from `ts` on, and then `K` holds of the gap and the tokens that are left.
-abbrev pub says : Laid → Gap → Input → (Gap → Input → Type 0) → Type 0
-says nothing a ts K = K a ts
-says (one x) a ts K = said x a ts K
-says (meant m) a ts K = says_meaning m a ts K
-says (both f g) a ts K = says f a ts (λ b m. says g b m K)
-says refused a ts K = ⊥
+-- says n f a ts K: behind the gap `a` the layout says the tokens from `ts` on, each name stands for the one that was read, and then `K` holds of the gap and the tokens that are left.
+abbrev pub says : Naming → Laid → Gap → Input → (Gap → Input → Type 0) → Type 0
+says n nothing a ts K = K a ts
+says n (one x) a ts K = said x a ts K
+says n (meant x) a ts K = says_meaning x a ts K
+says n (named pos own) a ts K = (m : Input) × ToldName n pos own a ts m × K Touching m
+says n (both f g) a ts K = says n f a ts (λ b m. says n g b m K)
+says n refused a ts K = ⊥

@@ -15,7 +15,7 @@ use Rattle.ecma_layout.specs.declared.look.Look.{Look}
 use Rattle.ecma_layout.specs.declared.look.Stand.{Stand}
 use Rattle.ecma_layout.specs.declared.look.Stand.TheVariants.{Alone, Operand, Body, Head, Key}
 use Rattle.ecma_layout.specs.Looks.{Laid, ◌·◌, text, when, start, end}
-use Rattle.ecma_layout.specs.Literals.{name, name_bytes}
+use Rattle.ecma_layout.specs.Literals.{name, identifier as own_name, name_bytes}
 use Rattle.ecma_layout.specs.Layout.{laid, separated, comma, in_parens, is_computed, point_before}
 use Rattle.ecma_lexeme.specs.declared.goal.LexicalGoal.TheVariants.{Div}
 use Rattle.ecma_written_fits.proofs.Marks.{comma_mark, dot_mark, left_bracket, left_paren, right_bracket, right_paren}
@@ -36,8 +36,11 @@ module _ (look : Look) where
   pub named : {s : State} (sp : Span) (n : List ℕ) → Fits Div (name_bytes look.style n) Word → is_wordless s ≡ true → Steps (name look sp n) s (At Worded)
   named sp n f w = committed ▸ at (mark ▸ at (worded f w))
 
+  pub placed : {s : State} (sp : Span) (n : List ℕ) → Fits Div (name_bytes look.style n) Word → is_wordless s ≡ true → Steps (own_name look sp n) s (At Worded)
+  placed sp n f w = record { so = (worded {span = None} f w).so }
+
   pub identifier : (sp : Span) (n : List ℕ) → Fits Div (name_bytes look.style n) Word → Sound look (ident sp n)
-  identifier sp n f c ts r h st s a = leaving st (ident sp n) (named sp n f (admits_word s (ident sp n) a refl)) refl
+  identifier sp n f c ts r h st s a = leaving st (ident sp n) (placed sp n f (admits_word s (ident sp n) a refl)) refl
 
   -- ---- lists
 

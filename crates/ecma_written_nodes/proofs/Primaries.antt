@@ -22,7 +22,7 @@ use Rattle.ecma_written_fits.proofs.Marks.{dot_mark, hash_mark, question_mark}
 use Rattle.ecma_written_nodes.proofs.Admits.{admits, leaves, admits_open, admits_word}
 use Rattle.ecma_written_nodes.proofs.Steps.{Steps, At, ◌▸◌, ends, at, mark, committed, text_by, worded, when_goes, if_goes, when_true}
 use Rattle.ecma_written_nodes.proofs.Forms.{Good}
-use Rattle.ecma_written_nodes.proofs.Names.{leaving, named, bracketed}
+use Rattle.ecma_written_nodes.proofs.Names.{leaving, named, placed, bracketed}
 
 -- ---- tokens that touch
 
@@ -64,10 +64,10 @@ module _ (look : Look) where
   -- ---- names
 
   pub name_node : (sp : Span) (n : List ℕ) → Fits Div (name_bytes look.style n) Word → Good look (ident sp n)
-  name_node sp n f st s a = leaving st (ident sp n) (named look sp n f (admits_word s (ident sp n) a refl)) refl
+  name_node sp n f st s a = leaving st (ident sp n) (placed look sp n f (admits_word s (ident sp n) a refl)) refl
 
   pub bound_node : (sp t : Span) (n : List ℕ) → Fits Div (name_bytes look.style n) Word → Good look (binding_ident sp (ident t n))
-  bound_node sp t n f st s a = leaving st (binding_ident sp (ident t n)) (named look sp n f (admits_word s (binding_ident sp (ident t n)) a refl)) refl
+  bound_node sp t n f st s a = leaving st (binding_ident sp (ident t n)) (placed look sp n f (admits_word s (binding_ident sp (ident t n)) a refl)) refl
 
   -- a word as a key is a string where it is quoted
   keyed : (sp : Span) (n : List ℕ) (st : Stand) (s : State) → admits s (ident_name sp n) ≡ true → (b : Bool) → Fits Div (key_bytes look.style n) (if b then Str else Word)

@@ -1,5 +1,6 @@
--- Layouts as lists of items: pieces, and texts that are meant together.
+-- Layouts as lists of items: pieces, texts that are meant together, and names.
 use Rattle.std.proofs.Common.{◌≡◌, ℕ, true, List, [], ◌∷◌, None, refl, ap, ◌∙◌}
+use Rattle.ecma_token.specs.declared.place.BytePos.{BytePos}
 use Rattle.ecma_literal.specs.declared.template.Ending.{Ending}
 use Rattle.ecma_literal.specs.declared.template.Ending.TheVariants.{BackQuote, Substitution}
 use Rattle.ecma_literal.specs.Templates as templates
@@ -7,9 +8,9 @@ use Rattle.ecma_lexeme.specs.declared.goal.LexicalGoal.{LexicalGoal}
 use Rattle.ecma_lexeme.specs.declared.goal.LexicalGoal.TheVariants.{Div, RegExp, TemplateTail, TemplateEnd}
 use Rattle.ecma_syntax.specs.Input.{Input}
 use Rattle.ecma_pieces.specs.Pieces.{Piece, Text, Brace, Blank, Line, Deeper, Back, Semicolon, Commit, Mark}
-use Rattle.ecma_layout.specs.Looks.{Meaning, regular_expression, template_characters, template_end, hashbang_comment, touching, Laid, nothing, one, meant, both, refused, listed, joined, texts_of, texts_before}
+use Rattle.ecma_layout.specs.Looks.{Meaning, regular_expression, template_characters, template_end, hashbang_comment, touching, Laid, nothing, one, meant, named, both, refused, listed, joined, texts_of, texts_before}
 use Rattle.ecma_written.specs.Gaps.{Gap}
-use Rattle.ecma_written.specs.Says.{SaysPiece, SaysTexts, SaysMeaning, Says}
+use Rattle.ecma_written.specs.Says.{IsNameSaid, SaysPiece, SaysTexts, SaysMeaning, Says}
 use Rattle.ecma_written_tiles.specs.Classes.{State, Clear, Shut, Class, Word, Number, Big, Member, Str, Regex, Operator, Arrow, Closed, Quasi, End, is_open, takes, behind}
 use Rattle.ecma_written_tiles.specs.Following.{Front}
 use Rattle.ecma_written_tiles.specs.Goes.{When, GoesText, GoesPiece, GoesTexts, GoesMeaning, Goes}
@@ -18,11 +19,14 @@ use Rattle.ecma_written_tiles.proofs.Walks.{mono, reach, When_mono}
 pub data Item : Type 0 where
   Plain : Piece → Item
   Meant : Meaning → Item
+  -- with the place where it was read
+  Named : BytePos → List ℕ → Item
 
 abbrev pub items : Laid → List Item → List Item
 items nothing rest = rest
 items (one x) rest = Plain x ∷ rest
 items (meant m) rest = Meant m ∷ rest
+items (named pos own) rest = Named pos own ∷ rest
 items (both f g) rest = items f (items g rest)
 items refused rest = []
 
@@ -31,11 +35,13 @@ abbrev pub spread : List Item → List Piece
 spread [] = []
 spread (Plain x ∷ xs) = x ∷ spread xs
 spread (Meant m ∷ xs) = texts_before (texts_of m) (spread xs)
+spread (Named pos own ∷ xs) = Commit ∷ Mark pos ∷ Text None own ∷ spread xs
 
 pub listed_items : (f : Laid) (rest : List Item) → listed f (spread rest) ≡ spread (items f rest)
 listed_items nothing rest = refl
 listed_items (one x) rest = refl
 listed_items (meant m) rest = refl
+listed_items (named pos own) rest = refl
 listed_items (both f g) rest = ap (listed f) (listed_items g rest) ∙ listed_items f (items g rest)
 listed_items refused rest = refl
 
@@ -44,6 +50,7 @@ listed_items refused rest = refl
 abbrev pub GoesItem : Item → State → (State → Type 0) → Type 0
 GoesItem (Plain x) s P = GoesPiece x s P
 GoesItem (Meant m) s P = GoesMeaning m s P
+GoesItem (Named pos own) s P = GoesText Div own s P
 
 abbrev pub GoesAll : List Item → State → Type 0
 GoesAll [] s = is_open s ≡ true
@@ -53,30 +60,33 @@ pub goes_items : (f : Laid) (s : State) (rest : List Item) → Goes f s (λ t. G
 goes_items nothing s rest h = h
 goes_items (one x) s rest h = h
 goes_items (meant m) s rest h = h
+goes_items (named pos own) s rest h = h
 goes_items (both f g) s rest h = goes_items f s (items g rest) (mono f s (λ t. Goes g t (λ u. GoesAll rest u)) (λ t. GoesAll (items g rest) t) h (λ t k. goes_items g t rest k))
 goes_items refused s rest h = absurd h
 
--- ---- what items say
+-- ---- what items say, where N holds of where each name was read and where it is written
 
-abbrev pub SaysItem : Item → Gap → Input → Gap → Input → Type 0
-SaysItem (Plain x) a ts b r = SaysPiece x a ts b r
-SaysItem (Meant m) a ts b r = SaysMeaning m a ts b r
+abbrev pub SaysItem : (ℕ → ℕ → Type 0) → Item → Gap → Input → Gap → Input → Type 0
+SaysItem N (Plain x) a ts b r = SaysPiece x a ts b r
+SaysItem N (Meant m) a ts b r = SaysMeaning m a ts b r
+SaysItem N (Named pos own) a ts b r = IsNameSaid N pos own a ts b r
 
-abbrev pub SaysAll : List Item → Gap → Input → Gap → Input → Type 0
-SaysAll [] a ts b r = (b ≡ a) × (ts ≡ r)
-SaysAll (x ∷ xs) a ts b r = (k : Gap) × (m : Input) × SaysItem x a ts k m × SaysAll xs k m b r
+abbrev pub SaysAll : (ℕ → ℕ → Type 0) → List Item → Gap → Input → Gap → Input → Type 0
+SaysAll N [] a ts b r = (b ≡ a) × (ts ≡ r)
+SaysAll N (x ∷ xs) a ts b r = (k : Gap) × (m : Input) × SaysItem N x a ts k m × SaysAll N xs k m b r
 
-pub says_of : (f : Laid) (s : State) (P : State → Type 0) (rest : List Item) (a b : Gap) (ts r : Input) → Goes f s P → SaysAll (items f rest) a ts b r
-    → (k : Gap) × (m : Input) × Says f a ts k m × SaysAll rest k m b r
-says_of nothing s P rest a b ts r g h = (a, ts, (refl, refl), h)
-says_of (one x) s P rest a b ts r g h = h
-says_of (meant m) s P rest a b ts r g h = h
-says_of (both f g) s P rest a b ts r w h =
-    let x = says_of f s (λ t. Goes g t P) (items g rest) a b ts r w h in
+pub says_of : (N : ℕ → ℕ → Type 0) (f : Laid) (s : State) (P : State → Type 0) (rest : List Item) (a b : Gap) (ts r : Input) → Goes f s P → SaysAll N (items f rest) a ts b r
+    → (k : Gap) × (m : Input) × Says N f a ts k m × SaysAll N rest k m b r
+says_of N nothing s P rest a b ts r g h = (a, ts, (refl, refl), h)
+says_of N (one x) s P rest a b ts r g h = h
+says_of N (meant m) s P rest a b ts r g h = h
+says_of N (named pos own) s P rest a b ts r g h = h
+says_of N (both f g) s P rest a b ts r w h =
+    let x = says_of N f s (λ t. Goes g t P) (items g rest) a b ts r w h in
     let t = reach f s (λ t. Goes g t P) w in
-    let y = says_of g t.0 P rest x.0 b x.1 r t.1 x.3 in
+    let y = says_of N g t.0 P rest x.0 b x.1 r t.1 x.3 in
     (y.0, y.1, (x.0, x.1, x.2, y.2), y.3)
-says_of refused s P rest a b ts r g h = absurd g
+says_of N refused s P rest a b ts r g h = absurd g
 
 -- ---- texts that touch, one by one
 
@@ -93,9 +103,10 @@ goes_apart [] xs s g = g
 goes_apart (own ∷ others) xs s g =
     (g.0, g.1, When_mono (takes g.0 s) (GoesTexts others (behind g.0 s) (λ t. GoesAll xs t)) (GoesAll (apart others xs) (behind g.0 s)) g.2 (λ h. goes_apart others xs (behind g.0 s) h))
 
-pub says_apart : (texts : List (List ℕ)) (xs : List Item) (a b : Gap) (ts r : Input) → SaysAll (apart texts xs) a ts b r → (k : Gap) × (m : Input) × SaysTexts texts a ts k m × SaysAll xs k m b r
-says_apart [] xs a b ts r h = (a, ts, (refl, refl), h)
-says_apart (own ∷ others) xs a b ts r h = let y = says_apart others xs h.0 b h.1 r h.3 in (y.0, y.1, (h.0, h.1, h.2, y.2), y.3)
+pub says_apart : (N : ℕ → ℕ → Type 0) (texts : List (List ℕ)) (xs : List Item) (a b : Gap) (ts r : Input) → SaysAll N (apart texts xs) a ts b r
+    → (k : Gap) × (m : Input) × SaysTexts texts a ts k m × SaysAll N xs k m b r
+says_apart N [] xs a b ts r h = (a, ts, (refl, refl), h)
+says_apart N (own ∷ others) xs a b ts r h = let y = says_apart N others xs h.0 b h.1 r h.3 in (y.0, y.1, (h.0, h.1, h.2, y.2), y.3)
 
 -- ---- behind a mark that nothing runs into
 
@@ -127,6 +138,7 @@ shut_for_clear (Meant (template_characters own) ∷ xs) g = text_shut TemplateTa
 shut_for_clear (Meant (template_end own) ∷ xs) g = text_shut TemplateEnd own (λ t. GoesAll xs t) g
 shut_for_clear (Meant (hashbang_comment own) ∷ xs) g = g
 shut_for_clear (Meant (touching texts) ∷ xs) g = texts_shut texts xs (λ h. shut_for_clear xs h) g
+shut_for_clear (Named pos own ∷ xs) g = text_shut Div own (λ t. GoesAll xs t) g
 
 -- an empty text is characters of a template alone
 pub front_nil : (k : Class) → Front k [] → k ≡ Quasi

@@ -14,7 +14,7 @@ use Rattle.ecma_written_tiles.specs.Classes.{State, Fresh, Clear, Shut, Worded, 
 use Rattle.ecma_written_tiles.specs.Following.{is_wordy, Follows}
 use Rattle.ecma_written_tiles.specs.Goes.{GoesTexts, GoesText}
 use Rattle.ecma_written_tiles.proofs.Gaps.{Blankness, White, Feed, Return, chars_of, gap_before, is_end_of_line, breaks_line, AreBlank}
-use Rattle.ecma_written_tiles.proofs.Items.{Item, Plain, Meant, spread, GoesAll}
+use Rattle.ecma_written_tiles.proofs.Items.{Item, Plain, Meant, Named, spread, GoesAll}
 use Rattle.ecma_written_tiles.proofs.Pen.{Pen, lead, own_text, after_text, own, next, wrote}
 use Rattle.ecma_written_tiles.proofs.Touch.{fronts, lets, lets_follows}
 use Rattle.ecma_written_tiles.proofs.Walks.{when_so}
@@ -133,6 +133,20 @@ wrote_texts ((c ∷ cs) ∷ own) ys q =
     ∙ ap (λ (p : Pen). (lead q ++ (c ∷ (cs ++ joined own))) ++ wrote ys p) (same_pen (joined own))))
   where
     same_pen : (bytes : List ℕ) → after_text bytes (record q { at_start = false }) ≡ record q { at_start = false }
+    same_pen [] = refl
+    same_pen (d ∷ ds) = refl
+
+-- the pen behind texts
+abbrev pub after_texts : List (List ℕ) → Pen → Pen
+after_texts [] q = q
+after_texts (own ∷ others) q = after_texts others (after_text own q)
+
+pub after_joined : (own : List (List ℕ)) (q : Pen) → after_texts own q ≡ after_text (joined own) q
+after_joined [] q = refl
+after_joined ([] ∷ own) q = after_joined own q
+after_joined ((c ∷ cs) ∷ own) q = after_joined own (after_text (c ∷ cs) q) ∙ same_pen (joined own)
+  where
+    same_pen : (bytes : List ℕ) → after_text bytes (after_text (c ∷ cs) q) ≡ after_text (c ∷ cs) q
     same_pen [] = refl
     same_pen (d ∷ ds) = refl
 
@@ -299,3 +313,5 @@ follows (Meant (template_end own) ∷ xs) q s l g f = one_follows xs TemplateEnd
 follows (Meant (hashbang_comment own) ∷ xs) q s l g f = absurd g
 follows (Meant (touching texts) ∷ xs) q s l g f =
     subst (λ (t : List ℕ). Follows s (chars t)) (wrote_texts texts (spread xs) q) (texts_follow texts xs q s l g f (λ p t k h e. follows xs p t k h e))
+follows (Named pos own ∷ xs) q s l g f =
+    text_follows _ own q s (wrote (spread xs) (after_text own q)) (λ t. GoesAll xs t) g f (λ r h. follows xs (after_text own q) _ (text_lines own q l) h (λ e. never_starts _ _ r e))

@@ -9,4 +9,5 @@ pub mod Tiling
 pub mod Settled
 pub mod NoHashbang
 pub mod Retiled
+pub mod Names
 pub mod Texts

@@ -15,7 +15,7 @@ use Rattle.ecma_written_tiles.specs.Classes.{Fresh, Class, Word, Number, Big, Me
 use Rattle.ecma_written_tiles.specs.Following.{Front, Follows, is_safe}
 use Rattle.ecma_written_tiles.specs.Goes.{GoesText}
 use Rattle.ecma_written_tiles.proofs.Gaps.{Blankness, White, Feed, Return, gap_before, AreBlank}
-use Rattle.ecma_written_tiles.proofs.Items.{Item, Plain, Meant, spread, GoesAll, apart, spread_apart, goes_apart, front_nil}
+use Rattle.ecma_written_tiles.proofs.Items.{Item, Plain, Meant, Named, spread, GoesAll, apart, spread_apart, goes_apart, front_nil}
 use Rattle.ecma_written_tiles.proofs.Leads.{Lines, lead_of, gap_append, wrote_texts, next_lines, text_lines, follows}
 use Rattle.ecma_written_tiles.proofs.Pen.{Pen, lead, own_text, after_text, own, next, wrote}
 use Rattle.ecma_written_tiles.proofs.Touch.{safe_not}
@@ -125,3 +125,4 @@ no_hashbang (Meant (touching []) ∷ xs) q l s g = no_hashbang xs q l s g
 no_hashbang (Meant (touching (own ∷ others)) ∷ xs) q l s g =
     subst (λ (t : List ℕ). NoHashbang (chars t)) (ap (λ (ys : List Piece). wrote ys q) (spread_apart (own ∷ others) xs) ∙ wrote_texts (own ∷ others) (spread xs) q)
     (text_no_hash Div own (apart others xs) q l (goes_apart (own ∷ others) xs Fresh g))
+no_hashbang (Named pos own ∷ xs) q l s g = text_no_hash _ own xs q l g

@@ -60,9 +60,9 @@ wrote (x ∷ xs) q = own x q ++ wrote xs (next x q)
 
 -- ---- pages
 
-record Moves (p r : Page) (bytes : List ℕ) (q : Pen) : Type 0 where
-  out : r.out ≡ p.out ++ bytes
-  pen_is : pen r ≡ q
+pub record Moves (p r : Page) (bytes : List ℕ) (q : Pen) : Type 0 where
+  pub out : r.out ≡ p.out ++ bytes
+  pub pen_is : pen r ≡ q
 
 begun_same : (s : Option Span) (p : Page) → Moves p (begun s p) [] (pen p)
 unfolding marked
@@ -138,7 +138,8 @@ mark_moves pos p = ⊎_elim
 
 -- ---- pieces
 
-step : Piece → Page → Page
+-- the page behind a piece
+unfoldable pub step : Piece → Page → Page
 step (Text span bytes) p = put span bytes p
 step (Brace span) p = put span (codes "}") p
 step Blank p = put None (codes " ") p
@@ -149,7 +150,7 @@ step (Semicolon span) p = put span (codes ";") p
 step Commit p = p
 step (Mark pos) p = put_mark pos p
 
-step_moves : (x : Piece) (p : Page) → Moves p (step x p) (own x (pen p)) (next x (pen p))
+pub step_moves : (x : Piece) (p : Page) → Moves p (step x p) (own x (pen p)) (next x (pen p))
 unfolding step deeper shallower
 step_moves (Text span bytes) p = put_moves span bytes p
 step_moves (Brace span) p = put_moves span (codes "}") p
@@ -161,7 +162,7 @@ step_moves (Semicolon span) p = put_moves span (codes ";") p
 step_moves Commit p = record { out = sym (append-nil p.out); pen_is = refl }
 step_moves (Mark pos) p = mark_moves pos p
 
-by_step : (x : Piece) (xs : List Piece) (p : Page) → resolved (x ∷ xs) p ≡ resolved xs (step x p)
+pub by_step : (x : Piece) (xs : List Piece) (p : Page) → resolved (x ∷ xs) p ≡ resolved xs (step x p)
 unfolding step
 by_step (Text span bytes) xs p = refl
 by_step (Brace span) xs p = refl

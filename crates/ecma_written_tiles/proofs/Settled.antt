@@ -16,7 +16,7 @@ use Rattle.ecma_written.specs.Gaps.{Gap}
 use Rattle.ecma_written.specs.Says.{IsSaid, SemicolonMayGo}
 use Rattle.ecma_written_tiles.specs.Classes.{State, Clear, Shut, Closed, takes, is_open}
 use Rattle.ecma_written_tiles.specs.Goes.{When}
-use Rattle.ecma_written_tiles.proofs.Items.{Item, Plain, Meant, spread, GoesAll, SaysAll, shut_for_clear}
+use Rattle.ecma_written_tiles.proofs.Items.{Item, Plain, Meant, Named, spread, GoesAll, SaysAll, shut_for_clear}
 use Rattle.ecma_written_tiles.proofs.Marks.{right_brace, right_brace_is, semicolon_mark}
 use Rattle.ecma_written_tiles.proofs.Walks.{When_mono, when_so, meaning_mono, meaning_reach}
 use Rattle.ecma_written.proofs.Bridge.{first_kind}
@@ -34,6 +34,7 @@ abbrev mutual
   settled (Plain Commit ∷ xs) = Plain Commit ∷ settled xs
   settled (Plain (Mark pos) ∷ xs) = Plain (Mark pos) ∷ settled xs
   settled (Meant m ∷ xs) = Meant m ∷ settled xs
+  settled (Named pos own ∷ xs) = Named pos own ∷ settled xs
 
   -- behind a semicolon
   pub held : Span → List Item → List Item
@@ -48,6 +49,7 @@ abbrev mutual
   held own (Plain Back ∷ xs) = Plain (Text (Some own) (codes ";")) ∷ Plain Back ∷ settled xs
   held own (Plain Commit ∷ xs) = Plain (Text (Some own) (codes ";")) ∷ Plain Commit ∷ settled xs
   held own (Meant m ∷ xs) = Plain (Text (Some own) (codes ";")) ∷ Meant m ∷ settled xs
+  held own (Named pos bytes ∷ xs) = Plain (Text (Some own) (codes ";")) ∷ Named pos bytes ∷ settled xs
 
 short_texts : (own : List (List ℕ)) (ys zs : List Piece) (p : Page) → ((p : Page) → shortened ys p ≡ resolved zs p) → shortened (texts_before own ys) p ≡ resolved (texts_before own zs) p
 short_texts [] ys zs p f = f p
@@ -66,6 +68,7 @@ mutual
   short_settled (Plain Commit ∷ xs) p = short_settled xs _
   short_settled (Plain (Mark pos) ∷ xs) p = short_settled xs _
   short_settled (Meant m ∷ xs) p = short_texts (texts_of m) (spread xs) (spread (settled xs)) p (λ p. short_settled xs p)
+  short_settled (Named pos own ∷ xs) p = short_settled xs _
 
   pub behind_held : (own : Span) (xs : List Item) (p : Page) → held_behind own (spread xs) p ≡ resolved (spread (held own xs)) p
   behind_held own [] p = refl
@@ -83,6 +86,7 @@ mutual
   behind_held own (Meant (template_end bytes) ∷ xs) p = short_settled xs _
   behind_held own (Meant (hashbang_comment bytes) ∷ xs) p = short_settled xs _
   behind_held own (Meant (touching texts) ∷ xs) p = short_settled xs _
+  behind_held own (Named pos bytes ∷ xs) p = short_settled xs _
 
 -- ---- the automaton goes on
 
@@ -102,6 +106,7 @@ mutual
   goes_settled (Plain Commit ∷ xs) s g = goes_settled xs s g
   goes_settled (Plain (Mark pos) ∷ xs) s g = goes_settled xs s g
   goes_settled (Meant m ∷ xs) s g = meaning_mono m s (λ t. GoesAll xs t) (λ t. GoesAll (settled xs) t) g (λ t h. goes_settled xs t h)
+  goes_settled (Named pos own ∷ xs) s g = (g.0, g.1, When_mono (takes g.0 s) _ _ g.2 (λ h. goes_settled xs _ h))
 
   -- behind a semicolon that isn't written yet
   pub goes_held : (own : Span) (xs : List Item) (s : State) → is_open s ≡ true → GoesAll xs Clear → GoesAll (held own xs) s
@@ -119,6 +124,9 @@ mutual
   goes_held own (Plain Commit ∷ xs) s o g = (Closed, semicolon_mark, open_shut s o _ (goes_settled xs Shut (shut_for_clear xs g)))
   goes_held own (Meant m ∷ xs) s o g =
       (Closed, semicolon_mark, open_shut s o _ (meaning_mono m Shut (λ t. GoesAll xs t) (λ t. GoesAll (settled xs) t) (shut_for_clear (Meant m ∷ xs) g) (λ t h. goes_settled xs t h)))
+  goes_held own (Named pos bytes ∷ xs) s o g =
+      let h = shut_for_clear (Named pos bytes ∷ xs) g in
+      (Closed, semicolon_mark, open_shut s o _ (h.0, h.1, When_mono (takes h.0 Shut) _ _ h.2 (λ h. goes_settled xs _ h)))
 
 -- ---- what is said
 
@@ -134,32 +142,35 @@ Semi a ts b r = IsSaid Div (codes ";") a ts b r ⊎ ((b ≡ a) × (ts ≡ r) × 
 moved_semi : (a k b : Gap) (ts m r : Input) → k ≡ a → ts ≡ m → Semi k m b r → Semi a ts b r
 moved_semi a k b ts m r e f h = subst (λ (t : Input). Semi a t b r) (sym f) (subst (λ (g : Gap). Semi g m b r) e h)
 
-mutual
-  pub says_settled : (xs : List Item) (s : State) (a b : Gap) (ts r : Input) → GoesAll xs s → r.places ≡ [] → SaysAll (settled xs) a ts b r → SaysAll xs a ts b r
-  says_settled [] s a b ts r g e h = h
-  says_settled (Plain (Semicolon span) ∷ xs) s a b ts r g e h = says_held (span_or_none span) span xs a b ts r (when_so _ _ g).1 e h
-  says_settled (Plain (Text span own) ∷ xs) s a b ts r g e h = (h.0, h.1, h.2, says_settled xs _ h.0 b h.1 r (when_so _ _ g.2).1 e h.3)
-  says_settled (Plain (Brace span) ∷ xs) s a b ts r g e h = (h.0, h.1, h.2, says_settled xs _ h.0 b h.1 r (when_so _ _ g).1 e h.3)
-  says_settled (Plain Blank ∷ xs) s a b ts r g e h = (h.0, h.1, h.2, says_settled xs _ h.0 b h.1 r (when_so _ _ g).1 e h.3)
-  says_settled (Plain Line ∷ xs) s a b ts r g e h = (h.0, h.1, h.2, says_settled xs _ h.0 b h.1 r (when_so _ _ g).1 e h.3)
-  says_settled (Plain Deeper ∷ xs) s a b ts r g e h = (h.0, h.1, h.2, says_settled xs s h.0 b h.1 r g e h.3)
-  says_settled (Plain Back ∷ xs) s a b ts r g e h = (h.0, h.1, h.2, says_settled xs s h.0 b h.1 r g e h.3)
-  says_settled (Plain Commit ∷ xs) s a b ts r g e h = (h.0, h.1, h.2, says_settled xs s h.0 b h.1 r g e h.3)
-  says_settled (Plain (Mark pos) ∷ xs) s a b ts r g e h = (h.0, h.1, h.2, says_settled xs s h.0 b h.1 r g e h.3)
-  says_settled (Meant m ∷ xs) s a b ts r g e h = let t = meaning_reach m s (λ t. GoesAll xs t) g in (h.0, h.1, h.2, says_settled xs t.0 h.0 b h.1 r t.1 e h.3)
+module _ (N : ℕ → ℕ → Type 0) where
+  mutual
+    pub says_settled : (xs : List Item) (s : State) (a b : Gap) (ts r : Input) → GoesAll xs s → r.places ≡ [] → SaysAll N (settled xs) a ts b r → SaysAll N xs a ts b r
+    says_settled [] s a b ts r g e h = h
+    says_settled (Plain (Semicolon span) ∷ xs) s a b ts r g e h = says_held (span_or_none span) span xs a b ts r (when_so _ _ g).1 e h
+    says_settled (Plain (Text span own) ∷ xs) s a b ts r g e h = (h.0, h.1, h.2, says_settled xs _ h.0 b h.1 r (when_so _ _ g.2).1 e h.3)
+    says_settled (Plain (Brace span) ∷ xs) s a b ts r g e h = (h.0, h.1, h.2, says_settled xs _ h.0 b h.1 r (when_so _ _ g).1 e h.3)
+    says_settled (Plain Blank ∷ xs) s a b ts r g e h = (h.0, h.1, h.2, says_settled xs _ h.0 b h.1 r (when_so _ _ g).1 e h.3)
+    says_settled (Plain Line ∷ xs) s a b ts r g e h = (h.0, h.1, h.2, says_settled xs _ h.0 b h.1 r (when_so _ _ g).1 e h.3)
+    says_settled (Plain Deeper ∷ xs) s a b ts r g e h = (h.0, h.1, h.2, says_settled xs s h.0 b h.1 r g e h.3)
+    says_settled (Plain Back ∷ xs) s a b ts r g e h = (h.0, h.1, h.2, says_settled xs s h.0 b h.1 r g e h.3)
+    says_settled (Plain Commit ∷ xs) s a b ts r g e h = (h.0, h.1, h.2, says_settled xs s h.0 b h.1 r g e h.3)
+    says_settled (Plain (Mark pos) ∷ xs) s a b ts r g e h = (h.0, h.1, h.2, says_settled xs s h.0 b h.1 r g e h.3)
+    says_settled (Meant m ∷ xs) s a b ts r g e h = let t = meaning_reach m s (λ t. GoesAll xs t) g in (h.0, h.1, h.2, says_settled xs t.0 h.0 b h.1 r t.1 e h.3)
+    says_settled (Named pos own ∷ xs) s a b ts r g e h = (h.0, h.1, h.2, says_settled xs _ h.0 b h.1 r (when_so _ _ g.2).1 e h.3)
 
-  pub says_held : (own : Span) (span : Option Span) (xs : List Item) (a b : Gap) (ts r : Input) → GoesAll xs Clear → r.places ≡ [] → SaysAll (held own xs) a ts b r → SaysAll (Plain (Semicolon span) ∷ xs) a ts b r
-  says_held own span [] a b ts r g e h = (a, ts, inr (refl, refl, inr (ap kind_of (ap (λ (t : Input). t.places) h.1 ∙ e))), h)
-  says_held own span (Plain (Brace o) ∷ xs) a b ts r g e h = (a, ts, inr (refl, refl, inl (brace_kind a h.0 ts h.1 h.2)), (h.0, h.1, h.2, says_settled xs _ h.0 b h.1 r g e h.3))
-  says_held own span (Plain (Mark pos) ∷ xs) a b ts r g e h =
-      let k = says_held own span xs h.0 b h.1 r g e h.3 in
-      (k.0, k.1, moved_semi a h.0 k.0 ts h.1 k.1 h.2.0 h.2.1 k.2, (k.0, k.1, (refl, refl), k.3))
-  says_held own span (Plain (Semicolon o) ∷ xs) a b ts r g e h = (h.0, h.1, inl h.2, says_held (span_or_none o) o xs h.0 b h.1 r g e h.3)
-  says_held own span (Plain (Text o bytes) ∷ xs) a b ts r g e h = (h.0, h.1, inl h.2, (h.3.0, h.3.1, h.3.2, says_settled xs _ h.3.0 b h.3.1 r (when_so _ _ g.2).1 e h.3.3))
-  says_held own span (Plain Blank ∷ xs) a b ts r g e h = (h.0, h.1, inl h.2, (h.3.0, h.3.1, h.3.2, says_settled xs _ h.3.0 b h.3.1 r g e h.3.3))
-  says_held own span (Plain Line ∷ xs) a b ts r g e h = (h.0, h.1, inl h.2, (h.3.0, h.3.1, h.3.2, says_settled xs _ h.3.0 b h.3.1 r g e h.3.3))
-  says_held own span (Plain Deeper ∷ xs) a b ts r g e h = (h.0, h.1, inl h.2, (h.3.0, h.3.1, h.3.2, says_settled xs Clear h.3.0 b h.3.1 r g e h.3.3))
-  says_held own span (Plain Back ∷ xs) a b ts r g e h = (h.0, h.1, inl h.2, (h.3.0, h.3.1, h.3.2, says_settled xs Clear h.3.0 b h.3.1 r g e h.3.3))
-  says_held own span (Plain Commit ∷ xs) a b ts r g e h = (h.0, h.1, inl h.2, (h.3.0, h.3.1, h.3.2, says_settled xs Clear h.3.0 b h.3.1 r g e h.3.3))
-  says_held own span (Meant m ∷ xs) a b ts r g e h =
-      let t = meaning_reach m Clear (λ t. GoesAll xs t) g in (h.0, h.1, inl h.2, (h.3.0, h.3.1, h.3.2, says_settled xs t.0 h.3.0 b h.3.1 r t.1 e h.3.3))
+    pub says_held : (own : Span) (span : Option Span) (xs : List Item) (a b : Gap) (ts r : Input) → GoesAll xs Clear → r.places ≡ [] → SaysAll N (held own xs) a ts b r → SaysAll N (Plain (Semicolon span) ∷ xs) a ts b r
+    says_held own span [] a b ts r g e h = (a, ts, inr (refl, refl, inr (ap kind_of (ap (λ (t : Input). t.places) h.1 ∙ e))), h)
+    says_held own span (Plain (Brace o) ∷ xs) a b ts r g e h = (a, ts, inr (refl, refl, inl (brace_kind a h.0 ts h.1 h.2)), (h.0, h.1, h.2, says_settled xs _ h.0 b h.1 r g e h.3))
+    says_held own span (Plain (Mark pos) ∷ xs) a b ts r g e h =
+        let k = says_held own span xs h.0 b h.1 r g e h.3 in
+        (k.0, k.1, moved_semi a h.0 k.0 ts h.1 k.1 h.2.0 h.2.1 k.2, (k.0, k.1, (refl, refl), k.3))
+    says_held own span (Plain (Semicolon o) ∷ xs) a b ts r g e h = (h.0, h.1, inl h.2, says_held (span_or_none o) o xs h.0 b h.1 r g e h.3)
+    says_held own span (Plain (Text o bytes) ∷ xs) a b ts r g e h = (h.0, h.1, inl h.2, (h.3.0, h.3.1, h.3.2, says_settled xs _ h.3.0 b h.3.1 r (when_so _ _ g.2).1 e h.3.3))
+    says_held own span (Plain Blank ∷ xs) a b ts r g e h = (h.0, h.1, inl h.2, (h.3.0, h.3.1, h.3.2, says_settled xs _ h.3.0 b h.3.1 r g e h.3.3))
+    says_held own span (Plain Line ∷ xs) a b ts r g e h = (h.0, h.1, inl h.2, (h.3.0, h.3.1, h.3.2, says_settled xs _ h.3.0 b h.3.1 r g e h.3.3))
+    says_held own span (Plain Deeper ∷ xs) a b ts r g e h = (h.0, h.1, inl h.2, (h.3.0, h.3.1, h.3.2, says_settled xs Clear h.3.0 b h.3.1 r g e h.3.3))
+    says_held own span (Plain Back ∷ xs) a b ts r g e h = (h.0, h.1, inl h.2, (h.3.0, h.3.1, h.3.2, says_settled xs Clear h.3.0 b h.3.1 r g e h.3.3))
+    says_held own span (Plain Commit ∷ xs) a b ts r g e h = (h.0, h.1, inl h.2, (h.3.0, h.3.1, h.3.2, says_settled xs Clear h.3.0 b h.3.1 r g e h.3.3))
+    says_held own span (Meant m ∷ xs) a b ts r g e h =
+        let t = meaning_reach m Clear (λ t. GoesAll xs t) g in (h.0, h.1, inl h.2, (h.3.0, h.3.1, h.3.2, says_settled xs t.0 h.3.0 b h.3.1 r t.1 e h.3.3))
+    says_held own span (Named pos bytes ∷ xs) a b ts r g e h = (h.0, h.1, inl h.2, (h.3.0, h.3.1, h.3.2, says_settled xs _ h.3.0 b h.3.1 r (when_so _ _ g.2).1 e h.3.3))

@@ -1,5 +1,5 @@
 -- The bytes of items are tiled by the tokens that they say.
-use Rattle.std.proofs.Common.{◌≡◌, ◌≢◌, ℕ, ◌+◌, ◌⊎◌, inl, inr, ⊎_elim, Bool, true, false, ◌||◌, List, [], ◌∷◌, ◌++◌, None, length, length-append, refl, sym, ap, subst, ◌∙◌, append_assoc, arith}
+use Rattle.std.proofs.Common.{◌≡◌, ◌≢◌, ℕ, ◌+◌, ◌-◌, ◌⊎◌, inl, inr, ⊎_elim, Bool, true, false, ◌||◌, List, [], ◌∷◌, ◌++◌, None, length, length-append, refl, sym, ap, subst, ◌∙◌, append_assoc, arith}
 use Rattle.std.specs.Prelude.{codes, encode_utf8_all}
 use Rattle.std.specs.Str.{chars, IsUtf8}
 use Rattle.std.proofs.lemmas.Str.{chars-append, chars-nil, encodes-append, encodes-chars}
@@ -16,7 +16,7 @@ use Rattle.ecma_lexeme.specs.declared.goal.LexicalGoal.{LexicalGoal}
 use Rattle.ecma_lexeme.specs.declared.goal.LexicalGoal.TheVariants.{Div, RegExp, TemplateTail, TemplateEnd}
 use Rattle.ecma_lexeme.specs.Lexemes.{IsLexeme}
 use Rattle.ecma_lexing.specs.States.{place, spot_at}
-use Rattle.ecma_syntax.specs.Input.{Place, Input, no_context}
+use Rattle.ecma_syntax.specs.Input.{Place, Input, no_context, lo}
 use Rattle.ecma_spells.specs.Tiled.{goal_at, IsBefore, IsTile, AreTiles}
 use Rattle.ecma_pieces.specs.Pieces.{Piece, Text, Brace, Blank, Line, Deeper, Back, Semicolon, Commit, Mark}
 use Rattle.ecma_layout.specs.Looks.{regular_expression, template_characters, template_end, hashbang_comment, touching, joined, texts_of}
@@ -27,8 +27,8 @@ use Rattle.ecma_written_tiles.specs.Following.{Quiet, QuietUnder, Arrowless, Fol
 use Rattle.ecma_written_tiles.specs.Tiles.{AllHaveGoals}
 use Rattle.ecma_written_tiles.specs.Goes.{Fits, When, GoesText}
 use Rattle.ecma_written_tiles.proofs.Gaps.{Blankness, White, Feed, Return, gap_before, is_end_of_line, breaks_line, AreBlank, are_skipped}
-use Rattle.ecma_written_tiles.proofs.Items.{Item, Plain, Meant, spread, GoesAll, SaysItem, SaysAll, apart, spread_apart, goes_apart, says_apart, shut_for_clear, front_nil}
-use Rattle.ecma_written_tiles.proofs.Leads.{Lines, Lead, lead_of, gap_append, gap_join, blank_join, breaks_join, breaks_flat, wrote_texts, next_lines, text_lines, follows, lone_32}
+use Rattle.ecma_written_tiles.proofs.Items.{Item, Plain, Meant, Named, spread, GoesAll, SaysItem, SaysAll, apart, spread_apart, goes_apart, says_apart, shut_for_clear, front_nil}
+use Rattle.ecma_written_tiles.proofs.Leads.{Lines, Lead, lead_of, gap_append, gap_join, blank_join, breaks_join, breaks_flat, wrote_texts, after_texts, after_joined, next_lines, text_lines, follows, lone_32}
 use Rattle.ecma_written_tiles.proofs.Marks.{right_brace, semicolon_mark}
 use Rattle.ecma_written_tiles.proofs.Pen.{Pen, lead, own_text, after_text, own, next, wrote}
 use Rattle.ecma_written_tiles.proofs.Touch.{needs}
@@ -138,6 +138,7 @@ pub record First (goal : Goal) (end : ℕ) (g : LexicalGoal) (own : List ℕ) (u
   pub place : Place
   pub tile : IsTile end goal first (gap_before us (chars own ++ rest)) place rest
   pub said : (ps : List Place) → IsSaid g own a (record { last = last; places = place ∷ ps }) Touching (record { last = place.spot.hi; places = ps })
+  pub begins : place.spot.lo ≡ end - bytes (chars own ++ rest)
   pub on : place.spot.hi + bytes rest ≡ end
   pub goal_is : place.goal ≡ goal_number g
 
@@ -178,6 +179,7 @@ first_token goal end g own k s us first a last rest f st inner h e =
         under = same_goal g;
         behind = refl;
       };
+      begins = refl;
       on = on;
       goal_is = refl;
     }
@@ -196,12 +198,19 @@ line_starts q e = rw e refl
 line_goes : (q : Pen) → q.at_start ≡ false → own Line q ≡ q.line_end
 line_goes q e = rw e refl
 
-pub record Tiled (goal : Goal) (end : ℕ) (xs : List Item) (text : List ℕ) (first : Bool) (a : Gap) (last : ℕ) : Type 0 where
+-- N holds of where each name was read and of where its text begins, in a text that ends at a place.
+abbrev pub AllPlaced : (ℕ → ℕ → Type 0) → ℕ → List Item → Pen → Type 0
+AllPlaced N end [] q = Unit {0}
+AllPlaced N end (Plain x ∷ xs) q = AllPlaced N end xs (next x q)
+AllPlaced N end (Meant m ∷ xs) q = AllPlaced N end xs (after_texts (texts_of m) q)
+AllPlaced N end (Named pos own ∷ xs) q = N pos.0 (place end (chars own ++ chars (wrote (spread xs) (after_text own q)))) × AllPlaced N end xs (after_text own q)
+
+pub record Tiled (goal : Goal) (end : ℕ) (N : ℕ → ℕ → Type 0) (xs : List Item) (text : List ℕ) (first : Bool) (a : Gap) (last : ℕ) : Type 0 where
   pub places : List Place
   pub tiles : AreTiles end goal first text places
   pub gap : Gap
   pub over : Input
-  pub says : SaysAll xs a (record { last = last; places = places }) gap over
+  pub says : SaysAll N xs a (record { last = last; places = places }) gap over
   pub all : over.places ≡ []
   pub goals : AllHaveGoals places
 
@@ -221,7 +230,7 @@ inner_blank g k s own us t c f h i = ⊎_elim
     end_takes _ e = absurd (false≢true e)
 
 -- A text in its place, and what comes behind it.
-module _ (goal : Goal) (end : ℕ) where
+module _ (goal : Goal) (end : ℕ) (N : ℕ → ℕ → Type 0) where
   behind_stands : (s : State) → Stands goal s [] false Touching
   behind_stands s = record { blank = tt; fresh = λ e. absurd (false≢true e); tight = λ e. refl; tighter = λ e. refl; broke = refl; touching = λ e. refl }
 
@@ -266,11 +275,11 @@ module _ (goal : Goal) (end : ℕ) where
 
   -- one text, and then the rest
   text_tiled : (g : LexicalGoal) (own : List ℕ) (k : Class) (x : Item) (xs : List Item) (q : Pen) (s : State) (us : List Blankness) (first : Bool) (a : Gap) (last : ℕ) (w : List ℕ)
-      → ((ts r : Input) → IsSaid g own a ts Touching r → SaysItem x a ts Touching r)
+      → ((ts r : Input) → IsSaid g own a ts Touching r → lo ts ≡ place end (chars own ++ chars w) → SaysItem N x a ts Touching r)
       → Lines q → Fits g own k → takes k s ≡ true → (own ≡ [] → q.at_start ≡ false) → (is_inner g ≡ true → (k ≡ Quasi) ⊎ (k ≡ End)) → More q s us first a → Follows (behind k s) (chars w)
       → last + bytes (gap_before us (chars (own_text own q ++ w))) ≡ end
-      → ((last2 : ℕ) → last2 + bytes (chars w) ≡ end → Tiled goal end xs (chars w) false Touching last2)
-      → Tiled goal end (x ∷ xs) (gap_before us (chars (own_text own q ++ w))) first a last
+      → ((last2 : ℕ) → last2 + bytes (chars w) ≡ end → Tiled goal end N xs (chars w) false Touching last2)
+      → Tiled goal end N (x ∷ xs) (gap_before us (chars (own_text own q ++ w))) first a last
   text_tiled g own k x xs q s us first a last w say l f t empty inner m h e go =
       let d = lead_of q l in
       let same = left_text own q us w d f.utf8 empty in
@@ -282,7 +291,7 @@ module _ (goal : Goal) (end : ℕ) where
         tiles = (chars w, subst (λ (c : List ℕ). IsTile end goal first c one.place (chars w)) (sym same) one.tile, more.tiles);
         gap = more.gap;
         over = more.over;
-        says = (Touching, record { last = one.place.spot.hi; places = more.places }, say _ _ (one.said more.places), more.says);
+        says = (Touching, record { last = one.place.spot.hi; places = more.places }, say (record { last = last; places = one.place ∷ more.places }) (record { last = one.place.spot.hi; places = more.places }) (one.said more.places) one.begins, more.says);
         all = more.all;
         goals = (goaled g one.place.goal one.goal_is, more.goals);
       }
@@ -307,12 +316,12 @@ module _ (goal : Goal) (end : ℕ) where
 
   -- one text by the automaton
   goes_tiled : (g : LexicalGoal) (own : List ℕ) (x : Item) (xs : List Item) (q : Pen) (s : State) (us : List Blankness) (first : Bool) (a : Gap) (last : ℕ)
-      → ((ts r : Input) → IsSaid g own a ts Touching r → SaysItem x a ts Touching r)
+      → ((ts r : Input) → IsSaid g own a ts Touching r → lo ts ≡ place end (chars own ++ chars (wrote (spread xs) (after_text own q))) → SaysItem N x a ts Touching r)
       → Lines q → (h : GoesText g own s (λ t. GoesAll xs t)) → More q s us first a
       → last + bytes (gap_before us (chars (own_text own q ++ wrote (spread xs) (after_text own q)))) ≡ end
       → ((last2 : ℕ) → GoesAll xs (behind h.0 s) → (after_text own q).at_start ≡ false → Lines (after_text own q) → last2 + bytes (chars (wrote (spread xs) (after_text own q))) ≡ end
-      → Tiled goal end xs (chars (wrote (spread xs) (after_text own q))) false Touching last2)
-      → Tiled goal end (x ∷ xs) (gap_before us (chars (own_text own q ++ wrote (spread xs) (after_text own q)))) first a last
+      → Tiled goal end N xs (chars (wrote (spread xs) (after_text own q))) false Touching last2)
+      → Tiled goal end N (x ∷ xs) (gap_before us (chars (own_text own q ++ wrote (spread xs) (after_text own q)))) first a last
   goes_tiled g own x xs q s us first a last say l h m e go =
       let t = when_so (takes h.0 s) (GoesAll xs (behind h.0 s)) h.2 in
       let empty : own ≡ [] → q.at_start ≡ false = λ n. empty_running h.0 q s (subst (λ (o : List ℕ). Front h.0 o) (ap chars n ∙ chars-nil) h.1.front) t.0 m.starts in
@@ -397,12 +406,12 @@ module _ (goal : Goal) (end : ℕ) where
   }
 
   -- an item that says nothing
-  silent : (x : Item) (xs : List Item) (text : List ℕ) (first : Bool) (a k : Gap) (last : ℕ) → ((ts : Input) → SaysItem x a ts k ts) → Tiled goal end xs text first k last → Tiled goal end (x ∷ xs) text first a last
+  silent : (x : Item) (xs : List Item) (text : List ℕ) (first : Bool) (a k : Gap) (last : ℕ) → ((ts : Input) → SaysItem N x a ts k ts) → Tiled goal end N xs text first k last → Tiled goal end N (x ∷ xs) text first a last
   silent x xs text first a k last say t =
       record { places = t.places; tiles = t.tiles; gap = t.gap; over = t.over; says = (k, record { last = last; places = t.places }, say _, t.says); all = t.all; goals = t.goals }
 
-  at_text : (xs : List Item) (x y : List ℕ) (first : Bool) (a : Gap) (last : ℕ) → x ≡ y → Tiled goal end xs y first a last → Tiled goal end xs x first a last
-  at_text xs x y first a last e t = subst (λ (l : List ℕ). Tiled goal end xs l first a last) (sym e) t
+  at_text : (xs : List Item) (x y : List ℕ) (first : Bool) (a : Gap) (last : ℕ) → x ≡ y → Tiled goal end N xs y first a last → Tiled goal end N xs x first a last
+  at_text xs x y first a last e t = subst (λ (l : List ℕ). Tiled goal end N xs l first a last) (sym e) t
 
   shut_when : (s : State) (xs : List Item) → When (is_open s) (GoesAll xs Clear) → When (is_open s) (GoesAll xs Shut)
   shut_when s xs h = by (is_open s) h
@@ -416,23 +425,27 @@ module _ (goal : Goal) (end : ℕ) where
 
   -- Items that go are tiled wherever they stand.
   abbrev IsTiled : List Item → Type 0
-  IsTiled xs = (q : Pen) (s : State) (us : List Blankness) (first : Bool) (a : Gap) (last : ℕ) → Lines q → GoesAll xs s → More q s us first a
-      → last + bytes (gap_before us (chars (wrote (spread xs) q))) ≡ end → Tiled goal end xs (gap_before us (chars (wrote (spread xs) q))) first a last
+  IsTiled xs = (q : Pen) (s : State) (us : List Blankness) (first : Bool) (a : Gap) (last : ℕ) → Lines q → AllPlaced N end xs q → GoesAll xs s → More q s us first a
+      → last + bytes (gap_before us (chars (wrote (spread xs) q))) ≡ end → Tiled goal end N xs (gap_before us (chars (wrote (spread xs) q))) first a last
+
+  placed_apart : (texts : List (List ℕ)) (xs : List Item) (q : Pen) → AllPlaced N end xs (after_texts texts q) → AllPlaced N end (apart texts xs) q
+  placed_apart [] xs q h = h
+  placed_apart (own ∷ others) xs q h = placed_apart others xs (after_text own q) h
 
   -- texts that touch
   tiled_apart : (texts : List (List ℕ)) (xs : List Item) → IsTiled xs → IsTiled (apart texts xs)
-  tiled_apart [] xs ih q s us first a last l g m e = ih q s us first a last l g m e
-  tiled_apart (own ∷ others) xs ih q s us first a last l g m e =
-      goes_tiled Div own (Plain (Text None own)) (apart others xs) q s us first a last (λ ts r h. h) l g m e
-      (λ last2 h r l2 f. tiled_apart others xs ih (after_text own q) (behind g.0 s) [] false Touching last2 l2 h (text_more (after_text own q) (behind g.0 s) r) f)
+  tiled_apart [] xs ih q s us first a last l n g m e = ih q s us first a last l n g m e
+  tiled_apart (own ∷ others) xs ih q s us first a last l n g m e =
+      goes_tiled Div own (Plain (Text None own)) (apart others xs) q s us first a last (λ ts r h k. h) l g m e
+      (λ last2 h r l2 f. tiled_apart others xs ih (after_text own q) (behind g.0 s) [] false Touching last2 l2 n h (text_more (after_text own q) (behind g.0 s) r) f)
 
-  together : (texts : List (List ℕ)) (xs : List Item) (x y : List ℕ) (first : Bool) (a : Gap) (last : ℕ) → x ≡ y → Tiled goal end (apart texts xs) y first a last → Tiled goal end (Meant (touching texts) ∷ xs) x first a last
+  together : (texts : List (List ℕ)) (xs : List Item) (x y : List ℕ) (first : Bool) (a : Gap) (last : ℕ) → x ≡ y → Tiled goal end N (apart texts xs) y first a last → Tiled goal end N (Meant (touching texts) ∷ xs) x first a last
   together texts xs x y first a last e t =
-      let z = says_apart texts xs a t.gap (record { last = last; places = t.places }) t.over t.says in
+      let z = says_apart N texts xs a t.gap (record { last = last; places = t.places }) t.over t.says in
       at_text (Meant (touching texts) ∷ xs) x y first a last e (record { places = t.places; tiles = t.tiles; gap = t.gap; over = t.over; says = (z.0, z.1, z.2, z.3); all = t.all; goals = t.goals })
 
   pub tiled : (xs : List Item) → IsTiled xs
-  tiled [] q s us first a last l g m e =
+  tiled [] q s us first a last l n g m e =
       at_text [] (gap_before us (chars [])) (gap_before us []) first a last (ap (gap_before us) chars-nil) (record {
         places = [];
         tiles = (breaks_line us, are_skipped goal first us [] m.st.blank tt (no_trivia goal (first || breaks_line us) [] quiet_nil (λ f inner k. cc)));
@@ -442,13 +455,13 @@ module _ (goal : Goal) (end : ℕ) where
         all = refl;
         goals = tt;
       })
-  tiled (Plain (Text span own) ∷ xs) q s us first a last l g m e =
-      goes_tiled Div own (Plain (Text span own)) xs q s us first a last (λ ts r h. h) l g m e
-      (λ last2 h r l2 f. tiled xs (after_text own q) (behind g.0 s) [] false Touching last2 l2 h (text_more (after_text own q) (behind g.0 s) r) f)
-  tiled (Plain (Brace span) ∷ xs) q s us first a last l g m e =
-      goes_tiled Div (codes "}") (Plain (Brace span)) xs q s us first a last (λ ts r h. h) l (Closed, right_brace, g) m e
-      (λ last2 h r l2 f. tiled xs (after_text (codes "}") q) Shut [] false Touching last2 l2 h (text_more (after_text (codes "}") q) Shut r) f)
-  tiled (Plain Blank ∷ xs) q s us first a last l g m e =
+  tiled (Plain (Text span own) ∷ xs) q s us first a last l n g m e =
+      goes_tiled Div own (Plain (Text span own)) xs q s us first a last (λ ts r h k. h) l g m e
+      (λ last2 h r l2 f. tiled xs (after_text own q) (behind g.0 s) [] false Touching last2 l2 n h (text_more (after_text own q) (behind g.0 s) r) f)
+  tiled (Plain (Brace span) ∷ xs) q s us first a last l n g m e =
+      goes_tiled Div (codes "}") (Plain (Brace span)) xs q s us first a last (λ ts r h k. h) l (Closed, right_brace, g) m e
+      (λ last2 h r l2 f. tiled xs (after_text (codes "}") q) Shut [] false Touching last2 l2 n h (text_more (after_text (codes "}") q) Shut r) f)
+  tiled (Plain Blank ∷ xs) q s us first a last l n g m e =
       let d = lead_of q l in
       let vs : List Blankness = (us ++ d.blanks) ++ White 32 ∷ [] in
       let p : Pen = after_text (codes " ") q in
@@ -458,15 +471,15 @@ module _ (goal : Goal) (end : ℕ) where
       ∙ (ap (λ (l : List ℕ). gap_before (us ++ d.blanks) (l ++ w)) lone_32.same ∙ sym (gap_join (us ++ d.blanks) (White 32 ∷ []) w)) in
       at_text (Plain Blank ∷ xs) _ (gap_before vs w) first a last same
       (silent (Plain Blank) xs (gap_before vs w) first a (blanked a) last (λ ts. (refl, refl))
-      (tiled xs p (blank_behind s) vs first (blanked a) last (text_lines (codes " ") q l) (when_so _ _ g).1 (blank_more q s us first a d m) (ap (λ (c : List ℕ). last + bytes c) (sym same) ∙ e)))
-  tiled (Plain Line ∷ xs) q s us first a last l g m e =
+      (tiled xs p (blank_behind s) vs first (blanked a) last (text_lines (codes " ") q l) n (when_so _ _ g).1 (blank_more q s us first a d m) (ap (λ (c : List ℕ). last + bytes c) (sym same) ∙ e)))
+  tiled (Plain Line ∷ xs) q s us first a last l n g m e =
       let p : Pen = next Line q in
       let w : List ℕ = wrote (spread xs) p in ⊎_elim
       (λ (t : q.at_start ≡ true).
       let same : gap_before us (chars (own Line q ++ w)) ≡ gap_before us (chars w) = ap (λ (o : List ℕ). gap_before us (chars (o ++ w))) (line_starts q t) in
       at_text (Plain Line ∷ xs) _ (gap_before us (chars w)) first a last same
       (silent (Plain Line) xs (gap_before us (chars w)) first a a last (λ ts. (inr refl, refl))
-      (tiled xs p Fresh us first a last (next_lines Line q l) (when_so _ _ g).1 (start_more q s us first a t m) (ap (λ (c : List ℕ). last + bytes c) (sym same) ∙ e))))
+      (tiled xs p Fresh us first a last (next_lines Line q l) n (when_so _ _ g).1 (start_more q s us first a t m) (ap (λ (c : List ℕ). last + bytes c) (sym same) ∙ e))))
       (λ (f : q.at_start ≡ false).
       let vs : List Blankness = us ++ l.line ∷ [] in
       let same : gap_before us (chars (own Line q ++ w)) ≡ gap_before vs (chars w) =
@@ -474,41 +487,45 @@ module _ (goal : Goal) (end : ℕ) where
       ∙ (ap (gap_before us) (chars-append q.line_end w l.line_utf8 ∙ (ap (λ (o : List ℕ). o ++ chars w) l.line_chars ∙ gap_append (l.line ∷ []) [] (chars w))) ∙ sym (gap_join us (l.line ∷ []) (chars w))) in
       at_text (Plain Line ∷ xs) _ (gap_before vs (chars w)) first a last same
       (silent (Plain Line) xs (gap_before vs (chars w)) first a Broken last (λ ts. (inl refl, refl))
-      (tiled xs p Fresh vs first Broken last (next_lines Line q l) (when_so _ _ g).1 (line_more q s us first a l f m) (ap (λ (c : List ℕ). last + bytes c) (sym same) ∙ e))))
+      (tiled xs p Fresh vs first Broken last (next_lines Line q l) n (when_so _ _ g).1 (line_more q s us first a l f m) (ap (λ (c : List ℕ). last + bytes c) (sym same) ∙ e))))
       (cases_Bool q.at_start)
-  tiled (Plain Deeper ∷ xs) q s us first a last l g m e =
-      let t = tiled xs (next Deeper q) s us first a last (next_lines Deeper q l) g (record { st = m.st; starts = m.starts; apart = m.apart }) e in
+  tiled (Plain Deeper ∷ xs) q s us first a last l n g m e =
+      let t = tiled xs (next Deeper q) s us first a last (next_lines Deeper q l) n g (record { st = m.st; starts = m.starts; apart = m.apart }) e in
       record { places = t.places; tiles = t.tiles; gap = t.gap; over = t.over; says = (a, record { last = last; places = t.places }, (refl, refl), t.says); all = t.all; goals = t.goals }
-  tiled (Plain Back ∷ xs) q s us first a last l g m e =
-      let t = tiled xs (next Back q) s us first a last (next_lines Back q l) g (record { st = m.st; starts = m.starts; apart = m.apart }) e in
+  tiled (Plain Back ∷ xs) q s us first a last l n g m e =
+      let t = tiled xs (next Back q) s us first a last (next_lines Back q l) n g (record { st = m.st; starts = m.starts; apart = m.apart }) e in
       record { places = t.places; tiles = t.tiles; gap = t.gap; over = t.over; says = (a, record { last = last; places = t.places }, (refl, refl), t.says); all = t.all; goals = t.goals }
-  tiled (Plain (Semicolon span) ∷ xs) q s us first a last l g m e =
-      goes_tiled Div (codes ";") (Plain (Semicolon span)) xs q s us first a last (λ ts r h. inl h) l (Closed, semicolon_mark, shut_when s xs g) m e
-      (λ last2 h r l2 f. tiled xs (after_text (codes ";") q) Shut [] false Touching last2 l2 h (text_more (after_text (codes ";") q) Shut r) f)
-  tiled (Plain Commit ∷ xs) q s us first a last l g m e =
-      let t = tiled xs q s us first a last l g m e in
+  tiled (Plain (Semicolon span) ∷ xs) q s us first a last l n g m e =
+      goes_tiled Div (codes ";") (Plain (Semicolon span)) xs q s us first a last (λ ts r h k. inl h) l (Closed, semicolon_mark, shut_when s xs g) m e
+      (λ last2 h r l2 f. tiled xs (after_text (codes ";") q) Shut [] false Touching last2 l2 n h (text_more (after_text (codes ";") q) Shut r) f)
+  tiled (Plain Commit ∷ xs) q s us first a last l n g m e =
+      let t = tiled xs q s us first a last l n g m e in
       record { places = t.places; tiles = t.tiles; gap = t.gap; over = t.over; says = (a, record { last = last; places = t.places }, (refl, refl), t.says); all = t.all; goals = t.goals }
-  tiled (Plain (Mark pos) ∷ xs) q s us first a last l g m e =
-      let t = tiled xs q s us first a last l g m e in
+  tiled (Plain (Mark pos) ∷ xs) q s us first a last l n g m e =
+      let t = tiled xs q s us first a last l n g m e in
       record { places = t.places; tiles = t.tiles; gap = t.gap; over = t.over; says = (a, record { last = last; places = t.places }, (refl, refl), t.says); all = t.all; goals = t.goals }
-  tiled (Meant (regular_expression body flags) ∷ xs) q s us first a last l g m e =
+  tiled (Meant (regular_expression body flags) ∷ xs) q s us first a last l n g m e =
       let texts : List (List ℕ) = texts_of (regular_expression body flags) in
       let o : List ℕ = joined texts in
       let same : gap_before us (chars (wrote (spread (Meant (regular_expression body flags) ∷ xs)) q)) ≡ gap_before us (chars (own_text o q ++ wrote (spread xs) (after_text o q))) =
       ap (λ (t : List ℕ). gap_before us (chars t)) (wrote_texts texts (spread xs) q) in
       at_text (Meant (regular_expression body flags) ∷ xs) _ _ first a last same
-      (goes_tiled RegExp o (Meant (regular_expression body flags)) xs q s us first a last (λ ts r h. h) l g m (ap (λ (c : List ℕ). last + bytes c) (sym same) ∙ e)
-      (λ last2 h r l2 f. tiled xs (after_text o q) (behind g.0 s) [] false Touching last2 l2 h (text_more (after_text o q) (behind g.0 s) r) f))
-  tiled (Meant (template_characters own) ∷ xs) q s us first a last l g m e =
-      goes_tiled TemplateTail own (Meant (template_characters own)) xs q s us first a last (λ ts r h. h) l g m e
-      (λ last2 h r l2 f. tiled xs (after_text own q) (behind g.0 s) [] false Touching last2 l2 h (text_more (after_text own q) (behind g.0 s) r) f)
-  tiled (Meant (template_end own) ∷ xs) q s us first a last l g m e =
-      goes_tiled TemplateEnd own (Meant (template_end own)) xs q s us first a last (λ ts r h. h) l g m e
-      (λ last2 h r l2 f. tiled xs (after_text own q) (behind g.0 s) [] false Touching last2 l2 h (text_more (after_text own q) (behind g.0 s) r) f)
-  tiled (Meant (hashbang_comment own) ∷ xs) q s us first a last l g m e = absurd g
-  tiled (Meant (touching texts) ∷ xs) q s us first a last l g m e =
+      (goes_tiled RegExp o (Meant (regular_expression body flags)) xs q s us first a last (λ ts r h k. h) l g m (ap (λ (c : List ℕ). last + bytes c) (sym same) ∙ e)
+      (λ last2 h r l2 f. tiled xs (after_text o q) (behind g.0 s) [] false Touching last2 l2 (subst (λ (p : Pen). AllPlaced N end xs p) (after_joined texts q) n) h (text_more (after_text o q) (behind g.0 s) r) f))
+  tiled (Meant (template_characters own) ∷ xs) q s us first a last l n g m e =
+      goes_tiled TemplateTail own (Meant (template_characters own)) xs q s us first a last (λ ts r h k. h) l g m e
+      (λ last2 h r l2 f. tiled xs (after_text own q) (behind g.0 s) [] false Touching last2 l2 n h (text_more (after_text own q) (behind g.0 s) r) f)
+  tiled (Meant (template_end own) ∷ xs) q s us first a last l n g m e =
+      goes_tiled TemplateEnd own (Meant (template_end own)) xs q s us first a last (λ ts r h k. h) l g m e
+      (λ last2 h r l2 f. tiled xs (after_text own q) (behind g.0 s) [] false Touching last2 l2 n h (text_more (after_text own q) (behind g.0 s) r) f)
+  tiled (Meant (hashbang_comment own) ∷ xs) q s us first a last l n g m e = absurd g
+  tiled (Meant (touching texts) ∷ xs) q s us first a last l n g m e =
       let same : wrote (spread (Meant (touching texts) ∷ xs)) q ≡ wrote (spread (apart texts xs)) q =
       sym (ap (λ (ys : List Piece). wrote ys q) (spread_apart texts xs) ∙ wrote_texts texts (spread xs) q) in
-      let t = tiled_apart texts xs (λ q s us first a last l g m e. tiled xs q s us first a last l g m e) q s us first a last l (goes_apart texts xs s g) m
+      let t = tiled_apart texts xs (λ q s us first a last l n g m e. tiled xs q s us first a last l n g m e) q s us first a last l
+      (placed_apart texts xs q (subst (λ (p : Pen). AllPlaced N end xs p) (sym (after_joined texts q)) n)) (goes_apart texts xs s g) m
       (ap (λ (o : List ℕ). last + bytes (gap_before us (chars o))) (sym same) ∙ e) in
       together texts xs (gap_before us (chars (wrote (spread (Meant (touching texts) ∷ xs)) q))) (gap_before us (chars (wrote (spread (apart texts xs)) q))) first a last (ap (λ (o : List ℕ). gap_before us (chars o)) same) t
+  tiled (Named pos own ∷ xs) q s us first a last l n g m e =
+      goes_tiled Div own (Named pos own) xs q s us first a last (λ ts r h k. record { said = h; stands = subst (λ at. N pos.0 at) (sym k) n.0 }) l g m e
+      (λ last2 h r l2 f. tiled xs (after_text own q) (behind g.0 s) [] false Touching last2 l2 n.1 h (text_more (after_text own q) (behind g.0 s) r) f)

@@ -3,7 +3,7 @@ use Rattle.std.proofs.Common.{◌≡◌, ℕ, Bool, true, false, List, [], ◌�
 use Rattle.ecma_lexeme.specs.declared.goal.LexicalGoal.{LexicalGoal}
 use Rattle.ecma_lexeme.specs.declared.goal.LexicalGoal.TheVariants.{Div, RegExp, TemplateTail, TemplateEnd}
 use Rattle.ecma_pieces.specs.Pieces.{Piece, Text, Brace, Blank, Line, Deeper, Back, Semicolon, Commit, Mark}
-use Rattle.ecma_layout.specs.Looks.{Meaning, regular_expression, template_characters, template_end, hashbang_comment, touching, Laid, nothing, one, meant, both, refused, joined, texts_of}
+use Rattle.ecma_layout.specs.Looks.{Meaning, regular_expression, template_characters, template_end, hashbang_comment, touching, Laid, nothing, one, meant, named, both, refused, joined, texts_of}
 use Rattle.ecma_written_tiles.specs.Classes.{State, Fresh, Clear, Shut, is_open, takes, behind, blank_behind}
 use Rattle.ecma_written_tiles.specs.Goes.{When, GoesText, GoesPiece, GoesTexts, GoesMeaning, Goes}
 
@@ -43,6 +43,7 @@ pub mono : (g : Laid) (s : State) (P Q : State → Type 0) → Goes g s P → ((
 mono nothing s P Q h f = f s h
 mono (one x) s P Q h f = piece_mono x s P Q h f
 mono (meant m) s P Q h f = meaning_mono m s P Q h f
+mono (named pos own) s P Q h f = text_mono Div own s P Q h f
 mono (both a b) s P Q h f = mono a s (λ t. Goes b t P) (λ t. Goes b t Q) h (λ t k. mono b t P Q k f)
 mono refused s P Q h f = h
 
@@ -90,5 +91,6 @@ unfolding Reached
 reach nothing s P h = (s, h)
 reach (one x) s P h = piece_reach x s P h
 reach (meant m) s P h = meaning_reach m s P h
+reach (named pos own) s P h = text_reach Div own s P h
 reach (both a b) s P h = let x = reach a s (λ t. Goes b t P) h in reach b x.0 P x.1
 reach refused s P h = absurd h

@@ -5,7 +5,7 @@ use Rattle.ecma_lexeme.specs.declared.goal.LexicalGoal.{LexicalGoal}
 use Rattle.ecma_lexeme.specs.declared.goal.LexicalGoal.TheVariants.{Div, RegExp, TemplateTail, TemplateEnd}
 use Rattle.ecma_lexeme.specs.Lexemes.{SpecLexeme, IsLexeme}
 use Rattle.ecma_pieces.specs.Pieces.{Piece, Text, Brace, Blank, Line, Deeper, Back, Semicolon, Commit, Mark}
-use Rattle.ecma_layout.specs.Looks.{Meaning, regular_expression, template_characters, template_end, hashbang_comment, touching, Laid, nothing, one, meant, both, refused, joined, texts_of}
+use Rattle.ecma_layout.specs.Looks.{Meaning, regular_expression, template_characters, template_end, hashbang_comment, touching, Laid, nothing, one, meant, named, both, refused, joined, texts_of}
 use Rattle.ecma_written.specs.Says.{IsOwn}
 use Rattle.ecma_written_tiles.specs.Classes.{State, Fresh, Clear, Shut, Class, Quasi, End, is_open, takes, behind, blank_behind}
 use Rattle.ecma_written_tiles.specs.Following.{Needs, Front, QuietUnder}
@@ -68,6 +68,7 @@ abbrev pub Goes : Laid → State → (State → Type 0) → Type 0
 Goes nothing s P = P s
 Goes (one x) s P = GoesPiece x s P
 Goes (meant m) s P = GoesMeaning m s P
+Goes (named pos own) s P = GoesText Div own s P
 Goes (both f g) s P = Goes f s (λ t. Goes g t P)
 Goes refused s P = ⊥
 

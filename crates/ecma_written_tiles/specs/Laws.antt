@@ -8,11 +8,11 @@ use Rattle.ecma_write.specs.Pages.{Page}
 use Rattle.ecma_pieces.specs.Pieces.{resolved, shortened}
 use Rattle.ecma_layout.specs.Looks.{Laid, meant, hashbang_comment, ◌·◌, line_always, listed}
 use Rattle.ecma_written_tiles.specs.Goes.{GoesWhole}
-use Rattle.ecma_written_tiles.specs.Tiles.{AllHaveGoals, SaysTiles, IsEmptyPage, IsHashbangText, IsSilent, SameTokens}
+use Rattle.ecma_written_tiles.specs.Tiles.{AllHaveGoals, SaysTiles, anywhere, IsEmptyPage, IsHashbangText, IsSilent, SameTokens}
 
 -- what is written of a layout on a page, formatted and minified, is tiled by tokens that it says
 abbrev pub IsTiled : ℕ → Bool → Laid → Page → Type 0
-IsTiled start modules f p = SaysTiles start modules f (chars (resolved (listed f []) p).out) × SaysTiles start modules f (chars (shortened (listed f []) p).out)
+IsTiled start modules f p = SaysTiles anywhere start modules f (chars (resolved (listed f []) p).out) × SaysTiles anywhere start modules f (chars (shortened (listed f []) p).out)
 
 -- A layout whose texts may stand one after another is written as a text that is tiled by tokens that it says.
 abbrev pub LayoutsAreTiled : Type 0

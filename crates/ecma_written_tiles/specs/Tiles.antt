@@ -20,15 +20,19 @@ abbrev pub AllHaveGoals : List Place → Type 0
 AllHaveGoals [] = Unit {0}
 AllHaveGoals (p ∷ ps) = HasGoal p × AllHaveGoals ps
 
--- The layout says tokens that tile the text, whose characters begin at a place, and no other.
-pub record SaysTiles (start : ℕ) (modules : Bool) (f : Laid) (text : List ℕ) : Type 0 where
+-- The layout says tokens that tile the text, whose characters begin at a place, and no other; N holds of where each name was read and where it is written.
+pub record SaysTiles (N : ℕ → ℕ → Type 0) (start : ℕ) (modules : Bool) (f : Laid) (text : List ℕ) : Type 0 where
   pub places : List Place
   pub tiles : Tile start modules text places
   pub goals : AllHaveGoals places
   pub gap : Gap
   pub over : Input
-  pub says : Says f Spaced (record { last = start; places = places }) gap over
+  pub says : Says N f Spaced (record { last = start; places = places }) gap over
   pub all : over.places ≡ []
+
+-- a name may stand anywhere
+abbrev pub anywhere : ℕ → ℕ → Type 0
+anywhere pos at = Unit {0}
 
 -- A page on which nothing is written yet: its lines end with LF or CR LF, and are indented by white space.
 pub record IsEmptyPage (p : Page) : Type 0 where

@@ -1,11 +1,14 @@
 //! The entries of a printer, with the comments of one source.
-use crate::made::ok;
+use crate::made::{bound, ok};
 use crate::printer::placed::{comment, ident, name_stmt, span};
+use crate::printer::printed::formatted;
 use ecma_ast::Build;
-use ecma_codegen::{Config, EmitError, Emitter, JsWriter, NoPlaces, WriteJs};
+use ecma_codegen::{Config, EmitError, Emitter, JsWriter, NoPlaces, WriteJs, to_code};
 use ecma_comments::{CommentKind, Comments};
-use ecma_node::{Module, ModuleExportName, ModuleItem, Script};
-use ecma_token::{BytePos, Counted};
+use ecma_node::{
+    Module, ModuleExportName, ModuleItem, Script, StmtBox, VarDeclKind, VarDeclarator,
+};
+use ecma_token::{BytePos, Counted, DUMMY_SP};
 use std::alloc::Global;
 use std::process::Abort;
 
@@ -113,4 +116,60 @@ fn scripts_modules_and_names_have_their_comments(rt: HostRuntime) {
         out.inner().as_slice(),
         b"/* s */ a;\n/* m */ b;\n/* n */ c".as_slice()
     );
+}
+
+/// `var a`, as a statement.
+fn variables(rt: &impl Abort, b: &Build) -> StmtBox {
+    let declarator = VarDeclarator {
+        span: DUMMY_SP,
+        name: bound(rt, b),
+        init: None,
+    };
+    let declared = ok(rt, vec![in b.alloc; declarator]);
+    ok(rt, b.var_decl(VarDeclKind::Var, declared))
+}
+
+/// `{}`, as a statement.
+fn braces(rt: &impl Abort, b: &Build) -> StmtBox {
+    ok(rt, b.block_stmt(Vec::new(b.alloc)))
+}
+
+/// Prints a statement alone: as it is, by an emitter, and as a part of a module.
+fn print_alone(rt: &impl Abort, alloc: Global, stmt: StmtBox, wanted: &str) {
+    let text = ok(rt, to_code(alloc, &stmt));
+    let emitted = formatted(rt, alloc, None, &stmt);
+    let item = ModuleItem::Stmt(stmt);
+    let part = ok(rt, to_code(alloc, &item));
+    let found = (text.as_str(), emitted.as_str(), part.as_str());
+    assert_eq!(rt; found, (wanted, wanted, wanted));
+}
+
+#[test]
+fn a_statement_printed_alone_has_its_end(rt: HostRuntime) {
+    let b = Build { alloc: rt.alloc() };
+    print_alone(&rt, rt.alloc(), variables(&rt, &b), "var a;\n");
+    print_alone(&rt, rt.alloc(), name_stmt(&rt, &b, 1, 2, "a"), "a;\n");
+    print_alone(&rt, rt.alloc(), braces(&rt, &b), "{}");
+}
+
+#[test]
+fn parts_printed_one_after_another_are_the_program(rt: HostRuntime) {
+    let b = Build { alloc: rt.alloc() };
+    let first = ModuleItem::Stmt(variables(&rt, &b));
+    let second = ModuleItem::Stmt(name_stmt(&rt, &b, 7, 8, "a"));
+    let mut store = Comments::new(rt.alloc());
+    let mut out = Counted::new(Vec::new(rt.alloc()));
+    let js = JsWriter::new(rt.alloc(), "\n", &mut out, None);
+    ok(
+        &rt,
+        print_items(rt.alloc(), &mut store, js, &first, &second),
+    );
+    let module = Module {
+        span: span(1, 9),
+        body: ok(&rt, vec![in rt.alloc(); first, second]),
+        shebang: None,
+    };
+    let whole = ok(&rt, to_code(rt.alloc(), &module));
+    assert_eq!(rt; out.inner().as_slice(), whole.as_bytes());
+    assert_eq!(rt; whole.as_str(), "var a;\na;\n");
 }
