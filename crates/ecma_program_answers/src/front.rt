@@ -4,8 +4,8 @@ use crate::print::tell_marks;
 use ecma_answers::{Answer, Question};
 use ecma_front::memory::{Interrupts, MemReader, MemWriter, Zeros};
 use ecma_front::{
-    CountedRead, EsSyntax, EsVersion, Failing, Fault, Goal, Indent, Options, Positions, Style,
-    Syntax, place, read, run_kept,
+    CountedRead, CountedWrite, EsSyntax, EsVersion, Failing, Fault, Goal, Indent, Options,
+    Positions, Style, Syntax, place, read, run_kept,
 };
 use ecma_node::ProgramKind;
 use std::alloc::Global;
@@ -90,42 +90,59 @@ pub fn tell(question: &Question<'_>, answer: &mut Answer) -> anyhow::Result<()> 
     }
 }
 
-/// A run to a writer that fails where the question says, with `zeros` by taking nothing: the writer, and how the run ended.
+/// What a run leaves: the output, what was kept of the input, and how it ended.
+#[derive(Drop)]
+struct Left {
+    writer: MemWriter,
+    kept: Vec<u8>,
+    ended: Ended,
+}
+
+/// A run: what it kept of the input, and how it ended.
+fn kept_of<R: CountedRead, W: CountedWrite>(
+    alloc: Global,
+    reader: &mut R,
+    writer: &mut W,
+    options: Options,
+) -> (Vec<u8>, Ended) {
+    let mut kept = Vec::new(alloc);
+    let ended = run_kept(alloc, reader, writer, options, &mut kept);
+    (kept, ended)
+}
+
+/// A run to a writer that fails where the question says, with `zeros` by taking nothing.
 fn run_to<R: CountedRead>(
     question: &Question<'_>,
     alloc: Global,
     reader: &mut R,
-    kept: &mut Vec<u8>,
-) -> anyhow::Result<(MemWriter, Ended)> {
+) -> anyhow::Result<Left> {
     let piece = question.number("written").unwrap_or(64).max(1) as usize;
     let room = question.number("room").unwrap_or(65_536) as usize;
     let mut writer = MemWriter::new(alloc, room, piece, question.number("write_fails"))?;
     if question.has("zeros") {
-        let mut writer = Zeros::new(writer);
-        let ended = run_kept(alloc, reader, &mut writer, options(question), kept);
-        return Ok((writer.into_inner(), ended));
+        let mut zeros = Zeros::new(writer);
+        let (kept, ended) = kept_of(alloc, reader, &mut zeros, options(question));
+        return Ok(Left {
+            writer: zeros.into_inner(),
+            kept,
+            ended,
+        });
     }
-    let ended = run_kept(alloc, reader, &mut writer, options(question), kept);
-    Ok((writer, ended))
+    let (kept, ended) = kept_of(alloc, reader, &mut writer, options(question));
+    Ok(Left {
+        writer,
+        kept,
+        ended,
+    })
 }
 
-/// A run from a reader and to a writer that take pieces and fail where the question says, the reader with `interrupted` by being
-/// interrupted: the fault, the output, what was kept of the input, the calls and failures of both, and the positions where they are asked
-/// for.
-pub fn tell_run(question: &Question<'_>, answer: &mut Answer) -> anyhow::Result<()> {
-    let alloc = answer.alloc();
-    let piece = question.number("read").unwrap_or(64).max(1) as usize;
-    let text = question.text(0).as_bytes();
-    let mut reader = MemReader::new(alloc, text, piece, question.number("read_fails"))?;
-    let mut kept = Vec::new(alloc);
-    let (writer, ended) = if question.has("interrupted") {
-        let mut halted = Interrupts::new(reader);
-        let done = run_to(question, alloc, &mut halted, &mut kept)?;
-        reader = halted.into_inner();
-        done
-    } else {
-        run_to(question, alloc, &mut reader, &mut kept)?
-    };
+/// Tells what a run left, the calls and failures of its reader and its writer, and the positions where they are asked for.
+fn tell_left(left: Left, reader: &MemReader, answer: &mut Answer) -> anyhow::Result<()> {
+    let Left {
+        writer,
+        kept,
+        ended,
+    } = left;
     match &ended {
         Ok(_) => answer.say("written")?,
         Err(fault) => answer.say(fault)?,
@@ -138,6 +155,23 @@ pub fn tell_run(question: &Question<'_>, answer: &mut Answer) -> anyhow::Result<
         Ok(Some(positions)) => tell_marks(positions.as_slice(), answer),
         _ => Ok(()),
     }
+}
+
+/// A run from a reader and to a writer that take pieces and fail where the question says, the reader with `interrupted` by being
+/// interrupted: the fault, the output, what was kept of the input, the calls and failures of both, and the positions where they are asked
+/// for.
+pub fn tell_run(question: &Question<'_>, answer: &mut Answer) -> anyhow::Result<()> {
+    let alloc = answer.alloc();
+    let piece = question.number("read").unwrap_or(64).max(1) as usize;
+    let text = question.text(0).as_bytes();
+    let mut reader = MemReader::new(alloc, text, piece, question.number("read_fails"))?;
+    if question.has("interrupted") {
+        let mut interrupts = Interrupts::new(reader);
+        let left = run_to(question, alloc, &mut interrupts)?;
+        return tell_left(left, &interrupts.into_inner(), answer);
+    }
+    let left = run_to(question, alloc, &mut reader)?;
+    tell_left(left, &reader, answer)
 }
 
 /// The messages of all faults but those of the syntax.
