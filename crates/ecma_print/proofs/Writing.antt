@@ -1,5 +1,5 @@
 -- What printing does, from what its steps do.
-use Rattle.std.proofs.Common.{◌≡◌, ◌⊎◌, ℕ, zero, suc, IfSome, codes, get_or, Vec, Global, ◌<◌, ◌≤◌, Bool, true, false, if◌then◌else◌, List, [], ◌∷◌, ◌++◌, Option, None, Some, IsSome, is_some, Result, Ok, Err, inl, inr, length, take, drop, refl, sym, ap, subst, ◌∙◌, append-nil}
+use Rattle.std.proofs.Common.{◌≡◌, ◌⊎◌, ℕ, zero, suc, IfSome, codes, get_or, Vec, Global, ◌<◌, ◌≤◌, Bool, true, false, if◌then◌else◌, List, [], ◌∷◌, ◌++◌, Option, None, Some, IsSome, is_some, is_ok, Result, Ok, Err, inl, inr, length, take, drop, refl, sym, ap, subst, ◌∙◌, append-nil}
 use Rattle.std.specs.Option.{option_map}
 use Rattle.std.specs.Borrow.{MutBor}
 use base.Fml.{GName}
@@ -87,30 +87,36 @@ module _ {S W : Type 0} (tells : S → Type 0) (state : S → State) (s0 s1 : S)
     (page0 : (state s0).page ≡ begun_page contents o wr) (page1 : (state s1).page ≡ js_page contents new) (tells0 : js_tells contents wr → tells s0) (tells1 : tells s1 → js_tells contents new)
     (resolves : (emitted (laid_of o t) (state s0)).page ≡ written_on o t (state s0).page)
   where
-  page_done : (emitted (laid_of o t) (state s0)).page ≡ written_on o t (begun_page contents o wr)
-  page_done = resolves ∙ ap (λ (p : Page). written_on o t p) page0
+    page_done : (emitted (laid_of o t) (state s0)).page ≡ written_on o t (begun_page contents o wr)
+    page_done = resolves ∙ ap (λ (p : Page). written_on o t p) page0
 
-  may_refuse : (e : EmitError) → MayRefuse e (laid_of o t) (state s0) → MayRefuse e (laid_of o t) (js_state contents wr)
-  may_refuse (Write k) h = tt
-  may_refuse Memory h = ap (λ (p : Page). is_some p.marks) (sym page0) ∙ h
-  may_refuse Position h = ap (λ (p : Page). is_some p.marks) (sym page0) ∙ h
-  may_refuse Node h = h
+    may_refuse : (e : EmitError) → MayRefuse e (laid_of o t) (state s0) → MayRefuse e (laid_of o t) (js_state contents wr)
+    may_refuse (Write k) h = tt
+    may_refuse Memory h = ap (λ (p : Page). is_some p.marks) (sym page0) ∙ h
+    may_refuse Position h = ap (λ (p : Page). is_some p.marks) (sym page0) ∙ h
+    may_refuse Node h = h
 
-  fits : (e : EmitError) → FaultFits e (emitted (laid_of o t) (state s0)).page → FaultFits e (written_on o t (begun_page contents o wr))
-  fits e h = subst (λ (p : Page). FaultFits e p) page_done h
+    fits : (e : EmitError) → FaultFits e (emitted (laid_of o t) (state s0)).page → FaultFits e (written_on o t (begun_page contents o wr))
+    fits e h = subst (λ (p : Page). FaultFits e p) page_done h
 
-  pub lays_out : (r : Result (Unit {0}) EmitError) → Emits tells state (laid_of o t) s0 s1 r → LaysOut contents o t wr new r
-  lays_out (Ok x) h = (h.0, λ known. let k = h.1 (tells0 known) in (
-    tells1 k.0,
-    sym page1 ∙ ap (λ (s : State). s.page) k.1 ∙ page_done,
-    λ u. subst IsUtf8Page page1 (k.2 (subst IsUtf8Page (sym page0) u)),
-  ))
-  lays_out (Err e) h = (may_refuse e h.0, λ known. let k = h.1 (tells0 known) in (
-    tells1 k.0,
-    subst (λ (p : Page). IsFront (js_page contents wr).out p.out) page1 (subst (λ (p : Page). IsFront p.out (state s1).page.out) page0 k.1),
-    subst (λ (p : Page). IsFront p.out (written_on o t (begun_page contents o wr)).out) page1 (subst (λ (p : Page). IsFront (state s1).page.out p.out) page_done k.2),
-    fits e k.3,
-  ))
+    pub lays_out : (r : Result (Unit {0}) EmitError) → Emits tells state (laid_of o t) s0 s1 r → LaysOut contents o t wr new r
+    lays_out (Ok x) h = (
+      h.0,
+      λ known. let k = h.1 (tells0 known) in (
+        tells1 k.0,
+        sym page1 ∙ ap (λ (s : State). s.page) k.1 ∙ page_done,
+        λ u. subst IsUtf8Page page1 (k.2 (subst IsUtf8Page (sym page0) u)),
+      ),
+    )
+    lays_out (Err e) h = (
+      may_refuse e h.0,
+      λ known. let k = h.1 (tells0 known) in (
+        tells1 k.0,
+        subst (λ (p : Page). IsFront (js_page contents wr).out p.out) page1 (subst (λ (p : Page). IsFront p.out (state s1).page.out) page0 k.1),
+        subst (λ (p : Page). IsFront p.out (written_on o t (begun_page contents o wr)).out) page1 (subst (λ (p : Page). IsFront (state s1).page.out p.out) page_done k.2),
+        fits e k.3,
+      ),
+    )
 
 -- what is written behind bytes
 module _ (o : Options) (t : Tree) (front : List ℕ) where
@@ -135,6 +141,21 @@ write_tells o t before (Write k) h = tt
 write_tells o t before Memory h = absurd (cc)
 write_tells o t before Node h = absurd (cc)
 write_tells o t before Position h = absurd (cc)
+
+-- the pairs of a writer that keeps them in this list
+pairs_are : (m : Option MarkList) (xs : List (BytePos × LineCol)) → IsSome m → IfSome (option_map marks_in m) (λ (n : Marks). n.pairs ≡ xs) → Some xs ≡ option_map (λ (n : Marks). n.pairs) (option_map marks_in m)
+pairs_are None xs s h = absurd (cc)
+pairs_are (Some m) xs s h = ap (λ (l : List (BytePos × LineCol)). Some l) (sym h)
+
+some_marks : (m : Option MarkList) (name : GName) → marks_loans m ≡ name ∷ [] → IsSome m
+some_marks None name e = absurd (cc)
+some_marks (Some m) name e = refl
+
+-- The list of a writer holds its pairs.
+list_holds : {W : Type 0} (contents : W → Option (List ℕ)) (js : JsWriter W) (name : GName) (list : Option (MutBor (Vec (BytePos × LineCol) Global))) (p : Vec (BytePos × LineCol) Global)
+    → js_loans js ≡ name ∷ [] → IsListOf contents js list → IfSome list (λ x. p ≡ x.now) → Some p.items ≡ option_map (λ (m : Marks). m.pairs) (js_page contents js).marks
+list_holds contents js name None p loans h same = let none = ap (λ (m : Option MarkList). marks_loans m) h in absurd (cc)
+list_holds contents js name (Some x) p loans h same = ap (λ (v : Vec (BytePos × LineCol) Global). Some v.items) same ∙ pairs_are js.marks x.now.items (some_marks js.marks name loans) h.1
 
 module _ {W : Type 0} (contents : W → Option (List ℕ)) (o : Options) (t : Tree) (out : W) (b : Blocks W) (js0 js1 : JsWriter (Blocks W))
     (is_behind : behind b ≡ out) (none_waits : waiting b ≡ []) (begins : at_of b ≡ 0)
@@ -243,49 +264,43 @@ module _ {W : Type 0} (contents : W → Option (List ℕ)) (o : Options) (t : Tr
             let n = begun_all l w rest ends.1.1 (js_behind js1).begun ends.1.2 in
             record { count = n.0; begun = n.1; tells = write_tells o t (contents out) e done.1 }
 
-  -- ---- what the last step says of the block that was handed on
+    -- ---- what the last step says of the block that was handed on
 
-  pub done : {P : Type 0} (items : P → List (BytePos × LineCol)) (positions : Option P) (ended : Result (Unit {0}) EmitError) → LaysOut (noted contents) o t js0 js1 ended → (own : Blocks W) → own ≡ js_behind js1
-      → (w : W) → (ended ≡ Ok tt) × Keeps (taken contents own) (contents w) → is_some positions ≡ o.positions
-      → (LaysOut (noted contents) o t js0 js1 (Ok tt) → IsSome (contents out) → option_map items positions ≡ positions_of o t) → IsDone items o t (contents out) (contents w) positions
-  done items positions ended laid own same w ends asked placed =
-      let l = subst (LaysOut (noted contents) o t js0 js1) ends.0 laid in
-      record {
-        whole = l.0;
-        got = got_all l w (subst (λ (x : Blocks W). Keeps (taken contents x) (contents w)) same ends.1);
-        asked = asked;
-        placed = λ some. placed l some;
-        within = within l;
-      }
+    pub done : {P : Type 0} (items : P → List (BytePos × LineCol)) (positions : Option P) (ended : Result (Unit {0}) EmitError) → LaysOut (noted contents) o t js0 js1 ended → (own : Blocks W) → own ≡ js_behind js1
+        → (w : W) → (ended ≡ Ok tt) × Keeps (taken contents own) (contents w) → is_some positions ≡ o.positions
+        → (LaysOut (noted contents) o t js0 js1 (Ok tt) → IsSome (contents out) → option_map items positions ≡ positions_of o t) → IsDone items o t (contents out) (contents w) positions
+    done items positions ended laid own same w ends asked placed =
+        let l = subst (LaysOut (noted contents) o t js0 js1) ends.0 laid in
+        record {
+          whole = l.0;
+          got = got_all l w (subst (λ (x : Blocks W). Keeps (taken contents x) (contents w)) same ends.1);
+          asked = asked;
+          placed = λ some. placed l some;
+          within = within l;
+        }
 
-  -- the pairs of the writer are the positions
-  pub pairs_placed : LaysOut (noted contents) o t js0 js1 (Ok tt) → IsSome (contents out) → option_map (λ (m : Marks). m.pairs) (js_page (noted contents) js1).marks ≡ positions_of o t
-  unfolding positions_of
-  pairs_placed laid some = ap (λ (m : Option Marks). option_map (λ (n : Marks). n.pairs) m) (same_marks laid some)
+    -- the pairs of the writer are the positions
+    pub pairs_placed : LaysOut (noted contents) o t js0 js1 (Ok tt) → IsSome (contents out) → option_map (λ (m : Marks). m.pairs) (js_page (noted contents) js1).marks ≡ positions_of o t
+    unfolding positions_of
+    pairs_placed laid some = ap (λ (m : Option Marks). option_map (λ (n : Marks). n.pairs) m) (same_marks laid some)
 
-  pub stopped_with : (ended : Result (Unit {0}) EmitError) → LaysOut (noted contents) o t js0 js1 ended → (own : Blocks W) → own ≡ js_behind js1 → (w : W) (e : EmitError) → Ends contents own ended w (Err e)
-      → IsStopped o t (contents out) (contents w) e
-  stopped_with ended laid own same w e ends = stopped ended w e laid (subst (λ (x : Blocks W). Ends contents x ended w (Err e)) same ends)
+    -- The same where they are kept in a list, of which the writer had a loan.
+    pub done_in_list : {p : Vec (BytePos × LineCol) Global} (name : GName) (list : Option (MutBor (Vec (BytePos × LineCol) Global))) (ended : Result (Unit {0}) EmitError) → LaysOut (noted contents) o t js0 js1 ended
+        → (own : Blocks W) → own ≡ js_behind js1 → (w : W) → (ended ≡ Ok tt) × Keeps (taken contents own) (contents w) → o.positions ≡ true → js_loans js1 ≡ name ∷ [] → IsListOf (noted contents) js1 list
+        → IfSome list (λ x. p ≡ x.now) → IsDone (λ (v : Vec (BytePos × LineCol) Global). v.items) o t (contents out) (contents w) (Some p)
+    done_in_list {p} name list ended laid own same w ends asked loans is_list holds =
+        done (λ (v : Vec (BytePos × LineCol) Global). v.items) (Some p) ended laid own same w ends (sym asked)
+        (λ l some. list_holds (noted contents) js1 name list p loans is_list holds ∙ pairs_placed l some)
 
--- the pairs of a writer that keeps them in this list
-pairs_are : (m : Option MarkList) (xs : List (BytePos × LineCol)) → IsSome m → IfSome (option_map marks_in m) (λ (n : Marks). n.pairs ≡ xs) → Some xs ≡ option_map (λ (n : Marks). n.pairs) (option_map marks_in m)
-pairs_are None xs s h = absurd (cc)
-pairs_are (Some m) xs s h = ap (λ (l : List (BytePos × LineCol)). Some l) (sym h)
-
-some_marks : (m : Option MarkList) (name : GName) → marks_loans m ≡ name ∷ [] → IsSome m
-some_marks None name e = absurd (cc)
-some_marks (Some m) name e = refl
-
--- The list of a writer, whose loan it has, ends with its pairs.
-pub list_ends : {W : Type 0} (contents : W → Option (List ℕ)) (js : JsWriter W) (name : GName) (list : Option (MutBor (Vec (BytePos × LineCol) Global))) (p : Vec (BytePos × LineCol) Global)
-    → js_loans js ≡ name ∷ [] → IsListOf contents js list → ((x : MutBor (Vec (BytePos × LineCol) Global)) → list ≡ Some x → name ≡ x.ghost_name → p ≡ x.now)
-    → Some p.items ≡ option_map (λ (m : Marks). m.pairs) (js_page contents js).marks
-list_ends contents js name None p loans h tie = let none = ap (λ (m : Option MarkList). marks_loans m) h in absurd (cc)
-list_ends contents js name (Some x) p loans h tie =
-    let same : name ≡ x.ghost_name = ap (λ (l : List GName). get_or l 0 name) (sym loans ∙ h.0) in
-    ap (λ (v : Vec (BytePos × LineCol) Global). Some v.items) (tie x refl same) ∙ pairs_are js.marks x.now.items (some_marks js.marks name loans) h.1
+    pub stopped_with : (ended : Result (Unit {0}) EmitError) → LaysOut (noted contents) o t js0 js1 ended → (own : Blocks W) → own ≡ js_behind js1 → (w : W) (e : EmitError) → Ends contents own ended w (Err e)
+        → IsStopped o t (contents out) (contents w) e
+    stopped_with ended laid own same w e ends = stopped ended w e laid (subst (λ (x : Blocks W). Ends contents x ended w (Err e)) same ends)
 
 -- ---- a text in memory
+
+pub not_both : {A E : Type 0} (r : Result A E) (e : E) → is_ok r ≡ true → r ≡ Err e → ⊥
+not_both (Ok x) e h p = absurd (cc)
+not_both (Err x) e h p = absurd (cc)
 
 utf8_times : (n : ℕ) (c : List ℕ) → IsUtf8 c → IsUtf8 (times n c)
 utf8_times zero c u = IsUtf8-nil
@@ -322,13 +337,13 @@ module _ {W : Type 0} (contents : W → Option (List ℕ)) (o : Options) (t : Tr
     (page0 : js_page contents js0 ≡ first_page (told (contents out)) (line_end_of o.line_end) (marks_of o)) (none : told (contents out) ≡ []) (tells0 : js_tells contents js0)
     (laid : LaysOut contents o t js0 js1 (Ok tt)) (own_is : told (contents (js_behind js1)) ≡ own)
   where
-  begins : begun_page contents o js0 ≡ page_of o
-  begins = ap (λ (p : Page). record p { indent = indent_of o.indent }) page0
-      ∙ ap (λ (l : List ℕ). record (first_page l (line_end_of o.line_end) (marks_of o)) { indent = indent_of o.indent }) none
+    begins : begun_page contents o js0 ≡ page_of o
+    begins = ap (λ (p : Page). record p { indent = indent_of o.indent }) page0
+        ∙ ap (λ (l : List ℕ). record (first_page l (line_end_of o.line_end) (marks_of o)) { indent = indent_of o.indent }) none
 
-  pub text_laid : own ≡ layout o t
-  unfolding layout
-  text_laid = sym own_is ∙ ap (λ (p : Page). p.out) ((laid.1 tells0).1 ∙ ap (λ (p : Page). written_on o t p) begins)
+    pub text_laid : own ≡ layout o t
+    unfolding layout
+    text_laid = sym own_is ∙ ap (λ (p : Page). p.out) ((laid.1 tells0).1 ∙ ap (λ (p : Page). written_on o t p) begins)
 
-  pub text_utf8 : IsUtf8 own
-  text_utf8 = subst IsUtf8 own_is ((laid.1 tells0).2 (subst IsUtf8Page (sym begins) (page_text o))).0
+    pub text_utf8 : IsUtf8 own
+    text_utf8 = subst IsUtf8 own_is ((laid.1 tells0).2 (subst IsUtf8Page (sym begins) (page_text o))).0

@@ -1,5 +1,5 @@
 //! Printing a program.
-ghost use Rattle.std.specs.Prelude.{◌≡◌, ◌≤◌, true, false};
+ghost use Rattle.std.specs.Prelude.{◌≡◌, ◌≤◌, true, false, IfSome};
 ghost use Rattle.ecma_token.specs.Counts.{count_after};
 ghost use Rattle.ecma_layout.specs.Layout.{laid};
 ghost use Rattle.ecma_layout.specs.declared.look.Stand.TheVariants.{Alone};
@@ -12,7 +12,7 @@ ghost use Rattle.ecma_print.specs.Prints.{Prints, Texts};
 ghost use Rattle.ecma_print.specs.Steps.{Counts, Ends, LaysOut};
 
 use crate::looks::{config, indent, line_end};
-use core::mem::replace_with;
+use core::mem::{replace, replace_with};
 use ecma_blocks::Blocks;
 use ecma_codegen::{Config, EmitError, Emitter, JsWriter, NoPlaces, WriteJs, omit_trailing_semi};
 use ecma_command::{Options, Style};
@@ -139,6 +139,16 @@ fn unmarked<W: CountedWrite>(
     }
 }
 
+/// The positions that a list holds, which is left empty.
+fn taken_out(alloc: Global, list: Option<&mut Positions>) -> Positions
+    ensures { IfSome list.entry (λ x. result ≡ x.now) }
+{
+    match list {
+        Some(list) => replace(list, Vec::new(alloc)),
+        None => Vec::new(alloc),
+    }
+}
+
 /// Prints a program through a block, and keeps the positions.
 fn marked<W: CountedWrite>(
     alloc: Global,
@@ -151,15 +161,16 @@ fn marked<W: CountedWrite>(
     ensures value { Prints (λ v. v.items) options program.now (W.contents out) (W.contents result.0) result.1 }
     ensures failures { W.failure_count result.0 ≡ count_after (answers_write result.1) (W.failure_count out) }
 {
-    let mut positions = Vec::new(alloc);
+    let mut list = Vec::new(alloc);
     let wr = JsWriter::new(
         alloc,
         line_end(options.line_end),
         Blocks::new(out),
-        Some(&mut positions),
+        Some(&mut list),
     );
     let (wr, ended) = laid_out(alloc, program, options, wr);
-    let (block, _) = wr.into_parts();
+    let (block, kept) = wr.into_parts();
+    let positions = taken_out(alloc, kept);
     let (out, ended) = ended_with(block, ended);
     match ended {
         Ok(()) => (out, Ok(Some(positions))),
@@ -173,7 +184,7 @@ fn printed<W: CountedWrite>(
     asked: (Global, &Program, Options),
 ) -> (W, Result<Option<Positions>, EmitError>)
     requires { width_of asked.2.indent ≤ 8 }
-    ensures value { Prints (λ v. v.items) asked.2 asked.1.now (W.contents out) (W.contents result.0) result.1 }
+    ensures value { Prints (λ v. v.items) asked.entry.2 asked.entry.1.now (W.contents out) (W.contents result.0) result.1 }
     ensures failures { W.failure_count result.0 ≡ count_after (answers_write result.1) (W.failure_count out) }
 {
     let (alloc, program, options) = asked;

@@ -2,7 +2,7 @@ use Rattle.std.proofs.Common.{◌≡◌, ◌∙◌, ℕ, [], Bool, List, Some, N
 use Rattle.ecma_token.specs.declared.counted.Counted.{Counted}
 use Rattle.ecma_write.specs.Views.{first_page, first_marks, js_page}
 use Rattle.ecma_print.specs.Layouts.{line_end_of, marks_of}
-use Rattle.ecma_print.proofs.Writing.{text_laid, text_utf8}
+use Rattle.ecma_print.proofs.Writing.{not_both, text_laid, text_utf8}
 use Rattle.ecma_print.proofs.printing.text_of.Goals as goal
 
 abbrev bytes_of : Counted (Vec ℕ Global) → Option (List ℕ)
@@ -19,8 +19,7 @@ unreachable-requires c =
     ap (λ (x : Counted (Vec ℕ Global)). x.inner.items) (sym c.into_inner.ensures) ∙ ap (λ (v : Vec ℕ Global). v.items) (sym c.into_inner-bytes.ensures) in
     let utf8 : IsUtf8 c.into_inner-bytes.result.items = text_utf8 bytes_of o c.args.program.now c.new-out.result c.new-wr.result c.laid_out-wr.result.0 c.into_inner-bytes.result.items page none (c.new-wr.ensures.tells refl)
     (rw c.in-Ok.is at c.laid_out-wr.ensures.value) own in
-    let ok = c.from_utf8.ensures.succeeds utf8 in
-    absurd (cc (ok, c.in-Err-from_utf8.is))
+    not_both c.from_utf8.result c.in-Err-from_utf8.field-0 (c.from_utf8.ensures.succeeds utf8) c.in-Err-from_utf8.is
 
 pub returns : goal.returns
 returns c =
