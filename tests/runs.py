@@ -75,16 +75,58 @@ def nothing_to_write():
     return (yield from all_are(asked, [told("written", b"", b" \n", (3, 0), (0, 0))]))
 
 
+def blocks():
+    """The output goes out in blocks of 4,096 bytes: over a writer that takes all it is given, that many calls."""
+    sizes = (1, 4095, 4096, 4097, 8191, 8192, 8193, 20480)
+    asked = [run(["read=65536", "written=65536"], b"a" * size) for size in sizes]
+    wanted = [told("written", b"a" * size, b"a" * size, (-(-size // 16384) + 1, 0), (-(-size // 4096), 0)) for size in sizes]
+    return (yield from all_are(asked, wanted))
+
+
+def cut_blocks():
+    """A writer that takes pieces of a block gets all of it, and with a write that fails a beginning."""
+    text = b"a" * 9000
+    pieces = [[piece, at] for piece in (1000, 4095, 4097) for at in (0, 1, 2, 3)]
+    asked = [run(["read=65536", f"written={piece}", f"write_fails={at}"], text) for piece, at in pieces]
+    for question, answer, (_, at) in zip(asked, (yield asked), pieces):
+        ended, out = only(answer)[:2]
+        whole = ended == b"written" and out == text and at == 0
+        begun = ended == b"write failed" and text.startswith(out) and len(out) < len(text) and at > 0
+        if not whole and not begun:
+            return f"{question.setting}: {ended} and {len(out)} bytes"
+    return None
+
+
+def positions():
+    """The places of the source that are marked, with the lines and columns at which they are written."""
+    texts = (
+        (["module"], "import{x as y}from'a'", 'import{x as y}from"a"', None),
+        ([], "a:for(;;)break a", "a:for(;;)break a", "1@0:0 3@0:2 10@0:9 16@0:15"),
+        (["format"], "/*é*/ ab", "ab;\n", "8@0:0"),
+        ([], "a;b", "a;b", "1@0:0 3@0:2"),
+        ([], "", "", ""),
+        (["format"], "", "", ""),
+    )
+    asked = [run(["positions", *words], text.encode()) for words, text, _, _ in texts]
+    for question, answer, (_, _, written, places) in zip(asked, (yield asked), texts):
+        fields = [*only(answer), b""]
+        if fields[:2] != [b"written", written.encode()] or places is not None and fields[5] != places.encode():
+            return f"{question.setting}: {fields}"
+        if places is None and not {"8@0:7", "13@0:12"} <= set(fields[5].decode().split(" ")):
+            return f"{question.setting}: {fields}"
+    return None
+
+
 def settings_refused():
     """Settings that are refused each alone, before anything is read or written."""
-    words = ["positions", "jsx", "blanks=9", "tabs=9", "blanks=255", "tabs=255", "nesting=0", "nesting=1025", "nesting=4294967295"]
+    words = ["jsx", "blanks=9", "tabs=9", "blanks=255", "tabs=255", "nesting=0", "nesting=1025", "nesting=4294967295"]
     asked = [run([it], text) for it in words for text in (b"a", b"a b", b"((((a))))")]
     return (yield from all_are(asked, [told("options refused", b"", b"", (0, 0), (0, 0))] * len(asked)))
 
 
 def settings_taken():
     """Their neighbours are taken."""
-    words = ["nesting=3", "nesting=1024", "blanks=0", "blanks=8", "tabs=0", "tabs=8", "module", "es3", "all"]
+    words = ["nesting=3", "nesting=1024", "blanks=0", "blanks=8", "tabs=0", "tabs=8", "module", "es3", "all", "positions"]
     asked = [run([it], b" a ; b ;") for it in words]
     for question, answer in zip(asked, (yield asked)):
         if only(answer)[:2] != [b"written", b"a;b"]:
@@ -105,5 +147,7 @@ def messages():
 def tests(paths):
     """The tests of runs, each with its name."""
     found = [(f"runs: a read that fails, pieces of {piece}", read_fails(piece)) for piece in (1, 2, 7, 64)]
-    others = (write_fails, interrupted, nothing_taken, pieces, nothing_to_write, settings_refused, settings_taken, messages)
+    others = (
+        write_fails, interrupted, nothing_taken, pieces, nothing_to_write, blocks, cut_blocks, positions, settings_refused, settings_taken, messages,
+    )  # fmt: skip
     return [*found, *((f"runs: {it.__name__}", it()) for it in others)]

@@ -20,9 +20,9 @@ width_of (Tabs n) = n
 abbrev pub has_jsx : Syntax → Bool
 has_jsx (Es syntax) = syntax.jsx
 
--- JSX, a nesting outside 1 to 1,024, or more than 8 characters of indentation
-abbrev pub are_out_of_range : Options → Bool
-are_out_of_range o = has_jsx o.syntax || o.nesting == 0 || nat_lt 1024 o.nesting || nat_lt 8 (width_of o.indent)
+-- A run refuses JSX, a nesting outside 1 to 1,024, and more than 8 characters of indentation.
+abbrev pub are_refused : Options → Bool
+are_refused o = has_jsx o.syntax || o.nesting == 0 || nat_lt 1024 o.nesting || nat_lt 8 (width_of o.indent)
 
 abbrev pub is_module : Goal → Bool
 is_module g.Module = true
@@ -31,10 +31,6 @@ is_module g.Script = false
 abbrev pub is_format : Style → Bool
 is_format s.Format = true
 is_format s.Minify = false
-
--- Positions are not taken yet.
-abbrev pub are_refused : Options → Bool
-are_refused o = are_out_of_range o || o.positions
 
 -- no optional part of the syntax
 abbrev pub plain_syntax : EsSyntax

@@ -62,7 +62,7 @@ impl Default for Indent {
     }
 }
 
-/// The settings of a run. Until the places of names are promised, a run refuses `positions`.
+/// The settings of a run.
 #[derive(Clone, Copy, Debug, PartialEq, Eq, Hash)]
 pub struct Options {
     pub goal: Goal,
@@ -78,7 +78,8 @@ pub struct Options {
     pub syntax: Syntax,
     /// How deep the tree may nest: from 1 to 1,024.
     pub nesting: u32,
-    /// Whether the run answers the places of names.
+    /// Whether the run answers positions: the places of the source that are marked, each with the line and the column at
+    /// which it is written.
     pub positions: bool,
 }
 
@@ -106,7 +107,7 @@ impl Default for Options {
 
 impl Options {
     ghost use Rattle.std.specs.Prelude.{◌≡◌};
-    ghost use Rattle.ecma_command.specs.Options.{are_refused, are_out_of_range};
+    ghost use Rattle.ecma_command.specs.Options.{are_refused};
 
     /// The deepest nesting that may be asked for.
     pub const DEEPEST: u32 = 1024;
@@ -117,12 +118,6 @@ impl Options {
     /// Whether a run refuses these settings, which it then does before it reads or writes anything.
     pub fn are_refused(&self) -> bool
         ensures { result ≡ are_refused self.now }
-    {
-        self.are_out_of_range() || self.positions
-    }
-
-    fn are_out_of_range(&self) -> bool
-        ensures { result ≡ are_out_of_range self.now }
     {
         let Syntax::Es(syntax) = self.syntax;
         syntax.jsx

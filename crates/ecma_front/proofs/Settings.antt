@@ -4,12 +4,11 @@ use Rattle.std.specs.Prelude.{◌||◌, ◌==◌, nat_lt}
 use Rattle.std.proofs.lemmas.Bool.{or_parts}
 use Rattle.std.proofs.lemmas.Bool.Decides.{nat_tests}
 use Rattle.ecma_command.specs.declared.options.Options.{Options}
-use Rattle.ecma_command.specs.Options.{are_out_of_range, are_refused, has_jsx, width_of}
+use Rattle.ecma_command.specs.Options.{are_refused, has_jsx, width_of}
 
 pub within : (o : Options) → are_refused o ≡ false → (o.nesting ≤ 1024) × (width_of o.indent ≤ 8)
 within o h =
-    let range = (or_parts (are_out_of_range o) o.positions h).0 in
-    let steps = or_parts (has_jsx o.syntax || o.nesting == 0 || nat_lt 1024 o.nesting) (nat_lt 8 (width_of o.indent)) range in
+    let steps = or_parts (has_jsx o.syntax || o.nesting == 0 || nat_lt 1024 o.nesting) (nat_lt 8 (width_of o.indent)) h in
     let levels = or_parts (has_jsx o.syntax || o.nesting == 0) (nat_lt 1024 o.nesting) steps.0 in
     let deep : nat_lt 1024 o.nesting ≡ false = levels.1 in
     let wide : nat_lt 8 (width_of o.indent) ≡ false = steps.1 in

@@ -1,5 +1,5 @@
 -- What the program answers.
-use Rattle.std.specs.Prelude.{◌≡◌, ℕ, ◌<◌, ◌≤◌, ◌-◌, ◌^◌, ◌⊎◌, true, List, length, take, Option, codes}
+use Rattle.std.specs.Prelude.{◌≡◌, ℕ, ◌<◌, ◌≤◌, ◌-◌, ◌^◌, ◌⊎◌, true, List, length, take, Option, IsSome, codes}
 use Rattle.std.specs.Str.{chars, IsUtf8, IsValidUpTo}
 use Rattle.std.specs.Io.KnownBytes.{Appends}
 use Rattle.ecma_token.specs.Counts.{one_more}
@@ -11,7 +11,8 @@ use Rattle.ecma_front.specs.declared.fault.Fault.{Fault}
 use Rattle.ecma_front.specs.declared.fault.Fault.TheVariants as f
 use Rattle.ecma_front.specs.Programs.{Spells}
 use Rattle.ecma_front.specs.Formats.{longest_text}
-use Rattle.ecma_front.specs.Lines.{place_of}
+use Rattle.ecma_front.specs.Run.{IsTooLarge}
+use Rattle.ecma_lines.specs.Lines.{place_of}
 
 -- No program within the limit spells the bytes, or they are too many.
 abbrev pub IsUnread : Options → List ℕ → Type 0
@@ -35,8 +36,10 @@ pub record End : Type 0 where
 abbrev pub HasFailed : End → End → Type 0
 HasFailed before after = after.failures ≡ one_more before.failures
 
--- What kept a run from its end: the settings are refused, the reader or the writer failed, or memory ran out, which is printed unless that fails as well.
-abbrev pub IsHindered : Options → End → End → End → End → End → End → Type 0
-IsHindered options input input_after output output_after errors errors_after =
+-- What kept a run from its end: the settings are refused, the reader or the writer failed, a line or a column is past the last where positions are asked
+-- for, or memory ran out, which is printed unless that fails as well.
+abbrev pub IsHindered : Options → List ℕ → End → End → End → End → End → End → Type 0
+IsHindered options bytes input input_after output output_after errors errors_after =
     (are_refused options ≡ true) ⊎ (HasFailed input input_after ⊎ (HasFailed output output_after
-    ⊎ (HasFailed errors errors_after ⊎ Appends errors.bytes errors_after.bytes out_of_memory)))
+    ⊎ (((options.positions ≡ true) × (IsSome output.bytes → IsTooLarge options bytes))
+    ⊎ (HasFailed errors errors_after ⊎ Appends errors.bytes errors_after.bytes out_of_memory))))

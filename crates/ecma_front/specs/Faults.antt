@@ -1,7 +1,8 @@
 -- The faults of a run.
 use Rattle.std.specs.Prelude.{Bool, true, false, Result, Ok, Err}
+use Rattle.ecma_command.specs.declared.options.Options.{Options}
 use Rattle.ecma_front.specs.declared.fault.Fault.{Fault}
-use Rattle.ecma_front.specs.declared.fault.Fault.TheVariants.{Read, NotUtf8, TooLong, Syntax, TooDeep, Memory, Write}
+use Rattle.ecma_front.specs.declared.fault.Fault.TheVariants.{Read, NotUtf8, TooLong, Syntax, TooDeep, Memory, Write, Position}
 
 -- the fault says that the reader failed
 abbrev pub is_read_fault : Fault → Bool
@@ -28,6 +29,13 @@ is_refusal TooLong = true
 is_refusal (Syntax e) = true
 is_refusal TooDeep = true
 is_refusal _ = false
+
+-- The fault may come once something is written; want of memory only where positions are kept.
+abbrev pub is_of_writing : Options → Fault → Bool
+is_of_writing o (Write kind) = true
+is_of_writing o Position = true
+is_of_writing o Memory = o.positions
+is_of_writing o _ = false
 
 -- the fault is one of the reader, of the writer or of memory
 abbrev pub is_failure : Fault → Bool

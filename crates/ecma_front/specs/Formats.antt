@@ -1,11 +1,10 @@
--- What is known of a text from what reading it and printing its program answered.
+-- What reading a text answers, and why there is nothing to write of it.
 use Rattle.std.specs.Prelude.{◌≡◌, ℕ, ◌<◌, List, length, Result, Ok, Err}
 use Rattle.std.specs.Str.{chars, IsUtf8, IsValidUpTo}
 use Rattle.ecma_tree.specs.Tree.{Tree}
 use Rattle.ecma_command.specs.declared.options.Options.{Options}
 use Rattle.ecma_front.specs.declared.fault.Fault.{Fault}
 use Rattle.ecma_front.specs.declared.fault.Fault.TheVariants as f
-use Rattle.ecma_front.specs.Layouts.{layout}
 use Rattle.ecma_front.specs.Programs.{IsProgramOf, IsFaulty, IsTooDeep}
 
 -- the longest text, in bytes
@@ -40,8 +39,3 @@ IsRefused o bytes f.Options = Unit {0}
 IsRefused o bytes (f.Write kind) = ⊥
 IsRefused o bytes f.Position = ⊥
 IsRefused o bytes f.Node = ⊥
-
--- What printing bytes again answers: the layout of the one program that spells them; or why not.
-abbrev pub Formats : {X : Type 0} → (X → List ℕ) → Options → List ℕ → Result X Fault → Type 0
-Formats view o bytes (Ok x) = (t : Tree) × IsProgramIn o bytes t × (view x ≡ layout o t)
-Formats view o bytes (Err fault) = IsRefused o bytes fault

@@ -1,11 +1,10 @@
--- What is promised: read these in order.
+-- What is promised: read these in order, with Layouts of ecma_print behind Programs, and Lines of ecma_lines before Names.
 pub mod Programs
-pub mod Layouts
 pub mod Faults
 pub mod Formats
 pub mod ReadAgain
+pub mod Names
 pub mod Run
-pub mod Lines
 pub mod Command
 -- What the steps of a run may answer. No public clause cites these.
 pub mod Input

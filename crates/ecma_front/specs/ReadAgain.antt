@@ -7,7 +7,7 @@ use Rattle.ecma_program.specs.Program.{IsSameProgram}
 use Rattle.ecma_command.specs.Options.{is_format}
 use Rattle.ecma_command.specs.declared.options.Options.{Options}
 use Rattle.ecma_command.specs.declared.options.Style.TheVariants.{Minify}
-use Rattle.ecma_front.specs.Layouts.{layout}
+use Rattle.ecma_print.specs.Layouts.{layout}
 use Rattle.ecma_front.specs.Programs.{Spells, TreeReads}
 
 -- the same settings, to minify

@@ -1,15 +1,17 @@
 -- What the steps of reading and printing answer.
-use Rattle.std.specs.Prelude.{◌≡◌, ◌≢◌, ℕ, true, List, [], ◌∷◌, Result, Ok, Err}
+use Rattle.std.specs.Prelude.{◌≡◌, ◌≢◌, ℕ, List, [], ◌∷◌, Option, Result, Ok, Err}
+use Rattle.ecma_token.specs.declared.place.BytePos.{BytePos}
+use Rattle.ecma_token.specs.declared.place.LineCol.{LineCol}
 use Rattle.ecma_token.specs.declared.error.Error.{Error}
 use Rattle.ecma_token.specs.declared.error.SyntaxError.TheVariants as kinds
 use Rattle.ecma_write.specs.declared.fault.EmitError.{EmitError}
 use Rattle.ecma_write.specs.declared.fault.EmitError.TheVariants as w
 use Rattle.ecma_tree.specs.Tree.{Tree}
-use Rattle.ecma_layout.specs.Looks.{is_refused}
 use Rattle.ecma_command.specs.declared.options.Options.{Options}
-use Rattle.ecma_front.specs.Layouts.{laid_of, layout}
+use Rattle.ecma_print.specs.Prints.{IsDone, IsStopped}
 use Rattle.ecma_front.specs.declared.fault.Fault.{Fault}
 use Rattle.ecma_front.specs.declared.fault.Fault.TheVariants as f
+use Rattle.ecma_front.specs.Formats.{IsProgramIn, IsRefused}
 
 -- the fault of a run that a fault of the parser is told as
 abbrev pub Tells : Error → Fault → Type 0
@@ -25,16 +27,19 @@ Judges (Ok x) (e ∷ es) (Err fault) = fault ≡ f.Syntax e
 Judges (Err e) recorded (Err fault) = Tells e fault
 Judges parsed recorded answer = ⊥
 
--- the fault of a run that a fault of the printer is told as: the text grows in memory
-abbrev pub TellsPrinter : EmitError → Fault → Type 0
-TellsPrinter (w.Write kind) fault = fault ≡ f.Memory
-TellsPrinter w.Memory fault = fault ≡ f.Memory
-TellsPrinter w.Node fault = fault ≡ f.Node
-TellsPrinter w.Position fault = fault ≡ f.Position
+-- the fault of a run that a fault of the printer is told as
+abbrev pub fault_of : EmitError → Fault
+fault_of (w.Write kind) = f.Write kind
+fault_of w.Memory = f.Memory
+fault_of w.Node = f.Node
+fault_of w.Position = f.Position
 
--- What printing a program answers: its layout; or that part of it has no text. Of want of memory nothing is said.
-abbrev pub Prints : {X : Type 0} → (X → List ℕ) → Options → Tree → Result X Fault → Type 0
-Prints view o t (Ok x) = view x ≡ layout o t
-Prints view o t (Err f.Memory) = Unit {0}
-Prints view o t (Err f.Node) = is_refused (laid_of o t) ≡ true
-Prints view o t (Err _) = ⊥
+-- What printing a program to a writer answers.
+abbrev pub Writes : {P : Type 0} → (P → List (BytePos × LineCol)) → Options → Tree → Option (List ℕ) → Option (List ℕ) → Result (Option P) Fault → Type 0
+Writes items o t before after (Ok positions) = IsDone items o t before after positions
+Writes items o t before after (Err fault) = (e : EmitError) × (fault ≡ fault_of e) × IsStopped o t before after e
+
+-- The program of the bytes; or why they have none within the limit.
+abbrev pub ReadsBytes : Options → List ℕ → Result Tree Fault → Type 0
+ReadsBytes o bytes (Ok t) = IsProgramIn o bytes t
+ReadsBytes o bytes (Err fault) = IsRefused o bytes fault

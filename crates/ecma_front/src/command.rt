@@ -5,7 +5,7 @@ ghost use Rattle.std.specs.Io.KnownBytes.{Appends};
 ghost use Rattle.ecma_token.specs.Counts.{one_more};
 ghost use Rattle.ecma_command.specs.Options.{are_refused};
 ghost use Rattle.ecma_front.specs.Faults.{is_refusal};
-ghost use Rattle.ecma_front.specs.Lines as lines;
+ghost use Rattle.ecma_lines.specs.Lines as lines;
 ghost use Rattle.ecma_front.specs.Run.{WritesBeginning, WritesProgram};
 ghost use Rattle.ecma_front.specs.Command.{IsHindered, IsUnread, LiesAt, out_of_memory};
 ghost use Rattle.ecma_front.specs.declared.fault.Fault.TheVariants.{Memory};
@@ -76,7 +76,8 @@ fn report<E: CountedWrite>(fault: Fault, place: Option<LineCol>, errors: &mut E)
 
 /// Runs what a command line asks for, prints a fault to `errors`, and answers the exit status: 0 where
 /// the program was written, 1 where the text is refused, else 3: the settings are refused, the reader or
-/// the writer failed, or memory ran out. A failure of `errors` changes nothing.
+/// the writer failed, a line or a column is past 4,294,967,295 and positions are asked for, or memory ran out. A failure
+/// of `errors` changes nothing.
 pub fn answer<R: CountedRead, W: CountedWrite, E: CountedWrite>(
     alloc: Global,
     invocation: &Invocation,
@@ -90,7 +91,7 @@ pub fn answer<R: CountedRead, W: CountedWrite, E: CountedWrite>(
     ensures refused { result ≡ 1 → IfSome (R.remaining input.old) (IsUnread invocation.now.options) }
     ensures unwritten { result ≡ 1 → output.new ≡ output.old }
     ensures begun { result ≡ 3 → (output.new ≡ output.old) ⊎ IfSome (R.remaining input.old) (λ bytes. WritesBeginning invocation.now.options bytes (W.contents output.old) (W.contents output.new)) }
-    ensures hindered { result ≡ 3 → IfSome (R.remaining input.old) (λ _. IsHindered invocation.now.options
+    ensures hindered { result ≡ 3 → IfSome (R.remaining input.old) (λ bytes. IsHindered invocation.now.options bytes
         (record { bytes = R.remaining input.old; failures = R.failure_count input.old }) (record { bytes = R.remaining input.new; failures = R.failure_count input.new })
         (record { bytes = W.contents output.old; failures = W.failure_count output.old }) (record { bytes = W.contents output.new; failures = W.failure_count output.new })
         (record { bytes = E.contents errors.old; failures = E.failure_count errors.old }) (record { bytes = E.contents errors.new; failures = E.failure_count errors.new })) }

@@ -2,7 +2,8 @@
 
 ghost use Rattle.std.specs.Prelude.{◌≡◌, ◌<◌, [], ◌∷◌, length, IfSome, IsUtf8, MatchOption};
 ghost use Rattle.std.specs.Str.{chars};
-ghost use Rattle.ecma_front.specs.Lines.{ends_line, place_of};
+ghost use Rattle.ecma_write.specs.Lines.{ends_line};
+ghost use Rattle.ecma_lines.specs.Lines.{place_of};
 
 use ecma_token::LineCol;
 

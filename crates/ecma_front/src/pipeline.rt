@@ -1,44 +1,46 @@
 //! A whole run: from any reader to any writer.
-ghost use Rattle.std.specs.Prelude.{◌≡◌, ◌↔◌, true, false, [], IsErrOf, IfErr};
+ghost use Rattle.std.specs.Prelude.{◌≡◌, ◌↔◌, ◌⊎◌, true, false, [], IsErrOf, IfErr, IfSome};
 ghost use Rattle.std.specs.Io.KnownBytes.{Consumes};
 ghost use Rattle.ecma_token.specs.Counts.{count_after};
 ghost use Rattle.ecma_command.specs.Options.{are_refused};
-ghost use Rattle.ecma_front.specs.Faults.{answers_fault, is_read_fault, is_write_fault};
-ghost use Rattle.ecma_front.specs.Run.{Answers, SucceedsExactly};
+ghost use Rattle.ecma_front.specs.Faults.{answers_fault, is_of_writing, is_read_fault, is_write_fault};
+ghost use Rattle.ecma_front.specs.Run.{Answers, SucceedsExactly, WritesBeginning};
 
 use crate::fault::Fault;
-use crate::formatted::formatted;
 use crate::input::read_to_end;
-use crate::output::write_all;
+use crate::reading::program_in;
+use crate::writing::write;
 use ecma_command::Options;
-use ecma_token::{BytePos, CountedRead, CountedWrite, LineCol};
+use ecma_print::Positions;
+use ecma_token::{CountedRead, CountedWrite};
 use std::alloc::Global;
 
-/// The places of names in the text read, each with the line and the column at which it was written.
-pub type Positions = Vec<(BytePos, LineCol)>;
-
-/// Reads a program from a reader, to its first read of 0 bytes, and writes it as the settings ask.
+/// Reads a program from a reader, to its first read of 0 bytes, and writes it as the settings ask, in blocks of 4,096
+/// bytes.
 ///
-/// It answers the positions where the settings ask for them. What it writes depends on the tree alone,
-/// not on where its parts stood: texts whose trees agree are written alike.
+/// It answers the positions where the settings ask for them: each place of the source that is marked, with the line and
+/// the column at which it is written. What it writes depends on the tree alone, not on where its parts stood: texts whose
+/// trees agree are written alike.
 ///
 /// # Errors
 ///
-/// `Fault` says which. The settings are judged first, before anything is read or written. A text that
-/// is not read leaves the writer as it was; a writer that fails has got a beginning of the output.
+/// `Fault` says which. The settings are judged first, before anything is read or written. A text that is not read leaves
+/// the writer as it was. A writer that fails has got a beginning of the output; so it has where positions are asked for
+/// and a line or a column is past 4,294,967,295, or memory runs out.
 pub fn run<R: CountedRead, W: CountedWrite>(
     alloc: Global,
     reader: &mut R,
     writer: &mut W,
     options: Options,
 ) -> Result<Option<Positions>, Fault>
-    ensures exact { SucceedsExactly options (R.remaining reader.old) result }
+    ensures exact { SucceedsExactly options (R.remaining reader.old) (W.contents writer.old) result }
     ensures settings { IsErrOf result Fault.Options ↔ (are_refused options ≡ true) }
     ensures untouched { are_refused options ≡ true → reader.new ≡ reader.old }
-    ensures unwritten { IfErr result (λ fault. is_write_fault fault ≡ false → writer.new ≡ writer.old) }
+    ensures unwritten { IfErr result (λ fault. is_of_writing options fault ≡ false → writer.new ≡ writer.old) }
+    ensures begun { IfErr result (λ fault. (writer.new ≡ writer.old) ⊎ IfSome (R.remaining reader.old) (λ bytes. WritesBeginning options bytes (W.contents writer.old) (W.contents writer.new))) }
     ensures reader_failed { R.failure_count reader.new ≡ count_after (answers_fault is_read_fault result) (R.failure_count reader.old) }
     ensures writer_failed { W.failure_count writer.new ≡ count_after (answers_fault is_write_fault result) (W.failure_count writer.old) }
-    ensures answer { Answers options (R.remaining reader.old) (W.contents writer.old) (W.contents writer.new) result }
+    ensures answer { Answers (λ v. v.items) options (R.remaining reader.old) (W.contents writer.old) (W.contents writer.new) result }
 {
     let mut kept = Vec::new(alloc);
     run_kept(alloc, reader, writer, options, &mut kept)
@@ -57,13 +59,14 @@ pub fn run_kept<R: CountedRead, W: CountedWrite>(
     kept: &mut Vec<u8>,
 ) -> Result<Option<Positions>, Fault>
     requires { kept.old.items ≡ [] }
-    ensures exact { SucceedsExactly options (R.remaining reader.old) result }
+    ensures exact { SucceedsExactly options (R.remaining reader.old) (W.contents writer.old) result }
     ensures settings { IsErrOf result Fault.Options ↔ (are_refused options ≡ true) }
     ensures untouched { are_refused options ≡ true → reader.new ≡ reader.old }
-    ensures unwritten { IfErr result (λ fault. is_write_fault fault ≡ false → writer.new ≡ writer.old) }
+    ensures unwritten { IfErr result (λ fault. is_of_writing options fault ≡ false → writer.new ≡ writer.old) }
+    ensures begun { IfErr result (λ fault. (writer.new ≡ writer.old) ⊎ IfSome (R.remaining reader.old) (λ bytes. WritesBeginning options bytes (W.contents writer.old) (W.contents writer.new))) }
     ensures reader_failed { R.failure_count reader.new ≡ count_after (answers_fault is_read_fault result) (R.failure_count reader.old) }
     ensures writer_failed { W.failure_count writer.new ≡ count_after (answers_fault is_write_fault result) (W.failure_count writer.old) }
-    ensures answer { Answers options (R.remaining reader.old) (W.contents writer.old) (W.contents writer.new) result }
+    ensures answer { Answers (λ v. v.items) options (R.remaining reader.old) (W.contents writer.old) (W.contents writer.new) result }
     ensures kept { Consumes (R.remaining reader.old) (R.remaining reader.new) kept.new.items }
 {
     carry_out(alloc, reader, writer, options, kept)
@@ -80,17 +83,17 @@ fn carry_out<R: CountedRead, W: CountedWrite>(
     requires { kept.old.items ≡ [] }
     ensures settings { IsErrOf result Fault.Options ↔ (are_refused options ≡ true) }
     ensures untouched { are_refused options ≡ true → reader.new ≡ reader.old }
-    ensures unwritten { IfErr result (λ fault. is_write_fault fault ≡ false → writer.new ≡ writer.old) }
+    ensures unwritten { IfErr result (λ fault. is_of_writing options fault ≡ false → writer.new ≡ writer.old) }
+    ensures begun { IfErr result (λ fault. (writer.new ≡ writer.old) ⊎ IfSome (R.remaining reader.old) (λ bytes. WritesBeginning options bytes (W.contents writer.old) (W.contents writer.new))) }
     ensures reader_failed { R.failure_count reader.new ≡ count_after (answers_fault is_read_fault result) (R.failure_count reader.old) }
     ensures writer_failed { W.failure_count writer.new ≡ count_after (answers_fault is_write_fault result) (W.failure_count writer.old) }
-    ensures answer { Answers options (R.remaining reader.old) (W.contents writer.old) (W.contents writer.new) result }
+    ensures answer { Answers (λ v. v.items) options (R.remaining reader.old) (W.contents writer.old) (W.contents writer.new) result }
     ensures kept { Consumes (R.remaining reader.old) (R.remaining reader.new) kept.new.items }
 {
     if options.are_refused() {
         return Err(Fault::Options);
     }
     read_to_end(reader, kept)?;
-    let text = formatted(alloc, kept.as_slice(), options)?;
-    write_all(writer, text.as_slice())?;
-    Ok(None)
+    let program = program_in(alloc, kept.as_slice(), options)?;
+    write(alloc, &program, options, writer)
 }

@@ -1,9 +1,10 @@
 //! Reading a text as a program.
-ghost use Rattle.std.specs.Prelude.{◌≡◌, ◌↔◌, ◌≤◌, ◌<◌, true, false, length, IsErrOf};
+ghost use Rattle.std.specs.Prelude.{◌≡◌, ◌↔◌, ◌≤◌, ◌<◌, true, false, length, IfErr, IsErrOf};
 ghost use Rattle.std.specs.Str.{chars};
 ghost use Rattle.ecma_command.specs.Options.{are_refused, is_module};
+ghost use Rattle.ecma_front.specs.Faults.{is_text_fault};
 ghost use Rattle.ecma_front.specs.Formats.{Reads, longest_text};
-ghost use Rattle.ecma_front.specs.Steps.{Judges, Tells};
+ghost use Rattle.ecma_front.specs.Steps.{Judges, ReadsBytes, Tells};
 
 use crate::fault::Fault;
 use crate::input::LONGEST_TEXT;
@@ -89,6 +90,28 @@ pub(crate) fn program(alloc: Global, text: &str, options: Options) -> Result<Pro
         Goal::Script => script(alloc, text, options),
         Goal::Module => module(alloc, text, options),
     }
+}
+
+/// The program that bytes are.
+///
+/// # Errors
+///
+/// `NotUtf8`, `Syntax` and `TooDeep` where they spell none within the limit of nesting; `Memory`.
+pub(crate) fn program_in(alloc: Global, bytes: &[u8], options: Options) -> Result<Program, Fault>
+    requires fits { length bytes.now ≤ LONGEST_TEXT }
+    requires settings { are_refused options ≡ false }
+    ensures answer { ReadsBytes options bytes.now result }
+    ensures kinds { IfErr result (λ fault. is_text_fault fault ≡ true) }
+{
+    let text = match std::str::from_utf8(bytes) {
+        Ok(text) => text,
+        Err(error) => {
+            return Err(Fault::NotUtf8 {
+                valid_up_to: error.valid_up_to(),
+            });
+        }
+    };
+    program(alloc, text, options)
 }
 
 /// The program that a text is, as the chosen script or module. Of the settings it reads the goal, the syntax and the

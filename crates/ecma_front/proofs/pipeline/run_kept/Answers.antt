@@ -6,4 +6,4 @@ use Rattle.ecma_front.proofs.pipeline.run_kept.Goals as goal
 
 pub returns-clause-exact : goal.returns-clause-exact
 returns-clause-exact g c =
-    answers_exactly (Vec (BytePos × LineCol) Global) c.args.options _ _ _ c.carry_out.result c.carry_out.ensures.settings.0 c.carry_out.ensures.answer
+    answers_exactly (Vec (BytePos × LineCol) Global) (λ v. v.items) c.args.options _ _ _ c.carry_out.result c.carry_out.ensures.settings.0 c.carry_out.ensures.answer

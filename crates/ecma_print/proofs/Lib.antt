@@ -1,0 +1,3 @@
+pub mod Onto
+pub mod Parts
+pub mod Writing
