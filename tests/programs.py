@@ -217,17 +217,34 @@ def refused(row):
     return difference(row.fields[1:], [b"refused" if row.has("any") else fields[1]])
 
 
+def run(row, style):
+    """The setting that asks for a whole run with positions in a style."""
+    steps = ["tabs=1"] if row.has("indent=tab") else []
+    goal = ["module"] if row.has("module") else []
+    return " ".join(["run", "positions", style, "all", *goal, *steps, f"nesting={NESTING}", "read=65536", "written=65536"])
+
+
+def run_through(answer):
+    """What a run has written, and the positions that it answers."""
+    ended, out, _, _, _, found = [*only(answer), b""][:6]
+    if ended != b"written":
+        raise Wrong(ended.decode())
+    return out, found
+
+
 def marks(row):
     """The text that is written, and the places of the source in it."""
-    answer = (yield [ask(f"{printing(row, style_of(row))} marks", row.field(0))])[0]
-    text, _, found = written(answer)
+    if row.has("crlf"):
+        text, _, found = written((yield [ask(f"{printing(row, style_of(row))} marks", row.field(0))])[0])
+    else:
+        text, found = run_through((yield [ask(run(row, style_of(row)), row.field(0))])[0])
     return difference(row.fields[1:], [text, found])
 
 
 def places(row):
     """The places of the source in the formatted text and in the minified one."""
-    answers = yield [ask(f"{printing(row, style)} marks", row.field(0)) for style in ("format", "minify")]
-    return difference(row.fields[1:], [written(it)[2] for it in answers])
+    answers = yield [ask(run(row, style), row.field(0)) for style in ("format", "minify")]
+    return difference(row.fields[1:], [run_through(it)[1] for it in answers])
 
 
 def comments(row):
