@@ -14,7 +14,7 @@ use Rattle.std.proofs.Common.{inl, inr, chars}
 use Rattle.ecma_token.specs.Dialect.{parts_of}
 use Rattle.ecma_token.specs.declared.error.Error.{Error}
 use Rattle.ecma_early.specs.Early.{early_errors}
-use Rattle.ecma_front.specs.Programs.{IsFaulty, Spells}
+use Rattle.ecma_front.specs.Programs.{IsFaulty, IsProgramOf, Spells}
 use Rattle.std.specs.Prelude.{◌⊎◌}
 use Rattle.ecma_token.specs.Counts.{one_more, count_after}
 use Rattle.ecma_front.specs.Command.{End, IsHindered, IsUnread, out_of_memory}
@@ -24,13 +24,13 @@ use Rattle.ecma_token.specs.declared.place.LineCol.{LineCol}
 use Rattle.ecma_write.specs.declared.fault.EmitError.{EmitError}
 use Rattle.ecma_write.specs.declared.fault.EmitError.TheVariants as w
 use Rattle.ecma_print.specs.Layouts.{layout, IsPastLast}
-use Rattle.ecma_print.specs.Prints.{IsDone, IsStopped}
+use Rattle.ecma_print.specs.Prints.{IsDone, IsStopped, Texts}
 use Rattle.ecma_print.proofs.Writing.{no_place_past}
 use Rattle.ecma_front.specs.Formats.{IsProgramIn, IsRefused, LacksProgram, longest_text}
 use Rattle.ecma_front.specs.Run.{Answers, Formats, HasPlaces, IsPrinted, IsReadable, Succeeds, SucceedsExactly, WritesBeginning, WritesProgram}
 use Rattle.ecma_front.specs.Steps.{fault_of, Writes}
 use Rattle.ecma_front.proofs.Formatting.{can_be_printed}
-use Rattle.ecma_front.proofs.ReadAgain.{read_again}
+use Rattle.ecma_front.proofs.ReadAgain.{layout_utf8, read_again}
 use Rattle.ecma_front.specs.Names.{NamesAreTold}
 use Rattle.ecma_front.proofs.Names.{names_told}
 
@@ -73,7 +73,13 @@ text_fault_answers P items options (Some bytes) before after kept fault same is 
 -- what is written of the program of the bytes
 module _ {P : Type 0} (items : P → List (BytePos × LineCol)) (options : Options) (t : Tree) (kept : List ℕ) (before after : Option (List ℕ)) (program : IsProgramIn options kept t) (fits : length kept ≤ longest_text) where
   printed : IsPrinted options kept t (layout options t)
-  printed = record { fits = fits; program = program; is_layout = refl; read_again = read_again options t (chars kept) (scalars-chars kept program.0) program.1.0 }
+  printed = record {
+    fits = fits;
+    program = program;
+    is_layout = refl;
+    utf8 = layout_utf8 options t (chars kept) (scalars-chars kept program.0) program.1.0;
+    read_again = read_again options t (chars kept) (scalars-chars kept program.0) program.1.0;
+  }
 
   names_of : (positions : Option P) → IsDone items options t before after positions → IsSome before → IfSome positions (λ p. NamesAreTold (chars (layout options t)) (items p) t printed.read_again.tree)
   names_of None h s = tt
@@ -331,6 +337,18 @@ module _ (options : Options) (text : List ℕ) (utf8 : IsUtf8 text) (fits : leng
   lacking_formats f.Position h = absurd h
   lacking_formats f.Node h = absurd h
   lacking_formats f.Options h = absurd h
+
+  -- its layout is what is written of it
+  pub layout_formats : (t : Tree) → IsProgramOf options (chars text) t → (x : X) → view x ≡ layout options t → Formats view options text (Ok x)
+  layout_formats t h x w =
+      (t, subst (λ (l : List ℕ). IsPrinted options text t l) (sym w) (printed {P = Unit {0}} (λ p. []) options t text None None (utf8, h) fits))
+
+  -- or memory ran out
+  pub fault_formats : (t : Tree) → IsProgramOf options (chars text) t → {Z : Type 0} (e : EmitError) → Texts {Z = Z} options t (Err e) → Formats view options text (Err (fault_of e))
+  fault_formats t h w.Memory k = (tt, tt)
+  fault_formats t h w.Node k = absurd (can_be_printed options (chars text) t h k)
+  fault_formats t h (w.Write q) k = absurd k
+  fault_formats t h w.Position k = absurd k
 
 -- what is answered of a text is exact
 pub formats_exactly : {X : Type 0} (view : X → List ℕ) (options : Options) (text : List ℕ) (result : Result X Fault) → options.positions ≡ false → (result ≡ Err f.Options → are_refused options ≡ true)

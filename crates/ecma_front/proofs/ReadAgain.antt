@@ -2,9 +2,10 @@
 use Rattle.std.proofs.Common.{◌≡◌, ℕ, zero, suc, Bool, true, false, not, List, [], ◌∷◌, inl, inr, refl, sym, subst, ◌∙◌, arith}
 use Rattle.std.specs.Prelude.{◌<◌, ◌≤◌, codes, nat_lt, if◌then◌else◌}
 use Rattle.std.specs.List.{list_all}
-use Rattle.std.specs.Str.{chars}
+use Rattle.std.specs.Str.{chars, IsUtf8}
 use Rattle.std.proofs.lemmas.Bool.Decides.{nat_tests}
 use lib.Utf8.{scalars}
+use Rattle.ecma_token.specs.Dialect.{parts_of}
 use Rattle.ecma_token.specs.Editions.{edition_rank}
 use Rattle.ecma_tree.specs.Tree.{Tree}
 use Rattle.ecma_scan.specs.Characters.{is_white_space}
@@ -22,9 +23,11 @@ use Rattle.ecma_command.specs.declared.options.Indent.TheVariants.{Blanks, Tabs}
 use Rattle.ecma_written.proofs.Ascii.{Ascii, ascii, is_ascii}
 use Rattle.ecma_written_tiles.specs.Tiles.{IsEmptyPage}
 use Rattle.ecma_redone_bytes.specs.Laws.{WritesAgain}
+use Rattle.ecma_written_text.proofs.Read.{read_is_text}
 use Rattle.ecma_readback.specs.Laws.{IsReadBack}
 use Rattle.ecma_readback.proofs.Whole.{programs_read_back}
 use Rattle.ecma_print.specs.Layouts.{look_of, line_end_of, indent_of, page_of, laid_of, written_on, layout}
+use Rattle.ecma_print.proofs.Writing.{page_text}
 use Rattle.ecma_front.specs.Programs.{setting_of, Spells}
 use Rattle.ecma_front.specs.ReadAgain.{minifying, KeepsBytes, IsReadAgain}
 
@@ -84,6 +87,11 @@ chosen o t P x y = by (is_format o.style)
     by : (b : Bool) → P (if b then resolved (pieces (look_of o) t) (page_of o) else shortened (pieces (look_of o) t) (page_of o)).out
     by true = x
     by false = y
+
+-- what is written of a tree that spells a text is UTF-8
+pub layout_utf8 : (o : Options) (t : Tree) (text : List ℕ) → scalars text ≡ true → Spells o t text → IsUtf8 (layout o t)
+layout_utf8 o t text e h =
+    let w = read_is_text (look_of o) (is_module o.goal) (parts_of o.syntax) t text e h.reads (page_of o) (page_text o) in chosen o t IsUtf8 w.0.0 w.1.0
 
 same_layout : (o : Options) (t u : Tree) → AreWrittenAlike (look_of o) t u → layout o t ≡ layout o u
 unfolding layout written_on laid_of

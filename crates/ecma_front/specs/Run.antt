@@ -18,11 +18,12 @@ use Rattle.ecma_front.specs.ReadAgain.{IsReadAgain}
 use Rattle.ecma_front.specs.Names.{NamesAreTold}
 use Rattle.ecma_front.specs.Formats.{IsProgramIn, IsRefused, longest_text}
 
--- What is written of the bytes, which are no more than the longest text: the layout of the one program that spells them, which is spelled by that program and no other.
+-- What is written of the bytes, which are no more than the longest text: the layout of the one program that spells them, which is UTF-8 and is spelled by that program and no other.
 pub record IsPrinted (options : Options) (bytes : List ℕ) (t : Tree) (out : List ℕ) : Type 0 where
   pub fits : length bytes ≤ longest_text
   pub program : IsProgramIn options bytes t
   pub is_layout : out ≡ layout options t
+  pub utf8 : IsUtf8 out
   pub read_again : IsReadAgain options t (chars out)
 
 -- The writer got what is written of the input.
