@@ -344,11 +344,14 @@ module _ (options : Options) (text : List ℕ) (utf8 : IsUtf8 text) (fits : leng
       (t, subst (λ (l : List ℕ). IsPrinted options text t l) (sym w) (printed {P = Unit {0}} (λ p. []) options t text None None (utf8, h) fits))
 
   -- or memory ran out
-  pub fault_formats : (t : Tree) → IsProgramOf options (chars text) t → {Z : Type 0} (e : EmitError) → Texts {Z = Z} options t (Err e) → Formats view options text (Err (fault_of e))
-  fault_formats t h w.Memory k = (tt, tt)
-  fault_formats t h w.Node k = absurd (can_be_printed options (chars text) t h k)
-  fault_formats t h (w.Write q) k = absurd k
-  fault_formats t h w.Position k = absurd k
+  pub fault_formats : (t : Tree) → IsProgramOf options (chars text) t → (Z : Type 0) (e : EmitError) (fault : Fault) → fault ≡ fault_of e → Texts {Z = Z} options t (Err e) → Formats view options text (Err fault)
+  fault_formats t h Z e fault told k = subst (λ (x : Fault). Formats view options text (Err x)) (sym told) (by e k)
+    where
+      by : (e : EmitError) → Texts {Z = Z} options t (Err e) → Formats view options text (Err (fault_of e))
+      by w.Memory k = (tt, tt)
+      by w.Node k = absurd (can_be_printed options (chars text) t h k)
+      by (w.Write q) k = absurd k
+      by w.Position k = absurd k
 
 -- what is answered of a text is exact
 pub formats_exactly : {X : Type 0} (view : X → List ℕ) (options : Options) (text : List ℕ) (result : Result X Fault) → options.positions ≡ false → (result ≡ Err f.Options → are_refused options ≡ true)
@@ -385,16 +388,16 @@ settings_taken o x h = settings_false o (Ok x ≡ Err f.Options) h (λ e. absurd
 pub length_taken : {X : Type 0} (o : Options) (x : X) (text : List ℕ) → are_refused o ≡ false → ((are_refused o ≡ false) × (longest_text < length text) → Ok x ≡ Err f.TooLong) → length text ≤ longest_text
 length_taken o x text taken h = elim (cases_lt longest_text (length text)) [ inl past ↦ (let e = h (taken, past) in absurd (cc)) | inr fits ↦ fits ]
 
-pub read_formats : {X : Type 0} (view : X → List ℕ) (o : Options) (text : List ℕ) (fault : Fault) → IsUtf8 text → (are_refused o ≡ true → Err {T = X} fault ≡ Err f.Options)
-    → ((are_refused o ≡ false) × (longest_text < length text) → Err {T = X} fault ≡ Err f.TooLong) → (are_refused o ≡ false → length text ≤ longest_text → LacksProgram o (chars text) fault)
+pub read_formats : {X : Type 0} (view : X → List ℕ) (o : Options) (text : List ℕ) (fault : Fault) → IsUtf8 text → (are_refused o ≡ true → fault ≡ f.Options)
+    → ((are_refused o ≡ false) × (longest_text < length text) → fault ≡ f.TooLong) → (are_refused o ≡ false → length text ≤ longest_text → LacksProgram o (chars text) fault)
     → Formats view o text (Err fault)
 read_formats {X} view o text fault utf8 refused long lacks = by (are_refused o) refl
   where
-    as : (other : Fault) → fault ≡ other → Formats view o text (Err other) → Formats view o text (Err fault)
-    as other e h = subst (λ (x : Fault). Formats view o text (Err x)) (sym e) h
+    told : (other : Fault) → fault ≡ other → Formats view o text (Err other) → Formats view o text (Err fault)
+    told other e h = subst (λ (x : Fault). Formats view o text (Err x)) (sym e) h
     by : (b : Bool) → are_refused o ≡ b → Formats view o text (Err fault)
-    by true e = let same = refused e in as f.Options (cc) (tt, tt)
+    by true e = told f.Options (refused e) (tt, tt)
     by false e = elim (cases_lt longest_text (length text)) [
-      inl past ↦ (let same = long (e, past) in as f.TooLong (cc) (past, tt))
+      inl past ↦ told f.TooLong (long (e, past)) (past, tt)
       | inr fits ↦ lacking_formats o text utf8 fits view fault (lacks e fits)
     ]

@@ -1,5 +1,6 @@
 -- What the steps from bytes to a program answer together.
-use Rattle.std.proofs.Common.{◌≡◌, ℕ, true, List, Result, Ok, Err, IsUtf8, chars, refl, IfErr}
+use Rattle.std.proofs.Common.{◌≡◌, ℕ, Bool, true, List, Result, Ok, Err, IsUtf8, chars, refl, sym, ap, ◌∙◌, IfErr}
+use Rattle.ecma_token.specs.Counts.{count_after}
 use Rattle.ecma_token.specs.Dialect.{parts_of}
 use Rattle.ecma_tree.specs.Tree.{Tree}
 use Rattle.ecma_command.specs.Options.{is_module}
@@ -62,3 +63,7 @@ write_fault_of (w.Write k) = refl
 write_fault_of w.Memory = refl
 write_fault_of w.Node = refl
 write_fault_of w.Position = refl
+
+-- so it counts as one where it is told
+pub told_counts : (count before : ℕ) (e : EmitError) (fault : Fault) → fault ≡ fault_of e → count ≡ count_after (is_write e) before → count ≡ count_after (is_write_fault fault) before
+told_counts count before e fault told h = h ∙ ap (λ (b : Bool). count_after b before) (sym (write_fault_of e) ∙ ap is_write_fault (sym told))

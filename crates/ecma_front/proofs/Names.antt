@@ -1,5 +1,5 @@
 -- Names stand where the positions say: from the law of read-back.
-use Rattle.std.proofs.Common.{◌≡◌, ℕ, Bool, true, List, [], Option, Some, None, refl, sym, ap, subst, ◌∙◌, get_or}
+use Rattle.std.proofs.Common.{◌≡◌, ℕ, Bool, true, false, List, [], Option, Some, None, refl, sym, ap, subst, ◌∙◌, get_or}
 use Rattle.std.specs.Prelude.{if◌then◌else◌}
 use Rattle.std.specs.Option.{option_map}
 use Rattle.std.specs.Str.{chars}
@@ -21,6 +21,9 @@ use Rattle.ecma_front.specs.Programs.{setting_of, Spells, TreeReads}
 use Rattle.ecma_front.specs.Names.{NamesAreTold}
 use Rattle.ecma_front.proofs.ReadAgain.{empty_page}
 
+some_is : {A : Type 0} {x y : A} → Some x ≡ Some y → x ≡ y
+some_is e = cc
+
 -- a page that keeps marks says where names stand
 told_by : (o : Options) (t u : Tree) (q : Page) → MarksNames (setting_of o) (is_module o.goal) t q → TreeReads o u (chars q.out) → (pairs : List (BytePos × LineCol)) → (IsPast q → ⊥)
     → (ms : Option Marks) → q.marks ≡ ms → option_map (λ m. m.pairs) ms ≡ Some pairs → NamesAreTold (chars q.out) pairs t u
@@ -30,9 +33,6 @@ told_by o t u q h r pairs past (Some m) e k = by m.reached refl
     by : (end : Option LineCol) → m.reached ≡ end → NamesAreTold (chars q.out) pairs t u
     by None f = absurd (past (m, e, f))
     by (Some end) f = subst (λ (ps : List (BytePos × LineCol)). NamesAreTold (chars q.out) ps t u) (some_is k) (h m end e f u r)
-
-    some_is : {A : Type 0} {x y : A} → Some x ≡ Some y → x ≡ y
-    some_is {x = x} e = ap (λ v. elim v [ None ↦ x | Some z ↦ z ]) e
 
 begins_marks : (o : Options) → o.positions ≡ true → BeginsMarks (page_of o)
 begins_marks o e = ([], rw e refl)
