@@ -395,9 +395,10 @@ read_formats {X} view o text fault utf8 refused long lacks = by (are_refused o) 
   where
     told : (other : Fault) → fault ≡ other → Formats view o text (Err other) → Formats view o text (Err fault)
     told other e h = subst (λ (x : Fault). Formats view o text (Err x)) (sym e) h
+
     by : (b : Bool) → are_refused o ≡ b → Formats view o text (Err fault)
     by true e = told f.Options (refused e) (tt, tt)
     by false e = elim (cases_lt longest_text (length text)) [
-      inl past ↦ told f.TooLong (long (e, past)) (past, tt)
+      | inl past ↦ told f.TooLong (long (e, past)) (past, tt)
       | inr fits ↦ lacking_formats o text utf8 fits view fault (lacks e fits)
     ]
