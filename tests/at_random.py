@@ -1,5 +1,5 @@
-"""Texts at random, as many as are asked for: programs that grow by the grammar, and texts that are changed. The laws hold for each that is read;
-any other is refused for its syntax, or as no UTF-8."""
+"""Texts at random, as many as are asked for: programs that grow by the grammar, texts that are changed, and trees that are made. The laws hold for
+each that is read; any other is refused for its syntax, or as no UTF-8."""
 import collections
 import functools
 import os
@@ -8,8 +8,9 @@ import random
 import changing
 import cuts
 import joining
+from asking import Ask, Refused, ask_batch
 from front import valid_bytes
-from laws import Broken, Fault, Read, side_by_side, told_by_command, verdicts
+from laws import NEW_EACH_TIME, Broken, Fault, Read, side_by_side, told_by_command, verdicts
 
 FILES = f"{os.path.dirname(os.path.realpath(__file__))}/files"
 # how many texts are tried where no number is asked for, how many in a batch, and of how many one goes through the command line too
@@ -20,8 +21,10 @@ LOOKS = [
     (), (), (), ("crlf", "indent=tab"), ("page",), ("ascii",), ("target=es2015",), ("target=es5",), ("target=es3", "ascii", "page"),
     ("indent=0", "target=es2020"),
 ]  # fmt: skip
+# of how many steps a tree is made at most
+STEPS = (20, 40, 60, 60, 100)
 # the optional parts of the language that texts may have
-LANGUAGES = [(), (), (), ("using", "accessors")]
+LANGUAGES = [(), cuts.USUAL, cuts.USUAL, cuts.LANGUAGE]
 
 
 class Tally(collections.Counter):
@@ -42,7 +45,7 @@ def judge(paths, goal, look, texts, language=()):
             wrongs.append(f"{text!r} as a {goal} {' '.join(look)}: {own.why}")
         elif isinstance(own, Fault) and own.kind in ("Memory", "TooDeep"):
             wrongs.append(f"{text!r} as a {goal}: {own.kind}")
-        elif at % THROUGH == 0 and not look and not language:
+        elif at % THROUGH == 0 and not look and language == cuts.USUAL:
             wrongs.append(told_by_command(paths["ecma-front"], goal, text, own))
     for text in texts:
         if valid_bytes(text) < len(text):
@@ -82,8 +85,33 @@ def changed(paths, seed, start, count):
     return judge(paths, goal, rand.choice(LOOKS), texts, language)
 
 
+def trees(paths, seed, start, count):
+    """Judges the texts of trees that the program makes from seeds in a row: each is read as the same program, and written again with the same bytes."""
+    rand = random.Random(f"trees {seed} {start}")
+    style, look = rand.choice(("format", "minify")), rand.choice(LOOKS)
+    first = (seed * 1_000_003 + start) % 2**31
+    asked = [" ".join(["tree", style, *look, f"seed={at}", f"steps={rand.choice(STEPS)}"]) for at in range(first, first + count)]
+    kinds, tally = {}, Tally()
+    for setting, answer in zip(asked, ask_batch(paths["ecma-program-answers"], [Ask("", it, ()) for it in asked])):
+        if isinstance(answer, Refused):
+            return tally, f"{setting}: {answer.why}"
+        goal, features, text, how = answer
+        if how != b"same":
+            return tally, f"{setting}: its text is read as {how.decode()}: {text!r}"
+        kinds.setdefault((goal.decode(), features), []).append((setting, text))
+    for (goal, features), own in kinds.items():
+        texts = [text for _, text in own]
+        found = verdicts(paths["ecma-program-answers"], goal, texts, ("using", "accessors") if features else (), look)
+        for (setting, text), it in zip(own, found):
+            again = isinstance(it, Read) and (it.minified if style == "minify" else it.formatted)
+            tally[goal] += 1
+            if not again or again != text and not any(word in look for word in NEW_EACH_TIME):
+                return tally, f"{setting}: {text!r}: {it}"
+    return tally, None
+
+
 def told(work, paths, seed, count):
-    """A test that so many texts are as they should be."""
+    """A test that so many texts, or trees, are as they should be."""
     tally = Tally()
     for own, why in side_by_side(work, [(paths, seed, at, min(BATCH, count - at)) for at in range(0, count, BATCH)]):
         tally += own
@@ -97,15 +125,19 @@ def told(work, paths, seed, count):
     yield
 
 
+# what a test is called after
+NAMES = {grown: "texts that are grown", changed: "texts that are changed", trees: "trees"}
+
+
 def tests_of(work):
     """What tests so many texts from a seed."""
 
     def tests(paths, count=COUNT, seed=0):
         if "ecma-program-answers" not in paths:
             return []
-        return [(f"{count} texts that are {work.__name__}, from seed {seed}", told(work, paths, seed, count))]
+        return [(f"{count} {NAMES[work]}, from seed {seed}", told(work, paths, seed, count))]
 
     return tests
 
 
-grown_tests, changed_tests = tests_of(grown), tests_of(changed)
+grown_tests, changed_tests, trees_tests = tests_of(grown), tests_of(changed), tests_of(trees)

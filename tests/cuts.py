@@ -10,6 +10,8 @@ from rows import read_rows
 ROWS = f"{os.path.dirname(os.path.realpath(__file__))}/rows"
 # the folders whose rows are of whole programs, and the parts of the language that a setting names
 PARTS, LANGUAGE = ("parse", "print", "front"), ("using", "accessors")
+# the parts of the language that the command line reads
+USUAL = ("using",)
 # a text of up to so many bytes is cut at each byte, a longer one at so many, and one past the greatest size isn't
 SHORT, CUTS, GREATEST, BATCH = 512, 24, 10_000, 2_000
 
@@ -71,7 +73,7 @@ def told(path, goal, words, is_long, texts):
 def through(paths, goal, texts):
     """What is wrong with the first of these texts with which the command line ends otherwise than it should, or nothing."""
     whole = [it for it in texts if valid_bytes(it) == len(it)]
-    known = dict(zip(whole, verdicts(paths["ecma-program-answers"], goal, whole)))
+    known = dict(zip(whole, verdicts(paths["ecma-program-answers"], goal, whole, USUAL)))
     wrongs = (told_by_command(paths["ecma-front"], goal, text, known.get(text)) for text in texts)
     return next((it for it in wrongs if it), None)
 

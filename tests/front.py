@@ -95,7 +95,7 @@ def fault(row):
 def nesting(row):
     """The least limit that takes a text: each lower one has to find it too deep, the next one and the greatest have to take it."""
     least = int(row.text(1))
-    limits = [*range(1, least + 2), 1024]
+    limits = [*range(1, least + 2), 2048]
     all_done = yield [Run(("--script", "--minify", "--nesting", str(limit)), row.field(0)) for limit in limits]
     for limit, done in zip(limits, map(ran, all_done)):
         if limit < least and (done.status, done.out, done.err) != (1, b"", TOO_DEEP):
@@ -103,6 +103,22 @@ def nesting(row):
         if limit >= least and (done.status, done.err) != (0, b""):
             return f"{limit} is too low: {done.err.decode(errors='replace')}"
     return None
+
+
+def deepest(row):
+    """So many of a kind in one another are taken in both styles, as the text itself and as one that is minified to it; one more is
+    too deep. The fields: what opens, what stands inside, what closes, how many, and what stands before and behind all."""
+    opens, inside, closes, count, before, behind = (row.field(it) if it < len(row.fields) else b"" for it in range(6))
+    text, more = (before + opens * it + inside + closes * it + behind for it in (int(count), int(count) + 1))
+    minify = ("--script", "--minify", "--nesting", "2048")
+    asked = [Run(minify, text), Run(("--script", "--indent", "0", "--nesting", "2048"), text), Run(minify, more)]
+    minified, formatted, deeper = map(ran, (yield asked))
+    if (deeper.status, deeper.out, deeper.err) != (1, b"", TOO_DEEP):
+        return f"one more is taken, or refused otherwise: {deeper.err.decode(errors='replace')}"
+    if minified.status or minified.out != text or formatted.status:
+        return f"status {minified.status} and {formatted.status}: {minified.err.decode(errors='replace')}"
+    again = ran((yield [Run(minify, formatted.out)])[0])
+    return difference([text], [again.out])
 
 
 def read(row):
@@ -133,7 +149,7 @@ def place(row):
     return difference(row.fields[2:], told)
 
 
-SUBJECTS = {it.__name__: it for it in (written, refused, fault, nesting, read, answer, words, place)}
+SUBJECTS = {it.__name__: it for it in (written, refused, fault, nesting, deepest, read, answer, words, place)}
 
 
 def judge(row):

@@ -7,6 +7,11 @@ SRC = "crates/ecma_nesting/src"
 # Structs whose count is no plain one, with the count as it is written in `knot`'s words.
 OWN = {
     "BinExpr": ["self.left.nesting().max(above(self.right.nesting()))"],
+    "MemberExpr": ["self.obj.nesting().max(above(self.prop.nesting()))"],
+    "CallExpr": ["self.callee.nesting().max(above(self.args.nesting()))"],
+    "TaggedTpl": ["self.tag.nesting().max(above(self.tpl.nesting()))"],
+    "OptCall": ["self.callee.nesting().max(above(self.args.nesting()))"],
+    "OptChainExpr": ["self.base.nesting()"],
     "BindingIdent": ["1"],
     "IfStmt": [
         "let head = above(self.test.nesting().max(self.cons.nesting()));",

@@ -26,20 +26,32 @@ OWN = {
         ["self.tail == other.tail && same_cooked(&self.cooked, &other.cooked)"],
         "beq tail tail2 && equal_text cooked cooked2",
     ),
-    "TaggedTpl": (
-        [
-            "self.tag.same(&other.tag)",
-            "    && self.tpl.exprs.same(&other.tpl.exprs)",
-            "    && same_spellings(self.tpl.quasis.as_slice(), other.tpl.quasis.as_slice())",
-        ],
-        None,
-    ),
+    "TaggedTpl": (["self.tag.same(&other.tag) && same_template(&self.tpl, &other.tpl)"], None),
     "Str": (["self.units == other.units"], None),
     "Number": (["self.value.is_same(&other.value)"], None),
     "BigInt": (["self.radix == other.radix && self.digits == other.digits"], None),
     "ExprOrSpread": (["self.spread.is_some() == other.spread.is_some() && self.expr.same(&other.expr)"], None),
     "RestPat": (["self.arg.same(&other.arg)"], "same arg arg2"),
 }
+
+# A function that stands behind the comparison of a struct, with what its contract names.
+BEHIND = {
+    "TaggedTpl": """/// Whether the templates behind two tags say the same: their texts are spelled alike.
+pub(crate) fn same_template<T: Held>(tpl: &TplOf<T>, other: &TplOf<T>) -> bool
+    ensures { result ≡ (same (list (trees_by (λ c. T.tree c.part.value) tpl.now.exprs.items)) (list (trees_by (λ c. T.tree c.part.value) other.now.exprs.items)) && same_spellings (trees_by view_tpl_element tpl.now.quasis.items) (trees_by view_tpl_element other.now.quasis.items)) }
+{
+    tpl.exprs.same(&other.exprs) && same_spellings(tpl.quasis.as_slice(), other.quasis.as_slice())
+}
+
+""",
+}
+BEHIND_USES = (
+    """ghost use Rattle.std.specs.Prelude.{◌≡◌, ◌&&◌};
+ghost use Rattle.ecma_tree.specs.Tree.{trees_by, list};
+ghost use Rattle.ecma_equal.specs.Same.{same};
+""",
+    "ghost use %s.specs.Compared.{same_spellings};\n" % ROOT,
+)
 
 # Rules that are written by hand, in proofs/Spellings.antt.
 BY_HAND = {"ExprStmt": "expr_stmt_rule", "TaggedTpl": "tagged_tpl_rule", "Number": "number_rule", "ExprOrSpread": "expr_or_spread_rule", "Str": "str_lit_rule", "BigInt": "big_int_lit_rule"}
@@ -159,7 +171,7 @@ class Same:
             generic = table.is_generic(n)
             own = n + "Of" if generic else n
             lines = self.struct_body(n) if what == "struct" else self.enum_body(n, own)
-            text = "\n".join(lines)
+            text = "\n".join(lines) + BEHIND.get(n, "")
             for helper in HELPERS:
                 if helper + "(" in text:
                     helpers.add(helper)
@@ -175,6 +187,7 @@ class Same:
             body.append("impl%s Same for %s {\n    ghost tree = { %s };\n\n" % (over, of, self.ghost(n)))
             body.append("    #[tactic(auto, using(crate::proofs::%s))]\n" % self.rule(n))
             body.append("    fn same(&self, %s: &%s) -> bool {\n%s    }\n}\n\n" % (other, of, "".join("        %s\n" % line for line in lines)))
+            body.append(BEHIND.get(n, ""))
             if n in present:
                 helpers.add("Present")
                 lines = self.present_body(n, own)
@@ -182,9 +195,11 @@ class Same:
                     helpers.add("is_nothing")
                 body.append("impl%s Present for %s {\n" % (over, of))
                 body.append("    fn is_left_out(&self) -> bool {\n%s    }\n}\n\n" % "".join("        %s\n" % line for line in lines))
-        head = "//! Whether %s say the same.\n" % WHAT[module]
+        before, after = BEHIND_USES if any(table.module_of[n] == module for n in BEHIND) else ("", "")
+        head = "//! Whether %s say the same.\n" % WHAT[module] + before
         if views:
             head += "ghost use Rattle.ecma_node.specs.View.{%s};\n" % ", ".join(views)
+        head += after
         if seen:
             head += "ghost use %s.specs.Seen.{%s};\n" % (ROOT, ", ".join(seen))
         head += "\n"

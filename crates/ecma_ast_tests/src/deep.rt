@@ -1,12 +1,12 @@
 //! Trees that go as deep as a program may, and chains of a million links: made, measured, gone over, changed and dropped on
-//! the stack of the main thread. Chains are measured, compared and dropped.
+//! the stack of the main thread. Chains are measured, gone over, compared and dropped.
 ghost use Rattle.ecma_node.specs.Placed.{holds_expr, holds_stmt};
 
-use crate::made::{empty, ok, var};
+use crate::made::{empty, ok, var, word};
 use crate::places::Places;
 use ecma_ast::Build;
 use ecma_nesting::Nesting;
-use ecma_node::{BlockStmt, ExprBox, Function, StmtBox};
+use ecma_node::{BlockStmt, Callee, ExprBox, Function, MemberProp, StmtBox};
 use ecma_same::Same;
 use ecma_token::{BinaryOp, DUMMY_SP};
 use ecma_visit::{Node, Walk, Watch};
@@ -20,6 +20,8 @@ enum Shape {
     Array,
     Function,
     Sum,
+    Member,
+    Call,
 }
 
 /// What stands round a statement.
@@ -71,6 +73,8 @@ fn expr_in(rt: &impl Abort, b: &Build, shape: Shape, expr: ExprBox) -> ExprBox
         Shape::Array => b.array_lit(ok(rt, vec![in b.alloc; Some(b.arg(expr))])),
         Shape::Function => return function(rt, b, expr),
         Shape::Sum => b.bin_expr(BinaryOp::Add, expr, var(rt, b)),
+        Shape::Member => b.member_expr(expr, MemberProp::Ident(word(rt, b))),
+        Shape::Call => b.call_expr(Callee::Expr(expr), Vec::new(b.alloc)),
     };
     ok(rt, made)
 }
@@ -138,15 +142,25 @@ fn deep_trees(rt: HostRuntime) {
     check(&rt, tree.get_mut(), 4_096);
 }
 
+/// Measures a chain of a million links, goes over it, and compares it with one that is the same and one that isn't.
+fn check_chain(rt: &impl Abort, b: &Build, shape: Shape, nesting: u32, nodes: u64) {
+    let chain = exprs(rt, b, shape, var(rt, b), 1_000_000);
+    assert_eq!(rt; chain.nesting(), nesting);
+    let mut count = Count { nodes: 0 };
+    chain.walk(&mut count);
+    assert_eq!(rt; count.nodes, nodes);
+    let same = exprs(rt, b, shape, var(rt, b), 1_000_000);
+    assert!(rt; chain.same(&same));
+    let other = exprs(rt, b, shape, ok(rt, b.this_expr()), 1_000_000);
+    assert!(rt; !chain.same(&other));
+}
+
 #[test]
 fn long_chains(rt: HostRuntime) {
     let b = &Build { alloc: rt.alloc() };
-    let sum = exprs(&rt, b, Shape::Sum, var(&rt, b), 1_000_000);
-    assert_eq!(rt; sum.nesting(), 2);
-    let same = exprs(&rt, b, Shape::Sum, var(&rt, b), 1_000_000);
-    assert!(rt; sum.same(&same));
-    let other = exprs(&rt, b, Shape::Sum, ok(&rt, b.this_expr()), 1_000_000);
-    assert!(rt; !sum.same(&other));
+    check_chain(&rt, b, Shape::Sum, 2, 2_000_001);
+    check_chain(&rt, b, Shape::Member, 2, 2_000_001);
+    check_chain(&rt, b, Shape::Call, 1, 1_000_001);
 }
 
 #[test]

@@ -78,7 +78,7 @@ fn calls(rt: HostRuntime) {
     expr(&rt, b, tree, "(5:4 (1:1) (4 (3:2 (2:1))))");
     let callee = Callee::Super(Super { span: DUMMY_SP });
     let tree = b.call_expr(callee, Vec::new(b.alloc));
-    expr(&rt, b, tree, "(2:2 (1))");
+    expr(&rt, b, tree, "(2:1 (1))");
     let callee = Callee::Import(Import { span: DUMMY_SP });
     let tree = b.call_expr(callee, args(&rt, b));
     expr(&rt, b, tree, "(5:4 (1) (4 (3:2 (2:1))))");
@@ -104,7 +104,7 @@ fn lists(rt: HostRuntime) {
         args: Vec::new(b.alloc),
     };
     let tree = b.opt_chain_expr(true, OptChainBase::Call(call));
-    expr(&rt, b, tree, "(4:4 (3 (2:2 (1:1))))");
+    expr(&rt, b, tree, "(4:2 (3 (2:2 (1:1))))");
 }
 
 /// `a.a`.
@@ -142,12 +142,12 @@ fn members(rt: HostRuntime) {
     expr(&rt, b, tree, "(3:2 (1:1) (2:1))");
     let prop = MemberProp::PrivateName(private(&rt, b));
     let tree = b.member_expr(deeper(&rt, b), prop);
-    expr(&rt, b, tree, "(5:4 (3:3 (2:2 (1:1))) (4:1))");
+    expr(&rt, b, tree, "(5:3 (3:3 (2:2 (1:1))) (4:1))");
     let SuperPropExpr { obj, prop, .. } = super_member(&rt, b);
     let tree = b.super_prop_expr(obj, prop);
     expr(&rt, b, tree, "(5:4 (1) (4 (3:2 (2:1))))");
     let tree = b.opt_chain_expr(true, OptChainBase::Member(member(&rt, b)));
-    expr(&rt, b, tree, "(4:3 (3 (1:1) (2:1)))");
+    expr(&rt, b, tree, "(4:2 (3 (1:1) (2:1)))");
 }
 
 /// An assignment to a target.
@@ -195,7 +195,7 @@ fn member_targets(rt: HostRuntime) {
         base: OptChainBase::Member(member(&rt, b)),
     };
     let target = ok(&rt, Box::new(b.alloc, target));
-    let want = "(6:4 (4 (3 (1:1) (2:1))) (5:1))";
+    let want = "(6:3 (4 (3 (1:1) (2:1))) (5:1))";
     assign(&rt, b, AssignTarget::OptChain(target), want);
 }
 

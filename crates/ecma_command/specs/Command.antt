@@ -78,9 +78,9 @@ abbrev pub are_listed : List Row → Bool
 are_listed rows = is_listed target_of (first_of (codes "target") rows)
     && (is_listed indent_of (first_of (codes "indent") rows) && is_listed nesting_of (first_of (codes "nesting") rows))
 
--- the program reads import attributes
+-- the program reads import attributes and `using`
 abbrev pub program_syntax : Syntax
-program_syntax = Es (record plain_syntax { import_attributes = true })
+program_syntax = Es (record plain_syntax { import_attributes = true; explicit_resource_management = true })
 
 -- the settings that were found ask for these
 pub record Asks (rows : List Row) (o : Options) : Type 0 where

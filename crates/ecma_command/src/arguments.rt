@@ -68,7 +68,7 @@ fn nesting_option<'a>(alloc: Global) -> Arg<'a>
     ensures rule { rule_of result ≡ valued (codes "nesting") }
     ensures local { result.global ≡ false }
 {
-    let help = "How deep the program may nest: 1 to 1024 [default: 256]";
+    let help = "How deep the program may nest: 1 to 2048 [default: 256]";
     valued(alloc, "nesting", "N", help)
 }
 
@@ -150,13 +150,14 @@ fn line_end(matches: &ArgMatches<'_>) -> LineEnd
     }
 }
 
-/// The settings that the words ask for. Import attributes are read.
+/// The settings that the words ask for. Import attributes and `using` are read.
 fn options_of(alloc: Global, matches: &ArgMatches<'_>) -> Result<Options, CliFault>
     ensures asked { IfOk result (Asks (rows_of (found_of matches.now))) }
     ensures refused { IfErr result (λ fault. are_listed (rows_of (found_of matches.now)) ≡ true → fault ≡ CliFault.Memory) }
 {
     let syntax = EsSyntax {
         import_attributes: true,
+        explicit_resource_management: true,
         ..EsSyntax::default()
     };
     Ok(Options {

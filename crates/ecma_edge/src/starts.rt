@@ -6,10 +6,10 @@ ghost use Rattle.ecma_node.specs.View.{unary_op_word, view_array_pat, view_arrow
 ghost use Rattle.ecma_edge.specs.Edges.{starts_with_word, alone_starts_with_word, is_word_operator};
 
 use ecma_node::{
-    ArrayPatOf, ArrowExprOf, AssignTargetOf, BindingIdent, CalleeOf, Child, DeclOf, Expr, ExprKind,
-    ExprKindOf, ExprOrSpreadOf, Ident, Invalid, Lit, MemberExprOf, ObjectPatOf, OptChainBaseOf,
-    OptChainExprOf, ParenExprOf, Part, PartKind, Pat, PatKindOf, PropNameOf, SeqExprOf, Stmt,
-    StmtKindOf, SuperPropExprOf, UnaryOp,
+    ArrayPatOf, ArrowExprOf, AssignTargetOf, BindingIdent, CallExpr, Callee, CalleeOf, Child,
+    DeclOf, Expr, ExprKind, ExprKindOf, ExprOrSpreadOf, Ident, Invalid, Lit, MemberExprOf,
+    ObjectPatOf, OptChainBase, OptChainBaseOf, OptChainExpr, OptChainExprOf, ParenExprOf, Part,
+    PartKind, Pat, PatKindOf, PropNameOf, SeqExprOf, Stmt, StmtKindOf, SuperPropExprOf, UnaryOp,
 };
 
 /// What starts with a word or doesn't: a part of a tree.
@@ -333,10 +333,32 @@ impl StartsWithAlphaNum for Expr {
     #[cycle(starts)]
     fn starts_with_alpha_num(&self) -> bool {
         let mut expr = self;
-        while let ExprKind::Bin(bin) = &expr.kind {
-            expr = bin.left.get();
+        'chain: loop {
+            match &expr.kind {
+                ExprKind::Bin(x) => expr = x.left.get(),
+                ExprKind::Member(x) => expr = x.obj.get(),
+                ExprKind::TaggedTpl(x) => expr = x.tag.get(),
+                ExprKind::Call(
+                    CallExpr {
+                        callee: Callee::Expr(callee),
+                        ..
+                    },
+                ) => expr = callee.get(),
+                ExprKind::OptChain(
+                    OptChainExpr {
+                        base: OptChainBase::Member(x),
+                        ..
+                    },
+                ) => expr = x.obj.get(),
+                ExprKind::OptChain(
+                    OptChainExpr {
+                        base: OptChainBase::Call(x),
+                        ..
+                    },
+                ) => expr = x.callee.get(),
+                _ => return expr.kind.starts_with_alpha_num(),
+            }
         }
-        expr.kind.starts_with_alpha_num()
     }
 }
 

@@ -1,7 +1,10 @@
 //! Members, and optional chains.
 ghost use Rattle.std.specs.Prelude.{◌≡◌, ◌||◌};
-ghost use Rattle.ecma_node.specs.View.{view_member_expr, view_member_prop, view_number, view_opt_call, view_opt_chain_base, view_opt_chain_expr, view_super_prop, view_super_prop_expr};
-ghost use Rattle.ecma_layout.specs.Layout.{is_computed};
+ghost use Rattle.ecma_tree.specs.Tree.{trees_by};
+ghost use Rattle.ecma_node.specs.View.{view_expr_or_spread, view_member_expr, view_member_prop, view_number, view_opt_call, view_opt_chain_base, view_opt_chain_expr, view_super_prop, view_super_prop_expr};
+ghost use Rattle.ecma_layout.specs.Looks.{◌·◌, end, when};
+ghost use Rattle.ecma_layout.specs.Layout.{comma, in_parens, is_computed, laid, optional_dot, point_before, separated};
+ghost use Rattle.ecma_layout.specs.declared.look.Stand.TheVariants.{Alone};
 ghost use Rattle.ecma_emit.specs.Chains.{object_laid, link_laid, chain_laid};
 ghost use Rattle.ecma_printer.specs.Prints.{Prints};
 
@@ -10,11 +13,12 @@ use crate::print::{Print, PrintPart};
 use crate::spelled::read_text;
 use ecma_layout::{Look, Stand};
 use ecma_node::{
-    MemberExprOf, MemberPropOf, Number, OptCallOf, OptChainBaseOf, OptChainExprOf, SuperPropExprOf,
-    SuperPropOf,
+    ExprOrSpreadOf, MemberExprOf, MemberPropOf, Number, OptCallOf, OptChainBaseOf, OptChainExprOf,
+    SuperPropExprOf, SuperPropOf,
 };
 use ecma_print_literals::numbers::{print_number, print_number_before_point};
 use ecma_printer::{Printer, Text};
+use ecma_token::Span;
 use ecma_write::WriteJs;
 
 impl<T: PrintPart> Print for MemberPropOf<T> {
@@ -56,7 +60,12 @@ fn is_computed_super<T: PrintPart>(prop: &SuperPropOf<T>) -> bool
 
 /// Prints a number before a name. Where it doesn't keep its text, it takes a point of its own where it would
 /// take that of the member.
-fn print_number_object<W: WriteJs>(n: &Number, keeps: bool, p: &mut Printer<W>, look: Look)
+pub(crate) fn print_number_object<W: WriteJs>(
+    n: &Number,
+    keeps: bool,
+    p: &mut Printer<W>,
+    look: Look,
+)
     ensures { Prints W.tells W.state W.failed_writes W.loans (object_laid look keeps (view_number n.now)) p.old.wr p.old.fault p.new.wr p.new.fault }
 {
     p.start(n.span);
@@ -90,6 +99,22 @@ impl<T: PrintPart> Print for MemberExprOf<T> {
     }
 }
 
+/// Prints the name of a member behind its object, and marks the end of the member.
+pub(crate) fn print_name<T: PrintPart, W: WriteJs>(
+    prop: &MemberPropOf<T>,
+    span: Span,
+    p: &mut Printer<W>,
+    look: Look,
+)
+    ensures { Prints W.tells W.state W.failed_writes W.loans
+        (point_before (view_member_prop T.tree prop.now) · laid look Alone (view_member_prop T.tree prop.now) · end span) p.old.wr p.old.fault p.new.wr p.new.fault }
+{
+    let computed = is_computed(prop);
+    p.text_if(!computed, Text::Dot);
+    prop.print(p, look, Stand::Alone);
+    p.end(span);
+}
+
 impl<T: PrintPart> Print for SuperPropExprOf<T> {
     ghost tree = { view_super_prop_expr T.tree };
 
@@ -113,10 +138,51 @@ fn print_link<W: WriteJs>(optional: bool, computed: bool, p: &mut Printer<W>)
 }
 
 /// Whether a number before a name keeps its text: before `?.` and before a bracket.
-fn keeps_text(optional: bool, computed: bool) -> bool
+pub(crate) fn keeps_text(optional: bool, computed: bool) -> bool
     ensures { result ≡ (optional || computed) }
 {
     optional || computed
+}
+
+/// Prints the name of a member in an optional chain, behind its object.
+pub(crate) fn print_optional_name<T: PrintPart, W: WriteJs>(
+    optional: bool,
+    prop: &MemberPropOf<T>,
+    p: &mut Printer<W>,
+    look: Look,
+)
+    ensures { Prints W.tells W.state W.failed_writes W.loans
+        (link_laid optional (is_computed (view_member_prop T.tree prop.now)) · laid look Alone (view_member_prop T.tree prop.now)) p.old.wr p.old.fault p.new.wr p.new.fault }
+{
+    let computed = is_computed(prop);
+    print_link(optional, computed, p);
+    prop.print(p, look, Stand::Alone);
+}
+
+/// Prints the arguments of a call behind its callee.
+pub(crate) fn print_call_arguments<T: PrintPart, W: WriteJs>(
+    args: &Vec<ExprOrSpreadOf<T>>,
+    p: &mut Printer<W>,
+    look: Look,
+)
+    ensures { Prints W.tells W.state W.failed_writes W.loans
+        (in_parens (separated look (comma look) (trees_by (view_expr_or_spread T.tree) args.now.items))) p.old.wr p.old.fault p.new.wr p.new.fault }
+{
+    print_arguments(args.as_slice(), p, look);
+}
+
+/// Prints the arguments of a call in an optional chain, behind its callee.
+pub(crate) fn print_optional_arguments<T: PrintPart, W: WriteJs>(
+    optional: bool,
+    args: &Vec<ExprOrSpreadOf<T>>,
+    p: &mut Printer<W>,
+    look: Look,
+)
+    ensures { Prints W.tells W.state W.failed_writes W.loans
+        (when optional optional_dot · in_parens (separated look (comma look) (trees_by (view_expr_or_spread T.tree) args.now.items))) p.old.wr p.old.fault p.new.wr p.new.fault }
+{
+    p.text_if(optional, Text::OptionalDot);
+    print_call_arguments(args, p, look);
 }
 
 /// Prints a member in an optional chain.

@@ -1,30 +1,38 @@
 //! The knot of the tree: what stands in a child's box is printed as the node that it is, and so is all below it.
-ghost use Rattle.std.specs.Prelude.{◌≡◌, false, MatchOption};
+ghost use Rattle.std.specs.Prelude.{◌≡◌, false, true, MatchOption};
 ghost use Rattle.ecma_token.specs.OperatorKinds.{binary_op_kind};
 ghost use Rattle.ecma_node.specs.Placed.{inner};
-ghost use Rattle.ecma_node.specs.View.{unary_op_word, view_expr_kind, view_number, view_pat_kind, view_stmt_kind};
-ghost use Rattle.ecma_node.specs.Spines.{Linked};
+ghost use Rattle.ecma_node.specs.View.{unary_op_word, view_expr_kind, view_member_prop, view_number, view_pat_kind, view_stmt_kind};
+ghost use Rattle.ecma_spine.specs.Chains.{Linked, is_link, left_part};
 ghost use Rattle.ecma_edge.specs.Edges.{is_word_operator};
 ghost use Rattle.ecma_layout.specs.Layout as layout;
-ghost use Rattle.ecma_layout.specs.Layout.{closing};
+ghost use Rattle.ecma_layout.specs.declared.look.Look.{Look};
+ghost use Rattle.ecma_layout.specs.Layout.{closing, is_computed, laid};
 ghost use Rattle.ecma_printer.specs.Prints.{Prints};
 ghost use Rattle.ecma_emit.specs.Asks.{is_number};
-ghost use Rattle.ecma_emit.specs.Spines.{lines_laid, rights_laid};
+ghost use Rattle.ecma_emit.specs.Chains.{object_laid};
+ghost use Rattle.ecma_emit.specs.Spines.{before_laid, left_laid, lines_laid, rights_laid, stand_below};
 ghost use Rattle.ecma_emit.specs.Sorts.{expression, is_expression, is_pattern, is_statement, pattern, sort_of, statement};
 
 use crate::branches::{print_consequence, print_else};
-use crate::operators::{marks_operator, print_operator};
+use crate::chains::{
+    keeps_text, print_call_arguments, print_name, print_number_object, print_optional_arguments,
+    print_optional_name,
+};
+use crate::operators::{marks_operator, print_right_operand};
 use crate::print::{Print, PrintItem, PrintPart};
+use crate::templates::print_tagged;
 use ecma_edge::gaps::{gap_after, gap_before, gap_of_unary};
 use ecma_edge::{EndsWithAlphaNum, StartsWithAlphaNum};
 use ecma_layout::{Look, Stand};
-use ecma_node::spine::{below, links, there};
+use ecma_node::spine::there;
 use ecma_node::{
-    DeclOf, Expr, ExprKind, Lit, Number, Part, PartKind, Pat, PatKind, Program, Stmt, StmtKind,
-    UnaryOp,
+    DeclOf, Expr, ExprKind, Lit, MemberProp, Number, OptChainBase, Part, PartKind, Pat, PatKind,
+    Program, Stmt, StmtKind, UnaryOp,
 };
 use ecma_printer::Printer;
-use ecma_token::{BinaryOp, Spanned};
+use ecma_spine::chain::{below, left_part};
+use ecma_token::BinaryOp;
 use ecma_write::WriteJs;
 
 impl Print for Part {
@@ -46,19 +54,101 @@ impl Print for Expr {
     #[cycle(print)]
     #[tactic(auto, using(crate::proofs::Spines::at_the_top))]
     fn print<W: WriteJs>(&self, p: &mut Printer<W>, look: Look, stand: Stand) {
-        let links = links(self);
+        let mut rest = self;
+        let mut links: u32 = 0;
+        let mut stands = stand;
+        'down: while let Some(left) = left_part(rest) {
+            if links == u32::MAX {
+                break;
+            }
+            print_before(rest, stands, p);
+            stands = stand_below(rest);
+            rest = left;
+            links += 1;
+        }
         if links == 0 {
             self.kind.print(p, look, stand);
             return;
         }
-        p.start_if(marks_operator(stand), self.span());
-        below(self, links).print(p, look, Stand::Operand);
+        print_left(below(self, links - 1), rest, p, look, stands);
         print_rights(self, links, p, look);
     }
 }
 
-/// Prints the operators and the right operands of so many links, from the innermost outwards: those of the inner half, then those
-/// of the outer half, so that no chain is too long for the stack.
+/// Prints the left part of a link.
+#[cycle(print)]
+fn print_left<W: WriteJs>(link: &Expr, left: &Expr, p: &mut Printer<W>, look: Look, stands: Stand)
+    requires linked { is_link link.now ≡ true }
+    requires left { left.now ≡ left_part link.now }
+    requires stand { stands ≡ stand_below link.now }
+    ensures { Prints W.tells W.state W.failed_writes W.loans (left_laid look link.now) p.old.wr p.old.fault p.new.wr p.new.fault }
+{
+    match number_before_name(link, left) {
+        Some((number, keeps)) => print_number_object(number, keeps, p, look),
+        None => left.print(p, look, stands),
+    }
+}
+
+/// Prints what a link that stands so writes before its left part.
+fn print_before<W: WriteJs>(link: &Expr, stand: Stand, p: &mut Printer<W>)
+    ensures { Prints W.tells W.state W.failed_writes W.loans (before_laid stand link.now) p.old.wr p.old.fault p.new.wr p.new.fault }
+{
+    match &link.kind {
+        ExprKind::Bin(x) => p.start_if(marks_operator(stand), x.span),
+        ExprKind::Member(x) => p.start(x.span),
+        ExprKind::TaggedTpl(x) => p.start(x.span),
+        ExprKind::Call(x) => {
+            p.commit();
+            p.start(x.span);
+        }
+        _ => {}
+    }
+}
+
+/// How the left part of a link stands.
+#[tactic(auto, using(crate::proofs::Spines::literal_stands))]
+fn stand_below(link: &Expr) -> Stand
+    ensures { result ≡ stand_below link.now }
+{
+    match &link.kind {
+        ExprKind::Bin(_) => Stand::Operand,
+        _ => Stand::Head,
+    }
+}
+
+/// The number that a member goes on from, and whether it keeps its text; nothing where that is no number, and where the link is
+/// no member.
+fn number_before_name<'e>(link: &Expr, left: &'e Expr) -> Option<(&'e Number, bool)>
+    requires linked { is_link link.now ≡ true }
+    requires left { left.now ≡ left_part link.now }
+    ensures { MatchOption result ((look : Look) → left_laid look link.now ≡ laid look (stand_below link.now) left.now)
+        (λ x. (look : Look) → left_laid look link.now ≡ object_laid look x.1 (view_number x.0.now)) }
+{
+    let Some(number) = number_of(left) else {
+        return None;
+    };
+    match &link.kind {
+        ExprKind::Member(x) => Some((number, is_bracketed(&x.prop))),
+        ExprKind::OptChain(x) => match &x.base {
+            OptChainBase::Member(member) => {
+                let bracketed = is_bracketed(&member.prop);
+                Some((number, keeps_text(x.optional, bracketed)))
+            }
+            OptChainBase::Call(_) => None,
+        },
+        _ => None,
+    }
+}
+
+/// Whether the name of a member stands in brackets.
+fn is_bracketed(prop: &MemberProp) -> bool
+    ensures { result ≡ is_computed (view_member_prop inner prop.now) }
+{
+    matches!(prop, MemberProp::Computed(_))
+}
+
+/// Prints what so many links write behind their left parts, from the innermost outwards: that of the inner half, then that of the
+/// outer half, so that no chain is too long for the stack.
 #[cycle(print)]
 #[tactic(auto, using(crate::proofs::Spines::rights))]
 fn print_rights<W: WriteJs>(top: &Expr, links: u32, p: &mut Printer<W>, look: Look)
@@ -67,14 +157,24 @@ fn print_rights<W: WriteJs>(top: &Expr, links: u32, p: &mut Printer<W>, look: Lo
 {
     match links {
         0 => {}
-        1 => {
-            if let ExprKind::Bin(bin) = &top.kind {
-                let before = gap_before(bin.op, bin.left.get());
-                let after = gap_after(bin.op, bin.right.get());
-                print_operator(bin.op, before, after, p, look);
-                bin.right.print(p, look, Stand::Alone);
+        1 => match &top.kind {
+            ExprKind::Bin(x) => {
+                let before = gap_before(x.op, x.left.get());
+                print_right_operand(x.op, before, &x.right, p, look);
             }
-        }
+            ExprKind::Member(x) => print_name(&x.prop, x.span, p, look),
+            ExprKind::Call(x) => print_call_arguments(&x.args, p, look),
+            ExprKind::TaggedTpl(x) => print_tagged(&*x.tpl, x.span, p, look),
+            ExprKind::OptChain(x) => match &x.base {
+                OptChainBase::Member(member) => {
+                    print_optional_name(x.optional, &member.prop, p, look);
+                }
+                OptChainBase::Call(call) => {
+                    print_optional_arguments(x.optional, &call.args, p, look);
+                }
+            },
+            _ => {}
+        },
         _ => {
             let outer = links / 2;
             print_rights(below(top, outer), links - outer, p, look);

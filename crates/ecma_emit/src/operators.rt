@@ -5,7 +5,8 @@ ghost use Rattle.ecma_token.specs.Operators.{operator_text};
 ghost use Rattle.ecma_edge.specs.Edges as edges;
 ghost use Rattle.ecma_node.specs.View.{view_unary_expr, view_update_expr, view_bin_expr, view_cond_expr, view_await_expr, view_yield_expr, view_paren_expr, view_seq_expr, unary_op_word, update_op_word};
 ghost use Rattle.ecma_layout.specs.Looks.{◌·◌, when, gap_or, blank, text};
-ghost use Rattle.ecma_layout.specs.Layout.{marked_as_operand};
+ghost use Rattle.ecma_layout.specs.Layout.{laid, marked_as_operand};
+ghost use Rattle.ecma_layout.specs.declared.look.Stand.TheVariants.{Alone};
 ghost use Rattle.ecma_layout.specs.Words.{sign_of};
 ghost use Rattle.ecma_printer.specs.Prints.{Prints};
 
@@ -117,6 +118,23 @@ pub(crate) fn print_operator<W: WriteJs>(
     p.gap_or(look, gap_before);
     p.write(op.as_str());
     p.gap_or(look, gap_after);
+}
+
+/// Prints an operator behind its left operand, with a blank before it or not, and the right operand.
+pub(crate) fn print_right_operand<T: PrintPart, W: WriteJs>(
+    op: BinaryOp,
+    gap_before: bool,
+    right: &T,
+    p: &mut Printer<W>,
+    look: Look,
+)
+    ensures { Prints W.tells W.state W.failed_writes W.loans
+        (gap_or look gap_before · text (operator_text (binary_op_kind op)) · gap_or look (edges.gap_after (binary_op_kind op) (T.tree right.now)) · laid look Alone (T.tree right.now))
+        p.old.wr p.old.fault p.new.wr p.new.fault }
+{
+    let gap_after = right.gap_after(op);
+    print_operator(op, gap_before, gap_after, p, look);
+    right.print(p, look, Stand::Alone);
 }
 
 /// Whether an operator that stands so marks its start.

@@ -2,6 +2,9 @@
 ghost use Rattle.std.specs.Prelude.{◌≡◌, length};
 ghost use Rattle.ecma_tree.specs.Tree.{trees_by};
 ghost use Rattle.ecma_node.specs.View.{view_tagged_tpl, view_tpl, view_tpl_element};
+ghost use Rattle.ecma_layout.specs.Looks.{◌·◌, end};
+ghost use Rattle.ecma_layout.specs.Layout.{laid};
+ghost use Rattle.ecma_layout.specs.declared.look.Stand.TheVariants.{Tagged};
 ghost use Rattle.ecma_emit.specs.Templates.{rest_laid};
 ghost use Rattle.ecma_printer.specs.Prints.{Prints};
 
@@ -9,6 +12,7 @@ use crate::print::{Print, PrintPart};
 use ecma_layout::{Look, Stand};
 use ecma_node::{TaggedTplOf, TplElement, TplOf};
 use ecma_printer::{Printer, Text};
+use ecma_token::Span;
 use ecma_write::WriteJs;
 
 /// Prints the expressions of a template, each with the piece behind it.
@@ -62,4 +66,17 @@ impl<T: PrintPart> Print for TaggedTplOf<T> {
         self.tpl.print(p, look, Stand::Tagged);
         p.end(self.span);
     }
+}
+
+/// Prints the template of a tag, and marks the end of both.
+pub(crate) fn print_tagged<T: PrintPart, W: WriteJs>(
+    tpl: &TplOf<T>,
+    span: Span,
+    p: &mut Printer<W>,
+    look: Look,
+)
+    ensures { Prints W.tells W.state W.failed_writes W.loans (laid look Tagged (view_tpl T.tree tpl.now) · end span) p.old.wr p.old.fault p.new.wr p.new.fault }
+{
+    tpl.print(p, look, Stand::Tagged);
+    p.end(span);
 }

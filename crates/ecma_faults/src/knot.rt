@@ -1,14 +1,14 @@
 //! Expressions, statements, patterns and programs.
 ghost use Rattle.std.specs.Prelude.{◌≡◌, ◌++◌, IfOk};
 ghost use Rattle.ecma_node.specs.Placed.{inner};
-ghost use Rattle.ecma_node.specs.Spines.{Linked};
+ghost use Rattle.ecma_spine.specs.Chains.{Linked};
 ghost use Rattle.ecma_faults_base.specs.Around.{scope_of};
 ghost use Rattle.ecma_faults.specs.Rights.{right_faults};
 
 use crate::check::Check;
 use ecma_faults_base::Code;
-use ecma_node::spine::{below, links};
-use ecma_node::{Expr, ExprKind, Part, PartKind, Pat, Program, Stmt, StmtKind};
+use ecma_node::{Expr, ExprKind, OptChainBase, Part, PartKind, Pat, Program, Stmt, StmtKind};
+use ecma_spine::chain::{below, links};
 use ecma_token::Error;
 use std::alloc::AllocError;
 
@@ -41,8 +41,8 @@ impl Check for Expr {
     }
 }
 
-/// Puts the faults of the right operands of so many links behind the others, the innermost first: those of the inner half, then
-/// those of the outer half, so that no chain is too long for the stack.
+/// Puts the faults of what stands right of the left part of so many links behind the others, the innermost first: those of the
+/// inner half, then those of the outer half, so that no chain is too long for the stack.
 #[cycle(check)]
 #[tactic(auto, using(crate::proofs::Rights::rights))]
 fn check_rights(
@@ -56,11 +56,17 @@ fn check_rights(
 {
     match links {
         0 => {}
-        1 => {
-            if let ExprKind::Bin(bin) = &top.kind {
-                bin.right.check(code, faults)?;
-            }
-        }
+        1 => match &top.kind {
+            ExprKind::Bin(x) => x.right.check(code, faults)?,
+            ExprKind::Member(x) => x.prop.check(code, faults)?,
+            ExprKind::Call(x) => x.args.check(code, faults)?,
+            ExprKind::TaggedTpl(x) => x.tpl.check(code, faults)?,
+            ExprKind::OptChain(x) => match &x.base {
+                OptChainBase::Member(member) => member.prop.check(code, faults)?,
+                OptChainBase::Call(call) => call.args.check(code, faults)?,
+            },
+            _ => {}
+        },
         _ => {
             let outer = links / 2;
             check_rights(below(top, outer), links - outer, code, faults)?;

@@ -1,6 +1,7 @@
 //! Formats and minifies ECMAScript programs, from any reader to any writer.
 #![tactic(auto)]
 
+pub mod ast;
 pub mod command;
 mod fault;
 mod input;
@@ -12,9 +13,10 @@ mod texts;
 mod writing;
 
 pub use command::answer;
+pub use ecma_codegen::EmitError;
 pub use ecma_command::{CliFault, Goal, Indent, Invocation, LineEnd, Options, Style, invocation};
 pub use ecma_memory as memory;
-pub use ecma_print::Positions;
+pub use ecma_print::{Positions, print, text_of};
 pub use ecma_token::{
     BytePos, Counted, CountedRead, CountedWrite, DUMMY_SP, Error, EsConfig, EsSyntax, EsVersion,
     Failing, JscTarget, LineCol, Span, Spanned, Syntax, SyntaxError,

@@ -1,2 +1,3 @@
 pub mod CaptureLemmas
 pub mod ListLemmas
+pub mod StepLemmas

@@ -2,3 +2,5 @@
 pub mod Lists
 pub mod Captures
 pub mod Lending
+pub mod Steps
+pub mod Rewinding

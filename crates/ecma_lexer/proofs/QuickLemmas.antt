@@ -26,7 +26,7 @@ use Rattle.ecma_tokens.specs.Machine.{shown_spot, told}
 use Rattle.ecma_lexing.specs.States.{Last, Slash, Characters, Other, State, again, again_by, behind, closed, contexts_after, goal_of, is_start, last_after, opened, quoted, spot_at, strict_faults, span_at, template_goal}
 use Rattle.ecma_lexing.specs.Steps as steps
 use Rattle.ecma_lexing.specs.Steps.{IsGoing, IsPlain, IsRead, IsStep, IsStepBy, IsStepOf}
-use Rattle.ecma_lexer.specs.Quick.{is_quiet, is_quiet_mark, passed}
+use Rattle.ecma_lexer.specs.Quick.{IsHanded, is_quiet, is_quiet_mark, passed}
 use Rattle.ecma_lexer.specs.Stepping.{Steps}
 
 -- ---- quiet kinds
@@ -156,6 +156,13 @@ word_stands text own rest u h = inl (inl (chars own, false, h.0, h.1, ap (λ b. 
 
 pub mark_stands : (text : List ℕ) (kind : TokenKind) (rest : List ℕ) → IsPunctuator text kind rest → lexeme.IsOutside Div text (plain (bare (token_kind_number kind))) rest
 mark_stands text kind rest h = inr (inr (refl, (kind, h, refl)))
+
+-- the same of what was handed out in this way
+pub quiet_steps : (s new : State) (line_break : Bool) (from rest : List ℕ) (x : SpecLexeme) (r : Result (Option TokenAndSpan) Error) → s.tokens.last ≡ Other
+    → s.settings.contexts ≡ [] → IsSkipped (goal_of s.settings.ctx) false s.tokens.left line_break from → lexeme.IsOutside Div from x rest → is_quiet x.token.kind ≡ true
+    → x.legacy ≡ None → Steps (IsHanded line_break x.token from rest s) r new → Steps (IsStep s) r new
+quiet_steps s new line_break from rest x (Ok t) last empty h stands quiet legal k = quiet_step s new line_break from rest x _ last empty h stands quiet legal k.0 k.1
+quiet_steps s new line_break from rest x (Err e) last empty h stands quiet legal k = k
 
 -- what is handed out of a token in its place
 pub shown_spot_is : (end : ℕ) (line_break : Bool) (from rest : List ℕ) (token : Token) (x : SpecToken) (span : Span) → token_view token ≡ x → span ≡ span_at end from rest

@@ -1,11 +1,12 @@
 -- The tokens that leave what a lexer keeps as it is: most of them.
-use Rattle.std.specs.Prelude.{ℕ, Bool, true, false, ◌==◌, ◌&&◌, ◌||◌, not, List}
+use Rattle.std.specs.Prelude.{◌≡◌, ℕ, Bool, true, false, ◌==◌, ◌&&◌, ◌||◌, not, List, Option, Some}
 use Rattle.ecma_token.specs.Kinds.{back_quote_kind, div_assign_kind, div_kind, dollar_brace_kind, template_kind}
 use Rattle.ecma_token.specs.declared.token.TokenKind.{TokenKind}
 use Rattle.ecma_token.specs.declared.token.TokenKind.TheVariants as kind
 use Rattle.ecma_token.specs.declared.operator.BinOpToken.TheVariants as binary
 use Rattle.ecma_token.specs.declared.operator.AssignOp.TheVariants as assign
-use Rattle.ecma_lexing.specs.States.{Other, State}
+use Rattle.ecma_token.specs.Tokens.{SpecToken, Spot}
+use Rattle.ecma_lexing.specs.States.{Other, State, spot_at}
 
 -- Whether a token of the kind opens and closes nothing where nothing is open, and is no slash and no part of a template.
 abbrev pub is_quiet : ℕ → Bool
@@ -21,3 +22,7 @@ is_quiet_mark _ = true
 -- The state behind a quiet token: only what is left is less.
 abbrev pub passed : State → Bool → List ℕ → State
 passed s line_break rest = record { tokens = record { left = rest; end = s.tokens.end; last = Other; line_break = line_break }; settings = s.settings }
+
+-- A token that stands between the first characters and the second is handed out, and only what is left is less.
+abbrev pub IsHanded : Bool → SpecToken → List ℕ → List ℕ → State → Option Spot → State → Type 0
+IsHanded line_break token from rest s out new = (out ≡ Some (spot_at s.tokens.end line_break token from rest)) × (new ≡ passed s line_break rest)

@@ -4,13 +4,12 @@ ghost use Rattle.ecma_lexer.specs.Order.{BackFits};
 
 use crate::last::Last;
 use crate::quick::quiet_mark;
-use crate::step::{goal_of, part};
+use crate::step::goal_of;
 use ecma_comments::Comments;
-use ecma_lexeme::mark_token;
 use ecma_scan::bare_name;
 use ecma_scan::place::out_of_memory;
 use ecma_scan::trivia::skip_trivia;
-use ecma_token::{BytePos, Error, EsVersion, Syntax, Token, TokenAndSpan, Word};
+use ecma_token::{BytePos, Error, EsVersion, Syntax, TokenAndSpan};
 use ecma_tokens::Settings;
 use std::alloc::{AllocError, Global};
 
@@ -102,22 +101,10 @@ impl<'a> Lexer<'a> {
             return self.next_of_any();
         };
         if let Some((name, rest)) = bare_name(from) {
-            let span = part(self.end, from, rest);
-            self.pass(line_break, rest);
-            return Ok(Some(TokenAndSpan {
-                token: Token::Word(Word::from_str(name)),
-                had_line_break: line_break,
-                span,
-            }));
+            return self.hand_word(line_break, name, from, rest);
         }
         if let Some((kind, rest)) = quiet_mark(from) {
-            let span = part(self.end, from, rest);
-            self.pass(line_break, rest);
-            return Ok(Some(TokenAndSpan {
-                token: mark_token(kind),
-                had_line_break: line_break,
-                span,
-            }));
+            return self.hand_mark(line_break, kind, from, rest);
         }
         self.next_behind(line_break, from)
     }

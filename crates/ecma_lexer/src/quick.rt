@@ -2,7 +2,11 @@
 //! nothing.
 ghost use Rattle.std.specs.Prelude.{◌≡◌, ◌<◌, ◌≤◌, [], false, true, is_err, length, option_map, IfOk, IfSome, IsErr, IsUtf8};
 ghost use Rattle.std.specs.Str.{chars};
+ghost use Rattle.ecma_token.specs.Tokens.{bare, word_token};
+ghost use Rattle.ecma_token.specs.TokenViews.{token_kind_number};
+ghost use Rattle.ecma_token.specs.Words.{word_of};
 ghost use Rattle.ecma_scan.specs.Punctuators.{IsPunctuator};
+ghost use Rattle.ecma_lexeme.specs.Marks.{is_mark};
 ghost use Rattle.ecma_lexeme.specs.declared.goal.LexicalGoal.TheVariants.{Div};
 ghost use Rattle.ecma_tokens.specs.Machine.{SameTold, shown_spot};
 ghost use Rattle.ecma_tokens.specs.Settings.{settings_in};
@@ -10,17 +14,18 @@ ghost use Rattle.ecma_lexing.specs.States as spec;
 ghost use Rattle.ecma_lexing.specs.Steps.{IsRead, IsStep};
 ghost use Rattle.ecma_lexer.specs.Kept.{KeepsAsAsked};
 ghost use Rattle.ecma_lexer.specs.Lexer.{comments_in, is_full, keeps_comments, state_in};
-ghost use Rattle.ecma_lexer.specs.Quick.{is_quiet_mark, passed};
+ghost use Rattle.ecma_lexer.specs.Quick.{IsHanded, is_quiet_mark, passed};
 ghost use Rattle.ecma_lexer.specs.Stepping.{Steps};
 
 use crate::last::Last;
 use crate::lexer::Lexer;
-use ecma_lexeme::LexicalGoal;
+use crate::step::part;
+use ecma_lexeme::{LexicalGoal, mark_token};
 use ecma_scan::place::out_of_memory;
 use ecma_scan::punctuator;
 use ecma_token::operator::{AssignOp, BinOpToken};
 use ecma_token::token::TokenKind;
-use ecma_token::{Error, TokenAndSpan};
+use ecma_token::{Error, Token, TokenAndSpan, Word};
 
 /// Whether a punctuator opens and closes nothing where nothing is open, and is no slash.
 #[inline(always)]
@@ -60,7 +65,7 @@ impl<'a> Lexer<'a> {
 
     /// Goes on behind a token that opens and closes nothing.
     #[inline(always)]
-    pub(crate) fn pass(&mut self, line_break: bool, rest: &'a str)
+    fn pass(&mut self, line_break: bool, rest: &'a str)
         requires { length rest.now < self.old.end }
         ensures state { state_in self.new ≡ passed (state_in self.old) line_break (chars rest.now) }
         ensures full { is_full self.new ≡ is_full self.old }
@@ -70,6 +75,59 @@ impl<'a> Lexer<'a> {
         self.last = Last::Other;
         self.rest = rest;
         self.had_line_break = line_break;
+    }
+
+    /// Hands out a word that is spelled without an escape: it stands at the front of the one text, and the other follows it.
+    #[inline(always)]
+    pub(crate) fn hand_word(
+        &mut self,
+        line_break: bool,
+        name: &'a str,
+        from: &str,
+        rest: &'a str,
+    ) -> Result<Option<TokenAndSpan<'a>>, Error>
+        requires order { length rest.now ≤ length from.now }
+        requires within { length from.now < self.old.end }
+        ensures step { Steps (IsHanded line_break (word_token (word_of name.now)) (chars from.now) (chars rest.now) (state_in self.old)) result (state_in self.new) }
+        ensures full { is_full self.new ≡ is_err result }
+        ensures kept { (comments_in self.new ≡ comments_in self.old) × (keeps_comments self.new ≡ keeps_comments self.old) }
+        ensures told { SameTold (settings_in self.old.settings) (settings_in self.new.settings) }
+    {
+        let span = part(self.end, from, rest);
+        self.pass(line_break, rest);
+        self.full = false;
+        Ok(Some(TokenAndSpan {
+            token: Token::Word(Word::from_str(name)),
+            had_line_break: line_break,
+            span,
+        }))
+    }
+
+    /// Hands out a punctuator, in the same way.
+    #[inline(always)]
+    pub(crate) fn hand_mark(
+        &mut self,
+        line_break: bool,
+        kind: TokenKind,
+        from: &str,
+        rest: &'a str,
+    ) -> Result<Option<TokenAndSpan<'a>>, Error>
+        requires mark { is_mark kind ≡ true }
+        requires order { length rest.now ≤ length from.now }
+        requires within { length from.now < self.old.end }
+        ensures step { Steps (IsHanded line_break (bare (token_kind_number kind)) (chars from.now) (chars rest.now) (state_in self.old)) result (state_in self.new) }
+        ensures full { is_full self.new ≡ is_err result }
+        ensures kept { (comments_in self.new ≡ comments_in self.old) × (keeps_comments self.new ≡ keeps_comments self.old) }
+        ensures told { SameTold (settings_in self.old.settings) (settings_in self.new.settings) }
+    {
+        let span = part(self.end, from, rest);
+        self.pass(line_break, rest);
+        self.full = false;
+        Ok(Some(TokenAndSpan {
+            token: mark_token(kind),
+            had_line_break: line_break,
+            span,
+        }))
     }
 
     /// What stands behind trivia, outside of templates.

@@ -53,10 +53,11 @@ fn others(alloc: Global, options: Options) -> anyhow::Result<String> {
     Ok(told)
 }
 
-/// Whether import attributes are on, and nothing else of the syntax.
-fn has_attributes(options: Options) -> bool {
+/// Whether import attributes and `using` are on, and nothing else of the syntax.
+fn is_usual(options: Options) -> bool {
     let syntax = EsSyntax {
         import_attributes: true,
+        explicit_resource_management: true,
         ..EsSyntax::default()
     };
     options.syntax == Syntax::Es(syntax)
@@ -64,7 +65,7 @@ fn has_attributes(options: Options) -> bool {
 
 /// Tells of settings and path.
 fn tell(asked: &Invocation, answer: &mut Answer) -> anyhow::Result<()> {
-    if !has_attributes(asked.options) || asked.options.positions {
+    if !is_usual(asked.options) || asked.options.positions {
         return Err(anyhow::Error::msg("another syntax, or positions"));
     }
     answer.say(goal_and_style(asked.options))?;

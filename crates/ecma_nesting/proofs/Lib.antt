@@ -1,1 +1,2 @@
 mod IfLemmas
+mod Levels

@@ -1,6 +1,6 @@
 -- A table of counts, worked out from the rule and not by the code: for each kind of tree and each of its fields a tree of 3 there and
 -- leaves elsewhere.
-use Rattle.std.specs.Prelude.{◌≡◌, ℕ, true, List, [], ◌∷◌, None, map}
+use Rattle.std.specs.Prelude.{◌≡◌, ℕ, true, false, List, [], ◌∷◌, None, map}
 use Rattle.ecma_number.specs.Numbers.{SpecNumber, InRadix}
 use Rattle.ecma_tree.specs.Places.{no_place as place}
 use Rattle.ecma_tree.specs.Tree.{Tree, Trees, none, more, script, es_module, import_decl, export_decl, named_export, export_default_decl, export_default_expr, export_all, import_named_specifier, import_default_specifier, import_star_as_specifier, export_namespace_specifier, export_default_specifier, export_named_specifier, block_stmt, empty_stmt, debugger_stmt, with_stmt, return_stmt, labeled_stmt, break_stmt, continue_stmt, if_stmt, switch_stmt, switch_case, throw_stmt, try_stmt, catch_clause, while_stmt, do_while_stmt, for_stmt, for_in_stmt, for_of_stmt, expr_stmt, class_decl, fn_decl, var_decl, using_decl, var_declarator, function, param, decorator, class, constructor, class_method, private_method, class_prop, private_prop, static_block, auto_accessor, ident_name, computed_prop_name, private_name, this_expr, array_lit, object_lit, fn_expr, unary_expr, update_expr, bin_expr, assign_expr, member_expr, super_prop_expr, cond_expr, call_expr, new_expr, seq_expr, ident, tpl, tpl_element, tagged_tpl, arrow_expr, class_expr, yield_expr, meta_prop_expr, await_expr, paren_expr, opt_chain_expr, opt_call, super, import, invalid, expr_or_spread, spread_element, key_value_prop, assign_prop, getter_prop, setter_prop, method_prop, str_lit, bool_lit, null_lit, number_lit, big_int_lit, regex_lit, binding_ident, array_pat, rest_pat, object_pat, assign_pat, key_value_pat_prop, assign_pat_prop, expr_pat, invalid_pat, invalid_target, list, absent, hole}
@@ -130,14 +130,14 @@ counts =
     ∷ (bin_expr place 0 leaf deep, 4)
     ∷ (assign_expr place 0 deep leaf, 4)
     ∷ (assign_expr place 0 leaf deep, 4)
-    ∷ (member_expr place deep leaf, 4)
+    ∷ (member_expr place deep leaf, 3)
     ∷ (member_expr place leaf deep, 4)
     ∷ (super_prop_expr place deep leaf, 4)
     ∷ (super_prop_expr place leaf deep, 4)
     ∷ (cond_expr place deep leaf leaf, 4)
     ∷ (cond_expr place leaf deep leaf, 4)
     ∷ (cond_expr place leaf leaf deep, 4)
-    ∷ (call_expr place deep (one leaf), 4)
+    ∷ (call_expr place deep (one leaf), 3)
     ∷ (call_expr place leaf (one deep), 4)
     ∷ (new_expr place deep leaf, 4)
     ∷ (new_expr place leaf deep, 4)
@@ -146,7 +146,7 @@ counts =
     ∷ (tpl place (one deep) (one leaf), 4)
     ∷ (tpl place (one leaf) (one deep), 4)
     ∷ (tpl_element place true [] None, 1)
-    ∷ (tagged_tpl place deep leaf, 4)
+    ∷ (tagged_tpl place deep leaf, 3)
     ∷ (tagged_tpl place leaf deep, 4)
     ∷ (arrow_expr place (one deep) leaf true, 4)
     ∷ (arrow_expr place (one leaf) deep true, 4)
@@ -156,8 +156,11 @@ counts =
     ∷ (meta_prop_expr place 0, 1)
     ∷ (await_expr place deep, 4)
     ∷ (paren_expr place deep, 4)
-    ∷ (opt_chain_expr place true deep, 4)
-    ∷ (opt_call place deep (one leaf), 4)
+    ∷ (opt_chain_expr place true (member_expr place deep leaf), 3)
+    ∷ (opt_chain_expr place true (member_expr place leaf deep), 4)
+    ∷ (opt_chain_expr place true (opt_call place deep (one leaf)), 3)
+    ∷ (opt_chain_expr place true (opt_call place leaf (one deep)), 4)
+    ∷ (opt_call place deep (one leaf), 3)
     ∷ (opt_call place leaf (one deep), 4)
     ∷ (super place, 1)
     ∷ (import place, 1)
@@ -208,6 +211,31 @@ counts =
     ∷ (bin_expr place 0 (bin_expr place 0 leaf leaf) leaf, 2)
     ∷ (bin_expr place 0 leaf (bin_expr place 0 leaf leaf), 3)
     ∷ (bin_expr place 0 (paren_expr place leaf) leaf, 2)
+    -- a, a.b, a.b.c and a.b.c.d
+    ∷ (leaf, 1)
+    ∷ (member_expr place leaf leaf, 2)
+    ∷ (member_expr place (member_expr place leaf leaf) leaf, 2)
+    ∷ (member_expr place (member_expr place (member_expr place leaf leaf) leaf) leaf, 2)
+    -- a.b.c as a script
+    ∷ (script place (one (expr_stmt place (member_expr place (member_expr place leaf leaf) leaf))) None, 4)
+    -- a() and a()()(), alone and as a script
+    ∷ (call_expr place leaf none, 1)
+    ∷ (call_expr place (call_expr place (call_expr place leaf none) none) none, 1)
+    ∷ (script place (one (expr_stmt place (call_expr place (call_expr place (call_expr place leaf none) none) none))) None, 3)
+    -- a`` and a````, each template with one text
+    ∷ (tagged_tpl place leaf (tpl place none (one (tpl_element place true [] None))), 3)
+    ∷ (tagged_tpl place (tagged_tpl place leaf (tpl place none (one (tpl_element place true [] None)))) (tpl place none (one (tpl_element place true [] None))), 3)
+    -- a?.b as a script, a?.b.c and a?.()
+    ∷ (script place (one (expr_stmt place (opt_chain_expr place true (member_expr place leaf leaf)))) None, 4)
+    ∷ (opt_chain_expr place false (member_expr place (opt_chain_expr place true (member_expr place leaf leaf)) leaf), 2)
+    ∷ (opt_chain_expr place true (opt_call place leaf none), 1)
+    -- a[b.c], a.b(c) and a(b).c
+    ∷ (member_expr place leaf (computed_prop_name place (member_expr place leaf leaf)), 4)
+    ∷ (call_expr place (member_expr place leaf leaf) (one (expr_or_spread place None leaf)), 3)
+    ∷ (member_expr place (call_expr place leaf (one (expr_or_spread place None leaf))) leaf, 3)
+    -- new a.b and (a.b).c
+    ∷ (new_expr place (member_expr place leaf leaf) absent, 3)
+    ∷ (member_expr place (paren_expr place (member_expr place leaf leaf)) leaf, 3)
     -- the deepest of a list, wherever it stands
     ∷ (seq_expr place (more leaf (more deep (more leaf none))), 4)
     ∷ (array_lit place (more hole (more leaf (more hole none))), 2)

@@ -10,9 +10,11 @@ pub trait Nesting {
     /// What it stands for.
     ghost tree: { Self → Tree };
 
-    /// How deep it goes: 1 for a leaf and one more than its deepest child for another struct, where the
-    /// left operand of a binary operator and an `if` that is the alternative of an `if` add nothing, and
-    /// a name as a pattern is a leaf. Past the greatest number of 32 bits it stays there.
+    /// How deep it goes: 1 for a leaf and one more than its deepest child for another struct, where what a
+    /// chain goes on from (a left operand, the object of a member, the callee of a call, the tag of a
+    /// template) and an `if` that is the alternative of an `if` add nothing, an optional chain counts as its
+    /// member or its call, and a name as a pattern is a leaf. Past the greatest number of 32 bits it stays
+    /// there.
     fn nesting(&self) -> u32
         ensures { result ≡ capped (nesting (tree self.now)) };
 }
@@ -29,13 +31,6 @@ pub(crate) fn above(deepest: u32) -> u32
     ensures { result ≡ capped (deepest + 1) }
 {
     deepest.saturating_add(1)
-}
-
-/// So many levels more.
-pub(crate) fn plus(levels: u32, deepest: u32) -> u32
-    ensures { result ≡ capped (levels + deepest) }
-{
-    levels.saturating_add(deepest)
 }
 
 /// The deepest of a list.

@@ -115,7 +115,7 @@ impl<T: Held> Nesting for MemberExprOf<T> {
     ghost tree = { view_member_expr T.tree };
 
     fn nesting(&self) -> u32 {
-        above(self.obj.nesting().max(self.prop.nesting()))
+        self.obj.nesting().max(above(self.prop.nesting()))
     }
 }
 
@@ -142,7 +142,7 @@ impl<T: Held> Nesting for CallExprOf<T> {
     ghost tree = { view_call_expr T.tree };
 
     fn nesting(&self) -> u32 {
-        above(self.callee.nesting().max(self.args.nesting()))
+        self.callee.nesting().max(above(self.args.nesting()))
     }
 }
 
@@ -190,7 +190,7 @@ impl<T: Held> Nesting for TaggedTplOf<T> {
     ghost tree = { view_tagged_tpl T.tree };
 
     fn nesting(&self) -> u32 {
-        above(self.tag.nesting().max(self.tpl.nesting()))
+        self.tag.nesting().max(above(self.tpl.nesting()))
     }
 }
 
@@ -246,7 +246,7 @@ impl<T: Held> Nesting for OptChainExprOf<T> {
     ghost tree = { view_opt_chain_expr T.tree };
 
     fn nesting(&self) -> u32 {
-        above(self.base.nesting())
+        self.base.nesting()
     }
 }
 
@@ -254,7 +254,7 @@ impl<T: Held> Nesting for OptCallOf<T> {
     ghost tree = { view_opt_call T.tree };
 
     fn nesting(&self) -> u32 {
-        above(self.callee.nesting().max(self.args.nesting()))
+        self.callee.nesting().max(above(self.args.nesting()))
     }
 }
 

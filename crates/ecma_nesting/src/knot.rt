@@ -1,10 +1,10 @@
-//! Expressions, statements, patterns and programs. Left operands, what stands before a point, a bracket, arguments or
-//! a template, and `else if` go in loops, so that no chain of them is too long.
+//! Expressions, statements, patterns and programs. What chains go on from (left operands, objects of members, callees and
+//! tags) and `else if` go in loops, so that no chain of them is too long.
 ghost use Rattle.std.specs.Prelude.{◌≡◌};
 ghost use Rattle.ecma_node.specs.Placed.{inner};
 ghost use Rattle.ecma_nesting.specs.Nesting.{is_if};
 
-use crate::counts::{Held, Nesting, above, plus};
+use crate::counts::{Held, Nesting, above};
 use ecma_node::{
     CallExpr, Callee, Expr, ExprKind, OptChainBase, OptChainExpr, Part, PartKind, Pat, Program,
     Stmt, StmtKind,
@@ -65,17 +65,15 @@ impl Nesting for Expr {
     #[cycle(nesting)]
     fn nesting(&self) -> u32 {
         let mut deepest = 0;
-        let mut levels = 0;
         let mut expr = self;
         'chain: loop {
             match &expr.kind {
                 ExprKind::Bin(x) => {
-                    deepest = plus(levels, above(x.right.nesting())).max(deepest);
+                    deepest = above(x.right.nesting()).max(deepest);
                     expr = x.left.get();
                 }
                 ExprKind::Member(x) => {
-                    levels = above(levels);
-                    deepest = plus(levels, x.prop.nesting()).max(deepest);
+                    deepest = above(x.prop.nesting()).max(deepest);
                     expr = x.obj.get();
                 }
                 ExprKind::Call(
@@ -85,13 +83,11 @@ impl Nesting for Expr {
                         ..
                     },
                 ) => {
-                    levels = above(levels);
-                    deepest = plus(levels, args.nesting()).max(deepest);
+                    deepest = above(args.nesting()).max(deepest);
                     expr = callee.get();
                 }
                 ExprKind::TaggedTpl(x) => {
-                    levels = above(levels);
-                    deepest = plus(levels, x.tpl.nesting()).max(deepest);
+                    deepest = above(x.tpl.nesting()).max(deepest);
                     expr = x.tag.get();
                 }
                 ExprKind::OptChain(
@@ -100,8 +96,7 @@ impl Nesting for Expr {
                         ..
                     },
                 ) => {
-                    levels = plus(levels, 2);
-                    deepest = plus(levels, x.prop.nesting()).max(deepest);
+                    deepest = above(x.prop.nesting()).max(deepest);
                     expr = x.obj.get();
                 }
                 ExprKind::OptChain(
@@ -110,11 +105,10 @@ impl Nesting for Expr {
                         ..
                     },
                 ) => {
-                    levels = plus(levels, 2);
-                    deepest = plus(levels, x.args.nesting()).max(deepest);
+                    deepest = above(x.args.nesting()).max(deepest);
                     expr = x.callee.get();
                 }
-                _ => return plus(levels, expr.kind.nesting()).max(deepest),
+                _ => return expr.kind.nesting().max(deepest),
             }
         }
     }

@@ -1,5 +1,5 @@
-//! How deep a tree goes: each struct of it is one deeper than what it holds, but for left operands and
-//! `else if`, which are as deep as what they continue.
+//! How deep a tree goes: each struct of it is one deeper than what it holds, but for links of chains (binary
+//! operators, members, calls, tags) and `else if`, which are as deep as what they continue.
 #![tactic(auto)]
 
 mod counts;

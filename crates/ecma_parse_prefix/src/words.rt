@@ -61,7 +61,7 @@ pub fn super_expr<'a, I: Tokens<'a> + Drop, N: Nested<'a, I>>(
 }
 
 /// An operator that is a word with its operand, or any other word.
-#[inline(never)]
+#[inline(always)]
 #[tactic(auto, unfolding(crate::specs::Words::operator_word))]
 pub fn operator_word<'a, I: Tokens<'a> + Drop, N: Nested<'a, I>>(
     p: &mut Parser<'a, I>,
@@ -87,7 +87,7 @@ pub fn operator_word<'a, I: Tokens<'a> + Drop, N: Nested<'a, I>>(
 }
 
 /// `new`, `super` or `import`, or another word.
-#[inline(never)]
+#[inline(always)]
 #[tactic(auto, unfolding(crate::specs::Words::member_word))]
 pub fn member_word<'a, I: Tokens<'a> + Drop, N: Nested<'a, I>>(
     p: &mut Parser<'a, I>,
@@ -113,7 +113,7 @@ pub fn member_word<'a, I: Tokens<'a> + Drop, N: Nested<'a, I>>(
 }
 
 /// A function or a class, or another word.
-#[inline(never)]
+#[inline(always)]
 #[tactic(auto, using(ecma_parse_state::proofs::Marks::marks, crate::proofs::Starts::starts), unfolding(crate::specs::Words::definition_word))]
 pub fn definition_word<'a, I: Tokens<'a> + Drop, N: Nested<'a, I>>(
     p: &mut Parser<'a, I>,
@@ -161,10 +161,10 @@ pub fn boolean_word<'a, I: Tokens<'a> + Drop, N: Nested<'a, I>>(
     definition_word(p, nested, code, level)
 }
 
-/// What a word starts.
-#[inline(never)]
+/// What a word starts that is no plain name.
+#[inline(always)]
 #[tactic(auto, unfolding(ecma_reading::specs::Expressions::keyword_by, crate::specs::Words::boolean_word, crate::specs::Words::definition_word, crate::specs::Words::member_word, crate::specs::Words::super_by, crate::specs::Words::operator_word, ecma_parse_expr::specs::Words::fixed_word))]
-pub fn keyword<'a, I: Tokens<'a> + Drop, N: Nested<'a, I>>(
+fn own_word<'a, I: Tokens<'a> + Drop, N: Nested<'a, I>>(
     p: &mut Parser<'a, I>,
     nested: &N,
     code: Around,
@@ -184,4 +184,24 @@ pub fn keyword<'a, I: Tokens<'a> + Drop, N: Nested<'a, I>>(
         return made::null_lit(p.alloc, span);
     }
     boolean_word(p, nested, code, level)
+}
+
+/// What a word starts. A name that is no word of the grammar is told at once.
+#[inline(never)]
+#[tactic(auto, using(crate::proofs::Names::plain_word))]
+pub fn keyword<'a, I: Tokens<'a> + Drop, N: Nested<'a, I>>(
+    p: &mut Parser<'a, I>,
+    nested: &N,
+    code: Around,
+    level: u8,
+) -> Result<Operand, Failure>
+    requires ready { N.ready nested.now }
+    requires word { is_word (kind (spec.input (machine_of I.machine) (stand I.state p.old))) ≡ true }
+    ensures value { Gives (λ x. (tree_of x, stand I.state p.new)) result (reads.keyword_by (machine_of I.machine) (N.reads nested.now I.State I.machine) (code_of code) level (stand I.state p.old)) }
+    ensures shorter { IfOk result (λ _. spec.bound (machine_of I.machine) (stand I.state p.new) < spec.bound (machine_of I.machine) (stand I.state p.old)) }
+{
+    if p.at(kinds::NAME) {
+        return word(p, nested, code, level);
+    }
+    own_word(p, nested, code, level)
 }

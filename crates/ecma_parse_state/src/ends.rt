@@ -66,6 +66,7 @@ impl<'a, I: Tokens<'a> + Drop> Parser<'a, I> {
     /// # Errors
     ///
     /// Want of memory.
+    #[inline(always)]
     pub fn goes(&self, code: Around, end: u8) -> Result<u8, Failure>
         ensures value { IfOk result (λ l. l ≡ ops.goes_expr (code_of code) end (spec.input (machine_of I.machine) (stand I.state self.now))) }
         ensures full { IfErr result IsMemory }

@@ -127,7 +127,7 @@ impl<'a, I: Tokens<'a> + Drop> Parser<'a, I> {
         let end = token.span.hi;
         match self.input.next() {
             Ok(next) => {
-                self.ahead = Ahead::new(next);
+                self.ahead.put(next);
                 self.last = end;
                 Ok(())
             }

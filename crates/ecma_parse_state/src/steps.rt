@@ -160,7 +160,7 @@ impl<'a, I: Tokens<'a> + Drop> Parser<'a, I> {
     /// # Errors
     ///
     /// Want of memory.
-    #[inline(never)]
+    #[inline]
     #[tactic(auto, unfolding(crate::specs::Fronts::machine_of))]
     pub fn operand(&mut self) -> Result<(), Failure>
         ensures value { OnOk result (stand I.state self.new ≡ spec.operand (machine_of I.machine) (stand I.state self.old)) }
@@ -170,6 +170,22 @@ impl<'a, I: Tokens<'a> + Drop> Parser<'a, I> {
         if !self.at(kinds::DIV) && !self.at(kinds::DIV_ASSIGN) {
             return Ok(());
         }
+        self.reread()
+    }
+
+    /// The same where a slash comes.
+    ///
+    /// # Errors
+    ///
+    /// Want of memory.
+    #[inline(never)]
+    #[tactic(auto, unfolding(crate::specs::Fronts::machine_of))]
+    fn reread(&mut self) -> Result<(), Failure>
+        requires slash { is_slash (kind (spec.input (machine_of I.machine) (stand I.state self.old))) ≡ true }
+        ensures value { OnOk result (stand I.state self.new ≡ spec.operand (machine_of I.machine) (stand I.state self.old)) }
+        ensures not_longer { IfOk result (λ _. spec.bound (machine_of I.machine) (stand I.state self.new) ≤ spec.bound (machine_of I.machine) (stand I.state self.old)) }
+        ensures full { IfErr result IsMemory }
+    {
         let Ok(mut copy) = self.input.try_clone() else {
             return Err(Failure::Memory);
         };

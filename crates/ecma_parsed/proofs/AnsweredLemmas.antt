@@ -1,11 +1,11 @@
 -- What an entry answers of a reading that the grammar settles.
-use Rattle.std.proofs.Common.{◌≡◌, ℕ, ◌≤◌, Bool, true, false, List, [], Some, option_map, if◌then◌else◌, Result, Ok, Err, refl, sym, ap, ◌∙◌, subst}
+use Rattle.std.proofs.Common.{◌≡◌, ℕ, ◌≤◌, Bool, true, false, List, [], if◌then◌else◌, Result, Ok, Err, refl, sym, ap, ◌∙◌, subst}
 use Rattle.ecma_token.specs.declared.context.Context.{Context}
 use Rattle.ecma_token.specs.declared.error.Error.{Error}
 use Rattle.ecma_token.specs.declared.syntax.EsSyntax.{EsSyntax}
 use Rattle.ecma_token.specs.Dialect.{parts_of}
 use Rattle.ecma_tokens.specs.Machine as tokens
-use Rattle.ecma_tokens.specs.Machine.{Source, shown_spot}
+use Rattle.ecma_tokens.specs.Machine.{Source}
 use Rattle.ecma_tree.specs.Tree.{Tree}
 use Rattle.ecma_nesting.specs.Nesting.{nesting}
 use Rattle.ecma_syntax.specs.Input.{Code}
@@ -21,7 +21,9 @@ use Rattle.ecma_parsed.specs.Settled.{SettledBy, Settled}
 use Rattle.ecma_parsed.specs.Judged.{Each, JudgedBy, Judged}
 use Rattle.ecma_parsed.proofs.SettledLemmas.{first_settled}
 use Rattle.ecma_parser.specs.Answers.{Parses}
-use Rattle.ecma_parser.specs.Entries.{syntax_in, limit_in, first_of, opened}
+use Rattle.ecma_parser.specs.Entries.{source_in, syntax_in, limit_in, first_of, opened, opened_by, waiting}
+use Rattle.ecma_input.specs.Rewinding.{back_in}
+use Rattle.ecma_input.specs.declared.rewinding.Rewinding.{Rewinding}
 use Rattle.ecma_parser.specs.declared.entries.Entries.{Entries}
 use Rattle.ecma_parsed.specs.Answered.{AnsweredBy, Comes, SpelledBy, NewAnswer, Answered, EntriesAnswer}
 
@@ -98,29 +100,28 @@ of_goal false syntax = refl
 
 module _ {I S : Type 0} (m : tokens.Machine S) (state : I → Source S) where
   -- a parser that read no token opens in front of the first
-  pub opened_first : (ctx : Context) (e : Entries (Parser I)) → e.started ≡ false → opened m state ctx e ≡ first_of m (told_of ctx (state e.reading.input))
-  opened_first ctx e h = ap (λ (b : Bool). if b then (record { source = record { first = option_map shown_spot e.reading.ahead.token; behind = Some (told_of ctx (state e.reading.input)); last = e.reading.last.0 }; commas = [] })
-      else first_of m (told_of ctx (state e.reading.input))) h
+  pub opened_first : (ctx : Context) (e : Entries (Parser (Rewinding I))) → e.started ≡ false → opened m state ctx e ≡ first_of m (told_of ctx (state e.reading.input.input))
+  opened_first ctx e h = ap (λ (b : Bool). if b then opened_by m ctx e.reading.last.0 (back_in m state ctx e.reading.input) (waiting state ctx e) else first_of m (told_of ctx (source_in state e))) h
 
 -- what an entry read that opened in front of the first token of this source
-module _ {I S : Type 0} (m : tokens.Machine S) (state : I → Source S) (modules : Bool) (e : Entries (Parser I)) where
+module _ {I S : Type 0} (m : tokens.Machine S) (state : I → Source S) (modules : Bool) (e : Entries (Parser (Rewinding I))) where
   abbrev pub first_read : Source S → Result Tree Fault
   first_read z = let code = code_of modules (parts_of z.settings.syntax) in parsed.program_within (machine_of m) (limit_in e) modules code (first_of m (told_of code.context z))
 
   -- so an entry of a parser that read no token did
-  pub read_first : e.started ≡ false → (z : Source S) → state e.reading.input ≡ z
+  pub read_first : e.started ≡ false → (z : Source S) → state e.reading.input.input ≡ z
       → entries.program_within (machine_of m) (limit_in e) modules (code_of modules (syntax_in state e)) (opened m state (code_of modules (syntax_in state e)).context e) ≡ first_read z
   read_first h z source = let code : Code = code_of modules (syntax_in state e) in
       ap (λ (s : Stand (Front S)). entries.program_within (machine_of m) (limit_in e) modules code s) (opened_first m state code.context e h)
-      ∙ (sym (same_program (machine_of m) (limit_in e) modules code (first_of m (told_of code.context (state e.reading.input)))) ∙ ap (λ (y : Source S). first_read y) source)
+      ∙ (sym (same_program (machine_of m) (limit_in e) modules code (first_of m (told_of code.context (state e.reading.input.input)))) ∙ ap (λ (y : Source S). first_read y) source)
 
 module _ {I S : Type 0} (m : tokens.Machine S) (state : I → Source S) (Good : Source S → Type 0) (Same : Source S → Source S → Type 0) where
   pub entries_answer : {X : Type 0} (view : X → Tree) → EntriesAnswer m state Good Same view
   entries_answer view modules w e h good result old new p =
       let syntax : EsSyntax = syntax_in state e in
       let code : Code = code_of modules syntax in
-      let told : Source S = told_of code.context (state e.reading.input) in
+      let told : Source S = told_of code.context (state e.reading.input.input) in
       let first : Stand (Front S) = first_of m told in
-      let settled : Settled (machine_of m) (limit_in e) modules syntax first.source = first_settled m Good Same modules w (limit_in e) syntax told told.settings.start (w.good_told code.context (state e.reading.input) (of_goal modules syntax) good) in
+      let settled : Settled (machine_of m) (limit_in e) modules syntax first.source = first_settled m Good Same modules w (limit_in e) syntax told told.settings.start (w.good_told code.context (state e.reading.input.input) (of_goal modules syntax) good) in
       answered (machine_of m) (limit_in e) modules syntax first.source view old new result settled
-      (subst (λ (x : Result Tree Fault). Parses view syntax result x old new) (read_first m state modules e h (state e.reading.input) refl) p)
+      (subst (λ (x : Result Tree Fault). Parses view syntax result x old new) (read_first m state modules e h (state e.reading.input.input) refl) p)

@@ -27,6 +27,7 @@ use Rattle.ecma_parse_entries.specs.Within.{program_within}
 use Rattle.ecma_parser.specs.Answers.{Parses}
 use Rattle.ecma_parser.specs.Choice.{IsMeant, NotMeant, Chooses}
 use Rattle.ecma_parser.specs.Entries.{syntax_in, limit_in, opened}
+use Rattle.ecma_input.specs.declared.rewinding.Rewinding.{Rewinding}
 use Rattle.ecma_parser.specs.declared.entries.Entries.{Entries}
 use Rattle.ecma_parsed.specs.Answered.{SpelledBy, NewAnswer, front_of}
 use Rattle.ecma_parsed.specs.Exact.{read_within}
@@ -113,9 +114,9 @@ module _ (x : Setting) (Reads Spells : Bool → Tree → Type 0) (j : (modules :
 
 -- ---- from the first token on
 
-module _ {I S : Type 0} (m : tokens.Machine S) (state : I → Source S) (e : Entries (Parser I)) (result : Result Tree Error) (recorded : List Error) where
+module _ {I S : Type 0} (m : tokens.Machine S) (state : I → Source S) (e : Entries (Parser (Rewinding I))) (result : Result Tree Error) (recorded : List Error) where
   -- a parser that read no token chooses by what is read from the first on
-  pub choice_first : e.started ≡ false → (z : Source S) → state e.reading.input ≡ z → PromisedChoice m state e result [] recorded
+  pub choice_first : e.started ≡ false → (z : Source S) → state e.reading.input.input ≡ z → PromisedChoice m state e result [] recorded
       → Chooses (parts_of z.settings.syntax) result (first_read m state true e z) (first_read m state false e z) [] recorded
   choice_first h z source p = subst (λ (y : Source S). Chooses (parts_of y.settings.syntax) result (first_read m state true e z) (first_read m state false e z) [] recorded) source
       (subst (λ (r : Result Tree Fault). Chooses syntax result (first_read m state true e z) r [] recorded) (read_first m state false e h z source)
@@ -140,7 +141,7 @@ new_chosen state syntax text e u h source result recorded p = texts_chosen state
 
 pub lists_chosen : {I : Type 0} (state : I → Source (List Spot)) → ListsChosen state
 lists_chosen state e h o result recorded p =
-    let z : Source (List Spot) = state e.reading.input in
+    let z : Source (List Spot) = state e.reading.input.input in
     let x : Setting = record { syntax = syntax_in state e; limit = limit_in e } in
     let start : ℕ = z.settings.start in
     chosen_answer x (λ modules t. ReadsList modules x.syntax start z.tokens t) (λ modules t. SpellsList x modules start z.tokens t) (λ modules. list_joins x modules start z.tokens)
@@ -172,15 +173,15 @@ source_joins m x modules s = record {
 }
 
 module _ {I S : Type 0} (m : tokens.Machine S) (state : I → Source S) (Good : Bool → Source S → Type 0) (Same : Source S → Source S → Type 0) where
-  source_first : (modules : Bool) (e : Entries (Parser I)) → InOrderBoth m state Good Same e
-      → Judged (ReadsSource (machine_of m) modules (syntax_in state e) (front_of m state modules e)) (limit_in e) (first_read m state modules e (state e.reading.input))
+  source_first : (modules : Bool) (e : Entries (Parser (Rewinding I))) → InOrderBoth m state Good Same e
+      → Judged (ReadsSource (machine_of m) modules (syntax_in state e) (front_of m state modules e)) (limit_in e) (first_read m state modules e (state e.reading.input.input))
   unfolding machine_of
-  source_first modules e w = let syntax = syntax_in state e in let told = told_of (code_of modules syntax).context (state e.reading.input) in
+  source_first modules e w = let syntax = syntax_in state e in let told = told_of (code_of modules syntax).context (state e.reading.input.input) in
       source_judged (machine_of m) (limit_in e) modules syntax (front_of m state modules e) (w.order modules) (first_settled m (Good modules) Same modules (w.constant modules) (limit_in e) syntax told told.settings.start (w.good modules))
 
   pub sources_chosen : SourcesChosen m state Good Same
   sources_chosen e h w result recorded p =
-      let z : Source S = state e.reading.input in
+      let z : Source S = state e.reading.input.input in
       let x : Setting = record { syntax = syntax_in state e; limit = limit_in e } in
       chosen_answer x (λ modules t. ReadsSource (machine_of m) modules x.syntax (front_of m state modules e) t) (λ modules t. SpellsSource (machine_of m) x modules (front_of m state modules e) t)
       (λ modules. source_joins (machine_of m) x modules (front_of m state modules e))

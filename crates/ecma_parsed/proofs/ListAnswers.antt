@@ -12,6 +12,7 @@ use Rattle.ecma_parse_state.specs.Fronts.{told_of}
 use Rattle.ecma_parse_state.specs.declared.parser.Parser.{Parser}
 use Rattle.ecma_parser.specs.Answers.{Parses}
 use Rattle.ecma_parser.specs.Entries.{syntax_in, limit_in}
+use Rattle.ecma_input.specs.declared.rewinding.Rewinding.{Rewinding}
 use Rattle.ecma_parser.specs.declared.entries.Entries.{Entries}
 use Rattle.ecma_parsed.specs.ListRead.{seen, ReadsList, ListSettled}
 use Rattle.ecma_parsed.specs.Lists.{SpellsList, ListAnswered, ListsAnswered, NewListAnswered}
@@ -27,14 +28,14 @@ list_joins x modules start spots = record {
 }
 
 -- what is read from the first token of a list on
-pub list_first : {I : Type 0} (state : I → Source (List Spot)) (modules : Bool) (e : Entries (Parser I)) (z : Source (List Spot)) → InOrder z.settings.start (seen z.tokens)
+pub list_first : {I : Type 0} (state : I → Source (List Spot)) (modules : Bool) (e : Entries (Parser (Rewinding I))) (z : Source (List Spot)) → InOrder z.settings.start (seen z.tokens)
     → ListSettled modules (parts_of z.settings.syntax) z.settings.start z.tokens (limit_in e) (first_read list_machine state modules e z)
 list_first state modules e z o = let x = parts_of z.settings.syntax in
     lists_settled (limit_in e) modules x z.settings.start z.tokens (told_of (code_of modules x).context z).settings o
 
 pub lists_answered : {I : Type 0} (state : I → Source (List Spot)) {X : Type 0} (view : X → Tree) → ListsAnswered state view
 lists_answered state view modules e h o result recorded p =
-    let z : Source (List Spot) = state e.reading.input in
+    let z : Source (List Spot) = state e.reading.input.input in
     let x : Setting = record { syntax = syntax_in state e; limit = limit_in e } in
     let start : ℕ = z.settings.start in
     new_answer x (ReadsList modules x.syntax start z.tokens) (SpellsList x modules start z.tokens) (list_joins x modules start z.tokens) view result recorded (first_read list_machine state modules e z)

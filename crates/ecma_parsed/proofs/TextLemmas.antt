@@ -19,6 +19,7 @@ use Rattle.ecma_parsed.specs.TextRead.{TextSettled}
 use Rattle.ecma_parsed.proofs.TextReadLemmas.{texts_settled}
 use Rattle.ecma_parser.specs.Answers.{Parses}
 use Rattle.ecma_parser.specs.Entries.{limit_in}
+use Rattle.ecma_input.specs.declared.rewinding.Rewinding.{Rewinding}
 use Rattle.ecma_parser.specs.declared.entries.Entries.{Entries}
 use Rattle.ecma_parsed.specs.Texts.{TextsAnswered, NewAnswered}
 use Rattle.ecma_parsed.proofs.AnsweredLemmas.{Joins, new_answer, first_read, read_first, of_goal}
@@ -32,7 +33,7 @@ text_joins x modules text = record {
 }
 
 -- what is read from the first token of a text on
-pub text_first : {I : Type 0} (state : I → State) (modules : Bool) (syntax : Syntax) (target : EsVersion) (text : List ℕ) (e : Entries (Parser I))
+pub text_first : {I : Type 0} (state : I → State) (modules : Bool) (syntax : Syntax) (target : EsVersion) (text : List ℕ) (e : Entries (Parser (Rewinding I)))
     → TextSettled modules (parts_of syntax) text (limit_in e) (first_read lexer_machine state modules e (at_start_of syntax target text_start text (text_start + bytes text)))
 text_first state modules syntax target text e = let x = parts_of syntax in let ctx = (code_of modules x).context in
     texts_settled (limit_in e) modules x text (told_of ctx (at_start_of syntax target text_start text (text_start + bytes text))) (new_at_start syntax target text_start modules text ctx (of_goal modules x))
@@ -44,11 +45,11 @@ texts_answered state view modules syntax target text e h source result recorded 
     new_answer x (λ t. Reads modules x.syntax t text) (λ t. TreeSpells x modules t text) (text_joins x modules text) view result recorded (first_read lexer_machine state modules e start)
     (text_first state modules syntax target text e)
     (subst (λ (z : State). Parses view (parts_of z.settings.syntax) result (first_read lexer_machine state modules e start) [] recorded) source
-    (subst (λ (r : Result Tree Fault). Parses view (parts_of (state e.reading.input).settings.syntax) result r [] recorded) (read_first lexer_machine state modules e h start source) p))
+    (subst (λ (r : Result Tree Fault). Parses view (parts_of (state e.reading.input.input).settings.syntax) result r [] recorded) (read_first lexer_machine state modules e h start source) p))
 
 -- a text takes as many bytes as its characters
-pub chars_start : {I : Type 0} (state : I → State) (syntax : Syntax) (text : List ℕ) (e : Entries (Parser I)) → IsUtf8 text → state e.reading.input ≡ at_start_of syntax EsNext 1 (chars text) (1 + length text)
-    → state e.reading.input ≡ at_start_of syntax EsNext text_start (chars text) (text_start + bytes (chars text))
+pub chars_start : {I : Type 0} (state : I → State) (syntax : Syntax) (text : List ℕ) (e : Entries (Parser (Rewinding I))) → IsUtf8 text → state e.reading.input.input ≡ at_start_of syntax EsNext 1 (chars text) (1 + length text)
+    → state e.reading.input.input ≡ at_start_of syntax EsNext text_start (chars text) (text_start + bytes (chars text))
 chars_start state syntax text e u source = source ∙ ap (λ (n : ℕ). at_start_of syntax EsNext 1 (chars text) (1 + n)) (sym (ap (λ (z : List ℕ). length z) (encodes-chars text u)))
 
 pub new_answered : {I : Type 0} (state : I → State) {X : Type 0} (view : X → Tree) → NewAnswered state view

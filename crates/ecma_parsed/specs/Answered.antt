@@ -20,6 +20,7 @@ use Rattle.ecma_parsed.specs.Judged.{Each, JudgedBy}
 use Rattle.ecma_parsed.specs.Settled.{SettledBy}
 use Rattle.ecma_parser.specs.Answers.{Parses}
 use Rattle.ecma_parser.specs.Entries.{syntax_in, limit_in, first_of, opened}
+use Rattle.ecma_input.specs.declared.rewinding.Rewinding.{Rewinding}
 use Rattle.ecma_parser.specs.declared.entries.Entries.{Entries}
 
 -- This tree is answered, but for want of memory.
@@ -61,16 +62,16 @@ module _ {S : Type 0} (m : Machine S) (limit : ℕ) (modules : Bool) (syntax : E
 
 module _ {I S : Type 0} (m : tokens.Machine S) (state : I → Source S) where
   -- in front of the first token of an entry's source, which was told the code of a script, or of a module
-  abbrev pub front_of : Bool → Entries (Parser I) → Front S
-  front_of modules e = (first_of m (told_of (code_of modules (syntax_in state e)).context (state e.reading.input))).source
+  abbrev pub front_of : Bool → Entries (Parser (Rewinding I)) → Front S
+  front_of modules e = (first_of m (told_of (code_of modules (syntax_in state e)).context (state e.reading.input.input))).source
 
   -- What the entry of scripts promises, or that of modules, of its answer and of the faults before and after it.
-  abbrev pub Promised : {X : Type 0} → (X → Tree) → Bool → Entries (Parser I) → Result X Error → List Error → List Error → Type 0
+  abbrev pub Promised : {X : Type 0} → (X → Tree) → Bool → Entries (Parser (Rewinding I)) → Result X Error → List Error → List Error → Type 0
   Promised view modules e result old new = let syntax = syntax_in state e in let code = code_of modules syntax in
       Parses view syntax result (program_within (machine_of m) (limit_in e) modules code (opened m state code.context e)) old new
 
   -- A parser that read no token yet, on a good source of tokens, answers by the grammar: what an entry promises is so much.
   abbrev pub EntriesAnswer : (Good : Source S → Type 0) (Same : Source S → Source S → Type 0) {X : Type 0} → (X → Tree) → Type 0
-  EntriesAnswer Good Same {X} view = (modules : Bool) → Constant m Good Same modules → (e : Entries (Parser I)) → e.started ≡ false → Good (state e.reading.input)
+  EntriesAnswer Good Same {X} view = (modules : Bool) → Constant m Good Same modules → (e : Entries (Parser (Rewinding I))) → e.started ≡ false → Good (state e.reading.input.input)
       → (result : Result X Error) (old new : List Error) → Promised view modules e result old new
       → Answered (machine_of m) (limit_in e) modules (syntax_in state e) (front_of modules e) view result old new

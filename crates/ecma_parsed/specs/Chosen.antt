@@ -29,6 +29,7 @@ use Rattle.ecma_parse_state.specs.declared.parser.Parser.{Parser}
 use Rattle.ecma_parse_entries.specs.Within.{program_within}
 use Rattle.ecma_parser.specs.Choice.{Chooses}
 use Rattle.ecma_parser.specs.Entries.{source_in, syntax_in, limit_in, opened}
+use Rattle.ecma_input.specs.declared.rewinding.Rewinding.{Rewinding}
 use Rattle.ecma_parser.specs.declared.entries.Entries.{Entries}
 use Rattle.ecma_sources.specs.Sources.{HandsOut}
 use Rattle.ecma_sources_of.specs.Constant.{Constant}
@@ -63,7 +64,7 @@ pub record ChosenAnswer (x : Setting) (Reads Spells : Bool → Tree → Type 0) 
 -- ---- what is promised
 
 -- What the entry of programs promises of its answer and of the faults before and after it.
-abbrev pub PromisedChoice : {I S : Type 0} → tokens.Machine S → (I → Source S) → Entries (Parser I) → Result Tree Error → List Error → List Error → Type 0
+abbrev pub PromisedChoice : {I S : Type 0} → tokens.Machine S → (I → Source S) → Entries (Parser (Rewinding I)) → Result Tree Error → List Error → List Error → Type 0
 PromisedChoice m state e result old new = let syntax = syntax_in state e in
     let read : Bool → Result Tree Fault = λ modules. program_within (machine_of m) (limit_in e) modules (code_of modules syntax) (opened m state (code_of modules syntax).context e) in
     Chooses syntax result (read true) (read false) old new
@@ -77,14 +78,14 @@ TextChosen x text result recorded = ChosenAnswer x (λ modules t. Reads modules 
 module _ {I : Type 0} (state : I → State) where
   -- A new parser of a text answers the tree that is chosen: what the entry of programs promises is so much.
   abbrev pub TextsChosen : Type 0
-  TextsChosen = (syntax : Syntax) (target : EsVersion) (text : List ℕ) (e : Entries (Parser I)) → e.started ≡ false
+  TextsChosen = (syntax : Syntax) (target : EsVersion) (text : List ℕ) (e : Entries (Parser (Rewinding I))) → e.started ≡ false
       → source_in state e ≡ at_start_of syntax target text_start text (text_start + bytes text)
       → (result : Result Tree Error) (recorded : List Error) → PromisedChoice lexer_machine state e result [] recorded
       → TextChosen (record { syntax = parts_of syntax; limit = limit_in e }) text result recorded
 
   -- So does a parser that `Entries::new` made of a text, by what that promises.
   abbrev pub NewChosen : Type 0
-  NewChosen = (syntax : Syntax) (text : List ℕ) (e : Entries (Parser I)) → IsUtf8 text → e.started ≡ false
+  NewChosen = (syntax : Syntax) (text : List ℕ) (e : Entries (Parser (Rewinding I))) → IsUtf8 text → e.started ≡ false
       → source_in state e ≡ at_start_of syntax EsNext 1 (chars text) (1 + length text)
       → (result : Result Tree Error) (recorded : List Error) → PromisedChoice lexer_machine state e result [] recorded
       → TextChosen (record { syntax = parts_of syntax; limit = limit_in e }) (chars text) result recorded
@@ -99,13 +100,13 @@ ListChosen x start spots result recorded = let spells : Bool → Tree → Type 0
 module _ {I : Type 0} (state : I → Source (List Spot)) where
   -- A new parser of a list in the order of its places answers the tree that is chosen: what the entry of programs promises is so much.
   abbrev pub ListsChosen : Type 0
-  ListsChosen = (e : Entries (Parser I)) → e.started ≡ false → InOrder (source_in state e).settings.start (seen (source_in state e).tokens)
+  ListsChosen = (e : Entries (Parser (Rewinding I))) → e.started ≡ false → InOrder (source_in state e).settings.start (seen (source_in state e).tokens)
       → (result : Result Tree Error) (recorded : List Error) → PromisedChoice list_machine state e result [] recorded
       → ListChosen (record { syntax = syntax_in state e; limit = limit_in e }) (source_in state e).settings.start (source_in state e).tokens result recorded
 
   -- So does a parser over what `TokensInput::new` made of a list, by what that promises.
   abbrev pub NewListChosen : Type 0
-  NewListChosen = (spots : List Spot) (ctx : Context) (syntax : Syntax) (target : EsVersion) (e : Entries (Parser I)) → e.started ≡ false
+  NewListChosen = (spots : List Spot) (ctx : Context) (syntax : Syntax) (target : EsVersion) (e : Entries (Parser (Rewinding I))) → e.started ≡ false
       → source_in state e ≡ list_in spots ctx syntax target → InOrder (start_of spots) (seen spots)
       → (result : Result Tree Error) (recorded : List Error) → PromisedChoice list_machine state e result [] recorded
       → ListChosen (record { syntax = parts_of syntax; limit = limit_in e }) (start_of spots) spots result recorded
@@ -124,18 +125,18 @@ pub record SpellsSource {S : Type 0} (m : Machine S) (x : Setting) (modules : Bo
 
 module _ {I S : Type 0} (m : tokens.Machine S) (state : I → Source S) where
   -- Told the code of a script, or of a module, the source is a good one of these, and hands out its tokens in the order of their places.
-  pub record InOrderBoth (Good : Bool → Source S → Type 0) (Same : Source S → Source S → Type 0) (e : Entries (Parser I)) : Type 0 where
+  pub record InOrderBoth (Good : Bool → Source S → Type 0) (Same : Source S → Source S → Type 0) (e : Entries (Parser (Rewinding I))) : Type 0 where
     pub constant : (modules : Bool) → Constant m (Good modules) Same modules
     pub good : (modules : Bool) → Good modules (told_of (code_of modules (syntax_in state e)).context (source_in state e))
     pub order : (modules : Bool) (ps : List Place) → HandsOut (machine_of m) ps (front_of m state modules e) → InOrder (source_in state e).settings.start ps
 
   -- the tree that is chosen of what the source hands out is answered
-  abbrev pub SourceChosen : Entries (Parser I) → Result Tree Error → List Error → Type 0
+  abbrev pub SourceChosen : Entries (Parser (Rewinding I)) → Result Tree Error → List Error → Type 0
   SourceChosen e result recorded = let x : Setting = record { syntax = syntax_in state e; limit = limit_in e } in
       let spells : Bool → Tree → Type 0 = λ modules t. SpellsSource (machine_of m) x modules (front_of m state modules e) t in
       ChosenAnswer x (λ modules t. ReadsSource (machine_of m) modules x.syntax (front_of m state modules e) t) spells (Chosen spells) result recorded
 
   -- A parser that read no token yet, on such a source, answers the tree that is chosen: what the entry of programs promises is so much.
   abbrev pub SourcesChosen : (Bool → Source S → Type 0) → (Source S → Source S → Type 0) → Type 0
-  SourcesChosen Good Same = (e : Entries (Parser I)) → e.started ≡ false → InOrderBoth Good Same e
+  SourcesChosen Good Same = (e : Entries (Parser (Rewinding I))) → e.started ≡ false → InOrderBoth Good Same e
       → (result : Result Tree Error) (recorded : List Error) → PromisedChoice m state e result [] recorded → SourceChosen e result recorded

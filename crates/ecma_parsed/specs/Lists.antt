@@ -15,6 +15,7 @@ use Rattle.ecma_grammar_complete_base.specs.Laws.{InOrder}
 use Rattle.ecma_spells.specs.Text.{Setting}
 use Rattle.ecma_parse_state.specs.declared.parser.Parser.{Parser}
 use Rattle.ecma_parser.specs.Entries.{source_in, syntax_in, limit_in}
+use Rattle.ecma_input.specs.declared.rewinding.Rewinding.{Rewinding}
 use Rattle.ecma_parser.specs.declared.entries.Entries.{Entries}
 use Rattle.ecma_parsed.specs.Answered.{NewAnswer, Promised}
 use Rattle.ecma_parsed.specs.ListRead.{seen, ReadsList}
@@ -32,13 +33,13 @@ ListAnswered x modules start spots view result recorded = NewAnswer x (ReadsList
 module _ {I : Type 0} (state : I → Source (List Spot)) where
   -- A new parser of a list in the order of its places, which has recorded no fault, answers by the trees that are derived from the list: what an entry promises is so much.
   abbrev pub ListsAnswered : {X : Type 0} → (X → Tree) → Type 0
-  ListsAnswered {X} view = (modules : Bool) (e : Entries (Parser I)) → e.started ≡ false → InOrder (source_in state e).settings.start (seen (source_in state e).tokens)
+  ListsAnswered {X} view = (modules : Bool) (e : Entries (Parser (Rewinding I))) → e.started ≡ false → InOrder (source_in state e).settings.start (seen (source_in state e).tokens)
       → (result : Result X Error) (recorded : List Error) → Promised list_machine state view modules e result [] recorded
       → ListAnswered (record { syntax = syntax_in state e; limit = limit_in e }) modules (source_in state e).settings.start (source_in state e).tokens view result recorded
 
   -- So does a parser over what `TokensInput::new` made of a list, by what that promises.
   abbrev pub NewListAnswered : {X : Type 0} → (X → Tree) → Type 0
-  NewListAnswered {X} view = (modules : Bool) (spots : List Spot) (ctx : Context) (syntax : Syntax) (target : EsVersion) (e : Entries (Parser I)) → e.started ≡ false
+  NewListAnswered {X} view = (modules : Bool) (spots : List Spot) (ctx : Context) (syntax : Syntax) (target : EsVersion) (e : Entries (Parser (Rewinding I))) → e.started ≡ false
       → source_in state e ≡ list_in spots ctx syntax target → InOrder (start_of spots) (seen spots)
       → (result : Result X Error) (recorded : List Error) → Promised list_machine state view modules e result [] recorded
       → ListAnswered (record { syntax = parts_of syntax; limit = limit_in e }) modules (start_of spots) spots view result recorded

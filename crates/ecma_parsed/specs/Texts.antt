@@ -13,6 +13,7 @@ use Rattle.ecma_lexer.specs.Machine.{lexer_machine}
 use Rattle.ecma_spells.specs.Text.{Setting, Reads, TreeSpells, text_start}
 use Rattle.ecma_parse_state.specs.declared.parser.Parser.{Parser}
 use Rattle.ecma_parser.specs.Entries.{source_in, limit_in}
+use Rattle.ecma_input.specs.declared.rewinding.Rewinding.{Rewinding}
 use Rattle.ecma_parser.specs.declared.entries.Entries.{Entries}
 use Rattle.ecma_parsed.specs.Answered.{NewAnswer, Promised}
 
@@ -23,14 +24,14 @@ TextAnswered x modules text view result recorded = NewAnswer x (λ t. Reads modu
 module _ {I : Type 0} (state : I → State) where
   -- A new parser of a text, which has recorded no fault, answers by the trees that read the text: what an entry promises is so much.
   abbrev pub TextsAnswered : {X : Type 0} → (X → Tree) → Type 0
-  TextsAnswered {X} view = (modules : Bool) (syntax : Syntax) (target : EsVersion) (text : List ℕ) (e : Entries (Parser I)) → e.started ≡ false
+  TextsAnswered {X} view = (modules : Bool) (syntax : Syntax) (target : EsVersion) (text : List ℕ) (e : Entries (Parser (Rewinding I))) → e.started ≡ false
       → source_in state e ≡ at_start_of syntax target text_start text (text_start + bytes text)
       → (result : Result X Error) (recorded : List Error) → Promised lexer_machine state view modules e result [] recorded
       → TextAnswered (record { syntax = parts_of syntax; limit = limit_in e }) modules text view result recorded
 
   -- So does a parser that `Entries::new` made of a text, by what that promises.
   abbrev pub NewAnswered : {X : Type 0} → (X → Tree) → Type 0
-  NewAnswered {X} view = (modules : Bool) (syntax : Syntax) (text : List ℕ) (e : Entries (Parser I)) → IsUtf8 text → e.started ≡ false
+  NewAnswered {X} view = (modules : Bool) (syntax : Syntax) (text : List ℕ) (e : Entries (Parser (Rewinding I))) → IsUtf8 text → e.started ≡ false
       → source_in state e ≡ at_start_of syntax EsNext 1 (chars text) (1 + length text)
       → (result : Result X Error) (recorded : List Error) → Promised lexer_machine state view modules e result [] recorded
       → TextAnswered (record { syntax = parts_of syntax; limit = limit_in e }) modules (chars text) view result recorded

@@ -4,6 +4,7 @@ use Rattle.ecma_token.specs.declared.context.Context.{Context}
 use Rattle.ecma_token.specs.declared.error.Error.{Error}
 use Rattle.ecma_tokens.specs.Machine as tokens
 use Rattle.ecma_tokens.specs.Machine.{Source}
+use Rattle.ecma_input.specs.declared.rewinding.Rewinding.{Rewinding}
 use Rattle.ecma_tree.specs.Tree.{Tree}
 use Rattle.ecma_syntax.specs.Input.{Code, script_code, module_code}
 use Rattle.ecma_reading.specs.Source.{Fault, ◌>>=◌, Machine, Stand, Read, turned}
@@ -14,10 +15,10 @@ use Rattle.ecma_parser.specs.Answers.{Refuses}
 use Rattle.ecma_parser.specs.Entries.{limit_in, opened, syntax_in}
 
 -- What is read where a parser stands, within its limit: in a script's code, and in a module's.
-abbrev pub script_part : {I S : Type 0} → tokens.Machine S → (I → Source S) → (ℕ → Code → Read (Front S) Tree) → Entries (Parser I) → Result (Tree × Stand (Front S)) Fault
+abbrev pub script_part : {I S : Type 0} → tokens.Machine S → (I → Source S) → (ℕ → Code → Read (Front S) Tree) → Entries (Parser (Rewinding I)) → Result (Tree × Stand (Front S)) Fault
 script_part m state read e = read (limit_in e) (script_code (syntax_in state e)) (opened m state (script_code (syntax_in state e)).context e)
 
-abbrev pub module_part : {I S : Type 0} → tokens.Machine S → (I → Source S) → (ℕ → Code → Read (Front S) Tree) → Entries (Parser I) → Result (Tree × Stand (Front S)) Fault
+abbrev pub module_part : {I S : Type 0} → tokens.Machine S → (I → Source S) → (ℕ → Code → Read (Front S) Tree) → Entries (Parser (Rewinding I)) → Result (Tree × Stand (Front S)) Fault
 module_part m state read e = read (limit_in e) (module_code (syntax_in state e)) (opened m state (module_code (syntax_in state e)).context e)
 
 -- the tree alone

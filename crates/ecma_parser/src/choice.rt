@@ -10,15 +10,14 @@ ghost use Rattle.ecma_parse_entries.specs.Within.{program_within};
 ghost use Rattle.ecma_parser.specs.Choice.{Chooses, IsMeant, NotMeant};
 ghost use Rattle.ecma_parser.specs.Entries.{ctx_in, faults_in, limit_in, opened, syntax_in};
 
-use crate::entries::Entries;
+use crate::entries::{Entries, Reading};
 use crate::faults::PResult;
 use ecma_goal::tells_module;
 use ecma_node::{Module, Program, ProgramKind};
-use ecma_parse_state::Parser;
 use ecma_token::SyntaxError;
 use ecma_tokens::Tokens;
 
-impl<'a, I: Tokens<'a> + Drop> Entries<Parser<'a, I>> {
+impl<'a, I: Tokens<'a> + Drop> Entries<Reading<'a, I>> {
     /// The rest of the source as a module, where that reading has no early error and holds an import, an export or,
     /// outside functions, an `await`, an awaiting `for` or an awaiting `using`; else as a script.
     ///

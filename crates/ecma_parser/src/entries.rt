@@ -6,8 +6,9 @@ ghost use Rattle.ecma_token.specs.declared.version.EsVersion.TheVariants.{EsNext
 ghost use Rattle.ecma_tokens.specs.Machine.{shown_spot};
 ghost use Rattle.ecma_lexing.specs.States.{at_start_of};
 ghost use Rattle.ecma_lexer.specs.Lexer.{state_in};
-ghost use Rattle.ecma_parse_state.specs.Stands.{stand};
+ghost use Rattle.ecma_parse_state.specs.Fronts.{told_of};
 
+use ecma_input::Rewinding;
 use ecma_lexer::Lexer;
 use ecma_parse_state::ahead::Ahead;
 use ecma_token::{BytePos, Context, Error, EsVersion, Syntax, TokenAndSpan};
@@ -30,13 +31,16 @@ pub struct Entries<P> {
     ghost limit_fits: { limit < 4294967295 },
 }
 
+/// What a parser over a source of tokens reads from.
+pub(crate) type Reading<'a, I> = ecma_parse_state::Parser<'a, Rewinding<I>>;
+
 /// A parser over a source of tokens.
-pub type Parser<'a, I> = Entries<ecma_parse_state::Parser<'a, I>>;
+pub type Parser<'a, I> = Entries<Reading<'a, I>>;
 
 /// How deep a tree may nest at first.
 const NESTING: u32 = 256;
 
-impl<'a> Entries<ecma_parse_state::Parser<'a, Lexer<'a>>> {
+impl<'a> Entries<Reading<'a, Lexer<'a>>> {
     ghost use Rattle.ecma_parser.specs.Entries.{faults_in, limit_in, source_in};
 
     /// A parser of a text. Its places count from 1.
@@ -52,8 +56,8 @@ impl<'a> Entries<ecma_parse_state::Parser<'a, Lexer<'a>>> {
     }
 }
 
-impl<'a, I: Tokens<'a> + Drop> Entries<ecma_parse_state::Parser<'a, I>> {
-    ghost use Rattle.ecma_parser.specs.Entries.{faults_in, limit_in, opened, source_in};
+impl<'a, I: Tokens<'a> + Drop> Entries<Reading<'a, I>> {
+    ghost use Rattle.ecma_parser.specs.Entries.{ahead_of, faults_in, limit_in, opened, source_in, stood};
 
     /// A parser over a source of tokens. No token is read yet, and trees may nest 256 deep.
     pub fn new_from(alloc: Global, input: I) -> Self
@@ -65,7 +69,7 @@ impl<'a, I: Tokens<'a> + Drop> Entries<ecma_parse_state::Parser<'a, I>> {
         Entries {
             reading: ecma_parse_state::Parser {
                 alloc,
-                input,
+                input: Rewinding::new(input),
                 ahead: Ahead::new(None),
                 last: BytePos(0),
                 commas: Vec::new(alloc),
@@ -92,7 +96,7 @@ impl<'a, I: Tokens<'a> + Drop> Entries<ecma_parse_state::Parser<'a, I>> {
     pub fn input(&self) -> &I
         ensures { I.state result.now ≡ source_in I.state self.now }
     {
-        &self.reading.input
+        self.reading.input.input()
     }
 
     /// Takes the recorded faults away, in order. It takes no memory.
@@ -106,25 +110,60 @@ impl<'a, I: Tokens<'a> + Drop> Entries<ecma_parse_state::Parser<'a, I>> {
         mem::replace(&mut self.faults, Vec::new(self.reading.alloc))
     }
 
-    /// Tells the source of the code, and stands in front of the token that comes.
+    /// Tells the source of the code, and whether it is to keep what it takes to go back; and stands in front of the token that
+    /// comes, which is read again where it was read in other code.
     ///
     /// # Errors
     ///
     /// Want of memory.
-    pub(crate) fn open(&mut self, ctx: Context) -> Result<(), Error>
-        ensures stand { OnOk result (stand I.state self.new.reading ≡ opened I.machine I.state ctx self.old) }
+    pub(crate) fn open(&mut self, ctx: Context, keeps: bool) -> Result<(), Error>
+        ensures stand { OnOk result (stood I.state self.new ≡ opened I.machine I.state ctx self.old) }
         ensures started { IfOk result (λ _. self.new.started ≡ true) }
         ensures limit { limit_in self.new ≡ limit_in self.old }
         ensures faults { faults_in self.new ≡ faults_in self.old }
         ensures full { IfErr result (λ e. e.kind ≡ Memory) }
     {
-        self.reading.commas.clear();
-        self.reading.input.set_ctx(ctx);
         if !self.started {
             self.reading.last = self.reading.input.start_pos();
-            self.reading.ahead = Ahead::new(self.reading.input.next()?);
-            self.started = true;
+            return self.read_ahead(ctx, keeps);
         }
+        if self.reading.input.go_back(ctx)? {
+            return self.read_ahead(ctx, keeps);
+        }
+        self.tell(ctx, keeps);
+        Ok(())
+    }
+
+    /// Tells the source of the code, and whether it is to keep what it takes to go back.
+    fn tell(&mut self, ctx: Context, keeps: bool)
+        ensures source { source_in I.state self.new ≡ told_of ctx (source_in I.state self.old) }
+        ensures ahead { self.new.reading.ahead ≡ self.old.reading.ahead }
+        ensures last { self.new.reading.last ≡ self.old.reading.last }
+        ensures commas { self.new.reading.commas.items ≡ [] }
+        ensures started { self.new.started ≡ self.old.started }
+        ensures limit { limit_in self.new ≡ limit_in self.old }
+        ensures faults { faults_in self.new ≡ faults_in self.old }
+    {
+        self.reading.commas.clear();
+        self.reading.input.keep(keeps);
+        self.reading.input.set_ctx(ctx);
+    }
+
+    /// Tells the source of the code, and reads the token that comes.
+    ///
+    /// # Errors
+    ///
+    /// Want of memory.
+    fn read_ahead(&mut self, ctx: Context, keeps: bool) -> Result<(), Error>
+        ensures stand { OnOk result (stood I.state self.new ≡ ahead_of I.machine ctx self.old.reading.last.0 (source_in I.state self.old)) }
+        ensures started { IfOk result (λ _. self.new.started ≡ true) }
+        ensures limit { limit_in self.new ≡ limit_in self.old }
+        ensures faults { faults_in self.new ≡ faults_in self.old }
+        ensures full { IfErr result (λ e. e.kind ≡ Memory) }
+    {
+        self.tell(ctx, keeps);
+        self.reading.ahead = Ahead::new(self.reading.input.next()?);
+        self.started = true;
         Ok(())
     }
 
@@ -134,7 +173,7 @@ impl<'a, I: Tokens<'a> + Drop> Entries<ecma_parse_state::Parser<'a, I>> {
     ///
     /// Want of memory.
     pub fn try_clone(&self) -> Result<Self, Error>
-        ensures stand { IfOk result (λ c. stand I.state c.reading ≡ stand I.state self.now.reading) }
+        ensures stand { IfOk result (λ c. stood I.state c ≡ stood I.state self.now) }
         ensures source { IfOk result (λ c. source_in I.state c ≡ source_in I.state self.now) }
         ensures opened { IfOk result (λ c. (ctx : _) → opened I.machine I.state ctx c ≡ opened I.machine I.state ctx self.now) }
         ensures started { IfOk result (λ c. c.started ≡ self.now.started) }
@@ -142,7 +181,7 @@ impl<'a, I: Tokens<'a> + Drop> Entries<ecma_parse_state::Parser<'a, I>> {
         ensures faults { IfOk result (λ c. faults_in c ≡ faults_in self.now) }
         ensures full { IfErr result (λ e. e.kind ≡ Memory) }
     {
-        let input = self.reading.input.try_clone()?;
+        let input = self.reading.input.copied()?;
         let (ahead, commas, faults) = self.copied().map_err(out_of_memory)?;
         Ok(Entries {
             reading: ecma_parse_state::Parser {

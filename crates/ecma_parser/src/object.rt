@@ -8,19 +8,17 @@ ghost use Rattle.ecma_node.specs.Placed.{holds_expr, holds_pat, inner};
 ghost use Rattle.ecma_node.specs.View.{view_object_pat_prop, view_prop_or_spread};
 ghost use Rattle.ecma_early.specs.Early.{early_errors};
 ghost use Rattle.ecma_parse_state.specs.Fronts.{machine_of};
-ghost use Rattle.ecma_parse_state.specs.Stands.{stand};
 ghost use Rattle.ecma_parse_entries.specs.Props as reads;
-ghost use Rattle.ecma_parser.specs.Entries.{ctx_in, faults_in, limit_in, syntax_in};
+ghost use Rattle.ecma_parser.specs.Entries.{ctx_in, faults_in, limit_in, stood, syntax_in};
 ghost use Rattle.ecma_parser.specs.Parts.{ParsesPart, script_part};
 
-use crate::entries::Entries;
+use crate::entries::{Entries, Reading};
 use crate::faults::PResult;
 use crate::rules::{PatternProperty, Property};
 use ecma_node::{
     Expr, ExprBox, ExprKind, ObjectLit, ObjectPat, ObjectPatProp, Pat, PatBox, PatKind,
     PropOrSpread,
 };
-use ecma_parse_state::Parser;
 use ecma_token::{Error, Span, SyntaxError};
 use ecma_tokens::Tokens;
 use ecma_tokens::settings::out_of_memory;
@@ -69,7 +67,7 @@ pub trait ParseObject<Obj> {
         ensures fits { IfOk result fits };
 }
 
-impl<'a, I: Tokens<'a> + Drop> ParseObject<ExprBox> for Entries<Parser<'a, I>> {
+impl<'a, I: Tokens<'a> + Drop> ParseObject<ExprBox> for Entries<Reading<'a, I>> {
     type Prop = PropOrSpread;
 
     ghost fits = { λ x. fits_prop_or_spread (λ p. p) x };
@@ -99,7 +97,7 @@ impl<'a, I: Tokens<'a> + Drop> ParseObject<ExprBox> for Entries<Parser<'a, I>> {
     }
 
     fn parse_object_prop(&mut self) -> PResult<PropOrSpread>
-        ensures value { ParsesPart (machine_of I.machine) (ctx_in I.state self.old) (view_prop_or_spread inner) (early_errors (syntax_in I.state self.old)) result (script_part I.machine I.state (reads.prop_part (machine_of I.machine)) self.old) (stand I.state self.new.reading) (faults_in self.old) (faults_in self.new) }
+        ensures value { ParsesPart (machine_of I.machine) (ctx_in I.state self.old) (view_prop_or_spread inner) (early_errors (syntax_in I.state self.old)) result (script_part I.machine I.state (reads.prop_part (machine_of I.machine)) self.old) (stood I.state self.new) (faults_in self.old) (faults_in self.new) }
         ensures fits { IfOk result (λ x. fits_prop_or_spread (λ p. p) x) }
         ensures context { ctx_in I.state self.new ≡ ctx_in I.state self.old }
         ensures started { IfOk result (λ _. self.new.started ≡ true) }
@@ -109,7 +107,7 @@ impl<'a, I: Tokens<'a> + Drop> ParseObject<ExprBox> for Entries<Parser<'a, I>> {
     }
 }
 
-impl<'a, I: Tokens<'a> + Drop> ParseObject<PatBox> for Entries<Parser<'a, I>> {
+impl<'a, I: Tokens<'a> + Drop> ParseObject<PatBox> for Entries<Reading<'a, I>> {
     type Prop = ObjectPatProp;
 
     ghost fits = { λ x. fits_object_pat_prop (λ p. p) x };
@@ -145,7 +143,7 @@ impl<'a, I: Tokens<'a> + Drop> ParseObject<PatBox> for Entries<Parser<'a, I>> {
     }
 
     fn parse_object_prop(&mut self) -> PResult<ObjectPatProp>
-        ensures value { ParsesPart (machine_of I.machine) (ctx_in I.state self.old) (view_object_pat_prop inner) (early_errors (syntax_in I.state self.old)) result (script_part I.machine I.state (reads.item_part (machine_of I.machine)) self.old) (stand I.state self.new.reading) (faults_in self.old) (faults_in self.new) }
+        ensures value { ParsesPart (machine_of I.machine) (ctx_in I.state self.old) (view_object_pat_prop inner) (early_errors (syntax_in I.state self.old)) result (script_part I.machine I.state (reads.item_part (machine_of I.machine)) self.old) (stood I.state self.new) (faults_in self.old) (faults_in self.new) }
         ensures fits { IfOk result (λ x. fits_object_pat_prop (λ p. p) x) }
         ensures context { ctx_in I.state self.new ≡ ctx_in I.state self.old }
         ensures started { IfOk result (λ _. self.new.started ≡ true) }

@@ -10,11 +10,12 @@ ghost use Rattle.ecma_parse_state.specs.Answers.{Gives};
 ghost use Rattle.ecma_parse_state.specs.Codes.{code_of};
 ghost use Rattle.ecma_parse_state.specs.Fronts.{Front, machine_of};
 ghost use Rattle.ecma_parse_state.specs.Stands.{stand};
-ghost use Rattle.ecma_parser.specs.Entries.{ctx_in, faults_in, limit_in, syntax_in};
+ghost use Rattle.ecma_parser.specs.Entries.{ctx_in, faults_in, limit_in, stood, syntax_in};
 ghost use Rattle.ecma_parser.specs.Parts.{ParsesPart, ReadsPart, script_part};
 
-use crate::entries::Entries;
+use crate::entries::{Entries, Reading};
 use crate::faults::{PResult, told};
+use ecma_input::Rewinding;
 use ecma_parse_state::{Around, Failure, Parser};
 use ecma_token::{Error, EsSyntax};
 use ecma_tokens::Tokens;
@@ -54,11 +55,11 @@ pub(crate) trait Rule<'a, I: Tokens<'a> + Drop> {
         ensures { IfOk result (λ found. found.items ≡ faults self.now syntax (tree node.now)) };
 }
 
-impl<'a, I: Tokens<'a> + Drop> Entries<Parser<'a, I>> {
+impl<'a, I: Tokens<'a> + Drop> Entries<Reading<'a, I>> {
     /// The part of a rule. Its early errors are recorded.
     #[tactic(auto, using(crate::proofs::Read::fails_read))]
-    fn read_part<R: Rule<'a, I>>(&mut self, rule: &R) -> PResult<R::Node>
-        ensures value { ReadsPart R.tree (R.faults rule.now (syntax_in I.state self.old)) result (script_part I.machine I.state (R.reads rule.now I.State I.machine) self.old) (stand I.state self.new.reading) (faults_in self.old) (faults_in self.new) }
+    fn read_part<R: Rule<'a, Rewinding<I>>>(&mut self, rule: &R) -> PResult<R::Node>
+        ensures value { ReadsPart R.tree (R.faults rule.now (syntax_in I.state self.old)) result (script_part I.machine I.state (R.reads rule.now I.State I.machine) self.old) (stood I.state self.new) (faults_in self.old) (faults_in self.new) }
         ensures fits { IfOk result R.fits }
         ensures started { IfOk result (λ _. self.new.started ≡ true) }
         ensures limit { limit_in self.new ≡ limit_in self.old }
@@ -75,8 +76,8 @@ impl<'a, I: Tokens<'a> + Drop> Entries<Parser<'a, I>> {
 
     /// The same, and the source is told the code again that it was told before.
     #[tactic(auto, unfolding(crate::specs::Parts::left_in))]
-    pub(crate) fn parse_part<R: Rule<'a, I>>(&mut self, rule: &R) -> PResult<R::Node>
-        ensures value { ParsesPart (machine_of I.machine) (ctx_in I.state self.old) R.tree (R.faults rule.now (syntax_in I.state self.old)) result (script_part I.machine I.state (R.reads rule.now I.State I.machine) self.old) (stand I.state self.new.reading) (faults_in self.old) (faults_in self.new) }
+    pub(crate) fn parse_part<R: Rule<'a, Rewinding<I>>>(&mut self, rule: &R) -> PResult<R::Node>
+        ensures value { ParsesPart (machine_of I.machine) (ctx_in I.state self.old) R.tree (R.faults rule.now (syntax_in I.state self.old)) result (script_part I.machine I.state (R.reads rule.now I.State I.machine) self.old) (stood I.state self.new) (faults_in self.old) (faults_in self.new) }
         ensures fits { IfOk result R.fits }
         ensures context { ctx_in I.state self.new ≡ ctx_in I.state self.old }
         ensures started { IfOk result (λ _. self.new.started ≡ true) }

@@ -13,26 +13,25 @@ ghost use Rattle.ecma_spells.specs.Fronts as fronts;
 ghost use Rattle.ecma_reading.specs.Source as spec;
 ghost use Rattle.ecma_parse_state.specs.Codes.{code_of};
 ghost use Rattle.ecma_parse_state.specs.Fronts.{machine_of};
-ghost use Rattle.ecma_parse_state.specs.Stands.{stand};
 ghost use Rattle.ecma_parse_entries.specs.Items as items;
 ghost use Rattle.ecma_parse_entries.specs.Parts as reads;
-ghost use Rattle.ecma_parser.specs.Entries.{ctx_in, faults_in, limit_in, opened, syntax_in};
+ghost use Rattle.ecma_parser.specs.Entries.{ctx_in, faults_in, limit_in, opened, stood, syntax_in};
 ghost use Rattle.ecma_parser.specs.Parts.{ParsesPart, ReadsPart, module_part, script_part};
 
-use crate::entries::Entries;
+use crate::entries::{Entries, Reading};
 use crate::faults::{PResult, told};
 use crate::programs::{in_module, in_script};
 use crate::rules::{Binding, Expression, Key, ListItem, Parameters, Statement};
 use ecma_early_errors::part_errors;
 use ecma_node::{ExprBox, ModuleItem, Param, PatBox, PropName, StmtBox};
 use ecma_parse_entries::items::module_item_part;
+use ecma_parse_state::Around;
 use ecma_parse_state::operators::{ASSIGNMENT, EXPRESSION};
-use ecma_parse_state::{Around, Parser};
 use ecma_token::{Context, Error, Syntax};
 use ecma_tokens::Tokens;
 use ecma_tokens::settings::out_of_memory;
 
-impl<'a, I: Tokens<'a> + Drop> Entries<Parser<'a, I>> {
+impl<'a, I: Tokens<'a> + Drop> Entries<Reading<'a, I>> {
     /// An expression (ECMA-262, 13.16), as in a script, up to what doesn't go on with it. Its early errors are recorded.
     ///
     /// # Errors
@@ -40,7 +39,7 @@ impl<'a, I: Tokens<'a> + Drop> Entries<Parser<'a, I>> {
     /// Want of memory, a text that nests deeper than the limit, or a fault of the text: also where the expression would
     /// go on, or a line break alone keeps the next token off.
     pub fn parse_expr(&mut self) -> PResult<ExprBox>
-        ensures value { ParsesPart (machine_of I.machine) (ctx_in I.state self.old) (λ x. inner x.part.value) (early_errors (syntax_in I.state self.old)) result (script_part I.machine I.state (reads.expression_part (machine_of I.machine) expression_level) self.old) (stand I.state self.new.reading) (faults_in self.old) (faults_in self.new) }
+        ensures value { ParsesPart (machine_of I.machine) (ctx_in I.state self.old) (λ x. inner x.part.value) (early_errors (syntax_in I.state self.old)) result (script_part I.machine I.state (reads.expression_part (machine_of I.machine) expression_level) self.old) (stood I.state self.new) (faults_in self.old) (faults_in self.new) }
         ensures holds { IfOk result (λ x. holds_expr x.part.value) }
         ensures context { ctx_in I.state self.new ≡ ctx_in I.state self.old }
         ensures started { IfOk result (λ _. self.new.started ≡ true) }
@@ -56,7 +55,7 @@ impl<'a, I: Tokens<'a> + Drop> Entries<Parser<'a, I>> {
     /// Want of memory, a text that nests deeper than the limit, or a fault of the text: also where the expression would
     /// go on, or a line break alone keeps the next token off.
     pub fn parse_assignment_expr(&mut self) -> PResult<ExprBox>
-        ensures value { ParsesPart (machine_of I.machine) (ctx_in I.state self.old) (λ x. inner x.part.value) (early_errors (syntax_in I.state self.old)) result (script_part I.machine I.state (reads.expression_part (machine_of I.machine) assignment_level) self.old) (stand I.state self.new.reading) (faults_in self.old) (faults_in self.new) }
+        ensures value { ParsesPart (machine_of I.machine) (ctx_in I.state self.old) (λ x. inner x.part.value) (early_errors (syntax_in I.state self.old)) result (script_part I.machine I.state (reads.expression_part (machine_of I.machine) assignment_level) self.old) (stood I.state self.new) (faults_in self.old) (faults_in self.new) }
         ensures holds { IfOk result (λ x. holds_expr x.part.value) }
         ensures context { ctx_in I.state self.new ≡ ctx_in I.state self.old }
         ensures started { IfOk result (λ _. self.new.started ≡ true) }
@@ -72,7 +71,7 @@ impl<'a, I: Tokens<'a> + Drop> Entries<Parser<'a, I>> {
     ///
     /// Want of memory, a text that nests deeper than the limit, or a fault of the text.
     pub fn parse_pat(&mut self) -> PResult<PatBox>
-        ensures value { ParsesPart (machine_of I.machine) (ctx_in I.state self.old) (λ x. inner x.part.value) (early_errors (syntax_in I.state self.old)) result (script_part I.machine I.state (reads.binding_part (machine_of I.machine)) self.old) (stand I.state self.new.reading) (faults_in self.old) (faults_in self.new) }
+        ensures value { ParsesPart (machine_of I.machine) (ctx_in I.state self.old) (λ x. inner x.part.value) (early_errors (syntax_in I.state self.old)) result (script_part I.machine I.state (reads.binding_part (machine_of I.machine)) self.old) (stood I.state self.new) (faults_in self.old) (faults_in self.new) }
         ensures holds { IfOk result (λ x. holds_pat x.part.value) }
         ensures context { ctx_in I.state self.new ≡ ctx_in I.state self.old }
         ensures started { IfOk result (λ _. self.new.started ≡ true) }
@@ -87,7 +86,7 @@ impl<'a, I: Tokens<'a> + Drop> Entries<Parser<'a, I>> {
     ///
     /// Want of memory, a text that nests deeper than the limit, or a fault of the text.
     pub fn parse_binding_pat_or_ident(&mut self) -> PResult<PatBox>
-        ensures value { ParsesPart (machine_of I.machine) (ctx_in I.state self.old) (λ x. inner x.part.value) (early_errors (syntax_in I.state self.old)) result (script_part I.machine I.state (reads.binding_part (machine_of I.machine)) self.old) (stand I.state self.new.reading) (faults_in self.old) (faults_in self.new) }
+        ensures value { ParsesPart (machine_of I.machine) (ctx_in I.state self.old) (λ x. inner x.part.value) (early_errors (syntax_in I.state self.old)) result (script_part I.machine I.state (reads.binding_part (machine_of I.machine)) self.old) (stood I.state self.new) (faults_in self.old) (faults_in self.new) }
         ensures holds { IfOk result (λ x. holds_pat x.part.value) }
         ensures context { ctx_in I.state self.new ≡ ctx_in I.state self.old }
         ensures started { IfOk result (λ _. self.new.started ≡ true) }
@@ -103,7 +102,7 @@ impl<'a, I: Tokens<'a> + Drop> Entries<Parser<'a, I>> {
     ///
     /// Want of memory, a text that nests deeper than the limit, or a fault of the text.
     pub fn parse_formal_params(&mut self) -> PResult<Vec<Param>>
-        ensures value { ParsesPart (machine_of I.machine) (ctx_in I.state self.old) (λ x. list (trees_by (view_param inner) x.items)) (early_errors (syntax_in I.state self.old)) result (script_part I.machine I.state (reads.parameters_part (machine_of I.machine)) self.old) (stand I.state self.new.reading) (faults_in self.old) (faults_in self.new) }
+        ensures value { ParsesPart (machine_of I.machine) (ctx_in I.state self.old) (λ x. list (trees_by (view_param inner) x.items)) (early_errors (syntax_in I.state self.old)) result (script_part I.machine I.state (reads.parameters_part (machine_of I.machine)) self.old) (stood I.state self.new) (faults_in self.old) (faults_in self.new) }
         ensures fits { IfOk result (λ x. All (λ x. fits_param (λ p. p) x) x.items) }
         ensures context { ctx_in I.state self.new ≡ ctx_in I.state self.old }
         ensures started { IfOk result (λ _. self.new.started ≡ true) }
@@ -118,7 +117,7 @@ impl<'a, I: Tokens<'a> + Drop> Entries<Parser<'a, I>> {
     ///
     /// Want of memory, a text that nests deeper than the limit, or a fault of the text.
     pub fn parse_prop_name(&mut self) -> PResult<PropName>
-        ensures value { ParsesPart (machine_of I.machine) (ctx_in I.state self.old) (view_prop_name inner) (early_errors (syntax_in I.state self.old)) result (script_part I.machine I.state (reads.key_part (machine_of I.machine)) self.old) (stand I.state self.new.reading) (faults_in self.old) (faults_in self.new) }
+        ensures value { ParsesPart (machine_of I.machine) (ctx_in I.state self.old) (view_prop_name inner) (early_errors (syntax_in I.state self.old)) result (script_part I.machine I.state (reads.key_part (machine_of I.machine)) self.old) (stood I.state self.new) (faults_in self.old) (faults_in self.new) }
         ensures fits { IfOk result (λ x. fits_prop_name (λ p. p) x) }
         ensures context { ctx_in I.state self.new ≡ ctx_in I.state self.old }
         ensures started { IfOk result (λ _. self.new.started ≡ true) }
@@ -134,7 +133,7 @@ impl<'a, I: Tokens<'a> + Drop> Entries<Parser<'a, I>> {
     ///
     /// Want of memory, a text that nests deeper than the limit, or a fault of the text.
     pub fn parse_stmt(&mut self, top_level: bool) -> PResult<StmtBox>
-        ensures value { ParsesPart (machine_of I.machine) (ctx_in I.state self.old) (λ x. inner x.part.value) (fronts.item_errors (syntax_in I.state self.old) top_level) result (script_part I.machine I.state (items.statement_part (machine_of I.machine)) self.old) (stand I.state self.new.reading) (faults_in self.old) (faults_in self.new) }
+        ensures value { ParsesPart (machine_of I.machine) (ctx_in I.state self.old) (λ x. inner x.part.value) (fronts.item_errors (syntax_in I.state self.old) top_level) result (script_part I.machine I.state (items.statement_part (machine_of I.machine)) self.old) (stood I.state self.new) (faults_in self.old) (faults_in self.new) }
         ensures holds { IfOk result (λ x. holds_stmt x.part.value) }
         ensures context { ctx_in I.state self.new ≡ ctx_in I.state self.old }
         ensures started { IfOk result (λ _. self.new.started ≡ true) }
@@ -150,7 +149,7 @@ impl<'a, I: Tokens<'a> + Drop> Entries<Parser<'a, I>> {
     ///
     /// Want of memory, a text that nests deeper than the limit, or a fault of the text.
     pub fn parse_stmt_list_item(&mut self, top_level: bool) -> PResult<StmtBox>
-        ensures value { ParsesPart (machine_of I.machine) (ctx_in I.state self.old) (λ x. inner x.part.value) (fronts.item_errors (syntax_in I.state self.old) top_level) result (script_part I.machine I.state (items.list_item_part (machine_of I.machine)) self.old) (stand I.state self.new.reading) (faults_in self.old) (faults_in self.new) }
+        ensures value { ParsesPart (machine_of I.machine) (ctx_in I.state self.old) (λ x. inner x.part.value) (fronts.item_errors (syntax_in I.state self.old) top_level) result (script_part I.machine I.state (items.list_item_part (machine_of I.machine)) self.old) (stood I.state self.new) (faults_in self.old) (faults_in self.new) }
         ensures holds { IfOk result (λ x. holds_stmt x.part.value) }
         ensures context { ctx_in I.state self.new ≡ ctx_in I.state self.old }
         ensures started { IfOk result (λ _. self.new.started ≡ true) }
@@ -167,7 +166,7 @@ impl<'a, I: Tokens<'a> + Drop> Entries<Parser<'a, I>> {
     /// Want of memory, a text that nests deeper than the limit, or a fault of the text.
     #[tactic(auto, unfolding(crate::specs::Parts::left_in))]
     pub fn parse_module_item(&mut self) -> PResult<ModuleItem>
-        ensures value { ParsesPart (machine_of I.machine) (ctx_in I.state self.old) (view_module_item inner) (early.faults_in (outermost (syntax_in I.state self.old) true)) result (module_part I.machine I.state (items.module_item_part (machine_of I.machine)) self.old) (stand I.state self.new.reading) (faults_in self.old) (faults_in self.new) }
+        ensures value { ParsesPart (machine_of I.machine) (ctx_in I.state self.old) (view_module_item inner) (early.faults_in (outermost (syntax_in I.state self.old) true)) result (module_part I.machine I.state (items.module_item_part (machine_of I.machine)) self.old) (stood I.state self.new) (faults_in self.old) (faults_in self.new) }
         ensures fits { IfOk result (λ x. fits_module_item (λ p. p) x) }
         ensures context { ctx_in I.state self.new ≡ ctx_in I.state self.old }
         ensures started { IfOk result (λ _. self.new.started ≡ true) }
@@ -183,7 +182,7 @@ impl<'a, I: Tokens<'a> + Drop> Entries<Parser<'a, I>> {
     pub(crate) fn open_script(&mut self) -> PResult<Around>
         ensures code { IfOk result (λ c. code_of c ≡ script_code (syntax_in I.state self.old)) }
         ensures syntax { IfOk result (λ c. c.syntax ≡ syntax_in I.state self.old) }
-        ensures stand { OnOk result (stand I.state self.new.reading ≡ opened I.machine I.state (script_code (syntax_in I.state self.old)).context self.old) }
+        ensures stand { OnOk result (stood I.state self.new ≡ opened I.machine I.state (script_code (syntax_in I.state self.old)).context self.old) }
         ensures started { IfOk result (λ _. self.new.started ≡ true) }
         ensures limit { limit_in self.new ≡ limit_in self.old }
         ensures faults { faults_in self.new ≡ faults_in self.old }
@@ -191,7 +190,7 @@ impl<'a, I: Tokens<'a> + Drop> Entries<Parser<'a, I>> {
     {
         let Syntax::Es(syntax) = self.reading.input.syntax();
         let code = in_script(syntax);
-        self.open(code.context)?;
+        self.open(code.context, true)?;
         Ok(code)
     }
 
@@ -199,7 +198,7 @@ impl<'a, I: Tokens<'a> + Drop> Entries<Parser<'a, I>> {
     fn open_module(&mut self) -> PResult<Around>
         ensures code { IfOk result (λ c. code_of c ≡ module_code (syntax_in I.state self.old)) }
         ensures syntax { IfOk result (λ c. c.syntax ≡ syntax_in I.state self.old) }
-        ensures stand { OnOk result (stand I.state self.new.reading ≡ opened I.machine I.state (module_code (syntax_in I.state self.old)).context self.old) }
+        ensures stand { OnOk result (stood I.state self.new ≡ opened I.machine I.state (module_code (syntax_in I.state self.old)).context self.old) }
         ensures started { IfOk result (λ _. self.new.started ≡ true) }
         ensures limit { limit_in self.new ≡ limit_in self.old }
         ensures faults { faults_in self.new ≡ faults_in self.old }
@@ -207,14 +206,14 @@ impl<'a, I: Tokens<'a> + Drop> Entries<Parser<'a, I>> {
     {
         let Syntax::Es(syntax) = self.reading.input.syntax();
         let code = in_module(syntax);
-        self.open(code.context)?;
+        self.open(code.context, true)?;
         Ok(code)
     }
 
     /// Tells the source of the code again that it was told before.
     #[tactic(auto, unfolding(ecma_parse_state::specs::Fronts::machine_of))]
     pub(crate) fn leave(&mut self, before: Context)
-        ensures stand { stand I.state self.new.reading ≡ spec.turned (machine_of I.machine) before (stand I.state self.old.reading) }
+        ensures stand { stood I.state self.new ≡ spec.turned (machine_of I.machine) before (stood I.state self.old) }
         ensures context { ctx_in I.state self.new ≡ before }
         ensures started { self.new.started ≡ self.old.started }
         ensures limit { limit_in self.new ≡ limit_in self.old }
@@ -238,7 +237,7 @@ impl<'a, I: Tokens<'a> + Drop> Entries<Parser<'a, I>> {
     /// An item of a module.
     #[tactic(auto, using(crate::proofs::Read::fails_read))]
     fn module_item(&mut self) -> PResult<ModuleItem>
-        ensures value { ReadsPart (view_module_item inner) (early.faults_in (outermost (syntax_in I.state self.old) true)) result (module_part I.machine I.state (items.module_item_part (machine_of I.machine)) self.old) (stand I.state self.new.reading) (faults_in self.old) (faults_in self.new) }
+        ensures value { ReadsPart (view_module_item inner) (early.faults_in (outermost (syntax_in I.state self.old) true)) result (module_part I.machine I.state (items.module_item_part (machine_of I.machine)) self.old) (stood I.state self.new) (faults_in self.old) (faults_in self.new) }
         ensures fits { IfOk result (λ x. fits_module_item (λ p. p) x) }
         ensures started { IfOk result (λ _. self.new.started ≡ true) }
         ensures limit { limit_in self.new ≡ limit_in self.old }

@@ -10,12 +10,12 @@ ghost use Rattle.ecma_parse_entries.specs.Within.{program_within};
 ghost use Rattle.ecma_parser.specs.Answers.{Parses};
 ghost use Rattle.ecma_parser.specs.Entries.{ctx_in, faults_in, limit_in, opened, syntax_in};
 
-use crate::entries::Entries;
+use crate::entries::{Entries, Reading};
 use crate::faults::{PResult, told};
 use ecma_early_errors::{module_errors, script_errors};
 use ecma_node::{Module, Script};
 use ecma_parse_entries::within::{module_within, script_within};
-use ecma_parse_state::{Around, Failure, Parser};
+use ecma_parse_state::{Around, Failure};
 use ecma_token::{Context, EsSyntax, Syntax};
 use ecma_tokens::Tokens;
 use ecma_tokens::settings::out_of_memory;
@@ -55,7 +55,7 @@ pub(crate) fn in_module(syntax: EsSyntax) -> Around
     }
 }
 
-impl<'a, I: Tokens<'a> + Drop> Entries<Parser<'a, I>> {
+impl<'a, I: Tokens<'a> + Drop> Entries<Reading<'a, I>> {
     /// The rest of the source as a script. Its early errors are recorded.
     ///
     /// # Errors
@@ -101,7 +101,7 @@ impl<'a, I: Tokens<'a> + Drop> Entries<Parser<'a, I>> {
     {
         let Syntax::Es(syntax) = self.reading.input.syntax();
         let code = in_script(syntax);
-        self.open(code.context)?;
+        self.open(code.context, false)?;
         let script = match script_within(&mut self.reading, self.limit, code) {
             Ok(script) => script,
             Err(failure) => return Err(told(failure)),
@@ -122,7 +122,7 @@ impl<'a, I: Tokens<'a> + Drop> Entries<Parser<'a, I>> {
     {
         let Syntax::Es(syntax) = self.reading.input.syntax();
         let code = in_module(syntax);
-        self.open(code.context)?;
+        self.open(code.context, false)?;
         let module = match module_within(&mut self.reading, self.limit, code) {
             Ok(module) => module,
             Err(failure) => return Err(told(failure)),

@@ -31,6 +31,7 @@ fn print_return<'a, W: WriteJs>(p: &mut Printer<W>, part: &'a str) -> &'a str
 }
 
 /// Prints a part but for a CR at its end, and answers whether there is one.
+#[inline(always)]
 fn print_front<W: WriteJs>(p: &mut Printer<W>, part: &str) -> bool
     ensures { Leaves W.tells W.state W.failed_writes W.loans part.now (held_back result) p.old.wr p.old.fault p.new.wr p.new.fault }
 {
@@ -48,6 +49,7 @@ fn print_front<W: WriteJs>(p: &mut Printer<W>, part: &str) -> bool
 
 /// Prints a part of a text, where `held` says whether a CR is held back before it. It answers whether one is
 /// held back at its end.
+#[inline]
 pub fn print_part<W: WriteJs>(p: &mut Printer<W>, held: bool, part: &str) -> bool
     ensures { Leaves W.tells W.state W.failed_writes W.loans (held_back held ++ part.now) (held_back result) p.old.wr p.old.fault p.new.wr p.new.fault }
 {
@@ -62,6 +64,7 @@ pub fn print_part<W: WriteJs>(p: &mut Printer<W>, held: bool, part: &str) -> boo
 }
 
 /// Prints the CR that is held back behind the last part of a text, if there is one.
+#[inline]
 pub fn print_held<W: WriteJs>(p: &mut Printer<W>, held: bool)
     ensures { Prints W.tells W.state W.failed_writes W.loans (looks.text (held_back held)) p.old.wr p.old.fault p.new.wr p.new.fault }
 {

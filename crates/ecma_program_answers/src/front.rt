@@ -27,7 +27,7 @@ fn syntax(question: &Question<'_>) -> EsSyntax {
         allow_super_outside_method: has_all,
         allow_return_outside_function: has_all,
         auto_accessors: has_all,
-        explicit_resource_management: has_all,
+        explicit_resource_management: has_all || question.has("using"),
     }
 }
 

@@ -8,6 +8,7 @@ mod front;
 mod part;
 mod print;
 mod read;
+mod trees;
 
 use ecma_answers::{Answer, Question, Subject, answer_all};
 use std::env;
@@ -26,6 +27,7 @@ impl Subject for Programs {
             "count" => families::tell(question, answer),
             "front" => front::tell(question, answer),
             "run" => front::tell_run(question, answer),
+            "tree" => trees::tell(question, answer),
             "messages" => front::tell_messages(answer),
             "place" => front::tell_place(question, answer),
             _ => Err(anyhow::Error::msg("no such question")),

@@ -39,6 +39,11 @@ fn part<'a>(
     }
 }
 
+/// Tells the outline of the program that stands behind a part.
+fn tell_program(alloc: Global, program: &Program, answer: &mut Answer) -> anyhow::Result<()> {
+    Ok(answer.say(outline(alloc, program)?.as_str())?)
+}
+
 /// Tells the outline of what stands behind a part, as a script: nothing at the end, and `none` where it is no script.
 fn tell_rest<'a>(
     alloc: Global,
@@ -49,13 +54,29 @@ fn tell_rest<'a>(
         Ok(script) if script.body.is_empty() => Ok(answer.say("")?),
         Ok(script) => {
             let kind = ProgramKind::Script(script);
-            Ok(answer.say(outline(alloc, &Program { kind })?.as_str())?)
+            tell_program(alloc, &Program { kind }, answer)
         }
         Err(_) => Ok(answer.say("none")?),
     }
 }
 
-/// The outline of the part at the front of a text, that of what stands behind it, and the part's early errors; or why it is refused.
+/// The same as a module, with the kind and the place of the fault where it is none.
+fn tell_module<'a>(
+    alloc: Global,
+    parser: &mut Parser<'a, Lexer<'a>>,
+    answer: &mut Answer,
+) -> anyhow::Result<()> {
+    match parser.parse_module() {
+        Ok(module) if module.body.is_empty() => Ok(answer.say("")?),
+        Ok(module) => {
+            let kind = ProgramKind::Module(module);
+            tell_program(alloc, &Program { kind }, answer)
+        }
+        Err(error) => Ok(answer.say(format_args!("refused {:?} {}", error.kind, error.span.lo.0))?),
+    }
+}
+
+/// The outline of the part at the front of a text, that of what stands behind it, read by the same parser, and the part's early errors; or why it is refused.
 pub fn tell(question: &Question<'_>, answer: &mut Answer) -> anyhow::Result<()> {
     let alloc = answer.alloc();
     let mut parser = parser(alloc, question.text(0), reading_of(question))?;
@@ -64,7 +85,11 @@ pub fn tell(question: &Question<'_>, answer: &mut Answer) -> anyhow::Result<()> 
             let faults = parser.take_errors();
             answer.say("read")?;
             answer.say(outline.as_str())?;
-            tell_rest(alloc, &mut parser, answer)?;
+            if question.has("module") {
+                tell_module(alloc, &mut parser, answer)?;
+            } else {
+                tell_rest(alloc, &mut parser, answer)?;
+            }
             tell_faults(faults.as_slice(), answer)
         }
         Err(error) => refuse(&error, answer),

@@ -14,7 +14,7 @@ use std::alloc::Global;
 
 /// How a text is written.
 #[derive(Clone, Copy, Debug)]
-struct Style {
+pub struct Style {
     cfg: Config,
     /// What ends a line.
     line_end: &'static str,
@@ -53,7 +53,7 @@ fn indent(question: &Question<'_>) -> &'static str {
 }
 
 /// How a question's text is written.
-fn style_of(question: &Question<'_>) -> Style {
+pub fn style_of(question: &Question<'_>) -> Style {
     let minify = question.has("minify");
     Style {
         cfg: Config {
@@ -143,7 +143,7 @@ fn emit_to<W: CountedWrite + Drop>(
 }
 
 /// Prints a program through one block. Where it fails in between, what waits in the block is not written.
-fn print_to<W: CountedWrite>(
+pub fn print_to<W: CountedWrite>(
     alloc: Global,
     program: &Program,
     style: Style,

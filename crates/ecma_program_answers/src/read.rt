@@ -106,7 +106,7 @@ pub fn tell(question: &Question<'_>, answer: &mut Answer) -> anyhow::Result<()> 
 }
 
 /// The program that a text is. Its early errors don't matter.
-fn program_of(alloc: Global, text: &str, reading: Reading) -> anyhow::Result<Program> {
+pub fn program_of(alloc: Global, text: &str, reading: Reading) -> anyhow::Result<Program> {
     match read(alloc, text, reading)? {
         Ok((program, _)) => Ok(program),
         Err(_) => Err(anyhow::Error::msg("a text is no program")),

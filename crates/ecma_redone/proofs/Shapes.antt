@@ -1,7 +1,7 @@
 -- A tree given anew nests as deep, and nothing of a cover is left in it where nothing was.
 use Rattle.std.proofs.Common.{◌≡◌, ◌+◌, ◌||◌, ℕ, max, Bool, true, false, if◌then◌else◌, List, [], ◌∷◌, refl, sym, ap, ◌∙◌}
 use Rattle.ecma_token.specs.declared.place.Span.{Span}
-use Rattle.ecma_tree.specs.Tree.{Tree, none, more, bin_expr, if_stmt, assign_prop, list, absent}
+use Rattle.ecma_tree.specs.Tree.{Tree, none, more, if_stmt, assign_prop, list, absent}
 use Rattle.ecma_tree.specs.Folds.{fold}
 use Rattle.ecma_nesting.specs.Nesting.{deepest, is_if, nesting_step}
 use Rattle.ecma_syntax.specs.Shape.{clean_step, is_clean}
@@ -18,8 +18,6 @@ re_is_if l m (if_stmt s t a b) = refl
 re_is_if l m _ = refl
 
 nests : (l : Leaves) (m : Mode) (t : Tree) (ks : List (List ℕ)) → nesting_step (redo l m t) ks ≡ nesting_step t ks
-nests l m (bin_expr s op a b) [] = refl
-nests l m (bin_expr s op a b) (x ∷ xs) = refl
 nests l m (if_stmt s t a b) (x ∷ (y ∷ zs)) = ap (λ (v : Bool). max (deepest (x ∷ y ∷ []) + 1) (if v then deepest zs else deepest zs + 1)) (re_is_if l Plain b)
 nests l m _ ks = refl
 

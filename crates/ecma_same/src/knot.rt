@@ -1,17 +1,22 @@
-//! Expressions, statements, patterns and programs. Left operands and `else if` go in loops, so that no chain of them is
-//! too long.
-ghost use Rattle.std.specs.Prelude.{◌≡◌, true, false};
+//! Expressions, statements, patterns and programs. What chains go on from (left operands, objects of members, callees and tags)
+//! and `else if` go in loops, so that no chain of them is too long.
+ghost use Rattle.std.specs.Prelude.{◌≡◌, ◌<◌, ◌&&◌, true, false, IfSome};
 ghost use Rattle.std.specs.Bool.{Decides};
+ghost use Rattle.ecma_tree.specs.Codes.{tree_size};
+ghost use Rattle.ecma_equal.specs.Same.{same};
 ghost use Rattle.ecma_node.specs.Placed.{inner};
 ghost use Rattle.ecma_program.specs.Program.{IsSameProgram};
 ghost use Rattle.ecma_same.specs.Sorts.{is_statement, is_pattern, is_node};
 ghost use Rattle.ecma_same.specs.Compared.{is_use_strict};
 ghost use Rattle.ecma_same.specs.Seen.{is_in_stmt, is_in_pat};
 
+use crate::expressions::same_template;
 use crate::parts::{Held, Present, Same};
 use crate::texts::str_is_use_strict;
 use crate::words::same_binary_op;
-use ecma_node::{Expr, ExprKind, Lit, Part, PartKind, Pat, Program, Stmt, StmtKind};
+use ecma_node::{
+    Callee, Expr, ExprKind, Lit, OptChainBase, Part, PartKind, Pat, Program, Stmt, StmtKind,
+};
 
 /// Whether two programs are the same: what they say without places and spellings is equal. It takes no memory.
 #[tactic(auto, using(crate::proofs::Knots::program_decides))]
@@ -134,20 +139,59 @@ impl Same for Expr {
     ghost tree = { λ t. t };
 
     #[cycle(same)]
-    #[tactic(auto, using(crate::proofs::Chains::bin_chain))]
+    #[tactic(auto, using(crate::proofs::Chains::expr_chain))]
     fn same(&self, other: &Expr) -> bool {
         let mut expr = self;
         let mut other_expr = other;
-        'chain: loop {
-            let (ExprKind::Bin(x), ExprKind::Bin(y)) = (&expr.kind, &other_expr.kind) else {
-                return expr.kind.same(&other_expr.kind);
-            };
-            if !same_binary_op(x.op, y.op) || !(*x.right.part).same(&*y.right.part) {
+        'chain: while let Some((rest, left, other_left)) = left_parts(expr, other_expr) {
+            if !rest {
                 return false;
             }
-            expr = x.left.get();
-            other_expr = y.left.get();
+            expr = left;
+            other_expr = other_left;
         }
+        expr.kind.same(&other_expr.kind)
+    }
+}
+
+/// The left parts of two links of a kind, which are left operands, objects of members, callees or tags, behind whether what stands
+/// right of them is the same. Nothing of what is no link, or of links with other operators, and where only one is optional.
+#[cycle(same)]
+#[tactic(auto, using(crate::proofs::Chains::links))]
+fn left_parts<'e>(expr: &'e Expr, other: &'e Expr) -> Option<(bool, &'e Expr, &'e Expr)>
+    ensures same { IfSome result (λ r. same expr.now other.now ≡ (r.0 && same r.1.now r.2.now)) }
+    ensures smaller { IfSome result (λ r. (tree_size r.1.now < tree_size expr.now) × (tree_size r.2.now < tree_size other.now)) }
+{
+    match (&expr.kind, &other.kind) {
+        (ExprKind::Bin(x), ExprKind::Bin(y)) if same_binary_op(x.op, y.op) => {
+            let rest = (*x.right.part).same(&*y.right.part);
+            Some((rest, x.left.get(), y.left.get()))
+        }
+        (ExprKind::Member(x), ExprKind::Member(y)) => {
+            Some((x.prop.same(&y.prop), x.obj.get(), y.obj.get()))
+        }
+        (ExprKind::TaggedTpl(x), ExprKind::TaggedTpl(y)) => {
+            let rest = same_template(&x.tpl, &y.tpl);
+            Some((rest, x.tag.get(), y.tag.get()))
+        }
+        (ExprKind::Call(x), ExprKind::Call(y)) => match (&x.callee, &y.callee) {
+            (Callee::Expr(callee), Callee::Expr(other_callee)) => {
+                Some((x.args.same(&y.args), callee.get(), other_callee.get()))
+            }
+            _ => None,
+        },
+        (ExprKind::OptChain(x), ExprKind::OptChain(y)) if x.optional == y.optional => {
+            match (&x.base, &y.base) {
+                (OptChainBase::Member(a), OptChainBase::Member(b)) => {
+                    Some((a.prop.same(&b.prop), a.obj.get(), b.obj.get()))
+                }
+                (OptChainBase::Call(a), OptChainBase::Call(b)) => {
+                    Some((a.args.same(&b.args), a.callee.get(), b.callee.get()))
+                }
+                _ => None,
+            }
+        }
+        _ => None,
     }
 }
 

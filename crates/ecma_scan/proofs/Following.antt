@@ -12,7 +12,7 @@ use Rattle.ecma_scan.specs.Characters.{is_line_terminator}
 use Rattle.ecma_scan.specs.Classes.{is_line_char}
 use Rattle.ecma_scan.specs.Names.{is_nil}
 use Rattle.ecma_scan.specs.Runs.{after}
-use Rattle.ecma_scan.specs.Trivia.{Piece, WhiteSpace, LineTerminator, Follow, IsBlank, IsPiece, breaks}
+use Rattle.ecma_scan.specs.Trivia.{Piece, WhiteSpace, LineTerminator, Follow, IsBlank, IsPassed, IsPiece, breaks}
 
 or_false : (b : Bool) → (b || false) ≡ b
 or_false true = refl
@@ -75,6 +75,10 @@ pub skipped_blank : (goal : Goal) (first : Bool) (text mid rest : List ℕ) (bro
     → Skipped goal first text (broke || b) rest
 skipped_blank goal first text mid rest broke b h k =
     skipped_more goal first text mid rest broke (broke || b) (blank_piece b) h (blank_is goal (first || broke) b mid rest k) (ap (λ x. broke || x) (sym (blank_breaks b)))
+
+-- a blank is passed as the piece that it is
+pub passed_blank : (goal : Goal) (first b : Bool) (text rest : List ℕ) → IsBlank text b rest → IsPassed goal first text b rest
+passed_blank goal first b text rest h = (blank_piece b, blank_is goal first b text rest h, sym (blank_breaks b))
 
 -- ---- whether a text holds a line terminator
 

@@ -111,6 +111,10 @@ IsTrivia goal first text ps rest = Follow goal first text ps rest × NoTrivia go
 abbrev pub IsFaultAfter : ℕ → Goal → Bool → List ℕ → Error → Type 0
 IsFaultAfter end goal first text e = (ps : List Piece) × (rest : List ℕ) × Follow goal first text ps rest × IsFault end goal (first || list_any breaks ps) rest e
 
+-- A piece of trivia that breaks the line or not stands at the front of a text, and then the rest.
+abbrev pub IsPassed : Goal → Bool → List ℕ → Bool → List ℕ → Type 0
+IsPassed goal first text broke rest = (p : Piece) × IsPiece goal first text p rest × (broke ≡ breaks p)
+
 -- the whole run of trivia at the front, and whether it breaks the line
 abbrev pub IsSkipped : Goal → Bool → List ℕ → Bool → List ℕ → Type 0
 IsSkipped goal first text broke rest = (ps : List Piece) × IsTrivia goal first text ps rest × (broke ≡ list_any breaks ps)

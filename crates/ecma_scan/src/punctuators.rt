@@ -168,6 +168,7 @@ fn greater(rest: &str) -> (TokenKind, &str)
 }
 
 /// The longest punctuator that begins with this character, before this rest.
+#[inline(always)]
 fn longest(c: char, rest: &str) -> Option<(TokenKind, &str)>
     ensures value { option_map (λ x. (x.0, chars x.1.now)) result ≡ find (tails c punctuators) (chars rest.now) }
     ensures rest { IfSome result (λ x. IsUtf8 x.1.now × (length x.1.now ≤ length rest.now)) }
@@ -214,6 +215,7 @@ fn begins_with_digit(text: &str) -> bool
 }
 
 /// The punctuator at the front of a text.
+#[inline(always)]
 fn read<'a>(text: &'a str) -> Option<(TokenKind, &'a str)>
     ensures value { option_map (λ x. (x.0, chars x.1.now)) result ≡ read_punctuator (chars text.now) }
     ensures rest { IfSome result (λ x. IsUtf8 x.1.now × (length x.1.now < length text.now)) }
@@ -228,6 +230,7 @@ fn read<'a>(text: &'a str) -> Option<(TokenKind, &'a str)>
 /// The longest punctuator at the front of a text, as the kind of its token, and what follows it, or
 /// nothing where none stands there (ECMA-262, 12.8). `?.` is read as `?`, and a dot before a digit as
 /// none, since a number begins there. `#` and `@` are read as well.
+#[inline(always)]
 pub fn punctuator<'a>(text: &'a str) -> Option<(TokenKind, &'a str)>
     ensures punctuator { MatchOption result (NoPunctuator (chars text.now))
         (λ x. IsPunctuator (chars text.now) x.0 (chars x.1.now)) }

@@ -123,7 +123,7 @@ fn split_run(text: &str, class: Class) -> (&str, &str)
 }
 
 /// What follows what a name goes on with at the front of a text (ECMA-262, 12.7).
-#[inline]
+#[inline(always)]
 pub(crate) fn after_name_part(text: &str) -> &str
     ensures after { chars result.now ≡ after spec.is_name_part (chars text.now) }
     ensures rest { IsUtf8 result.now × (length result.now ≤ length text.now) }
@@ -132,7 +132,7 @@ pub(crate) fn after_name_part(text: &str) -> &str
 }
 
 /// What follows the white space at the front of a text (ECMA-262, 12.2).
-#[inline]
+#[inline(always)]
 pub(crate) fn after_white_space(text: &str) -> &str
     ensures after { chars result.now ≡ after spec.is_white_space (chars text.now) }
     ensures rest { IsUtf8 result.now × (length result.now ≤ length text.now) }

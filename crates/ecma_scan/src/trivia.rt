@@ -3,7 +3,7 @@ ghost use Rattle.std.specs.Prelude.{◌≡◌, ◌==◌, ◌||◌, ◌&&◌, fal
 ghost use Rattle.std.specs.Str.{chars};
 ghost use Rattle.ecma_scan.specs.ReadingTrivia as reading;
 ghost use Rattle.ecma_scan.specs.ReadingTrivia.{Agrees, Found, view};
-ghost use Rattle.ecma_scan.specs.Trivia.{IsBlank, IsFault, IsFaultAfter, IsHashbang, IsPiece, IsSkipped, NoHashbang, NoPiece, NoTrivia, breaks};
+ghost use Rattle.ecma_scan.specs.Trivia.{IsBlank, IsFault, IsFaultAfter, IsHashbang, IsPassed, IsPiece, IsSkipped, NoHashbang, NoPiece, NoTrivia, breaks};
 ghost use Rattle.ecma_scan.specs.declared.trivia.Goal.{Goal};
 
 use crate::bytes::{ByteClass, byte_class};
@@ -258,6 +258,30 @@ fn may_begin(first: bool, text: &str) -> bool
     }
 }
 
+/// Passes the blank or the comment at the front of a text: whether it breaks the line, and what follows it, or nothing
+/// where none stands there. `first` and the faults are those of `trivia_piece`.
+fn pass_piece<'a>(
+    end: u32,
+    goal: Goal,
+    first: bool,
+    text: &'a str,
+) -> Result<Option<(bool, &'a str)>, Error>
+    requires { length text.now < end }
+    ensures piece { MatchResult result
+        (λ o. MatchOption o (NoTrivia goal first (chars text.now))
+        (λ x. IsPassed goal first (chars text.now) x.0 (chars x.1.now)))
+        (λ e. NoPiece goal first (chars text.now) × IsFault end goal first (chars text.now) e) }
+    ensures rest { IfOk result (λ o. IfSome o (λ x. IsUtf8 x.1.now × (length x.1.now < length text.now))) }
+{
+    if let Some((line_break, rest)) = blank(text) {
+        return Ok(Some((line_break, rest)));
+    }
+    match trivia_piece(end, goal, first, text)? {
+        Some((piece, rest)) => Ok(Some((piece.breaks_line(), rest))),
+        None => Ok(None),
+    }
+}
+
 /// Passes all trivia at the front of a text, a piece at a time, as `skip_trivia` does.
 #[inline(never)]
 fn skip_pieces<'a>(
@@ -274,10 +298,8 @@ fn skip_pieces<'a>(
 {
     let mut rest = text;
     let mut broke = false;
-    while let Some((piece, more)) = trivia_piece(end, goal, first | broke, rest)? {
-        if piece.breaks_line() {
-            broke = true;
-        }
+    while let Some((breaks, more)) = pass_piece(end, goal, first | broke, rest)? {
+        broke |= breaks;
         rest = more;
     }
     Ok((broke, rest))

@@ -341,6 +341,7 @@ impl<'a> Word<'a> {
     ghost use Rattle.ecma_token.specs.WordViews.{word_view, word_kind_number};
 
     /// The word of a text with no escapes, which is borrowed.
+    #[inline(always)]
     pub fn from_str(text: &'a str) -> Word<'a>
         ensures { word_view result ≡ word_of text.now }
     {
@@ -376,6 +377,7 @@ impl AsStr for Word<'_> {
 
     ghost text = { λ word. (word_view word).text };
 
+    #[inline]
     #[tactic(auto, unfolding(crate::specs::Words::own_text))]
     fn as_str(&self) -> &str {
         match self {

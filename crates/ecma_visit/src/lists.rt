@@ -1,12 +1,12 @@
 //! Goes over lists, over what may be left out, and over parts one after another.
 ghost use Rattle.std.specs.Prelude.{◌≡◌};
-ghost use Rattle.ecma_node.specs.View.{view_tpl_element};
+ghost use Rattle.ecma_node.specs.View.{view_expr_or_spread, view_tpl_element};
 ghost use Rattle.ecma_tree.specs.Tree.{trees_by, part_by, element_by, list};
 ghost use Rattle.ecma_tree.specs.Folds.{folds};
 ghost use Rattle.ecma_visit.specs.Walk.{walk_of, walk_of_all, walk_step, by_turns};
 
 use crate::watch::{Walk, Watch};
-use ecma_node::TplElement;
+use ecma_node::{ExprOrSpreadOf, TplElement};
 
 impl<T: Walk> Walk for Vec<T> {
     ghost tree = { λ v. list (trees_by T.tree v.items) };
@@ -79,6 +79,13 @@ pub(crate) fn walk_headed<T: Walk, U: Walk, V: Watch>(head: &T, items: &[U], vis
 {
     head.walk(visitor);
     walk_all(items, visitor);
+}
+
+/// Goes over the arguments of a call.
+pub(crate) fn walk_args<T: Walk, V: Watch>(args: &Vec<ExprOrSpreadOf<T>>, visitor: &mut V)
+    ensures { V.state visitor.new ≡ walk_of_all V.step (trees_by (view_expr_or_spread T.tree) args.now.items) (V.state visitor.old) }
+{
+    walk_all(args.as_slice(), visitor);
 }
 
 /// Goes over the texts of a template and its expressions by turns.

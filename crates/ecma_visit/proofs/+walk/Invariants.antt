@@ -1,6 +1,7 @@
 use Rattle.std.proofs.Common.{◌≡◌, ◌+◌, ◌*◌, ◌-◌, ◌≤◌}
 use Rattle.ecma_tree.specs.Codes.{tree_size}
-use Rattle.ecma_node.specs.Spines.{Chained, below, further_on}
+use Rattle.ecma_node.specs.Spines.{Chained, further_on}
+use Rattle.ecma_spine.specs.Chains.{below}
 use Rattle.ecma_visit.specs.Spines.{entered_ifs}
 use Rattle.ecma_visit.proofs.+walk.Given as goal
 
@@ -8,6 +9,10 @@ abbrev pub invariant-knot::StmtWalk::walk-links : goal.invariant-knot::StmtWalk:
 invariant-knot::StmtWalk::walk-links g l = (g.V.Watch.state l.visitor ≡ entered_ifs g.V.Watch.step l.links l.self (g.V.Watch.state l.initial.visitor))
     × (l.rest ≡ further_on l.links l.self) × Chained l.links l.self × (tree_size l.rest ≤ tree_size l.self)
 
--- the links that are left, with their right operands
+-- what stands right of the left parts of the links that are left
 abbrev pub decreases-spines::leave_links : goal.decreases-spines::leave_links
-decreases-spines::leave_links g l = 2 * (tree_size l.top.now - tree_size (below l.links l.top.now)) + 1
+decreases-spines::leave_links g l = 2 * (tree_size l.top.now - tree_size (below l.links l.top.now)) + 2
+
+-- and of one of them
+abbrev pub decreases-spines::walk_rest : goal.decreases-spines::walk_rest
+decreases-spines::walk_rest g l = 2 * (tree_size l.link.now - tree_size (below 1 l.link.now)) + 1

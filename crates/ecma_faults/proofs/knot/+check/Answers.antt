@@ -1,15 +1,14 @@
 use Rattle.std.proofs.Common.{rules, ◌≡◌, ◌++◌, ◌-◌, ◌/◌, ◌≤◌, ℕ, List, sym, ap, ◌∙◌, arith, append-nil}
 use Rattle.ecma_token.specs.declared.error.Error.{Error}
-use Rattle.ecma_tree.specs.Tree.{Tree}
+use Rattle.ecma_tree.specs.Tree.{Tree, opt_chain_expr}
 use Rattle.ecma_tree.specs.Folds.{fold}
 use Rattle.ecma_node.specs.Placed.{inner}
-use Rattle.ecma_node.specs.View.{view_expr_kind}
-use Rattle.ecma_node.specs.Spines.{right_operand}
-use Rattle.ecma_node.proofs.Spines.{right_is_left}
+use Rattle.ecma_node.specs.View.{view_expr_kind, view_opt_chain_base}
+use Rattle.ecma_spine.proofs.Weights.{operand_falls, name_falls, arguments_fall, template_falls, chain_name_falls, chain_arguments_fall}
 use Rattle.ecma_early.specs.Early.{Scope, step}
 use Rattle.ecma_faults_base.specs.Around.{scope_of}
 use Rattle.ecma_faults.specs.Rights.{right_faults}
-use Rattle.ecma_faults.proofs.Rights.{joined, halves_joined, no_rights}
+use Rattle.ecma_faults.proofs.Rights.{joined, halves_joined, no_link, no_other, no_rights}
 use Rattle.ecma_faults.proofs.knot.+check.Goals as goal
 
 none_behind : (a : List Error) (n : ℕ) (t : Tree) (c : Scope) → n ≡ 0 → a ≡ a ++ right_faults n t c
@@ -27,10 +26,52 @@ ExprCheck::check-returns t c = joined c.args.faults.now.items c.check-2.new.faul
 -- src/knot.rt
 pub check_rights-check-requires : goal.check_rights-check-requires
 check_rights-check-requires t c κs = (
+  ((operand_falls c.args.links t c.args.top.now c.in-Bin.x c.in-1.is (sym c.top.view_is ∙ ap (view_expr_kind inner) c.in-Bin.is) c.decreases, tt), tt),
+  search rules,
+)
+
+-- src/knot.rt
+pub check_rights-check-requires-in-Member : goal.check_rights-check-requires-in-Member
+check_rights-check-requires-in-Member t c κs = (
+  ((name_falls c.args.links t c.args.top.now c.in-Member.x c.in-1.is (sym c.top.view_is ∙ ap (view_expr_kind inner) c.in-Member.is) c.decreases, tt), tt),
+  search rules,
+)
+
+-- src/knot.rt
+pub check_rights-check-requires-in-Call : goal.check_rights-check-requires-in-Call
+check_rights-check-requires-in-Call t c κs = (
+  ((arguments_fall c.args.links t c.args.top.now c.in-Call.x c.requires.linked c.in-1.is (sym c.top.view_is ∙ ap (view_expr_kind inner) c.in-Call.is) c.decreases, tt), tt),
+  search rules,
+)
+
+-- src/knot.rt
+pub check_rights-check-requires-in-TaggedTpl : goal.check_rights-check-requires-in-TaggedTpl
+check_rights-check-requires-in-TaggedTpl t c κs = (
+  ((template_falls c.args.links t c.args.top.now c.in-TaggedTpl.x c.in-1.is (sym c.top.view_is ∙ ap (view_expr_kind inner) c.in-TaggedTpl.is) c.decreases, tt), tt),
+  search rules,
+)
+
+-- src/knot.rt
+pub check_rights-check-requires-in-Member-base : goal.check_rights-check-requires-in-Member-base
+check_rights-check-requires-in-Member-base t c κs = (
   (
     (
-      right_is_left c.args.links t c.args.top.now (inner c.in-Bin.bin.right.part.value) c.in-1.is c.requires.linked
-          (ap right_operand (sym c.top.view_is) ∙ ap (λ k. right_operand (view_expr_kind inner k)) c.in-Bin.is) c.decreases,
+      chain_name_falls c.args.links t c.args.top.now c.in-OptChain.x.span c.in-OptChain.x.optional c.in-Member-base.member c.in-1.is
+          (sym c.top.view_is ∙ ap (view_expr_kind inner) c.in-OptChain.is ∙ ap (λ b. opt_chain_expr c.in-OptChain.x.span c.in-OptChain.x.optional (view_opt_chain_base inner b)) c.in-Member-base.is) c.decreases,
+      tt,
+    ),
+    tt,
+  ),
+  search rules,
+)
+
+-- src/knot.rt
+pub check_rights-check-requires-in-Call-base : goal.check_rights-check-requires-in-Call-base
+check_rights-check-requires-in-Call-base t c κs = (
+  (
+    (
+      chain_arguments_fall c.args.links t c.args.top.now c.in-OptChain.x.span c.in-OptChain.x.optional c.in-Call-base.call c.in-1.is
+          (sym c.top.view_is ∙ ap (view_expr_kind inner) c.in-OptChain.is ∙ ap (λ b. opt_chain_expr c.in-OptChain.x.span c.in-OptChain.x.optional (view_opt_chain_base inner b)) c.in-Call-base.is) c.decreases,
       tt,
     ),
     tt,
@@ -41,6 +82,11 @@ check_rights-check-requires t c κs = (
 -- src/knot.rt
 pub check_rights-returns-in-0 : goal.check_rights-returns-in-0
 check_rights-returns-in-0 t c = none_behind c.args.faults.now.items c.args.links c.args.top.now (scope_of c.args.code) c.in-0.is
+
+-- src/knot.rt
+pub check_rights-returns-in_default-kind : goal.check_rights-returns-in_default-kind
+check_rights-returns-in_default-kind t c = no_other c.args.links c.args.top.now (view_expr_kind inner c.top.inside.kind) c.in-1.is c.requires.linked (sym c.top.view_is)
+    (no_link inner c.top.inside.kind c.in_default-kind.not-Bin c.in_default-kind.not-Member c.in_default-kind.not-Call c.in_default-kind.not-TaggedTpl c.in_default-kind.not-OptChain)
 
 -- src/knot.rt
 pub check_rights-returns-in_ok-check_rights-in_default-2 : goal.check_rights-returns-in_ok-check_rights-in_default-2

@@ -4,7 +4,7 @@ use Rattle.ecma_node.specs.declared.knot.Expr.TheDeep.{size-Stmt}
 use Rattle.ecma_early.specs.Early.{step}
 use Rattle.ecma_faults_base.specs.Around.{scope_of}
 use Rattle.ecma_tree.specs.Codes.{tree_size}
-use Rattle.ecma_node.specs.Spines.{below}
+use Rattle.ecma_spine.specs.Chains.{below}
 use Rattle.ecma_faults.proofs.knot.+check.Given as goal
 
 abbrev pub invariant-StmtCheck::check-loop-stmt : goal.invariant-StmtCheck::check-loop-stmt

@@ -18,7 +18,7 @@ returns-in-Ok c =
     let recorded = c.take_errors-recorded.result.items in
     let promised = subst (λ (xs : List Error). Promised lexer_machine state_in (view_module inner) true e result xs recorded) (c.set_nesting.ensures.faults ∙ c.new-parser.ensures.faults)
     (subst (λ (ys : List Error). Promised lexer_machine state_in (view_module inner) true e result e.faults.items ys) (sym c.take_errors-recorded.ensures.answer) c.parse_module-parsed.ensures.value) in
-    let source = ap (λ r. state_in r.input) c.set_nesting.ensures.reading ∙ c.new-parser.ensures.source in
+    let source = ap (λ r. state_in r.input.input) c.set_nesting.ensures.reading ∙ c.new-parser.ensures.source in
     let answered = new_answered state_in (view_module inner) true o.syntax c.args.text.now e c.utf8.text (c.set_nesting.ensures.started ∙ c.new-parser.ensures.started) source result recorded promised in
     taken o (chars c.args.text.now) (view_module inner) true e.limit result recorded c.in-Ok.module c.requires.goal (c.set_nesting.ensures.limit ∙ limit_taken o.nesting c.requires.limit)
     (rw c.as_slice.ensures.value at c.in-Ok.ensures) answered
@@ -31,7 +31,7 @@ returns c =
     let recorded = c.take_errors-recorded.result.items in
     let promised = subst (λ (xs : List Error). Promised lexer_machine state_in (view_module inner) true e result xs recorded) (c.set_nesting.ensures.faults ∙ c.new-parser.ensures.faults)
     (subst (λ (ys : List Error). Promised lexer_machine state_in (view_module inner) true e result e.faults.items ys) (sym c.take_errors-recorded.ensures.answer) c.parse_module-parsed.ensures.value) in
-    let source = ap (λ r. state_in r.input) c.set_nesting.ensures.reading ∙ c.new-parser.ensures.source in
+    let source = ap (λ r. state_in r.input.input) c.set_nesting.ensures.reading ∙ c.new-parser.ensures.source in
     let answered = new_answered state_in (view_module inner) true o.syntax c.args.text.now e c.utf8.text (c.set_nesting.ensures.started ∙ c.new-parser.ensures.started) source result recorded promised in
     lacks o (chars c.args.text.now) (view_module inner) true e.limit result recorded c.in-Err.fault c.requires.goal (c.set_nesting.ensures.limit ∙ limit_taken o.nesting c.requires.limit)
     (rw c.as_slice.ensures.value at c.in-Err.ensures) answered

@@ -1,4 +1,4 @@
-use Rattle.std.proofs.Common.{◌≡◌, ◌≤◌, max}
+use Rattle.std.proofs.Common.{◌≡◌, ◌+◌, ◌≤◌, max}
 use Rattle.ecma_node.specs.declared.knot.Expr.TheDeep.{size-Expr, size-Stmt, size-Pat, size-Part}
 use Rattle.ecma_equal.specs.Same.{same}
 use Rattle.ecma_same.proofs.knot.+same.Given as goal
@@ -7,7 +7,10 @@ abbrev pub decreases-PartSame::same : goal.decreases-PartSame::same
 decreases-PartSame::same l = max (size-Part l.self.now) (size-Part l.other.now)
 
 abbrev pub decreases-ExprSame::same : goal.decreases-ExprSame::same
-decreases-ExprSame::same l = max (size-Expr l.self.now) (size-Expr l.other.now)
+decreases-ExprSame::same l = max (size-Expr l.self.now) (size-Expr l.other.now) + 1
+
+abbrev pub decreases-left_parts : goal.decreases-left_parts
+decreases-left_parts l = max (size-Expr l.expr.now) (size-Expr l.other.now)
 
 abbrev pub decreases-StmtSame::same : goal.decreases-StmtSame::same
 decreases-StmtSame::same l = max (size-Stmt l.self.now) (size-Stmt l.other.now)

@@ -5,8 +5,8 @@ use Rattle.std.specs.Str.{chars}
 use Rattle.ecma_scan.proofs.Following.{Skipped}
 use Rattle.ecma_scan.proofs.trivia.skip_pieces.Given as goal
 
-abbrev pub invariant-loop-piece : goal.invariant-loop-piece
-invariant-loop-piece l = shadow (Utf8 l.rest) × (length l.rest ≤ length l.text) × Skipped l.goal l.first (chars l.text) l.broke (chars l.rest)
+abbrev pub invariant-loop-breaks : goal.invariant-loop-breaks
+invariant-loop-breaks l = shadow (Utf8 l.rest) × (length l.rest ≤ length l.text) × Skipped l.goal l.first (chars l.text) l.broke (chars l.rest)
 
-abbrev pub decreases-loop-piece : goal.decreases-loop-piece
-decreases-loop-piece l = length l.rest
+abbrev pub decreases-loop-breaks : goal.decreases-loop-breaks
+decreases-loop-breaks l = length l.rest
