@@ -1,3 +1,4 @@
 pub mod CaptureLemmas
 pub mod ListLemmas
 pub mod StepLemmas
+pub mod LookLemmas

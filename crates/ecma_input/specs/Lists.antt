@@ -4,6 +4,8 @@ use Rattle.ecma_token.specs.Tokens.{Spot}
 use Rattle.ecma_token.specs.declared.context.Context.{Context}
 use Rattle.ecma_token.specs.declared.syntax.Syntax.{Syntax}
 use Rattle.ecma_token.specs.declared.version.EsVersion.{EsVersion}
+use Rattle.ecma_tokens.specs.declared.look.Look.{Look}
+use Rattle.ecma_tokens.specs.declared.look.Look.TheVariants.{Next, Second, Slash}
 use Rattle.ecma_tokens.specs.Machine.{Machine, Source, shown_spot, told_of}
 use Rattle.ecma_tokens.specs.Settings.{Settings, at_start, settings_in, with_ctx}
 use Rattle.ecma_input.specs.declared.list.TokensInput.{TokensInput}
@@ -39,3 +41,18 @@ start_of (spot ∷ spots) = spot.lo
 -- a source of these tokens in this code
 abbrev pub list_in : List Spot → Context → Syntax → EsVersion → Source (List Spot)
 list_in spots ctx syntax target = record { tokens = spots; settings = with_ctx ctx (at_start syntax target (start_of spots)) }
+
+-- the first token, and what stands behind it
+abbrev pub first_of : List Spot → Option Spot
+first_of [] = None
+first_of (spot ∷ spots) = Some spot
+
+abbrev pub behind_first : List Spot → List Spot
+behind_first [] = []
+behind_first (spot ∷ spots) = spots
+
+-- the token of a list that is looked at
+abbrev pub seen_in : Look → List Spot → Option Spot
+seen_in Next spots = first_of spots
+seen_in (Slash place) spots = first_of spots
+seen_in Second spots = first_of (behind_first spots)

@@ -14,7 +14,7 @@ use ecma_token::{
     AssignOp, BinOpToken, BytePos, Context, Error, EsVersion, Syntax, Token, TokenAndSpan,
 };
 use ecma_tokens::settings::out_of_memory;
-use ecma_tokens::{TokenContexts, Tokens};
+use ecma_tokens::{Look, TokenContexts, Tokens};
 use std::alloc::{AllocError, Global};
 
 /// A source of tokens that keeps each token that it hands out. What a slash is when it is read again takes
@@ -141,6 +141,10 @@ impl<'a, I: Tokens<'a> + Drop> Tokens<'a> for Capturing<'a, I> {
         };
         keep(&mut self.captured, &token).map_err(out_of_memory)?;
         Ok(Some(token))
+    }
+
+    fn look(&self, at: Look) -> Result<Option<TokenAndSpan<'a>>, Error> {
+        self.input.look(at)
     }
 
     fn try_clone(&self) -> Result<Self, Error>

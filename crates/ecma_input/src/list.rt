@@ -1,16 +1,16 @@
 //! A list as a source of tokens.
-ghost use Rattle.std.specs.Prelude.{◌≡◌, List, map};
+ghost use Rattle.std.specs.Prelude.{◌≡◌, List, map, option_map, reverse};
 ghost use Rattle.std.specs.Borrow.{sem};
 ghost use Rattle.ecma_token.specs.Tokens.{Spot};
 ghost use Rattle.ecma_tokens.specs.Contexts.{outward};
 ghost use Rattle.ecma_input.specs.Lending.{LendsContexts};
 ghost use Rattle.ecma_tokens.specs.Machine.{shown_spot};
-ghost use Rattle.ecma_input.specs.Lists.{list_in, list_machine, list_source, start_of};
+ghost use Rattle.ecma_input.specs.Lists.{list_in, list_machine, list_source, seen_in, start_of};
 
-use crate::copies::clone_tokens;
+use crate::copies::{clone_token, clone_tokens};
 use ecma_token::{BytePos, Context, Error, EsVersion, Syntax, TokenAndSpan};
 use ecma_tokens::settings::out_of_memory;
-use ecma_tokens::{Settings, TokenContexts, Tokens};
+use ecma_tokens::{Look, Settings, TokenContexts, Tokens};
 use std::alloc::Global;
 
 /// A list of tokens as a source. Nothing that it is told changes what it hands out.
@@ -28,6 +28,17 @@ fn start_of(tokens: &[TokenAndSpan<'_>]) -> BytePos
     match tokens {
         [first, ..] => first.span.lo,
         [] => BytePos(0),
+    }
+}
+
+/// The token that is looked at in a list that is kept from its end.
+#[tactic(auto, using(crate::proofs::LookLemmas::looks))]
+fn seen_in<'s, 'a>(from_end: &'s [TokenAndSpan<'a>], at: Look) -> Option<&'s TokenAndSpan<'a>>
+    ensures { option_map (λ t. shown_spot t.now) result ≡ seen_in at (reverse (map shown_spot from_end.now)) }
+{
+    match at {
+        Look::Next | Look::Slash(_) => from_end.last(),
+        Look::Second => from_end.split_at(from_end.len().saturating_sub(1)).0.last(),
     }
 }
 
@@ -65,6 +76,15 @@ impl<'a> Tokens<'a> for TokensInput<'a> {
 
     fn next(&mut self) -> Result<Option<TokenAndSpan<'a>>, Error> {
         Ok(self.from_end.pop())
+    }
+
+    #[tactic(auto, using(crate::proofs::LookLemmas::looked))]
+    fn look(&self, at: Look) -> Result<Option<TokenAndSpan<'a>>, Error> {
+        let Some(token) = seen_in(self.from_end.as_slice(), at) else {
+            return Ok(None);
+        };
+        let copy = clone_token(token).map_err(out_of_memory)?;
+        Ok(Some(copy))
     }
 
     fn try_clone(&self) -> Result<Self, Error> {

@@ -2,3 +2,4 @@ pub mod StepLemmas
 pub mod MachineLemmas
 pub mod KeptLemmas
 pub mod QuickLemmas
+pub mod LookLemmas

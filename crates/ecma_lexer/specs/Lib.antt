@@ -5,3 +5,4 @@ pub mod Kept
 pub mod Stepping
 pub mod Machine
 pub mod Quick
+pub mod Looks

@@ -10,7 +10,7 @@ ghost use Rattle.ecma_lexer.specs.Machine.{lexer_machine};
 use crate::lexer::Lexer;
 use ecma_scan::place::out_of_memory;
 use ecma_token::{BytePos, Context, Error, EsVersion, Syntax, TokenAndSpan};
-use ecma_tokens::{TokenContexts, Tokens};
+use ecma_tokens::{Look, TokenContexts, Tokens};
 
 impl<'a> Tokens<'a> for Lexer<'a> {
     ghost State = { Text };
@@ -22,6 +22,10 @@ impl<'a> Tokens<'a> for Lexer<'a> {
     #[tactic(auto, using(crate::proofs::MachineLemmas::gives))]
     fn next(&mut self) -> Result<Option<TokenAndSpan<'a>>, Error> {
         Lexer::next(self)
+    }
+
+    fn look(&self, at: Look) -> Result<Option<TokenAndSpan<'a>>, Error> {
+        Lexer::look(self, at)
     }
 
     fn try_clone(&self) -> Result<Self, Error> {

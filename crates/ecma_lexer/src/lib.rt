@@ -5,10 +5,11 @@ mod calls;
 mod kept;
 mod last;
 pub mod lexer;
+mod look;
 mod quick;
 mod step;
 
 pub use ecma_canonical::canonical_text;
 pub use ecma_scan::CharExt;
-pub use ecma_tokens::{TokenContext, TokenContexts, Tokens};
+pub use ecma_tokens::{Look, TokenContext, TokenContexts, Tokens};
 pub use lexer::Lexer;

@@ -8,12 +8,11 @@ ghost use Rattle.ecma_parse_state.specs.Codes.{code_of};
 ghost use Rattle.ecma_parse_state.specs.Fronts.{machine_of};
 ghost use Rattle.ecma_parse_state.specs.Stands.{stand};
 
-use crate::lookahead::third;
 use ecma_parse_base::Nested;
 use ecma_parse_state::numbers::token_number;
 use ecma_parse_state::operators::may_name;
 use ecma_parse_state::{Around, Failure, Parser, kinds};
-use ecma_tokens::Tokens;
+use ecma_tokens::{Look, Tokens};
 
 /// The kind of the second token, and whether a line break stands before it.
 ///
@@ -29,10 +28,7 @@ pub fn behind<'a, I: Tokens<'a> + Drop>(p: &Parser<'a, I>) -> Result<(u8, bool),
     if p.ahead.token.is_none() {
         return Ok((kinds::END, false));
     }
-    let Ok(mut copy) = p.input.try_clone() else {
-        return Err(Failure::Memory);
-    };
-    match copy.next() {
+    match p.input.look(Look::Next) {
         Ok(Some(token)) => Ok((token_number(&token.token), token.had_line_break)),
         Ok(None) => Ok((kinds::END, false)),
         Err(_) => Err(Failure::Memory),
@@ -142,6 +138,6 @@ pub fn starts_await_using<'a, I: Tokens<'a> + Drop, N: Nested<'a, I>>(
     if breaks || !code.syntax.explicit_resource_management || second != kinds::USING {
         return Ok(false);
     }
-    let (name, apart) = third(p)?;
+    let (name, apart) = p.third()?;
     Ok(may_name(name) && !apart)
 }

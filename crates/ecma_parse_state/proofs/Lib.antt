@@ -1,3 +1,4 @@
 pub mod Marks
 pub mod Iterate
 mod Same
+pub mod Thirds

@@ -71,6 +71,10 @@ abbrev pub in_place : Spot → Option Spot → Bool
 in_place t None = false
 in_place t (Some u) = ((u.token.kind == regex_kind) || (u.token.kind == error_kind)) && ((u.lo == t.lo) && same_mark u.line_break t.line_break)
 
+-- what the source hands out where this slash is asked for again
+abbrev pub again_in : {S : Type 0} → tokens.Machine S → Spot → Source S → Option Spot
+again_in m t s = (m.step (asked (Some t.lo) s)).0
+
 -- What a slash that comes is read again as, and the source behind it. Where the source hands out no such token, the slash stays, and the source stands as it did.
 abbrev pub reread_by : {S : Type 0} → Spot → Option Spot × Source S → Front S → Front S
 reread_by t x q = if in_place t x.0 then read_on (withdrawn x) q.last else q

@@ -1,7 +1,7 @@
 -- Where a parser stands.
 use Rattle.std.specs.Prelude.{ℕ, false, reverse, [], ◌∷◌, None, Some, option_map}
 use Rattle.ecma_token.specs.Kinds.{end_kind}
-use Rattle.ecma_token.specs.Tokens.{Spot, bare}
+use Rattle.ecma_token.specs.Tokens.{bare}
 use Rattle.ecma_token.specs.declared.place.Span.{Span}
 use Rattle.ecma_tokens.specs.Machine.{Source, shown_spot}
 use Rattle.ecma_reading.specs.Source.{Stand}
@@ -18,10 +18,6 @@ from start = record { source = record { first = None; behind = None; last = star
 -- a mark at a token that has this span
 abbrev pub from_span : {S : Type 0} → Span → Stand (Front S)
 from_span s = record { source = record { first = Some (record { token = bare end_kind; line_break = false; lo = s.lo.0; hi = s.hi.0 }); behind = None; last = s.lo.0 }; commas = [] }
-
--- in front of this token, before a source
-abbrev pub in_front : {S : Type 0} → Spot → Source S → Stand (Front S) → Stand (Front S)
-in_front t s r = record { source = record { first = Some t; behind = Some s; last = r.source.last }; commas = r.commas }
 
 -- where a start was noted
 abbrev pub noted : {S : Type 0} → ℕ → Stand S → Stand S

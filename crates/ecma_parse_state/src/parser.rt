@@ -1,6 +1,6 @@
 //! The parser's state, and the smallest steps on it.
 ghost use Rattle.std.specs.Prelude.{◌≡◌, ◌≢◌, ◌<◌, ◌≤◌, if◌then◌else◌, IfErr, IfOk, IsTrue, OnOk, option_map};
-ghost use Rattle.ecma_syntax.specs.Input.{brk, brk2, escaped, first_span, hi, is_word, kind, kind2, lo, span, text};
+ghost use Rattle.ecma_syntax.specs.Input.{brk, brk2, escaped, first_span, hi, is_word, kind, kind2, lo, rest, span, text};
 ghost use Rattle.ecma_tokens.specs.Machine.{shown_spot};
 ghost use Rattle.ecma_reading.specs.Source as spec;
 ghost use Rattle.ecma_parse_state.specs.Answers.{Gives, IsMemory, IsSyntax};
@@ -11,7 +11,7 @@ use crate::failure::Failure;
 use crate::kinds;
 use crate::numbers::token_number;
 use ecma_token::{BytePos, Error, Span, SyntaxError, Token, TokenAndSpan};
-use ecma_tokens::Tokens;
+use ecma_tokens::{Look, Tokens};
 use std::alloc::Global;
 use std::convert::AsStr;
 use std::mem;
@@ -161,8 +161,7 @@ impl<'a, I: Tokens<'a> + Drop> Parser<'a, I> {
         }
     }
 
-    /// A source that stands in front of the tokens behind the one that comes: their kind, and whether a line break
-    /// stands before it, for the first of them.
+    /// The kind of the token behind the one that comes, and whether a line break stands before it.
     ///
     /// # Errors
     ///
@@ -173,10 +172,29 @@ impl<'a, I: Tokens<'a> + Drop> Parser<'a, I> {
         ensures breaks { IfOk result (λ x. kind (spec.input (machine_of I.machine) (stand I.state self.now)) ≢ 0 → x.1 ≡ brk2 (spec.input (machine_of I.machine) (stand I.state self.now))) }
         ensures full { IfErr result IsMemory }
     {
-        let Ok(mut copy) = self.input.try_clone() else {
-            return Err(Failure::Memory);
-        };
-        match copy.next() {
+        match self.input.look(Look::Next) {
+            Ok(Some(token)) => Ok((token_number(&token.token), token.had_line_break)),
+            Ok(None) => Ok((kinds::END, false)),
+            Err(_) => Err(Failure::Memory),
+        }
+    }
+
+    /// The same of the token behind the second one.
+    ///
+    /// # Errors
+    ///
+    /// Want of memory.
+    #[tactic(auto, using(crate::proofs::Thirds::thirds), unfolding(crate::specs::Fronts::machine_of))]
+    pub fn third(&self) -> Result<(u8, bool), Failure>
+        ensures kind { IfOk result (λ x. x.0 ≡ kind2 (spec.input (machine_of I.machine) (spec.past (machine_of I.machine) (stand I.state self.now)))) }
+        ensures breaks { IfOk result (λ x. x.1 ≡ brk2 (spec.input (machine_of I.machine) (spec.past (machine_of I.machine) (stand I.state self.now)))) }
+        ensures rest { IfOk result (λ x. x.0 ≡ kind2 (rest (spec.input (machine_of I.machine) (stand I.state self.now)))) }
+        ensures full { IfErr result IsMemory }
+    {
+        if self.ahead.token.is_none() {
+            return Ok((kinds::END, false));
+        }
+        match self.input.look(Look::Second) {
             Ok(Some(token)) => Ok((token_number(&token.token), token.had_line_break)),
             Ok(None) => Ok((kinds::END, false)),
             Err(_) => Err(Failure::Memory),

@@ -1,11 +1,11 @@
 //! Words and names, and the slash that is read again.
-ghost use Rattle.std.specs.Prelude.{◌≡◌, ◌<◌, ◌≤◌, true, Some, IfErr, IfOk, MatchOption, OnOk};
+ghost use Rattle.std.specs.Prelude.{◌≡◌, ◌<◌, ◌≤◌, false, true, Some, IfErr, IfOk, MatchOption, OnOk};
 ghost use Rattle.ecma_syntax.specs.Input.{barred, kind};
 ghost use Rattle.ecma_tokens.specs.Machine.{shown_spot};
 ghost use Rattle.ecma_reading.specs.Source as spec;
 ghost use Rattle.ecma_parse_state.specs.Answers.{Gives, IsMemory};
 ghost use Rattle.ecma_parse_state.specs.Codes.{code_of};
-ghost use Rattle.ecma_parse_state.specs.Fronts.{in_place, is_slash, machine_of};
+ghost use Rattle.ecma_parse_state.specs.Fronts.{again_in, in_place, is_slash, kind_in, machine_of};
 
 use crate::ahead::Ahead;
 use crate::code::Around;
@@ -16,7 +16,7 @@ use crate::parser::Parser;
 use crate::words::{no_name, starts_operand, strict_reserved};
 use ecma_atom::Atom;
 use ecma_token::{Context, SyntaxError, TokenAndSpan};
-use ecma_tokens::Tokens;
+use ecma_tokens::{Look, Tokens};
 
 /// Whether a token that was read again from a slash on comes in its place: a regular expression, or a fault of one, that
 /// begins there, with the same line-break mark.
@@ -30,7 +30,7 @@ fn in_place(slash: &TokenAndSpan<'_>, token: &TokenAndSpan<'_>) -> bool
 }
 
 impl<'a, I: Tokens<'a> + Drop> Parser<'a, I> {
-    ghost use Rattle.ecma_parse_state.specs.Stands.{in_front, noted, stand};
+    ghost use Rattle.ecma_parse_state.specs.Stands.{noted, stand};
 
     /// Whether an escape bars the word that comes from being a word of the grammar or a name.
     pub fn is_barred(&self, context: Context) -> bool
@@ -125,32 +125,22 @@ impl<'a, I: Tokens<'a> + Drop> Parser<'a, I> {
         Ok(text)
     }
 
-    /// What a copy of the source hands out in place of the slash that comes: a regular expression, or a fault of one
-    /// (ECMA-262, 12.9.5); or nothing where no such token comes in its place.
+    /// The kind of what the source hands out in place of the slash that comes: of a regular expression, or of a fault of
+    /// one (ECMA-262, 12.9.5); or nothing where no such token comes in its place.
     ///
     /// # Errors
     ///
     /// Want of memory.
-    #[tactic(auto, unfolding(crate::specs::Fronts::machine_of))]
-    fn read_again(&self, copy: &mut I) -> Result<Option<TokenAndSpan<'a>>, Failure>
-        requires slash { is_slash (kind (spec.input (machine_of I.machine) (stand I.state self.now))) ≡ true }
-        requires copy { I.state copy.old ≡ I.state self.now.input }
-        ensures value { IfOk result (λ x. MatchOption x (spec.operand (machine_of I.machine) (stand I.state self.now) ≡ stand I.state self.now)
-            (λ t. spec.operand (machine_of I.machine) (stand I.state self.now) ≡ in_front (shown_spot t) (I.state copy.new) (stand I.state self.now))) }
-        ensures not_longer { IfOk result (λ _. spec.bound (machine_of I.machine) (spec.operand (machine_of I.machine) (stand I.state self.now)) ≤ spec.bound (machine_of I.machine) (stand I.state self.now)) }
+    fn again(&self, slash: &TokenAndSpan<'a>) -> Result<Option<u8>, Failure>
+        ensures value { IfOk result (λ x. MatchOption x (in_place (shown_spot slash.now) (again_in I.machine (shown_spot slash.now) (I.state self.now.input)) ≡ false)
+            (λ k. (in_place (shown_spot slash.now) (again_in I.machine (shown_spot slash.now) (I.state self.now.input)) ≡ true)
+            × (k ≡ kind_in (again_in I.machine (shown_spot slash.now) (I.state self.now.input))))) }
         ensures full { IfErr result IsMemory }
     {
-        let Some(slash) = &self.ahead.token else {
-            return Ok(None);
-        };
-        copy.set_next_regexp(Some(slash.span.lo));
-        let Ok(next) = copy.next() else {
-            return Err(Failure::Memory);
-        };
-        copy.set_next_regexp(None);
-        match next {
-            Some(token) if in_place(slash, &token) => Ok(Some(token)),
-            _ => Ok(None),
+        match self.input.look(Look::Slash(slash.span.lo)) {
+            Ok(Some(token)) if in_place(slash, &token) => Ok(Some(token_number(&token.token))),
+            Ok(_) => Ok(None),
+            Err(_) => Err(Failure::Memory),
         }
     }
 
@@ -186,17 +176,23 @@ impl<'a, I: Tokens<'a> + Drop> Parser<'a, I> {
         ensures not_longer { IfOk result (λ _. spec.bound (machine_of I.machine) (stand I.state self.new) ≤ spec.bound (machine_of I.machine) (stand I.state self.old)) }
         ensures full { IfErr result IsMemory }
     {
-        let Ok(mut copy) = self.input.try_clone() else {
+        let Some(slash) = &self.ahead.token else {
+            return Ok(());
+        };
+        let place = slash.span.lo;
+        if self.again(slash)?.is_none() {
+            return Ok(());
+        }
+        self.input.set_next_regexp(Some(place));
+        let Ok(next) = self.input.next() else {
             return Err(Failure::Memory);
         };
-        if let Some(token) = self.read_again(&mut copy)? {
-            self.input = copy;
-            self.ahead = Ahead::new(Some(token));
-        }
+        self.input.set_next_regexp(None);
+        self.ahead = Ahead::new(next);
         Ok(())
     }
 
-    /// The kind of what a slash that comes is read again as, in a copy of the source.
+    /// The kind of what a slash that comes is read again as.
     ///
     /// # Errors
     ///
@@ -208,11 +204,11 @@ impl<'a, I: Tokens<'a> + Drop> Parser<'a, I> {
         ensures value { IfOk result (λ k. k ≡ kind (spec.input (machine_of I.machine) (spec.operand (machine_of I.machine) (stand I.state self.now)))) }
         ensures full { IfErr result IsMemory }
     {
-        let Ok(mut copy) = self.input.try_clone() else {
-            return Err(Failure::Memory);
+        let Some(slash) = &self.ahead.token else {
+            return Ok(kinds::END);
         };
-        match self.read_again(&mut copy)? {
-            Some(token) => Ok(token_number(&token.token)),
+        match self.again(slash)? {
+            Some(kind) => Ok(kind),
             None => Ok(self.kind()),
         }
     }

@@ -40,7 +40,7 @@ pub struct Links {
 }
 
 /// The kind of the token that comes, where a slash is read as a regular expression. A function that is called twice is not
-/// inlined, so that no `if` has room for a copy of the source in its frame.
+/// inlined, so that no `if` has room in its frame for a token that is looked at.
 ///
 /// # Errors
 ///

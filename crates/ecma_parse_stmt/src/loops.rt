@@ -15,7 +15,6 @@ ghost use Rattle.ecma_parse_stmt.specs.Parts.{bars_of, using_head, for_target};
 
 use ecma_node::{ExprKind, ForHead, PatBox, StmtBox, VarDeclKind, VarDeclOrExpr};
 use ecma_parse_base::{Nested, Operand};
-use ecma_parse_blocks::lookahead::third;
 use ecma_parse_blocks::starts::{starts_await_using, starts_let, starts_using};
 use ecma_parse_cover::items::item;
 use ecma_parse_loops::heads::{for_using, for_variables};
@@ -153,7 +152,7 @@ fn heads_await_using<'a, I: Tokens<'a> + Drop, N: Nested<'a, I>>(
     if !starts_await_using(p, nested, code)? {
         return Ok(false);
     }
-    let (name, _) = third(p)?;
+    let (name, _) = p.third()?;
     Ok(name != kinds::OF)
 }
 

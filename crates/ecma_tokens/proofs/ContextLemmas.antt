@@ -1,6 +1,6 @@
 -- A list whose last element is seen first.
-use Rattle.std.proofs.Common.{◌≡◌, ℕ, ◌<◌, ◌-◌, ◌+◌, List, [], ◌∷◌, ◌++◌, length, reverse, option_to_list, Option, Some, None, refl, sym, ap, ◌∙◌, arith}
-use Rattle.std.proofs.lemmas.List.{length-append, length-reverse, reverse-append}
+use Rattle.std.proofs.Common.{◌≡◌, ℕ, ◌<◌, ◌-◌, ◌+◌, List, [], ◌∷◌, ◌++◌, drop, length, reverse, take, option_to_list, Option, Some, None, refl, sym, ap, ◌∙◌, arith}
+use Rattle.std.proofs.lemmas.List.{length-append, length-drop, length-reverse, reverse-append, take-append-drop, take_at}
 use Rattle.std.specs.List.{slice_get}
 use Rattle.ecma_tokens.specs.declared.contexts.TokenContext.{TokenContext}
 use Rattle.ecma_tokens.specs.Contexts.{innermost, without_innermost}
@@ -64,6 +64,20 @@ left_is old new None e h = nothing old new e h (ends old)
 
 pub length_is : (xs : List C) → length xs ≡ length (reverse xs)
 length_is xs = sym (length-reverse xs)
+
+front_two : (xs : List C) (n : ℕ) → n + 2 ≡ length xs → reverse (drop n xs) ≡ take 2 (reverse xs)
+front_two xs n e =
+    let two : length (reverse (drop n xs)) ≡ 2 = let k = length-reverse (drop n xs) ∙ length-drop n xs in omega (arith, e, k) in
+    sym (ap (λ l. take 2 (reverse l)) (sym (take-append-drop n xs)) ∙ ap (take 2) (reverse-append (take n xs) (drop n xs)) ∙ take_at (reverse (drop n xs)) (reverse (take n xs)) 2 two)
+
+by_count : (xs : List C) (n : ℕ) → n ≡ length xs - 2 → reverse (drop n xs) ≡ take 2 (reverse xs)
+by_count [] n e = let none : n ≡ 0 = omega (arith, e) in rw none refl
+by_count (x ∷ []) n e = let none : n ≡ 0 = omega (arith, e) in rw none refl
+by_count (x ∷ y ∷ ys) n e = front_two (x ∷ y ∷ ys) n (omega (arith, e))
+
+-- the last two are the innermost two
+pub last_two : (xs ys : List C) → ys ≡ drop (length xs - 2) xs → reverse ys ≡ take 2 (reverse xs)
+last_two xs ys e = ap reverse e ∙ by_count xs (length xs - 2) refl
 
 pub ruleset lengths = (length_is)
 

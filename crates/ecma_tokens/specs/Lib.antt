@@ -4,3 +4,4 @@ pub mod Faults
 pub mod Settings
 pub mod Machine
 pub mod Lending
+pub mod Looks

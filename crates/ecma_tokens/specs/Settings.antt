@@ -1,5 +1,5 @@
 -- What every source of tokens keeps besides its tokens.
-use Rattle.std.specs.Prelude.{ℕ, Bool, false, List, [], ◌∷◌, ◌++◌, Option, None, option_map, if◌then◌else◌}
+use Rattle.std.specs.Prelude.{ℕ, Bool, false, List, [], ◌∷◌, ◌++◌, Option, None, option_map, take, if◌then◌else◌}
 use Rattle.ecma_token.specs.declared.context.Context.{Context}
 use Rattle.ecma_token.specs.declared.error.Error.{Error}
 use Rattle.ecma_token.specs.declared.syntax.Syntax.{Syntax}
@@ -75,3 +75,7 @@ with_expr_allowed allowed s = record s { expr_allowed = allowed }
 
 abbrev pub with_next_regexp : Option ℕ → Settings → Settings
 with_next_regexp place s = record s { next_regexp = place }
+
+-- what the next two tokens depend on: no faults, and the innermost two contexts
+abbrev pub scout_of : Settings → Settings
+scout_of s = record s { contexts = take 2 s.contexts; recorded = []; waiting = [] }

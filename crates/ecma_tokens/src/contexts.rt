@@ -1,5 +1,5 @@
 //! What encloses a place of a text, as far as a lexer has to know.
-ghost use Rattle.std.specs.Prelude.{◌≡◌, ◌==◌, [], ◌∷◌, length, IfOk, OnErr, OnOk};
+ghost use Rattle.std.specs.Prelude.{◌≡◌, ◌==◌, [], ◌∷◌, length, take, IfOk, OnErr, OnOk};
 ghost use Rattle.ecma_tokens.specs.Contexts.{outward, innermost, without_innermost};
 
 use smallvec::SmallVec;
@@ -89,6 +89,19 @@ impl TokenContexts {
     {
         self.open.push(context)?;
         Ok(())
+    }
+
+    /// The innermost two once more, or as many as there are. It takes no memory.
+    #[tactic(auto, using(crate::proofs::ContextLemmas::last_two), unfolding(crate::specs::Contexts::outward))]
+    pub fn innermost_two(&self) -> TokenContexts
+        ensures { outward result ≡ take 2 (outward self.now) }
+    {
+        let open = self.open.as_slice();
+        let (_, last) = open.split_at(open.len().saturating_sub(2));
+        match SmallVec::from_slice(*self.open.allocator(), last) {
+            Ok(open) => TokenContexts { open },
+            Err(_) => unreachable!(),
+        }
     }
 
     /// The same contexts once more.

@@ -3,10 +3,12 @@
 
 pub mod contexts;
 pub mod faults;
+pub mod look;
 pub mod settings;
 pub mod tokens;
 
 pub use contexts::{TokenContext, TokenContexts};
 pub use faults::FaultLog;
+pub use look::Look;
 pub use settings::Settings;
 pub use tokens::Tokens;

@@ -105,6 +105,23 @@ impl Settings {
         &mut self.contexts
     }
 
+    /// What the next two tokens depend on: the same settings without faults, and with the innermost two of what
+    /// encloses the next token. It takes no memory.
+    pub fn scout(&self, alloc: Global) -> Settings
+        ensures { spec.settings_in result ≡ spec.scout_of (spec.settings_in self.now) }
+    {
+        Settings {
+            syntax: self.syntax,
+            target: self.target,
+            start: self.start,
+            ctx: self.ctx,
+            contexts: self.contexts.innermost_two(),
+            expr_allowed: self.expr_allowed,
+            next_regexp: self.next_regexp,
+            faults: FaultLog::new(alloc),
+        }
+    }
+
     /// The same settings once more.
     ///
     /// # Errors

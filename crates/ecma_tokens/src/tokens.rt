@@ -1,11 +1,13 @@
 //! Sources of tokens.
-ghost use Rattle.std.specs.Prelude.{◌≡◌, ◌<◌, ◌≤◌, option_map, IfErr, IfOk, MatchOption, OnErr, OnOk};
+ghost use Rattle.std.specs.Prelude.{◌≡◌, ◌<◌, ◌≤◌, option_map, IfErr, IfOk, MatchOption, MatchResult, OnErr, OnOk};
 ghost use Rattle.ecma_token.specs.declared.error.SyntaxError.TheVariants.{Memory};
 ghost use Rattle.ecma_tokens.specs.Contexts.{outward};
-ghost use Rattle.ecma_tokens.specs.Machine.{Machine, SameTold, Source, StepGives};
+ghost use Rattle.ecma_tokens.specs.Looks.{seen};
+ghost use Rattle.ecma_tokens.specs.Machine.{Machine, SameTold, Source, StepGives, shown_spot};
 ghost use Rattle.ecma_tokens.specs.Settings as spec;
 
 use crate::contexts::TokenContexts;
+use crate::look::Look;
 use ecma_token::{BytePos, Context, Error, EsVersion, Syntax, TokenAndSpan};
 
 /// A source of tokens. It is told of the code around the next token, and records faults.
@@ -30,6 +32,15 @@ pub trait Tokens<'a> {
         ensures falls { IfOk result (λ t. MatchOption t (machine.bound (state self.new).tokens ≤ machine.bound (state self.old).tokens)
             (λ _. machine.bound (state self.new).tokens < machine.bound (state self.old).tokens)) }
         ensures told { SameTold (state self.old).settings (state self.new).settings };
+
+    /// A token that comes, without going on: nothing changes. It takes no more time for what was handed out,
+    /// kept and recorded so far.
+    ///
+    /// # Errors
+    ///
+    /// Want of memory.
+    fn look(&self, at: Look) -> Result<Option<TokenAndSpan<'a>>, Error>
+        ensures { MatchResult result (λ t. option_map shown_spot t ≡ seen machine.step at (state self.now)) (λ e. e.kind ≡ Memory) };
 
     /// A source that stands where this one stands.
     ///

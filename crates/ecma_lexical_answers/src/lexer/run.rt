@@ -3,10 +3,10 @@
 use crate::lexer::again::read_again;
 use crate::lexer::ahead::tell_ahead;
 use crate::lexer::steps;
-use crate::lexer::told::{failed, tell, tell_comments, tell_faults, tell_list};
+use crate::lexer::told::{failed, tell, tell_comments, tell_faults, tell_list, tell_next};
 use ecma_answers::{Answer, Question};
 use ecma_input::{Capturing, TokensInput};
-use ecma_lexer::{Lexer, Tokens, canonical_text};
+use ecma_lexer::{Lexer, Look, Tokens, canonical_text};
 use ecma_token::{BytePos, Context, EsVersion, Syntax, Token, TokenAndSpan};
 use std::alloc::Global;
 
@@ -41,10 +41,46 @@ pub fn lexer<'a>(
     Ok(lexer)
 }
 
-/// Adds the tokens that come, up to the end, of which there are two a byte at most. The end comes again.
-fn tell_rest<'a, I: Tokens<'a>>(input: &mut I, text: &str, out: &mut String) -> anyhow::Result<()> {
+/// A token that is looked at, told.
+fn seen<'a, I: Tokens<'a>>(
+    input: &I,
+    at: Look,
+    text: &str,
+    alloc: Global,
+) -> anyhow::Result<String> {
+    let mut out = String::new(alloc);
+    tell_next(input.look(at)?, text, &mut out)?;
+    Ok(out)
+}
+
+/// The next token, which is the one that was looked at; and the one behind it is the one that comes then.
+fn next_seen<'a, I: Tokens<'a>>(
+    input: &mut I,
+    text: &str,
+    alloc: Global,
+) -> anyhow::Result<Option<TokenAndSpan<'a>>> {
+    let first = seen(input, Look::Next, text, alloc)?;
+    let second = seen(input, Look::Second, text, alloc)?;
+    let Some(token) = input.next()? else {
+        return Ok(None);
+    };
+    let mut told = String::new(alloc);
+    tell(&token, text, &mut told)?;
+    if told != first || second != seen(input, Look::Next, text, alloc)? {
+        return failed("another token was looked at");
+    }
+    Ok(Some(token))
+}
+
+/// Adds the tokens that come, up to the end, of which there are two a byte at most. The end comes again. Each is looked at first.
+fn tell_rest<'a, I: Tokens<'a>>(
+    input: &mut I,
+    text: &str,
+    alloc: Global,
+    out: &mut String,
+) -> anyhow::Result<()> {
     for _ in 0..text.len().saturating_mul(2).saturating_add(2) {
-        match input.next()? {
+        match next_seen(input, text, alloc)? {
             Some(token) => tell(&token, text, out)?,
             None => {
                 return match input.next()? {
@@ -66,7 +102,7 @@ fn read_by<'a, I: Tokens<'a> + Drop>(
     out: &mut String,
 ) -> anyhow::Result<I> {
     let mut input = steps::by_steps(source, text, steps, alloc, out)?;
-    tell_rest(&mut input, text, out)?;
+    tell_rest(&mut input, text, alloc, out)?;
     Ok(input)
 }
 
@@ -117,7 +153,7 @@ fn from_list<'a>(
 ) -> anyhow::Result<String> {
     let mut out = String::new(alloc);
     let mut input = TokensInput::new(alloc, tokens, ctx, Syntax::default(), EsVersion::latest());
-    tell_rest(&mut input, text, &mut out)?;
+    tell_rest(&mut input, text, alloc, &mut out)?;
     Ok(out)
 }
 

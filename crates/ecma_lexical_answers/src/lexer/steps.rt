@@ -1,8 +1,8 @@
 //! Steps of a source of tokens, by their words.
 
-use crate::lexer::told::{failed, tell, tell_end};
+use crate::lexer::told::{failed, tell_next};
 use ecma_token::{BytePos, Error, Span, SyntaxError};
-use ecma_tokens::{TokenContext, TokenContexts, Tokens};
+use ecma_tokens::{Look, TokenContext, TokenContexts, Tokens};
 use std::alloc::Global;
 
 /// The place that a step names.
@@ -10,6 +10,18 @@ fn place(step: &str) -> anyhow::Result<BytePos> {
     match step.parse::<u32>() {
         Ok(place) => Ok(BytePos(place)),
         Err(_) => failed("no place"),
+    }
+}
+
+/// What a step looks at, or nothing where it is another step.
+fn look(step: &str) -> Option<Look> {
+    match step {
+        "look" => Some(Look::Next),
+        "second" => Some(Look::Second),
+        _ => match place(step.strip_prefix("look=")?) {
+            Ok(place) => Some(Look::Slash(place)),
+            Err(_) => None,
+        },
     }
 }
 
@@ -63,6 +75,14 @@ fn set<'a, I: Tokens<'a>>(input: &mut I, step: &str) -> anyhow::Result<()> {
     Ok(())
 }
 
+/// Tells a source what a step says.
+fn tell_source<'a, I: Tokens<'a>>(input: &mut I, step: &str, alloc: Global) -> anyhow::Result<()> {
+    if record(input, step, alloc)? {
+        return Ok(());
+    }
+    set(input, step)
+}
+
 /// Takes the steps, tells of each token that they hand out, and answers the source behind them.
 pub fn by_steps<'a, I: Tokens<'a> + Drop>(
     source: I,
@@ -75,13 +95,12 @@ pub fn by_steps<'a, I: Tokens<'a> + Drop>(
     for step in steps.split(' ') {
         match step {
             "" => {}
-            "next" => match input.next()? {
-                Some(token) => tell(&token, text, out)?,
-                None => tell_end(out)?,
-            },
+            "next" => tell_next(input.next()?, text, out)?,
             "clone" => input = input.try_clone()?,
-            _ if record(&mut input, step, alloc)? => {}
-            _ => set(&mut input, step)?,
+            _ => match look(step) {
+                Some(at) => tell_next(input.look(at)?, text, out)?,
+                None => tell_source(&mut input, step, alloc)?,
+            },
         }
     }
     Ok(input)

@@ -55,6 +55,18 @@ pub fn tell(token: &TokenAndSpan<'_>, text: &str, out: &mut String) -> anyhow::R
     tell_token(token, text, out)
 }
 
+/// Adds a token, or the end.
+pub fn tell_next(
+    token: Option<TokenAndSpan<'_>>,
+    text: &str,
+    out: &mut String,
+) -> anyhow::Result<()> {
+    match token {
+        Some(token) => tell(&token, text, out),
+        None => tell_end(out),
+    }
+}
+
 /// Adds a token that waits, or that none does, with a word before it.
 pub fn tell_as(
     word: &str,

@@ -1,0 +1,7 @@
+-- What a lexer looks ahead with.
+use Rattle.ecma_tokens.specs.Settings.{scout_of}
+use Rattle.ecma_lexing.specs.States.{State}
+
+-- the same text, with what the next two tokens depend on
+abbrev pub scout_in : State → State
+scout_in s = record s { settings = scout_of s.settings }
