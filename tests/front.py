@@ -95,7 +95,7 @@ def fault(row):
 def nesting(row):
     """The least limit that takes a text: each lower one has to find it too deep, the next one and the greatest have to take it."""
     least = int(row.text(1))
-    limits = [*range(1, least + 2), 2048]
+    limits = [*range(1, least + 2), 4096]
     all_done = yield [Run(("--script", "--minify", "--nesting", str(limit)), row.field(0)) for limit in limits]
     for limit, done in zip(limits, map(ran, all_done)):
         if limit < least and (done.status, done.out, done.err) != (1, b"", TOO_DEEP):
@@ -110,8 +110,8 @@ def deepest(row):
     too deep. The fields: what opens, what stands inside, what closes, how many, and what stands before and behind all."""
     opens, inside, closes, count, before, behind = (row.field(it) if it < len(row.fields) else b"" for it in range(6))
     text, more = (before + opens * it + inside + closes * it + behind for it in (int(count), int(count) + 1))
-    minify = ("--script", "--minify", "--nesting", "2048")
-    asked = [Run(minify, text), Run(("--script", "--indent", "0", "--nesting", "2048"), text), Run(minify, more)]
+    minify = ("--script", "--minify", "--nesting", "4096")
+    asked = [Run(minify, text), Run(("--script", "--indent", "0", "--nesting", "4096"), text), Run(minify, more)]
     minified, formatted, deeper = map(ran, (yield asked))
     if (deeper.status, deeper.out, deeper.err) != (1, b"", TOO_DEEP):
         return f"one more is taken, or refused otherwise: {deeper.err.decode(errors='replace')}"

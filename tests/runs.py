@@ -119,14 +119,14 @@ def positions():
 
 def settings_refused():
     """Settings that are refused each alone, before anything is read or written."""
-    words = ["jsx", "blanks=9", "tabs=9", "blanks=255", "tabs=255", "nesting=0", "nesting=2049", "nesting=4294967295"]
+    words = ["jsx", "blanks=9", "tabs=9", "blanks=255", "tabs=255", "nesting=0", "nesting=4097", "nesting=4294967295"]
     asked = [run([it], text) for it in words for text in (b"a", b"a b", b"((((a))))")]
     return (yield from all_are(asked, [told("options refused", b"", b"", (0, 0), (0, 0))] * len(asked)))
 
 
 def settings_taken():
     """Their neighbours are taken."""
-    words = ["nesting=3", "nesting=2048", "blanks=0", "blanks=8", "tabs=0", "tabs=8", "module", "es3", "all", "positions"]
+    words = ["nesting=3", "nesting=4096", "blanks=0", "blanks=8", "tabs=0", "tabs=8", "module", "es3", "all", "positions"]
     asked = [run([it], b" a ; b ;") for it in words]
     for question, answer in zip(asked, (yield asked)):
         if only(answer)[:2] != [b"written", b"a;b"]:

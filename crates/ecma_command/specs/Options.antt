@@ -20,9 +20,9 @@ width_of (Tabs n) = n
 abbrev pub has_jsx : Syntax → Bool
 has_jsx (Es syntax) = syntax.jsx
 
--- A run refuses JSX, a nesting outside 1 to 2,048, and more than 8 characters of indentation.
+-- A run refuses JSX, a nesting outside 1 to 4,096, and more than 8 characters of indentation.
 abbrev pub are_refused : Options → Bool
-are_refused o = has_jsx o.syntax || o.nesting == 0 || nat_lt 2048 o.nesting || nat_lt 8 (width_of o.indent)
+are_refused o = has_jsx o.syntax || o.nesting == 0 || nat_lt 4096 o.nesting || nat_lt 8 (width_of o.indent)
 
 abbrev pub is_module : Goal → Bool
 is_module g.Module = true

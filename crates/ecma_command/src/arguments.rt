@@ -68,7 +68,7 @@ fn nesting_option<'a>(alloc: Global) -> Arg<'a>
     ensures rule { rule_of result ≡ valued (codes "nesting") }
     ensures local { result.global ≡ false }
 {
-    let help = "How deep the program may nest: 1 to 2048 [default: 256]";
+    let help = "How deep the program may nest: 1 to 4096 [default: 256]";
     valued(alloc, "nesting", "N", help)
 }
 

@@ -76,7 +76,7 @@ pub struct Options {
     pub line_end: LineEnd,
     pub indent: Indent,
     pub syntax: Syntax,
-    /// How deep the tree may nest: from 1 to 2,048.
+    /// How deep the tree may nest: from 1 to 4,096.
     pub nesting: u32,
     /// Whether the run answers positions: the places of the source that are marked, each with the line and the column at
     /// which it is written.
@@ -110,7 +110,7 @@ impl Options {
     ghost use Rattle.ecma_command.specs.Options.{are_refused};
 
     /// The deepest nesting that may be asked for.
-    pub const DEEPEST: u32 = 2048;
+    pub const DEEPEST: u32 = 4096;
 
     /// The widest step of indentation that may be asked for.
     pub const WIDEST: u8 = 8;

@@ -28,7 +28,7 @@ use ecma_token::Span;
 use ecma_tokens::Tokens;
 
 /// `async` and a parenthesis: a call, or the parameters of an arrow.
-#[inline(never)]
+#[inline(always)]
 #[tactic(auto, using(ecma_parse_state::proofs::Marks::marks, ecma_parse_base::proofs::Packs::packs, crate::proofs::Starts::starts), unfolding(crate::specs::Asyncs::async_call))]
 pub fn call_or_arrow<'a, I: Tokens<'a> + Drop, N: Nested<'a, I>>(
     p: &mut Parser<'a, I>,
@@ -54,6 +54,7 @@ pub fn call_or_arrow<'a, I: Tokens<'a> + Drop, N: Nested<'a, I>>(
 }
 
 /// Whether a name comes that is the one parameter of an arrow, all on one line.
+#[inline(never)]
 #[tactic(auto)]
 fn is_param<'a, I: Tokens<'a> + Drop>(
     p: &Parser<'a, I>,
@@ -71,7 +72,7 @@ fn is_param<'a, I: Tokens<'a> + Drop>(
 }
 
 /// The parameter and the rest of an arrow behind `async`.
-#[inline(never)]
+#[inline(always)]
 #[tactic(auto, using(ecma_parse_state::proofs::Marks::marks, crate::proofs::Starts::starts), unfolding(crate::specs::Asyncs::async_arrow))]
 pub fn async_arrow<'a, I: Tokens<'a> + Drop, N: Nested<'a, I>>(
     p: &mut Parser<'a, I>,
@@ -90,7 +91,7 @@ pub fn async_arrow<'a, I: Tokens<'a> + Drop, N: Nested<'a, I>>(
 }
 
 /// What follows `async`.
-#[inline(never)]
+#[inline(always)]
 #[tactic(auto, using(ecma_parse_state::proofs::Marks::marks, crate::proofs::Starts::starts), unfolding(crate::specs::Asyncs::async_end, crate::specs::Asyncs::async_arrow))]
 pub fn async_end<'a, I: Tokens<'a> + Drop, N: Nested<'a, I>>(
     p: &mut Parser<'a, I>,

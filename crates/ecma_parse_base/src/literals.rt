@@ -106,6 +106,7 @@ pub fn tpl_element(
 }
 
 /// A template as an expression.
+#[inline(never)]
 pub fn template(alloc: Global, tpl: Box<Tpl>) -> Result<Operand, Failure>
     requires { fits_tpl (λ p. p) tpl.value }
     ensures value { IfOk result (λ o. tree_of o ≡ view_tpl inner tpl.value) }

@@ -68,7 +68,7 @@ pub fn not_allowed(span: Span) -> Failure
 }
 
 /// A statement as a part of another one; where it may be a plain function, that.
-#[inline(never)]
+#[inline(always)]
 #[tactic(auto, unfolding(ecma_reading::specs::Statements::sub_by))]
 pub fn sub<'a, I: Tokens<'a> + Drop, N: Nested<'a, I>>(
     p: &mut Parser<'a, I>,

@@ -87,13 +87,12 @@ pub fn member_turn<'a, I: Tokens<'a> + Drop, N: Nested<'a, I>>(
         add(list, made::empty_member(place))?;
         return Ok(true);
     }
-    if is_static(p, nested)? {
-        let member = static_member(p, nested, code)?;
-        add(list, member)?;
-        return Ok(true);
-    }
-    let start = p.lo();
-    let member = member_rest(p, nested, code, start, false)?;
+    let member = if is_static(p, nested)? {
+        static_member(p, nested, code)?
+    } else {
+        let start = p.lo();
+        member_rest(p, nested, code, start, false)?
+    };
     add(list, member)?;
     Ok(true)
 }
@@ -117,7 +116,7 @@ pub fn member_list<'a, I: Tokens<'a> + Drop, N: Nested<'a, I>>(
 }
 
 /// A class, from the brace of its members on. Its span starts at `whole`.
-#[inline(never)]
+#[inline(always)]
 #[tactic(auto, using(ecma_parse_state::proofs::Marks::marks, ecma_parse_base::proofs::Packs::packs), unfolding(ecma_reading::specs::Statements::members_by, crate::specs::Members::member_list))]
 pub fn members<'a, I: Tokens<'a> + Drop, N: Nested<'a, I>>(
     p: &mut Parser<'a, I>,
@@ -181,7 +180,7 @@ pub fn class_decl<'a, I: Tokens<'a> + Drop, N: Nested<'a, I>>(
 }
 
 /// A class as an expression. All of it is strict code.
-#[inline(never)]
+#[inline(always)]
 #[tactic(auto, using(ecma_parse_state::proofs::Marks::marks), unfolding(ecma_reading::specs::Expressions::class_expr_by))]
 pub fn class_expr<'a, I: Tokens<'a> + Drop, N: Nested<'a, I>>(
     p: &mut Parser<'a, I>,

@@ -65,7 +65,7 @@ pub fn class_key<'a, I: Tokens<'a> + Drop, N: Nested<'a, I>>(
 }
 
 /// A field, after its key. Where it has no value, it ends so.
-#[inline(never)]
+#[inline(always)]
 #[tactic(auto, using(ecma_parse_state::proofs::Marks::marks, crate::proofs::Keys::pairs), unfolding(crate::specs::Members::field_by))]
 pub fn field<'a, I: Tokens<'a> + Drop, N: Nested<'a, I>>(
     p: &mut Parser<'a, I>,

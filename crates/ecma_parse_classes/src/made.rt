@@ -119,6 +119,7 @@ pub fn method(
 }
 
 /// A method that is no getter and no setter; by its key a constructor, where one may stand.
+#[inline(never)]
 #[tactic(auto, using(crate::proofs::Keys::keys))]
 pub fn plain_method(
     span: Span,
@@ -189,6 +190,7 @@ pub fn private_prop(
 }
 
 /// A field, by its key.
+#[inline(never)]
 #[tactic(auto, using(crate::proofs::Keys::keys))]
 pub fn field(
     alloc: Global,

@@ -145,7 +145,7 @@ pub fn generator_member<'a, I: Tokens<'a> + Drop, N: Nested<'a, I>>(
 }
 
 /// A member that is no generator, no `async` method, no getter and no setter.
-#[inline(never)]
+#[inline(always)]
 #[tactic(auto, using(ecma_parse_state::proofs::Marks::marks), unfolding(crate::specs::Members::last_member))]
 pub fn last_member<'a, I: Tokens<'a> + Drop, N: Nested<'a, I>>(
     p: &mut Parser<'a, I>,
@@ -166,7 +166,7 @@ pub fn last_member<'a, I: Tokens<'a> + Drop, N: Nested<'a, I>>(
 }
 
 /// A member that is no generator and no `async` method.
-#[inline(never)]
+#[inline(always)]
 #[tactic(auto, using(ecma_parse_state::proofs::Marks::marks), unfolding(crate::specs::Members::word_member))]
 pub fn word_member<'a, I: Tokens<'a> + Drop, N: Nested<'a, I>>(
     p: &mut Parser<'a, I>,

@@ -136,6 +136,7 @@ pub fn is_rest_prop(prop: &PropOrSpread) -> bool
 }
 
 /// Adds a part of an object.
+#[inline(never)]
 fn add(props: &mut Vec<ObjectPatProp>, prop: ObjectPatProp) -> Result<(), Failure>
     requires old { All (λ x. fits_object_pat_prop (λ p. p) x) props.old.items }
     requires one { fits_object_pat_prop (λ p. p) prop }

@@ -92,6 +92,7 @@ fn has_default(pat: &PatBox) -> bool
 }
 
 /// What stands behind dots, as a rest.
+#[inline(never)]
 pub fn rest(span: Span, pat: PatBox) -> Result<RestPat, Failure>
     requires { holds_pat pat.part.value }
     ensures value { Gives (view_rest_pat inner) result (rest_of span (inner pat.part.value)) }
@@ -153,6 +154,7 @@ pub fn default_target(alloc: Global, binds: bool, target: AssignTarget) -> Resul
 }
 
 /// A pattern with an initialiser, or what else was assigned.
+#[inline(never)]
 #[tactic(auto, using(crate::proofs::Defaults::initialised_is))]
 pub fn default(alloc: Global, binds: bool, node: AssignExpr) -> Result<PatBox, Failure>
     requires { fits_assign_expr (λ p. p) node }
@@ -167,6 +169,7 @@ pub fn default(alloc: Global, binds: bool, node: AssignExpr) -> Result<PatBox, F
 }
 
 /// What is no array and no object, as a pattern.
+#[inline(never)]
 pub fn leaf(alloc: Global, binds: bool, kind: ExprKind) -> Result<PatBox, Failure>
     requires fits { fits_expr_kind (λ p. p) kind }
     requires leaf { is_leaf (view_expr_kind inner kind) ≡ true }

@@ -170,7 +170,7 @@ pub fn call<'a, I: Tokens<'a> + Drop, N: Nested<'a, I>>(
 }
 
 /// What follows `?.`, after its object.
-#[inline(never)]
+#[inline(always)]
 #[tactic(auto, using(ecma_parse_state::proofs::Marks::marks, ecma_parse_base::proofs::Packs::packs), unfolding(ecma_reading::specs::Expressions::chain_by))]
 pub fn chain<'a, I: Tokens<'a> + Drop, N: Nested<'a, I>>(
     p: &mut Parser<'a, I>,

@@ -28,7 +28,6 @@ use ecma_tokens::Tokens;
 use std::alloc::Global;
 
 /// Adds characters and the expression behind them.
-#[inline(never)]
 fn add(spans: &mut Spans, element: TplElement, read: Operand) -> Result<(), Failure>
     requires fits { FitSpans spans.old }
     ensures exprs { IfOk result (λ _. (spans_of spans.new).exprs ≡ (spans_of spans.old).exprs ++ tree_of read ∷ []) }
@@ -42,7 +41,7 @@ fn add(spans: &mut Spans, element: TplElement, read: Operand) -> Result<(), Fail
 }
 
 /// What ends the characters of a template: its end, or an expression. Whether more characters follow.
-#[inline(never)]
+#[inline(always)]
 #[tactic(auto, using(ecma_parse_state::proofs::Marks::marks), unfolding(ecma_reading::specs::Expressions::quasi_end))]
 pub fn characters_end<'a, I: Tokens<'a> + Drop, N: Nested<'a, I>>(
     p: &mut Parser<'a, I>,

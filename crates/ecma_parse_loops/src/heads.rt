@@ -101,7 +101,7 @@ fn declares_one<'a, I: Tokens<'a> + Drop, N: Nested<'a, I>>(
 }
 
 /// What follows what is declared: `in`, `of` or a semicolon.
-#[inline(never)]
+#[inline(always)]
 #[tactic(auto, unfolding(ecma_reading::specs::Statements::head_rest))]
 pub fn head_rest<'a, I: Tokens<'a> + Drop, N: Nested<'a, I>>(
     p: &mut Parser<'a, I>,

@@ -68,7 +68,7 @@ pub fn for_rest<'a, I: Tokens<'a> + Drop, N: Nested<'a, I>>(
 }
 
 /// What is iterated over, and the body.
-#[inline(never)]
+#[inline(always)]
 #[tactic(auto, unfolding(crate::specs::Heads::over_by))]
 pub fn over<'a, I: Tokens<'a> + Drop, N: Nested<'a, I>>(
     p: &mut Parser<'a, I>,

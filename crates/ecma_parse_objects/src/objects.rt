@@ -59,7 +59,7 @@ pub fn prop_turn<'a, I: Tokens<'a> + Drop, N: Nested<'a, I>>(
 }
 
 /// The properties of an object, after its brace.
-#[inline(never)]
+#[inline(always)]
 #[tactic(auto, using(ecma_parse_state::proofs::Iterate::iterates), unfolding(crate::specs::Lists::props_by))]
 pub fn props<'a, I: Tokens<'a> + Drop, N: Nested<'a, I>>(
     p: &mut Parser<'a, I>,

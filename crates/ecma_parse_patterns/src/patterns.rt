@@ -84,7 +84,7 @@ pub fn array_items<'a, I: Tokens<'a> + Drop, N: Nested<'a, I>>(
 }
 
 /// An array, from its bracket on.
-#[inline(never)]
+#[inline(always)]
 #[tactic(auto, using(ecma_parse_state::proofs::Marks::marks, ecma_parse_base::proofs::Packs::packs), unfolding(ecma_reading::specs::Statements::array_pat_by, crate::specs::Items::array_items))]
 pub fn array<'a, I: Tokens<'a> + Drop, N: Nested<'a, I>>(
     p: &mut Parser<'a, I>,
@@ -123,6 +123,7 @@ pub fn object_rest<'a, I: Tokens<'a> + Drop, N: Nested<'a, I>>(
 }
 
 /// Adds a property to those so far.
+#[inline(never)]
 fn add(list: &mut Vec<ObjectPatProp>, item: ObjectPatProp) -> Result<(), Failure>
     requires list { All (λ y. fits_object_pat_prop (λ p. p) y) list.old.items }
     requires item { fits_object_pat_prop (λ p. p) item }
@@ -181,7 +182,7 @@ pub fn object_items<'a, I: Tokens<'a> + Drop, N: Nested<'a, I>>(
 }
 
 /// An object, from its brace on.
-#[inline(never)]
+#[inline(always)]
 #[tactic(auto, using(ecma_parse_state::proofs::Marks::marks, ecma_parse_base::proofs::Packs::packs), unfolding(ecma_reading::specs::Statements::object_pat_by, crate::specs::Items::object_items))]
 pub fn object<'a, I: Tokens<'a> + Drop, N: Nested<'a, I>>(
     p: &mut Parser<'a, I>,

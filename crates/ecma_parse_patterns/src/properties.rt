@@ -25,7 +25,7 @@ use ecma_token::{BytePos, Span};
 use ecma_tokens::Tokens;
 
 /// What follows the colon of a property.
-#[inline(never)]
+#[inline(always)]
 #[tactic(auto, using(ecma_parse_state::proofs::Marks::marks), unfolding(ecma_reading::specs::Statements::keyed_item, crate::specs::Items::item_by))]
 pub fn keyed<'a, I: Tokens<'a> + Drop, N: Nested<'a, I>>(
     p: &mut Parser<'a, I>,
@@ -105,7 +105,7 @@ pub fn word_property<'a, I: Tokens<'a> + Drop, N: Nested<'a, I>>(
 }
 
 /// A property of a pattern.
-#[inline(never)]
+#[inline(always)]
 #[tactic(auto, using(ecma_parse_state::proofs::Marks::marks, crate::proofs::Starts::starts), unfolding(ecma_reading::specs::Statements::pattern_prop, ecma_reading::specs::Statements::named_item, ecma_reading::specs::Source::name))]
 pub fn property<'a, I: Tokens<'a> + Drop, N: Nested<'a, I>>(
     p: &mut Parser<'a, I>,

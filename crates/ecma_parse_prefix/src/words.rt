@@ -186,9 +186,9 @@ fn own_word<'a, I: Tokens<'a> + Drop, N: Nested<'a, I>>(
     boolean_word(p, nested, code, level)
 }
 
-/// What a word starts. A name that is no word of the grammar is told at once.
+/// What a word starts. A name that is no word of the grammar is told at once, and so is `async`.
 #[inline(never)]
-#[tactic(auto, using(crate::proofs::Names::plain_word))]
+#[tactic(auto, using(crate::proofs::Names::plain_word, crate::proofs::Names::async_word))]
 pub fn keyword<'a, I: Tokens<'a> + Drop, N: Nested<'a, I>>(
     p: &mut Parser<'a, I>,
     nested: &N,
@@ -200,7 +200,7 @@ pub fn keyword<'a, I: Tokens<'a> + Drop, N: Nested<'a, I>>(
     ensures value { Gives (λ x. (tree_of x, stand I.state p.new)) result (reads.keyword_by (machine_of I.machine) (N.reads nested.now I.State I.machine) (code_of code) level (stand I.state p.old)) }
     ensures shorter { IfOk result (λ _. spec.bound (machine_of I.machine) (stand I.state p.new) < spec.bound (machine_of I.machine) (stand I.state p.old)) }
 {
-    if p.at(kinds::NAME) {
+    if p.at(kinds::NAME) || p.at(kinds::ASYNC) {
         return word(p, nested, code, level);
     }
     own_word(p, nested, code, level)

@@ -218,6 +218,7 @@ impl<'a, I: Tokens<'a> + Drop> Parser<'a, I> {
     /// # Errors
     ///
     /// Want of memory.
+    #[inline(never)]
     pub fn note(&mut self, start: u32) -> Result<(), Failure>
         ensures value { OnOk result (stand I.state self.new ≡ noted start (stand I.state self.old)) }
         ensures full { IfErr result IsMemory }

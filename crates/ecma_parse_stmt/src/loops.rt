@@ -79,6 +79,7 @@ pub fn target<'a, I: Tokens<'a> + Drop, N: Nested<'a, I>>(
 }
 
 /// Whether the token that comes may not start what stands before `of`: `let`, and `async` before `of` itself.
+#[inline(never)]
 fn is_barred<'a, I: Tokens<'a> + Drop>(p: &Parser<'a, I>, awaits: bool) -> Result<bool, Failure>
     ensures value { IfOk result (λ b. b ≡ bars_of (machine_of I.machine) awaits (stand I.state p.now)) }
     ensures full { IfErr result IsMemory }
@@ -94,7 +95,7 @@ fn is_barred<'a, I: Tokens<'a> + Drop>(p: &Parser<'a, I>, awaits: bool) -> Resul
 }
 
 /// An expression that heads a `for`, and what follows.
-#[inline(never)]
+#[inline(always)]
 #[tactic(auto, unfolding(ecma_reading::specs::Statements::for_expression, ecma_reading::specs::Statements::for_expression_rest, crate::specs::Parts::for_target))]
 pub fn for_expression<'a, I: Tokens<'a> + Drop, N: Nested<'a, I>>(
     p: &mut Parser<'a, I>,
@@ -121,6 +122,7 @@ pub fn for_expression<'a, I: Tokens<'a> + Drop, N: Nested<'a, I>>(
 /// # Errors
 ///
 /// Want of memory.
+#[inline(never)]
 fn heads_using<'a, I: Tokens<'a> + Drop, N: Nested<'a, I>>(
     p: &Parser<'a, I>,
     nested: &N,
@@ -141,6 +143,7 @@ fn heads_using<'a, I: Tokens<'a> + Drop, N: Nested<'a, I>>(
 /// # Errors
 ///
 /// Want of memory.
+#[inline(never)]
 fn heads_await_using<'a, I: Tokens<'a> + Drop, N: Nested<'a, I>>(
     p: &Parser<'a, I>,
     nested: &N,
@@ -157,7 +160,7 @@ fn heads_await_using<'a, I: Tokens<'a> + Drop, N: Nested<'a, I>>(
 }
 
 /// The head of a `for` that begins with `using`, or with an expression.
-#[inline(never)]
+#[inline(always)]
 #[tactic(auto, using(ecma_parse_state::proofs::Marks::marks, crate::proofs::Starts::starts), unfolding(crate::specs::Parts::using_head))]
 pub fn using_head<'a, I: Tokens<'a> + Drop, N: Nested<'a, I>>(
     p: &mut Parser<'a, I>,
@@ -183,7 +186,7 @@ pub fn using_head<'a, I: Tokens<'a> + Drop, N: Nested<'a, I>>(
 }
 
 /// The head of a `for`, after its parenthesis.
-#[inline(never)]
+#[inline(always)]
 #[tactic(auto, unfolding(ecma_reading::specs::Statements::for_head, crate::specs::Parts::using_head))]
 pub fn for_head<'a, I: Tokens<'a> + Drop, N: Nested<'a, I>>(
     p: &mut Parser<'a, I>,

@@ -154,7 +154,7 @@ pub fn declared<'a, I: Tokens<'a> + Drop, N: Nested<'a, I>>(
 }
 
 /// A statement that leaves a place, or one of the others.
-#[inline(always)]
+#[inline(never)]
 #[tactic(auto, unfolding(crate::specs::Parts::jump_stmt, crate::specs::Parts::declared_stmt))]
 pub fn jump<'a, I: Tokens<'a> + Drop, N: Nested<'a, I>>(
     p: &mut Parser<'a, I>,

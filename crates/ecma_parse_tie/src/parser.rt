@@ -81,6 +81,7 @@ impl<'a, 'n, I: Tokens<'a> + Drop, N: Inside<Parser<'a, I>>> Nested<'a, I> for T
         self.inside.class_tail(p, code, whole)
     }
 
+    #[inline(never)]
     fn target(&self, p: &Parser<'a, I>, kind: u8, left: Operand) -> Result<AssignTarget, Failure> {
         target(p.alloc, p.commas.as_slice(), kind, left.expr)
     }
