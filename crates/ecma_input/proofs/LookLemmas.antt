@@ -1,6 +1,6 @@
 -- What is looked at in a list that is kept from its end.
-use Rattle.std.proofs.Common.{◌≡◌, ℕ, zero, suc, ◌-◌, ◌+◌, List, [], ◌∷◌, ◌++◌, length, map, reverse, take, Option, None, Some, refl, sym, ap, ◌∙◌, arith, Bor}
-use Rattle.std.proofs.lemmas.List.{length-append, length-map, length-reverse, reverse-append, reverse-reverse, take_at}
+use Rattle.std.proofs.Common.{◌≡◌, ℕ, zero, suc, ◌-◌, List, [], ◌∷◌, ◌++◌, length, map, reverse, take, Option, None, Some, refl, sym, ap, ◌∙◌, arith, Bor}
+use Rattle.std.proofs.lemmas.List.{length-append, length-map, reverse-append, reverse-reverse, take_at}
 use Rattle.std.proofs.lemmas.Option.{slice_get-map}
 use Rattle.std.specs.List.{slice_get}
 use Rattle.std.specs.Option.{option_copied, option_map}
@@ -63,7 +63,7 @@ pub last_shown : (xs : List TokenAndSpan) (r : Option (Bor TokenAndSpan)) → op
     → option_map (λ t. shown_spot t.now) r ≡ first_of (reverse (map shown_spot xs))
 last_shown xs r e =
     shown r ∙ ap (option_map shown_spot) e ∙ sym (slice_get-map shown_spot xs (length xs - 1))
-    ∙ last_first (map shown_spot xs) (length xs - 1) (ap (λ n. n - 1) (sym (length-map shown_spot xs)))
+    ∙ last_first (map shown_spot xs) (length xs - 1) (ap (λ n. n - 1) (sym (length-map xs shown_spot)))
 
 -- and the last of the others the one behind it
 pub second_shown : (xs front : List TokenAndSpan) (r : Option (Bor TokenAndSpan)) → front ≡ take (length xs - 1) xs → option_copied r ≡ slice_get front (length front - 1)
@@ -71,7 +71,7 @@ pub second_shown : (xs front : List TokenAndSpan) (r : Option (Bor TokenAndSpan)
 second_shown xs front r f e =
     last_shown front r e
     ∙ ap first_of (ap (λ l. reverse (map shown_spot l)) f ∙ ap reverse (map_take (length xs - 1) xs)
-    ∙ front_behind (map shown_spot xs) (length xs - 1) (ap (λ n. n - 1) (sym (length-map shown_spot xs))))
+    ∙ front_behind (map shown_spot xs) (length xs - 1) (ap (λ n. n - 1) (sym (length-map xs shown_spot))))
 
 pub ruleset looks = (last_shown, second_shown)
 

@@ -9,7 +9,7 @@ ghost use Rattle.ecma_input.specs.Steps as spec;
 ghost use Rattle.ecma_input.specs.Steps.{stepped};
 
 use ecma_token::{BytePos, Context, Error, EsVersion, Syntax, TokenAndSpan};
-use ecma_tokens::{TokenContexts, Tokens};
+use ecma_tokens::{Look, TokenContexts, Tokens};
 
 /// A source of tokens that can go back in front of the token that it handed out last, which is then read
 /// again in other code. Where it is asked to keep what that takes, it keeps a copy of the source, made
@@ -225,6 +225,10 @@ impl<'a, I: Tokens<'a> + Drop> Tokens<'a> for Rewinding<I> {
         }
         self.copy = None;
         self.input.next()
+    }
+
+    fn look(&self, at: Look) -> Result<Option<TokenAndSpan<'a>>, Error> {
+        self.input.look(at)
     }
 
     /// One that can't go back in front of the last token.
