@@ -236,12 +236,14 @@ moved s mid new ds q out e a h =
     (one_step (apart ds q [] s) new (apart k.0 k.1 [] (step_of s).1) out (step_of s).0 (subst (λ (x : State). IsStep x out new) e h) k.2).0
 
 -- the token behind the next one, where one comes
-pub second_shown : (s scout mid new : State) (t : TokenAndSpan) (r : Result (Option TokenAndSpan) Error) → scout ≡ scout_in s → IsStep scout (Some (shown_spot t)) mid
-    → Steps (IsStep mid) r new → MatchResult r (λ t. option_map shown_spot t ≡ behind_by step_of (step_of s).0 (step_of s).1) (λ e. e.kind ≡ Memory)
-second_shown s scout mid new t (Ok u) e h k =
-    let j = scouted s mid (Some (shown_spot t)) (subst (λ (x : State). IsStep x (Some (shown_spot t)) mid) e h) in
+pub second_shown : (s scout mid new : State) (first : Option TokenAndSpan) (t : TokenAndSpan) (r : Result (Option TokenAndSpan) Error) → first ≡ Some t → scout ≡ scout_in s
+    → IsStep scout (option_map shown_spot first) mid → Steps (IsStep mid) r new
+    → MatchResult r (λ u. option_map shown_spot u ≡ behind_by step_of (step_of s).0 (step_of s).1) (λ e. e.kind ≡ Memory)
+second_shown s scout mid new first t (Ok u) is e h k =
+    let own = subst (λ o. IsStep scout (option_map shown_spot o) mid) is h in
+    let j = scouted s mid (Some (shown_spot t)) (subst (λ (x : State). IsStep x (Some (shown_spot t)) mid) e own) in
     moved (step_of s).1 mid new j.1 j.2 (option_map shown_spot u) j.3 j.4 k ∙ sym (behind_some s (shown_spot t) j.0)
-second_shown s scout mid new t (Err f) e h k = k
+second_shown s scout mid new first t (Err f) is e h k = k
 
 -- and where nothing comes
 pub none_shown : (s scout mid : State) → scout ≡ scout_in s → IsStep scout None mid → None ≡ behind_by step_of (step_of s).0 (step_of s).1

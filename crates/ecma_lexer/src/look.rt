@@ -35,7 +35,6 @@ impl<'a> Lexer<'a> {
     /// # Errors
     ///
     /// Want of memory.
-    #[tactic(auto, using(crate::proofs::LookLemmas::next_shown))]
     fn look_next(&self) -> Result<Option<TokenAndSpan<'a>>, Error>
         ensures { MatchResult result (λ t. option_map shown_spot t ≡ (step_of (state_in self.now)).0) (λ e. e.kind ≡ Memory) }
     {
@@ -48,7 +47,6 @@ impl<'a> Lexer<'a> {
     /// # Errors
     ///
     /// Want of memory.
-    #[tactic(auto, using(crate::proofs::LookLemmas::again_shown))]
     fn look_again(&self, place: BytePos) -> Result<Option<TokenAndSpan<'a>>, Error>
         ensures { MatchResult result (λ t. option_map shown_spot t ≡ (step_of (told_of (with_next_regexp (Some place.0) (state_in self.now).settings) (state_in self.now))).0) (λ e. e.kind ≡ Memory) }
     {
@@ -63,7 +61,7 @@ impl<'a> Lexer<'a> {
     /// # Errors
     ///
     /// Want of memory.
-    #[tactic(auto, using(crate::proofs::LookLemmas::second_shown, crate::proofs::LookLemmas::none_shown))]
+    #[tactic(auto, using(crate::proofs::LookLemmas::none_shown))]
     fn look_behind(&self) -> Result<Option<TokenAndSpan<'a>>, Error>
         ensures { MatchResult result (λ t. option_map shown_spot t ≡ behind_by step_of (step_of (state_in self.now)).0 (step_of (state_in self.now)).1) (λ e. e.kind ≡ Memory) }
     {
