@@ -37,15 +37,27 @@ spines::walk_rest-walk-requires-in-TaggedTpl g t c κs = λ h. (
 -- src/spines.rt
 pub spines::walk_rest-walk-requires-in-Member-base : goal.spines::walk_rest-walk-requires-in-Member-base
 spines::walk_rest-walk-requires-in-Member-base g t c κs = λ h. (
-  ((chain_name_falls 1 t c.args.link.now c.in-OptChain.x.span c.in-OptChain.x.optional c.in-Member-base.member refl
-        (sym c.link.view_is ∙ ap (view_expr_kind inner) c.in-OptChain.is ∙ ap (λ b. opt_chain_expr c.in-OptChain.x.span c.in-OptChain.x.optional (view_opt_chain_base inner b)) c.in-Member-base.is) c.decreases, tt), tt),
+  (
+    (
+      chain_name_falls 1 t c.args.link.now c.in-OptChain.x.span c.in-OptChain.x.optional c.in-Member-base.member refl
+          (sym c.link.view_is ∙ ap (view_expr_kind inner) c.in-OptChain.is ∙ ap (λ b. opt_chain_expr c.in-OptChain.x.span c.in-OptChain.x.optional (view_opt_chain_base inner b)) c.in-Member-base.is) c.decreases,
+      tt,
+    ),
+    tt,
+  ),
   search rules,
 )
 
 -- src/spines.rt
 pub spines::walk_rest-walk_args-requires-in-Call-base : goal.spines::walk_rest-walk_args-requires-in-Call-base
 spines::walk_rest-walk_args-requires-in-Call-base g t c κs = λ h. (
-  ((chain_arguments_fall 1 t c.args.link.now c.in-OptChain.x.span c.in-OptChain.x.optional c.in-Call-base.call refl
-        (sym c.link.view_is ∙ ap (view_expr_kind inner) c.in-OptChain.is ∙ ap (λ b. opt_chain_expr c.in-OptChain.x.span c.in-OptChain.x.optional (view_opt_chain_base inner b)) c.in-Call-base.is) c.decreases, tt), tt),
+  (
+    (
+      chain_arguments_fall 1 t c.args.link.now c.in-OptChain.x.span c.in-OptChain.x.optional c.in-Call-base.call refl
+          (sym c.link.view_is ∙ ap (view_expr_kind inner) c.in-OptChain.is ∙ ap (λ b. opt_chain_expr c.in-OptChain.x.span c.in-OptChain.x.optional (view_opt_chain_base inner b)) c.in-Call-base.is) c.decreases,
+      tt,
+    ),
+    tt,
+  ),
   search rules,
 )
