@@ -5,7 +5,8 @@
 
 #[cfg(test)]
 mod deep;
-pub mod examples;
+#[cfg(test)]
+mod examples;
 #[cfg(test)]
 mod expressions;
 #[cfg(test)]
