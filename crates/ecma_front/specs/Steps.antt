@@ -1,9 +1,10 @@
 -- What the steps of reading and printing answer.
-use Rattle.std.specs.Prelude.{◌≡◌, ◌≢◌, ℕ, List, [], ◌∷◌, Option, Result, Ok, Err}
+use Rattle.std.specs.Prelude.{◌≡◌, ℕ, List, [], ◌∷◌, Option, Result, Ok, Err}
 use Rattle.ecma_token.specs.declared.place.BytePos.{BytePos}
 use Rattle.ecma_token.specs.declared.place.LineCol.{LineCol}
 use Rattle.ecma_token.specs.declared.error.Error.{Error}
-use Rattle.ecma_token.specs.declared.error.SyntaxError.TheVariants as kinds
+use Rattle.ecma_parse_state.specs.declared.failure.Failure.{Failure}
+use Rattle.ecma_parse_state.specs.declared.failure.Failure.TheVariants as failures
 use Rattle.ecma_write.specs.declared.fault.EmitError.{EmitError}
 use Rattle.ecma_write.specs.declared.fault.EmitError.TheVariants as w
 use Rattle.ecma_tree.specs.Tree.{Tree}
@@ -13,18 +14,17 @@ use Rattle.ecma_front.specs.declared.fault.Fault.{Fault}
 use Rattle.ecma_front.specs.declared.fault.Fault.TheVariants as f
 use Rattle.ecma_front.specs.Formats.{IsProgramIn, IsRefused}
 
--- the fault of a run that a fault of the parser is told as
-abbrev pub Tells : Error → Fault → Type 0
-Tells e f.Memory = e.kind ≡ kinds.Memory
-Tells e f.TooDeep = e.kind ≡ kinds.TooDeep
-Tells e (f.Syntax d) = (d ≡ e) × (e.kind ≢ kinds.Memory) × (e.kind ≢ kinds.TooDeep)
-Tells e _ = ⊥
+-- the fault of a run that a failure of the parser is
+abbrev pub fault_in : Failure → Fault
+fault_in failures.Memory = f.Memory
+fault_in failures.TooDeep = f.TooDeep
+fault_in (failures.Syntax e) = f.Syntax e
 
 -- What was parsed where no fault was recorded; else the first of them, or why nothing was parsed.
-abbrev pub Judges : {X : Type 0} → Result X Error → List Error → Result X Fault → Type 0
+abbrev pub Judges : {X : Type 0} → Result X Failure → List Error → Result X Fault → Type 0
 Judges (Ok x) [] (Ok y) = y ≡ x
 Judges (Ok x) (e ∷ es) (Err fault) = fault ≡ f.Syntax e
-Judges (Err e) recorded (Err fault) = Tells e fault
+Judges (Err e) recorded (Err fault) = fault ≡ fault_in e
 Judges parsed recorded answer = ⊥
 
 -- the fault of a run that a fault of the printer is told as

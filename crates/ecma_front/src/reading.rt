@@ -4,37 +4,37 @@ ghost use Rattle.std.specs.Str.{chars};
 ghost use Rattle.ecma_command.specs.Options.{are_refused, is_module};
 ghost use Rattle.ecma_front.specs.Faults.{is_text_fault};
 ghost use Rattle.ecma_front.specs.Formats.{Reads, longest_text};
-ghost use Rattle.ecma_front.specs.Steps.{Judges, ReadsBytes, Tells};
+ghost use Rattle.ecma_front.specs.Steps.{Judges, ReadsBytes, fault_in};
 
 use crate::fault::Fault;
 use crate::input::LONGEST_TEXT;
 use ecma_command::{Goal, Options};
 use ecma_lexer::Lexer;
 use ecma_node::{Program, ProgramKind};
-use ecma_parsed::{PResult, Parser};
-use ecma_token::{Error, SyntaxError};
+use ecma_parsed::{Failure, Parser};
+use ecma_token::Error;
 use std::alloc::Global;
 
 /// The deepest nesting that may be asked for.
 const DEEPEST: u32 = Options::DEEPEST;
 
-/// What a fault of the parser is told as.
-fn told(error: Error) -> Fault
-    ensures { Tells error result }
+/// What a failure of the parser is told as.
+fn told(failure: Failure) -> Fault
+    ensures { result ≡ fault_in failure }
 {
-    match error.kind {
-        SyntaxError::Memory => Fault::Memory,
-        SyntaxError::TooDeep => Fault::TooDeep,
-        _ => Fault::Syntax(error),
+    match failure {
+        Failure::Memory => Fault::Memory,
+        Failure::TooDeep => Fault::TooDeep,
+        Failure::Syntax(error) => Fault::Syntax(error),
     }
 }
 
 /// What was parsed, where no fault was recorded; else the first of them.
-fn judged<T: Drop>(parsed: PResult<T>, recorded: &[Error]) -> Result<T, Fault>
+fn judged<T: Drop>(parsed: Result<T, Failure>, recorded: &[Error]) -> Result<T, Fault>
     ensures { Judges parsed recorded.now result }
 {
     match parsed {
-        Err(error) => Err(told(error)),
+        Err(failure) => Err(told(failure)),
         Ok(node) => match recorded.first() {
             Some(error) => Err(Fault::Syntax(*error)),
             None => Ok(node),
@@ -51,7 +51,7 @@ fn script(alloc: Global, text: &str, options: Options) -> Result<Program, Fault>
 {
     let mut parser: Parser<'_, Lexer<'_>> = Parser::new(alloc, options.syntax, text);
     parser.set_nesting(options.nesting);
-    let parsed = parser.parse_script();
+    let parsed = parser.read_script();
     let recorded = parser.take_errors();
     match judged(parsed, recorded.as_slice()) {
         Ok(script) => Ok(Program {
@@ -70,7 +70,7 @@ fn module(alloc: Global, text: &str, options: Options) -> Result<Program, Fault>
 {
     let mut parser: Parser<'_, Lexer<'_>> = Parser::new(alloc, options.syntax, text);
     parser.set_nesting(options.nesting);
-    let parsed = parser.parse_module();
+    let parsed = parser.read_module();
     let recorded = parser.take_errors();
     match judged(parsed, recorded.as_slice()) {
         Ok(module) => Ok(Program {

@@ -13,6 +13,8 @@ use Rattle.ecma_early.specs.Early.{early_errors}
 use Rattle.ecma_reading.specs.Source.{Fault, Machine, Stand}
 use Rattle.ecma_spells.specs.Text.{Setting, code_of}
 use Rattle.ecma_parse_state.specs.Fronts.{Front, told_of, machine_of}
+use Rattle.ecma_parse_state.specs.declared.failure.Failure.{Failure}
+use Rattle.ecma_parse_state.specs.declared.failure.Failure.TheVariants as failures
 use Rattle.ecma_parse_state.specs.declared.parser.Parser.{Parser}
 use Rattle.ecma_parse_entries.specs.Within as entries
 use Rattle.ecma_parsed.specs.Within as parsed
@@ -20,12 +22,12 @@ use Rattle.ecma_parsed.specs.Exact.{read_within}
 use Rattle.ecma_parsed.specs.Settled.{SettledBy, Settled}
 use Rattle.ecma_parsed.specs.Judged.{Each, JudgedBy, Judged}
 use Rattle.ecma_parsed.proofs.SettledLemmas.{first_settled}
-use Rattle.ecma_parser.specs.Answers.{Parses}
+use Rattle.ecma_parser.specs.Answers.{Parses, ReadsProgram}
 use Rattle.ecma_parser.specs.Entries.{source_in, syntax_in, limit_in, first_of, opened, opened_by, waiting}
 use Rattle.ecma_input.specs.Rewinding.{back_in}
 use Rattle.ecma_input.specs.declared.rewinding.Rewinding.{Rewinding}
 use Rattle.ecma_parser.specs.declared.entries.Entries.{Entries}
-use Rattle.ecma_parsed.specs.Answered.{AnsweredBy, Comes, SpelledBy, NewAnswer, Answered, EntriesAnswer}
+use Rattle.ecma_parsed.specs.Answered.{AnsweredBy, ReadBy, Comes, SpelledBy, NewAnswer, Answered, EntriesAnswer}
 
 -- both crates say of a program within the limit the same
 pub same_program : {S : Type 0} (m : Machine S) (limit : ℕ) (modules : Bool) (c : Code) (s : Stand S) → parsed.program_within m limit modules c s ≡ entries.program_within m limit modules c s
@@ -54,6 +56,14 @@ answered_by By view syntax old new (Err e) x h p = (
   },
   p.1,
 )
+
+-- so it is by a failure
+pub read_by : {X : Type 0} (By : Result Tree Fault → Type 0) (view : X → Tree) (syntax : EsSyntax) (old new : List Error) (result : Result X Failure) (x : Result Tree Fault) → By x → ReadsProgram view syntax result x old new
+    → ReadBy By view syntax result old new
+read_by By view syntax old new (Ok u) x h p = (subst (λ (y : Result Tree Fault). By y) p.0 h, p.1)
+read_by By view syntax old new (Err failures.Memory) x h p = (tt, p.1)
+read_by By view syntax old new (Err failures.TooDeep) x h p = (subst (λ (y : Result Tree Fault). By y) p.0 h, p.1)
+read_by By view syntax old new (Err (failures.Syntax e)) x h p = (subst (λ (y : Result Tree Fault). By y) p.0 h, p.1)
 
 -- ---- a new parser
 

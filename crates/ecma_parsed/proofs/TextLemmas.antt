@@ -15,14 +15,14 @@ use Rattle.ecma_spells.specs.Text.{Setting, Reads, TreeSpells, code_of, text_sta
 use Rattle.ecma_parse_state.specs.Fronts.{told_of}
 use Rattle.ecma_parse_state.specs.declared.parser.Parser.{Parser}
 use Rattle.ecma_sources_lexed.proofs.Hands.{new_at_start}
-use Rattle.ecma_parsed.specs.TextRead.{TextSettled}
+use Rattle.ecma_parsed.specs.TextRead.{TextBy, TextSettled}
 use Rattle.ecma_parsed.proofs.TextReadLemmas.{texts_settled}
-use Rattle.ecma_parser.specs.Answers.{Parses}
+use Rattle.ecma_parser.specs.Answers.{Parses, ReadsProgram}
 use Rattle.ecma_parser.specs.Entries.{limit_in}
 use Rattle.ecma_input.specs.declared.rewinding.Rewinding.{Rewinding}
 use Rattle.ecma_parser.specs.declared.entries.Entries.{Entries}
-use Rattle.ecma_parsed.specs.Texts.{TextsAnswered, NewAnswered}
-use Rattle.ecma_parsed.proofs.AnsweredLemmas.{Joins, new_answer, first_read, read_first, of_goal}
+use Rattle.ecma_parsed.specs.Texts.{TextsAnswered, NewAnswered, NewReading}
+use Rattle.ecma_parsed.proofs.AnsweredLemmas.{Joins, new_answer, read_by, first_read, read_first, of_goal}
 
 pub text_joins : (x : Setting) (modules : Bool) (text : List ℕ) → Joins x (λ t. Reads modules x.syntax t text) (λ t. TreeSpells x modules t text)
 text_joins x modules text = record {
@@ -54,3 +54,12 @@ chars_start state syntax text e u source = source ∙ ap (λ (n : ℕ). at_start
 
 pub new_answered : {I : Type 0} (state : I → State) {X : Type 0} (view : X → Tree) → NewAnswered state view
 new_answered state view modules syntax text e u h source result recorded p = texts_answered state view modules syntax EsNext (chars text) e h (chars_start state syntax text e u source) result recorded p
+
+pub new_reading : {I : Type 0} (state : I → State) {X : Type 0} (view : X → Tree) → NewReading state view
+new_reading state view modules syntax text e u h source result recorded p =
+    let start : State = at_start_of syntax EsNext text_start (chars text) (text_start + bytes (chars text)) in
+    let at : state e.reading.input.input ≡ start = chars_start state syntax text e u source in
+    let read : Result Tree Fault = first_read lexer_machine state modules e start in
+    read_by (TextBy modules (parts_of syntax) (chars text) (limit_in e)) view (parts_of syntax) [] recorded result read (text_first state modules syntax EsNext (chars text) e).read
+    (subst (λ (z : State). ReadsProgram view (parts_of z.settings.syntax) result read [] recorded) at
+    (subst (λ (r : Result Tree Fault). ReadsProgram view (parts_of (state e.reading.input.input).settings.syntax) result r [] recorded) (read_first lexer_machine state modules e h start at) p))

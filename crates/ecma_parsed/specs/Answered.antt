@@ -12,13 +12,15 @@ use Rattle.ecma_early.specs.Early.{early_errors}
 use Rattle.ecma_reading.specs.Source.{Fault, Unexpected, TooDeep, Machine}
 use Rattle.ecma_spells.specs.Text.{Setting, code_of}
 use Rattle.ecma_parse_state.specs.Fronts.{Front, told_of, machine_of}
+use Rattle.ecma_parse_state.specs.declared.failure.Failure.{Failure}
+use Rattle.ecma_parse_state.specs.declared.failure.Failure.TheVariants as failures
 use Rattle.ecma_parse_state.specs.declared.parser.Parser.{Parser}
 use Rattle.ecma_parse_entries.specs.Within.{program_within}
 use Rattle.ecma_sources_of.specs.Constant.{Constant}
 use Rattle.ecma_parsed.specs.Parsed.{EachDerived}
 use Rattle.ecma_parsed.specs.Judged.{Each, JudgedBy}
 use Rattle.ecma_parsed.specs.Settled.{SettledBy}
-use Rattle.ecma_parser.specs.Answers.{Parses}
+use Rattle.ecma_parser.specs.Answers.{Parses, ReadsProgram}
 use Rattle.ecma_parser.specs.Entries.{syntax_in, limit_in, first_of, opened}
 use Rattle.ecma_input.specs.declared.rewinding.Rewinding.{Rewinding}
 use Rattle.ecma_parser.specs.declared.entries.Entries.{Entries}
@@ -38,6 +40,18 @@ pub record Refused (By : Result Tree Fault → Type 0) (k : SyntaxError) : Type 
 abbrev pub AnsweredBy : {X : Type 0} → (Result Tree Fault → Type 0) → (X → Tree) → EsSyntax → Result X Error → List Error → List Error → Type 0
 AnsweredBy By view syntax (Ok x) old new = By (Ok (view x)) × (new ≡ old ++ early_errors syntax (view x))
 AnsweredBy By view syntax (Err e) old new = Refused By e.kind × (new ≡ old)
+
+-- Where each answer of a reading tells something, so does a failure: TooDeep what reading too deep tells, a fault what an unexpected token tells. Of want of
+-- memory nothing is said.
+abbrev pub FailsBy : (Result Tree Fault → Type 0) → Failure → Type 0
+FailsBy By failures.Memory = Unit {0}
+FailsBy By failures.TooDeep = By (Err TooDeep)
+FailsBy By (failures.Syntax e) = By (Err Unexpected)
+
+-- The same of an answer that is a tree or a failure.
+abbrev pub ReadBy : {X : Type 0} → (Result Tree Fault → Type 0) → (X → Tree) → EsSyntax → Result X Failure → List Error → List Error → Type 0
+ReadBy By view syntax (Ok x) old new = By (Ok (view x)) × (new ≡ old ++ early_errors syntax (view x))
+ReadBy By view syntax (Err e) old new = FailsBy By e × (new ≡ old)
 
 -- A tree spells something exactly where it is answered and no fault is recorded, but for want of memory.
 abbrev pub SpelledBy : (Tree → Type 0) → {X : Type 0} → (X → Tree) → Result X Error → List Error → Tree → Type 0
@@ -69,6 +83,11 @@ module _ {I S : Type 0} (m : tokens.Machine S) (state : I → Source S) where
   abbrev pub Promised : {X : Type 0} → (X → Tree) → Bool → Entries (Parser (Rewinding I)) → Result X Error → List Error → List Error → Type 0
   Promised view modules e result old new = let syntax = syntax_in state e in let code = code_of modules syntax in
       Parses view syntax result (program_within (machine_of m) (limit_in e) modules code (opened m state code.context e)) old new
+
+  -- The same of an entry that answers a failure.
+  abbrev pub PromisedReading : {X : Type 0} → (X → Tree) → Bool → Entries (Parser (Rewinding I)) → Result X Failure → List Error → List Error → Type 0
+  PromisedReading view modules e result old new = let syntax = syntax_in state e in let code = code_of modules syntax in
+      ReadsProgram view syntax result (program_within (machine_of m) (limit_in e) modules code (opened m state code.context e)) old new
 
   -- A parser that read no token yet, on a good source of tokens, answers by the grammar: what an entry promises is so much.
   abbrev pub EntriesAnswer : (Good : Source S → Type 0) (Same : Source S → Source S → Type 0) {X : Type 0} → (X → Tree) → Type 0

@@ -12,13 +12,13 @@ ghost use Rattle.ecma_parsed.specs.Lists.{ListsAnswered, NewListAnswered};
 ghost use Rattle.ecma_parsed.specs.Parsed.{ProgramsJudged};
 ghost use Rattle.ecma_parsed.specs.Settled.{FirstSettled};
 ghost use Rattle.ecma_parsed.specs.TextRead.{TextsSettled};
-ghost use Rattle.ecma_parsed.specs.Texts.{NewAnswered, TextsAnswered};
+ghost use Rattle.ecma_parsed.specs.Texts.{NewAnswered, NewReading, TextsAnswered};
 ghost use Rattle.ecma_token.specs.Tokens.{Spot};
 ghost use Rattle.ecma_tokens.specs.Machine.{Source, Machine};
 ghost use Rattle.ecma_tree.specs.Tree.{Tree};
 ghost use Rattle.std.specs.Prelude.{Bool, List};
 
-pub use ecma_parser::{PResult, Parser};
+pub use ecma_parser::{Failure, PResult, Parser};
 use ecma_sources::Sourced;
 use ecma_sources_of::Tokened;
 
@@ -114,11 +114,13 @@ pub trait Lexed {
 /// the tree which spells the text, but for want of memory; no other tree reads the text. A fault of
 /// another kind than want of memory and too deep is answered only where no tree of any nesting reads the
 /// text, too deep only where each that does nests deeper, and then no fault is recorded. So it is of a
-/// parser that `Entries::new` made, by what that promises.
+/// parser that `Entries::new` made, by what that promises. Of that `read_script` and `read_module` answer
+/// the only tree that reads the text, or a failure in the same way.
 #[tactic(auto)]
 pub fn texts_law<I: Lexed>()
     ensures answer { TextsAnswered I.state I.view }
     ensures made { NewAnswered I.state I.view }
+    ensures reading { NewReading I.state I.view }
 {}
 
 /// What a parser reads a list of tokens by, a `TokensInput` or a `Capturing` of one, with what stands behind

@@ -15,11 +15,16 @@ pub record Refuses (k : SyntaxError) (read : Result Tree Fault) : Type 0 where
   pub deep : k ≡ kinds.TooDeep → read ≡ Err TooDeep
   pub fault : k ≢ kinds.Memory → k ≢ kinds.TooDeep → read ≡ Err Unexpected
 
--- the kind of fault that tells of a failure, whatever is read
+-- the kind of fault that a failure is told as, whatever is read
 abbrev pub Tells : Failure → SyntaxError → Type 0
 Tells e k = (read : Result Tree Fault) → Fails e read → Refuses k read
 
--- An entry answers the tree that is read, and its early errors come behind the faults that were recorded; or it answers a fault, and records none.
+-- An entry answers the tree that is read, and its early errors come behind the faults that were recorded; or it answers why nothing is read, and records none.
+abbrev pub ReadsProgram : {X : Type 0} → (X → Tree) → EsSyntax → Result X Failure → Result Tree Fault → List Error → List Error → Type 0
+ReadsProgram view syntax (Ok x) read old new = (read ≡ Ok (view x)) × (new ≡ old ++ early_errors syntax (view x))
+ReadsProgram view syntax (Err e) read old new = Fails e read × (new ≡ old)
+
+-- The same of an entry that tells a fault.
 abbrev pub Parses : {X : Type 0} → (X → Tree) → EsSyntax → Result X Error → Result Tree Fault → List Error → List Error → Type 0
 Parses view syntax (Ok x) read old new = (read ≡ Ok (view x)) × (new ≡ old ++ early_errors syntax (view x))
 Parses view syntax (Err e) read old new = Refuses e.kind read × (new ≡ old)

@@ -1,20 +1,20 @@
 //! A program that is not said to be a script or a module: it is parsed as a module where it tells that it is one.
 ghost use Rattle.std.specs.Prelude.{◌≡◌, false, true, IfOk, IfSome, MatchOption, MatchResult};
-ghost use Rattle.ecma_token.specs.declared.error.SyntaxError.TheVariants.{Memory};
 ghost use Rattle.ecma_node.specs.Fits.{fits_module};
 ghost use Rattle.ecma_node.specs.Placed.{inner};
 ghost use Rattle.ecma_node.specs.View.{view_module};
 ghost use Rattle.ecma_syntax.specs.Input.{module_code, script_code};
+ghost use Rattle.ecma_parse_state.specs.Answers.{IsMemory};
 ghost use Rattle.ecma_parse_state.specs.Fronts.{machine_of};
 ghost use Rattle.ecma_parse_entries.specs.Within.{program_within};
 ghost use Rattle.ecma_parser.specs.Choice.{Chooses, IsMeant, NotMeant};
 ghost use Rattle.ecma_parser.specs.Entries.{ctx_in, faults_in, limit_in, opened, syntax_in};
 
 use crate::entries::{Entries, Reading};
-use crate::faults::PResult;
+use crate::faults::{PResult, told};
 use ecma_goal::tells_module;
 use ecma_node::{Module, Program, ProgramKind};
-use ecma_token::SyntaxError;
+use ecma_parse_state::Failure;
 use ecma_tokens::Tokens;
 
 impl<'a, I: Tokens<'a> + Drop> Entries<Reading<'a, I>> {
@@ -30,7 +30,7 @@ impl<'a, I: Tokens<'a> + Drop> Entries<Reading<'a, I>> {
         ensures context { ctx_in I.state self.new ≡ ctx_in I.state self.old }
         ensures limit { limit_in self.new ≡ limit_in self.old }
     {
-        if let Some(module) = self.meant_module()? {
+        if let Some(module) = self.meant_module().map_err(told)? {
             return Ok(Program {
                 kind: ProgramKind::Module(module),
             });
@@ -46,17 +46,19 @@ impl<'a, I: Tokens<'a> + Drop> Entries<Reading<'a, I>> {
     /// # Errors
     ///
     /// Want of memory.
-    fn meant_module(&mut self) -> PResult<Option<Module>>
+    fn meant_module(&mut self) -> Result<Option<Module>, Failure>
         ensures meant { IfOk result (λ m. MatchOption m (NotMeant (syntax_in I.state self.old) (program_within (machine_of I.machine) (limit_in self.old) true (module_code (syntax_in I.state self.old)) (opened I.machine I.state (module_code (syntax_in I.state self.old)).context self.old))) (λ x. IsMeant (syntax_in I.state self.old) (program_within (machine_of I.machine) (limit_in self.old) true (module_code (syntax_in I.state self.old)) (opened I.machine I.state (module_code (syntax_in I.state self.old)).context self.old)) (view_module inner x))) }
         ensures stays { IfOk result (λ m. MatchOption m (self.new ≡ self.old) (λ x. ctx_in I.state self.new ≡ ctx_in I.state self.old)) }
         ensures fits { IfOk result (λ m. IfSome m (λ x. fits_module (λ p. p) x)) }
         ensures started { IfOk result (λ m. IfSome m (λ _. self.new.started ≡ true)) }
-        ensures failed { MatchResult result (λ m. limit_in self.new ≡ limit_in self.old) (λ e. (e.kind ≡ Memory) × (self.new ≡ self.old)) }
+        ensures failed { MatchResult result (λ m. limit_in self.new ≡ limit_in self.old) (λ e. IsMemory e × (self.new ≡ self.old)) }
         ensures faults { faults_in self.new ≡ faults_in self.old }
     {
-        let mut copy = self.try_clone()?;
+        let Ok(mut copy) = self.try_clone() else {
+            return Err(Failure::Memory);
+        };
         let recorded = copy.take_errors();
-        match copy.parse_module() {
+        match copy.read_module() {
             Ok(module) => {
                 if !copy.faults.is_empty() || !tells_module(&module) {
                     return Ok(None);
@@ -65,12 +67,8 @@ impl<'a, I: Tokens<'a> + Drop> Entries<Reading<'a, I>> {
                 *self = copy;
                 Ok(Some(module))
             }
-            Err(error) => {
-                if error.kind == SyntaxError::Memory {
-                    return Err(error);
-                }
-                Ok(None)
-            }
+            Err(Failure::Memory) => Err(Failure::Memory),
+            Err(Failure::TooDeep | Failure::Syntax(_)) => Ok(None),
         }
     }
 }

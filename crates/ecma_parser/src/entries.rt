@@ -6,10 +6,12 @@ ghost use Rattle.ecma_token.specs.declared.version.EsVersion.TheVariants.{EsNext
 ghost use Rattle.ecma_tokens.specs.Machine.{shown_spot};
 ghost use Rattle.ecma_lexing.specs.States.{at_start_of};
 ghost use Rattle.ecma_lexer.specs.Lexer.{state_in};
+ghost use Rattle.ecma_parse_state.specs.Answers.{IsMemory};
 ghost use Rattle.ecma_parse_state.specs.Fronts.{told_of};
 
 use ecma_input::Rewinding;
 use ecma_lexer::Lexer;
+use ecma_parse_state::Failure;
 use ecma_parse_state::ahead::Ahead;
 use ecma_token::{BytePos, Context, Error, EsVersion, Syntax, TokenAndSpan};
 use ecma_tokens::Tokens;
@@ -116,22 +118,25 @@ impl<'a, I: Tokens<'a> + Drop> Entries<Reading<'a, I>> {
     /// # Errors
     ///
     /// Want of memory.
-    pub(crate) fn open(&mut self, ctx: Context, keeps: bool) -> Result<(), Error>
+    pub(crate) fn open(&mut self, ctx: Context, keeps: bool) -> Result<(), Failure>
         ensures stand { OnOk result (stood I.state self.new ≡ opened I.machine I.state ctx self.old) }
         ensures started { IfOk result (λ _. self.new.started ≡ true) }
         ensures limit { limit_in self.new ≡ limit_in self.old }
         ensures faults { faults_in self.new ≡ faults_in self.old }
-        ensures full { IfErr result (λ e. e.kind ≡ Memory) }
+        ensures full { IfErr result IsMemory }
     {
         if !self.started {
             self.reading.last = self.reading.input.start_pos();
             return self.read_ahead(ctx, keeps);
         }
-        if self.reading.input.go_back(ctx)? {
-            return self.read_ahead(ctx, keeps);
+        match self.reading.input.go_back(ctx) {
+            Ok(true) => self.read_ahead(ctx, keeps),
+            Ok(false) => {
+                self.tell(ctx, keeps);
+                Ok(())
+            }
+            Err(_) => Err(Failure::Memory),
         }
-        self.tell(ctx, keeps);
-        Ok(())
     }
 
     /// Tells the source of the code, and whether it is to keep what it takes to go back.
@@ -154,15 +159,18 @@ impl<'a, I: Tokens<'a> + Drop> Entries<Reading<'a, I>> {
     /// # Errors
     ///
     /// Want of memory.
-    fn read_ahead(&mut self, ctx: Context, keeps: bool) -> Result<(), Error>
+    fn read_ahead(&mut self, ctx: Context, keeps: bool) -> Result<(), Failure>
         ensures stand { OnOk result (stood I.state self.new ≡ ahead_of I.machine ctx self.old.reading.last.0 (source_in I.state self.old)) }
         ensures started { IfOk result (λ _. self.new.started ≡ true) }
         ensures limit { limit_in self.new ≡ limit_in self.old }
         ensures faults { faults_in self.new ≡ faults_in self.old }
-        ensures full { IfErr result (λ e. e.kind ≡ Memory) }
+        ensures full { IfErr result IsMemory }
     {
         self.tell(ctx, keeps);
-        self.reading.ahead = Ahead::new(self.reading.input.next()?);
+        let Ok(token) = self.reading.input.next() else {
+            return Err(Failure::Memory);
+        };
+        self.reading.ahead = Ahead::new(token);
         self.started = true;
         Ok(())
     }

@@ -1,4 +1,7 @@
 //! Why nothing was parsed, as a user is told.
+ghost use Rattle.std.specs.Prelude.{◌≡◌};
+ghost use Rattle.ecma_token.specs.declared.error.SyntaxError.TheVariants.{Memory};
+ghost use Rattle.ecma_parse_state.specs.Answers.{IsMemory};
 ghost use Rattle.ecma_parser.specs.Answers.{Tells};
 
 use ecma_parse_state::Failure;
@@ -9,7 +12,8 @@ pub type PResult<T> = Result<T, Error>;
 
 /// The fault that a user is told. No fault of a text is called want of memory or too deep.
 pub(crate) fn told(failure: Failure) -> Error
-    ensures { Tells failure result.kind }
+    ensures tells { Tells failure result.kind }
+    ensures memory { IsMemory failure → result.kind ≡ Memory }
 {
     match failure {
         Failure::Memory => Error {

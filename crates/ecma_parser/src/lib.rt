@@ -12,6 +12,7 @@ mod rules;
 
 pub use ecma_input::{Capturing, TokensInput};
 pub use ecma_parse_entries::{OutputType, PatType};
+pub use ecma_parse_state::Failure;
 pub use entries::{Entries, Parser};
 pub use faults::PResult;
 pub use object::ParseObject;

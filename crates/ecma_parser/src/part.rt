@@ -19,7 +19,6 @@ use ecma_input::Rewinding;
 use ecma_parse_state::{Around, Failure, Parser};
 use ecma_token::{Error, EsSyntax};
 use ecma_tokens::Tokens;
-use ecma_tokens::settings::out_of_memory;
 use std::alloc::{AllocError, Global};
 
 /// A rule whose part is read alone, in a script's code.
@@ -58,23 +57,20 @@ pub(crate) trait Rule<'a, I: Tokens<'a> + Drop> {
 impl<'a, I: Tokens<'a> + Drop> Entries<Reading<'a, I>> {
     /// The part of a rule. Its early errors are recorded.
     #[tactic(auto, using(crate::proofs::Read::fails_read))]
-    fn read_part<R: Rule<'a, Rewinding<I>>>(&mut self, rule: &R) -> PResult<R::Node>
+    fn read_part<R: Rule<'a, Rewinding<I>>>(&mut self, rule: &R) -> Result<R::Node, Failure>
         ensures value { ReadsPart R.tree (R.faults rule.now (syntax_in I.state self.old)) result (script_part I.machine I.state (R.reads rule.now I.State I.machine) self.old) (stood I.state self.new) (faults_in self.old) (faults_in self.new) }
         ensures fits { IfOk result R.fits }
         ensures started { IfOk result (λ _. self.new.started ≡ true) }
         ensures limit { limit_in self.new ≡ limit_in self.old }
     {
         let code = self.open_script()?;
-        let node = match rule.read(&mut self.reading, self.limit, code) {
-            Ok(node) => node,
-            Err(failure) => return Err(told(failure)),
-        };
-        let found = rule.errors(self.reading.alloc, code.syntax, &node);
-        self.record(found.map_err(out_of_memory)?)?;
+        let node = rule.read(&mut self.reading, self.limit, code)?;
+        let found = rule.errors(self.reading.alloc, code.syntax, &node)?;
+        self.record(found)?;
         Ok(node)
     }
 
-    /// The same, and the source is told the code again that it was told before.
+    /// The same, with a failure told as a fault, and the source told the code again that it was told before.
     #[tactic(auto, unfolding(crate::specs::Parts::left_in))]
     pub(crate) fn parse_part<R: Rule<'a, Rewinding<I>>>(&mut self, rule: &R) -> PResult<R::Node>
         ensures value { ParsesPart (machine_of I.machine) (ctx_in I.state self.old) R.tree (R.faults rule.now (syntax_in I.state self.old)) result (script_part I.machine I.state (R.reads rule.now I.State I.machine) self.old) (stood I.state self.new) (faults_in self.old) (faults_in self.new) }
@@ -86,6 +82,6 @@ impl<'a, I: Tokens<'a> + Drop> Entries<Reading<'a, I>> {
         let before = self.reading.input.ctx();
         let answer = self.read_part(rule);
         self.leave(before);
-        Ok(answer?)
+        answer.map_err(told)
     }
 }

@@ -1,6 +1,5 @@
 //! Parts of programs: expressions, patterns, parameters, keys, statements and items.
 ghost use Rattle.std.specs.Prelude.{◌≡◌, ◌++◌, true, All, IfErr, IfOk, MatchResult, OnOk};
-ghost use Rattle.ecma_token.specs.declared.error.SyntaxError.TheVariants.{Memory};
 ghost use Rattle.ecma_tree.specs.Tree.{list, trees_by};
 ghost use Rattle.ecma_node.specs.Fits.{fits_module_item, fits_param, fits_prop_name};
 ghost use Rattle.ecma_node.specs.Placed.{holds_expr, holds_pat, holds_stmt, inner};
@@ -11,6 +10,7 @@ ghost use Rattle.ecma_early.specs.Early.{early_errors, outermost};
 ghost use Rattle.ecma_early.specs.Early as early;
 ghost use Rattle.ecma_spells.specs.Fronts as fronts;
 ghost use Rattle.ecma_reading.specs.Source as spec;
+ghost use Rattle.ecma_parse_state.specs.Answers.{IsMemory};
 ghost use Rattle.ecma_parse_state.specs.Codes.{code_of};
 ghost use Rattle.ecma_parse_state.specs.Fronts.{machine_of};
 ghost use Rattle.ecma_parse_entries.specs.Items as items;
@@ -25,11 +25,10 @@ use crate::rules::{Binding, Expression, Key, ListItem, Parameters, Statement};
 use ecma_early_errors::part_errors;
 use ecma_node::{ExprBox, ModuleItem, Param, PatBox, PropName, StmtBox};
 use ecma_parse_entries::items::module_item_part;
-use ecma_parse_state::Around;
 use ecma_parse_state::operators::{ASSIGNMENT, EXPRESSION};
+use ecma_parse_state::{Around, Failure};
 use ecma_token::{Context, Error, Syntax};
 use ecma_tokens::Tokens;
-use ecma_tokens::settings::out_of_memory;
 
 impl<'a, I: Tokens<'a> + Drop> Entries<Reading<'a, I>> {
     /// An expression (ECMA-262, 13.16), as in a script, up to what doesn't go on with it. Its early errors are recorded.
@@ -175,18 +174,18 @@ impl<'a, I: Tokens<'a> + Drop> Entries<Reading<'a, I>> {
         let before = self.reading.input.ctx();
         let answer = self.module_item();
         self.leave(before);
-        Ok(answer?)
+        answer.map_err(told)
     }
 
     /// Tells the source of a script's code, and stands in front of the token that comes.
-    pub(crate) fn open_script(&mut self) -> PResult<Around>
+    pub(crate) fn open_script(&mut self) -> Result<Around, Failure>
         ensures code { IfOk result (λ c. code_of c ≡ script_code (syntax_in I.state self.old)) }
         ensures syntax { IfOk result (λ c. c.syntax ≡ syntax_in I.state self.old) }
         ensures stand { OnOk result (stood I.state self.new ≡ opened I.machine I.state (script_code (syntax_in I.state self.old)).context self.old) }
         ensures started { IfOk result (λ _. self.new.started ≡ true) }
         ensures limit { limit_in self.new ≡ limit_in self.old }
         ensures faults { faults_in self.new ≡ faults_in self.old }
-        ensures full { IfErr result (λ e. e.kind ≡ Memory) }
+        ensures full { IfErr result IsMemory }
     {
         let Syntax::Es(syntax) = self.reading.input.syntax();
         let code = in_script(syntax);
@@ -195,14 +194,14 @@ impl<'a, I: Tokens<'a> + Drop> Entries<Reading<'a, I>> {
     }
 
     /// Tells the source of a module's code, and stands in front of the token that comes.
-    fn open_module(&mut self) -> PResult<Around>
+    fn open_module(&mut self) -> Result<Around, Failure>
         ensures code { IfOk result (λ c. code_of c ≡ module_code (syntax_in I.state self.old)) }
         ensures syntax { IfOk result (λ c. c.syntax ≡ syntax_in I.state self.old) }
         ensures stand { OnOk result (stood I.state self.new ≡ opened I.machine I.state (module_code (syntax_in I.state self.old)).context self.old) }
         ensures started { IfOk result (λ _. self.new.started ≡ true) }
         ensures limit { limit_in self.new ≡ limit_in self.old }
         ensures faults { faults_in self.new ≡ faults_in self.old }
-        ensures full { IfErr result (λ e. e.kind ≡ Memory) }
+        ensures full { IfErr result IsMemory }
     {
         let Syntax::Es(syntax) = self.reading.input.syntax();
         let code = in_module(syntax);
@@ -223,32 +222,30 @@ impl<'a, I: Tokens<'a> + Drop> Entries<Reading<'a, I>> {
     }
 
     /// Puts faults behind those that were recorded.
-    pub(crate) fn record(&mut self, found: Vec<Error>) -> PResult<()>
+    pub(crate) fn record(&mut self, found: Vec<Error>) -> Result<(), Failure>
         ensures faults { MatchResult result (λ _. faults_in self.new ≡ faults_in self.old ++ found.items) (λ _. faults_in self.new ≡ faults_in self.old) }
         ensures reading { self.new.reading ≡ self.old.reading }
         ensures started { self.new.started ≡ self.old.started }
         ensures limit { limit_in self.new ≡ limit_in self.old }
-        ensures full { IfErr result (λ e. e.kind ≡ Memory) }
+        ensures full { IfErr result IsMemory }
     {
         let mut found = found;
-        self.faults.append(&mut found).map_err(out_of_memory)
+        self.faults.append(&mut found)?;
+        Ok(())
     }
 
     /// An item of a module.
     #[tactic(auto, using(crate::proofs::Read::fails_read))]
-    fn module_item(&mut self) -> PResult<ModuleItem>
+    fn module_item(&mut self) -> Result<ModuleItem, Failure>
         ensures value { ReadsPart (view_module_item inner) (early.faults_in (outermost (syntax_in I.state self.old) true)) result (module_part I.machine I.state (items.module_item_part (machine_of I.machine)) self.old) (stood I.state self.new) (faults_in self.old) (faults_in self.new) }
         ensures fits { IfOk result (λ x. fits_module_item (λ p. p) x) }
         ensures started { IfOk result (λ _. self.new.started ≡ true) }
         ensures limit { limit_in self.new ≡ limit_in self.old }
     {
         let code = self.open_module()?;
-        let item = match module_item_part(&mut self.reading, self.limit, code) {
-            Ok(item) => item,
-            Err(failure) => return Err(told(failure)),
-        };
-        let found = part_errors(self.reading.alloc, code.syntax, true, &item);
-        self.record(found.map_err(out_of_memory)?)?;
+        let item = module_item_part(&mut self.reading, self.limit, code)?;
+        let found = part_errors(self.reading.alloc, code.syntax, true, &item)?;
+        self.record(found)?;
         Ok(item)
     }
 }

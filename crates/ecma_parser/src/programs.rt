@@ -7,7 +7,7 @@ ghost use Rattle.ecma_syntax.specs.Input.{module_code, script_code};
 ghost use Rattle.ecma_parse_state.specs.Codes.{code_of};
 ghost use Rattle.ecma_parse_state.specs.Fronts.{machine_of};
 ghost use Rattle.ecma_parse_entries.specs.Within.{program_within};
-ghost use Rattle.ecma_parser.specs.Answers.{Parses};
+ghost use Rattle.ecma_parser.specs.Answers.{Parses, ReadsProgram};
 ghost use Rattle.ecma_parser.specs.Entries.{ctx_in, faults_in, limit_in, opened, syntax_in};
 
 use crate::entries::{Entries, Reading};
@@ -18,7 +18,6 @@ use ecma_parse_entries::within::{module_within, script_within};
 use ecma_parse_state::{Around, Failure};
 use ecma_token::{Context, EsSyntax, Syntax};
 use ecma_tokens::Tokens;
-use ecma_tokens::settings::out_of_memory;
 
 /// The code around a script's tokens.
 pub(crate) fn in_script(syntax: EsSyntax) -> Around
@@ -68,6 +67,21 @@ impl<'a, I: Tokens<'a> + Drop> Entries<Reading<'a, I>> {
         ensures context { ctx_in I.state self.new ≡ ctx_in I.state self.old }
         ensures limit { limit_in self.new ≡ limit_in self.old }
     {
+        self.read_script().map_err(told)
+    }
+
+    /// The same as `parse_script`, but a failure is answered as it is.
+    ///
+    /// # Errors
+    ///
+    /// Want of memory, a text that nests deeper than the limit, or a fault of the text.
+    pub fn read_script(&mut self) -> Result<Script, Failure>
+        ensures value { ReadsProgram (view_script inner) (syntax_in I.state self.old) result (program_within (machine_of I.machine) (limit_in self.old) false (script_code (syntax_in I.state self.old)) (opened I.machine I.state (script_code (syntax_in I.state self.old)).context self.old)) (faults_in self.old) (faults_in self.new) }
+        ensures fits { IfOk result (λ x. fits_script (λ p. p) x) }
+        ensures started { IfOk result (λ _. self.new.started ≡ true) }
+        ensures context { ctx_in I.state self.new ≡ ctx_in I.state self.old }
+        ensures limit { limit_in self.new ≡ limit_in self.old }
+    {
         let before = self.reading.input.ctx();
         let script = self.script();
         self.reading.input.set_ctx(before);
@@ -86,6 +100,21 @@ impl<'a, I: Tokens<'a> + Drop> Entries<Reading<'a, I>> {
         ensures context { ctx_in I.state self.new ≡ ctx_in I.state self.old }
         ensures limit { limit_in self.new ≡ limit_in self.old }
     {
+        self.read_module().map_err(told)
+    }
+
+    /// The same as `parse_module`, but a failure is answered as it is.
+    ///
+    /// # Errors
+    ///
+    /// Want of memory, a text that nests deeper than the limit, or a fault of the text.
+    pub fn read_module(&mut self) -> Result<Module, Failure>
+        ensures value { ReadsProgram (view_module inner) (syntax_in I.state self.old) result (program_within (machine_of I.machine) (limit_in self.old) true (module_code (syntax_in I.state self.old)) (opened I.machine I.state (module_code (syntax_in I.state self.old)).context self.old)) (faults_in self.old) (faults_in self.new) }
+        ensures fits { IfOk result (λ x. fits_module (λ p. p) x) }
+        ensures started { IfOk result (λ _. self.new.started ≡ true) }
+        ensures context { ctx_in I.state self.new ≡ ctx_in I.state self.old }
+        ensures limit { limit_in self.new ≡ limit_in self.old }
+    {
         let before = self.reading.input.ctx();
         let module = self.module();
         self.reading.input.set_ctx(before);
@@ -93,8 +122,8 @@ impl<'a, I: Tokens<'a> + Drop> Entries<Reading<'a, I>> {
     }
 
     /// A script, in its own code.
-    fn script(&mut self) -> PResult<Script>
-        ensures value { Parses (view_script inner) (syntax_in I.state self.old) result (program_within (machine_of I.machine) (limit_in self.old) false (script_code (syntax_in I.state self.old)) (opened I.machine I.state (script_code (syntax_in I.state self.old)).context self.old)) (faults_in self.old) (faults_in self.new) }
+    fn script(&mut self) -> Result<Script, Failure>
+        ensures value { ReadsProgram (view_script inner) (syntax_in I.state self.old) result (program_within (machine_of I.machine) (limit_in self.old) false (script_code (syntax_in I.state self.old)) (opened I.machine I.state (script_code (syntax_in I.state self.old)).context self.old)) (faults_in self.old) (faults_in self.new) }
         ensures fits { IfOk result (λ x. fits_script (λ p. p) x) }
         ensures started { IfOk result (λ _. self.new.started ≡ true) }
         ensures limit { limit_in self.new ≡ limit_in self.old }
@@ -102,20 +131,15 @@ impl<'a, I: Tokens<'a> + Drop> Entries<Reading<'a, I>> {
         let Syntax::Es(syntax) = self.reading.input.syntax();
         let code = in_script(syntax);
         self.open(code.context, false)?;
-        let script = match script_within(&mut self.reading, self.limit, code) {
-            Ok(script) => script,
-            Err(failure) => return Err(told(failure)),
-        };
-        let mut faults = script_errors(self.reading.alloc, syntax, &script).map_err(out_of_memory)?;
-        match self.faults.append(&mut faults) {
-            Ok(()) => Ok(script),
-            Err(_) => Err(told(Failure::Memory)),
-        }
+        let script = script_within(&mut self.reading, self.limit, code)?;
+        let mut faults = script_errors(self.reading.alloc, syntax, &script)?;
+        self.faults.append(&mut faults)?;
+        Ok(script)
     }
 
     /// A module, in its own code.
-    fn module(&mut self) -> PResult<Module>
-        ensures value { Parses (view_module inner) (syntax_in I.state self.old) result (program_within (machine_of I.machine) (limit_in self.old) true (module_code (syntax_in I.state self.old)) (opened I.machine I.state (module_code (syntax_in I.state self.old)).context self.old)) (faults_in self.old) (faults_in self.new) }
+    fn module(&mut self) -> Result<Module, Failure>
+        ensures value { ReadsProgram (view_module inner) (syntax_in I.state self.old) result (program_within (machine_of I.machine) (limit_in self.old) true (module_code (syntax_in I.state self.old)) (opened I.machine I.state (module_code (syntax_in I.state self.old)).context self.old)) (faults_in self.old) (faults_in self.new) }
         ensures fits { IfOk result (λ x. fits_module (λ p. p) x) }
         ensures started { IfOk result (λ _. self.new.started ≡ true) }
         ensures limit { limit_in self.new ≡ limit_in self.old }
@@ -123,14 +147,9 @@ impl<'a, I: Tokens<'a> + Drop> Entries<Reading<'a, I>> {
         let Syntax::Es(syntax) = self.reading.input.syntax();
         let code = in_module(syntax);
         self.open(code.context, false)?;
-        let module = match module_within(&mut self.reading, self.limit, code) {
-            Ok(module) => module,
-            Err(failure) => return Err(told(failure)),
-        };
-        let mut faults = module_errors(self.reading.alloc, syntax, &module).map_err(out_of_memory)?;
-        match self.faults.append(&mut faults) {
-            Ok(()) => Ok(module),
-            Err(_) => Err(told(Failure::Memory)),
-        }
+        let module = module_within(&mut self.reading, self.limit, code)?;
+        let mut faults = module_errors(self.reading.alloc, syntax, &module)?;
+        self.faults.append(&mut faults)?;
+        Ok(module)
     }
 }
