@@ -128,6 +128,16 @@ def runs_at_once(trial):
     expect(trial.read("rt.log"), "", "the toolchain")
 
 
+def has_room(trial):
+    """The program has 16 MB of stack, or as much as the system gives, and never less than before."""
+    trial.write("program", "#!/usr/bin/env bash\nulimit -S -s\n")
+    trial.release()
+    for before, after in (("-S -s 8192", "16384"), ("-S -s 20000", "20000"), ("-s 9000", "9000")):
+        words = ["bash", "-c", f'ulimit {before} && exec "$0"', f"{trial.root}/ecma-front"]
+        ran = subprocess.run(words, capture_output=True, text=True, env=trial.environment(), timeout=60)
+        expect((ran.returncode, ran.stdout, ran.stderr), (0, f"{after}\n", ""), f"ulimit {before}")
+
+
 def checks_once(trial):
     """The bytes are summed up at the first run, and not again while the file is unchanged; in a copy they are summed up again."""
     trial.release()
@@ -400,7 +410,7 @@ def adds_up_the_gate(trial):
 
 
 TRIALS = (
-    runs_at_once, checks_once, remembers_no_new_file, refuses_a_changed_byte, refuses_an_unnamed_program, builds_without_release,
+    runs_at_once, has_room, checks_once, remembers_no_new_file, refuses_a_changed_byte, refuses_an_unnamed_program, builds_without_release,
     builds_where_a_file_is_gone, builds_when_asked, builds_on_other_machines, needs_the_toolchain, tells_what_is_not_built,
     builds_side_by_side, keeps_what_is_proved, tells_of_changed_sources, tells_progress_in_one_line, is_fresh_while_nothing_changed,
     is_of_what_it_reads, compares_what_is_built, has_a_version, adds_up_the_gate,
