@@ -2,24 +2,29 @@
 use Rattle.std.proofs.Common.{◌≡◌, ◌≢◌, ℕ, ◌+◌, ◌-◌, ◌==◌, inl, inr, Bool, true, false, List, [], ◌∷◌, length, IsUtf8, Option, Some, None, Result, Ok, Err, refl, sym, ap, subst, ◌∙◌, arith}
 use Rattle.std.proofs.lemmas.Str.{chars-nil}
 use Rattle.std.proofs.lemmas.Bool.{false≢true}
-use Rattle.std.specs.Prelude.{MatchBool}
+use Rattle.std.specs.Prelude.{MatchBool, option_map}
 use Rattle.std.specs.Str.{chars}
 use Rattle.ecma_token.specs.declared.error.Error.{Error}
 use Rattle.ecma_token.specs.declared.token.TokenAndSpan.{TokenAndSpan}
 use Rattle.ecma_token.specs.Kinds.{shebang_kind}
 use Rattle.ecma_token.specs.Tokens.{Line, Spot}
+use Rattle.ecma_tokens.specs.Machine.{shown_spot}
+use Rattle.ecma_tokens.specs.Settings.{Settings}
 use Rattle.ecma_scan.specs.declared.trivia.Goal.{Goal}
 use Rattle.ecma_scan.specs.Names.{is_nil}
 use Rattle.ecma_scan.specs.Places.{bytes}
 use Rattle.ecma_scan.proofs.Following.{empty_text}
 use Rattle.ecma_scan.specs.Trivia.{IsFaultAfter, IsHashbang, IsSkipped}
 use Rattle.ecma_lexeme.specs.declared.goal.LexicalGoal.{LexicalGoal}
-use Rattle.ecma_lexeme.specs.declared.goal.LexicalGoal.TheVariants.{Div, TemplateTail}
+use Rattle.ecma_lexeme.specs.declared.goal.LexicalGoal.TheVariants.{Div, RegExp, TemplateTail}
 use Rattle.ecma_lexeme.specs.Lexemes.{SpecLexeme, plain}
 use Rattle.ecma_lexeme.proofs.SpelledLemmas.{encoded}
 use Rattle.ecma_lexing.specs.States as spec
-use Rattle.ecma_lexing.specs.States.{Last, Start, State, behind, faulty, faulty_from, goal_of, is_start, place, shebang, spot_at, stopped}
-use Rattle.ecma_lexing.specs.Steps.{Ends, IsBadTrivia, IsFirst, IsOutside, IsPlain, IsRead}
+use Rattle.ecma_lexing.specs.States.{Fault, Last, Start, State, again, behind, faulty, faulty_from, goal_of, is_start, place, shebang, spot_at, stopped, template_goal}
+use Rattle.ecma_lexing.specs.Steps.{Ends, IsBadTrivia, IsFirst, IsGoing, IsOutside, IsPlain, IsRead, IsStep, IsStepBy, IsStepOf}
+use Rattle.ecma_lexer.specs.declared.last.Last as code
+use Rattle.ecma_lexer.specs.declared.last.Last.TheVariants as l
+use Rattle.ecma_lexer.specs.Last.{last_view}
 use Rattle.ecma_lexer.specs.Stepping.{IsTaken, Steps}
 
 pub nothing_left : chars [] ≡ []
@@ -65,7 +70,7 @@ start_is : (l : Last) → is_start l ≡ true → l ≡ Start
 start_is Start e = refl
 start_is (spec.Slash from) e = absurd (false≢true e)
 start_is spec.Characters e = absurd (false≢true e)
-start_is spec.Fault e = absurd (false≢true e)
+start_is Fault e = absurd (false≢true e)
 start_is spec.Other e = absurd (false≢true e)
 
 pub shebang_is : (own : List ℕ) → IsUtf8 own → plain (record { kind = shebang_kind; content = Line own }) ≡ shebang (chars own)
@@ -94,5 +99,54 @@ pub at_end : (s new : State) (b : Bool) (goal : LexicalGoal) (line_break : Bool)
 at_end s new true goal line_break from e h n = read_end goal line_break from s new h n
 at_end s new false goal line_break from e h n = absurd (false≢true e)
 
-pub ended_is : (s : State) (left : List ℕ) → left ≡ [] → record s { tokens = record s.tokens { left = left } } ≡ spec.ended s
-ended_is s left e = ap (λ (l : List ℕ). record s { tokens = record s.tokens { left = l } }) e
+-- the state with these parts
+made : List ℕ → ℕ → Last → Bool → Settings → State
+made left end last line_break settings = record { tokens = record { left = left; end = end; last = last; line_break = line_break }; settings = settings }
+
+pub emptied : (s new : State) → new.tokens.left ≡ [] → new.tokens.end ≡ s.tokens.end → new.tokens.last ≡ s.tokens.last → new.tokens.line_break ≡ s.tokens.line_break
+    → new.settings ≡ s.settings → new ≡ spec.ended s
+unfolding made
+emptied s new l e t b g =
+    ap (λ (x : List ℕ). made x new.tokens.end new.tokens.last new.tokens.line_break new.settings) l
+    ∙ (ap (λ (x : ℕ). made [] x new.tokens.last new.tokens.line_break new.settings) e
+    ∙ (ap (λ (x : Last). made [] s.tokens.end x new.tokens.line_break new.settings) t
+    ∙ (ap (λ (x : Bool). made [] s.tokens.end s.tokens.last x new.settings) b
+    ∙ ap (λ (x : Settings). made [] s.tokens.end s.tokens.last s.tokens.line_break x) g)))
+
+-- ---- the step by what came last
+
+is_fault : Last → Bool
+is_fault Fault = true
+is_fault _ = false
+
+pub no_fault : (came : code.Last) (last : Last) → last_view came ≡ last → came ≢ l.Fault → last ≢ Fault
+unfolding is_fault
+no_fault l.Start last e n h = false≢true (ap is_fault (e ∙ h))
+no_fault (l.Slash from) last e n h = false≢true (ap is_fault (e ∙ h))
+no_fault l.Characters last e n h = false≢true (ap is_fault (e ∙ h))
+no_fault l.Fault last e n h = n refl
+no_fault l.Other last e n h = false≢true (ap is_fault (e ∙ h))
+
+step_by : (last : Last) (s : State) (out : Option Spot) (new : State) → last ≢ Fault → IsStepBy (again s) s out new → IsStepOf last s out new
+step_by Start s out new n h = h
+step_by (spec.Slash from) s out new n h = h
+step_by spec.Characters s out new n h = h
+step_by Fault s out new n h = absurd (n refl)
+step_by spec.Other s out new n h = h
+
+-- a slash is read again
+pub again_step : (s new : State) (line_break : Bool) (from : List ℕ) (r : Result (Option TokenAndSpan) Error) → s.tokens.last ≢ Fault → again s ≡ Some from
+    → line_break ≡ s.tokens.line_break → Steps (IsRead RegExp line_break from s) r new → Steps (IsStep s) r new
+again_step s new line_break from (Ok t) n a e h =
+    let out = option_map shown_spot t in
+    record { is = step_by s.tokens.last s out new n (subst (λ o. IsStepBy o s out new) (sym a) (subst (λ b. IsRead RegExp b from s out new) e h)) }
+again_step s new line_break from (Err f) n a e h = h
+
+-- what comes inside a template is read
+pub template_step : (s new : State) (goal : LexicalGoal) (from : List ℕ) (r : Result (Option TokenAndSpan) Error) → s.tokens.last ≢ Fault → again s ≡ None
+    → template_goal s.settings.contexts s.tokens.last ≡ Some goal → from ≡ s.tokens.left → Steps (IsRead goal false from s) r new → Steps (IsStep s) r new
+template_step s new goal from (Ok t) n a g e h =
+    let out = option_map shown_spot t in
+    let going : IsGoing (template_goal s.settings.contexts s.tokens.last) s out new = subst (λ k. IsGoing k s out new) (sym g) (subst (λ l. IsRead goal false l s out new) e h) in
+    record { is = step_by s.tokens.last s out new n (subst (λ o. IsStepBy o s out new) (sym a) going) }
+template_step s new goal from (Err f) n a g e h = h

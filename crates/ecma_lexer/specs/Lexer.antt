@@ -1,28 +1,13 @@
 -- What contracts see of a lexer.
 use Rattle.std.specs.Prelude.{◌≡◌, Bool}
-use Rattle.std.specs.Str.{chars}
 use Rattle.ecma_comments.specs.declared.store.Comments.{Comments}
 use Rattle.ecma_tokens.specs.Settings.{settings_in}
-use Rattle.ecma_lexing.specs.States as s
-use Rattle.ecma_lexing.specs.States.{State, Text}
-use Rattle.ecma_lexer.specs.declared.last.Last.{Last}
-use Rattle.ecma_lexer.specs.declared.last.Last.TheVariants as l
+use Rattle.ecma_lexing.specs.States.{State}
 use Rattle.ecma_lexer.specs.declared.lexer.Lexer as code
-
--- what came last
-abbrev pub last_view : Last → s.Last
-last_view l.Start = s.Start
-last_view (l.Slash from) = s.Slash (chars from.now)
-last_view l.Characters = s.Characters
-last_view l.Fault = s.Fault
-last_view l.Other = s.Other
-
-abbrev pub text_in : code.Lexer → Text
-text_in x = record { left = chars x.rest.now; end = x.end; last = last_view x.last; line_break = x.had_line_break }
 
 -- a lexer at one moment
 abbrev pub state_in : code.Lexer → State
-state_in x = record { tokens = text_in x; settings = settings_in x.settings }
+state_in x = record { tokens = x.text; settings = settings_in x.settings }
 
 -- whether memory ran out in it
 abbrev pub is_full : code.Lexer → Bool

@@ -1,8 +1,9 @@
 -- The lexer as contracts see it.
+pub mod Last
 pub mod Lexer
-pub mod Order
 pub mod Kept
 pub mod Stepping
 pub mod Machine
 pub mod Quick
 pub mod Looks
+pub mod Lending

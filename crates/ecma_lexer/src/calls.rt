@@ -1,9 +1,11 @@
 //! The lexer as a source of tokens.
+ghost use Rattle.std.specs.Borrow.{sem};
 ghost use Rattle.std.specs.Prelude.{◌≡◌, option_map, IfErr, OnErr, OnOk};
 ghost use Rattle.ecma_token.specs.declared.error.SyntaxError.TheVariants.{Memory};
 ghost use Rattle.ecma_tokens.specs.Contexts.{outward};
 ghost use Rattle.ecma_tokens.specs.Settings as spec;
 ghost use Rattle.ecma_lexing.specs.States.{Text};
+ghost use Rattle.ecma_lexer.specs.Lending.{LendsContexts};
 ghost use Rattle.ecma_lexer.specs.Lexer.{SameKept, state_in};
 ghost use Rattle.ecma_lexer.specs.Machine.{lexer_machine};
 
@@ -74,7 +76,10 @@ impl<'a> Tokens<'a> for Lexer<'a> {
         &self.settings.contexts
     }
 
-    fn token_context_mut(&mut self) -> &mut TokenContexts {
+    fn token_context_mut(&mut self) -> &mut TokenContexts
+        ensures* writes_back { sem 𝓛 (LendsContexts self.entry result) }
+        ensures value { outward result.now ≡ (state_in self.old).settings.contexts }
+    {
         self.settings.contexts_mut()
     }
 

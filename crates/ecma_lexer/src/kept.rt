@@ -116,16 +116,16 @@ impl<'a> Lexer<'a> {
     fn passes_trivia(&self) -> bool
         ensures { MatchBool result (PassesTrivia (state_in self.now)) (PassesTrivia (state_in self.now) → ⊥) }
     {
-        if let Last::Fault = self.last {
+        if let Last::Fault = self.text.last {
             return false;
         }
         if self.again().is_some() {
             return false;
         }
-        if template_goal(&self.settings.contexts, self.last).is_some() {
+        if template_goal(&self.settings.contexts, self.text.last).is_some() {
             return false;
         }
-        !self.last.is_start() || hashbang(self.rest).is_none()
+        !self.text.last.is_start() || hashbang(self.text.rest).is_none()
     }
 
     /// The comments of the trivia at the front of what is left.
@@ -140,8 +140,8 @@ impl<'a> Lexer<'a> {
     {
         let mut notes = Vec::new(self.alloc);
         let goal = goal_of(self.settings.ctx);
-        let first = self.last.is_start();
-        match collect_trivia(self.end, goal, first, self.rest, &mut notes) {
+        let first = self.text.last.is_start();
+        match collect_trivia(self.text.end, goal, first, self.text.rest, &mut notes) {
             Ok(_) => Ok(notes),
             Err(error) => {
                 if is_memory(&error) {
@@ -171,11 +171,11 @@ impl<'a> Lexer<'a> {
     /// Where the slash ends that the next step reads again.
     #[tactic(auto, using(crate::proofs::KeptLemmas::ends_slash))]
     fn behind_slash(&self) -> Option<BytePos>
-        ensures { EndsSlash (again (state_in self.now)) self.now.end (option_map (λ p. p.0) result) }
+        ensures { EndsSlash (again (state_in self.now)) self.now.text.end (option_map (λ p. p.0) result) }
     {
         let from = self.again()?;
         let (_, rest) = punctuator(from)?;
-        Some(part(self.end, rest, "").lo)
+        Some(part(self.text.end, rest, "").lo)
     }
 
     /// Those that trail this place are kept no longer.
@@ -225,9 +225,9 @@ impl<'a> Lexer<'a> {
     {
         let notes = self.passed_notes()?;
         let behind_slash = self.behind_slash();
-        let is_start = self.last.is_start();
-        let here = on_this_line(self.end, goal_of(self.settings.ctx), self.rest);
-        let behind = part(self.end, self.rest, "").lo;
+        let is_start = self.text.last.is_start();
+        let here = on_this_line(self.text.end, goal_of(self.settings.ctx), self.text.rest);
+        let behind = part(self.text.end, self.text.rest, "").lo;
         let token = self.advance()?;
         let trails = trailing(is_start, is_end(&token), here, notes.len());
         let lo = lead_place(&token, behind);

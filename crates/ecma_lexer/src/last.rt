@@ -3,8 +3,7 @@ ghost use Rattle.std.specs.Prelude.{◌≡◌, ◌≤◌, length};
 ghost use Rattle.std.specs.Str.{chars};
 ghost use Rattle.ecma_token.specs.TokenViews.{token_view};
 ghost use Rattle.ecma_lexing.specs.States.{is_start, last_after};
-ghost use Rattle.ecma_lexer.specs.Lexer.{last_view};
-ghost use Rattle.ecma_lexer.specs.Order.{back_bytes};
+ghost use Rattle.ecma_lexer.specs.Last.{back_bytes, last_view};
 
 use ecma_token::{AssignOp, BinOpToken, Token};
 

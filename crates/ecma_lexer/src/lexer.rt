@@ -1,10 +1,10 @@
 //! The lexer of a text.
 ghost use Rattle.std.specs.Prelude.{◌≡◌, ◌<◌, ◌+◌, ◌^◌, false, is_err, length, option_map, true, IfErr, IfOk, IsErr};
-ghost use Rattle.ecma_lexer.specs.Order.{BackFits};
 
 use crate::last::Last;
 use crate::quick::quiet_mark;
 use crate::step::goal_of;
+use crate::unread::Unread;
 use ecma_comments::Comments;
 use ecma_scan::bare_name;
 use ecma_scan::place::out_of_memory;
@@ -17,16 +17,11 @@ use std::alloc::{AllocError, Global};
 #[derive(Drop)]
 pub struct Lexer<'a> {
     pub(crate) alloc: Global,
-    pub(crate) rest: &'a str,
-    pub(crate) end: u32,
-    pub(crate) last: Last<'a>,
-    pub(crate) had_line_break: bool,
+    pub(crate) text: Unread<'a>,
     pub(crate) settings: Settings,
     pub(crate) full: bool,
     pub(crate) keeps: bool,
     pub(crate) comments: Comments,
-    ghost within: { length rest.now < end },
-    ghost back: { BackFits end last },
 }
 
 impl<'a> Lexer<'a> {
@@ -59,10 +54,12 @@ impl<'a> Lexer<'a> {
     {
         Lexer {
             alloc,
-            rest: text,
-            end: start.0 + text.len() as u32,
-            last: Last::Start,
-            had_line_break: false,
+            text: Unread {
+                rest: text,
+                end: start.0 + text.len() as u32,
+                last: Last::Start,
+                had_line_break: false,
+            },
             settings: Settings::new(alloc, syntax, target, start),
             full: false,
             keeps: keep_comments,
@@ -74,7 +71,7 @@ impl<'a> Lexer<'a> {
     pub fn had_line_break_before_last(&self) -> bool
         ensures { result ≡ (state_in self.now).tokens.line_break }
     {
-        self.had_line_break
+        self.text.had_line_break
     }
 
     /// The next token, or nothing at the end. A fault of the text is an error token, and nothing comes
@@ -97,7 +94,7 @@ impl<'a> Lexer<'a> {
             return self.next_of_any();
         }
         let goal = goal_of(self.settings.ctx);
-        let Ok((line_break, from)) = skip_trivia(self.end, goal, false, self.rest) else {
+        let Ok((line_break, from)) = skip_trivia(self.text.end, goal, false, self.text.rest) else {
             return self.next_of_any();
         };
         if let Some((name, rest)) = bare_name(from) {
@@ -125,10 +122,7 @@ impl<'a> Lexer<'a> {
         match (self.settings.try_clone(), comments) {
             (Ok(settings), Ok(comments)) => Ok(Lexer {
                 alloc: self.alloc,
-                rest: self.rest,
-                end: self.end,
-                last: self.last,
-                had_line_break: self.had_line_break,
+                text: self.text.copied(),
                 settings,
                 full: self.full,
                 keeps: self.keeps,

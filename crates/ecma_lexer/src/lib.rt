@@ -8,6 +8,7 @@ pub mod lexer;
 mod look;
 mod quick;
 mod step;
+mod unread;
 
 pub use ecma_canonical::canonical_text;
 pub use ecma_scan::CharExt;

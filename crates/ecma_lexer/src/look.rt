@@ -19,10 +19,7 @@ impl<'a> Lexer<'a> {
     {
         Lexer {
             alloc: self.alloc,
-            rest: self.rest,
-            end: self.end,
-            last: self.last,
-            had_line_break: self.had_line_break,
+            text: self.text.copied(),
             settings,
             full: self.full,
             keeps: false,

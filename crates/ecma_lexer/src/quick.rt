@@ -60,21 +60,21 @@ impl<'a> Lexer<'a> {
         ensures last { result ≡ true → (state_in self.now).tokens.last ≡ spec.Other }
         ensures open { result ≡ true → (state_in self.now).settings.contexts ≡ [] }
     {
-        matches!(self.last, Last::Other) && self.settings.contexts.is_empty()
+        matches!(self.text.last, Last::Other) && self.settings.contexts.is_empty()
     }
 
     /// Goes on behind a token that opens and closes nothing.
     #[inline(always)]
     fn pass(&mut self, line_break: bool, rest: &'a str)
-        requires { length rest.now < self.old.end }
+        requires { length rest.now < self.old.text.end }
         ensures state { state_in self.new ≡ passed (state_in self.old) line_break (chars rest.now) }
         ensures full { is_full self.new ≡ is_full self.old }
         ensures kept { (comments_in self.new ≡ comments_in self.old) × (keeps_comments self.new ≡ keeps_comments self.old) }
         ensures told { SameTold (settings_in self.old.settings) (settings_in self.new.settings) }
     {
-        self.last = Last::Other;
-        self.rest = rest;
-        self.had_line_break = line_break;
+        self.text.last = Last::Other;
+        self.text.rest = rest;
+        self.text.had_line_break = line_break;
     }
 
     /// Hands out a word that is spelled without an escape: it stands at the front of the one text, and the other follows it.
@@ -87,13 +87,13 @@ impl<'a> Lexer<'a> {
         rest: &'a str,
     ) -> Result<Option<TokenAndSpan<'a>>, Error>
         requires order { length rest.now ≤ length from.now }
-        requires within { length from.now < self.old.end }
+        requires within { length from.now < self.old.text.end }
         ensures step { Steps (IsHanded line_break (word_token (word_of name.now)) (chars from.now) (chars rest.now) (state_in self.old)) result (state_in self.new) }
         ensures full { is_full self.new ≡ is_err result }
         ensures kept { (comments_in self.new ≡ comments_in self.old) × (keeps_comments self.new ≡ keeps_comments self.old) }
         ensures told { SameTold (settings_in self.old.settings) (settings_in self.new.settings) }
     {
-        let span = part(self.end, from, rest);
+        let span = part(self.text.end, from, rest);
         self.pass(line_break, rest);
         self.full = false;
         Ok(Some(TokenAndSpan {
@@ -114,13 +114,13 @@ impl<'a> Lexer<'a> {
     ) -> Result<Option<TokenAndSpan<'a>>, Error>
         requires mark { is_mark kind ≡ true }
         requires order { length rest.now ≤ length from.now }
-        requires within { length from.now < self.old.end }
+        requires within { length from.now < self.old.text.end }
         ensures step { Steps (IsHanded line_break (bare (token_kind_number kind)) (chars from.now) (chars rest.now) (state_in self.old)) result (state_in self.new) }
         ensures full { is_full self.new ≡ is_err result }
         ensures kept { (comments_in self.new ≡ comments_in self.old) × (keeps_comments self.new ≡ keeps_comments self.old) }
         ensures told { SameTold (settings_in self.old.settings) (settings_in self.new.settings) }
     {
-        let span = part(self.end, from, rest);
+        let span = part(self.text.end, from, rest);
         self.pass(line_break, rest);
         self.full = false;
         Ok(Some(TokenAndSpan {
@@ -141,7 +141,7 @@ impl<'a> Lexer<'a> {
         line_break: bool,
         from: &'a str,
     ) -> Result<Option<TokenAndSpan<'a>>, Error>
-        requires within { length from.now < self.old.end }
+        requires within { length from.now < self.old.text.end }
         ensures step { Steps (IsRead Div line_break (chars from.now) (state_in self.old)) result (state_in self.new) }
         ensures full { is_full self.new ≡ is_err result }
         ensures kept { (comments_in self.new ≡ comments_in self.old) × (keeps_comments self.new ≡ keeps_comments self.old) }

@@ -9,7 +9,8 @@ ghost use Rattle.ecma_tokens.specs.Machine.{SameTold, shown_spot};
 ghost use Rattle.ecma_tokens.specs.Settings.{settings_in};
 ghost use Rattle.ecma_lexing.specs.States as spec;
 ghost use Rattle.ecma_lexing.specs.Steps as steps;
-ghost use Rattle.ecma_lexer.specs.Lexer.{last_view, state_in};
+ghost use Rattle.ecma_lexer.specs.Last.{last_view};
+ghost use Rattle.ecma_lexer.specs.Lexer.{state_in};
 ghost use Rattle.ecma_lexer.specs.Stepping.{IsTaken, Steps};
 
 use crate::last::Last;
@@ -146,12 +147,12 @@ impl<'a> Lexer<'a> {
     /// The text of the slash that is to be read again.
     pub(crate) fn again(&self) -> Option<&'a str>
         ensures value { option_map (λ r. chars r.now) result ≡ spec.again (state_in self.now) }
-        ensures fits { IfSome result (λ r. length r.now < self.now.end) }
+        ensures fits { IfSome result (λ r. length r.now < self.now.text.end) }
     {
-        let Last::Slash(from) = self.last else {
+        let Last::Slash(from) = self.text.last else {
             return None;
         };
-        let lo = part(self.end, from, "").lo;
+        let lo = part(self.text.end, from, "").lo;
         match self.settings.next_regexp {
             Some(place) if place.0 == lo.0 => Some(from),
             _ => None,
@@ -166,23 +167,23 @@ impl<'a> Lexer<'a> {
         from: &'a str,
     ) -> Result<Option<TokenAndSpan<'a>>, Error>
         requires order { length lexeme.rest.now ≤ length from.now }
-        requires within { length from.now < self.old.end }
+        requires within { length from.now < self.old.text.end }
         ensures step { Steps (λ out new. IsTaken line_break (chars from.now) (lexeme_view lexeme.entry) (chars lexeme.entry.rest.now) (state_in self.old) out new) result (state_in self.new) }
         ensures kept { (self.new.comments ≡ self.old.comments) × (self.new.keeps ≡ self.old.keeps) }
         ensures told { SameTold (settings_in self.old.settings) (settings_in self.new.settings) }
     {
         let (legacy, rest) = (lexeme.legacy, lexeme.rest);
         let token = lexeme.into_token();
-        let span = part(self.end, from, rest);
+        let span = part(self.text.end, from, rest);
         if follow(&mut self.settings.contexts, &token).is_err() {
             return Err(out_of_memory());
         }
         if judge(&mut self.settings, legacy, span).is_err() {
             return Err(out_of_memory());
         }
-        self.last = Last::after(&token, from);
-        self.rest = rest;
-        self.had_line_break = line_break;
+        self.text.last = Last::after(&token, from);
+        self.text.rest = rest;
+        self.text.had_line_break = line_break;
         Ok(Some(TokenAndSpan {
             token,
             had_line_break: line_break,
@@ -193,20 +194,20 @@ impl<'a> Lexer<'a> {
     /// Stops at a fault, which begins at this place.
     #[tactic(auto, using(crate::proofs::StepLemmas::nothing_left))]
     fn fail(&mut self, error: Error, line_break: bool, lo: BytePos) -> TokenAndSpan<'a>
-        ensures spot { shown_spot result ≡ spec.faulty_from self.old.end line_break lo.0 }
+        ensures spot { shown_spot result ≡ spec.faulty_from self.old.text.end line_break lo.0 }
         ensures state { state_in self.new ≡ spec.stopped (state_in self.old) line_break }
         ensures kept { (self.new.comments ≡ self.old.comments) × (self.new.keeps ≡ self.old.keeps) }
         ensures told { SameTold (settings_in self.old.settings) (settings_in self.new.settings) }
     {
-        self.rest = "";
-        self.last = Last::Fault;
-        self.had_line_break = line_break;
+        self.text.rest = "";
+        self.text.last = Last::Fault;
+        self.text.had_line_break = line_break;
         TokenAndSpan {
             token: Token::Error(error),
             had_line_break: line_break,
             span: Span {
                 lo,
-                hi: BytePos(self.end),
+                hi: BytePos(self.text.end),
             },
         }
     }
@@ -218,17 +219,17 @@ impl<'a> Lexer<'a> {
         line_break: bool,
         from: &'a str,
     ) -> Result<Option<TokenAndSpan<'a>>, Error>
-        requires within { length from.now < self.old.end }
+        requires within { length from.now < self.old.text.end }
         ensures step { Steps (steps.IsRead goal line_break (chars from.now) (state_in self.old)) result (state_in self.new) }
         ensures kept { (self.new.comments ≡ self.old.comments) × (self.new.keeps ≡ self.old.keeps) }
         ensures told { SameTold (settings_in self.old.settings) (settings_in self.new.settings) }
     {
         if ends(goal, from) {
-            self.rest = "";
+            self.text.rest = "";
             return Ok(None);
         }
-        let lo = part(self.end, from, "").lo;
-        match read_token(self.alloc, goal, from, self.end) {
+        let lo = part(self.text.end, from, "").lo;
+        match read_token(self.alloc, goal, from, self.text.end) {
             Ok(Some(lexeme)) => self.take(lexeme, line_break, from),
             Ok(None) => Ok(Some(self.fail(unterminated(lo), line_break, lo))),
             Err(error) if matches!(error.kind, SyntaxError::Memory) => Err(error),
@@ -243,7 +244,12 @@ impl<'a> Lexer<'a> {
         ensures told { SameTold (settings_in self.old.settings) (settings_in self.new.settings) }
     {
         let goal = goal_of(self.settings.ctx);
-        match skip_trivia(self.end, goal, self.last.is_start(), self.rest) {
+        match skip_trivia(
+            self.text.end,
+            goal,
+            self.text.last.is_start(),
+            self.text.rest,
+        ) {
             Ok((broke, rest)) => self.read(LexicalGoal::Div, broke, rest),
             Err(error) => Ok(Some(self.fail(error, false, error.span.lo))),
         }
@@ -255,9 +261,10 @@ impl<'a> Lexer<'a> {
         ensures kept { (self.new.comments ≡ self.old.comments) × (self.new.keeps ≡ self.old.keeps) }
         ensures told { SameTold (settings_in self.old.settings) (settings_in self.new.settings) }
     {
-        if self.last.is_start() {
-            if let Some((own, rest)) = hashbang(self.rest) {
-                return self.take(shebang(own, rest), false, self.rest);
+        if self.text.last.is_start() {
+            let from = self.text.rest;
+            if let Some((own, rest)) = hashbang(from) {
+                return self.take(shebang(own, rest), false, from);
             }
         }
         self.plain()
@@ -269,14 +276,14 @@ impl<'a> Lexer<'a> {
         ensures kept { (self.new.comments ≡ self.old.comments) × (self.new.keeps ≡ self.old.keeps) }
         ensures told { SameTold (settings_in self.old.settings) (settings_in self.new.settings) }
     {
-        if let Last::Fault = self.last {
+        if let Last::Fault = self.text.last {
             return Ok(None);
         }
         if let Some(from) = self.again() {
-            return self.read(LexicalGoal::RegExp, self.had_line_break, from);
+            return self.read(LexicalGoal::RegExp, self.text.had_line_break, from);
         }
-        match template_goal(&self.settings.contexts, self.last) {
-            Some(goal) => self.read(goal, false, self.rest),
+        match template_goal(&self.settings.contexts, self.text.last) {
+            Some(goal) => self.read(goal, false, self.text.rest),
             None => self.outside(),
         }
     }

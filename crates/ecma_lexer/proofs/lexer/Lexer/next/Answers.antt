@@ -1,4 +1,4 @@
-use Rattle.std.proofs.Common.{refl, subst}
+use Rattle.std.proofs.Common.{refl, ap, subst, ◌∙◌}
 use Rattle.std.specs.Prelude.{false}
 use Rattle.std.specs.Str.{chars}
 use Rattle.ecma_token.specs.Tokens.{bare}
@@ -6,6 +6,8 @@ use Rattle.ecma_token.specs.TokenViews.{token_kind_number}
 use Rattle.ecma_scan.specs.Trivia.{IsSkipped}
 use Rattle.ecma_lexeme.specs.Lexemes.{plain, word_spelled}
 use Rattle.ecma_lexeme.proofs.SortLemmas.{mark_is}
+use Rattle.ecma_lexing.specs.States.{goal_of}
+use Rattle.ecma_lexer.specs.declared.lexer.Lexer.{Lexer}
 use Rattle.ecma_lexer.specs.Lexer.{state_in}
 use Rattle.ecma_lexer.proofs.QuickLemmas.{mark_stands, plain_steps, quiet_mark, quiet_steps, quiet_word, word_stands}
 use Rattle.ecma_lexer.proofs.lexer.Lexer.next.Goals as goal
@@ -15,7 +17,9 @@ returns-in-Some-clause-step c =
     let s = state_in c.args.self.now in
     let from = chars c.in-Ok.from.now in
     let rest = chars c.in-Some.rest.now in
-    let skipped = subst (λ g. IsSkipped g false s.tokens.left c.in-Ok.line_break from) c.goal_of-goal.ensures c.in-Ok.ensures.trivia in
+    let v = c.self-2.view_is in
+    let skipped = subst (λ g. IsSkipped g false s.tokens.left c.in-Ok.line_break from) (c.goal_of-goal.ensures ∙ ap (λ (x : Lexer). goal_of x.settings.ctx) v)
+    (subst (λ (x : Lexer). IsSkipped c.goal_of-goal.result false x.text.left c.in-Ok.line_break from) v c.in-Ok.ensures.trivia) in
     quiet_steps s (state_in c.hand_word.new.self) c.in-Ok.line_break from rest (word_spelled c.in-Some.name.now false) c.hand_word.result
     (c.is_outside.ensures.last c.if-not-is_outside.false) (c.is_outside.ensures.open c.if-not-is_outside.false) skipped
     (word_stands from c.in-Some.name.now rest c.in-Some.ensures.rest.0 c.in-Some.ensures.name) (quiet_word c.in-Some.name.now) refl c.hand_word.ensures.step
@@ -30,7 +34,9 @@ returns-in-Some-quiet_mark-clause-step c =
     let rest = chars c.in-Some-quiet_mark.rest.now in
     let kind = c.in-Some-quiet_mark.kind in
     let mark = c.in-Some-quiet_mark.ensures.mark in
-    let skipped = subst (λ g. IsSkipped g false s.tokens.left c.in-Ok.line_break from) c.goal_of-goal.ensures c.in-Ok.ensures.trivia in
+    let v = c.self-2.view_is in
+    let skipped = subst (λ g. IsSkipped g false s.tokens.left c.in-Ok.line_break from) (c.goal_of-goal.ensures ∙ ap (λ (x : Lexer). goal_of x.settings.ctx) v)
+    (subst (λ (x : Lexer). IsSkipped c.goal_of-goal.result false x.text.left c.in-Ok.line_break from) v c.in-Ok.ensures.trivia) in
     quiet_steps s (state_in c.hand_mark.new.self) c.in-Ok.line_break from rest (plain (bare (token_kind_number kind))) c.hand_mark.result
     (c.is_outside.ensures.last c.if-not-is_outside.false) (c.is_outside.ensures.open c.if-not-is_outside.false) skipped (mark_stands from kind rest mark.0)
     (quiet_mark from kind rest mark.0 mark.1) refl c.hand_mark.ensures.step
@@ -39,6 +45,8 @@ pub returns-clause-step : goal.returns-clause-step
 returns-clause-step c =
     let s = state_in c.args.self.now in
     let from = chars c.in-Ok.from.now in
-    let skipped = subst (λ g. IsSkipped g false s.tokens.left c.in-Ok.line_break from) c.goal_of-goal.ensures c.in-Ok.ensures.trivia in
+    let v = c.self-2.view_is in
+    let skipped = subst (λ g. IsSkipped g false s.tokens.left c.in-Ok.line_break from) (c.goal_of-goal.ensures ∙ ap (λ (x : Lexer). goal_of x.settings.ctx) v)
+    (subst (λ (x : Lexer). IsSkipped c.goal_of-goal.result false x.text.left c.in-Ok.line_break from) v c.in-Ok.ensures.trivia) in
     plain_steps s (state_in c.next_behind.new.self) c.in-Ok.line_break from c.next_behind.result (c.is_outside.ensures.last c.if-not-is_outside.false)
     (c.is_outside.ensures.open c.if-not-is_outside.false) skipped c.next_behind.ensures.step
