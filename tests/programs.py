@@ -1,4 +1,6 @@
 """Rows of whole programs: what the parser makes of texts, what the printer writes for them, and the laws that hold for each."""
+import re
+
 from asking import Ask, Run, Wrong, only, ran
 from rows import difference
 
@@ -58,11 +60,29 @@ def told(row, fields):
     return " | ".join(faults) or "well"
 
 
+# the place of a node in a tree that is told; an expression as a pattern has no place but the expression's
+PLACE = re.compile(rb"(?<!\(ExprPat) (\d+)\.\.(\d+)(?=\)| \()")
+
+
+def judge_places(setting, text):
+    """The walk that changes a tree comes to each node once, and last to the whole: where it gives each place a number, no two nodes have one."""
+    fields = only((yield [ask(setting, text)])[0])
+    if fields[0] == b"refused":
+        return
+    numbers = PLACE.findall(fields[1])
+    given = [int(lo) for lo, hi in numbers if lo == hi]
+    if len({*given}) != len(numbers) or max(given) != given[0]:
+        raise Wrong(f"the nodes have the places {fields[1].decode()[:1000]}")
+
+
 def tree(row):
     """The tree of a text, its early errors, or where it is refused; as a script and as a module where both are asked."""
     text, limit = row.field(0), int(row.text(1)) if row.has("nesting") else NESTING
     words = ["tree"] if row.has("tree") else []
     answers = yield [ask(reading(row, goal, limit, *words), text) for goal in goals(row)]
+    if row.has("tree") or row.has("placed"):
+        for goal in goals(row):
+            yield from judge_places(reading(row, goal, limit, "tree", "placed"), text)
     all_told = [told(row, only(it)) for it in answers]
     found = all_told[0]
     if row.has("both") and all_told[1].replace("(Module", "(Script", 1) != found:

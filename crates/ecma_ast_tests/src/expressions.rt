@@ -2,13 +2,13 @@
 ghost use Rattle.std.specs.Prelude.{All};
 ghost use Rattle.ecma_node.specs.Fits.{fits_assign_target, fits_expr_or_spread, fits_member_expr, fits_super_prop_expr, fits_tpl};
 
-use crate::made::{atom, deep, deeper, name, ok, private, str, var, word};
+use crate::made::{atom, deep, deeper, name, ok, str, var, word};
 use crate::told::expr;
 use ecma_ast::Build;
 use ecma_node::{
-    AssignTarget, BindingIdent, Callee, ComputedPropName, ExprOrSpread, Import, Invalid,
-    MemberExpr, MemberProp, MetaPropKind, OptCall, OptChainBase, OptChainExpr, ParenExpr, Super,
-    SuperProp, SuperPropExpr, Tpl, TplElement, UnaryOp, UpdateOp,
+    AssignTarget, BindingIdent, Callee, ComputedPropName, ExprOrSpread, Invalid, MemberExpr,
+    MemberProp, MetaPropKind, OptChainBase, Super, SuperProp, SuperPropExpr, Tpl, TplElement,
+    UnaryOp, UpdateOp,
 };
 use ecma_token::{AssignOp, BinaryOp, DUMMY_SP, NumValue};
 use std::process::Abort;
@@ -46,8 +46,6 @@ fn operators(rt: HostRuntime) {
     expr(&rt, b, tree, "(2:2 (1:1))");
     let tree = b.bin_expr(BinaryOp::Add, deeper(&rt, b), var(&rt, b));
     expr(&rt, b, tree, "(5:3 (3:3 (2:2 (1:1))) (4:1))");
-    let tree = b.bin_expr(BinaryOp::Add, deep(&rt, b), deep(&rt, b));
-    expr(&rt, b, tree, "(5:3 (2:2 (1:1)) (4:2 (3:1)))");
     let tree = b.cond_expr(var(&rt, b), deep(&rt, b), deeper(&rt, b));
     expr(&rt, b, tree, "(7:4 (1:1) (3:2 (2:1)) (6:3 (5:2 (4:1))))");
 }
@@ -76,16 +74,8 @@ fn calls(rt: HostRuntime) {
     let b = &Build { alloc: rt.alloc() };
     let tree = b.call_expr(Callee::Expr(var(&rt, b)), args(&rt, b));
     expr(&rt, b, tree, "(5:4 (1:1) (4 (3:2 (2:1))))");
-    let callee = Callee::Super(Super { span: DUMMY_SP });
-    let tree = b.call_expr(callee, Vec::new(b.alloc));
-    expr(&rt, b, tree, "(2:1 (1))");
-    let callee = Callee::Import(Import { span: DUMMY_SP });
-    let tree = b.call_expr(callee, args(&rt, b));
-    expr(&rt, b, tree, "(5:4 (1) (4 (3:2 (2:1))))");
     let tree = b.new_expr(var(&rt, b), Some(args(&rt, b)));
     expr(&rt, b, tree, "(5:4 (1:1) (4 (3:2 (2:1))))");
-    let tree = b.new_expr(deep(&rt, b), None);
-    expr(&rt, b, tree, "(3:3 (2:2 (1:1)))");
 }
 
 #[test]
@@ -98,13 +88,6 @@ fn lists(rt: HostRuntime) {
     };
     let elems = ok(&rt, vec![in b.alloc; None, Some(spread)]);
     expr(&rt, b, b.array_lit(elems), "(5:4 (3 (2:2 (1:1))))");
-    let call = OptCall {
-        span: DUMMY_SP,
-        callee: deep(&rt, b),
-        args: Vec::new(b.alloc),
-    };
-    let tree = b.opt_chain_expr(true, OptChainBase::Call(call));
-    expr(&rt, b, tree, "(4:2 (3 (2:2 (1:1))))");
 }
 
 /// `a.a`.
@@ -140,9 +123,6 @@ fn members(rt: HostRuntime) {
     let b = &Build { alloc: rt.alloc() };
     let tree = b.member_expr(var(&rt, b), MemberProp::Ident(word(&rt, b)));
     expr(&rt, b, tree, "(3:2 (1:1) (2:1))");
-    let prop = MemberProp::PrivateName(private(&rt, b));
-    let tree = b.member_expr(deeper(&rt, b), prop);
-    expr(&rt, b, tree, "(5:3 (3:3 (2:2 (1:1))) (4:1))");
     let SuperPropExpr { obj, prop, .. } = super_member(&rt, b);
     let tree = b.super_prop_expr(obj, prop);
     expr(&rt, b, tree, "(5:4 (1) (4 (3:2 (2:1))))");
@@ -171,32 +151,8 @@ fn plain_targets(rt: HostRuntime) {
         AssignTarget::Ident(bound),
         "(4:2 (2:1 (1:1)) (3:1))",
     );
-    let target = ParenExpr {
-        span: DUMMY_SP,
-        expr: var(&rt, b),
-    };
-    assign(&rt, b, AssignTarget::Paren(target), "(4:3 (2 (1:1)) (3:1))");
     let target = Invalid { span: DUMMY_SP };
     assign(&rt, b, AssignTarget::Invalid(target), "(3:2 (1) (2:1))");
-}
-
-#[test]
-fn member_targets(rt: HostRuntime) {
-    let b = &Build { alloc: rt.alloc() };
-    let target = ok(&rt, Box::new(b.alloc, member(&rt, b)));
-    let want = "(5:3 (3 (1:1) (2:1)) (4:1))";
-    assign(&rt, b, AssignTarget::Member(target), want);
-    let target = ok(&rt, Box::new(b.alloc, super_member(&rt, b)));
-    let want = "(7:5 (5 (1) (4 (3:2 (2:1)))) (6:1))";
-    assign(&rt, b, AssignTarget::SuperProp(target), want);
-    let target = OptChainExpr {
-        span: DUMMY_SP,
-        optional: true,
-        base: OptChainBase::Member(member(&rt, b)),
-    };
-    let target = ok(&rt, Box::new(b.alloc, target));
-    let want = "(6:3 (4 (3 (1:1) (2:1))) (5:1))";
-    assign(&rt, b, AssignTarget::OptChain(target), want);
 }
 
 /// A template of two texts round `(a)`.

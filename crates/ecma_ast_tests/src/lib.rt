@@ -1,10 +1,10 @@
-//! What a user of the tree writes (`examples`), and tests of the tree and of what stands on it: a tree of every kind of node, trees
-//! that go deep, long chains, which trees without a text are the same program, and trees that are printed. Pairs of programs as
-//! texts are asked by rows.
+//! What a user of the tree writes (`examples`), and tests of the tree and of what stands on it: trees that `Build` makes, with nodes
+//! that no text has, long chains, which trees without a text are the same program, and trees that are printed. What a text has is
+//! asked by rows.
 #![tactic(auto)]
 
 #[cfg(test)]
-mod deep;
+mod chains;
 #[cfg(test)]
 mod examples;
 #[cfg(test)]

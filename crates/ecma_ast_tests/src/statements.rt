@@ -6,7 +6,7 @@ use crate::made::{block, bound, deep, deep_stmt, deeper, empty, name, ok, var};
 use crate::told::stmt;
 use ecma_ast::Build;
 use ecma_node::{
-    CatchClause, ForHead, SwitchCase, UsingDecl, VarDecl, VarDeclKind, VarDeclOrExpr, VarDeclarator,
+    CatchClause, ForHead, SwitchCase, UsingDecl, VarDeclKind, VarDeclOrExpr, VarDeclarator,
 };
 use ecma_token::DUMMY_SP;
 use std::process::Abort;
@@ -84,14 +84,6 @@ fn declared(rt: &impl Abort, b: &Build) -> Vec<VarDeclarator>
 #[test]
 fn heads(rt: HostRuntime) {
     let b = &Build { alloc: rt.alloc() };
-    let decl = VarDecl {
-        span: DUMMY_SP,
-        kind: VarDeclKind::Let,
-        decls: declared(&rt, b),
-    };
-    let init = VarDeclOrExpr::VarDecl(ok(&rt, Box::new(b.alloc, decl)));
-    let tree = b.for_stmt(Some(init), None, None, empty(&rt, b));
-    stmt(&rt, b, tree, "(6:4 (4 (3 (2:1 (1:1)))) (5:1))");
     let decl = UsingDecl {
         span: DUMMY_SP,
         is_await: false,

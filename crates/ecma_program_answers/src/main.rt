@@ -6,6 +6,7 @@
 mod families;
 mod front;
 mod part;
+mod places;
 mod print;
 mod read;
 mod trees;

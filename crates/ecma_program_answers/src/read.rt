@@ -1,5 +1,6 @@
 //! Texts as the parser reads them: their trees and early errors, where they are refused, and whether two are the same program.
 
+use crate::places::give_places;
 use ecma_answers::{Answer, Question};
 use ecma_lexer::Lexer;
 use ecma_node::{Program, ProgramKind};
@@ -88,12 +89,16 @@ pub fn tell_faults(faults: &[Error], answer: &mut Answer) -> anyhow::Result<()> 
     Ok(())
 }
 
-/// The tree of a text where that is asked for, and its early errors; or why it is refused.
+/// The tree of a text where that is asked for, with `placed` as the walk that changes a tree gives places, and its early errors; or why it is
+/// refused.
 pub fn tell(question: &Question<'_>, answer: &mut Answer) -> anyhow::Result<()> {
     let alloc = answer.alloc();
     match read(alloc, question.text(0), reading_of(question))? {
-        Ok((program, faults)) => {
+        Ok((mut program, faults)) => {
             answer.say("read")?;
+            if question.has("placed") {
+                give_places(&mut program);
+            }
             if question.has("tree") {
                 answer.say(outline(alloc, &program)?.as_str())?;
             } else {
