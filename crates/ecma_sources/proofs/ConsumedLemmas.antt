@@ -13,7 +13,9 @@ use Rattle.ecma_reading.specs.Reading.{readers, finish, read_program, read_list}
 use Rattle.ecma_sources.specs.Sources.{HandsOut, Orderly}
 use Rattle.ecma_sources.proofs.Beside.{lm}
 use Rattle.ecma_sources.specs.Consumed.{Backward, ProgramsConsumed}
-use Rattle.ecma_sources.proofs.Backs.{closed, list_at, Backed, back_never, Echoed}
+use Rattle.ecma_sources.proofs.Pairs.{Pairing, Paired}
+use Rattle.ecma_sources.proofs.HandedOut.{handed, paired}
+use Rattle.ecma_sources.proofs.Backs.{closed, shut_good, list_at, Backed, back_never, Echoed}
 use Rattle.ecma_sources.proofs.Solids.{solids}
 use Rattle.ecma_sources.proofs.ConsumedExpressions.{expr_by_backed}
 use Rattle.ecma_sources.proofs.ConsumedStatements.{pat_by_backed, stmt_from_backed, body_by_backed, class_tail_by_backed}
@@ -98,8 +100,8 @@ module _ {S : Type 0} (m : Machine S) (im : Inner S) where
 
 -- ---- the readers tied
 
-module _ {S : Type 0} {m : Machine S} {Live : S → Type 0} {modular : Bool} (w : Orderly m Live modular) (bw : Backward m Live modular) where
-  readers_echoed : (d : ℕ) → Echoed m Live modular (readers lm d) (readers m d)
+module _ {S : Type 0} {m : Machine S} {Live : Pairing m} {modular : Bool} (w : Paired m Live modular) where
+  pub readers_echoed : (d : ℕ) → Echoed m Live modular (readers lm d) (readers m d)
   unfolding readers
   readers_echoed zero = record {
     expr = λ c e l s a. back_never;
@@ -110,11 +112,11 @@ module _ {S : Type 0} {m : Machine S} {Live : S → Type 0} {modular : Bool} (w 
     solid = solids m zero;
   }
   readers_echoed (suc d) = let n = readers_echoed d in record {
-    expr = λ c e l s a. expr_by_backed w bw n s c e l a;
-    pat = λ c e s a. pat_by_backed w bw n s c e a;
-    stmt = λ c e s a. stmt_from_backed w bw n s c e a;
-    body = λ c e s a. body_by_backed w bw n s c e a;
-    class_tail = λ c e i s a. class_tail_by_backed w bw n s c e i a;
+    expr = λ c e l s a. expr_by_backed w n s c e l a;
+    pat = λ c e s a. pat_by_backed w n s c e a;
+    stmt = λ c e s a. stmt_from_backed w n s c e a;
+    body = λ c e s a. body_by_backed w n s c e a;
+    class_tail = λ c e i s a. class_tail_by_backed w n s c e i a;
     solid = solids m (suc d);
   }
 
@@ -124,15 +126,15 @@ module _ {S : Type 0} (m : Machine S) (Live : S → Type 0) where
   code_of true x = refl
   code_of false x = refl
 
-  finished_list : (s : Stand S) (t : Tree) (x : Result (Tree × Stand S) Fault) (y : Stand Input → Result (Tree × Stand Input) Fault) → Backed m Live closed false closed_end s x y → Ends m (λ z. m.seen z.source ≡ []) x → (x >>= finish) ≡ Ok t
-      → (ps : List Place) × HandsOut m ps s.source × ((y (list_at m Live s ps) >>= finish) ≡ Ok t)
+  finished_list : (s : Stand S) (t : Tree) (x : Result (Tree × Stand S) Fault) (y : Stand Input → Result (Tree × Stand Input) Fault) → Backed m (handed m Live) closed false closed_end s x y → Ends m (λ z. m.seen z.source ≡ []) x → (x >>= finish) ≡ Ok t
+      → (ps : List Place) × HandsOut m ps s.source × ((y (list_at m (handed m Live) s ps) >>= finish) ≡ Ok t)
   unfolding finish
   finished_list s t (Err d) y h f e = absurd (true≢false (sym (ap (λ z. is_ok z) e)))
     where
       is_ok : Result Tree Fault → Bool
       is_ok (Ok z) = true
       is_ok (Err z) = false
-  finished_list s t (Ok x) y h f e = (h.so.0.back [], h.so.0.hands [] f.so, ap (λ (z : Result (Tree × Stand Input) Fault). z >>= finish) (h.so.2 [] f.so (λ i. absurd (true≢false i))).1 ∙ e)
+  finished_list s t (Ok x) y h f e = (h.so.0.back [], h.so.0.hands [] f.so, ap (λ (z : Result (Tree × Stand Input) Fault). z >>= finish) (h.so.2 [] f.so (shut_good (handed m Live) x.1 [])).1 ∙ e)
 
   abbrev start_at : S → Stand S
   start_at s = record { source = s; commas = [] }
@@ -140,4 +142,4 @@ module _ {S : Type 0} (m : Machine S) (Live : S → Type 0) where
   pub programs_consumed : ProgramsConsumed m Live
   unfolding read_list read_program
   programs_consumed modules w bw depth syntax s t a e = let c = (if modules then module_code syntax else script_code syntax) in let st = start_at s in
-      finished_list st t (program_by m (readers m depth) modules c st) (λ r. program_by lm (readers lm depth) modules c r) (program_by_backed w bw (readers_echoed w bw depth) st modules c (code_of modules syntax) a) (program_ends m (readers m depth) modules c st) e
+      finished_list st t (program_by m (readers m depth) modules c st) (λ r. program_by lm (readers lm depth) modules c r) (program_by_backed (paired w bw) (readers_echoed (paired w bw) depth) st modules c (code_of modules syntax) a) (program_ends m (readers m depth) modules c st) e

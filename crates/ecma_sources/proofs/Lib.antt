@@ -3,6 +3,8 @@ pub mod Expressions
 pub mod Statements
 pub mod Modules
 pub mod SourceLemmas
+pub mod Pairs
+pub mod HandedOut
 pub mod Backs
 pub mod Solids
 pub mod ConsumedExpressions
