@@ -1,9 +1,10 @@
+pub mod Kin
 mod Like
-mod Forms
+pub mod Forms
 mod Expressions
 mod Functions
 mod Statements
 mod Modules
-mod Placed
+pub mod Placed
 pub mod PlacedLemmas
 pub mod Passed

@@ -1,15 +1,16 @@
 -- The same tokens under other goals and contexts: what a relation asks of tokens holds of both.
-use Rattle.std.proofs.Common.{◌≡◌, ℕ, Bool, true, false, not, ◌||◌, ◌==◌, eqb, leb, if◌then◌else◌, List, [], ◌∷◌, refl, sym, ap, ◌∙◌, subst}
+use Rattle.std.proofs.Common.{◌≡◌, ◌<◌, ℕ, Bool, true, false, not, ◌||◌, ◌==◌, eqb, leb, if◌then◌else◌, List, [], ◌∷◌, refl, sym, ap, ◌∙◌, subst}
 use Rattle.ecma_token.specs.declared.context.Context.{Context}
-use Rattle.ecma_token.specs.declared.place.Span.{Span}
-use Rattle.ecma_token.specs.Kinds.{regex_kind, div_kind, div_assign_kind}
+use Rattle.ecma_token.specs.Kinds.{right_brace_kind, regex_kind, div_kind, div_assign_kind, case_kind, default_kind}
 use Rattle.ecma_token.specs.Tokens.{Spot}
 use Rattle.ecma_tree.specs.Tree.{Tree}
-use Rattle.ecma_syntax.specs.Input.{Place, Input, Code, kind_of, break_of, content_of, escaped_of, others, hi_of, lo_of, kind, kind2, brk, brk2, content, text, text_in, lo, hi, rest, Spans, div_goal, regexp_goal, usual, no_context, Only, Takes, TakesWord, TakesAnyWord, TakesName, TakesIn, Stands, barred, judged, no_name, is_word}
-use Rattle.ecma_syntax.specs.Operators.{goes_expr, pauses}
-use Rattle.ecma_grammar.specs.Statements.{starts_expression_statement, statement_end, starts_head, starts_of, starts_using}
+use Rattle.ecma_syntax.specs.Input.{Place, Input, Code, kind_of, break_of, content_of, escaped_of, others, hi_of, lo_of, kind, kind2, brk, brk2, content, text, text_in, lo, hi, rest, div_goal, regexp_goal, usual, no_context, Only, Takes, TakesWord, TakesAnyWord, TakesName, TakesIn, Stands, barred, judged, no_name, is_word}
+use Rattle.ecma_syntax.specs.Operators.{goes_expr, pauses, other_end, call_level}
+use Rattle.ecma_syntax.specs.Shape.{field_end}
+use Rattle.ecma_grammar.specs.Statements.{starts_expression_statement, statement_end, starts_head, starts_of, starts_using, starts_pattern}
 use Rattle.ecma_grammar.specs.Modules.{starts_default}
 use Rattle.ecma_grammar_placed.specs.Laws.{SameToken, placing}
+use Rattle.ecma_grammar_placed.proofs.Kin.{Kin}
 
 module _ (p : Bool) where
   -- a place that stands under no goal and in no context of its own, where these aren't judged
@@ -26,7 +27,7 @@ module _ (p : Bool) where
     pub worn : Worn a.places b.places
 
   -- what spells one list spells the other, up to any such rest
-  abbrev pub Moves : (Input → Input → Type 0) → (Input → Input → Type 0) → Type 0
+  abbrev Moves : (Input → Input → Type 0) → (Input → Input → Type 0) → Type 0
   Moves P Q = (ts r q : Input) → P ts r → Like r q → (o : Input) × Like ts o × Q o q
 
   -- ---- what is seen of tokens
@@ -67,59 +68,56 @@ module _ (p : Bool) where
   rests (x ∷ xs) [] w = absurd w
   rests (x ∷ xs) (y ∷ ys) w = w.2
 
-  pub kind_like : (a b : Input) → Like a b → kind a ≡ kind b
+  kind_like : (a b : Input) → Like a b → kind a ≡ kind b
   kind_like a b l = kinds a.places b.places l.worn
 
-  pub brk_like : (a b : Input) → Like a b → brk a ≡ brk b
+  brk_like : (a b : Input) → Like a b → brk a ≡ brk b
   brk_like a b l = breaks a.places b.places l.worn
 
-  pub kind2_like : (a b : Input) → Like a b → kind2 a ≡ kind2 b
+  kind2_like : (a b : Input) → Like a b → kind2 a ≡ kind2 b
   kind2_like a b l = kinds (others a.places) (others b.places) (rests a.places b.places l.worn)
 
-  pub brk2_like : (a b : Input) → Like a b → brk2 a ≡ brk2 b
+  brk2_like : (a b : Input) → Like a b → brk2 a ≡ brk2 b
   brk2_like a b l = breaks (others a.places) (others b.places) (rests a.places b.places l.worn)
 
-  pub content_like : (a b : Input) → Like a b → content a ≡ content b
+  content_like : (a b : Input) → Like a b → content a ≡ content b
   content_like a b l = contents a.places b.places l.worn
 
-  pub lo_like : (a b : Input) → Like a b → lo a ≡ lo b
+  lo_like : (a b : Input) → Like a b → lo a ≡ lo b
   lo_like a b l = los a.last a.places b.places l.worn ∙ ap (λ (n : ℕ). lo_of n b.places) l.last
 
-  pub hi_like : (a b : Input) → Like a b → hi a ≡ hi b
+  hi_like : (a b : Input) → Like a b → hi a ≡ hi b
   hi_like a b l = his a.last a.places b.places l.worn ∙ ap (λ (n : ℕ). hi_of n b.places) l.last
 
-  pub rest_like : (a b : Input) → Like a b → Like (rest a) (rest b)
+  rest_like : (a b : Input) → Like a b → Like (rest a) (rest b)
   rest_like a b l = record { last = hi_like a b l; worn = rests a.places b.places l.worn }
 
   -- ---- what is asked of them
 
-  pub goes_like : (c : Code) (e : ℕ) (a b : Input) → Like a b → goes_expr c e a ≡ goes_expr c e b
+  goes_like : (c : Code) (e : ℕ) (a b : Input) → Like a b → goes_expr c e a ≡ goes_expr c e b
   goes_like c e a b l = rw (kind_like a b l) (rw (brk_like a b l) (rw (kind2_like a b l) refl))
 
-  pub pauses_like : (c : Code) (e : ℕ) (a b : Input) → Like a b → pauses c e a ≡ pauses c e b
+  pauses_like : (c : Code) (e : ℕ) (a b : Input) → Like a b → pauses c e a ≡ pauses c e b
   pauses_like c e a b l = rw (kind_like a b l) (rw (brk_like a b l) (rw (kind2_like a b l) refl))
 
-  pub begins_like : (a b : Input) → Like a b → starts_expression_statement a ≡ starts_expression_statement b
+  begins_like : (a b : Input) → Like a b → starts_expression_statement a ≡ starts_expression_statement b
   begins_like a b l = rw (kind_like a b l) (rw (brk2_like a b l) (rw (kind2_like a b l) refl))
 
-  pub ended_like : (c : Code) (t : Tree) (a b : Input) → Like a b → statement_end c a t ≡ statement_end c b t
+  ended_like : (c : Code) (t : Tree) (a b : Input) → Like a b → statement_end c a t ≡ statement_end c b t
   ended_like c t a b l = rw (kind_like a b l) refl
 
-  pub head_like : (a b : Input) → Like a b → starts_head a ≡ starts_head b
+  head_like : (a b : Input) → Like a b → starts_head a ≡ starts_head b
   head_like a b l = rw (kind_like a b l) (rw (kind2_like a b l) refl)
 
-  pub of_like : (w : Bool) (a b : Input) → Like a b → starts_of w a ≡ starts_of w b
+  of_like : (w : Bool) (a b : Input) → Like a b → starts_of w a ≡ starts_of w b
   of_like w a b l = rw (kind_like a b l) (rw (kind2_like a b l) refl)
 
-  pub using_like : (w : Bool) (a b : Input) → Like a b → starts_using w a ≡ starts_using w b
+  using_like : (w : Bool) (a b : Input) → Like a b → starts_using w a ≡ starts_using w b
   using_like true a b l = rw (kind2_like (rest a) (rest b) (rest_like a b l)) refl
   using_like false a b l = rw (kind2_like a b l) refl
 
-  pub default_like : (a b : Input) → Like a b → starts_default a ≡ starts_default b
+  default_like : (a b : Input) → Like a b → starts_default a ≡ starts_default b
   default_like a b l = rw (kind_like a b l) (rw (brk2_like a b l) (rw (kind2_like a b l) refl))
-
-  pub spans_like : (s : Span) (a b r q : Input) → Like a b → Like r q → Spans s a r → Spans s b q
-  spans_like s a b r q l k h = h ∙ rw (lo_like a b l) (rw k.last refl)
 
   -- ---- tokens
 
@@ -153,7 +151,7 @@ module _ (p : Bool) where
   on : (n : ℕ) (r q : Input) → n ≡ r.last → Like r q → inp n q.places ≡ q
   on n r q e l = ap (λ (m : ℕ). inp m q.places) (e ∙ l.last)
 
-  pub nothing : (ys : List Place) → Worn [] ys → [] ≡ ys
+  nothing : (ys : List Place) → Worn [] ys → [] ≡ ys
   nothing [] w = refl
   nothing (y ∷ ys) w = absurd w
 
@@ -179,10 +177,10 @@ module _ (p : Bool) where
   standing c n (x ∷ xs) r q e l = (stood p x.spot.token.kind c.context, on x.spot.hi r q (ap (λ (z : Input). z.last) e) l)
 
   -- the first token under its goal and in its code
-  pub dress_first : (c : Code) (ts r q : Input) → rest ts ≡ r → Like r q → (o : Input) × Like ts o × Stands (placing p c) o × (rest o ≡ q)
+  dress_first : (c : Code) (ts r q : Input) → rest ts ≡ r → Like r q → (o : Input) × Like ts o × Stands (placing p c) o × (rest o ≡ q)
   dress_first c ts r q e l = let s = standing c ts.last ts.places r q e l in (front c (own_goal (kind ts)) ts.last ts.places q, front_like c (own_goal (kind ts)) ts.last ts.places r q e l, s.0, s.1)
 
-  pub texts_like : (a b : Input) → Like a b → text a ≡ text b
+  texts_like : (a b : Input) → Like a b → text a ≡ text b
   texts_like a b l = ap text_in (content_like a b l)
 
   escapes : (xs ys : List Place) → Worn xs ys → escaped_of xs ≡ escaped_of ys
@@ -191,19 +189,19 @@ module _ (p : Bool) where
   escapes (x ∷ xs) [] w = absurd w
   escapes (x ∷ xs) (y ∷ ys) w = w.0.1
 
-  pub barred_like : (d : Context) (a b : Input) → Like a b → barred d a ≡ barred d b
+  barred_like : (d : Context) (a b : Input) → Like a b → barred d a ≡ barred d b
   barred_like d a b l = rw (kind_like a b l) (rw (escapes a.places b.places l.worn) refl)
 
-  pub take : (c : Code) (k : ℕ) → Moves (Takes c k) (Takes (placing p c) k)
+  take : (c : Code) (k : ℕ) → Moves (Takes c k) (Takes (placing p c) k)
   take c k ts r q h l = let z = dress_first c ts r q h.2 l in (z.0, z.1, (sym (kind_like ts z.0 z.1) ∙ h.0, z.2, z.3))
 
-  pub take_word : (c : Code) (k : ℕ) → Moves (TakesWord c k) (TakesWord (placing p c) k)
+  take_word : (c : Code) (k : ℕ) → Moves (TakesWord c k) (TakesWord (placing p c) k)
   take_word c k ts r q h l = let z = dress_first c ts r q h.3 l in (z.0, z.1, (sym (kind_like ts z.0 z.1) ∙ h.0, sym (barred_like c.context ts z.0 z.1) ∙ h.1, z.2, z.3))
 
-  pub take_any : (c : Code) (n : List ℕ) → Moves (TakesAnyWord c n) (TakesAnyWord (placing p c) n)
+  take_any : (c : Code) (n : List ℕ) → Moves (TakesAnyWord c n) (TakesAnyWord (placing p c) n)
   take_any c n ts r q h l = let z = dress_first c ts r q h.3 l in (z.0, z.1, (ap is_word (sym (kind_like ts z.0 z.1)) ∙ h.0, sym (texts_like ts z.0 z.1) ∙ h.1, z.2, z.3))
 
-  pub take_name : (c : Code) (n : List ℕ) → Moves (TakesName c n) (TakesName (placing p c) n)
+  take_name : (c : Code) (n : List ℕ) → Moves (TakesName c n) (TakesName (placing p c) n)
   take_name c n ts r q h l = let z = dress_first c ts r q h.5 l in
       (z.0, z.1, (ap is_word (sym (kind_like ts z.0 z.1)) ∙ h.0, ap (λ (k : ℕ). no_name c.context k) (sym (kind_like ts z.0 z.1)) ∙ h.1, sym (barred_like c.context ts z.0 z.1) ∙ h.2, sym (texts_like ts z.0 z.1) ∙ h.3, z.2, z.3))
 
@@ -216,5 +214,38 @@ module _ (p : Bool) where
   inside c g k n [] r q f h l = absurd (f h.0)
   inside c g k n (x ∷ xs) r q f h l = (h.0, within p g c.context, on x.spot.hi r q (ap (λ (z : Input). z.last) h.2) l)
 
-  pub take_in : (c : Code) (g k : ℕ) → (kind_of [] ≡ k → ⊥) → Moves (TakesIn c g k) (TakesIn (placing p c) g k)
+  take_in : (c : Code) (g k : ℕ) → (kind_of [] ≡ k → ⊥) → Moves (TakesIn c g k) (TakesIn (placing p c) g k)
   take_in c g k f ts r q h l = (front c g ts.last ts.places q, front_like c g ts.last ts.places r q h.2 l, inside c g k ts.last ts.places r q f h l)
+
+  -- ---- the relation
+
+  nothing_of : (a b : Input) → Like a b → a.places ≡ [] → b.places ≡ []
+  nothing_of a b l e = sym (nothing b.places (subst (λ (z : List Place). Worn z b.places) e l.worn))
+
+  pub dressed : Kin p
+  dressed = record {
+    Like = Like;
+    last = λ a b l. l.last;
+    breaks = brk_like;
+    contents = content_like;
+    starts = lo_like;
+    stops = λ a b l n. hi_like a b l;
+    nothing = nothing_of;
+    unlike = λ k n a b l h o. h (kind_like a b l ∙ o);
+    no_pattern = λ a b l h. subst (λ (n : ℕ). starts_pattern n ≡ false) (kind_like a b l) h;
+    ends_case = λ a b l h. subst (λ (n : ℕ). ((n == case_kind) || ((n == default_kind) || (n == right_brace_kind))) ≡ true) (kind_like a b l) h;
+    goes = λ c a b l h. subst (λ (n : ℕ). n < call_level) (goes_like c other_end a b l) h;
+    stays = λ c e a b l h. sym (pauses_like c e a b l) ∙ h;
+    ended = λ c d t a b m l h. subst (λ (n : ℕ). pauses d n m ≡ true) (ended_like c t a b l) h;
+    fields = λ c i a b m l h. subst (λ (n : ℕ). pauses c (field_end i n) m ≡ true) (kind_like a b l) h;
+    begins = λ a b l h. sym (begins_like a b l) ∙ h;
+    heads = λ a b l h. sym (head_like a b l) ∙ h;
+    ofs = λ w a b l h. sym (of_like w a b l) ∙ h;
+    usings = λ w a b l h. sym (using_like w a b l) ∙ h;
+    defaults = λ a b l h. sym (default_like a b l) ∙ h;
+    take = take;
+    take_word = take_word;
+    take_any = take_any;
+    take_name = take_name;
+    take_in = take_in;
+  }

@@ -1,5 +1,5 @@
 -- From a list that a source hands out behind a reading back to one that it hands out before.
-use Rattle.std.proofs.Common.{◌≡◌, ◌⊎◌, ◌<◌, ◌≤◌, ◌+◌, ℕ, zero, suc, Bool, true, false, not, ◌&&◌, ◌||◌, cond, if◌then◌else◌, eqb, nat_le, nat_lt, List, [], ◌∷◌, length, Result, Ok, Err, inl, inr, refl, sym, ap, ap₂, ◌∙◌, subst, true≢false, arith, eqb-true, lt-ltb, le-leb}
+use Rattle.std.proofs.Common.{◌≡◌, ◌⊎◌, ◌<◌, ◌≤◌, ◌+◌, ℕ, zero, suc, Bool, true, false, not, ◌&&◌, ◌||◌, cond, if◌then◌else◌, eqb, nat_le, nat_lt, List, [], ◌∷◌, ◌++◌, length, append_assoc, Result, Ok, Err, inl, inr, refl, sym, ap, ap₂, ◌∙◌, subst, true≢false, arith, eqb-true, lt-ltb, le-leb}
 use Rattle.ecma_token.specs.declared.context.Context.{Context}
 use Rattle.ecma_token.specs.Kinds.{div_assign_kind, error_kind, semicolon_kind}
 use Rattle.ecma_tree.specs.Tree.{Tree}
@@ -54,6 +54,8 @@ module _ {S : Type 0} (m : Machine S) (Live : Pairing m) where
     pub from : Live.live s.source
     pub live : Live.live t.source
     pub back : List Place → List Place
+    pub front : List Place
+    pub grown : (qs : List Place) → back qs ≡ front ++ qs
     pub hands : (qs : List Place) → Live.hands 0 qs t.source → Live.hands 0 (back qs) s.source
     pub took : ℕ
     pub ahead : (n : ℕ) (qs : List Place) → Live.hands n qs t.source → Live.hands (took + n) (back qs) s.source
@@ -162,6 +164,8 @@ module _ {S : Type 0} {m : Machine S} {Live : Pairing m} where
     from = a.from;
     live = b.live;
     back = λ qs. a.back (b.back qs);
+    front = a.front ++ b.front;
+    grown = λ qs. a.grown (b.back qs) ∙ (ap (λ v. a.front ++ v) (b.grown qs) ∙ sym (append_assoc a.front b.front qs));
     hands = λ qs h. a.hands (b.back qs) (b.hands qs h);
     took = a.took + b.took;
     ahead = λ n qs h. subst (λ (i : ℕ). Live.hands i (a.back (b.back qs)) s.source) (omega arith) (a.ahead (b.took + n) (b.back qs) (b.ahead n qs h));
@@ -172,7 +176,7 @@ module _ {S : Type 0} {m : Machine S} {Live : Pairing m} where
   }
 
   abbrev pub stay : {s : Stand S} → Live.live s.source → Path m Live s s
-  stay {s} l = record { from = l; live = l; back = λ qs. qs; hands = λ qs h. h; took = 0; ahead = λ n qs h. subst (λ (i : ℕ). Live.hands i qs s.source) (omega arith) h; none = λ i qs. refl; single = λ i. absurd (no_one i); longer = λ qs. omega arith; opens = λ qs o. o }
+  stay {s} l = record { from = l; live = l; back = λ qs. qs; front = []; grown = λ qs. refl; hands = λ qs h. h; took = 0; ahead = λ n qs h. subst (λ (i : ℕ). Live.hands i qs s.source) (omega arith) h; none = λ i qs. refl; single = λ i. absurd (no_one i); longer = λ qs. omega arith; opens = λ qs o. o }
 
   pub took_join : {s t u : Stand S} (a : Path m Live s t) (b : Path m Live t u) → Took m Live a → Took m Live (join a b)
   took_join a b k = record { place = k.place; shown = k.shown; seen = k.seen; starts = λ qs h. k.starts (b.back qs) (b.hands qs h) }
@@ -190,7 +194,7 @@ module _ {S : Type 0} {m : Machine S} {Live : Pairing m} where
       → Backed m Live E false e s (Ok (a, record { source = s.source; commas = if b then n ∷ s.commas else s.commas })) (λ r. Ok (f r, record { source = r.source; commas = if b then k r ∷ r.commas else r.commas }))
   back_noted {E = E} {e = e} {s = s} b n k a f l i j c = record {
     so = (
-      record { from = l; live = l; back = λ qs. qs; hands = λ qs h. h; took = 0; ahead = λ n qs h. subst (λ (i : ℕ). Live.hands i qs s.source) (omega arith) h; none = λ i qs. refl; single = λ i. absurd (no_one i); longer = λ qs. omega arith; opens = λ qs o. o },
+      record { from = l; live = l; back = λ qs. qs; front = []; grown = λ qs. refl; hands = λ qs h. h; took = 0; ahead = λ n qs h. subst (λ (i : ℕ). Live.hands i qs s.source) (omega arith) h; none = λ i qs. refl; single = λ i. absurd (no_one i); longer = λ qs. omega arith; opens = λ qs o. o },
       λ o. absurd (true≢false (sym o)),
       λ qs h g. (kept Live s e (E a) qs c g, ap₂ (λ a n. Ok (a, record { source = (list_at m Live s qs).source; commas = if b then n ∷ s.commas else s.commas })) (j qs h) (i qs h)),
     );
@@ -271,6 +275,8 @@ module _ {S : Type 0} {m : Machine S} {Live : Pairing m} {modular : Bool} (w : P
     from = j.live;
     live = live_past j;
     back = λ qs. j.place ∷ qs;
+    front = j.place ∷ [];
+    grown = λ qs. refl;
     hands = λ qs h. w.fewer 0 (j.place ∷ qs) s.source j.live (w.token 0 j.place qs j.shown s.source j.live j.seen h);
     took = 1;
     ahead = λ n qs h. subst (λ (i : ℕ). Live.hands i (j.place ∷ qs) s.source) (omega arith) (w.token n j.place qs j.shown s.source j.live j.seen h);
@@ -741,7 +747,7 @@ module _ {S : Type 0} {m : Machine S} {Live : Pairing m} {modular : Bool} (w : P
   -- ---- the code around, and operands
 
   abbrev pub turning : (x : Context) → x.module_ ≡ modular → {s : Stand S} → Live.live s.source → Path m Live s (turned m x s)
-  turning x e {s} l = record { from = l; live = w.order.live_turned x s.source e l; back = λ qs. qs; hands = λ qs h. w.told x 0 qs s.source e l h; took = 0; ahead = λ n qs h. subst (λ (i : ℕ). Live.hands i qs s.source) (omega arith) (w.told x n qs s.source e l h); none = λ i qs. refl; single = λ i. absurd (no_one i); longer = λ qs. omega arith; opens = λ qs o. o }
+  turning x e {s} l = record { from = l; live = w.order.live_turned x s.source e l; back = λ qs. qs; front = []; grown = λ qs. refl; hands = λ qs h. w.told x 0 qs s.source e l h; took = 0; ahead = λ n qs h. subst (λ (i : ℕ). Live.hands i qs s.source) (omega arith) (w.told x n qs s.source e l h); none = λ i qs. refl; single = λ i. absurd (no_one i); longer = λ qs. omega arith; opens = λ qs o. o }
 
   pub back_turned : {A : Type 0} {E : A → ℕ} {s : Stand S} (x : Context) → x.module_ ≡ modular → (a : A) (f : Stand Input → A) → Live.live s.source → ((qs : List Place) → Live.hands 0 qs s.source → f (list_at m Live s qs) ≡ a) → Backed m Live E false closed_end s (Ok (a, turned m x s)) (λ r. Ok (f r, turned lm x r))
   back_turned {s = s} x e a f l i = record {
@@ -761,6 +767,8 @@ module _ {S : Type 0} {m : Machine S} {Live : Pairing m} {modular : Bool} (w : P
         from = l;
         live = h.so.0.live;
         back = h.so.0.back;
+        front = h.so.0.front;
+        grown = h.so.0.grown;
         hands = λ qs o. w.operands 0 (h.so.0.back qs) s.source l (h.so.0.hands qs o) ((h.so.1 refl).1 qs);
         took = h.so.0.took;
         ahead = λ n qs o. w.operands (h.so.0.took + n) (h.so.0.back qs) s.source l (h.so.0.ahead n qs o) ((h.so.1 refl).1 qs);

@@ -13,7 +13,8 @@ use Rattle.ecma_reading.specs.Statements.{statement_class}
 use Rattle.ecma_token.specs.Kinds.{error_kind}
 use Rattle.ecma_sources.specs.Sources.{is_slash, Rereads, one, two}
 use Rattle.ecma_sources.proofs.Beside.{kind_two, lm, on, regexp, slash, Plain, and_left, and_right, same_default, same_bare}
-use Rattle.ecma_sources.proofs.Pairs.{ends_async, edge_by, edge, Keeps, Loose, Pairing, Paired}
+use Rattle.ecma_sources.specs.Ahead.{ends_async}
+use Rattle.ecma_sources.proofs.Pairs.{edge_by, edge, Keeps, Loose, Pairing, Paired}
 use Rattle.ecma_syntax.specs.Shape.{declarator_end}
 use Rattle.ecma_syntax.specs.Operators.{binding_end}
 use Rattle.ecma_sources.proofs.Backs.{closed, calm, back_then_by, shut_keeps, same_keeps, Bides, Rest, bides_one, bides_weak, bides_same, bides_test, bides_then, bides_past, bides_end, bides_back, back_two, back_test_two, agrees_two, agrees_plain, agrees_was, agrees_was_on, at_hand, list_at, Here, Path, was, Backed, Steps, Hands, join, stay, took_join, back_never, back_ok, back_weak, back_same, back_then, back_pure, back_test, step_all, step_test, live_past, token, took_token, back_past, agrees, here_by, here_at, back_if, back_at, back_eat, back_word, back_own, back_name, back_again, back_end, back_iterate_in, back_iterate, lo_was, first_was, kind_was, at_was, hands_if, hands_then, hands_word, back_turned, back_operand, Echoed}

@@ -11,3 +11,4 @@ pub mod ConsumedExpressions
 pub mod ConsumedStatements
 pub mod ConsumedModules
 pub mod ConsumedLemmas
+pub mod Ahead

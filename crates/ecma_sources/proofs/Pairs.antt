@@ -2,36 +2,16 @@
 use Rattle.std.proofs.Common.{◌≡◌, ◌⊎◌, ℕ, suc, Bool, true, false, not, ◌&&◌, ◌==◌, if◌then◌else◌, eqb, nat_le, nat_lt, List, [], ◌∷◌, codes, bytes_eq}
 use Rattle.ecma_token.specs.declared.context.Context.{Context}
 use Rattle.ecma_token.specs.Kinds.{arrow_kind, async_kind, error_kind}
-use Rattle.ecma_tree.specs.Tree.{Tree, Trees, none, more, ident, update_expr, unary_expr, await_expr, bin_expr, cond_expr, assign_expr, arrow_expr, yield_expr, seq_expr, new_expr, absent}
-use Rattle.ecma_syntax.specs.Input.{Place, Code, kind_of, kind2, brk, brk2, content_of, text_in}
+use Rattle.ecma_tree.specs.Tree.{Tree}
+use Rattle.ecma_syntax.specs.Input.{Place, Code, kind_of, kind2, brk, brk2, text_in}
 use Rattle.ecma_syntax.specs.Operators.{assignment_level, goes_expr, pauses, closed_end, postfix_end, let_end}
 use Rattle.ecma_syntax.specs.Shape.{ends}
 use Rattle.ecma_reading.specs.Source.{Machine, input, is_name}
 use Rattle.ecma_sources.specs.Sources.{is_slash, Rereads, Orderly}
+use Rattle.ecma_sources.specs.Ahead.{ends_async}
 use Rattle.ecma_sources.proofs.Beside.{lm, on, regexp, slash}
 
 -- ---- what ends an expression
-
--- whether the word `async` stands last, as a name
-abbrev mutual
-  pub ends_async : Tree → Bool
-  ends_async (ident s n) = bytes_eq n (codes "async")
-  ends_async (update_expr s op true a) = ends_async a
-  ends_async (unary_expr s op a) = ends_async a
-  ends_async (await_expr s a) = ends_async a
-  ends_async (bin_expr s op a b) = ends_async b
-  ends_async (cond_expr s a b d) = ends_async d
-  ends_async (assign_expr s op a b) = ends_async b
-  ends_async (arrow_expr s ps b i) = ends_async b
-  ends_async (yield_expr s a g) = ends_async a
-  ends_async (new_expr s f absent) = ends_async f
-  ends_async (seq_expr s xs) = last_async xs
-  ends_async _ = false
-
-  pub last_async : Trees → Bool
-  last_async none = false
-  last_async (more t none) = ends_async t
-  last_async (more t (more u ts)) = last_async (more u ts)
 
 -- The class of an expression: closed, whatever stands behind it; 0 where it ends with that word; 1 else.
 abbrev pub edge_by : Bool → Bool → ℕ

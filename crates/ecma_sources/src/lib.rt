@@ -3,6 +3,7 @@
 #![tactic(auto)]
 
 ghost use Rattle.ecma_reading.specs.Source.{Machine};
+ghost use Rattle.ecma_sources.specs.Ahead.{OneAhead};
 ghost use Rattle.ecma_sources.specs.Consumed.{ProgramsConsumed};
 ghost use Rattle.ecma_sources.specs.Laws.{ProgramsRead, PartsRead};
 
@@ -28,4 +29,12 @@ pub fn sources_law<I: Sourced>()
 #[tactic(auto)]
 pub fn consumed_law<I: Sourced>()
     ensures programs { ProgramsConsumed I.machine I.live }
+{}
+
+/// Law: reading depends on the tokens that it takes and the next one alone. What is read of a front of a
+/// list is read of the same front before any other rest that begins with that token; after an expression
+/// also what follows it counts, where it is `?`, and where `async` stands before a word on its line.
+#[tactic(auto)]
+pub fn ahead_law()
+    ensures parts { OneAhead }
 {}
