@@ -1,12 +1,12 @@
 -- Functions, methods and classes under their goals and in their contexts.
-use Rattle.std.proofs.Common.{ℕ, inl, inr, Bool, true, false, eqb, List, [], ◌∷◌, Option, Some, None, sym, ◌∙◌, subst}
+use Rattle.std.proofs.Common.{ℕ, inl, inr, Bool, true, false, eqb, refl, List, [], ◌∷◌, Option, Some, None, sym, ◌∙◌, subst}
 use Rattle.ecma_token.specs.declared.place.Span.{Span}
 use Rattle.ecma_token.specs.Kinds.{arrow_kind, left_paren_kind, right_paren_kind, left_brace_kind, right_brace_kind, mul_kind, assign_kind, function_kind, class_kind, extends_kind, accessor_kind, async_kind, get_kind, set_kind, static_kind}
 use Rattle.ecma_tree.specs.Tree.{Tree, plain_method}
 use Rattle.ecma_syntax.specs.Input.{Input, Code, Spans, kind, with_in, by, binding, setting, turned_strict, in_body, in_arrow, in_field, in_static, in_list}
 use Rattle.ecma_syntax.specs.Operators.{assignment_level, new_level, key_end}
 use Rattle.ecma_syntax.specs.Shape.{ends, is_absent, is_bound_name, is_param, is_key, is_any_key, is_item, is_member, field_end, FunctionParts}
-use Rattle.ecma_grammar.specs.Parts.{is_ident, Part, By, Sorted}
+use Rattle.ecma_grammar.specs.Parts.{Ends, is_ident, Part, By, Sorted}
 use Rattle.ecma_grammar.specs.Functions.{Parameter, Parameters, SetParameter, Closes, Body, Function, Star, Async, FunctionHead, FunctionDeclaration, Named, FunctionExpression, ArrowPattern, BareName, ArrowParameters, ArrowHead, ArrowBlock, ArrowExpression, MethodHead, Method, ObjectMethod, Getter, Setter, Heritage, Members, ClassTail, ClassDeclaration, ClassExpression, Static, Constructor, ClassMethod, Initial, Field, AutoAccessor, StaticBlock}
 use Rattle.ecma_grammar_placed.specs.Laws.{placing}
 use Rattle.ecma_grammar_placed.proofs.Kin.{Kin, Moves, spans_like}
@@ -149,15 +149,15 @@ module _ (p : Bool) (kin : Kin p) where
       (λ k. let z = ends_on p kin c (ends v.tree) k.1 r q k.4 l in let y = expr p kin assignment_level (in_field c) v f k.0 k.1 z.0 k.3 z.1 in let x = kin.take c assign_kind ts k.0 y.0 k.2 y.1 in (x.0, x.1, (y.0, z.0, x.2, y.2, z.2)))
 
   initial_like : (c : Code) (i : Bool) (a b : Input) → kin.Like a b → (v : Part) (m q : Input) → Initial c (field_end i (kind a)) v m q → Initial c (field_end i (kind b)) v m q
-  initial_like c i a b l v m q h = by_test (is_absent v.tree) h
+  initial_like c i a b l v m q h = by_test _ (is_absent v.tree) h
     where
       by_end : Ends c (field_end i (kind a)) m q → Ends c (field_end i (kind b)) m q
       by_end (inl k) = inl k
       by_end (inr k) = inr (k.0, kin.fields c i a b m l k.1, k.2)
 
-      by_test : {P : Type 0} (t : Bool) → By t (Ends c (field_end i (kind a)) m q) P → By t (Ends c (field_end i (kind b)) m q) P
-      by_test true k = by_end k
-      by_test false k = k
+      by_test : (P : Type 0) (t : Bool) → By t (Ends c (field_end i (kind a)) m q) P → By t (Ends c (field_end i (kind b)) m q) P
+      by_test P true k = by_end k
+      by_test P false k = k
 
   pub field : (may : Tree → Bool) (c : Code) (s : Span) (k v : Part) (i : Bool) (ds : List Part) → Moved p kin k → Moved p kin v → Moves p kin (Field may c s k v i ds) (Field may (placing p c) s k v i ds)
   field may c s k v i ds f g ts r q h l = let z = initial c (field_end i (kind h.0)) v g h.1 r q h.6 l in let y = f c h.0 h.1 z.0 h.5 z.1 in let x = static_on i c ts h.0 y.0 h.4 y.1 in

@@ -68,10 +68,10 @@ module _ (p : Bool) where
   rests (x ∷ xs) [] w = absurd w
   rests (x ∷ xs) (y ∷ ys) w = w.2
 
-  kind_like : (a b : Input) → Like a b → kind a ≡ kind b
+  pub kind_like : (a b : Input) → Like a b → kind a ≡ kind b
   kind_like a b l = kinds a.places b.places l.worn
 
-  brk_like : (a b : Input) → Like a b → brk a ≡ brk b
+  pub brk_like : (a b : Input) → Like a b → brk a ≡ brk b
   brk_like a b l = breaks a.places b.places l.worn
 
   kind2_like : (a b : Input) → Like a b → kind2 a ≡ kind2 b
@@ -80,13 +80,13 @@ module _ (p : Bool) where
   brk2_like : (a b : Input) → Like a b → brk2 a ≡ brk2 b
   brk2_like a b l = breaks (others a.places) (others b.places) (rests a.places b.places l.worn)
 
-  content_like : (a b : Input) → Like a b → content a ≡ content b
+  pub content_like : (a b : Input) → Like a b → content a ≡ content b
   content_like a b l = contents a.places b.places l.worn
 
-  lo_like : (a b : Input) → Like a b → lo a ≡ lo b
+  pub lo_like : (a b : Input) → Like a b → lo a ≡ lo b
   lo_like a b l = los a.last a.places b.places l.worn ∙ ap (λ (n : ℕ). lo_of n b.places) l.last
 
-  hi_like : (a b : Input) → Like a b → hi a ≡ hi b
+  pub hi_like : (a b : Input) → Like a b → hi a ≡ hi b
   hi_like a b l = his a.last a.places b.places l.worn ∙ ap (λ (n : ℕ). hi_of n b.places) l.last
 
   rest_like : (a b : Input) → Like a b → Like (rest a) (rest b)
@@ -94,29 +94,29 @@ module _ (p : Bool) where
 
   -- ---- what is asked of them
 
-  goes_like : (c : Code) (e : ℕ) (a b : Input) → Like a b → goes_expr c e a ≡ goes_expr c e b
+  pub goes_like : (c : Code) (e : ℕ) (a b : Input) → Like a b → goes_expr c e a ≡ goes_expr c e b
   goes_like c e a b l = rw (kind_like a b l) (rw (brk_like a b l) (rw (kind2_like a b l) refl))
 
-  pauses_like : (c : Code) (e : ℕ) (a b : Input) → Like a b → pauses c e a ≡ pauses c e b
+  pub pauses_like : (c : Code) (e : ℕ) (a b : Input) → Like a b → pauses c e a ≡ pauses c e b
   pauses_like c e a b l = rw (kind_like a b l) (rw (brk_like a b l) (rw (kind2_like a b l) refl))
 
-  begins_like : (a b : Input) → Like a b → starts_expression_statement a ≡ starts_expression_statement b
+  pub begins_like : (a b : Input) → Like a b → starts_expression_statement a ≡ starts_expression_statement b
   begins_like a b l = rw (kind_like a b l) (rw (brk2_like a b l) (rw (kind2_like a b l) refl))
 
-  ended_like : (c : Code) (t : Tree) (a b : Input) → Like a b → statement_end c a t ≡ statement_end c b t
+  pub ended_like : (c : Code) (t : Tree) (a b : Input) → Like a b → statement_end c a t ≡ statement_end c b t
   ended_like c t a b l = rw (kind_like a b l) refl
 
-  head_like : (a b : Input) → Like a b → starts_head a ≡ starts_head b
+  pub head_like : (a b : Input) → Like a b → starts_head a ≡ starts_head b
   head_like a b l = rw (kind_like a b l) (rw (kind2_like a b l) refl)
 
-  of_like : (w : Bool) (a b : Input) → Like a b → starts_of w a ≡ starts_of w b
+  pub of_like : (w : Bool) (a b : Input) → Like a b → starts_of w a ≡ starts_of w b
   of_like w a b l = rw (kind_like a b l) (rw (kind2_like a b l) refl)
 
-  using_like : (w : Bool) (a b : Input) → Like a b → starts_using w a ≡ starts_using w b
+  pub using_like : (w : Bool) (a b : Input) → Like a b → starts_using w a ≡ starts_using w b
   using_like true a b l = rw (kind2_like (rest a) (rest b) (rest_like a b l)) refl
   using_like false a b l = rw (kind2_like a b l) refl
 
-  default_like : (a b : Input) → Like a b → starts_default a ≡ starts_default b
+  pub default_like : (a b : Input) → Like a b → starts_default a ≡ starts_default b
   default_like a b l = rw (kind_like a b l) (rw (brk2_like a b l) (rw (kind2_like a b l) refl))
 
   -- ---- tokens
@@ -192,16 +192,16 @@ module _ (p : Bool) where
   barred_like : (d : Context) (a b : Input) → Like a b → barred d a ≡ barred d b
   barred_like d a b l = rw (kind_like a b l) (rw (escapes a.places b.places l.worn) refl)
 
-  take : (c : Code) (k : ℕ) → Moves (Takes c k) (Takes (placing p c) k)
+  pub take : (c : Code) (k : ℕ) → Moves (Takes c k) (Takes (placing p c) k)
   take c k ts r q h l = let z = dress_first c ts r q h.2 l in (z.0, z.1, (sym (kind_like ts z.0 z.1) ∙ h.0, z.2, z.3))
 
-  take_word : (c : Code) (k : ℕ) → Moves (TakesWord c k) (TakesWord (placing p c) k)
+  pub take_word : (c : Code) (k : ℕ) → Moves (TakesWord c k) (TakesWord (placing p c) k)
   take_word c k ts r q h l = let z = dress_first c ts r q h.3 l in (z.0, z.1, (sym (kind_like ts z.0 z.1) ∙ h.0, sym (barred_like c.context ts z.0 z.1) ∙ h.1, z.2, z.3))
 
-  take_any : (c : Code) (n : List ℕ) → Moves (TakesAnyWord c n) (TakesAnyWord (placing p c) n)
+  pub take_any : (c : Code) (n : List ℕ) → Moves (TakesAnyWord c n) (TakesAnyWord (placing p c) n)
   take_any c n ts r q h l = let z = dress_first c ts r q h.3 l in (z.0, z.1, (ap is_word (sym (kind_like ts z.0 z.1)) ∙ h.0, sym (texts_like ts z.0 z.1) ∙ h.1, z.2, z.3))
 
-  take_name : (c : Code) (n : List ℕ) → Moves (TakesName c n) (TakesName (placing p c) n)
+  pub take_name : (c : Code) (n : List ℕ) → Moves (TakesName c n) (TakesName (placing p c) n)
   take_name c n ts r q h l = let z = dress_first c ts r q h.5 l in
       (z.0, z.1, (ap is_word (sym (kind_like ts z.0 z.1)) ∙ h.0, ap (λ (k : ℕ). no_name c.context k) (sym (kind_like ts z.0 z.1)) ∙ h.1, sym (barred_like c.context ts z.0 z.1) ∙ h.2, sym (texts_like ts z.0 z.1) ∙ h.3, z.2, z.3))
 
@@ -214,15 +214,15 @@ module _ (p : Bool) where
   inside c g k n [] r q f h l = absurd (f h.0)
   inside c g k n (x ∷ xs) r q f h l = (h.0, within p g c.context, on x.spot.hi r q (ap (λ (z : Input). z.last) h.2) l)
 
-  take_in : (c : Code) (g k : ℕ) → (kind_of [] ≡ k → ⊥) → Moves (TakesIn c g k) (TakesIn (placing p c) g k)
+  pub take_in : (c : Code) (g k : ℕ) → (kind_of [] ≡ k → ⊥) → Moves (TakesIn c g k) (TakesIn (placing p c) g k)
   take_in c g k f ts r q h l = (front c g ts.last ts.places q, front_like c g ts.last ts.places r q h.2 l, inside c g k ts.last ts.places r q f h l)
 
   -- ---- the relation
 
-  nothing_of : (a b : Input) → Like a b → a.places ≡ [] → b.places ≡ []
+  pub nothing_of : (a b : Input) → Like a b → a.places ≡ [] → b.places ≡ []
   nothing_of a b l e = sym (nothing b.places (subst (λ (z : List Place). Worn z b.places) e l.worn))
 
-  pub dressed : Kin p
+  unfoldable pub dressed : Kin p
   dressed = record {
     Like = Like;
     last = λ a b l. l.last;

@@ -26,6 +26,7 @@ worn_same b (x ∷ xs) [] w = w
 worn_same b (x ∷ xs) (y ∷ ys) w = (w.0, worn_same b xs ys w.2)
 
 pub has_places : HasPlaces
+unfolding dressed
 has_places c t ts r h = let z = move true (dressed true) t c ts r r h (record { last = refl; worn = own r.places }) in
     (z.0.places, worn_same true ts.places z.0.places z.1.worn, subst (λ (n : ℕ). Spells t (placing true c) (record { last = n; places = z.0.places }) r) (sym z.1.last) z.2)
 
@@ -77,6 +78,7 @@ bared_order n (x ∷ xs) h = (h.0, h.1, h.2, bared_order x.spot.hi xs h.3)
 
 -- what is derived is derived of its tokens without goals and contexts
 pub strip : (c : Code) (t : Tree) (start : ℕ) (ps : List Place) (r : Input) → Derives t c (record { last = start; places = ps }) r → (o : Input) × Derives t (placing false c) (record { last = start; places = bared ps }) o
+unfolding dressed
 strip c t start ps r d = let o : Input = record { last = r.last; places = bared r.places } in
     let z = move false (dressed false) t c (record { last = start; places = ps }) r o d.0 (record { last = refl; worn = bared_worn r.places }) in
     let f = subst (λ (n : ℕ). Spells t (placing false c) (record { last = n; places = z.0.places }) o) (sym z.1.last) z.2 in

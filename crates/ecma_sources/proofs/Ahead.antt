@@ -148,23 +148,10 @@ see_two B f [] (q ∷ v) e = absurd (true≢false (ap (λ z. is_nil z) e))
 see_two B f (p ∷ l) [] e = absurd (true≢false (sym (ap (λ z. is_nil z) e)))
 see_two B f (p ∷ l) (q ∷ v) e = subst (λ (o : Place). B (p ∷ l) ≡ B (o ∷ two v)) (ap (λ z. head_or p z) e) (by_first (λ l v. B (p ∷ l) ≡ B (p ∷ two v)) refl (λ o l v. f p o l (one v)) 0 l v (ap others e))
 
--- ---- what goes on with an expression, by whether a dot stands second
+-- ---- what goes on with an expression
 
-abbrev goes_with : Code → ℕ → Place → Bool → ℕ
-goes_with c e p d =
-    if p.spot.token.kind == comma_kind then expression_level
-    else (if nat_le closed_end e then 0
-    else (if is_assign_op p.spot.token.kind then assignment_level
-    else (if p.spot.token.kind == question_mark_kind then (if d && (e == other_end) then call_level else conditional_level)
-    else (if operates c p.spot.token.kind then binary_level p.spot.token.kind
-    else (if p.spot.token.kind == regex_kind then binary_level div_kind
-    else (if nat_le postfix_end e then 0
-    else (if between plus_plus_kind minus_minus_kind p.spot.token.kind then (if p.spot.line_break then 0 else update_level)
-    else (if p.spot.token.kind == left_paren_kind then call_level
-    else (if (p.spot.token.kind == left_bracket_kind) || ((p.spot.token.kind == dot_kind) || (p.spot.token.kind == back_quote_kind)) then member_level
-    else 0)))))))))
-
-abbrev cases : Bool → Bool → Bool → Bool → ℕ → ℕ → ℕ
+-- by its cases, of which `?` alone asks for the second token
+abbrev pub cases : Bool → Bool → Bool → Bool → ℕ → ℕ → ℕ
 cases comma shut assigns asks x y = if comma then expression_level else (if shut then 0 else (if assigns then assignment_level else (if asks then x else y)))
 
 cases_same : (comma shut assigns asks : Bool) (x y z : ℕ) → (shut ≡ false → asks ≡ true → x ≡ z) → cases comma shut assigns asks x y ≡ cases comma shut assigns asks z y
@@ -231,9 +218,13 @@ goes_one : (c : Code) (e : ℕ) (p : Place) (l v : List Place) → nat_le 1 (goe
 goes_one c e p l v = cases_on (p.spot.token.kind == comma_kind) (nat_le closed_end e) (is_assign_op p.spot.token.kind) (p.spot.token.kind == question_mark_kind) _ _ _
     (asks_on ((kind_of l == dot_kind) && (e == other_end)) ∙ sym (asks_on ((kind_of v == dot_kind) && (e == other_end))))
 
+-- of one token alone
+pub pause_one : (c : Code) (e : ℕ) (p : Place) (l v : List Place) → pauses c e (record { last = 0; places = p ∷ l }) ≡ pauses c e (record { last = 0; places = p ∷ v })
+pause_one c e p l v = ap₂ (λ (x y : Bool). pauses_with c e p x y) (goes_one c e p l v) (goes_one c other_end p l v)
+
 pause_told : (c : Code) (e : ℕ) (l v : List Place) → firsts 1 l ≡ firsts 1 v → pauses c e (record { last = 0; places = l }) ≡ pauses c e (record { last = 0; places = three v })
 pause_told c e l v i = by_first (λ l v. pauses c e (record { last = 0; places = l }) ≡ pauses c e (record { last = 0; places = three v })) refl
-    (λ p l v. ap₂ (λ (x y : Bool). pauses_with c e p x y) (goes_one c e p l (two v)) (goes_one c other_end p l (two v))) 0 l v i
+    (λ p l v. pause_one c e p l (two v)) 0 l v i
 
 by_break : (b : Bool) → (b && false) ≡ false
 by_break true = refl

@@ -1,0 +1,333 @@
+-- What is read is a complete front: a longer one would be cut off behind itself and read whole, and reading it ends before the next token.
+use Rattle.std.proofs.Common.{◌≡◌, ◌<◌, ◌≤◌, ◌+◌, ◌⊎◌, ℕ, zero, suc, Bool, true, false, not, ◌&&◌, ◌||◌, ◌==◌, cond, eqb, nat_le, nat_lt, if◌then◌else◌, List, [], ◌∷◌, ◌++◌, length, append_assoc, Result, Ok, Err, inl, inr, refl, sym, ap, ap₂, ◌∙◌, subst, true≢false, arith, eqb-true, ltb-true, ltb-false}
+use Rattle.ecma_token.specs.Kinds.{template_kind, question_mark_kind, dot_kind, comma_kind, hash_kind, in_kind}
+use Rattle.ecma_tree.specs.Tree.{Tree}
+use Rattle.ecma_nesting.specs.Nesting.{nesting}
+use Rattle.ecma_syntax.specs.Input.{Place, Input, Code, kind, kind_of, kind2, others, break_of, is_word, has_in, alone, in_list}
+use Rattle.ecma_syntax.specs.Operators.{goes_expr, closed_end, postfix_end, other_end, is_assign_op, call_level, conditional_level, new_level, member_level, binary_level}
+use Rattle.ecma_syntax.specs.Shape.{level, ends, is_binding, is_key, is_statement, is_item, is_plain_function}
+use Rattle.ecma_grammar.specs.Grammar.{Spells}
+use Rattle.ecma_reading.specs.Source.{Fault, Unexpected, TooDeep, unexpected, ◌>>=◌, Stand, Read, list_machine, input, past, operand, at, bound, Step, go_on, finished, next_by, iterate_n, iterate, Inner}
+use Rattle.ecma_reading.specs.Expressions.{key_by, private_by, prefix_by, binary_by, step_by, loop_step, loop_by, private_in, expr_from, expr_by}
+use Rattle.ecma_reading.specs.Reading.{readers}
+use Rattle.ecma_grammar_complete_base.specs.Laws.{coded, patterned, InOrder, Asked, Follow}
+use Rattle.ecma_grammar_complete_base.proofs.Yields.{lm, from, Fresh, After, Yields, Reads, Is}
+use Rattle.ecma_grammar_complete_base.proofs.Levels.{closed_by}
+use Rattle.ecma_grammar_complete_base.proofs.Trees.{size, reach}
+use Rattle.ecma_grammar_complete_parts.proofs.Functions.{key_found}
+use Rattle.ecma_grammar_complete_parts.proofs.Nested.{may_follow}
+use Rattle.ecma_grammar_complete_parts.proofs.Within.{within}
+use Rattle.ecma_grammar_tied.proofs.Sizes.{inward, within_reach}
+use Rattle.ecma_grammar_tied.proofs.Tied.{complete}
+use Rattle.ecma_grammar_whole.specs.Laws.{Answered, Stands, Level, Bound}
+use Rattle.ecma_grammar_whole.proofs.WholeLemmas.{expressions_complete, patterns_complete}
+use Rattle.ecma_grammar_whole.proofs.Nests.{reach_nests}
+use Rattle.ecma_grammar_steady.specs.Laws.{Keeps}
+use Rattle.ecma_grammar_steady.proofs.Agrees.{Agrees}
+use Rattle.ecma_grammar_steady.proofs.Expressions.{key_by_steady}
+use Rattle.ecma_grammar_steady.proofs.SteadyLemmas.{readers_steady}
+use Rattle.ecma_sources.specs.Sources.{one}
+use Rattle.ecma_sources.specs.Ahead.{ends_async, Named, dots, heads, SameNext, Instead, at_list, ReadAhead}
+use Rattle.ecma_sources.proofs.Ahead.{cases, one_ahead}
+use Rattle.ecma_complete_fronts.specs.Laws.{input_at, EndsBefore, EndsAt, IsComplete, Expression, Binding, Key, Statement, ListItem, Settled, ExpressionsEnd, BindingsEnd, KeysEnd, StatementsEnd, ListItemsEnd}
+use Rattle.ecma_complete_fronts.proofs.Cut.{brace, closing, cuts_to}
+
+-- ---- lists
+
+-- Two ways to cut a list in two, the second further behind.
+split : (a b c d : List Place) → a ++ b ≡ c ++ d → length d < length b → (e : List Place) × (c ≡ a ++ e) × (b ≡ e ++ d)
+split [] b c d e h = (c, refl, e)
+split (x ∷ a) b [] d e h = absurd (longer d (sym e) h)
+  where
+    more : (a b : List Place) → length b ≤ length (a ++ b)
+    more [] b = omega arith
+    more (y ∷ a) b = omega (arith, more a b)
+
+    longer : (d : List Place) → d ≡ x ∷ a ++ b → length d < length b → ⊥
+    longer d i h = omega (arith, h, more a b, ap (λ z. length z) i)
+split (x ∷ a) b (y ∷ c) d e h = let z = split a b c d (ap rest e) h in (z.0, ap₂ (λ (o : Place) (v : List Place). o ∷ v) (sym (ap first e)) z.1, z.2)
+  where
+    rest : List Place → List Place
+    rest [] = []
+    rest (o ∷ v) = v
+
+    first : List Place → Place
+    first [] = x
+    first (o ∷ v) = o
+
+-- A list cut off is in order as well.
+order_cut : (n : ℕ) (f l : List Place) → InOrder n (f ++ l) → InOrder n (f ++ closing l)
+order_cut n [] [] h = tt
+order_cut n [] (p ∷ l) h = by_kind (eqb p.spot.token.kind template_kind) (λ e. eqb-true p.spot.token.kind template_kind e) refl
+  where
+    by_kind : (b : Bool) → (b ≡ true → p.spot.token.kind ≡ template_kind) → eqb p.spot.token.kind template_kind ≡ b → InOrder n (brace p ∷ [])
+    by_kind true e i = (h.0, end_least i, (λ k. end_most i), tt)
+      where
+        end_is : eqb p.spot.token.kind template_kind ≡ true → (brace p).spot.hi ≡ p.spot.lo + 1
+        end_is i = ap (λ (b : Bool). if b then p.spot.lo + 1 else p.spot.hi) i
+
+        end_least : eqb p.spot.token.kind template_kind ≡ true → p.spot.lo ≤ (brace p).spot.hi
+        end_least i = omega (arith, end_is i)
+
+        end_most : eqb p.spot.token.kind template_kind ≡ true → p.spot.lo < (brace p).spot.hi
+        end_most i = omega (arith, end_is i)
+    by_kind false e i = (h.0, at_least i, (λ k. at_most i), tt)
+      where
+        end_is : eqb p.spot.token.kind template_kind ≡ false → (brace p).spot.hi ≡ p.spot.hi
+        end_is i = ap (λ (b : Bool). if b then p.spot.lo + 1 else p.spot.hi) i
+
+        no_template : eqb p.spot.token.kind template_kind ≡ false → p.spot.token.kind ≡ template_kind → ⊥
+        no_template i k = true≢false (sym (ap (λ (z : ℕ). eqb z template_kind) k) ∙ i)
+
+        at_least : eqb p.spot.token.kind template_kind ≡ false → p.spot.lo ≤ (brace p).spot.hi
+        at_least i = omega (arith, end_is i, h.1)
+
+        at_most : eqb p.spot.token.kind template_kind ≡ false → p.spot.lo < (brace p).spot.hi
+        at_most i = omega (arith, end_is i, h.2 (no_template i))
+order_cut n (x ∷ f) l h = (h.0, h.1, h.2, order_cut x.spot.hi f l h.3)
+
+-- ---- answers
+
+-- the rest of an answer
+abbrev rest_of : List Place → Result (Tree × Stand Input) Fault → List Place
+rest_of l (Ok x) = x.1.source.places
+rest_of l (Err e) = l
+
+IsRead : (x : Result (Tree × Stand Input) Fault) → Tree → Input → Type 0
+IsRead x t r = (k : List ℕ) × (x ≡ Ok (t, record { source = r; commas = k }))
+
+read_of : (x : Result (Tree × Stand Input) Fault) (t : Tree) (r : Input) (P : Type 0) → (P → ⊥) → Answered x t r P → IsRead x t r
+unfolding IsRead
+read_of (Ok x) t r P n h = (x.1.commas, ap₂ (λ (u : Tree) (i : Input). Ok (u, record { source = i; commas = x.1.commas })) h.0 h.1)
+read_of (Err Unexpected) t r P n h = absurd h
+read_of (Err TooDeep) t r P n h = absurd (n h)
+
+reads_of : (n : ℕ) (ps : List Place) (x : Result (Tree × Stand Input) Fault) (t : Tree) (r : Input) (P : Type 0) → (P → ⊥) → InOrder n ps → Reads (from (input_at n ps) []) x (Is t r) P → IsRead x t r
+reads_of n ps x t r P e o h = by_answer x (h.so (record { order = o; below = λ i k. absurd (true≢false (sym k)) }))
+  where
+    by_answer : (x : Result (Tree × Stand Input) Fault) → Yields x (λ y. Is t r y × After (from (input_at n ps) []) y.1) P → IsRead x t r
+    by_answer (Ok x) h = read_of (Ok x) t r P e h.so.0
+    by_answer (Err Unexpected) h = absurd h.so
+    by_answer (Err TooDeep) h = absurd (e h.so)
+
+kept_answer : {A : Type 0} (x y : Result A Fault) (a : A) → Agrees x y → x ≡ Ok a → y ≡ Ok a
+kept_answer x y a h e = subst (λ z. Keeps z y) e h.so
+
+-- ---- the argument
+
+module _ (f : ℕ → Read Input Tree) (Q : Tree → List Place → List Place → Type 0) (ahead : (d : ℕ) → ReadAhead Q (f d)) (steady : (d e : ℕ) → d ≤ e → (s : Stand Input) (x : Tree × Stand Input) → f d s ≡ Ok x → f e s ≡ Ok x)
+    (P : Tree → Input → Input → Type 0) (Q0 : Tree → Input → Input → Type 0) (cut : (t : Tree) (n : ℕ) (ps : List Place) (r : Input) → P t (input_at n ps) r → (front : List Place) × (ps ≡ front ++ r.places) × Q0 t (input_at n (front ++ closing r.places)) (input_at r.last (closing r.places)))
+    (whole : (d n : ℕ) (ps : List Place) (t : Tree) (r : Input) → nesting t ≤ d → InOrder n ps → Q0 t (input_at n ps) (input_at r.last (closing r.places)) → IsRead (f d (at_list n ps [])) t (input_at r.last (closing r.places))) where
+  ends_before : (d n : ℕ) (front : List Place) (q : Place) (ps : List Place) (t : Tree) (r : Stand Input) → r.source.places ≡ q ∷ ps → ((e : ℕ) → d ≤ e → (qs : List Place) → Q t r.source.places qs → f e (at_list n (front ++ qs) []) ≡ Ok (t, at_list r.source.last qs r.commas))
+      → ((qs : List Place) → one r.source.places ≡ one qs → Q t r.source.places qs) → EndsBefore P n front q
+  unfolding IsRead
+  ends_before d n front q ps t r i go rests more u o order h = by_length (nat_lt (length more) (length o.places)) refl
+    where
+      by_length : (b : Bool) → nat_lt (length more) (length o.places) ≡ b → length more < length o.places
+      by_length true j = ltb-true (length more) (length o.places) j
+      by_length false j = absurd (false_front (cut u n (front ++ q ∷ more) o h))
+        where
+          short : length o.places < length (q ∷ more)
+          short = omega (arith, ltb-false (length more) (length o.places) j)
+
+          -- a longer front, cut off, is read whole and not
+          clash : (g e : List Place) → g ≡ front ++ e → q ∷ more ≡ e ++ o.places → Q0 u (input_at n (g ++ closing o.places)) (input_at o.last (closing o.places)) → InOrder n (g ++ closing o.places) → ⊥
+          clash g [] k v c w = omega (arith, short, ap (λ z. length z) v)
+          clash g (x ∷ e) k v c w = let N = d + nesting u in let qs = x ∷ e ++ closing o.places in
+              let a = go N (omega arith) qs (rests qs (ap one i ∙ ap (λ z. first z ∷ []) v)) in
+              let b = whole N n (g ++ closing o.places) u o (omega arith) w c in
+              no_shorter (x ∷ e) (closing o.places) (omega arith) (sym (ap (λ z. rest_of [] z) (ap (λ z. f N (at_list n z [])) (ap (λ z. z ++ closing o.places) k ∙ append_assoc front (x ∷ e) (closing o.places)) ∙ a)) ∙ ap (λ z. rest_of [] z) b.1)
+            where
+              first : List Place → Place
+              first [] = q
+              first (y ∷ z) = y
+
+              no_shorter : (a b : List Place) → 1 ≤ length a → a ++ b ≡ b → ⊥
+              no_shorter a b l m = omega (arith, l, ap (λ z. length z) m, sums a b)
+                where
+                  sums : (a b : List Place) → length (a ++ b) ≡ length a + length b
+                  sums [] b = omega arith
+                  sums (y ∷ a) b = omega (arith, sums a b)
+
+          false_front : (g : List Place) × (front ++ q ∷ more ≡ g ++ o.places) × Q0 u (input_at n (g ++ closing o.places)) (input_at o.last (closing o.places)) → ⊥
+          false_front z = let e = split front (q ∷ more) z.0 o.places z.1 short in
+              clash z.0 e.0 e.1 e.2 z.2 (order_cut n z.0 o.places (subst (λ v. InOrder n v) z.1 order))
+
+  pub completed : (d n : ℕ) (ps : List Place) (t : Tree) (r : Stand Input) → Named ps → f d (at_list n ps []) ≡ Ok (t, r) → ((qs : List Place) → one r.source.places ≡ one qs → Q t r.source.places qs) → IsComplete P n ps r.source.places
+  completed d n ps t r a e rests = let z = ahead d n ps [] t r a e in (z.0, z.1, by_rest z.0 z.1 r.source.places refl)
+    where
+      by_rest : (front : List Place) → ps ≡ front ++ r.source.places → (l : List Place) → r.source.places ≡ l → EndsAt P n front r.source.places
+      by_rest front k [] i = subst (λ v. EndsAt P n front v) (sym i) tt
+      by_rest front k (q ∷ l) i = subst (λ v. EndsAt P n front v) (sym i) (ends_before d n front q l t r i (λ N le qs o. again N le qs o) rests)
+        where
+          again : (N : ℕ) → d ≤ N → (qs : List Place) → Q t r.source.places qs → f N (at_list n (front ++ qs) []) ≡ Ok (t, at_list r.source.last qs r.commas)
+          again N le qs o = let y = ahead N n ps [] t r a (steady d N le (at_list n ps []) (t, r) e) in
+              subst (λ v. f N (at_list n (v ++ qs) []) ≡ Ok (t, at_list r.source.last qs r.commas)) (same_front y.0 front r.source.places (sym y.1 ∙ k)) (y.2 qs o)
+            where
+              same_front : (a b c : List Place) → a ++ c ≡ b ++ c → a ≡ b
+              same_front [] [] c m = refl
+              same_front [] (y ∷ b) c m = absurd (uneven b c y m)
+                where
+                  uneven : (b c : List Place) (y : Place) → c ≡ y ∷ b ++ c → ⊥
+                  uneven b c y m = omega (arith, ap (λ z. length z) m, sums b c)
+                    where
+                      sums : (a b : List Place) → length (a ++ b) ≡ length a + length b
+                      sums [] b = omega arith
+                      sums (x ∷ a) b = omega (arith, sums a b)
+              same_front (x ∷ a) [] c m = absurd (uneven a c x (sym m))
+                where
+                  uneven : (b c : List Place) (y : Place) → c ≡ y ∷ b ++ c → ⊥
+                  uneven b c y m = omega (arith, ap (λ z. length z) m, sums b c)
+                    where
+                      sums : (a b : List Place) → length (a ++ b) ≡ length a + length b
+                      sums [] b = omega arith
+                      sums (x ∷ a) b = omega (arith, sums a b)
+              same_front (x ∷ a) (y ∷ b) c m = ap₂ (λ (o : Place) (v : List Place). o ∷ v) (ap first m) (same_front a b c (ap rest m))
+                where
+                  rest : List Place → List Place
+                  rest [] = []
+                  rest (o ∷ v) = v
+
+                  first : List Place → Place
+                  first [] = x
+                  first (o ∷ v) = o
+
+-- ---- the loop of an expression ends where nothing goes on
+
+module _ (c : Code) (l : ℕ) where
+  abbrev QuitBy : Result (Tree × Stand Input) Fault → Type 0
+  QuitBy (Ok x) = nat_lt (goes_expr c (ends x.0) (input lm x.1)) l ≡ true
+  QuitBy (Err e) = Unit {0}
+
+  record Quit (x : Result (Tree × Stand Input) Fault) : Type 0 where
+    so : QuitBy x
+
+  quit_then : {A : Type 0} (x : Result A Fault) (f : A → Result (Tree × Stand Input) Fault) → ((a : A) → Quit (f a)) → Quit (x >>= f)
+  quit_then (Ok a) f h = h a
+  quit_then (Err e) f h = record { so = tt }
+
+  quit_if : (b : Bool) (x y : Result (Tree × Stand Input) Fault) → (b ≡ true → Quit x) → (b ≡ false → Quit y) → Quit (cond b x y)
+  quit_if true x y h n = h refl
+  quit_if false x y h n = n refl
+
+  module _ (inner : Inner Input) (start : Stand Input) where
+    turned : (n : ℕ) (k : ℕ) → ((x : Tree) (s : Stand Input) → Quit (iterate_n (bound lm) n (loop_step lm inner c l start) x s)) → (x : Result (Tree × Stand Input) Fault) → Quit ((x >>= λ y. Ok (go_on y.0, y.1)) >>= next_by (bound lm) (iterate_n (bound lm) n (loop_step lm inner c l start)) k)
+    turned n k h (Ok x) = quit_if (nat_lt (bound lm x.1) k) _ _ (λ e. h x.0 x.1) (λ e. record { so = tt })
+    turned n k h (Err e) = record { so = tt }
+
+    quit_loop : (n : ℕ) (x : Tree) (s : Stand Input) → Quit (iterate_n (bound lm) n (loop_step lm inner c l start) x s)
+    unfolding iterate_n loop_step
+    quit_loop zero x s = record { so = tt }
+    quit_loop (suc n) x s = by_test (nat_lt (goes_expr c (ends x) (input lm s)) l) refl
+      where
+        by_test : (b : Bool) → nat_lt (goes_expr c (ends x) (input lm s)) l ≡ b
+            → Quit (cond b (Ok (finished x, s)) (step_by lm inner c start x s >>= λ y. Ok (go_on y.0, y.1)) >>= next_by (bound lm) (iterate_n (bound lm) n (loop_step lm inner c l start)) (bound lm s))
+        by_test true e = record { so = e }
+        by_test false e = turned n (bound lm s) (λ x s. quit_loop n x s) (step_by lm inner c start x s)
+
+    loop_quits : eqb l member_level ≡ false → (x : Tree) (s : Stand Input) → Quit (loop_by lm inner c l start x s)
+    unfolding loop_by iterate
+    loop_quits e x s = quit_if (nat_le l (level x)) _ _ (λ i. quit_loop _ x s) (λ i. by_level (level x == new_level) (eqb l member_level) e)
+      where
+        by_level : (a b : Bool) → b ≡ false → Quit (cond (a && b) (Ok (x, s)) unexpected)
+        by_level true true e = absurd (true≢false e)
+        by_level true false e = record { so = tt }
+        by_level false b e = record { so = tt }
+
+  expr_quits : (inner : Inner Input) → eqb l member_level ≡ false → (s : Stand Input) → Quit (expr_by lm inner c l s)
+  unfolding expr_by expr_from private_in
+  expr_quits inner e s = quit_if (at lm hash_kind s) _ _ (λ i. quit_then (private_by lm inner s) _ (λ p. quit_if (at lm in_kind p.1 && (has_in c && nat_le l (binary_level in_kind))) _ _ (λ j. quit_then (binary_by lm inner c s p.0 p.1) _ (λ t. loop_quits inner s e t.0 t.1)) (λ j. record { so = tt })))
+      (λ i. quit_then (prefix_by lm inner c l s) _ (λ t. loop_quits inner s e t.0 t.1))
+
+  readers_quit : (d : ℕ) → eqb l member_level ≡ false → (s : Stand Input) → Quit ((readers lm d).expr c l s)
+  unfolding readers
+  readers_quit zero e s = record { so = tt }
+  readers_quit (suc d) e s = expr_quits (readers lm d) e s
+
+-- What isn't closed goes on with `?`.
+asked : (b : Bool) → 3 ≤ (if b then call_level else conditional_level)
+asked true = omega arith
+asked false = omega arith
+
+question_goes : (c : Code) (e n : ℕ) (ps : List Place) → nat_le closed_end e ≡ false → kind_of ps ≡ question_mark_kind → 3 ≤ goes_expr c e (input_at n ps)
+question_goes c e n [] i k = absurd (true≢false (sym (ap (λ (z : ℕ). eqb z question_mark_kind) k)))
+question_goes c e n (p ∷ ps) i k = subst (λ (z : ℕ). 3 ≤ goes_expr c e (input_at n (record p { spot = record p.spot { token = record p.spot.token { kind = z } } } ∷ ps))) (sym k)
+    (by_class (nat_le closed_end e) i)
+  where
+    by_class : (b : Bool) → b ≡ false → 3 ≤ cases false b false true (if (kind_of ps == dot_kind) && (e == other_end) then call_level else conditional_level) 0
+    by_class true o = absurd (true≢false o)
+    by_class false o = asked ((kind_of ps == dot_kind) && (e == other_end))
+
+-- ---- expressions
+
+none_goes : (a b : Bool) → (if a then 0 else (if b then 0 else 0)) ≡ 0
+none_goes true b = refl
+none_goes false true = refl
+none_goes false false = refl
+
+follow_by : (c : Code) (e l n : ℕ) (ps : List Place) → 1 ≤ l → Follow c e l (input_at n (closing ps))
+follow_by c e l n [] h = let z = none_goes (nat_le closed_end e) (nat_le postfix_end e) in record { stop = omega (arith, z, h); calm = λ i o. refl; sober = refl; quits = λ o. refl }
+follow_by c e l n (p ∷ ps) h = closed_by c e l 12 (input_at n (brace p ∷ [])) refl refl refl h
+
+level_of : (l : ℕ) → 1 ≤ l → l ≤ 2 → Level l
+level_of l a b = record { least = a; most = omega (arith, b); asked = record { conditional = λ e. omega (arith, b, e); update = λ e. omega (arith, b, e) } }
+
+no_member : (l : ℕ) → l ≤ 2 → eqb l member_level ≡ false
+no_member l h = by_test (eqb l member_level) (λ e. eqb-true l member_level e)
+  where
+    by_test : (b : Bool) → (b ≡ true → l ≡ member_level) → b ≡ false
+    by_test true e = absurd (omega (arith, e refl, h))
+    by_test false e = refl
+
+cut_expression : (placed : Bool) (l : ℕ) (c : Code) (t : Tree) (n : ℕ) (ps : List Place) (r : Input) → Expression placed l c t (input_at n ps) r → (front : List Place) × (ps ≡ front ++ r.places) × Expression false l c t (input_at n (front ++ closing r.places)) (input_at r.last (closing r.places))
+cut_expression placed l c t n ps r h = let z = cuts_to t (coded placed c) (input_at n ps) r h.1 in (z.0, z.1, (h.0, z.2))
+
+pub expressions_end : ExpressionsEnd
+expressions_end depth placed c l n ps t r a b named order e settled =
+    let quit = ltb-true (goes_expr c (ends t) r.source) l ((subst (λ z. Quit c l z) e (readers_quit c l depth (no_member l b) (at_list n ps []))).so) in
+    (completed (λ d s. (readers lm d).expr c l s) Instead (λ d. (one_ahead d c).expressions l) (λ d e h s x i. kept_answer _ _ x ((readers_steady lm d e h).expr c l s) i) (Expression placed l c) (Expression false l c) (cut_expression placed l c)
+    (λ d n ps t r h o g. read_of _ t (input_at r.last (closing r.places)) (d < nesting t) (λ i. omega (arith, i, h)) (expressions_complete d false c l t (input_at n ps) (input_at r.last (closing r.places)) o (level_of l a b) (record { spelled = g.1; tight = g.0; follow = follow_by c (ends t) l r.last r.places a })))
+    depth n ps t r named e
+    (λ qs i. record { next = i; question = λ o k. absurd (omega (arith, b, quit, question_goes c (ends t) r.source.last r.source.places o k)); word = λ o k m v. absurd (settled k m v) }), quit)
+
+-- ---- bindings, keys, statements
+
+cut_binding : (placed : Bool) (c : Code) (t : Tree) (n : ℕ) (ps : List Place) (r : Input) → Binding placed c t (input_at n ps) r → (front : List Place) × (ps ≡ front ++ r.places) × Binding false c t (input_at n (front ++ closing r.places)) (input_at r.last (closing r.places))
+cut_binding placed c t n ps r h = let z = cuts_to t (patterned placed c) (input_at n ps) r h.1 in (z.0, z.1, (h.0, z.2))
+
+pub bindings_end : BindingsEnd
+bindings_end depth placed c n ps t r named order e =
+    completed (λ d s. (readers lm d).pat c s) SameNext (λ d. (one_ahead d c).bindings) (λ d e h s x i. kept_answer _ _ x ((readers_steady lm d e h).pat c s) i) (Binding placed c) (Binding false c) (cut_binding placed c)
+    (λ d n ps t r h o g. read_of _ t (input_at r.last (closing r.places)) (d < nesting t) (λ i. omega (arith, i, h)) (patterns_complete d false c t (input_at n ps) (input_at r.last (closing r.places)) o (record { binding = g.0; spelled = g.1 })))
+    depth n ps t r named e (λ qs i. i)
+
+cut_key : (placed : Bool) (c : Code) (t : Tree) (n : ℕ) (ps : List Place) (r : Input) → Key placed c t (input_at n ps) r → (front : List Place) × (ps ≡ front ++ r.places) × Key false c t (input_at n (front ++ closing r.places)) (input_at r.last (closing r.places))
+cut_key placed c t n ps r h = let z = cuts_to t (coded placed c) (input_at n ps) r h.1 in (z.0, z.1, (h.0, z.2))
+
+pub keys_end : KeysEnd
+keys_end depth placed c n ps t r named order e =
+    completed (λ d s. key_by lm (readers lm d) c s) SameNext (λ d. (one_ahead d c).keys) (λ d e h s x i. kept_answer _ _ x (key_by_steady lm (readers lm d) (readers lm e) (readers_steady lm d e h) c s) i) (Key placed c) (Key false c) (cut_key placed c)
+    (λ d n ps t r h o g. reads_of n ps _ t (input_at r.last (closing r.places)) (d < within reach t) (λ i. omega (arith, i, h, within_reach t, reach_nests t)) o (key_found (complete (suc (size t)) d) false c t (input_at n ps) (input_at r.last (closing r.places)) [] g.0 (inward (suc (size t)) t (omega arith)) g.1))
+    depth n ps t r named e (λ qs i. i)
+
+follows_by : (n : ℕ) (ps : List Place) → may_follow (kind (input_at n (closing ps))) ≡ true
+follows_by n [] = refl
+follows_by n (p ∷ ps) = refl
+
+cut_statement : (placed : Bool) (c : Code) (t : Tree) (n : ℕ) (ps : List Place) (r : Input) → Statement placed c t (input_at n ps) r → (front : List Place) × (ps ≡ front ++ r.places) × Statement false c t (input_at n (front ++ closing r.places)) (input_at r.last (closing r.places))
+cut_statement placed c t n ps r h = let z = cuts_to t (coded placed (alone c)) (input_at n ps) r h.1 in (z.0, z.1, (h.0, z.2))
+
+pub statements_end : StatementsEnd
+statements_end depth placed c n ps t r named order e =
+    completed (λ d s. (readers lm d).stmt (alone c) s) SameNext (λ d. (one_ahead d (alone c)).statements) (λ d e h s x i. kept_answer _ _ x ((readers_steady lm d e h).stmt (alone c) s) i) (Statement placed c) (Statement false c) (cut_statement placed c)
+    (λ d n ps t r h o g. reads_of n ps _ t (input_at r.last (closing r.places)) (d < reach t) (λ i. omega (arith, i, h, reach_nests t)) o ((complete (suc (size t)) d).stmt t false (alone c) (input_at n ps) (input_at r.last (closing r.places)) [] (omega arith) (ap (λ (b : Bool). b || is_plain_function t) g.0) g.1 (follows_by r.last r.places)))
+    depth n ps t r named e (λ qs i. i)
+
+cut_item : (placed : Bool) (c : Code) (t : Tree) (n : ℕ) (ps : List Place) (r : Input) → ListItem placed c t (input_at n ps) r → (front : List Place) × (ps ≡ front ++ r.places) × ListItem false c t (input_at n (front ++ closing r.places)) (input_at r.last (closing r.places))
+cut_item placed c t n ps r h = let z = cuts_to t (coded placed (in_list c)) (input_at n ps) r h.1 in (z.0, z.1, (h.0, z.2))
+
+pub list_items_end : ListItemsEnd
+list_items_end depth placed c n ps t r named order e =
+    completed (λ d s. (readers lm d).stmt (in_list c) s) SameNext (λ d. (one_ahead d (in_list c)).statements) (λ d e h s x i. kept_answer _ _ x ((readers_steady lm d e h).stmt (in_list c) s) i) (ListItem placed c) (ListItem false c) (cut_item placed c)
+    (λ d n ps t r h o g. reads_of n ps _ t (input_at r.last (closing r.places)) (d < reach t) (λ i. omega (arith, i, h, reach_nests t)) o ((complete (suc (size t)) d).stmt t false (in_list c) (input_at n ps) (input_at r.last (closing r.places)) [] (omega arith) g.0 g.1 (follows_by r.last r.places)))
+    depth n ps t r named e (λ qs i. i)

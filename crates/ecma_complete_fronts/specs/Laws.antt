@@ -1,0 +1,85 @@
+-- What is read of a part is a complete front: no longer front is derived of any list in order that begins with it and the next token.
+use Rattle.std.specs.Prelude.{◌≡◌, ◌≤◌, ◌<◌, ℕ, Bool, true, false, List, [], ◌∷◌, ◌++◌, length, Ok}
+use Rattle.ecma_tree.specs.Tree.{Tree}
+use Rattle.ecma_syntax.specs.Input.{Place, Input, Code, kind_of, break_of, is_word, alone, in_list}
+use Rattle.ecma_syntax.specs.Operators.{goes_expr}
+use Rattle.ecma_syntax.specs.Shape.{level, ends, is_binding, is_key, is_statement, is_item}
+use Rattle.ecma_grammar.specs.Grammar.{Spells}
+use Rattle.ecma_reading.specs.Source.{Stand, list_machine}
+use Rattle.ecma_reading.specs.Expressions.{key_by}
+use Rattle.ecma_reading.specs.Reading.{readers}
+use Rattle.ecma_grammar_complete_base.specs.Laws.{coded, patterned, InOrder}
+use Rattle.ecma_sources.specs.Ahead.{ends_async, Named, at_list}
+
+-- ---- complete fronts
+
+abbrev pub input_at : ℕ → List Place → Input
+input_at n ps = record { last = n; places = ps }
+
+-- No list in order that begins with the front and this token has a longer front that the production derives.
+abbrev pub EndsBefore : (Tree → Input → Input → Type 0) → ℕ → List Place → Place → Type 0
+EndsBefore P n front q = (more : List Place) (t : Tree) (r : Input) → InOrder n (front ++ q ∷ more) → P t (input_at n (front ++ q ∷ more)) r → length more < length r.places
+
+abbrev pub EndsAt : (Tree → Input → Input → Type 0) → ℕ → List Place → List Place → Type 0
+EndsAt P n front [] = Unit {0}
+EndsAt P n front (q ∷ ps) = EndsBefore P n front q
+
+abbrev pub IsComplete : (Tree → Input → Input → Type 0) → ℕ → List Place → List Place → Type 0
+IsComplete P n ps rest = (front : List Place) × (ps ≡ front ++ rest) × EndsAt P n front rest
+
+-- ---- productions, by tokens with or without their goals and contexts
+
+-- Expression (13.16), AssignmentExpression (13.15)
+abbrev pub Expression : Bool → ℕ → Code → Tree → Input → Input → Type 0
+Expression placed l c t ts r = (l ≤ level t) × Spells t (coded placed c) ts r
+
+-- a name or a pattern that binds (14.3.3)
+abbrev pub Binding : Bool → Code → Tree → Input → Input → Type 0
+Binding placed c t ts r = (is_binding t ≡ true) × Spells t (patterned placed c) ts r
+
+-- PropertyName (13.2.5)
+abbrev pub Key : Bool → Code → Tree → Input → Input → Type 0
+Key placed c t ts r = (is_key t ≡ true) × Spells t (coded placed c) ts r
+
+-- Statement (clause 14); StatementListItem (14.2)
+abbrev pub Statement : Bool → Code → Tree → Input → Input → Type 0
+Statement placed c t ts r = (is_statement t ≡ true) × Spells t (coded placed (alone c)) ts r
+
+abbrev pub ListItem : Bool → Code → Tree → Input → Input → Type 0
+ListItem placed c t ts r = (is_item t ≡ true) × Spells t (coded placed (in_list c)) ts r
+
+-- ---- the laws
+
+-- The word `async` ends no tree before a word on its line.
+abbrev pub Settled : Tree → List Place → Type 0
+Settled t ps = ends_async t ≡ true → break_of ps ≡ false → is_word (kind_of ps) ≡ true → ⊥
+
+-- What is read as an expression of a level, up to an assignment's, is a complete front, and the next token doesn't go on with it.
+abbrev pub ExpressionsEnd : Type 0
+ExpressionsEnd = (depth : ℕ) (placed : Bool) (c : Code) (l n : ℕ) (ps : List Place) (t : Tree) (r : Stand Input) → 1 ≤ l → l ≤ 2 → Named ps → InOrder n ps
+    → (readers list_machine depth).expr c l (at_list n ps []) ≡ Ok (t, r) → Settled t r.source.places → IsComplete (Expression placed l c) n ps r.source.places × (goes_expr c (ends t) r.source < l)
+
+-- the same of a binding, of a key, of a statement and of an item of a list of statements, after which anything may stand
+abbrev pub BindingsEnd : Type 0
+BindingsEnd = (depth : ℕ) (placed : Bool) (c : Code) (n : ℕ) (ps : List Place) (t : Tree) (r : Stand Input) → Named ps → InOrder n ps
+    → (readers list_machine depth).pat c (at_list n ps []) ≡ Ok (t, r) → IsComplete (Binding placed c) n ps r.source.places
+
+abbrev pub KeysEnd : Type 0
+KeysEnd = (depth : ℕ) (placed : Bool) (c : Code) (n : ℕ) (ps : List Place) (t : Tree) (r : Stand Input) → Named ps → InOrder n ps
+    → key_by list_machine (readers list_machine depth) c (at_list n ps []) ≡ Ok (t, r) → IsComplete (Key placed c) n ps r.source.places
+
+abbrev pub StatementsEnd : Type 0
+StatementsEnd = (depth : ℕ) (placed : Bool) (c : Code) (n : ℕ) (ps : List Place) (t : Tree) (r : Stand Input) → Named ps → InOrder n ps
+    → (readers list_machine depth).stmt (alone c) (at_list n ps []) ≡ Ok (t, r) → IsComplete (Statement placed c) n ps r.source.places
+
+abbrev pub ListItemsEnd : Type 0
+ListItemsEnd = (depth : ℕ) (placed : Bool) (c : Code) (n : ℕ) (ps : List Place) (t : Tree) (r : Stand Input) → Named ps → InOrder n ps
+    → (readers list_machine depth).stmt (in_list c) (at_list n ps []) ≡ Ok (t, r) → IsComplete (ListItem placed c) n ps r.source.places
+
+-- What is derived up to a rest is derived before a closing brace in its place: the same front, with the tokens alone.
+abbrev pub Closing : List Place → List Place → Type 0
+Closing [] qs = qs ≡ []
+Closing (p ∷ ps) qs = (q : Place) × (qs ≡ q ∷ [])
+
+abbrev pub CutsOff : Type 0
+CutsOff = (t : Tree) (c : Code) (ts r : Input) → Spells t c ts r → (front qs : List Place) × (ts.places ≡ front ++ r.places) × Closing r.places qs × Spells t (record c { placed = false }) (input_at ts.last (front ++ qs)) (input_at r.last qs)
