@@ -1,9 +1,9 @@
 -- A rest may be cut off: before a closing brace in its place each condition on what stands there holds.
 use Rattle.std.proofs.Common.{◌≡◌, ◌<◌, ◌≤◌, ◌+◌, ℕ, suc, Bool, true, false, not, ◌&&◌, ◌||◌, ◌==◌, cond, eqb, nat_le, if◌then◌else◌, List, [], ◌∷◌, ◌++◌, refl, sym, ap, ap₂, ◌∙◌, subst, true≢false, arith, eqb-true}
-use Rattle.ecma_token.specs.Kinds.{end_kind, right_brace_kind, left_brace_kind, left_bracket_kind, dot_kind, template_kind, comma_kind, question_mark_kind, case_kind, default_kind, let_kind, of_kind, get_kind, set_kind, static_kind}
+use Rattle.ecma_token.specs.Kinds.{end_kind, right_brace_kind, left_brace_kind, left_bracket_kind, dot_kind, template_kind, comma_kind, question_mark_kind, left_paren_kind, assign_kind, mul_kind, function_kind, class_kind, async_kind, case_kind, default_kind, let_kind, of_kind, get_kind, set_kind, static_kind}
 use Rattle.ecma_tree.specs.Tree.{Tree, ident}
 use Rattle.ecma_syntax.specs.Input.{Place, Input, Code, kind, kind_of, kind2, break_of, brk, content_of, lo_of, hi_of, others, rest, text, is_word, no_name, barred, Takes, TakesWord, TakesAnyWord, TakesName, TakesIn}
-use Rattle.ecma_syntax.specs.Operators.{goes_expr, pauses, goes_on, is_assign_op, conditional_level, call_level, other_end, let_end, closed_end, may_name}
+use Rattle.ecma_syntax.specs.Operators.{goes_expr, pauses, goes_on, is_assign_op, conditional_level, call_level, other_end, let_end, closed_end, may_name, starts_key}
 use Rattle.ecma_syntax.specs.Shape.{ends, is_name, field_end}
 use Rattle.ecma_grammar.specs.Statements.{starts_expression_statement, statement_end, starts_head, starts_of, starts_using, starts_pattern}
 use Rattle.ecma_grammar.specs.Modules.{starts_default}
@@ -55,7 +55,7 @@ begins_less false false false false e true g h = refl
 begins_less false false false false e false g h = refl
 
 begins_kept : (f l : List Place) → starts_expression_statement (input_at 0 (f ++ l)) ≡ true → starts_expression_statement (input_at 0 (f ++ closing l)) ≡ true
-begins_kept f l h = kept (λ z. starts_expression_statement (input_at 0 z)) (λ p. refl) (λ x p l h. begins_less _ _ _ _ _ _ _ h) (λ x y l v. refl) f l h
+begins_kept f l h = kept (λ z. starts_expression_statement (input_at 0 z)) (λ p. refl) (λ x p l h. begins_less (x.spot.token.kind == left_brace_kind) (x.spot.token.kind == function_kind) (x.spot.token.kind == class_kind) (x.spot.token.kind == async_kind) ((p.spot.token.kind == function_kind) && not p.spot.line_break) (x.spot.token.kind == let_kind) (p.spot.token.kind == left_bracket_kind) h) (λ x y l v. refl) f l h
 
 off_by : (a : Bool) → not (a && false) ≡ true
 off_by true = refl
@@ -90,7 +90,7 @@ default_less false false true d e h = refl
 default_less false false false d e h = refl
 
 defaults_kept : (f l : List Place) → starts_default (input_at 0 (f ++ l)) ≡ true → starts_default (input_at 0 (f ++ closing l)) ≡ true
-defaults_kept f l h = kept (λ z. starts_default (input_at 0 z)) (λ p. refl) (λ x p l h. default_less _ _ _ _ _ h) (λ x y l v. refl) f l h
+defaults_kept f l h = kept (λ z. starts_default (input_at 0 z)) (λ p. refl) (λ x p l h. default_less (x.spot.token.kind == function_kind) (x.spot.token.kind == class_kind) (x.spot.token.kind == async_kind) (p.spot.token.kind == function_kind) (not p.spot.line_break) h) (λ x y l v. refl) f l h
 
 -- ---- what goes on, and what pauses
 
@@ -138,7 +138,7 @@ ended_kept : (c d : Code) (t : Tree) (m : Input) (n : ℕ) → pauses d (if c.li
 ended_kept c d t m n h = by_test c.listed (eqb n let_kind) (is_name t) refl h
   where
     by_test : (a b x : Bool) → is_name t ≡ x → pauses d (if a && (b && x) then let_end else ends t) m ≡ true → pauses d (ends t) m ≡ true
-    by_test true true true i h = ap (λ (e : ℕ). pauses d e m) (ends_name t i) ∙ wider _ _ _ _ _ h
+    by_test true true true i h = ap (λ (e : ℕ). pauses d e m) (ends_name t i) ∙ wider (kind m == right_brace_kind) (kind m == end_kind) (brk m) (may_name (kind m) || (kind m == left_brace_kind)) (nat_le 1 (goes_expr d other_end m)) h
     by_test true true false i h = h
     by_test true false x i h = h
     by_test false b x i h = h
@@ -147,8 +147,8 @@ fields_kept : (c : Code) (i : Bool) (m : Input) (n : ℕ) → pauses c (field_en
 fields_kept c i m n h = by_test ((n == get_kind) || (n == set_kind)) ((n == static_kind) && not i) h
   where
     by_test : (a b : Bool) → pauses c (if a then 6 else (if b then 7 else 5)) m ≡ true → pauses c 5 m ≡ true
-    by_test true b h = wider_left _ _ _ _ _ h
-    by_test false true h = wider_left _ _ _ _ _ h
+    by_test true b h = wider_left (kind m == right_brace_kind) (kind m == end_kind) (brk m) (starts_key (kind m)) ((kind m == assign_kind) || (kind m == left_paren_kind)) h
+    by_test false true h = wider_left (kind m == right_brace_kind) (kind m == end_kind) (brk m) (starts_key (kind m) || ((kind m == mul_kind) || (kind m == left_brace_kind))) ((kind m == assign_kind) || (kind m == left_paren_kind)) h
     by_test false false h = h
 
 -- ---- the relation
@@ -263,6 +263,10 @@ module _ (r : Input) where
   taken : {P : Input → Type 0} (ts t q : Input) → rest ts ≡ t → Like t q → P (input_at ts.last (first_of ts.places q.places)) → (o : Input) × Like ts o × P o × (rest o ≡ q)
   taken ts t q e l h = (input_at ts.last (first_of ts.places q.places), took ts.last ts.places t q e l, h, rest_is ts.last ts.places t q e l)
 
+  usings_of : (w : Bool) (a b : Input) → Like a b → starts_using w a ≡ true → starts_using w b ≡ true
+  usings_of false a b l h = by_places (λ v u. starts_using false (input_at 0 v) ≡ true → starts_using false (input_at 0 u) ≡ true) (usings_kept false) a b l h
+  usings_of true a b l h = by_places (λ v u. starts_using true (input_at 0 v) ≡ true → starts_using true (input_at 0 u) ≡ true) (usings_kept true) a b l h
+
   pub cut : Kin false
   cut = record {
     Like = Like;
@@ -280,13 +284,13 @@ module _ (r : Input) where
     stays = λ c e a b l h. by_places (λ v u. pauses c e (input_at 0 v) ≡ true → pauses c e (input_at 0 u) ≡ true) (stays_kept c e) a b l h;
     ended = λ c d t a b m l h. by_places (λ v u. pauses d (statement_end c (input_at 0 v) t) m ≡ true → pauses d (statement_end c (input_at 0 u) t) m ≡ true)
         (λ f v. kinds_by (λ n i. pauses d (if c.listed && ((n == let_kind) && is_name t) then let_end else ends t) m ≡ true → pauses d (if c.listed && ((i == let_kind) && is_name t) then let_end else ends t) m ≡ true) (λ n h. h)
-        (λ n h. by_listed c.listed (ended_kept c d t m n h)) f v) a b l h;
+        (λ n h. by_listed d m t c.listed (ended_kept c d t m n h)) f v) a b l h;
     fields = λ c i a b m l h. by_places (λ v u. pauses c (field_end i (kind_of v)) m ≡ true → pauses c (field_end i (kind_of u)) m ≡ true)
         (λ f v. kinds_by (λ n o. pauses c (field_end i n) m ≡ true → pauses c (field_end i o) m ≡ true) (λ n h. h) (λ n h. fields_kept c i m n h) f v) a b l h;
     begins = λ a b l h. by_places (λ v u. starts_expression_statement (input_at 0 v) ≡ true → starts_expression_statement (input_at 0 u) ≡ true) begins_kept a b l h;
     heads = λ a b l h. by_places (λ v u. starts_head (input_at 0 v) ≡ true → starts_head (input_at 0 u) ≡ true) heads_kept a b l h;
     ofs = λ w a b l h. by_places (λ v u. starts_of w (input_at 0 v) ≡ true → starts_of w (input_at 0 u) ≡ true) (ofs_kept w) a b l h;
-    usings = λ w a b l h. by_places (λ v u. starts_using w (input_at 0 v) ≡ true → starts_using w (input_at 0 u) ≡ true) (usings_kept w) a b l h;
+    usings = usings_of;
     defaults = λ a b l h. by_places (λ v u. starts_default (input_at 0 v) ≡ true → starts_default (input_at 0 u) ≡ true) defaults_kept a b l h;
     take = λ c k ts t q h l. let z = taken {P = λ o. kind o ≡ k} ts t q h.2 l (first_kind ts.last ts.places q.places ∙ h.0) in (z.0, z.1, (z.2, tt, z.3));
     take_word = λ c k ts t q h l. let z = taken {P = λ o. (kind o ≡ k) × (barred c.context o ≡ false)} ts t q h.3 l (first_kind ts.last ts.places q.places ∙ h.0, first_same (λ v. barred c.context (input_at 0 v)) (λ x l v. refl) ts.places q.places ∙ h.1) in (z.0, z.1, (z.2.0, z.2.1, tt, z.3));
@@ -296,9 +300,9 @@ module _ (r : Input) where
     take_in = λ c g k n ts t q h l. let z = taken {P = λ o. kind o ≡ k} ts t q h.2 l (first_kind ts.last ts.places q.places ∙ h.0) in (z.0, z.1, (z.2, tt, z.3));
   }
     where
-      by_listed : {d : Code} {m : Input} {t : Tree} (b : Bool) → pauses d (ends t) m ≡ true → pauses d (if b && ((right_brace_kind == let_kind) && is_name t) then let_end else ends t) m ≡ true
-      by_listed true h = h
-      by_listed false h = h
+      by_listed : (d : Code) (m : Input) (t : Tree) (b : Bool) → pauses d (ends t) m ≡ true → pauses d (if b && ((right_brace_kind == let_kind) && is_name t) then let_end else ends t) m ≡ true
+      by_listed d m t true h = h
+      by_listed d m t false h = h
 
 -- ---- the law
 

@@ -93,11 +93,10 @@ abbrev rest_of : List Place → Result (Tree × Stand Input) Fault → List Plac
 rest_of l (Ok x) = x.1.source.places
 rest_of l (Err e) = l
 
-IsRead : (x : Result (Tree × Stand Input) Fault) → Tree → Input → Type 0
+abbrev pub IsRead : (x : Result (Tree × Stand Input) Fault) → Tree → Input → Type 0
 IsRead x t r = (k : List ℕ) × (x ≡ Ok (t, record { source = r; commas = k }))
 
 read_of : (x : Result (Tree × Stand Input) Fault) (t : Tree) (r : Input) (P : Type 0) → (P → ⊥) → Answered x t r P → IsRead x t r
-unfolding IsRead
 read_of (Ok x) t r P n h = (x.1.commas, ap₂ (λ (u : Tree) (i : Input). Ok (u, record { source = i; commas = x.1.commas })) h.0 h.1)
 read_of (Err Unexpected) t r P n h = absurd h
 read_of (Err TooDeep) t r P n h = absurd (n h)
@@ -120,7 +119,6 @@ module _ (f : ℕ → Read Input Tree) (Q : Tree → List Place → List Place �
     (whole : (d n : ℕ) (ps : List Place) (t : Tree) (r : Input) → nesting t ≤ d → InOrder n ps → Q0 t (input_at n ps) (input_at r.last (closing r.places)) → IsRead (f d (at_list n ps [])) t (input_at r.last (closing r.places))) where
   ends_before : (d n : ℕ) (front : List Place) (q : Place) (ps : List Place) (t : Tree) (r : Stand Input) → r.source.places ≡ q ∷ ps → ((e : ℕ) → d ≤ e → (qs : List Place) → Q t r.source.places qs → f e (at_list n (front ++ qs) []) ≡ Ok (t, at_list r.source.last qs r.commas))
       → ((qs : List Place) → one r.source.places ≡ one qs → Q t r.source.places qs) → EndsBefore P n front q
-  unfolding IsRead
   ends_before d n front q ps t r i go rests more u o order h = by_length (nat_lt (length more) (length o.places)) refl
     where
       by_length : (b : Bool) → nat_lt (length more) (length o.places) ≡ b → length more < length o.places
@@ -218,12 +216,12 @@ module _ (c : Code) (l : ℕ) where
     quit_loop : (n : ℕ) (x : Tree) (s : Stand Input) → Quit (iterate_n (bound lm) n (loop_step lm inner c l start) x s)
     unfolding iterate_n loop_step
     quit_loop zero x s = record { so = tt }
-    quit_loop (suc n) x s = by_test (nat_lt (goes_expr c (ends x) (input lm s)) l) refl
+    quit_loop (suc n) x s = by_test (λ x s. quit_loop n x s) (nat_lt (goes_expr c (ends x) (input lm s)) l) refl
       where
-        by_test : (b : Bool) → nat_lt (goes_expr c (ends x) (input lm s)) l ≡ b
+        by_test : ((x : Tree) (s : Stand Input) → Quit (iterate_n (bound lm) n (loop_step lm inner c l start) x s)) → (b : Bool) → nat_lt (goes_expr c (ends x) (input lm s)) l ≡ b
             → Quit (cond b (Ok (finished x, s)) (step_by lm inner c start x s >>= λ y. Ok (go_on y.0, y.1)) >>= next_by (bound lm) (iterate_n (bound lm) n (loop_step lm inner c l start)) (bound lm s))
-        by_test true e = record { so = e }
-        by_test false e = turned n (bound lm s) (λ x s. quit_loop n x s) (step_by lm inner c start x s)
+        by_test h true e = record { so = e }
+        by_test h false e = turned n (bound lm s) h (step_by lm inner c start x s)
 
     loop_quits : eqb l member_level ≡ false → (x : Tree) (s : Stand Input) → Quit (loop_by lm inner c l start x s)
     unfolding loop_by iterate
@@ -260,7 +258,7 @@ question_goes c e n (p ∷ ps) i k = subst (λ (z : ℕ). 3 ≤ goes_expr c e (i
 
 -- ---- expressions
 
-none_goes : (a b : Bool) → (if a then 0 else (if b then 0 else 0)) ≡ 0
+none_goes : (a b : Bool) → ◌≡◌ {A = ℕ} (if a then 0 else (if b then 0 else 0)) 0
 none_goes true b = refl
 none_goes false true = refl
 none_goes false false = refl
