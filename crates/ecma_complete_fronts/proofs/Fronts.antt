@@ -22,6 +22,11 @@ use Rattle.ecma_grammar_tied.proofs.Tied.{complete}
 use Rattle.ecma_grammar_whole.specs.Laws.{Answered, Stands, Level, Bound}
 use Rattle.ecma_grammar_whole.proofs.WholeLemmas.{expressions_complete, patterns_complete}
 use Rattle.ecma_grammar_whole.proofs.Nests.{reach_nests}
+use Rattle.ecma_grammar_laws.specs.Laws.{tokens, OfLevel}
+use Rattle.ecma_grammar_laws.proofs.Sure.{Sure}
+use Rattle.ecma_grammar_laws.proofs.Nested.{key_sure}
+use Rattle.ecma_grammar_laws.proofs.ByDepth.{all_sound}
+use Rattle.ecma_grammar_laws.proofs.SoundLemmas.{expressions_sound, patterns_sound, statements_sound}
 use Rattle.ecma_grammar_steady.specs.Laws.{Keeps}
 use Rattle.ecma_grammar_steady.proofs.Agrees.{Agrees}
 use Rattle.ecma_grammar_steady.proofs.Expressions.{key_by_steady}
@@ -29,31 +34,31 @@ use Rattle.ecma_grammar_steady.proofs.SteadyLemmas.{readers_steady}
 use Rattle.ecma_sources.specs.Sources.{one}
 use Rattle.ecma_sources.specs.Ahead.{ends_async, Named, dots, heads, SameNext, Instead, at_list, ReadAhead}
 use Rattle.ecma_sources.proofs.Ahead.{cases, one_ahead}
-use Rattle.ecma_complete_fronts.specs.Laws.{input_at, EndsBefore, EndsAt, IsComplete, Expression, Binding, Key, Statement, ListItem, Settled, ExpressionsEnd, BindingsEnd, KeysEnd, StatementsEnd, ListItemsEnd}
+use Rattle.ecma_complete_fronts.specs.Laws.{input_at, EndsBefore, EndsAt, IsComplete, OneFront, FrontsAreOne, Expression, Binding, Key, Statement, ListItem, Settled, ExpressionsEnd, BindingsEnd, KeysEnd, StatementsEnd, ListItemsEnd}
 use Rattle.ecma_complete_fronts.proofs.Cut.{brace, closing, cuts_to}
 
 -- ---- lists
 
+abbrev behind_first : List Place → List Place
+behind_first [] = []
+behind_first (o ∷ v) = v
+
+abbrev head_or : Place → List Place → Place
+head_or x [] = x
+head_or x (o ∷ v) = o
+
+sums : (a b : List Place) → length (a ++ b) ≡ length a + length b
+sums [] b = omega arith
+sums (x ∷ a) b = omega (arith, sums a b)
+
 -- Two ways to cut a list in two, the second further behind.
 split : (a b c d : List Place) → a ++ b ≡ c ++ d → length d < length b → (e : List Place) × (c ≡ a ++ e) × (b ≡ e ++ d)
 split [] b c d e h = (c, refl, e)
-split (x ∷ a) b [] d e h = absurd (longer d (sym e) h)
+split (x ∷ a) b [] d e h = absurd (longer d (ap (λ z. length z) e) h)
   where
-    more : (a b : List Place) → length b ≤ length (a ++ b)
-    more [] b = omega arith
-    more (y ∷ a) b = omega (arith, more a b)
-
-    longer : (d : List Place) → d ≡ x ∷ a ++ b → length d < length b → ⊥
-    longer d i h = omega (arith, h, more a b, ap (λ z. length z) i)
-split (x ∷ a) b (y ∷ c) d e h = let z = split a b c d (ap rest e) h in (z.0, ap₂ (λ (o : Place) (v : List Place). o ∷ v) (sym (ap first e)) z.1, z.2)
-  where
-    rest : List Place → List Place
-    rest [] = []
-    rest (o ∷ v) = v
-
-    first : List Place → Place
-    first [] = x
-    first (o ∷ v) = o
+    longer : (d : List Place) → length (x ∷ a ++ b) ≡ length d → length d < length b → ⊥
+    longer d i h = omega (arith, h, i, sums a b)
+split (x ∷ a) b (y ∷ c) d e h = let z = split a b c d (ap behind_first e) h in (z.0, ap₂ (λ (o : Place) (v : List Place). o ∷ v) (sym (ap (λ v. head_or x v) e)) z.1, z.2)
 
 -- A list cut off is in order as well.
 order_cut : (n : ℕ) (f l : List Place) → InOrder n (f ++ l) → InOrder n (f ++ closing l)
@@ -86,6 +91,9 @@ order_cut n [] (p ∷ l) h = by_kind (eqb p.spot.token.kind template_kind) (λ e
         at_most i = omega (arith, end_is i, h.2 (no_template i))
 order_cut n (x ∷ f) l h = (h.0, h.1, h.2, order_cut x.spot.hi f l h.3)
 
+no_shorter : (a b : List Place) → 1 ≤ length a → a ++ b ≡ b → ⊥
+no_shorter a b l m = omega (arith, l, ap (λ z. length z) m, sums a b)
+
 -- ---- answers
 
 -- the rest of an answer
@@ -112,6 +120,51 @@ reads_of n ps x t r P e o h = by_answer x (h.so (record { order = o; below = λ 
 kept_answer : {A : Type 0} (x y : Result A Fault) (a : A) → Agrees x y → x ≡ Ok a → y ≡ Ok a
 kept_answer x y a h e = subst (λ z. Keeps z y) e h.so
 
+-- ---- one front
+
+-- Two ways to cut a list in two, as far behind.
+halves : (a b c d : List Place) → a ++ b ≡ c ++ d → length b ≡ length d → (a ≡ c) × (b ≡ d)
+halves [] b [] d e h = (refl, e)
+halves [] b (y ∷ c) d e h = absurd (longer d c (ap (λ z. length z) e) h)
+  where
+    longer : (d c : List Place) → length b ≡ length (y ∷ c ++ d) → length b ≡ length d → ⊥
+    longer d c i h = omega (arith, i, h, sums c d)
+halves (x ∷ a) b [] d e h = absurd (longer a b (ap (λ z. length z) e) h)
+  where
+    longer : (a b : List Place) → length (x ∷ a ++ b) ≡ length d → length b ≡ length d → ⊥
+    longer a b i h = omega (arith, i, h, sums a b)
+halves (x ∷ a) b (y ∷ c) d e h = let z = halves a b c d (ap behind_first e) h in (ap₂ (λ (o : Place) (v : List Place). o ∷ v) (ap (λ v. head_or x v) e) z.0, z.1)
+
+abbrev tree_of : Tree → Result (Tree × Stand Input) Fault → Tree
+tree_of t (Ok x) = x.0
+tree_of t (Err e) = t
+
+abbrev last_of : Result (Tree × Stand Input) Fault → ℕ
+last_of (Ok x) = x.1.source.last
+last_of (Err e) = 0
+
+module _ (f : ℕ → Read Input Tree) (P Q0 : Tree → Input → Input → Type 0) (cut : (t : Tree) (n : ℕ) (ps : List Place) (r : Input) → P t (input_at n ps) r → (front : List Place) × (ps ≡ front ++ r.places) × Q0 t (input_at n (front ++ closing r.places)) (input_at r.last (closing r.places)))
+    (whole : (d n : ℕ) (ps : List Place) (t : Tree) (r : Input) → nesting t ≤ d → InOrder n ps → Q0 t (input_at n ps) (input_at r.last (closing r.places)) → IsRead (f d (at_list n ps [])) t (input_at r.last (closing r.places))) where
+  no_longer : (n : ℕ) (ps : List Place) (t : Tree) (r : Input) (o : List Place) → InOrder n ps → P t (input_at n ps) r → IsComplete P n ps o → length r.places < length o → ⊥
+  no_longer n ps t r [] order h b l = omega (arith, l)
+  no_longer n ps t r (q ∷ o) order h b l = omega (arith, l, b.2 o t r (subst (λ v. InOrder n v) b.1 order) (subst (λ v. P t (input_at n v) r) b.1 h))
+
+  same_read : (n : ℕ) (ps : List Place) (t u : Tree) (r o : Input) → InOrder n ps → P t (input_at n ps) r → P u (input_at n ps) o → length r.places ≡ length o.places → (t ≡ u) × (r ≡ o)
+  same_read n ps t u r o order h g l =
+      let a = cut t n ps r h in let b = cut u n ps o g in let z = halves a.0 r.places b.0 o.places (sym a.1 ∙ b.1) l in let N = nesting t + nesting u in
+      let x = whole N n (a.0 ++ closing r.places) t r (omega arith) (order_cut n a.0 r.places (subst (λ v. InOrder n v) a.1 order)) a.2 in
+      let y = whole N n (b.0 ++ closing o.places) u o (omega arith) (order_cut n b.0 o.places (subst (λ v. InOrder n v) b.1 order)) b.2 in
+      let e = sym x.1 ∙ (ap₂ (λ (v w : List Place). f N (at_list n (v ++ closing w) [])) z.0 z.1 ∙ y.1) in
+      (ap (λ w. tree_of t w) e, ap₂ (λ (m : ℕ) (v : List Place). input_at m v) (ap last_of e) z.1)
+
+  pub one_front : OneFront P
+  one_front n ps t u r o order h g a b = by_length (nat_lt (length r.places) (length o.places)) (nat_lt (length o.places) (length r.places)) refl refl
+    where
+      by_length : (x y : Bool) → nat_lt (length r.places) (length o.places) ≡ x → nat_lt (length o.places) (length r.places) ≡ y → (t ≡ u) × (r ≡ o)
+      by_length true y i j = absurd (no_longer n ps t r o.places order h b (ltb-true (length r.places) (length o.places) i))
+      by_length false true i j = absurd (no_longer n ps u o r.places order g a (ltb-true (length o.places) (length r.places) j))
+      by_length false false i j = same_read n ps t u r o order h g (omega (arith, ltb-false (length r.places) (length o.places) i, ltb-false (length o.places) (length r.places) j))
+
 -- ---- the argument
 
 module _ (f : ℕ → Read Input Tree) (Q : Tree → List Place → List Place → Type 0) (ahead : (d : ℕ) → ReadAhead Q (f d)) (steady : (d e : ℕ) → d ≤ e → (s : Stand Input) (x : Tree × Stand Input) → f d s ≡ Ok x → f e s ≡ Ok x)
@@ -132,20 +185,9 @@ module _ (f : ℕ → Read Input Tree) (Q : Tree → List Place → List Place �
           clash : (g e : List Place) → g ≡ front ++ e → q ∷ more ≡ e ++ o.places → Q0 u (input_at n (g ++ closing o.places)) (input_at o.last (closing o.places)) → InOrder n (g ++ closing o.places) → ⊥
           clash g [] k v c w = omega (arith, short, ap (λ z. length z) v)
           clash g (x ∷ e) k v c w = let N = d + nesting u in let qs = x ∷ e ++ closing o.places in
-              let a = go N (omega arith) qs (rests qs (ap one i ∙ ap (λ z. first z ∷ []) v)) in
+              let a = go N (omega arith) qs (rests qs (ap one i ∙ ap (λ z. head_or q z ∷ []) v)) in
               let b = whole N n (g ++ closing o.places) u o (omega arith) w c in
               no_shorter (x ∷ e) (closing o.places) (omega arith) (sym (ap (λ z. rest_of [] z) (ap (λ z. f N (at_list n z [])) (ap (λ z. z ++ closing o.places) k ∙ append_assoc front (x ∷ e) (closing o.places)) ∙ a)) ∙ ap (λ z. rest_of [] z) b.1)
-            where
-              first : List Place → Place
-              first [] = q
-              first (y ∷ z) = y
-
-              no_shorter : (a b : List Place) → 1 ≤ length a → a ++ b ≡ b → ⊥
-              no_shorter a b l m = omega (arith, l, ap (λ z. length z) m, sums a b)
-                where
-                  sums : (a b : List Place) → length (a ++ b) ≡ length a + length b
-                  sums [] b = omega arith
-                  sums (y ∷ a) b = omega (arith, sums a b)
 
           false_front : (g : List Place) × (front ++ q ∷ more ≡ g ++ o.places) × Q0 u (input_at n (g ++ closing o.places)) (input_at o.last (closing o.places)) → ⊥
           false_front z = let e = split front (q ∷ more) z.0 o.places z.1 short in
@@ -160,35 +202,7 @@ module _ (f : ℕ → Read Input Tree) (Q : Tree → List Place → List Place �
         where
           again : (N : ℕ) → d ≤ N → (qs : List Place) → Q t r.source.places qs → f N (at_list n (front ++ qs) []) ≡ Ok (t, at_list r.source.last qs r.commas)
           again N le qs o = let y = ahead N n ps [] t r a (steady d N le (at_list n ps []) (t, r) e) in
-              subst (λ v. f N (at_list n (v ++ qs) []) ≡ Ok (t, at_list r.source.last qs r.commas)) (same_front y.0 front r.source.places (sym y.1 ∙ k)) (y.2 qs o)
-            where
-              same_front : (a b c : List Place) → a ++ c ≡ b ++ c → a ≡ b
-              same_front [] [] c m = refl
-              same_front [] (y ∷ b) c m = absurd (uneven b c y m)
-                where
-                  uneven : (b c : List Place) (y : Place) → c ≡ y ∷ b ++ c → ⊥
-                  uneven b c y m = omega (arith, ap (λ z. length z) m, sums b c)
-                    where
-                      sums : (a b : List Place) → length (a ++ b) ≡ length a + length b
-                      sums [] b = omega arith
-                      sums (x ∷ a) b = omega (arith, sums a b)
-              same_front (x ∷ a) [] c m = absurd (uneven a c x (sym m))
-                where
-                  uneven : (b c : List Place) (y : Place) → c ≡ y ∷ b ++ c → ⊥
-                  uneven b c y m = omega (arith, ap (λ z. length z) m, sums b c)
-                    where
-                      sums : (a b : List Place) → length (a ++ b) ≡ length a + length b
-                      sums [] b = omega arith
-                      sums (x ∷ a) b = omega (arith, sums a b)
-              same_front (x ∷ a) (y ∷ b) c m = ap₂ (λ (o : Place) (v : List Place). o ∷ v) (ap first m) (same_front a b c (ap rest m))
-                where
-                  rest : List Place → List Place
-                  rest [] = []
-                  rest (o ∷ v) = v
-
-                  first : List Place → Place
-                  first [] = x
-                  first (o ∷ v) = o
+              subst (λ v. f N (at_list n (v ++ qs) []) ≡ Ok (t, at_list r.source.last qs r.commas)) (halves y.0 r.source.places front r.source.places (sym y.1 ∙ k) refl).0 (y.2 qs o)
 
 -- ---- the loop of an expression ends where nothing goes on
 
@@ -280,11 +294,19 @@ no_member l h = by_test (eqb l member_level) (λ e. eqb-true l member_level e)
 cut_expression : (placed : Bool) (l : ℕ) (c : Code) (t : Tree) (n : ℕ) (ps : List Place) (r : Input) → Expression placed l c t (input_at n ps) r → (front : List Place) × (ps ≡ front ++ r.places) × Expression false l c t (input_at n (front ++ closing r.places)) (input_at r.last (closing r.places))
 cut_expression placed l c t n ps r h = let z = cuts_to t (coded placed c) (input_at n ps) r h.1 in (z.0, z.1, (h.0, z.2))
 
+whole_expression : (l : ℕ) → 1 ≤ l → l ≤ 2 → (c : Code) (d n : ℕ) (ps : List Place) (t : Tree) (r : Input) → nesting t ≤ d → InOrder n ps → Expression false l c t (input_at n ps) (input_at r.last (closing r.places)) → IsRead ((readers lm d).expr c l (at_list n ps [])) t (input_at r.last (closing r.places))
+whole_expression l a b c d n ps t r h o g = read_of _ t (input_at r.last (closing r.places)) (d < nesting t) (λ i. omega (arith, i, h)) (expressions_complete d false c l t (input_at n ps) (input_at r.last (closing r.places)) o (level_of l a b) (record { spelled = g.1; tight = g.0; follow = follow_by c (ends t) l r.last r.places a }))
+
+of_level : (l : ℕ) (t : Tree) → l ≤ 2 → OfLevel l t → l ≤ level t
+of_level l t b (inl h) = h
+of_level l t b (inr h) = absurd (omega (arith, b, h.0))
+
 pub expressions_end : ExpressionsEnd
 expressions_end depth placed c l n ps t r a b named order e settled =
     let quit = ltb-true (goes_expr c (ends t) r.source) l ((subst (λ z. Quit c l z) e (readers_quit c l depth (no_member l b) (at_list n ps []))).so) in
-    (completed (λ d s. (readers lm d).expr c l s) Instead (λ d. (one_ahead d c).expressions l) (λ d e h s x i. kept_answer _ _ x ((readers_steady lm d e h).expr c l s) i) (Expression placed l c) (Expression false l c) (cut_expression placed l c)
-    (λ d n ps t r h o g. read_of _ t (input_at r.last (closing r.places)) (d < nesting t) (λ i. omega (arith, i, h)) (expressions_complete d false c l t (input_at n ps) (input_at r.last (closing r.places)) o (level_of l a b) (record { spelled = g.1; tight = g.0; follow = follow_by c (ends t) l r.last r.places a })))
+    let sound = expressions_sound depth c l (at_list n ps []) t r a e in
+    ((of_level l t b sound.0, sound.1), completed (λ d s. (readers lm d).expr c l s) Instead (λ d. (one_ahead d c).expressions l) (λ d e h s x i. kept_answer _ _ x ((readers_steady lm d e h).expr c l s) i) (Expression placed l c) (Expression false l c) (cut_expression placed l c)
+    (whole_expression l a b c)
     depth n ps t r named e
     (λ qs i. record { next = i; question = λ o k. absurd (omega (arith, b, quit, question_goes c (ends t) r.source.last r.source.places o k)); word = λ o k m v. absurd (settled k m v) }), quit)
 
@@ -293,20 +315,26 @@ expressions_end depth placed c l n ps t r a b named order e settled =
 cut_binding : (placed : Bool) (c : Code) (t : Tree) (n : ℕ) (ps : List Place) (r : Input) → Binding placed c t (input_at n ps) r → (front : List Place) × (ps ≡ front ++ r.places) × Binding false c t (input_at n (front ++ closing r.places)) (input_at r.last (closing r.places))
 cut_binding placed c t n ps r h = let z = cuts_to t (patterned placed c) (input_at n ps) r h.1 in (z.0, z.1, (h.0, z.2))
 
+whole_binding : (c : Code) (d n : ℕ) (ps : List Place) (t : Tree) (r : Input) → nesting t ≤ d → InOrder n ps → Binding false c t (input_at n ps) (input_at r.last (closing r.places)) → IsRead ((readers lm d).pat c (at_list n ps [])) t (input_at r.last (closing r.places))
+whole_binding c d n ps t r h o g = read_of _ t (input_at r.last (closing r.places)) (d < nesting t) (λ i. omega (arith, i, h)) (patterns_complete d false c t (input_at n ps) (input_at r.last (closing r.places)) o (record { binding = g.0; spelled = g.1 }))
+
 pub bindings_end : BindingsEnd
 bindings_end depth placed c n ps t r named order e =
-    completed (λ d s. (readers lm d).pat c s) SameNext (λ d. (one_ahead d c).bindings) (λ d e h s x i. kept_answer _ _ x ((readers_steady lm d e h).pat c s) i) (Binding placed c) (Binding false c) (cut_binding placed c)
-    (λ d n ps t r h o g. read_of _ t (input_at r.last (closing r.places)) (d < nesting t) (λ i. omega (arith, i, h)) (patterns_complete d false c t (input_at n ps) (input_at r.last (closing r.places)) o (record { binding = g.0; spelled = g.1 })))
-    depth n ps t r named e (λ qs i. i)
+    (patterns_sound depth c (at_list n ps []) t r e, completed (λ d s. (readers lm d).pat c s) SameNext (λ d. (one_ahead d c).bindings) (λ d e h s x i. kept_answer _ _ x ((readers_steady lm d e h).pat c s) i) (Binding placed c) (Binding false c) (cut_binding placed c)
+    (whole_binding c)
+    depth n ps t r named e (λ qs i. i))
 
 cut_key : (placed : Bool) (c : Code) (t : Tree) (n : ℕ) (ps : List Place) (r : Input) → Key placed c t (input_at n ps) r → (front : List Place) × (ps ≡ front ++ r.places) × Key false c t (input_at n (front ++ closing r.places)) (input_at r.last (closing r.places))
 cut_key placed c t n ps r h = let z = cuts_to t (coded placed c) (input_at n ps) r h.1 in (z.0, z.1, (h.0, z.2))
 
+whole_key : (c : Code) (d n : ℕ) (ps : List Place) (t : Tree) (r : Input) → nesting t ≤ d → InOrder n ps → Key false c t (input_at n ps) (input_at r.last (closing r.places)) → IsRead (key_by lm (readers lm d) c (at_list n ps [])) t (input_at r.last (closing r.places))
+whole_key c d n ps t r h o g = reads_of n ps _ t (input_at r.last (closing r.places)) (d < within reach t) (λ i. omega (arith, i, h, within_reach t, reach_nests t)) o (key_found (complete (suc (size t)) d) false c t (input_at n ps) (input_at r.last (closing r.places)) [] g.0 (inward (suc (size t)) t (omega arith)) g.1)
+
 pub keys_end : KeysEnd
 keys_end depth placed c n ps t r named order e =
-    completed (λ d s. key_by lm (readers lm d) c s) SameNext (λ d. (one_ahead d c).keys) (λ d e h s x i. kept_answer _ _ x (key_by_steady lm (readers lm d) (readers lm e) (readers_steady lm d e h) c s) i) (Key placed c) (Key false c) (cut_key placed c)
-    (λ d n ps t r h o g. reads_of n ps _ t (input_at r.last (closing r.places)) (d < within reach t) (λ i. omega (arith, i, h, within_reach t, reach_nests t)) o (key_found (complete (suc (size t)) d) false c t (input_at n ps) (input_at r.last (closing r.places)) [] g.0 (inward (suc (size t)) t (omega arith)) g.1))
-    depth n ps t r named e (λ qs i. i)
+    ((subst (λ z. Sure [] z (λ x. (is_key x.0 ≡ true) × Spells x.0 (tokens c) (input_at n ps) (input lm x.1))) e (key_sure (readers lm depth) (all_sound depth) c (at_list n ps []))).so.1, completed (λ d s. key_by lm (readers lm d) c s) SameNext (λ d. (one_ahead d c).keys) (λ d e h s x i. kept_answer _ _ x (key_by_steady lm (readers lm d) (readers lm e) (readers_steady lm d e h) c s) i) (Key placed c) (Key false c) (cut_key placed c)
+    (whole_key c)
+    depth n ps t r named e (λ qs i. i))
 
 follows_by : (n : ℕ) (ps : List Place) → may_follow (kind (input_at n (closing ps))) ≡ true
 follows_by n [] = refl
@@ -315,17 +343,34 @@ follows_by n (p ∷ ps) = refl
 cut_statement : (placed : Bool) (c : Code) (t : Tree) (n : ℕ) (ps : List Place) (r : Input) → Statement placed c t (input_at n ps) r → (front : List Place) × (ps ≡ front ++ r.places) × Statement false c t (input_at n (front ++ closing r.places)) (input_at r.last (closing r.places))
 cut_statement placed c t n ps r h = let z = cuts_to t (coded placed (alone c)) (input_at n ps) r h.1 in (z.0, z.1, (h.0, z.2))
 
+whole_statement : (c : Code) (d n : ℕ) (ps : List Place) (t : Tree) (r : Input) → nesting t ≤ d → InOrder n ps → Statement false c t (input_at n ps) (input_at r.last (closing r.places)) → IsRead ((readers lm d).stmt (alone c) (at_list n ps [])) t (input_at r.last (closing r.places))
+whole_statement c d n ps t r h o g = reads_of n ps _ t (input_at r.last (closing r.places)) (d < reach t) (λ i. omega (arith, i, h, reach_nests t)) o ((complete (suc (size t)) d).stmt t false (alone c) (input_at n ps) (input_at r.last (closing r.places)) [] (omega arith) (ap (λ (b : Bool). b || is_plain_function t) g.0) g.1 (follows_by r.last r.places))
+
 pub statements_end : StatementsEnd
-statements_end depth placed c n ps t r named order e =
-    completed (λ d s. (readers lm d).stmt (alone c) s) SameNext (λ d. (one_ahead d (alone c)).statements) (λ d e h s x i. kept_answer _ _ x ((readers_steady lm d e h).stmt (alone c) s) i) (Statement placed c) (Statement false c) (cut_statement placed c)
-    (λ d n ps t r h o g. reads_of n ps _ t (input_at r.last (closing r.places)) (d < reach t) (λ i. omega (arith, i, h, reach_nests t)) o ((complete (suc (size t)) d).stmt t false (alone c) (input_at n ps) (input_at r.last (closing r.places)) [] (omega arith) (ap (λ (b : Bool). b || is_plain_function t) g.0) g.1 (follows_by r.last r.places)))
-    depth n ps t r named e (λ qs i. i)
+statements_end depth placed c n ps t r named order e is =
+    ((is, (statements_sound depth (alone c) (at_list n ps []) t r e).1), completed (λ d s. (readers lm d).stmt (alone c) s) SameNext (λ d. (one_ahead d (alone c)).statements) (λ d e h s x i. kept_answer _ _ x ((readers_steady lm d e h).stmt (alone c) s) i) (Statement placed c) (Statement false c) (cut_statement placed c)
+    (whole_statement c)
+    depth n ps t r named e (λ qs i. i))
 
 cut_item : (placed : Bool) (c : Code) (t : Tree) (n : ℕ) (ps : List Place) (r : Input) → ListItem placed c t (input_at n ps) r → (front : List Place) × (ps ≡ front ++ r.places) × ListItem false c t (input_at n (front ++ closing r.places)) (input_at r.last (closing r.places))
 cut_item placed c t n ps r h = let z = cuts_to t (coded placed (in_list c)) (input_at n ps) r h.1 in (z.0, z.1, (h.0, z.2))
 
+whole_item : (c : Code) (d n : ℕ) (ps : List Place) (t : Tree) (r : Input) → nesting t ≤ d → InOrder n ps → ListItem false c t (input_at n ps) (input_at r.last (closing r.places)) → IsRead ((readers lm d).stmt (in_list c) (at_list n ps [])) t (input_at r.last (closing r.places))
+whole_item c d n ps t r h o g = reads_of n ps _ t (input_at r.last (closing r.places)) (d < reach t) (λ i. omega (arith, i, h, reach_nests t)) o ((complete (suc (size t)) d).stmt t false (in_list c) (input_at n ps) (input_at r.last (closing r.places)) [] (omega arith) g.0 g.1 (follows_by r.last r.places))
+
 pub list_items_end : ListItemsEnd
 list_items_end depth placed c n ps t r named order e =
-    completed (λ d s. (readers lm d).stmt (in_list c) s) SameNext (λ d. (one_ahead d (in_list c)).statements) (λ d e h s x i. kept_answer _ _ x ((readers_steady lm d e h).stmt (in_list c) s) i) (ListItem placed c) (ListItem false c) (cut_item placed c)
-    (λ d n ps t r h o g. reads_of n ps _ t (input_at r.last (closing r.places)) (d < reach t) (λ i. omega (arith, i, h, reach_nests t)) o ((complete (suc (size t)) d).stmt t false (in_list c) (input_at n ps) (input_at r.last (closing r.places)) [] (omega arith) g.0 g.1 (follows_by r.last r.places)))
-    depth n ps t r named e (λ qs i. i)
+    (statements_sound depth (in_list c) (at_list n ps []) t r e, completed (λ d s. (readers lm d).stmt (in_list c) s) SameNext (λ d. (one_ahead d (in_list c)).statements) (λ d e h s x i. kept_answer _ _ x ((readers_steady lm d e h).stmt (in_list c) s) i) (ListItem placed c) (ListItem false c) (cut_item placed c)
+    (whole_item c)
+    depth n ps t r named e (λ qs i. i))
+
+-- ---- one of each
+
+pub fronts_are_one : FrontsAreOne
+fronts_are_one placed c = record {
+  expressions = λ l a b. one_front (λ d s. (readers lm d).expr c l s) (Expression placed l c) (Expression false l c) (cut_expression placed l c) (whole_expression l a b c);
+  bindings = one_front (λ d s. (readers lm d).pat c s) (Binding placed c) (Binding false c) (cut_binding placed c) (whole_binding c);
+  keys = one_front (λ d s. key_by lm (readers lm d) c s) (Key placed c) (Key false c) (cut_key placed c) (whole_key c);
+  statements = one_front (λ d s. (readers lm d).stmt (alone c) s) (Statement placed c) (Statement false c) (cut_statement placed c) (whole_statement c);
+  list_items = one_front (λ d s. (readers lm d).stmt (in_list c) s) (ListItem placed c) (ListItem false c) (cut_item placed c) (whole_item c);
+}

@@ -1,8 +1,8 @@
 -- What is read of a part is a complete front: no longer front is derived of any list in order that begins with it and the next token.
 use Rattle.std.specs.Prelude.{◌≡◌, ◌≤◌, ◌<◌, ℕ, Bool, true, false, List, [], ◌∷◌, ◌++◌, length, Ok}
 use Rattle.ecma_tree.specs.Tree.{Tree}
-use Rattle.ecma_syntax.specs.Input.{Place, Input, Code, kind_of, break_of, is_word, alone, in_list}
-use Rattle.ecma_syntax.specs.Operators.{goes_expr}
+use Rattle.ecma_syntax.specs.Input.{Place, Input, Code, kind_of, break_of, alone, in_list}
+use Rattle.ecma_syntax.specs.Operators.{goes_expr, may_name}
 use Rattle.ecma_syntax.specs.Shape.{level, ends, is_binding, is_key, is_statement, is_item}
 use Rattle.ecma_grammar.specs.Grammar.{Spells}
 use Rattle.ecma_reading.specs.Source.{Stand, list_machine}
@@ -50,31 +50,45 @@ ListItem placed c t ts r = (is_item t ≡ true) × Spells t (coded placed (in_li
 
 -- ---- the laws
 
--- The word `async` ends no tree before a word on its line.
+-- The word `async` ends no tree before a word on its line that may be a name.
 abbrev pub Settled : Tree → List Place → Type 0
-Settled t ps = ends_async t ≡ true → break_of ps ≡ false → is_word (kind_of ps) ≡ true → ⊥
+Settled t ps = ends_async t ≡ true → break_of ps ≡ false → may_name (kind_of ps) ≡ true → ⊥
 
--- What is read as an expression of a level, up to an assignment's, is a complete front, and the next token doesn't go on with it.
+-- What is read as an expression of a level, up to an assignment's, is derived from a complete front, and the next token doesn't go on with it.
 abbrev pub ExpressionsEnd : Type 0
 ExpressionsEnd = (depth : ℕ) (placed : Bool) (c : Code) (l n : ℕ) (ps : List Place) (t : Tree) (r : Stand Input) → 1 ≤ l → l ≤ 2 → Named ps → InOrder n ps
-    → (readers list_machine depth).expr c l (at_list n ps []) ≡ Ok (t, r) → Settled t r.source.places → IsComplete (Expression placed l c) n ps r.source.places × (goes_expr c (ends t) r.source < l)
+    → (readers list_machine depth).expr c l (at_list n ps []) ≡ Ok (t, r) → Settled t r.source.places → Expression false l c t (input_at n ps) r.source × IsComplete (Expression placed l c) n ps r.source.places × (goes_expr c (ends t) r.source < l)
 
--- the same of a binding, of a key, of a statement and of an item of a list of statements, after which anything may stand
+-- the same of a binding, of a key, of an item of a list of statements and of one that is a statement, after which anything may stand
 abbrev pub BindingsEnd : Type 0
 BindingsEnd = (depth : ℕ) (placed : Bool) (c : Code) (n : ℕ) (ps : List Place) (t : Tree) (r : Stand Input) → Named ps → InOrder n ps
-    → (readers list_machine depth).pat c (at_list n ps []) ≡ Ok (t, r) → IsComplete (Binding placed c) n ps r.source.places
+    → (readers list_machine depth).pat c (at_list n ps []) ≡ Ok (t, r) → Binding false c t (input_at n ps) r.source × IsComplete (Binding placed c) n ps r.source.places
 
 abbrev pub KeysEnd : Type 0
 KeysEnd = (depth : ℕ) (placed : Bool) (c : Code) (n : ℕ) (ps : List Place) (t : Tree) (r : Stand Input) → Named ps → InOrder n ps
-    → key_by list_machine (readers list_machine depth) c (at_list n ps []) ≡ Ok (t, r) → IsComplete (Key placed c) n ps r.source.places
+    → key_by list_machine (readers list_machine depth) c (at_list n ps []) ≡ Ok (t, r) → Key false c t (input_at n ps) r.source × IsComplete (Key placed c) n ps r.source.places
 
 abbrev pub StatementsEnd : Type 0
 StatementsEnd = (depth : ℕ) (placed : Bool) (c : Code) (n : ℕ) (ps : List Place) (t : Tree) (r : Stand Input) → Named ps → InOrder n ps
-    → (readers list_machine depth).stmt (alone c) (at_list n ps []) ≡ Ok (t, r) → IsComplete (Statement placed c) n ps r.source.places
+    → (readers list_machine depth).stmt (alone c) (at_list n ps []) ≡ Ok (t, r) → is_statement t ≡ true → Statement false c t (input_at n ps) r.source × IsComplete (Statement placed c) n ps r.source.places
 
 abbrev pub ListItemsEnd : Type 0
 ListItemsEnd = (depth : ℕ) (placed : Bool) (c : Code) (n : ℕ) (ps : List Place) (t : Tree) (r : Stand Input) → Named ps → InOrder n ps
-    → (readers list_machine depth).stmt (in_list c) (at_list n ps []) ≡ Ok (t, r) → IsComplete (ListItem placed c) n ps r.source.places
+    → (readers list_machine depth).stmt (in_list c) (at_list n ps []) ≡ Ok (t, r) → ListItem false c t (input_at n ps) r.source × IsComplete (ListItem placed c) n ps r.source.places
+
+-- At most one tree is derived from a complete front of a list in order, so what is read is the only one.
+abbrev pub OneFront : (Tree → Input → Input → Type 0) → Type 0
+OneFront P = (n : ℕ) (ps : List Place) (t u : Tree) (r o : Input) → InOrder n ps → P t (input_at n ps) r → P u (input_at n ps) o → IsComplete P n ps r.places → IsComplete P n ps o.places → (t ≡ u) × (r ≡ o)
+
+pub record OneOfEach (placed : Bool) (c : Code) : Type 0 where
+  pub expressions : (l : ℕ) → 1 ≤ l → l ≤ 2 → OneFront (Expression placed l c)
+  pub bindings : OneFront (Binding placed c)
+  pub keys : OneFront (Key placed c)
+  pub statements : OneFront (Statement placed c)
+  pub list_items : OneFront (ListItem placed c)
+
+abbrev pub FrontsAreOne : Type 0
+FrontsAreOne = (placed : Bool) (c : Code) → OneOfEach placed c
 
 -- What is derived up to a rest is derived before a closing brace in its place: the same front, with the tokens alone.
 abbrev pub Closing : List Place → List Place → Type 0

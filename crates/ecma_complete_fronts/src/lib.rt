@@ -1,7 +1,7 @@
 //! Laws of the grammar: what is read of a part of a program is a complete front of the list. The functions here are laws alone.
 #![tactic(auto)]
 
-ghost use Rattle.ecma_complete_fronts.specs.Laws.{BindingsEnd, CutsOff, ExpressionsEnd, KeysEnd, ListItemsEnd, StatementsEnd};
+ghost use Rattle.ecma_complete_fronts.specs.Laws.{BindingsEnd, CutsOff, ExpressionsEnd, FrontsAreOne, KeysEnd, ListItemsEnd, StatementsEnd};
 
 /// Law: a rest may be cut off. What is derived up to a rest is derived of the same front before a closing
 /// brace in its place.
@@ -10,8 +10,8 @@ pub fn cut_law()
     ensures spelled { CutsOff }
 {}
 
-/// Law: what is read of a list in order, as a part of a program, is a complete front: no longer one is
-/// derived of any list that begins with it and the next token.
+/// Law: what is read of a list in order, as a part of a program, is derived from a complete front: no longer
+/// one is derived of any list that begins with it and the next token.
 #[tactic(auto)]
 pub fn complete_law()
     ensures expressions { ExpressionsEnd }
@@ -19,4 +19,11 @@ pub fn complete_law()
     ensures keys { KeysEnd }
     ensures statements { StatementsEnd }
     ensures list_items { ListItemsEnd }
+{}
+
+/// Law: at most one tree is derived from a complete front of a list in order, and there is one such front at
+/// most. So what is read is the only one.
+#[tactic(auto)]
+pub fn one_law()
+    ensures fronts { FrontsAreOne }
 {}

@@ -2,7 +2,7 @@
 use Rattle.std.proofs.Common.{◌≡◌, ◌⊎◌, ◌≤◌, ◌+◌, ℕ, zero, suc, Bool, true, false, not, ◌&&◌, ◌||◌, ◌==◌, if◌then◌else◌, eqb, nat_le, nat_lt, List, [], ◌∷◌, ◌++◌, length, Result, Ok, Err, codes, bytes_eq, inl, inr, refl, sym, ap, ap₂, ◌∙◌, subst, true≢false, arith, eqb-true, le-leb}
 use Rattle.ecma_token.specs.Kinds.{end_kind, right_brace_kind, left_brace_kind, left_bracket_kind, left_paren_kind, dot_kind, back_quote_kind, comma_kind, question_mark_kind, arrow_kind, async_kind, regex_kind, plus_plus_kind, minus_minus_kind, assign_kind, mul_kind, from_kind, with_kind, div_kind}
 use Rattle.ecma_tree.specs.Tree.{Tree}
-use Rattle.ecma_syntax.specs.Input.{Place, Input, Code, kind, kind_of, kind2, brk, break_of, others, hi_of, text_in, is_word, has_in}
+use Rattle.ecma_syntax.specs.Input.{Place, Input, Code, kind, kind_of, kind2, brk, break_of, others, hi_of, text_in, is_word, always_reserved, operator_word, barred, has_in}
 use Rattle.ecma_syntax.specs.Operators.{expression_level, assignment_level, conditional_level, update_level, call_level, member_level, binary_level, is_assign_op, operates, between, may_name, starts_key, goes_expr, pauses, goes_on, closed_end, postfix_end, other_end, let_end, binding_end, key_end, accessor_end, static_end, exports_end, source_end}
 use Rattle.ecma_syntax.specs.Shape.{ends}
 use Rattle.ecma_reading.specs.Source.{Fault, Machine, Stand, list_machine, input, is_name}
@@ -134,7 +134,7 @@ ahead = record {
   live = Live;
   hands = Agree;
   ajar = λ s l. kind_of s.places ≡ question_mark_kind → dots l ≡ dots s.places;
-  waits = λ s l. break_of s.places ≡ false → is_word (kind_of s.places) ≡ true → heads l ≡ heads s.places;
+  waits = λ s l. break_of s.places ≡ false → may_name (kind_of s.places) ≡ true → heads l ≡ heads s.places;
 }
 
 -- ---- tests
@@ -192,9 +192,14 @@ param_same false b k t x y le h = refl
 param_same true true k t x y le h = refl
 param_same true false k t x y le h = ap (λ z. z && le) (h refl refl)
 
-param_told : (c : Code) (j : ℕ) (l v : List Place) → firsts 1 l ≡ firsts 1 v → (break_of v ≡ false → is_word (kind_of v) ≡ true → heads l ≡ heads v) → is_param c j l ≡ is_param c j (three v)
-param_told c j l v i h = by_first (λ l v. (break_of v ≡ false → is_word (kind_of v) ≡ true → heads l ≡ heads v) → is_param c j l ≡ is_param c j (three v)) (λ h. refl)
-    (λ p l v h. param_same (is_name lm c (on [] 0 (p ∷ l))) p.spot.line_break _ _ _ _ (nat_le j assignment_level) (λ n b. h b (and_left _ _ n) ∙ two_heads p v)) 0 l v i h
+named_word : (w r o b : Bool) → (w && (not (r || o) && not b)) ≡ true → (w && not r) ≡ true
+named_word true false o b e = refl
+named_word true true o b e = absurd (true≢false (sym e))
+named_word false r o b e = absurd (true≢false (sym e))
+
+param_told : (c : Code) (j : ℕ) (l v : List Place) → firsts 1 l ≡ firsts 1 v → (break_of v ≡ false → may_name (kind_of v) ≡ true → heads l ≡ heads v) → is_param c j l ≡ is_param c j (three v)
+param_told c j l v i h = by_first (λ l v. (break_of v ≡ false → may_name (kind_of v) ≡ true → heads l ≡ heads v) → is_param c j l ≡ is_param c j (three v)) (λ h. refl)
+    (λ p l v h. param_same (is_name lm c (on [] 0 (p ∷ l))) p.spot.line_break _ _ _ _ (nat_le j assignment_level) (λ n b. h b (named_word (is_word p.spot.token.kind) (always_reserved p.spot.token.kind) (operator_word c.context p.spot.token.kind) (barred c.context (record { last = 0; places = p ∷ l })) n) ∙ two_heads p v)) 0 l v i h
   where
     two_heads : (p : Place) (v : List Place) → heads (p ∷ v) ≡ heads (p ∷ two v)
     two_heads p [] = refl
@@ -280,7 +285,7 @@ token_less n p l v s e h = let z = three_first s.last s.places p v e in by_list 
     by_list (q ∷ l) i r o = (l, ap (λ z. head_or q z ∷ l) i, ap others i ∙ ap (λ u. firsts (suc n) (others u)) (sym (three_first s.last s.places p v e).1))
 
 shows_next : (p : Place) (l v : List Place) (s : Input) → three s.places ≡ p ∷ v → firsts 1 l ≡ firsts 1 (others s.places)
-    → (kind_of s.places ≡ question_mark_kind → dots (p ∷ l) ≡ dots s.places) × (break_of s.places ≡ false → is_word (kind_of s.places) ≡ true → heads (p ∷ l) ≡ heads s.places)
+    → (kind_of s.places ≡ question_mark_kind → dots (p ∷ l) ≡ dots s.places) × (break_of s.places ≡ false → may_name (kind_of s.places) ≡ true → heads (p ∷ l) ≡ heads s.places)
 shows_next p l v s e h = (λ o. by_first (λ l v. (kind_of l == dot_kind) ≡ (kind_of v == dot_kind)) refl (λ p l v. refl) 0 l (others s.places) h,
     λ o i. by_first (λ l v. ((kind_of l == arrow_kind) && not (break_of l)) ≡ ((kind_of v == arrow_kind) && not (break_of v))) refl (λ p l v. refl) 0 l (others s.places) h)
 
@@ -304,7 +309,7 @@ paired modular = record {
   goes = λ c e j l s a h k. goes_told c e j l s.places h k;
   param = λ c j p l v s a e k h o. param_told c j l (others s.places) h (o (named_first p v s.places a e k));
   pause = λ c e l s a h. pause_told c e l s.places h;
-  stops = λ c e l s a h p. (λ o k. absurd (true≢false (sym p ∙ no_pause c e s.places o k)), λ b k. absurd (no_word c e s.places b k p));
+  stops = λ c e l s a h p. (λ o k. absurd (true≢false (sym p ∙ no_pause c e s.places o k)), λ b k. absurd (no_word c e s.places b (and_left _ _ k) p));
 }
 
 -- ---- lists

@@ -2,8 +2,8 @@
 use Rattle.std.specs.Prelude.{◌≡◌, ℕ, Bool, true, false, not, ◌&&◌, ◌==◌, nat_le, List, [], ◌∷◌, ◌++◌, Result, Ok, codes, bytes_eq}
 use Rattle.ecma_token.specs.Kinds.{dot_kind, question_mark_kind, arrow_kind, async_kind}
 use Rattle.ecma_tree.specs.Tree.{Tree, Trees, none, more, ident, update_expr, unary_expr, await_expr, bin_expr, cond_expr, assign_expr, arrow_expr, yield_expr, seq_expr, new_expr, absent}
-use Rattle.ecma_syntax.specs.Input.{Place, Input, Code, kind_of, break_of, others, text_in, is_word}
-use Rattle.ecma_syntax.specs.Operators.{closed_end}
+use Rattle.ecma_syntax.specs.Input.{Place, Input, Code, kind_of, break_of, others, text_in}
+use Rattle.ecma_syntax.specs.Operators.{closed_end, may_name}
 use Rattle.ecma_syntax.specs.Shape.{ends}
 use Rattle.ecma_reading.specs.Source.{Fault, Stand, Read, list_machine}
 use Rattle.ecma_reading.specs.Expressions.{key_by, parameter_by, prop_by}
@@ -50,17 +50,17 @@ abbrev pub SameNext : Tree → List Place → List Place → Type 0
 SameNext t ps qs = one ps ≡ one qs
 
 -- After an expression also what follows that token is the same as far as it counts: where the token is `?`, and where the word `async` stands before
--- a word on its line.
+-- a word on its line that may be a name.
 pub record Instead (t : Tree) (ps qs : List Place) : Type 0 where
   pub next : one ps ≡ one qs
   pub question : nat_le closed_end (ends t) ≡ false → kind_of ps ≡ question_mark_kind → dots qs ≡ dots ps
-  pub word : nat_le closed_end (ends t) ≡ false → ends_async t ≡ true → break_of ps ≡ false → is_word (kind_of ps) ≡ true → heads qs ≡ heads ps
+  pub word : nat_le closed_end (ends t) ≡ false → ends_async t ≡ true → break_of ps ≡ false → may_name (kind_of ps) ≡ true → heads qs ≡ heads ps
 
 -- the same after whatever may end with an expression
 pub record InsteadOfAny (t : Tree) (ps qs : List Place) : Type 0 where
   pub next : one ps ≡ one qs
   pub question : kind_of ps ≡ question_mark_kind → dots qs ≡ dots ps
-  pub word : break_of ps ≡ false → is_word (kind_of ps) ≡ true → heads qs ≡ heads ps
+  pub word : break_of ps ≡ false → may_name (kind_of ps) ≡ true → heads qs ≡ heads ps
 
 -- a stand before a list
 abbrev pub at_list : ℕ → List Place → List ℕ → Stand Input
