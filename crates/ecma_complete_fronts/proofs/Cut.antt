@@ -295,8 +295,12 @@ module _ (r : Input) where
     take = λ c k ts t q h l. let z = taken {P = λ o. kind o ≡ k} ts t q h.2 l (first_kind ts.last ts.places q.places ∙ h.0) in (z.0, z.1, (z.2, tt, z.3));
     take_word = λ c k ts t q h l. let z = taken {P = λ o. (kind o ≡ k) × (barred c.context o ≡ false)} ts t q h.3 l (first_kind ts.last ts.places q.places ∙ h.0, first_same (λ v. barred c.context (input_at 0 v)) (λ x l v. refl) ts.places q.places ∙ h.1) in (z.0, z.1, (z.2.0, z.2.1, tt, z.3));
     take_any = λ c n ts t q h l. let z = taken {P = λ o. (is_word (kind o) ≡ true) × (text o ≡ n)} ts t q h.3 l (ap is_word (first_kind ts.last ts.places q.places) ∙ h.0, first_same (λ v. text (input_at 0 v)) (λ x l v. refl) ts.places q.places ∙ h.1) in (z.0, z.1, (z.2.0, z.2.1, tt, z.3));
-    take_name = λ c n ts t q h l. let z = taken {P = λ o. (is_word (kind o) ≡ true) × (no_name c.context (kind o) ≡ false) × (barred c.context o ≡ false) × (text o ≡ n)} ts t q h.5 l (ap is_word (first_kind ts.last ts.places q.places) ∙ h.0, ap (λ (k : ℕ). no_name c.context k) (first_kind ts.last ts.places q.places) ∙ h.1,
-        first_same (λ v. barred c.context (input_at 0 v)) (λ x l v. refl) ts.places q.places ∙ h.2, first_same (λ v. text (input_at 0 v)) (λ x l v. refl) ts.places q.places ∙ h.3) in (z.0, z.1, (z.2.0, z.2.1, z.2.2, z.2.3, tt, z.3));
+    take_name = λ c n ts t q h l. let z = taken {P = λ o. (is_word (kind o) ≡ true) × (no_name c.context (kind o) ≡ false) × (barred c.context o ≡ false) × (text o ≡ n)} ts t q h.5 l (
+      ap is_word (first_kind ts.last ts.places q.places) ∙ h.0,
+      ap (λ (k : ℕ). no_name c.context k) (first_kind ts.last ts.places q.places) ∙ h.1,
+      first_same (λ v. barred c.context (input_at 0 v)) (λ x l v. refl) ts.places q.places ∙ h.2,
+      first_same (λ v. text (input_at 0 v)) (λ x l v. refl) ts.places q.places ∙ h.3,
+    ) in (z.0, z.1, (z.2.0, z.2.1, z.2.2, z.2.3, tt, z.3));
     take_in = λ c g k n ts t q h l. let z = taken {P = λ o. kind o ≡ k} ts t q h.2 l (first_kind ts.last ts.places q.places ∙ h.0) in (z.0, z.1, (z.2, tt, z.3));
   }
     where

@@ -1,23 +1,26 @@
 -- What is read is a complete front: a longer one would be cut off behind itself and read whole, and reading it ends before the next token.
 use Rattle.std.proofs.Common.{◌≡◌, ◌<◌, ◌≤◌, ◌+◌, ◌⊎◌, ℕ, zero, suc, Bool, true, false, not, ◌&&◌, ◌||◌, ◌==◌, cond, eqb, nat_le, nat_lt, if◌then◌else◌, List, [], ◌∷◌, ◌++◌, length, append_assoc, Result, Ok, Err, inl, inr, refl, sym, ap, ap₂, ◌∙◌, subst, true≢false, arith, eqb-true, ltb-true, ltb-false}
 use Rattle.ecma_token.specs.Kinds.{template_kind, question_mark_kind, dot_kind, comma_kind, hash_kind, in_kind}
-use Rattle.ecma_tree.specs.Tree.{Tree}
+use Rattle.ecma_tree.specs.Tree.{Tree, none, more}
 use Rattle.ecma_nesting.specs.Nesting.{nesting}
-use Rattle.ecma_syntax.specs.Input.{Place, Input, Code, kind, kind_of, kind2, others, break_of, is_word, has_in, alone, in_list}
+use Rattle.ecma_syntax.specs.Input.{Place, Input, Code, kind, kind_of, kind2, break_of, is_word, has_in, alone, in_list, module_code}
 use Rattle.ecma_syntax.specs.Operators.{goes_expr, closed_end, postfix_end, other_end, is_assign_op, call_level, conditional_level, new_level, member_level, binary_level}
 use Rattle.ecma_syntax.specs.Shape.{level, ends, is_binding, is_key, is_statement, is_item, is_plain_function}
+use Rattle.ecma_grammar.specs.Parts.{is_module_item}
 use Rattle.ecma_grammar.specs.Grammar.{Spells}
 use Rattle.ecma_reading.specs.Source.{Fault, Unexpected, TooDeep, unexpected, ◌>>=◌, Stand, Read, list_machine, input, past, operand, at, bound, Step, go_on, finished, next_by, iterate_n, iterate, Inner}
 use Rattle.ecma_reading.specs.Expressions.{key_by, private_by, prefix_by, binary_by, step_by, loop_step, loop_by, private_in, expr_from, expr_by}
+use Rattle.ecma_reading.specs.Modules.{item_by}
 use Rattle.ecma_reading.specs.Reading.{readers}
 use Rattle.ecma_grammar_complete_base.specs.Laws.{coded, patterned, InOrder, Asked, Follow}
 use Rattle.ecma_grammar_complete_base.proofs.Yields.{lm, from, Fresh, After, Yields, Reads, Is}
 use Rattle.ecma_grammar_complete_base.proofs.Levels.{closed_by}
-use Rattle.ecma_grammar_complete_base.proofs.Trees.{size, reach}
+use Rattle.ecma_grammar_complete_base.proofs.Trees.{size, sizes, reach}
 use Rattle.ecma_grammar_complete_parts.proofs.Functions.{key_found}
-use Rattle.ecma_grammar_complete_parts.proofs.Nested.{may_follow}
 use Rattle.ecma_grammar_complete_parts.proofs.Within.{within}
-use Rattle.ecma_grammar_tied.proofs.Sizes.{inward, within_reach}
+use Rattle.ecma_grammar_complete_modules.proofs.Modules.{module_item}
+use Rattle.ecma_grammar_complete_modules.proofs.Sources.{in_module}
+use Rattle.ecma_grammar_tied.proofs.Sizes.{inward, within_reach, items_small, items_reach}
 use Rattle.ecma_grammar_tied.proofs.Tied.{complete}
 use Rattle.ecma_grammar_whole.specs.Laws.{Answered, Stands, Level, Bound}
 use Rattle.ecma_grammar_whole.proofs.WholeLemmas.{expressions_complete, patterns_complete}
@@ -26,15 +29,17 @@ use Rattle.ecma_grammar_laws.specs.Laws.{tokens, OfLevel}
 use Rattle.ecma_grammar_laws.proofs.Sure.{Sure}
 use Rattle.ecma_grammar_laws.proofs.Nested.{key_sure}
 use Rattle.ecma_grammar_laws.proofs.ByDepth.{all_sound}
+use Rattle.ecma_grammar_laws.proofs.Programs.{item_sure}
 use Rattle.ecma_grammar_laws.proofs.SoundLemmas.{expressions_sound, patterns_sound, statements_sound}
 use Rattle.ecma_grammar_steady.specs.Laws.{Keeps}
 use Rattle.ecma_grammar_steady.proofs.Agrees.{Agrees}
 use Rattle.ecma_grammar_steady.proofs.Expressions.{key_by_steady}
+use Rattle.ecma_grammar_steady.proofs.Modules.{item_by_steady}
 use Rattle.ecma_grammar_steady.proofs.SteadyLemmas.{readers_steady}
 use Rattle.ecma_sources.specs.Sources.{one}
 use Rattle.ecma_sources.specs.Ahead.{ends_async, Named, dots, heads, SameNext, Instead, at_list, ReadAhead}
 use Rattle.ecma_sources.proofs.Ahead.{cases, one_ahead}
-use Rattle.ecma_complete_fronts.specs.Laws.{input_at, EndsBefore, EndsAt, IsComplete, OneFront, FrontsAreOne, Expression, Binding, Key, Statement, ListItem, Settled, ExpressionsEnd, BindingsEnd, KeysEnd, StatementsEnd, ListItemsEnd}
+use Rattle.ecma_complete_fronts.specs.Laws.{input_at, EndsBefore, EndsAt, IsComplete, OneFront, FrontsAreOne, IsReadBefore, Whatever, Apart, FrontsAreRead, Expression, Binding, Key, Statement, ListItem, ModuleItem, Settled, ExpressionsEnd, BindingsEnd, KeysEnd, StatementsEnd, ListItemsEnd, ModuleItemsEnd}
 use Rattle.ecma_complete_fronts.proofs.Cut.{brace, closing, cuts_to}
 
 -- ---- lists
@@ -172,25 +177,25 @@ module _ (f : ℕ → Read Input Tree) (Q : Tree → List Place → List Place �
     (whole : (d n : ℕ) (ps : List Place) (t : Tree) (r : Input) → nesting t ≤ d → InOrder n ps → Q0 t (input_at n ps) (input_at r.last (closing r.places)) → IsRead (f d (at_list n ps [])) t (input_at r.last (closing r.places))) where
   ends_before : (d n : ℕ) (front : List Place) (q : Place) (ps : List Place) (t : Tree) (r : Stand Input) → r.source.places ≡ q ∷ ps → ((e : ℕ) → d ≤ e → (qs : List Place) → Q t r.source.places qs → f e (at_list n (front ++ qs) []) ≡ Ok (t, at_list r.source.last qs r.commas))
       → ((qs : List Place) → one r.source.places ≡ one qs → Q t r.source.places qs) → EndsBefore P n front q
-  ends_before d n front q ps t r i go rests more u o order h = by_length (nat_lt (length more) (length o.places)) refl
+  ends_before d n front q ps t r i go rests others u o order h = by_length (nat_lt (length others) (length o.places)) refl
     where
-      by_length : (b : Bool) → nat_lt (length more) (length o.places) ≡ b → length more < length o.places
-      by_length true j = ltb-true (length more) (length o.places) j
-      by_length false j = absurd (false_front (cut u n (front ++ q ∷ more) o h))
+      by_length : (b : Bool) → nat_lt (length others) (length o.places) ≡ b → length others < length o.places
+      by_length true j = ltb-true (length others) (length o.places) j
+      by_length false j = absurd (false_front (cut u n (front ++ q ∷ others) o h))
         where
-          short : length o.places < length (q ∷ more)
-          short = omega (arith, ltb-false (length more) (length o.places) j)
+          short : length o.places < length (q ∷ others)
+          short = omega (arith, ltb-false (length others) (length o.places) j)
 
           -- a longer front, cut off, is read whole and not
-          clash : (g e : List Place) → g ≡ front ++ e → q ∷ more ≡ e ++ o.places → Q0 u (input_at n (g ++ closing o.places)) (input_at o.last (closing o.places)) → InOrder n (g ++ closing o.places) → ⊥
+          clash : (g e : List Place) → g ≡ front ++ e → q ∷ others ≡ e ++ o.places → Q0 u (input_at n (g ++ closing o.places)) (input_at o.last (closing o.places)) → InOrder n (g ++ closing o.places) → ⊥
           clash g [] k v c w = omega (arith, short, ap (λ z. length z) v)
           clash g (x ∷ e) k v c w = let N = d + nesting u in let qs = x ∷ e ++ closing o.places in
               let a = go N (omega arith) qs (rests qs (ap one i ∙ ap (λ z. head_or q z ∷ []) v)) in
               let b = whole N n (g ++ closing o.places) u o (omega arith) w c in
               no_shorter (x ∷ e) (closing o.places) (omega arith) (sym (ap (λ z. rest_of [] z) (ap (λ z. f N (at_list n z [])) (ap (λ z. z ++ closing o.places) k ∙ append_assoc front (x ∷ e) (closing o.places)) ∙ a)) ∙ ap (λ z. rest_of [] z) b.1)
 
-          false_front : (g : List Place) × (front ++ q ∷ more ≡ g ++ o.places) × Q0 u (input_at n (g ++ closing o.places)) (input_at o.last (closing o.places)) → ⊥
-          false_front z = let e = split front (q ∷ more) z.0 o.places z.1 short in
+          false_front : (g : List Place) × (front ++ q ∷ others ≡ g ++ o.places) × Q0 u (input_at n (g ++ closing o.places)) (input_at o.last (closing o.places)) → ⊥
+          false_front z = let e = split front (q ∷ others) z.0 o.places z.1 short in
               clash z.0 e.0 e.1 e.2 z.2 (order_cut n z.0 o.places (subst (λ v. InOrder n v) z.1 order))
 
   pub completed : (d n : ℕ) (ps : List Place) (t : Tree) (r : Stand Input) → Named ps → f d (at_list n ps []) ≡ Ok (t, r) → ((qs : List Place) → one r.source.places ≡ one qs → Q t r.source.places qs) → IsComplete P n ps r.source.places
@@ -294,8 +299,11 @@ no_member l h = by_test (eqb l member_level) (λ e. eqb-true l member_level e)
 cut_expression : (placed : Bool) (l : ℕ) (c : Code) (t : Tree) (n : ℕ) (ps : List Place) (r : Input) → Expression placed l c t (input_at n ps) r → (front : List Place) × (ps ≡ front ++ r.places) × Expression false l c t (input_at n (front ++ closing r.places)) (input_at r.last (closing r.places))
 cut_expression placed l c t n ps r h = let z = cuts_to t (coded placed c) (input_at n ps) r h.1 in (z.0, z.1, (h.0, z.2))
 
+expression_is_read : (placed : Bool) (l : ℕ) → 1 ≤ l → l ≤ 2 → (c : Code) → IsReadBefore (λ t r. Follow c (ends t) l r) (λ d s. (readers lm d).expr c l s) (Expression placed l c)
+expression_is_read placed l a b c d n ps t r h o g w = read_of _ t r (d < nesting t) (λ i. omega (arith, i, h)) (expressions_complete d placed c l t (input_at n ps) r o (level_of l a b) (record { spelled = g.1; tight = g.0; follow = w }))
+
 whole_expression : (l : ℕ) → 1 ≤ l → l ≤ 2 → (c : Code) (d n : ℕ) (ps : List Place) (t : Tree) (r : Input) → nesting t ≤ d → InOrder n ps → Expression false l c t (input_at n ps) (input_at r.last (closing r.places)) → IsRead ((readers lm d).expr c l (at_list n ps [])) t (input_at r.last (closing r.places))
-whole_expression l a b c d n ps t r h o g = read_of _ t (input_at r.last (closing r.places)) (d < nesting t) (λ i. omega (arith, i, h)) (expressions_complete d false c l t (input_at n ps) (input_at r.last (closing r.places)) o (level_of l a b) (record { spelled = g.1; tight = g.0; follow = follow_by c (ends t) l r.last r.places a }))
+whole_expression l a b c d n ps t r h o g = expression_is_read false l a b c d n ps t (input_at r.last (closing r.places)) h o g (follow_by c (ends t) l r.last r.places a)
 
 of_level : (l : ℕ) (t : Tree) → l ≤ 2 → OfLevel l t → l ≤ level t
 of_level l t b (inl h) = h
@@ -304,65 +312,106 @@ of_level l t b (inr h) = absurd (omega (arith, b, h.0))
 pub expressions_end : ExpressionsEnd
 expressions_end depth placed c l n ps t r a b named order e settled =
     let quit = ltb-true (goes_expr c (ends t) r.source) l ((subst (λ z. Quit c l z) e (readers_quit c l depth (no_member l b) (at_list n ps []))).so) in
-    let sound = expressions_sound depth c l (at_list n ps []) t r a e in
-    ((of_level l t b sound.0, sound.1), completed (λ d s. (readers lm d).expr c l s) Instead (λ d. (one_ahead d c).expressions l) (λ d e h s x i. kept_answer _ _ x ((readers_steady lm d e h).expr c l s) i) (Expression placed l c) (Expression false l c) (cut_expression placed l c)
-    (whole_expression l a b c)
-    depth n ps t r named e
-    (λ qs i. record { next = i; question = λ o k. absurd (omega (arith, b, quit, question_goes c (ends t) r.source.last r.source.places o k)); word = λ o k m v. absurd (settled k m v) }), quit)
+    let sound = expressions_sound depth c l (at_list n ps []) t r a e in (
+      (of_level l t b sound.0, sound.1),
+      completed (λ d s. (readers lm d).expr c l s) Instead (λ d. (one_ahead d c).expressions l) (λ d e h s x i. kept_answer _ _ x ((readers_steady lm d e h).expr c l s) i) (Expression placed l c) (Expression false l c) (cut_expression placed l c)
+          (whole_expression l a b c)
+          depth n ps t r named e
+          (λ qs i. record { next = i; question = λ o k. absurd (omega (arith, b, quit, question_goes c (ends t) r.source.last r.source.places o k)); word = λ o k m v. absurd (settled k m v) }),
+      quit,
+    )
 
 -- ---- bindings, keys, statements
 
 cut_binding : (placed : Bool) (c : Code) (t : Tree) (n : ℕ) (ps : List Place) (r : Input) → Binding placed c t (input_at n ps) r → (front : List Place) × (ps ≡ front ++ r.places) × Binding false c t (input_at n (front ++ closing r.places)) (input_at r.last (closing r.places))
 cut_binding placed c t n ps r h = let z = cuts_to t (patterned placed c) (input_at n ps) r h.1 in (z.0, z.1, (h.0, z.2))
 
+binding_is_read : (placed : Bool) (c : Code) → IsReadBefore Whatever (λ d s. (readers lm d).pat c s) (Binding placed c)
+binding_is_read placed c d n ps t r h o g w = read_of _ t r (d < nesting t) (λ i. omega (arith, i, h)) (patterns_complete d placed c t (input_at n ps) r o (record { binding = g.0; spelled = g.1 }))
+
 whole_binding : (c : Code) (d n : ℕ) (ps : List Place) (t : Tree) (r : Input) → nesting t ≤ d → InOrder n ps → Binding false c t (input_at n ps) (input_at r.last (closing r.places)) → IsRead ((readers lm d).pat c (at_list n ps [])) t (input_at r.last (closing r.places))
-whole_binding c d n ps t r h o g = read_of _ t (input_at r.last (closing r.places)) (d < nesting t) (λ i. omega (arith, i, h)) (patterns_complete d false c t (input_at n ps) (input_at r.last (closing r.places)) o (record { binding = g.0; spelled = g.1 }))
+whole_binding c d n ps t r h o g = binding_is_read false c d n ps t (input_at r.last (closing r.places)) h o g tt
 
 pub bindings_end : BindingsEnd
-bindings_end depth placed c n ps t r named order e =
-    (patterns_sound depth c (at_list n ps []) t r e, completed (λ d s. (readers lm d).pat c s) SameNext (λ d. (one_ahead d c).bindings) (λ d e h s x i. kept_answer _ _ x ((readers_steady lm d e h).pat c s) i) (Binding placed c) (Binding false c) (cut_binding placed c)
-    (whole_binding c)
-    depth n ps t r named e (λ qs i. i))
+bindings_end depth placed c n ps t r named order e = (
+  patterns_sound depth c (at_list n ps []) t r e,
+  completed (λ d s. (readers lm d).pat c s) SameNext (λ d. (one_ahead d c).bindings) (λ d e h s x i. kept_answer _ _ x ((readers_steady lm d e h).pat c s) i) (Binding placed c) (Binding false c) (cut_binding placed c)
+      (whole_binding c)
+      depth n ps t r named e (λ qs i. i),
+)
 
 cut_key : (placed : Bool) (c : Code) (t : Tree) (n : ℕ) (ps : List Place) (r : Input) → Key placed c t (input_at n ps) r → (front : List Place) × (ps ≡ front ++ r.places) × Key false c t (input_at n (front ++ closing r.places)) (input_at r.last (closing r.places))
 cut_key placed c t n ps r h = let z = cuts_to t (coded placed c) (input_at n ps) r h.1 in (z.0, z.1, (h.0, z.2))
 
+key_is_read : (placed : Bool) (c : Code) → IsReadBefore Whatever (λ d s. key_by lm (readers lm d) c s) (Key placed c)
+key_is_read placed c d n ps t r h o g w = reads_of n ps _ t r (d < within reach t) (λ i. omega (arith, i, h, within_reach t, reach_nests t)) o (key_found (complete (suc (size t)) d) placed c t (input_at n ps) r [] g.0 (inward (suc (size t)) t (omega arith)) g.1)
+
 whole_key : (c : Code) (d n : ℕ) (ps : List Place) (t : Tree) (r : Input) → nesting t ≤ d → InOrder n ps → Key false c t (input_at n ps) (input_at r.last (closing r.places)) → IsRead (key_by lm (readers lm d) c (at_list n ps [])) t (input_at r.last (closing r.places))
-whole_key c d n ps t r h o g = reads_of n ps _ t (input_at r.last (closing r.places)) (d < within reach t) (λ i. omega (arith, i, h, within_reach t, reach_nests t)) o (key_found (complete (suc (size t)) d) false c t (input_at n ps) (input_at r.last (closing r.places)) [] g.0 (inward (suc (size t)) t (omega arith)) g.1)
+whole_key c d n ps t r h o g = key_is_read false c d n ps t (input_at r.last (closing r.places)) h o g tt
 
 pub keys_end : KeysEnd
-keys_end depth placed c n ps t r named order e =
-    ((subst (λ z. Sure [] z (λ x. (is_key x.0 ≡ true) × Spells x.0 (tokens c) (input_at n ps) (input lm x.1))) e (key_sure (readers lm depth) (all_sound depth) c (at_list n ps []))).so.1, completed (λ d s. key_by lm (readers lm d) c s) SameNext (λ d. (one_ahead d c).keys) (λ d e h s x i. kept_answer _ _ x (key_by_steady lm (readers lm d) (readers lm e) (readers_steady lm d e h) c s) i) (Key placed c) (Key false c) (cut_key placed c)
-    (whole_key c)
-    depth n ps t r named e (λ qs i. i))
+keys_end depth placed c n ps t r named order e = (
+  (subst (λ z. Sure [] z (λ x. (is_key x.0 ≡ true) × Spells x.0 (tokens c) (input_at n ps) (input lm x.1))) e (key_sure (readers lm depth) (all_sound depth) c (at_list n ps []))).so.1,
+  completed (λ d s. key_by lm (readers lm d) c s) SameNext (λ d. (one_ahead d c).keys) (λ d e h s x i. kept_answer _ _ x (key_by_steady lm (readers lm d) (readers lm e) (readers_steady lm d e h) c s) i) (Key placed c) (Key false c) (cut_key placed c)
+      (whole_key c)
+      depth n ps t r named e (λ qs i. i),
+)
 
-follows_by : (n : ℕ) (ps : List Place) → may_follow (kind (input_at n (closing ps))) ≡ true
-follows_by n [] = refl
-follows_by n (p ∷ ps) = refl
+follows_by : (t : Tree) (n : ℕ) (ps : List Place) → Apart t (input_at n (closing ps))
+follows_by t n [] = refl
+follows_by t n (p ∷ ps) = refl
 
 cut_statement : (placed : Bool) (c : Code) (t : Tree) (n : ℕ) (ps : List Place) (r : Input) → Statement placed c t (input_at n ps) r → (front : List Place) × (ps ≡ front ++ r.places) × Statement false c t (input_at n (front ++ closing r.places)) (input_at r.last (closing r.places))
 cut_statement placed c t n ps r h = let z = cuts_to t (coded placed (alone c)) (input_at n ps) r h.1 in (z.0, z.1, (h.0, z.2))
 
+statement_is_read : (placed : Bool) (c : Code) → IsReadBefore Apart (λ d s. (readers lm d).stmt (alone c) s) (Statement placed c)
+statement_is_read placed c d n ps t r h o g w = reads_of n ps _ t r (d < reach t) (λ i. omega (arith, i, h, reach_nests t)) o ((complete (suc (size t)) d).stmt t placed (alone c) (input_at n ps) r [] (omega arith) (ap (λ (b : Bool). b || is_plain_function t) g.0) g.1 (ap not w))
+
 whole_statement : (c : Code) (d n : ℕ) (ps : List Place) (t : Tree) (r : Input) → nesting t ≤ d → InOrder n ps → Statement false c t (input_at n ps) (input_at r.last (closing r.places)) → IsRead ((readers lm d).stmt (alone c) (at_list n ps [])) t (input_at r.last (closing r.places))
-whole_statement c d n ps t r h o g = reads_of n ps _ t (input_at r.last (closing r.places)) (d < reach t) (λ i. omega (arith, i, h, reach_nests t)) o ((complete (suc (size t)) d).stmt t false (alone c) (input_at n ps) (input_at r.last (closing r.places)) [] (omega arith) (ap (λ (b : Bool). b || is_plain_function t) g.0) g.1 (follows_by r.last r.places))
+whole_statement c d n ps t r h o g = statement_is_read false c d n ps t (input_at r.last (closing r.places)) h o g (follows_by t r.last r.places)
 
 pub statements_end : StatementsEnd
-statements_end depth placed c n ps t r named order e is =
-    ((is, (statements_sound depth (alone c) (at_list n ps []) t r e).1), completed (λ d s. (readers lm d).stmt (alone c) s) SameNext (λ d. (one_ahead d (alone c)).statements) (λ d e h s x i. kept_answer _ _ x ((readers_steady lm d e h).stmt (alone c) s) i) (Statement placed c) (Statement false c) (cut_statement placed c)
-    (whole_statement c)
-    depth n ps t r named e (λ qs i. i))
+statements_end depth placed c n ps t r named order e is = (
+  (is, (statements_sound depth (alone c) (at_list n ps []) t r e).1),
+  completed (λ d s. (readers lm d).stmt (alone c) s) SameNext (λ d. (one_ahead d (alone c)).statements) (λ d e h s x i. kept_answer _ _ x ((readers_steady lm d e h).stmt (alone c) s) i) (Statement placed c) (Statement false c) (cut_statement placed c)
+      (whole_statement c)
+      depth n ps t r named e (λ qs i. i),
+)
 
 cut_item : (placed : Bool) (c : Code) (t : Tree) (n : ℕ) (ps : List Place) (r : Input) → ListItem placed c t (input_at n ps) r → (front : List Place) × (ps ≡ front ++ r.places) × ListItem false c t (input_at n (front ++ closing r.places)) (input_at r.last (closing r.places))
 cut_item placed c t n ps r h = let z = cuts_to t (coded placed (in_list c)) (input_at n ps) r h.1 in (z.0, z.1, (h.0, z.2))
 
+item_is_read : (placed : Bool) (c : Code) → IsReadBefore Apart (λ d s. (readers lm d).stmt (in_list c) s) (ListItem placed c)
+item_is_read placed c d n ps t r h o g w = reads_of n ps _ t r (d < reach t) (λ i. omega (arith, i, h, reach_nests t)) o ((complete (suc (size t)) d).stmt t placed (in_list c) (input_at n ps) r [] (omega arith) g.0 g.1 (ap not w))
+
 whole_item : (c : Code) (d n : ℕ) (ps : List Place) (t : Tree) (r : Input) → nesting t ≤ d → InOrder n ps → ListItem false c t (input_at n ps) (input_at r.last (closing r.places)) → IsRead ((readers lm d).stmt (in_list c) (at_list n ps [])) t (input_at r.last (closing r.places))
-whole_item c d n ps t r h o g = reads_of n ps _ t (input_at r.last (closing r.places)) (d < reach t) (λ i. omega (arith, i, h, reach_nests t)) o ((complete (suc (size t)) d).stmt t false (in_list c) (input_at n ps) (input_at r.last (closing r.places)) [] (omega arith) g.0 g.1 (follows_by r.last r.places))
+whole_item c d n ps t r h o g = item_is_read false c d n ps t (input_at r.last (closing r.places)) h o g (follows_by t r.last r.places)
 
 pub list_items_end : ListItemsEnd
-list_items_end depth placed c n ps t r named order e =
-    (statements_sound depth (in_list c) (at_list n ps []) t r e, completed (λ d s. (readers lm d).stmt (in_list c) s) SameNext (λ d. (one_ahead d (in_list c)).statements) (λ d e h s x i. kept_answer _ _ x ((readers_steady lm d e h).stmt (in_list c) s) i) (ListItem placed c) (ListItem false c) (cut_item placed c)
-    (whole_item c)
-    depth n ps t r named e (λ qs i. i))
+list_items_end depth placed c n ps t r named order e = (
+  statements_sound depth (in_list c) (at_list n ps []) t r e,
+  completed (λ d s. (readers lm d).stmt (in_list c) s) SameNext (λ d. (one_ahead d (in_list c)).statements) (λ d e h s x i. kept_answer _ _ x ((readers_steady lm d e h).stmt (in_list c) s) i) (ListItem placed c) (ListItem false c) (cut_item placed c)
+      (whole_item c)
+      depth n ps t r named e (λ qs i. i),
+)
+
+cut_module_item : (placed : Bool) (c : Code) (t : Tree) (n : ℕ) (ps : List Place) (r : Input) → ModuleItem placed c t (input_at n ps) r → (front : List Place) × (ps ≡ front ++ r.places) × ModuleItem false c t (input_at n (front ++ closing r.places)) (input_at r.last (closing r.places))
+cut_module_item placed c t n ps r h = let z = cuts_to t (coded placed (in_list c)) (input_at n ps) r h.1 in (z.0, z.1, (h.0, z.2))
+
+module_item_is_read : (placed : Bool) (c : Code) → IsReadBefore Apart (λ d s. item_by lm (readers lm d) true (in_list c) s) (ModuleItem placed c)
+module_item_is_read placed c d n ps t r h o g w = reads_of n ps _ t r (d < in_module reach t) (λ i. omega (arith, i, h, items_reach (more t none), reach_nests t)) o
+    (module_item (complete (suc (sizes (more t none))) d) placed t c (input_at n ps) r [] g.0 (items_small (suc (sizes (more t none))) (more t none) (omega arith)).0 g.1 (ap not w))
+
+whole_module_item : (c : Code) (d n : ℕ) (ps : List Place) (t : Tree) (r : Input) → nesting t ≤ d → InOrder n ps → ModuleItem false c t (input_at n ps) (input_at r.last (closing r.places)) → IsRead (item_by lm (readers lm d) true (in_list c) (at_list n ps [])) t (input_at r.last (closing r.places))
+whole_module_item c d n ps t r h o g = module_item_is_read false c d n ps t (input_at r.last (closing r.places)) h o g (follows_by t r.last r.places)
+
+pub module_items_end : ModuleItemsEnd
+module_items_end depth placed syntax n ps t r named order e = let c = in_list (module_code syntax) in (
+  (subst (λ z. Sure [] z (λ x. (is_module_item x.0 ≡ true) × Spells x.0 (tokens c) (input_at n ps) (input lm x.1))) e (item_sure (readers lm depth) (all_sound depth) true (module_code syntax) (at_list n ps []))).so.1,
+  completed (λ d s. item_by lm (readers lm d) true c s) SameNext (λ d. (one_ahead d c).items) (λ d e h s x i. kept_answer _ _ x (item_by_steady lm (readers lm d) (readers lm e) (readers_steady lm d e h) true c s) i) (ModuleItem placed (module_code syntax)) (ModuleItem false (module_code syntax)) (cut_module_item placed (module_code syntax))
+      (whole_module_item (module_code syntax))
+      depth n ps t r named e (λ qs i. i),
+)
 
 -- ---- one of each
 
@@ -373,4 +422,17 @@ fronts_are_one placed c = record {
   keys = one_front (λ d s. key_by lm (readers lm d) c s) (Key placed c) (Key false c) (cut_key placed c) (whole_key c);
   statements = one_front (λ d s. (readers lm d).stmt (alone c) s) (Statement placed c) (Statement false c) (cut_statement placed c) (whole_statement c);
   list_items = one_front (λ d s. (readers lm d).stmt (in_list c) s) (ListItem placed c) (ListItem false c) (cut_item placed c) (whole_item c);
+  module_items = one_front (λ d s. item_by lm (readers lm d) true (in_list c) s) (ModuleItem placed c) (ModuleItem false c) (cut_module_item placed c) (whole_module_item c);
+}
+
+-- ---- each is read
+
+pub fronts_are_read : FrontsAreRead
+fronts_are_read placed c = record {
+  expressions = λ l a b. expression_is_read placed l a b c;
+  bindings = binding_is_read placed c;
+  keys = key_is_read placed c;
+  statements = statement_is_read placed c;
+  list_items = item_is_read placed c;
+  module_items = module_item_is_read placed c;
 }

@@ -1,14 +1,19 @@
 -- What is read of a part is a complete front: no longer front is derived of any list in order that begins with it and the next token.
-use Rattle.std.specs.Prelude.{◌≡◌, ◌≤◌, ◌<◌, ℕ, Bool, true, false, List, [], ◌∷◌, ◌++◌, length, Ok}
+use Rattle.std.specs.Prelude.{◌≡◌, ◌≤◌, ◌<◌, ℕ, Bool, true, false, ◌||◌, ◌==◌, List, [], ◌∷◌, ◌++◌, length, Ok}
+use Rattle.ecma_token.specs.declared.syntax.EsSyntax.{EsSyntax}
+use Rattle.ecma_token.specs.Kinds.{finally_kind, colon_kind}
 use Rattle.ecma_tree.specs.Tree.{Tree}
-use Rattle.ecma_syntax.specs.Input.{Place, Input, Code, kind_of, break_of, alone, in_list}
+use Rattle.ecma_nesting.specs.Nesting.{nesting}
+use Rattle.ecma_syntax.specs.Input.{Place, Input, Code, kind, kind_of, break_of, alone, in_list, module_code}
 use Rattle.ecma_syntax.specs.Operators.{goes_expr, may_name}
 use Rattle.ecma_syntax.specs.Shape.{level, ends, is_binding, is_key, is_statement, is_item}
+use Rattle.ecma_grammar.specs.Parts.{is_module_item}
 use Rattle.ecma_grammar.specs.Grammar.{Spells}
-use Rattle.ecma_reading.specs.Source.{Stand, list_machine}
+use Rattle.ecma_reading.specs.Source.{Stand, Read, list_machine}
 use Rattle.ecma_reading.specs.Expressions.{key_by}
+use Rattle.ecma_reading.specs.Modules.{item_by}
 use Rattle.ecma_reading.specs.Reading.{readers}
-use Rattle.ecma_grammar_complete_base.specs.Laws.{coded, patterned, InOrder}
+use Rattle.ecma_grammar_complete_base.specs.Laws.{coded, patterned, InOrder, Follow}
 use Rattle.ecma_sources.specs.Ahead.{ends_async, Named, at_list}
 
 -- ---- complete fronts
@@ -48,6 +53,10 @@ Statement placed c t ts r = (is_statement t ≡ true) × Spells t (coded placed 
 abbrev pub ListItem : Bool → Code → Tree → Input → Input → Type 0
 ListItem placed c t ts r = (is_item t ≡ true) × Spells t (coded placed (in_list c)) ts r
 
+-- ModuleItem (16.2)
+abbrev pub ModuleItem : Bool → Code → Tree → Input → Input → Type 0
+ModuleItem placed c t ts r = (is_module_item t ≡ true) × Spells t (coded placed (in_list c)) ts r
+
 -- ---- the laws
 
 -- The word `async` ends no tree before a word on its line that may be a name.
@@ -76,6 +85,11 @@ abbrev pub ListItemsEnd : Type 0
 ListItemsEnd = (depth : ℕ) (placed : Bool) (c : Code) (n : ℕ) (ps : List Place) (t : Tree) (r : Stand Input) → Named ps → InOrder n ps
     → (readers list_machine depth).stmt (in_list c) (at_list n ps []) ≡ Ok (t, r) → ListItem false c t (input_at n ps) r.source × IsComplete (ListItem placed c) n ps r.source.places
 
+-- an item of a module
+abbrev pub ModuleItemsEnd : Type 0
+ModuleItemsEnd = (depth : ℕ) (placed : Bool) (syntax : EsSyntax) (n : ℕ) (ps : List Place) (t : Tree) (r : Stand Input) → Named ps → InOrder n ps
+    → item_by list_machine (readers list_machine depth) true (in_list (module_code syntax)) (at_list n ps []) ≡ Ok (t, r) → ModuleItem false (module_code syntax) t (input_at n ps) r.source × IsComplete (ModuleItem placed (module_code syntax)) n ps r.source.places
+
 -- At most one tree is derived from a complete front of a list in order, so what is read is the only one.
 abbrev pub OneFront : (Tree → Input → Input → Type 0) → Type 0
 OneFront P = (n : ℕ) (ps : List Place) (t u : Tree) (r o : Input) → InOrder n ps → P t (input_at n ps) r → P u (input_at n ps) o → IsComplete P n ps r.places → IsComplete P n ps o.places → (t ≡ u) × (r ≡ o)
@@ -86,9 +100,32 @@ pub record OneOfEach (placed : Bool) (c : Code) : Type 0 where
   pub keys : OneFront (Key placed c)
   pub statements : OneFront (Statement placed c)
   pub list_items : OneFront (ListItem placed c)
+  pub module_items : OneFront (ModuleItem placed c)
 
 abbrev pub FrontsAreOne : Type 0
 FrontsAreOne = (placed : Bool) (c : Code) → OneOfEach placed c
+
+-- What is derived from a front of a list in order, before such a rest, is read of it, at every depth of at least its nesting.
+abbrev pub IsReadBefore : (Tree → Input → Type 0) → (ℕ → Read Input Tree) → (Tree → Input → Input → Type 0) → Type 0
+IsReadBefore Before f P = (depth n : ℕ) (ps : List Place) (t : Tree) (r : Input) → nesting t ≤ depth → InOrder n ps → P t (input_at n ps) r → Before t r → (commas : List ℕ) × (f depth (at_list n ps []) ≡ Ok (t, record { source = r; commas = commas }))
+
+abbrev pub Whatever : Tree → Input → Type 0
+Whatever t r = Unit {0}
+
+-- neither `finally` nor a colon, with which a statement may go on
+abbrev pub Apart : Tree → Input → Type 0
+Apart t r = ((kind r == finally_kind) || (kind r == colon_kind)) ≡ false
+
+pub record EachIsRead (placed : Bool) (c : Code) : Type 0 where
+  pub expressions : (l : ℕ) → 1 ≤ l → l ≤ 2 → IsReadBefore (λ t r. Follow c (ends t) l r) (λ d s. (readers list_machine d).expr c l s) (Expression placed l c)
+  pub bindings : IsReadBefore Whatever (λ d s. (readers list_machine d).pat c s) (Binding placed c)
+  pub keys : IsReadBefore Whatever (λ d s. key_by list_machine (readers list_machine d) c s) (Key placed c)
+  pub statements : IsReadBefore Apart (λ d s. (readers list_machine d).stmt (alone c) s) (Statement placed c)
+  pub list_items : IsReadBefore Apart (λ d s. (readers list_machine d).stmt (in_list c) s) (ListItem placed c)
+  pub module_items : IsReadBefore Apart (λ d s. item_by list_machine (readers list_machine d) true (in_list c) s) (ModuleItem placed c)
+
+abbrev pub FrontsAreRead : Type 0
+FrontsAreRead = (placed : Bool) (c : Code) → EachIsRead placed c
 
 -- What is derived up to a rest is derived before a closing brace in its place: the same front, with the tokens alone.
 abbrev pub Closing : List Place → List Place → Type 0

@@ -1,7 +1,7 @@
 //! Laws of the grammar: what is read of a part of a program is a complete front of the list. The functions here are laws alone.
 #![tactic(auto)]
 
-ghost use Rattle.ecma_complete_fronts.specs.Laws.{BindingsEnd, CutsOff, ExpressionsEnd, FrontsAreOne, KeysEnd, ListItemsEnd, StatementsEnd};
+ghost use Rattle.ecma_complete_fronts.specs.Laws.{BindingsEnd, CutsOff, ExpressionsEnd, FrontsAreOne, FrontsAreRead, KeysEnd, ListItemsEnd, ModuleItemsEnd, StatementsEnd};
 
 /// Law: a rest may be cut off. What is derived up to a rest is derived of the same front before a closing
 /// brace in its place.
@@ -19,6 +19,7 @@ pub fn complete_law()
     ensures keys { KeysEnd }
     ensures statements { StatementsEnd }
     ensures list_items { ListItemsEnd }
+    ensures module_items { ModuleItemsEnd }
 {}
 
 /// Law: at most one tree is derived from a complete front of a list in order, and there is one such front at
@@ -26,4 +27,12 @@ pub fn complete_law()
 #[tactic(auto)]
 pub fn one_law()
     ensures fronts { FrontsAreOne }
+{}
+
+/// Law: what is derived from a front of a list in order is read of it, at every depth of at least its nesting:
+/// bindings and keys before whatever follows, statements and items before all but `finally` and a colon,
+/// expressions before what the law of completeness asks.
+#[tactic(auto)]
+pub fn read_law()
+    ensures fronts { FrontsAreRead }
 {}

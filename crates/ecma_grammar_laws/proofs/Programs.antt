@@ -276,7 +276,7 @@ module _ (inner : Inner Input) (good : Sound inner) where
   or_left true b e = refl
   or_left false b e = absurd (true≢false (sym e))
 
-  item_sure : (modules : Bool) (c : Code) (s : Stand Input) → Sure s.commas (item_by lm inner modules (in_list c) s) (λ x. (May modules x.0 ≡ true) × Spells x.0 (plain (in_list c)) (seen s) (seen x.1))
+  pub item_sure : (modules : Bool) (c : Code) (s : Stand Input) → Sure s.commas (item_by lm inner modules (in_list c) s) (λ x. (May modules x.0 ≡ true) × Spells x.0 (plain (in_list c)) (seen s) (seen x.1))
   unfolding item_by
   item_sure true c s = if_sure s.commas (starts_import lm inner s) _ _ _ (λ _. sure_map s.commas (import_decl_by lm inner (in_list c) s) _ _ (import_sure (in_list c) s) (λ x h. (or_right (is_item x.0) (is_module_decl x.0) h.0, h.1))) (λ _.
       test_sure s.commas (kind (seen s)) export_kind _ _ _ (λ _. sure_map s.commas (export_by lm inner (in_list c) s) _ _ (export_sure (in_list c) s) (λ x h. (or_right (is_item x.0) (is_module_decl x.0) h.0, h.1))) (λ _.

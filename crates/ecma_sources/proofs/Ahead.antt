@@ -286,8 +286,10 @@ token_less n p l v s e h = let z = three_first s.last s.places p v e in by_list 
 
 shows_next : (p : Place) (l v : List Place) (s : Input) → three s.places ≡ p ∷ v → firsts 1 l ≡ firsts 1 (others s.places)
     → (kind_of s.places ≡ question_mark_kind → dots (p ∷ l) ≡ dots s.places) × (break_of s.places ≡ false → may_name (kind_of s.places) ≡ true → heads (p ∷ l) ≡ heads s.places)
-shows_next p l v s e h = (λ o. by_first (λ l v. (kind_of l == dot_kind) ≡ (kind_of v == dot_kind)) refl (λ p l v. refl) 0 l (others s.places) h,
-    λ o i. by_first (λ l v. ((kind_of l == arrow_kind) && not (break_of l)) ≡ ((kind_of v == arrow_kind) && not (break_of v))) refl (λ p l v. refl) 0 l (others s.places) h)
+shows_next p l v s e h = (
+  λ o. by_first (λ l v. (kind_of l == dot_kind) ≡ (kind_of v == dot_kind)) refl (λ p l v. refl) 0 l (others s.places) h,
+  λ o i. by_first (λ l v. ((kind_of l == arrow_kind) && not (break_of l)) ≡ ((kind_of v == arrow_kind) && not (break_of v))) refl (λ p l v. refl) 0 l (others s.places) h,
+)
 
 named_first : (p : Place) (v l : List Place) → Named l → three l ≡ p ∷ v → p.spot.token.kind ≡ async_kind → bytes_eq (text_in p.spot.token.content) (codes "async") ≡ true
 named_first p v [] a e k = absurd (true≢false (ap (λ z. is_nil z) e))
@@ -329,9 +331,11 @@ module _ (E : Tree → ℕ) (b : Bool) (Q : Tree → List Place → List Place �
     where
       by_path : (u : Path glimpse ahead (at_list n ps commas) r) × Moved glimpse ahead b u × ((qs : List Place) → Agree 0 qs r.source → Good glimpse ahead (E t) r qs → Good glimpse ahead closed_end (at_list n ps commas) (u.back qs) × (f (at_list n (u.back qs) commas) ≡ Ok (t, at_list r.source.last qs r.commas)))
           → (front : List Place) × (ps ≡ front ++ r.source.places) × ((qs : List Place) → Q t r.source.places qs → f (at_list n (front ++ qs) commas) ≡ Ok (t, at_list r.source.last qs r.commas))
-      by_path z = let u = z.0 in let l = r.source.places in let many = length ps + length (u.back l) in
-          (u.front, sym (firsts_all (suc (u.took + many)) ps (omega arith)) ∙ (sym (u.ahead many l refl) ∙ (firsts_all (suc (u.took + many)) (u.back l) (omega arith) ∙ u.grown l)),
-          λ qs o. let k = q t r qs o in ap (λ v. f (at_list n v commas)) (sym (u.grown qs)) ∙ (z.2 qs k.0 k.1).1)
+      by_path z = let u = z.0 in let l = r.source.places in let many = length ps + length (u.back l) in (
+        u.front,
+        sym (firsts_all (suc (u.took + many)) ps (omega arith)) ∙ (sym (u.ahead many l refl) ∙ (firsts_all (suc (u.took + many)) (u.back l) (omega arith) ∙ u.grown l)),
+        λ qs o. let k = q t r qs o in ap (λ v. f (at_list n v commas)) (sym (u.grown qs)) ∙ (z.2 qs k.0 k.1).1,
+      )
 
 -- what is asked of the rest that stands there instead
 next_agrees : (r : Stand Input) (qs : List Place) → one r.source.places ≡ one qs → Agree 0 qs r.source

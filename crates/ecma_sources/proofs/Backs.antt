@@ -402,10 +402,11 @@ module _ {S : Type 0} {m : Machine S} {Live : Pairing m} {modular : Bool} (w : P
   plain_left false b e = absurd (true≢false (sym e))
 
   word_test : (j : ℕ) (x : Context) → Plain j → (s : Stand S) → Live.live s.source → (qs : List Place) → Live.hands 0 qs s.source → (at lm j (list_at m Live s qs) && not (barred x (input lm (list_at m Live s qs)))) ≡ (at m j s && not (barred x (input m s)))
-  word_test j x e s l qs h = agrees (λ z. at lm j (on [] 0 z) && not (barred x (input lm (on [] 0 z))))
-      (λ p q l v. ap (λ b. b && not (barred x (input lm (on [] 0 (regexp p ∷ l))))) e.0 ∙ sym (ap (λ b. b && not (barred x (input lm (on [] 0 (slash true p q ∷ v))))) e.1),
-      λ p q l v. ap (λ b. b && not (barred x (input lm (on [] 0 (regexp p ∷ l))))) e.0 ∙ sym (ap (λ b. b && not (barred x (input lm (on [] 0 (slash false p q ∷ v))))) e.2),
-      λ p l v. refl) s l qs h
+  word_test j x e s l qs h = agrees (λ z. at lm j (on [] 0 z) && not (barred x (input lm (on [] 0 z)))) (
+    λ p q l v. ap (λ b. b && not (barred x (input lm (on [] 0 (regexp p ∷ l))))) e.0 ∙ sym (ap (λ b. b && not (barred x (input lm (on [] 0 (slash true p q ∷ v))))) e.1),
+    λ p q l v. ap (λ b. b && not (barred x (input lm (on [] 0 (regexp p ∷ l))))) e.0 ∙ sym (ap (λ b. b && not (barred x (input lm (on [] 0 (slash false p q ∷ v))))) e.2),
+    λ p l v. refl,
+  ) s l qs h
 
   pub back_word : {A : Type 0} {E : A → ℕ} {e : ℕ} {b : Bool} {s : Stand S} (c : Code) (j : ℕ) → Plain j → eqb error_kind j ≡ false → Live.live s.source → (g : Stand S → Result (A × Stand S) Fault) (f : Stand Input → Stand Input → Result (A × Stand Input) Fault)
       → ((i : Here m Live s) → Backed m Live E b closed_end (past m s) (g (past m s)) (λ q. f (was m Live (token i) q) q)) → Backed m Live E true e s (eat_word m c j s >>= g) (λ r. eat_word lm c j r >>= f r)

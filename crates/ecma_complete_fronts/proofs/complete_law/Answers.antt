@@ -1,4 +1,4 @@
-use Rattle.ecma_complete_fronts.proofs.Fronts.{expressions_end, bindings_end, keys_end, statements_end, list_items_end}
+use Rattle.ecma_complete_fronts.proofs.Fronts.{expressions_end, bindings_end, keys_end, statements_end, list_items_end, module_items_end}
 use Rattle.ecma_complete_fronts.proofs.complete_law.Goals as goal
 
 pub returns-clause-expressions : goal.returns-clause-expressions
@@ -15,3 +15,6 @@ returns-clause-statements c = statements_end
 
 pub returns-clause-list_items : goal.returns-clause-list_items
 returns-clause-list_items c = list_items_end
+
+pub returns-clause-module_items : goal.returns-clause-module_items
+returns-clause-module_items c = module_items_end
