@@ -5,12 +5,15 @@ nothing. All tests go on together, so that what they ask is asked in batches, as
 """
 import concurrent.futures
 import os
+import resource
 import subprocess
 from typing import NamedTuple
 
 # how long a batch may take, and the seconds for one run of the command line
 BATCH_SECONDS, RUN_SECONDS = 100, 30
 PROCESSORS = len(os.sched_getaffinity(0))
+# the stack of the programs, as `ecma-front` asks for it
+STACK = 16 << 20
 
 
 class Wrong(Exception):
@@ -81,6 +84,14 @@ def answer_of(line):
     if word == b"ok":
         return [unescape(it) for it in fields]
     return Refused(unescape(b"\t".join(fields)).decode(errors="replace") or "no answer")
+
+
+def give_room():
+    """Gives the programs the stack that `ecma-front` gives, or as much as the system does."""
+    own, most = resource.getrlimit(resource.RLIMIT_STACK)
+    room = STACK if most == resource.RLIM_INFINITY else min(STACK, most)
+    if own != resource.RLIM_INFINITY and own < room:
+        resource.setrlimit(resource.RLIMIT_STACK, (room, most))
 
 
 def ask_batch(path, questions):
