@@ -1,3 +1,4 @@
+// Written by tools/tree/build.py from tools/tree/tree.table. Don't edit this file.
 //! Makes patterns.
 ghost use Rattle.std.specs.Prelude.{◌≡◌};
 ghost use Rattle.std.specs.Prelude.{All, IfOk};

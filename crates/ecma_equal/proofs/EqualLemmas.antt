@@ -1,3 +1,4 @@
+-- Written by tools/tree/equal.py from tools/tree/tree.table. Don't edit this file.
 -- That the test of equality is one.
 use Rattle.std.proofs.Common.{◌≡◌, ◌∙◌, ℕ, Bool, true, false, ◌&&◌, nat_eq, List, Option, Some, None, bytes_eq, refl, ap}
 use Rattle.std.specs.Ordering.{int_eq}

@@ -1,3 +1,4 @@
+-- Written by tools/tree/equal.py from tools/tree/tree.table. Don't edit this file.
 -- Whether two trees are equal, as a test: kind by kind, and field by field.
 use Rattle.std.specs.Prelude.{ℕ, Bool, true, false, ◌&&◌, nat_eq, List, Option, Some, None, bytes_eq}
 use Rattle.std.specs.Ordering.{int_eq}

@@ -1,3 +1,4 @@
+// Written by tools/tree/goal.py from tools/tree/tree.table. Don't edit this file.
 //! What tells of a module in declarations (ECMA-262, 14.3, 15.2 and 15.7).
 ghost use Rattle.ecma_node.specs.View.{view_decl, view_class_decl, view_var_decl, view_using_decl, view_var_declarator};
 

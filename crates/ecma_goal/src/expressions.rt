@@ -1,3 +1,4 @@
+// Written by tools/tree/goal.py from tools/tree/tree.table. Don't edit this file.
 //! What tells of a module in expressions (ECMA-262, clause 13).
 ghost use Rattle.ecma_node.specs.View.{view_expr_kind, view_array_lit, view_object_lit, view_unary_expr, view_update_expr, view_bin_expr, view_assign_expr, view_member_expr, view_super_prop_expr, view_cond_expr, view_call_expr, view_new_expr, view_seq_expr, view_tpl, view_tagged_tpl, view_class_expr, view_yield_expr, view_paren_expr, view_opt_chain_expr, view_opt_call, view_expr_or_spread, view_spread_element, view_callee, view_member_prop, view_super_prop, view_opt_chain_base};
 

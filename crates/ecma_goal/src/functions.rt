@@ -1,3 +1,4 @@
+// Written by tools/tree/goal.py from tools/tree/tree.table. Don't edit this file.
 //! What tells of a module in functions, classes and keys (ECMA-262, clause 15).
 ghost use Rattle.ecma_node.specs.View.{view_param, view_decorator, view_class, view_class_member, view_constructor, view_class_method, view_class_prop, view_private_prop, view_static_block, view_auto_accessor, view_key, view_prop_name, view_computed_prop_name};
 

@@ -1,3 +1,4 @@
+// Written by tools/tree/goal.py from tools/tree/tree.table. Don't edit this file.
 //! What tells of a module in statements (ECMA-262, clause 14).
 ghost use Rattle.ecma_node.specs.View.{view_stmt_kind, view_block_stmt, view_with_stmt, view_return_stmt, view_labeled_stmt, view_if_stmt, view_switch_stmt, view_switch_case, view_throw_stmt, view_try_stmt, view_catch_clause, view_while_stmt, view_do_while_stmt, view_for_stmt, view_for_in_stmt, view_for_of_stmt, view_expr_stmt, view_var_decl_or_expr, view_for_head};
 

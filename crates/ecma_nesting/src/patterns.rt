@@ -1,3 +1,4 @@
+// Written by tools/tree/nesting.py from tools/tree/tree.table. Don't edit this file.
 //! How deep patterns (ECMA-262, 13.15.5 and 14.3.3) go.
 ghost use Rattle.ecma_node.specs.View.{view_pat_kind, view_binding_ident, view_array_pat, view_rest_pat, view_object_pat, view_assign_pat, view_object_pat_prop, view_key_value_pat_prop, view_assign_pat_prop, view_assign_target};
 

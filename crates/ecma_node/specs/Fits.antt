@@ -1,3 +1,4 @@
+-- Written by tools/tree/node_types.py from tools/tree/tree.table. Don't edit this file.
 -- Which trees of the code are well made: each child is of the sort of its place.
 use Rattle.std.specs.Prelude.{All, Option, Some, None}
 use Rattle.ecma_node.specs.Placed.{Placed, holds_expr, holds_stmt, holds_pat}

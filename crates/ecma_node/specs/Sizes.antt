@@ -1,3 +1,4 @@
+-- Written by tools/tree/node_types.py from tools/tree/tree.table. Don't edit this file.
 -- That each part of a tree is smaller than the tree, for recursion over the code's tree. The names of
 -- weights count the types below `kind`.
 use Rattle.std.specs.Prelude.{ℕ, ◌+◌, ◌≤◌, List, [], ◌∷◌, Option, Some, None}

@@ -1,3 +1,4 @@
+-- Written by tools/tree/node_types.py from tools/tree/tree.table. Don't edit this file.
 -- What contracts see of the code's tree: the spec tree. `f` is what stands for a child's part.
 use Rattle.std.specs.Prelude.{ℕ}
 use Rattle.ecma_token.specs.Kinds.{add_kind, bang_kind, const_kind, delete_kind, get_kind, import_kind, let_kind, minus_minus_kind, new_kind, plus_plus_kind, set_kind, sub_kind, tilde_kind, typeof_kind, var_kind, void_kind}

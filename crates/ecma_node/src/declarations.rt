@@ -1,3 +1,4 @@
+// Written by tools/tree/node_types.py from tools/tree/tree.table. Don't edit this file.
 //! Declarations (ECMA-262, 14.3, 15.2 and 15.7).
 use crate::expressions::Ident;
 use crate::functions::{ClassOf, FunctionOf};

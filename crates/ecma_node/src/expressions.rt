@@ -1,3 +1,4 @@
+// Written by tools/tree/node_types.py from tools/tree/tree.table. Don't edit this file.
 //! Expressions (ECMA-262, clause 13).
 use crate::functions::{ClassOf, ComputedPropNameOf, FunctionOf, IdentName, PrivateName};
 use crate::knot::{Child, ExprTag, Part, PatTag};

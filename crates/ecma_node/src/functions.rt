@@ -1,3 +1,4 @@
+// Written by tools/tree/node_types.py from tools/tree/tree.table. Don't edit this file.
 //! Functions, classes and keys (ECMA-262, clause 15).
 use crate::knot::{Child, ExprTag, Part, PatTag};
 use crate::literals::{BigInt, Number, Str};

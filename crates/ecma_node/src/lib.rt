@@ -1,3 +1,4 @@
+// Written by tools/tree/node_types.py from tools/tree/tree.table. Don't edit this file.
 //! The syntax tree in code: a struct for each kind of node, after swc's names. Expressions, statements and
 //! patterns are the sorts of children; each child stands in a box of its sort, and a contract sees the spec
 //! tree (`ecma_tree`).

@@ -1,3 +1,4 @@
+// Written by tools/tree/node_types.py from tools/tree/tree.table. Don't edit this file.
 //! Literals (ECMA-262, 13.2.3, 13.2.7 and 13.2.8).
 use ecma_atom::{Atom, StrValue};
 use ecma_token::{NumValue, Span};

@@ -1,3 +1,4 @@
+// Written by tools/tree/node_types.py from tools/tree/tree.table. Don't edit this file.
 //! Properties of objects (ECMA-262, 13.2.5).
 use crate::expressions::{Ident, SpreadElementOf};
 use crate::functions::{FunctionOf, PropNameOf};

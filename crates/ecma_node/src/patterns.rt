@@ -1,3 +1,4 @@
+// Written by tools/tree/node_types.py from tools/tree/tree.table. Don't edit this file.
 //! Patterns (ECMA-262, 13.15.5 and 14.3.3).
 use crate::expressions::{
     Ident, Invalid, MemberExprOf, OptChainExprOf, ParenExprOf, SuperPropExprOf,

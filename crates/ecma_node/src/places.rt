@@ -1,3 +1,4 @@
+// Written by tools/tree/node_types.py from tools/tree/tree.table. Don't edit this file.
 //! Where each struct and enum stands in the text.
 ghost use Rattle.ecma_tree.specs.Places.{place_of};
 ghost use Rattle.ecma_node.specs.Placed.{inner};

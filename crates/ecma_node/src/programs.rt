@@ -1,3 +1,4 @@
+// Written by tools/tree/node_types.py from tools/tree/tree.table. Don't edit this file.
 //! Scripts, modules, imports and exports (ECMA-262, 16.1 and 16.2).
 use crate::declarations::DeclOf;
 use crate::expressions::{ClassExprOf, FnExprOf, Ident, ObjectLitOf};

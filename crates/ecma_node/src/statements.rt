@@ -1,3 +1,4 @@
+// Written by tools/tree/node_types.py from tools/tree/tree.table. Don't edit this file.
 //! Statements (ECMA-262, clause 14).
 use crate::declarations::{DeclOf, UsingDeclOf, VarDeclOf};
 use crate::expressions::Ident;

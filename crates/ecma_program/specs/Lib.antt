@@ -1,2 +1,3 @@
+-- Written by tools/tree/program.py from tools/tree/tree.table. Don't edit this file.
 pub mod Program
 pub mod Laws

@@ -1,3 +1,4 @@
+-- Written by tools/tree/program.py from tools/tree/tree.table. Don't edit this file.
 -- What a tree says: the tree without places, and without what only tells how something is spelled.
 use Rattle.std.specs.Prelude.{◌≡◌, ℕ, Bool, true, false, not, ◌&&◌, ◌==◌, if◌then◌else◌, List, [], ◌∷◌, Option, Some, None, codes, bytes_eq}
 use Rattle.std.specs.List.{list_any}

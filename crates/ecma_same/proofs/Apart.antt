@@ -1,3 +1,4 @@
+-- Written by tools/tree/same.py from tools/tree/tree.table. Don't edit this file.
 -- Trees of different kinds are not the same program.
 use Rattle.std.proofs.Common.{◌≡◌, ℕ, Bool, true, false, nat_eq, refl, sym, ap, ◌∙◌}
 use Rattle.std.proofs.lemmas.Bool.Decides.{Decides-eqb}

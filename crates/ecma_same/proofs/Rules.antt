@@ -1,3 +1,4 @@
+-- Written by tools/tree/same.py from tools/tree/tree.table. Don't edit this file.
 -- Two trees of one kind are the same program where their fields are.
 use Rattle.std.proofs.Common.{◌≡◌, ℕ, Bool, true, ◌&&◌, nat_eq, List, Option, bytes_eq, refl}
 use Rattle.std.proofs.Math.Bool.{beq}

@@ -1,3 +1,4 @@
+// Written by tools/tree/same.py from tools/tree/tree.table. Don't edit this file.
 //! Whether expressions (ECMA-262, clause 13) say the same.
 ghost use Rattle.std.specs.Prelude.{◌≡◌, ◌&&◌};
 ghost use Rattle.ecma_tree.specs.Tree.{trees_by, list};

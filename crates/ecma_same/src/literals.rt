@@ -1,3 +1,4 @@
+// Written by tools/tree/same.py from tools/tree/tree.table. Don't edit this file.
 //! Whether literals (ECMA-262, 13.2.3, 13.2.7 and 13.2.8) say the same.
 ghost use Rattle.ecma_node.specs.View.{view_lit, view_str, view_bool, view_null, view_number, view_big_int, view_regex};
 

@@ -1,3 +1,4 @@
+// Written by tools/tree/same.py from tools/tree/tree.table. Don't edit this file.
 //! Whether properties of objects (ECMA-262, 13.2.5) say the same.
 ghost use Rattle.ecma_node.specs.View.{view_prop_or_spread, view_prop, view_key_value_prop, view_assign_prop, view_getter_prop, view_setter_prop, view_method_prop};
 

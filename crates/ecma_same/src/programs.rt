@@ -1,3 +1,4 @@
+// Written by tools/tree/same.py from tools/tree/tree.table. Don't edit this file.
 //! Whether scripts, modules, imports and exports (ECMA-262, 16.1 and 16.2) say the same.
 ghost use Rattle.ecma_node.specs.View.{view_program_kind, view_script, view_module, view_module_item, view_module_decl, view_import_decl, view_export_decl, view_named_export, view_export_default_decl, view_export_default_expr, view_export_all, view_default_decl, view_import_specifier, view_import_named_specifier, view_import_default_specifier, view_import_star_as_specifier, view_export_specifier, view_export_namespace_specifier, view_export_default_specifier, view_export_named_specifier, view_module_export_name};
 

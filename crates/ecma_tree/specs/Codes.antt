@@ -1,3 +1,4 @@
+-- Written by tools/tree/spec_tree.py from tools/tree/tree.table. Don't edit this file.
 -- The size of a tree, where each tree counts two, since a child has a place around it; and its code, by which
 -- proofs tell trees apart: a plain tree of numbers and, of that, a list in postfix order, read back by two
 -- stacks.

@@ -1,3 +1,4 @@
+-- Written by tools/tree/spec_tree.py from tools/tree/tree.table. Don't edit this file.
 -- A tree from its leaves up. A definition that treats most kinds alike is a clause for each kind that it
 -- treats otherwise, and `fold` or `rebuild`.
 use Rattle.std.specs.Prelude.{List, [], ◌∷◌, Option, Some, None}

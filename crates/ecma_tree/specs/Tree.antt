@@ -1,3 +1,4 @@
+-- Written by tools/tree/spec_tree.py from tools/tree/tree.table. Don't edit this file.
 -- The syntax tree as definitions see it (ECMA-262, clauses 12 to 16): one constructor for each struct of the
 -- code's tree, with its place and its fields in the table's order. Texts are bytes, values of strings are
 -- UTF-16 units, operators and other words are kinds of tokens. A `Trees` is a list of trees.

@@ -1,3 +1,4 @@
+-- Written by tools/tree/visit.py from tools/tree/tree.table. Don't edit this file.
 -- What a visitor is told of a node: its kind, its place and its text.
 use Rattle.std.specs.Prelude.{ℕ, List, [], Option, Some, None}
 use Rattle.ecma_token.specs.declared.place.Span.{Span}

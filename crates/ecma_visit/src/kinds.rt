@@ -1,3 +1,4 @@
+// Written by tools/tree/visit.py from tools/tree/tree.table. Don't edit this file.
 //! Kinds of nodes.
 
 /// The kind of a node: one for each struct of the tree, with a pattern that is an expression and what

@@ -1,3 +1,4 @@
+// Written by tools/tree/visit.py from tools/tree/tree.table. Don't edit this file.
 //! Goes over literals (ECMA-262, 13.2.3, 13.2.7 and 13.2.8).
 ghost use Rattle.ecma_node.specs.View.{view_str, view_number, view_big_int};
 

@@ -1,3 +1,4 @@
+// Written by tools/tree/visit.py from tools/tree/tree.table. Don't edit this file.
 //! Goes over statements (ECMA-262, clause 14).
 ghost use Rattle.ecma_node.specs.View.{view_stmt_kind, view_block_stmt, view_empty_stmt, view_if_stmt, view_switch_case, view_try_stmt, view_catch_clause, view_for_stmt, view_var_decl_or_expr, view_for_head};
 

@@ -1,3 +1,4 @@
+// Written by tools/tree/visit_mut.py from tools/tree/tree.table. Don't edit this file.
 //! Changes expressions (ECMA-262, clause 13).
 ghost use Rattle.ecma_node.specs.Fits.{fits_expr_kind, fits_object_lit, fits_fn_expr, fits_member_expr, fits_super_prop_expr, fits_tpl, fits_class_expr, fits_opt_chain_expr, fits_expr_or_spread, fits_callee, fits_member_prop, fits_super_prop, fits_opt_chain_base, fits_block_stmt_or_expr};
 

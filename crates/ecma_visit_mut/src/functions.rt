@@ -1,3 +1,4 @@
+// Written by tools/tree/visit_mut.py from tools/tree/tree.table. Don't edit this file.
 //! Changes functions, classes and keys (ECMA-262, clause 15).
 ghost use Rattle.ecma_node.specs.Fits.{fits_function, fits_param, fits_decorator, fits_class, fits_class_member, fits_key, fits_prop_name};
 

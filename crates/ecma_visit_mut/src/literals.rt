@@ -1,3 +1,4 @@
+// Written by tools/tree/visit_mut.py from tools/tree/tree.table. Don't edit this file.
 //! Changes literals (ECMA-262, 13.2.3, 13.2.7 and 13.2.8).
 use crate::walk::{Change, WalkMut, Word};
 use ecma_node::{BigInt, Lit, Number, Str};

@@ -1,3 +1,4 @@
+// Written by tools/tree/visit_mut.py from tools/tree/tree.table. Don't edit this file.
 //! Changes properties of objects (ECMA-262, 13.2.5).
 ghost use Rattle.ecma_node.specs.Fits.{fits_prop_or_spread, fits_prop};
 

@@ -1,3 +1,4 @@
+// Written by tools/tree/visit_mut.py from tools/tree/tree.table. Don't edit this file.
 //! Changes patterns (ECMA-262, 13.15.5 and 14.3.3).
 ghost use Rattle.ecma_node.specs.Fits.{fits_pat_kind, fits_array_pat, fits_rest_pat, fits_object_pat, fits_object_pat_prop, fits_assign_target};
 

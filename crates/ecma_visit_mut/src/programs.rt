@@ -1,3 +1,4 @@
+// Written by tools/tree/visit_mut.py from tools/tree/tree.table. Don't edit this file.
 //! Changes scripts, modules, imports and exports (ECMA-262, 16.1 and 16.2).
 ghost use Rattle.ecma_node.specs.Fits.{fits_program_kind, fits_module_item, fits_module_decl, fits_default_decl};
 

@@ -1,3 +1,4 @@
+// Written by tools/tree/visit_mut.py from tools/tree/tree.table. Don't edit this file.
 //! Changes statements (ECMA-262, clause 14).
 ghost use Rattle.ecma_node.specs.Fits.{fits_stmt_kind, fits_block_stmt, fits_switch_case, fits_try_stmt, fits_catch_clause, fits_var_decl_or_expr, fits_for_head};
 
