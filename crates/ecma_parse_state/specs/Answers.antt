@@ -1,5 +1,5 @@
 -- What a function of the parser answers beside what the reading function answers.
-use Rattle.std.specs.Prelude.{◌≡◌, Bool, true, false, Result, Ok, Err}
+use Rattle.std.specs.Prelude.{◌≡◌, ℕ, ◌<◌, ◌≤◌, Bool, true, false, Result, Ok, Err}
 use Rattle.ecma_reading.specs.Source.{Fault, Unexpected, TooDeep, Step, go_on, finished}
 use Rattle.ecma_parse_state.specs.declared.failure.Failure.{Failure}
 use Rattle.ecma_parse_state.specs.declared.failure.Failure.TheVariants as failure
@@ -26,6 +26,22 @@ abbrev pub IsSyntax : Failure → Type 0
 IsSyntax failure.Memory = ⊥
 IsSyntax failure.TooDeep = ⊥
 IsSyntax (failure.Syntax e) = Unit {0}
+
+-- What is told of a number where the code fails: of want of memory nothing, of any other failure the number itself.
+abbrev pub told : Failure → ℕ → ℕ
+told failure.Memory n = 0
+told failure.TooDeep n = n
+told (failure.Syntax e) n = n
+
+-- Less may come than before; where the code fails but for want of memory, no more.
+abbrev pub Falls : {X : Type 0} → Result X Failure → ℕ → ℕ → Type 0
+Falls (Ok x) new old = new < old
+Falls (Err e) new old = told e new ≤ old
+
+-- No more may come than before, also where the code fails but for want of memory.
+abbrev pub Stays : {X : Type 0} → Result X Failure → ℕ → ℕ → Type 0
+Stays (Ok x) new old = new ≤ old
+Stays (Err e) new old = told e new ≤ old
 
 -- a step's answer: whether to go on, and what was made so far
 abbrev pub going_on : {A : Type 0} → Bool → A → Step A

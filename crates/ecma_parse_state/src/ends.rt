@@ -4,7 +4,7 @@ ghost use Rattle.ecma_token.specs.Kinds.{dot_kind};
 ghost use Rattle.ecma_syntax.specs.Input.{kind, kind2};
 ghost use Rattle.ecma_syntax.specs.Operators as ops;
 ghost use Rattle.ecma_reading.specs.Source as spec;
-ghost use Rattle.ecma_parse_state.specs.Answers.{Gives, IsMemory};
+ghost use Rattle.ecma_parse_state.specs.Answers.{Gives, IsMemory, Stays};
 ghost use Rattle.ecma_parse_state.specs.Codes.{code_of};
 ghost use Rattle.ecma_parse_state.specs.Fronts.{machine_of};
 
@@ -155,7 +155,7 @@ impl<'a, I: Tokens<'a> + Drop> Parser<'a, I> {
     #[tactic(auto, unfolding(ecma_reading::specs::Source::end_of))]
     pub fn end_of(&mut self, code: Around, end: u8) -> Result<(), Failure>
         ensures value { Gives (λ _. stand I.state self.new) result (spec.end_of (machine_of I.machine) (code_of code) end (stand I.state self.old)) }
-        ensures not_longer { IfOk result (λ _. spec.bound (machine_of I.machine) (stand I.state self.new) ≤ spec.bound (machine_of I.machine) (stand I.state self.old)) }
+        ensures not_longer { Stays result (spec.bound (machine_of I.machine) (stand I.state self.new)) (spec.bound (machine_of I.machine) (stand I.state self.old)) }
     {
         if self.eat(kinds::SEMICOLON)? {
             return Ok(());

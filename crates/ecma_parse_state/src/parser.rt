@@ -3,7 +3,7 @@ ghost use Rattle.std.specs.Prelude.{◌≡◌, ◌≢◌, ◌<◌, ◌≤◌, if
 ghost use Rattle.ecma_syntax.specs.Input.{brk, brk2, escaped, first_span, hi, is_word, kind, kind2, lo, rest, span, text};
 ghost use Rattle.ecma_tokens.specs.Machine.{shown_spot};
 ghost use Rattle.ecma_reading.specs.Source as spec;
-ghost use Rattle.ecma_parse_state.specs.Answers.{Gives, IsMemory, IsSyntax};
+ghost use Rattle.ecma_parse_state.specs.Answers.{Falls, Gives, IsMemory, IsSyntax, Stays};
 ghost use Rattle.ecma_parse_state.specs.Fronts.{machine_of};
 
 use crate::ahead::Ahead;
@@ -118,7 +118,7 @@ impl<'a, I: Tokens<'a> + Drop> Parser<'a, I> {
     pub fn bump(&mut self) -> Result<(), Failure>
         ensures value { OnOk result (stand I.state self.new ≡ spec.past (machine_of I.machine) (stand I.state self.old)) }
         ensures shorter { IfOk result (λ _. kind (spec.input (machine_of I.machine) (stand I.state self.old)) ≢ 0 → spec.bound (machine_of I.machine) (stand I.state self.new) < spec.bound (machine_of I.machine) (stand I.state self.old)) }
-        ensures not_longer { IfOk result (λ _. spec.bound (machine_of I.machine) (stand I.state self.new) ≤ spec.bound (machine_of I.machine) (stand I.state self.old)) }
+        ensures not_longer { Stays result (spec.bound (machine_of I.machine) (stand I.state self.new)) (spec.bound (machine_of I.machine) (stand I.state self.old)) }
         ensures full { IfErr result IsMemory }
     {
         let Some(token) = &self.ahead.token else {
@@ -145,6 +145,7 @@ impl<'a, I: Tokens<'a> + Drop> Parser<'a, I> {
         ensures token { IfOk result (λ t. option_map shown_spot t ≡ (stand I.state self.old).source.first) }
         ensures value { OnOk result (stand I.state self.new ≡ spec.past (machine_of I.machine) (stand I.state self.old)) }
         ensures shorter { IfOk result (λ _. kind (spec.input (machine_of I.machine) (stand I.state self.old)) ≢ 0 → spec.bound (machine_of I.machine) (stand I.state self.new) < spec.bound (machine_of I.machine) (stand I.state self.old)) }
+        ensures not_longer { Stays result (spec.bound (machine_of I.machine) (stand I.state self.new)) (spec.bound (machine_of I.machine) (stand I.state self.old)) }
         ensures full { IfErr result IsMemory }
     {
         let Some(token) = &self.ahead.token else {
@@ -226,6 +227,7 @@ impl<'a, I: Tokens<'a> + Drop> Parser<'a, I> {
         ensures value { IfOk result (λ b. b ≡ spec.at (machine_of I.machine) kind (stand I.state self.old)) }
         ensures state { IfOk result (λ b. stand I.state self.new ≡ (if b then spec.past (machine_of I.machine) (stand I.state self.old) else stand I.state self.old)) }
         ensures shorter { IfOk result (λ b. IsTrue b → spec.bound (machine_of I.machine) (stand I.state self.new) < spec.bound (machine_of I.machine) (stand I.state self.old)) }
+        ensures not_longer { Stays result (spec.bound (machine_of I.machine) (stand I.state self.new)) (spec.bound (machine_of I.machine) (stand I.state self.old)) }
         ensures full { IfErr result IsMemory }
     {
         if self.at(kind) {
@@ -278,7 +280,7 @@ impl<'a, I: Tokens<'a> + Drop> Parser<'a, I> {
     pub fn expect(&mut self, kind: u8) -> Result<(), Failure>
         requires { 0 < kind }
         ensures value { Gives (λ _. stand I.state self.new) result (spec.eat (machine_of I.machine) kind (stand I.state self.old)) }
-        ensures shorter { IfOk result (λ _. spec.bound (machine_of I.machine) (stand I.state self.new) < spec.bound (machine_of I.machine) (stand I.state self.old)) }
+        ensures shorter { Falls result (spec.bound (machine_of I.machine) (stand I.state self.new)) (spec.bound (machine_of I.machine) (stand I.state self.old)) }
     {
         if self.eat(kind)? {
             Ok(())
@@ -296,7 +298,7 @@ impl<'a, I: Tokens<'a> + Drop> Parser<'a, I> {
     pub fn expect_or(&mut self, kind: u8, span: Span, fault: SyntaxError) -> Result<(), Failure>
         requires { 0 < kind }
         ensures value { Gives (λ _. stand I.state self.new) result (spec.eat (machine_of I.machine) kind (stand I.state self.old)) }
-        ensures shorter { IfOk result (λ _. spec.bound (machine_of I.machine) (stand I.state self.new) < spec.bound (machine_of I.machine) (stand I.state self.old)) }
+        ensures shorter { Falls result (spec.bound (machine_of I.machine) (stand I.state self.new)) (spec.bound (machine_of I.machine) (stand I.state self.old)) }
     {
         if self.eat(kind)? {
             Ok(())

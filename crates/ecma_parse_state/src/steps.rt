@@ -3,7 +3,7 @@ ghost use Rattle.std.specs.Prelude.{◌≡◌, ◌<◌, ◌≤◌, false, true, 
 ghost use Rattle.ecma_syntax.specs.Input.{barred, kind};
 ghost use Rattle.ecma_tokens.specs.Machine.{shown_spot};
 ghost use Rattle.ecma_reading.specs.Source as spec;
-ghost use Rattle.ecma_parse_state.specs.Answers.{Gives, IsMemory};
+ghost use Rattle.ecma_parse_state.specs.Answers.{Falls, Gives, IsMemory, Stays};
 ghost use Rattle.ecma_parse_state.specs.Codes.{code_of};
 ghost use Rattle.ecma_parse_state.specs.Fronts.{again_in, in_place, is_slash, kind_in, machine_of};
 
@@ -78,7 +78,7 @@ impl<'a, I: Tokens<'a> + Drop> Parser<'a, I> {
     pub fn eat_word(&mut self, code: Around, kind: u8) -> Result<(), Failure>
         requires { 0 < kind }
         ensures value { Gives (λ _. stand I.state self.new) result (spec.eat_word (machine_of I.machine) (code_of code) kind (stand I.state self.old)) }
-        ensures shorter { IfOk result (λ _. spec.bound (machine_of I.machine) (stand I.state self.new) < spec.bound (machine_of I.machine) (stand I.state self.old)) }
+        ensures shorter { Falls result (spec.bound (machine_of I.machine) (stand I.state self.new)) (spec.bound (machine_of I.machine) (stand I.state self.old)) }
     {
         if !self.is_barred(code.context) && self.eat(kind)? {
             return Ok(());
@@ -94,7 +94,7 @@ impl<'a, I: Tokens<'a> + Drop> Parser<'a, I> {
     #[tactic(auto, unfolding(ecma_reading::specs::Source::any_word))]
     pub fn any_word(&mut self) -> Result<Atom, Failure>
         ensures value { Gives (λ n. (n, stand I.state self.new)) result (spec.any_word (machine_of I.machine) (stand I.state self.old)) }
-        ensures shorter { IfOk result (λ _. spec.bound (machine_of I.machine) (stand I.state self.new) < spec.bound (machine_of I.machine) (stand I.state self.old)) }
+        ensures shorter { Falls result (spec.bound (machine_of I.machine) (stand I.state self.new)) (spec.bound (machine_of I.machine) (stand I.state self.old)) }
     {
         if !self.is_word() {
             return Err(self.unexpected());
@@ -112,7 +112,7 @@ impl<'a, I: Tokens<'a> + Drop> Parser<'a, I> {
     #[tactic(auto, unfolding(ecma_reading::specs::Source::name))]
     pub fn name(&mut self, code: Around) -> Result<Atom, Failure>
         ensures value { Gives (λ n. (n, stand I.state self.new)) result (spec.name (machine_of I.machine) (code_of code) (stand I.state self.old)) }
-        ensures shorter { IfOk result (λ _. spec.bound (machine_of I.machine) (stand I.state self.new) < spec.bound (machine_of I.machine) (stand I.state self.old)) }
+        ensures shorter { Falls result (spec.bound (machine_of I.machine) (stand I.state self.new)) (spec.bound (machine_of I.machine) (stand I.state self.old)) }
     {
         if !self.is_name(code) {
             return Err(self.unexpected());
@@ -154,7 +154,7 @@ impl<'a, I: Tokens<'a> + Drop> Parser<'a, I> {
     #[tactic(auto, unfolding(crate::specs::Fronts::machine_of))]
     pub fn operand(&mut self) -> Result<(), Failure>
         ensures value { OnOk result (stand I.state self.new ≡ spec.operand (machine_of I.machine) (stand I.state self.old)) }
-        ensures not_longer { IfOk result (λ _. spec.bound (machine_of I.machine) (stand I.state self.new) ≤ spec.bound (machine_of I.machine) (stand I.state self.old)) }
+        ensures not_longer { Stays result (spec.bound (machine_of I.machine) (stand I.state self.new)) (spec.bound (machine_of I.machine) (stand I.state self.old)) }
         ensures full { IfErr result IsMemory }
     {
         if !self.at(kinds::DIV) && !self.at(kinds::DIV_ASSIGN) {
@@ -173,7 +173,7 @@ impl<'a, I: Tokens<'a> + Drop> Parser<'a, I> {
     fn reread(&mut self) -> Result<(), Failure>
         requires slash { is_slash (kind (spec.input (machine_of I.machine) (stand I.state self.old))) ≡ true }
         ensures value { OnOk result (stand I.state self.new ≡ spec.operand (machine_of I.machine) (stand I.state self.old)) }
-        ensures not_longer { IfOk result (λ _. spec.bound (machine_of I.machine) (stand I.state self.new) ≤ spec.bound (machine_of I.machine) (stand I.state self.old)) }
+        ensures not_longer { Stays result (spec.bound (machine_of I.machine) (stand I.state self.new)) (spec.bound (machine_of I.machine) (stand I.state self.old)) }
         ensures full { IfErr result IsMemory }
     {
         let Some(slash) = &self.ahead.token else {
