@@ -1,9 +1,9 @@
 //! Arrow functions (15.3), after their parameters.
-ghost use Rattle.std.specs.Prelude.{◌≡◌, ◌≢◌, false, true, ◌<◌, ◌≤◌, All, IfOk, map};
+ghost use Rattle.std.specs.Prelude.{◌≡◌, ◌≢◌, false, true, All, map};
 ghost use Rattle.ecma_node.specs.Placed.{holds_pat, inner};
 ghost use Rattle.ecma_reading.specs.Source as spec;
 ghost use Rattle.ecma_reading.specs.Expressions as reads;
-ghost use Rattle.ecma_parse_state.specs.Answers.{Gives};
+ghost use Rattle.ecma_parse_state.specs.Answers.{Falls, Gives, Stays};
 ghost use Rattle.ecma_parse_state.specs.Codes.{code_of};
 ghost use Rattle.ecma_parse_state.specs.Fronts.{machine_of};
 ghost use Rattle.ecma_parse_state.specs.Stands.{from, from_span, stand};
@@ -44,7 +44,7 @@ pub fn arrow<'a, I: Tokens<'a> + Drop, N: Nested<'a, I>>(
     requires ready { N.ready nested.now }
     requires fits { All (λ y. holds_pat y.part.value) params.items }
     ensures value { Gives (λ x. (tree_of x, stand I.state p.new)) result (reads.arrow_by (machine_of I.machine) (N.reads nested.now I.State I.machine) (code_of code) (from start.0) is_async (map (λ y. inner y.part.value) params.items) (stand I.state p.old)) }
-    ensures shorter { IfOk result (λ _. spec.bound (machine_of I.machine) (stand I.state p.new) < spec.bound (machine_of I.machine) (stand I.state p.old)) }
+    ensures shorter { Falls result (spec.bound (machine_of I.machine) (stand I.state p.new)) (spec.bound (machine_of I.machine) (stand I.state p.old)) }
 {
     p.bump()?;
     if p.at(kinds::LEFT_BRACE) {
@@ -68,7 +68,7 @@ pub fn ident_end<'a, I: Tokens<'a> + Drop, N: Nested<'a, I>>(
 ) -> Result<Operand, Failure>
     requires ready { N.ready nested.now }
     ensures value { Gives (λ x. (tree_of x, stand I.state p.new)) result (reads.ident_end (machine_of I.machine) (N.reads nested.now I.State I.machine) (code_of code) level (from_span place) sym (stand I.state p.old)) }
-    ensures not_longer { IfOk result (λ _. spec.bound (machine_of I.machine) (stand I.state p.new) ≤ spec.bound (machine_of I.machine) (stand I.state p.old)) }
+    ensures not_longer { Stays result (spec.bound (machine_of I.machine) (stand I.state p.new)) (spec.bound (machine_of I.machine) (stand I.state p.old)) }
 {
     if is_arrow(p, nested, level) {
         let params = made::one_param(p.alloc, place, sym)?;

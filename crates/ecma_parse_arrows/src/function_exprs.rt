@@ -1,11 +1,11 @@
 //! Functions as expressions (15.2).
-ghost use Rattle.std.specs.Prelude.{◌≡◌, ◌<◌, ◌≤◌, false, true, IfOk};
+ghost use Rattle.std.specs.Prelude.{◌≡◌, false, true, IfOk};
 ghost use Rattle.ecma_node.specs.Fits.{fits_fn_expr};
 ghost use Rattle.ecma_node.specs.Placed.{inner};
 ghost use Rattle.ecma_node.specs.View.{view_fn_expr};
 ghost use Rattle.ecma_reading.specs.Source as spec;
 ghost use Rattle.ecma_reading.specs.Expressions as reads;
-ghost use Rattle.ecma_parse_state.specs.Answers.{Gives};
+ghost use Rattle.ecma_parse_state.specs.Answers.{Falls, Gives};
 ghost use Rattle.ecma_parse_state.specs.Codes.{code_of};
 ghost use Rattle.ecma_parse_state.specs.Fronts.{machine_of};
 ghost use Rattle.ecma_parse_state.specs.Stands.{from, stand};
@@ -35,7 +35,7 @@ pub fn function_expr_name<'a, I: Tokens<'a> + Drop, N: Nested<'a, I>>(
     requires ready { N.ready nested.now }
     ensures value { Gives (λ x. (view_fn_expr inner x, stand I.state p.new)) result (reads.function_expr_name (machine_of I.machine) (N.reads nested.now I.State I.machine) (code_of code) (from start.0) generator is_async (stand I.state p.old)) }
     ensures fits { IfOk result (λ x. fits_fn_expr (λ p. p) x) }
-    ensures shorter { IfOk result (λ _. spec.bound (machine_of I.machine) (stand I.state p.new) < spec.bound (machine_of I.machine) (stand I.state p.old)) }
+    ensures shorter { Falls result (spec.bound (machine_of I.machine) (stand I.state p.new)) (spec.bound (machine_of I.machine) (stand I.state p.old)) }
 {
     let ident = if p.at(kinds::LEFT_PAREN) {
         None
@@ -65,7 +65,7 @@ pub fn function_expr<'a, I: Tokens<'a> + Drop, N: Nested<'a, I>>(
     requires ready { N.ready nested.now }
     ensures value { Gives (λ x. (view_fn_expr inner x, stand I.state p.new)) result (reads.function_expr_by (machine_of I.machine) (N.reads nested.now I.State I.machine) (code_of code) (from start.0) is_async (stand I.state p.old)) }
     ensures fits { IfOk result (λ x. fits_fn_expr (λ p. p) x) }
-    ensures shorter { IfOk result (λ _. spec.bound (machine_of I.machine) (stand I.state p.new) < spec.bound (machine_of I.machine) (stand I.state p.old)) }
+    ensures shorter { Falls result (spec.bound (machine_of I.machine) (stand I.state p.new)) (spec.bound (machine_of I.machine) (stand I.state p.old)) }
 {
     p.eat_word(code, kinds::FUNCTION)?;
     let generator = star(p, nested)?;
@@ -83,7 +83,7 @@ pub fn function_operand<'a, I: Tokens<'a> + Drop, N: Nested<'a, I>>(
 ) -> Result<Operand, Failure>
     requires ready { N.ready nested.now }
     ensures value { Gives (λ x. (tree_of x, stand I.state p.new)) result (reads.function_expr_by (machine_of I.machine) (N.reads nested.now I.State I.machine) (code_of code) (from start.0) is_async (stand I.state p.old)) }
-    ensures shorter { IfOk result (λ _. spec.bound (machine_of I.machine) (stand I.state p.new) < spec.bound (machine_of I.machine) (stand I.state p.old)) }
+    ensures shorter { Falls result (spec.bound (machine_of I.machine) (stand I.state p.new)) (spec.bound (machine_of I.machine) (stand I.state p.old)) }
 {
     let node = function_expr(p, nested, code, start, is_async)?;
     made::fn_expr(p.alloc, node)

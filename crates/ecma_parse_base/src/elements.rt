@@ -1,5 +1,5 @@
 //! Elements of arrays, and arguments.
-ghost use Rattle.std.specs.Prelude.{◌≡◌, false, true, ◌<◌, ◌≤◌, All, IfOk, IsTrue, map};
+ghost use Rattle.std.specs.Prelude.{◌≡◌, false, true, ◌<◌, All, IfOk, IsTrue, map};
 ghost use Rattle.ecma_token.specs.OperatorKinds.{assign_op_kind, binary_op_kind};
 ghost use Rattle.ecma_token.specs.Kinds.{right_bracket_kind, right_paren_kind};
 ghost use Rattle.ecma_parse_base.specs.Elements.{after_item};
@@ -8,7 +8,7 @@ ghost use Rattle.ecma_node.specs.Placed.{holds_expr, inner};
 ghost use Rattle.ecma_node.specs.View.{unary_op_word, update_op_word, view_computed_prop_name, view_expr_or_spread, view_member_prop, view_private_name};
 ghost use Rattle.ecma_reading.specs.Source as spec;
 ghost use Rattle.ecma_reading.specs.Expressions as reads;
-ghost use Rattle.ecma_parse_state.specs.Answers.{Gives, going_on};
+ghost use Rattle.ecma_parse_state.specs.Answers.{Falls, Gives, going_on};
 ghost use Rattle.ecma_parse_state.specs.Codes.{code_of};
 ghost use Rattle.ecma_parse_state.specs.Fronts.{machine_of};
 ghost use Rattle.ecma_parse_state.specs.Stands.{from, from_span, stand};
@@ -34,7 +34,7 @@ pub fn element<'a, I: Tokens<'a> + Drop, N: Nested<'a, I>>(
     requires ready { N.ready nested.now }
     ensures value { Gives (λ x. (view_expr_or_spread inner x, stand I.state p.new)) result (reads.element_by (machine_of I.machine) (N.reads nested.now I.State I.machine) (code_of code) (stand I.state p.old)) }
     ensures fits { IfOk result (λ x. fits_expr_or_spread (λ p. p) x) }
-    ensures shorter { IfOk result (λ _. spec.bound (machine_of I.machine) (stand I.state p.new) < spec.bound (machine_of I.machine) (stand I.state p.old)) }
+    ensures shorter { Falls result (spec.bound (machine_of I.machine) (stand I.state p.new)) (spec.bound (machine_of I.machine) (stand I.state p.old)) }
 {
     let start = p.lo();
     let place = p.place();
@@ -59,7 +59,7 @@ pub fn element<'a, I: Tokens<'a> + Drop, N: Nested<'a, I>>(
 pub fn goes_on<'a, I: Tokens<'a> + Drop>(p: &mut Parser<'a, I>, close: u8) -> Result<bool, Failure>
     requires { 0 < close }
     ensures value { Gives (λ b. (b, stand I.state p.new)) result (after_item (machine_of I.machine) close (stand I.state p.old)) }
-    ensures shorter { IfOk result (λ _. spec.bound (machine_of I.machine) (stand I.state p.new) < spec.bound (machine_of I.machine) (stand I.state p.old)) }
+    ensures shorter { Falls result (spec.bound (machine_of I.machine) (stand I.state p.new)) (spec.bound (machine_of I.machine) (stand I.state p.old)) }
 {
     if p.eat(kinds::COMMA)? {
         return Ok(true);
@@ -83,7 +83,7 @@ pub fn array_turn<'a, I: Tokens<'a> + Drop, N: Nested<'a, I>>(
     ensures value { Gives (λ x. (going_on x (elements_of list.new), stand I.state p.new)) result (reads.element_step (machine_of I.machine) (N.reads nested.now I.State I.machine) (code_of code) true right_bracket_kind (elements_of list.old) (stand I.state p.old)) }
     ensures fits { IfOk result (λ _. FitElements list.new) }
     ensures rest { IfOk result (λ _. TellsRest list.new) }
-    ensures shorter { IfOk result (λ _. spec.bound (machine_of I.machine) (stand I.state p.new) < spec.bound (machine_of I.machine) (stand I.state p.old)) }
+    ensures shorter { Falls result (spec.bound (machine_of I.machine) (stand I.state p.new)) (spec.bound (machine_of I.machine) (stand I.state p.old)) }
 {
     if p.eat(kinds::RIGHT_BRACKET)? {
         return Ok(false);
@@ -113,7 +113,7 @@ pub fn elements<'a, I: Tokens<'a> + Drop, N: Nested<'a, I>>(
     ensures value { Gives (λ x. (elements_of x, stand I.state p.new)) result (reads.elements_by (machine_of I.machine) (N.reads nested.now I.State I.machine) (code_of code) true right_bracket_kind (stand I.state p.old)) }
     ensures fits { IfOk result (λ x. FitElements x) }
     ensures rest { IfOk result (λ x. TellsRest x) }
-    ensures shorter { IfOk result (λ _. spec.bound (machine_of I.machine) (stand I.state p.new) < spec.bound (machine_of I.machine) (stand I.state p.old)) }
+    ensures shorter { Falls result (spec.bound (machine_of I.machine) (stand I.state p.new)) (spec.bound (machine_of I.machine) (stand I.state p.old)) }
 {
     let mut list = Elements {
         items: Vec::new(p.alloc),
@@ -137,7 +137,7 @@ pub fn argument_turn<'a, I: Tokens<'a> + Drop, N: Nested<'a, I>>(
     requires fits { FitArguments list.old }
     ensures value { Gives (λ x. (going_on x (arguments_of list.new), stand I.state p.new)) result (reads.element_step (machine_of I.machine) (N.reads nested.now I.State I.machine) (code_of code) false right_paren_kind (arguments_of list.old) (stand I.state p.old)) }
     ensures fits { IfOk result (λ _. FitArguments list.new) }
-    ensures shorter { IfOk result (λ _. spec.bound (machine_of I.machine) (stand I.state p.new) < spec.bound (machine_of I.machine) (stand I.state p.old)) }
+    ensures shorter { Falls result (spec.bound (machine_of I.machine) (stand I.state p.new)) (spec.bound (machine_of I.machine) (stand I.state p.old)) }
 {
     if p.eat(kinds::RIGHT_PAREN)? {
         return Ok(false);
@@ -159,7 +159,7 @@ pub fn group_items<'a, I: Tokens<'a> + Drop, N: Nested<'a, I>>(
     requires ready { N.ready nested.now }
     ensures value { Gives (λ x. (arguments_of x, stand I.state p.new)) result (reads.elements_by (machine_of I.machine) (N.reads nested.now I.State I.machine) (code_of code) false right_paren_kind (stand I.state p.old)) }
     ensures fits { IfOk result (λ x. FitArguments x) }
-    ensures shorter { IfOk result (λ _. spec.bound (machine_of I.machine) (stand I.state p.new) < spec.bound (machine_of I.machine) (stand I.state p.old)) }
+    ensures shorter { Falls result (spec.bound (machine_of I.machine) (stand I.state p.new)) (spec.bound (machine_of I.machine) (stand I.state p.old)) }
 {
     let mut list = Arguments {
         items: Vec::new(p.alloc),
@@ -179,7 +179,7 @@ pub fn arguments<'a, I: Tokens<'a> + Drop, N: Nested<'a, I>>(
     requires ready { N.ready nested.now }
     ensures value { Gives (λ x. (map (view_expr_or_spread inner) x.items, stand I.state p.new)) result (reads.arguments_by (machine_of I.machine) (N.reads nested.now I.State I.machine) (code_of code) (stand I.state p.old)) }
     ensures fits { IfOk result (λ x. All (λ x. fits_expr_or_spread (λ p. p) x) x.items) }
-    ensures shorter { IfOk result (λ _. spec.bound (machine_of I.machine) (stand I.state p.new) < spec.bound (machine_of I.machine) (stand I.state p.old)) }
+    ensures shorter { Falls result (spec.bound (machine_of I.machine) (stand I.state p.new)) (spec.bound (machine_of I.machine) (stand I.state p.old)) }
 {
     let list = group_items(p, nested, code)?;
     Ok(list.items)

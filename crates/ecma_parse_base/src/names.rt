@@ -1,10 +1,10 @@
 //! Names with a `#`, and keys in brackets.
-ghost use Rattle.std.specs.Prelude.{◌<◌, IfOk};
+ghost use Rattle.std.specs.Prelude.{IfOk};
 ghost use Rattle.ecma_node.specs.Placed.{holds_expr, inner};
 ghost use Rattle.ecma_node.specs.View.{view_computed_prop_name, view_private_name};
 ghost use Rattle.ecma_reading.specs.Source as spec;
 ghost use Rattle.ecma_reading.specs.Expressions as reads;
-ghost use Rattle.ecma_parse_state.specs.Answers.{Gives};
+ghost use Rattle.ecma_parse_state.specs.Answers.{Falls, Gives};
 ghost use Rattle.ecma_parse_state.specs.Codes.{code_of};
 ghost use Rattle.ecma_parse_state.specs.Fronts.{machine_of};
 ghost use Rattle.ecma_parse_state.specs.Stands.{stand};
@@ -24,7 +24,7 @@ pub fn private_name<'a, I: Tokens<'a> + Drop, N: Nested<'a, I>>(
 ) -> Result<PrivateName, Failure>
     requires ready { N.ready _nested.now }
     ensures value { Gives (λ x. (view_private_name x, stand I.state p.new)) result (reads.private_by (machine_of I.machine) (N.reads _nested.now I.State I.machine) (stand I.state p.old)) }
-    ensures shorter { IfOk result (λ _. spec.bound (machine_of I.machine) (stand I.state p.new) < spec.bound (machine_of I.machine) (stand I.state p.old)) }
+    ensures shorter { Falls result (spec.bound (machine_of I.machine) (stand I.state p.new)) (spec.bound (machine_of I.machine) (stand I.state p.old)) }
 {
     let start = p.lo();
     let end = p.hi();
@@ -51,7 +51,7 @@ pub fn computed<'a, I: Tokens<'a> + Drop, N: Nested<'a, I>>(
     requires ready { N.ready nested.now }
     ensures value { Gives (λ x. (view_computed_prop_name inner x, stand I.state p.new)) result (reads.computed_by (machine_of I.machine) (N.reads nested.now I.State I.machine) (code_of code) level (stand I.state p.old)) }
     ensures fits { IfOk result (λ x. holds_expr x.expr.part.value) }
-    ensures shorter { IfOk result (λ _. spec.bound (machine_of I.machine) (stand I.state p.new) < spec.bound (machine_of I.machine) (stand I.state p.old)) }
+    ensures shorter { Falls result (spec.bound (machine_of I.machine) (stand I.state p.new)) (spec.bound (machine_of I.machine) (stand I.state p.old)) }
 {
     let start = p.lo();
     p.bump()?;

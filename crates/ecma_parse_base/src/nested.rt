@@ -1,5 +1,5 @@
 //! What the rules call for nested parts.
-ghost use Rattle.std.specs.Prelude.{◌≡◌, ◌<◌, All, IfOk, map};
+ghost use Rattle.std.specs.Prelude.{◌≡◌, All, IfOk, map};
 ghost use Rattle.ecma_node.specs.Fits.{fits_assign_target, fits_block_stmt, fits_class};
 ghost use Rattle.ecma_node.specs.Placed.{inner, holds_pat, holds_stmt};
 ghost use Rattle.ecma_node.specs.View.{view_assign_target, view_block_stmt, view_class};
@@ -8,7 +8,7 @@ ghost use Rattle.ecma_reading.specs.Source.{Inner};
 ghost use Rattle.ecma_reading.specs.Cover.{to_target};
 ghost use Rattle.ecma_reading.specs.Expressions.{is_read, params_of};
 ghost use Rattle.ecma_tokens.specs.Machine.{Machine};
-ghost use Rattle.ecma_parse_state.specs.Answers.{Gives};
+ghost use Rattle.ecma_parse_state.specs.Answers.{Falls, Gives};
 ghost use Rattle.ecma_parse_state.specs.Codes.{code_of};
 ghost use Rattle.ecma_parse_state.specs.Fronts.{Front, machine_of};
 ghost use Rattle.ecma_parse_state.specs.Stands.{stand};
@@ -34,28 +34,28 @@ pub trait Nested<'a, I: Tokens<'a> + Drop> {
     fn expr(&self, p: &mut Parser<'a, I>, code: Around, level: u8) -> Result<Operand, Failure>
         requires { ready self.now }
         ensures value { Gives (λ x. (tree_of x, stand I.state p.new)) result ((reads self.now I.State I.machine).expr (code_of code) level (stand I.state p.old)) }
-        ensures shorter { IfOk result (λ _. spec.bound (machine_of I.machine) (stand I.state p.new) < spec.bound (machine_of I.machine) (stand I.state p.old)) };
+        ensures shorter { Falls result (spec.bound (machine_of I.machine) (stand I.state p.new)) (spec.bound (machine_of I.machine) (stand I.state p.old)) };
 
     /// A binding: a name or a pattern.
     fn pat(&self, p: &mut Parser<'a, I>, code: Around) -> Result<PatBox, Failure>
         requires { ready self.now }
         ensures value { Gives (λ x. (inner x.part.value, stand I.state p.new)) result ((reads self.now I.State I.machine).pat (code_of code) (stand I.state p.old)) }
         ensures holds { IfOk result (λ x. holds_pat x.part.value) }
-        ensures shorter { IfOk result (λ _. spec.bound (machine_of I.machine) (stand I.state p.new) < spec.bound (machine_of I.machine) (stand I.state p.old)) };
+        ensures shorter { Falls result (spec.bound (machine_of I.machine) (stand I.state p.new)) (spec.bound (machine_of I.machine) (stand I.state p.old)) };
 
     /// A statement; where the code says so, a declaration.
     fn stmt(&self, p: &mut Parser<'a, I>, code: Around) -> Result<StmtBox, Failure>
         requires { ready self.now }
         ensures value { Gives (λ x. (inner x.part.value, stand I.state p.new)) result ((reads self.now I.State I.machine).stmt (code_of code) (stand I.state p.old)) }
         ensures holds { IfOk result (λ x. holds_stmt x.part.value) }
-        ensures shorter { IfOk result (λ _. spec.bound (machine_of I.machine) (stand I.state p.new) < spec.bound (machine_of I.machine) (stand I.state p.old)) };
+        ensures shorter { Falls result (spec.bound (machine_of I.machine) (stand I.state p.new)) (spec.bound (machine_of I.machine) (stand I.state p.old)) };
 
     /// A function's body in its braces.
     fn body(&self, p: &mut Parser<'a, I>, code: Around) -> Result<BlockStmt, Failure>
         requires { ready self.now }
         ensures value { Gives (λ x. (view_block_stmt inner x, stand I.state p.new)) result ((reads self.now I.State I.machine).body (code_of code) (stand I.state p.old)) }
         ensures fits { IfOk result (λ x. fits_block_stmt (λ p. p) x) }
-        ensures shorter { IfOk result (λ _. spec.bound (machine_of I.machine) (stand I.state p.new) < spec.bound (machine_of I.machine) (stand I.state p.old)) };
+        ensures shorter { Falls result (spec.bound (machine_of I.machine) (stand I.state p.new)) (spec.bound (machine_of I.machine) (stand I.state p.old)) };
 
     /// What follows a class's name. The span of the class starts at `whole`.
     fn class_tail(
@@ -67,7 +67,7 @@ pub trait Nested<'a, I: Tokens<'a> + Drop> {
         requires { ready self.now }
         ensures value { Gives (λ x. (view_class inner x.value, stand I.state p.new)) result ((reads self.now I.State I.machine).class_tail (code_of code) whole.0 (stand I.state p.old)) }
         ensures fits { IfOk result (λ x. fits_class (λ p. p) x.value) }
-        ensures shorter { IfOk result (λ _. spec.bound (machine_of I.machine) (stand I.state p.new) < spec.bound (machine_of I.machine) (stand I.state p.old)) };
+        ensures shorter { Falls result (spec.bound (machine_of I.machine) (stand I.state p.new)) (spec.bound (machine_of I.machine) (stand I.state p.old)) };
 
     /// The target of an assignment by an operator of this kind, which was read as an expression.
     fn target(&self, p: &Parser<'a, I>, kind: u8, left: Operand) -> Result<AssignTarget, Failure>

@@ -1,11 +1,11 @@
 //! Blocks.
-ghost use Rattle.std.specs.Prelude.{◌≡◌, ◌<◌, All, IfOk, map};
+ghost use Rattle.std.specs.Prelude.{◌≡◌, All, IfOk, map};
 ghost use Rattle.ecma_node.specs.Fits.{fits_block_stmt};
 ghost use Rattle.ecma_node.specs.Placed.{holds_stmt, inner};
 ghost use Rattle.ecma_node.specs.View.{view_block_stmt};
 ghost use Rattle.ecma_reading.specs.Source as spec;
 ghost use Rattle.ecma_reading.specs.Statements as reads;
-ghost use Rattle.ecma_parse_state.specs.Answers.{Gives, going_on};
+ghost use Rattle.ecma_parse_state.specs.Answers.{Falls, Gives, going_on};
 ghost use Rattle.ecma_parse_state.specs.Codes.{code_of};
 ghost use Rattle.ecma_parse_state.specs.Fronts.{machine_of};
 ghost use Rattle.ecma_parse_state.specs.Stands.{from, stand};
@@ -31,7 +31,7 @@ pub fn block_turn<'a, I: Tokens<'a> + Drop, N: Nested<'a, I>>(
     requires fits { All (λ x. holds_stmt x.part.value) list.old.items }
     ensures value { Gives (λ x. (going_on x (map (λ y. inner y.part.value) list.new.items), stand I.state p.new)) result (reads.block_step (machine_of I.machine) (N.reads nested.now I.State I.machine) (code_of code) (map (λ y. inner y.part.value) list.old.items) (stand I.state p.old)) }
     ensures fits { IfOk result (λ _. All (λ x. holds_stmt x.part.value) list.new.items) }
-    ensures shorter { IfOk result (λ _. spec.bound (machine_of I.machine) (stand I.state p.new) < spec.bound (machine_of I.machine) (stand I.state p.old)) }
+    ensures shorter { Falls result (spec.bound (machine_of I.machine) (stand I.state p.new)) (spec.bound (machine_of I.machine) (stand I.state p.old)) }
 {
     if p.eat(kinds::RIGHT_BRACE)? {
         return Ok(false);
@@ -52,7 +52,7 @@ pub fn block_items<'a, I: Tokens<'a> + Drop, N: Nested<'a, I>>(
     requires ready { N.ready nested.now }
     ensures value { Gives (λ x. (map (λ y. inner y.part.value) x.items, stand I.state p.new)) result (block_items (machine_of I.machine) (N.reads nested.now I.State I.machine) (code_of code) (stand I.state p.old)) }
     ensures fits { IfOk result (λ x. All (λ y. holds_stmt y.part.value) x.items) }
-    ensures shorter { IfOk result (λ _. spec.bound (machine_of I.machine) (stand I.state p.new) < spec.bound (machine_of I.machine) (stand I.state p.old)) }
+    ensures shorter { Falls result (spec.bound (machine_of I.machine) (stand I.state p.new)) (spec.bound (machine_of I.machine) (stand I.state p.old)) }
 {
     let mut list = Vec::new(p.alloc);
     'turns: while block_turn(p, nested, code, &mut list)? {}
@@ -71,7 +71,7 @@ pub fn block_rest<'a, I: Tokens<'a> + Drop, N: Nested<'a, I>>(
     requires ready { N.ready nested.now }
     ensures value { Gives (λ x. (view_block_stmt inner x, stand I.state p.new)) result (reads.block_rest (machine_of I.machine) (N.reads nested.now I.State I.machine) (code_of code) (from start.0) (stand I.state p.old)) }
     ensures fits { IfOk result (λ x. fits_block_stmt (λ p. p) x) }
-    ensures shorter { IfOk result (λ _. spec.bound (machine_of I.machine) (stand I.state p.new) < spec.bound (machine_of I.machine) (stand I.state p.old)) }
+    ensures shorter { Falls result (spec.bound (machine_of I.machine) (stand I.state p.new)) (spec.bound (machine_of I.machine) (stand I.state p.old)) }
 {
     let stmts = block_items(p, nested, code)?;
     Ok(BlockStmt {
@@ -91,7 +91,7 @@ pub fn block<'a, I: Tokens<'a> + Drop, N: Nested<'a, I>>(
     requires ready { N.ready nested.now }
     ensures value { Gives (λ x. (view_block_stmt inner x, stand I.state p.new)) result (reads.block_by (machine_of I.machine) (N.reads nested.now I.State I.machine) (code_of code) (stand I.state p.old)) }
     ensures fits { IfOk result (λ x. fits_block_stmt (λ p. p) x) }
-    ensures shorter { IfOk result (λ _. spec.bound (machine_of I.machine) (stand I.state p.new) < spec.bound (machine_of I.machine) (stand I.state p.old)) }
+    ensures shorter { Falls result (spec.bound (machine_of I.machine) (stand I.state p.new)) (spec.bound (machine_of I.machine) (stand I.state p.old)) }
 {
     let start = p.lo();
     p.expect(kinds::LEFT_BRACE)?;

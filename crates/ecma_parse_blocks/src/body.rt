@@ -1,5 +1,5 @@
 //! Bodies of functions, whose directives may turn them strict.
-ghost use Rattle.std.specs.Prelude.{◌≡◌, ◌<◌, IfOk};
+ghost use Rattle.std.specs.Prelude.{◌≡◌, IfOk};
 ghost use Rattle.ecma_syntax.specs.Shape as shape;
 ghost use Rattle.ecma_node.specs.Fits.{fits_block_stmt};
 ghost use Rattle.ecma_node.specs.Placed.{holds_stmt, inner};
@@ -7,7 +7,7 @@ ghost use Rattle.ecma_node.specs.View.{view_block_stmt};
 ghost use Rattle.ecma_reading.specs.Source as spec;
 ghost use Rattle.ecma_reading.specs.Source.{go_on};
 ghost use Rattle.ecma_reading.specs.Statements as reads;
-ghost use Rattle.ecma_parse_state.specs.Answers.{Gives, going_on};
+ghost use Rattle.ecma_parse_state.specs.Answers.{Falls, Gives, going_on};
 ghost use Rattle.ecma_parse_state.specs.Codes.{code_of};
 ghost use Rattle.ecma_parse_state.specs.Fronts.{machine_of};
 ghost use Rattle.ecma_parse_state.specs.Stands.{stand};
@@ -67,7 +67,7 @@ pub fn item<'a, I: Tokens<'a> + Drop, N: Nested<'a, I>>(
     requires fits { FitBody body.old }
     ensures value { Gives (λ _. (go_on (body_of body.new), stand I.state p.new)) result (reads.body_item (machine_of I.machine) (N.reads nested.now I.State I.machine) (body_of body.old) (stand I.state p.old)) }
     ensures fits { IfOk result (λ _. FitBody body.new) }
-    ensures shorter { IfOk result (λ _. spec.bound (machine_of I.machine) (stand I.state p.new) < spec.bound (machine_of I.machine) (stand I.state p.old)) }
+    ensures shorter { Falls result (spec.bound (machine_of I.machine) (stand I.state p.new)) (spec.bound (machine_of I.machine) (stand I.state p.old)) }
 {
     let read = nested.stmt(p, in_list(body.code))?;
     if body.starts && is_use_strict(read.get()) {
@@ -92,7 +92,7 @@ pub fn body_turn<'a, I: Tokens<'a> + Drop, N: Nested<'a, I>>(
     requires fits { FitBody body.old }
     ensures value { Gives (λ x. (going_on x (body_of body.new), stand I.state p.new)) result (reads.body_step (machine_of I.machine) (N.reads nested.now I.State I.machine) (body_of body.old) (stand I.state p.old)) }
     ensures fits { IfOk result (λ _. FitBody body.new) }
-    ensures shorter { IfOk result (λ _. spec.bound (machine_of I.machine) (stand I.state p.new) < spec.bound (machine_of I.machine) (stand I.state p.old)) }
+    ensures shorter { Falls result (spec.bound (machine_of I.machine) (stand I.state p.new)) (spec.bound (machine_of I.machine) (stand I.state p.old)) }
 {
     if p.eat(kinds::RIGHT_BRACE)? {
         return Ok(false);
@@ -112,7 +112,7 @@ pub fn body_items<'a, I: Tokens<'a> + Drop, N: Nested<'a, I>>(
     requires ready { N.ready nested.now }
     ensures value { Gives (λ x. (body_of x, stand I.state p.new)) result (body_items (machine_of I.machine) (N.reads nested.now I.State I.machine) (code_of code) (stand I.state p.old)) }
     ensures fits { IfOk result (λ x. FitBody x) }
-    ensures shorter { IfOk result (λ _. spec.bound (machine_of I.machine) (stand I.state p.new) < spec.bound (machine_of I.machine) (stand I.state p.old)) }
+    ensures shorter { Falls result (spec.bound (machine_of I.machine) (stand I.state p.new)) (spec.bound (machine_of I.machine) (stand I.state p.old)) }
 {
     let mut read = BodySoFar {
         items: Vec::new(p.alloc),
@@ -134,7 +134,7 @@ pub fn body<'a, I: Tokens<'a> + Drop, N: Nested<'a, I>>(
     requires ready { N.ready nested.now }
     ensures value { Gives (λ x. (view_block_stmt inner x, stand I.state p.new)) result (reads.body_by (machine_of I.machine) (N.reads nested.now I.State I.machine) (code_of code) (stand I.state p.old)) }
     ensures fits { IfOk result (λ x. fits_block_stmt (λ p. p) x) }
-    ensures shorter { IfOk result (λ _. spec.bound (machine_of I.machine) (stand I.state p.new) < spec.bound (machine_of I.machine) (stand I.state p.old)) }
+    ensures shorter { Falls result (spec.bound (machine_of I.machine) (stand I.state p.new)) (spec.bound (machine_of I.machine) (stand I.state p.old)) }
 {
     let start = p.lo();
     p.expect(kinds::LEFT_BRACE)?;

@@ -1,5 +1,5 @@
 //! Declarations of variables (ECMA-262, 14.3).
-ghost use Rattle.std.specs.Prelude.{◌≡◌, ◌≢◌, None, MatchOption, ◌<◌, false, IfOk};
+ghost use Rattle.std.specs.Prelude.{◌≡◌, ◌≢◌, None, MatchOption, false, IfOk};
 ghost use Rattle.ecma_token.specs.Kinds.{const_kind, let_kind, var_kind};
 ghost use Rattle.ecma_syntax.specs.Input.{kind};
 ghost use Rattle.ecma_syntax.specs.Shape as shape;
@@ -8,7 +8,7 @@ ghost use Rattle.ecma_node.specs.Placed.{holds_stmt, inner};
 ghost use Rattle.ecma_node.specs.View.{var_decl_kind_word, view_var_declarator};
 ghost use Rattle.ecma_reading.specs.Source as spec;
 ghost use Rattle.ecma_reading.specs.Statements as reads;
-ghost use Rattle.ecma_parse_state.specs.Answers.{Gives, going_on};
+ghost use Rattle.ecma_parse_state.specs.Answers.{Falls, Gives, going_on};
 ghost use Rattle.ecma_parse_state.specs.Codes.{code_of};
 ghost use Rattle.ecma_parse_state.specs.Fronts.{machine_of};
 ghost use Rattle.ecma_parse_state.specs.Stands.{from, stand};
@@ -52,7 +52,7 @@ pub fn declarator<'a, I: Tokens<'a> + Drop, N: Nested<'a, I>>(
     ensures value { Gives (λ x. (view_var_declarator inner x.0, stand I.state p.new)) result (reads.declarator_by (machine_of I.machine) (N.reads nested.now I.State I.machine) (code_of code) (stand I.state p.old)) }
     ensures fits { IfOk result (λ x. fits_var_declarator (λ p. p) x.0) }
     ensures end { IfOk result (λ x. x.1 ≡ shape.declarator_end (view_var_declarator inner x.0)) }
-    ensures shorter { IfOk result (λ _. spec.bound (machine_of I.machine) (stand I.state p.new) < spec.bound (machine_of I.machine) (stand I.state p.old)) }
+    ensures shorter { Falls result (spec.bound (machine_of I.machine) (stand I.state p.new)) (spec.bound (machine_of I.machine) (stand I.state p.old)) }
 {
     let start = p.lo();
     let name = nested.pat(p, code)?;
@@ -98,7 +98,7 @@ pub fn declarator_turn<'a, I: Tokens<'a> + Drop, N: Nested<'a, I>>(
     ensures value { Gives (λ x. (going_on x (declarators_of list.new), stand I.state p.new)) result (reads.declarator_step (machine_of I.machine) (N.reads nested.now I.State I.machine) (code_of code) (declarators_of list.old) (stand I.state p.old)) }
     ensures fits { IfOk result (λ x. FitDeclarators list.new) }
     ensures end { IfOk result (λ _. TellsEnd list.new) }
-    ensures shorter { IfOk result (λ _. spec.bound (machine_of I.machine) (stand I.state p.new) < spec.bound (machine_of I.machine) (stand I.state p.old)) }
+    ensures shorter { Falls result (spec.bound (machine_of I.machine) (stand I.state p.new)) (spec.bound (machine_of I.machine) (stand I.state p.old)) }
 {
     let (item, end) = declarator(p, nested, code)?;
     list.items.push(item)?;
@@ -118,7 +118,7 @@ pub fn declarators<'a, I: Tokens<'a> + Drop, N: Nested<'a, I>>(
     ensures value { Gives (λ x. (declarators_of x, stand I.state p.new)) result (reads.declarators_by (machine_of I.machine) (N.reads nested.now I.State I.machine) (code_of code) (stand I.state p.old)) }
     ensures fits { IfOk result (λ x. FitDeclarators x) }
     ensures end { IfOk result (λ x. TellsEnd x) }
-    ensures shorter { IfOk result (λ _. spec.bound (machine_of I.machine) (stand I.state p.new) < spec.bound (machine_of I.machine) (stand I.state p.old)) }
+    ensures shorter { Falls result (spec.bound (machine_of I.machine) (stand I.state p.new)) (spec.bound (machine_of I.machine) (stand I.state p.old)) }
 {
     let mut list = DeclaratorList {
         items: Vec::new(p.alloc),
@@ -154,7 +154,7 @@ pub fn variables<'a, I: Tokens<'a> + Drop, N: Nested<'a, I>>(
     requires some { kind (spec.input (machine_of I.machine) (stand I.state p.old)) ≢ 0 }
     ensures value { Gives (λ x. (inner x.part.value, stand I.state p.new)) result (reads.variables_by (machine_of I.machine) (N.reads nested.now I.State I.machine) (code_of code) (stand I.state p.old)) }
     ensures holds { IfOk result (λ x. holds_stmt x.part.value) }
-    ensures shorter { IfOk result (λ _. spec.bound (machine_of I.machine) (stand I.state p.new) < spec.bound (machine_of I.machine) (stand I.state p.old)) }
+    ensures shorter { Falls result (spec.bound (machine_of I.machine) (stand I.state p.new)) (spec.bound (machine_of I.machine) (stand I.state p.old)) }
 {
     let start = p.lo();
     p.eat_word(code, p.kind())?;
@@ -176,7 +176,7 @@ pub fn using<'a, I: Tokens<'a> + Drop, N: Nested<'a, I>>(
     requires ready { N.ready nested.now }
     ensures value { Gives (λ x. (inner x.part.value, stand I.state p.new)) result (reads.using_by (machine_of I.machine) (N.reads nested.now I.State I.machine) (code_of code) (from start.0) awaits (stand I.state p.old)) }
     ensures holds { IfOk result (λ x. holds_stmt x.part.value) }
-    ensures shorter { IfOk result (λ _. spec.bound (machine_of I.machine) (stand I.state p.new) < spec.bound (machine_of I.machine) (stand I.state p.old)) }
+    ensures shorter { Falls result (spec.bound (machine_of I.machine) (stand I.state p.new)) (spec.bound (machine_of I.machine) (stand I.state p.old)) }
 {
     p.eat_word(code, kinds::USING)?;
     let list = declarators(p, nested, code)?;

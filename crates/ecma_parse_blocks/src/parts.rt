@@ -1,10 +1,10 @@
 //! Parts of statements: a test in its parentheses, and a statement as a part of another.
-ghost use Rattle.std.specs.Prelude.{◌≡◌, ◌<◌, ◌||◌, ◌&&◌, true, false, IfOk};
+ghost use Rattle.std.specs.Prelude.{◌≡◌, ◌||◌, ◌&&◌, true, false, IfOk};
 ghost use Rattle.ecma_syntax.specs.Shape as shape;
 ghost use Rattle.ecma_node.specs.Placed.{holds_stmt, inner};
 ghost use Rattle.ecma_reading.specs.Source as spec;
 ghost use Rattle.ecma_reading.specs.Statements as reads;
-ghost use Rattle.ecma_parse_state.specs.Answers.{Gives, IsSyntax};
+ghost use Rattle.ecma_parse_state.specs.Answers.{Falls, Gives, IsSyntax};
 ghost use Rattle.ecma_parse_state.specs.Codes.{code_of};
 ghost use Rattle.ecma_parse_state.specs.Fronts.{machine_of};
 ghost use Rattle.ecma_parse_state.specs.Stands.{stand};
@@ -49,7 +49,7 @@ pub fn in_parens<'a, I: Tokens<'a> + Drop, N: Nested<'a, I>>(
 ) -> Result<Operand, Failure>
     requires ready { N.ready nested.now }
     ensures value { Gives (λ x. (tree_of x, stand I.state p.new)) result (reads.in_parens (machine_of I.machine) (N.reads nested.now I.State I.machine) (code_of code) (stand I.state p.old)) }
-    ensures shorter { IfOk result (λ _. spec.bound (machine_of I.machine) (stand I.state p.new) < spec.bound (machine_of I.machine) (stand I.state p.old)) }
+    ensures shorter { Falls result (spec.bound (machine_of I.machine) (stand I.state p.new)) (spec.bound (machine_of I.machine) (stand I.state p.old)) }
 {
     p.expect(kinds::LEFT_PAREN)?;
     let test = nested.expr(p, code, EXPRESSION)?;
@@ -79,7 +79,7 @@ pub fn sub<'a, I: Tokens<'a> + Drop, N: Nested<'a, I>>(
     requires ready { N.ready nested.now }
     ensures value { Gives (λ x. (inner x.part.value, stand I.state p.new)) result (reads.sub_by (machine_of I.machine) (N.reads nested.now I.State I.machine) (code_of code) functions (stand I.state p.old)) }
     ensures holds { IfOk result (λ x. holds_stmt x.part.value) }
-    ensures shorter { IfOk result (λ _. spec.bound (machine_of I.machine) (stand I.state p.new) < spec.bound (machine_of I.machine) (stand I.state p.old)) }
+    ensures shorter { Falls result (spec.bound (machine_of I.machine) (stand I.state p.new)) (spec.bound (machine_of I.machine) (stand I.state p.old)) }
 {
     let read = nested.stmt(p, alone(code))?;
     if is_statement(read.get())

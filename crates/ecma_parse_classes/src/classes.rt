@@ -1,5 +1,5 @@
 //! Classes: their members in braces, what they extend, and a class as a declaration and as an expression.
-ghost use Rattle.std.specs.Prelude.{◌≡◌, ◌<◌, ◌++◌, ◌∷◌, [], All, IfErr, IfOk, OnOk, map};
+ghost use Rattle.std.specs.Prelude.{◌≡◌, ◌++◌, ◌∷◌, [], All, IfErr, IfOk, OnOk, map};
 ghost use Rattle.ecma_tree.specs.Tree.{part_by};
 ghost use Rattle.ecma_node.specs.Fits.{fits_class, fits_class_expr, fits_class_member, fits_held};
 ghost use Rattle.ecma_node.specs.Placed.{holds_expr, holds_stmt, inner};
@@ -7,7 +7,7 @@ ghost use Rattle.ecma_node.specs.View.{view_class, view_class_expr, view_class_m
 ghost use Rattle.ecma_reading.specs.Source as spec;
 ghost use Rattle.ecma_reading.specs.Expressions as expressions;
 ghost use Rattle.ecma_reading.specs.Statements as reads;
-ghost use Rattle.ecma_parse_state.specs.Answers.{Gives, going_on, IsMemory};
+ghost use Rattle.ecma_parse_state.specs.Answers.{Falls, Gives, going_on, IsMemory};
 ghost use Rattle.ecma_parse_state.specs.Codes.{code_of};
 ghost use Rattle.ecma_parse_state.specs.Fronts.{machine_of};
 ghost use Rattle.ecma_parse_state.specs.Stands.{stand};
@@ -38,7 +38,7 @@ pub fn static_member<'a, I: Tokens<'a> + Drop, N: Nested<'a, I>>(
     requires ready { N.ready nested.now }
     ensures value { Gives (λ x. (view_class_member inner x, stand I.state p.new)) result (reads.static_by (machine_of I.machine) (N.reads nested.now I.State I.machine) (code_of code) (stand I.state p.old)) }
     ensures fits { IfOk result (λ x. fits_class_member (λ p. p) x) }
-    ensures shorter { IfOk result (λ _. spec.bound (machine_of I.machine) (stand I.state p.new) < spec.bound (machine_of I.machine) (stand I.state p.old)) }
+    ensures shorter { Falls result (spec.bound (machine_of I.machine) (stand I.state p.new)) (spec.bound (machine_of I.machine) (stand I.state p.old)) }
 {
     let start = p.lo();
     p.eat_word(code, kinds::STATIC)?;
@@ -77,7 +77,7 @@ pub fn member_turn<'a, I: Tokens<'a> + Drop, N: Nested<'a, I>>(
     requires fits { All (λ x. fits_class_member (λ p. p) x) list.old.items }
     ensures value { Gives (λ x. (going_on x (map (view_class_member inner) list.new.items), stand I.state p.new)) result (reads.member_step (machine_of I.machine) (N.reads nested.now I.State I.machine) (code_of code) (map (view_class_member inner) list.old.items) (stand I.state p.old)) }
     ensures fits { IfOk result (λ _. All (λ x. fits_class_member (λ p. p) x) list.new.items) }
-    ensures shorter { IfOk result (λ _. spec.bound (machine_of I.machine) (stand I.state p.new) < spec.bound (machine_of I.machine) (stand I.state p.old)) }
+    ensures shorter { Falls result (spec.bound (machine_of I.machine) (stand I.state p.new)) (spec.bound (machine_of I.machine) (stand I.state p.old)) }
 {
     if p.eat(kinds::RIGHT_BRACE)? {
         return Ok(false);
@@ -108,7 +108,7 @@ pub fn member_list<'a, I: Tokens<'a> + Drop, N: Nested<'a, I>>(
     requires ready { N.ready nested.now }
     ensures value { Gives (λ x. (map (view_class_member inner) x.items, stand I.state p.new)) result (member_list (machine_of I.machine) (N.reads nested.now I.State I.machine) (code_of code) (stand I.state p.old)) }
     ensures fits { IfOk result (λ x. All (λ x. fits_class_member (λ p. p) x) x.items) }
-    ensures shorter { IfOk result (λ _. spec.bound (machine_of I.machine) (stand I.state p.new) < spec.bound (machine_of I.machine) (stand I.state p.old)) }
+    ensures shorter { Falls result (spec.bound (machine_of I.machine) (stand I.state p.new)) (spec.bound (machine_of I.machine) (stand I.state p.old)) }
 {
     let mut list = Vec::new(p.alloc);
     'turns: while member_turn(p, nested, code, &mut list)? {}
@@ -129,7 +129,7 @@ pub fn members<'a, I: Tokens<'a> + Drop, N: Nested<'a, I>>(
     requires super_class { fits_held (λ x. holds_expr x.part.value) super_class }
     ensures value { Gives (λ x. (view_class inner x.value, stand I.state p.new)) result (reads.members_by (machine_of I.machine) (N.reads nested.now I.State I.machine) (code_of code) whole.0 (part_by (λ x. inner x.part.value) super_class) (stand I.state p.old)) }
     ensures fits { IfOk result (λ x. fits_class (λ p. p) x.value) }
-    ensures shorter { IfOk result (λ _. spec.bound (machine_of I.machine) (stand I.state p.new) < spec.bound (machine_of I.machine) (stand I.state p.old)) }
+    ensures shorter { Falls result (spec.bound (machine_of I.machine) (stand I.state p.new)) (spec.bound (machine_of I.machine) (stand I.state p.old)) }
 {
     p.expect(kinds::LEFT_BRACE)?;
     let body = member_list(p, nested, code)?;
@@ -148,7 +148,7 @@ pub fn class_tail<'a, I: Tokens<'a> + Drop, N: Nested<'a, I>>(
     requires ready { N.ready nested.now }
     ensures value { Gives (λ x. (view_class inner x.value, stand I.state p.new)) result (reads.class_tail_by (machine_of I.machine) (N.reads nested.now I.State I.machine) (code_of code) whole.0 (stand I.state p.old)) }
     ensures fits { IfOk result (λ x. fits_class (λ p. p) x.value) }
-    ensures shorter { IfOk result (λ _. spec.bound (machine_of I.machine) (stand I.state p.new) < spec.bound (machine_of I.machine) (stand I.state p.old)) }
+    ensures shorter { Falls result (spec.bound (machine_of I.machine) (stand I.state p.new)) (spec.bound (machine_of I.machine) (stand I.state p.old)) }
 {
     if !p.at(kinds::EXTENDS) {
         return members(p, nested, code, whole, None);
@@ -169,7 +169,7 @@ pub fn class_decl<'a, I: Tokens<'a> + Drop, N: Nested<'a, I>>(
     requires ready { N.ready nested.now }
     ensures value { Gives (λ x. (inner x.part.value, stand I.state p.new)) result (reads.class_decl_by (machine_of I.machine) (N.reads nested.now I.State I.machine) (code_of code) (stand I.state p.old)) }
     ensures holds { IfOk result (λ x. holds_stmt x.part.value) }
-    ensures shorter { IfOk result (λ _. spec.bound (machine_of I.machine) (stand I.state p.new) < spec.bound (machine_of I.machine) (stand I.state p.old)) }
+    ensures shorter { Falls result (spec.bound (machine_of I.machine) (stand I.state p.new)) (spec.bound (machine_of I.machine) (stand I.state p.old)) }
 {
     let start = p.lo();
     p.eat_word(code, kinds::CLASS)?;
@@ -190,7 +190,7 @@ pub fn class_expr<'a, I: Tokens<'a> + Drop, N: Nested<'a, I>>(
     requires ready { N.ready nested.now }
     ensures value { Gives (λ x. (view_class_expr inner x, stand I.state p.new)) result (expressions.class_expr_by (machine_of I.machine) (N.reads nested.now I.State I.machine) (code_of code) (stand I.state p.old)) }
     ensures fits { IfOk result (λ x. fits_class_expr (λ p. p) x) }
-    ensures shorter { IfOk result (λ _. spec.bound (machine_of I.machine) (stand I.state p.new) < spec.bound (machine_of I.machine) (stand I.state p.old)) }
+    ensures shorter { Falls result (spec.bound (machine_of I.machine) (stand I.state p.new)) (spec.bound (machine_of I.machine) (stand I.state p.old)) }
 {
     let start = p.lo();
     p.eat_word(code, kinds::CLASS)?;
@@ -214,7 +214,7 @@ pub fn class_operand<'a, I: Tokens<'a> + Drop, N: Nested<'a, I>>(
 ) -> Result<Operand, Failure>
     requires ready { N.ready nested.now }
     ensures value { Gives (λ x. (tree_of x, stand I.state p.new)) result (expressions.class_expr_by (machine_of I.machine) (N.reads nested.now I.State I.machine) (code_of code) (stand I.state p.old)) }
-    ensures shorter { IfOk result (λ _. spec.bound (machine_of I.machine) (stand I.state p.new) < spec.bound (machine_of I.machine) (stand I.state p.old)) }
+    ensures shorter { Falls result (spec.bound (machine_of I.machine) (stand I.state p.new)) (spec.bound (machine_of I.machine) (stand I.state p.old)) }
 {
     let node = class_expr(p, nested, code)?;
     made::class_operand(p.alloc, node)

@@ -1,12 +1,12 @@
 //! Keys of members, and fields.
-ghost use Rattle.std.specs.Prelude.{◌≡◌, ◌<◌, ◌≤◌, IfOk};
+ghost use Rattle.std.specs.Prelude.{◌≡◌, IfOk};
 ghost use Rattle.ecma_tree.specs.Tree.{part_by};
 ghost use Rattle.ecma_node.specs.Fits.{fits_class_member, fits_held, fits_key};
 ghost use Rattle.ecma_node.specs.Placed.{holds_expr, inner};
 ghost use Rattle.ecma_node.specs.View.{view_class_member, view_key};
 ghost use Rattle.ecma_reading.specs.Source as spec;
 ghost use Rattle.ecma_reading.specs.Statements as reads;
-ghost use Rattle.ecma_parse_state.specs.Answers.{Gives};
+ghost use Rattle.ecma_parse_state.specs.Answers.{Falls, Gives, Stays};
 ghost use Rattle.ecma_parse_state.specs.Codes.{code_of};
 ghost use Rattle.ecma_parse_state.specs.Fronts.{machine_of};
 ghost use Rattle.ecma_parse_state.specs.Stands.{from, stand};
@@ -34,7 +34,7 @@ pub fn field_value<'a, I: Tokens<'a> + Drop, N: Nested<'a, I>>(
     requires ready { N.ready nested.now }
     ensures value { Gives (λ x. (part_by (λ y. inner y.part.value) x, stand I.state p.new)) result (reads.field_value (machine_of I.machine) (N.reads nested.now I.State I.machine) (code_of code) end (stand I.state p.old)) }
     ensures fits { IfOk result (λ x. fits_held (λ y. holds_expr y.part.value) x) }
-    ensures not_longer { IfOk result (λ _. spec.bound (machine_of I.machine) (stand I.state p.new) ≤ spec.bound (machine_of I.machine) (stand I.state p.old)) }
+    ensures not_longer { Stays result (spec.bound (machine_of I.machine) (stand I.state p.new)) (spec.bound (machine_of I.machine) (stand I.state p.old)) }
 {
     if p.eat(kinds::ASSIGN)? {
         let value = nested.expr(p, in_field(code), ASSIGNMENT)?;
@@ -56,7 +56,7 @@ pub fn class_key<'a, I: Tokens<'a> + Drop, N: Nested<'a, I>>(
     requires ready { N.ready nested.now }
     ensures value { Gives (λ x. (view_key inner x, stand I.state p.new)) result (reads.class_key (machine_of I.machine) (N.reads nested.now I.State I.machine) (code_of code) (stand I.state p.old)) }
     ensures fits { IfOk result (λ x. fits_key (λ p. p) x) }
-    ensures shorter { IfOk result (λ _. spec.bound (machine_of I.machine) (stand I.state p.new) < spec.bound (machine_of I.machine) (stand I.state p.old)) }
+    ensures shorter { Falls result (spec.bound (machine_of I.machine) (stand I.state p.new)) (spec.bound (machine_of I.machine) (stand I.state p.old)) }
 {
     if p.at(kinds::HASH) {
         return Ok(Key::Private(private_name(p, nested)?));
@@ -80,7 +80,7 @@ pub fn field<'a, I: Tokens<'a> + Drop, N: Nested<'a, I>>(
     requires key { fits_key (λ p. p) key }
     ensures value { Gives (λ x. (view_class_member inner x, stand I.state p.new)) result (field_by (machine_of I.machine) (N.reads nested.now I.State I.machine) (code_of code) (from start.0) is_static end (view_key inner key) (stand I.state p.old)) }
     ensures fits { IfOk result (λ x. fits_class_member (λ p. p) x) }
-    ensures not_longer { IfOk result (λ _. spec.bound (machine_of I.machine) (stand I.state p.new) ≤ spec.bound (machine_of I.machine) (stand I.state p.old)) }
+    ensures not_longer { Stays result (spec.bound (machine_of I.machine) (stand I.state p.new)) (spec.bound (machine_of I.machine) (stand I.state p.old)) }
 {
     let value = field_value(p, nested, code, end)?;
     Ok(made::field(p.alloc, p.since(start), key, value, is_static))
@@ -99,7 +99,7 @@ pub fn auto_accessor<'a, I: Tokens<'a> + Drop, N: Nested<'a, I>>(
     requires ready { N.ready nested.now }
     ensures value { Gives (λ x. (view_class_member inner x, stand I.state p.new)) result (reads.accessor_by (machine_of I.machine) (N.reads nested.now I.State I.machine) (code_of code) (from start.0) is_static (stand I.state p.old)) }
     ensures fits { IfOk result (λ x. fits_class_member (λ p. p) x) }
-    ensures shorter { IfOk result (λ _. spec.bound (machine_of I.machine) (stand I.state p.new) < spec.bound (machine_of I.machine) (stand I.state p.old)) }
+    ensures shorter { Falls result (spec.bound (machine_of I.machine) (stand I.state p.new)) (spec.bound (machine_of I.machine) (stand I.state p.old)) }
 {
     p.bump()?;
     let key = class_key(p, nested, code)?;

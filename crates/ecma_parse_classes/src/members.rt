@@ -1,11 +1,11 @@
 //! Members of classes.
-ghost use Rattle.std.specs.Prelude.{◌≡◌, false, true, ◌<◌, ◌≤◌, IfOk};
+ghost use Rattle.std.specs.Prelude.{◌≡◌, false, true, IfOk};
 ghost use Rattle.ecma_node.specs.Fits.{fits_class_member, fits_key};
 ghost use Rattle.ecma_node.specs.Placed.{inner};
 ghost use Rattle.ecma_node.specs.View.{view_class_member, view_key};
 ghost use Rattle.ecma_reading.specs.Source as spec;
 ghost use Rattle.ecma_reading.specs.Statements as reads;
-ghost use Rattle.ecma_parse_state.specs.Answers.{Gives};
+ghost use Rattle.ecma_parse_state.specs.Answers.{Falls, Gives};
 ghost use Rattle.ecma_parse_state.specs.Codes.{code_of};
 ghost use Rattle.ecma_parse_state.specs.Fronts.{machine_of};
 ghost use Rattle.ecma_parse_state.specs.Stands.{from, stand};
@@ -41,7 +41,7 @@ pub fn method<'a, I: Tokens<'a> + Drop, N: Nested<'a, I>>(
     requires key { fits_key (λ p. p) key }
     ensures value { Gives (λ x. (view_class_member inner x, stand I.state p.new)) result (reads.class_method_by (machine_of I.machine) (N.reads nested.now I.State I.machine) (code_of code) (from start.0) is_static generator is_async (view_key inner key) (stand I.state p.old)) }
     ensures fits { IfOk result (λ x. fits_class_member (λ p. p) x) }
-    ensures shorter { IfOk result (λ _. spec.bound (machine_of I.machine) (stand I.state p.new) < spec.bound (machine_of I.machine) (stand I.state p.old)) }
+    ensures shorter { Falls result (spec.bound (machine_of I.machine) (stand I.state p.new)) (spec.bound (machine_of I.machine) (stand I.state p.old)) }
 {
     let function = function(p, nested, code, start, generator, is_async)?;
     let may_construct = !is_static && (!generator && !is_async);
@@ -61,7 +61,7 @@ pub fn getter<'a, I: Tokens<'a> + Drop, N: Nested<'a, I>>(
     requires ready { N.ready nested.now }
     ensures value { Gives (λ x. (view_class_member inner x, stand I.state p.new)) result (reads.class_getter (machine_of I.machine) (N.reads nested.now I.State I.machine) (code_of code) (from start.0) is_static (stand I.state p.old)) }
     ensures fits { IfOk result (λ x. fits_class_member (λ p. p) x) }
-    ensures shorter { IfOk result (λ _. spec.bound (machine_of I.machine) (stand I.state p.new) < spec.bound (machine_of I.machine) (stand I.state p.old)) }
+    ensures shorter { Falls result (spec.bound (machine_of I.machine) (stand I.state p.new)) (spec.bound (machine_of I.machine) (stand I.state p.old)) }
 {
     p.bump()?;
     let key = class_key(p, nested, code)?;
@@ -86,7 +86,7 @@ pub fn setter<'a, I: Tokens<'a> + Drop, N: Nested<'a, I>>(
     requires ready { N.ready nested.now }
     ensures value { Gives (λ x. (view_class_member inner x, stand I.state p.new)) result (reads.class_setter (machine_of I.machine) (N.reads nested.now I.State I.machine) (code_of code) (from start.0) is_static (stand I.state p.old)) }
     ensures fits { IfOk result (λ x. fits_class_member (λ p. p) x) }
-    ensures shorter { IfOk result (λ _. spec.bound (machine_of I.machine) (stand I.state p.new) < spec.bound (machine_of I.machine) (stand I.state p.old)) }
+    ensures shorter { Falls result (spec.bound (machine_of I.machine) (stand I.state p.new)) (spec.bound (machine_of I.machine) (stand I.state p.old)) }
 {
     p.bump()?;
     let key = class_key(p, nested, code)?;
@@ -113,7 +113,7 @@ pub fn field_or_method<'a, I: Tokens<'a> + Drop, N: Nested<'a, I>>(
     requires ready { N.ready nested.now }
     ensures value { Gives (λ x. (view_class_member inner x, stand I.state p.new)) result (reads.field_or_method (machine_of I.machine) (N.reads nested.now I.State I.machine) (code_of code) (from start.0) is_static (stand I.state p.old)) }
     ensures fits { IfOk result (λ x. fits_class_member (λ p. p) x) }
-    ensures shorter { IfOk result (λ _. spec.bound (machine_of I.machine) (stand I.state p.new) < spec.bound (machine_of I.machine) (stand I.state p.old)) }
+    ensures shorter { Falls result (spec.bound (machine_of I.machine) (stand I.state p.new)) (spec.bound (machine_of I.machine) (stand I.state p.old)) }
 {
     let end = field_end(is_static, p.kind());
     let key = class_key(p, nested, code)?;
@@ -137,7 +137,7 @@ pub fn generator_member<'a, I: Tokens<'a> + Drop, N: Nested<'a, I>>(
     requires ready { N.ready nested.now }
     ensures value { Gives (λ x. (view_class_member inner x, stand I.state p.new)) result (reads.generator_member (machine_of I.machine) (N.reads nested.now I.State I.machine) (code_of code) (from start.0) is_static is_async (stand I.state p.old)) }
     ensures fits { IfOk result (λ x. fits_class_member (λ p. p) x) }
-    ensures shorter { IfOk result (λ _. spec.bound (machine_of I.machine) (stand I.state p.new) < spec.bound (machine_of I.machine) (stand I.state p.old)) }
+    ensures shorter { Falls result (spec.bound (machine_of I.machine) (stand I.state p.new)) (spec.bound (machine_of I.machine) (stand I.state p.old)) }
 {
     let generator = star(p, nested)?;
     let key = class_key(p, nested, code)?;
@@ -157,7 +157,7 @@ pub fn last_member<'a, I: Tokens<'a> + Drop, N: Nested<'a, I>>(
     requires ready { N.ready nested.now }
     ensures value { Gives (λ x. (view_class_member inner x, stand I.state p.new)) result (last_member (machine_of I.machine) (N.reads nested.now I.State I.machine) (code_of code) (from start.0) is_static (stand I.state p.old)) }
     ensures fits { IfOk result (λ x. fits_class_member (λ p. p) x) }
-    ensures shorter { IfOk result (λ _. spec.bound (machine_of I.machine) (stand I.state p.new) < spec.bound (machine_of I.machine) (stand I.state p.old)) }
+    ensures shorter { Falls result (spec.bound (machine_of I.machine) (stand I.state p.new)) (spec.bound (machine_of I.machine) (stand I.state p.old)) }
 {
     if is_auto_accessor(p, nested, code)? {
         return auto_accessor(p, nested, code, start, is_static);
@@ -178,7 +178,7 @@ pub fn word_member<'a, I: Tokens<'a> + Drop, N: Nested<'a, I>>(
     requires ready { N.ready nested.now }
     ensures value { Gives (λ x. (view_class_member inner x, stand I.state p.new)) result (word_member (machine_of I.machine) (N.reads nested.now I.State I.machine) (code_of code) (from start.0) is_static (stand I.state p.old)) }
     ensures fits { IfOk result (λ x. fits_class_member (λ p. p) x) }
-    ensures shorter { IfOk result (λ _. spec.bound (machine_of I.machine) (stand I.state p.new) < spec.bound (machine_of I.machine) (stand I.state p.old)) }
+    ensures shorter { Falls result (spec.bound (machine_of I.machine) (stand I.state p.new)) (spec.bound (machine_of I.machine) (stand I.state p.old)) }
 {
     if is_before_key(p, nested, kinds::GET)? {
         return getter(p, nested, code, start, is_static);
@@ -202,7 +202,7 @@ pub fn member_rest<'a, I: Tokens<'a> + Drop, N: Nested<'a, I>>(
     requires ready { N.ready nested.now }
     ensures value { Gives (λ x. (view_class_member inner x, stand I.state p.new)) result (reads.member_rest (machine_of I.machine) (N.reads nested.now I.State I.machine) (code_of code) (from start.0) is_static (stand I.state p.old)) }
     ensures fits { IfOk result (λ x. fits_class_member (λ p. p) x) }
-    ensures shorter { IfOk result (λ _. spec.bound (machine_of I.machine) (stand I.state p.new) < spec.bound (machine_of I.machine) (stand I.state p.old)) }
+    ensures shorter { Falls result (spec.bound (machine_of I.machine) (stand I.state p.new)) (spec.bound (machine_of I.machine) (stand I.state p.old)) }
 {
     if p.at(kinds::MUL) {
         return generator_member(p, nested, code, start, is_static, false);

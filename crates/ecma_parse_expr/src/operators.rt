@@ -1,5 +1,5 @@
 //! Operators, members and calls.
-ghost use Rattle.std.specs.Prelude.{◌≡◌, ◌≢◌, false, true, ◌<◌, ◌≤◌, All, IfOk, IsTrue, map};
+ghost use Rattle.std.specs.Prelude.{◌≡◌, ◌≢◌, false, true, All, IfOk, IsTrue, map};
 ghost use Rattle.ecma_token.specs.OperatorKinds.{assign_op_kind, binary_op_kind};
 ghost use Rattle.ecma_syntax.specs.Input.{kind, kind2, lo};
 ghost use Rattle.ecma_node.specs.Fits.{fits_expr_or_spread, fits_member_prop};
@@ -7,7 +7,7 @@ ghost use Rattle.ecma_node.specs.Placed.{holds_expr, inner};
 ghost use Rattle.ecma_node.specs.View.{unary_op_word, update_op_word, view_computed_prop_name, view_expr_or_spread, view_member_prop, view_private_name};
 ghost use Rattle.ecma_reading.specs.Source as spec;
 ghost use Rattle.ecma_reading.specs.Expressions as reads;
-ghost use Rattle.ecma_parse_state.specs.Answers.{Gives, going_on};
+ghost use Rattle.ecma_parse_state.specs.Answers.{Falls, Gives, going_on};
 ghost use Rattle.ecma_parse_state.specs.Codes.{code_of};
 ghost use Rattle.ecma_parse_state.specs.Fronts.{machine_of};
 ghost use Rattle.ecma_parse_state.specs.Stands.{from, from_span, stand};
@@ -39,7 +39,7 @@ pub fn conditional<'a, I: Tokens<'a> + Drop, N: Nested<'a, I>>(
 ) -> Result<Operand, Failure>
     requires ready { N.ready nested.now }
     ensures value { Gives (λ x. (tree_of x, stand I.state p.new)) result (reads.cond_by (machine_of I.machine) (N.reads nested.now I.State I.machine) (code_of code) (from start.0) (tree_of test) (stand I.state p.old)) }
-    ensures shorter { IfOk result (λ _. spec.bound (machine_of I.machine) (stand I.state p.new) < spec.bound (machine_of I.machine) (stand I.state p.old)) }
+    ensures shorter { Falls result (spec.bound (machine_of I.machine) (stand I.state p.new)) (spec.bound (machine_of I.machine) (stand I.state p.old)) }
 {
     p.bump()?;
     let cons = nested.expr(p, with_in(code), ASSIGNMENT)?;
@@ -63,7 +63,7 @@ pub fn binary<'a, I: Tokens<'a> + Drop, N: Nested<'a, I>>(
     requires op { binary_op_kind op ≡ kind (spec.input (machine_of I.machine) (stand I.state p.old)) }
     requires some { kind (spec.input (machine_of I.machine) (stand I.state p.old)) ≢ 0 }
     ensures value { Gives (λ x. (tree_of x, stand I.state p.new)) result (reads.binary_by (machine_of I.machine) (N.reads nested.now I.State I.machine) (code_of code) (from start.0) (tree_of left) (stand I.state p.old)) }
-    ensures shorter { IfOk result (λ _. spec.bound (machine_of I.machine) (stand I.state p.new) < spec.bound (machine_of I.machine) (stand I.state p.old)) }
+    ensures shorter { Falls result (spec.bound (machine_of I.machine) (stand I.state p.new)) (spec.bound (machine_of I.machine) (stand I.state p.old)) }
 {
     let kind = p.kind();
     p.eat_word(code, kind)?;
@@ -85,7 +85,7 @@ pub fn assignment<'a, I: Tokens<'a> + Drop, N: Nested<'a, I>>(
     requires ready { N.ready nested.now }
     requires op { assign_op_kind op ≡ kind (spec.input (machine_of I.machine) (stand I.state p.old)) }
     ensures value { Gives (λ x. (tree_of x, stand I.state p.new)) result (reads.assign_by (machine_of I.machine) (N.reads nested.now I.State I.machine) (code_of code) (from start.0) (tree_of left) (stand I.state p.old)) }
-    ensures shorter { IfOk result (λ _. spec.bound (machine_of I.machine) (stand I.state p.new) < spec.bound (machine_of I.machine) (stand I.state p.old)) }
+    ensures shorter { Falls result (spec.bound (machine_of I.machine) (stand I.state p.new)) (spec.bound (machine_of I.machine) (stand I.state p.old)) }
 {
     let target = nested.target(p, p.kind(), left)?;
     p.bump()?;
@@ -103,7 +103,7 @@ pub fn member_name<'a, I: Tokens<'a> + Drop, N: Nested<'a, I>>(
     requires ready { N.ready nested.now }
     ensures value { Gives (λ x. (view_member_prop inner x, stand I.state p.new)) result (reads.member_name (machine_of I.machine) (N.reads nested.now I.State I.machine) true (stand I.state p.old)) }
     ensures fits { IfOk result (λ x. fits_member_prop (λ p. p) x) }
-    ensures shorter { IfOk result (λ _. spec.bound (machine_of I.machine) (stand I.state p.new) < spec.bound (machine_of I.machine) (stand I.state p.old)) }
+    ensures shorter { Falls result (spec.bound (machine_of I.machine) (stand I.state p.new)) (spec.bound (machine_of I.machine) (stand I.state p.old)) }
 {
     if p.at(kinds::HASH) {
         return Ok(MemberProp::PrivateName(private_name(p, nested)?));
@@ -125,7 +125,7 @@ pub fn member<'a, I: Tokens<'a> + Drop, N: Nested<'a, I>>(
 ) -> Result<Operand, Failure>
     requires ready { N.ready nested.now }
     ensures value { Gives (λ x. (tree_of x, stand I.state p.new)) result (reads.member_by (machine_of I.machine) (N.reads nested.now I.State I.machine) (code_of _code) (from start.0) (tree_of obj) (stand I.state p.old)) }
-    ensures shorter { IfOk result (λ _. spec.bound (machine_of I.machine) (stand I.state p.new) < spec.bound (machine_of I.machine) (stand I.state p.old)) }
+    ensures shorter { Falls result (spec.bound (machine_of I.machine) (stand I.state p.new)) (spec.bound (machine_of I.machine) (stand I.state p.old)) }
 {
     p.bump()?;
     let prop = member_name(p, nested)?;
@@ -144,7 +144,7 @@ pub fn index<'a, I: Tokens<'a> + Drop, N: Nested<'a, I>>(
 ) -> Result<Operand, Failure>
     requires ready { N.ready nested.now }
     ensures value { Gives (λ x. (tree_of x, stand I.state p.new)) result (reads.index_by (machine_of I.machine) (N.reads nested.now I.State I.machine) (code_of code) (from start.0) (tree_of obj) (stand I.state p.old)) }
-    ensures shorter { IfOk result (λ _. spec.bound (machine_of I.machine) (stand I.state p.new) < spec.bound (machine_of I.machine) (stand I.state p.old)) }
+    ensures shorter { Falls result (spec.bound (machine_of I.machine) (stand I.state p.new)) (spec.bound (machine_of I.machine) (stand I.state p.old)) }
 {
     let key = computed(p, nested, code, EXPRESSION)?;
     made::member_of(p.alloc, p.since(start), obj, MemberProp::Computed(key))
@@ -162,7 +162,7 @@ pub fn call<'a, I: Tokens<'a> + Drop, N: Nested<'a, I>>(
 ) -> Result<Operand, Failure>
     requires ready { N.ready nested.now }
     ensures value { Gives (λ x. (tree_of x, stand I.state p.new)) result (reads.call_by (machine_of I.machine) (N.reads nested.now I.State I.machine) (code_of code) (from start.0) (tree_of callee) (stand I.state p.old)) }
-    ensures shorter { IfOk result (λ _. spec.bound (machine_of I.machine) (stand I.state p.new) < spec.bound (machine_of I.machine) (stand I.state p.old)) }
+    ensures shorter { Falls result (spec.bound (machine_of I.machine) (stand I.state p.new)) (spec.bound (machine_of I.machine) (stand I.state p.old)) }
 {
     p.bump()?;
     let args = arguments(p, nested, code)?;
@@ -181,7 +181,7 @@ pub fn chain<'a, I: Tokens<'a> + Drop, N: Nested<'a, I>>(
 ) -> Result<Operand, Failure>
     requires ready { N.ready nested.now }
     ensures value { Gives (λ x. (tree_of x, stand I.state p.new)) result (reads.chain_by (machine_of I.machine) (N.reads nested.now I.State I.machine) (code_of code) (from start.0) (tree_of obj) (stand I.state p.old)) }
-    ensures shorter { IfOk result (λ _. spec.bound (machine_of I.machine) (stand I.state p.new) < spec.bound (machine_of I.machine) (stand I.state p.old)) }
+    ensures shorter { Falls result (spec.bound (machine_of I.machine) (stand I.state p.new)) (spec.bound (machine_of I.machine) (stand I.state p.old)) }
 {
     if p.eat(kinds::LEFT_PAREN)? {
         let args = arguments(p, nested, code)?;

@@ -1,5 +1,5 @@
 //! Templates.
-ghost use Rattle.std.specs.Prelude.{◌≡◌, ◌++◌, ◌∷◌, [], false, true, ◌<◌, IfErr, IfOk};
+ghost use Rattle.std.specs.Prelude.{◌≡◌, ◌++◌, ◌∷◌, [], false, true, IfErr, IfOk};
 ghost use Rattle.ecma_syntax.specs.Input.{content, first_span};
 ghost use Rattle.ecma_token.specs.Kinds.{template_kind};
 ghost use Rattle.ecma_node.specs.Fits.{fits_tpl};
@@ -7,7 +7,7 @@ ghost use Rattle.ecma_node.specs.Placed.{inner};
 ghost use Rattle.ecma_node.specs.View.{view_tpl, view_tpl_element};
 ghost use Rattle.ecma_reading.specs.Source as spec;
 ghost use Rattle.ecma_reading.specs.Expressions as reads;
-ghost use Rattle.ecma_parse_state.specs.Answers.{Gives, IsMemory, going_on};
+ghost use Rattle.ecma_parse_state.specs.Answers.{Falls, Gives, going_on, IsMemory};
 ghost use Rattle.ecma_tree.specs.Tree.{pack, tpl};
 ghost use Rattle.ecma_parse_state.specs.Codes.{code_of};
 ghost use Rattle.ecma_parse_state.specs.Fronts.{machine_of};
@@ -56,7 +56,7 @@ pub fn characters_end<'a, I: Tokens<'a> + Drop, N: Nested<'a, I>>(
     requires tail { element.tail ≡ false }
     ensures value { Gives (λ x. (going_on x (spans_of spans.new), stand I.state p.new)) result (reads.quasi_end (machine_of I.machine) (N.reads nested.now I.State I.machine) (code_of code) tagged (spans_of spans.old) (element_at element) (stand I.state p.old)) }
     ensures fits { IfOk result (λ _. FitSpans spans.new) }
-    ensures shorter { IfOk result (λ _. spec.bound (machine_of I.machine) (stand I.state p.new) < spec.bound (machine_of I.machine) (stand I.state p.old)) }
+    ensures shorter { Falls result (spec.bound (machine_of I.machine) (stand I.state p.new)) (spec.bound (machine_of I.machine) (stand I.state p.old)) }
 {
     let mut element = element;
     let fits = tagged || element.cooked.is_some();
@@ -88,7 +88,7 @@ fn quasi<'a, I: Tokens<'a> + Drop, N: Nested<'a, I>>(
     ensures value { Gives (λ _. stand I.state p.new) result (spec.eat (machine_of I.machine) template_kind (stand I.state p.old)) }
     ensures element { IfOk result (λ x. element_at x ≡ reads.quasi (machine_of I.machine) (N.reads _nested.now I.State I.machine) (content (spec.input (machine_of I.machine) (stand I.state p.old))) (first_span (spec.input (machine_of I.machine) (stand I.state p.old)))) }
     ensures tail { IfOk result (λ x. x.tail ≡ false) }
-    ensures shorter { IfOk result (λ _. spec.bound (machine_of I.machine) (stand I.state p.new) < spec.bound (machine_of I.machine) (stand I.state p.old)) }
+    ensures shorter { Falls result (spec.bound (machine_of I.machine) (stand I.state p.new)) (spec.bound (machine_of I.machine) (stand I.state p.old)) }
 {
     let span = p.place();
     let fault = p.unexpected();
@@ -115,7 +115,7 @@ pub fn characters<'a, I: Tokens<'a> + Drop, N: Nested<'a, I>>(
     requires fits { FitSpans spans.old }
     ensures value { Gives (λ x. (going_on x (spans_of spans.new), stand I.state p.new)) result (reads.quasi_step (machine_of I.machine) (N.reads nested.now I.State I.machine) (code_of code) tagged (spans_of spans.old) (stand I.state p.old)) }
     ensures fits { IfOk result (λ _. FitSpans spans.new) }
-    ensures shorter { IfOk result (λ _. spec.bound (machine_of I.machine) (stand I.state p.new) < spec.bound (machine_of I.machine) (stand I.state p.old)) }
+    ensures shorter { Falls result (spec.bound (machine_of I.machine) (stand I.state p.new)) (spec.bound (machine_of I.machine) (stand I.state p.old)) }
 {
     let element = quasi(p, nested)?;
     characters_end(p, nested, code, tagged, element, spans)
@@ -133,7 +133,7 @@ pub fn spans<'a, I: Tokens<'a> + Drop, N: Nested<'a, I>>(
     requires ready { N.ready nested.now }
     ensures value { Gives (λ x. (spans_of x, stand I.state p.new)) result (spans_by (machine_of I.machine) (N.reads nested.now I.State I.machine) (code_of code) tagged (stand I.state p.old)) }
     ensures fits { IfOk result (λ x. FitSpans x) }
-    ensures shorter { IfOk result (λ _. spec.bound (machine_of I.machine) (stand I.state p.new) < spec.bound (machine_of I.machine) (stand I.state p.old)) }
+    ensures shorter { Falls result (spec.bound (machine_of I.machine) (stand I.state p.new)) (spec.bound (machine_of I.machine) (stand I.state p.old)) }
 {
     let mut spans = Spans {
         exprs: Vec::new(p.alloc),
@@ -171,7 +171,7 @@ pub fn template<'a, I: Tokens<'a> + Drop, N: Nested<'a, I>>(
     requires ready { N.ready nested.now }
     ensures value { Gives (λ x. (view_tpl inner x.value, stand I.state p.new)) result (reads.template_by (machine_of I.machine) (N.reads nested.now I.State I.machine) (code_of code) tagged (stand I.state p.old)) }
     ensures fits { IfOk result (λ x. fits_tpl (λ p. p) x.value) }
-    ensures shorter { IfOk result (λ _. spec.bound (machine_of I.machine) (stand I.state p.new) < spec.bound (machine_of I.machine) (stand I.state p.old)) }
+    ensures shorter { Falls result (spec.bound (machine_of I.machine) (stand I.state p.new)) (spec.bound (machine_of I.machine) (stand I.state p.old)) }
 {
     let start = p.lo();
     p.bump()?;
@@ -191,7 +191,7 @@ pub fn tagged<'a, I: Tokens<'a> + Drop, N: Nested<'a, I>>(
 ) -> Result<Operand, Failure>
     requires ready { N.ready nested.now }
     ensures value { Gives (λ x. (tree_of x, stand I.state p.new)) result (tagged_by (machine_of I.machine) (N.reads nested.now I.State I.machine) (code_of code) (from start.0) (tree_of tag) (stand I.state p.old)) }
-    ensures shorter { IfOk result (λ _. spec.bound (machine_of I.machine) (stand I.state p.new) < spec.bound (machine_of I.machine) (stand I.state p.old)) }
+    ensures shorter { Falls result (spec.bound (machine_of I.machine) (stand I.state p.new)) (spec.bound (machine_of I.machine) (stand I.state p.old)) }
 {
     let tpl = template(p, nested, code, true)?;
     made::tagged_tpl(p.alloc, p.since(start), tag, tpl)

@@ -1,5 +1,5 @@
 //! The loop over the operators behind an operand.
-ghost use Rattle.std.specs.Prelude.{◌≡◌, ◌≢◌, false, true, ◌<◌, ◌≤◌, All, IfOk, IsTrue, map};
+ghost use Rattle.std.specs.Prelude.{◌≡◌, ◌≢◌, false, true, ◌<◌, All, IfOk, IsTrue, map};
 ghost use Rattle.ecma_token.specs.Kinds.{question_mark_kind};
 ghost use Rattle.ecma_token.specs.OperatorKinds.{assign_op_kind, binary_op_kind};
 ghost use Rattle.ecma_syntax.specs.Input.{kind, kind2, lo};
@@ -8,7 +8,7 @@ ghost use Rattle.ecma_node.specs.Placed.{holds_expr, inner};
 ghost use Rattle.ecma_node.specs.View.{unary_op_word, update_op_word, view_computed_prop_name, view_expr_or_spread, view_member_prop, view_private_name};
 ghost use Rattle.ecma_reading.specs.Source as spec;
 ghost use Rattle.ecma_reading.specs.Expressions as reads;
-ghost use Rattle.ecma_parse_state.specs.Answers.{Gives, going_on};
+ghost use Rattle.ecma_parse_state.specs.Answers.{Falls, Gives, going_on, Stays};
 ghost use Rattle.ecma_parse_state.specs.Codes.{code_of};
 ghost use Rattle.ecma_parse_state.specs.Fronts.{machine_of};
 ghost use Rattle.ecma_parse_state.specs.Stands.{from, from_span, stand};
@@ -39,7 +39,7 @@ pub fn sequence<'a, I: Tokens<'a> + Drop, N: Nested<'a, I>>(
 ) -> Result<Operand, Failure>
     requires ready { N.ready nested.now }
     ensures value { Gives (λ x. (tree_of x, stand I.state p.new)) result (sequence_by (machine_of I.machine) (N.reads nested.now I.State I.machine) (code_of code) (from start.0) (tree_of left) (stand I.state p.old)) }
-    ensures shorter { IfOk result (λ _. spec.bound (machine_of I.machine) (stand I.state p.new) < spec.bound (machine_of I.machine) (stand I.state p.old)) }
+    ensures shorter { Falls result (spec.bound (machine_of I.machine) (stand I.state p.new)) (spec.bound (machine_of I.machine) (stand I.state p.old)) }
 {
     p.bump()?;
     let right = nested.expr(p, code, ASSIGNMENT)?;
@@ -59,7 +59,7 @@ pub fn question<'a, I: Tokens<'a> + Drop, N: Nested<'a, I>>(
     requires ready { N.ready nested.now }
     requires mark { kind (spec.input (machine_of I.machine) (stand I.state p.old)) ≡ question_mark_kind }
     ensures value { Gives (λ x. (tree_of x, stand I.state p.new)) result (question_by (machine_of I.machine) (N.reads nested.now I.State I.machine) (code_of code) (from start.0) (tree_of left) (stand I.state p.old)) }
-    ensures shorter { IfOk result (λ _. spec.bound (machine_of I.machine) (stand I.state p.new) < spec.bound (machine_of I.machine) (stand I.state p.old)) }
+    ensures shorter { Falls result (spec.bound (machine_of I.machine) (stand I.state p.new)) (spec.bound (machine_of I.machine) (stand I.state p.old)) }
 {
     let (second, _) = p.second()?;
     if second != kinds::DOT {
@@ -88,7 +88,7 @@ pub fn postfix<'a, I: Tokens<'a> + Drop>(
     requires mark { update_op_word op ≡ kind (spec.input (machine_of I.machine) (stand I.state p.old)) }
     requires some { kind (spec.input (machine_of I.machine) (stand I.state p.old)) ≢ 0 }
     ensures value { Gives (λ x. (tree_of x, stand I.state p.new)) result (postfix_by (machine_of I.machine) (from start.0) (tree_of left) (stand I.state p.old)) }
-    ensures shorter { IfOk result (λ _. spec.bound (machine_of I.machine) (stand I.state p.new) < spec.bound (machine_of I.machine) (stand I.state p.old)) }
+    ensures shorter { Falls result (spec.bound (machine_of I.machine) (stand I.state p.new)) (spec.bound (machine_of I.machine) (stand I.state p.old)) }
 {
     if left.level < NEW_LEVEL {
         return Err(p.unexpected());
@@ -112,7 +112,7 @@ pub fn step<'a, I: Tokens<'a> + Drop, N: Nested<'a, I>>(
 ) -> Result<Operand, Failure>
     requires ready { N.ready nested.now }
     ensures value { Gives (λ x. (tree_of x, stand I.state p.new)) result (reads.step_by (machine_of I.machine) (N.reads nested.now I.State I.machine) (code_of code) (from start.0) (tree_of left) (stand I.state p.old)) }
-    ensures shorter { IfOk result (λ _. spec.bound (machine_of I.machine) (stand I.state p.new) < spec.bound (machine_of I.machine) (stand I.state p.old)) }
+    ensures shorter { Falls result (spec.bound (machine_of I.machine) (stand I.state p.new)) (spec.bound (machine_of I.machine) (stand I.state p.old)) }
 {
     let kind = p.kind();
     if kind == kinds::END {
@@ -162,7 +162,7 @@ pub fn turn<'a, I: Tokens<'a> + Drop, N: Nested<'a, I>>(
     requires ready { N.ready nested.now }
     ensures value { Gives (λ x. (going_on x.0 (tree_of x.1), stand I.state p.new)) result (reads.loop_step (machine_of I.machine) (N.reads nested.now I.State I.machine) (code_of code) least (from start.0) (tree_of left) (stand I.state p.old)) }
     ensures shorter { IfOk result (λ x. IsTrue x.0 → spec.bound (machine_of I.machine) (stand I.state p.new) < spec.bound (machine_of I.machine) (stand I.state p.old)) }
-    ensures not_longer { IfOk result (λ _. spec.bound (machine_of I.machine) (stand I.state p.new) ≤ spec.bound (machine_of I.machine) (stand I.state p.old)) }
+    ensures not_longer { Stays result (spec.bound (machine_of I.machine) (stand I.state p.new)) (spec.bound (machine_of I.machine) (stand I.state p.old)) }
 {
     let level = p.goes(code, left.end)?;
     if level < least {
@@ -185,7 +185,7 @@ pub fn operators<'a, I: Tokens<'a> + Drop, N: Nested<'a, I>>(
 ) -> Result<Operand, Failure>
     requires ready { N.ready nested.now }
     ensures value { Gives (λ x. (tree_of x, stand I.state p.new)) result (reads.loop_by (machine_of I.machine) (N.reads nested.now I.State I.machine) (code_of code) least (from start.0) (tree_of first) (stand I.state p.old)) }
-    ensures not_longer { IfOk result (λ _. spec.bound (machine_of I.machine) (stand I.state p.new) ≤ spec.bound (machine_of I.machine) (stand I.state p.old)) }
+    ensures not_longer { Stays result (spec.bound (machine_of I.machine) (stand I.state p.new)) (spec.bound (machine_of I.machine) (stand I.state p.old)) }
 {
     if first.level < least {
         if first.level == NEW_LEVEL && least == MEMBER {

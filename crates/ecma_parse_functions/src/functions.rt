@@ -1,12 +1,12 @@
 //! Parameters and functions.
-ghost use Rattle.std.specs.Prelude.{◌≡◌, ◌<◌, All, IfOk, map};
+ghost use Rattle.std.specs.Prelude.{◌≡◌, All, IfOk, map};
 ghost use Rattle.ecma_token.specs.Kinds.{right_paren_kind};
 ghost use Rattle.ecma_node.specs.Fits.{fits_function, fits_param};
 ghost use Rattle.ecma_node.specs.Placed.{inner};
 ghost use Rattle.ecma_node.specs.View.{view_function, view_param};
 ghost use Rattle.ecma_reading.specs.Source as spec;
 ghost use Rattle.ecma_reading.specs.Expressions as reads;
-ghost use Rattle.ecma_parse_state.specs.Answers.{Gives, going_on, IsSyntax};
+ghost use Rattle.ecma_parse_state.specs.Answers.{Falls, Gives, going_on, IsSyntax};
 ghost use Rattle.ecma_parse_state.specs.Codes.{code_of};
 ghost use Rattle.ecma_parse_state.specs.Fronts.{machine_of};
 ghost use Rattle.ecma_parse_state.specs.Stands.{stand};
@@ -31,7 +31,7 @@ pub fn parameter<'a, I: Tokens<'a> + Drop, N: Nested<'a, I>>(
     requires ready { N.ready nested.now }
     ensures value { Gives (λ x. (view_param inner x, stand I.state p.new)) result (reads.parameter_by (machine_of I.machine) (N.reads nested.now I.State I.machine) (code_of code) (stand I.state p.old)) }
     ensures fits { IfOk result (λ x. fits_param (λ p. p) x) }
-    ensures shorter { IfOk result (λ _. spec.bound (machine_of I.machine) (stand I.state p.new) < spec.bound (machine_of I.machine) (stand I.state p.old)) }
+    ensures shorter { Falls result (spec.bound (machine_of I.machine) (stand I.state p.new)) (spec.bound (machine_of I.machine) (stand I.state p.old)) }
 {
     let start = p.lo();
     if p.eat(kinds::DOT_DOT_DOT)? {
@@ -72,7 +72,7 @@ pub fn parameter_turn<'a, I: Tokens<'a> + Drop, N: Nested<'a, I>>(
     requires fits { All (λ x. fits_param (λ p. p) x) params.old.items }
     ensures value { Gives (λ x. (going_on x (map (view_param inner) params.new.items), stand I.state p.new)) result (reads.parameter_step (machine_of I.machine) (N.reads nested.now I.State I.machine) (code_of code) (map (view_param inner) params.old.items) (stand I.state p.old)) }
     ensures fits { IfOk result (λ _. All (λ x. fits_param (λ p. p) x) params.new.items) }
-    ensures shorter { IfOk result (λ _. spec.bound (machine_of I.machine) (stand I.state p.new) < spec.bound (machine_of I.machine) (stand I.state p.old)) }
+    ensures shorter { Falls result (spec.bound (machine_of I.machine) (stand I.state p.new)) (spec.bound (machine_of I.machine) (stand I.state p.old)) }
 {
     if p.eat(kinds::RIGHT_PAREN)? {
         return Ok(false);
@@ -98,7 +98,7 @@ pub fn parameters<'a, I: Tokens<'a> + Drop, N: Nested<'a, I>>(
     requires ready { N.ready nested.now }
     ensures value { Gives (λ x. (map (view_param inner) x.items, stand I.state p.new)) result (reads.parameters_by (machine_of I.machine) (N.reads nested.now I.State I.machine) (code_of code) (stand I.state p.old)) }
     ensures fits { IfOk result (λ x. All (λ x. fits_param (λ p. p) x) x.items) }
-    ensures shorter { IfOk result (λ _. spec.bound (machine_of I.machine) (stand I.state p.new) < spec.bound (machine_of I.machine) (stand I.state p.old)) }
+    ensures shorter { Falls result (spec.bound (machine_of I.machine) (stand I.state p.new)) (spec.bound (machine_of I.machine) (stand I.state p.old)) }
 {
     p.expect(kinds::LEFT_PAREN)?;
     let mut params = Vec::new(p.alloc);
@@ -120,7 +120,7 @@ pub fn function<'a, I: Tokens<'a> + Drop, N: Nested<'a, I>>(
     requires ready { N.ready nested.now }
     ensures value { Gives (λ x. (view_function inner x.value, stand I.state p.new)) result (reads.function_by (machine_of I.machine) (N.reads nested.now I.State I.machine) (code_of code) whole.0 generator is_async (stand I.state p.old)) }
     ensures fits { IfOk result (λ x. fits_function (λ p. p) x.value) }
-    ensures shorter { IfOk result (λ _. spec.bound (machine_of I.machine) (stand I.state p.new) < spec.bound (machine_of I.machine) (stand I.state p.old)) }
+    ensures shorter { Falls result (spec.bound (machine_of I.machine) (stand I.state p.new)) (spec.bound (machine_of I.machine) (stand I.state p.old)) }
 {
     let inside = in_body(generator, is_async, code);
     let params = parameters(p, nested, inside)?;
@@ -146,7 +146,7 @@ pub fn close_parameters<'a, I: Tokens<'a> + Drop>(
     kind: SyntaxError,
 ) -> Result<(), Failure>
     ensures value { Gives (λ _. stand I.state p.new) result (spec.eat (machine_of I.machine) right_paren_kind (stand I.state p.old)) }
-    ensures shorter { IfOk result (λ _. spec.bound (machine_of I.machine) (stand I.state p.new) < spec.bound (machine_of I.machine) (stand I.state p.old)) }
+    ensures shorter { Falls result (spec.bound (machine_of I.machine) (stand I.state p.new)) (spec.bound (machine_of I.machine) (stand I.state p.old)) }
 {
     if p.eat(kinds::RIGHT_PAREN)? {
         return Ok(());
@@ -174,7 +174,7 @@ pub fn setter_parameter<'a, I: Tokens<'a> + Drop, N: Nested<'a, I>>(
     requires ready { N.ready nested.now }
     ensures value { Gives (λ x. (view_param inner x, stand I.state p.new)) result (reads.setter_parameter (machine_of I.machine) (N.reads nested.now I.State I.machine) (code_of code) (stand I.state p.old)) }
     ensures fits { IfOk result (λ x. fits_param (λ p. p) x) }
-    ensures shorter { IfOk result (λ _. spec.bound (machine_of I.machine) (stand I.state p.new) < spec.bound (machine_of I.machine) (stand I.state p.old)) }
+    ensures shorter { Falls result (spec.bound (machine_of I.machine) (stand I.state p.new)) (spec.bound (machine_of I.machine) (stand I.state p.old)) }
 {
     p.expect(kinds::LEFT_PAREN)?;
     let place = p.place();

@@ -1,8 +1,8 @@
 //! What tells an accessor and an `async` method from a key: the token behind the word.
-ghost use Rattle.std.specs.Prelude.{◌≡◌, ◌<◌, ◌≤◌, IfErr, IfOk};
+ghost use Rattle.std.specs.Prelude.{◌≡◌, ◌<◌, IfErr, IfOk};
 ghost use Rattle.ecma_reading.specs.Source as spec;
 ghost use Rattle.ecma_reading.specs.Expressions as reads;
-ghost use Rattle.ecma_parse_state.specs.Answers.{Gives, IsMemory};
+ghost use Rattle.ecma_parse_state.specs.Answers.{Gives, IsMemory, Stays};
 ghost use Rattle.ecma_parse_state.specs.Fronts.{machine_of};
 ghost use Rattle.ecma_parse_state.specs.Stands.{stand};
 
@@ -62,7 +62,7 @@ pub fn star<'a, I: Tokens<'a> + Drop, N: Nested<'a, I>>(
     _nested: &N,
 ) -> Result<bool, Failure>
     ensures value { Gives (λ b. (b, stand I.state p.new)) result (reads.star (machine_of I.machine) (N.reads _nested.now I.State I.machine) (stand I.state p.old)) }
-    ensures not_longer { IfOk result (λ _. spec.bound (machine_of I.machine) (stand I.state p.new) ≤ spec.bound (machine_of I.machine) (stand I.state p.old)) }
+    ensures not_longer { Stays result (spec.bound (machine_of I.machine) (stand I.state p.new)) (spec.bound (machine_of I.machine) (stand I.state p.old)) }
 {
     p.eat(kinds::MUL)
 }

@@ -1,12 +1,12 @@
 //! Keys of properties and members.
-ghost use Rattle.std.specs.Prelude.{◌≡◌, false, ◌<◌, IfOk};
+ghost use Rattle.std.specs.Prelude.{◌≡◌, false, IfOk};
 ghost use Rattle.ecma_token.specs.Kinds.{regex_kind};
 ghost use Rattle.ecma_node.specs.Fits.{fits_prop_name};
 ghost use Rattle.ecma_node.specs.Placed.{inner};
 ghost use Rattle.ecma_node.specs.View.{view_prop_name};
 ghost use Rattle.ecma_reading.specs.Source as spec;
 ghost use Rattle.ecma_reading.specs.Expressions as reads;
-ghost use Rattle.ecma_parse_state.specs.Answers.{Gives};
+ghost use Rattle.ecma_parse_state.specs.Answers.{Falls, Gives};
 ghost use Rattle.ecma_parse_state.specs.Codes.{code_of};
 ghost use Rattle.ecma_parse_state.specs.Fronts.{machine_of};
 ghost use Rattle.ecma_parse_state.specs.Stands.{stand};
@@ -32,7 +32,7 @@ pub fn literal_key<'a, I: Tokens<'a> + Drop, N: Nested<'a, I>>(
     requires other { spec.at (machine_of I.machine) regex_kind (stand I.state p.old) ≡ false }
     ensures value { Gives (λ x. (view_prop_name inner x, stand I.state p.new)) result (reads.literal_by (machine_of I.machine) (N.reads _nested.now I.State I.machine) (stand I.state p.old)) }
     ensures fits { IfOk result (λ x. fits_prop_name (λ p. p) x) }
-    ensures shorter { IfOk result (λ _. spec.bound (machine_of I.machine) (stand I.state p.new) < spec.bound (machine_of I.machine) (stand I.state p.old)) }
+    ensures shorter { Falls result (spec.bound (machine_of I.machine) (stand I.state p.new)) (spec.bound (machine_of I.machine) (stand I.state p.old)) }
 {
     let span = p.place();
     let fault = p.unexpected();
@@ -60,7 +60,7 @@ pub fn key<'a, I: Tokens<'a> + Drop, N: Nested<'a, I>>(
     requires ready { N.ready nested.now }
     ensures value { Gives (λ x. (view_prop_name inner x, stand I.state p.new)) result (reads.key_by (machine_of I.machine) (N.reads nested.now I.State I.machine) (code_of code) (stand I.state p.old)) }
     ensures fits { IfOk result (λ x. fits_prop_name (λ p. p) x) }
-    ensures shorter { IfOk result (λ _. spec.bound (machine_of I.machine) (stand I.state p.new) < spec.bound (machine_of I.machine) (stand I.state p.old)) }
+    ensures shorter { Falls result (spec.bound (machine_of I.machine) (stand I.state p.new)) (spec.bound (machine_of I.machine) (stand I.state p.old)) }
 {
     if p.at(kinds::LEFT_BRACKET) {
         return Ok(PropName::Computed(computed(p, nested, code, ASSIGNMENT)?));

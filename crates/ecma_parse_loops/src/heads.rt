@@ -1,5 +1,5 @@
 //! Heads of `for` that declare.
-ghost use Rattle.std.specs.Prelude.{◌≡◌, ◌≢◌, ◌<◌, true, false, All, IfOk, map};
+ghost use Rattle.std.specs.Prelude.{◌≡◌, ◌≢◌, true, false, All, IfOk, map};
 ghost use Rattle.ecma_syntax.specs.Input.{kind};
 ghost use Rattle.ecma_syntax.specs.Shape as shape;
 ghost use Rattle.ecma_node.specs.Fits.{fits_for_head, fits_var_decl_or_expr, fits_var_declarator};
@@ -7,7 +7,7 @@ ghost use Rattle.ecma_node.specs.Placed.{holds_stmt, inner};
 ghost use Rattle.ecma_node.specs.View.{var_decl_kind_word, view_for_head, view_var_decl_or_expr, view_var_declarator};
 ghost use Rattle.ecma_reading.specs.Source as spec;
 ghost use Rattle.ecma_reading.specs.Statements as reads;
-ghost use Rattle.ecma_parse_state.specs.Answers.{Gives};
+ghost use Rattle.ecma_parse_state.specs.Answers.{Falls, Gives};
 ghost use Rattle.ecma_parse_state.specs.Codes.{code_of};
 ghost use Rattle.ecma_parse_state.specs.Fronts.{machine_of};
 ghost use Rattle.ecma_parse_state.specs.Stands.{from, stand};
@@ -115,7 +115,7 @@ pub fn head_rest<'a, I: Tokens<'a> + Drop, N: Nested<'a, I>>(
     requires declared { FitDeclared declared }
     ensures value { Gives (λ x. (inner x.part.value, stand I.state p.new)) result (reads.head_rest (machine_of I.machine) (N.reads nested.now I.State I.machine) (code_of code) (from start.0) awaits (declared_of declared) (view_declared declared) (stand I.state p.old)) }
     ensures holds { IfOk result (λ x. holds_stmt x.part.value) }
-    ensures shorter { IfOk result (λ _. spec.bound (machine_of I.machine) (stand I.state p.new) < spec.bound (machine_of I.machine) (stand I.state p.old)) }
+    ensures shorter { Falls result (spec.bound (machine_of I.machine) (stand I.state p.new)) (spec.bound (machine_of I.machine) (stand I.state p.old)) }
 {
     if p.at(kinds::OF) {
         if !declares_one(p, nested, &declared) {
@@ -151,7 +151,7 @@ pub fn for_variables<'a, I: Tokens<'a> + Drop, N: Nested<'a, I>>(
     requires some { kind (spec.input (machine_of I.machine) (stand I.state p.old)) ≢ 0 }
     ensures value { Gives (λ x. (inner x.part.value, stand I.state p.new)) result (reads.for_variables (machine_of I.machine) (N.reads nested.now I.State I.machine) (code_of code) (from start.0) awaits (stand I.state p.old)) }
     ensures holds { IfOk result (λ x. holds_stmt x.part.value) }
-    ensures shorter { IfOk result (λ _. spec.bound (machine_of I.machine) (stand I.state p.new) < spec.bound (machine_of I.machine) (stand I.state p.old)) }
+    ensures shorter { Falls result (spec.bound (machine_of I.machine) (stand I.state p.new)) (spec.bound (machine_of I.machine) (stand I.state p.old)) }
 {
     let own = p.lo();
     p.eat_word(code, p.kind())?;
@@ -175,7 +175,7 @@ pub fn for_using<'a, I: Tokens<'a> + Drop, N: Nested<'a, I>>(
     requires ready { N.ready nested.now }
     ensures value { Gives (λ x. (inner x.part.value, stand I.state p.new)) result (reads.for_using (machine_of I.machine) (N.reads nested.now I.State I.machine) (code_of code) (from start.0) awaits (from own.0) waits (stand I.state p.old)) }
     ensures holds { IfOk result (λ x. holds_stmt x.part.value) }
-    ensures shorter { IfOk result (λ _. spec.bound (machine_of I.machine) (stand I.state p.new) < spec.bound (machine_of I.machine) (stand I.state p.old)) }
+    ensures shorter { Falls result (spec.bound (machine_of I.machine) (stand I.state p.new)) (spec.bound (machine_of I.machine) (stand I.state p.old)) }
 {
     p.eat_word(code, kinds::USING)?;
     let list = declarators(p, nested, without_in(code))?;

@@ -6,7 +6,7 @@ ghost use Rattle.ecma_node.specs.View.{view_for_head, view_var_decl_or_expr};
 ghost use Rattle.ecma_tree.specs.Tree.{part_by};
 ghost use Rattle.ecma_reading.specs.Source as spec;
 ghost use Rattle.ecma_reading.specs.Statements as reads;
-ghost use Rattle.ecma_parse_state.specs.Answers.{Gives};
+ghost use Rattle.ecma_parse_state.specs.Answers.{Falls, Gives};
 ghost use Rattle.ecma_parse_state.specs.Codes.{code_of};
 ghost use Rattle.ecma_parse_state.specs.Fronts.{machine_of};
 ghost use Rattle.ecma_parse_state.specs.Stands.{from, stand};
@@ -34,7 +34,7 @@ pub fn clause<'a, I: Tokens<'a> + Drop, N: Nested<'a, I>>(
     requires ready { N.ready nested.now }
     requires close { 0 < close }
     ensures value { Gives (λ x. (part_by tree_of x, stand I.state p.new)) result (reads.clause_by (machine_of I.machine) (N.reads nested.now I.State I.machine) (code_of code) close (stand I.state p.old)) }
-    ensures shorter { IfOk result (λ _. spec.bound (machine_of I.machine) (stand I.state p.new) < spec.bound (machine_of I.machine) (stand I.state p.old)) }
+    ensures shorter { Falls result (spec.bound (machine_of I.machine) (stand I.state p.new)) (spec.bound (machine_of I.machine) (stand I.state p.old)) }
 {
     if p.eat(close)? {
         return Ok(None);
@@ -58,7 +58,7 @@ pub fn for_rest<'a, I: Tokens<'a> + Drop, N: Nested<'a, I>>(
     requires init { fits_held (λ x. fits_var_decl_or_expr (λ p. p) x) init }
     ensures value { Gives (λ x. (inner x.part.value, stand I.state p.new)) result (reads.for_rest (machine_of I.machine) (N.reads nested.now I.State I.machine) (code_of code) (from start.0) (part_by (view_var_decl_or_expr inner) init) (stand I.state p.old)) }
     ensures holds { IfOk result (λ x. holds_stmt x.part.value) }
-    ensures shorter { IfOk result (λ _. spec.bound (machine_of I.machine) (stand I.state p.new) < spec.bound (machine_of I.machine) (stand I.state p.old)) }
+    ensures shorter { Falls result (spec.bound (machine_of I.machine) (stand I.state p.new)) (spec.bound (machine_of I.machine) (stand I.state p.old)) }
 {
     p.expect(kinds::SEMICOLON)?;
     let test = clause(p, nested, code, kinds::SEMICOLON)?;
@@ -79,7 +79,7 @@ pub fn over<'a, I: Tokens<'a> + Drop, N: Nested<'a, I>>(
     requires ready { N.ready nested.now }
     ensures value { Gives (λ x. ((tree_of x.0, inner x.1.part.value), stand I.state p.new)) result (over_by (machine_of I.machine) (N.reads nested.now I.State I.machine) (code_of code) level (stand I.state p.old)) }
     ensures fits { IfOk result (λ x. holds_stmt x.1.part.value) }
-    ensures shorter { IfOk result (λ _. spec.bound (machine_of I.machine) (stand I.state p.new) < spec.bound (machine_of I.machine) (stand I.state p.old)) }
+    ensures shorter { Falls result (spec.bound (machine_of I.machine) (stand I.state p.new)) (spec.bound (machine_of I.machine) (stand I.state p.old)) }
 {
     let right = nested.expr(p, code, level)?;
     p.expect(kinds::RIGHT_PAREN)?;
@@ -101,7 +101,7 @@ pub fn in_rest<'a, I: Tokens<'a> + Drop, N: Nested<'a, I>>(
     requires left { fits_for_head (λ p. p) left }
     ensures value { Gives (λ x. (inner x.part.value, stand I.state p.new)) result (reads.in_rest (machine_of I.machine) (N.reads nested.now I.State I.machine) (code_of code) (from start.0) (view_for_head inner left) (stand I.state p.old)) }
     ensures holds { IfOk result (λ x. holds_stmt x.part.value) }
-    ensures shorter { IfOk result (λ _. spec.bound (machine_of I.machine) (stand I.state p.new) < spec.bound (machine_of I.machine) (stand I.state p.old)) }
+    ensures shorter { Falls result (spec.bound (machine_of I.machine) (stand I.state p.new)) (spec.bound (machine_of I.machine) (stand I.state p.old)) }
 {
     p.eat_word(code, kinds::IN)?;
     let (right, body) = over(p, nested, code, EXPRESSION)?;
@@ -123,7 +123,7 @@ pub fn of_rest<'a, I: Tokens<'a> + Drop, N: Nested<'a, I>>(
     requires left { fits_for_head (λ p. p) left }
     ensures value { Gives (λ x. (inner x.part.value, stand I.state p.new)) result (reads.of_rest (machine_of I.machine) (N.reads nested.now I.State I.machine) (code_of code) (from start.0) awaits (view_for_head inner left) (stand I.state p.old)) }
     ensures holds { IfOk result (λ x. holds_stmt x.part.value) }
-    ensures shorter { IfOk result (λ _. spec.bound (machine_of I.machine) (stand I.state p.new) < spec.bound (machine_of I.machine) (stand I.state p.old)) }
+    ensures shorter { Falls result (spec.bound (machine_of I.machine) (stand I.state p.new)) (spec.bound (machine_of I.machine) (stand I.state p.old)) }
 {
     p.eat_word(code, kinds::OF)?;
     let (right, body) = over(p, nested, code, ASSIGNMENT)?;

@@ -1,8 +1,7 @@
 //! `new`.
-ghost use Rattle.std.specs.Prelude.{◌<◌, ◌≤◌, IfOk};
 ghost use Rattle.ecma_reading.specs.Source as spec;
 ghost use Rattle.ecma_reading.specs.Expressions as reads;
-ghost use Rattle.ecma_parse_state.specs.Answers.{Gives};
+ghost use Rattle.ecma_parse_state.specs.Answers.{Falls, Gives, Stays};
 ghost use Rattle.ecma_parse_state.specs.Codes.{code_of};
 ghost use Rattle.ecma_parse_state.specs.Fronts.{machine_of};
 ghost use Rattle.ecma_parse_state.specs.Stands.{from, stand};
@@ -30,7 +29,7 @@ pub fn new_call<'a, I: Tokens<'a> + Drop, N: Nested<'a, I>>(
 ) -> Result<Operand, Failure>
     requires ready { N.ready nested.now }
     ensures value { Gives (λ x. (tree_of x, stand I.state p.new)) result (pieces.new_call_by (machine_of I.machine) (N.reads nested.now I.State I.machine) (code_of code) (from start.0) (tree_of f) (stand I.state p.old)) }
-    ensures shorter { IfOk result (λ _. spec.bound (machine_of I.machine) (stand I.state p.new) < spec.bound (machine_of I.machine) (stand I.state p.old)) }
+    ensures shorter { Falls result (spec.bound (machine_of I.machine) (stand I.state p.new)) (spec.bound (machine_of I.machine) (stand I.state p.old)) }
 {
     p.bump()?;
     let args = arguments(p, nested, code)?;
@@ -67,7 +66,7 @@ pub fn new_end<'a, I: Tokens<'a> + Drop, N: Nested<'a, I>>(
 ) -> Result<Operand, Failure>
     requires ready { N.ready nested.now }
     ensures value { Gives (λ x. (tree_of x, stand I.state p.new)) result (reads.new_end (machine_of I.machine) (N.reads nested.now I.State I.machine) (code_of code) (from start.0) (tree_of f) (stand I.state p.old)) }
-    ensures not_longer { IfOk result (λ _. spec.bound (machine_of I.machine) (stand I.state p.new) ≤ spec.bound (machine_of I.machine) (stand I.state p.old)) }
+    ensures not_longer { Stays result (spec.bound (machine_of I.machine) (stand I.state p.new)) (spec.bound (machine_of I.machine) (stand I.state p.old)) }
 {
     if p.at(kinds::LEFT_PAREN) && f.level >= MEMBER {
         return new_call(p, nested, code, start, f);
@@ -85,7 +84,7 @@ pub fn new_expr<'a, I: Tokens<'a> + Drop, N: Nested<'a, I>>(
 ) -> Result<Operand, Failure>
     requires ready { N.ready nested.now }
     ensures value { Gives (λ x. (tree_of x, stand I.state p.new)) result (reads.new_by (machine_of I.machine) (N.reads nested.now I.State I.machine) (code_of code) (stand I.state p.old)) }
-    ensures shorter { IfOk result (λ _. spec.bound (machine_of I.machine) (stand I.state p.new) < spec.bound (machine_of I.machine) (stand I.state p.old)) }
+    ensures shorter { Falls result (spec.bound (machine_of I.machine) (stand I.state p.new)) (spec.bound (machine_of I.machine) (stand I.state p.old)) }
 {
     let start = p.lo();
     p.eat_word(code, kinds::NEW)?;

@@ -1,11 +1,11 @@
 //! Items of patterns, with an initialiser or without, and what follows them.
-ghost use Rattle.std.specs.Prelude.{◌≡◌, ◌<◌, ◌≤◌, ◌&&◌, true, false, IfOk};
+ghost use Rattle.std.specs.Prelude.{◌≡◌, ◌<◌, ◌&&◌, true, false, IfOk};
 ghost use Rattle.ecma_node.specs.Fits.{fits_rest_pat};
 ghost use Rattle.ecma_node.specs.Placed.{holds_pat, inner};
 ghost use Rattle.ecma_node.specs.View.{view_rest_pat};
 ghost use Rattle.ecma_reading.specs.Source as spec;
 ghost use Rattle.ecma_reading.specs.Statements as reads;
-ghost use Rattle.ecma_parse_state.specs.Answers.{Gives};
+ghost use Rattle.ecma_parse_state.specs.Answers.{Falls, Gives, Stays};
 ghost use Rattle.ecma_parse_state.specs.Codes.{code_of};
 ghost use Rattle.ecma_parse_state.specs.Fronts.{machine_of};
 ghost use Rattle.ecma_parse_state.specs.Stands.{from, stand};
@@ -35,7 +35,7 @@ pub fn initial<'a, I: Tokens<'a> + Drop, N: Nested<'a, I>>(
     requires pat { holds_pat pat.part.value }
     ensures value { Gives (λ x. (inner x.part.value, stand I.state p.new)) result (reads.initial_pat (machine_of I.machine) (N.reads nested.now I.State I.machine) (code_of code) (from start.0) (inner pat.part.value) (stand I.state p.old)) }
     ensures fits { IfOk result (λ x. holds_pat x.part.value) }
-    ensures not_longer { IfOk result (λ _. spec.bound (machine_of I.machine) (stand I.state p.new) ≤ spec.bound (machine_of I.machine) (stand I.state p.old)) }
+    ensures not_longer { Stays result (spec.bound (machine_of I.machine) (stand I.state p.new)) (spec.bound (machine_of I.machine) (stand I.state p.old)) }
 {
     if p.eat(kinds::ASSIGN)? {
         let value = nested.expr(p, with_in(code), ASSIGNMENT)?;
@@ -55,7 +55,7 @@ pub fn item<'a, I: Tokens<'a> + Drop, N: Nested<'a, I>>(
     requires ready { N.ready nested.now }
     ensures value { Gives (λ x. (inner x.part.value, stand I.state p.new)) result (item_by (machine_of I.machine) (N.reads nested.now I.State I.machine) (code_of code) (stand I.state p.old)) }
     ensures fits { IfOk result (λ x. holds_pat x.part.value) }
-    ensures shorter { IfOk result (λ _. spec.bound (machine_of I.machine) (stand I.state p.new) < spec.bound (machine_of I.machine) (stand I.state p.old)) }
+    ensures shorter { Falls result (spec.bound (machine_of I.machine) (stand I.state p.new)) (spec.bound (machine_of I.machine) (stand I.state p.old)) }
 {
     let start = p.lo();
     let pat = nested.pat(p, with_in(code))?;
@@ -73,7 +73,7 @@ pub fn rest<'a, I: Tokens<'a> + Drop, N: Nested<'a, I>>(
     requires ready { N.ready nested.now }
     ensures value { Gives (λ x. (view_rest_pat inner x, stand I.state p.new)) result (rest_by (machine_of I.machine) (N.reads nested.now I.State I.machine) (code_of code) (stand I.state p.old)) }
     ensures fits { IfOk result (λ x. fits_rest_pat (λ p. p) x) }
-    ensures shorter { IfOk result (λ _. spec.bound (machine_of I.machine) (stand I.state p.new) < spec.bound (machine_of I.machine) (stand I.state p.old)) }
+    ensures shorter { Falls result (spec.bound (machine_of I.machine) (stand I.state p.new)) (spec.bound (machine_of I.machine) (stand I.state p.old)) }
 {
     let start = p.lo();
     let dot3_token = dots(start);
@@ -96,7 +96,7 @@ pub fn goes_on<'a, I: Tokens<'a> + Drop>(
 ) -> Result<bool, Failure>
     requires { 0 < close }
     ensures value { Gives (λ b. (b, stand I.state p.new)) result (after_by (machine_of I.machine) close last (stand I.state p.old)) }
-    ensures shorter { IfOk result (λ _. spec.bound (machine_of I.machine) (stand I.state p.new) < spec.bound (machine_of I.machine) (stand I.state p.old)) }
+    ensures shorter { Falls result (spec.bound (machine_of I.machine) (stand I.state p.new)) (spec.bound (machine_of I.machine) (stand I.state p.old)) }
 {
     if !last && p.eat(kinds::COMMA)? {
         return Ok(true);

@@ -1,5 +1,5 @@
 //! Arrays and objects of patterns, and a pattern of any kind.
-ghost use Rattle.std.specs.Prelude.{◌≡◌, ◌++◌, ◌∷◌, [], ◌<◌, true, false, All, IfErr, IfOk, map};
+ghost use Rattle.std.specs.Prelude.{◌≡◌, ◌++◌, ◌∷◌, [], true, false, All, IfErr, IfOk, map};
 ghost use Rattle.ecma_syntax.specs.Shape as shape;
 ghost use Rattle.ecma_node.specs.Fits.{fits_held, fits_object_pat_prop};
 ghost use Rattle.ecma_node.specs.Placed.{holds_pat, inner};
@@ -7,7 +7,7 @@ ghost use Rattle.ecma_node.specs.View.{view_object_pat_prop};
 ghost use Rattle.ecma_tree.specs.Tree.{element_by};
 ghost use Rattle.ecma_reading.specs.Source as spec;
 ghost use Rattle.ecma_reading.specs.Statements as reads;
-ghost use Rattle.ecma_parse_state.specs.Answers.{Gives, going_on, IsMemory};
+ghost use Rattle.ecma_parse_state.specs.Answers.{Falls, Gives, going_on, IsMemory};
 ghost use Rattle.ecma_parse_state.specs.Codes.{code_of};
 ghost use Rattle.ecma_parse_state.specs.Fronts.{machine_of};
 ghost use Rattle.ecma_parse_state.specs.Stands.{stand};
@@ -45,7 +45,7 @@ pub fn array_turn<'a, I: Tokens<'a> + Drop, N: Nested<'a, I>>(
     requires fits { All (λ y. fits_held (λ z. holds_pat z.part.value) y) list.old.items }
     ensures value { Gives (λ x. (going_on x (map (λ y. element_by (λ z. inner z.part.value) y) list.new.items), stand I.state p.new)) result (reads.array_item (machine_of I.machine) (N.reads nested.now I.State I.machine) (code_of code) (map (λ y. element_by (λ z. inner z.part.value) y) list.old.items) (stand I.state p.old)) }
     ensures fits { IfOk result (λ x. All (λ y. fits_held (λ z. holds_pat z.part.value) y) list.new.items) }
-    ensures shorter { IfOk result (λ _. spec.bound (machine_of I.machine) (stand I.state p.new) < spec.bound (machine_of I.machine) (stand I.state p.old)) }
+    ensures shorter { Falls result (spec.bound (machine_of I.machine) (stand I.state p.new)) (spec.bound (machine_of I.machine) (stand I.state p.old)) }
 {
     if p.eat(kinds::RIGHT_BRACKET)? {
         return Ok(false);
@@ -76,7 +76,7 @@ pub fn array_items<'a, I: Tokens<'a> + Drop, N: Nested<'a, I>>(
     requires ready { N.ready nested.now }
     ensures value { Gives (λ x. (map (λ y. element_by (λ z. inner z.part.value) y) x.items, stand I.state p.new)) result (array_items (machine_of I.machine) (N.reads nested.now I.State I.machine) (code_of code) (stand I.state p.old)) }
     ensures fits { IfOk result (λ x. All (λ y. fits_held (λ z. holds_pat z.part.value) y) x.items) }
-    ensures shorter { IfOk result (λ _. spec.bound (machine_of I.machine) (stand I.state p.new) < spec.bound (machine_of I.machine) (stand I.state p.old)) }
+    ensures shorter { Falls result (spec.bound (machine_of I.machine) (stand I.state p.new)) (spec.bound (machine_of I.machine) (stand I.state p.old)) }
 {
     let mut list = Vec::new(p.alloc);
     'turns: while array_turn(p, nested, code, &mut list)? {}
@@ -94,7 +94,7 @@ pub fn array<'a, I: Tokens<'a> + Drop, N: Nested<'a, I>>(
     requires ready { N.ready nested.now }
     ensures value { Gives (λ x. (inner x.part.value, stand I.state p.new)) result (reads.array_pat_by (machine_of I.machine) (N.reads nested.now I.State I.machine) (code_of code) (stand I.state p.old)) }
     ensures fits { IfOk result (λ x. holds_pat x.part.value) }
-    ensures shorter { IfOk result (λ _. spec.bound (machine_of I.machine) (stand I.state p.new) < spec.bound (machine_of I.machine) (stand I.state p.old)) }
+    ensures shorter { Falls result (spec.bound (machine_of I.machine) (stand I.state p.new)) (spec.bound (machine_of I.machine) (stand I.state p.old)) }
 {
     let start = p.lo();
     p.bump()?;
@@ -113,7 +113,7 @@ pub fn object_rest<'a, I: Tokens<'a> + Drop, N: Nested<'a, I>>(
     requires ready { N.ready nested.now }
     ensures value { Gives (λ x. (view_object_pat_prop inner x, stand I.state p.new)) result (object_rest (machine_of I.machine) (N.reads nested.now I.State I.machine) (code_of code) (stand I.state p.old)) }
     ensures fits { IfOk result (λ x. fits_object_pat_prop (λ p. p) x) }
-    ensures shorter { IfOk result (λ _. spec.bound (machine_of I.machine) (stand I.state p.new) < spec.bound (machine_of I.machine) (stand I.state p.old)) }
+    ensures shorter { Falls result (spec.bound (machine_of I.machine) (stand I.state p.new)) (spec.bound (machine_of I.machine) (stand I.state p.old)) }
 {
     let read = rest(p, nested, code)?;
     if is_structured(read.arg.get()) {
@@ -148,7 +148,7 @@ pub fn object_turn<'a, I: Tokens<'a> + Drop, N: Nested<'a, I>>(
     requires fits { All (λ y. fits_object_pat_prop (λ p. p) y) list.old.items }
     ensures value { Gives (λ x. (going_on x (map (view_object_pat_prop inner) list.new.items), stand I.state p.new)) result (reads.object_item (machine_of I.machine) (N.reads nested.now I.State I.machine) (code_of code) (map (view_object_pat_prop inner) list.old.items) (stand I.state p.old)) }
     ensures fits { IfOk result (λ x. All (λ y. fits_object_pat_prop (λ p. p) y) list.new.items) }
-    ensures shorter { IfOk result (λ _. spec.bound (machine_of I.machine) (stand I.state p.new) < spec.bound (machine_of I.machine) (stand I.state p.old)) }
+    ensures shorter { Falls result (spec.bound (machine_of I.machine) (stand I.state p.new)) (spec.bound (machine_of I.machine) (stand I.state p.old)) }
 {
     if p.eat(kinds::RIGHT_BRACE)? {
         return Ok(false);
@@ -174,7 +174,7 @@ pub fn object_items<'a, I: Tokens<'a> + Drop, N: Nested<'a, I>>(
     requires ready { N.ready nested.now }
     ensures value { Gives (λ x. (map (view_object_pat_prop inner) x.items, stand I.state p.new)) result (object_items (machine_of I.machine) (N.reads nested.now I.State I.machine) (code_of code) (stand I.state p.old)) }
     ensures fits { IfOk result (λ x. All (λ y. fits_object_pat_prop (λ p. p) y) x.items) }
-    ensures shorter { IfOk result (λ _. spec.bound (machine_of I.machine) (stand I.state p.new) < spec.bound (machine_of I.machine) (stand I.state p.old)) }
+    ensures shorter { Falls result (spec.bound (machine_of I.machine) (stand I.state p.new)) (spec.bound (machine_of I.machine) (stand I.state p.old)) }
 {
     let mut list = Vec::new(p.alloc);
     'turns: while object_turn(p, nested, code, &mut list)? {}
@@ -192,7 +192,7 @@ pub fn object<'a, I: Tokens<'a> + Drop, N: Nested<'a, I>>(
     requires ready { N.ready nested.now }
     ensures value { Gives (λ x. (inner x.part.value, stand I.state p.new)) result (reads.object_pat_by (machine_of I.machine) (N.reads nested.now I.State I.machine) (code_of code) (stand I.state p.old)) }
     ensures fits { IfOk result (λ x. holds_pat x.part.value) }
-    ensures shorter { IfOk result (λ _. spec.bound (machine_of I.machine) (stand I.state p.new) < spec.bound (machine_of I.machine) (stand I.state p.old)) }
+    ensures shorter { Falls result (spec.bound (machine_of I.machine) (stand I.state p.new)) (spec.bound (machine_of I.machine) (stand I.state p.old)) }
 {
     let start = p.lo();
     p.bump()?;
@@ -211,7 +211,7 @@ pub fn pattern<'a, I: Tokens<'a> + Drop, N: Nested<'a, I>>(
     requires ready { N.ready nested.now }
     ensures value { Gives (λ x. (inner x.part.value, stand I.state p.new)) result (reads.pat_by (machine_of I.machine) (N.reads nested.now I.State I.machine) (code_of code) (stand I.state p.old)) }
     ensures fits { IfOk result (λ x. holds_pat x.part.value) }
-    ensures shorter { IfOk result (λ _. spec.bound (machine_of I.machine) (stand I.state p.new) < spec.bound (machine_of I.machine) (stand I.state p.old)) }
+    ensures shorter { Falls result (spec.bound (machine_of I.machine) (stand I.state p.new)) (spec.bound (machine_of I.machine) (stand I.state p.old)) }
 {
     if p.at(kinds::LEFT_BRACKET) {
         return array(p, nested, code);

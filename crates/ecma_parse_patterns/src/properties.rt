@@ -1,11 +1,11 @@
 //! Properties of patterns.
-ghost use Rattle.std.specs.Prelude.{◌≡◌, ◌<◌, ◌≤◌, true, IfOk};
+ghost use Rattle.std.specs.Prelude.{◌≡◌, true, IfOk};
 ghost use Rattle.ecma_node.specs.Fits.{fits_object_pat_prop, fits_prop_name};
 ghost use Rattle.ecma_node.specs.Placed.{inner};
 ghost use Rattle.ecma_node.specs.View.{view_object_pat_prop, view_prop_name};
 ghost use Rattle.ecma_reading.specs.Source as spec;
 ghost use Rattle.ecma_reading.specs.Statements as reads;
-ghost use Rattle.ecma_parse_state.specs.Answers.{Gives};
+ghost use Rattle.ecma_parse_state.specs.Answers.{Falls, Gives, Stays};
 ghost use Rattle.ecma_parse_state.specs.Codes.{code_of};
 ghost use Rattle.ecma_parse_state.specs.Fronts.{machine_of};
 ghost use Rattle.ecma_parse_state.specs.Stands.{from, stand};
@@ -38,7 +38,7 @@ pub fn keyed<'a, I: Tokens<'a> + Drop, N: Nested<'a, I>>(
     requires key { fits_prop_name (λ p. p) key }
     ensures value { Gives (λ x. (view_object_pat_prop inner x, stand I.state p.new)) result (reads.keyed_item (machine_of I.machine) (N.reads nested.now I.State I.machine) (code_of code) (from start.0) (view_prop_name inner key) (stand I.state p.old)) }
     ensures fits { IfOk result (λ x. fits_object_pat_prop (λ p. p) x) }
-    ensures shorter { IfOk result (λ _. spec.bound (machine_of I.machine) (stand I.state p.new) < spec.bound (machine_of I.machine) (stand I.state p.old)) }
+    ensures shorter { Falls result (spec.bound (machine_of I.machine) (stand I.state p.new)) (spec.bound (machine_of I.machine) (stand I.state p.old)) }
 {
     let value = item(p, nested, code)?;
     let span = p.since(start);
@@ -58,7 +58,7 @@ pub fn named<'a, I: Tokens<'a> + Drop, N: Nested<'a, I>>(
     requires ready { N.ready nested.now }
     ensures value { Gives (λ x. (view_object_pat_prop inner x, stand I.state p.new)) result (named_rest (machine_of I.machine) (N.reads nested.now I.State I.machine) (code_of code) span sym (stand I.state p.old)) }
     ensures fits { IfOk result (λ x. fits_object_pat_prop (λ p. p) x) }
-    ensures not_longer { IfOk result (λ _. spec.bound (machine_of I.machine) (stand I.state p.new) ≤ spec.bound (machine_of I.machine) (stand I.state p.old)) }
+    ensures not_longer { Stays result (spec.bound (machine_of I.machine) (stand I.state p.new)) (spec.bound (machine_of I.machine) (stand I.state p.old)) }
 {
     let key = BindingIdent {
         span,
@@ -92,7 +92,7 @@ pub fn word_property<'a, I: Tokens<'a> + Drop, N: Nested<'a, I>>(
     requires word { spec.is_name (machine_of I.machine) (code_of code) (stand I.state p.old) ≡ true }
     ensures value { Gives (λ x. (view_object_pat_prop inner x, stand I.state p.new)) result (reads.pattern_prop (machine_of I.machine) (N.reads nested.now I.State I.machine) (code_of code) (stand I.state p.old)) }
     ensures fits { IfOk result (λ x. fits_object_pat_prop (λ p. p) x) }
-    ensures shorter { IfOk result (λ _. spec.bound (machine_of I.machine) (stand I.state p.new) < spec.bound (machine_of I.machine) (stand I.state p.old)) }
+    ensures shorter { Falls result (spec.bound (machine_of I.machine) (stand I.state p.new)) (spec.bound (machine_of I.machine) (stand I.state p.old)) }
 {
     let start = p.lo();
     let span = p.place();
@@ -115,7 +115,7 @@ pub fn property<'a, I: Tokens<'a> + Drop, N: Nested<'a, I>>(
     requires ready { N.ready nested.now }
     ensures value { Gives (λ x. (view_object_pat_prop inner x, stand I.state p.new)) result (reads.pattern_prop (machine_of I.machine) (N.reads nested.now I.State I.machine) (code_of code) (stand I.state p.old)) }
     ensures fits { IfOk result (λ x. fits_object_pat_prop (λ p. p) x) }
-    ensures shorter { IfOk result (λ _. spec.bound (machine_of I.machine) (stand I.state p.new) < spec.bound (machine_of I.machine) (stand I.state p.old)) }
+    ensures shorter { Falls result (spec.bound (machine_of I.machine) (stand I.state p.new)) (spec.bound (machine_of I.machine) (stand I.state p.old)) }
 {
     if p.is_name(code) {
         return word_property(p, nested, code);

@@ -1,11 +1,11 @@
 //! The default export.
-ghost use Rattle.std.specs.Prelude.{◌≡◌, ◌<◌, ◌≤◌, false, true, IfOk};
+ghost use Rattle.std.specs.Prelude.{◌≡◌, false, true, IfOk};
 ghost use Rattle.ecma_node.specs.Fits.{fits_module_decl};
 ghost use Rattle.ecma_node.specs.Placed.{inner};
 ghost use Rattle.ecma_node.specs.View.{view_module_decl};
 ghost use Rattle.ecma_reading.specs.Source as spec;
 ghost use Rattle.ecma_reading.specs.Modules as reads;
-ghost use Rattle.ecma_parse_state.specs.Answers.{Gives};
+ghost use Rattle.ecma_parse_state.specs.Answers.{Falls, Gives};
 ghost use Rattle.ecma_parse_state.specs.Codes.{code_of};
 ghost use Rattle.ecma_parse_state.specs.Fronts.{machine_of};
 ghost use Rattle.ecma_parse_state.specs.Stands.{from, stand};
@@ -35,7 +35,7 @@ pub fn default_fn<'a, I: Tokens<'a> + Drop, N: Nested<'a, I>>(
     requires ready { N.ready nested.now }
     ensures value { Gives (λ x. (view_module_decl inner x, stand I.state p.new)) result (default_fn_by (machine_of I.machine) (N.reads nested.now I.State I.machine) (code_of code) (from start.0) (from begin.0) is_async (stand I.state p.old)) }
     ensures fits { IfOk result (λ x. fits_module_decl (λ p. p) x) }
-    ensures shorter { IfOk result (λ _. spec.bound (machine_of I.machine) (stand I.state p.new) < spec.bound (machine_of I.machine) (stand I.state p.old)) }
+    ensures shorter { Falls result (spec.bound (machine_of I.machine) (stand I.state p.new)) (spec.bound (machine_of I.machine) (stand I.state p.old)) }
 {
     let function = function_expr(p, nested, code, begin, is_async)?;
     Ok(ModuleDecl::ExportDefaultDecl(ExportDefaultDecl {
@@ -56,7 +56,7 @@ pub fn default_expr<'a, I: Tokens<'a> + Drop, N: Nested<'a, I>>(
     requires ready { N.ready nested.now }
     ensures value { Gives (λ x. (view_module_decl inner x, stand I.state p.new)) result (default_expr_by (machine_of I.machine) (N.reads nested.now I.State I.machine) (code_of code) (from start.0) (stand I.state p.old)) }
     ensures fits { IfOk result (λ x. fits_module_decl (λ p. p) x) }
-    ensures shorter { IfOk result (λ _. spec.bound (machine_of I.machine) (stand I.state p.new) < spec.bound (machine_of I.machine) (stand I.state p.old)) }
+    ensures shorter { Falls result (spec.bound (machine_of I.machine) (stand I.state p.new)) (spec.bound (machine_of I.machine) (stand I.state p.old)) }
 {
     let read = nested.expr(p, code, ASSIGNMENT)?;
     p.end_of(code, read.end)?;
@@ -78,7 +78,7 @@ pub fn default_other<'a, I: Tokens<'a> + Drop, N: Nested<'a, I>>(
     requires ready { N.ready nested.now }
     ensures value { Gives (λ x. (view_module_decl inner x, stand I.state p.new)) result (default_other_by (machine_of I.machine) (N.reads nested.now I.State I.machine) (code_of code) (from start.0) (stand I.state p.old)) }
     ensures fits { IfOk result (λ x. fits_module_decl (λ p. p) x) }
-    ensures shorter { IfOk result (λ _. spec.bound (machine_of I.machine) (stand I.state p.new) < spec.bound (machine_of I.machine) (stand I.state p.old)) }
+    ensures shorter { Falls result (spec.bound (machine_of I.machine) (stand I.state p.new)) (spec.bound (machine_of I.machine) (stand I.state p.old)) }
 {
     if !p.at(kinds::CLASS) {
         return default_expr(p, nested, code, start);
@@ -102,7 +102,7 @@ pub fn export_default<'a, I: Tokens<'a> + Drop, N: Nested<'a, I>>(
     requires ready { N.ready nested.now }
     ensures value { Gives (λ x. (view_module_decl inner x, stand I.state p.new)) result (reads.export_default (machine_of I.machine) (N.reads nested.now I.State I.machine) (code_of code) (from start.0) (stand I.state p.old)) }
     ensures fits { IfOk result (λ x. fits_module_decl (λ p. p) x) }
-    ensures shorter { IfOk result (λ _. spec.bound (machine_of I.machine) (stand I.state p.new) < spec.bound (machine_of I.machine) (stand I.state p.old)) }
+    ensures shorter { Falls result (spec.bound (machine_of I.machine) (stand I.state p.new)) (spec.bound (machine_of I.machine) (stand I.state p.old)) }
 {
     let begin = p.lo();
     if p.at(kinds::FUNCTION) {

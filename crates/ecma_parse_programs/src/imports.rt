@@ -1,12 +1,12 @@
 //! Imports (ECMA-262, 16.2.2).
-ghost use Rattle.std.specs.Prelude.{◌≡◌, ◌<◌, ◌≤◌, ◌++◌, false, true, IfErr, IfOk, map};
+ghost use Rattle.std.specs.Prelude.{◌≡◌, ◌++◌, false, true, IfErr, IfOk, map};
 ghost use Rattle.ecma_token.specs.Kinds.{mul_kind};
 ghost use Rattle.ecma_node.specs.Fits.{fits_import_decl};
 ghost use Rattle.ecma_node.specs.Placed.{inner};
 ghost use Rattle.ecma_node.specs.View.{view_import_decl, view_import_specifier};
 ghost use Rattle.ecma_reading.specs.Source as spec;
 ghost use Rattle.ecma_reading.specs.Modules as reads;
-ghost use Rattle.ecma_parse_state.specs.Answers.{Gives, IsMemory, going_on};
+ghost use Rattle.ecma_parse_state.specs.Answers.{Falls, Gives, going_on, IsMemory};
 ghost use Rattle.ecma_parse_state.specs.Codes.{code_of};
 ghost use Rattle.ecma_parse_state.specs.Fronts.{machine_of};
 ghost use Rattle.ecma_parse_state.specs.Stands.{from, stand};
@@ -32,7 +32,7 @@ pub fn renamed_import<'a, I: Tokens<'a> + Drop, N: Nested<'a, I>>(
 ) -> Result<ImportSpecifier, Failure>
     requires unnamed { spec.is_name (machine_of I.machine) (code_of code) (stand I.state p.old) ≡ false }
     ensures value { Gives (λ x. (view_import_specifier x, stand I.state p.new)) result (reads.named_import (machine_of I.machine) (N.reads nested.now I.State I.machine) (code_of code) (stand I.state p.old)) }
-    ensures shorter { IfOk result (λ _. spec.bound (machine_of I.machine) (stand I.state p.new) < spec.bound (machine_of I.machine) (stand I.state p.old)) }
+    ensures shorter { Falls result (spec.bound (machine_of I.machine) (stand I.state p.new)) (spec.bound (machine_of I.machine) (stand I.state p.old)) }
 {
     let start = p.lo();
     let imported = export_name(p, nested)?;
@@ -55,7 +55,7 @@ pub fn bound_import<'a, I: Tokens<'a> + Drop, N: Nested<'a, I>>(
 ) -> Result<ImportSpecifier, Failure>
     requires named { spec.is_name (machine_of I.machine) (code_of code) (stand I.state p.old) ≡ true }
     ensures value { Gives (λ x. (view_import_specifier x, stand I.state p.new)) result (reads.named_import (machine_of I.machine) (N.reads nested.now I.State I.machine) (code_of code) (stand I.state p.old)) }
-    ensures shorter { IfOk result (λ _. spec.bound (machine_of I.machine) (stand I.state p.new) < spec.bound (machine_of I.machine) (stand I.state p.old)) }
+    ensures shorter { Falls result (spec.bound (machine_of I.machine) (stand I.state p.new)) (spec.bound (machine_of I.machine) (stand I.state p.old)) }
 {
     let start = p.lo();
     let span = p.place();
@@ -84,7 +84,7 @@ pub fn named_import<'a, I: Tokens<'a> + Drop, N: Nested<'a, I>>(
     code: Around,
 ) -> Result<ImportSpecifier, Failure>
     ensures value { Gives (λ x. (view_import_specifier x, stand I.state p.new)) result (reads.named_import (machine_of I.machine) (N.reads nested.now I.State I.machine) (code_of code) (stand I.state p.old)) }
-    ensures shorter { IfOk result (λ _. spec.bound (machine_of I.machine) (stand I.state p.new) < spec.bound (machine_of I.machine) (stand I.state p.old)) }
+    ensures shorter { Falls result (spec.bound (machine_of I.machine) (stand I.state p.new)) (spec.bound (machine_of I.machine) (stand I.state p.old)) }
 {
     if p.is_name(code) {
         bound_import(p, nested, code)
@@ -103,7 +103,7 @@ pub fn import_turn<'a, I: Tokens<'a> + Drop, N: Nested<'a, I>>(
     list: &mut Vec<ImportSpecifier>,
 ) -> Result<bool, Failure>
     ensures value { Gives (λ x. (going_on x (map view_import_specifier list.new.items), stand I.state p.new)) result (reads.specifier_step (machine_of I.machine) (N.reads nested.now I.State I.machine) true (code_of code) (map view_import_specifier list.old.items) (stand I.state p.old)) }
-    ensures shorter { IfOk result (λ _. spec.bound (machine_of I.machine) (stand I.state p.new) < spec.bound (machine_of I.machine) (stand I.state p.old)) }
+    ensures shorter { Falls result (spec.bound (machine_of I.machine) (stand I.state p.new)) (spec.bound (machine_of I.machine) (stand I.state p.old)) }
 {
     if p.eat(kinds::RIGHT_BRACE)? {
         return Ok(false);
@@ -126,7 +126,7 @@ pub fn named_imports<'a, I: Tokens<'a> + Drop, N: Nested<'a, I>>(
     code: Around,
 ) -> Result<Vec<ImportSpecifier>, Failure>
     ensures value { Gives (λ x. (map view_import_specifier x.items, stand I.state p.new)) result (reads.specifiers_by (machine_of I.machine) (N.reads nested.now I.State I.machine) true (code_of code) (stand I.state p.old)) }
-    ensures shorter { IfOk result (λ _. spec.bound (machine_of I.machine) (stand I.state p.new) < spec.bound (machine_of I.machine) (stand I.state p.old)) }
+    ensures shorter { Falls result (spec.bound (machine_of I.machine) (stand I.state p.new)) (spec.bound (machine_of I.machine) (stand I.state p.old)) }
 {
     let mut list = Vec::new(p.alloc);
     'turns: while import_turn(p, nested, code, &mut list)? {}
@@ -142,7 +142,7 @@ pub fn star_import<'a, I: Tokens<'a> + Drop, N: Nested<'a, I>>(
     code: Around,
 ) -> Result<ImportSpecifier, Failure>
     ensures value { Gives (λ x. (view_import_specifier x, stand I.state p.new)) result (reads.star_import (machine_of I.machine) (N.reads nested.now I.State I.machine) (code_of code) (stand I.state p.old)) }
-    ensures shorter { IfOk result (λ _. spec.bound (machine_of I.machine) (stand I.state p.new) < spec.bound (machine_of I.machine) (stand I.state p.old)) }
+    ensures shorter { Falls result (spec.bound (machine_of I.machine) (stand I.state p.new)) (spec.bound (machine_of I.machine) (stand I.state p.old)) }
 {
     let start = p.lo();
     p.expect(kinds::MUL)?;
@@ -167,7 +167,7 @@ pub fn import_end<'a, I: Tokens<'a> + Drop, N: Nested<'a, I>>(
     requires ready { N.ready nested.now }
     ensures value { Gives (λ x. (view_import_decl inner x, stand I.state p.new)) result (reads.import_end (machine_of I.machine) (N.reads nested.now I.State I.machine) (code_of code) (from start.0) (map view_import_specifier specifiers.items) (stand I.state p.old)) }
     ensures fits { IfOk result (λ x. fits_import_decl (λ p. p) x) }
-    ensures shorter { IfOk result (λ _. spec.bound (machine_of I.machine) (stand I.state p.new) < spec.bound (machine_of I.machine) (stand I.state p.old)) }
+    ensures shorter { Falls result (spec.bound (machine_of I.machine) (stand I.state p.new)) (spec.bound (machine_of I.machine) (stand I.state p.old)) }
 {
     p.eat_word(code, kinds::FROM)?;
     let from = source(p, nested, code)?;
@@ -193,7 +193,7 @@ pub fn import_star<'a, I: Tokens<'a> + Drop, N: Nested<'a, I>>(
     requires star { spec.at (machine_of I.machine) mul_kind (stand I.state p.old) ≡ true }
     ensures value { Gives (λ x. (view_import_decl inner x, stand I.state p.new)) result (reads.import_rest (machine_of I.machine) (N.reads nested.now I.State I.machine) (code_of code) (from start.0) (first_of first) (stand I.state p.old)) }
     ensures fits { IfOk result (λ x. fits_import_decl (λ p. p) x) }
-    ensures shorter { IfOk result (λ _. spec.bound (machine_of I.machine) (stand I.state p.new) < spec.bound (machine_of I.machine) (stand I.state p.old)) }
+    ensures shorter { Falls result (spec.bound (machine_of I.machine) (stand I.state p.new)) (spec.bound (machine_of I.machine) (stand I.state p.old)) }
 {
     let star = star_import(p, nested, code)?;
     let mut specifiers = Vec::new(p.alloc);
@@ -231,7 +231,7 @@ pub fn import_rest<'a, I: Tokens<'a> + Drop, N: Nested<'a, I>>(
     requires ready { N.ready nested.now }
     ensures value { Gives (λ x. (view_import_decl inner x, stand I.state p.new)) result (reads.import_rest (machine_of I.machine) (N.reads nested.now I.State I.machine) (code_of code) (from start.0) (first_of first) (stand I.state p.old)) }
     ensures fits { IfOk result (λ x. fits_import_decl (λ p. p) x) }
-    ensures shorter { IfOk result (λ _. spec.bound (machine_of I.machine) (stand I.state p.new) < spec.bound (machine_of I.machine) (stand I.state p.old)) }
+    ensures shorter { Falls result (spec.bound (machine_of I.machine) (stand I.state p.new)) (spec.bound (machine_of I.machine) (stand I.state p.old)) }
 {
     if p.at(kinds::MUL) {
         return import_star(p, nested, code, start, first);
@@ -253,7 +253,7 @@ pub fn import_default<'a, I: Tokens<'a> + Drop, N: Nested<'a, I>>(
     requires ready { N.ready nested.now }
     ensures value { Gives (λ x. (view_import_decl inner x, stand I.state p.new)) result (reads.import_default (machine_of I.machine) (N.reads nested.now I.State I.machine) (code_of code) (from start.0) (stand I.state p.old)) }
     ensures fits { IfOk result (λ x. fits_import_decl (λ p. p) x) }
-    ensures shorter { IfOk result (λ _. spec.bound (machine_of I.machine) (stand I.state p.new) < spec.bound (machine_of I.machine) (stand I.state p.old)) }
+    ensures shorter { Falls result (spec.bound (machine_of I.machine) (stand I.state p.new)) (spec.bound (machine_of I.machine) (stand I.state p.old)) }
 {
     let span = p.place();
     let local = local(p, nested, code)?;
@@ -277,7 +277,7 @@ pub fn import_decl<'a, I: Tokens<'a> + Drop, N: Nested<'a, I>>(
     requires ready { N.ready nested.now }
     ensures value { Gives (λ x. (view_import_decl inner x, stand I.state p.new)) result (reads.import_decl_by (machine_of I.machine) (N.reads nested.now I.State I.machine) (code_of code) (stand I.state p.old)) }
     ensures fits { IfOk result (λ x. fits_import_decl (λ p. p) x) }
-    ensures shorter { IfOk result (λ _. spec.bound (machine_of I.machine) (stand I.state p.new) < spec.bound (machine_of I.machine) (stand I.state p.old)) }
+    ensures shorter { Falls result (spec.bound (machine_of I.machine) (stand I.state p.new)) (spec.bound (machine_of I.machine) (stand I.state p.old)) }
 {
     let start = p.lo();
     p.eat_word(code, kinds::IMPORT)?;

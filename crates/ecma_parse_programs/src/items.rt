@@ -1,12 +1,12 @@
 //! The items of scripts and modules.
-ghost use Rattle.std.specs.Prelude.{◌≡◌, ◌<◌, ◌≤◌, false, true, IfErr, IfOk, IsTrue};
+ghost use Rattle.std.specs.Prelude.{◌≡◌, ◌<◌, false, true, IfErr, IfOk, IsTrue};
 ghost use Rattle.ecma_syntax.specs.Shape as shape;
 ghost use Rattle.ecma_node.specs.Fits.{fits_module_item};
 ghost use Rattle.ecma_node.specs.Placed.{holds_stmt, inner};
 ghost use Rattle.ecma_node.specs.View.{view_module_item};
 ghost use Rattle.ecma_reading.specs.Source as spec;
 ghost use Rattle.ecma_reading.specs.Modules as reads;
-ghost use Rattle.ecma_parse_state.specs.Answers.{Gives, IsMemory, IsSyntax, going_on};
+ghost use Rattle.ecma_parse_state.specs.Answers.{Falls, Gives, going_on, IsMemory, IsSyntax};
 ghost use Rattle.ecma_parse_state.specs.Codes.{code_of};
 ghost use Rattle.ecma_parse_state.specs.Fronts.{machine_of};
 ghost use Rattle.ecma_parse_state.specs.Stands.{stand};
@@ -75,7 +75,7 @@ pub fn script_item<'a, I: Tokens<'a> + Drop, N: Nested<'a, I>>(
     requires ready { N.ready nested.now }
     ensures value { Gives (λ x. (inner x.part.value, stand I.state p.new)) result (reads.item_by (machine_of I.machine) (N.reads nested.now I.State I.machine) false (code_of code) (stand I.state p.old)) }
     ensures holds { IfOk result (λ x. holds_stmt x.part.value) }
-    ensures shorter { IfOk result (λ _. spec.bound (machine_of I.machine) (stand I.state p.new) < spec.bound (machine_of I.machine) (stand I.state p.old)) }
+    ensures shorter { Falls result (spec.bound (machine_of I.machine) (stand I.state p.new)) (spec.bound (machine_of I.machine) (stand I.state p.old)) }
 {
     if starts_import(p, nested)? || p.at(kinds::EXPORT) {
         return Err(module_declaration(p.place()));
@@ -94,7 +94,7 @@ pub fn module_item<'a, I: Tokens<'a> + Drop, N: Nested<'a, I>>(
     requires ready { N.ready nested.now }
     ensures value { Gives (λ x. (view_module_item inner x, stand I.state p.new)) result (reads.item_by (machine_of I.machine) (N.reads nested.now I.State I.machine) true (code_of code) (stand I.state p.old)) }
     ensures fits { IfOk result (λ x. fits_module_item (λ p. p) x) }
-    ensures shorter { IfOk result (λ _. spec.bound (machine_of I.machine) (stand I.state p.new) < spec.bound (machine_of I.machine) (stand I.state p.old)) }
+    ensures shorter { Falls result (spec.bound (machine_of I.machine) (stand I.state p.new)) (spec.bound (machine_of I.machine) (stand I.state p.old)) }
 {
     if starts_import(p, nested)? {
         let decl = import_decl(p, nested, code)?;
@@ -142,7 +142,7 @@ pub fn next_item<'a, I: Tokens<'a> + Drop, N: Nested<'a, I>>(
     requires fits { FitItems body.old }
     ensures value { Gives (λ _. (spec.go_on (items_of body.new), stand I.state p.new)) result (reads.program_item (machine_of I.machine) (N.reads nested.now I.State I.machine) true (items_of body.old) (stand I.state p.old)) }
     ensures fits { IfOk result (λ _. FitItems body.new) }
-    ensures shorter { IfOk result (λ _. spec.bound (machine_of I.machine) (stand I.state p.new) < spec.bound (machine_of I.machine) (stand I.state p.old)) }
+    ensures shorter { Falls result (spec.bound (machine_of I.machine) (stand I.state p.new)) (spec.bound (machine_of I.machine) (stand I.state p.old)) }
 {
     let item = module_item(p, nested, in_list(body.code))?;
     if body.starts && turns_strict(&item) {

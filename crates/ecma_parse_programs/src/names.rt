@@ -1,11 +1,11 @@
 //! Names of exports, names that are bound, and names of modules.
-ghost use Rattle.std.specs.Prelude.{◌≡◌, ◌<◌, ◌≤◌, false, true, IfOk};
+ghost use Rattle.std.specs.Prelude.{◌≡◌, false, true, IfOk};
 ghost use Rattle.ecma_node.specs.Fits.{fits_object_lit};
 ghost use Rattle.ecma_node.specs.Placed.{inner};
 ghost use Rattle.ecma_node.specs.View.{view_ident, view_module_export_name, view_object_lit, view_str};
 ghost use Rattle.ecma_reading.specs.Source as spec;
 ghost use Rattle.ecma_reading.specs.Modules as reads;
-ghost use Rattle.ecma_parse_state.specs.Answers.{Gives};
+ghost use Rattle.ecma_parse_state.specs.Answers.{Falls, Gives};
 ghost use Rattle.ecma_parse_state.specs.Codes.{code_of};
 ghost use Rattle.ecma_parse_state.specs.Fronts.{machine_of};
 ghost use Rattle.ecma_parse_state.specs.Stands.{stand};
@@ -36,7 +36,7 @@ pub fn string<'a, I: Tokens<'a> + Drop, N: Nested<'a, I>>(
     _nested: &N,
 ) -> Result<Str, Failure>
     ensures value { Gives (λ x. (view_str x, stand I.state p.new)) result (reads.string_by (machine_of I.machine) (N.reads _nested.now I.State I.machine) (stand I.state p.old)) }
-    ensures shorter { IfOk result (λ _. spec.bound (machine_of I.machine) (stand I.state p.new) < spec.bound (machine_of I.machine) (stand I.state p.old)) }
+    ensures shorter { Falls result (spec.bound (machine_of I.machine) (stand I.state p.new)) (spec.bound (machine_of I.machine) (stand I.state p.old)) }
 {
     let span = p.place();
     let fault = p.unexpected();
@@ -60,7 +60,7 @@ pub fn export_name<'a, I: Tokens<'a> + Drop, N: Nested<'a, I>>(
     nested: &N,
 ) -> Result<ModuleExportName, Failure>
     ensures value { Gives (λ x. (view_module_export_name x, stand I.state p.new)) result (reads.export_name_by (machine_of I.machine) (N.reads nested.now I.State I.machine) (stand I.state p.old)) }
-    ensures shorter { IfOk result (λ _. spec.bound (machine_of I.machine) (stand I.state p.new) < spec.bound (machine_of I.machine) (stand I.state p.old)) }
+    ensures shorter { Falls result (spec.bound (machine_of I.machine) (stand I.state p.new)) (spec.bound (machine_of I.machine) (stand I.state p.old)) }
 {
     if p.at(kinds::STR) {
         let text = string(p, nested)?;
@@ -79,7 +79,7 @@ pub fn local<'a, I: Tokens<'a> + Drop, N: Nested<'a, I>>(
     code: Around,
 ) -> Result<Ident, Failure>
     ensures value { Gives (λ x. (view_ident x, stand I.state p.new)) result (reads.local_by (machine_of I.machine) (N.reads _nested.now I.State I.machine) (code_of code) (stand I.state p.old)) }
-    ensures shorter { IfOk result (λ _. spec.bound (machine_of I.machine) (stand I.state p.new) < spec.bound (machine_of I.machine) (stand I.state p.old)) }
+    ensures shorter { Falls result (spec.bound (machine_of I.machine) (stand I.state p.new)) (spec.bound (machine_of I.machine) (stand I.state p.old)) }
 {
     let span = p.place();
     let sym = p.name(code)?;
@@ -97,7 +97,7 @@ pub fn attributes<'a, I: Tokens<'a> + Drop, N: Nested<'a, I>>(
     requires ready { N.ready nested.now }
     ensures value { Gives (λ x. (view_object_lit inner x.value, stand I.state p.new)) result (reads.attributes_by (machine_of I.machine) (N.reads nested.now I.State I.machine) (code_of code) (stand I.state p.old)) }
     ensures fits { IfOk result (λ x. fits_object_lit (λ p. p) x.value) }
-    ensures shorter { IfOk result (λ _. spec.bound (machine_of I.machine) (stand I.state p.new) < spec.bound (machine_of I.machine) (stand I.state p.old)) }
+    ensures shorter { Falls result (spec.bound (machine_of I.machine) (stand I.state p.new)) (spec.bound (machine_of I.machine) (stand I.state p.old)) }
 {
     if !p.at(kinds::LEFT_BRACE) {
         return Err(p.unexpected());
@@ -120,7 +120,7 @@ pub fn source<'a, I: Tokens<'a> + Drop, N: Nested<'a, I>>(
     requires ready { N.ready nested.now }
     ensures value { Gives (λ x. (from_of x, stand I.state p.new)) result (reads.source_by (machine_of I.machine) (N.reads nested.now I.State I.machine) (code_of code) (stand I.state p.old)) }
     ensures fits { IfOk result (λ x. FitSourced x) }
-    ensures shorter { IfOk result (λ _. spec.bound (machine_of I.machine) (stand I.state p.new) < spec.bound (machine_of I.machine) (stand I.state p.old)) }
+    ensures shorter { Falls result (spec.bound (machine_of I.machine) (stand I.state p.new)) (spec.bound (machine_of I.machine) (stand I.state p.old)) }
 {
     let text = string(p, nested)?;
     let src = Box::new(p.alloc, text)?;

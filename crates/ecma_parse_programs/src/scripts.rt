@@ -1,8 +1,8 @@
 //! The statements of scripts.
-ghost use Rattle.std.specs.Prelude.{◌≡◌, ◌<◌, ◌≤◌, false, true, IfOk, IsTrue};
+ghost use Rattle.std.specs.Prelude.{◌≡◌, ◌<◌, false, true, IfOk, IsTrue};
 ghost use Rattle.ecma_reading.specs.Source as spec;
 ghost use Rattle.ecma_reading.specs.Modules as reads;
-ghost use Rattle.ecma_parse_state.specs.Answers.{Gives, going_on};
+ghost use Rattle.ecma_parse_state.specs.Answers.{Falls, Gives, going_on};
 ghost use Rattle.ecma_parse_state.specs.Codes.{code_of};
 ghost use Rattle.ecma_parse_state.specs.Fronts.{machine_of};
 ghost use Rattle.ecma_parse_state.specs.Stands.{stand};
@@ -30,7 +30,7 @@ pub fn next_stmt<'a, I: Tokens<'a> + Drop, N: Nested<'a, I>>(
     requires fits { FitBody body.old }
     ensures value { Gives (λ _. (spec.go_on (body_of body.new), stand I.state p.new)) result (reads.program_item (machine_of I.machine) (N.reads nested.now I.State I.machine) false (body_of body.old) (stand I.state p.old)) }
     ensures fits { IfOk result (λ _. FitBody body.new) }
-    ensures shorter { IfOk result (λ _. spec.bound (machine_of I.machine) (stand I.state p.new) < spec.bound (machine_of I.machine) (stand I.state p.old)) }
+    ensures shorter { Falls result (spec.bound (machine_of I.machine) (stand I.state p.new)) (spec.bound (machine_of I.machine) (stand I.state p.old)) }
 {
     let read = script_item(p, nested, in_list(body.code))?;
     if body.starts && is_use_strict(read.get()) {

@@ -1,12 +1,12 @@
 //! `if`, and a chain of `else if` as a loop, so that a million links take no stack.
-ghost use Rattle.std.specs.Prelude.{◌≡◌, None, ◌<◌, ◌≤◌, ◌&&◌, true, false, IfErr, IfOk, length, map};
+ghost use Rattle.std.specs.Prelude.{◌≡◌, None, ◌<◌, ◌&&◌, true, false, IfErr, IfOk, length, map};
 ghost use Rattle.ecma_syntax.specs.Input.{kind};
 ghost use Rattle.ecma_node.specs.Fits.{fits_held};
 ghost use Rattle.ecma_node.specs.Placed.{holds_stmt, inner};
 ghost use Rattle.ecma_tree.specs.Tree.{part_by};
 ghost use Rattle.ecma_reading.specs.Source as spec;
 ghost use Rattle.ecma_reading.specs.Statements as reads;
-ghost use Rattle.ecma_parse_state.specs.Answers.{Gives, going_on, IsMemory};
+ghost use Rattle.ecma_parse_state.specs.Answers.{Falls, Gives, going_on, IsMemory, Stays};
 ghost use Rattle.ecma_parse_state.specs.Codes.{code_of};
 ghost use Rattle.ecma_parse_state.specs.Fronts.{machine_of};
 ghost use Rattle.ecma_parse_state.specs.Stands.{stand};
@@ -71,7 +71,7 @@ pub fn alternative<'a, I: Tokens<'a> + Drop, N: Nested<'a, I>>(
     ensures value { Gives (λ x. (going_on x (chain_of chain.new), stand I.state p.new)) result (reads.else_by (machine_of I.machine) (N.reads nested.now I.State I.machine) (chain_of chain.old) (stand I.state p.old)) }
     ensures fits { IfOk result (λ x. FitChain chain.new) }
     ensures kept { IfOk result (λ _. chain.new.branches ≡ chain.old.branches) }
-    ensures not_longer { IfOk result (λ _. spec.bound (machine_of I.machine) (stand I.state p.new) ≤ spec.bound (machine_of I.machine) (stand I.state p.old)) }
+    ensures not_longer { Stays result (spec.bound (machine_of I.machine) (stand I.state p.new)) (spec.bound (machine_of I.machine) (stand I.state p.old)) }
 {
     if operand_kind(p)? == kinds::IF {
         p.operand()?;
@@ -96,7 +96,7 @@ pub fn chain_turn<'a, I: Tokens<'a> + Drop, N: Nested<'a, I>>(
     ensures value { Gives (λ x. (going_on x (chain_of chain.new), stand I.state p.new)) result (reads.if_step (machine_of I.machine) (N.reads nested.now I.State I.machine) (chain_of chain.old) (stand I.state p.old)) }
     ensures fits { IfOk result (λ x. FitChain chain.new) }
     ensures some { IfOk result (λ _. 0 < length chain.new.branches.items) }
-    ensures shorter { IfOk result (λ _. spec.bound (machine_of I.machine) (stand I.state p.new) < spec.bound (machine_of I.machine) (stand I.state p.old)) }
+    ensures shorter { Falls result (spec.bound (machine_of I.machine) (stand I.state p.new)) (spec.bound (machine_of I.machine) (stand I.state p.old)) }
 {
     let start = p.lo();
     p.eat_word(chain.code, kinds::IF)?;
@@ -127,7 +127,7 @@ pub fn chain<'a, I: Tokens<'a> + Drop, N: Nested<'a, I>>(
     ensures value { Gives (λ x. (chain_of x, stand I.state p.new)) result (chain_items (machine_of I.machine) (N.reads nested.now I.State I.machine) (code_of code) (stand I.state p.old)) }
     ensures fits { IfOk result (λ x. FitChain x) }
     ensures some { IfOk result (λ x. 0 < length x.branches.items) }
-    ensures shorter { IfOk result (λ _. spec.bound (machine_of I.machine) (stand I.state p.new) < spec.bound (machine_of I.machine) (stand I.state p.old)) }
+    ensures shorter { Falls result (spec.bound (machine_of I.machine) (stand I.state p.new)) (spec.bound (machine_of I.machine) (stand I.state p.old)) }
 {
     let mut read = Links {
         branches: Vec::new(p.alloc),
@@ -183,7 +183,7 @@ pub fn if_stmt<'a, I: Tokens<'a> + Drop, N: Nested<'a, I>>(
     requires ready { N.ready nested.now }
     ensures value { Gives (λ x. (inner x.part.value, stand I.state p.new)) result (reads.if_by (machine_of I.machine) (N.reads nested.now I.State I.machine) (code_of code) (stand I.state p.old)) }
     ensures holds { IfOk result (λ x. holds_stmt x.part.value) }
-    ensures shorter { IfOk result (λ _. spec.bound (machine_of I.machine) (stand I.state p.new) < spec.bound (machine_of I.machine) (stand I.state p.old)) }
+    ensures shorter { Falls result (spec.bound (machine_of I.machine) (stand I.state p.new)) (spec.bound (machine_of I.machine) (stand I.state p.old)) }
 {
     let start = p.lo();
     let read = chain(p, nested, code)?;

@@ -1,12 +1,12 @@
 //! `try` with `catch` and `finally`.
-ghost use Rattle.std.specs.Prelude.{None, ◌<◌, ◌≤◌, IfOk};
+ghost use Rattle.std.specs.Prelude.{None, IfOk};
 ghost use Rattle.ecma_node.specs.Fits.{fits_block_stmt, fits_catch_clause, fits_held};
 ghost use Rattle.ecma_node.specs.Placed.{holds_stmt, inner};
 ghost use Rattle.ecma_node.specs.View.{view_block_stmt, view_catch_clause};
 ghost use Rattle.ecma_tree.specs.Tree.{part_by};
 ghost use Rattle.ecma_reading.specs.Source as spec;
 ghost use Rattle.ecma_reading.specs.Statements as reads;
-ghost use Rattle.ecma_parse_state.specs.Answers.{Gives};
+ghost use Rattle.ecma_parse_state.specs.Answers.{Falls, Gives, Stays};
 ghost use Rattle.ecma_parse_state.specs.Codes.{code_of};
 ghost use Rattle.ecma_parse_state.specs.Fronts.{machine_of};
 ghost use Rattle.ecma_parse_state.specs.Stands.{from, stand};
@@ -30,7 +30,7 @@ pub fn catch<'a, I: Tokens<'a> + Drop, N: Nested<'a, I>>(
     requires ready { N.ready nested.now }
     ensures value { Gives (λ x. (view_catch_clause inner x, stand I.state p.new)) result (reads.catch_by (machine_of I.machine) (N.reads nested.now I.State I.machine) (code_of code) (stand I.state p.old)) }
     ensures fits { IfOk result (λ x. fits_catch_clause (λ p. p) x) }
-    ensures shorter { IfOk result (λ _. spec.bound (machine_of I.machine) (stand I.state p.new) < spec.bound (machine_of I.machine) (stand I.state p.old)) }
+    ensures shorter { Falls result (spec.bound (machine_of I.machine) (stand I.state p.new)) (spec.bound (machine_of I.machine) (stand I.state p.old)) }
 {
     let start = p.lo();
     p.eat_word(code, kinds::CATCH)?;
@@ -70,7 +70,7 @@ pub fn finally<'a, I: Tokens<'a> + Drop, N: Nested<'a, I>>(
     requires handler { fits_held (λ x. fits_catch_clause (λ p. p) x) handler }
     ensures value { Gives (λ x. (inner x.part.value, stand I.state p.new)) result (reads.finally_by (machine_of I.machine) (N.reads nested.now I.State I.machine) (code_of code) (from start.0) (view_block_stmt inner body) (part_by (view_catch_clause inner) handler) (stand I.state p.old)) }
     ensures holds { IfOk result (λ x. holds_stmt x.part.value) }
-    ensures not_longer { IfOk result (λ _. spec.bound (machine_of I.machine) (stand I.state p.new) ≤ spec.bound (machine_of I.machine) (stand I.state p.old)) }
+    ensures not_longer { Stays result (spec.bound (machine_of I.machine) (stand I.state p.new)) (spec.bound (machine_of I.machine) (stand I.state p.old)) }
 {
     if p.at(kinds::FINALLY) {
         p.eat_word(code, kinds::FINALLY)?;
@@ -94,7 +94,7 @@ pub fn try_stmt<'a, I: Tokens<'a> + Drop, N: Nested<'a, I>>(
     requires ready { N.ready nested.now }
     ensures value { Gives (λ x. (inner x.part.value, stand I.state p.new)) result (reads.try_by (machine_of I.machine) (N.reads nested.now I.State I.machine) (code_of code) (stand I.state p.old)) }
     ensures holds { IfOk result (λ x. holds_stmt x.part.value) }
-    ensures shorter { IfOk result (λ _. spec.bound (machine_of I.machine) (stand I.state p.new) < spec.bound (machine_of I.machine) (stand I.state p.old)) }
+    ensures shorter { Falls result (spec.bound (machine_of I.machine) (stand I.state p.new)) (spec.bound (machine_of I.machine) (stand I.state p.old)) }
 {
     let start = p.lo();
     p.eat_word(code, kinds::TRY)?;

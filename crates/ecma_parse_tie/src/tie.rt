@@ -1,11 +1,11 @@
 //! The recursion, tied.
-ghost use Rattle.std.specs.Prelude.{◌<◌, IfOk};
+ghost use Rattle.std.specs.Prelude.{IfOk};
 ghost use Rattle.ecma_node.specs.Fits.{fits_block_stmt, fits_class};
 ghost use Rattle.ecma_node.specs.Placed.{inner, holds_pat, holds_stmt};
 ghost use Rattle.ecma_node.specs.View.{view_block_stmt, view_class};
 ghost use Rattle.ecma_reading.specs.Source as spec;
 ghost use Rattle.ecma_reading.specs.Reading.{readers};
-ghost use Rattle.ecma_parse_state.specs.Answers.{Gives};
+ghost use Rattle.ecma_parse_state.specs.Answers.{Falls, Gives};
 ghost use Rattle.ecma_parse_state.specs.Codes.{code_of};
 ghost use Rattle.ecma_parse_base.specs.Operands.{tree_of};
 
@@ -26,7 +26,7 @@ pub fn parse_expr<T: Layer>(
     level: u8,
 ) -> Result<Operand, Failure>
     ensures value { Gives (λ x. (tree_of x, T.stood p.new)) result ((readers T.machine depth).expr (code_of code) level (T.stood p.old)) }
-    ensures shorter { IfOk result (λ _. spec.bound T.machine (T.stood p.new) < spec.bound T.machine (T.stood p.old)) }
+    ensures shorter { Falls result (spec.bound T.machine (T.stood p.new)) (spec.bound T.machine (T.stood p.old)) }
 {
     if depth == 0 {
         return Err(Failure::TooDeep);
@@ -48,7 +48,7 @@ pub fn parse_expr<T: Layer>(
 pub fn parse_pat<T: Layer>(p: &mut T, depth: u32, code: Around) -> Result<PatBox, Failure>
     ensures value { Gives (λ x. (inner x.part.value, T.stood p.new)) result ((readers T.machine depth).pat (code_of code) (T.stood p.old)) }
     ensures holds { IfOk result (λ x. holds_pat x.part.value) }
-    ensures shorter { IfOk result (λ _. spec.bound T.machine (T.stood p.new) < spec.bound T.machine (T.stood p.old)) }
+    ensures shorter { Falls result (spec.bound T.machine (T.stood p.new)) (spec.bound T.machine (T.stood p.old)) }
 {
     if depth == 0 {
         return Err(Failure::TooDeep);
@@ -70,7 +70,7 @@ pub fn parse_pat<T: Layer>(p: &mut T, depth: u32, code: Around) -> Result<PatBox
 pub fn parse_stmt<T: Layer>(p: &mut T, depth: u32, code: Around) -> Result<StmtBox, Failure>
     ensures value { Gives (λ x. (inner x.part.value, T.stood p.new)) result ((readers T.machine depth).stmt (code_of code) (T.stood p.old)) }
     ensures holds { IfOk result (λ x. holds_stmt x.part.value) }
-    ensures shorter { IfOk result (λ _. spec.bound T.machine (T.stood p.new) < spec.bound T.machine (T.stood p.old)) }
+    ensures shorter { Falls result (spec.bound T.machine (T.stood p.new)) (spec.bound T.machine (T.stood p.old)) }
 {
     if depth == 0 {
         return Err(Failure::TooDeep);
@@ -92,7 +92,7 @@ pub fn parse_stmt<T: Layer>(p: &mut T, depth: u32, code: Around) -> Result<StmtB
 pub fn parse_body<T: Layer>(p: &mut T, depth: u32, code: Around) -> Result<BlockStmt, Failure>
     ensures value { Gives (λ x. (view_block_stmt inner x, T.stood p.new)) result ((readers T.machine depth).body (code_of code) (T.stood p.old)) }
     ensures fits { IfOk result (λ x. fits_block_stmt (λ p. p) x) }
-    ensures shorter { IfOk result (λ _. spec.bound T.machine (T.stood p.new) < spec.bound T.machine (T.stood p.old)) }
+    ensures shorter { Falls result (spec.bound T.machine (T.stood p.new)) (spec.bound T.machine (T.stood p.old)) }
 {
     if depth == 0 {
         return Err(Failure::TooDeep);
@@ -119,7 +119,7 @@ pub fn parse_class_tail<T: Layer>(
 ) -> Result<Box<Class>, Failure>
     ensures value { Gives (λ x. (view_class inner x.value, T.stood p.new)) result ((readers T.machine depth).class_tail (code_of code) whole.0 (T.stood p.old)) }
     ensures fits { IfOk result (λ x. fits_class (λ p. p) x.value) }
-    ensures shorter { IfOk result (λ _. spec.bound T.machine (T.stood p.new) < spec.bound T.machine (T.stood p.old)) }
+    ensures shorter { Falls result (spec.bound T.machine (T.stood p.new)) (spec.bound T.machine (T.stood p.old)) }
 {
     if depth == 0 {
         return Err(Failure::TooDeep);
