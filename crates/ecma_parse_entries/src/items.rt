@@ -5,7 +5,8 @@ ghost use Rattle.ecma_node.specs.Fits.{fits_module_item};
 ghost use Rattle.ecma_node.specs.Placed.{holds_stmt, inner};
 ghost use Rattle.ecma_node.specs.View.{view_module_item};
 ghost use Rattle.ecma_syntax.specs.Shape as shape;
-ghost use Rattle.ecma_parse_state.specs.Answers.{Gives};
+ghost use Rattle.ecma_reading.specs.Source as spec;
+ghost use Rattle.ecma_parse_state.specs.Answers.{Gives, Stays};
 ghost use Rattle.ecma_parse_state.specs.Codes.{code_of};
 ghost use Rattle.ecma_parse_state.specs.Fronts.{machine_of};
 ghost use Rattle.ecma_parse_state.specs.Stands.{stand};
@@ -46,6 +47,7 @@ pub fn statement_part<'a, I: Tokens<'a> + Drop>(
     requires { limit < 4294967295 }
     ensures value { Gives (λ x. (inner x.part.value, stand I.state p.new)) result (parts.statement_part (machine_of I.machine) limit (code_of code) (stand I.state p.old)) }
     ensures holds { IfOk result (λ x. holds_stmt x.part.value) }
+    ensures not_longer { Stays result (spec.bound (machine_of I.machine) (stand I.state p.new)) (spec.bound (machine_of I.machine) (stand I.state p.old)) }
 {
     let start = p.lo();
     let stmt = parse_stmt(p, limit, alone(code))?;
@@ -69,6 +71,7 @@ pub fn list_item_part<'a, I: Tokens<'a> + Drop>(
     requires { limit < 4294967295 }
     ensures value { Gives (λ x. (inner x.part.value, stand I.state p.new)) result (parts.list_item_part (machine_of I.machine) limit (code_of code) (stand I.state p.old)) }
     ensures holds { IfOk result (λ x. holds_stmt x.part.value) }
+    ensures not_longer { Stays result (spec.bound (machine_of I.machine) (stand I.state p.new)) (spec.bound (machine_of I.machine) (stand I.state p.old)) }
 {
     let start = p.lo();
     let stmt = parse_stmt(p, limit, in_list(code))?;
@@ -89,6 +92,7 @@ pub fn module_item_part<'a, I: Tokens<'a> + Drop>(
     requires { limit < 4294967295 }
     ensures value { Gives (λ x. (view_module_item inner x, stand I.state p.new)) result (parts.module_item_part (machine_of I.machine) limit (code_of code) (stand I.state p.old)) }
     ensures fits { IfOk result (λ x. fits_module_item (λ p. p) x) }
+    ensures not_longer { Stays result (spec.bound (machine_of I.machine) (stand I.state p.new)) (spec.bound (machine_of I.machine) (stand I.state p.old)) }
 {
     let start = p.lo();
     p.operand()?;

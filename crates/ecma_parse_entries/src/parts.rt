@@ -4,7 +4,8 @@ ghost use Rattle.ecma_tree.specs.Tree.{list, trees_by};
 ghost use Rattle.ecma_node.specs.Fits.{fits_param, fits_prop_name};
 ghost use Rattle.ecma_node.specs.Placed.{holds_expr, holds_pat, inner};
 ghost use Rattle.ecma_node.specs.View.{view_param, view_prop_name};
-ghost use Rattle.ecma_parse_state.specs.Answers.{Gives};
+ghost use Rattle.ecma_reading.specs.Source as spec;
+ghost use Rattle.ecma_parse_state.specs.Answers.{Gives, Stays};
 ghost use Rattle.ecma_parse_state.specs.Codes.{code_of};
 ghost use Rattle.ecma_parse_state.specs.Fronts.{machine_of};
 ghost use Rattle.ecma_parse_state.specs.Stands.{stand};
@@ -36,6 +37,7 @@ pub fn expression_part<'a, I: Tokens<'a> + Drop>(
     requires { limit < 4294967295 }
     ensures value { Gives (λ x. (inner x.part.value, stand I.state p.new)) result (parts.expression_part (machine_of I.machine) level limit (code_of code) (stand I.state p.old)) }
     ensures holds { IfOk result (λ x. holds_expr x.part.value) }
+    ensures not_longer { Stays result (spec.bound (machine_of I.machine) (stand I.state p.new)) (spec.bound (machine_of I.machine) (stand I.state p.old)) }
 {
     let start = p.lo();
     let read = parse_expr(p, limit, code, level)?;
@@ -60,6 +62,7 @@ pub fn binding_part<'a, I: Tokens<'a> + Drop>(
     requires { limit < 4294967295 }
     ensures value { Gives (λ x. (inner x.part.value, stand I.state p.new)) result (parts.binding_part (machine_of I.machine) limit (code_of code) (stand I.state p.old)) }
     ensures holds { IfOk result (λ x. holds_pat x.part.value) }
+    ensures not_longer { Stays result (spec.bound (machine_of I.machine) (stand I.state p.new)) (spec.bound (machine_of I.machine) (stand I.state p.old)) }
 {
     let start = p.lo();
     let pat = parse_pat(p, limit, code)?;
@@ -80,6 +83,7 @@ pub fn key_part<'a, I: Tokens<'a> + Drop>(
     requires { limit < 4294967295 }
     ensures value { Gives (λ x. (view_prop_name inner x, stand I.state p.new)) result (parts.key_part (machine_of I.machine) limit (code_of code) (stand I.state p.old)) }
     ensures fits { IfOk result (λ x. fits_prop_name (λ p. p) x) }
+    ensures not_longer { Stays result (spec.bound (machine_of I.machine) (stand I.state p.new)) (spec.bound (machine_of I.machine) (stand I.state p.old)) }
 {
     let start = p.lo();
     let key = key(p, &Depth { levels: limit }, code)?;
@@ -100,6 +104,7 @@ pub fn parameters_part<'a, I: Tokens<'a> + Drop>(
     requires { limit < 4294967295 }
     ensures value { Gives (λ x. (list (trees_by (view_param inner) x.items), stand I.state p.new)) result (parts.parameters_part (machine_of I.machine) limit (code_of code) (stand I.state p.old)) }
     ensures fits { IfOk result (λ x. All (λ x. fits_param (λ p. p) x) x.items) }
+    ensures not_longer { Stays result (spec.bound (machine_of I.machine) (stand I.state p.new)) (spec.bound (machine_of I.machine) (stand I.state p.old)) }
 {
     let start = p.lo();
     let params = bare_params(p, &Depth { levels: limit }, code)?;

@@ -3,7 +3,8 @@ ghost use Rattle.std.specs.Prelude.{◌<◌, IfOk};
 ghost use Rattle.ecma_node.specs.Fits.{fits_object_pat_prop, fits_prop_or_spread};
 ghost use Rattle.ecma_node.specs.Placed.{inner};
 ghost use Rattle.ecma_node.specs.View.{view_object_pat_prop, view_prop_or_spread};
-ghost use Rattle.ecma_parse_state.specs.Answers.{Gives};
+ghost use Rattle.ecma_reading.specs.Source as spec;
+ghost use Rattle.ecma_parse_state.specs.Answers.{Gives, Stays};
 ghost use Rattle.ecma_parse_state.specs.Codes.{code_of};
 ghost use Rattle.ecma_parse_state.specs.Fronts.{machine_of};
 ghost use Rattle.ecma_parse_state.specs.Stands.{stand};
@@ -33,6 +34,7 @@ pub fn prop_part<'a, I: Tokens<'a> + Drop>(
     requires { limit < 4294967295 }
     ensures value { Gives (λ x. (view_prop_or_spread inner x, stand I.state p.new)) result (props.prop_part (machine_of I.machine) limit (code_of code) (stand I.state p.old)) }
     ensures fits { IfOk result (λ x. fits_prop_or_spread (λ p. p) x) }
+    ensures not_longer { Stays result (spec.bound (machine_of I.machine) (stand I.state p.new)) (spec.bound (machine_of I.machine) (stand I.state p.old)) }
 {
     let start = p.lo();
     let prop = prop(p, &Depth { levels: limit }, code)?;
@@ -57,6 +59,7 @@ pub fn item_part<'a, I: Tokens<'a> + Drop>(
     requires { limit < 4294967295 }
     ensures value { Gives (λ x. (view_object_pat_prop inner x, stand I.state p.new)) result (props.item_part (machine_of I.machine) limit (code_of code) (stand I.state p.old)) }
     ensures fits { IfOk result (λ x. fits_object_pat_prop (λ p. p) x) }
+    ensures not_longer { Stays result (spec.bound (machine_of I.machine) (stand I.state p.new)) (spec.bound (machine_of I.machine) (stand I.state p.old)) }
 {
     let start = p.lo();
     let item = item(p, &Depth { levels: limit }, code)?;

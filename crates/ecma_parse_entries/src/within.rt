@@ -3,7 +3,8 @@ ghost use Rattle.std.specs.Prelude.{◌<◌, false, true, IfOk};
 ghost use Rattle.ecma_node.specs.Fits.{fits_module, fits_script};
 ghost use Rattle.ecma_node.specs.Placed.{inner};
 ghost use Rattle.ecma_node.specs.View.{view_module, view_script};
-ghost use Rattle.ecma_parse_state.specs.Answers.{Gives};
+ghost use Rattle.ecma_reading.specs.Source as spec;
+ghost use Rattle.ecma_parse_state.specs.Answers.{Gives, Stays};
 ghost use Rattle.ecma_parse_state.specs.Codes.{code_of};
 ghost use Rattle.ecma_parse_state.specs.Fronts.{machine_of};
 ghost use Rattle.ecma_parse_state.specs.Stands.{stand};
@@ -32,6 +33,7 @@ pub fn script_within<'a, I: Tokens<'a> + Drop>(
     requires { limit < 4294967295 }
     ensures value { Gives (view_script inner) result (program_within (machine_of I.machine) limit false (code_of code) (stand I.state p.old)) }
     ensures fits { IfOk result (λ x. fits_script (λ p. p) x) }
+    ensures not_longer { Stays result (spec.bound (machine_of I.machine) (stand I.state p.new)) (spec.bound (machine_of I.machine) (stand I.state p.old)) }
 {
     let script = script(p, &Depth { levels: limit }, code)?;
     if script.nesting() > limit {
@@ -57,6 +59,7 @@ pub fn module_within<'a, I: Tokens<'a> + Drop>(
     requires { limit < 4294967295 }
     ensures value { Gives (view_module inner) result (program_within (machine_of I.machine) limit true (code_of code) (stand I.state p.old)) }
     ensures fits { IfOk result (λ x. fits_module (λ p. p) x) }
+    ensures not_longer { Stays result (spec.bound (machine_of I.machine) (stand I.state p.new)) (spec.bound (machine_of I.machine) (stand I.state p.old)) }
 {
     let program = module(p, &Depth { levels: limit }, code)?;
     if program.nesting() > limit {

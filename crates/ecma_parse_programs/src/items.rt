@@ -6,7 +6,7 @@ ghost use Rattle.ecma_node.specs.Placed.{holds_stmt, inner};
 ghost use Rattle.ecma_node.specs.View.{view_module_item};
 ghost use Rattle.ecma_reading.specs.Source as spec;
 ghost use Rattle.ecma_reading.specs.Modules as reads;
-ghost use Rattle.ecma_parse_state.specs.Answers.{Falls, Gives, going_on, IsMemory, IsSyntax};
+ghost use Rattle.ecma_parse_state.specs.Answers.{Falls, Gives, going_on, IsMemory, IsSyntax, Stays};
 ghost use Rattle.ecma_parse_state.specs.Codes.{code_of};
 ghost use Rattle.ecma_parse_state.specs.Fronts.{machine_of};
 ghost use Rattle.ecma_parse_state.specs.Stands.{stand};
@@ -168,6 +168,7 @@ pub fn item_turn<'a, I: Tokens<'a> + Drop, N: Nested<'a, I>>(
     ensures value { Gives (λ x. (going_on x (items_of body.new), stand I.state p.new)) result (reads.program_step (machine_of I.machine) (N.reads nested.now I.State I.machine) true (items_of body.old) (stand I.state p.old)) }
     ensures fits { IfOk result (λ _. FitItems body.new) }
     ensures shorter { IfOk result (λ b. IsTrue b → spec.bound (machine_of I.machine) (stand I.state p.new) < spec.bound (machine_of I.machine) (stand I.state p.old)) }
+    ensures not_longer { Stays result (spec.bound (machine_of I.machine) (stand I.state p.new)) (spec.bound (machine_of I.machine) (stand I.state p.old)) }
 {
     if ended(p) {
         return Ok(false);
@@ -188,6 +189,7 @@ pub fn module_items<'a, I: Tokens<'a> + Drop, N: Nested<'a, I>>(
     requires ready { N.ready nested.now }
     ensures value { Gives (λ x. (items_of x, stand I.state p.new)) result (items_by (machine_of I.machine) (N.reads nested.now I.State I.machine) true (code_of code) (stand I.state p.old)) }
     ensures fits { IfOk result (λ x. FitItems x) }
+    ensures not_longer { Stays result (spec.bound (machine_of I.machine) (stand I.state p.new)) (spec.bound (machine_of I.machine) (stand I.state p.old)) }
 {
     let mut read = ItemsSoFar {
         items: Vec::new(p.alloc),

@@ -6,7 +6,7 @@ ghost use Rattle.ecma_node.specs.Placed.{inner};
 ghost use Rattle.ecma_node.specs.View.{view_module, view_script};
 ghost use Rattle.ecma_reading.specs.Source as spec;
 ghost use Rattle.ecma_reading.specs.Modules as reads;
-ghost use Rattle.ecma_parse_state.specs.Answers.{Gives};
+ghost use Rattle.ecma_parse_state.specs.Answers.{Gives, Stays};
 ghost use Rattle.ecma_parse_state.specs.Codes.{code_of};
 ghost use Rattle.ecma_parse_state.specs.Fronts.{machine_of};
 ghost use Rattle.ecma_parse_state.specs.Stands.{from, stand};
@@ -35,6 +35,7 @@ pub fn script_rest<'a, I: Tokens<'a> + Drop, N: Nested<'a, I>>(
     requires ready { N.ready nested.now }
     ensures value { Gives (λ x. (view_script inner x, stand I.state p.new)) result (reads.program_rest (machine_of I.machine) (N.reads nested.now I.State I.machine) false (code_of code) (from start.0) shebang (stand I.state p.old)) }
     ensures fits { IfOk result (λ x. fits_script (λ p. p) x) }
+    ensures not_longer { Stays result (spec.bound (machine_of I.machine) (stand I.state p.new)) (spec.bound (machine_of I.machine) (stand I.state p.old)) }
 {
     let read = script_items(p, nested, code)?;
     Ok(Script {
@@ -57,6 +58,7 @@ pub fn module_rest<'a, I: Tokens<'a> + Drop, N: Nested<'a, I>>(
     requires ready { N.ready nested.now }
     ensures value { Gives (λ x. (view_module inner x, stand I.state p.new)) result (reads.program_rest (machine_of I.machine) (N.reads nested.now I.State I.machine) true (code_of code) (from start.0) shebang (stand I.state p.old)) }
     ensures fits { IfOk result (λ x. fits_module (λ p. p) x) }
+    ensures not_longer { Stays result (spec.bound (machine_of I.machine) (stand I.state p.new)) (spec.bound (machine_of I.machine) (stand I.state p.old)) }
 {
     let read = module_items(p, nested, code)?;
     Ok(Module {
@@ -90,7 +92,8 @@ pub fn line<'a, I: Tokens<'a> + Drop, N: Nested<'a, I>>(
     p: &mut Parser<'a, I>,
     nested: &N,
 ) -> Result<Atom, Failure>
-    ensures { Gives (λ x. (x, stand I.state p.new)) result (line_by (machine_of I.machine) (N.reads nested.now I.State I.machine) (stand I.state p.old)) }
+    ensures value { Gives (λ x. (x, stand I.state p.new)) result (line_by (machine_of I.machine) (N.reads nested.now I.State I.machine) (stand I.state p.old)) }
+    ensures not_longer { Stays result (spec.bound (machine_of I.machine) (stand I.state p.new)) (spec.bound (machine_of I.machine) (stand I.state p.old)) }
 {
     let Some(text) = hashbang(p, nested) else {
         return Err(p.unexpected());
@@ -112,6 +115,7 @@ pub fn led_script<'a, I: Tokens<'a> + Drop, N: Nested<'a, I>>(
     requires ready { N.ready nested.now }
     ensures value { Gives (λ x. (view_script inner x, stand I.state p.new)) result (led_by (machine_of I.machine) (N.reads nested.now I.State I.machine) false (code_of code) (from start.0) (stand I.state p.old)) }
     ensures fits { IfOk result (λ x. fits_script (λ p. p) x) }
+    ensures not_longer { Stays result (spec.bound (machine_of I.machine) (stand I.state p.new)) (spec.bound (machine_of I.machine) (stand I.state p.old)) }
 {
     let text = line(p, nested)?;
     script_rest(p, nested, code, start, Some(text))
@@ -129,6 +133,7 @@ pub fn led_module<'a, I: Tokens<'a> + Drop, N: Nested<'a, I>>(
     requires ready { N.ready nested.now }
     ensures value { Gives (λ x. (view_module inner x, stand I.state p.new)) result (led_by (machine_of I.machine) (N.reads nested.now I.State I.machine) true (code_of code) (from start.0) (stand I.state p.old)) }
     ensures fits { IfOk result (λ x. fits_module (λ p. p) x) }
+    ensures not_longer { Stays result (spec.bound (machine_of I.machine) (stand I.state p.new)) (spec.bound (machine_of I.machine) (stand I.state p.old)) }
 {
     let text = line(p, nested)?;
     module_rest(p, nested, code, start, Some(text))
@@ -145,6 +150,7 @@ pub fn script<'a, I: Tokens<'a> + Drop, N: Nested<'a, I>>(
     requires ready { N.ready nested.now }
     ensures value { Gives (λ x. (view_script inner x, stand I.state p.new)) result (reads.program_by (machine_of I.machine) (N.reads nested.now I.State I.machine) false (code_of code) (stand I.state p.old)) }
     ensures fits { IfOk result (λ x. fits_script (λ p. p) x) }
+    ensures not_longer { Stays result (spec.bound (machine_of I.machine) (stand I.state p.new)) (spec.bound (machine_of I.machine) (stand I.state p.old)) }
 {
     let start = p.lo();
     if p.at(kinds::SHEBANG) {
@@ -164,6 +170,7 @@ pub fn module<'a, I: Tokens<'a> + Drop, N: Nested<'a, I>>(
     requires ready { N.ready nested.now }
     ensures value { Gives (λ x. (view_module inner x, stand I.state p.new)) result (reads.program_by (machine_of I.machine) (N.reads nested.now I.State I.machine) true (code_of code) (stand I.state p.old)) }
     ensures fits { IfOk result (λ x. fits_module (λ p. p) x) }
+    ensures not_longer { Stays result (spec.bound (machine_of I.machine) (stand I.state p.new)) (spec.bound (machine_of I.machine) (stand I.state p.old)) }
 {
     let start = p.lo();
     if p.at(kinds::SHEBANG) {

@@ -2,7 +2,7 @@
 ghost use Rattle.std.specs.Prelude.{◌≡◌, ◌<◌, false, true, IfOk, IsTrue};
 ghost use Rattle.ecma_reading.specs.Source as spec;
 ghost use Rattle.ecma_reading.specs.Modules as reads;
-ghost use Rattle.ecma_parse_state.specs.Answers.{Falls, Gives, going_on};
+ghost use Rattle.ecma_parse_state.specs.Answers.{Falls, Gives, going_on, Stays};
 ghost use Rattle.ecma_parse_state.specs.Codes.{code_of};
 ghost use Rattle.ecma_parse_state.specs.Fronts.{machine_of};
 ghost use Rattle.ecma_parse_state.specs.Stands.{stand};
@@ -56,6 +56,7 @@ pub fn stmt_turn<'a, I: Tokens<'a> + Drop, N: Nested<'a, I>>(
     ensures value { Gives (λ x. (going_on x (body_of body.new), stand I.state p.new)) result (reads.program_step (machine_of I.machine) (N.reads nested.now I.State I.machine) false (body_of body.old) (stand I.state p.old)) }
     ensures fits { IfOk result (λ _. FitBody body.new) }
     ensures shorter { IfOk result (λ b. IsTrue b → spec.bound (machine_of I.machine) (stand I.state p.new) < spec.bound (machine_of I.machine) (stand I.state p.old)) }
+    ensures not_longer { Stays result (spec.bound (machine_of I.machine) (stand I.state p.new)) (spec.bound (machine_of I.machine) (stand I.state p.old)) }
 {
     if ended(p) {
         return Ok(false);
@@ -76,6 +77,7 @@ pub fn script_items<'a, I: Tokens<'a> + Drop, N: Nested<'a, I>>(
     requires ready { N.ready nested.now }
     ensures value { Gives (λ x. (body_of x, stand I.state p.new)) result (items_by (machine_of I.machine) (N.reads nested.now I.State I.machine) false (code_of code) (stand I.state p.old)) }
     ensures fits { IfOk result (λ x. FitBody x) }
+    ensures not_longer { Stays result (spec.bound (machine_of I.machine) (stand I.state p.new)) (spec.bound (machine_of I.machine) (stand I.state p.old)) }
 {
     let mut read = BodySoFar {
         items: Vec::new(p.alloc),

@@ -1,4 +1,4 @@
-use Rattle.std.proofs.Common.{◌≡◌, true}
+use Rattle.std.proofs.Common.{◌≡◌, ◌≤◌, true}
 use Rattle.ecma_reading.specs.Source.{iterate, bound}
 use Rattle.ecma_reading.specs.Modules.{program_step}
 use Rattle.ecma_parse_state.specs.Codes.{code_of}
@@ -11,6 +11,7 @@ abbrev pub invariant-turns : goal.invariant-turns
 invariant-turns g l = let m = machine_of g.I.Tokens.machine in let inner = g.N.Nested.reads l.fn.nested _ g.I.Tokens.machine in record {
   reads : items_by m inner true (code_of l.fn.code) (stand g.I.Tokens.state l.fn.p) ≡ iterate (bound m) (program_step m inner true) (items_of l.read) (stand g.I.Tokens.state l.p);
   fits : FitItems l.read;
+  not_longer : bound m (stand g.I.Tokens.state l.p) ≤ bound m (stand g.I.Tokens.state l.fn.p);
 }
 
 abbrev pub decreases-turns : goal.decreases-turns
