@@ -1,12 +1,12 @@
 -- What an entry answers beside what is read.
-use Rattle.std.specs.Prelude.{◌≡◌, ◌≢◌, ◌++◌, List, Result, Ok, Err}
+use Rattle.std.specs.Prelude.{◌≡◌, ◌≢◌, ◌≤◌, ◌++◌, List, Result, Ok, Err}
 use Rattle.ecma_token.specs.declared.error.Error.{Error}
 use Rattle.ecma_token.specs.declared.error.SyntaxError.{SyntaxError}
 use Rattle.ecma_token.specs.declared.error.SyntaxError.TheVariants as kinds
 use Rattle.ecma_token.specs.declared.syntax.EsSyntax.{EsSyntax}
 use Rattle.ecma_tree.specs.Tree.{Tree}
 use Rattle.ecma_early.specs.Early.{early_errors}
-use Rattle.ecma_reading.specs.Source.{Fault, Unexpected, TooDeep}
+use Rattle.ecma_reading.specs.Source.{Fault, Unexpected, TooDeep, Machine, Stand, bound}
 use Rattle.ecma_parse_state.specs.declared.failure.Failure.{Failure}
 use Rattle.ecma_parse_state.specs.Answers.{Fails}
 
@@ -28,3 +28,8 @@ ReadsProgram view syntax (Err e) read old new = Fails e read × (new ≡ old)
 abbrev pub Parses : {X : Type 0} → (X → Tree) → EsSyntax → Result X Error → Result Tree Fault → List Error → List Error → Type 0
 Parses view syntax (Ok x) read old new = (read ≡ Ok (view x)) × (new ≡ old ++ early_errors syntax (view x))
 Parses view syntax (Err e) read old new = Refuses e.kind read × (new ≡ old)
+
+-- After a fault that is not want of memory the tokens that were read stay read: no more may come than from where the entry began to read.
+abbrev pub StayRead : {X S : Type 0} → Machine S → Result X Error → Stand S → Stand S → Type 0
+StayRead m (Ok x) began stands = Unit {0}
+StayRead m (Err e) began stands = e.kind ≢ kinds.Memory → bound m stands ≤ bound m began

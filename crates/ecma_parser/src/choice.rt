@@ -7,8 +7,9 @@ ghost use Rattle.ecma_syntax.specs.Input.{module_code, script_code};
 ghost use Rattle.ecma_parse_state.specs.Answers.{IsMemory};
 ghost use Rattle.ecma_parse_state.specs.Fronts.{machine_of};
 ghost use Rattle.ecma_parse_entries.specs.Within.{program_within};
+ghost use Rattle.ecma_parser.specs.Answers.{StayRead};
 ghost use Rattle.ecma_parser.specs.Choice.{Chooses, IsMeant, NotMeant};
-ghost use Rattle.ecma_parser.specs.Entries.{ctx_in, faults_in, limit_in, opened, syntax_in};
+ghost use Rattle.ecma_parser.specs.Entries.{ctx_in, faults_in, limit_in, opened, stood, syntax_in};
 
 use crate::entries::{Entries, Reading};
 use crate::faults::{PResult, told};
@@ -29,6 +30,7 @@ impl<'a, I: Tokens<'a> + Drop> Entries<Reading<'a, I>> {
         ensures started { IfOk result (λ _. self.new.started ≡ true) }
         ensures context { ctx_in I.state self.new ≡ ctx_in I.state self.old }
         ensures limit { limit_in self.new ≡ limit_in self.old }
+        ensures stays { StayRead (machine_of I.machine) result (opened I.machine I.state (script_code (syntax_in I.state self.old)).context self.old) (stood I.state self.new) }
     {
         if let Some(module) = self.meant_module().map_err(told)? {
             return Ok(Program {

@@ -4,13 +4,15 @@ ghost use Rattle.ecma_token.specs.declared.error.Error.{Error};
 ghost use Rattle.ecma_token.specs.declared.syntax.EsSyntax.{EsSyntax};
 ghost use Rattle.ecma_tokens.specs.Machine.{Machine};
 ghost use Rattle.ecma_tree.specs.Tree.{Tree};
-ghost use Rattle.ecma_syntax.specs.Input.{Code};
+ghost use Rattle.ecma_syntax.specs.Input.{Code, script_code};
 ghost use Rattle.ecma_reading.specs.Source.{Read};
-ghost use Rattle.ecma_parse_state.specs.Answers.{Gives};
+ghost use Rattle.ecma_reading.specs.Source as spec;
+ghost use Rattle.ecma_parse_state.specs.Answers.{Gives, Stays};
 ghost use Rattle.ecma_parse_state.specs.Codes.{code_of};
 ghost use Rattle.ecma_parse_state.specs.Fronts.{Front, machine_of};
 ghost use Rattle.ecma_parse_state.specs.Stands.{stand};
-ghost use Rattle.ecma_parser.specs.Entries.{ctx_in, faults_in, limit_in, stood, syntax_in};
+ghost use Rattle.ecma_parser.specs.Answers.{StayRead};
+ghost use Rattle.ecma_parser.specs.Entries.{ctx_in, faults_in, limit_in, opened, stood, syntax_in};
 ghost use Rattle.ecma_parser.specs.Parts.{ParsesPart, ReadsPart, script_part};
 
 use crate::entries::{Entries, Reading};
@@ -42,7 +44,8 @@ pub(crate) trait Rule<'a, I: Tokens<'a> + Drop> {
     fn read(&self, p: &mut Parser<'a, I>, limit: u32, code: Around) -> Result<Self::Node, Failure>
         requires { limit < 4294967295 }
         ensures value { Gives (λ x. (tree x, stand I.state p.new)) result (reads self.now I.State I.machine limit (code_of code) (stand I.state p.old)) }
-        ensures fits { IfOk result fits };
+        ensures fits { IfOk result fits }
+        ensures not_longer { Stays result (spec.bound (machine_of I.machine) (stand I.state p.new)) (spec.bound (machine_of I.machine) (stand I.state p.old)) };
 
     /// The early errors of a part.
     fn errors(
@@ -62,6 +65,7 @@ impl<'a, I: Tokens<'a> + Drop> Entries<Reading<'a, I>> {
         ensures fits { IfOk result R.fits }
         ensures started { IfOk result (λ _. self.new.started ≡ true) }
         ensures limit { limit_in self.new ≡ limit_in self.old }
+        ensures stays { Stays result (spec.bound (machine_of I.machine) (stood I.state self.new)) (spec.bound (machine_of I.machine) (opened I.machine I.state (script_code (syntax_in I.state self.old)).context self.old)) }
     {
         let code = self.open_script()?;
         let node = rule.read(&mut self.reading, self.limit, code)?;
@@ -78,6 +82,7 @@ impl<'a, I: Tokens<'a> + Drop> Entries<Reading<'a, I>> {
         ensures context { ctx_in I.state self.new ≡ ctx_in I.state self.old }
         ensures started { IfOk result (λ _. self.new.started ≡ true) }
         ensures limit { limit_in self.new ≡ limit_in self.old }
+        ensures stays { StayRead (machine_of I.machine) result (opened I.machine I.state (script_code (syntax_in I.state self.old)).context self.old) (stood I.state self.new) }
     {
         let before = self.reading.input.ctx();
         let answer = self.read_part(rule);

@@ -10,11 +10,12 @@ ghost use Rattle.ecma_early.specs.Early.{early_errors, outermost};
 ghost use Rattle.ecma_early.specs.Early as early;
 ghost use Rattle.ecma_spells.specs.Fronts as fronts;
 ghost use Rattle.ecma_reading.specs.Source as spec;
-ghost use Rattle.ecma_parse_state.specs.Answers.{IsMemory};
+ghost use Rattle.ecma_parse_state.specs.Answers.{IsMemory, Stays};
 ghost use Rattle.ecma_parse_state.specs.Codes.{code_of};
 ghost use Rattle.ecma_parse_state.specs.Fronts.{machine_of};
 ghost use Rattle.ecma_parse_entries.specs.Items as items;
 ghost use Rattle.ecma_parse_entries.specs.Parts as reads;
+ghost use Rattle.ecma_parser.specs.Answers.{StayRead};
 ghost use Rattle.ecma_parser.specs.Entries.{ctx_in, faults_in, limit_in, opened, stood, syntax_in};
 ghost use Rattle.ecma_parser.specs.Parts.{ParsesPart, ReadsPart, module_part, script_part};
 
@@ -43,6 +44,7 @@ impl<'a, I: Tokens<'a> + Drop> Entries<Reading<'a, I>> {
         ensures context { ctx_in I.state self.new ≡ ctx_in I.state self.old }
         ensures started { IfOk result (λ _. self.new.started ≡ true) }
         ensures limit { limit_in self.new ≡ limit_in self.old }
+        ensures stays { StayRead (machine_of I.machine) result (opened I.machine I.state (script_code (syntax_in I.state self.old)).context self.old) (stood I.state self.new) }
     {
         self.parse_part(&Expression { level: EXPRESSION })
     }
@@ -59,6 +61,7 @@ impl<'a, I: Tokens<'a> + Drop> Entries<Reading<'a, I>> {
         ensures context { ctx_in I.state self.new ≡ ctx_in I.state self.old }
         ensures started { IfOk result (λ _. self.new.started ≡ true) }
         ensures limit { limit_in self.new ≡ limit_in self.old }
+        ensures stays { StayRead (machine_of I.machine) result (opened I.machine I.state (script_code (syntax_in I.state self.old)).context self.old) (stood I.state self.new) }
     {
         self.parse_part(&Expression { level: ASSIGNMENT })
     }
@@ -75,6 +78,7 @@ impl<'a, I: Tokens<'a> + Drop> Entries<Reading<'a, I>> {
         ensures context { ctx_in I.state self.new ≡ ctx_in I.state self.old }
         ensures started { IfOk result (λ _. self.new.started ≡ true) }
         ensures limit { limit_in self.new ≡ limit_in self.old }
+        ensures stays { StayRead (machine_of I.machine) result (opened I.machine I.state (script_code (syntax_in I.state self.old)).context self.old) (stood I.state self.new) }
     {
         self.parse_part(&Binding)
     }
@@ -90,6 +94,7 @@ impl<'a, I: Tokens<'a> + Drop> Entries<Reading<'a, I>> {
         ensures context { ctx_in I.state self.new ≡ ctx_in I.state self.old }
         ensures started { IfOk result (λ _. self.new.started ≡ true) }
         ensures limit { limit_in self.new ≡ limit_in self.old }
+        ensures stays { StayRead (machine_of I.machine) result (opened I.machine I.state (script_code (syntax_in I.state self.old)).context self.old) (stood I.state self.new) }
     {
         self.parse_pat()
     }
@@ -106,6 +111,7 @@ impl<'a, I: Tokens<'a> + Drop> Entries<Reading<'a, I>> {
         ensures context { ctx_in I.state self.new ≡ ctx_in I.state self.old }
         ensures started { IfOk result (λ _. self.new.started ≡ true) }
         ensures limit { limit_in self.new ≡ limit_in self.old }
+        ensures stays { StayRead (machine_of I.machine) result (opened I.machine I.state (script_code (syntax_in I.state self.old)).context self.old) (stood I.state self.new) }
     {
         self.parse_part(&Parameters)
     }
@@ -121,6 +127,7 @@ impl<'a, I: Tokens<'a> + Drop> Entries<Reading<'a, I>> {
         ensures context { ctx_in I.state self.new ≡ ctx_in I.state self.old }
         ensures started { IfOk result (λ _. self.new.started ≡ true) }
         ensures limit { limit_in self.new ≡ limit_in self.old }
+        ensures stays { StayRead (machine_of I.machine) result (opened I.machine I.state (script_code (syntax_in I.state self.old)).context self.old) (stood I.state self.new) }
     {
         self.parse_part(&Key)
     }
@@ -137,6 +144,7 @@ impl<'a, I: Tokens<'a> + Drop> Entries<Reading<'a, I>> {
         ensures context { ctx_in I.state self.new ≡ ctx_in I.state self.old }
         ensures started { IfOk result (λ _. self.new.started ≡ true) }
         ensures limit { limit_in self.new ≡ limit_in self.old }
+        ensures stays { StayRead (machine_of I.machine) result (opened I.machine I.state (script_code (syntax_in I.state self.old)).context self.old) (stood I.state self.new) }
     {
         self.parse_part(&Statement { top_level })
     }
@@ -153,6 +161,7 @@ impl<'a, I: Tokens<'a> + Drop> Entries<Reading<'a, I>> {
         ensures context { ctx_in I.state self.new ≡ ctx_in I.state self.old }
         ensures started { IfOk result (λ _. self.new.started ≡ true) }
         ensures limit { limit_in self.new ≡ limit_in self.old }
+        ensures stays { StayRead (machine_of I.machine) result (opened I.machine I.state (script_code (syntax_in I.state self.old)).context self.old) (stood I.state self.new) }
     {
         self.parse_part(&ListItem { top_level })
     }
@@ -170,6 +179,7 @@ impl<'a, I: Tokens<'a> + Drop> Entries<Reading<'a, I>> {
         ensures context { ctx_in I.state self.new ≡ ctx_in I.state self.old }
         ensures started { IfOk result (λ _. self.new.started ≡ true) }
         ensures limit { limit_in self.new ≡ limit_in self.old }
+        ensures stays { StayRead (machine_of I.machine) result (opened I.machine I.state (module_code (syntax_in I.state self.old)).context self.old) (stood I.state self.new) }
     {
         let before = self.reading.input.ctx();
         let answer = self.module_item();
@@ -214,6 +224,7 @@ impl<'a, I: Tokens<'a> + Drop> Entries<Reading<'a, I>> {
     pub(crate) fn leave(&mut self, before: Context)
         ensures stand { stood I.state self.new ≡ spec.turned (machine_of I.machine) before (stood I.state self.old) }
         ensures context { ctx_in I.state self.new ≡ before }
+        ensures same { spec.bound (machine_of I.machine) (stood I.state self.new) ≡ spec.bound (machine_of I.machine) (stood I.state self.old) }
         ensures started { self.new.started ≡ self.old.started }
         ensures limit { limit_in self.new ≡ limit_in self.old }
         ensures faults { faults_in self.new ≡ faults_in self.old }
@@ -241,6 +252,7 @@ impl<'a, I: Tokens<'a> + Drop> Entries<Reading<'a, I>> {
         ensures fits { IfOk result (λ x. fits_module_item (λ p. p) x) }
         ensures started { IfOk result (λ _. self.new.started ≡ true) }
         ensures limit { limit_in self.new ≡ limit_in self.old }
+        ensures stays { Stays result (spec.bound (machine_of I.machine) (stood I.state self.new)) (spec.bound (machine_of I.machine) (opened I.machine I.state (module_code (syntax_in I.state self.old)).context self.old)) }
     {
         let code = self.open_module()?;
         let item = module_item_part(&mut self.reading, self.limit, code)?;

@@ -4,11 +4,13 @@ ghost use Rattle.ecma_node.specs.Fits.{fits_module, fits_script};
 ghost use Rattle.ecma_node.specs.Placed.{inner};
 ghost use Rattle.ecma_node.specs.View.{view_module, view_script};
 ghost use Rattle.ecma_syntax.specs.Input.{module_code, script_code};
+ghost use Rattle.ecma_reading.specs.Source as spec;
+ghost use Rattle.ecma_parse_state.specs.Answers.{Stays};
 ghost use Rattle.ecma_parse_state.specs.Codes.{code_of};
 ghost use Rattle.ecma_parse_state.specs.Fronts.{machine_of};
 ghost use Rattle.ecma_parse_entries.specs.Within.{program_within};
-ghost use Rattle.ecma_parser.specs.Answers.{Parses, ReadsProgram};
-ghost use Rattle.ecma_parser.specs.Entries.{ctx_in, faults_in, limit_in, opened, syntax_in};
+ghost use Rattle.ecma_parser.specs.Answers.{Parses, ReadsProgram, StayRead};
+ghost use Rattle.ecma_parser.specs.Entries.{ctx_in, faults_in, limit_in, opened, stood, syntax_in};
 
 use crate::entries::{Entries, Reading};
 use crate::faults::{PResult, told};
@@ -66,6 +68,7 @@ impl<'a, I: Tokens<'a> + Drop> Entries<Reading<'a, I>> {
         ensures started { IfOk result (λ _. self.new.started ≡ true) }
         ensures context { ctx_in I.state self.new ≡ ctx_in I.state self.old }
         ensures limit { limit_in self.new ≡ limit_in self.old }
+        ensures stays { StayRead (machine_of I.machine) result (opened I.machine I.state (script_code (syntax_in I.state self.old)).context self.old) (stood I.state self.new) }
     {
         self.read_script().map_err(told)
     }
@@ -81,10 +84,11 @@ impl<'a, I: Tokens<'a> + Drop> Entries<Reading<'a, I>> {
         ensures started { IfOk result (λ _. self.new.started ≡ true) }
         ensures context { ctx_in I.state self.new ≡ ctx_in I.state self.old }
         ensures limit { limit_in self.new ≡ limit_in self.old }
+        ensures stays { Stays result (spec.bound (machine_of I.machine) (stood I.state self.new)) (spec.bound (machine_of I.machine) (opened I.machine I.state (script_code (syntax_in I.state self.old)).context self.old)) }
     {
         let before = self.reading.input.ctx();
         let script = self.script();
-        self.reading.input.set_ctx(before);
+        self.leave(before);
         script
     }
 
@@ -99,6 +103,7 @@ impl<'a, I: Tokens<'a> + Drop> Entries<Reading<'a, I>> {
         ensures started { IfOk result (λ _. self.new.started ≡ true) }
         ensures context { ctx_in I.state self.new ≡ ctx_in I.state self.old }
         ensures limit { limit_in self.new ≡ limit_in self.old }
+        ensures stays { StayRead (machine_of I.machine) result (opened I.machine I.state (module_code (syntax_in I.state self.old)).context self.old) (stood I.state self.new) }
     {
         self.read_module().map_err(told)
     }
@@ -114,10 +119,11 @@ impl<'a, I: Tokens<'a> + Drop> Entries<Reading<'a, I>> {
         ensures started { IfOk result (λ _. self.new.started ≡ true) }
         ensures context { ctx_in I.state self.new ≡ ctx_in I.state self.old }
         ensures limit { limit_in self.new ≡ limit_in self.old }
+        ensures stays { Stays result (spec.bound (machine_of I.machine) (stood I.state self.new)) (spec.bound (machine_of I.machine) (opened I.machine I.state (module_code (syntax_in I.state self.old)).context self.old)) }
     {
         let before = self.reading.input.ctx();
         let module = self.module();
-        self.reading.input.set_ctx(before);
+        self.leave(before);
         module
     }
 
@@ -127,6 +133,7 @@ impl<'a, I: Tokens<'a> + Drop> Entries<Reading<'a, I>> {
         ensures fits { IfOk result (λ x. fits_script (λ p. p) x) }
         ensures started { IfOk result (λ _. self.new.started ≡ true) }
         ensures limit { limit_in self.new ≡ limit_in self.old }
+        ensures stays { Stays result (spec.bound (machine_of I.machine) (stood I.state self.new)) (spec.bound (machine_of I.machine) (opened I.machine I.state (script_code (syntax_in I.state self.old)).context self.old)) }
     {
         let Syntax::Es(syntax) = self.reading.input.syntax();
         let code = in_script(syntax);
@@ -143,6 +150,7 @@ impl<'a, I: Tokens<'a> + Drop> Entries<Reading<'a, I>> {
         ensures fits { IfOk result (λ x. fits_module (λ p. p) x) }
         ensures started { IfOk result (λ _. self.new.started ≡ true) }
         ensures limit { limit_in self.new ≡ limit_in self.old }
+        ensures stays { Stays result (spec.bound (machine_of I.machine) (stood I.state self.new)) (spec.bound (machine_of I.machine) (opened I.machine I.state (module_code (syntax_in I.state self.old)).context self.old)) }
     {
         let Syntax::Es(syntax) = self.reading.input.syntax();
         let code = in_module(syntax);
