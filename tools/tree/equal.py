@@ -2,7 +2,7 @@
 
 from spec_tree import arguments, pattern, tree_imports
 
-CRATE = "crates/ecma_equal"
+CRATE = "crates/ecma_program"
 
 # The test of equality of each type of a field, and its lemmas' stem.
 TEST = {
@@ -95,7 +95,7 @@ use Rattle.std.proofs.lemmas.Slice.Eq.{bytes_eq-Decides}
 use Rattle.ecma_token.specs.declared.place.Span.{Span}
 use Rattle.ecma_token.specs.declared.place.BytePos.{BytePos}
 use Rattle.ecma_number.specs.Numbers.{SpecNumber, Scaled, InRadix}
-use Rattle.ecma_equal.specs.Equal.{equal_span, equal_place, equal_text, equal_number, equal, equal_all}
+use Rattle.ecma_program.specs.Equal.{equal_span, equal_place, equal_text, equal_number, equal, equal_all}
 """
 
 LEMMAS_PARTS = """

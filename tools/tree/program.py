@@ -119,4 +119,4 @@ def program_module(table):
 
 
 def files(table):
-    return {OUT + "/Program.antt": program_module(table), OUT + "/Lib.antt": "pub mod Program\npub mod Laws\n"}
+    return {OUT + "/Program.antt": program_module(table), OUT + "/Lib.antt": "pub mod Program\npub mod Equal\npub mod Same\npub mod Laws\npub mod EqualLaws\n"}

@@ -48,7 +48,7 @@ pub(crate) fn same_template<T: Held>(tpl: &TplOf<T>, other: &TplOf<T>) -> bool
 BEHIND_USES = (
     """ghost use Rattle.std.specs.Prelude.{◌≡◌, ◌&&◌};
 ghost use Rattle.ecma_tree.specs.Tree.{trees_by, list};
-ghost use Rattle.ecma_equal.specs.Same.{same};
+ghost use Rattle.ecma_program.specs.Same.{same};
 """,
     "ghost use %s.specs.Compared.{same_spellings};\n" % ROOT,
 )
@@ -395,8 +395,8 @@ use Rattle.std.proofs.Common.{◌≡◌, ℕ, Bool, true, ◌&&◌, nat_eq, List
 use Rattle.std.proofs.Math.Bool.{beq}
 use Rattle.ecma_token.specs.declared.place.Span.{Span}
 use Rattle.ecma_number.specs.Numbers.{SpecNumber}
-use Rattle.ecma_equal.specs.Equal.{equal_text}
-use Rattle.ecma_equal.specs.Same.{same}
+use Rattle.ecma_program.specs.Equal.{equal_text}
+use Rattle.ecma_program.specs.Same.{same}
 use Rattle.ecma_same.specs.Compared.{same_keys, same_arguments}
 """
 
@@ -418,8 +418,8 @@ use Rattle.std.specs.Bool.{Decides}
 use Rattle.std.proofs.lemmas.Bool.Decides.{Decides-eqb}
 use Rattle.ecma_token.specs.declared.place.Span.{Span}
 use Rattle.ecma_program.specs.Program.{program}
-use Rattle.ecma_equal.specs.Same.{same}
-use Rattle.ecma_equal.proofs.SameLemmas.{same_decides}
+use Rattle.ecma_program.specs.Same.{same}
+use Rattle.ecma_program.proofs.SameLemmas.{same_decides}
 use Rattle.ecma_same.specs.Sorts.{is_statement, is_node, is_left_out}
 use Rattle.ecma_same.specs.Seen.{seen_expr_kind, seen_stmt_kind}
 use Rattle.ecma_node.specs.View.{%s}

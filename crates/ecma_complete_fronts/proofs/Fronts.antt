@@ -16,26 +16,26 @@ use Rattle.ecma_grammar_complete_base.specs.Laws.{coded, patterned, InOrder, Ask
 use Rattle.ecma_grammar_complete_base.proofs.Yields.{lm, from, Fresh, After, Yields, Reads, Is}
 use Rattle.ecma_grammar_complete_base.proofs.Levels.{closed_by}
 use Rattle.ecma_grammar_complete_base.proofs.Trees.{size, sizes, reach}
-use Rattle.ecma_grammar_complete_parts.proofs.Functions.{key_found}
-use Rattle.ecma_grammar_complete_parts.proofs.Within.{within}
-use Rattle.ecma_grammar_complete_modules.proofs.Modules.{module_item}
-use Rattle.ecma_grammar_complete_modules.proofs.Sources.{in_module}
-use Rattle.ecma_grammar_tied.proofs.Sizes.{inward, within_reach, items_small, items_reach}
-use Rattle.ecma_grammar_tied.proofs.Tied.{complete}
-use Rattle.ecma_grammar_whole.specs.Laws.{Answered, Stands, Level, Bound}
-use Rattle.ecma_grammar_whole.proofs.WholeLemmas.{expressions_complete, patterns_complete}
-use Rattle.ecma_grammar_whole.proofs.Nests.{reach_nests}
+use Rattle.ecma_grammar_complete_rules.proofs.Functions.{key_found}
+use Rattle.ecma_grammar_complete_rules.proofs.Within.{within}
+use Rattle.ecma_grammar_complete_rules.proofs.Modules.{module_item}
+use Rattle.ecma_grammar_complete_rules.proofs.Sources.{in_module}
+use Rattle.ecma_grammar_complete.proofs.Sizes.{inward, within_reach, items_small, items_reach}
+use Rattle.ecma_grammar_complete.proofs.Tied.{complete}
+use Rattle.ecma_grammar_complete.specs.Laws.{Answered, Stands, Level, Bound}
+use Rattle.ecma_grammar_complete.proofs.WholeLemmas.{expressions_complete, patterns_complete}
+use Rattle.ecma_grammar_complete.proofs.Nests.{reach_nests}
 use Rattle.ecma_grammar_laws.specs.Laws.{tokens, OfLevel}
 use Rattle.ecma_grammar_laws.proofs.Sure.{Sure}
 use Rattle.ecma_grammar_laws.proofs.Nested.{key_sure}
 use Rattle.ecma_grammar_laws.proofs.ByDepth.{all_sound}
 use Rattle.ecma_grammar_laws.proofs.Programs.{item_sure}
 use Rattle.ecma_grammar_laws.proofs.SoundLemmas.{expressions_sound, patterns_sound, statements_sound}
-use Rattle.ecma_grammar_steady.specs.Laws.{Keeps}
-use Rattle.ecma_grammar_steady.proofs.Agrees.{Agrees}
-use Rattle.ecma_grammar_steady.proofs.Expressions.{key_by_steady}
-use Rattle.ecma_grammar_steady.proofs.Modules.{item_by_steady}
-use Rattle.ecma_grammar_steady.proofs.SteadyLemmas.{readers_steady}
+use Rattle.ecma_grammar_laws.specs.SteadyLaws.{Keeps}
+use Rattle.ecma_grammar_laws.proofs.Agrees.{Agrees}
+use Rattle.ecma_grammar_laws.proofs.SteadyExpressions.{key_by_steady}
+use Rattle.ecma_grammar_laws.proofs.SteadyModules.{item_by_steady}
+use Rattle.ecma_grammar_laws.proofs.SteadyLemmas.{readers_steady}
 use Rattle.ecma_sources.specs.Sources.{one}
 use Rattle.ecma_sources.specs.Ahead.{ends_async, Named, dots, heads, SameNext, Instead, at_list, ReadAhead}
 use Rattle.ecma_sources.proofs.Ahead.{cases, one_ahead}

@@ -1,15 +1,17 @@
-//! The early errors of a finished program, and of a part of one.
+//! The early errors of a finished program, and of a part of one, in their order.
 #![tactic(auto)]
 
-ghost use Rattle.std.specs.Prelude.{◌≡◌, IfOk, None};
+mod order;
+
 ghost use Rattle.ecma_early.specs.Early.{early_errors, faults_in, outermost};
-ghost use Rattle.ecma_tree.specs.Places.{no_place};
-ghost use Rattle.ecma_tree.specs.Tree.{more, none, script};
 ghost use Rattle.ecma_node.specs.Placed.{inner};
 ghost use Rattle.ecma_node.specs.View.{view_module, view_script};
+ghost use Rattle.ecma_tree.specs.Places.{no_place};
+ghost use Rattle.ecma_tree.specs.Tree.{more, none, script};
+ghost use Rattle.std.specs.Prelude.{IfOk, None, ◌≡◌};
 
+use crate::order::put_in_order;
 use ecma_faults::{Check, check_item, check_module, check_part, check_program, check_script};
-use ecma_faults_order::put_in_order;
 use ecma_node::{Module, Program, Script, StmtBox};
 use ecma_token::{Error, EsSyntax};
 use std::alloc::{AllocError, Global};

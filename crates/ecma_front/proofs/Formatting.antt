@@ -13,7 +13,7 @@ use Rattle.ecma_write.specs.States.{is_write}
 use Rattle.ecma_write.specs.declared.fault.EmitError.{EmitError}
 use Rattle.ecma_write.specs.declared.fault.EmitError.TheVariants as w
 use Rattle.ecma_layout.specs.Looks.{is_refused}
-use Rattle.ecma_printable.proofs.LawsLemmas.{read_is_printed}
+use Rattle.ecma_readback.proofs.Passed.{read_is_printed}
 use Rattle.ecma_print.specs.Layouts.{laid_of, look_of}
 use Rattle.ecma_front.specs.Formats.{IsRefused, LacksProgram, Reads}
 use Rattle.ecma_front.specs.Steps.{fault_of, ReadsBytes}

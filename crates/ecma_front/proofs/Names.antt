@@ -13,7 +13,7 @@ use Rattle.ecma_pieces.specs.Pieces.{resolved, shortened}
 use Rattle.ecma_layout.specs.Layout.{pieces}
 use Rattle.ecma_command.specs.Options.{is_format, is_module}
 use Rattle.ecma_command.specs.declared.options.Options.{Options}
-use Rattle.ecma_names_placed.specs.Laws.{BeginsMarks}
+use Rattle.ecma_readback.proofs.Passed.{BeginsMarks}
 use Rattle.ecma_readback.specs.Marked.{MarksNames}
 use Rattle.ecma_readback.proofs.Marked.{names_are_marked}
 use Rattle.ecma_print.specs.Layouts.{look_of, page_of, laid_of, written_on, layout, positions_of, IsPastLast}

@@ -13,7 +13,7 @@ use Rattle.ecma_scan.specs.Runs.{Each}
 use Rattle.ecma_write.specs.Pages.{times}
 use Rattle.ecma_pieces.specs.Pieces.{resolved, shortened}
 use Rattle.ecma_layout.specs.Layout.{pieces}
-use Rattle.ecma_layout_laws.specs.Marks.{AreWrittenAlike}
+use Rattle.ecma_readback.proofs.Passed.{AreWrittenAlike, IsEmptyPage, WritesAgain, read_is_text}
 use Rattle.ecma_command.specs.Options.{is_format, is_module}
 use Rattle.ecma_command.specs.declared.options.Options.{Options}
 use Rattle.ecma_command.specs.declared.options.LineEnd.{LineEnd}
@@ -21,9 +21,6 @@ use Rattle.ecma_command.specs.declared.options.LineEnd.TheVariants.{Lf, CrLf}
 use Rattle.ecma_command.specs.declared.options.Indent.{Indent}
 use Rattle.ecma_command.specs.declared.options.Indent.TheVariants.{Blanks, Tabs}
 use Rattle.ecma_written.proofs.Ascii.{Ascii, ascii, is_ascii}
-use Rattle.ecma_written_tiles.specs.Tiles.{IsEmptyPage}
-use Rattle.ecma_redone_bytes.specs.Laws.{WritesAgain}
-use Rattle.ecma_written_text.proofs.Read.{read_is_text}
 use Rattle.ecma_readback.specs.Laws.{IsReadBack}
 use Rattle.ecma_readback.proofs.Whole.{programs_read_back}
 use Rattle.ecma_print.specs.Layouts.{look_of, line_end_of, indent_of, page_of, laid_of, written_on, layout}

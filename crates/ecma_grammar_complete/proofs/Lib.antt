@@ -1,5 +1,6 @@
-pub mod Covers
-pub mod Coverings
-pub mod Arrows
-pub mod Comes
-pub mod Heads
+pub mod Sizes
+pub mod Expressed
+pub mod Tied
+pub mod Passed
+pub mod Nests
+pub mod WholeLemmas

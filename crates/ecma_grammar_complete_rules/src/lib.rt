@@ -1,2 +1,3 @@
-//! Laws of the grammar: what the rules of expressions answer, over readers of what is nested in them.
+//! Laws of the grammar, over readers of what is nested: what the rules of expressions, patterns, functions, classes,
+//! statements, scripts and modules answer, and that what these spell is read.
 #![tactic(auto)]

@@ -15,3 +15,8 @@ pub mod Statements
 pub mod ByDepth
 pub mod Programs
 pub mod SoundLemmas
+pub mod Agrees
+pub mod SteadyExpressions
+pub mod SteadyStatements
+pub mod SteadyModules
+pub mod SteadyLemmas

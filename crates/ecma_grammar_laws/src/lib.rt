@@ -1,7 +1,9 @@
-//! Laws of the grammar: what the reading function reads is spelled so. The functions here are laws alone.
+//! Laws of the grammar: what the reading function reads is spelled so, and a larger limit changes no answer but too
+//! deep. The functions here are laws alone.
 #![tactic(auto)]
 
-ghost use Rattle.ecma_grammar_laws.specs.Laws.{ExpressionsSound, PatternsSound, StatementsSound, ClassesSound, ProgramsSound, ListsSound};
+ghost use Rattle.ecma_grammar_laws.specs.Laws.{ClassesSound, ExpressionsSound, ListsSound, PatternsSound, ProgramsSound, StatementsSound};
+ghost use Rattle.ecma_grammar_laws.specs.SteadyLaws.{LimitsKeep};
 
 /// Law: whatever the readers answer of a list of tokens, at any depth, is spelled by the tokens from
 /// where the reading began up to where it stands: expressions of the level that was asked for,
@@ -15,4 +17,11 @@ pub fn sound_law()
     ensures classes { ClassesSound }
     ensures programs { ProgramsSound }
     ensures lists { ListsSound }
+{}
+
+/// Law: what is read at one limit is read at every larger one, and a token that is unexpected at one
+/// limit is so at every larger one, whatever the source of tokens, and whether or not a tree spells them.
+#[tactic(auto)]
+pub fn steady_law()
+    ensures limits { LimitsKeep }
 {}

@@ -8,7 +8,7 @@ use Rattle.ecma_grammar.specs.Grammar.{Spells, Derives}
 use Rattle.ecma_grammar_complete_base.specs.Laws.{coded, InOrder}
 use Rattle.ecma_grammar_laws.specs.Laws.{tokens}
 use Rattle.ecma_grammar_laws.proofs.SoundLemmas.{lists_sound}
-use Rattle.ecma_grammar_whole.proofs.WholeLemmas.{one_script, one_module}
+use Rattle.ecma_grammar_complete.proofs.WholeLemmas.{one_script, one_module}
 use Rattle.ecma_grammar_placed.specs.Laws.{SameToken, SameTokens, placing, DerivesPlaced, HasPlaces, ReadHasPlaces, OneScriptOfTokens, OneModuleOfTokens}
 use Rattle.ecma_grammar_placed.proofs.Like.{Bare, Worn, dressed}
 use Rattle.ecma_grammar_placed.proofs.Placed.{move}

@@ -1,3 +1,4 @@
 pub mod Bare
 pub mod Marks
 pub mod Laws
+pub mod PrintedLaws

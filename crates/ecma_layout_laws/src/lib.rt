@@ -1,7 +1,9 @@
-//! Laws of the layout: what it doesn't depend on. Its only functions are laws.
+//! Laws of the layout: what it doesn't depend on, and that what the grammar derives can be printed; and small
+//! programs with what is written for them, formatted and minified. Its only functions are laws.
 #![tactic(auto)]
 
 ghost use Rattle.ecma_layout_laws.specs.Laws.{PlacesAreMarks, PlacesAside, SpellingsAside, SpellingsGo, UnplacedIsNowhere};
+ghost use Rattle.ecma_layout_laws.specs.PrintedLaws.{ReadIsPrinted, SpelledIsPrinted};
 
 /// Law: the places of a tree come into its layout as marks alone. So trees that agree but for places are written
 /// in the same pieces and as the same bytes, and where one can't be printed the other can't.
@@ -18,4 +20,12 @@ pub fn places_law()
 pub fn spellings_law()
     ensures layout { SpellingsGo }
     ensures alike { SpellingsAside }
+{}
+
+/// Law: in the layout of a tree that spells tokens nothing is refused, in any look and wherever it stands. So a
+/// tree that reads a text, as a script or as a module, can be printed.
+#[tactic(auto)]
+pub fn printed_law()
+    ensures spelled { SpelledIsPrinted }
+    ensures read { ReadIsPrinted }
 {}

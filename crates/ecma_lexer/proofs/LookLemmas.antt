@@ -17,7 +17,7 @@ use Rattle.ecma_lexeme.specs.Lexemes.{SpecLexeme}
 use Rattle.ecma_lexing.specs.States.{Last, Start, Slash, Characters, Fault, Other, State, again, behind, closed, contexts_after, opened, quoted, shebang, span_at, strict_faults, template_goal}
 use Rattle.ecma_lexing.specs.Steps.{IsFirst, IsGoing, IsOutside, IsPlain, IsRead, IsStep, IsStepBy, IsStepOf}
 use Rattle.ecma_lexing.proofs.StepLemmas.{one_step}
-use Rattle.ecma_stepping.proofs.Steps.{always_steps}
+use Rattle.ecma_lexing.proofs.Steps.{always_steps}
 use Rattle.ecma_lexer.specs.Looks.{scout_in}
 use Rattle.ecma_lexer.specs.Machine.{step_of}
 use Rattle.ecma_lexer.specs.Stepping.{Steps}

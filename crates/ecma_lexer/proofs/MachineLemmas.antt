@@ -8,9 +8,9 @@ use Rattle.ecma_tokens.specs.Machine.{StepGives, shown_spot}
 use Rattle.ecma_lexing.specs.States.{State}
 use Rattle.ecma_lexing.specs.Steps.{IsStep}
 use Rattle.ecma_lexing.proofs.StepLemmas.{one_step}
-use Rattle.ecma_stepping.specs.Bounds.{Falls, bound}
-use Rattle.ecma_stepping.proofs.Bounds.{bound_falls}
-use Rattle.ecma_stepping.proofs.Steps.{always_steps}
+use Rattle.ecma_lexing.specs.Bounds.{Falls, bound}
+use Rattle.ecma_lexing.proofs.Bounds.{bound_falls}
+use Rattle.ecma_lexing.proofs.Steps.{always_steps}
 use Rattle.ecma_lexer.specs.Machine.{step_of}
 use Rattle.ecma_lexer.specs.Stepping.{Steps}
 

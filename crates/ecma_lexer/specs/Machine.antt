@@ -5,10 +5,10 @@ use Rattle.ecma_tokens.specs.Machine.{EndStays, Machine, told_of}
 use Rattle.ecma_lexing.specs.States.{State, Text}
 use Rattle.ecma_lexing.specs.Steps.{IsStep}
 use Rattle.ecma_lexing.proofs.StepLemmas.{one_step}
-use Rattle.ecma_stepping.specs.Bounds.{bound}
-use Rattle.ecma_stepping.proofs.Ends.{end_stays}
-use Rattle.ecma_stepping.proofs.Going.{no_again}
-use Rattle.ecma_stepping.proofs.Steps.{always_steps}
+use Rattle.ecma_lexing.specs.Bounds.{bound}
+use Rattle.ecma_lexing.proofs.Ends.{end_stays}
+use Rattle.ecma_lexing.proofs.Going.{no_again}
+use Rattle.ecma_lexing.proofs.Steps.{always_steps}
 
 -- The one step that is made from a state: what it hands out, and the state behind it.
 unfoldable pub step_of : State → Option Spot × State

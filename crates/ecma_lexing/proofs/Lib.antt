@@ -1,2 +1,14 @@
 pub mod TriviaLemmas
 pub mod StepLemmas
+pub mod Deciding
+pub mod Words
+pub mod Numbers
+pub mod Strings
+pub mod Templates
+pub mod Marks
+pub mod Tokens
+pub mod Trivia
+pub mod Steps
+pub mod Bounds
+pub mod Going
+pub mod Ends

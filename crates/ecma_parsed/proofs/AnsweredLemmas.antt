@@ -16,7 +16,7 @@ use Rattle.ecma_parse_state.specs.Fronts.{Front, told_of, machine_of}
 use Rattle.ecma_parse_state.specs.declared.failure.Failure.{Failure}
 use Rattle.ecma_parse_state.specs.declared.failure.Failure.TheVariants as failures
 use Rattle.ecma_parse_state.specs.declared.parser.Parser.{Parser}
-use Rattle.ecma_parse_entries.specs.Within as entries
+use Rattle.ecma_parser.specs.Passed as entries
 use Rattle.ecma_parsed.specs.Within as parsed
 use Rattle.ecma_parsed.specs.Exact.{read_within}
 use Rattle.ecma_parsed.specs.Settled.{SettledBy, Settled}

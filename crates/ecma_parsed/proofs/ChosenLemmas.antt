@@ -23,7 +23,7 @@ use Rattle.ecma_spells.specs.Choice.{tells_module}
 use Rattle.ecma_parse_state.specs.Fronts.{told_of, machine_of}
 use Rattle.ecma_sources.specs.Sources.{HandsOut}
 use Rattle.ecma_parse_state.specs.declared.parser.Parser.{Parser}
-use Rattle.ecma_parse_entries.specs.Within.{program_within}
+use Rattle.ecma_parser.specs.Passed.{program_within}
 use Rattle.ecma_parser.specs.Answers.{Parses}
 use Rattle.ecma_parser.specs.Choice.{IsMeant, NotMeant, Chooses}
 use Rattle.ecma_parser.specs.Entries.{syntax_in, limit_in, opened}

@@ -12,7 +12,7 @@ use Rattle.ecma_grammar_complete_base.specs.Laws.{InOrder}
 use Rattle.ecma_reading.specs.Source.{Fault, Unexpected, TooDeep, is_nil}
 use Rattle.ecma_parse_state.specs.Fronts.{Front, place_of, places, asked, in_place, same_mark, read_on, reread_by, operand_by, machine_of}
 use Rattle.ecma_sources.specs.Sources.{is_slash, HandsOut}
-use Rattle.ecma_sources_of.specs.Constant.{Falls}
+use Rattle.ecma_sources_lexed.specs.Constant.{Falls}
 use Rattle.ecma_parsed.specs.Parsed.{DerivesList}
 use Rattle.ecma_parsed.specs.Exact.{read_within}
 use Rattle.ecma_parsed.specs.Settled.{SettledBy, Settled}

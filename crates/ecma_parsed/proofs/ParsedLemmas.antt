@@ -11,10 +11,10 @@ use Rattle.ecma_reading.specs.Source.{Fault, Unexpected, TooDeep, unexpected, â—
 use Rattle.ecma_reading.specs.Modules.{program_by}
 use Rattle.ecma_reading.specs.Reading.{readers, finish, read_program, read_list}
 use Rattle.ecma_grammar_complete_base.specs.Laws.{InOrder}
-use Rattle.ecma_grammar_steady.specs.Laws.{Keeps}
-use Rattle.ecma_grammar_steady.proofs.SteadyLemmas.{programs_keep}
-use Rattle.ecma_grammar_whole.specs.Laws.{Decided}
-use Rattle.ecma_grammar_whole.proofs.WholeLemmas.{scripts_complete, modules_complete}
+use Rattle.ecma_grammar_laws.specs.SteadyLaws.{Keeps}
+use Rattle.ecma_grammar_laws.proofs.SteadyLemmas.{programs_keep}
+use Rattle.ecma_grammar_complete.specs.Laws.{Decided}
+use Rattle.ecma_grammar_complete.proofs.WholeLemmas.{scripts_complete, modules_complete}
 use Rattle.ecma_sources.specs.Sources.{HandsOut, Orderly}
 use Rattle.ecma_sources.proofs.SourceLemmas.{programs_read}
 use Rattle.ecma_parsed.specs.Within.{within, program_within}

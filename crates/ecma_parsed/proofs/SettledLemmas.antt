@@ -8,9 +8,9 @@ use Rattle.ecma_reading.specs.Source.{Fault, Unexpected, TooDeep, Machine}
 use Rattle.ecma_parse_state.specs.Fronts.{read_on, machine_of}
 use Rattle.ecma_sources.specs.Sources.{Orderly}
 use Rattle.ecma_sources.specs.Consumed.{Backward}
-use Rattle.ecma_sources_of.specs.Constant.{Before}
-use Rattle.ecma_sources_of.proofs.Fronts.{parser_orderly}
-use Rattle.ecma_sources_of.proofs.Slashes.{parser_backward}
+use Rattle.ecma_sources_lexed.specs.Constant.{Before}
+use Rattle.ecma_sources_lexed.proofs.Orderly.{parser_orderly}
+use Rattle.ecma_sources_lexed.proofs.Backward.{parser_backward}
 use Rattle.ecma_parsed.specs.Parsed.{Judges}
 use Rattle.ecma_parsed.proofs.ParsedLemmas.{programs_judged}
 use Rattle.ecma_parsed.specs.Exact.{read_within}

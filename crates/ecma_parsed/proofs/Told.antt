@@ -10,7 +10,7 @@ use Rattle.ecma_syntax.specs.Input.{Place, template_goal, others}
 use Rattle.ecma_reading.specs.Source.{is_nil}
 use Rattle.ecma_parse_state.specs.Fronts.{Front, is_escaped, place_of, places, machine_of}
 use Rattle.ecma_sources.specs.Sources.{HandsOut}
-use Rattle.ecma_tilings.proofs.Behind.{hashbang_behind, lexeme_behind}
+use Rattle.ecma_lexing_laws.proofs.Behind.{hashbang_behind, lexeme_behind}
 use Rattle.ecma_grammar_placed.specs.Laws.{SameTokens}
 use Rattle.ecma_grammar_placed.proofs.PlacedLemmas.{bared}
 use Rattle.ecma_spells.specs.Tiled.{goal_at, whole, AreTiles, AfterHashbang, Tile}

@@ -15,8 +15,8 @@ use Rattle.ecma_parse_state.specs.Fronts.{Front, told_of, machine_of}
 use Rattle.ecma_parse_state.specs.declared.failure.Failure.{Failure}
 use Rattle.ecma_parse_state.specs.declared.failure.Failure.TheVariants as failures
 use Rattle.ecma_parse_state.specs.declared.parser.Parser.{Parser}
-use Rattle.ecma_parse_entries.specs.Within.{program_within}
-use Rattle.ecma_sources_of.specs.Constant.{Constant}
+use Rattle.ecma_parser.specs.Passed.{program_within}
+use Rattle.ecma_sources_lexed.specs.Constant.{Constant}
 use Rattle.ecma_parsed.specs.Parsed.{EachDerived}
 use Rattle.ecma_parsed.specs.Judged.{Each, JudgedBy}
 use Rattle.ecma_parsed.specs.Settled.{SettledBy}

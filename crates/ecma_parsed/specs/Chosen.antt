@@ -26,13 +26,13 @@ use Rattle.ecma_spells.specs.Text.{Setting, Reads, TreeSpells, code_of, text_sta
 use Rattle.ecma_spells.specs.Choice.{tells_module, TreeChosen}
 use Rattle.ecma_parse_state.specs.Fronts.{told_of, machine_of}
 use Rattle.ecma_parse_state.specs.declared.parser.Parser.{Parser}
-use Rattle.ecma_parse_entries.specs.Within.{program_within}
+use Rattle.ecma_parser.specs.Passed.{program_within}
 use Rattle.ecma_parser.specs.Choice.{Chooses}
 use Rattle.ecma_parser.specs.Entries.{source_in, syntax_in, limit_in, opened}
 use Rattle.ecma_input.specs.declared.rewinding.Rewinding.{Rewinding}
 use Rattle.ecma_parser.specs.declared.entries.Entries.{Entries}
 use Rattle.ecma_sources.specs.Sources.{HandsOut}
-use Rattle.ecma_sources_of.specs.Constant.{Constant}
+use Rattle.ecma_sources_lexed.specs.Constant.{Constant}
 use Rattle.ecma_parsed.specs.Parsed.{DerivesList}
 use Rattle.ecma_parsed.specs.Answered.{AnsweredBy, SpelledBy, front_of}
 use Rattle.ecma_parsed.specs.Judged.{JudgedBy}

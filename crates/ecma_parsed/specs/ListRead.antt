@@ -11,7 +11,7 @@ use Rattle.ecma_grammar_complete_base.specs.Laws.{InOrder}
 use Rattle.ecma_reading.specs.Source.{Fault}
 use Rattle.ecma_parse_state.specs.Fronts.{place_of, read_on, machine_of}
 use Rattle.ecma_sources.specs.Sources.{HandsOut}
-use Rattle.ecma_sources_of.specs.Constant.{Constant}
+use Rattle.ecma_sources_lexed.specs.Constant.{Constant}
 use Rattle.ecma_parsed.specs.Parsed.{DerivesList}
 use Rattle.ecma_parsed.specs.Exact.{read_within}
 use Rattle.ecma_parsed.specs.Judged.{Judged}

@@ -9,7 +9,7 @@ use Rattle.ecma_syntax.specs.Input.{Place}
 use Rattle.ecma_reading.specs.Source.{Fault, Unexpected, TooDeep, Machine}
 use Rattle.ecma_parse_state.specs.Fronts.{read_on, machine_of}
 use Rattle.ecma_sources.specs.Sources.{HandsOut}
-use Rattle.ecma_sources_of.specs.Constant.{Constant}
+use Rattle.ecma_sources_lexed.specs.Constant.{Constant}
 use Rattle.ecma_parsed.specs.Parsed.{DerivesList, EachDerived}
 use Rattle.ecma_parsed.specs.Exact.{read_within}
 

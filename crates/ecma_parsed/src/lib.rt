@@ -20,7 +20,7 @@ ghost use Rattle.std.specs.Prelude.{Bool, List};
 
 pub use ecma_parser::{Failure, PResult, Parser};
 use ecma_sources::Sourced;
-use ecma_sources_of::Tokened;
+use ecma_sources_lexed::Tokened;
 
 /// Law: a script or a module that is read of a source within a limit of nesting is the only one that
 /// derives tokens which the source hands out. Where a token is unexpected none is derived, and where

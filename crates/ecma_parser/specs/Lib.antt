@@ -3,3 +3,4 @@ pub mod Answers
 pub mod Entries
 pub mod Choice
 pub mod Parts
+pub mod Passed

@@ -3,3 +3,4 @@ pub mod Hashbangs
 pub mod Written
 pub mod Whole
 pub mod Marked
+pub mod Passed

@@ -16,10 +16,10 @@ use Rattle.ecma_layout.specs.Looks.{commit, start, when, ◌·◌}
 use Rattle.ecma_layout.specs.Layout.{is_empty, laid, statements}
 use Rattle.ecma_written.specs.Naming.{Naming, StandsFor}
 use Rattle.ecma_written_tiles.specs.Tiles.{IsEmptyPage}
-use Rattle.ecma_written_nodes.specs.Laws.{ProgramGoes}
-use Rattle.ecma_written_nodes.proofs.Hashbangs.{programs_go}
-use Rattle.ecma_names_placed.specs.Laws.{BeginsMarks, SaysPlaced, ArePlaced}
-use Rattle.ecma_names_placed.proofs.Pages.{names_are_placed, names_behind_hashbangs}
+use Rattle.ecma_written_laws.specs.TiledLaws.{ProgramGoes}
+use Rattle.ecma_written_laws.proofs.Hashbangs.{programs_go}
+use Rattle.ecma_written_laws.specs.PlacedLaws.{BeginsMarks, SaysPlaced, ArePlaced}
+use Rattle.ecma_written_laws.proofs.Pages.{names_are_placed, names_behind_hashbangs}
 use Rattle.ecma_redone.specs.Begins.{BeginFrom, NamesFrom}
 use Rattle.ecma_redone.proofs.Begins.{names_begin_there}
 use Rattle.ecma_readback.specs.Marked.{Alongside, MarksNames, NamesAreMarked}

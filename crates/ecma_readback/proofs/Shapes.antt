@@ -7,12 +7,12 @@ use Rattle.ecma_syntax.specs.Input.{Place, Input, Code, unplaced}
 use Rattle.ecma_grammar.specs.Parts.{is_quasi}
 use Rattle.ecma_grammar.specs.Grammar.{Spells}
 use Rattle.ecma_grammar_placed.specs.Laws.{placing, SameTokens as SamePlaced}
-use Rattle.ecma_grammar_templates.specs.Laws.{Programmed}
+use Rattle.ecma_grammar_goals.specs.TemplateLaws.{Programmed}
 use Rattle.ecma_spells.specs.Text.{code_of, is_of_goal}
 use Rattle.ecma_layout.specs.Looks.{start, when}
 use Rattle.ecma_written_tiles.specs.Tiles.{IsSilent, SameTokens}
 use Rattle.ecma_redone.specs.Redo.{Leaves, Mode, redo}
-use Rattle.ecma_redone_whole.specs.Laws.{is_program}
+use Rattle.ecma_redone_laws.specs.DerivedLaws.{is_program}
 
 pub redone_goal : (modules : Bool) (l : Leaves) (m : Mode) (t : Tree) → is_of_goal modules (redo l m t) ≡ is_of_goal modules t
 redone_goal false l m (script s ss h) = refl

@@ -3,7 +3,7 @@ use Rattle.std.proofs.Common.{◌≡◌, Some, None, sym, true≢false}
 use Rattle.ecma_tree.specs.Tree.{Tree, script, es_module}
 use Rattle.ecma_spells.specs.Text.{text_start}
 use Rattle.ecma_layout.specs.declared.look.Look.{Look}
-use Rattle.ecma_written_nodes.proofs.Programs.{scripts_are_tiled, modules_are_tiled}
+use Rattle.ecma_written_laws.proofs.Programs.{scripts_are_tiled, modules_are_tiled}
 use Rattle.ecma_readback.specs.Laws.{ProgramsAreTiled, ProgramsReadBack}
 use Rattle.ecma_readback.proofs.Written.{tiled_is_read_back}
 

@@ -5,10 +5,10 @@ use Rattle.ecma_tree.specs.Tree.{Tree, script, es_module, tpl}
 use Rattle.ecma_syntax.specs.Input.{Input, Code, unplaced}
 use Rattle.ecma_grammar.specs.Grammar.{Spells}
 use Rattle.ecma_grammar_placed.proofs.PlacedLemmas.{has_places}
-use Rattle.ecma_grammar_templates.proofs.Braces.{programs_match}
+use Rattle.ecma_grammar_goals.proofs.Braces.{programs_match}
 use Rattle.ecma_spells.specs.Tiled.{Tile}
 use Rattle.ecma_spells.specs.Text.{Setting, Reads, TreeSpells, code_of, is_of_goal, text_start}
-use Rattle.ecma_spells_one.proofs.OneLemmas.{one_tree_reads}
+use Rattle.ecma_spells_laws.proofs.OneLemmas.{one_tree_reads}
 use Rattle.ecma_write.specs.Pages.{Page}
 use Rattle.ecma_layout.specs.declared.look.Look.{Look}
 use Rattle.ecma_layout.specs.declared.look.Stand.TheVariants.{Alone}
@@ -36,11 +36,11 @@ use Rattle.ecma_redone.proofs.Mapped.{mapped}
 use Rattle.ecma_redone.proofs.Names.{names_alike}
 use Rattle.ecma_redone.proofs.Programs.{same_program}
 use Rattle.ecma_redone.proofs.Shapes.{clean_alike, nests_alike}
-use Rattle.ecma_redone_texts.proofs.Derived.{derived_is_read}
-use Rattle.ecma_redone_texts.proofs.Leaves.{read_is_faithful}
-use Rattle.ecma_redone_bytes.proofs.Laws.{written_again}
-use Rattle.ecma_redone_whole.specs.Laws.{is_program}
-use Rattle.ecma_redone_whole.proofs.Programs.{derived_again}
+use Rattle.ecma_redone_laws.proofs.Derived.{derived_is_read}
+use Rattle.ecma_redone_laws.proofs.Leaves.{read_is_faithful}
+use Rattle.ecma_redone_laws.proofs.BytesLemmas.{written_again}
+use Rattle.ecma_redone_laws.specs.DerivedLaws.{is_program}
+use Rattle.ecma_redone_laws.proofs.Programs.{derived_again}
 use Rattle.ecma_readback.specs.Laws.{GoingIsReadBack, HasLineText, IsReadBack, NamesReadBack, ProgramGoes, ProgramsAreTiled, ProgramsGo, TiledIsReadBack}
 use Rattle.ecma_readback.proofs.Hashbangs.{line_text}
 use Rattle.ecma_readback.proofs.Shapes.{redone_goal, goal_is_program, program_is_no_quasi, programmed, goal_is_placed, placed_again, same_tokens, start_is_silent}

@@ -19,9 +19,9 @@ use Rattle.ecma_written.specs.Naming.{Naming, StandsFor}
 use Rattle.ecma_written_tiles.specs.Goes.{GoesWhole}
 use Rattle.ecma_written_tiles.specs.Laws.{IsTiled}
 use Rattle.ecma_written_tiles.specs.Tiles.{SaysTiles, IsEmptyPage, IsHashbangText}
-use Rattle.ecma_redone_bytes.specs.Laws.{WritesAgain}
+use Rattle.ecma_redone_laws.specs.BytesLaws.{WritesAgain}
 use Rattle.ecma_redone.specs.Laws.{kept_names}
-use Rattle.ecma_redone_whole.specs.Laws.{is_program}
+use Rattle.ecma_redone_laws.specs.DerivedLaws.{is_program}
 
 -- Behind a hashbang (12.5) each text of the statements may follow what stands before it.
 abbrev pub GoesBehind : Look → Trees → Type 0

@@ -13,7 +13,7 @@ use Rattle.ecma_layout.specs.declared.look.Look.{Look}
 use Rattle.ecma_layout.specs.Layout.{pieces}
 use Rattle.ecma_lines.specs.Lines.{place_of}
 use Rattle.ecma_written_tiles.specs.Tiles.{IsEmptyPage}
-use Rattle.ecma_names_placed.specs.Laws.{BeginsMarks}
+use Rattle.ecma_written_laws.specs.PlacedLaws.{BeginsMarks}
 
 -- Names, one by one: the same word, and P of where the one and the other begin.
 abbrev pub Alongside : (ℕ → ℕ → Type 0) → List Name → List Name → Type 0

@@ -3,7 +3,7 @@ use Rattle.std.proofs.Common.{◌≡◌, ◌∙◌, ℕ, nat_eq, Bool, true, fal
 use Rattle.ecma_token.specs.declared.place.Span.{Span}
 use Rattle.ecma_tree.specs.Tree.{Tree, Trees, bin_expr, member_expr, call_expr, tagged_tpl, tpl, opt_chain_expr, opt_call, list, if_stmt}
 use Rattle.std.proofs.Math.Bool.{beq}
-use Rattle.ecma_equal.specs.Same.{same}
+use Rattle.ecma_program.specs.Same.{same}
 use Rattle.ecma_same.proofs.Knots.{expr_knot, stmt_knot}
 use Rattle.ecma_same.proofs.Mixed.{both_absent, absent_last, absent_first}
 use Rattle.ecma_same.specs.Compared.{same_spellings}

@@ -7,7 +7,7 @@ use Rattle.ecma_token.specs.declared.place.Span.{Span}
 use Rattle.ecma_token.specs.Utf16.{utf16}
 use Rattle.ecma_number.specs.Numbers.{SpecNumber}
 use Rattle.ecma_tree.specs.Tree.{Tree, ident_name, str_lit, number_lit, big_int_lit, computed_prop_name, private_name}
-use Rattle.ecma_equal.specs.Same.{same}
+use Rattle.ecma_program.specs.Same.{same}
 use Rattle.ecma_node.specs.View.{view_prop_name, view_private_name}
 use Rattle.ecma_node.specs.declared.functions.PropNameOf.{PropNameOf}
 use Rattle.ecma_node.specs.declared.functions.PropNameOf.TheVariants as PropName

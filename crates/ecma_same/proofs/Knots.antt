@@ -4,8 +4,8 @@ use Rattle.std.specs.Bool.{Decides}
 use Rattle.ecma_tree.specs.Tree.{Tree, trees_by, part_by, super, arrow_expr, for_stmt, for_in_stmt, for_of_stmt}
 use Rattle.ecma_tree.specs.Places.{no_place}
 use Rattle.ecma_program.specs.Program.{IsSameProgram}
-use Rattle.ecma_equal.specs.Same.{same}
-use Rattle.ecma_equal.proofs.SameLemmas.{same_decides}
+use Rattle.ecma_program.specs.Same.{same}
+use Rattle.ecma_program.proofs.SameLemmas.{same_decides}
 use Rattle.ecma_node.specs.Placed.{Placed, inner, in_expr, in_stmt, in_pat, holds_expr, holds_pat}
 use Rattle.ecma_node.specs.Fits.{fits_held, fits_expr_kind, fits_stmt_kind, fits_block_stmt_or_expr, fits_for_head, fits_var_decl_or_expr}
 use Rattle.ecma_node.specs.View.{view_expr_kind, view_stmt_kind, view_block_stmt_or_expr, view_for_head, view_var_decl_or_expr}

@@ -7,7 +7,7 @@ use Rattle.ecma_tree.specs.Tree.{Tree, Trees, none, more, list, absent, tpl_elem
 use Rattle.ecma_program.specs.Program.{line_ends}
 use Rattle.ecma_node.specs.View.{view_tpl_element}
 use Rattle.ecma_node.specs.declared.expressions.TplElement.{TplElement}
-use Rattle.ecma_equal.specs.Same.{same}
+use Rattle.ecma_program.specs.Same.{same}
 use Rattle.ecma_same.proofs.Steps.{IsListTest}
 use Rattle.ecma_same.specs.Compared.{same_arguments, same_spellings}
 

@@ -4,8 +4,8 @@ use Rattle.ecma_token.specs.declared.place.Span.{Span}
 use Rattle.ecma_tree.specs.Places.{no_place}
 use Rattle.ecma_tree.specs.Tree.{Tree, Trees, absent, hole, super, import, var_decl, using_decl}
 use Rattle.ecma_program.specs.Program.{program}
-use Rattle.ecma_equal.specs.Same.{same}
-use Rattle.ecma_equal.proofs.SameLemmas.{same_decides}
+use Rattle.ecma_program.specs.Same.{same}
+use Rattle.ecma_program.proofs.SameLemmas.{same_decides}
 use Rattle.ecma_node.specs.View.{view_module_decl}
 use Rattle.ecma_node.specs.Placed.{Placed, inner, in_expr, in_stmt, in_pat}
 use Rattle.ecma_node.specs.declared.programs.ModuleDeclOf.{ModuleDeclOf}

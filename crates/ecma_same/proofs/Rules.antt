@@ -3,8 +3,8 @@
 use Rattle.std.proofs.Common.{◌≡◌, ℕ, Bool, true, ◌&&◌, nat_eq, List, Option, bytes_eq, refl}
 use Rattle.std.proofs.Math.Bool.{beq}
 use Rattle.ecma_token.specs.declared.place.Span.{Span}
-use Rattle.ecma_equal.specs.Equal.{equal_text}
-use Rattle.ecma_equal.specs.Same.{same}
+use Rattle.ecma_program.specs.Equal.{equal_text}
+use Rattle.ecma_program.specs.Same.{same}
 use Rattle.ecma_same.specs.Compared.{same_keys, same_arguments}
 use Rattle.ecma_tree.specs.Tree.{Tree, Trees, script, es_module, import_decl, export_decl, named_export, export_default_decl, export_default_expr, export_all, import_named_specifier, import_default_specifier, import_star_as_specifier, export_namespace_specifier, export_default_specifier, export_named_specifier, block_stmt, empty_stmt, debugger_stmt, with_stmt, return_stmt, labeled_stmt, break_stmt, continue_stmt, if_stmt, switch_stmt, switch_case, throw_stmt, try_stmt, catch_clause, while_stmt, do_while_stmt, for_stmt, for_in_stmt, for_of_stmt, class_decl, fn_decl, var_decl, using_decl, var_declarator, function, param, decorator, class, constructor, class_method, private_method, class_prop, private_prop, static_block, auto_accessor, ident_name, computed_prop_name, private_name, this_expr, array_lit, object_lit, fn_expr, unary_expr, update_expr, bin_expr, assign_expr, member_expr, super_prop_expr, cond_expr, call_expr, new_expr, seq_expr, ident, tpl, tpl_element, arrow_expr, class_expr, yield_expr, meta_prop_expr, await_expr, paren_expr, opt_chain_expr, opt_call, super, import, invalid, spread_element, key_value_prop, assign_prop, getter_prop, setter_prop, method_prop, bool_lit, null_lit, regex_lit, binding_ident, array_pat, rest_pat, object_pat, assign_pat, key_value_pat_prop, assign_pat_prop, list}
 

@@ -8,9 +8,9 @@ use Rattle.ecma_number.specs.Numbers.{SpecNumber}
 use Rattle.ecma_tree.specs.Places.{no_place}
 use Rattle.ecma_tree.specs.Tree.{Tree, Trees, expr_stmt, tagged_tpl, tpl, number_lit, big_int_lit, expr_or_spread, str_lit, list}
 use Rattle.ecma_program.specs.Program.{program, stated}
-use Rattle.ecma_equal.specs.Equal.{equal}
-use Rattle.ecma_equal.specs.Same.{same}
-use Rattle.ecma_equal.proofs.SameLemmas.{same_decides}
+use Rattle.ecma_program.specs.Equal.{equal}
+use Rattle.ecma_program.specs.Same.{same}
+use Rattle.ecma_program.proofs.SameLemmas.{same_decides}
 use Rattle.ecma_same.specs.Compared.{is_use_strict, same_spellings}
 
 clash : {A : Type 0} → true ≡ false → A

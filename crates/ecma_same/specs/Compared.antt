@@ -2,7 +2,7 @@
 use Rattle.std.specs.Prelude.{Bool, false, not, ◌&&◌, codes, bytes_eq}
 use Rattle.ecma_tree.specs.Tree.{Tree, Trees, str_lit}
 use Rattle.ecma_program.specs.Program.{program, property_key, arguments, texts, is_escaped}
-use Rattle.ecma_equal.specs.Equal.{equal, equal_all}
+use Rattle.ecma_program.specs.Equal.{equal, equal_all}
 
 -- whether two keys of properties say the same (13.2.5): a word is the string of its text
 unfoldable pub same_keys : Tree → Tree → Bool

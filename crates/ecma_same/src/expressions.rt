@@ -2,7 +2,7 @@
 //! Whether expressions (ECMA-262, clause 13) say the same.
 ghost use Rattle.std.specs.Prelude.{◌≡◌, ◌&&◌};
 ghost use Rattle.ecma_tree.specs.Tree.{trees_by, list};
-ghost use Rattle.ecma_equal.specs.Same.{same};
+ghost use Rattle.ecma_program.specs.Same.{same};
 ghost use Rattle.ecma_node.specs.View.{view_this_expr, view_array_lit, view_object_lit, view_fn_expr, view_unary_expr, view_update_expr, view_bin_expr, view_assign_expr, view_member_expr, view_super_prop_expr, view_cond_expr, view_call_expr, view_new_expr, view_seq_expr, view_ident, view_tpl, view_tpl_element, view_tagged_tpl, view_class_expr, view_yield_expr, view_meta_prop_expr, view_await_expr, view_paren_expr, view_opt_chain_expr, view_opt_call, view_super, view_import, view_invalid, view_expr_or_spread, view_spread_element, view_callee, view_member_prop, view_super_prop, view_opt_chain_base};
 ghost use Rattle.ecma_same.specs.Compared.{same_spellings};
 ghost use Rattle.ecma_same.specs.Seen.{seen_expr_kind, seen_arrow_expr, seen_block_stmt_or_expr};

@@ -3,7 +3,7 @@
 ghost use Rattle.std.specs.Prelude.{◌≡◌, ◌<◌, ◌&&◌, true, false, IfSome};
 ghost use Rattle.std.specs.Bool.{Decides};
 ghost use Rattle.ecma_tree.specs.Codes.{tree_size};
-ghost use Rattle.ecma_equal.specs.Same.{same};
+ghost use Rattle.ecma_program.specs.Same.{same};
 ghost use Rattle.ecma_node.specs.Placed.{inner};
 ghost use Rattle.ecma_program.specs.Program.{IsSameProgram};
 ghost use Rattle.ecma_same.specs.Sorts.{is_statement, is_pattern, is_node};

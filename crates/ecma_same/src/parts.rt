@@ -1,7 +1,7 @@
 //! What can be compared, lists, parts that may be left out, and children beside other nodes.
 ghost use Rattle.std.specs.Prelude.{◌≡◌, Bool, true, false};
 ghost use Rattle.ecma_tree.specs.Tree.{Tree, trees_by, part_by, element_by, list};
-ghost use Rattle.ecma_equal.specs.Same.{same};
+ghost use Rattle.ecma_program.specs.Same.{same};
 ghost use Rattle.ecma_node.specs.View.{view_expr_or_spread};
 ghost use Rattle.ecma_same.specs.Sorts.{is_statement, is_node, is_left_out};
 ghost use Rattle.ecma_same.specs.Compared.{same_arguments, is_use_strict};

@@ -4,7 +4,7 @@ ghost use Rattle.std.specs.Prelude.{◌==◌};
 ghost use Rattle.std.specs.List.{list_any};
 ghost use Rattle.ecma_tree.specs.Tree.{trees_by};
 ghost use Rattle.ecma_program.specs.Program.{line_ends, line_ends_after, is_escaped};
-ghost use Rattle.ecma_equal.specs.Equal.{equal_text};
+ghost use Rattle.ecma_program.specs.Equal.{equal_text};
 ghost use Rattle.ecma_node.specs.View.{view_str, view_tpl_element};
 ghost use Rattle.ecma_same.specs.Compared.{same_spellings, is_use_strict};
 

@@ -24,9 +24,9 @@ use Rattle.ecma_tokens.specs.declared.contexts.TokenContext.TheVariants.{Tpl}
 use Rattle.ecma_tree.specs.Tree.{Tree, script, es_module}
 use Rattle.ecma_token.specs.declared.syntax.EsSyntax.{EsSyntax}
 use Rattle.ecma_syntax.specs.Input.{Place, Input}
-use Rattle.ecma_grammar_templates.specs.Laws.{Region, Outside, Inside, Behind, Nowhere, after, over}
-use Rattle.ecma_grammar_templates.proofs.Fits.{not_lost, fits_on, low_there}
-use Rattle.ecma_grammar_templates.proofs.Braces.{programs_match}
+use Rattle.ecma_grammar_goals.specs.TemplateLaws.{Region, Outside, Inside, Behind, Nowhere, after, over}
+use Rattle.ecma_grammar_goals.proofs.Fits.{not_lost, fits_on, low_there}
+use Rattle.ecma_grammar_goals.proofs.Braces.{programs_match}
 use Rattle.ecma_lexing.specs.States.{Last, Start, Slash, Characters, Fault, Other, State, again, again_by, behind, ended, goal_of, is_start, place, shebang, spot_at, template_goal, contexts_after, last_after}
 use Rattle.ecma_lexing.specs.Steps.{IsRead, IsPlain, IsOutside, IsGoing, IsStepBy, IsStepOf, IsStep}
 use Rattle.ecma_parse_state.specs.Fronts.{place_of, asked}

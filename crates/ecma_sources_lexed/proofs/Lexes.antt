@@ -7,14 +7,14 @@ use Rattle.ecma_tokens.specs.declared.contexts.TokenContext.{TokenContext}
 use Rattle.ecma_tokens.specs.Settings.{Settings}
 use Rattle.ecma_lexing.specs.States.{Last, Start, Slash, Characters, Fault, Other, State, Text, again, behind, ended, shebang, stopped, template_goal}
 use Rattle.ecma_lexing.specs.Steps.{IsRead, IsPlain, IsFirst, IsOutside, IsGoing, IsStepBy, IsStepOf, IsStep}
-use Rattle.ecma_stepping.specs.Bounds as stepping
-use Rattle.ecma_stepping.specs.Bounds.{bound}
-use Rattle.ecma_stepping.proofs.Bounds.{bound_falls}
-use Rattle.ecma_stepping.proofs.Steps.{always_steps}
+use Rattle.ecma_lexing.specs.Bounds as stepping
+use Rattle.ecma_lexing.specs.Bounds.{bound}
+use Rattle.ecma_lexing.proofs.Bounds.{bound_falls}
+use Rattle.ecma_lexing.proofs.Steps.{always_steps}
 use Rattle.ecma_lexer.specs.Machine.{step_of, lexer_machine}
 use Rattle.ecma_lexer.proofs.MachineLemmas.{step_is}
-use Rattle.ecma_sources_of.specs.Constant.{Falls}
-use Rattle.ecma_sources_of.proofs.Fronts.{tokens_read}
+use Rattle.ecma_sources_lexed.specs.Constant.{Falls}
+use Rattle.ecma_sources_lexed.proofs.Orderly.{tokens_read}
 use Rattle.ecma_sources_lexed.specs.Lexed.{OfGoal, SameText, LexerConstant, LexerRead}
 
 -- ---- a step keeps the goal

@@ -1,3 +1,5 @@
+pub mod Orderly
+pub mod Backward
 pub mod Lexes
 pub mod Takes
 pub mod Slashes

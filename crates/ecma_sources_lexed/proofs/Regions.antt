@@ -6,7 +6,7 @@ use Rattle.ecma_token.specs.Kinds.{left_brace_kind, right_brace_kind, back_quote
 use Rattle.ecma_tokens.specs.declared.contexts.TokenContext.{TokenContext}
 use Rattle.ecma_tokens.specs.declared.contexts.TokenContext.TheVariants.{TplQuasi, Tpl}
 use Rattle.ecma_lexing.specs.States.{Last, Slash, Characters, Fault, Other, is_start, template_goal, opened, closed, quoted, contexts_after, last_after}
-use Rattle.ecma_grammar_templates.specs.Laws.{Region, Outside, Inside, Behind, Nowhere, closing, after}
+use Rattle.ecma_grammar_goals.specs.TemplateLaws.{Region, Outside, Inside, Behind, Nowhere, closing, after}
 
 -- the contexts that a lexer keeps of braces that are open: none outside of all templates
 abbrev pub held : List Bool → List TokenContext

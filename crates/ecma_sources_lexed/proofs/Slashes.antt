@@ -18,15 +18,15 @@ use Rattle.ecma_lexeme.specs.Sorts as lexeme
 use Rattle.ecma_lexeme.proofs.SortLemmas.{pattern_sort, sort_word, string_begins, word_begins}
 use Rattle.ecma_lexing.specs.States.{Last, Start, Slash, Characters, Fault, Other, State, again, again_by, faulty, last_after, place, shebang, spot_at, template_goal}
 use Rattle.ecma_lexing.specs.Steps.{IsRead, IsPlain, IsFirst, IsOutside, IsGoing, IsStepBy, IsStepOf}
-use Rattle.ecma_stepping.proofs.Bounds.{no_slash}
-use Rattle.ecma_stepping.proofs.Steps.{always_steps}
+use Rattle.ecma_lexing.proofs.Bounds.{no_slash}
+use Rattle.ecma_lexing.proofs.Steps.{always_steps}
 use Rattle.ecma_lexer.specs.Machine.{step_of, lexer_machine}
 use Rattle.ecma_parse_state.specs.Fronts.{asked, told_of, in_place}
 use Rattle.ecma_sources.specs.Sources.{is_slash}
 use Rattle.ecma_sources_lexed.specs.Lexed.{OfGoal, SameText}
 use Rattle.ecma_sources_lexed.proofs.Lexes.{lexer_constant}
 use Rattle.ecma_sources_lexed.proofs.Takes.{in_place_at}
-use Rattle.ecma_sources_of.proofs.Slashes.{tokens_consumed}
+use Rattle.ecma_sources_lexed.proofs.Backward.{tokens_consumed}
 use Rattle.ecma_sources_lexed.specs.Standing.{LastToken, LexerRereads, LexerConsumed}
 
 -- ---- a slash begins with a slash, and under the goal RegExp with it begins a regular expression

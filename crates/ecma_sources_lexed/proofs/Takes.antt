@@ -13,7 +13,7 @@ use Rattle.ecma_lexer.specs.Machine.{step_of, lexer_machine}
 use Rattle.ecma_lexer.proofs.MachineLemmas.{step_is}
 use Rattle.ecma_parse_state.specs.Fronts.{Front, place_of, places, asked, withdrawn, same_mark, in_place, read_on, reread_by, machine_of}
 use Rattle.ecma_sources.specs.Sources.{is_slash, Rereads, HandsOut}
-use Rattle.ecma_sources_of.proofs.Fronts.{front}
+use Rattle.ecma_sources_lexed.proofs.Orderly.{front}
 
 -- ---- a regular expression in a slash's place
 

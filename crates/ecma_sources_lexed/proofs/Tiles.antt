@@ -30,13 +30,13 @@ use Rattle.ecma_tokens.specs.Settings.{Settings}
 use Rattle.ecma_tokens.specs.declared.contexts.TokenContext.{TokenContext}
 use Rattle.ecma_tokens.specs.declared.contexts.TokenContext.TheVariants.{Tpl}
 use Rattle.ecma_syntax.specs.Input.{Place, usual}
-use Rattle.ecma_grammar_templates.specs.Laws.{Region, Outside, Inside, Behind, Nowhere, after, over}
-use Rattle.ecma_grammar_templates.proofs.Fits.{not_lost, fits_on, low_there, usual_there, sound_on}
+use Rattle.ecma_grammar_goals.specs.TemplateLaws.{Region, Outside, Inside, Behind, Nowhere, after, over}
+use Rattle.ecma_grammar_goals.proofs.Fits.{not_lost, fits_on, low_there, usual_there, sound_on}
 use Rattle.ecma_lexing.specs.States.{Last, Start, Slash, Characters, Fault, Other, State, again, again_by, behind, goal_of, is_start, place, shebang, spot_at, template_goal, contexts_after, last_after}
 use Rattle.ecma_lexing.specs.Steps.{IsRead, IsPlain, IsOutside, IsGoing, IsStepBy, IsStepOf, IsStep}
 use Rattle.ecma_lexing.proofs.StepLemmas.{one_step}
-use Rattle.ecma_stepping.proofs.Steps.{always_steps}
-use Rattle.ecma_stepping.proofs.Trivia.{hashbang_or_not}
+use Rattle.ecma_lexing.proofs.Steps.{always_steps}
+use Rattle.ecma_lexing.proofs.Trivia.{hashbang_or_not}
 use Rattle.ecma_lexer.specs.Machine.{step_of, lexer_machine}
 use Rattle.ecma_parse_state.specs.Fronts.{asked}
 use Rattle.ecma_sources.specs.Sources.{is_slash}

@@ -9,7 +9,7 @@ use Rattle.ecma_lexing.specs.States.{State}
 use Rattle.ecma_lexer.specs.Machine.{step_of, lexer_machine}
 use Rattle.ecma_parse_state.specs.Fronts.{Front, place_of, places, asked, withdrawn, in_place, read_on, after_by, reread_by, operand_by, machine_of}
 use Rattle.ecma_sources.specs.Sources.{is_slash, Rereads, HandsOut}
-use Rattle.ecma_sources_of.proofs.Fronts.{front}
+use Rattle.ecma_sources_lexed.proofs.Orderly.{front}
 
 abbrev spot_or : Spot → List Place → Spot
 spot_or d [] = d

@@ -3,8 +3,8 @@ use Rattle.std.proofs.Common.{◌≡◌, ℕ, true, false, List, [], ◌∷◌, 
 use Rattle.std.specs.Prelude.{nat_le}
 use Rattle.std.proofs.lemmas.Bool.{false≢true, eqb-true}
 use Rattle.ecma_syntax.specs.Input.{Place, usual, regexp_goal, template_goal, template_end_goal}
-use Rattle.ecma_grammar_templates.specs.Laws.{Region, Outside, Inside, Behind, Nowhere, after, fits, over}
-use Rattle.ecma_grammar_templates.proofs.Fits.{fits_on, usual_there, sound_on}
+use Rattle.ecma_grammar_goals.specs.TemplateLaws.{Region, Outside, Inside, Behind, Nowhere, after, fits, over}
+use Rattle.ecma_grammar_goals.proofs.Fits.{fits_on, usual_there, sound_on}
 use Rattle.ecma_sources_lexed.specs.Tiled.{AreUsual, MatchedUsual, DerivedUsual}
 use Rattle.ecma_sources_lexed.proofs.Hands.{matched}
 

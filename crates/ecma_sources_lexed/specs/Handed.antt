@@ -7,7 +7,7 @@ use Rattle.ecma_token.specs.declared.version.EsVersion.{EsVersion}
 use Rattle.ecma_scan.specs.Places.{bytes}
 use Rattle.ecma_tree.specs.Tree.{Tree}
 use Rattle.ecma_syntax.specs.Input.{Place}
-use Rattle.ecma_grammar_templates.specs.Laws.{Outside, over}
+use Rattle.ecma_grammar_goals.specs.TemplateLaws.{Outside, over}
 use Rattle.ecma_lexing.specs.States.{Start, State, at_start_of}
 use Rattle.ecma_lexer.specs.Machine.{lexer_machine}
 use Rattle.ecma_parse_state.specs.Fronts.{place_of, read_on, told_of, machine_of}

@@ -8,7 +8,7 @@ use Rattle.ecma_lexing.specs.States.{State, Text}
 use Rattle.ecma_lexer.specs.Machine.{lexer_machine}
 use Rattle.ecma_parse_state.specs.Fronts.{Front, machine_of}
 use Rattle.ecma_sources.specs.Sources.{HandsOut}
-use Rattle.ecma_sources_of.specs.Constant.{Constant, Before}
+use Rattle.ecma_sources_lexed.specs.Constant.{Constant, Before}
 
 -- the text of a script, or of a module
 abbrev pub OfGoal : Bool → State → Type 0

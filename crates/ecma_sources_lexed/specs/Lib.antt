@@ -1,3 +1,5 @@
+pub mod Constant
+pub mod Backward
 pub mod Lexed
 pub mod Standing
 pub mod Handed

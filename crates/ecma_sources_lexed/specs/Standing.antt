@@ -13,7 +13,7 @@ use Rattle.ecma_lexer.specs.Machine.{lexer_machine}
 use Rattle.ecma_parse_state.specs.Fronts.{Front, asked, told_of, in_place, machine_of}
 use Rattle.ecma_sources.specs.Sources.{is_slash, HandsOut}
 use Rattle.ecma_sources_lexed.specs.Lexed.{OfGoal}
-use Rattle.ecma_sources_of.specs.Constant.{Before}
+use Rattle.ecma_sources_lexed.specs.Constant.{Before}
 
 -- Where a slash was the last token, the lexer knows the text from it on.
 abbrev pub LastToken : Option Spot → State → Type 0

@@ -5,7 +5,7 @@ use Rattle.ecma_token.specs.declared.syntax.EsSyntax.{EsSyntax}
 use Rattle.ecma_tree.specs.Tree.{Tree}
 use Rattle.ecma_syntax.specs.Input.{Place, Input, regexp_goal, usual}
 use Rattle.ecma_grammar.specs.Grammar.{Derives}
-use Rattle.ecma_grammar_templates.specs.Laws.{Outside, over}
+use Rattle.ecma_grammar_goals.specs.TemplateLaws.{Outside, over}
 use Rattle.ecma_lexing.specs.States.{State}
 use Rattle.ecma_lexer.specs.Machine.{lexer_machine}
 use Rattle.ecma_parse_state.specs.Fronts.{read_on, machine_of}

@@ -1,12 +1,44 @@
-//! Laws of the lexer and the parser: what is read of a list of tokens is read of the lexer that hands it out, and what is read of the lexer is read of a
-//! list of tokens that it hands out; and the tokens that tile a text are handed out. The functions here are laws alone.
+//! Laws of a parser's machine over a source of tokens, and of the lexer as such a source: what is read of a list of
+//! tokens is read of the source that hands it out, and what is read of the source is read of a list of tokens that it
+//! hands out; and the tokens that tile a text are handed out by the lexer. The functions here are laws alone.
 #![tactic(auto)]
 
+ghost use Rattle.ecma_sources_lexed.specs.Backward.{ParserBackward, TokensConsumed};
+ghost use Rattle.ecma_sources_lexed.specs.Constant.{ParserOrderly, TokensRead};
 ghost use Rattle.ecma_sources_lexed.specs.Escapes.{EscapesTold};
-ghost use Rattle.ecma_sources_lexed.specs.Handed.{NewAtStart, TilesHanded, ReadHanded};
+ghost use Rattle.ecma_sources_lexed.specs.Handed.{NewAtStart, ReadHanded, TilesHanded};
 ghost use Rattle.ecma_sources_lexed.specs.Lexed.{LexerConstant, LexerRead};
-ghost use Rattle.ecma_sources_lexed.specs.Standing.{LexerRereads, LexerConsumed};
+ghost use Rattle.ecma_sources_lexed.specs.Standing.{LexerConsumed, LexerRereads};
 ghost use Rattle.ecma_sources_lexed.specs.Tiled.{DerivedTile, DerivedUsual, HandedTile, MatchedUsual};
+ghost use Rattle.ecma_tokens.specs.Machine.{Machine, Source};
+
+/// A source of tokens, which of its states are good, and which are the same.
+pub trait Tokened {
+    ghost State: { Type 0 };
+
+    ghost machine: { Machine State };
+
+    ghost good: { Source State → Type 0 };
+
+    ghost same: { Source State → Source State → Type 0 };
+}
+
+/// Law: where steps fall and the code around changes no token, the machine that a parser reads from is
+/// orderly, so what is read of a list of tokens is read of a source that hands it out.
+#[tactic(auto)]
+pub fn tokens_law<I: Tokened>()
+    ensures orderly { ParserOrderly I.machine I.good I.same }
+    ensures read { TokensRead I.machine I.good I.same }
+{}
+
+/// Law: where steps fall and the code around changes no token, the machine that a parser reads from is
+/// orderly backward, since a slash is read again in its place or stays; so what is read of a source of
+/// tokens is read of a list of tokens that it hands out.
+#[tactic(auto)]
+pub fn back_law<I: Tokened>()
+    ensures backward { ParserBackward I.machine I.good I.same }
+    ensures consumed { TokensConsumed I.machine I.good I.same }
+{}
 
 /// Law: a lexer's steps lower a bound, and no code around changes its tokens, as long as it is of the
 /// same goal; so what is read of a list of tokens is read of a lexer that hands it out.

@@ -1,3 +1,10 @@
+pub mod Rows
+mod FactsNames
+mod FactsChoice
+mod FactsTexts
+mod FactsFronts
 pub mod Ordered
 pub mod Alone
 pub mod Passed
+pub mod Apart
+pub mod OneLemmas

@@ -10,9 +10,9 @@ use Rattle.ecma_lexeme.specs.declared.goal.LexicalGoal.{LexicalGoal}
 use Rattle.ecma_lexeme.specs.declared.goal.LexicalGoal.TheVariants.{Div, RegExp, TemplateTail, TemplateEnd}
 use Rattle.ecma_lexeme.specs.Lexemes.{SpecLexeme, IsLexeme}
 use Rattle.ecma_lexing.specs.States.{place}
-use Rattle.ecma_stepping.proofs.Tokens.{token_shorter}
-use Rattle.ecma_stepping.proofs.Trivia.{hashbang_shorter}
-use Rattle.ecma_tilings.proofs.Behind.{Behind, here, follow_behind, hashbang_behind, lexeme_behind, place_rises}
+use Rattle.ecma_lexing.proofs.Tokens.{token_shorter}
+use Rattle.ecma_lexing.proofs.Trivia.{hashbang_shorter}
+use Rattle.ecma_lexing_laws.proofs.Behind.{Behind, here, follow_behind, hashbang_behind, lexeme_behind, place_rises}
 use Rattle.ecma_syntax.specs.Input.{Place, template_goal}
 use Rattle.ecma_grammar_complete_base.specs.Laws.{InOrder}
 use Rattle.ecma_spells.specs.Tiled.{goal_at, whole, IsBeforeBy, AreTiles, AfterHashbang, Tile}

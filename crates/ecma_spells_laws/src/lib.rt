@@ -1,7 +1,9 @@
-//! Laws of spelled texts, as functions that do nothing.
+//! Laws of spelled texts, as functions that do nothing; and small texts that are spelled, and names of small
+//! programs, as facts that the checker evaluates.
 #![tactic(auto)]
 
 ghost use Rattle.ecma_spells_laws.specs.Laws.{OnePlainTree, OneTree, PlacesInOrder, TilesPart};
+ghost use Rattle.ecma_spells_laws.specs.OneLaws.{OneProgramSpells, OneTreeReads, OneTreeSpells};
 
 /// Law: tokens that tile a text are in order. Each begins where the one before it ends or later, and has a character, but for the
 /// characters of a template.
@@ -19,4 +21,13 @@ pub fn one_tree_reads()
     ensures tiles { TilesPart }
     ensures trees { OneTree }
     ensures plain { OnePlainTree }
+{}
+
+/// Law: at most one tree reads a text as a script, and at most one as a module. So at most one tree, and
+/// at most one program, spells it.
+#[tactic(auto)]
+pub fn one_tree_law()
+    ensures reads { OneTreeReads }
+    ensures trees { OneTreeSpells }
+    ensures programs { OneProgramSpells }
 {}

@@ -6,7 +6,7 @@ use Rattle.std.proofs.lemmas.Bool.{cases_Bool, false≢true, and_parts, not-true
 use Rattle.std.proofs.lemmas.Bool.Decides.{nat_tests}
 use Rattle.ecma_token.specs.Kinds.{template_kind, dollar_brace_kind, back_quote_kind, regex_kind, div_kind, div_assign_kind, name_kind, error_kind, shebang_kind}
 use Rattle.ecma_token.specs.Words.{kind_of, kind_among, own_words}
-use Rattle.ecma_token.specs.Tokens.{Spot}
+use Rattle.ecma_token.specs.Tokens.{Spot, bare}
 use Rattle.ecma_token.specs.TokenViews.{token_kind_number}
 use Rattle.ecma_token.specs.declared.token.TokenKind.{TokenKind}
 use Rattle.ecma_scan.specs.Punctuators.{Spelling, punctuators, IsAmong}
@@ -18,14 +18,12 @@ use Rattle.ecma_literal.specs.Escapes.{begins}
 use Rattle.ecma_literal.specs.Templates as templates
 use Rattle.ecma_lexeme.specs.declared.goal.LexicalGoal.{LexicalGoal}
 use Rattle.ecma_lexeme.specs.declared.goal.LexicalGoal.TheVariants.{Div, RegExp}
-use Rattle.ecma_lexeme.specs.Lexemes.{SpecLexeme, IsLexeme, IsOutside, IsCharacters, IsEnd, IsMark, numeral_lexeme}
+use Rattle.ecma_lexeme.specs.Lexemes.{SpecLexeme, IsLexeme, IsOutside, IsCharacters, IsEnd, IsMark, numeral_lexeme, plain}
 use Rattle.ecma_literal.specs.Numbers.{Meaning, Number, BigInt}
 use Rattle.ecma_lexeme.specs.Sorts.{is_slash}
-use Rattle.ecma_lexeme.specs.Lexemes.{plain}
-use Rattle.ecma_token.specs.Tokens.{bare}
 use Rattle.ecma_lexeme.proofs.LexemeLemmas.{one_lexeme}
 use Rattle.ecma_syntax.specs.Input.{Place, usual}
-use Rattle.ecma_grammar_templates.specs.Laws.{Region, Outside, Inside, Behind, Nowhere, after, fits, over}
+use Rattle.ecma_grammar_goals.specs.TemplateLaws.{Region, Outside, Inside, Behind, Nowhere, after, fits, over}
 use Rattle.ecma_scan.specs.Places.{bytes}
 use Rattle.ecma_spells.specs.Tiled.{goal_at, whole, IsBefore, IsTile, AreTiles, AfterHashbang}
 use Rattle.ecma_written.proofs.Ascii.{ascii}
@@ -397,12 +395,12 @@ module _ (goal : Goal) (end : ℕ) where
   opens_none : (s : List Bool) (k : ℕ) (text : List ℕ) → (k ≡ template_kind → ⊥) → Opening (after (Outside s) k) text
   opens_none s k text n = by (k == Rattle.ecma_token.specs.Kinds.left_brace_kind) (k == Rattle.ecma_token.specs.Kinds.right_brace_kind) (k == back_quote_kind) (k == template_kind || k == dollar_brace_kind)
     where
-      closes : (s : List Bool) → Opening (Rattle.ecma_grammar_templates.specs.Laws.closing s) text
+      closes : (s : List Bool) → Opening (Rattle.ecma_grammar_goals.specs.TemplateLaws.closing s) text
       closes [] = tt
       closes (false ∷ s) = tt
       closes (true ∷ s) = tt
 
-      by : (a b c d : Bool) → Opening (if a then Outside (false ∷ s) else (if b then Rattle.ecma_grammar_templates.specs.Laws.closing s else (if c then Inside s else (if d then Nowhere else Outside s)))) text
+      by : (a b c d : Bool) → Opening (if a then Outside (false ∷ s) else (if b then Rattle.ecma_grammar_goals.specs.TemplateLaws.closing s else (if c then Inside s else (if d then Nowhere else Outside s)))) text
       by true b c d = tt
       by false true c d = closes s
       by false false true d = tt

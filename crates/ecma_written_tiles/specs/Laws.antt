@@ -2,7 +2,7 @@
 use Rattle.std.specs.Prelude.{◌≡◌, ℕ, Bool, List, []}
 use Rattle.std.specs.Str.{chars}
 use Rattle.ecma_syntax.specs.Input.{Place}
-use Rattle.ecma_grammar_templates.specs.Laws.{Outside, over}
+use Rattle.ecma_grammar_goals.specs.TemplateLaws.{Outside, over}
 use Rattle.ecma_spells.specs.Tiled.{Tile}
 use Rattle.ecma_write.specs.Pages.{Page}
 use Rattle.ecma_pieces.specs.Pieces.{resolved, shortened}

@@ -1,7 +1,6 @@
 //! Runs of a lexer over a text, alone and as the sources above it hand its tokens on.
 
 use crate::lexer::again::read_again;
-use crate::lexer::ahead::tell_ahead;
 use crate::lexer::steps;
 use crate::lexer::told::{failed, tell, tell_comments, tell_faults, tell_list, tell_next};
 use ecma_answers::{Answer, Question};
@@ -203,8 +202,8 @@ pub fn by_steps(
     Ok(())
 }
 
-/// The tokens of a whole text, or its canonical text. A buffer, a list and a source that keeps tokens hand
-/// out the same ones.
+/// The tokens of a whole text, or its canonical text. A list and a source that keeps tokens hand out the
+/// same ones.
 pub fn to_the_end(question: &Question<'_>, text: &str, answer: &mut Answer) -> anyhow::Result<()> {
     let alloc = answer.alloc();
     let mut told = String::new(alloc);
@@ -218,9 +217,6 @@ pub fn to_the_end(question: &Question<'_>, text: &str, answer: &mut Answer) -> a
     }
     if from_list(tokens, context(question), text, alloc)? != told {
         return failed("a list hands out other tokens");
-    }
-    if tell_ahead(lexer(question, text, alloc)?, text, alloc)? != told {
-        return failed("a buffer hands out other tokens");
     }
     Ok(())
 }

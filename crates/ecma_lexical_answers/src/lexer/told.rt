@@ -44,7 +44,7 @@ fn part(out: &mut String) -> anyhow::Result<()> {
 }
 
 /// Adds the end.
-pub fn tell_end(out: &mut String) -> anyhow::Result<()> {
+fn tell_end(out: &mut String) -> anyhow::Result<()> {
     part(out)?;
     Ok(out.push_str("end")?)
 }
@@ -64,22 +64,6 @@ pub fn tell_next(
     match token {
         Some(token) => tell(&token, text, out),
         None => tell_end(out),
-    }
-}
-
-/// Adds a token that waits, or that none does, with a word before it.
-pub fn tell_as(
-    word: &str,
-    token: Option<&TokenAndSpan<'_>>,
-    text: &str,
-    out: &mut String,
-) -> anyhow::Result<()> {
-    part(out)?;
-    out.push_str(word)?;
-    out.push_str(" ")?;
-    match token {
-        Some(token) => tell_token(token, text, out),
-        None => Ok(out.push_str("none")?),
     }
 }
 

@@ -1,6 +1,6 @@
 use Rattle.std.proofs.Common.{◌≡◌, ◌+◌, ◌≤◌, max}
 use Rattle.ecma_node.specs.declared.knot.Expr.TheDeep.{size-Expr, size-Stmt, size-Pat, size-Part}
-use Rattle.ecma_equal.specs.Same.{same}
+use Rattle.ecma_program.specs.Same.{same}
 use Rattle.ecma_same.proofs.knot.+same.Given as goal
 
 abbrev pub decreases-PartSame::same : goal.decreases-PartSame::same

@@ -1,6 +1,6 @@
 use Rattle.std.proofs.Common.{◌≡◌, drop}
 use Rattle.ecma_tree.specs.Tree.{trees_by, list}
-use Rattle.ecma_equal.specs.Same.{same}
+use Rattle.ecma_program.specs.Same.{same}
 use Rattle.ecma_same.proofs.parts.same_items.Given as goal
 
 abbrev pub invariant-items : goal.invariant-items

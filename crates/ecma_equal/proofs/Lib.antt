@@ -1,2 +1,0 @@
-pub mod EqualLemmas
-pub mod SameLemmas

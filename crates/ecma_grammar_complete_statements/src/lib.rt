@@ -1,2 +1,0 @@
-//! Laws of the grammar: what a statement spells is read.
-#![tactic(auto)]

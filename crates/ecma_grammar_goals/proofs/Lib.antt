@@ -1,0 +1,14 @@
+pub mod Twins
+pub mod SlashExpressions
+pub mod SlashStatements
+pub mod SlashModules
+pub mod Ended
+pub mod SlashLemmas
+pub mod Fits
+pub mod Walks
+pub mod TemplateExpressions
+pub mod TemplatePatterns
+pub mod TemplateFunctions
+pub mod TemplateStatements
+pub mod TemplateModules
+pub mod Braces

@@ -1,0 +1,2 @@
+pub mod SlashLaws
+pub mod TemplateLaws

@@ -1,4 +1,0 @@
-pub mod Sizes
-pub mod Expressed
-pub mod Tied
-pub mod Passed

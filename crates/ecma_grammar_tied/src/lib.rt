@@ -1,2 +1,0 @@
-//! Laws of the grammar: what a tree spells is read.
-#![tactic(auto)]

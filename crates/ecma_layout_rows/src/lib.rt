@@ -1,2 +1,0 @@
-//! Small programs with what is written for them, formatted and minified.
-#![tactic(auto)]

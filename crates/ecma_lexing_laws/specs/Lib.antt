@@ -1,0 +1,8 @@
+-- Runs of a lexer, how their tokens lie in the text, and what a run is in the canonical text.
+pub mod Runs
+pub mod Room
+pub mod Tilings
+pub mod Spans
+pub mod Turns
+pub mod TilingLaws
+pub mod CanonicalLaws

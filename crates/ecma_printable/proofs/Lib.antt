@@ -1,9 +1,0 @@
-pub mod Fine
-pub mod Lists
-pub mod Forms
-pub mod Expressions
-pub mod Functions
-pub mod Statements
-pub mod Modules
-pub mod Printed
-pub mod LawsLemmas

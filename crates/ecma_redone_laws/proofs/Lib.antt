@@ -1,0 +1,15 @@
+pub mod DerivedAgain
+pub mod Programs
+pub mod Octals
+pub mod Backslashes
+pub mod Numbers
+pub mod TextsAgain
+pub mod TemplatesAgain
+pub mod Leaves
+pub mod Derived
+pub mod Questions
+pub mod Literals
+pub mod Parts
+pub mod Layouts
+pub mod BytesAgain
+pub mod BytesLemmas

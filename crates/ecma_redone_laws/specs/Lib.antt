@@ -1,0 +1,3 @@
+pub mod DerivedLaws
+pub mod TextsLaws
+pub mod BytesLaws

@@ -1,5 +1,0 @@
-pub mod Rows
-mod FactsNames
-mod FactsChoice
-mod FactsTexts
-mod FactsFronts

@@ -1,4 +1,0 @@
-pub mod Room
-pub mod Tiles
-pub mod Behind
-pub mod Spans
