@@ -3,7 +3,7 @@ use Rattle.std.proofs.Common.{◌≡◌, ◌++◌, ◌<◌, ◌≤◌, ◌+◌, 
 use Rattle.std.proofs.Math.ListN.{drop_of_length-le}
 use Rattle.std.proofs.lemmas.List.{at_drop_more}
 use Rattle.ecma_token.specs.declared.token.TokenAndSpan.{TokenAndSpan}
-use Rattle.ecma_tokens.specs.Machine.{shown_spot}
+use Rattle.ecma_token_source.specs.Machine.{shown_spot}
 use Rattle.ecma_canonical.specs.Canonical.{Edge, edge_of, gap, own_bytes, text_behind}
 
 -- the text of what is left begins with that of the next token

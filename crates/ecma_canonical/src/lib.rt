@@ -6,13 +6,13 @@ ghost use Rattle.std.specs.String.{string_bytes};
 ghost use Rattle.ecma_token.specs.declared.error.SyntaxError.TheVariants.{Memory};
 ghost use Rattle.ecma_token.specs.Kinds.{hash_kind, template_kind};
 ghost use Rattle.ecma_token.specs.TokenViews.{token_view};
-ghost use Rattle.ecma_tokens.specs.Machine.{shown_spot, without_fault};
+ghost use Rattle.ecma_token_source.specs.Machine.{shown_spot, without_fault};
 ghost use Rattle.ecma_canonical.specs.Edges.{edge_in};
 ghost use Rattle.ecma_canonical.specs.Laws.{CanonicalStays};
 ghost use Rattle.ecma_canonical.specs.Canonical as spec;
 
 use ecma_token::{BytePos, Error, Span, Token, TokenAndSpan};
-use ecma_tokens::settings::out_of_memory;
+use ecma_token_source::settings::out_of_memory;
 use std::alloc::{AllocError, Global};
 
 /// Whether a character of the text begins there, or the text ends there.

@@ -4,14 +4,9 @@ ghost use Rattle.ecma_layout.specs.declared.look.Stand.TheVariants.{Alone};
 ghost use Rattle.ecma_layout.specs.Layout.{laid};
 ghost use Rattle.ecma_layout.specs.Looks.{Laid};
 ghost use Rattle.ecma_node.specs.View.{view_module_decl, view_module_item};
-ghost use Rattle.ecma_printer.specs.Prints.{Prints};
+ghost use Rattle.ecma_print_pieces.specs.Prints.{Prints};
 ghost use Rattle.ecma_codegen.specs.Items.{element_laid, item_laid, placed_laid};
 
-use ecma_emit::Print;
-use ecma_emit::PrintItem;
-use ecma_emit::PrintPart;
-use ecma_emit::knot::print_end;
-use ecma_emit::print::print_closing;
 use ecma_layout::Look;
 use ecma_layout::Stand;
 use ecma_node::ArrayLitOf;
@@ -148,7 +143,12 @@ use ecma_node::VarDeclaratorOf;
 use ecma_node::WhileStmtOf;
 use ecma_node::WithStmtOf;
 use ecma_node::YieldExprOf;
-use ecma_printer::Printer;
+use ecma_print_nodes::Print;
+use ecma_print_nodes::PrintItem;
+use ecma_print_nodes::PrintPart;
+use ecma_print_nodes::knot::print_end;
+use ecma_print_nodes::print::print_closing;
+use ecma_print_pieces::Printer;
 use ecma_write::WriteJs;
 
 /// What can be printed alone. A statement, a declaration of a module and a part of a module have their ends then: they

@@ -7,7 +7,7 @@ use crate::alone::PrintAlone;
 use ecma_comments::Comments;
 use ecma_layout::Look;
 use ecma_print_comments::WithComments;
-use ecma_printer::Printer;
+use ecma_print_pieces::Printer;
 use ecma_settings::Config;
 use ecma_spell_base::Style;
 use ecma_token::Spanned;

@@ -8,9 +8,9 @@ use Rattle.ecma_parse_state.specs.declared.failure.Failure.TheVariants as failur
 use Rattle.ecma_tree.specs.Tree.{Tree}
 use Rattle.ecma_command.specs.Options.{is_module}
 use Rattle.ecma_command.specs.declared.options.Options.{Options}
-use Rattle.ecma_parsed.specs.Answered.{FailsBy}
-use Rattle.ecma_parsed.specs.TextRead.{TextBy}
-use Rattle.ecma_parsed.specs.Texts.{TextReading}
+use Rattle.ecma_parser_laws.specs.Answered.{FailsBy}
+use Rattle.ecma_parser_laws.specs.TextRead.{TextBy}
+use Rattle.ecma_parser_laws.specs.Texts.{TextReading}
 use Rattle.ecma_front.specs.declared.fault.Fault.{Fault}
 use Rattle.ecma_front.specs.Programs.{IsProgramOf, setting_of}
 use Rattle.ecma_front.specs.Formats.{LacksProgram}

@@ -5,7 +5,7 @@ use Rattle.ecma_token.specs.declared.place.BytePos.{BytePos}
 use Rattle.ecma_token.specs.declared.place.LineCol.{LineCol}
 use Rattle.ecma_tree.specs.Tree.{Tree}
 use Rattle.ecma_names.specs.Names.{names}
-use Rattle.ecma_spells.specs.Text.{text_start}
+use Rattle.ecma_program_text.specs.Text.{text_start}
 use Rattle.ecma_lines.specs.Lines.{place_of}
 use Rattle.ecma_readback.specs.Marked.{Alongside}
 

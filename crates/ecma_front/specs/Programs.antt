@@ -5,7 +5,7 @@ use Rattle.ecma_token.specs.declared.error.Error.{Error}
 use Rattle.ecma_tree.specs.Tree.{Tree}
 use Rattle.ecma_nesting.specs.Nesting.{nesting}
 use Rattle.ecma_early.specs.Early.{early_errors}
-use Rattle.ecma_spells.specs.Text.{Setting, Reads, TreeSpells}
+use Rattle.ecma_program_text.specs.Text.{Setting, Reads, TreeSpells}
 use Rattle.ecma_command.specs.Options.{is_module}
 use Rattle.ecma_command.specs.declared.options.Options.{Options}
 

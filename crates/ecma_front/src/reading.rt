@@ -11,7 +11,7 @@ use crate::input::LONGEST_TEXT;
 use ecma_command::{Goal, Options};
 use ecma_lexer::Lexer;
 use ecma_node::{Program, ProgramKind};
-use ecma_parsed::{Failure, Parser};
+use ecma_parser::{Failure, Parser};
 use ecma_token::Error;
 use std::alloc::Global;
 

@@ -2,7 +2,7 @@
 use Rattle.std.proofs.Common.{◌≡◌, false, List, [], ◌∷◌, refl}
 use Rattle.ecma_tree.specs.Tree.{trees_by}
 use Rattle.ecma_tree.specs.Folds.{folds}
-use Rattle.ecma_spells.specs.Choice.{some_true, telling}
+use Rattle.ecma_program_text.specs.Choice.{some_true, telling}
 use Rattle.ecma_node.specs.View.{view_tpl_element}
 use Rattle.ecma_node.specs.declared.expressions.TplElement.{TplElement}
 

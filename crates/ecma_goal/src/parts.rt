@@ -1,6 +1,6 @@
 //! What may tell of a module, and lists and parts that may be left out.
 ghost use Rattle.std.specs.Prelude.{◌≡◌};
-ghost use Rattle.ecma_spells.specs.Choice.{some_true, telling};
+ghost use Rattle.ecma_program_text.specs.Choice.{some_true, telling};
 ghost use Rattle.ecma_tree.specs.Folds.{fold, folds};
 ghost use Rattle.ecma_tree.specs.Tree.{Tree, trees_by, part_by, element_by, list};
 

@@ -2,14 +2,14 @@
 ghost use Rattle.std.specs.Prelude.{◌≡◌};
 ghost use Rattle.ecma_node.specs.Placed.{inner};
 ghost use Rattle.ecma_node.specs.View.{view_module, view_module_item};
-ghost use Rattle.ecma_spells.specs.Choice.{tells_module};
+ghost use Rattle.ecma_program_text.specs.Choice.{tells_module};
 
 use crate::parts::Tells;
 use ecma_node::{Module, ModuleItemOf};
 
 /// Whether a program that was read as a module tells that it is one: it has an import or an export, or outside functions
 /// an `await`, an awaiting `for` or an awaiting `using`. It takes no memory.
-#[tactic(auto, unfolding(ecma_spells::specs::Choice::tells_module))]
+#[tactic(auto, unfolding(ecma_program_text::specs::Choice::tells_module))]
 pub fn tells_module(program: &Module) -> bool
     ensures { result ≡ tells_module (view_module inner program.now) }
 {

@@ -3,7 +3,7 @@ use Rattle.std.proofs.Common.{◌≡◌, ℕ, true, false, List, [], ◌∷◌, 
 use Rattle.std.proofs.lemmas.List.{map-append}
 use Rattle.ecma_token.specs.Tokens.{Spot}
 use Rattle.ecma_token.specs.declared.token.TokenAndSpan.{TokenAndSpan}
-use Rattle.ecma_tokens.specs.Machine.{shown_spot}
+use Rattle.ecma_token_source.specs.Machine.{shown_spot}
 use Rattle.ecma_input.specs.Captures.{is_slash_at, without_reread}
 
 spots_keep : (lo : ℕ) (xs : List Spot) (x : Spot) → is_slash_at lo x ≡ false → without_reread lo (xs ++ x ∷ []) ≡ xs ++ x ∷ []

@@ -6,11 +6,11 @@ use Rattle.std.specs.List.{slice_get}
 use Rattle.std.specs.Option.{option_copied, option_map}
 use Rattle.ecma_token.specs.Tokens.{Spot}
 use Rattle.ecma_token.specs.declared.token.TokenAndSpan.{TokenAndSpan}
-use Rattle.ecma_tokens.specs.declared.look.Look.{Look}
-use Rattle.ecma_tokens.specs.declared.look.Look.TheVariants.{Next, Second, Slash}
-use Rattle.ecma_tokens.specs.Looks.{seen}
-use Rattle.ecma_tokens.specs.Machine.{shown_spot}
-use Rattle.ecma_tokens.specs.Settings.{Settings}
+use Rattle.ecma_token_source.specs.declared.look.Look.{Look}
+use Rattle.ecma_token_source.specs.declared.look.Look.TheVariants.{Next, Second, Slash}
+use Rattle.ecma_token_source.specs.Looks.{seen}
+use Rattle.ecma_token_source.specs.Machine.{shown_spot}
+use Rattle.ecma_token_source.specs.Settings.{Settings}
 use Rattle.ecma_input.specs.Lists.{behind_first, first_of, list_machine, seen_in}
 
 -- ---- a list from its end

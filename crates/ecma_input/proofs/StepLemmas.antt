@@ -3,8 +3,8 @@ use Rattle.std.proofs.Common.{◌≡◌, ℕ, zero, suc, ◌+◌, ◌-◌, ◌<�
 use Rattle.std.specs.Prelude.{is_some}
 use Rattle.std.proofs.lemmas.Bool.{false≢true}
 use Rattle.ecma_token.specs.declared.context.Context.{Context}
-use Rattle.ecma_tokens.specs.Machine.{Machine, Source, told_of}
-use Rattle.ecma_tokens.specs.Settings.{Settings}
+use Rattle.ecma_token_source.specs.Machine.{Machine, Source, told_of}
+use Rattle.ecma_token_source.specs.Settings.{Settings}
 use Rattle.ecma_input.specs.Steps.{LeadsTo, StepsTo, back_by, stepped, turns}
 
 pub stepped_none : {S : Type 0} (m : Machine S) (s : Source S) → stepped m 0 s ≡ s

@@ -2,9 +2,9 @@
 use mir.Syntax.{named}
 use Rattle.std.specs.Prelude.{[]}
 use Rattle.std.specs.Borrow.{Lends, MutBor, Fml}
-use Rattle.ecma_tokens.specs.Lending.{with_open}
-use Rattle.ecma_tokens.specs.declared.contexts.TokenContexts.{TokenContexts}
-use Rattle.ecma_tokens.specs.contracts.contexts.TokenContexts.{the_row as contexts_row}
+use Rattle.ecma_token_source.specs.Lending.{with_open}
+use Rattle.ecma_token_source.specs.declared.contexts.TokenContexts.{TokenContexts}
+use Rattle.ecma_token_source.specs.contracts.contexts.TokenContexts.{the_row as contexts_row}
 use Rattle.ecma_input.specs.declared.list.TokensInput.{TokensInput}
 use Rattle.ecma_input.specs.contracts.list.TokensInput.{the_row as list_row}
 

@@ -4,10 +4,10 @@ use Rattle.ecma_token.specs.Tokens.{Spot}
 use Rattle.ecma_token.specs.declared.context.Context.{Context}
 use Rattle.ecma_token.specs.declared.syntax.Syntax.{Syntax}
 use Rattle.ecma_token.specs.declared.version.EsVersion.{EsVersion}
-use Rattle.ecma_tokens.specs.declared.look.Look.{Look}
-use Rattle.ecma_tokens.specs.declared.look.Look.TheVariants.{Next, Second, Slash}
-use Rattle.ecma_tokens.specs.Machine.{Machine, Source, shown_spot, told_of}
-use Rattle.ecma_tokens.specs.Settings.{Settings, at_start, settings_in, with_ctx}
+use Rattle.ecma_token_source.specs.declared.look.Look.{Look}
+use Rattle.ecma_token_source.specs.declared.look.Look.TheVariants.{Next, Second, Slash}
+use Rattle.ecma_token_source.specs.Machine.{Machine, Source, shown_spot, told_of}
+use Rattle.ecma_token_source.specs.Settings.{Settings, at_start, settings_in, with_ctx}
 use Rattle.ecma_input.specs.declared.list.TokensInput.{TokensInput}
 
 -- the first token, and a source of the others

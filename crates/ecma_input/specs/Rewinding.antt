@@ -1,7 +1,7 @@
 -- A source that can go back in front of the token that it handed out last.
 use Rattle.std.specs.Prelude.{Option, option_map}
 use Rattle.ecma_token.specs.declared.context.Context.{Context}
-use Rattle.ecma_tokens.specs.Machine.{Machine, Source}
+use Rattle.ecma_token_source.specs.Machine.{Machine, Source}
 use Rattle.ecma_input.specs.declared.rewinding.Rewinding.{Rewinding}
 use Rattle.ecma_input.specs.Steps.{LeadsTo, StepsTo, back_by}
 

@@ -1,7 +1,7 @@
 -- Steps of a source one after the other, and where they begin in other code.
 use Rattle.std.specs.Prelude.{◌≡◌, ℕ, zero, suc, Bool, true, false, not, ◌||◌, Option, None, Some, if◌then◌else◌}
 use Rattle.ecma_token.specs.declared.context.Context.{Context}
-use Rattle.ecma_tokens.specs.Machine.{Machine, Source}
+use Rattle.ecma_token_source.specs.Machine.{Machine, Source}
 
 -- the source behind so many steps
 unfoldable pub stepped : {S : Type 0} → Machine S → ℕ → Source S → Source S

@@ -4,17 +4,17 @@ ghost use Rattle.ecma_token.specs.Kinds.{div_kind, div_assign_kind};
 ghost use Rattle.ecma_token.specs.OperatorKinds.{bin_op_kind, assign_op_kind};
 ghost use Rattle.ecma_token.specs.TokenViews.{token_view};
 ghost use Rattle.ecma_token.specs.declared.error.SyntaxError.TheVariants.{Memory};
-ghost use Rattle.ecma_tokens.specs.Contexts.{outward};
-ghost use Rattle.ecma_tokens.specs.Machine.{SameTold, StepGives, shown_spot};
-ghost use Rattle.ecma_tokens.specs.Settings as spec;
+ghost use Rattle.ecma_token_source.specs.Contexts.{outward};
+ghost use Rattle.ecma_token_source.specs.Machine.{SameTold, StepGives, shown_spot};
+ghost use Rattle.ecma_token_source.specs.Settings as spec;
 ghost use Rattle.ecma_input.specs.Captures.{captured_with, is_slash_at, without_reread};
 
 use crate::copies::{clone_token, clone_tokens};
 use ecma_token::{
     AssignOp, BinOpToken, BytePos, Context, Error, EsVersion, Syntax, Token, TokenAndSpan,
 };
-use ecma_tokens::settings::out_of_memory;
-use ecma_tokens::{Look, TokenContexts, Tokens};
+use ecma_token_source::settings::out_of_memory;
+use ecma_token_source::{Look, TokenContexts, Tokens};
 use std::alloc::{AllocError, Global};
 
 /// A source of tokens that keeps each token that it hands out. What a slash is when it is read again takes

@@ -1,6 +1,6 @@
 //! Tokens once more.
 ghost use Rattle.std.specs.Prelude.{◌≡◌, map, IfOk};
-ghost use Rattle.ecma_tokens.specs.Machine.{shown_spot};
+ghost use Rattle.ecma_token_source.specs.Machine.{shown_spot};
 
 use ecma_token::TokenAndSpan;
 use std::alloc::{AllocError, Global};

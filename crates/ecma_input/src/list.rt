@@ -2,15 +2,15 @@
 ghost use Rattle.std.specs.Prelude.{◌≡◌, List, map, option_map, reverse};
 ghost use Rattle.std.specs.Borrow.{sem};
 ghost use Rattle.ecma_token.specs.Tokens.{Spot};
-ghost use Rattle.ecma_tokens.specs.Contexts.{outward};
+ghost use Rattle.ecma_token_source.specs.Contexts.{outward};
 ghost use Rattle.ecma_input.specs.Lending.{LendsContexts};
-ghost use Rattle.ecma_tokens.specs.Machine.{shown_spot};
+ghost use Rattle.ecma_token_source.specs.Machine.{shown_spot};
 ghost use Rattle.ecma_input.specs.Lists.{list_in, list_machine, list_source, seen_in, start_of};
 
 use crate::copies::{clone_token, clone_tokens};
 use ecma_token::{BytePos, Context, Error, EsVersion, Syntax, TokenAndSpan};
-use ecma_tokens::settings::out_of_memory;
-use ecma_tokens::{Look, Settings, TokenContexts, Tokens};
+use ecma_token_source::settings::out_of_memory;
+use ecma_token_source::{Look, Settings, TokenContexts, Tokens};
 use std::alloc::Global;
 
 /// A list of tokens as a source. Nothing that it is told changes what it hands out.

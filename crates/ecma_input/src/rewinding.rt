@@ -1,15 +1,15 @@
 //! A source that can go back in front of the token that it handed out last.
 ghost use Rattle.std.specs.Prelude.{◌≡◌, ◌<◌, ◌≤◌, None, Some, true, option_map, IfErr, IfOk, MatchBool, MatchOption, OnErr, OnOk};
 ghost use Rattle.ecma_token.specs.declared.error.SyntaxError.TheVariants.{Memory};
-ghost use Rattle.ecma_tokens.specs.Contexts.{outward};
-ghost use Rattle.ecma_tokens.specs.Machine.{SameTold, StepGives};
-ghost use Rattle.ecma_tokens.specs.Settings as settings;
+ghost use Rattle.ecma_token_source.specs.Contexts.{outward};
+ghost use Rattle.ecma_token_source.specs.Machine.{SameTold, StepGives};
+ghost use Rattle.ecma_token_source.specs.Settings as settings;
 ghost use Rattle.ecma_input.specs.Rewinding.{back_in, IsLed, IsLedAlone};
 ghost use Rattle.ecma_input.specs.Steps as spec;
 ghost use Rattle.ecma_input.specs.Steps.{stepped};
 
 use ecma_token::{BytePos, Context, Error, EsVersion, Syntax, TokenAndSpan};
-use ecma_tokens::{Look, TokenContexts, Tokens};
+use ecma_token_source::{Look, TokenContexts, Tokens};
 
 /// A source of tokens that can go back in front of the token that it handed out last, which is then read
 /// again in other code. Where it is asked to keep what that takes, it keeps a copy of the source, made

@@ -4,7 +4,7 @@ use Rattle.ecma_token.specs.declared.syntax.EsSyntax.{EsSyntax}
 use Rattle.ecma_tree.specs.Tree.{Tree}
 use Rattle.ecma_syntax.specs.Input.{Input, Code}
 use Rattle.ecma_grammar.specs.Grammar.{Spells}
-use Rattle.ecma_spells.specs.Text.{Reads}
+use Rattle.ecma_program_text.specs.Text.{Reads}
 use Rattle.ecma_layout.specs.declared.look.Look.{Look}
 use Rattle.ecma_layout.specs.declared.look.Stand.{Stand}
 use Rattle.ecma_layout.specs.declared.look.Stand.TheVariants.{Alone}

@@ -6,11 +6,11 @@ use Rattle.ecma_token.specs.Tokens.{Spot}
 use Rattle.ecma_token.specs.declared.error.Error.{Error}
 use Rattle.ecma_token.specs.declared.error.SyntaxError.TheVariants.{Memory}
 use Rattle.ecma_token.specs.declared.token.TokenAndSpan.{TokenAndSpan}
-use Rattle.ecma_tokens.specs.declared.contexts.TokenContext.{TokenContext}
-use Rattle.ecma_tokens.specs.declared.contexts.TokenContext.TheVariants.{BraceStmt, BraceExpr, TplQuasi, ParenStmt, ParenExpr, Tpl, FnExpr, ClassExpr}
-use Rattle.ecma_tokens.specs.Looks.{behind_by}
-use Rattle.ecma_tokens.specs.Machine.{shown_spot, told_of}
-use Rattle.ecma_tokens.specs.Settings.{scout_of, with_next_regexp}
+use Rattle.ecma_token_source.specs.declared.contexts.TokenContext.{TokenContext}
+use Rattle.ecma_token_source.specs.declared.contexts.TokenContext.TheVariants.{BraceStmt, BraceExpr, TplQuasi, ParenStmt, ParenExpr, Tpl, FnExpr, ClassExpr}
+use Rattle.ecma_token_source.specs.Looks.{behind_by}
+use Rattle.ecma_token_source.specs.Machine.{shown_spot, told_of}
+use Rattle.ecma_token_source.specs.Settings.{scout_of, with_next_regexp}
 use Rattle.ecma_lexeme.specs.declared.goal.LexicalGoal.{LexicalGoal}
 use Rattle.ecma_lexeme.specs.declared.goal.LexicalGoal.TheVariants.{Div, RegExp}
 use Rattle.ecma_lexeme.specs.Lexemes.{SpecLexeme}

@@ -4,7 +4,7 @@ use Rattle.std.specs.Prelude.{option_map, MatchOption, IfOk, ◌<◌, ◌≤◌}
 use Rattle.ecma_token.specs.Tokens.{Spot}
 use Rattle.ecma_token.specs.declared.error.Error.{Error}
 use Rattle.ecma_token.specs.declared.token.TokenAndSpan.{TokenAndSpan}
-use Rattle.ecma_tokens.specs.Machine.{StepGives, shown_spot}
+use Rattle.ecma_token_source.specs.Machine.{StepGives, shown_spot}
 use Rattle.ecma_lexing.specs.States.{State}
 use Rattle.ecma_lexing.specs.Steps.{IsStep}
 use Rattle.ecma_lexing.proofs.StepLemmas.{one_step}

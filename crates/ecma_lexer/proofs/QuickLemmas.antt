@@ -20,9 +20,9 @@ use Rattle.ecma_lexeme.specs.Lexemes as lexeme
 use Rattle.ecma_lexeme.specs.Lexemes.{SpecLexeme, plain, word_spelled}
 use Rattle.ecma_lexeme.proofs.SortLemmas.{all_kinds, among_kinds}
 use Rattle.ecma_lexeme.proofs.SpelledLemmas.{encoded}
-use Rattle.ecma_tokens.specs.declared.contexts.TokenContext.{TokenContext}
-use Rattle.ecma_tokens.specs.declared.contexts.TokenContext.TheVariants.{TplQuasi}
-use Rattle.ecma_tokens.specs.Machine.{shown_spot, told}
+use Rattle.ecma_token_source.specs.declared.contexts.TokenContext.{TokenContext}
+use Rattle.ecma_token_source.specs.declared.contexts.TokenContext.TheVariants.{TplQuasi}
+use Rattle.ecma_token_source.specs.Machine.{shown_spot, told}
 use Rattle.ecma_lexing.specs.States.{Last, Slash, Characters, Other, State, again, again_by, behind, closed, contexts_after, goal_of, is_start, last_after, opened, quoted, spot_at, strict_faults, span_at, template_goal}
 use Rattle.ecma_lexing.specs.Steps as steps
 use Rattle.ecma_lexing.specs.Steps.{IsGoing, IsPlain, IsRead, IsStep, IsStepBy, IsStepOf}

@@ -8,8 +8,8 @@ use Rattle.ecma_token.specs.declared.error.Error.{Error}
 use Rattle.ecma_token.specs.declared.token.TokenAndSpan.{TokenAndSpan}
 use Rattle.ecma_token.specs.Kinds.{shebang_kind}
 use Rattle.ecma_token.specs.Tokens.{Line, Spot}
-use Rattle.ecma_tokens.specs.Machine.{shown_spot}
-use Rattle.ecma_tokens.specs.Settings.{Settings}
+use Rattle.ecma_token_source.specs.Machine.{shown_spot}
+use Rattle.ecma_token_source.specs.Settings.{Settings}
 use Rattle.ecma_scan.specs.declared.trivia.Goal.{Goal}
 use Rattle.ecma_scan.specs.Names.{is_nil}
 use Rattle.ecma_scan.specs.Places.{bytes}

@@ -1,5 +1,5 @@
 -- What a lexer looks ahead with.
-use Rattle.ecma_tokens.specs.Settings.{scout_of}
+use Rattle.ecma_token_source.specs.Settings.{scout_of}
 use Rattle.ecma_lexing.specs.States.{State}
 
 -- the same text, with what the next two tokens depend on

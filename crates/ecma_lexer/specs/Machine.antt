@@ -1,7 +1,7 @@
 -- The lexer as a source of tokens.
 use Rattle.std.proofs.Common.{◌≡◌, Option, None, sym, ap, subst, ◌∙◌}
 use Rattle.ecma_token.specs.Tokens.{Spot}
-use Rattle.ecma_tokens.specs.Machine.{EndStays, Machine, told_of}
+use Rattle.ecma_token_source.specs.Machine.{EndStays, Machine, told_of}
 use Rattle.ecma_lexing.specs.States.{State, Text}
 use Rattle.ecma_lexing.specs.Steps.{IsStep}
 use Rattle.ecma_lexing.proofs.StepLemmas.{one_step}

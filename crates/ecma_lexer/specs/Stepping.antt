@@ -4,7 +4,7 @@ use Rattle.ecma_token.specs.declared.error.Error.{Error}
 use Rattle.ecma_token.specs.declared.error.SyntaxError.TheVariants.{Memory}
 use Rattle.ecma_token.specs.declared.token.TokenAndSpan.{TokenAndSpan}
 use Rattle.ecma_token.specs.Tokens.{Spot}
-use Rattle.ecma_tokens.specs.Machine.{shown_spot}
+use Rattle.ecma_token_source.specs.Machine.{shown_spot}
 use Rattle.ecma_lexeme.specs.Lexemes.{SpecLexeme}
 use Rattle.ecma_lexing.specs.States.{State, behind, spot_at}
 

@@ -2,8 +2,8 @@
 ghost use Rattle.std.specs.Borrow.{sem};
 ghost use Rattle.std.specs.Prelude.{◌≡◌, option_map, IfErr, OnErr, OnOk};
 ghost use Rattle.ecma_token.specs.declared.error.SyntaxError.TheVariants.{Memory};
-ghost use Rattle.ecma_tokens.specs.Contexts.{outward};
-ghost use Rattle.ecma_tokens.specs.Settings as spec;
+ghost use Rattle.ecma_token_source.specs.Contexts.{outward};
+ghost use Rattle.ecma_token_source.specs.Settings as spec;
 ghost use Rattle.ecma_lexing.specs.States.{Text};
 ghost use Rattle.ecma_lexer.specs.Lending.{LendsContexts};
 ghost use Rattle.ecma_lexer.specs.Lexer.{SameKept, state_in};
@@ -12,7 +12,7 @@ ghost use Rattle.ecma_lexer.specs.Machine.{lexer_machine};
 use crate::lexer::Lexer;
 use ecma_scan::place::out_of_memory;
 use ecma_token::{BytePos, Context, Error, EsVersion, Syntax, TokenAndSpan};
-use ecma_tokens::{Look, TokenContexts, Tokens};
+use ecma_token_source::{Look, TokenContexts, Tokens};
 
 impl<'a> Tokens<'a> for Lexer<'a> {
     ghost State = { Text };

@@ -9,8 +9,8 @@ ghost use Rattle.ecma_lexer.specs.Lexer.{state_in};
 ghost use Rattle.ecma_lexer.specs.Stepping.{Steps};
 ghost use Rattle.ecma_lexing.specs.States.{again};
 ghost use Rattle.ecma_lexing.specs.Steps.{IsStep};
-ghost use Rattle.ecma_tokens.specs.Machine.{SameTold, shown_spot};
-ghost use Rattle.ecma_tokens.specs.Settings.{settings_in};
+ghost use Rattle.ecma_token_source.specs.Machine.{SameTold, shown_spot};
+ghost use Rattle.ecma_token_source.specs.Settings.{settings_in};
 
 use crate::last::Last;
 use crate::lexer::Lexer;

@@ -10,7 +10,7 @@ use ecma_scan::bare_name;
 use ecma_scan::place::out_of_memory;
 use ecma_scan::trivia::skip_trivia;
 use ecma_token::{BytePos, Error, EsVersion, Syntax, TokenAndSpan};
-use ecma_tokens::Settings;
+use ecma_token_source::Settings;
 use std::alloc::{AllocError, Global};
 
 /// A text that is read token after token.
@@ -32,8 +32,8 @@ impl<'a> Lexer<'a> {
     ghost use Rattle.ecma_lexing.specs.Steps.{IsStep};
     ghost use Rattle.ecma_token.specs.declared.error.SyntaxError.TheVariants.{Memory};
     ghost use Rattle.ecma_lexing.specs.States.{at_start_of};
-    ghost use Rattle.ecma_tokens.specs.Machine.{SameTold, shown_spot};
-    ghost use Rattle.ecma_tokens.specs.Settings.{settings_in};
+    ghost use Rattle.ecma_token_source.specs.Machine.{SameTold, shown_spot};
+    ghost use Rattle.ecma_token_source.specs.Settings.{settings_in};
 
     /// A lexer at the start of a text, which begins at this place, 1 or later. It keeps the comments of the
     /// text where that is asked for.

@@ -12,5 +12,5 @@ mod unread;
 
 pub use ecma_canonical::canonical_text;
 pub use ecma_scan::CharExt;
-pub use ecma_tokens::{Look, TokenContext, TokenContexts, Tokens};
+pub use ecma_token_source::{Look, TokenContext, TokenContexts, Tokens};
 pub use lexer::Lexer;

@@ -4,9 +4,9 @@ ghost use Rattle.std.specs.Str.{chars};
 ghost use Rattle.ecma_token.specs.declared.error.SyntaxError.TheVariants.{Memory};
 ghost use Rattle.ecma_token.specs.TokenViews.{token_view};
 ghost use Rattle.ecma_lexeme.specs.Readings.{lexeme_view};
-ghost use Rattle.ecma_tokens.specs.Contexts.{outward};
-ghost use Rattle.ecma_tokens.specs.Machine.{SameTold, shown_spot};
-ghost use Rattle.ecma_tokens.specs.Settings.{settings_in};
+ghost use Rattle.ecma_token_source.specs.Contexts.{outward};
+ghost use Rattle.ecma_token_source.specs.Machine.{SameTold, shown_spot};
+ghost use Rattle.ecma_token_source.specs.Settings.{settings_in};
 ghost use Rattle.ecma_lexing.specs.States as spec;
 ghost use Rattle.ecma_lexing.specs.Steps as steps;
 ghost use Rattle.ecma_lexer.specs.Last.{last_view};
@@ -19,7 +19,7 @@ use ecma_lexeme::{Lexeme, LexicalGoal, read_token};
 use ecma_scan::place::{out_of_memory, span};
 use ecma_scan::trivia::{Goal, hashbang, skip_trivia};
 use ecma_token::{BytePos, Context, Error, Span, SyntaxError, Token, TokenAndSpan};
-use ecma_tokens::{Settings, TokenContext, TokenContexts};
+use ecma_token_source::{Settings, TokenContext, TokenContexts};
 use std::alloc::AllocError;
 
 /// The goal symbol of a text.

@@ -10,7 +10,7 @@ use lib.Utf8.{scalars, scalar}
 use Rattle.ecma_number.specs.Numbers.{SpecNumber, number_of, IsCanonical}
 use Rattle.ecma_token.specs.Kinds.{str_kind, num_kind, big_int_kind, template_kind, regex_kind}
 use Rattle.ecma_token.specs.Tokens.{SpecToken, Content, Named, Quoted, Piece, Pattern, Numeral, BigNumeral}
-use Rattle.ecma_tokens.specs.Machine.{told}
+use Rattle.ecma_token_source.specs.Machine.{told}
 use Rattle.ecma_scan.specs.Runs.{Each, Ends}
 use Rattle.ecma_scan.specs.RegExps.{IsRegExp}
 use Rattle.ecma_literal.specs.declared.template.Ending.{Ending}

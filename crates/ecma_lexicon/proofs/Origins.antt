@@ -4,7 +4,7 @@ use Rattle.std.specs.Prelude.{encode_utf8_all}
 use lib.Utf8.{scalars, scalar}
 use Rattle.ecma_number.specs.Numbers.{SpecNumber}
 use Rattle.ecma_token.specs.Tokens.{SpecToken, Content, Bare, Named, Quoted, Piece, Pattern, Numeral, BigNumeral, Line, Faulty}
-use Rattle.ecma_tokens.specs.Machine.{told}
+use Rattle.ecma_token_source.specs.Machine.{told}
 use Rattle.ecma_scan.specs.Names.{IsName}
 use Rattle.ecma_scan.specs.RegExps.{IsRegExp}
 use Rattle.ecma_literal.specs.declared.template.Ending.{Ending}

@@ -16,7 +16,7 @@ use Rattle.ecma_token.specs.Words.{own_words, kind_among, kind_of, word_of}
 use Rattle.ecma_token.specs.Tokens.{SpecToken, Content, Named, Quoted, word_token}
 use Rattle.ecma_token.specs.TokenViews.{token_kind_number}
 use Rattle.ecma_token.specs.declared.token.TokenKind.{TokenKind}
-use Rattle.ecma_tokens.specs.Machine.{told}
+use Rattle.ecma_token_source.specs.Machine.{told}
 use Rattle.ecma_scan.specs.Escapes.{IsEscape, IsDigits, IsFour, IsBraced}
 use Rattle.ecma_scan.specs.Names.{IsName, Spell, IsNameChar, is_name_char}
 use Rattle.ecma_scan.specs.Punctuators.{Spelling, punctuators as spellings, IsAmong}

@@ -20,8 +20,8 @@ use Rattle.ecma_lexeme.specs.Lexemes.{SpecLexeme, IsCharacters, IsEnd, IsLexeme,
 use Rattle.ecma_lexeme.specs.Sorts.{is_slash}
 use Rattle.ecma_lexing.specs.States.{Last, Start, Slash, Characters, Fault, Other, State, again, again_by, behind, goal_of, is_start, last_after, place, shebang, template_goal}
 use Rattle.ecma_lexing.specs.Steps.{IsFirst, IsGoing, IsOutside as IsOut, IsPlain, IsRead, IsStep, IsStepBy, IsStepOf}
-use Rattle.ecma_tokens.specs.declared.contexts.TokenContext.{TokenContext}
-use Rattle.ecma_tokens.specs.declared.contexts.TokenContext.TheVariants as t
+use Rattle.ecma_token_source.specs.declared.contexts.TokenContext.{TokenContext}
+use Rattle.ecma_token_source.specs.declared.contexts.TokenContext.TheVariants as t
 use Rattle.ecma_lexing.specs.Bounds.{Falls, bound, bound_by}
 use Rattle.ecma_lexing.proofs.Tokens.{token_no_longer, token_shorter}
 use Rattle.ecma_lexing.proofs.Trivia.{follow_no_longer, hashbang_shorter}

@@ -11,13 +11,13 @@ use Rattle.ecma_scan.specs.declared.trivia.Goal.TheVariants.{Script, Module}
 use Rattle.ecma_lexeme.specs.declared.goal.LexicalGoal.{LexicalGoal}
 use Rattle.ecma_lexeme.specs.Lexemes.{SpecLexeme, plain}
 use Rattle.ecma_lexeme.specs.declared.goal.LexicalGoal.TheVariants.{TemplateTail, TemplateEnd}
-use Rattle.ecma_tokens.specs.declared.contexts.TokenContext.{TokenContext}
-use Rattle.ecma_tokens.specs.declared.contexts.TokenContext.TheVariants.{BraceStmt, BraceExpr, TplQuasi, Tpl}
-use Rattle.ecma_tokens.specs.Machine.{Source, told}
+use Rattle.ecma_token_source.specs.declared.contexts.TokenContext.{TokenContext}
+use Rattle.ecma_token_source.specs.declared.contexts.TokenContext.TheVariants.{BraceStmt, BraceExpr, TplQuasi, Tpl}
+use Rattle.ecma_token_source.specs.Machine.{Source, told}
 use Rattle.ecma_token.specs.declared.place.Span.{Span}
 use Rattle.ecma_token.specs.declared.syntax.Syntax.{Syntax}
 use Rattle.ecma_token.specs.declared.version.EsVersion.{EsVersion}
-use Rattle.ecma_tokens.specs.Settings.{at_start}
+use Rattle.ecma_token_source.specs.Settings.{at_start}
 
 -- What came last: nothing, since the text starts here; a slash, with the text from it on; the characters of a template; a fault, behind
 -- which nothing comes; or any other token.

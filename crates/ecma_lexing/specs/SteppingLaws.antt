@@ -1,8 +1,8 @@
 -- Laws of steps.
 use Rattle.std.specs.Prelude.{◌≡◌, Option, None}
 use Rattle.ecma_token.specs.Tokens.{Spot}
-use Rattle.ecma_tokens.specs.Machine.{SameContexts, told_of}
-use Rattle.ecma_tokens.specs.Settings.{Settings}
+use Rattle.ecma_token_source.specs.Machine.{SameContexts, told_of}
+use Rattle.ecma_token_source.specs.Settings.{Settings}
 use Rattle.ecma_lexing.specs.States.{State, again}
 use Rattle.ecma_lexing.specs.Steps.{IsStep}
 use Rattle.ecma_lexing.specs.Bounds.{Falls, bound}

@@ -5,8 +5,8 @@ use Rattle.std.proofs.lemmas.Bool.{false≢true}
 use lib.Utf8.{encode}
 use Rattle.ecma_token.specs.Kinds.{hash_kind, shebang_kind, template_kind}
 use Rattle.ecma_token.specs.Tokens.{SpecToken, Spot}
-use Rattle.ecma_tokens.specs.declared.contexts.TokenContext.{TokenContext}
-use Rattle.ecma_tokens.specs.declared.contexts.TokenContext.TheVariants as t
+use Rattle.ecma_token_source.specs.declared.contexts.TokenContext.{TokenContext}
+use Rattle.ecma_token_source.specs.declared.contexts.TokenContext.TheVariants as t
 use Rattle.ecma_scan.specs.Places.{bytes}
 use Rattle.ecma_scan.specs.Trivia.{IsHashbang}
 use Rattle.ecma_literal.specs.declared.template.Ending.{Ending}

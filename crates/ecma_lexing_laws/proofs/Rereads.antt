@@ -5,12 +5,12 @@ use Rattle.std.proofs.lemmas.Bool.{cases_Bool, false≢true, and_parts}
 use Rattle.std.proofs.lemmas.Bool.Decides.{nat_tests}
 use Rattle.ecma_token.specs.declared.context.Context.{Context}
 use Rattle.ecma_token.specs.Kinds.{back_quote_kind, dollar_brace_kind, error_kind, hash_kind, regex_kind, right_brace_kind, template_kind}
-use Rattle.ecma_tokens.specs.declared.contexts.TokenContext.{TokenContext}
+use Rattle.ecma_token_source.specs.declared.contexts.TokenContext.{TokenContext}
 use Rattle.unicode_ident.proofs.Computing.{unicode_ident}
 use Rattle.ecma_scan.specs.Names.{is_opening}
 use Rattle.ecma_literal.specs.Escapes.{begins}
 use Rattle.ecma_token.specs.Tokens.{SpecToken, Spot}
-use Rattle.ecma_tokens.specs.Machine as machine
+use Rattle.ecma_token_source.specs.Machine as machine
 use Rattle.ecma_scan.specs.Places.{bytes}
 use Rattle.ecma_scan.specs.Trivia.{NoHashbang}
 use Rattle.ecma_literal.specs.declared.template.Ending.{Ending}

@@ -7,8 +7,8 @@ use Rattle.unicode_ident.proofs.Computing.{unicode_ident}
 use Rattle.ecma_token.specs.declared.context.Context.{Context}
 use Rattle.ecma_token.specs.Kinds.{back_quote_kind, hash_kind, right_brace_kind, template_kind}
 use Rattle.ecma_token.specs.Tokens.{SpecToken, Spot}
-use Rattle.ecma_tokens.specs.declared.contexts.TokenContext.{TokenContext}
-use Rattle.ecma_tokens.specs.Machine as machine
+use Rattle.ecma_token_source.specs.declared.contexts.TokenContext.{TokenContext}
+use Rattle.ecma_token_source.specs.Machine as machine
 use Rattle.ecma_scan.specs.Characters.{is_line_terminator}
 use Rattle.ecma_scan.specs.Classes.{is_line_char}
 use Rattle.ecma_scan.specs.Names.{is_opening}

@@ -5,7 +5,7 @@ use Rattle.std.proofs.lemmas.Str.{encodes-append}
 use Rattle.ecma_token.specs.declared.context.Context.{Context}
 use Rattle.ecma_token.specs.Kinds.{error_kind}
 use Rattle.ecma_token.specs.Tokens.{Spot}
-use Rattle.ecma_tokens.specs.Machine as machine
+use Rattle.ecma_token_source.specs.Machine as machine
 use Rattle.ecma_scan.specs.Trivia.{NoHashbang, NoTrivia}
 use Rattle.ecma_scan.proofs.TriviaLemmas.{no_trivia}
 use Rattle.ecma_literal.specs.declared.template.Ending.{Ending}

@@ -7,7 +7,7 @@ use Rattle.ecma_lexeme.specs.Lexemes.{SpecLexeme}
 use Rattle.ecma_lexing.specs.States.{Last, Start, Slash, Characters, Fault, Other, State, behind, goal_of, is_start, place, shebang, stopped, template_goal}
 use Rattle.ecma_lexing.specs.Steps.{IsFirst, IsGoing, IsOutside, IsPlain, IsRead}
 use Rattle.ecma_lexing_laws.specs.Runs.{IsAtStart, NoReread, Runs}
-use Rattle.ecma_tokens.specs.Machine.{told_of}
+use Rattle.ecma_token_source.specs.Machine.{told_of}
 use Rattle.ecma_lexing_laws.specs.Spans.{Rise}
 use Rattle.ecma_lexing_laws.proofs.Behind.{Behind, follow_behind, hashbang_behind, here, lexeme_behind, nothing_behind, place_rises}
 use Rattle.ecma_lexing.proofs.Going.{Goes, goes, no_again, none_some, same_some}

@@ -6,9 +6,9 @@ use Rattle.std.proofs.lemmas.Bool.Decides.{nat_tests}
 use Rattle.ecma_token.specs.Kinds.{back_quote_kind, dollar_brace_kind, hash_kind, left_brace_kind, right_brace_kind, template_kind}
 use Rattle.ecma_token.specs.TokenViews.{token_kind_number}
 use Rattle.ecma_token.specs.Words.{kind_of}
-use Rattle.ecma_tokens.specs.declared.contexts.TokenContext.{TokenContext}
-use Rattle.ecma_tokens.specs.declared.contexts.TokenContext.TheVariants as t
-use Rattle.ecma_tokens.specs.Machine.{told}
+use Rattle.ecma_token_source.specs.declared.contexts.TokenContext.{TokenContext}
+use Rattle.ecma_token_source.specs.declared.contexts.TokenContext.TheVariants as t
+use Rattle.ecma_token_source.specs.Machine.{told}
 use Rattle.ecma_scan.specs.Names.{is_opening}
 use Rattle.ecma_scan.specs.Punctuators.{punctuators}
 use Rattle.ecma_literal.specs.Escapes.{begins}

@@ -2,8 +2,8 @@
 use Rattle.std.proofs.Common.{◌≡◌, ◌≢◌, ℕ, ◌⊎◌, inl, inr, Bool, false, List, [], ◌∷◌, ◌++◌, Option, Some, None, refl, sym, ap}
 use Rattle.ecma_token.specs.Kinds.{error_kind}
 use Rattle.ecma_token.specs.Tokens.{Spot}
-use Rattle.ecma_tokens.specs.declared.contexts.TokenContext.{TokenContext}
-use Rattle.ecma_tokens.specs.declared.contexts.TokenContext.TheVariants as t
+use Rattle.ecma_token_source.specs.declared.contexts.TokenContext.{TokenContext}
+use Rattle.ecma_token_source.specs.declared.contexts.TokenContext.TheVariants as t
 use Rattle.ecma_scan.specs.Trivia.{IsHashbang, IsSkipped}
 use Rattle.ecma_lexeme.specs.declared.goal.LexicalGoal.{LexicalGoal}
 use Rattle.ecma_lexeme.specs.declared.goal.LexicalGoal.TheVariants.{Div, RegExp, TemplateTail, TemplateEnd}

@@ -8,7 +8,7 @@ use Rattle.ecma_lexeme.specs.Lexemes.{SpecLexeme}
 use Rattle.ecma_lexing.specs.States.{Last, Start, Slash, Characters, Fault, Other, State, again, behind, goal_of, is_start, shebang, spot_at, template_goal}
 use Rattle.ecma_lexing.specs.Steps.{IsFirst, IsGoing, IsOutside, IsPlain, IsRead, IsStep}
 use Rattle.ecma_lexing_laws.specs.Runs.{Clean, IsAtStart, NoReread, Runs}
-use Rattle.ecma_tokens.specs.Machine.{told_of}
+use Rattle.ecma_token_source.specs.Machine.{told_of}
 use Rattle.ecma_lexing_laws.specs.Tilings.{AreTiles, IsGap, IsHere, Tile}
 use Rattle.ecma_lexing.proofs.Going.{Goes, goes, last_going, no_again, none_some, same_some, start_going}
 

@@ -2,8 +2,8 @@
 use Rattle.std.specs.Prelude.{◌≡◌, ◌≢◌, List, [], ◌∷◌, None, Some}
 use Rattle.ecma_token.specs.Kinds.{error_kind}
 use Rattle.ecma_token.specs.Tokens.{Spot}
-use Rattle.ecma_tokens.specs.Machine.{told_of}
-use Rattle.ecma_tokens.specs.Settings.{Settings}
+use Rattle.ecma_token_source.specs.Machine.{told_of}
+use Rattle.ecma_token_source.specs.Settings.{Settings}
 use Rattle.ecma_lexing.specs.States.{Start, State}
 use Rattle.ecma_lexing.specs.Steps.{IsStep}
 

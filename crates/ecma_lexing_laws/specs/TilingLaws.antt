@@ -2,7 +2,7 @@
 use Rattle.std.specs.Prelude.{◌≡◌, ◌*◌, ◌≤◌, List, [], length, None}
 use Rattle.ecma_token.specs.Tokens.{Spot}
 use Rattle.ecma_scan.specs.Places.{bytes}
-use Rattle.ecma_tokens.specs.Machine.{SameContexts}
+use Rattle.ecma_token_source.specs.Machine.{SameContexts}
 use Rattle.ecma_lexing.specs.States.{State, place}
 use Rattle.ecma_lexing.specs.Steps.{IsStep}
 use Rattle.ecma_lexing_laws.specs.Runs.{Clean, IsAtStart, NoReread, Runs}

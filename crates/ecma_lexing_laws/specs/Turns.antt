@@ -3,7 +3,7 @@ use Rattle.std.specs.Prelude.{◌≡◌, ℕ, ◌+◌, Bool, true, false, ◌&&�
 use Rattle.ecma_token.specs.declared.context.Context.{Context}
 use Rattle.ecma_token.specs.Kinds.{div_assign_kind, div_kind}
 use Rattle.ecma_token.specs.Tokens.{Spot}
-use Rattle.ecma_tokens.specs.Settings.{with_ctx, with_next_regexp}
+use Rattle.ecma_token_source.specs.Settings.{with_ctx, with_next_regexp}
 use Rattle.ecma_canonical.specs.Canonical.{Edge, edge_of, gap, own_bytes}
 use Rattle.ecma_canonical.specs.Moved.{moved_to}
 use Rattle.ecma_lexing.specs.States.{State}

@@ -1,7 +1,7 @@
 -- Where an expression began shows in the places of nodes alone.
 use Rattle.std.proofs.Common.{◌≡◌, ℕ, Bool, false, if◌then◌else◌, List, [], ◌∷◌, Option, None, Some, Result, Ok, refl, sym, ap, ◌∙◌}
 use Rattle.ecma_token.specs.declared.place.Span.{Span}
-use Rattle.ecma_tokens.specs.Machine as tokens
+use Rattle.ecma_token_source.specs.Machine as tokens
 use Rattle.ecma_tree.specs.Tree.{Tree, paren_expr}
 use Rattle.ecma_syntax.specs.Input.{Code, lo, hi, first_span, span, text}
 use Rattle.ecma_reading.specs.Source.{Fault, unexpected, ◌>>=◌, Machine, Stand, Inner, input, past, spanned}

@@ -17,7 +17,7 @@ use ecma_parse_state::code::{in_arrow, in_list, with_in};
 use ecma_parse_state::operators::ASSIGNMENT;
 use ecma_parse_state::{Around, Failure, Parser, kinds};
 use ecma_token::{BytePos, Span};
-use ecma_tokens::Tokens;
+use ecma_token_source::Tokens;
 
 /// Whether `=>` comes, on the line of what stands before it, where an expression of this level may be an arrow.
 pub fn is_arrow<'a, I: Tokens<'a> + Drop, N: Nested<'a, I>>(

@@ -16,7 +16,7 @@ ghost use Rattle.ecma_parse_state.specs.Answers.{IsMemory};
 ghost use Rattle.ecma_parse_arrows.specs.Asyncs.{async_arrow, async_call, async_end};
 
 use crate::arrows::{arrow, ident_end, is_arrow};
-use crate::function_exprs::function_operand;
+use crate::function_expressions::function_operand;
 use crate::made;
 use ecma_atom::Atom;
 use ecma_parse_base::{Nested, Operand};
@@ -25,7 +25,7 @@ use ecma_parse_state::code::with_in;
 use ecma_parse_state::operators::ASSIGNMENT;
 use ecma_parse_state::{Around, Failure, Parser, kinds};
 use ecma_token::Span;
-use ecma_tokens::Tokens;
+use ecma_token_source::Tokens;
 
 /// `async` and a parenthesis: a call, or the parameters of an arrow.
 #[inline(always)]

@@ -25,7 +25,7 @@ use ecma_parse_functions::group_items;
 use ecma_parse_state::code::with_in;
 use ecma_parse_state::{Around, Failure, Parser};
 use ecma_token::{BytePos, Error, Span, SyntaxError};
-use ecma_tokens::Tokens;
+use ecma_token_source::Tokens;
 use std::alloc::Global;
 
 /// What is said of parentheses with nothing in them, or with dots, where no arrow follows.

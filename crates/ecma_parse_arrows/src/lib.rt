@@ -3,6 +3,6 @@
 
 pub mod arrows;
 pub mod asyncs;
-pub mod function_exprs;
+pub mod function_expressions;
 pub mod groups;
 pub mod made;

@@ -21,7 +21,7 @@ use ecma_node::ExprOrSpread;
 use ecma_parse_state::code::with_in;
 use ecma_parse_state::operators::ASSIGNMENT;
 use ecma_parse_state::{Around, Failure, Parser, kinds};
-use ecma_tokens::Tokens;
+use ecma_token_source::Tokens;
 
 /// An element, after dots where it is spread.
 #[inline(always)]

@@ -9,7 +9,7 @@ pub mod made;
 pub mod names;
 pub mod nested;
 pub mod operand;
-pub mod ops;
+pub mod operators;
 
 pub use nested::Nested;
 pub use operand::Operand;

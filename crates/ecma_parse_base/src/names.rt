@@ -13,7 +13,7 @@ use crate::Nested;
 use ecma_node::{ComputedPropName, PrivateName};
 use ecma_parse_state::code::with_in;
 use ecma_parse_state::{Around, Failure, Parser, kinds};
-use ecma_tokens::Tokens;
+use ecma_token_source::Tokens;
 
 /// A private name, whose `#` touches it.
 #[inline(never)]

@@ -7,7 +7,7 @@ ghost use Rattle.ecma_reading.specs.Source as spec;
 ghost use Rattle.ecma_reading.specs.Source.{Inner};
 ghost use Rattle.ecma_reading.specs.Cover.{to_target};
 ghost use Rattle.ecma_reading.specs.Expressions.{is_read, params_of};
-ghost use Rattle.ecma_tokens.specs.Machine.{Machine};
+ghost use Rattle.ecma_token_source.specs.Machine.{Machine};
 ghost use Rattle.ecma_parse_state.specs.Answers.{Falls, Gives};
 ghost use Rattle.ecma_parse_state.specs.Codes.{code_of};
 ghost use Rattle.ecma_parse_state.specs.Fronts.{Front, machine_of};
@@ -20,7 +20,7 @@ use crate::operand::Operand;
 use ecma_node::{AssignTarget, BlockStmt, Class, PatBox, StmtBox};
 use ecma_parse_state::{Around, Failure, Parser};
 use ecma_token::BytePos;
-use ecma_tokens::Tokens;
+use ecma_token_source::Tokens;
 
 /// The parsers of nested parts, at one depth.
 pub trait Nested<'a, I: Tokens<'a> + Drop> {

@@ -16,7 +16,7 @@ use ecma_parse_base::Nested;
 use ecma_parse_state::code::in_list;
 use ecma_parse_state::{Around, Failure, Parser, kinds};
 use ecma_token::BytePos;
-use ecma_tokens::Tokens;
+use ecma_token_source::Tokens;
 
 /// One more statement of a block, or its brace. Whether another may follow.
 #[inline(always)]

@@ -13,12 +13,12 @@ ghost use Rattle.ecma_parse_state.specs.Fronts.{machine_of};
 ghost use Rattle.ecma_parse_state.specs.Stands.{stand};
 ghost use Rattle.ecma_parse_blocks.specs.Lists.{body_items, body_of, FitBody};
 
-use crate::lookahead::turned;
+use crate::codes::turned;
 use ecma_node::{BlockStmt, ExprKind, Lit, Stmt, StmtBox, StmtKind};
 use ecma_parse_base::Nested;
 use ecma_parse_state::code::{in_list, turned_strict};
 use ecma_parse_state::{Around, Failure, Parser, kinds};
-use ecma_tokens::Tokens;
+use ecma_token_source::Tokens;
 use std::convert::AsStr;
 
 /// The statements of a body so far, the code after them, and whether its directives may go on.

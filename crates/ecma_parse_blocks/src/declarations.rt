@@ -21,7 +21,7 @@ use ecma_parse_base::{Nested, Operand};
 use ecma_parse_state::operators::{ASSIGNMENT, BINDING_END};
 use ecma_parse_state::{Around, Failure, Parser, kinds};
 use ecma_token::BytePos;
-use ecma_tokens::Tokens;
+use ecma_token_source::Tokens;
 
 /// Declarators so far, and the class of the last one's end.
 #[derive(Drop)]

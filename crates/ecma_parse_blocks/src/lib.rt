@@ -4,8 +4,8 @@
 
 pub mod blocks;
 pub mod body;
+pub mod codes;
 pub mod declarations;
-pub mod lookahead;
 pub mod made;
 pub mod parts;
 pub mod starts;

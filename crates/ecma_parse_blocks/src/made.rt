@@ -3,14 +3,14 @@ ghost use Rattle.std.specs.Prelude.{◌≡◌, All, IfErr, IfOk};
 ghost use Rattle.ecma_node.specs.Fits.{fits_block_stmt, fits_catch_clause, fits_held, fits_stmt_kind, fits_switch_case, fits_var_declarator};
 ghost use Rattle.ecma_node.specs.Placed.{holds_stmt, inner};
 ghost use Rattle.ecma_node.specs.View.{var_decl_kind_word, view_block_stmt, view_catch_clause, view_ident, view_stmt_kind, view_switch_case, view_var_declarator};
-ghost use Rattle.ecma_tree.specs.Tree.{break_stmt, continue_stmt, debugger_stmt, do_while_stmt, expr_stmt, if_stmt, labeled_stmt, part_by, return_stmt, switch_stmt, throw_stmt, trees_by, try_stmt, using_decl, var_decl, while_stmt, with_stmt};
+ghost use Rattle.ecma_tree.specs.Tree.{break_stmt, continue_stmt, debugger_stmt, expr_stmt, if_stmt, labeled_stmt, part_by, return_stmt, switch_stmt, throw_stmt, trees_by, try_stmt, using_decl, var_decl, with_stmt};
 ghost use Rattle.ecma_parse_state.specs.Answers.{IsMemory};
 ghost use Rattle.ecma_parse_base.specs.Operands.{tree_of};
 
 use ecma_node::{
-    BlockStmt, BreakStmt, CatchClause, ContinueStmt, DebuggerStmt, Decl, DoWhileStmt, ExprStmt,
-    Ident, IfStmt, LabeledStmt, ReturnStmt, Stmt, StmtBox, StmtKind, SwitchCase, SwitchStmt,
-    ThrowStmt, TryStmt, UsingDecl, VarDecl, VarDeclKind, VarDeclarator, WhileStmt, WithStmt,
+    BlockStmt, BreakStmt, CatchClause, ContinueStmt, DebuggerStmt, Decl, ExprStmt, Ident, IfStmt,
+    LabeledStmt, ReturnStmt, Stmt, StmtBox, StmtKind, SwitchCase, SwitchStmt, ThrowStmt, TryStmt,
+    UsingDecl, VarDecl, VarDeclKind, VarDeclarator, WithStmt,
 };
 use ecma_parse_base::Operand;
 use ecma_parse_state::Failure;
@@ -40,52 +40,6 @@ pub fn with_stmt(alloc: Global, span: Span, obj: Operand, body: StmtBox) -> Resu
         StmtKind::With(WithStmt {
             span,
             obj: obj.expr,
-            body,
-        }),
-    )
-}
-
-/// `while (test) body`.
-#[inline(never)]
-pub fn while_stmt(
-    alloc: Global,
-    span: Span,
-    test: Operand,
-    body: StmtBox,
-) -> Result<StmtBox, Failure>
-    requires body { holds_stmt body.part.value }
-    ensures value { IfOk result (λ x. inner x.part.value ≡ while_stmt span (tree_of test) (inner body.part.value)) }
-    ensures holds { IfOk result (λ x. holds_stmt x.part.value) }
-    ensures full { IfErr result IsMemory }
-{
-    stmt(
-        alloc,
-        StmtKind::While(WhileStmt {
-            span,
-            test: test.expr,
-            body,
-        }),
-    )
-}
-
-/// `do body while (test);`.
-#[inline(never)]
-pub fn do_while_stmt(
-    alloc: Global,
-    span: Span,
-    test: Operand,
-    body: StmtBox,
-) -> Result<StmtBox, Failure>
-    requires body { holds_stmt body.part.value }
-    ensures value { IfOk result (λ x. inner x.part.value ≡ do_while_stmt span (tree_of test) (inner body.part.value)) }
-    ensures holds { IfOk result (λ x. holds_stmt x.part.value) }
-    ensures full { IfErr result IsMemory }
-{
-    stmt(
-        alloc,
-        StmtKind::DoWhile(DoWhileStmt {
-            span,
-            test: test.expr,
             body,
         }),
     )

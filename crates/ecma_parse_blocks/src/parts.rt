@@ -16,7 +16,7 @@ use ecma_parse_state::code::alone;
 use ecma_parse_state::operators::EXPRESSION;
 use ecma_parse_state::{Around, Failure, Parser, kinds};
 use ecma_token::{Error, Span, Spanned, SyntaxError};
-use ecma_tokens::Tokens;
+use ecma_token_source::Tokens;
 
 /// Whether a statement is one, and no declaration (ECMA-262, clause 14).
 fn is_statement(stmt: &Stmt) -> bool

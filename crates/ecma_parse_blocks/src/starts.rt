@@ -9,10 +9,10 @@ ghost use Rattle.ecma_parse_state.specs.Fronts.{machine_of};
 ghost use Rattle.ecma_parse_state.specs.Stands.{stand};
 
 use ecma_parse_base::Nested;
-use ecma_parse_state::numbers::token_number;
+use ecma_parse_state::kind_numbers::token_number;
 use ecma_parse_state::operators::may_name;
 use ecma_parse_state::{Around, Failure, Parser, kinds};
-use ecma_tokens::{Look, Tokens};
+use ecma_token_source::{Look, Tokens};
 
 /// The kind of the second token, and whether a line break stands before it.
 ///

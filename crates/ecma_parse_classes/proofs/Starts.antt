@@ -1,6 +1,6 @@
 -- Where a member or a block began shows in the places of nodes alone.
 use Rattle.std.proofs.Common.{◌≡◌, ℕ, Bool, refl, sym, ◌∙◌}
-use Rattle.ecma_tokens.specs.Machine as tokens
+use Rattle.ecma_token_source.specs.Machine as tokens
 use Rattle.ecma_syntax.specs.Input.{Code, lo}
 use Rattle.ecma_reading.specs.Source.{Machine, Stand, Inner, input}
 use Rattle.ecma_reading.specs.Statements.{block_rest, member_rest, generator_member, class_method_by, class_getter, class_setter, accessor_by, field_or_method}

@@ -20,12 +20,12 @@ use crate::members::member_rest;
 use ecma_node::{Class, ClassExpr, ClassMember, ExprBox, Ident, StmtBox};
 use ecma_parse_base::{Nested, Operand};
 use ecma_parse_blocks::blocks::block_rest;
-use ecma_parse_blocks::lookahead::in_static;
+use ecma_parse_blocks::codes::in_static;
 use ecma_parse_state::code::{turned_strict, with_in};
 use ecma_parse_state::operators::NEW_LEVEL;
 use ecma_parse_state::{Around, Failure, Parser, kinds};
 use ecma_token::BytePos;
-use ecma_tokens::Tokens;
+use ecma_token_source::Tokens;
 
 /// A static member, or a static block.
 #[inline(never)]

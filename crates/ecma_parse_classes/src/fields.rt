@@ -15,12 +15,12 @@ ghost use Rattle.ecma_parse_classes.specs.Members.{field_by};
 use crate::made;
 use ecma_node::{ClassMember, ExprBox, Key};
 use ecma_parse_base::Nested;
-use ecma_parse_blocks::lookahead::in_field;
+use ecma_parse_blocks::codes::in_field;
 use ecma_parse_functions::{keys, private_name};
 use ecma_parse_state::operators::{ASSIGNMENT, KEY_END};
 use ecma_parse_state::{Around, Failure, Parser, kinds};
 use ecma_token::BytePos;
-use ecma_tokens::Tokens;
+use ecma_token_source::Tokens;
 
 /// What follows a field's key: `=` and a value, or nothing, and the end.
 #[inline(never)]

@@ -11,7 +11,7 @@ ghost use Rattle.ecma_parse_classes.specs.Members.{before_key, starts_accessor};
 use ecma_parse_base::Nested;
 use ecma_parse_state::operators::{ACCESSOR_END, KEY_END, STATIC_END, starts_key};
 use ecma_parse_state::{Around, Failure, Parser, kinds};
-use ecma_tokens::Tokens;
+use ecma_token_source::Tokens;
 
 /// The class of a field that has no value, by the kind of its key's first token.
 pub fn field_end(is_static: bool, kind: u8) -> u8

@@ -22,7 +22,7 @@ use ecma_parse_functions::made as functions;
 use ecma_parse_state::code::in_body;
 use ecma_parse_state::{Around, Failure, Parser, kinds};
 use ecma_token::{BytePos, SyntaxError};
-use ecma_tokens::Tokens;
+use ecma_token_source::Tokens;
 
 /// A method, after its key; by its key a constructor.
 #[inline(never)]

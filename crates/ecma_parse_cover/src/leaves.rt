@@ -14,8 +14,8 @@ ghost use Rattle.ecma_reading.specs.Cover.{has, rest_of, to_item};
 ghost use Rattle.ecma_parse_state.specs.Answers.{Gives};
 ghost use Rattle.ecma_parse_cover.specs.Items.{default_of, is_cover, is_leaf};
 
+use crate::bindings::{array_binds, object_binds};
 use crate::made;
-use crate::names::{array_binds, object_binds};
 use ecma_node::{AssignExpr, AssignTarget, ExprBox, ExprKind, PartKind, PatBox, PatKind, RestPat};
 use ecma_parse_state::Failure;
 use ecma_token::{AssignOp, BytePos, Span};

@@ -2,10 +2,10 @@
 //! apart and its parts are moved into the pattern.
 #![tactic(auto)]
 
+pub mod bindings;
 pub mod items;
 pub mod leaves;
 pub mod made;
-pub mod names;
 pub mod params;
 pub mod questions;
 pub mod targets;

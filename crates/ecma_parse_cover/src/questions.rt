@@ -9,9 +9,9 @@ ghost use Rattle.ecma_reading.specs.Cover.{binds_names, to_item};
 ghost use Rattle.ecma_reading.specs.Expressions.{is_read};
 ghost use Rattle.ecma_parse_cover.specs.Items.{item_by};
 
+use crate::bindings::{array_binds, object_binds};
 use crate::items::{is_rest_elem, is_rest_prop};
 use crate::leaves::{is_assign, is_noted};
-use crate::names::{array_binds, object_binds};
 use ecma_node::{
     ArrayLit, AssignExpr, AssignTarget, ExprBox, ExprKind, ExprOrSpread, ObjectLit, Prop,
     PropOrSpread, SpreadElement,

@@ -18,7 +18,7 @@ use ecma_parse_state::code::{in_body, with_in};
 use ecma_parse_state::operators::ASSIGNMENT;
 use ecma_parse_state::{Around, Failure, Parser, kinds};
 use ecma_token::{BytePos, Error, Span, SyntaxError};
-use ecma_tokens::Tokens;
+use ecma_token_source::Tokens;
 
 /// A parameter: a pattern, with an initialiser or without, or a rest.
 #[inline(never)]

@@ -9,7 +9,7 @@ ghost use Rattle.ecma_parse_state.specs.Stands.{stand};
 use ecma_parse_base::Nested;
 use ecma_parse_state::operators::starts_key;
 use ecma_parse_state::{Failure, Parser, kinds};
-use ecma_tokens::Tokens;
+use ecma_token_source::Tokens;
 
 /// Whether one of `get` and `set` comes, before a key.
 ///

@@ -18,7 +18,7 @@ use ecma_parse_base::names::computed;
 use ecma_parse_state::operators::ASSIGNMENT;
 use ecma_parse_state::{Around, Failure, Parser, kinds};
 use ecma_token::Token;
-use ecma_tokens::Tokens;
+use ecma_token_source::Tokens;
 use std::convert::AsStr;
 
 /// A literal as a key, which no regular expression is.

@@ -1,6 +1,7 @@
-//! The rules of keys, parameters and functions, which objects, classes and declarations share.
+//! The rules of keys, parameters and functions, which objects, classes and declarations share, and declarations of functions.
 #![tactic(auto)]
 
+pub mod declarations;
 pub mod functions;
 pub mod heads;
 pub mod keys;

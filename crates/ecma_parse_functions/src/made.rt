@@ -1,17 +1,17 @@
 //! Makers of keys, parameters and functions. Each stands in a function of its own, so that rules keep small frames.
 ghost use Rattle.std.specs.Prelude.{◌≡◌, All, IfErr, IfOk, Some};
 ghost use Rattle.ecma_node.specs.Fits.{fits_block_stmt, fits_function, fits_param, fits_prop_name};
-ghost use Rattle.ecma_node.specs.Placed.{holds_pat, inner};
-ghost use Rattle.ecma_node.specs.View.{view_block_stmt, view_function, view_param, view_prop_name};
+ghost use Rattle.ecma_node.specs.Placed.{holds_pat, holds_stmt, inner};
+ghost use Rattle.ecma_node.specs.View.{view_block_stmt, view_function, view_ident, view_param, view_prop_name};
 ghost use Rattle.ecma_syntax.specs.Input.{dots_at};
-ghost use Rattle.ecma_tree.specs.Tree.{assign_pat, big_int_lit, function, none, number_lit, param, rest_pat, str_lit, trees_by};
+ghost use Rattle.ecma_tree.specs.Tree.{assign_pat, big_int_lit, fn_decl, function, none, number_lit, param, rest_pat, str_lit, trees_by};
 ghost use Rattle.ecma_parse_state.specs.Answers.{IsMemory};
 ghost use Rattle.ecma_parse_base.specs.Operands.{tree_of};
 
 use ecma_atom::{Atom, StrValue};
 use ecma_node::{
-    AssignPat, BigInt, BlockStmt, Function, Number, Param, Pat, PatBox, PatKind, PropName, RestPat,
-    Str,
+    AssignPat, BigInt, BlockStmt, Decl, FnDecl, Function, Ident, Number, Param, Pat, PatBox,
+    PatKind, PropName, RestPat, Stmt, StmtBox, StmtKind, Str,
 };
 use ecma_number::NumValue;
 use ecma_parse_base::Operand;
@@ -161,4 +161,25 @@ pub fn function(
         is_async,
     };
     Ok(Box::new(alloc, node)?)
+}
+
+/// A function with its name.
+#[inline(never)]
+pub fn fn_decl(
+    alloc: Global,
+    span: Span,
+    ident: Ident,
+    function: Box<Function>,
+) -> Result<StmtBox, Failure>
+    requires { fits_function (λ p. p) function.value }
+    ensures value { IfOk result (λ x. inner x.part.value ≡ fn_decl span (view_ident ident) (view_function inner function.value)) }
+    ensures holds { IfOk result (λ x. holds_stmt x.part.value) }
+    ensures full { IfErr result IsMemory }
+{
+    let kind = StmtKind::Decl(Decl::Fn(FnDecl {
+        span,
+        ident,
+        function,
+    }));
+    Ok(StmtBox::new(alloc, Stmt { kind })?)
 }

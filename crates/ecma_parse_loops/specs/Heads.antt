@@ -8,8 +8,8 @@ use Rattle.ecma_node.specs.Placed.{inner}
 use Rattle.ecma_node.specs.View.{view_using_decl, view_var_decl, view_var_declarator}
 use Rattle.ecma_reading.specs.Source.{Machine, Inner, Read, ◌>>=◌, eat}
 use Rattle.ecma_reading.specs.Statements.{sub_by}
-use Rattle.ecma_parse_loops.specs.declared.heads.Declared.{Declared}
-use Rattle.ecma_parse_loops.specs.declared.heads.Declared.TheVariants as Declared
+use Rattle.ecma_parse_loops.specs.declared.for_heads.Declared.{Declared}
+use Rattle.ecma_parse_loops.specs.declared.for_heads.Declared.TheVariants as Declared
 
 abbrev pub view_declared : Declared → Tree
 view_declared (Declared.Variables x) = view_var_decl inner x.value

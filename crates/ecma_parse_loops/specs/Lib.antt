@@ -1,2 +1,3 @@
 -- What the rules of `for` share.
 pub mod Heads
+pub mod Fors

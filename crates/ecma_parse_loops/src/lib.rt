@@ -1,7 +1,8 @@
-//! The heads of `for` up to their bodies, and declarations of functions.
+//! Loops: `while`, `do` and `for`.
 #![tactic(auto)]
 
-pub mod functions;
-pub mod heads;
+pub mod for_heads;
+pub mod for_tails;
+pub mod fors;
 pub mod made;
-pub mod tails;
+pub mod whiles;

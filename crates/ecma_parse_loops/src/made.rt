@@ -1,21 +1,67 @@
 //! Makers of loops and of what heads them. Each stands in a function of its own, so that rules keep small frames.
 ghost use Rattle.std.specs.Prelude.{◌≡◌, IfErr, IfOk};
-ghost use Rattle.ecma_node.specs.Fits.{fits_for_head, fits_function, fits_held, fits_var_decl_or_expr};
+ghost use Rattle.ecma_node.specs.Fits.{fits_for_head, fits_held, fits_var_decl_or_expr};
 ghost use Rattle.ecma_node.specs.Placed.{holds_stmt, inner};
-ghost use Rattle.ecma_node.specs.View.{view_for_head, view_function, view_ident, view_var_decl_or_expr};
-ghost use Rattle.ecma_tree.specs.Tree.{fn_decl, for_in_stmt, for_of_stmt, for_stmt, part_by};
+ghost use Rattle.ecma_node.specs.View.{view_for_head, view_var_decl_or_expr};
+ghost use Rattle.ecma_tree.specs.Tree.{do_while_stmt, for_in_stmt, for_of_stmt, for_stmt, part_by, while_stmt};
 ghost use Rattle.ecma_parse_state.specs.Answers.{IsMemory};
 ghost use Rattle.ecma_parse_base.specs.Operands.{tree_of};
 
 use ecma_node::{
-    Decl, FnDecl, ForHead, ForInStmt, ForOfStmt, ForStmt, Function, Ident, StmtBox, StmtKind,
-    UsingDecl, VarDecl, VarDeclKind, VarDeclOrExpr, VarDeclarator,
+    DoWhileStmt, ForHead, ForInStmt, ForOfStmt, ForStmt, StmtBox, StmtKind, UsingDecl, VarDecl,
+    VarDeclKind, VarDeclOrExpr, VarDeclarator, WhileStmt,
 };
 use ecma_parse_base::Operand;
 use ecma_parse_blocks::made::stmt;
 use ecma_parse_state::Failure;
 use ecma_token::Span;
 use std::alloc::Global;
+
+/// `do body while (test);`.
+#[inline(never)]
+pub fn do_while_stmt(
+    alloc: Global,
+    span: Span,
+    test: Operand,
+    body: StmtBox,
+) -> Result<StmtBox, Failure>
+    requires body { holds_stmt body.part.value }
+    ensures value { IfOk result (λ x. inner x.part.value ≡ do_while_stmt span (tree_of test) (inner body.part.value)) }
+    ensures holds { IfOk result (λ x. holds_stmt x.part.value) }
+    ensures full { IfErr result IsMemory }
+{
+    stmt(
+        alloc,
+        StmtKind::DoWhile(DoWhileStmt {
+            span,
+            test: test.expr,
+            body,
+        }),
+    )
+}
+
+/// `while (test) body`.
+#[inline(never)]
+pub fn while_stmt(
+    alloc: Global,
+    span: Span,
+    test: Operand,
+    body: StmtBox,
+) -> Result<StmtBox, Failure>
+    requires body { holds_stmt body.part.value }
+    ensures value { IfOk result (λ x. inner x.part.value ≡ while_stmt span (tree_of test) (inner body.part.value)) }
+    ensures holds { IfOk result (λ x. holds_stmt x.part.value) }
+    ensures full { IfErr result IsMemory }
+{
+    stmt(
+        alloc,
+        StmtKind::While(WhileStmt {
+            span,
+            test: test.expr,
+            body,
+        }),
+    )
+}
 
 /// `for (init; test; update) body`.
 #[inline(never)]
@@ -104,29 +150,6 @@ pub fn for_of_stmt(
             right: right.expr,
             body,
         }),
-    )
-}
-
-/// A function with its name.
-#[inline(never)]
-pub fn fn_decl(
-    alloc: Global,
-    span: Span,
-    ident: Ident,
-    function: Box<Function>,
-) -> Result<StmtBox, Failure>
-    requires { fits_function (λ p. p) function.value }
-    ensures value { IfOk result (λ x. inner x.part.value ≡ fn_decl span (view_ident ident) (view_function inner function.value)) }
-    ensures holds { IfOk result (λ x. holds_stmt x.part.value) }
-    ensures full { IfErr result IsMemory }
-{
-    stmt(
-        alloc,
-        StmtKind::Decl(Decl::Fn(FnDecl {
-            span,
-            ident,
-            function,
-        })),
     )
 }
 

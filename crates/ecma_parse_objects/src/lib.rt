@@ -5,4 +5,4 @@ pub mod lists;
 pub mod made;
 pub mod news;
 pub mod objects;
-pub mod props;
+pub mod properties;

@@ -13,12 +13,12 @@ ghost use Rattle.ecma_parse_base.specs.Operands.{tree_of};
 ghost use Rattle.ecma_parse_objects.specs.Lists.{FitProps, TellsRest, props_by, props_of};
 
 use crate::lists::Props;
-use crate::props::prop;
+use crate::properties::prop;
 use ecma_node::PropOrSpread;
 use ecma_parse_base::elements::goes_on;
 use ecma_parse_base::{Nested, Operand, made};
 use ecma_parse_state::{Around, Failure, Parser, kinds};
-use ecma_tokens::Tokens;
+use ecma_token_source::Tokens;
 
 /// Whether a part of an object is spread.
 #[tactic(auto, using(crate::proofs::Rests::no_spread))]

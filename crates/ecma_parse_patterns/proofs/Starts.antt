@@ -1,7 +1,7 @@
 -- Where a pattern began shows in the places of nodes alone, and a word is a key as it stands.
 use Rattle.std.proofs.Common.{◌≡◌, ℕ, Bool, true, false, not, ◌&&◌, if◌then◌else◌, refl, sym, ◌∙◌, arith, ◌==◌, Ok}
 use Rattle.std.proofs.lemmas.Bool.Decides.{nat_tests}
-use Rattle.ecma_tokens.specs.Machine as tokens
+use Rattle.ecma_token_source.specs.Machine as tokens
 use Rattle.ecma_tree.specs.Tree.{Tree, ident_name}
 use Rattle.ecma_syntax.specs.Input.{Code, lo, kind, text, first_span, is_word, no_name, barred}
 use Rattle.ecma_token.specs.Kinds.{colon_kind}

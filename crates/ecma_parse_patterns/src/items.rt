@@ -19,7 +19,7 @@ use ecma_parse_state::code::with_in;
 use ecma_parse_state::operators::ASSIGNMENT;
 use ecma_parse_state::{Around, Failure, Parser, kinds};
 use ecma_token::BytePos;
-use ecma_tokens::Tokens;
+use ecma_token_source::Tokens;
 
 /// A pattern with an initialiser, where one follows.
 #[inline(never)]

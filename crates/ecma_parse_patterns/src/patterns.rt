@@ -19,7 +19,7 @@ use crate::properties::property;
 use ecma_node::{ObjectPatProp, Pat, PatBox, PatKind};
 use ecma_parse_base::Nested;
 use ecma_parse_state::{Around, Failure, Parser, kinds};
-use ecma_tokens::Tokens;
+use ecma_token_source::Tokens;
 
 /// Whether a pattern is an array or an object.
 fn is_structured(pat: &Pat) -> bool

@@ -22,7 +22,7 @@ use ecma_parse_state::code::with_in;
 use ecma_parse_state::operators::ASSIGNMENT;
 use ecma_parse_state::{Around, Failure, Parser, kinds};
 use ecma_token::{BytePos, Span};
-use ecma_tokens::Tokens;
+use ecma_token_source::Tokens;
 
 /// What follows the colon of a property.
 #[inline(always)]

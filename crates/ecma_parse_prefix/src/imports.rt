@@ -15,7 +15,7 @@ use ecma_parse_base::lists::Arguments;
 use ecma_parse_base::{Nested, Operand, made};
 use ecma_parse_state::{Around, Failure, Parser, kinds};
 use ecma_token::SyntaxError;
-use ecma_tokens::Tokens;
+use ecma_token_source::Tokens;
 
 /// Whether a call of `import` takes these arguments: one, which no dots spread; with import attributes two, and a last comma.
 pub fn fits_import<'a, I: Tokens<'a> + Drop, N: Nested<'a, I>>(

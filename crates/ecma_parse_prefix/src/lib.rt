@@ -1,7 +1,7 @@
 //! What starts an expression, and whole expressions.
 #![tactic(auto)]
 
-pub mod exprs;
+pub mod expressions;
 pub mod imports;
 pub mod prefixes;
 pub mod words;

@@ -11,13 +11,13 @@ ghost use Rattle.ecma_parse_prefix.specs.Words as words;
 
 use crate::words::keyword;
 use ecma_parse_arrows::groups::group;
-use ecma_parse_base::ops::{unary_op, update_op};
+use ecma_parse_base::operators::{unary_op, update_op};
 use ecma_parse_base::{Nested, Operand, literals};
-use ecma_parse_expr::prefixes::{array, literal, unary, update};
-use ecma_parse_expr::templates::template;
+use ecma_parse_expressions::prefixes::{array, literal, unary, update};
+use ecma_parse_expressions::templates::template;
 use ecma_parse_objects::objects::object;
 use ecma_parse_state::{Around, Failure, Parser, kinds};
-use ecma_tokens::Tokens;
+use ecma_token_source::Tokens;
 
 /// An operator before its operand, or a literal.
 #[inline(never)]

@@ -13,14 +13,14 @@ ghost use Rattle.ecma_parse_prefix.specs.Words as words;
 use crate::imports::import;
 use ecma_parse_arrows::arrows::ident_end;
 use ecma_parse_arrows::asyncs::async_expr;
-use ecma_parse_arrows::function_exprs::function_operand;
-use ecma_parse_base::ops::unary_op;
+use ecma_parse_arrows::function_expressions::function_operand;
+use ecma_parse_base::operators::unary_op;
 use ecma_parse_base::{Nested, Operand, made};
 use ecma_parse_classes::classes::class_operand;
-use ecma_parse_expr::prefixes::{awaited, fixed, super_end, unary, yielded};
+use ecma_parse_expressions::prefixes::{awaited, fixed, super_end, unary, yielded};
 use ecma_parse_objects::news::new_expr;
 use ecma_parse_state::{Around, Failure, Parser, kinds};
-use ecma_tokens::Tokens;
+use ecma_token_source::Tokens;
 
 /// A name, or what the word `async` starts.
 #[inline(never)]
@@ -138,7 +138,7 @@ pub fn definition_word<'a, I: Tokens<'a> + Drop, N: Nested<'a, I>>(
 
 /// `true` or `false`, or another word.
 #[inline(never)]
-#[tactic(auto, unfolding(crate::specs::Words::boolean_word, ecma_parse_expr::specs::Words::fixed_word))]
+#[tactic(auto, unfolding(crate::specs::Words::boolean_word, ecma_parse_expressions::specs::Words::fixed_word))]
 pub fn boolean_word<'a, I: Tokens<'a> + Drop, N: Nested<'a, I>>(
     p: &mut Parser<'a, I>,
     nested: &N,
@@ -163,7 +163,7 @@ pub fn boolean_word<'a, I: Tokens<'a> + Drop, N: Nested<'a, I>>(
 
 /// What a word starts that is no plain name.
 #[inline(always)]
-#[tactic(auto, unfolding(ecma_reading::specs::Expressions::keyword_by, crate::specs::Words::boolean_word, crate::specs::Words::definition_word, crate::specs::Words::member_word, crate::specs::Words::super_by, crate::specs::Words::operator_word, ecma_parse_expr::specs::Words::fixed_word))]
+#[tactic(auto, unfolding(ecma_reading::specs::Expressions::keyword_by, crate::specs::Words::boolean_word, crate::specs::Words::definition_word, crate::specs::Words::member_word, crate::specs::Words::super_by, crate::specs::Words::operator_word, ecma_parse_expressions::specs::Words::fixed_word))]
 fn own_word<'a, I: Tokens<'a> + Drop, N: Nested<'a, I>>(
     p: &mut Parser<'a, I>,
     nested: &N,

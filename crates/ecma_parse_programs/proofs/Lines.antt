@@ -1,7 +1,7 @@
 -- A program by whether a hashbang leads it, from a mark that was made at its start.
 use Rattle.std.proofs.Common.{◌≡◌, ℕ, Bool, true, false, List, Option, None, Some, Ok, refl, sym, ◌∙◌}
 use Rattle.ecma_token.specs.Kinds.{shebang_kind}
-use Rattle.ecma_tokens.specs.Machine as tokens
+use Rattle.ecma_token_source.specs.Machine as tokens
 use Rattle.ecma_syntax.specs.Input.{Code, lo, content}
 use Rattle.ecma_reading.specs.Source.{Machine, Stand, Inner, ◌>>=◌, unexpected, input, past, at}
 use Rattle.ecma_reading.specs.Modules.{line_of, program_by, program_rest}

@@ -11,7 +11,7 @@ ghost use Rattle.ecma_parse_state.specs.Fronts.{machine_of};
 ghost use Rattle.ecma_parse_state.specs.Stands.{from, stand};
 ghost use Rattle.ecma_parse_programs.specs.Steps.{after_by, decl_by, listed_by};
 
-use crate::defaults::export_default;
+use crate::default_exports::export_default;
 use crate::exportable::exportable;
 use crate::exports::{export_list, export_star};
 use crate::openings::starts_declaration;
@@ -20,7 +20,7 @@ use ecma_parse_base::Nested;
 use ecma_parse_state::code::in_list;
 use ecma_parse_state::{Around, Failure, Parser, kinds};
 use ecma_token::BytePos;
-use ecma_tokens::Tokens;
+use ecma_token_source::Tokens;
 
 /// A declaration that is exported.
 #[inline(never)]

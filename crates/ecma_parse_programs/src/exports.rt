@@ -20,7 +20,7 @@ use ecma_parse_base::Nested;
 use ecma_parse_state::operators::EXPORTS_END;
 use ecma_parse_state::{Around, Failure, Parser, kinds};
 use ecma_token::BytePos;
-use ecma_tokens::Tokens;
+use ecma_token_source::Tokens;
 
 /// In braces: a name, and perhaps `as` another.
 #[inline(never)]

@@ -20,7 +20,7 @@ use ecma_node::{
 use ecma_parse_base::Nested;
 use ecma_parse_state::{Around, Failure, Parser, kinds};
 use ecma_token::BytePos;
-use ecma_tokens::Tokens;
+use ecma_token_source::Tokens;
 
 /// A name that can't be bound, `as` one that is.
 #[inline(never)]

@@ -17,11 +17,11 @@ use crate::imports::import_decl;
 use ecma_node::{ModuleDecl, ModuleItem, StmtBox};
 use ecma_parse_base::Nested;
 use ecma_parse_blocks::body::{is_directive, is_use_strict};
-use ecma_parse_blocks::lookahead::turned;
+use ecma_parse_blocks::codes::turned;
 use ecma_parse_state::code::{in_list, turned_strict};
 use ecma_parse_state::{Around, Failure, Parser, kinds};
 use ecma_token::{Error, Span, SyntaxError};
-use ecma_tokens::Tokens;
+use ecma_token_source::Tokens;
 
 /// The items of a module so far, the code after them, and whether its directives may go on.
 #[derive(Drop)]

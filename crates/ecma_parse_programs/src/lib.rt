@@ -2,7 +2,7 @@
 #![tactic(auto)]
 
 pub mod after_export;
-pub mod defaults;
+pub mod default_exports;
 pub mod exportable;
 pub mod exports;
 pub mod imports;

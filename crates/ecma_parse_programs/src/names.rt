@@ -19,7 +19,7 @@ use ecma_parse_objects::objects::object;
 use ecma_parse_state::operators::{PLAIN_END, SOURCE_END};
 use ecma_parse_state::{Around, Failure, Parser, kinds};
 use ecma_token::Token;
-use ecma_tokens::Tokens;
+use ecma_token_source::Tokens;
 
 /// A module's name and its attributes.
 #[derive(Drop)]

@@ -9,7 +9,7 @@ ghost use Rattle.ecma_parse_state.specs.Stands.{stand};
 use ecma_parse_base::Nested;
 use ecma_parse_blocks::starts::{starts_async, starts_variables};
 use ecma_parse_state::{Around, Failure, Parser, kinds};
-use ecma_tokens::Tokens;
+use ecma_token_source::Tokens;
 
 /// Whether a declaration that may be exported starts here (ECMA-262, 16.2.3).
 pub fn starts_declaration<'a, I: Tokens<'a> + Drop, N: Nested<'a, I>>(

@@ -20,7 +20,7 @@ use ecma_node::{Module, Script};
 use ecma_parse_base::Nested;
 use ecma_parse_state::{Around, Failure, Parser, kinds};
 use ecma_token::{BytePos, Token};
-use ecma_tokens::Tokens;
+use ecma_token_source::Tokens;
 
 /// A script, after its hashbang.
 #[inline(never)]

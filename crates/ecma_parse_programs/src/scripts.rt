@@ -13,10 +13,10 @@ use crate::items::{ended, script_item};
 use ecma_parse_base::Nested;
 use ecma_parse_blocks::BodySoFar;
 use ecma_parse_blocks::body::{is_directive, is_use_strict};
-use ecma_parse_blocks::lookahead::turned;
+use ecma_parse_blocks::codes::turned;
 use ecma_parse_state::code::{in_list, turned_strict};
 use ecma_parse_state::{Around, Failure, Parser};
-use ecma_tokens::Tokens;
+use ecma_token_source::Tokens;
 
 /// One more statement of a script. A directive may turn what follows strict.
 #[inline(never)]

@@ -2,7 +2,7 @@
 use Rattle.std.proofs.Common.{◌≡◌, ℕ, refl, sym}
 use Rattle.ecma_tree.specs.Tree.{Tree}
 use Rattle.ecma_token.specs.declared.place.Span.{Span}
-use Rattle.ecma_tokens.specs.Machine.{Machine}
+use Rattle.ecma_token_source.specs.Machine.{Machine}
 use Rattle.ecma_syntax.specs.Input.{Code, lo, first_span}
 use Rattle.ecma_reading.specs.Source.{Inner, Stand, input}
 use Rattle.ecma_reading.specs.Expressions.{loop_by}

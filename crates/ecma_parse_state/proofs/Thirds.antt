@@ -1,8 +1,8 @@
 -- The token behind the second one, where the source shows it.
 use Rattle.std.proofs.Common.{◌≡◌, ℕ, zero, suc, false, Bool, Option, None, Some, refl, sym, ap, ◌∙◌}
 use Rattle.ecma_token.specs.Tokens.{Spot}
-use Rattle.ecma_tokens.specs.Looks.{behind_by}
-use Rattle.ecma_tokens.specs.Machine.{Machine, Source}
+use Rattle.ecma_token_source.specs.Looks.{behind_by}
+use Rattle.ecma_token_source.specs.Machine.{Machine, Source}
 use Rattle.ecma_syntax.specs.Input.{break_of, kind_of, others}
 use Rattle.ecma_parse_state.specs.Fronts.{kind_in, places}
 

@@ -3,9 +3,9 @@ use Rattle.std.specs.Prelude.{ℕ, zero, suc, ◌+◌, Bool, true, false, not, �
 use Rattle.ecma_token.specs.declared.context.Context.{Context}
 use Rattle.ecma_token.specs.Kinds.{end_kind, div_kind, div_assign_kind, regex_kind, error_kind}
 use Rattle.ecma_token.specs.Tokens.{Spot}
-use Rattle.ecma_tokens.specs.Machine as tokens
-use Rattle.ecma_tokens.specs.Machine.{Source}
-use Rattle.ecma_tokens.specs.Settings.{with_ctx, with_next_regexp}
+use Rattle.ecma_token_source.specs.Machine as tokens
+use Rattle.ecma_token_source.specs.Machine.{Source}
+use Rattle.ecma_token_source.specs.Settings.{with_ctx, with_next_regexp}
 use Rattle.ecma_syntax.specs.Input.{Place, no_context, div_goal, is_word, text_in}
 use Rattle.ecma_reading.specs.Source as reading
 use Rattle.ecma_reading.specs.Source.{Stand}

@@ -3,7 +3,7 @@ use Rattle.std.specs.Prelude.{ℕ, false, reverse, [], ◌∷◌, None, Some, op
 use Rattle.ecma_token.specs.Kinds.{end_kind}
 use Rattle.ecma_token.specs.Tokens.{bare}
 use Rattle.ecma_token.specs.declared.place.Span.{Span}
-use Rattle.ecma_tokens.specs.Machine.{Source, shown_spot}
+use Rattle.ecma_token_source.specs.Machine.{Source, shown_spot}
 use Rattle.ecma_reading.specs.Source.{Stand}
 use Rattle.ecma_parse_state.specs.Fronts.{Front}
 use Rattle.ecma_parse_state.specs.declared.parser.Parser.{Parser}

@@ -1,10 +1,10 @@
 //! The token that comes.
 ghost use Rattle.std.specs.Prelude.{◌≡◌, option_map};
-ghost use Rattle.ecma_tokens.specs.Machine.{shown_spot};
+ghost use Rattle.ecma_token_source.specs.Machine.{shown_spot};
 ghost use Rattle.ecma_parse_state.specs.Fronts.{kind_in};
 
+use crate::kind_numbers::token_number;
 use crate::kinds;
-use crate::numbers::token_number;
 use ecma_token::TokenAndSpan;
 
 /// The token that comes, or none at the end, beside the number of its kind.

@@ -4,12 +4,12 @@
 
 pub mod ahead;
 pub mod code;
-pub mod ends;
 pub mod failure;
+pub mod kind_numbers;
 pub mod kinds;
-pub mod numbers;
 pub mod operators;
 pub mod parser;
+pub mod semicolons;
 pub mod steps;
 pub mod words;
 

@@ -1,17 +1,17 @@
 //! The parser's state, and the smallest steps on it.
 ghost use Rattle.std.specs.Prelude.{◌≡◌, ◌≢◌, ◌<◌, ◌≤◌, if◌then◌else◌, IfErr, IfOk, IsTrue, OnOk, option_map};
 ghost use Rattle.ecma_syntax.specs.Input.{brk, brk2, escaped, first_span, hi, is_word, kind, kind2, lo, rest, span, text};
-ghost use Rattle.ecma_tokens.specs.Machine.{shown_spot};
+ghost use Rattle.ecma_token_source.specs.Machine.{shown_spot};
 ghost use Rattle.ecma_reading.specs.Source as spec;
 ghost use Rattle.ecma_parse_state.specs.Answers.{Falls, Gives, IsMemory, IsSyntax, Stays};
 ghost use Rattle.ecma_parse_state.specs.Fronts.{machine_of};
 
 use crate::ahead::Ahead;
 use crate::failure::Failure;
+use crate::kind_numbers::token_number;
 use crate::kinds;
-use crate::numbers::token_number;
 use ecma_token::{BytePos, Error, Span, SyntaxError, Token, TokenAndSpan};
-use ecma_tokens::{Look, Tokens};
+use ecma_token_source::{Look, Tokens};
 use std::alloc::Global;
 use std::convert::AsStr;
 use std::mem;

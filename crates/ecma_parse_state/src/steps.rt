@@ -1,7 +1,7 @@
 //! Words and names, and the slash that is read again.
 ghost use Rattle.std.specs.Prelude.{◌≡◌, ◌<◌, ◌≤◌, false, true, Some, IfErr, IfOk, MatchOption, OnOk};
 ghost use Rattle.ecma_syntax.specs.Input.{barred, kind};
-ghost use Rattle.ecma_tokens.specs.Machine.{shown_spot};
+ghost use Rattle.ecma_token_source.specs.Machine.{shown_spot};
 ghost use Rattle.ecma_reading.specs.Source as spec;
 ghost use Rattle.ecma_parse_state.specs.Answers.{Falls, Gives, IsMemory, Stays};
 ghost use Rattle.ecma_parse_state.specs.Codes.{code_of};
@@ -10,13 +10,13 @@ ghost use Rattle.ecma_parse_state.specs.Fronts.{again_in, in_place, is_slash, ki
 use crate::ahead::Ahead;
 use crate::code::Around;
 use crate::failure::Failure;
+use crate::kind_numbers::token_number;
 use crate::kinds;
-use crate::numbers::token_number;
 use crate::parser::Parser;
 use crate::words::{no_name, starts_operand, strict_reserved};
 use ecma_atom::Atom;
 use ecma_token::{Context, SyntaxError, TokenAndSpan};
-use ecma_tokens::{Look, Tokens};
+use ecma_token_source::{Look, Tokens};
 
 /// Whether a token that was read again from a slash on comes in its place: a regular expression, or a fault of one, that
 /// begins there, with the same line-break mark.

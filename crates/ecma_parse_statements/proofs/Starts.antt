@@ -1,6 +1,6 @@
 -- Where a statement began shows in the places of nodes alone.
 use Rattle.std.proofs.Common.{◌≡◌, ℕ, refl, sym, ◌∙◌}
-use Rattle.ecma_tokens.specs.Machine as tokens
+use Rattle.ecma_token_source.specs.Machine as tokens
 use Rattle.ecma_tree.specs.Tree.{Tree}
 use Rattle.ecma_syntax.specs.Input.{Code, lo}
 use Rattle.ecma_reading.specs.Source.{Machine, Stand, Inner, input}

@@ -11,8 +11,8 @@ use Rattle.ecma_reading.specs.Source.{Machine, Inner, Read, ◌>>=◌, eat, iter
 use Rattle.ecma_reading.specs.Statements as reads
 use Rattle.ecma_parse_state.specs.Codes.{code_of}
 use Rattle.ecma_parse_base.specs.Operands.{tree_of}
-use Rattle.ecma_parse_statements.specs.declared.chains.Branch.{Branch}
-use Rattle.ecma_parse_statements.specs.declared.chains.Links.{Links}
+use Rattle.ecma_parse_statements.specs.declared.ifs.Branch.{Branch}
+use Rattle.ecma_parse_statements.specs.declared.ifs.Links.{Links}
 use Rattle.ecma_parse_statements.specs.declared.switches.CaseList.{CaseList}
 
 -- ---- chains

@@ -16,7 +16,7 @@ use ecma_parse_base::Nested;
 use ecma_parse_blocks::made;
 use ecma_parse_state::operators::{EXPRESSION, PLAIN_END};
 use ecma_parse_state::{Around, Failure, Parser, kinds};
-use ecma_tokens::Tokens;
+use ecma_token_source::Tokens;
 
 /// Whether nothing of the statement follows on its line.
 fn ends_here<'a, I: Tokens<'a> + Drop, N: Nested<'a, I>>(

@@ -1,7 +1,7 @@
 //! Statements: simple statements, jumps, `if` with its chain, `switch` and `try`.
 #![tactic(auto)]
 
-pub mod chains;
+pub mod ifs;
 pub mod jumps;
 pub mod simple;
 pub mod switches;

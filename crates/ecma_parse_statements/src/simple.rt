@@ -1,4 +1,4 @@
-//! Statements round an expression: `with`, `while`, `do`, labels, and an expression by itself.
+//! Statements round an expression: `with`, labels, and an expression by itself.
 ghost use Rattle.std.specs.Prelude.{◌≡◌, ◌&&◌, true, false, IfOk};
 ghost use Rattle.ecma_syntax.specs.Shape as shape;
 ghost use Rattle.ecma_node.specs.Placed.{holds_stmt, inner};
@@ -18,7 +18,7 @@ use ecma_parse_blocks::parts::{in_parens, sub};
 use ecma_parse_state::operators::{EXPRESSION, LET_END};
 use ecma_parse_state::{Around, Failure, Parser, kinds};
 use ecma_token::BytePos;
-use ecma_tokens::Tokens;
+use ecma_token_source::Tokens;
 
 /// `with`.
 #[inline(never)]
@@ -38,50 +38,6 @@ pub fn with<'a, I: Tokens<'a> + Drop, N: Nested<'a, I>>(
     let test = in_parens(p, nested, code)?;
     let body = sub(p, nested, code, false)?;
     made::with_stmt(p.alloc, p.since(start), test, body)
-}
-
-/// `while`.
-#[inline(never)]
-#[tactic(auto, using(ecma_parse_state::proofs::Marks::marks), unfolding(ecma_reading::specs::Statements::while_by))]
-pub fn while_loop<'a, I: Tokens<'a> + Drop, N: Nested<'a, I>>(
-    p: &mut Parser<'a, I>,
-    nested: &N,
-    code: Around,
-) -> Result<StmtBox, Failure>
-    requires ready { N.ready nested.now }
-    ensures value { Gives (λ x. (inner x.part.value, stand I.state p.new)) result (reads.while_by (machine_of I.machine) (N.reads nested.now I.State I.machine) (code_of code) (stand I.state p.old)) }
-    ensures holds { IfOk result (λ x. holds_stmt x.part.value) }
-    ensures shorter { Falls result (spec.bound (machine_of I.machine) (stand I.state p.new)) (spec.bound (machine_of I.machine) (stand I.state p.old)) }
-{
-    let start = p.lo();
-    p.eat_word(code, kinds::WHILE)?;
-    let test = in_parens(p, nested, code)?;
-    let body = sub(p, nested, code, false)?;
-    made::while_stmt(p.alloc, p.since(start), test, body)
-}
-
-/// `do`, with a semicolon behind it or with none.
-#[inline(never)]
-#[tactic(auto, using(ecma_parse_state::proofs::Marks::marks), unfolding(ecma_reading::specs::Statements::do_by))]
-pub fn do_loop<'a, I: Tokens<'a> + Drop, N: Nested<'a, I>>(
-    p: &mut Parser<'a, I>,
-    nested: &N,
-    code: Around,
-) -> Result<StmtBox, Failure>
-    requires ready { N.ready nested.now }
-    ensures value { Gives (λ x. (inner x.part.value, stand I.state p.new)) result (reads.do_by (machine_of I.machine) (N.reads nested.now I.State I.machine) (code_of code) (stand I.state p.old)) }
-    ensures holds { IfOk result (λ x. holds_stmt x.part.value) }
-    ensures shorter { Falls result (spec.bound (machine_of I.machine) (stand I.state p.new)) (spec.bound (machine_of I.machine) (stand I.state p.old)) }
-{
-    let start = p.lo();
-    p.eat_word(code, kinds::DO)?;
-    let body = sub(p, nested, code, false)?;
-    p.eat_word(code, kinds::WHILE)?;
-    let test = in_parens(p, nested, code)?;
-    if p.eat(kinds::SEMICOLON)? {
-        return made::do_while_stmt(p.alloc, p.since(start), test, body);
-    }
-    made::do_while_stmt(p.alloc, p.since(start), test, body)
 }
 
 /// Whether an expression is one name, not in parentheses.

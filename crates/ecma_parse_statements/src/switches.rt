@@ -19,7 +19,7 @@ use ecma_parse_blocks::parts::in_parens;
 use ecma_parse_state::code::in_list;
 use ecma_parse_state::operators::EXPRESSION;
 use ecma_parse_state::{Around, Failure, Parser, kinds};
-use ecma_tokens::Tokens;
+use ecma_token_source::Tokens;
 
 /// The cases of a `switch` so far, and whether one of them is `default`.
 #[derive(Drop)]

@@ -17,7 +17,7 @@ use ecma_parse_blocks::blocks::block;
 use ecma_parse_blocks::made;
 use ecma_parse_state::{Around, Failure, Parser, kinds};
 use ecma_token::BytePos;
-use ecma_tokens::Tokens;
+use ecma_token_source::Tokens;
 
 /// `catch`.
 #[inline(never)]

@@ -6,7 +6,7 @@ use Rattle.ecma_token.specs.declared.syntax.EsSyntax.{EsSyntax}
 use Rattle.ecma_tree.specs.Tree.{Tree}
 use Rattle.ecma_early.specs.Early.{early_errors}
 use Rattle.ecma_reading.specs.Source.{Fault}
-use Rattle.ecma_spells.specs.Choice.{tells_module}
+use Rattle.ecma_program_text.specs.Choice.{tells_module}
 use Rattle.ecma_parser.specs.Answers.{Parses}
 
 -- A module is meant: what is read as one has no early error, and tells that it is one.

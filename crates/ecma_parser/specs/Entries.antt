@@ -4,8 +4,8 @@ use Rattle.ecma_token.specs.declared.context.Context.{Context}
 use Rattle.ecma_token.specs.declared.error.Error.{Error}
 use Rattle.ecma_token.specs.declared.syntax.EsSyntax.{EsSyntax}
 use Rattle.ecma_token.specs.Dialect.{parts_of}
-use Rattle.ecma_tokens.specs.Machine as tokens
-use Rattle.ecma_tokens.specs.Machine.{Source, shown_spot}
+use Rattle.ecma_token_source.specs.Machine as tokens
+use Rattle.ecma_token_source.specs.Machine.{Source, shown_spot}
 use Rattle.ecma_input.specs.Rewinding.{back_in}
 use Rattle.ecma_input.specs.declared.rewinding.Rewinding.{Rewinding}
 use Rattle.ecma_reading.specs.Source.{Stand}

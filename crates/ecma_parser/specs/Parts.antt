@@ -2,8 +2,8 @@
 use Rattle.std.specs.Prelude.{◌≡◌, ◌++◌, ℕ, List, Result, Ok, Err}
 use Rattle.ecma_token.specs.declared.context.Context.{Context}
 use Rattle.ecma_token.specs.declared.error.Error.{Error}
-use Rattle.ecma_tokens.specs.Machine as tokens
-use Rattle.ecma_tokens.specs.Machine.{Source}
+use Rattle.ecma_token_source.specs.Machine as tokens
+use Rattle.ecma_token_source.specs.Machine.{Source}
 use Rattle.ecma_input.specs.declared.rewinding.Rewinding.{Rewinding}
 use Rattle.ecma_tree.specs.Tree.{Tree}
 use Rattle.ecma_syntax.specs.Input.{Code, script_code, module_code}

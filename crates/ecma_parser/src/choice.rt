@@ -6,7 +6,7 @@ ghost use Rattle.ecma_node.specs.View.{view_module};
 ghost use Rattle.ecma_syntax.specs.Input.{module_code, script_code};
 ghost use Rattle.ecma_parse_state.specs.Answers.{IsMemory};
 ghost use Rattle.ecma_parse_state.specs.Fronts.{machine_of};
-ghost use Rattle.ecma_parse_entries.specs.Within.{program_within};
+ghost use Rattle.ecma_parse_parts.specs.Within.{program_within};
 ghost use Rattle.ecma_parser.specs.Answers.{StayRead};
 ghost use Rattle.ecma_parser.specs.Choice.{Chooses, IsMeant, NotMeant};
 ghost use Rattle.ecma_parser.specs.Entries.{ctx_in, faults_in, limit_in, opened, stood, syntax_in};
@@ -16,7 +16,7 @@ use crate::faults::{PResult, told};
 use ecma_goal::tells_module;
 use ecma_node::{Module, Program, ProgramKind};
 use ecma_parse_state::Failure;
-use ecma_tokens::Tokens;
+use ecma_token_source::Tokens;
 
 impl<'a, I: Tokens<'a> + Drop> Entries<Reading<'a, I>> {
     /// The rest of the source as a module, where that reading has no early error and holds an import, an export or,

@@ -3,7 +3,7 @@ ghost use Rattle.std.specs.Prelude.{◌≡◌, ◌<◌, ◌+◌, ◌^◌, [], fa
 ghost use Rattle.std.specs.Str.{chars};
 ghost use Rattle.ecma_token.specs.declared.error.SyntaxError.TheVariants.{Memory};
 ghost use Rattle.ecma_token.specs.declared.version.EsVersion.TheVariants.{EsNext};
-ghost use Rattle.ecma_tokens.specs.Machine.{shown_spot};
+ghost use Rattle.ecma_token_source.specs.Machine.{shown_spot};
 ghost use Rattle.ecma_lexing.specs.States.{at_start_of};
 ghost use Rattle.ecma_lexer.specs.Lexer.{state_in};
 ghost use Rattle.ecma_parse_state.specs.Answers.{IsMemory};
@@ -14,8 +14,8 @@ use ecma_lexer::Lexer;
 use ecma_parse_state::Failure;
 use ecma_parse_state::ahead::Ahead;
 use ecma_token::{BytePos, Context, Error, EsVersion, Syntax, TokenAndSpan};
-use ecma_tokens::Tokens;
-use ecma_tokens::settings::out_of_memory;
+use ecma_token_source::Tokens;
+use ecma_token_source::settings::out_of_memory;
 use std::alloc::{AllocError, Global};
 use std::mem;
 

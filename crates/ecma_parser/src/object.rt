@@ -8,7 +8,7 @@ ghost use Rattle.ecma_node.specs.Placed.{holds_expr, holds_pat, inner};
 ghost use Rattle.ecma_node.specs.View.{view_object_pat_prop, view_prop_or_spread};
 ghost use Rattle.ecma_early.specs.Early.{early_errors};
 ghost use Rattle.ecma_parse_state.specs.Fronts.{machine_of};
-ghost use Rattle.ecma_parse_entries.specs.Props as reads;
+ghost use Rattle.ecma_parse_parts.specs.Props as reads;
 ghost use Rattle.ecma_parser.specs.Answers.{StayRead};
 ghost use Rattle.ecma_parser.specs.Entries.{ctx_in, faults_in, limit_in, opened, stood, syntax_in};
 ghost use Rattle.ecma_parser.specs.Parts.{ParsesPart, script_part};
@@ -22,8 +22,8 @@ use ecma_node::{
     PropOrSpread,
 };
 use ecma_token::{Error, Span, SyntaxError};
-use ecma_tokens::Tokens;
-use ecma_tokens::settings::out_of_memory;
+use ecma_token_source::Tokens;
+use ecma_token_source::settings::out_of_memory;
 
 /// How objects of a sort are parsed, as expressions or as patterns.
 pub trait ParseObject<Obj> {

@@ -8,13 +8,13 @@ ghost use Rattle.ecma_syntax.specs.Input.{module_code, script_code};
 ghost use Rattle.ecma_syntax.specs.Operators.{assignment_level, expression_level};
 ghost use Rattle.ecma_early.specs.Early.{early_errors, outermost};
 ghost use Rattle.ecma_early.specs.Early as early;
-ghost use Rattle.ecma_spells.specs.Fronts as fronts;
+ghost use Rattle.ecma_program_text.specs.Fronts as fronts;
 ghost use Rattle.ecma_reading.specs.Source as spec;
 ghost use Rattle.ecma_parse_state.specs.Answers.{IsMemory, Stays};
 ghost use Rattle.ecma_parse_state.specs.Codes.{code_of};
 ghost use Rattle.ecma_parse_state.specs.Fronts.{machine_of};
-ghost use Rattle.ecma_parse_entries.specs.Items as items;
-ghost use Rattle.ecma_parse_entries.specs.Parts as reads;
+ghost use Rattle.ecma_parse_parts.specs.Items as items;
+ghost use Rattle.ecma_parse_parts.specs.Parts as reads;
 ghost use Rattle.ecma_parser.specs.Answers.{StayRead};
 ghost use Rattle.ecma_parser.specs.Entries.{ctx_in, faults_in, limit_in, opened, stood, syntax_in};
 ghost use Rattle.ecma_parser.specs.Parts.{ParsesPart, ReadsPart, module_part, script_part};
@@ -25,11 +25,11 @@ use crate::programs::{in_module, in_script};
 use crate::rules::{Binding, Expression, Key, ListItem, Parameters, Statement};
 use ecma_early_errors::part_errors;
 use ecma_node::{ExprBox, ModuleItem, Param, PatBox, PropName, StmtBox};
-use ecma_parse_entries::items::module_item_part;
+use ecma_parse_parts::items::module_item_part;
 use ecma_parse_state::operators::{ASSIGNMENT, EXPRESSION};
 use ecma_parse_state::{Around, Failure};
 use ecma_token::{Context, Error, Syntax};
-use ecma_tokens::Tokens;
+use ecma_token_source::Tokens;
 
 impl<'a, I: Tokens<'a> + Drop> Entries<Reading<'a, I>> {
     /// An expression (ECMA-262, 13.16), as in a script, up to what doesn't go on with it. Its early errors are recorded.

@@ -8,7 +8,7 @@ ghost use Rattle.ecma_reading.specs.Source as spec;
 ghost use Rattle.ecma_parse_state.specs.Answers.{Stays};
 ghost use Rattle.ecma_parse_state.specs.Codes.{code_of};
 ghost use Rattle.ecma_parse_state.specs.Fronts.{machine_of};
-ghost use Rattle.ecma_parse_entries.specs.Within.{program_within};
+ghost use Rattle.ecma_parse_parts.specs.Within.{program_within};
 ghost use Rattle.ecma_parser.specs.Answers.{Parses, ReadsProgram, StayRead};
 ghost use Rattle.ecma_parser.specs.Entries.{ctx_in, faults_in, limit_in, opened, stood, syntax_in};
 
@@ -16,10 +16,10 @@ use crate::entries::{Entries, Reading};
 use crate::faults::{PResult, told};
 use ecma_early_errors::{module_errors, script_errors};
 use ecma_node::{Module, Script};
-use ecma_parse_entries::within::{module_within, script_within};
+use ecma_parse_parts::programs::{module_within, script_within};
 use ecma_parse_state::{Around, Failure};
 use ecma_token::{Context, EsSyntax, Syntax};
-use ecma_tokens::Tokens;
+use ecma_token_source::Tokens;
 
 /// The code around a script's tokens.
 pub(crate) fn in_script(syntax: EsSyntax) -> Around

@@ -6,21 +6,21 @@ ghost use Rattle.ecma_node.specs.Fits.{fits_object_pat_prop, fits_param, fits_pr
 ghost use Rattle.ecma_node.specs.Placed.{holds_expr, holds_pat, holds_stmt, inner};
 ghost use Rattle.ecma_node.specs.View.{view_object_pat_prop, view_param, view_prop_name, view_prop_or_spread};
 ghost use Rattle.ecma_early.specs.Early.{early_errors};
-ghost use Rattle.ecma_spells.specs.Fronts as fronts;
+ghost use Rattle.ecma_program_text.specs.Fronts as fronts;
 ghost use Rattle.ecma_parse_state.specs.Fronts.{machine_of};
-ghost use Rattle.ecma_parse_entries.specs.Items as items;
-ghost use Rattle.ecma_parse_entries.specs.Parts as parts;
-ghost use Rattle.ecma_parse_entries.specs.Props as props;
+ghost use Rattle.ecma_parse_parts.specs.Items as items;
+ghost use Rattle.ecma_parse_parts.specs.Parts as parts;
+ghost use Rattle.ecma_parse_parts.specs.Props as props;
 
-use crate::part::Rule;
+use crate::each_part::Rule;
 use ecma_early_errors::{item_errors, part_errors};
 use ecma_node::{ExprBox, ObjectPatProp, Param, PatBox, PropName, PropOrSpread, StmtBox};
-use ecma_parse_entries::items::{list_item_part, statement_part};
-use ecma_parse_entries::parts::{binding_part, expression_part, key_part, parameters_part};
-use ecma_parse_entries::props::{item_part, prop_part};
+use ecma_parse_parts::items::{list_item_part, statement_part};
+use ecma_parse_parts::parts::{binding_part, expression_part, key_part, parameters_part};
+use ecma_parse_parts::properties::{item_part, prop_part};
 use ecma_parse_state::{Around, Failure, Parser};
 use ecma_token::{Error, EsSyntax};
-use ecma_tokens::Tokens;
+use ecma_token_source::Tokens;
 use std::alloc::{AllocError, Global};
 
 /// The early errors of a statement, which stands directly in a script's body or not.

@@ -12,9 +12,9 @@ use Rattle.ecma_reading.specs.Reading.{readers}
 use Rattle.ecma_sources.specs.Ahead.{at_list}
 use Rattle.ecma_complete_fronts.specs.Laws.{input_at, IsComplete, Expression, Binding, Key, Statement, ListItem, ModuleItem, Settled, Whatever, Apart}
 use Rattle.ecma_complete_fronts.proofs.Fronts.{expressions_end, bindings_end, keys_end, statements_end, list_items_end, module_items_end, fronts_are_read}
-use Rattle.ecma_parse_entries.specs.Ends.{async_end, heads_arrow, last_of, settled}
-use Rattle.ecma_parse_entries.specs.Parts.{expression_part, binding_part, key_part}
-use Rattle.ecma_parse_entries.specs.Items.{statement_part, list_item_part, module_item_part}
+use Rattle.ecma_parse_parts.specs.Ends.{async_end, heads_arrow, last_of, settled}
+use Rattle.ecma_parse_parts.specs.Parts.{expression_part, binding_part, key_part}
+use Rattle.ecma_parse_parts.specs.Items.{statement_part, list_item_part, module_item_part}
 use Rattle.ecma_part_fronts.specs.Laws.{IsFront, ReadsFronts, Anywhere, PartsAreFronts, Answers, Goes, FrontsAreAnswered}
 
 abbrev Answer : Type 0

@@ -1,4 +1,4 @@
--- What is read of a part of a program that stands alone (`ecma_parse_entries`) is a complete front of a list in order, and such a front is read.
+-- What is read of a part of a program that stands alone (`ecma_parse_parts`) is a complete front of a list in order, and such a front is read.
 use Rattle.std.specs.Prelude.{◌≡◌, ◌≤◌, ℕ, Bool, true, false, List, [], Ok}
 use Rattle.ecma_token.specs.declared.syntax.EsSyntax.{EsSyntax}
 use Rattle.ecma_tree.specs.Tree.{Tree}
@@ -9,9 +9,9 @@ use Rattle.ecma_reading.specs.Source.{Stand, Read, list_machine}
 use Rattle.ecma_grammar_complete_base.specs.Laws.{InOrder, Follow}
 use Rattle.ecma_sources.specs.Ahead.{Named, at_list}
 use Rattle.ecma_complete_fronts.specs.Laws.{input_at, IsComplete, Expression, Binding, Key, Statement, ListItem, ModuleItem, Settled, Whatever, Apart}
-use Rattle.ecma_parse_entries.specs.Ends.{async_end, heads_arrow, last_of}
-use Rattle.ecma_parse_entries.specs.Parts.{expression_part, binding_part, key_part}
-use Rattle.ecma_parse_entries.specs.Items.{statement_part, list_item_part, module_item_part}
+use Rattle.ecma_parse_parts.specs.Ends.{async_end, heads_arrow, last_of}
+use Rattle.ecma_parse_parts.specs.Parts.{expression_part, binding_part, key_part}
+use Rattle.ecma_parse_parts.specs.Items.{statement_part, list_item_part, module_item_part}
 
 -- A tree is derived from a complete front; it nests no deeper than the limit, and nothing of a cover is left in it.
 pub record IsFront (P Plain : Tree → Input → Input → Type 0) (limit n : ℕ) (ps : List Place) (t : Tree) (r : Input) : Type 0 where

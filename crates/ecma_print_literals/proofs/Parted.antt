@@ -6,7 +6,7 @@ use Rattle.ecma_write.specs.States as states
 use Rattle.ecma_write.specs.declared.fault.EmitError.{EmitError}
 use Rattle.ecma_pieces.specs.Pieces.{Text, call}
 use Rattle.ecma_layout.specs.Looks.{text}
-use Rattle.ecma_printer.specs.Prints.{Asked, ask, lay, IsAt, Prints}
+use Rattle.ecma_print_pieces.specs.Prints.{Asked, ask, lay, IsAt, Prints}
 use Rattle.std.proofs.Common.{take, arith, get_or}
 use Rattle.std.specs.Str.{chars}
 use Rattle.std.proofs.lemmas.Str.{IsUtf8-take, IsCharBoundary-at_seam}

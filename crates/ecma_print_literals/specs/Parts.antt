@@ -5,7 +5,7 @@ use Rattle.ecma_write.specs.Pages.{Page, put}
 use Rattle.ecma_write.specs.States.{State, text}
 use Rattle.ecma_write.specs.declared.fault.EmitError.{EmitError}
 use Rattle.ecma_layout.specs.Looks as looks
-use Rattle.ecma_printer.specs.Prints.{Asked, lay, IsAt}
+use Rattle.ecma_print_pieces.specs.Prints.{Asked, lay, IsAt}
 
 -- One text doesn't end with CR, or the other doesn't begin with LF. CR LF is one end of a line, so lines are counted alike in
 -- the two and in both as one text.

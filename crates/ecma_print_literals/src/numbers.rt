@@ -4,12 +4,12 @@ ghost use Rattle.ecma_literal.specs.Standing as standing;
 ghost use Rattle.ecma_spell_number.specs.Numbers as numbers;
 ghost use Rattle.ecma_layout.specs.Looks as looks;
 ghost use Rattle.ecma_layout.specs.Literals as literals;
-ghost use Rattle.ecma_printer.specs.Prints.{Prints};
+ghost use Rattle.ecma_print_pieces.specs.Prints.{Prints};
 
 use crate::parts::{print_held, print_part};
 use ecma_layout::Look;
 use ecma_number::NumValue;
-use ecma_printer::Printer;
+use ecma_print_pieces::Printer;
 use ecma_spell_base::Style;
 use ecma_spell_number::{FormattedText, formatted, formatted_big_int, takes_point};
 use ecma_token::Span;

@@ -1,10 +1,10 @@
 //! Texts that are printed in parts.
 ghost use Rattle.std.specs.Prelude.{◌≡◌, ◌<◌, ◌∷◌, ◌++◌, length};
 ghost use Rattle.ecma_layout.specs.Looks as looks;
-ghost use Rattle.ecma_printer.specs.Prints.{Prints};
+ghost use Rattle.ecma_print_pieces.specs.Prints.{Prints};
 ghost use Rattle.ecma_print_literals.specs.Parts.{InTwo, Leaves, held_back};
 
-use ecma_printer::Printer;
+use ecma_print_pieces::Printer;
 use ecma_write::WriteJs;
 
 /// Law: two texts are written one after the other as they are as one, unless CR and LF meet there.

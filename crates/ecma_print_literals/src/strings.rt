@@ -5,11 +5,11 @@ ghost use Rattle.std.specs.Str.{chars};
 ghost use Rattle.ecma_spell_string.specs.Strings.{is_backslash, quoted, string_text};
 ghost use Rattle.ecma_layout.specs.Looks as looks;
 ghost use Rattle.ecma_layout.specs.Literals as literals;
-ghost use Rattle.ecma_printer.specs.Prints.{Prints};
+ghost use Rattle.ecma_print_pieces.specs.Prints.{Prints};
 
 use crate::parts::{print_held, print_part};
 use ecma_layout::Look;
-use ecma_printer::Printer;
+use ecma_print_pieces::Printer;
 use ecma_spell_base::Style;
 use ecma_spell_string::{QuotedText, keeps_raw};
 use ecma_token::Span;

@@ -2,10 +2,10 @@
 ghost use Rattle.std.specs.Prelude.{◌≡◌};
 ghost use Rattle.ecma_layout.specs.Looks as looks;
 ghost use Rattle.ecma_layout.specs.Literals.{quasi_bytes};
-ghost use Rattle.ecma_printer.specs.Prints.{Prints};
+ghost use Rattle.ecma_print_pieces.specs.Prints.{Prints};
 
 use crate::parts::{print_held, print_part};
-use ecma_printer::Printer;
+use ecma_print_pieces::Printer;
 use ecma_spell_base::Style;
 use ecma_spell_template::TemplateText;
 use ecma_write::WriteJs;

@@ -4,7 +4,7 @@ use Rattle.std.specs.Prelude.{encode_utf8_all}
 use Rattle.std.proofs.lemmas.Str.{chars-encodes}
 use lib.Utf8.{scalars}
 use Rattle.ecma_token.specs.Tokens.{SpecToken, Spot, Content, Line}
-use Rattle.ecma_tokens.specs.Machine.{told}
+use Rattle.ecma_token_source.specs.Machine.{told}
 use Rattle.ecma_tree.specs.Tree.{Tree, script, es_module}
 use Rattle.ecma_scan.specs.Classes.{is_line_char}
 use Rattle.ecma_scan.specs.Runs.{Each}
@@ -14,7 +14,7 @@ use Rattle.ecma_lexeme.specs.declared.goal.LexicalGoal.TheVariants.{Div, RegExp,
 use Rattle.ecma_lexeme.specs.Lexemes.{SpecLexeme, IsLexeme, IsOutside, numeral_lexeme}
 use Rattle.ecma_syntax.specs.Input.{Place, Input, Code, content_of}
 use Rattle.ecma_grammar.specs.Grammar.{Spells}
-use Rattle.ecma_spells.specs.Tiled.{Tile, goal_at}
+use Rattle.ecma_program_text.specs.Tiled.{Tile, goal_at}
 use Rattle.ecma_written.proofs.Known.{left, scalars_front}
 use Rattle.ecma_written_tiles.specs.Tiles.{IsHashbangText}
 use Rattle.ecma_readback.specs.Laws.{HasLineText}

@@ -7,8 +7,8 @@ use Rattle.ecma_tree.specs.Tree.{Tree, script, es_module}
 use Rattle.ecma_names.specs.Names.{Name, Identifier, names}
 use Rattle.ecma_syntax.specs.Input.{Place}
 use Rattle.ecma_grammar_complete_base.specs.Laws.{InOrder}
-use Rattle.ecma_spells.specs.Text.{Setting, TreeSpells, code_of, text_start}
-use Rattle.ecma_spells_laws.proofs.Ordered.{places_in_order}
+use Rattle.ecma_program_text.specs.Text.{Setting, TreeSpells, code_of, text_start}
+use Rattle.ecma_program_text_laws.proofs.Ordered.{places_in_order}
 use Rattle.ecma_write.specs.Pages.{Page}
 use Rattle.ecma_layout.specs.declared.look.Look.{Look}
 use Rattle.ecma_layout.specs.declared.look.Stand.TheVariants.{Alone}

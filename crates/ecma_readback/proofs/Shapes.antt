@@ -8,7 +8,7 @@ use Rattle.ecma_grammar.specs.Parts.{is_quasi}
 use Rattle.ecma_grammar.specs.Grammar.{Spells}
 use Rattle.ecma_grammar_placed.specs.Laws.{placing, SameTokens as SamePlaced}
 use Rattle.ecma_grammar_goals.specs.TemplateLaws.{Programmed}
-use Rattle.ecma_spells.specs.Text.{code_of, is_of_goal}
+use Rattle.ecma_program_text.specs.Text.{code_of, is_of_goal}
 use Rattle.ecma_layout.specs.Looks.{start, when}
 use Rattle.ecma_written_tiles.specs.Tiles.{IsSilent, SameTokens}
 use Rattle.ecma_redone.specs.Redo.{Leaves, Mode, redo}

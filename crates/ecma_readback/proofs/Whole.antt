@@ -1,7 +1,7 @@
 -- The theorem for every program, from what is proved of layouts.
 use Rattle.std.proofs.Common.{◌≡◌, Some, None, sym, true≢false}
 use Rattle.ecma_tree.specs.Tree.{Tree, script, es_module}
-use Rattle.ecma_spells.specs.Text.{text_start}
+use Rattle.ecma_program_text.specs.Text.{text_start}
 use Rattle.ecma_layout.specs.declared.look.Look.{Look}
 use Rattle.ecma_written_laws.proofs.Programs.{scripts_are_tiled, modules_are_tiled}
 use Rattle.ecma_readback.specs.Laws.{ProgramsAreTiled, ProgramsReadBack}

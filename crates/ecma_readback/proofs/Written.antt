@@ -6,9 +6,9 @@ use Rattle.ecma_syntax.specs.Input.{Input, Code, unplaced}
 use Rattle.ecma_grammar.specs.Grammar.{Spells}
 use Rattle.ecma_grammar_placed.proofs.PlacedLemmas.{has_places}
 use Rattle.ecma_grammar_goals.proofs.Braces.{programs_match}
-use Rattle.ecma_spells.specs.Tiled.{Tile}
-use Rattle.ecma_spells.specs.Text.{Setting, Reads, TreeSpells, code_of, is_of_goal, text_start}
-use Rattle.ecma_spells_laws.proofs.OneLemmas.{one_tree_reads}
+use Rattle.ecma_program_text.specs.Tiled.{Tile}
+use Rattle.ecma_program_text.specs.Text.{Setting, Reads, TreeSpells, code_of, is_of_goal, text_start}
+use Rattle.ecma_program_text_laws.proofs.OneLemmas.{one_tree_reads}
 use Rattle.ecma_write.specs.Pages.{Page}
 use Rattle.ecma_layout.specs.declared.look.Look.{Look}
 use Rattle.ecma_layout.specs.declared.look.Stand.TheVariants.{Alone}

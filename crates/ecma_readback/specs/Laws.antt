@@ -6,7 +6,7 @@ use Rattle.ecma_tree.specs.Tree.{Tree, Trees, script, es_module}
 use Rattle.ecma_program.specs.Program.{IsSameProgram}
 use Rattle.ecma_syntax.specs.Input.{Input, Code}
 use Rattle.ecma_grammar.specs.Grammar.{Spells}
-use Rattle.ecma_spells.specs.Text.{Setting, Reads, TreeSpells, text_start}
+use Rattle.ecma_program_text.specs.Text.{Setting, Reads, TreeSpells, text_start}
 use Rattle.ecma_write.specs.Pages.{Page}
 use Rattle.ecma_pieces.specs.Pieces.{resolved, shortened}
 use Rattle.ecma_layout.specs.declared.look.Look.{Look}

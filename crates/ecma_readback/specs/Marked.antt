@@ -6,7 +6,7 @@ use lib.Utf8.{scalars}
 use Rattle.ecma_token.specs.declared.place.LineCol.{LineCol}
 use Rattle.ecma_tree.specs.Tree.{Tree}
 use Rattle.ecma_names.specs.Names.{Name, names}
-use Rattle.ecma_spells.specs.Text.{Setting, Reads, TreeSpells, text_start}
+use Rattle.ecma_program_text.specs.Text.{Setting, Reads, TreeSpells, text_start}
 use Rattle.ecma_write.specs.Pages.{Page, Marks}
 use Rattle.ecma_pieces.specs.Pieces.{resolved, shortened}
 use Rattle.ecma_layout.specs.declared.look.Look.{Look}

@@ -11,7 +11,7 @@ use Rattle.ecma_token.specs.Kinds.{else_kind, name_kind}
 use Rattle.ecma_token.specs.Tokens.{Content}
 use Rattle.ecma_token.specs.Utf16.{utf16}
 use Rattle.ecma_token.specs.Words.{kind_of}
-use Rattle.ecma_tokens.specs.Machine.{told}
+use Rattle.ecma_token_source.specs.Machine.{told}
 use Rattle.ecma_scan.specs.Characters.{is_name_start}
 use Rattle.ecma_scan.specs.Names.{Spell}
 use Rattle.ecma_lexeme.specs.declared.goal.LexicalGoal.TheVariants.{Div}

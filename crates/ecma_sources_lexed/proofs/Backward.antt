@@ -2,7 +2,7 @@
 use Rattle.std.proofs.Common.{◌≡◌, ◌⊎◌, ℕ, Bool, true, false, not, ◌&&◌, ◌||◌, cond, eqb, List, [], ◌∷◌, Option, None, Some, inl, inr, refl, sym, ap, ◌∙◌, subst, true≢false, eqb-true}
 use Rattle.ecma_token.specs.Kinds.{regex_kind, error_kind}
 use Rattle.ecma_token.specs.Tokens.{Spot}
-use Rattle.ecma_tokens.specs.Machine.{Source, Machine}
+use Rattle.ecma_token_source.specs.Machine.{Source, Machine}
 use Rattle.ecma_syntax.specs.Input.{Place}
 use Rattle.ecma_reading.specs.Source.{is_nil}
 use Rattle.ecma_parse_state.specs.Fronts.{Front, place_of, places, asked, withdrawn, read_on, same_mark, in_place, reread_by, operand_by, machine_of}

@@ -18,9 +18,9 @@ use Rattle.ecma_scan.proofs.Longest.{is_read}
 use Rattle.ecma_lexeme.specs.declared.goal.LexicalGoal.{LexicalGoal}
 use Rattle.ecma_lexeme.specs.declared.goal.LexicalGoal.TheVariants.{Div, RegExp, TemplateTail, TemplateEnd}
 use Rattle.ecma_lexeme.specs.Lexemes.{SpecLexeme, IsLexeme, IsPattern, plain}
-use Rattle.ecma_tokens.specs.Settings.{Settings}
-use Rattle.ecma_tokens.specs.declared.contexts.TokenContext.{TokenContext}
-use Rattle.ecma_tokens.specs.declared.contexts.TokenContext.TheVariants.{Tpl}
+use Rattle.ecma_token_source.specs.Settings.{Settings}
+use Rattle.ecma_token_source.specs.declared.contexts.TokenContext.{TokenContext}
+use Rattle.ecma_token_source.specs.declared.contexts.TokenContext.TheVariants.{Tpl}
 use Rattle.ecma_tree.specs.Tree.{Tree, script, es_module}
 use Rattle.ecma_token.specs.declared.syntax.EsSyntax.{EsSyntax}
 use Rattle.ecma_syntax.specs.Input.{Place, Input}
@@ -32,8 +32,8 @@ use Rattle.ecma_lexing.specs.Steps.{IsRead, IsPlain, IsOutside, IsGoing, IsStepB
 use Rattle.ecma_parse_state.specs.Fronts.{place_of, asked}
 use Rattle.ecma_sources.specs.Sources.{is_slash}
 use Rattle.ecma_grammar.specs.Grammar.{Derives}
-use Rattle.ecma_spells.specs.Text.{code_of, is_of_goal, text_start}
-use Rattle.ecma_spells.specs.Tiled.{goal_at, whole, IsBefore, IsTile, AreTiles, AfterHashbang}
+use Rattle.ecma_program_text.specs.Text.{code_of, is_of_goal, text_start}
+use Rattle.ecma_program_text.specs.Tiled.{goal_at, whole, IsBefore, IsTile, AreTiles, AfterHashbang}
 use Rattle.ecma_sources_lexed.specs.Handed.{handed, AtStart, NewAtStart, TilesHanded, ReadHanded}
 use Rattle.ecma_sources_lexed.proofs.Regions.{held, IsNoFault, At, no_goal, next, past_start}
 use Rattle.ecma_sources_lexed.proofs.Takes.{Hands, take_none, take, take_again}

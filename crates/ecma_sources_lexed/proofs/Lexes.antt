@@ -3,8 +3,8 @@ use Rattle.std.proofs.Common.{◌≡◌, ℕ, Bool, false, List, Option, Some, N
 use Rattle.ecma_token.specs.Tokens.{Spot}
 use Rattle.ecma_lexeme.specs.declared.goal.LexicalGoal.{LexicalGoal}
 use Rattle.ecma_lexeme.specs.declared.goal.LexicalGoal.TheVariants.{Div, RegExp}
-use Rattle.ecma_tokens.specs.declared.contexts.TokenContext.{TokenContext}
-use Rattle.ecma_tokens.specs.Settings.{Settings}
+use Rattle.ecma_token_source.specs.declared.contexts.TokenContext.{TokenContext}
+use Rattle.ecma_token_source.specs.Settings.{Settings}
 use Rattle.ecma_lexing.specs.States.{Last, Start, Slash, Characters, Fault, Other, State, Text, again, behind, ended, shebang, stopped, template_goal}
 use Rattle.ecma_lexing.specs.Steps.{IsRead, IsPlain, IsFirst, IsOutside, IsGoing, IsStepBy, IsStepOf, IsStep}
 use Rattle.ecma_lexing.specs.Bounds as stepping

@@ -2,7 +2,7 @@
 use Rattle.std.proofs.Common.{◌≡◌, ◌<◌, ◌≤◌, ◌+◌, ℕ, zero, suc, Bool, true, false, cond, List, [], ◌∷◌, Option, None, Some, option_map, inl, inr, refl, sym, ap, ◌∙◌, subst, true≢false, arith, le_refl}
 use Rattle.ecma_token.specs.declared.context.Context.{Context}
 use Rattle.ecma_token.specs.Tokens.{Spot}
-use Rattle.ecma_tokens.specs.Machine.{Source, Machine}
+use Rattle.ecma_token_source.specs.Machine.{Source, Machine}
 use Rattle.ecma_syntax.specs.Input.{Place, kind_of, hi_of, others}
 use Rattle.ecma_reading.specs.Source.{is_nil}
 use Rattle.ecma_parse_state.specs.Fronts.{Front, place_of, places, asked, withdrawn, told_of, in_place, read_on, after_by, reread_by, operand_by, one_in, bound_in, machine_of}

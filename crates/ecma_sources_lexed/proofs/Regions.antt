@@ -3,8 +3,8 @@ use Rattle.std.proofs.Common.{◌≡◌, ℕ, Bool, true, false, cond, ◌||◌,
 use Rattle.std.specs.Prelude.{◌==◌}
 use Rattle.std.proofs.lemmas.Bool.{cases_Bool, eqb-true}
 use Rattle.ecma_token.specs.Kinds.{left_brace_kind, right_brace_kind, back_quote_kind, template_kind, dollar_brace_kind, div_kind, div_assign_kind}
-use Rattle.ecma_tokens.specs.declared.contexts.TokenContext.{TokenContext}
-use Rattle.ecma_tokens.specs.declared.contexts.TokenContext.TheVariants.{TplQuasi, Tpl}
+use Rattle.ecma_token_source.specs.declared.contexts.TokenContext.{TokenContext}
+use Rattle.ecma_token_source.specs.declared.contexts.TokenContext.TheVariants.{TplQuasi, Tpl}
 use Rattle.ecma_lexing.specs.States.{Last, Slash, Characters, Fault, Other, is_start, template_goal, opened, closed, quoted, contexts_after, last_after}
 use Rattle.ecma_grammar_goals.specs.TemplateLaws.{Region, Outside, Inside, Behind, Nowhere, closing, after}
 

@@ -4,8 +4,8 @@ use Rattle.std.specs.Prelude.{◌==◌}
 use Rattle.std.proofs.lemmas.Bool.Decides.{nat_tests}
 use Rattle.ecma_token.specs.Kinds.{regex_kind, error_kind}
 use Rattle.ecma_token.specs.Tokens.{Spot}
-use Rattle.ecma_tokens.specs.Machine as tokens
-use Rattle.ecma_tokens.specs.Machine.{Source}
+use Rattle.ecma_token_source.specs.Machine as tokens
+use Rattle.ecma_token_source.specs.Machine.{Source}
 use Rattle.ecma_syntax.specs.Input.{Place}
 use Rattle.ecma_lexing.specs.States.{State}
 use Rattle.ecma_lexing.specs.Steps.{IsStep}

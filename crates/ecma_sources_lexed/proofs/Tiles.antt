@@ -26,9 +26,9 @@ use Rattle.ecma_lexeme.specs.declared.goal.LexicalGoal.TheVariants.{Div, RegExp,
 use Rattle.ecma_lexeme.specs.Lexemes.{SpecLexeme, IsLexeme, IsOrdinary, ending_kind}
 use Rattle.ecma_lexeme.specs.Sorts as lexeme
 use Rattle.ecma_lexeme.proofs.SortLemmas.{pattern_sort, sort_word, string_begins, word_begins}
-use Rattle.ecma_tokens.specs.Settings.{Settings}
-use Rattle.ecma_tokens.specs.declared.contexts.TokenContext.{TokenContext}
-use Rattle.ecma_tokens.specs.declared.contexts.TokenContext.TheVariants.{Tpl}
+use Rattle.ecma_token_source.specs.Settings.{Settings}
+use Rattle.ecma_token_source.specs.declared.contexts.TokenContext.{TokenContext}
+use Rattle.ecma_token_source.specs.declared.contexts.TokenContext.TheVariants.{Tpl}
 use Rattle.ecma_syntax.specs.Input.{Place, usual}
 use Rattle.ecma_grammar_goals.specs.TemplateLaws.{Region, Outside, Inside, Behind, Nowhere, after, over}
 use Rattle.ecma_grammar_goals.proofs.Fits.{not_lost, fits_on, low_there, usual_there, sound_on}
@@ -40,7 +40,7 @@ use Rattle.ecma_lexing.proofs.Trivia.{hashbang_or_not}
 use Rattle.ecma_lexer.specs.Machine.{step_of, lexer_machine}
 use Rattle.ecma_parse_state.specs.Fronts.{asked}
 use Rattle.ecma_sources.specs.Sources.{is_slash}
-use Rattle.ecma_spells.specs.Tiled.{goal_at, whole, IsBefore, AreTiles, AfterHashbang, Tile}
+use Rattle.ecma_program_text.specs.Tiled.{goal_at, whole, IsBefore, AreTiles, AfterHashbang, Tile}
 use Rattle.ecma_sources_lexed.specs.Handed.{handed}
 use Rattle.ecma_sources_lexed.specs.Tiled.{SameSpots, HandedTile, DerivedTile}
 use Rattle.ecma_sources_lexed.proofs.Regions.{held, IsNoFault, At, no_goal, next, past_start}

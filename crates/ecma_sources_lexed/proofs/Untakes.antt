@@ -1,8 +1,8 @@
 -- What was handed out: the token came, or a slash came that was read again as it.
 use Rattle.std.proofs.Common.{◌≡◌, ◌⊎◌, ℕ, zero, suc, Bool, true, false, cond, List, [], ◌∷◌, Option, Some, None, inl, inr, refl, sym, ap, ◌∙◌, subst, true≢false}
 use Rattle.ecma_token.specs.Tokens.{Spot}
-use Rattle.ecma_tokens.specs.Machine as tokens
-use Rattle.ecma_tokens.specs.Machine.{Source}
+use Rattle.ecma_token_source.specs.Machine as tokens
+use Rattle.ecma_token_source.specs.Machine.{Source}
 use Rattle.ecma_syntax.specs.Input.{Place}
 use Rattle.ecma_reading.specs.Source.{is_nil}
 use Rattle.ecma_lexing.specs.States.{State}

@@ -1,7 +1,7 @@
 -- What is read of a parser's machine over a source of tokens is read of a list of its tokens: the statements of the law.
 use Rattle.std.specs.Prelude.{◌≡◌, ℕ, Bool, List, Ok}
 use Rattle.ecma_token.specs.declared.syntax.EsSyntax.{EsSyntax}
-use Rattle.ecma_tokens.specs.Machine.{Source, Machine}
+use Rattle.ecma_token_source.specs.Machine.{Source, Machine}
 use Rattle.ecma_tree.specs.Tree.{Tree}
 use Rattle.ecma_syntax.specs.Input.{Place}
 use Rattle.ecma_reading.specs.Reading.{read_program, read_list}

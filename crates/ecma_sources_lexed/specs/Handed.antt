@@ -12,8 +12,8 @@ use Rattle.ecma_lexing.specs.States.{Start, State, at_start_of}
 use Rattle.ecma_lexer.specs.Machine.{lexer_machine}
 use Rattle.ecma_parse_state.specs.Fronts.{place_of, read_on, told_of, machine_of}
 use Rattle.ecma_sources.specs.Sources.{HandsOut}
-use Rattle.ecma_spells.specs.Text.{Reads, text_start}
-use Rattle.ecma_spells.specs.Tiled.{Tile}
+use Rattle.ecma_program_text.specs.Text.{Reads, text_start}
+use Rattle.ecma_program_text.specs.Tiled.{Tile}
 
 -- the tokens as a parser sees them
 abbrev pub handed : List Place → List Place

@@ -10,8 +10,8 @@ use Rattle.ecma_lexing.specs.States.{State}
 use Rattle.ecma_lexer.specs.Machine.{lexer_machine}
 use Rattle.ecma_parse_state.specs.Fronts.{read_on, machine_of}
 use Rattle.ecma_sources.specs.Sources.{HandsOut}
-use Rattle.ecma_spells.specs.Text.{code_of, is_of_goal, text_start}
-use Rattle.ecma_spells.specs.Tiled.{Tile}
+use Rattle.ecma_program_text.specs.Text.{code_of, is_of_goal, text_start}
+use Rattle.ecma_program_text.specs.Tiled.{Tile}
 use Rattle.ecma_sources_lexed.specs.Handed.{handed, AtStart}
 
 -- the same tokens in the same places, under the same goals and in the same contexts, whatever escapes and old forms are told of them

@@ -10,7 +10,7 @@ ghost use Rattle.ecma_sources_lexed.specs.Handed.{NewAtStart, ReadHanded, TilesH
 ghost use Rattle.ecma_sources_lexed.specs.Lexed.{LexerConstant, LexerRead};
 ghost use Rattle.ecma_sources_lexed.specs.Standing.{LexerConsumed, LexerRereads};
 ghost use Rattle.ecma_sources_lexed.specs.Tiled.{DerivedTile, DerivedUsual, HandedTile, MatchedUsual};
-ghost use Rattle.ecma_tokens.specs.Machine.{Machine, Source};
+ghost use Rattle.ecma_token_source.specs.Machine.{Machine, Source};
 
 /// A source of tokens, which of its states are good, and which are the same.
 pub trait Tokened {

@@ -17,7 +17,7 @@ use Rattle.ecma_lexeme.specs.declared.goal.LexicalGoal.{LexicalGoal}
 use Rattle.ecma_lexeme.specs.declared.goal.LexicalGoal.TheVariants.{Div, RegExp, TemplateTail, TemplateEnd}
 use Rattle.ecma_lexeme.specs.Lexemes.{SpecLexeme, IsLexeme, IsOutside}
 use Rattle.ecma_syntax.specs.Input.{Place, template_goal}
-use Rattle.ecma_spells.specs.Tiled.{goal_at, whole, IsBeforeBy, AreTiles, AfterHashbang}
+use Rattle.ecma_program_text.specs.Tiled.{goal_at, whole, IsBeforeBy, AreTiles, AfterHashbang}
 use Rattle.ecma_written.specs.Means.{Known}
 use Rattle.ecma_written.specs.Laws.{TokensAreKnown}
 

@@ -5,7 +5,7 @@ use Rattle.ecma_token.specs.Operators.{operator_text}
 use Rattle.ecma_token.specs.Words.{own_text}
 use Rattle.ecma_lexeme.specs.declared.goal.LexicalGoal.TheVariants.{Div, TemplateEnd}
 use Rattle.ecma_syntax.specs.Input.{Place, Input}
-use Rattle.ecma_spells.specs.Tiled.{Tile}
+use Rattle.ecma_program_text.specs.Tiled.{Tile}
 use Rattle.ecma_layout.specs.Looks.{Laid}
 use Rattle.ecma_layout.specs.Words.{sign_of}
 use Rattle.ecma_written.specs.Gaps.{Gap}

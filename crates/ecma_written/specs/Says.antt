@@ -4,12 +4,12 @@ use Rattle.std.specs.Str.{chars}
 use Rattle.ecma_token.specs.declared.place.BytePos.{BytePos}
 use Rattle.ecma_token.specs.Kinds.{right_brace_kind, end_kind, shebang_kind}
 use Rattle.ecma_token.specs.Tokens.{SpecToken, Line as Hashbang}
-use Rattle.ecma_tokens.specs.Machine.{told}
+use Rattle.ecma_token_source.specs.Machine.{told}
 use Rattle.ecma_lexeme.specs.declared.goal.LexicalGoal.{LexicalGoal}
 use Rattle.ecma_lexeme.specs.declared.goal.LexicalGoal.TheVariants.{Div, RegExp, TemplateTail, TemplateEnd}
 use Rattle.ecma_lexeme.specs.Lexemes.{SpecLexeme, IsLexeme}
 use Rattle.ecma_syntax.specs.Input.{Place, Input, kind, lo}
-use Rattle.ecma_spells.specs.Tiled.{goal_at}
+use Rattle.ecma_program_text.specs.Tiled.{goal_at}
 use Rattle.ecma_pieces.specs.Pieces.{Piece, Text, Brace, Blank, Line, Deeper, Back, Semicolon, Commit, Mark}
 use Rattle.ecma_layout.specs.Looks.{Meaning, regular_expression, template_characters, template_end, hashbang_comment, touching, Laid, nothing, one, meant, named, both, refused, joined, texts_of}
 use Rattle.ecma_written.specs.Gaps.{Gap, Touching, Broken, is_broken, blanked, Lies}

@@ -6,7 +6,7 @@ use lib.Utf8.{scalars}
 use Rattle.std.proofs.lemmas.Str.{chars-encodes}
 use Rattle.std.proofs.lemmas.Bool.{false≢true}
 use Rattle.ecma_token.specs.Tokens.{Spot, SpecToken, Content, Bare, Named, Quoted, Piece, Pattern, Numeral, BigNumeral, Line, Faulty}
-use Rattle.ecma_tokens.specs.Machine.{told}
+use Rattle.ecma_token_source.specs.Machine.{told}
 use Rattle.ecma_scan.specs.Classes.{is_line_char}
 use Rattle.ecma_scan.specs.Runs.{Each}
 use Rattle.ecma_literal.specs.Numbers.{Meaning, Number, BigInt}
@@ -15,8 +15,8 @@ use Rattle.ecma_lexeme.specs.declared.goal.LexicalGoal.TheVariants.{Div, RegExp,
 use Rattle.ecma_lexeme.specs.Lexemes.{SpecLexeme, IsLexeme, IsOutside, numeral_lexeme}
 use Rattle.ecma_tree.specs.Tree.{Tree, script, es_module}
 use Rattle.ecma_syntax.specs.Input.{Place, Input, content_of}
-use Rattle.ecma_spells.specs.Tiled.{Tile, goal_at}
-use Rattle.ecma_spells.specs.Text.{Reads, text_start, code_of}
+use Rattle.ecma_program_text.specs.Tiled.{Tile, goal_at}
+use Rattle.ecma_program_text.specs.Text.{Reads, text_start, code_of}
 use Rattle.ecma_written.proofs.Known.{left, scalars_front, tokens_are_known}
 use Rattle.ecma_written_tiles.specs.Tiles.{IsHashbangText}
 use Rattle.ecma_written_laws.specs.TiledLaws.{ProgramsGo}

@@ -3,7 +3,7 @@ use Rattle.std.specs.Prelude.{◌≡◌, ℕ, Bool, true, List}
 use lib.Utf8.{scalars}
 use Rattle.ecma_token.specs.declared.syntax.EsSyntax.{EsSyntax}
 use Rattle.ecma_tree.specs.Tree.{Tree}
-use Rattle.ecma_spells.specs.Text.{Reads}
+use Rattle.ecma_program_text.specs.Text.{Reads}
 use Rattle.ecma_layout.specs.declared.look.Look.{Look}
 use Rattle.ecma_written_laws.specs.LaidLaws.{IsWrittenText}
 

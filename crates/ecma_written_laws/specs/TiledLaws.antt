@@ -11,7 +11,7 @@ use Rattle.ecma_layout.specs.declared.look.Look.{Look}
 use Rattle.ecma_layout.specs.declared.look.Stand.TheVariants.{Alone}
 use Rattle.ecma_layout.specs.Looks.{◌·◌, when, commit}
 use Rattle.ecma_layout.specs.Layout.{laid, statements}
-use Rattle.ecma_spells.specs.Text.{Reads}
+use Rattle.ecma_program_text.specs.Text.{Reads}
 use Rattle.ecma_written.specs.Means.{Known}
 use Rattle.ecma_written_tiles.specs.Goes.{GoesWhole}
 use Rattle.ecma_written_tiles.specs.Tiles.{IsEmptyPage, IsHashbangText}

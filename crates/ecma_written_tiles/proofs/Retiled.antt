@@ -25,7 +25,7 @@ use Rattle.ecma_lexeme.proofs.LexemeLemmas.{one_lexeme}
 use Rattle.ecma_syntax.specs.Input.{Place, usual}
 use Rattle.ecma_grammar_goals.specs.TemplateLaws.{Region, Outside, Inside, Behind, Nowhere, after, fits, over}
 use Rattle.ecma_scan.specs.Places.{bytes}
-use Rattle.ecma_spells.specs.Tiled.{goal_at, whole, IsBefore, IsTile, AreTiles, AfterHashbang}
+use Rattle.ecma_program_text.specs.Tiled.{goal_at, whole, IsBefore, IsTile, AreTiles, AfterHashbang}
 use Rattle.ecma_written.proofs.Ascii.{ascii}
 use Rattle.ecma_written_tiles.proofs.Gaps.{are_skipped}
 use Rattle.ecma_written_tiles.proofs.Marks.{quiet_plain, back_quote, back_quote_is}

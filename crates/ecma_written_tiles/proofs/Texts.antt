@@ -12,7 +12,7 @@ use Rattle.ecma_scan.specs.Runs.{Each, Ends}
 use Rattle.ecma_scan.specs.Trivia.{NoHashbang}
 use Rattle.ecma_lexing.specs.States.{shebang, place, spot_at}
 use Rattle.ecma_syntax.specs.Input.{Place, Input, div_goal, no_context}
-use Rattle.ecma_spells.specs.Tiled.{Tile, whole}
+use Rattle.ecma_program_text.specs.Tiled.{Tile, whole}
 use Rattle.ecma_write.specs.Pages.{Page, times}
 use Rattle.ecma_pieces.specs.Pieces.{Piece, Line, Mark, resolved, shortened}
 use Rattle.ecma_layout.specs.Looks.{Laid, nothing, one, meant, hashbang_comment, ◌·◌, line_always, listed, joined, texts_of}

@@ -17,7 +17,7 @@ use Rattle.ecma_lexeme.specs.declared.goal.LexicalGoal.TheVariants.{Div, RegExp,
 use Rattle.ecma_lexeme.specs.Lexemes.{IsLexeme}
 use Rattle.ecma_lexing.specs.States.{place, spot_at}
 use Rattle.ecma_syntax.specs.Input.{Place, Input, no_context, lo}
-use Rattle.ecma_spells.specs.Tiled.{goal_at, IsBefore, IsTile, AreTiles}
+use Rattle.ecma_program_text.specs.Tiled.{goal_at, IsBefore, IsTile, AreTiles}
 use Rattle.ecma_pieces.specs.Pieces.{Piece, Text, Brace, Blank, Line, Deeper, Back, Semicolon, Commit, Mark}
 use Rattle.ecma_layout.specs.Looks.{regular_expression, template_characters, template_end, hashbang_comment, touching, joined, texts_of}
 use Rattle.ecma_written.specs.Gaps.{Gap, Touching, Spaced, Broken, is_broken, blanked, Lies}

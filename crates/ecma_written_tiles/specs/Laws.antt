@@ -3,7 +3,7 @@ use Rattle.std.specs.Prelude.{◌≡◌, ℕ, Bool, List, []}
 use Rattle.std.specs.Str.{chars}
 use Rattle.ecma_syntax.specs.Input.{Place}
 use Rattle.ecma_grammar_goals.specs.TemplateLaws.{Outside, over}
-use Rattle.ecma_spells.specs.Tiled.{Tile}
+use Rattle.ecma_program_text.specs.Tiled.{Tile}
 use Rattle.ecma_write.specs.Pages.{Page}
 use Rattle.ecma_pieces.specs.Pieces.{resolved, shortened}
 use Rattle.ecma_layout.specs.Looks.{Laid, meant, hashbang_comment, ◌·◌, line_always, listed}

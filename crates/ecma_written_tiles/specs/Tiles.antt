@@ -5,7 +5,7 @@ use Rattle.ecma_scan.specs.Characters.{is_white_space}
 use Rattle.ecma_scan.specs.Classes.{is_line_char}
 use Rattle.ecma_scan.specs.Runs.{Each}
 use Rattle.ecma_syntax.specs.Input.{Place, Input, div_goal, regexp_goal, template_goal, template_end_goal}
-use Rattle.ecma_spells.specs.Tiled.{Tile}
+use Rattle.ecma_program_text.specs.Tiled.{Tile}
 use Rattle.ecma_write.specs.Pages.{Page}
 use Rattle.ecma_pieces.specs.Pieces.{Mark}
 use Rattle.ecma_layout.specs.Looks.{Laid, nothing, one}

@@ -1,5 +1,5 @@
 use Rattle.std.proofs.Common.{◌≡◌, ◌++◌, map, option_map, drop, string_bytes}
-use Rattle.ecma_tokens.specs.Machine.{shown_spot}
+use Rattle.ecma_token_source.specs.Machine.{shown_spot}
 use Rattle.ecma_canonical.specs.Canonical.{canonical, text_behind}
 use Rattle.ecma_canonical.specs.Edges.{edge_in}
 use Rattle.ecma_canonical.proofs.written.Given as goal

@@ -2,7 +2,7 @@
 
 use crate::lexer::told::{failed, tell_next};
 use ecma_token::{BytePos, Error, Span, SyntaxError};
-use ecma_tokens::{Look, TokenContext, TokenContexts, Tokens};
+use ecma_token_source::{Look, TokenContext, TokenContexts, Tokens};
 use std::alloc::Global;
 
 /// The place that a step names.

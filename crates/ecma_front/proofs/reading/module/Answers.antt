@@ -4,8 +4,8 @@ use Rattle.ecma_node.specs.Placed.{inner}
 use Rattle.ecma_node.specs.View.{view_module}
 use Rattle.ecma_lexer.specs.Lexer.{state_in}
 use Rattle.ecma_lexer.specs.Machine.{lexer_machine}
-use Rattle.ecma_parsed.specs.Answered.{PromisedReading}
-use Rattle.ecma_parsed.proofs.TextLemmas.{new_reading}
+use Rattle.ecma_parser_laws.specs.Answered.{PromisedReading}
+use Rattle.ecma_parser_laws.proofs.TextLemmas.{new_reading}
 use Rattle.ecma_front.proofs.Settings.{limit_taken}
 use Rattle.ecma_front.proofs.Settling.{taken, lacks}
 use Rattle.ecma_front.proofs.reading.module.Goals as goal

@@ -1,6 +1,6 @@
 use Rattle.std.proofs.Common.{◌≡◌, ◌≤◌}
 use Rattle.ecma_node.specs.declared.knot.Expr.TheDeep.{size-Expr, size-Stmt}
-use Rattle.ecma_spells.specs.Choice.{telling}
+use Rattle.ecma_program_text.specs.Choice.{telling}
 use Rattle.ecma_tree.specs.Folds.{fold}
 use Rattle.ecma_goal.proofs.knot.+tells.Given as goal
 

@@ -1,5 +1,5 @@
 use Rattle.std.proofs.Common.{◌≡◌, drop}
-use Rattle.ecma_spells.specs.Choice.{some_true, telling}
+use Rattle.ecma_program_text.specs.Choice.{some_true, telling}
 use Rattle.ecma_tree.specs.Folds.{folds}
 use Rattle.ecma_tree.specs.Tree.{trees_by, element_by}
 use Rattle.ecma_goal.proofs.parts.any_element.Given as goal

@@ -1,5 +1,5 @@
 use Rattle.std.proofs.Common.{◌≡◌, map, take}
-use Rattle.ecma_tokens.specs.Machine.{shown_spot}
+use Rattle.ecma_token_source.specs.Machine.{shown_spot}
 use Rattle.ecma_input.proofs.copies.clone_tokens.Given as goal
 
 -- the copies so far are those of the tokens so far

@@ -1,4 +1,4 @@
-use Rattle.ecma_printer.proofs.Steps.{◌▸◌, named_as}
+use Rattle.ecma_print_pieces.proofs.Steps.{◌▸◌, named_as}
 use Rattle.ecma_print_literals.proofs.names.print_identifier.Goals as goal
 
 pub returns : goal.returns

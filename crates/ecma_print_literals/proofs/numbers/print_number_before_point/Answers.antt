@@ -1,4 +1,4 @@
-use Rattle.ecma_printer.proofs.Steps.{◌▸◌}
+use Rattle.ecma_print_pieces.proofs.Steps.{◌▸◌}
 use Rattle.ecma_print_literals.proofs.numbers.print_number_before_point.Goals as goal
 
 pub returns : goal.returns

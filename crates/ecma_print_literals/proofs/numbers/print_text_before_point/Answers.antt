@@ -2,7 +2,7 @@ use Rattle.std.proofs.Common.{ap, Option}
 use Rattle.std.specs.Prelude.{option_map}
 use Rattle.ecma_layout.specs.Looks.{text}
 use Rattle.ecma_layout.specs.Literals.{number_bytes}
-use Rattle.ecma_printer.proofs.Steps.{laid_as}
+use Rattle.ecma_print_pieces.proofs.Steps.{laid_as}
 use Rattle.ecma_print_literals.proofs.Written.{with_point, without_point}
 use Rattle.ecma_print_literals.proofs.numbers.print_text_before_point.Goals as goal
 

@@ -1,6 +1,6 @@
 use Rattle.std.proofs.Common.{ap}
 use Rattle.ecma_layout.specs.Looks.{text}
-use Rattle.ecma_printer.proofs.Steps.{laid_as}
+use Rattle.ecma_print_pieces.proofs.Steps.{laid_as}
 use Rattle.ecma_print_literals.proofs.Written.{kept, not_kept}
 use Rattle.ecma_print_literals.proofs.strings.print_read.Goals as goal
 

@@ -1,5 +1,5 @@
 use Rattle.ecma_layout.specs.Looks.{end}
-use Rattle.ecma_printer.proofs.Steps.{◌▸◌, when_as}
+use Rattle.ecma_print_pieces.proofs.Steps.{◌▸◌, when_as}
 use Rattle.ecma_print_literals.proofs.strings.print_string.Goals as goal
 
 pub returns : goal.returns

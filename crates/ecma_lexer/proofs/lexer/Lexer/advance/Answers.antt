@@ -1,6 +1,6 @@
 use Rattle.std.proofs.Common.{ap, sym, ◌∙◌}
 use Rattle.std.specs.Str.{chars}
-use Rattle.ecma_tokens.specs.Contexts.{outward}
+use Rattle.ecma_token_source.specs.Contexts.{outward}
 use Rattle.ecma_lexing.specs.States.{template_goal}
 use Rattle.ecma_lexer.specs.declared.lexer.Lexer.{Lexer}
 use Rattle.ecma_lexer.specs.Lexer.{state_in}

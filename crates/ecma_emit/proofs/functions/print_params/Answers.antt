@@ -1,5 +1,0 @@
-use Rattle.ecma_printer.proofs.Steps.{◌▸◌}
-use Rattle.ecma_emit.proofs.functions.print_params.Goals as goal
-
-pub returns : goal.returns
-returns g c = c.text.ensures ▸ (c.print_separated.ensures ▸ c.text-2.ensures)

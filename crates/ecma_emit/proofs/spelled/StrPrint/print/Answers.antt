@@ -1,9 +1,0 @@
-use Rattle.std.proofs.Common.{◌≡◌, ℕ, List, Option, refl, ap, ◌∙◌}
-use Rattle.std.specs.Prelude.{option_map}
-use Rattle.ecma_layout.specs.Literals.{string}
-use Rattle.ecma_printer.proofs.Steps.{◌▸◌, laid_as}
-use Rattle.ecma_emit.proofs.Chosen.{same_two}
-use Rattle.ecma_emit.proofs.spelled.StrPrint.print.Goals as goal
-
-pub returns-clause-laid : goal.returns-clause-laid
-returns-clause-laid g c = c.mark_expression.ensures ▸ laid_as (same_two (string c.args.look c.args.self.now.span) c.as_slice.ensures c.read_text.ensures) c.print_string.ensures

@@ -1,0 +1,90 @@
+//! Functions as expressions (15.2).
+ghost use Rattle.std.specs.Prelude.{◌≡◌, false, true, IfOk};
+ghost use Rattle.ecma_node.specs.Fits.{fits_fn_expr};
+ghost use Rattle.ecma_node.specs.Placed.{inner};
+ghost use Rattle.ecma_node.specs.View.{view_fn_expr};
+ghost use Rattle.ecma_reading.specs.Source as spec;
+ghost use Rattle.ecma_reading.specs.Expressions as reads;
+ghost use Rattle.ecma_parse_state.specs.Answers.{Falls, Gives};
+ghost use Rattle.ecma_parse_state.specs.Codes.{code_of};
+ghost use Rattle.ecma_parse_state.specs.Fronts.{machine_of};
+ghost use Rattle.ecma_parse_state.specs.Stands.{from, stand};
+ghost use Rattle.ecma_parse_base.specs.Operands.{tree_of};
+
+use crate::made;
+use ecma_node::{FnExpr, Ident};
+use ecma_parse_base::{Nested, Operand};
+use ecma_parse_functions::functions::function;
+use ecma_parse_functions::heads::star;
+use ecma_parse_state::code::by;
+use ecma_parse_state::{Around, Failure, Parser, kinds};
+use ecma_token::BytePos;
+use ecma_token_source::Tokens;
+
+/// What follows `function` and its star: a name or none, parameters and a body.
+#[inline(always)]
+#[tactic(auto, using(ecma_parse_state::proofs::Marks::marks), unfolding(ecma_reading::specs::Expressions::function_expr_name))]
+pub fn function_expr_name<'a, I: Tokens<'a> + Drop, N: Nested<'a, I>>(
+    p: &mut Parser<'a, I>,
+    nested: &N,
+    code: Around,
+    start: BytePos,
+    generator: bool,
+    is_async: bool,
+) -> Result<FnExpr, Failure>
+    requires ready { N.ready nested.now }
+    ensures value { Gives (λ x. (view_fn_expr inner x, stand I.state p.new)) result (reads.function_expr_name (machine_of I.machine) (N.reads nested.now I.State I.machine) (code_of code) (from start.0) generator is_async (stand I.state p.old)) }
+    ensures fits { IfOk result (λ x. fits_fn_expr (λ p. p) x) }
+    ensures shorter { Falls result (spec.bound (machine_of I.machine) (stand I.state p.new)) (spec.bound (machine_of I.machine) (stand I.state p.old)) }
+{
+    let ident = if p.at(kinds::LEFT_PAREN) {
+        None
+    } else {
+        let span = p.place();
+        let sym = p.name(by(generator, is_async, code))?;
+        Some(Ident { span, sym })
+    };
+    let function = function(p, nested, code, start, generator, is_async)?;
+    Ok(FnExpr {
+        span: p.since(start),
+        ident,
+        function,
+    })
+}
+
+/// A function from its word on, which begins at a mark.
+#[inline(always)]
+#[tactic(auto, unfolding(ecma_reading::specs::Expressions::function_expr_by))]
+pub fn function_expr<'a, I: Tokens<'a> + Drop, N: Nested<'a, I>>(
+    p: &mut Parser<'a, I>,
+    nested: &N,
+    code: Around,
+    start: BytePos,
+    is_async: bool,
+) -> Result<FnExpr, Failure>
+    requires ready { N.ready nested.now }
+    ensures value { Gives (λ x. (view_fn_expr inner x, stand I.state p.new)) result (reads.function_expr_by (machine_of I.machine) (N.reads nested.now I.State I.machine) (code_of code) (from start.0) is_async (stand I.state p.old)) }
+    ensures fits { IfOk result (λ x. fits_fn_expr (λ p. p) x) }
+    ensures shorter { Falls result (spec.bound (machine_of I.machine) (stand I.state p.new)) (spec.bound (machine_of I.machine) (stand I.state p.old)) }
+{
+    p.eat_word(code, kinds::FUNCTION)?;
+    let generator = star(p, nested)?;
+    function_expr_name(p, nested, code, start, generator, is_async)
+}
+
+/// A function as an operand.
+#[inline(never)]
+pub fn function_operand<'a, I: Tokens<'a> + Drop, N: Nested<'a, I>>(
+    p: &mut Parser<'a, I>,
+    nested: &N,
+    code: Around,
+    start: BytePos,
+    is_async: bool,
+) -> Result<Operand, Failure>
+    requires ready { N.ready nested.now }
+    ensures value { Gives (λ x. (tree_of x, stand I.state p.new)) result (reads.function_expr_by (machine_of I.machine) (N.reads nested.now I.State I.machine) (code_of code) (from start.0) is_async (stand I.state p.old)) }
+    ensures shorter { Falls result (spec.bound (machine_of I.machine) (stand I.state p.new)) (spec.bound (machine_of I.machine) (stand I.state p.old)) }
+{
+    let node = function_expr(p, nested, code, start, is_async)?;
+    made::fn_expr(p.alloc, node)
+}

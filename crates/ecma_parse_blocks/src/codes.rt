@@ -1,0 +1,48 @@
+//! What a rule tells the source; codes of fields and of static blocks.
+ghost use Rattle.std.specs.Prelude.{◌≡◌};
+ghost use Rattle.ecma_syntax.specs.Input as input;
+ghost use Rattle.ecma_reading.specs.Source as spec;
+ghost use Rattle.ecma_parse_state.specs.Codes.{code_of};
+ghost use Rattle.ecma_parse_state.specs.Fronts.{machine_of};
+ghost use Rattle.ecma_parse_state.specs.Stands.{stand};
+
+use ecma_parse_state::{Around, Parser};
+use ecma_token::Context;
+use ecma_token_source::Tokens;
+
+/// Tells the source behind the token that comes of the code around it.
+#[tactic(auto, unfolding(ecma_parse_state::specs::Fronts::machine_of))]
+pub fn turned<'a, I: Tokens<'a> + Drop>(p: &mut Parser<'a, I>, context: Context)
+    ensures value { stand I.state p.new ≡ spec.turned (machine_of I.machine) context (stand I.state p.old) }
+    ensures same { spec.bound (machine_of I.machine) (stand I.state p.new) ≡ spec.bound (machine_of I.machine) (stand I.state p.old) }
+{
+    p.input.set_ctx(context);
+}
+
+/// At the start of a field (ECMA-262, 15.7).
+pub fn in_field(code: Around) -> Around
+    ensures { code_of result ≡ input.in_field (code_of code) }
+{
+    let mut context = code.context;
+    context.include_in_expr = true;
+    context.in_generator = false;
+    context.in_async = false;
+    context.in_static_block = false;
+    Around { context, ..code }
+}
+
+/// In a static block (ECMA-262, 15.7).
+pub fn in_static(code: Around) -> Around
+    ensures { code_of result ≡ input.in_static (code_of code) }
+{
+    let mut context = code.context;
+    context.include_in_expr = true;
+    context.in_generator = false;
+    context.in_async = false;
+    context.in_static_block = true;
+    Around {
+        context,
+        listed: true,
+        ..code
+    }
+}

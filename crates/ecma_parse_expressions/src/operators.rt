@@ -1,0 +1,202 @@
+//! Operators, members and calls.
+ghost use Rattle.std.specs.Prelude.{◌≡◌, ◌≢◌, false, true, All, IfOk, IsTrue, map};
+ghost use Rattle.ecma_token.specs.OperatorKinds.{assign_op_kind, binary_op_kind};
+ghost use Rattle.ecma_syntax.specs.Input.{kind, kind2, lo};
+ghost use Rattle.ecma_node.specs.Fits.{fits_expr_or_spread, fits_member_prop};
+ghost use Rattle.ecma_node.specs.Placed.{holds_expr, inner};
+ghost use Rattle.ecma_node.specs.View.{unary_op_word, update_op_word, view_computed_prop_name, view_expr_or_spread, view_member_prop, view_private_name};
+ghost use Rattle.ecma_reading.specs.Source as spec;
+ghost use Rattle.ecma_reading.specs.Expressions as reads;
+ghost use Rattle.ecma_parse_state.specs.Answers.{Falls, Gives, going_on};
+ghost use Rattle.ecma_parse_state.specs.Codes.{code_of};
+ghost use Rattle.ecma_parse_state.specs.Fronts.{machine_of};
+ghost use Rattle.ecma_parse_state.specs.Stands.{from, from_span, stand};
+ghost use Rattle.ecma_parse_base.specs.Lists.{arguments_of, elements_of, FitArguments, FitElements};
+ghost use Rattle.ecma_parse_base.specs.Operands.{tree_of};
+
+use ecma_node::{IdentName, MemberProp};
+use ecma_parse_base::elements::arguments;
+use ecma_parse_base::names::{computed, private_name};
+use ecma_parse_base::operators::{assign_op, binary_op, update_op};
+use ecma_parse_base::{Nested, Operand, made};
+use ecma_parse_state::code::with_in;
+use ecma_parse_state::operators::{
+    ASSIGNMENT, CALL, COALESCE, EXPRESSION, MEMBER, NEW_LEVEL, UNARY, right_level,
+};
+use ecma_parse_state::{Around, Failure, Parser, kinds};
+use ecma_token::{AssignOp, BinaryOp, BytePos};
+use ecma_token_source::Tokens;
+
+/// `? :` after its test.
+#[inline(never)]
+#[tactic(auto, using(ecma_parse_state::proofs::Marks::marks), unfolding(ecma_reading::specs::Expressions::cond_by))]
+pub fn conditional<'a, I: Tokens<'a> + Drop, N: Nested<'a, I>>(
+    p: &mut Parser<'a, I>,
+    nested: &N,
+    code: Around,
+    start: BytePos,
+    test: Operand,
+) -> Result<Operand, Failure>
+    requires ready { N.ready nested.now }
+    ensures value { Gives (λ x. (tree_of x, stand I.state p.new)) result (reads.cond_by (machine_of I.machine) (N.reads nested.now I.State I.machine) (code_of code) (from start.0) (tree_of test) (stand I.state p.old)) }
+    ensures shorter { Falls result (spec.bound (machine_of I.machine) (stand I.state p.new)) (spec.bound (machine_of I.machine) (stand I.state p.old)) }
+{
+    p.bump()?;
+    let cons = nested.expr(p, with_in(code), ASSIGNMENT)?;
+    p.expect(kinds::COLON)?;
+    let alt = nested.expr(p, code, ASSIGNMENT)?;
+    made::cond_expr(p.alloc, p.since(start), test, cons, alt)
+}
+
+/// A binary operator and its right operand, after the left one.
+#[inline(never)]
+#[tactic(auto, using(ecma_parse_state::proofs::Marks::marks), unfolding(ecma_reading::specs::Expressions::binary_by))]
+pub fn binary<'a, I: Tokens<'a> + Drop, N: Nested<'a, I>>(
+    p: &mut Parser<'a, I>,
+    nested: &N,
+    code: Around,
+    start: BytePos,
+    op: BinaryOp,
+    left: Operand,
+) -> Result<Operand, Failure>
+    requires ready { N.ready nested.now }
+    requires op { binary_op_kind op ≡ kind (spec.input (machine_of I.machine) (stand I.state p.old)) }
+    requires some { kind (spec.input (machine_of I.machine) (stand I.state p.old)) ≢ 0 }
+    ensures value { Gives (λ x. (tree_of x, stand I.state p.new)) result (reads.binary_by (machine_of I.machine) (N.reads nested.now I.State I.machine) (code_of code) (from start.0) (tree_of left) (stand I.state p.old)) }
+    ensures shorter { Falls result (spec.bound (machine_of I.machine) (stand I.state p.new)) (spec.bound (machine_of I.machine) (stand I.state p.old)) }
+{
+    let kind = p.kind();
+    p.eat_word(code, kind)?;
+    let right = nested.expr(p, code, right_level(kind))?;
+    made::bin_expr(p.alloc, p.since(start), op, kind, left, right)
+}
+
+/// An assignment, after its target.
+#[inline(never)]
+#[tactic(auto, using(ecma_parse_state::proofs::Marks::marks), unfolding(ecma_reading::specs::Expressions::assign_by))]
+pub fn assignment<'a, I: Tokens<'a> + Drop, N: Nested<'a, I>>(
+    p: &mut Parser<'a, I>,
+    nested: &N,
+    code: Around,
+    start: BytePos,
+    op: AssignOp,
+    left: Operand,
+) -> Result<Operand, Failure>
+    requires ready { N.ready nested.now }
+    requires op { assign_op_kind op ≡ kind (spec.input (machine_of I.machine) (stand I.state p.old)) }
+    ensures value { Gives (λ x. (tree_of x, stand I.state p.new)) result (reads.assign_by (machine_of I.machine) (N.reads nested.now I.State I.machine) (code_of code) (from start.0) (tree_of left) (stand I.state p.old)) }
+    ensures shorter { Falls result (spec.bound (machine_of I.machine) (stand I.state p.new)) (spec.bound (machine_of I.machine) (stand I.state p.old)) }
+{
+    let target = nested.target(p, p.kind(), left)?;
+    p.bump()?;
+    let right = nested.expr(p, code, ASSIGNMENT)?;
+    made::assign_expr(p.alloc, p.since(start), op, target, right)
+}
+
+/// What follows a dot: a name, or a private one.
+#[inline(never)]
+#[tactic(auto, using(ecma_parse_state::proofs::Marks::marks), unfolding(ecma_reading::specs::Expressions::member_name))]
+pub fn member_name<'a, I: Tokens<'a> + Drop, N: Nested<'a, I>>(
+    p: &mut Parser<'a, I>,
+    nested: &N,
+) -> Result<MemberProp, Failure>
+    requires ready { N.ready nested.now }
+    ensures value { Gives (λ x. (view_member_prop inner x, stand I.state p.new)) result (reads.member_name (machine_of I.machine) (N.reads nested.now I.State I.machine) true (stand I.state p.old)) }
+    ensures fits { IfOk result (λ x. fits_member_prop (λ p. p) x) }
+    ensures shorter { Falls result (spec.bound (machine_of I.machine) (stand I.state p.new)) (spec.bound (machine_of I.machine) (stand I.state p.old)) }
+{
+    if p.at(kinds::HASH) {
+        return Ok(MemberProp::PrivateName(private_name(p, nested)?));
+    }
+    let span = p.place();
+    let sym = p.any_word()?;
+    Ok(MemberProp::Ident(IdentName { span, sym }))
+}
+
+/// A member by its name, after its object.
+#[inline(never)]
+#[tactic(auto, using(ecma_parse_state::proofs::Marks::marks), unfolding(ecma_reading::specs::Expressions::member_by))]
+pub fn member<'a, I: Tokens<'a> + Drop, N: Nested<'a, I>>(
+    p: &mut Parser<'a, I>,
+    nested: &N,
+    _code: Around,
+    start: BytePos,
+    obj: Operand,
+) -> Result<Operand, Failure>
+    requires ready { N.ready nested.now }
+    ensures value { Gives (λ x. (tree_of x, stand I.state p.new)) result (reads.member_by (machine_of I.machine) (N.reads nested.now I.State I.machine) (code_of _code) (from start.0) (tree_of obj) (stand I.state p.old)) }
+    ensures shorter { Falls result (spec.bound (machine_of I.machine) (stand I.state p.new)) (spec.bound (machine_of I.machine) (stand I.state p.old)) }
+{
+    p.bump()?;
+    let prop = member_name(p, nested)?;
+    made::member_of(p.alloc, p.since(start), obj, prop)
+}
+
+/// A member in brackets, after its object.
+#[inline(never)]
+#[tactic(auto, using(ecma_parse_state::proofs::Marks::marks), unfolding(ecma_reading::specs::Expressions::index_by))]
+pub fn index<'a, I: Tokens<'a> + Drop, N: Nested<'a, I>>(
+    p: &mut Parser<'a, I>,
+    nested: &N,
+    code: Around,
+    start: BytePos,
+    obj: Operand,
+) -> Result<Operand, Failure>
+    requires ready { N.ready nested.now }
+    ensures value { Gives (λ x. (tree_of x, stand I.state p.new)) result (reads.index_by (machine_of I.machine) (N.reads nested.now I.State I.machine) (code_of code) (from start.0) (tree_of obj) (stand I.state p.old)) }
+    ensures shorter { Falls result (spec.bound (machine_of I.machine) (stand I.state p.new)) (spec.bound (machine_of I.machine) (stand I.state p.old)) }
+{
+    let key = computed(p, nested, code, EXPRESSION)?;
+    made::member_of(p.alloc, p.since(start), obj, MemberProp::Computed(key))
+}
+
+/// A call, after its callee.
+#[inline(never)]
+#[tactic(auto, using(ecma_parse_state::proofs::Marks::marks, ecma_parse_base::proofs::Packs::packs), unfolding(ecma_reading::specs::Expressions::call_by))]
+pub fn call<'a, I: Tokens<'a> + Drop, N: Nested<'a, I>>(
+    p: &mut Parser<'a, I>,
+    nested: &N,
+    code: Around,
+    start: BytePos,
+    callee: Operand,
+) -> Result<Operand, Failure>
+    requires ready { N.ready nested.now }
+    ensures value { Gives (λ x. (tree_of x, stand I.state p.new)) result (reads.call_by (machine_of I.machine) (N.reads nested.now I.State I.machine) (code_of code) (from start.0) (tree_of callee) (stand I.state p.old)) }
+    ensures shorter { Falls result (spec.bound (machine_of I.machine) (stand I.state p.new)) (spec.bound (machine_of I.machine) (stand I.state p.old)) }
+{
+    p.bump()?;
+    let args = arguments(p, nested, code)?;
+    made::call_of(p.alloc, p.since(start), callee, args)
+}
+
+/// What follows `?.`, after its object.
+#[inline(always)]
+#[tactic(auto, using(ecma_parse_state::proofs::Marks::marks, ecma_parse_base::proofs::Packs::packs), unfolding(ecma_reading::specs::Expressions::chain_by))]
+pub fn chain<'a, I: Tokens<'a> + Drop, N: Nested<'a, I>>(
+    p: &mut Parser<'a, I>,
+    nested: &N,
+    code: Around,
+    start: BytePos,
+    obj: Operand,
+) -> Result<Operand, Failure>
+    requires ready { N.ready nested.now }
+    ensures value { Gives (λ x. (tree_of x, stand I.state p.new)) result (reads.chain_by (machine_of I.machine) (N.reads nested.now I.State I.machine) (code_of code) (from start.0) (tree_of obj) (stand I.state p.old)) }
+    ensures shorter { Falls result (spec.bound (machine_of I.machine) (stand I.state p.new)) (spec.bound (machine_of I.machine) (stand I.state p.old)) }
+{
+    if p.eat(kinds::LEFT_PAREN)? {
+        let args = arguments(p, nested, code)?;
+        return made::chain_call(p.alloc, p.since(start), true, obj, args);
+    }
+    if p.at(kinds::LEFT_BRACKET) {
+        let key = computed(p, nested, code, EXPRESSION)?;
+        return made::chain_member(
+            p.alloc,
+            p.since(start),
+            true,
+            obj,
+            MemberProp::Computed(key),
+        );
+    }
+    let prop = member_name(p, nested)?;
+    made::chain_member(p.alloc, p.since(start), true, obj, prop)
+}

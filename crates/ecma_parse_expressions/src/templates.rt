@@ -1,0 +1,198 @@
+//! Templates.
+ghost use Rattle.std.specs.Prelude.{◌≡◌, ◌++◌, ◌∷◌, [], false, true, IfErr, IfOk};
+ghost use Rattle.ecma_syntax.specs.Input.{content, first_span};
+ghost use Rattle.ecma_token.specs.Kinds.{template_kind};
+ghost use Rattle.ecma_node.specs.Fits.{fits_tpl};
+ghost use Rattle.ecma_node.specs.Placed.{inner};
+ghost use Rattle.ecma_node.specs.View.{view_tpl, view_tpl_element};
+ghost use Rattle.ecma_reading.specs.Source as spec;
+ghost use Rattle.ecma_reading.specs.Expressions as reads;
+ghost use Rattle.ecma_parse_state.specs.Answers.{Falls, Gives, going_on, IsMemory};
+ghost use Rattle.ecma_tree.specs.Tree.{pack, tpl};
+ghost use Rattle.ecma_parse_state.specs.Codes.{code_of};
+ghost use Rattle.ecma_parse_state.specs.Fronts.{machine_of};
+ghost use Rattle.ecma_parse_state.specs.Stands.{from, stand};
+ghost use Rattle.ecma_parse_base.specs.Lists.{spans_of, FitSpans};
+ghost use Rattle.ecma_parse_base.specs.Operands.{tree_of};
+ghost use Rattle.ecma_parse_expressions.specs.Pieces.{element_at, spans_by};
+ghost use Rattle.ecma_parse_expressions.specs.Steps.{tagged_by};
+
+use ecma_node::{Tpl, TplElement};
+use ecma_parse_base::lists::Spans;
+use ecma_parse_base::{Nested, Operand, literals, made};
+use ecma_parse_state::code::with_in;
+use ecma_parse_state::operators::EXPRESSION;
+use ecma_parse_state::{Around, Failure, Parser, kinds};
+use ecma_token::{BytePos, Span, Token};
+use ecma_token_source::Tokens;
+use std::alloc::Global;
+
+/// Adds characters and the expression behind them.
+fn add(spans: &mut Spans, element: TplElement, read: Operand) -> Result<(), Failure>
+    requires fits { FitSpans spans.old }
+    ensures exprs { IfOk result (λ _. (spans_of spans.new).exprs ≡ (spans_of spans.old).exprs ++ tree_of read ∷ []) }
+    ensures quasis { IfOk result (λ _. (spans_of spans.new).quasis ≡ (spans_of spans.old).quasis ++ view_tpl_element element ∷ []) }
+    ensures fits { IfOk result (λ _. FitSpans spans.new) }
+    ensures full { IfErr result IsMemory }
+{
+    spans.exprs.push(read.expr)?;
+    spans.quasis.push(element)?;
+    Ok(())
+}
+
+/// What ends the characters of a template: its end, or an expression. Whether more characters follow.
+#[inline(always)]
+#[tactic(auto, using(ecma_parse_state::proofs::Marks::marks), unfolding(ecma_reading::specs::Expressions::quasi_end))]
+pub fn characters_end<'a, I: Tokens<'a> + Drop, N: Nested<'a, I>>(
+    p: &mut Parser<'a, I>,
+    nested: &N,
+    code: Around,
+    tagged: bool,
+    element: TplElement,
+    spans: &mut Spans,
+) -> Result<bool, Failure>
+    requires ready { N.ready nested.now }
+    requires fits { FitSpans spans.old }
+    requires tail { element.tail ≡ false }
+    ensures value { Gives (λ x. (going_on x (spans_of spans.new), stand I.state p.new)) result (reads.quasi_end (machine_of I.machine) (N.reads nested.now I.State I.machine) (code_of code) tagged (spans_of spans.old) (element_at element) (stand I.state p.old)) }
+    ensures fits { IfOk result (λ _. FitSpans spans.new) }
+    ensures shorter { Falls result (spec.bound (machine_of I.machine) (stand I.state p.new)) (spec.bound (machine_of I.machine) (stand I.state p.old)) }
+{
+    let mut element = element;
+    let fits = tagged || element.cooked.is_some();
+    if p.eat(kinds::BACK_QUOTE)? {
+        if !fits {
+            return Err(p.unexpected());
+        }
+        element.tail = true;
+        spans.quasis.push(element)?;
+        return Ok(false);
+    }
+    p.expect(kinds::DOLLAR_BRACE)?;
+    let read = nested.expr(p, with_in(code), EXPRESSION)?;
+    p.expect(kinds::RIGHT_BRACE)?;
+    if !fits {
+        return Err(p.unexpected());
+    }
+    add(spans, element, read)?;
+    Ok(true)
+}
+
+/// The characters of a template that come. The token is let go here, so that a nested template has no such frame below it.
+#[inline(never)]
+#[tactic(auto, using(ecma_parse_state::proofs::Marks::marks), unfolding(ecma_reading::specs::Source::eat, ecma_parse_state::specs::Fronts::machine_of))]
+fn quasi<'a, I: Tokens<'a> + Drop, N: Nested<'a, I>>(
+    p: &mut Parser<'a, I>,
+    _nested: &N,
+) -> Result<TplElement, Failure>
+    ensures value { Gives (λ _. stand I.state p.new) result (spec.eat (machine_of I.machine) template_kind (stand I.state p.old)) }
+    ensures element { IfOk result (λ x. element_at x ≡ reads.quasi (machine_of I.machine) (N.reads _nested.now I.State I.machine) (content (spec.input (machine_of I.machine) (stand I.state p.old))) (first_span (spec.input (machine_of I.machine) (stand I.state p.old)))) }
+    ensures tail { IfOk result (λ x. x.tail ≡ false) }
+    ensures shorter { Falls result (spec.bound (machine_of I.machine) (stand I.state p.new)) (spec.bound (machine_of I.machine) (stand I.state p.old)) }
+{
+    let span = p.place();
+    let fault = p.unexpected();
+    let Some(token) = p.take()? else {
+        return Err(fault);
+    };
+    let Token::Template { raw, cooked } = token.into_token() else {
+        return Err(fault);
+    };
+    literals::tpl_element(p.alloc, span, raw, cooked)
+}
+
+/// The next characters of a template, and what ends them. Whether more follow.
+#[inline(always)]
+#[tactic(auto, using(ecma_parse_state::proofs::Marks::marks, crate::proofs::Steps::step_by))]
+pub fn characters<'a, I: Tokens<'a> + Drop, N: Nested<'a, I>>(
+    p: &mut Parser<'a, I>,
+    nested: &N,
+    code: Around,
+    tagged: bool,
+    spans: &mut Spans,
+) -> Result<bool, Failure>
+    requires ready { N.ready nested.now }
+    requires fits { FitSpans spans.old }
+    ensures value { Gives (λ x. (going_on x (spans_of spans.new), stand I.state p.new)) result (reads.quasi_step (machine_of I.machine) (N.reads nested.now I.State I.machine) (code_of code) tagged (spans_of spans.old) (stand I.state p.old)) }
+    ensures fits { IfOk result (λ _. FitSpans spans.new) }
+    ensures shorter { Falls result (spec.bound (machine_of I.machine) (stand I.state p.new)) (spec.bound (machine_of I.machine) (stand I.state p.old)) }
+{
+    let element = quasi(p, nested)?;
+    characters_end(p, nested, code, tagged, element, spans)
+}
+
+/// What stands in a template, after its first back quote.
+#[inline(always)]
+#[tactic(auto, using(ecma_parse_state::proofs::Iterate::iterates), unfolding(crate::specs::Pieces::spans_by))]
+pub fn spans<'a, I: Tokens<'a> + Drop, N: Nested<'a, I>>(
+    p: &mut Parser<'a, I>,
+    nested: &N,
+    code: Around,
+    tagged: bool,
+) -> Result<Spans, Failure>
+    requires ready { N.ready nested.now }
+    ensures value { Gives (λ x. (spans_of x, stand I.state p.new)) result (spans_by (machine_of I.machine) (N.reads nested.now I.State I.machine) (code_of code) tagged (stand I.state p.old)) }
+    ensures fits { IfOk result (λ x. FitSpans x) }
+    ensures shorter { Falls result (spec.bound (machine_of I.machine) (stand I.state p.new)) (spec.bound (machine_of I.machine) (stand I.state p.old)) }
+{
+    let mut spans = Spans {
+        exprs: Vec::new(p.alloc),
+        quasis: Vec::new(p.alloc),
+    };
+    'turns: while characters(p, nested, code, tagged, &mut spans)? {}
+    Ok(spans)
+}
+
+/// A template of what stands in it.
+#[tactic(auto, using(ecma_parse_base::proofs::Packs::packs))]
+fn template_of(alloc: Global, span: Span, read: Spans) -> Result<Box<Tpl>, Failure>
+    requires { FitSpans read }
+    ensures value { IfOk result (λ x. view_tpl inner x.value ≡ tpl span (pack (spans_of read).exprs) (pack (spans_of read).quasis)) }
+    ensures fits { IfOk result (λ x. fits_tpl (λ p. p) x.value) }
+    ensures full { IfErr result IsMemory }
+{
+    let node = Tpl {
+        span,
+        exprs: read.exprs,
+        quasis: read.quasis,
+    };
+    Ok(Box::new(alloc, node)?)
+}
+
+/// A template, from its first back quote on.
+#[inline(never)]
+#[tactic(auto, using(ecma_parse_state::proofs::Marks::marks), unfolding(ecma_reading::specs::Expressions::template_by, crate::specs::Pieces::spans_by))]
+pub fn template<'a, I: Tokens<'a> + Drop, N: Nested<'a, I>>(
+    p: &mut Parser<'a, I>,
+    nested: &N,
+    code: Around,
+    tagged: bool,
+) -> Result<Box<Tpl>, Failure>
+    requires ready { N.ready nested.now }
+    ensures value { Gives (λ x. (view_tpl inner x.value, stand I.state p.new)) result (reads.template_by (machine_of I.machine) (N.reads nested.now I.State I.machine) (code_of code) tagged (stand I.state p.old)) }
+    ensures fits { IfOk result (λ x. fits_tpl (λ p. p) x.value) }
+    ensures shorter { Falls result (spec.bound (machine_of I.machine) (stand I.state p.new)) (spec.bound (machine_of I.machine) (stand I.state p.old)) }
+{
+    let start = p.lo();
+    p.bump()?;
+    let read = spans(p, nested, code, tagged)?;
+    template_of(p.alloc, p.since(start), read)
+}
+
+/// A template behind its tag.
+#[inline(never)]
+#[tactic(auto, using(ecma_parse_state::proofs::Marks::marks), unfolding(crate::specs::Steps::tagged_by))]
+pub fn tagged<'a, I: Tokens<'a> + Drop, N: Nested<'a, I>>(
+    p: &mut Parser<'a, I>,
+    nested: &N,
+    code: Around,
+    start: BytePos,
+    tag: Operand,
+) -> Result<Operand, Failure>
+    requires ready { N.ready nested.now }
+    ensures value { Gives (λ x. (tree_of x, stand I.state p.new)) result (tagged_by (machine_of I.machine) (N.reads nested.now I.State I.machine) (code_of code) (from start.0) (tree_of tag) (stand I.state p.old)) }
+    ensures shorter { Falls result (spec.bound (machine_of I.machine) (stand I.state p.new)) (spec.bound (machine_of I.machine) (stand I.state p.old)) }
+{
+    let tpl = template(p, nested, code, true)?;
+    made::tagged_tpl(p.alloc, p.since(start), tag, tpl)
+}

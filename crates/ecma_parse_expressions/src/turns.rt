@@ -1,0 +1,204 @@
+//! The loop over the operators behind an operand.
+ghost use Rattle.std.specs.Prelude.{◌≡◌, ◌≢◌, false, true, ◌<◌, All, IfOk, IsTrue, map};
+ghost use Rattle.ecma_token.specs.Kinds.{question_mark_kind};
+ghost use Rattle.ecma_token.specs.OperatorKinds.{assign_op_kind, binary_op_kind};
+ghost use Rattle.ecma_syntax.specs.Input.{kind, kind2, lo};
+ghost use Rattle.ecma_node.specs.Fits.{fits_expr_or_spread, fits_member_prop};
+ghost use Rattle.ecma_node.specs.Placed.{holds_expr, inner};
+ghost use Rattle.ecma_node.specs.View.{unary_op_word, update_op_word, view_computed_prop_name, view_expr_or_spread, view_member_prop, view_private_name};
+ghost use Rattle.ecma_reading.specs.Source as spec;
+ghost use Rattle.ecma_reading.specs.Expressions as reads;
+ghost use Rattle.ecma_parse_state.specs.Answers.{Falls, Gives, going_on, Stays};
+ghost use Rattle.ecma_parse_state.specs.Codes.{code_of};
+ghost use Rattle.ecma_parse_state.specs.Fronts.{machine_of};
+ghost use Rattle.ecma_parse_state.specs.Stands.{from, from_span, stand};
+ghost use Rattle.ecma_parse_base.specs.Lists.{arguments_of, elements_of, FitArguments, FitElements};
+ghost use Rattle.ecma_parse_base.specs.Operands.{tree_of};
+ghost use Rattle.ecma_parse_expressions.specs.Steps.{postfix_by, question_by, sequence_by};
+
+use crate::operators::{assignment, binary, call, chain, conditional, index, member};
+use crate::sequences;
+use crate::templates::tagged;
+use ecma_node::UpdateOp;
+use ecma_parse_base::operators::{assign_op, binary_op, update_op};
+use ecma_parse_base::{Nested, Operand, made};
+use ecma_parse_state::operators::{ASSIGNMENT, CALL, COALESCE, MEMBER, NEW_LEVEL};
+use ecma_parse_state::{Around, Failure, Parser, kinds};
+use ecma_token::BytePos;
+use ecma_token_source::Tokens;
+
+/// A comma and one more expression.
+#[inline(never)]
+#[tactic(auto, using(ecma_parse_state::proofs::Marks::marks), unfolding(crate::specs::Steps::sequence_by))]
+pub fn sequence<'a, I: Tokens<'a> + Drop, N: Nested<'a, I>>(
+    p: &mut Parser<'a, I>,
+    nested: &N,
+    code: Around,
+    start: BytePos,
+    left: Operand,
+) -> Result<Operand, Failure>
+    requires ready { N.ready nested.now }
+    ensures value { Gives (λ x. (tree_of x, stand I.state p.new)) result (sequence_by (machine_of I.machine) (N.reads nested.now I.State I.machine) (code_of code) (from start.0) (tree_of left) (stand I.state p.old)) }
+    ensures shorter { Falls result (spec.bound (machine_of I.machine) (stand I.state p.new)) (spec.bound (machine_of I.machine) (stand I.state p.old)) }
+{
+    p.bump()?;
+    let right = nested.expr(p, code, ASSIGNMENT)?;
+    sequences::seq_expr(p.alloc, p.since(start), left, right)
+}
+
+/// A `?`: of a chain where a dot follows, else of a conditional.
+#[inline(never)]
+#[tactic(auto, using(ecma_parse_state::proofs::Marks::marks), unfolding(crate::specs::Steps::question_by))]
+pub fn question<'a, I: Tokens<'a> + Drop, N: Nested<'a, I>>(
+    p: &mut Parser<'a, I>,
+    nested: &N,
+    code: Around,
+    start: BytePos,
+    left: Operand,
+) -> Result<Operand, Failure>
+    requires ready { N.ready nested.now }
+    requires mark { kind (spec.input (machine_of I.machine) (stand I.state p.old)) ≡ question_mark_kind }
+    ensures value { Gives (λ x. (tree_of x, stand I.state p.new)) result (question_by (machine_of I.machine) (N.reads nested.now I.State I.machine) (code_of code) (from start.0) (tree_of left) (stand I.state p.old)) }
+    ensures shorter { Falls result (spec.bound (machine_of I.machine) (stand I.state p.new)) (spec.bound (machine_of I.machine) (stand I.state p.old)) }
+{
+    let (second, _) = p.second()?;
+    if second != kinds::DOT {
+        if left.level < COALESCE {
+            return Err(p.unexpected());
+        }
+        return conditional(p, nested, code, start, left);
+    }
+    if left.level < CALL {
+        return Err(p.unexpected());
+    }
+    p.bump()?;
+    p.bump()?;
+    chain(p, nested, code, start, left)
+}
+
+/// `++` or `--` behind its operand.
+#[inline(never)]
+#[tactic(auto, using(ecma_parse_state::proofs::Marks::marks), unfolding(crate::specs::Steps::postfix_by))]
+pub fn postfix<'a, I: Tokens<'a> + Drop>(
+    p: &mut Parser<'a, I>,
+    start: BytePos,
+    op: UpdateOp,
+    left: Operand,
+) -> Result<Operand, Failure>
+    requires mark { update_op_word op ≡ kind (spec.input (machine_of I.machine) (stand I.state p.old)) }
+    requires some { kind (spec.input (machine_of I.machine) (stand I.state p.old)) ≢ 0 }
+    ensures value { Gives (λ x. (tree_of x, stand I.state p.new)) result (postfix_by (machine_of I.machine) (from start.0) (tree_of left) (stand I.state p.old)) }
+    ensures shorter { Falls result (spec.bound (machine_of I.machine) (stand I.state p.new)) (spec.bound (machine_of I.machine) (stand I.state p.old)) }
+{
+    if left.level < NEW_LEVEL {
+        return Err(p.unexpected());
+    }
+    if p.breaks() {
+        return Err(p.unexpected());
+    }
+    p.bump()?;
+    made::postfix_expr(p.alloc, p.since(start), op, left)
+}
+
+/// One operator behind what was read.
+#[inline(never)]
+#[tactic(auto, using(ecma_parse_state::proofs::Marks::marks), unfolding(ecma_reading::specs::Expressions::step_by, crate::specs::Steps::sequence_by, crate::specs::Steps::question_by, crate::specs::Steps::postfix_by, crate::specs::Steps::tagged_by))]
+pub fn step<'a, I: Tokens<'a> + Drop, N: Nested<'a, I>>(
+    p: &mut Parser<'a, I>,
+    nested: &N,
+    code: Around,
+    start: BytePos,
+    left: Operand,
+) -> Result<Operand, Failure>
+    requires ready { N.ready nested.now }
+    ensures value { Gives (λ x. (tree_of x, stand I.state p.new)) result (reads.step_by (machine_of I.machine) (N.reads nested.now I.State I.machine) (code_of code) (from start.0) (tree_of left) (stand I.state p.old)) }
+    ensures shorter { Falls result (spec.bound (machine_of I.machine) (stand I.state p.new)) (spec.bound (machine_of I.machine) (stand I.state p.old)) }
+{
+    let kind = p.kind();
+    if kind == kinds::END {
+        return Err(p.unexpected());
+    }
+    if kind == kinds::COMMA {
+        return sequence(p, nested, code, start, left);
+    }
+    if let Some(op) = assign_op(kind) {
+        return assignment(p, nested, code, start, op, left);
+    }
+    if kind == kinds::QUESTION_MARK {
+        return question(p, nested, code, start, left);
+    }
+    if let Some(op) = binary_op(code, kind) {
+        if !made::fits_left(kind, &left) {
+            return Err(p.unexpected());
+        }
+        return binary(p, nested, code, start, op, left);
+    }
+    if let Some(op) = update_op(kind) {
+        return postfix(p, start, op, left);
+    }
+    if left.level < CALL {
+        return Err(p.unexpected());
+    }
+    match kind {
+        kinds::LEFT_PAREN => call(p, nested, code, start, left),
+        kinds::LEFT_BRACKET => index(p, nested, code, start, left),
+        kinds::DOT => member(p, nested, code, start, left),
+        kinds::BACK_QUOTE if !made::is_chain(&left) => tagged(p, nested, code, start, left),
+        _ => Err(p.unexpected()),
+    }
+}
+
+/// One operator behind what was read, if it binds as tightly as asked. Whether there was one.
+#[inline(always)]
+#[tactic(auto, using(ecma_parse_state::proofs::Marks::marks), unfolding(ecma_reading::specs::Expressions::loop_step))]
+pub fn turn<'a, I: Tokens<'a> + Drop, N: Nested<'a, I>>(
+    p: &mut Parser<'a, I>,
+    nested: &N,
+    code: Around,
+    least: u8,
+    start: BytePos,
+    left: Operand,
+) -> Result<(bool, Operand), Failure>
+    requires ready { N.ready nested.now }
+    ensures value { Gives (λ x. (going_on x.0 (tree_of x.1), stand I.state p.new)) result (reads.loop_step (machine_of I.machine) (N.reads nested.now I.State I.machine) (code_of code) least (from start.0) (tree_of left) (stand I.state p.old)) }
+    ensures shorter { IfOk result (λ x. IsTrue x.0 → spec.bound (machine_of I.machine) (stand I.state p.new) < spec.bound (machine_of I.machine) (stand I.state p.old)) }
+    ensures not_longer { Stays result (spec.bound (machine_of I.machine) (stand I.state p.new)) (spec.bound (machine_of I.machine) (stand I.state p.old)) }
+{
+    let level = p.goes(code, left.end)?;
+    if level < least {
+        return Ok((false, left));
+    }
+    let found = step(p, nested, code, start, left)?;
+    Ok((true, found))
+}
+
+/// All operators behind an operand that bind as tightly as asked.
+#[inline(never)]
+#[tactic(auto, using(ecma_parse_state::proofs::Iterate::iterates), unfolding(ecma_reading::specs::Expressions::loop_by))]
+pub fn operators<'a, I: Tokens<'a> + Drop, N: Nested<'a, I>>(
+    p: &mut Parser<'a, I>,
+    nested: &N,
+    code: Around,
+    least: u8,
+    start: BytePos,
+    first: Operand,
+) -> Result<Operand, Failure>
+    requires ready { N.ready nested.now }
+    ensures value { Gives (λ x. (tree_of x, stand I.state p.new)) result (reads.loop_by (machine_of I.machine) (N.reads nested.now I.State I.machine) (code_of code) least (from start.0) (tree_of first) (stand I.state p.old)) }
+    ensures not_longer { Stays result (spec.bound (machine_of I.machine) (stand I.state p.new)) (spec.bound (machine_of I.machine) (stand I.state p.old)) }
+{
+    if first.level < least {
+        if first.level == NEW_LEVEL && least == MEMBER {
+            return Ok(first);
+        }
+        return Err(p.unexpected());
+    }
+    let mut left = first;
+    'turns: loop {
+        let (more, found) = turn(p, nested, code, least, start, left)?;
+        left = found;
+        if !more {
+            return Ok(left);
+        }
+    }
+}

@@ -1,0 +1,41 @@
+//! Declarations of functions.
+ghost use Rattle.std.specs.Prelude.{IfOk};
+ghost use Rattle.ecma_node.specs.Placed.{holds_stmt, inner};
+ghost use Rattle.ecma_reading.specs.Source as spec;
+ghost use Rattle.ecma_reading.specs.Statements as reads;
+ghost use Rattle.ecma_parse_state.specs.Answers.{Falls, Gives};
+ghost use Rattle.ecma_parse_state.specs.Codes.{code_of};
+ghost use Rattle.ecma_parse_state.specs.Fronts.{machine_of};
+ghost use Rattle.ecma_parse_state.specs.Stands.{from, stand};
+
+use crate::functions::function;
+use crate::heads::star;
+use crate::made;
+use ecma_node::{Ident, StmtBox};
+use ecma_parse_base::Nested;
+use ecma_parse_state::{Around, Failure, Parser, kinds};
+use ecma_token::BytePos;
+use ecma_token_source::Tokens;
+
+/// A function with its name, from `function` on. Before it `async` may stand.
+#[inline(never)]
+#[tactic(auto, using(ecma_parse_state::proofs::Marks::marks), unfolding(ecma_reading::specs::Statements::function_decl_by))]
+pub fn function_decl<'a, I: Tokens<'a> + Drop, N: Nested<'a, I>>(
+    p: &mut Parser<'a, I>,
+    nested: &N,
+    code: Around,
+    start: BytePos,
+    is_async: bool,
+) -> Result<StmtBox, Failure>
+    requires ready { N.ready nested.now }
+    ensures value { Gives (λ x. (inner x.part.value, stand I.state p.new)) result (reads.function_decl_by (machine_of I.machine) (N.reads nested.now I.State I.machine) (code_of code) (from start.0) is_async (stand I.state p.old)) }
+    ensures holds { IfOk result (λ x. holds_stmt x.part.value) }
+    ensures shorter { Falls result (spec.bound (machine_of I.machine) (stand I.state p.new)) (spec.bound (machine_of I.machine) (stand I.state p.old)) }
+{
+    p.eat_word(code, kinds::FUNCTION)?;
+    let generator = star(p, nested)?;
+    let span = p.place();
+    let sym = p.name(code)?;
+    let read = function(p, nested, code, start, generator, is_async)?;
+    made::fn_decl(p.alloc, p.since(start), Ident { span, sym }, read)
+}

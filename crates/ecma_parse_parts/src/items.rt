@@ -1,0 +1,101 @@
+//! Finished statements and items: they nest no deeper than the limit, which is looked at first, and nothing of a cover is
+//! left.
+ghost use Rattle.std.specs.Prelude.{◌≡◌, ◌<◌, IfOk};
+ghost use Rattle.ecma_node.specs.Fits.{fits_module_item};
+ghost use Rattle.ecma_node.specs.Placed.{holds_stmt, inner};
+ghost use Rattle.ecma_node.specs.View.{view_module_item};
+ghost use Rattle.ecma_syntax.specs.Shape as shape;
+ghost use Rattle.ecma_reading.specs.Source as spec;
+ghost use Rattle.ecma_parse_state.specs.Answers.{Gives, Stays};
+ghost use Rattle.ecma_parse_state.specs.Codes.{code_of};
+ghost use Rattle.ecma_parse_state.specs.Fronts.{machine_of};
+ghost use Rattle.ecma_parse_state.specs.Stands.{stand};
+ghost use Rattle.ecma_parse_parts.specs.Items as parts;
+
+use crate::settle::{left_over, settle};
+use ecma_node::{Decl, ModuleItem, Stmt, StmtBox, StmtKind, VarDeclKind};
+use ecma_parse_programs::items::module_item;
+use ecma_parse_rules::Depth;
+use ecma_parse_rules::tie::parse_stmt;
+use ecma_parse_state::code::{alone, in_list};
+use ecma_parse_state::{Around, Failure, Parser};
+use ecma_token::SyntaxError;
+use ecma_token_source::Tokens;
+
+/// Whether a statement is one, and no declaration (ECMA-262, clause 14).
+fn is_statement(stmt: &Stmt) -> bool
+    ensures { result ≡ shape.is_statement stmt.now }
+{
+    match &stmt.kind {
+        StmtKind::Decl(Decl::Var(x)) => matches!(x.kind, VarDeclKind::Var),
+        StmtKind::Decl(_) => false,
+        _ => true,
+    }
+}
+
+/// A statement that is no declaration.
+///
+/// # Errors
+///
+/// Want of memory, a text that nests deeper, or a fault of the text.
+#[tactic(auto, unfolding(crate::specs::Items::statement_part))]
+pub fn statement_part<'a, I: Tokens<'a> + Drop>(
+    p: &mut Parser<'a, I>,
+    limit: u32,
+    code: Around,
+) -> Result<StmtBox, Failure>
+    requires { limit < 4294967295 }
+    ensures value { Gives (λ x. (inner x.part.value, stand I.state p.new)) result (parts.statement_part (machine_of I.machine) limit (code_of code) (stand I.state p.old)) }
+    ensures holds { IfOk result (λ x. holds_stmt x.part.value) }
+    ensures not_longer { Stays result (spec.bound (machine_of I.machine) (stand I.state p.new)) (spec.bound (machine_of I.machine) (stand I.state p.old)) }
+{
+    let start = p.lo();
+    let stmt = parse_stmt(p, limit, alone(code))?;
+    if !is_statement(stmt.get()) {
+        return Err(left_over(p, start, SyntaxError::DeclNotAllowed));
+    }
+    settle(p, start, limit, stmt)
+}
+
+/// A statement or a declaration.
+///
+/// # Errors
+///
+/// Want of memory, a text that nests deeper, or a fault of the text.
+#[tactic(auto, unfolding(crate::specs::Items::list_item_part))]
+pub fn list_item_part<'a, I: Tokens<'a> + Drop>(
+    p: &mut Parser<'a, I>,
+    limit: u32,
+    code: Around,
+) -> Result<StmtBox, Failure>
+    requires { limit < 4294967295 }
+    ensures value { Gives (λ x. (inner x.part.value, stand I.state p.new)) result (parts.list_item_part (machine_of I.machine) limit (code_of code) (stand I.state p.old)) }
+    ensures holds { IfOk result (λ x. holds_stmt x.part.value) }
+    ensures not_longer { Stays result (spec.bound (machine_of I.machine) (stand I.state p.new)) (spec.bound (machine_of I.machine) (stand I.state p.old)) }
+{
+    let start = p.lo();
+    let stmt = parse_stmt(p, limit, in_list(code))?;
+    settle(p, start, limit, stmt)
+}
+
+/// An item of a module: an import, an export, a statement or a declaration.
+///
+/// # Errors
+///
+/// Want of memory, a text that nests deeper, or a fault of the text.
+#[tactic(auto, unfolding(crate::specs::Items::module_item_part))]
+pub fn module_item_part<'a, I: Tokens<'a> + Drop>(
+    p: &mut Parser<'a, I>,
+    limit: u32,
+    code: Around,
+) -> Result<ModuleItem, Failure>
+    requires { limit < 4294967295 }
+    ensures value { Gives (λ x. (view_module_item inner x, stand I.state p.new)) result (parts.module_item_part (machine_of I.machine) limit (code_of code) (stand I.state p.old)) }
+    ensures fits { IfOk result (λ x. fits_module_item (λ p. p) x) }
+    ensures not_longer { Stays result (spec.bound (machine_of I.machine) (stand I.state p.new)) (spec.bound (machine_of I.machine) (stand I.state p.old)) }
+{
+    let start = p.lo();
+    p.operand()?;
+    let item = module_item(p, &Depth { levels: limit }, in_list(code))?;
+    settle(p, start, limit, item)
+}

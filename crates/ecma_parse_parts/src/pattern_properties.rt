@@ -1,0 +1,37 @@
+//! A property of a pattern, or its rest.
+ghost use Rattle.std.specs.Prelude.{IfOk};
+ghost use Rattle.ecma_node.specs.Fits.{fits_object_pat_prop};
+ghost use Rattle.ecma_node.specs.Placed.{inner};
+ghost use Rattle.ecma_node.specs.View.{view_object_pat_prop};
+ghost use Rattle.ecma_reading.specs.Source as spec;
+ghost use Rattle.ecma_parse_state.specs.Answers.{Gives, Stays};
+ghost use Rattle.ecma_parse_state.specs.Codes.{code_of};
+ghost use Rattle.ecma_parse_state.specs.Fronts.{machine_of};
+ghost use Rattle.ecma_parse_state.specs.Stands.{stand};
+ghost use Rattle.ecma_parse_parts.specs.Props.{item_by};
+
+use ecma_node::ObjectPatProp;
+use ecma_parse_base::Nested;
+use ecma_parse_patterns::patterns::object_rest;
+use ecma_parse_patterns::properties::property;
+use ecma_parse_state::{Around, Failure, Parser, kinds};
+use ecma_token_source::Tokens;
+
+/// A property of a pattern, or its rest.
+#[inline(never)]
+#[tactic(auto, unfolding(crate::specs::Props::item_by))]
+pub fn item<'a, I: Tokens<'a> + Drop, N: Nested<'a, I>>(
+    p: &mut Parser<'a, I>,
+    nested: &N,
+    code: Around,
+) -> Result<ObjectPatProp, Failure>
+    requires ready { N.ready nested.now }
+    ensures value { Gives (λ x. (view_object_pat_prop inner x, stand I.state p.new)) result (item_by (machine_of I.machine) (N.reads nested.now I.State I.machine) (code_of code) (stand I.state p.old)) }
+    ensures fits { IfOk result (λ x. fits_object_pat_prop (λ p. p) x) }
+    ensures not_longer { Stays result (spec.bound (machine_of I.machine) (stand I.state p.new)) (spec.bound (machine_of I.machine) (stand I.state p.old)) }
+{
+    if p.at(kinds::DOT_DOT_DOT) {
+        return object_rest(p, nested, code);
+    }
+    property(p, nested, code)
+}

@@ -1,0 +1,147 @@
+//! The rules over a parser.
+ghost use Rattle.std.specs.Prelude.{◌≡◌, ◌<◌, All, IfOk, map};
+ghost use Rattle.ecma_node.specs.Fits.{fits_assign_target, fits_block_stmt, fits_class};
+ghost use Rattle.ecma_node.specs.Placed.{inner, holds_pat, holds_stmt};
+ghost use Rattle.ecma_node.specs.View.{view_assign_target, view_block_stmt, view_class};
+ghost use Rattle.ecma_reading.specs.Source as spec;
+ghost use Rattle.ecma_reading.specs.Source.{Inner, Machine, Stand};
+ghost use Rattle.ecma_reading.specs.Expressions as reads;
+ghost use Rattle.ecma_reading.specs.Statements as stmts;
+ghost use Rattle.ecma_reading.specs.Reading.{readers};
+ghost use Rattle.ecma_parse_state.specs.Answers.{Gives};
+ghost use Rattle.ecma_parse_state.specs.Codes.{code_of};
+ghost use Rattle.ecma_parse_state.specs.Fronts.{Front, machine_of};
+ghost use Rattle.ecma_parse_state.specs.Stands.{stand};
+ghost use Rattle.ecma_parse_base.specs.Operands.{tree_of};
+ghost use Rattle.ecma_reading.specs.Cover.{to_target};
+ghost use Rattle.ecma_reading.specs.Expressions.{params_of};
+ghost use Rattle.ecma_parse_base.specs.Lists.{arguments_of};
+
+use crate::layer::{Inside, Layer, Stood};
+use ecma_node::{AssignTarget, BlockStmt, Class, PatBox, StmtBox};
+use ecma_parse_any_statement::class_tail;
+use ecma_parse_any_statement::statements::statement;
+use ecma_parse_base::lists::Arguments;
+use ecma_parse_base::{Nested, Operand};
+use ecma_parse_blocks::body::body;
+use ecma_parse_cover::params::{are_params, params};
+use ecma_parse_cover::targets::target;
+use ecma_parse_patterns::patterns::pattern;
+use ecma_parse_prefix::expressions::expr;
+use ecma_parse_state::{Around, Failure, Parser};
+use ecma_token::BytePos;
+use ecma_token_source::Tokens;
+
+/// What is inside, as the rules call it.
+#[derive(Drop)]
+pub struct Through<'n, N> {
+    pub inside: &'n N,
+}
+
+impl<'a, I: Tokens<'a> + Drop> Stood for Parser<'a, I> {
+    ghost State = { Front I.State };
+
+    ghost machine = { machine_of I.machine };
+
+    ghost stood = { λ p. stand I.state p };
+}
+
+impl<'a, 'n, I: Tokens<'a> + Drop, N: Inside<Parser<'a, I>>> Nested<'a, I> for Through<'n, N> {
+    ghost reads = { λ t State m. N.reads t.inside.now (Front State) (machine_of m) };
+
+    ghost ready = { λ t. N.ready t.inside.now };
+
+    #[inline(always)]
+    fn expr(&self, p: &mut Parser<'a, I>, code: Around, level: u8) -> Result<Operand, Failure> {
+        self.inside.expr(p, code, level)
+    }
+
+    #[inline(always)]
+    fn pat(&self, p: &mut Parser<'a, I>, code: Around) -> Result<PatBox, Failure> {
+        self.inside.pat(p, code)
+    }
+
+    #[inline(always)]
+    fn stmt(&self, p: &mut Parser<'a, I>, code: Around) -> Result<StmtBox, Failure> {
+        self.inside.stmt(p, code)
+    }
+
+    #[inline(always)]
+    fn body(&self, p: &mut Parser<'a, I>, code: Around) -> Result<BlockStmt, Failure> {
+        self.inside.body(p, code)
+    }
+
+    #[inline(always)]
+    fn class_tail(
+        &self,
+        p: &mut Parser<'a, I>,
+        code: Around,
+        whole: BytePos,
+    ) -> Result<Box<Class>, Failure> {
+        self.inside.class_tail(p, code, whole)
+    }
+
+    #[inline(never)]
+    fn target(&self, p: &Parser<'a, I>, kind: u8, left: Operand) -> Result<AssignTarget, Failure> {
+        target(p.alloc, p.commas.as_slice(), kind, left.expr)
+    }
+
+    #[tactic(auto, unfolding(ecma_reading::specs::Expressions::params_of))]
+    fn are_params(&self, p: &Parser<'a, I>, list: &Arguments) -> bool {
+        are_params(p.commas.as_slice(), list)
+    }
+
+    #[tactic(auto, unfolding(ecma_reading::specs::Expressions::params_of))]
+    fn params(&self, p: &Parser<'a, I>, list: Arguments) -> Result<Vec<PatBox>, Failure> {
+        params(p.alloc, p.commas.as_slice(), list)
+    }
+}
+
+impl<'a, I: Tokens<'a> + Drop> Layer for Parser<'a, I> {
+    #[inline(always)]
+    fn read_expr<N: Inside<Parser<'a, I>>>(
+        &mut self,
+        nested: &N,
+        code: Around,
+        level: u8,
+    ) -> Result<Operand, Failure> {
+        expr(self, &Through { inside: nested }, code, level)
+    }
+
+    #[inline(always)]
+    fn read_pat<N: Inside<Parser<'a, I>>>(
+        &mut self,
+        nested: &N,
+        code: Around,
+    ) -> Result<PatBox, Failure> {
+        pattern(self, &Through { inside: nested }, code)
+    }
+
+    #[inline(always)]
+    fn read_stmt<N: Inside<Parser<'a, I>>>(
+        &mut self,
+        nested: &N,
+        code: Around,
+    ) -> Result<StmtBox, Failure> {
+        statement(self, &Through { inside: nested }, code)
+    }
+
+    #[inline(always)]
+    fn read_body<N: Inside<Parser<'a, I>>>(
+        &mut self,
+        nested: &N,
+        code: Around,
+    ) -> Result<BlockStmt, Failure> {
+        body(self, &Through { inside: nested }, code)
+    }
+
+    #[inline(always)]
+    fn read_class_tail<N: Inside<Parser<'a, I>>>(
+        &mut self,
+        nested: &N,
+        code: Around,
+        whole: BytePos,
+    ) -> Result<Box<Class>, Failure> {
+        class_tail(self, &Through { inside: nested }, code, whole)
+    }
+}

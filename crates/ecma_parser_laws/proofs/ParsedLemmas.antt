@@ -1,0 +1,90 @@
+-- What is read of a source at a limit, beside what is derived from the tokens that it hands out.
+use Rattle.std.proofs.Common.{◌≡◌, ℕ, ◌+◌, ◌≤◌, ◌<◌, Bool, true, false, List, [], Result, Ok, Err, cond, leb, leb-true, leb-false, ⊎_elim, refl, sym, ap, ◌∙◌, subst, true≢false, arith}
+use Rattle.std.proofs.lemmas.Bool.{cases_Bool}
+use Rattle.ecma_token.specs.declared.syntax.EsSyntax.{EsSyntax}
+use Rattle.ecma_tree.specs.Tree.{Tree, script, es_module}
+use Rattle.ecma_nesting.specs.Nesting.{nesting}
+use Rattle.ecma_syntax.specs.Input.{Place}
+use Rattle.ecma_syntax.specs.Shape.{is_clean}
+use Rattle.ecma_program_text.specs.Text.{code_of}
+use Rattle.ecma_reading.specs.Source.{Fault, Unexpected, TooDeep, unexpected, ◌>>=◌, Machine, Stand}
+use Rattle.ecma_reading.specs.Modules.{program_by}
+use Rattle.ecma_reading.specs.Reading.{readers, finish, read_program, read_list}
+use Rattle.ecma_grammar_complete_base.specs.Laws.{InOrder}
+use Rattle.ecma_grammar_laws.specs.SteadyLaws.{Keeps}
+use Rattle.ecma_grammar_laws.proofs.SteadyLemmas.{programs_keep}
+use Rattle.ecma_grammar_complete.specs.Laws.{Decided}
+use Rattle.ecma_grammar_complete.proofs.WholeLemmas.{scripts_complete, modules_complete}
+use Rattle.ecma_sources.specs.Sources.{HandsOut, Orderly}
+use Rattle.ecma_sources.proofs.SourceLemmas.{programs_read}
+use Rattle.ecma_parser_laws.specs.Within.{within, program_within}
+use Rattle.ecma_parser_laws.specs.Parsed.{DerivesList, Judges, ProgramsJudged}
+
+-- what derives a list is what is read of it, or nests deeper
+list_decided : (modules : Bool) (limit : ℕ) (placed : Bool) (syntax : EsSyntax) (t : Tree) (start : ℕ) (places : List Place) → InOrder start places → DerivesList placed modules syntax start places t
+    → Decided (read_list limit modules syntax start places) t (limit < nesting t)
+list_decided false limit placed syntax (script s ss l) start places o d = scripts_complete limit placed syntax s ss l start places d.1 o d.2
+list_decided true limit placed syntax (es_module s ss l) start places o d = modules_complete limit placed syntax s ss l start places d.1 o d.2
+list_decided false limit placed syntax t start places o d = absurd (true≢false (sym d.0))
+list_decided true limit placed syntax t start places o d = absurd (true≢false (sym d.0))
+
+-- within its nesting it is read
+decided_at : (x : Result Tree Fault) (t : Tree) (P : Type 0) → (P → ⊥) → Decided x t P → x ≡ Ok t
+decided_at (Ok u) t P p h = ap Ok h
+decided_at (Err Unexpected) t P p h = absurd h
+decided_at (Err TooDeep) t P p h = absurd (p h)
+
+no_tree : {t : Tree} {e : Fault} → ◌≡◌ {A = Result Tree Fault} (Err e) (Ok t) → ⊥
+no_tree {t} {e} h = true≢false (sym (ap is_read h))
+  where
+    is_read : Result Tree Fault → Bool
+    is_read (Ok x) = true
+    is_read (Err x) = false
+
+tree_of : (u t : Tree) → ◌≡◌ {A = Result Tree Fault} (Ok u) (Ok t) → u ≡ t
+tree_of u t h = ap (read_or u) h
+  where
+    read_or : Tree → Result Tree Fault → Tree
+    read_or u (Ok x) = x
+    read_or u (Err e) = u
+
+module _ {S : Type 0} (m : Machine S) (Live : S → Type 0) (modules : Bool) (orderly : Orderly m Live modules) (limit : ℕ) (syntax : EsSyntax) (s : S) (live : Live s) where
+  module _ (placed : Bool) (ps : List Place) (u : Tree) (handed : HandsOut m ps s) (order : InOrder (m.last s) ps) (derived : DerivesList placed modules syntax (m.last s) ps u) where
+    -- at a limit that it doesn't pass it is read of the source
+    read_at : (d : ℕ) → nesting u ≤ d → read_program m d modules syntax s ≡ Ok u
+    read_at d h = programs_read m Live modules orderly d syntax s ps u live handed (decided_at _ u (d < nesting u) (λ z. omega (arith, z, h)) (list_decided modules d placed syntax u (m.last s) ps order derived))
+
+    -- and what is read at the limit is read at a larger one
+    read_later : Keeps (read_program m limit modules syntax s) (Ok u)
+    read_later = subst (λ (x : Result Tree Fault). Keeps (read_program m limit modules syntax s) x) (read_at (limit + nesting u) (omega arith)) (programs_keep m limit (limit + nesting u) modules syntax s (omega arith)).so
+
+    kept_as : (x : Result Tree Fault) → x ≡ read_program m limit modules syntax s → Keeps x (Ok u)
+    kept_as x e = subst (λ (x : Result Tree Fault). Keeps x (Ok u)) (sym e) read_later
+
+    -- too deep at the limit: it nests deeper
+    deeper : Err TooDeep ≡ read_program m limit modules syntax s → limit < nesting u
+    deeper e = ⊎_elim (λ (q : leb (nesting u) limit ≡ true). absurd (no_tree (e ∙ read_at limit (leb-true (nesting u) limit q)))) (λ (q : leb (nesting u) limit ≡ false). leb-false (nesting u) limit q) (cases_Bool (leb (nesting u) limit))
+
+  -- an answer of the reading, by whether anything of a cover is left, and by whether it nests too deep
+  clean_judged : (t : Tree) (b : Bool) → nesting t ≤ limit → cond {A = Result Tree Fault} b (Ok t) unexpected ≡ read_program m limit modules syntax s → Judges m modules syntax limit s (cond b (Ok t) unexpected)
+  clean_judged t true h e = (h, λ placed ps u g o d. tree_of u t (kept_as placed ps u g o d (Ok t) e))
+  clean_judged t false h e = λ placed ps u g o d. no_tree (sym (kept_as placed ps u g o d unexpected e))
+
+  deep_judged : (t : Tree) (b : Bool) → limit < nesting t → cond {A = Result Tree Fault} b (Ok t) unexpected ≡ read_program m limit modules syntax s → Judges m modules syntax limit s (Err TooDeep)
+  deep_judged t true h e = λ placed ps u g o d. subst (λ (x : Tree). limit < nesting x) (sym (tree_of u t (kept_as placed ps u g o d (Ok t) e))) h
+  deep_judged t false h e = λ placed ps u g o d. absurd (no_tree (sym (kept_as placed ps u g o d unexpected e)))
+
+  nested_judged : (x : Tree × Stand S) (b : Bool) → leb (nesting x.0) limit ≡ b → finish x ≡ read_program m limit modules syntax s → Judges m modules syntax limit s (cond {A = Result (Tree × Stand S) Fault} b (Ok x) (Err TooDeep) >>= finish)
+  unfolding finish
+  nested_judged x true q e = clean_judged x.0 (is_clean x.0) (leb-true (nesting x.0) limit q) e
+  nested_judged x false q e = deep_judged x.0 (is_clean x.0) (leb-false (nesting x.0) limit q) e
+
+  judged : (x : Result (Tree × Stand S) Fault) → (x >>= finish) ≡ read_program m limit modules syntax s → Judges m modules syntax limit s (x >>= within limit >>= finish)
+  unfolding within
+  judged (Ok x) e = nested_judged x (leb (nesting x.0) limit) refl e
+  judged (Err Unexpected) e = λ placed ps u g o d. no_tree (sym (kept_as placed ps u g o d (Err Unexpected) e))
+  judged (Err TooDeep) e = λ placed ps u g o d. deeper placed ps u g o d e
+
+pub programs_judged : {S : Type 0} (m : Machine S) (Live : S → Type 0) → ProgramsJudged m Live
+unfolding program_within read_program
+programs_judged m Live modules orderly limit syntax s live = judged m Live modules orderly limit syntax s live (program_by m (readers m limit) modules (code_of modules syntax) (record { source = s; commas = [] })) refl

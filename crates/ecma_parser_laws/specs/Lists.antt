@@ -1,0 +1,45 @@
+-- What a new parser of a list of tokens answers, by the trees that are derived from the whole list: the statements of the law.
+use Rattle.std.specs.Prelude.{◌≡◌, ◌≤◌, ℕ, Bool, false, List, [], Result}
+use Rattle.ecma_token.specs.declared.context.Context.{Context}
+use Rattle.ecma_token.specs.declared.error.Error.{Error}
+use Rattle.ecma_token.specs.declared.syntax.Syntax.{Syntax}
+use Rattle.ecma_token.specs.declared.version.EsVersion.{EsVersion}
+use Rattle.ecma_token.specs.Dialect.{parts_of}
+use Rattle.ecma_token.specs.Tokens.{Spot}
+use Rattle.ecma_token_source.specs.Machine.{Source}
+use Rattle.ecma_input.specs.Lists.{list_machine, start_of, list_in}
+use Rattle.ecma_tree.specs.Tree.{Tree}
+use Rattle.ecma_nesting.specs.Nesting.{nesting}
+use Rattle.ecma_early.specs.Early.{early_errors}
+use Rattle.ecma_grammar_complete_base.specs.Laws.{InOrder}
+use Rattle.ecma_program_text.specs.Text.{Setting}
+use Rattle.ecma_parse_state.specs.declared.parser.Parser.{Parser}
+use Rattle.ecma_parser.specs.Entries.{source_in, syntax_in, limit_in}
+use Rattle.ecma_input.specs.declared.rewinding.Rewinding.{Rewinding}
+use Rattle.ecma_parser.specs.declared.entries.Entries.{Entries}
+use Rattle.ecma_parser_laws.specs.Answered.{NewAnswer, Promised}
+use Rattle.ecma_parser_laws.specs.ListRead.{seen, ReadsList}
+
+-- A tree spells a list of tokens: it is derived from the whole list, no early error is listed, and it goes no deeper than the limit.
+pub record SpellsList (x : Setting) (modules : Bool) (start : ℕ) (spots : List Spot) (t : Tree) : Type 0 where
+  pub reads : ReadsList modules x.syntax start spots t
+  pub clean : early_errors x.syntax t ≡ []
+  pub within : nesting t ≤ x.limit
+
+-- What is answered of a list, and the faults that are recorded, by the trees that are derived from it and those that spell it.
+abbrev pub ListAnswered : Setting → Bool → ℕ → List Spot → {X : Type 0} → (X → Tree) → Result X Error → List Error → Type 0
+ListAnswered x modules start spots view result recorded = NewAnswer x (ReadsList modules x.syntax start spots) (SpellsList x modules start spots) view result recorded
+
+module _ {I : Type 0} (state : I → Source (List Spot)) where
+  -- A new parser of a list in the order of its places, which has recorded no fault, answers by the trees that are derived from the list: what an entry promises is so much.
+  abbrev pub ListsAnswered : {X : Type 0} → (X → Tree) → Type 0
+  ListsAnswered {X} view = (modules : Bool) (e : Entries (Parser (Rewinding I))) → e.started ≡ false → InOrder (source_in state e).settings.start (seen (source_in state e).tokens)
+      → (result : Result X Error) (recorded : List Error) → Promised list_machine state view modules e result [] recorded
+      → ListAnswered (record { syntax = syntax_in state e; limit = limit_in e }) modules (source_in state e).settings.start (source_in state e).tokens view result recorded
+
+  -- So does a parser over what `TokensInput::new` made of a list, by what that promises.
+  abbrev pub NewListAnswered : {X : Type 0} → (X → Tree) → Type 0
+  NewListAnswered {X} view = (modules : Bool) (spots : List Spot) (ctx : Context) (syntax : Syntax) (target : EsVersion) (e : Entries (Parser (Rewinding I))) → e.started ≡ false
+      → source_in state e ≡ list_in spots ctx syntax target → InOrder (start_of spots) (seen spots)
+      → (result : Result X Error) (recorded : List Error) → Promised list_machine state view modules e result [] recorded
+      → ListAnswered (record { syntax = parts_of syntax; limit = limit_in e }) modules (start_of spots) spots view result recorded

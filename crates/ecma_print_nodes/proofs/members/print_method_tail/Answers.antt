@@ -1,0 +1,11 @@
+use Rattle.std.proofs.Common.{ap}
+use Rattle.ecma_tree.specs.Tree.{trees_by}
+use Rattle.ecma_node.specs.View.{view_param}
+use Rattle.ecma_layout.specs.Layout.{separated, comma, in_parens}
+use Rattle.ecma_print_pieces.proofs.Steps.{◌▸◌, laid_as}
+use Rattle.ecma_print_nodes.proofs.members.print_method_tail.Goals as goal
+
+pub returns : goal.returns
+returns g c =
+    laid_as (ap (λ ps. in_parens (separated c.args.look (comma c.args.look) (trees_by (view_param g.T.Print.tree) ps))) c.as_slice.ensures.value) c.print_params.ensures
+    ▸ (c.gap.ensures ▸ c.print.ensures.laid)
