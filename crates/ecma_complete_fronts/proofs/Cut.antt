@@ -2,12 +2,12 @@
 use Rattle.std.proofs.Common.{◌≡◌, ◌<◌, ◌≤◌, ◌+◌, ℕ, suc, Bool, true, false, not, ◌&&◌, ◌||◌, ◌==◌, cond, eqb, nat_le, if◌then◌else◌, List, [], ◌∷◌, ◌++◌, refl, sym, ap, ap₂, ◌∙◌, subst, true≢false, arith, eqb-true}
 use Rattle.ecma_token.specs.Kinds.{end_kind, right_brace_kind, left_brace_kind, left_bracket_kind, dot_kind, template_kind, comma_kind, question_mark_kind, left_paren_kind, assign_kind, mul_kind, function_kind, class_kind, async_kind, case_kind, default_kind, let_kind, of_kind, get_kind, set_kind, static_kind}
 use Rattle.ecma_tree.specs.Tree.{Tree, ident}
-use Rattle.ecma_syntax.specs.Input.{Place, Input, Code, kind, kind_of, kind2, break_of, brk, content_of, lo_of, hi_of, others, rest, text, is_word, no_name, barred, Takes, TakesWord, TakesAnyWord, TakesName, TakesIn}
+use Rattle.ecma_syntax.specs.Input.{PlacedToken, Input, Code, kind, kind_of, kind2, break_of, brk, content_of, lo_of, hi_of, others, rest, text, is_word, no_name, barred, Takes, TakesWord, TakesAnyWord, TakesName, TakesIn}
 use Rattle.ecma_syntax.specs.Operators.{goes_expr, pauses, goes_on, is_assign_op, conditional_level, call_level, other_end, let_end, closed_end, may_name, starts_key}
 use Rattle.ecma_syntax.specs.Shape.{ends, is_name, field_end}
 use Rattle.ecma_grammar.specs.Statements.{starts_expression_statement, statement_end, starts_head, starts_of, starts_using, starts_pattern}
 use Rattle.ecma_grammar.specs.Modules.{starts_default}
-use Rattle.ecma_grammar.specs.Grammar.{Spells}
+use Rattle.ecma_grammar.specs.Grammar.{Produces}
 use Rattle.ecma_grammar_placed.specs.Laws.{placing}
 use Rattle.ecma_grammar_placed.proofs.Kin.{Kin}
 use Rattle.ecma_grammar_placed.proofs.Placed.{move}
@@ -17,28 +17,28 @@ use Rattle.ecma_complete_fronts.specs.Laws.{input_at, Closing, CutsOff}
 -- ---- a closing brace in place of a rest
 
 -- where the first token of the rest begins; the characters of a template may be none
-abbrev pub brace : Place → Place
+abbrev pub brace : PlacedToken → PlacedToken
 brace p = record p { spot = record p.spot { token = record p.spot.token { kind = right_brace_kind }; hi = if p.spot.token.kind == template_kind then p.spot.lo + 1 else p.spot.hi } }
 
-abbrev pub closing : List Place → List Place
+abbrev pub closing : List PlacedToken → List PlacedToken
 closing [] = []
 closing (p ∷ ps) = brace p ∷ []
 
-pub is_closing : (l : List Place) → Closing l (closing l)
+pub is_closing : (l : List PlacedToken) → Closing l (closing l)
 is_closing [] = refl
 is_closing (p ∷ l) = (brace p, refl)
 
 -- ---- tests of a front before a rest, and before the brace
 
 -- of a kind
-kinds_by : (P : ℕ → ℕ → Type 0) → ((n : ℕ) → P n n) → ((n : ℕ) → P n right_brace_kind) → (f l : List Place) → P (kind_of (f ++ l)) (kind_of (f ++ closing l))
+kinds_by : (P : ℕ → ℕ → Type 0) → ((n : ℕ) → P n n) → ((n : ℕ) → P n right_brace_kind) → (f l : List PlacedToken) → P (kind_of (f ++ l)) (kind_of (f ++ closing l))
 kinds_by P a b [] [] = a end_kind
 kinds_by P a b [] (p ∷ l) = b p.spot.token.kind
 kinds_by P a b (x ∷ f) l = a x.spot.token.kind
 
 -- of what stands second as well
-kept : (B : List Place → Bool) → ((p : Place) → B (brace p ∷ []) ≡ true) → ((x p : Place) (l : List Place) → B (x ∷ p ∷ l) ≡ true → B (x ∷ brace p ∷ []) ≡ true) → ((x y : Place) (l v : List Place) → B (x ∷ y ∷ l) ≡ B (x ∷ y ∷ v))
-    → (f l : List Place) → B (f ++ l) ≡ true → B (f ++ closing l) ≡ true
+kept : (B : List PlacedToken → Bool) → ((p : PlacedToken) → B (brace p ∷ []) ≡ true) → ((x p : PlacedToken) (l : List PlacedToken) → B (x ∷ p ∷ l) ≡ true → B (x ∷ brace p ∷ []) ≡ true) → ((x y : PlacedToken) (l v : List PlacedToken) → B (x ∷ y ∷ l) ≡ B (x ∷ y ∷ v))
+    → (f l : List PlacedToken) → B (f ++ l) ≡ true → B (f ++ closing l) ≡ true
 kept B a b d [] [] h = h
 kept B a b d [] (p ∷ l) h = a p
 kept B a b d (x ∷ []) [] h = h
@@ -54,14 +54,14 @@ begins_less false false false true e false g h = refl
 begins_less false false false false e true g h = refl
 begins_less false false false false e false g h = refl
 
-begins_kept : (f l : List Place) → starts_expression_statement (input_at 0 (f ++ l)) ≡ true → starts_expression_statement (input_at 0 (f ++ closing l)) ≡ true
+begins_kept : (f l : List PlacedToken) → starts_expression_statement (input_at 0 (f ++ l)) ≡ true → starts_expression_statement (input_at 0 (f ++ closing l)) ≡ true
 begins_kept f l h = kept (λ z. starts_expression_statement (input_at 0 z)) (λ p. refl) (λ x p l h. begins_less (x.spot.token.kind == left_brace_kind) (x.spot.token.kind == function_kind) (x.spot.token.kind == class_kind) (x.spot.token.kind == async_kind) ((p.spot.token.kind == function_kind) && not p.spot.line_break) (x.spot.token.kind == let_kind) (p.spot.token.kind == left_bracket_kind) h) (λ x y l v. refl) f l h
 
 off_by : (a : Bool) → not (a && false) ≡ true
 off_by true = refl
 off_by false = refl
 
-heads_kept : (f l : List Place) → starts_head (input_at 0 (f ++ l)) ≡ true → starts_head (input_at 0 (f ++ closing l)) ≡ true
+heads_kept : (f l : List PlacedToken) → starts_head (input_at 0 (f ++ l)) ≡ true → starts_head (input_at 0 (f ++ closing l)) ≡ true
 heads_kept f l h = kept (λ z. starts_head (input_at 0 z)) (λ p. refl) (λ x p l h. off_by _) (λ x y l v. refl) f l h
 
 ofs_less : (a b c d : Bool) → not (a || (b && (c && d))) ≡ true → not (a || (b && (c && false))) ≡ true
@@ -74,10 +74,10 @@ ofs_first : (w : Bool) → not (false || (not w && (false && false))) ≡ true
 ofs_first true = refl
 ofs_first false = refl
 
-ofs_kept : (w : Bool) (f l : List Place) → starts_of w (input_at 0 (f ++ l)) ≡ true → starts_of w (input_at 0 (f ++ closing l)) ≡ true
+ofs_kept : (w : Bool) (f l : List PlacedToken) → starts_of w (input_at 0 (f ++ l)) ≡ true → starts_of w (input_at 0 (f ++ closing l)) ≡ true
 ofs_kept w f l h = kept (λ z. starts_of w (input_at 0 z)) (λ p. ofs_first w) (λ x p l h. ofs_less _ _ _ _ h) (λ x y l v. refl) f l h
 
-usings_kept : (w : Bool) (f l : List Place) → starts_using w (input_at 0 (f ++ l)) ≡ true → starts_using w (input_at 0 (f ++ closing l)) ≡ true
+usings_kept : (w : Bool) (f l : List PlacedToken) → starts_using w (input_at 0 (f ++ l)) ≡ true → starts_using w (input_at 0 (f ++ closing l)) ≡ true
 usings_kept false f l h = kept (λ z. starts_using false (input_at 0 z)) (λ p. refl) (λ x p l h. refl) (λ x y l v. refl) f l h
 usings_kept true [] [] h = h
 usings_kept true [] (p ∷ l) h = refl
@@ -89,7 +89,7 @@ default_less false true c d e h = absurd (true≢false (sym h))
 default_less false false true d e h = refl
 default_less false false false d e h = refl
 
-defaults_kept : (f l : List Place) → starts_default (input_at 0 (f ++ l)) ≡ true → starts_default (input_at 0 (f ++ closing l)) ≡ true
+defaults_kept : (f l : List PlacedToken) → starts_default (input_at 0 (f ++ l)) ≡ true → starts_default (input_at 0 (f ++ closing l)) ≡ true
 defaults_kept f l h = kept (λ z. starts_default (input_at 0 z)) (λ p. refl) (λ x p l h. default_less (x.spot.token.kind == function_kind) (x.spot.token.kind == class_kind) (x.spot.token.kind == async_kind) (p.spot.token.kind == function_kind) (not p.spot.line_break) h) (λ x y l v. refl) f l h
 
 -- ---- what goes on, and what pauses
@@ -100,14 +100,14 @@ goes_less false true asks d y h = h
 goes_less false false true d y h = omega arith
 goes_less false false false d y h = h
 
-goes_kept : (c : Code) (f l : List Place) → goes_expr c other_end (input_at 0 (f ++ l)) < call_level → goes_expr c other_end (input_at 0 (f ++ closing l)) < call_level
+goes_kept : (c : Code) (f l : List PlacedToken) → goes_expr c other_end (input_at 0 (f ++ l)) < call_level → goes_expr c other_end (input_at 0 (f ++ closing l)) < call_level
 goes_kept c [] [] h = h
 goes_kept c [] (p ∷ l) h = omega arith
 goes_kept c (x ∷ []) [] h = h
 goes_kept c (x ∷ []) (p ∷ l) h = goes_less (x.spot.token.kind == comma_kind) (is_assign_op x.spot.token.kind) (x.spot.token.kind == question_mark_kind) (p.spot.token.kind == dot_kind) _ h
 goes_kept c (x ∷ (y ∷ f)) l h = h
 
-stays_kept : (c : Code) (e : ℕ) (f l : List Place) → pauses c e (input_at 0 (f ++ l)) ≡ true → pauses c e (input_at 0 (f ++ closing l)) ≡ true
+stays_kept : (c : Code) (e : ℕ) (f l : List PlacedToken) → pauses c e (input_at 0 (f ++ l)) ≡ true → pauses c e (input_at 0 (f ++ closing l)) ≡ true
 stays_kept c e [] [] h = h
 stays_kept c e [] (p ∷ l) h = refl
 stays_kept c e (x ∷ f) l h = pause_one c e x (f ++ closing l) (f ++ l) ∙ h
@@ -160,7 +160,7 @@ module _ (r : Input) where
   -- the same front, before the rest and before the brace
   pub record Like (a b : Input) : Type 0 where
     pub last : a.last ≡ b.last
-    pub front : List Place
+    pub front : List PlacedToken
     pub left : a.places ≡ front ++ r.places
     pub right : b.places ≡ front ++ closing r.places
     pub bare : front ≡ [] → a.last ≡ r.last
@@ -169,25 +169,25 @@ module _ (r : Input) where
   at_rest = record { last = refl; front = []; left = refl; right = refl; bare = λ e. refl }
 
   -- a test of the tokens alone
-  by_places : (P : List Place → List Place → Type 0) → ((f l : List Place) → P (f ++ l) (f ++ closing l)) → (a b : Input) → Like a b → P a.places b.places
+  by_places : (P : List PlacedToken → List PlacedToken → Type 0) → ((f l : List PlacedToken) → P (f ++ l) (f ++ closing l)) → (a b : Input) → Like a b → P a.places b.places
   by_places P g a b h = subst (λ z. P z b.places) (sym h.left) (subst (λ z. P (h.front ++ r.places) z) (sym h.right) (g h.front r.places))
 
-  breaks_kept : (f l : List Place) → break_of (f ++ l) ≡ break_of (f ++ closing l)
+  breaks_kept : (f l : List PlacedToken) → break_of (f ++ l) ≡ break_of (f ++ closing l)
   breaks_kept [] [] = refl
   breaks_kept [] (p ∷ l) = refl
   breaks_kept (x ∷ f) l = refl
 
-  contents_kept : (f l : List Place) → content_of (f ++ l) ≡ content_of (f ++ closing l)
+  contents_kept : (f l : List PlacedToken) → content_of (f ++ l) ≡ content_of (f ++ closing l)
   contents_kept [] [] = refl
   contents_kept [] (p ∷ l) = refl
   contents_kept (x ∷ f) l = refl
 
-  starts_kept : (n : ℕ) (f l : List Place) → lo_of n (f ++ l) ≡ lo_of n (f ++ closing l)
+  starts_kept : (n : ℕ) (f l : List PlacedToken) → lo_of n (f ++ l) ≡ lo_of n (f ++ closing l)
   starts_kept n [] [] = refl
   starts_kept n [] (p ∷ l) = refl
   starts_kept n (x ∷ f) l = refl
 
-  stops_kept : (n : ℕ) (f l : List Place) → (kind_of (f ++ l) ≡ template_kind → ⊥) → hi_of n (f ++ l) ≡ hi_of n (f ++ closing l)
+  stops_kept : (n : ℕ) (f l : List PlacedToken) → (kind_of (f ++ l) ≡ template_kind → ⊥) → hi_of n (f ++ l) ≡ hi_of n (f ++ closing l)
   stops_kept n [] [] h = refl
   stops_kept n [] (p ∷ l) h = by_kind (eqb p.spot.token.kind template_kind) (λ e. eqb-true p.spot.token.kind template_kind e)
     where
@@ -196,16 +196,16 @@ module _ (r : Input) where
       by_kind false e = refl
   stops_kept n (x ∷ f) l h = refl
 
-  nothing_kept : (f l : List Place) → f ++ l ≡ [] → f ++ closing l ≡ []
+  nothing_kept : (f l : List PlacedToken) → f ++ l ≡ [] → f ++ closing l ≡ []
   nothing_kept [] [] h = refl
   nothing_kept [] (p ∷ l) h = absurd (true≢false (sym (ap (λ z. nil z) h)))
     where
-      nil : List Place → Bool
+      nil : List PlacedToken → Bool
       nil [] = true
       nil (x ∷ z) = false
   nothing_kept (x ∷ f) l h = absurd (true≢false (sym (ap (λ z. nil z) h)))
     where
-      nil : List Place → Bool
+      nil : List PlacedToken → Bool
       nil [] = true
       nil (x ∷ z) = false
 
@@ -214,19 +214,19 @@ module _ (r : Input) where
 
   -- ---- tokens
 
-  abbrev first_of : List Place → List Place → List Place
+  abbrev first_of : List PlacedToken → List PlacedToken → List PlacedToken
   first_of [] q = []
   first_of (x ∷ xs) q = x ∷ q
 
   -- the first token before what stands behind it
-  took : (n : ℕ) (xs : List Place) (t q : Input) → input_at (hi_of n xs) (others xs) ≡ t → Like t q → Like (input_at n xs) (input_at n (first_of xs q.places))
+  took : (n : ℕ) (xs : List PlacedToken) (t q : Input) → input_at (hi_of n xs) (others xs) ≡ t → Like t q → Like (input_at n xs) (input_at n (first_of xs q.places))
   took n [] t q e l = record { last = refl; front = []; left = empty_left (ap (λ (z : Input). z.places) e ∙ l.left); right = empty_right (ap (λ (z : Input). z.places) e ∙ l.left); bare = λ i. empty_last (ap (λ (z : Input). z.places) e ∙ l.left) }
     where
-      empty_by : (f v : List Place) → [] ≡ f ++ v → (f ≡ []) × (v ≡ [])
+      empty_by : (f v : List PlacedToken) → [] ≡ f ++ v → (f ≡ []) × (v ≡ [])
       empty_by [] v i = (refl, sym i)
       empty_by (x ∷ f) v i = absurd (true≢false (ap (λ z. nil z) i))
         where
-          nil : List Place → Bool
+          nil : List PlacedToken → Bool
           nil [] = true
           nil (x ∷ z) = false
 
@@ -240,23 +240,23 @@ module _ (r : Input) where
       empty_last i = ap (λ (z : Input). z.last) e ∙ l.bare (empty_by l.front r.places i).0
   took n (x ∷ xs) t q e l = record { last = refl; front = x ∷ l.front; left = ap (λ v. x ∷ v) (ap (λ (z : Input). z.places) e ∙ l.left); right = ap (λ v. x ∷ v) l.right; bare = λ i. absurd (true≢false (sym (ap (λ z. nil z) i))) }
     where
-      nil : List Place → Bool
+      nil : List PlacedToken → Bool
       nil [] = true
       nil (y ∷ z) = false
 
-  rest_is : (n : ℕ) (xs : List Place) (t q : Input) → input_at (hi_of n xs) (others xs) ≡ t → Like t q → rest (input_at n (first_of xs q.places)) ≡ q
-  rest_is n [] t q e l = ap₂ (λ (a : ℕ) (v : List Place). input_at a v) (ap (λ (z : Input). z.last) e ∙ l.last) (sym (ended (ap (λ (z : Input). z.places) e)))
+  rest_is : (n : ℕ) (xs : List PlacedToken) (t q : Input) → input_at (hi_of n xs) (others xs) ≡ t → Like t q → rest (input_at n (first_of xs q.places)) ≡ q
+  rest_is n [] t q e l = ap₂ (λ (a : ℕ) (v : List PlacedToken). input_at a v) (ap (λ (z : Input). z.last) e ∙ l.last) (sym (ended (ap (λ (z : Input). z.places) e)))
     where
       ended : [] ≡ t.places → q.places ≡ []
       ended i = by_places (λ v u. v ≡ [] → u ≡ []) nothing_kept t q l (sym i)
   rest_is n (x ∷ xs) t q e l = ap (λ (a : ℕ). input_at a q.places) (ap (λ (z : Input). z.last) e ∙ l.last)
 
-  first_kind : (n : ℕ) (xs q : List Place) → kind_of (first_of xs q) ≡ kind_of xs
+  first_kind : (n : ℕ) (xs q : List PlacedToken) → kind_of (first_of xs q) ≡ kind_of xs
   first_kind n [] q = refl
   first_kind n (x ∷ xs) q = refl
 
   -- the same of whatever is seen of the first token
-  first_same : {A : Type 0} (B : List Place → A) → ((x : Place) (l v : List Place) → B (x ∷ l) ≡ B (x ∷ v)) → (xs q : List Place) → B (first_of xs q) ≡ B xs
+  first_same : {A : Type 0} (B : List PlacedToken → A) → ((x : PlacedToken) (l v : List PlacedToken) → B (x ∷ l) ≡ B (x ∷ v)) → (xs q : List PlacedToken) → B (first_of xs q) ≡ B xs
   first_same B f [] q = refl
   first_same B f (x ∷ xs) q = f x q xs
 
@@ -313,11 +313,11 @@ module _ (r : Input) where
 abbrev pub unplaced_by : Code → Code
 unplaced_by c = record c { placed = false }
 
--- the front, and what it spells before a brace
-pub cuts_to : (t : Tree) (c : Code) (ts r : Input) → Spells t c ts r → (front : List Place) × (ts.places ≡ front ++ r.places) × Spells t (unplaced_by c) (input_at ts.last (front ++ closing r.places)) (input_at r.last (closing r.places))
+-- the front, and what it produces before a brace
+pub cuts_to : (t : Tree) (c : Code) (ts r : Input) → Produces t c ts r → (front : List PlacedToken) × (ts.places ≡ front ++ r.places) × Produces t (unplaced_by c) (input_at ts.last (front ++ closing r.places)) (input_at r.last (closing r.places))
 unfolding cut
 cuts_to t c ts r h = let z = move false (cut r) t c ts r (input_at r.last (closing r.places)) h (at_rest r) in
-    (z.1.front, z.1.left, subst (λ (v : List Place). Spells t (unplaced_by c) (input_at ts.last v) (input_at r.last (closing r.places))) z.1.right (subst (λ (n : ℕ). Spells t (unplaced_by c) (input_at n z.0.places) (input_at r.last (closing r.places))) (sym z.1.last) z.2))
+    (z.1.front, z.1.left, subst (λ (v : List PlacedToken). Produces t (unplaced_by c) (input_at ts.last v) (input_at r.last (closing r.places))) z.1.right (subst (λ (n : ℕ). Produces t (unplaced_by c) (input_at n z.0.places) (input_at r.last (closing r.places))) (sym z.1.last) z.2))
 
 pub cuts_off : CutsOff
 cuts_off t c ts r h = let z = cuts_to t c ts r h in (z.0, closing r.places, z.1, is_closing r.places, z.2)

@@ -1,5 +1,5 @@
 -- The grammar (ECMA-262, clauses 13 to 16): a production for each node, in the order of the clauses.
-pub mod Parts
+pub mod Children
 pub mod Expressions
 pub mod Patterns
 pub mod Functions

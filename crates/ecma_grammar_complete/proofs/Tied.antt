@@ -1,4 +1,4 @@
--- The readers of every depth answer what a tree spells: by induction on the size of the tree, for all depths at once.
+-- The readers of every depth answer what a tree produces: by induction on the size of the tree, for all depths at once.
 use Rattle.std.proofs.Common.{◌≡◌, ℕ, zero, suc, ◌+◌, ◌<◌, ◌≤◌, max, Bool, true, false, not, ◌&&◌, ◌||◌, if◌then◌else◌, List, Option, Some, None, refl, sym, ap, ◌∙◌, subst, true≢false, arith}
 use Rattle.ecma_token.specs.declared.place.Span.{Span}
 use Rattle.ecma_tree.specs.Tree.{Tree, Trees, none, more, block_stmt, empty_stmt, debugger_stmt, with_stmt, return_stmt, labeled_stmt, break_stmt, continue_stmt, if_stmt, switch_stmt, throw_stmt, try_stmt, while_stmt, do_while_stmt, for_stmt, for_in_stmt, for_of_stmt, expr_stmt, class_decl, fn_decl, var_decl, using_decl, fn_expr, class_expr, class, function}
@@ -6,8 +6,8 @@ use Rattle.ecma_syntax.specs.Input.{Input, Code, kind, span, has_in}
 use Rattle.ecma_syntax.specs.Operators.{expression_level}
 use Rattle.ecma_syntax.specs.Shape.{level, ends, is_place, is_binding, is_item, is_statement, is_plain_function, class_span}
 use Rattle.ecma_grammar.specs.Functions.{Body}
-use Rattle.ecma_grammar.specs.Grammar.{Spells, parts}
-use Rattle.ecma_reading.specs.Source.{Stand, Inner}
+use Rattle.ecma_grammar.specs.Grammar.{Produces, children}
+use Rattle.ecma_reading.specs.Source.{State, Inner}
 use Rattle.ecma_reading.specs.Statements.{stmt_from, body_by, class_tail_by}
 use Rattle.ecma_reading.specs.Reading.{readers}
 use Rattle.ecma_grammar_complete_base.proofs.Yields.{lm, from, coded, Reads, Is, reads_deep, too_deep}
@@ -68,13 +68,13 @@ class_called _ s e = absurd (some_none s e)
 -- ---- what the readers by calls so deep answer, of trees of a size below a bound
 
 pub record Facts (z d : ℕ) : Type 0 where
-  pub expr : (t : Tree) (p : Bool) (c : Code) (l : ℕ) (ts r : Input) (k : List ℕ) → Small z t → Spells t (coded p c) ts r → 1 ≤ l → l < 20 → Asked l → l ≤ level t → Follow c (ends t) l r
+  pub expr : (t : Tree) (p : Bool) (c : Code) (l : ℕ) (ts r : Input) (k : List ℕ) → Small z t → Produces t (coded p c) ts r → 1 ≤ l → l < 20 → Asked l → l ≤ level t → Follow c (ends t) l r
       → Reads (from ts k) ((readers lm d).expr c l (from ts k)) (Is t r) (d < reach t)
-  pub head : (t : Tree) (p : Bool) (c : Code) (ts r : Input) (k : List ℕ) → Small z t → is_place false t ≡ true → Spells t (coded p c) ts r → ((e : ℕ) → e ≤ 1 → Follow c e 1 r) → Reads (from ts k) ((readers lm d).expr c expression_level (from ts k)) (IsHead t r) (d < reach t)
-  pub pat : (t : Tree) (p : Bool) (c : Code) (ts r : Input) (k : List ℕ) → Small z t → is_binding t ≡ true → Spells t (patterned p c) ts r → Reads (from ts k) ((readers lm d).pat c (from ts k)) (Is t r) (d < reach t)
-  pub stmt : (t : Tree) (p : Bool) (c : Code) (ts r : Input) (k : List ℕ) → Small z t → allowed c t ≡ true → Spells t (coded p c) ts r → may_follow (kind r) ≡ true → Reads (from ts k) ((readers lm d).stmt c (from ts k)) (Is t r) (d < reach t)
-  pub body : (s : Span) (ss : Trees) (p : Bool) (c : Code) (ts r : Input) (k : List ℕ) → Small z (block_stmt s ss) → Body (coded p c) s (parts ss) ts r → Reads (from ts k) ((readers lm d).body c (from ts k)) (Is (block_stmt s ss) r) (d < reach (block_stmt s ss))
-  pub class_tail : (t : Tree) (w : ℕ) (p : Bool) (c : Code) (ts r : Input) (k : List ℕ) → Small z t → has_in c ≡ true → class_span t ≡ Some (span w r.last) → Spells t (coded p c) ts r → Reads (from ts k) ((readers lm d).class_tail c w (from ts k)) (Is t r) (d < reach t)
+  pub head : (t : Tree) (p : Bool) (c : Code) (ts r : Input) (k : List ℕ) → Small z t → is_place false t ≡ true → Produces t (coded p c) ts r → ((e : ℕ) → e ≤ 1 → Follow c e 1 r) → Reads (from ts k) ((readers lm d).expr c expression_level (from ts k)) (IsHead t r) (d < reach t)
+  pub pat : (t : Tree) (p : Bool) (c : Code) (ts r : Input) (k : List ℕ) → Small z t → is_binding t ≡ true → Produces t (patterned p c) ts r → Reads (from ts k) ((readers lm d).pat c (from ts k)) (Is t r) (d < reach t)
+  pub stmt : (t : Tree) (p : Bool) (c : Code) (ts r : Input) (k : List ℕ) → Small z t → allowed c t ≡ true → Produces t (coded p c) ts r → may_follow (kind r) ≡ true → Reads (from ts k) ((readers lm d).stmt c (from ts k)) (Is t r) (d < reach t)
+  pub body : (s : Span) (ss : Trees) (p : Bool) (c : Code) (ts r : Input) (k : List ℕ) → Small z (block_stmt s ss) → Body (coded p c) s (children ss) ts r → Reads (from ts k) ((readers lm d).body c (from ts k)) (Is (block_stmt s ss) r) (d < reach (block_stmt s ss))
+  pub class_tail : (t : Tree) (w : ℕ) (p : Bool) (c : Code) (ts r : Input) (k : List ℕ) → Small z t → has_in c ≡ true → class_span t ≡ Some (span w r.last) → Produces t (coded p c) ts r → Reads (from ts k) ((readers lm d).class_tail c w (from ts k)) (Is t r) (d < reach t)
 
 abbrev pub nested : (z d : ℕ) → Facts z d → Nested
 nested z d f = record { inner = readers lm d; depth = d; Covered = Small z; reach = reach; expr = f.expr; head = f.head; pat = f.pat; stmt = f.stmt; body = f.body; class_tail = f.class_tail }
@@ -90,17 +90,17 @@ deep_of z d f = record {
 
 -- ---- one step
 
-stmt_next : (z : ℕ) → ((e : ℕ) → Facts z e) → (d : ℕ) (t : Tree) (p : Bool) (c : Code) (ts r : Input) (k : List ℕ) → Small (suc z) t → allowed c t ≡ true → Spells t (coded p c) ts r → may_follow (kind r) ≡ true → Reads (from ts k) ((readers lm d).stmt c (from ts k)) (Is t r) (d < reach t)
+stmt_next : (z : ℕ) → ((e : ℕ) → Facts z e) → (d : ℕ) (t : Tree) (p : Bool) (c : Code) (ts r : Input) (k : List ℕ) → Small (suc z) t → allowed c t ≡ true → Produces t (coded p c) ts r → may_follow (kind r) ≡ true → Reads (from ts k) ((readers lm d).stmt c (from ts k)) (Is t r) (d < reach t)
 unfolding readers
 stmt_next z f zero t p c ts r k sz a h q = too_deep _ _ (omega (arith, called_reach t (allowed_called c.listed t a)))
 stmt_next z f (suc d) t p c ts r k sz a h q = reads_deep (λ u. omega (arith, u, called_reach t (allowed_called c.listed t a))) (stmt_found (nested z d (f d)) p c ts k r t (inward z t sz) a h q)
 
-body_next : (z : ℕ) → ((e : ℕ) → Facts z e) → (d : ℕ) (s : Span) (ss : Trees) (p : Bool) (c : Code) (ts r : Input) (k : List ℕ) → Small (suc z) (block_stmt s ss) → Body (coded p c) s (parts ss) ts r → Reads (from ts k) ((readers lm d).body c (from ts k)) (Is (block_stmt s ss) r) (d < reach (block_stmt s ss))
+body_next : (z : ℕ) → ((e : ℕ) → Facts z e) → (d : ℕ) (s : Span) (ss : Trees) (p : Bool) (c : Code) (ts r : Input) (k : List ℕ) → Small (suc z) (block_stmt s ss) → Body (coded p c) s (children ss) ts r → Reads (from ts k) ((readers lm d).body c (from ts k)) (Is (block_stmt s ss) r) (d < reach (block_stmt s ss))
 unfolding readers
 body_next z f zero s ss p c ts r k sz h = too_deep _ _ (omega arith)
 body_next z f (suc d) s ss p c ts r k sz h = reads_deep (λ u. omega (arith, u, most_reaches ss)) (body_found (nested z d (f d)) p s ss c ts r k (each_small z ss (omega (arith, sz))) h)
 
-tail_next : (z : ℕ) → ((e : ℕ) → Facts z e) → (d : ℕ) (t : Tree) (w : ℕ) (p : Bool) (c : Code) (ts r : Input) (k : List ℕ) → Small (suc z) t → has_in c ≡ true → class_span t ≡ Some (span w r.last) → Spells t (coded p c) ts r → Reads (from ts k) ((readers lm d).class_tail c w (from ts k)) (Is t r) (d < reach t)
+tail_next : (z : ℕ) → ((e : ℕ) → Facts z e) → (d : ℕ) (t : Tree) (w : ℕ) (p : Bool) (c : Code) (ts r : Input) (k : List ℕ) → Small (suc z) t → has_in c ≡ true → class_span t ≡ Some (span w r.last) → Produces t (coded p c) ts r → Reads (from ts k) ((readers lm d).class_tail c w (from ts k)) (Is t r) (d < reach t)
 unfolding readers
 tail_next z f zero t w p c ts r k sz i e h = too_deep _ _ (omega (arith, called_reach t (class_called t (span w r.last) e)))
 tail_next z f (suc d) t w p c ts r k sz i e h = reads_deep (λ u. omega (arith, u, called_reach t (class_called t (span w r.last) e))) (class_tail_found (nested z d (f d)) p c i t w ts r k (inward z t sz) e h)

@@ -4,10 +4,10 @@ use Rattle.ecma_token.specs.declared.place.Span.{Span}
 use Rattle.ecma_token.specs.declared.syntax.EsSyntax.{EsSyntax}
 use Rattle.ecma_tree.specs.Tree.{Tree, Trees, script, es_module}
 use Rattle.ecma_nesting.specs.Nesting.{nesting}
-use Rattle.ecma_syntax.specs.Input.{Place, Input, Code, script_code, module_code}
+use Rattle.ecma_syntax.specs.Input.{PlacedToken, Input, Code, script_code, module_code}
 use Rattle.ecma_syntax.specs.Shape.{is_clean}
-use Rattle.ecma_grammar.specs.Grammar.{Spells, Derives}
-use Rattle.ecma_reading.specs.Source.{Fault, Unexpected, TooDeep, ◌>>=◌, Stand, list_machine}
+use Rattle.ecma_grammar.specs.Grammar.{Produces, Derives}
+use Rattle.ecma_reading.specs.Source.{Fault, Unexpected, TooDeep, ◌>>=◌, State, list_stream}
 use Rattle.ecma_reading.specs.Cover.{has}
 use Rattle.ecma_reading.specs.Modules.{program_by}
 use Rattle.ecma_reading.specs.Reading.{readers, finish, read_program, read_list}
@@ -26,15 +26,15 @@ use Rattle.ecma_grammar_complete.proofs.Nests.{reach_nests}
 fresh_start : (ts : Input) → InOrder ts.last ts.places → Fresh (from ts [])
 fresh_start ts o = record { order = o; below = λ n h. absurd (true≢false (sym h)) }
 
-answered : (s : Stand Input) (x : Result (Tree × Stand Input) Fault) (t : Tree) (r : Input) (P Q : Type 0) → (P → Q) → Yields x (λ y. Is t r y × After s y.1) P → Answered x t r Q
+answered : (s : State Input) (x : Result (Tree × State Input) Fault) (t : Tree) (r : Input) (P Q : Type 0) → (P → Q) → Yields x (λ y. Is t r y × After s y.1) P → Answered x t r Q
 answered s (Ok x) t r P Q f h = h.so.0
 answered s (Err Unexpected) t r P Q f h = h.so
 answered s (Err TooDeep) t r P Q f h = f h.so
 
-found : (ts r : Input) (x : Result (Tree × Stand Input) Fault) (t : Tree) (P Q : Type 0) → InOrder ts.last ts.places → (P → Q) → Reads (from ts []) x (Is t r) P → Answered x t r Q
+found : (ts r : Input) (x : Result (Tree × State Input) Fault) (t : Tree) (P Q : Type 0) → InOrder ts.last ts.places → (P → Q) → Reads (from ts []) x (Is t r) P → Answered x t r Q
 found ts r x t P Q o f h = answered (from ts []) x t r P Q f (h.so (fresh_start ts o))
 
-both_of : (x : Result (Tree × Stand Input) Fault) (t u : Tree) (r o : Input) (P Q : Type 0) → (P → ⊥) → (Q → ⊥) → Answered x t r P → Answered x u o Q → (t ≡ u) × (r ≡ o)
+both_of : (x : Result (Tree × State Input) Fault) (t u : Tree) (r o : Input) (P Q : Type 0) → (P → ⊥) → (Q → ⊥) → Answered x t r P → Answered x u o Q → (t ≡ u) × (r ≡ o)
 both_of (Ok x) t u r o P Q p q h g = (sym h.0 ∙ g.0, sym h.1 ∙ g.1)
 both_of (Err Unexpected) t u r o P Q p q h g = absurd h
 both_of (Err TooDeep) t u r o P Q p q h g = absurd (p h)
@@ -43,22 +43,22 @@ both_of (Err TooDeep) t u r o P Q p q h g = absurd (p h)
 
 pub expressions_complete : ExpressionsComplete
 expressions_complete limit placed c l t ts r o v s = found ts r _ t (limit < reach t) (limit < nesting t) o (λ h. omega (arith, h, reach_nests t))
-    ((complete (suc (size t)) limit).expr t placed c l ts r [] (omega arith) s.spelled v.least v.most v.asked s.tight s.follow)
+    ((complete (suc (size t)) limit).expr t placed c l ts r [] (omega arith) s.produced v.least v.most v.asked s.tight s.follow)
 
 pub one_expression : OneExpression
-one_expression p q c l t u ts r o w v s e = both_of ((readers list_machine (nesting t + nesting u)).expr c l (from ts [])) t u r o (nesting t + nesting u < nesting t) (nesting t + nesting u < nesting u) (λ h. omega (arith, h)) (λ h. omega (arith, h))
+one_expression p q c l t u ts r o w v s e = both_of ((readers list_stream (nesting t + nesting u)).expr c l (from ts [])) t u r o (nesting t + nesting u < nesting t) (nesting t + nesting u < nesting u) (λ h. omega (arith, h)) (λ h. omega (arith, h))
     (expressions_complete (nesting t + nesting u) p c l t ts r w v s) (expressions_complete (nesting t + nesting u) q c l u ts o w v e)
 
 pub patterns_complete : PatternsComplete
-patterns_complete limit placed c t ts r o b = found ts r _ t (limit < reach t) (limit < nesting t) o (λ h. omega (arith, h, reach_nests t)) ((complete (suc (size t)) limit).pat t placed c ts r [] (omega arith) b.binding b.spelled)
+patterns_complete limit placed c t ts r o b = found ts r _ t (limit < reach t) (limit < nesting t) o (λ h. omega (arith, h, reach_nests t)) ((complete (suc (size t)) limit).pat t placed c ts r [] (omega arith) b.binding b.produced)
 
 pub one_pattern : OnePattern
-one_pattern p q c t u ts r o w v e = both_of ((readers list_machine (nesting t + nesting u)).pat c (from ts [])) t u r o (nesting t + nesting u < nesting t) (nesting t + nesting u < nesting u) (λ h. omega (arith, h)) (λ h. omega (arith, h))
+one_pattern p q c t u ts r o w v e = both_of ((readers list_stream (nesting t + nesting u)).pat c (from ts [])) t u r o (nesting t + nesting u < nesting t) (nesting t + nesting u < nesting u) (λ h. omega (arith, h)) (λ h. omega (arith, h))
     (patterns_complete (nesting t + nesting u) p c t ts r w v) (patterns_complete (nesting t + nesting u) q c u ts o w e)
 
 -- ---- scripts
 
-decided : (x : Result (Tree × Stand Input) Fault) (t : Tree) (r : Input) (P : Type 0) → is_clean t ≡ true → Answered x t r P → Decided (x >>= finish) t P
+decided : (x : Result (Tree × State Input) Fault) (t : Tree) (r : Input) (P : Type 0) → is_clean t ≡ true → Answered x t r P → Decided (x >>= finish) t P
 unfolding finish
 decided (Ok x) t r P c h = clean (is_clean x.0) (subst (λ (y : Tree). is_clean y ≡ true) (sym h.0) c)
   where

@@ -1,12 +1,12 @@
-//! Laws of the grammar: what a tree spells is read within the limit of nesting, and no other tree spells it. The
+//! Laws of the grammar: what a tree produces is read within the limit of nesting, and no other tree produces it. The
 //! functions here are laws alone.
 #![tactic(auto)]
 
 ghost use Rattle.ecma_grammar_complete.specs.Laws.{ExpressionsComplete, ModulesComplete, NoModule, NoScript, OneExpression, OneModule, OnePattern, OneScript, PatternsComplete, ScriptsComplete};
 
-/// Law: what an expression spells, up to what doesn't go on at the level that is asked for, is what the
+/// Law: what an expression produces, up to what doesn't go on at the level that is asked for, is what the
 /// reader of expressions answers of these tokens, at every limit, or the expression nests deeper than
-/// the limit. So no other expression spells them. The same holds of patterns that bind.
+/// the limit. So no other expression produces them. The same holds of patterns that bind.
 #[tactic(auto)]
 pub fn parts_law()
     ensures expressions { ExpressionsComplete }

@@ -4,22 +4,22 @@ use Rattle.std.proofs.lemmas.Bool.{eqb-true, leb-true, and_parts, or_cases}
 use Rattle.ecma_token.specs.declared.place.Span.{Span}
 use Rattle.ecma_token.specs.Kinds.{accessor_kind, arrow_kind, hash_kind, dot_kind, dot_dot_dot_kind, left_paren_kind, left_bracket_kind, left_brace_kind, right_brace_kind, comma_kind, back_quote_kind, semicolon_kind, question_mark_kind, str_kind, num_kind, big_int_kind, regex_kind, mul_kind, this_kind, null_kind, true_kind, false_kind, await_kind, break_kind, case_kind, catch_kind, continue_kind, debugger_kind, default_kind, do_kind, for_kind, if_kind, return_kind, switch_kind, throw_kind, try_kind, while_kind, with_kind, new_kind, super_kind, class_kind, export_kind, import_kind, yield_kind, get_kind, set_kind, static_kind, using_kind, function_kind, target_kind, meta_kind, assign_kind, template_kind, colon_kind}
 use Rattle.ecma_tree.specs.Tree.{Tree, Trees, none, more, script, es_module, import_decl, export_decl, named_export, export_default_decl, export_default_expr, export_all, import_named_specifier, import_default_specifier, import_star_as_specifier, export_namespace_specifier, export_named_specifier, block_stmt, empty_stmt, debugger_stmt, with_stmt, return_stmt, labeled_stmt, break_stmt, continue_stmt, if_stmt, switch_stmt, switch_case, throw_stmt, try_stmt, catch_clause, while_stmt, do_while_stmt, for_stmt, for_in_stmt, for_of_stmt, expr_stmt, class_decl, fn_decl, var_decl, using_decl, var_declarator, function, param, class, constructor, class_method, private_method, class_prop, private_prop, static_block, auto_accessor, ident_name, computed_prop_name, private_name, this_expr, array_lit, object_lit, fn_expr, unary_expr, update_expr, bin_expr, assign_expr, member_expr, super_prop_expr, cond_expr, call_expr, new_expr, seq_expr, ident, tpl, tpl_element, tagged_tpl, arrow_expr, class_expr, yield_expr, meta_prop_expr, await_expr, paren_expr, opt_chain_expr, opt_call, super, import, expr_or_spread, spread_element, key_value_prop, assign_prop, getter_prop, setter_prop, method_prop, str_lit, bool_lit, null_lit, number_lit, big_int_lit, regex_lit, binding_ident, array_pat, rest_pat, object_pat, assign_pat, key_value_pat_prop, assign_pat_prop, expr_pat, list, absent, plain_method}
-use Rattle.ecma_syntax.specs.Input.{Place, Input, Code, kind, rest, others, is_word, Takes, TakesWord, with_in, assigning, binding, in_list, turned_strict, in_body, in_static, in_field, alone, setting, by, without_in, in_arrow}
+use Rattle.ecma_syntax.specs.Input.{PlacedToken, Input, Code, kind, rest, others, is_word, Takes, TakesWord, with_in, assigning, binding, in_list, turned_strict, in_body, in_static, in_field, alone, setting, by, without_in, in_arrow}
 use Rattle.ecma_syntax.specs.Operators.{is_assign_op, plain_end, source_end, exports_end, key_end}
 use Rattle.ecma_syntax.specs.Shape.{level, is_absent, is_hole, is_binding, is_bound_name, is_item_pat, is_place, is_key, is_private, is_item, is_use_strict, is_directive, is_star_import, is_default_import, is_star_export, is_named_import, is_member, is_case, is_default_case, is_rest, is_param, is_declarator, is_string, is_element, is_prop, is_named_export, ends, field_end, function_parts, FunctionParts, count_of, declarators_end}
-use Rattle.ecma_grammar.specs.Parts.{Part, part, By, IsEmpty, is_ident, Sorted, Listed, CommaThen, Commas, Items, Ends, AtEnd, Expr, is_module_item}
+use Rattle.ecma_grammar.specs.Children.{Child, child, By, IsEmpty, is_ident, Sorted, Listed, CommaThen, Commas, Items, Ends, AtEnd, Expr, is_module_item}
 use Rattle.ecma_grammar.specs.Expressions.{TemplateSpans, is_unary_op, is_update_op, ImportArguments, Bracketed, Dotted, Arguments, Optional, TemplateLiteral}
 use Rattle.ecma_grammar.specs.Patterns.{Item, Property}
 use Rattle.ecma_grammar.specs.Statements.{Cases, ClosesBlock, ClosesCase, ForRest, Over, Clause, InParens, UsingBindings, Bindings, ForOpen, ForAwaitOpen, is_var_word, statement_end, starts_head}
 use Rattle.ecma_grammar.specs.Functions.{Parameters, SetParameter, Members, Closes, Body, Star, Async, Static, FunctionHead, ArrowHead, ArrowParameters, ArrowPattern, BareName, Method, Initial, ClassMethod, Field}
 use Rattle.ecma_grammar.specs.Modules.{ImportClause, AfterDefault, NamedImports, Source, ExportName, Specified, ExportList, Hashbang}
-use Rattle.ecma_grammar.specs.Grammar.{Spells, parts}
+use Rattle.ecma_grammar.specs.Grammar.{Produces, children}
 use Rattle.ecma_grammar_complete_base.proofs.Yields.{len, took, shorter}
 use Rattle.ecma_grammar_complete_base.proofs.Trees.{by_cases, by_unary, by_update, takes, some_word, some_binary}
 
 -- ---- lengths
 
-passed_of : (ps : List Place) → length (others ps) ≤ length ps
+passed_of : (ps : List PlacedToken) → length (others ps) ≤ length ps
 passed_of [] = omega arith
 passed_of (p ∷ ps) = omega arith
 
@@ -98,31 +98,31 @@ var_some k h = ⊎_elim (λ (e : eqb k 117 ≡ true). omega (arith, eqb-true k 1
 
 -- the trees of a list take tokens
 abbrev pub Shrinks : Tree → Type 0
-Shrinks t = (c : Code) (ts r : Input) → Spells t c ts r → len r + least t ≤ len ts
+Shrinks t = (c : Code) (ts r : Input) → Produces t c ts r → len r + least t ≤ len ts
 
 abbrev AllShrink : Trees → Type 0
 AllShrink none = Unit {0}
 AllShrink (more t ts) = Shrinks t × AllShrink ts
 
--- what a part of a list spells
-abbrev Told : (Part → Input → Input → Type 0) → Type 0
-Told P = (x : Tree) (m n : Input) → P (part x (λ y. Spells x y)) m n → (d : Code) × Spells x d m n
+-- what a part of a list produces
+abbrev Told : (Child → Input → Input → Type 0) → Type 0
+Told P = (x : Tree) (m n : Input) → P (child x (λ y. Produces x y)) m n → (d : Code) × Produces x d m n
 
 told_sorted : (f : Tree → Bool) (c : Code) → Told (Sorted f c)
 told_sorted f c x m n h = (c, h.1)
 
-listed_cut : (holes : Bool) (P : Part → Input → Input → Type 0) (c : Code) (close : ℕ) (e : Told P) (xs : Trees) (ts r : Input) → AllShrink xs → Listed holes P c close (parts xs) ts r → len r ≤ len ts
+listed_cut : (holes : Bool) (P : Child → Input → Input → Type 0) (c : Code) (close : ℕ) (e : Told P) (xs : Trees) (ts r : Input) → AllShrink xs → Listed holes P c close (children xs) ts r → len r ≤ len ts
 listed_cut holes P c close e none ts r a h = passed ts r h.2
 listed_cut holes P c close e (more x xs) ts r a h = by_cases (holes && is_hole x) _ _ (len r ≤ len ts) h
     (λ q k. omega (arith, passed ts k.0 k.1.2, listed_cut holes P c close e xs k.0 r a.1 k.2))
     (λ q k. let y = e x ts k.0 k.1 in let z : len k.0 + least x ≤ len ts = a.0 y.0 ts k.0 y.1 in
     ⊎_elim (λ j. omega (arith, z, passed k.0 j.1 j.2.2, listed_cut holes P c close e xs j.1 r a.1 j.3)) (λ j. omega (arith, z, passed k.0 r j.1.2)) k.2)
 
-commas_cut : (P : Part → Input → Input → Type 0) (c : Code) (e : Told P) (xs : Trees) (ts r : Input) → AllShrink xs → CommaThen P c (parts xs) ts r → len r ≤ len ts
+commas_cut : (P : Child → Input → Input → Type 0) (c : Code) (e : Told P) (xs : Trees) (ts r : Input) → AllShrink xs → CommaThen P c (children xs) ts r → len r ≤ len ts
 commas_cut P c e none ts r a h = same ts r h
 commas_cut P c e (more x xs) ts r a h = let y = e x h.0 h.1 h.3 in omega (arith, passed ts h.0 h.2.2, a.0 y.0 h.0 h.1 y.1, commas_cut P c e xs h.1 r a.1 h.4)
 
-each_cut : (P : Part → Input → Input → Type 0) (c : Code) (e : Told P) (xs : Trees) (ts r : Input) → AllShrink xs → Commas P c (parts xs) ts r → len r ≤ len ts
+each_cut : (P : Child → Input → Input → Type 0) (c : Code) (e : Told P) (xs : Trees) (ts r : Input) → AllShrink xs → Commas P c (children xs) ts r → len r ≤ len ts
 each_cut P c e none ts r a h = absurd h
 each_cut P c e (more x xs) ts r a h = let y = e x ts h.0 h.1 in omega (arith, a.0 y.0 ts h.0 y.1, commas_cut P c e xs h.0 r a.1 h.2)
 
@@ -130,14 +130,14 @@ pub ends_cut : (c : Code) (e : ℕ) (m r : Input) → Ends c e m r → len r ≤
 ends_cut c e m r (inl h) = passed m r h.2
 ends_cut c e m r (inr h) = same m r h.2
 
-items_cut : (may : Tree → Bool) (close : Code → Input → Input → Type 0) (f : (c : Code) (m n : Input) → close c m n → len n ≤ len m) (ss : Trees) (c : Code) (b : Bool) (ts r : Input) → AllShrink ss → Items may close c b (parts ss) ts r → len r ≤ len ts
+items_cut : (may : Tree → Bool) (close : Code → Input → Input → Type 0) (f : (c : Code) (m n : Input) → close c m n → len n ≤ len m) (ss : Trees) (c : Code) (b : Bool) (ts r : Input) → AllShrink ss → Items may close c b (children ss) ts r → len r ≤ len ts
 items_cut may close f none c b ts r a h = f c ts r h
 items_cut may close f (more s ss) c b ts r a h = omega (arith, a.0 (in_list c) ts h.0 h.2, items_cut may close f ss (if b && is_use_strict s then turned_strict c else c) (b && is_directive s) h.0 r a.1 h.3)
 
 brace_cut : (c : Code) (m n : Input) → Takes c right_brace_kind m n → len n ≤ len m
 brace_cut c m n h = passed m n h.2
 
-body_cut : (ss : Trees) (c : Code) (s : Span) (ts r : Input) → AllShrink ss → Body c s (parts ss) ts r → len r < len ts
+body_cut : (ss : Trees) (c : Code) (s : Span) (ts r : Input) → AllShrink ss → Body c s (children ss) ts r → len r < len ts
 body_cut ss c s ts r a h = omega (arith, takes left_brace_kind ts h.0 h.1.0 (omega arith) h.1.2, items_cut is_item Closes brace_cut ss c true h.0 r a h.2)
 
 star_cut : (b : Bool) (c : Code) (ts r : Input) → Star b c ts r → len r ≤ len ts
@@ -155,59 +155,59 @@ static_cut false c ts r h = same ts r h
 head_cut : (g a : Bool) (c : Code) (ts r : Input) → FunctionHead g a c ts r → len r < len ts
 head_cut g a c ts r h = omega (arith, async_cut a c ts h.0 h.2, takes function_kind h.0 h.1 h.3.0 (omega arith) h.3.3, star_cut g c h.1 r h.4)
 
-parameters_cut : (ps : Trees) (c : Code) (ts r : Input) → AllShrink ps → Parameters c (parts ps) ts r → len r ≤ len ts
+parameters_cut : (ps : Trees) (c : Code) (ts r : Input) → AllShrink ps → Parameters c (children ps) ts r → len r ≤ len ts
 parameters_cut ps c ts r a h = omega (arith, passed ts h.0 h.1.2, listed_cut false (Sorted is_param c) c 8 (told_sorted is_param c) ps h.0 r a h.2)
 
-set_cut : (ps : Trees) (c : Code) (ts r : Input) → AllShrink ps → SetParameter c (parts ps) ts r → len r ≤ len ts
+set_cut : (ps : Trees) (c : Code) (ts r : Input) → AllShrink ps → SetParameter c (children ps) ts r → len r ≤ len ts
 set_cut none c ts r a h = absurd h
 set_cut (more x xs) c ts r a h = omega (arith, passed ts h.0 h.4.2, a.0 c h.0 h.1 h.5.1, passed h.1 r h.6.2)
 
-bare_cut : (ps : Trees) (c : Code) (ts r : Input) → AllShrink ps → BareName c (parts ps) ts r → len r ≤ len ts
+bare_cut : (ps : Trees) (c : Code) (ts r : Input) → AllShrink ps → BareName c (children ps) ts r → len r ≤ len ts
 bare_cut none c ts r a h = absurd h
 bare_cut (more x xs) c ts r a h = omega (arith, a.0 c ts r h.1.1)
 
-arrow_cut : (i : Bool) (ps : Trees) (c : Code) (ts r : Input) → AllShrink ps → ArrowHead i c (parts ps) ts r → len r < len ts
+arrow_cut : (i : Bool) (ps : Trees) (c : Code) (ts r : Input) → AllShrink ps → ArrowHead i c (children ps) ts r → len r < len ts
 arrow_cut i ps c ts r a h = let y : len h.1 ≤ len h.0 = ⊎_elim (λ k. bare_cut ps c h.0 h.1 a k) (λ k. omega (arith, passed h.0 k.0 k.1.2, listed_cut false (ArrowPattern c) c 8 (λ x m n q. (binding (with_in c), q.1)) ps k.0 h.1 a k.2)) h.3 in
     omega (arith, async_cut i c ts h.0 h.2, y, takes arrow_kind h.1 r h.5.0 (omega arith) h.5.2)
 
-members_cut : (xs : Trees) (c : Code) (ts r : Input) → AllShrink xs → Members c (parts xs) ts r → len r ≤ len ts
+members_cut : (xs : Trees) (c : Code) (ts r : Input) → AllShrink xs → Members c (children xs) ts r → len r ≤ len ts
 members_cut none c ts r a h = passed ts r h.2
 members_cut (more x xs) c ts r a h = omega (arith, a.0 c ts h.0 h.1.1, members_cut xs c h.0 r a.1 h.2)
 
-cases_cut : (xs : Trees) (c : Code) (b : Bool) (ts r : Input) → AllShrink xs → Cases c b (parts xs) ts r → len r ≤ len ts
+cases_cut : (xs : Trees) (c : Code) (b : Bool) (ts r : Input) → AllShrink xs → Cases c b (children xs) ts r → len r ≤ len ts
 cases_cut none c b ts r a h = passed ts r h.2
 cases_cut (more x xs) c b ts r a h = omega (arith, a.0 c ts h.0 h.2.1, cases_cut xs c (b || is_default_case x) h.0 r a.1 h.3)
 
-spans_cut : (b : Bool) (es qs : Trees) (c : Code) (ts r : Input) → AllShrink es → AllShrink qs → TemplateSpans b c (parts es) (parts qs) ts r → len r ≤ len ts
+spans_cut : (b : Bool) (es qs : Trees) (c : Code) (ts r : Input) → AllShrink es → AllShrink qs → TemplateSpans b c (children es) (children qs) ts r → len r ≤ len ts
 spans_cut b none none c ts r a z h = absurd h
 spans_cut b (more e es) none c ts r a z h = absurd h
 spans_cut b none (more q qs) c ts r a z h = omega (arith, z.0 c ts h.0 h.4.1, passed h.0 r h.5.2)
 spans_cut b (more e es) (more q qs) c ts r a z h = omega (arith, z.0 c ts h.0 h.6.1, passed h.0 h.1 h.7.2, a.0 (assigning (with_in c)) h.1 h.2 h.8.1, passed h.2 h.3 h.9.2, spans_cut b es qs c h.3 r a.1 z.1 h.10)
 
-import_cut : (xs : Trees) (c : Code) (ts r : Input) → AllShrink xs → ImportArguments c (parts xs) ts r → len r ≤ len ts
+import_cut : (xs : Trees) (c : Code) (ts r : Input) → AllShrink xs → ImportArguments c (children xs) ts r → len r ≤ len ts
 import_cut none c ts r a h = absurd h
 import_cut (more x xs) c ts r a h = by_cases c.syntax.import_attributes _ _ (len r ≤ len ts) h.1 (λ q y. listed_cut false (Sorted is_element c) c 8 (told_sorted is_element c) (more x xs) ts r a y.1) (λ q y. omega (arith, a.0 c ts y.1 y.2.1, passed y.1 r y.3.2))
 
-bindings_cut : (k : ℕ) (ds : Trees) (c : Code) (ts r : Input) → AllShrink ds → Bindings c k (parts ds) ts r → len r < len ts
+bindings_cut : (k : ℕ) (ds : Trees) (c : Code) (ts r : Input) → AllShrink ds → Bindings c k (children ds) ts r → len r < len ts
 bindings_cut k ds c ts r a h = omega (arith, takes k ts h.0 h.2.0 (var_some k h.1) h.2.3, each_cut (Sorted is_declarator c) c (told_sorted is_declarator c) ds h.0 r a h.3)
 
-using_cut : (w : Bool) (ds : Trees) (c : Code) (ts r : Input) → AllShrink ds → UsingBindings c w (parts ds) ts r → len r < len ts
+using_cut : (w : Bool) (ds : Trees) (c : Code) (ts r : Input) → AllShrink ds → UsingBindings c w (children ds) ts r → len r < len ts
 using_cut false ds c ts r a h = omega (arith, takes using_kind ts h.0 h.2.0 (omega arith) h.2.3, each_cut (Sorted is_declarator c) c (told_sorted is_declarator c) ds h.0 r a h.5)
 using_cut true ds c ts r a h = omega (arith, takes await_kind ts h.0 h.4.0 (omega arith) h.4.3, passed h.0 h.1 h.6.3, each_cut (Sorted is_declarator c) c (told_sorted is_declarator c) ds h.1 r a h.9)
 
-parens_cut : (e : Tree) (c : Code) (ts r : Input) → Shrinks e → InParens c (part e (λ y. Spells e y)) ts r → len r ≤ len ts
+parens_cut : (e : Tree) (c : Code) (ts r : Input) → Shrinks e → InParens c (child e (λ y. Produces e y)) ts r → len r ≤ len ts
 parens_cut e c ts r a h = omega (arith, passed ts h.0 h.2.2, a (assigning c) h.0 h.1 h.3.1, passed h.1 r h.4.2)
 
-clause_cut : (close : ℕ) (e : Tree) (c : Code) (ts r : Input) → Shrinks e → Clause c close (part e (λ y. Spells e y)) ts r → len r ≤ len ts
+clause_cut : (close : ℕ) (e : Tree) (c : Code) (ts r : Input) → Shrinks e → Clause c close (child e (λ y. Produces e y)) ts r → len r ≤ len ts
 clause_cut close e c ts r a h = let y : len h.0 ≤ len ts = by_cases (is_absent e) _ _ (len h.0 ≤ len ts) h.1 (λ q x. same ts h.0 x) (λ q x. omega (arith, a (assigning c) ts h.0 x.1)) in omega (arith, y, passed h.0 r h.2.2)
 
-rest_cut : (t u b : Tree) (c : Code) (ts r : Input) → Shrinks t → Shrinks u → Shrinks b → ForRest c (part t (λ y. Spells t y)) (part u (λ y. Spells u y)) (part b (λ y. Spells b y)) ts r → len r ≤ len ts
+rest_cut : (t u b : Tree) (c : Code) (ts r : Input) → Shrinks t → Shrinks u → Shrinks b → ForRest c (child t (λ y. Produces t y)) (child u (λ y. Produces u y)) (child b (λ y. Produces b y)) ts r → len r ≤ len ts
 rest_cut t u b c ts r x y z h = omega (arith, clause_cut 13 t c ts h.0 x h.2, clause_cut 8 u c h.0 h.1 y h.3, z (alone c) h.1 r h.4.1)
 
-over_cut : (word l : ℕ) (e b : Tree) (c : Code) (ts r : Input) → Shrinks e → Shrinks b → Over c word l (part e (λ y. Spells e y)) (part b (λ y. Spells b y)) ts r → len r ≤ len ts
+over_cut : (word l : ℕ) (e b : Tree) (c : Code) (ts r : Input) → Shrinks e → Shrinks b → Over c word l (child e (λ y. Produces e y)) (child b (λ y. Produces b y)) ts r → len r ≤ len ts
 over_cut word l e b c ts r x y h = omega (arith, passed ts h.0 h.3.3, x (assigning c) h.0 h.1 h.4.1, passed h.1 h.2 h.5.2, y (alone c) h.2 r h.6.1)
 
-init_cut : (i : Tree) (c : Code) (ts r : Input) → Shrinks i → By (is_absent i) (ts ≡ r) ((starts_head ts ≡ true) × Expr 1 (without_in c) (part i (λ y. Spells i y)) ts r) → len r ≤ len ts
+init_cut : (i : Tree) (c : Code) (ts r : Input) → Shrinks i → By (is_absent i) (ts ≡ r) ((starts_head ts ≡ true) × Expr 1 (without_in c) (child i (λ y. Produces i y)) ts r) → len r ≤ len ts
 init_cut i c ts r a h = by_cases (is_absent i) _ _ (len r ≤ len ts) h (λ q x. same ts r x) (λ q x. omega (arith, a (assigning (without_in c)) ts r x.1.1))
 
 open_cut : (c : Code) (ts r : Input) → ForOpen c ts r → len r < len ts
@@ -218,80 +218,80 @@ await_open_cut false c ts r h = open_cut c ts r h
 await_open_cut true c ts r h = omega (arith, takes for_kind ts h.0 h.3.0 (omega arith) h.3.3, passed h.0 h.1 h.4.3, passed h.1 r h.5.2)
 
 -- a function, and a method, with what stands before it
-made_function : (s : Span) (n f : Tree) (c : Code) (ts r : Input) → Spells (fn_decl s n f) c ts r → (m : Input) × (o : Input) × (len m < len ts) × Spells n c m o × Spells f (setting false c) o r
+made_function : (s : Span) (n f : Tree) (c : Code) (ts r : Input) → Produces (fn_decl s n f) c ts r → (m : Input) × (o : Input) × (len m < len ts) × Produces n c m o × Produces f (setting false c) o r
 made_function s n (function t ps ds b g a) c ts r h = (h.0, h.1, head_cut g a c ts h.0 h.2, h.3.1, h.4)
 made_function s n _ c ts r h = absurd h
 
-made_expression : (s : Span) (n f : Tree) (c : Code) (ts r : Input) → Spells (fn_expr s n f) c ts r → (m : Input) × (o : Input) × (d : Code) × (len m < len ts) × By (is_absent n) (m ≡ o) ((is_ident n ≡ true) × Spells n d m o) × Spells f (setting false c) o r
+made_expression : (s : Span) (n f : Tree) (c : Code) (ts r : Input) → Produces (fn_expr s n f) c ts r → (m : Input) × (o : Input) × (d : Code) × (len m < len ts) × By (is_absent n) (m ≡ o) ((is_ident n ≡ true) × Produces n d m o) × Produces f (setting false c) o r
 made_expression s n (function t ps ds b g a) c ts r h = (h.0, h.1, by g a c, head_cut g a c ts h.0 h.2, by_name h.3, h.4)
   where
-    by_name : By (is_absent n) (h.0 ≡ h.1) (Sorted is_ident (by g a c) (part n (λ y. Spells n y)) h.0 h.1) → By (is_absent n) (h.0 ≡ h.1) ((is_ident n ≡ true) × Spells n (by g a c) h.0 h.1)
-    by_name k = by_cases (is_absent n) _ _ (By (is_absent n) (h.0 ≡ h.1) ((is_ident n ≡ true) × Spells n (by g a c) h.0 h.1)) k (λ q x. rw q x) (λ q x. rw q (x.0, x.1))
+    by_name : By (is_absent n) (h.0 ≡ h.1) (Sorted is_ident (by g a c) (child n (λ y. Produces n y)) h.0 h.1) → By (is_absent n) (h.0 ≡ h.1) ((is_ident n ≡ true) × Produces n (by g a c) h.0 h.1)
+    by_name k = by_cases (is_absent n) _ _ (By (is_absent n) (h.0 ≡ h.1) ((is_ident n ≡ true) × Produces n (by g a c) h.0 h.1)) k (λ q x. rw q x) (λ q x. rw q (x.0, x.1))
 made_expression s n _ c ts r h = absurd h
 
-method_parts : (k : ℕ) (key f : Tree) (parts : FunctionParts) (c : Code) (ts r : Input) → Method c k (part key (λ y. Spells key y)) parts (part f (λ y. Spells f y)) ts r → (m : Input) × (o : Input) × (b : Bool) × (len m ≤ len ts) × Spells key c m o × Spells f (setting b c) o r
+method_parts : (k : ℕ) (key f : Tree) (own : FunctionParts) (c : Code) (ts r : Input) → Method c k (child key (λ y. Produces key y)) own (child f (λ y. Produces f y)) ts r → (m : Input) × (o : Input) × (b : Bool) × (len m ≤ len ts) × Produces key c m o × Produces f (setting b c) o r
 method_parts k key f q c ts r h = by_cases (k == plain_method) _ _ _ h
     (λ e x. (x.0, x.1, false, omega (arith, async_cut q.async c ts x.2.0 x.2.1, star_cut q.generator c x.2.0 x.0 x.2.2), x.3, x.4))
     (λ e x. (x.0, x.1, (k == set_kind), passed ts x.0 x.5.3, x.6, x.7))
 
-object_method : (s : Span) (k f : Tree) (c : Code) (ts r : Input) → Spells (method_prop s k f) c ts r → (m : Input) × (o : Input) × (b : Bool) × (len m ≤ len ts) × Spells k c m o × Spells f (setting b c) o r × (least f ≡ 1)
+object_method : (s : Span) (k f : Tree) (c : Code) (ts r : Input) → Produces (method_prop s k f) c ts r → (m : Input) × (o : Input) × (b : Bool) × (len m ≤ len ts) × Produces k c m o × Produces f (setting b c) o r × (least f ≡ 1)
 object_method s k (function t ps ds b g a) c ts r h = let y = method_parts plain_method k (function t ps ds b g a) (record { span = t; generator = g; async = a; count = count_of ps }) c ts r h.1 in (y.0, y.1, y.2, y.3, y.4, y.5, refl)
 object_method s k _ c ts r h = absurd h
 
-made_method : (may : Tree → Bool) (s : Span) (k f : Tree) (m : ℕ) (i : Bool) (c : Code) (ts r : Input) → ClassMethod may c s (part k (λ y. Spells k y)) (part f (λ y. Spells f y)) (function_parts f) m i ts r
-    → (x : Input) × (o : Input) × (b : Bool) × (len x ≤ len ts) × Spells k c x o × Spells f (setting b c) o r × (least f ≡ 1)
+made_method : (may : Tree → Bool) (s : Span) (k f : Tree) (m : ℕ) (i : Bool) (c : Code) (ts r : Input) → ClassMethod may c s (child k (λ y. Produces k y)) (child f (λ y. Produces f y)) (function_parts f) m i ts r
+    → (x : Input) × (o : Input) × (b : Bool) × (len x ≤ len ts) × Produces k c x o × Produces f (setting b c) o r × (least f ≡ 1)
 made_method may s k (function t ps ds b g a) m i c ts r h = let y = method_parts m k (function t ps ds b g a) (record { span = t; generator = g; async = a; count = count_of ps }) c h.0 r h.4 in (y.0, y.1, y.2, omega (arith, static_cut i c ts h.0 h.3, y.3), y.4, y.5, refl)
 made_method may s k _ m i c ts r h = absurd h
 
-initial_cut : (e : ℕ) (v : Tree) (c : Code) (ts r : Input) → Shrinks v → Initial c e (part v (λ y. Spells v y)) ts r → len r ≤ len ts
+initial_cut : (e : ℕ) (v : Tree) (c : Code) (ts r : Input) → Shrinks v → Initial c e (child v (λ y. Produces v y)) ts r → len r ≤ len ts
 initial_cut e v c ts r a h = by_cases (is_absent v) _ _ (len r ≤ len ts) h (λ q x. ends_cut c e ts r x) (λ q x. omega (arith, passed ts x.0 x.2.2, a (assigning (in_field c)) x.0 x.1 x.3.1, ends_cut c (ends v) x.1 r x.4))
 
-field_cut : (may : Tree → Bool) (s : Span) (k v : Tree) (i : Bool) (ds : Trees) (c : Code) (ts r : Input) → Shrinks k → Shrinks v → least k ≡ 1 → Field may c s (part k (λ y. Spells k y)) (part v (λ y. Spells v y)) i (parts ds) ts r → len r < len ts
+field_cut : (may : Tree → Bool) (s : Span) (k v : Tree) (i : Bool) (ds : Trees) (c : Code) (ts r : Input) → Shrinks k → Shrinks v → least k ≡ 1 → Field may c s (child k (λ y. Produces k y)) (child v (λ y. Produces v y)) i (children ds) ts r → len r < len ts
 field_cut may s k v i ds c ts r a z l h = omega (arith, l, static_cut i c ts h.0 h.4, a c h.0 h.1 h.5, initial_cut (field_end i (kind h.0)) v c h.1 r z h.6)
 
-bracketed_cut : (l : ℕ) (s : Span) (e : Tree) (c : Code) (ts r : Input) → Shrinks e → Bracketed l c s (part e (λ y. Spells e y)) ts r → len r < len ts
+bracketed_cut : (l : ℕ) (s : Span) (e : Tree) (c : Code) (ts r : Input) → Shrinks e → Bracketed l c s (child e (λ y. Produces e y)) ts r → len r < len ts
 bracketed_cut l s e c ts r a h = omega (arith, takes left_bracket_kind ts h.0 h.2.0 (omega arith) h.2.2, a (assigning (with_in c)) h.0 h.1 h.3.1, passed h.1 r h.4.2)
 
-dotted_cut : (b : Bool) (k : Tree) (c : Code) (ts r : Input) → Shrinks k → Dotted b c (part k (λ y. Spells k y)) ts r → len r < len ts
+dotted_cut : (b : Bool) (k : Tree) (c : Code) (ts r : Input) → Shrinks k → Dotted b c (child k (λ y. Produces k y)) ts r → len r < len ts
 dotted_cut b k c ts r a h = omega (arith, takes dot_kind ts h.0 h.1.0 (omega arith) h.1.2, a c h.0 r h.2.1)
 
-arguments_cut : (xs : Trees) (c : Code) (ts r : Input) → AllShrink xs → Arguments c (parts xs) ts r → len r < len ts
+arguments_cut : (xs : Trees) (c : Code) (ts r : Input) → AllShrink xs → Arguments c (children xs) ts r → len r < len ts
 arguments_cut xs c ts r a h = omega (arith, takes left_paren_kind ts h.0 h.1.0 (omega arith) h.1.2, listed_cut false (Sorted is_element c) c 8 (told_sorted is_element c) xs h.0 r a h.2)
 
 optional_cut : (c : Code) (ts r : Input) → Optional c ts r → len r < len ts
 optional_cut c ts r h = omega (arith, takes question_mark_kind ts h.0 h.1.0 (omega arith) h.1.2, passed h.0 r h.2.2)
 
-template_cut : (b : Bool) (s : Span) (es qs : Trees) (c : Code) (ts r : Input) → AllShrink es → AllShrink qs → TemplateLiteral b c s (parts es) (parts qs) ts r → len r < len ts
+template_cut : (b : Bool) (s : Span) (es qs : Trees) (c : Code) (ts r : Input) → AllShrink es → AllShrink qs → TemplateLiteral b c s (children es) (children qs) ts r → len r < len ts
 template_cut b s es qs c ts r a z h = omega (arith, takes back_quote_kind ts h.0 h.1.0 (omega arith) h.1.2, spans_cut b es qs c h.0 r a z h.2)
 
 -- modules
-pub export_name_cut : (o : Option (List ℕ × Span)) (t : Tree) (c : Code) (ts r : Input) → Shrinks t → ExportName c o (part t (λ y. Spells t y)) ts r → len r < len ts
+pub export_name_cut : (o : Option (List ℕ × Span)) (t : Tree) (c : Code) (ts r : Input) → Shrinks t → ExportName c o (child t (λ y. Produces t y)) ts r → len r < len ts
 export_name_cut (Some n) t c ts r a h = shorter ts r (some_word ts h.0.0) h.0.3
 export_name_cut None t c ts r a h = omega (arith, string_least t h.0, a c ts r h.1)
 
-source_cut : (f w : Tree) (c : Code) (ts r : Input) → Shrinks f → Shrinks w → Source c (part f (λ y. Spells f y)) (part w (λ y. Spells w y)) ts r → len r ≤ len ts
+source_cut : (f w : Tree) (c : Code) (ts r : Input) → Shrinks f → Shrinks w → Source c (child f (λ y. Produces f y)) (child w (λ y. Produces w y)) ts r → len r ≤ len ts
 source_cut f w c ts r a z h = let y : len r ≤ len h.0 = by_cases (is_absent w) _ _ (len r ≤ len h.0) h.2 (λ q x. ends_cut c source_end h.0 r x)
     (λ q x. let v : len x.1.0 ≤ len h.0 = ⊎_elim (λ k. passed h.0 x.1.0 k.3) (λ k. passed h.0 x.1.0 k.1.3) x.1.2 in omega (arith, v, z c x.1.0 x.0 x.1.4, ends_cut c plain_end x.0 r x.2)) in omega (arith, a c ts h.0 h.1.1, y)
 
-named_imports_cut : (xs : Trees) (c : Code) (ts r : Input) → AllShrink xs → NamedImports c (parts xs) ts r → len r ≤ len ts
+named_imports_cut : (xs : Trees) (c : Code) (ts r : Input) → AllShrink xs → NamedImports c (children xs) ts r → len r ≤ len ts
 named_imports_cut xs c ts r a h = omega (arith, passed ts h.0 h.1.2, listed_cut false (Sorted is_named_import c) c 12 (told_sorted is_named_import c) xs h.0 r a h.2)
 
-after_default_cut : (xs : Trees) (c : Code) (ts r : Input) → AllShrink xs → AfterDefault c (parts xs) ts r → len r ≤ len ts
+after_default_cut : (xs : Trees) (c : Code) (ts r : Input) → AllShrink xs → AfterDefault c (children xs) ts r → len r ≤ len ts
 after_default_cut none c ts r a (inl h) = same ts r h
 after_default_cut none c ts r a (inr h) = omega (arith, passed ts h.0 h.1.2, named_imports_cut none c h.0 r tt h.2)
 after_default_cut (more x xs) c ts r a h = let y : len r ≤ len h.0 = by_cases (is_star_import x) _ _ (len r ≤ len h.0) h.2 (λ q k. omega (arith, a.0 c h.0 r k.1)) (λ q k. named_imports_cut (more x xs) c h.0 r a k) in omega (arith, passed ts h.0 h.1.2, y)
 
-import_clause_cut : (xs : Trees) (c : Code) (ts r : Input) → AllShrink xs → ImportClause c (parts xs) ts r → len r ≤ len ts
+import_clause_cut : (xs : Trees) (c : Code) (ts r : Input) → AllShrink xs → ImportClause c (children xs) ts r → len r ≤ len ts
 import_clause_cut none c ts r a (inl h) = same ts r h
 import_clause_cut none c ts r a (inr h) = omega (arith, named_imports_cut none c ts h.0 tt h.1, passed h.0 r h.2.3)
 import_clause_cut (more x xs) c ts r a h = let y : len h.0 ≤ len ts = by_cases (is_default_import x) _ _ (len h.0 ≤ len ts) h.1 (λ q k. omega (arith, a.0 c ts k.0 k.1, after_default_cut xs c k.0 h.0 a.1 k.2))
     (λ q k. by_cases (is_star_import x) _ _ (len h.0 ≤ len ts) k (λ e j. omega (arith, a.0 c ts h.0 j.1)) (λ e j. named_imports_cut (more x xs) c ts h.0 a j)) in omega (arith, y, passed h.0 r h.2.3)
 
-export_list_cut : (xs : Trees) (f w : Tree) (c : Code) (ts r : Input) → AllShrink xs → Shrinks f → Shrinks w → ExportList c (parts xs) (part f (λ y. Spells f y)) (part w (λ y. Spells w y)) ts r → len r ≤ len ts
+export_list_cut : (xs : Trees) (f w : Tree) (c : Code) (ts r : Input) → AllShrink xs → Shrinks f → Shrinks w → ExportList c (children xs) (child f (λ y. Produces f y)) (child w (λ y. Produces w y)) ts r → len r ≤ len ts
 export_list_cut xs f w c ts r a z v h = let y : len r ≤ len h.0 = by_cases (is_absent f) _ _ (len r ≤ len h.0) h.2 (λ q x. ends_cut c exports_end h.0 r x.1) (λ q x. omega (arith, passed h.0 x.0 x.1.3, source_cut f w c x.0 r z v x.2)) in
     omega (arith, passed ts h.1.0 h.1.1.2, listed_cut false (Sorted is_named_export c) c 12 (told_sorted is_named_export c) xs h.1.0 h.0 a h.1.2, y)
 
-specified_cut : (xs : Trees) (f w : Tree) (c : Code) (ts r : Input) → AllShrink xs → Shrinks f → Shrinks w → Specified c (parts xs) (part f (λ y. Spells f y)) (part w (λ y. Spells w y)) ts r → len r ≤ len ts
+specified_cut : (xs : Trees) (f w : Tree) (c : Code) (ts r : Input) → AllShrink xs → Shrinks f → Shrinks w → Specified c (children xs) (child f (λ y. Produces f y)) (child w (λ y. Produces w y)) ts r → len r ≤ len ts
 specified_cut none f w c ts r a z v h = export_list_cut none f w c ts r tt z v h
 specified_cut (more x xs) f w c ts r a z v h = by_cases (is_star_export x) _ _ (len r ≤ len ts) h (λ q k. omega (arith, a.0 c ts k.1.0 k.1.2, passed k.1.0 k.1.1 k.1.3.3, source_cut f w c k.1.1 r z v k.1.4)) (λ q k. export_list_cut (more x xs) f w c ts r a z v k)
 
@@ -455,5 +455,5 @@ mutual
   cuts (more t ts) = ((λ c m n h. cut t c m n h), cuts ts)
 
 -- a statement or a declaration takes tokens
-pub item_cut : (t : Tree) (c : Code) (ts r : Input) → is_item t ≡ true → Spells t c ts r → len r < len ts
+pub item_cut : (t : Tree) (c : Code) (ts r : Input) → is_item t ≡ true → Produces t c ts r → len r < len ts
 item_cut t c ts r i h = omega (arith, item_takes t i, cut t c ts r h)

@@ -7,11 +7,11 @@ use Rattle.ecma_tree.specs.Tree.{Tree, Trees, none, more, this_expr, null_lit, b
 use Rattle.ecma_syntax.specs.Input.{Input, Code, kind, rest, is_word, no_name, always_reserved, Takes, with_in, assigning, in_arrow, binding}
 use Rattle.ecma_syntax.specs.Operators.{binary_level, operates, is_assign_op}
 use Rattle.ecma_syntax.specs.Shape.{level, ends, is_element, is_prop, is_hole, is_rest, is_private, is_absent, is_chain, is_structured, is_bound_name}
-use Rattle.ecma_grammar.specs.Parts.{is_quasi, Part, part, By, IsEmpty, Sorted, Listed, CommaThen, Expr}
+use Rattle.ecma_grammar.specs.Children.{is_quasi, Child, child, By, IsEmpty, Sorted, Listed, CommaThen, Expr}
 use Rattle.ecma_grammar.specs.Expressions.{Call, Arguments, ArgumentList, ImportArguments, AccessedName, Dotted, Bracketed, Optional, MetaProperty, TemplateSpans, Yield, is_unary_op, is_update_op}
 use Rattle.ecma_grammar.specs.Patterns.{Item, Property}
 use Rattle.ecma_grammar.specs.Functions.{ArrowPattern, ArrowHead, BareName, Async}
-use Rattle.ecma_grammar.specs.Grammar.{Spells, parts}
+use Rattle.ecma_grammar.specs.Grammar.{Produces, children}
 use Rattle.ecma_grammar_complete_base.proofs.Yields.{len, took, shorter}
 use Rattle.ecma_grammar_complete_base.proofs.Levels.{operated, binary_four, fits, right_five, binary_cases}
 
@@ -297,7 +297,7 @@ abbrev mutual
 
 -- what is called: `super`, `import`, or an expression
 abbrev pub CalleeSort : Tree → Type 0
-CalleeSort f = ((q : Span) × (f ≡ super q)) ⊎ (((q : Span) × (f ≡ import q)) ⊎ ((s : Span) (xs : Trees) (c : Code) (ts r : Input) → Spells (call_expr s f xs) c ts r → Call c s (part f (λ y. Spells f y)) (parts xs) ts r))
+CalleeSort f = ((q : Span) × (f ≡ super q)) ⊎ (((q : Span) × (f ≡ import q)) ⊎ ((s : Span) (xs : Trees) (c : Code) (ts r : Input) → Produces (call_expr s f xs) c ts r → Call c s (child f (λ y. Produces f y)) (children xs) ts r))
 
 pub callee_sort : (f : Tree) → CalleeSort f
 callee_sort (super q) = inl (q, refl)
@@ -305,7 +305,7 @@ callee_sort (import q) = inr (inl (q, refl))
 callee_sort _ = inr (inr (λ s xs c ts r h. h))
 
 -- a `yield` with an operand
-pub as_yield : (s : Span) (a : Tree) (g : Bool) (c : Code) (ts r : Input) → is_absent a ≡ false → Spells (yield_expr s a g) c ts r → Yield c s (part a (λ y. Spells a y)) g ts r
+pub as_yield : (s : Span) (a : Tree) (g : Bool) (c : Code) (ts r : Input) → is_absent a ≡ false → Produces (yield_expr s a g) c ts r → Yield c s (child a (λ y. Produces a y)) g ts r
 as_yield s absent g c ts r e h = absurd (true≢false e)
 as_yield s _ g c ts r e h = h
 
@@ -342,11 +342,11 @@ at_kind P k n e h = subst (λ (k : ℕ). P k ≡ true) (sym e) h
 pub no_kind : (P : ℕ → Bool) (k n : ℕ) → P k ≡ true → P n ≡ false → eqb k n ≡ false
 no_kind P k n h e = ne_eqb k n (λ q. true≢false (sym h ∙ ap P q ∙ e))
 
-pub private_starts : (a : Tree) (c : Code) (ts r : Input) → is_private a ≡ true → Spells a c ts r → kind ts ≡ hash_kind
+pub private_starts : (a : Tree) (c : Code) (ts r : Input) → is_private a ≡ true → Produces a c ts r → kind ts ≡ hash_kind
 private_starts (private_name s n) c ts r p h = h.1.0
 private_starts _ c ts r p h = absurd (true≢false (sym p))
 
-member_least : (s : Span) (o k : Tree) (c : Code) (ts r : Input) → Spells (member_expr s o k) c ts r → 1 ≤ level (member_expr s o k)
+member_least : (s : Span) (o k : Tree) (c : Code) (ts r : Input) → Produces (member_expr s o k) c ts r → 1 ≤ level (member_expr s o k)
 member_least s o (computed_prop_name t e) c ts r h = omega (arith, h.2.0)
 member_least s o k c ts r h = omega (arith, h.2.0)
 
@@ -358,28 +358,28 @@ and_never true = refl
 and_never false = refl
 
 -- how an arrow starts
-arrow_starts : (i : Bool) (c : Code) (ps : Trees) (ts m : Input) → ArrowHead i c (parts ps) ts m → begins (kind ts) ≡ true
+arrow_starts : (i : Bool) (c : Code) (ps : Trees) (ts m : Input) → ArrowHead i c (children ps) ts m → begins (kind ts) ≡ true
 arrow_starts true c ps ts m h = at_kind begins (kind ts) async_kind h.2.0.0 refl
 arrow_starts false c ps ts m h = ⊎_elim (λ w. subst (λ (y : Input). begins (kind y) ≡ true) (sym h.2) (bare_begins ps w)) (λ w. subst (λ (y : Input). begins (kind y) ≡ true) (sym h.2) (at_kind begins (kind h.0) left_paren_kind w.1.0 refl)) h.3
   where
-    bare_begins : (ps : Trees) → BareName c (parts ps) h.0 h.1 → begins (kind h.0) ≡ true
+    bare_begins : (ps : Trees) → BareName c (children ps) h.0 h.1 → begins (kind h.0) ≡ true
     bare_begins none w = absurd w
     bare_begins (more (binding_ident q (ident t n)) ps) w = name_begins c h.0 w.1.1.1.0.0 w.1.1.1.0.1
     bare_begins (more (binding_ident q x) ps) w = absurd w.1.1
     bare_begins (more x ps) w = absurd (true≢false (sym w.1.0))
 
 -- how a function as an expression starts
-function_starts : (s : Span) (n f : Tree) (c : Code) (ts r : Input) → Spells (fn_expr s n f) c ts r → begins (kind ts) ≡ true
+function_starts : (s : Span) (n f : Tree) (c : Code) (ts r : Input) → Produces (fn_expr s n f) c ts r → begins (kind ts) ≡ true
 function_starts s n (function t ps ds b g true) c ts r h = at_kind begins (kind ts) async_kind h.2.2.0.0 refl
 function_starts s n (function t ps ds b g false) c ts r h = at_kind begins (kind ts) function_kind (ap (λ (y : Input). kind y) h.2.2 ∙ h.2.3.0) refl
 function_starts s n _ c ts r h = absurd h
 
-pub function_word : (s : Span) (n f : Tree) (c : Code) (ts r : Input) → Spells (fn_expr s n f) c ts r → is_word (kind ts) ≡ true
+pub function_word : (s : Span) (n f : Tree) (c : Code) (ts r : Input) → Produces (fn_expr s n f) c ts r → is_word (kind ts) ≡ true
 function_word s n (function t ps ds b g true) c ts r h = at_kind is_word (kind ts) async_kind h.2.2.0.0 refl
 function_word s n (function t ps ds b g false) c ts r h = at_kind is_word (kind ts) function_kind (ap (λ (y : Input). kind y) h.2.2 ∙ h.2.3.0) refl
 function_word s n _ c ts r h = absurd h
 
-pub starts : (t : Tree) (c : Code) (ts r : Input) → Covered t → 1 ≤ level t → Spells t c ts r → begins (kind ts) ≡ true
+pub starts : (t : Tree) (c : Code) (ts r : Input) → Covered t → 1 ≤ level t → Produces t c ts r → begins (kind ts) ≡ true
 starts (this_expr s) c ts r g l h = at_kind begins (kind ts) this_kind h.0.0 refl
 starts (null_lit s) c ts r g l h = at_kind begins (kind ts) null_kind h.0.0 refl
 starts (bool_lit s true) c ts r g l h = at_kind begins (kind ts) true_kind h.0.0 refl
@@ -466,7 +466,7 @@ starts _ c ts r g l h = absurd (omega arith)
 
 -- ---- what an expression ends in
 
-pub ends_low : (t : Tree) (c : Code) (ts r : Input) → Covered t → 4 ≤ level t → Spells t c ts r → ends t ≤ 1
+pub ends_low : (t : Tree) (c : Code) (ts r : Input) → Covered t → 4 ≤ level t → Produces t c ts r → ends t ≤ 1
 ends_low (unary_expr s op a) c ts r g l h = ends_low a (assigning c) h.0 r g (omega (arith, h.3.0)) h.3.1
 ends_low (update_expr s op true a) c ts r g l h = ends_low a (assigning c) h.0 r g (omega (arith, h.3.0)) h.3.1
 ends_low (update_expr s op false a) c ts r g l h = omega arith

@@ -2,11 +2,11 @@
 use Rattle.std.specs.Prelude.{◌≡◌, ◌≤◌, ◌<◌, ℕ, suc, max, Bool, true, false, not, ◌&&◌, ◌||◌, ◌==◌, List, [], ◌∷◌, Result, Ok, Err}
 use Rattle.ecma_token.specs.Kinds.{template_kind, arrow_kind, function_kind}
 use Rattle.ecma_tree.specs.Tree.{Tree, Trees, none, more, this_expr, null_lit, bool_lit, ident, str_lit, number_lit, big_int_lit, regex_lit, paren_expr, array_lit, expr_or_spread, hole, unary_expr, update_expr, await_expr, bin_expr, cond_expr, seq_expr, member_expr, computed_prop_name, ident_name, private_name, call_expr, new_expr, list, absent, super, import, tpl, tpl_element, tagged_tpl, opt_chain_expr, opt_call, super_prop_expr, meta_prop_expr, yield_expr, object_lit, key_value_prop, assign_prop, spread_element, binding_ident, array_pat, object_pat, assign_pat, rest_pat, key_value_pat_prop, assign_pat_prop, expr_pat, assign_expr, arrow_expr}
-use Rattle.ecma_syntax.specs.Input.{Place, Input, Code, kind, kind2, brk, brk2, is_word, always_reserved}
+use Rattle.ecma_syntax.specs.Input.{PlacedToken, Input, Code, kind, kind2, brk, brk2, is_word, always_reserved}
 use Rattle.ecma_syntax.specs.Operators.{goes_expr, assignment_level, other_end}
 use Rattle.ecma_syntax.specs.Shape.{level, ends, is_rest}
-use Rattle.ecma_grammar.specs.Grammar.{Spells}
-use Rattle.ecma_reading.specs.Source.{Fault, Unexpected, TooDeep, Stand, list_machine}
+use Rattle.ecma_grammar.specs.Grammar.{Produces}
+use Rattle.ecma_reading.specs.Source.{Fault, Unexpected, TooDeep, State, list_stream}
 use Rattle.ecma_reading.specs.Reading.{readers}
 
 -- ---- tokens
@@ -20,7 +20,7 @@ abbrev pub patterned : Bool → Code → Code
 patterned p c = record c { binds = true; placed = p }
 
 -- A place begins where the one before it ends, or later, and has a character, but for the characters of a template.
-abbrev pub InOrder : ℕ → List Place → Type 0
+abbrev pub InOrder : ℕ → List PlacedToken → Type 0
 InOrder last [] = Unit {0}
 InOrder last (p ∷ ps) = (last ≤ p.spot.lo) × (p.spot.lo ≤ p.spot.hi) × ((p.spot.token.kind ≡ template_kind → ⊥) → p.spot.lo < p.spot.hi) × InOrder p.spot.hi ps
 

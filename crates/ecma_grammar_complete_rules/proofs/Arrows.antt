@@ -7,11 +7,11 @@ use Rattle.ecma_tree.specs.Tree.{Tree, Trees, none, more, pack, unpack, ident, a
 use Rattle.ecma_syntax.specs.Input.{Input, Code, Takes, kind, kind2, brk, brk2, lo, text, rest, span, first_span, is_word, no_name, barred, always_reserved, with_in, in_arrow, binding, in_list}
 use Rattle.ecma_syntax.specs.Operators.{assignment_level}
 use Rattle.ecma_syntax.specs.Shape.{is_binding, is_place, is_item_pat, is_pattern_prop, is_bound_name, is_hole, is_rest}
-use Rattle.ecma_grammar.specs.Parts.{Part, part, By, IsEmpty, Sorted, Listed}
+use Rattle.ecma_grammar.specs.Children.{Child, child, By, IsEmpty, Sorted, Listed}
 use Rattle.ecma_grammar.specs.Patterns.{Item, Property}
 use Rattle.ecma_grammar.specs.Functions.{ArrowPattern, ArrowHead, BareName}
-use Rattle.ecma_grammar.specs.Grammar.{Spells, parts}
-use Rattle.ecma_reading.specs.Source.{Fault, ◌>>=◌, Stand, Inner, name}
+use Rattle.ecma_grammar.specs.Grammar.{Produces, children}
+use Rattle.ecma_reading.specs.Source.{Fault, ◌>>=◌, State, Inner, name}
 use Rattle.ecma_reading.specs.Cover.{binds_names, all_bind}
 use Rattle.ecma_reading.specs.Expressions.{Elements, elements_by, arrow_by, ident_end, word_by, async_by, async_group, group_by, group_end, params_of, prefix_by, arrows_at, heads_params, is_read, function_expr_by}
 use Rattle.ecma_reading.specs.Reading.{readers}
@@ -80,7 +80,7 @@ abbrev binds_off : Code → Code
 binds_off c = record c { binds = false }
 
 mutual
-  loosen : (x : Tree) (c : Code) (ts r : Input) → is_loose x ≡ true → Spells x (binds_on c) ts r → Spells x (binds_off c) ts r
+  loosen : (x : Tree) (c : Code) (ts r : Input) → is_loose x ≡ true → Produces x (binds_on c) ts r → Produces x (binds_off c) ts r
   loosen (binding_ident s (ident t n)) c ts r e h = h
   loosen (binding_ident s i) c ts r e h = absurd h
   loosen (array_pat s xs) c ts r e h = (h.0, h.1, loosen_items true 10 xs c h.0 r h.2, h.3)
@@ -93,12 +93,12 @@ mutual
   loosen (assign_pat_prop s k x) c ts r e h = absurd (true≢false (sym h.1.0))
   loosen _ c ts r e h = absurd (true≢false (sym e))
 
-  loosen_items : (holes : Bool) (close : ℕ) (xs : Trees) (c : Code) (ts r : Input) → Listed holes (Item (binds_on c)) (binds_on c) close (parts xs) ts r → Listed holes (Item (binds_off c)) (binds_off c) close (parts xs) ts r
+  loosen_items : (holes : Bool) (close : ℕ) (xs : Trees) (c : Code) (ts r : Input) → Listed holes (Item (binds_on c)) (binds_on c) close (children xs) ts r → Listed holes (Item (binds_off c)) (binds_off c) close (children xs) ts r
   loosen_items holes close none c ts r h = h
   loosen_items holes close (more x xs) c ts r h = by_map (holes && is_hole x) _ _ _ _ h (λ k. (k.0, k.1, loosen_items holes close xs c k.0 r k.2))
       (λ k. (k.0, (item_false x k.1.0, loosen x (with_in c) ts k.0 (item_loose x k.1.0) k.1.1), ⊎_elim (λ j. inl (j.0, j.1, j.2, loosen_items holes close xs c j.1 r j.3)) (λ j. inr j) k.2))
 
-  loosen_props : (xs : Trees) (c : Code) (ts r : Input) → Listed false (Property (binds_on c)) (binds_on c) 12 (parts xs) ts r → Listed false (Property (binds_off c)) (binds_off c) 12 (parts xs) ts r
+  loosen_props : (xs : Trees) (c : Code) (ts r : Input) → Listed false (Property (binds_on c)) (binds_on c) 12 (children xs) ts r → Listed false (Property (binds_off c)) (binds_off c) 12 (children xs) ts r
   loosen_props none c ts r h = h
   loosen_props (more x xs) c ts r k = (k.0, (k.1.0, k.1.1, loosen x (with_in c) ts k.0 (prop_loose x k.1.0) k.1.2), ⊎_elim (λ j. inl (j.0, j.1, j.2, loosen_props xs c j.1 r j.3)) (λ j. inr j) k.2)
 
@@ -109,12 +109,12 @@ and_second : (a b : Bool) → (a && b) ≡ true → b ≡ true
 and_second true b h = h
 and_second false b h = absurd (true≢false (sym h))
 
-empty_names : (xs : Trees) → IsEmpty (parts xs) → all_bind xs ≡ true
+empty_names : (xs : Trees) → IsEmpty (children xs) → all_bind xs ≡ true
 empty_names none h = refl
 empty_names (more x xs) h = absurd h
 
 mutual
-  bound_names : (x : Tree) (c : Code) (ts r : Input) → is_loose x ≡ true → Spells x (binds_on c) ts r → binds_names x ≡ true
+  bound_names : (x : Tree) (c : Code) (ts r : Input) → is_loose x ≡ true → Produces x (binds_on c) ts r → binds_names x ≡ true
   bound_names (binding_ident s i) c ts r e h = refl
   bound_names (array_pat s xs) c ts r e h = item_names true 10 xs c h.0 r h.2
   bound_names (object_pat s xs) c ts r e h = prop_names xs c h.0 r h.2
@@ -124,22 +124,22 @@ mutual
   bound_names (assign_pat_prop s k x) c ts r e h = refl
   bound_names _ c ts r e h = absurd (true≢false (sym e))
 
-  item_names : (holes : Bool) (close : ℕ) (xs : Trees) (c : Code) (ts r : Input) → Listed holes (Item (binds_on c)) (binds_on c) close (parts xs) ts r → all_bind xs ≡ true
+  item_names : (holes : Bool) (close : ℕ) (xs : Trees) (c : Code) (ts r : Input) → Listed holes (Item (binds_on c)) (binds_on c) close (children xs) ts r → all_bind xs ≡ true
   item_names holes close none c ts r h = refl
   item_names holes close (more x xs) c ts r h = by_cases (holes && is_hole x) _ _ _ h
       (λ e k. and_from (binds_names x) _ (hole_names x (and_second holes (is_hole x) e)) (item_names holes close xs c k.0 r k.2))
       (λ e k. and_from (binds_names x) _ (bound_names x (with_in c) ts k.0 (item_loose x k.1.0) k.1.1) (⊎_elim (λ j. item_names holes close xs c j.1 r j.3) (λ j. empty_names xs j.0) k.2))
 
-  prop_names : (xs : Trees) (c : Code) (ts r : Input) → Listed false (Property (binds_on c)) (binds_on c) 12 (parts xs) ts r → all_bind xs ≡ true
+  prop_names : (xs : Trees) (c : Code) (ts r : Input) → Listed false (Property (binds_on c)) (binds_on c) 12 (children xs) ts r → all_bind xs ≡ true
   prop_names none c ts r h = refl
   prop_names (more x xs) c ts r k = and_from (binds_names x) _ (bound_names x (with_in c) ts k.0 (prop_loose x k.1.0) k.1.2) (⊎_elim (λ j. prop_names xs c j.1 r j.3) (λ j. empty_names xs j.0) k.2)
 
 -- the parameters of an arrow as items that assign
-pub params_loosen : (p : Bool) (c : Code) (xs : Trees) (ts r : Input) → Listed false (ArrowPattern (coded p c)) (coded p c) 8 (parts xs) ts r → Listed false (Item (coded p (with_in c))) (coded p c) 8 (parts xs) ts r
+pub params_loosen : (p : Bool) (c : Code) (xs : Trees) (ts r : Input) → Listed false (ArrowPattern (coded p c)) (coded p c) 8 (children xs) ts r → Listed false (Item (coded p (with_in c))) (coded p c) 8 (children xs) ts r
 params_loosen p c none ts r h = h
 params_loosen p c (more x xs) ts r k = (k.0, (item_false x k.1.0, loosen x (coded p (with_in c)) ts k.0 (item_loose x k.1.0) k.1.1), ⊎_elim (λ j. inl (j.0, j.1, j.2, params_loosen p c xs j.1 r j.3)) (λ j. inr j) k.2)
 
-pub params_names : (p : Bool) (c : Code) (xs : Trees) (ts r : Input) → Listed false (ArrowPattern (coded p c)) (coded p c) 8 (parts xs) ts r → all_bind xs ≡ true
+pub params_names : (p : Bool) (c : Code) (xs : Trees) (ts r : Input) → Listed false (ArrowPattern (coded p c)) (coded p c) 8 (children xs) ts r → all_bind xs ≡ true
 params_names p c none ts r h = refl
 params_names p c (more x xs) ts r k = and_from (binds_names x) _ (bound_names x (coded p (with_in c)) ts k.0 (item_loose x k.1.0) k.1.1) (⊎_elim (λ j. params_names p c xs j.1 r j.3) (λ j. empty_names xs j.0) k.2)
 
@@ -152,7 +152,7 @@ unpack_packed (x ∷ xs) = ap (λ ys. x ∷ ys) (unpack_packed xs)
 -- an arrow's body, and what it is read as
 pub record Body_read (inner : Inner Input) (c : Code) (i : Bool) (e : Tree) (m n r : Input) (P : Type 0) : Type 0 where
   pub arrow : arrowed m ≡ true
-  pub found : (start : Stand Input) (ps : List Tree) (h : List ℕ) → Reads (from m h) (arrow_by lm inner c start i ps (from m h)) (Is (arrow_expr (span (lo start.source) r.last) (pack ps) e i) r) P
+  pub found : (start : State Input) (ps : List Tree) (h : List ℕ) → Reads (from m h) (arrow_by lm inner c start i ps (from m h)) (Is (arrow_expr (span (lo start.source) r.last) (pack ps) e i) r) P
 
 -- an expression, and statements in braces
 pub expression_body : (inner : Inner Input) (c : Code) (i : Bool) (e : Tree) (m n r : Input) (P : Type 0) → arrowed m ≡ true → rest m ≡ n → (kind n ≡ left_brace_kind → ⊥) → ((h : List ℕ) → Reads (from n h) (inner.expr (in_arrow i c) 2 (from n h)) (Is e r) P) → Body_read inner c i e m n r P
@@ -209,14 +209,14 @@ module _ (inner : Inner Input) (c : Code) (lev : ℕ) (low : lev ≤ assignment_
       no_word = subst (λ (i : ℕ). is_word i ≡ false) (sym at) refl
 
   -- parameters in parentheses
-  params_read : (ps : Trees) (o : Input) (y : Elements × Stand Input) → Covered_list false (unpack ps) o y → all_bind ps ≡ true → params_of lm inner y.1.commas y.0 ≡ Ok (unpack ps)
+  params_read : (ps : Trees) (o : Input) (y : Elements × State Input) → Covered_list false (unpack ps) o y → all_bind ps ≡ true → params_of lm inner y.1.commas y.0 ≡ Ok (unpack ps)
   unfolding params_of
   params_read ps o y v b = rw (v.comma, v.rows.so true (subst (λ ys. all_bind ys ≡ true) (sym (pack_unpack ps)) b) y.1.commas (λ n q. refl)) (ap Ok (unpack_packed (unpack ps)))
 
-  heads : (ps : Trees) (o : Input) (y : Elements × Stand Input) → Covered_list false (unpack ps) o y → all_bind ps ≡ true → arrowed o ≡ true → heads_params lm inner lev y.0 y.1 ≡ true
+  heads : (ps : Trees) (o : Input) (y : Elements × State Input) → Covered_list false (unpack ps) o y → all_bind ps ≡ true → arrowed o ≡ true → heads_params lm inner lev y.0 y.1 ≡ true
   heads ps o y v b a = and_from (arrows_at lm inner lev y.1) _ (and_from (arrowed y.1.source) _ (subst (λ (x : Input). arrowed x ≡ true) (sym v.source) a) (le-leb lev assignment_level low)) (ap (λ x. is_read x) (params_read ps o y v b))
 
-  after_params : (i : Bool) (ps : Trees) (s : Span) (e : Tree) (o n r : Input) (P : Type 0) {Q : Type 0} (y : Elements × Stand Input) → Covered_list false (unpack ps) o y → all_bind ps ≡ true → Body_read inner c i e o n r P → (P → Q) → s ≡ span (lo ts) r.last
+  after_params : (i : Bool) (ps : Trees) (s : Span) (e : Tree) (o n r : Input) (P : Type 0) {Q : Type 0} (y : Elements × State Input) → Covered_list false (unpack ps) o y → all_bind ps ≡ true → Body_read inner c i e o n r P → (P → Q) → s ≡ span (lo ts) r.last
       → Reads y.1 (params_of lm inner y.1.commas y.0 >>= λ xs. arrow_by lm inner c (from ts k) i xs y.1) (Is (arrow_expr s ps e i) r) Q
   after_params i ps s e o n r P {Q = Q} y v b w f p = rw (params_read ps o y v b)
       (subst (λ (u : Input). Reads (from u y.1.commas) (arrow_by lm inner c (from ts k) i (unpack ps) (from u y.1.commas)) (Is (arrow_expr s ps e i) r) Q) (sym v.source) (arrow_body i ps s e o n r y.1.commas P w f p))
@@ -253,7 +253,7 @@ module _ (inner : Inner Input) (c : Code) (lev : ℕ) (low : lev ≤ assignment_
       no u h = subst (λ (x : ℕ). eqb x u ≡ false) (sym at) h
 
   -- what follows the word `async`
-  abbrev async_rest : Input → Result (Tree × Stand Input) Fault
+  abbrev async_rest : Input → Result (Tree × State Input) Fault
   async_rest i =
       cond ((kind i == function_kind) && not (brk i)) (function_expr_by lm inner c (from ts k) true (from i k))
       (cond ((is_word (kind i) && (not (no_name c.context (kind i)) && not (barred c.context i))) && ((not (brk i) && (kind2 i == arrow_kind) && not (brk2 i)) && leb lev assignment_level))

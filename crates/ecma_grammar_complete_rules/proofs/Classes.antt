@@ -7,10 +7,10 @@ use Rattle.ecma_tree.specs.Tree.{Tree, Trees, none, more, pack, unpack, plain_me
 use Rattle.ecma_syntax.specs.Input.{Input, Code, kind, kind2, brk, brk2, lo, span, first_span, rest, is_word, has_in, setting, in_body, in_field, in_static, Takes, TakesWord}
 use Rattle.ecma_syntax.specs.Operators.{assignment_level, new_level, starts_key, goes_expr, goes_on, pauses, key_end}
 use Rattle.ecma_syntax.specs.Shape.{level, ends, is_absent, is_key, is_private, is_any_key, is_member, constructs, field_end, class_span, function_parts, FunctionParts, count_of}
-use Rattle.ecma_grammar.specs.Parts.{By, IsEmpty, part, Sorted, Ends}
+use Rattle.ecma_grammar.specs.Children.{By, IsEmpty, child, Sorted, Ends}
 use Rattle.ecma_grammar.specs.Functions.{Members, Static, Async, Star, Body, Parameters, Method, Initial, ClassMethod, Field}
-use Rattle.ecma_grammar.specs.Grammar.{Spells, parts}
-use Rattle.ecma_reading.specs.Source.{Fault, ◌>>=◌, Stand, Inner, go_on, finished}
+use Rattle.ecma_grammar.specs.Grammar.{Produces, children}
+use Rattle.ecma_reading.specs.Source.{Fault, ◌>>=◌, State, Inner, go_on, finished}
 use Rattle.ecma_reading.specs.Expressions.{function_by, star, is_async_head, setter_parameter}
 use Rattle.ecma_reading.specs.Statements.{class_tail_by, members_by, member_step, member_rest, static_by, starts_static, field_value, class_key, method_tree, constructor_of, class_method_by, class_getter, class_setter, accessor_by, field_or_method, generator_member, block_rest}
 use Rattle.ecma_grammar_complete_base.proofs.Yields.{lm, from, len, coded, first_at, Reads, Is, then_is, then_eat, then_word, then_past, onto, here, past_here, ended, if_no, if_yes, Loops, loop_on, loop_end, looped}
@@ -40,10 +40,10 @@ key_opens k h = widen (is_word k) (k == str_kind) (k == num_kind) (k == big_int_
     widen false false false false false g h = absurd (true≢false (sym h))
 
 -- a key of a class: how it starts, and that a word is the whole of it
-any_key_starts : (x : Tree) (c : Code) (ts m : Input) → (is_key x || is_private x) ≡ true → Spells x c ts m → (starts_key (kind ts) ≡ true) × OneWord ts m
+any_key_starts : (x : Tree) (c : Code) (ts m : Input) → (is_key x || is_private x) ≡ true → Produces x c ts m → (starts_key (kind ts) ≡ true) × OneWord ts m
 any_key_starts x c ts m i h = ⊎_elim (λ q. let y = key_starts x c ts m q h in (key_opens (kind ts) y.0, y.1)) (λ q. private_starts x q h) (or_cases (is_key x) _ i)
   where
-    private_starts : (x : Tree) → is_private x ≡ true → Spells x c ts m → (starts_key (kind ts) ≡ true) × OneWord ts m
+    private_starts : (x : Tree) → is_private x ≡ true → Produces x c ts m → (starts_key (kind ts) ≡ true) × OneWord ts m
     private_starts (private_name s n) i h = (subst (λ (k : ℕ). starts_key k ≡ true) (sym h.1.0) refl, inr (subst (λ (k : ℕ). is_word k ≡ false) (sym h.1.0) refl))
     private_starts _ i h = absurd (true≢false (sym i))
 
@@ -93,7 +93,7 @@ unset_key p c y r (inr h) = ⊎_elim (λ q. subst (λ (k : ℕ). eqb k assign_ki
     (λ q. ⊎_elim (λ q. subst (λ (k : ℕ). eqb k assign_kind ≡ false) (sym (eqb-true (kind y) end_kind q)) refl)
     (λ q. let w = and_parts (brk y) _ q in let v = or_parts (kind y == assign_kind) _ (not-true _ w.1) in v.0) (or_cases (kind y == end_kind) _ q)) (or_cases (kind y == right_brace_kind) _ h.1)
 
-plain_field : (p : Bool) (c : Code) (st : Bool) (v : Tree) (m y r : Input) → Initial (coded p c) (field_end st (kind m)) (part v (λ y. Spells v y)) y r → Plain st m y × (eqb (kind y) left_paren_kind ≡ false)
+plain_field : (p : Bool) (c : Code) (st : Bool) (v : Tree) (m y r : Input) → Initial (coded p c) (field_end st (kind m)) (child v (λ y. Produces v y)) y r → Plain st m y × (eqb (kind y) left_paren_kind ≡ false)
 plain_field p c st v m y r h = by_cases (is_absent v) _ _ _ h (λ q x. let w = ended_field p c st m y r x in (w.0, w.1.paren)) (λ q x. (plain_at st m y assign_kind x.2.0 refl refl refl, subst (λ (k : ℕ). eqb k left_paren_kind ≡ false) (sym x.2.0) refl))
 
 -- ---- the value of a field, which is read where `in` is an operator
@@ -120,16 +120,16 @@ key_plain (private_name s n) h = absurd (true≢false (sym h))
 key_plain _ h = refl
 
 module _ (z : Nested) (p : Bool) (c : Code) (i : has_in c ≡ true) where
-  value_found : (e : ℕ) (v : Tree) (y r : Input) (j : List ℕ) → z.Covered v → ((x : Ends (coded p c) e y r) → eqb (kind y) assign_kind ≡ false) → Initial (coded p c) e (part v (λ y. Spells v y)) y r → Reads (from y j) (field_value lm z.inner c e (from y j)) (Is v r) (z.depth < z.reach v)
+  value_found : (e : ℕ) (v : Tree) (y r : Input) (j : List ℕ) → z.Covered v → ((x : Ends (coded p c) e y r) → eqb (kind y) assign_kind ≡ false) → Initial (coded p c) e (child v (λ y. Produces v y)) y r → Reads (from y j) (field_value lm z.inner c e (from y j)) (Is v r) (z.depth < z.reach v)
   unfolding field_value
   value_found e v y r j g n h = by_cases (is_absent v) _ _ _ h
       (λ q x. if_no (kind y == assign_kind) _ _ _ _ (n x) (then_end p c e y r j _ _ _ x (here (sym (absent_is v q)))))
       (λ q x. if_yes (kind y == assign_kind) _ _ _ _ (eq-eqb (kind y) assign_kind x.2.0) (then_past y x.0 j (z.inner.expr (in_field c) assignment_level) _ v x.1 (z.depth < z.reach v) _ _ x.2.2
       (z.expr v p (in_field c) 2 x.0 x.1 j g x.3.1 (omega arith) (omega arith) two_asked x.3.0 (field_follows p c (ends v) x.1 r i x.4 (ends_two v))) (λ u. u) (λ l. then_end p c (ends v) x.1 r l _ _ _ x.4 (here refl))))
 
-  module _ (start : Input) (i0 : List ℕ) (st : Bool) (r : Input) (V : Tree × Stand Input → Type 0) (Q : Type 0) where
+  module _ (start : Input) (i0 : List ℕ) (st : Bool) (r : Input) (V : Tree × State Input → Type 0) (Q : Type 0) where
     -- a key that stands first
-    keyed : (x : Tree) (m y : Input) (j : List ℕ) → (is_key x || is_private x) ≡ true → Spells x (coded p c) m y → Plain st m y → Reads (from m j) (field_or_method lm z.inner c (from start i0) st (from m j)) V Q → Reads (from m j) (member_rest lm z.inner c (from start i0) st (from m j)) V Q
+    keyed : (x : Tree) (m y : Input) (j : List ℕ) → (is_key x || is_private x) ≡ true → Produces x (coded p c) m y → Plain st m y → Reads (from m j) (field_or_method lm z.inner c (from start i0) st (from m j)) V Q → Reads (from m j) (member_rest lm z.inner c (from start i0) st (from m j)) V Q
     unfolding member_rest
     keyed x m y j k h pl w = let o = any_key_starts x (coded p c) m y k h in
         if_no (kind m == mul_kind) _ _ V Q (no_kind starts_key (kind m) mul_kind o.0 refl)
@@ -154,7 +154,7 @@ module _ (z : Nested) (p : Bool) (c : Code) (i : has_in c ≡ true) where
             narrow false b d h = refl
 
     -- a generator, from its star or its key on
-    starred : (g a : Bool) (x : Tree) (m y : Input) (j : List ℕ) → Star g (coded p c) m y → (is_key x || is_private x) ≡ true → (n : Input) → Within z.Covered x → Spells x (coded p c) y n → (z.depth < within z.reach x → Q)
+    starred : (g a : Bool) (x : Tree) (m y : Input) (j : List ℕ) → Star g (coded p c) m y → (is_key x || is_private x) ≡ true → (n : Input) → Within z.Covered x → Produces x (coded p c) y n → (z.depth < within z.reach x → Q)
         → ((l : List ℕ) → Reads (from n l) (class_method_by lm z.inner c (from start i0) st g a x (from n l)) V Q) → Reads (from m j) (generator_member lm z.inner c (from start i0) st a (from m j)) V Q
     unfolding generator_member
     starred g a x m y j t k n w h f v = then_is (star lm z.inner (from m j)) _ g y ⊥ _ _ (star_found z p c g m y j ⊥ t (no_kind starts_key (kind y) mul_kind (any_key_starts x (coded p c) y n k h).0 refl)) (λ u. absurd u)
@@ -162,13 +162,13 @@ module _ (z : Nested) (p : Bool) (c : Code) (i : has_in c ≡ true) where
 
   -- a method that is no getter and no setter, and the constructor, from the parameters on
   module _ (start : Input) (i0 : List ℕ) (st : Bool) (s : Span) (x : Tree) where
-    method_end : (t : Span) (ps ds : Trees) (b : Tree) (g a : Bool) (n r : Input) (j : List ℕ) → (constructs x && (not st && (not g && not a))) ≡ false → Within z.Covered (function t ps ds b g a) → Spells (function t ps ds b g a) (setting false (coded p c)) n r → t ≡ span (lo start) r.last → s ≡ span (lo start) r.last
+    method_end : (t : Span) (ps ds : Trees) (b : Tree) (g a : Bool) (n r : Input) (j : List ℕ) → (constructs x && (not st && (not g && not a))) ≡ false → Within z.Covered (function t ps ds b g a) → Produces (function t ps ds b g a) (setting false (coded p c)) n r → t ≡ span (lo start) r.last → s ≡ span (lo start) r.last
         → Reads (from n j) (class_method_by lm z.inner c (from start i0) st g a x (from n j)) (Is (method_tree lm z.inner s x (function t ps ds b g a) plain_method st) r) (z.depth < within z.reach (function t ps ds b g a))
     unfolding class_method_by
     method_end t ps ds b g a n r j k w h e v = then_is (function_by lm z.inner c (lo start) g a (from n j)) _ (function t ps ds b g a) r (z.depth < within z.reach (function t ps ds b g a)) _ _ (function_found z p c t ps ds b g a (lo start) n r j w h e) (λ u. u)
         (λ l. if_no (constructs x && (not st && (not g && not a))) _ _ _ _ k (here (ap (λ (d : Span). method_tree lm z.inner d x (function t ps ds b g a) plain_method st) (sym v))))
 
-    constructor_end : (t : Span) (ps : Trees) (q : Span) (ss : Trees) (n y r : Input) (j : List ℕ) → (constructs x && (not st && true)) ≡ true → Withins z.Covered ps → z.Covered (block_stmt q ss) → Parameters (in_body false false (coded p c)) (parts ps) n y → Body (in_body false false (coded p c)) q (parts ss) y r → s ≡ span (lo start) r.last
+    constructor_end : (t : Span) (ps : Trees) (q : Span) (ss : Trees) (n y r : Input) (j : List ℕ) → (constructs x && (not st && true)) ≡ true → Withins z.Covered ps → z.Covered (block_stmt q ss) → Parameters (in_body false false (coded p c)) (children ps) n y → Body (in_body false false (coded p c)) q (children ss) y r → s ≡ span (lo start) r.last
         → Reads (from n j) (class_method_by lm z.inner c (from start i0) st false false x (from n j)) (Is (constructor s x ps (block_stmt q ss)) r) (z.depth < max (withins z.reach ps) (z.reach (block_stmt q ss)))
     unfolding class_method_by function_by
     constructor_end t ps q ss n y r j k gp gb hp hb v =
@@ -177,12 +177,12 @@ module _ (z : Nested) (p : Bool) (c : Code) (i : has_in c ≡ true) where
         (λ l. if_yes (constructs x && (not st && true)) _ _ _ _ k (here (ap (λ (d : Span). constructor d x ps (block_stmt q ss)) (sym v))))
 
   -- what stands after a key
-  as_method : (start : Input) (i0 : List ℕ) (st : Bool) (x : Tree) (m y r : Input) (j : List ℕ) (V : Tree × Stand Input → Type 0) (Q : Type 0) → (is_key x || is_private x) ≡ true → Within z.Covered x → Spells x (coded p c) m y → kind y ≡ left_paren_kind → (z.depth < within z.reach x → Q)
+  as_method : (start : Input) (i0 : List ℕ) (st : Bool) (x : Tree) (m y r : Input) (j : List ℕ) (V : Tree × State Input → Type 0) (Q : Type 0) → (is_key x || is_private x) ≡ true → Within z.Covered x → Produces x (coded p c) m y → kind y ≡ left_paren_kind → (z.depth < within z.reach x → Q)
       → ((l : List ℕ) → Reads (from y l) (class_method_by lm z.inner c (from start i0) st false false x (from y l)) V Q) → Reads (from m j) (field_or_method lm z.inner c (from start i0) st (from m j)) V Q
   unfolding field_or_method
   as_method start i0 st x m y r j V Q k w h e f v = then_is (class_key lm z.inner c (from m j)) _ x y (z.depth < within z.reach x) _ _ (any_key_found z p c x m y j k w h) f (λ l. if_yes (kind y == left_paren_kind) _ _ _ _ (eq-eqb (kind y) left_paren_kind e) (v l))
 
-  as_field : (start : Input) (i0 : List ℕ) (st : Bool) (s : Span) (x v : Tree) (m y r : Input) (j : List ℕ) → (is_key x || is_private x) ≡ true → Within z.Covered x → z.Covered v → Spells x (coded p c) m y → Initial (coded p c) (field_end st (kind m)) (part v (λ y. Spells v y)) y r → s ≡ span (lo start) r.last
+  as_field : (start : Input) (i0 : List ℕ) (st : Bool) (s : Span) (x v : Tree) (m y r : Input) (j : List ℕ) → (is_key x || is_private x) ≡ true → Within z.Covered x → z.Covered v → Produces x (coded p c) m y → Initial (coded p c) (field_end st (kind m)) (child v (λ y. Produces v y)) y r → s ≡ span (lo start) r.last
       → Reads (from m j) (field_or_method lm z.inner c (from start i0) st (from m j)) (Is (if is_private x then private_prop s x v st none else class_prop s x v st none) r) (z.depth < max (within z.reach x) (z.reach v))
   unfolding field_or_method
   as_field start i0 st s x v m y r j k w g h t e = then_is (class_key lm z.inner c (from m j)) _ x y (z.depth < within z.reach x) _ _ (any_key_found z p c x m y j k w h) (λ u. omega arith)
@@ -193,7 +193,7 @@ module _ (z : Nested) (p : Bool) (c : Code) (i : has_in c ≡ true) where
       by_sort true n = here (ap (λ (d : Span). private_prop d x v st none) (sym e))
       by_sort false n = here (ap (λ (d : Span). class_prop d x v st none) (sym e))
 
-  opens_paren : (t : Span) (ps ds : Trees) (b : Tree) (g a : Bool) (n r : Input) → Spells (function t ps ds b g a) (setting false (coded p c)) n r → kind n ≡ left_paren_kind
+  opens_paren : (t : Span) (ps ds : Trees) (b : Tree) (g a : Bool) (n r : Input) → Produces (function t ps ds b g a) (setting false (coded p c)) n r → kind n ≡ left_paren_kind
   opens_paren t ps ds (block_stmt q ss) g a n r h = h.2.1.0
   opens_paren t ps ds _ g a n r h = absurd h
 
@@ -211,28 +211,28 @@ module _ (z : Nested) (p : Bool) (c : Code) (i : has_in c ≡ true) where
   plain_static st m y l s (inl e) w = ⊎_elim (λ q. and_right (kind m == static_kind) _ (subst (λ (d : Input). (starts_key (kind d) || ((kind d == mul_kind) || (kind d == left_brace_kind))) ≡ false) (sym e.1) (w.static_ s (eqb-true (kind m) static_kind q)))) (λ q. and_left (kind m == static_kind) _ q)
       (cases_Bool (kind m == static_kind))
 
-  key_rested : (ts : Input) (k : List ℕ) (st : Bool) (t x : Tree) (m y r : Input) (P : Type 0) → (is_key x || is_private x) ≡ true → Spells x (coded p c) m y → Plain st m y → ((j : List ℕ) → Reads (from m j) (field_or_method lm z.inner c (from ts k) st (from m j)) (Is t r) P) → Rested ts k st t m r P
+  key_rested : (ts : Input) (k : List ℕ) (st : Bool) (t x : Tree) (m y r : Input) (P : Type 0) → (is_key x || is_private x) ≡ true → Produces x (coded p c) m y → Plain st m y → ((j : List ℕ) → Reads (from m j) (field_or_method lm z.inner c (from ts k) st (from m j)) (Is t r) P) → Rested ts k st t m r P
   key_rested ts k st t x m y r P i h w v = let o = any_key_starts x (coded p c) m y i h in
       record { first = or_left (starts_key (kind m)) _ o.0; apart = λ s l. plain_static st m y l s o.1 w; read = λ j. keyed ts k st r (Is t r) P x m y j i h w (v j) }
 
-  generator_first : (g : Bool) (x : Tree) (w y n : Input) → Star g (coded p c) w y → (is_key x || is_private x) ≡ true → Spells x (coded p c) y n → (starts_key (kind w) || (kind w == mul_kind)) ≡ true
+  generator_first : (g : Bool) (x : Tree) (w y n : Input) → Star g (coded p c) w y → (is_key x || is_private x) ≡ true → Produces x (coded p c) y n → (starts_key (kind w) || (kind w == mul_kind)) ≡ true
   generator_first true x w y n s i h = or_right (starts_key (kind w)) _ (eq-eqb (kind w) mul_kind s.0)
   generator_first false x w y n s i h = subst (λ (d : Input). (starts_key (kind d) || (kind d == mul_kind)) ≡ true) (sym s) (or_left (starts_key (kind y)) _ (any_key_starts x (coded p c) y n i h).0)
 
-  async_rest : (ts : Input) (k : List ℕ) (st : Bool) (m w : Input) (j : List ℕ) (V : Tree × Stand Input → Type 0) (Q : Type 0) → kind m ≡ async_kind → rest m ≡ w → brk w ≡ false → (starts_key (kind w) || (kind w == mul_kind)) ≡ true
+  async_rest : (ts : Input) (k : List ℕ) (st : Bool) (m w : Input) (j : List ℕ) (V : Tree × State Input → Type 0) (Q : Type 0) → kind m ≡ async_kind → rest m ≡ w → brk w ≡ false → (starts_key (kind w) || (kind w == mul_kind)) ≡ true
       → Reads (from w j) (generator_member lm z.inner c (from ts k) st true (from w j)) V Q → Reads (from m j) (member_rest lm z.inner c (from ts k) st (from m j)) V Q
   unfolding member_rest
   async_rest ts k st m w j V Q e q b f v = if_no (kind m == mul_kind) _ _ V Q (subst (λ (n : ℕ). eqb n mul_kind ≡ false) (sym e) refl)
       (if_yes (is_async_head lm z.inner (from m j)) _ _ V Q (and_from (kind m == async_kind) _ (eq-eqb (kind m) async_kind e) (subst (λ (d : Input). ((starts_key (kind d) || (kind d == mul_kind)) && not (brk d)) ≡ true) (sym q) (and_from _ _ f (ap not b))))
       (onto m w j (λ d. generator_member lm z.inner c (from ts k) st true d) V Q q v))
 
-  star_rest : (ts : Input) (k : List ℕ) (st : Bool) (m : Input) (j : List ℕ) (V : Tree × Stand Input → Type 0) (Q : Type 0) → kind m ≡ mul_kind → Reads (from m j) (generator_member lm z.inner c (from ts k) st false (from m j)) V Q → Reads (from m j) (member_rest lm z.inner c (from ts k) st (from m j)) V Q
+  star_rest : (ts : Input) (k : List ℕ) (st : Bool) (m : Input) (j : List ℕ) (V : Tree × State Input → Type 0) (Q : Type 0) → kind m ≡ mul_kind → Reads (from m j) (generator_member lm z.inner c (from ts k) st false (from m j)) V Q → Reads (from m j) (member_rest lm z.inner c (from ts k) st (from m j)) V Q
   unfolding member_rest
   star_rest ts k st m j V Q e v = if_yes (kind m == mul_kind) _ _ V Q (eq-eqb (kind m) mul_kind e) v
 
   module _ (ts : Input) (k : List ℕ) (st : Bool) (s : Span) (x : Tree) (i1 : (is_key x || is_private x) ≡ true) (gx : Within z.Covered x) where
-    plain_rested : (t : Span) (ps ds : Trees) (b : Tree) (g a : Bool) (m w y n r : Input) → (constructs x && (not st && (not g && not a))) ≡ false → Within z.Covered (function t ps ds b g a) → Async a (coded p c) m w → Star g (coded p c) w y → Spells x (coded p c) y n
-        → Spells (function t ps ds b g a) (setting false (coded p c)) n r → t ≡ span (lo ts) r.last → s ≡ span (lo ts) r.last → Rested ts k st (method_tree lm z.inner s x (function t ps ds b g a) plain_method st) m r (z.depth < max (within z.reach x) (within z.reach (function t ps ds b g a)))
+    plain_rested : (t : Span) (ps ds : Trees) (b : Tree) (g a : Bool) (m w y n r : Input) → (constructs x && (not st && (not g && not a))) ≡ false → Within z.Covered (function t ps ds b g a) → Async a (coded p c) m w → Star g (coded p c) w y → Produces x (coded p c) y n
+        → Produces (function t ps ds b g a) (setting false (coded p c)) n r → t ≡ span (lo ts) r.last → s ≡ span (lo ts) r.last → Rested ts k st (method_tree lm z.inner s x (function t ps ds b g a) plain_method st) m r (z.depth < max (within z.reach x) (within z.reach (function t ps ds b g a)))
     plain_rested t ps ds b g true m w y n r q f u v h o e d = record {
       first = or_left (starts_key (kind m)) _ (subst (λ (n : ℕ). starts_key n ≡ true) (sym u.0.0) refl);
       apart = λ _ l. no_static m async_kind l u.0.0 refl;
@@ -244,21 +244,21 @@ module _ (z : Nested) (p : Bool) (c : Code) (i : has_in c ≡ true) where
           apart = λ _ l. no_static m mul_kind l v2.0 refl;
           read = λ j. star_rest ts k st m j _ _ v2.0 (starred ts k st r _ _ true false x m y j v2 i1 n gx h (λ le. omega arith) (λ l. lifted (method_end ts k st s x t ps ds b true false n r l q f o e d) (λ le. omega arith)));
         }
-    plain_rested t ps ds b false false m w y n r q f u v h o e d = let h2 : Spells x (coded p c) m n = subst (λ (d : Input). Spells x (coded p c) d n) (sym (u ∙ v)) h in let q2 = opens_paren t ps ds b false false n r o in
+    plain_rested t ps ds b false false m w y n r q f u v h o e d = let h2 : Produces x (coded p c) m n = subst (λ (d : Input). Produces x (coded p c) d n) (sym (u ∙ v)) h in let q2 = opens_paren t ps ds b false false n r o in
         key_rested ts k st (method_tree lm z.inner s x (function t ps ds b false false) plain_method st) x m n r _ i1 h2 (plain_at st m n left_paren_kind q2 refl refl refl)
         (λ j. as_method ts k st x m n r j _ _ i1 gx h2 q2 (λ le. omega arith) (λ l. lifted (method_end ts k st s x t ps ds b false false n r l q f o e d) (λ le. omega arith)))
 
-    constructor_rested : (ps : Trees) (q : Span) (ss : Trees) (m y n r : Input) → (constructs x && (not st && true)) ≡ true → Withins z.Covered ps → z.Covered (block_stmt q ss) → Spells x (coded p c) m y → Parameters (in_body false false (coded p c)) (parts ps) y n → Body (in_body false false (coded p c)) q (parts ss) n r → s ≡ span (lo ts) r.last
+    constructor_rested : (ps : Trees) (q : Span) (ss : Trees) (m y n r : Input) → (constructs x && (not st && true)) ≡ true → Withins z.Covered ps → z.Covered (block_stmt q ss) → Produces x (coded p c) m y → Parameters (in_body false false (coded p c)) (children ps) y n → Body (in_body false false (coded p c)) q (children ss) n r → s ≡ span (lo ts) r.last
         → Rested ts k st (constructor s x ps (block_stmt q ss)) m r (z.depth < max (within z.reach x) (max (withins z.reach ps) (z.reach (block_stmt q ss))))
     constructor_rested ps q ss m y n r w gp gb h hp hb e = key_rested ts k st (constructor s x ps (block_stmt q ss)) x m y r _ i1 h (plain_at st m y left_paren_kind hp.1.0 refl refl refl)
         (λ j. as_method ts k st x m y r j _ _ i1 gx h hp.1.0 (λ le. omega arith) (λ l. lifted (constructor_end ts k st s x s ps q ss y n r l w gp gb hp hb e) (λ le. omega arith)))
 
-    field_rested : (v : Tree) (m y r : Input) → z.Covered v → Spells x (coded p c) m y → Initial (coded p c) (field_end st (kind m)) (part v (λ y. Spells v y)) y r → s ≡ span (lo ts) r.last → Rested ts k st (if is_private x then private_prop s x v st none else class_prop s x v st none) m r (z.depth < max (within z.reach x) (z.reach v))
+    field_rested : (v : Tree) (m y r : Input) → z.Covered v → Produces x (coded p c) m y → Initial (coded p c) (field_end st (kind m)) (child v (λ y. Produces v y)) y r → s ≡ span (lo ts) r.last → Rested ts k st (if is_private x then private_prop s x v st none else class_prop s x v st none) m r (z.depth < max (within z.reach x) (z.reach v))
     field_rested v m y r g h t e = key_rested ts k st (if is_private x then private_prop s x v st none else class_prop s x v st none) x m y r _ i1 h (plain_field p c st v m y r t).0 (λ j. as_field ts k st s x v m y r j i1 gx g h t e)
 
     -- ---- getters, setters and accessors
 
-    getter_read : (t q : Span) (ds ss : Trees) (m y n r : Input) (j : List ℕ) → z.Covered (block_stmt q ss) → kind m ≡ get_kind → rest m ≡ y → Spells x (coded p c) y n → Spells (function t none ds (block_stmt q ss) false false) (setting false (coded p c)) n r → t ≡ span (lo ts) r.last → s ≡ span (lo ts) r.last
+    getter_read : (t q : Span) (ds ss : Trees) (m y n r : Input) (j : List ℕ) → z.Covered (block_stmt q ss) → kind m ≡ get_kind → rest m ≡ y → Produces x (coded p c) y n → Produces (function t none ds (block_stmt q ss) false false) (setting false (coded p c)) n r → t ≡ span (lo ts) r.last → s ≡ span (lo ts) r.last
         → Reads (from m j) (member_rest lm z.inner c (from ts k) st (from m j)) (Is (method_tree lm z.inner s x (function t none ds (block_stmt q ss) false false) get_kind st) r) (z.depth < max (within z.reach x) (z.reach (block_stmt q ss)))
     unfolding member_rest class_getter
     getter_read t q ds ss m y n r j g e u h o d v = if_no (kind m == mul_kind) _ _ _ _ (is_no mul_kind refl) (if_no (is_async_head lm z.inner (from m j)) _ _ _ _ (and_left (kind m == async_kind) _ (is_no async_kind refl))
@@ -271,7 +271,7 @@ module _ (z : Nested) (p : Bool) (c : Code) (i : has_in c ≡ true) where
         is_no : (n : ℕ) → eqb get_kind n ≡ false → eqb (kind m) n ≡ false
         is_no n w = subst (λ (d : ℕ). eqb d n ≡ false) (sym e) w
 
-    setter_read : (t q : Span) (a : Tree) (ds ss : Trees) (m y n r : Input) (j : List ℕ) → Within z.Covered a → z.Covered (block_stmt q ss) → kind m ≡ set_kind → rest m ≡ y → Spells x (coded p c) y n → Spells (function t (more a none) ds (block_stmt q ss) false false) (setting true (coded p c)) n r → t ≡ span (lo ts) r.last → s ≡ span (lo ts) r.last
+    setter_read : (t q : Span) (a : Tree) (ds ss : Trees) (m y n r : Input) (j : List ℕ) → Within z.Covered a → z.Covered (block_stmt q ss) → kind m ≡ set_kind → rest m ≡ y → Produces x (coded p c) y n → Produces (function t (more a none) ds (block_stmt q ss) false false) (setting true (coded p c)) n r → t ≡ span (lo ts) r.last → s ≡ span (lo ts) r.last
         → Reads (from m j) (member_rest lm z.inner c (from ts k) st (from m j)) (Is (method_tree lm z.inner s x (function t (more a none) ds (block_stmt q ss) false false) set_kind st) r) (z.depth < max (within z.reach x) (max (within z.reach a) (z.reach (block_stmt q ss))))
     unfolding member_rest class_setter
     setter_read t q a ds ss m y n r j ga g e u h o d v = if_no (kind m == mul_kind) _ _ _ _ (is_no mul_kind refl) (if_no (is_async_head lm z.inner (from m j)) _ _ _ _ (and_left (kind m == async_kind) _ (is_no async_kind refl))
@@ -286,7 +286,7 @@ module _ (z : Nested) (p : Bool) (c : Code) (i : has_in c ≡ true) where
         is_no : (n : ℕ) → eqb set_kind n ≡ false → eqb (kind m) n ≡ false
         is_no n w = subst (λ (d : ℕ). eqb d n ≡ false) (sym e) w
 
-    accessor_read : (v : Tree) (ds : Trees) (m y n r : Input) (j : List ℕ) → z.Covered v → c.syntax.auto_accessors ≡ true → IsEmpty (parts ds) → kind m ≡ accessor_kind → rest m ≡ y → brk y ≡ false → Spells x (coded p c) y n → Initial (coded p c) key_end (part v (λ y. Spells v y)) n r → s ≡ span (lo ts) r.last
+    accessor_read : (v : Tree) (ds : Trees) (m y n r : Input) (j : List ℕ) → z.Covered v → c.syntax.auto_accessors ≡ true → IsEmpty (children ds) → kind m ≡ accessor_kind → rest m ≡ y → brk y ≡ false → Produces x (coded p c) y n → Initial (coded p c) key_end (child v (λ y. Produces v y)) n r → s ≡ span (lo ts) r.last
         → Reads (from m j) (member_rest lm z.inner c (from ts k) st (from m j)) (Is (auto_accessor s x v st ds) r) (z.depth < max (within z.reach x) (z.reach v))
     unfolding member_rest accessor_by
     accessor_read v ds m y n r j g on em e u b h t w = if_no (kind m == mul_kind) _ _ _ _ (is_no mul_kind refl) (if_no (is_async_head lm z.inner (from m j)) _ _ _ _ (and_left (kind m == async_kind) _ (is_no async_kind refl))
@@ -312,8 +312,8 @@ module _ (z : Nested) (p : Bool) (c : Code) (i : has_in c ≡ true) where
   tree_private : (s : Span) (x f : Tree) (k : ℕ) (st : Bool) → is_private x ≡ true → method_tree lm z.inner s x f k st ≡ private_method s x f k st
   tree_private s x f k st h = rw h refl
 
-  get_rested : (ts : Input) (k : List ℕ) (st : Bool) (s : Span) (x : Tree) (t : Span) (ps ds : Trees) (b : Tree) (m y n r : Input) → (is_key x || is_private x) ≡ true → Within z.Covered x → Within z.Covered (function t ps ds b false false) → count_of ps ≡ 0 → kind m ≡ get_kind → rest m ≡ y → Spells x (coded p c) y n
-      → Spells (function t ps ds b false false) (setting false (coded p c)) n r → t ≡ span (lo ts) r.last → s ≡ span (lo ts) r.last → Rested ts k st (method_tree lm z.inner s x (function t ps ds b false false) get_kind st) m r (z.depth < max (within z.reach x) (within z.reach (function t ps ds b false false)))
+  get_rested : (ts : Input) (k : List ℕ) (st : Bool) (s : Span) (x : Tree) (t : Span) (ps ds : Trees) (b : Tree) (m y n r : Input) → (is_key x || is_private x) ≡ true → Within z.Covered x → Within z.Covered (function t ps ds b false false) → count_of ps ≡ 0 → kind m ≡ get_kind → rest m ≡ y → Produces x (coded p c) y n
+      → Produces (function t ps ds b false false) (setting false (coded p c)) n r → t ≡ span (lo ts) r.last → s ≡ span (lo ts) r.last → Rested ts k st (method_tree lm z.inner s x (function t ps ds b false false) get_kind st) m r (z.depth < max (within z.reach x) (within z.reach (function t ps ds b false false)))
   get_rested ts k st s x t none ds (block_stmt q ss) m y n r i gx g cz e u h o d v = record {
     first = or_left (starts_key (kind m)) _ (subst (λ (n : ℕ). starts_key n ≡ true) (sym e) refl);
     apart = λ _ l. no_static m get_kind l e refl;
@@ -322,8 +322,8 @@ module _ (z : Nested) (p : Bool) (c : Code) (i : has_in c ≡ true) where
   get_rested ts k st s x t none ds b m y n r i gx g cz e u h o d v = absurd o
   get_rested ts k st s x t (more a as_) ds b m y n r i gx g cz e u h o d v = absurd (omega (arith, cz))
 
-  set_rested : (ts : Input) (k : List ℕ) (st : Bool) (s : Span) (x : Tree) (t : Span) (ps ds : Trees) (b : Tree) (m y n r : Input) → (is_key x || is_private x) ≡ true → Within z.Covered x → Within z.Covered (function t ps ds b false false) → kind m ≡ set_kind → rest m ≡ y → Spells x (coded p c) y n
-      → Spells (function t ps ds b false false) (setting true (coded p c)) n r → t ≡ span (lo ts) r.last → s ≡ span (lo ts) r.last → Rested ts k st (method_tree lm z.inner s x (function t ps ds b false false) set_kind st) m r (z.depth < max (within z.reach x) (within z.reach (function t ps ds b false false)))
+  set_rested : (ts : Input) (k : List ℕ) (st : Bool) (s : Span) (x : Tree) (t : Span) (ps ds : Trees) (b : Tree) (m y n r : Input) → (is_key x || is_private x) ≡ true → Within z.Covered x → Within z.Covered (function t ps ds b false false) → kind m ≡ set_kind → rest m ≡ y → Produces x (coded p c) y n
+      → Produces (function t ps ds b false false) (setting true (coded p c)) n r → t ≡ span (lo ts) r.last → s ≡ span (lo ts) r.last → Rested ts k st (method_tree lm z.inner s x (function t ps ds b false false) set_kind st) m r (z.depth < max (within z.reach x) (within z.reach (function t ps ds b false false)))
   set_rested ts k st s x t (more a none) ds (block_stmt q ss) m y n r i gx g e u h o d v = record {
     first = or_left (starts_key (kind m)) _ (subst (λ (n : ℕ). starts_key n ≡ true) (sym e) refl);
     apart = λ _ l. no_static m set_kind l e refl;
@@ -335,21 +335,21 @@ module _ (z : Nested) (p : Bool) (c : Code) (i : has_in c ≡ true) where
 
   -- a method by its kind
   method_rested : (may : Tree → Bool) (ts : Input) (k : List ℕ) (st : Bool) (s : Span) (x : Tree) (t : Span) (ps ds : Trees) (b : Tree) (g a : Bool) (o : ℕ) (r : Input) → (is_key x || is_private x) ≡ true → Within z.Covered x → Within z.Covered (function t ps ds b g a)
-      → (h : ClassMethod may (coded p c) s (part x (λ y. Spells x y)) (part (function t ps ds b g a) (λ y. Spells (function t ps ds b g a) y)) (Some (record { span = t; generator = g; async = a; count = count_of ps })) o st ts r)
+      → (h : ClassMethod may (coded p c) s (child x (λ y. Produces x y)) (child (function t ps ds b g a) (λ y. Produces (function t ps ds b g a) y)) (Some (record { span = t; generator = g; async = a; count = count_of ps })) o st ts r)
       → Rested ts k st (method_tree lm z.inner s x (function t ps ds b g a) o st) h.0 r (z.depth < max (within z.reach x) (within z.reach (function t ps ds b g a)))
   method_rested may ts k st s x t ps ds b g a o r i gx gf h = by_cases (o == plain_method) _ _ _ h.4
       (λ e y. let q = eqb-true o plain_method e in subst (λ (o : ℕ). Rested ts k st (method_tree lm z.inner s x (function t ps ds b g a) o st) h.0 r (z.depth < max (within z.reach x) (within z.reach (function t ps ds b g a)))) (sym q)
       (plain_rested ts k st s x i gx t ps ds b g a h.0 y.2.0 y.0 y.1 r (subst (λ (o : ℕ). (constructs x && (not st && ((o == plain_method) && (not g && not a)))) ≡ false) q h.2) gf y.2.1 y.2.2 y.3 y.4 (h.5 ∙ h.6) h.6))
       (λ e y. accessed g a y.3 y.4 gf y.0 y.1 y.2 y.5 y.6 y.7)
     where
-      accessed : (g a : Bool) → g ≡ false → a ≡ false → Within z.Covered (function t ps ds b g a) → (m n : Input) → ((o ≡ get_kind) × (count_of ps ≡ 0)) ⊎ (o ≡ set_kind) → TakesWord (coded p c) o h.0 m → Spells x (coded p c) m n → Spells (function t ps ds b g a) (setting (o == set_kind) (coded p c)) n r
+      accessed : (g a : Bool) → g ≡ false → a ≡ false → Within z.Covered (function t ps ds b g a) → (m n : Input) → ((o ≡ get_kind) × (count_of ps ≡ 0)) ⊎ (o ≡ set_kind) → TakesWord (coded p c) o h.0 m → Produces x (coded p c) m n → Produces (function t ps ds b g a) (setting (o == set_kind) (coded p c)) n r
           → Rested ts k st (method_tree lm z.inner s x (function t ps ds b g a) o st) h.0 r (z.depth < max (within z.reach x) (within z.reach (function t ps ds b g a)))
       accessed true a eg ea w m n v u d f = absurd (true≢false eg)
       accessed false true eg ea w m n v u d f = absurd (true≢false ea)
       accessed false false eg ea w m n (inl v) u d f = subst (λ (o : ℕ). Rested ts k st (method_tree lm z.inner s x (function t ps ds b false false) o st) h.0 r (z.depth < max (within z.reach x) (within z.reach (function t ps ds b false false)))) (sym v.0)
-          (get_rested ts k st s x t ps ds b h.0 m n r i gx w v.1 (u.0 ∙ v.0) u.3 d (subst (λ (o : ℕ). Spells (function t ps ds b false false) (setting (o == set_kind) (coded p c)) n r) v.0 f) (h.5 ∙ h.6) h.6)
+          (get_rested ts k st s x t ps ds b h.0 m n r i gx w v.1 (u.0 ∙ v.0) u.3 d (subst (λ (o : ℕ). Produces (function t ps ds b false false) (setting (o == set_kind) (coded p c)) n r) v.0 f) (h.5 ∙ h.6) h.6)
       accessed false false eg ea w m n (inr v) u d f = subst (λ (o : ℕ). Rested ts k st (method_tree lm z.inner s x (function t ps ds b false false) o st) h.0 r (z.depth < max (within z.reach x) (within z.reach (function t ps ds b false false)))) (sym v)
-          (set_rested ts k st s x t ps ds b h.0 m n r i gx w (u.0 ∙ v) u.3 d (subst (λ (o : ℕ). Spells (function t ps ds b false false) (setting (o == set_kind) (coded p c)) n r) v f) (h.5 ∙ h.6) h.6)
+          (set_rested ts k st s x t ps ds b h.0 m n r i gx w (u.0 ∙ v) u.3 d (subst (λ (o : ℕ). Produces (function t ps ds b false false) (setting (o == set_kind) (coded p c)) n r) v f) (h.5 ∙ h.6) h.6)
 
   -- one step, with `static` or without
   unstatic_step : (x : Tree) (acc : List Tree) (ts m r : Input) (k : List ℕ) (P : Type 0) → ts ≡ m → Rested ts k false x m r P → Reads (from ts k) (member_step lm z.inner c acc (from ts k)) (Is (go_on (acc ++ x ∷ [])) r) P
@@ -379,7 +379,7 @@ module _ (z : Nested) (p : Bool) (c : Code) (i : has_in c ≡ true) where
   either_step true x acc ts m r k P t w = static_step x acc ts m r k P t w
   either_step false x acc ts m r k P t w = unstatic_step x acc ts m r k P t w
 
-  block_step : (s q : Span) (ss : Trees) (acc : List Tree) (ts r : Input) (k : List ℕ) → Each z.Covered ss → Spells (static_block s (block_stmt q ss)) (coded p c) ts r → Reads (from ts k) (member_step lm z.inner c acc (from ts k)) (Is (go_on (acc ++ static_block s (block_stmt q ss) ∷ [])) r) (z.depth < most z.reach ss)
+  block_step : (s q : Span) (ss : Trees) (acc : List Tree) (ts r : Input) (k : List ℕ) → Each z.Covered ss → Produces (static_block s (block_stmt q ss)) (coded p c) ts r → Reads (from ts k) (member_step lm z.inner c acc (from ts k)) (Is (go_on (acc ++ static_block s (block_stmt q ss) ∷ [])) r) (z.depth < most z.reach ss)
   unfolding member_step static_by
   block_step s q ss acc ts r k g h = if_no (kind ts == right_brace_kind) _ _ _ _ (no right_brace_kind refl) (if_no (kind ts == semicolon_kind) _ _ _ _ (no semicolon_kind refl)
       (if_yes (starts_static lm z.inner (from ts k)) _ _ _ _ (and_from (kind ts == static_kind) _ (eq-eqb (kind ts) static_kind h.2.0) (subst (λ (d : Input). (starts_key (kind d) || ((kind d == mul_kind) || (kind d == left_brace_kind))) ≡ true) (sym h.2.3) (subst (λ (n : ℕ). (starts_key n || ((n == mul_kind) || (n == left_brace_kind))) ≡ true) (sym h.3.0) refl)))
@@ -389,7 +389,7 @@ module _ (z : Nested) (p : Bool) (c : Code) (i : has_in c ≡ true) where
       no : (n : ℕ) → eqb static_kind n ≡ false → eqb (kind ts) n ≡ false
       no n a = subst (λ (d : ℕ). eqb d n ≡ false) (sym h.2.0) a
 
-  empty_step : (s : Span) (acc : List Tree) (ts r : Input) (k : List ℕ) (P : Type 0) → Spells (empty_stmt s) (coded p c) ts r → Reads (from ts k) (member_step lm z.inner c acc (from ts k)) (Is (go_on (acc ++ empty_stmt s ∷ [])) r) P
+  empty_step : (s : Span) (acc : List Tree) (ts r : Input) (k : List ℕ) (P : Type 0) → Produces (empty_stmt s) (coded p c) ts r → Reads (from ts k) (member_step lm z.inner c acc (from ts k)) (Is (go_on (acc ++ empty_stmt s ∷ [])) r) P
   unfolding member_step
   empty_step s acc ts r k P h = if_no (kind ts == right_brace_kind) _ _ _ _ (subst (λ (n : ℕ). eqb n right_brace_kind ≡ false) (sym h.0.0) refl) (if_yes (kind ts == semicolon_kind) _ _ _ _ (eq-eqb (kind ts) semicolon_kind h.0.0)
       (past_here (ap (λ (y : Span). go_on (acc ++ empty_stmt y ∷ [])) (first_at ts r s h.0.2 h.1)) h.0.2))
@@ -399,7 +399,7 @@ module _ (z : Nested) (p : Bool) (c : Code) (i : has_in c ≡ true) where
   constructs_key (str_lit s u w) h = refl
   constructs_key _ h = absurd (true≢false (sym h))
 
-  member_found : (x : Tree) (acc : List Tree) (ts r : Input) (k : List ℕ) → is_member x ≡ true → Within z.Covered x → Spells x (coded p c) ts r → Reads (from ts k) (member_step lm z.inner c acc (from ts k)) (Is (go_on (acc ++ x ∷ [])) r) (z.depth < within z.reach x)
+  member_found : (x : Tree) (acc : List Tree) (ts r : Input) (k : List ℕ) → is_member x ≡ true → Within z.Covered x → Produces x (coded p c) ts r → Reads (from ts k) (member_step lm z.inner c acc (from ts k)) (Is (go_on (acc ++ x ∷ [])) r) (z.depth < within z.reach x)
   member_found (empty_stmt s) acc ts r k i g h = empty_step s acc ts r k _ h
   member_found (static_block s (block_stmt q ss)) acc ts r k i g h = block_step s q ss acc ts r k g h
   member_found (static_block s _) acc ts r k i g h = absurd h
@@ -426,7 +426,7 @@ module _ (z : Nested) (p : Bool) (c : Code) (i : has_in c ≡ true) where
       })
   member_found _ acc ts r k i g h = absurd (true≢false (sym i))
 
-  member_less : (x : Tree) (ts r : Input) → is_member x ≡ true → Spells x (coded p c) ts r → len r < len ts
+  member_less : (x : Tree) (ts r : Input) → is_member x ≡ true → Produces x (coded p c) ts r → len r < len ts
   member_less x ts r i h = omega (arith, member_least x i, cut x (coded p c) ts r h)
     where
       member_least : (x : Tree) → is_member x ≡ true → least x ≡ 1
@@ -439,18 +439,18 @@ module _ (z : Nested) (p : Bool) (c : Code) (i : has_in c ≡ true) where
   unfolding member_step
   members_end acc ts r k e q = if_yes (kind ts == right_brace_kind) _ _ _ _ (eq-eqb (kind ts) right_brace_kind e) (past_here refl q)
 
-  members_loop : (xs : Trees) (acc : List Tree) (ts r : Input) (k : List ℕ) (b : ℕ) → Withins z.Covered xs → Members (coded p c) (parts xs) ts r → withins z.reach xs ≤ b → Loops (member_step lm z.inner c) acc ts k (Is (acc ++ unpack xs) r) (z.depth < b)
+  members_loop : (xs : Trees) (acc : List Tree) (ts r : Input) (k : List ℕ) (b : ℕ) → Withins z.Covered xs → Members (coded p c) (children xs) ts r → withins z.reach xs ≤ b → Loops (member_step lm z.inner c) acc ts k (Is (acc ++ unpack xs) r) (z.depth < b)
   members_loop none acc ts r k b g h le = loop_end _ _ acc ts r k ⊥ _ _ (members_end acc ts r k h.0 h.2) (λ u. absurd u) (λ l. (sym (append-nil acc), refl))
   members_loop (more x xs) acc ts r k b g h le = loop_on _ _ (acc ++ x ∷ []) ts h.0 k (z.depth < within z.reach x) _ _ (member_found x acc ts h.0 k h.1.0 g.0 h.1.1) (λ u. omega arith) (member_less x ts h.0 h.1.0 h.1.1)
       (λ l. subst (λ ys. Loops (member_step lm z.inner c) (acc ++ x ∷ []) h.0 l (Is ys r) (z.depth < b)) (append_assoc acc (x ∷ []) (unpack xs)) (members_loop xs (acc ++ x ∷ []) h.0 r l b g.1 h.2 (omega arith)))
 
-  members_found : (s : Span) (w : ℕ) (ms : Trees) (x : Tree) (m n r : Input) (k : List ℕ) → Withins z.Covered ms → kind m ≡ left_brace_kind → rest m ≡ n → Members (coded p c) (parts ms) n r → s ≡ span w r.last → Reads (from m k) (members_by lm z.inner c w x (from m k)) (Is (class s none ms x) r) (z.depth < withins z.reach ms)
+  members_found : (s : Span) (w : ℕ) (ms : Trees) (x : Tree) (m n r : Input) (k : List ℕ) → Withins z.Covered ms → kind m ≡ left_brace_kind → rest m ≡ n → Members (coded p c) (children ms) n r → s ≡ span w r.last → Reads (from m k) (members_by lm z.inner c w x (from m k)) (Is (class s none ms x) r) (z.depth < withins z.reach ms)
   unfolding members_by
   members_found s w ms x m n r k g e q h v = then_eat left_brace_kind m n k _ _ _ e q (then_is _ _ (unpack ms) r (z.depth < withins z.reach ms) _ _ (looped (member_step lm z.inner c) [] n k (Is (unpack ms) r) _ (members_loop ms [] n r k (withins z.reach ms) g h (omega arith))) (λ u. u)
       (λ j. here (ap (λ (y : Span). class y none (pack (unpack ms)) x) (sym v) ∙ ap (λ (y : Trees). class s none y x) (pack_unpack ms))))
 
   -- What follows the name of a class is read.
-  tail_found : (s : Span) (ms : Trees) (x : Tree) (w : ℕ) (ts r : Input) (k : List ℕ) → Within z.Covered (class s none ms x) → s ≡ span w r.last → Spells (class s none ms x) (coded p c) ts r → Reads (from ts k) (class_tail_by lm z.inner c w (from ts k)) (Is (class s none ms x) r) (z.depth < within z.reach (class s none ms x))
+  tail_found : (s : Span) (ms : Trees) (x : Tree) (w : ℕ) (ts r : Input) (k : List ℕ) → Within z.Covered (class s none ms x) → s ≡ span w r.last → Produces (class s none ms x) (coded p c) ts r → Reads (from ts k) (class_tail_by lm z.inner c w (from ts k)) (Is (class s none ms x) r) (z.depth < within z.reach (class s none ms x))
   unfolding class_tail_by
   tail_found s ms x w ts r k g v h = by_cases (is_absent x) _ _ _ h.3
       (λ q y. if_no (kind ts == extends_kind) _ _ _ _ (subst (λ (d : Input). eqb (kind d) extends_kind ≡ false) (sym y) (subst (λ (n : ℕ). eqb n extends_kind ≡ false) (sym h.4.0) refl))
@@ -460,9 +460,9 @@ module _ (z : Nested) (p : Bool) (c : Code) (i : has_in c ≡ true) where
       (z.expr x p c 18 y.0 h.0 k g.0 y.2.1 (omega arith) (omega arith) new_asked y.2.0 (halted c (ends x) 18 left_brace_kind h.0 h.4.0 refl refl (λ u. absurd (omega (arith, u, ends_high x y.2.0))) (omega arith))) (λ u. omega arith)
       (λ j. lifted (members_found s w ms x h.0 h.1 r j g.1 h.4.0 h.4.2 h.5 v) (λ u. omega arith)))))
 
-  pub class_tail_found : (t : Tree) (w : ℕ) (ts r : Input) (k : List ℕ) → Within z.Covered t → class_span t ≡ Some (span w r.last) → Spells t (coded p c) ts r → Reads (from ts k) (class_tail_by lm z.inner c w (from ts k)) (Is t r) (z.depth < within z.reach t)
+  pub class_tail_found : (t : Tree) (w : ℕ) (ts r : Input) (k : List ℕ) → Within z.Covered t → class_span t ≡ Some (span w r.last) → Produces t (coded p c) ts r → Reads (from ts k) (class_tail_by lm z.inner c w (from ts k)) (Is t r) (z.depth < within z.reach t)
   class_tail_found (class s ds ms x) w ts r k g e h = subst (λ (d : Trees). Reads (from ts k) (class_tail_by lm z.inner c w (from ts k)) (Is (class s d ms x) r) (z.depth < within z.reach (class s d ms x))) (sym (empty_none ds h.2))
-      (tail_found s ms x w ts r k g (some_same s (span w r.last) e) (subst (λ (d : Trees). Spells (class s d ms x) (coded p c) ts r) (empty_none ds h.2) h))
+      (tail_found s ms x w ts r k g (some_same s (span w r.last) e) (subst (λ (d : Trees). Produces (class s d ms x) (coded p c) ts r) (empty_none ds h.2) h))
     where
       some_same : (a b : Span) → Some a ≡ Some b → a ≡ b
       some_same a b e = ap (λ (o : Option Span). elim o [ None ↦ a | Some y ↦ y ]) e

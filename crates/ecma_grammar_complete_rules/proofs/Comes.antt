@@ -1,4 +1,4 @@
--- What a tree spells is read: the tree comes out of a prefix, or the loop goes on to it.
+-- What a tree produces is read: the tree comes out of a prefix, or the loop goes on to it.
 use Rattle.std.proofs.Common.{◌≡◌, ℕ, zero, suc, ◌+◌, ◌<◌, ◌≤◌, ◌⊎◌, inl, inr, max, Bool, true, false, not, ◌&&◌, ◌||◌, ◌==◌, eqb, leb, ltb, List, [], ◌∷◌, ◌++◌, Option, Some, refl, sym, ap, ◌∙◌, subst, ⊎_elim, true≢false, append_assoc, arith, cond, Result, Ok}
 use Rattle.std.proofs.lemmas.Bool.{leb-true, and_parts, or_left, false_from_ne_true, eqb-true, eq-eqb, cases_Bool, cases_eq, le-leb, le-ltb, and_from, and_left}
 use Rattle.ecma_token.specs.declared.place.Span.{Span}
@@ -8,10 +8,10 @@ use Rattle.ecma_syntax.specs.Input.{in_list, TakesWord, text, no_name, barred, b
 use Rattle.ecma_syntax.specs.Operators.{assignment_level, binary_level, right_level, operates, goes_expr, is_assign_op}
 use Rattle.ecma_syntax.specs.Shape.{is_absent, is_block, is_target, is_structured, is_simple, is_chain, is_private, level, ends, last_ends, fits_left}
 use Rattle.ecma_grammar.specs.Expressions.{is_update_op, is_unary_op, Call, Member, Dotted, TaggedTemplate, Optional, ChainMember, ChainCall, AccessedName, Bracketed, ArgumentList, SuperCall, ImportCall, Yield, Binary, Assignment}
-use Rattle.ecma_grammar.specs.Parts.{Part, part, CommaThen, Expr, Listed}
+use Rattle.ecma_grammar.specs.Children.{Child, child, CommaThen, Expr, Listed}
 use Rattle.ecma_grammar.specs.Functions.{ArrowPattern, ArrowHead, ArrowExpression, BareName, Async, Body}
-use Rattle.ecma_grammar.specs.Grammar.{Spells, parts}
-use Rattle.ecma_reading.specs.Source.{Stand, Inner, go_on, Fault, unexpected}
+use Rattle.ecma_grammar.specs.Grammar.{Produces, children}
+use Rattle.ecma_reading.specs.Source.{State, Inner, go_on, Fault, unexpected}
 use Rattle.ecma_reading.specs.Expressions.{assign_by, private_in, private_by, binary_by, member_by, index_by, call_by, chain_by, template_by, on_chain, extended, word_by, async_by, async_group, heads_params, arrows_at, element_step, element_by, expr_by, expr_from, loop_by, loop_step, step_by, prefix_by, elements_by, array_by}
 use Rattle.ecma_reading.specs.Cover.{to_target}
 use Rattle.ecma_reading.specs.Reading.{readers}
@@ -79,12 +79,12 @@ seq_is (seq_expr q xs) h = (q, xs, refl)
 seq_is _ h = absurd (true≢false (sym h))
 
 -- what is no sequence is an expression of the next level
-two_or : (e : Tree) (c : Code) (ts r : Input) → Covered e → Spells e c ts r → 1 ≤ level e → is_seq e ≡ false → 2 ≤ level e
+two_or : (e : Tree) (c : Code) (ts r : Input) → Covered e → Produces e c ts r → 1 ≤ level e → is_seq e ≡ false → 2 ≤ level e
 two_or (seq_expr s xs) c ts r g h l q = absurd (true≢false q)
 two_or (bin_expr s op a b) c ts r g h l q = omega (arith, binary_four op (operated c op h.2))
 two_or (member_expr s o k) c ts r g h l q = omega (arith, two_or_object s o k c ts r g h)
   where
-    two_or_object : (s : Span) (o k : Tree) (c : Code) (ts r : Input) → Covered (member_expr s o k) → Spells (member_expr s o k) c ts r → 19 ≤ level o
+    two_or_object : (s : Span) (o k : Tree) (c : Code) (ts r : Input) → Covered (member_expr s o k) → Produces (member_expr s o k) c ts r → 19 ≤ level o
     two_or_object s o (computed_prop_name t e) c ts r g h = h.2.0
     two_or_object s o k c ts r g h = h.2.0
 two_or (tagged_tpl s t (tpl u es qs)) c ts r g h l q = omega (arith, h.2.0)
@@ -139,7 +139,7 @@ two_or (fn_expr s n f) c ts r g h l q = omega arith
 two_or (class_expr s n k) c ts r g h l q = omega arith
 two_or _ c ts r g h l q = absurd (omega (arith, l))
 
-accessed_starts : (x : Tree) (c : Code) (m r : Input) → AccessedName true c (part x (λ y. Spells x y)) m r → (kind m ≡ left_paren_kind → ⊥) × (kind m ≡ left_bracket_kind → ⊥)
+accessed_starts : (x : Tree) (c : Code) (m r : Input) → AccessedName true c (child x (λ y. Produces x y)) m r → (kind m ≡ left_paren_kind → ⊥) × (kind m ≡ left_bracket_kind → ⊥)
 accessed_starts (ident_name s n) c m r h = (λ e. true≢false (sym h.1.0.0 ∙ ap is_word e), λ e. true≢false (sym h.1.0.0 ∙ ap is_word e))
 accessed_starts (private_name s n) c m r h = (λ e. omega (arith, e, h.1.1.0), λ e. omega (arith, e, h.1.1.0))
 accessed_starts _ c m r h = absurd (true≢false (sym h.0))
@@ -167,7 +167,7 @@ record TargetView (op : ℕ) (a : Tree) (c : Code) (ts m : Input) : Type 0 where
   tree : Tree
   small : size tree ≤ size a
   covered : Covered a → Covered tree
-  spelled : Spells tree c ts m
+  produced : Produces tree c ts m
   tight : 2 ≤ level tree
   last : ends tree ≡ 0
   none_after : tail tree ≡ 21
@@ -178,13 +178,13 @@ target_of : (b : Bool) (x : Tree) → b ≡ true → cond {A = Result Tree Fault
 target_of true x e = refl
 target_of false x e = absurd (true≢false (sym e))
 
-target_view : (op : ℕ) (a : Tree) (c : Code) (ts m : Input) → is_target op a ≡ true → Spells a c ts m → is_structured a ≡ false → TargetView op a c ts m
-target_view op (binding_ident s (ident t x)) c ts m e h st = record { tree = ident t x; small = omega arith; covered = λ g. g; spelled = subst (λ (y : Span). Spells (ident y x) c ts m) h.0 h.1; tight = omega arith; last = refl; none_after = refl; shallow = omega arith; target = λ j. ap (λ (y : Span). Ok (binding_ident y (ident t x))) (sym h.0) }
+target_view : (op : ℕ) (a : Tree) (c : Code) (ts m : Input) → is_target op a ≡ true → Produces a c ts m → is_structured a ≡ false → TargetView op a c ts m
+target_view op (binding_ident s (ident t x)) c ts m e h st = record { tree = ident t x; small = omega arith; covered = λ g. g; produced = subst (λ (y : Span). Produces (ident y x) c ts m) h.0 h.1; tight = omega arith; last = refl; none_after = refl; shallow = omega arith; target = λ j. ap (λ (y : Span). Ok (binding_ident y (ident t x))) (sym h.0) }
 target_view op (binding_ident s i) c ts m e h st = absurd h
-target_view op (member_expr s o (computed_prop_name t x)) c ts m e h st = record { tree = member_expr s o (computed_prop_name t x); small = omega arith; covered = λ g. g; spelled = h; tight = omega (arith, h.2.0); last = refl; none_after = refl; shallow = omega arith; target = λ j. refl }
-target_view op (member_expr s o k) c ts m e h st = record { tree = member_expr s o k; small = omega arith; covered = λ g. g; spelled = h; tight = omega (arith, h.2.0); last = refl; none_after = refl; shallow = omega arith; target = λ j. refl }
-target_view op (super_prop_expr s o k) c ts m e h st = record { tree = super_prop_expr s o k; small = omega arith; covered = λ g. g; spelled = h; tight = omega arith; last = refl; none_after = refl; shallow = omega arith; target = λ j. refl }
-target_view op (paren_expr s x) c ts m e h st = record { tree = paren_expr s x; small = omega arith; covered = λ g. g; spelled = h; tight = omega arith; last = refl; none_after = refl; shallow = omega arith; target = λ j. target_of (is_simple x) (paren_expr s x) (simple_of (is_simple x) (op == 60) e) }
+target_view op (member_expr s o (computed_prop_name t x)) c ts m e h st = record { tree = member_expr s o (computed_prop_name t x); small = omega arith; covered = λ g. g; produced = h; tight = omega (arith, h.2.0); last = refl; none_after = refl; shallow = omega arith; target = λ j. refl }
+target_view op (member_expr s o k) c ts m e h st = record { tree = member_expr s o k; small = omega arith; covered = λ g. g; produced = h; tight = omega (arith, h.2.0); last = refl; none_after = refl; shallow = omega arith; target = λ j. refl }
+target_view op (super_prop_expr s o k) c ts m e h st = record { tree = super_prop_expr s o k; small = omega arith; covered = λ g. g; produced = h; tight = omega arith; last = refl; none_after = refl; shallow = omega arith; target = λ j. refl }
+target_view op (paren_expr s x) c ts m e h st = record { tree = paren_expr s x; small = omega arith; covered = λ g. g; produced = h; tight = omega arith; last = refl; none_after = refl; shallow = omega arith; target = λ j. target_of (is_simple x) (paren_expr s x) (simple_of (is_simple x) (op == 60) e) }
   where
     simple_of : (b o : Bool) → (b || (o && false)) ≡ true → b ≡ true
     simple_of true o h = refl
@@ -215,7 +215,7 @@ unfolding prefix_by array_by
 prefix_array inner c lev ts k s xs m r P {Q = Q} e q y i p = rw e (then_noted ts m k (elements_by lm inner c true right_bracket_kind) _ _ (Has (unpack xs) r) P (Is (array_lit s xs) r) Q (λ u. omega (arith, e, u)) (λ u. omega (arith, e, u)) q (y k) i
     (λ x h. (ap (λ ys. array_lit (span (lo ts) x.1.source.last) (pack ys)) h.0 ∙ ap (λ ys. array_lit (span (lo ts) x.1.source.last) ys) (pack_unpack xs) ∙ ap (λ (z : Input). array_lit (span (lo ts) z.last) xs) h.1 ∙ ap (λ z. array_lit z xs) (sym p), h.1)))
 
-module _ (z d : ℕ) (ih : (e : ℕ) → Comes z e) (deep : Deep z d) (p : Bool) (c : Code) (l : ℕ) (ts : Input) (k : List ℕ) (W : Tree × Stand Input → Type 0) (n : ℕ) (one : 1 ≤ l) where
+module _ (z d : ℕ) (ih : (e : ℕ) → Comes z e) (deep : Deep z d) (p : Bool) (c : Code) (l : ℕ) (ts : Input) (k : List ℕ) (W : Tree × State Input → Type 0) (n : ℕ) (one : 1 ≤ l) where
   abbrev found : Finds z d
   found = finds z d ih
 
@@ -232,7 +232,7 @@ module _ (z d : ℕ) (ih : (e : ℕ) → Comes z e) (deep : Deep z d) (p : Bool)
   unfolding expr_by expr_from loop_by
   begin t r e le y K = if_no (eqb (kind ts) hash_kind) _ _ W _ e (then_is (prefix_by lm inner c l (from ts k)) _ t r _ W _ y (λ u. u) (λ j. if_yes (leb l (level t)) _ _ W _ (le-leb l (level t) le) (looped (loop_step lm inner c l (from ts k)) t r j W _ (K j))))
 
-  after : (t a : Tree) (m r : Input) → size a < z → Covered a → Spells a (coded p c) ts m → Follow c (ends a) (tail a) m → Bare a ts m → reach a ≤ n → l ≤ level a → l ≤ goes_expr c (ends a) m → len r < len m
+  after : (t a : Tree) (m r : Input) → size a < z → Covered a → Produces a (coded p c) ts m → Follow c (ends a) (tail a) m → Bare a ts m → reach a ≤ n → l ≤ level a → l ≤ goes_expr c (ends a) m → len r < len m
       → ((j : List ℕ) → Reads (from m j) (step_by lm inner c (from ts k) a (from m j)) (Is t r) (suc d < n)) → On t r → Ours
   unfolding loop_step
   after t a m r sz g h fo ba le la lp cu y K = ih d a p c l ts m k W n sz g h one la fo ba (record { calm = λ _ _. goes_calm c (ends a) m (omega arith) }) le
@@ -257,7 +257,7 @@ module _ (z d : ℕ) (ih : (e : ℕ) → Comes z e) (deep : Deep z d) (p : Bool)
   arrived t r le K j = if_yes (leb l (level t)) _ _ W _ (le-leb l (level t) le) (looped (loop_step lm inner c l (from ts k)) t r j W _ (K j))
 
   -- what hangs on an object: a member, a call, a template
-  hangs : (t o : Tree) (m r : Input) (x v : ℕ) → size o < z → Covered o → Spells o (coded p c) ts m → 19 ≤ level o → Bare o ts m → reach o ≤ n → l ≤ level o → kind m ≡ x → quiet x ≡ true → goes_expr c 0 m ≡ v → v ≤ 20 → l ≤ v → len r < len m
+  hangs : (t o : Tree) (m r : Input) (x v : ℕ) → size o < z → Covered o → Produces o (coded p c) ts m → 19 ≤ level o → Bare o ts m → reach o ≤ n → l ≤ level o → kind m ≡ x → quiet x ≡ true → goes_expr c 0 m ≡ v → v ≤ 20 → l ≤ v → len r < len m
       → ((j : List ℕ) → Reads (from m j) (step_by lm inner c (from ts k) o (from m j)) (Is t r) (suc d < n)) → On t r → Ours
   hangs t o m r x v sz g h lv ba ne lo e qu gv v20 lg cu y K =
       let z0 : ends o ≡ 0 = ends_high o (omega (arith, lv)) in
@@ -266,13 +266,13 @@ module _ (z d : ℕ) (ih : (e : ℕ) → Comes z e) (deep : Deep z d) (p : Bool)
       after t o m r sz g h (record { stop = omega arith; calm = λ _ _. goes_calm c (ends o) m (omega arith); sober = sober_by c x m e qu; quits = λ q. absurd (omega (arith, q, z0)) }) ba ne lo (omega arith) cu y K
 
   -- members by name
-  comes_member : (s : Span) (o x : Tree) (r : Input) → size o < z → Covered o → Member (coded p c) s (part o (λ y. Spells o y)) (λ a b. Dotted true (coded p c) (part x (λ y. Spells x y)) a b) ts r → l ≤ level (member_expr s o x) → reach o ≤ n → On (member_expr s o x) r → Ours
+  comes_member : (s : Span) (o x : Tree) (r : Input) → size o < z → Covered o → Member (coded p c) s (child o (λ y. Produces o y)) (λ a b. Dotted true (coded p c) (child x (λ y. Produces x y)) a b) ts r → l ≤ level (member_expr s o x) → reach o ≤ n → On (member_expr s o x) r → Ours
   comes_member s o x r sz g h le ne K =
       hangs (member_expr s o x) o h.0 r 4 20 sz g h.2.1 h.2.0 (bare_by o ts h.0 (λ e. omega (arith, e, h.3.1.0))) ne (omega (arith, le)) h.3.1.0 refl (goes_dot c h.0 h.3.1.0) (omega arith) (omega (arith, le)) (dotted_cut true x (coded p c) h.0 r h.3)
       (λ j. step_member inner c (from ts k) o h.0 j _ _ h.3.1.0 h.2.0 (subst (λ (b : Bool). Reads (from h.0 j) (member_by lm inner c (from ts k) o (from h.0 j)) (Is (on_chain lm inner b s (member_expr s o x)) r) (suc d < n)) h.1 (dotted_member inner c ts k o h.0 j (coded p c) s x r h.3 h.4))) K
 
   -- a template after a tag
-  comes_tagged : (s q : Span) (o : Tree) (es qs : Trees) (r : Input) → size o < z → sizes es < z → Covered o → CoveredAll es → TaggedTemplate (coded p c) s (part o (λ y. Spells o y)) q (parts es) (parts qs) ts r → l ≤ level (tagged_tpl s o (tpl q es qs)) → reach o ≤ n → suc (reaches es) ≤ n
+  comes_tagged : (s q : Span) (o : Tree) (es qs : Trees) (r : Input) → size o < z → sizes es < z → Covered o → CoveredAll es → TaggedTemplate (coded p c) s (child o (λ y. Produces o y)) q (children es) (children qs) ts r → l ≤ level (tagged_tpl s o (tpl q es qs)) → reach o ≤ n → suc (reaches es) ≤ n
       → On (tagged_tpl s o (tpl q es qs)) r → Ours
   comes_tagged s q o es qs r sz szs g gs h le ne nes K =
       hangs (tagged_tpl s o (tpl q es qs)) o h.0 r 15 20 sz g h.2.1 h.2.0 (bare_by o ts h.0 (λ e. omega (arith, e, h.3.1.0))) ne (omega (arith, le)) h.3.1.0 refl (goes_quote c h.0 h.3.1.0) (omega arith) (omega (arith, le))
@@ -281,42 +281,42 @@ module _ (z d : ℕ) (ih : (e : ℕ) → Comes z e) (deep : Deep z d) (p : Bool)
       (λ i. here (ap (λ (y : Span). tagged_tpl y o (tpl q es qs)) (sym h.4))))) K
 
   -- chains: what `?.` goes on with, and what goes on a chain
-  comes_optional : (t o : Tree) (m a r : Input) → size o < z → Covered o → Expr 19 (coded p c) (part o (λ y. Spells o y)) ts m → Optional (coded p c) m a → l ≤ 19 → reach o ≤ n → len r < len a → ((j : List ℕ) → Reads (from a j) (chain_by lm inner c (from ts k) o (from a j)) (Is t r) (suc d < n)) → On t r → Ours
+  comes_optional : (t o : Tree) (m a r : Input) → size o < z → Covered o → Expr 19 (coded p c) (child o (λ y. Produces o y)) ts m → Optional (coded p c) m a → l ≤ 19 → reach o ≤ n → len r < len a → ((j : List ℕ) → Reads (from a j) (chain_by lm inner c (from ts k) o (from a j)) (Is t r) (suc d < n)) → On t r → Ours
   comes_optional t o m a r sz g h q le ne cu y K =
       let d0 : kind2 m ≡ 4 = ap (λ (x : Input). kind x) q.1.2 ∙ q.2.0 in
       hangs t o m r 19 19 sz g h.1 h.0 (bare_by o ts m (λ e. omega (arith, e, q.1.0))) ne (omega (arith, h.0)) q.1.0 refl (goes_optional c m q.1.0 d0) (omega arith) le (omega (arith, cu, takes 19 m q.0 q.1.0 (omega arith) q.1.2, takes 4 q.0 a q.2.0 (omega arith) q.2.2))
       (λ j. step_chain inner c (from ts k) o m j _ _ q.1.0 d0 h.0 (subst (λ (x : Input). Reads (from x j) (chain_by lm inner c (from ts k) o (from x j)) (Is t r) (suc d < n)) (sym (ap (λ (x : Input). rest x) q.1.2 ∙ q.2.2)) (y j))) K
 
-  comes_chained : (t o : Tree) (x v : ℕ) (m r : Input) → size o < z → Covered o → is_chain o ≡ true → Spells o (coded p c) ts m → l ≤ 19 → reach o ≤ n → kind m ≡ x → quiet x ≡ true → goes_expr c 0 m ≡ v → 19 ≤ v → v ≤ 20 → len r < len m
+  comes_chained : (t o : Tree) (x v : ℕ) (m r : Input) → size o < z → Covered o → is_chain o ≡ true → Produces o (coded p c) ts m → l ≤ 19 → reach o ≤ n → kind m ≡ x → quiet x ≡ true → goes_expr c 0 m ≡ v → 19 ≤ v → v ≤ 20 → len r < len m
       → ((j : List ℕ) → Reads (from m j) (step_by lm inner c (from ts k) o (from m j)) (Is t r) (suc d < n)) → On t r → Ours
   comes_chained t o x v m r sz g ch h le ne e qu gv v19 v20 cu y K = let lv = chain_level o ch in hangs t o m r x v sz g h (omega (arith, lv)) (bare_chain o ts m ch) ne (omega (arith, lv)) e qu gv v20 (omega arith) cu y K
 
   -- what stands in brackets
-  inside : (e : Tree) (a b : Input) → size e < z → Covered e → Expr 1 (coded p (with_in c)) (part e (λ y. Spells e y)) a b → kind b ≡ right_bracket_kind → (j : List ℕ) → Reads (from a j) (inner.expr (with_in c) 1 (from a j)) (Is e b) (d < reach e)
+  inside : (e : Tree) (a b : Input) → size e < z → Covered e → Expr 1 (coded p (with_in c)) (child e (λ y. Produces e y)) a b → kind b ≡ right_bracket_kind → (j : List ℕ) → Reads (from a j) (inner.expr (with_in c) 1 (from a j)) (Is e b) (d < reach e)
   inside e a b sz g h q j = found e p (with_in c) 1 a b j sz g h.1 (omega arith) (omega arith) one_asked h.0 (closed_by (with_in c) (ends e) 1 10 b q refl refl (omega arith))
 
-  args : (xs : Trees) (a b : Input) → sizes xs < z → CoveredAll xs → ArgumentList (coded p c) (parts xs) a b → Lists inner c xs a b (d < reaches xs)
+  args : (xs : Trees) (a b : Input) → sizes xs < z → CoveredAll xs → ArgumentList (coded p c) (children xs) a b → Lists inner c xs a b (d < reaches xs)
   args xs a b sz g h j = elements_found z d found p c false 8 refl refl refl xs a b j (reaches xs) sz g h (omega arith)
 
-  optional_index : (s t b : Span) (o e : Tree) (r : Input) → ChainMember (coded p c) s true t (part o (λ y. Spells o y)) (λ m n. Bracketed 1 (coded p c) b (part e (λ y. Spells e y)) m n) (λ m n. Bracketed 1 (coded p c) b (part e (λ y. Spells e y)) m n) ts r
+  optional_index : (s t b : Span) (o e : Tree) (r : Input) → ChainMember (coded p c) s true t (child o (λ y. Produces o y)) (λ m n. Bracketed 1 (coded p c) b (child e (λ y. Produces e y)) m n) (λ m n. Bracketed 1 (coded p c) b (child e (λ y. Produces e y)) m n) ts r
       → size o < z → size e < z → Covered o → Covered e → l ≤ 19 → max (reach o) (suc (reach e)) ≤ n → On (opt_chain_expr s true (member_expr t o (computed_prop_name b e))) r → Ours
   optional_index s t b o e r h so se go ge le ne K = comes_optional (opt_chain_expr s true (member_expr t o (computed_prop_name b e))) o h.0 h.1 r so go h.2 h.3 le (omega arith) (bracket_cut 1 (coded p c) b e h.1 r (omega arith) h.4)
       (λ j. subst (λ (y : Span). Reads (from h.1 j) (chain_by lm inner c (from ts k) o (from h.1 j)) (Is (opt_chain_expr s true (member_expr y o (computed_prop_name b e))) r) (suc d < n)) (h.5 ∙ sym h.6)
       (chain_index inner c ts k o h.1 j s b e h.4.0 h.4.1 r (d < reach e) h.4.2.0 h.4.2.2 (inside e h.4.0 h.4.1 se ge h.4.3 h.4.4.0) (λ u. omega arith) h.4.4.0 h.4.4.2 h.4.5 h.5)) K
 
-  optional_name : (s t : Span) (o x : Tree) (A : Input → Input → Type 0) (r : Input) → ChainMember (coded p c) s true t (part o (λ y. Spells o y)) A (λ m n. AccessedName true (coded p c) (part x (λ y. Spells x y)) m n) ts r
+  optional_name : (s t : Span) (o x : Tree) (A : Input → Input → Type 0) (r : Input) → ChainMember (coded p c) s true t (child o (λ y. Produces o y)) A (λ m n. AccessedName true (coded p c) (child x (λ y. Produces x y)) m n) ts r
       → size o < z → Covered o → l ≤ 19 → reach o ≤ n → On (opt_chain_expr s true (member_expr t o x)) r → Ours
   optional_name s t o x A r h so go le ne K = let w = accessed_starts x (coded p c) h.1 r h.4 in
       comes_optional (opt_chain_expr s true (member_expr t o x)) o h.0 h.1 r so go h.2 h.3 le ne (accessed_cut true x (coded p c) h.1 r h.4)
       (λ j. subst (λ (y : Span). Reads (from h.1 j) (chain_by lm inner c (from ts k) o (from h.1 j)) (Is (opt_chain_expr s true (member_expr y o x)) r) (suc d < n)) (h.5 ∙ sym h.6) (chain_name inner c ts k o h.1 j (coded p c) s x r h.4 h.5 w.0 w.1)) K
 
-  optional_call : (s t : Span) (f : Tree) (xs : Trees) (r : Input) → ChainCall (coded p c) s true t (part f (λ y. Spells f y)) (parts xs) ts r → size f < z → sizes xs < z → Covered f → CoveredAll xs → l ≤ 19 → max (reach f) (suc (reaches xs)) ≤ n → On (opt_chain_expr s true (opt_call t f xs)) r → Ours
+  optional_call : (s t : Span) (f : Tree) (xs : Trees) (r : Input) → ChainCall (coded p c) s true t (child f (λ y. Produces f y)) (children xs) ts r → size f < z → sizes xs < z → Covered f → CoveredAll xs → l ≤ 19 → max (reach f) (suc (reaches xs)) ≤ n → On (opt_chain_expr s true (opt_call t f xs)) r → Ours
   optional_call s t f xs r h so se go ge le ne K =
       comes_optional (opt_chain_expr s true (opt_call t f xs)) f h.0 h.1 r so go h.2 h.3 le (omega arith) (arguments_cut (coded p c) xs h.1 r h.4)
       (λ j. subst (λ (y : Span). Reads (from h.1 j) (chain_by lm inner c (from ts k) f (from h.1 j)) (Is (opt_chain_expr s true (opt_call y f xs)) r) (suc d < n)) (h.5 ∙ sym h.6)
       (chain_call inner c ts k f h.1 j s xs h.4.0 r (d < reaches xs) h.4.1.0 h.4.1.2 (args xs h.4.0 r se ge h.4.2) (λ u. omega arith) h.5)) K
 
-  chained_index : (s t b : Span) (o e : Tree) (A : Input → Input → Type 0) (r : Input) → ChainMember (coded p c) s false t (part o (λ y. Spells o y)) (λ m n. Bracketed 1 (coded p c) b (part e (λ y. Spells e y)) m n) A ts r
+  chained_index : (s t b : Span) (o e : Tree) (A : Input → Input → Type 0) (r : Input) → ChainMember (coded p c) s false t (child o (λ y. Produces o y)) (λ m n. Bracketed 1 (coded p c) b (child e (λ y. Produces e y)) m n) A ts r
       → size o < z → size e < z → Covered o → Covered e → l ≤ 19 → max (reach o) (suc (reach e)) ≤ n → On (opt_chain_expr s false (member_expr t o (computed_prop_name b e))) r → Ours
   chained_index s t b o e A r h so se go ge le ne K = let lv = chain_level o h.1 in
       comes_chained (opt_chain_expr s false (member_expr t o (computed_prop_name b e))) o 9 20 h.0 r so go h.1 h.2 le (omega arith) h.3.2.0 refl (goes_bracket c h.0 h.3.2.0) (omega arith) (omega arith) (bracket_cut 1 (coded p c) b e h.0 r (omega arith) h.3)
@@ -324,14 +324,14 @@ module _ (z d : ℕ) (ih : (e : ℕ) → Comes z e) (deep : Deep z d) (p : Bool)
       (subst (λ (q : Bool). Reads (from h.0 j) (index_by lm inner c (from ts k) o (from h.0 j)) (Is (on_chain lm inner q s (member_expr s o (computed_prop_name b e))) r) (suc d < n)) h.1
       (indexed inner c ts k o h.0 j s b e h.3.0 h.3.1 r (d < reach e) h.3.2.2 (inside e h.3.0 h.3.1 se ge h.3.3 h.3.4.0) (λ u. omega arith) h.3.4.0 h.3.4.2 h.3.5 h.4)))) K
 
-  chained_name : (s t : Span) (o x : Tree) (A : Input → Input → Type 0) (r : Input) → ChainMember (coded p c) s false t (part o (λ y. Spells o y)) (λ m n. Dotted true (coded p c) (part x (λ y. Spells x y)) m n) A ts r
+  chained_name : (s t : Span) (o x : Tree) (A : Input → Input → Type 0) (r : Input) → ChainMember (coded p c) s false t (child o (λ y. Produces o y)) (λ m n. Dotted true (coded p c) (child x (λ y. Produces x y)) m n) A ts r
       → size o < z → Covered o → l ≤ 19 → reach o ≤ n → On (opt_chain_expr s false (member_expr t o x)) r → Ours
   chained_name s t o x A r h so go le ne K = let lv = chain_level o h.1 in
       comes_chained (opt_chain_expr s false (member_expr t o x)) o 4 20 h.0 r so go h.1 h.2 le ne h.3.1.0 refl (goes_dot c h.0 h.3.1.0) (omega arith) (omega arith) (dotted_cut true x (coded p c) h.0 r h.3)
       (λ j. step_member inner c (from ts k) o h.0 j _ _ h.3.1.0 (omega (arith, lv)) (subst (λ (y : Span). Reads (from h.0 j) (member_by lm inner c (from ts k) o (from h.0 j)) (Is (opt_chain_expr s false (member_expr y o x)) r) (suc d < n)) (h.4 ∙ sym h.5)
       (subst (λ (q : Bool). Reads (from h.0 j) (member_by lm inner c (from ts k) o (from h.0 j)) (Is (on_chain lm inner q s (member_expr s o x)) r) (suc d < n)) h.1 (dotted_member inner c ts k o h.0 j (coded p c) s x r h.3 h.4)))) K
 
-  chained_call : (s t : Span) (f : Tree) (xs : Trees) (r : Input) → ChainCall (coded p c) s false t (part f (λ y. Spells f y)) (parts xs) ts r → size f < z → sizes xs < z → Covered f → CoveredAll xs → l ≤ 19 → max (reach f) (suc (reaches xs)) ≤ n → On (opt_chain_expr s false (opt_call t f xs)) r → Ours
+  chained_call : (s t : Span) (f : Tree) (xs : Trees) (r : Input) → ChainCall (coded p c) s false t (child f (λ y. Produces f y)) (children xs) ts r → size f < z → sizes xs < z → Covered f → CoveredAll xs → l ≤ 19 → max (reach f) (suc (reaches xs)) ≤ n → On (opt_chain_expr s false (opt_call t f xs)) r → Ours
   chained_call s t f xs r h so se go ge le ne K = let lv = chain_level f h.1 in
       comes_chained (opt_chain_expr s false (opt_call t f xs)) f 7 19 h.0 r so go h.1 h.2 le (omega arith) h.3.1.0 refl (paren_goes c h.0 h.3.1.0) (omega arith) (omega arith)
       (arguments_cut (coded p c) xs h.0 r h.3)
@@ -341,23 +341,23 @@ module _ (z d : ℕ) (ih : (e : ℕ) → Comes z e) (deep : Deep z d) (p : Bool)
       (called inner c ts k f h.0 j s xs h.3.0 r (d < reaches xs) h.3.1.2 (args xs h.3.0 r se ge h.3.2) (λ u. omega arith) h.4))))) K
 
   -- calls of `super` and `import`
-  comes_super : (s t : Span) (xs : Trees) (r : Input) → SuperCall (coded p c) s t (parts xs) ts r → sizes xs < z → CoveredAll xs → l ≤ 19 → suc (reaches xs) ≤ n → On (call_expr s (super t) xs) r → Ours
+  comes_super : (s t : Span) (xs : Trees) (r : Input) → SuperCall (coded p c) s t (children xs) ts r → sizes xs < z → CoveredAll xs → l ≤ 19 → suc (reaches xs) ≤ n → On (call_expr s (super t) xs) r → Ours
   comes_super s t xs r h se ge le ne K = begin (call_expr s (super t) xs) r (not_hash 124 h.1.0 refl) le
       (super_call inner c l ts k h.0 _ s t xs h.3.0 r (d < reaches xs) h.1.0 h.1.1 h.1.3 h.2 h.3.1.0 h.3.1.2 (args xs h.3.0 r se ge h.3.2) (λ u. omega arith) h.4) K
 
-  comes_import : (s t : Span) (xs : Trees) (r : Input) → ImportCall (coded p c) s t (parts xs) ts r → sizes xs < z → CoveredAll xs → l ≤ 19 → suc (reaches xs) ≤ n → On (call_expr s (import t) xs) r → Ours
+  comes_import : (s t : Span) (xs : Trees) (r : Input) → ImportCall (coded p c) s t (children xs) ts r → sizes xs < z → CoveredAll xs → l ≤ 19 → suc (reaches xs) ≤ n → On (call_expr s (import t) xs) r → Ours
   comes_import s t xs r h se ge le ne K = begin (call_expr s (import t) xs) r (not_hash 128 h.2.0 refl) le
       (import_found inner c l ts k h.0 _ s t xs h.1 r (d < reaches xs) h.2.0 h.2.1 h.2.3 h.3 h.4.0 h.4.2 (import_elements z d found p c xs h.1 r k (reaches xs) se ge h.5 (omega arith)) (λ u. omega arith) h.6) K
 
   -- `yield` with an operand
-  comes_yield : (s : Span) (a : Tree) (q : Bool) (r : Input) → Yield (coded p c) s (part a (λ y. Spells a y)) q ts r → size (yield_expr s a q) < suc z → Covered a → l ≤ 2 → suc (reach a) ≤ n → is_absent a ≡ false → Follow c (cond (is_absent a) 2 (ends a)) 2 r → On (yield_expr s a q) r → Ours
+  comes_yield : (s : Span) (a : Tree) (q : Bool) (r : Input) → Yield (coded p c) s (child a (λ y. Produces a y)) q ts r → size (yield_expr s a q) < suc z → Covered a → l ≤ 2 → suc (reach a) ≤ n → is_absent a ≡ false → Follow c (cond (is_absent a) 2 (ends a)) 2 r → On (yield_expr s a q) r → Ours
   comes_yield s a false r h sz g le ne na fo K = begin (yield_expr s a false) r (not_hash 129 h.2.0 refl) le
       (yield_operand inner c l ts k h.0 _ s a r (d < reach a) h.2.0 h.2.1 h.2.3 h.1 h.3 (starts a _ h.0 r g (omega (arith, h.4.0)) h.4.1) (λ j. found a p c 2 h.0 r j (omega arith) g h.4.1 (omega arith) (omega arith) two_asked h.4.0 (unclosed (is_absent a) c (ends a) 2 r na fo)) (λ u. omega arith) h.5) K
   comes_yield s a true r h sz g le ne na fo K = begin (yield_expr s a true) r (not_hash 129 h.3.0 refl) le
       (yield_star inner c l ts k h.0 _ s a h.1 r (d < reach a) h.3.0 h.3.1 h.3.3 h.2 h.4 h.5.0 h.5.2 (λ j. found a p c 2 h.1 r j (omega arith) g h.6.1 (omega arith) (omega arith) two_asked h.6.0 (unclosed (is_absent a) c (ends a) 2 r na fo)) (λ u. omega arith) h.7) K
 
   -- `#x in`
-  comes_private : (s t : Span) (x : List ℕ) (op : ℕ) (b : Tree) (r : Input) → op ≡ in_kind → Binary (coded p c) s op (part (private_name t x) (λ y. Spells (private_name t x) y)) (part b (λ y. Spells b y)) ts r → size b < z → Covered b → l ≤ binary_level op → suc (reach b) ≤ n
+  comes_private : (s t : Span) (x : List ℕ) (op : ℕ) (b : Tree) (r : Input) → op ≡ in_kind → Binary (coded p c) s op (child (private_name t x) (λ y. Produces (private_name t x) y)) (child b (λ y. Produces b y)) ts r → size b < z → Covered b → l ≤ binary_level op → suc (reach b) ≤ n
       → Follow c (ends b) (right_level op) r → On (bin_expr s op (private_name t x) b) r → Ours
   unfolding expr_by expr_from private_in
   comes_private s t x op b r e h sz g le ne fo K =
@@ -372,7 +372,7 @@ module _ (z d : ℕ) (ih : (e : ℕ) → Comes z e) (deep : Deep z d) (p : Bool)
   high a m g le h = h (ends a) (ends_high a le)
 
   -- an operand of a prefix operator
-  operand_found : (a : Tree) (m r : Input) → size a < z → Covered a → Spells a (coded p c) m r → 16 ≤ level a → Follow c (ends a) 16 r → (j : List ℕ) → Reads (from m j) (inner.expr c 16 (from m j)) (Is a r) (d < reach a)
+  operand_found : (a : Tree) (m r : Input) → size a < z → Covered a → Produces a (coded p c) m r → 16 ≤ level a → Follow c (ends a) 16 r → (j : List ℕ) → Reads (from m j) (inner.expr c 16 (from m j)) (Is a r) (d < reach a)
   operand_found a m r sz g h le fo j = found a p c 16 m r j sz g h (omega arith) (omega arith) (record { conditional = λ e. omega (arith, e); update = λ e. omega (arith, e) }) le fo
 
   step_comma_found : (u y : Tree) (m a b : Input) (j : List ℕ) (P : Type 0) → kind m ≡ comma_kind → rest m ≡ a → ((i : List ℕ) → Reads (from a i) (inner.expr c 2 (from a i)) (Is y b) P) → (P → suc d < n)
@@ -382,7 +382,7 @@ module _ (z d : ℕ) (ih : (e : ℕ) → Comes z e) (deep : Deep z d) (p : Bool)
       (then_past m a j (inner.expr c 2) _ y b P _ _ q (f j) i (λ o. here refl))
 
   -- the expressions after the commas, one by one
-  seq_loop : (y : Tree) (ys : Trees) (ds : List Tree) (u : Tree) (m r : Input) (j : List ℕ) (s : Span) → ((e : Tree) (v : Span) → extended u e v ≡ seq_expr v (pack (ds ++ e ∷ []))) → sizes (more y ys) < z → CoveredAll (more y ys) → CommaThen (Expr 2 (coded p c)) (coded p c) (parts (more y ys)) m r
+  seq_loop : (y : Tree) (ys : Trees) (ds : List Tree) (u : Tree) (m r : Input) (j : List ℕ) (s : Span) → ((e : Tree) (v : Span) → extended u e v ≡ seq_expr v (pack (ds ++ e ∷ []))) → sizes (more y ys) < z → CoveredAll (more y ys) → CommaThen (Expr 2 (coded p c)) (coded p c) (children (more y ys)) m r
       → Follow c (last_ends (more y ys)) 2 r → suc (reaches (more y ys)) ≤ n → l ≤ 1 → s ≡ span (lo ts) r.last → On (seq_expr s (pack (ds ++ (y ∷ unpack ys)))) r → Loops (loop_step lm inner c l (from ts k)) u m j W (suc d < n)
   unfolding loop_step
   seq_loop y none ds u m r j s ext sz g h fo ne le sp K =
@@ -403,12 +403,12 @@ module _ (z d : ℕ) (ih : (e : ℕ) → Comes z e) (deep : Deep z d) (p : Bool)
       (subst (λ xs. On (seq_expr s (pack xs)) r) (sym (append_assoc ds (y ∷ []) (y2 ∷ unpack ys))) K))
 
   -- an expression in parentheses, by its expressions
-  paren_one : (e : Tree) (s : Span) (a b r : Input) → size e < z → suc (reach e) ≤ n → Covered e → 2 ≤ level e → Spells e (coded p (with_in c)) a b → kind ts ≡ left_paren_kind → rest ts ≡ a → kind b ≡ right_paren_kind → rest b ≡ r → (l ≤ assignment_level → arrowed r ≡ false) → s ≡ span (lo ts) r.last
+  paren_one : (e : Tree) (s : Span) (a b r : Input) → size e < z → suc (reach e) ≤ n → Covered e → 2 ≤ level e → Produces e (coded p (with_in c)) a b → kind ts ≡ left_paren_kind → rest ts ≡ a → kind b ≡ right_paren_kind → rest b ≡ r → (l ≤ assignment_level → arrowed r ≡ false) → s ≡ span (lo ts) r.last
       → Reads (from ts k) (prefix_by lm inner c l (from ts k)) (Is (paren_expr s e) r) (suc d < n)
   paren_one e s a b r sz ne g le h o q f t y u = paren_found inner c l ts k s e e [] b.last a r (d < max (reach e) 0) (suc d < n) o q
       (λ j. group_found z d found p c e none a b b r j (max (reach e) 0) sz (omega arith) g tt (le, h) refl f t (omega arith)) (λ v. omega arith) y refl u
 
-  paren_more : (e : Tree) (v : Span) (xs : Trees) (s : Span) (a b r : Input) → e ≡ seq_expr v xs → size e < z → suc (reach e) ≤ n → Covered (seq_expr v xs) → Spells (seq_expr v xs) (coded p (with_in c)) a b → kind ts ≡ left_paren_kind → rest ts ≡ a → kind b ≡ right_paren_kind → rest b ≡ r → (l ≤ assignment_level → arrowed r ≡ false) → s ≡ span (lo ts) r.last
+  paren_more : (e : Tree) (v : Span) (xs : Trees) (s : Span) (a b r : Input) → e ≡ seq_expr v xs → size e < z → suc (reach e) ≤ n → Covered (seq_expr v xs) → Produces (seq_expr v xs) (coded p (with_in c)) a b → kind ts ≡ left_paren_kind → rest ts ≡ a → kind b ≡ right_paren_kind → rest b ≡ r → (l ≤ assignment_level → arrowed r ≡ false) → s ≡ span (lo ts) r.last
       → Reads (from ts k) (prefix_by lm inner c l (from ts k)) (Is (paren_expr s e) r) (suc d < n)
   paren_more e v none s a b r i sz ne g h o q f t y u = absurd h
   paren_more e v (more x none) s a b r i sz ne g h o q f t y u = absurd h
@@ -419,7 +419,7 @@ module _ (z d : ℕ) (ih : (e : ℕ) → Comes z e) (deep : Deep z d) (p : Bool)
       (λ j. group_found z d found p c x (more w ws) a h.0 b r j (max (reach x) (max (reach w) (reaches ws))) (omega arith) (omega arith) g.0 g.1 h.1 h.2 f t (omega arith)) (λ v. omega arith) y
       (ap (λ (ys : Trees). seq_expr (span (lo a) b.last) (more x (more w ys))) (pack_unpack ws) ∙ ap (λ (y : Span). seq_expr y (more x (more w ws))) (sym h.3) ∙ sym i) u
 
-  comes_binary : (s : Span) (op : ℕ) (a b : Tree) (r : Input) → is_private a ≡ false → size (bin_expr s op a b) < suc z → Covered (bin_expr s op a b) → Spells (bin_expr s op a b) (coded p c) ts r → l ≤ binary_level op → Follow c (ends b) (right_level op) r → max (reach a) (suc (reach b)) ≤ n
+  comes_binary : (s : Span) (op : ℕ) (a b : Tree) (r : Input) → is_private a ≡ false → size (bin_expr s op a b) < suc z → Covered (bin_expr s op a b) → Produces (bin_expr s op a b) (coded p c) ts r → l ≤ binary_level op → Follow c (ends b) (right_level op) r → max (reach a) (suc (reach b)) ≤ n
       → On (bin_expr s op a b) r → Ours
   comes_binary s op a b r q sz g h le fo ne K =
       let o = operated c op h.2 in
@@ -431,7 +431,7 @@ module _ (z d : ℕ) (ih : (e : ℕ) → Comes z e) (deep : Deep z d) (p : Bool)
       (λ j. step_binary inner c (from ts k) a h.0 j _ _ (subst (λ (o : ℕ). operates c o ≡ true) (sym h.5.0) h.2) (subst (λ (o : ℕ). fits_left o a ≡ true) (sym h.5.0) h.3)
       (binary_found inner c ts k a h.0 j _ op s b h.1 r (d < reach b) h.5.0 h.5.1 h.5.3 (λ i. found b p c (right_level op) h.1 r i (omega arith) g.1 h.6.1 (omega (arith, right_five op o)) (omega (arith, right_most op)) (right_asked op o) h.6.0 (record { stop = fo.stop; calm = fo.calm; sober = fo.sober; quits = fo.quits })) (λ u. omega arith) h.7)) K
 
-  comes_call : (s : Span) (f : Tree) (xs : Trees) (r : Input) → ((s : Span) (xs : Trees) (c : Code) (ts r : Input) → Spells (call_expr s f xs) c ts r → Call c s (part f (λ y. Spells f y)) (parts xs) ts r) → size (call_expr s f xs) < suc z → Covered (call_expr s f xs) → Spells (call_expr s f xs) (coded p c) ts r
+  comes_call : (s : Span) (f : Tree) (xs : Trees) (r : Input) → ((s : Span) (xs : Trees) (c : Code) (ts r : Input) → Produces (call_expr s f xs) c ts r → Call c s (child f (λ y. Produces f y)) (children xs) ts r) → size (call_expr s f xs) < suc z → Covered (call_expr s f xs) → Produces (call_expr s f xs) (coded p c) ts r
       → l ≤ 19 → Follow c 0 21 r → (l ≤ assignment_level → arrowed r ≡ false) → max (reach f) (suc (reaches xs)) ≤ n → On (call_expr s f xs) r → Ours
   comes_call s f xs r v sz g w le fo ca ne K =
       let h = v s xs (coded p c) ts r w in
@@ -444,7 +444,7 @@ module _ (z d : ℕ) (ih : (e : ℕ) → Comes z e) (deep : Deep z d) (p : Bool)
       (omega (arith, takes 7 h.0 h.3.0 h.3.1.0 (omega arith) h.3.1.2, elements_cut (coded p c) xs h.3.0 r h.3.2))
       (λ j. step_call inner c (from ts k) f h.0 j _ _ h.3.1.0 h.2.0 (call_found inner c ts k f h.0 j _ s xs h.3.0 r (d < reaches xs) h.1 h.3.1.2 listed (λ u. omega arith) h.4)) K)
       (λ (b : IsAsync f ts h.0).
-      let v : Spells (ident b.0 b.1) (coded p c) ts h.0 = subst (λ (y : Tree). Spells y (coded p c) ts h.0) b.2 h.2.1 in
+      let v : Produces (ident b.0 b.1) (coded p c) ts h.0 = subst (λ (y : Tree). Produces y (coded p c) ts h.0) b.2 h.2.1 in
       let to : (P : Input → Type 0) → P h.0 → P (rest ts) = λ P y. subst P (sym v.0.5) y in
       begin _ r (word_no_hash v.0.0) le (subst (λ (y : Tree). Reads (from ts k) (prefix_by lm inner c l (from ts k)) (Is (call_expr s y xs) r) (suc d < n)) (sym b.2)
       (async_call inner c l ts k b.0 s b.1 xs r (d < reaches xs) (v.0.0, v.0.1, v.0.2) b.3 v.0.3 (sym (first_at ts h.0 b.0 v.0.5 v.1)) (to (λ y. kind y ≡ left_paren_kind) h.3.1.0) (to (λ y. brk y ≡ false) b.4)
@@ -453,7 +453,7 @@ module _ (z d : ℕ) (ih : (e : ℕ) → Comes z e) (deep : Deep z d) (p : Bool)
       (bare_or f ts h.0)
 
   -- an assignment after its target: the expression that stands there is refined to it, and reading comes to it
-  assigns : (s : Span) (op : ℕ) (x a b : Tree) (m o r : Input) (j : List ℕ) → is_assign_op op ≡ true → kind m ≡ op → rest m ≡ o → to_target op j x ≡ Ok a → size b < z → Covered b → Expr 2 (coded p c) (part b (λ y. Spells b y)) o r → s ≡ span (lo ts) r.last → suc (reach b) ≤ n → Follow c (ends b) 2 r
+  assigns : (s : Span) (op : ℕ) (x a b : Tree) (m o r : Input) (j : List ℕ) → is_assign_op op ≡ true → kind m ≡ op → rest m ≡ o → to_target op j x ≡ Ok a → size b < z → Covered b → Expr 2 (coded p c) (child b (λ y. Produces b y)) o r → s ≡ span (lo ts) r.last → suc (reach b) ≤ n → Follow c (ends b) 2 r
       → Reads (from m j) (step_by lm inner c (from ts k) x (from m j)) (Is (assign_expr s op a b) r) (suc d < n)
   unfolding step_by assign_by
   assigns s op x a b m o r j w e q t sz g h sp ne fo =
@@ -472,10 +472,10 @@ module _ (z d : ℕ) (ih : (e : ℕ) → Comes z e) (deep : Deep z d) (p : Bool)
   quiet_assign op w = and_from (not (op == function_kind)) _ (ap not (no_kind is_assign_op op function_kind w refl)) (or_left (not (is_word op)) _ (ap not (false_from_ne_true (is_word op) (λ e. let u : 80 ≤ op = leb-true 80 op e in let v : op ≤ 75 = leb-true op 75 (and_parts (leb 60 op) (leb op 75) w).1 in omega arith))))
 
   -- a simple target: what is read there ends in nothing, and is the target, or its name
-  comes_simple : (s : Span) (op : ℕ) (a b : Tree) (r : Input) → size a < z → size b < z → Covered a → Covered b → Assignment (coded p c) s op (part a (λ y. Spells a y)) (part b (λ y. Spells b y)) ts r → is_structured a ≡ false → l ≤ 2 → max (reach a) (suc (reach b)) ≤ n → Follow c (ends b) 2 r
+  comes_simple : (s : Span) (op : ℕ) (a b : Tree) (r : Input) → size a < z → size b < z → Covered a → Covered b → Assignment (coded p c) s op (child a (λ y. Produces a y)) (child b (λ y. Produces b y)) ts r → is_structured a ≡ false → l ≤ 2 → max (reach a) (suc (reach b)) ≤ n → Follow c (ends b) 2 r
       → On (assign_expr s op a b) r → Ours
   comes_simple s op a b r sa sb ga gb h st le ne fo K = let w = target_view op a (coded p c) ts h.0 h.3 h.4 st in
-      after (assign_expr s op a b) w.tree h.0 r (omega (arith, w.small, sa)) (w.covered ga) w.spelled
+      after (assign_expr s op a b) w.tree h.0 r (omega (arith, w.small, sa)) (w.covered ga) w.produced
       (record { stop = subst (λ (e : ℕ). goes_expr c e h.0 < tail w.tree) (sym w.last) (omega (arith, goes_assign op h.0 h.2 h.5.0, w.none_after)); calm = λ _ _. calm_by op h.0 h.5.0 (no_kind is_assign_op op arrow_kind h.2 refl); sober = sober_by c op h.0 h.5.0 (quiet_assign op h.2); quits = λ q. absurd (omega (arith, q, w.last)) })
       (bare_by w.tree ts h.0 (λ e. let u : 60 ≤ op = leb-true 60 op (and_parts (leb 60 op) (leb op 75) h.2).0 in omega (arith, e, h.5.0))) (omega (arith, w.shallow)) (omega (arith, w.tight))
       (subst (λ (e : ℕ). l ≤ goes_expr c e h.0) (sym w.last) (omega (arith, goes_assign op h.0 h.2 h.5.0)))
@@ -483,7 +483,7 @@ module _ (z d : ℕ) (ih : (e : ℕ) → Comes z e) (deep : Deep z d) (p : Bool)
       (λ j. assigns s op w.tree a b h.0 h.1 r j h.2 h.5.0 h.5.2 (w.target j) sb gb h.6 h.7 (omega arith) fo) K
 
   -- a pattern in brackets, which is read as an array or an object first
-  comes_pattern : (s : Span) (op : ℕ) (a b : Tree) (r : Input) → size a < z → size b < z → Covered a → Covered b → Assignment (coded p c) s op (part a (λ y. Spells a y)) (part b (λ y. Spells b y)) ts r → is_structured a ≡ true → l ≤ 2 → max (reach a) (suc (reach b)) ≤ n → Follow c (ends b) 2 r
+  comes_pattern : (s : Span) (op : ℕ) (a b : Tree) (r : Input) → size a < z → size b < z → Covered a → Covered b → Assignment (coded p c) s op (child a (λ y. Produces a y)) (child b (λ y. Produces b y)) ts r → is_structured a ≡ true → l ≤ 2 → max (reach a) (suc (reach b)) ≤ n → Follow c (ends b) 2 r
       → On (assign_expr s op a b) r → Ours
   unfolding expr_by expr_from loop_by loop_step
   comes_pattern s op a b r sa sb ga gb h st le ne fo K = let e0 = op_assigns op a st h.3 in
@@ -498,7 +498,7 @@ module _ (z d : ℕ) (ih : (e : ℕ) → Comes z e) (deep : Deep z d) (p : Bool)
       (omega (arith, takes op h.0 h.1 h.5.0 (some_assign op h.2) h.5.2, taken b _ h.1 r (omega (arith, h.6.0)) h.6.1)) K)))))
 
   -- arrows
-  named_arrow : (ps : Trees) (s : Span) (e : Tree) (m o r : Input) → BareName (coded p c) (parts ps) ts m → Body_read inner c false e m o r (d < reach e) → (d < reach e → suc d < n) → s ≡ span (lo ts) r.last → l ≤ 2 → On (arrow_expr s ps e false) r → Ours
+  named_arrow : (ps : Trees) (s : Span) (e : Tree) (m o r : Input) → BareName (coded p c) (children ps) ts m → Body_read inner c false e m o r (d < reach e) → (d < reach e → suc d < n) → s ≡ span (lo ts) r.last → l ≤ 2 → On (arrow_expr s ps e false) r → Ours
   named_arrow none s e m o r w y f sp le K = absurd w
   named_arrow (more (binding_ident q (ident t x)) none) s e m o r w y f sp le K = let v = w.1.1.1 in begin (arrow_expr s (more (binding_ident q (ident t x)) none) e false) r (word_no_hash v.0.0) le
       (subst (λ (u : Span). Reads (from ts k) (prefix_by lm inner c l (from ts k)) (Is (arrow_expr s (more (binding_ident q (ident u x)) none) e false) r) (suc d < n)) w.1.1.0 (arrow_bare inner c l le ts k q x s e m o r (d < reach e) (v.0.0, v.0.1, v.0.2) v.0.3 v.0.5 v.1 y f sp)) K
@@ -506,7 +506,7 @@ module _ (z d : ℕ) (ih : (e : ℕ) → Comes z e) (deep : Deep z d) (p : Bool)
   named_arrow (more (binding_ident q i) us) s e m o r w y f sp le K = absurd w.1.1
   named_arrow (more x us) s e m o r w y f sp le K = absurd (true≢false (sym w.1.0))
 
-  async_arrow : (ps : Trees) (s : Span) (e : Tree) (a m o r : Input) → Async true (coded p c) ts a → BareName (coded p c) (parts ps) a m → Body_read inner c true e m o r (d < reach e) → (d < reach e → suc d < n) → s ≡ span (lo ts) r.last → l ≤ 2 → On (arrow_expr s ps e true) r → Ours
+  async_arrow : (ps : Trees) (s : Span) (e : Tree) (a m o r : Input) → Async true (coded p c) ts a → BareName (coded p c) (children ps) a m → Body_read inner c true e m o r (d < reach e) → (d < reach e → suc d < n) → s ≡ span (lo ts) r.last → l ≤ 2 → On (arrow_expr s ps e true) r → Ours
   async_arrow none s e a m o r g w y f sp le K = absurd w
   async_arrow (more (binding_ident q (ident t x)) none) s e a m o r g w y f sp le K = let v = w.1.1.1 in begin (arrow_expr s (more (binding_ident q (ident t x)) none) e true) r (not_hash 143 g.0.0 refl) le
       (subst (λ (u : Span). Reads (from ts k) (prefix_by lm inner c l (from ts k)) (Is (arrow_expr s (more (binding_ident q (ident u x)) none) e true) r) (suc d < n)) w.1.1.0
@@ -515,35 +515,35 @@ module _ (z d : ℕ) (ih : (e : ℕ) → Comes z e) (deep : Deep z d) (p : Bool)
   async_arrow (more (binding_ident q i) us) s e a m o r g w y f sp le K = absurd w.1.1
   async_arrow (more x us) s e a m o r g w y f sp le K = absurd (true≢false (sym w.1.0))
 
-  params_covered : (ps : Trees) (m o : Input) → sizes ps < z → CoveredAll ps → Listed false (ArrowPattern (coded p c)) (coded p c) 8 (parts ps) m o → Reads (from m k) (elements_by lm inner (with_in c) false right_paren_kind (from m k)) (Covered_list false (unpack ps) o) (d < reaches ps)
+  params_covered : (ps : Trees) (m o : Input) → sizes ps < z → CoveredAll ps → Listed false (ArrowPattern (coded p c)) (coded p c) 8 (children ps) m o → Reads (from m k) (elements_by lm inner (with_in c) false right_paren_kind (from m k)) (Covered_list false (unpack ps) o) (d < reaches ps)
   params_covered ps m o sz g h = covers_found z d (coverings z (λ e. finds z e ih) d) p (with_in c) false 8 (coded p c) refl refl refl ps m o k (reaches ps) sz g (params_loosen p c ps m o h) (omega arith)
 
-  body_read : (i : Bool) (e : Tree) (m o r : Input) → size e < z → Covered e → brk m ≡ false → Takes (coded p c) arrow_kind m o → (kind o ≡ left_brace_kind → ⊥) → Expr 2 (in_arrow i (coded p c)) (part e (λ y. Spells e y)) o r → Follow c (ends e) 2 r → Body_read inner c i e m o r (d < reach e)
+  body_read : (i : Bool) (e : Tree) (m o r : Input) → size e < z → Covered e → brk m ≡ false → Takes (coded p c) arrow_kind m o → (kind o ≡ left_brace_kind → ⊥) → Expr 2 (in_arrow i (coded p c)) (child e (λ y. Produces e y)) o r → Follow c (ends e) 2 r → Body_read inner c i e m o r (d < reach e)
   body_read i e m o r sz g b t nb h fo = expression_body inner c i e m o r (d < reach e) (and_from (kind m == arrow_kind) _ (eq-eqb (kind m) arrow_kind t.0) (ap not b)) t.2 nb
       (λ j. found e p (in_arrow i c) 2 o r j sz g h.1 (omega arith) (omega arith) two_asked h.0 (record { stop = fo.stop; calm = fo.calm; sober = fo.sober; quits = fo.quits }))
 
-  block_read : (i : Bool) (s : Span) (ss : Trees) (m o r : Input) → size (block_stmt s ss) < z → brk m ≡ false → Takes (coded p c) arrow_kind m o → Body (in_list (with_in (in_arrow i (coded p c)))) s (parts ss) o r → Body_read inner c i (block_stmt s ss) m o r (d < reach (block_stmt s ss))
+  block_read : (i : Bool) (s : Span) (ss : Trees) (m o r : Input) → size (block_stmt s ss) < z → brk m ≡ false → Takes (coded p c) arrow_kind m o → Body (in_list (with_in (in_arrow i (coded p c)))) s (children ss) o r → Body_read inner c i (block_stmt s ss) m o r (d < reach (block_stmt s ss))
   block_read i s ss m o r sz b t h = block_body inner c i (block_stmt s ss) m o r (d < reach (block_stmt s ss)) (and_from (kind m == arrow_kind) _ (eq-eqb (kind m) arrow_kind t.0) (ap not b)) t.2 h.1.0
       (λ j. deep.bodies s ss p (in_list (with_in (in_arrow i c))) o r j sz h)
 
-  comes_arrow : (i : Bool) (s : Span) (ps : Trees) (e : Tree) (o r : Input) (a : ArrowHead i (coded p c) (parts ps) ts o) → Body_read inner c i e a.1 o r (d < reach e) → s ≡ span (lo ts) r.last → sizes ps < z → CoveredAll ps → l ≤ 2 → suc (max (reaches ps) (reach e)) ≤ n → On (arrow_expr s ps e i) r → Ours
+  comes_arrow : (i : Bool) (s : Span) (ps : Trees) (e : Tree) (o r : Input) (a : ArrowHead i (coded p c) (children ps) ts o) → Body_read inner c i e a.1 o r (d < reach e) → s ≡ span (lo ts) r.last → sizes ps < z → CoveredAll ps → l ≤ 2 → suc (max (reaches ps) (reach e)) ≤ n → On (arrow_expr s ps e i) r → Ours
   comes_arrow false s ps e o r a y q sp gp le ne K = ⊎_elim
-      (λ (w : BareName (coded p c) (parts ps) a.0 a.1). named_arrow ps s e a.1 o r (subst (λ (u : Input). BareName (coded p c) (parts ps) u a.1) (sym a.2) w) y (λ u. omega arith) q le K)
-      (λ (w : (m : Input) × Takes (coded p c) left_paren_kind a.0 m × Listed false (ArrowPattern (coded p c)) (coded p c) 8 (parts ps) m a.1).
+      (λ (w : BareName (coded p c) (children ps) a.0 a.1). named_arrow ps s e a.1 o r (subst (λ (u : Input). BareName (coded p c) (children ps) u a.1) (sym a.2) w) y (λ u. omega arith) q le K)
+      (λ (w : (m : Input) × Takes (coded p c) left_paren_kind a.0 m × Listed false (ArrowPattern (coded p c)) (coded p c) 8 (children ps) m a.1).
       let g : kind ts ≡ left_paren_kind = ap (λ (u : Input). kind u) a.2 ∙ w.1.0 in
       begin (arrow_expr s ps e false) r (not_hash 7 g refl) le (arrow_paren inner c l le ts k ps s e w.0 a.1 o r (d < reach e) (d < reaches ps) g (ap (λ (u : Input). rest u) a.2 ∙ w.1.2) (params_covered ps w.0 a.1 sp gp w.2) (λ u. omega arith) (params_names p c ps w.0 a.1 w.2) y (λ u. omega arith) q) K)
       a.3
   comes_arrow true s ps e o r a y q sp gp le ne K = ⊎_elim
-      (λ (w : BareName (coded p c) (parts ps) a.0 a.1). async_arrow ps s e a.0 a.1 o r a.2 w y (λ u. omega arith) q le K)
-      (λ (w : (m : Input) × Takes (coded p c) left_paren_kind a.0 m × Listed false (ArrowPattern (coded p c)) (coded p c) 8 (parts ps) m a.1).
+      (λ (w : BareName (coded p c) (children ps) a.0 a.1). async_arrow ps s e a.0 a.1 o r a.2 w y (λ u. omega arith) q le K)
+      (λ (w : (m : Input) × Takes (coded p c) left_paren_kind a.0 m × Listed false (ArrowPattern (coded p c)) (coded p c) 8 (children ps) m a.1).
       begin (arrow_expr s ps e true) r (not_hash 143 a.2.0.0 refl) le (async_paren inner c l le ts k ps s e a.0 w.0 a.1 o r (d < reach e) (d < reaches ps) a.2.0.0 a.2.0.1 a.2.0.3 a.2.1 w.1.0 w.1.2 (params_covered ps w.0 a.1 sp gp w.2) (λ u. omega arith) (params_names p c ps w.0 a.1 w.2) y (λ u. omega arith) q) K)
       a.3
 
-  comes_concise : (s : Span) (ps : Trees) (e : Tree) (i : Bool) (r : Input) → ArrowExpression (coded p c) s (parts ps) (part e (λ y. Spells e y)) i ts r → size (arrow_expr s ps e i) < suc z → CoveredAll ps × Covered e → l ≤ 2 → suc (max (reaches ps) (reach e)) ≤ n → is_block e ≡ false → Follow c (cond (is_block e) 2 (ends e)) 2 r
+  comes_concise : (s : Span) (ps : Trees) (e : Tree) (i : Bool) (r : Input) → ArrowExpression (coded p c) s (children ps) (child e (λ y. Produces e y)) i ts r → size (arrow_expr s ps e i) < suc z → CoveredAll ps × Covered e → l ≤ 2 → suc (max (reaches ps) (reach e)) ≤ n → is_block e ≡ false → Follow c (cond (is_block e) 2 (ends e)) 2 r
       → On (arrow_expr s ps e i) r → Ours
   comes_concise s ps e i r h sz g le ne nb fo K = comes_arrow i s ps e h.0 r h.1 (body_read i e h.1.1 h.0 r (omega arith) g.1 h.1.4 h.1.5 h.2 h.3 (unclosed (is_block e) c (ends e) 2 r nb fo)) h.4 (omega arith) g.0 le ne K
 
-  comes_by : (t : Tree) (r : Input) → size t < suc z → Covered t → Spells t (coded p c) ts r → l ≤ level t → Follow c (ends t) (tail t) r → Bare t ts r → Calm (ends t) l r → reach t ≤ n → On t r → Ours
+  comes_by : (t : Tree) (r : Input) → size t < suc z → Covered t → Produces t (coded p c) ts r → l ≤ level t → Follow c (ends t) (tail t) r → Bare t ts r → Calm (ends t) l r → reach t ≤ n → On t r → Ours
   comes_by (this_expr s) r sz g h le fo ba ca ne K = begin _ r (not_hash 123 h.0.0 refl) le (prefix_this inner c l ts k (λ x. Unit {0}) _ r s h.0.0 h.0.1 h.0.3 h.1) K
   comes_by (null_lit s) r sz g h le fo ba ca ne K = begin _ r (not_hash 80 h.0.0 refl) le (prefix_null inner c l ts k (λ x. Unit {0}) _ r s h.0.0 h.0.1 h.0.3 h.1) K
   comes_by (bool_lit s true) r sz g h le fo ba ca ne K = begin _ r (not_hash 81 h.0.0 refl) le (prefix_true inner c l ts k (λ x. Unit {0}) _ r s h.0.0 h.0.1 h.0.3 h.1) K
@@ -569,7 +569,7 @@ module _ (z d : ℕ) (ih : (e : ℕ) → Comes z e) (deep : Deep z d) (p : Bool)
   comes_by (await_expr s a) r sz g h le fo ba ca ne K = begin _ r (not_hash 100 h.2.0 refl) le (prefix_await inner c l ts k _ _ h.2.0 h.1
       (await_found inner c l ts k (λ x. Unit {0}) _ s a h.0 r (d < reach a) h.2.0 h.2.1 h.2.3 (operand_found a h.0 r (omega arith) g h.3.1 h.3.0 (record { stop = fo.stop; calm = fo.calm; sober = fo.sober; quits = fo.quits })) (λ u. omega arith) h.4)) K
   comes_by (bin_expr s op a b) r sz g h le fo ba ca ne K = ⊎_elim
-      (λ (q : is_private a ≡ true). let v = private_is a q in comes_private s v.0 v.1 op b r (is_in op a q h.3) (subst (λ (y : Tree). Spells (bin_expr s op y b) (coded p c) ts r) v.2 h) (omega arith) g.1 le (omega arith) (record { stop = fo.stop; calm = fo.calm; sober = fo.sober; quits = fo.quits })
+      (λ (q : is_private a ≡ true). let v = private_is a q in comes_private s v.0 v.1 op b r (is_in op a q h.3) (subst (λ (y : Tree). Produces (bin_expr s op y b) (coded p c) ts r) v.2 h) (omega arith) g.1 le (omega arith) (record { stop = fo.stop; calm = fo.calm; sober = fo.sober; quits = fo.quits })
       (subst (λ (y : Tree). On (bin_expr s op y b) r) v.2 K))
       (λ (q : is_private a ≡ false). comes_binary s op a b r q sz g h le fo ne K) (cases_Bool (is_private a))
   comes_by (cond_expr s a b t) r sz g h le fo ba ca ne K =
@@ -611,12 +611,12 @@ module _ (z d : ℕ) (ih : (e : ℕ) → Comes z e) (deep : Deep z d) (p : Bool)
   comes_by (yield_expr s a q) r sz g h le fo ba ca ne K = comes_yield s a q r h sz g le ne refl fo K
   comes_by (array_lit s xs) r sz g h le fo ba ca ne K = begin _ r (not_hash 9 h.1.0 refl) le (prefix_array inner c l ts k s xs h.0 r (d < reaches xs) h.1.0 h.1.2 (λ j. elements_found z d found p c true 10 refl refl refl xs h.0 r j (reaches xs) (omega arith) g h.2 (omega arith)) (λ u. omega arith) h.3) K
   comes_by (call_expr s f xs) r sz g w le fo ba ca ne K = ⊎_elim
-      (λ (v : (t : Span) × (f ≡ super t)). comes_super s v.0 xs r (subst (λ (y : Tree). Spells (call_expr s y xs) (coded p c) ts r) v.1 w) (omega arith) g.1 le (omega arith) (subst (λ (y : Tree). On (call_expr s y xs) r) v.1 K))
-      (λ o. ⊎_elim (λ (v : (t : Span) × (f ≡ import t)). comes_import s v.0 xs r (subst (λ (y : Tree). Spells (call_expr s y xs) (coded p c) ts r) v.1 w) (omega arith) g.1 le (omega arith) (subst (λ (y : Tree). On (call_expr s y xs) r) v.1 K))
+      (λ (v : (t : Span) × (f ≡ super t)). comes_super s v.0 xs r (subst (λ (y : Tree). Produces (call_expr s y xs) (coded p c) ts r) v.1 w) (omega arith) g.1 le (omega arith) (subst (λ (y : Tree). On (call_expr s y xs) r) v.1 K))
+      (λ o. ⊎_elim (λ (v : (t : Span) × (f ≡ import t)). comes_import s v.0 xs r (subst (λ (y : Tree). Produces (call_expr s y xs) (coded p c) ts r) v.1 w) (omega arith) g.1 le (omega arith) (subst (λ (y : Tree). On (call_expr s y xs) r) v.1 K))
       (λ v. comes_call s f xs r v sz g w le (record { stop = fo.stop; calm = fo.calm; sober = fo.sober; quits = fo.quits }) (ca.calm refl) ne K) o) (callee_sort f)
   comes_by (paren_expr s e) r sz g h le fo ba ca ne K = begin _ r (not_hash 7 h.2.0 refl) le
       (⊎_elim (λ (q : is_seq e ≡ true). let i = seq_is e q in
-      paren_more e i.0 i.1 s h.0 h.1 r i.2 (omega arith) ne (subst (λ (y : Tree). Covered y) i.2 g) (subst (λ (y : Tree). Spells y (coded p (with_in c)) h.0 h.1) i.2 h.3.1) h.2.0 h.2.2 h.4.0 h.4.2 (ca.calm refl) h.5)
+      paren_more e i.0 i.1 s h.0 h.1 r i.2 (omega arith) ne (subst (λ (y : Tree). Covered y) i.2 g) (subst (λ (y : Tree). Produces y (coded p (with_in c)) h.0 h.1) i.2 h.3.1) h.2.0 h.2.2 h.4.0 h.4.2 (ca.calm refl) h.5)
       (λ (q : is_seq e ≡ false). paren_one e s h.0 h.1 r (omega arith) ne g (two_or e _ h.0 h.1 g h.3.1 h.3.0 q) h.3.1 h.2.0 h.2.2 h.4.0 h.4.2 (ca.calm refl) h.5)
       (cases_Bool (is_seq e))) K
   comes_by (new_expr s f absent) r sz g h le fo ba ca ne K = begin _ r (not_hash 122 h.1.0 refl) le

@@ -7,8 +7,8 @@ use Rattle.ecma_tree.specs.Tree.{Tree, Trees, ident, member_expr, super_prop_exp
 use Rattle.ecma_syntax.specs.Input.{Input, Code, kind, with_in}
 use Rattle.ecma_syntax.specs.Operators.{goes_expr, assignment_level}
 use Rattle.ecma_syntax.specs.Shape.{level, ends, is_simple, is_target_expr, is_structured, is_place, is_target, is_item_pat, is_rest}
-use Rattle.ecma_grammar.specs.Grammar.{Spells}
-use Rattle.ecma_reading.specs.Source.{Fault, Stand, Inner, Step, finished}
+use Rattle.ecma_grammar.specs.Grammar.{Produces}
+use Rattle.ecma_reading.specs.Source.{Fault, State, Inner, Step, finished}
 use Rattle.ecma_reading.specs.Cover.{to_item, initialised}
 use Rattle.ecma_reading.specs.Expressions.{expr_by, expr_from, loop_by, loop_step, prefix_by}
 use Rattle.ecma_reading.specs.Reading.{readers}
@@ -20,26 +20,26 @@ use Rattle.ecma_grammar_complete_rules.proofs.Covers.{Fit, Refines, Cover_read, 
 use Rattle.ecma_grammar_complete_rules.proofs.Finds.{Comes, finds}
 
 -- what is read of a pattern in brackets, by the readers of one call more
-pub structured_read : (z d : ℕ) (f : Finds z d) (cov : Covering z d) (p : Bool) (c : Code) (lev : ℕ) (t : Tree) (ts r : Input) (k : List ℕ) (n : ℕ) → size t < suc z → Covered t → is_structured t ≡ true → Spells t (coded p c) ts r → reach t ≤ n
+pub structured_read : (z d : ℕ) (f : Finds z d) (cov : Covering z d) (p : Bool) (c : Code) (lev : ℕ) (t : Tree) (ts r : Input) (k : List ℕ) (n : ℕ) → size t < suc z → Covered t → is_structured t ≡ true → Produces t (coded p c) ts r → reach t ≤ n
     → Reads (from ts k) (prefix_by lm (readers lm d) c lev (from ts k)) (Cover_read t r) (suc d < n)
 structured_read z d f cov p c lev (array_pat s xs) ts r k n sz g e h le = array_cover z d cov p c lev s xs ts h.0 r k (suc d < n) (omega arith) g h.1.0 h.1.2 h.2 h.3 (λ u. omega arith)
 structured_read z d f cov p c lev (object_pat s xs) ts r k n sz g e h le = object_cover z d f cov p c lev s xs ts h.0 r k (suc d < n) (omega arith) g h.1.0 h.1.2 h.2 h.3 (λ u. omega arith)
 structured_read z d f cov p c lev _ ts r k n sz g e h le = absurd (true≢false (sym e))
 
-pub structured_starts : (t : Tree) (c : Code) (ts r : Input) → is_structured t ≡ true → Spells t c ts r → eqb (kind ts) hash_kind ≡ false
+pub structured_starts : (t : Tree) (c : Code) (ts r : Input) → is_structured t ≡ true → Produces t c ts r → eqb (kind ts) hash_kind ≡ false
 structured_starts (array_pat s xs) c ts r e h = ne_eqb (kind ts) hash_kind (λ q. omega (arith, q, h.1.0))
 structured_starts (object_pat s xs) c ts r e h = ne_eqb (kind ts) hash_kind (λ q. omega (arith, q, h.1.0))
 structured_starts _ c ts r e h = absurd (true≢false (sym e))
 
 -- the loop stops at once, with what has been read
-pub stops_here : (inner : Inner Input) (c : Code) (l : ℕ) (start s : Stand Input) (x : Tree) (W : Tree × Stand Input → Type 0) (Q : Type 0) → goes_expr c (ends x) s.source < l → W (x, s) → Loops (loop_step lm inner c l start) x s.source s.commas W Q
+pub stops_here : (inner : Inner Input) (c : Code) (l : ℕ) (start s : State Input) (x : Tree) (W : Tree × State Input → Type 0) (Q : Type 0) → goes_expr c (ends x) s.source < l → W (x, s) → Loops (loop_step lm inner c l start) x s.source s.commas W Q
 unfolding loop_step
-stops_here inner c l start s x W Q h w = loop_after (loop_step lm inner c l start) x s.source s.commas (λ y. ◌≡◌ {A = Step Tree × Stand Input} y (finished x, s)) ⊥ W Q
+stops_here inner c l start s x W Q h w = loop_after (loop_step lm inner c l start) x s.source s.commas (λ y. ◌≡◌ {A = Step Tree × State Input} y (finished x, s)) ⊥ W Q
     (if_yes (ltb (goes_expr c (ends x) s.source) l) _ _ _ _ (lt-ltb (goes_expr c (ends x) s.source) l h) (ended (finished x, s) _ _ refl)) (λ u. absurd u)
-    (λ y v a. subst (λ (o : Step Tree × Stand Input). Goes (loop_step lm inner c l start) s.source W Q o) (sym v) w)
+    (λ y v a. subst (λ (o : Step Tree × State Input). Goes (loop_step lm inner c l start) s.source W Q o) (sym v) w)
 
 -- a pattern in brackets as an item
-structured_item : (z d : ℕ) (f : Finds z d) (cov : Covering z d) (p : Bool) (c : Code) (t : Tree) (ts r : Input) (k : List ℕ) → size t < suc z → Covered t → is_structured t ≡ true → Spells t (coded p c) ts r → ((e : ℕ) → Follow c e 2 r)
+structured_item : (z d : ℕ) (f : Finds z d) (cov : Covering z d) (p : Bool) (c : Code) (t : Tree) (ts r : Input) (k : List ℕ) → size t < suc z → Covered t → is_structured t ≡ true → Produces t (coded p c) ts r → ((e : ℕ) → Follow c e 2 r)
     → Reads (from ts k) (expr_by lm (readers lm d) c 2 (from ts k)) (λ y. (y.1.source ≡ r) × Refines false y.0 t y.1) (suc d < reach t)
 unfolding expr_by expr_from loop_by
 structured_item z d f cov p c t ts r k sz g e h fo = if_no (eqb (kind ts) hash_kind) _ _ _ _ (structured_starts t (coded p c) ts r e h)
@@ -49,7 +49,7 @@ structured_item z d f cov p c t ts r k sz g e h fo = if_no (eqb (kind ts) hash_k
 
 -- ---- other items
 
-named_item : (z d : ℕ) (f : Finds z d) (p : Bool) (c : Code) (x : Tree) (t : Tree) (ts m : Input) (k : List ℕ) → size x < z → Covered x → Spells x (coded p c) ts m → 2 ≤ level x → ((e : ℕ) → Follow c e 2 m) → ((bb : Bool) → Fit bb t → (i : List ℕ) → to_item bb i x ≡ Ok t) → reach x ≤ reach t
+named_item : (z d : ℕ) (f : Finds z d) (p : Bool) (c : Code) (x : Tree) (t : Tree) (ts m : Input) (k : List ℕ) → size x < z → Covered x → Produces x (coded p c) ts m → 2 ≤ level x → ((e : ℕ) → Follow c e 2 m) → ((bb : Bool) → Fit bb t → (i : List ℕ) → to_item bb i x ≡ Ok t) → reach x ≤ reach t
     → Reads (from ts k) ((readers lm d).expr c 2 (from ts k)) (λ y. (y.1.source ≡ m) × Refines false y.0 t y.1) (d < reach t)
 named_item z d f p c x t ts m k sz g h le fo q rl = reads_deep (λ u. omega arith) (reads_map _ (λ y v. (v.1, record { so = λ bb ft i o. subst (λ (b : Tree). to_item bb i b ≡ Ok t) (sym v.0) (q bb ft i) })) (f x p c 2 ts m k sz g h (omega arith) (omega arith) two_asked le (fo (ends x))))
 
@@ -70,29 +70,29 @@ bare t = t
 
 record Target (s : Span) (a e : Tree) (c : Code) (ts m : Input) : Type 0 where
   pub target : is_target assign_kind (bare a) ≡ true
-  pub spelled : Spells (bare a) c ts m
+  pub produced : Produces (bare a) c ts m
   pub covered : Covered (bare a)
   pub small : size (bare a) ≤ size a
   pub shallow : reach (bare a) ≤ reach a
   pub refines : (bb : Bool) → Fit bb a → (i : List ℕ) → to_item bb i (assign_expr s assign_kind (bare a) e) ≡ Ok (assign_pat s a e)
 
-bare_target : (s : Span) (a e : Tree) (c : Code) (ts m : Input) → Covered a → is_place false a ≡ true → Spells a c ts m → Target s a e c ts m
-bare_target s (binding_ident t i) e c ts m g q h = record { target = refl; spelled = h; covered = g; small = omega arith; shallow = omega arith; refines = λ bb ft i. rw ft refl }
-bare_target s (array_pat t i) e c ts m g q h = record { target = refl; spelled = h; covered = g; small = omega arith; shallow = omega arith; refines = λ bb ft i. rw ft refl }
-bare_target s (object_pat t i) e c ts m g q h = record { target = refl; spelled = h; covered = g; small = omega arith; shallow = omega arith; refines = λ bb ft i. rw ft refl }
-bare_target s (expr_pat (member_expr t o k)) e c ts m g q h = record { target = refl; spelled = h.1; covered = g; small = omega arith; shallow = omega arith; refines = λ bb ft i. rw (not_bound bb ft) refl }
-bare_target s (expr_pat (super_prop_expr t o k)) e c ts m g q h = record { target = refl; spelled = h.1; covered = g; small = omega arith; shallow = omega arith; refines = λ bb ft i. rw (not_bound bb ft) refl }
-bare_target s (expr_pat (paren_expr t x)) e c ts m g q h = record { target = rw q refl; spelled = h.1; covered = g; small = omega arith; shallow = omega arith; refines = λ bb ft i. rw (not_bound bb ft) refl }
+bare_target : (s : Span) (a e : Tree) (c : Code) (ts m : Input) → Covered a → is_place false a ≡ true → Produces a c ts m → Target s a e c ts m
+bare_target s (binding_ident t i) e c ts m g q h = record { target = refl; produced = h; covered = g; small = omega arith; shallow = omega arith; refines = λ bb ft i. rw ft refl }
+bare_target s (array_pat t i) e c ts m g q h = record { target = refl; produced = h; covered = g; small = omega arith; shallow = omega arith; refines = λ bb ft i. rw ft refl }
+bare_target s (object_pat t i) e c ts m g q h = record { target = refl; produced = h; covered = g; small = omega arith; shallow = omega arith; refines = λ bb ft i. rw ft refl }
+bare_target s (expr_pat (member_expr t o k)) e c ts m g q h = record { target = refl; produced = h.1; covered = g; small = omega arith; shallow = omega arith; refines = λ bb ft i. rw (not_bound bb ft) refl }
+bare_target s (expr_pat (super_prop_expr t o k)) e c ts m g q h = record { target = refl; produced = h.1; covered = g; small = omega arith; shallow = omega arith; refines = λ bb ft i. rw (not_bound bb ft) refl }
+bare_target s (expr_pat (paren_expr t x)) e c ts m g q h = record { target = rw q refl; produced = h.1; covered = g; small = omega arith; shallow = omega arith; refines = λ bb ft i. rw (not_bound bb ft) refl }
 bare_target s (expr_pat x) e c ts m g q h = absurd (true≢false (sym q))
 bare_target s _ e c ts m g q h = absurd (true≢false (sym q))
 
-valued_item : (z d : ℕ) (f : Finds z d) (p : Bool) (c : Code) (s : Span) (a e : Tree) (ts m : Input) (k : List ℕ) → size (assign_pat s a e) < z → Covered (assign_pat s a e) → Spells (assign_pat s a e) (coded p (with_in c)) ts m → ((i : ℕ) → Follow (with_in c) i 2 m)
+valued_item : (z d : ℕ) (f : Finds z d) (p : Bool) (c : Code) (s : Span) (a e : Tree) (ts m : Input) (k : List ℕ) → size (assign_pat s a e) < z → Covered (assign_pat s a e) → Produces (assign_pat s a e) (coded p (with_in c)) ts m → ((i : ℕ) → Follow (with_in c) i 2 m)
     → Reads (from ts k) ((readers lm d).expr (with_in c) 2 (from ts k)) (λ y. (y.1.source ≡ m) × Refines false y.0 (assign_pat s a e) y.1) (d < reach (assign_pat s a e))
 valued_item z d f p c s a e ts m k sz g h fo = let w = bare_target s a e (coded p (with_in c)) ts h.0 g.0 h.2 h.3 in
-    named_item z d f p (with_in c) (assign_expr s assign_kind (bare a) e) (assign_pat s a e) ts m k (omega (arith, w.small, sz)) (w.covered, g.1) (h.0, h.1, refl, w.target, w.spelled, h.4, h.5, h.6) (omega arith) fo w.refines (omega (arith, w.shallow))
+    named_item z d f p (with_in c) (assign_expr s assign_kind (bare a) e) (assign_pat s a e) ts m k (omega (arith, w.small, sz)) (w.covered, g.1) (h.0, h.1, refl, w.target, w.produced, h.4, h.5, h.6) (omega arith) fo w.refines (omega (arith, w.shallow))
 
 -- an item that is no rest
-item_by : (z d : ℕ) → Finds (suc z) d → ((t : Tree) (p : Bool) (c : Code) (ts r : Input) (k : List ℕ) → size t < suc z → Covered t → is_structured t ≡ true → Spells t (coded p c) ts r → ((e : ℕ) → Follow c e 2 r) → Reads (from ts k) ((readers lm d).expr c 2 (from ts k)) (λ y. (y.1.source ≡ r) × Refines false y.0 t y.1) (d < reach t))
+item_by : (z d : ℕ) → Finds (suc z) d → ((t : Tree) (p : Bool) (c : Code) (ts r : Input) (k : List ℕ) → size t < suc z → Covered t → is_structured t ≡ true → Produces t (coded p c) ts r → ((e : ℕ) → Follow c e 2 r) → Reads (from ts k) ((readers lm d).expr c 2 (from ts k)) (λ y. (y.1.source ≡ r) × Refines false y.0 t y.1) (d < reach t))
     → Covering (suc z) d
 item_by z d f b (binding_ident s (ident t n)) p c ts m k sz g i nr h fo = named_item (suc z) d f p (with_in c) (ident s n) (binding_ident s (ident t n)) ts m k (omega (arith, sz)) tt h.1 (omega arith) fo (λ bb ft i. ap (λ (y : Span). Ok (binding_ident s (ident y n))) h.0) (omega arith)
 item_by z d f b (binding_ident s x) p c ts m k sz g i nr h fo = absurd h
@@ -112,7 +112,7 @@ positive_cover _ e = absurd (true≢false (sym e))
 lesser : (z : ℕ) → ((e : ℕ) → Finds (suc z) e) → (e : ℕ) → Finds z e
 lesser z f e t p c l ts r k sz = f e t p c l ts r k (omega (arith, sz))
 
-by_depth : (z : ℕ) → ((e : ℕ) → Finds (suc z) e) → ((e : ℕ) → Covering z e) → (d : ℕ) (t : Tree) (p : Bool) (c : Code) (ts r : Input) (k : List ℕ) → size t < suc z → Covered t → is_structured t ≡ true → Spells t (coded p c) ts r → ((e : ℕ) → Follow c e 2 r)
+by_depth : (z : ℕ) → ((e : ℕ) → Finds (suc z) e) → ((e : ℕ) → Covering z e) → (d : ℕ) (t : Tree) (p : Bool) (c : Code) (ts r : Input) (k : List ℕ) → size t < suc z → Covered t → is_structured t ≡ true → Produces t (coded p c) ts r → ((e : ℕ) → Follow c e 2 r)
     → Reads (from ts k) ((readers lm d).expr c 2 (from ts k)) (λ y. (y.1.source ≡ r) × Refines false y.0 t y.1) (d < reach t)
 unfolding readers
 by_depth z f cov zero t p c ts r k sz g e h fo = too_deep _ _ (positive_cover t e)

@@ -8,8 +8,8 @@ use Rattle.ecma_syntax.specs.Input.{Input, Code, kind, kind2, brk, lo, rest, spa
 use Rattle.ecma_syntax.specs.Operators.{assignment_level, other_end, operates, goes_expr, is_assign_op}
 use Rattle.ecma_syntax.specs.Shape.{level, ends}
 use Rattle.ecma_grammar.specs.Expressions.{is_update_op}
-use Rattle.ecma_grammar.specs.Grammar.{Spells}
-use Rattle.ecma_reading.specs.Source.{Stand, Inner}
+use Rattle.ecma_grammar.specs.Grammar.{Produces}
+use Rattle.ecma_reading.specs.Source.{State, Inner}
 use Rattle.ecma_reading.specs.Expressions.{expr_by, loop_step}
 use Rattle.ecma_reading.specs.Reading.{readers}
 use Rattle.ecma_grammar_complete_base.proofs.Yields.{lm, from, coded, Is, Loops, loop_end, Reads, here, past_here, ended, if_no, if_yes, too_deep}
@@ -28,7 +28,7 @@ pub record Calm (e l : ℕ) (r : Input) : Type 0 where
 
 -- Reading comes to the loop with this tree in hand: what the loop answers is what reading answers.
 abbrev pub Comes : ℕ → ℕ → Type 1
-Comes z d = (t : Tree) (p : Bool) (c : Code) (l : ℕ) (ts r : Input) (k : List ℕ) (W : Tree × Stand Input → Type 0) (n : ℕ) → size t < z → Covered t → Spells t (coded p c) ts r → 1 ≤ l → l ≤ level t → Follow c (ends t) (tail t) r → Bare t ts r → Calm (ends t) l r → reach t ≤ n
+Comes z d = (t : Tree) (p : Bool) (c : Code) (l : ℕ) (ts r : Input) (k : List ℕ) (W : Tree × State Input → Type 0) (n : ℕ) → size t < z → Covered t → Produces t (coded p c) ts r → 1 ≤ l → l ≤ level t → Follow c (ends t) (tail t) r → Bare t ts r → Calm (ends t) l r → reach t ≤ n
     → ((j : List ℕ) → Loops (loop_step lm (readers lm d) c l (from ts k)) t r j W (suc d < n)) → Reads (from ts k) (expr_by lm (readers lm d) c l (from ts k)) W (suc d < n)
 
 pub bare_by : (t : Tree) (ts r : Input) → (kind r ≡ left_paren_kind → ⊥) → Bare t ts r
@@ -43,7 +43,7 @@ pub bare_stop : (t : Tree) (c : Code) (l : ℕ) (ts r : Input) → l < 20 → go
 bare_stop (ident s n) c l ts r le h = λ e q. let g = paren_goes c r q in absurd (omega (arith, g))
 bare_stop _ c l ts r le h = tt
 
-pub positive : (t : Tree) (c : Code) (ts r : Input) → Covered t → Spells t c ts r → 1 ≤ level t → 0 < reach t
+pub positive : (t : Tree) (c : Code) (ts r : Input) → Covered t → Produces t c ts r → 1 ≤ level t → 0 < reach t
 positive (update_expr s op true a) c ts r g h l = omega arith
 positive (update_expr s op false a) c ts r g h l = positive a _ ts h.0 g h.2.1 (omega (arith, h.2.0))
 positive (member_expr s o (computed_prop_name t e)) c ts r g h l = omega arith
@@ -102,7 +102,7 @@ positive (fn_expr s n f) c ts r g h l = omega arith
 positive (class_expr s n k) c ts r g h l = omega arith
 positive _ c ts r g h l = absurd (omega (arith, l))
 
-pub loop_stops : (inner : Inner Input) (c : Code) (l : ℕ) (start : Stand Input) (t : Tree) (r : Input) (k : List ℕ) (Q : Type 0) → goes_expr c (ends t) r < l → Loops (loop_step lm inner c l start) t r k (Is t r) Q
+pub loop_stops : (inner : Inner Input) (c : Code) (l : ℕ) (start : State Input) (t : Tree) (r : Input) (k : List ℕ) (Q : Type 0) → goes_expr c (ends t) r < l → Loops (loop_step lm inner c l start) t r k (Is t r) Q
 unfolding loop_step
 loop_stops inner c l start t r k Q h = loop_end (loop_step lm inner c l start) t t r r k ⊥ (Is t r) Q (if_yes (ltb (goes_expr c (ends t) r) l) _ _ _ _ (lt-ltb (goes_expr c (ends t) r) l h) (here refl)) (λ u. absurd u) (λ j. (refl, refl))
 
@@ -132,7 +132,7 @@ pub goes_dot : (c : Code) (m : Input) → kind m ≡ dot_kind → goes_expr c 0 
 goes_dot c m e = rw e refl
 
 -- the same at any level that is asked for, that of a callee too
-pub reads : (z d : ℕ) → ((e : ℕ) → Comes z e) → (t : Tree) (p : Bool) (c : Code) (l : ℕ) (ts r : Input) (k : List ℕ) → size t < z → Covered t → Spells t (coded p c) ts r → 1 ≤ l → Asked l → l ≤ level t → Follow c (ends t) l r → Bare t ts r
+pub reads : (z d : ℕ) → ((e : ℕ) → Comes z e) → (t : Tree) (p : Bool) (c : Code) (l : ℕ) (ts r : Input) (k : List ℕ) → size t < z → Covered t → Produces t (coded p c) ts r → 1 ≤ l → Asked l → l ≤ level t → Follow c (ends t) l r → Bare t ts r
     → Reads (from ts k) ((readers lm d).expr c l (from ts k)) (Is t r) (d < reach t)
 unfolding readers
 reads z zero ih t p c l ts r k sz g h one asked le fo ba = too_deep _ _ (positive t _ ts r g h (omega arith))

@@ -7,9 +7,9 @@ use Rattle.ecma_tree.specs.Tree.{Tree, Trees, none, more, ident, unary_expr, upd
 use Rattle.ecma_syntax.specs.Input.{Input, Code, kind, brk, lo, span, rest, is_word}
 use Rattle.ecma_syntax.specs.Operators.{goes_expr, goes_on, pauses, operates, is_assign_op, between, let_end, may_name}
 use Rattle.ecma_syntax.specs.Shape.{ends, last_ends, is_name, is_block, is_absent}
-use Rattle.ecma_grammar.specs.Parts.{Ends}
+use Rattle.ecma_grammar.specs.Children.{Ends}
 use Rattle.ecma_grammar.specs.Statements.{statement_end}
-use Rattle.ecma_reading.specs.Source.{Fault, Unexpected, TooDeep, ◌>>=◌, Stand, end_of}
+use Rattle.ecma_reading.specs.Source.{Fault, Unexpected, TooDeep, ◌>>=◌, State, end_of}
 use Rattle.ecma_grammar_complete_base.proofs.Yields.{lm, from, coded, Yields, After, Reads, Is, onto, here}
 use Rattle.ecma_grammar_complete_base.proofs.Levels.{Follow, sober, quiet, sober_by, ends_operand, quits_by, arrowed, calm_by, cond_no}
 
@@ -126,7 +126,7 @@ statement_follows p c ts e m r h = by_word (c.listed && ((kind ts == let_kind) &
 
 -- ---- what ends a statement
 
-pub then_end : {A : Type 0} (p : Bool) (c : Code) (e : ℕ) (m r : Input) (k : List ℕ) (f : Stand Input → Result (A × Stand Input) Fault) (W : A × Stand Input → Type 0) (Q : Type 0) → Ends (coded p c) e m r → Reads (from r k) (f (from r k)) W Q → Reads (from m k) (end_of lm c e (from m k) >>= f) W Q
+pub then_end : {A : Type 0} (p : Bool) (c : Code) (e : ℕ) (m r : Input) (k : List ℕ) (f : State Input → Result (A × State Input) Fault) (W : A × State Input → Type 0) (Q : Type 0) → Ends (coded p c) e m r → Reads (from r k) (f (from r k)) W Q → Reads (from m k) (end_of lm c e (from m k) >>= f) W Q
 unfolding end_of
 then_end p c e m r k f W Q (inl h) y = rw (eq-eqb (kind m) semicolon_kind h.0) (onto m r k f W Q h.2 y)
 then_end p c e m r k f W Q (inr h) y = rw (ne_eqb (kind m) semicolon_kind h.0, h.1) (subst (λ (z : Input). Reads (from z k) (f (from z k)) W Q) (sym h.2) y)
@@ -136,10 +136,10 @@ pub built : (f : Span → Tree) (s : Span) (ts r : Input) (j : List ℕ) (Q : Ty
 built f s ts r j Q e = here (ap f (sym e))
 
 -- the same where more may be too deep
-pub lifted : {A : Type 0} {s : Stand Input} {x : Result (A × Stand Input) Fault} {V : A × Stand Input → Type 0} {P Q : Type 0} → Reads s x V P → (P → Q) → Reads s x V Q
+pub lifted : {A : Type 0} {s : State Input} {x : Result (A × State Input) Fault} {V : A × State Input → Type 0} {P Q : Type 0} → Reads s x V P → (P → Q) → Reads s x V Q
 lifted {A = A} {s = s} {x = x} {V = V} {P = P} {Q = Q} h f = record { so = λ fr. onward x (h.so fr) }
   where
-    onward : (y : Result (A × Stand Input) Fault) → Yields y (λ z. V z × After s z.1) P → Yields y (λ z. V z × After s z.1) Q
+    onward : (y : Result (A × State Input) Fault) → Yields y (λ z. V z × After s z.1) P → Yields y (λ z. V z × After s z.1) Q
     onward (Ok z) v = record { so = v.so }
     onward (Err Unexpected) v = absurd v.so
     onward (Err TooDeep) v = record { so = f v.so }

@@ -8,9 +8,9 @@ use Rattle.ecma_tree.specs.Places.{place_of}
 use Rattle.ecma_syntax.specs.Input.{Input, Code, kind, lo, rest, span, with_in}
 use Rattle.ecma_syntax.specs.Operators.{assignment_level}
 use Rattle.ecma_syntax.specs.Shape.{level}
-use Rattle.ecma_grammar.specs.Parts.{Part, part, CommaThen, Expr}
-use Rattle.ecma_grammar.specs.Grammar.{Spells, parts}
-use Rattle.ecma_reading.specs.Source.{Fault, ◌>>=◌, unexpected, Stand, Inner, Step, go_on, finished}
+use Rattle.ecma_grammar.specs.Children.{Child, child, CommaThen, Expr}
+use Rattle.ecma_grammar.specs.Grammar.{Produces, children}
+use Rattle.ecma_reading.specs.Source.{Fault, ◌>>=◌, unexpected, State, Inner, Step, go_on, finished}
 use Rattle.ecma_reading.specs.Expressions.{Elements, no_elements, element_step, elements_by, plain_element, plain_elements, last_end, joined, prefix_by, group_by, group_end, heads_params, arrows_at}
 use Rattle.ecma_reading.specs.Reading.{readers}
 use Rattle.ecma_grammar_complete_base.proofs.Yields.{lm, from, len, coded, then_reads, Is, Loops, loop_on, loop_end, looped, Reads, here, past_here, ended, if_no, if_yes, then_past_reads}
@@ -20,7 +20,7 @@ use Rattle.ecma_grammar_complete_base.proofs.Levels.{arrowed, calm_at}
 use Rattle.ecma_grammar_complete_rules.proofs.Lists.{Finds, step_comma, step_close}
 
 -- elements that are these expressions, no comma after them, up to a place and with these tokens as the rest
-pub record Grouped (es : List Tree) (u : ℕ) (r : Input) (x : Elements × Stand Input) : Type 0 where
+pub record Grouped (es : List Tree) (u : ℕ) (r : Input) (x : Elements × State Input) : Type 0 where
   pub comma : x.0.comma ≡ false
   pub items : plain_elements x.0.items ≡ Some es
   pub last : last_end x.0.items ≡ u
@@ -65,8 +65,8 @@ module _ (z d : ℕ) (f : Finds z d) (p : Bool) (c : Code) where
   abbrev wrapped : Input → Input → Tree → Tree
   wrapped ts m x = expr_or_spread (span (lo ts) m.last) None x
 
-  group_loop : (x : Tree) (xs : Trees) (acc ds : List Tree) (b : Bool) (ts m u r : Input) (k : List ℕ) (n : ℕ) → plain_elements acc ≡ Some ds → size x < z → sizes xs < z → Covered x → CoveredAll xs → Expr 2 (coded p (with_in c)) (part x (λ y. Spells x y)) ts m
-      → CommaThen (Expr 2 (coded p (with_in c))) (coded p (with_in c)) (parts xs) m u → kind u ≡ right_paren_kind → rest u ≡ r → max (reach x) (reaches xs) ≤ n
+  group_loop : (x : Tree) (xs : Trees) (acc ds : List Tree) (b : Bool) (ts m u r : Input) (k : List ℕ) (n : ℕ) → plain_elements acc ≡ Some ds → size x < z → sizes xs < z → Covered x → CoveredAll xs → Expr 2 (coded p (with_in c)) (child x (λ y. Produces x y)) ts m
+      → CommaThen (Expr 2 (coded p (with_in c))) (coded p (with_in c)) (children xs) m u → kind u ≡ right_paren_kind → rest u ≡ r → max (reach x) (reaches xs) ≤ n
       → Loops (element_step lm (readers lm d) (with_in c) false right_paren_kind) (record { items = acc; comma = b }) ts k (Grouped (ds ++ (x ∷ unpack xs)) u.last r) (d < n)
   group_loop x none acc ds b ts m u r k n pl sz szs g gs h w e t le =
       loop_end _ _ (record { items = acc ++ wrapped ts m x ∷ []; comma = false }) ts r k (d < reach x) _ _
@@ -94,8 +94,8 @@ paren_found inner c lev ts k s e x es u m r P Q o q y i a v p = rw o (then_past_
       h.source,
     ))))))
 
-pub group_found : (z d : ℕ) (f : Finds z d) (p : Bool) (c : Code) (x : Tree) (xs : Trees) (ts m u r : Input) (k : List ℕ) (n : ℕ) → size x < z → sizes xs < z → Covered x → CoveredAll xs → Expr 2 (coded p (with_in c)) (part x (λ y. Spells x y)) ts m
-    → CommaThen (Expr 2 (coded p (with_in c))) (coded p (with_in c)) (parts xs) m u → kind u ≡ right_paren_kind → rest u ≡ r → max (reach x) (reaches xs) ≤ n
+pub group_found : (z d : ℕ) (f : Finds z d) (p : Bool) (c : Code) (x : Tree) (xs : Trees) (ts m u r : Input) (k : List ℕ) (n : ℕ) → size x < z → sizes xs < z → Covered x → CoveredAll xs → Expr 2 (coded p (with_in c)) (child x (λ y. Produces x y)) ts m
+    → CommaThen (Expr 2 (coded p (with_in c))) (coded p (with_in c)) (children xs) m u → kind u ≡ right_paren_kind → rest u ≡ r → max (reach x) (reaches xs) ≤ n
     → Reads (from ts k) (elements_by lm (readers lm d) (with_in c) false right_paren_kind (from ts k)) (Grouped (x ∷ unpack xs) u.last r) (d < n)
 unfolding elements_by
 group_found z d f p c x xs ts m u r k n sz szs g gs h w e t le = looped _ no_elements ts k _ _ (group_loop z d f p c x xs [] [] false ts m u r k n refl sz szs g gs h w e t le)

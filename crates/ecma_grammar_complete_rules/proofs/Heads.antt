@@ -7,8 +7,8 @@ use Rattle.ecma_tree.specs.Tree.{Tree, ident, member_expr, super_prop_expr, pare
 use Rattle.ecma_syntax.specs.Input.{Input, Code, kind}
 use Rattle.ecma_syntax.specs.Operators.{goes_expr}
 use Rattle.ecma_syntax.specs.Shape.{level, ends, is_simple, is_target_expr, is_structured, is_place}
-use Rattle.ecma_grammar.specs.Grammar.{Spells}
-use Rattle.ecma_reading.specs.Source.{Stand}
+use Rattle.ecma_grammar.specs.Grammar.{Produces}
+use Rattle.ecma_reading.specs.Source.{State}
 use Rattle.ecma_reading.specs.Cover.{to_item, to_head}
 use Rattle.ecma_reading.specs.Expressions.{expr_by, expr_from, loop_by, loop_step, prefix_by}
 use Rattle.ecma_reading.specs.Reading.{readers}
@@ -20,10 +20,10 @@ use Rattle.ecma_grammar_complete_rules.proofs.Covers.{Cover_read, target_least}
 use Rattle.ecma_grammar_complete_rules.proofs.Coverings.{coverings, structured_read, structured_starts, stops_here, target_item, positive_cover}
 
 -- What is read is refined to this target, with these tokens as the rest.
-abbrev pub Head : Tree → Input → Tree × Stand Input → Type 0
+abbrev pub Head : Tree → Input → Tree × State Input → Type 0
 Head t r y = (to_head y.1.commas y.0 ≡ Ok t) × (y.1.source ≡ r)
 
-structured_head : (z : ℕ) → ((e : ℕ) → Finds z e) → (d : ℕ) (p : Bool) (c : Code) (t : Tree) (ts r : Input) (k : List ℕ) → size t < z → Covered t → is_structured t ≡ true → Spells t (coded p c) ts r → Follow c 0 1 r → Reads (from ts k) ((readers lm d).expr c 1 (from ts k)) (Head t r) (d < reach t)
+structured_head : (z : ℕ) → ((e : ℕ) → Finds z e) → (d : ℕ) (p : Bool) (c : Code) (t : Tree) (ts r : Input) (k : List ℕ) → size t < z → Covered t → is_structured t ≡ true → Produces t (coded p c) ts r → Follow c 0 1 r → Reads (from ts k) ((readers lm d).expr c 1 (from ts k)) (Head t r) (d < reach t)
 unfolding readers expr_by expr_from loop_by
 structured_head z f zero p c t ts r k sz g e h fo = too_deep _ _ (positive_cover t e)
 structured_head z f (suc d) p c t ts r k sz g e h fo = if_no (eqb (kind ts) hash_kind) _ _ _ _ (structured_starts t (coded p c) ts r e h)
@@ -32,7 +32,7 @@ structured_head z f (suc d) p c t ts r k sz g e h fo = if_no (eqb (kind ts) hash
     (looped (loop_step lm (readers lm d) c 1 (from ts k)) y.0 y.1.source y.1.commas _ _ (stops_here (readers lm d) c 1 (from ts k) y.1 y.0 _ _ (subst (λ (i : Input). goes_expr c (ends y.0) i < 1) (sym v.source) (subst (λ (e : ℕ). goes_expr c e r < 1) (sym v.closed) fo.stop))
     (v.head y.1.commas ∙ v.refines.so false refl y.1.commas (λ n q. refl), v.source)))))
 
-simple_head : (z d : ℕ) → Finds z d → (p : Bool) (c : Code) (x t : Tree) (ts r : Input) (k : List ℕ) → size x < z → Covered x → Spells x (coded p c) ts r → 1 ≤ level x → Follow c (ends x) 1 r → ((i : List ℕ) → to_head i x ≡ Ok t) → reach x ≤ reach t → Reads (from ts k) ((readers lm d).expr c 1 (from ts k)) (Head t r) (d < reach t)
+simple_head : (z d : ℕ) → Finds z d → (p : Bool) (c : Code) (x t : Tree) (ts r : Input) (k : List ℕ) → size x < z → Covered x → Produces x (coded p c) ts r → 1 ≤ level x → Follow c (ends x) 1 r → ((i : List ℕ) → to_head i x ≡ Ok t) → reach x ≤ reach t → Reads (from ts k) ((readers lm d).expr c 1 (from ts k)) (Head t r) (d < reach t)
 simple_head z d f p c x t ts r k sz g h le fo q rl = reads_deep (λ u. omega arith) (reads_map _ (λ y v. (subst (λ (o : Tree). to_head y.1.commas o ≡ Ok t) (sym v.0) (q y.1.commas), v.1)) (f x p c 1 ts r k sz g h (omega arith) (omega arith) one_asked le fo))
 
 target_head : (x : Tree) → is_target_expr x ≡ true → is_simple x ≡ true → (i : List ℕ) → to_head i x ≡ Ok (expr_pat x)
@@ -41,8 +41,8 @@ target_head (super_prop_expr s o k) e q i = refl
 target_head (paren_expr s x) e q i = target_item (paren_expr s x) e q false refl i
 target_head _ e q i = absurd (true≢false (sym e))
 
--- What a covered target spells, before what doesn't go on, is read by calls so deep as an expression that is refined to it, or they are not deep enough.
-pub head_found : (z : ℕ) → ((e : ℕ) → Finds z e) → (d : ℕ) (t : Tree) (p : Bool) (c : Code) (ts r : Input) (k : List ℕ) → size t < z → Covered t → is_place false t ≡ true → Spells t (coded p c) ts r → Follow c 0 1 r → Reads (from ts k) ((readers lm d).expr c 1 (from ts k)) (Head t r) (d < reach t)
+-- What a covered target produces, before what doesn't go on, is read by calls so deep as an expression that is refined to it, or they are not deep enough.
+pub head_found : (z : ℕ) → ((e : ℕ) → Finds z e) → (d : ℕ) (t : Tree) (p : Bool) (c : Code) (ts r : Input) (k : List ℕ) → size t < z → Covered t → is_place false t ≡ true → Produces t (coded p c) ts r → Follow c 0 1 r → Reads (from ts k) ((readers lm d).expr c 1 (from ts k)) (Head t r) (d < reach t)
 head_found z f d (binding_ident s (ident t n)) p c ts r k sz g e h fo = simple_head z d (f d) p c (ident s n) (binding_ident s (ident t n)) ts r k (omega (arith, sz)) tt h.1 (omega arith) fo (λ i. ap (λ (y : Span). Ok (binding_ident s (ident y n))) h.0) (omega arith)
 head_found z f d (binding_ident s x) p c ts r k sz g e h fo = absurd h
 head_found z f d (array_pat s xs) p c ts r k sz g e h fo = structured_head z f d p c (array_pat s xs) ts r k sz g refl h fo

@@ -7,18 +7,18 @@ use Rattle.ecma_tree.specs.Tree.{Tree, Trees, none, more, this_expr, null_lit, b
 use Rattle.ecma_syntax.specs.Input.{Input, Code, kind, rest, is_word, no_name, always_reserved, Takes, with_in, assigning, in_arrow, binding}
 use Rattle.ecma_syntax.specs.Operators.{binary_level, operates, is_assign_op}
 use Rattle.ecma_syntax.specs.Shape.{level, ends, is_element, is_prop, is_hole, is_rest, is_private, is_absent, is_chain, is_structured, is_bound_name, is_target_expr, is_item_pat, is_pattern_prop, is_simple}
-use Rattle.ecma_grammar.specs.Parts.{is_quasi, Part, part, By, IsEmpty, Sorted, Listed, CommaThen, Expr}
+use Rattle.ecma_grammar.specs.Children.{is_quasi, Child, child, By, IsEmpty, Sorted, Listed, CommaThen, Expr}
 use Rattle.ecma_grammar.specs.Expressions.{Call, Arguments, ArgumentList, ImportArguments, AccessedName, Dotted, Bracketed, Optional, MetaProperty, TemplateSpans, Yield, is_unary_op, is_update_op}
 use Rattle.ecma_grammar.specs.Patterns.{Item, Property}
 use Rattle.ecma_grammar.specs.Functions.{ArrowPattern, ArrowHead, BareName, Async}
-use Rattle.ecma_grammar.specs.Grammar.{Spells, parts}
+use Rattle.ecma_grammar.specs.Grammar.{Produces, children}
 use Rattle.ecma_grammar_complete_base.proofs.Yields.{len, took, shorter}
 use Rattle.ecma_grammar_complete_base.proofs.Levels.{operated, binary_four, fits, right_five, binary_cases}
 use Rattle.ecma_grammar_complete_base.proofs.Trees.{some_word, takes, by_cases, and_never}
 use Rattle.ecma_grammar_complete_base.proofs.Cuts.{cut, level_least, least}
 
 -- an expression takes tokens
-pub taken : (t : Tree) (c : Code) (ts r : Input) → 1 ≤ level t → Spells t c ts r → len r < len ts
+pub taken : (t : Tree) (c : Code) (ts r : Input) → 1 ≤ level t → Produces t c ts r → len r < len ts
 taken t c ts r l h = omega (arith, level_least t l, cut t c ts r h)
 
 -- an element, a property, an item of a pattern, and a property of one
@@ -26,7 +26,7 @@ element_least : (t : Tree) → is_element t ≡ true → least t ≡ 1
 element_least (expr_or_spread s d e) h = refl
 element_least _ h = absurd (true≢false (sym h))
 
-pub element_taken : (t : Tree) (c : Code) (ts r : Input) → Sorted is_element c (part t (λ y. Spells t y)) ts r → len r < len ts
+pub element_taken : (t : Tree) (c : Code) (ts r : Input) → Sorted is_element c (child t (λ y. Produces t y)) ts r → len r < len ts
 element_taken t c ts r h = omega (arith, element_least t h.0, cut t c ts r h.1)
 
 prop_least : (t : Tree) → is_prop t ≡ true → least t ≡ 1
@@ -35,20 +35,20 @@ prop_least (es_module s ss l) h = absurd (true≢false (sym h))
 prop_least (expr_pat e) h = absurd (true≢false (sym h))
 prop_least _ h = refl
 
-pub prop_taken : (t : Tree) (c : Code) (ts r : Input) → Sorted is_prop c (part t (λ y. Spells t y)) ts r → len r < len ts
+pub prop_taken : (t : Tree) (c : Code) (ts r : Input) → Sorted is_prop c (child t (λ y. Produces t y)) ts r → len r < len ts
 prop_taken t c ts r h = omega (arith, prop_least t h.0, cut t c ts r h.1)
 
-target_level : (t : Tree) (c : Code) (ts r : Input) → is_target_expr t ≡ true → Spells t c ts r → 1 ≤ level t
+target_level : (t : Tree) (c : Code) (ts r : Input) → is_target_expr t ≡ true → Produces t c ts r → 1 ≤ level t
 target_level (member_expr s o (computed_prop_name t e)) c ts r i h = omega (arith, h.2.0)
 target_level (member_expr s o k) c ts r i h = omega (arith, h.2.0)
 target_level (super_prop_expr s o k) c ts r i h = omega arith
 target_level (paren_expr s e) c ts r i h = omega arith
 target_level _ c ts r i h = absurd (true≢false (sym i))
 
-assigned_taken : (b : Bool) (e : Tree) (c : Code) (ts r : Input) → (not b && (is_target_expr e && is_simple e)) ≡ true → Spells e c ts r → len r < len ts
+assigned_taken : (b : Bool) (e : Tree) (c : Code) (ts r : Input) → (not b && (is_target_expr e && is_simple e)) ≡ true → Produces e c ts r → len r < len ts
 assigned_taken b e c ts r i h = taken e c ts r (target_level e c ts r (and_parts (is_target_expr e) _ (and_parts (not b) _ i).1).0 h) h
 
-pub item_taken : (b : Bool) (t : Tree) (c : Code) (ts r : Input) → is_item_pat b t ≡ true → Spells t c ts r → len r < len ts
+pub item_taken : (b : Bool) (t : Tree) (c : Code) (ts r : Input) → is_item_pat b t ≡ true → Produces t c ts r → len r < len ts
 item_taken b (expr_pat e) c ts r i h = assigned_taken b e c ts r i h.1
 item_taken b (script s ss l) c ts r i h = absurd (true≢false (sym i ∙ and_never (not b)))
 item_taken b (es_module s ss l) c ts r i h = absurd (true≢false (sym i ∙ and_never (not b)))
@@ -60,39 +60,39 @@ property_least (es_module s ss l) h = absurd (true≢false (sym h))
 property_least (expr_pat e) h = absurd (true≢false (sym h))
 property_least _ h = refl
 
-pub property_taken : (t : Tree) (c : Code) (ts r : Input) → Property c (part t (λ y. Spells t y)) ts r → len r < len ts
+pub property_taken : (t : Tree) (c : Code) (ts r : Input) → Property c (child t (λ y. Produces t y)) ts r → len r < len ts
 property_taken t c ts r h = omega (arith, property_least t h.0, cut t (with_in c) ts r h.2)
 
 -- ---- productions
 
-quasi_cut : (q : Tree) (c : Code) (ts m : Input) → is_quasi q ≡ true → Spells q c ts m → len m < len ts
+quasi_cut : (q : Tree) (c : Code) (ts m : Input) → is_quasi q ≡ true → Produces q c ts m → len m < len ts
 quasi_cut (tpl_element s t w u) c ts m e h = takes template_kind ts m h.1.0 (omega arith) h.1.2
 quasi_cut _ c ts m e h = absurd (true≢false (sym e))
 
-private_cut : (s : Span) (n : List ℕ) (c : Code) (ts r : Input) → Spells (private_name s n) c ts r → len r < len ts
+private_cut : (s : Span) (n : List ℕ) (c : Code) (ts r : Input) → Produces (private_name s n) c ts r → len r < len ts
 private_cut s n c ts r h = omega (arith, takes hash_kind ts h.0 h.1.0 (omega arith) h.1.2, shorter h.0 r (some_word h.0 h.3.0) h.3.3)
 
-pub accessed_cut : (may : Bool) (k : Tree) (c : Code) (ts r : Input) → AccessedName may c (part k (λ y. Spells k y)) ts r → len r < len ts
+pub accessed_cut : (may : Bool) (k : Tree) (c : Code) (ts r : Input) → AccessedName may c (child k (λ y. Produces k y)) ts r → len r < len ts
 accessed_cut may (ident_name s n) c ts r h = shorter ts r (some_word ts h.1.0.0) h.1.0.3
 accessed_cut may (private_name s n) c ts r h = private_cut s n c ts r h.1
 accessed_cut true _ c ts r h = absurd (true≢false (sym h.0))
 accessed_cut false _ c ts r h = absurd (true≢false (sym h.0))
 
-pub dotted_cut : (may : Bool) (k : Tree) (c : Code) (ts r : Input) → Dotted may c (part k (λ y. Spells k y)) ts r → len r < len ts
+pub dotted_cut : (may : Bool) (k : Tree) (c : Code) (ts r : Input) → Dotted may c (child k (λ y. Produces k y)) ts r → len r < len ts
 dotted_cut may k c ts r h = omega (arith, takes dot_kind ts h.0 h.1.0 (omega arith) h.1.2, accessed_cut may k c h.0 r h.2)
 
-pub bracket_cut : (l : ℕ) (c : Code) (s : Span) (e : Tree) (ts r : Input) → 1 ≤ l → Bracketed l c s (part e (λ y. Spells e y)) ts r → len r < len ts
+pub bracket_cut : (l : ℕ) (c : Code) (s : Span) (e : Tree) (ts r : Input) → 1 ≤ l → Bracketed l c s (child e (λ y. Produces e y)) ts r → len r < len ts
 bracket_cut l c s e ts r f h = omega (arith, takes left_bracket_kind ts h.0 h.2.0 (omega arith) h.2.2, taken e _ h.0 h.1 (omega (arith, h.3.0)) h.3.1, takes 10 h.1 r h.4.0 (omega arith) h.4.2)
 
-pub elements_cut : (c : Code) (xs : Trees) (ts r : Input) → ArgumentList c (parts xs) ts r → len r < len ts
+pub elements_cut : (c : Code) (xs : Trees) (ts r : Input) → ArgumentList c (children xs) ts r → len r < len ts
 elements_cut c none ts r h = takes 8 ts r h.0 (omega arith) h.2
 elements_cut c (more x xs) ts r h = let y = element_taken x c ts h.0 h.1 in
     ⊎_elim (λ j. omega (arith, y, takes comma_kind h.0 j.1 j.2.0 (omega arith) j.2.2, elements_cut c xs j.1 r j.3)) (λ j. omega (arith, y, takes 8 h.0 r j.1.0 (omega arith) j.1.2)) h.2
 
-pub arguments_cut : (c : Code) (xs : Trees) (ts r : Input) → Arguments c (parts xs) ts r → len r < len ts
+pub arguments_cut : (c : Code) (xs : Trees) (ts r : Input) → Arguments c (children xs) ts r → len r < len ts
 arguments_cut c xs ts r h = omega (arith, takes left_paren_kind ts h.0 h.1.0 (omega arith) h.1.2, elements_cut c xs h.0 r h.2)
 
-pub template_cut : (tagged : Bool) (c : Code) (es qs : Trees) (ts r : Input) → TemplateSpans tagged c (parts es) (parts qs) ts r → len r < len ts
+pub template_cut : (tagged : Bool) (c : Code) (es qs : Trees) (ts r : Input) → TemplateSpans tagged c (children es) (children qs) ts r → len r < len ts
 template_cut tagged c none none ts r h = absurd h
 template_cut tagged c (more e es) none ts r h = absurd h
 template_cut tagged c none (more q qs) ts r h = omega (arith, quasi_cut q c ts h.0 h.4.0 h.4.1, takes back_quote_kind h.0 r h.5.0 (omega arith) h.5.2)

@@ -7,10 +7,10 @@ use Rattle.ecma_tree.specs.Tree.{Tree, Trees, none, more, pack, unpack, expr_or_
 use Rattle.ecma_syntax.specs.Input.{Input, Code, kind, brk, lo, rest, span, first_span, Takes, with_in}
 use Rattle.ecma_syntax.specs.Operators.{assignment_level}
 use Rattle.ecma_syntax.specs.Shape.{level, ends, is_element, is_hole, is_rest}
-use Rattle.ecma_grammar.specs.Parts.{Part, part, By, IsEmpty, Sorted, Listed}
+use Rattle.ecma_grammar.specs.Children.{Child, child, By, IsEmpty, Sorted, Listed}
 use Rattle.ecma_grammar.specs.Functions.{Body}
-use Rattle.ecma_grammar.specs.Grammar.{Spells, parts}
-use Rattle.ecma_reading.specs.Source.{Fault, ◌>>=◌, unexpected, Stand, Inner, Step, go_on, finished, eat}
+use Rattle.ecma_grammar.specs.Grammar.{Produces, children}
+use Rattle.ecma_reading.specs.Source.{Fault, ◌>>=◌, unexpected, State, Inner, Step, go_on, finished, eat}
 use Rattle.ecma_reading.specs.Expressions.{Elements, no_elements, element_by, after_element, element_step, elements_by, prefix_by, prop_by}
 use Rattle.ecma_reading.specs.Reading.{readers}
 use Rattle.ecma_grammar_complete_base.proofs.Yields.{lm, from, len, coded, then_reads, Is, then_is, then_eat, Loops, loop_on, loop_end, looped, shorter, Reads, here, past_here, ended, if_no, if_yes, then_past}
@@ -25,16 +25,16 @@ is_method (getter_prop s k b) = true
 is_method (setter_prop s k a b) = true
 is_method _ = false
 
--- What is spelled so, and doesn't go on, is read by calls so deep, or they are not deep enough.
+-- What is produced so, and doesn't go on, is read by calls so deep, or they are not deep enough.
 abbrev pub Finds : ℕ → ℕ → Type 0
-Finds z d = (t : Tree) (p : Bool) (c : Code) (l : ℕ) (ts r : Input) (k : List ℕ) → size t < z → Covered t → Spells t (coded p c) ts r → 1 ≤ l → l < 20 → Asked l → l ≤ level t → Follow c (ends t) l r → Reads (from ts k) ((readers lm d).expr c l (from ts k)) (Is t r) (d < reach t)
+Finds z d = (t : Tree) (p : Bool) (c : Code) (l : ℕ) (ts r : Input) (k : List ℕ) → size t < z → Covered t → Produces t (coded p c) ts r → 1 ≤ l → l < 20 → Asked l → l ≤ level t → Follow c (ends t) l r → Reads (from ts k) ((readers lm d).expr c l (from ts k)) (Is t r) (d < reach t)
 
 -- What is nested in functions, classes and methods is read so too: what the readers of such nodes find, by calls so deep.
 pub record Deep (z d : ℕ) : Type 0 where
-  pub functions : (s : Span) (n f : Tree) (p : Bool) (c : Code) (l : ℕ) (ts r : Input) (k : List ℕ) → size (fn_expr s n f) < suc z → Spells (fn_expr s n f) (coded p c) ts r → Reads (from ts k) (prefix_by lm (readers lm d) c l (from ts k)) (Is (fn_expr s n f) r) (suc d < reach (fn_expr s n f))
-  pub classes : (s : Span) (n t : Tree) (p : Bool) (c : Code) (l : ℕ) (ts r : Input) (k : List ℕ) → size (class_expr s n t) < suc z → Spells (class_expr s n t) (coded p c) ts r → Reads (from ts k) (prefix_by lm (readers lm d) c l (from ts k)) (Is (class_expr s n t) r) (suc d < reach (class_expr s n t))
-  pub bodies : (s : Span) (ss : Trees) (p : Bool) (c : Code) (ts r : Input) (k : List ℕ) → size (block_stmt s ss) < z → Body (coded p c) s (parts ss) ts r → Reads (from ts k) ((readers lm d).body c (from ts k)) (Is (block_stmt s ss) r) (d < reach (block_stmt s ss))
-  pub methods : (t : Tree) (p : Bool) (c : Code) (ts r : Input) (k : List ℕ) → is_method t ≡ true → size t < z → Spells t (coded p c) ts r → Reads (from ts k) (prop_by lm (readers lm d) c (from ts k)) (Is t r) (d < reach t)
+  pub functions : (s : Span) (n f : Tree) (p : Bool) (c : Code) (l : ℕ) (ts r : Input) (k : List ℕ) → size (fn_expr s n f) < suc z → Produces (fn_expr s n f) (coded p c) ts r → Reads (from ts k) (prefix_by lm (readers lm d) c l (from ts k)) (Is (fn_expr s n f) r) (suc d < reach (fn_expr s n f))
+  pub classes : (s : Span) (n t : Tree) (p : Bool) (c : Code) (l : ℕ) (ts r : Input) (k : List ℕ) → size (class_expr s n t) < suc z → Produces (class_expr s n t) (coded p c) ts r → Reads (from ts k) (prefix_by lm (readers lm d) c l (from ts k)) (Is (class_expr s n t) r) (suc d < reach (class_expr s n t))
+  pub bodies : (s : Span) (ss : Trees) (p : Bool) (c : Code) (ts r : Input) (k : List ℕ) → size (block_stmt s ss) < z → Body (coded p c) s (children ss) ts r → Reads (from ts k) ((readers lm d).body c (from ts k)) (Is (block_stmt s ss) r) (d < reach (block_stmt s ss))
+  pub methods : (t : Tree) (p : Bool) (c : Code) (ts r : Input) (k : List ℕ) → is_method t ≡ true → size t < z → Produces t (coded p c) ts r → Reads (from ts k) (prop_by lm (readers lm d) c (from ts k)) (Is t r) (d < reach t)
 
 pub two_asked : Asked 2
 two_asked = record { conditional = λ e. omega (arith, e); update = λ e. omega (arith, e) }
@@ -43,7 +43,7 @@ pub one_asked : Asked 1
 one_asked = record { conditional = λ e. omega (arith, e); update = λ e. omega (arith, e) }
 
 -- these elements, whatever comma follows them, and these tokens as the rest
-abbrev pub Has : List Tree → Input → Elements × Stand Input → Type 0
+abbrev pub Has : List Tree → Input → Elements × State Input → Type 0
 Has xs r x = (x.0.items ≡ xs) × (x.1.source ≡ r)
 
 pub pack_unpack : (xs : Trees) → pack (unpack xs) ≡ xs
@@ -54,13 +54,13 @@ pub hole_is : (x : Tree) → is_hole x ≡ true → x ≡ hole
 hole_is hole e = refl
 hole_is _ e = absurd (true≢false (sym e))
 
-element_starts : (x : Tree) (c : Code) (ts r : Input) → Covered x → is_element x ≡ true → Spells x c ts r → (begins (kind ts) ≡ true) ⊎ (kind ts ≡ dot_dot_dot_kind)
+element_starts : (x : Tree) (c : Code) (ts r : Input) → Covered x → is_element x ≡ true → Produces x c ts r → (begins (kind ts) ≡ true) ⊎ (kind ts ≡ dot_dot_dot_kind)
 element_starts (expr_or_spread s None e) c ts r g q h = inl (starts e _ ts r g (omega (arith, h.0.0)) h.0.1)
 element_starts (expr_or_spread s (Some d) e) c ts r g q h = inr h.1.0
 element_starts _ c ts r g q h = absurd (true≢false (sym q))
 
 module _ (z d : ℕ) (f : Finds z d) (p : Bool) (c : Code) where
-  element_found : (x : Tree) (ts m : Input) (k : List ℕ) → size x < z → Covered x → is_element x ≡ true → Spells x (coded p c) ts m → ((e : ℕ) → Follow (with_in c) e 2 m) → Reads (from ts k) (element_by lm (readers lm d) c (from ts k)) (Is x m) (d < reach x)
+  element_found : (x : Tree) (ts m : Input) (k : List ℕ) → size x < z → Covered x → is_element x ≡ true → Produces x (coded p c) ts m → ((e : ℕ) → Follow (with_in c) e 2 m) → Reads (from ts k) (element_by lm (readers lm d) c (from ts k)) (Is x m) (d < reach x)
   unfolding element_by
   element_found (expr_or_spread s None e) ts m k sz g q h w =
       if_no (eqb (kind ts) dot_dot_dot_kind) _ _ _ _ (no_kind begins (kind ts) dot_dot_dot_kind (starts e (coded p (with_in c)) ts m g (omega (arith, h.0.0)) h.0.1) refl)
@@ -73,20 +73,20 @@ module _ (z d : ℕ) (f : Finds z d) (p : Bool) (c : Code) where
   element_found _ ts m k sz g q h w = absurd (true≢false (sym q))
 
   module _ (holes : Bool) (close : ℕ) (cl : closes close ≡ true) (qu : quiet close ≡ true) (nb : begins close ≡ false) where
-    not_close : (x : Tree) (ts m : Input) → Covered x → is_element x ≡ true → Spells x (coded p c) ts m → eqb (kind ts) close ≡ false
+    not_close : (x : Tree) (ts m : Input) → Covered x → is_element x ≡ true → Produces x (coded p c) ts m → eqb (kind ts) close ≡ false
     not_close x ts m g q h = ⊎_elim (λ (b : begins (kind ts) ≡ true). no_kind begins (kind ts) close b nb) (λ (e : kind ts ≡ dot_dot_dot_kind). no_kind (λ k. k == dot_dot_dot_kind) (kind ts) close (eq-eqb (kind ts) dot_dot_dot_kind e) (no_dots close cl)) (element_starts x _ ts m g q h)
       where
         no_dots : (n : ℕ) → closes n ≡ true → eqb n dot_dot_dot_kind ≡ false
         no_dots n h = no_kind closes n dot_dot_dot_kind h refl
 
-    not_comma : (x : Tree) (ts m : Input) → Covered x → is_element x ≡ true → Spells x (coded p c) ts m → eqb (kind ts) comma_kind ≡ false
+    not_comma : (x : Tree) (ts m : Input) → Covered x → is_element x ≡ true → Produces x (coded p c) ts m → eqb (kind ts) comma_kind ≡ false
     not_comma x ts m g q h = ⊎_elim (λ (b : begins (kind ts) ≡ true). no_kind begins (kind ts) comma_kind b refl) (λ (e : kind ts ≡ dot_dot_dot_kind). no_kind (λ k. k == dot_dot_dot_kind) (kind ts) comma_kind (eq-eqb (kind ts) dot_dot_dot_kind e) refl) (element_starts x _ ts m g q h)
 
     and_off : (a b : Bool) → b ≡ false → (a && b) ≡ false
     and_off true b h = h
     and_off false b h = refl
 
-    pub step_comma : (x : Tree) (acc : List Tree) (b : Bool) (ts m r : Input) (k : List ℕ) → size x < z → Covered x → is_element x ≡ true → Spells x (coded p c) ts m → kind m ≡ comma_kind → rest m ≡ r
+    pub step_comma : (x : Tree) (acc : List Tree) (b : Bool) (ts m r : Input) (k : List ℕ) → size x < z → Covered x → is_element x ≡ true → Produces x (coded p c) ts m → kind m ≡ comma_kind → rest m ≡ r
         → Reads (from ts k) (element_step lm (readers lm d) c holes close (record { items = acc; comma = b }) (from ts k)) (Is (go_on (record { items = acc ++ x ∷ []; comma = true })) r) (d < reach x)
     unfolding element_step after_element
     step_comma x acc b ts m r k sz g q h e t =
@@ -94,7 +94,7 @@ module _ (z d : ℕ) (f : Finds z d) (p : Bool) (c : Code) where
         (then_is (element_by lm (readers lm d) c (from ts k)) _ x m (d < reach x) _ _ (element_found x ts m k sz g q h (λ n. comma_after (with_in c) n 2 m e (omega arith))) (λ u. u)
         (λ j. if_yes (eqb (kind m) comma_kind) _ _ _ _ (eq-eqb (kind m) comma_kind e) (past_here refl t))))
 
-    pub step_close : (x : Tree) (acc : List Tree) (b : Bool) (ts m r : Input) (k : List ℕ) → size x < z → Covered x → is_element x ≡ true → Spells x (coded p c) ts m → kind m ≡ close → rest m ≡ r
+    pub step_close : (x : Tree) (acc : List Tree) (b : Bool) (ts m r : Input) (k : List ℕ) → size x < z → Covered x → is_element x ≡ true → Produces x (coded p c) ts m → kind m ≡ close → rest m ≡ r
         → Reads (from ts k) (element_step lm (readers lm d) c holes close (record { items = acc; comma = b }) (from ts k)) (Is (finished (record { items = acc ++ x ∷ []; comma = false })) r) (d < reach x)
     unfolding element_step after_element
     step_close x acc b ts m r k sz g q h e t =
@@ -116,7 +116,7 @@ module _ (z d : ℕ) (f : Finds z d) (p : Bool) (c : Code) where
     takes_less : (k : ℕ) (m r : Input) → kind m ≡ k → 1 ≤ k → rest m ≡ r → len r < len m
     takes_less k m r e l t = shorter m r (λ n. omega (arith, e, n)) t
 
-    pub elements_loop : (xs : Trees) (acc : List Tree) (b : Bool) (ts r : Input) (k : List ℕ) (n : ℕ) → sizes xs < z → CoveredAll xs → Listed holes (Sorted is_element (coded p c)) (coded p c) close (parts xs) ts r → reaches xs ≤ n
+    pub elements_loop : (xs : Trees) (acc : List Tree) (b : Bool) (ts r : Input) (k : List ℕ) (n : ℕ) → sizes xs < z → CoveredAll xs → Listed holes (Sorted is_element (coded p c)) (coded p c) close (children xs) ts r → reaches xs ≤ n
         → Loops (element_step lm (readers lm d) c holes close) (record { items = acc; comma = b }) ts k (Has (acc ++ unpack xs) r) (d < n)
     elements_loop none acc b ts r k n sz g h le = loop_end _ _ (record { items = acc; comma = b }) ts r k ⊥ _ _ (step_end acc b ts r k ⊥ h.0 h.2) (λ u. absurd u) (λ l. (sym (append-nil acc), refl))
     elements_loop (more x xs) acc b ts r k n sz g h le = by_cases (holes && is_hole x) _ _ _ h
@@ -131,11 +131,11 @@ module _ (z d : ℕ) (f : Finds z d) (p : Bool) (c : Code) where
         (λ v. loop_end _ _ (record { items = acc ++ x ∷ []; comma = false }) ts r k (d < reach x) _ _ (step_close x acc b ts y.0 r k (omega arith) g.0 y.1.0 y.1.1 v.1.0 v.1.2) (λ u. omega arith) (λ l. (ap (λ ys. acc ++ (x ∷ ys)) (sym (empty_none xs v.0)), refl)))
         y.2)
       where
-        empty_none : (xs : Trees) → IsEmpty (parts xs) → unpack xs ≡ []
+        empty_none : (xs : Trees) → IsEmpty (children xs) → unpack xs ≡ []
         empty_none none h = refl
         empty_none (more x xs) h = absurd h
 
-    pub elements_found : (xs : Trees) (ts r : Input) (k : List ℕ) (n : ℕ) → sizes xs < z → CoveredAll xs → Listed holes (Sorted is_element (coded p c)) (coded p c) close (parts xs) ts r → reaches xs ≤ n
+    pub elements_found : (xs : Trees) (ts r : Input) (k : List ℕ) (n : ℕ) → sizes xs < z → CoveredAll xs → Listed holes (Sorted is_element (coded p c)) (coded p c) close (children xs) ts r → reaches xs ≤ n
         → Reads (from ts k) (elements_by lm (readers lm d) c holes close (from ts k)) (Has (unpack xs) r) (d < n)
     unfolding elements_by
     elements_found xs ts r k n sz g h le = looped _ no_elements ts k _ _ (elements_loop xs [] false ts r k n sz g h le)

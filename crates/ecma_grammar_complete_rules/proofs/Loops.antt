@@ -8,10 +8,10 @@ use Rattle.ecma_tree.specs.Tree.{Tree, Trees, none, more, unpack, var_declarator
 use Rattle.ecma_syntax.specs.Input.{Input, Code, kind, kind2, brk, brk2, lo, span, rest, is_word, always_reserved, without_in, assigning, Takes, TakesWord}
 use Rattle.ecma_syntax.specs.Operators.{expression_level, assignment_level, may_name, binding_end, goes_expr}
 use Rattle.ecma_syntax.specs.Shape.{level, ends, is_absent, is_declarator, is_bare_declarator, declarator_end, declarators_end}
-use Rattle.ecma_grammar.specs.Parts.{part, Sorted, Commas}
+use Rattle.ecma_grammar.specs.Children.{child, Sorted, Commas}
 use Rattle.ecma_grammar.specs.Statements.{Clause, ForRest, ForOpen, ForAwaitOpen, ForExpression, ForIn, ForOf, Sub, Over, OneBare, HeadTarget, OfTarget, Bindings, UsingBindings, is_var_word, starts_head, starts_using as head_using}
-use Rattle.ecma_grammar.specs.Grammar.{Spells, parts}
-use Rattle.ecma_reading.specs.Source.{Fault, ◌>>=◌, Stand, Inner}
+use Rattle.ecma_grammar.specs.Grammar.{Produces, children}
+use Rattle.ecma_reading.specs.Source.{Fault, ◌>>=◌, State, Inner}
 use Rattle.ecma_reading.specs.Cover.{to_head}
 use Rattle.ecma_reading.specs.Statements.{clause_by, for_rest, over_rest, in_rest, of_rest, one_bare, head_rest, for_variables, for_using, for_expression_rest, for_expression, for_head, for_by, sub_by, declarators_by, starts_let, starts_using, starts_await_using}
 use Rattle.ecma_grammar_complete_base.proofs.Yields.{lm, from, coded, Reads, Is, then_is, then_reads, then_eat, then_word, onto, here, past_here, ended, if_no, if_yes}
@@ -54,12 +54,12 @@ bare_one : (d : Tree) → is_bare_declarator d ≡ true → declarator_end d ≡
 bare_one (var_declarator s n absent) h = refl
 bare_one _ h = absurd (true≢false (sym h))
 
-bare_end : (ds : Trees) → OneBare (parts ds) → declarators_end ds ≡ binding_end
+bare_end : (ds : Trees) → OneBare (children ds) → declarators_end ds ≡ binding_end
 bare_end none h = absurd h
 bare_end (more d none) h = bare_one d h.1
 bare_end (more d (more x xs)) h = absurd h.0
 
-bare_on : (inner : Inner Input) (ds : Trees) → OneBare (parts ds) → one_bare lm inner (unpack ds) ≡ true
+bare_on : (inner : Inner Input) (ds : Trees) → OneBare (children ds) → one_bare lm inner (unpack ds) ≡ true
 bare_on inner none h = absurd h
 bare_on inner (more d none) h = h.1
 bare_on inner (more d (more x xs)) h = absurd h.0
@@ -70,7 +70,7 @@ retyped x y m n e o = record { first = o.first; second = o.second; third = λ a 
 module _ (z : Nested) (p : Bool) (c : Code) where
   -- ---- the two clauses between semicolons, and the body
 
-  clause_found : (close : ℕ) (e : Tree) (m n : Input) (k : List ℕ) → halts c close ≡ true → quiet close ≡ true → ends_operand close ≡ true → opens close ≡ false → z.Covered e → Clause (coded p c) close (part e (λ y. Spells e y)) m n → Reads (from m k) (clause_by lm z.inner c close (from m k)) (Is e n) (z.depth < z.reach e)
+  clause_found : (close : ℕ) (e : Tree) (m n : Input) (k : List ℕ) → halts c close ≡ true → quiet close ≡ true → ends_operand close ≡ true → opens close ≡ false → z.Covered e → Clause (coded p c) close (child e (λ y. Produces e y)) m n → Reads (from m k) (clause_by lm z.inner c close (from m k)) (Is e n) (z.depth < z.reach e)
   unfolding clause_by
   clause_found close e m n k hs qs ds os g h = by_cases (is_absent e) _ _ _ h.1
       (λ q x. if_yes (kind m == close) _ _ _ _ (eq-eqb (kind m) close (ap (λ (y : Input). kind y) x ∙ h.2.0)) (past_here (sym (absent_is e q)) (ap (λ (y : Input). rest y) x ∙ h.2.2)))
@@ -78,7 +78,7 @@ module _ (z : Nested) (p : Bool) (c : Code) where
       (one_found z p c e m h.0 k g x.0 x.1 (halted c (ends e) 1 close h.0 h.2.0 hs qs (λ _. ds) (omega arith))) (λ u. u) (λ j. then_eat close h.0 n j _ _ _ h.2.0 h.2.2 (here refl))))
 
   rest_found : (start : Input) (i : List ℕ) (s : Span) (x t u b : Tree) (m n r : Input) (j : List ℕ) → z.Covered t → z.Covered u → z.Covered b → Takes (coded p c) semicolon_kind m n
-      → ForRest (coded p c) (part t (λ y. Spells t y)) (part u (λ y. Spells u y)) (part b (λ y. Spells b y)) n r → may_follow (kind r) ≡ true → s ≡ span (lo start) r.last
+      → ForRest (coded p c) (child t (λ y. Produces t y)) (child u (λ y. Produces u y)) (child b (λ y. Produces b y)) n r → may_follow (kind r) ≡ true → s ≡ span (lo start) r.last
       → Reads (from m j) (for_rest lm z.inner c (from start i) x (from m j)) (Is (for_stmt s x t u b) r) (z.depth < max (z.reach t) (max (z.reach u) (z.reach b)))
   unfolding for_rest
   rest_found start i s x t u b m n r j gt gu gb e h q w = then_eat semicolon_kind m n j _ _ _ e.0 e.2
@@ -88,42 +88,42 @@ module _ (z : Nested) (p : Bool) (c : Code) where
 
   -- ---- `in` and `of`
 
-  over_found : (l : ℕ) (make : Span → Tree → Tree → Tree) (start : Input) (i : List ℕ) (s : Span) (e b : Tree) (m n o r : Input) (j : List ℕ) → 1 ≤ l → l < 20 → Asked l → z.Covered e → z.Covered b → l ≤ level e → Spells e (coded p c) m n → Takes (coded p c) right_paren_kind n o
-      → Sub (coded p c) (part b (λ y. Spells b y)) o r → may_follow (kind r) ≡ true → s ≡ span (lo start) r.last → Reads (from m j) (over_rest lm z.inner c l make (from start i) (from m j)) (Is (make s e b) r) (z.depth < max (z.reach e) (z.reach b))
+  over_found : (l : ℕ) (make : Span → Tree → Tree → Tree) (start : Input) (i : List ℕ) (s : Span) (e b : Tree) (m n o r : Input) (j : List ℕ) → 1 ≤ l → l < 20 → Asked l → z.Covered e → z.Covered b → l ≤ level e → Produces e (coded p c) m n → Takes (coded p c) right_paren_kind n o
+      → Sub (coded p c) (child b (λ y. Produces b y)) o r → may_follow (kind r) ≡ true → s ≡ span (lo start) r.last → Reads (from m j) (over_rest lm z.inner c l make (from start i) (from m j)) (Is (make s e b) r) (z.depth < max (z.reach e) (z.reach b))
   unfolding over_rest
   over_found l make start i s e b m n o r j lo hi ask ge gb le h x y q w = then_is (z.inner.expr c l (from m j)) _ e n (z.depth < z.reach e) _ _ (z.expr e p c l m n j ge h lo hi ask le (halted c (ends e) l right_paren_kind n x.0 refl refl (λ _. refl) lo)) (λ v. omega arith)
       (λ k. then_eat right_paren_kind n o k _ _ _ x.0 x.2 (then_is (sub_by lm z.inner c false (from o k)) _ b r (z.depth < z.reach b) _ _ (stmt_found z p c b o r k gb y q) (λ v. omega arith) (λ k. built (λ d. make d e b) s start r k _ w)))
 
-  in_found : (start : Input) (i : List ℕ) (s : Span) (x e b : Tree) (m r : Input) (j : List ℕ) → z.Covered e → z.Covered b → Over (coded p c) in_kind expression_level (part e (λ y. Spells e y)) (part b (λ y. Spells b y)) m r → may_follow (kind r) ≡ true → s ≡ span (lo start) r.last
+  in_found : (start : Input) (i : List ℕ) (s : Span) (x e b : Tree) (m r : Input) (j : List ℕ) → z.Covered e → z.Covered b → Over (coded p c) in_kind expression_level (child e (λ y. Produces e y)) (child b (λ y. Produces b y)) m r → may_follow (kind r) ≡ true → s ≡ span (lo start) r.last
       → Reads (from m j) (in_rest lm z.inner c (from start i) x (from m j)) (Is (for_in_stmt s x e b) r) (z.depth < max (z.reach e) (z.reach b))
   unfolding in_rest
   in_found start i s x e b m r j ge gb h q w = then_word c in_kind m h.0 j _ _ _ h.3.0 h.3.1 h.3.3 (over_found 1 (λ d e b. for_in_stmt d x e b) start i s e b h.0 h.1 h.2 r j (omega arith) (omega arith) one_asked ge gb h.4.0 h.4.1 h.5 h.6 q w)
 
-  of_found : (start : Input) (i : List ℕ) (s : Span) (a : Bool) (x e b : Tree) (m r : Input) (j : List ℕ) → z.Covered e → z.Covered b → Over (coded p c) of_kind assignment_level (part e (λ y. Spells e y)) (part b (λ y. Spells b y)) m r → may_follow (kind r) ≡ true → s ≡ span (lo start) r.last
+  of_found : (start : Input) (i : List ℕ) (s : Span) (a : Bool) (x e b : Tree) (m r : Input) (j : List ℕ) → z.Covered e → z.Covered b → Over (coded p c) of_kind assignment_level (child e (λ y. Produces e y)) (child b (λ y. Produces b y)) m r → may_follow (kind r) ≡ true → s ≡ span (lo start) r.last
       → Reads (from m j) (of_rest lm z.inner c (from start i) a x (from m j)) (Is (for_of_stmt s a x e b) r) (z.depth < max (z.reach e) (z.reach b))
   unfolding of_rest
   of_found start i s a x e b m r j ge gb h q w = then_word c of_kind m h.0 j _ _ _ h.3.0 h.3.1 h.3.3 (over_found 2 (λ d e b. for_of_stmt d a x e b) start i s e b h.0 h.1 h.2 r j (omega arith) (omega arith) two_asked ge gb h.4.0 h.4.1 h.5 h.6 q w)
 
   -- what starts an expression doesn't stand after `of` as an arrow
-  of_arrow : (e b : Tree) (m r : Input) → Over (coded p c) of_kind assignment_level (part e (λ y. Spells e y)) (part b (λ y. Spells b y)) m r → eqb (kind2 m) arrow_kind ≡ false
+  of_arrow : (e b : Tree) (m r : Input) → Over (coded p c) of_kind assignment_level (child e (λ y. Produces e y)) (child b (λ y. Produces b y)) m r → eqb (kind2 m) arrow_kind ≡ false
   of_arrow e b m r h = subst (λ (y : Input). eqb (kind y) arrow_kind ≡ false) (sym h.3.3) (no_open (kind h.0) arrow_kind (opening e (coded p c) h.0 h.1 (level_opener e (omega (arith, h.4.0))) h.4.1).first refl)
 
   -- ---- after a head that declares
 
   module _ (start : Input) (i : List ℕ) where
-    declared_of : (s : Span) (a : Bool) (ds : Trees) (x e b : Tree) (m r : Input) (j : List ℕ) → OneBare (parts ds) → z.Covered e → z.Covered b → Over (coded p c) of_kind assignment_level (part e (λ y. Spells e y)) (part b (λ y. Spells b y)) m r → may_follow (kind r) ≡ true → s ≡ span (lo start) r.last
+    declared_of : (s : Span) (a : Bool) (ds : Trees) (x e b : Tree) (m r : Input) (j : List ℕ) → OneBare (children ds) → z.Covered e → z.Covered b → Over (coded p c) of_kind assignment_level (child e (λ y. Produces e y)) (child b (λ y. Produces b y)) m r → may_follow (kind r) ≡ true → s ≡ span (lo start) r.last
         → Reads (from m j) (head_rest lm z.inner c (from start i) a (unpack ds) x (from m j)) (Is (for_of_stmt s a x e b) r) (z.depth < max (z.reach e) (z.reach b))
     unfolding head_rest
     declared_of s a ds x e b m r j o ge gb h q w = if_yes (kind m == of_kind) _ _ _ _ (eq-eqb (kind m) of_kind h.3.0) (if_yes (one_bare lm z.inner (unpack ds)) _ _ _ _ (bare_on z.inner ds o) (of_found start i s a x e b m r j ge gb h q w))
 
-    declared_in : (s : Span) (ds : Trees) (x e b : Tree) (m r : Input) (j : List ℕ) → OneBare (parts ds) → z.Covered e → z.Covered b → Over (coded p c) in_kind expression_level (part e (λ y. Spells e y)) (part b (λ y. Spells b y)) m r → may_follow (kind r) ≡ true → s ≡ span (lo start) r.last
+    declared_in : (s : Span) (ds : Trees) (x e b : Tree) (m r : Input) (j : List ℕ) → OneBare (children ds) → z.Covered e → z.Covered b → Over (coded p c) in_kind expression_level (child e (λ y. Produces e y)) (child b (λ y. Produces b y)) m r → may_follow (kind r) ≡ true → s ≡ span (lo start) r.last
         → Reads (from m j) (head_rest lm z.inner c (from start i) false (unpack ds) x (from m j)) (Is (for_in_stmt s x e b) r) (z.depth < max (z.reach e) (z.reach b))
     unfolding head_rest
     declared_in s ds x e b m r j o ge gb h q w = if_no (kind m == of_kind) _ _ _ _ (subst (λ (k : ℕ). eqb k of_kind ≡ false) (sym h.3.0) refl)
         (if_yes (kind m == in_kind) _ _ _ _ (eq-eqb (kind m) in_kind h.3.0) (if_yes (one_bare lm z.inner (unpack ds)) _ _ _ _ (bare_on z.inner ds o) (in_found start i s x e b m r j ge gb h q w)))
 
     declared_rest : (s : Span) (ds : List Tree) (x t u b : Tree) (m n r : Input) (j : List ℕ) → z.Covered t → z.Covered u → z.Covered b → Takes (coded p c) semicolon_kind m n
-        → ForRest (coded p c) (part t (λ y. Spells t y)) (part u (λ y. Spells u y)) (part b (λ y. Spells b y)) n r → may_follow (kind r) ≡ true → s ≡ span (lo start) r.last
+        → ForRest (coded p c) (child t (λ y. Produces t y)) (child u (λ y. Produces u y)) (child b (λ y. Produces b y)) n r → may_follow (kind r) ≡ true → s ≡ span (lo start) r.last
         → Reads (from m j) (head_rest lm z.inner c (from start i) false ds x (from m j)) (Is (for_stmt s x t u b) r) (z.depth < max (z.reach t) (max (z.reach u) (z.reach b)))
     unfolding head_rest
     declared_rest s ds x t u b m n r j gt gu gb e h q w = if_no (kind m == of_kind) _ _ _ _ (subst (λ (k : ℕ). eqb k of_kind ≡ false) (sym e.0) refl)
@@ -131,8 +131,8 @@ module _ (z : Nested) (p : Bool) (c : Code) where
 
     -- ---- heads
 
-    module _ (a : Bool) (V : Tree × Stand Input → Type 0) (Q : Type 0) where
-      variables_head : (own : Span) (o : ℕ) (ds : Trees) (m n : Input) (j : List ℕ) → Withins z.Covered ds → Bindings (without_in (coded p c)) o (parts ds) m n → own ≡ span (lo m) n.last → Settled (without_in c) (declarators_end ds) n → (z.depth < withins z.reach ds → Q)
+    module _ (a : Bool) (V : Tree × State Input → Type 0) (Q : Type 0) where
+      variables_head : (own : Span) (o : ℕ) (ds : Trees) (m n : Input) (j : List ℕ) → Withins z.Covered ds → Bindings (without_in (coded p c)) o (children ds) m n → own ≡ span (lo m) n.last → Settled (without_in c) (declarators_end ds) n → (z.depth < withins z.reach ds → Q)
           → ((k : List ℕ) → Reads (from n k) (head_rest lm z.inner c (from start i) a (unpack ds) (var_decl own o ds) (from n k)) V Q) → Reads (from m j) (for_head lm z.inner c (from start i) a (from m j)) V Q
       unfolding for_head for_variables
       variables_head own o ds m n j g h w t f y =
@@ -144,14 +144,14 @@ module _ (z : Nested) (p : Bool) (c : Code) where
           no_semicolon : is_var_word o ≡ true → eqb (kind m) semicolon_kind ≡ false
           no_semicolon v = ne_eqb (kind m) semicolon_kind (λ q. true≢false (sym v ∙ ap is_var_word (sym h.2.0 ∙ q)))
 
-      using_rest : (own : Span) (v : Bool) (ds : Trees) (l m n o : Input) (k j : List ℕ) → Withins z.Covered ds → TakesWord (without_in (coded p c)) using_kind m n → Commas (Sorted is_declarator (without_in (coded p c))) (without_in (coded p c)) (parts ds) n o → own ≡ span (lo l) o.last
+      using_rest : (own : Span) (v : Bool) (ds : Trees) (l m n o : Input) (k j : List ℕ) → Withins z.Covered ds → TakesWord (without_in (coded p c)) using_kind m n → Commas (Sorted is_declarator (without_in (coded p c))) (without_in (coded p c)) (children ds) n o → own ≡ span (lo l) o.last
           → Settled (without_in c) (declarators_end ds) o → (z.depth < withins z.reach ds → Q) → ((k : List ℕ) → Reads (from o k) (head_rest lm z.inner c (from start i) a (unpack ds) (using_decl own v ds) (from o k)) V Q)
           → Reads (from m j) (for_using lm z.inner c (from start i) a (from l k) v (from m j)) V Q
       unfolding for_using
       using_rest own v ds l m n o k j g e h w t f y = then_word c using_kind m n j _ _ _ e.0 e.1 e.3 (then_is (declarators_by lm z.inner (without_in c) (from n j)) _ (unpack ds) o (z.depth < withins z.reach ds) _ _ (declarators_found z p (without_in c) ds n o j g h t) f
           (λ k. subst (λ (x : Tree). Reads (from o k) (head_rest lm z.inner c (from start i) a (unpack ds) x (from o k)) V Q) (ap (λ (x : Span). using_decl x v ds) w ∙ ap (λ (x : Trees). using_decl (span (lo l) o.last) v x) (sym (pack_unpack ds))) (y k)))
 
-      using_head : (own : Span) (v : Bool) (ds : Trees) (m n : Input) (j : List ℕ) → Withins z.Covered ds → head_using v m ≡ true → UsingBindings (without_in (coded p c)) v (parts ds) m n → own ≡ span (lo m) n.last → Settled (without_in c) (declarators_end ds) n
+      using_head : (own : Span) (v : Bool) (ds : Trees) (m n : Input) (j : List ℕ) → Withins z.Covered ds → head_using v m ≡ true → UsingBindings (without_in (coded p c)) v (children ds) m n → own ≡ span (lo m) n.last → Settled (without_in c) (declarators_end ds) n
           → (z.depth < withins z.reach ds → Q) → ((k : List ℕ) → Reads (from n k) (head_rest lm z.inner c (from start i) a (unpack ds) (using_decl own v ds) (from n k)) V Q) → Reads (from m j) (for_head lm z.inner c (from start i) a (from m j)) V Q
       unfolding for_head
       using_head own false ds m n j g nf h w t f y =
@@ -193,8 +193,8 @@ module _ (z : Nested) (p : Bool) (c : Code) where
 
     -- ---- expressions and targets
 
-    expressed : (s : Span) (x t u b : Tree) (m n o r : Input) (j : List ℕ) → z.Covered x → z.Covered t → z.Covered u → z.Covered b → starts_head m ≡ true → 1 ≤ level x → Spells x (coded p (without_in c)) m n → Takes (coded p c) semicolon_kind n o
-        → ForRest (coded p c) (part t (λ y. Spells t y)) (part u (λ y. Spells u y)) (part b (λ y. Spells b y)) o r → may_follow (kind r) ≡ true → s ≡ span (lo start) r.last
+    expressed : (s : Span) (x t u b : Tree) (m n o r : Input) (j : List ℕ) → z.Covered x → z.Covered t → z.Covered u → z.Covered b → starts_head m ≡ true → 1 ≤ level x → Produces x (coded p (without_in c)) m n → Takes (coded p c) semicolon_kind n o
+        → ForRest (coded p c) (child t (λ y. Produces t y)) (child u (λ y. Produces u y)) (child b (λ y. Produces b y)) o r → may_follow (kind r) ≡ true → s ≡ span (lo start) r.last
         → Reads (from m j) (for_expression lm z.inner c (from start i) false (from m j)) (Is (for_stmt s x t u b) r) (z.depth < max (z.reach x) (max (z.reach t) (max (z.reach u) (z.reach b))))
     unfolding for_expression for_expression_rest
     expressed s x t u b m n o r j gx gt gu gb sh le v e h q w = if_no ((kind m == let_kind) && (kind2 m == left_bracket_kind)) _ _ _ _ (not-true _ sh)
@@ -202,7 +202,7 @@ module _ (z : Nested) (p : Bool) (c : Code) where
         (λ k. if_no (kind n == of_kind) _ _ _ _ (subst (λ (y : ℕ). eqb y of_kind ≡ false) (sym e.0) refl) (if_no (kind n == in_kind) _ _ _ _ (subst (λ (y : ℕ). eqb y in_kind ≡ false) (sym e.0) refl)
         (lifted (rest_found start i s x t u b n o r k gt gu gb e h q w) (λ d. omega arith)))))
 
-    targeted_in : (s : Span) (x e b : Tree) (m n r : Input) (j : List ℕ) → z.Covered x → z.Covered e → z.Covered b → HeadTarget (coded p c) (part x (λ y. Spells x y)) m n → Over (coded p c) in_kind expression_level (part e (λ y. Spells e y)) (part b (λ y. Spells b y)) n r
+    targeted_in : (s : Span) (x e b : Tree) (m n r : Input) (j : List ℕ) → z.Covered x → z.Covered e → z.Covered b → HeadTarget (coded p c) (child x (λ y. Produces x y)) m n → Over (coded p c) in_kind expression_level (child e (λ y. Produces e y)) (child b (λ y. Produces b y)) n r
         → may_follow (kind r) ≡ true → s ≡ span (lo start) r.last → Reads (from m j) (for_expression lm z.inner c (from start i) false (from m j)) (Is (for_in_stmt s x e b) r) (z.depth < max (z.reach x) (max (z.reach e) (z.reach b)))
     unfolding for_expression for_expression_rest
     targeted_in s x e b m n r j gx ge gb h v q w = if_no ((kind m == let_kind) && (kind2 m == left_bracket_kind)) _ _ _ _ (not-true _ h.0)
@@ -211,7 +211,7 @@ module _ (z : Nested) (p : Bool) (c : Code) where
         (if_no (kind n == of_kind) _ _ _ _ (subst (λ (k : ℕ). eqb k of_kind ≡ false) (sym v.3.0) refl) (if_yes (kind n == in_kind) _ _ _ _ (eq-eqb (kind n) in_kind v.3.0)
         (rw u.0 (lifted (in_found start i s x e b n r y.1.commas ge gb v q w) (λ d. omega arith)))))))
 
-    targeted_of : (s : Span) (a : Bool) (x e b : Tree) (m n r : Input) (j : List ℕ) → z.Covered x → z.Covered e → z.Covered b → OfTarget (coded p c) a (part x (λ y. Spells x y)) m n → Over (coded p c) of_kind assignment_level (part e (λ y. Spells e y)) (part b (λ y. Spells b y)) n r
+    targeted_of : (s : Span) (a : Bool) (x e b : Tree) (m n r : Input) (j : List ℕ) → z.Covered x → z.Covered e → z.Covered b → OfTarget (coded p c) a (child x (λ y. Produces x y)) m n → Over (coded p c) of_kind assignment_level (child e (λ y. Produces e y)) (child b (λ y. Produces b y)) n r
         → may_follow (kind r) ≡ true → s ≡ span (lo start) r.last → Reads (from m j) (for_expression lm z.inner c (from start i) a (from m j)) (Is (for_of_stmt s a x e b) r) (z.depth < max (z.reach x) (max (z.reach e) (z.reach b)))
     unfolding for_expression for_expression_rest
     targeted_of s a x e b m n r j gx ge gb h v q w = if_no ((kind m == let_kind) && (kind2 m == left_bracket_kind)) _ _ _ _ (not-true _ h.1.0)
@@ -222,7 +222,7 @@ module _ (z : Nested) (p : Bool) (c : Code) where
 
   -- ---- the statements
 
-  module _ (ts : Input) (k : List ℕ) (V : Tree × Stand Input → Type 0) (Q : Type 0) where
+  module _ (ts : Input) (k : List ℕ) (V : Tree × State Input → Type 0) (Q : Type 0) where
     opened : (m : Input) → ForOpen (coded p c) ts m → ((j : List ℕ) → Reads (from m j) (for_head lm z.inner c (from ts k) false (from m j)) V Q) → Reads (from ts k) (for_by lm z.inner c (from ts k)) V Q
     unfolding for_by
     opened m h y = then_word c for_kind ts h.0 k _ _ _ h.1.0 h.1.1 h.1.3 (if_no (kind h.0 == await_kind) _ _ _ _ (subst (λ (x : ℕ). eqb x await_kind ≡ false) (sym h.2.0) refl) (then_eat left_paren_kind h.0 m k _ _ _ h.2.0 h.2.2 (y k)))
@@ -234,16 +234,16 @@ module _ (z : Nested) (p : Bool) (c : Code) where
         (then_word c await_kind h.0 h.1 k _ _ _ h.4.0 h.4.1 h.4.3 (then_eat left_paren_kind h.1 m k _ _ _ h.5.0 h.5.2 (y k)))))
 
   module _ (ts : Input) (k : List ℕ) (r : Input) where
-    semicolon_head : (m : Input) (j : List ℕ) (V : Tree × Stand Input → Type 0) (Q : Type 0) → kind m ≡ semicolon_kind → Reads (from m j) (for_rest lm z.inner c (from ts k) absent (from m j)) V Q → Reads (from m j) (for_head lm z.inner c (from ts k) false (from m j)) V Q
+    semicolon_head : (m : Input) (j : List ℕ) (V : Tree × State Input → Type 0) (Q : Type 0) → kind m ≡ semicolon_kind → Reads (from m j) (for_rest lm z.inner c (from ts k) absent (from m j)) V Q → Reads (from m j) (for_head lm z.inner c (from ts k) false (from m j)) V Q
     unfolding for_head
     semicolon_head m j V Q e y = if_yes (kind m == semicolon_kind) _ _ _ _ (eq-eqb (kind m) semicolon_kind e) y
 
-    empty_found : (s : Span) (t u b : Tree) (m n o : Input) → z.Covered t → z.Covered u → z.Covered b → ForOpen (coded p c) ts m → m ≡ n → Takes (coded p c) semicolon_kind n o → ForRest (coded p c) (part t (λ y. Spells t y)) (part u (λ y. Spells u y)) (part b (λ y. Spells b y)) o r
+    empty_found : (s : Span) (t u b : Tree) (m n o : Input) → z.Covered t → z.Covered u → z.Covered b → ForOpen (coded p c) ts m → m ≡ n → Takes (coded p c) semicolon_kind n o → ForRest (coded p c) (child t (λ y. Produces t y)) (child u (λ y. Produces u y)) (child b (λ y. Produces b y)) o r
         → may_follow (kind r) ≡ true → s ≡ span (lo ts) r.last → Reads (from ts k) (for_by lm z.inner c (from ts k)) (Is (for_stmt s absent t u b) r) (z.depth < max (z.reach t) (max (z.reach u) (z.reach b)))
     empty_found s t u b m n o gt gu gb h e v f q w = opened ts k _ _ m h (λ j. subst (λ (y : Input). Reads (from y j) (for_head lm z.inner c (from ts k) false (from y j)) (Is (for_stmt s absent t u b) r) (z.depth < max (z.reach t) (max (z.reach u) (z.reach b)))) (sym e)
         (semicolon_head n j _ _ v.0 (rest_found ts k s absent t u b n o r j gt gu gb v f q w)))
 
-    pub plain_found : (s : Span) (x t u b : Tree) → z.Covered x × z.Covered t × z.Covered u × z.Covered b → ForExpression (coded p c) s (part x (λ y. Spells x y)) (part t (λ y. Spells t y)) (part u (λ y. Spells u y)) (part b (λ y. Spells b y)) ts r → may_follow (kind r) ≡ true
+    pub plain_found : (s : Span) (x t u b : Tree) → z.Covered x × z.Covered t × z.Covered u × z.Covered b → ForExpression (coded p c) s (child x (λ y. Produces x y)) (child t (λ y. Produces t y)) (child u (λ y. Produces u y)) (child b (λ y. Produces b y)) ts r → may_follow (kind r) ≡ true
         → Reads (from ts k) (for_by lm z.inner c (from ts k)) (Is (for_stmt s x t u b) r) (z.depth < max (z.reach x) (max (z.reach t) (max (z.reach u) (z.reach b))))
     plain_found s x t u b g h q = by_cases (is_absent x) _ _ _ h.4
         (λ e y. subst (λ (x : Tree). Reads (from ts k) (for_by lm z.inner c (from ts k)) (Is (for_stmt s x t u b) r) (z.depth < max (z.reach x) (max (z.reach t) (max (z.reach u) (z.reach b))))) (sym (absent_is x e))
@@ -252,44 +252,44 @@ module _ (z : Nested) (p : Bool) (c : Code) where
         (closes_at h.1 semicolon_kind h.5.0 (λ d. absurd (true≢false (sym d))) refl) (λ d. subst (λ (k : ℕ). may_name k ≡ false) (sym h.5.0) refl)
         (expressed ts k s x t u b h.0 h.1 h.2 r j g.0 g.1 g.2 g.3 y.0 y.1.0 y.1.1 h.5 h.6 q h.7)))
 
-    pub variables_found : (s v : Span) (o : ℕ) (ds : Trees) (t u b : Tree) → Within z.Covered (for_stmt s (var_decl v o ds) t u b) → Spells (for_stmt s (var_decl v o ds) t u b) (coded p c) ts r → may_follow (kind r) ≡ true
+    pub variables_found : (s v : Span) (o : ℕ) (ds : Trees) (t u b : Tree) → Within z.Covered (for_stmt s (var_decl v o ds) t u b) → Produces (for_stmt s (var_decl v o ds) t u b) (coded p c) ts r → may_follow (kind r) ≡ true
         → Reads (from ts k) (for_by lm z.inner c (from ts k)) (Is (for_stmt s (var_decl v o ds) t u b) r) (z.depth < within z.reach (for_stmt s (var_decl v o ds) t u b))
     variables_found s v o ds t u b g h q = opened ts k _ _ h.0 h.3 (λ j. variables_head ts k false _ _ v o ds h.0 h.1 j g.0 h.4 h.5 (settled_at (without_in c) (declarators_end ds) semicolon_kind h.1 h.6.0 refl refl refl refl refl) (λ d. omega arith)
         (λ i. lifted (declared_rest ts k s (unpack ds) (var_decl v o ds) t u b h.1 h.2 r i g.1 g.2 g.3 h.6 h.7 q h.8) (λ d. omega arith)))
 
-    pub using_found : (s v : Span) (w : Bool) (ds : Trees) (t u b : Tree) → Within z.Covered (for_stmt s (using_decl v w ds) t u b) → Spells (for_stmt s (using_decl v w ds) t u b) (coded p c) ts r → may_follow (kind r) ≡ true
+    pub using_found : (s v : Span) (w : Bool) (ds : Trees) (t u b : Tree) → Within z.Covered (for_stmt s (using_decl v w ds) t u b) → Produces (for_stmt s (using_decl v w ds) t u b) (coded p c) ts r → may_follow (kind r) ≡ true
         → Reads (from ts k) (for_by lm z.inner c (from ts k)) (Is (for_stmt s (using_decl v w ds) t u b) r) (z.depth < within z.reach (for_stmt s (using_decl v w ds) t u b))
     using_found s v w ds t u b g h q = opened ts k _ _ h.0 h.3 (λ j. using_head ts k false _ _ v w ds h.0 h.1 j g.0 h.4 h.5 h.6 (settled_at (without_in c) (declarators_end ds) semicolon_kind h.1 h.7.0 refl refl refl refl refl) (λ d. omega arith)
         (λ i. lifted (declared_rest ts k s (unpack ds) (using_decl v w ds) t u b h.1 h.2 r i g.1 g.2 g.3 h.7 h.8 q h.9) (λ d. omega arith)))
 
     -- `in`
-    pub in_variables : (s v : Span) (o : ℕ) (ds : Trees) (e b : Tree) → Within z.Covered (for_in_stmt s (var_decl v o ds) e b) → Spells (for_in_stmt s (var_decl v o ds) e b) (coded p c) ts r → may_follow (kind r) ≡ true
+    pub in_variables : (s v : Span) (o : ℕ) (ds : Trees) (e b : Tree) → Within z.Covered (for_in_stmt s (var_decl v o ds) e b) → Produces (for_in_stmt s (var_decl v o ds) e b) (coded p c) ts r → may_follow (kind r) ≡ true
         → Reads (from ts k) (for_by lm z.inner c (from ts k)) (Is (for_in_stmt s (var_decl v o ds) e b) r) (z.depth < within z.reach (for_in_stmt s (var_decl v o ds) e b))
     in_variables s v o ds e b g h q = opened ts k _ _ h.0 h.2 (λ j. variables_head ts k false _ _ v o ds h.0 h.1 j g.0 h.3.1 h.3.2 (bare_settled (without_in c) (declarators_end ds) in_kind h.1 (bare_end ds h.3.0) h.4.3.0 refl refl) (λ d. omega arith)
         (λ i. lifted (declared_in ts k s ds (var_decl v o ds) e b h.1 r i h.3.0 g.1 g.2 h.4 q h.5) (λ d. omega arith)))
 
-    pub in_using : (s v : Span) (w : Bool) (ds : Trees) (e b : Tree) → Within z.Covered (for_in_stmt s (using_decl v w ds) e b) → Spells (for_in_stmt s (using_decl v w ds) e b) (coded p c) ts r → may_follow (kind r) ≡ true
+    pub in_using : (s v : Span) (w : Bool) (ds : Trees) (e b : Tree) → Within z.Covered (for_in_stmt s (using_decl v w ds) e b) → Produces (for_in_stmt s (using_decl v w ds) e b) (coded p c) ts r → may_follow (kind r) ≡ true
         → Reads (from ts k) (for_by lm z.inner c (from ts k)) (Is (for_in_stmt s (using_decl v w ds) e b) r) (z.depth < within z.reach (for_in_stmt s (using_decl v w ds) e b))
     in_using s v w ds e b g h q = opened ts k _ _ h.0 h.2 (λ j. using_head ts k false _ _ v w ds h.0 h.1 j g.0 h.3.1 h.3.2 h.3.3 (bare_settled (without_in c) (declarators_end ds) in_kind h.1 (bare_end ds h.3.0) h.4.3.0 refl refl) (λ d. omega arith)
         (λ i. lifted (declared_in ts k s ds (using_decl v w ds) e b h.1 r i h.3.0 g.1 g.2 h.4 q h.5) (λ d. omega arith)))
 
-    pub in_target : (s : Span) (x e b : Tree) → z.Covered x × z.Covered e × z.Covered b → ForIn (coded p c) s (λ m n. HeadTarget (coded p c) (part x (λ y. Spells x y)) m n) (part e (λ y. Spells e y)) (part b (λ y. Spells b y)) ts r → may_follow (kind r) ≡ true
+    pub in_target : (s : Span) (x e b : Tree) → z.Covered x × z.Covered e × z.Covered b → ForIn (coded p c) s (λ m n. HeadTarget (coded p c) (child x (λ y. Produces x y)) m n) (child e (λ y. Produces e y)) (child b (λ y. Produces b y)) ts r → may_follow (kind r) ≡ true
         → Reads (from ts k) (for_by lm z.inner c (from ts k)) (Is (for_in_stmt s x e b) r) (z.depth < max (z.reach x) (max (z.reach e) (z.reach b)))
     in_target s x e b g h q = opened ts k _ _ h.0 h.2 (λ j. expression_head ts k false _ _ h.0 h.1 j (retyped c.context _ h.0 h.1 refl (opening x (coded p (without_in c)) h.0 h.1 (place_opener x h.3.1) h.3.2)) h.3.0
         (closes_at h.1 in_kind h.4.3.0 (λ d. absurd (true≢false (sym d))) refl) (λ d. subst (λ (k : ℕ). may_name k ≡ false) (sym h.4.3.0) refl) (targeted_in ts k s x e b h.0 h.1 r j g.0 g.1 g.2 h.3 h.4 q h.5))
 
     -- `of`
-    pub of_variables : (s : Span) (a : Bool) (v : Span) (o : ℕ) (ds : Trees) (e b : Tree) → Within z.Covered (for_of_stmt s a (var_decl v o ds) e b) → Spells (for_of_stmt s a (var_decl v o ds) e b) (coded p c) ts r → may_follow (kind r) ≡ true
+    pub of_variables : (s : Span) (a : Bool) (v : Span) (o : ℕ) (ds : Trees) (e b : Tree) → Within z.Covered (for_of_stmt s a (var_decl v o ds) e b) → Produces (for_of_stmt s a (var_decl v o ds) e b) (coded p c) ts r → may_follow (kind r) ≡ true
         → Reads (from ts k) (for_by lm z.inner c (from ts k)) (Is (for_of_stmt s a (var_decl v o ds) e b) r) (z.depth < within z.reach (for_of_stmt s a (var_decl v o ds) e b))
     of_variables s a v o ds e b g h q = await_opened ts k _ _ a h.0 h.2 (λ j. variables_head ts k a _ _ v o ds h.0 h.1 j g.0 h.3.1 h.3.2 (bare_settled (without_in c) (declarators_end ds) of_kind h.1 (bare_end ds h.3.0) h.4.3.0 refl refl) (λ d. omega arith)
         (λ i. lifted (declared_of ts k s a ds (var_decl v o ds) e b h.1 r i h.3.0 g.1 g.2 h.4 q h.5) (λ d. omega arith)))
 
-    pub of_using : (s : Span) (a : Bool) (v : Span) (w : Bool) (ds : Trees) (e b : Tree) → Within z.Covered (for_of_stmt s a (using_decl v w ds) e b) → Spells (for_of_stmt s a (using_decl v w ds) e b) (coded p c) ts r → may_follow (kind r) ≡ true
+    pub of_using : (s : Span) (a : Bool) (v : Span) (w : Bool) (ds : Trees) (e b : Tree) → Within z.Covered (for_of_stmt s a (using_decl v w ds) e b) → Produces (for_of_stmt s a (using_decl v w ds) e b) (coded p c) ts r → may_follow (kind r) ≡ true
         → Reads (from ts k) (for_by lm z.inner c (from ts k)) (Is (for_of_stmt s a (using_decl v w ds) e b) r) (z.depth < within z.reach (for_of_stmt s a (using_decl v w ds) e b))
     of_using s a v w ds e b g h q = await_opened ts k _ _ a h.0 h.2 (λ j. using_head ts k a _ _ v w ds h.0 h.1 j g.0 h.3.1 h.3.2 h.3.3 (bare_settled (without_in c) (declarators_end ds) of_kind h.1 (bare_end ds h.3.0) h.4.3.0 refl refl) (λ d. omega arith)
         (λ i. lifted (declared_of ts k s a ds (using_decl v w ds) e b h.1 r i h.3.0 g.1 g.2 h.4 q h.5) (λ d. omega arith)))
 
-    pub of_target : (s : Span) (a : Bool) (x e b : Tree) → z.Covered x × z.Covered e × z.Covered b → ForOf (coded p c) s a (λ m n. OfTarget (coded p c) a (part x (λ y. Spells x y)) m n) (part e (λ y. Spells e y)) (part b (λ y. Spells b y)) ts r → may_follow (kind r) ≡ true
+    pub of_target : (s : Span) (a : Bool) (x e b : Tree) → z.Covered x × z.Covered e × z.Covered b → ForOf (coded p c) s a (λ m n. OfTarget (coded p c) a (child x (λ y. Produces x y)) m n) (child e (λ y. Produces e y)) (child b (λ y. Produces b y)) ts r → may_follow (kind r) ≡ true
         → Reads (from ts k) (for_by lm z.inner c (from ts k)) (Is (for_of_stmt s a x e b) r) (z.depth < max (z.reach x) (max (z.reach e) (z.reach b)))
     of_target s a x e b g h q = await_opened ts k _ _ a h.0 h.2 (λ j. expression_head ts k a _ _ h.0 h.1 j (retyped c.context _ h.0 h.1 refl (opening x (coded p (without_in c)) h.0 h.1 (place_opener x h.3.1.1) h.3.1.2)) h.3.1.0
         (closes_at h.1 of_kind h.4.3.0 (λ d. refl) refl) (λ d. absurd (true≢false (sym (or_left (kind h.0 == let_kind) _ (eq-eqb (kind h.0) let_kind d)) ∙ not-true _ h.3.0))) (targeted_of ts k s a x e b h.0 h.1 r j g.0 g.1 g.2 h.3 h.4 q h.5))

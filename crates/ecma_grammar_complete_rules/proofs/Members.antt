@@ -8,10 +8,10 @@ use Rattle.ecma_tree.specs.Tree.{Tree, Trees, none, more, pack, unpack, member_e
 use Rattle.ecma_syntax.specs.Input.{Input, Code, kind, kind2, brk, lo, hi, text, content, rest, span, is_word, barred, with_in}
 use Rattle.ecma_syntax.specs.Operators.{expression_level, assignment_level}
 use Rattle.ecma_syntax.specs.Shape.{level, ends, is_chain, is_cooked, is_tail}
-use Rattle.ecma_grammar.specs.Parts.{Part, part, IsEmpty}
+use Rattle.ecma_grammar.specs.Children.{Child, child, IsEmpty}
 use Rattle.ecma_grammar.specs.Expressions.{PrivateIdentifier, AccessedName, Dotted, TemplateSpans, TemplateLiteral}
-use Rattle.ecma_grammar.specs.Grammar.{Spells, parts}
-use Rattle.ecma_reading.specs.Source.{Fault, ◌>>=◌, unexpected, Stand, bound, Inner, Step, go_on, finished, iterate}
+use Rattle.ecma_grammar.specs.Grammar.{Produces, children}
+use Rattle.ecma_reading.specs.Source.{Fault, ◌>>=◌, unexpected, State, bound, Inner, Step, go_on, finished, iterate}
 use Rattle.ecma_reading.specs.Expressions.{Spans, private_by, member_name, member_by, index_by, call_by, chain_by, arguments_by, elements_by, computed_by, on_chain, call_tree, quasi_step, quasi_end, template_by, step_by, prefix_by, keyword_by, super_end, import_by, fits_import, new_by, yield_by, yield_end}
 use Rattle.ecma_reading.specs.Reading.{readers}
 use Rattle.ecma_grammar_complete_base.proofs.Yields.{lm, from, coded, first_at, Reads, then_reads, Is, then_is, then_past, then_past_reads, then_eat, then_word, then_any, after_one, here, past_here, ended, if_no, if_yes, Loops, loop_on, loop_end, looped, shorter}
@@ -29,7 +29,7 @@ module _ (inner : Inner Input) where
   private_found c s n ts r k h = then_eat hash_kind ts h.0 k _ _ _ h.1.0 h.1.2 (if_yes (lo h.0 == hi ts) _ _ _ _ (eq-eqb (lo h.0) (hi ts) (h.2 ∙ ap (λ (z : Input). z.last) (sym h.1.2)))
       (then_any h.0 r n k _ _ _ h.3.0 h.3.1 h.3.3 (here (ap (λ (z : Span). private_name z n) (sym h.4)))))
 
-  pub accessed : (may : Bool) (c : Code) (x : Tree) (m r : Input) (j : List ℕ) {Q : Type 0} → AccessedName may c (part x (λ y. Spells x y)) m r → Reads (from m j) (member_name lm inner may (from m j)) (Is x r) Q
+  pub accessed : (may : Bool) (c : Code) (x : Tree) (m r : Input) (j : List ℕ) {Q : Type 0} → AccessedName may c (child x (λ y. Produces x y)) m r → Reads (from m j) (member_name lm inner may (from m j)) (Is x r) Q
   unfolding member_name
   accessed may c (ident_name s n) m r j h = if_no (eqb (kind m) hash_kind) _ _ _ _ (ne_eqb (kind m) hash_kind (λ z. true≢false (sym h.1.0.0 ∙ ap is_word z)))
       (then_any m r n j _ _ _ h.1.0.0 h.1.0.1 h.1.0.3 (here (ap (λ (z : Span). ident_name z n) (first_at m r s h.1.0.3 h.1.1))))
@@ -45,7 +45,7 @@ abbrev pub Lists : Inner Input → Code → Trees → Input → Input → Type 0
 Lists inner c xs m r P = (h : List ℕ) → Reads (from m h) (elements_by lm inner c false right_paren_kind (from m h)) (Has (unpack xs) r) P
 
 module _ (inner : Inner Input) (c : Code) (ts : Input) (k : List ℕ) (a : Tree) (m : Input) (j : List ℕ) {Q : Type 0} where
-  pub dotted_member : (p : Code) (s : Span) (x : Tree) (r : Input) → Dotted true p (part x (λ y. Spells x y)) m r → s ≡ span (lo ts) r.last → Reads (from m j) (member_by lm inner c (from ts k) a (from m j)) (Is (on_chain lm inner (is_chain a) s (member_expr s a x)) r) Q
+  pub dotted_member : (p : Code) (s : Span) (x : Tree) (r : Input) → Dotted true p (child x (λ y. Produces x y)) m r → s ≡ span (lo ts) r.last → Reads (from m j) (member_by lm inner c (from ts k) a (from m j)) (Is (on_chain lm inner (is_chain a) s (member_expr s a x)) r) Q
   unfolding member_by
   dotted_member p s x r h e = then_past m h.0 j (member_name lm inner true) _ x r Q _ Q h.1.2 (accessed inner true p x h.0 r j h.2) (λ z. z) (λ l. here (ap (λ (z : Span). on_chain lm inner (is_chain a) z (member_expr z a x)) (sym e)))
 
@@ -65,7 +65,7 @@ module _ (inner : Inner Input) (c : Code) (ts : Input) (k : List ℕ) (a : Tree)
   called s xs n r P q y i p = listed (λ z ys. call_tree lm inner z a ys) s xs n r P q y i p
 
   -- after `?.`
-  pub chain_name : (p : Code) (s : Span) (x : Tree) (r : Input) → AccessedName true p (part x (λ y. Spells x y)) m r → s ≡ span (lo ts) r.last → (kind m ≡ left_paren_kind → ⊥) → (kind m ≡ left_bracket_kind → ⊥)
+  pub chain_name : (p : Code) (s : Span) (x : Tree) (r : Input) → AccessedName true p (child x (λ y. Produces x y)) m r → s ≡ span (lo ts) r.last → (kind m ≡ left_paren_kind → ⊥) → (kind m ≡ left_bracket_kind → ⊥)
       → Reads (from m j) (chain_by lm inner c (from ts k) a (from m j)) (Is (opt_chain_expr s true (member_expr s a x)) r) Q
   unfolding chain_by
   chain_name p s x r h e u v = if_no (eqb (kind m) left_paren_kind) _ _ _ _ (ne_eqb (kind m) left_paren_kind u) (if_no (eqb (kind m) left_bracket_kind) _ _ _ _ (ne_eqb (kind m) left_bracket_kind v)
@@ -82,7 +82,7 @@ module _ (inner : Inner Input) (c : Code) (ts : Input) (k : List ℕ) (a : Tree)
   chain_call s xs n r P g q y i p = rw g (subst (λ (ys : Trees). Reads (from m j) (arguments_by lm inner c (from (rest m) j) >>= λ x. Ok (opt_chain_expr (span (lo ts) x.1.source.last) true (opt_call (span (lo ts) x.1.source.last) a (pack x.0)), x.1)) (Is (opt_chain_expr s true (opt_call s a ys)) r) Q) (pack_unpack xs)
       (listed (λ z ys. opt_chain_expr z true (opt_call z a (pack ys))) s xs n r P q y i p))
 
-module _ (inner : Inner Input) (c : Code) (start : Stand Input) (a : Tree) (m : Input) (j : List ℕ) (V : Tree × Stand Input → Type 0) (Q : Type 0) where
+module _ (inner : Inner Input) (c : Code) (start : State Input) (a : Tree) (m : Input) (j : List ℕ) (V : Tree × State Input → Type 0) (Q : Type 0) where
   pub step_chain : kind m ≡ question_mark_kind → kind2 m ≡ dot_kind → 19 ≤ level a → Reads (from (rest (rest m)) j) (chain_by lm inner c start a (from (rest (rest m)) j)) V Q → Reads (from m j) (step_by lm inner c start a (from m j)) V Q
   unfolding step_by
   step_chain e d le y = rw e (if_yes (kind2 m == dot_kind) _ _ V Q (eq-eqb (kind2 m) dot_kind d) (if_yes (leb 19 (level a)) _ _ V Q (le-leb 19 (level a) le) (after_one (from m j) _ V Q (after_one (from (rest m) j) _ V Q y))))
@@ -94,7 +94,7 @@ module _ (inner : Inner Input) (c : Code) (start : Stand Input) (a : Tree) (m : 
 -- ---- templates
 
 -- these expressions and characters, and these tokens as the rest
-abbrev pub HasSpans : List Tree → List Tree → Input → Spans × Stand Input → Type 0
+abbrev pub HasSpans : List Tree → List Tree → Input → Spans × State Input → Type 0
 HasSpans es qs r x = (x.0.exprs ≡ es) × (x.0.quasis ≡ qs) × (x.1.source ≡ r)
 
 abbrev pub spans : List Tree → List Tree → Spans
@@ -120,7 +120,7 @@ module _ (inner : Inner Input) (c : Code) (tagged : Bool) (s : Span) (t : Bool) 
       (here (ap (λ (y : Tree). go_on (spans (es ++ x ∷ []) (qs ++ y ∷ []))) (sym (same_quasi false h))))))))))
 
 -- what ends a list of no more parts
-pub no_more : (ys : Trees) → IsEmpty (parts ys) → unpack ys ≡ []
+pub no_more : (ys : Trees) → IsEmpty (children ys) → unpack ys ≡ []
 no_more none h = refl
 no_more (more y ys) h = absurd h
 
@@ -128,7 +128,7 @@ module _ (z d : ℕ) (f : Finds z d) (p : Bool) (c : Code) (tagged : Bool) where
   abbrev inner : Inner Input
   inner = readers lm d
 
-  template_loop : (xs ys : Trees) (es qs : List Tree) (ts r : Input) (k : List ℕ) (n : ℕ) → sizes xs < z → CoveredAll xs → TemplateSpans tagged (coded p c) (parts xs) (parts ys) ts r → reaches xs ≤ n
+  template_loop : (xs ys : Trees) (es qs : List Tree) (ts r : Input) (k : List ℕ) (n : ℕ) → sizes xs < z → CoveredAll xs → TemplateSpans tagged (coded p c) (children xs) (children ys) ts r → reaches xs ≤ n
       → Loops (quasi_step lm inner c tagged) (spans es qs) ts k (HasSpans (es ++ unpack xs) (qs ++ unpack ys) r) (d < n)
   template_loop none none es qs ts r k n sz g h le = absurd h
   template_loop (more x xs) none es qs ts r k n sz g h le = absurd h
@@ -146,7 +146,7 @@ module _ (z d : ℕ) (f : Finds z d) (p : Bool) (c : Code) (tagged : Bool) where
       (template_loop xs ys (es ++ x ∷ []) (qs ++ tpl_element s t w u ∷ []) h.3 r l n (omega arith) g.1 h.10 (omega arith))))
   template_loop (more x xs) (more q ys) es qs ts r k n sz g h le = absurd (true≢false (sym h.6.0))
 
-  pub template_found : (s : Span) (xs ys : Trees) (ts r : Input) (k : List ℕ) (n : ℕ) → sizes xs < z → CoveredAll xs → TemplateLiteral tagged (coded p c) s (parts xs) (parts ys) ts r → reaches xs ≤ n
+  pub template_found : (s : Span) (xs ys : Trees) (ts r : Input) (k : List ℕ) (n : ℕ) → sizes xs < z → CoveredAll xs → TemplateLiteral tagged (coded p c) s (children xs) (children ys) ts r → reaches xs ≤ n
       → Reads (from ts k) (template_by lm inner c tagged (from ts k)) (Is (tpl s xs ys) r) (d < n)
   unfolding template_by
   template_found s xs ys ts r k n sz g h le = then_past_reads ts h.0 k (iterate (bound lm) (quasi_step lm inner c tagged) (spans [] [])) _ (HasSpans (unpack xs) (unpack ys) r) (d < n) _ _ h.1.2
@@ -157,6 +157,6 @@ module _ (z d : ℕ) (f : Finds z d) (p : Bool) (c : Code) (tagged : Bool) where
         v.2,
       ))
 
-pub prefix_template : (inner : Inner Input) (c : Code) (lev : ℕ) (ts : Input) (k : List ℕ) (V : Tree × Stand Input → Type 0) (Q : Type 0) → kind ts ≡ back_quote_kind → Reads (from ts k) (template_by lm inner c false (from ts k)) V Q → Reads (from ts k) (prefix_by lm inner c lev (from ts k)) V Q
+pub prefix_template : (inner : Inner Input) (c : Code) (lev : ℕ) (ts : Input) (k : List ℕ) (V : Tree × State Input → Type 0) (Q : Type 0) → kind ts ≡ back_quote_kind → Reads (from ts k) (template_by lm inner c false (from ts k)) V Q → Reads (from ts k) (prefix_by lm inner c lev (from ts k)) V Q
 unfolding prefix_by
 prefix_template inner c lev ts k V Q e y = rw e y

@@ -6,8 +6,8 @@ use Rattle.ecma_token.specs.Kinds.{left_paren_kind, dot_kind, import_kind, expor
 use Rattle.ecma_tree.specs.Tree.{Tree, Trees, es_module, import_decl, named_export, export_all, export_decl, export_default_decl, export_default_expr}
 use Rattle.ecma_syntax.specs.Input.{Input, Code, kind, kind2, in_list}
 use Rattle.ecma_syntax.specs.Shape.{is_item, is_module_decl}
-use Rattle.ecma_grammar.specs.Parts.{is_module_item}
-use Rattle.ecma_grammar.specs.Grammar.{Spells}
+use Rattle.ecma_grammar.specs.Children.{is_module_item}
+use Rattle.ecma_grammar.specs.Grammar.{Produces}
 use Rattle.ecma_reading.specs.Modules.{import_decl_by, export_by, item_by, program_by, starts_import}
 use Rattle.ecma_grammar_complete_base.proofs.Yields.{lm, from, len, coded, Reads, Is, if_no, if_yes}
 use Rattle.ecma_grammar_complete_base.proofs.Trees.{no_kind}
@@ -23,7 +23,7 @@ begins_with : (ts : Input) (k : ℕ) → kind ts ≡ k → begins_item k ≡ tru
 begins_with ts k e h = subst (λ (k : ℕ). begins_item k ≡ true) (sym e) h
 
 module _ (z : Nested) (p : Bool) where
-  item_found : (t : Tree) (c : Code) (ts m : Input) (k : List ℕ) → is_item t ≡ true → z.Covered t → Spells t (coded p (in_list c)) ts m → may_follow (kind m) ≡ true → Reads (from ts k) (item_by lm z.inner true (in_list c) (from ts k)) (Is t m) (z.depth < z.reach t)
+  item_found : (t : Tree) (c : Code) (ts m : Input) (k : List ℕ) → is_item t ≡ true → z.Covered t → Produces t (coded p (in_list c)) ts m → may_follow (kind m) ≡ true → Reads (from ts k) (item_by lm z.inner true (in_list c) (from ts k)) (Is t m) (z.depth < z.reach t)
   item_found t c ts m k i g h f = (statements_read z p true).item t c ts m k i g h f
 
   by_export : (t : Tree) (c : Code) (ts m : Input) (k : List ℕ) (Q : Type 0) → kind ts ≡ export_kind → Reads (from ts k) (export_by lm z.inner c (from ts k)) (Is t m) Q → Reads (from ts k) (item_by lm z.inner true c (from ts k)) (Is t m) Q
@@ -38,7 +38,7 @@ module _ (z : Nested) (p : Bool) where
   other_item : (t : Tree) → is_module_decl t ≡ false → is_module_item t ≡ true → is_item t ≡ true
   other_item t e h = ⊎_elim (λ q. q) (λ q. absurd (true≢false (sym q ∙ e))) (or_cases (is_item t) (is_module_decl t) h)
 
-  pub module_item : (t : Tree) (c : Code) (ts m : Input) (k : List ℕ) → is_module_item t ≡ true → InModule z.Covered t → Spells t (coded p (in_list c)) ts m → may_follow (kind m) ≡ true → Reads (from ts k) (item_by lm z.inner true (in_list c) (from ts k)) (Is t m) (z.depth < in_module z.reach t)
+  pub module_item : (t : Tree) (c : Code) (ts m : Input) (k : List ℕ) → is_module_item t ≡ true → InModule z.Covered t → Produces t (coded p (in_list c)) ts m → may_follow (kind m) ≡ true → Reads (from ts k) (item_by lm z.inner true (in_list c) (from ts k)) (Is t m) (z.depth < in_module z.reach t)
   module_item (import_decl s xs f w) c ts m k i g h q = by_import (import_decl s xs f w) (in_list c) ts m h.0 k _ h.2.0 (ap (λ (y : Input). kind y) h.2.3) (after_import z p (in_list c) xs f w h.0 h.1 m h.3 h.4) (import_found z p (in_list c) s xs f w ts m k g h)
   module_item (named_export s xs f w) c ts m k i g h q = by_export (named_export s xs f w) (in_list c) ts m k _ h.1.0 (named_found z p (in_list c) s xs f w ts m k g h)
   module_item (export_all s f w) c ts m k i g h q = by_export (export_all s f w) (in_list c) ts m k _ h.3.0 (all_found z p (in_list c) s f w ts m k g h)
@@ -47,7 +47,7 @@ module _ (z : Nested) (p : Bool) where
   module_item (export_default_expr s e) c ts m k i g h q = by_export (export_default_expr s e) (in_list c) ts m k _ h.2.1.0 (default_expr_found z p (in_list c) s e ts m k g h)
   module_item t c ts m k i g h q = item_found t c ts m k (other_item t refl i) g h q
 
-  module_starts : (t : Tree) (c : Code) (ts m : Input) → is_module_item t ≡ true → Spells t c ts m → begins_item (kind ts) ≡ true
+  module_starts : (t : Tree) (c : Code) (ts m : Input) → is_module_item t ≡ true → Produces t c ts m → begins_item (kind ts) ≡ true
   module_starts (import_decl s xs f w) c ts m i h = begins_with ts import_kind h.2.0 refl
   module_starts (named_export s xs f w) c ts m i h = begins_with ts export_kind h.1.0 refl
   module_starts (export_all s f w) c ts m i h = begins_with ts export_kind h.3.0 refl
@@ -56,7 +56,7 @@ module _ (z : Nested) (p : Bool) where
   module_starts (export_default_expr s e) c ts m i h = begins_with ts export_kind h.2.1.0 refl
   module_starts t c ts m i h = (statements_read z p true).starts t c ts m (other_item t refl i) h
 
-  module_less : (t : Tree) (c : Code) (ts m : Input) → is_module_item t ≡ true → Spells t c ts m → len m < len ts
+  module_less : (t : Tree) (c : Code) (ts m : Input) → is_module_item t ≡ true → Produces t c ts m → len m < len ts
   module_less (import_decl s xs f w) c ts m i h = omega (arith, cut (import_decl s xs f w) c ts m h)
   module_less (named_export s xs f w) c ts m i h = omega (arith, cut (named_export s xs f w) c ts m h)
   module_less (export_all s f w) c ts m i h = omega (arith, cut (export_all s f w) c ts m h)
@@ -72,7 +72,7 @@ module _ (z : Nested) (p : Bool) where
     less = λ t c ts m i h. module_less t c ts m i h;
   }
 
--- What a module spells is read: the tree and the rest, or too deep where its items reach deeper.
-pub module_found : (z : Nested) (p : Bool) (s : Span) (ss : Trees) (l : Option (List ℕ)) (c : Code) (ts r : Input) (k : List ℕ) → Each (InModule z.Covered) ss → Spells (es_module s ss l) (coded p c) ts r
+-- What a module produces is read: the tree and the rest, or too deep where its items reach deeper.
+pub module_found : (z : Nested) (p : Bool) (s : Span) (ss : Trees) (l : Option (List ℕ)) (c : Code) (ts r : Input) (k : List ℕ) → Each (InModule z.Covered) ss → Produces (es_module s ss l) (coded p c) ts r
     → Reads (from ts k) (program_by lm z.inner true c (from ts k)) (Is (es_module s ss l) r) (z.depth < most (in_module z.reach) ss)
 module_found z p s ss l c ts r k g h = program_found z p true is_module_item (InModule z.Covered) (in_module z.reach) (items_read z p) s l ss c ts r k g h

@@ -7,8 +7,8 @@ use Rattle.ecma_tree.specs.Tree.{Tree, Trees, pack, unpack, this_expr, null_lit,
 use Rattle.ecma_syntax.specs.Input.{Input, Code, kind, kind2, lo, rest, span, text, barred, assigning}
 use Rattle.ecma_syntax.specs.Operators.{goes_expr, member_level, new_level, call_level}
 use Rattle.ecma_syntax.specs.Shape.{level, ends}
-use Rattle.ecma_grammar.specs.Grammar.{Spells}
-use Rattle.ecma_reading.specs.Source.{Stand, Inner, ◌>>=◌}
+use Rattle.ecma_grammar.specs.Grammar.{Produces}
+use Rattle.ecma_reading.specs.Source.{State, Inner, ◌>>=◌}
 use Rattle.ecma_reading.specs.Expressions.{elements_by, arguments_by, callee_by, new_by, new_end, keyword_by, prefix_by, expr_by, expr_from, loop_by}
 use Rattle.ecma_reading.specs.Reading.{readers}
 use Rattle.ecma_grammar_complete_base.proofs.Yields.{first_at, lm, from, coded, IsName, then_reads, Is, then_is, then_word, then_name, Reads, here, past_here, ended, if_no, if_yes, then_past, too_deep}
@@ -30,7 +30,7 @@ pub callee_least : (f : Tree) → Callee f → 18 ≤ level f
 callee_least (new_expr s f absent) b = omega arith
 callee_least _ b = omega (arith, b)
 
-pub callee_of : (f : Tree) (c : Code) (ts r : Input) → Covered f → Spells f c ts r → (level f ≡ 18) ⊎ (20 ≤ level f) → Callee f
+pub callee_of : (f : Tree) (c : Code) (ts r : Input) → Covered f → Produces f c ts r → (level f ≡ 18) ⊎ (20 ≤ level f) → Callee f
 callee_of (new_expr s f absent) c ts r g h l = tt
 callee_of (bin_expr s op a b) c ts r g h l = ⊎_elim (λ e. absurd (omega (arith, e, binary_low op))) (λ x. x) l
 callee_of (member_expr s o (computed_prop_name t e)) c ts r g h l = ⊎_elim (λ e. absurd (omega (arith, e, h.2.0))) (λ x. x) l
@@ -43,13 +43,13 @@ abbrev IsIdent : Tree → Type 0
 IsIdent f = (q : Span) × (x : List ℕ) × (f ≡ ident q x)
 
 -- no function starts with `async` and a parenthesis
-function_alone : (s : Span) (x f : Tree) (c : Code) (m n : Input) → Spells (fn_expr s x f) c m n → kind m ≡ async_kind → kind2 m ≡ left_paren_kind → ⊥
+function_alone : (s : Span) (x f : Tree) (c : Code) (m n : Input) → Produces (fn_expr s x f) c m n → kind m ≡ async_kind → kind2 m ≡ left_paren_kind → ⊥
 function_alone s x (function t ps ds b g true) c m n h a o = omega (arith, o, h.2.3.0, ap (λ (y : Input). kind y) h.2.2.0.3)
 function_alone s x (function t ps ds b g false) c m n h a o = omega (arith, a, h.2.3.0, ap (λ (y : Input). kind y) h.2.2)
 function_alone s x _ c m n h a o = absurd h
 
 -- a callee that starts with `async` before a parenthesis is this name
-alone : (f : Tree) (c : Code) (m n : Input) → Covered f → Callee f → Spells f c m n → kind m ≡ async_kind → kind2 m ≡ left_paren_kind → IsIdent f
+alone : (f : Tree) (c : Code) (m n : Input) → Covered f → Callee f → Produces f c m n → kind m ≡ async_kind → kind2 m ≡ left_paren_kind → IsIdent f
 alone (ident q x) c m n g b h a o = (q, x, refl)
 alone (this_expr s) c m n g b h a o = absurd (omega (arith, a, h.0.0))
 alone (null_lit s) c m n g b h a o = absurd (omega (arith, a, h.0.0))
@@ -66,16 +66,16 @@ alone (new_expr s f (list xs)) c m n g b h a o = absurd (omega (arith, a, h.2.0)
 alone (new_expr s f xs) c m n g b h a o = absurd h
 alone (member_expr s f (computed_prop_name t e)) c m n g b h a o =
     let i = alone f _ m h.0 g.0 (callee_high f (omega (arith, b))) h.2.1 a o in
-    absurd (omega (arith, o, h.3.2.0, ap (λ (y : Input). kind y) (subst (λ (y : Tree). Spells y (assigning c) m h.0) i.2 h.2.1).0.5))
+    absurd (omega (arith, o, h.3.2.0, ap (λ (y : Input). kind y) (subst (λ (y : Tree). Produces y (assigning c) m h.0) i.2 h.2.1).0.5))
 alone (member_expr s f (ident_name t e)) c m n g b h a o =
     let i = alone f _ m h.0 g.0 (callee_high f (omega (arith, b))) h.2.1 a o in
-    absurd (omega (arith, o, h.3.1.0, ap (λ (y : Input). kind y) (subst (λ (y : Tree). Spells y (assigning c) m h.0) i.2 h.2.1).0.5))
+    absurd (omega (arith, o, h.3.1.0, ap (λ (y : Input). kind y) (subst (λ (y : Tree). Produces y (assigning c) m h.0) i.2 h.2.1).0.5))
 alone (member_expr s f k) c m n g b h a o =
     let i = alone f _ m h.0 g.0 (callee_high f (omega (arith, b))) h.2.1 a o in
-    absurd (omega (arith, o, h.3.1.0, ap (λ (y : Input). kind y) (subst (λ (y : Tree). Spells y (assigning c) m h.0) i.2 h.2.1).0.5))
+    absurd (omega (arith, o, h.3.1.0, ap (λ (y : Input). kind y) (subst (λ (y : Tree). Produces y (assigning c) m h.0) i.2 h.2.1).0.5))
 alone (tagged_tpl s f (tpl q es qs)) c m n g b h a o =
     let i = alone f _ m h.0 g.0 (callee_high f (omega (arith, b))) h.2.1 a o in
-    absurd (omega (arith, o, h.3.1.0, ap (λ (y : Input). kind y) (subst (λ (y : Tree). Spells y (assigning c) m h.0) i.2 h.2.1).0.5))
+    absurd (omega (arith, o, h.3.1.0, ap (λ (y : Input). kind y) (subst (λ (y : Tree). Produces y (assigning c) m h.0) i.2 h.2.1).0.5))
 alone (tagged_tpl s f q) c m n g b h a o = absurd h
 alone (tpl s es qs) c m n g b h a o = absurd (omega (arith, a, h.1.0))
 alone (super_prop_expr s (super t) (computed_prop_name q e)) c m n g b h a o = absurd (omega (arith, a, h.1.0))
@@ -120,7 +120,7 @@ alone (class_expr s x k) c m n g b h a o = absurd (omega (arith, a, h.2.0))
 alone _ c m n g b h a o = absurd (omega (arith, b))
 
 module _ (inner : Inner Input) (c : Code) (lev : ℕ) (ts : Input) (k : List ℕ) (s : Span) (f : Tree) (m n : Input) (P Q : Type 0) where
-  pub prefix_new : (V : Tree × Stand Input → Type 0) → kind ts ≡ new_kind → Reads (from ts k) (new_by lm inner c (from ts k)) V Q → Reads (from ts k) (prefix_by lm inner c lev (from ts k)) V Q
+  pub prefix_new : (V : Tree × State Input → Type 0) → kind ts ≡ new_kind → Reads (from ts k) (new_by lm inner c (from ts k)) V Q → Reads (from ts k) (prefix_by lm inner c lev (from ts k)) V Q
   unfolding prefix_by keyword_by
   prefix_new V e y = rw e y
 
@@ -146,7 +146,7 @@ pub record After (c : Code) (r : Input) : Type 0 where
   pub stop : goes_expr c 0 r < 20
   pub sober : sober c r ≡ true
 
-pub no_dot : (f : Tree) (c : Code) (m r : Input) → Covered f → Callee f → Spells f c m r → eqb (kind m) dot_kind ≡ false
+pub no_dot : (f : Tree) (c : Code) (m r : Input) → Covered f → Callee f → Produces f c m r → eqb (kind m) dot_kind ≡ false
 no_dot f c m r g b h = no_kind begins (kind m) dot_kind (starts f c m r g (omega (arith, callee_least f b)) h) refl
 
 module _ (z : ℕ) (ih : (e : ℕ) → Comes z e) (p : Bool) (c : Code) where
@@ -154,11 +154,11 @@ module _ (z : ℕ) (ih : (e : ℕ) → Comes z e) (p : Bool) (c : Code) where
   NoAsync m = kind m ≡ async_kind → kind2 m ≡ left_paren_kind → ⊥
 
   -- the name `async`, or an expression
-  either : (f : Tree) (m r : Input) (d : ℕ) (k : List ℕ) → Covered f → Callee f → Spells f (coded p c) m r → (NoAsync m → Reads (from m k) ((readers lm d).expr c 20 (from m k)) (Is f r) (d < reach f)) → Reads (from m k) (callee_by lm (readers lm d) c (from m k)) (Is f r) (d < reach f)
+  either : (f : Tree) (m r : Input) (d : ℕ) (k : List ℕ) → Covered f → Callee f → Produces f (coded p c) m r → (NoAsync m → Reads (from m k) ((readers lm d).expr c 20 (from m k)) (Is f r) (d < reach f)) → Reads (from m k) (callee_by lm (readers lm d) c (from m k)) (Is f r) (d < reach f)
   unfolding callee_by
   either f m r d k g b h y = ⊎_elim
       (λ (a : kind m ≡ async_kind). ⊎_elim
-      (λ (o : kind2 m ≡ left_paren_kind). let i = alone f (coded p c) m r g b h a o in let v : Spells (ident i.0 i.1) (coded p c) m r = subst (λ (t : Tree). Spells t (coded p c) m r) i.2 h in
+      (λ (o : kind2 m ≡ left_paren_kind). let i = alone f (coded p c) m r g b h a o in let v : Produces (ident i.0 i.1) (coded p c) m r = subst (λ (t : Tree). Produces t (coded p c) m r) i.2 h in
       if_yes (eqb (kind m) async_kind && eqb (kind2 m) left_paren_kind) _ _ _ _ (and_from (eqb (kind m) async_kind) _ (eq-eqb (kind m) async_kind a) (eq-eqb (kind2 m) left_paren_kind o))
       (then_name c m r i.1 k _ _ _ (v.0.0, v.0.1, v.0.2) v.0.3 v.0.5 (here (ap (λ (w : Span). ident w i.1) (first_at m r i.0 v.0.5 v.1) ∙ sym i.2))))
       (λ (o : kind2 m ≡ left_paren_kind → ⊥). if_no (eqb (kind m) async_kind && eqb (kind2 m) left_paren_kind) _ _ _ _ (and_right (eqb (kind m) async_kind) _ (ne_eqb (kind2 m) left_paren_kind o)) (y (λ u v. o v)))
@@ -167,11 +167,11 @@ module _ (z : ℕ) (ih : (e : ℕ) → Comes z e) (p : Bool) (c : Code) where
       (cases_eq (kind m) async_kind)
 
   -- no parenthesis follows the name `async` here
-  bare_here : (f : Tree) (m r : Input) → Spells f (coded p c) m r → NoAsync m → Bare f m r
+  bare_here : (f : Tree) (m r : Input) → Produces f (coded p c) m r → NoAsync m → Bare f m r
   bare_here (ident s x) m r h na = λ e q. absurd (na e (ap (λ (y : Input). kind y) h.0.5 ∙ q))
   bare_here _ m r h na = tt
 
-  tight : (f : Tree) (m r : Input) (d : ℕ) (k : List ℕ) → size f < z → Covered f → 20 ≤ level f → Spells f (coded p c) m r → After c r → NoAsync m → Reads (from m k) ((readers lm d).expr c 20 (from m k)) (Is f r) (d < reach f)
+  tight : (f : Tree) (m r : Input) (d : ℕ) (k : List ℕ) → size f < z → Covered f → 20 ≤ level f → Produces f (coded p c) m r → After c r → NoAsync m → Reads (from m k) ((readers lm d).expr c 20 (from m k)) (Is f r) (d < reach f)
   tight f m r d k sz g b h fo na = reads z d ih f p c 20 m r k sz g h (omega arith) (record { conditional = λ e. omega (arith, e); update = λ e. omega (arith, e) }) b
       (record { stop = subst (λ (e : ℕ). goes_expr c e r < 20) (sym (ends_high f (omega (arith, b)))) fo.stop; calm = λ _ u. absurd (omega arith); sober = fo.sober; quits = λ q. absurd (omega (arith, q, ends_high f (omega (arith, b)))) }) (bare_here f m r h na)
 
@@ -181,7 +181,7 @@ module _ (z : ℕ) (ih : (e : ℕ) → Comes z e) (p : Bool) (c : Code) where
   handed f m r d k Q l e y = if_no (eqb (kind m) hash_kind) _ _ _ _ (subst (λ (x : ℕ). eqb x hash_kind ≡ false) (sym e) refl) (then_is (prefix_by lm (readers lm d) c 20 (from m k)) _ f r Q _ Q y (λ u. u)
       (λ j. rw l (here refl)))
 
-  pub callee_found : (f : Tree) (m r : Input) (d : ℕ) (k : List ℕ) → size f < z → Covered f → Callee f → Spells f (coded p c) m r → After c r → Reads (from m k) (callee_by lm (readers lm d) c (from m k)) (Is f r) (d < reach f)
+  pub callee_found : (f : Tree) (m r : Input) (d : ℕ) (k : List ℕ) → size f < z → Covered f → Callee f → Produces f (coded p c) m r → After c r → Reads (from m k) (callee_by lm (readers lm d) c (from m k)) (Is f r) (d < reach f)
   unfolding readers
   callee_found (new_expr s f absent) m r zero k sz g b h fo = either (new_expr s f absent) m r zero k g b h (λ na. too_deep _ _ (omega arith))
   callee_found (new_expr s f absent) m r (suc d) k sz g b h fo = either (new_expr s f absent) m r (suc d) k g b h (λ na. let w = callee_of f (coded p c) h.0 r g.0 h.3 h.2 in

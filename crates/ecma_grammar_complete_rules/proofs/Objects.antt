@@ -8,11 +8,11 @@ use Rattle.ecma_tree.specs.Tree.{Tree, Trees, none, more, pack, unpack, ident, i
 use Rattle.ecma_syntax.specs.Input.{Input, Code, kind, kind2, brk2, lo, text, content, rest, span, first_span, is_word, with_in, assigning}
 use Rattle.ecma_syntax.specs.Operators.{assignment_level, starts_key}
 use Rattle.ecma_syntax.specs.Shape.{level, ends, is_prop, is_key, is_rest}
-use Rattle.ecma_grammar.specs.Parts.{is_ident, Part, part, By, IsEmpty, Sorted, Listed}
+use Rattle.ecma_grammar.specs.Children.{is_ident, Child, child, By, IsEmpty, Sorted, Listed}
 use Rattle.ecma_grammar.specs.Expressions.{StringLiteral, NumericLiteral, BigIntLiteral}
 use Rattle.ecma_grammar.specs.Functions.{MethodHead}
-use Rattle.ecma_grammar.specs.Grammar.{Spells, parts}
-use Rattle.ecma_reading.specs.Source.{Fault, ◌>>=◌, unexpected, Stand, bound, Inner, Step, go_on, finished, iterate}
+use Rattle.ecma_grammar.specs.Grammar.{Produces, children}
+use Rattle.ecma_reading.specs.Source.{Fault, ◌>>=◌, unexpected, State, bound, Inner, Step, go_on, finished, iterate}
 use Rattle.ecma_reading.specs.Expressions.{Elements, no_elements, literal, literal_by, key_by, computed_by, prop_by, prop_rest, prop_step, after_element, object_by, prefix_by, is_async_head, is_accessor}
 use Rattle.ecma_reading.specs.Reading.{readers}
 use Rattle.ecma_grammar_complete_base.proofs.Yields.{lm, from, len, coded, first_at, IsName, Reads, then_reads, Is, then_is, then_past, then_eat, then_name, then_noted, here, past_here, if_no, if_yes, Loops, loop_on, loop_end, looped, after_one, onto}
@@ -45,7 +45,7 @@ begins_key k = is_word k || ((k == str_kind) || ((k == num_kind) || ((k == big_i
 abbrev pub OneWord : Input → Input → Type 0
 OneWord ts m = ((is_word (kind ts) ≡ true) × (rest ts ≡ m)) ⊎ (is_word (kind ts) ≡ false)
 
-pub key_starts : (k : Tree) (c : Code) (ts m : Input) → is_key k ≡ true → Spells k c ts m → (begins_key (kind ts) ≡ true) × OneWord ts m
+pub key_starts : (k : Tree) (c : Code) (ts m : Input) → is_key k ≡ true → Produces k c ts m → (begins_key (kind ts) ≡ true) × OneWord ts m
 key_starts (ident_name s n) c ts m e h = (or_left (is_word (kind ts)) _ h.0.0, inl (h.0.0, h.0.3))
 key_starts (str_lit s u w) c ts m e h = (subst (λ (n : ℕ). begins_key n ≡ true) (sym h.3.0) refl, inr (subst (λ (n : ℕ). is_word n ≡ false) (sym h.3.0) refl))
 key_starts (number_lit s v w) c ts m e h = (subst (λ (n : ℕ). begins_key n ≡ true) (sym h.3.0) refl, inr (subst (λ (n : ℕ). is_word n ≡ false) (sym h.3.0) refl))
@@ -54,12 +54,12 @@ key_starts (computed_prop_name s x) c ts m e h = (subst (λ (n : ℕ). begins_ke
 key_starts _ c ts m e h = absurd (true≢false (sym e))
 
 -- how a method starts: with no brace
-method_head : (g a : Bool) (k : Tree) (c : Code) (ts m n : Input) → MethodHead g a c ts m → is_key k ≡ true → Spells k c m n → eqb (kind ts) right_brace_kind ≡ false
+method_head : (g a : Bool) (k : Tree) (c : Code) (ts m n : Input) → MethodHead g a c ts m → is_key k ≡ true → Produces k c m n → eqb (kind ts) right_brace_kind ≡ false
 method_head g true k c ts m n h i y = ne_eqb (kind ts) right_brace_kind (λ q. omega (arith, q, h.1.0.0))
 method_head true false k c ts m n h i y = ne_eqb (kind ts) right_brace_kind (λ q. omega (arith, q, h.2.0, ap (λ (x : Input). kind x) h.1))
 method_head false false k c ts m n h i y = subst (λ (x : Input). eqb (kind x) right_brace_kind ≡ false) (sym (h.1 ∙ h.2)) (no_kind begins_key (kind m) right_brace_kind (key_starts k c m n i y).0 refl)
 
-method_begins : (s : Span) (k f : Tree) (c : Code) (ts r : Input) → Spells (method_prop s k f) c ts r → eqb (kind ts) right_brace_kind ≡ false
+method_begins : (s : Span) (k f : Tree) (c : Code) (ts r : Input) → Produces (method_prop s k f) c ts r → eqb (kind ts) right_brace_kind ≡ false
 method_begins s k (function t ps ds b g a) c ts r h = method_head g a k c ts h.1.0 h.1.1 h.1.2 h.0 h.1.3
 method_begins s k _ c ts r h = absurd h
 
@@ -67,7 +67,7 @@ module _ (z d : ℕ) (f : Finds z d) (p : Bool) (c : Code) where
   abbrev inner : Inner Input
   inner = readers lm d
 
-  pub key_found : (x : Tree) (ts m : Input) (k : List ℕ) → size x < z → Covered x → is_key x ≡ true → (y : Code) → assigning (with_in y) ≡ coded p (with_in c) → Spells x y ts m → Reads (from ts k) (key_by lm inner c (from ts k)) (Is x m) (d < reach x)
+  pub key_found : (x : Tree) (ts m : Input) (k : List ℕ) → size x < z → Covered x → is_key x ≡ true → (y : Code) → assigning (with_in y) ≡ coded p (with_in c) → Produces x y ts m → Reads (from ts k) (key_by lm inner c (from ts k)) (Is x m) (d < reach x)
   unfolding key_by
   key_found (ident_name s n) ts m k sz g e y eq h = if_no (eqb (kind ts) left_bracket_kind) _ _ _ _ (no_kind is_word (kind ts) left_bracket_kind h.0.0 refl) (if_yes (is_word (kind ts)) _ _ _ _ h.0.0
       (past_here (ap (λ (o : Span). ident_name o (text ts)) (first_at ts m s h.0.3 h.1) ∙ ap (λ o. ident_name s o) h.0.1) h.0.3))
@@ -75,7 +75,7 @@ module _ (z d : ℕ) (f : Finds z d) (p : Bool) (c : Code) where
   key_found (number_lit s v w) ts m k sz g e y eq h = rw h.3.0 (literal_found inner c ts k (λ x. Unit {0}) _ (number_lit s v w) m (number_read y s v w ts m h) h.3.2)
   key_found (big_int_lit s b x w) ts m k sz g e y eq h = rw h.3.0 (literal_found inner c ts k (λ x. Unit {0}) _ (big_int_lit s b x w) m (big_int_read y s b x w ts m h) h.3.2)
   key_found (computed_prop_name s x) ts m k sz g e y eq h = if_yes (eqb (kind ts) left_bracket_kind) _ _ _ _ (eq-eqb (kind ts) left_bracket_kind h.2.0)
-      (computed_found inner c ts k x ts k (d < reach x) assignment_level s x h.0 h.1 m (d < reach x) h.2.2 (λ j. f x p (with_in c) 2 h.0 h.1 j (omega (arith, sz)) g (subst (λ (o : Code). Spells x o h.0 h.1) eq h.3.1) (omega arith) (omega arith) two_asked h.3.0 (closed_by (with_in c) (ends x) 2 10 h.1 h.4.0 refl refl (omega arith))) (λ u. u) h.4.0 h.4.2 h.5)
+      (computed_found inner c ts k x ts k (d < reach x) assignment_level s x h.0 h.1 m (d < reach x) h.2.2 (λ j. f x p (with_in c) 2 h.0 h.1 j (omega (arith, sz)) g (subst (λ (o : Code). Produces x o h.0 h.1) eq h.3.1) (omega arith) (omega arith) two_asked h.3.0 (closed_by (with_in c) (ends x) 2 10 h.1 h.4.0 refl refl (omega arith))) (λ u. u) h.4.0 h.4.2 h.5)
   key_found _ ts m k sz g e y eq h = absurd (true≢false (sym e))
 
   -- ---- properties
@@ -88,7 +88,7 @@ module _ (z d : ℕ) (f : Finds z d) (p : Bool) (c : Code) where
   abbrev pub Plain : Input → Type 0
   Plain ts = (is_word (kind ts) ≡ false) ⊎ (plain_next (kind2 ts) ≡ true)
 
-  pub plain_prop : (ts : Input) (k : List ℕ) (V : Tree × Stand Input → Type 0) (Q : Type 0) → begins_key (kind ts) ≡ true → Plain ts → Reads (from ts k) (key_by lm inner c (from ts k) >>= λ x. prop_rest lm inner c (from ts k) x.0 x.1) V Q → Reads (from ts k) (prop_by lm inner c (from ts k)) V Q
+  pub plain_prop : (ts : Input) (k : List ℕ) (V : Tree × State Input → Type 0) (Q : Type 0) → begins_key (kind ts) ≡ true → Plain ts → Reads (from ts k) (key_by lm inner c (from ts k) >>= λ x. prop_rest lm inner c (from ts k) x.0 x.1) V Q → Reads (from ts k) (prop_by lm inner c (from ts k)) V Q
   unfolding prop_by
   plain_prop ts k V Q b a y = if_no (eqb (kind ts) dot_dot_dot_kind) _ _ V Q (no_kind begins_key (kind ts) dot_dot_dot_kind b refl) (if_no (eqb (kind ts) mul_kind) _ _ V Q (no_kind begins_key (kind ts) mul_kind b refl)
       (if_no (is_async_head lm inner (from ts k)) _ _ V Q (⊎_elim (λ w. and_left (kind ts == async_kind) _ (no_word async_kind w refl)) (λ w. and_right (kind ts == async_kind) _ (and_left (starts_key (kind2 ts) || (kind2 ts == mul_kind)) _ (or_from (starts_key (kind2 ts)) _ (no_key w) (no_star w)))) a)
@@ -125,11 +125,11 @@ module _ (z d : ℕ) (f : Finds z d) (p : Bool) (c : Code) where
   divides_kind P b h g m (inr q) = subst (λ (n : ℕ). P n ≡ b) (sym q) g
 
   -- a word that is a key, with what follows it
-  word_key : (ts : Input) (k : List ℕ) (V : Tree × Stand Input → Type 0) (Q : Type 0) → is_word (kind ts) ≡ true → Reads (from ts k) (prop_rest lm inner c (from ts k) (ident_name (first_span ts) (text ts)) (from (rest ts) k)) V Q → Reads (from ts k) (key_by lm inner c (from ts k) >>= λ x. prop_rest lm inner c (from ts k) x.0 x.1) V Q
+  word_key : (ts : Input) (k : List ℕ) (V : Tree × State Input → Type 0) (Q : Type 0) → is_word (kind ts) ≡ true → Reads (from ts k) (prop_rest lm inner c (from ts k) (ident_name (first_span ts) (text ts)) (from (rest ts) k)) V Q → Reads (from ts k) (key_by lm inner c (from ts k) >>= λ x. prop_rest lm inner c (from ts k) x.0 x.1) V Q
   unfolding key_by
   word_key ts k V Q w y = rw (no_kind is_word (kind ts) left_bracket_kind w refl, w) y
 
-  pub short_prop : (s : Span) (n : List ℕ) (ts m : Input) (k : List ℕ) (Q : Type 0) (y : Code) → IsName c ts → Spells (ident s n) y ts m → Divides m → Reads (from ts k) (prop_by lm inner c (from ts k)) (Is (ident s n) m) Q
+  pub short_prop : (s : Span) (n : List ℕ) (ts m : Input) (k : List ℕ) (Q : Type 0) (y : Code) → IsName c ts → Produces (ident s n) y ts m → Divides m → Reads (from ts k) (prop_by lm inner c (from ts k)) (Is (ident s n) m) Q
   unfolding prop_rest
   short_prop s n ts m k Q y is h v = plain_prop ts k (Is (ident s n) m) Q (or_left (is_word (kind ts)) _ h.0.0) (inr (subst (λ (o : Input). plain_next (kind o) ≡ true) (sym h.0.5) (divides_kind plain_next true refl refl m v))) (word_key ts k (Is (ident s n) m) Q h.0.0
       (if_no (eqb (kind (rest ts)) colon_kind) _ _ _ _ (no colon_kind refl refl) (if_no (eqb (kind (rest ts)) left_paren_kind) _ _ _ _ (no left_paren_kind refl refl)
@@ -138,7 +138,7 @@ module _ (z d : ℕ) (f : Finds z d) (p : Bool) (c : Code) where
       no : (x : ℕ) → eqb comma_kind x ≡ false → eqb right_brace_kind x ≡ false → eqb (kind (rest ts)) x ≡ false
       no x a b = subst (λ (y : Input). eqb (kind y) x ≡ false) (sym h.0.5) (divides_kind (λ y. eqb y x) false a b m v)
 
-  pub cover_prop : (s t : Span) (n : List ℕ) (e : Tree) (ts a b m : Input) (k : List ℕ) → size e < z → Covered e → (y : Code) → IsName c ts → Spells (ident t n) y ts a → kind a ≡ assign_kind → rest a ≡ b → 2 ≤ level e → Spells e (coded p (with_in c)) b m → s ≡ span (lo ts) m.last → Divides m
+  pub cover_prop : (s t : Span) (n : List ℕ) (e : Tree) (ts a b m : Input) (k : List ℕ) → size e < z → Covered e → (y : Code) → IsName c ts → Produces (ident t n) y ts a → kind a ≡ assign_kind → rest a ≡ b → 2 ≤ level e → Produces e (coded p (with_in c)) b m → s ≡ span (lo ts) m.last → Divides m
       → Reads (from ts k) (prop_by lm inner c (from ts k)) (Is (assign_prop s (ident t n) e) m) (d < reach e)
   unfolding prop_rest
   cover_prop s t n e ts a b m k sz g y is h q r le w sp v = plain_prop ts k (Is (assign_prop s (ident t n) e) m) (d < reach e) (or_left (is_word (kind ts)) _ h.0.0) (inr (subst (λ (o : Input). plain_next (kind o) ≡ true) (sym h.0.5) (subst (λ (o : ℕ). plain_next o ≡ true) (sym q) refl)))
@@ -151,7 +151,7 @@ module _ (z d : ℕ) (f : Finds z d) (p : Bool) (c : Code) where
       no : (x : ℕ) → eqb assign_kind x ≡ false → eqb (kind (rest ts)) x ≡ false
       no x y = subst (λ (i : Input). eqb (kind i) x ≡ false) (sym h.0.5) (subst (λ (i : ℕ). eqb i x ≡ false) (sym q) y)
 
-  pub prop_found : Deep z d → (x : Tree) (ts m : Input) (k : List ℕ) → size x < z → Covered x → is_prop x ≡ true → Spells x (coded p c) ts m → Divides m → Reads (from ts k) (prop_by lm inner c (from ts k)) (Is x m) (d < reach x)
+  pub prop_found : Deep z d → (x : Tree) (ts m : Input) (k : List ℕ) → size x < z → Covered x → is_prop x ≡ true → Produces x (coded p c) ts m → Divides m → Reads (from ts k) (prop_by lm inner c (from ts k)) (Is x m) (d < reach x)
   unfolding prop_rest prop_by
   prop_found w (ident s n) ts m k sz g e h v = short_prop s n ts m k _ (coded p c) (h.0.0, h.0.1, h.0.2) h v
   prop_found w (assign_prop s (ident t n) e) ts m k sz g q h v = cover_prop s t n e ts h.0 h.1 m k (omega arith) g.1 (coded p c) (h.2.1.0.0, h.2.1.0.1, h.2.1.0.2) h.2.1 h.3.0 h.3.2 h.4.0 h.4.1 h.5 v
@@ -175,7 +175,7 @@ module _ (z d : ℕ) (f : Finds z d) (p : Bool) (c : Code) where
 
   -- ---- objects
 
-  begins_prop : (x : Tree) (ts m : Input) → Covered x → is_prop x ≡ true → Spells x (coded p c) ts m → eqb (kind ts) right_brace_kind ≡ false
+  begins_prop : (x : Tree) (ts m : Input) → Covered x → is_prop x ≡ true → Produces x (coded p c) ts m → eqb (kind ts) right_brace_kind ≡ false
   begins_prop (ident s n) ts m g e h = no_kind is_word (kind ts) right_brace_kind h.0.0 refl
   begins_prop (assign_prop s (ident t n) x) ts m g e h = no_kind is_word (kind ts) right_brace_kind h.2.1.0.0 refl
   begins_prop (assign_prop s k x) ts m g e h = absurd (true≢false (sym h.2.0))
@@ -188,7 +188,7 @@ module _ (z d : ℕ) (f : Finds z d) (p : Bool) (c : Code) where
   begins_prop (method_prop s x b) ts m g e h = method_begins s x b (coded p c) ts m h
   begins_prop _ ts m g e h = absurd (true≢false (sym e))
 
-  object_loop : Deep z d → (xs : Trees) (acc : List Tree) (b : Bool) (ts r : Input) (k : List ℕ) (n : ℕ) → sizes xs < z → CoveredAll xs → Listed false (Sorted is_prop (coded p c)) (coded p c) right_brace_kind (parts xs) ts r → reaches xs ≤ n
+  object_loop : Deep z d → (xs : Trees) (acc : List Tree) (b : Bool) (ts r : Input) (k : List ℕ) (n : ℕ) → sizes xs < z → CoveredAll xs → Listed false (Sorted is_prop (coded p c)) (coded p c) right_brace_kind (children xs) ts r → reaches xs ≤ n
       → Loops (prop_step lm inner c) (record { items = acc; comma = b }) ts k (Has (acc ++ unpack xs) r) (d < n)
   unfolding prop_step after_element
   object_loop dp none acc b ts r k n sz g h le = loop_end _ _ (record { items = acc; comma = b }) ts r k ⊥ _ _ (if_yes (eqb (kind ts) right_brace_kind) _ _ _ _ (eq-eqb (kind ts) right_brace_kind h.0) (past_here refl h.2)) (λ u. absurd u) (λ l. (sym (append-nil acc), refl))
@@ -204,7 +204,7 @@ module _ (z d : ℕ) (f : Finds z d) (p : Bool) (c : Code) where
       (λ l. (ap (λ ys. acc ++ (x ∷ ys)) (sym (no_more xs v.0)), refl)))
       h.2
 
-  pub object_found : Deep z d → (lev : ℕ) (s : Span) (xs : Trees) (ts m r : Input) (k : List ℕ) {Q : Type 0} → sizes xs < z → CoveredAll xs → kind ts ≡ left_brace_kind → rest ts ≡ m → Listed false (Sorted is_prop (coded p c)) (coded p c) right_brace_kind (parts xs) m r → s ≡ span (lo ts) r.last → (d < reaches xs → Q)
+  pub object_found : Deep z d → (lev : ℕ) (s : Span) (xs : Trees) (ts m r : Input) (k : List ℕ) {Q : Type 0} → sizes xs < z → CoveredAll xs → kind ts ≡ left_brace_kind → rest ts ≡ m → Listed false (Sorted is_prop (coded p c)) (coded p c) right_brace_kind (children xs) m r → s ≡ span (lo ts) r.last → (d < reaches xs → Q)
       → Reads (from ts k) (prefix_by lm inner c lev (from ts k)) (Is (object_lit s xs) r) Q
   unfolding prefix_by object_by
   object_found dp lev s xs ts m r k {Q = Q} sz g e q h sp i = rw e (then_noted ts m k (iterate (bound lm) (prop_step lm inner c) no_elements) _ _ (Has (unpack xs) r) (d < reaches xs) (Is (object_lit s xs) r) Q (λ u. omega (arith, e, u)) (λ u. omega (arith, e, u)) q

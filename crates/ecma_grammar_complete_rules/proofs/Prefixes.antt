@@ -9,14 +9,14 @@ use Rattle.ecma_syntax.specs.Input.{Input, Code, kind, kind2, brk, brk2, lo, tex
 use Rattle.ecma_syntax.specs.Operators.{assignment_level, unary_level, between}
 use Rattle.ecma_syntax.specs.Shape.{level}
 use Rattle.ecma_grammar.specs.Expressions.{is_unary_op, is_update_op}
-use Rattle.ecma_reading.specs.Source.{Fault, ◌>>=◌, unexpected, Stand, Inner, eat_word, name}
+use Rattle.ecma_reading.specs.Source.{Fault, ◌>>=◌, unexpected, State, Inner, eat_word, name}
 use Rattle.ecma_reading.specs.Expressions.{literal, literal_by, is_unary, prefix_by, keyword_by, word_by, async_by, ident_end, fixed, unary_by, update_by, await_by, arrows_at}
 use Rattle.ecma_grammar_complete_base.proofs.Yields.{lm, from, Is, then_is, then_word, then_name, IsName, named, Reads, here, past_here, ended, if_no, if_yes, then_past, after_one}
 use Rattle.ecma_grammar_complete_base.proofs.Levels.{sober, arrowed, calm_at}
 use Rattle.ecma_grammar_complete_base.proofs.Trees.{by_unary, by_update, no_kind}
 
 -- a name is read as a word
-module _ (inner : Inner Input) (c : Code) (lev : ℕ) (ts : Input) (k : List ℕ) (V : Tree × Stand Input → Type 0) (Q : Type 0) where
+module _ (inner : Inner Input) (c : Code) (lev : ℕ) (ts : Input) (k : List ℕ) (V : Tree × State Input → Type 0) (Q : Type 0) where
   pub named_word : IsName c ts → Reads (from ts k) (word_by lm inner c lev (from ts k)) V Q → Reads (from ts k) (prefix_by lm inner c lev (from ts k)) V Q
   unfolding prefix_by keyword_by
   named_word n y =
@@ -35,14 +35,14 @@ module _ (inner : Inner Input) (c : Code) (lev : ℕ) (ts : Input) (k : List ℕ
       await_off true false x h = refl
       await_off false b x h = refl
 
-module _ (inner : Inner Input) (c : Code) (ts : Input) (k : List ℕ) (V : Tree × Stand Input → Type 0) (Q : Type 0) where
+module _ (inner : Inner Input) (c : Code) (ts : Input) (k : List ℕ) (V : Tree × State Input → Type 0) (Q : Type 0) where
   -- ---- literals
 
   pub literal_found : (t : Tree) (r : Input) → literal (kind ts) (content ts) (first_span ts) ≡ Some t → rest ts ≡ r → Reads (from ts k) (literal_by lm inner (from ts k)) (Is t r) Q
   unfolding literal_by
   literal_found t r e q = rw e (past_here refl q)
 
-module _ (inner : Inner Input) (c : Code) (lev : ℕ) (ts : Input) (k : List ℕ) (V : Tree × Stand Input → Type 0) (Q : Type 0) where
+module _ (inner : Inner Input) (c : Code) (lev : ℕ) (ts : Input) (k : List ℕ) (V : Tree × State Input → Type 0) (Q : Type 0) where
   pub prefix_str : kind ts ≡ str_kind → Reads (from ts k) (literal_by lm inner (from ts k)) V Q → Reads (from ts k) (prefix_by lm inner c lev (from ts k)) V Q
   unfolding prefix_by
   prefix_str e y = rw e y

@@ -7,10 +7,10 @@ use Rattle.ecma_tree.specs.Tree.{Tree, Trees, none, more, pack, unpack, import_d
 use Rattle.ecma_syntax.specs.Input.{Input, Code, kind, kind2, brk, brk2, lo, span, rest, is_word, barred, with_in, TakesWord}
 use Rattle.ecma_syntax.specs.Operators.{assignment_level, starts_key, source_end, plain_end, goes_on}
 use Rattle.ecma_syntax.specs.Shape.{ends, is_absent, is_string, is_prop, is_attribute_key, are_attributes, is_attributes, export_name}
-use Rattle.ecma_grammar.specs.Parts.{is_ident, part, Sorted, Listed, Ends}
+use Rattle.ecma_grammar.specs.Children.{is_ident, child, Sorted, Listed, Ends}
 use Rattle.ecma_grammar.specs.Modules.{ExportName, Source}
-use Rattle.ecma_grammar.specs.Grammar.{Spells, parts}
-use Rattle.ecma_reading.specs.Source.{◌>>=◌, Stand, iterate, bound}
+use Rattle.ecma_grammar.specs.Grammar.{Produces, children}
+use Rattle.ecma_reading.specs.Source.{◌>>=◌, State, iterate, bound}
 use Rattle.ecma_reading.specs.Expressions.{no_elements, key_by, prop_by, prop_rest, prop_step, after_element, object_by, is_async_head, is_accessor}
 use Rattle.ecma_reading.specs.Modules.{string_by, export_name_by, local_by, attributes_by, source_by}
 use Rattle.ecma_grammar_complete_base.proofs.Yields.{lm, from, coded, first_at, Reads, Is, then_is, then_past, then_eat, then_word, then_any, then_noted, here, past_here, if_no, if_yes, Loops, loop_on, loop_end, looped}
@@ -105,26 +105,26 @@ AttributeWord c m n = TakesWord c with_kind m n ⊎ ((brk m ≡ false) × TakesW
 module _ (z : Nested) (p : Bool) (c : Code) where
   -- ---- names
 
-  pub string_found : (t : Tree) (ts r : Input) (k : List ℕ) (Q : Type 0) → is_string t ≡ true → Spells t (coded p c) ts r → Reads (from ts k) (string_by lm z.inner (from ts k)) (Is t r) Q
+  pub string_found : (t : Tree) (ts r : Input) (k : List ℕ) (Q : Type 0) → is_string t ≡ true → Produces t (coded p c) ts r → Reads (from ts k) (string_by lm z.inner (from ts k)) (Is t r) Q
   unfolding string_by
   string_found (str_lit s u w) ts r k Q e h = if_yes (kind ts == str_kind) _ _ _ _ (eq-eqb (kind ts) str_kind h.3.0) (literal_found z.inner c ts k (λ x. Unit {0}) Q (str_lit s u w) r (str_read (coded p c) s u w ts r h) h.3.2)
   string_found _ ts r k Q e h = absurd (true≢false (sym e))
 
   -- a word or a string
-  pub export_name_found : (t : Tree) (ts r : Input) (k : List ℕ) (Q : Type 0) → ExportName (coded p c) (export_name t) (part t (λ y. Spells t y)) ts r → Reads (from ts k) (export_name_by lm z.inner (from ts k)) (Is t r) Q
+  pub export_name_found : (t : Tree) (ts r : Input) (k : List ℕ) (Q : Type 0) → ExportName (coded p c) (export_name t) (child t (λ y. Produces t y)) ts r → Reads (from ts k) (export_name_by lm z.inner (from ts k)) (Is t r) Q
   unfolding export_name_by
   export_name_found (ident s n) ts r k Q h = if_no (kind ts == str_kind) _ _ _ _ (no_kind is_word (kind ts) str_kind h.0.0 refl) (then_any ts r n k _ _ Q h.0.0 h.0.1 h.0.3 (here (ap (λ (y : Span). ident y n) (first_at ts r s h.0.3 h.1))))
   export_name_found (str_lit s u w) ts r k Q h = if_yes (kind ts == str_kind) _ _ _ _ (eq-eqb (kind ts) str_kind h.1.3.0) (literal_found z.inner c ts k (λ x. Unit {0}) Q (str_lit s u w) r (str_read (coded p c) s u w ts r h.1) h.1.3.2)
   export_name_found _ ts r k Q h = absurd (true≢false (sym h.0))
 
-  pub local_found : (t : Tree) (ts r : Input) (k : List ℕ) (Q : Type 0) → is_ident t ≡ true → Spells t (coded p c) ts r → Reads (from ts k) (local_by lm z.inner c (from ts k)) (Is t r) Q
+  pub local_found : (t : Tree) (ts r : Input) (k : List ℕ) (Q : Type 0) → is_ident t ≡ true → Produces t (coded p c) ts r → Reads (from ts k) (local_by lm z.inner c (from ts k)) (Is t r) Q
   unfolding local_by
   local_found t ts r k Q i h = then_ident p c t ts r k _ _ Q i h (λ x e. here (sym e))
 
   -- ---- attributes
 
   -- no method, getter or setter starts with a word before a colon, nor with no word
-  plain_prop : (ts : Input) (k : List ℕ) (V : Tree × Stand Input → Type 0) (Q : Type 0) → begins_key (kind ts) ≡ true → (is_word (kind ts) ≡ false) ⊎ (kind2 ts ≡ colon_kind) → Reads (from ts k) (key_by lm z.inner c (from ts k) >>= λ x. prop_rest lm z.inner c (from ts k) x.0 x.1) V Q → Reads (from ts k) (prop_by lm z.inner c (from ts k)) V Q
+  plain_prop : (ts : Input) (k : List ℕ) (V : Tree × State Input → Type 0) (Q : Type 0) → begins_key (kind ts) ≡ true → (is_word (kind ts) ≡ false) ⊎ (kind2 ts ≡ colon_kind) → Reads (from ts k) (key_by lm z.inner c (from ts k) >>= λ x. prop_rest lm z.inner c (from ts k) x.0 x.1) V Q → Reads (from ts k) (prop_by lm z.inner c (from ts k)) V Q
   unfolding prop_by
   plain_prop ts k V Q b a y = if_no (kind ts == dot_dot_dot_kind) _ _ V Q (no_kind begins_key (kind ts) dot_dot_dot_kind b refl) (if_no (kind ts == mul_kind) _ _ V Q (no_kind begins_key (kind ts) mul_kind b refl)
       (if_no (is_async_head lm z.inner (from ts k)) _ _ V Q (head async_kind refl _ (λ e. subst (λ (n : ℕ). ((starts_key n || (n == mul_kind)) && not (brk2 ts)) ≡ false) (sym e) refl) a)
@@ -137,7 +137,7 @@ module _ (z : Nested) (p : Bool) (c : Code) where
       head n w b f (inl e) = and_left (eqb (kind ts) n) b (ne_eqb (kind ts) n (λ q. true≢false (sym w ∙ ap is_word (sym q) ∙ e)))
       head n w b f (inr e) = and_right (eqb (kind ts) n) b (f e)
 
-  keyed : (s : Span) (x v : Tree) (ts m : Input) (k : List ℕ) → Within z.Covered x → within z.reach x ≡ 0 → z.Covered v → Spells (key_value_prop s x v) (coded p c) ts m → Divides m → Reads (from ts k) (prop_by lm z.inner c (from ts k)) (Is (key_value_prop s x v) m) (z.depth < z.reach v)
+  keyed : (s : Span) (x v : Tree) (ts m : Input) (k : List ℕ) → Within z.Covered x → within z.reach x ≡ 0 → z.Covered v → Produces (key_value_prop s x v) (coded p c) ts m → Divides m → Reads (from ts k) (prop_by lm z.inner c (from ts k)) (Is (key_value_prop s x v) m) (z.depth < z.reach v)
   unfolding prop_rest
   keyed s x v ts m k w e g h d = let y = key_starts x (coded p c) ts h.0 h.2.0 h.2.1 in
       plain_prop ts k (Is (key_value_prop s x v) m) (z.depth < z.reach v) y.0 (next y.1)
@@ -150,15 +150,15 @@ module _ (z : Nested) (p : Bool) (c : Code) where
       next (inl w) = inr (ap (λ (y : Input). kind y) w.1 ∙ h.3.0)
       next (inr w) = inl w
 
-  attribute_found : (s : Span) (x v : Tree) (ts m : Input) (k : List ℕ) → (is_attribute_key x && is_string v) ≡ true → z.Covered v → Spells (key_value_prop s x v) (coded p c) ts m → Divides m → Reads (from ts k) (prop_by lm z.inner c (from ts k)) (Is (key_value_prop s x v) m) (z.depth < z.reach v)
+  attribute_found : (s : Span) (x v : Tree) (ts m : Input) (k : List ℕ) → (is_attribute_key x && is_string v) ≡ true → z.Covered v → Produces (key_value_prop s x v) (coded p c) ts m → Divides m → Reads (from ts k) (prop_by lm z.inner c (from ts k)) (Is (key_value_prop s x v) m) (z.depth < z.reach v)
   attribute_found s (ident_name t n) v ts m k e g h d = keyed s (ident_name t n) v ts m k tt refl g h d
   attribute_found s (str_lit t u w) v ts m k e g h d = keyed s (str_lit t u w) v ts m k tt refl g h d
   attribute_found s _ v ts m k e g h d = absurd (true≢false (sym e))
 
-  attribute_there : (s : Span) (x v : Tree) (ts m : Input) → Spells (key_value_prop s x v) (coded p c) ts m → eqb (kind ts) right_brace_kind ≡ false
+  attribute_there : (s : Span) (x v : Tree) (ts m : Input) → Produces (key_value_prop s x v) (coded p c) ts m → eqb (kind ts) right_brace_kind ≡ false
   attribute_there s x v ts m h = no_kind begins_key (kind ts) right_brace_kind (key_starts x (coded p c) ts h.0 h.2.0 h.2.1).0 refl
 
-  attributes_loop : (xs : Trees) (acc : List Tree) (b : Bool) (ts r : Input) (k : List ℕ) (n : ℕ) → are_attributes xs ≡ true → Valued z.Covered xs → Listed false (Sorted is_prop (coded p c)) (coded p c) right_brace_kind (parts xs) ts r → valued z.reach xs ≤ n
+  attributes_loop : (xs : Trees) (acc : List Tree) (b : Bool) (ts r : Input) (k : List ℕ) (n : ℕ) → are_attributes xs ≡ true → Valued z.Covered xs → Listed false (Sorted is_prop (coded p c)) (coded p c) right_brace_kind (children xs) ts r → valued z.reach xs ≤ n
       → Loops (prop_step lm z.inner c) (record { items = acc; comma = b }) ts k (Has (acc ++ unpack xs) r) (z.depth < n)
   unfolding prop_step after_element
   attributes_loop none acc b ts r k n a g h le = loop_end _ _ (record { items = acc; comma = b }) ts r k ⊥ _ _ (if_yes (eqb (kind ts) right_brace_kind) _ _ _ _ (eq-eqb (kind ts) right_brace_kind h.0) (past_here refl h.2)) (λ u. absurd u) (λ l. (sym (append-nil acc), refl))
@@ -175,13 +175,13 @@ module _ (z : Nested) (p : Bool) (c : Code) where
       h.2
   attributes_loop (more _ xs) acc b ts r k n a g h le = absurd (true≢false (sym a))
 
-  object_found : (s : Span) (xs : Trees) (ts r : Input) (k : List ℕ) → are_attributes xs ≡ true → Valued z.Covered xs → Spells (object_lit s xs) (coded p c) ts r → Reads (from ts k) (object_by lm z.inner c (from ts k)) (Is (object_lit s xs) r) (z.depth < valued z.reach xs)
+  object_found : (s : Span) (xs : Trees) (ts r : Input) (k : List ℕ) → are_attributes xs ≡ true → Valued z.Covered xs → Produces (object_lit s xs) (coded p c) ts r → Reads (from ts k) (object_by lm z.inner c (from ts k)) (Is (object_lit s xs) r) (z.depth < valued z.reach xs)
   unfolding object_by
   object_found s xs ts r k a g h = then_noted ts h.0 k (iterate (bound lm) (prop_step lm z.inner c) no_elements) _ _ (Has (unpack xs) r) (z.depth < valued z.reach xs) (Is (object_lit s xs) r) (z.depth < valued z.reach xs) (λ u. omega (arith, h.1.0, u)) (λ u. omega (arith, h.1.0, u)) h.1.2
       (looped (prop_step lm z.inner c) no_elements h.0 k (Has (unpack xs) r) (z.depth < valued z.reach xs) (attributes_loop xs [] false h.0 r k (valued z.reach xs) a g h.2 (omega arith))) (λ u. u)
       (λ x v. (ap (λ ys. object_lit (span (lo ts) x.1.source.last) (pack ys)) v.0 ∙ ap (λ ys. object_lit (span (lo ts) x.1.source.last) ys) (pack_unpack xs) ∙ ap (λ (z : Input). object_lit (span (lo ts) z.last) xs) v.1 ∙ ap (λ z. object_lit z xs) (sym h.3), v.1))
 
-  attributes_found : (w : Tree) (ts r : Input) (k : List ℕ) → is_attributes w ≡ true → Attributed z.Covered w → Spells w (coded p c) ts r → Reads (from ts k) (attributes_by lm z.inner c (from ts k)) (Is w r) (z.depth < attributed z.reach w)
+  attributes_found : (w : Tree) (ts r : Input) (k : List ℕ) → is_attributes w ≡ true → Attributed z.Covered w → Produces w (coded p c) ts r → Reads (from ts k) (attributes_by lm z.inner c (from ts k)) (Is w r) (z.depth < attributed z.reach w)
   unfolding attributes_by
   attributes_found (object_lit s xs) ts r k a g h = if_yes (kind ts == left_brace_kind) _ _ _ _ (eq-eqb (kind ts) left_brace_kind h.1.0)
       (then_is (object_by lm z.inner c (from ts k)) _ (object_lit s xs) r (z.depth < valued z.reach xs) _ _ (object_found s xs ts r k a g h) (λ u. u) (λ j. if_yes (are_attributes xs) _ _ _ _ a (here refl)))
@@ -189,7 +189,7 @@ module _ (z : Nested) (p : Bool) (c : Code) where
 
   -- ---- a module's name, its attributes, and the end
 
-  pub source_found : (f w : Tree) (ts r : Input) (k : List ℕ) → Attributed z.Covered w → Source (coded p c) (part f (λ y. Spells f y)) (part w (λ y. Spells w y)) ts r
+  pub source_found : (f w : Tree) (ts r : Input) (k : List ℕ) → Attributed z.Covered w → Source (coded p c) (child f (λ y. Produces f y)) (child w (λ y. Produces w y)) ts r
       → Reads (from ts k) (source_by lm z.inner c (from ts k)) (Is (record { src = f; with_ = w }) r) (z.depth < attributed z.reach w)
   unfolding source_by
   source_found f w ts r k g h = then_is (string_by lm z.inner (from ts k)) _ f h.0 ⊥ _ _ (string_found f ts h.0 k ⊥ h.1.0 h.1.1) (λ u. absurd u) (λ j. by_cases (is_absent w) _ _ _ h.2

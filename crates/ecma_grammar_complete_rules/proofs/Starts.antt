@@ -8,11 +8,11 @@ use Rattle.ecma_tree.specs.Tree.{Tree, Trees, none, more, block_stmt, empty_stmt
 use Rattle.ecma_syntax.specs.Input.{Input, Code, kind, rest, is_word, no_name, always_reserved, operator_word, barred, assigning, text, lo, span, first_span}
 use Rattle.ecma_syntax.specs.Operators.{between, may_name, operates, is_assign_op}
 use Rattle.ecma_syntax.specs.Shape.{level, is_binding, is_place, is_bound_name, is_target_expr, is_simple, is_structured, is_target, is_chain, is_private, is_item, fits_left}
-use Rattle.ecma_grammar.specs.Parts.{is_ident, Part, part, Expr}
+use Rattle.ecma_grammar.specs.Children.{is_ident, Child, child, Expr}
 use Rattle.ecma_grammar.specs.Expressions.{is_unary_op, is_update_op}
 use Rattle.ecma_grammar.specs.Statements.{is_var_word}
 use Rattle.ecma_grammar.specs.Functions.{ArrowHead, ArrowParameters}
-use Rattle.ecma_grammar.specs.Grammar.{Spells, parts}
+use Rattle.ecma_grammar.specs.Grammar.{Produces, children}
 use Rattle.ecma_grammar_complete_base.proofs.Yields.{IsName}
 use Rattle.ecma_grammar_complete_base.proofs.Levels.{binary_cases, binary_four, operated, fits}
 use Rattle.ecma_grammar_complete_base.proofs.Trees.{by_unary, by_update}
@@ -251,25 +251,25 @@ tame_assign op h = let y = and_parts (leb 60 op) (leb op 75) h in let a = leb-tr
     over : 60 ≤ op → op ≤ 75 → is_word op ≡ false
     over a b = ⊎_elim (λ (h : is_word op ≡ true). let w : 80 ≤ op = leb-true 80 op h in absurd (omega arith)) (λ h. h) (cases_Bool (is_word op))
 
-arrow_opening : (i : Bool) (ps : Trees) (c : Code) {t : Tree} (ts m r : Input) → ArrowHead i c (parts ps) ts m → Opening c.context t ts r
+arrow_opening : (i : Bool) (ps : Trees) (c : Code) {t : Tree} (ts m r : Input) → ArrowHead i c (children ps) ts m → Opening c.context t ts r
 arrow_opening true ps c {t = t} ts m r h = plainly c.context ts r async_kind h.2.0.0 refl refl refl refl
 arrow_opening false ps c {t = t} ts m r h = by_params ps h.3
   where
     here : kind ts ≡ left_paren_kind → Opening c.context t ts r
     here e = plainly c.context ts r left_paren_kind e refl refl refl refl
 
-    named : (x : Tree) → (is_bound_name x ≡ true) × Spells x c h.0 h.1 → Opening c.context t ts r
+    named : (x : Tree) → (is_bound_name x ≡ true) × Produces x c h.0 h.1 → Opening c.context t ts r
     named (binding_ident q (ident u y)) z = subst (λ (w : Input). Opening c.context t w r) (sym h.2)
         (name_opening c h.0 h.1 r (z.1.1.0.0, z.1.1.0.1, z.1.1.0.2) z.1.1.0.5 (inr (at tame h.1 arrow_kind h.5.0 refl)))
     named (binding_ident q _) z = absurd z.1
     named _ z = absurd (true≢false (sym z.0))
 
-    by_params : (ps : Trees) → ArrowParameters c (parts ps) h.0 h.1 → Opening c.context t ts r
+    by_params : (ps : Trees) → ArrowParameters c (children ps) h.0 h.1 → Opening c.context t ts r
     by_params none (inl z) = absurd z
     by_params (more x xs) (inl z) = named x z.1
     by_params ps (inr z) = here (ap (λ (w : Input). kind w) h.2 ∙ z.1.0)
 
-pub opening : (t : Tree) (c : Code) (ts r : Input) → opener t ≡ true → Spells t c ts r → Opening c.context t ts r
+pub opening : (t : Tree) (c : Code) (ts r : Input) → opener t ≡ true → Produces t c ts r → Opening c.context t ts r
 opening (this_expr s) c ts r l h = plainly c.context ts r this_kind h.0.0 refl refl refl refl
 opening (null_lit s) c ts r l h = plainly c.context ts r null_kind h.0.0 refl refl refl refl
 opening (bool_lit s true) c ts r l h = plainly c.context ts r true_kind h.0.0 refl refl refl refl
@@ -336,7 +336,7 @@ opening _ c ts r l h = absurd (true≢false (sym l))
 -- ---- names
 
 -- A name as a part of a node: where it stands, how it is spelled, and what follows it.
-pub ident_is : (t : Tree) (c : Code) (ts r : Input) → is_ident t ≡ true → Spells t c ts r → (x : List ℕ) × (t ≡ ident (first_span ts) x) × IsName c ts × (text ts ≡ x) × (rest ts ≡ r)
+pub ident_is : (t : Tree) (c : Code) (ts r : Input) → is_ident t ≡ true → Produces t c ts r → (x : List ℕ) × (t ≡ ident (first_span ts) x) × IsName c ts × (text ts ≡ x) × (rest ts ≡ r)
 ident_is (ident q x) c ts r i h = (x, ap (λ (y : Span). ident y x) (h.1 ∙ sym (ap (λ (z : Input). span (lo ts) z.last) h.0.5)), (h.0.0, h.0.1, h.0.2), h.0.3, h.0.5)
 ident_is _ c ts r i h = absurd (true≢false (sym i))
 
@@ -346,7 +346,7 @@ ident_is _ c ts r i h = absurd (true≢false (sym i))
 abbrev pub starts_binding : ℕ → Bool
 starts_binding k = may_name k || ((k == left_bracket_kind) || (k == left_brace_kind))
 
-pub binding_starts : (t : Tree) (c : Code) (ts r : Input) → is_binding t ≡ true → Spells t c ts r → starts_binding (kind ts) ≡ true
+pub binding_starts : (t : Tree) (c : Code) (ts r : Input) → is_binding t ≡ true → Produces t c ts r → starts_binding (kind ts) ≡ true
 binding_starts (binding_ident s (ident q x)) c ts r i h = or_left (may_name (kind ts)) _ (name_may c ts (h.1.0.0, h.1.0.1, h.1.0.2))
 binding_starts (binding_ident s _) c ts r i h = absurd h
 binding_starts (array_pat s xs) c ts r i h = subst (λ (k : ℕ). starts_binding k ≡ true) (sym h.1.0) refl
@@ -373,7 +373,7 @@ var_opens k h = ⊎_elim (λ (e : eqb k var_kind ≡ true). of var_kind e refl) 
     of : (n : ℕ) → eqb k n ≡ true → opens_item n ≡ true → opens_item k ≡ true
     of n e h = subst (λ (k : ℕ). opens_item k ≡ true) (sym (eqb-true k n e)) h
 
-pub item_opens : (t : Tree) (c : Code) (ts r : Input) → is_item t ≡ true → Spells t c ts r → opens_item (kind ts) ≡ true
+pub item_opens : (t : Tree) (c : Code) (ts r : Input) → is_item t ≡ true → Produces t c ts r → opens_item (kind ts) ≡ true
 item_opens (block_stmt s ss) c ts r i h = at opens_item ts left_brace_kind h.1.0 refl
 item_opens (empty_stmt s) c ts r i h = at opens_item ts semicolon_kind h.0.0 refl
 item_opens (debugger_stmt s) c ts r i h = at opens_item ts debugger_kind h.1.0 refl
@@ -414,7 +414,7 @@ no_import : (ts : Input) (k : ℕ) → kind ts ≡ k → eqb k import_kind ≡ f
 no_import ts k q n e = absurd (true≢false (sym (eq-eqb k import_kind (sym q ∙ e)) ∙ n))
 
 -- a statement that starts with `import` is a call or `import.meta`
-pub item_imports : (t : Tree) (c : Code) (ts r : Input) → is_item t ≡ true → Spells t c ts r → kind ts ≡ import_kind → called (kind (rest ts)) ≡ true
+pub item_imports : (t : Tree) (c : Code) (ts r : Input) → is_item t ≡ true → Produces t c ts r → kind ts ≡ import_kind → called (kind (rest ts)) ≡ true
 item_imports (block_stmt s ss) c ts r i h e = no_import ts left_brace_kind (h.1.0) refl e
 item_imports (empty_stmt s) c ts r i h e = no_import ts semicolon_kind (h.0.0) refl e
 item_imports (debugger_stmt s) c ts r i h e = no_import ts debugger_kind (h.1.0) refl e

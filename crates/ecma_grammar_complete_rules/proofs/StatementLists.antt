@@ -7,11 +7,11 @@ use Rattle.ecma_tree.specs.Tree.{Tree, Trees, none, more, pack, unpack, block_st
 use Rattle.ecma_syntax.specs.Input.{Input, Code, kind, lo, span, rest, in_list, turned_strict, Takes, TakesWord, binding}
 use Rattle.ecma_syntax.specs.Operators.{expression_level}
 use Rattle.ecma_syntax.specs.Shape.{level, ends, is_absent, is_item, is_block, is_catch, is_case, is_default_case, is_use_strict, is_directive, is_binding}
-use Rattle.ecma_grammar.specs.Parts.{By, part, Sorted, Items}
+use Rattle.ecma_grammar.specs.Children.{By, child, Sorted, Items}
 use Rattle.ecma_grammar.specs.Functions.{Body, Closes}
 use Rattle.ecma_grammar.specs.Statements.{Block, ClosesBlock, ClosesCase, Case, Cases}
-use Rattle.ecma_grammar.specs.Grammar.{Spells, parts}
-use Rattle.ecma_reading.specs.Source.{Fault, ◌>>=◌, Stand, Inner, Step, go_on, finished}
+use Rattle.ecma_grammar.specs.Grammar.{Produces, children}
+use Rattle.ecma_reading.specs.Source.{Fault, ◌>>=◌, State, Inner, Step, go_on, finished}
 use Rattle.ecma_reading.specs.Statements.{Body as Gathered, block_step, block_rest, block_by, body_item, body_step, body_by, case_step, case_rest, case_by, cases_step, has_default, switch_by, catch_by, finally_by, try_by, in_parens}
 use Rattle.ecma_grammar_complete_base.proofs.Yields.{lm, from, len, coded, both, Reads, Is, then_is, then_reads, then_eat, then_word, then_past, here, past_here, ended, if_no, if_yes, Loops, loop_on, loop_end, looped}
 use Rattle.ecma_grammar_complete_rules.proofs.Lists.{pack_unpack}
@@ -29,8 +29,8 @@ pub item_follows : (k : ℕ) → opens_item k ≡ true → may_follow k ≡ true
 item_follows k h = ap not (or_from (k == finally_kind) _ (no_item k finally_kind h refl) (no_item k colon_kind h refl))
 
 -- a list of statements up to what closes it
-pub list_follows : (may : Tree → Bool) (close : Code → Input → Input → Type 0) (o : (t : Tree) (c : Code) (m n : Input) → may t ≡ true → Spells t c m n → opens_item (kind m) ≡ true) (f : (c : Code) (m n : Input) → close c m n → may_follow (kind m) ≡ true)
-    → (ss : Trees) (c : Code) (b : Bool) (ts r : Input) → Items may close c b (parts ss) ts r → may_follow (kind ts) ≡ true
+pub list_follows : (may : Tree → Bool) (close : Code → Input → Input → Type 0) (o : (t : Tree) (c : Code) (m n : Input) → may t ≡ true → Produces t c m n → opens_item (kind m) ≡ true) (f : (c : Code) (m n : Input) → close c m n → may_follow (kind m) ≡ true)
+    → (ss : Trees) (c : Code) (b : Bool) (ts r : Input) → Items may close c b (children ss) ts r → may_follow (kind ts) ≡ true
 list_follows may close o f none c b ts r h = f c ts r h
 list_follows may close o f (more s ss) c b ts r h = item_follows (kind ts) (o s (in_list c) ts h.0 h.1 h.2)
 
@@ -41,7 +41,7 @@ case_follows : (c : Code) (m n : Input) → ClosesCase c m n → may_follow (kin
 case_follows c m n h = ⊎_elim (λ q. follows_at m case_kind (eqb-true (kind m) case_kind q) refl) (λ q. ⊎_elim (λ q. follows_at m default_kind (eqb-true (kind m) default_kind q) refl) (λ q. follows_at m right_brace_kind (eqb-true (kind m) right_brace_kind q) refl)
     (or_cases (kind m == default_kind) _ q)) (or_cases (kind m == case_kind) _ h.0)
 
-block_brace : (b : Tree) (c : Code) (ts r : Input) → is_block b ≡ true → Spells b c ts r → kind ts ≡ left_brace_kind
+block_brace : (b : Tree) (c : Code) (ts r : Input) → is_block b ≡ true → Produces b c ts r → kind ts ≡ left_brace_kind
 block_brace (block_stmt s ss) c ts r i h = h.1.0
 block_brace _ c ts r i h = absurd (true≢false (sym i))
 
@@ -52,7 +52,7 @@ strict_directive _ h = absurd (true≢false (sym h))
 module _ (z : Nested) (p : Bool) (c : Code) where
   -- ---- 14.2 blocks
 
-  block_more : (t : Tree) (acc : List Tree) (ts m : Input) (k : List ℕ) → z.Covered t → is_item t ≡ true → Spells t (coded p (in_list c)) ts m → may_follow (kind m) ≡ true
+  block_more : (t : Tree) (acc : List Tree) (ts m : Input) (k : List ℕ) → z.Covered t → is_item t ≡ true → Produces t (coded p (in_list c)) ts m → may_follow (kind m) ≡ true
       → Reads (from ts k) (block_step lm z.inner c acc (from ts k)) (Is (go_on (acc ++ t ∷ [])) m) (z.depth < z.reach t)
   unfolding block_step
   block_more t acc ts m k g i h q = if_no (kind ts == right_brace_kind) _ _ _ _ (no_item (kind ts) right_brace_kind (item_opens t (coded p (in_list c)) ts m i h) refl)
@@ -62,27 +62,27 @@ module _ (z : Nested) (p : Bool) (c : Code) where
   unfolding block_step
   block_end acc ts r k e q = if_yes (kind ts == right_brace_kind) _ _ _ _ (eq-eqb (kind ts) right_brace_kind e) (past_here refl q)
 
-  block_loop : (ss : Trees) (acc : List Tree) (ts r : Input) (k : List ℕ) (b : ℕ) → Each z.Covered ss → Items is_item ClosesBlock (coded p c) false (parts ss) ts r → most z.reach ss ≤ b → Loops (block_step lm z.inner c) acc ts k (Is (acc ++ unpack ss) r) (z.depth < b)
+  block_loop : (ss : Trees) (acc : List Tree) (ts r : Input) (k : List ℕ) (b : ℕ) → Each z.Covered ss → Items is_item ClosesBlock (coded p c) false (children ss) ts r → most z.reach ss ≤ b → Loops (block_step lm z.inner c) acc ts k (Is (acc ++ unpack ss) r) (z.depth < b)
   block_loop none acc ts r k b g h le = loop_end _ _ acc ts r k ⊥ _ _ (block_end acc ts r k h.0 h.2) (λ u. absurd u) (λ l. (sym (append-nil acc), refl))
   block_loop (more t ss) acc ts r k b g h le = loop_on _ _ (acc ++ t ∷ []) ts h.0 k (z.depth < z.reach t) _ _
       (block_more t acc ts h.0 k g.0 h.1 h.2 (list_follows is_item ClosesBlock (λ t c m n i v. item_opens t c m n i v) brace_follows ss (coded p c) false h.0 r h.3)) (λ u. omega arith) (item_cut t (coded p (in_list c)) ts h.0 h.1 h.2)
       (λ l. subst (λ ys. Loops (block_step lm z.inner c) (acc ++ t ∷ []) h.0 l (Is ys r) (z.depth < b)) (append_assoc acc (t ∷ []) (unpack ss)) (block_loop ss (acc ++ t ∷ []) h.0 r l b g.1 h.3 (omega arith)))
 
   -- after its brace
-  pub rest_found : (start : Input) (i : List ℕ) (s : Span) (ss : Trees) (ts r : Input) (k : List ℕ) → Each z.Covered ss → Items is_item ClosesBlock (coded p c) false (parts ss) ts r → s ≡ span (lo start) r.last
+  pub rest_found : (start : Input) (i : List ℕ) (s : Span) (ss : Trees) (ts r : Input) (k : List ℕ) → Each z.Covered ss → Items is_item ClosesBlock (coded p c) false (children ss) ts r → s ≡ span (lo start) r.last
       → Reads (from ts k) (block_rest lm z.inner c (from start i) (from ts k)) (Is (block_stmt s ss) r) (z.depth < most z.reach ss)
   unfolding block_rest
   rest_found start i s ss ts r k g h e = then_is _ _ (unpack ss) r (z.depth < most z.reach ss) _ _ (looped (block_step lm z.inner c) [] ts k (Is (unpack ss) r) _ (block_loop ss [] ts r k (most z.reach ss) g h (omega arith))) (λ u. u)
       (λ j. here (ap (λ (y : Span). block_stmt y (pack (unpack ss))) (sym e) ∙ ap (λ (y : Trees). block_stmt s y) (pack_unpack ss)))
 
-  pub block_found : (b : Tree) (ts r : Input) (k : List ℕ) → is_block b ≡ true → Within z.Covered b → Spells b (coded p c) ts r → Reads (from ts k) (block_by lm z.inner c (from ts k)) (Is b r) (z.depth < within z.reach b)
+  pub block_found : (b : Tree) (ts r : Input) (k : List ℕ) → is_block b ≡ true → Within z.Covered b → Produces b (coded p c) ts r → Reads (from ts k) (block_by lm z.inner c (from ts k)) (Is b r) (z.depth < within z.reach b)
   unfolding block_by
   block_found (block_stmt s ss) ts r k i g h = then_eat left_brace_kind ts h.0 k _ _ _ h.1.0 h.1.2 (rest_found ts k s ss h.0 r k g h.2 h.3)
   block_found _ ts r k i g h = absurd (true≢false (sym i))
 
   -- ---- 14.12 `switch`
 
-  case_more : (t : Tree) (acc : List Tree) (ts m : Input) (k : List ℕ) → z.Covered t → is_item t ≡ true → Spells t (coded p (in_list c)) ts m → may_follow (kind m) ≡ true
+  case_more : (t : Tree) (acc : List Tree) (ts m : Input) (k : List ℕ) → z.Covered t → is_item t ≡ true → Produces t (coded p (in_list c)) ts m → may_follow (kind m) ≡ true
       → Reads (from ts k) (case_step lm z.inner c acc (from ts k)) (Is (go_on (acc ++ t ∷ [])) m) (z.depth < z.reach t)
   unfolding case_step
   case_more t acc ts m k g i h q = let o = item_opens t (coded p (in_list c)) ts m i h in
@@ -93,41 +93,41 @@ module _ (z : Nested) (p : Bool) (c : Code) where
   unfolding case_step
   case_end acc ts r k h = if_yes ((kind ts == case_kind) || ((kind ts == default_kind) || (kind ts == right_brace_kind))) _ _ _ _ h.0 (ended (finished acc, from ts k) (Is (finished acc) r) ⊥ (refl, h.1))
 
-  case_loop : (ss : Trees) (acc : List Tree) (ts r : Input) (k : List ℕ) (b : ℕ) → Each z.Covered ss → Items is_item ClosesCase (coded p c) false (parts ss) ts r → most z.reach ss ≤ b → Loops (case_step lm z.inner c) acc ts k (Is (acc ++ unpack ss) r) (z.depth < b)
+  case_loop : (ss : Trees) (acc : List Tree) (ts r : Input) (k : List ℕ) (b : ℕ) → Each z.Covered ss → Items is_item ClosesCase (coded p c) false (children ss) ts r → most z.reach ss ≤ b → Loops (case_step lm z.inner c) acc ts k (Is (acc ++ unpack ss) r) (z.depth < b)
   case_loop none acc ts r k b g h le = loop_end _ _ acc ts r k ⊥ _ _ (case_end acc ts r k h) (λ u. absurd u) (λ l. (sym (append-nil acc), refl))
   case_loop (more t ss) acc ts r k b g h le = loop_on _ _ (acc ++ t ∷ []) ts h.0 k (z.depth < z.reach t) _ _
       (case_more t acc ts h.0 k g.0 h.1 h.2 (list_follows is_item ClosesCase (λ t c m n i v. item_opens t c m n i v) case_follows ss (coded p c) false h.0 r h.3)) (λ u. omega arith) (item_cut t (coded p (in_list c)) ts h.0 h.1 h.2)
       (λ l. subst (λ ys. Loops (case_step lm z.inner c) (acc ++ t ∷ []) h.0 l (Is ys r) (z.depth < b)) (append_assoc acc (t ∷ []) (unpack ss)) (case_loop ss (acc ++ t ∷ []) h.0 r l b g.1 h.3 (omega arith)))
 
-  case_rested : (start : Input) (i : List ℕ) (s : Span) (e : Tree) (ss : Trees) (m n r : Input) (k : List ℕ) → Each z.Covered ss → kind m ≡ colon_kind → rest m ≡ n → Items is_item ClosesCase (coded p c) false (parts ss) n r → s ≡ span (lo start) r.last
+  case_rested : (start : Input) (i : List ℕ) (s : Span) (e : Tree) (ss : Trees) (m n r : Input) (k : List ℕ) → Each z.Covered ss → kind m ≡ colon_kind → rest m ≡ n → Items is_item ClosesCase (coded p c) false (children ss) n r → s ≡ span (lo start) r.last
       → Reads (from m k) (case_rest lm z.inner c (from start i) e (from m k)) (Is (switch_case s e ss) r) (z.depth < most z.reach ss)
   unfolding case_rest
   case_rested start i s e ss m n r k g o q h w = then_eat colon_kind m n k _ _ _ o q (then_is _ _ (unpack ss) r (z.depth < most z.reach ss) _ _ (looped (case_step lm z.inner c) [] n k (Is (unpack ss) r) _ (case_loop ss [] n r k (most z.reach ss) g h (omega arith))) (λ u. u)
       (λ j. here (ap (λ (y : Span). switch_case y e (pack (unpack ss))) (sym w) ∙ ap (λ (y : Trees). switch_case s e y) (pack_unpack ss))))
 
-  case_default : (s : Span) (ss : Trees) (ts m n r : Input) (k : List ℕ) → Each z.Covered ss → TakesWord (coded p c) default_kind ts m → kind m ≡ colon_kind → rest m ≡ n → Items is_item ClosesCase (coded p c) false (parts ss) n r → s ≡ span (lo ts) r.last
+  case_default : (s : Span) (ss : Trees) (ts m n r : Input) (k : List ℕ) → Each z.Covered ss → TakesWord (coded p c) default_kind ts m → kind m ≡ colon_kind → rest m ≡ n → Items is_item ClosesCase (coded p c) false (children ss) n r → s ≡ span (lo ts) r.last
       → Reads (from ts k) (case_by lm z.inner c (from ts k)) (Is (switch_case s absent ss) r) (z.depth < most z.reach ss)
   unfolding case_by
   case_default s ss ts m n r k g x o q h w = if_yes (kind ts == default_kind) _ _ _ _ (eq-eqb (kind ts) default_kind x.0) (then_word c default_kind ts m k _ _ _ x.0 x.1 x.3 (case_rested ts k s absent ss m n r k g o q h w))
 
-  case_value : (s : Span) (e : Tree) (ss : Trees) (ts l m n r : Input) (k : List ℕ) → z.Covered e → Each z.Covered ss → TakesWord (coded p c) case_kind ts l → 1 ≤ level e → Spells e (coded p c) l m → kind m ≡ colon_kind → rest m ≡ n → Items is_item ClosesCase (coded p c) false (parts ss) n r
+  case_value : (s : Span) (e : Tree) (ss : Trees) (ts l m n r : Input) (k : List ℕ) → z.Covered e → Each z.Covered ss → TakesWord (coded p c) case_kind ts l → 1 ≤ level e → Produces e (coded p c) l m → kind m ≡ colon_kind → rest m ≡ n → Items is_item ClosesCase (coded p c) false (children ss) n r
       → s ≡ span (lo ts) r.last → Reads (from ts k) (case_by lm z.inner c (from ts k)) (Is (switch_case s e ss) r) (z.depth < max (z.reach e) (most z.reach ss))
   unfolding case_by
   case_value s e ss ts l m n r k d g x le v o q h w = if_no (kind ts == default_kind) _ _ _ _ (subst (λ (k : ℕ). eqb k default_kind ≡ false) (sym x.0) refl) (then_word c case_kind ts l k _ _ _ x.0 x.1 x.3
       (then_is (z.inner.expr c expression_level (from l k)) _ e m (z.depth < z.reach e) _ _ (one_found z p c e l m k d le v (halted c (ends e) 1 colon_kind m o refl refl (λ _. refl) (omega arith))) (λ u. omega arith)
       (λ j. lifted (case_rested ts k s e ss m n r j g o q h w) (λ u. omega arith))))
 
-  case_found : (x : Tree) (ts r : Input) (k : List ℕ) → is_case x ≡ true → Within z.Covered x → Spells x (coded p c) ts r → Reads (from ts k) (case_by lm z.inner c (from ts k)) (Is x r) (z.depth < within z.reach x)
+  case_found : (x : Tree) (ts r : Input) (k : List ℕ) → is_case x ≡ true → Within z.Covered x → Produces x (coded p c) ts r → Reads (from ts k) (case_by lm z.inner c (from ts k)) (Is x r) (z.depth < within z.reach x)
   case_found (switch_case s e ss) ts r k i g h = by_cases (is_absent e) _ _ _ h.2
       (λ q x. subst (λ (e : Tree). Reads (from ts k) (case_by lm z.inner c (from ts k)) (Is (switch_case s e ss) r) (z.depth < max (z.reach e) (most z.reach ss))) (sym (absent_is e q)) (lifted (case_default s ss ts h.0 h.1 r k g.1 x h.3.0 h.3.2 h.4 h.5) (λ u. omega arith)))
       (λ q x. case_value s e ss ts x.0 h.0 h.1 r k g.0 g.1 x.1 x.2.0 x.2.1 h.3.0 h.3.2 h.4 h.5)
   case_found _ ts r k i g h = absurd (true≢false (sym i))
 
-  case_start : (x : Tree) (ts r : Input) → is_case x ≡ true → Spells x (coded p c) ts r → eqb (kind ts) right_brace_kind ≡ false
+  case_start : (x : Tree) (ts r : Input) → is_case x ≡ true → Produces x (coded p c) ts r → eqb (kind ts) right_brace_kind ≡ false
   case_start (switch_case s e ss) ts r i h = by_cases (is_absent e) _ _ _ h.2 (λ q x. subst (λ (k : ℕ). eqb k right_brace_kind ≡ false) (sym x.0) refl) (λ q x. subst (λ (k : ℕ). eqb k right_brace_kind ≡ false) (sym x.1.0) refl)
   case_start _ ts r i h = absurd (true≢false (sym i))
 
-  case_less : (x : Tree) (ts r : Input) → is_case x ≡ true → Spells x (coded p c) ts r → len r < len ts
+  case_less : (x : Tree) (ts r : Input) → is_case x ≡ true → Produces x (coded p c) ts r → len r < len ts
   case_less (switch_case s e ss) ts r i h = omega (arith, cut (switch_case s e ss) (coded p c) ts r h)
   case_less _ ts r i h = absurd (true≢false (sym i))
 
@@ -143,7 +143,7 @@ module _ (z : Nested) (p : Bool) (c : Code) where
       or_three true b d = refl
       or_three false b d = refl
 
-  cases_more : (x : Tree) (acc : List Tree) (b : Bool) (ts m : Input) (k : List ℕ) → has_default lm z.inner acc ≡ b → (b && is_default_case x) ≡ false → is_case x ≡ true → Within z.Covered x → Spells x (coded p c) ts m
+  cases_more : (x : Tree) (acc : List Tree) (b : Bool) (ts m : Input) (k : List ℕ) → has_default lm z.inner acc ≡ b → (b && is_default_case x) ≡ false → is_case x ≡ true → Within z.Covered x → Produces x (coded p c) ts m
       → Reads (from ts k) (cases_step lm z.inner c acc (from ts k)) (Is (go_on (acc ++ x ∷ [])) m) (z.depth < within z.reach x)
   unfolding cases_step
   cases_more x acc b ts m k e q i g h = if_no (kind ts == right_brace_kind) _ _ _ _ (case_start x ts m i h) (then_is (case_by lm z.inner c (from ts k)) _ x m (z.depth < within z.reach x) _ _ (case_found x ts m k i g h) (λ u. u)
@@ -153,13 +153,13 @@ module _ (z : Nested) (p : Bool) (c : Code) where
   unfolding cases_step
   cases_end acc ts r k e q = if_yes (kind ts == right_brace_kind) _ _ _ _ (eq-eqb (kind ts) right_brace_kind e) (past_here refl q)
 
-  cases_loop : (xs : Trees) (acc : List Tree) (b : Bool) (ts r : Input) (k : List ℕ) (n : ℕ) → has_default lm z.inner acc ≡ b → Withins z.Covered xs → Cases (coded p c) b (parts xs) ts r → withins z.reach xs ≤ n → Loops (cases_step lm z.inner c) acc ts k (Is (acc ++ unpack xs) r) (z.depth < n)
+  cases_loop : (xs : Trees) (acc : List Tree) (b : Bool) (ts r : Input) (k : List ℕ) (n : ℕ) → has_default lm z.inner acc ≡ b → Withins z.Covered xs → Cases (coded p c) b (children xs) ts r → withins z.reach xs ≤ n → Loops (cases_step lm z.inner c) acc ts k (Is (acc ++ unpack xs) r) (z.depth < n)
   cases_loop none acc b ts r k n e g h le = loop_end _ _ acc ts r k ⊥ _ _ (cases_end acc ts r k h.0 h.2) (λ u. absurd u) (λ l. (sym (append-nil acc), refl))
   cases_loop (more x xs) acc b ts r k n e g h le = loop_on _ _ (acc ++ x ∷ []) ts h.0 k (z.depth < within z.reach x) _ _ (cases_more x acc b ts h.0 k e h.1 h.2.0 g.0 h.2.1) (λ u. omega arith) (case_less x ts h.0 h.2.0 h.2.1)
       (λ l. subst (λ ys. Loops (cases_step lm z.inner c) (acc ++ x ∷ []) h.0 l (Is ys r) (z.depth < n)) (append_assoc acc (x ∷ []) (unpack xs))
       (cases_loop xs (acc ++ x ∷ []) (b || is_default_case x) h.0 r l n (had_more acc x ∙ ap (λ (b : Bool). b || is_default_case x) e) g.1 h.3 (omega arith)))
 
-  pub switch_found : (s : Span) (e : Tree) (xs : Trees) (ts r : Input) (k : List ℕ) → Within z.Covered (switch_stmt s e xs) → Spells (switch_stmt s e xs) (coded p c) ts r
+  pub switch_found : (s : Span) (e : Tree) (xs : Trees) (ts r : Input) (k : List ℕ) → Within z.Covered (switch_stmt s e xs) → Produces (switch_stmt s e xs) (coded p c) ts r
       → Reads (from ts k) (switch_by lm z.inner c (from ts k)) (Is (switch_stmt s e xs) r) (z.depth < within z.reach (switch_stmt s e xs))
   unfolding switch_by
   switch_found s e xs ts r k g h = then_word c switch_kind ts h.0 k _ _ _ h.3.0 h.3.1 h.3.3 (then_is (in_parens lm z.inner c (from h.0 k)) _ e h.1 (z.depth < z.reach e) _ _ (parens_found z p c e h.0 h.1 k g.0 h.4) (λ u. omega arith)
@@ -168,32 +168,32 @@ module _ (z : Nested) (p : Bool) (c : Code) where
 
   -- ---- 14.15 `try`
 
-  catch_bare : (s : Span) (b : Tree) (ts m r : Input) (k : List ℕ) → TakesWord (coded p c) catch_kind ts m → is_block b ≡ true → Within z.Covered b → Spells b (coded p c) m r → s ≡ span (lo ts) r.last
+  catch_bare : (s : Span) (b : Tree) (ts m r : Input) (k : List ℕ) → TakesWord (coded p c) catch_kind ts m → is_block b ≡ true → Within z.Covered b → Produces b (coded p c) m r → s ≡ span (lo ts) r.last
       → Reads (from ts k) (catch_by lm z.inner c (from ts k)) (Is (catch_clause s absent b) r) (z.depth < within z.reach b)
   unfolding catch_by
   catch_bare s b ts m r k x i g h w = then_word c catch_kind ts m k _ _ _ x.0 x.1 x.3 (if_no (kind m == left_paren_kind) _ _ _ _ (subst (λ (k : ℕ). eqb k left_paren_kind ≡ false) (sym (block_brace b (coded p c) m r i h)) refl)
       (then_is (block_by lm z.inner c (from m k)) _ b r (z.depth < within z.reach b) _ _ (block_found b m r k i g h) (λ u. u) (λ j. built (λ y. catch_clause y absent b) s ts r j _ w)))
 
-  catch_pattern : (s : Span) (a b : Tree) (ts m o q n r : Input) (k : List ℕ) → TakesWord (coded p c) catch_kind ts m → kind m ≡ left_paren_kind → rest m ≡ o → is_binding a ≡ true → z.Covered a → Spells a (binding (coded p c)) o q → kind q ≡ right_paren_kind → rest q ≡ n
-      → is_block b ≡ true → Within z.Covered b → Spells b (coded p c) n r → s ≡ span (lo ts) r.last → Reads (from ts k) (catch_by lm z.inner c (from ts k)) (Is (catch_clause s a b) r) (z.depth < max (z.reach a) (within z.reach b))
+  catch_pattern : (s : Span) (a b : Tree) (ts m o q n r : Input) (k : List ℕ) → TakesWord (coded p c) catch_kind ts m → kind m ≡ left_paren_kind → rest m ≡ o → is_binding a ≡ true → z.Covered a → Produces a (binding (coded p c)) o q → kind q ≡ right_paren_kind → rest q ≡ n
+      → is_block b ≡ true → Within z.Covered b → Produces b (coded p c) n r → s ≡ span (lo ts) r.last → Reads (from ts k) (catch_by lm z.inner c (from ts k)) (Is (catch_clause s a b) r) (z.depth < max (z.reach a) (within z.reach b))
   unfolding catch_by
   catch_pattern s a b ts m o q n r k x e t ia ga ha f v i g h w = then_word c catch_kind ts m k _ _ _ x.0 x.1 x.3 (if_yes (kind m == left_paren_kind) _ _ _ _ (eq-eqb (kind m) left_paren_kind e)
       (then_past m o k (z.inner.pat c) _ a q (z.depth < z.reach a) _ _ t (z.pat a p c o q k ga ia ha) (λ u. omega arith) (λ j. then_eat right_paren_kind q n j _ _ _ f v
       (then_is (block_by lm z.inner c (from n j)) _ b r (z.depth < within z.reach b) _ _ (block_found b n r j i g h) (λ u. omega arith) (λ y. built (λ y. catch_clause y a b) s ts r y _ w)))))
 
-  catch_found : (x : Tree) (ts r : Input) (k : List ℕ) → is_catch x ≡ true → Within z.Covered x → Spells x (coded p c) ts r → Reads (from ts k) (catch_by lm z.inner c (from ts k)) (Is x r) (z.depth < within z.reach x)
+  catch_found : (x : Tree) (ts r : Input) (k : List ℕ) → is_catch x ≡ true → Within z.Covered x → Produces x (coded p c) ts r → Reads (from ts k) (catch_by lm z.inner c (from ts k)) (Is x r) (z.depth < within z.reach x)
   catch_found (catch_clause s a b) ts r k i g h = by_cases (is_absent a) _ _ _ h.3
       (λ q x. subst (λ (a : Tree). Reads (from ts k) (catch_by lm z.inner c (from ts k)) (Is (catch_clause s a b) r) (z.depth < max (z.reach a) (within z.reach b))) (sym (absent_is a q))
-      (lifted (catch_bare s b ts h.0 r k h.2 h.4.0 g.1 (subst (λ (y : Input). Spells b (coded p c) y r) (sym x) h.4.1) h.5) (λ u. omega arith)))
+      (lifted (catch_bare s b ts h.0 r k h.2 h.4.0 g.1 (subst (λ (y : Input). Produces b (coded p c) y r) (sym x) h.4.1) h.5) (λ u. omega arith)))
       (λ q x. catch_pattern s a b ts h.0 x.0 x.1 h.1 r k h.2 x.2.0 x.2.2 x.3 g.0 x.4 x.5.0 x.5.2 h.4.0 g.1 h.4.1 h.5)
   catch_found _ ts r k i g h = absurd (true≢false (sym i))
 
-  catch_word : (x : Tree) (ts r : Input) → is_catch x ≡ true → Spells x (coded p c) ts r → kind ts ≡ catch_kind
+  catch_word : (x : Tree) (ts r : Input) → is_catch x ≡ true → Produces x (coded p c) ts r → kind ts ≡ catch_kind
   catch_word (catch_clause s a b) ts r i h = h.2.0
   catch_word _ ts r i h = absurd (true≢false (sym i))
 
   finally_found : (ts : Input) (k : List ℕ) (s : Span) (b x f : Tree) (o r : Input) (j : List ℕ) → Within z.Covered f → (is_absent x && is_absent f) ≡ false
-      → By (is_absent f) (o ≡ r) ((q : Input) × TakesWord (coded p c) finally_kind o q × Sorted is_block (coded p c) (part f (λ y. Spells f y)) q r) → s ≡ span (lo ts) r.last → may_follow (kind r) ≡ true
+      → By (is_absent f) (o ≡ r) ((q : Input) × TakesWord (coded p c) finally_kind o q × Sorted is_block (coded p c) (child f (λ y. Produces f y)) q r) → s ≡ span (lo ts) r.last → may_follow (kind r) ≡ true
       → Reads (from o j) (finally_by lm z.inner c (from ts k) b x (from o j)) (Is (try_stmt s b x f) r) (z.depth < within z.reach f)
   unfolding finally_by
   finally_found ts k s b x f o r j g n h w q = by_cases (is_absent f) _ _ _ h
@@ -207,7 +207,7 @@ module _ (z : Nested) (p : Bool) (c : Code) where
       one_there true false e h = absurd (true≢false (sym e))
       one_there false d e h = refl
 
-  pub try_found : (s : Span) (b x f : Tree) (ts r : Input) (k : List ℕ) → Within z.Covered (try_stmt s b x f) → Spells (try_stmt s b x f) (coded p c) ts r → may_follow (kind r) ≡ true
+  pub try_found : (s : Span) (b x f : Tree) (ts r : Input) (k : List ℕ) → Within z.Covered (try_stmt s b x f) → Produces (try_stmt s b x f) (coded p c) ts r → may_follow (kind r) ≡ true
       → Reads (from ts k) (try_by lm z.inner c (from ts k)) (Is (try_stmt s b x f) r) (z.depth < within z.reach (try_stmt s b x f))
   unfolding try_by
   try_found s b x f ts r k g h q = then_word c try_kind ts h.0 k _ _ _ h.4.0 h.4.1 h.4.3 (then_is (block_by lm z.inner c (from h.0 k)) _ b h.1 (z.depth < within z.reach b) _ _ (block_found b h.0 h.1 k h.5.0 g.0 h.5.1) (λ u. omega arith)
@@ -226,7 +226,7 @@ module _ (z : Nested) (p : Bool) (c : Code) where
 -- ---- bodies
 
 -- statements of a body, and the tokens after it
-abbrev pub HasItems : List Tree → Input → Gathered × Stand Input → Type 0
+abbrev pub HasItems : List Tree → Input → Gathered × State Input → Type 0
 HasItems xs r y = (y.0.items ≡ xs) × (y.1.source ≡ r)
 
 and_on : (t : Tree) (b : Bool) → (b && is_use_strict t) ≡ true → (b && is_directive t) ≡ true
@@ -235,22 +235,22 @@ and_on t false e = e
 
 module _ (z : Nested) (p : Bool) (may : Tree → Bool) (close : Code → Input → Input → Type 0) where
   -- the code in which the statements after one stand
-  pub on_strict : (c : Code) (b : Bool) (t : Tree) (ss : Trees) (ts r : Input) → (b && is_use_strict t) ≡ true → Items may close (if b && is_use_strict t then turned_strict (coded p c) else coded p c) (b && is_directive t) (parts ss) ts r
-      → Items may close (coded p (turned_strict c)) true (parts ss) ts r
-  on_strict c b t ss ts r e h = subst (λ (y : Bool). Items may close (coded p (turned_strict c)) y (parts ss) ts r) (and_on t b e) (subst (λ (y : Bool). Items may close (if y then turned_strict (coded p c) else coded p c) (b && is_directive t) (parts ss) ts r) e h)
+  pub on_strict : (c : Code) (b : Bool) (t : Tree) (ss : Trees) (ts r : Input) → (b && is_use_strict t) ≡ true → Items may close (if b && is_use_strict t then turned_strict (coded p c) else coded p c) (b && is_directive t) (children ss) ts r
+      → Items may close (coded p (turned_strict c)) true (children ss) ts r
+  on_strict c b t ss ts r e h = subst (λ (y : Bool). Items may close (coded p (turned_strict c)) y (children ss) ts r) (and_on t b e) (subst (λ (y : Bool). Items may close (if y then turned_strict (coded p c) else coded p c) (b && is_directive t) (children ss) ts r) e h)
 
-  pub on_same : (c : Code) (b : Bool) (t : Tree) (ss : Trees) (ts r : Input) → (b && is_use_strict t) ≡ false → Items may close (if b && is_use_strict t then turned_strict (coded p c) else coded p c) (b && is_directive t) (parts ss) ts r
-      → Items may close (coded p c) (b && is_directive t) (parts ss) ts r
-  on_same c b t ss ts r e h = subst (λ (y : Bool). Items may close (if y then turned_strict (coded p c) else coded p c) (b && is_directive t) (parts ss) ts r) e h
+  pub on_same : (c : Code) (b : Bool) (t : Tree) (ss : Trees) (ts r : Input) → (b && is_use_strict t) ≡ false → Items may close (if b && is_use_strict t then turned_strict (coded p c) else coded p c) (b && is_directive t) (children ss) ts r
+      → Items may close (coded p c) (b && is_directive t) (children ss) ts r
+  on_same c b t ss ts r e h = subst (λ (y : Bool). Items may close (if y then turned_strict (coded p c) else coded p c) (b && is_directive t) (children ss) ts r) e h
 
 module _ (z : Nested) (p : Bool) where
-  body_strict : (c : Code) (b : Bool) (t : Tree) (acc : List Tree) (ts m : Input) (k : List ℕ) → (b && is_use_strict t) ≡ true → z.Covered t → is_item t ≡ true → Spells t (coded p (in_list c)) ts m → may_follow (kind m) ≡ true
+  body_strict : (c : Code) (b : Bool) (t : Tree) (acc : List Tree) (ts m : Input) (k : List ℕ) → (b && is_use_strict t) ≡ true → z.Covered t → is_item t ≡ true → Produces t (coded p (in_list c)) ts m → may_follow (kind m) ≡ true
       → Reads (from ts k) (body_step lm z.inner (record { items = acc; code = c; starts = b }) (from ts k)) (Is (go_on (record { items = acc ++ t ∷ []; code = turned_strict c; starts = true })) m) (z.depth < z.reach t)
   unfolding body_step body_item
   body_strict c b t acc ts m k e g i h q = if_no (kind ts == right_brace_kind) _ _ _ _ (no_item (kind ts) right_brace_kind (item_opens t (coded p (in_list c)) ts m i h) refl)
       (then_is (z.inner.stmt (in_list c) (from ts k)) _ t m (z.depth < z.reach t) _ _ (z.stmt t p (in_list c) ts m k g i h q) (λ u. u) (λ j. if_yes (b && is_use_strict t) _ _ _ _ e (here refl)))
 
-  body_same : (c : Code) (b : Bool) (t : Tree) (acc : List Tree) (ts m : Input) (k : List ℕ) → (b && is_use_strict t) ≡ false → z.Covered t → is_item t ≡ true → Spells t (coded p (in_list c)) ts m → may_follow (kind m) ≡ true
+  body_same : (c : Code) (b : Bool) (t : Tree) (acc : List Tree) (ts m : Input) (k : List ℕ) → (b && is_use_strict t) ≡ false → z.Covered t → is_item t ≡ true → Produces t (coded p (in_list c)) ts m → may_follow (kind m) ≡ true
       → Reads (from ts k) (body_step lm z.inner (record { items = acc; code = c; starts = b }) (from ts k)) (Is (go_on (record { items = acc ++ t ∷ []; code = c; starts = b && is_directive t })) m) (z.depth < z.reach t)
   unfolding body_step body_item
   body_same c b t acc ts m k e g i h q = if_no (kind ts == right_brace_kind) _ _ _ _ (no_item (kind ts) right_brace_kind (item_opens t (coded p (in_list c)) ts m i h) refl)
@@ -260,7 +260,7 @@ module _ (z : Nested) (p : Bool) where
   unfolding body_step
   body_end b ts r k e q = if_yes (kind ts == right_brace_kind) _ _ _ _ (eq-eqb (kind ts) right_brace_kind e) (past_here refl q)
 
-  body_loop : (ss : Trees) (c : Code) (b : Bool) (acc : List Tree) (ts r : Input) (k : List ℕ) (n : ℕ) → Each z.Covered ss → Items is_item Closes (coded p c) b (parts ss) ts r → most z.reach ss ≤ n
+  body_loop : (ss : Trees) (c : Code) (b : Bool) (acc : List Tree) (ts r : Input) (k : List ℕ) (n : ℕ) → Each z.Covered ss → Items is_item Closes (coded p c) b (children ss) ts r → most z.reach ss ≤ n
       → Loops (body_step lm z.inner) (record { items = acc; code = c; starts = b }) ts k (HasItems (acc ++ unpack ss) r) (z.depth < n)
   body_loop none c b acc ts r k n g h le = loop_end _ _ (record { items = acc; code = c; starts = b }) ts r k ⊥ _ _ (body_end _ ts r k h.0 h.2) (λ u. absurd u) (λ l. (sym (append-nil acc), refl))
   body_loop (more t ss) c b acc ts r k n g h le = ⊎_elim
@@ -274,7 +274,7 @@ module _ (z : Nested) (p : Bool) where
       (λ l. subst (λ ys. Loops (body_step lm z.inner) (record { items = acc ++ t ∷ []; code = c; starts = b && is_directive t }) h.0 l (HasItems ys r) (z.depth < n)) (append_assoc acc (t ∷ []) (unpack ss)) (body_loop ss c (b && is_directive t) (acc ++ t ∷ []) h.0 r l n g.1 v (omega arith))))
       (cases_Bool (b && is_use_strict t))
 
-  pub body_found : (s : Span) (ss : Trees) (c : Code) (ts r : Input) (k : List ℕ) → Each z.Covered ss → Body (coded p c) s (parts ss) ts r → Reads (from ts k) (body_by lm z.inner c (from ts k)) (Is (block_stmt s ss) r) (z.depth < most z.reach ss)
+  pub body_found : (s : Span) (ss : Trees) (c : Code) (ts r : Input) (k : List ℕ) → Each z.Covered ss → Body (coded p c) s (children ss) ts r → Reads (from ts k) (body_by lm z.inner c (from ts k)) (Is (block_stmt s ss) r) (z.depth < most z.reach ss)
   unfolding body_by
   body_found s ss c ts r k g h = then_eat left_brace_kind ts h.0 k _ _ _ h.1.0 h.1.2
       (then_reads _ _ (HasItems (unpack ss) r) (z.depth < most z.reach ss) _ _ (looped (body_step lm z.inner) (record { items = []; code = c; starts = true }) h.0 k (HasItems (unpack ss) r) _ (body_loop ss c true [] h.0 r k (most z.reach ss) g h.2 (omega arith))) (λ u. u)

@@ -7,11 +7,11 @@ use Rattle.ecma_tree.specs.Tree.{Tree, Trees, block_stmt, empty_stmt, debugger_s
 use Rattle.ecma_syntax.specs.Input.{Input, Code, kind, kind2, brk, brk2, lo, span, rest, first_span, Takes}
 use Rattle.ecma_syntax.specs.Operators.{expression_level, may_name, let_end, goes_on}
 use Rattle.ecma_syntax.specs.Shape.{level, ends, is_name, is_item, is_statement, is_plain_function}
-use Rattle.ecma_grammar.specs.Parts.{is_ident, part, Ends}
+use Rattle.ecma_grammar.specs.Children.{is_ident, child, Ends}
 use Rattle.ecma_grammar.specs.Functions.{Async}
 use Rattle.ecma_grammar.specs.Statements.{is_var_word, statement_end, ForAwaitOpen}
-use Rattle.ecma_grammar.specs.Grammar.{Spells, parts}
-use Rattle.ecma_reading.specs.Source.{Fault, ◌>>=◌, unexpected, Stand, Inner}
+use Rattle.ecma_grammar.specs.Grammar.{Produces, children}
+use Rattle.ecma_reading.specs.Source.{Fault, ◌>>=◌, unexpected, State, Inner}
 use Rattle.ecma_reading.specs.Statements.{keyword_stmt, stmt_by, stmt_from, expression_by, statement_class, labelled_by, starts_async, starts_variables, starts_let, starts_using, starts_await_using, if_by, return_by, for_by, while_by, do_by, switch_by, try_by, throw_by, jump_by, with_by, debugger_by, block_by, function_decl_by, class_decl_by, variables_by, using_by}
 use Rattle.ecma_grammar_complete_base.proofs.Yields.{lm, from, coded, Reads, Is, then_is, onto, here, past_here, if_no, if_yes, first_at}
 use Rattle.ecma_grammar_complete_base.proofs.Trees.{no_kind}
@@ -49,7 +49,7 @@ listed_of false i s h e = absurd (true≢false (sym h ∙ e))
 
 -- ---- statements by their first word
 
-module _ (inner : Inner Input) (c : Code) (ts : Input) (k : List ℕ) (V : Tree × Stand Input → Type 0) (Q : Type 0) where
+module _ (inner : Inner Input) (c : Code) (ts : Input) (k : List ℕ) (V : Tree × State Input → Type 0) (Q : Type 0) where
   at_if : kind ts ≡ if_kind → Reads (from ts k) (if_by lm inner c (from ts k)) V Q → Reads (from ts k) (keyword_stmt lm inner c (from ts k)) V Q
   unfolding keyword_stmt
   at_if e y = rw e y
@@ -213,7 +213,7 @@ of_three true false h = refl
 of_three false b h = refl
 
 module _ (z : Nested) (p : Bool) (c : Code) (ts : Input) (k : List ℕ) (r : Input) where
-  expression_read : (s : Span) (e : Tree) → z.Covered e → Spells (expr_stmt s e) (coded p c) ts r → may_follow (kind r) ≡ true → ((kind ts == let_kind) && (kind2 ts == left_bracket_kind)) ≡ false
+  expression_read : (s : Span) (e : Tree) → z.Covered e → Produces (expr_stmt s e) (coded p c) ts r → may_follow (kind r) ≡ true → ((kind ts == let_kind) && (kind2 ts == left_bracket_kind)) ≡ false
       → Reads (from ts k) (expression_by lm z.inner c (from ts k)) (Is (expr_stmt s e) r) (z.depth < z.reach e)
   unfolding expression_by
   expression_read s e g h q l = if_no ((kind ts == let_kind) && (kind2 ts == left_bracket_kind)) _ _ _ _ l (then_is (z.inner.expr c expression_level (from ts k)) _ e h.0 (z.depth < z.reach e) _ _
@@ -224,7 +224,7 @@ module _ (z : Nested) (p : Bool) (c : Code) (ts : Input) (k : List ℕ) (r : Inp
       no_colon (inl v) = subst (λ (k : ℕ). eqb k colon_kind ≡ false) (sym v.0) refl
       no_colon (inr v) = subst (λ (y : Input). eqb (kind y) colon_kind ≡ false) (sym v.2) (or_parts (kind r == finally_kind) _ (not-true _ q)).1
 
-  expression_found : (s : Span) (e : Tree) → z.Covered e → Spells (expr_stmt s e) (coded p c) ts r → may_follow (kind r) ≡ true → Reads (from ts k) (keyword_stmt lm z.inner c (from ts k)) (Is (expr_stmt s e) r) (z.depth < z.reach e)
+  expression_found : (s : Span) (e : Tree) → z.Covered e → Produces (expr_stmt s e) (coded p c) ts r → may_follow (kind r) ≡ true → Reads (from ts k) (keyword_stmt lm z.inner c (from ts k)) (Is (expr_stmt s e) r) (z.depth < z.reach e)
   expression_found s e g h q =
       let a = or_parts (kind ts == left_brace_kind) _ (not-true _ h.1) in let b = or_parts (kind ts == function_kind) _ a.1 in let d = or_parts (kind ts == class_kind) _ b.1 in let f = or_parts ((kind ts == async_kind) && ((kind2 ts == function_kind) && not (brk2 ts))) _ d.1 in
       at_expression z.inner c ts k _ _ h.0 (opening e (coded p c) ts h.0 (level_opener e h.2.0) h.2.1) b.0 d.0 f.0 f.1 (λ l w o. let_calm p c h.0 r (subst (λ (n : ℕ). Ends (coded p c) n h.0 r) (let_class l w (name_one e h.2.0 o)) h.3)) (λ x y. last_calm x y) (expression_read s e g h q f.1)
@@ -236,14 +236,14 @@ module _ (z : Nested) (p : Bool) (c : Code) (ts : Input) (k : List ℕ) (r : Inp
       last_calm x (inl y) = subst (λ (y : Input). (may_name (kind y) && not (brk y) && true) ≡ false) (sym y) (of_three (may_name (kind h.0)) (not (brk h.0)) (calm p c (statement_end c ts e) h.0 r h.3))
       last_calm x (inr y) = of_three (may_name (kind x)) (not (brk x)) (and_left (may_name (kind x)) _ (or_parts (may_name (kind x)) _ (not-true _ y)).0)
 
-  label_read : (s : Span) (l b : Tree) → Within z.Covered (labeled_stmt s l b) → Spells (labeled_stmt s l b) (coded p c) ts r → may_follow (kind r) ≡ true → ((kind ts == let_kind) && (kind2 ts == left_bracket_kind)) ≡ false
+  label_read : (s : Span) (l b : Tree) → Within z.Covered (labeled_stmt s l b) → Produces (labeled_stmt s l b) (coded p c) ts r → may_follow (kind r) ≡ true → ((kind ts == let_kind) && (kind2 ts == left_bracket_kind)) ≡ false
       → Reads (from ts k) (expression_by lm z.inner c (from ts k)) (Is (labeled_stmt s l b) r) (z.depth < within z.reach (labeled_stmt s l b))
   unfolding expression_by
   label_read s l b g h q w = if_no ((kind ts == let_kind) && (kind2 ts == left_bracket_kind)) _ _ _ _ w (then_is (z.inner.expr c expression_level (from ts k)) _ l h.0 (z.depth < z.reach l) _ _
       (one_found z p c l ts h.0 k g.0 (ident_level l h.2.0) h.2.1 (halted c (ends l) 1 colon_kind h.0 h.3.0 refl refl (λ _. refl) (omega arith))) (λ u. omega arith)
       (λ j. if_yes (is_name l && (kind h.0 == colon_kind)) _ _ _ _ (and_from (is_name l) _ (ident_name_is l h.2.0) (eq-eqb (kind h.0) colon_kind h.3.0)) (lifted (labelled_found z p c ts k r s l b h.0 j g.1 h.1 h.3.0 h.3.2 h.4 h.5 q) (λ u. omega arith))))
 
-  label_found : (s : Span) (l b : Tree) → Within z.Covered (labeled_stmt s l b) → Spells (labeled_stmt s l b) (coded p c) ts r → may_follow (kind r) ≡ true → Reads (from ts k) (keyword_stmt lm z.inner c (from ts k)) (Is (labeled_stmt s l b) r) (z.depth < within z.reach (labeled_stmt s l b))
+  label_found : (s : Span) (l b : Tree) → Within z.Covered (labeled_stmt s l b) → Produces (labeled_stmt s l b) (coded p c) ts r → may_follow (kind r) ≡ true → Reads (from ts k) (keyword_stmt lm z.inner c (from ts k)) (Is (labeled_stmt s l b) r) (z.depth < within z.reach (labeled_stmt s l b))
   label_found s l b g h q =
       let i = ident_is l (coded p c) ts h.0 h.2.0 h.2.1 in let v = name_may c ts i.2 in
       let next : (n : ℕ) → eqb colon_kind n ≡ false → eqb (kind2 ts) n ≡ false = λ n e. subst (λ (y : Input). eqb (kind y) n ≡ false) (sym i.4) (subst (λ (k : ℕ). eqb k n ≡ false) (sym h.3.0) e) in
@@ -257,7 +257,7 @@ module _ (z : Nested) (p : Bool) (c : Code) (ts : Input) (k : List ℕ) (r : Inp
 
   -- ---- declarations
 
-  variables_read : (s : Span) (o : ℕ) (ds : Trees) → Within z.Covered (var_decl s o ds) → allowed c (var_decl s o ds) ≡ true → Spells (var_decl s o ds) (coded p c) ts r → Reads (from ts k) (keyword_stmt lm z.inner c (from ts k)) (Is (var_decl s o ds) r) (z.depth < within z.reach (var_decl s o ds))
+  variables_read : (s : Span) (o : ℕ) (ds : Trees) → Within z.Covered (var_decl s o ds) → allowed c (var_decl s o ds) ≡ true → Produces (var_decl s o ds) (coded p c) ts r → Reads (from ts k) (keyword_stmt lm z.inner c (from ts k)) (Is (var_decl s o ds) r) (z.depth < within z.reach (var_decl s o ds))
   variables_read s o ds g a h = at_variables z.inner c ts k _ _ (subst (λ (n : ℕ). is_var_word n ≡ true) (sym h.1.2.0) h.1.1) (by_list c.listed refl) (variables_found z p c s o ds ts r k g h)
     where
       on : ((kind ts == var_kind) || ((kind ts == const_kind) || starts_let lm z.inner (from ts k))) ≡ true
@@ -276,13 +276,13 @@ module _ (z : Nested) (p : Bool) (c : Code) (ts : Input) (k : List ℕ) (r : Inp
       by_list true e = on
       by_list false e = or_left (kind ts == var_kind) _ (var_alone (subst (λ (b : Bool). (if b then is_item (var_decl s o ds) else (is_statement (var_decl s o ds) || is_plain_function (var_decl s o ds))) ≡ true) e a))
 
-  using_read : (s : Span) (w : Bool) (ds : Trees) → Within z.Covered (using_decl s w ds) → c.listed ≡ true → Spells (using_decl s w ds) (coded p c) ts r → Reads (from ts k) (keyword_stmt lm z.inner c (from ts k)) (Is (using_decl s w ds) r) (z.depth < within z.reach (using_decl s w ds))
+  using_read : (s : Span) (w : Bool) (ds : Trees) → Within z.Covered (using_decl s w ds) → c.listed ≡ true → Produces (using_decl s w ds) (coded p c) ts r → Reads (from ts k) (keyword_stmt lm z.inner c (from ts k)) (Is (using_decl s w ds) r) (z.depth < within z.reach (using_decl s w ds))
   using_read s false ds g l h = at_using z.inner c ts k _ _ h.1.2.0 l (using_on z.inner c ts h.1.0 k h.1.1 h.1.2.0 h.1.2.3 h.1.3 h.1.4 (declarators_start ds (coded p c) h.1.0 h.0 h.1.5))
       (using_found z p c ts k s false ds ts h.1.0 h.0 r k g h.1.2.0 h.1.2.1 h.1.2.3 h.1.5 h.2 h.3)
   using_read s true ds g l h = at_await_using z.inner c ts k _ _ h.1.4.0 l (await_on z.inner c ts h.1.0 k h.1.3 h.1.4.0 h.1.4.1 h.1.4.3 h.1.5 (using_on z.inner c h.1.0 h.1.1 k h.1.2 h.1.6.0 h.1.6.3 h.1.7 h.1.8 (declarators_start ds (coded p c) h.1.1 h.0 h.1.9)))
       (onto ts h.1.0 k (λ x. using_by lm z.inner c (from ts k) true x) _ _ h.1.4.3 (using_found z p c ts k s true ds h.1.0 h.1.1 h.0 r k g h.1.6.0 h.1.6.1 h.1.6.3 h.1.9 h.2 h.3))
 
-  function_read : (s : Span) (x : Tree) (t : Span) (ps ds : Trees) (b : Tree) (g a : Bool) → Within z.Covered (function t ps ds b g a) → (a ≡ true → c.listed ≡ true) → Spells (fn_decl s x (function t ps ds b g a)) (coded p c) ts r
+  function_read : (s : Span) (x : Tree) (t : Span) (ps ds : Trees) (b : Tree) (g a : Bool) → Within z.Covered (function t ps ds b g a) → (a ≡ true → c.listed ≡ true) → Produces (fn_decl s x (function t ps ds b g a)) (coded p c) ts r
       → Reads (from ts k) (keyword_stmt lm z.inner c (from ts k)) (Is (fn_decl s x (function t ps ds b g a)) r) (z.depth < within z.reach (function t ps ds b g a))
   function_read s x t ps ds b g false w l h = let y = function_declared z p c s x t ps ds b g false ts r k w h in
       at_function z.inner c ts k _ _ (ap (λ (d : Input). kind d) y.1 ∙ y.2) (subst (λ (d : Input). Reads (from d k) (function_decl_by lm z.inner c (from ts k) false (from d k)) (Is (fn_decl s x (function t ps ds b g false)) r) (z.depth < within z.reach (function t ps ds b g false))) (sym y.1) (y.3 k))
@@ -291,26 +291,26 @@ module _ (z : Nested) (p : Bool) (c : Code) (ts : Input) (k : List ℕ) (r : Inp
 
   -- ---- any statement
 
-  word_stmt : (V : Tree × Stand Input → Type 0) (Q : Type 0) → eqb (kind ts) semicolon_kind ≡ false → eqb (kind ts) left_brace_kind ≡ false → Reads (from ts k) (keyword_stmt lm z.inner c (from ts k)) V Q → Reads (from ts k) (stmt_from lm z.inner c (from ts k)) V Q
+  word_stmt : (V : Tree × State Input → Type 0) (Q : Type 0) → eqb (kind ts) semicolon_kind ≡ false → eqb (kind ts) left_brace_kind ≡ false → Reads (from ts k) (keyword_stmt lm z.inner c (from ts k)) V Q → Reads (from ts k) (stmt_from lm z.inner c (from ts k)) V Q
   unfolding stmt_from stmt_by
   word_stmt V Q a b y = if_no (kind ts == semicolon_kind) _ _ V Q a (if_no (kind ts == left_brace_kind) _ _ V Q b y)
 
-  worded : (n : ℕ) (V : Tree × Stand Input → Type 0) (Q : Type 0) → kind ts ≡ n → eqb n semicolon_kind ≡ false → eqb n left_brace_kind ≡ false → Reads (from ts k) (keyword_stmt lm z.inner c (from ts k)) V Q → Reads (from ts k) (stmt_from lm z.inner c (from ts k)) V Q
+  worded : (n : ℕ) (V : Tree × State Input → Type 0) (Q : Type 0) → kind ts ≡ n → eqb n semicolon_kind ≡ false → eqb n left_brace_kind ≡ false → Reads (from ts k) (keyword_stmt lm z.inner c (from ts k)) V Q → Reads (from ts k) (stmt_from lm z.inner c (from ts k)) V Q
   worded n V Q e a b y = word_stmt V Q (subst (λ (x : ℕ). eqb x semicolon_kind ≡ false) (sym e) a) (subst (λ (x : ℕ). eqb x left_brace_kind ≡ false) (sym e) b) y
 
-  block_stmt_found : (s : Span) (ss : Trees) → Within z.Covered (block_stmt s ss) → Spells (block_stmt s ss) (coded p c) ts r → Reads (from ts k) (stmt_from lm z.inner c (from ts k)) (Is (block_stmt s ss) r) (z.depth < within z.reach (block_stmt s ss))
+  block_stmt_found : (s : Span) (ss : Trees) → Within z.Covered (block_stmt s ss) → Produces (block_stmt s ss) (coded p c) ts r → Reads (from ts k) (stmt_from lm z.inner c (from ts k)) (Is (block_stmt s ss) r) (z.depth < within z.reach (block_stmt s ss))
   unfolding stmt_from stmt_by
   block_stmt_found s ss g h = if_no (kind ts == semicolon_kind) _ _ _ _ (subst (λ (x : ℕ). eqb x semicolon_kind ≡ false) (sym h.1.0) refl) (if_yes (kind ts == left_brace_kind) _ _ _ _ (eq-eqb (kind ts) left_brace_kind h.1.0) (block_found z p c (block_stmt s ss) ts r k refl g h))
 
-  empty_found : (s : Span) (Q : Type 0) → Spells (empty_stmt s) (coded p c) ts r → Reads (from ts k) (stmt_from lm z.inner c (from ts k)) (Is (empty_stmt s) r) Q
+  empty_found : (s : Span) (Q : Type 0) → Produces (empty_stmt s) (coded p c) ts r → Reads (from ts k) (stmt_from lm z.inner c (from ts k)) (Is (empty_stmt s) r) Q
   unfolding stmt_from stmt_by
   empty_found s Q h = if_yes (kind ts == semicolon_kind) _ _ _ _ (eq-eqb (kind ts) semicolon_kind h.0.0) (past_here (ap (λ (y : Span). empty_stmt y) (first_at ts r s h.0.2 h.1)) h.0.2)
 
   var_word : (o : ℕ) → is_var_word o ≡ true → kind ts ≡ o → (eqb (kind ts) semicolon_kind ≡ false) × (eqb (kind ts) left_brace_kind ≡ false)
   var_word o w e = let v : is_var_word (kind ts) ≡ true = subst (λ (n : ℕ). is_var_word n ≡ true) (sym e) w in (no_kind is_var_word (kind ts) semicolon_kind v refl, no_kind is_var_word (kind ts) left_brace_kind v refl)
 
-  -- What a statement or a declaration spells, its rule reads: the tree and the rest, or too deep where what it hands on reaches deeper.
-  pub stmt_found : (t : Tree) → Within z.Covered t → allowed c t ≡ true → Spells t (coded p c) ts r → may_follow (kind r) ≡ true → Reads (from ts k) (stmt_from lm z.inner c (from ts k)) (Is t r) (z.depth < within z.reach t)
+  -- What a statement or a declaration produces, its rule reads: the tree and the rest, or too deep where what it hands on reaches deeper.
+  pub stmt_found : (t : Tree) → Within z.Covered t → allowed c t ≡ true → Produces t (coded p c) ts r → may_follow (kind r) ≡ true → Reads (from ts k) (stmt_from lm z.inner c (from ts k)) (Is t r) (z.depth < within z.reach t)
   stmt_found (block_stmt s ss) g a h q = block_stmt_found s ss g h
   stmt_found (empty_stmt s) g a h q = empty_found s _ h
   stmt_found (debugger_stmt s) g a h q = worded debugger_kind _ _ h.1.0 refl refl (at_debugger z.inner c ts k _ _ h.1.0 (debugger_found z p c ts k r s _ h))

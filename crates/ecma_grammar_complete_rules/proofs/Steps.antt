@@ -8,14 +8,14 @@ use Rattle.ecma_syntax.specs.Input.{Input, Code, kind, kind2, brk, lo, hi, text,
 use Rattle.ecma_syntax.specs.Operators.{binary_level, right_level, operates, is_assign_op, goes_expr, assignment_level, expression_level, call_level, new_level, coalesce_level, between}
 use Rattle.ecma_syntax.specs.Shape.{level, ends, fits_left, is_chain}
 use Rattle.ecma_grammar.specs.Expressions.{is_update_op}
-use Rattle.ecma_reading.specs.Source.{Fault, ◌>>=◌, unexpected, Stand, Inner, eat}
+use Rattle.ecma_reading.specs.Source.{Fault, ◌>>=◌, unexpected, State, Inner, eat}
 use Rattle.ecma_reading.specs.Expressions.{Elements, step_by, binary_by, cond_by, computed_by, index_by, member_by, member_name, private_by, call_by, arguments_by, elements_by, on_chain, call_tree}
 use Rattle.ecma_grammar_complete_base.proofs.Yields.{lm, from, then_reads, Is, then_is, then_eat, then_word, then_any, Reads, here, past_here, ended, if_no, if_yes, then_past}
 use Rattle.ecma_grammar_complete_base.proofs.Levels.{operated, not_binary, not_assign, cond_yes, cond_no}
 use Rattle.ecma_grammar_complete_base.proofs.Trees.{by_update}
 use Rattle.ecma_grammar_complete_rules.proofs.Lists.{Has, pack_unpack}
 
-module _ (inner : Inner Input) (c : Code) (start : Stand Input) (a : Tree) (m : Input) (j : List ℕ) (V : Tree × Stand Input → Type 0) (Q : Type 0) where
+module _ (inner : Inner Input) (c : Code) (start : State Input) (a : Tree) (m : Input) (j : List ℕ) (V : Tree × State Input → Type 0) (Q : Type 0) where
   pub step_binary : operates c (kind m) ≡ true → fits_left (kind m) a ≡ true → Reads (from m j) (binary_by lm inner c start a (from m j)) V Q → Reads (from m j) (step_by lm inner c start a (from m j)) V Q
   unfolding step_by
   step_binary o f y = let b = operated c (kind m) o in

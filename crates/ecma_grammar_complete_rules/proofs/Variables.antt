@@ -8,10 +8,10 @@ use Rattle.ecma_tree.specs.Tree.{Tree, Trees, none, more, pack, unpack, var_decl
 use Rattle.ecma_syntax.specs.Input.{Input, Code, kind, kind2, brk, lo, span, rest, barred, binding}
 use Rattle.ecma_syntax.specs.Operators.{assignment_level, goes_expr, goes_on, binding_end, may_name}
 use Rattle.ecma_syntax.specs.Shape.{level, ends, is_absent, is_binding, is_declarator, declarator_end, declarators_end}
-use Rattle.ecma_grammar.specs.Parts.{By, part, Sorted, CommaThen, Commas, Ends}
+use Rattle.ecma_grammar.specs.Children.{By, child, Sorted, CommaThen, Commas, Ends}
 use Rattle.ecma_grammar.specs.Statements.{is_var_word, starts_pattern}
-use Rattle.ecma_grammar.specs.Grammar.{Spells, parts}
-use Rattle.ecma_reading.specs.Source.{Fault, ◌>>=◌, Stand, Inner, go_on, finished, end_of}
+use Rattle.ecma_grammar.specs.Grammar.{Produces, children}
+use Rattle.ecma_reading.specs.Source.{Fault, ◌>>=◌, State, Inner, go_on, finished, end_of}
 use Rattle.ecma_reading.specs.Statements.{declarator_by, declarator_step, declarators_by, variables_by, using_by, starts_let, starts_using, starts_await_using}
 use Rattle.ecma_grammar_complete_base.proofs.Yields.{lm, from, len, coded, Reads, Is, then_is, then_word, then_past, here, past_here, ended, if_no, if_yes, Loops, loop_on, loop_end, looped}
 use Rattle.ecma_grammar_complete_base.proofs.Levels.{Follow, quiet, ends_operand, comma_after, goes_comma}
@@ -80,10 +80,10 @@ settled_end p c ds m r h = by_class (declarators_end ds) (declarators_class ds) 
         (λ q. ⊎_elim (λ q. settled_at c e end_kind m (eqb-true (kind m) end_kind q) refl refl refl refl refl) (λ q. let y = and_parts (brk m) _ q in on_line e k y.0 (not-true (goes_on c e m) y.1)) (or_cases (kind m == end_kind) _ q)) (or_cases (kind m == right_brace_kind) _ h.1)
 
 module _ (z : Nested) (p : Bool) (c : Code) where
-  pub two_found : (e : Tree) (m n : Input) (k : List ℕ) → z.Covered e → 2 ≤ level e → Spells e (coded p c) m n → Follow c (ends e) 2 n → Reads (from m k) (z.inner.expr c assignment_level (from m k)) (Is e n) (z.depth < z.reach e)
+  pub two_found : (e : Tree) (m n : Input) (k : List ℕ) → z.Covered e → 2 ≤ level e → Produces e (coded p c) m n → Follow c (ends e) 2 n → Reads (from m k) (z.inner.expr c assignment_level (from m k)) (Is e n) (z.depth < z.reach e)
   two_found e m n k g le h f = z.expr e p c 2 m n k g h (omega arith) (omega arith) two_asked le f
 
-  declarator_found : (t : Tree) (ts m : Input) (k : List ℕ) → is_declarator t ≡ true → Within z.Covered t → Spells t (coded p c) ts m → Settles c (declarator_end t) m → Reads (from ts k) (declarator_by lm z.inner c (from ts k)) (Is t m) (z.depth < within z.reach t)
+  declarator_found : (t : Tree) (ts m : Input) (k : List ℕ) → is_declarator t ≡ true → Within z.Covered t → Produces t (coded p c) ts m → Settles c (declarator_end t) m → Reads (from ts k) (declarator_by lm z.inner c (from ts k)) (Is t m) (z.depth < within z.reach t)
   unfolding declarator_by
   declarator_found (var_declarator s n v) ts m k i g h w = then_is (z.inner.pat c (from ts k)) _ n h.0 (z.depth < z.reach n) _ _ (z.pat n p c ts h.0 k g.0 h.1 h.2) (λ u. omega arith) (λ j. by_cases (is_absent v) _ _ _ h.3
       (λ q x. if_no (kind h.0 == assign_kind) _ _ _ _ (subst (λ (y : Input). eqb (kind y) assign_kind ≡ false) (sym x) (w.no_value (rw q refl)))
@@ -97,22 +97,22 @@ module _ (z : Nested) (p : Bool) (c : Code) where
           subst (λ (e : ℕ). Follow c e 2 m) e (w.follow (subst (λ (e : ℕ). e ≤ 2) (sym e) (ends_two v)))
   declarator_found _ ts m k i g h w = absurd (true≢false (sym i))
 
-  more_declared : (t : Tree) (acc : List Tree) (ts m r : Input) (k : List ℕ) → is_declarator t ≡ true → Within z.Covered t → Spells t (coded p c) ts m → kind m ≡ comma_kind → rest m ≡ r
+  more_declared : (t : Tree) (acc : List Tree) (ts m r : Input) (k : List ℕ) → is_declarator t ≡ true → Within z.Covered t → Produces t (coded p c) ts m → kind m ≡ comma_kind → rest m ≡ r
       → Reads (from ts k) (declarator_step lm z.inner c acc (from ts k)) (Is (go_on (acc ++ t ∷ [])) r) (z.depth < within z.reach t)
   unfolding declarator_step
   more_declared t acc ts m r k i g h e q = then_is (declarator_by lm z.inner c (from ts k)) _ t m (z.depth < within z.reach t) _ _ (declarator_found t ts m k i g h (comma_settles c (declarator_end t) m e)) (λ u. u)
       (λ j. if_yes (kind m == comma_kind) _ _ _ _ (eq-eqb (kind m) comma_kind e) (past_here refl q))
 
-  last_declared : (t : Tree) (acc : List Tree) (ts m : Input) (k : List ℕ) → is_declarator t ≡ true → Within z.Covered t → Spells t (coded p c) ts m → Settled c (declarator_end t) m
+  last_declared : (t : Tree) (acc : List Tree) (ts m : Input) (k : List ℕ) → is_declarator t ≡ true → Within z.Covered t → Produces t (coded p c) ts m → Settled c (declarator_end t) m
       → Reads (from ts k) (declarator_step lm z.inner c acc (from ts k)) (Is (finished (acc ++ t ∷ [])) m) (z.depth < within z.reach t)
   unfolding declarator_step
   last_declared t acc ts m k i g h w = then_is (declarator_by lm z.inner c (from ts k)) _ t m (z.depth < within z.reach t) _ _ (declarator_found t ts m k i g h w.settles) (λ u. u) (λ j. if_no (kind m == comma_kind) _ _ _ _ w.no_comma (here refl))
 
-  declarator_less : (t : Tree) (ts m : Input) → is_declarator t ≡ true → Spells t (coded p c) ts m → len m < len ts
+  declarator_less : (t : Tree) (ts m : Input) → is_declarator t ≡ true → Produces t (coded p c) ts m → len m < len ts
   declarator_less (var_declarator s n v) ts m i h = omega (arith, cut (var_declarator s n v) (coded p c) ts m h)
   declarator_less _ ts m i h = absurd (true≢false (sym i))
 
-  declarators_loop : (t : Tree) (xs : Trees) (acc : List Tree) (ts m r : Input) (k : List ℕ) (b : ℕ) → Withins z.Covered (more t xs) → Sorted is_declarator (coded p c) (part t (λ y. Spells t y)) ts m → CommaThen (Sorted is_declarator (coded p c)) (coded p c) (parts xs) m r
+  declarators_loop : (t : Tree) (xs : Trees) (acc : List Tree) (ts m r : Input) (k : List ℕ) (b : ℕ) → Withins z.Covered (more t xs) → Sorted is_declarator (coded p c) (child t (λ y. Produces t y)) ts m → CommaThen (Sorted is_declarator (coded p c)) (coded p c) (children xs) m r
       → Settled c (declarators_end (more t xs)) r → withins z.reach (more t xs) ≤ b → Loops (declarator_step lm z.inner c) acc ts k (Is (acc ++ (t ∷ unpack xs)) r) (z.depth < b)
   declarators_loop t none acc ts m r k b g h w q le = loop_end _ _ (acc ++ t ∷ []) ts r k (z.depth < within z.reach t) _ _
       (subst (λ (y : Input). Reads (from ts k) (declarator_step lm z.inner c acc (from ts k)) (Is (finished (acc ++ t ∷ [])) y) (z.depth < within z.reach t)) w (last_declared t acc ts m k h.0 g.0 h.1 (subst (λ (y : Input). Settled c (declarator_end t) y) (sym w) q))) (λ u. omega arith) (λ l. (refl, refl))
@@ -120,13 +120,13 @@ module _ (z : Nested) (p : Bool) (c : Code) where
       (omega (arith, declarator_less t ts m h.0 h.1, takes comma_kind m w.0 w.2.0 (omega arith) w.2.2))
       (λ l. subst (λ ys. Loops (declarator_step lm z.inner c) (acc ++ t ∷ []) w.0 l (Is ys r) (z.depth < b)) (append_assoc acc (t ∷ []) (x ∷ unpack xs)) (declarators_loop x xs (acc ++ t ∷ []) w.0 w.1 r l b g.1 w.3 w.4 q (omega arith)))
 
-  pub declarators_found : (ds : Trees) (ts r : Input) (k : List ℕ) → Withins z.Covered ds → Commas (Sorted is_declarator (coded p c)) (coded p c) (parts ds) ts r → Settled c (declarators_end ds) r
+  pub declarators_found : (ds : Trees) (ts r : Input) (k : List ℕ) → Withins z.Covered ds → Commas (Sorted is_declarator (coded p c)) (coded p c) (children ds) ts r → Settled c (declarators_end ds) r
       → Reads (from ts k) (declarators_by lm z.inner c (from ts k)) (Is (unpack ds) r) (z.depth < withins z.reach ds)
   unfolding declarators_by
   declarators_found none ts r k g h q = absurd h
   declarators_found (more t xs) ts r k g h q = looped (declarator_step lm z.inner c) [] ts k (Is (t ∷ unpack xs) r) _ (declarators_loop t xs [] ts h.0 r k (withins z.reach (more t xs)) g h.1 h.2 q (omega arith))
 
-  pub variables_found : (s : Span) (o : ℕ) (ds : Trees) (ts r : Input) (k : List ℕ) → Within z.Covered (var_decl s o ds) → Spells (var_decl s o ds) (coded p c) ts r → Reads (from ts k) (variables_by lm z.inner c (from ts k)) (Is (var_decl s o ds) r) (z.depth < within z.reach (var_decl s o ds))
+  pub variables_found : (s : Span) (o : ℕ) (ds : Trees) (ts r : Input) (k : List ℕ) → Within z.Covered (var_decl s o ds) → Produces (var_decl s o ds) (coded p c) ts r → Reads (from ts k) (variables_by lm z.inner c (from ts k)) (Is (var_decl s o ds) r) (z.depth < within z.reach (var_decl s o ds))
   unfolding variables_by
   variables_found s o ds ts r k g h = then_word c (kind ts) ts h.1.0 k _ _ _ refl h.1.2.1 h.1.2.3
       (then_is (declarators_by lm z.inner c (from h.1.0 k)) _ (unpack ds) h.0 (z.depth < withins z.reach ds) _ _ (declarators_found ds h.1.0 h.0 k g h.1.3 (settled_end p c ds h.0 r h.2)) (λ u. u)
@@ -134,7 +134,7 @@ module _ (z : Nested) (p : Bool) (c : Code) where
       (then_end p c (declarators_end ds) h.0 r j _ _ _ h.2 (here (ap (λ (y : Span). var_decl y (kind ts) ds) (sym h.3) ∙ ap (λ (y : ℕ). var_decl s y ds) h.1.2.0)))))
 
   -- `using`, from that word
-  pub using_found : (start : Input) (i : List ℕ) (s : Span) (w : Bool) (ds : Trees) (m n o r : Input) (k : List ℕ) → Withins z.Covered ds → kind m ≡ using_kind → barred c.context m ≡ false → rest m ≡ n → Commas (Sorted is_declarator (coded p c)) (coded p c) (parts ds) n o
+  pub using_found : (start : Input) (i : List ℕ) (s : Span) (w : Bool) (ds : Trees) (m n o r : Input) (k : List ℕ) → Withins z.Covered ds → kind m ≡ using_kind → barred c.context m ≡ false → rest m ≡ n → Commas (Sorted is_declarator (coded p c)) (coded p c) (children ds) n o
       → Ends (coded p c) (declarators_end ds) o r → s ≡ span (lo start) r.last → Reads (from m k) (using_by lm z.inner c (from start i) w (from m k)) (Is (using_decl s w ds) r) (z.depth < withins z.reach ds)
   unfolding using_by
   using_found start i s w ds m n o r k g e b q h x v = then_word c using_kind m n k _ _ _ e b q
@@ -144,11 +144,11 @@ module _ (z : Nested) (p : Bool) (c : Code) where
 
 -- ---- what starts a declaration
 
-declarator_starts : (t : Tree) (c : Code) (ts r : Input) → is_declarator t ≡ true → Spells t c ts r → starts_binding (kind ts) ≡ true
+declarator_starts : (t : Tree) (c : Code) (ts r : Input) → is_declarator t ≡ true → Produces t c ts r → starts_binding (kind ts) ≡ true
 declarator_starts (var_declarator s n v) c ts r i h = binding_starts n (binding c) ts h.0 h.1 h.2
 declarator_starts _ c ts r i h = absurd (true≢false (sym i))
 
-pub declarators_start : (ds : Trees) (c : Code) (ts r : Input) → Commas (Sorted is_declarator c) c (parts ds) ts r → starts_binding (kind ts) ≡ true
+pub declarators_start : (ds : Trees) (c : Code) (ts r : Input) → Commas (Sorted is_declarator c) c (children ds) ts r → starts_binding (kind ts) ≡ true
 declarators_start none c ts r h = absurd h
 declarators_start (more t xs) c ts r h = declarator_starts t c ts h.0 h.1.0 h.1.1
 

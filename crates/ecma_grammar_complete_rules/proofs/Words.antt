@@ -7,10 +7,10 @@ use Rattle.ecma_tree.specs.Tree.{Tree, Trees, none, more, pack, unpack, call_exp
 use Rattle.ecma_syntax.specs.Input.{Input, Code, TakesWord, kind, brk, lo, text, rest, span, first_span, is_word, barred, with_in}
 use Rattle.ecma_syntax.specs.Operators.{expression_level, assignment_level}
 use Rattle.ecma_syntax.specs.Shape.{is_element, is_spread}
-use Rattle.ecma_grammar.specs.Parts.{Part, part, By, IsEmpty, Listed, Sorted}
+use Rattle.ecma_grammar.specs.Children.{Child, child, By, IsEmpty, Listed, Sorted}
 use Rattle.ecma_grammar.specs.Expressions.{Dotted, MetaProperty, ImportArguments, is_plain_element, is_at_most_one}
-use Rattle.ecma_grammar.specs.Grammar.{Spells, parts}
-use Rattle.ecma_reading.specs.Source.{Fault, ◌>>=◌, unexpected, Stand, bound, Inner, eat, eat_word, any_word, iterate}
+use Rattle.ecma_grammar.specs.Grammar.{Produces, children}
+use Rattle.ecma_reading.specs.Source.{Fault, ◌>>=◌, unexpected, State, bound, Inner, eat, eat_word, any_word, iterate}
 use Rattle.ecma_reading.specs.Expressions.{Elements, no_elements, element_step, elements_by, computed_by, arguments_by, prefix_by, keyword_by, super_end, import_by, fits_import, new_by, yield_by, yield_end, ends_yield}
 use Rattle.ecma_reading.specs.Reading.{readers}
 use Rattle.ecma_grammar_complete_base.proofs.Yields.{lm, from, coded, reads_map, first_at, Reads, then_reads, Is, then_is, then_past, onto, then_eat, then_word, then_any, after_one, here, ended, if_no, if_yes, loop_end, looped}
@@ -21,13 +21,13 @@ use Rattle.ecma_grammar_complete_rules.proofs.Steps.{computed_found}
 use Rattle.ecma_grammar_complete_rules.proofs.Members.{Lists, listed, no_more}
 
 -- these elements, which an import takes
-abbrev pub Imported : Inner Input → Code → Trees → Input → Elements × Stand Input → Type 0
+abbrev pub Imported : Inner Input → Code → Trees → Input → Elements × State Input → Type 0
 Imported inner c xs r x = (fits_import lm inner c x.0 ≡ true) × (x.0.items ≡ unpack xs) × (x.1.source ≡ r)
 
 module _ (inner : Inner Input) (c : Code) (lev : ℕ) (ts : Input) (k : List ℕ) (m : Input) (Q : Type 0) where
   -- ---- `super`
 
-  super_found : (V : Tree × Stand Input → Type 0) → kind ts ≡ super_kind → barred c.context ts ≡ false → rest ts ≡ m → Reads (from m k) (super_end lm inner c (from ts k) (from m k)) V Q → Reads (from ts k) (prefix_by lm inner c lev (from ts k)) V Q
+  super_found : (V : Tree × State Input → Type 0) → kind ts ≡ super_kind → barred c.context ts ≡ false → rest ts ≡ m → Reads (from m k) (super_end lm inner c (from ts k) (from m k)) V Q → Reads (from ts k) (prefix_by lm inner c lev (from ts k)) V Q
   unfolding prefix_by keyword_by
   super_found V e b q y = rw e (then_word c super_kind ts m k _ V Q e b q y)
 
@@ -46,7 +46,7 @@ module _ (inner : Inner Input) (c : Code) (lev : ℕ) (ts : Input) (k : List ℕ
       (then_is (computed_by lm inner c expression_level (from m k)) _ (computed_prop_name u x) r Q _ Q (computed_found inner c ts k absent m k Q expression_level u x n o r P v y i f h l) (λ z. z)
       (λ j. here (ap (λ (z : Span). super_prop_expr z (super (first_span ts)) (computed_prop_name u x)) (sym p) ∙ ap (λ (z : Span). super_prop_expr s (super z) (computed_prop_name u x)) (first_at ts m t q w))))))
 
-  pub super_name : (a : Code) (s t : Span) (x : Tree) (r : Input) → kind ts ≡ super_kind → barred c.context ts ≡ false → rest ts ≡ m → t ≡ span (lo ts) m.last → Dotted false a (part x (λ y. Spells x y)) m r → s ≡ span (lo ts) r.last
+  pub super_name : (a : Code) (s t : Span) (x : Tree) (r : Input) → kind ts ≡ super_kind → barred c.context ts ≡ false → rest ts ≡ m → t ≡ span (lo ts) m.last → Dotted false a (child x (λ y. Produces x y)) m r → s ≡ span (lo ts) r.last
       → Reads (from ts k) (prefix_by lm inner c lev (from ts k)) (Is (super_prop_expr s (super t) x) r) Q
   unfolding super_end
   super_name a s t (ident_name u n) r e b q w h p = super_found _ e b q (if_no (eqb (kind m) left_paren_kind) _ _ _ _ (ne_eqb (kind m) left_paren_kind (λ z. omega (arith, z, h.1.0))) (if_no (eqb (kind m) left_bracket_kind) _ _ _ _ (ne_eqb (kind m) left_bracket_kind (λ z. omega (arith, z, h.1.0)))
@@ -68,7 +68,7 @@ module _ (inner : Inner Input) (c : Code) (lev : ℕ) (ts : Input) (k : List ℕ
 
   -- ---- `yield`
 
-  yields : (V : Tree × Stand Input → Type 0) → kind ts ≡ yield_kind → barred c.context ts ≡ false → rest ts ≡ m → c.context.in_generator ≡ true → Reads (from m k) (yield_end lm inner c (from ts k) (from m k)) V Q → Reads (from ts k) (prefix_by lm inner c lev (from ts k)) V Q
+  yields : (V : Tree × State Input → Type 0) → kind ts ≡ yield_kind → barred c.context ts ≡ false → rest ts ≡ m → c.context.in_generator ≡ true → Reads (from m k) (yield_end lm inner c (from ts k) (from m k)) V Q → Reads (from ts k) (prefix_by lm inner c lev (from ts k)) V Q
   unfolding prefix_by keyword_by yield_by
   yields V e b q g y = rw e (if_yes c.context.in_generator _ _ V Q g (then_word c yield_kind ts m k _ V Q e b q y))
 
@@ -111,7 +111,7 @@ module _ (inner : Inner Input) (c : Code) (lev : ℕ) (ts : Input) (k : List ℕ
       )))))))
 
 module _ (inner : Inner Input) (c : Code) where
-  fits_many : (x : Tree) (ys : Trees) (b : Bool) → c.syntax.import_attributes ≡ true → is_plain_element (parts (more x ys)) ≡ true → is_at_most_one (parts ys) ≡ true → fits_import lm inner c (record { items = x ∷ unpack ys; comma = b }) ≡ true
+  fits_many : (x : Tree) (ys : Trees) (b : Bool) → c.syntax.import_attributes ≡ true → is_plain_element (children (more x ys)) ≡ true → is_at_most_one (children ys) ≡ true → fits_import lm inner c (record { items = x ∷ unpack ys; comma = b }) ≡ true
   fits_many x none b a q h = and_from (not (is_spread x)) _ (and_parts (not (is_spread x)) true q).0 (or_left c.syntax.import_attributes _ a)
   fits_many x (more u none) b a q h = let w = and_parts (not (is_spread x)) (not (is_spread u) && true) q in and_from c.syntax.import_attributes _ a (and_from (not (is_spread x)) _ w.0 (and_parts (not (is_spread u)) true w.1).0)
   fits_many x (more u (more v vs)) b a q h = absurd (true≢false (sym h))
@@ -119,7 +119,7 @@ module _ (inner : Inner Input) (c : Code) where
   fits_one : (x : Tree) → not (is_spread x) ≡ true → fits_import lm inner c (record { items = x ∷ []; comma = false }) ≡ true
   fits_one x q = and_from (not (is_spread x)) _ q (or_right c.syntax.import_attributes _ refl)
 
-pub import_elements : (z d : ℕ) (f : Finds z d) (p : Bool) (c : Code) (xs : Trees) (ts r : Input) (k : List ℕ) (n : ℕ) → sizes xs < z → CoveredAll xs → ImportArguments (coded p c) (parts xs) ts r → reaches xs ≤ n
+pub import_elements : (z d : ℕ) (f : Finds z d) (p : Bool) (c : Code) (xs : Trees) (ts r : Input) (k : List ℕ) (n : ℕ) → sizes xs < z → CoveredAll xs → ImportArguments (coded p c) (children xs) ts r → reaches xs ≤ n
     → Reads (from ts k) (elements_by lm (readers lm d) c false right_paren_kind (from ts k)) (Imported (readers lm d) c xs r) (d < n)
 unfolding elements_by
 import_elements z d f p c none ts r k n sz g h le = absurd h

@@ -2,23 +2,23 @@
 use Rattle.std.proofs.Common.{◌≡◌, ◌≤◌, arith, ℕ, ◌==◌, ◌||◌, Bool, true, false, not, cond, nat_le, List, [], ◌∷◌, refl, sym, ap, ◌∙◌, subst, true≢false}
 use Rattle.std.proofs.lemmas.Bool.{le-leb, eqb-true, eq-eqb, and_parts}
 use Rattle.ecma_token.specs.Kinds.{div_kind, div_assign_kind, regex_kind, error_kind}
-use Rattle.ecma_syntax.specs.Input.{Place, usual, div_goal, regexp_goal}
+use Rattle.ecma_syntax.specs.Input.{PlacedToken, usual, div_goal, regexp_goal}
 use Rattle.ecma_grammar_goals.specs.TemplateLaws.{Region, Outside, Inside, Behind, Nowhere, after, fits, over}
 
 abbrev IsSomewhere : Region → Type 0
 IsSomewhere Nowhere = ⊥
 IsSomewhere g = Unit {0}
 
-lost : (ps : List Place) → over Nowhere ps ≡ Nowhere
+lost : (ps : List PlacedToken) → over Nowhere ps ≡ Nowhere
 lost [] = refl
 lost (p ∷ ps) = lost ps
 
 -- no list leads back from nowhere
-pub not_lost : (ps : List Place) → over Nowhere ps ≡ Outside [] → ⊥
+pub not_lost : (ps : List PlacedToken) → over Nowhere ps ≡ Outside [] → ⊥
 not_lost ps h = subst (λ (g : Region). IsSomewhere g) (sym (sym (lost ps) ∙ h)) tt
 
 -- the first token stands under a goal of its region, and what comes behind it matches
-pub fits_on : (g : Region) (p : Place) (ps : List Place) → over g (p ∷ ps) ≡ Outside [] → (fits g p.spot.token.kind p.goal ≡ true) × (over (after g p.spot.token.kind) ps ≡ Outside [])
+pub fits_on : (g : Region) (p : PlacedToken) (ps : List PlacedToken) → over g (p ∷ ps) ≡ Outside [] → (fits g p.spot.token.kind p.goal ≡ true) × (over (after g p.spot.token.kind) ps ≡ Outside [])
 fits_on g p ps h = by_test (fits g p.spot.token.kind p.goal) h
   where
     by_test : (b : Bool) → over (cond b (after g p.spot.token.kind) Nowhere) ps ≡ Outside [] → (b ≡ true) × (over (after g p.spot.token.kind) ps ≡ Outside [])
@@ -52,7 +52,7 @@ module _ (s : List Bool) (k g : ℕ) (h : fits (Outside s) k g ≡ true) where
   sound_there e = true≢false (sym (and_parts (usual k g) (not (k == error_kind)) h).1 ∙ ap (λ (z : Bool). not z) (eq-eqb k error_kind e))
 
 -- no fault stands in a list that matches
-pub sound_on : (g : Region) (p : Place) (ps : List Place) → over g (p ∷ ps) ≡ Outside [] → p.spot.token.kind ≡ error_kind → ⊥
+pub sound_on : (g : Region) (p : PlacedToken) (ps : List PlacedToken) → over g (p ∷ ps) ≡ Outside [] → p.spot.token.kind ≡ error_kind → ⊥
 sound_on (Outside s) p ps h e = sound_there s p.spot.token.kind p.goal (fits_on (Outside s) p ps h).0 e
 sound_on (Inside s) p ps h e = not_lost ps (subst (λ (k : ℕ). over (after (Inside s) k) ps ≡ Outside []) e (fits_on (Inside s) p ps h).1)
 sound_on (Behind s) p ps h e = not_lost ps (subst (λ (k : ℕ). over (after (Behind s) k) ps ≡ Outside []) e (fits_on (Behind s) p ps h).1)

@@ -4,8 +4,8 @@ use Rattle.ecma_token.specs.declared.syntax.EsSyntax.{EsSyntax}
 use Rattle.ecma_token.specs.Kinds.{regex_kind}
 use Rattle.ecma_token.specs.Tokens.{Content, Bare, Pattern}
 use Rattle.ecma_tree.specs.Tree.{Tree}
-use Rattle.ecma_syntax.specs.Input.{Place, Input, Code, script_code, module_code}
-use Rattle.ecma_reading.specs.Source.{Fault, ◌>>=◌, is_nil, Stand}
+use Rattle.ecma_syntax.specs.Input.{PlacedToken, Input, Code, script_code, module_code}
+use Rattle.ecma_reading.specs.Source.{Fault, ◌>>=◌, is_nil, State}
 use Rattle.ecma_reading.specs.Reading.{readers, finish, read_program, read_list}
 use Rattle.ecma_reading.specs.Modules.{program_by}
 use Rattle.ecma_grammar_goals.specs.SlashLaws.{IsPattern, SlashesTold}
@@ -27,7 +27,7 @@ readers_told w (suc d) = let t = readers_told w d in record {
 }
 
 -- no list ends before the place where both part
-some_left : (l r : List Place) (p : Place) → is_nil (l ++ p ∷ r) ≡ true → ⊥
+some_left : (l r : List PlacedToken) (p : PlacedToken) → is_nil (l ++ p ∷ r) ≡ true → ⊥
 some_left [] r p e = true≢false (sym e)
 some_left (x ∷ l) r p e = true≢false (sym e)
 
@@ -38,38 +38,38 @@ Failed (Err e) = Unit {0}
 wrong : (d : Fault) (u : Tree) → ◌≡◌ {A = Result Tree Fault} (Err d) (Ok u) → ⊥
 wrong d u q = subst Failed q tt
 
-never_both : (w : Parting) (x y : Result (Tree × Stand Input) Fault) (t u : Tree) → Twins w x y → Ends x → (x >>= finish) ≡ Ok t → (y >>= finish) ≡ Ok u → ⊥
-never_both w (Ok x) (Ok y) t u h e i j = let z = h.so in some_left z.3 w.one.more _ (subst (λ (s : Stand Input). is_nil s.source.places ≡ true) z.4 e.so)
+never_both : (w : Parting) (x y : Result (Tree × State Input) Fault) (t u : Tree) → Twins w x y → Ends x → (x >>= finish) ≡ Ok t → (y >>= finish) ≡ Ok u → ⊥
+never_both w (Ok x) (Ok y) t u h e i j = let z = h.so in some_left z.3 w.one.more _ (subst (λ (s : State Input). is_nil s.source.places ≡ true) z.4 e.so)
 never_both w (Ok x) (Err d) t u h e i j = absurd (wrong d u j)
 never_both w (Err d) y t u h e i j = absurd (wrong d t i)
 
 -- ---- places
 
-abbrev made : ℕ → Content → ℕ → Bool → Place → Place
+abbrev made : ℕ → Content → ℕ → Bool → PlacedToken → PlacedToken
 made k v a b p = record { spot = record { token = record { kind = k; content = v }; line_break = b; lo = a; hi = p.spot.hi }; escaped = p.escaped; goal = p.goal; context = p.context }
 
-is_made : (p : Place) (k : ℕ) (v : Content) (a : ℕ) (b : Bool) → p.spot.token.kind ≡ k → p.spot.token.content ≡ v → p.spot.lo ≡ a → p.spot.line_break ≡ b → p ≡ made k v a b p
+is_made : (p : PlacedToken) (k : ℕ) (v : Content) (a : ℕ) (b : Bool) → p.spot.token.kind ≡ k → p.spot.token.content ≡ v → p.spot.lo ≡ a → p.spot.line_break ≡ b → p ≡ made k v a b p
 is_made p k v a b e f g h = ap (λ (x : ℕ). made x p.spot.token.content p.spot.lo p.spot.line_break p) e ∙ (ap (λ (x : Content). made k x p.spot.lo p.spot.line_break p) f ∙ (ap (λ (x : ℕ). made k v x p.spot.line_break p) g ∙ ap (λ (x : Bool). made k v a x p) h))
 
-abbrev rest_of : Place → List Place → Rest
+abbrev rest_of : PlacedToken → List PlacedToken → Rest
 rest_of p ps = record { hi = p.spot.hi; escaped = p.escaped; goal = p.goal; context = p.context; more = ps }
 
-abbrev parting : Place → List ℕ → List ℕ → Bool → List Place → Place → List Place → Parting
+abbrev parting : PlacedToken → List ℕ → List ℕ → Bool → List PlacedToken → PlacedToken → List PlacedToken → Parting
 parting p body flags b ps q qs = record { lo = p.spot.lo; line_break = p.spot.line_break; body = body; flags = flags; one = rest_of p ps; other = rest_of q qs; assigns = b }
 
-apart : (depth : ℕ) (modules : Bool) (syntax : EsSyntax) (start : ℕ) (front : List Place) (w : Parting) (t u : Tree)
+apart : (depth : ℕ) (modules : Bool) (syntax : EsSyntax) (start : ℕ) (front : List PlacedToken) (w : Parting) (t u : Tree)
     → read_list depth modules syntax start (front ++ regexps w) ≡ Ok t → read_list depth modules syntax start (front ++ slashes w) ≡ Ok u → ⊥
 unfolding read_list read_program
 apart depth modules syntax start front w t u i j = let c : Code = if modules then module_code syntax else script_code syntax in
     never_both w (program_by lm (readers lm depth) modules c (on [] start (front ++ regexps w))) (program_by lm (readers lm depth) modules c (on [] start (front ++ slashes w))) t u
     (program_by_twin w (readers lm depth) (readers_told w depth) modules c [] start front) (program_ends (readers lm depth) modules c (on [] start (front ++ regexps w))) i j
 
-told_by : (b : Bool) (depth : ℕ) (modules : Bool) (syntax : EsSyntax) (start : ℕ) (front : List Place) (p q : Place) (ps qs : List Place) (t u : Tree)
+told_by : (b : Bool) (depth : ℕ) (modules : Bool) (syntax : EsSyntax) (start : ℕ) (front : List PlacedToken) (p q : PlacedToken) (ps qs : List PlacedToken) (t u : Tree)
     → IsPattern p → q.spot.token.kind ≡ slash b → q.spot.token.content ≡ Bare → p.spot.lo ≡ q.spot.lo → p.spot.line_break ≡ q.spot.line_break
     → read_list depth modules syntax start (front ++ p ∷ ps) ≡ Ok t → read_list depth modules syntax start (front ++ q ∷ qs) ≡ Ok u → ⊥
 told_by b depth modules syntax start front p q ps qs t u h k v lo lb i j = apart depth modules syntax start front (parting p h.1 h.2 b ps q qs) t u
-    (subst (λ (x : Place). read_list depth modules syntax start (front ++ x ∷ ps) ≡ Ok t) (is_made p regex_kind (Pattern h.1 h.2) p.spot.lo p.spot.line_break h.0 h.3 refl refl) i)
-    (subst (λ (x : Place). read_list depth modules syntax start (front ++ x ∷ qs) ≡ Ok u) (is_made q (slash b) Bare p.spot.lo p.spot.line_break k v (sym lo) (sym lb)) j)
+    (subst (λ (x : PlacedToken). read_list depth modules syntax start (front ++ x ∷ ps) ≡ Ok t) (is_made p regex_kind (Pattern h.1 h.2) p.spot.lo p.spot.line_break h.0 h.3 refl refl) i)
+    (subst (λ (x : PlacedToken). read_list depth modules syntax start (front ++ x ∷ qs) ≡ Ok u) (is_made q (slash b) Bare p.spot.lo p.spot.line_break k v (sym lo) (sym lb)) j)
 
 pub slashes_told : SlashesTold
 slashes_told depth modules syntax start front p q ps qs t u h (inl k, v) lo lb i j = told_by false depth modules syntax start front p q ps qs t u h k v lo lb i j

@@ -2,11 +2,11 @@
 use Rattle.std.proofs.Common.{◌≡◌, ◌≤◌, if◌then◌else◌, not, ◌&&◌, Option, arith, ℕ, ◌==◌, Bool, true, false, cond, eqb, List, [], ◌∷◌, refl, sym, ap, ◌∙◌, subst, true≢false, ◌⊎◌, inl, inr}
 use Rattle.std.proofs.lemmas.Bool.{eqb-true, eq-eqb, and_parts}
 use Rattle.ecma_token.specs.Kinds.{error_kind, assign_kind, comma_kind, left_brace_kind, right_brace_kind, back_quote_kind, template_kind, dollar_brace_kind, semicolon_kind}
-use Rattle.ecma_syntax.specs.Input.{Place, Input, Code, Takes, TakesWord, TakesAnyWord, TakesName, TakesIn, Stands, Only, usual, goal_of, kind, kind_of, rest, others, is_word, in_list, turned_strict}
+use Rattle.ecma_syntax.specs.Input.{PlacedToken, Input, Code, Takes, TakesWord, TakesAnyWord, TakesName, TakesIn, Stands, Only, usual, goal_of, kind, kind_of, rest, others, is_word, in_list, turned_strict}
 use Rattle.ecma_syntax.specs.Shape.{is_absent, is_hole, is_rest, is_use_strict, is_directive, level, is_simple, is_target_expr, is_place, is_item_pat, is_target}
 use Rattle.ecma_token.specs.declared.place.Span.{Span}
 use Rattle.ecma_tree.specs.Tree.{Tree, tpl_element, expr_pat}
-use Rattle.ecma_grammar.specs.Parts.{Part, By, IsEmpty, Maybe, Listed, CommaThen, Commas, Ends, Items}
+use Rattle.ecma_grammar.specs.Children.{Child, By, IsEmpty, Maybe, Listed, CommaThen, Commas, Ends, Items}
 use Rattle.ecma_grammar_goals.specs.TemplateLaws.{Region, Outside, Inside, Nowhere, after, fits, over}
 
 pub record Goes (a b : Region) (ts r : Input) : Type 0 where
@@ -44,7 +44,7 @@ plain k a b c d e g h = plain_by (λ x. x == k) a b c d e g h k (eq-eqb k k refl
 step : (a b : Region) (k : ℕ) (ts r : Input) → eqb k 0 ≡ false → after a k ≡ b → fits a k (goal_of ts.places) ≡ true → kind ts ≡ k → rest ts ≡ r → Goes a b ts r
 step a b k ts r n e f i j = record { so = stepped ts.places i f ∙ ap (λ (x : Input). over b x.places) j }
   where
-    stepped : (l : List Place) → kind_of l ≡ k → fits a k (goal_of l) ≡ true → over a l ≡ over b (others l)
+    stepped : (l : List PlacedToken) → kind_of l ≡ k → fits a k (goal_of l) ≡ true → over a l ≡ over b (others l)
     stepped [] i f = absurd (true≢false (subst (λ (x : ℕ). eqb x 0 ≡ false) (sym i) n))
     stepped (p ∷ l) i f = ap (λ (z : Bool). over (cond z (after a p.spot.token.kind) Nowhere) l) (subst (λ (x : ℕ). fits a x p.goal ≡ true) (sym i) f) ∙ ap (λ (x : Region). over x l) (ap (λ (x : ℕ). after a x) i ∙ e)
 
@@ -125,11 +125,11 @@ leveled l (tpl_element s t w u) h g = absurd (omega (arith, h, g))
 leveled l (expr_pat e) h g = absurd (omega (arith, h, g))
 leveled l _ h g = refl
 
--- what a part spells
-abbrev pub Walked : Part → Type 0
-Walked e = (c : Code) (pl : c.placed ≡ true) (s : List Bool) (ts r : Input) → proper e.tree ≡ true → e.spelled c ts r → Goes (Outside s) (Outside s) ts r
+-- what a part produces
+abbrev pub Walked : Child → Type 0
+Walked e = (c : Code) (pl : c.placed ≡ true) (s : List Bool) (ts r : Input) → proper e.tree ≡ true → e.produced c ts r → Goes (Outside s) (Outside s) ts r
 
-abbrev pub AllWalked : List Part → Type 0
+abbrev pub AllWalked : List Child → Type 0
 AllWalked [] = Unit {0}
 AllWalked (x ∷ xs) = Walked x × AllWalked xs
 
@@ -145,7 +145,7 @@ pub one_of : {P Q : Type 0} (a d : Region) (ts r : Input) → P ⊎ Q → (P →
 one_of a d ts r (inl h) f g = f h
 one_of a d ts r (inr h) f g = g h
 
-pub maybe : (P : Code → Part → Input → Input → Type 0) (c : Code) (x : Part) (s : List Bool) (ts r : Input) → (P c x ts r → Goes (Outside s) (Outside s) ts r) → Maybe P c x ts r → Goes (Outside s) (Outside s) ts r
+pub maybe : (P : Code → Child → Input → Input → Type 0) (c : Code) (x : Child) (s : List Bool) (ts r : Input) → (P c x ts r → Goes (Outside s) (Outside s) ts r) → Maybe P c x ts r → Goes (Outside s) (Outside s) ts r
 maybe P c x s ts r f h = either (is_absent x.tree) (Outside s) (Outside s) ts r h (λ e k. stay (Outside s) ts r k) f
 
 pub paused : (c : Code) (pl : c.placed ≡ true) (e : ℕ) (s : List Bool) (ts r : Input) → Ends c e ts r → Goes (Outside s) (Outside s) ts r
@@ -155,21 +155,21 @@ comma : Plain comma_kind
 comma = plain comma_kind refl refl refl refl refl refl refl
 
 -- a list up to what closes it
-pub listed : (holes : Bool) (P : Part → Input → Input → Type 0) (c : Code) (pl : c.placed ≡ true) (close : ℕ) (s t : List Bool) → ((ts r : Input) → Takes c close ts r → Goes (Outside s) (Outside t) ts r)
-    → ((x : Part) (ts r : Input) → Walked x → P x ts r → Goes (Outside s) (Outside s) ts r) → (xs : List Part) → AllWalked xs → (ts r : Input) → Listed holes P c close xs ts r → Goes (Outside s) (Outside t) ts r
+pub listed : (holes : Bool) (P : Child → Input → Input → Type 0) (c : Code) (pl : c.placed ≡ true) (close : ℕ) (s t : List Bool) → ((ts r : Input) → Takes c close ts r → Goes (Outside s) (Outside t) ts r)
+    → ((x : Child) (ts r : Input) → Walked x → P x ts r → Goes (Outside s) (Outside s) ts r) → (xs : List Child) → AllWalked xs → (ts r : Input) → Listed holes P c close xs ts r → Goes (Outside s) (Outside t) ts r
 listed holes P c pl close s t shut f [] w ts r h = shut ts r h
 listed holes P c pl close s t shut f (x ∷ xs) w ts r h = by_test (holes && is_hole x.tree) (Outside s) (Outside t) ts r h
     (λ (g : (m : Input) × Takes c comma_kind ts m × Listed holes P c close xs m r). go _ _ _ ts g.0 r (takes c pl comma_kind s ts g.0 comma g.1) (listed holes P c pl close s t shut f xs w.1 g.0 r g.2))
     (λ (g : (m : Input) × P x ts m × (((is_rest x.tree ≡ false) × (n : Input) × Takes c comma_kind m n × Listed holes P c close xs n r) ⊎ (IsEmpty xs × Takes c close m r))). go _ _ _ ts g.0 r (f x ts g.0 w.0 g.1) (one_of (Outside s) (Outside t) g.0 r g.2
     (λ k. go _ _ _ g.0 k.1 r (takes c pl comma_kind s g.0 k.1 comma k.2) (listed holes P c pl close s t shut f xs w.1 k.1 r k.3)) (λ k. shut g.0 r k.1)))
 
-pub comma_then : (P : Part → Input → Input → Type 0) (c : Code) (pl : c.placed ≡ true) (s : List Bool) → ((x : Part) (ts r : Input) → Walked x → P x ts r → Goes (Outside s) (Outside s) ts r)
-    → (xs : List Part) → AllWalked xs → (ts r : Input) → CommaThen P c xs ts r → Goes (Outside s) (Outside s) ts r
+pub comma_then : (P : Child → Input → Input → Type 0) (c : Code) (pl : c.placed ≡ true) (s : List Bool) → ((x : Child) (ts r : Input) → Walked x → P x ts r → Goes (Outside s) (Outside s) ts r)
+    → (xs : List Child) → AllWalked xs → (ts r : Input) → CommaThen P c xs ts r → Goes (Outside s) (Outside s) ts r
 comma_then P c pl s f [] w ts r h = stay (Outside s) ts r h
 comma_then P c pl s f (x ∷ xs) w ts r h = go _ _ _ ts h.0 r (takes c pl comma_kind s ts h.0 comma h.2) (go _ _ _ h.0 h.1 r (f x h.0 h.1 w.0 h.3) (comma_then P c pl s f xs w.1 h.1 r h.4))
 
-pub commas : (P : Part → Input → Input → Type 0) (c : Code) (pl : c.placed ≡ true) (s : List Bool) → ((x : Part) (ts r : Input) → Walked x → P x ts r → Goes (Outside s) (Outside s) ts r)
-    → (xs : List Part) → AllWalked xs → (ts r : Input) → Commas P c xs ts r → Goes (Outside s) (Outside s) ts r
+pub commas : (P : Child → Input → Input → Type 0) (c : Code) (pl : c.placed ≡ true) (s : List Bool) → ((x : Child) (ts r : Input) → Walked x → P x ts r → Goes (Outside s) (Outside s) ts r)
+    → (xs : List Child) → AllWalked xs → (ts r : Input) → Commas P c xs ts r → Goes (Outside s) (Outside s) ts r
 commas P c pl s f [] w ts r h = absurd h
 commas P c pl s f (x ∷ xs) w ts r h = go _ _ _ ts h.0 r (f x ts h.0 w.0 h.1) (comma_then P c pl s f xs w.1 h.0 r h.2)
 
@@ -179,6 +179,6 @@ strict_placed false c pl = pl
 
 -- statements up to what closes them
 pub items : (may : Tree → Bool) (close : Code → Input → Input → Type 0) (s t : List Bool) → ((c : Code) (pl : c.placed ≡ true) (ts r : Input) → close c ts r → Goes (Outside s) (Outside t) ts r)
-    → ((t : Tree) → may t ≡ true → proper t ≡ true) → (c : Code) (pl : c.placed ≡ true) (starts : Bool) (xs : List Part) → AllWalked xs → (ts r : Input) → Items may close c starts xs ts r → Goes (Outside s) (Outside t) ts r
+    → ((t : Tree) → may t ≡ true → proper t ≡ true) → (c : Code) (pl : c.placed ≡ true) (starts : Bool) (xs : List Child) → AllWalked xs → (ts r : Input) → Items may close c starts xs ts r → Goes (Outside s) (Outside t) ts r
 items may close s t shut sort c pl starts [] w ts r h = shut c pl ts r h
 items may close s t shut sort c pl starts (x ∷ xs) w ts r h = go _ _ _ ts h.0 r (w.0 (in_list c) pl s ts h.0 (sort x.tree h.1) h.2) (items may close s t shut sort (if starts && is_use_strict x.tree then turned_strict c else c) (strict_placed (starts && is_use_strict x.tree) c pl) (starts && is_directive x.tree) xs w.1 h.0 r h.3)

@@ -2,8 +2,8 @@
 use Rattle.std.specs.Prelude.{◌≡◌, ℕ, Bool, true, false, not, ◌&&◌, ◌||◌, ◌==◌, if◌then◌else◌, List, [], ◌∷◌}
 use Rattle.ecma_token.specs.Kinds.{left_brace_kind, right_brace_kind, back_quote_kind, template_kind, dollar_brace_kind, error_kind}
 use Rattle.ecma_tree.specs.Tree.{Tree, script, es_module}
-use Rattle.ecma_syntax.specs.Input.{Place, Input, Code, usual, template_goal, template_end_goal}
-use Rattle.ecma_grammar.specs.Grammar.{Spells}
+use Rattle.ecma_syntax.specs.Input.{PlacedToken, Input, Code, usual, template_goal, template_end_goal}
+use Rattle.ecma_grammar.specs.Grammar.{Produces}
 
 -- Where a token stands, by the braces that are open there, the innermost first (true: one that `${` opened): outside the characters of templates;
 -- where a template's characters are to come; behind them; or nowhere, where a brace or a template before it has no partner.
@@ -37,14 +37,14 @@ fits (Behind s) k goal = goal == template_end_goal
 fits Nowhere k goal = false
 
 -- the region after some tokens, which stand under goals of theirs
-abbrev pub over : Region → List Place → Region
+abbrev pub over : Region → List PlacedToken → Region
 over g [] = g
 over g (p ∷ ps) = over (if fits g p.spot.token.kind p.goal then after g p.spot.token.kind else Nowhere) ps
 
--- a script or a module that spells tokens
+-- a script or a module that produces tokens
 abbrev pub Programmed : Tree → Code → Input → Input → Type 0
-Programmed (script s ss l) c ts r = Spells (script s ss l) c ts r
-Programmed (es_module s ss l) c ts r = Spells (es_module s ss l) c ts r
+Programmed (script s ss l) c ts r = Produces (script s ss l) c ts r
+Programmed (es_module s ss l) c ts r = Produces (es_module s ss l) c ts r
 Programmed t c ts r = ⊥
 
 -- In the tokens of a program each brace and each template has its partner, and each token stands under a goal of its region. So the characters of a

@@ -5,7 +5,7 @@ use Rattle.ecma_token.specs.Tokens.{Content, Piece, Line}
 use Rattle.ecma_tree.specs.Tree.{Tree, param, rest_pat, function}
 use Rattle.ecma_syntax.specs.Input.{Code}
 use Rattle.ecma_syntax.specs.Shape.{is_default_case, is_bare_declarator}
-use Rattle.ecma_reading.specs.Source.{Fault, Unexpected, TooDeep, ◌>>=◌, unexpected, Machine, Stand, Read, Step, go_on, finished, next_by, iterate_n, iterate, Inner}
+use Rattle.ecma_reading.specs.Source.{Fault, Unexpected, TooDeep, ◌>>=◌, unexpected, Stream, State, Read, Step, go_on, finished, next_by, iterate_n, iterate, Inner}
 use Rattle.ecma_reading.specs.Expressions.{is_rest_param, pattern_of, quasi}
 use Rattle.ecma_reading.specs.Statements.{constructor_of, has_default, one_bare}
 use Rattle.ecma_reading.specs.Modules.{line_of}
@@ -40,17 +40,17 @@ agree_by b d e x u y v h k = subst (λ (z : Bool). Agrees (cond b x y) (cond z u
 
 -- ---- loops
 
-module _ {S A : Type 0} (bound : Stand S → ℕ) (step other : A → Read S (Step A)) (h : (x : A) (s : Stand S) → Agrees (step x s) (other x s)) where
-  agree_next : (f g : A → Read S A) (b : ℕ) (y : Step A × Stand S) → ((x : A) (s : Stand S) → Agrees (f x s) (g x s)) → Agrees (next_by bound f b y) (next_by bound g b y)
+module _ {S A : Type 0} (bound : State S → ℕ) (step other : A → Read S (Step A)) (h : (x : A) (s : State S) → Agrees (step x s) (other x s)) where
+  agree_next : (f g : A → Read S A) (b : ℕ) (y : Step A × State S) → ((x : A) (s : State S) → Agrees (f x s) (g x s)) → Agrees (next_by bound f b y) (next_by bound g b y)
   agree_next f g b (go_on x, r) k = agree_if (ltb (bound r) b) _ _ _ _ (k x r) (agree_same _)
   agree_next f g b (finished x, r) k = agree_same _
 
-  agree_turns : (t : ℕ) (x : A) (s : Stand S) → Agrees (iterate_n bound t step x s) (iterate_n bound t other x s)
+  agree_turns : (t : ℕ) (x : A) (s : State S) → Agrees (iterate_n bound t step x s) (iterate_n bound t other x s)
   unfolding iterate_n
   agree_turns zero x s = agree_same _
   agree_turns (suc t) x s = agree_then _ _ _ _ (h x s) (λ y. agree_next (iterate_n bound t step) (iterate_n bound t other) (bound s) y (λ z r. agree_turns t z r))
 
-  pub agree_iterate : (x : A) (s : Stand S) → Agrees (iterate bound step x s) (iterate bound other x s)
+  pub agree_iterate : (x : A) (s : State S) → Agrees (iterate bound step x s) (iterate bound other x s)
   unfolding iterate
   agree_iterate x s = agree_turns (suc (bound s)) x s
 
@@ -58,14 +58,14 @@ module _ {S A : Type 0} (bound : Stand S → ℕ) (step other : A → Read S (St
 
 -- each answers what the other does, unless it is too deep
 pub record Steady {S : Type 0} (i j : Inner S) : Type 0 where
-  pub expr : (c : Code) (l : ℕ) (s : Stand S) → Agrees (i.expr c l s) (j.expr c l s)
-  pub pat : (c : Code) (s : Stand S) → Agrees (i.pat c s) (j.pat c s)
-  pub stmt : (c : Code) (s : Stand S) → Agrees (i.stmt c s) (j.stmt c s)
-  pub body : (c : Code) (s : Stand S) → Agrees (i.body c s) (j.body c s)
-  pub class_tail : (c : Code) (w : ℕ) (s : Stand S) → Agrees (i.class_tail c w s) (j.class_tail c w s)
+  pub expr : (c : Code) (l : ℕ) (s : State S) → Agrees (i.expr c l s) (j.expr c l s)
+  pub pat : (c : Code) (s : State S) → Agrees (i.pat c s) (j.pat c s)
+  pub stmt : (c : Code) (s : State S) → Agrees (i.stmt c s) (j.stmt c s)
+  pub body : (c : Code) (s : State S) → Agrees (i.body c s) (j.body c s)
+  pub class_tail : (c : Code) (w : ℕ) (s : State S) → Agrees (i.class_tail c w s) (j.class_tail c w s)
 
 -- what the rules say of trees and tokens alone is the same over either
-module _ {S : Type 0} (m : Machine S) (i j : Inner S) where
+module _ {S : Type 0} (m : Stream S) (i j : Inner S) where
   pub same_rest : (t : Tree) → is_rest_param m j t ≡ is_rest_param m i t
   same_rest (param s ds (rest_pat t d p)) = refl
   same_rest _ = refl

@@ -1,4 +1,4 @@
--- The readers that are tied by depth answer nothing that isn't spelled so.
+-- The readers that are tied by depth answer nothing that doesn't produce what it was read of.
 use Rattle.std.proofs.Common.{ℕ, zero, suc}
 use Rattle.ecma_reading.specs.Reading.{readers}
 use Rattle.ecma_grammar_laws.proofs.Sure.{lm}

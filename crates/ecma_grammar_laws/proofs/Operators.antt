@@ -7,10 +7,10 @@ use Rattle.ecma_tree.specs.Tree.{Tree, Trees, none, more, pack, unpack, seq_expr
 use Rattle.ecma_syntax.specs.Input.{Input, Code, kind, kind2, brk, text, Takes, lo, hi, span, first_span, with_in, has_in}
 use Rattle.ecma_syntax.specs.Operators.{expression_level, assignment_level, conditional_level, coalesce_level, update_level, new_level, call_level, member_level, binary_level, right_level, is_assign_op, operates, goes_expr, between}
 use Rattle.ecma_syntax.specs.Shape.{level, ends, fits_left, is_chain, is_private, is_target, is_target_expr, is_bound_name, is_simple, is_word_name, is_structured}
-use Rattle.ecma_grammar.specs.Parts.{part, By, Expr, CommaThen}
+use Rattle.ecma_grammar.specs.Children.{child, By, Expr, CommaThen}
 use Rattle.ecma_grammar.specs.Expressions.{Member, Dotted, AccessedName, ChainMember, Optional, Call}
-use Rattle.ecma_grammar.specs.Grammar.{Spells, parts}
-use Rattle.ecma_reading.specs.Source.{Fault, unexpected, Stand, Inner, go_on, finished, operand, iterate}
+use Rattle.ecma_grammar.specs.Grammar.{Produces, children}
+use Rattle.ecma_reading.specs.Source.{Fault, unexpected, State, Inner, go_on, finished, operand, iterate}
 use Rattle.ecma_reading.specs.Cover.{has, to_item, to_items, to_target}
 use Rattle.ecma_reading.specs.Expressions.{extended, arguments_by, computed_by, private_by, template_by, prefix_by, member_name, on_chain, member_by, index_by, call_tree, call_by, chain_by, cond_by, assign_by, binary_by, step_by, loop_step, loop_by, private_in, expr_from, expr_by}
 use Rattle.ecma_grammar_laws.proofs.Sure.{lm, seen, next, same, Sure, done, then_sure, sure_map, if_sure, test_sure, only_sure, eat_sure, word_sure, any_sure, StepSure, loop_sure}
@@ -45,10 +45,10 @@ cond_below true x y n h k = h
 cond_below false x y n h k = k
 
 -- whether the token goes on as a chain
-abbrev dotted : ℕ → Stand Input → Bool
+abbrev dotted : ℕ → State Input → Bool
 dotted e s = eqb (kind2 (seen s)) dot_kind && eqb e 0
 
-goes_le : (c : Code) (e : ℕ) (s : Stand Input) → goes_expr c e (seen s) ≤ cap c (dotted e s) (kind (seen s))
+goes_le : (c : Code) (e : ℕ) (s : State Input) → goes_expr c e (seen s) ≤ cap c (dotted e s) (kind (seen s))
 goes_le c e s = let k = kind (seen s) in
     cond_le (eqb k comma_kind) _ _ _ _ (omega arith) (cond_zero (leb 2 e) _ _ (
     cond_le (is_assign_op k) _ _ _ _ (omega arith) (
@@ -153,7 +153,7 @@ is_seq : Tree → Bool
 is_seq (seq_expr s xs) = true
 is_seq _ = false
 
-no_sequence : (c : Code) (t : Tree) (ts r : Input) → Spells t (plain c) ts r → 1 ≤ level t → (is_seq t ≡ true → ⊥) → 2 ≤ level t
+no_sequence : (c : Code) (t : Tree) (ts r : Input) → Produces t (plain c) ts r → 1 ≤ level t → (is_seq t ≡ true → ⊥) → 2 ≤ level t
 unfolding is_seq
 no_sequence c (seq_expr s xs) ts r h l n = absurd (n refl)
 no_sequence c (bin_expr s op a b) ts r h l n = two_levels op l
@@ -171,16 +171,16 @@ chain_level _ e = absurd (true≢false (sym e))
 
 -- ---- one more in a sequence
 
-commas_more : (c : Code) (xs : Trees) (e : Tree) (ts m n r : Input) → CommaThen (Expr assignment_level c) c (parts xs) ts m → Takes c comma_kind m n → Expr assignment_level c (part e (λ y. Spells e y)) n r → CommaThen (Expr assignment_level c) c (parts (pack (unpack xs ++ e ∷ []))) ts r
+commas_more : (c : Code) (xs : Trees) (e : Tree) (ts m n r : Input) → CommaThen (Expr assignment_level c) c (children xs) ts m → Takes c comma_kind m n → Expr assignment_level c (child e (λ y. Produces e y)) n r → CommaThen (Expr assignment_level c) c (children (pack (unpack xs ++ e ∷ []))) ts r
 commas_more c none e ts m n r h t k = (n, r, subst (λ z. Takes c comma_kind z n) (sym h) t, k, refl)
 commas_more c (more x xs) e ts m n r h t k = (h.0, h.1, h.2, h.3, commas_more c xs e h.1 m n r h.4 t k)
 
-sequence_more : (c : Code) (s p : Span) (xs : Trees) (e : Tree) (ts m n r : Input) → Spells (seq_expr s xs) c ts m → Takes c comma_kind m n → Expr assignment_level c (part e (λ y. Spells e y)) n r → p ≡ span (lo ts) r.last → Spells (seq_expr p (pack (unpack xs ++ e ∷ []))) c ts r
+sequence_more : (c : Code) (s p : Span) (xs : Trees) (e : Tree) (ts m n r : Input) → Produces (seq_expr s xs) c ts m → Takes c comma_kind m n → Expr assignment_level c (child e (λ y. Produces e y)) n r → p ≡ span (lo ts) r.last → Produces (seq_expr p (pack (unpack xs ++ e ∷ []))) c ts r
 sequence_more c s p none e ts m n r h t k q = absurd h
 sequence_more c s p (more x none) e ts m n r h t k q = absurd h
 sequence_more c s p (more x (more y ys)) e ts m n r h t k q = (h.0, h.1, commas_more c (more y ys) e h.0 m n r h.2 t k, q)
 
-extended_made : (c : Code) (start : Stand Input) (t : Tree) (s : Stand Input) (e : Tree) (r : Stand Input) → 1 ≤ level t → Spells t (plain c) (seen start) (seen s) → Takes (plain c) comma_kind (seen s) (seen (next s)) → Expr assignment_level (plain c) (part e (λ y. Spells e y)) (seen (next s)) (seen r)
+extended_made : (c : Code) (start : State Input) (t : Tree) (s : State Input) (e : Tree) (r : State Input) → 1 ≤ level t → Produces t (plain c) (seen start) (seen s) → Takes (plain c) comma_kind (seen s) (seen (next s)) → Expr assignment_level (plain c) (child e (λ y. Produces e y)) (seen (next s)) (seen r)
     → (1 ≤ level (extended t e (span (lo (seen start)) r.source.last))) × Made c start (extended t e (span (lo (seen start)) r.source.last), r)
 unfolding is_seq
 extended_made c start (seq_expr p xs) s e r l h t k = (omega arith, dull c start _ r (sequence_more (plain c) p (span (lo (seen start)) r.source.last) xs e (seen start) (seen s) (seen (next s)) (seen r) h t k refl) (λ b j. refl))
@@ -217,12 +217,12 @@ object_stays k s xs = if_holds (has s.lo.0 k) _ _ _ (λ _. record { so = tt }) (
     anything (Err e) = record { so = tt }
 
 abbrev IsTarget : ℕ → Code → Input → Input → Tree → Type 0
-IsTarget op c ts r p = (is_target op p ≡ true) × Spells p (plain c) ts r
+IsTarget op c ts r p = (is_target op p ≡ true) × Produces p (plain c) ts r
 
-simple_target : (op : ℕ) (c : Code) (t : Tree) (ts r : Input) → Spells t (plain c) ts r → Holds (cond (is_target_expr t && is_simple t) (Ok t) unexpected) (IsTarget op c ts r)
+simple_target : (op : ℕ) (c : Code) (t : Tree) (ts r : Input) → Produces t (plain c) ts r → Holds (cond (is_target_expr t && is_simple t) (Ok t) unexpected) (IsTarget op c ts r)
 simple_target op c t ts r h = if_holds (is_target_expr t && is_simple t) (Ok t) unexpected (IsTarget op c ts r) (λ e. record { so = (or_mid (is_bound_name t) (is_target_expr t && is_simple t) (eqb op assign_kind && is_structured t) e, h) }) (λ _. record { so = tt })
 
-target_holds : (op : ℕ) (k : List ℕ) (c : Code) (t : Tree) (ts r : Input) → Spells t (plain c) ts r → Refines k c t ts r → Holds (to_target op k t) (IsTarget op c ts r)
+target_holds : (op : ℕ) (k : List ℕ) (c : Code) (t : Tree) (ts r : Input) → Produces t (plain c) ts r → Refines k c t ts r → Holds (to_target op k t) (IsTarget op c ts r)
 target_holds op k c (ident s n) ts r h f = record { so = (refl, (refl, h)) }
 target_holds op k c (array_lit s xs) ts r h f = if_holds (eqb op assign_kind) _ _ _ (λ e. structured (to_item false k (array_lit s xs)) e (both_hold _ _ _ (f.so false tt) (array_stays k s xs))) (λ _. record { so = tt })
   where
@@ -238,22 +238,22 @@ target_holds op k c t ts r h f = simple_target op c t ts r h
 
 -- ---- members, calls and chains
 
-member_with : (c : Code) (s : Span) (o k : Tree) (ts r : Input) → (is_word_name k || is_private k) ≡ true → Member c s (part o (λ y. Spells o y)) (λ m n. Dotted true c (part k (λ y. Spells k y)) m n) ts r → Spells (member_expr s o k) c ts r
+member_with : (c : Code) (s : Span) (o k : Tree) (ts r : Input) → (is_word_name k || is_private k) ≡ true → Member c s (child o (λ y. Produces o y)) (λ m n. Dotted true c (child k (λ y. Produces k y)) m n) ts r → Produces (member_expr s o k) c ts r
 member_with c s o (computed_prop_name t e) ts r w h = absurd (true≢false (sym w))
 member_with c s o _ ts r w h = h
 
-chain_with : (c : Code) (s t : Span) (q : Bool) (o k : Tree) (ts r : Input) → (is_word_name k || is_private k) ≡ true → ChainMember c s q t (part o (λ y. Spells o y)) (λ m n. Dotted true c (part k (λ y. Spells k y)) m n) (λ m n. AccessedName true c (part k (λ y. Spells k y)) m n) ts r
-    → Spells (opt_chain_expr s q (member_expr t o k)) c ts r
+chain_with : (c : Code) (s t : Span) (q : Bool) (o k : Tree) (ts r : Input) → (is_word_name k || is_private k) ≡ true → ChainMember c s q t (child o (λ y. Produces o y)) (λ m n. Dotted true c (child k (λ y. Produces k y)) m n) (λ m n. AccessedName true c (child k (λ y. Produces k y)) m n) ts r
+    → Produces (opt_chain_expr s q (member_expr t o k)) c ts r
 chain_with c s t q o (computed_prop_name u e) ts r w h = absurd (true≢false (sym w))
 chain_with c s t q o _ ts r w h = h
 
-call_with : (c : Code) (s : Span) (f : Tree) (xs : Trees) (ts r : Input) → call_level ≤ level f → Call c s (part f (λ y. Spells f y)) (parts xs) ts r → Spells (call_expr s f xs) c ts r
+call_with : (c : Code) (s : Span) (f : Tree) (xs : Trees) (ts r : Input) → call_level ≤ level f → Call c s (child f (λ y. Produces f y)) (children xs) ts r → Produces (call_expr s f xs) c ts r
 call_with c s (super t) xs ts r l h = absurd (omega (arith, l))
 call_with c s (import t) xs ts r l h = absurd (omega (arith, l))
 call_with c s _ xs ts r l h = h
 
-member_made : (c : Code) (start : Stand Input) (s : Span) (o k : Tree) (r : Stand Input) → Spells (member_expr s o k) (plain c) (seen start) (seen r) → Made c start (member_expr s o k, r)
-member_made c start s o k r h = record { spelled = h; refines = λ l g. record { so = λ b f. item b } }
+member_made : (c : Code) (start : State Input) (s : Span) (o k : Tree) (r : State Input) → Produces (member_expr s o k) (plain c) (seen start) (seen r) → Made c start (member_expr s o k, r)
+member_made c start s o k r h = record { produced = h; refines = λ l g. record { so = λ b f. item b } }
   where
     item : (b : Bool) → Holds (cond b unexpected (Ok (expr_pat (member_expr s o k)))) (IsItem b c (seen start) (seen r))
     item true = record { so = tt }
@@ -262,7 +262,7 @@ member_made c start s o k r h = record { spelled = h; refines = λ l g. record {
 -- ---- one operator after what was read
 
 module _ (inner : Inner Input) (good : Sound inner) where
-  member_name_sure : (c : Code) (s : Stand Input) → Sure s.commas (member_name lm inner true s) (λ x. ((is_word_name x.0 || is_private x.0) ≡ true) × Spells x.0 (plain c) (seen s) (seen x.1))
+  member_name_sure : (c : Code) (s : State Input) → Sure s.commas (member_name lm inner true s) (λ x. ((is_word_name x.0 || is_private x.0) ≡ true) × Produces x.0 (plain c) (seen s) (seen x.1))
   unfolding member_name
   member_name_sure c s = test_sure s.commas (kind (seen s)) hash_kind _ _ _
       (λ _. sure_map s.commas (private_by lm inner s) _ _ (private_sure inner c s) (λ x h. (or_right (is_word_name x.0) (is_private x.0) h.0, h.1)))
@@ -272,47 +272,47 @@ module _ (inner : Inner Input) (good : Sound inner) where
       or_right true b e = refl
       or_right false b e = e
 
-  abbrev GotStep : ℕ → Code → Stand Input → Tree × Stand Input → Type 0
+  abbrev GotStep : ℕ → Code → State Input → Tree × State Input → Type 0
   GotStep l c start x = (l ≤ level x.0) × Made c start x
 
   -- a member of a chain or of anything else
-  linked : (l : ℕ) (c : Code) (start : Stand Input) (p : Span) (t k : Tree) (r : Stand Input) → l ≤ level t → l ≤ member_level
-      → (is_chain t ≡ true → Spells (opt_chain_expr p false (member_expr p t k)) (plain c) (seen start) (seen r)) → (is_chain t ≡ false → Spells (member_expr p t k) (plain c) (seen start) (seen r))
+  linked : (l : ℕ) (c : Code) (start : State Input) (p : Span) (t k : Tree) (r : State Input) → l ≤ level t → l ≤ member_level
+      → (is_chain t ≡ true → Produces (opt_chain_expr p false (member_expr p t k)) (plain c) (seen start) (seen r)) → (is_chain t ≡ false → Produces (member_expr p t k) (plain c) (seen start) (seen r))
       → GotStep l c start (on_chain lm inner (is_chain t) p (member_expr p t k), r)
   linked l c start p t k r h g f d = by_chain (is_chain t) (λ e. omega (arith, h, chain_level t e)) f d
     where
-      by_chain : (b : Bool) → (b ≡ true → l ≤ call_level) → (b ≡ true → Spells (opt_chain_expr p false (member_expr p t k)) (plain c) (seen start) (seen r)) → (b ≡ false → Spells (member_expr p t k) (plain c) (seen start) (seen r))
+      by_chain : (b : Bool) → (b ≡ true → l ≤ call_level) → (b ≡ true → Produces (opt_chain_expr p false (member_expr p t k)) (plain c) (seen start) (seen r)) → (b ≡ false → Produces (member_expr p t k) (plain c) (seen start) (seen r))
           → GotStep l c start (on_chain lm inner b p (member_expr p t k), r)
       by_chain true u f d = (u refl, dull c start (opt_chain_expr p false (member_expr p t k)) r (f refl) (λ b j. refl))
       by_chain false u f d = (omega (arith, h, g), member_made c start p t k r (d refl))
 
-  member_by_sure : (l : ℕ) (c : Code) (start : Stand Input) (t : Tree) (s : Stand Input) → l ≤ level t → Spells t (plain c) (seen start) (seen s) → call_level ≤ level t → l ≤ member_level → kind (seen s) ≡ dot_kind → Sure s.commas (member_by lm inner c start t s) (GotStep l c start)
+  member_by_sure : (l : ℕ) (c : Code) (start : State Input) (t : Tree) (s : State Input) → l ≤ level t → Produces t (plain c) (seen start) (seen s) → call_level ≤ level t → l ≤ member_level → kind (seen s) ≡ dot_kind → Sure s.commas (member_by lm inner c start t s) (GotStep l c start)
   unfolding member_by
   member_by_sure l c start t s h m v p e = then_sure s.commas (member_name lm inner true (next s)) _ _ _ (member_name_sure c (next s)) (λ k w. let q = span (lo (seen start)) k.1.source.last in
       done (on_chain lm inner (is_chain t) q (member_expr q t k.0), k.1) (GotStep l c start) (linked l c start q t k.0 k.1 h p
       (λ z. chain_with (plain c) q q false t k.0 (seen start) (seen k.1) w.0 (seen s, z, m, (seen (next s), (e, tt, refl), w), refl, refl))
       (λ z. member_with (plain c) q t k.0 (seen start) (seen k.1) w.0 (seen s, z, (v, m), (seen (next s), (e, tt, refl), w), refl))))
 
-  index_by_sure : (l : ℕ) (c : Code) (start : Stand Input) (t : Tree) (s : Stand Input) → l ≤ level t → Spells t (plain c) (seen start) (seen s) → call_level ≤ level t → l ≤ member_level → kind (seen s) ≡ left_bracket_kind → Sure s.commas (index_by lm inner c start t s) (GotStep l c start)
+  index_by_sure : (l : ℕ) (c : Code) (start : State Input) (t : Tree) (s : State Input) → l ≤ level t → Produces t (plain c) (seen start) (seen s) → call_level ≤ level t → l ≤ member_level → kind (seen s) ≡ left_bracket_kind → Sure s.commas (index_by lm inner c start t s) (GotStep l c start)
   unfolding index_by
   index_by_sure l c start t s h m v p e = then_sure s.commas (computed_by lm inner c expression_level s) _ _ _ (computed_sure inner good c expression_level s (omega arith) (λ t h. h) e) (λ k w. let q = span (lo (seen start)) k.1.source.last in
       done (on_chain lm inner (is_chain t) q (member_expr q t k.0), k.1) (GotStep l c start)
       (bracketed_is expression_level (plain c) (seen s) (seen k.1) (λ y. GotStep l c start (on_chain lm inner (is_chain t) q (member_expr q t y), k.1)) (λ u y a. linked l c start q t (computed_prop_name u y) k.1 h p
       (λ z. (seen s, z, m, a, refl, refl)) (λ z. (seen s, z, (v, m), a, refl))) k.0 w))
 
-  call_by_sure : (l : ℕ) (c : Code) (start : Stand Input) (t : Tree) (s : Stand Input) → Spells t (plain c) (seen start) (seen s) → call_level ≤ level t → l ≤ call_level → kind (seen s) ≡ left_paren_kind → Sure s.commas (call_by lm inner c start t s) (GotStep l c start)
+  call_by_sure : (l : ℕ) (c : Code) (start : State Input) (t : Tree) (s : State Input) → Produces t (plain c) (seen start) (seen s) → call_level ≤ level t → l ≤ call_level → kind (seen s) ≡ left_paren_kind → Sure s.commas (call_by lm inner c start t s) (GotStep l c start)
   unfolding call_by
   call_by_sure l c start t s m v p e = then_sure s.commas (arguments_by lm inner c (next s)) _ _ _ (arguments_sure inner good c (next s)) (λ xs w. let q = span (lo (seen start)) xs.1.source.last in
       done (call_tree lm inner q t xs.0, xs.1) (GotStep l c start) (by_chain q xs.0 xs.1 (is_chain t)
       (λ z. (seen s, z, m, (seen (next s), (e, tt, refl), w), refl, refl))
       (λ z. call_with (plain c) q t (pack xs.0) (seen start) (seen xs.1) v (seen s, z, (v, m), (seen (next s), (e, tt, refl), w), refl))))
     where
-      by_chain : (q : Span) (xs : List Tree) (r : Stand Input) (b : Bool) → (b ≡ true → Spells (opt_chain_expr q false (opt_call q t (pack xs))) (plain c) (seen start) (seen r)) → (b ≡ false → Spells (call_expr q t (pack xs)) (plain c) (seen start) (seen r))
+      by_chain : (q : Span) (xs : List Tree) (r : State Input) (b : Bool) → (b ≡ true → Produces (opt_chain_expr q false (opt_call q t (pack xs))) (plain c) (seen start) (seen r)) → (b ≡ false → Produces (call_expr q t (pack xs)) (plain c) (seen start) (seen r))
           → GotStep l c start (cond b (opt_chain_expr q false (opt_call q t (pack xs))) (call_expr q t (pack xs)), r)
       by_chain q xs r true f d = (p, dull c start _ r (f refl) (λ b j. refl))
       by_chain q xs r false f d = (p, dull c start _ r (d refl) (λ b j. refl))
 
-  chain_by_sure : (l : ℕ) (c : Code) (start : Stand Input) (t : Tree) (s : Stand Input) → Spells t (plain c) (seen start) (seen s) → call_level ≤ level t → l ≤ call_level → Optional (plain c) (seen s) (seen (next (next s)))
+  chain_by_sure : (l : ℕ) (c : Code) (start : State Input) (t : Tree) (s : State Input) → Produces t (plain c) (seen start) (seen s) → call_level ≤ level t → l ≤ call_level → Optional (plain c) (seen s) (seen (next (next s)))
       → Sure s.commas (chain_by lm inner c start t (next (next s))) (GotStep l c start)
   unfolding chain_by
   chain_by_sure l c start t s m v p o = let u = next (next s) in test_sure s.commas (kind (seen u)) left_paren_kind _ _ _
@@ -325,35 +325,35 @@ module _ (inner : Inner Input) (good : Sound inner) where
       (λ _. then_sure s.commas (member_name lm inner true u) _ _ _ (member_name_sure c u) (λ k w. let q = span (lo (seen start)) k.1.source.last in
       done (opt_chain_expr q true (member_expr q t k.0), k.1) (GotStep l c start) (p, dull c start _ k.1 (chain_with (plain c) q q true t k.0 (seen start) (seen k.1) w.0 (seen s, seen u, (v, m), o, w, refl, refl)) (λ b j. refl)))))
 
-  cond_by_sure : (l : ℕ) (c : Code) (start : Stand Input) (t : Tree) (s : Stand Input) → Spells t (plain c) (seen start) (seen s) → coalesce_level ≤ level t → l ≤ conditional_level → kind (seen s) ≡ question_mark_kind → Sure s.commas (cond_by lm inner c start t s) (GotStep l c start)
+  cond_by_sure : (l : ℕ) (c : Code) (start : State Input) (t : Tree) (s : State Input) → Produces t (plain c) (seen start) (seen s) → coalesce_level ≤ level t → l ≤ conditional_level → kind (seen s) ≡ question_mark_kind → Sure s.commas (cond_by lm inner c start t s) (GotStep l c start)
   unfolding cond_by
   cond_by_sure l c start t s m v p e = then_sure s.commas (inner.expr (with_in c) assignment_level (next s)) _ _ _ (good.expr (with_in c) assignment_level (next s) (omega arith)) (λ a h. eat_sure colon_kind a.1 _ _ (λ z.
       then_sure a.1.commas (inner.expr c assignment_level (next a.1)) _ _ _ (good.expr c assignment_level (next a.1) (omega arith)) (λ b k. let q = cond_expr (span (lo (seen start)) b.1.source.last) t a.0 b.0 in
-      done (q, b.1) (GotStep l c start) (p, dull c start q b.1 (seen s, seen (next s), seen a.1, seen (next a.1), (v, m), (e, tt, refl), (h.0, h.1.spelled), (z, tt, refl), (k.0, k.1.spelled), refl) (λ y j. refl)))))
+      done (q, b.1) (GotStep l c start) (p, dull c start q b.1 (seen s, seen (next s), seen a.1, seen (next a.1), (v, m), (e, tt, refl), (h.0, h.1.produced), (z, tt, refl), (k.0, k.1.produced), refl) (λ y j. refl)))))
 
-  assign_by_sure : (l : ℕ) (c : Code) (start : Stand Input) (t : Tree) (s : Stand Input) → Made c start (t, s) → l ≤ assignment_level → is_assign_op (kind (seen s)) ≡ true → Sure s.commas (assign_by lm inner c start t s) (GotStep l c start)
+  assign_by_sure : (l : ℕ) (c : Code) (start : State Input) (t : Tree) (s : State Input) → Made c start (t, s) → l ≤ assignment_level → is_assign_op (kind (seen s)) ≡ true → Sure s.commas (assign_by lm inner c start t s) (GotStep l c start)
   unfolding assign_by
-  assign_by_sure l c start t s m p e = then_made s.commas (to_target (kind (seen s)) s.commas t) _ (IsTarget (kind (seen s)) c (seen start) (seen s)) _ (target_holds (kind (seen s)) s.commas c t (seen start) (seen s) m.spelled (m.refines s.commas (same s.commas))) (λ a h.
+  assign_by_sure l c start t s m p e = then_made s.commas (to_target (kind (seen s)) s.commas t) _ (IsTarget (kind (seen s)) c (seen start) (seen s)) _ (target_holds (kind (seen s)) s.commas c t (seen start) (seen s) m.produced (m.refines s.commas (same s.commas))) (λ a h.
       then_sure s.commas (inner.expr c assignment_level (next s)) _ _ _ (good.expr c assignment_level (next s) (omega arith)) (λ v k. let q = span (lo (seen start)) v.1.source.last in
-      let y : Spells (assign_expr q (kind (seen s)) a v.0) (plain c) (seen start) (seen v.1) = (seen s, seen (next s), e, h.0, h.1, (refl, tt, refl), (k.0, k.1.spelled), refl) in
-      done (assign_expr q (kind (seen s)) a v.0, v.1) (GotStep l c start) (p, record { spelled = y; refines = λ j g. record { so = λ b f. assign_refines b j c q (kind (seen s)) a v.0 (seen start) (seen v.1) y f } })))
+      let y : Produces (assign_expr q (kind (seen s)) a v.0) (plain c) (seen start) (seen v.1) = (seen s, seen (next s), e, h.0, h.1, (refl, tt, refl), (k.0, k.1.produced), refl) in
+      done (assign_expr q (kind (seen s)) a v.0, v.1) (GotStep l c start) (p, record { produced = y; refines = λ j g. record { so = λ b f. assign_refines b j c q (kind (seen s)) a v.0 (seen start) (seen v.1) y f } })))
 
-  binary_by_sure : (l : ℕ) (c : Code) (start : Stand Input) (t : Tree) (s : Stand Input) → Spells t (plain c) (seen start) (seen s) → l ≤ binary_level (kind (seen s)) → operates c (kind (seen s)) ≡ true → fits_left (kind (seen s)) t ≡ true
+  binary_by_sure : (l : ℕ) (c : Code) (start : State Input) (t : Tree) (s : State Input) → Produces t (plain c) (seen start) (seen s) → l ≤ binary_level (kind (seen s)) → operates c (kind (seen s)) ≡ true → fits_left (kind (seen s)) t ≡ true
       → Sure s.commas (binary_by lm inner c start t s) (GotStep l c start)
   unfolding binary_by
   binary_by_sure l c start t s m p o f = word_sure c (kind (seen s)) s _ _ (λ e b. then_sure s.commas (inner.expr c (right_level (kind (seen s))) (next s)) _ _ _ (good.expr c (right_level (kind (seen s))) (next s) (right_high (kind (seen s)))) (λ v k. let q = bin_expr (span (lo (seen start)) v.1.source.last) (kind (seen s)) t v.0 in
-      done (q, v.1) (GotStep l c start) (p, dull c start q v.1 (seen s, seen (next s), o, f, m, (e, b, tt, refl), (at_level (right_level (kind (seen s))) v.0 (right_low (kind (seen s))) k.0, k.1.spelled), refl) (λ y j. refl))))
+      done (q, v.1) (GotStep l c start) (p, dull c start q v.1 (seen s, seen (next s), o, f, m, (e, b, tt, refl), (at_level (right_level (kind (seen s))) v.0 (right_low (kind (seen s))) k.0, k.1.produced), refl) (λ y j. refl))))
 
   not_kind : (k n : ℕ) → (k ≡ n → ⊥) → eqb k n ≡ false
   not_kind k n f = ne_eqb k n f
 
-  step_sure : (l : ℕ) (c : Code) (start : Stand Input) (t : Tree) (s : Stand Input) → 1 ≤ l → l ≤ level t → Made c start (t, s) → l ≤ goes_expr c (ends t) (seen s) → Sure s.commas (step_by lm inner c start t s) (GotStep l c start)
+  step_sure : (l : ℕ) (c : Code) (start : State Input) (t : Tree) (s : State Input) → 1 ≤ l → l ≤ level t → Made c start (t, s) → l ≤ goes_expr c (ends t) (seen s) → Sure s.commas (step_by lm inner c start t s) (GotStep l c start)
   unfolding step_by
   step_sure l c start t s l1 h m g =
-      let d = dotted (ends t) s in let w = goes_le c (ends t) s in let sp = m.spelled in
+      let d = dotted (ends t) s in let w = goes_le c (ends t) s in let sp = m.produced in
       let at : (k : ℕ) → kind (seen s) ≡ k → l ≤ cap c d k = λ k e. subst (λ (k : ℕ). l ≤ cap c d k) e (omega (arith, g, w)) in
       test_sure s.commas (kind (seen s)) comma_kind _ _ _ (λ e. then_sure s.commas (inner.expr c assignment_level (next s)) _ _ _ (good.expr c assignment_level (next s) (omega arith)) (λ v k.
-      let x = extended_made c start t s v.0 v.1 (omega (arith, l1, h)) sp (e, tt, refl) (k.0, k.1.spelled) in
+      let x = extended_made c start t s v.0 v.1 (omega (arith, l1, h)) sp (e, tt, refl) (k.0, k.1.produced) in
       done (extended t v.0 (span (lo (seen start)) v.1.source.last), v.1) (GotStep l c start) (omega (arith, x.0, at comma_kind e, cap_comma c d), x.1))) (λ n0.
       if_sure s.commas (is_assign_op (kind (seen s))) _ _ _ (λ e. assign_by_sure l c start t s m (omega (arith, at (kind (seen s)) refl, cap_assign c d (kind (seen s)) e)) e) (λ n1.
       if_sure s.commas (eqb (kind (seen s)) question_mark_kind && eqb (kind2 (seen s)) dot_kind) _ _ _ (λ e. let b = and_parts (eqb (kind (seen s)) question_mark_kind) (eqb (kind2 (seen s)) dot_kind) e in
@@ -383,21 +383,21 @@ module _ (inner : Inner Input) (good : Sound inner) where
       not_no true e = refl
       not_no false e = absurd (true≢false e)
 
-      plain_dot : (s : Stand Input) (t : Tree) → kind (seen s) ≡ question_mark_kind → (eqb (kind (seen s)) question_mark_kind && eqb (kind2 (seen s)) dot_kind) ≡ false → dotted (ends t) s ≡ false
+      plain_dot : (s : State Input) (t : Tree) → kind (seen s) ≡ question_mark_kind → (eqb (kind (seen s)) question_mark_kind && eqb (kind2 (seen s)) dot_kind) ≡ false → dotted (ends t) s ≡ false
       plain_dot s t e n = ap (λ z. z && eqb (ends t) 0) (subst (λ (k : ℕ). (eqb k question_mark_kind && eqb (kind2 (seen s)) dot_kind) ≡ false) e n)
 
   -- ---- the loop
 
-  record Going (l : ℕ) (c : Code) (start : Stand Input) (t : Tree) (s : Stand Input) : Type 0 where
+  record Going (l : ℕ) (c : Code) (start : State Input) (t : Tree) (s : State Input) : Type 0 where
     high : l ≤ level t
     made : Made c start (t, s)
 
-  loop_step_sure : (l : ℕ) (c : Code) (start : Stand Input) → 1 ≤ l → (t : Tree) (s : Stand Input) → Going l c start t s → Sure s.commas (loop_step lm inner c l start t s) (StepSure (Going l c start) (Going l c start))
+  loop_step_sure : (l : ℕ) (c : Code) (start : State Input) → 1 ≤ l → (t : Tree) (s : State Input) → Going l c start t s → Sure s.commas (loop_step lm inner c l start t s) (StepSure (Going l c start) (Going l c start))
   unfolding loop_step
   loop_step_sure l c start l1 t s i = if_sure s.commas (ltb (goes_expr c (ends t) (seen s)) l) _ _ _ (λ _. done (finished t, s) (StepSure (Going l c start) (Going l c start)) i)
       (λ e. then_sure s.commas (step_by lm inner c start t s) _ _ _ (step_sure l c start t s l1 i.high i.made (ltb-false (goes_expr c (ends t) (seen s)) l e)) (λ x h. done (go_on x.0, x.1) (StepSure (Going l c start) (Going l c start)) (record { high = h.0; made = h.1 })))
 
-  loop_by_sure : (l : ℕ) (c : Code) (start : Stand Input) (t : Tree) (s : Stand Input) → 1 ≤ l → Made c start (t, s) → Sure s.commas (loop_by lm inner c l start t s) (GotExpr c l start)
+  loop_by_sure : (l : ℕ) (c : Code) (start : State Input) (t : Tree) (s : State Input) → 1 ≤ l → Made c start (t, s) → Sure s.commas (loop_by lm inner c l start t s) (GotExpr c l start)
   unfolding loop_by
   loop_by_sure l c start t s l1 m = if_sure s.commas (leb l (level t)) _ _ _
       (λ e. sure_map s.commas (iterate _ (loop_step lm inner c l start) t s) _ _ (loop_sure (loop_step lm inner c l start) (Going l c start) (Going l c start) (λ x r i. loop_step_sure l c start l1 x r i) t s (record { high = leb-true l (level t) e; made = m }))
@@ -405,7 +405,7 @@ module _ (inner : Inner Input) (good : Sound inner) where
       (λ _. if_sure s.commas (eqb (level t) new_level && eqb l member_level) _ _ _ (λ e. let b = and_parts (eqb (level t) new_level) (eqb l member_level) e in
       done (t, s) (GotExpr c l start) (by_yes (eqb l member_level) _ _ b.1 (inr (eqb-true (level t) new_level b.0)), m)) (λ _. record { so = tt }))
 
-  private_in_sure : (c : Code) (l : ℕ) (s : Stand Input) → 1 ≤ l → Sure s.commas (private_in lm inner c l s) (GotExpr c l s)
+  private_in_sure : (c : Code) (l : ℕ) (s : State Input) → 1 ≤ l → Sure s.commas (private_in lm inner c l s) (GotExpr c l s)
   unfolding private_in
   private_in_sure c l s l1 = then_sure s.commas (private_by lm inner s) _ _ _ (private_sure inner c s) (λ p h.
       if_sure p.1.commas (eqb (kind (seen p.1)) in_kind && (has_in c && leb l (binary_level in_kind))) _ _ _ (λ e.
@@ -417,7 +417,7 @@ module _ (inner : Inner Input) (good : Sound inner) where
       private_fits (private_name s n) k e q = q
       private_fits _ k e q = absurd (true≢false (sym e))
 
-  pub expr_sure : (c : Code) (l : ℕ) (s : Stand Input) → 1 ≤ l → Sure s.commas (expr_by lm inner c l s) (GotExpr c l s)
+  pub expr_sure : (c : Code) (l : ℕ) (s : State Input) → 1 ≤ l → Sure s.commas (expr_by lm inner c l s) (GotExpr c l s)
   unfolding expr_by expr_from
   expr_sure c l s l1 = test_sure s.commas (kind (seen s)) hash_kind _ _ _ (λ _. private_in_sure c l (operand lm s) l1)
       (λ _. then_sure s.commas (prefix_by lm inner c l (operand lm s)) _ _ _ (prefix_sure inner good c l (operand lm s)) (λ t m. loop_by_sure l c (operand lm s) t.0 t.1 l1 m))

@@ -4,13 +4,13 @@ use Rattle.ecma_tree.specs.Tree.{Tree}
 use Rattle.ecma_syntax.specs.Input.{Input, Code, script_code, module_code}
 use Rattle.ecma_syntax.specs.Operators.{new_level, member_level}
 use Rattle.ecma_syntax.specs.Shape.{level, is_clean}
-use Rattle.ecma_grammar.specs.Parts.{By}
-use Rattle.ecma_reading.specs.Source.{Fault, Unexpected, Stand, ◌>>=◌}
+use Rattle.ecma_grammar.specs.Children.{By}
+use Rattle.ecma_reading.specs.Source.{Fault, Unexpected, State, ◌>>=◌}
 use Rattle.ecma_reading.specs.Modules.{program_by}
 use Rattle.ecma_reading.specs.Reading.{readers, finish, read_program, read_list}
 use Rattle.ecma_grammar_laws.specs.Laws.{OfLevel, ExpressionsSound, PatternsSound, StatementsSound, ClassesSound, ProgramsSound, ListsSound}
 use Rattle.ecma_grammar_laws.proofs.Sure.{lm, seen, Sure}
-use Rattle.ecma_grammar.specs.Grammar.{Spells, Derives}
+use Rattle.ecma_grammar.specs.Grammar.{Produces, Derives}
 use Rattle.ecma_grammar_laws.proofs.Covers.{plain}
 use Rattle.ecma_grammar_laws.proofs.Programs.{program_sure}
 use Rattle.ecma_grammar_laws.proofs.Nested.{AtLeast, GotExpr, GotPat, GotStmt, GotClass}
@@ -24,7 +24,7 @@ of_level l t h = by_level (eqb l member_level) (λ e. eqb-true l member_level e)
     by_level false e h = inl h
 
 pub expressions_sound : ExpressionsSound
-expressions_sound depth c l s t r g e = let h = subst (λ z. Sure s.commas z (GotExpr c l s)) e ((all_sound depth).expr c l s g) in (of_level l t h.so.1.0, h.so.1.1.spelled)
+expressions_sound depth c l s t r g e = let h = subst (λ z. Sure s.commas z (GotExpr c l s)) e ((all_sound depth).expr c l s g) in (of_level l t h.so.1.0, h.so.1.1.produced)
 
 pub patterns_sound : PatternsSound
 patterns_sound depth c s t r e = let h = subst (λ z. Sure s.commas z (GotPat c s)) e ((all_sound depth).pat c s) in h.so.1
@@ -36,7 +36,7 @@ pub classes_sound : ClassesSound
 classes_sound depth c whole s t r e = let h = subst (λ z. Sure s.commas z (GotClass c whole s)) e ((all_sound depth).class_tail c whole s) in h.so.1
 
 pub programs_sound : ProgramsSound
-programs_sound depth modules c s t r e = let h = subst (λ z. Sure s.commas z (λ x. Spells x.0 (plain c) (seen s) (seen x.1))) e (program_sure (readers lm depth) (all_sound depth) modules c s) in h.so.1
+programs_sound depth modules c s t r e = let h = subst (λ z. Sure s.commas z (λ x. Produces x.0 (plain c) (seen s) (seen x.1))) e (program_sure (readers lm depth) (all_sound depth) modules c s) in h.so.1
 
 -- ---- whole lists
 
@@ -52,13 +52,13 @@ cleaned : (b : Bool) (u t : Tree) → cond {A = Result Tree Fault} b (Ok u) (Err
 cleaned true u t e = (refl, ap (tree_or u) e)
 cleaned false u t e = absurd (subst IsOk (sym e) tt)
 
-derived : (x : Result (Tree × Stand Input) Fault) (k : List ℕ) (c : Code) (ts : Input) (t : Tree) → Sure k x (λ y. Spells y.0 (plain c) ts (seen y.1)) → (x >>= finish) ≡ Ok t → (r : Input) × Derives t (plain c) ts r
+derived : (x : Result (Tree × State Input) Fault) (k : List ℕ) (c : Code) (ts : Input) (t : Tree) → Sure k x (λ y. Produces y.0 (plain c) ts (seen y.1)) → (x >>= finish) ≡ Ok t → (r : Input) × Derives t (plain c) ts r
 unfolding finish
-derived (Ok y) k c ts t h e = let w = cleaned (is_clean y.0) y.0 t e in (seen y.1, (subst (λ z. Spells z (plain c) ts (seen y.1)) w.1 h.so.1, subst (λ z. is_clean z ≡ true) w.1 w.0))
+derived (Ok y) k c ts t h e = let w = cleaned (is_clean y.0) y.0 t e in (seen y.1, (subst (λ z. Produces z (plain c) ts (seen y.1)) w.1 h.so.1, subst (λ z. is_clean z ≡ true) w.1 w.0))
 derived (Err f) k c ts t h e = absurd (subst IsOk (sym e) tt)
 
 pub lists_sound : ListsSound
 unfolding read_list read_program
 lists_sound depth modules syntax start places t e =
-    let c : Code = cond modules (module_code syntax) (script_code syntax) in let ts : Input = record { last = start; places = places } in let s : Stand Input = record { source = ts; commas = [] } in
+    let c : Code = cond modules (module_code syntax) (script_code syntax) in let ts : Input = record { last = start; places = places } in let s : State Input = record { source = ts; commas = [] } in
     derived (program_by lm (readers lm depth) modules c s) [] c ts t (program_sure (readers lm depth) (all_sound depth) modules c s) e

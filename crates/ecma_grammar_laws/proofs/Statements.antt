@@ -1,4 +1,4 @@
--- Any statement or declaration is spelled as it is read.
+-- Any statement or declaration produces what it is read of.
 use Rattle.std.proofs.Common.{◌≡◌, ℕ, Bool, true, false, not, ◌&&◌, ◌||◌, cond, eqb, leb, List, Option, Some, Result, refl, sym, ap, subst, true≢false, arith}
 use Rattle.std.proofs.lemmas.Bool.{eqb-true, and_parts, not-true, ne_eqb, or_from}
 use Rattle.ecma_token.specs.declared.place.Span.{Span}
@@ -7,11 +7,11 @@ use Rattle.ecma_tree.specs.Tree.{Tree, pack, ident, empty_stmt, break_stmt, cont
 use Rattle.ecma_syntax.specs.Input.{Input, Code, kind, kind2, brk2, text, TakesWord, lo, span, first_span, with_in, turned_strict, barred}
 use Rattle.ecma_syntax.specs.Operators.{expression_level, may_name}
 use Rattle.ecma_syntax.specs.Shape.{is_name, declarators_end, FunctionParts, function_parts, class_span}
-use Rattle.ecma_grammar.specs.Parts.{part, is_ident}
+use Rattle.ecma_grammar.specs.Children.{child, is_ident}
 use Rattle.ecma_grammar.specs.Functions.{Async, FunctionDeclaration, ClassDeclaration}
 use Rattle.ecma_grammar.specs.Statements.{is_var_word, starts_expression_statement, UsingBindings}
-use Rattle.ecma_grammar.specs.Grammar.{Spells, parts}
-use Rattle.ecma_reading.specs.Source.{Fault, unexpected, Stand, Inner, operand}
+use Rattle.ecma_grammar.specs.Grammar.{Produces, children}
+use Rattle.ecma_reading.specs.Source.{Fault, unexpected, State, Inner, operand}
 use Rattle.ecma_reading.specs.Expressions.{function_by}
 use Rattle.ecma_reading.specs.Statements.{block_by, starts_variables, variables_by, starts_using, starts_await_using, using_by, declarators_by, function_decl_by, class_decl_by, sub_by, statement_class, labelled_by, expression_by, starts_async, keyword_stmt, stmt_by, stmt_from}
 use Rattle.ecma_grammar_laws.proofs.Sure.{lm, seen, next, Sure, done, then_sure, sure_map, at_commas, if_sure, test_sure, only_sure, word_sure, name_sure}
@@ -31,56 +31,56 @@ label_ident : (t : Tree) → is_name t ≡ true → is_ident t ≡ true
 label_ident (ident s n) e = refl
 label_ident _ e = absurd (true≢false (sym e))
 
-function_declared : (c : Code) (s : Span) (name f : Tree) (p : FunctionParts) (ts r : Input) → function_parts f ≡ Some p → FunctionDeclaration (plain c) s (part name (λ y. Spells name y)) (part f (λ y. Spells f y)) (Some p) ts r → Spells (fn_decl s name f) (plain c) ts r
-function_declared c s name f p ts r e h = subst (λ (o : Option FunctionParts). FunctionDeclaration (plain c) s (part name (λ y. Spells name y)) (part f (λ y. Spells f y)) o ts r) (sym e) h
+function_declared : (c : Code) (s : Span) (name f : Tree) (p : FunctionParts) (ts r : Input) → function_parts f ≡ Some p → FunctionDeclaration (plain c) s (child name (λ y. Produces name y)) (child f (λ y. Produces f y)) (Some p) ts r → Produces (fn_decl s name f) (plain c) ts r
+function_declared c s name f p ts r e h = subst (λ (o : Option FunctionParts). FunctionDeclaration (plain c) s (child name (λ y. Produces name y)) (child f (λ y. Produces f y)) o ts r) (sym e) h
 
-class_declared : (c : Code) (s : Span) (name k : Tree) (ts r : Input) → class_span k ≡ Some s → ClassDeclaration (plain c) s (part name (λ y. Spells name y)) (part k (λ y. Spells k y)) (Some s) ts r → Spells (class_decl s name k) (plain c) ts r
-class_declared c s name k ts r e h = subst (λ (o : Option Span). ClassDeclaration (plain c) s (part name (λ y. Spells name y)) (part k (λ y. Spells k y)) o ts r) (sym e) h
+class_declared : (c : Code) (s : Span) (name k : Tree) (ts r : Input) → class_span k ≡ Some s → ClassDeclaration (plain c) s (child name (λ y. Produces name y)) (child k (λ y. Produces k y)) (Some s) ts r → Produces (class_decl s name k) (plain c) ts r
+class_declared c s name k ts r e h = subst (λ (o : Option Span). ClassDeclaration (plain c) s (child name (λ y. Produces name y)) (child k (λ y. Produces k y)) o ts r) (sym e) h
 
 module _ (inner : Inner Input) (good : Sound inner) where
-  variables_sure : (c : Code) (s : Stand Input) → is_var_word (kind (seen s)) ≡ true → Sure s.commas (variables_by lm inner c s) (GotStmt c s)
+  variables_sure : (c : Code) (s : State Input) → is_var_word (kind (seen s)) ≡ true → Sure s.commas (variables_by lm inner c s) (GotStmt c s)
   unfolding variables_by
   variables_sure c s v = word_sure c (kind (seen s)) s _ _ (λ e b. then_sure s.commas (declarators_by lm inner c (next s)) _ _ _ (declarators_sure inner good c (next s)) (λ ds h. end_sure c (declarators_end (pack ds.0)) ds.1 _ _ (λ r q z.
       ended ds.1 r (var_decl (span (lo (seen s)) r.source.last) (kind (seen s)) (pack ds.0)) (GotStmt c s) q (either_one (leb let_kind (kind (seen s))), (seen ds.1, (seen (next s), v, (refl, b, tt, refl), h), z, refl)))))
 
-  using_sure : (c : Code) (start : Stand Input) (awaits : Bool) (s : Stand Input) → ((ds : List Tree) (r : Input) → TakesWord (plain c) using_kind (seen s) (seen (next s)) → Declarators inner good c ds (seen (next s)) r → UsingBindings (plain c) awaits (parts (pack ds)) (seen start) r)
+  using_sure : (c : Code) (start : State Input) (awaits : Bool) (s : State Input) → ((ds : List Tree) (r : Input) → TakesWord (plain c) using_kind (seen s) (seen (next s)) → Declarators inner good c ds (seen (next s)) r → UsingBindings (plain c) awaits (children (pack ds)) (seen start) r)
       → Sure s.commas (using_by lm inner c start awaits s) (GotStmt c start)
   unfolding using_by
   using_sure c start awaits s f = word_sure c using_kind s _ _ (λ e b. then_sure s.commas (declarators_by lm inner c (next s)) _ _ _ (declarators_sure inner good c (next s)) (λ ds h. end_sure c (declarators_end (pack ds.0)) ds.1 _ _ (λ r q z.
       ended ds.1 r (using_decl (span (lo (seen start)) r.source.last) awaits (pack ds.0)) (GotStmt c start) q (refl, (seen ds.1, f ds.0 (seen ds.1) (e, b, tt, refl) h, z, refl)))))
 
-  function_sure_by : (c : Code) (start : Stand Input) (a : Bool) (s : Stand Input) → Async a (plain c) (seen start) (seen s) → Sure s.commas (function_decl_by lm inner c start a s) (GotStmt c start)
+  function_sure_by : (c : Code) (start : State Input) (a : Bool) (s : State Input) → Async a (plain c) (seen start) (seen s) → Sure s.commas (function_decl_by lm inner c start a s) (GotStmt c start)
   unfolding function_decl_by
   function_sure_by c start a s h = word_sure c function_kind s _ _ (λ e b. star_sure inner c (next s) _ _ (λ g r q t. at_commas s.commas r.commas _ (GotStmt c start) q
       (name_sure c r _ _ (λ i. then_sure r.commas (function_by lm inner c (lo (seen start)) g a (next r)) _ _ _ (function_sure inner good c (lo (seen start)) g a (next r)) (λ f w. let p = span (lo (seen start)) f.1.source.last in
       let n = ident (first_span (seen r)) (text (seen r)) in
       done (fn_decl p n f.0, f.1) (GotStmt c start) (refl, function_declared c p n f.0 (record { span = p; generator = g; async = a; count = w.0 }) (seen start) (seen f.1) w.1 (seen r, seen (next r), (seen s, seen (next s), h, (e, b, tt, refl), t), (refl, named c r i), w.2, refl, refl)))))))
 
-  class_sure : (c : Code) (s : Stand Input) → Sure s.commas (class_decl_by lm inner c s) (GotStmt c s)
+  class_sure : (c : Code) (s : State Input) → Sure s.commas (class_decl_by lm inner c s) (GotStmt c s)
   unfolding class_decl_by
   class_sure c s = word_sure c class_kind s _ _ (λ e b. name_sure (turned_strict c) (next s) _ _ (λ i. then_sure s.commas (inner.class_tail (turned_strict (with_in c)) (lo (seen s)) (next (next s))) _ _ _ (good.class_tail (turned_strict (with_in c)) (lo (seen s)) (next (next s))) (λ k h.
       let p = span (lo (seen s)) k.1.source.last in let n = ident (first_span (seen (next s))) (text (seen (next s))) in
       done (class_decl p n k.0, k.1) (GotStmt c s) (refl, class_declared c p n k.0 (seen s) (seen k.1) h.0 (seen (next s), seen (next (next s)), (e, b, tt, refl), (refl, named (turned_strict c) (next s) i), h.1, refl, refl)))))
 
   -- what starts an expression statement is none of the words that were told apart
-  starts_plain : (s : Stand Input) → (kind (seen s) ≡ left_brace_kind → ⊥) → (kind (seen s) ≡ function_kind → ⊥) → (kind (seen s) ≡ class_kind → ⊥) → starts_async lm inner s ≡ false → (eqb (kind (seen s)) let_kind && eqb (kind2 (seen s)) left_bracket_kind) ≡ false → starts_expression_statement (seen s) ≡ true
+  starts_plain : (s : State Input) → (kind (seen s) ≡ left_brace_kind → ⊥) → (kind (seen s) ≡ function_kind → ⊥) → (kind (seen s) ≡ class_kind → ⊥) → starts_async lm inner s ≡ false → (eqb (kind (seen s)) let_kind && eqb (kind2 (seen s)) left_bracket_kind) ≡ false → starts_expression_statement (seen s) ≡ true
   starts_plain s a b d e f = ap not (or_from _ _ (ne_eqb (kind (seen s)) left_brace_kind a) (or_from _ _ (ne_eqb (kind (seen s)) function_kind b) (or_from _ _ (ne_eqb (kind (seen s)) class_kind d) (or_from _ _ e f))))
 
-  labelled_sure : (c : Code) (start : Stand Input) (l : Tree) (s : Stand Input) → is_ident l ≡ true → Spells l (plain c) (seen start) (seen s) → kind (seen s) ≡ colon_kind → Sure s.commas (labelled_by lm inner c start l s) (GotStmt c start)
+  labelled_sure : (c : Code) (start : State Input) (l : Tree) (s : State Input) → is_ident l ≡ true → Produces l (plain c) (seen start) (seen s) → kind (seen s) ≡ colon_kind → Sure s.commas (labelled_by lm inner c start l s) (GotStmt c start)
   unfolding labelled_by
   labelled_sure c start l s i h e = then_sure s.commas (sub_by lm inner c true (next s)) _ _ _ (either_sure inner good c (next s)) (λ b k. done (labeled_stmt (span (lo (seen start)) b.1.source.last) l b.0, b.1) (GotStmt c start) (refl, (seen s, seen (next s), (i, h), (e, tt, refl), k, refl)))
 
-  expression_sure : (c : Code) (s : Stand Input) → (kind (seen s) ≡ left_brace_kind → ⊥) → (kind (seen s) ≡ function_kind → ⊥) → (kind (seen s) ≡ class_kind → ⊥) → starts_async lm inner s ≡ false → Sure s.commas (expression_by lm inner c s) (GotStmt c s)
+  expression_sure : (c : Code) (s : State Input) → (kind (seen s) ≡ left_brace_kind → ⊥) → (kind (seen s) ≡ function_kind → ⊥) → (kind (seen s) ≡ class_kind → ⊥) → starts_async lm inner s ≡ false → Sure s.commas (expression_by lm inner c s) (GotStmt c s)
   unfolding expression_by
   expression_sure c s a b d f = if_sure s.commas (eqb (kind (seen s)) let_kind && eqb (kind2 (seen s)) left_bracket_kind) _ _ _ (λ _. record { so = tt }) (λ n.
       then_sure s.commas (inner.expr c expression_level s) _ _ _ (good.expr c expression_level s (omega arith)) (λ e h. if_sure e.1.commas (is_name e.0 && eqb (kind (seen e.1)) colon_kind) _ _ _
-      (λ z. let y = and_parts (is_name e.0) (eqb (kind (seen e.1)) colon_kind) z in labelled_sure c s e.0 e.1 (label_ident e.0 y.0) h.1.spelled (eqb-true (kind (seen e.1)) colon_kind y.1))
-      (λ _. end_sure c (statement_class lm inner c s e.0) e.1 _ _ (λ r q z. ended e.1 r (expr_stmt (span (lo (seen s)) r.source.last) e.0) (GotStmt c s) q (refl, (seen e.1, starts_plain s a b d f n, (h.0, h.1.spelled), z, refl))))))
+      (λ z. let y = and_parts (is_name e.0) (eqb (kind (seen e.1)) colon_kind) z in labelled_sure c s e.0 e.1 (label_ident e.0 y.0) h.1.produced (eqb-true (kind (seen e.1)) colon_kind y.1))
+      (λ _. end_sure c (statement_class lm inner c s e.0) e.1 _ _ (λ r q z. ended e.1 r (expr_stmt (span (lo (seen s)) r.source.last) e.0) (GotStmt c s) q (refl, (seen e.1, starts_plain s a b d f n, (h.0, h.1.produced), z, refl))))))
 
-  refused : (l : Bool) (k : List ℕ) (x : Result (Tree × Stand Input) Fault) (P : Tree × Stand Input → Type 0) → Sure k x P → Sure k (cond l x unexpected) P
+  refused : (l : Bool) (k : List ℕ) (x : Result (Tree × State Input) Fault) (P : Tree × State Input → Type 0) → Sure k x P → Sure k (cond l x unexpected) P
   refused l k x P h = only_sure k l x P (λ _. h)
 
-  keyword_sure : (c : Code) (s : Stand Input) → (kind (seen s) ≡ left_brace_kind → ⊥) → Sure s.commas (keyword_stmt lm inner c s) (GotStmt c s)
+  keyword_sure : (c : Code) (s : State Input) → (kind (seen s) ≡ left_brace_kind → ⊥) → Sure s.commas (keyword_stmt lm inner c s) (GotStmt c s)
   unfolding keyword_stmt
   keyword_sure c s nb =
       test_sure s.commas (kind (seen s)) if_kind _ _ _ (λ _. if_stmt_sure inner good c s) (λ _.
@@ -115,7 +115,7 @@ module _ (inner : Inner Input) (good : Sound inner) where
       listed_word false true l d z e = var_word false l d z e
       listed_word false false l d z e = absurd (true≢false (sym e))
 
-  pub stmt_sure : (c : Code) (s : Stand Input) → Sure s.commas (stmt_from lm inner c s) (GotStmt c s)
+  pub stmt_sure : (c : Code) (s : State Input) → Sure s.commas (stmt_from lm inner c s) (GotStmt c s)
   unfolding stmt_from stmt_by
   stmt_sure c s = test_sure s.commas (kind (seen s)) semicolon_kind _ _ _ (λ e. done (empty_stmt (first_span (seen s)), next s) (GotStmt c s) (refl, ((e, tt, refl), refl))) (λ _.
       test_sure s.commas (kind (seen s)) left_brace_kind _ _ _ (λ _. sure_map s.commas (block_by lm inner c s) _ _ (block_sure inner good c s) (λ x h. (h.1, h.2))) (λ n. keyword_sure c (operand lm s) n))

@@ -2,8 +2,8 @@
 use Rattle.std.proofs.Common.{◌≡◌, ℕ, zero, suc, ◌+◌, ◌≤◌, Bool, List, [], Result, Ok, Err, if◌then◌else◌, arith}
 use Rattle.ecma_token.specs.declared.syntax.EsSyntax.{EsSyntax}
 use Rattle.ecma_tree.specs.Tree.{Tree}
-use Rattle.ecma_syntax.specs.Input.{Place, Code, script_code, module_code}
-use Rattle.ecma_reading.specs.Source.{Fault, TooDeep, ◌>>=◌, Machine, Stand, Inner, list_machine}
+use Rattle.ecma_syntax.specs.Input.{PlacedToken, Code, script_code, module_code}
+use Rattle.ecma_reading.specs.Source.{Fault, TooDeep, ◌>>=◌, Stream, State, Inner, list_stream}
 use Rattle.ecma_reading.specs.Reading.{readers, finish, read_program, read_list}
 use Rattle.ecma_grammar_laws.specs.SteadyLaws.{Keeps, LimitsKeep}
 use Rattle.ecma_grammar_laws.proofs.Agrees.{Agrees, agree_same, agree_then, Steady}
@@ -14,7 +14,7 @@ use Rattle.ecma_grammar_laws.proofs.SteadyModules.{program_by_steady}
 deep_first : {A : Type 0} (y : Result A Fault) → Agrees (Err TooDeep) y
 deep_first y = record { so = tt }
 
-pub readers_steady : {S : Type 0} (m : Machine S) (d e : ℕ) → d ≤ e → Steady (readers m d) (readers m e)
+pub readers_steady : {S : Type 0} (m : Stream S) (d e : ℕ) → d ≤ e → Steady (readers m d) (readers m e)
 unfolding readers
 readers_steady m zero e h = record { expr = λ c l s. deep_first _; pat = λ c s. deep_first _; stmt = λ c s. deep_first _; body = λ c s. deep_first _; class_tail = λ c w s. deep_first _ }
 readers_steady m (suc d) zero h = absurd (omega (arith, h))
@@ -27,10 +27,10 @@ readers_steady m (suc d) (suc e) h = let n = readers_steady m d e (omega (arith,
 }
 
 -- the same of any source
-pub programs_keep : {S : Type 0} (m : Machine S) (d e : ℕ) (modules : Bool) (syntax : EsSyntax) (s : S) → d ≤ e → Agrees (read_program m d modules syntax s) (read_program m e modules syntax s)
+pub programs_keep : {S : Type 0} (m : Stream S) (d e : ℕ) (modules : Bool) (syntax : EsSyntax) (s : S) → d ≤ e → Agrees (read_program m d modules syntax s) (read_program m e modules syntax s)
 unfolding read_program
 programs_keep m d e modules syntax s h = agree_then _ _ _ _ (program_by_steady m (readers m d) (readers m e) (readers_steady m d e h) modules (if modules then module_code syntax else script_code syntax) (record { source = s; commas = [] })) (λ x. agree_same (finish x))
 
 pub limits_keep : LimitsKeep
 unfolding read_list
-limits_keep d e modules syntax start places h = (programs_keep list_machine d e modules syntax (record { last = start; places = places }) h).so
+limits_keep d e modules syntax start places h = (programs_keep list_stream d e modules syntax (record { last = start; places = places }) h).so

@@ -2,17 +2,17 @@
 use Rattle.std.proofs.Common.{◌≡◌, ℕ, zero, suc, Bool, true, false, not, ◌&&◌, cond, eqb, ltb, List, Result, Ok, Err, refl, sym, subst}
 use Rattle.std.proofs.lemmas.Bool.{eqb-true, eqb-false, and_parts, not-true}
 use Rattle.ecma_syntax.specs.Input.{Input, Code, kind, text, is_word, no_name, barred}
-use Rattle.ecma_reading.specs.Source.{Fault, ◌>>=◌, unexpected, Machine, list_machine, Stand, Read, input, past, bound, eat, eat_word, is_name, name, any_word, Step, go_on, finished, next_by, iterate_n, iterate}
+use Rattle.ecma_reading.specs.Source.{Fault, ◌>>=◌, unexpected, Stream, list_stream, State, Read, input, past, bound, eat, eat_word, is_name, name, any_word, Step, go_on, finished, next_by, iterate_n, iterate}
 use Rattle.ecma_reading.specs.Cover.{has}
 
 -- the source of a list, and the tokens to come
-abbrev pub lm : Machine Input
-lm = list_machine
+abbrev pub lm : Stream Input
+lm = list_stream
 
-abbrev pub seen : Stand Input → Input
+abbrev pub seen : State Input → Input
 seen s = input lm s
 
-abbrev pub next : Stand Input → Stand Input
+abbrev pub next : State Input → State Input
 next s = past lm s
 
 pub record Grows (k l : List ℕ) : Type 0 where
@@ -25,70 +25,70 @@ pub further : (k l n : List ℕ) → Grows k l → Grows l n → Grows k n
 further k l n g h = record { all = λ x e. h.all x (g.all x e) }
 
 -- a reading
-abbrev pub SureBy : {A : Type 0} → List ℕ → Result (A × Stand Input) Fault → (A × Stand Input → Type 0) → Type 0
+abbrev pub SureBy : {A : Type 0} → List ℕ → Result (A × State Input) Fault → (A × State Input → Type 0) → Type 0
 SureBy k (Ok x) P = Grows k x.1.commas × P x
 SureBy k (Err e) P = Unit {0}
 
-pub record Sure {A : Type 0} (k : List ℕ) (r : Result (A × Stand Input) Fault) (P : A × Stand Input → Type 0) : Type 0 where
+pub record Sure {A : Type 0} (k : List ℕ) (r : Result (A × State Input) Fault) (P : A × State Input → Type 0) : Type 0 where
   pub so : SureBy k r P
 
-pub gives : {A : Type 0} (k : List ℕ) (x : A × Stand Input) (P : A × Stand Input → Type 0) → Grows k x.1.commas → P x → Sure k (Ok x) P
+pub gives : {A : Type 0} (k : List ℕ) (x : A × State Input) (P : A × State Input → Type 0) → Grows k x.1.commas → P x → Sure k (Ok x) P
 gives k x P g p = record { so = (g, p) }
 
 -- an answer that notes nothing
-pub done : {A : Type 0} (x : A × Stand Input) (P : A × Stand Input → Type 0) → P x → Sure x.1.commas (Ok x) P
+pub done : {A : Type 0} (x : A × State Input) (P : A × State Input → Type 0) → P x → Sure x.1.commas (Ok x) P
 done x P p = record { so = (same x.1.commas, p) }
 
-pub never : {A : Type 0} (k : List ℕ) (e : Fault) (P : A × Stand Input → Type 0) → Sure k (Err e) P
+pub never : {A : Type 0} (k : List ℕ) (e : Fault) (P : A × State Input → Type 0) → Sure k (Err e) P
 never k e P = record { so = tt }
 
-pub then_sure : {A B : Type 0} (k : List ℕ) (r : Result (A × Stand Input) Fault) (f : A × Stand Input → Result (B × Stand Input) Fault) (P : A × Stand Input → Type 0) (Q : B × Stand Input → Type 0)
-    → Sure k r P → ((x : A × Stand Input) → P x → Sure x.1.commas (f x) Q) → Sure k (r >>= f) Q
+pub then_sure : {A B : Type 0} (k : List ℕ) (r : Result (A × State Input) Fault) (f : A × State Input → Result (B × State Input) Fault) (P : A × State Input → Type 0) (Q : B × State Input → Type 0)
+    → Sure k r P → ((x : A × State Input) → P x → Sure x.1.commas (f x) Q) → Sure k (r >>= f) Q
 then_sure k (Ok x) f P Q p h = grown k x.1.commas (f x) Q p.so.0 (h x p.so.1)
   where
-    grown : {B : Type 0} (k l : List ℕ) (r : Result (B × Stand Input) Fault) (Q : B × Stand Input → Type 0) → Grows k l → Sure l r Q → Sure k r Q
+    grown : {B : Type 0} (k l : List ℕ) (r : Result (B × State Input) Fault) (Q : B × State Input → Type 0) → Grows k l → Sure l r Q → Sure k r Q
     grown k l (Ok y) Q g q = record { so = (further k l y.1.commas g q.so.0, q.so.1) }
     grown k l (Err e) Q g q = record { so = tt }
 then_sure k (Err e) f P Q p h = record { so = tt }
 
 -- the same, where what follows needs to know that nothing was forgotten
-pub then_grown : {A B : Type 0} (k : List ℕ) (r : Result (A × Stand Input) Fault) (f : A × Stand Input → Result (B × Stand Input) Fault) (P : A × Stand Input → Type 0) (Q : B × Stand Input → Type 0)
-    → Sure k r P → ((x : A × Stand Input) → Grows k x.1.commas → P x → Sure x.1.commas (f x) Q) → Sure k (r >>= f) Q
+pub then_grown : {A B : Type 0} (k : List ℕ) (r : Result (A × State Input) Fault) (f : A × State Input → Result (B × State Input) Fault) (P : A × State Input → Type 0) (Q : B × State Input → Type 0)
+    → Sure k r P → ((x : A × State Input) → Grows k x.1.commas → P x → Sure x.1.commas (f x) Q) → Sure k (r >>= f) Q
 then_grown k (Ok x) f P Q p h = then_sure k (Ok x) f (λ y. y ≡ x) Q (record { so = (p.so.0, refl) }) (λ y q. subst (λ z. Sure z.1.commas (f z) Q) (sym q) (h x p.so.0 p.so.1))
 then_grown k (Err e) f P Q p h = record { so = tt }
 
-pub weaken : {A : Type 0} (k l : List ℕ) (r : Result (A × Stand Input) Fault) (P : A × Stand Input → Type 0) → Grows k l → Sure l r P → Sure k r P
+pub weaken : {A : Type 0} (k l : List ℕ) (r : Result (A × State Input) Fault) (P : A × State Input → Type 0) → Grows k l → Sure l r P → Sure k r P
 weaken k l (Ok y) P g q = record { so = (further k l y.1.commas g q.so.0, q.so.1) }
 weaken k l (Err e) P g q = record { so = tt }
 
 -- where what follows may start again from before
-pub then_any : {A B : Type 0} (k : List ℕ) (r : Result (A × Stand Input) Fault) (f : A × Stand Input → Result (B × Stand Input) Fault) (P : A × Stand Input → Type 0) (Q : B × Stand Input → Type 0)
-    → Sure k r P → ((x : A × Stand Input) → Grows k x.1.commas → P x → Sure k (f x) Q) → Sure k (r >>= f) Q
+pub then_any : {A B : Type 0} (k : List ℕ) (r : Result (A × State Input) Fault) (f : A × State Input → Result (B × State Input) Fault) (P : A × State Input → Type 0) (Q : B × State Input → Type 0)
+    → Sure k r P → ((x : A × State Input) → Grows k x.1.commas → P x → Sure k (f x) Q) → Sure k (r >>= f) Q
 then_any k (Ok x) f P Q p h = h x p.so.0 p.so.1
 then_any k (Err e) f P Q p h = record { so = tt }
 
-pub at_commas : {A : Type 0} (k l : List ℕ) (r : Result (A × Stand Input) Fault) (P : A × Stand Input → Type 0) → l ≡ k → Sure l r P → Sure k r P
+pub at_commas : {A : Type 0} (k l : List ℕ) (r : Result (A × State Input) Fault) (P : A × State Input → Type 0) → l ≡ k → Sure l r P → Sure k r P
 at_commas k l r P e h = subst (λ j. Sure j r P) e h
 
-pub sure_map : {A : Type 0} (k : List ℕ) (r : Result (A × Stand Input) Fault) (P Q : A × Stand Input → Type 0) → Sure k r P → ((x : A × Stand Input) → P x → Q x) → Sure k r Q
+pub sure_map : {A : Type 0} (k : List ℕ) (r : Result (A × State Input) Fault) (P Q : A × State Input → Type 0) → Sure k r P → ((x : A × State Input) → P x → Q x) → Sure k r Q
 sure_map k (Ok x) P Q p h = record { so = (p.so.0, h x p.so.1) }
 sure_map k (Err e) P Q p h = record { so = tt }
 
-pub if_sure : {A : Type 0} (k : List ℕ) (b : Bool) (x y : Result (A × Stand Input) Fault) (P : A × Stand Input → Type 0) → (b ≡ true → Sure k x P) → (b ≡ false → Sure k y P) → Sure k (cond b x y) P
+pub if_sure : {A : Type 0} (k : List ℕ) (b : Bool) (x y : Result (A × State Input) Fault) (P : A × State Input → Type 0) → (b ≡ true → Sure k x P) → (b ≡ false → Sure k y P) → Sure k (cond b x y) P
 if_sure k true x y P h n = h refl
 if_sure k false x y P h n = n refl
 
-pub test_sure : {A : Type 0} (k : List ℕ) (m n : ℕ) (x y : Result (A × Stand Input) Fault) (P : A × Stand Input → Type 0) → (m ≡ n → Sure k x P) → ((m ≡ n → ⊥) → Sure k y P) → Sure k (cond (eqb m n) x y) P
+pub test_sure : {A : Type 0} (k : List ℕ) (m n : ℕ) (x y : Result (A × State Input) Fault) (P : A × State Input → Type 0) → (m ≡ n → Sure k x P) → ((m ≡ n → ⊥) → Sure k y P) → Sure k (cond (eqb m n) x y) P
 test_sure k m n x y P h o = if_sure k _ _ _ _ (λ e. h (eqb-true m n e)) (λ e. o (eqb-false m n e))
 
 -- what a reading refuses where a test fails
-pub only_sure : {A : Type 0} (k : List ℕ) (b : Bool) (x : Result (A × Stand Input) Fault) (P : A × Stand Input → Type 0) → (b ≡ true → Sure k x P) → Sure k (cond b x unexpected) P
+pub only_sure : {A : Type 0} (k : List ℕ) (b : Bool) (x : Result (A × State Input) Fault) (P : A × State Input → Type 0) → (b ≡ true → Sure k x P) → Sure k (cond b x unexpected) P
 only_sure k true x P h = h refl
 only_sure k false x P h = record { so = tt }
 
 -- ---- tokens
 
-pub eat_sure : {A : Type 0} (k : ℕ) (s : Stand Input) (f : Stand Input → Result (A × Stand Input) Fault) (P : A × Stand Input → Type 0) → (kind (seen s) ≡ k → Sure s.commas (f (next s)) P) → Sure s.commas (eat lm k s >>= f) P
+pub eat_sure : {A : Type 0} (k : ℕ) (s : State Input) (f : State Input → Result (A × State Input) Fault) (P : A × State Input → Type 0) → (kind (seen s) ≡ k → Sure s.commas (f (next s)) P) → Sure s.commas (eat lm k s >>= f) P
 unfolding eat
 eat_sure k s f P h = eaten (eqb (kind (seen s)) k) (λ e. h (eqb-true (kind (seen s)) k e))
   where
@@ -96,7 +96,7 @@ eat_sure k s f P h = eaten (eqb (kind (seen s)) k) (λ e. h (eqb-true (kind (see
     eaten true h = h refl
     eaten false h = record { so = tt }
 
-pub word_sure : {A : Type 0} (c : Code) (k : ℕ) (s : Stand Input) (f : Stand Input → Result (A × Stand Input) Fault) (P : A × Stand Input → Type 0)
+pub word_sure : {A : Type 0} (c : Code) (k : ℕ) (s : State Input) (f : State Input → Result (A × State Input) Fault) (P : A × State Input → Type 0)
     → (kind (seen s) ≡ k → barred c.context (seen s) ≡ false → Sure s.commas (f (next s)) P) → Sure s.commas (eat_word lm c k s >>= f) P
 unfolding eat_word
 word_sure c k s f P h = eaten (eqb (kind (seen s)) k && not (barred c.context (seen s)))
@@ -106,10 +106,10 @@ word_sure c k s f P h = eaten (eqb (kind (seen s)) k && not (barred c.context (s
     eaten true h = h refl
     eaten false h = record { so = tt }
 
-abbrev pub IsName : Code → Stand Input → Type 0
+abbrev pub IsName : Code → State Input → Type 0
 IsName c s = (is_word (kind (seen s)) ≡ true) × (no_name c.context (kind (seen s)) ≡ false) × (barred c.context (seen s) ≡ false)
 
-pub name_sure : {A : Type 0} (c : Code) (s : Stand Input) (f : List ℕ × Stand Input → Result (A × Stand Input) Fault) (P : A × Stand Input → Type 0)
+pub name_sure : {A : Type 0} (c : Code) (s : State Input) (f : List ℕ × State Input → Result (A × State Input) Fault) (P : A × State Input → Type 0)
     → (IsName c s → Sure s.commas (f (text (seen s), next s)) P) → Sure s.commas (name lm c s >>= f) P
 unfolding name
 name_sure c s f P h = named (is_name lm c s)
@@ -121,7 +121,7 @@ name_sure c s f P h = named (is_name lm c s)
     named true h = h refl
     named false h = record { so = tt }
 
-pub any_sure : {A : Type 0} (s : Stand Input) (f : List ℕ × Stand Input → Result (A × Stand Input) Fault) (P : A × Stand Input → Type 0)
+pub any_sure : {A : Type 0} (s : State Input) (f : List ℕ × State Input → Result (A × State Input) Fault) (P : A × State Input → Type 0)
     → (is_word (kind (seen s)) ≡ true → Sure s.commas (f (text (seen s), next s)) P) → Sure s.commas (any_word lm s >>= f) P
 unfolding any_word
 any_sure s f P h = named (is_word (kind (seen s))) h
@@ -132,22 +132,22 @@ any_sure s f P h = named (is_word (kind (seen s))) h
 
 -- ---- loops
 
-abbrev pub StepSure : {A : Type 0} → (A → Stand Input → Type 0) → (A → Stand Input → Type 0) → Step A × Stand Input → Type 0
+abbrev pub StepSure : {A : Type 0} → (A → State Input → Type 0) → (A → State Input → Type 0) → Step A × State Input → Type 0
 StepSure I F (go_on x, r) = I x r
 StepSure I F (finished x, r) = F x r
 
-module _ {A : Type 0} (step : A → Read Input (Step A)) (I F : A → Stand Input → Type 0) (good : (x : A) (s : Stand Input) → I x s → Sure s.commas (step x s) (StepSure I F)) where
-  after : (again : A → Stand Input → Result (A × Stand Input) Fault) (b : ℕ) (y : Step A × Stand Input) → ((z : A) (r : Stand Input) → I z r → Sure r.commas (again z r) (λ y. F y.0 y.1)) → StepSure I F y
+module _ {A : Type 0} (step : A → Read Input (Step A)) (I F : A → State Input → Type 0) (good : (x : A) (s : State Input) → I x s → Sure s.commas (step x s) (StepSure I F)) where
+  after : (again : A → State Input → Result (A × State Input) Fault) (b : ℕ) (y : Step A × State Input) → ((z : A) (r : State Input) → I z r → Sure r.commas (again z r) (λ y. F y.0 y.1)) → StepSure I F y
       → Sure y.1.commas (next_by (bound lm) again b y) (λ y. F y.0 y.1)
   after again b (go_on z, r) h p = only_sure r.commas (ltb (bound lm r) b) _ _ (λ _. h z r p)
   after again b (finished z, r) h p = done (z, r) _ p
 
-  loop_n : (n : ℕ) (x : A) (s : Stand Input) → I x s → Sure s.commas (iterate_n (bound lm) n step x s) (λ y. F y.0 y.1)
+  loop_n : (n : ℕ) (x : A) (s : State Input) → I x s → Sure s.commas (iterate_n (bound lm) n step x s) (λ y. F y.0 y.1)
   unfolding iterate_n
   loop_n zero x s i = record { so = tt }
   loop_n (suc n) x s i = then_sure s.commas (step x s) (next_by (bound lm) (iterate_n (bound lm) n step) (bound lm s)) (StepSure I F) (λ y. F y.0 y.1) (good x s i)
       (λ y p. after (iterate_n (bound lm) n step) (bound lm s) y (λ z r j. loop_n n z r j) p)
 
-  pub loop_sure : (x : A) (s : Stand Input) → I x s → Sure s.commas (iterate (bound lm) step x s) (λ y. F y.0 y.1)
+  pub loop_sure : (x : A) (s : State Input) → I x s → Sure s.commas (iterate (bound lm) step x s) (λ y. F y.0 y.1)
   unfolding iterate
   loop_sure x s i = loop_n (suc (bound lm s)) x s i

@@ -1,12 +1,12 @@
--- What the reading function answers is spelled so: its readers at any depth, over the tokens of a list.
+-- What the reading function answers produces what it was read of: its readers at any depth, over the tokens of a list.
 use Rattle.std.specs.Prelude.{◌≡◌, ◌≤◌, ◌⊎◌, ℕ, Bool, true, if◌then◌else◌, List, Ok, Some}
 use Rattle.ecma_token.specs.declared.syntax.EsSyntax.{EsSyntax}
 use Rattle.ecma_tree.specs.Tree.{Tree}
-use Rattle.ecma_syntax.specs.Input.{Place, Input, Code, span, script_code, module_code, unplaced, assigning, binding}
+use Rattle.ecma_syntax.specs.Input.{PlacedToken, Input, Code, span, script_code, module_code, unplaced, assigning, binding}
 use Rattle.ecma_syntax.specs.Operators.{new_level, member_level}
 use Rattle.ecma_syntax.specs.Shape.{level, is_binding, is_item, class_span}
-use Rattle.ecma_grammar.specs.Grammar.{Spells, Derives}
-use Rattle.ecma_reading.specs.Source.{Stand, input, list_machine}
+use Rattle.ecma_grammar.specs.Grammar.{Produces, Derives}
+use Rattle.ecma_reading.specs.Source.{State, input, list_stream}
 use Rattle.ecma_reading.specs.Modules.{program_by}
 use Rattle.ecma_reading.specs.Reading.{readers, read_list}
 
@@ -20,30 +20,30 @@ OfLevel l t = (l ≤ level t) ⊎ ((l ≡ member_level) × (level t ≡ new_leve
 
 -- expressions (clause 13), with what they hold
 abbrev pub ExpressionsSound : Type 0
-ExpressionsSound = (depth : ℕ) (c : Code) (l : ℕ) (s : Stand Input) (t : Tree) (r : Stand Input) → 1 ≤ l → (readers list_machine depth).expr c l s ≡ Ok (t, r)
-    → OfLevel l t × Spells t (tokens c) (input list_machine s) (input list_machine r)
+ExpressionsSound = (depth : ℕ) (c : Code) (l : ℕ) (s : State Input) (t : Tree) (r : State Input) → 1 ≤ l → (readers list_stream depth).expr c l s ≡ Ok (t, r)
+    → OfLevel l t × Produces t (tokens c) (input list_stream s) (input list_stream r)
 
 -- patterns that bind (14.3.3)
 abbrev pub PatternsSound : Type 0
-PatternsSound = (depth : ℕ) (c : Code) (s : Stand Input) (t : Tree) (r : Stand Input) → (readers list_machine depth).pat c s ≡ Ok (t, r)
-    → (is_binding t ≡ true) × Spells t (binding (unplaced c)) (input list_machine s) (input list_machine r)
+PatternsSound = (depth : ℕ) (c : Code) (s : State Input) (t : Tree) (r : State Input) → (readers list_stream depth).pat c s ≡ Ok (t, r)
+    → (is_binding t ≡ true) × Produces t (binding (unplaced c)) (input list_stream s) (input list_stream r)
 
 -- statements and declarations (clauses 14 and 15)
 abbrev pub StatementsSound : Type 0
-StatementsSound = (depth : ℕ) (c : Code) (s : Stand Input) (t : Tree) (r : Stand Input) → (readers list_machine depth).stmt c s ≡ Ok (t, r)
-    → (is_item t ≡ true) × Spells t (tokens c) (input list_machine s) (input list_machine r)
+StatementsSound = (depth : ℕ) (c : Code) (s : State Input) (t : Tree) (r : State Input) → (readers list_stream depth).stmt c s ≡ Ok (t, r)
+    → (is_item t ≡ true) × Produces t (tokens c) (input list_stream s) (input list_stream r)
 
 -- what follows the name of a class (15.7)
 abbrev pub ClassesSound : Type 0
-ClassesSound = (depth : ℕ) (c : Code) (whole : ℕ) (s : Stand Input) (t : Tree) (r : Stand Input) → (readers list_machine depth).class_tail c whole s ≡ Ok (t, r)
-    → (class_span t ≡ Some (span whole (input list_machine r).last)) × Spells t (tokens c) (input list_machine s) (input list_machine r)
+ClassesSound = (depth : ℕ) (c : Code) (whole : ℕ) (s : State Input) (t : Tree) (r : State Input) → (readers list_stream depth).class_tail c whole s ≡ Ok (t, r)
+    → (class_span t ≡ Some (span whole (input list_stream r).last)) × Produces t (tokens c) (input list_stream s) (input list_stream r)
 
 -- scripts and modules (clause 16)
 abbrev pub ProgramsSound : Type 0
-ProgramsSound = (depth : ℕ) (modules : Bool) (c : Code) (s : Stand Input) (t : Tree) (r : Stand Input) → program_by list_machine (readers list_machine depth) modules c s ≡ Ok (t, r)
-    → Spells t (tokens c) (input list_machine s) (input list_machine r)
+ProgramsSound = (depth : ℕ) (modules : Bool) (c : Code) (s : State Input) (t : Tree) (r : State Input) → program_by list_stream (readers list_stream depth) modules c s ≡ Ok (t, r)
+    → Produces t (tokens c) (input list_stream s) (input list_stream r)
 
 -- what is read of a whole list: a finished tree, in which nothing of a cover is left
 abbrev pub ListsSound : Type 0
-ListsSound = (depth : ℕ) (modules : Bool) (syntax : EsSyntax) (start : ℕ) (places : List Place) (t : Tree) → read_list depth modules syntax start places ≡ Ok t
+ListsSound = (depth : ℕ) (modules : Bool) (syntax : EsSyntax) (start : ℕ) (places : List PlacedToken) (t : Tree) → read_list depth modules syntax start places ≡ Ok t
     → (r : Input) × Derives t (tokens (if modules then module_code syntax else script_code syntax)) (record { last = start; places = places }) r

@@ -1,7 +1,7 @@
 -- A larger limit changes no answer but too deep: the statement of the law.
 use Rattle.std.specs.Prelude.{◌≡◌, ◌≤◌, ℕ, Bool, List, Result, Ok, Err}
 use Rattle.ecma_token.specs.declared.syntax.EsSyntax.{EsSyntax}
-use Rattle.ecma_syntax.specs.Input.{Place}
+use Rattle.ecma_syntax.specs.Input.{PlacedToken}
 use Rattle.ecma_reading.specs.Source.{Fault, Unexpected, TooDeep}
 use Rattle.ecma_reading.specs.Reading.{read_list}
 
@@ -12,6 +12,6 @@ Keeps (Err Unexpected) y = y ≡ Err Unexpected
 Keeps (Err TooDeep) y = Unit {0}
 
 -- What is read of a list at one limit, as a script or a module, is read at every larger one; and where a token is unexpected, it is at every
--- larger one. The list is any: no tree need spell it.
+-- larger one. The list is any: no tree need produce it.
 abbrev pub LimitsKeep : Type 0
-LimitsKeep = (d e : ℕ) (modules : Bool) (syntax : EsSyntax) (start : ℕ) (places : List Place) → d ≤ e → Keeps (read_list d modules syntax start places) (read_list e modules syntax start places)
+LimitsKeep = (d e : ℕ) (modules : Bool) (syntax : EsSyntax) (start : ℕ) (places : List PlacedToken) → d ≤ e → Keeps (read_list d modules syntax start places) (read_list e modules syntax start places)

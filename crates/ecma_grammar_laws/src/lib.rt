@@ -1,11 +1,11 @@
-//! Laws of the grammar: what the reading function reads is spelled so, and a larger limit changes no answer but too
+//! Laws of the grammar: what the reading function reads of tokens produces them, and a larger limit changes no answer but too
 //! deep. The functions here are laws alone.
 #![tactic(auto)]
 
 ghost use Rattle.ecma_grammar_laws.specs.Laws.{ClassesSound, ExpressionsSound, ListsSound, PatternsSound, ProgramsSound, StatementsSound};
 ghost use Rattle.ecma_grammar_laws.specs.SteadyLaws.{LimitsKeep};
 
-/// Law: whatever the readers answer of a list of tokens, at any depth, is spelled by the tokens from
+/// Law: whatever the readers answer of a list of tokens, at any depth, produces the tokens from
 /// where the reading began up to where it stands: expressions of the level that was asked for,
 /// patterns that bind, statements and declarations, what follows a class's name, scripts and modules.
 /// What is read of a whole list derives: nothing of a cover is left in it.
@@ -20,7 +20,7 @@ pub fn sound_law()
 {}
 
 /// Law: what is read at one limit is read at every larger one, and a token that is unexpected at one
-/// limit is so at every larger one, whatever the source of tokens, and whether or not a tree spells them.
+/// limit is so at every larger one, whatever the source of tokens, and whether or not a tree produces them.
 #[tactic(auto)]
 pub fn steady_law()
     ensures limits { LimitsKeep }

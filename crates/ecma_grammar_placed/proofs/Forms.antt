@@ -1,18 +1,18 @@
--- The forms that productions share: what spells tokens alone spells them under their goals and in their contexts.
+-- The forms that productions share: what produces tokens alone produces them under their goals and in their contexts.
 use Rattle.std.proofs.Common.{◌≡◌, ℕ, ◌⊎◌, inl, inr, Bool, true, false, ◌&&◌, if◌then◌else◌, List, [], ◌∷◌, refl, sym, ◌∙◌, subst}
 use Rattle.ecma_token.specs.Kinds.{comma_kind, semicolon_kind, right_brace_kind}
 use Rattle.ecma_tree.specs.Tree.{Tree}
 use Rattle.ecma_syntax.specs.Input.{Input, Code, in_list, assigning, turned_strict, Takes}
 use Rattle.ecma_syntax.specs.Shape.{is_absent, is_hole, is_rest, is_use_strict, is_directive}
-use Rattle.ecma_grammar.specs.Parts.{Part, By, IsEmpty, Expr, Sorted, Maybe, Listed, CommaThen, Commas, Ends, Items}
+use Rattle.ecma_grammar.specs.Children.{Child, By, IsEmpty, Expr, Sorted, Maybe, Listed, CommaThen, Commas, Ends, Items}
 use Rattle.ecma_grammar_placed.specs.Laws.{placing}
 use Rattle.ecma_grammar_placed.proofs.Kin.{Kin, Moves}
 
 module _ (p : Bool) (kin : Kin p) where
-  abbrev pub Moved : Part → Type 0
-  Moved x = (c : Code) → Moves p kin (x.spelled c) (x.spelled (placing p c))
+  abbrev pub Moved : Child → Type 0
+  Moved x = (c : Code) → Moves p kin (x.produced c) (x.produced (placing p c))
 
-  abbrev pub AllMoved : List Part → Type 0
+  abbrev pub AllMoved : List Child → Type 0
   AllMoved [] = Unit {0}
   AllMoved (x ∷ xs) = Moved x × AllMoved xs
 
@@ -23,35 +23,35 @@ module _ (p : Bool) (kin : Kin p) where
   either true ts h f g = f h
   either false ts h f g = g h
 
-  pub expr : (n : ℕ) (c : Code) (a : Part) → Moved a → Moves p kin (Expr n c a) (Expr n (placing p c) a)
+  pub expr : (n : ℕ) (c : Code) (a : Child) → Moved a → Moves p kin (Expr n c a) (Expr n (placing p c) a)
   expr n c a f ts r q h l = let z = f (assigning c) ts r q h.1 l in (z.0, z.1, (h.0, z.2))
 
-  pub sorted : (s : Tree → Bool) (c : Code) (a : Part) → Moved a → Moves p kin (Sorted s c a) (Sorted s (placing p c) a)
+  pub sorted : (s : Tree → Bool) (c : Code) (a : Child) → Moved a → Moves p kin (Sorted s c a) (Sorted s (placing p c) a)
   sorted s c a f ts r q h l = let z = f c ts r q h.1 l in (z.0, z.1, (h.0, z.2))
 
-  pub maybe : (P : Code → Part → Input → Input → Type 0) (c : Code) (a : Part) → Moves p kin (P c a) (P (placing p c) a) → Moves p kin (Maybe P c a) (Maybe P (placing p c) a)
+  pub maybe : (P : Code → Child → Input → Input → Type 0) (c : Code) (a : Child) → Moves p kin (P c a) (P (placing p c) a) → Moves p kin (Maybe P c a) (Maybe P (placing p c) a)
   maybe P c a f ts r q h l = either (is_absent a.tree) ts h (λ k. same ts r q k l) (λ k. f ts r q k l)
 
   -- ---- lists with commas
 
-  module _ (P Q : Part → Input → Input → Type 0) (f : (x : Part) → Moved x → Moves p kin (P x) (Q x)) where
-    after : (holes : Bool) (c : Code) (close : ℕ) (x : Part) (xs : List Part) → Moves p kin (Listed holes P c close xs) (Listed holes Q (placing p c) close xs)
+  module _ (P Q : Child → Input → Input → Type 0) (f : (x : Child) → Moved x → Moves p kin (P x) (Q x)) where
+    after : (holes : Bool) (c : Code) (close : ℕ) (x : Child) (xs : List Child) → Moves p kin (Listed holes P c close xs) (Listed holes Q (placing p c) close xs)
         → Moves p kin (λ m r. ((is_rest x.tree ≡ false) × (n : Input) × Takes c comma_kind m n × Listed holes P c close xs n r) ⊎ (IsEmpty xs × Takes c close m r))
         (λ m r. ((is_rest x.tree ≡ false) × (n : Input) × Takes (placing p c) comma_kind m n × Listed holes Q (placing p c) close xs n r) ⊎ (IsEmpty xs × Takes (placing p c) close m r))
     after holes c close x xs g ts r q (inl h) l = let z = g h.1 r q h.3 l in let y = kin.take c comma_kind ts h.1 z.0 h.2 z.1 in (y.0, y.1, inl (h.0, z.0, y.2, z.2))
     after holes c close x xs g ts r q (inr h) l = let z = kin.take c close ts r q h.1 l in (z.0, z.1, inr (h.0, z.2))
 
-    pub listed : (holes : Bool) (c : Code) (close : ℕ) (xs : List Part) → AllMoved xs → Moves p kin (Listed holes P c close xs) (Listed holes Q (placing p c) close xs)
+    pub listed : (holes : Bool) (c : Code) (close : ℕ) (xs : List Child) → AllMoved xs → Moves p kin (Listed holes P c close xs) (Listed holes Q (placing p c) close xs)
     listed holes c close [] a ts r q h l = kin.take c close ts r q h l
     listed holes c close (x ∷ xs) a ts r q h l = either (holes && is_hole x.tree) ts h
         (λ k. let z = listed holes c close xs a.1 k.0 r q k.2 l in let y = kin.take c comma_kind ts k.0 z.0 k.1 z.1 in (y.0, y.1, (z.0, y.2, z.2)))
         (λ k. let z = after holes c close x xs (λ t r q h l. listed holes c close xs a.1 t r q h l) k.0 r q k.2 l in let y = f x a.0 ts k.0 z.0 k.1 z.1 in (y.0, y.1, (z.0, y.2, z.2)))
 
-    pub comma_then : (c : Code) (xs : List Part) → AllMoved xs → Moves p kin (CommaThen P c xs) (CommaThen Q (placing p c) xs)
+    pub comma_then : (c : Code) (xs : List Child) → AllMoved xs → Moves p kin (CommaThen P c xs) (CommaThen Q (placing p c) xs)
     comma_then c [] a ts r q h l = same ts r q h l
     comma_then c (x ∷ xs) a ts r q h l = let z = comma_then c xs a.1 h.1 r q h.4 l in let y = f x a.0 h.0 h.1 z.0 h.3 z.1 in let w = kin.take c comma_kind ts h.0 y.0 h.2 y.1 in (w.0, w.1, (y.0, z.0, w.2, y.2, z.2))
 
-    pub commas : (c : Code) (xs : List Part) → AllMoved xs → Moves p kin (Commas P c xs) (Commas Q (placing p c) xs)
+    pub commas : (c : Code) (xs : List Child) → AllMoved xs → Moves p kin (Commas P c xs) (Commas Q (placing p c) xs)
     commas c [] a ts r q h l = absurd h
     commas c (x ∷ xs) a ts r q h l = let z = comma_then c xs a.1 h.0 r q h.2 l in let y = f x a.0 ts h.0 z.0 h.1 z.1 in (y.0, y.1, (z.0, y.2, z.2))
 
@@ -66,7 +66,7 @@ module _ (p : Bool) (kin : Kin p) where
   turned true c = refl
   turned false c = refl
 
-  pub items : (may : Tree → Bool) (close : Code → Input → Input → Type 0) → ((c : Code) → Moves p kin (close c) (close (placing p c))) → (c : Code) (starts : Bool) (ss : List Part) → AllMoved ss
+  pub items : (may : Tree → Bool) (close : Code → Input → Input → Type 0) → ((c : Code) → Moves p kin (close c) (close (placing p c))) → (c : Code) (starts : Bool) (ss : List Child) → AllMoved ss
       → Moves p kin (Items may close c starts ss) (Items may close (placing p c) starts ss)
   items may close f c starts [] a ts r q h l = f c ts r q h l
   items may close f c starts (s ∷ ss) a ts r q h l =

@@ -1,4 +1,4 @@
--- Two inputs that go on alike: what is asked of such a relation, so that what spells tokens spells those that are like them.
+-- Two inputs that go on alike: what is asked of such a relation, so that what produces tokens produces those that are like them.
 use Rattle.std.proofs.Common.{◌≡◌, ◌<◌, ℕ, Bool, true, false, ◌||◌, ◌==◌, eqb, List, [], ap₂, ◌∙◌}
 use Rattle.ecma_token.specs.declared.place.Span.{Span}
 use Rattle.ecma_token.specs.Kinds.{right_brace_kind, template_kind, case_kind, default_kind}
@@ -40,7 +40,7 @@ pub record Kin (p : Bool) : Type 1 where
   pub take_in : (c : Code) (g k : ℕ) → (kind_of [] ≡ k → ⊥) → (ts r q : Input) → TakesIn c g k ts r → Like r q → (o : Input) × Like ts o × TakesIn (placing p c) g k o q
 
 module _ (p : Bool) (kin : Kin p) where
-  -- what spells one list spells the other, up to any such rest
+  -- what produces one list produces the other, up to any such rest
   abbrev pub Moves : (Input → Input → Type 0) → (Input → Input → Type 0) → Type 0
   Moves P Q = (ts r q : Input) → P ts r → kin.Like r q → (o : Input) × kin.Like ts o × Q o q
 

@@ -4,7 +4,7 @@ use Rattle.ecma_token.specs.declared.context.Context.{Context}
 use Rattle.ecma_token.specs.Kinds.{right_brace_kind, regex_kind, div_kind, div_assign_kind, case_kind, default_kind}
 use Rattle.ecma_token.specs.Tokens.{Spot}
 use Rattle.ecma_tree.specs.Tree.{Tree}
-use Rattle.ecma_syntax.specs.Input.{Place, Input, Code, kind_of, break_of, content_of, escaped_of, others, hi_of, lo_of, kind, kind2, brk, brk2, content, text, text_in, lo, hi, rest, div_goal, regexp_goal, usual, no_context, Only, Takes, TakesWord, TakesAnyWord, TakesName, TakesIn, Stands, barred, judged, no_name, is_word}
+use Rattle.ecma_syntax.specs.Input.{PlacedToken, Input, Code, kind_of, break_of, content_of, escaped_of, others, hi_of, lo_of, kind, kind2, brk, brk2, content, text, text_in, lo, hi, rest, div_goal, regexp_goal, usual, no_context, Only, Takes, TakesWord, TakesAnyWord, TakesName, TakesIn, Stands, barred, judged, no_name, is_word}
 use Rattle.ecma_syntax.specs.Operators.{goes_expr, pauses, other_end, call_level}
 use Rattle.ecma_syntax.specs.Shape.{field_end}
 use Rattle.ecma_grammar.specs.Statements.{starts_expression_statement, statement_end, starts_head, starts_of, starts_using, starts_pattern}
@@ -14,10 +14,10 @@ use Rattle.ecma_grammar_placed.proofs.Kin.{Kin}
 
 module _ (p : Bool) where
   -- a place that stands under no goal and in no context of its own, where these aren't judged
-  abbrev pub Bare : Place → Type 0
+  abbrev pub Bare : PlacedToken → Type 0
   Bare y = Only (not p) ((y.goal ≡ div_goal) × (y.context ≡ no_context))
 
-  abbrev pub Worn : List Place → List Place → Type 0
+  abbrev pub Worn : List PlacedToken → List PlacedToken → Type 0
   Worn [] [] = Unit {0}
   Worn (x ∷ xs) (y ∷ ys) = SameToken x y × Bare y × Worn xs ys
   Worn _ _ = ⊥
@@ -26,43 +26,43 @@ module _ (p : Bool) where
     pub last : a.last ≡ b.last
     pub worn : Worn a.places b.places
 
-  -- what spells one list spells the other, up to any such rest
+  -- what produces one list produces the other, up to any such rest
   abbrev Moves : (Input → Input → Type 0) → (Input → Input → Type 0) → Type 0
   Moves P Q = (ts r q : Input) → P ts r → Like r q → (o : Input) × Like ts o × Q o q
 
   -- ---- what is seen of tokens
 
-  kinds : (xs ys : List Place) → Worn xs ys → kind_of xs ≡ kind_of ys
+  kinds : (xs ys : List PlacedToken) → Worn xs ys → kind_of xs ≡ kind_of ys
   kinds [] [] w = refl
   kinds [] (y ∷ ys) w = absurd w
   kinds (x ∷ xs) [] w = absurd w
   kinds (x ∷ xs) (y ∷ ys) w = ap (λ (s : Spot). s.token.kind) w.0.0
 
-  breaks : (xs ys : List Place) → Worn xs ys → break_of xs ≡ break_of ys
+  breaks : (xs ys : List PlacedToken) → Worn xs ys → break_of xs ≡ break_of ys
   breaks [] [] w = refl
   breaks [] (y ∷ ys) w = absurd w
   breaks (x ∷ xs) [] w = absurd w
   breaks (x ∷ xs) (y ∷ ys) w = ap (λ (s : Spot). s.line_break) w.0.0
 
-  contents : (xs ys : List Place) → Worn xs ys → content_of xs ≡ content_of ys
+  contents : (xs ys : List PlacedToken) → Worn xs ys → content_of xs ≡ content_of ys
   contents [] [] w = refl
   contents [] (y ∷ ys) w = absurd w
   contents (x ∷ xs) [] w = absurd w
   contents (x ∷ xs) (y ∷ ys) w = ap (λ (s : Spot). s.token.content) w.0.0
 
-  los : (n : ℕ) (xs ys : List Place) → Worn xs ys → lo_of n xs ≡ lo_of n ys
+  los : (n : ℕ) (xs ys : List PlacedToken) → Worn xs ys → lo_of n xs ≡ lo_of n ys
   los n [] [] w = refl
   los n [] (y ∷ ys) w = absurd w
   los n (x ∷ xs) [] w = absurd w
   los n (x ∷ xs) (y ∷ ys) w = ap (λ (s : Spot). s.lo) w.0.0
 
-  his : (n : ℕ) (xs ys : List Place) → Worn xs ys → hi_of n xs ≡ hi_of n ys
+  his : (n : ℕ) (xs ys : List PlacedToken) → Worn xs ys → hi_of n xs ≡ hi_of n ys
   his n [] [] w = refl
   his n [] (y ∷ ys) w = absurd w
   his n (x ∷ xs) [] w = absurd w
   his n (x ∷ xs) (y ∷ ys) w = ap (λ (s : Spot). s.hi) w.0.0
 
-  rests : (xs ys : List Place) → Worn xs ys → Worn (others xs) (others ys)
+  rests : (xs ys : List PlacedToken) → Worn xs ys → Worn (others xs) (others ys)
   rests [] [] w = tt
   rests [] (y ∷ ys) w = absurd w
   rests (x ∷ xs) [] w = absurd w
@@ -121,7 +121,7 @@ module _ (p : Bool) where
 
   -- ---- tokens
 
-  abbrev dress : Bool → ℕ → Context → Place → Place
+  abbrev dress : Bool → ℕ → Context → PlacedToken → PlacedToken
   dress b g d x = record x { goal = if b then g else div_goal; context = if b then d else no_context }
 
   bared : (b : Bool) (g : ℕ) (d : Context) → Only (not b) (((if b then g else div_goal) ≡ div_goal) × ((if b then d else no_context) ≡ no_context))
@@ -144,34 +144,34 @@ module _ (p : Bool) where
   only true P h = h
   only false P h = tt
 
-  abbrev inp : ℕ → List Place → Input
+  abbrev inp : ℕ → List PlacedToken → Input
   inp n xs = record { last = n; places = xs }
 
   -- where the rest goes on from
   on : (n : ℕ) (r q : Input) → n ≡ r.last → Like r q → inp n q.places ≡ q
   on n r q e l = ap (λ (m : ℕ). inp m q.places) (e ∙ l.last)
 
-  nothing : (ys : List Place) → Worn [] ys → [] ≡ ys
+  nothing : (ys : List PlacedToken) → Worn [] ys → [] ≡ ys
   nothing [] w = refl
   nothing (y ∷ ys) w = absurd w
 
   on_end : (n : ℕ) (r q : Input) → inp n [] ≡ r → Like r q → inp n [] ≡ q
-  on_end n r q e l = ap (λ (m : ℕ). inp m []) (ap (λ (z : Input). z.last) e ∙ l.last) ∙ ap (λ (ys : List Place). inp q.last ys) (nothing q.places (subst (λ (z : List Place). Worn z q.places) (sym (ap (λ (z : Input). z.places) e)) l.worn))
+  on_end n r q e l = ap (λ (m : ℕ). inp m []) (ap (λ (z : Input). z.last) e ∙ l.last) ∙ ap (λ (ys : List PlacedToken). inp q.last ys) (nothing q.places (subst (λ (z : List PlacedToken). Worn z q.places) (sym (ap (λ (z : Input). z.places) e)) l.worn))
 
   -- the first token dressed, before a rest
-  abbrev front : Code → ℕ → ℕ → List Place → Input → Input
+  abbrev front : Code → ℕ → ℕ → List PlacedToken → Input → Input
   front c g n [] q = inp n []
   front c g n (x ∷ xs) q = inp n (dress p g c.context x ∷ q.places)
 
-  front_like : (c : Code) (g n : ℕ) (xs : List Place) (r q : Input) → inp (hi_of n xs) (others xs) ≡ r → Like r q → Like (inp n xs) (front c g n xs q)
+  front_like : (c : Code) (g n : ℕ) (xs : List PlacedToken) (r q : Input) → inp (hi_of n xs) (others xs) ≡ r → Like r q → Like (inp n xs) (front c g n xs q)
   front_like c g n [] r q e l = record { last = refl; worn = tt }
-  front_like c g n (x ∷ xs) r q e l = record { last = refl; worn = ((refl, refl), bared p g c.context, subst (λ (z : List Place). Worn z q.places) (sym (ap (λ (z : Input). z.places) e)) l.worn) }
+  front_like c g n (x ∷ xs) r q e l = record { last = refl; worn = ((refl, refl), bared p g c.context, subst (λ (z : List PlacedToken). Worn z q.places) (sym (ap (λ (z : Input). z.places) e)) l.worn) }
 
   stood : (b : Bool) (k : ℕ) (d : Context) → Only b ((usual k (if b then own_goal k else div_goal) ≡ true) × (judged (if b then d else no_context) ≡ judged d))
   stood true k d = (own_usual k, refl)
   stood false k d = tt
 
-  standing : (c : Code) (n : ℕ) (xs : List Place) (r q : Input) → inp (hi_of n xs) (others xs) ≡ r → Like r q
+  standing : (c : Code) (n : ℕ) (xs : List PlacedToken) (r q : Input) → inp (hi_of n xs) (others xs) ≡ r → Like r q
       → Stands (placing p c) (front c (own_goal (kind_of xs)) n xs q) × (rest (front c (own_goal (kind_of xs)) n xs q) ≡ q)
   standing c n [] r q e l = (only p _ (refl, refl), on_end n r q e l)
   standing c n (x ∷ xs) r q e l = (stood p x.spot.token.kind c.context, on x.spot.hi r q (ap (λ (z : Input). z.last) e) l)
@@ -183,7 +183,7 @@ module _ (p : Bool) where
   texts_like : (a b : Input) → Like a b → text a ≡ text b
   texts_like a b l = ap text_in (content_like a b l)
 
-  escapes : (xs ys : List Place) → Worn xs ys → escaped_of xs ≡ escaped_of ys
+  escapes : (xs ys : List PlacedToken) → Worn xs ys → escaped_of xs ≡ escaped_of ys
   escapes [] [] w = refl
   escapes [] (y ∷ ys) w = absurd w
   escapes (x ∷ xs) [] w = absurd w
@@ -210,7 +210,7 @@ module _ (p : Bool) where
   within true g d = (refl, refl)
   within false g d = tt
 
-  inside : (c : Code) (g k n : ℕ) (xs : List Place) (r q : Input) → (kind_of [] ≡ k → ⊥) → TakesIn c g k (inp n xs) r → Like r q → TakesIn (placing p c) g k (front c g n xs q) q
+  inside : (c : Code) (g k n : ℕ) (xs : List PlacedToken) (r q : Input) → (kind_of [] ≡ k → ⊥) → TakesIn c g k (inp n xs) r → Like r q → TakesIn (placing p c) g k (front c g n xs q) q
   inside c g k n [] r q f h l = absurd (f h.0)
   inside c g k n (x ∷ xs) r q f h l = (h.0, within p g c.context, on x.spot.hi r q (ap (λ (z : Input). z.last) h.2) l)
 
@@ -220,7 +220,7 @@ module _ (p : Bool) where
   -- ---- the relation
 
   pub nothing_of : (a b : Input) → Like a b → a.places ≡ [] → b.places ≡ []
-  nothing_of a b l e = sym (nothing b.places (subst (λ (z : List Place). Worn z b.places) e l.worn))
+  nothing_of a b l e = sym (nothing b.places (subst (λ (z : List PlacedToken). Worn z b.places) e l.worn))
 
   unfoldable pub dressed : Kin p
   dressed = record {

@@ -4,7 +4,7 @@
 
 ghost use Rattle.ecma_grammar_placed.specs.Laws.{HasPlaces, OneModuleOfTokens, OneScriptOfTokens, ReadHasPlaces};
 
-/// Law: what spells tokens spells them under the lexical goals and in the contexts that the productions
+/// Law: what produces tokens produces them under the lexical goals and in the contexts that the productions
 /// give their places. So what is read of a list of tokens derives these tokens in such places.
 #[tactic(auto)]
 pub fn places_law()

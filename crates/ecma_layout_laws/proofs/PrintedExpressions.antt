@@ -1,4 +1,4 @@
--- Expressions and patterns that spell tokens can be printed.
+-- Expressions and patterns that produce tokens can be printed.
 use Rattle.std.proofs.Common.{◌≡◌, ◌+◌, ◌==◌, ℕ, Bool, true, false, Option, Some, None, refl, ap}
 use Rattle.std.proofs.lemmas.Bool.{eq-eqb}
 use Rattle.ecma_token.specs.declared.place.Span.{Span}
@@ -7,10 +7,10 @@ use Rattle.ecma_tree.specs.Tree.{Tree, Trees, none, more, array_lit, object_lit,
 use Rattle.ecma_syntax.specs.Input.{Input, Code}
 use Rattle.ecma_syntax.specs.Operators.{assignment_level}
 use Rattle.ecma_syntax.specs.Shape.{is_element, is_prop}
-use Rattle.ecma_grammar.specs.Parts.{part, IsEmpty, Expr}
+use Rattle.ecma_grammar.specs.Children.{child, IsEmpty, Expr}
 use Rattle.ecma_grammar.specs.Expressions.{Bracketed, TemplateSpans, TemplateLiteral, Dotted, AccessedName, Member, SuperProperty, Arguments, Call, ImportArguments, ChainMember, Yield}
 use Rattle.ecma_grammar.specs.Patterns.{Item, Property}
-use Rattle.ecma_grammar.specs.Grammar.{Spells, parts}
+use Rattle.ecma_grammar.specs.Grammar.{Produces, children}
 use Rattle.ecma_layout.specs.declared.look.Look.{Look}
 use Rattle.ecma_layout.specs.declared.look.Stand.TheVariants.{Alone, Operand, Head, Key, Tagged}
 use Rattle.ecma_layout.specs.Layout.{count}
@@ -18,7 +18,7 @@ use Rattle.ecma_layout_laws.proofs.Fine.{◌▸◌, ok, token, empty, when_fine,
 use Rattle.ecma_layout_laws.proofs.PrintedLists.{Good, AllGood, commas_fine, lines_fine, template_fine}
 use Rattle.ecma_layout_laws.proofs.Forms.{Sound, AllSound, either, maybe_good, none_good, listed, comma_then, all_sorted}
 
-no_count : (ts : Trees) → IsEmpty (parts ts) → count ts ≡ 0
+no_count : (ts : Trees) → IsEmpty (children ts) → count ts ≡ 0
 no_count none h = refl
 no_count (more t ts) h = absurd h
 
@@ -44,49 +44,49 @@ module _ (look : Look) where
   pub spread : (s : Span) (e : Tree) → Sound look e → Sound look (spread_element s e)
   spread s e f c ts r h st = ok ▸ ok ▸ f _ _ _ h.2.1 Alone ▸ ok
 
-  pub bracketed : (l : ℕ) (s : Span) (e : Tree) → Sound look e → (c : Code) (ts r : Input) → Bracketed l c s (part e (λ y. Spells e y)) ts r → Good look (computed_prop_name s e)
+  pub bracketed : (l : ℕ) (s : Span) (e : Tree) → Sound look e → (c : Code) (ts r : Input) → Bracketed l c s (child e (λ y. Produces e y)) ts r → Good look (computed_prop_name s e)
   bracketed l s e f c ts r h st = ok ▸ ok ▸ f _ _ _ h.3.1 Alone ▸ ok ▸ ok
 
   pub parens : (s : Span) (e : Tree) → Sound look e → Sound look (paren_expr s e)
   parens s e f c ts r h st = ok ▸ ok ▸ ok ▸ f _ _ _ h.3.1 Alone ▸ ok ▸ ok
 
   -- as many texts as expressions, and one more
-  template_spans : (tagged : Bool) (c : Code) (es qs : Trees) → AllSound look es → (ts r : Input) → TemplateSpans tagged c (parts es) (parts qs) ts r → AllGood look es × (count qs ≡ count es + 1)
+  template_spans : (tagged : Bool) (c : Code) (es qs : Trees) → AllSound look es → (ts r : Input) → TemplateSpans tagged c (children es) (children qs) ts r → AllGood look es × (count qs ≡ count es + 1)
   template_spans tagged c es none a ts r h = absurd h
   template_spans tagged c none (more q qs) a ts r h = (tt, ap (λ (n : ℕ). n + 1) (no_count qs h.1))
   template_spans tagged c (more e es) (more q qs) a ts r h = let z = template_spans tagged c es qs a.1 h.3 r h.10 in ((a.0 _ _ _ h.8.1, z.0), ap (λ (n : ℕ). n + 1) z.1)
 
-  pub template : (tagged : Bool) (s : Span) (es qs : Trees) → AllSound look es → (c : Code) (ts r : Input) → TemplateLiteral tagged c s (parts es) (parts qs) ts r → Good look (tpl s es qs)
+  pub template : (tagged : Bool) (s : Span) (es qs : Trees) → AllSound look es → (c : Code) (ts r : Input) → TemplateLiteral tagged c s (children es) (children qs) ts r → Good look (tpl s es qs)
   template tagged s es qs a c ts r h st = let z = template_spans tagged c es qs a h.0 _ h.2 in
       then_fine _ (count qs == count es + 1) (eq-eqb (count qs) (count es + 1) z.1) (ok ▸ ok ▸ template_fine look st es qs z.0 ▸ token ▸ ok)
 
   -- ---- 13.3 left-hand-side expressions
 
-  pub accessed : (b : Bool) (k : Tree) → Sound look k → (c : Code) (ts r : Input) → AccessedName b c (part k (λ y. Spells k y)) ts r → Good look k
+  pub accessed : (b : Bool) (k : Tree) → Sound look k → (c : Code) (ts r : Input) → AccessedName b c (child k (λ y. Produces k y)) ts r → Good look k
   accessed b k f c ts r h = f _ _ _ h.1
 
-  pub dotted : (b : Bool) (k : Tree) → Sound look k → (c : Code) (ts r : Input) → Dotted b c (part k (λ y. Spells k y)) ts r → Good look k
+  pub dotted : (b : Bool) (k : Tree) → Sound look k → (c : Code) (ts r : Input) → Dotted b c (child k (λ y. Produces k y)) ts r → Good look k
   dotted b k f c ts r h = f _ _ _ h.2.1
 
   member_good : (s : Span) (o k : Tree) → Good look o → Good look k → Good look (member_expr s o k)
   member_good s (number_lit at value raw) k f g st = ok ▸ number_before_fine look at value raw k ▸ maybe _ _ ▸ g Alone ▸ ok
   member_good s o k f g st = ok ▸ f Head ▸ maybe _ _ ▸ g Alone ▸ ok
 
-  pub member : (s : Span) (o k : Tree) → Sound look o → (c : Code) (A : Input → Input → Type 0) → ((m n : Input) → A m n → Good look k) → (ts r : Input) → Member c s (part o (λ y. Spells o y)) A ts r → Good look (member_expr s o k)
+  pub member : (s : Span) (o k : Tree) → Sound look o → (c : Code) (A : Input → Input → Type 0) → ((m n : Input) → A m n → Good look k) → (ts r : Input) → Member c s (child o (λ y. Produces o y)) A ts r → Good look (member_expr s o k)
   member s o k f c A g ts r h = member_good s o k (f _ _ _ h.2.1) (g _ _ h.3)
 
   pub super_property : (s t : Span) (k : Tree) (c : Code) (A : Input → Input → Type 0) → ((m n : Input) → A m n → Good look k) → (ts r : Input) → SuperProperty c s t A ts r → Good look (super_prop_expr s (super t) k)
   super_property s t k c A g ts r h st = ok ▸ (ok ▸ ok ▸ ok ▸ ok) ▸ maybe _ _ ▸ g _ _ h.3 Alone
 
-  arguments : (xs : Trees) → AllSound look xs → (c : Code) (ts r : Input) → Arguments c (parts xs) ts r → AllGood look xs
+  arguments : (xs : Trees) → AllSound look xs → (c : Code) (ts r : Input) → Arguments c (children xs) ts r → AllGood look xs
   arguments xs a c ts r h = all_sorted look is_element false c right_paren_kind xs a _ _ h.2
 
-  imported : (xs : Trees) → AllSound look xs → (c : Code) (ts r : Input) → ImportArguments c (parts xs) ts r → AllGood look xs
+  imported : (xs : Trees) → AllSound look xs → (c : Code) (ts r : Input) → ImportArguments c (children xs) ts r → AllGood look xs
   imported none a c ts r h = absurd h
   imported (more x xs) a c ts r h = either c.syntax.import_attributes h.1
       (λ e k. all_sorted look is_element false c right_paren_kind (more x xs) a _ _ k.1) (λ e k. (a.0 _ _ _ k.2.1, none_good look xs k.0))
 
-  pub call : (s : Span) (e : Tree) (xs : Trees) → Sound look e → AllSound look xs → (c : Code) (ts r : Input) → Call c s (part e (λ y. Spells e y)) (parts xs) ts r → Good look (call_expr s e xs)
+  pub call : (s : Span) (e : Tree) (xs : Trees) → Sound look e → AllSound look xs → (c : Code) (ts r : Input) → Call c s (child e (λ y. Produces e y)) (children xs) ts r → Good look (call_expr s e xs)
   call s e xs f a c ts r h st = ok ▸ ok ▸ f _ _ _ h.2.1 Head ▸ in_parens_fine (commas_fine look xs (arguments xs a c h.0 r h.3))
 
   pub super_call : (s t : Span) (xs : Trees) → AllSound look xs → Sound look (call_expr s (super t) xs)
@@ -106,7 +106,7 @@ module _ (look : Look) where
   chain_good s q t o k f g st = f Head ▸ if_fine q token (maybe _ _) ▸ g Alone
 
   pub chain_member : (s : Span) (q : Bool) (t : Span) (o k : Tree) → Sound look o → (c : Code) (A B : Input → Input → Type 0) → ((m n : Input) → A m n → Good look k) → ((m n : Input) → B m n → Good look k)
-      → (ts r : Input) → ChainMember c s q t (part o (λ y. Spells o y)) A B ts r → Good look (opt_chain_expr s q (member_expr t o k))
+      → (ts r : Input) → ChainMember c s q t (child o (λ y. Produces o y)) A B ts r → Good look (opt_chain_expr s q (member_expr t o k))
   chain_member s true t o k f c A B g i ts r h = chain_good s true t o k (f _ _ _ h.2.1) (i _ _ h.4)
   chain_member s false t o k f c A B g i ts r h = chain_good s false t o k (f _ _ _ h.2) (g _ _ h.3)
 
@@ -151,7 +151,7 @@ module _ (look : Look) where
   pub yield_bare : (s : Span) (b : Bool) → Good look (yield_expr s absent b)
   yield_bare s b = yield_good s absent b (λ st. empty)
 
-  pub yields : (s : Span) (a : Tree) (b : Bool) → Sound look a → (c : Code) (ts r : Input) → Yield c s (part a (λ y. Spells a y)) b ts r → Good look (yield_expr s a b)
+  pub yields : (s : Span) (a : Tree) (b : Bool) → Sound look a → (c : Code) (ts r : Input) → Yield c s (child a (λ y. Produces a y)) b ts r → Good look (yield_expr s a b)
   yields s a true f c ts r h = yield_good s a true (f _ _ _ h.6.1)
   yields s a false f c ts r h = yield_good s a false (f _ _ _ h.4.1)
 

@@ -1,4 +1,4 @@
--- Functions and classes that spell tokens can be printed.
+-- Functions and classes that produce tokens can be printed.
 use Rattle.std.proofs.Common.{◌==◌, inl, inr, ℕ, Bool, true, false}
 use Rattle.std.proofs.lemmas.Option.{none-some}
 use Rattle.ecma_token.specs.declared.place.Span.{Span}
@@ -6,11 +6,11 @@ use Rattle.ecma_token.specs.Kinds.{right_paren_kind}
 use Rattle.ecma_tree.specs.Tree.{Tree, Trees, none, more, plain_method, block_stmt, function, param, class, constructor, class_method, private_method, class_prop, private_prop, static_block, auto_accessor, fn_decl, class_decl, fn_expr, class_expr, arrow_expr, getter_prop, setter_prop, method_prop}
 use Rattle.ecma_syntax.specs.Input.{Input, Code}
 use Rattle.ecma_syntax.specs.Shape.{is_item, is_param, count_of}
-use Rattle.ecma_grammar.specs.Parts.{part, IsEmpty}
+use Rattle.ecma_grammar.specs.Children.{child, IsEmpty}
 use Rattle.ecma_grammar.specs.Functions.{Parameters, SetParameter, Body, Closes, ArrowPattern, BareName, ArrowParameters, ArrowExpression, Method, Members}
-use Rattle.ecma_grammar.specs.Grammar.{Spells, parts}
+use Rattle.ecma_grammar.specs.Grammar.{Produces, children}
 use Rattle.ecma_layout.specs.declared.look.Look.{Look}
-use Rattle.ecma_layout.specs.declared.look.Stand.TheVariants.{Alone, Body as BodyStand, Key}
+use Rattle.ecma_layout.specs.declared.look.Stand.TheVariants.{Alone, Body as BodyState, Key}
 use Rattle.ecma_layout_laws.proofs.Fine.{◌▸◌, ok, when_fine, if_fine, maybe, in_parens_fine, marks_fine, function_tail_fine, indented_fine, initial_fine, field_value_fine, after_static_fine, method_start_fine, class_head_fine, class_tail_fine}
 use Rattle.ecma_layout_laws.proofs.PrintedLists.{Good, AllGood, rows_fine, commas_fine, each_fine}
 use Rattle.ecma_layout_laws.proofs.Forms.{Sound, AllSound, either, maybe_good, none_good, listed, all_sorted, items}
@@ -18,28 +18,28 @@ use Rattle.ecma_layout_laws.proofs.Forms.{Sound, AllSound, either, maybe_good, n
 module _ (look : Look) where
   -- what is printed of a function and of a class by the node that holds it
   abbrev pub Inner : Tree → Type 0
-  Inner (function at ps ds body g w) = AllGood look ps × Good look body × IsEmpty (parts ds)
-  Inner (class at ds ms p) = IsEmpty (parts ds) × AllGood look ms × Good look p
+  Inner (function at ps ds body g w) = AllGood look ps × Good look body × IsEmpty (children ds)
+  Inner (class at ds ms p) = IsEmpty (children ds) × AllGood look ms × Good look p
   Inner _ = Unit {0}
 
   abbrev pub InnerSound : Tree → Type 0
-  InnerSound t = (c : Code) (ts r : Input) → Spells t c ts r → Inner t
+  InnerSound t = (c : Code) (ts r : Input) → Produces t c ts r → Inner t
 
   -- ---- 15.1, 15.2 parameters and bodies
 
   pub block_good : (b : Span) (ss : Trees) → AllGood look ss → Good look (block_stmt b ss)
   block_good b ss a st = maybe _ _ ▸ ok ▸ indented_fine look ss (rows_fine look true ss a) ▸ ok ▸ ok
 
-  pub body_good : (b : Span) (ss : Trees) → AllSound look ss → (c : Code) (ts r : Input) → Body c b (parts ss) ts r → Good look (block_stmt b ss)
+  pub body_good : (b : Span) (ss : Trees) → AllSound look ss → (c : Code) (ts r : Input) → Body c b (children ss) ts r → Good look (block_stmt b ss)
   body_good b ss a c ts r h = block_good b ss (items look is_item Closes c true ss a h.0 r h.2)
 
   pub parameter : (s : Span) (ds : Trees) (p : Tree) → Sound look p → Sound look (param s ds p)
   parameter s ds p f c ts r h st = ok ▸ each_fine look ds h.0 ▸ f _ _ _ h.2 Alone ▸ ok
 
-  parameters : (ps : Trees) → AllSound look ps → (c : Code) (ts r : Input) → Parameters c (parts ps) ts r → AllGood look ps
+  parameters : (ps : Trees) → AllSound look ps → (c : Code) (ts r : Input) → Parameters c (children ps) ts r → AllGood look ps
   parameters ps a c ts r h = all_sorted look is_param false c right_paren_kind ps a h.0 r h.2
 
-  set_parameter : (ps : Trees) → AllSound look ps → (c : Code) (ts r : Input) → SetParameter c (parts ps) ts r → AllGood look ps
+  set_parameter : (ps : Trees) → AllSound look ps → (c : Code) (ts r : Input) → SetParameter c (children ps) ts r → AllGood look ps
   set_parameter none a c ts r h = absurd h
   set_parameter (more p ps) a c ts r h = (a.0 _ _ _ h.5.1, none_good look ps h.2)
 
@@ -47,47 +47,47 @@ module _ (look : Look) where
   function_inner at ps ds b ss g w k l c ts r h = (either c.sets h.2 (λ e z. set_parameter ps k _ ts h.0 z) (λ e z. parameters ps k _ ts h.0 z), body_good b ss l _ h.0 r h.3, h.1)
 
   pub function_good : (at : Span) (ps ds : Trees) (body : Tree) (g w : Bool) → InnerSound (function at ps ds body g w) → Sound look (function at ps ds body g w)
-  function_good at ps ds body g w f c ts r h st = let z = f c ts r h in function_tail_fine look (commas_fine look ps z.0) (z.1 BodyStand)
+  function_good at ps ds body g w f c ts r h st = let z = f c ts r h in function_tail_fine look (commas_fine look ps z.0) (z.1 BodyState)
 
   pub function_declared : (s : Span) (n f : Tree) → Sound look n → InnerSound f → Sound look (fn_decl s n f)
   function_declared s n (function at ps ds body g w) p q c ts r h st = let z = q _ _ _ h.4 in
-      ok ▸ ok ▸ when_fine _ (ok ▸ ok) ▸ ok ▸ if_fine _ (ok ▸ maybe _ _) ok ▸ p _ _ _ h.3.1 Alone ▸ function_tail_fine look (commas_fine look ps z.0) (z.1 BodyStand)
+      ok ▸ ok ▸ when_fine _ (ok ▸ ok) ▸ ok ▸ if_fine _ (ok ▸ maybe _ _) ok ▸ p _ _ _ h.3.1 Alone ▸ function_tail_fine look (commas_fine look ps z.0) (z.1 BodyState)
   function_declared s n _ p q c ts r h st = absurd h
 
   pub function_expressed : (s : Span) (n f : Tree) → Sound look n → InnerSound f → Sound look (fn_expr s n f)
   function_expressed s n (function at ps ds body g w) p q c ts r h st = let z = q _ _ _ h.4 in
-      ok ▸ ok ▸ when_fine _ (ok ▸ ok) ▸ ok ▸ maybe _ _ ▸ when_fine _ (ok ▸ maybe_good look _ n h.3 (λ k. p _ _ _ k.1) Alone) ▸ function_tail_fine look (commas_fine look ps z.0) (z.1 BodyStand)
+      ok ▸ ok ▸ when_fine _ (ok ▸ ok) ▸ ok ▸ maybe _ _ ▸ when_fine _ (ok ▸ maybe_good look _ n h.3 (λ k. p _ _ _ k.1) Alone) ▸ function_tail_fine look (commas_fine look ps z.0) (z.1 BodyState)
   function_expressed s n _ p q c ts r h st = absurd h
 
   -- ---- 15.3, 15.9 arrows
 
-  arrow_parameters : (ps : Trees) → AllSound look ps → (c : Code) (ts r : Input) → ArrowParameters c (parts ps) ts r → AllGood look ps
+  arrow_parameters : (ps : Trees) → AllSound look ps → (c : Code) (ts r : Input) → ArrowParameters c (children ps) ts r → AllGood look ps
   arrow_parameters ps a c ts r (inl h) = bare ps a h
     where
-      bare : (ps : Trees) → AllSound look ps → BareName c (parts ps) ts r → AllGood look ps
+      bare : (ps : Trees) → AllSound look ps → BareName c (children ps) ts r → AllGood look ps
       bare none a h = absurd h
       bare (more p ps) a h = (a.0 _ _ _ h.1.1, none_good look ps h.0)
   arrow_parameters ps a c ts r (inr h) = listed look (ArrowPattern c) (λ t f m n k. f _ _ _ k.1) false c right_paren_kind ps a h.0 r h.2
 
   arrow_good : (s : Span) (ps : Trees) (e : Tree) (w : Bool) → AllGood look ps → Good look e → Good look (arrow_expr s ps e w)
-  arrow_good s ps e w a f st = ok ▸ when_fine _ (ok ▸ maybe _ _) ▸ if_fine _ (commas_fine look ps a) (in_parens_fine (commas_fine look ps a)) ▸ ok ▸ if_fine _ (f BodyStand) (maybe _ _ ▸ f Alone ▸ maybe _ _)
+  arrow_good s ps e w a f st = ok ▸ when_fine _ (ok ▸ maybe _ _) ▸ if_fine _ (commas_fine look ps a) (in_parens_fine (commas_fine look ps a)) ▸ ok ▸ if_fine _ (f BodyState) (maybe _ _ ▸ f Alone ▸ maybe _ _)
 
   pub arrow_block : (s : Span) (ps : Trees) (b : Span) (ss : Trees) (w : Bool) → AllSound look ps → AllSound look ss → Sound look (arrow_expr s ps (block_stmt b ss) w)
   arrow_block s ps b ss w a l c ts r h = arrow_good s ps (block_stmt b ss) w (arrow_parameters ps a c _ _ h.1.3) (body_good b ss l _ h.0 r h.2)
 
-  pub arrow_expression : (s : Span) (ps : Trees) (e : Tree) (w : Bool) → AllSound look ps → Sound look e → (c : Code) (ts r : Input) → ArrowExpression c s (parts ps) (part e (λ y. Spells e y)) w ts r → Good look (arrow_expr s ps e w)
+  pub arrow_expression : (s : Span) (ps : Trees) (e : Tree) (w : Bool) → AllSound look ps → Sound look e → (c : Code) (ts r : Input) → ArrowExpression c s (children ps) (child e (λ y. Produces e y)) w ts r → Good look (arrow_expr s ps e w)
   arrow_expression s ps e w a f c ts r h = arrow_good s ps e w (arrow_parameters ps a c _ _ h.1.3) (f _ _ _ h.3.1)
 
   -- ---- 15.4 methods
 
   method : (n : ℕ) (k : Tree) (at : Span) (ps ds : Trees) (body : Tree) (g w : Bool) → Sound look k → InnerSound (function at ps ds body g w) → (c : Code) (ts r : Input)
-      → Method c n (part k (λ y. Spells k y)) (record { span = at; generator = g; async = w; count = count_of ps }) (part (function at ps ds body g w) (λ y. Spells (function at ps ds body g w) y)) ts r
+      → Method c n (child k (λ y. Produces k y)) (record { span = at; generator = g; async = w; count = count_of ps }) (child (function at ps ds body g w) (λ y. Produces (function at ps ds body g w) y)) ts r
       → Good look k × Inner (function at ps ds body g w)
   method n k at ps ds body g w p q c ts r h = either (n == plain_method) h (λ e z. (p _ _ _ z.3, q _ _ _ z.4)) (λ e z. (p _ _ _ z.6, q _ _ _ z.7))
 
   pub object_method : (s : Span) (k f : Tree) → Sound look k → InnerSound f → Sound look (method_prop s k f)
   object_method s k (function at ps ds body g w) p q c ts r h st = let z = method plain_method k at ps ds body g w p q c ts r h.1 in
-      ok ▸ marks_fine w g ▸ z.0 Key ▸ maybe _ _ ▸ function_tail_fine look (commas_fine look ps z.1.0) (z.1.1 BodyStand)
+      ok ▸ marks_fine w g ▸ z.0 Key ▸ maybe _ _ ▸ function_tail_fine look (commas_fine look ps z.1.0) (z.1.1 BodyState)
   object_method s k _ p q c ts r h st = absurd h
 
   pub getter : (s : Span) (k : Tree) (b : Span) (ss : Trees) → Sound look k → AllSound look ss → Sound look (getter_prop s k (block_stmt b ss))
@@ -98,7 +98,7 @@ module _ (look : Look) where
 
   -- ---- 15.7 classes
 
-  members : (ms : Trees) → AllSound look ms → (c : Code) (ts r : Input) → Members c (parts ms) ts r → AllGood look ms
+  members : (ms : Trees) → AllSound look ms → (c : Code) (ts r : Input) → Members c (children ms) ts r → AllGood look ms
   members none a c ts r h = tt
   members (more m ms) a c ts r h = (a.0 _ _ _ h.1.1, members ms a.1 c h.0 r h.2)
 
@@ -128,7 +128,7 @@ module _ (look : Look) where
 
   pub private_method_on : (s : Span) (k f : Tree) (n : ℕ) (i : Bool) → Sound look k → InnerSound f → Sound look (private_method s k f n i)
   private_method_on s k (function at ps ds body g w) n i p q c ts r h st = let z = method n k at ps ds body g w p q c h.0 r h.4 in
-      ok ▸ when_fine _ (ok ▸ ok) ▸ if_fine (n == plain_method) (marks_fine w g) (ok ▸ ok) ▸ z.0 Key ▸ function_tail_fine look (commas_fine look ps z.1.0) (z.1.1 BodyStand)
+      ok ▸ when_fine _ (ok ▸ ok) ▸ if_fine (n == plain_method) (marks_fine w g) (ok ▸ ok) ▸ z.0 Key ▸ function_tail_fine look (commas_fine look ps z.1.0) (z.1.1 BodyState)
   private_method_on s k _ n i p q c ts r h st = absurd h
 
   pub field : (s : Span) (k v : Tree) (i : Bool) (ds : Trees) → Sound look k → Sound look v → Sound look (class_prop s k v i ds)

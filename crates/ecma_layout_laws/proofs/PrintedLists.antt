@@ -1,8 +1,8 @@
 -- The layouts of lists of trees of which each can be printed.
 use Rattle.std.proofs.Common.{Bool, true}
 use Rattle.ecma_tree.specs.Tree.{Tree, Trees, none, more}
-use Rattle.ecma_grammar.specs.Parts.{IsEmpty}
-use Rattle.ecma_grammar.specs.Grammar.{parts}
+use Rattle.ecma_grammar.specs.Children.{IsEmpty}
+use Rattle.ecma_grammar.specs.Grammar.{children}
 use Rattle.ecma_layout.specs.declared.look.Look.{Look}
 use Rattle.ecma_layout.specs.declared.look.Stand.{Stand}
 use Rattle.ecma_layout.specs.declared.look.Stand.TheVariants.{Alone}
@@ -40,7 +40,7 @@ module _ (look : Look) where
   lines_fine ts a = separated_fine (ok ▸ maybe _ _) ts a
 
   -- the grammar has no decorators
-  pub each_fine : (ts : Trees) → IsEmpty (parts ts) → Fine (each look ts)
+  pub each_fine : (ts : Trees) → IsEmpty (children ts) → Fine (each look ts)
   each_fine none h = empty
   each_fine (more t ts) h = absurd h
 

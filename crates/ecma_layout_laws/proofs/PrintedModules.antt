@@ -1,13 +1,13 @@
--- Scripts and modules that spell tokens can be printed.
+-- Scripts and modules that produce tokens can be printed.
 use Rattle.std.proofs.Common.{ℕ, true, false, List, Option}
 use Rattle.ecma_token.specs.declared.place.Span.{Span}
 use Rattle.ecma_token.specs.Kinds.{right_brace_kind}
 use Rattle.ecma_tree.specs.Tree.{Tree, Trees, none, more, script, es_module, import_decl, export_decl, named_export, export_default_decl, export_default_expr, export_all, import_named_specifier, import_default_specifier, import_star_as_specifier, export_namespace_specifier, export_named_specifier, class_decl, class_expr, class, ident, absent}
 use Rattle.ecma_syntax.specs.Input.{Input, Code}
 use Rattle.ecma_syntax.specs.Shape.{is_absent, is_item, is_default_import, is_star_import, is_named_import, is_star_export, is_named_export, export_name}
-use Rattle.ecma_grammar.specs.Parts.{part, is_module_item, AtEnd}
+use Rattle.ecma_grammar.specs.Children.{child, is_module_item, AtEnd}
 use Rattle.ecma_grammar.specs.Modules.{ExportName, NamedImports, AfterDefault, ImportClause, Source, NamedExports, ExportList, Specified}
-use Rattle.ecma_grammar.specs.Grammar.{Spells, parts}
+use Rattle.ecma_grammar.specs.Grammar.{Produces, children}
 use Rattle.ecma_layout.specs.declared.look.Look.{Look}
 use Rattle.ecma_layout.specs.declared.look.Stand.TheVariants.{Alone, Key}
 use Rattle.ecma_layout.specs.Layout.{is_named, is_no_namespace}
@@ -19,7 +19,7 @@ module _ (look : Look) where
   -- ---- 16.2.2 imports
 
   -- a name of an export: any word, or a string
-  named : (t : Tree) → Sound look t → (c : Code) (ts r : Input) → ExportName c (export_name t) (part t (λ y. Spells t y)) ts r → Good look t
+  named : (t : Tree) → Sound look t → (c : Code) (ts r : Input) → ExportName c (export_name t) (child t (λ y. Produces t y)) ts r → Good look t
   named (ident s n) f c ts r h st = identifier_fine look s n
   named t f c ts r h st = f c ts r h.1 st
 
@@ -38,20 +38,20 @@ module _ (look : Look) where
   pub star_import : (s : Span) (l : Tree) → Sound look l → Sound look (import_star_as_specifier s l)
   star_import s l f c ts r h st = ok ▸ maybe _ _ ▸ ok ▸ ok ▸ f _ _ _ h.4.1 Alone
 
-  named_imports : (xs : Trees) → AllSound look xs → (c : Code) (ts r : Input) → NamedImports c (parts xs) ts r → AllGood look xs
+  named_imports : (xs : Trees) → AllSound look xs → (c : Code) (ts r : Input) → NamedImports c (children xs) ts r → AllGood look xs
   named_imports xs a c ts r h = all_sorted look is_named_import false c right_brace_kind xs a h.0 r h.2
 
-  after_default : (xs : Trees) → AllSound look xs → (c : Code) (ts r : Input) → AfterDefault c (parts xs) ts r → AllGood look xs
+  after_default : (xs : Trees) → AllSound look xs → (c : Code) (ts r : Input) → AfterDefault c (children xs) ts r → AllGood look xs
   after_default none a c ts r h = tt
   after_default (more x xs) a c ts r h = either (is_star_import x) h.2 (λ e z. (a.0 _ _ _ z.1, none_good look xs z.0)) (λ e z. named_imports (more x xs) a c h.0 r z)
 
-  import_clause : (xs : Trees) → AllSound look xs → (c : Code) (ts r : Input) → ImportClause c (parts xs) ts r → AllGood look xs
+  import_clause : (xs : Trees) → AllSound look xs → (c : Code) (ts r : Input) → ImportClause c (children xs) ts r → AllGood look xs
   import_clause none a c ts r h = tt
   import_clause (more x xs) a c ts r h = either (is_default_import x) h.1
       (λ e z. (a.0 _ _ _ z.1, after_default xs a.1 c z.0 h.0 z.2))
       (λ e z. either (is_star_import x) z (λ d y. (a.0 _ _ _ y.1, none_good look xs y.0)) (λ d y. named_imports (more x xs) a c ts h.0 y))
 
-  source : (f w : Tree) → Sound look f → Sound look w → (c : Code) (ts r : Input) → Source c (part f (λ y. Spells f y)) (part w (λ y. Spells w y)) ts r → Good look f × Good look w
+  source : (f w : Tree) → Sound look f → Sound look w → (c : Code) (ts r : Input) → Source c (child f (λ y. Produces f y)) (child w (λ y. Produces w y)) ts r → Good look f × Good look w
   source f w p q c ts r h = (p _ _ _ h.1.1, maybe_good look _ w h.2 (λ z. q _ _ _ z.1.4))
 
   pub import_on : (s : Span) (xs : Trees) (f w : Tree) → AllSound look xs → Sound look f → Sound look w → Sound look (import_decl s xs f w)
@@ -70,16 +70,16 @@ module _ (look : Look) where
   pub star_export : (s : Span) (n : Tree) → Sound look n → Sound look (export_namespace_specifier s n)
   star_export s n f c ts r h st = ok ▸ ok ▸ maybe _ _ ▸ ok ▸ ok ▸ named n f c h.1 r h.4 Key ▸ ok
 
-  named_exports : (xs : Trees) → AllSound look xs → (c : Code) (ts r : Input) → NamedExports c (parts xs) ts r → AllGood look xs
+  named_exports : (xs : Trees) → AllSound look xs → (c : Code) (ts r : Input) → NamedExports c (children xs) ts r → AllGood look xs
   named_exports xs a c ts r h = all_sorted look is_named_export false c right_brace_kind xs a h.0 r h.2
 
-  export_list : (xs : Trees) (f w : Tree) → AllSound look xs → Sound look f → Sound look w → (c : Code) (ts r : Input) → ExportList c (parts xs) (part f (λ y. Spells f y)) (part w (λ y. Spells w y)) ts r
+  export_list : (xs : Trees) (f w : Tree) → AllSound look xs → Sound look f → Sound look w → (c : Code) (ts r : Input) → ExportList c (children xs) (child f (λ y. Produces f y)) (child w (λ y. Produces w y)) ts r
       → AllGood look xs × Good look f × Good look w
   export_list xs f w a p q c ts r h = let k = named_exports xs a c ts h.0 h.1 in either (is_absent f) h.2
       (λ e z. (k, absent_good look f e, absent_good look w z.0))
       (λ e z. let y = source f w p q c z.0 r z.2 in (k, y.0, y.1))
 
-  specified : (xs : Trees) (f w : Tree) → AllSound look xs → Sound look f → Sound look w → (c : Code) (ts r : Input) → Specified c (parts xs) (part f (λ y. Spells f y)) (part w (λ y. Spells w y)) ts r
+  specified : (xs : Trees) (f w : Tree) → AllSound look xs → Sound look f → Sound look w → (c : Code) (ts r : Input) → Specified c (children xs) (child f (λ y. Produces f y)) (child w (λ y. Produces w y)) ts r
       → AllGood look xs × Good look f × Good look w
   specified none f w a p q c ts r h = export_list none f w a p q c ts r h
   specified (more x xs) f w a p q c ts r h = either (is_star_export x) h

@@ -1,13 +1,13 @@
--- Statements and declarations that spell tokens can be printed.
+-- Statements and declarations that produce tokens can be printed.
 use Rattle.std.proofs.Common.{◌||◌, ℕ, Bool, true, false}
 use Rattle.ecma_token.specs.declared.place.Span.{Span}
 use Rattle.ecma_token.specs.Kinds.{semicolon_kind, right_paren_kind}
 use Rattle.ecma_tree.specs.Tree.{Tree, Trees, none, more, block_stmt, with_stmt, return_stmt, labeled_stmt, break_stmt, continue_stmt, if_stmt, switch_stmt, switch_case, throw_stmt, try_stmt, catch_clause, while_stmt, do_while_stmt, for_stmt, for_in_stmt, for_of_stmt, expr_stmt, var_decl, using_decl, var_declarator}
 use Rattle.ecma_syntax.specs.Input.{Input, Code, without_in}
 use Rattle.ecma_syntax.specs.Shape.{is_declarator, is_default_case, is_item}
-use Rattle.ecma_grammar.specs.Parts.{part, Sorted}
+use Rattle.ecma_grammar.specs.Children.{child, Sorted}
 use Rattle.ecma_grammar.specs.Statements.{InParens, ClosesBlock, Bindings, UsingBindings, Clause, ForRest, ForExpression, ForIn, ForOf, HeadVariables, HeadUsing, HeadTarget, OfTarget, ClosesCase, Cases}
-use Rattle.ecma_grammar.specs.Grammar.{Spells, parts}
+use Rattle.ecma_grammar.specs.Grammar.{Produces, children}
 use Rattle.ecma_layout.specs.declared.look.Look.{Look}
 use Rattle.ecma_layout.specs.declared.look.Stand.TheVariants.{Alone}
 use Rattle.ecma_layout_laws.proofs.Fine.{◌▸◌, ok, when_fine, if_fine, maybe, in_parens_fine, closing_fine, initial_fine, indented_or_line_fine}
@@ -16,7 +16,7 @@ use Rattle.ecma_layout_laws.proofs.Forms.{Sound, AllSound, maybe_good, commas, i
 use Rattle.ecma_layout_laws.proofs.PrintedFunctions.{block_good}
 
 module _ (look : Look) where
-  parens : (e : Tree) → Sound look e → (c : Code) (ts r : Input) → InParens c (part e (λ y. Spells e y)) ts r → Good look e
+  parens : (e : Tree) → Sound look e → (c : Code) (ts r : Input) → InParens c (child e (λ y. Produces e y)) ts r → Good look e
   parens e f c ts r h = f _ _ _ h.3.1
 
   -- ---- 14.2 to 14.5
@@ -33,10 +33,10 @@ module _ (look : Look) where
   using_good : (s : Span) (w : Bool) (ds : Trees) → AllGood look ds → Good look (using_decl s w ds)
   using_good s w ds a st = ok ▸ when_fine _ (ok ▸ ok) ▸ ok ▸ ok ▸ commas_fine look ds a
 
-  bindings : (s : Span) (k : ℕ) (ds : Trees) → AllSound look ds → (c : Code) (ts r : Input) → Bindings c k (parts ds) ts r → Good look (var_decl s k ds)
+  bindings : (s : Span) (k : ℕ) (ds : Trees) → AllSound look ds → (c : Code) (ts r : Input) → Bindings c k (children ds) ts r → Good look (var_decl s k ds)
   bindings s k ds a c ts r h = var_good s k ds (commas look (Sorted is_declarator c) (λ t f m n k. f _ _ _ k.1) c ds a h.0 r h.3)
 
-  using_bindings : (s : Span) (w : Bool) (ds : Trees) → AllSound look ds → (c : Code) (ts r : Input) → UsingBindings c w (parts ds) ts r → Good look (using_decl s w ds)
+  using_bindings : (s : Span) (w : Bool) (ds : Trees) → AllSound look ds → (c : Code) (ts r : Input) → UsingBindings c w (children ds) ts r → Good look (using_decl s w ds)
   using_bindings s false ds a c ts r h = using_good s false ds (commas look (Sorted is_declarator c) (λ t f m n k. f _ _ _ k.1) c ds a h.0 r h.5)
   using_bindings s true ds a c ts r h = using_good s true ds (commas look (Sorted is_declarator c) (λ t f m n k. f _ _ _ k.1) c ds a h.1 r h.9)
 
@@ -63,17 +63,17 @@ module _ (look : Look) where
   pub while_on : (s : Span) (t b : Tree) → Sound look t → Sound look b → Sound look (while_stmt s t b)
   while_on s t b f g c ts r h st = ok ▸ ok ▸ ok ▸ in_parens_fine (parens t f c h.0 h.1 h.3 Alone) ▸ g _ _ _ h.4.1 Alone ▸ closing_fine look b
 
-  clause : (close : ℕ) (e : Tree) → Sound look e → (c : Code) (ts r : Input) → Clause c close (part e (λ y. Spells e y)) ts r → Good look e
+  clause : (close : ℕ) (e : Tree) → Sound look e → (c : Code) (ts r : Input) → Clause c close (child e (λ y. Produces e y)) ts r → Good look e
   clause close e f c ts r h = maybe_good look _ e h.1 (λ z. f _ _ _ z.1)
 
   for_good : (s : Span) (i t u b : Tree) → Good look i → Sound look t → Sound look u → Sound look b → (c : Code) (ts r : Input)
-      → ForRest c (part t (λ y. Spells t y)) (part u (λ y. Spells u y)) (part b (λ y. Spells b y)) ts r → Good look (for_stmt s i t u b)
+      → ForRest c (child t (λ y. Produces t y)) (child u (λ y. Produces u y)) (child b (λ y. Produces b y)) ts r → Good look (for_stmt s i t u b)
   for_good s i t u b p f g k c ts r h st =
       ok ▸ ok ▸ ok ▸ ok ▸ p Alone ▸ ok ▸ when_fine _ (maybe _ _ ▸ clause semicolon_kind t f c ts h.0 h.2 Alone)
       ▸ ok ▸ when_fine _ (maybe _ _ ▸ clause right_paren_kind u g c h.0 h.1 h.3 Alone) ▸ ok ▸ k _ _ _ h.4.1 Alone ▸ closing_fine look b
 
   pub for_expression : (s : Span) (i t u b : Tree) → Sound look i → Sound look t → Sound look u → Sound look b → (c : Code) (ts r : Input)
-      → ForExpression c s (part i (λ y. Spells i y)) (part t (λ y. Spells t y)) (part u (λ y. Spells u y)) (part b (λ y. Spells b y)) ts r → Good look (for_stmt s i t u b)
+      → ForExpression c s (child i (λ y. Produces i y)) (child t (λ y. Produces t y)) (child u (λ y. Produces u y)) (child b (λ y. Produces b y)) ts r → Good look (for_stmt s i t u b)
   for_expression s i t u b e f g k c ts r h = for_good s i t u b (maybe_good look _ i h.4 (λ z. e _ _ _ z.1.1)) f g k c h.2 r h.6
 
   pub for_variables : (s v : Span) (n : ℕ) (ds : Trees) (t u b : Tree) → AllSound look ds → Sound look t → Sound look u → Sound look b → Sound look (for_stmt s (var_decl v n ds) t u b)
@@ -82,25 +82,25 @@ module _ (look : Look) where
   pub for_using : (s v : Span) (w : Bool) (ds : Trees) (t u b : Tree) → AllSound look ds → Sound look t → Sound look u → Sound look b → Sound look (for_stmt s (using_decl v w ds) t u b)
   for_using s v w ds t u b a f g k c ts r h = for_good s (using_decl v w ds) t u b (using_bindings v w ds a (without_in c) h.0 h.1 h.5) f g k c h.2 r h.8
 
-  pub head_variables : (v : Span) (k : ℕ) (ds : Trees) → AllSound look ds → (c : Code) (ts r : Input) → HeadVariables c v k (parts ds) ts r → Good look (var_decl v k ds)
+  pub head_variables : (v : Span) (k : ℕ) (ds : Trees) → AllSound look ds → (c : Code) (ts r : Input) → HeadVariables c v k (children ds) ts r → Good look (var_decl v k ds)
   head_variables v k ds a c ts r h = bindings v k ds a (without_in c) ts r h.1
 
-  pub head_using : (v : Span) (w : Bool) (ds : Trees) → AllSound look ds → (c : Code) (ts r : Input) → HeadUsing c v w (parts ds) ts r → Good look (using_decl v w ds)
+  pub head_using : (v : Span) (w : Bool) (ds : Trees) → AllSound look ds → (c : Code) (ts r : Input) → HeadUsing c v w (children ds) ts r → Good look (using_decl v w ds)
   head_using v w ds a c ts r h = using_bindings v w ds a (without_in c) ts r h.2
 
-  pub head_target : (a : Tree) → Sound look a → (c : Code) (ts r : Input) → HeadTarget c (part a (λ y. Spells a y)) ts r → Good look a
+  pub head_target : (a : Tree) → Sound look a → (c : Code) (ts r : Input) → HeadTarget c (child a (λ y. Produces a y)) ts r → Good look a
   head_target a f c ts r h = f _ _ _ h.2
 
-  pub of_target : (w : Bool) (a : Tree) → Sound look a → (c : Code) (ts r : Input) → OfTarget c w (part a (λ y. Spells a y)) ts r → Good look a
+  pub of_target : (w : Bool) (a : Tree) → Sound look a → (c : Code) (ts r : Input) → OfTarget c w (child a (λ y. Produces a y)) ts r → Good look a
   of_target w a f c ts r h = f _ _ _ h.1.2
 
   pub for_in : (s : Span) (a e b : Tree) (c : Code) (A : Input → Input → Type 0) → ((m n : Input) → A m n → Good look a) → Sound look e → Sound look b → (ts r : Input)
-      → ForIn c s A (part e (λ y. Spells e y)) (part b (λ y. Spells b y)) ts r → Good look (for_in_stmt s a e b)
+      → ForIn c s A (child e (λ y. Produces e y)) (child b (λ y. Produces b y)) ts r → Good look (for_in_stmt s a e b)
   for_in s a e b c A k f g ts r h st =
       ok ▸ ok ▸ ok ▸ ok ▸ k _ _ h.3 Alone ▸ maybe _ _ ▸ ok ▸ maybe _ _ ▸ f _ _ _ h.4.4.1 Alone ▸ ok ▸ g _ _ _ h.4.6.1 Alone ▸ closing_fine look b
 
   pub for_of : (s : Span) (w : Bool) (a e b : Tree) (c : Code) (A : Input → Input → Type 0) → ((m n : Input) → A m n → Good look a) → Sound look e → Sound look b → (ts r : Input)
-      → ForOf c s w A (part e (λ y. Spells e y)) (part b (λ y. Spells b y)) ts r → Good look (for_of_stmt s w a e b)
+      → ForOf c s w A (child e (λ y. Produces e y)) (child b (λ y. Produces b y)) ts r → Good look (for_of_stmt s w a e b)
   for_of s w a e b c A k f g ts r h st =
       ok ▸ ok ▸ ok ▸ when_fine w (ok ▸ ok) ▸ maybe _ _ ▸ ok ▸ k _ _ h.3 Alone ▸ maybe _ _ ▸ ok ▸ maybe _ _ ▸ f _ _ _ h.4.4.1 Alone ▸ ok ▸ g _ _ _ h.4.6.1 Alone ▸ closing_fine look b
 
@@ -129,7 +129,7 @@ module _ (look : Look) where
       ok ▸ if_fine _ (ok ▸ maybe _ _ ▸ maybe_good look _ t h.2 (λ z. f _ _ _ z.2.1) Alone) ok ▸ ok
       ▸ when_fine _ (maybe _ _ ▸ maybe _ _ ▸ rows_fine look true ss (items look is_item ClosesCase c false ss a h.1 r h.4) ▸ maybe _ _)
 
-  cases : (had : Bool) (xs : Trees) → AllSound look xs → (c : Code) (ts r : Input) → Cases c had (parts xs) ts r → AllGood look xs
+  cases : (had : Bool) (xs : Trees) → AllSound look xs → (c : Code) (ts r : Input) → Cases c had (children xs) ts r → AllGood look xs
   cases had none a c ts r h = tt
   cases had (more x xs) a c ts r h = (a.0 _ _ _ h.2.1, cases (had || is_default_case x) xs a.1 c h.0 r h.3)
 

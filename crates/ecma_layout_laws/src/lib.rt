@@ -22,7 +22,7 @@ pub fn spellings_law()
     ensures alike { SpellingsAside }
 {}
 
-/// Law: in the layout of a tree that spells tokens nothing is refused, in any look and wherever it stands. So a
+/// Law: in the layout of a tree that produces tokens nothing is refused, in any look and wherever it stands. So a
 /// tree that reads a text, as a script or as a module, can be printed.
 #[tactic(auto)]
 pub fn printed_law()

@@ -1,6 +1,6 @@
 -- What texts mean, in each style.
 use Rattle.std.proofs.Common.{◌≡◌, ℕ, List, [], ◌∷◌, subst}
-use Rattle.ecma_syntax.specs.Input.{Place, Input, rest, others}
+use Rattle.ecma_syntax.specs.Input.{PlacedToken, Input, rest, others}
 use Rattle.ecma_written.specs.Means.{Known}
 use Rattle.ecma_written.specs.Naming.{unplaced_names}
 use Rattle.ecma_written.proofs.Tables as tables
@@ -12,7 +12,7 @@ use Rattle.ecma_lexicon.proofs.Strict.{strict_kept}
 later : (ts m : Input) → rest ts ≡ m → Known ts.places → Known m.places
 later ts m e k = subst (λ (i : Input). Known i.places) e (by ts.places k)
   where
-    by : (ps : List Place) → Known ps → Known (others ps)
+    by : (ps : List PlacedToken) → Known ps → Known (others ps)
     by [] k = tt
     by (p ∷ ps) k = k.1
 

@@ -40,7 +40,7 @@ use Rattle.ecma_spell_template.specs.RegExps.{reg_exp_text}
 use Rattle.ecma_spell_template.proofs.ReadLemmas.{template_is_read}
 use Rattle.ecma_spell_template.proofs.TaggedLemmas.{tagged_is_read}
 use Rattle.ecma_spell_template.proofs.RegExpLemmas.{reg_exp_is_read}
-use Rattle.ecma_syntax.specs.Input.{Place, Input, content}
+use Rattle.ecma_syntax.specs.Input.{PlacedToken, Input, content}
 use Rattle.ecma_layout.specs.Literals.{string_bytes, number_bytes, big_bytes, quasi_bytes}
 use Rattle.ecma_layout.specs.Looks.{joined}
 use Rattle.ecma_written.proofs.Ascii.{Ascii, ascii, is_ascii}

@@ -14,7 +14,7 @@ use Rattle.ecma_literal.specs.Templates as templates
 use Rattle.ecma_lexeme.specs.declared.goal.LexicalGoal.{LexicalGoal}
 use Rattle.ecma_lexeme.specs.declared.goal.LexicalGoal.TheVariants.{Div, RegExp, TemplateTail, TemplateEnd}
 use Rattle.ecma_lexeme.specs.Lexemes.{SpecLexeme, IsLexeme, IsOutside}
-use Rattle.ecma_syntax.specs.Input.{Place, Input, content, content_of}
+use Rattle.ecma_syntax.specs.Input.{PlacedToken, Input, content, content_of}
 use Rattle.ecma_written.specs.Means.{IsRead, IsHashbangRead, Known}
 
 abbrev pub Origin : List ℕ → List ℕ → Content → Type 0
@@ -58,11 +58,11 @@ pub record From (x : Content) : Type 0 where
 bare_from : From Bare
 bare_from = record { from = []; behind = []; are_scalars = refl; origin = tt }
 
-place_from : (p : Place) → IsRead p ⊎ IsHashbangRead p → From p.spot.token.content
+place_from : (p : PlacedToken) → IsRead p ⊎ IsHashbangRead p → From p.spot.token.content
 place_from p (inl h) = record { from = h.1; behind = h.3; are_scalars = h.4; origin = subst (λ (t : SpecToken). Origin h.1 h.3 t.content) (sym h.6) (origin h.0 h.1 h.2 h.3 h.5) }
 place_from p (inr h) = subst (λ (t : SpecToken). From t.content) (sym h.2) (record { from = []; behind = []; are_scalars = refl; origin = tt })
 
-pub known_from : (ps : List Place) → Known ps → From (content_of ps)
+pub known_from : (ps : List PlacedToken) → Known ps → From (content_of ps)
 known_from [] k = bare_from
 known_from (p ∷ ps) k = place_from p k.0
 

@@ -19,7 +19,7 @@ use Rattle.ecma_spell_string.specs.declared.quoted.Behind.{Behind}
 use Rattle.ecma_spell_string.specs.declared.quoted.Behind.TheVariants.{Other}
 use Rattle.ecma_spell_string.specs.CodePoints.{AreUnits}
 use Rattle.ecma_spell_string.specs.Strings.{quoted, keeps_raw, string_text, chars_text, form_of, behind, is_backslash, is_ascii as ascii_char, QuotedIsRead}
-use Rattle.ecma_syntax.specs.Input.{Place, Input, content}
+use Rattle.ecma_syntax.specs.Input.{PlacedToken, Input, content}
 use Rattle.ecma_layout.specs.Literals.{string_bytes}
 use Rattle.ecma_written.proofs.Ascii.{Ascii, ascii, is_ascii}
 use Rattle.ecma_written.specs.Means.{Known}

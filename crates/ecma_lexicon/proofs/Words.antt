@@ -33,7 +33,7 @@ use Rattle.ecma_spell_base.specs.declared.form.Form.TheVariants.{Bare, Four, Fou
 use Rattle.ecma_spell_base.specs.Forms.{written}
 use Rattle.ecma_spell_string.specs.Names.{name_text, name_chars, key_text, is_quoted_key, AreNameChars}
 use Rattle.ecma_spell_string.proofs.NameLemmas.{name_is_read, key_is_read}
-use Rattle.ecma_syntax.specs.Input.{Place, Input, kind, kind_of as kind_at, text, text_in, content_of, is_word}
+use Rattle.ecma_syntax.specs.Input.{PlacedToken, Input, kind, kind_of as kind_at, text, text_in, content_of, is_word}
 use Rattle.ecma_layout.specs.Literals.{name_bytes, key_bytes}
 use Rattle.ecma_written.proofs.Ascii.{Ascii, ascii, is_ascii}
 use Rattle.ecma_written.proofs.Known.{name_char}
@@ -91,7 +91,7 @@ worded TemplateTail from l behind h = subst (λ (x : SpecLexeme). WordedBy from 
 worded TemplateEnd from l behind h = subst (λ (x : SpecLexeme). WordedBy from behind x) (sym h.2) (λ w. absurd (false≢true (sym (ending_no h.0) ∙ w)))
 
 -- The first token is a word that was read: of this name.
-pub record Word (ps : List Place) : Type 0 where
+pub record Word (ps : List PlacedToken) : Type 0 where
   pub from : List ℕ
   pub behind : List ℕ
   pub are : scalars from ≡ true
@@ -100,7 +100,7 @@ pub record Word (ps : List Place) : Type 0 where
   pub kind_is : kind_at ps ≡ kind_of (encode_utf8_all name)
   pub text_is : text_in (content_of ps) ≡ encode_utf8_all name
 
-place_word : (p : Place) (ps : List Place) → IsRead p ⊎ IsHashbangRead p → is_word p.spot.token.kind ≡ true → Word (p ∷ ps)
+place_word : (p : PlacedToken) (ps : List PlacedToken) → IsRead p ⊎ IsHashbangRead p → is_word p.spot.token.kind ≡ true → Word (p ∷ ps)
 place_word p ps (inl h) w =
     let g = worded h.0 h.1 h.2 h.3 h.5 (sym (ap (λ (t : SpecToken). is_word t.kind) h.6) ∙ w) in record {
       from = h.1;
@@ -113,7 +113,7 @@ place_word p ps (inl h) w =
     }
 place_word p ps (inr h) w = absurd (false≢true (sym (ap (λ (t : SpecToken). is_word t.kind) h.2) ∙ w))
 
-pub known_word : (ps : List Place) → Known ps → is_word (kind_at ps) ≡ true → Word ps
+pub known_word : (ps : List PlacedToken) → Known ps → is_word (kind_at ps) ≡ true → Word ps
 known_word [] k w = absurd (false≢true w)
 known_word (p ∷ ps) k w = place_word p ps k.0 w
 

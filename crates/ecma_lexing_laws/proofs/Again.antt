@@ -9,7 +9,7 @@ use Rattle.ecma_token.specs.Tokens.{Spot}
 use Rattle.ecma_lexeme.specs.declared.goal.LexicalGoal.TheVariants.{RegExp}
 use Rattle.ecma_lexing.specs.States.{Last, Start, State, behind, last_after, place}
 use Rattle.ecma_lexing.specs.Steps.{IsStep}
-use Rattle.ecma_lexing_laws.specs.Runs.{Clean}
+use Rattle.ecma_lexing_laws.specs.StepLists.{Clean}
 use Rattle.ecma_lexing_laws.proofs.Behind.{lexeme_behind}
 use Rattle.ecma_canonical.specs.Canonical.{Edge, edge_of}
 use Rattle.ecma_canonical.specs.Moved.{moved_from}

@@ -1,4 +1,4 @@
--- A run in which no slash is read again hands out two tokens a byte at most.
+-- Steps in which no slash is read again hand out two tokens a byte at most.
 use Rattle.std.proofs.Common.{◌≡◌, ◌≢◌, ℕ, ◌+◌, ◌*◌, ◌<◌, ◌≤◌, inl, inr, Bool, false, List, [], ◌∷◌, length, Option, Some, None, refl, sym, ap, subst, ◌∙◌, arith}
 use Rattle.std.proofs.lemmas.Str.{length-le-encodes}
 use Rattle.ecma_token.specs.Kinds.{template_kind}
@@ -15,7 +15,7 @@ use Rattle.ecma_lexing.specs.Steps.{Ends, IsFirst, IsGoing, IsOutside, IsPlain, 
 use Rattle.ecma_lexing.proofs.Tokens.{token_no_longer, token_shorter}
 use Rattle.ecma_lexing.proofs.Trivia.{follow_no_longer, hashbang_shorter, wrong_some}
 use Rattle.ecma_lexing_laws.specs.Room.{room, room_by, room_under}
-use Rattle.ecma_lexing_laws.specs.Runs.{IsAtStart, Runs}
+use Rattle.ecma_lexing_laws.specs.StepLists.{IsAtStart, AreSteps}
 use Rattle.ecma_lexing.proofs.Going.{Goes, goes, no_again, none_some}
 
 -- ---- how much room there is
@@ -159,9 +159,9 @@ step_by s new spot (inr k) = going_room (template_goal s.settings.contexts s.tok
 step_room : (s new : State) (spot : Spot) → again s ≡ None → IsStep s (Some spot) new → room new < room s
 step_room s new spot n h = step_by s new spot (goes s new (Some spot) n h)
 
--- ---- runs
+-- ---- lists of steps
 
-run_room : (spots : List Spot) (s new : State) → s.settings.next_regexp ≡ None → Runs SameContexts s spots new → length spots ≤ room s
+run_room : (spots : List Spot) (s new : State) → s.settings.next_regexp ≡ None → AreSteps SameContexts s spots new → length spots ≤ room s
 run_room [] s new r h = omega arith
 run_room (spot ∷ spots) s new r h =
     let k = step_room s h.0 spot (no_again s r) h.2 in
@@ -169,7 +169,7 @@ run_room (spot ∷ spots) s new r h =
     let m : room (told_of h.1 h.0) ≡ room h.0 = ap (λ (cs : List TokenContext). room_by h.0.tokens.last (template_goal cs h.0.tokens.last) (length h.0.tokens.left)) h.3.contexts in
     omega (arith, k, l, m)
 
-pub two_tokens_a_byte : (s new : State) (spots : List Spot) → IsAtStart s → s.settings.contexts ≡ [] → Runs SameContexts s spots new
+pub two_tokens_a_byte : (s new : State) (spots : List Spot) → IsAtStart s → s.settings.contexts ≡ [] → AreSteps SameContexts s spots new
     → length spots ≤ 2 * bytes s.tokens.left
 two_tokens_a_byte s new spots start none runs =
     let k = run_room spots s new start.next_regexp runs in

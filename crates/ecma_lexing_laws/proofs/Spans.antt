@@ -6,7 +6,7 @@ use Rattle.ecma_lexeme.specs.declared.goal.LexicalGoal.TheVariants.{Div}
 use Rattle.ecma_lexeme.specs.Lexemes.{SpecLexeme}
 use Rattle.ecma_lexing.specs.States.{Last, Start, Slash, Characters, Fault, Other, State, behind, goal_of, is_start, place, shebang, stopped, template_goal}
 use Rattle.ecma_lexing.specs.Steps.{IsFirst, IsGoing, IsOutside, IsPlain, IsRead}
-use Rattle.ecma_lexing_laws.specs.Runs.{IsAtStart, NoReread, Runs}
+use Rattle.ecma_lexing_laws.specs.StepLists.{IsAtStart, NoReread, AreSteps}
 use Rattle.ecma_token_source.specs.Machine.{told_of}
 use Rattle.ecma_lexing_laws.specs.Spans.{Rise}
 use Rattle.ecma_lexing_laws.proofs.Behind.{Behind, follow_behind, hashbang_behind, here, lexeme_behind, nothing_behind, place_rises}
@@ -70,7 +70,7 @@ lies_by s new spot (inr k) = going_lies (template_goal s.settings.contexts s.tok
 within : (end : ℕ) (text : List ℕ) → place end text ≤ end
 within end text = omega arith
 
-rise : (spots : List Spot) (s new : State) → s.settings.next_regexp ≡ None → Runs NoReread s spots new → Rise (place s.tokens.end s.tokens.left) spots s.tokens.end
+rise : (spots : List Spot) (s new : State) → s.settings.next_regexp ≡ None → AreSteps NoReread s spots new → Rise (place s.tokens.end s.tokens.left) spots s.tokens.end
 rise [] s new r h = within s.tokens.end s.tokens.left
 rise (spot ∷ spots) s new r h =
     let l = lies_by s h.0 spot (goes s h.0 (Some spot) (no_again s r) h.2) in
@@ -81,5 +81,5 @@ rise (spot ∷ spots) s new r h =
     let there : Rise (place s.tokens.end l.1) spots s.tokens.end = subst (λ (t : List ℕ). Rise (place s.tokens.end t) spots s.tokens.end) l.6 ends in
     (omega (arith, a, l.4), omega (arith, b, l.4, l.5), subst (λ p. Rise p spots s.tokens.end) (sym l.5) there)
 
-pub spans_rise : (s new : State) (spots : List Spot) → IsAtStart s → Runs NoReread s spots new → Rise (place s.tokens.end s.tokens.left) spots s.tokens.end
+pub spans_rise : (s new : State) (spots : List Spot) → IsAtStart s → AreSteps NoReread s spots new → Rise (place s.tokens.end s.tokens.left) spots s.tokens.end
 spans_rise s new spots start runs = rise spots s new start.next_regexp runs

@@ -7,7 +7,7 @@ use Rattle.ecma_scan.specs.Places.{bytes}
 use Rattle.ecma_canonical.specs.Canonical.{canonical}
 use Rattle.ecma_canonical.specs.Moved.{moved}
 use Rattle.ecma_lexing.specs.States.{State, at_start_of}
-use Rattle.ecma_lexing_laws.specs.Runs.{Clean}
+use Rattle.ecma_lexing_laws.specs.StepLists.{Clean}
 use Rattle.ecma_lexing_laws.specs.Turns.{ReadToEnd, Turn, all_spots, kept, moved_turns}
 
 -- the start of a text whose first place is 1

@@ -1,5 +1,5 @@
 -- Runs of a lexer, how their tokens lie in the text, and what a run is in the canonical text.
-pub mod Runs
+pub mod StepLists
 pub mod Room
 pub mod Tilings
 pub mod Spans

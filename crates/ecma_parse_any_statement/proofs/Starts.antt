@@ -2,28 +2,28 @@
 use Rattle.std.proofs.Common.{◌≡◌, ℕ, Bool, refl, sym, ◌∙◌}
 use Rattle.ecma_token_source.specs.Machine as tokens
 use Rattle.ecma_syntax.specs.Input.{Code, lo}
-use Rattle.ecma_reading.specs.Source.{Machine, Stand, Inner, input}
+use Rattle.ecma_reading.specs.Source.{Stream, State, Inner, input}
 use Rattle.ecma_reading.specs.Statements.{function_decl_by, using_by}
-use Rattle.ecma_parse_state.specs.Fronts.{Front, machine_of}
-use Rattle.ecma_parse_state.specs.Stands.{from}
+use Rattle.ecma_parse_state.specs.Cursors.{Cursor, stream_of}
+use Rattle.ecma_parse_state.specs.States.{from}
 use Rattle.ecma_parse_state.proofs.Marks.{lo_from}
 
-module _ {S : Type 0} (m : Machine S) (inner : Inner S) (c : Code) (a b : Stand S) where
-  function_same : lo (input m a) ≡ lo (input m b) → (x : Bool) → (r : Stand S) → function_decl_by m inner c a x r ≡ function_decl_by m inner c b x r
+module _ {S : Type 0} (m : Stream S) (inner : Inner S) (c : Code) (a b : State S) where
+  function_same : lo (input m a) ≡ lo (input m b) → (x : Bool) → (r : State S) → function_decl_by m inner c a x r ≡ function_decl_by m inner c b x r
   unfolding function_decl_by
   function_same e x r = rw e refl
 
-  using_same : lo (input m a) ≡ lo (input m b) → (x : Bool) → (r : Stand S) → using_by m inner c a x r ≡ using_by m inner c b x r
+  using_same : lo (input m a) ≡ lo (input m b) → (x : Bool) → (r : State S) → using_by m inner c a x r ≡ using_by m inner c b x r
   unfolding using_by
   using_same e x r = rw e refl
 
--- from a mark that was made there
-pub function_from : {S : Type 0} (m : tokens.Machine S) (inner : Inner (Front S)) (c : Code) (a : Stand (Front S)) (n : ℕ) → n ≡ lo (input (machine_of m) a)
-    → (x : Bool) → (r : Stand (Front S)) → function_decl_by (machine_of m) inner c a x r ≡ function_decl_by (machine_of m) inner c (from n) x r
-function_from m inner c a n e x r = function_same (machine_of m) inner c a (from n) (sym e ∙ sym (lo_from m n)) x r
+-- from a start that was made there
+pub function_from : {S : Type 0} (m : tokens.Machine S) (inner : Inner (Cursor S)) (c : Code) (a : State (Cursor S)) (n : ℕ) → n ≡ lo (input (stream_of m) a)
+    → (x : Bool) → (r : State (Cursor S)) → function_decl_by (stream_of m) inner c a x r ≡ function_decl_by (stream_of m) inner c (from n) x r
+function_from m inner c a n e x r = function_same (stream_of m) inner c a (from n) (sym e ∙ sym (lo_from m n)) x r
 
-pub using_from : {S : Type 0} (m : tokens.Machine S) (inner : Inner (Front S)) (c : Code) (a : Stand (Front S)) (n : ℕ) → n ≡ lo (input (machine_of m) a)
-    → (x : Bool) → (r : Stand (Front S)) → using_by (machine_of m) inner c a x r ≡ using_by (machine_of m) inner c (from n) x r
-using_from m inner c a n e x r = using_same (machine_of m) inner c a (from n) (sym e ∙ sym (lo_from m n)) x r
+pub using_from : {S : Type 0} (m : tokens.Machine S) (inner : Inner (Cursor S)) (c : Code) (a : State (Cursor S)) (n : ℕ) → n ≡ lo (input (stream_of m) a)
+    → (x : Bool) → (r : State (Cursor S)) → using_by (stream_of m) inner c a x r ≡ using_by (stream_of m) inner c (from n) x r
+using_from m inner c a n e x r = using_same (stream_of m) inner c a (from n) (sym e ∙ sym (lo_from m n)) x r
 
 pub ruleset starts = (function_from, using_from)

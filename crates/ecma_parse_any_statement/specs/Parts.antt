@@ -3,10 +3,10 @@ use Rattle.std.specs.Prelude.{true, false, ◌&&◌, if◌then◌else◌}
 use Rattle.ecma_token.specs.Kinds.{break_kind, class_kind, continue_kind, debugger_kind, function_kind, throw_kind, with_kind}
 use Rattle.ecma_tree.specs.Tree.{Tree, break_stmt, continue_stmt}
 use Rattle.ecma_syntax.specs.Input.{Code}
-use Rattle.ecma_reading.specs.Source.{Machine, Inner, Read, unexpected, at, past}
+use Rattle.ecma_reading.specs.Source.{Stream, Inner, Read, unexpected, at, past}
 use Rattle.ecma_reading.specs.Statements as reads
 
-module _ {S : Type 0} (m : Machine S) (inner : Inner S) where
+module _ {S : Type 0} (m : Stream S) (inner : Inner S) where
   -- what declares variables (14.3), or an expression (14.5)
   unfoldable pub variable_stmt : Code → Read S Tree
   variable_stmt c s =

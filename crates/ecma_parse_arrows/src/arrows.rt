@@ -5,8 +5,8 @@ ghost use Rattle.ecma_reading.specs.Source as spec;
 ghost use Rattle.ecma_reading.specs.Expressions as reads;
 ghost use Rattle.ecma_parse_state.specs.Answers.{Falls, Gives, Stays};
 ghost use Rattle.ecma_parse_state.specs.Codes.{code_of};
-ghost use Rattle.ecma_parse_state.specs.Fronts.{machine_of};
-ghost use Rattle.ecma_parse_state.specs.Stands.{from, from_span, stand};
+ghost use Rattle.ecma_parse_state.specs.Cursors.{stream_of};
+ghost use Rattle.ecma_parse_state.specs.States.{from, from_span, state_of};
 ghost use Rattle.ecma_parse_base.specs.Operands.{tree_of};
 
 use crate::made;
@@ -25,7 +25,7 @@ pub fn is_arrow<'a, I: Tokens<'a> + Drop, N: Nested<'a, I>>(
     _nested: &N,
     level: u8,
 ) -> bool
-    ensures { result ≡ reads.arrows_at (machine_of I.machine) (N.reads _nested.now I.State I.machine) level (stand I.state p.now) }
+    ensures { result ≡ reads.arrows_at (stream_of I.machine) (N.reads _nested.now I.State I.machine) level (state_of I.state p.now) }
 {
     p.at(kinds::ARROW) && !p.breaks() && level <= ASSIGNMENT
 }
@@ -43,8 +43,8 @@ pub fn arrow<'a, I: Tokens<'a> + Drop, N: Nested<'a, I>>(
 ) -> Result<Operand, Failure>
     requires ready { N.ready nested.now }
     requires fits { All (λ y. holds_pat y.part.value) params.items }
-    ensures value { Gives (λ x. (tree_of x, stand I.state p.new)) result (reads.arrow_by (machine_of I.machine) (N.reads nested.now I.State I.machine) (code_of code) (from start.0) is_async (map (λ y. inner y.part.value) params.items) (stand I.state p.old)) }
-    ensures shorter { Falls result (spec.bound (machine_of I.machine) (stand I.state p.new)) (spec.bound (machine_of I.machine) (stand I.state p.old)) }
+    ensures value { Gives (λ x. (tree_of x, state_of I.state p.new)) result (reads.arrow_by (stream_of I.machine) (N.reads nested.now I.State I.machine) (code_of code) (from start.0) is_async (map (λ y. inner y.part.value) params.items) (state_of I.state p.old)) }
+    ensures shorter { Falls result (spec.bound (stream_of I.machine) (state_of I.state p.new)) (spec.bound (stream_of I.machine) (state_of I.state p.old)) }
 {
     p.bump()?;
     if p.at(kinds::LEFT_BRACE) {
@@ -67,8 +67,8 @@ pub fn ident_end<'a, I: Tokens<'a> + Drop, N: Nested<'a, I>>(
     sym: Atom,
 ) -> Result<Operand, Failure>
     requires ready { N.ready nested.now }
-    ensures value { Gives (λ x. (tree_of x, stand I.state p.new)) result (reads.ident_end (machine_of I.machine) (N.reads nested.now I.State I.machine) (code_of code) level (from_span place) sym (stand I.state p.old)) }
-    ensures not_longer { Stays result (spec.bound (machine_of I.machine) (stand I.state p.new)) (spec.bound (machine_of I.machine) (stand I.state p.old)) }
+    ensures value { Gives (λ x. (tree_of x, state_of I.state p.new)) result (reads.ident_end (stream_of I.machine) (N.reads nested.now I.State I.machine) (code_of code) level (from_span place) sym (state_of I.state p.old)) }
+    ensures not_longer { Stays result (spec.bound (stream_of I.machine) (state_of I.state p.new)) (spec.bound (stream_of I.machine) (state_of I.state p.old)) }
 {
     if is_arrow(p, nested, level) {
         let params = made::one_param(p.alloc, place, sym)?;

@@ -5,8 +5,8 @@ ghost use Rattle.ecma_reading.specs.Source as spec;
 ghost use Rattle.ecma_reading.specs.Expressions as reads;
 ghost use Rattle.ecma_parse_state.specs.Answers.{Falls, Gives, Stays};
 ghost use Rattle.ecma_parse_state.specs.Codes.{code_of};
-ghost use Rattle.ecma_parse_state.specs.Fronts.{machine_of};
-ghost use Rattle.ecma_parse_state.specs.Stands.{from_span, stand};
+ghost use Rattle.ecma_parse_state.specs.Cursors.{stream_of};
+ghost use Rattle.ecma_parse_state.specs.States.{from_span, state_of};
 ghost use Rattle.ecma_parse_base.specs.Operands.{tree_of};
 ghost use Rattle.std.specs.Prelude.{not, ◌&&◌, ◌==◌, nat_le, IfErr};
 ghost use Rattle.ecma_syntax.specs.Input.{brk2};
@@ -39,8 +39,8 @@ pub fn call_or_arrow<'a, I: Tokens<'a> + Drop, N: Nested<'a, I>>(
     sym: Atom,
 ) -> Result<Operand, Failure>
     requires ready { N.ready nested.now }
-    ensures value { Gives (λ x. (tree_of x, stand I.state p.new)) result (async_call (machine_of I.machine) (N.reads nested.now I.State I.machine) (code_of code) level (from_span place) sym (stand I.state p.old)) }
-    ensures shorter { Falls result (spec.bound (machine_of I.machine) (stand I.state p.new)) (spec.bound (machine_of I.machine) (stand I.state p.old)) }
+    ensures value { Gives (λ x. (tree_of x, state_of I.state p.new)) result (async_call (stream_of I.machine) (N.reads nested.now I.State I.machine) (code_of code) level (from_span place) sym (state_of I.state p.old)) }
+    ensures shorter { Falls result (spec.bound (stream_of I.machine) (state_of I.state p.new)) (spec.bound (stream_of I.machine) (state_of I.state p.old)) }
 {
     let breaks = p.breaks();
     p.bump()?;
@@ -61,7 +61,7 @@ fn is_param<'a, I: Tokens<'a> + Drop>(
     code: Around,
     level: u8,
 ) -> Result<bool, Failure>
-    ensures value { IfOk result (λ b. b ≡ (spec.is_name (machine_of I.machine) (code_of code) (stand I.state p.now) && ((not (brk (spec.input (machine_of I.machine) (stand I.state p.now))) && (kind2 (spec.input (machine_of I.machine) (stand I.state p.now)) == arrow_kind) && not (brk2 (spec.input (machine_of I.machine) (stand I.state p.now)))) && nat_le level assignment_level))) }
+    ensures value { IfOk result (λ b. b ≡ (spec.is_name (stream_of I.machine) (code_of code) (state_of I.state p.now) && ((not (brk (spec.input (stream_of I.machine) (state_of I.state p.now))) && (kind2 (spec.input (stream_of I.machine) (state_of I.state p.now)) == arrow_kind) && not (brk2 (spec.input (stream_of I.machine) (state_of I.state p.now)))) && nat_le level assignment_level))) }
     ensures full { IfErr result IsMemory }
 {
     if !p.is_name(code) || p.breaks() {
@@ -81,8 +81,8 @@ pub fn async_arrow<'a, I: Tokens<'a> + Drop, N: Nested<'a, I>>(
     place: Span,
 ) -> Result<Operand, Failure>
     requires ready { N.ready nested.now }
-    ensures value { Gives (λ x. (tree_of x, stand I.state p.new)) result (async_arrow (machine_of I.machine) (N.reads nested.now I.State I.machine) (code_of code) (from_span place) (stand I.state p.old)) }
-    ensures shorter { Falls result (spec.bound (machine_of I.machine) (stand I.state p.new)) (spec.bound (machine_of I.machine) (stand I.state p.old)) }
+    ensures value { Gives (λ x. (tree_of x, state_of I.state p.new)) result (async_arrow (stream_of I.machine) (N.reads nested.now I.State I.machine) (code_of code) (from_span place) (state_of I.state p.old)) }
+    ensures shorter { Falls result (spec.bound (stream_of I.machine) (state_of I.state p.new)) (spec.bound (stream_of I.machine) (state_of I.state p.old)) }
 {
     let span = p.place();
     let sym = p.name(code)?;
@@ -102,8 +102,8 @@ pub fn async_end<'a, I: Tokens<'a> + Drop, N: Nested<'a, I>>(
     sym: Atom,
 ) -> Result<Operand, Failure>
     requires ready { N.ready nested.now }
-    ensures value { Gives (λ x. (tree_of x, stand I.state p.new)) result (async_end (machine_of I.machine) (N.reads nested.now I.State I.machine) (code_of code) level (from_span place) sym (stand I.state p.old)) }
-    ensures not_longer { Stays result (spec.bound (machine_of I.machine) (stand I.state p.new)) (spec.bound (machine_of I.machine) (stand I.state p.old)) }
+    ensures value { Gives (λ x. (tree_of x, state_of I.state p.new)) result (async_end (stream_of I.machine) (N.reads nested.now I.State I.machine) (code_of code) level (from_span place) sym (state_of I.state p.old)) }
+    ensures not_longer { Stays result (spec.bound (stream_of I.machine) (state_of I.state p.new)) (spec.bound (stream_of I.machine) (state_of I.state p.old)) }
 {
     if p.at(kinds::FUNCTION) && !p.breaks() {
         return function_operand(p, nested, code, place.lo, true);
@@ -127,9 +127,9 @@ pub fn async_expr<'a, I: Tokens<'a> + Drop, N: Nested<'a, I>>(
     level: u8,
 ) -> Result<Operand, Failure>
     requires ready { N.ready nested.now }
-    requires word { kind (spec.input (machine_of I.machine) (stand I.state p.old)) ≡ async_kind }
-    ensures value { Gives (λ x. (tree_of x, stand I.state p.new)) result (reads.async_by (machine_of I.machine) (N.reads nested.now I.State I.machine) (code_of code) level (stand I.state p.old)) }
-    ensures shorter { Falls result (spec.bound (machine_of I.machine) (stand I.state p.new)) (spec.bound (machine_of I.machine) (stand I.state p.old)) }
+    requires word { kind (spec.input (stream_of I.machine) (state_of I.state p.old)) ≡ async_kind }
+    ensures value { Gives (λ x. (tree_of x, state_of I.state p.new)) result (reads.async_by (stream_of I.machine) (N.reads nested.now I.State I.machine) (code_of code) level (state_of I.state p.old)) }
+    ensures shorter { Falls result (spec.bound (stream_of I.machine) (state_of I.state p.new)) (spec.bound (stream_of I.machine) (state_of I.state p.old)) }
 {
     let place = p.place();
     let sym = Atom::new(p.alloc, p.text())?;

@@ -7,8 +7,8 @@ ghost use Rattle.ecma_reading.specs.Source as spec;
 ghost use Rattle.ecma_reading.specs.Expressions as reads;
 ghost use Rattle.ecma_parse_state.specs.Answers.{Falls, Gives};
 ghost use Rattle.ecma_parse_state.specs.Codes.{code_of};
-ghost use Rattle.ecma_parse_state.specs.Fronts.{machine_of};
-ghost use Rattle.ecma_parse_state.specs.Stands.{from, stand};
+ghost use Rattle.ecma_parse_state.specs.Cursors.{stream_of};
+ghost use Rattle.ecma_parse_state.specs.States.{from, state_of};
 ghost use Rattle.ecma_parse_base.specs.Operands.{tree_of};
 
 use crate::made;
@@ -33,9 +33,9 @@ pub fn function_expr_name<'a, I: Tokens<'a> + Drop, N: Nested<'a, I>>(
     is_async: bool,
 ) -> Result<FnExpr, Failure>
     requires ready { N.ready nested.now }
-    ensures value { Gives (λ x. (view_fn_expr inner x, stand I.state p.new)) result (reads.function_expr_name (machine_of I.machine) (N.reads nested.now I.State I.machine) (code_of code) (from start.0) generator is_async (stand I.state p.old)) }
+    ensures value { Gives (λ x. (view_fn_expr inner x, state_of I.state p.new)) result (reads.function_expr_name (stream_of I.machine) (N.reads nested.now I.State I.machine) (code_of code) (from start.0) generator is_async (state_of I.state p.old)) }
     ensures fits { IfOk result (λ x. fits_fn_expr (λ p. p) x) }
-    ensures shorter { Falls result (spec.bound (machine_of I.machine) (stand I.state p.new)) (spec.bound (machine_of I.machine) (stand I.state p.old)) }
+    ensures shorter { Falls result (spec.bound (stream_of I.machine) (state_of I.state p.new)) (spec.bound (stream_of I.machine) (state_of I.state p.old)) }
 {
     let ident = if p.at(kinds::LEFT_PAREN) {
         None
@@ -52,7 +52,7 @@ pub fn function_expr_name<'a, I: Tokens<'a> + Drop, N: Nested<'a, I>>(
     })
 }
 
-/// A function from its word on, which begins at a mark.
+/// A function from its word on, which begins at a start.
 #[inline(always)]
 #[tactic(auto, unfolding(ecma_reading::specs::Expressions::function_expr_by))]
 pub fn function_expr<'a, I: Tokens<'a> + Drop, N: Nested<'a, I>>(
@@ -63,9 +63,9 @@ pub fn function_expr<'a, I: Tokens<'a> + Drop, N: Nested<'a, I>>(
     is_async: bool,
 ) -> Result<FnExpr, Failure>
     requires ready { N.ready nested.now }
-    ensures value { Gives (λ x. (view_fn_expr inner x, stand I.state p.new)) result (reads.function_expr_by (machine_of I.machine) (N.reads nested.now I.State I.machine) (code_of code) (from start.0) is_async (stand I.state p.old)) }
+    ensures value { Gives (λ x. (view_fn_expr inner x, state_of I.state p.new)) result (reads.function_expr_by (stream_of I.machine) (N.reads nested.now I.State I.machine) (code_of code) (from start.0) is_async (state_of I.state p.old)) }
     ensures fits { IfOk result (λ x. fits_fn_expr (λ p. p) x) }
-    ensures shorter { Falls result (spec.bound (machine_of I.machine) (stand I.state p.new)) (spec.bound (machine_of I.machine) (stand I.state p.old)) }
+    ensures shorter { Falls result (spec.bound (stream_of I.machine) (state_of I.state p.new)) (spec.bound (stream_of I.machine) (state_of I.state p.old)) }
 {
     p.eat_word(code, kinds::FUNCTION)?;
     let generator = star(p, nested)?;
@@ -82,8 +82,8 @@ pub fn function_operand<'a, I: Tokens<'a> + Drop, N: Nested<'a, I>>(
     is_async: bool,
 ) -> Result<Operand, Failure>
     requires ready { N.ready nested.now }
-    ensures value { Gives (λ x. (tree_of x, stand I.state p.new)) result (reads.function_expr_by (machine_of I.machine) (N.reads nested.now I.State I.machine) (code_of code) (from start.0) is_async (stand I.state p.old)) }
-    ensures shorter { Falls result (spec.bound (machine_of I.machine) (stand I.state p.new)) (spec.bound (machine_of I.machine) (stand I.state p.old)) }
+    ensures value { Gives (λ x. (tree_of x, state_of I.state p.new)) result (reads.function_expr_by (stream_of I.machine) (N.reads nested.now I.State I.machine) (code_of code) (from start.0) is_async (state_of I.state p.old)) }
+    ensures shorter { Falls result (spec.bound (stream_of I.machine) (state_of I.state p.new)) (spec.bound (stream_of I.machine) (state_of I.state p.old)) }
 {
     let node = function_expr(p, nested, code, start, is_async)?;
     made::fn_expr(p.alloc, node)

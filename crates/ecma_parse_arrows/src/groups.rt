@@ -6,8 +6,8 @@ ghost use Rattle.ecma_reading.specs.Source as spec;
 ghost use Rattle.ecma_reading.specs.Expressions as reads;
 ghost use Rattle.ecma_parse_state.specs.Answers.{Falls, Gives, Stays};
 ghost use Rattle.ecma_parse_state.specs.Codes.{code_of};
-ghost use Rattle.ecma_parse_state.specs.Fronts.{machine_of};
-ghost use Rattle.ecma_parse_state.specs.Stands.{from, stand};
+ghost use Rattle.ecma_parse_state.specs.Cursors.{stream_of};
+ghost use Rattle.ecma_parse_state.specs.States.{from, state_of};
 ghost use Rattle.ecma_parse_base.specs.Lists.{arguments_of, FitArguments};
 ghost use Rattle.ecma_parse_base.specs.Operands.{tree_of};
 ghost use Rattle.std.specs.Prelude.{[], ◌∷◌, ◌++◌, IfErr};
@@ -108,8 +108,8 @@ pub fn group_end<'a, I: Tokens<'a> + Drop, N: Nested<'a, I>>(
 ) -> Result<Operand, Failure>
     requires ready { N.ready nested.now }
     requires fits { FitArguments list }
-    ensures value { Gives (λ x. (tree_of x, stand I.state p.new)) result (group_rest (machine_of I.machine) (N.reads nested.now I.State I.machine) (code_of code) level (from start.0) paren.lo.0 (arguments_of list) (stand I.state p.old)) }
-    ensures not_longer { Stays result (spec.bound (machine_of I.machine) (stand I.state p.new)) (spec.bound (machine_of I.machine) (stand I.state p.old)) }
+    ensures value { Gives (λ x. (tree_of x, state_of I.state p.new)) result (group_rest (stream_of I.machine) (N.reads nested.now I.State I.machine) (code_of code) level (from start.0) paren.lo.0 (arguments_of list) (state_of I.state p.old)) }
+    ensures not_longer { Stays result (spec.bound (stream_of I.machine) (state_of I.state p.new)) (spec.bound (stream_of I.machine) (state_of I.state p.old)) }
 {
     if is_arrow(p, nested, level) && nested.are_params(p, &list) {
         let params = nested.params(p, list)?;
@@ -132,8 +132,8 @@ pub fn group<'a, I: Tokens<'a> + Drop, N: Nested<'a, I>>(
     level: u8,
 ) -> Result<Operand, Failure>
     requires ready { N.ready nested.now }
-    ensures value { Gives (λ x. (tree_of x, stand I.state p.new)) result (reads.group_by (machine_of I.machine) (N.reads nested.now I.State I.machine) (code_of code) level (stand I.state p.old)) }
-    ensures shorter { Falls result (spec.bound (machine_of I.machine) (stand I.state p.new)) (spec.bound (machine_of I.machine) (stand I.state p.old)) }
+    ensures value { Gives (λ x. (tree_of x, state_of I.state p.new)) result (reads.group_by (stream_of I.machine) (N.reads nested.now I.State I.machine) (code_of code) level (state_of I.state p.old)) }
+    ensures shorter { Falls result (spec.bound (stream_of I.machine) (state_of I.state p.new)) (spec.bound (stream_of I.machine) (state_of I.state p.old)) }
 {
     let start = p.lo();
     p.bump()?;

@@ -10,8 +10,8 @@ ghost use Rattle.ecma_reading.specs.Source as spec;
 ghost use Rattle.ecma_reading.specs.Expressions as reads;
 ghost use Rattle.ecma_parse_state.specs.Answers.{Falls, Gives, going_on};
 ghost use Rattle.ecma_parse_state.specs.Codes.{code_of};
-ghost use Rattle.ecma_parse_state.specs.Fronts.{machine_of};
-ghost use Rattle.ecma_parse_state.specs.Stands.{from, from_span, stand};
+ghost use Rattle.ecma_parse_state.specs.Cursors.{stream_of};
+ghost use Rattle.ecma_parse_state.specs.States.{from, from_span, state_of};
 ghost use Rattle.ecma_parse_base.specs.Lists.{arguments_of, elements_of, FitArguments, FitElements, TellsRest};
 ghost use Rattle.ecma_parse_base.specs.Operands.{tree_of};
 
@@ -32,9 +32,9 @@ pub fn element<'a, I: Tokens<'a> + Drop, N: Nested<'a, I>>(
     code: Around,
 ) -> Result<ExprOrSpread, Failure>
     requires ready { N.ready nested.now }
-    ensures value { Gives (λ x. (view_expr_or_spread inner x, stand I.state p.new)) result (reads.element_by (machine_of I.machine) (N.reads nested.now I.State I.machine) (code_of code) (stand I.state p.old)) }
+    ensures value { Gives (λ x. (view_expr_or_spread inner x, state_of I.state p.new)) result (reads.element_by (stream_of I.machine) (N.reads nested.now I.State I.machine) (code_of code) (state_of I.state p.old)) }
     ensures fits { IfOk result (λ x. fits_expr_or_spread (λ p. p) x) }
-    ensures shorter { Falls result (spec.bound (machine_of I.machine) (stand I.state p.new)) (spec.bound (machine_of I.machine) (stand I.state p.old)) }
+    ensures shorter { Falls result (spec.bound (stream_of I.machine) (state_of I.state p.new)) (spec.bound (stream_of I.machine) (state_of I.state p.old)) }
 {
     let start = p.lo();
     let place = p.place();
@@ -58,8 +58,8 @@ pub fn element<'a, I: Tokens<'a> + Drop, N: Nested<'a, I>>(
 #[tactic(auto, unfolding(crate::specs::Elements::after_item))]
 pub fn goes_on<'a, I: Tokens<'a> + Drop>(p: &mut Parser<'a, I>, close: u8) -> Result<bool, Failure>
     requires { 0 < close }
-    ensures value { Gives (λ b. (b, stand I.state p.new)) result (after_item (machine_of I.machine) close (stand I.state p.old)) }
-    ensures shorter { Falls result (spec.bound (machine_of I.machine) (stand I.state p.new)) (spec.bound (machine_of I.machine) (stand I.state p.old)) }
+    ensures value { Gives (λ b. (b, state_of I.state p.new)) result (after_item (stream_of I.machine) close (state_of I.state p.old)) }
+    ensures shorter { Falls result (spec.bound (stream_of I.machine) (state_of I.state p.new)) (spec.bound (stream_of I.machine) (state_of I.state p.old)) }
 {
     if p.eat(kinds::COMMA)? {
         return Ok(true);
@@ -80,10 +80,10 @@ pub fn array_turn<'a, I: Tokens<'a> + Drop, N: Nested<'a, I>>(
     requires ready { N.ready nested.now }
     requires fits { FitElements list.old }
     requires rest { TellsRest list.old }
-    ensures value { Gives (λ x. (going_on x (elements_of list.new), stand I.state p.new)) result (reads.element_step (machine_of I.machine) (N.reads nested.now I.State I.machine) (code_of code) true right_bracket_kind (elements_of list.old) (stand I.state p.old)) }
+    ensures value { Gives (λ x. (going_on x (elements_of list.new), state_of I.state p.new)) result (reads.element_step (stream_of I.machine) (N.reads nested.now I.State I.machine) (code_of code) true right_bracket_kind (elements_of list.old) (state_of I.state p.old)) }
     ensures fits { IfOk result (λ _. FitElements list.new) }
     ensures rest { IfOk result (λ _. TellsRest list.new) }
-    ensures shorter { Falls result (spec.bound (machine_of I.machine) (stand I.state p.new)) (spec.bound (machine_of I.machine) (stand I.state p.old)) }
+    ensures shorter { Falls result (spec.bound (stream_of I.machine) (state_of I.state p.new)) (spec.bound (stream_of I.machine) (state_of I.state p.old)) }
 {
     if p.eat(kinds::RIGHT_BRACKET)? {
         return Ok(false);
@@ -110,10 +110,10 @@ pub fn elements<'a, I: Tokens<'a> + Drop, N: Nested<'a, I>>(
     code: Around,
 ) -> Result<Elements, Failure>
     requires ready { N.ready nested.now }
-    ensures value { Gives (λ x. (elements_of x, stand I.state p.new)) result (reads.elements_by (machine_of I.machine) (N.reads nested.now I.State I.machine) (code_of code) true right_bracket_kind (stand I.state p.old)) }
+    ensures value { Gives (λ x. (elements_of x, state_of I.state p.new)) result (reads.elements_by (stream_of I.machine) (N.reads nested.now I.State I.machine) (code_of code) true right_bracket_kind (state_of I.state p.old)) }
     ensures fits { IfOk result (λ x. FitElements x) }
     ensures rest { IfOk result (λ x. TellsRest x) }
-    ensures shorter { Falls result (spec.bound (machine_of I.machine) (stand I.state p.new)) (spec.bound (machine_of I.machine) (stand I.state p.old)) }
+    ensures shorter { Falls result (spec.bound (stream_of I.machine) (state_of I.state p.new)) (spec.bound (stream_of I.machine) (state_of I.state p.old)) }
 {
     let mut list = Elements {
         items: Vec::new(p.alloc),
@@ -135,9 +135,9 @@ pub fn argument_turn<'a, I: Tokens<'a> + Drop, N: Nested<'a, I>>(
 ) -> Result<bool, Failure>
     requires ready { N.ready nested.now }
     requires fits { FitArguments list.old }
-    ensures value { Gives (λ x. (going_on x (arguments_of list.new), stand I.state p.new)) result (reads.element_step (machine_of I.machine) (N.reads nested.now I.State I.machine) (code_of code) false right_paren_kind (arguments_of list.old) (stand I.state p.old)) }
+    ensures value { Gives (λ x. (going_on x (arguments_of list.new), state_of I.state p.new)) result (reads.element_step (stream_of I.machine) (N.reads nested.now I.State I.machine) (code_of code) false right_paren_kind (arguments_of list.old) (state_of I.state p.old)) }
     ensures fits { IfOk result (λ _. FitArguments list.new) }
-    ensures shorter { Falls result (spec.bound (machine_of I.machine) (stand I.state p.new)) (spec.bound (machine_of I.machine) (stand I.state p.old)) }
+    ensures shorter { Falls result (spec.bound (stream_of I.machine) (state_of I.state p.new)) (spec.bound (stream_of I.machine) (state_of I.state p.old)) }
 {
     if p.eat(kinds::RIGHT_PAREN)? {
         return Ok(false);
@@ -157,9 +157,9 @@ pub fn group_items<'a, I: Tokens<'a> + Drop, N: Nested<'a, I>>(
     code: Around,
 ) -> Result<Arguments, Failure>
     requires ready { N.ready nested.now }
-    ensures value { Gives (λ x. (arguments_of x, stand I.state p.new)) result (reads.elements_by (machine_of I.machine) (N.reads nested.now I.State I.machine) (code_of code) false right_paren_kind (stand I.state p.old)) }
+    ensures value { Gives (λ x. (arguments_of x, state_of I.state p.new)) result (reads.elements_by (stream_of I.machine) (N.reads nested.now I.State I.machine) (code_of code) false right_paren_kind (state_of I.state p.old)) }
     ensures fits { IfOk result (λ x. FitArguments x) }
-    ensures shorter { Falls result (spec.bound (machine_of I.machine) (stand I.state p.new)) (spec.bound (machine_of I.machine) (stand I.state p.old)) }
+    ensures shorter { Falls result (spec.bound (stream_of I.machine) (state_of I.state p.new)) (spec.bound (stream_of I.machine) (state_of I.state p.old)) }
 {
     let mut list = Arguments {
         items: Vec::new(p.alloc),
@@ -177,9 +177,9 @@ pub fn arguments<'a, I: Tokens<'a> + Drop, N: Nested<'a, I>>(
     code: Around,
 ) -> Result<Vec<ExprOrSpread>, Failure>
     requires ready { N.ready nested.now }
-    ensures value { Gives (λ x. (map (view_expr_or_spread inner) x.items, stand I.state p.new)) result (reads.arguments_by (machine_of I.machine) (N.reads nested.now I.State I.machine) (code_of code) (stand I.state p.old)) }
+    ensures value { Gives (λ x. (map (view_expr_or_spread inner) x.items, state_of I.state p.new)) result (reads.arguments_by (stream_of I.machine) (N.reads nested.now I.State I.machine) (code_of code) (state_of I.state p.old)) }
     ensures fits { IfOk result (λ x. All (λ x. fits_expr_or_spread (λ p. p) x) x.items) }
-    ensures shorter { Falls result (spec.bound (machine_of I.machine) (stand I.state p.new)) (spec.bound (machine_of I.machine) (stand I.state p.old)) }
+    ensures shorter { Falls result (spec.bound (stream_of I.machine) (state_of I.state p.new)) (spec.bound (stream_of I.machine) (state_of I.state p.old)) }
 {
     let list = group_items(p, nested, code)?;
     Ok(list.items)

@@ -6,8 +6,8 @@ ghost use Rattle.ecma_reading.specs.Source as spec;
 ghost use Rattle.ecma_reading.specs.Expressions as reads;
 ghost use Rattle.ecma_parse_state.specs.Answers.{Falls, Gives};
 ghost use Rattle.ecma_parse_state.specs.Codes.{code_of};
-ghost use Rattle.ecma_parse_state.specs.Fronts.{machine_of};
-ghost use Rattle.ecma_parse_state.specs.Stands.{stand};
+ghost use Rattle.ecma_parse_state.specs.Cursors.{stream_of};
+ghost use Rattle.ecma_parse_state.specs.States.{state_of};
 
 use crate::Nested;
 use ecma_node::{ComputedPropName, PrivateName};
@@ -23,8 +23,8 @@ pub fn private_name<'a, I: Tokens<'a> + Drop, N: Nested<'a, I>>(
     _nested: &N,
 ) -> Result<PrivateName, Failure>
     requires ready { N.ready _nested.now }
-    ensures value { Gives (λ x. (view_private_name x, stand I.state p.new)) result (reads.private_by (machine_of I.machine) (N.reads _nested.now I.State I.machine) (stand I.state p.old)) }
-    ensures shorter { Falls result (spec.bound (machine_of I.machine) (stand I.state p.new)) (spec.bound (machine_of I.machine) (stand I.state p.old)) }
+    ensures value { Gives (λ x. (view_private_name x, state_of I.state p.new)) result (reads.private_by (stream_of I.machine) (N.reads _nested.now I.State I.machine) (state_of I.state p.old)) }
+    ensures shorter { Falls result (spec.bound (stream_of I.machine) (state_of I.state p.new)) (spec.bound (stream_of I.machine) (state_of I.state p.old)) }
 {
     let start = p.lo();
     let end = p.hi();
@@ -49,9 +49,9 @@ pub fn computed<'a, I: Tokens<'a> + Drop, N: Nested<'a, I>>(
     level: u8,
 ) -> Result<ComputedPropName, Failure>
     requires ready { N.ready nested.now }
-    ensures value { Gives (λ x. (view_computed_prop_name inner x, stand I.state p.new)) result (reads.computed_by (machine_of I.machine) (N.reads nested.now I.State I.machine) (code_of code) level (stand I.state p.old)) }
+    ensures value { Gives (λ x. (view_computed_prop_name inner x, state_of I.state p.new)) result (reads.computed_by (stream_of I.machine) (N.reads nested.now I.State I.machine) (code_of code) level (state_of I.state p.old)) }
     ensures fits { IfOk result (λ x. holds_expr x.expr.part.value) }
-    ensures shorter { Falls result (spec.bound (machine_of I.machine) (stand I.state p.new)) (spec.bound (machine_of I.machine) (stand I.state p.old)) }
+    ensures shorter { Falls result (spec.bound (stream_of I.machine) (state_of I.state p.new)) (spec.bound (stream_of I.machine) (state_of I.state p.old)) }
 {
     let start = p.lo();
     p.bump()?;

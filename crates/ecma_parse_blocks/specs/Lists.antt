@@ -3,7 +3,7 @@ use Rattle.std.specs.Prelude.{List, [], All, map, true}
 use Rattle.ecma_tree.specs.Tree.{Tree}
 use Rattle.ecma_syntax.specs.Input.{Code}
 use Rattle.ecma_node.specs.Placed.{holds_stmt, inner}
-use Rattle.ecma_reading.specs.Source.{Machine, Inner, Read, iterate, bound}
+use Rattle.ecma_reading.specs.Source.{Stream, Inner, Read, iterate, bound}
 use Rattle.ecma_reading.specs.Statements as reads
 use Rattle.ecma_parse_state.specs.Codes.{code_of}
 use Rattle.ecma_parse_blocks.specs.declared.body.BodySoFar.{BodySoFar}
@@ -16,9 +16,9 @@ abbrev pub FitBody : BodySoFar → Type 0
 FitBody b = All (λ x. holds_stmt x.part.value) b.items.items
 
 -- the statements of a block, up to its brace (14.2)
-unfoldable pub block_items : {S : Type 0} → Machine S → Inner S → Code → Read S (List Tree)
+unfoldable pub block_items : {S : Type 0} → Stream S → Inner S → Code → Read S (List Tree)
 block_items m inner c s = iterate (bound m) (reads.block_step m inner c) [] s
 
 -- the statements of a body, up to its brace (15.2)
-unfoldable pub body_items : {S : Type 0} → Machine S → Inner S → Code → Read S reads.Body
+unfoldable pub body_items : {S : Type 0} → Stream S → Inner S → Code → Read S reads.Body
 body_items m inner c s = iterate (bound m) (reads.body_step m inner) (record { items = []; code = c; starts = true }) s

@@ -9,8 +9,8 @@ ghost use Rattle.ecma_reading.specs.Source.{go_on};
 ghost use Rattle.ecma_reading.specs.Statements as reads;
 ghost use Rattle.ecma_parse_state.specs.Answers.{Falls, Gives, going_on};
 ghost use Rattle.ecma_parse_state.specs.Codes.{code_of};
-ghost use Rattle.ecma_parse_state.specs.Fronts.{machine_of};
-ghost use Rattle.ecma_parse_state.specs.Stands.{stand};
+ghost use Rattle.ecma_parse_state.specs.Cursors.{stream_of};
+ghost use Rattle.ecma_parse_state.specs.States.{state_of};
 ghost use Rattle.ecma_parse_blocks.specs.Lists.{body_items, body_of, FitBody};
 
 use crate::codes::turned;
@@ -65,9 +65,9 @@ pub fn item<'a, I: Tokens<'a> + Drop, N: Nested<'a, I>>(
 ) -> Result<(), Failure>
     requires ready { N.ready nested.now }
     requires fits { FitBody body.old }
-    ensures value { Gives (λ _. (go_on (body_of body.new), stand I.state p.new)) result (reads.body_item (machine_of I.machine) (N.reads nested.now I.State I.machine) (body_of body.old) (stand I.state p.old)) }
+    ensures value { Gives (λ _. (go_on (body_of body.new), state_of I.state p.new)) result (reads.body_item (stream_of I.machine) (N.reads nested.now I.State I.machine) (body_of body.old) (state_of I.state p.old)) }
     ensures fits { IfOk result (λ _. FitBody body.new) }
-    ensures shorter { Falls result (spec.bound (machine_of I.machine) (stand I.state p.new)) (spec.bound (machine_of I.machine) (stand I.state p.old)) }
+    ensures shorter { Falls result (spec.bound (stream_of I.machine) (state_of I.state p.new)) (spec.bound (stream_of I.machine) (state_of I.state p.old)) }
 {
     let read = nested.stmt(p, in_list(body.code))?;
     if body.starts && is_use_strict(read.get()) {
@@ -90,9 +90,9 @@ pub fn body_turn<'a, I: Tokens<'a> + Drop, N: Nested<'a, I>>(
 ) -> Result<bool, Failure>
     requires ready { N.ready nested.now }
     requires fits { FitBody body.old }
-    ensures value { Gives (λ x. (going_on x (body_of body.new), stand I.state p.new)) result (reads.body_step (machine_of I.machine) (N.reads nested.now I.State I.machine) (body_of body.old) (stand I.state p.old)) }
+    ensures value { Gives (λ x. (going_on x (body_of body.new), state_of I.state p.new)) result (reads.body_step (stream_of I.machine) (N.reads nested.now I.State I.machine) (body_of body.old) (state_of I.state p.old)) }
     ensures fits { IfOk result (λ _. FitBody body.new) }
-    ensures shorter { Falls result (spec.bound (machine_of I.machine) (stand I.state p.new)) (spec.bound (machine_of I.machine) (stand I.state p.old)) }
+    ensures shorter { Falls result (spec.bound (stream_of I.machine) (state_of I.state p.new)) (spec.bound (stream_of I.machine) (state_of I.state p.old)) }
 {
     if p.eat(kinds::RIGHT_BRACE)? {
         return Ok(false);
@@ -110,9 +110,9 @@ pub fn body_items<'a, I: Tokens<'a> + Drop, N: Nested<'a, I>>(
     code: Around,
 ) -> Result<BodySoFar, Failure>
     requires ready { N.ready nested.now }
-    ensures value { Gives (λ x. (body_of x, stand I.state p.new)) result (body_items (machine_of I.machine) (N.reads nested.now I.State I.machine) (code_of code) (stand I.state p.old)) }
+    ensures value { Gives (λ x. (body_of x, state_of I.state p.new)) result (body_items (stream_of I.machine) (N.reads nested.now I.State I.machine) (code_of code) (state_of I.state p.old)) }
     ensures fits { IfOk result (λ x. FitBody x) }
-    ensures shorter { Falls result (spec.bound (machine_of I.machine) (stand I.state p.new)) (spec.bound (machine_of I.machine) (stand I.state p.old)) }
+    ensures shorter { Falls result (spec.bound (stream_of I.machine) (state_of I.state p.new)) (spec.bound (stream_of I.machine) (state_of I.state p.old)) }
 {
     let mut read = BodySoFar {
         items: Vec::new(p.alloc),
@@ -132,9 +132,9 @@ pub fn body<'a, I: Tokens<'a> + Drop, N: Nested<'a, I>>(
     code: Around,
 ) -> Result<BlockStmt, Failure>
     requires ready { N.ready nested.now }
-    ensures value { Gives (λ x. (view_block_stmt inner x, stand I.state p.new)) result (reads.body_by (machine_of I.machine) (N.reads nested.now I.State I.machine) (code_of code) (stand I.state p.old)) }
+    ensures value { Gives (λ x. (view_block_stmt inner x, state_of I.state p.new)) result (reads.body_by (stream_of I.machine) (N.reads nested.now I.State I.machine) (code_of code) (state_of I.state p.old)) }
     ensures fits { IfOk result (λ x. fits_block_stmt (λ p. p) x) }
-    ensures shorter { Falls result (spec.bound (machine_of I.machine) (stand I.state p.new)) (spec.bound (machine_of I.machine) (stand I.state p.old)) }
+    ensures shorter { Falls result (spec.bound (stream_of I.machine) (state_of I.state p.new)) (spec.bound (stream_of I.machine) (state_of I.state p.old)) }
 {
     let start = p.lo();
     p.expect(kinds::LEFT_BRACE)?;

@@ -3,18 +3,18 @@ ghost use Rattle.std.specs.Prelude.{◌≡◌};
 ghost use Rattle.ecma_syntax.specs.Input as input;
 ghost use Rattle.ecma_reading.specs.Source as spec;
 ghost use Rattle.ecma_parse_state.specs.Codes.{code_of};
-ghost use Rattle.ecma_parse_state.specs.Fronts.{machine_of};
-ghost use Rattle.ecma_parse_state.specs.Stands.{stand};
+ghost use Rattle.ecma_parse_state.specs.Cursors.{stream_of};
+ghost use Rattle.ecma_parse_state.specs.States.{state_of};
 
 use ecma_parse_state::{Around, Parser};
 use ecma_token::Context;
 use ecma_token_source::Tokens;
 
 /// Tells the source behind the token that comes of the code around it.
-#[tactic(auto, unfolding(ecma_parse_state::specs::Fronts::machine_of))]
+#[tactic(auto, unfolding(ecma_parse_state::specs::Cursors::stream_of))]
 pub fn turned<'a, I: Tokens<'a> + Drop>(p: &mut Parser<'a, I>, context: Context)
-    ensures value { stand I.state p.new ≡ spec.turned (machine_of I.machine) context (stand I.state p.old) }
-    ensures same { spec.bound (machine_of I.machine) (stand I.state p.new) ≡ spec.bound (machine_of I.machine) (stand I.state p.old) }
+    ensures value { state_of I.state p.new ≡ spec.retold (stream_of I.machine) context (state_of I.state p.old) }
+    ensures same { spec.bound (stream_of I.machine) (state_of I.state p.new) ≡ spec.bound (stream_of I.machine) (state_of I.state p.old) }
 {
     p.input.set_ctx(context);
 }

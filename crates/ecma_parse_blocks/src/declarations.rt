@@ -10,8 +10,8 @@ ghost use Rattle.ecma_reading.specs.Source as spec;
 ghost use Rattle.ecma_reading.specs.Statements as reads;
 ghost use Rattle.ecma_parse_state.specs.Answers.{Falls, Gives, going_on};
 ghost use Rattle.ecma_parse_state.specs.Codes.{code_of};
-ghost use Rattle.ecma_parse_state.specs.Fronts.{machine_of};
-ghost use Rattle.ecma_parse_state.specs.Stands.{from, stand};
+ghost use Rattle.ecma_parse_state.specs.Cursors.{stream_of};
+ghost use Rattle.ecma_parse_state.specs.States.{from, state_of};
 ghost use Rattle.ecma_parse_base.specs.Operands.{tree_of};
 ghost use Rattle.ecma_parse_blocks.specs.Declarators.{declarators_of, FitDeclarators, TellsEnd};
 
@@ -49,10 +49,10 @@ pub fn declarator<'a, I: Tokens<'a> + Drop, N: Nested<'a, I>>(
     code: Around,
 ) -> Result<(VarDeclarator, u8), Failure>
     requires ready { N.ready nested.now }
-    ensures value { Gives (λ x. (view_var_declarator inner x.0, stand I.state p.new)) result (reads.declarator_by (machine_of I.machine) (N.reads nested.now I.State I.machine) (code_of code) (stand I.state p.old)) }
+    ensures value { Gives (λ x. (view_var_declarator inner x.0, state_of I.state p.new)) result (reads.declarator_by (stream_of I.machine) (N.reads nested.now I.State I.machine) (code_of code) (state_of I.state p.old)) }
     ensures fits { IfOk result (λ x. fits_var_declarator (λ p. p) x.0) }
     ensures end { IfOk result (λ x. x.1 ≡ shape.declarator_end (view_var_declarator inner x.0)) }
-    ensures shorter { Falls result (spec.bound (machine_of I.machine) (stand I.state p.new)) (spec.bound (machine_of I.machine) (stand I.state p.old)) }
+    ensures shorter { Falls result (spec.bound (stream_of I.machine) (state_of I.state p.new)) (spec.bound (stream_of I.machine) (state_of I.state p.old)) }
 {
     let start = p.lo();
     let name = nested.pat(p, code)?;
@@ -95,10 +95,10 @@ pub fn declarator_turn<'a, I: Tokens<'a> + Drop, N: Nested<'a, I>>(
 ) -> Result<bool, Failure>
     requires ready { N.ready nested.now }
     requires fits { FitDeclarators list.old }
-    ensures value { Gives (λ x. (going_on x (declarators_of list.new), stand I.state p.new)) result (reads.declarator_step (machine_of I.machine) (N.reads nested.now I.State I.machine) (code_of code) (declarators_of list.old) (stand I.state p.old)) }
+    ensures value { Gives (λ x. (going_on x (declarators_of list.new), state_of I.state p.new)) result (reads.declarator_step (stream_of I.machine) (N.reads nested.now I.State I.machine) (code_of code) (declarators_of list.old) (state_of I.state p.old)) }
     ensures fits { IfOk result (λ x. FitDeclarators list.new) }
     ensures end { IfOk result (λ _. TellsEnd list.new) }
-    ensures shorter { Falls result (spec.bound (machine_of I.machine) (stand I.state p.new)) (spec.bound (machine_of I.machine) (stand I.state p.old)) }
+    ensures shorter { Falls result (spec.bound (stream_of I.machine) (state_of I.state p.new)) (spec.bound (stream_of I.machine) (state_of I.state p.old)) }
 {
     let (item, end) = declarator(p, nested, code)?;
     list.items.push(item)?;
@@ -115,10 +115,10 @@ pub fn declarators<'a, I: Tokens<'a> + Drop, N: Nested<'a, I>>(
     code: Around,
 ) -> Result<DeclaratorList, Failure>
     requires ready { N.ready nested.now }
-    ensures value { Gives (λ x. (declarators_of x, stand I.state p.new)) result (reads.declarators_by (machine_of I.machine) (N.reads nested.now I.State I.machine) (code_of code) (stand I.state p.old)) }
+    ensures value { Gives (λ x. (declarators_of x, state_of I.state p.new)) result (reads.declarators_by (stream_of I.machine) (N.reads nested.now I.State I.machine) (code_of code) (state_of I.state p.old)) }
     ensures fits { IfOk result (λ x. FitDeclarators x) }
     ensures end { IfOk result (λ x. TellsEnd x) }
-    ensures shorter { Falls result (spec.bound (machine_of I.machine) (stand I.state p.new)) (spec.bound (machine_of I.machine) (stand I.state p.old)) }
+    ensures shorter { Falls result (spec.bound (stream_of I.machine) (state_of I.state p.new)) (spec.bound (stream_of I.machine) (state_of I.state p.old)) }
 {
     let mut list = DeclaratorList {
         items: Vec::new(p.alloc),
@@ -150,11 +150,11 @@ pub fn variables<'a, I: Tokens<'a> + Drop, N: Nested<'a, I>>(
     word: VarDeclKind,
 ) -> Result<StmtBox, Failure>
     requires ready { N.ready nested.now }
-    requires kind { var_decl_kind_word word ≡ kind (spec.input (machine_of I.machine) (stand I.state p.old)) }
-    requires some { kind (spec.input (machine_of I.machine) (stand I.state p.old)) ≢ 0 }
-    ensures value { Gives (λ x. (inner x.part.value, stand I.state p.new)) result (reads.variables_by (machine_of I.machine) (N.reads nested.now I.State I.machine) (code_of code) (stand I.state p.old)) }
+    requires kind { var_decl_kind_word word ≡ kind (spec.input (stream_of I.machine) (state_of I.state p.old)) }
+    requires some { kind (spec.input (stream_of I.machine) (state_of I.state p.old)) ≢ 0 }
+    ensures value { Gives (λ x. (inner x.part.value, state_of I.state p.new)) result (reads.variables_by (stream_of I.machine) (N.reads nested.now I.State I.machine) (code_of code) (state_of I.state p.old)) }
     ensures holds { IfOk result (λ x. holds_stmt x.part.value) }
-    ensures shorter { Falls result (spec.bound (machine_of I.machine) (stand I.state p.new)) (spec.bound (machine_of I.machine) (stand I.state p.old)) }
+    ensures shorter { Falls result (spec.bound (stream_of I.machine) (state_of I.state p.new)) (spec.bound (stream_of I.machine) (state_of I.state p.old)) }
 {
     let start = p.lo();
     p.eat_word(code, p.kind())?;
@@ -174,9 +174,9 @@ pub fn using<'a, I: Tokens<'a> + Drop, N: Nested<'a, I>>(
     awaits: bool,
 ) -> Result<StmtBox, Failure>
     requires ready { N.ready nested.now }
-    ensures value { Gives (λ x. (inner x.part.value, stand I.state p.new)) result (reads.using_by (machine_of I.machine) (N.reads nested.now I.State I.machine) (code_of code) (from start.0) awaits (stand I.state p.old)) }
+    ensures value { Gives (λ x. (inner x.part.value, state_of I.state p.new)) result (reads.using_by (stream_of I.machine) (N.reads nested.now I.State I.machine) (code_of code) (from start.0) awaits (state_of I.state p.old)) }
     ensures holds { IfOk result (λ x. holds_stmt x.part.value) }
-    ensures shorter { Falls result (spec.bound (machine_of I.machine) (stand I.state p.new)) (spec.bound (machine_of I.machine) (stand I.state p.old)) }
+    ensures shorter { Falls result (spec.bound (stream_of I.machine) (state_of I.state p.new)) (spec.bound (stream_of I.machine) (state_of I.state p.old)) }
 {
     p.eat_word(code, kinds::USING)?;
     let list = declarators(p, nested, code)?;

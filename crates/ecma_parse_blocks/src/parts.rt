@@ -6,8 +6,8 @@ ghost use Rattle.ecma_reading.specs.Source as spec;
 ghost use Rattle.ecma_reading.specs.Statements as reads;
 ghost use Rattle.ecma_parse_state.specs.Answers.{Falls, Gives, IsSyntax};
 ghost use Rattle.ecma_parse_state.specs.Codes.{code_of};
-ghost use Rattle.ecma_parse_state.specs.Fronts.{machine_of};
-ghost use Rattle.ecma_parse_state.specs.Stands.{stand};
+ghost use Rattle.ecma_parse_state.specs.Cursors.{stream_of};
+ghost use Rattle.ecma_parse_state.specs.States.{state_of};
 ghost use Rattle.ecma_parse_base.specs.Operands.{tree_of};
 
 use ecma_node::{Decl, Stmt, StmtBox, StmtKind, VarDeclKind};
@@ -48,8 +48,8 @@ pub fn in_parens<'a, I: Tokens<'a> + Drop, N: Nested<'a, I>>(
     code: Around,
 ) -> Result<Operand, Failure>
     requires ready { N.ready nested.now }
-    ensures value { Gives (λ x. (tree_of x, stand I.state p.new)) result (reads.in_parens (machine_of I.machine) (N.reads nested.now I.State I.machine) (code_of code) (stand I.state p.old)) }
-    ensures shorter { Falls result (spec.bound (machine_of I.machine) (stand I.state p.new)) (spec.bound (machine_of I.machine) (stand I.state p.old)) }
+    ensures value { Gives (λ x. (tree_of x, state_of I.state p.new)) result (reads.in_parens (stream_of I.machine) (N.reads nested.now I.State I.machine) (code_of code) (state_of I.state p.old)) }
+    ensures shorter { Falls result (spec.bound (stream_of I.machine) (state_of I.state p.new)) (spec.bound (stream_of I.machine) (state_of I.state p.old)) }
 {
     p.expect(kinds::LEFT_PAREN)?;
     let test = nested.expr(p, code, EXPRESSION)?;
@@ -77,9 +77,9 @@ pub fn sub<'a, I: Tokens<'a> + Drop, N: Nested<'a, I>>(
     functions: bool,
 ) -> Result<StmtBox, Failure>
     requires ready { N.ready nested.now }
-    ensures value { Gives (λ x. (inner x.part.value, stand I.state p.new)) result (reads.sub_by (machine_of I.machine) (N.reads nested.now I.State I.machine) (code_of code) functions (stand I.state p.old)) }
+    ensures value { Gives (λ x. (inner x.part.value, state_of I.state p.new)) result (reads.sub_by (stream_of I.machine) (N.reads nested.now I.State I.machine) (code_of code) functions (state_of I.state p.old)) }
     ensures holds { IfOk result (λ x. holds_stmt x.part.value) }
-    ensures shorter { Falls result (spec.bound (machine_of I.machine) (stand I.state p.new)) (spec.bound (machine_of I.machine) (stand I.state p.old)) }
+    ensures shorter { Falls result (spec.bound (stream_of I.machine) (state_of I.state p.new)) (spec.bound (stream_of I.machine) (state_of I.state p.old)) }
 {
     let read = nested.stmt(p, alone(code))?;
     if is_statement(read.get())

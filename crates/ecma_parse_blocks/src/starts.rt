@@ -5,8 +5,8 @@ ghost use Rattle.ecma_reading.specs.Source as spec;
 ghost use Rattle.ecma_reading.specs.Statements as reads;
 ghost use Rattle.ecma_parse_state.specs.Answers.{IsMemory};
 ghost use Rattle.ecma_parse_state.specs.Codes.{code_of};
-ghost use Rattle.ecma_parse_state.specs.Fronts.{machine_of};
-ghost use Rattle.ecma_parse_state.specs.Stands.{stand};
+ghost use Rattle.ecma_parse_state.specs.Cursors.{stream_of};
+ghost use Rattle.ecma_parse_state.specs.States.{state_of};
 
 use ecma_parse_base::Nested;
 use ecma_parse_state::kind_numbers::token_number;
@@ -19,10 +19,10 @@ use ecma_token_source::{Look, Tokens};
 /// # Errors
 ///
 /// Want of memory.
-#[tactic(auto, unfolding(ecma_parse_state::specs::Fronts::machine_of))]
+#[tactic(auto, unfolding(ecma_parse_state::specs::Cursors::stream_of))]
 pub fn behind<'a, I: Tokens<'a> + Drop>(p: &Parser<'a, I>) -> Result<(u8, bool), Failure>
-    ensures kind { IfOk result (λ x. x.0 ≡ kind (spec.input (machine_of I.machine) (spec.past (machine_of I.machine) (stand I.state p.now)))) }
-    ensures breaks { IfOk result (λ x. x.1 ≡ brk2 (spec.input (machine_of I.machine) (stand I.state p.now))) }
+    ensures kind { IfOk result (λ x. x.0 ≡ kind (spec.input (stream_of I.machine) (spec.past (stream_of I.machine) (state_of I.state p.now)))) }
+    ensures breaks { IfOk result (λ x. x.1 ≡ brk2 (spec.input (stream_of I.machine) (state_of I.state p.now))) }
     ensures full { IfErr result IsMemory }
 {
     if p.ahead.token.is_none() {
@@ -44,7 +44,7 @@ pub fn starts_async<'a, I: Tokens<'a> + Drop, N: Nested<'a, I>>(
     p: &Parser<'a, I>,
     _nested: &N,
 ) -> Result<bool, Failure>
-    ensures value { IfOk result (λ b. b ≡ reads.starts_async (machine_of I.machine) (N.reads _nested.now I.State I.machine) (stand I.state p.now)) }
+    ensures value { IfOk result (λ b. b ≡ reads.starts_async (stream_of I.machine) (N.reads _nested.now I.State I.machine) (state_of I.state p.now)) }
     ensures full { IfErr result IsMemory }
 {
     if !p.at(kinds::ASYNC) {
@@ -63,7 +63,7 @@ pub fn starts_let<'a, I: Tokens<'a> + Drop, N: Nested<'a, I>>(
     p: &Parser<'a, I>,
     _nested: &N,
 ) -> Result<bool, Failure>
-    ensures value { IfOk result (λ b. b ≡ reads.starts_let (machine_of I.machine) (N.reads _nested.now I.State I.machine) (stand I.state p.now)) }
+    ensures value { IfOk result (λ b. b ≡ reads.starts_let (stream_of I.machine) (N.reads _nested.now I.State I.machine) (state_of I.state p.now)) }
     ensures full { IfErr result IsMemory }
 {
     if !p.at(kinds::LET) {
@@ -83,7 +83,7 @@ pub fn starts_variables<'a, I: Tokens<'a> + Drop, N: Nested<'a, I>>(
     _nested: &N,
     code: Around,
 ) -> Result<bool, Failure>
-    ensures value { IfOk result (λ b. b ≡ reads.starts_variables (machine_of I.machine) (N.reads _nested.now I.State I.machine) (code_of code) (stand I.state p.now)) }
+    ensures value { IfOk result (λ b. b ≡ reads.starts_variables (stream_of I.machine) (N.reads _nested.now I.State I.machine) (code_of code) (state_of I.state p.now)) }
     ensures full { IfErr result IsMemory }
 {
     if p.at(kinds::VAR) {
@@ -108,7 +108,7 @@ pub fn starts_using<'a, I: Tokens<'a> + Drop, N: Nested<'a, I>>(
     _nested: &N,
     code: Around,
 ) -> Result<bool, Failure>
-    ensures value { IfOk result (λ b. b ≡ reads.starts_using (machine_of I.machine) (N.reads _nested.now I.State I.machine) (code_of code) (stand I.state p.now)) }
+    ensures value { IfOk result (λ b. b ≡ reads.starts_using (stream_of I.machine) (N.reads _nested.now I.State I.machine) (code_of code) (state_of I.state p.now)) }
     ensures full { IfErr result IsMemory }
 {
     if !code.syntax.explicit_resource_management || !p.at(kinds::USING) {
@@ -128,7 +128,7 @@ pub fn starts_await_using<'a, I: Tokens<'a> + Drop, N: Nested<'a, I>>(
     _nested: &N,
     code: Around,
 ) -> Result<bool, Failure>
-    ensures value { IfOk result (λ b. b ≡ reads.starts_await_using (machine_of I.machine) (N.reads _nested.now I.State I.machine) (code_of code) (stand I.state p.now)) }
+    ensures value { IfOk result (λ b. b ≡ reads.starts_await_using (stream_of I.machine) (N.reads _nested.now I.State I.machine) (code_of code) (state_of I.state p.now)) }
     ensures full { IfErr result IsMemory }
 {
     if !code.context.in_async || !p.at(kinds::AWAIT) || p.is_barred(code.context) {

@@ -5,7 +5,7 @@ use Rattle.ecma_tree.specs.Tree.{Tree}
 use Rattle.ecma_node.specs.View.{view_prop_name}
 use Rattle.ecma_node.specs.declared.functions.PropNameOf.{PropNameOf}
 use Rattle.ecma_node.specs.declared.functions.PropNameOf.TheVariants as PropName
-use Rattle.ecma_reading.specs.Source.{Fault, Stand}
+use Rattle.ecma_reading.specs.Source.{Fault, State}
 
 -- the key of a property is no private name
 pub no_private : {T : Type 0} (f : T → Tree) (k : PropNameOf T) → is_private (view_prop_name f k) ≡ false
@@ -18,7 +18,7 @@ no_private f (PropName.Computed x) = refl
 pub ruleset keys = (no_private)
 
 -- one of two trees before the same stand
-pub one_of : {S : Type 0} (b : Bool) (x y : Tree) (r : Stand S) → ◌≡◌ {A = Result (Tree × Stand S) Fault} (if b then Ok (x, r) else Ok (y, r)) (Ok ((if b then x else y), r))
+pub one_of : {S : Type 0} (b : Bool) (x y : Tree) (r : State S) → ◌≡◌ {A = Result (Tree × State S) Fault} (if b then Ok (x, r) else Ok (y, r)) (Ok ((if b then x else y), r))
 one_of true x y r = refl
 one_of false x y r = refl
 

@@ -2,28 +2,28 @@
 use Rattle.std.proofs.Common.{◌≡◌, ℕ, Bool, refl, sym, ◌∙◌}
 use Rattle.ecma_token_source.specs.Machine as tokens
 use Rattle.ecma_syntax.specs.Input.{Code, lo}
-use Rattle.ecma_reading.specs.Source.{Machine, Stand, Inner, input}
+use Rattle.ecma_reading.specs.Source.{Stream, State, Inner, input}
 use Rattle.ecma_reading.specs.Statements.{block_rest, member_rest, generator_member, class_method_by, class_getter, class_setter, accessor_by, field_or_method}
-use Rattle.ecma_parse_state.specs.Fronts.{Front, machine_of}
-use Rattle.ecma_parse_state.specs.Stands.{from}
+use Rattle.ecma_parse_state.specs.Cursors.{Cursor, stream_of}
+use Rattle.ecma_parse_state.specs.States.{from}
 use Rattle.ecma_parse_state.proofs.Marks.{lo_from}
 
-module _ {S : Type 0} (m : Machine S) (inner : Inner S) (c : Code) (a b : Stand S) (e : lo (input m a) ≡ lo (input m b)) where
-  block_same : (r : Stand S) → block_rest m inner c a r ≡ block_rest m inner c b r
+module _ {S : Type 0} (m : Stream S) (inner : Inner S) (c : Code) (a b : State S) (e : lo (input m a) ≡ lo (input m b)) where
+  block_same : (r : State S) → block_rest m inner c a r ≡ block_rest m inner c b r
   unfolding block_rest
   block_same r = rw e refl
 
-  member_same : (x : Bool) (r : Stand S) → member_rest m inner c a x r ≡ member_rest m inner c b x r
+  member_same : (x : Bool) (r : State S) → member_rest m inner c a x r ≡ member_rest m inner c b x r
   unfolding member_rest generator_member class_method_by class_getter class_setter accessor_by field_or_method
   member_same x r = rw e refl
 
--- from a mark that was made there
-pub block_from : {S : Type 0} (m : tokens.Machine S) (inner : Inner (Front S)) (c : Code) (a : Stand (Front S)) (n : ℕ) → n ≡ lo (input (machine_of m) a)
-    → (r : Stand (Front S)) → block_rest (machine_of m) inner c a r ≡ block_rest (machine_of m) inner c (from n) r
-block_from m inner c a n e r = block_same (machine_of m) inner c a (from n) (sym e ∙ sym (lo_from m n)) r
+-- from a start that was made there
+pub block_from : {S : Type 0} (m : tokens.Machine S) (inner : Inner (Cursor S)) (c : Code) (a : State (Cursor S)) (n : ℕ) → n ≡ lo (input (stream_of m) a)
+    → (r : State (Cursor S)) → block_rest (stream_of m) inner c a r ≡ block_rest (stream_of m) inner c (from n) r
+block_from m inner c a n e r = block_same (stream_of m) inner c a (from n) (sym e ∙ sym (lo_from m n)) r
 
-pub member_from : {S : Type 0} (m : tokens.Machine S) (inner : Inner (Front S)) (c : Code) (a : Stand (Front S)) (n : ℕ) → n ≡ lo (input (machine_of m) a)
-    → (x : Bool) (r : Stand (Front S)) → member_rest (machine_of m) inner c a x r ≡ member_rest (machine_of m) inner c (from n) x r
-member_from m inner c a n e x r = member_same (machine_of m) inner c a (from n) (sym e ∙ sym (lo_from m n)) x r
+pub member_from : {S : Type 0} (m : tokens.Machine S) (inner : Inner (Cursor S)) (c : Code) (a : State (Cursor S)) (n : ℕ) → n ≡ lo (input (stream_of m) a)
+    → (x : Bool) (r : State (Cursor S)) → member_rest (stream_of m) inner c a x r ≡ member_rest (stream_of m) inner c (from n) x r
+member_from m inner c a n e x r = member_same (stream_of m) inner c a (from n) (sym e ∙ sym (lo_from m n)) x r
 
 pub ruleset starts = (block_from, member_from)

@@ -6,7 +6,7 @@ use Rattle.ecma_tree.specs.Tree.{Tree, none, plain_method, class_method, private
 use Rattle.ecma_syntax.specs.Input.{Code, kind2, brk2}
 use Rattle.ecma_syntax.specs.Operators.{starts_key}
 use Rattle.ecma_syntax.specs.Shape.{is_private, constructs}
-use Rattle.ecma_reading.specs.Source.{◌>>=◌, Machine, Stand, Read, Inner, input, bound, spanned, at, iterate}
+use Rattle.ecma_reading.specs.Source.{◌>>=◌, Stream, State, Read, Inner, input, bound, spanned, at, iterate}
 use Rattle.ecma_reading.specs.Statements.{field_value, class_getter, class_setter, accessor_by, field_or_method, member_step}
 
 -- a method, by whether its key is a private name (15.7)
@@ -26,26 +26,26 @@ plain_method_of s k f is_static may_construct = if constructs k && may_construct
 abbrev pub field_of : Span → Tree → Tree → Bool → Tree
 field_of s k v is_static = if is_private k then private_prop s k v is_static none else class_prop s k v is_static none
 
-module _ {S : Type 0} (m : Machine S) (inner : Inner S) where
+module _ {S : Type 0} (m : Stream S) (inner : Inner S) where
   -- a field, after its key, which ends so where it has no value (15.7)
-  unfoldable pub field_by : Code → Stand S → Bool → ℕ → Tree → Read S Tree
+  unfoldable pub field_by : Code → State S → Bool → ℕ → Tree → Read S Tree
   field_by c start is_static e k s = field_value m inner c e s >>= λ v.
       if is_private k then Ok (private_prop (spanned m start v.1) k v.0 is_static none, v.1) else Ok (class_prop (spanned m start v.1) k v.0 is_static none, v.1)
 
   -- `accessor` before a key on its line
-  abbrev pub starts_accessor : Code → Stand S → Bool
+  abbrev pub starts_accessor : Code → State S → Bool
   starts_accessor c s = c.syntax.auto_accessors && (at m accessor_kind s && (starts_key (kind2 (input m s)) && not (brk2 (input m s))))
 
   -- a member that is no generator, no `async` method, no getter and no setter
-  unfoldable pub last_member : Code → Stand S → Bool → Read S Tree
+  unfoldable pub last_member : Code → State S → Bool → Read S Tree
   last_member c start is_static s = if starts_accessor c s then accessor_by m inner c start is_static s else field_or_method m inner c start is_static s
 
   -- a word before a key
-  abbrev pub before_key : ℕ → Stand S → Bool
+  abbrev pub before_key : ℕ → State S → Bool
   before_key k s = at m k s && starts_key (kind2 (input m s))
 
   -- a member that is no generator and no `async` method
-  unfoldable pub word_member : Code → Stand S → Bool → Read S Tree
+  unfoldable pub word_member : Code → State S → Bool → Read S Tree
   word_member c start is_static s =
       if before_key get_kind s then class_getter m inner c start is_static s
       else (if before_key set_kind s then class_setter m inner c start is_static s

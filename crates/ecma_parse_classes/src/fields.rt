@@ -8,8 +8,8 @@ ghost use Rattle.ecma_reading.specs.Source as spec;
 ghost use Rattle.ecma_reading.specs.Statements as reads;
 ghost use Rattle.ecma_parse_state.specs.Answers.{Falls, Gives, Stays};
 ghost use Rattle.ecma_parse_state.specs.Codes.{code_of};
-ghost use Rattle.ecma_parse_state.specs.Fronts.{machine_of};
-ghost use Rattle.ecma_parse_state.specs.Stands.{from, stand};
+ghost use Rattle.ecma_parse_state.specs.Cursors.{stream_of};
+ghost use Rattle.ecma_parse_state.specs.States.{from, state_of};
 ghost use Rattle.ecma_parse_classes.specs.Members.{field_by};
 
 use crate::made;
@@ -32,9 +32,9 @@ pub fn field_value<'a, I: Tokens<'a> + Drop, N: Nested<'a, I>>(
     end: u8,
 ) -> Result<Option<ExprBox>, Failure>
     requires ready { N.ready nested.now }
-    ensures value { Gives (λ x. (part_by (λ y. inner y.part.value) x, stand I.state p.new)) result (reads.field_value (machine_of I.machine) (N.reads nested.now I.State I.machine) (code_of code) end (stand I.state p.old)) }
+    ensures value { Gives (λ x. (part_by (λ y. inner y.part.value) x, state_of I.state p.new)) result (reads.field_value (stream_of I.machine) (N.reads nested.now I.State I.machine) (code_of code) end (state_of I.state p.old)) }
     ensures fits { IfOk result (λ x. fits_held (λ y. holds_expr y.part.value) x) }
-    ensures not_longer { Stays result (spec.bound (machine_of I.machine) (stand I.state p.new)) (spec.bound (machine_of I.machine) (stand I.state p.old)) }
+    ensures not_longer { Stays result (spec.bound (stream_of I.machine) (state_of I.state p.new)) (spec.bound (stream_of I.machine) (state_of I.state p.old)) }
 {
     if p.eat(kinds::ASSIGN)? {
         let value = nested.expr(p, in_field(code), ASSIGNMENT)?;
@@ -54,9 +54,9 @@ pub fn class_key<'a, I: Tokens<'a> + Drop, N: Nested<'a, I>>(
     code: Around,
 ) -> Result<Key, Failure>
     requires ready { N.ready nested.now }
-    ensures value { Gives (λ x. (view_key inner x, stand I.state p.new)) result (reads.class_key (machine_of I.machine) (N.reads nested.now I.State I.machine) (code_of code) (stand I.state p.old)) }
+    ensures value { Gives (λ x. (view_key inner x, state_of I.state p.new)) result (reads.class_key (stream_of I.machine) (N.reads nested.now I.State I.machine) (code_of code) (state_of I.state p.old)) }
     ensures fits { IfOk result (λ x. fits_key (λ p. p) x) }
-    ensures shorter { Falls result (spec.bound (machine_of I.machine) (stand I.state p.new)) (spec.bound (machine_of I.machine) (stand I.state p.old)) }
+    ensures shorter { Falls result (spec.bound (stream_of I.machine) (state_of I.state p.new)) (spec.bound (stream_of I.machine) (state_of I.state p.old)) }
 {
     if p.at(kinds::HASH) {
         return Ok(Key::Private(private_name(p, nested)?));
@@ -78,9 +78,9 @@ pub fn field<'a, I: Tokens<'a> + Drop, N: Nested<'a, I>>(
 ) -> Result<ClassMember, Failure>
     requires ready { N.ready nested.now }
     requires key { fits_key (λ p. p) key }
-    ensures value { Gives (λ x. (view_class_member inner x, stand I.state p.new)) result (field_by (machine_of I.machine) (N.reads nested.now I.State I.machine) (code_of code) (from start.0) is_static end (view_key inner key) (stand I.state p.old)) }
+    ensures value { Gives (λ x. (view_class_member inner x, state_of I.state p.new)) result (field_by (stream_of I.machine) (N.reads nested.now I.State I.machine) (code_of code) (from start.0) is_static end (view_key inner key) (state_of I.state p.old)) }
     ensures fits { IfOk result (λ x. fits_class_member (λ p. p) x) }
-    ensures not_longer { Stays result (spec.bound (machine_of I.machine) (stand I.state p.new)) (spec.bound (machine_of I.machine) (stand I.state p.old)) }
+    ensures not_longer { Stays result (spec.bound (stream_of I.machine) (state_of I.state p.new)) (spec.bound (stream_of I.machine) (state_of I.state p.old)) }
 {
     let value = field_value(p, nested, code, end)?;
     Ok(made::field(p.alloc, p.since(start), key, value, is_static))
@@ -97,9 +97,9 @@ pub fn auto_accessor<'a, I: Tokens<'a> + Drop, N: Nested<'a, I>>(
     is_static: bool,
 ) -> Result<ClassMember, Failure>
     requires ready { N.ready nested.now }
-    ensures value { Gives (λ x. (view_class_member inner x, stand I.state p.new)) result (reads.accessor_by (machine_of I.machine) (N.reads nested.now I.State I.machine) (code_of code) (from start.0) is_static (stand I.state p.old)) }
+    ensures value { Gives (λ x. (view_class_member inner x, state_of I.state p.new)) result (reads.accessor_by (stream_of I.machine) (N.reads nested.now I.State I.machine) (code_of code) (from start.0) is_static (state_of I.state p.old)) }
     ensures fits { IfOk result (λ x. fits_class_member (λ p. p) x) }
-    ensures shorter { Falls result (spec.bound (machine_of I.machine) (stand I.state p.new)) (spec.bound (machine_of I.machine) (stand I.state p.old)) }
+    ensures shorter { Falls result (spec.bound (stream_of I.machine) (state_of I.state p.new)) (spec.bound (stream_of I.machine) (state_of I.state p.old)) }
 {
     p.bump()?;
     let key = class_key(p, nested, code)?;

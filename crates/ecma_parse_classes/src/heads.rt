@@ -4,8 +4,8 @@ ghost use Rattle.ecma_syntax.specs.Shape as shape;
 ghost use Rattle.ecma_reading.specs.Statements as reads;
 ghost use Rattle.ecma_parse_state.specs.Answers.{IsMemory};
 ghost use Rattle.ecma_parse_state.specs.Codes.{code_of};
-ghost use Rattle.ecma_parse_state.specs.Fronts.{machine_of};
-ghost use Rattle.ecma_parse_state.specs.Stands.{stand};
+ghost use Rattle.ecma_parse_state.specs.Cursors.{stream_of};
+ghost use Rattle.ecma_parse_state.specs.States.{state_of};
 ghost use Rattle.ecma_parse_classes.specs.Members.{before_key, starts_accessor};
 
 use ecma_parse_base::Nested;
@@ -37,7 +37,7 @@ pub fn is_before_key<'a, I: Tokens<'a> + Drop, N: Nested<'a, I>>(
     kind: u8,
 ) -> Result<bool, Failure>
     requires { 0 < kind }
-    ensures value { IfOk result (λ b. b ≡ before_key (machine_of I.machine) (N.reads _nested.now I.State I.machine) kind (stand I.state p.now)) }
+    ensures value { IfOk result (λ b. b ≡ before_key (stream_of I.machine) (N.reads _nested.now I.State I.machine) kind (state_of I.state p.now)) }
     ensures full { IfErr result IsMemory }
 {
     if !p.at(kind) {
@@ -57,7 +57,7 @@ pub fn is_auto_accessor<'a, I: Tokens<'a> + Drop, N: Nested<'a, I>>(
     _nested: &N,
     code: Around,
 ) -> Result<bool, Failure>
-    ensures value { IfOk result (λ b. b ≡ starts_accessor (machine_of I.machine) (N.reads _nested.now I.State I.machine) (code_of code) (stand I.state p.now)) }
+    ensures value { IfOk result (λ b. b ≡ starts_accessor (stream_of I.machine) (N.reads _nested.now I.State I.machine) (code_of code) (state_of I.state p.now)) }
     ensures full { IfErr result IsMemory }
 {
     if !code.syntax.auto_accessors || !p.at(kinds::ACCESSOR) {
@@ -76,7 +76,7 @@ pub fn is_static<'a, I: Tokens<'a> + Drop, N: Nested<'a, I>>(
     p: &Parser<'a, I>,
     _nested: &N,
 ) -> Result<bool, Failure>
-    ensures value { IfOk result (λ b. b ≡ reads.starts_static (machine_of I.machine) (N.reads _nested.now I.State I.machine) (stand I.state p.now)) }
+    ensures value { IfOk result (λ b. b ≡ reads.starts_static (stream_of I.machine) (N.reads _nested.now I.State I.machine) (state_of I.state p.now)) }
     ensures full { IfErr result IsMemory }
 {
     if !p.at(kinds::STATIC) {

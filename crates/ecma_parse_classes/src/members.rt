@@ -7,8 +7,8 @@ ghost use Rattle.ecma_reading.specs.Source as spec;
 ghost use Rattle.ecma_reading.specs.Statements as reads;
 ghost use Rattle.ecma_parse_state.specs.Answers.{Falls, Gives};
 ghost use Rattle.ecma_parse_state.specs.Codes.{code_of};
-ghost use Rattle.ecma_parse_state.specs.Fronts.{machine_of};
-ghost use Rattle.ecma_parse_state.specs.Stands.{from, stand};
+ghost use Rattle.ecma_parse_state.specs.Cursors.{stream_of};
+ghost use Rattle.ecma_parse_state.specs.States.{from, state_of};
 ghost use Rattle.ecma_parse_classes.specs.Members.{last_member, word_member};
 
 use crate::fields::{auto_accessor, class_key, field};
@@ -39,9 +39,9 @@ pub fn method<'a, I: Tokens<'a> + Drop, N: Nested<'a, I>>(
 ) -> Result<ClassMember, Failure>
     requires ready { N.ready nested.now }
     requires key { fits_key (λ p. p) key }
-    ensures value { Gives (λ x. (view_class_member inner x, stand I.state p.new)) result (reads.class_method_by (machine_of I.machine) (N.reads nested.now I.State I.machine) (code_of code) (from start.0) is_static generator is_async (view_key inner key) (stand I.state p.old)) }
+    ensures value { Gives (λ x. (view_class_member inner x, state_of I.state p.new)) result (reads.class_method_by (stream_of I.machine) (N.reads nested.now I.State I.machine) (code_of code) (from start.0) is_static generator is_async (view_key inner key) (state_of I.state p.old)) }
     ensures fits { IfOk result (λ x. fits_class_member (λ p. p) x) }
-    ensures shorter { Falls result (spec.bound (machine_of I.machine) (stand I.state p.new)) (spec.bound (machine_of I.machine) (stand I.state p.old)) }
+    ensures shorter { Falls result (spec.bound (stream_of I.machine) (state_of I.state p.new)) (spec.bound (stream_of I.machine) (state_of I.state p.old)) }
 {
     let function = function(p, nested, code, start, generator, is_async)?;
     let may_construct = !is_static && (!generator && !is_async);
@@ -59,9 +59,9 @@ pub fn getter<'a, I: Tokens<'a> + Drop, N: Nested<'a, I>>(
     is_static: bool,
 ) -> Result<ClassMember, Failure>
     requires ready { N.ready nested.now }
-    ensures value { Gives (λ x. (view_class_member inner x, stand I.state p.new)) result (reads.class_getter (machine_of I.machine) (N.reads nested.now I.State I.machine) (code_of code) (from start.0) is_static (stand I.state p.old)) }
+    ensures value { Gives (λ x. (view_class_member inner x, state_of I.state p.new)) result (reads.class_getter (stream_of I.machine) (N.reads nested.now I.State I.machine) (code_of code) (from start.0) is_static (state_of I.state p.old)) }
     ensures fits { IfOk result (λ x. fits_class_member (λ p. p) x) }
-    ensures shorter { Falls result (spec.bound (machine_of I.machine) (stand I.state p.new)) (spec.bound (machine_of I.machine) (stand I.state p.old)) }
+    ensures shorter { Falls result (spec.bound (stream_of I.machine) (state_of I.state p.new)) (spec.bound (stream_of I.machine) (state_of I.state p.old)) }
 {
     p.bump()?;
     let key = class_key(p, nested, code)?;
@@ -84,9 +84,9 @@ pub fn setter<'a, I: Tokens<'a> + Drop, N: Nested<'a, I>>(
     is_static: bool,
 ) -> Result<ClassMember, Failure>
     requires ready { N.ready nested.now }
-    ensures value { Gives (λ x. (view_class_member inner x, stand I.state p.new)) result (reads.class_setter (machine_of I.machine) (N.reads nested.now I.State I.machine) (code_of code) (from start.0) is_static (stand I.state p.old)) }
+    ensures value { Gives (λ x. (view_class_member inner x, state_of I.state p.new)) result (reads.class_setter (stream_of I.machine) (N.reads nested.now I.State I.machine) (code_of code) (from start.0) is_static (state_of I.state p.old)) }
     ensures fits { IfOk result (λ x. fits_class_member (λ p. p) x) }
-    ensures shorter { Falls result (spec.bound (machine_of I.machine) (stand I.state p.new)) (spec.bound (machine_of I.machine) (stand I.state p.old)) }
+    ensures shorter { Falls result (spec.bound (stream_of I.machine) (state_of I.state p.new)) (spec.bound (stream_of I.machine) (state_of I.state p.old)) }
 {
     p.bump()?;
     let key = class_key(p, nested, code)?;
@@ -111,9 +111,9 @@ pub fn field_or_method<'a, I: Tokens<'a> + Drop, N: Nested<'a, I>>(
     is_static: bool,
 ) -> Result<ClassMember, Failure>
     requires ready { N.ready nested.now }
-    ensures value { Gives (λ x. (view_class_member inner x, stand I.state p.new)) result (reads.field_or_method (machine_of I.machine) (N.reads nested.now I.State I.machine) (code_of code) (from start.0) is_static (stand I.state p.old)) }
+    ensures value { Gives (λ x. (view_class_member inner x, state_of I.state p.new)) result (reads.field_or_method (stream_of I.machine) (N.reads nested.now I.State I.machine) (code_of code) (from start.0) is_static (state_of I.state p.old)) }
     ensures fits { IfOk result (λ x. fits_class_member (λ p. p) x) }
-    ensures shorter { Falls result (spec.bound (machine_of I.machine) (stand I.state p.new)) (spec.bound (machine_of I.machine) (stand I.state p.old)) }
+    ensures shorter { Falls result (spec.bound (stream_of I.machine) (state_of I.state p.new)) (spec.bound (stream_of I.machine) (state_of I.state p.old)) }
 {
     let end = field_end(is_static, p.kind());
     let key = class_key(p, nested, code)?;
@@ -135,9 +135,9 @@ pub fn generator_member<'a, I: Tokens<'a> + Drop, N: Nested<'a, I>>(
     is_async: bool,
 ) -> Result<ClassMember, Failure>
     requires ready { N.ready nested.now }
-    ensures value { Gives (λ x. (view_class_member inner x, stand I.state p.new)) result (reads.generator_member (machine_of I.machine) (N.reads nested.now I.State I.machine) (code_of code) (from start.0) is_static is_async (stand I.state p.old)) }
+    ensures value { Gives (λ x. (view_class_member inner x, state_of I.state p.new)) result (reads.generator_member (stream_of I.machine) (N.reads nested.now I.State I.machine) (code_of code) (from start.0) is_static is_async (state_of I.state p.old)) }
     ensures fits { IfOk result (λ x. fits_class_member (λ p. p) x) }
-    ensures shorter { Falls result (spec.bound (machine_of I.machine) (stand I.state p.new)) (spec.bound (machine_of I.machine) (stand I.state p.old)) }
+    ensures shorter { Falls result (spec.bound (stream_of I.machine) (state_of I.state p.new)) (spec.bound (stream_of I.machine) (state_of I.state p.old)) }
 {
     let generator = star(p, nested)?;
     let key = class_key(p, nested, code)?;
@@ -155,9 +155,9 @@ pub fn last_member<'a, I: Tokens<'a> + Drop, N: Nested<'a, I>>(
     is_static: bool,
 ) -> Result<ClassMember, Failure>
     requires ready { N.ready nested.now }
-    ensures value { Gives (λ x. (view_class_member inner x, stand I.state p.new)) result (last_member (machine_of I.machine) (N.reads nested.now I.State I.machine) (code_of code) (from start.0) is_static (stand I.state p.old)) }
+    ensures value { Gives (λ x. (view_class_member inner x, state_of I.state p.new)) result (last_member (stream_of I.machine) (N.reads nested.now I.State I.machine) (code_of code) (from start.0) is_static (state_of I.state p.old)) }
     ensures fits { IfOk result (λ x. fits_class_member (λ p. p) x) }
-    ensures shorter { Falls result (spec.bound (machine_of I.machine) (stand I.state p.new)) (spec.bound (machine_of I.machine) (stand I.state p.old)) }
+    ensures shorter { Falls result (spec.bound (stream_of I.machine) (state_of I.state p.new)) (spec.bound (stream_of I.machine) (state_of I.state p.old)) }
 {
     if is_auto_accessor(p, nested, code)? {
         return auto_accessor(p, nested, code, start, is_static);
@@ -176,9 +176,9 @@ pub fn word_member<'a, I: Tokens<'a> + Drop, N: Nested<'a, I>>(
     is_static: bool,
 ) -> Result<ClassMember, Failure>
     requires ready { N.ready nested.now }
-    ensures value { Gives (λ x. (view_class_member inner x, stand I.state p.new)) result (word_member (machine_of I.machine) (N.reads nested.now I.State I.machine) (code_of code) (from start.0) is_static (stand I.state p.old)) }
+    ensures value { Gives (λ x. (view_class_member inner x, state_of I.state p.new)) result (word_member (stream_of I.machine) (N.reads nested.now I.State I.machine) (code_of code) (from start.0) is_static (state_of I.state p.old)) }
     ensures fits { IfOk result (λ x. fits_class_member (λ p. p) x) }
-    ensures shorter { Falls result (spec.bound (machine_of I.machine) (stand I.state p.new)) (spec.bound (machine_of I.machine) (stand I.state p.old)) }
+    ensures shorter { Falls result (spec.bound (stream_of I.machine) (state_of I.state p.new)) (spec.bound (stream_of I.machine) (state_of I.state p.old)) }
 {
     if is_before_key(p, nested, kinds::GET)? {
         return getter(p, nested, code, start, is_static);
@@ -200,9 +200,9 @@ pub fn member_rest<'a, I: Tokens<'a> + Drop, N: Nested<'a, I>>(
     is_static: bool,
 ) -> Result<ClassMember, Failure>
     requires ready { N.ready nested.now }
-    ensures value { Gives (λ x. (view_class_member inner x, stand I.state p.new)) result (reads.member_rest (machine_of I.machine) (N.reads nested.now I.State I.machine) (code_of code) (from start.0) is_static (stand I.state p.old)) }
+    ensures value { Gives (λ x. (view_class_member inner x, state_of I.state p.new)) result (reads.member_rest (stream_of I.machine) (N.reads nested.now I.State I.machine) (code_of code) (from start.0) is_static (state_of I.state p.old)) }
     ensures fits { IfOk result (λ x. fits_class_member (λ p. p) x) }
-    ensures shorter { Falls result (spec.bound (machine_of I.machine) (stand I.state p.new)) (spec.bound (machine_of I.machine) (stand I.state p.old)) }
+    ensures shorter { Falls result (spec.bound (stream_of I.machine) (state_of I.state p.new)) (spec.bound (stream_of I.machine) (state_of I.state p.old)) }
 {
     if p.at(kinds::MUL) {
         return generator_member(p, nested, code, start, is_static, false);

@@ -83,7 +83,7 @@ pub fn are_params(commas: &[u32], list: &Arguments) -> bool
     are_items(commas, list.items.as_slice())
 }
 
-/// What stands between parentheses, as the parameters of an arrow: `parameters_of` is what is read of them, without a machine.
+/// What stands between parentheses, as the parameters of an arrow: `parameters_of` is what is read of them, without a stream.
 #[tactic(auto, using(crate::proofs::Rows::items, crate::proofs::Rows::unpacked))]
 pub fn params(alloc: Global, commas: &[u32], list: Arguments) -> Result<Vec<PatBox>, Failure>
     ensures value { Gives (λ x. map (λ y. inner y.part.value) x.items) result (parameters_of (reverse commas.now) (arguments_of list)) }

@@ -4,28 +4,28 @@ use Rattle.ecma_token.specs.declared.place.Span.{Span}
 use Rattle.ecma_token_source.specs.Machine as tokens
 use Rattle.ecma_tree.specs.Tree.{Tree}
 use Rattle.ecma_syntax.specs.Input.{Code, lo, first_span}
-use Rattle.ecma_reading.specs.Source.{Machine, Stand, Inner, input}
+use Rattle.ecma_reading.specs.Source.{Stream, State, Inner, input}
 use Rattle.ecma_reading.specs.Expressions.{new_end, super_end, yield_end}
-use Rattle.ecma_parse_state.specs.Fronts.{Front, machine_of}
-use Rattle.ecma_parse_state.specs.Stands.{from, from_span}
+use Rattle.ecma_parse_state.specs.Cursors.{Cursor, stream_of}
+use Rattle.ecma_parse_state.specs.States.{from, from_span}
 use Rattle.ecma_parse_state.proofs.Marks.{lo_from, lo_from_span, first_from_span}
 
-module _ {S : Type 0} (m : Machine S) (inner : Inner S) (c : Code) (a b : Stand S) where
-  new_same : lo (input m a) ≡ lo (input m b) → (t : Tree) (r : Stand S) → new_end m inner c a t r ≡ new_end m inner c b t r
+module _ {S : Type 0} (m : Stream S) (inner : Inner S) (c : Code) (a b : State S) where
+  new_same : lo (input m a) ≡ lo (input m b) → (t : Tree) (r : State S) → new_end m inner c a t r ≡ new_end m inner c b t r
   unfolding new_end
   new_same e t r = rw e refl
 
-  yield_same : lo (input m a) ≡ lo (input m b) → (r : Stand S) → yield_end m inner c a r ≡ yield_end m inner c b r
+  yield_same : lo (input m a) ≡ lo (input m b) → (r : State S) → yield_end m inner c a r ≡ yield_end m inner c b r
   unfolding yield_end
   yield_same e r = rw e refl
 
--- from a mark that was made there
-pub new_from : {S : Type 0} (m : tokens.Machine S) (inner : Inner (Front S)) (c : Code) (a : Stand (Front S)) (n : ℕ) → n ≡ lo (input (machine_of m) a)
-    → (t : Tree) (r : Stand (Front S)) → new_end (machine_of m) inner c a t r ≡ new_end (machine_of m) inner c (from n) t r
-new_from m inner c a n e t r = new_same (machine_of m) inner c a (from n) (sym e ∙ sym (lo_from m n)) t r
+-- from a start that was made there
+pub new_from : {S : Type 0} (m : tokens.Machine S) (inner : Inner (Cursor S)) (c : Code) (a : State (Cursor S)) (n : ℕ) → n ≡ lo (input (stream_of m) a)
+    → (t : Tree) (r : State (Cursor S)) → new_end (stream_of m) inner c a t r ≡ new_end (stream_of m) inner c (from n) t r
+new_from m inner c a n e t r = new_same (stream_of m) inner c a (from n) (sym e ∙ sym (lo_from m n)) t r
 
-pub yield_from : {S : Type 0} (m : tokens.Machine S) (inner : Inner (Front S)) (c : Code) (a : Stand (Front S)) (n : ℕ) → n ≡ lo (input (machine_of m) a)
-    → (r : Stand (Front S)) → yield_end (machine_of m) inner c a r ≡ yield_end (machine_of m) inner c (from n) r
-yield_from m inner c a n e r = yield_same (machine_of m) inner c a (from n) (sym e ∙ sym (lo_from m n)) r
+pub yield_from : {S : Type 0} (m : tokens.Machine S) (inner : Inner (Cursor S)) (c : Code) (a : State (Cursor S)) (n : ℕ) → n ≡ lo (input (stream_of m) a)
+    → (r : State (Cursor S)) → yield_end (stream_of m) inner c a r ≡ yield_end (stream_of m) inner c (from n) r
+yield_from m inner c a n e r = yield_same (stream_of m) inner c a (from n) (sym e ∙ sym (lo_from m n)) r
 
 pub ruleset starts = (new_from, yield_from)

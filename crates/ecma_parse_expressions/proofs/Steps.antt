@@ -3,11 +3,11 @@ use Rattle.std.proofs.Common.{◌≡◌, Bool, Option, Ok, refl}
 use Rattle.ecma_token.specs.Kinds.{template_kind}
 use Rattle.ecma_tree.specs.Tree.{Tree}
 use Rattle.ecma_syntax.specs.Input.{Code, content, first_span}
-use Rattle.ecma_reading.specs.Source.{Machine, Stand, Inner, input, eat}
+use Rattle.ecma_reading.specs.Source.{Stream, State, Inner, input, eat}
 use Rattle.ecma_reading.specs.Expressions.{Spans, quasi, quasi_step, quasi_end}
 
 -- what a step reads, by the characters and by where their token ended
-pub step_by : {S : Type 0} (m : Machine S) (inner : Inner S) (c : Code) (tagged : Bool) (x : Spans) (s r : Stand S) (q : Bool → Option Tree)
+pub step_by : {S : Type 0} (m : Stream S) (inner : Inner S) (c : Code) (tagged : Bool) (x : Spans) (s r : State S) (q : Bool → Option Tree)
     → eat m template_kind s ≡ Ok r → q ≡ quasi m inner (content (input m s)) (first_span (input m s))
     → quasi_step m inner c tagged x s ≡ quasi_end m inner c tagged x q r
 unfolding quasi_step

@@ -3,7 +3,7 @@ use Rattle.std.specs.Prelude.{Bool, [], Option, Some}
 use Rattle.ecma_tree.specs.Tree.{Tree, tpl_element}
 use Rattle.ecma_node.specs.declared.expressions.TplElement.{TplElement}
 use Rattle.ecma_syntax.specs.Input.{Code}
-use Rattle.ecma_reading.specs.Source.{Machine, Inner, Read, iterate, bound}
+use Rattle.ecma_reading.specs.Source.{Stream, Inner, Read, iterate, bound}
 use Rattle.ecma_reading.specs.Expressions.{Spans, quasi_step}
 
 -- the element that they make, by whether it is the last
@@ -14,5 +14,5 @@ abbrev pub no_spans : Spans
 no_spans = record { exprs = []; quasis = [] }
 
 -- what stands in a template, after its first back quote (13.2.8)
-unfoldable pub spans_by : {S : Type 0} → Machine S → Inner S → Code → Bool → Read S Spans
+unfoldable pub spans_by : {S : Type 0} → Stream S → Inner S → Code → Bool → Read S Spans
 spans_by m inner c tagged s = iterate (bound m) (quasi_step m inner c tagged) no_spans s

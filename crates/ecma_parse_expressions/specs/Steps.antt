@@ -5,25 +5,25 @@ use Rattle.ecma_tree.specs.Tree.{Tree, update_expr, tagged_tpl}
 use Rattle.ecma_syntax.specs.Input.{Code, kind, kind2, brk}
 use Rattle.ecma_syntax.specs.Operators.{assignment_level, coalesce_level, new_level, call_level}
 use Rattle.ecma_syntax.specs.Shape.{level}
-use Rattle.ecma_reading.specs.Source.{unexpected, ◌>>=◌, Machine, Stand, Read, Inner, input, past, spanned}
+use Rattle.ecma_reading.specs.Source.{unexpected, ◌>>=◌, Stream, State, Read, Inner, input, past, spanned}
 use Rattle.ecma_reading.specs.Expressions.{extended, template_by, chain_by, cond_by}
 
-module _ {S : Type 0} (m : Machine S) where
+module _ {S : Type 0} (m : Stream S) where
   -- `++` or `--` behind its operand, on its line (13.4)
-  unfoldable pub postfix_by : Stand S → Tree → Read S Tree
+  unfoldable pub postfix_by : State S → Tree → Read S Tree
   postfix_by start t s = if nat_le new_level (level t) && not (brk (input m s)) then Ok (update_expr (spanned m start (past m s)) (kind (input m s)) false t, past m s) else unexpected
 
-module _ {S : Type 0} (m : Machine S) (inner : Inner S) where
+module _ {S : Type 0} (m : Stream S) (inner : Inner S) where
   -- a comma and one more expression (13.16)
-  unfoldable pub sequence_by : Code → Stand S → Tree → Read S Tree
+  unfoldable pub sequence_by : Code → State S → Tree → Read S Tree
   sequence_by c start t s = inner.expr c assignment_level (past m s) >>= λ e. Ok (extended t e.0 (spanned m start e.1), e.1)
 
   -- `?`: of a chain where a dot follows (13.3), else of a conditional (13.14)
-  unfoldable pub question_by : Code → Stand S → Tree → Read S Tree
+  unfoldable pub question_by : Code → State S → Tree → Read S Tree
   question_by c start t s =
       if kind2 (input m s) == dot_kind then (if nat_le call_level (level t) then chain_by m inner c start t (past m (past m s)) else unexpected)
       else (if nat_le coalesce_level (level t) then cond_by m inner c start t s else unexpected)
 
   -- a template behind its tag (13.3)
-  unfoldable pub tagged_by : Code → Stand S → Tree → Read S Tree
+  unfoldable pub tagged_by : Code → State S → Tree → Read S Tree
   tagged_by c start t s = template_by m inner c true s >>= λ q. Ok (tagged_tpl (spanned m start q.1) t q.0, q.1)

@@ -9,8 +9,8 @@ ghost use Rattle.ecma_reading.specs.Source as spec;
 ghost use Rattle.ecma_reading.specs.Expressions as reads;
 ghost use Rattle.ecma_parse_state.specs.Answers.{Falls, Gives, going_on};
 ghost use Rattle.ecma_parse_state.specs.Codes.{code_of};
-ghost use Rattle.ecma_parse_state.specs.Fronts.{machine_of};
-ghost use Rattle.ecma_parse_state.specs.Stands.{from, from_span, stand};
+ghost use Rattle.ecma_parse_state.specs.Cursors.{stream_of};
+ghost use Rattle.ecma_parse_state.specs.States.{from, from_span, state_of};
 ghost use Rattle.ecma_parse_base.specs.Lists.{arguments_of, elements_of, FitArguments, FitElements};
 ghost use Rattle.ecma_parse_base.specs.Operands.{tree_of};
 
@@ -38,8 +38,8 @@ pub fn conditional<'a, I: Tokens<'a> + Drop, N: Nested<'a, I>>(
     test: Operand,
 ) -> Result<Operand, Failure>
     requires ready { N.ready nested.now }
-    ensures value { Gives (λ x. (tree_of x, stand I.state p.new)) result (reads.cond_by (machine_of I.machine) (N.reads nested.now I.State I.machine) (code_of code) (from start.0) (tree_of test) (stand I.state p.old)) }
-    ensures shorter { Falls result (spec.bound (machine_of I.machine) (stand I.state p.new)) (spec.bound (machine_of I.machine) (stand I.state p.old)) }
+    ensures value { Gives (λ x. (tree_of x, state_of I.state p.new)) result (reads.cond_by (stream_of I.machine) (N.reads nested.now I.State I.machine) (code_of code) (from start.0) (tree_of test) (state_of I.state p.old)) }
+    ensures shorter { Falls result (spec.bound (stream_of I.machine) (state_of I.state p.new)) (spec.bound (stream_of I.machine) (state_of I.state p.old)) }
 {
     p.bump()?;
     let cons = nested.expr(p, with_in(code), ASSIGNMENT)?;
@@ -60,10 +60,10 @@ pub fn binary<'a, I: Tokens<'a> + Drop, N: Nested<'a, I>>(
     left: Operand,
 ) -> Result<Operand, Failure>
     requires ready { N.ready nested.now }
-    requires op { binary_op_kind op ≡ kind (spec.input (machine_of I.machine) (stand I.state p.old)) }
-    requires some { kind (spec.input (machine_of I.machine) (stand I.state p.old)) ≢ 0 }
-    ensures value { Gives (λ x. (tree_of x, stand I.state p.new)) result (reads.binary_by (machine_of I.machine) (N.reads nested.now I.State I.machine) (code_of code) (from start.0) (tree_of left) (stand I.state p.old)) }
-    ensures shorter { Falls result (spec.bound (machine_of I.machine) (stand I.state p.new)) (spec.bound (machine_of I.machine) (stand I.state p.old)) }
+    requires op { binary_op_kind op ≡ kind (spec.input (stream_of I.machine) (state_of I.state p.old)) }
+    requires some { kind (spec.input (stream_of I.machine) (state_of I.state p.old)) ≢ 0 }
+    ensures value { Gives (λ x. (tree_of x, state_of I.state p.new)) result (reads.binary_by (stream_of I.machine) (N.reads nested.now I.State I.machine) (code_of code) (from start.0) (tree_of left) (state_of I.state p.old)) }
+    ensures shorter { Falls result (spec.bound (stream_of I.machine) (state_of I.state p.new)) (spec.bound (stream_of I.machine) (state_of I.state p.old)) }
 {
     let kind = p.kind();
     p.eat_word(code, kind)?;
@@ -83,9 +83,9 @@ pub fn assignment<'a, I: Tokens<'a> + Drop, N: Nested<'a, I>>(
     left: Operand,
 ) -> Result<Operand, Failure>
     requires ready { N.ready nested.now }
-    requires op { assign_op_kind op ≡ kind (spec.input (machine_of I.machine) (stand I.state p.old)) }
-    ensures value { Gives (λ x. (tree_of x, stand I.state p.new)) result (reads.assign_by (machine_of I.machine) (N.reads nested.now I.State I.machine) (code_of code) (from start.0) (tree_of left) (stand I.state p.old)) }
-    ensures shorter { Falls result (spec.bound (machine_of I.machine) (stand I.state p.new)) (spec.bound (machine_of I.machine) (stand I.state p.old)) }
+    requires op { assign_op_kind op ≡ kind (spec.input (stream_of I.machine) (state_of I.state p.old)) }
+    ensures value { Gives (λ x. (tree_of x, state_of I.state p.new)) result (reads.assign_by (stream_of I.machine) (N.reads nested.now I.State I.machine) (code_of code) (from start.0) (tree_of left) (state_of I.state p.old)) }
+    ensures shorter { Falls result (spec.bound (stream_of I.machine) (state_of I.state p.new)) (spec.bound (stream_of I.machine) (state_of I.state p.old)) }
 {
     let target = nested.target(p, p.kind(), left)?;
     p.bump()?;
@@ -101,9 +101,9 @@ pub fn member_name<'a, I: Tokens<'a> + Drop, N: Nested<'a, I>>(
     nested: &N,
 ) -> Result<MemberProp, Failure>
     requires ready { N.ready nested.now }
-    ensures value { Gives (λ x. (view_member_prop inner x, stand I.state p.new)) result (reads.member_name (machine_of I.machine) (N.reads nested.now I.State I.machine) true (stand I.state p.old)) }
+    ensures value { Gives (λ x. (view_member_prop inner x, state_of I.state p.new)) result (reads.member_name (stream_of I.machine) (N.reads nested.now I.State I.machine) true (state_of I.state p.old)) }
     ensures fits { IfOk result (λ x. fits_member_prop (λ p. p) x) }
-    ensures shorter { Falls result (spec.bound (machine_of I.machine) (stand I.state p.new)) (spec.bound (machine_of I.machine) (stand I.state p.old)) }
+    ensures shorter { Falls result (spec.bound (stream_of I.machine) (state_of I.state p.new)) (spec.bound (stream_of I.machine) (state_of I.state p.old)) }
 {
     if p.at(kinds::HASH) {
         return Ok(MemberProp::PrivateName(private_name(p, nested)?));
@@ -124,8 +124,8 @@ pub fn member<'a, I: Tokens<'a> + Drop, N: Nested<'a, I>>(
     obj: Operand,
 ) -> Result<Operand, Failure>
     requires ready { N.ready nested.now }
-    ensures value { Gives (λ x. (tree_of x, stand I.state p.new)) result (reads.member_by (machine_of I.machine) (N.reads nested.now I.State I.machine) (code_of _code) (from start.0) (tree_of obj) (stand I.state p.old)) }
-    ensures shorter { Falls result (spec.bound (machine_of I.machine) (stand I.state p.new)) (spec.bound (machine_of I.machine) (stand I.state p.old)) }
+    ensures value { Gives (λ x. (tree_of x, state_of I.state p.new)) result (reads.member_by (stream_of I.machine) (N.reads nested.now I.State I.machine) (code_of _code) (from start.0) (tree_of obj) (state_of I.state p.old)) }
+    ensures shorter { Falls result (spec.bound (stream_of I.machine) (state_of I.state p.new)) (spec.bound (stream_of I.machine) (state_of I.state p.old)) }
 {
     p.bump()?;
     let prop = member_name(p, nested)?;
@@ -143,8 +143,8 @@ pub fn index<'a, I: Tokens<'a> + Drop, N: Nested<'a, I>>(
     obj: Operand,
 ) -> Result<Operand, Failure>
     requires ready { N.ready nested.now }
-    ensures value { Gives (λ x. (tree_of x, stand I.state p.new)) result (reads.index_by (machine_of I.machine) (N.reads nested.now I.State I.machine) (code_of code) (from start.0) (tree_of obj) (stand I.state p.old)) }
-    ensures shorter { Falls result (spec.bound (machine_of I.machine) (stand I.state p.new)) (spec.bound (machine_of I.machine) (stand I.state p.old)) }
+    ensures value { Gives (λ x. (tree_of x, state_of I.state p.new)) result (reads.index_by (stream_of I.machine) (N.reads nested.now I.State I.machine) (code_of code) (from start.0) (tree_of obj) (state_of I.state p.old)) }
+    ensures shorter { Falls result (spec.bound (stream_of I.machine) (state_of I.state p.new)) (spec.bound (stream_of I.machine) (state_of I.state p.old)) }
 {
     let key = computed(p, nested, code, EXPRESSION)?;
     made::member_of(p.alloc, p.since(start), obj, MemberProp::Computed(key))
@@ -161,8 +161,8 @@ pub fn call<'a, I: Tokens<'a> + Drop, N: Nested<'a, I>>(
     callee: Operand,
 ) -> Result<Operand, Failure>
     requires ready { N.ready nested.now }
-    ensures value { Gives (λ x. (tree_of x, stand I.state p.new)) result (reads.call_by (machine_of I.machine) (N.reads nested.now I.State I.machine) (code_of code) (from start.0) (tree_of callee) (stand I.state p.old)) }
-    ensures shorter { Falls result (spec.bound (machine_of I.machine) (stand I.state p.new)) (spec.bound (machine_of I.machine) (stand I.state p.old)) }
+    ensures value { Gives (λ x. (tree_of x, state_of I.state p.new)) result (reads.call_by (stream_of I.machine) (N.reads nested.now I.State I.machine) (code_of code) (from start.0) (tree_of callee) (state_of I.state p.old)) }
+    ensures shorter { Falls result (spec.bound (stream_of I.machine) (state_of I.state p.new)) (spec.bound (stream_of I.machine) (state_of I.state p.old)) }
 {
     p.bump()?;
     let args = arguments(p, nested, code)?;
@@ -180,8 +180,8 @@ pub fn chain<'a, I: Tokens<'a> + Drop, N: Nested<'a, I>>(
     obj: Operand,
 ) -> Result<Operand, Failure>
     requires ready { N.ready nested.now }
-    ensures value { Gives (λ x. (tree_of x, stand I.state p.new)) result (reads.chain_by (machine_of I.machine) (N.reads nested.now I.State I.machine) (code_of code) (from start.0) (tree_of obj) (stand I.state p.old)) }
-    ensures shorter { Falls result (spec.bound (machine_of I.machine) (stand I.state p.new)) (spec.bound (machine_of I.machine) (stand I.state p.old)) }
+    ensures value { Gives (λ x. (tree_of x, state_of I.state p.new)) result (reads.chain_by (stream_of I.machine) (N.reads nested.now I.State I.machine) (code_of code) (from start.0) (tree_of obj) (state_of I.state p.old)) }
+    ensures shorter { Falls result (spec.bound (stream_of I.machine) (state_of I.state p.new)) (spec.bound (stream_of I.machine) (state_of I.state p.old)) }
 {
     if p.eat(kinds::LEFT_PAREN)? {
         let args = arguments(p, nested, code)?;

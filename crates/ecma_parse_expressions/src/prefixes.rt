@@ -9,8 +9,8 @@ ghost use Rattle.ecma_reading.specs.Source as spec;
 ghost use Rattle.ecma_reading.specs.Expressions as reads;
 ghost use Rattle.ecma_parse_state.specs.Answers.{Falls, Gives, going_on, Stays};
 ghost use Rattle.ecma_parse_state.specs.Codes.{code_of};
-ghost use Rattle.ecma_parse_state.specs.Fronts.{machine_of};
-ghost use Rattle.ecma_parse_state.specs.Stands.{from, from_span, stand};
+ghost use Rattle.ecma_parse_state.specs.Cursors.{stream_of};
+ghost use Rattle.ecma_parse_state.specs.States.{from, from_span, state_of};
 ghost use Rattle.ecma_parse_base.specs.Lists.{arguments_of, elements_of, FitArguments, FitElements};
 ghost use Rattle.ecma_parse_base.specs.Operands.{tree_of};
 ghost use Rattle.ecma_parse_expressions.specs.Words.{fixed_word};
@@ -27,14 +27,14 @@ use std::convert::AsStr;
 
 /// A literal.
 #[inline(never)]
-#[tactic(auto, using(ecma_parse_state::proofs::Marks::marks), unfolding(ecma_reading::specs::Expressions::literal_by, ecma_parse_state::specs::Fronts::machine_of))]
+#[tactic(auto, using(ecma_parse_state::proofs::Marks::marks), unfolding(ecma_reading::specs::Expressions::literal_by, ecma_parse_state::specs::Cursors::stream_of))]
 pub fn literal<'a, I: Tokens<'a> + Drop, N: Nested<'a, I>>(
     p: &mut Parser<'a, I>,
     _nested: &N,
 ) -> Result<Operand, Failure>
     requires ready { N.ready _nested.now }
-    ensures value { Gives (λ x. (tree_of x, stand I.state p.new)) result (reads.literal_by (machine_of I.machine) (N.reads _nested.now I.State I.machine) (stand I.state p.old)) }
-    ensures shorter { Falls result (spec.bound (machine_of I.machine) (stand I.state p.new)) (spec.bound (machine_of I.machine) (stand I.state p.old)) }
+    ensures value { Gives (λ x. (tree_of x, state_of I.state p.new)) result (reads.literal_by (stream_of I.machine) (N.reads _nested.now I.State I.machine) (state_of I.state p.old)) }
+    ensures shorter { Falls result (spec.bound (stream_of I.machine) (state_of I.state p.new)) (spec.bound (stream_of I.machine) (state_of I.state p.old)) }
 {
     let span = p.place();
     let fault = p.unexpected();
@@ -55,9 +55,9 @@ pub fn literal<'a, I: Tokens<'a> + Drop, N: Nested<'a, I>>(
 /// Takes a word that is a word of the grammar here, for its place.
 #[tactic(auto, unfolding(crate::specs::Words::fixed_word))]
 pub fn fixed<'a, I: Tokens<'a> + Drop>(p: &mut Parser<'a, I>, code: Around) -> Result<Span, Failure>
-    requires { kind (spec.input (machine_of I.machine) (stand I.state p.old)) ≢ 0 }
-    ensures value { Gives (λ x. (x, stand I.state p.new)) result (fixed_word (machine_of I.machine) (code_of code) (stand I.state p.old)) }
-    ensures shorter { Falls result (spec.bound (machine_of I.machine) (stand I.state p.new)) (spec.bound (machine_of I.machine) (stand I.state p.old)) }
+    requires { kind (spec.input (stream_of I.machine) (state_of I.state p.old)) ≢ 0 }
+    ensures value { Gives (λ x. (x, state_of I.state p.new)) result (fixed_word (stream_of I.machine) (code_of code) (state_of I.state p.old)) }
+    ensures shorter { Falls result (spec.bound (stream_of I.machine) (state_of I.state p.new)) (spec.bound (stream_of I.machine) (state_of I.state p.old)) }
 {
     let start = p.lo();
     p.eat_word(code, p.kind())?;
@@ -74,10 +74,10 @@ pub fn unary<'a, I: Tokens<'a> + Drop, N: Nested<'a, I>>(
     op: UnaryOp,
 ) -> Result<Operand, Failure>
     requires ready { N.ready nested.now }
-    requires op { unary_op_word op ≡ kind (spec.input (machine_of I.machine) (stand I.state p.old)) }
-    requires some { kind (spec.input (machine_of I.machine) (stand I.state p.old)) ≢ 0 }
-    ensures value { Gives (λ x. (tree_of x, stand I.state p.new)) result (reads.unary_by (machine_of I.machine) (N.reads nested.now I.State I.machine) (code_of code) (stand I.state p.old)) }
-    ensures shorter { Falls result (spec.bound (machine_of I.machine) (stand I.state p.new)) (spec.bound (machine_of I.machine) (stand I.state p.old)) }
+    requires op { unary_op_word op ≡ kind (spec.input (stream_of I.machine) (state_of I.state p.old)) }
+    requires some { kind (spec.input (stream_of I.machine) (state_of I.state p.old)) ≢ 0 }
+    ensures value { Gives (λ x. (tree_of x, state_of I.state p.new)) result (reads.unary_by (stream_of I.machine) (N.reads nested.now I.State I.machine) (code_of code) (state_of I.state p.old)) }
+    ensures shorter { Falls result (spec.bound (stream_of I.machine) (state_of I.state p.new)) (spec.bound (stream_of I.machine) (state_of I.state p.old)) }
 {
     let start = p.lo();
     p.eat_word(code, p.kind())?;
@@ -95,9 +95,9 @@ pub fn update<'a, I: Tokens<'a> + Drop, N: Nested<'a, I>>(
     op: UpdateOp,
 ) -> Result<Operand, Failure>
     requires ready { N.ready nested.now }
-    requires op { update_op_word op ≡ kind (spec.input (machine_of I.machine) (stand I.state p.old)) }
-    ensures value { Gives (λ x. (tree_of x, stand I.state p.new)) result (reads.update_by (machine_of I.machine) (N.reads nested.now I.State I.machine) (code_of code) (stand I.state p.old)) }
-    ensures shorter { Falls result (spec.bound (machine_of I.machine) (stand I.state p.new)) (spec.bound (machine_of I.machine) (stand I.state p.old)) }
+    requires op { update_op_word op ≡ kind (spec.input (stream_of I.machine) (state_of I.state p.old)) }
+    ensures value { Gives (λ x. (tree_of x, state_of I.state p.new)) result (reads.update_by (stream_of I.machine) (N.reads nested.now I.State I.machine) (code_of code) (state_of I.state p.old)) }
+    ensures shorter { Falls result (spec.bound (stream_of I.machine) (state_of I.state p.new)) (spec.bound (stream_of I.machine) (state_of I.state p.old)) }
 {
     let start = p.lo();
     p.bump()?;
@@ -114,8 +114,8 @@ pub fn awaited<'a, I: Tokens<'a> + Drop, N: Nested<'a, I>>(
     code: Around,
 ) -> Result<Operand, Failure>
     requires ready { N.ready nested.now }
-    ensures value { Gives (λ x. (tree_of x, stand I.state p.new)) result (reads.await_by (machine_of I.machine) (N.reads nested.now I.State I.machine) (code_of code) (stand I.state p.old)) }
-    ensures shorter { Falls result (spec.bound (machine_of I.machine) (stand I.state p.new)) (spec.bound (machine_of I.machine) (stand I.state p.old)) }
+    ensures value { Gives (λ x. (tree_of x, state_of I.state p.new)) result (reads.await_by (stream_of I.machine) (N.reads nested.now I.State I.machine) (code_of code) (state_of I.state p.old)) }
+    ensures shorter { Falls result (spec.bound (stream_of I.machine) (state_of I.state p.new)) (spec.bound (stream_of I.machine) (state_of I.state p.old)) }
 {
     let start = p.lo();
     p.eat_word(code, kinds::AWAIT)?;
@@ -129,7 +129,7 @@ pub fn ends_yield<'a, I: Tokens<'a> + Drop, N: Nested<'a, I>>(
     _nested: &N,
     kind: u8,
 ) -> bool
-    ensures { result ≡ reads.ends_yield (machine_of I.machine) (N.reads _nested.now I.State I.machine) kind }
+    ensures { result ≡ reads.ends_yield (stream_of I.machine) (N.reads _nested.now I.State I.machine) kind }
 {
     matches!(
         kind,
@@ -154,8 +154,8 @@ pub fn yield_end<'a, I: Tokens<'a> + Drop, N: Nested<'a, I>>(
     start: BytePos,
 ) -> Result<Operand, Failure>
     requires ready { N.ready nested.now }
-    ensures value { Gives (λ x. (tree_of x, stand I.state p.new)) result (reads.yield_end (machine_of I.machine) (N.reads nested.now I.State I.machine) (code_of code) (from start.0) (stand I.state p.old)) }
-    ensures not_longer { Stays result (spec.bound (machine_of I.machine) (stand I.state p.new)) (spec.bound (machine_of I.machine) (stand I.state p.old)) }
+    ensures value { Gives (λ x. (tree_of x, state_of I.state p.new)) result (reads.yield_end (stream_of I.machine) (N.reads nested.now I.State I.machine) (code_of code) (from start.0) (state_of I.state p.old)) }
+    ensures not_longer { Stays result (spec.bound (stream_of I.machine) (state_of I.state p.new)) (spec.bound (stream_of I.machine) (state_of I.state p.old)) }
 {
     if p.breaks() || ends_yield(p, nested, p.kind()) {
         return made::bare_yield(p.alloc, p.since(start));
@@ -177,8 +177,8 @@ pub fn array<'a, I: Tokens<'a> + Drop, N: Nested<'a, I>>(
     code: Around,
 ) -> Result<Operand, Failure>
     requires ready { N.ready nested.now }
-    ensures value { Gives (λ x. (tree_of x, stand I.state p.new)) result (reads.array_by (machine_of I.machine) (N.reads nested.now I.State I.machine) (code_of code) (stand I.state p.old)) }
-    ensures shorter { Falls result (spec.bound (machine_of I.machine) (stand I.state p.new)) (spec.bound (machine_of I.machine) (stand I.state p.old)) }
+    ensures value { Gives (λ x. (tree_of x, state_of I.state p.new)) result (reads.array_by (stream_of I.machine) (N.reads nested.now I.State I.machine) (code_of code) (state_of I.state p.old)) }
+    ensures shorter { Falls result (spec.bound (stream_of I.machine) (state_of I.state p.new)) (spec.bound (stream_of I.machine) (state_of I.state p.old)) }
 {
     let start = p.lo();
     p.bump()?;
@@ -199,8 +199,8 @@ pub fn callee<'a, I: Tokens<'a> + Drop, N: Nested<'a, I>>(
     code: Around,
 ) -> Result<Operand, Failure>
     requires ready { N.ready nested.now }
-    ensures value { Gives (λ x. (tree_of x, stand I.state p.new)) result (reads.callee_by (machine_of I.machine) (N.reads nested.now I.State I.machine) (code_of code) (stand I.state p.old)) }
-    ensures shorter { Falls result (spec.bound (machine_of I.machine) (stand I.state p.new)) (spec.bound (machine_of I.machine) (stand I.state p.old)) }
+    ensures value { Gives (λ x. (tree_of x, state_of I.state p.new)) result (reads.callee_by (stream_of I.machine) (N.reads nested.now I.State I.machine) (code_of code) (state_of I.state p.old)) }
+    ensures shorter { Falls result (spec.bound (stream_of I.machine) (state_of I.state p.new)) (spec.bound (stream_of I.machine) (state_of I.state p.old)) }
 {
     if p.at(kinds::ASYNC) {
         let (second, _) = p.second()?;
@@ -223,8 +223,8 @@ pub fn super_end<'a, I: Tokens<'a> + Drop, N: Nested<'a, I>>(
     place: Span,
 ) -> Result<Operand, Failure>
     requires ready { N.ready nested.now }
-    ensures value { Gives (λ x. (tree_of x, stand I.state p.new)) result (reads.super_end (machine_of I.machine) (N.reads nested.now I.State I.machine) (code_of code) (from_span place) (stand I.state p.old)) }
-    ensures shorter { Falls result (spec.bound (machine_of I.machine) (stand I.state p.new)) (spec.bound (machine_of I.machine) (stand I.state p.old)) }
+    ensures value { Gives (λ x. (tree_of x, state_of I.state p.new)) result (reads.super_end (stream_of I.machine) (N.reads nested.now I.State I.machine) (code_of code) (from_span place) (state_of I.state p.old)) }
+    ensures shorter { Falls result (spec.bound (stream_of I.machine) (state_of I.state p.new)) (spec.bound (stream_of I.machine) (state_of I.state p.old)) }
 {
     if p.eat(kinds::LEFT_PAREN)? {
         let args = arguments(p, nested, code)?;
@@ -262,8 +262,8 @@ pub fn yielded<'a, I: Tokens<'a> + Drop, N: Nested<'a, I>>(
     code: Around,
 ) -> Result<Operand, Failure>
     requires ready { N.ready nested.now }
-    ensures value { Gives (λ x. (tree_of x, stand I.state p.new)) result (reads.yield_by (machine_of I.machine) (N.reads nested.now I.State I.machine) (code_of code) (stand I.state p.old)) }
-    ensures shorter { Falls result (spec.bound (machine_of I.machine) (stand I.state p.new)) (spec.bound (machine_of I.machine) (stand I.state p.old)) }
+    ensures value { Gives (λ x. (tree_of x, state_of I.state p.new)) result (reads.yield_by (stream_of I.machine) (N.reads nested.now I.State I.machine) (code_of code) (state_of I.state p.old)) }
+    ensures shorter { Falls result (spec.bound (stream_of I.machine) (state_of I.state p.new)) (spec.bound (stream_of I.machine) (state_of I.state p.old)) }
 {
     let start = p.lo();
     p.eat_word(code, kinds::YIELD)?;

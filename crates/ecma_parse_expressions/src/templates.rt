@@ -10,8 +10,8 @@ ghost use Rattle.ecma_reading.specs.Expressions as reads;
 ghost use Rattle.ecma_parse_state.specs.Answers.{Falls, Gives, going_on, IsMemory};
 ghost use Rattle.ecma_tree.specs.Tree.{pack, tpl};
 ghost use Rattle.ecma_parse_state.specs.Codes.{code_of};
-ghost use Rattle.ecma_parse_state.specs.Fronts.{machine_of};
-ghost use Rattle.ecma_parse_state.specs.Stands.{from, stand};
+ghost use Rattle.ecma_parse_state.specs.Cursors.{stream_of};
+ghost use Rattle.ecma_parse_state.specs.States.{from, state_of};
 ghost use Rattle.ecma_parse_base.specs.Lists.{spans_of, FitSpans};
 ghost use Rattle.ecma_parse_base.specs.Operands.{tree_of};
 ghost use Rattle.ecma_parse_expressions.specs.Pieces.{element_at, spans_by};
@@ -54,9 +54,9 @@ pub fn characters_end<'a, I: Tokens<'a> + Drop, N: Nested<'a, I>>(
     requires ready { N.ready nested.now }
     requires fits { FitSpans spans.old }
     requires tail { element.tail ≡ false }
-    ensures value { Gives (λ x. (going_on x (spans_of spans.new), stand I.state p.new)) result (reads.quasi_end (machine_of I.machine) (N.reads nested.now I.State I.machine) (code_of code) tagged (spans_of spans.old) (element_at element) (stand I.state p.old)) }
+    ensures value { Gives (λ x. (going_on x (spans_of spans.new), state_of I.state p.new)) result (reads.quasi_end (stream_of I.machine) (N.reads nested.now I.State I.machine) (code_of code) tagged (spans_of spans.old) (element_at element) (state_of I.state p.old)) }
     ensures fits { IfOk result (λ _. FitSpans spans.new) }
-    ensures shorter { Falls result (spec.bound (machine_of I.machine) (stand I.state p.new)) (spec.bound (machine_of I.machine) (stand I.state p.old)) }
+    ensures shorter { Falls result (spec.bound (stream_of I.machine) (state_of I.state p.new)) (spec.bound (stream_of I.machine) (state_of I.state p.old)) }
 {
     let mut element = element;
     let fits = tagged || element.cooked.is_some();
@@ -80,15 +80,15 @@ pub fn characters_end<'a, I: Tokens<'a> + Drop, N: Nested<'a, I>>(
 
 /// The characters of a template that come. The token is let go here, so that a nested template has no such frame below it.
 #[inline(never)]
-#[tactic(auto, using(ecma_parse_state::proofs::Marks::marks), unfolding(ecma_reading::specs::Source::eat, ecma_parse_state::specs::Fronts::machine_of))]
+#[tactic(auto, using(ecma_parse_state::proofs::Marks::marks), unfolding(ecma_reading::specs::Source::eat, ecma_parse_state::specs::Cursors::stream_of))]
 fn quasi<'a, I: Tokens<'a> + Drop, N: Nested<'a, I>>(
     p: &mut Parser<'a, I>,
     _nested: &N,
 ) -> Result<TplElement, Failure>
-    ensures value { Gives (λ _. stand I.state p.new) result (spec.eat (machine_of I.machine) template_kind (stand I.state p.old)) }
-    ensures element { IfOk result (λ x. element_at x ≡ reads.quasi (machine_of I.machine) (N.reads _nested.now I.State I.machine) (content (spec.input (machine_of I.machine) (stand I.state p.old))) (first_span (spec.input (machine_of I.machine) (stand I.state p.old)))) }
+    ensures value { Gives (λ _. state_of I.state p.new) result (spec.eat (stream_of I.machine) template_kind (state_of I.state p.old)) }
+    ensures element { IfOk result (λ x. element_at x ≡ reads.quasi (stream_of I.machine) (N.reads _nested.now I.State I.machine) (content (spec.input (stream_of I.machine) (state_of I.state p.old))) (first_span (spec.input (stream_of I.machine) (state_of I.state p.old)))) }
     ensures tail { IfOk result (λ x. x.tail ≡ false) }
-    ensures shorter { Falls result (spec.bound (machine_of I.machine) (stand I.state p.new)) (spec.bound (machine_of I.machine) (stand I.state p.old)) }
+    ensures shorter { Falls result (spec.bound (stream_of I.machine) (state_of I.state p.new)) (spec.bound (stream_of I.machine) (state_of I.state p.old)) }
 {
     let span = p.place();
     let fault = p.unexpected();
@@ -113,9 +113,9 @@ pub fn characters<'a, I: Tokens<'a> + Drop, N: Nested<'a, I>>(
 ) -> Result<bool, Failure>
     requires ready { N.ready nested.now }
     requires fits { FitSpans spans.old }
-    ensures value { Gives (λ x. (going_on x (spans_of spans.new), stand I.state p.new)) result (reads.quasi_step (machine_of I.machine) (N.reads nested.now I.State I.machine) (code_of code) tagged (spans_of spans.old) (stand I.state p.old)) }
+    ensures value { Gives (λ x. (going_on x (spans_of spans.new), state_of I.state p.new)) result (reads.quasi_step (stream_of I.machine) (N.reads nested.now I.State I.machine) (code_of code) tagged (spans_of spans.old) (state_of I.state p.old)) }
     ensures fits { IfOk result (λ _. FitSpans spans.new) }
-    ensures shorter { Falls result (spec.bound (machine_of I.machine) (stand I.state p.new)) (spec.bound (machine_of I.machine) (stand I.state p.old)) }
+    ensures shorter { Falls result (spec.bound (stream_of I.machine) (state_of I.state p.new)) (spec.bound (stream_of I.machine) (state_of I.state p.old)) }
 {
     let element = quasi(p, nested)?;
     characters_end(p, nested, code, tagged, element, spans)
@@ -131,9 +131,9 @@ pub fn spans<'a, I: Tokens<'a> + Drop, N: Nested<'a, I>>(
     tagged: bool,
 ) -> Result<Spans, Failure>
     requires ready { N.ready nested.now }
-    ensures value { Gives (λ x. (spans_of x, stand I.state p.new)) result (spans_by (machine_of I.machine) (N.reads nested.now I.State I.machine) (code_of code) tagged (stand I.state p.old)) }
+    ensures value { Gives (λ x. (spans_of x, state_of I.state p.new)) result (spans_by (stream_of I.machine) (N.reads nested.now I.State I.machine) (code_of code) tagged (state_of I.state p.old)) }
     ensures fits { IfOk result (λ x. FitSpans x) }
-    ensures shorter { Falls result (spec.bound (machine_of I.machine) (stand I.state p.new)) (spec.bound (machine_of I.machine) (stand I.state p.old)) }
+    ensures shorter { Falls result (spec.bound (stream_of I.machine) (state_of I.state p.new)) (spec.bound (stream_of I.machine) (state_of I.state p.old)) }
 {
     let mut spans = Spans {
         exprs: Vec::new(p.alloc),
@@ -169,9 +169,9 @@ pub fn template<'a, I: Tokens<'a> + Drop, N: Nested<'a, I>>(
     tagged: bool,
 ) -> Result<Box<Tpl>, Failure>
     requires ready { N.ready nested.now }
-    ensures value { Gives (λ x. (view_tpl inner x.value, stand I.state p.new)) result (reads.template_by (machine_of I.machine) (N.reads nested.now I.State I.machine) (code_of code) tagged (stand I.state p.old)) }
+    ensures value { Gives (λ x. (view_tpl inner x.value, state_of I.state p.new)) result (reads.template_by (stream_of I.machine) (N.reads nested.now I.State I.machine) (code_of code) tagged (state_of I.state p.old)) }
     ensures fits { IfOk result (λ x. fits_tpl (λ p. p) x.value) }
-    ensures shorter { Falls result (spec.bound (machine_of I.machine) (stand I.state p.new)) (spec.bound (machine_of I.machine) (stand I.state p.old)) }
+    ensures shorter { Falls result (spec.bound (stream_of I.machine) (state_of I.state p.new)) (spec.bound (stream_of I.machine) (state_of I.state p.old)) }
 {
     let start = p.lo();
     p.bump()?;
@@ -190,8 +190,8 @@ pub fn tagged<'a, I: Tokens<'a> + Drop, N: Nested<'a, I>>(
     tag: Operand,
 ) -> Result<Operand, Failure>
     requires ready { N.ready nested.now }
-    ensures value { Gives (λ x. (tree_of x, stand I.state p.new)) result (tagged_by (machine_of I.machine) (N.reads nested.now I.State I.machine) (code_of code) (from start.0) (tree_of tag) (stand I.state p.old)) }
-    ensures shorter { Falls result (spec.bound (machine_of I.machine) (stand I.state p.new)) (spec.bound (machine_of I.machine) (stand I.state p.old)) }
+    ensures value { Gives (λ x. (tree_of x, state_of I.state p.new)) result (tagged_by (stream_of I.machine) (N.reads nested.now I.State I.machine) (code_of code) (from start.0) (tree_of tag) (state_of I.state p.old)) }
+    ensures shorter { Falls result (spec.bound (stream_of I.machine) (state_of I.state p.new)) (spec.bound (stream_of I.machine) (state_of I.state p.old)) }
 {
     let tpl = template(p, nested, code, true)?;
     made::tagged_tpl(p.alloc, p.since(start), tag, tpl)

@@ -10,8 +10,8 @@ ghost use Rattle.ecma_reading.specs.Source as spec;
 ghost use Rattle.ecma_reading.specs.Expressions as reads;
 ghost use Rattle.ecma_parse_state.specs.Answers.{Falls, Gives, going_on, Stays};
 ghost use Rattle.ecma_parse_state.specs.Codes.{code_of};
-ghost use Rattle.ecma_parse_state.specs.Fronts.{machine_of};
-ghost use Rattle.ecma_parse_state.specs.Stands.{from, from_span, stand};
+ghost use Rattle.ecma_parse_state.specs.Cursors.{stream_of};
+ghost use Rattle.ecma_parse_state.specs.States.{from, from_span, state_of};
 ghost use Rattle.ecma_parse_base.specs.Lists.{arguments_of, elements_of, FitArguments, FitElements};
 ghost use Rattle.ecma_parse_base.specs.Operands.{tree_of};
 ghost use Rattle.ecma_parse_expressions.specs.Steps.{postfix_by, question_by, sequence_by};
@@ -38,8 +38,8 @@ pub fn sequence<'a, I: Tokens<'a> + Drop, N: Nested<'a, I>>(
     left: Operand,
 ) -> Result<Operand, Failure>
     requires ready { N.ready nested.now }
-    ensures value { Gives (λ x. (tree_of x, stand I.state p.new)) result (sequence_by (machine_of I.machine) (N.reads nested.now I.State I.machine) (code_of code) (from start.0) (tree_of left) (stand I.state p.old)) }
-    ensures shorter { Falls result (spec.bound (machine_of I.machine) (stand I.state p.new)) (spec.bound (machine_of I.machine) (stand I.state p.old)) }
+    ensures value { Gives (λ x. (tree_of x, state_of I.state p.new)) result (sequence_by (stream_of I.machine) (N.reads nested.now I.State I.machine) (code_of code) (from start.0) (tree_of left) (state_of I.state p.old)) }
+    ensures shorter { Falls result (spec.bound (stream_of I.machine) (state_of I.state p.new)) (spec.bound (stream_of I.machine) (state_of I.state p.old)) }
 {
     p.bump()?;
     let right = nested.expr(p, code, ASSIGNMENT)?;
@@ -57,9 +57,9 @@ pub fn question<'a, I: Tokens<'a> + Drop, N: Nested<'a, I>>(
     left: Operand,
 ) -> Result<Operand, Failure>
     requires ready { N.ready nested.now }
-    requires mark { kind (spec.input (machine_of I.machine) (stand I.state p.old)) ≡ question_mark_kind }
-    ensures value { Gives (λ x. (tree_of x, stand I.state p.new)) result (question_by (machine_of I.machine) (N.reads nested.now I.State I.machine) (code_of code) (from start.0) (tree_of left) (stand I.state p.old)) }
-    ensures shorter { Falls result (spec.bound (machine_of I.machine) (stand I.state p.new)) (spec.bound (machine_of I.machine) (stand I.state p.old)) }
+    requires mark { kind (spec.input (stream_of I.machine) (state_of I.state p.old)) ≡ question_mark_kind }
+    ensures value { Gives (λ x. (tree_of x, state_of I.state p.new)) result (question_by (stream_of I.machine) (N.reads nested.now I.State I.machine) (code_of code) (from start.0) (tree_of left) (state_of I.state p.old)) }
+    ensures shorter { Falls result (spec.bound (stream_of I.machine) (state_of I.state p.new)) (spec.bound (stream_of I.machine) (state_of I.state p.old)) }
 {
     let (second, _) = p.second()?;
     if second != kinds::DOT {
@@ -85,10 +85,10 @@ pub fn postfix<'a, I: Tokens<'a> + Drop>(
     op: UpdateOp,
     left: Operand,
 ) -> Result<Operand, Failure>
-    requires mark { update_op_word op ≡ kind (spec.input (machine_of I.machine) (stand I.state p.old)) }
-    requires some { kind (spec.input (machine_of I.machine) (stand I.state p.old)) ≢ 0 }
-    ensures value { Gives (λ x. (tree_of x, stand I.state p.new)) result (postfix_by (machine_of I.machine) (from start.0) (tree_of left) (stand I.state p.old)) }
-    ensures shorter { Falls result (spec.bound (machine_of I.machine) (stand I.state p.new)) (spec.bound (machine_of I.machine) (stand I.state p.old)) }
+    requires mark { update_op_word op ≡ kind (spec.input (stream_of I.machine) (state_of I.state p.old)) }
+    requires some { kind (spec.input (stream_of I.machine) (state_of I.state p.old)) ≢ 0 }
+    ensures value { Gives (λ x. (tree_of x, state_of I.state p.new)) result (postfix_by (stream_of I.machine) (from start.0) (tree_of left) (state_of I.state p.old)) }
+    ensures shorter { Falls result (spec.bound (stream_of I.machine) (state_of I.state p.new)) (spec.bound (stream_of I.machine) (state_of I.state p.old)) }
 {
     if left.level < NEW_LEVEL {
         return Err(p.unexpected());
@@ -111,8 +111,8 @@ pub fn step<'a, I: Tokens<'a> + Drop, N: Nested<'a, I>>(
     left: Operand,
 ) -> Result<Operand, Failure>
     requires ready { N.ready nested.now }
-    ensures value { Gives (λ x. (tree_of x, stand I.state p.new)) result (reads.step_by (machine_of I.machine) (N.reads nested.now I.State I.machine) (code_of code) (from start.0) (tree_of left) (stand I.state p.old)) }
-    ensures shorter { Falls result (spec.bound (machine_of I.machine) (stand I.state p.new)) (spec.bound (machine_of I.machine) (stand I.state p.old)) }
+    ensures value { Gives (λ x. (tree_of x, state_of I.state p.new)) result (reads.step_by (stream_of I.machine) (N.reads nested.now I.State I.machine) (code_of code) (from start.0) (tree_of left) (state_of I.state p.old)) }
+    ensures shorter { Falls result (spec.bound (stream_of I.machine) (state_of I.state p.new)) (spec.bound (stream_of I.machine) (state_of I.state p.old)) }
 {
     let kind = p.kind();
     if kind == kinds::END {
@@ -160,9 +160,9 @@ pub fn turn<'a, I: Tokens<'a> + Drop, N: Nested<'a, I>>(
     left: Operand,
 ) -> Result<(bool, Operand), Failure>
     requires ready { N.ready nested.now }
-    ensures value { Gives (λ x. (going_on x.0 (tree_of x.1), stand I.state p.new)) result (reads.loop_step (machine_of I.machine) (N.reads nested.now I.State I.machine) (code_of code) least (from start.0) (tree_of left) (stand I.state p.old)) }
-    ensures shorter { IfOk result (λ x. IsTrue x.0 → spec.bound (machine_of I.machine) (stand I.state p.new) < spec.bound (machine_of I.machine) (stand I.state p.old)) }
-    ensures not_longer { Stays result (spec.bound (machine_of I.machine) (stand I.state p.new)) (spec.bound (machine_of I.machine) (stand I.state p.old)) }
+    ensures value { Gives (λ x. (going_on x.0 (tree_of x.1), state_of I.state p.new)) result (reads.loop_step (stream_of I.machine) (N.reads nested.now I.State I.machine) (code_of code) least (from start.0) (tree_of left) (state_of I.state p.old)) }
+    ensures shorter { IfOk result (λ x. IsTrue x.0 → spec.bound (stream_of I.machine) (state_of I.state p.new) < spec.bound (stream_of I.machine) (state_of I.state p.old)) }
+    ensures not_longer { Stays result (spec.bound (stream_of I.machine) (state_of I.state p.new)) (spec.bound (stream_of I.machine) (state_of I.state p.old)) }
 {
     let level = p.goes(code, left.end)?;
     if level < least {
@@ -184,8 +184,8 @@ pub fn operators<'a, I: Tokens<'a> + Drop, N: Nested<'a, I>>(
     first: Operand,
 ) -> Result<Operand, Failure>
     requires ready { N.ready nested.now }
-    ensures value { Gives (λ x. (tree_of x, stand I.state p.new)) result (reads.loop_by (machine_of I.machine) (N.reads nested.now I.State I.machine) (code_of code) least (from start.0) (tree_of first) (stand I.state p.old)) }
-    ensures not_longer { Stays result (spec.bound (machine_of I.machine) (stand I.state p.new)) (spec.bound (machine_of I.machine) (stand I.state p.old)) }
+    ensures value { Gives (λ x. (tree_of x, state_of I.state p.new)) result (reads.loop_by (stream_of I.machine) (N.reads nested.now I.State I.machine) (code_of code) least (from start.0) (tree_of first) (state_of I.state p.old)) }
+    ensures not_longer { Stays result (spec.bound (stream_of I.machine) (state_of I.state p.new)) (spec.bound (stream_of I.machine) (state_of I.state p.old)) }
 {
     if first.level < least {
         if first.level == NEW_LEVEL && least == MEMBER {

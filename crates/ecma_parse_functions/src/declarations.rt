@@ -5,8 +5,8 @@ ghost use Rattle.ecma_reading.specs.Source as spec;
 ghost use Rattle.ecma_reading.specs.Statements as reads;
 ghost use Rattle.ecma_parse_state.specs.Answers.{Falls, Gives};
 ghost use Rattle.ecma_parse_state.specs.Codes.{code_of};
-ghost use Rattle.ecma_parse_state.specs.Fronts.{machine_of};
-ghost use Rattle.ecma_parse_state.specs.Stands.{from, stand};
+ghost use Rattle.ecma_parse_state.specs.Cursors.{stream_of};
+ghost use Rattle.ecma_parse_state.specs.States.{from, state_of};
 
 use crate::functions::function;
 use crate::heads::star;
@@ -28,9 +28,9 @@ pub fn function_decl<'a, I: Tokens<'a> + Drop, N: Nested<'a, I>>(
     is_async: bool,
 ) -> Result<StmtBox, Failure>
     requires ready { N.ready nested.now }
-    ensures value { Gives (λ x. (inner x.part.value, stand I.state p.new)) result (reads.function_decl_by (machine_of I.machine) (N.reads nested.now I.State I.machine) (code_of code) (from start.0) is_async (stand I.state p.old)) }
+    ensures value { Gives (λ x. (inner x.part.value, state_of I.state p.new)) result (reads.function_decl_by (stream_of I.machine) (N.reads nested.now I.State I.machine) (code_of code) (from start.0) is_async (state_of I.state p.old)) }
     ensures holds { IfOk result (λ x. holds_stmt x.part.value) }
-    ensures shorter { Falls result (spec.bound (machine_of I.machine) (stand I.state p.new)) (spec.bound (machine_of I.machine) (stand I.state p.old)) }
+    ensures shorter { Falls result (spec.bound (stream_of I.machine) (state_of I.state p.new)) (spec.bound (stream_of I.machine) (state_of I.state p.old)) }
 {
     p.eat_word(code, kinds::FUNCTION)?;
     let generator = star(p, nested)?;

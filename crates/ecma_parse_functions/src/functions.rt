@@ -8,8 +8,8 @@ ghost use Rattle.ecma_reading.specs.Source as spec;
 ghost use Rattle.ecma_reading.specs.Expressions as reads;
 ghost use Rattle.ecma_parse_state.specs.Answers.{Falls, Gives, going_on, IsSyntax};
 ghost use Rattle.ecma_parse_state.specs.Codes.{code_of};
-ghost use Rattle.ecma_parse_state.specs.Fronts.{machine_of};
-ghost use Rattle.ecma_parse_state.specs.Stands.{stand};
+ghost use Rattle.ecma_parse_state.specs.Cursors.{stream_of};
+ghost use Rattle.ecma_parse_state.specs.States.{state_of};
 
 use crate::made;
 use ecma_node::{Function, Param, PatKind};
@@ -29,9 +29,9 @@ pub fn parameter<'a, I: Tokens<'a> + Drop, N: Nested<'a, I>>(
     code: Around,
 ) -> Result<Param, Failure>
     requires ready { N.ready nested.now }
-    ensures value { Gives (λ x. (view_param inner x, stand I.state p.new)) result (reads.parameter_by (machine_of I.machine) (N.reads nested.now I.State I.machine) (code_of code) (stand I.state p.old)) }
+    ensures value { Gives (λ x. (view_param inner x, state_of I.state p.new)) result (reads.parameter_by (stream_of I.machine) (N.reads nested.now I.State I.machine) (code_of code) (state_of I.state p.old)) }
     ensures fits { IfOk result (λ x. fits_param (λ p. p) x) }
-    ensures shorter { Falls result (spec.bound (machine_of I.machine) (stand I.state p.new)) (spec.bound (machine_of I.machine) (stand I.state p.old)) }
+    ensures shorter { Falls result (spec.bound (stream_of I.machine) (state_of I.state p.new)) (spec.bound (stream_of I.machine) (state_of I.state p.old)) }
 {
     let start = p.lo();
     if p.eat(kinds::DOT_DOT_DOT)? {
@@ -54,7 +54,7 @@ pub fn is_rest<'a, I: Tokens<'a> + Drop, N: Nested<'a, I>>(
     param: &Param,
 ) -> bool
     requires { fits_param (λ p. p) param.now }
-    ensures { result ≡ reads.is_rest_param (machine_of I.machine) (N.reads _nested.now I.State I.machine) (view_param inner param.now) }
+    ensures { result ≡ reads.is_rest_param (stream_of I.machine) (N.reads _nested.now I.State I.machine) (view_param inner param.now) }
 {
     matches!(&param.pat.get().kind, PatKind::Rest(_))
 }
@@ -70,9 +70,9 @@ pub fn parameter_turn<'a, I: Tokens<'a> + Drop, N: Nested<'a, I>>(
 ) -> Result<bool, Failure>
     requires ready { N.ready nested.now }
     requires fits { All (λ x. fits_param (λ p. p) x) params.old.items }
-    ensures value { Gives (λ x. (going_on x (map (view_param inner) params.new.items), stand I.state p.new)) result (reads.parameter_step (machine_of I.machine) (N.reads nested.now I.State I.machine) (code_of code) (map (view_param inner) params.old.items) (stand I.state p.old)) }
+    ensures value { Gives (λ x. (going_on x (map (view_param inner) params.new.items), state_of I.state p.new)) result (reads.parameter_step (stream_of I.machine) (N.reads nested.now I.State I.machine) (code_of code) (map (view_param inner) params.old.items) (state_of I.state p.old)) }
     ensures fits { IfOk result (λ _. All (λ x. fits_param (λ p. p) x) params.new.items) }
-    ensures shorter { Falls result (spec.bound (machine_of I.machine) (stand I.state p.new)) (spec.bound (machine_of I.machine) (stand I.state p.old)) }
+    ensures shorter { Falls result (spec.bound (stream_of I.machine) (state_of I.state p.new)) (spec.bound (stream_of I.machine) (state_of I.state p.old)) }
 {
     if p.eat(kinds::RIGHT_PAREN)? {
         return Ok(false);
@@ -96,9 +96,9 @@ pub fn parameters<'a, I: Tokens<'a> + Drop, N: Nested<'a, I>>(
     code: Around,
 ) -> Result<Vec<Param>, Failure>
     requires ready { N.ready nested.now }
-    ensures value { Gives (λ x. (map (view_param inner) x.items, stand I.state p.new)) result (reads.parameters_by (machine_of I.machine) (N.reads nested.now I.State I.machine) (code_of code) (stand I.state p.old)) }
+    ensures value { Gives (λ x. (map (view_param inner) x.items, state_of I.state p.new)) result (reads.parameters_by (stream_of I.machine) (N.reads nested.now I.State I.machine) (code_of code) (state_of I.state p.old)) }
     ensures fits { IfOk result (λ x. All (λ x. fits_param (λ p. p) x) x.items) }
-    ensures shorter { Falls result (spec.bound (machine_of I.machine) (stand I.state p.new)) (spec.bound (machine_of I.machine) (stand I.state p.old)) }
+    ensures shorter { Falls result (spec.bound (stream_of I.machine) (state_of I.state p.new)) (spec.bound (stream_of I.machine) (state_of I.state p.old)) }
 {
     p.expect(kinds::LEFT_PAREN)?;
     let mut params = Vec::new(p.alloc);
@@ -118,9 +118,9 @@ pub fn function<'a, I: Tokens<'a> + Drop, N: Nested<'a, I>>(
     is_async: bool,
 ) -> Result<Box<Function>, Failure>
     requires ready { N.ready nested.now }
-    ensures value { Gives (λ x. (view_function inner x.value, stand I.state p.new)) result (reads.function_by (machine_of I.machine) (N.reads nested.now I.State I.machine) (code_of code) whole.0 generator is_async (stand I.state p.old)) }
+    ensures value { Gives (λ x. (view_function inner x.value, state_of I.state p.new)) result (reads.function_by (stream_of I.machine) (N.reads nested.now I.State I.machine) (code_of code) whole.0 generator is_async (state_of I.state p.old)) }
     ensures fits { IfOk result (λ x. fits_function (λ p. p) x.value) }
-    ensures shorter { Falls result (spec.bound (machine_of I.machine) (stand I.state p.new)) (spec.bound (machine_of I.machine) (stand I.state p.old)) }
+    ensures shorter { Falls result (spec.bound (stream_of I.machine) (state_of I.state p.new)) (spec.bound (stream_of I.machine) (state_of I.state p.old)) }
 {
     let inside = in_body(generator, is_async, code);
     let params = parameters(p, nested, inside)?;
@@ -145,8 +145,8 @@ pub fn close_parameters<'a, I: Tokens<'a> + Drop>(
     p: &mut Parser<'a, I>,
     kind: SyntaxError,
 ) -> Result<(), Failure>
-    ensures value { Gives (λ _. stand I.state p.new) result (spec.eat (machine_of I.machine) right_paren_kind (stand I.state p.old)) }
-    ensures shorter { Falls result (spec.bound (machine_of I.machine) (stand I.state p.new)) (spec.bound (machine_of I.machine) (stand I.state p.old)) }
+    ensures value { Gives (λ _. state_of I.state p.new) result (spec.eat (stream_of I.machine) right_paren_kind (state_of I.state p.old)) }
+    ensures shorter { Falls result (spec.bound (stream_of I.machine) (state_of I.state p.new)) (spec.bound (stream_of I.machine) (state_of I.state p.old)) }
 {
     if p.eat(kinds::RIGHT_PAREN)? {
         return Ok(());
@@ -172,9 +172,9 @@ pub fn setter_parameter<'a, I: Tokens<'a> + Drop, N: Nested<'a, I>>(
     code: Around,
 ) -> Result<Param, Failure>
     requires ready { N.ready nested.now }
-    ensures value { Gives (λ x. (view_param inner x, stand I.state p.new)) result (reads.setter_parameter (machine_of I.machine) (N.reads nested.now I.State I.machine) (code_of code) (stand I.state p.old)) }
+    ensures value { Gives (λ x. (view_param inner x, state_of I.state p.new)) result (reads.setter_parameter (stream_of I.machine) (N.reads nested.now I.State I.machine) (code_of code) (state_of I.state p.old)) }
     ensures fits { IfOk result (λ x. fits_param (λ p. p) x) }
-    ensures shorter { Falls result (spec.bound (machine_of I.machine) (stand I.state p.new)) (spec.bound (machine_of I.machine) (stand I.state p.old)) }
+    ensures shorter { Falls result (spec.bound (stream_of I.machine) (state_of I.state p.new)) (spec.bound (stream_of I.machine) (state_of I.state p.old)) }
 {
     p.expect(kinds::LEFT_PAREN)?;
     let place = p.place();

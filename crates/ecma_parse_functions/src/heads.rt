@@ -3,8 +3,8 @@ ghost use Rattle.std.specs.Prelude.{◌≡◌, ◌<◌, IfErr, IfOk};
 ghost use Rattle.ecma_reading.specs.Source as spec;
 ghost use Rattle.ecma_reading.specs.Expressions as reads;
 ghost use Rattle.ecma_parse_state.specs.Answers.{Gives, IsMemory, Stays};
-ghost use Rattle.ecma_parse_state.specs.Fronts.{machine_of};
-ghost use Rattle.ecma_parse_state.specs.Stands.{stand};
+ghost use Rattle.ecma_parse_state.specs.Cursors.{stream_of};
+ghost use Rattle.ecma_parse_state.specs.States.{state_of};
 
 use ecma_parse_base::Nested;
 use ecma_parse_state::operators::starts_key;
@@ -22,7 +22,7 @@ pub fn is_accessor<'a, I: Tokens<'a> + Drop, N: Nested<'a, I>>(
     kind: u8,
 ) -> Result<bool, Failure>
     requires { 0 < kind }
-    ensures value { IfOk result (λ b. b ≡ reads.is_accessor (machine_of I.machine) (N.reads _nested.now I.State I.machine) kind (stand I.state p.now)) }
+    ensures value { IfOk result (λ b. b ≡ reads.is_accessor (stream_of I.machine) (N.reads _nested.now I.State I.machine) kind (state_of I.state p.now)) }
     ensures full { IfErr result IsMemory }
 {
     if !p.at(kind) {
@@ -41,7 +41,7 @@ pub fn is_async_head<'a, I: Tokens<'a> + Drop, N: Nested<'a, I>>(
     p: &Parser<'a, I>,
     _nested: &N,
 ) -> Result<bool, Failure>
-    ensures value { IfOk result (λ b. b ≡ reads.is_async_head (machine_of I.machine) (N.reads _nested.now I.State I.machine) (stand I.state p.now)) }
+    ensures value { IfOk result (λ b. b ≡ reads.is_async_head (stream_of I.machine) (N.reads _nested.now I.State I.machine) (state_of I.state p.now)) }
     ensures full { IfErr result IsMemory }
 {
     if !p.at(kinds::ASYNC) {
@@ -61,8 +61,8 @@ pub fn star<'a, I: Tokens<'a> + Drop, N: Nested<'a, I>>(
     p: &mut Parser<'a, I>,
     _nested: &N,
 ) -> Result<bool, Failure>
-    ensures value { Gives (λ b. (b, stand I.state p.new)) result (reads.star (machine_of I.machine) (N.reads _nested.now I.State I.machine) (stand I.state p.old)) }
-    ensures not_longer { Stays result (spec.bound (machine_of I.machine) (stand I.state p.new)) (spec.bound (machine_of I.machine) (stand I.state p.old)) }
+    ensures value { Gives (λ b. (b, state_of I.state p.new)) result (reads.star (stream_of I.machine) (N.reads _nested.now I.State I.machine) (state_of I.state p.old)) }
+    ensures not_longer { Stays result (spec.bound (stream_of I.machine) (state_of I.state p.new)) (spec.bound (stream_of I.machine) (state_of I.state p.old)) }
 {
     p.eat(kinds::MUL)
 }

@@ -8,8 +8,8 @@ ghost use Rattle.ecma_reading.specs.Source as spec;
 ghost use Rattle.ecma_reading.specs.Expressions as reads;
 ghost use Rattle.ecma_parse_state.specs.Answers.{Falls, Gives};
 ghost use Rattle.ecma_parse_state.specs.Codes.{code_of};
-ghost use Rattle.ecma_parse_state.specs.Fronts.{machine_of};
-ghost use Rattle.ecma_parse_state.specs.Stands.{stand};
+ghost use Rattle.ecma_parse_state.specs.Cursors.{stream_of};
+ghost use Rattle.ecma_parse_state.specs.States.{state_of};
 
 use crate::made;
 use ecma_node::{IdentName, PropName};
@@ -23,16 +23,16 @@ use std::convert::AsStr;
 
 /// A literal as a key, which no regular expression is.
 #[inline(never)]
-#[tactic(auto, unfolding(ecma_reading::specs::Expressions::literal_by, ecma_parse_state::specs::Fronts::machine_of))]
+#[tactic(auto, unfolding(ecma_reading::specs::Expressions::literal_by, ecma_parse_state::specs::Cursors::stream_of))]
 pub fn literal_key<'a, I: Tokens<'a> + Drop, N: Nested<'a, I>>(
     p: &mut Parser<'a, I>,
     _nested: &N,
 ) -> Result<PropName, Failure>
     requires ready { N.ready _nested.now }
-    requires other { spec.at (machine_of I.machine) regex_kind (stand I.state p.old) ≡ false }
-    ensures value { Gives (λ x. (view_prop_name inner x, stand I.state p.new)) result (reads.literal_by (machine_of I.machine) (N.reads _nested.now I.State I.machine) (stand I.state p.old)) }
+    requires other { spec.at (stream_of I.machine) regex_kind (state_of I.state p.old) ≡ false }
+    ensures value { Gives (λ x. (view_prop_name inner x, state_of I.state p.new)) result (reads.literal_by (stream_of I.machine) (N.reads _nested.now I.State I.machine) (state_of I.state p.old)) }
     ensures fits { IfOk result (λ x. fits_prop_name (λ p. p) x) }
-    ensures shorter { Falls result (spec.bound (machine_of I.machine) (stand I.state p.new)) (spec.bound (machine_of I.machine) (stand I.state p.old)) }
+    ensures shorter { Falls result (spec.bound (stream_of I.machine) (state_of I.state p.new)) (spec.bound (stream_of I.machine) (state_of I.state p.old)) }
 {
     let span = p.place();
     let fault = p.unexpected();
@@ -58,9 +58,9 @@ pub fn key<'a, I: Tokens<'a> + Drop, N: Nested<'a, I>>(
     code: Around,
 ) -> Result<PropName, Failure>
     requires ready { N.ready nested.now }
-    ensures value { Gives (λ x. (view_prop_name inner x, stand I.state p.new)) result (reads.key_by (machine_of I.machine) (N.reads nested.now I.State I.machine) (code_of code) (stand I.state p.old)) }
+    ensures value { Gives (λ x. (view_prop_name inner x, state_of I.state p.new)) result (reads.key_by (stream_of I.machine) (N.reads nested.now I.State I.machine) (code_of code) (state_of I.state p.old)) }
     ensures fits { IfOk result (λ x. fits_prop_name (λ p. p) x) }
-    ensures shorter { Falls result (spec.bound (machine_of I.machine) (stand I.state p.new)) (spec.bound (machine_of I.machine) (stand I.state p.old)) }
+    ensures shorter { Falls result (spec.bound (stream_of I.machine) (state_of I.state p.new)) (spec.bound (stream_of I.machine) (state_of I.state p.old)) }
 {
     if p.at(kinds::LEFT_BRACKET) {
         return Ok(PropName::Computed(computed(p, nested, code, ASSIGNMENT)?));

@@ -4,16 +4,16 @@ use Rattle.ecma_token.specs.Kinds.{in_kind, let_kind, of_kind, async_kind}
 use Rattle.ecma_tree.specs.Tree.{Tree}
 use Rattle.ecma_syntax.specs.Input.{Code, kind2, rest}
 use Rattle.ecma_reading.specs.Cover.{to_head}
-use Rattle.ecma_reading.specs.Source.{Machine, Inner, Read, Stand, unexpected, ◌>>=◌, at, input, past}
+use Rattle.ecma_reading.specs.Source.{Stream, Inner, Read, State, unexpected, ◌>>=◌, at, input, past}
 use Rattle.ecma_reading.specs.Statements as reads
 
 -- what may not stand before `of`: `let`, and `async` before `of` itself (14.7.5)
-abbrev pub bars_of : {S : Type 0} → Machine S → Bool → Stand S → Bool
+abbrev pub bars_of : {S : Type 0} → Stream S → Bool → State S → Bool
 bars_of m awaits s = at m let_kind s || (not awaits && (at m async_kind s && (kind2 (input m s) == of_kind)))
 
-module _ {S : Type 0} (m : Machine S) (inner : Inner S) where
+module _ {S : Type 0} (m : Stream S) (inner : Inner S) where
   -- after the expression that heads a `for` (14.7.5)
-  unfoldable pub for_target : Code → Stand S → Bool → Bool → Tree → Read S Tree
+  unfoldable pub for_target : Code → State S → Bool → Bool → Tree → Read S Tree
   for_target c start awaits barred e s =
       if at m of_kind s then (if barred then unexpected else (to_head s.commas e >>= λ l. reads.of_rest m inner c start awaits l s))
       else (if awaits then unexpected
@@ -21,7 +21,7 @@ module _ {S : Type 0} (m : Machine S) (inner : Inner S) where
       else reads.for_rest m inner c start e s))
 
   -- a head that begins with `using`, or with an expression (14.7.5)
-  unfoldable pub using_head : Code → Stand S → Bool → Read S Tree
+  unfoldable pub using_head : Code → State S → Bool → Read S Tree
   using_head c start awaits s =
       if reads.starts_using m inner c s && not (kind2 (input m s) == of_kind) then reads.for_using m inner c start awaits s false s
       else (if reads.starts_await_using m inner c s && not (kind2 (rest (input m s)) == of_kind) then reads.for_using m inner c start awaits s true (past m s)

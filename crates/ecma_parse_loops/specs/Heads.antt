@@ -6,7 +6,7 @@ use Rattle.ecma_syntax.specs.Input.{Code}
 use Rattle.ecma_node.specs.Fits.{fits_using_decl, fits_var_decl}
 use Rattle.ecma_node.specs.Placed.{inner}
 use Rattle.ecma_node.specs.View.{view_using_decl, view_var_decl, view_var_declarator}
-use Rattle.ecma_reading.specs.Source.{Machine, Inner, Read, ◌>>=◌, eat}
+use Rattle.ecma_reading.specs.Source.{Stream, Inner, Read, ◌>>=◌, eat}
 use Rattle.ecma_reading.specs.Statements.{sub_by}
 use Rattle.ecma_parse_loops.specs.declared.for_heads.Declared.{Declared}
 use Rattle.ecma_parse_loops.specs.declared.for_heads.Declared.TheVariants as Declared
@@ -24,5 +24,5 @@ FitDeclared (Declared.Variables x) = fits_var_decl (λ p. p) x.value
 FitDeclared (Declared.Using x) = fits_using_decl (λ p. p) x.value
 
 -- what is iterated over, and the body (14.7.5)
-unfoldable pub over_by : {S : Type 0} → Machine S → Inner S → Code → ℕ → Read S (Tree × Tree)
+unfoldable pub over_by : {S : Type 0} → Stream S → Inner S → Code → ℕ → Read S (Tree × Tree)
 over_by m inside c l s = inside.expr c l s >>= λ e. eat m right_paren_kind e.1 >>= λ r. sub_by m inside c false r >>= λ b. Ok ((e.0, b.0), b.1)

@@ -9,8 +9,8 @@ ghost use Rattle.ecma_reading.specs.Source as spec;
 ghost use Rattle.ecma_reading.specs.Statements as reads;
 ghost use Rattle.ecma_parse_state.specs.Answers.{Falls, Gives};
 ghost use Rattle.ecma_parse_state.specs.Codes.{code_of};
-ghost use Rattle.ecma_parse_state.specs.Fronts.{machine_of};
-ghost use Rattle.ecma_parse_state.specs.Stands.{from, stand};
+ghost use Rattle.ecma_parse_state.specs.Cursors.{stream_of};
+ghost use Rattle.ecma_parse_state.specs.States.{from, state_of};
 ghost use Rattle.ecma_parse_loops.specs.Heads.{declared_of, FitDeclared, view_declared};
 
 use crate::for_tails::{for_rest, in_rest, of_rest};
@@ -53,7 +53,7 @@ fn one_bare<'a, I: Tokens<'a> + Drop, N: Nested<'a, I>>(
     items: &[VarDeclarator],
 ) -> bool
     requires { All (λ x. fits_var_declarator (λ p. p) x) items.now }
-    ensures { result ≡ reads.one_bare (machine_of I.machine) (N.reads _nested.now I.State I.machine) (map (view_var_declarator inner) items.now) }
+    ensures { result ≡ reads.one_bare (stream_of I.machine) (N.reads _nested.now I.State I.machine) (map (view_var_declarator inner) items.now) }
 {
     match items {
         [item] => is_bare(item),
@@ -92,7 +92,7 @@ fn declares_one<'a, I: Tokens<'a> + Drop, N: Nested<'a, I>>(
     declared: &Declared,
 ) -> bool
     requires { FitDeclared declared.now }
-    ensures { result ≡ reads.one_bare (machine_of I.machine) (N.reads nested.now I.State I.machine) (declared_of declared.now) }
+    ensures { result ≡ reads.one_bare (stream_of I.machine) (N.reads nested.now I.State I.machine) (declared_of declared.now) }
 {
     match declared {
         Declared::Variables(x) => one_bare(p, nested, x.decls.as_slice()),
@@ -113,9 +113,9 @@ pub fn head_rest<'a, I: Tokens<'a> + Drop, N: Nested<'a, I>>(
 ) -> Result<StmtBox, Failure>
     requires ready { N.ready nested.now }
     requires declared { FitDeclared declared }
-    ensures value { Gives (λ x. (inner x.part.value, stand I.state p.new)) result (reads.head_rest (machine_of I.machine) (N.reads nested.now I.State I.machine) (code_of code) (from start.0) awaits (declared_of declared) (view_declared declared) (stand I.state p.old)) }
+    ensures value { Gives (λ x. (inner x.part.value, state_of I.state p.new)) result (reads.head_rest (stream_of I.machine) (N.reads nested.now I.State I.machine) (code_of code) (from start.0) awaits (declared_of declared) (view_declared declared) (state_of I.state p.old)) }
     ensures holds { IfOk result (λ x. holds_stmt x.part.value) }
-    ensures shorter { Falls result (spec.bound (machine_of I.machine) (stand I.state p.new)) (spec.bound (machine_of I.machine) (stand I.state p.old)) }
+    ensures shorter { Falls result (spec.bound (stream_of I.machine) (state_of I.state p.new)) (spec.bound (stream_of I.machine) (state_of I.state p.old)) }
 {
     if p.at(kinds::OF) {
         if !declares_one(p, nested, &declared) {
@@ -147,11 +147,11 @@ pub fn for_variables<'a, I: Tokens<'a> + Drop, N: Nested<'a, I>>(
     word: VarDeclKind,
 ) -> Result<StmtBox, Failure>
     requires ready { N.ready nested.now }
-    requires word { var_decl_kind_word word ≡ kind (spec.input (machine_of I.machine) (stand I.state p.old)) }
-    requires some { kind (spec.input (machine_of I.machine) (stand I.state p.old)) ≢ 0 }
-    ensures value { Gives (λ x. (inner x.part.value, stand I.state p.new)) result (reads.for_variables (machine_of I.machine) (N.reads nested.now I.State I.machine) (code_of code) (from start.0) awaits (stand I.state p.old)) }
+    requires word { var_decl_kind_word word ≡ kind (spec.input (stream_of I.machine) (state_of I.state p.old)) }
+    requires some { kind (spec.input (stream_of I.machine) (state_of I.state p.old)) ≢ 0 }
+    ensures value { Gives (λ x. (inner x.part.value, state_of I.state p.new)) result (reads.for_variables (stream_of I.machine) (N.reads nested.now I.State I.machine) (code_of code) (from start.0) awaits (state_of I.state p.old)) }
     ensures holds { IfOk result (λ x. holds_stmt x.part.value) }
-    ensures shorter { Falls result (spec.bound (machine_of I.machine) (stand I.state p.new)) (spec.bound (machine_of I.machine) (stand I.state p.old)) }
+    ensures shorter { Falls result (spec.bound (stream_of I.machine) (state_of I.state p.new)) (spec.bound (stream_of I.machine) (state_of I.state p.old)) }
 {
     let own = p.lo();
     p.eat_word(code, p.kind())?;
@@ -173,9 +173,9 @@ pub fn for_using<'a, I: Tokens<'a> + Drop, N: Nested<'a, I>>(
     waits: bool,
 ) -> Result<StmtBox, Failure>
     requires ready { N.ready nested.now }
-    ensures value { Gives (λ x. (inner x.part.value, stand I.state p.new)) result (reads.for_using (machine_of I.machine) (N.reads nested.now I.State I.machine) (code_of code) (from start.0) awaits (from own.0) waits (stand I.state p.old)) }
+    ensures value { Gives (λ x. (inner x.part.value, state_of I.state p.new)) result (reads.for_using (stream_of I.machine) (N.reads nested.now I.State I.machine) (code_of code) (from start.0) awaits (from own.0) waits (state_of I.state p.old)) }
     ensures holds { IfOk result (λ x. holds_stmt x.part.value) }
-    ensures shorter { Falls result (spec.bound (machine_of I.machine) (stand I.state p.new)) (spec.bound (machine_of I.machine) (stand I.state p.old)) }
+    ensures shorter { Falls result (spec.bound (stream_of I.machine) (state_of I.state p.new)) (spec.bound (stream_of I.machine) (state_of I.state p.old)) }
 {
     p.eat_word(code, kinds::USING)?;
     let list = declarators(p, nested, without_in(code))?;

@@ -8,8 +8,8 @@ ghost use Rattle.ecma_reading.specs.Cover.{to_head, to_item};
 ghost use Rattle.ecma_reading.specs.Statements as reads;
 ghost use Rattle.ecma_parse_state.specs.Answers.{Falls, Gives, IsMemory};
 ghost use Rattle.ecma_parse_state.specs.Codes.{code_of};
-ghost use Rattle.ecma_parse_state.specs.Fronts.{machine_of};
-ghost use Rattle.ecma_parse_state.specs.Stands.{from, stand};
+ghost use Rattle.ecma_parse_state.specs.Cursors.{stream_of};
+ghost use Rattle.ecma_parse_state.specs.States.{from, state_of};
 ghost use Rattle.ecma_parse_base.specs.Operands.{tree_of};
 ghost use Rattle.ecma_parse_loops.specs.Fors.{bars_of, for_target, using_head};
 
@@ -35,7 +35,7 @@ fn is_assignment(expr: &Operand) -> bool
 /// What was read as an expression, as what a `for` with `in` or `of` assigns to.
 #[inline(never)]
 pub fn head<'a, I: Tokens<'a> + Drop>(p: &Parser<'a, I>, expr: Operand) -> Result<PatBox, Failure>
-    ensures value { Gives (λ x. inner x.part.value) result (to_head (stand I.state p.now).commas (tree_of expr)) }
+    ensures value { Gives (λ x. inner x.part.value) result (to_head (state_of I.state p.now).commas (tree_of expr)) }
     ensures holds { IfOk result (λ x. holds_pat x.part.value) }
 {
     if is_assignment(&expr) {
@@ -57,9 +57,9 @@ pub fn target<'a, I: Tokens<'a> + Drop, N: Nested<'a, I>>(
     expr: Operand,
 ) -> Result<StmtBox, Failure>
     requires ready { N.ready nested.now }
-    ensures value { Gives (λ x. (inner x.part.value, stand I.state p.new)) result (for_target (machine_of I.machine) (N.reads nested.now I.State I.machine) (code_of code) (from start.0) awaits barred (tree_of expr) (stand I.state p.old)) }
+    ensures value { Gives (λ x. (inner x.part.value, state_of I.state p.new)) result (for_target (stream_of I.machine) (N.reads nested.now I.State I.machine) (code_of code) (from start.0) awaits barred (tree_of expr) (state_of I.state p.old)) }
     ensures holds { IfOk result (λ x. holds_stmt x.part.value) }
-    ensures shorter { Falls result (spec.bound (machine_of I.machine) (stand I.state p.new)) (spec.bound (machine_of I.machine) (stand I.state p.old)) }
+    ensures shorter { Falls result (spec.bound (stream_of I.machine) (state_of I.state p.new)) (spec.bound (stream_of I.machine) (state_of I.state p.old)) }
 {
     if p.at(kinds::OF) {
         if barred {
@@ -81,7 +81,7 @@ pub fn target<'a, I: Tokens<'a> + Drop, N: Nested<'a, I>>(
 /// Whether the token that comes may not start what stands before `of`: `let`, and `async` before `of` itself.
 #[inline(never)]
 fn is_barred<'a, I: Tokens<'a> + Drop>(p: &Parser<'a, I>, awaits: bool) -> Result<bool, Failure>
-    ensures value { IfOk result (λ b. b ≡ bars_of (machine_of I.machine) awaits (stand I.state p.now)) }
+    ensures value { IfOk result (λ b. b ≡ bars_of (stream_of I.machine) awaits (state_of I.state p.now)) }
     ensures full { IfErr result IsMemory }
 {
     if p.at(kinds::LET) {
@@ -105,9 +105,9 @@ pub fn for_expression<'a, I: Tokens<'a> + Drop, N: Nested<'a, I>>(
     awaits: bool,
 ) -> Result<StmtBox, Failure>
     requires ready { N.ready nested.now }
-    ensures value { Gives (λ x. (inner x.part.value, stand I.state p.new)) result (reads.for_expression (machine_of I.machine) (N.reads nested.now I.State I.machine) (code_of code) (from start.0) awaits (stand I.state p.old)) }
+    ensures value { Gives (λ x. (inner x.part.value, state_of I.state p.new)) result (reads.for_expression (stream_of I.machine) (N.reads nested.now I.State I.machine) (code_of code) (from start.0) awaits (state_of I.state p.old)) }
     ensures holds { IfOk result (λ x. holds_stmt x.part.value) }
-    ensures shorter { Falls result (spec.bound (machine_of I.machine) (stand I.state p.new)) (spec.bound (machine_of I.machine) (stand I.state p.old)) }
+    ensures shorter { Falls result (spec.bound (stream_of I.machine) (state_of I.state p.new)) (spec.bound (stream_of I.machine) (state_of I.state p.old)) }
 {
     let barred = is_barred(p, awaits)?;
     if p.at(kinds::LET) && p.second()?.0 == kinds::LEFT_BRACKET {
@@ -128,7 +128,7 @@ fn heads_using<'a, I: Tokens<'a> + Drop, N: Nested<'a, I>>(
     nested: &N,
     code: Around,
 ) -> Result<bool, Failure>
-    ensures value { IfOk result (λ b. b ≡ (reads.starts_using (machine_of I.machine) (N.reads nested.now I.State I.machine) (code_of code) (stand I.state p.now) && not (kind2 (spec.input (machine_of I.machine) (stand I.state p.now)) == of_kind))) }
+    ensures value { IfOk result (λ b. b ≡ (reads.starts_using (stream_of I.machine) (N.reads nested.now I.State I.machine) (code_of code) (state_of I.state p.now) && not (kind2 (spec.input (stream_of I.machine) (state_of I.state p.now)) == of_kind))) }
     ensures full { IfErr result IsMemory }
 {
     if !p.at(kinds::USING) || !starts_using(p, nested, code)? {
@@ -149,7 +149,7 @@ fn heads_await_using<'a, I: Tokens<'a> + Drop, N: Nested<'a, I>>(
     nested: &N,
     code: Around,
 ) -> Result<bool, Failure>
-    ensures value { IfOk result (λ b. b ≡ (reads.starts_await_using (machine_of I.machine) (N.reads nested.now I.State I.machine) (code_of code) (stand I.state p.now) && not (kind2 (rest (spec.input (machine_of I.machine) (stand I.state p.now))) == of_kind))) }
+    ensures value { IfOk result (λ b. b ≡ (reads.starts_await_using (stream_of I.machine) (N.reads nested.now I.State I.machine) (code_of code) (state_of I.state p.now) && not (kind2 (rest (spec.input (stream_of I.machine) (state_of I.state p.now))) == of_kind))) }
     ensures full { IfErr result IsMemory }
 {
     if !starts_await_using(p, nested, code)? {
@@ -170,9 +170,9 @@ pub fn using_head<'a, I: Tokens<'a> + Drop, N: Nested<'a, I>>(
     awaits: bool,
 ) -> Result<StmtBox, Failure>
     requires ready { N.ready nested.now }
-    ensures value { Gives (λ x. (inner x.part.value, stand I.state p.new)) result (using_head (machine_of I.machine) (N.reads nested.now I.State I.machine) (code_of code) (from start.0) awaits (stand I.state p.old)) }
+    ensures value { Gives (λ x. (inner x.part.value, state_of I.state p.new)) result (using_head (stream_of I.machine) (N.reads nested.now I.State I.machine) (code_of code) (from start.0) awaits (state_of I.state p.old)) }
     ensures holds { IfOk result (λ x. holds_stmt x.part.value) }
-    ensures shorter { Falls result (spec.bound (machine_of I.machine) (stand I.state p.new)) (spec.bound (machine_of I.machine) (stand I.state p.old)) }
+    ensures shorter { Falls result (spec.bound (stream_of I.machine) (state_of I.state p.new)) (spec.bound (stream_of I.machine) (state_of I.state p.old)) }
 {
     let own = p.lo();
     if heads_using(p, nested, code)? {
@@ -196,9 +196,9 @@ pub fn for_head<'a, I: Tokens<'a> + Drop, N: Nested<'a, I>>(
     awaits: bool,
 ) -> Result<StmtBox, Failure>
     requires ready { N.ready nested.now }
-    ensures value { Gives (λ x. (inner x.part.value, stand I.state p.new)) result (reads.for_head (machine_of I.machine) (N.reads nested.now I.State I.machine) (code_of code) (from start.0) awaits (stand I.state p.old)) }
+    ensures value { Gives (λ x. (inner x.part.value, state_of I.state p.new)) result (reads.for_head (stream_of I.machine) (N.reads nested.now I.State I.machine) (code_of code) (from start.0) awaits (state_of I.state p.old)) }
     ensures holds { IfOk result (λ x. holds_stmt x.part.value) }
-    ensures shorter { Falls result (spec.bound (machine_of I.machine) (stand I.state p.new)) (spec.bound (machine_of I.machine) (stand I.state p.old)) }
+    ensures shorter { Falls result (spec.bound (stream_of I.machine) (state_of I.state p.new)) (spec.bound (stream_of I.machine) (state_of I.state p.old)) }
 {
     if p.at(kinds::SEMICOLON) {
         if awaits {
@@ -227,9 +227,9 @@ pub fn for_loop<'a, I: Tokens<'a> + Drop, N: Nested<'a, I>>(
     code: Around,
 ) -> Result<StmtBox, Failure>
     requires ready { N.ready nested.now }
-    ensures value { Gives (λ x. (inner x.part.value, stand I.state p.new)) result (reads.for_by (machine_of I.machine) (N.reads nested.now I.State I.machine) (code_of code) (stand I.state p.old)) }
+    ensures value { Gives (λ x. (inner x.part.value, state_of I.state p.new)) result (reads.for_by (stream_of I.machine) (N.reads nested.now I.State I.machine) (code_of code) (state_of I.state p.old)) }
     ensures holds { IfOk result (λ x. holds_stmt x.part.value) }
-    ensures shorter { Falls result (spec.bound (machine_of I.machine) (stand I.state p.new)) (spec.bound (machine_of I.machine) (stand I.state p.old)) }
+    ensures shorter { Falls result (spec.bound (stream_of I.machine) (state_of I.state p.new)) (spec.bound (stream_of I.machine) (state_of I.state p.old)) }
 {
     let start = p.lo();
     p.eat_word(code, kinds::FOR)?;

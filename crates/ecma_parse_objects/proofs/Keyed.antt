@@ -4,19 +4,19 @@ use Rattle.std.proofs.lemmas.Bool.{and_parts, ne_eqb, true≢false}
 use Rattle.ecma_token.specs.Kinds.{left_bracket_kind}
 use Rattle.ecma_tree.specs.Tree.{Tree, ident_name}
 use Rattle.ecma_syntax.specs.Input.{Code, barred, is_word, kind, no_name, text}
-use Rattle.ecma_reading.specs.Source.{Machine, Stand, Inner, input, past, name, is_name, ◌>>=◌}
+use Rattle.ecma_reading.specs.Source.{Stream, State, Inner, input, past, name, is_name, ◌>>=◌}
 use Rattle.ecma_reading.specs.Expressions.{first, key_by, prop_rest}
 use Rattle.ecma_parse_objects.specs.Props.{keyed_by, prop_end, shorthand_by, word_of}
 
 no_bracket : (k : ℕ) → is_word k ≡ true → (k == left_bracket_kind) ≡ false
 no_bracket k h = ne_eqb k left_bracket_kind (λ q. true≢false (sym h ∙ ap is_word q))
 
-module _ {S : Type 0} (m : Machine S) (inner : Inner S) (c : Code) (s : Stand S) where
+module _ {S : Type 0} (m : Stream S) (inner : Inner S) (c : Code) (s : State S) where
   word_key : is_name m c s ≡ true → key_by m inner c s ≡ Ok (ident_name (first m inner s) (text (input m s)), past m s)
   unfolding key_by
   word_key e = let w = (and_parts (is_word (kind (input m s))) (not (no_name c.context (kind (input m s))) && not (barred c.context (input m s))) e).0 in rw (no_bracket (kind (input m s)) w, w) refl
 
-  other_end : is_name m c s ≡ false → (k : Tree) (r : Stand S) → prop_rest m inner c s k r ≡ prop_end m inner c (first m inner s) (word_of (is_name m c s) k) k r
+  other_end : is_name m c s ≡ false → (k : Tree) (r : State S) → prop_rest m inner c s k r ≡ prop_end m inner c (first m inner s) (word_of (is_name m c s) k) k r
   unfolding prop_rest prop_end name
   other_end e k r = rw e refl
 

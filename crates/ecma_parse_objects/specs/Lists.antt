@@ -4,7 +4,7 @@ use Rattle.ecma_node.specs.Fits.{fits_prop_or_spread}
 use Rattle.ecma_node.specs.Placed.{inner}
 use Rattle.ecma_node.specs.View.{view_prop_or_spread}
 use Rattle.ecma_syntax.specs.Input.{Code}
-use Rattle.ecma_reading.specs.Source.{Machine, Inner, Read, iterate, bound}
+use Rattle.ecma_reading.specs.Source.{Stream, Inner, Read, iterate, bound}
 use Rattle.ecma_reading.specs.Cover.{last_rests}
 use Rattle.ecma_reading.specs.Expressions.{Elements, no_elements, prop_step}
 use Rattle.ecma_parse_objects.specs.declared.lists.Props.{Props}
@@ -20,5 +20,5 @@ abbrev pub TellsRest : Props → Type 0
 TellsRest e = e.rest ≡ last_rests (map (view_prop_or_spread inner) e.items.items)
 
 -- the properties of an object, after its brace (13.2.5)
-unfoldable pub props_by : {S : Type 0} → Machine S → Inner S → Code → Read S Elements
+unfoldable pub props_by : {S : Type 0} → Stream S → Inner S → Code → Read S Elements
 props_by m inner c s = iterate (bound m) (prop_step m inner c) no_elements s

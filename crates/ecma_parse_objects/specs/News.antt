@@ -4,16 +4,16 @@ use Rattle.ecma_tree.specs.Tree.{Tree, absent, list, new_expr, pack}
 use Rattle.ecma_syntax.specs.Input.{Code}
 use Rattle.ecma_syntax.specs.Operators.{call_level, goes_expr, member_level, new_level, other_end}
 use Rattle.ecma_syntax.specs.Shape.{level}
-use Rattle.ecma_reading.specs.Source.{unexpected, ◌>>=◌, Machine, Stand, Read, Inner, input, past, spanned}
+use Rattle.ecma_reading.specs.Source.{unexpected, ◌>>=◌, Stream, State, Read, Inner, input, past, spanned}
 use Rattle.ecma_reading.specs.Expressions.{arguments_by}
 
-module _ {S : Type 0} (m : Machine S) where
+module _ {S : Type 0} (m : Stream S) where
   -- no arguments (13.3.5)
-  unfoldable pub bare_new_by : Code → Stand S → Tree → Read S Tree
+  unfoldable pub bare_new_by : Code → State S → Tree → Read S Tree
   bare_new_by c start f s =
       if (nat_le member_level (level f) || (level f == new_level)) && nat_lt (goes_expr c other_end (input m s)) call_level then Ok (new_expr (spanned m start s) f absent, s) else unexpected
 
-module _ {S : Type 0} (m : Machine S) (inner : Inner S) where
+module _ {S : Type 0} (m : Stream S) (inner : Inner S) where
   -- arguments (13.3.5)
-  unfoldable pub new_call_by : Code → Stand S → Tree → Read S Tree
+  unfoldable pub new_call_by : Code → State S → Tree → Read S Tree
   new_call_by c start f s = arguments_by m inner c (past m s) >>= λ xs. Ok (new_expr (spanned m start xs.1) f (list (pack xs.0)), xs.1)

@@ -5,7 +5,7 @@ use Rattle.ecma_token.specs.Kinds.{assign_kind, colon_kind, left_paren_kind}
 use Rattle.ecma_tree.specs.Tree.{Tree, assign_prop, ident, ident_name, key_value_prop, method_prop, spread_element}
 use Rattle.ecma_syntax.specs.Input.{Code, lo, span, with_in}
 use Rattle.ecma_syntax.specs.Operators.{assignment_level}
-use Rattle.ecma_reading.specs.Source.{unexpected, ◌>>=◌, Machine, Read, Inner, input, past, at, spanned}
+use Rattle.ecma_reading.specs.Source.{unexpected, ◌>>=◌, Stream, Read, Inner, input, past, at, spanned}
 use Rattle.ecma_reading.specs.Expressions.{function_by, key_by, method_prop_by, prop_rest, star}
 
 -- the word that a key is, where that is a name here
@@ -14,7 +14,7 @@ word_of false k = None
 word_of true (ident_name s n) = Some n
 word_of true _ = None
 
-module _ {S : Type 0} (m : Machine S) (inner : Inner S) where
+module _ {S : Type 0} (m : Stream S) (inner : Inner S) where
   -- a name as a property, with an initialiser in a cover (13.2.5)
   unfoldable pub shorthand_by : Code → Span → List ℕ → Read S Tree
   shorthand_by c place n s =

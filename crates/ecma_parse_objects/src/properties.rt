@@ -7,8 +7,8 @@ ghost use Rattle.ecma_reading.specs.Source as spec;
 ghost use Rattle.ecma_reading.specs.Expressions as reads;
 ghost use Rattle.ecma_parse_state.specs.Answers.{Falls, Gives, Stays};
 ghost use Rattle.ecma_parse_state.specs.Codes.{code_of};
-ghost use Rattle.ecma_parse_state.specs.Fronts.{machine_of};
-ghost use Rattle.ecma_parse_state.specs.Stands.{stand};
+ghost use Rattle.ecma_parse_state.specs.Cursors.{stream_of};
+ghost use Rattle.ecma_parse_state.specs.States.{state_of};
 ghost use Rattle.ecma_parse_objects.specs.Props as pieces;
 ghost use Rattle.ecma_parse_objects.specs.Props.{word_of};
 
@@ -37,9 +37,9 @@ pub fn method<'a, I: Tokens<'a> + Drop, N: Nested<'a, I>>(
     is_async: bool,
 ) -> Result<PropOrSpread, Failure>
     requires ready { N.ready nested.now }
-    ensures value { Gives (λ x. (view_prop_or_spread inner x, stand I.state p.new)) result (reads.method_prop_by (machine_of I.machine) (N.reads nested.now I.State I.machine) (code_of code) whole.0 generator is_async (stand I.state p.old)) }
+    ensures value { Gives (λ x. (view_prop_or_spread inner x, state_of I.state p.new)) result (reads.method_prop_by (stream_of I.machine) (N.reads nested.now I.State I.machine) (code_of code) whole.0 generator is_async (state_of I.state p.old)) }
     ensures fits { IfOk result (λ x. fits_prop_or_spread (λ p. p) x) }
-    ensures shorter { Falls result (spec.bound (machine_of I.machine) (stand I.state p.new)) (spec.bound (machine_of I.machine) (stand I.state p.old)) }
+    ensures shorter { Falls result (spec.bound (stream_of I.machine) (state_of I.state p.new)) (spec.bound (stream_of I.machine) (state_of I.state p.old)) }
 {
     let key = key(p, nested, code)?;
     let function = function(p, nested, code, whole, generator, is_async)?;
@@ -55,9 +55,9 @@ pub fn getter<'a, I: Tokens<'a> + Drop, N: Nested<'a, I>>(
     code: Around,
 ) -> Result<PropOrSpread, Failure>
     requires ready { N.ready nested.now }
-    ensures value { Gives (λ x. (view_prop_or_spread inner x, stand I.state p.new)) result (reads.getter_by (machine_of I.machine) (N.reads nested.now I.State I.machine) (code_of code) (stand I.state p.old)) }
+    ensures value { Gives (λ x. (view_prop_or_spread inner x, state_of I.state p.new)) result (reads.getter_by (stream_of I.machine) (N.reads nested.now I.State I.machine) (code_of code) (state_of I.state p.old)) }
     ensures fits { IfOk result (λ x. fits_prop_or_spread (λ p. p) x) }
-    ensures shorter { Falls result (spec.bound (machine_of I.machine) (stand I.state p.new)) (spec.bound (machine_of I.machine) (stand I.state p.old)) }
+    ensures shorter { Falls result (spec.bound (stream_of I.machine) (state_of I.state p.new)) (spec.bound (stream_of I.machine) (state_of I.state p.old)) }
 {
     let start = p.lo();
     p.bump()?;
@@ -77,9 +77,9 @@ pub fn setter<'a, I: Tokens<'a> + Drop, N: Nested<'a, I>>(
     code: Around,
 ) -> Result<PropOrSpread, Failure>
     requires ready { N.ready nested.now }
-    ensures value { Gives (λ x. (view_prop_or_spread inner x, stand I.state p.new)) result (reads.setter_by (machine_of I.machine) (N.reads nested.now I.State I.machine) (code_of code) (stand I.state p.old)) }
+    ensures value { Gives (λ x. (view_prop_or_spread inner x, state_of I.state p.new)) result (reads.setter_by (stream_of I.machine) (N.reads nested.now I.State I.machine) (code_of code) (state_of I.state p.old)) }
     ensures fits { IfOk result (λ x. fits_prop_or_spread (λ p. p) x) }
-    ensures shorter { Falls result (spec.bound (machine_of I.machine) (stand I.state p.new)) (spec.bound (machine_of I.machine) (stand I.state p.old)) }
+    ensures shorter { Falls result (spec.bound (stream_of I.machine) (state_of I.state p.new)) (spec.bound (stream_of I.machine) (state_of I.state p.old)) }
 {
     let start = p.lo();
     p.bump()?;
@@ -101,9 +101,9 @@ pub fn shorthand<'a, I: Tokens<'a> + Drop, N: Nested<'a, I>>(
     sym: Atom,
 ) -> Result<PropOrSpread, Failure>
     requires ready { N.ready nested.now }
-    ensures value { Gives (λ x. (view_prop_or_spread inner x, stand I.state p.new)) result (pieces.shorthand_by (machine_of I.machine) (N.reads nested.now I.State I.machine) (code_of code) place sym (stand I.state p.old)) }
+    ensures value { Gives (λ x. (view_prop_or_spread inner x, state_of I.state p.new)) result (pieces.shorthand_by (stream_of I.machine) (N.reads nested.now I.State I.machine) (code_of code) place sym (state_of I.state p.old)) }
     ensures fits { IfOk result (λ x. fits_prop_or_spread (λ p. p) x) }
-    ensures not_longer { Stays result (spec.bound (machine_of I.machine) (stand I.state p.new)) (spec.bound (machine_of I.machine) (stand I.state p.old)) }
+    ensures not_longer { Stays result (spec.bound (stream_of I.machine) (state_of I.state p.new)) (spec.bound (stream_of I.machine) (state_of I.state p.old)) }
 {
     if p.eat(kinds::ASSIGN)? {
         let value = nested.expr(p, with_in(code), ASSIGNMENT)?;
@@ -125,9 +125,9 @@ pub fn prop_end<'a, I: Tokens<'a> + Drop, N: Nested<'a, I>>(
 ) -> Result<PropOrSpread, Failure>
     requires ready { N.ready nested.now }
     requires fits { fits_prop_name (λ p. p) key }
-    ensures value { Gives (λ x. (view_prop_or_spread inner x, stand I.state p.new)) result (pieces.prop_end (machine_of I.machine) (N.reads nested.now I.State I.machine) (code_of code) place (word_of named (view_prop_name inner key)) (view_prop_name inner key) (stand I.state p.old)) }
+    ensures value { Gives (λ x. (view_prop_or_spread inner x, state_of I.state p.new)) result (pieces.prop_end (stream_of I.machine) (N.reads nested.now I.State I.machine) (code_of code) place (word_of named (view_prop_name inner key)) (view_prop_name inner key) (state_of I.state p.old)) }
     ensures fits { IfOk result (λ x. fits_prop_or_spread (λ p. p) x) }
-    ensures not_longer { Stays result (spec.bound (machine_of I.machine) (stand I.state p.new)) (spec.bound (machine_of I.machine) (stand I.state p.old)) }
+    ensures not_longer { Stays result (spec.bound (stream_of I.machine) (state_of I.state p.new)) (spec.bound (stream_of I.machine) (state_of I.state p.old)) }
 {
     if p.eat(kinds::COLON)? {
         let value = nested.expr(p, with_in(code), ASSIGNMENT)?;
@@ -155,9 +155,9 @@ pub fn keyed<'a, I: Tokens<'a> + Drop, N: Nested<'a, I>>(
     code: Around,
 ) -> Result<PropOrSpread, Failure>
     requires ready { N.ready nested.now }
-    ensures value { Gives (λ x. (view_prop_or_spread inner x, stand I.state p.new)) result (pieces.keyed_by (machine_of I.machine) (N.reads nested.now I.State I.machine) (code_of code) (stand I.state p.old)) }
+    ensures value { Gives (λ x. (view_prop_or_spread inner x, state_of I.state p.new)) result (pieces.keyed_by (stream_of I.machine) (N.reads nested.now I.State I.machine) (code_of code) (state_of I.state p.old)) }
     ensures fits { IfOk result (λ x. fits_prop_or_spread (λ p. p) x) }
-    ensures shorter { Falls result (spec.bound (machine_of I.machine) (stand I.state p.new)) (spec.bound (machine_of I.machine) (stand I.state p.old)) }
+    ensures shorter { Falls result (spec.bound (stream_of I.machine) (state_of I.state p.new)) (spec.bound (stream_of I.machine) (state_of I.state p.old)) }
 {
     let place = p.place();
     let named = p.is_name(code);
@@ -174,9 +174,9 @@ pub fn spread<'a, I: Tokens<'a> + Drop, N: Nested<'a, I>>(
     code: Around,
 ) -> Result<PropOrSpread, Failure>
     requires ready { N.ready nested.now }
-    ensures value { Gives (λ x. (view_prop_or_spread inner x, stand I.state p.new)) result (pieces.spread_by (machine_of I.machine) (N.reads nested.now I.State I.machine) (code_of code) (stand I.state p.old)) }
+    ensures value { Gives (λ x. (view_prop_or_spread inner x, state_of I.state p.new)) result (pieces.spread_by (stream_of I.machine) (N.reads nested.now I.State I.machine) (code_of code) (state_of I.state p.old)) }
     ensures fits { IfOk result (λ x. fits_prop_or_spread (λ p. p) x) }
-    ensures shorter { Falls result (spec.bound (machine_of I.machine) (stand I.state p.new)) (spec.bound (machine_of I.machine) (stand I.state p.old)) }
+    ensures shorter { Falls result (spec.bound (stream_of I.machine) (state_of I.state p.new)) (spec.bound (stream_of I.machine) (state_of I.state p.old)) }
 {
     let start = p.lo();
     p.bump()?;
@@ -193,9 +193,9 @@ pub fn generator<'a, I: Tokens<'a> + Drop, N: Nested<'a, I>>(
     code: Around,
 ) -> Result<PropOrSpread, Failure>
     requires ready { N.ready nested.now }
-    ensures value { Gives (λ x. (view_prop_or_spread inner x, stand I.state p.new)) result (pieces.generator_by (machine_of I.machine) (N.reads nested.now I.State I.machine) (code_of code) (stand I.state p.old)) }
+    ensures value { Gives (λ x. (view_prop_or_spread inner x, state_of I.state p.new)) result (pieces.generator_by (stream_of I.machine) (N.reads nested.now I.State I.machine) (code_of code) (state_of I.state p.old)) }
     ensures fits { IfOk result (λ x. fits_prop_or_spread (λ p. p) x) }
-    ensures shorter { Falls result (spec.bound (machine_of I.machine) (stand I.state p.new)) (spec.bound (machine_of I.machine) (stand I.state p.old)) }
+    ensures shorter { Falls result (spec.bound (stream_of I.machine) (state_of I.state p.new)) (spec.bound (stream_of I.machine) (state_of I.state p.old)) }
 {
     let start = p.lo();
     p.bump()?;
@@ -211,9 +211,9 @@ pub fn async_method<'a, I: Tokens<'a> + Drop, N: Nested<'a, I>>(
     code: Around,
 ) -> Result<PropOrSpread, Failure>
     requires ready { N.ready nested.now }
-    ensures value { Gives (λ x. (view_prop_or_spread inner x, stand I.state p.new)) result (pieces.async_by (machine_of I.machine) (N.reads nested.now I.State I.machine) (code_of code) (stand I.state p.old)) }
+    ensures value { Gives (λ x. (view_prop_or_spread inner x, state_of I.state p.new)) result (pieces.async_by (stream_of I.machine) (N.reads nested.now I.State I.machine) (code_of code) (state_of I.state p.old)) }
     ensures fits { IfOk result (λ x. fits_prop_or_spread (λ p. p) x) }
-    ensures shorter { Falls result (spec.bound (machine_of I.machine) (stand I.state p.new)) (spec.bound (machine_of I.machine) (stand I.state p.old)) }
+    ensures shorter { Falls result (spec.bound (stream_of I.machine) (state_of I.state p.new)) (spec.bound (stream_of I.machine) (state_of I.state p.old)) }
 {
     let start = p.lo();
     p.bump()?;
@@ -230,9 +230,9 @@ pub fn prop<'a, I: Tokens<'a> + Drop, N: Nested<'a, I>>(
     code: Around,
 ) -> Result<PropOrSpread, Failure>
     requires ready { N.ready nested.now }
-    ensures value { Gives (λ x. (view_prop_or_spread inner x, stand I.state p.new)) result (reads.prop_by (machine_of I.machine) (N.reads nested.now I.State I.machine) (code_of code) (stand I.state p.old)) }
+    ensures value { Gives (λ x. (view_prop_or_spread inner x, state_of I.state p.new)) result (reads.prop_by (stream_of I.machine) (N.reads nested.now I.State I.machine) (code_of code) (state_of I.state p.old)) }
     ensures fits { IfOk result (λ x. fits_prop_or_spread (λ p. p) x) }
-    ensures shorter { Falls result (spec.bound (machine_of I.machine) (stand I.state p.new)) (spec.bound (machine_of I.machine) (stand I.state p.old)) }
+    ensures shorter { Falls result (spec.bound (stream_of I.machine) (state_of I.state p.new)) (spec.bound (stream_of I.machine) (state_of I.state p.old)) }
 {
     if p.at(kinds::DOT_DOT_DOT) {
         return spread(p, nested, code);

@@ -4,7 +4,7 @@ use Rattle.ecma_tree.specs.Tree.{Tree, Trees, none, more, ident, seq_expr, assig
 use Rattle.ecma_nesting.specs.Nesting.{nesting}
 use Rattle.ecma_syntax.specs.Input.{Code, brk, in_arrow}
 use Rattle.ecma_syntax.specs.Shape.{is_clean}
-use Rattle.ecma_reading.specs.Source.{Fault, TooDeep, unexpected, Machine, Stand, input, is_name}
+use Rattle.ecma_reading.specs.Source.{Fault, TooDeep, unexpected, Stream, State, input, is_name}
 
 -- ---- the word `async` at the end of an expression
 
@@ -37,12 +37,12 @@ last_initial [] = absent
 last_initial (p ∷ []) = initial_of p
 last_initial (p ∷ (q ∷ ps)) = last_initial (q ∷ ps)
 
-module _ {S : Type 0} (m : Machine S) where
+module _ {S : Type 0} (m : Stream S) where
   -- Such a word ends a tree, and a name stands on its line.
-  abbrev pub heads_arrow : Option Code → Stand S → Bool
+  abbrev pub heads_arrow : Option Code → State S → Bool
   heads_arrow None s = false
   heads_arrow (Some c) s = not (brk (input m s)) && is_name m c s
 
   -- What is read nests no deeper than the limit, and nothing of a cover is left in it.
-  unfoldable pub settled : ℕ → Tree × Stand S → Result (Tree × Stand S) Fault
+  unfoldable pub settled : ℕ → Tree × State S → Result (Tree × State S) Fault
   settled limit x = if nat_le (nesting x.0) limit then (if is_clean x.0 then Ok x else unexpected) else Err TooDeep

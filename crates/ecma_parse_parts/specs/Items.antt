@@ -3,12 +3,12 @@ use Rattle.std.specs.Prelude.{ℕ, true, if◌then◌else◌}
 use Rattle.ecma_tree.specs.Tree.{Tree}
 use Rattle.ecma_syntax.specs.Input.{Code, alone, in_list}
 use Rattle.ecma_syntax.specs.Shape.{is_statement}
-use Rattle.ecma_reading.specs.Source.{unexpected, ◌>>=◌, Machine, Read, operand}
+use Rattle.ecma_reading.specs.Source.{unexpected, ◌>>=◌, Stream, Read, operand}
 use Rattle.ecma_reading.specs.Modules.{item_by}
 use Rattle.ecma_reading.specs.Reading.{readers}
 use Rattle.ecma_parse_parts.specs.Ends.{settled}
 
-module _ {S : Type 0} (m : Machine S) where
+module _ {S : Type 0} (m : Stream S) where
   -- Statement (clause 14), StatementListItem (14.2), ModuleItem (16.2)
   unfoldable pub statement_part : ℕ → Code → Read S Tree
   statement_part limit c s = (readers m limit).stmt (alone c) s >>= λ x. if is_statement x.0 then settled m limit x else unexpected

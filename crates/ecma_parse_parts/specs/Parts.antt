@@ -5,16 +5,16 @@ use Rattle.std.specs.Prelude.{ℕ, Bool, not, ◌&&◌, ◌||◌, if◌then◌el
 use Rattle.ecma_token.specs.Kinds.{comma_kind, dot_dot_dot_kind, left_bracket_kind, left_brace_kind}
 use Rattle.ecma_tree.specs.Tree.{Tree, pack, list}
 use Rattle.ecma_syntax.specs.Input.{Code}
-use Rattle.ecma_reading.specs.Source.{unexpected, ◌>>=◌, Machine, Inner, Stand, Read, past, bound, at, is_name, Step, go_on, finished, iterate}
+use Rattle.ecma_reading.specs.Source.{unexpected, ◌>>=◌, Stream, Inner, State, Read, past, bound, at, is_name, Step, go_on, finished, iterate}
 use Rattle.ecma_reading.specs.Expressions.{key_by, parameter_by, is_rest_param}
 use Rattle.ecma_reading.specs.Reading.{readers}
 use Rattle.ecma_parse_parts.specs.Ends.{async_end, heads_arrow, last_of, last_initial, settled}
 
-module _ {S : Type 0} (m : Machine S) where
+module _ {S : Type 0} (m : Stream S) where
   -- ---- parameters without their parentheses (15.1)
 
   -- a name, a pattern or dots
-  abbrev pub starts_param : Code → Stand S → Bool
+  abbrev pub starts_param : Code → State S → Bool
   starts_param c s = is_name m c s || (at m left_bracket_kind s || (at m left_brace_kind s || at m dot_dot_dot_kind s))
 
   unfoldable pub bare_step : Inner S → Code → List Tree → Read S (Step (List Tree))
@@ -27,7 +27,7 @@ module _ {S : Type 0} (m : Machine S) where
   unfoldable pub bare_by : Inner S → Code → Read S (List Tree)
   bare_by inner c s = iterate (bound m) (bare_step inner c) [] s
 
-  abbrev pub as_list : List Tree × Stand S → Tree × Stand S
+  abbrev pub as_list : List Tree × State S → Tree × State S
   as_list x = (list (pack x.0), x.1)
 
   -- ---- parts within the limit

@@ -3,7 +3,7 @@ use Rattle.std.specs.Prelude.{ℕ, Bool, true, false, not, ◌&&◌, if◌then�
 use Rattle.ecma_token.specs.Kinds.{dot_dot_dot_kind}
 use Rattle.ecma_tree.specs.Tree.{Tree, spread_element, key_value_prop, key_value_pat_prop, assign_pat_prop, assign_pat, rest_pat, absent}
 use Rattle.ecma_syntax.specs.Input.{Code}
-use Rattle.ecma_reading.specs.Source.{unexpected, ◌>>=◌, Machine, Inner, Read, at}
+use Rattle.ecma_reading.specs.Source.{unexpected, ◌>>=◌, Stream, Inner, Read, at}
 use Rattle.ecma_reading.specs.Expressions.{prop_by}
 use Rattle.ecma_reading.specs.Statements.{pattern_prop}
 use Rattle.ecma_reading.specs.Reading.{readers}
@@ -18,7 +18,7 @@ value_of (key_value_pat_prop s k (assign_pat t p e)) = e
 value_of (assign_pat_prop s b e) = e
 value_of _ = absent
 
-module _ {S : Type 0} (m : Machine S) where
+module _ {S : Type 0} (m : Stream S) where
   -- a property of a pattern, or its rest
   unfoldable pub item_by : Inner S → Code → Read S Tree
   item_by inner c s = if at m dot_dot_dot_kind s then object_rest m inner c s else pattern_prop m inner c s

@@ -4,8 +4,8 @@ ghost use Rattle.ecma_node.specs.Fits.{fits_param};
 ghost use Rattle.ecma_node.specs.Placed.{inner};
 ghost use Rattle.ecma_node.specs.View.{view_param};
 ghost use Rattle.ecma_parse_state.specs.Codes.{code_of};
-ghost use Rattle.ecma_parse_state.specs.Fronts.{machine_of};
-ghost use Rattle.ecma_parse_state.specs.Stands.{stand};
+ghost use Rattle.ecma_parse_state.specs.Cursors.{stream_of};
+ghost use Rattle.ecma_parse_state.specs.States.{state_of};
 ghost use Rattle.ecma_parse_parts.specs.Ends as ends;
 
 use ecma_node::{BlockStmtOrExpr, Expr, ExprKind, Param, PatKind};
@@ -62,7 +62,7 @@ pub fn params_async_end(code: Around, params: &[Param]) -> Option<Around>
 /// Whether the word `async` ends what was read and a name comes on its line, which would be the parameter of an arrow
 /// (ECMA-262, 15.9).
 pub fn heads_arrow<'a, I: Tokens<'a> + Drop>(p: &Parser<'a, I>, end: Option<Around>) -> bool
-    ensures { result ≡ ends.heads_arrow (machine_of I.machine) (option_map code_of end) (stand I.state p.now) }
+    ensures { result ≡ ends.heads_arrow (stream_of I.machine) (option_map code_of end) (state_of I.state p.now) }
 {
     match end {
         Some(code) => !p.breaks() && p.is_name(code),

@@ -8,8 +8,8 @@ ghost use Rattle.ecma_syntax.specs.Shape as shape;
 ghost use Rattle.ecma_reading.specs.Source as spec;
 ghost use Rattle.ecma_parse_state.specs.Answers.{Gives, Stays};
 ghost use Rattle.ecma_parse_state.specs.Codes.{code_of};
-ghost use Rattle.ecma_parse_state.specs.Fronts.{machine_of};
-ghost use Rattle.ecma_parse_state.specs.Stands.{stand};
+ghost use Rattle.ecma_parse_state.specs.Cursors.{stream_of};
+ghost use Rattle.ecma_parse_state.specs.States.{state_of};
 ghost use Rattle.ecma_parse_parts.specs.Items as parts;
 
 use crate::settle::{left_over, settle};
@@ -45,9 +45,9 @@ pub fn statement_part<'a, I: Tokens<'a> + Drop>(
     code: Around,
 ) -> Result<StmtBox, Failure>
     requires { limit < 4294967295 }
-    ensures value { Gives (λ x. (inner x.part.value, stand I.state p.new)) result (parts.statement_part (machine_of I.machine) limit (code_of code) (stand I.state p.old)) }
+    ensures value { Gives (λ x. (inner x.part.value, state_of I.state p.new)) result (parts.statement_part (stream_of I.machine) limit (code_of code) (state_of I.state p.old)) }
     ensures holds { IfOk result (λ x. holds_stmt x.part.value) }
-    ensures not_longer { Stays result (spec.bound (machine_of I.machine) (stand I.state p.new)) (spec.bound (machine_of I.machine) (stand I.state p.old)) }
+    ensures not_longer { Stays result (spec.bound (stream_of I.machine) (state_of I.state p.new)) (spec.bound (stream_of I.machine) (state_of I.state p.old)) }
 {
     let start = p.lo();
     let stmt = parse_stmt(p, limit, alone(code))?;
@@ -69,9 +69,9 @@ pub fn list_item_part<'a, I: Tokens<'a> + Drop>(
     code: Around,
 ) -> Result<StmtBox, Failure>
     requires { limit < 4294967295 }
-    ensures value { Gives (λ x. (inner x.part.value, stand I.state p.new)) result (parts.list_item_part (machine_of I.machine) limit (code_of code) (stand I.state p.old)) }
+    ensures value { Gives (λ x. (inner x.part.value, state_of I.state p.new)) result (parts.list_item_part (stream_of I.machine) limit (code_of code) (state_of I.state p.old)) }
     ensures holds { IfOk result (λ x. holds_stmt x.part.value) }
-    ensures not_longer { Stays result (spec.bound (machine_of I.machine) (stand I.state p.new)) (spec.bound (machine_of I.machine) (stand I.state p.old)) }
+    ensures not_longer { Stays result (spec.bound (stream_of I.machine) (state_of I.state p.new)) (spec.bound (stream_of I.machine) (state_of I.state p.old)) }
 {
     let start = p.lo();
     let stmt = parse_stmt(p, limit, in_list(code))?;
@@ -90,9 +90,9 @@ pub fn module_item_part<'a, I: Tokens<'a> + Drop>(
     code: Around,
 ) -> Result<ModuleItem, Failure>
     requires { limit < 4294967295 }
-    ensures value { Gives (λ x. (view_module_item inner x, stand I.state p.new)) result (parts.module_item_part (machine_of I.machine) limit (code_of code) (stand I.state p.old)) }
+    ensures value { Gives (λ x. (view_module_item inner x, state_of I.state p.new)) result (parts.module_item_part (stream_of I.machine) limit (code_of code) (state_of I.state p.old)) }
     ensures fits { IfOk result (λ x. fits_module_item (λ p. p) x) }
-    ensures not_longer { Stays result (spec.bound (machine_of I.machine) (stand I.state p.new)) (spec.bound (machine_of I.machine) (stand I.state p.old)) }
+    ensures not_longer { Stays result (spec.bound (stream_of I.machine) (state_of I.state p.new)) (spec.bound (stream_of I.machine) (state_of I.state p.old)) }
 {
     let start = p.lo();
     p.operand()?;

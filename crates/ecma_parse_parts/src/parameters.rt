@@ -6,8 +6,8 @@ ghost use Rattle.ecma_node.specs.View.{view_param};
 ghost use Rattle.ecma_reading.specs.Source as spec;
 ghost use Rattle.ecma_parse_state.specs.Answers.{Gives, going_on, Stays};
 ghost use Rattle.ecma_parse_state.specs.Codes.{code_of};
-ghost use Rattle.ecma_parse_state.specs.Fronts.{machine_of};
-ghost use Rattle.ecma_parse_state.specs.Stands.{stand};
+ghost use Rattle.ecma_parse_state.specs.Cursors.{stream_of};
+ghost use Rattle.ecma_parse_state.specs.States.{state_of};
 ghost use Rattle.ecma_parse_parts.specs.Parts as parts;
 
 use ecma_node::Param;
@@ -18,7 +18,7 @@ use ecma_token_source::Tokens;
 
 /// Whether a parameter may start here: a name, a pattern or dots.
 pub fn starts_param<'a, I: Tokens<'a> + Drop>(p: &Parser<'a, I>, code: Around) -> bool
-    ensures { result ≡ parts.starts_param (machine_of I.machine) (code_of code) (stand I.state p.now) }
+    ensures { result ≡ parts.starts_param (stream_of I.machine) (code_of code) (state_of I.state p.now) }
 {
     p.is_name(code)
         || (p.at(kinds::LEFT_BRACKET) || (p.at(kinds::LEFT_BRACE) || p.at(kinds::DOT_DOT_DOT)))
@@ -35,10 +35,10 @@ pub fn bare_turn<'a, I: Tokens<'a> + Drop, N: Nested<'a, I>>(
 ) -> Result<bool, Failure>
     requires ready { N.ready nested.now }
     requires fits { All (λ x. fits_param (λ p. p) x) params.old.items }
-    ensures value { Gives (λ x. (going_on x (map (view_param inner) params.new.items), stand I.state p.new)) result (parts.bare_step (machine_of I.machine) (N.reads nested.now I.State I.machine) (code_of code) (map (view_param inner) params.old.items) (stand I.state p.old)) }
+    ensures value { Gives (λ x. (going_on x (map (view_param inner) params.new.items), state_of I.state p.new)) result (parts.bare_step (stream_of I.machine) (N.reads nested.now I.State I.machine) (code_of code) (map (view_param inner) params.old.items) (state_of I.state p.old)) }
     ensures fits { IfOk result (λ _. All (λ x. fits_param (λ p. p) x) params.new.items) }
-    ensures shorter { IfOk result (λ b. IsTrue b → spec.bound (machine_of I.machine) (stand I.state p.new) < spec.bound (machine_of I.machine) (stand I.state p.old)) }
-    ensures not_longer { Stays result (spec.bound (machine_of I.machine) (stand I.state p.new)) (spec.bound (machine_of I.machine) (stand I.state p.old)) }
+    ensures shorter { IfOk result (λ b. IsTrue b → spec.bound (stream_of I.machine) (state_of I.state p.new) < spec.bound (stream_of I.machine) (state_of I.state p.old)) }
+    ensures not_longer { Stays result (spec.bound (stream_of I.machine) (state_of I.state p.new)) (spec.bound (stream_of I.machine) (state_of I.state p.old)) }
 {
     if !starts_param(p, code) {
         return Ok(false);
@@ -61,9 +61,9 @@ pub fn bare_params<'a, I: Tokens<'a> + Drop, N: Nested<'a, I>>(
     code: Around,
 ) -> Result<Vec<Param>, Failure>
     requires ready { N.ready nested.now }
-    ensures value { Gives (λ x. (map (view_param inner) x.items, stand I.state p.new)) result (parts.bare_by (machine_of I.machine) (N.reads nested.now I.State I.machine) (code_of code) (stand I.state p.old)) }
+    ensures value { Gives (λ x. (map (view_param inner) x.items, state_of I.state p.new)) result (parts.bare_by (stream_of I.machine) (N.reads nested.now I.State I.machine) (code_of code) (state_of I.state p.old)) }
     ensures fits { IfOk result (λ x. All (λ x. fits_param (λ p. p) x) x.items) }
-    ensures not_longer { Stays result (spec.bound (machine_of I.machine) (stand I.state p.new)) (spec.bound (machine_of I.machine) (stand I.state p.old)) }
+    ensures not_longer { Stays result (spec.bound (stream_of I.machine) (state_of I.state p.new)) (spec.bound (stream_of I.machine) (state_of I.state p.old)) }
 {
     let mut params = Vec::new(p.alloc);
     'turns: while bare_turn(p, nested, code, &mut params)? {}

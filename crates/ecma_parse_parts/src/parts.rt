@@ -7,8 +7,8 @@ ghost use Rattle.ecma_node.specs.View.{view_param, view_prop_name};
 ghost use Rattle.ecma_reading.specs.Source as spec;
 ghost use Rattle.ecma_parse_state.specs.Answers.{Gives, Stays};
 ghost use Rattle.ecma_parse_state.specs.Codes.{code_of};
-ghost use Rattle.ecma_parse_state.specs.Fronts.{machine_of};
-ghost use Rattle.ecma_parse_state.specs.Stands.{stand};
+ghost use Rattle.ecma_parse_state.specs.Cursors.{stream_of};
+ghost use Rattle.ecma_parse_state.specs.States.{state_of};
 ghost use Rattle.ecma_parse_parts.specs.Parts as parts;
 
 use crate::async_ends::{heads_arrow, params_async_end, sequence_async_end};
@@ -35,9 +35,9 @@ pub fn expression_part<'a, I: Tokens<'a> + Drop>(
     level: u8,
 ) -> Result<ExprBox, Failure>
     requires { limit < 4294967295 }
-    ensures value { Gives (λ x. (inner x.part.value, stand I.state p.new)) result (parts.expression_part (machine_of I.machine) level limit (code_of code) (stand I.state p.old)) }
+    ensures value { Gives (λ x. (inner x.part.value, state_of I.state p.new)) result (parts.expression_part (stream_of I.machine) level limit (code_of code) (state_of I.state p.old)) }
     ensures holds { IfOk result (λ x. holds_expr x.part.value) }
-    ensures not_longer { Stays result (spec.bound (machine_of I.machine) (stand I.state p.new)) (spec.bound (machine_of I.machine) (stand I.state p.old)) }
+    ensures not_longer { Stays result (spec.bound (stream_of I.machine) (state_of I.state p.new)) (spec.bound (stream_of I.machine) (state_of I.state p.old)) }
 {
     let start = p.lo();
     let read = parse_expr(p, limit, code, level)?;
@@ -60,9 +60,9 @@ pub fn binding_part<'a, I: Tokens<'a> + Drop>(
     code: Around,
 ) -> Result<PatBox, Failure>
     requires { limit < 4294967295 }
-    ensures value { Gives (λ x. (inner x.part.value, stand I.state p.new)) result (parts.binding_part (machine_of I.machine) limit (code_of code) (stand I.state p.old)) }
+    ensures value { Gives (λ x. (inner x.part.value, state_of I.state p.new)) result (parts.binding_part (stream_of I.machine) limit (code_of code) (state_of I.state p.old)) }
     ensures holds { IfOk result (λ x. holds_pat x.part.value) }
-    ensures not_longer { Stays result (spec.bound (machine_of I.machine) (stand I.state p.new)) (spec.bound (machine_of I.machine) (stand I.state p.old)) }
+    ensures not_longer { Stays result (spec.bound (stream_of I.machine) (state_of I.state p.new)) (spec.bound (stream_of I.machine) (state_of I.state p.old)) }
 {
     let start = p.lo();
     let pat = parse_pat(p, limit, code)?;
@@ -81,9 +81,9 @@ pub fn key_part<'a, I: Tokens<'a> + Drop>(
     code: Around,
 ) -> Result<PropName, Failure>
     requires { limit < 4294967295 }
-    ensures value { Gives (λ x. (view_prop_name inner x, stand I.state p.new)) result (parts.key_part (machine_of I.machine) limit (code_of code) (stand I.state p.old)) }
+    ensures value { Gives (λ x. (view_prop_name inner x, state_of I.state p.new)) result (parts.key_part (stream_of I.machine) limit (code_of code) (state_of I.state p.old)) }
     ensures fits { IfOk result (λ x. fits_prop_name (λ p. p) x) }
-    ensures not_longer { Stays result (spec.bound (machine_of I.machine) (stand I.state p.new)) (spec.bound (machine_of I.machine) (stand I.state p.old)) }
+    ensures not_longer { Stays result (spec.bound (stream_of I.machine) (state_of I.state p.new)) (spec.bound (stream_of I.machine) (state_of I.state p.old)) }
 {
     let start = p.lo();
     let key = key(p, &Depth { levels: limit }, code)?;
@@ -102,9 +102,9 @@ pub fn parameters_part<'a, I: Tokens<'a> + Drop>(
     code: Around,
 ) -> Result<Vec<Param>, Failure>
     requires { limit < 4294967295 }
-    ensures value { Gives (λ x. (list (trees_by (view_param inner) x.items), stand I.state p.new)) result (parts.parameters_part (machine_of I.machine) limit (code_of code) (stand I.state p.old)) }
+    ensures value { Gives (λ x. (list (trees_by (view_param inner) x.items), state_of I.state p.new)) result (parts.parameters_part (stream_of I.machine) limit (code_of code) (state_of I.state p.old)) }
     ensures fits { IfOk result (λ x. All (λ x. fits_param (λ p. p) x) x.items) }
-    ensures not_longer { Stays result (spec.bound (machine_of I.machine) (stand I.state p.new)) (spec.bound (machine_of I.machine) (stand I.state p.old)) }
+    ensures not_longer { Stays result (spec.bound (stream_of I.machine) (state_of I.state p.new)) (spec.bound (stream_of I.machine) (state_of I.state p.old)) }
 {
     let start = p.lo();
     let params = bare_params(p, &Depth { levels: limit }, code)?;

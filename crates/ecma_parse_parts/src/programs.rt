@@ -6,8 +6,8 @@ ghost use Rattle.ecma_node.specs.View.{view_module, view_script};
 ghost use Rattle.ecma_reading.specs.Source as spec;
 ghost use Rattle.ecma_parse_state.specs.Answers.{Gives, Stays};
 ghost use Rattle.ecma_parse_state.specs.Codes.{code_of};
-ghost use Rattle.ecma_parse_state.specs.Fronts.{machine_of};
-ghost use Rattle.ecma_parse_state.specs.Stands.{stand};
+ghost use Rattle.ecma_parse_state.specs.Cursors.{stream_of};
+ghost use Rattle.ecma_parse_state.specs.States.{state_of};
 ghost use Rattle.ecma_parse_parts.specs.Within.{program_within};
 
 use crate::settle::unfinished;
@@ -31,9 +31,9 @@ pub fn script_within<'a, I: Tokens<'a> + Drop>(
     code: Around,
 ) -> Result<Script, Failure>
     requires { limit < 4294967295 }
-    ensures value { Gives (view_script inner) result (program_within (machine_of I.machine) limit false (code_of code) (stand I.state p.old)) }
+    ensures value { Gives (view_script inner) result (program_within (stream_of I.machine) limit false (code_of code) (state_of I.state p.old)) }
     ensures fits { IfOk result (λ x. fits_script (λ p. p) x) }
-    ensures not_longer { Stays result (spec.bound (machine_of I.machine) (stand I.state p.new)) (spec.bound (machine_of I.machine) (stand I.state p.old)) }
+    ensures not_longer { Stays result (spec.bound (stream_of I.machine) (state_of I.state p.new)) (spec.bound (stream_of I.machine) (state_of I.state p.old)) }
 {
     let script = script(p, &Depth { levels: limit }, code)?;
     if script.nesting() > limit {
@@ -57,9 +57,9 @@ pub fn module_within<'a, I: Tokens<'a> + Drop>(
     code: Around,
 ) -> Result<Module, Failure>
     requires { limit < 4294967295 }
-    ensures value { Gives (view_module inner) result (program_within (machine_of I.machine) limit true (code_of code) (stand I.state p.old)) }
+    ensures value { Gives (view_module inner) result (program_within (stream_of I.machine) limit true (code_of code) (state_of I.state p.old)) }
     ensures fits { IfOk result (λ x. fits_module (λ p. p) x) }
-    ensures not_longer { Stays result (spec.bound (machine_of I.machine) (stand I.state p.new)) (spec.bound (machine_of I.machine) (stand I.state p.old)) }
+    ensures not_longer { Stays result (spec.bound (stream_of I.machine) (state_of I.state p.new)) (spec.bound (stream_of I.machine) (state_of I.state p.old)) }
 {
     let program = module(p, &Depth { levels: limit }, code)?;
     if program.nesting() > limit {

@@ -6,8 +6,8 @@ ghost use Rattle.ecma_node.specs.View.{view_object_pat_prop, view_prop_or_spread
 ghost use Rattle.ecma_reading.specs.Source as spec;
 ghost use Rattle.ecma_parse_state.specs.Answers.{Gives, Stays};
 ghost use Rattle.ecma_parse_state.specs.Codes.{code_of};
-ghost use Rattle.ecma_parse_state.specs.Fronts.{machine_of};
-ghost use Rattle.ecma_parse_state.specs.Stands.{stand};
+ghost use Rattle.ecma_parse_state.specs.Cursors.{stream_of};
+ghost use Rattle.ecma_parse_state.specs.States.{state_of};
 ghost use Rattle.ecma_parse_parts.specs.Props as props;
 
 use crate::async_ends::heads_arrow;
@@ -32,9 +32,9 @@ pub fn prop_part<'a, I: Tokens<'a> + Drop>(
     code: Around,
 ) -> Result<PropOrSpread, Failure>
     requires { limit < 4294967295 }
-    ensures value { Gives (λ x. (view_prop_or_spread inner x, stand I.state p.new)) result (props.prop_part (machine_of I.machine) limit (code_of code) (stand I.state p.old)) }
+    ensures value { Gives (λ x. (view_prop_or_spread inner x, state_of I.state p.new)) result (props.prop_part (stream_of I.machine) limit (code_of code) (state_of I.state p.old)) }
     ensures fits { IfOk result (λ x. fits_prop_or_spread (λ p. p) x) }
-    ensures not_longer { Stays result (spec.bound (machine_of I.machine) (stand I.state p.new)) (spec.bound (machine_of I.machine) (stand I.state p.old)) }
+    ensures not_longer { Stays result (spec.bound (stream_of I.machine) (state_of I.state p.new)) (spec.bound (stream_of I.machine) (state_of I.state p.old)) }
 {
     let start = p.lo();
     let prop = prop(p, &Depth { levels: limit }, code)?;
@@ -57,9 +57,9 @@ pub fn item_part<'a, I: Tokens<'a> + Drop>(
     code: Around,
 ) -> Result<ObjectPatProp, Failure>
     requires { limit < 4294967295 }
-    ensures value { Gives (λ x. (view_object_pat_prop inner x, stand I.state p.new)) result (props.item_part (machine_of I.machine) limit (code_of code) (stand I.state p.old)) }
+    ensures value { Gives (λ x. (view_object_pat_prop inner x, state_of I.state p.new)) result (props.item_part (stream_of I.machine) limit (code_of code) (state_of I.state p.old)) }
     ensures fits { IfOk result (λ x. fits_object_pat_prop (λ p. p) x) }
-    ensures not_longer { Stays result (spec.bound (machine_of I.machine) (stand I.state p.new)) (spec.bound (machine_of I.machine) (stand I.state p.old)) }
+    ensures not_longer { Stays result (spec.bound (stream_of I.machine) (state_of I.state p.new)) (spec.bound (stream_of I.machine) (state_of I.state p.old)) }
 {
     let start = p.lo();
     let item = item(p, &Depth { levels: limit }, code)?;

@@ -2,8 +2,8 @@
 //! is left in it.
 ghost use Rattle.std.specs.Prelude.{◌≡◌, ◌<◌, IfOk};
 ghost use Rattle.ecma_parse_state.specs.Answers.{Gives, IsSyntax};
-ghost use Rattle.ecma_parse_state.specs.Fronts.{machine_of};
-ghost use Rattle.ecma_parse_state.specs.Stands.{stand};
+ghost use Rattle.ecma_parse_state.specs.Cursors.{stream_of};
+ghost use Rattle.ecma_parse_state.specs.States.{state_of};
 ghost use Rattle.ecma_parse_parts.specs.Ends as ends;
 
 use crate::{cover_in, is_clean};
@@ -54,7 +54,7 @@ pub fn settle<'a, I: Tokens<'a> + Drop, T: Nesting + Walk + Drop>(
 ) -> Result<T, Failure>
     requires limit { limit < 4294967295 }
     requires tree { T.Walk.tree part ≡ T.Nesting.tree part }
-    ensures value { Gives (λ x. (T.Nesting.tree x, stand I.state p.now)) result (ends.settled (machine_of I.machine) limit (T.Nesting.tree part, stand I.state p.now)) }
+    ensures value { Gives (λ x. (T.Nesting.tree x, state_of I.state p.now)) result (ends.settled (stream_of I.machine) limit (T.Nesting.tree part, state_of I.state p.now)) }
     ensures stays { IfOk result (λ x. x ≡ part) }
 {
     if part.nesting() > limit {

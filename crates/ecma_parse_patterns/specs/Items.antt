@@ -6,14 +6,14 @@ use Rattle.ecma_tree.specs.Tree.{Tree, rest_pat, assign_pat_prop, binding_ident,
 use Rattle.ecma_syntax.specs.Input.{Code, lo, dots_at, span, with_in}
 use Rattle.ecma_syntax.specs.Operators.{assignment_level}
 use Rattle.ecma_syntax.specs.Shape.{is_structured}
-use Rattle.ecma_reading.specs.Source.{Fault, unexpected, ◌>>=◌, Machine, Stand, Inner, Read, input, past, at, eat, spanned, iterate, bound}
+use Rattle.ecma_reading.specs.Source.{Fault, unexpected, ◌>>=◌, Stream, State, Inner, Read, input, past, at, eat, spanned, iterate, bound}
 use Rattle.ecma_reading.specs.Statements.{initial_pat, array_item, object_item}
 
 -- what follows an item: a comma and more, which none is after a rest; or what closes the list
-unfoldable pub after_by : {S : Type 0} → Machine S → ℕ → Bool → Stand S → Result (Bool × Stand S) Fault
+unfoldable pub after_by : {S : Type 0} → Stream S → ℕ → Bool → State S → Result (Bool × State S) Fault
 after_by m close last s = if at m comma_kind s && not last then Ok (true, past m s) else (eat m close s >>= λ r. Ok (false, r))
 
-module _ {S : Type 0} (m : Machine S) (inner : Inner S) where
+module _ {S : Type 0} (m : Stream S) (inner : Inner S) where
   -- an item with an initialiser or without (14.3.3)
   unfoldable pub item_by : Code → Read S Tree
   item_by c s = inner.pat (with_in c) s >>= λ p. initial_pat m inner c s p.0 p.1

@@ -7,8 +7,8 @@ ghost use Rattle.ecma_reading.specs.Source as spec;
 ghost use Rattle.ecma_reading.specs.Statements as reads;
 ghost use Rattle.ecma_parse_state.specs.Answers.{Falls, Gives, Stays};
 ghost use Rattle.ecma_parse_state.specs.Codes.{code_of};
-ghost use Rattle.ecma_parse_state.specs.Fronts.{machine_of};
-ghost use Rattle.ecma_parse_state.specs.Stands.{from, stand};
+ghost use Rattle.ecma_parse_state.specs.Cursors.{stream_of};
+ghost use Rattle.ecma_parse_state.specs.States.{from, state_of};
 ghost use Rattle.ecma_parse_patterns.specs.Items.{after_by, item_by, rest_by};
 
 use crate::made;
@@ -33,9 +33,9 @@ pub fn initial<'a, I: Tokens<'a> + Drop, N: Nested<'a, I>>(
 ) -> Result<PatBox, Failure>
     requires ready { N.ready nested.now }
     requires pat { holds_pat pat.part.value }
-    ensures value { Gives (λ x. (inner x.part.value, stand I.state p.new)) result (reads.initial_pat (machine_of I.machine) (N.reads nested.now I.State I.machine) (code_of code) (from start.0) (inner pat.part.value) (stand I.state p.old)) }
+    ensures value { Gives (λ x. (inner x.part.value, state_of I.state p.new)) result (reads.initial_pat (stream_of I.machine) (N.reads nested.now I.State I.machine) (code_of code) (from start.0) (inner pat.part.value) (state_of I.state p.old)) }
     ensures fits { IfOk result (λ x. holds_pat x.part.value) }
-    ensures not_longer { Stays result (spec.bound (machine_of I.machine) (stand I.state p.new)) (spec.bound (machine_of I.machine) (stand I.state p.old)) }
+    ensures not_longer { Stays result (spec.bound (stream_of I.machine) (state_of I.state p.new)) (spec.bound (stream_of I.machine) (state_of I.state p.old)) }
 {
     if p.eat(kinds::ASSIGN)? {
         let value = nested.expr(p, with_in(code), ASSIGNMENT)?;
@@ -53,9 +53,9 @@ pub fn item<'a, I: Tokens<'a> + Drop, N: Nested<'a, I>>(
     code: Around,
 ) -> Result<PatBox, Failure>
     requires ready { N.ready nested.now }
-    ensures value { Gives (λ x. (inner x.part.value, stand I.state p.new)) result (item_by (machine_of I.machine) (N.reads nested.now I.State I.machine) (code_of code) (stand I.state p.old)) }
+    ensures value { Gives (λ x. (inner x.part.value, state_of I.state p.new)) result (item_by (stream_of I.machine) (N.reads nested.now I.State I.machine) (code_of code) (state_of I.state p.old)) }
     ensures fits { IfOk result (λ x. holds_pat x.part.value) }
-    ensures shorter { Falls result (spec.bound (machine_of I.machine) (stand I.state p.new)) (spec.bound (machine_of I.machine) (stand I.state p.old)) }
+    ensures shorter { Falls result (spec.bound (stream_of I.machine) (state_of I.state p.new)) (spec.bound (stream_of I.machine) (state_of I.state p.old)) }
 {
     let start = p.lo();
     let pat = nested.pat(p, with_in(code))?;
@@ -71,9 +71,9 @@ pub fn rest<'a, I: Tokens<'a> + Drop, N: Nested<'a, I>>(
     code: Around,
 ) -> Result<RestPat, Failure>
     requires ready { N.ready nested.now }
-    ensures value { Gives (λ x. (view_rest_pat inner x, stand I.state p.new)) result (rest_by (machine_of I.machine) (N.reads nested.now I.State I.machine) (code_of code) (stand I.state p.old)) }
+    ensures value { Gives (λ x. (view_rest_pat inner x, state_of I.state p.new)) result (rest_by (stream_of I.machine) (N.reads nested.now I.State I.machine) (code_of code) (state_of I.state p.old)) }
     ensures fits { IfOk result (λ x. fits_rest_pat (λ p. p) x) }
-    ensures shorter { Falls result (spec.bound (machine_of I.machine) (stand I.state p.new)) (spec.bound (machine_of I.machine) (stand I.state p.old)) }
+    ensures shorter { Falls result (spec.bound (stream_of I.machine) (state_of I.state p.new)) (spec.bound (stream_of I.machine) (state_of I.state p.old)) }
 {
     let start = p.lo();
     let dot3_token = dots(start);
@@ -95,8 +95,8 @@ pub fn goes_on<'a, I: Tokens<'a> + Drop>(
     last: bool,
 ) -> Result<bool, Failure>
     requires { 0 < close }
-    ensures value { Gives (λ b. (b, stand I.state p.new)) result (after_by (machine_of I.machine) close last (stand I.state p.old)) }
-    ensures shorter { Falls result (spec.bound (machine_of I.machine) (stand I.state p.new)) (spec.bound (machine_of I.machine) (stand I.state p.old)) }
+    ensures value { Gives (λ b. (b, state_of I.state p.new)) result (after_by (stream_of I.machine) close last (state_of I.state p.old)) }
+    ensures shorter { Falls result (spec.bound (stream_of I.machine) (state_of I.state p.new)) (spec.bound (stream_of I.machine) (state_of I.state p.old)) }
 {
     if !last && p.eat(kinds::COMMA)? {
         return Ok(true);

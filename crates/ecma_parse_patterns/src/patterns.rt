@@ -9,8 +9,8 @@ ghost use Rattle.ecma_reading.specs.Source as spec;
 ghost use Rattle.ecma_reading.specs.Statements as reads;
 ghost use Rattle.ecma_parse_state.specs.Answers.{Falls, Gives, going_on, IsMemory};
 ghost use Rattle.ecma_parse_state.specs.Codes.{code_of};
-ghost use Rattle.ecma_parse_state.specs.Fronts.{machine_of};
-ghost use Rattle.ecma_parse_state.specs.Stands.{stand};
+ghost use Rattle.ecma_parse_state.specs.Cursors.{stream_of};
+ghost use Rattle.ecma_parse_state.specs.States.{state_of};
 ghost use Rattle.ecma_parse_patterns.specs.Items.{array_items, object_items, object_rest};
 
 use crate::items::{goes_on, item, rest};
@@ -43,9 +43,9 @@ pub fn array_turn<'a, I: Tokens<'a> + Drop, N: Nested<'a, I>>(
 ) -> Result<bool, Failure>
     requires ready { N.ready nested.now }
     requires fits { All (λ y. fits_held (λ z. holds_pat z.part.value) y) list.old.items }
-    ensures value { Gives (λ x. (going_on x (map (λ y. element_by (λ z. inner z.part.value) y) list.new.items), stand I.state p.new)) result (reads.array_item (machine_of I.machine) (N.reads nested.now I.State I.machine) (code_of code) (map (λ y. element_by (λ z. inner z.part.value) y) list.old.items) (stand I.state p.old)) }
+    ensures value { Gives (λ x. (going_on x (map (λ y. element_by (λ z. inner z.part.value) y) list.new.items), state_of I.state p.new)) result (reads.array_item (stream_of I.machine) (N.reads nested.now I.State I.machine) (code_of code) (map (λ y. element_by (λ z. inner z.part.value) y) list.old.items) (state_of I.state p.old)) }
     ensures fits { IfOk result (λ x. All (λ y. fits_held (λ z. holds_pat z.part.value) y) list.new.items) }
-    ensures shorter { Falls result (spec.bound (machine_of I.machine) (stand I.state p.new)) (spec.bound (machine_of I.machine) (stand I.state p.old)) }
+    ensures shorter { Falls result (spec.bound (stream_of I.machine) (state_of I.state p.new)) (spec.bound (stream_of I.machine) (state_of I.state p.old)) }
 {
     if p.eat(kinds::RIGHT_BRACKET)? {
         return Ok(false);
@@ -74,9 +74,9 @@ pub fn array_items<'a, I: Tokens<'a> + Drop, N: Nested<'a, I>>(
     code: Around,
 ) -> Result<Vec<Option<PatBox>>, Failure>
     requires ready { N.ready nested.now }
-    ensures value { Gives (λ x. (map (λ y. element_by (λ z. inner z.part.value) y) x.items, stand I.state p.new)) result (array_items (machine_of I.machine) (N.reads nested.now I.State I.machine) (code_of code) (stand I.state p.old)) }
+    ensures value { Gives (λ x. (map (λ y. element_by (λ z. inner z.part.value) y) x.items, state_of I.state p.new)) result (array_items (stream_of I.machine) (N.reads nested.now I.State I.machine) (code_of code) (state_of I.state p.old)) }
     ensures fits { IfOk result (λ x. All (λ y. fits_held (λ z. holds_pat z.part.value) y) x.items) }
-    ensures shorter { Falls result (spec.bound (machine_of I.machine) (stand I.state p.new)) (spec.bound (machine_of I.machine) (stand I.state p.old)) }
+    ensures shorter { Falls result (spec.bound (stream_of I.machine) (state_of I.state p.new)) (spec.bound (stream_of I.machine) (state_of I.state p.old)) }
 {
     let mut list = Vec::new(p.alloc);
     'turns: while array_turn(p, nested, code, &mut list)? {}
@@ -92,9 +92,9 @@ pub fn array<'a, I: Tokens<'a> + Drop, N: Nested<'a, I>>(
     code: Around,
 ) -> Result<PatBox, Failure>
     requires ready { N.ready nested.now }
-    ensures value { Gives (λ x. (inner x.part.value, stand I.state p.new)) result (reads.array_pat_by (machine_of I.machine) (N.reads nested.now I.State I.machine) (code_of code) (stand I.state p.old)) }
+    ensures value { Gives (λ x. (inner x.part.value, state_of I.state p.new)) result (reads.array_pat_by (stream_of I.machine) (N.reads nested.now I.State I.machine) (code_of code) (state_of I.state p.old)) }
     ensures fits { IfOk result (λ x. holds_pat x.part.value) }
-    ensures shorter { Falls result (spec.bound (machine_of I.machine) (stand I.state p.new)) (spec.bound (machine_of I.machine) (stand I.state p.old)) }
+    ensures shorter { Falls result (spec.bound (stream_of I.machine) (state_of I.state p.new)) (spec.bound (stream_of I.machine) (state_of I.state p.old)) }
 {
     let start = p.lo();
     p.bump()?;
@@ -111,9 +111,9 @@ pub fn object_rest<'a, I: Tokens<'a> + Drop, N: Nested<'a, I>>(
     code: Around,
 ) -> Result<ObjectPatProp, Failure>
     requires ready { N.ready nested.now }
-    ensures value { Gives (λ x. (view_object_pat_prop inner x, stand I.state p.new)) result (object_rest (machine_of I.machine) (N.reads nested.now I.State I.machine) (code_of code) (stand I.state p.old)) }
+    ensures value { Gives (λ x. (view_object_pat_prop inner x, state_of I.state p.new)) result (object_rest (stream_of I.machine) (N.reads nested.now I.State I.machine) (code_of code) (state_of I.state p.old)) }
     ensures fits { IfOk result (λ x. fits_object_pat_prop (λ p. p) x) }
-    ensures shorter { Falls result (spec.bound (machine_of I.machine) (stand I.state p.new)) (spec.bound (machine_of I.machine) (stand I.state p.old)) }
+    ensures shorter { Falls result (spec.bound (stream_of I.machine) (state_of I.state p.new)) (spec.bound (stream_of I.machine) (state_of I.state p.old)) }
 {
     let read = rest(p, nested, code)?;
     if is_structured(read.arg.get()) {
@@ -146,9 +146,9 @@ pub fn object_turn<'a, I: Tokens<'a> + Drop, N: Nested<'a, I>>(
 ) -> Result<bool, Failure>
     requires ready { N.ready nested.now }
     requires fits { All (λ y. fits_object_pat_prop (λ p. p) y) list.old.items }
-    ensures value { Gives (λ x. (going_on x (map (view_object_pat_prop inner) list.new.items), stand I.state p.new)) result (reads.object_item (machine_of I.machine) (N.reads nested.now I.State I.machine) (code_of code) (map (view_object_pat_prop inner) list.old.items) (stand I.state p.old)) }
+    ensures value { Gives (λ x. (going_on x (map (view_object_pat_prop inner) list.new.items), state_of I.state p.new)) result (reads.object_item (stream_of I.machine) (N.reads nested.now I.State I.machine) (code_of code) (map (view_object_pat_prop inner) list.old.items) (state_of I.state p.old)) }
     ensures fits { IfOk result (λ x. All (λ y. fits_object_pat_prop (λ p. p) y) list.new.items) }
-    ensures shorter { Falls result (spec.bound (machine_of I.machine) (stand I.state p.new)) (spec.bound (machine_of I.machine) (stand I.state p.old)) }
+    ensures shorter { Falls result (spec.bound (stream_of I.machine) (state_of I.state p.new)) (spec.bound (stream_of I.machine) (state_of I.state p.old)) }
 {
     if p.eat(kinds::RIGHT_BRACE)? {
         return Ok(false);
@@ -172,9 +172,9 @@ pub fn object_items<'a, I: Tokens<'a> + Drop, N: Nested<'a, I>>(
     code: Around,
 ) -> Result<Vec<ObjectPatProp>, Failure>
     requires ready { N.ready nested.now }
-    ensures value { Gives (λ x. (map (view_object_pat_prop inner) x.items, stand I.state p.new)) result (object_items (machine_of I.machine) (N.reads nested.now I.State I.machine) (code_of code) (stand I.state p.old)) }
+    ensures value { Gives (λ x. (map (view_object_pat_prop inner) x.items, state_of I.state p.new)) result (object_items (stream_of I.machine) (N.reads nested.now I.State I.machine) (code_of code) (state_of I.state p.old)) }
     ensures fits { IfOk result (λ x. All (λ y. fits_object_pat_prop (λ p. p) y) x.items) }
-    ensures shorter { Falls result (spec.bound (machine_of I.machine) (stand I.state p.new)) (spec.bound (machine_of I.machine) (stand I.state p.old)) }
+    ensures shorter { Falls result (spec.bound (stream_of I.machine) (state_of I.state p.new)) (spec.bound (stream_of I.machine) (state_of I.state p.old)) }
 {
     let mut list = Vec::new(p.alloc);
     'turns: while object_turn(p, nested, code, &mut list)? {}
@@ -190,9 +190,9 @@ pub fn object<'a, I: Tokens<'a> + Drop, N: Nested<'a, I>>(
     code: Around,
 ) -> Result<PatBox, Failure>
     requires ready { N.ready nested.now }
-    ensures value { Gives (λ x. (inner x.part.value, stand I.state p.new)) result (reads.object_pat_by (machine_of I.machine) (N.reads nested.now I.State I.machine) (code_of code) (stand I.state p.old)) }
+    ensures value { Gives (λ x. (inner x.part.value, state_of I.state p.new)) result (reads.object_pat_by (stream_of I.machine) (N.reads nested.now I.State I.machine) (code_of code) (state_of I.state p.old)) }
     ensures fits { IfOk result (λ x. holds_pat x.part.value) }
-    ensures shorter { Falls result (spec.bound (machine_of I.machine) (stand I.state p.new)) (spec.bound (machine_of I.machine) (stand I.state p.old)) }
+    ensures shorter { Falls result (spec.bound (stream_of I.machine) (state_of I.state p.new)) (spec.bound (stream_of I.machine) (state_of I.state p.old)) }
 {
     let start = p.lo();
     p.bump()?;
@@ -209,9 +209,9 @@ pub fn pattern<'a, I: Tokens<'a> + Drop, N: Nested<'a, I>>(
     code: Around,
 ) -> Result<PatBox, Failure>
     requires ready { N.ready nested.now }
-    ensures value { Gives (λ x. (inner x.part.value, stand I.state p.new)) result (reads.pat_by (machine_of I.machine) (N.reads nested.now I.State I.machine) (code_of code) (stand I.state p.old)) }
+    ensures value { Gives (λ x. (inner x.part.value, state_of I.state p.new)) result (reads.pat_by (stream_of I.machine) (N.reads nested.now I.State I.machine) (code_of code) (state_of I.state p.old)) }
     ensures fits { IfOk result (λ x. holds_pat x.part.value) }
-    ensures shorter { Falls result (spec.bound (machine_of I.machine) (stand I.state p.new)) (spec.bound (machine_of I.machine) (stand I.state p.old)) }
+    ensures shorter { Falls result (spec.bound (stream_of I.machine) (state_of I.state p.new)) (spec.bound (stream_of I.machine) (state_of I.state p.old)) }
 {
     if p.at(kinds::LEFT_BRACKET) {
         return array(p, nested, code);

@@ -7,8 +7,8 @@ ghost use Rattle.ecma_reading.specs.Source as spec;
 ghost use Rattle.ecma_reading.specs.Statements as reads;
 ghost use Rattle.ecma_parse_state.specs.Answers.{Falls, Gives, Stays};
 ghost use Rattle.ecma_parse_state.specs.Codes.{code_of};
-ghost use Rattle.ecma_parse_state.specs.Fronts.{machine_of};
-ghost use Rattle.ecma_parse_state.specs.Stands.{from, stand};
+ghost use Rattle.ecma_parse_state.specs.Cursors.{stream_of};
+ghost use Rattle.ecma_parse_state.specs.States.{from, state_of};
 ghost use Rattle.ecma_parse_patterns.specs.Items.{named_rest};
 
 use crate::items::item;
@@ -36,9 +36,9 @@ pub fn keyed<'a, I: Tokens<'a> + Drop, N: Nested<'a, I>>(
 ) -> Result<ObjectPatProp, Failure>
     requires ready { N.ready nested.now }
     requires key { fits_prop_name (λ p. p) key }
-    ensures value { Gives (λ x. (view_object_pat_prop inner x, stand I.state p.new)) result (reads.keyed_item (machine_of I.machine) (N.reads nested.now I.State I.machine) (code_of code) (from start.0) (view_prop_name inner key) (stand I.state p.old)) }
+    ensures value { Gives (λ x. (view_object_pat_prop inner x, state_of I.state p.new)) result (reads.keyed_item (stream_of I.machine) (N.reads nested.now I.State I.machine) (code_of code) (from start.0) (view_prop_name inner key) (state_of I.state p.old)) }
     ensures fits { IfOk result (λ x. fits_object_pat_prop (λ p. p) x) }
-    ensures shorter { Falls result (spec.bound (machine_of I.machine) (stand I.state p.new)) (spec.bound (machine_of I.machine) (stand I.state p.old)) }
+    ensures shorter { Falls result (spec.bound (stream_of I.machine) (state_of I.state p.new)) (spec.bound (stream_of I.machine) (state_of I.state p.old)) }
 {
     let value = item(p, nested, code)?;
     let span = p.since(start);
@@ -56,9 +56,9 @@ pub fn named<'a, I: Tokens<'a> + Drop, N: Nested<'a, I>>(
     sym: Atom,
 ) -> Result<ObjectPatProp, Failure>
     requires ready { N.ready nested.now }
-    ensures value { Gives (λ x. (view_object_pat_prop inner x, stand I.state p.new)) result (named_rest (machine_of I.machine) (N.reads nested.now I.State I.machine) (code_of code) span sym (stand I.state p.old)) }
+    ensures value { Gives (λ x. (view_object_pat_prop inner x, state_of I.state p.new)) result (named_rest (stream_of I.machine) (N.reads nested.now I.State I.machine) (code_of code) span sym (state_of I.state p.old)) }
     ensures fits { IfOk result (λ x. fits_object_pat_prop (λ p. p) x) }
-    ensures not_longer { Stays result (spec.bound (machine_of I.machine) (stand I.state p.new)) (spec.bound (machine_of I.machine) (stand I.state p.old)) }
+    ensures not_longer { Stays result (spec.bound (stream_of I.machine) (state_of I.state p.new)) (spec.bound (stream_of I.machine) (state_of I.state p.old)) }
 {
     let key = BindingIdent {
         span,
@@ -89,10 +89,10 @@ pub fn word_property<'a, I: Tokens<'a> + Drop, N: Nested<'a, I>>(
     code: Around,
 ) -> Result<ObjectPatProp, Failure>
     requires ready { N.ready nested.now }
-    requires word { spec.is_name (machine_of I.machine) (code_of code) (stand I.state p.old) ≡ true }
-    ensures value { Gives (λ x. (view_object_pat_prop inner x, stand I.state p.new)) result (reads.pattern_prop (machine_of I.machine) (N.reads nested.now I.State I.machine) (code_of code) (stand I.state p.old)) }
+    requires word { spec.is_name (stream_of I.machine) (code_of code) (state_of I.state p.old) ≡ true }
+    ensures value { Gives (λ x. (view_object_pat_prop inner x, state_of I.state p.new)) result (reads.pattern_prop (stream_of I.machine) (N.reads nested.now I.State I.machine) (code_of code) (state_of I.state p.old)) }
     ensures fits { IfOk result (λ x. fits_object_pat_prop (λ p. p) x) }
-    ensures shorter { Falls result (spec.bound (machine_of I.machine) (stand I.state p.new)) (spec.bound (machine_of I.machine) (stand I.state p.old)) }
+    ensures shorter { Falls result (spec.bound (stream_of I.machine) (state_of I.state p.new)) (spec.bound (stream_of I.machine) (state_of I.state p.old)) }
 {
     let start = p.lo();
     let span = p.place();
@@ -113,9 +113,9 @@ pub fn property<'a, I: Tokens<'a> + Drop, N: Nested<'a, I>>(
     code: Around,
 ) -> Result<ObjectPatProp, Failure>
     requires ready { N.ready nested.now }
-    ensures value { Gives (λ x. (view_object_pat_prop inner x, stand I.state p.new)) result (reads.pattern_prop (machine_of I.machine) (N.reads nested.now I.State I.machine) (code_of code) (stand I.state p.old)) }
+    ensures value { Gives (λ x. (view_object_pat_prop inner x, state_of I.state p.new)) result (reads.pattern_prop (stream_of I.machine) (N.reads nested.now I.State I.machine) (code_of code) (state_of I.state p.old)) }
     ensures fits { IfOk result (λ x. fits_object_pat_prop (λ p. p) x) }
-    ensures shorter { Falls result (spec.bound (machine_of I.machine) (stand I.state p.new)) (spec.bound (machine_of I.machine) (stand I.state p.old)) }
+    ensures shorter { Falls result (spec.bound (stream_of I.machine) (state_of I.state p.new)) (spec.bound (stream_of I.machine) (state_of I.state p.old)) }
 {
     if p.is_name(code) {
         return word_property(p, nested, code);

@@ -4,10 +4,10 @@ use Rattle.ecma_token.specs.Kinds.{true_kind, false_kind, await_kind, yield_kind
 use Rattle.ecma_tree.specs.Tree.{Tree, bool_lit}
 use Rattle.ecma_syntax.specs.Input.{Code, kind}
 use Rattle.ecma_syntax.specs.Operators.{between}
-use Rattle.ecma_reading.specs.Source.{◌>>=◌, Machine, Read, Inner, input, at, eat_word}
+use Rattle.ecma_reading.specs.Source.{◌>>=◌, Stream, Read, Inner, input, at, eat_word}
 use Rattle.ecma_reading.specs.Expressions.{is_unary, fixed, function_expr_by, class_expr_by, new_by, super_end, import_by, unary_by, update_by, await_by, yield_by, word_by, array_by, object_by, template_by, literal_by}
 
-module _ {S : Type 0} (m : Machine S) (inner : Inner S) where
+module _ {S : Type 0} (m : Stream S) (inner : Inner S) where
   unfoldable pub super_by : Code → Read S Tree
   super_by c s = eat_word m c super_kind s >>= λ r. super_end m inner c s r
 

@@ -4,8 +4,8 @@ ghost use Rattle.ecma_reading.specs.Source as spec;
 ghost use Rattle.ecma_reading.specs.Expressions as reads;
 ghost use Rattle.ecma_parse_state.specs.Answers.{Falls, Gives};
 ghost use Rattle.ecma_parse_state.specs.Codes.{code_of};
-ghost use Rattle.ecma_parse_state.specs.Fronts.{machine_of};
-ghost use Rattle.ecma_parse_state.specs.Stands.{stand};
+ghost use Rattle.ecma_parse_state.specs.Cursors.{stream_of};
+ghost use Rattle.ecma_parse_state.specs.States.{state_of};
 ghost use Rattle.ecma_parse_base.specs.Operands.{tree_of};
 ghost use Rattle.ecma_parse_base.specs.Lists.{arguments_of};
 
@@ -24,7 +24,7 @@ pub fn fits_import<'a, I: Tokens<'a> + Drop, N: Nested<'a, I>>(
     code: Around,
     list: &Arguments,
 ) -> bool
-    ensures { result ≡ reads.fits_import (machine_of I.machine) (N.reads _nested.now I.State I.machine) (code_of code) (arguments_of list.now) }
+    ensures { result ≡ reads.fits_import (stream_of I.machine) (N.reads _nested.now I.State I.machine) (code_of code) (arguments_of list.now) }
 {
     let attributes = code.syntax.import_attributes;
     match list.items.as_slice() {
@@ -43,8 +43,8 @@ pub fn import<'a, I: Tokens<'a> + Drop, N: Nested<'a, I>>(
     code: Around,
 ) -> Result<Operand, Failure>
     requires ready { N.ready nested.now }
-    ensures value { Gives (λ x. (tree_of x, stand I.state p.new)) result (reads.import_by (machine_of I.machine) (N.reads nested.now I.State I.machine) (code_of code) (stand I.state p.old)) }
-    ensures shorter { Falls result (spec.bound (machine_of I.machine) (stand I.state p.new)) (spec.bound (machine_of I.machine) (stand I.state p.old)) }
+    ensures value { Gives (λ x. (tree_of x, state_of I.state p.new)) result (reads.import_by (stream_of I.machine) (N.reads nested.now I.State I.machine) (code_of code) (state_of I.state p.old)) }
+    ensures shorter { Falls result (spec.bound (stream_of I.machine) (state_of I.state p.new)) (spec.bound (stream_of I.machine) (state_of I.state p.old)) }
 {
     let start = p.lo();
     let place = p.place();

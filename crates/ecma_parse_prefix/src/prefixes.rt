@@ -4,8 +4,8 @@ ghost use Rattle.ecma_reading.specs.Source as spec;
 ghost use Rattle.ecma_reading.specs.Expressions as reads;
 ghost use Rattle.ecma_parse_state.specs.Answers.{Falls, Gives};
 ghost use Rattle.ecma_parse_state.specs.Codes.{code_of};
-ghost use Rattle.ecma_parse_state.specs.Fronts.{machine_of};
-ghost use Rattle.ecma_parse_state.specs.Stands.{stand};
+ghost use Rattle.ecma_parse_state.specs.Cursors.{stream_of};
+ghost use Rattle.ecma_parse_state.specs.States.{state_of};
 ghost use Rattle.ecma_parse_base.specs.Operands.{tree_of};
 ghost use Rattle.ecma_parse_prefix.specs.Words as words;
 
@@ -28,8 +28,8 @@ pub fn operator_mark<'a, I: Tokens<'a> + Drop, N: Nested<'a, I>>(
     code: Around,
 ) -> Result<Operand, Failure>
     requires ready { N.ready nested.now }
-    ensures value { Gives (λ x. (tree_of x, stand I.state p.new)) result (words.operator_mark (machine_of I.machine) (N.reads nested.now I.State I.machine) (code_of code) (stand I.state p.old)) }
-    ensures shorter { Falls result (spec.bound (machine_of I.machine) (stand I.state p.new)) (spec.bound (machine_of I.machine) (stand I.state p.old)) }
+    ensures value { Gives (λ x. (tree_of x, state_of I.state p.new)) result (words.operator_mark (stream_of I.machine) (N.reads nested.now I.State I.machine) (code_of code) (state_of I.state p.old)) }
+    ensures shorter { Falls result (spec.bound (stream_of I.machine) (state_of I.state p.new)) (spec.bound (stream_of I.machine) (state_of I.state p.old)) }
 {
     if let Some(op) = unary_op(p.kind()) {
         return unary(p, nested, code, op);
@@ -49,8 +49,8 @@ pub fn list_mark<'a, I: Tokens<'a> + Drop, N: Nested<'a, I>>(
     code: Around,
 ) -> Result<Operand, Failure>
     requires ready { N.ready nested.now }
-    ensures value { Gives (λ x. (tree_of x, stand I.state p.new)) result (words.list_mark (machine_of I.machine) (N.reads nested.now I.State I.machine) (code_of code) (stand I.state p.old)) }
-    ensures shorter { Falls result (spec.bound (machine_of I.machine) (stand I.state p.new)) (spec.bound (machine_of I.machine) (stand I.state p.old)) }
+    ensures value { Gives (λ x. (tree_of x, state_of I.state p.new)) result (words.list_mark (stream_of I.machine) (N.reads nested.now I.State I.machine) (code_of code) (state_of I.state p.old)) }
+    ensures shorter { Falls result (spec.bound (stream_of I.machine) (state_of I.state p.new)) (spec.bound (stream_of I.machine) (state_of I.state p.old)) }
 {
     if p.at(kinds::LEFT_BRACKET) {
         return array(p, nested, code);
@@ -75,8 +75,8 @@ pub fn prefix<'a, I: Tokens<'a> + Drop, N: Nested<'a, I>>(
     level: u8,
 ) -> Result<Operand, Failure>
     requires ready { N.ready nested.now }
-    ensures value { Gives (λ x. (tree_of x, stand I.state p.new)) result (reads.prefix_by (machine_of I.machine) (N.reads nested.now I.State I.machine) (code_of code) level (stand I.state p.old)) }
-    ensures shorter { Falls result (spec.bound (machine_of I.machine) (stand I.state p.new)) (spec.bound (machine_of I.machine) (stand I.state p.old)) }
+    ensures value { Gives (λ x. (tree_of x, state_of I.state p.new)) result (reads.prefix_by (stream_of I.machine) (N.reads nested.now I.State I.machine) (code_of code) level (state_of I.state p.old)) }
+    ensures shorter { Falls result (spec.bound (stream_of I.machine) (state_of I.state p.new)) (spec.bound (stream_of I.machine) (state_of I.state p.old)) }
 {
     if p.is_word() {
         return keyword(p, nested, code, level);

@@ -5,8 +5,8 @@ ghost use Rattle.ecma_reading.specs.Source as spec;
 ghost use Rattle.ecma_reading.specs.Expressions as reads;
 ghost use Rattle.ecma_parse_state.specs.Answers.{Falls, Gives};
 ghost use Rattle.ecma_parse_state.specs.Codes.{code_of};
-ghost use Rattle.ecma_parse_state.specs.Fronts.{machine_of};
-ghost use Rattle.ecma_parse_state.specs.Stands.{stand};
+ghost use Rattle.ecma_parse_state.specs.Cursors.{stream_of};
+ghost use Rattle.ecma_parse_state.specs.States.{state_of};
 ghost use Rattle.ecma_parse_base.specs.Operands.{tree_of};
 ghost use Rattle.ecma_parse_prefix.specs.Words as words;
 
@@ -32,8 +32,8 @@ pub fn word<'a, I: Tokens<'a> + Drop, N: Nested<'a, I>>(
     level: u8,
 ) -> Result<Operand, Failure>
     requires ready { N.ready nested.now }
-    ensures value { Gives (λ x. (tree_of x, stand I.state p.new)) result (reads.word_by (machine_of I.machine) (N.reads nested.now I.State I.machine) (code_of code) level (stand I.state p.old)) }
-    ensures shorter { Falls result (spec.bound (machine_of I.machine) (stand I.state p.new)) (spec.bound (machine_of I.machine) (stand I.state p.old)) }
+    ensures value { Gives (λ x. (tree_of x, state_of I.state p.new)) result (reads.word_by (stream_of I.machine) (N.reads nested.now I.State I.machine) (code_of code) level (state_of I.state p.old)) }
+    ensures shorter { Falls result (spec.bound (stream_of I.machine) (state_of I.state p.new)) (spec.bound (stream_of I.machine) (state_of I.state p.old)) }
 {
     if p.at(kinds::ASYNC) {
         return async_expr(p, nested, code, level);
@@ -52,8 +52,8 @@ pub fn super_expr<'a, I: Tokens<'a> + Drop, N: Nested<'a, I>>(
     code: Around,
 ) -> Result<Operand, Failure>
     requires ready { N.ready nested.now }
-    ensures value { Gives (λ x. (tree_of x, stand I.state p.new)) result (words.super_by (machine_of I.machine) (N.reads nested.now I.State I.machine) (code_of code) (stand I.state p.old)) }
-    ensures shorter { Falls result (spec.bound (machine_of I.machine) (stand I.state p.new)) (spec.bound (machine_of I.machine) (stand I.state p.old)) }
+    ensures value { Gives (λ x. (tree_of x, state_of I.state p.new)) result (words.super_by (stream_of I.machine) (N.reads nested.now I.State I.machine) (code_of code) (state_of I.state p.old)) }
+    ensures shorter { Falls result (spec.bound (stream_of I.machine) (state_of I.state p.new)) (spec.bound (stream_of I.machine) (state_of I.state p.old)) }
 {
     let place = p.place();
     p.eat_word(code, kinds::SUPER)?;
@@ -70,9 +70,9 @@ pub fn operator_word<'a, I: Tokens<'a> + Drop, N: Nested<'a, I>>(
     level: u8,
 ) -> Result<Operand, Failure>
     requires ready { N.ready nested.now }
-    requires word { is_word (kind (spec.input (machine_of I.machine) (stand I.state p.old))) ≡ true }
-    ensures value { Gives (λ x. (tree_of x, stand I.state p.new)) result (words.operator_word (machine_of I.machine) (N.reads nested.now I.State I.machine) (code_of code) level (stand I.state p.old)) }
-    ensures shorter { Falls result (spec.bound (machine_of I.machine) (stand I.state p.new)) (spec.bound (machine_of I.machine) (stand I.state p.old)) }
+    requires word { is_word (kind (spec.input (stream_of I.machine) (state_of I.state p.old))) ≡ true }
+    ensures value { Gives (λ x. (tree_of x, state_of I.state p.new)) result (words.operator_word (stream_of I.machine) (N.reads nested.now I.State I.machine) (code_of code) level (state_of I.state p.old)) }
+    ensures shorter { Falls result (spec.bound (stream_of I.machine) (state_of I.state p.new)) (spec.bound (stream_of I.machine) (state_of I.state p.old)) }
 {
     if let Some(op) = unary_op(p.kind()) {
         return unary(p, nested, code, op);
@@ -96,9 +96,9 @@ pub fn member_word<'a, I: Tokens<'a> + Drop, N: Nested<'a, I>>(
     level: u8,
 ) -> Result<Operand, Failure>
     requires ready { N.ready nested.now }
-    requires word { is_word (kind (spec.input (machine_of I.machine) (stand I.state p.old))) ≡ true }
-    ensures value { Gives (λ x. (tree_of x, stand I.state p.new)) result (words.member_word (machine_of I.machine) (N.reads nested.now I.State I.machine) (code_of code) level (stand I.state p.old)) }
-    ensures shorter { Falls result (spec.bound (machine_of I.machine) (stand I.state p.new)) (spec.bound (machine_of I.machine) (stand I.state p.old)) }
+    requires word { is_word (kind (spec.input (stream_of I.machine) (state_of I.state p.old))) ≡ true }
+    ensures value { Gives (λ x. (tree_of x, state_of I.state p.new)) result (words.member_word (stream_of I.machine) (N.reads nested.now I.State I.machine) (code_of code) level (state_of I.state p.old)) }
+    ensures shorter { Falls result (spec.bound (stream_of I.machine) (state_of I.state p.new)) (spec.bound (stream_of I.machine) (state_of I.state p.old)) }
 {
     if p.at(kinds::NEW) {
         return new_expr(p, nested, code);
@@ -122,9 +122,9 @@ pub fn definition_word<'a, I: Tokens<'a> + Drop, N: Nested<'a, I>>(
     level: u8,
 ) -> Result<Operand, Failure>
     requires ready { N.ready nested.now }
-    requires word { is_word (kind (spec.input (machine_of I.machine) (stand I.state p.old))) ≡ true }
-    ensures value { Gives (λ x. (tree_of x, stand I.state p.new)) result (words.definition_word (machine_of I.machine) (N.reads nested.now I.State I.machine) (code_of code) level (stand I.state p.old)) }
-    ensures shorter { Falls result (spec.bound (machine_of I.machine) (stand I.state p.new)) (spec.bound (machine_of I.machine) (stand I.state p.old)) }
+    requires word { is_word (kind (spec.input (stream_of I.machine) (state_of I.state p.old))) ≡ true }
+    ensures value { Gives (λ x. (tree_of x, state_of I.state p.new)) result (words.definition_word (stream_of I.machine) (N.reads nested.now I.State I.machine) (code_of code) level (state_of I.state p.old)) }
+    ensures shorter { Falls result (spec.bound (stream_of I.machine) (state_of I.state p.new)) (spec.bound (stream_of I.machine) (state_of I.state p.old)) }
 {
     if p.at(kinds::FUNCTION) {
         let start = p.lo();
@@ -146,9 +146,9 @@ pub fn boolean_word<'a, I: Tokens<'a> + Drop, N: Nested<'a, I>>(
     level: u8,
 ) -> Result<Operand, Failure>
     requires ready { N.ready nested.now }
-    requires word { is_word (kind (spec.input (machine_of I.machine) (stand I.state p.old))) ≡ true }
-    ensures value { Gives (λ x. (tree_of x, stand I.state p.new)) result (words.boolean_word (machine_of I.machine) (N.reads nested.now I.State I.machine) (code_of code) level (stand I.state p.old)) }
-    ensures shorter { Falls result (spec.bound (machine_of I.machine) (stand I.state p.new)) (spec.bound (machine_of I.machine) (stand I.state p.old)) }
+    requires word { is_word (kind (spec.input (stream_of I.machine) (state_of I.state p.old))) ≡ true }
+    ensures value { Gives (λ x. (tree_of x, state_of I.state p.new)) result (words.boolean_word (stream_of I.machine) (N.reads nested.now I.State I.machine) (code_of code) level (state_of I.state p.old)) }
+    ensures shorter { Falls result (spec.bound (stream_of I.machine) (state_of I.state p.new)) (spec.bound (stream_of I.machine) (state_of I.state p.old)) }
 {
     if p.at(kinds::TRUE) {
         let span = fixed(p, code)?;
@@ -171,9 +171,9 @@ fn own_word<'a, I: Tokens<'a> + Drop, N: Nested<'a, I>>(
     level: u8,
 ) -> Result<Operand, Failure>
     requires ready { N.ready nested.now }
-    requires word { is_word (kind (spec.input (machine_of I.machine) (stand I.state p.old))) ≡ true }
-    ensures value { Gives (λ x. (tree_of x, stand I.state p.new)) result (reads.keyword_by (machine_of I.machine) (N.reads nested.now I.State I.machine) (code_of code) level (stand I.state p.old)) }
-    ensures shorter { Falls result (spec.bound (machine_of I.machine) (stand I.state p.new)) (spec.bound (machine_of I.machine) (stand I.state p.old)) }
+    requires word { is_word (kind (spec.input (stream_of I.machine) (state_of I.state p.old))) ≡ true }
+    ensures value { Gives (λ x. (tree_of x, state_of I.state p.new)) result (reads.keyword_by (stream_of I.machine) (N.reads nested.now I.State I.machine) (code_of code) level (state_of I.state p.old)) }
+    ensures shorter { Falls result (spec.bound (stream_of I.machine) (state_of I.state p.new)) (spec.bound (stream_of I.machine) (state_of I.state p.old)) }
 {
     if p.at(kinds::THIS) {
         let span = fixed(p, code)?;
@@ -196,9 +196,9 @@ pub fn keyword<'a, I: Tokens<'a> + Drop, N: Nested<'a, I>>(
     level: u8,
 ) -> Result<Operand, Failure>
     requires ready { N.ready nested.now }
-    requires word { is_word (kind (spec.input (machine_of I.machine) (stand I.state p.old))) ≡ true }
-    ensures value { Gives (λ x. (tree_of x, stand I.state p.new)) result (reads.keyword_by (machine_of I.machine) (N.reads nested.now I.State I.machine) (code_of code) level (stand I.state p.old)) }
-    ensures shorter { Falls result (spec.bound (machine_of I.machine) (stand I.state p.new)) (spec.bound (machine_of I.machine) (stand I.state p.old)) }
+    requires word { is_word (kind (spec.input (stream_of I.machine) (state_of I.state p.old))) ≡ true }
+    ensures value { Gives (λ x. (tree_of x, state_of I.state p.new)) result (reads.keyword_by (stream_of I.machine) (N.reads nested.now I.State I.machine) (code_of code) level (state_of I.state p.old)) }
+    ensures shorter { Falls result (spec.bound (stream_of I.machine) (state_of I.state p.new)) (spec.bound (stream_of I.machine) (state_of I.state p.old)) }
 {
     if p.at(kinds::NAME) || p.at(kinds::ASYNC) {
         return word(p, nested, code, level);

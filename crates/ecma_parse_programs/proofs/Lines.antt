@@ -1,22 +1,22 @@
--- A program by whether a hashbang leads it, from a mark that was made at its start.
+-- A program by whether a hashbang leads it, from a start that was made at its start.
 use Rattle.std.proofs.Common.{◌≡◌, ℕ, Bool, true, false, List, Option, None, Some, Ok, refl, sym, ◌∙◌}
 use Rattle.ecma_token.specs.Kinds.{shebang_kind}
 use Rattle.ecma_token_source.specs.Machine as tokens
 use Rattle.ecma_syntax.specs.Input.{Code, lo, content}
-use Rattle.ecma_reading.specs.Source.{Machine, Stand, Inner, ◌>>=◌, unexpected, input, past, at}
+use Rattle.ecma_reading.specs.Source.{Stream, State, Inner, ◌>>=◌, unexpected, input, past, at}
 use Rattle.ecma_reading.specs.Modules.{line_of, program_by, program_rest}
-use Rattle.ecma_parse_state.specs.Fronts.{Front, machine_of}
-use Rattle.ecma_parse_state.specs.Stands.{from}
+use Rattle.ecma_parse_state.specs.Cursors.{Cursor, stream_of}
+use Rattle.ecma_parse_state.specs.States.{from}
 use Rattle.ecma_parse_state.proofs.Marks.{lo_from}
 use Rattle.ecma_parse_programs.specs.Lines.{led_by, line_by}
 
-module _ {S : Type 0} (m : Machine S) (inner : Inner S) (modules : Bool) (c : Code) (s a : Stand S) (e : lo (input m s) ≡ lo (input m a)) where
-  rest_same : (l : Option (List ℕ)) (r : Stand S) → program_rest m inner modules c s l r ≡ program_rest m inner modules c a l r
+module _ {S : Type 0} (m : Stream S) (inner : Inner S) (modules : Bool) (c : Code) (s a : State S) (e : lo (input m s) ≡ lo (input m a)) where
+  rest_same : (l : Option (List ℕ)) (r : State S) → program_rest m inner modules c s l r ≡ program_rest m inner modules c a l r
   unfolding program_rest
   rest_same l r = rw e refl
 
   line_same : (o : Option (List ℕ)) → elim o [ None ↦ unexpected | Some l ↦ program_rest m inner modules c s (Some l) (past m s) ]
-      ≡ ◌>>=◌ {A = List ℕ × Stand S} (elim o [ None ↦ unexpected | Some l ↦ Ok (l, past m s) ]) (λ l. program_rest m inner modules c a (Some l.0) l.1)
+      ≡ ◌>>=◌ {A = List ℕ × State S} (elim o [ None ↦ unexpected | Some l ↦ Ok (l, past m s) ]) (λ l. program_rest m inner modules c a (Some l.0) l.1)
   line_same None = refl
   line_same (Some l) = rest_same (Some l) (past m s)
 
@@ -28,13 +28,13 @@ module _ {S : Type 0} (m : Machine S) (inner : Inner S) (modules : Bool) (c : Co
   unfolding program_by
   plain_same is = rw is (rest_same None s)
 
-module _ {S : Type 0} (m : tokens.Machine S) (inner : Inner (Front S)) (modules : Bool) (c : Code) (n : ℕ) (s : Stand (Front S)) (e : n ≡ lo (input (machine_of m) s)) where
+module _ {S : Type 0} (m : tokens.Machine S) (inner : Inner (Cursor S)) (modules : Bool) (c : Code) (n : ℕ) (s : State (Cursor S)) (e : n ≡ lo (input (stream_of m) s)) where
   -- led by a hashbang
-  pub led : at (machine_of m) shebang_kind s ≡ true → program_by (machine_of m) inner modules c s ≡ led_by (machine_of m) inner modules c (from n) s
-  led is = led_same (machine_of m) inner modules c s (from n) (sym e ∙ sym (lo_from m n)) is
+  pub led : at (stream_of m) shebang_kind s ≡ true → program_by (stream_of m) inner modules c s ≡ led_by (stream_of m) inner modules c (from n) s
+  led is = led_same (stream_of m) inner modules c s (from n) (sym e ∙ sym (lo_from m n)) is
 
   -- led by none
-  pub plain : at (machine_of m) shebang_kind s ≡ false → program_by (machine_of m) inner modules c s ≡ program_rest (machine_of m) inner modules c (from n) None s
-  plain is = plain_same (machine_of m) inner modules c s (from n) (sym e ∙ sym (lo_from m n)) is
+  pub plain : at (stream_of m) shebang_kind s ≡ false → program_by (stream_of m) inner modules c s ≡ program_rest (stream_of m) inner modules c (from n) None s
+  plain is = plain_same (stream_of m) inner modules c s (from n) (sym e ∙ sym (lo_from m n)) is
 
 pub ruleset lines = (led, plain)

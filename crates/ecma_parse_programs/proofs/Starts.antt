@@ -3,30 +3,30 @@ use Rattle.std.proofs.Common.{◌≡◌, ℕ, refl, sym, ◌∙◌, List}
 use Rattle.ecma_token_source.specs.Machine as tokens
 use Rattle.ecma_tree.specs.Tree.{Tree}
 use Rattle.ecma_syntax.specs.Input.{Code, lo}
-use Rattle.ecma_reading.specs.Source.{Machine, Stand, Inner, input}
+use Rattle.ecma_reading.specs.Source.{Stream, State, Inner, input}
 use Rattle.ecma_reading.specs.Modules.{import_end, import_rest, import_default}
-use Rattle.ecma_parse_state.specs.Fronts.{Front, machine_of}
-use Rattle.ecma_parse_state.specs.Stands.{from}
+use Rattle.ecma_parse_state.specs.Cursors.{Cursor, stream_of}
+use Rattle.ecma_parse_state.specs.States.{from}
 use Rattle.ecma_parse_state.proofs.Marks.{lo_from}
 
-module _ {S : Type 0} (m : Machine S) (inner : Inner S) (c : Code) (a b : Stand S) (e : lo (input m a) ≡ lo (input m b)) where
-  rest_same : (xs : List Tree) (r : Stand S) → import_rest m inner c a xs r ≡ import_rest m inner c b xs r
+module _ {S : Type 0} (m : Stream S) (inner : Inner S) (c : Code) (a b : State S) (e : lo (input m a) ≡ lo (input m b)) where
+  rest_same : (xs : List Tree) (r : State S) → import_rest m inner c a xs r ≡ import_rest m inner c b xs r
   unfolding import_rest import_end
   rest_same xs r = rw e refl
 
-  default_same : (r : Stand S) → import_default m inner c a r ≡ import_default m inner c b r
+  default_same : (r : State S) → import_default m inner c a r ≡ import_default m inner c b r
   unfolding import_default import_rest import_end
   default_same r = rw e refl
 
--- from a mark that was made there
-module _ {S : Type 0} (m : tokens.Machine S) (inner : Inner (Front S)) (c : Code) (a : Stand (Front S)) (n : ℕ) (e : n ≡ lo (input (machine_of m) a)) where
-  at_mark : lo (input (machine_of m) a) ≡ lo (input (machine_of m) (from n))
+-- from a start that was made there
+module _ {S : Type 0} (m : tokens.Machine S) (inner : Inner (Cursor S)) (c : Code) (a : State (Cursor S)) (n : ℕ) (e : n ≡ lo (input (stream_of m) a)) where
+  at_mark : lo (input (stream_of m) a) ≡ lo (input (stream_of m) (from n))
   at_mark = sym e ∙ sym (lo_from m n)
 
-  pub rest_from : (xs : List Tree) (r : Stand (Front S)) → import_rest (machine_of m) inner c a xs r ≡ import_rest (machine_of m) inner c (from n) xs r
-  rest_from = rest_same (machine_of m) inner c a (from n) at_mark
+  pub rest_from : (xs : List Tree) (r : State (Cursor S)) → import_rest (stream_of m) inner c a xs r ≡ import_rest (stream_of m) inner c (from n) xs r
+  rest_from = rest_same (stream_of m) inner c a (from n) at_mark
 
-  pub default_from : (r : Stand (Front S)) → import_default (machine_of m) inner c a r ≡ import_default (machine_of m) inner c (from n) r
-  default_from = default_same (machine_of m) inner c a (from n) at_mark
+  pub default_from : (r : State (Cursor S)) → import_default (stream_of m) inner c a r ≡ import_default (stream_of m) inner c (from n) r
+  default_from = default_same (stream_of m) inner c a (from n) at_mark
 
 pub ruleset starts = (rest_from, default_from)

@@ -4,7 +4,7 @@ use Rattle.ecma_syntax.specs.Input.{Code}
 use Rattle.ecma_node.specs.Fits.{fits_module_item}
 use Rattle.ecma_node.specs.Placed.{inner}
 use Rattle.ecma_node.specs.View.{view_module_item}
-use Rattle.ecma_reading.specs.Source.{Machine, Inner, Read, iterate, bound}
+use Rattle.ecma_reading.specs.Source.{Stream, Inner, Read, iterate, bound}
 use Rattle.ecma_reading.specs.Statements.{Body}
 use Rattle.ecma_reading.specs.Modules.{program_step}
 use Rattle.ecma_parse_state.specs.Codes.{code_of}
@@ -18,5 +18,5 @@ abbrev pub FitItems : ItemsSoFar → Type 0
 FitItems b = All (λ x. fits_module_item (λ p. p) x) b.items.items
 
 -- the items of a script or a module, up to its end (16.1, 16.2)
-unfoldable pub items_by : {S : Type 0} → Machine S → Inner S → Bool → Code → Read S Body
+unfoldable pub items_by : {S : Type 0} → Stream S → Inner S → Bool → Code → Read S Body
 items_by m inner modules c s = iterate (bound m) (program_step m inner modules) (record { items = []; code = c; starts = true }) s

@@ -2,14 +2,14 @@
 use Rattle.std.specs.Prelude.{ℕ, Bool, List, None, Some, Ok}
 use Rattle.ecma_tree.specs.Tree.{Tree}
 use Rattle.ecma_syntax.specs.Input.{Code, content}
-use Rattle.ecma_reading.specs.Source.{Machine, Inner, Stand, Read, ◌>>=◌, unexpected, input, past}
+use Rattle.ecma_reading.specs.Source.{Stream, Inner, State, Read, ◌>>=◌, unexpected, input, past}
 use Rattle.ecma_reading.specs.Modules.{line_of, program_rest}
 
-module _ {S : Type 0} (m : Machine S) (inner : Inner S) where
+module _ {S : Type 0} (m : Stream S) (inner : Inner S) where
   -- its text; the token is taken
   unfoldable pub line_by : Read S (List ℕ)
   line_by s = elim (line_of m inner (content (input m s))) [ None ↦ unexpected | Some l ↦ Ok (l, past m s) ]
 
-  -- a program that a hashbang leads, which starts at a mark
-  unfoldable pub led_by : Bool → Code → Stand S → Read S Tree
+  -- a program that a hashbang leads, which begins at a start
+  unfoldable pub led_by : Bool → Code → State S → Read S Tree
   led_by modules c start s = line_by s >>= λ l. program_rest m inner modules c start (Some l.0) l.1

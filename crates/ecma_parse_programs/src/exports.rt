@@ -7,8 +7,8 @@ ghost use Rattle.ecma_reading.specs.Source as spec;
 ghost use Rattle.ecma_reading.specs.Modules as reads;
 ghost use Rattle.ecma_parse_state.specs.Answers.{Falls, Gives, going_on};
 ghost use Rattle.ecma_parse_state.specs.Codes.{code_of};
-ghost use Rattle.ecma_parse_state.specs.Fronts.{machine_of};
-ghost use Rattle.ecma_parse_state.specs.Stands.{from, stand};
+ghost use Rattle.ecma_parse_state.specs.Cursors.{stream_of};
+ghost use Rattle.ecma_parse_state.specs.States.{from, state_of};
 ghost use Rattle.ecma_parse_programs.specs.Steps.{namespace_by};
 
 use crate::names::{export_name, source};
@@ -30,8 +30,8 @@ pub fn named_export<'a, I: Tokens<'a> + Drop, N: Nested<'a, I>>(
     nested: &N,
     code: Around,
 ) -> Result<ExportSpecifier, Failure>
-    ensures value { Gives (λ x. (view_export_specifier x, stand I.state p.new)) result (reads.named_export_item (machine_of I.machine) (N.reads nested.now I.State I.machine) (code_of code) (stand I.state p.old)) }
-    ensures shorter { Falls result (spec.bound (machine_of I.machine) (stand I.state p.new)) (spec.bound (machine_of I.machine) (stand I.state p.old)) }
+    ensures value { Gives (λ x. (view_export_specifier x, state_of I.state p.new)) result (reads.named_export_item (stream_of I.machine) (N.reads nested.now I.State I.machine) (code_of code) (state_of I.state p.old)) }
+    ensures shorter { Falls result (spec.bound (stream_of I.machine) (state_of I.state p.new)) (spec.bound (stream_of I.machine) (state_of I.state p.old)) }
 {
     let start = p.lo();
     let orig = export_name(p, nested)?;
@@ -57,8 +57,8 @@ pub fn export_turn<'a, I: Tokens<'a> + Drop, N: Nested<'a, I>>(
     code: Around,
     list: &mut Vec<ExportSpecifier>,
 ) -> Result<bool, Failure>
-    ensures value { Gives (λ x. (going_on x (map view_export_specifier list.new.items), stand I.state p.new)) result (reads.specifier_step (machine_of I.machine) (N.reads nested.now I.State I.machine) false (code_of code) (map view_export_specifier list.old.items) (stand I.state p.old)) }
-    ensures shorter { Falls result (spec.bound (machine_of I.machine) (stand I.state p.new)) (spec.bound (machine_of I.machine) (stand I.state p.old)) }
+    ensures value { Gives (λ x. (going_on x (map view_export_specifier list.new.items), state_of I.state p.new)) result (reads.specifier_step (stream_of I.machine) (N.reads nested.now I.State I.machine) false (code_of code) (map view_export_specifier list.old.items) (state_of I.state p.old)) }
+    ensures shorter { Falls result (spec.bound (stream_of I.machine) (state_of I.state p.new)) (spec.bound (stream_of I.machine) (state_of I.state p.old)) }
 {
     if p.eat(kinds::RIGHT_BRACE)? {
         return Ok(false);
@@ -80,8 +80,8 @@ pub fn named_exports<'a, I: Tokens<'a> + Drop, N: Nested<'a, I>>(
     nested: &N,
     code: Around,
 ) -> Result<Vec<ExportSpecifier>, Failure>
-    ensures value { Gives (λ x. (map view_export_specifier x.items, stand I.state p.new)) result (reads.specifiers_by (machine_of I.machine) (N.reads nested.now I.State I.machine) false (code_of code) (stand I.state p.old)) }
-    ensures shorter { Falls result (spec.bound (machine_of I.machine) (stand I.state p.new)) (spec.bound (machine_of I.machine) (stand I.state p.old)) }
+    ensures value { Gives (λ x. (map view_export_specifier x.items, state_of I.state p.new)) result (reads.specifiers_by (stream_of I.machine) (N.reads nested.now I.State I.machine) false (code_of code) (state_of I.state p.old)) }
+    ensures shorter { Falls result (spec.bound (stream_of I.machine) (state_of I.state p.new)) (spec.bound (stream_of I.machine) (state_of I.state p.old)) }
 {
     let mut list = Vec::new(p.alloc);
     'turns: while export_turn(p, nested, code, &mut list)? {}
@@ -99,9 +99,9 @@ pub fn export_namespace<'a, I: Tokens<'a> + Drop, N: Nested<'a, I>>(
     star: BytePos,
 ) -> Result<ModuleDecl, Failure>
     requires ready { N.ready nested.now }
-    ensures value { Gives (λ x. (view_module_decl inner x, stand I.state p.new)) result (namespace_by (machine_of I.machine) (N.reads nested.now I.State I.machine) (code_of code) (from start.0) (from star.0) (stand I.state p.old)) }
+    ensures value { Gives (λ x. (view_module_decl inner x, state_of I.state p.new)) result (namespace_by (stream_of I.machine) (N.reads nested.now I.State I.machine) (code_of code) (from start.0) (from star.0) (state_of I.state p.old)) }
     ensures fits { IfOk result (λ x. fits_module_decl (λ p. p) x) }
-    ensures shorter { Falls result (spec.bound (machine_of I.machine) (stand I.state p.new)) (spec.bound (machine_of I.machine) (stand I.state p.old)) }
+    ensures shorter { Falls result (spec.bound (stream_of I.machine) (state_of I.state p.new)) (spec.bound (stream_of I.machine) (state_of I.state p.old)) }
 {
     p.eat_word(code, kinds::AS)?;
     let name = export_name(p, nested)?;
@@ -128,9 +128,9 @@ pub fn export_star<'a, I: Tokens<'a> + Drop, N: Nested<'a, I>>(
     start: BytePos,
 ) -> Result<ModuleDecl, Failure>
     requires ready { N.ready nested.now }
-    ensures value { Gives (λ x. (view_module_decl inner x, stand I.state p.new)) result (reads.export_star (machine_of I.machine) (N.reads nested.now I.State I.machine) (code_of code) (from start.0) (stand I.state p.old)) }
+    ensures value { Gives (λ x. (view_module_decl inner x, state_of I.state p.new)) result (reads.export_star (stream_of I.machine) (N.reads nested.now I.State I.machine) (code_of code) (from start.0) (state_of I.state p.old)) }
     ensures fits { IfOk result (λ x. fits_module_decl (λ p. p) x) }
-    ensures shorter { Falls result (spec.bound (machine_of I.machine) (stand I.state p.new)) (spec.bound (machine_of I.machine) (stand I.state p.old)) }
+    ensures shorter { Falls result (spec.bound (stream_of I.machine) (state_of I.state p.new)) (spec.bound (stream_of I.machine) (state_of I.state p.old)) }
 {
     let star = p.lo();
     p.expect(kinds::MUL)?;
@@ -156,9 +156,9 @@ pub fn export_list<'a, I: Tokens<'a> + Drop, N: Nested<'a, I>>(
     start: BytePos,
 ) -> Result<ModuleDecl, Failure>
     requires ready { N.ready nested.now }
-    ensures value { Gives (λ x. (view_module_decl inner x, stand I.state p.new)) result (reads.export_list (machine_of I.machine) (N.reads nested.now I.State I.machine) (code_of code) (from start.0) (stand I.state p.old)) }
+    ensures value { Gives (λ x. (view_module_decl inner x, state_of I.state p.new)) result (reads.export_list (stream_of I.machine) (N.reads nested.now I.State I.machine) (code_of code) (from start.0) (state_of I.state p.old)) }
     ensures fits { IfOk result (λ x. fits_module_decl (λ p. p) x) }
-    ensures shorter { Falls result (spec.bound (machine_of I.machine) (stand I.state p.new)) (spec.bound (machine_of I.machine) (stand I.state p.old)) }
+    ensures shorter { Falls result (spec.bound (stream_of I.machine) (state_of I.state p.new)) (spec.bound (stream_of I.machine) (state_of I.state p.old)) }
 {
     p.expect(kinds::LEFT_BRACE)?;
     let specifiers = named_exports(p, nested, code)?;

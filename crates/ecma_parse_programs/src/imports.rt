@@ -8,8 +8,8 @@ ghost use Rattle.ecma_reading.specs.Source as spec;
 ghost use Rattle.ecma_reading.specs.Modules as reads;
 ghost use Rattle.ecma_parse_state.specs.Answers.{Falls, Gives, going_on, IsMemory};
 ghost use Rattle.ecma_parse_state.specs.Codes.{code_of};
-ghost use Rattle.ecma_parse_state.specs.Fronts.{machine_of};
-ghost use Rattle.ecma_parse_state.specs.Stands.{from, stand};
+ghost use Rattle.ecma_parse_state.specs.Cursors.{stream_of};
+ghost use Rattle.ecma_parse_state.specs.States.{from, state_of};
 ghost use Rattle.ecma_parse_programs.specs.Firsts.{first_of};
 
 use crate::names::{export_name, local, source};
@@ -30,9 +30,9 @@ pub fn renamed_import<'a, I: Tokens<'a> + Drop, N: Nested<'a, I>>(
     nested: &N,
     code: Around,
 ) -> Result<ImportSpecifier, Failure>
-    requires unnamed { spec.is_name (machine_of I.machine) (code_of code) (stand I.state p.old) ≡ false }
-    ensures value { Gives (λ x. (view_import_specifier x, stand I.state p.new)) result (reads.named_import (machine_of I.machine) (N.reads nested.now I.State I.machine) (code_of code) (stand I.state p.old)) }
-    ensures shorter { Falls result (spec.bound (machine_of I.machine) (stand I.state p.new)) (spec.bound (machine_of I.machine) (stand I.state p.old)) }
+    requires unnamed { spec.is_name (stream_of I.machine) (code_of code) (state_of I.state p.old) ≡ false }
+    ensures value { Gives (λ x. (view_import_specifier x, state_of I.state p.new)) result (reads.named_import (stream_of I.machine) (N.reads nested.now I.State I.machine) (code_of code) (state_of I.state p.old)) }
+    ensures shorter { Falls result (spec.bound (stream_of I.machine) (state_of I.state p.new)) (spec.bound (stream_of I.machine) (state_of I.state p.old)) }
 {
     let start = p.lo();
     let imported = export_name(p, nested)?;
@@ -53,9 +53,9 @@ pub fn bound_import<'a, I: Tokens<'a> + Drop, N: Nested<'a, I>>(
     nested: &N,
     code: Around,
 ) -> Result<ImportSpecifier, Failure>
-    requires named { spec.is_name (machine_of I.machine) (code_of code) (stand I.state p.old) ≡ true }
-    ensures value { Gives (λ x. (view_import_specifier x, stand I.state p.new)) result (reads.named_import (machine_of I.machine) (N.reads nested.now I.State I.machine) (code_of code) (stand I.state p.old)) }
-    ensures shorter { Falls result (spec.bound (machine_of I.machine) (stand I.state p.new)) (spec.bound (machine_of I.machine) (stand I.state p.old)) }
+    requires named { spec.is_name (stream_of I.machine) (code_of code) (state_of I.state p.old) ≡ true }
+    ensures value { Gives (λ x. (view_import_specifier x, state_of I.state p.new)) result (reads.named_import (stream_of I.machine) (N.reads nested.now I.State I.machine) (code_of code) (state_of I.state p.old)) }
+    ensures shorter { Falls result (spec.bound (stream_of I.machine) (state_of I.state p.new)) (spec.bound (stream_of I.machine) (state_of I.state p.old)) }
 {
     let start = p.lo();
     let span = p.place();
@@ -83,8 +83,8 @@ pub fn named_import<'a, I: Tokens<'a> + Drop, N: Nested<'a, I>>(
     nested: &N,
     code: Around,
 ) -> Result<ImportSpecifier, Failure>
-    ensures value { Gives (λ x. (view_import_specifier x, stand I.state p.new)) result (reads.named_import (machine_of I.machine) (N.reads nested.now I.State I.machine) (code_of code) (stand I.state p.old)) }
-    ensures shorter { Falls result (spec.bound (machine_of I.machine) (stand I.state p.new)) (spec.bound (machine_of I.machine) (stand I.state p.old)) }
+    ensures value { Gives (λ x. (view_import_specifier x, state_of I.state p.new)) result (reads.named_import (stream_of I.machine) (N.reads nested.now I.State I.machine) (code_of code) (state_of I.state p.old)) }
+    ensures shorter { Falls result (spec.bound (stream_of I.machine) (state_of I.state p.new)) (spec.bound (stream_of I.machine) (state_of I.state p.old)) }
 {
     if p.is_name(code) {
         bound_import(p, nested, code)
@@ -102,8 +102,8 @@ pub fn import_turn<'a, I: Tokens<'a> + Drop, N: Nested<'a, I>>(
     code: Around,
     list: &mut Vec<ImportSpecifier>,
 ) -> Result<bool, Failure>
-    ensures value { Gives (λ x. (going_on x (map view_import_specifier list.new.items), stand I.state p.new)) result (reads.specifier_step (machine_of I.machine) (N.reads nested.now I.State I.machine) true (code_of code) (map view_import_specifier list.old.items) (stand I.state p.old)) }
-    ensures shorter { Falls result (spec.bound (machine_of I.machine) (stand I.state p.new)) (spec.bound (machine_of I.machine) (stand I.state p.old)) }
+    ensures value { Gives (λ x. (going_on x (map view_import_specifier list.new.items), state_of I.state p.new)) result (reads.specifier_step (stream_of I.machine) (N.reads nested.now I.State I.machine) true (code_of code) (map view_import_specifier list.old.items) (state_of I.state p.old)) }
+    ensures shorter { Falls result (spec.bound (stream_of I.machine) (state_of I.state p.new)) (spec.bound (stream_of I.machine) (state_of I.state p.old)) }
 {
     if p.eat(kinds::RIGHT_BRACE)? {
         return Ok(false);
@@ -125,8 +125,8 @@ pub fn named_imports<'a, I: Tokens<'a> + Drop, N: Nested<'a, I>>(
     nested: &N,
     code: Around,
 ) -> Result<Vec<ImportSpecifier>, Failure>
-    ensures value { Gives (λ x. (map view_import_specifier x.items, stand I.state p.new)) result (reads.specifiers_by (machine_of I.machine) (N.reads nested.now I.State I.machine) true (code_of code) (stand I.state p.old)) }
-    ensures shorter { Falls result (spec.bound (machine_of I.machine) (stand I.state p.new)) (spec.bound (machine_of I.machine) (stand I.state p.old)) }
+    ensures value { Gives (λ x. (map view_import_specifier x.items, state_of I.state p.new)) result (reads.specifiers_by (stream_of I.machine) (N.reads nested.now I.State I.machine) true (code_of code) (state_of I.state p.old)) }
+    ensures shorter { Falls result (spec.bound (stream_of I.machine) (state_of I.state p.new)) (spec.bound (stream_of I.machine) (state_of I.state p.old)) }
 {
     let mut list = Vec::new(p.alloc);
     'turns: while import_turn(p, nested, code, &mut list)? {}
@@ -141,8 +141,8 @@ pub fn star_import<'a, I: Tokens<'a> + Drop, N: Nested<'a, I>>(
     nested: &N,
     code: Around,
 ) -> Result<ImportSpecifier, Failure>
-    ensures value { Gives (λ x. (view_import_specifier x, stand I.state p.new)) result (reads.star_import (machine_of I.machine) (N.reads nested.now I.State I.machine) (code_of code) (stand I.state p.old)) }
-    ensures shorter { Falls result (spec.bound (machine_of I.machine) (stand I.state p.new)) (spec.bound (machine_of I.machine) (stand I.state p.old)) }
+    ensures value { Gives (λ x. (view_import_specifier x, state_of I.state p.new)) result (reads.star_import (stream_of I.machine) (N.reads nested.now I.State I.machine) (code_of code) (state_of I.state p.old)) }
+    ensures shorter { Falls result (spec.bound (stream_of I.machine) (state_of I.state p.new)) (spec.bound (stream_of I.machine) (state_of I.state p.old)) }
 {
     let start = p.lo();
     p.expect(kinds::MUL)?;
@@ -165,9 +165,9 @@ pub fn import_end<'a, I: Tokens<'a> + Drop, N: Nested<'a, I>>(
     specifiers: Vec<ImportSpecifier>,
 ) -> Result<ImportDecl, Failure>
     requires ready { N.ready nested.now }
-    ensures value { Gives (λ x. (view_import_decl inner x, stand I.state p.new)) result (reads.import_end (machine_of I.machine) (N.reads nested.now I.State I.machine) (code_of code) (from start.0) (map view_import_specifier specifiers.items) (stand I.state p.old)) }
+    ensures value { Gives (λ x. (view_import_decl inner x, state_of I.state p.new)) result (reads.import_end (stream_of I.machine) (N.reads nested.now I.State I.machine) (code_of code) (from start.0) (map view_import_specifier specifiers.items) (state_of I.state p.old)) }
     ensures fits { IfOk result (λ x. fits_import_decl (λ p. p) x) }
-    ensures shorter { Falls result (spec.bound (machine_of I.machine) (stand I.state p.new)) (spec.bound (machine_of I.machine) (stand I.state p.old)) }
+    ensures shorter { Falls result (spec.bound (stream_of I.machine) (state_of I.state p.new)) (spec.bound (stream_of I.machine) (state_of I.state p.old)) }
 {
     p.eat_word(code, kinds::FROM)?;
     let from = source(p, nested, code)?;
@@ -190,10 +190,10 @@ pub fn import_star<'a, I: Tokens<'a> + Drop, N: Nested<'a, I>>(
     first: Option<ImportSpecifier>,
 ) -> Result<ImportDecl, Failure>
     requires ready { N.ready nested.now }
-    requires star { spec.at (machine_of I.machine) mul_kind (stand I.state p.old) ≡ true }
-    ensures value { Gives (λ x. (view_import_decl inner x, stand I.state p.new)) result (reads.import_rest (machine_of I.machine) (N.reads nested.now I.State I.machine) (code_of code) (from start.0) (first_of first) (stand I.state p.old)) }
+    requires star { spec.at (stream_of I.machine) mul_kind (state_of I.state p.old) ≡ true }
+    ensures value { Gives (λ x. (view_import_decl inner x, state_of I.state p.new)) result (reads.import_rest (stream_of I.machine) (N.reads nested.now I.State I.machine) (code_of code) (from start.0) (first_of first) (state_of I.state p.old)) }
     ensures fits { IfOk result (λ x. fits_import_decl (λ p. p) x) }
-    ensures shorter { Falls result (spec.bound (machine_of I.machine) (stand I.state p.new)) (spec.bound (machine_of I.machine) (stand I.state p.old)) }
+    ensures shorter { Falls result (spec.bound (stream_of I.machine) (state_of I.state p.new)) (spec.bound (stream_of I.machine) (state_of I.state p.old)) }
 {
     let star = star_import(p, nested, code)?;
     let mut specifiers = Vec::new(p.alloc);
@@ -229,9 +229,9 @@ pub fn import_rest<'a, I: Tokens<'a> + Drop, N: Nested<'a, I>>(
     first: Option<ImportSpecifier>,
 ) -> Result<ImportDecl, Failure>
     requires ready { N.ready nested.now }
-    ensures value { Gives (λ x. (view_import_decl inner x, stand I.state p.new)) result (reads.import_rest (machine_of I.machine) (N.reads nested.now I.State I.machine) (code_of code) (from start.0) (first_of first) (stand I.state p.old)) }
+    ensures value { Gives (λ x. (view_import_decl inner x, state_of I.state p.new)) result (reads.import_rest (stream_of I.machine) (N.reads nested.now I.State I.machine) (code_of code) (from start.0) (first_of first) (state_of I.state p.old)) }
     ensures fits { IfOk result (λ x. fits_import_decl (λ p. p) x) }
-    ensures shorter { Falls result (spec.bound (machine_of I.machine) (stand I.state p.new)) (spec.bound (machine_of I.machine) (stand I.state p.old)) }
+    ensures shorter { Falls result (spec.bound (stream_of I.machine) (state_of I.state p.new)) (spec.bound (stream_of I.machine) (state_of I.state p.old)) }
 {
     if p.at(kinds::MUL) {
         return import_star(p, nested, code, start, first);
@@ -251,9 +251,9 @@ pub fn import_default<'a, I: Tokens<'a> + Drop, N: Nested<'a, I>>(
     start: BytePos,
 ) -> Result<ImportDecl, Failure>
     requires ready { N.ready nested.now }
-    ensures value { Gives (λ x. (view_import_decl inner x, stand I.state p.new)) result (reads.import_default (machine_of I.machine) (N.reads nested.now I.State I.machine) (code_of code) (from start.0) (stand I.state p.old)) }
+    ensures value { Gives (λ x. (view_import_decl inner x, state_of I.state p.new)) result (reads.import_default (stream_of I.machine) (N.reads nested.now I.State I.machine) (code_of code) (from start.0) (state_of I.state p.old)) }
     ensures fits { IfOk result (λ x. fits_import_decl (λ p. p) x) }
-    ensures shorter { Falls result (spec.bound (machine_of I.machine) (stand I.state p.new)) (spec.bound (machine_of I.machine) (stand I.state p.old)) }
+    ensures shorter { Falls result (spec.bound (stream_of I.machine) (state_of I.state p.new)) (spec.bound (stream_of I.machine) (state_of I.state p.old)) }
 {
     let span = p.place();
     let local = local(p, nested, code)?;
@@ -275,9 +275,9 @@ pub fn import_decl<'a, I: Tokens<'a> + Drop, N: Nested<'a, I>>(
     code: Around,
 ) -> Result<ImportDecl, Failure>
     requires ready { N.ready nested.now }
-    ensures value { Gives (λ x. (view_import_decl inner x, stand I.state p.new)) result (reads.import_decl_by (machine_of I.machine) (N.reads nested.now I.State I.machine) (code_of code) (stand I.state p.old)) }
+    ensures value { Gives (λ x. (view_import_decl inner x, state_of I.state p.new)) result (reads.import_decl_by (stream_of I.machine) (N.reads nested.now I.State I.machine) (code_of code) (state_of I.state p.old)) }
     ensures fits { IfOk result (λ x. fits_import_decl (λ p. p) x) }
-    ensures shorter { Falls result (spec.bound (machine_of I.machine) (stand I.state p.new)) (spec.bound (machine_of I.machine) (stand I.state p.old)) }
+    ensures shorter { Falls result (spec.bound (stream_of I.machine) (state_of I.state p.new)) (spec.bound (stream_of I.machine) (state_of I.state p.old)) }
 {
     let start = p.lo();
     p.eat_word(code, kinds::IMPORT)?;

@@ -8,8 +8,8 @@ ghost use Rattle.ecma_reading.specs.Source as spec;
 ghost use Rattle.ecma_reading.specs.Modules as reads;
 ghost use Rattle.ecma_parse_state.specs.Answers.{Falls, Gives, going_on, IsMemory, IsSyntax, Stays};
 ghost use Rattle.ecma_parse_state.specs.Codes.{code_of};
-ghost use Rattle.ecma_parse_state.specs.Fronts.{machine_of};
-ghost use Rattle.ecma_parse_state.specs.Stands.{stand};
+ghost use Rattle.ecma_parse_state.specs.Cursors.{stream_of};
+ghost use Rattle.ecma_parse_state.specs.States.{state_of};
 ghost use Rattle.ecma_parse_programs.specs.Items.{items_by, items_of, FitItems};
 
 use crate::after_export::export;
@@ -32,9 +32,9 @@ pub struct ItemsSoFar {
 }
 
 /// Whether no token is to come.
-#[tactic(auto, unfolding(ecma_parse_state::specs::Fronts::machine_of))]
+#[tactic(auto, unfolding(ecma_parse_state::specs::Cursors::stream_of))]
 pub fn ended<'a, I: Tokens<'a> + Drop>(p: &Parser<'a, I>) -> bool
-    ensures { result ≡ spec.ended (machine_of I.machine) (stand I.state p.now) }
+    ensures { result ≡ spec.ended (stream_of I.machine) (state_of I.state p.now) }
 {
     p.ahead.token.is_none()
 }
@@ -44,7 +44,7 @@ pub fn starts_import<'a, I: Tokens<'a> + Drop, N: Nested<'a, I>>(
     p: &Parser<'a, I>,
     _nested: &N,
 ) -> Result<bool, Failure>
-    ensures value { IfOk result (λ b. b ≡ reads.starts_import (machine_of I.machine) (N.reads _nested.now I.State I.machine) (stand I.state p.now)) }
+    ensures value { IfOk result (λ b. b ≡ reads.starts_import (stream_of I.machine) (N.reads _nested.now I.State I.machine) (state_of I.state p.now)) }
     ensures full { IfErr result IsMemory }
 {
     if !p.at(kinds::IMPORT) {
@@ -73,9 +73,9 @@ pub fn script_item<'a, I: Tokens<'a> + Drop, N: Nested<'a, I>>(
     code: Around,
 ) -> Result<StmtBox, Failure>
     requires ready { N.ready nested.now }
-    ensures value { Gives (λ x. (inner x.part.value, stand I.state p.new)) result (reads.item_by (machine_of I.machine) (N.reads nested.now I.State I.machine) false (code_of code) (stand I.state p.old)) }
+    ensures value { Gives (λ x. (inner x.part.value, state_of I.state p.new)) result (reads.item_by (stream_of I.machine) (N.reads nested.now I.State I.machine) false (code_of code) (state_of I.state p.old)) }
     ensures holds { IfOk result (λ x. holds_stmt x.part.value) }
-    ensures shorter { Falls result (spec.bound (machine_of I.machine) (stand I.state p.new)) (spec.bound (machine_of I.machine) (stand I.state p.old)) }
+    ensures shorter { Falls result (spec.bound (stream_of I.machine) (state_of I.state p.new)) (spec.bound (stream_of I.machine) (state_of I.state p.old)) }
 {
     if starts_import(p, nested)? || p.at(kinds::EXPORT) {
         return Err(module_declaration(p.place()));
@@ -92,9 +92,9 @@ pub fn module_item<'a, I: Tokens<'a> + Drop, N: Nested<'a, I>>(
     code: Around,
 ) -> Result<ModuleItem, Failure>
     requires ready { N.ready nested.now }
-    ensures value { Gives (λ x. (view_module_item inner x, stand I.state p.new)) result (reads.item_by (machine_of I.machine) (N.reads nested.now I.State I.machine) true (code_of code) (stand I.state p.old)) }
+    ensures value { Gives (λ x. (view_module_item inner x, state_of I.state p.new)) result (reads.item_by (stream_of I.machine) (N.reads nested.now I.State I.machine) true (code_of code) (state_of I.state p.old)) }
     ensures fits { IfOk result (λ x. fits_module_item (λ p. p) x) }
-    ensures shorter { Falls result (spec.bound (machine_of I.machine) (stand I.state p.new)) (spec.bound (machine_of I.machine) (stand I.state p.old)) }
+    ensures shorter { Falls result (spec.bound (stream_of I.machine) (state_of I.state p.new)) (spec.bound (stream_of I.machine) (state_of I.state p.old)) }
 {
     if starts_import(p, nested)? {
         let decl = import_decl(p, nested, code)?;
@@ -140,9 +140,9 @@ pub fn next_item<'a, I: Tokens<'a> + Drop, N: Nested<'a, I>>(
 ) -> Result<(), Failure>
     requires ready { N.ready nested.now }
     requires fits { FitItems body.old }
-    ensures value { Gives (λ _. (spec.go_on (items_of body.new), stand I.state p.new)) result (reads.program_item (machine_of I.machine) (N.reads nested.now I.State I.machine) true (items_of body.old) (stand I.state p.old)) }
+    ensures value { Gives (λ _. (spec.go_on (items_of body.new), state_of I.state p.new)) result (reads.program_item (stream_of I.machine) (N.reads nested.now I.State I.machine) true (items_of body.old) (state_of I.state p.old)) }
     ensures fits { IfOk result (λ _. FitItems body.new) }
-    ensures shorter { Falls result (spec.bound (machine_of I.machine) (stand I.state p.new)) (spec.bound (machine_of I.machine) (stand I.state p.old)) }
+    ensures shorter { Falls result (spec.bound (stream_of I.machine) (state_of I.state p.new)) (spec.bound (stream_of I.machine) (state_of I.state p.old)) }
 {
     let item = module_item(p, nested, in_list(body.code))?;
     if body.starts && turns_strict(&item) {
@@ -165,10 +165,10 @@ pub fn item_turn<'a, I: Tokens<'a> + Drop, N: Nested<'a, I>>(
 ) -> Result<bool, Failure>
     requires ready { N.ready nested.now }
     requires fits { FitItems body.old }
-    ensures value { Gives (λ x. (going_on x (items_of body.new), stand I.state p.new)) result (reads.program_step (machine_of I.machine) (N.reads nested.now I.State I.machine) true (items_of body.old) (stand I.state p.old)) }
+    ensures value { Gives (λ x. (going_on x (items_of body.new), state_of I.state p.new)) result (reads.program_step (stream_of I.machine) (N.reads nested.now I.State I.machine) true (items_of body.old) (state_of I.state p.old)) }
     ensures fits { IfOk result (λ _. FitItems body.new) }
-    ensures shorter { IfOk result (λ b. IsTrue b → spec.bound (machine_of I.machine) (stand I.state p.new) < spec.bound (machine_of I.machine) (stand I.state p.old)) }
-    ensures not_longer { Stays result (spec.bound (machine_of I.machine) (stand I.state p.new)) (spec.bound (machine_of I.machine) (stand I.state p.old)) }
+    ensures shorter { IfOk result (λ b. IsTrue b → spec.bound (stream_of I.machine) (state_of I.state p.new) < spec.bound (stream_of I.machine) (state_of I.state p.old)) }
+    ensures not_longer { Stays result (spec.bound (stream_of I.machine) (state_of I.state p.new)) (spec.bound (stream_of I.machine) (state_of I.state p.old)) }
 {
     if ended(p) {
         return Ok(false);
@@ -187,9 +187,9 @@ pub fn module_items<'a, I: Tokens<'a> + Drop, N: Nested<'a, I>>(
     code: Around,
 ) -> Result<ItemsSoFar, Failure>
     requires ready { N.ready nested.now }
-    ensures value { Gives (λ x. (items_of x, stand I.state p.new)) result (items_by (machine_of I.machine) (N.reads nested.now I.State I.machine) true (code_of code) (stand I.state p.old)) }
+    ensures value { Gives (λ x. (items_of x, state_of I.state p.new)) result (items_by (stream_of I.machine) (N.reads nested.now I.State I.machine) true (code_of code) (state_of I.state p.old)) }
     ensures fits { IfOk result (λ x. FitItems x) }
-    ensures not_longer { Stays result (spec.bound (machine_of I.machine) (stand I.state p.new)) (spec.bound (machine_of I.machine) (stand I.state p.old)) }
+    ensures not_longer { Stays result (spec.bound (stream_of I.machine) (state_of I.state p.new)) (spec.bound (stream_of I.machine) (state_of I.state p.old)) }
 {
     let mut read = ItemsSoFar {
         items: Vec::new(p.alloc),

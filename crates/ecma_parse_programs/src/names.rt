@@ -7,8 +7,8 @@ ghost use Rattle.ecma_reading.specs.Source as spec;
 ghost use Rattle.ecma_reading.specs.Modules as reads;
 ghost use Rattle.ecma_parse_state.specs.Answers.{Falls, Gives};
 ghost use Rattle.ecma_parse_state.specs.Codes.{code_of};
-ghost use Rattle.ecma_parse_state.specs.Fronts.{machine_of};
-ghost use Rattle.ecma_parse_state.specs.Stands.{stand};
+ghost use Rattle.ecma_parse_state.specs.Cursors.{stream_of};
+ghost use Rattle.ecma_parse_state.specs.States.{state_of};
 ghost use Rattle.ecma_parse_programs.specs.Sources.{from_of, FitSourced};
 
 use crate::made;
@@ -30,13 +30,13 @@ pub struct Sourced {
 
 /// A string.
 #[inline(never)]
-#[tactic(auto, using(ecma_parse_state::proofs::Marks::marks), unfolding(ecma_reading::specs::Modules::string_by, ecma_reading::specs::Expressions::literal_by, ecma_parse_state::specs::Fronts::machine_of))]
+#[tactic(auto, using(ecma_parse_state::proofs::Marks::marks), unfolding(ecma_reading::specs::Modules::string_by, ecma_reading::specs::Expressions::literal_by, ecma_parse_state::specs::Cursors::stream_of))]
 pub fn string<'a, I: Tokens<'a> + Drop, N: Nested<'a, I>>(
     p: &mut Parser<'a, I>,
     _nested: &N,
 ) -> Result<Str, Failure>
-    ensures value { Gives (λ x. (view_str x, stand I.state p.new)) result (reads.string_by (machine_of I.machine) (N.reads _nested.now I.State I.machine) (stand I.state p.old)) }
-    ensures shorter { Falls result (spec.bound (machine_of I.machine) (stand I.state p.new)) (spec.bound (machine_of I.machine) (stand I.state p.old)) }
+    ensures value { Gives (λ x. (view_str x, state_of I.state p.new)) result (reads.string_by (stream_of I.machine) (N.reads _nested.now I.State I.machine) (state_of I.state p.old)) }
+    ensures shorter { Falls result (spec.bound (stream_of I.machine) (state_of I.state p.new)) (spec.bound (stream_of I.machine) (state_of I.state p.old)) }
 {
     let span = p.place();
     let fault = p.unexpected();
@@ -59,8 +59,8 @@ pub fn export_name<'a, I: Tokens<'a> + Drop, N: Nested<'a, I>>(
     p: &mut Parser<'a, I>,
     nested: &N,
 ) -> Result<ModuleExportName, Failure>
-    ensures value { Gives (λ x. (view_module_export_name x, stand I.state p.new)) result (reads.export_name_by (machine_of I.machine) (N.reads nested.now I.State I.machine) (stand I.state p.old)) }
-    ensures shorter { Falls result (spec.bound (machine_of I.machine) (stand I.state p.new)) (spec.bound (machine_of I.machine) (stand I.state p.old)) }
+    ensures value { Gives (λ x. (view_module_export_name x, state_of I.state p.new)) result (reads.export_name_by (stream_of I.machine) (N.reads nested.now I.State I.machine) (state_of I.state p.old)) }
+    ensures shorter { Falls result (spec.bound (stream_of I.machine) (state_of I.state p.new)) (spec.bound (stream_of I.machine) (state_of I.state p.old)) }
 {
     if p.at(kinds::STR) {
         let text = string(p, nested)?;
@@ -78,8 +78,8 @@ pub fn local<'a, I: Tokens<'a> + Drop, N: Nested<'a, I>>(
     _nested: &N,
     code: Around,
 ) -> Result<Ident, Failure>
-    ensures value { Gives (λ x. (view_ident x, stand I.state p.new)) result (reads.local_by (machine_of I.machine) (N.reads _nested.now I.State I.machine) (code_of code) (stand I.state p.old)) }
-    ensures shorter { Falls result (spec.bound (machine_of I.machine) (stand I.state p.new)) (spec.bound (machine_of I.machine) (stand I.state p.old)) }
+    ensures value { Gives (λ x. (view_ident x, state_of I.state p.new)) result (reads.local_by (stream_of I.machine) (N.reads _nested.now I.State I.machine) (code_of code) (state_of I.state p.old)) }
+    ensures shorter { Falls result (spec.bound (stream_of I.machine) (state_of I.state p.new)) (spec.bound (stream_of I.machine) (state_of I.state p.old)) }
 {
     let span = p.place();
     let sym = p.name(code)?;
@@ -95,9 +95,9 @@ pub fn attributes<'a, I: Tokens<'a> + Drop, N: Nested<'a, I>>(
     code: Around,
 ) -> Result<Box<ObjectLit>, Failure>
     requires ready { N.ready nested.now }
-    ensures value { Gives (λ x. (view_object_lit inner x.value, stand I.state p.new)) result (reads.attributes_by (machine_of I.machine) (N.reads nested.now I.State I.machine) (code_of code) (stand I.state p.old)) }
+    ensures value { Gives (λ x. (view_object_lit inner x.value, state_of I.state p.new)) result (reads.attributes_by (stream_of I.machine) (N.reads nested.now I.State I.machine) (code_of code) (state_of I.state p.old)) }
     ensures fits { IfOk result (λ x. fits_object_lit (λ p. p) x.value) }
-    ensures shorter { Falls result (spec.bound (machine_of I.machine) (stand I.state p.new)) (spec.bound (machine_of I.machine) (stand I.state p.old)) }
+    ensures shorter { Falls result (spec.bound (stream_of I.machine) (state_of I.state p.new)) (spec.bound (stream_of I.machine) (state_of I.state p.old)) }
 {
     if !p.at(kinds::LEFT_BRACE) {
         return Err(p.unexpected());
@@ -118,9 +118,9 @@ pub fn source<'a, I: Tokens<'a> + Drop, N: Nested<'a, I>>(
     code: Around,
 ) -> Result<Sourced, Failure>
     requires ready { N.ready nested.now }
-    ensures value { Gives (λ x. (from_of x, stand I.state p.new)) result (reads.source_by (machine_of I.machine) (N.reads nested.now I.State I.machine) (code_of code) (stand I.state p.old)) }
+    ensures value { Gives (λ x. (from_of x, state_of I.state p.new)) result (reads.source_by (stream_of I.machine) (N.reads nested.now I.State I.machine) (code_of code) (state_of I.state p.old)) }
     ensures fits { IfOk result (λ x. FitSourced x) }
-    ensures shorter { Falls result (spec.bound (machine_of I.machine) (stand I.state p.new)) (spec.bound (machine_of I.machine) (stand I.state p.old)) }
+    ensures shorter { Falls result (spec.bound (stream_of I.machine) (state_of I.state p.new)) (spec.bound (stream_of I.machine) (state_of I.state p.old)) }
 {
     let text = string(p, nested)?;
     let src = Box::new(p.alloc, text)?;

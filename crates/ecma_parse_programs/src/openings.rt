@@ -3,8 +3,8 @@ ghost use Rattle.std.specs.Prelude.{◌≡◌, IfErr, IfOk};
 ghost use Rattle.ecma_reading.specs.Modules as reads;
 ghost use Rattle.ecma_parse_state.specs.Answers.{IsMemory};
 ghost use Rattle.ecma_parse_state.specs.Codes.{code_of};
-ghost use Rattle.ecma_parse_state.specs.Fronts.{machine_of};
-ghost use Rattle.ecma_parse_state.specs.Stands.{stand};
+ghost use Rattle.ecma_parse_state.specs.Cursors.{stream_of};
+ghost use Rattle.ecma_parse_state.specs.States.{state_of};
 
 use ecma_parse_base::Nested;
 use ecma_parse_blocks::starts::{starts_async, starts_variables};
@@ -17,7 +17,7 @@ pub fn starts_declaration<'a, I: Tokens<'a> + Drop, N: Nested<'a, I>>(
     nested: &N,
     code: Around,
 ) -> Result<bool, Failure>
-    ensures value { IfOk result (λ b. b ≡ reads.starts_declaration (machine_of I.machine) (N.reads nested.now I.State I.machine) (code_of code) (stand I.state p.now)) }
+    ensures value { IfOk result (λ b. b ≡ reads.starts_declaration (stream_of I.machine) (N.reads nested.now I.State I.machine) (code_of code) (state_of I.state p.now)) }
     ensures full { IfErr result IsMemory }
 {
     if p.at(kinds::FUNCTION) || p.at(kinds::CLASS) || starts_async(p, nested)? {

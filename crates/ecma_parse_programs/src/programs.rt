@@ -8,8 +8,8 @@ ghost use Rattle.ecma_reading.specs.Source as spec;
 ghost use Rattle.ecma_reading.specs.Modules as reads;
 ghost use Rattle.ecma_parse_state.specs.Answers.{Gives, Stays};
 ghost use Rattle.ecma_parse_state.specs.Codes.{code_of};
-ghost use Rattle.ecma_parse_state.specs.Fronts.{machine_of};
-ghost use Rattle.ecma_parse_state.specs.Stands.{from, stand};
+ghost use Rattle.ecma_parse_state.specs.Cursors.{stream_of};
+ghost use Rattle.ecma_parse_state.specs.States.{from, state_of};
 ghost use Rattle.ecma_parse_programs.specs.Items.{items_by};
 ghost use Rattle.ecma_parse_programs.specs.Lines.{led_by, line_by};
 
@@ -33,9 +33,9 @@ pub fn script_rest<'a, I: Tokens<'a> + Drop, N: Nested<'a, I>>(
     shebang: Option<Atom>,
 ) -> Result<Script, Failure>
     requires ready { N.ready nested.now }
-    ensures value { Gives (λ x. (view_script inner x, stand I.state p.new)) result (reads.program_rest (machine_of I.machine) (N.reads nested.now I.State I.machine) false (code_of code) (from start.0) shebang (stand I.state p.old)) }
+    ensures value { Gives (λ x. (view_script inner x, state_of I.state p.new)) result (reads.program_rest (stream_of I.machine) (N.reads nested.now I.State I.machine) false (code_of code) (from start.0) shebang (state_of I.state p.old)) }
     ensures fits { IfOk result (λ x. fits_script (λ p. p) x) }
-    ensures not_longer { Stays result (spec.bound (machine_of I.machine) (stand I.state p.new)) (spec.bound (machine_of I.machine) (stand I.state p.old)) }
+    ensures not_longer { Stays result (spec.bound (stream_of I.machine) (state_of I.state p.new)) (spec.bound (stream_of I.machine) (state_of I.state p.old)) }
 {
     let read = script_items(p, nested, code)?;
     Ok(Script {
@@ -56,9 +56,9 @@ pub fn module_rest<'a, I: Tokens<'a> + Drop, N: Nested<'a, I>>(
     shebang: Option<Atom>,
 ) -> Result<Module, Failure>
     requires ready { N.ready nested.now }
-    ensures value { Gives (λ x. (view_module inner x, stand I.state p.new)) result (reads.program_rest (machine_of I.machine) (N.reads nested.now I.State I.machine) true (code_of code) (from start.0) shebang (stand I.state p.old)) }
+    ensures value { Gives (λ x. (view_module inner x, state_of I.state p.new)) result (reads.program_rest (stream_of I.machine) (N.reads nested.now I.State I.machine) true (code_of code) (from start.0) shebang (state_of I.state p.old)) }
     ensures fits { IfOk result (λ x. fits_module (λ p. p) x) }
-    ensures not_longer { Stays result (spec.bound (machine_of I.machine) (stand I.state p.new)) (spec.bound (machine_of I.machine) (stand I.state p.old)) }
+    ensures not_longer { Stays result (spec.bound (stream_of I.machine) (state_of I.state p.new)) (spec.bound (stream_of I.machine) (state_of I.state p.old)) }
 {
     let read = module_items(p, nested, code)?;
     Ok(Module {
@@ -69,12 +69,12 @@ pub fn module_rest<'a, I: Tokens<'a> + Drop, N: Nested<'a, I>>(
 }
 
 /// The text of the hashbang that comes, where one does.
-#[tactic(auto, unfolding(ecma_parse_state::specs::Fronts::machine_of))]
+#[tactic(auto, unfolding(ecma_parse_state::specs::Cursors::stream_of))]
 fn hashbang<'p, 'a, I: Tokens<'a> + Drop, N: Nested<'a, I>>(
     p: &'p Parser<'a, I>,
     _nested: &N,
 ) -> Option<&'p str>
-    ensures { option_map (λ t. t.now) result ≡ reads.line_of (machine_of I.machine) (N.reads _nested.now I.State I.machine) (content (spec.input (machine_of I.machine) (stand I.state p.now))) }
+    ensures { option_map (λ t. t.now) result ≡ reads.line_of (stream_of I.machine) (N.reads _nested.now I.State I.machine) (content (spec.input (stream_of I.machine) (state_of I.state p.now))) }
 {
     match &p.ahead.token {
         Some(token) => match &token.token {
@@ -92,8 +92,8 @@ pub fn line<'a, I: Tokens<'a> + Drop, N: Nested<'a, I>>(
     p: &mut Parser<'a, I>,
     nested: &N,
 ) -> Result<Atom, Failure>
-    ensures value { Gives (λ x. (x, stand I.state p.new)) result (line_by (machine_of I.machine) (N.reads nested.now I.State I.machine) (stand I.state p.old)) }
-    ensures not_longer { Stays result (spec.bound (machine_of I.machine) (stand I.state p.new)) (spec.bound (machine_of I.machine) (stand I.state p.old)) }
+    ensures value { Gives (λ x. (x, state_of I.state p.new)) result (line_by (stream_of I.machine) (N.reads nested.now I.State I.machine) (state_of I.state p.old)) }
+    ensures not_longer { Stays result (spec.bound (stream_of I.machine) (state_of I.state p.new)) (spec.bound (stream_of I.machine) (state_of I.state p.old)) }
 {
     let Some(text) = hashbang(p, nested) else {
         return Err(p.unexpected());
@@ -113,9 +113,9 @@ pub fn led_script<'a, I: Tokens<'a> + Drop, N: Nested<'a, I>>(
     start: BytePos,
 ) -> Result<Script, Failure>
     requires ready { N.ready nested.now }
-    ensures value { Gives (λ x. (view_script inner x, stand I.state p.new)) result (led_by (machine_of I.machine) (N.reads nested.now I.State I.machine) false (code_of code) (from start.0) (stand I.state p.old)) }
+    ensures value { Gives (λ x. (view_script inner x, state_of I.state p.new)) result (led_by (stream_of I.machine) (N.reads nested.now I.State I.machine) false (code_of code) (from start.0) (state_of I.state p.old)) }
     ensures fits { IfOk result (λ x. fits_script (λ p. p) x) }
-    ensures not_longer { Stays result (spec.bound (machine_of I.machine) (stand I.state p.new)) (spec.bound (machine_of I.machine) (stand I.state p.old)) }
+    ensures not_longer { Stays result (spec.bound (stream_of I.machine) (state_of I.state p.new)) (spec.bound (stream_of I.machine) (state_of I.state p.old)) }
 {
     let text = line(p, nested)?;
     script_rest(p, nested, code, start, Some(text))
@@ -131,9 +131,9 @@ pub fn led_module<'a, I: Tokens<'a> + Drop, N: Nested<'a, I>>(
     start: BytePos,
 ) -> Result<Module, Failure>
     requires ready { N.ready nested.now }
-    ensures value { Gives (λ x. (view_module inner x, stand I.state p.new)) result (led_by (machine_of I.machine) (N.reads nested.now I.State I.machine) true (code_of code) (from start.0) (stand I.state p.old)) }
+    ensures value { Gives (λ x. (view_module inner x, state_of I.state p.new)) result (led_by (stream_of I.machine) (N.reads nested.now I.State I.machine) true (code_of code) (from start.0) (state_of I.state p.old)) }
     ensures fits { IfOk result (λ x. fits_module (λ p. p) x) }
-    ensures not_longer { Stays result (spec.bound (machine_of I.machine) (stand I.state p.new)) (spec.bound (machine_of I.machine) (stand I.state p.old)) }
+    ensures not_longer { Stays result (spec.bound (stream_of I.machine) (state_of I.state p.new)) (spec.bound (stream_of I.machine) (state_of I.state p.old)) }
 {
     let text = line(p, nested)?;
     module_rest(p, nested, code, start, Some(text))
@@ -148,9 +148,9 @@ pub fn script<'a, I: Tokens<'a> + Drop, N: Nested<'a, I>>(
     code: Around,
 ) -> Result<Script, Failure>
     requires ready { N.ready nested.now }
-    ensures value { Gives (λ x. (view_script inner x, stand I.state p.new)) result (reads.program_by (machine_of I.machine) (N.reads nested.now I.State I.machine) false (code_of code) (stand I.state p.old)) }
+    ensures value { Gives (λ x. (view_script inner x, state_of I.state p.new)) result (reads.program_by (stream_of I.machine) (N.reads nested.now I.State I.machine) false (code_of code) (state_of I.state p.old)) }
     ensures fits { IfOk result (λ x. fits_script (λ p. p) x) }
-    ensures not_longer { Stays result (spec.bound (machine_of I.machine) (stand I.state p.new)) (spec.bound (machine_of I.machine) (stand I.state p.old)) }
+    ensures not_longer { Stays result (spec.bound (stream_of I.machine) (state_of I.state p.new)) (spec.bound (stream_of I.machine) (state_of I.state p.old)) }
 {
     let start = p.lo();
     if p.at(kinds::SHEBANG) {
@@ -168,9 +168,9 @@ pub fn module<'a, I: Tokens<'a> + Drop, N: Nested<'a, I>>(
     code: Around,
 ) -> Result<Module, Failure>
     requires ready { N.ready nested.now }
-    ensures value { Gives (λ x. (view_module inner x, stand I.state p.new)) result (reads.program_by (machine_of I.machine) (N.reads nested.now I.State I.machine) true (code_of code) (stand I.state p.old)) }
+    ensures value { Gives (λ x. (view_module inner x, state_of I.state p.new)) result (reads.program_by (stream_of I.machine) (N.reads nested.now I.State I.machine) true (code_of code) (state_of I.state p.old)) }
     ensures fits { IfOk result (λ x. fits_module (λ p. p) x) }
-    ensures not_longer { Stays result (spec.bound (machine_of I.machine) (stand I.state p.new)) (spec.bound (machine_of I.machine) (stand I.state p.old)) }
+    ensures not_longer { Stays result (spec.bound (stream_of I.machine) (state_of I.state p.new)) (spec.bound (stream_of I.machine) (state_of I.state p.old)) }
 {
     let start = p.lo();
     if p.at(kinds::SHEBANG) {

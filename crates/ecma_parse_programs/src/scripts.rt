@@ -4,8 +4,8 @@ ghost use Rattle.ecma_reading.specs.Source as spec;
 ghost use Rattle.ecma_reading.specs.Modules as reads;
 ghost use Rattle.ecma_parse_state.specs.Answers.{Falls, Gives, going_on, Stays};
 ghost use Rattle.ecma_parse_state.specs.Codes.{code_of};
-ghost use Rattle.ecma_parse_state.specs.Fronts.{machine_of};
-ghost use Rattle.ecma_parse_state.specs.Stands.{stand};
+ghost use Rattle.ecma_parse_state.specs.Cursors.{stream_of};
+ghost use Rattle.ecma_parse_state.specs.States.{state_of};
 ghost use Rattle.ecma_parse_blocks.specs.Lists.{body_of, FitBody};
 ghost use Rattle.ecma_parse_programs.specs.Items.{items_by};
 
@@ -28,9 +28,9 @@ pub fn next_stmt<'a, I: Tokens<'a> + Drop, N: Nested<'a, I>>(
 ) -> Result<(), Failure>
     requires ready { N.ready nested.now }
     requires fits { FitBody body.old }
-    ensures value { Gives (λ _. (spec.go_on (body_of body.new), stand I.state p.new)) result (reads.program_item (machine_of I.machine) (N.reads nested.now I.State I.machine) false (body_of body.old) (stand I.state p.old)) }
+    ensures value { Gives (λ _. (spec.go_on (body_of body.new), state_of I.state p.new)) result (reads.program_item (stream_of I.machine) (N.reads nested.now I.State I.machine) false (body_of body.old) (state_of I.state p.old)) }
     ensures fits { IfOk result (λ _. FitBody body.new) }
-    ensures shorter { Falls result (spec.bound (machine_of I.machine) (stand I.state p.new)) (spec.bound (machine_of I.machine) (stand I.state p.old)) }
+    ensures shorter { Falls result (spec.bound (stream_of I.machine) (state_of I.state p.new)) (spec.bound (stream_of I.machine) (state_of I.state p.old)) }
 {
     let read = script_item(p, nested, in_list(body.code))?;
     if body.starts && is_use_strict(read.get()) {
@@ -53,10 +53,10 @@ pub fn stmt_turn<'a, I: Tokens<'a> + Drop, N: Nested<'a, I>>(
 ) -> Result<bool, Failure>
     requires ready { N.ready nested.now }
     requires fits { FitBody body.old }
-    ensures value { Gives (λ x. (going_on x (body_of body.new), stand I.state p.new)) result (reads.program_step (machine_of I.machine) (N.reads nested.now I.State I.machine) false (body_of body.old) (stand I.state p.old)) }
+    ensures value { Gives (λ x. (going_on x (body_of body.new), state_of I.state p.new)) result (reads.program_step (stream_of I.machine) (N.reads nested.now I.State I.machine) false (body_of body.old) (state_of I.state p.old)) }
     ensures fits { IfOk result (λ _. FitBody body.new) }
-    ensures shorter { IfOk result (λ b. IsTrue b → spec.bound (machine_of I.machine) (stand I.state p.new) < spec.bound (machine_of I.machine) (stand I.state p.old)) }
-    ensures not_longer { Stays result (spec.bound (machine_of I.machine) (stand I.state p.new)) (spec.bound (machine_of I.machine) (stand I.state p.old)) }
+    ensures shorter { IfOk result (λ b. IsTrue b → spec.bound (stream_of I.machine) (state_of I.state p.new) < spec.bound (stream_of I.machine) (state_of I.state p.old)) }
+    ensures not_longer { Stays result (spec.bound (stream_of I.machine) (state_of I.state p.new)) (spec.bound (stream_of I.machine) (state_of I.state p.old)) }
 {
     if ended(p) {
         return Ok(false);
@@ -75,9 +75,9 @@ pub fn script_items<'a, I: Tokens<'a> + Drop, N: Nested<'a, I>>(
     code: Around,
 ) -> Result<BodySoFar, Failure>
     requires ready { N.ready nested.now }
-    ensures value { Gives (λ x. (body_of x, stand I.state p.new)) result (items_by (machine_of I.machine) (N.reads nested.now I.State I.machine) false (code_of code) (stand I.state p.old)) }
+    ensures value { Gives (λ x. (body_of x, state_of I.state p.new)) result (items_by (stream_of I.machine) (N.reads nested.now I.State I.machine) false (code_of code) (state_of I.state p.old)) }
     ensures fits { IfOk result (λ x. FitBody x) }
-    ensures not_longer { Stays result (spec.bound (machine_of I.machine) (stand I.state p.new)) (spec.bound (machine_of I.machine) (stand I.state p.old)) }
+    ensures not_longer { Stays result (spec.bound (stream_of I.machine) (state_of I.state p.new)) (spec.bound (stream_of I.machine) (state_of I.state p.old)) }
 {
     let mut read = BodySoFar {
         items: Vec::new(p.alloc),

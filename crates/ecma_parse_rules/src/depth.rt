@@ -1,5 +1,5 @@
 //! Nested parts that are read up to a depth: what the rules of a part call that stands alone.
-ghost use Rattle.ecma_parse_state.specs.Fronts.{machine_of};
+ghost use Rattle.ecma_parse_state.specs.Cursors.{stream_of};
 ghost use Rattle.ecma_reading.specs.Reading.{readers};
 
 use crate::tie::{parse_body, parse_class_tail, parse_expr, parse_pat, parse_stmt};
@@ -20,7 +20,7 @@ pub struct Depth {
 }
 
 impl<'a, I: Tokens<'a> + Drop> Nested<'a, I> for Depth {
-    ghost reads = { λ d State m. readers (machine_of m) d.levels };
+    ghost reads = { λ d State m. readers (stream_of m) d.levels };
 
     ghost ready = { λ _. Unit {0} };
 

@@ -4,7 +4,7 @@ ghost use Rattle.ecma_node.specs.Fits.{fits_block_stmt, fits_class};
 ghost use Rattle.ecma_node.specs.Placed.{inner, holds_pat, holds_stmt};
 ghost use Rattle.ecma_node.specs.View.{view_block_stmt, view_class};
 ghost use Rattle.ecma_reading.specs.Source as spec;
-ghost use Rattle.ecma_reading.specs.Source.{Inner, Machine, Stand};
+ghost use Rattle.ecma_reading.specs.Source.{Inner, Stream};
 ghost use Rattle.ecma_reading.specs.Expressions as reads;
 ghost use Rattle.ecma_reading.specs.Statements as stmts;
 ghost use Rattle.ecma_parse_state.specs.Answers.{Falls, Gives};
@@ -20,15 +20,15 @@ use ecma_token::BytePos;
 pub trait Stood {
     ghost State: { Type 0 };
 
-    ghost machine: { Machine State };
+    ghost machine: { Stream State };
 
-    ghost stood: { Self → Stand State };
+    ghost stood: { Self → spec.State State };
 }
 
 /// The parsers of nested parts, at one depth, for what stands in front of tokens.
 pub trait Inside<P: Stood> {
     /// What they read.
-    ghost reads: { Self → (S : Type 0) → Machine S → Inner S };
+    ghost reads: { Self → (S : Type 0) → Stream S → Inner S };
 
     /// That they may be called, and read that.
     ghost ready: { Self → Type 0 };

@@ -4,14 +4,14 @@ ghost use Rattle.ecma_node.specs.Fits.{fits_assign_target, fits_block_stmt, fits
 ghost use Rattle.ecma_node.specs.Placed.{inner, holds_pat, holds_stmt};
 ghost use Rattle.ecma_node.specs.View.{view_assign_target, view_block_stmt, view_class};
 ghost use Rattle.ecma_reading.specs.Source as spec;
-ghost use Rattle.ecma_reading.specs.Source.{Inner, Machine, Stand};
+ghost use Rattle.ecma_reading.specs.Source.{Inner, Stream};
 ghost use Rattle.ecma_reading.specs.Expressions as reads;
 ghost use Rattle.ecma_reading.specs.Statements as stmts;
 ghost use Rattle.ecma_reading.specs.Reading.{readers};
 ghost use Rattle.ecma_parse_state.specs.Answers.{Gives};
 ghost use Rattle.ecma_parse_state.specs.Codes.{code_of};
-ghost use Rattle.ecma_parse_state.specs.Fronts.{Front, machine_of};
-ghost use Rattle.ecma_parse_state.specs.Stands.{stand};
+ghost use Rattle.ecma_parse_state.specs.Cursors.{Cursor, stream_of};
+ghost use Rattle.ecma_parse_state.specs.States.{state_of};
 ghost use Rattle.ecma_parse_base.specs.Operands.{tree_of};
 ghost use Rattle.ecma_reading.specs.Cover.{to_target};
 ghost use Rattle.ecma_reading.specs.Expressions.{params_of};
@@ -39,15 +39,15 @@ pub struct Through<'n, N> {
 }
 
 impl<'a, I: Tokens<'a> + Drop> Stood for Parser<'a, I> {
-    ghost State = { Front I.State };
+    ghost State = { Cursor I.State };
 
-    ghost machine = { machine_of I.machine };
+    ghost machine = { stream_of I.machine };
 
-    ghost stood = { λ p. stand I.state p };
+    ghost stood = { λ p. state_of I.state p };
 }
 
 impl<'a, 'n, I: Tokens<'a> + Drop, N: Inside<Parser<'a, I>>> Nested<'a, I> for Through<'n, N> {
-    ghost reads = { λ t State m. N.reads t.inside.now (Front State) (machine_of m) };
+    ghost reads = { λ t State m. N.reads t.inside.now (Cursor State) (stream_of m) };
 
     ghost ready = { λ t. N.ready t.inside.now };
 

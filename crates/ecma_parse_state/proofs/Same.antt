@@ -4,18 +4,18 @@ use Rattle.ecma_tree.specs.Tree.{Tree}
 use Rattle.ecma_syntax.specs.Input.{Code, lo}
 use Rattle.ecma_syntax.specs.Operators.{new_level, member_level}
 use Rattle.ecma_syntax.specs.Shape.{level}
-use Rattle.ecma_reading.specs.Source.{Machine, Stand, Inner, input, iterate, bound, unexpected}
+use Rattle.ecma_reading.specs.Source.{Stream, State, Inner, input, iterate, bound, unexpected}
 use Rattle.ecma_reading.specs.Expressions.{loop_by, loop_step, step_by, chain_by, cond_by, assign_by, binary_by, call_by, index_by, member_by}
 
-module _ {S : Type 0} (m : Machine S) (inner : Inner S) (c : Code) (a b : Stand S) (e : lo (input m a) ≡ lo (input m b)) where
-  step_same : (t : Tree) (r : Stand S) → step_by m inner c a t r ≡ step_by m inner c b t r
+module _ {S : Type 0} (m : Stream S) (inner : Inner S) (c : Code) (a b : State S) (e : lo (input m a) ≡ lo (input m b)) where
+  step_same : (t : Tree) (r : State S) → step_by m inner c a t r ≡ step_by m inner c b t r
   unfolding step_by chain_by cond_by assign_by binary_by call_by index_by member_by
   step_same t r = rw e refl
 
-  turn_same : (l : ℕ) (t : Tree) (r : Stand S) → loop_step m inner c l a t r ≡ loop_step m inner c l b t r
+  turn_same : (l : ℕ) (t : Tree) (r : State S) → loop_step m inner c l a t r ≡ loop_step m inner c l b t r
   unfolding loop_step
   turn_same l t r = rw (step_same t r) refl
 
-  pub loop_same : (l : ℕ) (t : Tree) (r : Stand S) → loop_by m inner c l a t r ≡ loop_by m inner c l b t r
+  pub loop_same : (l : ℕ) (t : Tree) (r : State S) → loop_by m inner c l a t r ≡ loop_by m inner c l b t r
   unfolding loop_by
   loop_same l t r = λ i. if nat_le l (level t) then iterate (bound m) (λ x s. turn_same l x s i) t r else (if (level t == new_level) && (l == member_level) then Ok (t, r) else unexpected)

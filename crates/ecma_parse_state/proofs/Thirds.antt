@@ -4,7 +4,7 @@ use Rattle.ecma_token.specs.Tokens.{Spot}
 use Rattle.ecma_token_source.specs.Looks.{behind_by}
 use Rattle.ecma_token_source.specs.Machine.{Machine, Source}
 use Rattle.ecma_syntax.specs.Input.{break_of, kind_of, others}
-use Rattle.ecma_parse_state.specs.Fronts.{kind_in, places}
+use Rattle.ecma_parse_state.specs.Cursors.{kind_in, places}
 
 -- whether a line break stands before the token that comes
 abbrev pub break_in : Option Spot → Bool

@@ -1,5 +1,5 @@
 -- Where a parser stands in a source of tokens, and what its functions answer.
-pub mod Fronts
+pub mod Cursors
 pub mod Answers
 pub mod Codes
-pub mod Stands
+pub mod States

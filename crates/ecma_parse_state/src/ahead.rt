@@ -1,7 +1,7 @@
 //! The token that comes.
 ghost use Rattle.std.specs.Prelude.{◌≡◌, option_map};
 ghost use Rattle.ecma_token_source.specs.Machine.{shown_spot};
-ghost use Rattle.ecma_parse_state.specs.Fronts.{kind_in};
+ghost use Rattle.ecma_parse_state.specs.Cursors.{kind_in};
 
 use crate::kind_numbers::token_number;
 use crate::kinds;

@@ -1,5 +1,5 @@
 //! The parser's state: the source of tokens with the token that comes, and the smallest steps on it. Each is equal to a
-//! reading function on the machine of the source.
+//! reading function on the stream of the source.
 #![tactic(auto)]
 
 pub mod ahead;

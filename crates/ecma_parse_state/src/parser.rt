@@ -4,7 +4,7 @@ ghost use Rattle.ecma_syntax.specs.Input.{brk, brk2, escaped, first_span, hi, is
 ghost use Rattle.ecma_token_source.specs.Machine.{shown_spot};
 ghost use Rattle.ecma_reading.specs.Source as spec;
 ghost use Rattle.ecma_parse_state.specs.Answers.{Falls, Gives, IsMemory, IsSyntax, Stays};
-ghost use Rattle.ecma_parse_state.specs.Fronts.{machine_of};
+ghost use Rattle.ecma_parse_state.specs.Cursors.{stream_of};
 
 use crate::ahead::Ahead;
 use crate::failure::Failure;
@@ -34,31 +34,31 @@ pub struct Parser<'a, I: Tokens<'a> + Drop> {
 }
 
 impl<'a, I: Tokens<'a> + Drop> Parser<'a, I> {
-    ghost use Rattle.ecma_parse_state.specs.Stands.{stand};
+    ghost use Rattle.ecma_parse_state.specs.States.{state_of};
 
     /// Whether the token that comes has this kind.
     #[inline]
-    #[tactic(auto, unfolding(crate::specs::Fronts::machine_of))]
+    #[tactic(auto, unfolding(crate::specs::Cursors::stream_of))]
     pub fn at(&self, kind: u8) -> bool
-        ensures { result ≡ spec.at (machine_of I.machine) kind (stand I.state self.now) }
+        ensures { result ≡ spec.at (stream_of I.machine) kind (state_of I.state self.now) }
     {
         self.ahead.kind == kind
     }
 
     /// The kind of the token that comes.
     #[inline]
-    #[tactic(auto, unfolding(crate::specs::Fronts::machine_of))]
+    #[tactic(auto, unfolding(crate::specs::Cursors::stream_of))]
     pub fn kind(&self) -> u8
-        ensures { result ≡ kind (spec.input (machine_of I.machine) (stand I.state self.now)) }
+        ensures { result ≡ kind (spec.input (stream_of I.machine) (state_of I.state self.now)) }
     {
         self.ahead.kind
     }
 
     /// Whether a line break stands before the token that comes.
     #[inline]
-    #[tactic(auto, unfolding(crate::specs::Fronts::machine_of))]
+    #[tactic(auto, unfolding(crate::specs::Cursors::stream_of))]
     pub fn breaks(&self) -> bool
-        ensures { result ≡ brk (spec.input (machine_of I.machine) (stand I.state self.now)) }
+        ensures { result ≡ brk (spec.input (stream_of I.machine) (state_of I.state self.now)) }
     {
         match &self.ahead.token {
             Some(token) => token.had_line_break,
@@ -67,9 +67,9 @@ impl<'a, I: Tokens<'a> + Drop> Parser<'a, I> {
     }
 
     /// Where the token that comes begins; at the end, where the last one ended.
-    #[tactic(auto, unfolding(crate::specs::Fronts::machine_of))]
+    #[tactic(auto, unfolding(crate::specs::Cursors::stream_of))]
     pub fn lo(&self) -> BytePos
-        ensures { result.0 ≡ lo (spec.input (machine_of I.machine) (stand I.state self.now)) }
+        ensures { result.0 ≡ lo (spec.input (stream_of I.machine) (state_of I.state self.now)) }
     {
         match &self.ahead.token {
             Some(token) => token.span.lo,
@@ -78,9 +78,9 @@ impl<'a, I: Tokens<'a> + Drop> Parser<'a, I> {
     }
 
     /// Where the token that comes ends.
-    #[tactic(auto, unfolding(crate::specs::Fronts::machine_of))]
+    #[tactic(auto, unfolding(crate::specs::Cursors::stream_of))]
     pub fn hi(&self) -> BytePos
-        ensures { result.0 ≡ hi (spec.input (machine_of I.machine) (stand I.state self.now)) }
+        ensures { result.0 ≡ hi (spec.input (stream_of I.machine) (state_of I.state self.now)) }
     {
         match &self.ahead.token {
             Some(token) => token.span.hi,
@@ -90,7 +90,7 @@ impl<'a, I: Tokens<'a> + Drop> Parser<'a, I> {
 
     /// The place of the token that comes.
     pub fn place(&self) -> Span
-        ensures { result ≡ first_span (spec.input (machine_of I.machine) (stand I.state self.now)) }
+        ensures { result ≡ first_span (spec.input (stream_of I.machine) (state_of I.state self.now)) }
     {
         Span {
             lo: self.lo(),
@@ -99,9 +99,9 @@ impl<'a, I: Tokens<'a> + Drop> Parser<'a, I> {
     }
 
     /// From a place up to where the last token that was taken ends.
-    #[tactic(auto, unfolding(crate::specs::Fronts::machine_of))]
+    #[tactic(auto, unfolding(crate::specs::Cursors::stream_of))]
     pub fn since(&self, start: BytePos) -> Span
-        ensures { result ≡ span start.0 ((machine_of I.machine).last (stand I.state self.now).source) }
+        ensures { result ≡ span start.0 ((stream_of I.machine).last (state_of I.state self.now).source) }
     {
         Span {
             lo: start,
@@ -114,11 +114,11 @@ impl<'a, I: Tokens<'a> + Drop> Parser<'a, I> {
     /// # Errors
     ///
     /// Want of memory.
-    #[tactic(auto, unfolding(crate::specs::Fronts::machine_of))]
+    #[tactic(auto, unfolding(crate::specs::Cursors::stream_of))]
     pub fn bump(&mut self) -> Result<(), Failure>
-        ensures value { OnOk result (stand I.state self.new ≡ spec.past (machine_of I.machine) (stand I.state self.old)) }
-        ensures shorter { IfOk result (λ _. kind (spec.input (machine_of I.machine) (stand I.state self.old)) ≢ 0 → spec.bound (machine_of I.machine) (stand I.state self.new) < spec.bound (machine_of I.machine) (stand I.state self.old)) }
-        ensures not_longer { Stays result (spec.bound (machine_of I.machine) (stand I.state self.new)) (spec.bound (machine_of I.machine) (stand I.state self.old)) }
+        ensures value { OnOk result (state_of I.state self.new ≡ spec.past (stream_of I.machine) (state_of I.state self.old)) }
+        ensures shorter { IfOk result (λ _. kind (spec.input (stream_of I.machine) (state_of I.state self.old)) ≢ 0 → spec.bound (stream_of I.machine) (state_of I.state self.new) < spec.bound (stream_of I.machine) (state_of I.state self.old)) }
+        ensures not_longer { Stays result (spec.bound (stream_of I.machine) (state_of I.state self.new)) (spec.bound (stream_of I.machine) (state_of I.state self.old)) }
         ensures full { IfErr result IsMemory }
     {
         let Some(token) = &self.ahead.token else {
@@ -140,12 +140,12 @@ impl<'a, I: Tokens<'a> + Drop> Parser<'a, I> {
     /// # Errors
     ///
     /// Want of memory.
-    #[tactic(auto, unfolding(crate::specs::Fronts::machine_of))]
+    #[tactic(auto, unfolding(crate::specs::Cursors::stream_of))]
     pub fn take(&mut self) -> Result<Option<TokenAndSpan<'a>>, Failure>
-        ensures token { IfOk result (λ t. option_map shown_spot t ≡ (stand I.state self.old).source.first) }
-        ensures value { OnOk result (stand I.state self.new ≡ spec.past (machine_of I.machine) (stand I.state self.old)) }
-        ensures shorter { IfOk result (λ _. kind (spec.input (machine_of I.machine) (stand I.state self.old)) ≢ 0 → spec.bound (machine_of I.machine) (stand I.state self.new) < spec.bound (machine_of I.machine) (stand I.state self.old)) }
-        ensures not_longer { Stays result (spec.bound (machine_of I.machine) (stand I.state self.new)) (spec.bound (machine_of I.machine) (stand I.state self.old)) }
+        ensures token { IfOk result (λ t. option_map shown_spot t ≡ (state_of I.state self.old).source.first) }
+        ensures value { OnOk result (state_of I.state self.new ≡ spec.past (stream_of I.machine) (state_of I.state self.old)) }
+        ensures shorter { IfOk result (λ _. kind (spec.input (stream_of I.machine) (state_of I.state self.old)) ≢ 0 → spec.bound (stream_of I.machine) (state_of I.state self.new) < spec.bound (stream_of I.machine) (state_of I.state self.old)) }
+        ensures not_longer { Stays result (spec.bound (stream_of I.machine) (state_of I.state self.new)) (spec.bound (stream_of I.machine) (state_of I.state self.old)) }
         ensures full { IfErr result IsMemory }
     {
         let Some(token) = &self.ahead.token else {
@@ -167,10 +167,10 @@ impl<'a, I: Tokens<'a> + Drop> Parser<'a, I> {
     /// # Errors
     ///
     /// Want of memory.
-    #[tactic(auto, unfolding(crate::specs::Fronts::machine_of))]
+    #[tactic(auto, unfolding(crate::specs::Cursors::stream_of))]
     pub fn second(&self) -> Result<(u8, bool), Failure>
-        ensures kind { IfOk result (λ x. kind (spec.input (machine_of I.machine) (stand I.state self.now)) ≢ 0 → x.0 ≡ kind2 (spec.input (machine_of I.machine) (stand I.state self.now))) }
-        ensures breaks { IfOk result (λ x. kind (spec.input (machine_of I.machine) (stand I.state self.now)) ≢ 0 → x.1 ≡ brk2 (spec.input (machine_of I.machine) (stand I.state self.now))) }
+        ensures kind { IfOk result (λ x. kind (spec.input (stream_of I.machine) (state_of I.state self.now)) ≢ 0 → x.0 ≡ kind2 (spec.input (stream_of I.machine) (state_of I.state self.now))) }
+        ensures breaks { IfOk result (λ x. kind (spec.input (stream_of I.machine) (state_of I.state self.now)) ≢ 0 → x.1 ≡ brk2 (spec.input (stream_of I.machine) (state_of I.state self.now))) }
         ensures full { IfErr result IsMemory }
     {
         match self.input.look(Look::Next) {
@@ -185,11 +185,11 @@ impl<'a, I: Tokens<'a> + Drop> Parser<'a, I> {
     /// # Errors
     ///
     /// Want of memory.
-    #[tactic(auto, using(crate::proofs::Thirds::thirds), unfolding(crate::specs::Fronts::machine_of))]
+    #[tactic(auto, using(crate::proofs::Thirds::thirds), unfolding(crate::specs::Cursors::stream_of))]
     pub fn third(&self) -> Result<(u8, bool), Failure>
-        ensures kind { IfOk result (λ x. x.0 ≡ kind2 (spec.input (machine_of I.machine) (spec.past (machine_of I.machine) (stand I.state self.now)))) }
-        ensures breaks { IfOk result (λ x. x.1 ≡ brk2 (spec.input (machine_of I.machine) (spec.past (machine_of I.machine) (stand I.state self.now)))) }
-        ensures rest { IfOk result (λ x. x.0 ≡ kind2 (rest (spec.input (machine_of I.machine) (stand I.state self.now)))) }
+        ensures kind { IfOk result (λ x. x.0 ≡ kind2 (spec.input (stream_of I.machine) (spec.past (stream_of I.machine) (state_of I.state self.now)))) }
+        ensures breaks { IfOk result (λ x. x.1 ≡ brk2 (spec.input (stream_of I.machine) (spec.past (stream_of I.machine) (state_of I.state self.now)))) }
+        ensures rest { IfOk result (λ x. x.0 ≡ kind2 (rest (spec.input (stream_of I.machine) (state_of I.state self.now)))) }
         ensures full { IfErr result IsMemory }
     {
         if self.ahead.token.is_none() {
@@ -203,9 +203,9 @@ impl<'a, I: Tokens<'a> + Drop> Parser<'a, I> {
     }
 
     /// The text of the word that comes, or nothing.
-    #[tactic(auto, unfolding(crate::specs::Fronts::machine_of))]
+    #[tactic(auto, unfolding(crate::specs::Cursors::stream_of))]
     pub fn text(&self) -> &str
-        ensures { result.now ≡ text (spec.input (machine_of I.machine) (stand I.state self.now)) }
+        ensures { result.now ≡ text (spec.input (stream_of I.machine) (state_of I.state self.now)) }
     {
         match &self.ahead.token {
             Some(token) => match &token.token {
@@ -224,10 +224,10 @@ impl<'a, I: Tokens<'a> + Drop> Parser<'a, I> {
     #[inline]
     pub fn eat(&mut self, kind: u8) -> Result<bool, Failure>
         requires { 0 < kind }
-        ensures value { IfOk result (λ b. b ≡ spec.at (machine_of I.machine) kind (stand I.state self.old)) }
-        ensures state { IfOk result (λ b. stand I.state self.new ≡ (if b then spec.past (machine_of I.machine) (stand I.state self.old) else stand I.state self.old)) }
-        ensures shorter { IfOk result (λ b. IsTrue b → spec.bound (machine_of I.machine) (stand I.state self.new) < spec.bound (machine_of I.machine) (stand I.state self.old)) }
-        ensures not_longer { Stays result (spec.bound (machine_of I.machine) (stand I.state self.new)) (spec.bound (machine_of I.machine) (stand I.state self.old)) }
+        ensures value { IfOk result (λ b. b ≡ spec.at (stream_of I.machine) kind (state_of I.state self.old)) }
+        ensures state { IfOk result (λ b. state_of I.state self.new ≡ (if b then spec.past (stream_of I.machine) (state_of I.state self.old) else state_of I.state self.old)) }
+        ensures shorter { IfOk result (λ b. IsTrue b → spec.bound (stream_of I.machine) (state_of I.state self.new) < spec.bound (stream_of I.machine) (state_of I.state self.old)) }
+        ensures not_longer { Stays result (spec.bound (stream_of I.machine) (state_of I.state self.new)) (spec.bound (stream_of I.machine) (state_of I.state self.old)) }
         ensures full { IfErr result IsMemory }
     {
         if self.at(kind) {
@@ -279,8 +279,8 @@ impl<'a, I: Tokens<'a> + Drop> Parser<'a, I> {
     #[tactic(auto, unfolding(ecma_reading::specs::Source::eat))]
     pub fn expect(&mut self, kind: u8) -> Result<(), Failure>
         requires { 0 < kind }
-        ensures value { Gives (λ _. stand I.state self.new) result (spec.eat (machine_of I.machine) kind (stand I.state self.old)) }
-        ensures shorter { Falls result (spec.bound (machine_of I.machine) (stand I.state self.new)) (spec.bound (machine_of I.machine) (stand I.state self.old)) }
+        ensures value { Gives (λ _. state_of I.state self.new) result (spec.eat (stream_of I.machine) kind (state_of I.state self.old)) }
+        ensures shorter { Falls result (spec.bound (stream_of I.machine) (state_of I.state self.new)) (spec.bound (stream_of I.machine) (state_of I.state self.old)) }
     {
         if self.eat(kind)? {
             Ok(())
@@ -297,8 +297,8 @@ impl<'a, I: Tokens<'a> + Drop> Parser<'a, I> {
     #[tactic(auto, unfolding(ecma_reading::specs::Source::eat))]
     pub fn expect_or(&mut self, kind: u8, span: Span, fault: SyntaxError) -> Result<(), Failure>
         requires { 0 < kind }
-        ensures value { Gives (λ _. stand I.state self.new) result (spec.eat (machine_of I.machine) kind (stand I.state self.old)) }
-        ensures shorter { Falls result (spec.bound (machine_of I.machine) (stand I.state self.new)) (spec.bound (machine_of I.machine) (stand I.state self.old)) }
+        ensures value { Gives (λ _. state_of I.state self.new) result (spec.eat (stream_of I.machine) kind (state_of I.state self.old)) }
+        ensures shorter { Falls result (spec.bound (stream_of I.machine) (state_of I.state self.new)) (spec.bound (stream_of I.machine) (state_of I.state self.old)) }
     {
         if self.eat(kind)? {
             Ok(())
@@ -309,15 +309,15 @@ impl<'a, I: Tokens<'a> + Drop> Parser<'a, I> {
 
     /// Whether the token that comes is a word.
     pub fn is_word(&self) -> bool
-        ensures { result ≡ is_word (kind (spec.input (machine_of I.machine) (stand I.state self.now))) }
+        ensures { result ≡ is_word (kind (spec.input (stream_of I.machine) (state_of I.state self.now))) }
     {
         self.kind() >= kinds::NULL
     }
 
     /// Whether the token that comes is a word that is spelled with an escape: its span is longer than its text.
-    #[tactic(auto, unfolding(crate::specs::Fronts::machine_of))]
+    #[tactic(auto, unfolding(crate::specs::Cursors::stream_of))]
     pub fn is_escaped(&self) -> bool
-        ensures { result ≡ escaped (spec.input (machine_of I.machine) (stand I.state self.now)) }
+        ensures { result ≡ escaped (spec.input (stream_of I.machine) (state_of I.state self.now)) }
     {
         match &self.ahead.token {
             Some(token) => match &token.token {

@@ -5,7 +5,7 @@ ghost use Rattle.ecma_token_source.specs.Machine.{shown_spot};
 ghost use Rattle.ecma_reading.specs.Source as spec;
 ghost use Rattle.ecma_parse_state.specs.Answers.{Falls, Gives, IsMemory, Stays};
 ghost use Rattle.ecma_parse_state.specs.Codes.{code_of};
-ghost use Rattle.ecma_parse_state.specs.Fronts.{again_in, in_place, is_slash, kind_in, machine_of};
+ghost use Rattle.ecma_parse_state.specs.Cursors.{again_in, in_place, is_slash, kind_in, stream_of};
 
 use crate::ahead::Ahead;
 use crate::code::Around;
@@ -19,7 +19,7 @@ use ecma_token::{Context, SyntaxError, TokenAndSpan};
 use ecma_token_source::{Look, Tokens};
 
 /// Whether a token that was read again from a slash on comes in its place: a regular expression, or a fault of one, that
-/// begins there, with the same line-break mark.
+/// begins there, with the same line-break flag.
 fn in_place(slash: &TokenAndSpan<'_>, token: &TokenAndSpan<'_>) -> bool
     ensures { result ≡ in_place (shown_spot slash.now) (Some (shown_spot token.now)) }
 {
@@ -30,11 +30,11 @@ fn in_place(slash: &TokenAndSpan<'_>, token: &TokenAndSpan<'_>) -> bool
 }
 
 impl<'a, I: Tokens<'a> + Drop> Parser<'a, I> {
-    ghost use Rattle.ecma_parse_state.specs.Stands.{noted, stand};
+    ghost use Rattle.ecma_parse_state.specs.States.{noted, state_of};
 
     /// Whether an escape bars the word that comes from being a word of the grammar or a name.
     pub fn is_barred(&self, context: Context) -> bool
-        ensures { result ≡ barred context (spec.input (machine_of I.machine) (stand I.state self.now)) }
+        ensures { result ≡ barred context (spec.input (stream_of I.machine) (state_of I.state self.now)) }
     {
         let kind = self.kind();
         self.is_escaped() && (no_name(context, kind) || (strict_reserved(kind) && context.strict))
@@ -64,7 +64,7 @@ impl<'a, I: Tokens<'a> + Drop> Parser<'a, I> {
 
     /// Whether the token that comes is a word that is a name here.
     pub fn is_name(&self, code: Around) -> bool
-        ensures { result ≡ spec.is_name (machine_of I.machine) (code_of code) (stand I.state self.now) }
+        ensures { result ≡ spec.is_name (stream_of I.machine) (code_of code) (state_of I.state self.now) }
     {
         self.is_word() && !no_name(code.context, self.kind()) && !self.is_barred(code.context)
     }
@@ -77,8 +77,8 @@ impl<'a, I: Tokens<'a> + Drop> Parser<'a, I> {
     #[tactic(auto, unfolding(ecma_reading::specs::Source::eat_word))]
     pub fn eat_word(&mut self, code: Around, kind: u8) -> Result<(), Failure>
         requires { 0 < kind }
-        ensures value { Gives (λ _. stand I.state self.new) result (spec.eat_word (machine_of I.machine) (code_of code) kind (stand I.state self.old)) }
-        ensures shorter { Falls result (spec.bound (machine_of I.machine) (stand I.state self.new)) (spec.bound (machine_of I.machine) (stand I.state self.old)) }
+        ensures value { Gives (λ _. state_of I.state self.new) result (spec.eat_word (stream_of I.machine) (code_of code) kind (state_of I.state self.old)) }
+        ensures shorter { Falls result (spec.bound (stream_of I.machine) (state_of I.state self.new)) (spec.bound (stream_of I.machine) (state_of I.state self.old)) }
     {
         if !self.is_barred(code.context) && self.eat(kind)? {
             return Ok(());
@@ -93,8 +93,8 @@ impl<'a, I: Tokens<'a> + Drop> Parser<'a, I> {
     /// Any other token is a fault.
     #[tactic(auto, unfolding(ecma_reading::specs::Source::any_word))]
     pub fn any_word(&mut self) -> Result<Atom, Failure>
-        ensures value { Gives (λ n. (n, stand I.state self.new)) result (spec.any_word (machine_of I.machine) (stand I.state self.old)) }
-        ensures shorter { Falls result (spec.bound (machine_of I.machine) (stand I.state self.new)) (spec.bound (machine_of I.machine) (stand I.state self.old)) }
+        ensures value { Gives (λ n. (n, state_of I.state self.new)) result (spec.any_word (stream_of I.machine) (state_of I.state self.old)) }
+        ensures shorter { Falls result (spec.bound (stream_of I.machine) (state_of I.state self.new)) (spec.bound (stream_of I.machine) (state_of I.state self.old)) }
     {
         if !self.is_word() {
             return Err(self.unexpected());
@@ -111,8 +111,8 @@ impl<'a, I: Tokens<'a> + Drop> Parser<'a, I> {
     /// Any other token is a fault.
     #[tactic(auto, unfolding(ecma_reading::specs::Source::name))]
     pub fn name(&mut self, code: Around) -> Result<Atom, Failure>
-        ensures value { Gives (λ n. (n, stand I.state self.new)) result (spec.name (machine_of I.machine) (code_of code) (stand I.state self.old)) }
-        ensures shorter { Falls result (spec.bound (machine_of I.machine) (stand I.state self.new)) (spec.bound (machine_of I.machine) (stand I.state self.old)) }
+        ensures value { Gives (λ n. (n, state_of I.state self.new)) result (spec.name (stream_of I.machine) (code_of code) (state_of I.state self.old)) }
+        ensures shorter { Falls result (spec.bound (stream_of I.machine) (state_of I.state self.new)) (spec.bound (stream_of I.machine) (state_of I.state self.old)) }
     {
         if !self.is_name(code) {
             return Err(self.unexpected());
@@ -151,10 +151,10 @@ impl<'a, I: Tokens<'a> + Drop> Parser<'a, I> {
     ///
     /// Want of memory.
     #[inline]
-    #[tactic(auto, unfolding(crate::specs::Fronts::machine_of))]
+    #[tactic(auto, unfolding(crate::specs::Cursors::stream_of))]
     pub fn operand(&mut self) -> Result<(), Failure>
-        ensures value { OnOk result (stand I.state self.new ≡ spec.operand (machine_of I.machine) (stand I.state self.old)) }
-        ensures not_longer { Stays result (spec.bound (machine_of I.machine) (stand I.state self.new)) (spec.bound (machine_of I.machine) (stand I.state self.old)) }
+        ensures value { OnOk result (state_of I.state self.new ≡ spec.operand (stream_of I.machine) (state_of I.state self.old)) }
+        ensures not_longer { Stays result (spec.bound (stream_of I.machine) (state_of I.state self.new)) (spec.bound (stream_of I.machine) (state_of I.state self.old)) }
         ensures full { IfErr result IsMemory }
     {
         if !self.at(kinds::DIV) && !self.at(kinds::DIV_ASSIGN) {
@@ -169,11 +169,11 @@ impl<'a, I: Tokens<'a> + Drop> Parser<'a, I> {
     ///
     /// Want of memory.
     #[inline(never)]
-    #[tactic(auto, unfolding(crate::specs::Fronts::machine_of))]
+    #[tactic(auto, unfolding(crate::specs::Cursors::stream_of))]
     fn reread(&mut self) -> Result<(), Failure>
-        requires slash { is_slash (kind (spec.input (machine_of I.machine) (stand I.state self.old))) ≡ true }
-        ensures value { OnOk result (stand I.state self.new ≡ spec.operand (machine_of I.machine) (stand I.state self.old)) }
-        ensures not_longer { Stays result (spec.bound (machine_of I.machine) (stand I.state self.new)) (spec.bound (machine_of I.machine) (stand I.state self.old)) }
+        requires slash { is_slash (kind (spec.input (stream_of I.machine) (state_of I.state self.old))) ≡ true }
+        ensures value { OnOk result (state_of I.state self.new ≡ spec.operand (stream_of I.machine) (state_of I.state self.old)) }
+        ensures not_longer { Stays result (spec.bound (stream_of I.machine) (state_of I.state self.new)) (spec.bound (stream_of I.machine) (state_of I.state self.old)) }
         ensures full { IfErr result IsMemory }
     {
         let Some(slash) = &self.ahead.token else {
@@ -198,10 +198,10 @@ impl<'a, I: Tokens<'a> + Drop> Parser<'a, I> {
     ///
     /// Want of memory.
     #[inline(never)]
-    #[tactic(auto, unfolding(crate::specs::Fronts::machine_of))]
+    #[tactic(auto, unfolding(crate::specs::Cursors::stream_of))]
     pub fn reread_kind(&self) -> Result<u8, Failure>
-        requires slash { is_slash (kind (spec.input (machine_of I.machine) (stand I.state self.now))) ≡ true }
-        ensures value { IfOk result (λ k. k ≡ kind (spec.input (machine_of I.machine) (spec.operand (machine_of I.machine) (stand I.state self.now)))) }
+        requires slash { is_slash (kind (spec.input (stream_of I.machine) (state_of I.state self.now))) ≡ true }
+        ensures value { IfOk result (λ k. k ≡ kind (spec.input (stream_of I.machine) (spec.operand (stream_of I.machine) (state_of I.state self.now)))) }
         ensures full { IfErr result IsMemory }
     {
         let Some(slash) = &self.ahead.token else {
@@ -220,7 +220,7 @@ impl<'a, I: Tokens<'a> + Drop> Parser<'a, I> {
     /// Want of memory.
     #[inline(never)]
     pub fn note(&mut self, start: u32) -> Result<(), Failure>
-        ensures value { OnOk result (stand I.state self.new ≡ noted start (stand I.state self.old)) }
+        ensures value { OnOk result (state_of I.state self.new ≡ noted start (state_of I.state self.old)) }
         ensures full { IfErr result IsMemory }
     {
         self.commas.push(start)?;

@@ -3,7 +3,7 @@ use Rattle.std.proofs.Common.{◌≡◌, ℕ, zero, suc, Bool, true, false, ◌|
 use Rattle.ecma_tree.specs.Tree.{Tree, if_stmt}
 use Rattle.ecma_syntax.specs.Input.{span}
 use Rattle.ecma_syntax.specs.Shape.{is_default_case}
-use Rattle.ecma_reading.specs.Source.{Machine, Inner}
+use Rattle.ecma_reading.specs.Source.{Stream, Inner}
 use Rattle.ecma_reading.specs.Statements.{Branch, chained, has_default}
 use Rattle.ecma_parse_statements.specs.Lists.{any_default}
 
@@ -19,7 +19,7 @@ pub any_more : {A : Type 0} (f : A → Tree) (xs : List A) (y : A) → any_defau
 any_more f [] y = or_none (is_default_case (f y))
 any_more f (x ∷ xs) y = ap (λ b. is_default_case (f x) || b) (any_more f xs y) ∙ sym (or_assoc (is_default_case (f x)) (any_default (map f xs)) (is_default_case (f y)))
 
-pub has_any : {S : Type 0} (m : Machine S) (inner : Inner S) (ts : List Tree) → has_default m inner ts ≡ any_default ts
+pub has_any : {S : Type 0} (m : Stream S) (inner : Inner S) (ts : List Tree) → has_default m inner ts ≡ any_default ts
 has_any m inner [] = refl
 has_any m inner (t ∷ ts) = ap (λ b. is_default_case t || b) (has_any m inner ts)
 

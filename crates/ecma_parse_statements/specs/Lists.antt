@@ -7,7 +7,7 @@ use Rattle.ecma_token.specs.Kinds.{colon_kind}
 use Rattle.ecma_node.specs.Fits.{fits_held, fits_switch_case}
 use Rattle.ecma_node.specs.Placed.{holds_stmt, inner}
 use Rattle.ecma_node.specs.View.{view_switch_case}
-use Rattle.ecma_reading.specs.Source.{Machine, Inner, Read, ◌>>=◌, eat, iterate, bound}
+use Rattle.ecma_reading.specs.Source.{Stream, Inner, Read, ◌>>=◌, eat, iterate, bound}
 use Rattle.ecma_reading.specs.Statements as reads
 use Rattle.ecma_parse_state.specs.Codes.{code_of}
 use Rattle.ecma_parse_base.specs.Operands.{tree_of}
@@ -30,7 +30,7 @@ abbrev pub FitChain : Links → Type 0
 FitChain x = FitBranches x.branches.items × fits_held (λ s. holds_stmt s.part.value) x.last
 
 -- the branches of an `if` (14.6)
-unfoldable pub chain_items : {S : Type 0} → Machine S → Inner S → Code → Read S reads.Chain
+unfoldable pub chain_items : {S : Type 0} → Stream S → Inner S → Code → Read S reads.Chain
 chain_items m inside c s = iterate (bound m) (reads.if_step m inside) (record { branches = []; code = c; last = absent }) s
 
 -- ---- cases
@@ -50,9 +50,9 @@ abbrev pub TellsDefault : CaseList → Type 0
 TellsDefault x = x.has_default ≡ any_default (cases_of x)
 
 -- the statements of a case, from its colon on (14.12)
-unfoldable pub case_items : {S : Type 0} → Machine S → Inner S → Code → Read S (List Tree)
+unfoldable pub case_items : {S : Type 0} → Stream S → Inner S → Code → Read S (List Tree)
 case_items m inside c s = eat m colon_kind s >>= λ r. iterate (bound m) (reads.case_step m inside c) [] r
 
 -- the cases of a `switch`, up to its brace (14.12)
-unfoldable pub switch_cases : {S : Type 0} → Machine S → Inner S → Code → Read S (List Tree)
+unfoldable pub switch_cases : {S : Type 0} → Stream S → Inner S → Code → Read S (List Tree)
 switch_cases m inside c s = iterate (bound m) (reads.cases_step m inside c) [] s

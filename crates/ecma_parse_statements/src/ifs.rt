@@ -8,8 +8,8 @@ ghost use Rattle.ecma_reading.specs.Source as spec;
 ghost use Rattle.ecma_reading.specs.Statements as reads;
 ghost use Rattle.ecma_parse_state.specs.Answers.{Falls, Gives, going_on, IsMemory, Stays};
 ghost use Rattle.ecma_parse_state.specs.Codes.{code_of};
-ghost use Rattle.ecma_parse_state.specs.Fronts.{machine_of};
-ghost use Rattle.ecma_parse_state.specs.Stands.{stand};
+ghost use Rattle.ecma_parse_state.specs.Cursors.{stream_of};
+ghost use Rattle.ecma_parse_state.specs.States.{state_of};
 ghost use Rattle.ecma_syntax.specs.Input as input;
 ghost use Rattle.ecma_parse_statements.specs.Lists.{branch_of, chain_of, chain_items, FitBranches, FitChain};
 
@@ -45,9 +45,9 @@ pub struct Links {
 /// # Errors
 ///
 /// Want of memory.
-#[tactic(auto, unfolding(ecma_parse_state::specs::Fronts::machine_of))]
+#[tactic(auto, unfolding(ecma_parse_state::specs::Cursors::stream_of))]
 pub fn operand_kind<'a, I: Tokens<'a> + Drop>(p: &Parser<'a, I>) -> Result<u8, Failure>
-    ensures value { IfOk result (λ k. k ≡ kind (spec.input (machine_of I.machine) (spec.operand (machine_of I.machine) (stand I.state p.now)))) }
+    ensures value { IfOk result (λ k. k ≡ kind (spec.input (stream_of I.machine) (spec.operand (stream_of I.machine) (state_of I.state p.now)))) }
     ensures full { IfErr result IsMemory }
 {
     match p.kind() {
@@ -68,10 +68,10 @@ pub fn alternative<'a, I: Tokens<'a> + Drop, N: Nested<'a, I>>(
     requires ready { N.ready nested.now }
     requires fits { FitChain chain.old }
     requires last { chain.old.last ≡ None }
-    ensures value { Gives (λ x. (going_on x (chain_of chain.new), stand I.state p.new)) result (reads.else_by (machine_of I.machine) (N.reads nested.now I.State I.machine) (chain_of chain.old) (stand I.state p.old)) }
+    ensures value { Gives (λ x. (going_on x (chain_of chain.new), state_of I.state p.new)) result (reads.else_by (stream_of I.machine) (N.reads nested.now I.State I.machine) (chain_of chain.old) (state_of I.state p.old)) }
     ensures fits { IfOk result (λ x. FitChain chain.new) }
     ensures kept { IfOk result (λ _. chain.new.branches ≡ chain.old.branches) }
-    ensures not_longer { Stays result (spec.bound (machine_of I.machine) (stand I.state p.new)) (spec.bound (machine_of I.machine) (stand I.state p.old)) }
+    ensures not_longer { Stays result (spec.bound (stream_of I.machine) (state_of I.state p.new)) (spec.bound (stream_of I.machine) (state_of I.state p.old)) }
 {
     if operand_kind(p)? == kinds::IF {
         p.operand()?;
@@ -93,10 +93,10 @@ pub fn chain_turn<'a, I: Tokens<'a> + Drop, N: Nested<'a, I>>(
 ) -> Result<bool, Failure>
     requires ready { N.ready nested.now }
     requires fits { FitChain chain.old }
-    ensures value { Gives (λ x. (going_on x (chain_of chain.new), stand I.state p.new)) result (reads.if_step (machine_of I.machine) (N.reads nested.now I.State I.machine) (chain_of chain.old) (stand I.state p.old)) }
+    ensures value { Gives (λ x. (going_on x (chain_of chain.new), state_of I.state p.new)) result (reads.if_step (stream_of I.machine) (N.reads nested.now I.State I.machine) (chain_of chain.old) (state_of I.state p.old)) }
     ensures fits { IfOk result (λ x. FitChain chain.new) }
     ensures some { IfOk result (λ _. 0 < length chain.new.branches.items) }
-    ensures shorter { Falls result (spec.bound (machine_of I.machine) (stand I.state p.new)) (spec.bound (machine_of I.machine) (stand I.state p.old)) }
+    ensures shorter { Falls result (spec.bound (stream_of I.machine) (state_of I.state p.new)) (spec.bound (stream_of I.machine) (state_of I.state p.old)) }
 {
     let start = p.lo();
     p.eat_word(chain.code, kinds::IF)?;
@@ -124,10 +124,10 @@ pub fn chain<'a, I: Tokens<'a> + Drop, N: Nested<'a, I>>(
     code: Around,
 ) -> Result<Links, Failure>
     requires ready { N.ready nested.now }
-    ensures value { Gives (λ x. (chain_of x, stand I.state p.new)) result (chain_items (machine_of I.machine) (N.reads nested.now I.State I.machine) (code_of code) (stand I.state p.old)) }
+    ensures value { Gives (λ x. (chain_of x, state_of I.state p.new)) result (chain_items (stream_of I.machine) (N.reads nested.now I.State I.machine) (code_of code) (state_of I.state p.old)) }
     ensures fits { IfOk result (λ x. FitChain x) }
     ensures some { IfOk result (λ x. 0 < length x.branches.items) }
-    ensures shorter { Falls result (spec.bound (machine_of I.machine) (stand I.state p.new)) (spec.bound (machine_of I.machine) (stand I.state p.old)) }
+    ensures shorter { Falls result (spec.bound (stream_of I.machine) (state_of I.state p.new)) (spec.bound (stream_of I.machine) (state_of I.state p.old)) }
 {
     let mut read = Links {
         branches: Vec::new(p.alloc),
@@ -181,9 +181,9 @@ pub fn if_stmt<'a, I: Tokens<'a> + Drop, N: Nested<'a, I>>(
     code: Around,
 ) -> Result<StmtBox, Failure>
     requires ready { N.ready nested.now }
-    ensures value { Gives (λ x. (inner x.part.value, stand I.state p.new)) result (reads.if_by (machine_of I.machine) (N.reads nested.now I.State I.machine) (code_of code) (stand I.state p.old)) }
+    ensures value { Gives (λ x. (inner x.part.value, state_of I.state p.new)) result (reads.if_by (stream_of I.machine) (N.reads nested.now I.State I.machine) (code_of code) (state_of I.state p.old)) }
     ensures holds { IfOk result (λ x. holds_stmt x.part.value) }
-    ensures shorter { Falls result (spec.bound (machine_of I.machine) (stand I.state p.new)) (spec.bound (machine_of I.machine) (stand I.state p.old)) }
+    ensures shorter { Falls result (spec.bound (stream_of I.machine) (state_of I.state p.new)) (spec.bound (stream_of I.machine) (state_of I.state p.old)) }
 {
     let start = p.lo();
     let read = chain(p, nested, code)?;

@@ -7,8 +7,8 @@ ghost use Rattle.ecma_reading.specs.Source as spec;
 ghost use Rattle.ecma_reading.specs.Statements as reads;
 ghost use Rattle.ecma_parse_state.specs.Answers.{Falls, Gives};
 ghost use Rattle.ecma_parse_state.specs.Codes.{code_of};
-ghost use Rattle.ecma_parse_state.specs.Fronts.{machine_of};
-ghost use Rattle.ecma_parse_state.specs.Stands.{from, stand};
+ghost use Rattle.ecma_parse_state.specs.Cursors.{stream_of};
+ghost use Rattle.ecma_parse_state.specs.States.{from, state_of};
 ghost use Rattle.ecma_parse_base.specs.Operands.{tree_of};
 
 use ecma_node::{ExprKind, Ident, StmtBox};
@@ -29,9 +29,9 @@ pub fn with<'a, I: Tokens<'a> + Drop, N: Nested<'a, I>>(
     code: Around,
 ) -> Result<StmtBox, Failure>
     requires ready { N.ready nested.now }
-    ensures value { Gives (λ x. (inner x.part.value, stand I.state p.new)) result (reads.with_by (machine_of I.machine) (N.reads nested.now I.State I.machine) (code_of code) (stand I.state p.old)) }
+    ensures value { Gives (λ x. (inner x.part.value, state_of I.state p.new)) result (reads.with_by (stream_of I.machine) (N.reads nested.now I.State I.machine) (code_of code) (state_of I.state p.old)) }
     ensures holds { IfOk result (λ x. holds_stmt x.part.value) }
-    ensures shorter { Falls result (spec.bound (machine_of I.machine) (stand I.state p.new)) (spec.bound (machine_of I.machine) (stand I.state p.old)) }
+    ensures shorter { Falls result (spec.bound (stream_of I.machine) (state_of I.state p.new)) (spec.bound (stream_of I.machine) (state_of I.state p.old)) }
 {
     let start = p.lo();
     p.eat_word(code, kinds::WITH)?;
@@ -69,9 +69,9 @@ pub fn labelled<'a, I: Tokens<'a> + Drop, N: Nested<'a, I>>(
     label: Ident,
 ) -> Result<StmtBox, Failure>
     requires ready { N.ready nested.now }
-    ensures value { Gives (λ x. (inner x.part.value, stand I.state p.new)) result (reads.labelled_by (machine_of I.machine) (N.reads nested.now I.State I.machine) (code_of code) (from start.0) (view_ident label) (stand I.state p.old)) }
+    ensures value { Gives (λ x. (inner x.part.value, state_of I.state p.new)) result (reads.labelled_by (stream_of I.machine) (N.reads nested.now I.State I.machine) (code_of code) (from start.0) (view_ident label) (state_of I.state p.old)) }
     ensures holds { IfOk result (λ x. holds_stmt x.part.value) }
-    ensures shorter { Falls result (spec.bound (machine_of I.machine) (stand I.state p.new)) (spec.bound (machine_of I.machine) (stand I.state p.old)) }
+    ensures shorter { Falls result (spec.bound (stream_of I.machine) (state_of I.state p.new)) (spec.bound (stream_of I.machine) (state_of I.state p.old)) }
 {
     p.bump()?;
     let body = sub(p, nested, code, true)?;
@@ -87,9 +87,9 @@ pub fn expression<'a, I: Tokens<'a> + Drop, N: Nested<'a, I>>(
     code: Around,
 ) -> Result<StmtBox, Failure>
     requires ready { N.ready nested.now }
-    ensures value { Gives (λ x. (inner x.part.value, stand I.state p.new)) result (reads.expression_by (machine_of I.machine) (N.reads nested.now I.State I.machine) (code_of code) (stand I.state p.old)) }
+    ensures value { Gives (λ x. (inner x.part.value, state_of I.state p.new)) result (reads.expression_by (stream_of I.machine) (N.reads nested.now I.State I.machine) (code_of code) (state_of I.state p.old)) }
     ensures holds { IfOk result (λ x. holds_stmt x.part.value) }
-    ensures shorter { Falls result (spec.bound (machine_of I.machine) (stand I.state p.new)) (spec.bound (machine_of I.machine) (stand I.state p.old)) }
+    ensures shorter { Falls result (spec.bound (stream_of I.machine) (state_of I.state p.new)) (spec.bound (stream_of I.machine) (state_of I.state p.old)) }
 {
     let start = p.lo();
     let lets = p.at(kinds::LET);

@@ -6,7 +6,7 @@ use Rattle.ecma_token.specs.declared.error.SyntaxError.TheVariants as kinds
 use Rattle.ecma_token.specs.declared.syntax.EsSyntax.{EsSyntax}
 use Rattle.ecma_tree.specs.Tree.{Tree}
 use Rattle.ecma_early.specs.Early.{early_errors}
-use Rattle.ecma_reading.specs.Source.{Fault, Unexpected, TooDeep, Machine, Stand, bound}
+use Rattle.ecma_reading.specs.Source.{Fault, Unexpected, TooDeep, Stream, State, bound}
 use Rattle.ecma_parse_state.specs.declared.failure.Failure.{Failure}
 use Rattle.ecma_parse_state.specs.Answers.{Fails}
 
@@ -30,6 +30,6 @@ Parses view syntax (Ok x) read old new = (read ≡ Ok (view x)) × (new ≡ old 
 Parses view syntax (Err e) read old new = Refuses e.kind read × (new ≡ old)
 
 -- After a fault that is not want of memory the tokens that were read stay read: no more may come than from where the entry began to read.
-abbrev pub StayRead : {X S : Type 0} → Machine S → Result X Error → Stand S → Stand S → Type 0
+abbrev pub StayRead : {X S : Type 0} → Stream S → Result X Error → State S → State S → Type 0
 StayRead m (Ok x) began stands = Unit {0}
 StayRead m (Err e) began stands = e.kind ≢ kinds.Memory → bound m stands ≤ bound m began

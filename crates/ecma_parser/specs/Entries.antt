@@ -8,9 +8,9 @@ use Rattle.ecma_token_source.specs.Machine as tokens
 use Rattle.ecma_token_source.specs.Machine.{Source, shown_spot}
 use Rattle.ecma_input.specs.Rewinding.{back_in}
 use Rattle.ecma_input.specs.declared.rewinding.Rewinding.{Rewinding}
-use Rattle.ecma_reading.specs.Source.{Stand}
-use Rattle.ecma_parse_state.specs.Fronts.{Front, read_on, told_of}
-use Rattle.ecma_parse_state.specs.Stands.{stand}
+use Rattle.ecma_reading.specs.Source.{State}
+use Rattle.ecma_parse_state.specs.Cursors.{Cursor, read_on, told_of}
+use Rattle.ecma_parse_state.specs.States.{state_of}
 use Rattle.ecma_parse_state.specs.declared.parser.Parser.{Parser}
 use Rattle.ecma_parser.specs.declared.entries.Entries.{Entries}
 
@@ -35,29 +35,29 @@ abbrev pub faults_in : {P : Type 0} → Entries P → List Error
 faults_in e = e.faults.items
 
 -- in front of the first token of a source
-abbrev pub first_of : {S : Type 0} → tokens.Machine S → Source S → Stand (Front S)
+abbrev pub first_of : {S : Type 0} → tokens.Machine S → Source S → State (Cursor S)
 first_of m s = record { source = read_on (m.step s) s.settings.start; commas = [] }
 
 -- where a parser stands: in front of the token that comes
-abbrev pub stood : {I S : Type 0} → (I → Source S) → Entries (Parser (Rewinding I)) → Stand (Front S)
-stood state e = stand (λ r. state r.input) e.reading
+abbrev pub stood : {I S : Type 0} → (I → Source S) → Entries (Parser (Rewinding I)) → State (Cursor S)
+stood state e = state_of (λ r. state r.input) e.reading
 
 -- the token that was read ahead waits, and the source behind it is told this code
-abbrev pub waiting : {I S : Type 0} → (I → Source S) → Context → Entries (Parser (Rewinding I)) → Stand (Front S)
+abbrev pub waiting : {I S : Type 0} → (I → Source S) → Context → Entries (Parser (Rewinding I)) → State (Cursor S)
 waiting state ctx e = record { source = record { first = option_map shown_spot e.reading.ahead.token; behind = Some (told_of ctx (source_in state e)); last = e.reading.last.0 }; commas = [] }
 
 -- in front of the next token of a source that is told this code, behind one that ended there
-abbrev pub ahead_of : {S : Type 0} → tokens.Machine S → Context → ℕ → Source S → Stand (Front S)
+abbrev pub ahead_of : {S : Type 0} → tokens.Machine S → Context → ℕ → Source S → State (Cursor S)
 ahead_of m ctx last s = record { source = read_on (m.step (told_of ctx s)) last; commas = [] }
 
 -- in front of the token that waits; or, where there is a source that stands before it, of what that hands out in this code
-abbrev pub opened_by : {S : Type 0} → tokens.Machine S → Context → ℕ → Option (Source S) → Stand (Front S) → Stand (Front S)
+abbrev pub opened_by : {S : Type 0} → tokens.Machine S → Context → ℕ → Option (Source S) → State (Cursor S) → State (Cursor S)
 opened_by m ctx last None waits = waits
 opened_by m ctx last (Some s) waits = ahead_of m ctx last s
 
 -- Where an entry begins to read in this code: in front of the first token; or of the token that was read ahead, which is read again where the code
 -- turns module or strict, or is that no more, and an entry for a part read it.
-abbrev pub opened : {I S : Type 0} → tokens.Machine S → (I → Source S) → Context → Entries (Parser (Rewinding I)) → Stand (Front S)
+abbrev pub opened : {I S : Type 0} → tokens.Machine S → (I → Source S) → Context → Entries (Parser (Rewinding I)) → State (Cursor S)
 opened m state ctx e =
     if e.started then opened_by m ctx e.reading.last.0 (back_in m state ctx e.reading.input) (waiting state ctx e)
     else first_of m (told_of ctx (source_in state e))

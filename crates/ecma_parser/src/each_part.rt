@@ -9,8 +9,8 @@ ghost use Rattle.ecma_reading.specs.Source.{Read};
 ghost use Rattle.ecma_reading.specs.Source as spec;
 ghost use Rattle.ecma_parse_state.specs.Answers.{Gives, Stays};
 ghost use Rattle.ecma_parse_state.specs.Codes.{code_of};
-ghost use Rattle.ecma_parse_state.specs.Fronts.{Front, machine_of};
-ghost use Rattle.ecma_parse_state.specs.Stands.{stand};
+ghost use Rattle.ecma_parse_state.specs.Cursors.{Cursor, stream_of};
+ghost use Rattle.ecma_parse_state.specs.States.{state_of};
 ghost use Rattle.ecma_parser.specs.Answers.{StayRead};
 ghost use Rattle.ecma_parser.specs.Entries.{ctx_in, faults_in, limit_in, opened, stood, syntax_in};
 ghost use Rattle.ecma_parser.specs.Parts.{ParsesPart, ReadsPart, script_part};
@@ -35,7 +35,7 @@ pub(crate) trait Rule<'a, I: Tokens<'a> + Drop> {
     ghost fits: { Self.Node → Type 0 };
 
     /// What is read by the rule, within a limit.
-    ghost reads: { Self → (S : Type 0) → Machine S → ℕ → Code → Read (Front S) Tree };
+    ghost reads: { Self → (S : Type 0) → Machine S → ℕ → Code → Read (Cursor S) Tree };
 
     /// The early errors of what is read.
     ghost faults: { Self → EsSyntax → Tree → List Error };
@@ -43,9 +43,9 @@ pub(crate) trait Rule<'a, I: Tokens<'a> + Drop> {
     /// Reads the part that stands here.
     fn read(&self, p: &mut Parser<'a, I>, limit: u32, code: Around) -> Result<Self::Node, Failure>
         requires { limit < 4294967295 }
-        ensures value { Gives (λ x. (tree x, stand I.state p.new)) result (reads self.now I.State I.machine limit (code_of code) (stand I.state p.old)) }
+        ensures value { Gives (λ x. (tree x, state_of I.state p.new)) result (reads self.now I.State I.machine limit (code_of code) (state_of I.state p.old)) }
         ensures fits { IfOk result fits }
-        ensures not_longer { Stays result (spec.bound (machine_of I.machine) (stand I.state p.new)) (spec.bound (machine_of I.machine) (stand I.state p.old)) };
+        ensures not_longer { Stays result (spec.bound (stream_of I.machine) (state_of I.state p.new)) (spec.bound (stream_of I.machine) (state_of I.state p.old)) };
 
     /// The early errors of a part.
     fn errors(
@@ -65,7 +65,7 @@ impl<'a, I: Tokens<'a> + Drop> Entries<Reading<'a, I>> {
         ensures fits { IfOk result R.fits }
         ensures started { IfOk result (λ _. self.new.started ≡ true) }
         ensures limit { limit_in self.new ≡ limit_in self.old }
-        ensures stays { Stays result (spec.bound (machine_of I.machine) (stood I.state self.new)) (spec.bound (machine_of I.machine) (opened I.machine I.state (script_code (syntax_in I.state self.old)).context self.old)) }
+        ensures stays { Stays result (spec.bound (stream_of I.machine) (stood I.state self.new)) (spec.bound (stream_of I.machine) (opened I.machine I.state (script_code (syntax_in I.state self.old)).context self.old)) }
     {
         let code = self.open_script()?;
         let node = rule.read(&mut self.reading, self.limit, code)?;
@@ -77,12 +77,12 @@ impl<'a, I: Tokens<'a> + Drop> Entries<Reading<'a, I>> {
     /// The same, with a failure told as a fault, and the source told the code again that it was told before.
     #[tactic(auto, unfolding(crate::specs::Parts::left_in))]
     pub(crate) fn parse_part<R: Rule<'a, Rewinding<I>>>(&mut self, rule: &R) -> PResult<R::Node>
-        ensures value { ParsesPart (machine_of I.machine) (ctx_in I.state self.old) R.tree (R.faults rule.now (syntax_in I.state self.old)) result (script_part I.machine I.state (R.reads rule.now I.State I.machine) self.old) (stood I.state self.new) (faults_in self.old) (faults_in self.new) }
+        ensures value { ParsesPart (stream_of I.machine) (ctx_in I.state self.old) R.tree (R.faults rule.now (syntax_in I.state self.old)) result (script_part I.machine I.state (R.reads rule.now I.State I.machine) self.old) (stood I.state self.new) (faults_in self.old) (faults_in self.new) }
         ensures fits { IfOk result R.fits }
         ensures context { ctx_in I.state self.new ≡ ctx_in I.state self.old }
         ensures started { IfOk result (λ _. self.new.started ≡ true) }
         ensures limit { limit_in self.new ≡ limit_in self.old }
-        ensures stays { StayRead (machine_of I.machine) result (opened I.machine I.state (script_code (syntax_in I.state self.old)).context self.old) (stood I.state self.new) }
+        ensures stays { StayRead (stream_of I.machine) result (opened I.machine I.state (script_code (syntax_in I.state self.old)).context self.old) (stood I.state self.new) }
     {
         let before = self.reading.input.ctx();
         let answer = self.read_part(rule);

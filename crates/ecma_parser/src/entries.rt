@@ -7,7 +7,7 @@ ghost use Rattle.ecma_token_source.specs.Machine.{shown_spot};
 ghost use Rattle.ecma_lexing.specs.States.{at_start_of};
 ghost use Rattle.ecma_lexer.specs.Lexer.{state_in};
 ghost use Rattle.ecma_parse_state.specs.Answers.{IsMemory};
-ghost use Rattle.ecma_parse_state.specs.Fronts.{told_of};
+ghost use Rattle.ecma_parse_state.specs.Cursors.{told_of};
 
 use ecma_input::Rewinding;
 use ecma_lexer::Lexer;

@@ -7,7 +7,7 @@ ghost use Rattle.ecma_node.specs.Fits.{fits_object_pat_prop, fits_prop_or_spread
 ghost use Rattle.ecma_node.specs.Placed.{holds_expr, holds_pat, inner};
 ghost use Rattle.ecma_node.specs.View.{view_object_pat_prop, view_prop_or_spread};
 ghost use Rattle.ecma_early.specs.Early.{early_errors};
-ghost use Rattle.ecma_parse_state.specs.Fronts.{machine_of};
+ghost use Rattle.ecma_parse_state.specs.Cursors.{stream_of};
 ghost use Rattle.ecma_parse_parts.specs.Props as reads;
 ghost use Rattle.ecma_parser.specs.Answers.{StayRead};
 ghost use Rattle.ecma_parser.specs.Entries.{ctx_in, faults_in, limit_in, opened, stood, syntax_in};
@@ -99,12 +99,12 @@ impl<'a, I: Tokens<'a> + Drop> ParseObject<ExprBox> for Entries<Reading<'a, I>> 
     }
 
     fn parse_object_prop(&mut self) -> PResult<PropOrSpread>
-        ensures value { ParsesPart (machine_of I.machine) (ctx_in I.state self.old) (view_prop_or_spread inner) (early_errors (syntax_in I.state self.old)) result (script_part I.machine I.state (reads.prop_part (machine_of I.machine)) self.old) (stood I.state self.new) (faults_in self.old) (faults_in self.new) }
+        ensures value { ParsesPart (stream_of I.machine) (ctx_in I.state self.old) (view_prop_or_spread inner) (early_errors (syntax_in I.state self.old)) result (script_part I.machine I.state (reads.prop_part (stream_of I.machine)) self.old) (stood I.state self.new) (faults_in self.old) (faults_in self.new) }
         ensures fits { IfOk result (λ x. fits_prop_or_spread (λ p. p) x) }
         ensures context { ctx_in I.state self.new ≡ ctx_in I.state self.old }
         ensures started { IfOk result (λ _. self.new.started ≡ true) }
         ensures limit { limit_in self.new ≡ limit_in self.old }
-        ensures stays { StayRead (machine_of I.machine) result (opened I.machine I.state (script_code (syntax_in I.state self.old)).context self.old) (stood I.state self.new) }
+        ensures stays { StayRead (stream_of I.machine) result (opened I.machine I.state (script_code (syntax_in I.state self.old)).context self.old) (stood I.state self.new) }
     {
         self.parse_part(&Property)
     }
@@ -146,12 +146,12 @@ impl<'a, I: Tokens<'a> + Drop> ParseObject<PatBox> for Entries<Reading<'a, I>> {
     }
 
     fn parse_object_prop(&mut self) -> PResult<ObjectPatProp>
-        ensures value { ParsesPart (machine_of I.machine) (ctx_in I.state self.old) (view_object_pat_prop inner) (early_errors (syntax_in I.state self.old)) result (script_part I.machine I.state (reads.item_part (machine_of I.machine)) self.old) (stood I.state self.new) (faults_in self.old) (faults_in self.new) }
+        ensures value { ParsesPart (stream_of I.machine) (ctx_in I.state self.old) (view_object_pat_prop inner) (early_errors (syntax_in I.state self.old)) result (script_part I.machine I.state (reads.item_part (stream_of I.machine)) self.old) (stood I.state self.new) (faults_in self.old) (faults_in self.new) }
         ensures fits { IfOk result (λ x. fits_object_pat_prop (λ p. p) x) }
         ensures context { ctx_in I.state self.new ≡ ctx_in I.state self.old }
         ensures started { IfOk result (λ _. self.new.started ≡ true) }
         ensures limit { limit_in self.new ≡ limit_in self.old }
-        ensures stays { StayRead (machine_of I.machine) result (opened I.machine I.state (script_code (syntax_in I.state self.old)).context self.old) (stood I.state self.new) }
+        ensures stays { StayRead (stream_of I.machine) result (opened I.machine I.state (script_code (syntax_in I.state self.old)).context self.old) (stood I.state self.new) }
     {
         self.parse_part(&PatternProperty)
     }

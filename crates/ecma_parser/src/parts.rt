@@ -12,7 +12,7 @@ ghost use Rattle.ecma_program_text.specs.Fronts as fronts;
 ghost use Rattle.ecma_reading.specs.Source as spec;
 ghost use Rattle.ecma_parse_state.specs.Answers.{IsMemory, Stays};
 ghost use Rattle.ecma_parse_state.specs.Codes.{code_of};
-ghost use Rattle.ecma_parse_state.specs.Fronts.{machine_of};
+ghost use Rattle.ecma_parse_state.specs.Cursors.{stream_of};
 ghost use Rattle.ecma_parse_parts.specs.Items as items;
 ghost use Rattle.ecma_parse_parts.specs.Parts as reads;
 ghost use Rattle.ecma_parser.specs.Answers.{StayRead};
@@ -39,12 +39,12 @@ impl<'a, I: Tokens<'a> + Drop> Entries<Reading<'a, I>> {
     /// Want of memory, a text that nests deeper than the limit, or a fault of the text: also where the expression would
     /// go on, or a line break alone keeps the next token off.
     pub fn parse_expr(&mut self) -> PResult<ExprBox>
-        ensures value { ParsesPart (machine_of I.machine) (ctx_in I.state self.old) (λ x. inner x.part.value) (early_errors (syntax_in I.state self.old)) result (script_part I.machine I.state (reads.expression_part (machine_of I.machine) expression_level) self.old) (stood I.state self.new) (faults_in self.old) (faults_in self.new) }
+        ensures value { ParsesPart (stream_of I.machine) (ctx_in I.state self.old) (λ x. inner x.part.value) (early_errors (syntax_in I.state self.old)) result (script_part I.machine I.state (reads.expression_part (stream_of I.machine) expression_level) self.old) (stood I.state self.new) (faults_in self.old) (faults_in self.new) }
         ensures holds { IfOk result (λ x. holds_expr x.part.value) }
         ensures context { ctx_in I.state self.new ≡ ctx_in I.state self.old }
         ensures started { IfOk result (λ _. self.new.started ≡ true) }
         ensures limit { limit_in self.new ≡ limit_in self.old }
-        ensures stays { StayRead (machine_of I.machine) result (opened I.machine I.state (script_code (syntax_in I.state self.old)).context self.old) (stood I.state self.new) }
+        ensures stays { StayRead (stream_of I.machine) result (opened I.machine I.state (script_code (syntax_in I.state self.old)).context self.old) (stood I.state self.new) }
     {
         self.parse_part(&Expression { level: EXPRESSION })
     }
@@ -56,12 +56,12 @@ impl<'a, I: Tokens<'a> + Drop> Entries<Reading<'a, I>> {
     /// Want of memory, a text that nests deeper than the limit, or a fault of the text: also where the expression would
     /// go on, or a line break alone keeps the next token off.
     pub fn parse_assignment_expr(&mut self) -> PResult<ExprBox>
-        ensures value { ParsesPart (machine_of I.machine) (ctx_in I.state self.old) (λ x. inner x.part.value) (early_errors (syntax_in I.state self.old)) result (script_part I.machine I.state (reads.expression_part (machine_of I.machine) assignment_level) self.old) (stood I.state self.new) (faults_in self.old) (faults_in self.new) }
+        ensures value { ParsesPart (stream_of I.machine) (ctx_in I.state self.old) (λ x. inner x.part.value) (early_errors (syntax_in I.state self.old)) result (script_part I.machine I.state (reads.expression_part (stream_of I.machine) assignment_level) self.old) (stood I.state self.new) (faults_in self.old) (faults_in self.new) }
         ensures holds { IfOk result (λ x. holds_expr x.part.value) }
         ensures context { ctx_in I.state self.new ≡ ctx_in I.state self.old }
         ensures started { IfOk result (λ _. self.new.started ≡ true) }
         ensures limit { limit_in self.new ≡ limit_in self.old }
-        ensures stays { StayRead (machine_of I.machine) result (opened I.machine I.state (script_code (syntax_in I.state self.old)).context self.old) (stood I.state self.new) }
+        ensures stays { StayRead (stream_of I.machine) result (opened I.machine I.state (script_code (syntax_in I.state self.old)).context self.old) (stood I.state self.new) }
     {
         self.parse_part(&Expression { level: ASSIGNMENT })
     }
@@ -73,12 +73,12 @@ impl<'a, I: Tokens<'a> + Drop> Entries<Reading<'a, I>> {
     ///
     /// Want of memory, a text that nests deeper than the limit, or a fault of the text.
     pub fn parse_pat(&mut self) -> PResult<PatBox>
-        ensures value { ParsesPart (machine_of I.machine) (ctx_in I.state self.old) (λ x. inner x.part.value) (early_errors (syntax_in I.state self.old)) result (script_part I.machine I.state (reads.binding_part (machine_of I.machine)) self.old) (stood I.state self.new) (faults_in self.old) (faults_in self.new) }
+        ensures value { ParsesPart (stream_of I.machine) (ctx_in I.state self.old) (λ x. inner x.part.value) (early_errors (syntax_in I.state self.old)) result (script_part I.machine I.state (reads.binding_part (stream_of I.machine)) self.old) (stood I.state self.new) (faults_in self.old) (faults_in self.new) }
         ensures holds { IfOk result (λ x. holds_pat x.part.value) }
         ensures context { ctx_in I.state self.new ≡ ctx_in I.state self.old }
         ensures started { IfOk result (λ _. self.new.started ≡ true) }
         ensures limit { limit_in self.new ≡ limit_in self.old }
-        ensures stays { StayRead (machine_of I.machine) result (opened I.machine I.state (script_code (syntax_in I.state self.old)).context self.old) (stood I.state self.new) }
+        ensures stays { StayRead (stream_of I.machine) result (opened I.machine I.state (script_code (syntax_in I.state self.old)).context self.old) (stood I.state self.new) }
     {
         self.parse_part(&Binding)
     }
@@ -89,12 +89,12 @@ impl<'a, I: Tokens<'a> + Drop> Entries<Reading<'a, I>> {
     ///
     /// Want of memory, a text that nests deeper than the limit, or a fault of the text.
     pub fn parse_binding_pat_or_ident(&mut self) -> PResult<PatBox>
-        ensures value { ParsesPart (machine_of I.machine) (ctx_in I.state self.old) (λ x. inner x.part.value) (early_errors (syntax_in I.state self.old)) result (script_part I.machine I.state (reads.binding_part (machine_of I.machine)) self.old) (stood I.state self.new) (faults_in self.old) (faults_in self.new) }
+        ensures value { ParsesPart (stream_of I.machine) (ctx_in I.state self.old) (λ x. inner x.part.value) (early_errors (syntax_in I.state self.old)) result (script_part I.machine I.state (reads.binding_part (stream_of I.machine)) self.old) (stood I.state self.new) (faults_in self.old) (faults_in self.new) }
         ensures holds { IfOk result (λ x. holds_pat x.part.value) }
         ensures context { ctx_in I.state self.new ≡ ctx_in I.state self.old }
         ensures started { IfOk result (λ _. self.new.started ≡ true) }
         ensures limit { limit_in self.new ≡ limit_in self.old }
-        ensures stays { StayRead (machine_of I.machine) result (opened I.machine I.state (script_code (syntax_in I.state self.old)).context self.old) (stood I.state self.new) }
+        ensures stays { StayRead (stream_of I.machine) result (opened I.machine I.state (script_code (syntax_in I.state self.old)).context self.old) (stood I.state self.new) }
     {
         self.parse_pat()
     }
@@ -106,12 +106,12 @@ impl<'a, I: Tokens<'a> + Drop> Entries<Reading<'a, I>> {
     ///
     /// Want of memory, a text that nests deeper than the limit, or a fault of the text.
     pub fn parse_formal_params(&mut self) -> PResult<Vec<Param>>
-        ensures value { ParsesPart (machine_of I.machine) (ctx_in I.state self.old) (λ x. list (trees_by (view_param inner) x.items)) (early_errors (syntax_in I.state self.old)) result (script_part I.machine I.state (reads.parameters_part (machine_of I.machine)) self.old) (stood I.state self.new) (faults_in self.old) (faults_in self.new) }
+        ensures value { ParsesPart (stream_of I.machine) (ctx_in I.state self.old) (λ x. list (trees_by (view_param inner) x.items)) (early_errors (syntax_in I.state self.old)) result (script_part I.machine I.state (reads.parameters_part (stream_of I.machine)) self.old) (stood I.state self.new) (faults_in self.old) (faults_in self.new) }
         ensures fits { IfOk result (λ x. All (λ x. fits_param (λ p. p) x) x.items) }
         ensures context { ctx_in I.state self.new ≡ ctx_in I.state self.old }
         ensures started { IfOk result (λ _. self.new.started ≡ true) }
         ensures limit { limit_in self.new ≡ limit_in self.old }
-        ensures stays { StayRead (machine_of I.machine) result (opened I.machine I.state (script_code (syntax_in I.state self.old)).context self.old) (stood I.state self.new) }
+        ensures stays { StayRead (stream_of I.machine) result (opened I.machine I.state (script_code (syntax_in I.state self.old)).context self.old) (stood I.state self.new) }
     {
         self.parse_part(&Parameters)
     }
@@ -122,12 +122,12 @@ impl<'a, I: Tokens<'a> + Drop> Entries<Reading<'a, I>> {
     ///
     /// Want of memory, a text that nests deeper than the limit, or a fault of the text.
     pub fn parse_prop_name(&mut self) -> PResult<PropName>
-        ensures value { ParsesPart (machine_of I.machine) (ctx_in I.state self.old) (view_prop_name inner) (early_errors (syntax_in I.state self.old)) result (script_part I.machine I.state (reads.key_part (machine_of I.machine)) self.old) (stood I.state self.new) (faults_in self.old) (faults_in self.new) }
+        ensures value { ParsesPart (stream_of I.machine) (ctx_in I.state self.old) (view_prop_name inner) (early_errors (syntax_in I.state self.old)) result (script_part I.machine I.state (reads.key_part (stream_of I.machine)) self.old) (stood I.state self.new) (faults_in self.old) (faults_in self.new) }
         ensures fits { IfOk result (λ x. fits_prop_name (λ p. p) x) }
         ensures context { ctx_in I.state self.new ≡ ctx_in I.state self.old }
         ensures started { IfOk result (λ _. self.new.started ≡ true) }
         ensures limit { limit_in self.new ≡ limit_in self.old }
-        ensures stays { StayRead (machine_of I.machine) result (opened I.machine I.state (script_code (syntax_in I.state self.old)).context self.old) (stood I.state self.new) }
+        ensures stays { StayRead (stream_of I.machine) result (opened I.machine I.state (script_code (syntax_in I.state self.old)).context self.old) (stood I.state self.new) }
     {
         self.parse_part(&Key)
     }
@@ -139,12 +139,12 @@ impl<'a, I: Tokens<'a> + Drop> Entries<Reading<'a, I>> {
     ///
     /// Want of memory, a text that nests deeper than the limit, or a fault of the text.
     pub fn parse_stmt(&mut self, top_level: bool) -> PResult<StmtBox>
-        ensures value { ParsesPart (machine_of I.machine) (ctx_in I.state self.old) (λ x. inner x.part.value) (fronts.item_errors (syntax_in I.state self.old) top_level) result (script_part I.machine I.state (items.statement_part (machine_of I.machine)) self.old) (stood I.state self.new) (faults_in self.old) (faults_in self.new) }
+        ensures value { ParsesPart (stream_of I.machine) (ctx_in I.state self.old) (λ x. inner x.part.value) (fronts.item_errors (syntax_in I.state self.old) top_level) result (script_part I.machine I.state (items.statement_part (stream_of I.machine)) self.old) (stood I.state self.new) (faults_in self.old) (faults_in self.new) }
         ensures holds { IfOk result (λ x. holds_stmt x.part.value) }
         ensures context { ctx_in I.state self.new ≡ ctx_in I.state self.old }
         ensures started { IfOk result (λ _. self.new.started ≡ true) }
         ensures limit { limit_in self.new ≡ limit_in self.old }
-        ensures stays { StayRead (machine_of I.machine) result (opened I.machine I.state (script_code (syntax_in I.state self.old)).context self.old) (stood I.state self.new) }
+        ensures stays { StayRead (stream_of I.machine) result (opened I.machine I.state (script_code (syntax_in I.state self.old)).context self.old) (stood I.state self.new) }
     {
         self.parse_part(&Statement { top_level })
     }
@@ -156,12 +156,12 @@ impl<'a, I: Tokens<'a> + Drop> Entries<Reading<'a, I>> {
     ///
     /// Want of memory, a text that nests deeper than the limit, or a fault of the text.
     pub fn parse_stmt_list_item(&mut self, top_level: bool) -> PResult<StmtBox>
-        ensures value { ParsesPart (machine_of I.machine) (ctx_in I.state self.old) (λ x. inner x.part.value) (fronts.item_errors (syntax_in I.state self.old) top_level) result (script_part I.machine I.state (items.list_item_part (machine_of I.machine)) self.old) (stood I.state self.new) (faults_in self.old) (faults_in self.new) }
+        ensures value { ParsesPart (stream_of I.machine) (ctx_in I.state self.old) (λ x. inner x.part.value) (fronts.item_errors (syntax_in I.state self.old) top_level) result (script_part I.machine I.state (items.list_item_part (stream_of I.machine)) self.old) (stood I.state self.new) (faults_in self.old) (faults_in self.new) }
         ensures holds { IfOk result (λ x. holds_stmt x.part.value) }
         ensures context { ctx_in I.state self.new ≡ ctx_in I.state self.old }
         ensures started { IfOk result (λ _. self.new.started ≡ true) }
         ensures limit { limit_in self.new ≡ limit_in self.old }
-        ensures stays { StayRead (machine_of I.machine) result (opened I.machine I.state (script_code (syntax_in I.state self.old)).context self.old) (stood I.state self.new) }
+        ensures stays { StayRead (stream_of I.machine) result (opened I.machine I.state (script_code (syntax_in I.state self.old)).context self.old) (stood I.state self.new) }
     {
         self.parse_part(&ListItem { top_level })
     }
@@ -174,12 +174,12 @@ impl<'a, I: Tokens<'a> + Drop> Entries<Reading<'a, I>> {
     /// Want of memory, a text that nests deeper than the limit, or a fault of the text.
     #[tactic(auto, unfolding(crate::specs::Parts::left_in))]
     pub fn parse_module_item(&mut self) -> PResult<ModuleItem>
-        ensures value { ParsesPart (machine_of I.machine) (ctx_in I.state self.old) (view_module_item inner) (early.faults_in (outermost (syntax_in I.state self.old) true)) result (module_part I.machine I.state (items.module_item_part (machine_of I.machine)) self.old) (stood I.state self.new) (faults_in self.old) (faults_in self.new) }
+        ensures value { ParsesPart (stream_of I.machine) (ctx_in I.state self.old) (view_module_item inner) (early.faults_in (outermost (syntax_in I.state self.old) true)) result (module_part I.machine I.state (items.module_item_part (stream_of I.machine)) self.old) (stood I.state self.new) (faults_in self.old) (faults_in self.new) }
         ensures fits { IfOk result (λ x. fits_module_item (λ p. p) x) }
         ensures context { ctx_in I.state self.new ≡ ctx_in I.state self.old }
         ensures started { IfOk result (λ _. self.new.started ≡ true) }
         ensures limit { limit_in self.new ≡ limit_in self.old }
-        ensures stays { StayRead (machine_of I.machine) result (opened I.machine I.state (module_code (syntax_in I.state self.old)).context self.old) (stood I.state self.new) }
+        ensures stays { StayRead (stream_of I.machine) result (opened I.machine I.state (module_code (syntax_in I.state self.old)).context self.old) (stood I.state self.new) }
     {
         let before = self.reading.input.ctx();
         let answer = self.module_item();
@@ -220,11 +220,11 @@ impl<'a, I: Tokens<'a> + Drop> Entries<Reading<'a, I>> {
     }
 
     /// Tells the source of the code again that it was told before.
-    #[tactic(auto, unfolding(ecma_parse_state::specs::Fronts::machine_of))]
+    #[tactic(auto, unfolding(ecma_parse_state::specs::Cursors::stream_of))]
     pub(crate) fn leave(&mut self, before: Context)
-        ensures stand { stood I.state self.new ≡ spec.turned (machine_of I.machine) before (stood I.state self.old) }
+        ensures stand { stood I.state self.new ≡ spec.retold (stream_of I.machine) before (stood I.state self.old) }
         ensures context { ctx_in I.state self.new ≡ before }
-        ensures same { spec.bound (machine_of I.machine) (stood I.state self.new) ≡ spec.bound (machine_of I.machine) (stood I.state self.old) }
+        ensures same { spec.bound (stream_of I.machine) (stood I.state self.new) ≡ spec.bound (stream_of I.machine) (stood I.state self.old) }
         ensures started { self.new.started ≡ self.old.started }
         ensures limit { limit_in self.new ≡ limit_in self.old }
         ensures faults { faults_in self.new ≡ faults_in self.old }
@@ -248,11 +248,11 @@ impl<'a, I: Tokens<'a> + Drop> Entries<Reading<'a, I>> {
     /// An item of a module.
     #[tactic(auto, using(crate::proofs::Read::fails_read))]
     fn module_item(&mut self) -> Result<ModuleItem, Failure>
-        ensures value { ReadsPart (view_module_item inner) (early.faults_in (outermost (syntax_in I.state self.old) true)) result (module_part I.machine I.state (items.module_item_part (machine_of I.machine)) self.old) (stood I.state self.new) (faults_in self.old) (faults_in self.new) }
+        ensures value { ReadsPart (view_module_item inner) (early.faults_in (outermost (syntax_in I.state self.old) true)) result (module_part I.machine I.state (items.module_item_part (stream_of I.machine)) self.old) (stood I.state self.new) (faults_in self.old) (faults_in self.new) }
         ensures fits { IfOk result (λ x. fits_module_item (λ p. p) x) }
         ensures started { IfOk result (λ _. self.new.started ≡ true) }
         ensures limit { limit_in self.new ≡ limit_in self.old }
-        ensures stays { Stays result (spec.bound (machine_of I.machine) (stood I.state self.new)) (spec.bound (machine_of I.machine) (opened I.machine I.state (module_code (syntax_in I.state self.old)).context self.old)) }
+        ensures stays { Stays result (spec.bound (stream_of I.machine) (stood I.state self.new)) (spec.bound (stream_of I.machine) (opened I.machine I.state (module_code (syntax_in I.state self.old)).context self.old)) }
     {
         let code = self.open_module()?;
         let item = module_item_part(&mut self.reading, self.limit, code)?;

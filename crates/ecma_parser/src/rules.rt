@@ -7,7 +7,7 @@ ghost use Rattle.ecma_node.specs.Placed.{holds_expr, holds_pat, holds_stmt, inne
 ghost use Rattle.ecma_node.specs.View.{view_object_pat_prop, view_param, view_prop_name, view_prop_or_spread};
 ghost use Rattle.ecma_early.specs.Early.{early_errors};
 ghost use Rattle.ecma_program_text.specs.Fronts as fronts;
-ghost use Rattle.ecma_parse_state.specs.Fronts.{machine_of};
+ghost use Rattle.ecma_parse_state.specs.Cursors.{stream_of};
 ghost use Rattle.ecma_parse_parts.specs.Items as items;
 ghost use Rattle.ecma_parse_parts.specs.Parts as parts;
 ghost use Rattle.ecma_parse_parts.specs.Props as props;
@@ -54,7 +54,7 @@ impl<'a, I: Tokens<'a> + Drop> Rule<'a, I> for Expression {
 
     ghost fits = { λ x. holds_expr x.part.value };
 
-    ghost reads = { λ rule _ m. parts.expression_part (machine_of m) rule.level };
+    ghost reads = { λ rule _ m. parts.expression_part (stream_of m) rule.level };
 
     ghost faults = { λ _ syntax. early_errors syntax };
 
@@ -84,7 +84,7 @@ impl<'a, I: Tokens<'a> + Drop> Rule<'a, I> for Binding {
 
     ghost fits = { λ x. holds_pat x.part.value };
 
-    ghost reads = { λ _ _ m. parts.binding_part (machine_of m) };
+    ghost reads = { λ _ _ m. parts.binding_part (stream_of m) };
 
     ghost faults = { λ _ syntax. early_errors syntax };
 
@@ -114,7 +114,7 @@ impl<'a, I: Tokens<'a> + Drop> Rule<'a, I> for Parameters {
 
     ghost fits = { λ x. All (λ y. fits_param (λ p. p) y) x.items };
 
-    ghost reads = { λ _ _ m. parts.parameters_part (machine_of m) };
+    ghost reads = { λ _ _ m. parts.parameters_part (stream_of m) };
 
     ghost faults = { λ _ syntax. early_errors syntax };
 
@@ -144,7 +144,7 @@ impl<'a, I: Tokens<'a> + Drop> Rule<'a, I> for Key {
 
     ghost fits = { λ x. fits_prop_name (λ p. p) x };
 
-    ghost reads = { λ _ _ m. parts.key_part (machine_of m) };
+    ghost reads = { λ _ _ m. parts.key_part (stream_of m) };
 
     ghost faults = { λ _ syntax. early_errors syntax };
 
@@ -174,7 +174,7 @@ impl<'a, I: Tokens<'a> + Drop> Rule<'a, I> for Property {
 
     ghost fits = { λ x. fits_prop_or_spread (λ p. p) x };
 
-    ghost reads = { λ _ _ m. props.prop_part (machine_of m) };
+    ghost reads = { λ _ _ m. props.prop_part (stream_of m) };
 
     ghost faults = { λ _ syntax. early_errors syntax };
 
@@ -209,7 +209,7 @@ impl<'a, I: Tokens<'a> + Drop> Rule<'a, I> for PatternProperty {
 
     ghost fits = { λ x. fits_object_pat_prop (λ p. p) x };
 
-    ghost reads = { λ _ _ m. props.item_part (machine_of m) };
+    ghost reads = { λ _ _ m. props.item_part (stream_of m) };
 
     ghost faults = { λ _ syntax. early_errors syntax };
 
@@ -247,7 +247,7 @@ impl<'a, I: Tokens<'a> + Drop> Rule<'a, I> for Statement {
 
     ghost fits = { λ x. holds_stmt x.part.value };
 
-    ghost reads = { λ _ _ m. items.statement_part (machine_of m) };
+    ghost reads = { λ _ _ m. items.statement_part (stream_of m) };
 
     ghost faults = { λ rule syntax. fronts.item_errors syntax rule.top_level };
 
@@ -279,7 +279,7 @@ impl<'a, I: Tokens<'a> + Drop> Rule<'a, I> for ListItem {
 
     ghost fits = { λ x. holds_stmt x.part.value };
 
-    ghost reads = { λ _ _ m. items.list_item_part (machine_of m) };
+    ghost reads = { λ _ _ m. items.list_item_part (stream_of m) };
 
     ghost faults = { λ rule syntax. fronts.item_errors syntax rule.top_level };
 

@@ -10,9 +10,9 @@ use Rattle.ecma_tree.specs.Tree.{Tree}
 use Rattle.ecma_nesting.specs.Nesting.{nesting}
 use Rattle.ecma_syntax.specs.Input.{Code}
 use Rattle.ecma_early.specs.Early.{early_errors}
-use Rattle.ecma_reading.specs.Source.{Fault, Machine, Stand}
+use Rattle.ecma_reading.specs.Source.{Fault, Stream, State}
 use Rattle.ecma_program_text.specs.Text.{Setting, code_of}
-use Rattle.ecma_parse_state.specs.Fronts.{Front, told_of, machine_of}
+use Rattle.ecma_parse_state.specs.Cursors.{Cursor, told_of, stream_of}
 use Rattle.ecma_parse_state.specs.declared.failure.Failure.{Failure}
 use Rattle.ecma_parse_state.specs.declared.failure.Failure.TheVariants as failures
 use Rattle.ecma_parse_state.specs.declared.parser.Parser.{Parser}
@@ -30,7 +30,7 @@ use Rattle.ecma_parser.specs.declared.entries.Entries.{Entries}
 use Rattle.ecma_parser_laws.specs.Answered.{AnsweredBy, ReadBy, Comes, SpelledBy, NewAnswer, Answered, EntriesAnswer}
 
 -- both crates say of a program within the limit the same
-pub same_program : {S : Type 0} (m : Machine S) (limit : ℕ) (modules : Bool) (c : Code) (s : Stand S) → parsed.program_within m limit modules c s ≡ entries.program_within m limit modules c s
+pub same_program : {S : Type 0} (m : Stream S) (limit : ℕ) (modules : Bool) (c : Code) (s : State S) → parsed.program_within m limit modules c s ≡ entries.program_within m limit modules c s
 unfolding parsed.program_within parsed.within entries.program_within entries.within
 same_program m limit modules c s = refl
 
@@ -96,7 +96,7 @@ module _ (x : Setting) (Reads Spells : Tree → Type 0) (j : Joins x Reads Spell
 
 -- ---- any parser on a good source
 
-module _ {S : Type 0} (m : Machine S) (limit : ℕ) (modules : Bool) (syntax : EsSyntax) (s : S) {X : Type 0} (view : X → Tree) (old new : List Error) where
+module _ {S : Type 0} (m : Stream S) (limit : ℕ) (modules : Bool) (syntax : EsSyntax) (s : S) {X : Type 0} (view : X → Tree) (old new : List Error) where
   answered : (result : Result X Error) → Settled m limit modules syntax s → Parses view syntax result (read_within m limit modules syntax s) old new → Answered m limit modules syntax s view result old new
   answered result h p = record {
     answer = answered_by (SettledBy m limit modules syntax s) view syntax old new result (read_within m limit modules syntax s) h.read p;
@@ -116,14 +116,14 @@ module _ {I S : Type 0} (m : tokens.Machine S) (state : I → Source S) where
 -- what an entry read that opened in front of the first token of this source
 module _ {I S : Type 0} (m : tokens.Machine S) (state : I → Source S) (modules : Bool) (e : Entries (Parser (Rewinding I))) where
   abbrev pub first_read : Source S → Result Tree Fault
-  first_read z = let code = code_of modules (parts_of z.settings.syntax) in parsed.program_within (machine_of m) (limit_in e) modules code (first_of m (told_of code.context z))
+  first_read z = let code = code_of modules (parts_of z.settings.syntax) in parsed.program_within (stream_of m) (limit_in e) modules code (first_of m (told_of code.context z))
 
   -- so an entry of a parser that read no token did
   pub read_first : e.started ≡ false → (z : Source S) → state e.reading.input.input ≡ z
-      → entries.program_within (machine_of m) (limit_in e) modules (code_of modules (syntax_in state e)) (opened m state (code_of modules (syntax_in state e)).context e) ≡ first_read z
+      → entries.program_within (stream_of m) (limit_in e) modules (code_of modules (syntax_in state e)) (opened m state (code_of modules (syntax_in state e)).context e) ≡ first_read z
   read_first h z source = let code : Code = code_of modules (syntax_in state e) in
-      ap (λ (s : Stand (Front S)). entries.program_within (machine_of m) (limit_in e) modules code s) (opened_first m state code.context e h)
-      ∙ (sym (same_program (machine_of m) (limit_in e) modules code (first_of m (told_of code.context (state e.reading.input.input)))) ∙ ap (λ (y : Source S). first_read y) source)
+      ap (λ (s : State (Cursor S)). entries.program_within (stream_of m) (limit_in e) modules code s) (opened_first m state code.context e h)
+      ∙ (sym (same_program (stream_of m) (limit_in e) modules code (first_of m (told_of code.context (state e.reading.input.input)))) ∙ ap (λ (y : Source S). first_read y) source)
 
 module _ {I S : Type 0} (m : tokens.Machine S) (state : I → Source S) (Good : Source S → Type 0) (Same : Source S → Source S → Type 0) where
   pub entries_answer : {X : Type 0} (view : X → Tree) → EntriesAnswer m state Good Same view
@@ -131,7 +131,7 @@ module _ {I S : Type 0} (m : tokens.Machine S) (state : I → Source S) (Good : 
       let syntax : EsSyntax = syntax_in state e in
       let code : Code = code_of modules syntax in
       let told : Source S = told_of code.context (state e.reading.input.input) in
-      let first : Stand (Front S) = first_of m told in
-      let settled : Settled (machine_of m) (limit_in e) modules syntax first.source = first_settled m Good Same modules w (limit_in e) syntax told told.settings.start (w.good_told code.context (state e.reading.input.input) (of_goal modules syntax) good) in
-      answered (machine_of m) (limit_in e) modules syntax first.source view old new result settled
+      let first : State (Cursor S) = first_of m told in
+      let settled : Settled (stream_of m) (limit_in e) modules syntax first.source = first_settled m Good Same modules w (limit_in e) syntax told told.settings.start (w.good_told code.context (state e.reading.input.input) (of_goal modules syntax) good) in
+      answered (stream_of m) (limit_in e) modules syntax first.source view old new result settled
       (subst (λ (x : Result Tree Fault). Parses view syntax result x old new) (read_first m state modules e h (state e.reading.input.input) refl) p)

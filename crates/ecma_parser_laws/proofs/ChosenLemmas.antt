@@ -12,15 +12,15 @@ use Rattle.ecma_token_source.specs.Machine.{Source}
 use Rattle.ecma_input.specs.Lists.{list_machine}
 use Rattle.ecma_scan.specs.Places.{bytes}
 use Rattle.ecma_tree.specs.Tree.{Tree}
-use Rattle.ecma_syntax.specs.Input.{Place}
+use Rattle.ecma_syntax.specs.Input.{PlacedToken}
 use Rattle.ecma_early.specs.Early.{early_errors}
 use Rattle.ecma_grammar_complete_base.specs.Laws.{InOrder}
-use Rattle.ecma_reading.specs.Source.{Fault, Unexpected, TooDeep, Machine}
+use Rattle.ecma_reading.specs.Source.{Fault, Unexpected, TooDeep, Stream}
 use Rattle.ecma_lexing.specs.States.{State, at_start_of}
 use Rattle.ecma_lexer.specs.Machine.{lexer_machine}
 use Rattle.ecma_program_text.specs.Text.{Setting, Reads, TreeSpells, code_of, text_start}
 use Rattle.ecma_program_text.specs.Choice.{tells_module}
-use Rattle.ecma_parse_state.specs.Fronts.{told_of, machine_of}
+use Rattle.ecma_parse_state.specs.Cursors.{told_of, stream_of}
 use Rattle.ecma_sources.specs.Sources.{HandsOut}
 use Rattle.ecma_parse_state.specs.declared.parser.Parser.{Parser}
 use Rattle.ecma_parser.specs.Passed.{program_within}
@@ -126,7 +126,7 @@ module _ {I S : Type 0} (m : tokens.Machine S) (state : I → Source S) (e : Ent
       syntax = syntax_in state e
 
       read : Bool → Result Tree Fault
-      read modules = program_within (machine_of m) (limit_in e) modules (code_of modules syntax) (opened m state (code_of modules syntax).context e)
+      read modules = program_within (stream_of m) (limit_in e) modules (code_of modules syntax) (opened m state (code_of modules syntax).context e)
 
 pub texts_chosen : {I : Type 0} (state : I → State) → TextsChosen state
 texts_chosen state syntax target text e h source result recorded p =
@@ -155,7 +155,7 @@ new_list_chosen state spots ctx syntax target e h source o result recorded p =
 
 -- ---- of any source
 
-module _ {S : Type 0} (m : Machine S) (limit : ℕ) (modules : Bool) (syntax : EsSyntax) (s : S) (order : (ps : List Place) → HandsOut m ps s → InOrder (m.last s) ps) where
+module _ {S : Type 0} (m : Stream S) (limit : ℕ) (modules : Bool) (syntax : EsSyntax) (s : S) (order : (ps : List PlacedToken) → HandsOut m ps s → InOrder (m.last s) ps) where
   source_by : (r : Result Tree Fault) → SettledBy m limit modules syntax s r → JudgedBy (ReadsSource m modules syntax s) limit r
   source_by (Ok t) h = record { reads = (h.places, h.handed, order h.places h.handed, h.derived); within = h.within; only = λ u d. h.only false d.0 u d.1 d.2 d.3 }
   source_by (Err Unexpected) h = λ u d. h false d.0 u d.1 d.2 d.3
@@ -164,7 +164,7 @@ module _ {S : Type 0} (m : Machine S) (limit : ℕ) (modules : Bool) (syntax : E
   source_judged : Settled m limit modules syntax s → Judged (ReadsSource m modules syntax s) limit (read_within m limit modules syntax s)
   source_judged h = record { read = source_by (read_within m limit modules syntax s) h.read; found = λ t d i. h.found false d.0 t d.1 d.2 d.3 i }
 
-source_joins : {S : Type 0} (m : Machine S) (x : Setting) (modules : Bool) (s : S) → Joins x (ReadsSource m modules x.syntax s) (SpellsSource m x modules s)
+source_joins : {S : Type 0} (m : Stream S) (x : Setting) (modules : Bool) (s : S) → Joins x (ReadsSource m modules x.syntax s) (SpellsSource m x modules s)
 source_joins m x modules s = record {
   spells = λ t r c w. record { reads = r; clean = c; within = w };
   reads = λ t h. h.reads;
@@ -174,16 +174,16 @@ source_joins m x modules s = record {
 
 module _ {I S : Type 0} (m : tokens.Machine S) (state : I → Source S) (Good : Bool → Source S → Type 0) (Same : Source S → Source S → Type 0) where
   source_first : (modules : Bool) (e : Entries (Parser (Rewinding I))) → InOrderBoth m state Good Same e
-      → Judged (ReadsSource (machine_of m) modules (syntax_in state e) (front_of m state modules e)) (limit_in e) (first_read m state modules e (state e.reading.input.input))
-  unfolding machine_of
+      → Judged (ReadsSource (stream_of m) modules (syntax_in state e) (front_of m state modules e)) (limit_in e) (first_read m state modules e (state e.reading.input.input))
+  unfolding stream_of
   source_first modules e w = let syntax = syntax_in state e in let told = told_of (code_of modules syntax).context (state e.reading.input.input) in
-      source_judged (machine_of m) (limit_in e) modules syntax (front_of m state modules e) (w.order modules) (first_settled m (Good modules) Same modules (w.constant modules) (limit_in e) syntax told told.settings.start (w.good modules))
+      source_judged (stream_of m) (limit_in e) modules syntax (front_of m state modules e) (w.order modules) (first_settled m (Good modules) Same modules (w.constant modules) (limit_in e) syntax told told.settings.start (w.good modules))
 
   pub sources_chosen : SourcesChosen m state Good Same
   sources_chosen e h w result recorded p =
       let z : Source S = state e.reading.input.input in
       let x : Setting = record { syntax = syntax_in state e; limit = limit_in e } in
-      chosen_answer x (λ modules t. ReadsSource (machine_of m) modules x.syntax (front_of m state modules e) t) (λ modules t. SpellsSource (machine_of m) x modules (front_of m state modules e) t)
-      (λ modules. source_joins (machine_of m) x modules (front_of m state modules e))
+      chosen_answer x (λ modules t. ReadsSource (stream_of m) modules x.syntax (front_of m state modules e) t) (λ modules t. SpellsSource (stream_of m) x modules (front_of m state modules e) t)
+      (λ modules. source_joins (stream_of m) x modules (front_of m state modules e))
       (first_read m state true e z) (first_read m state false e z) (source_first true e w) (source_first false e w)
       result recorded (choice_first m state e result recorded h z refl p)

@@ -3,9 +3,9 @@ use Rattle.std.proofs.Common.{◌≡◌, ℕ, ◌+◌, ◌≤◌, Bool, false, L
 use Rattle.ecma_token.specs.declared.syntax.EsSyntax.{EsSyntax}
 use Rattle.ecma_tree.specs.Tree.{Tree}
 use Rattle.ecma_nesting.specs.Nesting.{nesting}
-use Rattle.ecma_syntax.specs.Input.{Place}
+use Rattle.ecma_syntax.specs.Input.{PlacedToken}
 use Rattle.ecma_program_text.specs.Text.{code_of}
-use Rattle.ecma_reading.specs.Source.{Fault, Unexpected, TooDeep, Machine}
+use Rattle.ecma_reading.specs.Source.{Fault, Unexpected, TooDeep, Stream}
 use Rattle.ecma_reading.specs.Modules.{program_by}
 use Rattle.ecma_reading.specs.Reading.{readers, read_program}
 use Rattle.ecma_grammar_laws.proofs.SoundLemmas.{lists_sound}
@@ -19,18 +19,18 @@ use Rattle.ecma_parser_laws.proofs.ParsedLemmas.{programs_judged}
 use Rattle.ecma_parser_laws.specs.Exact.{read_within, ProgramsExact, OneProgram}
 use Rattle.ecma_parser_laws.proofs.Passes.{passed, read_of_goal}
 
-module _ {S : Type 0} (m : Machine S) (Live : S → Type 0) (modules : Bool) (w : Orderly m Live modules) (limit : ℕ) (syntax : EsSyntax) (s : S) (t : Tree) (live : Live s) where
+module _ {S : Type 0} (m : Stream S) (Live : S → Type 0) (modules : Bool) (w : Orderly m Live modules) (limit : ℕ) (syntax : EsSyntax) (s : S) (t : Tree) (live : Live s) where
   -- what is read of the source is read of a list that it hands out, which the tree derives
-  from_list : Backward m Live modules → read_program m limit modules syntax s ≡ Ok t → (ps : List Place) × HandsOut m ps s × DerivesList false modules syntax (m.last s) ps t
+  from_list : Backward m Live modules → read_program m limit modules syntax s ≡ Ok t → (ps : List PlacedToken) × HandsOut m ps s × DerivesList false modules syntax (m.last s) ps t
   unfolding read_program
   from_list bw e = let c = programs_consumed m Live modules w bw limit syntax s t live e in let d = lists_sound limit modules syntax (m.last s) c.0 t c.2 in
       (c.0, c.1, (read_of_goal m (readers m limit) modules (code_of modules syntax) (record { source = s; commas = [] }) t e, d.0, d.1))
 
-  derived_at : Backward m Live modules → read_within m limit modules syntax s ≡ Ok t → (nesting t ≤ limit) × (ps : List Place) × HandsOut m ps s × DerivesList false modules syntax (m.last s) ps t
+  derived_at : Backward m Live modules → read_within m limit modules syntax s ≡ Ok t → (nesting t ≤ limit) × (ps : List PlacedToken) × HandsOut m ps s × DerivesList false modules syntax (m.last s) ps t
   unfolding program_within read_program
   derived_at bw e = let p = passed limit t (program_by m (readers m limit) modules (code_of modules syntax) (record { source = s; commas = [] })) e in let d = from_list bw p.1 in (p.0, d.0, d.1, d.2)
 
-  module _ (placed : Bool) (ps : List Place) (handed : HandsOut m ps s) (order : InOrder (m.last s) ps) (derived : DerivesList placed modules syntax (m.last s) ps t) (shallow : nesting t ≤ limit) where
+  module _ (placed : Bool) (ps : List PlacedToken) (handed : HandsOut m ps s) (order : InOrder (m.last s) ps) (derived : DerivesList placed modules syntax (m.last s) ps t) (shallow : nesting t ≤ limit) where
     read_by : (x : Result Tree Fault) → Judges m modules syntax limit s x → x ≡ Ok t
     read_by (Ok u) j = ap Ok (sym (j.1 placed ps t handed order derived))
     read_by (Err Unexpected) j = absurd (j placed ps t handed order derived)
@@ -39,7 +39,7 @@ module _ {S : Type 0} (m : Machine S) (Live : S → Type 0) (modules : Bool) (w 
     read_at : read_within m limit modules syntax s ≡ Ok t
     read_at = read_by (read_within m limit modules syntax s) (programs_judged m Live modules w limit syntax s live)
 
-module _ {S : Type 0} (m : Machine S) (Live : S → Type 0) where
+module _ {S : Type 0} (m : Stream S) (Live : S → Type 0) where
   pub programs_exact : ProgramsExact m Live
   programs_exact modules w bw limit syntax s t live = record {
     derived = λ e. derived_at m Live modules w limit syntax s t live bw e;

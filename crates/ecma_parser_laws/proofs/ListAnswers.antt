@@ -8,7 +8,7 @@ use Rattle.ecma_tree.specs.Tree.{Tree}
 use Rattle.ecma_reading.specs.Source.{Fault}
 use Rattle.ecma_grammar_complete_base.specs.Laws.{InOrder}
 use Rattle.ecma_program_text.specs.Text.{Setting, code_of}
-use Rattle.ecma_parse_state.specs.Fronts.{told_of}
+use Rattle.ecma_parse_state.specs.Cursors.{told_of}
 use Rattle.ecma_parse_state.specs.declared.parser.Parser.{Parser}
 use Rattle.ecma_parser.specs.Answers.{Parses}
 use Rattle.ecma_parser.specs.Entries.{syntax_in, limit_in}

@@ -7,10 +7,10 @@ use Rattle.ecma_token_source.specs.Machine.{Source}
 use Rattle.ecma_token_source.specs.Settings.{Settings}
 use Rattle.ecma_input.specs.Lists.{list_step, list_machine}
 use Rattle.ecma_tree.specs.Tree.{Tree}
-use Rattle.ecma_syntax.specs.Input.{Place}
+use Rattle.ecma_syntax.specs.Input.{PlacedToken}
 use Rattle.ecma_grammar_complete_base.specs.Laws.{InOrder}
 use Rattle.ecma_reading.specs.Source.{Fault, Unexpected, TooDeep, is_nil}
-use Rattle.ecma_parse_state.specs.Fronts.{Front, place_of, places, asked, in_place, same_mark, read_on, reread_by, operand_by, machine_of}
+use Rattle.ecma_parse_state.specs.Cursors.{Cursor, place_of, places, asked, in_place, same_break, read_on, reread_by, operand_by, stream_of}
 use Rattle.ecma_sources.specs.Sources.{is_slash, HandsOut}
 use Rattle.ecma_sources_lexed.specs.Constant.{Falls}
 use Rattle.ecma_parser_laws.specs.Parsed.{DerivesList}
@@ -49,20 +49,20 @@ list_constant modules = record {
 
 -- ---- it hands out its tokens
 
-all : (spots : List Spot) (settings : Settings) (last : ℕ) → HandsOut (machine_of list_machine) (seen spots) (read_on (list_step spots settings) last)
-unfolding machine_of
+all : (spots : List Spot) (settings : Settings) (last : ℕ) → HandsOut (stream_of list_machine) (seen spots) (read_on (list_step spots settings) last)
+unfolding stream_of
 all [] settings last = refl
 all (t ∷ ts) settings last = inl (places list_machine 1 (list_step ts settings).0 (Some (list_step ts settings).1), refl, all ts settings t.hi)
 
 -- ---- and no others
 
-no_tokens : (p : Place) (ps : List Place) → ([] ≡ p ∷ ps) → ⊥
+no_tokens : (p : PlacedToken) (ps : List PlacedToken) → ([] ≡ p ∷ ps) → ⊥
 no_tokens p ps e = true≢false (ap (λ z. is_nil z) e)
 
-no_more : (p : Place) (ps : List Place) → (p ∷ ps ≡ []) → ⊥
+no_more : (p : PlacedToken) (ps : List PlacedToken) → (p ∷ ps ≡ []) → ⊥
 no_more p ps e = true≢false (ap (λ z. is_nil z) (sym e))
 
-abbrev first_or : Place → List Place → Place
+abbrev first_or : PlacedToken → List PlacedToken → PlacedToken
 first_or d [] = d
 first_or d (p ∷ ps) = p
 
@@ -81,7 +81,7 @@ no_template k s e = true≢false (sym s ∙ ap (λ (z : ℕ). is_slash z) e)
 -- the token behind a slash begins behind it
 apart : (t u : Spot) (us : List Spot) (start : ℕ) → InOrder start (seen (t ∷ u ∷ us)) → is_slash t.token.kind ≡ true → in_place t (Some u) ≡ true → ⊥
 apart t u us start o k i = let z = o.2 (no_template t.token.kind k) in let y = o.3.0 in
-    let e = eqb-true u.lo t.lo (and_left (eqb u.lo t.lo) (same_mark u.line_break t.line_break) (and_right (eqb u.token.kind regex_kind || eqb u.token.kind error_kind) (eqb u.lo t.lo && same_mark u.line_break t.line_break) i)) in
+    let e = eqb-true u.lo t.lo (and_left (eqb u.lo t.lo) (same_break u.line_break t.line_break) (and_right (eqb u.token.kind regex_kind || eqb u.token.kind error_kind) (eqb u.lo t.lo && same_break u.line_break t.line_break) i)) in
     omega (arith, z, y, e)
 
 -- so a slash stays
@@ -90,7 +90,7 @@ module _ (t : Spot) (settings : Settings) (last start : ℕ) where
   Stays ts = operand_by list_machine (Some t) (Some (record { tokens = ts; settings = settings })) (read_on (list_step (t ∷ ts) settings) last) ≡ read_on (list_step (t ∷ ts) settings) last
 
   module _ (ts : List Spot) where
-    abbrev q : Front (List Spot)
+    abbrev q : Cursor (List Spot)
     q = read_on (list_step (t ∷ ts) settings) last
 
     abbrev x : Option Spot × Source (List Spot)
@@ -108,26 +108,26 @@ module _ (t : Spot) (settings : Settings) (last start : ℕ) where
   stays [] o = by_kind [] (is_slash t.token.kind) refl (λ k e. true≢false (sym e))
   stays (u ∷ us) o = by_kind (u ∷ us) (is_slash t.token.kind) refl (λ k e. apart t u us start o k e)
 
-no_other : (spots : List Spot) (settings : Settings) (start last : ℕ) (ps : List Place) → InOrder start (seen spots) → HandsOut (machine_of list_machine) ps (read_on (list_step spots settings) last) → ps ≡ seen spots
-unfolding machine_of
+no_other : (spots : List Spot) (settings : Settings) (start last : ℕ) (ps : List PlacedToken) → InOrder start (seen spots) → HandsOut (stream_of list_machine) ps (read_on (list_step spots settings) last) → ps ≡ seen spots
+unfolding stream_of
 no_other [] settings start last [] o h = refl
 no_other [] settings start last (p ∷ ps) o (inl h) = absurd (no_tokens p h.0 h.1)
 no_other [] settings start last (p ∷ ps) o (inr h) = absurd (no_tokens h.0 h.1 h.3)
 no_other (t ∷ ts) settings start last [] o h = absurd (no_more (place_of t) (places list_machine 1 (list_step ts settings).0 (Some (list_step ts settings).1)) h)
-no_other (t ∷ ts) settings start last (p ∷ ps) o (inl h) = ap (λ (z : List Place). first_or p z ∷ ps) (sym h.1) ∙ ap (λ (zs : List Place). place_of t ∷ zs) (no_other ts settings t.hi t.hi ps o.3 h.2)
-no_other (t ∷ ts) settings start last (p ∷ ps) o (inr h) = absurd (true≢false (sym slash ∙ ap (λ (z : ℕ). is_slash z) (ap (λ (z : Place). z.spot.token.kind) same ∙ h.4.1)))
+no_other (t ∷ ts) settings start last (p ∷ ps) o (inl h) = ap (λ (z : List PlacedToken). first_or p z ∷ ps) (sym h.1) ∙ ap (λ (zs : List PlacedToken). place_of t ∷ zs) (no_other ts settings t.hi t.hi ps o.3 h.2)
+no_other (t ∷ ts) settings start last (p ∷ ps) o (inr h) = absurd (true≢false (sym slash ∙ ap (λ (z : ℕ). is_slash z) (ap (λ (z : PlacedToken). z.spot.token.kind) same ∙ h.4.1)))
   where
     here : place_of t ≡ h.0
-    here = ap (λ (z : List Place). first_or (place_of t) z) h.3
+    here = ap (λ (z : List PlacedToken). first_or (place_of t) z) h.3
 
     slash : is_slash t.token.kind ≡ true
-    slash = ap (λ (z : Place). is_slash z.spot.token.kind) here ∙ h.4.0
+    slash = ap (λ (z : PlacedToken). is_slash z.spot.token.kind) here ∙ h.4.0
 
-    stands : Front (List Spot)
+    stands : Cursor (List Spot)
     stands = read_on (list_step (t ∷ ts) settings) last
 
     same : place_of t ≡ p
-    same = ap (λ (z : List Place). first_or (place_of t) z) (subst (λ (q : Front (List Spot)). places list_machine 2 q.first q.behind ≡ p ∷ h.2) (stays t settings last start ts o) h.5)
+    same = ap (λ (z : List PlacedToken). first_or (place_of t) z) (subst (λ (q : Cursor (List Spot)). places list_machine 2 q.first q.behind ≡ p ∷ h.2) (stays t settings last start ts o) h.5)
 
 pub list_hands : ListHands
 list_hands = record {
@@ -138,22 +138,22 @@ list_hands = record {
 -- ---- a reading
 
 module _ (limit : ℕ) (modules : Bool) (syntax : EsSyntax) (start : ℕ) (spots : List Spot) (settings : Settings) (o : InOrder start (seen spots)) where
-  abbrev first : Front (List Spot)
+  abbrev first : Cursor (List Spot)
   first = read_on (list_step spots settings) start
 
-  reads : (t : Tree) (ps : List Place) → HandsOut (machine_of list_machine) ps first → DerivesList false modules syntax start ps t → ReadsList modules syntax start spots t
-  reads t ps h d = subst (λ (xs : List Place). DerivesList false modules syntax start xs t) (no_other spots settings start start ps o h) d
+  reads : (t : Tree) (ps : List PlacedToken) → HandsOut (stream_of list_machine) ps first → DerivesList false modules syntax start ps t → ReadsList modules syntax start spots t
+  reads t ps h d = subst (λ (xs : List PlacedToken). DerivesList false modules syntax start xs t) (no_other spots settings start start ps o h) d
 
-  list_by : (x : Result Tree Fault) → SettledBy (machine_of list_machine) limit modules syntax first x → JudgedBy (ReadsList modules syntax start spots) limit x
-  unfolding machine_of
+  list_by : (x : Result Tree Fault) → SettledBy (stream_of list_machine) limit modules syntax first x → JudgedBy (ReadsList modules syntax start spots) limit x
+  unfolding stream_of
   list_by (Ok t) h = record { reads = reads t h.places h.handed h.derived; within = h.within; only = λ u d. h.only false (seen spots) u (all spots settings start) o d }
   list_by (Err Unexpected) h = λ u d. h false (seen spots) u (all spots settings start) o d
   list_by (Err TooDeep) h = λ u d. h false (seen spots) u (all spots settings start) o d
 
-  list_settled : Settled (machine_of list_machine) limit modules syntax first → ListSettled modules syntax start spots limit (read_within (machine_of list_machine) limit modules syntax first)
-  unfolding machine_of
+  list_settled : Settled (stream_of list_machine) limit modules syntax first → ListSettled modules syntax start spots limit (read_within (stream_of list_machine) limit modules syntax first)
+  unfolding stream_of
   list_settled h = record {
-    read = list_by (read_within (machine_of list_machine) limit modules syntax first) h.read;
+    read = list_by (read_within (stream_of list_machine) limit modules syntax first) h.read;
     found = λ t d i. h.found false (seen spots) t (all spots settings start) o d i;
   }
 

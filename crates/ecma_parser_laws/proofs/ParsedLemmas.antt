@@ -4,10 +4,10 @@ use Rattle.std.proofs.lemmas.Bool.{cases_Bool}
 use Rattle.ecma_token.specs.declared.syntax.EsSyntax.{EsSyntax}
 use Rattle.ecma_tree.specs.Tree.{Tree, script, es_module}
 use Rattle.ecma_nesting.specs.Nesting.{nesting}
-use Rattle.ecma_syntax.specs.Input.{Place}
+use Rattle.ecma_syntax.specs.Input.{PlacedToken}
 use Rattle.ecma_syntax.specs.Shape.{is_clean}
 use Rattle.ecma_program_text.specs.Text.{code_of}
-use Rattle.ecma_reading.specs.Source.{Fault, Unexpected, TooDeep, unexpected, ◌>>=◌, Machine, Stand}
+use Rattle.ecma_reading.specs.Source.{Fault, Unexpected, TooDeep, unexpected, ◌>>=◌, Stream, State}
 use Rattle.ecma_reading.specs.Modules.{program_by}
 use Rattle.ecma_reading.specs.Reading.{readers, finish, read_program, read_list}
 use Rattle.ecma_grammar_complete_base.specs.Laws.{InOrder}
@@ -21,7 +21,7 @@ use Rattle.ecma_parser_laws.specs.Within.{within, program_within}
 use Rattle.ecma_parser_laws.specs.Parsed.{DerivesList, Judges, ProgramsJudged}
 
 -- what derives a list is what is read of it, or nests deeper
-list_decided : (modules : Bool) (limit : ℕ) (placed : Bool) (syntax : EsSyntax) (t : Tree) (start : ℕ) (places : List Place) → InOrder start places → DerivesList placed modules syntax start places t
+list_decided : (modules : Bool) (limit : ℕ) (placed : Bool) (syntax : EsSyntax) (t : Tree) (start : ℕ) (places : List PlacedToken) → InOrder start places → DerivesList placed modules syntax start places t
     → Decided (read_list limit modules syntax start places) t (limit < nesting t)
 list_decided false limit placed syntax (script s ss l) start places o d = scripts_complete limit placed syntax s ss l start places d.1 o d.2
 list_decided true limit placed syntax (es_module s ss l) start places o d = modules_complete limit placed syntax s ss l start places d.1 o d.2
@@ -48,8 +48,8 @@ tree_of u t h = ap (read_or u) h
     read_or u (Ok x) = x
     read_or u (Err e) = u
 
-module _ {S : Type 0} (m : Machine S) (Live : S → Type 0) (modules : Bool) (orderly : Orderly m Live modules) (limit : ℕ) (syntax : EsSyntax) (s : S) (live : Live s) where
-  module _ (placed : Bool) (ps : List Place) (u : Tree) (handed : HandsOut m ps s) (order : InOrder (m.last s) ps) (derived : DerivesList placed modules syntax (m.last s) ps u) where
+module _ {S : Type 0} (m : Stream S) (Live : S → Type 0) (modules : Bool) (orderly : Orderly m Live modules) (limit : ℕ) (syntax : EsSyntax) (s : S) (live : Live s) where
+  module _ (placed : Bool) (ps : List PlacedToken) (u : Tree) (handed : HandsOut m ps s) (order : InOrder (m.last s) ps) (derived : DerivesList placed modules syntax (m.last s) ps u) where
     -- at a limit that it doesn't pass it is read of the source
     read_at : (d : ℕ) → nesting u ≤ d → read_program m d modules syntax s ≡ Ok u
     read_at d h = programs_read m Live modules orderly d syntax s ps u live handed (decided_at _ u (d < nesting u) (λ z. omega (arith, z, h)) (list_decided modules d placed syntax u (m.last s) ps order derived))
@@ -74,17 +74,17 @@ module _ {S : Type 0} (m : Machine S) (Live : S → Type 0) (modules : Bool) (or
   deep_judged t true h e = λ placed ps u g o d. subst (λ (x : Tree). limit < nesting x) (sym (tree_of u t (kept_as placed ps u g o d (Ok t) e))) h
   deep_judged t false h e = λ placed ps u g o d. absurd (no_tree (sym (kept_as placed ps u g o d unexpected e)))
 
-  nested_judged : (x : Tree × Stand S) (b : Bool) → leb (nesting x.0) limit ≡ b → finish x ≡ read_program m limit modules syntax s → Judges m modules syntax limit s (cond {A = Result (Tree × Stand S) Fault} b (Ok x) (Err TooDeep) >>= finish)
+  nested_judged : (x : Tree × State S) (b : Bool) → leb (nesting x.0) limit ≡ b → finish x ≡ read_program m limit modules syntax s → Judges m modules syntax limit s (cond {A = Result (Tree × State S) Fault} b (Ok x) (Err TooDeep) >>= finish)
   unfolding finish
   nested_judged x true q e = clean_judged x.0 (is_clean x.0) (leb-true (nesting x.0) limit q) e
   nested_judged x false q e = deep_judged x.0 (is_clean x.0) (leb-false (nesting x.0) limit q) e
 
-  judged : (x : Result (Tree × Stand S) Fault) → (x >>= finish) ≡ read_program m limit modules syntax s → Judges m modules syntax limit s (x >>= within limit >>= finish)
+  judged : (x : Result (Tree × State S) Fault) → (x >>= finish) ≡ read_program m limit modules syntax s → Judges m modules syntax limit s (x >>= within limit >>= finish)
   unfolding within
   judged (Ok x) e = nested_judged x (leb (nesting x.0) limit) refl e
   judged (Err Unexpected) e = λ placed ps u g o d. no_tree (sym (kept_as placed ps u g o d (Err Unexpected) e))
   judged (Err TooDeep) e = λ placed ps u g o d. deeper placed ps u g o d e
 
-pub programs_judged : {S : Type 0} (m : Machine S) (Live : S → Type 0) → ProgramsJudged m Live
+pub programs_judged : {S : Type 0} (m : Stream S) (Live : S → Type 0) → ProgramsJudged m Live
 unfolding program_within read_program
 programs_judged m Live modules orderly limit syntax s live = judged m Live modules orderly limit syntax s live (program_by m (readers m limit) modules (code_of modules syntax) (record { source = s; commas = [] })) refl

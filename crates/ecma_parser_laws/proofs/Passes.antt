@@ -7,7 +7,7 @@ use Rattle.ecma_nesting.specs.Nesting.{nesting}
 use Rattle.ecma_syntax.specs.Input.{Code, content}
 use Rattle.ecma_syntax.specs.Shape.{is_clean}
 use Rattle.ecma_program_text.specs.Text.{is_of_goal}
-use Rattle.ecma_reading.specs.Source.{Fault, unexpected, TooDeep, ◌>>=◌, Machine, Stand, Inner, input, past, at, bound, iterate}
+use Rattle.ecma_reading.specs.Source.{Fault, unexpected, TooDeep, ◌>>=◌, Stream, State, Inner, input, past, at, bound, iterate}
 use Rattle.ecma_reading.specs.Statements.{Body}
 use Rattle.ecma_reading.specs.Modules.{line_of, program_tree, program_step, program_rest, program_by}
 use Rattle.ecma_reading.specs.Reading.{finish}
@@ -30,27 +30,27 @@ cleaned true u t e = ap (read_or u) e
     read_or u (Err e) = u
 cleaned false u t e = absurd (no_tree e)
 
-finished : {S : Type 0} (x : Tree × Stand S) (t : Tree) → finish x ≡ Ok t → x.0 ≡ t
+finished : {S : Type 0} (x : Tree × State S) (t : Tree) → finish x ≡ Ok t → x.0 ≡ t
 unfolding finish
 finished x t e = cleaned (is_clean x.0) x.0 t e
 
 -- ---- the limit
 
 module _ {S : Type 0} (limit : ℕ) (t : Tree) where
-  passed_by : (x : Tree × Stand S) (b : Bool) → leb (nesting x.0) limit ≡ b → (cond {A = Result (Tree × Stand S) Fault} b (Ok x) (Err TooDeep) >>= finish) ≡ Ok t → (nesting t ≤ limit) × (finish x ≡ Ok t)
+  passed_by : (x : Tree × State S) (b : Bool) → leb (nesting x.0) limit ≡ b → (cond {A = Result (Tree × State S) Fault} b (Ok x) (Err TooDeep) >>= finish) ≡ Ok t → (nesting t ≤ limit) × (finish x ≡ Ok t)
   passed_by x true q e = (subst (λ (u : Tree). nesting u ≤ limit) (finished x t e) (leb-true (nesting x.0) limit q), e)
   passed_by x false q e = absurd (no_tree e)
 
   -- what passes the limit is within it, and is read without the limit
-  pub passed : (x : Result (Tree × Stand S) Fault) → (x >>= within limit >>= finish) ≡ Ok t → (nesting t ≤ limit) × ((x >>= finish) ≡ Ok t)
+  pub passed : (x : Result (Tree × State S) Fault) → (x >>= within limit >>= finish) ≡ Ok t → (nesting t ≤ limit) × ((x >>= finish) ≡ Ok t)
   unfolding within
   passed (Ok x) e = passed_by x (leb (nesting x.0) limit) refl e
   passed (Err d) e = absurd (no_tree e)
 
 -- ---- a script is read as a script, and a module as a module
 
-module _ {S : Type 0} (m : Machine S) (inner : Inner S) (modules : Bool) where
-  abbrev OfGoal : Result (Tree × Stand S) Fault → Type 0
+module _ {S : Type 0} (m : Stream S) (inner : Inner S) (modules : Bool) where
+  abbrev OfGoal : Result (Tree × State S) Fault → Type 0
   OfGoal (Ok x) = is_of_goal modules x.0 ≡ true
   OfGoal (Err e) = Unit {0}
 
@@ -58,19 +58,19 @@ module _ {S : Type 0} (m : Machine S) (inner : Inner S) (modules : Bool) where
   tree_of_goal true p ss l = refl
   tree_of_goal false p ss l = refl
 
-  rest_of_goal : (c : Code) (start : Stand S) (l : Option (List ℕ)) (s : Stand S) → OfGoal (program_rest m inner modules c start l s)
+  rest_of_goal : (c : Code) (start : State S) (l : Option (List ℕ)) (s : State S) → OfGoal (program_rest m inner modules c start l s)
   unfolding program_rest
   rest_of_goal c start l s = by_body (iterate (bound m) (program_step m inner modules) (record { items = []; code = c; starts = true }) s) _ (λ b. tree_of_goal modules _ _ l)
     where
-      by_body : (x : Result (Body × Stand S) Fault) (f : Body × Stand S → Result (Tree × Stand S) Fault) → ((b : Body × Stand S) → OfGoal (f b)) → OfGoal (x >>= f)
+      by_body : (x : Result (Body × State S) Fault) (f : Body × State S → Result (Tree × State S) Fault) → ((b : Body × State S) → OfGoal (f b)) → OfGoal (x >>= f)
       by_body (Ok b) f h = h b
       by_body (Err e) f h = tt
 
-  program_of_goal : (c : Code) (s : Stand S) → OfGoal (program_by m inner modules c s)
+  program_of_goal : (c : Code) (s : State S) → OfGoal (program_by m inner modules c s)
   unfolding program_by
   program_of_goal c s = by_kind (at m shebang_kind s) _ _ (by_line (line_of m inner (content (input m s)))) (rest_of_goal c s None s)
     where
-      by_kind : (b : Bool) (x y : Result (Tree × Stand S) Fault) → OfGoal x → OfGoal y → OfGoal (cond b x y)
+      by_kind : (b : Bool) (x y : Result (Tree × State S) Fault) → OfGoal x → OfGoal y → OfGoal (cond b x y)
       by_kind true x y h k = h
       by_kind false x y h k = k
 
@@ -78,9 +78,9 @@ module _ {S : Type 0} (m : Machine S) (inner : Inner S) (modules : Bool) where
       by_line None = tt
       by_line (Some l) = rest_of_goal c s (Some l) (past m s)
 
-  finished_of_goal : (t : Tree) (x : Result (Tree × Stand S) Fault) → OfGoal x → (x >>= finish) ≡ Ok t → is_of_goal modules t ≡ true
+  finished_of_goal : (t : Tree) (x : Result (Tree × State S) Fault) → OfGoal x → (x >>= finish) ≡ Ok t → is_of_goal modules t ≡ true
   finished_of_goal t (Ok x) g e = subst (λ (u : Tree). is_of_goal modules u ≡ true) (finished x t e) g
   finished_of_goal t (Err d) g e = absurd (no_tree e)
 
-  pub read_of_goal : (c : Code) (s : Stand S) (t : Tree) → (program_by m inner modules c s >>= finish) ≡ Ok t → is_of_goal modules t ≡ true
+  pub read_of_goal : (c : Code) (s : State S) (t : Tree) → (program_by m inner modules c s >>= finish) ≡ Ok t → is_of_goal modules t ≡ true
   read_of_goal c s t e = finished_of_goal t (program_by m inner modules c s) (program_of_goal c s) e

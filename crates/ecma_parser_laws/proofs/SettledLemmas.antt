@@ -4,8 +4,8 @@ use Rattle.ecma_token.specs.declared.syntax.EsSyntax.{EsSyntax}
 use Rattle.ecma_token_source.specs.Machine as tokens
 use Rattle.ecma_token_source.specs.Machine.{Source}
 use Rattle.ecma_tree.specs.Tree.{Tree}
-use Rattle.ecma_reading.specs.Source.{Fault, Unexpected, TooDeep, Machine}
-use Rattle.ecma_parse_state.specs.Fronts.{read_on, machine_of}
+use Rattle.ecma_reading.specs.Source.{Fault, Unexpected, TooDeep, Stream}
+use Rattle.ecma_parse_state.specs.Cursors.{read_on, stream_of}
 use Rattle.ecma_sources.specs.Sources.{Orderly}
 use Rattle.ecma_sources.specs.Consumed.{Backward}
 use Rattle.ecma_sources_lexed.specs.Constant.{Before}
@@ -17,7 +17,7 @@ use Rattle.ecma_parser_laws.specs.Exact.{read_within}
 use Rattle.ecma_parser_laws.proofs.ExactLemmas.{programs_exact}
 use Rattle.ecma_parser_laws.specs.Settled.{SettledBy, Settled, FirstSettled}
 
-module _ {S : Type 0} (m : Machine S) (Live : S → Type 0) (modules : Bool) (w : Orderly m Live modules) (back : Backward m Live modules) (limit : ℕ) (syntax : EsSyntax) (s : S) (live : Live s) where
+module _ {S : Type 0} (m : Stream S) (Live : S → Type 0) (modules : Bool) (w : Orderly m Live modules) (back : Backward m Live modules) (limit : ℕ) (syntax : EsSyntax) (s : S) (live : Live s) where
   settled_by : (x : Result Tree Fault) → read_within m limit modules syntax s ≡ x → Judges m modules syntax limit s x → SettledBy m limit modules syntax s x
   settled_by (Ok t) e j = let d = (programs_exact m Live modules w back limit syntax s t live).derived e in record { places = d.1; handed = d.2; derived = d.3; within = d.0; only = j.1 }
   settled_by (Err Unexpected) e j = j
@@ -31,4 +31,4 @@ module _ {S : Type 0} (m : Machine S) (Live : S → Type 0) (modules : Bool) (w 
 
 pub first_settled : {S : Type 0} (m : tokens.Machine S) (Good : Source S → Type 0) (Same : Source S → Source S → Type 0) → FirstSettled m Good Same
 first_settled m Good Same modules w limit syntax s last g =
-    settled (machine_of m) (Before Good) modules (parser_orderly m Good Same modules w) (parser_backward m Good Same modules w) limit syntax (read_on (m.step s) last) ((m.step s).1, refl, w.good_step s g)
+    settled (stream_of m) (Before Good) modules (parser_orderly m Good Same modules w) (parser_backward m Good Same modules w) limit syntax (read_on (m.step s) last) ((m.step s).1, refl, w.good_step s g)

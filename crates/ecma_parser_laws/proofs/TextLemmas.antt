@@ -12,7 +12,7 @@ use Rattle.ecma_reading.specs.Source.{Fault}
 use Rattle.ecma_lexing.specs.States.{State, at_start_of}
 use Rattle.ecma_lexer.specs.Machine.{lexer_machine}
 use Rattle.ecma_program_text.specs.Text.{Setting, Reads, TreeSpells, code_of, text_start}
-use Rattle.ecma_parse_state.specs.Fronts.{told_of}
+use Rattle.ecma_parse_state.specs.Cursors.{told_of}
 use Rattle.ecma_parse_state.specs.declared.parser.Parser.{Parser}
 use Rattle.ecma_sources_lexed.proofs.Hands.{new_at_start}
 use Rattle.ecma_parser_laws.specs.TextRead.{TextBy, TextSettled}

@@ -3,7 +3,7 @@ use Rattle.std.proofs.Common.{◌≡◌, ◌≤◌, ◌<◌, ℕ, Bool, true, fa
 use Rattle.ecma_token.specs.declared.syntax.EsSyntax.{EsSyntax}
 use Rattle.ecma_tree.specs.Tree.{Tree}
 use Rattle.ecma_nesting.specs.Nesting.{nesting}
-use Rattle.ecma_syntax.specs.Input.{Place, Input, Code}
+use Rattle.ecma_syntax.specs.Input.{PlacedToken, Input, Code}
 use Rattle.ecma_grammar.specs.Grammar.{Derives}
 use Rattle.ecma_grammar_complete_base.specs.Laws.{coded}
 use Rattle.ecma_grammar_placed.specs.Laws.{SameTokens, placing}
@@ -11,7 +11,7 @@ use Rattle.ecma_grammar_placed.proofs.PlacedLemmas.{has_places, bared, bared_ord
 use Rattle.ecma_reading.specs.Source.{Fault, Unexpected, TooDeep}
 use Rattle.ecma_lexing.specs.States.{Text, State}
 use Rattle.ecma_lexer.specs.Machine.{lexer_machine}
-use Rattle.ecma_parse_state.specs.Fronts.{Front, read_on, machine_of}
+use Rattle.ecma_parse_state.specs.Cursors.{Cursor, read_on, stream_of}
 use Rattle.ecma_sources.specs.Sources.{HandsOut}
 use Rattle.ecma_sources_lexed.specs.Lexed.{OfGoal, SameText}
 use Rattle.ecma_sources_lexed.proofs.Lexes.{lexer_constant}
@@ -40,19 +40,19 @@ judged false syntax = refl
 
 module _ (limit : ℕ) (modules : Bool) (syntax : EsSyntax) (text : List ℕ) (s : State) (st : AtStart text_start modules text s) where
   -- in front of the first token
-  abbrev start : Front Text
+  abbrev start : Cursor Text
   start = read_on (lexer_machine.step s) text_start
 
   -- ---- from tokens to the text
 
   -- tokens under the goals and in the contexts of a derivation, which the lexer handed out, tile the text
-  tiled : (t : Tree) (ps qs : List Place) (r : Input) → HandsOut (machine_of lexer_machine) ps start → SameTokens ps qs → ProgramDerives modules syntax t qs r → Tile text_start modules text qs
+  tiled : (t : Tree) (ps qs : List PlacedToken) (r : Input) → HandsOut (stream_of lexer_machine) ps start → SameTokens ps qs → ProgramDerives modules syntax t qs r → Tile text_start modules text qs
   tiled t ps qs r h e d = let k : handed ps ≡ ps = handed_is lexer_machine ps start h in
-      let z = derived_tile text_start modules syntax t text qs r s text_start st d (subst (λ (xs : List Place). HandsOut (machine_of lexer_machine) xs start) (sym k ∙ handed_same ps qs e) h) in
+      let z = derived_tile text_start modules syntax t text qs r s text_start st d (subst (λ (xs : List PlacedToken). HandsOut (stream_of lexer_machine) xs start) (sym k ∙ handed_same ps qs e) h) in
       let i : qs ≡ z.0 = same_places qs z.0 z.1 (told_same ps qs e (handed_told ps k)) (tile_told text_start modules text z.0 z.2) in
-      subst (λ (xs : List Place). Tile text_start modules text xs) (sym i) z.2
+      subst (λ (xs : List PlacedToken). Tile text_start modules text xs) (sym i) z.2
 
-  reads : (t : Tree) (ps : List Place) → HandsOut (machine_of lexer_machine) ps start → DerivesList false modules syntax text_start ps t → Reads modules syntax t text
+  reads : (t : Tree) (ps : List PlacedToken) → HandsOut (stream_of lexer_machine) ps start → DerivesList false modules syntax text_start ps t → Reads modules syntax t text
   reads t ps h d = let z = has_places (coded false (code_of modules syntax)) t (record { last = text_start; places = ps }) d.1 d.2.0 in
       let derived : Derives t (code_of modules syntax) (record { last = text_start; places = z.0 }) d.1 =
       subst (λ (c : Code). Derives t c (record { last = text_start; places = z.0 }) d.1) (judged modules syntax) (z.2, d.2.1) in
@@ -60,27 +60,27 @@ module _ (limit : ℕ) (modules : Bool) (syntax : EsSyntax) (text : List ℕ) (s
 
   -- ---- from the text to tokens
 
-  each : (P : Tree → Type 0) → EachDerived (machine_of lexer_machine) modules syntax start P → EachReads modules syntax text P
-  unfolding machine_of
+  each : (P : Tree → Type 0) → EachDerived (stream_of lexer_machine) modules syntax start P → EachReads modules syntax text P
+  unfolding stream_of
   each P f t h = let told : AreTold h.0 = tile_told text_start modules text h.0 h.3 in
       let z = strip (code_of modules syntax) t text_start h.0 h.1 h.4 in
       f false (bared h.0) t
-      (subst (λ (xs : List Place). HandsOut (machine_of lexer_machine) xs start) (bared_handed h.0 told) (read_handed modules syntax t text h s text_start st))
+      (subst (λ (xs : List PlacedToken). HandsOut (stream_of lexer_machine) xs start) (bared_handed h.0 told) (read_handed modules syntax t text h s text_start st))
       (bared_order text_start h.0 (places_in_order text_start modules text h.0 h.3))
       (h.2, z.0, subst (λ (c : Code). Derives t c (record { last = text_start; places = bared h.0 }) z.0) (alone modules syntax) z.1)
 
   -- ---- a reading
 
-  text_by : (x : Result Tree Fault) → SettledBy (machine_of lexer_machine) limit modules syntax start x → TextBy modules syntax text limit x
-  unfolding machine_of
+  text_by : (x : Result Tree Fault) → SettledBy (stream_of lexer_machine) limit modules syntax start x → TextBy modules syntax text limit x
+  unfolding stream_of
   text_by (Ok t) h = record { reads = reads t h.places h.handed h.derived; within = h.within; only = each (λ u. u ≡ t) h.only }
   text_by (Err Unexpected) h = each (λ u. ⊥) h
   text_by (Err TooDeep) h = each (λ u. limit < nesting u) h
 
   abbrev its : Result Tree Fault
-  its = read_within (machine_of lexer_machine) limit modules syntax start
+  its = read_within (stream_of lexer_machine) limit modules syntax start
 
-  text_settled : Settled (machine_of lexer_machine) limit modules syntax start → TextSettled modules syntax text limit its
+  text_settled : Settled (stream_of lexer_machine) limit modules syntax start → TextSettled modules syntax text limit its
   text_settled h = record { read = text_by its h.read; found = each (λ t. nesting t ≤ limit → its ≡ Ok t) h.found }
 
 pub texts_settled : TextsSettled

@@ -9,9 +9,9 @@ use Rattle.ecma_token_source.specs.Machine.{Source}
 use Rattle.ecma_tree.specs.Tree.{Tree}
 use Rattle.ecma_nesting.specs.Nesting.{nesting}
 use Rattle.ecma_early.specs.Early.{early_errors}
-use Rattle.ecma_reading.specs.Source.{Fault, Unexpected, TooDeep, Machine}
+use Rattle.ecma_reading.specs.Source.{Fault, Unexpected, TooDeep, Stream}
 use Rattle.ecma_program_text.specs.Text.{Setting, code_of}
-use Rattle.ecma_parse_state.specs.Fronts.{Front, told_of, machine_of}
+use Rattle.ecma_parse_state.specs.Cursors.{Cursor, told_of, stream_of}
 use Rattle.ecma_parse_state.specs.declared.failure.Failure.{Failure}
 use Rattle.ecma_parse_state.specs.declared.failure.Failure.TheVariants as failures
 use Rattle.ecma_parse_state.specs.declared.parser.Parser.{Parser}
@@ -66,7 +66,7 @@ pub record NewAnswer (x : Setting) (Reads Spells : Tree → Type 0) {X : Type 0}
   pub found : Each Reads (λ t. nesting t ≤ x.limit → Comes view t result)
   pub spells : (t : Tree) → SpelledBy Spells view result recorded t
 
-module _ {S : Type 0} (m : Machine S) (limit : ℕ) (modules : Bool) (syntax : EsSyntax) (s : S) {X : Type 0} (view : X → Tree) where
+module _ {S : Type 0} (m : Stream S) (limit : ℕ) (modules : Bool) (syntax : EsSyntax) (s : S) {X : Type 0} (view : X → Tree) where
   -- An entry's answer, and the faults before and after it, by the grammar. The tree is the only one that is derived, within the limit; a fault comes only where
   -- none of any nesting is, and too deep only where each that is nests deeper.
   pub record Answered (result : Result X Error) (old new : List Error) : Type 0 where
@@ -76,21 +76,21 @@ module _ {S : Type 0} (m : Machine S) (limit : ℕ) (modules : Bool) (syntax : E
 
 module _ {I S : Type 0} (m : tokens.Machine S) (state : I → Source S) where
   -- in front of the first token of an entry's source, which was told the code of a script, or of a module
-  abbrev pub front_of : Bool → Entries (Parser (Rewinding I)) → Front S
+  abbrev pub front_of : Bool → Entries (Parser (Rewinding I)) → Cursor S
   front_of modules e = (first_of m (told_of (code_of modules (syntax_in state e)).context (state e.reading.input.input))).source
 
   -- What the entry of scripts promises, or that of modules, of its answer and of the faults before and after it.
   abbrev pub Promised : {X : Type 0} → (X → Tree) → Bool → Entries (Parser (Rewinding I)) → Result X Error → List Error → List Error → Type 0
   Promised view modules e result old new = let syntax = syntax_in state e in let code = code_of modules syntax in
-      Parses view syntax result (program_within (machine_of m) (limit_in e) modules code (opened m state code.context e)) old new
+      Parses view syntax result (program_within (stream_of m) (limit_in e) modules code (opened m state code.context e)) old new
 
   -- The same of an entry that answers a failure.
   abbrev pub PromisedReading : {X : Type 0} → (X → Tree) → Bool → Entries (Parser (Rewinding I)) → Result X Failure → List Error → List Error → Type 0
   PromisedReading view modules e result old new = let syntax = syntax_in state e in let code = code_of modules syntax in
-      ReadsProgram view syntax result (program_within (machine_of m) (limit_in e) modules code (opened m state code.context e)) old new
+      ReadsProgram view syntax result (program_within (stream_of m) (limit_in e) modules code (opened m state code.context e)) old new
 
   -- A parser that read no token yet, on a good source of tokens, answers by the grammar: what an entry promises is so much.
   abbrev pub EntriesAnswer : (Good : Source S → Type 0) (Same : Source S → Source S → Type 0) {X : Type 0} → (X → Tree) → Type 0
   EntriesAnswer Good Same {X} view = (modules : Bool) → Constant m Good Same modules → (e : Entries (Parser (Rewinding I))) → e.started ≡ false → Good (state e.reading.input.input)
       → (result : Result X Error) (old new : List Error) → Promised view modules e result old new
-      → Answered (machine_of m) (limit_in e) modules (syntax_in state e) (front_of modules e) view result old new
+      → Answered (stream_of m) (limit_in e) modules (syntax_in state e) (front_of modules e) view result old new

@@ -16,15 +16,15 @@ use Rattle.ecma_input.specs.Lists.{list_machine, start_of, list_in}
 use Rattle.ecma_scan.specs.Places.{bytes}
 use Rattle.ecma_tree.specs.Tree.{Tree}
 use Rattle.ecma_nesting.specs.Nesting.{nesting}
-use Rattle.ecma_syntax.specs.Input.{Place}
+use Rattle.ecma_syntax.specs.Input.{PlacedToken}
 use Rattle.ecma_early.specs.Early.{early_errors}
 use Rattle.ecma_grammar_complete_base.specs.Laws.{InOrder}
-use Rattle.ecma_reading.specs.Source.{Fault, Machine}
+use Rattle.ecma_reading.specs.Source.{Fault, Stream}
 use Rattle.ecma_lexing.specs.States.{State, at_start_of}
 use Rattle.ecma_lexer.specs.Machine.{lexer_machine}
 use Rattle.ecma_program_text.specs.Text.{Setting, Reads, TreeSpells, code_of, text_start}
 use Rattle.ecma_program_text.specs.Choice.{tells_module, TreeChosen}
-use Rattle.ecma_parse_state.specs.Fronts.{told_of, machine_of}
+use Rattle.ecma_parse_state.specs.Cursors.{told_of, stream_of}
 use Rattle.ecma_parse_state.specs.declared.parser.Parser.{Parser}
 use Rattle.ecma_parser.specs.Passed.{program_within}
 use Rattle.ecma_parser.specs.Choice.{Chooses}
@@ -66,7 +66,7 @@ pub record ChosenAnswer (x : Setting) (Reads Spells : Bool → Tree → Type 0) 
 -- What the entry of programs promises of its answer and of the faults before and after it.
 abbrev pub PromisedChoice : {I S : Type 0} → tokens.Machine S → (I → Source S) → Entries (Parser (Rewinding I)) → Result Tree Error → List Error → List Error → Type 0
 PromisedChoice m state e result old new = let syntax = syntax_in state e in
-    let read : Bool → Result Tree Fault = λ modules. program_within (machine_of m) (limit_in e) modules (code_of modules syntax) (opened m state (code_of modules syntax).context e) in
+    let read : Bool → Result Tree Fault = λ modules. program_within (stream_of m) (limit_in e) modules (code_of modules syntax) (opened m state (code_of modules syntax).context e) in
     Chooses syntax result (read true) (read false) old new
 
 -- ---- of a text
@@ -114,11 +114,11 @@ module _ {I : Type 0} (state : I → Source (List Spot)) where
 -- ---- of any source
 
 -- A tree is derived from tokens that the source hands out, in the order of their places, as a script or a module.
-abbrev pub ReadsSource : {S : Type 0} → Machine S → Bool → EsSyntax → S → Tree → Type 0
-ReadsSource m modules syntax s t = (ps : List Place) × HandsOut m ps s × InOrder (m.last s) ps × DerivesList false modules syntax (m.last s) ps t
+abbrev pub ReadsSource : {S : Type 0} → Stream S → Bool → EsSyntax → S → Tree → Type 0
+ReadsSource m modules syntax s t = (ps : List PlacedToken) × HandsOut m ps s × InOrder (m.last s) ps × DerivesList false modules syntax (m.last s) ps t
 
 -- A tree spells what a source hands out: it is derived from that, no early error is listed, and it goes no deeper than the limit.
-pub record SpellsSource {S : Type 0} (m : Machine S) (x : Setting) (modules : Bool) (s : S) (t : Tree) : Type 0 where
+pub record SpellsSource {S : Type 0} (m : Stream S) (x : Setting) (modules : Bool) (s : S) (t : Tree) : Type 0 where
   pub reads : ReadsSource m modules x.syntax s t
   pub clean : early_errors x.syntax t ≡ []
   pub within : nesting t ≤ x.limit
@@ -128,13 +128,13 @@ module _ {I S : Type 0} (m : tokens.Machine S) (state : I → Source S) where
   pub record InOrderBoth (Good : Bool → Source S → Type 0) (Same : Source S → Source S → Type 0) (e : Entries (Parser (Rewinding I))) : Type 0 where
     pub constant : (modules : Bool) → Constant m (Good modules) Same modules
     pub good : (modules : Bool) → Good modules (told_of (code_of modules (syntax_in state e)).context (source_in state e))
-    pub order : (modules : Bool) (ps : List Place) → HandsOut (machine_of m) ps (front_of m state modules e) → InOrder (source_in state e).settings.start ps
+    pub order : (modules : Bool) (ps : List PlacedToken) → HandsOut (stream_of m) ps (front_of m state modules e) → InOrder (source_in state e).settings.start ps
 
   -- the tree that is chosen of what the source hands out is answered
   abbrev pub SourceChosen : Entries (Parser (Rewinding I)) → Result Tree Error → List Error → Type 0
   SourceChosen e result recorded = let x : Setting = record { syntax = syntax_in state e; limit = limit_in e } in
-      let spells : Bool → Tree → Type 0 = λ modules t. SpellsSource (machine_of m) x modules (front_of m state modules e) t in
-      ChosenAnswer x (λ modules t. ReadsSource (machine_of m) modules x.syntax (front_of m state modules e) t) spells (Chosen spells) result recorded
+      let spells : Bool → Tree → Type 0 = λ modules t. SpellsSource (stream_of m) x modules (front_of m state modules e) t in
+      ChosenAnswer x (λ modules t. ReadsSource (stream_of m) modules x.syntax (front_of m state modules e) t) spells (Chosen spells) result recorded
 
   -- A parser that read no token yet, on such a source, answers the tree that is chosen: what the entry of programs promises is so much.
   abbrev pub SourcesChosen : (Bool → Source S → Type 0) → (Source S → Source S → Type 0) → Type 0

@@ -3,16 +3,16 @@ use Rattle.std.specs.Prelude.{◌≡◌, ◌≤◌, ℕ, Bool, false, List, [], 
 use Rattle.ecma_token.specs.declared.syntax.EsSyntax.{EsSyntax}
 use Rattle.ecma_tree.specs.Tree.{Tree}
 use Rattle.ecma_nesting.specs.Nesting.{nesting}
-use Rattle.ecma_syntax.specs.Input.{Place}
+use Rattle.ecma_syntax.specs.Input.{PlacedToken}
 use Rattle.ecma_program_text.specs.Text.{code_of}
-use Rattle.ecma_reading.specs.Source.{Fault, Machine}
+use Rattle.ecma_reading.specs.Source.{Fault, Stream}
 use Rattle.ecma_grammar_complete_base.specs.Laws.{InOrder}
 use Rattle.ecma_sources.specs.Sources.{HandsOut, Orderly}
 use Rattle.ecma_sources.specs.Consumed.{Backward}
 use Rattle.ecma_parser_laws.specs.Within.{program_within}
 use Rattle.ecma_parser_laws.specs.Parsed.{DerivesList, EachDerived}
 
-module _ {S : Type 0} (m : Machine S) where
+module _ {S : Type 0} (m : Stream S) where
   -- what a parser reads of a source in a state, within a limit of nesting
   abbrev pub read_within : ℕ → Bool → EsSyntax → S → Result Tree Fault
   read_within limit modules syntax s = program_within m limit modules (code_of modules syntax) (record { source = s; commas = [] })
@@ -20,11 +20,11 @@ module _ {S : Type 0} (m : Machine S) where
   -- A tree is what is read of the source exactly where it is within the limit and derives tokens that the source hands out.
   pub record Exactly (limit : ℕ) (modules : Bool) (syntax : EsSyntax) (s : S) (t : Tree) : Type 0 where
     -- what is read is within the limit, and derives tokens that the source hands out
-    pub derived : read_within limit modules syntax s ≡ Ok t → (nesting t ≤ limit) × (ps : List Place) × HandsOut m ps s × DerivesList false modules syntax (m.last s) ps t
+    pub derived : read_within limit modules syntax s ≡ Ok t → (nesting t ≤ limit) × (ps : List PlacedToken) × HandsOut m ps s × DerivesList false modules syntax (m.last s) ps t
     -- what derives tokens that the source hands out, in the order of their places, and is within the limit, is read
-    pub read : (placed : Bool) (ps : List Place) → HandsOut m ps s → InOrder (m.last s) ps → DerivesList placed modules syntax (m.last s) ps t → nesting t ≤ limit → read_within limit modules syntax s ≡ Ok t
+    pub read : (placed : Bool) (ps : List PlacedToken) → HandsOut m ps s → InOrder (m.last s) ps → DerivesList placed modules syntax (m.last s) ps t → nesting t ≤ limit → read_within limit modules syntax s ≡ Ok t
 
-module _ {S : Type 0} (m : Machine S) (Live : S → Type 0) where
+module _ {S : Type 0} (m : Stream S) (Live : S → Type 0) where
   -- What a parser reads within a limit is exact.
   abbrev pub ProgramsExact : Type 0
   ProgramsExact = (modules : Bool) → Orderly m Live modules → Backward m Live modules → (limit : ℕ) (syntax : EsSyntax) (s : S) (t : Tree) → Live s → Exactly m limit modules syntax s t

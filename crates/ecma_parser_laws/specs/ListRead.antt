@@ -6,10 +6,10 @@ use Rattle.ecma_token_source.specs.Machine.{Source}
 use Rattle.ecma_token_source.specs.Settings.{Settings}
 use Rattle.ecma_input.specs.Lists.{list_step, list_machine}
 use Rattle.ecma_tree.specs.Tree.{Tree}
-use Rattle.ecma_syntax.specs.Input.{Place}
+use Rattle.ecma_syntax.specs.Input.{PlacedToken}
 use Rattle.ecma_grammar_complete_base.specs.Laws.{InOrder}
 use Rattle.ecma_reading.specs.Source.{Fault}
-use Rattle.ecma_parse_state.specs.Fronts.{place_of, read_on, machine_of}
+use Rattle.ecma_parse_state.specs.Cursors.{place_of, read_on, stream_of}
 use Rattle.ecma_sources.specs.Sources.{HandsOut}
 use Rattle.ecma_sources_lexed.specs.Constant.{Constant}
 use Rattle.ecma_parser_laws.specs.Parsed.{DerivesList}
@@ -29,13 +29,13 @@ abbrev pub ListConstant : Type 0
 ListConstant = (modules : Bool) → Constant list_machine AnyList SameList modules
 
 -- a list's tokens as a parser sees them
-abbrev pub seen : List Spot → List Place
+abbrev pub seen : List Spot → List PlacedToken
 seen spots = map place_of spots
 
 -- A list whose tokens stand in the order of their places hands out these, from the first one on, and nothing else: no slash is read again.
 pub record ListHands : Type 0 where
-  pub all : (spots : List Spot) (settings : Settings) (last : ℕ) → HandsOut (machine_of list_machine) (seen spots) (read_on (list_step spots settings) last)
-  pub no_other : (spots : List Spot) (settings : Settings) (start last : ℕ) (ps : List Place) → InOrder start (seen spots) → HandsOut (machine_of list_machine) ps (read_on (list_step spots settings) last) → ps ≡ seen spots
+  pub all : (spots : List Spot) (settings : Settings) (last : ℕ) → HandsOut (stream_of list_machine) (seen spots) (read_on (list_step spots settings) last)
+  pub no_other : (spots : List Spot) (settings : Settings) (start last : ℕ) (ps : List PlacedToken) → InOrder start (seen spots) → HandsOut (stream_of list_machine) ps (read_on (list_step spots settings) last) → ps ≡ seen spots
 
 -- A tree is derived from the whole list, as a script or a module. Goals and contexts are of texts, so the tokens alone are judged.
 abbrev pub ReadsList : Bool → EsSyntax → ℕ → List Spot → Tree → Type 0
@@ -48,4 +48,4 @@ ListSettled modules syntax start spots limit x = Judged (ReadsList modules synta
 -- What a parser reads of a list in the order of its places, from its first token on, is settled by the list: a script, or a module.
 abbrev pub ListsSettled : Type 0
 ListsSettled = (limit : ℕ) (modules : Bool) (syntax : EsSyntax) (start : ℕ) (spots : List Spot) (settings : Settings) → InOrder start (seen spots)
-    → ListSettled modules syntax start spots limit (read_within (machine_of list_machine) limit modules syntax (read_on (list_step spots settings) start))
+    → ListSettled modules syntax start spots limit (read_within (stream_of list_machine) limit modules syntax (read_on (list_step spots settings) start))

@@ -3,22 +3,22 @@ use Rattle.std.specs.Prelude.{◌≡◌, ◌≤◌, ◌<◌, ℕ, Bool, true, Li
 use Rattle.ecma_token.specs.declared.syntax.EsSyntax.{EsSyntax}
 use Rattle.ecma_tree.specs.Tree.{Tree}
 use Rattle.ecma_nesting.specs.Nesting.{nesting}
-use Rattle.ecma_syntax.specs.Input.{Place, Input}
+use Rattle.ecma_syntax.specs.Input.{PlacedToken, Input}
 use Rattle.ecma_grammar.specs.Grammar.{Derives}
 use Rattle.ecma_program_text.specs.Text.{code_of, is_of_goal}
-use Rattle.ecma_reading.specs.Source.{Fault, Unexpected, TooDeep, Machine}
+use Rattle.ecma_reading.specs.Source.{Fault, Unexpected, TooDeep, Stream}
 use Rattle.ecma_grammar_complete_base.specs.Laws.{coded, InOrder}
 use Rattle.ecma_parser_laws.specs.Within.{program_within}
 use Rattle.ecma_sources.specs.Sources.{HandsOut, Orderly}
 
 -- A tree derives a list of tokens to its end, as a script or as a module. Their goals and contexts are judged, or the tokens alone.
-abbrev pub DerivesList : Bool → Bool → EsSyntax → ℕ → List Place → Tree → Type 0
+abbrev pub DerivesList : Bool → Bool → EsSyntax → ℕ → List PlacedToken → Tree → Type 0
 DerivesList placed modules syntax start places t = (is_of_goal modules t ≡ true) × (r : Input) × Derives t (coded placed (code_of modules syntax)) (record { last = start; places = places }) r
 
-module _ {S : Type 0} (m : Machine S) (modules : Bool) (syntax : EsSyntax) where
+module _ {S : Type 0} (m : Stream S) (modules : Bool) (syntax : EsSyntax) where
   -- Of every tree that derives tokens which the source hands out, in the order of their places, something holds.
   abbrev pub EachDerived : S → (Tree → Type 0) → Type 0
-  EachDerived s P = (placed : Bool) (ps : List Place) (t : Tree) → HandsOut m ps s → InOrder (m.last s) ps → DerivesList placed modules syntax (m.last s) ps t → P t
+  EachDerived s P = (placed : Bool) (ps : List PlacedToken) (t : Tree) → HandsOut m ps s → InOrder (m.last s) ps → DerivesList placed modules syntax (m.last s) ps t → P t
 
   -- Where a token is unexpected, no tree of any nesting is derived; where reading is too deep, none within the limit is; and what is read is the
   -- only one that is derived, and within the limit.
@@ -28,6 +28,6 @@ module _ {S : Type 0} (m : Machine S) (modules : Bool) (syntax : EsSyntax) where
   Judges limit s (Err TooDeep) = EachDerived s (λ u. limit < nesting u)
 
 -- What a parser reads within a limit is judged so.
-abbrev pub ProgramsJudged : {S : Type 0} → Machine S → (S → Type 0) → Type 0
+abbrev pub ProgramsJudged : {S : Type 0} → Stream S → (S → Type 0) → Type 0
 ProgramsJudged {S} m Live = (modules : Bool) → Orderly m Live modules → (limit : ℕ) (syntax : EsSyntax) (s : S) → Live s
     → Judges m modules syntax limit s (program_within m limit modules (code_of modules syntax) (record { source = s; commas = [] }))

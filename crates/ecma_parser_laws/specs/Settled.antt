@@ -5,18 +5,18 @@ use Rattle.ecma_token_source.specs.Machine as tokens
 use Rattle.ecma_token_source.specs.Machine.{Source}
 use Rattle.ecma_tree.specs.Tree.{Tree}
 use Rattle.ecma_nesting.specs.Nesting.{nesting}
-use Rattle.ecma_syntax.specs.Input.{Place}
-use Rattle.ecma_reading.specs.Source.{Fault, Unexpected, TooDeep, Machine}
-use Rattle.ecma_parse_state.specs.Fronts.{read_on, machine_of}
+use Rattle.ecma_syntax.specs.Input.{PlacedToken}
+use Rattle.ecma_reading.specs.Source.{Fault, Unexpected, TooDeep, Stream}
+use Rattle.ecma_parse_state.specs.Cursors.{read_on, stream_of}
 use Rattle.ecma_sources.specs.Sources.{HandsOut}
 use Rattle.ecma_sources_lexed.specs.Constant.{Constant}
 use Rattle.ecma_parser_laws.specs.Parsed.{DerivesList, EachDerived}
 use Rattle.ecma_parser_laws.specs.Exact.{read_within}
 
-module _ {S : Type 0} (m : Machine S) (limit : ℕ) (modules : Bool) (syntax : EsSyntax) (s : S) where
+module _ {S : Type 0} (m : Stream S) (limit : ℕ) (modules : Bool) (syntax : EsSyntax) (s : S) where
   -- The tree is derived from tokens that the source hands out, nests no deeper than the limit, and no other tree is derived from such tokens in order.
   pub record OnlyTree (t : Tree) : Type 0 where
-    pub places : List Place
+    pub places : List PlacedToken
     pub handed : HandsOut m places s
     pub derived : DerivesList false modules syntax (m.last s) places t
     pub within : nesting t ≤ limit
@@ -45,4 +45,4 @@ module _ {S : Type 0} (m : Machine S) (limit : ℕ) (modules : Bool) (syntax : E
 -- What a parser reads of a good source of tokens, from its first token on, is settled by the grammar: a script, or a module.
 abbrev pub FirstSettled : {S : Type 0} (m : tokens.Machine S) (Good : Source S → Type 0) (Same : Source S → Source S → Type 0) → Type 0
 FirstSettled {S} m Good Same = (modules : Bool) → Constant m Good Same modules → (limit : ℕ) (syntax : EsSyntax) (s : Source S) (last : ℕ) → Good s
-    → Settled (machine_of m) limit modules syntax (read_on (m.step s) last)
+    → Settled (stream_of m) limit modules syntax (read_on (m.step s) last)

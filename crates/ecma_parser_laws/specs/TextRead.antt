@@ -5,7 +5,7 @@ use Rattle.ecma_tree.specs.Tree.{Tree}
 use Rattle.ecma_reading.specs.Source.{Fault}
 use Rattle.ecma_lexing.specs.States.{State}
 use Rattle.ecma_lexer.specs.Machine.{lexer_machine}
-use Rattle.ecma_parse_state.specs.Fronts.{read_on, machine_of}
+use Rattle.ecma_parse_state.specs.Cursors.{read_on, stream_of}
 use Rattle.ecma_program_text.specs.Text.{Reads, text_start}
 use Rattle.ecma_sources_lexed.specs.Handed.{AtStart}
 use Rattle.ecma_parser_laws.specs.Exact.{read_within}
@@ -27,4 +27,4 @@ module _ (modules : Bool) (syntax : EsSyntax) (text : List ℕ) where
 -- What a parser reads through a lexer that stands at the start of a text, from its first token on, is settled by the text: a script, or a module.
 abbrev pub TextsSettled : Type 0
 TextsSettled = (limit : ℕ) (modules : Bool) (syntax : EsSyntax) (text : List ℕ) (s : State) → AtStart text_start modules text s
-    → TextSettled modules syntax text limit (read_within (machine_of lexer_machine) limit modules syntax (read_on (lexer_machine.step s) text_start))
+    → TextSettled modules syntax text limit (read_within (stream_of lexer_machine) limit modules syntax (read_on (lexer_machine.step s) text_start))

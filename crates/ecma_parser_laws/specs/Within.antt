@@ -3,14 +3,14 @@ use Rattle.std.specs.Prelude.{ℕ, Bool, nat_le, if◌then◌else◌, Result, Ok
 use Rattle.ecma_tree.specs.Tree.{Tree}
 use Rattle.ecma_nesting.specs.Nesting.{nesting}
 use Rattle.ecma_syntax.specs.Input.{Code}
-use Rattle.ecma_reading.specs.Source.{Fault, TooDeep, ◌>>=◌, Machine, Stand}
+use Rattle.ecma_reading.specs.Source.{Fault, TooDeep, ◌>>=◌, Stream, State}
 use Rattle.ecma_reading.specs.Modules.{program_by}
 use Rattle.ecma_reading.specs.Reading.{readers, finish}
 
 -- What is read nests no deeper than the limit.
-unfoldable pub within : {S : Type 0} → ℕ → Tree × Stand S → Result (Tree × Stand S) Fault
+unfoldable pub within : {S : Type 0} → ℕ → Tree × State S → Result (Tree × State S) Fault
 within limit x = if nat_le (nesting x.0) limit then Ok x else Err TooDeep
 
 -- A script or a module: its parts are read up to so many levels deep, it nests no deeper, and nothing of a cover is left.
-unfoldable pub program_within : {S : Type 0} → Machine S → ℕ → Bool → Code → Stand S → Result Tree Fault
+unfoldable pub program_within : {S : Type 0} → Stream S → ℕ → Bool → Code → State S → Result Tree Fault
 program_within m limit modules c s = program_by m (readers m limit) modules c s >>= within limit >>= finish

@@ -3,9 +3,9 @@ use Rattle.std.proofs.Common.{◌≡◌, ◌≤◌, ℕ, Bool, true, false, cond
 use Rattle.ecma_token.specs.declared.syntax.EsSyntax.{EsSyntax}
 use Rattle.ecma_tree.specs.Tree.{Tree}
 use Rattle.ecma_nesting.specs.Nesting.{nesting}
-use Rattle.ecma_syntax.specs.Input.{Place, Input, Code, module_code, alone, in_list}
+use Rattle.ecma_syntax.specs.Input.{PlacedToken, Input, Code, module_code, alone, in_list}
 use Rattle.ecma_syntax.specs.Shape.{ends, is_clean, is_statement}
-use Rattle.ecma_reading.specs.Source.{Fault, TooDeep, unexpected, ◌>>=◌, Stand, Read, list_machine}
+use Rattle.ecma_reading.specs.Source.{Fault, TooDeep, unexpected, ◌>>=◌, State, Read, list_stream}
 use Rattle.ecma_reading.specs.Expressions.{key_by}
 use Rattle.ecma_reading.specs.Modules.{item_by}
 use Rattle.ecma_reading.specs.Reading.{readers}
@@ -18,45 +18,45 @@ use Rattle.ecma_parse_parts.specs.Items.{statement_part, list_item_part, module_
 use Rattle.ecma_part_fronts.specs.Laws.{IsFront, ReadsFronts, Anywhere, PartsAreFronts, Answers, Goes, FrontsAreAnswered}
 
 abbrev Answer : Type 0
-Answer = Result (Tree × Stand Input) Fault
+Answer = Result (Tree × State Input) Fault
 
 abbrev Found : Answer → Type 0
 Found (Ok x) = Unit {0}
 Found (Err e) = ⊥
 
-abbrev found_or : Tree × Stand Input → Answer → Tree × Stand Input
+abbrev found_or : Tree × State Input → Answer → Tree × State Input
 found_or d (Ok x) = x
 found_or d (Err e) = d
 
-no_answer : (e : Fault) (x : Tree × Stand Input) → ◌≡◌ {A = Answer} (Err e) (Ok x) → ⊥
+no_answer : (e : Fault) (x : Tree × State Input) → ◌≡◌ {A = Answer} (Err e) (Ok x) → ⊥
 no_answer e x h = subst (λ z. Found z) (sym h) tt
 
 -- ---- what is answered passed
 
-record Passed (limit : ℕ) (x : Answer) (t : Tree) (r : Stand Input) : Type 0 where
+record Passed (limit : ℕ) (x : Answer) (t : Tree) (r : State Input) : Type 0 where
   answered : x ≡ Ok (t, r)
   within : nesting t ≤ limit
   clean : is_clean t ≡ true
 
-settled_by : (limit : ℕ) (y : Tree × Stand Input) (t : Tree) (r : Stand Input) → settled list_machine limit y ≡ Ok (t, r) → Passed limit (Ok y) t r
+settled_by : (limit : ℕ) (y : Tree × State Input) (t : Tree) (r : State Input) → settled list_stream limit y ≡ Ok (t, r) → Passed limit (Ok y) t r
 unfolding settled
 settled_by limit y t r h = by_tests (nat_le (nesting y.0) limit) (is_clean y.0) refl refl h
   where
     by_tests : (a b : Bool) → nat_le (nesting y.0) limit ≡ a → is_clean y.0 ≡ b → ◌≡◌ {A = Answer} (cond a (cond b (Ok y) unexpected) (Err TooDeep)) (Ok (t, r)) → Passed limit (Ok y) t r
     by_tests true true i j h = let e = ap (λ z. found_or y z) h in record {
       answered = h;
-      within = subst (λ (z : Tree × Stand Input). nesting z.0 ≤ limit) e (leb-true (nesting y.0) limit i);
-      clean = subst (λ (z : Tree × Stand Input). is_clean z.0 ≡ true) e j;
+      within = subst (λ (z : Tree × State Input). nesting z.0 ≤ limit) e (leb-true (nesting y.0) limit i);
+      clean = subst (λ (z : Tree × State Input). is_clean z.0 ≡ true) e j;
     }
     by_tests true false i j h = absurd (no_answer _ (t, r) h)
     by_tests false b i j h = absurd (no_answer _ (t, r) h)
 
-passed_by : (limit : ℕ) (x : Answer) (t : Tree) (r : Stand Input) → (x >>= settled list_machine limit) ≡ Ok (t, r) → Passed limit x t r
+passed_by : (limit : ℕ) (x : Answer) (t : Tree) (r : State Input) → (x >>= settled list_stream limit) ≡ Ok (t, r) → Passed limit x t r
 passed_by limit (Ok y) t r h = settled_by limit y t r h
 passed_by limit (Err e) t r h = absurd (no_answer e (t, r) h)
 
 -- a test that refuses
-tested_by : (x : Answer) (f : Tree × Stand Input → Bool) (t : Tree) (r : Stand Input) → (x >>= λ y. if f y then unexpected else Ok y) ≡ Ok (t, r) → x ≡ Ok (t, r)
+tested_by : (x : Answer) (f : Tree × State Input → Bool) (t : Tree) (r : State Input) → (x >>= λ y. if f y then unexpected else Ok y) ≡ Ok (t, r) → x ≡ Ok (t, r)
 tested_by (Ok y) f t r h = by_test (f y) h
   where
     by_test : (b : Bool) → ◌≡◌ {A = Answer} (cond b unexpected (Ok y)) (Ok (t, r)) → ◌≡◌ {A = Answer} (Ok y) (Ok (t, r))
@@ -64,52 +64,52 @@ tested_by (Ok y) f t r h = by_test (f y) h
     by_test false h = h
 tested_by (Err e) f t r h = absurd (no_answer e (t, r) h)
 
-record Stated (limit : ℕ) (x : Answer) (t : Tree) (r : Stand Input) : Type 0 where
+record Stated (limit : ℕ) (x : Answer) (t : Tree) (r : State Input) : Type 0 where
   passed : Passed limit x t r
   is : is_statement t ≡ true
 
-stated_by : (limit : ℕ) (x : Answer) (t : Tree) (r : Stand Input) → (x >>= λ y. if is_statement y.0 then settled list_machine limit y else unexpected) ≡ Ok (t, r) → Stated limit x t r
+stated_by : (limit : ℕ) (x : Answer) (t : Tree) (r : State Input) → (x >>= λ y. if is_statement y.0 then settled list_stream limit y else unexpected) ≡ Ok (t, r) → Stated limit x t r
 stated_by limit (Ok y) t r h = by_test (is_statement y.0) refl h
   where
-    by_test : (b : Bool) → is_statement y.0 ≡ b → ◌≡◌ {A = Answer} (cond b (settled list_machine limit y) unexpected) (Ok (t, r)) → Stated limit (Ok y) t r
-    by_test true i h = let p = settled_by limit y t r h in record { passed = p; is = subst (λ (z : Tree × Stand Input). is_statement z.0 ≡ true) (ap (λ z. found_or y z) p.answered) i }
+    by_test : (b : Bool) → is_statement y.0 ≡ b → ◌≡◌ {A = Answer} (cond b (settled list_stream limit y) unexpected) (Ok (t, r)) → Stated limit (Ok y) t r
+    by_test true i h = let p = settled_by limit y t r h in record { passed = p; is = subst (λ (z : Tree × State Input). is_statement z.0 ≡ true) (ap (λ z. found_or y z) p.answered) i }
     by_test false i h = absurd (no_answer _ (t, r) h)
 stated_by limit (Err e) t r h = absurd (no_answer e (t, r) h)
 
 -- ---- each part
 
-expression_front : (limit : ℕ) (placed : Bool) (c : Code) (l : ℕ) → 1 ≤ l → l ≤ 2 → ReadsFronts Settled (expression_part list_machine l limit c) (Expression placed l c) (Expression false l c) limit
+expression_front : (limit : ℕ) (placed : Bool) (c : Code) (l : ℕ) → 1 ≤ l → l ≤ 2 → ReadsFronts Settled (expression_part list_stream l limit c) (Expression placed l c) (Expression false l c) limit
 unfolding expression_part
 expression_front limit placed c l a b n ps t r named order h w =
-    let p = passed_by limit ((readers list_machine limit).expr c l (at_list n ps [])) t r (tested_by _ (λ y. heads_arrow list_machine (async_end c (last_of y.0)) y.1) t r h) in
+    let p = passed_by limit ((readers list_stream limit).expr c l (at_list n ps [])) t r (tested_by _ (λ y. heads_arrow list_stream (async_end c (last_of y.0)) y.1) t r h) in
     let z = expressions_end limit placed c l n ps t r a b named order p.answered w in
     record { derived = z.0; complete = z.1; within = p.within; clean = p.clean }
 
-binding_front : (limit : ℕ) (placed : Bool) (c : Code) → ReadsFronts Anywhere (binding_part list_machine limit c) (Binding placed c) (Binding false c) limit
+binding_front : (limit : ℕ) (placed : Bool) (c : Code) → ReadsFronts Anywhere (binding_part list_stream limit c) (Binding placed c) (Binding false c) limit
 unfolding binding_part
-binding_front limit placed c n ps t r named order h w = let p = passed_by limit ((readers list_machine limit).pat c (at_list n ps [])) t r h in let z = bindings_end limit placed c n ps t r named order p.answered in
+binding_front limit placed c n ps t r named order h w = let p = passed_by limit ((readers list_stream limit).pat c (at_list n ps [])) t r h in let z = bindings_end limit placed c n ps t r named order p.answered in
     record { derived = z.0; complete = z.1; within = p.within; clean = p.clean }
 
-key_front : (limit : ℕ) (placed : Bool) (c : Code) → ReadsFronts Anywhere (key_part list_machine limit c) (Key placed c) (Key false c) limit
+key_front : (limit : ℕ) (placed : Bool) (c : Code) → ReadsFronts Anywhere (key_part list_stream limit c) (Key placed c) (Key false c) limit
 unfolding key_part
-key_front limit placed c n ps t r named order h w = let p = passed_by limit (key_by list_machine (readers list_machine limit) c (at_list n ps [])) t r h in let z = keys_end limit placed c n ps t r named order p.answered in
+key_front limit placed c n ps t r named order h w = let p = passed_by limit (key_by list_stream (readers list_stream limit) c (at_list n ps [])) t r h in let z = keys_end limit placed c n ps t r named order p.answered in
     record { derived = z.0; complete = z.1; within = p.within; clean = p.clean }
 
-statement_front : (limit : ℕ) (placed : Bool) (c : Code) → ReadsFronts Anywhere (statement_part list_machine limit c) (Statement placed c) (Statement false c) limit
+statement_front : (limit : ℕ) (placed : Bool) (c : Code) → ReadsFronts Anywhere (statement_part list_stream limit c) (Statement placed c) (Statement false c) limit
 unfolding statement_part
-statement_front limit placed c n ps t r named order h w = let s = stated_by limit ((readers list_machine limit).stmt (alone c) (at_list n ps [])) t r h in
+statement_front limit placed c n ps t r named order h w = let s = stated_by limit ((readers list_stream limit).stmt (alone c) (at_list n ps [])) t r h in
     let z = statements_end limit placed c n ps t r named order s.passed.answered s.is in
     record { derived = z.0; complete = z.1; within = s.passed.within; clean = s.passed.clean }
 
-item_front : (limit : ℕ) (placed : Bool) (c : Code) → ReadsFronts Anywhere (list_item_part list_machine limit c) (ListItem placed c) (ListItem false c) limit
+item_front : (limit : ℕ) (placed : Bool) (c : Code) → ReadsFronts Anywhere (list_item_part list_stream limit c) (ListItem placed c) (ListItem false c) limit
 unfolding list_item_part
-item_front limit placed c n ps t r named order h w = let p = passed_by limit ((readers list_machine limit).stmt (in_list c) (at_list n ps [])) t r h in let z = list_items_end limit placed c n ps t r named order p.answered in
+item_front limit placed c n ps t r named order h w = let p = passed_by limit ((readers list_stream limit).stmt (in_list c) (at_list n ps [])) t r h in let z = list_items_end limit placed c n ps t r named order p.answered in
     record { derived = z.0; complete = z.1; within = p.within; clean = p.clean }
 
-module_item_front : (limit : ℕ) (placed : Bool) (syntax : EsSyntax) → ReadsFronts Anywhere (module_item_part list_machine limit (module_code syntax)) (ModuleItem placed (module_code syntax)) (ModuleItem false (module_code syntax)) limit
+module_item_front : (limit : ℕ) (placed : Bool) (syntax : EsSyntax) → ReadsFronts Anywhere (module_item_part list_stream limit (module_code syntax)) (ModuleItem placed (module_code syntax)) (ModuleItem false (module_code syntax)) limit
 unfolding module_item_part
 module_item_front limit placed syntax n ps t r named order h w =
-    let p = passed_by limit (item_by list_machine (readers list_machine limit) true (in_list (module_code syntax)) (at_list n ps [])) t r h in
+    let p = passed_by limit (item_by list_stream (readers list_stream limit) true (in_list (module_code syntax)) (at_list n ps [])) t r h in
     let z = module_items_end limit placed syntax n ps t r named order p.answered in
     record { derived = z.0; complete = z.1; within = p.within; clean = p.clean }
 
@@ -120,54 +120,54 @@ parts_are_fronts limit placed c = record {
   keys = key_front limit placed c;
   statements = statement_front limit placed c;
   list_items = item_front limit placed c;
-  module_items = λ syntax e. subst (λ d. ReadsFronts Anywhere (module_item_part list_machine limit d) (ModuleItem placed d) (ModuleItem false d) limit) (sym e) (module_item_front limit placed syntax);
+  module_items = λ syntax e. subst (λ d. ReadsFronts Anywhere (module_item_part list_stream limit d) (ModuleItem placed d) (ModuleItem false d) limit) (sym e) (module_item_front limit placed syntax);
 }
 
 -- ---- what is derived is answered
 
-settles : (limit : ℕ) (x : Tree × Stand Input) → nesting x.0 ≤ limit → is_clean x.0 ≡ true → settled list_machine limit x ≡ Ok x
+settles : (limit : ℕ) (x : Tree × State Input) → nesting x.0 ≤ limit → is_clean x.0 ≡ true → settled list_stream limit x ≡ Ok x
 unfolding settled
 settles limit x a b = ap₂ (λ (i j : Bool). cond i (cond j (Ok x) unexpected) (Err TooDeep)) (le-leb (nesting x.0) limit a) b
 
-passes : (limit : ℕ) (x : Answer) (t : Tree) (r : Stand Input) → x ≡ Ok (t, r) → nesting t ≤ limit → is_clean t ≡ true → (x >>= settled list_machine limit) ≡ Ok (t, r)
-passes limit x t r e a b = ap (λ z. z >>= settled list_machine limit) e ∙ settles limit (t, r) a b
+passes : (limit : ℕ) (x : Answer) (t : Tree) (r : State Input) → x ≡ Ok (t, r) → nesting t ≤ limit → is_clean t ≡ true → (x >>= settled list_stream limit) ≡ Ok (t, r)
+passes limit x t r e a b = ap (λ z. z >>= settled list_stream limit) e ∙ settles limit (t, r) a b
 
 -- a test that lets through
-lets : (f : Tree × Stand Input → Bool) (x : Answer) (y : Tree × Stand Input) → x ≡ Ok y → f y ≡ false → (x >>= λ z. if f z then unexpected else Ok z) ≡ Ok y
+lets : (f : Tree × State Input → Bool) (x : Answer) (y : Tree × State Input) → x ≡ Ok y → f y ≡ false → (x >>= λ z. if f z then unexpected else Ok z) ≡ Ok y
 lets f x y e h = ap (λ (z : Answer). z >>= λ v. if f v then unexpected else Ok v) e ∙ by_test (f y) h
   where
     by_test : (b : Bool) → b ≡ false → ◌≡◌ {A = Answer} (cond b unexpected (Ok y)) (Ok y)
     by_test true h = absurd (true≢false h)
     by_test false h = refl
 
-arrow_same : (o : Option Code) (r : Input) (a b : List ℕ) → heads_arrow list_machine o (record { source = r; commas = a }) ≡ heads_arrow list_machine o (record { source = r; commas = b })
+arrow_same : (o : Option Code) (r : Input) (a b : List ℕ) → heads_arrow list_stream o (record { source = r; commas = a }) ≡ heads_arrow list_stream o (record { source = r; commas = b })
 arrow_same None r a b = refl
 arrow_same (Some d) r a b = refl
 
-expression_answered : (limit : ℕ) (placed : Bool) (c : Code) (l : ℕ) → 1 ≤ l → l ≤ 2 → Answers (Goes l c) (expression_part list_machine l limit c) (Expression placed l c) limit
+expression_answered : (limit : ℕ) (placed : Bool) (c : Code) (l : ℕ) → 1 ≤ l → l ≤ 2 → Answers (Goes l c) (expression_part list_stream l limit c) (Expression placed l c) limit
 unfolding expression_part
 expression_answered limit placed c l a b n ps t r order d i k w = let z = (fronts_are_read placed c).expressions l a b limit n ps t r i order d w.follow in
-    let o : Stand Input = record { source = r; commas = z.0 } in
-    (z.0, lets (λ y. heads_arrow list_machine (async_end c (last_of y.0)) y.1) _ (t, o) (passes limit _ t o z.1 i k) (arrow_same (async_end c (last_of t)) r z.0 [] ∙ w.alone))
+    let o : State Input = record { source = r; commas = z.0 } in
+    (z.0, lets (λ y. heads_arrow list_stream (async_end c (last_of y.0)) y.1) _ (t, o) (passes limit _ t o z.1 i k) (arrow_same (async_end c (last_of t)) r z.0 [] ∙ w.alone))
 
-binding_answered : (limit : ℕ) (placed : Bool) (c : Code) → Answers Whatever (binding_part list_machine limit c) (Binding placed c) limit
+binding_answered : (limit : ℕ) (placed : Bool) (c : Code) → Answers Whatever (binding_part list_stream limit c) (Binding placed c) limit
 unfolding binding_part
 binding_answered limit placed c n ps t r order d i k w = let z = (fronts_are_read placed c).bindings limit n ps t r i order d w in (z.0, passes limit _ t (record { source = r; commas = z.0 }) z.1 i k)
 
-key_answered : (limit : ℕ) (placed : Bool) (c : Code) → Answers Whatever (key_part list_machine limit c) (Key placed c) limit
+key_answered : (limit : ℕ) (placed : Bool) (c : Code) → Answers Whatever (key_part list_stream limit c) (Key placed c) limit
 unfolding key_part
 key_answered limit placed c n ps t r order d i k w = let z = (fronts_are_read placed c).keys limit n ps t r i order d w in (z.0, passes limit _ t (record { source = r; commas = z.0 }) z.1 i k)
 
-statement_answered : (limit : ℕ) (placed : Bool) (c : Code) → Answers Apart (statement_part list_machine limit c) (Statement placed c) limit
+statement_answered : (limit : ℕ) (placed : Bool) (c : Code) → Answers Apart (statement_part list_stream limit c) (Statement placed c) limit
 unfolding statement_part
 statement_answered limit placed c n ps t r order d i k w = let z = (fronts_are_read placed c).statements limit n ps t r i order d w in
-    (z.0, ap (λ (x : Answer). x >>= λ y. if is_statement y.0 then settled list_machine limit y else unexpected) z.1 ∙ (ap (λ (b : Bool). cond b (settled list_machine limit (t, record { source = r; commas = z.0 })) unexpected) d.0 ∙ settles limit (t, record { source = r; commas = z.0 }) i k))
+    (z.0, ap (λ (x : Answer). x >>= λ y. if is_statement y.0 then settled list_stream limit y else unexpected) z.1 ∙ (ap (λ (b : Bool). cond b (settled list_stream limit (t, record { source = r; commas = z.0 })) unexpected) d.0 ∙ settles limit (t, record { source = r; commas = z.0 }) i k))
 
-item_answered : (limit : ℕ) (placed : Bool) (c : Code) → Answers Apart (list_item_part list_machine limit c) (ListItem placed c) limit
+item_answered : (limit : ℕ) (placed : Bool) (c : Code) → Answers Apart (list_item_part list_stream limit c) (ListItem placed c) limit
 unfolding list_item_part
 item_answered limit placed c n ps t r order d i k w = let z = (fronts_are_read placed c).list_items limit n ps t r i order d w in (z.0, passes limit _ t (record { source = r; commas = z.0 }) z.1 i k)
 
-module_item_answered : (limit : ℕ) (placed : Bool) (c : Code) → Answers Apart (module_item_part list_machine limit c) (ModuleItem placed c) limit
+module_item_answered : (limit : ℕ) (placed : Bool) (c : Code) → Answers Apart (module_item_part list_stream limit c) (ModuleItem placed c) limit
 unfolding module_item_part
 module_item_answered limit placed c n ps t r order d i k w = let z = (fronts_are_read placed c).module_items limit n ps t r i order d w in (z.0, passes limit _ t (record { source = r; commas = z.0 }) z.1 i k)
 

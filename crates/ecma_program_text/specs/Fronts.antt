@@ -7,11 +7,11 @@ use Rattle.ecma_token.specs.Kinds.{comma_kind, plus_plus_kind, minus_minus_kind}
 use Rattle.ecma_tree.specs.Places.{no_place, place_of}
 use Rattle.ecma_tree.specs.Tree.{Tree, Trees, none, more, script, list, param, assign_pat, absent}
 use Rattle.ecma_nesting.specs.Nesting.{nesting}
-use Rattle.ecma_syntax.specs.Input.{Place, Input, Code, Takes, kind, script_code, module_code, binding, alone, in_list}
+use Rattle.ecma_syntax.specs.Input.{PlacedToken, Input, Code, Takes, kind, script_code, module_code, binding, alone, in_list}
 use Rattle.ecma_syntax.specs.Operators.{between, expression_level, assignment_level, goes_expr}
 use Rattle.ecma_syntax.specs.Shape.{level, ends, is_binding, is_key, is_param, is_rest, is_statement, is_item, is_clean}
-use Rattle.ecma_grammar.specs.Parts.{Part, IsEmpty, Sorted, is_module_item}
-use Rattle.ecma_grammar.specs.Grammar.{Derives, parts}
+use Rattle.ecma_grammar.specs.Children.{Child, IsEmpty, Sorted, is_module_item}
+use Rattle.ecma_grammar.specs.Grammar.{Derives, children}
 use Rattle.ecma_early.specs.Early.{early_errors, faults_in, outermost}
 use Rattle.ecma_program_text.specs.Text.{Setting}
 
@@ -30,13 +30,13 @@ abbrev pub Key : Code → Tree → Input → Input → Type 0
 Key c t ts r = (is_key t ≡ true) × Derives t c ts r
 
 -- FormalParameters (15.1) without their parentheses: a comma may stand after the last one, where that is no rest
-abbrev pub ParameterList : Code → List Part → Input → Input → Type 0
+abbrev pub ParameterList : Code → List Child → Input → Input → Type 0
 ParameterList c [] ts r = ts ≡ r
 ParameterList c (x ∷ xs) ts r = (m : Input) × Sorted is_param c x ts m
     × (((is_rest x.tree ≡ false) × (n : Input) × Takes c comma_kind m n × ParameterList c xs n r) ⊎ (IsEmpty xs × (m ≡ r)))
 
 abbrev pub Parameters : Code → Tree → Input → Input → Type 0
-Parameters c (list ps) ts r = ParameterList c (parts ps) ts r × (is_clean (list ps) ≡ true)
+Parameters c (list ps) ts r = ParameterList c (children ps) ts r × (is_clean (list ps) ≡ true)
 Parameters c _ ts r = ⊥
 
 -- Statement (clause 14); StatementListItem (14.2); ModuleItem (16.2)
@@ -84,16 +84,16 @@ abbrev pub Anything : Tree → Input → Type 0
 Anything t r = Unit {0}
 
 -- No list that begins with the front and this token has a longer front that the production derives.
-abbrev pub EndsBefore : (Tree → Input → Input → Type 0) → ℕ → List Place → Place → Type 0
-EndsBefore P last front q = (more : List Place) (t : Tree) (r : Input) → P t (record { last = last; places = front ++ q ∷ more }) r → length more < length r.places
+abbrev pub EndsBefore : (Tree → Input → Input → Type 0) → ℕ → List PlacedToken → PlacedToken → Type 0
+EndsBefore P last front q = (more : List PlacedToken) (t : Tree) (r : Input) → P t (record { last = last; places = front ++ q ∷ more }) r → length more < length r.places
 
 -- A front is complete: the list ends there, or the next token goes on with it in no longer one.
-abbrev pub CompleteAt : (Tree → Input → Input → Type 0) → Type 0 → ℕ → List Place → List Place → Type 0
+abbrev pub CompleteAt : (Tree → Input → Input → Type 0) → Type 0 → ℕ → List PlacedToken → List PlacedToken → Type 0
 CompleteAt P Rests last front [] = Unit {0}
 CompleteAt P Rests last front (q ∷ ps) = EndsBefore P last front q × Rests
 
 abbrev pub IsComplete : (Tree → Input → Input → Type 0) → Type 0 → Input → Input → Type 0
-IsComplete P Rests ts r = (front : List Place) × (ts.places ≡ front ++ r.places) × CompleteAt P Rests ts.last front r.places
+IsComplete P Rests ts r = (front : List PlacedToken) × (ts.places ≡ front ++ r.places) × CompleteAt P Rests ts.last front r.places
 
 -- The tree is derived from a complete front, lists no early error, and goes no deeper than the limit.
 pub record Fronts (x : Setting) (P : Tree → Input → Input → Type 0) (Rests : Tree → Input → Type 0) (faults : List Error) (t : Tree) (ts r : Input) : Type 0 where

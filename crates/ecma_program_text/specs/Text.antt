@@ -5,7 +5,7 @@ use Rattle.ecma_token.specs.declared.syntax.EsSyntax.{EsSyntax}
 use Rattle.ecma_tree.specs.Tree.{Tree, script, es_module}
 use Rattle.ecma_nesting.specs.Nesting.{nesting}
 use Rattle.ecma_program.specs.Program.{program}
-use Rattle.ecma_syntax.specs.Input.{Place, Input, Code, script_code, module_code}
+use Rattle.ecma_syntax.specs.Input.{PlacedToken, Input, Code, script_code, module_code}
 use Rattle.ecma_grammar.specs.Grammar.{Derives}
 use Rattle.ecma_early.specs.Early.{early_errors}
 use Rattle.ecma_program_text.specs.Tiled.{Tile}
@@ -31,7 +31,7 @@ text_start = 1
 -- The tree derives tokens that tile the text: they agree in tokens, places, line breaks, escapes, lexical goals and contexts, since the relation
 -- judges the goal and the context of each place where it consumes the token. Whatever may be wrong beside that is not judged here.
 abbrev pub Reads : Bool → EsSyntax → Tree → List ℕ → Type 0
-Reads modules syntax t text = (ps : List Place) × (end : Input) × (is_of_goal modules t ≡ true) × Tile text_start modules text ps
+Reads modules syntax t text = (ps : List PlacedToken) × (end : Input) × (is_of_goal modules t ≡ true) × Tile text_start modules text ps
     × Derives t (code_of modules syntax) (record { last = text_start; places = ps }) end
 
 -- A tree spells a text: it reads it, no early error is listed, and it goes no deeper than the limit.

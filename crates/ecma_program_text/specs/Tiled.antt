@@ -8,7 +8,7 @@ use Rattle.ecma_lexeme.specs.declared.goal.LexicalGoal.{LexicalGoal}
 use Rattle.ecma_lexeme.specs.declared.goal.LexicalGoal.TheVariants.{Div, RegExp, TemplateTail, TemplateEnd}
 use Rattle.ecma_lexeme.specs.Lexemes.{SpecLexeme, IsLexeme}
 use Rattle.ecma_lexing.specs.States.{shebang, spot_at}
-use Rattle.ecma_syntax.specs.Input.{Place, regexp_goal, template_goal, template_end_goal}
+use Rattle.ecma_syntax.specs.Input.{PlacedToken, regexp_goal, template_goal, template_end_goal}
 
 -- the lexical goal of a place (clause 12)
 abbrev pub goal_at : ℕ → LexicalGoal
@@ -29,23 +29,23 @@ IsBefore g goal first text line_break from = IsBeforeBy (nat_le template_goal g)
 
 -- A token in its place, with what stands before it; the text goes on with the rest, and ends at the place `end`. The token, its line break, its
 -- place, and whether it is a word with an escape are those of the text.
-abbrev pub IsTile : ℕ → Goal → Bool → List ℕ → Place → List ℕ → Type 0
+abbrev pub IsTile : ℕ → Goal → Bool → List ℕ → PlacedToken → List ℕ → Type 0
 IsTile end goal first text p rest = (line_break : Bool) × (from : List ℕ) × (x : SpecLexeme) × IsBefore p.goal goal first text line_break from
     × IsLexeme (goal_at p.goal) from x rest × (p.spot ≡ spot_at end line_break x.token from rest) × (p.escaped ≡ x.escaped)
 
 -- such tokens up to the end of the text, before which trivia may stand
-abbrev pub AreTiles : ℕ → Goal → Bool → List ℕ → List Place → Type 0
+abbrev pub AreTiles : ℕ → Goal → Bool → List ℕ → List PlacedToken → Type 0
 AreTiles end goal first text [] = (line_break : Bool) × IsSkipped goal first text line_break []
 AreTiles end goal first text (p ∷ ps) = (rest : List ℕ) × IsTile end goal first text p rest × AreTiles end goal false rest ps
 
 -- a hashbang (12.5), which stands at the very start
-abbrev pub IsHashbangTile : ℕ → List ℕ → Place → List ℕ → Type 0
+abbrev pub IsHashbangTile : ℕ → List ℕ → PlacedToken → List ℕ → Type 0
 IsHashbangTile end text p rest = (own : List ℕ) × IsHashbang text own rest × (p.spot ≡ spot_at end false (shebang own).token text rest) × (p.escaped ≡ false)
 
-abbrev pub AfterHashbang : ℕ → Goal → List ℕ → List Place → Type 0
+abbrev pub AfterHashbang : ℕ → Goal → List ℕ → List PlacedToken → Type 0
 AfterHashbang end goal text [] = ⊥
 AfterHashbang end goal text (p ∷ ps) = (rest : List ℕ) × IsHashbangTile end text p rest × AreTiles end goal false rest ps
 
 -- The tokens tile the text, whose characters begin at a place.
-abbrev pub Tile : ℕ → Bool → List ℕ → List Place → Type 0
+abbrev pub Tile : ℕ → Bool → List ℕ → List PlacedToken → Type 0
 Tile start modules text ps = (NoHashbang text × AreTiles (start + bytes text) (whole modules) true text ps) ⊎ AfterHashbang (start + bytes text) (whole modules) text ps

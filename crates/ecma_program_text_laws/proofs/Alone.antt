@@ -13,7 +13,7 @@ use Rattle.ecma_lexeme.specs.Lexemes.{SpecLexeme, IsLexeme}
 use Rattle.ecma_lexeme.proofs.LexemeLemmas.{none_at_end, one_lexeme}
 use Rattle.ecma_lexing.specs.States.{shebang, spot_at}
 use Rattle.ecma_lexing.proofs.TriviaLemmas.{one_hashbang, one_skipped}
-use Rattle.ecma_syntax.specs.Input.{Place, Input, template_goal}
+use Rattle.ecma_syntax.specs.Input.{PlacedToken, Input, template_goal}
 use Rattle.ecma_grammar.specs.Grammar.{Derives}
 use Rattle.ecma_grammar_complete_base.specs.Laws.{InOrder}
 use Rattle.ecma_grammar_placed.specs.Laws.{SameToken, SameTokens}
@@ -69,7 +69,7 @@ one_at (suc (suc n)) (suc (suc m)) goal first text a b f e x y r s q i j k l = l
 spots_same : (end : ℕ) (a b : Bool) (x y : SpecToken) (f e r s : List ℕ) → a ≡ b → f ≡ e → x ≡ y → r ≡ s → spot_at end a x f r ≡ spot_at end b y e s
 spots_same end a b x y f e r s p q u v = ap (λ (z : Bool). spot_at end z x f r) p ∙ (ap (λ (z : List ℕ). spot_at end b x z r) q ∙ (ap (λ (z : SpecToken). spot_at end b z e r) u ∙ ap (λ (z : List ℕ). spot_at end b y e z) v))
 
-one_tile : (end : ℕ) (goal : Goal) (first : Bool) (text : List ℕ) (p q : Place) (r s : List ℕ) → region p ≡ region q → IsTile end goal first text p r → IsTile end goal first text q s → SameToken p q × (r ≡ s)
+one_tile : (end : ℕ) (goal : Goal) (first : Bool) (text : List ℕ) (p q : PlacedToken) (r s : List ℕ) → region p ≡ region q → IsTile end goal first text p r → IsTile end goal first text q s → SameToken p q × (r ≡ s)
 one_tile end goal first text p q r s e h g =
     let i = ap (λ (z : Spot). region_of p.goal z.token.kind) h.5 in
     let j = ap (λ (z : Spot). region_of q.goal z.token.kind) g.5 in
@@ -84,11 +84,11 @@ ended_at zero k goal first text a b f x r h i l = absurd (none_at_end Div f (sym
 ended_at (suc zero) k goal first text a b f x r h i l = absurd (none_at_end RegExp f (sym (one_skipped goal first text a b [] f h i).1) x r l)
 ended_at (suc (suc n)) k goal first text a b f x r h i l = omega arith
 
-more : (x y : Place) (xs ys : List Place) → SameToken x y → SameTokens xs ys ⊎ Part xs ys → SameTokens (x ∷ xs) (y ∷ ys) ⊎ Part (x ∷ xs) (y ∷ ys)
+more : (x y : PlacedToken) (xs ys : List PlacedToken) → SameToken x y → SameTokens xs ys ⊎ Part xs ys → SameTokens (x ∷ xs) (y ∷ ys) ⊎ Part (x ∷ xs) (y ∷ ys)
 more x y xs ys e (inl h) = inl (e, h)
 more x y xs ys e (inr h) = inr (inr (e, h))
 
-tiles : (ps qs : List Place) (end : ℕ) (goal : Goal) (first : Bool) (text : List ℕ) → AreTiles end goal first text ps → AreTiles end goal first text qs → SameTokens ps qs ⊎ Part ps qs
+tiles : (ps qs : List PlacedToken) (end : ℕ) (goal : Goal) (first : Bool) (text : List ℕ) → AreTiles end goal first text ps → AreTiles end goal first text qs → SameTokens ps qs ⊎ Part ps qs
 tiles [] [] end goal first text h g = inl tt
 tiles [] (y ∷ ys) end goal first text h g = let t = g.1 in inr (ended_at y.goal y.spot.token.kind goal first text h.0 t.0 t.1 t.2 g.0 h.1 t.3 t.4)
 tiles (x ∷ xs) [] end goal first text h g = let t = h.1 in inr (ended_at x.goal x.spot.token.kind goal first text g.0 t.0 t.1 t.2 h.0 g.1 t.3 t.4)
@@ -99,18 +99,18 @@ tiles (x ∷ xs) (y ∷ ys) end goal first text h g = parted (cases_Bool (eqb (r
         more x y xs ys z.0 (go (subst (λ (t : List ℕ). AreTiles end goal false t xs) z.1 h.2))
     parted (inr e) go = inr (inl (eqb-false (region x) (region y) e))
 
-one_hashbang_tile : (end : ℕ) (text : List ℕ) (p q : Place) (r s : List ℕ) → IsHashbangTile end text p r → IsHashbangTile end text q s → SameToken p q × (r ≡ s)
+one_hashbang_tile : (end : ℕ) (text : List ℕ) (p q : PlacedToken) (r s : List ℕ) → IsHashbangTile end text p r → IsHashbangTile end text q s → SameToken p q × (r ≡ s)
 one_hashbang_tile end text p q r s h g = let k = one_hashbang text h.0 g.0 r s h.1 g.1 in
     let o = spots_same end false false (shebang h.0).token (shebang g.0).token text text r s refl refl (ap (λ (z : List ℕ). (shebang z).token) k.0) k.1 in
     ((h.2 ∙ o ∙ sym g.2, h.3 ∙ sym g.3), k.1)
 
-after_hashbangs : (ps qs : List Place) (end : ℕ) (goal : Goal) (text : List ℕ) → AfterHashbang end goal text ps → AfterHashbang end goal text qs → SameTokens ps qs ⊎ Part ps qs
+after_hashbangs : (ps qs : List PlacedToken) (end : ℕ) (goal : Goal) (text : List ℕ) → AfterHashbang end goal text ps → AfterHashbang end goal text qs → SameTokens ps qs ⊎ Part ps qs
 after_hashbangs [] qs end goal text h g = absurd h
 after_hashbangs (x ∷ xs) [] end goal text h g = absurd g
 after_hashbangs (x ∷ xs) (y ∷ ys) end goal text h g = let z = one_hashbang_tile end text x y h.0 g.0 h.1 g.1 in
     more x y xs ys z.0 (tiles xs ys end goal false g.0 (subst (λ (t : List ℕ). AreTiles end goal false t xs) z.1 h.2) g.2)
 
-has_hashbang : (ps : List Place) (end : ℕ) (goal : Goal) (text : List ℕ) → AfterHashbang end goal text ps → (own rest : List ℕ) × (inner : List ℕ) × (text ≡ 35 ∷ 33 ∷ inner)
+has_hashbang : (ps : List PlacedToken) (end : ℕ) (goal : Goal) (text : List ℕ) → AfterHashbang end goal text ps → (own rest : List ℕ) × (inner : List ℕ) × (text ≡ 35 ∷ 33 ∷ inner)
 has_hashbang [] end goal text h = absurd h
 has_hashbang (x ∷ xs) end goal text h = (h.1.0, h.0, h.1.1.0, h.1.1.1)
 
@@ -122,20 +122,20 @@ tiles_part start modules text ps qs (inr h) (inr g) = after_hashbangs ps qs (sta
 
 -- ---- one tree
 
-abbrev Derived : Bool → EsSyntax → Tree → List Place → Input → Type 0
+abbrev Derived : Bool → EsSyntax → Tree → List PlacedToken → Input → Type 0
 Derived modules syntax t ps end = Derives t (code_of modules syntax) (record { last = text_start; places = ps }) end
 
-one_script_tree : (syntax : EsSyntax) (t u : Tree) (ps qs : List Place) (r o : Input) → is_of_goal false t ≡ true → is_of_goal false u ≡ true → InOrder text_start ps → SameTokens ps qs → Derived false syntax t ps r → Derived false syntax u qs o → t ≡ u
+one_script_tree : (syntax : EsSyntax) (t u : Tree) (ps qs : List PlacedToken) (r o : Input) → is_of_goal false t ≡ true → is_of_goal false u ≡ true → InOrder text_start ps → SameTokens ps qs → Derived false syntax t ps r → Derived false syntax u qs o → t ≡ u
 one_script_tree syntax (script s ss l) (script w us m) ps qs r o i j k e h g = one_script_of_tokens true true syntax s w ss us l m text_start ps qs r o k e h g
 one_script_tree syntax (script s ss l) _ ps qs r o i j k e h g = absurd (true≢false (sym j))
 one_script_tree syntax _ u ps qs r o i j k e h g = absurd (true≢false (sym i))
 
-one_module_tree : (syntax : EsSyntax) (t u : Tree) (ps qs : List Place) (r o : Input) → is_of_goal true t ≡ true → is_of_goal true u ≡ true → InOrder text_start ps → SameTokens ps qs → Derived true syntax t ps r → Derived true syntax u qs o → t ≡ u
+one_module_tree : (syntax : EsSyntax) (t u : Tree) (ps qs : List PlacedToken) (r o : Input) → is_of_goal true t ≡ true → is_of_goal true u ≡ true → InOrder text_start ps → SameTokens ps qs → Derived true syntax t ps r → Derived true syntax u qs o → t ≡ u
 one_module_tree syntax (es_module s ss l) (es_module w us m) ps qs r o i j k e h g = one_module_of_tokens true true syntax s w ss us l m text_start ps qs r o k e h g
 one_module_tree syntax (es_module s ss l) _ ps qs r o i j k e h g = absurd (true≢false (sym j))
 one_module_tree syntax _ u ps qs r o i j k e h g = absurd (true≢false (sym i))
 
-one_by : (modules : Bool) (syntax : EsSyntax) (t u : Tree) (ps qs : List Place) (r o : Input) → is_of_goal modules t ≡ true → is_of_goal modules u ≡ true → InOrder text_start ps → SameTokens ps qs → Derived modules syntax t ps r → Derived modules syntax u qs o → t ≡ u
+one_by : (modules : Bool) (syntax : EsSyntax) (t u : Tree) (ps qs : List PlacedToken) (r o : Input) → is_of_goal modules t ≡ true → is_of_goal modules u ≡ true → InOrder text_start ps → SameTokens ps qs → Derived modules syntax t ps r → Derived modules syntax u qs o → t ≡ u
 one_by true syntax t u ps qs r o i j k e h g = one_module_tree syntax t u ps qs r o i j k e h g
 one_by false syntax t u ps qs r o i j k e h g = one_script_tree syntax t u ps qs r o i j k e h g
 
@@ -146,7 +146,7 @@ one_tree modules syntax t u text h g = told (tiles_part text_start modules text 
     told (inl e) = inl (one_by modules syntax t u h.0 g.0 h.1 g.1 h.2 g.2 (places_in_order text_start modules text h.0 h.3) e h.4 g.4)
     told (inr e) = inr e
 
-never_part : (ps qs : List Place) → Plain ps → Plain qs → Part ps qs → ⊥
+never_part : (ps qs : List PlacedToken) → Plain ps → Plain qs → Part ps qs → ⊥
 never_part [] [] h g e = e
 never_part [] (y ∷ ys) h g e = omega (arith, e, g.0)
 never_part (x ∷ xs) [] h g e = omega (arith, e, h.0)

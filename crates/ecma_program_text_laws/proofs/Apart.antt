@@ -15,7 +15,7 @@ use Rattle.ecma_lexeme.proofs.LexemeLemmas.{none_at_end, one_lexeme}
 use Rattle.ecma_token_source.specs.Machine.{without_fault}
 use Rattle.ecma_lexing.specs.States.{shebang, spot_at, place}
 use Rattle.ecma_lexing.proofs.TriviaLemmas.{one_hashbang, one_skipped}
-use Rattle.ecma_syntax.specs.Input.{Place, template_goal, template_end_goal}
+use Rattle.ecma_syntax.specs.Input.{PlacedToken, template_goal, template_end_goal}
 use Rattle.ecma_program_text_laws.proofs.Passed.{SameToken, SameTokens}
 use Rattle.ecma_grammar_goals.specs.SlashLaws.{IsPattern, IsSlash}
 use Rattle.ecma_grammar_goals.specs.TemplateLaws.{Region, Outside, Inside, Behind, Nowhere, after, fits, over}
@@ -62,7 +62,7 @@ slashed text rest inner k e h = by_case (or_cases (eqb (token_kind_number k) div
 -- ---- one token
 
 -- a regular expression and a slash at one place of a text
-abbrev pub Apart : Place → Place → Type 0
+abbrev pub Apart : PlacedToken → PlacedToken → Type 0
 Apart p q = IsPattern p × IsSlash q × (p.spot.lo ≡ q.spot.lo) × (p.spot.line_break ≡ q.spot.line_break)
 
 spots_same : (end : ℕ) (a b : Bool) (x y : SpecToken) (f e r s : List ℕ) → a ≡ b → f ≡ e → x ≡ y → r ≡ s → spot_at end a x f r ≡ spot_at end b y e s
@@ -72,7 +72,7 @@ one_before : (k : Bool) (goal : Goal) (first : Bool) (text : List ℕ) (a b : Bo
 one_before true goal first text a b f e h g = (h.1 ∙ sym g.1, sym h.0 ∙ g.0)
 one_before false goal first text a b f e h g = one_skipped goal first text a b f e h g
 
-module _ (end : ℕ) (goal : Goal) (first : Bool) (text : List ℕ) (p q : Place) (r s : List ℕ) (h : IsTile end goal first text p r) (g : IsTile end goal first text q s) where
+module _ (end : ℕ) (goal : Goal) (first : Bool) (text : List ℕ) (p q : PlacedToken) (r s : List ℕ) (h : IsTile end goal first text p r) (g : IsTile end goal first text q s) where
   abbrev Same : Type 0
   Same = SameToken p q × (r ≡ s)
 
@@ -138,7 +138,7 @@ goals Nowhere j k a b h i = absurd (true≢false (sym h))
 
 -- ---- all tokens
 
-abbrev pub Slashed : List Place → List Place → Type 0
+abbrev pub Slashed : List PlacedToken → List PlacedToken → Type 0
 Slashed (x ∷ xs) (y ∷ ys) = (Apart x y ⊎ Apart y x) ⊎ (SameToken x y × Slashed xs ys)
 Slashed _ _ = ⊥
 
@@ -150,11 +150,11 @@ nothing (suc zero) goal first text a b f x r e h i l = none_at_end RegExp f (sym
 nothing (suc (suc n)) goal first text a b f x r e h i l = omega (arith, leb-true (suc (suc n)) 1 e)
 
 module _ (end : ℕ) (goal : Goal) where
-  more : (x y : Place) (xs ys : List Place) → SameToken x y → SameTokens xs ys ⊎ Slashed xs ys → SameTokens (x ∷ xs) (y ∷ ys) ⊎ Slashed (x ∷ xs) (y ∷ ys)
+  more : (x y : PlacedToken) (xs ys : List PlacedToken) → SameToken x y → SameTokens xs ys ⊎ Slashed xs ys → SameTokens (x ∷ xs) (y ∷ ys) ⊎ Slashed (x ∷ xs) (y ∷ ys)
   more x y xs ys e (inl h) = inl (e, h)
   more x y xs ys e (inr h) = inr (inr (e, h))
 
-  one_of : (first : Bool) (text : List ℕ) (x y : Place) (r s : List ℕ) → IsTile end goal first text x r → IsTile end goal first text y s → Goals x.goal y.goal → (SameToken x y × (r ≡ s)) ⊎ (Apart x y ⊎ Apart y x)
+  one_of : (first : Bool) (text : List ℕ) (x y : PlacedToken) (r s : List ℕ) → IsTile end goal first text x r → IsTile end goal first text y s → Goals x.goal y.goal → (SameToken x y × (r ≡ s)) ⊎ (Apart x y ⊎ Apart y x)
   one_of first text x y r s h g (inl e) = inl (same_goal end goal first text x y r s h g e)
   one_of first text x y r s h g (inr (inl e)) = left (across end goal first text x y r s h g e.0 e.1)
     where
@@ -167,7 +167,7 @@ module _ (end : ℕ) (goal : Goal) where
       right (inl z) = inl ((sym z.0.0, sym z.0.1), sym z.1)
       right (inr z) = inr (inr z)
 
-  pub tiles : (ps qs : List Place) (g : Region) (first : Bool) (text : List ℕ) → AreTiles end goal first text ps → AreTiles end goal first text qs → over g ps ≡ Outside [] → over g qs ≡ Outside [] → SameTokens ps qs ⊎ Slashed ps qs
+  pub tiles : (ps qs : List PlacedToken) (g : Region) (first : Bool) (text : List ℕ) → AreTiles end goal first text ps → AreTiles end goal first text qs → over g ps ≡ Outside [] → over g qs ≡ Outside [] → SameTokens ps qs ⊎ Slashed ps qs
   tiles [] [] g first text h k a b = inl tt
   tiles [] (y ∷ ys) g first text h k a b = let t = k.1 in absurd (nothing y.goal goal first text h.0 t.0 t.1 t.2 _ (low_there [] y.spot.token.kind y.goal (subst (λ (z : Region). fits z y.spot.token.kind y.goal ≡ true) a (fits_on g y ys b).0)) h.1 t.3 t.4)
   tiles (x ∷ xs) [] g first text h k a b = let t = h.1 in absurd (nothing x.goal goal first text k.0 t.0 t.1 t.2 _ (low_there [] x.spot.token.kind x.goal (subst (λ (z : Region). fits z x.spot.token.kind x.goal ≡ true) b (fits_on g x xs a).0)) k.1 t.3 t.4)
@@ -179,23 +179,23 @@ module _ (end : ℕ) (goal : Goal) where
       told_by (inl z) f = more x y xs ys z.0 (f z.1 z.0.0)
       told_by (inr z) f = inr (inl z)
 
-  one_hashbang_tile : (text : List ℕ) (p q : Place) (r s : List ℕ) → IsHashbangTile end text p r → IsHashbangTile end text q s → SameToken p q × (r ≡ s)
+  one_hashbang_tile : (text : List ℕ) (p q : PlacedToken) (r s : List ℕ) → IsHashbangTile end text p r → IsHashbangTile end text q s → SameToken p q × (r ≡ s)
   one_hashbang_tile text p q r s h g = let k = one_hashbang text h.0 g.0 r s h.1 g.1 in
       let o = spots_same end false false (shebang h.0).token (shebang g.0).token text text r s refl refl (ap (λ (z : List ℕ). (shebang z).token) k.0) k.1 in
       ((h.2 ∙ o ∙ sym g.2, h.3 ∙ sym g.3), k.1)
 
-  pub after_hashbangs : (ps qs : List Place) (text : List ℕ) → AfterHashbang end goal text ps → AfterHashbang end goal text qs → over (Outside []) ps ≡ Outside [] → over (Outside []) qs ≡ Outside [] → SameTokens ps qs ⊎ Slashed ps qs
+  pub after_hashbangs : (ps qs : List PlacedToken) (text : List ℕ) → AfterHashbang end goal text ps → AfterHashbang end goal text qs → over (Outside []) ps ≡ Outside [] → over (Outside []) qs ≡ Outside [] → SameTokens ps qs ⊎ Slashed ps qs
   after_hashbangs [] qs text h k a b = absurd h
   after_hashbangs (x ∷ xs) [] text h k a b = absurd k
   after_hashbangs (x ∷ xs) (y ∷ ys) text h k a b = let z = one_hashbang_tile text x y h.0 k.0 h.1 k.1 in let f = fits_on (Outside []) x xs a in let d = fits_on (Outside []) y ys b in
       more x y xs ys z.0 (tiles xs ys (after (Outside []) x.spot.token.kind) false k.0 (subst (λ (t : List ℕ). AreTiles end goal false t xs) z.1 h.2) k.2 f.1 (subst (λ (u : Spot). over (after (Outside []) u.token.kind) ys ≡ Outside []) (sym z.0.0) d.1))
 
-has_hashbang : (ps : List Place) (end : ℕ) (goal : Goal) (text : List ℕ) → AfterHashbang end goal text ps → (inner : List ℕ) × (text ≡ 35 ∷ 33 ∷ inner)
+has_hashbang : (ps : List PlacedToken) (end : ℕ) (goal : Goal) (text : List ℕ) → AfterHashbang end goal text ps → (inner : List ℕ) × (text ≡ 35 ∷ 33 ∷ inner)
 has_hashbang [] end goal text h = absurd h
 has_hashbang (x ∷ xs) end goal text h = (h.1.1.0, h.1.1.1)
 
 -- Two lists of tokens that tile one text and match are the same, or they part at a regular expression and a slash.
-pub told_tiles : (start : ℕ) (modules : Bool) (text : List ℕ) (ps qs : List Place) → Tile start modules text ps → Tile start modules text qs → over (Outside []) ps ≡ Outside [] → over (Outside []) qs ≡ Outside [] → SameTokens ps qs ⊎ Slashed ps qs
+pub told_tiles : (start : ℕ) (modules : Bool) (text : List ℕ) (ps qs : List PlacedToken) → Tile start modules text ps → Tile start modules text qs → over (Outside []) ps ≡ Outside [] → over (Outside []) qs ≡ Outside [] → SameTokens ps qs ⊎ Slashed ps qs
 told_tiles start modules text ps qs (inl h) (inl g) a b = tiles (start + bytes text) (whole modules) ps qs (Outside []) true text h.1 g.1 a b
 told_tiles start modules text ps qs (inl h) (inr g) a b = let z = has_hashbang qs (start + bytes text) (whole modules) text g in absurd (h.0 z.0 z.1)
 told_tiles start modules text ps qs (inr h) (inl g) a b = let z = has_hashbang ps (start + bytes text) (whole modules) text h in absurd (g.0 z.0 z.1)

@@ -11,7 +11,7 @@ use Rattle.ecma_scan.specs.ReadingTrivia as trivia
 use Rattle.ecma_scan.proofs.TriviaLemmas.{no_trivia}
 use Rattle.ecma_scan.proofs.Longest.{is_read}
 use Rattle.ecma_tree.specs.Tree.{Tree, none, more, script, es_module, empty_stmt}
-use Rattle.ecma_syntax.specs.Input.{Place, span, no_context, div_goal}
+use Rattle.ecma_syntax.specs.Input.{PlacedToken, span, no_context, div_goal}
 use Rattle.ecma_syntax.specs.Shape.{is_clean}
 use Rattle.ecma_early.specs.Early.{early_errors, faults_in}
 use Rattle.ecma_program_text.specs.Text.{Setting, TreeSpells}
@@ -49,7 +49,7 @@ empty_module x le = record {
 }
 
 -- `;`
-abbrev semicolon : Place
+abbrev semicolon : PlacedToken
 semicolon = record { spot = record { token = record { kind = semicolon_kind; content = Bare }; line_break = false; lo = 1; hi = 2 }; escaped = false; goal = div_goal; context = no_context }
 
 abbrev semicolon_script : Tree

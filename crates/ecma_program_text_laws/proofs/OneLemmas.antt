@@ -5,7 +5,7 @@ use Rattle.ecma_token.specs.declared.syntax.EsSyntax.{EsSyntax}
 use Rattle.ecma_tree.specs.Tree.{Tree, Trees, script, es_module}
 use Rattle.ecma_nesting.specs.Nesting.{nesting}
 use Rattle.ecma_program.specs.Program.{program}
-use Rattle.ecma_syntax.specs.Input.{Place, Input, script_code, module_code}
+use Rattle.ecma_syntax.specs.Input.{PlacedToken, Input, script_code, module_code}
 use Rattle.ecma_reading.specs.Source.{Fault, Unexpected, TooDeep}
 use Rattle.ecma_reading.specs.Reading.{read_list}
 use Rattle.ecma_grammar.specs.Grammar.{Derives}
@@ -20,24 +20,24 @@ use Rattle.ecma_program_text_laws.proofs.Apart.{Apart, Slashed, told_tiles}
 
 -- ---- lists that part at a slash are not both read
 
-further : (front : List Place) (z : Place) (l : List Place) → (front ++ z ∷ l) ≡ ((front ++ z ∷ []) ++ l)
+further : (front : List PlacedToken) (z : PlacedToken) (l : List PlacedToken) → (front ++ z ∷ l) ≡ ((front ++ z ∷ []) ++ l)
 further [] z l = refl
-further (x ∷ front) z l = ap (λ (k : List Place). x ∷ k) (further front z l)
+further (x ∷ front) z l = ap (λ (k : List PlacedToken). x ∷ k) (further front z l)
 
 module _ (depth : ℕ) (modules : Bool) (syntax : EsSyntax) (start : ℕ) (t u : Tree) where
-  abbrev Answers : List Place → Tree → Type 0
+  abbrev Answers : List PlacedToken → Tree → Type 0
   Answers l v = read_list depth modules syntax start l ≡ Ok v
 
-  apart : (front : List Place) (x y : Place) (xs ys : List Place) (v w : Tree) → Apart x y → Answers (front ++ bare x ∷ bared xs) v → Answers (front ++ bare y ∷ bared ys) w → ⊥
+  apart : (front : List PlacedToken) (x y : PlacedToken) (xs ys : List PlacedToken) (v w : Tree) → Apart x y → Answers (front ++ bare x ∷ bared xs) v → Answers (front ++ bare y ∷ bared ys) w → ⊥
   apart front x y xs ys v w h i j = slashes_told depth modules syntax start front (bare x) (bare y) (bared xs) (bared ys) v w h.0 h.1 h.2 h.3 i j
 
-  never_read : (ps qs front : List Place) → Slashed ps qs → Answers (front ++ bared ps) t → Answers (front ++ bared qs) u → ⊥
+  never_read : (ps qs front : List PlacedToken) → Slashed ps qs → Answers (front ++ bared ps) t → Answers (front ++ bared qs) u → ⊥
   never_read [] qs front h i j = absurd h
   never_read (x ∷ xs) [] front h i j = absurd h
   never_read (x ∷ xs) (y ∷ ys) front (inl (inl h)) i j = apart front x y xs ys t u h i j
   never_read (x ∷ xs) (y ∷ ys) front (inl (inr h)) i j = apart front y x ys xs u t h j i
-  never_read (x ∷ xs) (y ∷ ys) front (inr h) i j = never_read xs ys (front ++ bare x ∷ []) h.1 (subst (λ (l : List Place). Answers l t) (further front (bare x) (bared xs)) i)
-      (subst (λ (l : List Place). Answers l u) (further front (bare x) (bared ys)) (subst (λ (z : Place). Answers (front ++ z ∷ bared ys) u) (sym (bare_same x y h.0)) j))
+  never_read (x ∷ xs) (y ∷ ys) front (inr h) i j = never_read xs ys (front ++ bare x ∷ []) h.1 (subst (λ (l : List PlacedToken). Answers l t) (further front (bare x) (bared xs)) i)
+      (subst (λ (l : List PlacedToken). Answers l u) (further front (bare x) (bared ys)) (subst (λ (z : PlacedToken). Answers (front ++ z ∷ bared ys) u) (sym (bare_same x y h.0)) j))
 
 answer : (x : Result Tree Fault) (t : Tree) (P : Type 0) → (P → ⊥) → Decided x t P → x ≡ Ok t
 answer (Ok x) t P n h = ap (λ (z : Tree). Ok z) h
@@ -46,7 +46,7 @@ answer (Err TooDeep) t P n h = absurd (n h)
 
 -- ---- scripts
 
-one_script : (syntax : EsSyntax) (s w : Span) (ss us : Trees) (l m : Option (List ℕ)) (text : List ℕ) (ps qs : List Place) (r o : Input) → Tile text_start false text ps → Tile text_start false text qs
+one_script : (syntax : EsSyntax) (s w : Span) (ss us : Trees) (l m : Option (List ℕ)) (text : List ℕ) (ps qs : List PlacedToken) (r o : Input) → Tile text_start false text ps → Tile text_start false text qs
     → Derives (script s ss l) (script_code syntax) (record { last = text_start; places = ps }) r → Derives (script w us m) (script_code syntax) (record { last = text_start; places = qs }) o → script s ss l ≡ script w us m
 one_script syntax s w ss us l m text ps qs r o h g d e = told (told_tiles text_start false text ps qs h g (programs_match (script s ss l) (script_code syntax) (record { last = text_start; places = ps }) r refl d.0)
     (programs_match (script w us m) (script_code syntax) (record { last = text_start; places = qs }) o refl e.0))
@@ -60,7 +60,7 @@ one_script syntax s w ss us l m text ps qs r o h g d e = told (told_tiles text_s
 
 -- ---- modules
 
-one_module : (syntax : EsSyntax) (s w : Span) (ss us : Trees) (l m : Option (List ℕ)) (text : List ℕ) (ps qs : List Place) (r o : Input) → Tile text_start true text ps → Tile text_start true text qs
+one_module : (syntax : EsSyntax) (s w : Span) (ss us : Trees) (l m : Option (List ℕ)) (text : List ℕ) (ps qs : List PlacedToken) (r o : Input) → Tile text_start true text ps → Tile text_start true text qs
     → Derives (es_module s ss l) (module_code syntax) (record { last = text_start; places = ps }) r → Derives (es_module w us m) (module_code syntax) (record { last = text_start; places = qs }) o → es_module s ss l ≡ es_module w us m
 one_module syntax s w ss us l m text ps qs r o h g d e = told (told_tiles text_start true text ps qs h g (programs_match (es_module s ss l) (module_code syntax) (record { last = text_start; places = ps }) r refl d.0)
     (programs_match (es_module w us m) (module_code syntax) (record { last = text_start; places = qs }) o refl e.0))

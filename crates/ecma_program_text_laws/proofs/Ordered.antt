@@ -13,7 +13,7 @@ use Rattle.ecma_lexing.specs.States.{place}
 use Rattle.ecma_lexing.proofs.Tokens.{token_shorter}
 use Rattle.ecma_lexing.proofs.Trivia.{hashbang_shorter}
 use Rattle.ecma_lexing_laws.proofs.Behind.{Behind, here, follow_behind, hashbang_behind, lexeme_behind, place_rises}
-use Rattle.ecma_syntax.specs.Input.{Place, template_goal}
+use Rattle.ecma_syntax.specs.Input.{PlacedToken, template_goal}
 use Rattle.ecma_grammar_complete_base.specs.Laws.{InOrder}
 use Rattle.ecma_program_text.specs.Tiled.{goal_at, whole, IsBeforeBy, AreTiles, AfterHashbang, Tile}
 
@@ -47,7 +47,7 @@ some_character TemplateEnd from x rest h n = token_shorter TemplateEnd from x re
 some_character TemplateTail from x rest h n = absurd (n (ap (λ (y : SpecLexeme). y.token.kind) h.6))
 
 -- a token between two rests of the text
-between : (end : ℕ) (text from rest : List ℕ) (p : Place) (ps : List Place) → bytes text ≤ end → Behind text from → Behind from rest → p.spot.lo ≡ place end from → p.spot.hi ≡ place end rest
+between : (end : ℕ) (text from rest : List ℕ) (p : PlacedToken) (ps : List PlacedToken) → bytes text ≤ end → Behind text from → Behind from rest → p.spot.lo ≡ place end from → p.spot.hi ≡ place end rest
     → ((p.spot.token.kind ≡ template_kind → ⊥) → length rest < length from) → InOrder (place end rest) ps → InOrder (place end text) (p ∷ ps)
 between end text from rest p ps le a b lo hi some more =
     let k = place_rises end text from a in
@@ -59,7 +59,7 @@ between end text from rest p ps le a b lo hi some more =
       subst (λ (h : ℕ). InOrder h ps) (sym hi) more,
     )
 
-ordered : (ps : List Place) (end : ℕ) (goal : Goal) (first : Bool) (text : List ℕ) → bytes text ≤ end → AreTiles end goal first text ps → InOrder (place end text) ps
+ordered : (ps : List PlacedToken) (end : ℕ) (goal : Goal) (first : Bool) (text : List ℕ) → bytes text ≤ end → AreTiles end goal first text ps → InOrder (place end text) ps
 ordered [] end goal first text le h = tt
 ordered (p ∷ ps) end goal first text le h =
     let t = h.1 in
@@ -69,7 +69,7 @@ ordered (p ∷ ps) end goal first text le h =
     between end text t.1 h.0 p ps le a b (ap (λ (s : Spot). s.lo) t.5) (ap (λ (s : Spot). s.hi) t.5)
     (λ n. some_character (goal_at p.goal) t.1 t.2 h.0 t.4 (λ k. n (ap (λ (s : Spot). s.token.kind) t.5 ∙ k))) (ordered ps end goal false h.0 l h.2)
 
-after_hashbang : (ps : List Place) (end : ℕ) (goal : Goal) (text : List ℕ) → bytes text ≤ end → AfterHashbang end goal text ps → InOrder (place end text) ps
+after_hashbang : (ps : List PlacedToken) (end : ℕ) (goal : Goal) (text : List ℕ) → bytes text ≤ end → AfterHashbang end goal text ps → InOrder (place end text) ps
 after_hashbang [] end goal text le h = absurd h
 after_hashbang (p ∷ ps) end goal text le h =
     let t = h.1 in
@@ -81,6 +81,6 @@ after_hashbang (p ∷ ps) end goal text le h =
 from_start : (start n : ℕ) → (start + n) - n ≡ start
 from_start start n = omega arith
 
-pub places_in_order : (start : ℕ) (modules : Bool) (text : List ℕ) (ps : List Place) → Tile start modules text ps → InOrder start ps
+pub places_in_order : (start : ℕ) (modules : Bool) (text : List ℕ) (ps : List PlacedToken) → Tile start modules text ps → InOrder start ps
 places_in_order start modules text ps (inl h) = subst (λ (n : ℕ). InOrder n ps) (from_start start (bytes text)) (ordered ps (start + bytes text) (whole modules) true text (omega arith) h.1)
 places_in_order start modules text ps (inr h) = subst (λ (n : ℕ). InOrder n ps) (from_start start (bytes text)) (after_hashbang ps (start + bytes text) (whole modules) text (omega arith) h)

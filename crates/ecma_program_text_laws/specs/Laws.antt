@@ -3,7 +3,7 @@ use Rattle.std.specs.Prelude.{◌≡◌, ◌≤◌, ◌⊎◌, ◌==◌, ℕ, ze
 use Rattle.ecma_token.specs.declared.syntax.EsSyntax.{EsSyntax}
 use Rattle.ecma_token.specs.Kinds.{regex_kind}
 use Rattle.ecma_tree.specs.Tree.{Tree}
-use Rattle.ecma_syntax.specs.Input.{Place}
+use Rattle.ecma_syntax.specs.Input.{PlacedToken}
 use Rattle.ecma_grammar_complete_base.specs.Laws.{InOrder}
 use Rattle.ecma_grammar_placed.specs.Laws.{SameToken, SameTokens}
 use Rattle.ecma_program_text.specs.Text.{Reads}
@@ -11,7 +11,7 @@ use Rattle.ecma_program_text.specs.Tiled.{Tile}
 
 -- Tokens that tile a text, whose characters begin at a place, are in order from there on.
 abbrev pub PlacesInOrder : Type 0
-PlacesInOrder = (start : ℕ) (modules : Bool) (text : List ℕ) (ps : List Place) → Tile start modules text ps → InOrder start ps
+PlacesInOrder = (start : ℕ) (modules : Bool) (text : List ℕ) (ps : List PlacedToken) → Tile start modules text ps → InOrder start ps
 
 -- ---- one tree of a text
 
@@ -22,11 +22,11 @@ region_of zero k = 0
 region_of (suc zero) k = if k == regex_kind then 1 else 0
 region_of (suc (suc n)) k = suc (suc n)
 
-abbrev pub region : Place → ℕ
+abbrev pub region : PlacedToken → ℕ
 region p = region_of p.goal p.spot.token.kind
 
 -- Where two lists of tokens part first, one has a regular expression or a part of a template, and the other hasn't.
-abbrev pub Part : List Place → List Place → Type 0
+abbrev pub Part : List PlacedToken → List PlacedToken → Type 0
 Part [] [] = ⊥
 Part [] (y ∷ ys) = 2 ≤ region y
 Part (x ∷ xs) [] = 2 ≤ region x
@@ -34,14 +34,14 @@ Part (x ∷ xs) (y ∷ ys) = (region x ≡ region y → ⊥) ⊎ (SameToken x y 
 
 -- Two lists of places that tile one text have the same tokens, or part so.
 abbrev pub TilesPart : Type 0
-TilesPart = (start : ℕ) (modules : Bool) (text : List ℕ) (ps qs : List Place) → Tile start modules text ps → Tile start modules text qs → SameTokens ps qs ⊎ Part ps qs
+TilesPart = (start : ℕ) (modules : Bool) (text : List ℕ) (ps qs : List PlacedToken) → Tile start modules text ps → Tile start modules text qs → SameTokens ps qs ⊎ Part ps qs
 
 -- Two trees that read one text are the same, or their tokens part so.
 abbrev pub OneTree : Type 0
 OneTree = (modules : Bool) (syntax : EsSyntax) (t u : Tree) (text : List ℕ) (h : Reads modules syntax t text) (g : Reads modules syntax u text) → (t ≡ u) ⊎ Part h.0 g.0
 
 -- no regular expression, and no part of a template
-abbrev pub Plain : List Place → Type 0
+abbrev pub Plain : List PlacedToken → Type 0
 Plain [] = Unit {0}
 Plain (p ∷ ps) = (region p ≡ 0) × Plain ps
 

@@ -12,8 +12,8 @@ use Rattle.ecma_literal.specs.Numbers.{Meaning, Number, BigInt}
 use Rattle.ecma_lexeme.specs.declared.goal.LexicalGoal.{LexicalGoal}
 use Rattle.ecma_lexeme.specs.declared.goal.LexicalGoal.TheVariants.{Div, RegExp, TemplateTail, TemplateEnd}
 use Rattle.ecma_lexeme.specs.Lexemes.{SpecLexeme, IsLexeme, IsOutside, numeral_lexeme}
-use Rattle.ecma_syntax.specs.Input.{Place, Input, Code, content_of}
-use Rattle.ecma_grammar.specs.Grammar.{Spells}
+use Rattle.ecma_syntax.specs.Input.{PlacedToken, Input, Code, content_of}
+use Rattle.ecma_grammar.specs.Grammar.{Produces}
 use Rattle.ecma_program_text.specs.Tiled.{Tile, goal_at}
 use Rattle.ecma_written.proofs.Known.{left, scalars_front}
 use Rattle.ecma_written_tiles.specs.Tiles.{IsHashbangText}
@@ -54,7 +54,7 @@ spelled : (own : List ℕ) → scalars own ≡ true → Each is_line_char own �
 spelled own s e = record { utf8 = (own, (s, refl)); line = subst (λ (cs : List ℕ). Each is_line_char cs) (sym (chars-encodes own s)) e }
 
 -- The first token of a text, where it has a line.
-first_line : (start : ℕ) (modules : Bool) (text : List ℕ) (ps : List Place) (own : List ℕ) → scalars text ≡ true → Tile start modules text ps → content_of ps ≡ Line own → IsHashbangText own
+first_line : (start : ℕ) (modules : Bool) (text : List ℕ) (ps : List PlacedToken) (own : List ℕ) → scalars text ≡ true → Tile start modules text ps → content_of ps ≡ Line own → IsHashbangText own
 first_line start modules text [] own s (inl h) e = absurd (none_is_a_line (content_of []) own tt e)
 first_line start modules text (p ∷ ps) own s (inl h) e =
     let t = h.1.1 in
@@ -68,7 +68,7 @@ first_line start modules text (p ∷ ps) own s (inr h) e =
     let same : encode_utf8_all t.0 ≡ own = sym (ap (λ (z : Spot). line_in z.token.content) t.2) ∙ ap line_in e in
     subst (λ (bytes : List ℕ). IsHashbangText bytes) same (spelled t.0 front t.1.2.1)
 
-pub line_text : (start : ℕ) (modules : Bool) (text : List ℕ) (ps : List Place) (t : Tree) (c : Code) (r : Input) → scalars text ≡ true → Tile start modules text ps → Spells t c (record { last = start; places = ps }) r → HasLineText t
+pub line_text : (start : ℕ) (modules : Bool) (text : List ℕ) (ps : List PlacedToken) (t : Tree) (c : Code) (r : Input) → scalars text ≡ true → Tile start modules text ps → Produces t c (record { last = start; places = ps }) r → HasLineText t
 line_text start modules text ps (script sp ss (Some own)) c r s k h = first_line start modules text ps own s k h.1.0
 line_text start modules text ps (es_module sp ss (Some own)) c r s k h = first_line start modules text ps own s k h.1.0
 line_text start modules text ps _ c r s k h = tt

@@ -5,7 +5,7 @@ use lib.Utf8.{scalars}
 use Rattle.ecma_token.specs.declared.place.Span.{Span}
 use Rattle.ecma_tree.specs.Tree.{Tree, script, es_module}
 use Rattle.ecma_names.specs.Names.{Name, Identifier, names}
-use Rattle.ecma_syntax.specs.Input.{Place}
+use Rattle.ecma_syntax.specs.Input.{PlacedToken}
 use Rattle.ecma_grammar_complete_base.specs.Laws.{InOrder}
 use Rattle.ecma_program_text.specs.Text.{Setting, TreeSpells, code_of, text_start}
 use Rattle.ecma_program_text_laws.proofs.Ordered.{places_in_order}
@@ -49,7 +49,7 @@ alongside_from P Q f (a ∷ ms) (b ∷ bs) k h = (h.0, f a.at b.at k.0 h.1, alon
 
 -- ---- names of a text begin behind its start
 
-later_from : (n last : ℕ) (ps : List Place) → n ≤ last → InOrder last ps → BeginFrom n ps
+later_from : (n last : ℕ) (ps : List PlacedToken) → n ≤ last → InOrder last ps → BeginFrom n ps
 later_from n last [] l h = tt
 later_from n last (p ∷ ps) l h = (omega (arith, l, h.0), later_from n p.spot.hi ps (omega (arith, l, h.0, h.1)) h.3)
 

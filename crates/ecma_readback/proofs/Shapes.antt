@@ -3,9 +3,9 @@ use Rattle.std.proofs.Common.{◌≡◌, Bool, true, false, List, [], ◌∷◌,
 use Rattle.ecma_token.specs.declared.place.Span.{Span}
 use Rattle.ecma_token.specs.declared.syntax.EsSyntax.{EsSyntax}
 use Rattle.ecma_tree.specs.Tree.{Tree, script, es_module}
-use Rattle.ecma_syntax.specs.Input.{Place, Input, Code, unplaced}
-use Rattle.ecma_grammar.specs.Parts.{is_quasi}
-use Rattle.ecma_grammar.specs.Grammar.{Spells}
+use Rattle.ecma_syntax.specs.Input.{PlacedToken, Input, Code, unplaced}
+use Rattle.ecma_grammar.specs.Children.{is_quasi}
+use Rattle.ecma_grammar.specs.Grammar.{Produces}
 use Rattle.ecma_grammar_placed.specs.Laws.{placing, SameTokens as SamePlaced}
 use Rattle.ecma_grammar_goals.specs.TemplateLaws.{Programmed}
 use Rattle.ecma_program_text.specs.Text.{code_of, is_of_goal}
@@ -31,7 +31,7 @@ program_is_no_quasi (script s ss h) e = refl
 program_is_no_quasi (es_module s ss h) e = refl
 program_is_no_quasi _ e = absurd (true≢false (sym e))
 
-pub programmed : (t : Tree) (c : Code) (ts r : Input) → is_program t ≡ true → Spells t c ts r → Programmed t c ts r
+pub programmed : (t : Tree) (c : Code) (ts r : Input) → is_program t ≡ true → Produces t c ts r → Programmed t c ts r
 programmed (script s ss l) c ts r e h = h
 programmed (es_module s ss l) c ts r e h = h
 programmed _ c ts r e h = absurd (true≢false (sym e))
@@ -44,7 +44,7 @@ pub placed_again : (modules : Bool) (x : EsSyntax) → placing true (unplaced (c
 placed_again false x = refl
 placed_again true x = refl
 
-pub same_tokens : (xs ys : List Place) → SamePlaced xs ys → SameTokens xs ys
+pub same_tokens : (xs ys : List PlacedToken) → SamePlaced xs ys → SameTokens xs ys
 same_tokens [] [] h = tt
 same_tokens (x ∷ xs) (y ∷ ys) h = (h.0, same_tokens xs ys h.1)
 same_tokens [] (y ∷ ys) h = absurd h

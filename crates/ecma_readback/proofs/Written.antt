@@ -3,7 +3,7 @@ use Rattle.std.proofs.Common.{◌≡◌, ◌≤◌, ℕ, Bool, true, not, List, 
 use lib.Utf8.{scalars}
 use Rattle.ecma_tree.specs.Tree.{Tree, script, es_module, tpl}
 use Rattle.ecma_syntax.specs.Input.{Input, Code, unplaced}
-use Rattle.ecma_grammar.specs.Grammar.{Spells}
+use Rattle.ecma_grammar.specs.Grammar.{Produces}
 use Rattle.ecma_grammar_placed.proofs.PlacedLemmas.{has_places}
 use Rattle.ecma_grammar_goals.proofs.Braces.{programs_match}
 use Rattle.ecma_program_text.specs.Tiled.{Tile}
@@ -14,7 +14,7 @@ use Rattle.ecma_layout.specs.declared.look.Look.{Look}
 use Rattle.ecma_layout.specs.declared.look.Stand.TheVariants.{Alone}
 use Rattle.ecma_layout.specs.Looks.{commit, start, when, ◌·◌}
 use Rattle.ecma_layout.specs.Layout.{is_empty, laid, statements}
-use Rattle.ecma_written.specs.Gaps.{Spaced}
+use Rattle.ecma_written.specs.Spacings.{Spaced}
 use Rattle.ecma_written.specs.Naming.{Naming, StandsFor, unplaced_names}
 use Rattle.ecma_written.proofs.Bridge.{bridge}
 use Rattle.ecma_written.proofs.Known.{tokens_are_known}
@@ -24,7 +24,7 @@ use Rattle.ecma_written_tiles.proofs.Names.{tiles_weaker}
 use Rattle.ecma_written_tiles.proofs.Retiled.{tiles_again}
 use Rattle.ecma_written_tiles.proofs.Texts.{layouts_are_tiled, hashbangs_are_tiled}
 use Rattle.ecma_lexicon.proofs.Filled.{texts_mean}
-use Rattle.ecma_redone.specs.Redo.{Mode, Plain, kept_at, nowhere, Same}
+use Rattle.ecma_redone.specs.Redo.{Mode, Plain, kept_at, nowhere, Redone}
 use Rattle.ecma_redone.specs.Every.{every}
 use Rattle.ecma_redone.specs.Faithful.{HasElements}
 use Rattle.ecma_redone.specs.Read.{Knowledge, Read}
@@ -66,7 +66,7 @@ elements : (m : Mode) (t : Tree) → Read (λ ps. Unit {0}) m t → HasElements 
 elements m (tpl s es qs) h = h
 elements m _ h = tt
 
-has_elements : (t : Tree) (c : Code) (ts r : Input) → is_program t ≡ true → Spells t c ts r → every HasElements Plain t
+has_elements : (t : Tree) (c : Code) (ts r : Input) → is_program t ≡ true → Produces t c ts r → every HasElements Plain t
 has_elements t c ts r i h = mapped (Read anything.Known) HasElements elements Plain t (found anything t Plain refl (program_is_no_quasi t i) c ts r h tt).0
 
 -- ---- one written text
@@ -75,7 +75,7 @@ has_elements t c ts r i h = mapped (Read anything.Known) HasElements elements Pl
 record ReadAs (n : Naming) (look : Look) (x : Setting) (modules : Bool) (t : Tree) (out : List ℕ) : Type 0 where
   tree : Tree
   reads : Reads modules x.syntax tree out
-  same : Same (leaves_by look n.read n.written) Plain t tree
+  same : Redone (leaves_by look n.read n.written) Plain t tree
   whole : every HasElements Plain tree
 
 -- Tokens that a layout says, and that tile a text, are derived again.
@@ -92,7 +92,7 @@ read_as n look x modules t text out e h w =
     let g : is_of_goal modules u ≡ true = sym (redone_goal modules (kept_at n.written) Plain u) ∙ (ap (λ v. is_of_goal modules v) (a.so Plain) ∙ (redone_goal modules (leaves_by look n.read n.written) Plain t ∙ h.reads.2)) in
     let j = goal_is_program modules u g in
     let o = has_places (unplaced c) u ts b.1 b.2 in
-    let s : Spells u c (record { last = text_start; places = o.0 }) b.1 = subst (λ (v : Code). Spells u v (record { last = text_start; places = o.0 }) b.1) (placed_again modules x.syntax) o.2 in
+    let s : Produces u c (record { last = text_start; places = o.0 }) b.1 = subst (λ (v : Code). Produces u v (record { last = text_start; places = o.0 }) b.1) (placed_again modules x.syntax) o.2 in
     let f : Tile text_start modules out o.0 = tiles_again text_start modules out w.places o.0 w.tiles w.goals (same_tokens w.places o.0 o.1) (programs_match u c _ b.1 (goal_is_placed modules x.syntax) (programmed u c _ b.1 j s)) in
     record {
       tree = u;

@@ -5,7 +5,7 @@ use lib.Utf8.{scalars}
 use Rattle.ecma_tree.specs.Tree.{Tree, Trees, script, es_module}
 use Rattle.ecma_program.specs.Program.{IsSameProgram}
 use Rattle.ecma_syntax.specs.Input.{Input, Code}
-use Rattle.ecma_grammar.specs.Grammar.{Spells}
+use Rattle.ecma_grammar.specs.Grammar.{Produces}
 use Rattle.ecma_program_text.specs.Text.{Setting, Reads, TreeSpells, text_start}
 use Rattle.ecma_write.specs.Pages.{Page}
 use Rattle.ecma_pieces.specs.Pieces.{resolved, shortened}
@@ -35,9 +35,9 @@ ProgramGoes look (es_module span body None) = GoesWhole (laid look Alone (es_mod
 ProgramGoes look (es_module span body (Some own)) = GoesBehind look body
 ProgramGoes look t = ⊥
 
--- So it is for every program that spells tokens which were read.
+-- So it is for every program that produces tokens which were read.
 abbrev pub ProgramsGo : Look → Type 0
-ProgramsGo look = (t : Tree) (c : Code) (ts r : Input) → is_program t ≡ true → Spells t c ts r → Known ts.places → ProgramGoes look t
+ProgramsGo look = (t : Tree) (c : Code) (ts r : Input) → is_program t ≡ true → Produces t c ts r → Known ts.places → ProgramGoes look t
 
 -- The hashbang of a program, where it has one, stands on a line.
 abbrev pub HasLineText : Tree → Type 0
@@ -47,7 +47,7 @@ HasLineText t = Unit {0}
 
 -- What is written of every such program is tiled by tokens that its layout says.
 abbrev pub ProgramsAreTiled : Look → Type 0
-ProgramsAreTiled look = (modules : Bool) (t : Tree) (c : Code) (ts r : Input) (p : Page) → is_program t ≡ true → Spells t c ts r → Known ts.places → HasLineText t → IsEmptyPage p
+ProgramsAreTiled look = (modules : Bool) (t : Tree) (c : Code) (ts r : Input) (p : Page) → is_program t ≡ true → Produces t c ts r → Known ts.places → HasLineText t → IsEmptyPage p
     → IsTiled text_start modules (laid look Alone t) p
 
 -- A tree of the same program spells the text that is written of another in a look, no other reads it, and in each look in which that text may be written again it is written as the other.

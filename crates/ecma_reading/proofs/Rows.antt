@@ -7,7 +7,7 @@ use Rattle.ecma_token.specs.Words.{kind_of}
 use Rattle.ecma_tree.specs.Tree.{Tree}
 use Rattle.ecma_early.specs.Early.{row, early_errors, faults_in}
 use Rattle.ecma_syntax.specs.Input.{Input, script_code}
-use Rattle.ecma_reading.specs.Source.{Fault, Unexpected, TooDeep, Stand, list_machine, eat, eat_word, name, any_word, end_of, iterate_n, iterate}
+use Rattle.ecma_reading.specs.Source.{Fault, Unexpected, TooDeep, State, list_stream, eat, eat_word, name, any_word, end_of, iterate_n, iterate}
 use Rattle.ecma_syntax.specs.Shape.{is_clean}
 use Rattle.ecma_reading.specs.Expressions.{literal_by, element_by, after_element, element_step, elements_by, array_by, computed_by, key_by, private_by, parameter_by, parameter_step, parameters_by, function_by, setter_parameter, star, method_prop_by, getter_by, setter_by, prop_rest, prop_by, prop_step, object_by, quasi_end, quasi_step, template_by, arrow_by, params_of, group_end, group_by, ident_end, arguments_by, async_group, function_expr_name, function_expr_by, async_by, class_expr_by, new_end, callee_by, new_by, super_end, import_by, unary_by, update_by, await_by, yield_end, yield_by, word_by, keyword_by, prefix_by, member_name, member_by, index_by, call_by, chain_by, cond_by, assign_by, binary_by, step_by, loop_step, loop_by, private_in, expr_from, expr_by}
 use Rattle.ecma_reading.specs.Statements.{initial_pat, after_item, array_item, array_pat_by, keyed_item, named_item, pattern_prop, object_item, object_pat_by, pat_by, block_step, block_rest, block_by, body_item, body_step, body_by, declarator_by, declarator_step, declarators_by, variables_by, using_by, function_decl_by, class_decl_by, field_value, class_key, class_method_by, class_getter, class_setter, accessor_by, field_or_method, generator_member, member_rest, static_by, member_step, members_by, class_tail_by, in_parens, sub_by, with_by, while_by, do_by, else_by, if_step, if_by, return_by, throw_by, label_by, jump_by, debugger_by, case_step, case_rest, case_by, cases_step, switch_by, catch_by, finally_by, try_by, clause_by, for_rest, over_rest, in_rest, of_rest, head_rest, for_variables, for_using, for_expression_rest, for_expression, for_head, for_by, labelled_by, expression_by, keyword_stmt, stmt_by, stmt_from}
@@ -67,13 +67,13 @@ unfoldable pub no_module : List ℕ → Row
 no_module text = record { text = text; got = told (read_text true plain_syntax text); wanted = codes "no" }
 
 -- An expression of a level at the front of a text, in a script's code: its shape, and how many tokens are left.
-abbrev pub front_told : Result (Tree × Stand Input) Fault → List ℕ
+abbrev pub front_told : Result (Tree × State Input) Fault → List ℕ
 front_told (Ok x) = length x.1.source.places ∷ shape x.0
 front_told (Err Unexpected) = codes "no"
 front_told (Err TooDeep) = codes "deep"
 
-abbrev pub read_front : ℕ → List ℕ → Result (Tree × Stand Input) Fault
-read_front level text = (readers list_machine 40).expr (script_code plain_syntax) level (record { source = record { last = 1; places = places_of text }; commas = [] })
+abbrev pub read_front : ℕ → List ℕ → Result (Tree × State Input) Fault
+read_front level text = (readers list_stream 40).expr (script_code plain_syntax) level (record { source = record { last = 1; places = places_of text }; commas = [] })
 
 unfoldable pub front_row : ℕ → List ℕ → ℕ → List ℕ → Row
 front_row level text left wanted = record { text = text; got = front_told (read_front level text); wanted = left ∷ wanted }

@@ -6,7 +6,7 @@ use Rattle.ecma_token.specs.Kinds.{arrow_kind, hash_kind, dot_kind, dot_dot_dot_
 use Rattle.ecma_token.specs.Operators.{operators}
 use Rattle.ecma_token.specs.Tokens.{Content, Bare, Named, Quoted, Piece, Pattern, Numeral, BigNumeral, Line}
 use Rattle.ecma_token.specs.Words.{kind_of}
-use Rattle.ecma_syntax.specs.Input.{Place, no_context, div_goal}
+use Rattle.ecma_syntax.specs.Input.{PlacedToken, no_context, div_goal}
 
 -- how many characters of a class a text begins with, and the place of a character
 abbrev pub run : (ℕ → Bool) → List ℕ → ℕ
@@ -39,13 +39,13 @@ tail (c ∷ cs) = cs
 
 -- one step: the tokens that it makes, the braces open after it (whether `${` opened each), a line break, the place and the text
 pub record Cut : Type 0 where
-  pub places : List Place
+  pub places : List PlacedToken
   pub braces : List Bool
   pub line : Bool
   pub here : ℕ
   pub text : List ℕ
 
-abbrev pub place : Bool → Bool → ℕ → Content → ℕ → ℕ → Place
+abbrev pub place : Bool → Bool → ℕ → Content → ℕ → ℕ → PlacedToken
 place line esc k content lo hi = record { spot = record { token = record { kind = k; content = content }; line_break = line; lo = lo; hi = hi }; escaped = esc; goal = div_goal; context = no_context }
 
 abbrev pub made : List Bool → Bool → ℕ → Content → ℕ → ℕ → List ℕ → Cut
@@ -100,7 +100,7 @@ abbrev pub up_to_end : List ℕ → ℕ
 up_to_end [] = 0
 up_to_end (c ∷ cs) = let n = up_to_end cs in if (c == 96) || ((c == 36) && (head cs == 123)) then 0 else n + 1
 
-unfoldable pub characters : List Place → List Bool → ℕ → List ℕ → Cut
+unfoldable pub characters : List PlacedToken → List Bool → ℕ → List ℕ → Cut
 characters before braces here text =
     let n = up_to_end text in
     let raw = take n text in
@@ -132,9 +132,9 @@ cut braces line here text =
     else punctuator braces line here text))))))))))
 
 -- the tokens of a text; the number bounds the steps
-unfoldable pub tokens : ℕ → Cut → List Place
+unfoldable pub tokens : ℕ → Cut → List PlacedToken
 tokens zero x = []
 tokens (suc n) x = if length x.text == 0 then [] else (let y = cut x.braces x.line x.here x.text in y.places ++ tokens n y)
 
-unfoldable pub places_of : List ℕ → List Place
+unfoldable pub places_of : List ℕ → List PlacedToken
 places_of text = tokens (length text) (record { places = []; braces = []; line = false; here = 1; text = text })

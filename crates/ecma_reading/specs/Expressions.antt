@@ -8,7 +8,7 @@ use Rattle.ecma_tree.specs.Places.{place_of}
 use Rattle.ecma_syntax.specs.Input.{Code, kind, kind2, brk, brk2, lo, hi, dots_at, text, content, span, first_span, is_word, has_in, with_in, by, in_body, in_arrow, turned_strict, in_list}
 use Rattle.ecma_syntax.specs.Operators.{expression_level, assignment_level, coalesce_level, unary_level, new_level, call_level, member_level, binary_level, right_level, is_assign_op, operates, goes_expr, between, starts_key, other_end}
 use Rattle.ecma_syntax.specs.Shape.{level, ends, fits_left, is_chain, is_cooked, is_spread}
-use Rattle.ecma_reading.specs.Source.{Fault, unexpected, ◌>>=◌, Machine, Stand, Read, input, past, operand, bound, spanned, at, eat, eat_word, is_name, name, any_word, Step, go_on, finished, iterate, Inner}
+use Rattle.ecma_reading.specs.Source.{Fault, unexpected, ◌>>=◌, Stream, State, Read, input, past, operand, bound, spanned, at, eat, eat_word, is_name, name, any_word, Step, go_on, finished, iterate, Inner}
 use Rattle.ecma_reading.specs.Cover.{to_items, last_rests, to_target}
 
 -- is a prefix operator (13.5)
@@ -69,10 +69,10 @@ pub record Spans : Type 0 where
   pub exprs : List Tree
   pub quasis : List Tree
 
-module _ {S : Type 0} (m : Machine S) (inner : Inner S) where
+module _ {S : Type 0} (m : Stream S) (inner : Inner S) where
   -- ---- literals and lists
 
-  abbrev pub first : Stand S → Span
+  abbrev pub first : State S → Span
   first s = first_span (input m s)
 
   unfoldable pub literal_by : Read S Tree
@@ -101,7 +101,7 @@ module _ {S : Type 0} (m : Machine S) (inner : Inner S) where
   elements_by c holes close s = iterate (bound m) (element_step c holes close) no_elements s
 
   -- the start of a literal in which a comma follows a last spread
-  abbrev pub noted : Bool → ℕ → Stand S → Stand S
+  abbrev pub noted : Bool → ℕ → State S → State S
   noted b n s = record { source = s.source; commas = if b then n ∷ s.commas else s.commas }
 
   -- after `[`
@@ -160,11 +160,11 @@ module _ {S : Type 0} (m : Machine S) (inner : Inner S) where
   pattern_of t = t
 
   -- one of `get` and `set` before a key
-  abbrev pub is_accessor : ℕ → Stand S → Bool
+  abbrev pub is_accessor : ℕ → State S → Bool
   is_accessor k s = at m k s && (starts_key (kind2 (input m s)) && not (kind2 (input m s) == hash_kind))
 
   -- `async` before a key or a star on its line
-  abbrev pub is_async_head : Stand S → Bool
+  abbrev pub is_async_head : State S → Bool
   is_async_head s = at m async_kind s && ((starts_key (kind2 (input m s)) || (kind2 (input m s) == mul_kind)) && not (brk2 (input m s)))
 
   unfoldable pub star : Read S Bool
@@ -182,7 +182,7 @@ module _ {S : Type 0} (m : Machine S) (inner : Inner S) where
       Ok (setter_prop (spanned m s b.1) k.0 (pattern_of p.0) b.0, b.1)
 
   -- after a key: a value, a method; or, where the key is a name, the name itself, with an initialiser in a cover
-  unfoldable pub prop_rest : Code → Stand S → Tree → Read S Tree
+  unfoldable pub prop_rest : Code → State S → Tree → Read S Tree
   prop_rest c s k r =
       if at m colon_kind r then (inner.expr (with_in c) assignment_level (past m r) >>= λ v. Ok (key_value_prop (spanned m s v.1) k v.0, v.1))
       else (if at m left_paren_kind r then (function_by c (lo (input m s)) false false r >>= λ f. Ok (method_prop (spanned m s f.1) k f.0, f.1))
@@ -230,14 +230,14 @@ module _ {S : Type 0} (m : Machine S) (inner : Inner S) where
   -- ---- arrows and parentheses
 
   -- `=>` on the line of what stands before it
-  abbrev pub arrows : Stand S → Bool
+  abbrev pub arrows : State S → Bool
   arrows s = at m arrow_kind s && not (brk (input m s))
 
   -- An arrow goes on with a name: where an assignment may stand.
-  abbrev pub arrows_at : ℕ → Stand S → Bool
+  abbrev pub arrows_at : ℕ → State S → Bool
   arrows_at l s = arrows s && nat_le l assignment_level
 
-  unfoldable pub arrow_by : Code → Stand S → Bool → List Tree → Read S Tree
+  unfoldable pub arrow_by : Code → State S → Bool → List Tree → Read S Tree
   arrow_by c start async ps s =
       if at m left_brace_kind (past m s) then (inner.body (in_list (with_in (in_arrow async c))) (past m s) >>= λ b. Ok (arrow_expr (spanned m start b.1) (pack ps) b.0 async, b.1))
       else (inner.expr (in_arrow async c) assignment_level (past m s) >>= λ b. Ok (arrow_expr (spanned m start b.1) (pack ps) b.0 async, b.1))
@@ -247,11 +247,11 @@ module _ {S : Type 0} (m : Machine S) (inner : Inner S) where
   params_of commas xs = if xs.comma && last_rests xs.items then unexpected else (to_items false true commas (pack xs.items) >>= λ ps. Ok (unpack ps))
 
   -- An arrow goes on with a group: where an assignment may stand, and its elements are parameters.
-  abbrev pub heads_params : ℕ → Elements → Stand S → Bool
+  abbrev pub heads_params : ℕ → Elements → State S → Bool
   heads_params l xs s = arrows_at l s && is_read (params_of s.commas xs)
 
   -- after the `)` of a group: an arrow, or an expression in parentheses
-  unfoldable pub group_end : Code → ℕ → Stand S → Stand S → Elements → Read S Tree
+  unfoldable pub group_end : Code → ℕ → State S → State S → Elements → Read S Tree
   group_end c l start open_ xs s =
       if heads_params l xs s then (params_of s.commas xs >>= λ ps. arrow_by c start false ps s)
       else (if xs.comma then unexpected else elim (plain_elements xs.items) [
@@ -264,7 +264,7 @@ module _ {S : Type 0} (m : Machine S) (inner : Inner S) where
   group_by c l s = elements_by (with_in c) false right_paren_kind (past m s) >>= λ xs. group_end c l s (past m s) xs.0 xs.1
 
   -- a name, which may be the one parameter of an arrow
-  unfoldable pub ident_end : Code → ℕ → Stand S → List ℕ → Read S Tree
+  unfoldable pub ident_end : Code → ℕ → State S → List ℕ → Read S Tree
   ident_end c l start n s = if arrows_at l s then arrow_by c start false (binding_ident (first start) (ident (first start) n) ∷ []) s else Ok (ident (first start) n, s)
 
   -- arguments, after their parenthesis
@@ -272,22 +272,22 @@ module _ {S : Type 0} (m : Machine S) (inner : Inner S) where
   arguments_by c s = elements_by c false right_paren_kind s >>= λ xs. Ok (xs.0.items, xs.1)
 
   -- `async` and a parenthesis: a call, or an arrow's parameters
-  unfoldable pub async_group : Code → ℕ → Stand S → Read S Tree
+  unfoldable pub async_group : Code → ℕ → State S → Read S Tree
   async_group c l start s = elements_by (with_in c) false right_paren_kind (past m s) >>= λ xs.
       if heads_params l xs.0 xs.1 && not (brk (input m s)) then (params_of xs.1.commas xs.0 >>= λ ps. arrow_by c start true ps xs.1)
       else Ok (call_expr (spanned m start xs.1) (ident (first start) (text (input m start))) (pack xs.0.items), xs.1)
 
   -- what follows `function`, from the keyword on
-  unfoldable pub function_expr_name : Code → Stand S → Bool → Bool → Read S Tree
+  unfoldable pub function_expr_name : Code → State S → Bool → Bool → Read S Tree
   function_expr_name c start generator async s =
       if at m left_paren_kind s then (function_by c (lo (input m start)) generator async s >>= λ f. Ok (fn_expr (spanned m start f.1) absent f.0, f.1))
       else (name m (by generator async c) s >>= λ n. function_by c (lo (input m start)) generator async n.1 >>= λ f. Ok (fn_expr (spanned m start f.1) (ident (first s) n.0) f.0, f.1))
 
-  unfoldable pub function_expr_by : Code → Stand S → Bool → Read S Tree
+  unfoldable pub function_expr_by : Code → State S → Bool → Read S Tree
   function_expr_by c start async s = eat_word m c function_kind s >>= λ r. star r >>= λ g. function_expr_name c start g.0 async g.1
 
   -- a name that is the one parameter of an arrow behind `async`, all on one line
-  abbrev pub is_async_param : Code → ℕ → Stand S → Bool
+  abbrev pub is_async_param : Code → ℕ → State S → Bool
   is_async_param c l s = is_name m c s && ((not (brk (input m s)) && (kind2 (input m s) == arrow_kind) && not (brk2 (input m s))) && nat_le l assignment_level)
 
   -- the word `async`: of a function, of an arrow, or a name
@@ -307,7 +307,7 @@ module _ {S : Type 0} (m : Machine S) (inner : Inner S) where
 
   -- ---- prefixes
 
-  unfoldable pub new_end : Code → Stand S → Tree → Read S Tree
+  unfoldable pub new_end : Code → State S → Tree → Read S Tree
   new_end c start f s =
       if at m left_paren_kind s && nat_le member_level (level f) then (arguments_by c (past m s) >>= λ xs. Ok (new_expr (spanned m start xs.1) f (list (pack xs.0)), xs.1))
       else (if (nat_le member_level (level f) || (level f == new_level)) && nat_lt (goes_expr c other_end (input m s)) call_level then Ok (new_expr (spanned m start s) f absent, s) else unexpected)
@@ -324,7 +324,7 @@ module _ {S : Type 0} (m : Machine S) (inner : Inner S) where
       if at m dot_kind r then (eat_word m c target_kind (past m r) >>= λ t. Ok (meta_prop_expr (spanned m s t) new_kind, t))
       else (callee_by c r >>= λ f. new_end c s f.0 f.1)
 
-  unfoldable pub super_end : Code → Stand S → Read S Tree
+  unfoldable pub super_end : Code → State S → Read S Tree
   super_end c start s =
       if at m left_paren_kind s then (arguments_by c (past m s) >>= λ xs. Ok (call_expr (spanned m start xs.1) (super (first start)) (pack xs.0), xs.1))
       else (if at m left_bracket_kind s then (computed_by c expression_level s >>= λ k. Ok (super_prop_expr (spanned m start k.1) (super (first start)) k.0, k.1))
@@ -358,7 +358,7 @@ module _ {S : Type 0} (m : Machine S) (inner : Inner S) where
   abbrev pub ends_yield : ℕ → Bool
   ends_yield k = (k == 0) || ((k == right_paren_kind) || ((k == right_bracket_kind) || ((k == right_brace_kind) || ((k == comma_kind) || ((k == semicolon_kind) || ((k == colon_kind) || (k == in_kind)))))))
 
-  unfoldable pub yield_end : Code → Stand S → Read S Tree
+  unfoldable pub yield_end : Code → State S → Read S Tree
   yield_end c s r =
       if brk (input m r) || ends_yield (kind (input m r)) then Ok (yield_expr (spanned m s r) absent false, r)
       else (if at m mul_kind r then (inner.expr c assignment_level (past m r) >>= λ e. Ok (yield_expr (spanned m s e.1) e.0 true, e.1))
@@ -411,38 +411,38 @@ module _ {S : Type 0} (m : Machine S) (inner : Inner S) where
   abbrev pub on_chain : Bool → Span → Tree → Tree
   on_chain chain s t = if chain then opt_chain_expr s false t else t
 
-  unfoldable pub member_by : Code → Stand S → Tree → Read S Tree
+  unfoldable pub member_by : Code → State S → Tree → Read S Tree
   member_by c start t s = member_name true (past m s) >>= λ k. Ok (on_chain (is_chain t) (spanned m start k.1) (member_expr (spanned m start k.1) t k.0), k.1)
 
-  unfoldable pub index_by : Code → Stand S → Tree → Read S Tree
+  unfoldable pub index_by : Code → State S → Tree → Read S Tree
   index_by c start t s = computed_by c expression_level s >>= λ k. Ok (on_chain (is_chain t) (spanned m start k.1) (member_expr (spanned m start k.1) t k.0), k.1)
 
   abbrev pub call_tree : Span → Tree → List Tree → Tree
   call_tree s t xs = if is_chain t then opt_chain_expr s false (opt_call s t (pack xs)) else call_expr s t (pack xs)
 
-  unfoldable pub call_by : Code → Stand S → Tree → Read S Tree
+  unfoldable pub call_by : Code → State S → Tree → Read S Tree
   call_by c start t s = arguments_by c (past m s) >>= λ xs. Ok (call_tree (spanned m start xs.1) t xs.0, xs.1)
 
   -- after `?` and `.`
-  unfoldable pub chain_by : Code → Stand S → Tree → Read S Tree
+  unfoldable pub chain_by : Code → State S → Tree → Read S Tree
   chain_by c start t s =
       if at m left_paren_kind s then (arguments_by c (past m s) >>= λ xs. Ok (opt_chain_expr (spanned m start xs.1) true (opt_call (spanned m start xs.1) t (pack xs.0)), xs.1))
       else (if at m left_bracket_kind s then (computed_by c expression_level s >>= λ k. Ok (opt_chain_expr (spanned m start k.1) true (member_expr (spanned m start k.1) t k.0), k.1))
       else (member_name true s >>= λ k. Ok (opt_chain_expr (spanned m start k.1) true (member_expr (spanned m start k.1) t k.0), k.1)))
 
-  unfoldable pub cond_by : Code → Stand S → Tree → Read S Tree
+  unfoldable pub cond_by : Code → State S → Tree → Read S Tree
   cond_by c start t s =
       inner.expr (with_in c) assignment_level (past m s) >>= λ a. eat m colon_kind a.1 >>= λ r. inner.expr c assignment_level r >>= λ b.
       Ok (cond_expr (spanned m start b.1) t a.0 b.0, b.1)
 
-  unfoldable pub assign_by : Code → Stand S → Tree → Read S Tree
+  unfoldable pub assign_by : Code → State S → Tree → Read S Tree
   assign_by c start t s = to_target (kind (input m s)) s.commas t >>= λ p. inner.expr c assignment_level (past m s) >>= λ e. Ok (assign_expr (spanned m start e.1) (kind (input m s)) p e.0, e.1)
 
-  unfoldable pub binary_by : Code → Stand S → Tree → Read S Tree
+  unfoldable pub binary_by : Code → State S → Tree → Read S Tree
   binary_by c start t s = eat_word m c (kind (input m s)) s >>= λ r. inner.expr c (right_level (kind (input m s))) r >>= λ e. Ok (bin_expr (spanned m start e.1) (kind (input m s)) t e.0, e.1)
 
   -- one operator after what was read
-  unfoldable pub step_by : Code → Stand S → Tree → Read S Tree
+  unfoldable pub step_by : Code → State S → Tree → Read S Tree
   step_by c start t s =
       if at m comma_kind s then (inner.expr c assignment_level (past m s) >>= λ e. Ok (extended t e.0 (spanned m start e.1), e.1))
       else (if is_assign_op (kind (input m s)) then assign_by c start t s
@@ -457,13 +457,13 @@ module _ {S : Type 0} (m : Machine S) (inner : Inner S) where
       else (if at m back_quote_kind s && not (is_chain t) then (template_by c true s >>= λ q. Ok (tagged_tpl (spanned m start q.1) t q.0, q.1))
       else unexpected))))))))))
 
-  unfoldable pub loop_step : Code → ℕ → Stand S → Tree → Read S (Step Tree)
+  unfoldable pub loop_step : Code → ℕ → State S → Tree → Read S (Step Tree)
   loop_step c l start t s =
       if nat_lt (goes_expr c (ends t) (input m s)) l then Ok (finished t, s)
       else (step_by c start t s >>= λ x. Ok (go_on x.0, x.1))
 
   -- a level asked for, or a bare `new` as the callee of another
-  unfoldable pub loop_by : Code → ℕ → Stand S → Tree → Read S Tree
+  unfoldable pub loop_by : Code → ℕ → State S → Tree → Read S Tree
   loop_by c l start t s =
       if nat_le l (level t) then iterate (bound m) (loop_step c l start) t s
       else (if (level t == new_level) && (l == member_level) then Ok (t, s) else unexpected)

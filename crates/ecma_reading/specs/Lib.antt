@@ -1,4 +1,4 @@
--- A reading function on tokens, in the shape in which a parser's code is written: a rule a definition, over a source of tokens as a machine and
+-- A reading function on tokens, in the shape in which a parser's code is written: a rule a definition, over a stream of tokens and
 -- over the readers of nested parts, which are tied once by depth.
 pub mod Source
 pub mod Cover

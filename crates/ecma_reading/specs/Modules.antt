@@ -7,7 +7,7 @@ use Rattle.ecma_tree.specs.Tree.{Tree, Trees, none, more, pack, script, es_modul
 use Rattle.ecma_syntax.specs.Input.{Code, kind, kind2, brk, content, is_word, in_list, turned_strict}
 use Rattle.ecma_syntax.specs.Operators.{assignment_level, exports_end, source_end, plain_end}
 use Rattle.ecma_syntax.specs.Shape.{ends, is_use_strict, is_directive, is_attributes, is_exportable}
-use Rattle.ecma_reading.specs.Source.{unexpected, ◌>>=◌, Machine, Stand, Read, input, past, operand, turned, bound, spanned, at, ended, eat, eat_word, name, any_word, end_of, Step, go_on, finished, iterate, Inner}
+use Rattle.ecma_reading.specs.Source.{unexpected, ◌>>=◌, Stream, State, Read, input, past, operand, retold, bound, spanned, at, ended, eat, eat_word, name, any_word, end_of, Step, go_on, finished, iterate, Inner}
 use Rattle.ecma_reading.specs.Expressions.{first, literal_by, object_by, function_expr_by, class_expr_by}
 use Rattle.ecma_reading.specs.Statements.{Body, starts_async, starts_variables}
 
@@ -16,7 +16,7 @@ pub record From : Type 0 where
   pub src : Tree
   pub with_ : Tree
 
-module _ {S : Type 0} (m : Machine S) (inner : Inner S) where
+module _ {S : Type 0} (m : Stream S) (inner : Inner S) where
   unfoldable pub string_by : Read S Tree
   string_by s = if at m str_kind s then literal_by m inner s else unexpected
 
@@ -61,16 +61,16 @@ module _ {S : Type 0} (m : Machine S) (inner : Inner S) where
   unfoldable pub star_import : Code → Read S Tree
   star_import c s = eat m mul_kind s >>= λ r. eat_word m c as_kind r >>= λ a. local_by c a >>= λ l. Ok (import_star_as_specifier (spanned m s l.1) l.0, l.1)
 
-  unfoldable pub import_end : Code → Stand S → List Tree → Read S Tree
+  unfoldable pub import_end : Code → State S → List Tree → Read S Tree
   import_end c start xs s = eat_word m c from_kind s >>= λ r. source_by c r >>= λ f. Ok (import_decl (spanned m start f.1) (pack xs) f.0.src f.0.with_, f.1)
 
   -- a star or a list, after what stands before them
-  unfoldable pub import_rest : Code → Stand S → List Tree → Read S Tree
+  unfoldable pub import_rest : Code → State S → List Tree → Read S Tree
   import_rest c start xs s =
       if at m mul_kind s then (star_import c s >>= λ x. import_end c start (xs ++ x.0 ∷ []) x.1)
       else (eat m left_brace_kind s >>= λ r. specifiers_by true c r >>= λ ys. import_end c start (xs ++ ys.0) ys.1)
 
-  unfoldable pub import_default : Code → Stand S → Read S Tree
+  unfoldable pub import_default : Code → State S → Read S Tree
   import_default c start s = local_by c s >>= λ l.
       if at m comma_kind l.1 then import_rest c start (import_default_specifier (first m inner s) l.0 ∷ []) (past m l.1)
       else import_end c start (import_default_specifier (first m inner s) l.0 ∷ []) l.1
@@ -82,25 +82,25 @@ module _ {S : Type 0} (m : Machine S) (inner : Inner S) where
 
   -- ---- exports
 
-  unfoldable pub export_default : Code → Stand S → Read S Tree
+  unfoldable pub export_default : Code → State S → Read S Tree
   export_default c start s =
       if at m function_kind s then (function_expr_by m inner c s false s >>= λ d. Ok (export_default_decl (spanned m start d.1) d.0, d.1))
       else (if starts_async m inner s then (function_expr_by m inner c s true (past m s) >>= λ d. Ok (export_default_decl (spanned m start d.1) d.0, d.1))
       else (if at m class_kind s then (class_expr_by m inner c s >>= λ d. Ok (export_default_decl (spanned m start d.1) d.0, d.1))
       else (inner.expr c assignment_level s >>= λ e. end_of m c (ends e.0) e.1 >>= λ r. Ok (export_default_expr (spanned m start r) e.0, r))))
 
-  unfoldable pub export_star : Code → Stand S → Read S Tree
+  unfoldable pub export_star : Code → State S → Read S Tree
   export_star c start s = eat m mul_kind s >>= λ r.
       if at m as_kind r then (eat_word m c as_kind r >>= λ a. export_name_by a >>= λ n. eat_word m c from_kind n.1 >>= λ f. source_by c f >>= λ x.
       Ok (named_export (spanned m start x.1) (more (export_namespace_specifier (spanned m s n.1) n.0) none) x.0.src x.0.with_, x.1))
       else (eat_word m c from_kind r >>= λ f. source_by c f >>= λ x. Ok (export_all (spanned m start x.1) x.0.src x.0.with_, x.1))
 
-  unfoldable pub export_list : Code → Stand S → Read S Tree
+  unfoldable pub export_list : Code → State S → Read S Tree
   export_list c start s = eat m left_brace_kind s >>= λ r. specifiers_by false c r >>= λ xs.
       if at m from_kind xs.1 then (eat_word m c from_kind xs.1 >>= λ f. source_by c f >>= λ x. Ok (named_export (spanned m start x.1) (pack xs.0) x.0.src x.0.with_, x.1))
       else (end_of m c exports_end xs.1 >>= λ e. Ok (named_export (spanned m start e) (pack xs.0) absent absent, e))
 
-  abbrev pub starts_declaration : Code → Stand S → Bool
+  abbrev pub starts_declaration : Code → State S → Bool
   starts_declaration c s = at m function_kind s || (at m class_kind s || (starts_async m inner s || starts_variables m inner c s))
 
   unfoldable pub export_by : Code → Read S Tree
@@ -114,7 +114,7 @@ module _ {S : Type 0} (m : Machine S) (inner : Inner S) where
   -- ---- programs
 
   -- `import` starts a declaration, but no call and no `import.meta`
-  abbrev pub starts_import : Stand S → Bool
+  abbrev pub starts_import : State S → Bool
   starts_import s = at m import_kind s && not ((kind2 (input m s) == left_paren_kind) || (kind2 (input m s) == dot_kind))
 
   unfoldable pub item_by : Bool → Code → Read S Tree
@@ -125,7 +125,7 @@ module _ {S : Type 0} (m : Machine S) (inner : Inner S) where
 
   unfoldable pub program_item : Bool → Body → Read S (Step Body)
   program_item modules b s = item_by modules (in_list b.code) s >>= λ t.
-      if b.starts && is_use_strict t.0 then Ok (go_on (record { items = b.items ++ t.0 ∷ []; code = turned_strict b.code; starts = true }), turned m (turned_strict b.code).context t.1)
+      if b.starts && is_use_strict t.0 then Ok (go_on (record { items = b.items ++ t.0 ∷ []; code = turned_strict b.code; starts = true }), retold m (turned_strict b.code).context t.1)
       else Ok (go_on (record { items = b.items ++ t.0 ∷ []; code = b.code; starts = b.starts && is_directive t.0 }), t.1)
 
   unfoldable pub program_step : Bool → Body → Read S (Step Body)
@@ -138,7 +138,7 @@ module _ {S : Type 0} (m : Machine S) (inner : Inner S) where
   abbrev pub program_tree : Bool → Span → Trees → Option (List ℕ) → Tree
   program_tree modules p ss l = if modules then es_module p ss l else script p ss l
 
-  unfoldable pub program_rest : Bool → Code → Stand S → Option (List ℕ) → Read S Tree
+  unfoldable pub program_rest : Bool → Code → State S → Option (List ℕ) → Read S Tree
   program_rest modules c start l s = iterate (bound m) (program_step modules) (record { items = []; code = c; starts = true }) s >>= λ b.
       Ok (program_tree modules (spanned m start b.1) (pack b.0.items) l, b.1)
 

@@ -4,28 +4,28 @@ use Rattle.ecma_token.specs.declared.error.Error.{Error}
 use Rattle.ecma_token.specs.declared.syntax.EsSyntax.{EsSyntax}
 use Rattle.ecma_tree.specs.Tree.{Tree}
 use Rattle.ecma_early.specs.Early.{early_errors}
-use Rattle.ecma_syntax.specs.Input.{Place, script_code, module_code}
-use Rattle.ecma_reading.specs.Source.{Fault, TooDeep, unexpected, ◌>>=◌, Machine, Stand, Inner, list_machine}
+use Rattle.ecma_syntax.specs.Input.{PlacedToken, script_code, module_code}
+use Rattle.ecma_reading.specs.Source.{Fault, TooDeep, unexpected, ◌>>=◌, Stream, State, Inner, list_stream}
 use Rattle.ecma_syntax.specs.Shape.{is_clean}
 use Rattle.ecma_reading.specs.Expressions.{expr_by}
 use Rattle.ecma_reading.specs.Statements.{pat_by, stmt_from, body_by, class_tail_by}
 use Rattle.ecma_reading.specs.Modules.{program_by}
 
-unfoldable pub readers : {S : Type 0} → Machine S → ℕ → Inner S
+unfoldable pub readers : {S : Type 0} → Stream S → ℕ → Inner S
 readers m zero = record { expr = λ c l s. Err TooDeep; pat = λ c s. Err TooDeep; stmt = λ c s. Err TooDeep; body = λ c s. Err TooDeep; class_tail = λ c w s. Err TooDeep }
 readers m (suc depth) = record { expr = expr_by m (readers m depth); pat = pat_by m (readers m depth); stmt = stmt_from m (readers m depth); body = body_by m (readers m depth); class_tail = class_tail_by m (readers m depth) }
 
 -- what a finished tree is, where nothing of a cover is left
-unfoldable pub finish : {S : Type 0} → Tree × Stand S → Result Tree Fault
+unfoldable pub finish : {S : Type 0} → Tree × State S → Result Tree Fault
 finish x = if is_clean x.0 then Ok x.0 else unexpected
 
 -- a script or a module
-unfoldable pub read_program : {S : Type 0} → Machine S → ℕ → Bool → EsSyntax → S → Result Tree Fault
+unfoldable pub read_program : {S : Type 0} → Stream S → ℕ → Bool → EsSyntax → S → Result Tree Fault
 read_program m depth modules syntax s = program_by m (readers m depth) modules (if modules then module_code syntax else script_code syntax) (record { source = s; commas = [] }) >>= finish
 
 -- the same of a list of tokens that starts at a place
-unfoldable pub read_list : ℕ → Bool → EsSyntax → ℕ → List Place → Result Tree Fault
-read_list depth modules syntax start places = read_program list_machine depth modules syntax (record { last = start; places = places })
+unfoldable pub read_list : ℕ → Bool → EsSyntax → ℕ → List PlacedToken → Result Tree Fault
+read_list depth modules syntax start places = read_program list_stream depth modules syntax (record { last = start; places = places })
 
 -- its early errors, where it is read
 unfoldable pub errors_of : EsSyntax → Result Tree Fault → Result (List Error) Fault

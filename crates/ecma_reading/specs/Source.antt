@@ -4,7 +4,7 @@ use Rattle.ecma_token.specs.declared.context.Context.{Context}
 use Rattle.ecma_token.specs.declared.place.Span.{Span}
 use Rattle.ecma_token.specs.Kinds.{semicolon_kind}
 use Rattle.ecma_tree.specs.Tree.{Tree}
-use Rattle.ecma_syntax.specs.Input.{Place, Input, Code, span, kind, lo, text, is_word, no_name, barred, others, hi_of}
+use Rattle.ecma_syntax.specs.Input.{PlacedToken, Input, Code, span, kind, lo, text, is_word, no_name, barred, others, hi_of}
 use Rattle.ecma_syntax.specs.Operators.{pauses}
 
 -- why nothing was read: no tree, or none by calls so deep
@@ -20,14 +20,14 @@ abbrev pub ◌>>=◌ : {A B : Type 0} → Result A Fault → (A → Result B Fau
 abbrev pub unexpected : {A : Type 0} → Result A Fault
 unexpected = Err Unexpected
 
--- A source of tokens: those to come; the source after the first; the same where an operand may start, so that a slash at its front is read
+-- A stream of tokens: those to come; the stream after the first; the same where an operand may start, so that a slash at its front is read
 -- again as a regular expression; the same in another context, so that what was read ahead is read again; how many tokens may come at most;
 -- where the last one consumed ends.
-pub record Machine (S : Type 0) : Type 0 where
-  pub seen : S → List Place
+pub record Stream (S : Type 0) : Type 0 where
+  pub seen : S → List PlacedToken
   pub after : S → S
   pub operand : S → S
-  pub turned : Context → S → S
+  pub retold : Context → S → S
   pub bound : S → ℕ
   pub last : S → ℕ
 
@@ -35,57 +35,57 @@ abbrev pub is_nil : {A : Type 0} → List A → Bool
 is_nil [] = true
 is_nil (x ∷ xs) = false
 
--- the source of a list, whose tokens are as they will be consumed
-abbrev pub list_machine : Machine Input
-list_machine = record { seen = λ ts. ts.places; after = λ ts. record { last = hi_of ts.last ts.places; places = others ts.places }; operand = λ ts. ts; turned = λ x ts. ts; bound = λ ts. length ts.places; last = λ ts. ts.last }
+-- the stream of a list, whose tokens are as they will be consumed
+abbrev pub list_stream : Stream Input
+list_stream = record { seen = λ ts. ts.places; after = λ ts. record { last = hi_of ts.last ts.places; places = others ts.places }; operand = λ ts. ts; retold = λ x ts. ts; bound = λ ts. length ts.places; last = λ ts. ts.last }
 
--- Where a reading stands: the source, and the starts of arrays and objects in which a comma follows a last spread, since none is a pattern.
-pub record Stand (S : Type 0) : Type 0 where
+-- The state of a reading: the source, and the starts of arrays and objects in which a comma follows a last spread, since none is a pattern.
+pub record State (S : Type 0) : Type 0 where
   pub source : S
   pub commas : List ℕ
 
 abbrev pub Read : Type 0 → Type 0 → Type 0
-Read S A = Stand S → Result (A × Stand S) Fault
+Read S A = State S → Result (A × State S) Fault
 
 -- ---- the tokens at hand
 
-module _ {S : Type 0} (m : Machine S) where
-  abbrev pub input : Stand S → Input
+module _ {S : Type 0} (m : Stream S) where
+  abbrev pub input : State S → Input
   input s = record { last = m.last s.source; places = m.seen s.source }
 
-  abbrev pub past : Stand S → Stand S
+  abbrev pub past : State S → State S
   past s = record { source = m.after s.source; commas = s.commas }
 
-  abbrev pub operand : Stand S → Stand S
+  abbrev pub operand : State S → State S
   operand s = record { source = m.operand s.source; commas = s.commas }
 
-  abbrev pub turned : Context → Stand S → Stand S
-  turned x s = record { source = m.turned x s.source; commas = s.commas }
+  abbrev pub retold : Context → State S → State S
+  retold x s = record { source = m.retold x s.source; commas = s.commas }
 
-  abbrev pub bound : Stand S → ℕ
+  abbrev pub bound : State S → ℕ
   bound s = m.bound s.source
 
   -- from the start of the token at hand in one state to the end of what was consumed before another
-  abbrev pub spanned : Stand S → Stand S → Span
+  abbrev pub spanned : State S → State S → Span
   spanned s r = span (lo (input s)) (m.last r.source)
 
-  abbrev pub at : ℕ → Stand S → Bool
+  abbrev pub at : ℕ → State S → Bool
   at k s = kind (input s) == k
 
   -- whether no token is to come
-  abbrev pub ended : Stand S → Bool
+  abbrev pub ended : State S → Bool
   ended s = is_nil (m.seen s.source)
 
   -- a token of a kind
-  unfoldable pub eat : ℕ → Stand S → Result (Stand S) Fault
+  unfoldable pub eat : ℕ → State S → Result (State S) Fault
   eat k s = if at k s then Ok (past s) else unexpected
 
   -- a word as a word of the grammar
-  unfoldable pub eat_word : Code → ℕ → Stand S → Result (Stand S) Fault
+  unfoldable pub eat_word : Code → ℕ → State S → Result (State S) Fault
   eat_word c k s = if at k s && not (barred c.context (input s)) then Ok (past s) else unexpected
 
   -- a word that is a name here
-  abbrev pub is_name : Code → Stand S → Bool
+  abbrev pub is_name : Code → State S → Bool
   is_name c s = is_word (kind (input s)) && (not (no_name c.context (kind (input s))) && not (barred c.context (input s)))
 
   unfoldable pub name : Code → Read S (List ℕ)
@@ -95,7 +95,7 @@ module _ {S : Type 0} (m : Machine S) where
   any_word s = if is_word (kind (input s)) then Ok (text (input s), past s) else unexpected
 
   -- what ends a statement or a field, whose last part is of a class
-  unfoldable pub end_of : Code → ℕ → Stand S → Result (Stand S) Fault
+  unfoldable pub end_of : Code → ℕ → State S → Result (State S) Fault
   end_of c e s = if at semicolon_kind s then Ok (past s) else (if pauses c e (input s) then Ok s else unexpected)
 
 -- ---- going on until a step says that it is done
@@ -104,15 +104,15 @@ pub data Step (A : Type 0) : Type 0 where
   go_on : A → Step A
   finished : A → Step A
 
-abbrev pub next_by : {S A : Type 0} → (Stand S → ℕ) → (A → Read S A) → ℕ → Step A × Stand S → Result (A × Stand S) Fault
+abbrev pub next_by : {S A : Type 0} → (State S → ℕ) → (A → Read S A) → ℕ → Step A × State S → Result (A × State S) Fault
 next_by bound again below (go_on x, r) = if nat_lt (bound r) below then again x r else unexpected
 next_by bound again below (finished x, r) = Ok (x, r)
 
-unfoldable pub iterate_n : {S A : Type 0} → (Stand S → ℕ) → ℕ → (A → Read S (Step A)) → A → Read S A
+unfoldable pub iterate_n : {S A : Type 0} → (State S → ℕ) → ℕ → (A → Read S (Step A)) → A → Read S A
 iterate_n bound zero step x s = unexpected
 iterate_n bound (suc n) step x s = step x s >>= next_by bound (iterate_n bound n step) (bound s)
 
-unfoldable pub iterate : {S A : Type 0} → (Stand S → ℕ) → (A → Read S (Step A)) → A → Read S A
+unfoldable pub iterate : {S A : Type 0} → (State S → ℕ) → (A → Read S (Step A)) → A → Read S A
 iterate bound step x s = iterate_n bound (suc (bound s)) step x s
 
 -- ---- the readers of what is nested, which the rules take

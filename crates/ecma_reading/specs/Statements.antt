@@ -6,7 +6,7 @@ use Rattle.ecma_tree.specs.Tree.{Tree, none, more, pack, plain_method, block_stm
 use Rattle.ecma_syntax.specs.Input.{Code, kind, kind2, brk, brk2, lo, dots_at, span, rest, barred, is_strict, with_in, without_in, in_list, alone, in_body, in_field, in_static, turned_strict}
 use Rattle.ecma_syntax.specs.Operators.{expression_level, assignment_level, new_level, starts_key, may_name, key_end, plain_end, let_end}
 use Rattle.ecma_syntax.specs.Shape.{ends, is_name, is_absent, is_private, is_structured, is_bare_declarator, is_default_case, is_use_strict, is_directive, is_plain_function, constructs, field_end, declarators_end, is_statement}
-use Rattle.ecma_reading.specs.Source.{unexpected, ◌>>=◌, Machine, Stand, Read, input, past, operand, turned, bound, spanned, at, eat, eat_word, name, end_of, Step, go_on, finished, iterate, Inner}
+use Rattle.ecma_reading.specs.Source.{unexpected, ◌>>=◌, Stream, State, Read, input, past, operand, retold, bound, spanned, at, eat, eat_word, name, end_of, Step, go_on, finished, iterate, Inner}
 use Rattle.ecma_reading.specs.Cover.{to_head}
 use Rattle.ecma_reading.specs.Expressions.{first, key_by, private_by, star, function_by, setter_parameter, is_async_head}
 
@@ -32,11 +32,11 @@ abbrev pub chained : ℕ → List Branch → Tree → Tree
 chained hi [] t = t
 chained hi (b ∷ bs) t = if_stmt (span b.start hi) b.test b.consequent (chained hi bs t)
 
-module _ {S : Type 0} (m : Machine S) (inner : Inner S) where
+module _ {S : Type 0} (m : Stream S) (inner : Inner S) where
   -- ---- patterns that bind (14.3.3)
 
   -- an initialiser, where one follows
-  unfoldable pub initial_pat : Code → Stand S → Tree → Read S Tree
+  unfoldable pub initial_pat : Code → State S → Tree → Read S Tree
   initial_pat c start p s =
       if at m assign_kind s then (inner.expr (with_in c) assignment_level (past m s) >>= λ e. Ok (assign_pat (spanned m start e.1) p e.0, e.1)) else Ok (p, s)
 
@@ -55,7 +55,7 @@ module _ {S : Type 0} (m : Machine S) (inner : Inner S) where
   unfoldable pub array_pat_by : Code → Read S Tree
   array_pat_by c s = iterate (bound m) (array_item c) [] (past m s) >>= λ xs. Ok (array_pat (spanned m s xs.1) (pack xs.0), xs.1)
 
-  unfoldable pub keyed_item : Code → Stand S → Tree → Read S Tree
+  unfoldable pub keyed_item : Code → State S → Tree → Read S Tree
   keyed_item c start k s = inner.pat (with_in c) s >>= λ p. initial_pat c s p.0 p.1 >>= λ q. Ok (key_value_pat_prop (spanned m start q.1) k q.0, q.1)
 
   unfoldable pub named_item : Code → Read S Tree
@@ -87,7 +87,7 @@ module _ {S : Type 0} (m : Machine S) (inner : Inner S) where
   block_step c ss s = if at m right_brace_kind s then Ok (finished ss, past m s) else (inner.stmt (in_list c) s >>= λ t. Ok (go_on (ss ++ t.0 ∷ []), t.1))
 
   -- after `{`
-  unfoldable pub block_rest : Code → Stand S → Read S Tree
+  unfoldable pub block_rest : Code → State S → Read S Tree
   block_rest c start s = iterate (bound m) (block_step c) [] s >>= λ ss. Ok (block_stmt (spanned m start ss.1) (pack ss.0), ss.1)
 
   unfoldable pub block_by : Code → Read S Tree
@@ -95,7 +95,7 @@ module _ {S : Type 0} (m : Machine S) (inner : Inner S) where
 
   unfoldable pub body_item : Body → Read S (Step Body)
   body_item b s = inner.stmt (in_list b.code) s >>= λ t.
-      if b.starts && is_use_strict t.0 then Ok (go_on (record { items = b.items ++ t.0 ∷ []; code = turned_strict b.code; starts = true }), turned m (turned_strict b.code).context t.1)
+      if b.starts && is_use_strict t.0 then Ok (go_on (record { items = b.items ++ t.0 ∷ []; code = turned_strict b.code; starts = true }), retold m (turned_strict b.code).context t.1)
       else Ok (go_on (record { items = b.items ++ t.0 ∷ []; code = b.code; starts = b.starts && is_directive t.0 }), t.1)
 
   unfoldable pub body_step : Body → Read S (Step Body)
@@ -103,7 +103,7 @@ module _ {S : Type 0} (m : Machine S) (inner : Inner S) where
 
   unfoldable pub body_by : Code → Read S Tree
   body_by c s = eat m left_brace_kind s >>= λ r. iterate (bound m) body_step (record { items = []; code = c; starts = true }) r >>= λ b.
-      Ok (block_stmt (spanned m s b.1) (pack b.0.items), turned m c.context b.1)
+      Ok (block_stmt (spanned m s b.1) (pack b.0.items), retold m c.context b.1)
 
   -- ---- declarations
 
@@ -119,11 +119,11 @@ module _ {S : Type 0} (m : Machine S) (inner : Inner S) where
   declarators_by c s = iterate (bound m) (declarator_step c) [] s
 
   -- `let` starts a declaration before a name, `[` and `{`
-  abbrev pub starts_let : Stand S → Bool
+  abbrev pub starts_let : State S → Bool
   starts_let s = at m let_kind s && (may_name (kind2 (input m s)) || ((kind2 (input m s) == left_bracket_kind) || (kind2 (input m s) == left_brace_kind)))
 
   -- whether variables are declared here: `let` and `const` where a declaration may stand
-  abbrev pub starts_variables : Code → Stand S → Bool
+  abbrev pub starts_variables : Code → State S → Bool
   starts_variables c s = at m var_kind s || (c.listed && (at m const_kind s || starts_let s))
 
   unfoldable pub variables_by : Code → Read S Tree
@@ -131,17 +131,17 @@ module _ {S : Type 0} (m : Machine S) (inner : Inner S) where
       Ok (var_decl (spanned m s e) (kind (input m s)) (pack ds.0), e)
 
   -- `using` and a name on its line, `await using` and a name on theirs
-  abbrev pub starts_using : Code → Stand S → Bool
+  abbrev pub starts_using : Code → State S → Bool
   starts_using c s = c.syntax.explicit_resource_management && (at m using_kind s && (may_name (kind2 (input m s)) && not (brk2 (input m s))))
 
-  abbrev pub starts_await_using : Code → Stand S → Bool
+  abbrev pub starts_await_using : Code → State S → Bool
   starts_await_using c s = c.context.in_async && (at m await_kind s && (not (barred c.context (input m s)) && (not (brk2 (input m s)) && starts_using c (past m s))))
 
-  unfoldable pub using_by : Code → Stand S → Bool → Read S Tree
+  unfoldable pub using_by : Code → State S → Bool → Read S Tree
   using_by c start awaits s = eat_word m c using_kind s >>= λ r. declarators_by c r >>= λ ds. end_of m c (declarators_end (pack ds.0)) ds.1 >>= λ e.
       Ok (using_decl (spanned m start e) awaits (pack ds.0), e)
 
-  unfoldable pub function_decl_by : Code → Stand S → Bool → Read S Tree
+  unfoldable pub function_decl_by : Code → State S → Bool → Read S Tree
   function_decl_by c start async s = eat_word m c function_kind s >>= λ r. star m inner r >>= λ g. name m c g.1 >>= λ n. function_by m inner c (lo (input m start)) g.0 async n.1 >>= λ f.
       Ok (fn_decl (spanned m start f.1) (ident (first m inner g.1) n.0) f.0, f.1)
 
@@ -167,33 +167,33 @@ module _ {S : Type 0} (m : Machine S) (inner : Inner S) where
   constructor_of s k (function t ps ds b g a) = constructor s k ps b
   constructor_of s k f = f
 
-  unfoldable pub class_method_by : Code → Stand S → Bool → Bool → Bool → Tree → Read S Tree
+  unfoldable pub class_method_by : Code → State S → Bool → Bool → Bool → Tree → Read S Tree
   class_method_by c start is_static generator async k s = function_by m inner c (lo (input m start)) generator async s >>= λ f.
       if constructs k && (not is_static && (not generator && not async)) then Ok (constructor_of (spanned m start f.1) k f.0, f.1)
       else Ok (method_tree (spanned m start f.1) k f.0 plain_method is_static, f.1)
 
-  unfoldable pub class_getter : Code → Stand S → Bool → Read S Tree
+  unfoldable pub class_getter : Code → State S → Bool → Read S Tree
   class_getter c start is_static s = class_key c (past m s) >>= λ k. eat m left_paren_kind k.1 >>= λ o. eat m right_paren_kind o >>= λ p. inner.body (in_body false false c) p >>= λ b.
       Ok (method_tree (spanned m start b.1) k.0 (function (spanned m start b.1) none none b.0 false false) get_kind is_static, b.1)
 
-  unfoldable pub class_setter : Code → Stand S → Bool → Read S Tree
+  unfoldable pub class_setter : Code → State S → Bool → Read S Tree
   class_setter c start is_static s = class_key c (past m s) >>= λ k. setter_parameter m inner (in_body false false c) k.1 >>= λ p. inner.body (in_body false false c) p.1 >>= λ b.
       Ok (method_tree (spanned m start b.1) k.0 (function (spanned m start b.1) (more p.0 none) none b.0 false false) set_kind is_static, b.1)
 
-  unfoldable pub accessor_by : Code → Stand S → Bool → Read S Tree
+  unfoldable pub accessor_by : Code → State S → Bool → Read S Tree
   accessor_by c start is_static s = class_key c (past m s) >>= λ k. field_value c key_end k.1 >>= λ v. Ok (auto_accessor (spanned m start v.1) k.0 v.0 is_static none, v.1)
 
-  unfoldable pub field_or_method : Code → Stand S → Bool → Read S Tree
+  unfoldable pub field_or_method : Code → State S → Bool → Read S Tree
   field_or_method c start is_static s = class_key c s >>= λ k.
       if at m left_paren_kind k.1 then class_method_by c start is_static false false k.0 k.1
       else (field_value c (field_end is_static (kind (input m s))) k.1 >>= λ v.
       if is_private k.0 then Ok (private_prop (spanned m start v.1) k.0 v.0 is_static none, v.1) else Ok (class_prop (spanned m start v.1) k.0 v.0 is_static none, v.1))
 
-  unfoldable pub generator_member : Code → Stand S → Bool → Bool → Read S Tree
+  unfoldable pub generator_member : Code → State S → Bool → Bool → Read S Tree
   generator_member c start is_static async s = star m inner s >>= λ g. class_key c g.1 >>= λ k. class_method_by c start is_static g.0 async k.0 k.1
 
   -- a member, after `static` where it stands
-  unfoldable pub member_rest : Code → Stand S → Bool → Read S Tree
+  unfoldable pub member_rest : Code → State S → Bool → Read S Tree
   member_rest c start is_static s =
       if at m mul_kind s then generator_member c start is_static false s
       else (if is_async_head m inner s then generator_member c start is_static true (past m s)
@@ -203,7 +203,7 @@ module _ {S : Type 0} (m : Machine S) (inner : Inner S) where
       else field_or_method c start is_static s))))
 
   -- `static` as a modifier: before a key, a star or a brace
-  abbrev pub starts_static : Stand S → Bool
+  abbrev pub starts_static : State S → Bool
   starts_static s = at m static_kind s && (starts_key (kind2 (input m s)) || ((kind2 (input m s) == mul_kind) || (kind2 (input m s) == left_brace_kind)))
 
   unfoldable pub static_by : Code → Read S Tree
@@ -248,7 +248,7 @@ module _ {S : Type 0} (m : Machine S) (inner : Inner S) where
       if at m semicolon_kind e.1 then Ok (do_while_stmt (spanned m s (past m e.1)) e.0 b.0, past m e.1) else Ok (do_while_stmt (spanned m s e.1) e.0 b.0, e.1)
 
   -- one more branch of a chain
-  abbrev pub branched : Stand S → Chain → Tree → Tree → Chain
+  abbrev pub branched : State S → Chain → Tree → Tree → Chain
   branched s x e a = record { branches = x.branches ++ record { start = lo (input m s); test = e; consequent = a } ∷ []; code = x.code; last = absent }
 
   -- after `else`: another `if` goes on, and nests no deeper
@@ -265,7 +265,7 @@ module _ {S : Type 0} (m : Machine S) (inner : Inner S) where
   if_by c s = iterate (bound m) if_step (record { branches = []; code = c; last = absent }) s >>= λ x. Ok (chained (m.last x.1.source) x.0.branches x.0.last, x.1)
 
   -- `return`, `break` and `continue`, `throw`: what follows stands on their line
-  abbrev pub ends_here : Code → Stand S → Bool
+  abbrev pub ends_here : Code → State S → Bool
   ends_here c s = at m semicolon_kind s || (at m right_brace_kind s || (at m end_kind s || brk (input m s)))
 
   unfoldable pub return_by : Code → Read S Tree
@@ -292,7 +292,7 @@ module _ {S : Type 0} (m : Machine S) (inner : Inner S) where
       if at m case_kind s || (at m default_kind s || at m right_brace_kind s) then Ok (finished ss, s)
       else (inner.stmt (in_list c) s >>= λ t. Ok (go_on (ss ++ t.0 ∷ []), t.1))
 
-  unfoldable pub case_rest : Code → Stand S → Tree → Read S Tree
+  unfoldable pub case_rest : Code → State S → Tree → Read S Tree
   case_rest c start e s = eat m colon_kind s >>= λ r. iterate (bound m) (case_step c) [] r >>= λ ss. Ok (switch_case (spanned m start ss.1) e (pack ss.0), ss.1)
 
   unfoldable pub case_by : Code → Read S Tree
@@ -318,7 +318,7 @@ module _ {S : Type 0} (m : Machine S) (inner : Inner S) where
       if at m left_paren_kind r then (inner.pat c (past m r) >>= λ p. eat m right_paren_kind p.1 >>= λ q. block_by c q >>= λ b. Ok (catch_clause (spanned m s b.1) p.0 b.0, b.1))
       else (block_by c r >>= λ b. Ok (catch_clause (spanned m s b.1) absent b.0, b.1))
 
-  unfoldable pub finally_by : Code → Stand S → Tree → Tree → Read S Tree
+  unfoldable pub finally_by : Code → State S → Tree → Tree → Read S Tree
   finally_by c start b h s =
       if at m finally_kind s then (eat_word m c finally_kind s >>= λ r. block_by c r >>= λ f. Ok (try_stmt (spanned m start f.1) b h f.0, f.1))
       else (if is_absent h then unexpected else Ok (try_stmt (spanned m start s) b h absent, s))
@@ -333,17 +333,17 @@ module _ {S : Type 0} (m : Machine S) (inner : Inner S) where
   unfoldable pub clause_by : Code → ℕ → Read S Tree
   clause_by c close s = if at m close s then Ok (absent, past m s) else (inner.expr c expression_level s >>= λ e. eat m close e.1 >>= λ r. Ok (e.0, r))
 
-  unfoldable pub for_rest : Code → Stand S → Tree → Read S Tree
+  unfoldable pub for_rest : Code → State S → Tree → Read S Tree
   for_rest c start i s = eat m semicolon_kind s >>= λ r. clause_by c semicolon_kind r >>= λ t. clause_by c right_paren_kind t.1 >>= λ u. sub_by c false u.1 >>= λ b.
       Ok (for_stmt (spanned m start b.1) i t.0 u.0 b.0, b.1)
 
-  unfoldable pub over_rest : Code → ℕ → (Span → Tree → Tree → Tree) → Stand S → Read S Tree
+  unfoldable pub over_rest : Code → ℕ → (Span → Tree → Tree → Tree) → State S → Read S Tree
   over_rest c l make start s = inner.expr c l s >>= λ e. eat m right_paren_kind e.1 >>= λ r. sub_by c false r >>= λ b. Ok (make (spanned m start b.1) e.0 b.0, b.1)
 
-  unfoldable pub in_rest : Code → Stand S → Tree → Read S Tree
+  unfoldable pub in_rest : Code → State S → Tree → Read S Tree
   in_rest c start l s = eat_word m c in_kind s >>= λ r. over_rest c expression_level (λ p e b. for_in_stmt p l e b) start r
 
-  unfoldable pub of_rest : Code → Stand S → Bool → Tree → Read S Tree
+  unfoldable pub of_rest : Code → State S → Bool → Tree → Read S Tree
   of_rest c start awaits l s = eat_word m c of_kind s >>= λ r. over_rest c assignment_level (λ p e b. for_of_stmt p awaits l e b) start r
 
   abbrev pub one_bare : List Tree → Bool
@@ -352,31 +352,31 @@ module _ {S : Type 0} (m : Machine S) (inner : Inner S) where
   one_bare (d ∷ (e ∷ es)) = false
 
   -- after what declares: `in`, `of` or `;`
-  unfoldable pub head_rest : Code → Stand S → Bool → List Tree → Tree → Read S Tree
+  unfoldable pub head_rest : Code → State S → Bool → List Tree → Tree → Read S Tree
   head_rest c start awaits ds l s =
       if at m of_kind s then (if one_bare ds then of_rest c start awaits l s else unexpected)
       else (if awaits then unexpected
       else (if at m in_kind s then (if one_bare ds then in_rest c start l s else unexpected)
       else for_rest c start l s))
 
-  unfoldable pub for_variables : Code → Stand S → Bool → Read S Tree
+  unfoldable pub for_variables : Code → State S → Bool → Read S Tree
   for_variables c start awaits s = eat_word m c (kind (input m s)) s >>= λ r. declarators_by (without_in c) r >>= λ ds. head_rest c start awaits ds.0 (var_decl (spanned m s ds.1) (kind (input m s)) (pack ds.0)) ds.1
 
-  unfoldable pub for_using : Code → Stand S → Bool → Stand S → Bool → Read S Tree
+  unfoldable pub for_using : Code → State S → Bool → State S → Bool → Read S Tree
   for_using c start awaits own waits s = eat_word m c using_kind s >>= λ r. declarators_by (without_in c) r >>= λ ds. head_rest c start awaits ds.0 (using_decl (spanned m own ds.1) waits (pack ds.0)) ds.1
 
   -- after an expression: it is a target before `in` and `of`
-  unfoldable pub for_expression_rest : Code → Stand S → Bool → Stand S → Tree → Read S Tree
+  unfoldable pub for_expression_rest : Code → State S → Bool → State S → Tree → Read S Tree
   for_expression_rest c start awaits own e s =
       if at m of_kind s then (if at m let_kind own || (not awaits && (at m async_kind own && (kind2 (input m own) == of_kind))) then unexpected else (to_head s.commas e >>= λ l. of_rest c start awaits l s))
       else (if awaits then unexpected
       else (if at m in_kind s then (to_head s.commas e >>= λ l. in_rest c start l s)
       else for_rest c start e s))
 
-  unfoldable pub for_expression : Code → Stand S → Bool → Read S Tree
+  unfoldable pub for_expression : Code → State S → Bool → Read S Tree
   for_expression c start awaits s = if at m let_kind s && (kind2 (input m s) == left_bracket_kind) then unexpected else (inner.expr (without_in c) expression_level s >>= λ e. for_expression_rest c start awaits s e.0 e.1)
 
-  unfoldable pub for_head : Code → Stand S → Bool → Read S Tree
+  unfoldable pub for_head : Code → State S → Bool → Read S Tree
   for_head c start awaits s =
       if at m semicolon_kind s then (if awaits then unexpected else for_rest c start absent s)
       else (if at m var_kind s || (at m const_kind s || starts_let s) then for_variables c start awaits s
@@ -392,10 +392,10 @@ module _ {S : Type 0} (m : Machine S) (inner : Inner S) where
   -- ---- any statement
 
   -- the class of a statement's expression
-  abbrev pub statement_class : Code → Stand S → Tree → ℕ
+  abbrev pub statement_class : Code → State S → Tree → ℕ
   statement_class c s e = if c.listed && (at m let_kind s && is_name e) then let_end else ends e
 
-  unfoldable pub labelled_by : Code → Stand S → Tree → Read S Tree
+  unfoldable pub labelled_by : Code → State S → Tree → Read S Tree
   labelled_by c start l s = sub_by c true (past m s) >>= λ b. Ok (labeled_stmt (spanned m start b.1) l b.0, b.1)
 
   -- an expression that starts a statement: a label where it is a name before a colon
@@ -406,7 +406,7 @@ module _ {S : Type 0} (m : Machine S) (inner : Inner S) where
       if is_name e.0 && at m colon_kind e.1 then labelled_by c s e.0 e.1
       else (end_of m c (statement_class c s e.0) e.1 >>= λ r. Ok (expr_stmt (spanned m s r) e.0, r)))
 
-  abbrev pub starts_async : Stand S → Bool
+  abbrev pub starts_async : State S → Bool
   starts_async s = at m async_kind s && ((kind2 (input m s) == function_kind) && not (brk2 (input m s)))
 
   unfoldable pub keyword_stmt : Code → Read S Tree

@@ -2,7 +2,7 @@
 use Rattle.std.proofs.Common.{◌≡◌, ◌≤◌, ℕ, true, List, [], ◌∷◌, ◌++◌, map, refl, sym, subst, true≢false}
 use Rattle.ecma_tree.specs.Tree.{Tree, import_named_specifier, do_while_stmt, class, class_prop, private_prop, auto_accessor, ident}
 use Rattle.ecma_names.specs.Names.{Identifier, joined, in_order, identifiers, identifiers_step, name_of}
-use Rattle.ecma_syntax.specs.Input.{Place, Input, others, kind_of, lo_of, is_word}
+use Rattle.ecma_syntax.specs.Input.{PlacedToken, Input, others, kind_of, lo_of, is_word}
 use Rattle.ecma_redone.specs.Redo.{Mode, Plain, kept}
 use Rattle.ecma_redone.specs.Every.{every}
 use Rattle.ecma_redone.specs.Read.{Knowledge, Read}
@@ -35,14 +35,14 @@ each_in_order P _ fs h = h
 
 -- ---- tokens
 
-others_from : (n : ℕ) (ps : List Place) → BeginFrom n ps → BeginFrom n (others ps)
+others_from : (n : ℕ) (ps : List PlacedToken) → BeginFrom n ps → BeginFrom n (others ps)
 others_from n [] h = tt
 others_from n (p ∷ ps) h = h.1
 
 abbrev from : ℕ → Knowledge
 from n = record { Known = λ ps. BeginFrom n ps; later = λ ts m e k. subst (λ (i : Input). BeginFrom n i.places) e (others_from n ts.places k) }
 
-word_from : (n last : ℕ) (ps : List Place) → BeginFrom n ps → is_word (kind_of ps) ≡ true → n ≤ lo_of last ps
+word_from : (n last : ℕ) (ps : List PlacedToken) → BeginFrom n ps → is_word (kind_of ps) ≡ true → n ≤ lo_of last ps
 word_from n last [] k w = absurd (true≢false (sym w))
 word_from n last (p ∷ ps) k w = k.0
 

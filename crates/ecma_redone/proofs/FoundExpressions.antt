@@ -7,9 +7,9 @@ use Rattle.ecma_tree.specs.Tree.{Tree, Trees, none, more, computed_prop_name, ar
 use Rattle.ecma_syntax.specs.Input.{Input, Code, Takes, TakesWord}
 use Rattle.ecma_syntax.specs.Shape.{is_absent, is_chain, is_word_name, is_target, is_pattern_prop, is_bound_name, is_element, is_prop, is_cooked, is_key, is_private}
 use Rattle.ecma_syntax.specs.Operators.{assignment_level, expression_level, coalesce_level, unary_level, new_level, call_level, member_level}
-use Rattle.ecma_grammar.specs.Parts.{part, By, Sorted, is_quasi, is_ident, IsEmpty}
+use Rattle.ecma_grammar.specs.Children.{child, By, Sorted, is_quasi, is_ident, IsEmpty}
 use Rattle.ecma_grammar.specs.Expressions.{Arguments, ArgumentList, ImportArguments, Bracketed, Dotted, AccessedName, TemplateSpans, Member, SuperProperty, Call, ChainMember, Yield, is_at_most_one}
-use Rattle.ecma_grammar.specs.Grammar.{Spells, parts}
+use Rattle.ecma_grammar.specs.Grammar.{Produces, children}
 use Rattle.ecma_redone.specs.Redo.{Mode, Plain, Headed, Raw, is_tagged, quasi_mode, object_mode, chain_mode}
 use Rattle.ecma_redone.specs.Faithful.{AreElements}
 use Rattle.ecma_redone.specs.Every.{every, every_all}
@@ -41,7 +41,7 @@ module _ (know : Knowledge) where
   pub spread_found : (s : Span) (e : Tree) → Found know e → Found know (spread_element s e)
   spread_found s e f mode n whole c ts r h l = let y = f Plain refl (whole_level know assignment_level e refl h.2.0) _ h.0 r h.2.1 (took know c _ ts h.0 h.1 l) in ((tt, y.0), y.1)
 
-  pub bracketed : (k : ℕ) → nat_le 1 k ≡ true → (s : Span) (e : Tree) → Found know e → (c : Code) (ts r : Input) → Bracketed k c s (part e (λ y. Spells e y)) ts r → know.Known ts.places → Fine know Plain (computed_prop_name s e) r
+  pub bracketed : (k : ℕ) → nat_le 1 k ≡ true → (s : Span) (e : Tree) → Found know e → (c : Code) (ts r : Input) → Bracketed k c s (child e (λ y. Produces e y)) ts r → know.Known ts.places → Fine know Plain (computed_prop_name s e) r
   bracketed k o s e f c ts r h l = let y = f Plain refl (whole_level know k e o h.3.0) _ h.0 h.1 h.3.1 (took know c _ ts h.0 h.2 l) in ((tt, y.0), took know c _ h.1 r h.4 y.1)
 
   pub computed_found : (s : Span) (e : Tree) → Found know e → Found know (computed_prop_name s e)
@@ -49,7 +49,7 @@ module _ (know : Knowledge) where
 
   -- ---- templates
 
-  pub quasi_found : (mode : Mode) (q : Tree) (c : Code) (ts m : Input) → (is_tagged mode ≡ false → is_cooked q ≡ true) → Sorted is_quasi c (part q (λ y. Spells q y)) ts m → know.Known ts.places
+  pub quasi_found : (mode : Mode) (q : Tree) (c : Code) (ts m : Input) → (is_tagged mode ≡ false → is_cooked q ≡ true) → Sorted is_quasi c (child q (λ y. Produces q y)) ts m → know.Known ts.places
       → every (Read know.Known) (quasi_mode mode) q × ((qs : Trees) → AreElements qs → AreElements (more q qs)) × know.Known m.places
   quasi_found mode (tpl_element s t w u) c ts m k h l = ((record { at = ts; known = l; is = h.1.0 }, λ e. k (untagged_quasi know mode e)), (λ qs p. p), inside know c _ _ ts m h.1.1 l)
   quasi_found mode _ c ts m k h l = absurd (true≢false (sym h.0))
@@ -58,7 +58,7 @@ module _ (know : Knowledge) where
   cooked false mode b f h n = h
   cooked true mode b f h n = absurd (true≢false (f n))
 
-  pub spans_found : (tagged : Bool) (mode : Mode) → (is_tagged mode ≡ false → tagged ≡ false) → (c : Code) (es qs : Trees) → AllFound know es → (ts r : Input) → TemplateSpans tagged c (parts es) (parts qs) ts r → know.Known ts.places
+  pub spans_found : (tagged : Bool) (mode : Mode) → (is_tagged mode ≡ false → tagged ≡ false) → (c : Code) (es qs : Trees) → AllFound know es → (ts r : Input) → TemplateSpans tagged c (children es) (children qs) ts r → know.Known ts.places
       → every_all (Read know.Known) Plain es × every_all (Read know.Known) (quasi_mode mode) qs × AreElements qs × know.Known r.places
   spans_found tagged mode f c es none a ts r h l = absurd h
   spans_found tagged mode f c none (more q none) a ts r h l = let y = quasi_found mode q c ts h.0 (cooked tagged mode (is_cooked q) f h.3) h.4 l in (tt, (y.0, tt), y.1 none tt, inside know c _ _ h.0 r h.5 y.2)
@@ -78,10 +78,10 @@ module _ (know : Knowledge) where
 
   -- ---- members and calls
 
-  pub accessed : (b : Bool) (k : Tree) → Found know k → (c : Code) (ts r : Input) → AccessedName b c (part k (λ y. Spells k y)) ts r → know.Known ts.places → Fine know Plain k r
+  pub accessed : (b : Bool) (k : Tree) → Found know k → (c : Code) (ts r : Input) → AccessedName b c (child k (λ y. Produces k y)) ts r → know.Known ts.places → Fine know Plain k r
   accessed b k f c ts r h l = f Plain refl (whole_test know (λ t. is_word_name t || (b && is_private t)) k (λ s t w u. and_false know b) h.0) c ts r h.1 l
 
-  pub dotted : (b : Bool) (k : Tree) → Found know k → (c : Code) (ts r : Input) → Dotted b c (part k (λ y. Spells k y)) ts r → know.Known ts.places → Fine know Plain k r
+  pub dotted : (b : Bool) (k : Tree) → Found know k → (c : Code) (ts r : Input) → Dotted b c (child k (λ y. Produces k y)) ts r → know.Known ts.places → Fine know Plain k r
   dotted b k f c ts r h l = accessed b k f c h.0 r h.2 (took know c _ ts h.0 h.1 l)
 
   -- what follows an object: a name or brackets
@@ -89,33 +89,33 @@ module _ (know : Knowledge) where
   Gives k Access = (c : Code) (ts r : Input) → Access c ts r → know.Known ts.places → Fine know Plain k r
 
   pub member_found : (s : Span) (o k : Tree) (Access : Code → Input → Input → Type 0) → Found know o → Gives k Access → (mode : Mode) (c : Code) (ts r : Input)
-      → Member c s (part o (λ y. Spells o y)) (λ m n. Access c m n) ts r → know.Known ts.places → Fine know mode (member_expr s o k) r
+      → Member c s (child o (λ y. Produces o y)) (λ m n. Access c m n) ts r → know.Known ts.places → Fine know mode (member_expr s o k) r
   member_found s o k Access f g mode c ts r h l = let y = f (object_mode mode k) (object_untagged know mode k) (whole_level know call_level o refl h.2.0) _ ts h.0 h.2.1 l in let z = g c h.0 r h.3 y.1 in ((tt, y.0, z.0), z.1)
 
   pub super_found : (s t : Span) (k : Tree) (Access : Code → Input → Input → Type 0) → Gives k Access → (mode : Mode) (c : Code) (ts r : Input)
       → SuperProperty c s t (λ m n. Access c m n) ts r → know.Known ts.places → Fine know mode (super_prop_expr s (super t) k) r
   super_found s t k Access g mode c ts r h l = let z = g c h.0 r h.3 (word know c _ ts h.0 h.1 l) in ((tt, tt, z.0), z.1)
 
-  pub args : (c : Code) (xs : Trees) → AllFound know xs → (ts r : Input) → Arguments c (parts xs) ts r → know.Known ts.places → AllFine know Plain xs r
+  pub args : (c : Code) (xs : Trees) → AllFound know xs → (ts r : Input) → Arguments c (children xs) ts r → know.Known ts.places → AllFine know Plain xs r
   args c xs a ts r h l = listed know false _ (sorted know is_element (λ s b w u. refl) c) c right_paren_kind xs a h.0 r h.2 (took know c _ ts h.0 h.1 l)
 
-  pub call_found : (s : Span) (f : Tree) (xs : Trees) → Found know f → AllFound know xs → (mode : Mode) (c : Code) (ts r : Input) → Call c s (part f (λ y. Spells f y)) (parts xs) ts r → know.Known ts.places
+  pub call_found : (s : Span) (f : Tree) (xs : Trees) → Found know f → AllFound know xs → (mode : Mode) (c : Code) (ts r : Input) → Call c s (child f (λ y. Produces f y)) (children xs) ts r → know.Known ts.places
       → Fine know mode (call_expr s f xs) r
   call_found s f xs g a mode c ts r h l = let y = g Headed refl (whole_level know call_level f refl h.2.0) _ ts h.0 h.2.1 l in let z = args c xs a h.0 r h.3 y.1 in ((tt, y.0, z.0), z.1)
 
   pub super_call_found : (s t : Span) (xs : Trees) → AllFound know xs → Found know (call_expr s (super t) xs)
   super_call_found s t xs a mode n whole c ts r h l = let z = args c xs a h.0 r h.3 (word know c _ ts h.0 h.1 l) in ((tt, tt, z.0), z.1)
 
-  pub import_args : (c : Code) (xs : Trees) → AllFound know xs → (ts r : Input) → ImportArguments c (parts xs) ts r → know.Known ts.places → AllFine know Plain xs r
+  pub import_args : (c : Code) (xs : Trees) → AllFound know xs → (ts r : Input) → ImportArguments c (children xs) ts r → know.Known ts.places → AllFine know Plain xs r
   import_args c none a ts r h l = absurd h
   import_args c (more t us) a ts r h l = by c.syntax.import_attributes h.1
     where
-      alone : (us : Trees) → IsEmpty (parts us) → every_all (Read know.Known) Plain us
+      alone : (us : Trees) → IsEmpty (children us) → every_all (Read know.Known) Plain us
       alone none e = tt
       alone (more u us) e = absurd e
 
-      by : (b : Bool) → By b ((is_at_most_one (parts us) ≡ true) × ArgumentList c (parts (more t us)) ts r)
-          (IsEmpty (parts us) × (m : Input) × Sorted is_element c (part t (λ y. Spells t y)) ts m × Takes c right_paren_kind m r) → AllFine know Plain (more t us) r
+      by : (b : Bool) → By b ((is_at_most_one (children us) ≡ true) × ArgumentList c (children (more t us)) ts r)
+          (IsEmpty (children us) × (m : Input) × Sorted is_element c (child t (λ y. Produces t y)) ts m × Takes c right_paren_kind m r) → AllFine know Plain (more t us) r
       by true i = listed know false _ (sorted know is_element (λ s b w u. refl) c) c right_paren_kind (more t us) a ts r i.1 l
       by false i = let y = a.0 Plain refl (whole_test know is_element t (λ s b w u. refl) i.2.0) _ ts i.1 i.2.1 l in ((y.0, alone us i.0), took know c _ i.1 r i.3 y.1)
 
@@ -129,7 +129,7 @@ module _ (know : Knowledge) where
   new_bare_found s f g mode n whole c ts r h l = let y = g Headed refl (whole_new know f h.2) _ h.0 r h.3 (word know c _ ts h.0 h.1 l) in ((tt, y.0, tt), y.1)
 
   pub chain_member_found : (s : Span) (q : Bool) (t : Span) (o k : Tree) (Access AccessOptional : Code → Input → Input → Type 0) → Found know o → Gives k Access → Gives k AccessOptional → (mode : Mode) (c : Code) (ts r : Input)
-      → ChainMember c s q t (part o (λ y. Spells o y)) (λ m n. Access c m n) (λ m n. AccessOptional c m n) ts r → know.Known ts.places → Fine know mode (opt_chain_expr s q (member_expr t o k)) r
+      → ChainMember c s q t (child o (λ y. Produces o y)) (λ m n. Access c m n) (λ m n. AccessOptional c m n) ts r → know.Known ts.places → Fine know mode (opt_chain_expr s q (member_expr t o k)) r
   chain_member_found s true t o k Access AccessOptional f g j mode c ts r h l =
       let y = f (object_mode (chain_mode true) k) (object_untagged know (chain_mode true) k) (whole_level know call_level o refl h.2.0) _ ts h.0 h.2.1 l in let z = j c h.1 r h.4 (took know c _ h.3.0 h.1 h.3.2 (took know c _ h.0 h.3.0 h.3.1 y.1)) in ((tt, (tt, y.0, z.0)), z.1)
   chain_member_found s false t o k Access AccessOptional f g j mode c ts r h l =
@@ -173,7 +173,7 @@ module _ (know : Knowledge) where
   sequence_found s (more t none) a mode n whole c ts r h l = absurd h
   sequence_found s (more t (more u us)) a mode n whole c ts r h l = let y = expr know assignment_level refl c t a.0 ts h.0 h.1 l in let z = commas know _ (expr know assignment_level refl c) c (more u us) a.1 h.0 r h.2 y.1 in ((tt, (y.0, z.0)), z.1)
 
-  pub yield_found : (s : Span) (a : Tree) (g : Bool) → Found know a → (mode : Mode) (c : Code) (ts r : Input) → Yield c s (part a (λ y. Spells a y)) g ts r → know.Known ts.places → Fine know mode (yield_expr s a g) r
+  pub yield_found : (s : Span) (a : Tree) (g : Bool) → Found know a → (mode : Mode) (c : Code) (ts r : Input) → Yield c s (child a (λ y. Produces a y)) g ts r → know.Known ts.places → Fine know mode (yield_expr s a g) r
   yield_found s a false f mode c ts r h l = let y = f Plain refl (whole_level know assignment_level a refl h.4.0) _ h.0 r h.4.1 (word know c _ ts h.0 h.2 l) in ((tt, y.0), y.1)
   yield_found s a true f mode c ts r h l = let y = f Plain refl (whole_level know assignment_level a refl h.6.0) _ h.1 r h.6.1 (took know c _ h.0 h.1 h.5 (word know c _ ts h.0 h.3 l)) in ((tt, y.0), y.1)
 

@@ -6,9 +6,9 @@ use Rattle.ecma_tree.specs.Tree.{Tree, Trees, none, more, block_stmt, class_decl
 use Rattle.ecma_syntax.specs.Input.{Input, Code, kind, TakesWord, in_body, in_static, setting}
 use Rattle.ecma_syntax.specs.Shape.{is_absent, is_bound_name, is_member, is_any_key, constructs, is_item, is_param, is_key, function_parts, field_end, FunctionParts}
 use Rattle.ecma_syntax.specs.Operators.{assignment_level, new_level, key_end}
-use Rattle.ecma_grammar.specs.Parts.{part, By, is_quasi, is_ident, IsEmpty}
+use Rattle.ecma_grammar.specs.Children.{child, By, is_quasi, is_ident, IsEmpty}
 use Rattle.ecma_grammar.specs.Functions.{Parameters, SetParameter, Body, Closes, Star, Async, FunctionHead, Named, ArrowPattern, ArrowParameters, ArrowHead, MethodHead, Heritage, Members, Static, Initial, FunctionDeclaration, FunctionExpression, ArrowExpression, ObjectMethod, ClassMethod, Field}
-use Rattle.ecma_grammar.specs.Grammar.{Spells, parts}
+use Rattle.ecma_grammar.specs.Grammar.{Produces, children}
 use Rattle.ecma_redone.specs.Redo.{Mode, Plain}
 use Rattle.ecma_redone.specs.Every.{every, every_all}
 use Rattle.ecma_redone.specs.Read.{Knowledge, Read}
@@ -17,25 +17,25 @@ use Rattle.ecma_redone.proofs.FoundParts.{Fine, AllFine, Found, AllFound, took, 
 module _ (know : Knowledge) where
   -- ---- functions
 
-  pub no_parts : (ds : Trees) → IsEmpty (parts ds) → every_all (Read know.Known) Plain ds
+  pub no_parts : (ds : Trees) → IsEmpty (children ds) → every_all (Read know.Known) Plain ds
   no_parts none e = tt
   no_parts (more d ds) e = absurd e
 
   pub param_found : (s : Span) (ds : Trees) (p : Tree) → Found know p → Found know (param s ds p)
   param_found s ds p f mode n whole c ts r h l = let y = f Plain refl (whole_item know true p h.1) _ ts r h.2 l in ((tt, no_parts ds h.0, y.0), y.1)
 
-  pub parameters : (c : Code) (ps : Trees) → AllFound know ps → (ts r : Input) → Parameters c (parts ps) ts r → know.Known ts.places → AllFine know Plain ps r
+  pub parameters : (c : Code) (ps : Trees) → AllFound know ps → (ts r : Input) → Parameters c (children ps) ts r → know.Known ts.places → AllFine know Plain ps r
   parameters c ps a ts r h l = listed know false _ (sorted know is_param (λ s b w u. refl) c) c right_paren_kind ps a h.0 r h.2 (took know c _ ts h.0 h.1 l)
 
-  pub set_parameter : (c : Code) (ps : Trees) → AllFound know ps → (ts r : Input) → SetParameter c (parts ps) ts r → know.Known ts.places → AllFine know Plain ps r
+  pub set_parameter : (c : Code) (ps : Trees) → AllFound know ps → (ts r : Input) → SetParameter c (children ps) ts r → know.Known ts.places → AllFine know Plain ps r
   set_parameter c none a ts r h l = absurd h
   set_parameter c (more p ps) a ts r h l = let y = a.0 Plain refl (whole_test know is_param p (λ s b w u. refl) h.5.0) _ h.0 h.1 h.5.1 (took know c _ ts h.0 h.4 l) in ((y.0, no_parts ps h.2), took know c _ h.1 r h.6 y.1)
 
-  pub either_parameters : (b : Bool) (c : Code) (ps : Trees) → AllFound know ps → (ts r : Input) → By b (SetParameter c (parts ps) ts r) (Parameters c (parts ps) ts r) → know.Known ts.places → AllFine know Plain ps r
+  pub either_parameters : (b : Bool) (c : Code) (ps : Trees) → AllFound know ps → (ts r : Input) → By b (SetParameter c (children ps) ts r) (Parameters c (children ps) ts r) → know.Known ts.places → AllFine know Plain ps r
   either_parameters true c ps a ts r h l = set_parameter c ps a ts r h l
   either_parameters false c ps a ts r h l = parameters c ps a ts r h l
 
-  pub body : (c : Code) (s : Span) (ss : Trees) → AllFound know ss → (ts r : Input) → Body c s (parts ss) ts r → know.Known ts.places → Fine know Plain (block_stmt s ss) r
+  pub body : (c : Code) (s : Span) (ss : Trees) → AllFound know ss → (ts r : Input) → Body c s (children ss) ts r → know.Known ts.places → Fine know Plain (block_stmt s ss) r
   body c s ss a ts r h l = let z = items know is_item (λ s b w u. refl) Closes (closes know) c true ss a h.0 r h.2 (took know c _ ts h.0 h.1 l) in ((tt, z.0), z.1)
 
   pub star : (g : Bool) (c : Code) (ts r : Input) → Star g c ts r → know.Known ts.places → know.Known r.places
@@ -56,30 +56,30 @@ module _ (know : Knowledge) where
   pub declaration_found : (s : Span) (k f : Tree) → Found know k → Found know f → Found know (fn_decl s k f)
   declaration_found s k f g j mode n whole c ts r h l = by (function_parts f) refl h
     where
-      by : (o : Option FunctionParts) → function_parts f ≡ o → FunctionDeclaration c s (part k (λ y. Spells k y)) (part f (λ y. Spells f y)) o ts r → Fine know mode (fn_decl s k f) r
+      by : (o : Option FunctionParts) → function_parts f ≡ o → FunctionDeclaration c s (child k (λ y. Produces k y)) (child f (λ y. Produces f y)) o ts r → Fine know mode (fn_decl s k f) r
       by None e h = absurd h
       by (Some p) e h = let y = g Plain refl (whole_test know is_ident k (λ s b w u. refl) h.3.0) _ h.0 h.1 h.3.1 (function_head p.generator p.async c ts h.0 h.2 l) in let z = j Plain refl (whole_function know f p e) _ h.1 r h.4 y.1 in ((tt, y.0, z.0), z.1)
 
   pub expression_found : (s : Span) (k f : Tree) → Found know k → Found know f → Found know (fn_expr s k f)
   expression_found s k f g j mode n whole c ts r h l = by (function_parts f) refl h
     where
-      by : (o : Option FunctionParts) → function_parts f ≡ o → FunctionExpression c s (part k (λ y. Spells k y)) (part f (λ y. Spells f y)) o ts r → Fine know mode (fn_expr s k f) r
+      by : (o : Option FunctionParts) → function_parts f ≡ o → FunctionExpression c s (child k (λ y. Produces k y)) (child f (λ y. Produces f y)) o ts r → Fine know mode (fn_expr s k f) r
       by None e h = absurd h
       by (Some p) e h = let y = maybe know Named _ (λ t i ts r h l. i Plain refl (whole_test know is_ident t (λ s b w u. refl) h.0) _ ts r h.1 l) k g h.0 h.1 h.3 (function_head p.generator p.async c ts h.0 h.2 l) in let z = j Plain refl (whole_function know f p e) _ h.1 r h.4 y.1 in ((tt, y.0, z.0), z.1)
 
-  pub arrow_parameters : (c : Code) (ps : Trees) → AllFound know ps → (ts r : Input) → ArrowParameters c (parts ps) ts r → know.Known ts.places → AllFine know Plain ps r
+  pub arrow_parameters : (c : Code) (ps : Trees) → AllFound know ps → (ts r : Input) → ArrowParameters c (children ps) ts r → know.Known ts.places → AllFine know Plain ps r
   arrow_parameters c none a ts r (inl h) l = absurd h
   arrow_parameters c (more p ps) a ts r (inl h) l = let y = a.0 Plain refl (whole_test know is_bound_name p (λ s b w u. refl) h.1.0) _ ts r h.1.1 l in ((y.0, no_parts ps h.0), y.1)
   arrow_parameters c ps a ts r (inr h) l = listed know false (ArrowPattern c) (λ t f ts r h l. f Plain refl (whole_item know true t h.0) _ ts r h.1 l) c right_paren_kind ps a h.0 r h.2 (took know c _ ts h.0 h.1 l)
 
-  pub arrow_head : (i : Bool) (c : Code) (ps : Trees) → AllFound know ps → (ts r : Input) → ArrowHead i c (parts ps) ts r → know.Known ts.places → AllFine know Plain ps r
+  pub arrow_head : (i : Bool) (c : Code) (ps : Trees) → AllFound know ps → (ts r : Input) → ArrowHead i c (children ps) ts r → know.Known ts.places → AllFine know Plain ps r
   arrow_head i c ps a ts r h l = let y = arrow_parameters c ps a h.0 h.1 h.3 (waits i c ts h.0 h.2 l) in (y.0, took know c _ h.1 r h.5 y.1)
 
   pub arrow_block_found : (s : Span) (ps : Trees) (b : Span) (ss : Trees) (i : Bool) → AllFound know ps → AllFound know ss → Found know (arrow_expr s ps (block_stmt b ss) i)
   arrow_block_found s ps b ss i f j mode n whole c ts r h l = let y = arrow_head i c ps f ts h.0 h.1 l in let z = body _ b ss j h.0 r h.2 y.1 in ((tt, y.0, z.0), z.1)
 
   pub arrow_found : (s : Span) (ps : Trees) (e : Tree) (i : Bool) → AllFound know ps → Found know e → (mode : Mode) (c : Code) (ts r : Input)
-      → ArrowExpression c s (parts ps) (part e (λ y. Spells e y)) i ts r → know.Known ts.places → Fine know mode (arrow_expr s ps e i) r
+      → ArrowExpression c s (children ps) (child e (λ y. Produces e y)) i ts r → know.Known ts.places → Fine know mode (arrow_expr s ps e i) r
   arrow_found s ps e i f g mode c ts r h l = let y = arrow_head i c ps f ts h.0 h.1 l in let z = g Plain refl (whole_level know assignment_level e refl h.3.0) _ h.0 r h.3.1 y.1 in ((tt, y.0, z.0), z.1)
 
   -- ---- methods and classes
@@ -88,9 +88,9 @@ module _ (know : Knowledge) where
   method_head g a c ts r h l = star g c h.0 r h.2 (waits a c ts h.0 h.1 l)
 
   pub method : (c : Code) (b : Bool) (k : ℕ) (key f : Tree) (p : FunctionParts) → Found know key → Found know f → is_quasi key ≡ false → is_quasi f ≡ false → (ts r : Input)
-      → By b ((m : Input) × (n : Input) × MethodHead p.generator p.async c ts m × Spells key c m n × Spells f (setting false c) n r)
+      → By b ((m : Input) × (n : Input) × MethodHead p.generator p.async c ts m × Produces key c m n × Produces f (setting false c) n r)
       ((m : Input) × (n : Input) × (((k ≡ get_kind) × (p.count ≡ 0)) ⊎ (k ≡ set_kind)) × (p.generator ≡ false) × (p.async ≡ false)
-      × TakesWord c k ts m × Spells key c m n × Spells f (setting (k == set_kind) c) n r)
+      × TakesWord c k ts m × Produces key c m n × Produces f (setting (k == set_kind) c) n r)
       → know.Known ts.places → every (Read know.Known) Plain key × every (Read know.Known) Plain f × know.Known r.places
   method c true k key f p g j n o ts r h l = let y = g Plain refl n _ h.0 h.1 h.3 (method_head p.generator p.async c ts h.0 h.2 l) in let z = j Plain refl o _ h.1 r h.4 y.1 in (y.0, z.0, z.1)
   method c false k key f p g j n o ts r h l = let y = g Plain refl n _ h.0 h.1 h.6 (word know c k ts h.0 h.5 l) in let z = j Plain refl o _ h.1 r h.7 y.1 in (y.0, z.0, z.1)
@@ -98,7 +98,7 @@ module _ (know : Knowledge) where
   pub object_method_found : (s : Span) (k f : Tree) → Found know k → Found know f → Found know (method_prop s k f)
   object_method_found s k f g j mode n whole c ts r h l = by (function_parts f) refl h
     where
-      by : (o : Option FunctionParts) → function_parts f ≡ o → ObjectMethod c s (part k (λ y. Spells k y)) (part f (λ y. Spells f y)) o ts r → Fine know mode (method_prop s k f) r
+      by : (o : Option FunctionParts) → function_parts f ≡ o → ObjectMethod c s (child k (λ y. Produces k y)) (child f (λ y. Produces f y)) o ts r → Fine know mode (method_prop s k f) r
       by None e h = absurd h
       by (Some p) e h = let y = method c (plain_method == plain_method) plain_method k f p g j (whole_test know is_key k (λ s b w u. refl) h.0) (whole_function know f p e) ts r h.1 l in ((tt, y.0, y.1), y.2)
 
@@ -110,7 +110,7 @@ module _ (know : Knowledge) where
   setter_found s k p b ss f g a mode n whole c ts r h l =
       let y = f Plain refl (whole_test know is_key k (λ s b w u. refl) h.6.0) _ h.0 h.1 h.6.1 (word know c _ ts h.0 h.5 l) in let v = g Plain refl (whole_item know true p h.8) _ h.2 h.3 h.10 (took know (in_body false false c) _ h.1 h.2 h.7 y.1) in let z = body _ b ss a h.4 r h.12 (took know (in_body false false c) _ h.3 h.4 h.11 v.1) in ((tt, y.0, v.0, z.0), z.1)
 
-  pub members : (c : Code) (ms : Trees) → AllFound know ms → (ts r : Input) → Members c (parts ms) ts r → know.Known ts.places → AllFine know Plain ms r
+  pub members : (c : Code) (ms : Trees) → AllFound know ms → (ts r : Input) → Members c (children ms) ts r → know.Known ts.places → AllFine know Plain ms r
   members c none a ts r h l = (tt, took know c _ ts r h l)
   members c (more t us) a ts r h l = let y = a.0 Plain refl (whole_test know is_member t (λ s b w u. refl) h.1.0) _ ts h.0 h.1.1 l in let z = members c us a.1 h.0 r h.2 y.1 in ((y.0, z.0), z.1)
 
@@ -134,18 +134,18 @@ module _ (know : Knowledge) where
   fixed false c ts r h l = at know ts r h l
 
   pub method_parts : (may : Tree → Bool) → Apart know may → (s : Span) (k f : Tree) (m : ℕ) (i : Bool) → Found know k → Found know f → (c : Code) (ts r : Input)
-      → ClassMethod may c s (part k (λ y. Spells k y)) (part f (λ y. Spells f y)) (function_parts f) m i ts r → know.Known ts.places → every (Read know.Known) Plain k × every (Read know.Known) Plain f × know.Known r.places
+      → ClassMethod may c s (child k (λ y. Produces k y)) (child f (λ y. Produces f y)) (function_parts f) m i ts r → know.Known ts.places → every (Read know.Known) Plain k × every (Read know.Known) Plain f × know.Known r.places
   method_parts may never s k f m i g j c ts r h l = by (function_parts f) refl h
     where
-      by : (o : Option FunctionParts) → function_parts f ≡ o → ClassMethod may c s (part k (λ y. Spells k y)) (part f (λ y. Spells f y)) o m i ts r → every (Read know.Known) Plain k × every (Read know.Known) Plain f × know.Known r.places
+      by : (o : Option FunctionParts) → function_parts f ≡ o → ClassMethod may c s (child k (λ y. Produces k y)) (child f (λ y. Produces f y)) o m i ts r → every (Read know.Known) Plain k × every (Read know.Known) Plain f × know.Known r.places
       by None e h = absurd h
       by (Some p) e h = method c (m == plain_method) m k f p g j (whole_test know may k never h.1) (whole_function know f p e) h.0 r h.4 (fixed i c ts h.0 h.3 l)
 
-  pub initial : (e : ℕ) (c : Code) (v : Tree) → Found know v → (ts r : Input) → Initial c e (part v (λ y. Spells v y)) ts r → know.Known ts.places → Fine know Plain v r
+  pub initial : (e : ℕ) (c : Code) (v : Tree) → Found know v → (ts r : Input) → Initial c e (child v (λ y. Produces v y)) ts r → know.Known ts.places → Fine know Plain v r
   initial e c v f ts r h l = choice know (is_absent v) v refl _ _ r h (λ i. ended know c _ _ ts r i l) (λ i. let y = f Plain refl (whole_level know assignment_level v refl i.3.0) _ i.0 i.1 i.3.1 (took know c _ ts i.0 i.2 l) in (y.0, ended know c _ _ i.1 r i.4 y.1))
 
   pub field : (may : Tree → Bool) → Apart know may → (s : Span) (k v : Tree) (i : Bool) (ds : Trees) → Found know k → Found know v → (c : Code) (ts r : Input)
-      → Field may c s (part k (λ y. Spells k y)) (part v (λ y. Spells v y)) i (parts ds) ts r → know.Known ts.places → every (Read know.Known) Plain k × every (Read know.Known) Plain v × every_all (Read know.Known) Plain ds × know.Known r.places
+      → Field may c s (child k (λ y. Produces k y)) (child v (λ y. Produces v y)) i (children ds) ts r → know.Known ts.places → every (Read know.Known) Plain k × every (Read know.Known) Plain v × every_all (Read know.Known) Plain ds × know.Known r.places
   field may never s k v i ds f g c ts r h l = let y = f Plain refl (whole_test know may k never h.3) _ h.0 h.1 h.5 (fixed i c ts h.0 h.4 l) in let z = initial (field_end i (kind h.0)) c v g h.1 r h.6 y.1 in (y.0, z.0, no_parts ds h.2, z.1)
 
   pub accessor_found : (s : Span) (k v : Tree) (i : Bool) (ds : Trees) → Found know k → Found know v → Found know (auto_accessor s k v i ds)

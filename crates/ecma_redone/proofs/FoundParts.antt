@@ -9,8 +9,8 @@ use Rattle.ecma_tree.specs.Tree.{Tree, Trees, none, more, tpl_element, absent, h
 use Rattle.ecma_syntax.specs.Input.{Input, Code, Takes, TakesWord, TakesIn, turned_strict, is_strict, has_in}
 use Rattle.ecma_syntax.specs.Shape.{level, is_absent, is_place, is_item_pat, is_statement, is_plain_function, class_span, fits_left, is_use_strict, is_directive, function_parts, FunctionParts}
 use Rattle.ecma_syntax.specs.Operators.{coalesce_level, bit_or_level, exponent_level, update_level, new_level, member_level, binary_level, right_level, operates}
-use Rattle.ecma_grammar.specs.Parts.{Part, part, By, Expr, Sorted, Maybe, is_quasi, Items, Listed, CommaThen, Commas, IsEmpty}
-use Rattle.ecma_grammar.specs.Grammar.{Spells, parts}
+use Rattle.ecma_grammar.specs.Children.{Child, child, By, Expr, Sorted, Maybe, is_quasi, Items, Listed, CommaThen, Commas, IsEmpty}
+use Rattle.ecma_grammar.specs.Grammar.{Produces, children}
 use Rattle.ecma_layout.specs.Layout.{is_computed}
 use Rattle.ecma_redone.specs.Redo.{Mode, Plain, Headed, Pointed, Raw, is_asked, is_tagged, quasi_mode, object_mode}
 use Rattle.ecma_redone.specs.Every.{every, every_all}
@@ -24,7 +24,7 @@ module _ (know : Knowledge) where
   AllFine m ts r = every_all (Read know.Known) m ts × know.Known r.places
 
   abbrev pub Found : Tree → Type 0
-  Found t = (mode : Mode) → is_tagged mode ≡ false → is_quasi t ≡ false → (c : Code) (ts r : Input) → Spells t c ts r → know.Known ts.places → Fine mode t r
+  Found t = (mode : Mode) → is_tagged mode ≡ false → is_quasi t ≡ false → (c : Code) (ts r : Input) → Produces t c ts r → know.Known ts.places → Fine mode t r
 
   abbrev pub AllFound : Trees → Type 0
   AllFound none = Unit {0}
@@ -118,8 +118,8 @@ module _ (know : Knowledge) where
   -- ---- parts
 
   -- a part in its own code, as each of a list is
-  abbrev pub Each : (Part → Input → Input → Type 0) → Type 0
-  Each Q = (t : Tree) → Found t → (ts r : Input) → Q (part t (λ y. Spells t y)) ts r → know.Known ts.places → Fine Plain t r
+  abbrev pub Each : (Child → Input → Input → Type 0) → Type 0
+  Each Q = (t : Tree) → Found t → (ts r : Input) → Q (child t (λ y. Produces t y)) ts r → know.Known ts.places → Fine Plain t r
 
   pub expr : (n : ℕ) → nat_le 1 n ≡ true → (c : Code) → Each (Expr n c)
   expr n o c t f ts r h l = f Plain refl (whole_level n t o h.0) _ ts r h.1 l
@@ -136,31 +136,31 @@ module _ (know : Knowledge) where
   choice true e i A B r h f g = (gone e i, f h)
   choice false e i A B r h f g = g h
 
-  pub maybe : (Q : Code → Part → Input → Input → Type 0) (c : Code) → Each (Q c) → Each (Maybe Q c)
+  pub maybe : (Q : Code → Child → Input → Input → Type 0) (c : Code) → Each (Q c) → Each (Maybe Q c)
   maybe Q c q t f ts r h l = choice (is_absent t) t refl _ _ r h (λ e. at ts r e l) (λ e. q t f ts r e l)
 
-  pub commas : (Q : Part → Input → Input → Type 0) → Each Q → (c : Code) (xs : Trees) → AllFound xs → (ts r : Input) → CommaThen Q c (parts xs) ts r → know.Known ts.places → AllFine Plain xs r
+  pub commas : (Q : Child → Input → Input → Type 0) → Each Q → (c : Code) (xs : Trees) → AllFound xs → (ts r : Input) → CommaThen Q c (children xs) ts r → know.Known ts.places → AllFine Plain xs r
   commas Q q c none a ts r h l = (tt, at ts r h l)
   commas Q q c (more t us) a ts r h l = let y = q t a.0 h.0 h.1 h.3 (took c comma_kind ts h.0 h.2 l) in let z = commas Q q c us a.1 h.1 r h.4 y.1 in ((y.0, z.0), z.1)
 
-  pub joined : (Q : Part → Input → Input → Type 0) → Each Q → (c : Code) (xs : Trees) → AllFound xs → (ts r : Input) → Commas Q c (parts xs) ts r → know.Known ts.places → AllFine Plain xs r
+  pub joined : (Q : Child → Input → Input → Type 0) → Each Q → (c : Code) (xs : Trees) → AllFound xs → (ts r : Input) → Commas Q c (children xs) ts r → know.Known ts.places → AllFine Plain xs r
   joined Q q c none a ts r h l = absurd h
   joined Q q c (more t us) a ts r h l = let y = q t a.0 ts h.0 h.1 l in let z = commas Q q c us a.1 h.0 r h.2 y.1 in ((y.0, z.0), z.1)
 
-  pub behind : (holes : Bool) (Q : Part → Input → Input → Type 0) (c : Code) (close : ℕ) (xs : Trees) (b : Bool) → ((m r : Input) → Listed holes Q c close (parts xs) m r → know.Known m.places → AllFine Plain xs r) → (m r : Input)
-      → ((b ≡ false) × (n : Input) × Takes c comma_kind m n × Listed holes Q c close (parts xs) n r) ⊎ (IsEmpty (parts xs) × Takes c close m r) → know.Known m.places → AllFine Plain xs r
+  pub behind : (holes : Bool) (Q : Child → Input → Input → Type 0) (c : Code) (close : ℕ) (xs : Trees) (b : Bool) → ((m r : Input) → Listed holes Q c close (children xs) m r → know.Known m.places → AllFine Plain xs r) → (m r : Input)
+      → ((b ≡ false) × (n : Input) × Takes c comma_kind m n × Listed holes Q c close (children xs) n r) ⊎ (IsEmpty (children xs) × Takes c close m r) → know.Known m.places → AllFine Plain xs r
   behind holes Q c close xs b f m r (inl h) l = f h.1 r h.3 (took c comma_kind m h.1 h.2 l)
   behind holes Q c close none b f m r (inr h) l = (tt, took c close m r h.1 l)
   behind holes Q c close (more t ts) b f m r (inr h) l = absurd h.0
 
-  pub listed : (holes : Bool) (Q : Part → Input → Input → Type 0) → Each Q → (c : Code) (close : ℕ) (xs : Trees) → AllFound xs → (ts r : Input) → Listed holes Q c close (parts xs) ts r → know.Known ts.places → AllFine Plain xs r
+  pub listed : (holes : Bool) (Q : Child → Input → Input → Type 0) → Each Q → (c : Code) (close : ℕ) (xs : Trees) → AllFound xs → (ts r : Input) → Listed holes Q c close (children xs) ts r → know.Known ts.places → AllFine Plain xs r
   listed holes Q q c close none a ts r h l = (tt, took c close ts r h l)
   listed true Q q c close (more hole us) a ts r h l = let z = listed true Q q c close us a.1 h.0 r h.2 (took c comma_kind ts h.0 h.1 l) in ((tt, z.0), z.1)
   listed true Q q c close (more t us) a ts r h l = let y = q t a.0 ts h.0 h.1 l in let z = behind true Q c close us _ (λ m r i l. listed true Q q c close us a.1 m r i l) h.0 r h.2 y.1 in ((y.0, z.0), z.1)
   listed false Q q c close (more t us) a ts r h l = let y = q t a.0 ts h.0 h.1 l in let z = behind false Q c close us _ (λ m r i l. listed false Q q c close us a.1 m r i l) h.0 r h.2 y.1 in ((y.0, z.0), z.1)
 
   pub items : (may : Tree → Bool) → Apart may → (close : Code → Input → Input → Type 0) → ((c : Code) (m r : Input) → close c m r → know.Known m.places → know.Known r.places) → (c : Code) (starts : Bool) (ss : Trees) → AllFound ss → (ts r : Input)
-      → Items may close c starts (parts ss) ts r → know.Known ts.places → AllFine Plain ss r
+      → Items may close c starts (children ss) ts r → know.Known ts.places → AllFine Plain ss r
   items may never close k c starts none a ts r h l = (tt, k c ts r h l)
   items may never close k c starts (more t us) a ts r h l =
       let y = a.0 Plain refl (whole_test may t never h.1) _ ts h.0 h.2 l in let z = items may never close k (if starts && is_use_strict t then turned_strict c else c) (starts && is_directive t) us a.1 h.0 r h.3 y.1 in ((y.0, z.0), z.1)

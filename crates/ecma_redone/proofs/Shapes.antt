@@ -7,7 +7,7 @@ use Rattle.ecma_nesting.specs.Nesting.{deepest, is_if, nesting_step}
 use Rattle.ecma_syntax.specs.Shape.{clean_step, is_clean}
 use Rattle.ecma_layout.specs.declared.look.Look.{Look}
 use Rattle.ecma_layout.specs.Looks.{formats}
-use Rattle.ecma_redone.specs.Redo.{Mode, Plain, Leaves, kept_at, redo, Same}
+use Rattle.ecma_redone.specs.Redo.{Mode, Plain, Leaves, kept_at, redo, Redone}
 use Rattle.ecma_redone.specs.Written.{leaves_by, given_none, new_arguments}
 use Rattle.ecma_redone.specs.Laws.{NestsAlike, CleanAlike}
 use Rattle.ecma_redone.proofs.Folded.{Kids, everywhere, folded, kids_equal}
@@ -62,7 +62,7 @@ module _ {A : Type 0} (step : Tree → List (List A) → A) (alike : (l : Leaves
       constructor_key = λ k e h. constructor_key_folded (λ a b. a ≡ b) step (leaves_by look read written) k (λ s u w i. sym (leaf_alike _ _ s u w)) h;
     }) m t (everywhere Nothing (λ m t. tt) m t)
 
-    folded_same : (m : Mode) (t u : Tree) → Same (leaves_by look read written) m t u → fold step u ≡ fold step t
+    folded_same : (m : Mode) (t u : Tree) → Redone (leaves_by look read written) m t u → fold step u ≡ fold step t
     folded_same m t u s = sym (folded_kept written Plain u) ∙ (ap (λ v. fold step v) (s.so Plain) ∙ folded_written m t)
 
 pub nests_alike : NestsAlike

@@ -9,26 +9,26 @@ use Rattle.ecma_syntax.specs.Shape.{is_clean}
 use Rattle.ecma_early.specs.Early.{early_errors}
 use Rattle.ecma_layout.specs.declared.look.Look.{Look}
 use Rattle.ecma_program.specs.Program.{IsSameProgram}
-use Rattle.ecma_redone.specs.Redo.{Mode, Plain, Same}
+use Rattle.ecma_redone.specs.Redo.{Mode, Plain, Redone}
 use Rattle.ecma_redone.specs.Every.{every}
 use Rattle.ecma_redone.specs.Faithful.{Faithful, HasElements}
 use Rattle.ecma_redone.specs.Written.{leaves_by}
 
 -- It nests as deep.
 abbrev pub NestsAlike : Type 0
-NestsAlike = (look : Look) (read written : ℕ → Span) (mode : Mode) (t u : Tree) → Same (leaves_by look read written) mode t u → nesting u ≡ nesting t
+NestsAlike = (look : Look) (read written : ℕ → Span) (mode : Mode) (t u : Tree) → Redone (leaves_by look read written) mode t u → nesting u ≡ nesting t
 
 -- Where nothing of a cover is left in the one, nothing is in the other.
 abbrev pub CleanAlike : Type 0
-CleanAlike = (look : Look) (read written : ℕ → Span) (mode : Mode) (t u : Tree) → Same (leaves_by look read written) mode t u → is_clean u ≡ is_clean t
+CleanAlike = (look : Look) (read written : ℕ → Span) (mode : Mode) (t u : Tree) → Redone (leaves_by look read written) mode t u → is_clean u ≡ is_clean t
 
 -- It is the same program, where each leaf is told by what is written of it.
 abbrev pub SameProgram : Type 0
-SameProgram = (look : Look) (read written : ℕ → Span) (mode : Mode) (t u : Tree) → every (Faithful look) mode t → every HasElements Plain u → Same (leaves_by look read written) mode t u → IsSameProgram u t
+SameProgram = (look : Look) (read written : ℕ → Span) (mode : Mode) (t u : Tree) → every (Faithful look) mode t → every HasElements Plain u → Redone (leaves_by look read written) mode t u → IsSameProgram u t
 
 -- No early error appears, where each leaf is told by what is written of it.
 abbrev pub LegalAlike : Type 0
-LegalAlike = (look : Look) (read written : ℕ → Span) (mode : Mode) (t u : Tree) → every (Faithful look) mode t → Same (leaves_by look read written) mode t u → (syntax : EsSyntax) → early_errors syntax t ≡ [] → early_errors syntax u ≡ []
+LegalAlike = (look : Look) (read written : ℕ → Span) (mode : Mode) (t u : Tree) → every (Faithful look) mode t → Redone (leaves_by look read written) mode t u → (syntax : EsSyntax) → early_errors syntax t ≡ [] → early_errors syntax u ≡ []
 
 -- The names of a tree, with the place of each kept as this.
 abbrev pub kept_names : (ℕ → Span) → Tree → List Identifier
@@ -36,4 +36,4 @@ kept_names places t = map (λ n. record { sym = n.sym; span = places n.at }) (na
 
 -- It has as many names, each the same name, and the i-th of the one stands for the i-th of the other.
 abbrev pub NamesAlike : Type 0
-NamesAlike = (look : Look) (read written : ℕ → Span) (mode : Mode) (t u : Tree) → Same (leaves_by look read written) mode t u → kept_names written u ≡ kept_names read t
+NamesAlike = (look : Look) (read written : ℕ → Span) (mode : Mode) (t u : Tree) → Redone (leaves_by look read written) mode t u → kept_names written u ≡ kept_names read t

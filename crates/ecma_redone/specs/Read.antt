@@ -4,17 +4,17 @@ use Rattle.ecma_number.specs.Numbers.{SpecNumber}
 use Rattle.ecma_token.specs.Tokens.{Content, Quoted, Numeral, BigNumeral, Piece, Pattern}
 use Rattle.ecma_token.specs.declared.place.Span.{Span}
 use Rattle.ecma_tree.specs.Tree.{Tree, ident, ident_name, private_name, str_lit, number_lit, big_int_lit, regex_lit, tpl, tpl_element}
-use Rattle.ecma_syntax.specs.Input.{Place, Input, rest, lo, content, is_word, kind, text}
+use Rattle.ecma_syntax.specs.Input.{PlacedToken, Input, rest, lo, content, is_word, kind, text}
 use Rattle.ecma_syntax.specs.Shape.{is_cooked}
 use Rattle.ecma_redone.specs.Redo.{Mode, is_tagged}
 use Rattle.ecma_redone.specs.Faithful.{AreElements}
 
 -- What is known of the tokens of an input, and so of those after the first.
 pub record Knowledge : Type 1 where
-  pub Known : List Place → Type 0
+  pub Known : List PlacedToken → Type 0
   pub later : (ts m : Input) → rest ts ≡ m → Known ts.places → Known m.places
 
-module _ (Known : List Place → Type 0) where
+module _ (Known : List PlacedToken → Type 0) where
   -- A known token has this content.
   pub record Told (x : Content) : Type 0 where
     pub at : Input

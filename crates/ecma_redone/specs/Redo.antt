@@ -212,12 +212,12 @@ module _ (leaves : Leaves) where
     redos mode (more t ts) = more (redo mode t) (redos mode ts)
 
 -- A tree is this one but for places and for spellings, which are those that are given; and its names stand for those of this one.
-pub record Same (leaves : Leaves) (mode : Mode) (t u : Tree) : Type 0 where
+pub record Redone (leaves : Leaves) (mode : Mode) (t u : Tree) : Type 0 where
   pub so : (n : Mode) → redo (kept_at leaves.written) n u ≡ redo leaves mode t
 
-pub record AllSame (leaves : Leaves) (mode : Mode) (ts us : Trees) : Type 0 where
+pub record AllRedone (leaves : Leaves) (mode : Mode) (ts us : Trees) : Type 0 where
   pub so : (n : Mode) → redos (kept_at leaves.written) n us ≡ redos leaves mode ts
 
 -- the same of a key
-pub record SameKey (leaves : Leaves) (t u : Tree) : Type 0 where
+pub record RedoneKey (leaves : Leaves) (t u : Tree) : Type 0 where
   pub so : (n : Mode) → redo (kept_at leaves.written) n u ≡ leaves.key (redo leaves Plain t)

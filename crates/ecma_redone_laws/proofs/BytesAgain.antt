@@ -17,7 +17,7 @@ use Rattle.ecma_layout.specs.Layout.{laid}
 use Rattle.ecma_layout.specs.Literals.{string_bytes, number_bytes, big_bytes, quasi_bytes, is_escaped_directive}
 use Rattle.ecma_layout_laws.proofs.Alike.{Alike}
 use Rattle.ecma_written.specs.Means.{Known}
-use Rattle.ecma_redone.specs.Redo.{Mode, Plain, Headed, Raw, is_head, is_pointed, is_tagged, quasi_mode, object_mode, chain_mode, placed, Leaves, nowhere, redo, redos, Same as RedoSame}
+use Rattle.ecma_redone.specs.Redo.{Mode, Plain, Headed, Raw, is_head, is_pointed, is_tagged, quasi_mode, object_mode, chain_mode, placed, Leaves, nowhere, redo, redos, Redone}
 use Rattle.ecma_redone.specs.Every.{every, every_all}
 use Rattle.ecma_redone.specs.Read.{Read, ReadString, ReadNumber, ReadBig, Told}
 use Rattle.ecma_redone.specs.Written.{leaves_of, new_arguments, written_key, written_constructor_key}
@@ -260,6 +260,6 @@ module _ (t : EsVersion) (i : Bool) (modern : nat_lt (edition_rank t) 2 ≡ fals
     all_agree mode (more u us) h = λ k. more (agrees mode u h.0 k) (all_agree mode us h.1 k)
 
   -- The layout is alike.
-  pub laid_again : (s u : Tree) → every (Read Known) Plain s → RedoSame (leaves_of first) Plain s u → Alike false (laid second Alone u) (laid second Alone s)
+  pub laid_again : (s u : Tree) → every (Read Known) Plain s → Redone (leaves_of first) Plain s u → Alike false (laid second Alone u) (laid second Alone s)
   unfolding sure
   laid_again s u h e = alike_with (sure first second) second (kept_spelt second nowhere) (sure_spelt first second) s u (record { so = λ k. e.so k ∙ sym (agrees Plain s h) })

@@ -11,7 +11,7 @@ use Rattle.ecma_layout_laws.specs.Marks.{unmarked, AreWrittenAlike}
 use Rattle.ecma_layout_laws.proofs.Alike.{Alike, listed_seen, refused_seen}
 use Rattle.ecma_layout_laws.proofs.Marks.{plain_resolved, plain_shortened}
 use Rattle.ecma_written.specs.Means.{Known}
-use Rattle.ecma_redone.specs.Redo.{Plain, Same}
+use Rattle.ecma_redone.specs.Redo.{Plain, Redone}
 use Rattle.ecma_redone.specs.Every.{every}
 use Rattle.ecma_redone.specs.Read.{Read}
 use Rattle.ecma_redone.specs.Written.{leaves_of}
@@ -53,9 +53,9 @@ module _ (one two : Look) (w : WritesAgain one two) where
     asserts = two.asserts;
   }
 
-  alike_again : (t u : Tree) → every (Read Known) Plain t → Same (leaves_of one) Plain t u → Alike false (laid two Alone u) (laid two Alone t)
+  alike_again : (t u : Tree) → every (Read Known) Plain t → Redone (leaves_of one) Plain t u → Alike false (laid two Alone u) (laid two Alone t)
   alike_again t u h s = subst (λ (l : Look). Alike false (laid l Alone u) (laid l Alone t)) two_is
-      (laid_again one.style.target one.style.inline_script w.modern one.style.minify two.style.minify w.short one.omits_last one.asserts two.omits_last two.asserts t u h (subst (λ (l : Look). Same (leaves_of l) Plain t u) (sym one_is) s))
+      (laid_again one.style.target one.style.inline_script w.modern one.style.minify two.style.minify w.short one.omits_last one.asserts two.omits_last two.asserts t u h (subst (λ (l : Look). Redone (leaves_of l) Plain t u) (sym one_is) s))
 
 pub written_again : WrittenAgain
 written_again one two w t u h s = written_alike two u t (alike_again one two w t u h s)

@@ -1,12 +1,12 @@
 -- What is derived from tokens that were read is read from these.
 use Rattle.std.proofs.Common.{List, [], ◌∷◌, subst}
-use Rattle.ecma_syntax.specs.Input.{Place, Input, others}
+use Rattle.ecma_syntax.specs.Input.{PlacedToken, Input, others}
 use Rattle.ecma_written.specs.Means.{Known}
 use Rattle.ecma_redone.specs.Read.{Knowledge}
 use Rattle.ecma_redone.proofs.Found.{found}
 use Rattle.ecma_redone_laws.specs.TextsLaws.{DerivedIsRead}
 
-others_known : (ps : List Place) → Known ps → Known (others ps)
+others_known : (ps : List PlacedToken) → Known ps → Known (others ps)
 others_known [] k = tt
 others_known (p ∷ ps) k = k.1
 

@@ -3,7 +3,7 @@ use Rattle.std.proofs.Common.{Bool, List, None, Some, false, if◌then◌else◌
 use Rattle.ecma_token.specs.declared.place.Span.{Span}
 use Rattle.ecma_tree.specs.Tree.{Tree, Trees, absent, array_lit, array_pat, arrow_expr, assign_expr, assign_pat, assign_pat_prop, assign_prop, auto_accessor, await_expr, big_int_lit, bin_expr, binding_ident, block_stmt, bool_lit, break_stmt, call_expr, catch_clause, class, class_decl, class_expr, class_method, class_prop, computed_prop_name, cond_expr, constructor, continue_stmt, debugger_stmt, do_while_stmt, empty_stmt, es_module, export_all, export_decl, export_default_decl, export_default_expr, export_named_specifier, export_namespace_specifier, expr_or_spread, expr_pat, expr_stmt, fn_decl, fn_expr, for_in_stmt, for_of_stmt, for_stmt, function, getter_prop, ident, ident_name, if_stmt, import, import_decl, import_default_specifier, import_named_specifier, import_star_as_specifier, key_value_pat_prop, key_value_prop, labeled_stmt, list, member_expr, meta_prop_expr, method_prop, more, named_export, new_expr, none, null_lit, number_lit, object_lit, object_pat, opt_call, opt_chain_expr, param, paren_expr, plain_method, private_method, private_name, private_prop, regex_lit, rest_pat, return_stmt, script, seq_expr, setter_prop, spread_element, static_block, str_lit, super, super_prop_expr, switch_case, switch_stmt, tagged_tpl, this_expr, throw_stmt, tpl, tpl_element, try_stmt, unary_expr, update_expr, using_decl, var_decl, var_declarator, while_stmt, with_stmt, yield_expr}
 use Rattle.ecma_syntax.specs.Input.{lo, span}
-use Rattle.ecma_grammar.specs.Parts.{By}
+use Rattle.ecma_grammar.specs.Children.{By}
 use Rattle.ecma_grammar_complete_base.proofs.Trees.{begins}
 use Rattle.ecma_layout.specs.Layout.{is_key as is_key_stand}
 use Rattle.ecma_layout.specs.Literals.{key_word, name}
@@ -11,7 +11,7 @@ use Rattle.ecma_layout.specs.Looks.{last}
 use Rattle.ecma_layout.specs.declared.look.Look.{Look}
 use Rattle.ecma_layout.specs.declared.look.Stand.{Stand}
 use Rattle.ecma_layout.specs.declared.look.Stand.TheVariants.{Alone, Head, Key, Operand}
-use Rattle.ecma_written.specs.Gaps.{Touching}
+use Rattle.ecma_written.specs.Spacings.{Touching}
 use Rattle.ecma_written.specs.Lexicon.{Lexicon}
 use Rattle.ecma_written.specs.Told.{says}
 use Rattle.ecma_redone_rules.proofs.KeyParts.{KeyPart}
@@ -69,7 +69,7 @@ module _ (look : Look) (x : Lexicon look.style) where
         broke = p.1.broke;
         tight = λ e. refl;
         begins = λ e. sym z.0 ∙ e;
-        again = λ f. record { tree = ident_name (span (lo ts) p.0.last) n; spelled = (z.1, refl); directive = refl; quoted = λ p q. refl; same = record { so = λ m. refl } };
+        again = λ f. record { tree = ident_name (span (lo ts) p.0.last) n; produced = (z.1, refl); directive = refl; quoted = λ p q. refl; same = record { so = λ m. refl } };
       }
 
   mutual

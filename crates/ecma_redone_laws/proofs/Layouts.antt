@@ -9,7 +9,7 @@ use Rattle.ecma_layout.specs.declared.look.Stand.TheVariants.{Alone, Operand, Bo
 use Rattle.ecma_layout.specs.Looks.{Laid, ◌·◌, formats, start, end}
 use Rattle.ecma_layout.specs.Layout.{laid, statements, rows, separated, each, import_heads, named_items, first_namespace, template, comma, comma_line, is_named, is_no_namespace, is_head, is_computed, is_tagged as is_tagged_stand, has_arguments, number_before, point_before, optional_dot}
 use Rattle.ecma_layout.specs.Literals.{number}
-use Rattle.ecma_redone.specs.Redo.{Mode, Plain, Headed, Pointed, Raw, is_tagged, is_asked, is_pointed, is_head as is_head_mode, object_mode, quasi_mode, Leaves, kept_at, redo, redos, Same as RedoSame}
+use Rattle.ecma_redone.specs.Redo.{Mode, Plain, Headed, Pointed, Raw, is_tagged, is_asked, is_pointed, is_head as is_head_mode, object_mode, quasi_mode, Leaves, kept_at, redo, redos, Redone}
 use Rattle.ecma_redone.specs.Written.{new_arguments, given_none}
 use Rattle.ecma_layout_laws.proofs.Alike.{Alike, seen, same, ◌▸◌, if_same, if_alike, when_same, when_alike, start_alike, end_alike, last_alike}
 use Rattle.ecma_redone_laws.proofs.Questions
@@ -382,7 +382,7 @@ module _ (given : Leaves) (look : Look) (h : Spelt look (keyless given)) where
 
 -- ---- the tree that is this one but for spellings
 
-pub alike_with : (given : Leaves) (two : Look) → Spelt two (kept_at given.written) → Spelt two (keyless given) → (t u : Tree) → RedoSame (keyless given) Plain t u → Alike false (laid two Alone u) (laid two Alone t)
+pub alike_with : (given : Leaves) (two : Look) → Spelt two (kept_at given.written) → Spelt two (keyless given) → (t u : Tree) → Redone (keyless given) Plain t u → Alike false (laid two Alone u) (laid two Alone t)
 alike_with given two k w t u s = record {
   so = sym (laid_alike (kept_at given.written) two k Alone Plain u (at_alone (is_number u))).so ∙ (ap (λ (v : Tree). seen false (laid two Alone v)) (s.so Plain) ∙ (laid_alike given two w Alone Plain t (at_alone (is_number t))).so);
 }

@@ -8,18 +8,18 @@ use Rattle.ecma_tree.specs.Places.{no_place}
 use Rattle.ecma_tree.specs.Tree.{Tree, Trees, es_module, export_all, export_decl, export_default_decl, export_default_expr, import_decl, more, named_export, script}
 use Rattle.ecma_syntax.specs.Input.{Code, Input, kind, kind_of, lo, span, unplaced}
 use Rattle.ecma_syntax.specs.Shape.{is_item, is_module_decl}
-use Rattle.ecma_grammar.specs.Grammar.{Spells, parts}
+use Rattle.ecma_grammar.specs.Grammar.{Produces, children}
 use Rattle.ecma_grammar.specs.Modules.{Hashbang, Program}
-use Rattle.ecma_grammar.specs.Parts.{AtEnd, is_module_item}
+use Rattle.ecma_grammar.specs.Children.{AtEnd, is_module_item}
 use Rattle.ecma_layout.specs.Layout.{hashbang, is_empty, laid, statements}
 use Rattle.ecma_layout.specs.Looks.{commit, last, start, when, ◌·◌}
 use Rattle.ecma_layout.specs.declared.look.Look.{Look}
 use Rattle.ecma_layout.specs.declared.look.Stand.TheVariants.{Alone}
-use Rattle.ecma_written.specs.Gaps.{Gap}
+use Rattle.ecma_written.specs.Spacings.{Spacing}
 use Rattle.ecma_written.specs.Lexicon.{Lexicon}
 use Rattle.ecma_written.specs.Means.{Known}
 use Rattle.ecma_written.specs.Told.{says}
-use Rattle.ecma_redone.specs.Redo.{AllSame, Leaves, Mode, Plain, redo}
+use Rattle.ecma_redone.specs.Redo.{AllRedone, Leaves, Mode, Plain, redo}
 use Rattle.ecma_redone_rules.proofs.Naming.{leaves_at}
 use Rattle.ecma_redone_rules.proofs.Begins.{is_inner}
 use Rattle.ecma_redone_rules.proofs.Bodies.{item_flat, statements_on}
@@ -66,45 +66,45 @@ module _ (look : Look) (x : Lexicon look.style) where
 
   -- ---- a hashbang, or none (12.5)
 
-  record Hashbang_on (l : Option (List ℕ)) (c : Code) (r0 : Input) (ts : Input) (K : Gap → Input → Type 0) : Type 0 where
-    d : Gap
+  record Hashbang_on (l : Option (List ℕ)) (c : Code) (r0 : Input) (ts : Input) (K : Spacing → Input → Type 0) : Type 0 where
+    d : Spacing
     m : Input
     more : K d m
     known : Known r0.places
     again : Hashbang (unplaced c) l ts m
 
-  hashbang_on : (l : Option (List ℕ)) (c : Code) (ts0 r0 : Input) → Hashbang c l ts0 r0 → Known ts0.places → (b : Gap) (ts : Input) (K : Gap → Input → Type 0) → says x.naming (hashbang l) b ts K → Hashbang_on l c r0 ts K
+  hashbang_on : (l : Option (List ℕ)) (c : Code) (ts0 r0 : Input) → Hashbang c l ts0 r0 → Known ts0.places → (b : Spacing) (ts : Input) (K : Spacing → Input → Type 0) → says x.naming (hashbang l) b ts K → Hashbang_on l c r0 ts K
   hashbang_on None c ts0 r0 h k b ts K q = record { d = b; m = ts; more = q; known = subst (λ (i : Input). Known i.places) h k; again = refl }
   hashbang_on (Some own) c ts0 r0 h k b ts K q = record { d = q.2.0; m = q.0; more = q.2.2; known = x.later ts0 r0 h.1.2 k; again = (q.1.content_is, (q.1.kind_is, tt, q.1.after)) }
 
   -- ---- the whole
 
-  uncommitted : (v : Bool) (d : Gap) (m : Input) → says x.naming (when v commit) d m (λ d m. m.places ≡ []) → m.places ≡ []
+  uncommitted : (v : Bool) (d : Spacing) (m : Input) → says x.naming (when v commit) d m (λ d m. m.places ≡ []) → m.places ≡ []
   uncommitted true d m o = o
   uncommitted false d m o = o
 
   record Program_on (may : Tree → Bool) (l : Option (List ℕ)) (ss : Trees) (c : Code) (ts : Input) : Type 0 where
     us : Trees
     m : Input
-    spelled : Program may (unplaced c) (span (lo ts) m.last) l (parts us) ts m
-    same : AllSame (leaves_at look x.naming) Plain ss us
+    produced : Program may (unplaced c) (span (lo ts) m.last) l (children us) ts m
+    same : AllRedone (leaves_at look x.naming) Plain ss us
 
   program_on : (may : Tree → Bool) → ((l : Leaves) (m : Mode) (t : Tree) → may (redo l m t) ≡ may t) → ((t : Tree) → may t ≡ true → (is_closed t ≡ true) × (is_inner t ≡ false)) → (s : Span) (ss : Trees) (l : Option (List ℕ)) → AllSound look x.naming ss → (c : Code) (ts0 r0 : Input)
-      → Program may c s l (parts ss) ts0 r0 → Known ts0.places → (b : Gap) (ts : Input) → says x.naming (when (is_empty ss) (start s) · hashbang l · statements look ss · when (not look.omits_last) commit) b ts (λ d m. m.places ≡ []) → Program_on may l ss c ts
+      → Program may c s l (children ss) ts0 r0 → Known ts0.places → (b : Spacing) (ts : Input) → says x.naming (when (is_empty ss) (start s) · hashbang l · statements look ss · when (not look.omits_last) commit) b ts (λ d m. m.places ≡ []) → Program_on may l ss c ts
   program_on may re flat s ss l a c ts0 r0 h k b ts q =
       let i = skip_mark x.naming (is_empty ss) s.lo b ts _ q in
       let y = hashbang_on l c ts0 h.0 h.1 k b ts (λ d m. says x.naming (statements look ss · when (not look.omits_last) commit) d m (λ d m. m.places ≡ [])) i in
       let v = statements_on look x may re flat AtEnd closed_end c true ss a h.0 r0 h.2 y.known y.d y.m (λ d m. says x.naming (when (not look.omits_last) commit) d m (λ d m. m.places ≡ [])) (λ d m o e. end_no_else m (uncommitted (not look.omits_last) d m o) e) y.more in
       let w = v.again v.m (λ o. (uncommitted (not look.omits_last) v.d v.m v.more, refl)) in
-      record { us = w.0; m = v.m; spelled = (y.m, y.again, w.1, refl); same = w.2 }
+      record { us = w.0; m = v.m; produced = (y.m, y.again, w.1, refl); same = w.2 }
 
-  program_again : (t : Tree) → is_program t ≡ true → (c : Code) (ts0 r0 : Input) → Spells t c ts0 r0 → Known ts0.places → (b : Gap) (ts : Input) → says x.naming (laid look Alone t) b ts (λ d m. m.places ≡ []) → DerivesAgain x.naming look t c ts
+  program_again : (t : Tree) → is_program t ≡ true → (c : Code) (ts0 r0 : Input) → Produces t c ts0 r0 → Known ts0.places → (b : Spacing) (ts : Input) → says x.naming (laid look Alone t) b ts (λ d m. m.places ≡ []) → DerivesAgain x.naming look t c ts
   program_again (script s ss l) i c ts0 r0 h k b ts q =
       let z = program_on is_item re_is_item item_flat s ss l (agains look x ss) c ts0 r0 h k b ts q in
-      (script (span (lo ts) z.m.last) z.us l, z.m, z.spelled, record { so = λ n. ap (λ (us : Trees). script no_place us l) (z.same.so Plain) })
+      (script (span (lo ts) z.m.last) z.us l, z.m, z.produced, record { so = λ n. ap (λ (us : Trees). script no_place us l) (z.same.so Plain) })
   program_again (es_module s ss l) i c ts0 r0 h k b ts q =
       let z = program_on is_module_item re_is_module_item module_item_flat s ss l (agains look x ss) c ts0 r0 h k b ts q in
-      (es_module (span (lo ts) z.m.last) z.us l, z.m, z.spelled, record { so = λ n. ap (λ (us : Trees). es_module no_place us l) (z.same.so Plain) })
+      (es_module (span (lo ts) z.m.last) z.us l, z.m, z.produced, record { so = λ n. ap (λ (us : Trees). es_module no_place us l) (z.same.so Plain) })
   program_again _ i c ts0 r0 h k b ts q = absurd (true≢false (sym i))
 
 pub derived_again : DerivedAgain

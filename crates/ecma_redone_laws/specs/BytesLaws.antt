@@ -5,7 +5,7 @@ use Rattle.ecma_tree.specs.Tree.{Tree}
 use Rattle.ecma_layout.specs.declared.look.Look.{Look}
 use Rattle.ecma_layout_laws.specs.Marks.{AreWrittenAlike}
 use Rattle.ecma_written.specs.Means.{Known}
-use Rattle.ecma_redone.specs.Redo.{Plain, Same}
+use Rattle.ecma_redone.specs.Redo.{Plain, Redone}
 use Rattle.ecma_redone.specs.Every.{every}
 use Rattle.ecma_redone.specs.Read.{Read}
 use Rattle.ecma_redone.specs.Written.{leaves_of}
@@ -22,4 +22,4 @@ pub record WritesAgain (one two : Look) : Type 0 where
 
 -- A tree whose spellings are those of the text written of a tree that was read is written as that one.
 abbrev pub WrittenAgain : Type 0
-WrittenAgain = (one two : Look) → WritesAgain one two → (t u : Tree) → every (Read Known) Plain t → Same (leaves_of one) Plain t u → AreWrittenAlike two u t
+WrittenAgain = (one two : Look) → WritesAgain one two → (t u : Tree) → every (Read Known) Plain t → Redone (leaves_of one) Plain t u → AreWrittenAlike two u t

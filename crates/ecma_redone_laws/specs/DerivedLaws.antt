@@ -2,16 +2,16 @@
 use Rattle.std.specs.Prelude.{◌≡◌, Bool, true, false, List, []}
 use Rattle.ecma_tree.specs.Tree.{Tree, script, es_module}
 use Rattle.ecma_syntax.specs.Input.{Input, Code, unplaced}
-use Rattle.ecma_grammar.specs.Grammar.{Spells}
+use Rattle.ecma_grammar.specs.Grammar.{Produces}
 use Rattle.ecma_layout.specs.declared.look.Look.{Look}
 use Rattle.ecma_layout.specs.declared.look.Stand.TheVariants.{Alone}
 use Rattle.ecma_layout.specs.Layout.{laid}
-use Rattle.ecma_written.specs.Gaps.{Gap}
+use Rattle.ecma_written.specs.Spacings.{Spacing}
 use Rattle.ecma_written.specs.Lexicon.{Lexicon}
 use Rattle.ecma_written.specs.Means.{Known}
 use Rattle.ecma_written.specs.Naming.{Naming}
 use Rattle.ecma_written.specs.Told.{says}
-use Rattle.ecma_redone.specs.Redo.{Plain, Same}
+use Rattle.ecma_redone.specs.Redo.{Plain, Redone}
 use Rattle.ecma_redone.specs.Written.{leaves_by}
 
 -- a Script or a Module (16.1, 16.2)
@@ -22,9 +22,9 @@ is_program _ = false
 
 -- A tree that derives the tokens, that is this one but for places and spellings, and whose names stand for those of this one.
 abbrev pub DerivesAgain : Naming → Look → Tree → Code → Input → Type 0
-DerivesAgain n look t c ts = (u : Tree) × (r : Input) × Spells u (unplaced c) ts r × Same (leaves_by look n.read n.written) Plain t u
+DerivesAgain n look t c ts = (u : Tree) × (r : Input) × Produces u (unplaced c) ts r × Redone (leaves_by look n.read n.written) Plain t u
 
 -- Where texts mean what they spell, the tokens of a text that a program derives were read, and its layout says tokens up to their end, each name where it stands, these are derived again.
 abbrev pub DerivedAgain : Type 0
-DerivedAgain = (n : Naming) (look : Look) → Lexicon look.style → (t : Tree) → is_program t ≡ true → (c : Code) (ts0 r0 : Input) → Spells t c ts0 r0 → Known ts0.places
-    → (b : Gap) (ts : Input) → says n (laid look Alone t) b ts (λ d m. m.places ≡ []) → DerivesAgain n look t c ts
+DerivedAgain = (n : Naming) (look : Look) → Lexicon look.style → (t : Tree) → is_program t ≡ true → (c : Code) (ts0 r0 : Input) → Produces t c ts0 r0 → Known ts0.places
+    → (b : Spacing) (ts : Input) → says n (laid look Alone t) b ts (λ d m. m.places ≡ []) → DerivesAgain n look t c ts

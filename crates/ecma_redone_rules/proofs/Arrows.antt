@@ -6,23 +6,23 @@ use Rattle.ecma_token.specs.declared.context.Context.{Context}
 use Rattle.ecma_token.specs.declared.place.Span.{Span}
 use Rattle.ecma_tree.specs.Places.{no_place}
 use Rattle.ecma_tree.specs.Tree.{Tree, Trees, arrow_expr, binding_ident, block_stmt, ident, more, none}
-use Rattle.ecma_syntax.specs.Input.{Code, Input, Only, Place, Takes, always_reserved, binding, brk, brk2, context_of, in_arrow, in_list, is_word, judged, kind, kind2, lo, no_name, operator_word, rest, span, unplaced, with_in}
+use Rattle.ecma_syntax.specs.Input.{Code, Input, Only, PlacedToken, Takes, always_reserved, binding, brk, brk2, context_of, in_arrow, in_list, is_word, judged, kind, kind2, lo, no_name, operator_word, rest, span, unplaced, with_in}
 use Rattle.ecma_syntax.specs.Operators.{assignment_level}
 use Rattle.ecma_syntax.specs.Shape.{is_bound_name, is_item_pat, is_rest, level}
 use Rattle.ecma_grammar.specs.Functions.{ArrowBlock, ArrowExpression, ArrowHead, ArrowParameters, ArrowPattern}
-use Rattle.ecma_grammar.specs.Grammar.{Spells, parts}
-use Rattle.ecma_grammar.specs.Parts.{Listed, part}
+use Rattle.ecma_grammar.specs.Grammar.{Produces, children}
+use Rattle.ecma_grammar.specs.Children.{Listed, child}
 use Rattle.ecma_grammar.specs.Statements.{starts_expression_statement}
 use Rattle.ecma_layout.specs.Layout.{comma, in_parens, is_block as is_block_tree, is_one_name, laid, separated, word}
 use Rattle.ecma_layout.specs.Looks.{Laid, back, blank, deeper, formats, nothing, text, when, ◌·◌}
 use Rattle.ecma_layout.specs.declared.look.Look.{Look}
 use Rattle.ecma_layout.specs.declared.look.Stand.{Stand}
-use Rattle.ecma_layout.specs.declared.look.Stand.TheVariants.{Alone, Body as BodyStand}
-use Rattle.ecma_written.specs.Gaps.{Gap, Touching, is_broken}
+use Rattle.ecma_layout.specs.declared.look.Stand.TheVariants.{Alone, Body as BodyState}
+use Rattle.ecma_written.specs.Spacings.{Spacing, Touching, is_broken}
 use Rattle.ecma_written.specs.Lexicon.{Lexicon}
 use Rattle.ecma_written.specs.Means.{Known}
 use Rattle.ecma_written.specs.Told.{says}
-use Rattle.ecma_redone.specs.Redo.{AllSame, Plain}
+use Rattle.ecma_redone.specs.Redo.{AllRedone, Plain}
 use Rattle.ecma_redone_rules.proofs.Naming.{leaves_at}
 use Rattle.ecma_redone_rules.proofs.Begins.{Begins, begun, fine, is_loose, is_weak, same_start, strong}
 use Rattle.ecma_redone_rules.proofs.Bodies.{braced}
@@ -34,22 +34,22 @@ use Rattle.ecma_redone_rules.proofs.Sound.{AllSound, Out, Sound, expr, expr_low,
 use Rattle.ecma_redone_rules.proofs.Tokens.{blank_broke, keyed, marked, skip, skip_back, skip_deeper, took, worded}
 use Rattle.ecma_redone_rules.proofs.Patterns.{item_plain}
 
-stands_to : (b : Bool) (z : Context) (ps : List Place) (U : Type 0) → Only b (U × (judged (context_of z ps) ≡ judged z)) → Only b (U × (judged (context_of (record z { include_in_expr = true }) ps) ≡ judged (record z { include_in_expr = true })))
+stands_to : (b : Bool) (z : Context) (ps : List PlacedToken) (U : Type 0) → Only b (U × (judged (context_of z ps) ≡ judged z)) → Only b (U × (judged (context_of (record z { include_in_expr = true }) ps) ≡ judged (record z { include_in_expr = true })))
 stands_to false z ps U h = tt
 stands_to true z [] U h = (h.0, refl)
 stands_to true z (p ∷ ps) U h = h
 
-stands_from : (b : Bool) (z : Context) (ps : List Place) (U : Type 0) → Only b (U × (judged (context_of (record z { include_in_expr = true }) ps) ≡ judged (record z { include_in_expr = true }))) → Only b (U × (judged (context_of z ps) ≡ judged z))
+stands_from : (b : Bool) (z : Context) (ps : List PlacedToken) (U : Type 0) → Only b (U × (judged (context_of (record z { include_in_expr = true }) ps) ≡ judged (record z { include_in_expr = true }))) → Only b (U × (judged (context_of z ps) ≡ judged z))
 stands_from false z ps U h = tt
 stands_from true z [] U h = (h.0, refl)
 stands_from true z (p ∷ ps) U h = h
 
-to_pattern : (p : Tree) (c : Code) (ts r : Input) → is_bound_name p ≡ true → Spells p c ts r → Spells p (binding (with_in c)) ts r
+to_pattern : (p : Tree) (c : Code) (ts r : Input) → is_bound_name p ≡ true → Produces p c ts r → Produces p (binding (with_in c)) ts r
 to_pattern (binding_ident s (ident t n)) c ts r e h = (h.0, ((h.1.0.0, h.1.0.1, h.1.0.2, h.1.0.3, stands_to c.placed c.context ts.places _ h.1.0.4, h.1.0.5), h.1.1))
 to_pattern (binding_ident s _) c ts r e h = h
 to_pattern _ c ts r e h = absurd (true≢false (sym e))
 
-from_pattern : (p : Tree) (c : Code) (ts r : Input) → is_bound_name p ≡ true → Spells p (binding (with_in c)) ts r → Spells p c ts r
+from_pattern : (p : Tree) (c : Code) (ts r : Input) → is_bound_name p ≡ true → Produces p (binding (with_in c)) ts r → Produces p c ts r
 from_pattern (binding_ident s (ident t n)) c ts r e h = (h.0, ((h.1.0.0, h.1.0.1, h.1.0.2, h.1.0.3, stands_from c.placed c.context ts.places _ h.1.0.4, h.1.0.5), h.1.1))
 from_pattern (binding_ident s _) c ts r e h = h
 from_pattern _ c ts r e h = absurd (true≢false (sym e))
@@ -100,7 +100,7 @@ no_block : (e : Tree) → 1 ≤ level e → is_block_tree e ≡ false
 no_block (block_stmt s ss) h = absurd (omega arith)
 no_block _ h = refl
 
-as_arrow : (s : Span) (ps : Trees) (e : Tree) (i : Bool) (c : Code) (ts r : Input) → 1 ≤ level e → ArrowExpression c s (parts ps) (part e (λ y. Spells e y)) i ts r → Spells (arrow_expr s ps e i) c ts r
+as_arrow : (s : Span) (ps : Trees) (e : Tree) (i : Bool) (c : Code) (ts r : Input) → 1 ≤ level e → ArrowExpression c s (children ps) (child e (λ y. Produces e y)) i ts r → Produces (arrow_expr s ps e i) c ts r
 as_arrow s ps (block_stmt b ss) i c ts r l h = absurd (omega arith)
 as_arrow s ps _ i c ts r l h = h
 
@@ -112,15 +112,15 @@ module _ (look : Look) (x : Lexicon look.style) where
   abbrev Opened : Code → Input → Input → Type 0
   Opened c ts m = (kind ts ≡ left_paren_kind) ⊎ ((is_word (kind ts) ≡ true) × (no_name c.context (kind ts) ≡ false) × (rest ts ≡ m))
 
-  record Params (ps : Trees) (c : Code) (r0 : Input) (b : Gap) (ts : Input) (K : Gap → Input → Type 0) : Type 0 where
-    d : Gap
+  record Params (ps : Trees) (c : Code) (r0 : Input) (b : Spacing) (ts : Input) (K : Spacing → Input → Type 0) : Type 0 where
+    d : Spacing
     m : Input
     more : K d m
     known : Known r0.places
     broke : brk ts ≡ is_broken b
     tight : d ≡ Touching
     opened : Opened c ts m
-    again : kind m ≡ arrow_kind → (us : Trees) × ArrowParameters (unplaced c) (parts us) ts m × AllSame (leaves_at look x.naming) Plain ps us
+    again : kind m ≡ arrow_kind → (us : Trees) × ArrowParameters (unplaced c) (children us) ts m × AllRedone (leaves_at look x.naming) Plain ps us
 
   pattern_each : (c : Code) → Each look x (ArrowPattern c) (ArrowPattern (unplaced c))
   pattern_each c t f ts0 r0 h k b ts K q =
@@ -133,24 +133,24 @@ module _ (look : Look) (x : Lexicon look.style) where
         broke = z.broke;
         tight = λ i. z.tight (tight_of t i);
         begins = z.begins;
-        again = λ g. let w = z.again (record { quiet = λ e. g; other = λ i. absurd (true≢false (sym i ∙ p.1)) }) in (w.tree, (alike (is_item_pat true) (re_is_item_pat true) (leaves_at look x.naming) Plain t w.tree w.same ∙ h.0, w.spelled), w.same);
+        again = λ g. let w = z.again (record { quiet = λ e. g; other = λ i. absurd (true≢false (sym i ∙ p.1)) }) in (w.tree, (alike (is_item_pat true) (re_is_item_pat true) (leaves_at look x.naming) Plain t w.tree w.same ∙ h.0, w.produced), w.same);
       }
 
   -- a name as it is told
-  bound_kinds : (p : Tree) (c : Code) (ts m : Input) → is_bound_name p ≡ true → Spells p (unplaced c) ts m → Opened c ts m
+  bound_kinds : (p : Tree) (c : Code) (ts m : Input) → is_bound_name p ≡ true → Produces p (unplaced c) ts m → Opened c ts m
   bound_kinds (binding_ident s (ident t n)) c ts m e h = inr (h.1.0.0, h.1.0.1, h.1.0.5)
   bound_kinds (binding_ident s _) c ts m e h = absurd h
   bound_kinds _ c ts m e h = absurd (true≢false (sym e))
 
   -- one name, written bare
-  bare_one : (p : Tree) → Sound look x.naming Alone p → is_bound_name p ≡ true → (c : Code) (ts0 m0 r0 : Input) → Spells p (binding (with_in c)) ts0 m0 → (Known m0.places → Known r0.places) → Known ts0.places → (b : Gap) (ts : Input) (K : Gap → Input → Type 0)
-      → ((d : Gap) (m : Input) → K d m → kind m ≡ arrow_kind) → says x.naming (laid look Alone p) b ts K → Params (more p none) c r0 b ts K
+  bare_one : (p : Tree) → Sound look x.naming Alone p → is_bound_name p ≡ true → (c : Code) (ts0 m0 r0 : Input) → Produces p (binding (with_in c)) ts0 m0 → (Known m0.places → Known r0.places) → Known ts0.places → (b : Spacing) (ts : Input) (K : Spacing → Input → Type 0)
+      → ((d : Spacing) (m : Input) → K d m → kind m ≡ arrow_kind) → says x.naming (laid look Alone p) b ts K → Params (more p none) c r0 b ts K
   bare_one p f e c ts0 m0 r0 h go k b ts K peek q =
       let i = item_plain true p (bound_item p e) in
       let z = plain_part look x.naming Alone p f i.0 (binding (with_in c)) ts0 m0 h k b ts K q in
       let w = z.again (record { quiet = λ j. closed_calm z.m arrow_kind (peek z.d z.m z.more) refl; other = λ j. absurd (true≢false (sym j ∙ i.1)) }) in
       let a = alike is_bound_name re_is_bound_name (leaves_at look x.naming) Plain p w.tree w.same ∙ e in
-      let s = from_pattern w.tree (unplaced c) ts z.m a w.spelled in record {
+      let s = from_pattern w.tree (unplaced c) ts z.m a w.produced in record {
         d = z.d;
         m = z.m;
         more = z.more;
@@ -162,7 +162,7 @@ module _ (look : Look) (x : Lexicon look.style) where
       }
 
   -- one name, in parentheses that it had not
-  wrapped_one : (p : Tree) → Sound look x.naming Alone p → is_bound_name p ≡ true → (c : Code) (ts0 r0 : Input) → Spells p (binding (with_in c)) ts0 r0 → Known ts0.places → (b : Gap) (ts : Input) (K : Gap → Input → Type 0)
+  wrapped_one : (p : Tree) → Sound look x.naming Alone p → is_bound_name p ≡ true → (c : Code) (ts0 r0 : Input) → Produces p (binding (with_in c)) ts0 r0 → Known ts0.places → (b : Spacing) (ts : Input) (K : Spacing → Input → Type 0)
       → says x.naming (in_parens (laid look Alone p)) b ts K → Params (more p none) c r0 b ts K
   wrapped_one p f e c ts0 r0 h k b ts K q =
       let i = item_plain true p (bound_item p e) in
@@ -178,16 +178,16 @@ module _ (look : Look) (x : Lexicon look.style) where
         opened = inl (marked look x left_paren_kind q.1);
         again = λ j. (
           more w.tree none,
-          inr (q.0, took look x c left_paren_kind q.1, (z.m, (alike (is_item_pat true) (re_is_item_pat true) (leaves_at look x.naming) Plain p w.tree w.same ∙ bound_item p e, w.spelled), inr (tt, took look x c right_paren_kind o.1))),
+          inr (q.0, took look x c left_paren_kind q.1, (z.m, (alike (is_item_pat true) (re_is_item_pat true) (leaves_at look x.naming) Plain p w.tree w.same ∙ bound_item p e, w.produced), inr (tt, took look x c right_paren_kind o.1))),
           more_same (leaves_at look x.naming) Plain p w.tree none none w.same (none_same (leaves_at look x.naming)),
         );
       }
 
-  params_listed : (c : Code) (ps : Trees) → AllSound look x.naming ps → (ts0 r0 : Input) → Listed false (ArrowPattern c) c right_paren_kind (parts ps) ts0 r0 → Known ts0.places → (b : Gap) (ts : Input) (K : Gap → Input → Type 0)
-      → ((d : Gap) (m : Input) → K d m → kind m ≡ right_paren_kind) → says x.naming (separated look (comma look) ps) b ts K → Gone look x (ArrowPattern c) (ArrowPattern (unplaced c)) (pattern_each c) c right_paren_kind refl false ps r0 ts K
+  params_listed : (c : Code) (ps : Trees) → AllSound look x.naming ps → (ts0 r0 : Input) → Listed false (ArrowPattern c) c right_paren_kind (children ps) ts0 r0 → Known ts0.places → (b : Spacing) (ts : Input) (K : Spacing → Input → Type 0)
+      → ((d : Spacing) (m : Input) → K d m → kind m ≡ right_paren_kind) → says x.naming (separated look (comma look) ps) b ts K → Gone look x (ArrowPattern c) (ArrowPattern (unplaced c)) (pattern_each c) c right_paren_kind refl false ps r0 ts K
   params_listed c ps a ts0 r0 h k b ts K peek q = listed look x _ _ _ c right_paren_kind refl (comma look) (comma_on look x) ps a ts0 r0 h k b ts K peek q
 
-  parens_params : (ps : Trees) → AllSound look x.naming ps → (c : Code) (ts0 r0 : Input) → (m : Input) × Takes c left_paren_kind ts0 m × Listed false (ArrowPattern c) c right_paren_kind (parts ps) m r0 → Known ts0.places → (b : Gap) (ts : Input) (K : Gap → Input → Type 0)
+  parens_params : (ps : Trees) → AllSound look x.naming ps → (c : Code) (ts0 r0 : Input) → (m : Input) × Takes c left_paren_kind ts0 m × Listed false (ArrowPattern c) c right_paren_kind (children ps) m r0 → Known ts0.places → (b : Spacing) (ts : Input) (K : Spacing → Input → Type 0)
       → says x.naming (in_parens (separated look (comma look) ps)) b ts K → Params ps c r0 b ts K
   parens_params ps a c ts0 r0 h k b ts K q =
       let z = params_listed c ps a h.0 r0 h.2 (x.later ts0 h.0 h.1.2 k) _ q.0 _ (λ d m o. marked look x right_paren_kind o.1) q.2 in
@@ -203,8 +203,8 @@ module _ (look : Look) (x : Lexicon look.style) where
       }
 
   -- parameters, however they were written and are
-  params_on : (ps : Trees) → AllSound look x.naming ps → (c : Code) (ts0 r0 : Input) → ArrowParameters c (parts ps) ts0 r0 → Known ts0.places → (v : Bool) → (v ≡ true → is_one_name ps ≡ true) → (b : Gap) (ts : Input) (K : Gap → Input → Type 0)
-      → ((d : Gap) (m : Input) → K d m → kind m ≡ arrow_kind) → says x.naming (if v then separated look (comma look) ps else in_parens (separated look (comma look) ps)) b ts K → Params ps c r0 b ts K
+  params_on : (ps : Trees) → AllSound look x.naming ps → (c : Code) (ts0 r0 : Input) → ArrowParameters c (children ps) ts0 r0 → Known ts0.places → (v : Bool) → (v ≡ true → is_one_name ps ≡ true) → (b : Spacing) (ts : Input) (K : Spacing → Input → Type 0)
+      → ((d : Spacing) (m : Input) → K d m → kind m ≡ arrow_kind) → says x.naming (if v then separated look (comma look) ps else in_parens (separated look (comma look) ps)) b ts K → Params ps c r0 b ts K
   params_on none a c ts0 r0 (inl h) k v e b ts K peek q = absurd h
   params_on none a c ts0 r0 (inr h) k true e b ts K peek q = absurd (true≢false (sym (e refl)))
   params_on none a c ts0 r0 (inr h) k false e b ts K peek q = parens_params none a c ts0 r0 h k b ts K q
@@ -220,14 +220,14 @@ module _ (look : Look) (x : Lexicon look.style) where
   params_on (more p (more r rs)) a c ts0 r0 (inr h) k true e b ts K peek q = absurd (true≢false (sym (e refl) ∙ one_of_more p r rs))
   params_on (more p (more r rs)) a c ts0 r0 (inr h) k false e b ts K peek q = parens_params (more p (more r rs)) a c ts0 r0 h k b ts K q
 
-  record HeadOut (i : Bool) (ps : Trees) (c : Code) (r0 : Input) (b : Gap) (ts : Input) (K : Gap → Input → Type 0) : Type 0 where
+  record HeadOut (i : Bool) (ps : Trees) (c : Code) (r0 : Input) (b : Spacing) (ts : Input) (K : Spacing → Input → Type 0) : Type 0 where
     m : Input
     more : K Touching m
     known : Known r0.places
     broke : brk ts ≡ is_broken b
     opened : starts_expression_statement ts ≡ true
     bars : kind ts ≡ else_kind → ⊥
-    again : (us : Trees) × ArrowHead i (unplaced c) (parts us) ts m × AllSame (leaves_at look x.naming) Plain ps us
+    again : (us : Trees) × ArrowHead i (unplaced c) (children us) ts m × AllRedone (leaves_at look x.naming) Plain ps us
 
   opened_starts : (c : Code) (ts m : Input) → Opened c ts m → kind m ≡ arrow_kind → starts_expression_statement ts ≡ true
   opened_starts c ts m (inl e) a = subst (λ (k : ℕ). starts_by k (kind2 ts) (brk2 ts) ≡ true) (sym e) refl
@@ -240,7 +240,7 @@ module _ (look : Look) (x : Lexicon look.style) where
   abbrev params_laid : Trees → Laid
   params_laid ps = if is_one_name ps && not (formats look) then separated look (comma look) ps else in_parens (separated look (comma look) ps)
 
-  head_on : (i : Bool) (ps : Trees) → AllSound look x.naming ps → (c : Code) (ts0 r0 : Input) → ArrowHead i c (parts ps) ts0 r0 → Known ts0.places → (b : Gap) (ts : Input) (K : Gap → Input → Type 0) (g : Laid)
+  head_on : (i : Bool) (ps : Trees) → AllSound look x.naming ps → (c : Code) (ts0 r0 : Input) → ArrowHead i c (children ps) ts0 r0 → Known ts0.places → (b : Spacing) (ts : Input) (K : Spacing → Input → Type 0) (g : Laid)
       → says x.naming (when i (word (codes "async") · when (formats look || is_one_name ps) blank) · params_laid ps · text (codes "=>")) b ts K → HeadOut i ps c r0 b ts K
   head_on false ps a c ts0 r0 h k b ts K g q =
       let y = params_on ps a c h.0 h.1 h.3 (subst (λ (n : Input). Known n.places) h.2 k) (is_one_name ps && not (formats look)) (λ e. (and_parts (is_one_name ps) (not (formats look)) e).0) b ts _ (λ d m o. marked look x arrow_kind o.1) q in
@@ -267,12 +267,12 @@ module _ (look : Look) (x : Lexicon look.style) where
       }
 
   -- an arrow with an expression
-  pub arrow_on : (s : Span) (ps : Trees) (e : Tree) (i : Bool) → AllSound look x.naming ps → Sound look x.naming Alone e → (st : Stand) (c : Code) (ts0 r0 : Input) → ArrowExpression c s (parts ps) (part e (λ y. Spells e y)) i ts0 r0 → Known ts0.places
-      → (b : Gap) (ts : Input) (K : Gap → Input → Type 0) → says x.naming (full look st (arrow_expr s ps e i)) b ts K → Out look x.naming st (arrow_expr s ps e i) c ts0 r0 b ts K
+  pub arrow_on : (s : Span) (ps : Trees) (e : Tree) (i : Bool) → AllSound look x.naming ps → Sound look x.naming Alone e → (st : Stand) (c : Code) (ts0 r0 : Input) → ArrowExpression c s (children ps) (child e (λ y. Produces e y)) i ts0 r0 → Known ts0.places
+      → (b : Spacing) (ts : Input) (K : Spacing → Input → Type 0) → says x.naming (full look st (arrow_expr s ps e i)) b ts K → Out look x.naming st (arrow_expr s ps e i) c ts0 r0 b ts K
   arrow_on s ps e i a f st c ts0 r0 h k b ts K q =
-      let z = head_on i ps a c ts0 h.0 h.1 k b ts (λ d m. says x.naming (if is_block_tree e then laid look BodyStand e else (deeper look · laid look Alone e · back look)) d m K) nothing q in
+      let z = head_on i ps a c ts0 h.0 h.1 k b ts (λ d m. says x.naming (if is_block_tree e then laid look BodyState e else (deeper look · laid look Alone e · back look)) d m K) nothing q in
       let n = above assignment_level (level e) (omega arith) h.3.0 in
-      let o = subst (λ (v : Bool). says x.naming (if v then laid look BodyStand e else (deeper look · laid look Alone e · back look)) Touching z.m K) (no_block e n) z.more in
+      let o = subst (λ (v : Bool). says x.naming (if v then laid look BodyState e else (deeper look · laid look Alone e · back look)) Touching z.m K) (no_block e n) z.more in
       let u = skip_deeper x.naming (formats look) _ _ _ o in
       let y = expr look x.naming assignment_level Alone e f (omega arith) (in_arrow i c) h.0 r0 h.3 z.known _ z.m _ u in record {
         d = y.d;
@@ -284,7 +284,7 @@ module _ (look : Look) (x : Lexicon look.style) where
         begins = fine refl z.opened z.bars;
         again = λ g. let w = y.again (follow_on st (arrow_expr s ps e i) Alone e r0 r0 y.m refl n g) in record {
           tree = arrow_expr (span (lo ts) y.m.last) z.again.0 w.tree i;
-          spelled = as_arrow (span (lo ts) y.m.last) z.again.0 w.tree i (unplaced c) ts y.m (above assignment_level (level w.tree) (omega arith) (expr_low look x.naming assignment_level Alone e (in_arrow i c) z.m y.m h.3.0 (omega arith) w).0)
+          produced = as_arrow (span (lo ts) y.m.last) z.again.0 w.tree i (unplaced c) ts y.m (above assignment_level (level w.tree) (omega arith) (expr_low look x.naming assignment_level Alone e (in_arrow i c) z.m y.m h.3.0 (omega arith) w).0)
               (z.m, z.again.1, no_brace h.0 r0 z.m y.m (begun (is_weak e) (is_loose e) h.0 r0 z.m y.m (strong e n) y.begins) h.2, expr_low look x.naming assignment_level Alone e (in_arrow i c) z.m y.m h.3.0 (omega arith) w, refl);
           directive = refl;
           quoted = λ p q. refl;
@@ -293,10 +293,10 @@ module _ (look : Look) (x : Lexicon look.style) where
       }
 
   -- an arrow with a body in braces
-  pub arrow_block_on : (s : Span) (ps : Trees) (p : Span) (ss : Trees) (i : Bool) → AllSound look x.naming ps → AllSound look x.naming ss → (st : Stand) (c : Code) (ts0 r0 : Input) → ArrowBlock c s (parts ps) p (parts ss) i ts0 r0 → Known ts0.places
-      → (b : Gap) (ts : Input) (K : Gap → Input → Type 0) → says x.naming (full look st (arrow_expr s ps (block_stmt p ss) i)) b ts K → Out look x.naming st (arrow_expr s ps (block_stmt p ss) i) c ts0 r0 b ts K
+  pub arrow_block_on : (s : Span) (ps : Trees) (p : Span) (ss : Trees) (i : Bool) → AllSound look x.naming ps → AllSound look x.naming ss → (st : Stand) (c : Code) (ts0 r0 : Input) → ArrowBlock c s (children ps) p (children ss) i ts0 r0 → Known ts0.places
+      → (b : Spacing) (ts : Input) (K : Spacing → Input → Type 0) → says x.naming (full look st (arrow_expr s ps (block_stmt p ss) i)) b ts K → Out look x.naming st (arrow_expr s ps (block_stmt p ss) i) c ts0 r0 b ts K
   arrow_block_on s ps p ss i a g st c ts0 r0 h k b ts K q =
-      let z = head_on i ps a c ts0 h.0 h.1 k b ts (λ d m. says x.naming (laid look BodyStand (block_stmt p ss)) d m K) nothing q in
+      let z = head_on i ps a c ts0 h.0 h.1 k b ts (λ d m. says x.naming (laid look BodyState (block_stmt p ss)) d m K) nothing q in
       let y = braced look x (in_list (with_in (in_arrow i c))) true ss g h.0 h.2.0 r0 h.2.1 h.2.2 z.known _ z.m K (record { lo = record { 0 = p.hi.0 - 1 }; hi = p.hi }) z.more in record {
         d = Touching;
         m = y.m;
@@ -307,7 +307,7 @@ module _ (look : Look) (x : Lexicon look.style) where
         begins = fine refl z.opened z.bars;
         again = λ l. record {
           tree = arrow_expr (span (lo ts) y.m.last) z.again.0 (block_stmt (span (lo z.m) y.m.last) y.again.0) i;
-          spelled = (z.m, z.again.1, (y.again.1, y.again.2, y.again.3, refl), refl);
+          produced = (z.m, z.again.1, (y.again.1, y.again.2, y.again.3, refl), refl);
           directive = refl;
           quoted = λ p q. refl;
           same = record { so = λ n. ap₂ (λ (us vs : Trees). arrow_expr no_place us (block_stmt no_place vs) i) (z.again.2.so Plain) (y.again.4.so Plain) };

@@ -65,7 +65,7 @@ module _ (look : Look) (x : Lexicon look.style) where
         begins = before ts0 h.0 ts y.m r0 z.m (λ l. refl) (begun (is_weak a) (is_loose a) ts0 h.0 ts y.m t.1 y.begins) (p.0 ∙ sym h.5.0) (λ e. assign_function op h.2 (sym p.0 ∙ e));
         again = λ l. let u = y.again (follow_by Alone a h.0 y.m op p.0 (assign_closes op h.2)) in let w = z.again (follow_on st (assign_expr s op a b) Alone b r0 r0 z.m refl (above assignment_level (level b) (omega arith) h.6.0) l) in record {
           tree = assign_expr (span (lo ts) z.m.last) op u.tree w.tree;
-          spelled = (y.m, i.0, h.2, alike (is_target op) (re_is_target op) (leaves_at look x.naming) Plain a u.tree u.same ∙ h.3, u.spelled, (p.0, tt, i.1.after), expr_low look x.naming assignment_level Alone b c i.0 z.m h.6.0 (omega arith) w, refl);
+          produced = (y.m, i.0, h.2, alike (is_target op) (re_is_target op) (leaves_at look x.naming) Plain a u.tree u.same ∙ h.3, u.produced, (p.0, tt, i.1.after), expr_low look x.naming assignment_level Alone b c i.0 z.m h.6.0 (omega arith) w, refl);
           directive = refl;
           quoted = λ p q. refl;
           same = record { so = λ n. ap₂ (λ (t v : Tree). assign_expr no_place op t v) (u.same.so Plain) (w.same.so Plain) };

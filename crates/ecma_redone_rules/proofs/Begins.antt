@@ -4,7 +4,7 @@ use Rattle.ecma_token.specs.Kinds.{async_kind, else_kind, function_kind, let_kin
 use Rattle.ecma_tree.specs.Tree.{Tree, array_lit, array_pat, arrow_expr, assign_expr, await_expr, big_int_lit, bin_expr, binding_ident, bool_lit, call_expr, catch_clause, class, class_expr, cond_expr, es_module, expr_pat, fn_expr, function, ident, member_expr, meta_prop_expr, new_expr, null_lit, number_lit, object_lit, object_pat, opt_chain_expr, paren_expr, regex_lit, script, seq_expr, str_lit, super_prop_expr, switch_case, tagged_tpl, this_expr, tpl, tpl_element, unary_expr, update_expr, using_decl, var_decl, var_declarator, yield_expr}
 use Rattle.ecma_syntax.specs.Input.{Input, brk2, kind, kind2, rest}
 use Rattle.ecma_syntax.specs.Shape.{is_item, is_private, is_target_expr, level}
-use Rattle.ecma_grammar.specs.Parts.{is_module_item}
+use Rattle.ecma_grammar.specs.Children.{is_module_item}
 use Rattle.ecma_grammar.specs.Statements.{starts_expression_statement}
 use Rattle.ecma_grammar_complete_base.proofs.Levels.{binary_low}
 use Rattle.ecma_layout.specs.Layout.{is_variables}

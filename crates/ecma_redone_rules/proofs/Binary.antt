@@ -96,12 +96,12 @@ module _ (look : Look) (x : Lexicon look.style) where
         begins = before ts0 h.0 ts y.m r0 z.m (λ e. refl) (begun (is_weak a) (is_loose a) ts0 h.0 ts y.m (left_strong op a o h.3) y.begins) (p.0 ∙ sym h.5.0) (λ e. no_function op o (sym p.0 ∙ e));
         again = λ l. let u = y.again (follow_by Operand a h.0 y.m op p.0 (binary_closes op o)) in let w = z.again (follow_on st (bin_expr s op a b) Alone b r0 r0 z.m (low_calm st op) (above (right_level op) (level b) (right_some op o) h.6.0) l) in record {
           tree = bin_expr (span (lo ts) z.m.last) op u.tree w.tree;
-          spelled = (
+          produced = (
             y.m,
             j.0,
             h.2,
             fits_again op a u.tree (alike is_private re_is_private (leaves_at look x.naming) Plain a u.tree u.same) (level_low (leaves_at look x.naming) Plain a u.tree u.same) (level_below (leaves_at look x.naming) Plain a u.tree u.same) h.3,
-            u.spelled,
+            u.produced,
             (p.0, unbarred c.context (escaped y.m) (kind y.m) p.1, tt, j.1.after),
             expr_low look x.naming (right_level op) Alone b c j.0 z.m h.6.0 (right_fits op) w,
             refl,

@@ -6,18 +6,18 @@ use Rattle.ecma_token.specs.declared.place.Span.{Span}
 use Rattle.ecma_tree.specs.Tree.{Tree, Trees, block_stmt, more, none}
 use Rattle.ecma_syntax.specs.Input.{Code, Input, Takes, brk, in_list, kind, turned_strict, unplaced}
 use Rattle.ecma_syntax.specs.Shape.{is_directive, is_item, is_use_strict}
-use Rattle.ecma_grammar.specs.Grammar.{Spells, parts}
-use Rattle.ecma_grammar.specs.Parts.{Items}
+use Rattle.ecma_grammar.specs.Grammar.{Produces, children}
+use Rattle.ecma_grammar.specs.Children.{Items}
 use Rattle.ecma_grammar.specs.Statements.{ClosesBlock}
 use Rattle.ecma_layout.specs.Layout.{closing, indented, is_block as is_block_tree, is_variables, laid, rows, statements}
 use Rattle.ecma_layout.specs.Looks.{brace, formats, line, semi, start, text, when, ◌·◌}
 use Rattle.ecma_layout.specs.declared.look.Look.{Look}
 use Rattle.ecma_layout.specs.declared.look.Stand.TheVariants.{Alone}
-use Rattle.ecma_written.specs.Gaps.{Gap, Touching, is_broken}
+use Rattle.ecma_written.specs.Spacings.{Spacing, Touching, is_broken}
 use Rattle.ecma_written.specs.Lexicon.{Lexicon}
 use Rattle.ecma_written.specs.Means.{Known}
 use Rattle.ecma_written.specs.Told.{says}
-use Rattle.ecma_redone.specs.Redo.{AllSame, Leaves, Mode, Plain, redo}
+use Rattle.ecma_redone.specs.Redo.{AllRedone, Leaves, Mode, Plain, redo}
 use Rattle.ecma_redone_rules.proofs.Naming.{leaves_at}
 use Rattle.ecma_redone_rules.proofs.Begins.{first_token, is_inner, is_loose, is_weak, item_outer}
 use Rattle.ecma_redone_rules.proofs.Follow.{Follow, is_closed}
@@ -51,42 +51,42 @@ turned false c = refl
 module _ (look : Look) (x : Lexicon look.style) where
   -- ---- a statement and what stands behind it
 
-  closing_on : (t : Tree) (b : Gap) (ts : Input) (K : Gap → Input → Type 0) → says x.naming (closing look t) b ts K → says x.naming (when (is_variables t) semi) b ts (λ d m. (e : Gap) × K e m)
+  closing_on : (t : Tree) (b : Spacing) (ts : Input) (K : Spacing → Input → Type 0) → says x.naming (closing look t) b ts K → says x.naming (when (is_variables t) semi) b ts (λ d m. (e : Spacing) × K e m)
   unfolding closing
   closing_on t b ts K q = by (is_block_tree t) (block_plain t) q
     where
-      by : (v : Bool) → (v ≡ true → is_variables t ≡ false) → says x.naming (when (not v) (when (is_variables t) semi · line look)) b ts K → says x.naming (when (is_variables t) semi) b ts (λ d m. (e : Gap) × K e m)
-      by true p q = subst (λ (w : Bool). says x.naming (when w semi) b ts (λ d m. (e : Gap) × K e m)) (sym (p refl)) (b, q)
+      by : (v : Bool) → (v ≡ true → is_variables t ≡ false) → says x.naming (when (not v) (when (is_variables t) semi · line look)) b ts K → says x.naming (when (is_variables t) semi) b ts (λ d m. (e : Spacing) × K e m)
+      by true p q = subst (λ (w : Bool). says x.naming (when w semi) b ts (λ d m. (e : Spacing) × K e m)) (sym (p refl)) (b, q)
       by false p q = says_map x.naming (when (is_variables t) semi) b ts _ _ (λ d m j. skip_line x.naming (formats look) d m K j) q
 
-  pub statement_on : (t : Tree) → Sound look x.naming Alone t → is_inner t ≡ false → (c : Code) (ts0 r0 : Input) → Spells t c ts0 r0 → Known ts0.places → (b : Gap) (ts : Input) (K : Gap → Input → Type 0) → says x.naming (laid look Alone t · closing look t) b ts K
-      → Out look x.naming Alone t c ts0 r0 b ts (λ d m. (e : Gap) × K e m)
+  pub statement_on : (t : Tree) → Sound look x.naming Alone t → is_inner t ≡ false → (c : Code) (ts0 r0 : Input) → Produces t c ts0 r0 → Known ts0.places → (b : Spacing) (ts : Input) (K : Spacing → Input → Type 0) → says x.naming (laid look Alone t · closing look t) b ts K
+      → Out look x.naming Alone t c ts0 r0 b ts (λ d m. (e : Spacing) × K e m)
   statement_on t f i c ts0 r0 h k b ts K q = outer look x.naming Alone t f i c ts0 r0 h k b ts _ (says_map x.naming (laid look Alone t) b ts _ _ (λ d m j. closing_on t d m K j) q)
 
   -- ---- lists, by what they may hold and what closes them
 
   module _ (may : Tree → Bool) (re_may : (l : Leaves) (m : Mode) (t : Tree) → may (redo l m t) ≡ may t) (flat : (t : Tree) → may t ≡ true → (is_closed t ≡ true) × (is_inner t ≡ false))
       (close : Code → Input → Input → Type 0) (closed : (c : Code) (m r : Input) → close c m r → Known m.places → Known r.places) where
-    cons : (c : Code) (starts : Bool) (u : Tree) (us : Trees) (a b : Bool) → is_use_strict u ≡ a → is_directive u ≡ b → may u ≡ true → (ts m r : Input) → Spells u (in_list (unplaced c)) ts m
-        → Items may close (unplaced (if starts && a then turned_strict c else c)) (starts && b) (parts us) m r → Items may close (unplaced c) starts (parts (more u us)) ts r
+    cons : (c : Code) (starts : Bool) (u : Tree) (us : Trees) (a b : Bool) → is_use_strict u ≡ a → is_directive u ≡ b → may u ≡ true → (ts m r : Input) → Produces u (in_list (unplaced c)) ts m
+        → Items may close (unplaced (if starts && a then turned_strict c else c)) (starts && b) (children us) m r → Items may close (unplaced c) starts (children (more u us)) ts r
     cons c starts u us a b e f i ts m r h l = (
       m,
       i,
       h,
-      subst (λ (v : Bool). Items may close (if starts && v then turned_strict (unplaced c) else unplaced c) (starts && is_directive u) (parts us) m r) (sym e)
-          (subst (λ (v : Bool). Items may close (if starts && a then turned_strict (unplaced c) else unplaced c) (starts && v) (parts us) m r) (sym f) (subst (λ (d : Code). Items may close d (starts && b) (parts us) m r) (sym (turned (starts && a) c)) l)),
+      subst (λ (v : Bool). Items may close (if starts && v then turned_strict (unplaced c) else unplaced c) (starts && is_directive u) (children us) m r) (sym e)
+          (subst (λ (v : Bool). Items may close (if starts && a then turned_strict (unplaced c) else unplaced c) (starts && v) (children us) m r) (sym f) (subst (λ (d : Code). Items may close d (starts && b) (children us) m r) (sym (turned (starts && a) c)) l)),
     )
 
-    pub record Listed_again (c : Code) (starts : Bool) (ss : Trees) (ts0 r0 : Input) (ts : Input) (K : Gap → Input → Type 0) : Type 0 where
-      pub d : Gap
+    pub record Listed_again (c : Code) (starts : Bool) (ss : Trees) (ts0 r0 : Input) (ts : Input) (K : Spacing → Input → Type 0) : Type 0 where
+      pub d : Spacing
       pub m : Input
       pub more : K d m
       pub known : Known r0.places
       pub first : kind ts ≡ else_kind → kind ts0 ≡ else_kind
       -- before what closes the list in whatever code
-      pub again : (r : Input) → ((o : Code) → close (unplaced o) m r) → (us : Trees) × Items may close (unplaced c) starts (parts us) ts r × AllSame (leaves_at look x.naming) Plain ss us
+      pub again : (r : Input) → ((o : Code) → close (unplaced o) m r) → (us : Trees) × Items may close (unplaced c) starts (children us) ts r × AllRedone (leaves_at look x.naming) Plain ss us
 
-    none_on : (c : Code) (starts : Bool) (ts0 r0 : Input) → close c ts0 r0 → Known ts0.places → (b : Gap) (ts : Input) (K : Gap → Input → Type 0) → (kind ts ≡ else_kind → ⊥) → K b ts → Listed_again c starts none ts0 r0 ts K
+    none_on : (c : Code) (starts : Bool) (ts0 r0 : Input) → close c ts0 r0 → Known ts0.places → (b : Spacing) (ts : Input) (K : Spacing → Input → Type 0) → (kind ts ≡ else_kind → ⊥) → K b ts → Listed_again c starts none ts0 r0 ts K
     none_on c starts ts0 r0 h k b ts K peek q = record {
       d = b;
       m = ts;
@@ -97,7 +97,7 @@ module _ (look : Look) (x : Lexicon look.style) where
     }
 
     -- a statement before the others
-    more_on : (c : Code) (starts : Bool) (t : Tree) (us : Trees) → may t ≡ true → (ts0 m0 r0 : Input) (b : Gap) (ts : Input) (J K : Gap → Input → Type 0) → (z : Out look x.naming Alone t (in_list c) ts0 m0 b ts J)
+    more_on : (c : Code) (starts : Bool) (t : Tree) (us : Trees) → may t ≡ true → (ts0 m0 r0 : Input) (b : Spacing) (ts : Input) (J K : Spacing → Input → Type 0) → (z : Out look x.naming Alone t (in_list c) ts0 m0 b ts J)
         → Listed_again (if starts && is_use_strict t then turned_strict c else c) (starts && is_directive t) us m0 r0 z.m K → Listed_again c starts (more t us) ts0 r0 ts K
     more_on c starts t us i ts0 m0 r0 b ts J K z v = record {
       d = v.d;
@@ -107,14 +107,14 @@ module _ (look : Look) (x : Lexicon look.style) where
       first = first_token (is_weak t) (is_loose t) ts0 m0 ts z.m z.begins;
       again = λ r tk. let w = z.again (follow_closed t m0 z.m (flat t i).0 v.first) in let o = v.again r tk in (
         more w.tree o.0,
-        cons c starts w.tree o.0 (is_use_strict t) (is_directive t) w.directive (alike is_directive re_is_directive (leaves_at look x.naming) Plain t w.tree w.same) (alike may re_may (leaves_at look x.naming) Plain t w.tree w.same ∙ i) ts z.m r w.spelled o.1,
+        cons c starts w.tree o.0 (is_use_strict t) (is_directive t) w.directive (alike is_directive re_is_directive (leaves_at look x.naming) Plain t w.tree w.same) (alike may re_may (leaves_at look x.naming) Plain t w.tree w.same ∙ i) ts z.m r w.produced o.1,
         more_same (leaves_at look x.naming) Plain t w.tree us o.0 w.same o.2,
       );
     }
 
     -- with a line between two of them, as in braces
-    pub rows_on : (c : Code) (starts : Bool) (ss : Trees) → AllSound look x.naming ss → (ts0 r0 : Input) → Items may close c starts (parts ss) ts0 r0 → Known ts0.places → (b : Gap) (ts : Input) (K : Gap → Input → Type 0)
-        → ((d : Gap) (m : Input) → K d m → kind m ≡ else_kind → ⊥) → says x.naming (rows look true ss) b ts K → Listed_again c starts ss ts0 r0 ts K
+    pub rows_on : (c : Code) (starts : Bool) (ss : Trees) → AllSound look x.naming ss → (ts0 r0 : Input) → Items may close c starts (children ss) ts0 r0 → Known ts0.places → (b : Spacing) (ts : Input) (K : Spacing → Input → Type 0)
+        → ((d : Spacing) (m : Input) → K d m → kind m ≡ else_kind → ⊥) → says x.naming (rows look true ss) b ts K → Listed_again c starts ss ts0 r0 ts K
     rows_on c starts none a ts0 r0 h k b ts K peek q = none_on c starts ts0 r0 h k b ts K (peek b ts q) q
     rows_on c starts (more t none) a ts0 r0 h k b ts K peek q =
         let z = statement_on t a.0 (flat t h.1).1 (in_list c) ts0 h.0 h.2 k b ts K q in
@@ -125,8 +125,8 @@ module _ (look : Look) (x : Lexicon look.style) where
         more_on c starts t (more u us) h.1 ts0 h.0 r0 b ts _ K z (rows_on (if starts && is_use_strict t then turned_strict c else c) (starts && is_directive t) (more u us) a.1 h.0 r0 h.3 z.known i.0 z.m K peek i.1)
 
     -- each closed, as of a program
-    pub statements_on : (c : Code) (starts : Bool) (ss : Trees) → AllSound look x.naming ss → (ts0 r0 : Input) → Items may close c starts (parts ss) ts0 r0 → Known ts0.places → (b : Gap) (ts : Input) (K : Gap → Input → Type 0)
-        → ((d : Gap) (m : Input) → K d m → kind m ≡ else_kind → ⊥) → says x.naming (statements look ss) b ts K → Listed_again c starts ss ts0 r0 ts K
+    pub statements_on : (c : Code) (starts : Bool) (ss : Trees) → AllSound look x.naming ss → (ts0 r0 : Input) → Items may close c starts (children ss) ts0 r0 → Known ts0.places → (b : Spacing) (ts : Input) (K : Spacing → Input → Type 0)
+        → ((d : Spacing) (m : Input) → K d m → kind m ≡ else_kind → ⊥) → says x.naming (statements look ss) b ts K → Listed_again c starts ss ts0 r0 ts K
     statements_on c starts none a ts0 r0 h k b ts K peek q = none_on c starts ts0 r0 h k b ts K (peek b ts q) q
     statements_on c starts (more t us) a ts0 r0 h k b ts K peek q =
         let z = statement_on t a.0 (flat t h.1).1 (in_list c) ts0 h.0 h.2 k b ts _ q in
@@ -140,15 +140,15 @@ module _ (look : Look) (x : Lexicon look.style) where
   brace_no_else : right_brace_kind ≡ else_kind → ⊥
   brace_no_else e = omega arith
 
-  pub record Braced (c : Code) (starts : Bool) (ss : Trees) (ts0 r0 : Input) (b : Gap) (ts : Input) (K : Gap → Input → Type 0) : Type 0 where
+  pub record Braced (c : Code) (starts : Bool) (ss : Trees) (ts0 r0 : Input) (b : Spacing) (ts : Input) (K : Spacing → Input → Type 0) : Type 0 where
     pub m : Input
     pub more : K Touching m
     pub known : Known r0.places
     pub broke : brk ts ≡ is_broken b
     pub lead : kind ts ≡ left_brace_kind
-    pub again : (us : Trees) × (n : Input) × Takes (unplaced c) left_brace_kind ts n × Items is_item ClosesBlock (unplaced c) starts (parts us) n m × AllSame (leaves_at look x.naming) Plain ss us
+    pub again : (us : Trees) × (n : Input) × Takes (unplaced c) left_brace_kind ts n × Items is_item ClosesBlock (unplaced c) starts (children us) n m × AllRedone (leaves_at look x.naming) Plain ss us
 
-  pub braced : (c : Code) (starts : Bool) (ss : Trees) → AllSound look x.naming ss → (ts0 m0 r0 : Input) → Takes c left_brace_kind ts0 m0 → Items is_item ClosesBlock c starts (parts ss) m0 r0 → Known ts0.places → (b : Gap) (ts : Input) (K : Gap → Input → Type 0)
+  pub braced : (c : Code) (starts : Bool) (ss : Trees) → AllSound look x.naming ss → (ts0 m0 r0 : Input) → Takes c left_brace_kind ts0 m0 → Items is_item ClosesBlock c starts (children ss) m0 r0 → Known ts0.places → (b : Spacing) (ts : Input) (K : Spacing → Input → Type 0)
       → (pos : Span) → says x.naming (text (codes "{") · indented look ss (rows look true ss) · start pos · brace) b ts K → Braced c starts ss ts0 r0 b ts K
   braced c starts none a ts0 m0 r0 t h k b ts K pos q = let o = q.2 in record {
     m = o.0;

@@ -10,19 +10,19 @@ use Rattle.ecma_syntax.specs.Input.{Code, Input, Takes, TakesWord, brk, escaped,
 use Rattle.ecma_syntax.specs.Operators.{assignment_level, key_end}
 use Rattle.ecma_syntax.specs.Shape.{FunctionParts, constructs, count_of, ends, field_end, function_parts, is_absent, is_key, is_private, level}
 use Rattle.ecma_grammar.specs.Functions.{Initial as ClassInitial, ClassMethod, Field, Method, MethodHead, Static}
-use Rattle.ecma_grammar.specs.Grammar.{Spells, parts}
-use Rattle.ecma_grammar.specs.Parts.{By, Ends, Expr, part}
+use Rattle.ecma_grammar.specs.Grammar.{Produces, children}
+use Rattle.ecma_grammar.specs.Children.{By, Ends, Expr, child}
 use Rattle.ecma_edge.specs.Edges.{is_there, starts_with_word}
 use Rattle.ecma_layout.specs.Layout.{after_static, comma, field_value, function_tail, in_parens, is_sequence, laid, method_marks, separated, word}
 use Rattle.ecma_layout.specs.Looks.{Laid, blank, formats, gap, gap_or, semi, text, when, ◌·◌}
 use Rattle.ecma_layout.specs.declared.look.Look.{Look}
 use Rattle.ecma_layout.specs.declared.look.Stand.{Stand}
-use Rattle.ecma_layout.specs.declared.look.Stand.TheVariants.{Alone, Body as BodyStand, Key}
-use Rattle.ecma_written.specs.Gaps.{Gap, Spaced, Touching, blanked, is_broken}
+use Rattle.ecma_layout.specs.declared.look.Stand.TheVariants.{Alone, Body as BodyState, Key}
+use Rattle.ecma_written.specs.Spacings.{Spacing, Spaced, Touching, blanked, is_broken}
 use Rattle.ecma_written.specs.Lexicon.{Lexicon}
 use Rattle.ecma_written.specs.Means.{Known}
 use Rattle.ecma_written.specs.Told.{says}
-use Rattle.ecma_redone.specs.Redo.{AllSame, Leaves, Mode, Plain, Same, kept_at, redo}
+use Rattle.ecma_redone.specs.Redo.{AllRedone, Leaves, Mode, Plain, Redone, kept_at, redo}
 use Rattle.ecma_redone.specs.Written.{constructor_word, written_constructor_key, written_key}
 use Rattle.ecma_redone_rules.proofs.Naming.{leaves_at}
 use Rattle.ecma_redone_rules.proofs.Bodies.{braced}
@@ -57,7 +57,7 @@ not_constructor true b v f e = subst (λ (w : Bool). (w && v) ≡ false) (f refl
 not_constructor false b v f e = refl
 
 -- the key of a constructor: what is behind it, and how it is written
-key_rest : (key : Tree) (c : Code) (ts m : Input) → constructs key ≡ true → Spells key c ts m → rest ts ≡ m
+key_rest : (key : Tree) (c : Code) (ts m : Input) → constructs key ≡ true → Produces key c ts m → rest ts ≡ m
 key_rest (ident_name s n) c ts m e h = h.0.3
 key_rest (str_lit s u w) c ts m e h = h.3.2
 key_rest _ c ts m e h = absurd (true≢false (sym e))
@@ -72,7 +72,7 @@ module _ (look : Look) (x : Lexicon look.style) where
 
   -- a layout that says no token and ends no line
   abbrev pub IsBlank : Laid → Type 1
-  IsBlank f = (b : Gap) (ts : Input) (K : Gap → Input → Type 0) → says x.naming f b ts K → (d : Gap) × (is_broken d ≡ is_broken b) × K d ts
+  IsBlank f = (b : Spacing) (ts : Input) (K : Spacing → Input → Type 0) → says x.naming f b ts K → (d : Spacing) × (is_broken d ≡ is_broken b) × K d ts
 
   always_blank : IsBlank blank
   always_blank b ts K q = (blanked b, blank_broke true b, q)
@@ -88,8 +88,8 @@ module _ (look : Look) (x : Lexicon look.style) where
       by true false b ts K q = gap_blank (starts_with_word key) b ts K q
       by false w b ts K q = always_blank b ts K q
 
-  record Static_on (i : Bool) (c : Code) (ts0 r0 : Input) (b : Gap) (ts : Input) (K : Gap → Input → Type 0) : Type 0 where
-    d : Gap
+  record Static_on (i : Bool) (c : Code) (ts0 r0 : Input) (b : Spacing) (ts : Input) (K : Spacing → Input → Type 0) : Type 0 where
+    d : Spacing
     m : Input
     more : K d m
     known : Known r0.places
@@ -97,7 +97,7 @@ module _ (look : Look) (x : Lexicon look.style) where
     first : (kind m ≡ else_kind → kind r0 ≡ else_kind) → kind ts ≡ else_kind → kind ts0 ≡ else_kind
     again : Static i (unplaced c) ts m
 
-  static_on : (i : Bool) (f : Laid) → IsBlank f → (c : Code) (ts0 r0 : Input) → Static i c ts0 r0 → Known ts0.places → (b : Gap) (ts : Input) (K : Gap → Input → Type 0) → says x.naming (when i (word (codes "static") · f)) b ts K → Static_on i c ts0 r0 b ts K
+  static_on : (i : Bool) (f : Laid) → IsBlank f → (c : Code) (ts0 r0 : Input) → Static i c ts0 r0 → Known ts0.places → (b : Spacing) (ts : Input) (K : Spacing → Input → Type 0) → says x.naming (when i (word (codes "static") · f)) b ts K → Static_on i c ts0 r0 b ts K
   static_on false f j c ts0 r0 h k b ts K q = record {
     d = b;
     m = ts;
@@ -121,9 +121,9 @@ module _ (look : Look) (x : Lexicon look.style) where
 
   -- how a key is derived again, whatever comes before it
   abbrev KeySound : (Tree → Bool) → (Tree → Tree) → Tree → Type 1
-  KeySound may write k = (c : Code) (ts0 r0 : Input) → Spells k c ts0 r0 → Known ts0.places → (b : Gap) (ts : Input) (K : Gap → Input → Type 0) → says x.naming (laid look Key k) b ts K → KeyAgain look x may write k c ts0 r0 b ts K
+  KeySound may write k = (c : Code) (ts0 r0 : Input) → Produces k c ts0 r0 → Known ts0.places → (b : Spacing) (ts : Input) (K : Spacing → Input → Type 0) → says x.naming (laid look Key k) b ts K → KeyAgain look x may write k c ts0 r0 b ts K
 
-  record Method_on (may : Tree → Bool) (write : Tree → Tree) (k : ℕ) (key : Tree) (ps ss : Trees) (g a : Bool) (c : Code) (ts0 r0 : Input) (b : Gap) (ts : Input) (K : Gap → Input → Type 0) : Type 0 where
+  record Method_on (may : Tree → Bool) (write : Tree → Tree) (k : ℕ) (key : Tree) (ps ss : Trees) (g a : Bool) (c : Code) (ts0 r0 : Input) (b : Spacing) (ts : Input) (K : Spacing → Input → Type 0) : Type 0 where
     m : Input
     more : K Touching m
     known : Known r0.places
@@ -136,16 +136,16 @@ module _ (look : Look) (x : Lexicon look.style) where
     us : Trees
     v : Span
     vs : Trees
-    spelled : (p : Span) → Method (unplaced c) k (part u (λ y. Spells u y)) (record { span = p; generator = g; async = a; count = count_of us }) (part (function p us none (block_stmt v vs) g a) (λ y. Spells (function p us none (block_stmt v vs) g a) y)) ts m
-    same_us : AllSame (leaves_at look x.naming) Plain ps us
-    same_vs : AllSame (leaves_at look x.naming) Plain ss vs
+    produced : (p : Span) → Method (unplaced c) k (child u (λ y. Produces u y)) (record { span = p; generator = g; async = a; count = count_of us }) (child (function p us none (block_stmt v vs) g a) (λ y. Produces (function p us none (block_stmt v vs) g a) y)) ts m
+    same_us : AllRedone (leaves_at look x.naming) Plain ps us
+    same_vs : AllRedone (leaves_at look x.naming) Plain ss vs
 
   abbrev Accessor : Code → ℕ → Tree → FunctionParts → Tree → Input → Input → Type 0
-  Accessor c k key parts f ts r = (m : Input) × (n : Input) × (((k ≡ get_kind) × (parts.count ≡ 0)) ⊎ (k ≡ set_kind)) × (parts.generator ≡ false) × (parts.async ≡ false)
-      × TakesWord c k ts m × Spells key c m n × Spells f (setting (k == set_kind) c) n r
+  Accessor c k key children f ts r = (m : Input) × (n : Input) × (((k ≡ get_kind) × (children.count ≡ 0)) ⊎ (k ≡ set_kind)) × (children.generator ≡ false) × (children.async ≡ false)
+      × TakesWord c k ts m × Produces key c m n × Produces f (setting (k == set_kind) c) n r
 
   abbrev Plain_method : Code → Tree → FunctionParts → Tree → Input → Input → Type 0
-  Plain_method c key parts f ts r = (m : Input) × (n : Input) × MethodHead parts.generator parts.async c ts m × Spells key c m n × Spells f (setting false c) n r
+  Plain_method c key children f ts r = (m : Input) × (n : Input) × MethodHead children.generator children.async c ts m × Produces key c m n × Produces f (setting false c) n r
 
   word_no_else : (k : ℕ) (n : ℕ) → ((k ≡ get_kind) × (n ≡ 0)) ⊎ (k ≡ set_kind) → k ≡ else_kind → ⊥
   word_no_else k n (inl h) e = absurd (omega (arith, h.0, e))
@@ -153,7 +153,7 @@ module _ (look : Look) (x : Lexicon look.style) where
 
   method_on : (body : Stand) (may : Tree → Bool) (write : Tree → Tree) (k : ℕ) (key : Tree) (t : Span) (ps : Trees) (p : Span) (ss : Trees) (g a : Bool) (gp : Laid) → IsBlank gp → KeySound may write key → AllSound look x.naming ps → AllSound look x.naming ss → (c : Code) (ts0 r0 : Input) → (v : Bool) → (k == plain_method) ≡ v
       → By v (Plain_method c key (record { span = t; generator = g; async = a; count = count_of ps }) (function t ps none (block_stmt p ss) g a) ts0 r0) (Accessor c k key (record { span = t; generator = g; async = a; count = count_of ps }) (function t ps none (block_stmt p ss) g a) ts0 r0)
-      → Known ts0.places → (b : Gap) (ts : Input) (K : Gap → Input → Type 0)
+      → Known ts0.places → (b : Spacing) (ts : Input) (K : Spacing → Input → Type 0)
       → says x.naming ((if v then method_marks a g else (word (own_text k) · gp)) · laid look Key key · function_tail look (separated look (comma look) ps) (laid look body (block_stmt p ss))) b ts K → Method_on may write k key ps ss g a c ts0 r0 b ts K
   method_on body may write k key t ps p ss g a gp j n f i c ts0 r0 true e h l b ts K q =
       let w = marks_on look x g a c ts0 h.0 h.2 l b ts _ q in
@@ -171,8 +171,8 @@ module _ (look : Look) (x : Lexicon look.style) where
         us = v.us;
         v = v.v;
         vs = v.vs;
-        spelled = λ p. subst (λ (z : Bool). By z (Plain_method (unplaced c) y.again.0 (record { span = p; generator = g; async = a; count = count_of v.us }) (function p v.us none (block_stmt v.v v.vs) g a) ts v.m)
-            (Accessor (unplaced c) k y.again.0 (record { span = p; generator = g; async = a; count = count_of v.us }) (function p v.us none (block_stmt v.v v.vs) g a) ts v.m)) (sym e) (w.m, y.m, w.again y.broke, y.again.2, v.spelled);
+        produced = λ p. subst (λ (z : Bool). By z (Plain_method (unplaced c) y.again.0 (record { span = p; generator = g; async = a; count = count_of v.us }) (function p v.us none (block_stmt v.v v.vs) g a) ts v.m)
+            (Accessor (unplaced c) k y.again.0 (record { span = p; generator = g; async = a; count = count_of v.us }) (function p v.us none (block_stmt v.v v.vs) g a) ts v.m)) (sym e) (w.m, y.m, w.again y.broke, y.again.2, v.produced);
         same_us = v.same_us;
         same_vs = v.same_vs;
       }
@@ -193,25 +193,25 @@ module _ (look : Look) (x : Lexicon look.style) where
         us = v.us;
         v = v.v;
         vs = v.vs;
-        spelled = λ p. subst (λ (z : Bool). By z (Plain_method (unplaced c) y.again.0 (record { span = p; generator = g; async = a; count = count_of v.us }) (function p v.us none (block_stmt v.v v.vs) g a) ts v.m)
+        produced = λ p. subst (λ (z : Bool). By z (Plain_method (unplaced c) y.again.0 (record { span = p; generator = g; async = a; count = count_of v.us }) (function p v.us none (block_stmt v.v v.vs) g a) ts v.m)
             (Accessor (unplaced c) k y.again.0 (record { span = p; generator = g; async = a; count = count_of v.us }) (function p v.us none (block_stmt v.v v.vs) g a) ts v.m)) (sym e)
-            (q.0, y.m, counted v.us v.same_us h.2, h.3, h.4, (o.0, unbarred c.context (escaped ts) (kind ts) o.1, tt, q.1.after), y.again.2, v.spelled);
+            (q.0, y.m, counted v.us v.same_us h.2, h.3, h.4, (o.0, unbarred c.context (escaped ts) (kind ts) o.1, tt, q.1.after), y.again.2, v.produced);
         same_us = v.same_us;
         same_vs = v.same_vs;
       }
     where
-      counted : (us : Trees) → AllSame (leaves_at look x.naming) Plain ps us → ((k ≡ get_kind) × (count_of ps ≡ 0)) ⊎ (k ≡ set_kind) → ((k ≡ get_kind) × (count_of us ≡ 0)) ⊎ (k ≡ set_kind)
+      counted : (us : Trees) → AllRedone (leaves_at look x.naming) Plain ps us → ((k ≡ get_kind) × (count_of ps ≡ 0)) ⊎ (k ≡ set_kind) → ((k ≡ get_kind) × (count_of us ≡ 0)) ⊎ (k ≡ set_kind)
       counted us s (inl h) = inl (h.0, count_same (leaves_at look x.naming) Plain ps us s ∙ h.1)
       counted us s (inr h) = inr h
 
   -- a method of a class, by the sort of its key
   class_method_on : (of : Tree → Tree → Tree) (body : Stand) (may : Tree → Bool) (write : Tree → Tree) (s : Span) (key : Tree) (t : Span) (ps : Trees) (p : Span) (ss : Trees) (g a : Bool) (k : ℕ) (is_static : Bool) (f gp : Laid) → IsBlank f → IsBlank gp
-      → KeySound may write key → AllSound look x.naming ps → AllSound look x.naming ss → (c : Code) (ts0 r0 : Input) → ClassMethod may c s (part key (λ y. Spells key y)) (part (function t ps none (block_stmt p ss) g a) (λ y. Spells (function t ps none (block_stmt p ss) g a) y)) (function_parts (function t ps none (block_stmt p ss) g a)) k is_static ts0 r0
-      → Known ts0.places → (b : Gap) (ts : Input) (K : Gap → Input → Type 0)
+      → KeySound may write key → AllSound look x.naming ps → AllSound look x.naming ss → (c : Code) (ts0 r0 : Input) → ClassMethod may c s (child key (λ y. Produces key y)) (child (function t ps none (block_stmt p ss) g a) (λ y. Produces (function t ps none (block_stmt p ss) g a) y)) (function_parts (function t ps none (block_stmt p ss) g a)) k is_static ts0 r0
+      → Known ts0.places → (b : Spacing) (ts : Input) (K : Spacing → Input → Type 0)
       → says x.naming (when is_static (word (codes "static") · f) · (if k == plain_method then method_marks a g else (word (own_text k) · gp)) · laid look Key key · function_tail look (separated look (comma look) ps) (laid look body (block_stmt p ss))) b ts K
       → (m : Input) × K Touching m × Known r0.places × (brk ts ≡ is_broken b) × (kind ts ≡ else_kind → kind ts0 ≡ else_kind) × (u : Tree) × (us : Trees) × (v : Span) × (vs : Trees)
-      × ClassMethod may (unplaced c) (span (lo ts) m.last) (part u (λ y. Spells u y)) (part (function (span (lo ts) m.last) us none (block_stmt v vs) g a) (λ y. Spells (function (span (lo ts) m.last) us none (block_stmt v vs) g a) y)) (function_parts (function (span (lo ts) m.last) us none (block_stmt v vs) g a)) k is_static ts m
-      × ((n : Mode) → redo (kept_at x.naming.written) n u ≡ write (redo (leaves_at look x.naming) Plain key)) × AllSame (leaves_at look x.naming) Plain ps us × AllSame (leaves_at look x.naming) Plain ss vs
+      × ClassMethod may (unplaced c) (span (lo ts) m.last) (child u (λ y. Produces u y)) (child (function (span (lo ts) m.last) us none (block_stmt v vs) g a) (λ y. Produces (function (span (lo ts) m.last) us none (block_stmt v vs) g a) y)) (function_parts (function (span (lo ts) m.last) us none (block_stmt v vs) g a)) k is_static ts m
+      × ((n : Mode) → redo (kept_at x.naming.written) n u ≡ write (redo (leaves_at look x.naming) Plain key)) × AllRedone (leaves_at look x.naming) Plain ps us × AllRedone (leaves_at look x.naming) Plain ss vs
   class_method_on of body may write s key t ps p ss g a k is_static f gp i j n d e c ts0 r0 h l b ts K q =
       let w = static_on is_static f i c ts0 h.0 h.3 l b ts _ q in
       let v = method_on body may write k key t ps p ss g a gp j n d e c h.0 r0 (k == plain_method) refl h.4 w.known w.d w.m K w.more in (
@@ -224,7 +224,7 @@ module _ (look : Look) (x : Lexicon look.style) where
         v.us,
         v.v,
         v.vs,
-        (w.m, v.may_u, not_constructor (constructs v.u) (constructs key) (not is_static && ((k == plain_method) && (not g && not a))) v.constructor_as h.2, w.again, v.spelled (span (lo ts) v.m.last), refl, refl),
+        (w.m, v.may_u, not_constructor (constructs v.u) (constructs key) (not is_static && ((k == plain_method) && (not g && not a))) v.constructor_as h.2, w.again, v.produced (span (lo ts) v.m.last), refl, refl),
         v.same_u,
         v.same_us,
         v.same_vs,
@@ -254,7 +254,7 @@ module _ (look : Look) (x : Lexicon look.style) where
         begins = z.4;
         again = λ g'. record {
           tree = class_method (span (lo ts) z.0.last) z.5 (function (span (lo ts) z.0.last) z.6 none (block_stmt z.7 z.8) g a) k i;
-          spelled = z.9;
+          produced = z.9;
           directive = refl;
           quoted = λ p q. refl;
           same = record { so = λ n. same_functions (λ u v. class_method no_place u v k i) g a (z.10 Plain) (z.11.so Plain) (z.12.so Plain) };
@@ -268,7 +268,7 @@ module _ (look : Look) (x : Lexicon look.style) where
       decorated true m = m.4.1
       decorated false m = m.7.1
   private_member s key t ps none p ss g a k i n f j st c ts0 r0 h l b ts K q =
-      let z = class_method_on (λ u v. private_method no_place u v k i) BodyStand is_private (λ t. t) s key t ps p ss g a k i blank blank always_blank always_blank (private_sound key n h.1) f j c ts0 r0 h l b ts K q in record {
+      let z = class_method_on (λ u v. private_method no_place u v k i) BodyState is_private (λ t. t) s key t ps p ss g a k i blank blank always_blank always_blank (private_sound key n h.1) f j c ts0 r0 h l b ts K q in record {
         d = Touching;
         m = z.0;
         more = z.1;
@@ -278,7 +278,7 @@ module _ (look : Look) (x : Lexicon look.style) where
         begins = z.4;
         again = λ g'. record {
           tree = private_method (span (lo ts) z.0.last) z.5 (function (span (lo ts) z.0.last) z.6 none (block_stmt z.7 z.8) g a) k i;
-          spelled = z.9;
+          produced = z.9;
           directive = refl;
           quoted = λ p q. refl;
           same = record { so = λ n. same_functions (λ u v. private_method no_place u v k i) g a (z.10 Plain) (z.11.so Plain) (z.12.so Plain) };
@@ -287,15 +287,15 @@ module _ (look : Look) (x : Lexicon look.style) where
 
   -- ---- fields
 
-  record Field_end (value : Tree) (c : Code) (r0 : Input) (ts : Input) (K : Gap → Input → Type 0) : Type 0 where
-    d : Gap
+  record Field_end (value : Tree) (c : Code) (r0 : Input) (ts : Input) (K : Spacing → Input → Type 0) : Type 0 where
+    d : Spacing
     m : Input
     more : K d m
     known : Known r0.places
-    again : (u : Tree) × ((e : ℕ) → ClassInitial (unplaced c) e (part u (λ y. Spells u y)) ts m) × Same (leaves_at look x.naming) Plain value u
+    again : (u : Tree) × ((e : ℕ) → ClassInitial (unplaced c) e (child u (λ y. Produces u y)) ts m) × Redone (leaves_at look x.naming) Plain value u
 
-  field_end_on : (value : Tree) → Sound look x.naming Alone value → (c : Code) (e : ℕ) (v : Bool) → is_absent value ≡ v → (n0 r0 : Input) → By v (Ends c e n0 r0) ((m : Input) × (n : Input) × Takes c assign_kind n0 m × Expr assignment_level (in_field c) (part value (λ y. Spells value y)) m n × Ends c (ends value) n r0) → Known n0.places
-      → (b : Gap) (ts : Input) (K : Gap → Input → Type 0) → says x.naming (when (not v) (gap look · text (codes "=") · gap look · laid look Alone value) · semi) b ts K → Field_end value c r0 ts K
+  field_end_on : (value : Tree) → Sound look x.naming Alone value → (c : Code) (e : ℕ) (v : Bool) → is_absent value ≡ v → (n0 r0 : Input) → By v (Ends c e n0 r0) ((m : Input) × (n : Input) × Takes c assign_kind n0 m × Expr assignment_level (in_field c) (child value (λ y. Produces value y)) m n × Ends c (ends value) n r0) → Known n0.places
+      → (b : Spacing) (ts : Input) (K : Spacing → Input → Type 0) → says x.naming (when (not v) (gap look · text (codes "=") · gap look · laid look Alone value) · semi) b ts K → Field_end value c r0 ts K
   field_end_on value f c e true a n0 r0 h k b ts K q = let o = semi_of b ts K q in record {
     d = o.0;
     m = o.1;
@@ -322,17 +322,17 @@ module _ (look : Look) (x : Lexicon look.style) where
       }
 
   -- the layout of a value, which is no sequence
-  value_laid : (value : Tree) (c : Code) (n0 r0 : Input) (e : ℕ) (v : Bool) → is_absent value ≡ v → By v (Ends c e n0 r0) ((m : Input) × (n : Input) × Takes c assign_kind n0 m × Expr assignment_level (in_field c) (part value (λ y. Spells value y)) m n × Ends c (ends value) n r0)
-      → (b : Gap) (ts : Input) (K : Gap → Input → Type 0) → says x.naming (field_value look value (laid look Alone value) · semi) b ts K → says x.naming (when (not v) (gap look · text (codes "=") · gap look · laid look Alone value) · semi) b ts K
+  value_laid : (value : Tree) (c : Code) (n0 r0 : Input) (e : ℕ) (v : Bool) → is_absent value ≡ v → By v (Ends c e n0 r0) ((m : Input) × (n : Input) × Takes c assign_kind n0 m × Expr assignment_level (in_field c) (child value (λ y. Produces value y)) m n × Ends c (ends value) n r0)
+      → (b : Spacing) (ts : Input) (K : Spacing → Input → Type 0) → says x.naming (field_value look value (laid look Alone value) · semi) b ts K → says x.naming (when (not v) (gap look · text (codes "=") · gap look · laid look Alone value) · semi) b ts K
   value_laid value c n0 r0 e true a h b ts K q = subst (λ (w : Bool). says x.naming (when w (gap look · text (codes "=") · gap look · (if is_sequence value then in_parens (laid look Alone value) else laid look Alone value)) · semi) b ts K) (there value ∙ ap not a) q
   value_laid value c n0 r0 e false a h b ts K q = subst (λ (w : Bool). says x.naming (when w (gap look · text (codes "=") · gap look · laid look Alone value) · semi) b ts K) (there value ∙ ap not a)
       (subst (λ (w : Bool). says x.naming (when (is_there value) (gap look · text (codes "=") · gap look · (if w then in_parens (laid look Alone value) else laid look Alone value)) · semi) b ts K) (no_sequence value h.3.0) q)
 
-  field_on : (may : Tree → Bool) (write : Tree → Tree) (s : Span) (key value : Tree) (is_static : Bool) → KeySound may write key → Sound look x.naming Alone value → (c : Code) (ts0 r0 : Input) → Field may c s (part key (λ y. Spells key y)) (part value (λ y. Spells value y)) is_static [] ts0 r0 → Known ts0.places
-      → (b : Gap) (ts : Input) (K : Gap → Input → Type 0) → says x.naming (when is_static (word (codes "static") · blank) · laid look Key key · field_value look value (laid look Alone value) · semi) b ts K
-      → (d : Gap) × (m : Input) × K d m × Known r0.places × (brk ts ≡ is_broken b) × (kind ts ≡ else_kind → kind ts0 ≡ else_kind) × (u : Tree) × (v : Tree)
-      × Field may (unplaced c) (span (lo ts) m.last) (part u (λ y. Spells u y)) (part v (λ y. Spells v y)) is_static [] ts m
-      × ((n : Mode) → redo (kept_at x.naming.written) n u ≡ write (redo (leaves_at look x.naming) Plain key)) × Same (leaves_at look x.naming) Plain value v
+  field_on : (may : Tree → Bool) (write : Tree → Tree) (s : Span) (key value : Tree) (is_static : Bool) → KeySound may write key → Sound look x.naming Alone value → (c : Code) (ts0 r0 : Input) → Field may c s (child key (λ y. Produces key y)) (child value (λ y. Produces value y)) is_static [] ts0 r0 → Known ts0.places
+      → (b : Spacing) (ts : Input) (K : Spacing → Input → Type 0) → says x.naming (when is_static (word (codes "static") · blank) · laid look Key key · field_value look value (laid look Alone value) · semi) b ts K
+      → (d : Spacing) × (m : Input) × K d m × Known r0.places × (brk ts ≡ is_broken b) × (kind ts ≡ else_kind → kind ts0 ≡ else_kind) × (u : Tree) × (v : Tree)
+      × Field may (unplaced c) (span (lo ts) m.last) (child u (λ y. Produces u y)) (child v (λ y. Produces v y)) is_static [] ts m
+      × ((n : Mode) → redo (kept_at x.naming.written) n u ≡ write (redo (leaves_at look x.naming) Plain key)) × Redone (leaves_at look x.naming) Plain value v
   field_on may write s key value is_static n f c ts0 r0 h k b ts K q =
       let w = static_on is_static blank always_blank c ts0 h.0 h.4 k b ts _ q in
       let y = n c h.0 h.1 h.5 w.known w.d w.m (λ d m. says x.naming (field_value look value (laid look Alone value) · semi) d m K) w.more in
@@ -352,7 +352,7 @@ module _ (look : Look) (x : Lexicon look.style) where
         begins = z.5;
         again = λ g. record {
           tree = class_prop (span (lo ts) z.1.last) z.6 z.7 i none;
-          spelled = z.8;
+          produced = z.8;
           directive = refl;
           quoted = λ p q. refl;
           same = record { so = λ n. ap₂ (λ (u v : Tree). class_prop no_place u v i none) (z.9 Plain) (z.10.so Plain) };
@@ -372,7 +372,7 @@ module _ (look : Look) (x : Lexicon look.style) where
         begins = z.5;
         again = λ g. record {
           tree = private_prop (span (lo ts) z.1.last) z.6 z.7 i none;
-          spelled = z.8;
+          produced = z.8;
           directive = refl;
           quoted = λ p q. refl;
           same = record { so = λ n. ap₂ (λ (u v : Tree). private_prop no_place u v i none) (z.9 Plain) (z.10.so Plain) };
@@ -395,7 +395,7 @@ module _ (look : Look) (x : Lexicon look.style) where
         begins = w.first (λ e. absurd (accessor_else (sym (keyed look x accessor_kind o.1) ∙ e)));
         again = λ g. record {
           tree = auto_accessor (span (lo ts) z.m.last) y.again.0 z.again.0 i none;
-          spelled = (w.m, o.0, y.m, h.3, tt, w.again, worded look x c accessor_kind o.1, y.broke, (y.again.1, y.again.2), z.again.1 key_end, refl);
+          produced = (w.m, o.0, y.m, h.3, tt, w.again, worded look x c accessor_kind o.1, y.broke, (y.again.1, y.again.2), z.again.1 key_end, refl);
           directive = refl;
           quoted = λ p q. refl;
           same = record { so = λ n. ap₂ (λ (u v : Tree). auto_accessor no_place u v i none) (y.again.3 Plain) (z.again.2.so Plain) };
@@ -418,7 +418,7 @@ module _ (look : Look) (x : Lexicon look.style) where
         begins = λ e. absurd (o.1 e);
         again = λ g. record {
           tree = constructor (span (lo ts) y.m.last) (ident_name (span (lo ts) q.0.last) (codes "constructor")) z.us (block_stmt (span (lo z.m) y.m.last) y.again.0);
-          spelled = (q.0, z.m, refl, ((o.0, o.2, tt, q.1.after), refl), z.spelled, (y.again.1, y.again.2, y.again.3, refl), refl);
+          produced = (q.0, z.m, refl, ((o.0, o.2, tt, q.1.after), refl), z.produced, (y.again.1, y.again.2, y.again.3, refl), refl);
           directive = refl;
           quoted = λ p q. refl;
           same = record { so = λ n. ap₂ (λ (t : Tree) (us : Trees × Trees). constructor no_place t us.0 (block_stmt no_place us.1)) (sym (constructor_written (leaves_at look x.naming) key h.2)) (ap₂ (λ (us vs : Trees). (us, vs)) (z.same.so Plain) (y.again.4.so Plain)) };
@@ -437,7 +437,7 @@ module _ (look : Look) (x : Lexicon look.style) where
         begins = λ e. absurd (static_else (sym (keyed look x static_kind q.1) ∙ e));
         again = λ g. record {
           tree = static_block (span (lo ts) y.m.last) (block_stmt (span (lo q.0) y.m.last) y.again.0);
-          spelled = (q.0, y.again.1, worded look x c static_kind q.1, y.again.2, y.again.3, refl, refl);
+          produced = (q.0, y.again.1, worded look x c static_kind q.1, y.again.2, y.again.3, refl, refl);
           directive = refl;
           quoted = λ p q. refl;
           same = record { so = λ n. ap (λ (us : Trees). static_block no_place (block_stmt no_place us)) (y.again.4.so Plain) };

@@ -8,19 +8,19 @@ use Rattle.ecma_syntax.specs.Input.{Code, Input, Takes, kind, lo, span, turned_s
 use Rattle.ecma_syntax.specs.Operators.{new_level}
 use Rattle.ecma_syntax.specs.Shape.{is_absent, is_member}
 use Rattle.ecma_grammar.specs.Functions.{ClassTail, Heritage, Members}
-use Rattle.ecma_grammar.specs.Grammar.{Spells, parts}
-use Rattle.ecma_grammar.specs.Parts.{By, Maybe, is_ident, part}
+use Rattle.ecma_grammar.specs.Grammar.{Produces, children}
+use Rattle.ecma_grammar.specs.Children.{By, Maybe, is_ident, child}
 use Rattle.ecma_edge.specs.Edges.{is_there, starts_with_word}
 use Rattle.ecma_layout.specs.Layout.{class_tail, indented_or_line, laid, rows, word}
 use Rattle.ecma_layout.specs.Looks.{blank, brace, formats, gap_or, last, line, when, ◌·◌}
 use Rattle.ecma_layout.specs.declared.look.Look.{Look}
 use Rattle.ecma_layout.specs.declared.look.Stand.{Stand}
 use Rattle.ecma_layout.specs.declared.look.Stand.TheVariants.{Alone}
-use Rattle.ecma_written.specs.Gaps.{Gap, Spaced, Touching}
+use Rattle.ecma_written.specs.Spacings.{Spacing, Spaced, Touching}
 use Rattle.ecma_written.specs.Lexicon.{Lexicon}
 use Rattle.ecma_written.specs.Means.{Known}
 use Rattle.ecma_written.specs.Told.{says}
-use Rattle.ecma_redone.specs.Redo.{AllSame, Leaves, Mode, Plain, Same, redo}
+use Rattle.ecma_redone.specs.Redo.{AllRedone, Leaves, Mode, Plain, Redone, redo}
 use Rattle.ecma_redone_rules.proofs.Naming.{leaves_at}
 use Rattle.ecma_redone_rules.proofs.Begins.{first_token, is_loose, is_part, is_weak, led}
 use Rattle.ecma_redone_rules.proofs.Bodies.{follow_closed}
@@ -70,18 +70,18 @@ ident_there _ h = absurd (true≢false (sym h))
 module _ (look : Look) (x : Lexicon look.style) where
   -- ---- members one after another
 
-  record Members_on (c : Code) (ms : Trees) (ts0 r0 : Input) (ts : Input) (K : Gap → Input → Type 0) : Type 0 where
-    d : Gap
+  record Members_on (c : Code) (ms : Trees) (ts0 r0 : Input) (ts : Input) (K : Spacing → Input → Type 0) : Type 0 where
+    d : Spacing
     m : Input
     more : K d m
     known : Known r0.places
     first : kind ts ≡ else_kind → kind ts0 ≡ else_kind
-    again : (r : Input) → Takes (unplaced c) right_brace_kind m r → (us : Trees) × Members (unplaced c) (parts us) ts r × AllSame (leaves_at look x.naming) Plain ms us
+    again : (r : Input) → Takes (unplaced c) right_brace_kind m r → (us : Trees) × Members (unplaced c) (children us) ts r × AllRedone (leaves_at look x.naming) Plain ms us
 
-  no_members : (c : Code) (ts0 r0 : Input) → Takes c right_brace_kind ts0 r0 → Known ts0.places → (b : Gap) (ts : Input) (K : Gap → Input → Type 0) → kind ts ≡ right_brace_kind → K b ts → Members_on c none ts0 r0 ts K
+  no_members : (c : Code) (ts0 r0 : Input) → Takes c right_brace_kind ts0 r0 → Known ts0.places → (b : Spacing) (ts : Input) (K : Spacing → Input → Type 0) → kind ts ≡ right_brace_kind → K b ts → Members_on c none ts0 r0 ts K
   no_members c ts0 r0 h k b ts K e q = record { d = b; m = ts; more = q; known = x.later ts0 r0 h.2 k; first = λ i. absurd (brace_else (sym e ∙ i)); again = λ r t. (none, t, none_same (leaves_at look x.naming)) }
 
-  more_members : (c : Code) (t : Tree) (us : Trees) → is_member t ≡ true → (ts0 m0 r0 : Input) (b : Gap) (ts : Input) (J K : Gap → Input → Type 0) → (z : Out look x.naming Alone t c ts0 m0 b ts J) → Members_on c us m0 r0 z.m K → Members_on c (more t us) ts0 r0 ts K
+  more_members : (c : Code) (t : Tree) (us : Trees) → is_member t ≡ true → (ts0 m0 r0 : Input) (b : Spacing) (ts : Input) (J K : Spacing → Input → Type 0) → (z : Out look x.naming Alone t c ts0 m0 b ts J) → Members_on c us m0 r0 z.m K → Members_on c (more t us) ts0 r0 ts K
   more_members c t us i ts0 m0 r0 b ts J K z v = record {
     d = v.d;
     m = v.m;
@@ -89,10 +89,10 @@ module _ (look : Look) (x : Lexicon look.style) where
     known = v.known;
     first = first_token (is_weak t) (is_loose t) ts0 m0 ts z.m z.begins;
     again = λ r tk. let w = z.again (follow_closed t m0 z.m (member_plain t i).1 v.first) in let o = v.again r tk in
-        (more w.tree o.0, (z.m, (alike is_member re_is_member (leaves_at look x.naming) Plain t w.tree w.same ∙ i, w.spelled), o.1), more_same (leaves_at look x.naming) Plain t w.tree us o.0 w.same o.2);
+        (more w.tree o.0, (z.m, (alike is_member re_is_member (leaves_at look x.naming) Plain t w.tree w.same ∙ i, w.produced), o.1), more_same (leaves_at look x.naming) Plain t w.tree us o.0 w.same o.2);
   }
 
-  members_on : (c : Code) (ms : Trees) → AllSound look x.naming ms → (ts0 r0 : Input) → Members c (parts ms) ts0 r0 → Known ts0.places → (b : Gap) (ts : Input) (K : Gap → Input → Type 0) → ((d : Gap) (m : Input) → K d m → kind m ≡ right_brace_kind)
+  members_on : (c : Code) (ms : Trees) → AllSound look x.naming ms → (ts0 r0 : Input) → Members c (children ms) ts0 r0 → Known ts0.places → (b : Spacing) (ts : Input) (K : Spacing → Input → Type 0) → ((d : Spacing) (m : Input) → K d m → kind m ≡ right_brace_kind)
       → says x.naming (rows look false ms) b ts K → Members_on c ms ts0 r0 ts K
   members_on c none a ts0 r0 h k b ts K peek q = no_members c ts0 r0 h k b ts K (peek b ts q) q
   members_on c (more t none) a ts0 r0 h k b ts K peek q =
@@ -105,14 +105,14 @@ module _ (look : Look) (x : Lexicon look.style) where
 
   -- ---- what a class extends, and its body
 
-  record Heritage_on (k : Tree) (c : Code) (r0 : Input) (ts : Input) (K : Gap → Input → Type 0) : Type 0 where
-    d : Gap
+  record Heritage_on (k : Tree) (c : Code) (r0 : Input) (ts : Input) (K : Spacing → Input → Type 0) : Type 0 where
+    d : Spacing
     m : Input
     more : K d m
     known : Known r0.places
-    again : kind m ≡ left_brace_kind → (u : Tree) × Maybe Heritage (unplaced c) (part u (λ y. Spells u y)) ts m × Same (leaves_at look x.naming) Plain k u
+    again : kind m ≡ left_brace_kind → (u : Tree) × Maybe Heritage (unplaced c) (child u (λ y. Produces u y)) ts m × Redone (leaves_at look x.naming) Plain k u
 
-  heritage_on : (k : Tree) → Sound look x.naming Alone k → (c : Code) (v : Bool) → is_absent k ≡ v → (ts0 r0 : Input) → By v (ts0 ≡ r0) (Heritage c (part k (λ y. Spells k y)) ts0 r0) → Known ts0.places → (b : Gap) (ts : Input) (K : Gap → Input → Type 0)
+  heritage_on : (k : Tree) → Sound look x.naming Alone k → (c : Code) (v : Bool) → is_absent k ≡ v → (ts0 r0 : Input) → By v (ts0 ≡ r0) (Heritage c (child k (λ y. Produces k y)) ts0 r0) → Known ts0.places → (b : Spacing) (ts : Input) (K : Spacing → Input → Type 0)
       → says x.naming (when (not v) (blank · word (codes "extends") · gap_or look (starts_with_word k) · laid look Alone k)) b ts K → Heritage_on k c r0 ts K
   heritage_on k f c true e ts0 r0 h l b ts K q = record { d = b; m = ts; more = q; known = subst (λ (i : Input). Known i.places) h l; again = λ i. (absent, refl, absent_same (leaves_at look x.naming) Plain k e) }
   heritage_on k f c false e ts0 r0 h l b ts K q =
@@ -125,17 +125,17 @@ module _ (look : Look) (x : Lexicon look.style) where
             (w.tree, unabsent (is_absent w.tree) _ _ (alike is_absent re_is_absent (leaves_at look x.naming) Plain k w.tree w.same ∙ e) (q.0, worded look x c extends_kind q.1, expr_low look x.naming new_level Alone k c q.0 y.m h.2.0 (omega arith) w), w.same);
       }
 
-  record Class_tail (ms : Trees) (k : Tree) (c : Code) (r0 : Input) (ts : Input) (K : Gap → Input → Type 0) : Type 0 where
+  record Class_tail (ms : Trees) (k : Tree) (c : Code) (r0 : Input) (ts : Input) (K : Spacing → Input → Type 0) : Type 0 where
     m : Input
     more : K Touching m
     known : Known r0.places
     us : Trees
     u : Tree
-    spelled : ClassTail (unplaced c) [] (parts us) (part u (λ y. Spells u y)) ts m
-    same_us : AllSame (leaves_at look x.naming) Plain ms us
-    same_u : Same (leaves_at look x.naming) Plain k u
+    produced : ClassTail (unplaced c) [] (children us) (child u (λ y. Produces u y)) ts m
+    same_us : AllRedone (leaves_at look x.naming) Plain ms us
+    same_u : Redone (leaves_at look x.naming) Plain k u
 
-  class_tail_on : (t : Span) (ms : Trees) (k : Tree) → AllSound look x.naming ms → Sound look x.naming Alone k → (c : Code) (ts0 r0 : Input) → ClassTail c [] (parts ms) (part k (λ y. Spells k y)) ts0 r0 → Known ts0.places → (b : Gap) (ts : Input) (K : Gap → Input → Type 0)
+  class_tail_on : (t : Span) (ms : Trees) (k : Tree) → AllSound look x.naming ms → Sound look x.naming Alone k → (c : Code) (ts0 r0 : Input) → ClassTail c [] (children ms) (child k (λ y. Produces k y)) ts0 r0 → Known ts0.places → (b : Spacing) (ts : Input) (K : Spacing → Input → Type 0)
       → says x.naming (when (is_there k) (blank · word (codes "extends") · gap_or look (starts_with_word k) · laid look Alone k) · class_tail look t ms (rows look false ms)) b ts K → Class_tail ms k c r0 ts K
   class_tail_on t ms k a f c ts0 r0 h l b ts K q =
       let y = heritage_on k f c (is_absent k) refl ts0 h.0 h.3 l b ts (λ d m. says x.naming (class_tail look t ms (rows look false ms)) d m K)
@@ -144,7 +144,7 @@ module _ (look : Look) (x : Lexicon look.style) where
       let i = y.again (marked look x left_brace_kind o.1) in
       by ms a h.5 (x.later h.0 h.1 h.4.2 y.known) y.m i o.0 (took look x c left_brace_kind o.1) o.2
     where
-      by : (ms : Trees) → AllSound look x.naming ms → Members c (parts ms) h.1 r0 → Known h.1.places → (m : Input) → (u : Tree) × Maybe Heritage (unplaced c) (part u (λ y. Spells u y)) ts m × Same (leaves_at look x.naming) Plain k u → (n : Input) → Takes (unplaced c) left_brace_kind m n
+      by : (ms : Trees) → AllSound look x.naming ms → Members c (children ms) h.1 r0 → Known h.1.places → (m : Input) → (u : Tree) × Maybe Heritage (unplaced c) (child u (λ y. Produces u y)) ts m × Redone (leaves_at look x.naming) Plain k u → (n : Input) → Takes (unplaced c) left_brace_kind m n
           → says x.naming (indented_or_line look ms (rows look false ms) · last t · brace) Touching n K → Class_tail ms k c r0 ts K
       by none a g l m i n e p = let o = (skip_line x.naming (formats look) Touching n _ p).1 in record {
         m = o.0;
@@ -152,7 +152,7 @@ module _ (look : Look) (x : Lexicon look.style) where
         known = x.later h.1 r0 g.2 l;
         us = none;
         u = i.0;
-        spelled = (m, n, tt, i.1, e, took look x c right_brace_kind o.1);
+        produced = (m, n, tt, i.1, e, took look x c right_brace_kind o.1);
         same_us = none_same (leaves_at look x.naming);
         same_u = i.2;
       }
@@ -166,7 +166,7 @@ module _ (look : Look) (x : Lexicon look.style) where
             known = z.known;
             us = w.0;
             u = i.0;
-            spelled = (m, n, tt, i.1, e, w.1);
+            produced = (m, n, tt, i.1, e, w.1);
             same_us = w.2;
             same_u = i.2;
           }
@@ -189,7 +189,7 @@ module _ (look : Look) (x : Lexicon look.style) where
         begins = λ e. absurd (class_else (sym (keyed look x class_kind q.1) ∙ e));
         again = λ g. record {
           tree = class_decl (span (lo ts) v.m.last) z.again.0 (class (span (lo ts) v.m.last) none v.us v.u);
-          spelled = (q.0, z.m, worded look x c class_kind q.1, z.again.1, v.spelled, refl, refl);
+          produced = (q.0, z.m, worded look x c class_kind q.1, z.again.1, v.produced, refl, refl);
           directive = refl;
           quoted = λ p q. refl;
           same = record { so = λ n. same_class (λ (i c : Tree). class_decl no_place i c) (z.again.2.so Plain) (v.same_us.so Plain) (v.same_u.so Plain) };
@@ -211,7 +211,7 @@ module _ (look : Look) (x : Lexicon look.style) where
         begins = led ts0 r0 ts v.m class_kind h.2.0 (keyed look x class_kind q.1) refl;
         again = λ g. record {
           tree = class_expr (span (lo ts) v.m.last) z.again.0 (class (span (lo ts) v.m.last) none v.us v.u);
-          spelled = (q.0, z.m, worded look x c class_kind q.1, z.again.1, v.spelled, refl, refl);
+          produced = (q.0, z.m, worded look x c class_kind q.1, z.again.1, v.produced, refl, refl);
           directive = refl;
           quoted = λ p q. refl;
           same = record { so = λ n. same_class (λ (i c : Tree). class_expr no_place i c) (z.again.2.so Plain) (v.same_us.so Plain) (v.same_u.so Plain) };

@@ -8,16 +8,16 @@ use Rattle.ecma_tree.specs.Tree.{Tree, class, class_decl, class_expr, export_dec
 use Rattle.ecma_syntax.specs.Input.{Code, Input, assigning, brk2, in_list, kind, kind2, lo, rest, span}
 use Rattle.ecma_syntax.specs.Operators.{assignment_level}
 use Rattle.ecma_syntax.specs.Shape.{ends, is_default_decl, is_exportable, is_item, level}
-use Rattle.ecma_grammar.specs.Grammar.{Spells}
+use Rattle.ecma_grammar.specs.Grammar.{Produces}
 use Rattle.ecma_grammar.specs.Modules.{DefaultDeclaration, ExportDeclaration, starts_default}
-use Rattle.ecma_grammar.specs.Parts.{is_module_item, part}
+use Rattle.ecma_grammar.specs.Children.{is_module_item, child}
 use Rattle.ecma_edge.specs.Edges.{starts_with_word}
 use Rattle.ecma_layout.specs.Layout.{is_variables, laid, word}
 use Rattle.ecma_layout.specs.Looks.{blank, end, formats, semi, when, ◌·◌}
 use Rattle.ecma_layout.specs.declared.look.Look.{Look}
 use Rattle.ecma_layout.specs.declared.look.Stand.{Stand}
 use Rattle.ecma_layout.specs.declared.look.Stand.TheVariants.{Alone}
-use Rattle.ecma_written.specs.Gaps.{Gap, Spaced, Touching}
+use Rattle.ecma_written.specs.Spacings.{Spacing, Spaced, Touching}
 use Rattle.ecma_written.specs.Lexicon.{Lexicon}
 use Rattle.ecma_written.specs.Means.{Known}
 use Rattle.ecma_written.specs.Told.{says}
@@ -96,7 +96,7 @@ default_again ts0 m0 ts m (same_start e f) n h = bits (kind ts == function_kind)
 module _ (look : Look) (x : Lexicon look.style) where
   -- ---- `export` before a declaration
 
-  export_with : (s : Span) (t : Tree) → Sound look x.naming Alone t → (st : Stand) (c : Code) (ts0 r0 : Input) → ExportDeclaration c s (part t (λ y. Spells t y)) ts0 r0 → Known ts0.places → (b : Gap) (ts : Input) (K : Gap → Input → Type 0) → says x.naming (word (codes "export") · blank · laid look Alone t · when (is_variables t) (semi · end s)) b ts K
+  export_with : (s : Span) (t : Tree) → Sound look x.naming Alone t → (st : Stand) (c : Code) (ts0 r0 : Input) → ExportDeclaration c s (child t (λ y. Produces t y)) ts0 r0 → Known ts0.places → (b : Spacing) (ts : Input) (K : Spacing → Input → Type 0) → says x.naming (word (codes "export") · blank · laid look Alone t · when (is_variables t) (semi · end s)) b ts K
       → Out look x.naming st (export_decl s t) c ts0 r0 b ts K
   export_with s t f st c ts0 r0 h k b ts K q =
       let p = exported_sort t h.2 in
@@ -110,14 +110,14 @@ module _ (look : Look) (x : Lexicon look.style) where
         begins = λ e. absurd (export_else (sym (keyed look x export_kind q.1) ∙ e));
         again = λ l. let w = z.again (follow_closed t r0 z.m (item_closed t p.0) (l.other refl)) in record {
           tree = export_decl (span (lo ts) z.m.last) w.tree;
-          spelled = (q.0, worded look x c export_kind q.1, alike is_exportable re_is_exportable (leaves_at look x.naming) Plain t w.tree w.same ∙ h.2, w.spelled, refl);
+          produced = (q.0, worded look x c export_kind q.1, alike is_exportable re_is_exportable (leaves_at look x.naming) Plain t w.tree w.same ∙ h.2, w.produced, refl);
           directive = refl;
           quoted = λ p q. refl;
           same = record { so = λ n. ap (λ (t : Tree). export_decl no_place t) (w.same.so Plain) };
         };
       }
     where
-      ended_only : (v : Bool) (d : Gap) (m : Input) → says x.naming (when v (semi · end s)) d m K → says x.naming (when v semi) d m K
+      ended_only : (v : Bool) (d : Spacing) (m : Input) → says x.naming (when v (semi · end s)) d m K → says x.naming (when v semi) d m K
       ended_only true d m i = i
       ended_only false d m i = i
 
@@ -131,7 +131,7 @@ module _ (look : Look) (x : Lexicon look.style) where
 
   -- ---- `export default`
 
-  default_with : (s : Span) (t : Tree) → Sound look x.naming Alone t → (st : Stand) (c : Code) (ts0 r0 : Input) → DefaultDeclaration c s (part t (λ y. Spells t y)) ts0 r0 → Known ts0.places → (b : Gap) (ts : Input) (K : Gap → Input → Type 0) → says x.naming (word (codes "export") · blank · word (codes "default") · blank · laid look Alone t) b ts K
+  default_with : (s : Span) (t : Tree) → Sound look x.naming Alone t → (st : Stand) (c : Code) (ts0 r0 : Input) → DefaultDeclaration c s (child t (λ y. Produces t y)) ts0 r0 → Known ts0.places → (b : Spacing) (ts : Input) (K : Spacing → Input → Type 0) → says x.naming (word (codes "export") · blank · word (codes "default") · blank · laid look Alone t) b ts K
       → Out look x.naming st (export_default_decl s t) c ts0 r0 b ts K
   default_with s t f st c ts0 r0 h k b ts K q =
       let p = default_sort t h.2 in
@@ -146,7 +146,7 @@ module _ (look : Look) (x : Lexicon look.style) where
         begins = λ e. absurd (export_else (sym (keyed look x export_kind q.1) ∙ e));
         again = λ l. let w = z.again (follow_closed t r0 z.m p.1 (l.other refl)) in record {
           tree = export_default_decl (span (lo ts) z.m.last) w.tree;
-          spelled = (i.0, (q.0, worded look x c export_kind q.1, worded look x c default_kind i.1), alike is_default_decl re_is_default_decl (leaves_at look x.naming) Plain t w.tree w.same ∙ h.2, w.spelled, refl);
+          produced = (i.0, (q.0, worded look x c export_kind q.1, worded look x c default_kind i.1), alike is_default_decl re_is_default_decl (leaves_at look x.naming) Plain t w.tree w.same ∙ h.2, w.produced, refl);
           directive = refl;
           quoted = λ p q. refl;
           same = record { so = λ n. ap (λ (t : Tree). export_default_decl no_place t) (w.same.so Plain) };
@@ -175,7 +175,7 @@ module _ (look : Look) (x : Lexicon look.style) where
         begins = λ e. absurd (export_else (sym (keyed look x export_kind q.1) ∙ e));
         again = λ l. let w = y.again (record { quiet = λ z. j.calm; other = λ z. absurd (no_item e n z) }) in record {
           tree = export_default_expr (span (lo ts) o.1.last) w.tree;
-          spelled = (i.0, y.m, (q.0, worded look x c export_kind q.1, worded look x c default_kind i.1), default_again h.0 h.1 i.0 y.m (expr_begins look x.naming Alone e (assigning c) h.0 h.1 _ i.0 _ n y) j.function h.3, expr_low look x.naming assignment_level Alone e c i.0 y.m h.4.0 (omega arith) w, ended look x c (ends w.tree) o.2, refl);
+          produced = (i.0, y.m, (q.0, worded look x c export_kind q.1, worded look x c default_kind i.1), default_again h.0 h.1 i.0 y.m (expr_begins look x.naming Alone e (assigning c) h.0 h.1 _ i.0 _ n y) j.function h.3, expr_low look x.naming assignment_level Alone e c i.0 y.m h.4.0 (omega arith) w, ended look x c (ends w.tree) o.2, refl);
           directive = refl;
           quoted = λ p q. refl;
           same = record { so = λ n. ap (λ (t : Tree). export_default_expr no_place t) (w.same.so Plain) };

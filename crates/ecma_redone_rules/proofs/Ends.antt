@@ -5,19 +5,19 @@ use Rattle.ecma_tree.specs.Tree.{Tree, absent}
 use Rattle.ecma_syntax.specs.Input.{Code, Input, Takes, kind, unplaced}
 use Rattle.ecma_syntax.specs.Operators.{assignment_level}
 use Rattle.ecma_syntax.specs.Shape.{is_absent, level}
-use Rattle.ecma_grammar.specs.Grammar.{Spells}
-use Rattle.ecma_grammar.specs.Parts.{By, Ends, Expr, part}
+use Rattle.ecma_grammar.specs.Grammar.{Produces}
+use Rattle.ecma_grammar.specs.Children.{By, Ends, Expr, child}
 use Rattle.ecma_edge.specs.Edges.{is_there}
 use Rattle.ecma_layout.specs.Layout.{laid}
 use Rattle.ecma_layout.specs.Looks.{formats, gap, text, when, ◌·◌}
 use Rattle.ecma_layout.specs.declared.look.Look.{Look}
 use Rattle.ecma_layout.specs.declared.look.Stand.TheVariants.{Alone}
-use Rattle.ecma_written.specs.Gaps.{Gap, Touching}
+use Rattle.ecma_written.specs.Spacings.{Spacing, Touching}
 use Rattle.ecma_written.specs.Lexicon.{Lexicon}
 use Rattle.ecma_written.specs.Means.{Known}
 use Rattle.ecma_written.specs.Says.{SemicolonMayGo}
 use Rattle.ecma_written.specs.Told.{says}
-use Rattle.ecma_redone.specs.Redo.{Leaves, Mode, Plain, Same}
+use Rattle.ecma_redone.specs.Redo.{Leaves, Mode, Plain, Redone}
 use Rattle.ecma_redone_rules.proofs.Naming.{leaves_at}
 use Rattle.ecma_redone_rules.proofs.Begins.{Begins, before}
 use Rattle.ecma_redone_rules.proofs.Follow.{calm, closed_calm, closes, no_item}
@@ -34,7 +34,7 @@ pub there : (t : Tree) → is_there t ≡ not (is_absent t)
 there absent = refl
 there _ = refl
 
-pub absent_same : (l : Leaves) (m : Mode) (t : Tree) → is_absent t ≡ true → Same l m t absent
+pub absent_same : (l : Leaves) (m : Mode) (t : Tree) → is_absent t ≡ true → Redone l m t absent
 absent_same l m absent e = record { so = λ n. refl }
 absent_same l m _ e = absurd (true≢false (sym e))
 
@@ -54,7 +54,7 @@ pub record Quiet (m : Input) : Type 0 where
   pub calm : calm m ≡ true
 
 module _ (look : Look) (x : Lexicon look.style) where
-  pub quiet_at : {b : Gap} {ts : Input} {d : Gap} {m : Input} → Semi b ts d m → Quiet ts
+  pub quiet_at : {b : Spacing} {ts : Input} {d : Spacing} {m : Input} → Semi b ts d m → Quiet ts
   quiet_at {ts = ts} s = by (ended_kind look x s)
     where
       at : (k : ℕ) → kind ts ≡ k → closes k ≡ true → (k ≡ function_kind → ⊥) → (k ≡ left_bracket_kind → ⊥) → Quiet ts
@@ -71,17 +71,17 @@ module _ (look : Look) (x : Lexicon look.style) where
 
   -- ---- an initialiser, or none
 
-  pub record Initialised (e : Tree) (c o : Code) (m0 r0 : Input) (b : Gap) (ts : Input) (K : Gap → Input → Type 0) : Type 0 where
-    pub d : Gap
+  pub record Initialised (e : Tree) (c o : Code) (m0 r0 : Input) (b : Spacing) (ts : Input) (K : Spacing → Input → Type 0) : Type 0 where
+    pub d : Spacing
     pub m : Input
     pub more : K d m
     pub known : Known r0.places
     pub calms : calm m ≡ true → calm ts ≡ true
     -- where what stands before begins as it did, so does the whole
     pub begins : (n0 n : Input) → Begins false n0 m0 n ts → Begins false n0 r0 n m
-    pub again : calm m ≡ true → (u : Tree) × By (is_absent u) (ts ≡ m) ((n : Input) × Takes (unplaced c) assign_kind ts n × Expr assignment_level (unplaced o) (part u (λ y. Spells u y)) n m) × Same (leaves_at look x.naming) Plain e u
+    pub again : calm m ≡ true → (u : Tree) × By (is_absent u) (ts ≡ m) ((n : Input) × Takes (unplaced c) assign_kind ts n × Expr assignment_level (unplaced o) (child u (λ y. Produces u y)) n m) × Redone (leaves_at look x.naming) Plain e u
 
-  pub initial_on : (e : Tree) → Sound look x.naming Alone e → (c o : Code) (v : Bool) → is_absent e ≡ v → (m0 r0 : Input) → By v (m0 ≡ r0) ((n : Input) × Takes c assign_kind m0 n × Expr assignment_level o (part e (λ y. Spells e y)) n r0) → Known m0.places → (b : Gap) (ts : Input) (K : Gap → Input → Type 0)
+  pub initial_on : (e : Tree) → Sound look x.naming Alone e → (c o : Code) (v : Bool) → is_absent e ≡ v → (m0 r0 : Input) → By v (m0 ≡ r0) ((n : Input) × Takes c assign_kind m0 n × Expr assignment_level o (child e (λ y. Produces e y)) n r0) → Known m0.places → (b : Spacing) (ts : Input) (K : Spacing → Input → Type 0)
       → says x.naming (when (not v) (gap look · text (codes "=") · gap look · laid look Alone e)) b ts K → Initialised e c o m0 r0 b ts K
   initial_on e f c o true a m0 r0 h k b ts K q = record {
     d = b;

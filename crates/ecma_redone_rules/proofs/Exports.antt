@@ -7,20 +7,20 @@ use Rattle.ecma_tree.specs.Tree.{Tree, Trees, absent, export_all, export_named_s
 use Rattle.ecma_syntax.specs.Input.{Code, Input, TakesWord, lo, span, unplaced}
 use Rattle.ecma_syntax.specs.Operators.{exports_end}
 use Rattle.ecma_syntax.specs.Shape.{is_absent, is_named_export, is_star_export, is_string}
-use Rattle.ecma_grammar.specs.Grammar.{Spells, parts}
+use Rattle.ecma_grammar.specs.Grammar.{Produces, children}
 use Rattle.ecma_grammar.specs.Modules.{ExportList, ExportStarAs, Source, Specified}
-use Rattle.ecma_grammar.specs.Parts.{By, Ends, IsEmpty, Sorted, is_module_item, part}
+use Rattle.ecma_grammar.specs.Children.{By, Ends, IsEmpty, Sorted, is_module_item, child}
 use Rattle.ecma_edge.specs.Edges.{is_there}
 use Rattle.ecma_layout.specs.Layout.{attributes, comma, exports, first_namespace, has_namespace, has_other, in_braces, is_namespace, is_no_namespace, laid, from as laid_from, named_items}
 use Rattle.ecma_layout.specs.Looks.{Laid, blank, brace, formats, gap, nothing, semi, text, when, ◌·◌}
 use Rattle.ecma_layout.specs.declared.look.Look.{Look}
 use Rattle.ecma_layout.specs.declared.look.Stand.{Stand}
 use Rattle.ecma_layout.specs.declared.look.Stand.TheVariants.{Alone, Key}
-use Rattle.ecma_written.specs.Gaps.{Gap, Touching, blanked}
+use Rattle.ecma_written.specs.Spacings.{Spacing, Touching, blanked}
 use Rattle.ecma_written.specs.Lexicon.{Lexicon}
 use Rattle.ecma_written.specs.Means.{Known}
 use Rattle.ecma_written.specs.Told.{says}
-use Rattle.ecma_redone.specs.Redo.{AllSame, Leaves, Mode, Plain, Same, redo}
+use Rattle.ecma_redone.specs.Redo.{AllRedone, Leaves, Mode, Plain, Redone, redo}
 use Rattle.ecma_redone_rules.proofs.Naming.{leaves_at}
 use Rattle.ecma_redone_rules.proofs.Begins.{is_part}
 use Rattle.ecma_redone_rules.proofs.Ends.{absent_same, ended_known, quiet_at, there, unabsent}
@@ -59,7 +59,7 @@ no_namespace_in (more t us) h = ap₂ (λ (a b : Bool). a || b) (un_not (is_name
 
 module _ (look : Look) (x : Lexicon look.style) where
   -- names are no namespace, and say nothing where that stands
-  no_first : (xs : Trees) → EachIs is_no_namespace xs → (b : Gap) (ts : Input) (K : Gap → Input → Type 0) → says x.naming (first_namespace look xs) b ts K → K b ts
+  no_first : (xs : Trees) → EachIs is_no_namespace xs → (b : Spacing) (ts : Input) (K : Spacing → Input → Type 0) → says x.naming (first_namespace look xs) b ts K → K b ts
   no_first none e b ts K q = q
   no_first (more t us) e b ts K q = no_first us e.1 b ts K (by (is_namespace t) (un_not (is_namespace t) e.0) q)
     where
@@ -72,31 +72,31 @@ module _ (look : Look) (x : Lexicon look.style) where
   abbrev end_laid : Bool → Tree → Tree → Laid
   end_laid v src with_ = when (is_there src) ((if v then blank else gap look) · laid_from look (laid look Key src) · attributes look with_ (laid look Alone with_)) · semi
 
-  record Ended_by (src with_ : Tree) (c : Code) (r0 : Input) (ts : Input) (K : Gap → Input → Type 0) : Type 0 where
-    d : Gap
+  record Ended_by (src with_ : Tree) (c : Code) (r0 : Input) (ts : Input) (K : Spacing → Input → Type 0) : Type 0 where
+    d : Spacing
     m : Input
     more : K d m
     known : Known r0.places
     u : Tree
     v : Tree
     calms : calm ts ≡ true
-    spelled : By (is_absent u) ((is_absent v ≡ true) × Ends (unplaced c) exports_end ts m) ((n : Input) × TakesWord (unplaced c) from_kind ts n × Source (unplaced c) (part u (λ y. Spells u y)) (part v (λ y. Spells v y)) n m)
-    same_u : Same (leaves_at look x.naming) Plain src u
-    same_v : Same (leaves_at look x.naming) Plain with_ v
+    produced : By (is_absent u) ((is_absent v ≡ true) × Ends (unplaced c) exports_end ts m) ((n : Input) × TakesWord (unplaced c) from_kind ts n × Source (unplaced c) (child u (λ y. Produces u y)) (child v (λ y. Produces v y)) n m)
+    same_u : Redone (leaves_at look x.naming) Plain src u
+    same_v : Redone (leaves_at look x.naming) Plain with_ v
 
-  either_gap : (v : Bool) (b : Gap) (ts : Input) (J : Gap → Input → Type 0) → says x.naming (if v then blank else gap look) b ts J → (d : Gap) × J d ts
+  either_gap : (v : Bool) (b : Spacing) (ts : Input) (J : Spacing → Input → Type 0) → says x.naming (if v then blank else gap look) b ts J → (d : Spacing) × J d ts
   either_gap true b ts J q = (blanked b, q)
   either_gap false b ts J q = (gapped (formats look) b, skip x.naming (formats look) b ts J q)
 
-  from_source : (w : Bool) (src with_ : Tree) → KeyPart look x.naming src → Sound look x.naming Alone with_ → is_absent src ≡ false → (c : Code) (m0 n0 r0 : Input) → TakesWord c from_kind m0 n0 → Source c (part src (λ y. Spells src y)) (part with_ (λ y. Spells with_ y)) n0 r0 → Known m0.places → (b : Gap) (ts : Input) (K : Gap → Input → Type 0)
+  from_source : (w : Bool) (src with_ : Tree) → KeyPart look x.naming src → Sound look x.naming Alone with_ → is_absent src ≡ false → (c : Code) (m0 n0 r0 : Input) → TakesWord c from_kind m0 n0 → Source c (child src (λ y. Produces src y)) (child with_ (λ y. Produces with_ y)) n0 r0 → Known m0.places → (b : Spacing) (ts : Input) (K : Spacing → Input → Type 0)
       → says x.naming (end_laid w src with_) b ts K → (n : Input) × TakesWord (unplaced c) from_kind ts n × Sourced look x src with_ c n0 r0 n K
   from_source w src with_ f g a c m0 n0 r0 t h k b ts K q =
       let p = subst (λ (v : Bool). says x.naming (when v ((if w then blank else gap look) · laid_from look (laid look Key src) · attributes look with_ (laid look Alone with_)) · semi) b ts K) (there src ∙ ap not a) q in
       let i = (either_gap w b ts (λ d m. says x.naming (laid_from look (laid look Key src) · attributes look with_ (laid look Alone with_) · semi) d m K) p).1 in
       (i.0, worded look x c from_kind i.1, source_on look x src with_ f g c n0 r0 h (x.later m0 n0 t.3 k) _ i.0 K (skip x.naming (formats look) Touching i.0 _ i.2))
 
-  ended_on : (w : Bool) (src with_ : Tree) → KeyPart look x.naming src → Sound look x.naming Alone with_ → (c : Code) (v : Bool) → is_absent src ≡ v → (m0 r0 : Input) → By v ((is_absent with_ ≡ true) × Ends c exports_end m0 r0) ((n : Input) × TakesWord c from_kind m0 n × Source c (part src (λ y. Spells src y)) (part with_ (λ y. Spells with_ y)) n r0) → Known m0.places
-      → (b : Gap) (ts : Input) (K : Gap → Input → Type 0) → says x.naming (end_laid w src with_) b ts K → Ended_by src with_ c r0 ts K
+  ended_on : (w : Bool) (src with_ : Tree) → KeyPart look x.naming src → Sound look x.naming Alone with_ → (c : Code) (v : Bool) → is_absent src ≡ v → (m0 r0 : Input) → By v ((is_absent with_ ≡ true) × Ends c exports_end m0 r0) ((n : Input) × TakesWord c from_kind m0 n × Source c (child src (λ y. Produces src y)) (child with_ (λ y. Produces with_ y)) n r0) → Known m0.places
+      → (b : Spacing) (ts : Input) (K : Spacing → Input → Type 0) → says x.naming (end_laid w src with_) b ts K → Ended_by src with_ c r0 ts K
   ended_on w src with_ f g c true a m0 r0 h k b ts K q =
       let o = semi_of b ts K (subst (λ (v : Bool). says x.naming (when v ((if w then blank else gap look) · laid_from look (laid look Key src) · attributes look with_ (laid look Alone with_)) · semi) b ts K) (there src ∙ ap not a) q) in record {
         d = o.0;
@@ -106,7 +106,7 @@ module _ (look : Look) (x : Lexicon look.style) where
         u = absent;
         v = absent;
         calms = (quiet_at look x o.2).calm;
-        spelled = (refl, ended look x c exports_end o.2);
+        produced = (refl, ended look x c exports_end o.2);
         same_u = absent_same (leaves_at look x.naming) Plain src a;
         same_v = absent_same (leaves_at look x.naming) Plain with_ h.0;
       }
@@ -119,30 +119,30 @@ module _ (look : Look) (x : Lexicon look.style) where
         u = z.u;
         v = z.v;
         calms = closed_calm ts from_kind y.1.0 refl;
-        spelled = unabsent (is_absent z.u) _ _ (alike is_absent re_is_absent (leaves_at look x.naming) Plain src z.u z.same_u ∙ a) (y.0, y.1, z.spelled);
+        produced = unabsent (is_absent z.u) _ _ (alike is_absent re_is_absent (leaves_at look x.naming) Plain src z.u z.same_u ∙ a) (y.0, y.1, z.produced);
         same_u = z.same_u;
         same_v = z.same_v;
       }
 
   -- ---- names in braces
 
-  record Specified_on (xs : Trees) (src with_ : Tree) (c : Code) (r0 : Input) (ts : Input) (K : Gap → Input → Type 0) : Type 0 where
-    d : Gap
+  record Specified_on (xs : Trees) (src with_ : Tree) (c : Code) (r0 : Input) (ts : Input) (K : Spacing → Input → Type 0) : Type 0 where
+    d : Spacing
     m : Input
     more : K d m
     known : Known r0.places
     us : Trees
     u : Tree
     v : Tree
-    spelled : Specified (unplaced c) (parts us) (part u (λ y. Spells u y)) (part v (λ y. Spells v y)) ts m
-    same_us : AllSame (leaves_at look x.naming) Plain xs us
-    same_u : Same (leaves_at look x.naming) Plain src u
-    same_v : Same (leaves_at look x.naming) Plain with_ v
+    produced : Specified (unplaced c) (children us) (child u (λ y. Produces u y)) (child v (λ y. Produces v y)) ts m
+    same_us : AllRedone (leaves_at look x.naming) Plain xs us
+    same_u : Redone (leaves_at look x.naming) Plain src u
+    same_v : Redone (leaves_at look x.naming) Plain with_ v
 
   abbrev specified_laid : Trees → Tree → Tree → Laid
   specified_laid xs src with_ = first_namespace look xs · exports look xs (named_items look is_no_namespace false xs) · end_laid (has_namespace xs && not (has_other xs)) src with_
 
-  none_specified : (src with_ : Tree) → KeyPart look x.naming src → Sound look x.naming Alone with_ → (c : Code) (ts0 r0 : Input) → ExportList c [] (part src (λ y. Spells src y)) (part with_ (λ y. Spells with_ y)) ts0 r0 → Known ts0.places → (b : Gap) (ts : Input) (K : Gap → Input → Type 0) → says x.naming (specified_laid none src with_) b ts K → Specified_on none src with_ c r0 ts K
+  none_specified : (src with_ : Tree) → KeyPart look x.naming src → Sound look x.naming Alone with_ → (c : Code) (ts0 r0 : Input) → ExportList c [] (child src (λ y. Produces src y)) (child with_ (λ y. Produces with_ y)) ts0 r0 → Known ts0.places → (b : Spacing) (ts : Input) (K : Spacing → Input → Type 0) → says x.naming (specified_laid none src with_) b ts K → Specified_on none src with_ c r0 ts K
   none_specified src with_ f g c ts0 r0 h k b ts K q =
       let o = skip x.naming (formats look) Touching q.0 _ q.2 in
       let z = ended_on false src with_ f g c (is_absent src) refl h.0 r0 h.2 (x.later h.1.0 h.0 h.1.2.2 (x.later ts0 h.1.0 h.1.1.2 k)) Touching o.0 K o.2 in record {
@@ -153,14 +153,14 @@ module _ (look : Look) (x : Lexicon look.style) where
         us = none;
         u = z.u;
         v = z.v;
-        spelled = (o.0, (q.0, took look x c left_brace_kind q.1, took look x c right_brace_kind o.1), z.spelled);
+        produced = (o.0, (q.0, took look x c left_brace_kind q.1, took look x c right_brace_kind o.1), z.produced);
         same_us = none_same (leaves_at look x.naming);
         same_u = z.same_u;
         same_v = z.same_v;
       }
 
-  names_specified : (t : Tree) (us : Trees) (src with_ : Tree) → AllSound look x.naming (more t us) → KeyPart look x.naming src → Sound look x.naming Alone with_ → (c : Code) (ts0 r0 : Input) → is_star_export t ≡ false → ExportList c (parts (more t us)) (part src (λ y. Spells src y)) (part with_ (λ y. Spells with_ y)) ts0 r0 → Known ts0.places
-      → (b : Gap) (ts : Input) (K : Gap → Input → Type 0) → says x.naming (specified_laid (more t us) src with_) b ts K → Specified_on (more t us) src with_ c r0 ts K
+  names_specified : (t : Tree) (us : Trees) (src with_ : Tree) → AllSound look x.naming (more t us) → KeyPart look x.naming src → Sound look x.naming Alone with_ → (c : Code) (ts0 r0 : Input) → is_star_export t ≡ false → ExportList c (children (more t us)) (child src (λ y. Produces src y)) (child with_ (λ y. Produces with_ y)) ts0 r0 → Known ts0.places
+      → (b : Spacing) (ts : Input) (K : Spacing → Input → Type 0) → says x.naming (specified_laid (more t us) src with_) b ts K → Specified_on (more t us) src with_ c r0 ts K
   names_specified t us src with_ a f g c ts0 r0 i h k b ts K q =
       let e = each_map is_named_export is_no_namespace no_namespace_is (more t us) (from_listed is_named_export c right_brace_kind (more t us) h.1.0 h.0 h.1.2) in
       let p = no_first (more t us) e b ts (λ d m. says x.naming (exports look (more t us) (named_items look is_no_namespace false (more t us)) · end_laid (has_namespace (more t us) && not (has_other (more t us))) src with_) d m K) q in
@@ -178,7 +178,7 @@ module _ (look : Look) (x : Lexicon look.style) where
         us = w.0;
         u = v.u;
         v = v.v;
-        spelled = as_list w.0 v.u v.v v.m (o.0, (l.0, took look x c left_brace_kind l.1, w.1), v.spelled) w.2;
+        produced = as_list w.0 v.u v.v v.m (o.0, (l.0, took look x c left_brace_kind l.1, w.1), v.produced) w.2;
         same_us = w.2;
         same_u = v.same_u;
         same_v = v.same_v;
@@ -193,12 +193,12 @@ module _ (look : Look) (x : Lexicon look.style) where
       none_more : (ts : Trees) (t : Tree) → none ≡ more t ts → ⊥
       none_more ts t e = cc
 
-      as_list : (vs : Trees) (u v : Tree) (m : Input) → ExportList (unplaced c) (parts vs) (part u (λ y. Spells u y)) (part v (λ y. Spells v y)) ts m → AllSame (leaves_at look x.naming) Plain (more t us) vs → Specified (unplaced c) (parts vs) (part u (λ y. Spells u y)) (part v (λ y. Spells v y)) ts m
+      as_list : (vs : Trees) (u v : Tree) (m : Input) → ExportList (unplaced c) (children vs) (child u (λ y. Produces u y)) (child v (λ y. Produces v y)) ts m → AllRedone (leaves_at look x.naming) Plain (more t us) vs → Specified (unplaced c) (children vs) (child u (λ y. Produces u y)) (child v (λ y. Produces v y)) ts m
       as_list none u v m h s = h
       as_list (more w ws) u v m h s = unput (is_star_export w) _ _ (first_same look x.naming t us w ws s is_star_export re_is_star_export i) h
 
-  star_specified : (t : Tree) (src with_ : Tree) → Sound look x.naming Alone t → KeyPart look x.naming src → Sound look x.naming Alone with_ → (c : Code) (ts0 r0 : Input) → is_star_export t ≡ true → ExportStarAs c (part t (λ y. Spells t y)) (part src (λ y. Spells src y)) (part with_ (λ y. Spells with_ y)) ts0 r0 → Known ts0.places
-      → (b : Gap) (ts : Input) (K : Gap → Input → Type 0) → says x.naming (specified_laid (more t none) src with_) b ts K → Specified_on (more t none) src with_ c r0 ts K
+  star_specified : (t : Tree) (src with_ : Tree) → Sound look x.naming Alone t → KeyPart look x.naming src → Sound look x.naming Alone with_ → (c : Code) (ts0 r0 : Input) → is_star_export t ≡ true → ExportStarAs c (child t (λ y. Produces t y)) (child src (λ y. Produces src y)) (child with_ (λ y. Produces with_ y)) ts0 r0 → Known ts0.places
+      → (b : Spacing) (ts : Input) (K : Spacing → Input → Type 0) → says x.naming (specified_laid (more t none) src with_) b ts K → Specified_on (more t none) src with_ c r0 ts K
   star_specified t src with_ a f g c ts0 r0 i h k b ts K q =
       let p = namespace_sort t i in
       let l = shown (is_namespace t) p.1 q in
@@ -212,7 +212,7 @@ module _ (look : Look) (x : Lexicon look.style) where
         us = more w.tree none;
         u = v.u;
         v = v.v;
-        spelled = put (is_star_export w.tree) _ _ (alike is_star_export re_is_star_export (leaves_at look x.naming) Plain t w.tree w.same ∙ i) (tt, (z.m, y.0, w.spelled, y.1, v.spelled));
+        produced = put (is_star_export w.tree) _ _ (alike is_star_export re_is_star_export (leaves_at look x.naming) Plain t w.tree w.same ∙ i) (tt, (z.m, y.0, w.produced, y.1, v.produced));
         same_us = more_same (leaves_at look x.naming) Plain t w.tree none none w.same (none_same (leaves_at look x.naming));
         same_u = v.same_u;
         same_v = v.same_v;
@@ -228,16 +228,16 @@ module _ (look : Look) (x : Lexicon look.style) where
       string_there (str_lit s u w) h = refl
       string_there _ h = absurd (true≢false (sym h))
 
-  specified_on : (xs : Trees) (src with_ : Tree) → AllSound look x.naming xs → KeyPart look x.naming src → Sound look x.naming Alone with_ → (c : Code) (ts0 r0 : Input) → Specified c (parts xs) (part src (λ y. Spells src y)) (part with_ (λ y. Spells with_ y)) ts0 r0 → Known ts0.places → (b : Gap) (ts : Input) (K : Gap → Input → Type 0)
+  specified_on : (xs : Trees) (src with_ : Tree) → AllSound look x.naming xs → KeyPart look x.naming src → Sound look x.naming Alone with_ → (c : Code) (ts0 r0 : Input) → Specified c (children xs) (child src (λ y. Produces src y)) (child with_ (λ y. Produces with_ y)) ts0 r0 → Known ts0.places → (b : Spacing) (ts : Input) (K : Spacing → Input → Type 0)
       → says x.naming (specified_laid xs src with_) b ts K → Specified_on xs src with_ c r0 ts K
   specified_on none src with_ a f g c ts0 r0 h k b ts K q = none_specified src with_ f g c ts0 r0 h k b ts K q
   specified_on (more t us) src with_ a f g c ts0 r0 h k b ts K q = by (is_star_export t) refl h
     where
-      lone : (us : Trees) → IsEmpty (parts us) → is_star_export t ≡ true → ExportStarAs c (part t (λ y. Spells t y)) (part src (λ y. Spells src y)) (part with_ (λ y. Spells with_ y)) ts0 r0 → says x.naming (specified_laid (more t us) src with_) b ts K → Specified_on (more t us) src with_ c r0 ts K
+      lone : (us : Trees) → IsEmpty (children us) → is_star_export t ≡ true → ExportStarAs c (child t (λ y. Produces t y)) (child src (λ y. Produces src y)) (child with_ (λ y. Produces with_ y)) ts0 r0 → says x.naming (specified_laid (more t us) src with_) b ts K → Specified_on (more t us) src with_ c r0 ts K
       lone none i e h q = star_specified t src with_ a.0 f g c ts0 r0 e h k b ts K q
       lone (more u vs) i e h q = absurd i
 
-      by : (v : Bool) → is_star_export t ≡ v → By v (IsEmpty (parts us) × ExportStarAs c (part t (λ y. Spells t y)) (part src (λ y. Spells src y)) (part with_ (λ y. Spells with_ y)) ts0 r0) (ExportList c (parts (more t us)) (part src (λ y. Spells src y)) (part with_ (λ y. Spells with_ y)) ts0 r0)
+      by : (v : Bool) → is_star_export t ≡ v → By v (IsEmpty (children us) × ExportStarAs c (child t (λ y. Produces t y)) (child src (λ y. Produces src y)) (child with_ (λ y. Produces with_ y)) ts0 r0) (ExportList c (children (more t us)) (child src (λ y. Produces src y)) (child with_ (λ y. Produces with_ y)) ts0 r0)
           → Specified_on (more t us) src with_ c r0 ts K
       by true e i = lone us i.0 e i.1 q
       by false e i = names_specified t us src with_ a f g c ts0 r0 e i k b ts K q
@@ -254,7 +254,7 @@ module _ (look : Look) (x : Lexicon look.style) where
         begins = λ e. absurd (export_else (sym (keyed look x export_kind q.1) ∙ e));
         again = λ l. record {
           tree = named_export (span (lo ts) z.m.last) z.us z.u z.v;
-          spelled = (q.0, worded look x c export_kind q.1, z.spelled, refl);
+          produced = (q.0, worded look x c export_kind q.1, z.produced, refl);
           directive = refl;
           quoted = λ p q. refl;
           same = record { so = λ n. export_same (z.same_us.so Plain) (z.same_u.so Plain) (z.same_v.so Plain) };
@@ -278,7 +278,7 @@ module _ (look : Look) (x : Lexicon look.style) where
         begins = λ e. absurd (export_else (sym (keyed look x export_kind q.1) ∙ e));
         again = λ l. record {
           tree = export_all (span (lo ts) z.m.last) z.u z.v;
-          spelled = (q.0, i.0, j.0, worded look x c export_kind q.1, took look x c mul_kind i.1, worded look x c from_kind j.1, z.spelled, refl);
+          produced = (q.0, i.0, j.0, worded look x c export_kind q.1, took look x c mul_kind i.1, worded look x c from_kind j.1, z.produced, refl);
           directive = refl;
           quoted = λ p q. refl;
           same = record { so = λ n. ap₂ (λ (a b : Tree). export_all no_place a b) (z.same_u.so Plain) (z.same_v.so Plain) };

@@ -5,7 +5,7 @@ use Rattle.ecma_tree.specs.Tree.{Tree, block_stmt, break_stmt, class_decl, conti
 use Rattle.ecma_syntax.specs.Input.{Code, Input, brk, kind, kind2}
 use Rattle.ecma_syntax.specs.Operators.{binary_level, call_level, goes_expr}
 use Rattle.ecma_syntax.specs.Shape.{is_default_decl, is_item, is_key, is_member, is_module_decl, is_private, level}
-use Rattle.ecma_grammar.specs.Parts.{is_module_item}
+use Rattle.ecma_grammar.specs.Children.{is_module_item}
 use Rattle.ecma_grammar_complete_base.proofs.Levels.{binary_low}
 use Rattle.ecma_layout.specs.Layout.{is_head as is_head_stand}
 use Rattle.ecma_layout.specs.declared.look.Stand.{Stand}

@@ -7,8 +7,8 @@ use Rattle.ecma_tree.specs.Places.{no_place}
 use Rattle.ecma_tree.specs.Tree.{Tree, absent, fn_decl, if_stmt}
 use Rattle.ecma_syntax.specs.Input.{Code, Input, TakesWord, alone, is_strict, kind, lo, span, unplaced}
 use Rattle.ecma_syntax.specs.Shape.{is_absent, is_item, is_plain_function, is_statement}
-use Rattle.ecma_grammar.specs.Grammar.{Spells}
-use Rattle.ecma_grammar.specs.Parts.{By, part}
+use Rattle.ecma_grammar.specs.Grammar.{Produces}
+use Rattle.ecma_grammar.specs.Children.{By, child}
 use Rattle.ecma_grammar.specs.Statements.{SubOrFunction}
 use Rattle.ecma_edge.specs.Edges.{is_there, starts_with_word}
 use Rattle.ecma_layout.specs.Layout.{closing, is_block as is_block_tree, laid, word}
@@ -16,11 +16,11 @@ use Rattle.ecma_layout.specs.Looks.{Laid, blank, formats, gap, gap_or, when, ◌
 use Rattle.ecma_layout.specs.declared.look.Look.{Look}
 use Rattle.ecma_layout.specs.declared.look.Stand.{Stand}
 use Rattle.ecma_layout.specs.declared.look.Stand.TheVariants.{Alone}
-use Rattle.ecma_written.specs.Gaps.{Gap}
+use Rattle.ecma_written.specs.Spacings.{Spacing}
 use Rattle.ecma_written.specs.Lexicon.{Lexicon}
 use Rattle.ecma_written.specs.Means.{Known}
 use Rattle.ecma_written.specs.Told.{says}
-use Rattle.ecma_redone.specs.Redo.{Plain, Same}
+use Rattle.ecma_redone.specs.Redo.{Plain, Redone}
 use Rattle.ecma_redone_rules.proofs.Naming.{leaves_at}
 use Rattle.ecma_redone_rules.proofs.Begins.{item_outer}
 use Rattle.ecma_redone_rules.proofs.Bodies.{follow_closed, item_closed, statement_on}
@@ -38,26 +38,26 @@ module _ (look : Look) (x : Lexicon look.style) where
       plain_item (fn_decl s n f) e = refl
       plain_item _ e = absurd (true≢false (sym e))
 
-  pub body_same : (c : Code) (t u : Tree) → Same (leaves_at look x.naming) Plain t u → (is_statement t || (not (is_strict c) && is_plain_function t)) ≡ true → (is_statement u || (not (is_strict c) && is_plain_function u)) ≡ true
+  pub body_same : (c : Code) (t u : Tree) → Redone (leaves_at look x.naming) Plain t u → (is_statement t || (not (is_strict c) && is_plain_function t)) ≡ true → (is_statement u || (not (is_strict c) && is_plain_function u)) ≡ true
   body_same c t u s h = ap₂ (λ (a b : Bool). a || (not (is_strict c) && b)) (alike is_statement re_is_statement (leaves_at look x.naming) Plain t u s) (alike is_plain_function re_is_plain_function (leaves_at look x.naming) Plain t u s) ∙ h
 
   -- what `else` is followed by, or nothing
-  record Else (alt : Tree) (c : Code) (o0 r0 : Input) (b : Gap) (ts : Input) (K : Gap → Input → Type 0) : Type 0 where
-    d : Gap
+  record Else (alt : Tree) (c : Code) (o0 r0 : Input) (b : Spacing) (ts : Input) (K : Spacing → Input → Type 0) : Type 0 where
+    d : Spacing
     m : Input
     more : K d m
     known : Known r0.places
     first : (kind m ≡ else_kind → kind r0 ≡ else_kind) → kind ts ≡ else_kind → kind o0 ≡ else_kind
     again : (kind m ≡ else_kind → kind r0 ≡ else_kind)
-        → (u : Tree) × By (is_absent u) ((kind ts ≡ else_kind → ⊥) × (ts ≡ m)) ((p : Input) × TakesWord (unplaced c) else_kind ts p × SubOrFunction (unplaced c) (part u (λ y. Spells u y)) p m) × Same (leaves_at look x.naming) Plain alt u
+        → (u : Tree) × By (is_absent u) ((kind ts ≡ else_kind → ⊥) × (ts ≡ m)) ((p : Input) × TakesWord (unplaced c) else_kind ts p × SubOrFunction (unplaced c) (child u (λ y. Produces u y)) p m) × Redone (leaves_at look x.naming) Plain alt u
 
-  gaps : (v w : Bool) (b : Gap) (ts : Input) (K : Gap → Input → Type 0) → says x.naming (when v (when w blank)) b ts K → (d : Gap) × K d ts
+  gaps : (v w : Bool) (b : Spacing) (ts : Input) (K : Spacing → Input → Type 0) → says x.naming (when v (when w blank)) b ts K → (d : Spacing) × K d ts
   gaps true w b ts K q = (gapped w b, skip x.naming w b ts K q)
   gaps false w b ts K q = (b, q)
 
-  else_on : (alt : Tree) → Sound look x.naming Alone alt → (c : Code) (a : Tree) (v : Bool) → is_absent alt ≡ v → (o0 r0 : Input) → By v ((kind o0 ≡ else_kind → ⊥) × (o0 ≡ r0)) ((p : Input) × TakesWord c else_kind o0 p × SubOrFunction c (part alt (λ y. Spells alt y)) p r0) → Known o0.places
-      → (b : Gap) (ts : Input) (K : Gap → Input → Type 0)
-      → says x.naming (when (not v) (when (is_block_tree a) (gap look) · word (codes "else") · gap_or look (starts_with_word alt) · laid look Alone alt · closing look alt)) b ts K → Else alt c o0 r0 b ts (λ d m. (e : Gap) × K e m)
+  else_on : (alt : Tree) → Sound look x.naming Alone alt → (c : Code) (a : Tree) (v : Bool) → is_absent alt ≡ v → (o0 r0 : Input) → By v ((kind o0 ≡ else_kind → ⊥) × (o0 ≡ r0)) ((p : Input) × TakesWord c else_kind o0 p × SubOrFunction c (child alt (λ y. Produces alt y)) p r0) → Known o0.places
+      → (b : Spacing) (ts : Input) (K : Spacing → Input → Type 0)
+      → says x.naming (when (not v) (when (is_block_tree a) (gap look) · word (codes "else") · gap_or look (starts_with_word alt) · laid look Alone alt · closing look alt)) b ts K → Else alt c o0 r0 b ts (λ d m. (e : Spacing) × K e m)
   else_on alt f c a true e o0 r0 h k b ts K q = record {
     d = b;
     m = ts;
@@ -77,7 +77,7 @@ module _ (look : Look) (x : Lexicon look.style) where
         known = z.known;
         first = λ g q. h.1.0;
         again = λ g. let w = z.again (follow_closed alt r0 z.m (item_closed alt n) g) in
-            (w.tree, unabsent (is_absent w.tree) _ _ (alike is_absent re_is_absent (leaves_at look x.naming) Plain alt w.tree w.same ∙ e) (i.0, worded look x c else_kind i.1, (body_same c alt w.tree w.same h.2.0, w.spelled)), w.same);
+            (w.tree, unabsent (is_absent w.tree) _ _ (alike is_absent re_is_absent (leaves_at look x.naming) Plain alt w.tree w.same ∙ e) (i.0, worded look x c else_kind i.1, (body_same c alt w.tree w.same h.2.0, w.produced)), w.same);
       }
 
   abbrev else_part : Tree → Tree → Laid
@@ -100,7 +100,7 @@ module _ (look : Look) (x : Lexicon look.style) where
         begins = λ e. absurd (if_opens (sym (keyed look x if_kind q.1) ∙ e));
         again = λ l. let p = v.again (l.other refl) in let w = z.again (follow_closed a h.2 z.m (item_closed a n) (v.first (l.other refl))) in record {
           tree = if_stmt (span (lo ts) v.m.last) y.again.0 w.tree p.0;
-          spelled = (q.0, y.m, z.m, worded look x c if_kind q.1, y.again.1, (body_same c a w.tree w.same h.5.0, w.spelled), p.1, refl);
+          produced = (q.0, y.m, z.m, worded look x c if_kind q.1, y.again.1, (body_same c a w.tree w.same h.5.0, w.produced), p.1, refl);
           directive = refl;
           quoted = λ p q. refl;
           same = record { so = λ n. both_same no_place (y.again.2.so Plain) (w.same.so Plain) (p.2.so Plain) };

@@ -6,20 +6,20 @@ use Rattle.ecma_tree.specs.Places.{no_place}
 use Rattle.ecma_tree.specs.Tree.{Tree, Trees, absent, import_decl, import_default_specifier, import_named_specifier, import_star_as_specifier, more, none}
 use Rattle.ecma_syntax.specs.Input.{Code, Input, Takes, TakesWord, kind, lo, span, unplaced}
 use Rattle.ecma_syntax.specs.Shape.{is_default_import, is_named_import, is_star_import}
-use Rattle.ecma_grammar.specs.Grammar.{Spells, parts}
+use Rattle.ecma_grammar.specs.Grammar.{Produces, children}
 use Rattle.ecma_grammar.specs.Modules.{AfterDefault, ImportClause, NamedImports}
-use Rattle.ecma_grammar.specs.Parts.{By, IsEmpty, Sorted, is_module_item}
+use Rattle.ecma_grammar.specs.Children.{By, IsEmpty, Sorted, is_module_item}
 use Rattle.ecma_layout.specs.Layout.{attributes, comma, has_default, has_named, import_heads, imports, in_braces, is_default, is_named, laid, named_items, starts_with_default, word}
 use Rattle.ecma_layout.specs.Looks.{Laid, blank, brace, formats, gap, nothing, semi, when, ◌·◌}
 use Rattle.ecma_layout.specs.declared.look.Look.{Look}
 use Rattle.ecma_layout.specs.declared.look.Stand.{Stand}
 use Rattle.ecma_layout.specs.declared.look.Stand.TheVariants.{Alone, Key}
-use Rattle.ecma_written.specs.Gaps.{Gap, Spaced, Touching, blanked}
+use Rattle.ecma_written.specs.Spacings.{Spacing, Spaced, Touching, blanked}
 use Rattle.ecma_written.specs.Lexicon.{Lexicon}
 use Rattle.ecma_written.specs.Means.{Known}
 use Rattle.ecma_written.specs.Naming.{Naming}
 use Rattle.ecma_written.specs.Told.{says}
-use Rattle.ecma_redone.specs.Redo.{AllSame, Leaves, Mode, Plain, Same, redo, kept_at}
+use Rattle.ecma_redone.specs.Redo.{AllRedone, Leaves, Mode, Plain, Redone, redo, kept_at}
 use Rattle.ecma_redone_rules.proofs.Naming.{leaves_at}
 use Rattle.ecma_redone_rules.proofs.Begins.{is_part}
 use Rattle.ecma_redone_rules.proofs.Follow.{calm, closed_calm}
@@ -79,7 +79,7 @@ unput true A B e h = absurd (true≢false e)
 unput false A B e h = h
 
 -- what is no such tree first is none again
-pub first_same : (look : Look) (naming : Naming) (t : Tree) (us : Trees) (u : Tree) (vs : Trees) → AllSame (leaves_at look naming) Plain (more t us) (more u vs) → (p : Tree → Bool) → ((l : Leaves) (m : Mode) (t : Tree) → p (redo l m t) ≡ p t) → p t ≡ false → p u ≡ false
+pub first_same : (look : Look) (naming : Naming) (t : Tree) (us : Trees) (u : Tree) (vs : Trees) → AllRedone (leaves_at look naming) Plain (more t us) (more u vs) → (p : Tree → Bool) → ((l : Leaves) (m : Mode) (t : Tree) → p (redo l m t) ≡ p t) → p t ≡ false → p u ≡ false
 first_same look naming t us u vs s p g e = sym (g (kept_at naming.written) Plain u) ∙ (ap (λ (ts : Trees). p (first_of ts)) (s.so Plain) ∙ (g (leaves_at look naming) Plain t ∙ e))
   where
     first_of : Trees → Tree
@@ -88,7 +88,7 @@ first_same look naming t us u vs s p g e = sym (g (kept_at naming.written) Plain
 
 module _ (look : Look) (x : Lexicon look.style) where
   -- names say nothing among what comes before them
-  no_heads : (seen : Bool) (xs : Trees) → EachIs is_named xs → (b : Gap) (ts : Input) (K : Gap → Input → Type 0) → says x.naming (import_heads look seen xs) b ts K → K b ts
+  no_heads : (seen : Bool) (xs : Trees) → EachIs is_named xs → (b : Spacing) (ts : Input) (K : Spacing → Input → Type 0) → says x.naming (import_heads look seen xs) b ts K → K b ts
   no_heads seen none e b ts K q = q
   no_heads seen (more t us) e b ts K q = no_heads seen us e.1 b ts K (second (is_named t) e.0 (first (is_default t) (named_no_default t e.0) q))
     where
@@ -103,13 +103,13 @@ module _ (look : Look) (x : Lexicon look.style) where
 
   -- ---- names in braces, and `from`
 
-  record Braced_imports (xs : Trees) (c : Code) (r0 : Input) (ts : Input) (K : Gap → Input → Type 0) : Type 0 where
+  record Braced_imports (xs : Trees) (c : Code) (r0 : Input) (ts : Input) (K : Spacing → Input → Type 0) : Type 0 where
     m : Input
     more : K Touching m
     known : Known r0.places
-    again : (us : Trees) × NamedImports (unplaced c) (parts us) ts m × AllSame (leaves_at look x.naming) Plain xs us
+    again : (us : Trees) × NamedImports (unplaced c) (children us) ts m × AllRedone (leaves_at look x.naming) Plain xs us
 
-  braced_imports : (t : Tree) (us : Trees) → AllSound look x.naming (more t us) → (c : Code) (ts0 r0 : Input) → NamedImports c (parts (more t us)) ts0 r0 → Known ts0.places → (b : Gap) (ts : Input) (K : Gap → Input → Type 0)
+  braced_imports : (t : Tree) (us : Trees) → AllSound look x.naming (more t us) → (c : Code) (ts0 r0 : Input) → NamedImports c (children (more t us)) ts0 r0 → Known ts0.places → (b : Spacing) (ts : Input) (K : Spacing → Input → Type 0)
       → says x.naming (in_braces look (named_items look is_named false (more t us))) b ts K → Braced_imports (more t us) c r0 ts K
   braced_imports t us a c ts0 r0 h k b ts K q =
       let e = each_map is_named_import is_named named_is (more t us) (from_listed is_named_import c right_brace_kind (more t us) h.0 r0 h.2) in
@@ -126,43 +126,43 @@ module _ (look : Look) (x : Lexicon look.style) where
 
   -- ---- what is imported, with `from`
 
-  record Clause_on (xs : Trees) (c : Code) (r0 : Input) (ts : Input) (K : Gap → Input → Type 0) : Type 0 where
-    d : Gap
+  record Clause_on (xs : Trees) (c : Code) (r0 : Input) (ts : Input) (K : Spacing → Input → Type 0) : Type 0 where
+    d : Spacing
     m : Input
     more : K d m
     known : Known r0.places
-    again : (us : Trees) × ImportClause (unplaced c) (parts us) ts m × AllSame (leaves_at look x.naming) Plain xs us
+    again : (us : Trees) × ImportClause (unplaced c) (children us) ts m × AllRedone (leaves_at look x.naming) Plain xs us
 
   -- the clause behind the gap of `import`
   abbrev clause_laid : Trees → Laid
   clause_laid xs = imports look xs (import_heads look false xs) (named_items look is_named false xs)
 
-  from_on : (c : Code) (b : Gap) (ts : Input) (K : Gap → Input → Type 0) → says x.naming (word (codes "from") · gap look) b ts K → (m : Input) × TakesWord (unplaced c) from_kind ts m × K (gapped (formats look) Touching) m
+  from_on : (c : Code) (b : Spacing) (ts : Input) (K : Spacing → Input → Type 0) → says x.naming (word (codes "from") · gap look) b ts K → (m : Input) × TakesWord (unplaced c) from_kind ts m × K (gapped (formats look) Touching) m
   from_on c b ts K q = (q.0, worded look x c from_kind q.1, skip x.naming (formats look) Touching q.0 K q.2)
 
   -- a default name or a namespace
-  record Head_on (t : Tree) (c : Code) (r0 : Input) (ts : Input) (K : Gap → Input → Type 0) : Type 0 where
-    d : Gap
+  record Head_on (t : Tree) (c : Code) (r0 : Input) (ts : Input) (K : Spacing → Input → Type 0) : Type 0 where
+    d : Spacing
     m : Input
     more : K d m
     known : Known r0.places
-    again : calm m ≡ true → (u : Tree) × Spells u (unplaced c) ts m × Same (leaves_at look x.naming) Plain t u
+    again : calm m ≡ true → (u : Tree) × Produces u (unplaced c) ts m × Redone (leaves_at look x.naming) Plain t u
 
-  head_on : (t : Tree) → Sound look x.naming Alone t → is_part t ≡ true → is_module_item t ≡ false → (c : Code) (ts0 r0 : Input) → Spells t c ts0 r0 → Known ts0.places → (b : Gap) (ts : Input) (K : Gap → Input → Type 0) → says x.naming (laid look Alone t) b ts K → Head_on t c r0 ts K
+  head_on : (t : Tree) → Sound look x.naming Alone t → is_part t ≡ true → is_module_item t ≡ false → (c : Code) (ts0 r0 : Input) → Produces t c ts0 r0 → Known ts0.places → (b : Spacing) (ts : Input) (K : Spacing → Input → Type 0) → says x.naming (laid look Alone t) b ts K → Head_on t c r0 ts K
   head_on t f p i c ts0 r0 h k b ts K q =
       let z = plain_part look x.naming Alone t f p c ts0 r0 h k b ts K q in record {
         d = z.d;
         m = z.m;
         more = z.more;
         known = z.known;
-        again = λ g. let w = z.again (record { quiet = λ e. g; other = λ e. absurd (true≢false (sym e ∙ i)) }) in (w.tree, w.spelled, w.same);
+        again = λ g. let w = z.again (record { quiet = λ e. g; other = λ e. absurd (true≢false (sym e ∙ i)) }) in (w.tree, w.produced, w.same);
       }
 
   from_calm : (ts : Input) → kind ts ≡ from_kind → calm ts ≡ true
   from_calm ts e = closed_calm ts from_kind e refl
 
   -- names alone
-  names_on : (t : Tree) (us : Trees) → AllSound look x.naming (more t us) → (c : Code) (ts0 m0 r0 : Input) → is_default_import t ≡ false → is_star_import t ≡ false → NamedImports c (parts (more t us)) ts0 m0 → TakesWord c from_kind m0 r0 → Known ts0.places → (b : Gap) (ts : Input) (K : Gap → Input → Type 0)
+  names_on : (t : Tree) (us : Trees) → AllSound look x.naming (more t us) → (c : Code) (ts0 m0 r0 : Input) → is_default_import t ≡ false → is_star_import t ≡ false → NamedImports c (children (more t us)) ts0 m0 → TakesWord c from_kind m0 r0 → Known ts0.places → (b : Spacing) (ts : Input) (K : Spacing → Input → Type 0)
       → says x.naming (clause_laid (more t us)) b ts K → Clause_on (more t us) c r0 ts K
   names_on t us a c ts0 m0 r0 i j h f k b ts K q =
       let e = each_map is_named_import is_named named_is (more t us) (from_listed is_named_import c right_brace_kind (more t us) h.0 m0 h.2) in
@@ -181,12 +181,12 @@ module _ (look : Look) (x : Lexicon look.style) where
       none_more : (ts : Trees) (t : Tree) → none ≡ more t ts → ⊥
       none_more ts t e = cc
 
-      as_names : (vs : Trees) (m : Input) → NamedImports (unplaced c) (parts vs) ts m → AllSame (leaves_at look x.naming) Plain (more t us) vs → (n : Input) → TakesWord (unplaced c) from_kind m n → ImportClause (unplaced c) (parts vs) ts n
+      as_names : (vs : Trees) (m : Input) → NamedImports (unplaced c) (children vs) ts m → AllRedone (leaves_at look x.naming) Plain (more t us) vs → (n : Input) → TakesWord (unplaced c) from_kind m n → ImportClause (unplaced c) (children vs) ts n
       as_names none m g s n w = absurd (none_more _ _ (s.so Plain))
       as_names (more u vs) m g s n w = (m, unput (is_default_import u) _ _ (first_same look x.naming t us u vs s is_default_import re_is_default_import i) (unput (is_star_import u) _ _ (first_same look x.naming t us u vs s is_star_import re_is_star_import j) g), w)
 
   -- a namespace alone
-  star_on : (t : Tree) → Sound look x.naming Alone t → (c : Code) (ts0 m0 r0 : Input) → is_default_import t ≡ false → is_star_import t ≡ true → Spells t c ts0 m0 → TakesWord c from_kind m0 r0 → Known ts0.places → (b : Gap) (ts : Input) (K : Gap → Input → Type 0) → says x.naming (clause_laid (more t none)) b ts K → Clause_on (more t none) c r0 ts K
+  star_on : (t : Tree) → Sound look x.naming Alone t → (c : Code) (ts0 m0 r0 : Input) → is_default_import t ≡ false → is_star_import t ≡ true → Produces t c ts0 m0 → TakesWord c from_kind m0 r0 → Known ts0.places → (b : Spacing) (ts : Input) (K : Spacing → Input → Type 0) → says x.naming (clause_laid (more t none)) b ts K → Clause_on (more t none) c r0 ts K
   star_on t a c ts0 m0 r0 i j h f k b ts K q =
       let p = star_sort t j in
       let l = undefault (is_default t) p.1 (is_named t) p.2 q in
@@ -208,14 +208,14 @@ module _ (look : Look) (x : Lexicon look.style) where
       undefault false e true f q = absurd (true≢false f)
 
   -- a default name, alone or before what is named
-  record After_on (xs : Trees) (c : Code) (r0 : Input) (ts : Input) (K : Gap → Input → Type 0) : Type 0 where
+  record After_on (xs : Trees) (c : Code) (r0 : Input) (ts : Input) (K : Spacing → Input → Type 0) : Type 0 where
     m : Input
     more : K (gapped (formats look) Touching) m
     known : Known r0.places
     calms : calm ts ≡ true
-    again : (us : Trees) × (n : Input) × AfterDefault (unplaced c) (parts us) ts n × TakesWord (unplaced c) from_kind n m × AllSame (leaves_at look x.naming) Plain xs us
+    again : (us : Trees) × (n : Input) × AfterDefault (unplaced c) (children us) ts n × TakesWord (unplaced c) from_kind n m × AllRedone (leaves_at look x.naming) Plain xs us
 
-  alone_on : (c : Code) (m0 r0 : Input) → (m0 ≡ r0) ⊎ ((m : Input) × Takes c comma_kind m0 m × NamedImports c [] m r0) → Known m0.places → (e0 : Input) → TakesWord c from_kind r0 e0 → (b : Gap) (ts : Input) (K : Gap → Input → Type 0) → says x.naming (blank · word (codes "from") · gap look) b ts K → After_on none c e0 ts K
+  alone_on : (c : Code) (m0 r0 : Input) → (m0 ≡ r0) ⊎ ((m : Input) × Takes c comma_kind m0 m × NamedImports c [] m r0) → Known m0.places → (e0 : Input) → TakesWord c from_kind r0 e0 → (b : Spacing) (ts : Input) (K : Spacing → Input → Type 0) → says x.naming (blank · word (codes "from") · gap look) b ts K → After_on none c e0 ts K
   alone_on c m0 r0 h k e0 f b ts K q = let o = from_on c _ ts K q in record {
     m = o.0;
     more = o.2;
@@ -232,7 +232,7 @@ module _ (look : Look) (x : Lexicon look.style) where
   abbrev rest_laid : Trees → Laid
   rest_laid xs = import_heads look true xs · (if has_named xs then (comma look · in_braces look (named_items look is_named false xs) · gap look) else blank) · word (codes "from") · gap look
 
-  later_star : (t : Tree) → Sound look x.naming Alone t → (c : Code) (m0 n0 r0 e0 : Input) → Takes c comma_kind m0 n0 → is_star_import t ≡ true → Spells t c n0 r0 → TakesWord c from_kind r0 e0 → Known m0.places → (b : Gap) (ts : Input) (K : Gap → Input → Type 0) → says x.naming (rest_laid (more t none)) b ts K → After_on (more t none) c e0 ts K
+  later_star : (t : Tree) → Sound look x.naming Alone t → (c : Code) (m0 n0 r0 e0 : Input) → Takes c comma_kind m0 n0 → is_star_import t ≡ true → Produces t c n0 r0 → TakesWord c from_kind r0 e0 → Known m0.places → (b : Spacing) (ts : Input) (K : Spacing → Input → Type 0) → says x.naming (rest_laid (more t none)) b ts K → After_on (more t none) c e0 ts K
   later_star t a c m0 n0 r0 e0 h j g f k b ts K q =
       let p = star_sort t j in
       let l = undefault (is_default t) p.1 (is_named t) p.2 q in
@@ -254,7 +254,7 @@ module _ (look : Look) (x : Lexicon look.style) where
       undefault true e w f q = absurd (true≢false e)
       undefault false e true f q = absurd (true≢false f)
 
-  later_names : (t : Tree) (us : Trees) → AllSound look x.naming (more t us) → (c : Code) (m0 n0 r0 e0 : Input) → Takes c comma_kind m0 n0 → is_star_import t ≡ false → NamedImports c (parts (more t us)) n0 r0 → TakesWord c from_kind r0 e0 → Known m0.places → (b : Gap) (ts : Input) (K : Gap → Input → Type 0)
+  later_names : (t : Tree) (us : Trees) → AllSound look x.naming (more t us) → (c : Code) (m0 n0 r0 e0 : Input) → Takes c comma_kind m0 n0 → is_star_import t ≡ false → NamedImports c (children (more t us)) n0 r0 → TakesWord c from_kind r0 e0 → Known m0.places → (b : Spacing) (ts : Input) (K : Spacing → Input → Type 0)
       → says x.naming (rest_laid (more t us)) b ts K → After_on (more t us) c e0 ts K
   later_names t us a c m0 n0 r0 e0 h j g f k b ts K q =
       let e = each_map is_named_import is_named named_is (more t us) (from_listed is_named_import c right_brace_kind (more t us) g.0 r0 g.2) in
@@ -273,24 +273,24 @@ module _ (look : Look) (x : Lexicon look.style) where
       none_more : (ts : Trees) (t : Tree) → none ≡ more t ts → ⊥
       none_more ts t e = cc
 
-      as_after : (vs : Trees) (n m : Input) → Takes (unplaced c) comma_kind ts n → NamedImports (unplaced c) (parts vs) n m → AllSame (leaves_at look x.naming) Plain (more t us) vs → AfterDefault (unplaced c) (parts vs) ts m
+      as_after : (vs : Trees) (n m : Input) → Takes (unplaced c) comma_kind ts n → NamedImports (unplaced c) (children vs) n m → AllRedone (leaves_at look x.naming) Plain (more t us) vs → AfterDefault (unplaced c) (children vs) ts m
       as_after none n m i g s = absurd (none_more _ _ (s.so Plain))
       as_after (more u vs) n m i g s = (n, i, unput (is_star_import u) _ _ (first_same look x.naming t us u vs s is_star_import re_is_star_import j) g)
 
-  star_alone : (u : Tree) (us : Trees) → Sound look x.naming Alone u → (c : Code) (n0 l0 m0 r0 : Input) → Takes c comma_kind n0 l0 → is_star_import u ≡ true → IsEmpty (parts us) → Spells u c l0 m0 → TakesWord c from_kind m0 r0 → Known n0.places → (b : Gap) (ts : Input) (K : Gap → Input → Type 0) → says x.naming (rest_laid (more u us)) b ts K → After_on (more u us) c r0 ts K
+  star_alone : (u : Tree) (us : Trees) → Sound look x.naming Alone u → (c : Code) (n0 l0 m0 r0 : Input) → Takes c comma_kind n0 l0 → is_star_import u ≡ true → IsEmpty (children us) → Produces u c l0 m0 → TakesWord c from_kind m0 r0 → Known n0.places → (b : Spacing) (ts : Input) (K : Spacing → Input → Type 0) → says x.naming (rest_laid (more u us)) b ts K → After_on (more u us) c r0 ts K
   star_alone u none g c n0 l0 m0 r0 t e i h f k b ts K q = later_star u g c n0 l0 m0 r0 t e h f k b ts K q
   star_alone u (more v vs) g c n0 l0 m0 r0 t e i h f k b ts K q = absurd i
 
-  after_on : (xs : Trees) → AllSound look x.naming xs → (c : Code) (n0 m0 r0 : Input) → AfterDefault c (parts xs) n0 m0 → TakesWord c from_kind m0 r0 → Known n0.places → (b : Gap) (ts : Input) (K : Gap → Input → Type 0) → says x.naming (rest_laid xs) b ts K → After_on xs c r0 ts K
+  after_on : (xs : Trees) → AllSound look x.naming xs → (c : Code) (n0 m0 r0 : Input) → AfterDefault c (children xs) n0 m0 → TakesWord c from_kind m0 r0 → Known n0.places → (b : Spacing) (ts : Input) (K : Spacing → Input → Type 0) → says x.naming (rest_laid xs) b ts K → After_on xs c r0 ts K
   after_on none g c n0 m0 r0 l f k b ts K q = alone_on c n0 m0 l k r0 f b ts K q
   after_on (more u us) g c n0 m0 r0 l f k b ts K q = by (is_star_import u) refl l.2
     where
-      by : (v : Bool) → is_star_import u ≡ v → By v (IsEmpty (parts us) × Spells u c l.0 m0) (NamedImports c (parts (more u us)) l.0 m0) → After_on (more u us) c r0 ts K
+      by : (v : Bool) → is_star_import u ≡ v → By v (IsEmpty (children us) × Produces u c l.0 m0) (NamedImports c (children (more u us)) l.0 m0) → After_on (more u us) c r0 ts K
       by true e i = star_alone u us g.0 c n0 l.0 m0 r0 l.1 e i.0 i.1 f k b ts K q
       by false e i = later_names u us g c n0 l.0 m0 r0 l.1 e i f k b ts K q
 
   -- a default name first
-  default_on : (t : Tree) (xs : Trees) → Sound look x.naming Alone t → AllSound look x.naming xs → (c : Code) (ts0 n0 m0 r0 : Input) → is_default_import t ≡ true → Spells t c ts0 n0 → AfterDefault c (parts xs) n0 m0 → TakesWord c from_kind m0 r0 → Known ts0.places → (b : Gap) (ts : Input) (K : Gap → Input → Type 0)
+  default_on : (t : Tree) (xs : Trees) → Sound look x.naming Alone t → AllSound look x.naming xs → (c : Code) (ts0 n0 m0 r0 : Input) → is_default_import t ≡ true → Produces t c ts0 n0 → AfterDefault c (children xs) n0 m0 → TakesWord c from_kind m0 r0 → Known ts0.places → (b : Spacing) (ts : Input) (K : Spacing → Input → Type 0)
       → says x.naming (clause_laid (more t xs)) b ts K → Clause_on (more t xs) c r0 ts K
   default_on t xs a g c ts0 n0 m0 r0 i h l f k b ts K q =
       let p = default_sort t i in
@@ -315,7 +315,7 @@ module _ (look : Look) (x : Lexicon look.style) where
 
   -- ---- the whole
 
-  clause_on : (xs : Trees) → AllSound look x.naming xs → (c : Code) (ts0 r0 : Input) → ImportClause c (parts xs) ts0 r0 → Known ts0.places → (b : Gap) (ts : Input) (K : Gap → Input → Type 0) → says x.naming (clause_laid xs) b ts K → Clause_on xs c r0 ts K
+  clause_on : (xs : Trees) → AllSound look x.naming xs → (c : Code) (ts0 r0 : Input) → ImportClause c (children xs) ts0 r0 → Known ts0.places → (b : Spacing) (ts : Input) (K : Spacing → Input → Type 0) → says x.naming (clause_laid xs) b ts K → Clause_on xs c r0 ts K
   clause_on none a c ts0 r0 h k b ts K q = record { d = b; m = ts; more = q; known = by h; again = (none, inl refl, none_same (leaves_at look x.naming)) }
     where
       by : (ts0 ≡ r0) ⊎ ((m : Input) × NamedImports c [] ts0 m × TakesWord c from_kind m r0) → Known r0.places
@@ -323,11 +323,11 @@ module _ (look : Look) (x : Lexicon look.style) where
       by (inr i) = x.later i.0 r0 i.2.3 (x.later i.1.0 i.0 i.1.2.2 (x.later ts0 i.1.0 i.1.1.2 k))
   clause_on (more t us) a c ts0 r0 h k b ts K q = by (is_default_import t) refl (is_star_import t) refl h.1
     where
-      lone : (us : Trees) → IsEmpty (parts us) → is_default_import t ≡ false → is_star_import t ≡ true → Spells t c ts0 h.0 → says x.naming (clause_laid (more t us)) b ts K → Clause_on (more t us) c r0 ts K
+      lone : (us : Trees) → IsEmpty (children us) → is_default_import t ≡ false → is_star_import t ≡ true → Produces t c ts0 h.0 → says x.naming (clause_laid (more t us)) b ts K → Clause_on (more t us) c r0 ts K
       lone none i d e g q = star_on t a.0 c ts0 h.0 r0 d e g h.2 k b ts K q
       lone (more u vs) i d e g q = absurd i
 
-      by : (v : Bool) → is_default_import t ≡ v → (w : Bool) → is_star_import t ≡ w → By v ((n : Input) × Spells t c ts0 n × AfterDefault c (parts us) n h.0) (By w (IsEmpty (parts us) × Spells t c ts0 h.0) (NamedImports c (parts (more t us)) ts0 h.0)) → Clause_on (more t us) c r0 ts K
+      by : (v : Bool) → is_default_import t ≡ v → (w : Bool) → is_star_import t ≡ w → By v ((n : Input) × Produces t c ts0 n × AfterDefault c (children us) n h.0) (By w (IsEmpty (children us) × Produces t c ts0 h.0) (NamedImports c (children (more t us)) ts0 h.0)) → Clause_on (more t us) c r0 ts K
       by true e w f g = default_on t us a.0 a.1 c ts0 g.0 h.0 r0 e g.1 g.2 h.2 k b ts K q
       by false e true f g = lone us g.0 e f g.1 q
       by false e false f g = names_on t us a c ts0 h.0 r0 e f g h.2 k b ts K q
@@ -346,14 +346,14 @@ module _ (look : Look) (x : Lexicon look.style) where
         begins = λ e. absurd (import_else (sym (keyed look x import_kind q.1) ∙ e));
         again = λ l. let w = y.again in record {
           tree = import_decl (span (lo ts) z.m.last) w.0 z.u z.v;
-          spelled = (q.0, y.m, worded look x c import_kind q.1, w.1, z.spelled, refl);
+          produced = (q.0, y.m, worded look x c import_kind q.1, w.1, z.produced, refl);
           directive = refl;
           quoted = λ p q. refl;
           same = record { so = λ n. import_same (w.2.so Plain) (z.same_u.so Plain) (z.same_v.so Plain) };
         };
       }
     where
-      spaced : (v : Bool) (m : Input) (J : Gap → Input → Type 0) → says x.naming (if v then blank else gap look) Touching m J → (d : Gap) × J d m
+      spaced : (v : Bool) (m : Input) (J : Spacing → Input → Type 0) → says x.naming (if v then blank else gap look) Touching m J → (d : Spacing) × J d m
       spaced true m J q = (Spaced, q)
       spaced false m J q = (gapped (formats look) Touching, skip x.naming (formats look) Touching m J q)
 

@@ -7,8 +7,8 @@ use Rattle.ecma_tree.specs.Tree.{Tree, absent, break_stmt, continue_stmt, labele
 use Rattle.ecma_syntax.specs.Input.{Code, Input, alone, brk, kind, lo, span, unplaced}
 use Rattle.ecma_syntax.specs.Operators.{expression_level, plain_end}
 use Rattle.ecma_syntax.specs.Shape.{ends, is_absent, level}
-use Rattle.ecma_grammar.specs.Grammar.{Spells}
-use Rattle.ecma_grammar.specs.Parts.{By, Ends, Expr, Sorted, is_ident, part}
+use Rattle.ecma_grammar.specs.Grammar.{Produces}
+use Rattle.ecma_grammar.specs.Children.{By, Ends, Expr, Sorted, is_ident, child}
 use Rattle.ecma_grammar.specs.Statements.{Jump}
 use Rattle.ecma_edge.specs.Edges.{is_there, starts_with_word}
 use Rattle.ecma_layout.specs.Layout.{closing, laid}
@@ -16,12 +16,12 @@ use Rattle.ecma_layout.specs.Looks.{blank, formats, gap_or, semi, text, when, �
 use Rattle.ecma_layout.specs.declared.look.Look.{Look}
 use Rattle.ecma_layout.specs.declared.look.Stand.{Stand}
 use Rattle.ecma_layout.specs.declared.look.Stand.TheVariants.{Alone}
-use Rattle.ecma_written.specs.Gaps.{Gap, Spaced, Touching, is_broken}
+use Rattle.ecma_written.specs.Spacings.{Spacing, Spaced, Touching, is_broken}
 use Rattle.ecma_written.specs.Lexicon.{Lexicon}
 use Rattle.ecma_written.specs.Means.{Known}
 use Rattle.ecma_written.specs.Texts.{word_text}
 use Rattle.ecma_written.specs.Told.{says}
-use Rattle.ecma_redone.specs.Redo.{Plain, Same}
+use Rattle.ecma_redone.specs.Redo.{Plain, Redone}
 use Rattle.ecma_redone_rules.proofs.Naming.{leaves_at}
 use Rattle.ecma_redone_rules.proofs.Begins.{item_outer}
 use Rattle.ecma_redone_rules.proofs.Bodies.{follow_closed, item_closed, statement_on}
@@ -57,7 +57,7 @@ module _ (look : Look) (x : Lexicon look.style) where
       at_kind : kind ts ≡ return_kind
       at_kind = keyed look x return_kind q.1
 
-      by : (v : Bool) → is_absent e ≡ v → By v (Ends c plain_end h.0 r0) ((n : Input) × (brk h.0 ≡ false) × Expr expression_level c (part e (λ y. Spells e y)) h.0 n × Ends c (ends e) n r0)
+      by : (v : Bool) → is_absent e ≡ v → By v (Ends c plain_end h.0 r0) ((n : Input) × (brk h.0 ≡ false) × Expr expression_level c (child e (λ y. Produces e y)) h.0 n × Ends c (ends e) n r0)
           → says x.naming (when (not v) (gap_or look (starts_with_word e) · laid look Alone e) · semi) Touching q.0 K → Out look x.naming st (return_stmt s e) c ts0 r0 b ts K
       by true a g i = let o = semi_of Touching q.0 K i in record {
         d = o.0;
@@ -69,7 +69,7 @@ module _ (look : Look) (x : Lexicon look.style) where
         begins = λ e. absurd (opens (sym at_kind ∙ e));
         again = λ l. record {
           tree = return_stmt (span (lo ts) o.1.last) absent;
-          spelled = (q.0, worded look x c return_kind q.1, ended look x c plain_end o.2, refl);
+          produced = (q.0, worded look x c return_kind q.1, ended look x c plain_end o.2, refl);
           directive = refl;
           quoted = λ p q. refl;
           same = record { so = λ n. ap (λ (t : Tree). return_stmt no_place t) ((absent_same (leaves_at look x.naming) Plain e a).so Plain) };
@@ -88,7 +88,7 @@ module _ (look : Look) (x : Lexicon look.style) where
             begins = λ e. absurd (opens (sym at_kind ∙ e));
             again = λ l. let w = y.again (record { quiet = λ z. j.calm; other = λ z. absurd (no_item e (above expression_level (level e) (omega arith) g.2.0) z) }) in record {
               tree = return_stmt (span (lo ts) o.1.last) w.tree;
-              spelled = (q.0, worded look x c return_kind q.1, unabsent (is_absent w.tree) _ _ (alike is_absent re_is_absent (leaves_at look x.naming) Plain e w.tree w.same ∙ a) (y.m, y.broke ∙ blank_broke (starts_with_word e || formats look) Touching, expr_low look x.naming expression_level Alone e c q.0 y.m g.2.0 (omega arith) w, ended look x c (ends w.tree) o.2), refl);
+              produced = (q.0, worded look x c return_kind q.1, unabsent (is_absent w.tree) _ _ (alike is_absent re_is_absent (leaves_at look x.naming) Plain e w.tree w.same ∙ a) (y.m, y.broke ∙ blank_broke (starts_with_word e || formats look) Touching, expr_low look x.naming expression_level Alone e c q.0 y.m g.2.0 (omega arith) w, ended look x c (ends w.tree) o.2), refl);
               directive = refl;
               quoted = λ p q. refl;
               same = record { so = λ n. ap (λ (t : Tree). return_stmt no_place t) (w.same.so Plain) };
@@ -109,7 +109,7 @@ module _ (look : Look) (x : Lexicon look.style) where
         begins = λ e. absurd (throw_else (sym (keyed look x throw_kind q.1) ∙ e));
         again = λ l. let w = y.again (record { quiet = λ z. (quiet_at look x o.2).calm; other = λ z. absurd (no_item e n z) }) in record {
           tree = throw_stmt (span (lo ts) o.1.last) w.tree;
-          spelled = (q.0, y.m, worded look x c throw_kind q.1, y.broke ∙ blank_broke (starts_with_word e || formats look) Touching, expr_low look x.naming expression_level Alone e c q.0 y.m h.4.0 (omega arith) w, ended look x c (ends w.tree) o.2, refl);
+          produced = (q.0, y.m, worded look x c throw_kind q.1, y.broke ∙ blank_broke (starts_with_word e || formats look) Touching, expr_low look x.naming expression_level Alone e c q.0 y.m h.4.0 (omega arith) w, ended look x c (ends w.tree) o.2, refl);
           directive = refl;
           quoted = λ p q. refl;
           same = record { so = λ n. ap (λ (t : Tree). throw_stmt no_place t) (w.same.so Plain) };
@@ -118,19 +118,19 @@ module _ (look : Look) (x : Lexicon look.style) where
 
   -- ---- 14.8, 14.9
 
-  record Jumped (word : ℕ) (label : Tree) (c : Code) (r0 : Input) (b : Gap) (ts : Input) (K : Gap → Input → Type 0) : Type 0 where
-    d : Gap
+  record Jumped (word : ℕ) (label : Tree) (c : Code) (r0 : Input) (b : Spacing) (ts : Input) (K : Spacing → Input → Type 0) : Type 0 where
+    d : Spacing
     m : Input
     more : K d m
     known : Known r0.places
     broke : brk ts ≡ is_broken b
     lead : kind ts ≡ word
-    again : (u : Tree) × Jump word (unplaced c) (span (lo ts) m.last) (part u (λ y. Spells u y)) ts m × Same (leaves_at look x.naming) Plain label u
+    again : (u : Tree) × Jump word (unplaced c) (span (lo ts) m.last) (child u (λ y. Produces u y)) ts m × Redone (leaves_at look x.naming) Plain label u
 
-  jump_on : (word : ℕ) (label : Tree) (c : Code) (s : Span) (ts0 r0 : Input) → Jump word c s (part label (λ y. Spells label y)) ts0 r0 → Known ts0.places → (b : Gap) (ts : Input) (K : Gap → Input → Type 0) → says x.naming (text (word_text word) · when (is_there label) (blank · laid look Alone label) · semi) b ts K → Jumped word label c r0 b ts K
+  jump_on : (word : ℕ) (label : Tree) (c : Code) (s : Span) (ts0 r0 : Input) → Jump word c s (child label (λ y. Produces label y)) ts0 r0 → Known ts0.places → (b : Spacing) (ts : Input) (K : Spacing → Input → Type 0) → says x.naming (text (word_text word) · when (is_there label) (blank · laid look Alone label) · semi) b ts K → Jumped word label c r0 b ts K
   jump_on word label c s ts0 r0 h k b ts K q = by (is_absent label) refl h.3 (subst (λ (v : Bool). says x.naming (when v (blank · laid look Alone label) · semi) Touching q.0 K) (there label) q.2)
     where
-      by : (v : Bool) → is_absent label ≡ v → By v (h.0 ≡ h.1) ((brk h.0 ≡ false) × Sorted is_ident c (part label (λ y. Spells label y)) h.0 h.1) → says x.naming (when (not v) (blank · laid look Alone label) · semi) Touching q.0 K → Jumped word label c r0 b ts K
+      by : (v : Bool) → is_absent label ≡ v → By v (h.0 ≡ h.1) ((brk h.0 ≡ false) × Sorted is_ident c (child label (λ y. Produces label y)) h.0 h.1) → says x.naming (when (not v) (blank · laid look Alone label) · semi) Touching q.0 K → Jumped word label c r0 b ts K
       by true a g p = let o = semi_of Touching q.0 K p in record {
         d = o.0;
         m = o.1;
@@ -161,7 +161,7 @@ module _ (look : Look) (x : Lexicon look.style) where
     broke = z.broke;
     tight = λ e. absurd (true≢false (sym e));
     begins = λ e. absurd (break_else (sym z.lead ∙ e));
-    again = λ g. record { tree = break_stmt (span (lo ts) z.m.last) z.again.0; spelled = z.again.1; directive = refl; quoted = λ p q. refl; same = record { so = λ n. ap (λ (t : Tree). break_stmt no_place t) (z.again.2.so Plain) } };
+    again = λ g. record { tree = break_stmt (span (lo ts) z.m.last) z.again.0; produced = z.again.1; directive = refl; quoted = λ p q. refl; same = record { so = λ n. ap (λ (t : Tree). break_stmt no_place t) (z.again.2.so Plain) } };
   }
 
   pub continue_on : (s : Span) (l : Tree) (st : Stand) → Sound look x.naming st (continue_stmt s l)
@@ -173,7 +173,7 @@ module _ (look : Look) (x : Lexicon look.style) where
     broke = z.broke;
     tight = λ e. absurd (true≢false (sym e));
     begins = λ e. absurd (continue_else (sym z.lead ∙ e));
-    again = λ g. record { tree = continue_stmt (span (lo ts) z.m.last) z.again.0; spelled = z.again.1; directive = refl; quoted = λ p q. refl; same = record { so = λ n. ap (λ (t : Tree). continue_stmt no_place t) (z.again.2.so Plain) } };
+    again = λ g. record { tree = continue_stmt (span (lo ts) z.m.last) z.again.0; produced = z.again.1; directive = refl; quoted = λ p q. refl; same = record { so = λ n. ap (λ (t : Tree). continue_stmt no_place t) (z.again.2.so Plain) } };
   }
 
   -- ---- 14.11, 14.13
@@ -191,7 +191,7 @@ module _ (look : Look) (x : Lexicon look.style) where
         begins = λ e. absurd (with_else (sym (keyed look x with_kind q.1) ∙ e));
         again = λ l. let w = z.again (l.other refl) in record {
           tree = with_stmt (span (lo ts) z.m.last) y.again.0 w.0;
-          spelled = (q.0, y.m, worded look x c with_kind q.1, y.again.1, w.1, refl);
+          produced = (q.0, y.m, worded look x c with_kind q.1, y.again.1, w.1, refl);
           directive = refl;
           quoted = λ p q. refl;
           same = record { so = λ n. ap₂ (λ (t u : Tree). with_stmt no_place t u) (y.again.2.so Plain) (w.2.so Plain) };
@@ -213,7 +213,7 @@ module _ (look : Look) (x : Lexicon look.style) where
         begins = z.first;
         again = λ i. let w = v.again (follow_closed b r0 v.m (item_closed b n) (i.other refl)) in record {
           tree = labeled_stmt (span (lo ts) v.m.last) z.again.0 w.tree;
-          spelled = (z.m, o.0, z.again.1, took look x c colon_kind o.1, (body_same look x c b w.tree w.same h.4.0, w.spelled), refl);
+          produced = (z.m, o.0, z.again.1, took look x c colon_kind o.1, (body_same look x c b w.tree w.same h.4.0, w.produced), refl);
           directive = refl;
           quoted = λ p q. refl;
           same = record { so = λ n. ap₂ (λ (t u : Tree). labeled_stmt no_place t u) (z.again.2.so Plain) (w.same.so Plain) };

@@ -12,19 +12,19 @@ use Rattle.ecma_syntax.specs.Input.{Code, Input, brk, content, escaped, is_word,
 use Rattle.ecma_syntax.specs.Operators.{assignment_level}
 use Rattle.ecma_syntax.specs.Shape.{constructs, is_any_key, is_key, is_private}
 use Rattle.ecma_grammar.specs.Expressions.{IdentifierName}
-use Rattle.ecma_grammar.specs.Grammar.{Spells}
-use Rattle.ecma_grammar.specs.Parts.{Sorted, is_module_item, part}
+use Rattle.ecma_grammar.specs.Grammar.{Produces}
+use Rattle.ecma_grammar.specs.Children.{Sorted, is_module_item, child}
 use Rattle.ecma_spell_string.specs.Names.{is_quoted_key}
 use Rattle.ecma_layout.specs.Layout.{laid}
 use Rattle.ecma_layout.specs.Literals.{key_bytes, name_bytes}
 use Rattle.ecma_layout.specs.declared.look.Look.{Look}
 use Rattle.ecma_layout.specs.declared.look.Stand.{Stand}
 use Rattle.ecma_layout.specs.declared.look.Stand.TheVariants.{Alone, Key}
-use Rattle.ecma_written.specs.Gaps.{Gap, Touching, is_broken}
+use Rattle.ecma_written.specs.Spacings.{Spacing, Touching, is_broken}
 use Rattle.ecma_written.specs.Lexicon.{Lexicon}
 use Rattle.ecma_written.specs.Means.{Known, Means}
 use Rattle.ecma_written.specs.Told.{Told, says}
-use Rattle.ecma_redone.specs.Redo.{Leaves, Mode, Plain, Same, kept_at, redo}
+use Rattle.ecma_redone.specs.Redo.{Leaves, Mode, Plain, Redone, kept_at, redo}
 use Rattle.ecma_redone.specs.Written.{written_key}
 use Rattle.ecma_redone_rules.proofs.Naming.{leaves_at}
 use Rattle.ecma_redone_rules.proofs.Begins.{first_token, is_loose, is_part, is_weak, no_else}
@@ -62,7 +62,7 @@ re_constructs l m (ident_name s n) = refl
 re_constructs l m (str_lit s u w) = refl
 re_constructs l m _ = refl
 
-constructs_same : (l : Leaves) (m : Mode) (t u : Tree) → Same l m t u → constructs u ≡ constructs t
+constructs_same : (l : Leaves) (m : Mode) (t u : Tree) → Redone l m t u → constructs u ≡ constructs t
 constructs_same l m t u s = alike constructs re_constructs l m t u s
 
 module _ (look : Look) (x : Lexicon look.style) where
@@ -79,7 +79,7 @@ module _ (look : Look) (x : Lexicon look.style) where
         begins = λ e. absurd (bracket_else (sym (marked look x left_bracket_kind q.1) ∙ e));
         again = λ g. let w = y.again (follow_by Alone e h.1 y.m right_bracket_kind (marked look x right_bracket_kind z.1) refl) in record {
           tree = computed_prop_name (span (lo ts) z.0.last) w.tree;
-          spelled = (q.0, y.m, took look x c left_bracket_kind q.1, expr_low look x.naming assignment_level Alone e (with_in c) q.0 y.m h.3.0 (omega arith) w, took look x c right_bracket_kind z.1, refl);
+          produced = (q.0, y.m, took look x c left_bracket_kind q.1, expr_low look x.naming assignment_level Alone e (with_in c) q.0 y.m h.3.0 (omega arith) w, took look x c right_bracket_kind z.1, refl);
           directive = refl;
           quoted = λ p q. refl;
           same = record { so = λ n. ap (λ (t : Tree). computed_prop_name no_place t) (w.same.so Plain) };
@@ -87,18 +87,18 @@ module _ (look : Look) (x : Lexicon look.style) where
       }
 
   -- A key as it is derived again, where a sort of keys may stand and the tree has them given anew so.
-  pub record KeyAgain (may : Tree → Bool) (write : Tree → Tree) (k : Tree) (c : Code) (ts0 r0 : Input) (b : Gap) (ts : Input) (K : Gap → Input → Type 0) : Type 0 where
-    pub d : Gap
+  pub record KeyAgain (may : Tree → Bool) (write : Tree → Tree) (k : Tree) (c : Code) (ts0 r0 : Input) (b : Spacing) (ts : Input) (K : Spacing → Input → Type 0) : Type 0 where
+    pub d : Spacing
     pub m : Input
     pub more : K d m
     pub known : Known r0.places
     pub broke : brk ts ≡ is_broken b
     pub first : kind ts ≡ else_kind → kind ts0 ≡ else_kind
-    pub again : (u : Tree) × (may u ≡ true) × Spells u (unplaced c) ts m × ((n : Mode) → redo (kept_at x.naming.written) n u ≡ write (redo (leaves_at look x.naming) Plain k))
+    pub again : (u : Tree) × (may u ≡ true) × Produces u (unplaced c) ts m × ((n : Mode) → redo (kept_at x.naming.written) n u ≡ write (redo (leaves_at look x.naming) Plain k))
     pub constructor_as : constructs again.0 ≡ true → constructs k ≡ true
 
   -- a word: as a word, or as a string of its units
-  word_on : (v : Bool) (s : Span) (n : List ℕ) → is_quoted_key look.style (chars n) ≡ v → (c : Code) (ts0 r0 : Input) → IdentifierName c s n ts0 r0 → Known ts0.places → (b : Gap) (ts m : Input) → (K : Gap → Input → Type 0) → Told Div (key_bytes look.style n) b ts m → K Touching m
+  word_on : (v : Bool) (s : Span) (n : List ℕ) → is_quoted_key look.style (chars n) ≡ v → (c : Code) (ts0 r0 : Input) → IdentifierName c s n ts0 r0 → Known ts0.places → (b : Spacing) (ts m : Input) → (K : Spacing → Input → Type 0) → Told Div (key_bytes look.style n) b ts m → K Touching m
       → KeyAgain is_key (λ t. written_key look.style t) (ident_name s n) c ts0 r0 b ts K
   word_on false s n e c ts0 r0 h l b ts m K t q =
       let means = subst (λ (w : List ℕ). Means Div w (kind ts) (content ts) (escaped ts)) (key_as_name look.style n e) t.means in
@@ -126,8 +126,8 @@ module _ (look : Look) (x : Lexicon look.style) where
       }
 
   -- any other key
-  other_on : (k : Tree) → Sound look x.naming Key k → is_key k ≡ true → written_key look.style (redo (leaves_at look x.naming) Plain k) ≡ redo (leaves_at look x.naming) Plain k → ((u : Tree) → Same (leaves_at look x.naming) Plain k u → constructs u ≡ true → constructs k ≡ true) → (c : Code) (ts0 r0 : Input) → Spells k c ts0 r0 → Known ts0.places
-      → (b : Gap) (ts : Input) (K : Gap → Input → Type 0) → says x.naming (laid look Key k) b ts K → KeyAgain is_key (λ t. written_key look.style t) k c ts0 r0 b ts K
+  other_on : (k : Tree) → Sound look x.naming Key k → is_key k ≡ true → written_key look.style (redo (leaves_at look x.naming) Plain k) ≡ redo (leaves_at look x.naming) Plain k → ((u : Tree) → Redone (leaves_at look x.naming) Plain k u → constructs u ≡ true → constructs k ≡ true) → (c : Code) (ts0 r0 : Input) → Produces k c ts0 r0 → Known ts0.places
+      → (b : Spacing) (ts : Input) (K : Spacing → Input → Type 0) → says x.naming (laid look Key k) b ts K → KeyAgain is_key (λ t. written_key look.style t) k c ts0 r0 b ts K
   other_on k f i w j c ts0 r0 h l b ts K q =
       let p = key_plain k i in
       let z = plain_part look x.naming Key k f p.0 c ts0 r0 h l b ts K q in
@@ -138,11 +138,11 @@ module _ (look : Look) (x : Lexicon look.style) where
         known = z.known;
         broke = z.broke;
         first = first_token (is_weak k) (is_loose k) ts0 r0 ts z.m z.begins;
-        again = (u.tree, alike is_key re_is_key (leaves_at look x.naming) Plain k u.tree u.same ∙ i, u.spelled, λ n. u.same.so n ∙ sym w);
+        again = (u.tree, alike is_key re_is_key (leaves_at look x.naming) Plain k u.tree u.same ∙ i, u.produced, λ n. u.same.so n ∙ sym w);
         constructor_as = j u.tree u.same;
       }
 
-  pub key_on : (k : Tree) → KeyPart look x.naming k → (c : Code) (ts0 r0 : Input) → Sorted is_key c (part k (λ y. Spells k y)) ts0 r0 → Known ts0.places → (b : Gap) (ts : Input) (K : Gap → Input → Type 0) → says x.naming (laid look Key k) b ts K → KeyAgain is_key (λ t. written_key look.style t) k c ts0 r0 b ts K
+  pub key_on : (k : Tree) → KeyPart look x.naming k → (c : Code) (ts0 r0 : Input) → Sorted is_key c (child k (λ y. Produces k y)) ts0 r0 → Known ts0.places → (b : Spacing) (ts : Input) (K : Spacing → Input → Type 0) → says x.naming (laid look Key k) b ts K → KeyAgain is_key (λ t. written_key look.style t) k c ts0 r0 b ts K
   key_on (ident_name s n) f c ts0 r0 h l b ts K q = word_on (is_quoted_key look.style (chars n)) s n refl c ts0 r0 h.1 l b ts q.0 K q.1 q.2
   key_on (str_lit s u w) f c ts0 r0 h l b ts K q = other_on (str_lit s u w) f refl refl (λ v e i. sym (constructs_same (leaves_at look x.naming) Plain (str_lit s u w) v e) ∙ i) c ts0 r0 h.1 l b ts K q
   key_on (number_lit s v w) f c ts0 r0 h l b ts K q = other_on (number_lit s v w) f refl refl (λ u e i. sym (constructs_same (leaves_at look x.naming) Plain (number_lit s v w) u e) ∙ i) c ts0 r0 h.1 l b ts K q
@@ -151,7 +151,7 @@ module _ (look : Look) (x : Lexicon look.style) where
   key_on _ f c ts0 r0 h l b ts K q = absurd (true≢false (sym h.0))
 
   -- a private name (15.7)
-  pub private_key_on : (k : Tree) → KeyPart look x.naming k → is_private k ≡ true → (write : Tree → Tree) → write (redo (leaves_at look x.naming) Plain k) ≡ redo (leaves_at look x.naming) Plain k → (c : Code) (ts0 r0 : Input) → Spells k c ts0 r0 → Known ts0.places → (b : Gap) (ts : Input) (K : Gap → Input → Type 0) → says x.naming (laid look Key k) b ts K
+  pub private_key_on : (k : Tree) → KeyPart look x.naming k → is_private k ≡ true → (write : Tree → Tree) → write (redo (leaves_at look x.naming) Plain k) ≡ redo (leaves_at look x.naming) Plain k → (c : Code) (ts0 r0 : Input) → Produces k c ts0 r0 → Known ts0.places → (b : Spacing) (ts : Input) (K : Spacing → Input → Type 0) → says x.naming (laid look Key k) b ts K
       → KeyAgain is_private write k c ts0 r0 b ts K
   private_key_on (private_name s n) f i write w c ts0 r0 h l b ts K q =
       let z = plain_part look x.naming Key (private_name s n) f refl c ts0 r0 h l b ts K q in
@@ -162,13 +162,13 @@ module _ (look : Look) (x : Lexicon look.style) where
         known = z.known;
         broke = z.broke;
         first = no_else ts0 r0 ts z.m z.begins;
-        again = (u.tree, alike is_private re_is_private (leaves_at look x.naming) Plain (private_name s n) u.tree u.same, u.spelled, λ n. u.same.so n ∙ sym w);
+        again = (u.tree, alike is_private re_is_private (leaves_at look x.naming) Plain (private_name s n) u.tree u.same, u.produced, λ n. u.same.so n ∙ sym w);
         constructor_as = λ j. sym (constructs_same (leaves_at look x.naming) Plain (private_name s n) u.tree u.same) ∙ j;
       }
   private_key_on _ f i write w c ts0 r0 h l b ts K q = absurd (true≢false (sym i))
 
   -- either
-  pub any_key_on : (k : Tree) → KeyPart look x.naming k → (c : Code) (ts0 r0 : Input) → Sorted is_any_key c (part k (λ y. Spells k y)) ts0 r0 → Known ts0.places → (b : Gap) (ts : Input) (K : Gap → Input → Type 0) → says x.naming (laid look Key k) b ts K → KeyAgain is_any_key (λ t. written_key look.style t) k c ts0 r0 b ts K
+  pub any_key_on : (k : Tree) → KeyPart look x.naming k → (c : Code) (ts0 r0 : Input) → Sorted is_any_key c (child k (λ y. Produces k y)) ts0 r0 → Known ts0.places → (b : Spacing) (ts : Input) (K : Spacing → Input → Type 0) → says x.naming (laid look Key k) b ts K → KeyAgain is_any_key (λ t. written_key look.style t) k c ts0 r0 b ts K
   any_key_on k f c ts0 r0 h l b ts K q = by (is_private k) refl
     where
       left_true : (a b : Bool) → b ≡ false → (a || b) ≡ true → a ≡ true

@@ -10,7 +10,7 @@ use Rattle.ecma_layout.specs.Layout.{is_computed}
 use Rattle.ecma_layout.specs.Looks.{formats}
 use Rattle.ecma_layout.specs.declared.look.Look.{Look}
 use Rattle.ecma_written.specs.Naming.{Naming}
-use Rattle.ecma_redone.specs.Redo.{Headed, Leaves, Mode, Plain, Pointed, Same, is_asked, is_head, kept_at, object_mode, redo}
+use Rattle.ecma_redone.specs.Redo.{Headed, Leaves, Mode, Plain, Pointed, Redone, is_asked, is_head, kept_at, object_mode, redo}
 use Rattle.ecma_redone.specs.Written.{given_none, new_arguments}
 use Rattle.ecma_redone_rules.proofs.Naming.{leaves_at}
 
@@ -42,7 +42,7 @@ level_high (new_expr s f absent) = inr (refl, refl)
 level_high (new_expr s f _) = inl refl
 level_high _ = inl refl
 
-high_same : (l : Leaves) (m : Mode) (t u : Tree) → Same l m t u → high u ≡ high t
+high_same : (l : Leaves) (m : Mode) (t u : Tree) → Redone l m t u → high u ≡ high t
 high_same l m t u s = sym (re_high (kept_at l.written) Plain u) ∙ (ap high (s.so Plain) ∙ re_high l m t)
 
 low_by : (l a b x y : ℕ) → Near a b → Near x y → y ≡ b → l ≤ a → l ≤ 18 → l ≤ x
@@ -52,7 +52,7 @@ low_by l a b x y (inr e) (inl f) g h k = omega arith
 low_by l a b x y (inr e) (inr f) g h k = omega arith
 
 -- what a level up to that of a bare `new` asks
-pub level_low : (l : Leaves) (m : Mode) (t u : Tree) → Same l m t u → (n : ℕ) → n ≤ level t → n ≤ 18 → n ≤ level u
+pub level_low : (l : Leaves) (m : Mode) (t u : Tree) → Redone l m t u → (n : ℕ) → n ≤ level t → n ≤ 18 → n ≤ level u
 level_low l m t u s n h k = low_by n (level t) (high t) (level u) (high u) (level_high t) (level_high u) (high_same l m t u s) h k
 
 below_by : (a b x y : ℕ) → Near a b → Near x y → y ≡ b → a ≤ 17 → x ≡ a
@@ -61,7 +61,7 @@ below_by a b x y (inl e) (inr f) g h = absurd (omega arith)
 below_by a b x y (inr e) (inl f) g h = absurd (omega arith)
 below_by a b x y (inr e) (inr f) g h = absurd (omega arith)
 
-pub level_below : (l : Leaves) (m : Mode) (t u : Tree) → Same l m t u → level t ≤ 17 → level u ≡ level t
+pub level_below : (l : Leaves) (m : Mode) (t u : Tree) → Redone l m t u → level t ≤ 17 → level u ≡ level t
 level_below l m t u s h = below_by (level t) (high t) (level u) (high u) (level_high t) (level_high u) (high_same l m t u s) h
 
 -- ---- at a head
@@ -103,7 +103,7 @@ head_level look naming m (new_expr s f a) e =
 head_level look naming m _ e = refl
 
 -- what any level asks, at a head
-pub level_head : (look : Look) (naming : Naming) (m : Mode) (t u : Tree) → is_head m ≡ true → Same (leaves_at look naming) m t u → (n : ℕ) → n ≤ level t → n ≤ level u
+pub level_head : (look : Look) (naming : Naming) (m : Mode) (t u : Tree) → is_head m ≡ true → Redone (leaves_at look naming) m t u → (n : ℕ) → n ≤ level t → n ≤ level u
 level_head look naming m t u e s n h = over n (level t) (high t) (level u) (level_high t) (sym (kept_level naming.written Plain u) ∙ (ap level (s.so Plain) ∙ head_level look naming m t e)) h
   where
     over : (n a b x : ℕ) → Near a b → x ≡ b → n ≤ a → n ≤ x
@@ -121,6 +121,6 @@ new_high (new_expr s f a) h = refl
 new_high (bin_expr s op a b) h = absurd (omega (arith, binary_low op, h))
 new_high _ h = absurd (omega arith)
 
-pub callee_level : (look : Look) (naming : Naming) (t u : Tree) → Same (leaves_at look naming) Headed t u → (level t ≡ new_level) ⊎ (member_level ≤ level t) → member_level ≤ level u
+pub callee_level : (look : Look) (naming : Naming) (t u : Tree) → Redone (leaves_at look naming) Headed t u → (level t ≡ new_level) ⊎ (member_level ≤ level t) → member_level ≤ level u
 callee_level look naming t u s (inl e) = subst (λ (n : ℕ). member_level ≤ n) (sym (sym (kept_level naming.written Plain u) ∙ (ap level (s.so Plain) ∙ (head_level look naming Headed t refl ∙ new_high t e)))) (omega arith)
 callee_level look naming t u s (inr h) = level_head look naming Headed t u refl s member_level h

@@ -5,18 +5,18 @@ use Rattle.ecma_lexeme.specs.declared.goal.LexicalGoal.TheVariants.{Div}
 use Rattle.ecma_tree.specs.Tree.{Tree, Trees, hole, more, none}
 use Rattle.ecma_syntax.specs.Input.{Code, Input, Takes, brk, kind, unplaced}
 use Rattle.ecma_syntax.specs.Shape.{is_hole, is_rest, level}
-use Rattle.ecma_grammar.specs.Grammar.{Spells, parts}
-use Rattle.ecma_grammar.specs.Parts.{By, CommaThen, Expr, IsEmpty, Listed, Part, Sorted, is_module_item, part}
+use Rattle.ecma_grammar.specs.Grammar.{Produces, children}
+use Rattle.ecma_grammar.specs.Children.{By, CommaThen, Expr, IsEmpty, Listed, Child, Sorted, is_module_item, child}
 use Rattle.ecma_layout.specs.Layout.{comma, comma_line, ends_with_hole, laid, separated}
 use Rattle.ecma_layout.specs.Looks.{Laid, both, formats, when}
 use Rattle.ecma_layout.specs.declared.look.Look.{Look}
 use Rattle.ecma_layout.specs.declared.look.Stand.TheVariants.{Alone}
-use Rattle.ecma_written.specs.Gaps.{Gap, Touching, is_broken}
+use Rattle.ecma_written.specs.Spacings.{Spacing, Touching, is_broken}
 use Rattle.ecma_written.specs.Lexicon.{Lexicon}
 use Rattle.ecma_written.specs.Means.{Known}
 use Rattle.ecma_written.specs.Texts.{mark_text}
 use Rattle.ecma_written.specs.Told.{Told, says}
-use Rattle.ecma_redone.specs.Redo.{AllSame, Leaves, Mode, Plain, Same, redo}
+use Rattle.ecma_redone.specs.Redo.{AllRedone, Leaves, Mode, Plain, Redone, redo}
 use Rattle.ecma_redone_rules.proofs.Naming.{leaves_at}
 use Rattle.ecma_redone_rules.proofs.Begins.{Starts, is_loose, is_part, is_weak, starts_on}
 use Rattle.ecma_redone_rules.proofs.Follow.{calm, closed_calm, closes, no_item}
@@ -24,16 +24,16 @@ use Rattle.ecma_redone_rules.proofs.Shapes.{alike, re_is_hole, re_is_rest}
 use Rattle.ecma_redone_rules.proofs.Sound.{AllSound, Sound, expr, expr_low, plain_part, tight_of}
 use Rattle.ecma_redone_rules.proofs.Tokens.{gapped, marked, skip, skip_line, took}
 
-pub none_same : (l : Leaves) → AllSame l Plain none none
+pub none_same : (l : Leaves) → AllRedone l Plain none none
 none_same l = record { so = λ n. refl }
 
-pub more_same : (l : Leaves) (m : Mode) (t u : Tree) (ts us : Trees) → Same l m t u → AllSame l m ts us → AllSame l m (more t ts) (more u us)
+pub more_same : (l : Leaves) (m : Mode) (t u : Tree) (ts us : Trees) → Redone l m t u → AllRedone l m ts us → AllRedone l m (more t ts) (more u us)
 more_same l m t u ts us s a = record { so = λ n. ap₂ (λ (x : Tree) (xs : Trees). more x xs) (s.so n) (a.so n) }
 
 comma_no_function : comma_kind ≡ function_kind → ⊥
 comma_no_function e = omega arith
 
-hole_same : (l : Leaves) (ts us : Trees) → AllSame l Plain ts us → AllSame l Plain (more hole ts) (more hole us)
+hole_same : (l : Leaves) (ts us : Trees) → AllRedone l Plain ts us → AllRedone l Plain (more hole ts) (more hole us)
 hole_same l ts us a = record { so = λ n. ap (λ (xs : Trees). more hole xs) (a.so n) }
 
 unhole : (v w : Bool) (A B : Type 0) → w ≡ false → B → By (v && w) A B
@@ -44,7 +44,7 @@ unhole false w A B e h = h
 module _ (look : Look) (x : Lexicon look.style) where
   -- a comma, and what says no token
   abbrev pub IsComma : Laid → Type 1
-  IsComma f = (b : Gap) (ts : Input) (K : Gap → Input → Type 0) → says x.naming f b ts K → (m : Input) × Told Div (mark_text comma_kind) b ts m × ((d : Gap) × K d m)
+  IsComma f = (b : Spacing) (ts : Input) (K : Spacing → Input → Type 0) → says x.naming f b ts K → (m : Input) × Told Div (mark_text comma_kind) b ts m × ((d : Spacing) × K d m)
 
   pub comma_on : IsComma (comma look)
   comma_on b ts K q = (q.0, q.1, (gapped (formats look) Touching, skip x.naming (formats look) Touching q.0 K q.2))
@@ -53,18 +53,18 @@ module _ (look : Look) (x : Lexicon look.style) where
   comma_line_on b ts K q = (q.0, q.1, skip_line x.naming (formats look) Touching q.0 K q.2)
 
   -- an item of a list, derived again by a relation
-  pub record Got (Q : Part → Input → Input → Type 0) (t : Tree) (ts0 r0 : Input) (b : Gap) (ts : Input) (K : Gap → Input → Type 0) : Type 0 where
-    pub d : Gap
+  pub record Got (Q : Child → Input → Input → Type 0) (t : Tree) (ts0 r0 : Input) (b : Spacing) (ts : Input) (K : Spacing → Input → Type 0) : Type 0 where
+    pub d : Spacing
     pub m : Input
     pub more : K d m
     pub known : Known r0.places
     pub broke : brk ts ≡ is_broken b
     pub tight : 1 ≤ level t → d ≡ Touching
     pub begins : Starts (is_weak t) (is_loose t) ts0 r0 ts m
-    pub again : calm m ≡ true → (u : Tree) × Q (part u (λ y. Spells u y)) ts m × Same (leaves_at look x.naming) Plain t u
+    pub again : calm m ≡ true → (u : Tree) × Q (child u (λ y. Produces u y)) ts m × Redone (leaves_at look x.naming) Plain t u
 
-  abbrev pub Each : (Part → Input → Input → Type 0) → (Part → Input → Input → Type 0) → Type 1
-  Each P Q = (t : Tree) → Sound look x.naming Alone t → (ts0 r0 : Input) → P (part t (λ y. Spells t y)) ts0 r0 → Known ts0.places → (b : Gap) (ts : Input) (K : Gap → Input → Type 0)
+  abbrev pub Each : (Child → Input → Input → Type 0) → (Child → Input → Input → Type 0) → Type 1
+  Each P Q = (t : Tree) → Sound look x.naming Alone t → (ts0 r0 : Input) → P (child t (λ y. Produces t y)) ts0 r0 → Known ts0.places → (b : Spacing) (ts : Input) (K : Spacing → Input → Type 0)
       → says x.naming (laid look Alone t) b ts K → Got Q t ts0 r0 b ts K
 
   -- of a sort
@@ -78,7 +78,7 @@ module _ (look : Look) (x : Lexicon look.style) where
         begins = z.begins;
         broke = z.broke;
         tight = λ i. z.tight (tight_of t i);
-        again = λ g. let w = z.again (record { quiet = λ e. g; other = λ i. absurd (true≢false (sym i ∙ (nv t h.0).1)) }) in (w.tree, (alike is_sort re (leaves_at look x.naming) Plain t w.tree w.same ∙ h.0, w.spelled), w.same);
+        again = λ g. let w = z.again (record { quiet = λ e. g; other = λ i. absurd (true≢false (sym i ∙ (nv t h.0).1)) }) in (w.tree, (alike is_sort re (leaves_at look x.naming) Plain t w.tree w.same ∙ h.0, w.produced), w.same);
       }
 
   -- expressions of a level
@@ -97,18 +97,18 @@ module _ (look : Look) (x : Lexicon look.style) where
 
   -- ---- items with commas between them
 
-  module _ (P Q : Part → Input → Input → Type 0) (f : Each P Q) (c : Code) where
-    pub record Ran (t : Tree) (xs : Trees) (ts0 r0 : Input) (b : Gap) (ts : Input) (K : Gap → Input → Type 0) : Type 0 where
-      pub d : Gap
+  module _ (P Q : Child → Input → Input → Type 0) (f : Each P Q) (c : Code) where
+    pub record Ran (t : Tree) (xs : Trees) (ts0 r0 : Input) (b : Spacing) (ts : Input) (K : Spacing → Input → Type 0) : Type 0 where
+      pub d : Spacing
       pub m : Input
       pub more : K d m
       pub known : Known r0.places
       pub broke : brk ts ≡ is_broken b
-      pub tight : ((v : Tree) (m n : Input) → P (part v (λ y. Spells v y)) m n → 1 ≤ level v) → d ≡ Touching
+      pub tight : ((v : Tree) (m n : Input) → P (child v (λ y. Produces v y)) m n → 1 ≤ level v) → d ≡ Touching
       pub begins : Starts (is_weak t) (is_loose t) ts0 r0 ts m
-      pub again : calm m ≡ true → (u : Tree) × (us : Trees) × (n : Input) × Q (part u (λ y. Spells u y)) ts n × CommaThen Q (unplaced c) (parts us) n m × Same (leaves_at look x.naming) Plain t u × AllSame (leaves_at look x.naming) Plain xs us
+      pub again : calm m ≡ true → (u : Tree) × (us : Trees) × (n : Input) × Q (child u (λ y. Produces u y)) ts n × CommaThen Q (unplaced c) (children us) n m × Redone (leaves_at look x.naming) Plain t u × AllRedone (leaves_at look x.naming) Plain xs us
 
-    pub run : (t : Tree) (xs : Trees) → Sound look x.naming Alone t → AllSound look x.naming xs → (ts0 n0 r0 : Input) → P (part t (λ y. Spells t y)) ts0 n0 → CommaThen P c (parts xs) n0 r0 → Known ts0.places → (b : Gap) (ts : Input) (K : Gap → Input → Type 0)
+    pub run : (t : Tree) (xs : Trees) → Sound look x.naming Alone t → AllSound look x.naming xs → (ts0 n0 r0 : Input) → P (child t (λ y. Produces t y)) ts0 n0 → CommaThen P c (children xs) n0 r0 → Known ts0.places → (b : Spacing) (ts : Input) (K : Spacing → Input → Type 0)
         → says x.naming (separated look (comma look) (more t xs)) b ts K → Ran t xs ts0 r0 b ts K
     run t none g a ts0 n0 r0 h e k b ts K q =
         let z = f t g ts0 n0 h k b ts K q in record {
@@ -137,28 +137,28 @@ module _ (look : Look) (x : Lexicon look.style) where
               (w.0, more o.0 o.1, z.m, w.1, (y.0, o.2, took look x c comma_kind y.1, o.3, o.4), w.2, more_same (leaves_at look x.naming) Plain u o.0 us o.1 o.5 o.6);
         }
 
-  module _ (P Q : Part → Input → Input → Type 0) (f : Each P Q) (c : Code) (close : ℕ) (closing : closes close ≡ true) where
-    pub record Gone (holes : Bool) (xs : Trees) (r0 : Input) (ts : Input) (K : Gap → Input → Type 0) : Type 0 where
-      pub d : Gap
+  module _ (P Q : Child → Input → Input → Type 0) (f : Each P Q) (c : Code) (close : ℕ) (closing : closes close ≡ true) where
+    pub record Gone (holes : Bool) (xs : Trees) (r0 : Input) (ts : Input) (K : Spacing → Input → Type 0) : Type 0 where
+      pub d : Spacing
       pub m : Input
       pub more : K d m
       pub known : Known r0.places
-      pub again : (r : Input) → Takes (unplaced c) close m r → (us : Trees) × Listed holes Q (unplaced c) close (parts us) ts r × AllSame (leaves_at look x.naming) Plain xs us
+      pub again : (r : Input) → Takes (unplaced c) close m r → (us : Trees) × Listed holes Q (unplaced c) close (children us) ts r × AllRedone (leaves_at look x.naming) Plain xs us
 
     -- after an item
     abbrev After : Tree → Trees → Input → Input → Type 0
-    After t xs m r = ((is_rest t ≡ false) × (n : Input) × Takes c comma_kind m n × Listed false P c close (parts xs) n r) ⊎ (IsEmpty (parts xs) × Takes c close m r)
+    After t xs m r = ((is_rest t ≡ false) × (n : Input) × Takes c comma_kind m n × Listed false P c close (children xs) n r) ⊎ (IsEmpty (children xs) × Takes c close m r)
 
     last_known : (t : Tree) (m r : Input) → After t none m r → Known m.places → Known r.places
     last_known t m r (inl h) k = x.later h.1 r h.3.2 (x.later m h.1 h.2.2 k)
     last_known t m r (inr h) k = x.later m r h.1.2 k
 
-    later_known : (t u : Tree) (us : Trees) (m r : Input) → After t (more u us) m r → (is_rest t ≡ false) × (n : Input) × Takes c comma_kind m n × Listed false P c close (parts (more u us)) n r
+    later_known : (t u : Tree) (us : Trees) (m r : Input) → After t (more u us) m r → (is_rest t ≡ false) × (n : Input) × Takes c comma_kind m n × Listed false P c close (children (more u us)) n r
     later_known t u us m r (inl h) = h
     later_known t u us m r (inr h) = absurd h.0
 
-    pub listed : (between : Laid) → IsComma between → (xs : Trees) → AllSound look x.naming xs → (ts0 r0 : Input) → Listed false P c close (parts xs) ts0 r0 → Known ts0.places → (b : Gap) (ts : Input) (K : Gap → Input → Type 0)
-        → ((d : Gap) (m : Input) → K d m → kind m ≡ close) → says x.naming (separated look between xs) b ts K → Gone false xs r0 ts K
+    pub listed : (between : Laid) → IsComma between → (xs : Trees) → AllSound look x.naming xs → (ts0 r0 : Input) → Listed false P c close (children xs) ts0 r0 → Known ts0.places → (b : Spacing) (ts : Input) (K : Spacing → Input → Type 0)
+        → ((d : Spacing) (m : Input) → K d m → kind m ≡ close) → says x.naming (separated look between xs) b ts K → Gone false xs r0 ts K
     listed between co none a ts0 r0 h k b ts K peek q = record { d = b; m = ts; more = q; known = x.later ts0 r0 h.2 k; again = λ r t. (none, t, none_same (leaves_at look x.naming)) }
     listed between co (more t none) a ts0 r0 h k b ts K peek q =
         let z = f t a.0 ts0 h.0 h.1 k b ts K q in record {
@@ -187,8 +187,8 @@ module _ (look : Look) (x : Lexicon look.style) where
 
     -- ---- where holes may stand
 
-    last_item : (t : Tree) → Sound look x.naming Alone t → (ts0 r0 : Input) → ((m : Input) × P (part t (λ y. Spells t y)) ts0 m × (((is_rest t ≡ false) × (n : Input) × Takes c comma_kind m n × Listed true P c close [] n r0) ⊎ (Unit {0} × Takes c close m r0)))
-        → is_hole t ≡ false → Known ts0.places → (b : Gap) (ts : Input) (K : Gap → Input → Type 0) → ((d : Gap) (m : Input) → K d m → kind m ≡ close) → says x.naming (laid look Alone t) b ts K → Gone true (more t none) r0 ts K
+    last_item : (t : Tree) → Sound look x.naming Alone t → (ts0 r0 : Input) → ((m : Input) × P (child t (λ y. Produces t y)) ts0 m × (((is_rest t ≡ false) × (n : Input) × Takes c comma_kind m n × Listed true P c close [] n r0) ⊎ (Unit {0} × Takes c close m r0)))
+        → is_hole t ≡ false → Known ts0.places → (b : Spacing) (ts : Input) (K : Spacing → Input → Type 0) → ((d : Spacing) (m : Input) → K d m → kind m ≡ close) → says x.naming (laid look Alone t) b ts K → Gone true (more t none) r0 ts K
     last_item t g ts0 r0 h i k b ts K peek q =
         let z = f t g ts0 h.0 h.1 k b ts K q in record {
           d = z.d;
@@ -204,9 +204,9 @@ module _ (look : Look) (x : Lexicon look.style) where
         known m (inr h) k = x.later m r0 h.1.2 k
 
     more_item : (between : Laid) → IsComma between → (t u : Tree) (us : Trees) → Sound look x.naming Alone t → (ts0 r0 : Input)
-        → ((m : Input) × P (part t (λ y. Spells t y)) ts0 m × (((is_rest t ≡ false) × (n : Input) × Takes c comma_kind m n × Listed true P c close (parts (more u us)) n r0) ⊎ (⊥ × Takes c close m r0)))
-        → is_hole t ≡ false → Known ts0.places → (b : Gap) (ts : Input) (K : Gap → Input → Type 0)
-        → ((n : Input) → Listed true P c close (parts (more u us)) n r0 → Known n.places → (d : Gap) (m : Input) → says x.naming (both (separated look between (more u us)) (when (ends_with_hole (more u us)) (comma look))) d m K → Gone true (more u us) r0 m K)
+        → ((m : Input) × P (child t (λ y. Produces t y)) ts0 m × (((is_rest t ≡ false) × (n : Input) × Takes c comma_kind m n × Listed true P c close (children (more u us)) n r0) ⊎ (⊥ × Takes c close m r0)))
+        → is_hole t ≡ false → Known ts0.places → (b : Spacing) (ts : Input) (K : Spacing → Input → Type 0)
+        → ((n : Input) → Listed true P c close (children (more u us)) n r0 → Known n.places → (d : Spacing) (m : Input) → says x.naming (both (separated look between (more u us)) (when (ends_with_hole (more u us)) (comma look))) d m K → Gone true (more u us) r0 m K)
         → says x.naming (both (both (laid look Alone t) (both between (separated look between (more u us)))) (when (ends_with_hole (more u us)) (comma look))) b ts K → Gone true (more t (more u us)) r0 ts K
     more_item between co t u us g ts0 r0 h i k b ts K ih q =
         let z = f t g ts0 h.0 h.1 k b ts _ q in
@@ -224,12 +224,12 @@ module _ (look : Look) (x : Lexicon look.style) where
           );
         }
       where
-        going : (m : Input) → ((is_rest t ≡ false) × (n : Input) × Takes c comma_kind m n × Listed true P c close (parts (more u us)) n r0) ⊎ (⊥ × Takes c close m r0) → (is_rest t ≡ false) × (n : Input) × Takes c comma_kind m n × Listed true P c close (parts (more u us)) n r0
+        going : (m : Input) → ((is_rest t ≡ false) × (n : Input) × Takes c comma_kind m n × Listed true P c close (children (more u us)) n r0) ⊎ (⊥ × Takes c close m r0) → (is_rest t ≡ false) × (n : Input) × Takes c comma_kind m n × Listed true P c close (children (more u us)) n r0
         going m (inl h) = h
         going m (inr h) = absurd h.0
 
-    pub holed : (between : Laid) → IsComma between → (xs : Trees) → AllSound look x.naming xs → (ts0 r0 : Input) → Listed true P c close (parts xs) ts0 r0 → Known ts0.places → (b : Gap) (ts : Input) (K : Gap → Input → Type 0)
-        → ((d : Gap) (m : Input) → K d m → kind m ≡ close) → says x.naming (both (separated look between xs) (when (ends_with_hole xs) (comma look))) b ts K → Gone true xs r0 ts K
+    pub holed : (between : Laid) → IsComma between → (xs : Trees) → AllSound look x.naming xs → (ts0 r0 : Input) → Listed true P c close (children xs) ts0 r0 → Known ts0.places → (b : Spacing) (ts : Input) (K : Spacing → Input → Type 0)
+        → ((d : Spacing) (m : Input) → K d m → kind m ≡ close) → says x.naming (both (separated look between xs) (when (ends_with_hole xs) (comma look))) b ts K → Gone true xs r0 ts K
     holed between co none a ts0 r0 h k b ts K peek q = record { d = b; m = ts; more = q; known = x.later ts0 r0 h.2 k; again = λ r t. (none, t, none_same (leaves_at look x.naming)) }
     holed between co (more hole none) a ts0 r0 h k b ts K peek q =
         let y = comma_on b ts _ q in record {

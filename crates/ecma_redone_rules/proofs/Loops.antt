@@ -9,8 +9,8 @@ use Rattle.ecma_tree.specs.Tree.{Tree, Trees, absent, do_while_stmt, for_stmt, u
 use Rattle.ecma_syntax.specs.Input.{Code, Input, Takes, alone, assigning, brk2, kind, kind2, lo, rest, span, unplaced, without_in}
 use Rattle.ecma_syntax.specs.Operators.{expression_level, plain_end}
 use Rattle.ecma_syntax.specs.Shape.{is_absent, is_item, is_statement, level}
-use Rattle.ecma_grammar.specs.Grammar.{Spells}
-use Rattle.ecma_grammar.specs.Parts.{By, Ends, Expr, part}
+use Rattle.ecma_grammar.specs.Grammar.{Produces}
+use Rattle.ecma_grammar.specs.Children.{By, Ends, Expr, child}
 use Rattle.ecma_grammar.specs.Statements.{Clause, ForExpression, ForRest, Sub, starts_head}
 use Rattle.ecma_edge.specs.Edges.{is_there, starts_with_word}
 use Rattle.ecma_layout.specs.Layout.{closing, in_parens, is_variables, laid, word}
@@ -18,12 +18,12 @@ use Rattle.ecma_layout.specs.Looks.{Laid, formats, gap, nothing, semi, semi_kept
 use Rattle.ecma_layout.specs.declared.look.Look.{Look}
 use Rattle.ecma_layout.specs.declared.look.Stand.{Stand}
 use Rattle.ecma_layout.specs.declared.look.Stand.TheVariants.{Alone}
-use Rattle.ecma_written.specs.Gaps.{Gap, Touching}
+use Rattle.ecma_written.specs.Spacings.{Spacing, Touching}
 use Rattle.ecma_written.specs.Lexicon.{Lexicon}
 use Rattle.ecma_written.specs.Means.{Known}
 use Rattle.ecma_written.specs.Texts.{mark_text}
 use Rattle.ecma_written.specs.Told.{Told, says}
-use Rattle.ecma_redone.specs.Redo.{Leaves, Plain, Same}
+use Rattle.ecma_redone.specs.Redo.{Leaves, Plain, Redone}
 use Rattle.ecma_redone_rules.proofs.Naming.{leaves_at}
 use Rattle.ecma_redone_rules.proofs.Begins.{Begins, fine, item_outer, same_start}
 use Rattle.ecma_redone_rules.proofs.Bodies.{follow_closed, item_closed, statement_on}
@@ -81,27 +81,27 @@ head_again ts0 m0 ts m (same_start e f) n h = head_bits (kind ts == let_kind) (k
     second (inl p) = inl (ne_eqb (kind2 ts) left_bracket_kind (λ q. n (sym (ap kind p.1) ∙ q)))
     second (inr p) = inr (ap (λ (k : ℕ). k == left_bracket_kind) p.0)
 
-as_for : (s : Span) (i t u b : Tree) (c : Code) (ts r : Input) → is_variables i ≡ false → ForExpression c s (part i (λ y. Spells i y)) (part t (λ y. Spells t y)) (part u (λ y. Spells u y)) (part b (λ y. Spells b y)) ts r → Spells (for_stmt s i t u b) c ts r
+as_for : (s : Span) (i t u b : Tree) (c : Code) (ts r : Input) → is_variables i ≡ false → ForExpression c s (child i (λ y. Produces i y)) (child t (λ y. Produces t y)) (child u (λ y. Produces u y)) (child b (λ y. Produces b y)) ts r → Produces (for_stmt s i t u b) c ts r
 as_for s (var_decl v k ds) t u b c ts r e h = absurd (true≢false e)
 as_for s (using_decl v w ds) t u b c ts r e h = absurd (true≢false e)
 as_for s _ t u b c ts r e h = h
 
 module _ (look : Look) (x : Lexicon look.style) where
-  pub record Bodied (t : Tree) (c : Code) (r0 : Input) (ts : Input) (K : Gap → Input → Type 0) : Type 0 where
-    pub d : Gap
+  pub record Bodied (t : Tree) (c : Code) (r0 : Input) (ts : Input) (K : Spacing → Input → Type 0) : Type 0 where
+    pub d : Spacing
     pub m : Input
     pub more : K d m
     pub known : Known r0.places
-    pub again : (kind m ≡ else_kind → kind r0 ≡ else_kind) → (u : Tree) × Sub (unplaced c) (part u (λ y. Spells u y)) ts m × Same (leaves_at look x.naming) Plain t u
+    pub again : (kind m ≡ else_kind → kind r0 ≡ else_kind) → (u : Tree) × Sub (unplaced c) (child u (λ y. Produces u y)) ts m × Redone (leaves_at look x.naming) Plain t u
 
-  pub body_on : (t : Tree) → Sound look x.naming Alone t → (c : Code) (ts0 r0 : Input) → Sub c (part t (λ y. Spells t y)) ts0 r0 → Known ts0.places → (b : Gap) (ts : Input) (K : Gap → Input → Type 0) → says x.naming (laid look Alone t · closing look t) b ts K → Bodied t c r0 ts K
+  pub body_on : (t : Tree) → Sound look x.naming Alone t → (c : Code) (ts0 r0 : Input) → Sub c (child t (λ y. Produces t y)) ts0 r0 → Known ts0.places → (b : Spacing) (ts : Input) (K : Spacing → Input → Type 0) → says x.naming (laid look Alone t · closing look t) b ts K → Bodied t c r0 ts K
   body_on t f c ts0 r0 h k b ts K q =
       let z = statement_on look x t f (item_outer t (statement_item t h.0)) (alone c) ts0 r0 h.1 k b ts K q in record {
         d = z.more.0;
         m = z.m;
         more = z.more.1;
         known = z.known;
-        again = λ l. let w = z.again (follow_closed t r0 z.m (item_closed t (statement_item t h.0)) l) in (w.tree, (alike is_statement re_is_statement (leaves_at look x.naming) Plain t w.tree w.same ∙ h.0, w.spelled), w.same);
+        again = λ l. let w = z.again (follow_closed t r0 z.m (item_closed t (statement_item t h.0)) l) in (w.tree, (alike is_statement re_is_statement (leaves_at look x.naming) Plain t w.tree w.same ∙ h.0, w.produced), w.same);
       }
 
   pub while_on : (s : Span) (t b : Tree) → Sound look x.naming Alone t → Sound look x.naming Alone b → (st : Stand) → Sound look x.naming st (while_stmt s t b)
@@ -117,7 +117,7 @@ module _ (look : Look) (x : Lexicon look.style) where
         begins = λ e. absurd (while_no_else (sym (keyed look x while_kind q.1) ∙ e));
         again = λ l. let w = z.again (l.other refl) in record {
           tree = while_stmt (span (lo ts) z.m.last) y.again.0 w.0;
-          spelled = (q.0, y.m, worded look x c while_kind q.1, y.again.1, w.1, refl);
+          produced = (q.0, y.m, worded look x c while_kind q.1, y.again.1, w.1, refl);
           directive = refl;
           quoted = λ p q. refl;
           same = record { so = λ n. ap₂ (λ (t u : Tree). while_stmt no_place t u) (y.again.2.so Plain) (w.2.so Plain) };
@@ -139,7 +139,7 @@ module _ (look : Look) (x : Lexicon look.style) where
         begins = λ e. absurd (do_no_else (sym (keyed look x do_kind q.1) ∙ e));
         again = λ l. let w = z.again (λ e. absurd (while_else (sym (keyed look x while_kind i.1) ∙ e))) in record {
           tree = do_while_stmt (span (lo ts) o.1.last) y.again.0 w.0;
-          spelled = (q.0, z.m, i.0, y.m, worded look x c do_kind q.1, w.1, worded look x c while_kind i.1, y.again.1, inserted (ended look x c plain_end o.2), refl);
+          produced = (q.0, z.m, i.0, y.m, worded look x c do_kind q.1, w.1, worded look x c while_kind i.1, y.again.1, inserted (ended look x c plain_end o.2), refl);
           directive = refl;
           quoted = λ p q. refl;
           same = record { so = λ n. ap₂ (λ (t u : Tree). do_while_stmt no_place t u) (y.again.2.so Plain) (w.2.so Plain) };
@@ -155,14 +155,14 @@ module _ (look : Look) (x : Lexicon look.style) where
       inserted (inl h) = inl h
       inserted (inr h) = inr (h.0, h.2)
 
-  record Claused (e : Tree) (c : Code) (close : ℕ) (r0 : Input) (ts : Input) (J : Gap → Input → Type 0) : Type 0 where
+  record Claused (e : Tree) (c : Code) (close : ℕ) (r0 : Input) (ts : Input) (J : Spacing → Input → Type 0) : Type 0 where
     n : Input
     more : J Touching n
     known : Known r0.places
-    again : (u : Tree) × Clause (unplaced c) close (part u (λ y. Spells u y)) ts n × Same (leaves_at look x.naming) Plain e u
+    again : (u : Tree) × Clause (unplaced c) close (child u (λ y. Produces u y)) ts n × Redone (leaves_at look x.naming) Plain e u
 
-  clause_on : (e : Tree) → Sound look x.naming Alone e → (c : Code) (close : ℕ) → nat_le close 60 ≡ true → closes close ≡ true → (v : Bool) → is_absent e ≡ v → (ts0 r0 : Input) → ((m : Input) × By v (ts0 ≡ m) (Expr expression_level c (part e (λ y. Spells e y)) ts0 m) × Takes c close m r0) → Known ts0.places
-      → (b : Gap) (ts : Input) (J : Gap → Input → Type 0) → says x.naming (when (not v) (gap look · laid look Alone e)) b ts (λ d m. (n : Input) × Told Div (mark_text close) d m n × J Touching n) → Claused e c close r0 ts J
+  clause_on : (e : Tree) → Sound look x.naming Alone e → (c : Code) (close : ℕ) → nat_le close 60 ≡ true → closes close ≡ true → (v : Bool) → is_absent e ≡ v → (ts0 r0 : Input) → ((m : Input) × By v (ts0 ≡ m) (Expr expression_level c (child e (λ y. Produces e y)) ts0 m) × Takes c close m r0) → Known ts0.places
+      → (b : Spacing) (ts : Input) (J : Spacing → Input → Type 0) → says x.naming (when (not v) (gap look · laid look Alone e)) b ts (λ d m. (n : Input) × Told Div (mark_text close) d m n × J Touching n) → Claused e c close r0 ts J
   clause_on e f c close p g true a ts0 r0 h k b ts J q = record {
     n = q.0;
     more = q.2;
@@ -179,18 +179,18 @@ module _ (look : Look) (x : Lexicon look.style) where
         again = (w.tree, (y.m, unabsent (is_absent w.tree) _ _ (alike is_absent re_is_absent (leaves_at look x.naming) Plain e w.tree w.same ∙ a) (expr_low look x.naming expression_level Alone e c ts y.m h.1.0 (omega arith) w), took look x c close o.1), w.same);
       }
 
-  record Rested (t u b : Tree) (c : Code) (r0 : Input) (ts : Input) (K : Gap → Input → Type 0) : Type 0 where
-    d : Gap
+  record Rested (t u b : Tree) (c : Code) (r0 : Input) (ts : Input) (K : Spacing → Input → Type 0) : Type 0 where
+    d : Spacing
     m : Input
     more : K d m
     known : Known r0.places
-    again : (kind m ≡ else_kind → kind r0 ≡ else_kind) → (v : Tree) × (w : Tree) × (y : Tree) × ForRest (unplaced c) (part v (λ y. Spells v y)) (part w (λ y. Spells w y)) (part y (λ z. Spells y z)) ts m × Same (leaves_at look x.naming) Plain t v × Same (leaves_at look x.naming) Plain u w × Same (leaves_at look x.naming) Plain b y
+    again : (kind m ≡ else_kind → kind r0 ≡ else_kind) → (v : Tree) × (w : Tree) × (y : Tree) × ForRest (unplaced c) (child v (λ y. Produces v y)) (child w (λ y. Produces w y)) (child y (λ z. Produces y z)) ts m × Redone (leaves_at look x.naming) Plain t v × Redone (leaves_at look x.naming) Plain u w × Redone (leaves_at look x.naming) Plain b y
 
   abbrev rest_laid : Tree → Tree → Tree → Laid
   rest_laid t u b = when (is_there t) (gap look · laid look Alone t) · semi_kept · when (is_there u) (gap look · laid look Alone u) · text (codes ")") · laid look Alone b · closing look b
 
-  rest_of : (t u b : Tree) → Sound look x.naming Alone t → Sound look x.naming Alone u → Sound look x.naming Alone b → (c : Code) (ts0 r0 : Input) → ForRest c (part t (λ y. Spells t y)) (part u (λ y. Spells u y)) (part b (λ y. Spells b y)) ts0 r0 → Known ts0.places
-      → (br : Gap) (ts : Input) (K : Gap → Input → Type 0) → says x.naming (rest_laid t u b) br ts K → Rested t u b c r0 ts K
+  rest_of : (t u b : Tree) → Sound look x.naming Alone t → Sound look x.naming Alone u → Sound look x.naming Alone b → (c : Code) (ts0 r0 : Input) → ForRest c (child t (λ y. Produces t y)) (child u (λ y. Produces u y)) (child b (λ y. Produces b y)) ts0 r0 → Known ts0.places
+      → (br : Spacing) (ts : Input) (K : Spacing → Input → Type 0) → says x.naming (rest_laid t u b) br ts K → Rested t u b c r0 ts K
   rest_of t u b f g j c ts0 r0 h k br ts K q =
       let y = clause_on t f c semicolon_kind refl refl (is_absent t) refl ts0 h.0 h.2 k br ts (λ d m. says x.naming (when (is_there u) (gap look · laid look Alone u) · text (codes ")") · laid look Alone b · closing look b) d m K)
       (subst (λ (v : Bool). says x.naming (when v (gap look · laid look Alone t)) br ts (λ d m. says x.naming (semi_kept · when (is_there u) (gap look · laid look Alone u) · text (codes ")") · laid look Alone b · closing look b) d m K)) (there t) q) in
@@ -223,7 +223,7 @@ module _ (look : Look) (x : Lexicon look.style) where
         begins = λ e. absurd (for_no_else (sym n ∙ e));
         again = λ i. let w = z.again (i.other refl) in let p = y.again (closed_calm y.m semicolon_kind (marked look x semicolon_kind e.1) refl) in record {
           tree = for_stmt (span (lo ts) z.m.last) (var_decl (span (lo o.0) y.m.last) k p.0) w.0 w.1 w.2;
-          spelled = (o.0, y.m, e.0, (q.0, worded look x c for_kind q.1, took look x c left_paren_kind o.1), p.1, refl, took look x c semicolon_kind e.1, w.3, refl);
+          produced = (o.0, y.m, e.0, (q.0, worded look x c for_kind q.1, took look x c left_paren_kind o.1), p.1, refl, took look x c semicolon_kind e.1, w.3, refl);
           directive = refl;
           quoted = λ p q. refl;
           same = record { so = λ n. same_four (ap (λ (us : Trees). var_decl no_place k us) (p.2.so Plain)) (w.4.so Plain) (w.5.so Plain) (w.6.so Plain) };
@@ -231,18 +231,18 @@ module _ (look : Look) (x : Lexicon look.style) where
       }
 
   -- what a head begins with, or nothing
-  record Started (e : Tree) (c : Code) (ts : Input) (J : Gap → Input → Type 0) : Type 0 where
+  record Started (e : Tree) (c : Code) (ts : Input) (J : Spacing → Input → Type 0) : Type 0 where
     m : Input
     n : Input
     more : J Touching n
     told : Takes (unplaced c) semicolon_kind m n
-    again : (u : Tree) × By (is_absent u) (ts ≡ m) ((starts_head ts ≡ true) × Expr expression_level (without_in (unplaced c)) (part u (λ y. Spells u y)) ts m) × Same (leaves_at look x.naming) Plain e u
+    again : (u : Tree) × By (is_absent u) (ts ≡ m) ((starts_head ts ≡ true) × Expr expression_level (without_in (unplaced c)) (child u (λ y. Produces u y)) ts m) × Redone (leaves_at look x.naming) Plain e u
 
   semicolon_bracket : (m : Input) → kind m ≡ semicolon_kind → kind m ≡ left_bracket_kind → ⊥
   semicolon_bracket m e f = absurd (omega arith)
 
-  start_on : (e : Tree) → Sound look x.naming Alone e → (c : Code) (v : Bool) → is_absent e ≡ v → (ts0 m0 : Input) → By v (ts0 ≡ m0) ((starts_head ts0 ≡ true) × Expr expression_level (without_in c) (part e (λ y. Spells e y)) ts0 m0) → Known ts0.places
-      → (b : Gap) (ts : Input) (J : Gap → Input → Type 0) → says x.naming (laid look Alone e) b ts (λ d m. (n : Input) × Told Div (mark_text semicolon_kind) d m n × J Touching n) → (Started e c ts J) × Known m0.places
+  start_on : (e : Tree) → Sound look x.naming Alone e → (c : Code) (v : Bool) → is_absent e ≡ v → (ts0 m0 : Input) → By v (ts0 ≡ m0) ((starts_head ts0 ≡ true) × Expr expression_level (without_in c) (child e (λ y. Produces e y)) ts0 m0) → Known ts0.places
+      → (b : Spacing) (ts : Input) (J : Spacing → Input → Type 0) → says x.naming (laid look Alone e) b ts (λ d m. (n : Input) × Told Div (mark_text semicolon_kind) d m n × J Touching n) → (Started e c ts J) × Known m0.places
   start_on e f c true a ts0 m0 h k b ts J q =
       let i = subst (λ (l : Laid). says x.naming l b ts (λ d m. (n : Input) × Told Div (mark_text semicolon_kind) d m n × J Touching n)) (laid_absent look e a) q in
       (record { m = ts; n = i.0; more = i.2; told = took look x c semicolon_kind i.1; again = (absent, refl, absent_same (leaves_at look x.naming) Plain e a) }, subst (λ (i : Input). Known i.places) h k)
@@ -266,11 +266,11 @@ module _ (look : Look) (x : Lexicon look.style) where
         y.known,
       )
 
-  pub re_variables : (l : Leaves) (t u : Tree) → Same l Plain t u → is_variables t ≡ false → is_variables u ≡ false
+  pub re_variables : (l : Leaves) (t u : Tree) → Redone l Plain t u → is_variables t ≡ false → is_variables u ≡ false
   re_variables l t u s e = alike is_variables re_is_variables l Plain t u s ∙ e
 
   pub for_expression : (s : Span) (i t u b : Tree) → is_variables i ≡ false → Sound look x.naming Alone i → Sound look x.naming Alone t → Sound look x.naming Alone u → Sound look x.naming Alone b → (st : Stand) (c : Code) (ts0 r0 : Input)
-      → ForExpression c s (part i (λ y. Spells i y)) (part t (λ y. Spells t y)) (part u (λ y. Spells u y)) (part b (λ y. Spells b y)) ts0 r0 → Known ts0.places → (br : Gap) (ts : Input) (K : Gap → Input → Type 0) → says x.naming (full look st (for_stmt s i t u b)) br ts K → Out look x.naming st (for_stmt s i t u b) c ts0 r0 br ts K
+      → ForExpression c s (child i (λ y. Produces i y)) (child t (λ y. Produces t y)) (child u (λ y. Produces u y)) (child b (λ y. Produces b y)) ts0 r0 → Known ts0.places → (br : Spacing) (ts : Input) (K : Spacing → Input → Type 0) → says x.naming (full look st (for_stmt s i t u b)) br ts K → Out look x.naming st (for_stmt s i t u b) c ts0 r0 br ts K
   for_expression s i t u b e d f g j st c ts0 r0 h l br ts K q =
       let o = q.2 in
       let y = start_on i d c (is_absent i) refl h.0 h.1 h.4 (x.later h.3.0 h.0 h.3.2.2 (x.later ts0 h.3.0 h.3.1.3 l)) _ o.0 (λ d m. says x.naming (rest_laid t u b) d m K) o.2 in
@@ -286,7 +286,7 @@ module _ (look : Look) (x : Lexicon look.style) where
         begins = λ e. absurd (for_no_else (sym n ∙ e));
         again = λ k. let w = z.again (k.other refl) in record {
           tree = for_stmt (span (lo ts) z.m.last) p.again.0 w.0 w.1 w.2;
-          spelled = as_for (span (lo ts) z.m.last) p.again.0 w.0 w.1 w.2 (unplaced c) ts z.m (re_variables (leaves_at look x.naming) i p.again.0 p.again.2 e)
+          produced = as_for (span (lo ts) z.m.last) p.again.0 w.0 w.1 w.2 (unplaced c) ts z.m (re_variables (leaves_at look x.naming) i p.again.0 p.again.2 e)
               (o.0, p.m, p.n, (q.0, worded look x c for_kind q.1, took look x c left_paren_kind o.1), p.again.1, p.told, w.3, refl);
           directive = refl;
           quoted = λ p q. refl;
@@ -310,7 +310,7 @@ module _ (look : Look) (x : Lexicon look.style) where
         begins = λ e. absurd (for_no_else (sym n ∙ e));
         again = λ i. let k = z.again (i.other refl) in let p = y.again (closed_calm y.m semicolon_kind (marked look x semicolon_kind e.1) refl) in record {
           tree = for_stmt (span (lo ts) z.m.last) (using_decl (span (lo o.0) y.m.last) w p.0) k.0 k.1 k.2;
-          spelled = (o.0, y.m, e.0, (q.0, worded look x c for_kind q.1, took look x c left_paren_kind o.1), y.starts h.4, p.1, refl, took look x c semicolon_kind e.1, k.3, refl);
+          produced = (o.0, y.m, e.0, (q.0, worded look x c for_kind q.1, took look x c left_paren_kind o.1), y.starts h.4, p.1, refl, took look x c semicolon_kind e.1, k.3, refl);
           directive = refl;
           quoted = λ p q. refl;
           same = record { so = λ n. same_four (ap (λ (us : Trees). using_decl no_place w us) (p.2.so Plain)) (k.4.so Plain) (k.5.so Plain) (k.6.so Plain) };

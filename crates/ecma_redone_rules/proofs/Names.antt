@@ -5,32 +5,32 @@ use Rattle.ecma_token.specs.declared.place.Span.{Span}
 use Rattle.ecma_tree.specs.Tree.{Tree, absent, ident}
 use Rattle.ecma_syntax.specs.Input.{Code, Input, brk, kind, lo, span, unplaced}
 use Rattle.ecma_syntax.specs.Shape.{is_absent}
-use Rattle.ecma_grammar.specs.Grammar.{Spells}
-use Rattle.ecma_grammar.specs.Parts.{By, Sorted, is_ident, part}
+use Rattle.ecma_grammar.specs.Grammar.{Produces}
+use Rattle.ecma_grammar.specs.Children.{By, Sorted, is_ident, child}
 use Rattle.ecma_layout.specs.Layout.{laid}
 use Rattle.ecma_layout.specs.Looks.{blank, when, ◌·◌}
 use Rattle.ecma_layout.specs.declared.look.Look.{Look}
 use Rattle.ecma_layout.specs.declared.look.Stand.TheVariants.{Alone}
-use Rattle.ecma_written.specs.Gaps.{Gap, Touching, is_broken}
+use Rattle.ecma_written.specs.Spacings.{Spacing, Touching, is_broken}
 use Rattle.ecma_written.specs.Lexicon.{Lexicon}
 use Rattle.ecma_written.specs.Means.{Known}
 use Rattle.ecma_written.specs.Told.{says}
-use Rattle.ecma_redone.specs.Redo.{Plain, Same}
+use Rattle.ecma_redone.specs.Redo.{Plain, Redone}
 use Rattle.ecma_redone_rules.proofs.Naming.{leaves_at}
 use Rattle.ecma_redone_rules.proofs.Ends.{absent_same, unabsent}
 use Rattle.ecma_redone_rules.proofs.Shapes.{alike, re_is_absent}
 use Rattle.ecma_redone_rules.proofs.Tokens.{named}
 
 module _ (look : Look) (x : Lexicon look.style) where
-  pub record Name (i : Tree) (c : Code) (ts0 r0 : Input) (b : Gap) (ts : Input) (K : Gap → Input → Type 0) : Type 0 where
+  pub record Name (i : Tree) (c : Code) (ts0 r0 : Input) (b : Spacing) (ts : Input) (K : Spacing → Input → Type 0) : Type 0 where
     pub m : Input
     pub more : K Touching m
     pub known : Known r0.places
     pub broke : brk ts ≡ is_broken b
     pub first : kind ts ≡ else_kind → kind ts0 ≡ else_kind
-    pub again : (u : Tree) × Sorted is_ident (unplaced c) (part u (λ y. Spells u y)) ts m × Same (leaves_at look x.naming) Plain i u
+    pub again : (u : Tree) × Sorted is_ident (unplaced c) (child u (λ y. Produces u y)) ts m × Redone (leaves_at look x.naming) Plain i u
 
-  pub id_on : (i : Tree) (c : Code) (ts0 r0 : Input) → Sorted is_ident c (part i (λ y. Spells i y)) ts0 r0 → Known ts0.places → (b : Gap) (ts : Input) (K : Gap → Input → Type 0) → says x.naming (laid look Alone i) b ts K → Name i c ts0 r0 b ts K
+  pub id_on : (i : Tree) (c : Code) (ts0 r0 : Input) → Sorted is_ident c (child i (λ y. Produces i y)) ts0 r0 → Known ts0.places → (b : Spacing) (ts : Input) (K : Spacing → Input → Type 0) → says x.naming (laid look Alone i) b ts K → Name i c ts0 r0 b ts K
   id_on (ident t n) c ts0 r0 h k b ts K q =
       let z = named look x c n ts0 r0 ts q.0 h.1.0 k q.1.told in record {
         m = q.0;
@@ -42,14 +42,14 @@ module _ (look : Look) (x : Lexicon look.style) where
       }
   id_on _ c ts0 r0 h k b ts K q = absurd (true≢false (sym h.0))
 
-  pub record Maybe_name (i : Tree) (c : Code) (r0 : Input) (ts : Input) (K : Gap → Input → Type 0) : Type 0 where
-    pub d : Gap
+  pub record Maybe_name (i : Tree) (c : Code) (r0 : Input) (ts : Input) (K : Spacing → Input → Type 0) : Type 0 where
+    pub d : Spacing
     pub m : Input
     pub more : K d m
     pub known : Known r0.places
-    pub again : (u : Tree) × By (is_absent u) (ts ≡ m) (Sorted is_ident (unplaced c) (part u (λ y. Spells u y)) ts m) × Same (leaves_at look x.naming) Plain i u
+    pub again : (u : Tree) × By (is_absent u) (ts ≡ m) (Sorted is_ident (unplaced c) (child u (λ y. Produces u y)) ts m) × Redone (leaves_at look x.naming) Plain i u
 
-  pub maybe_on : (i : Tree) (c : Code) (v : Bool) → is_absent i ≡ v → (ts0 r0 : Input) → By v (ts0 ≡ r0) (Sorted is_ident c (part i (λ y. Spells i y)) ts0 r0) → Known ts0.places → (b : Gap) (ts : Input) (K : Gap → Input → Type 0) → says x.naming (when (not v) (blank · laid look Alone i)) b ts K → Maybe_name i c r0 ts K
+  pub maybe_on : (i : Tree) (c : Code) (v : Bool) → is_absent i ≡ v → (ts0 r0 : Input) → By v (ts0 ≡ r0) (Sorted is_ident c (child i (λ y. Produces i y)) ts0 r0) → Known ts0.places → (b : Spacing) (ts : Input) (K : Spacing → Input → Type 0) → says x.naming (when (not v) (blank · laid look Alone i)) b ts K → Maybe_name i c r0 ts K
   maybe_on i c true e ts0 r0 h k b ts K q = record { d = b; m = ts; more = q; known = subst (λ (i : Input). Known i.places) h k; again = (absent, refl, absent_same (leaves_at look x.naming) Plain i e) }
   maybe_on i c false e ts0 r0 h k b ts K q = let z = id_on i c ts0 r0 h k _ ts K q in record {
     d = Touching;

@@ -9,18 +9,18 @@ use Rattle.ecma_syntax.specs.Input.{Code, Input, TakesWord, assigning, kind, lo,
 use Rattle.ecma_syntax.specs.Operators.{member_level, new_level, other_end}
 use Rattle.ecma_syntax.specs.Shape.{level}
 use Rattle.ecma_grammar.specs.Expressions.{Arguments}
-use Rattle.ecma_grammar.specs.Grammar.{Spells, parts}
+use Rattle.ecma_grammar.specs.Grammar.{Produces, children}
 use Rattle.ecma_edge.specs.Edges.{starts_with_word}
 use Rattle.ecma_layout.specs.Layout.{comma, has_arguments, in_parens, is_head as is_head_stand, laid, separated}
 use Rattle.ecma_layout.specs.Looks.{formats, nothing, when}
 use Rattle.ecma_layout.specs.declared.look.Look.{Look}
 use Rattle.ecma_layout.specs.declared.look.Stand.{Stand}
 use Rattle.ecma_layout.specs.declared.look.Stand.TheVariants.{Alone, Head}
-use Rattle.ecma_written.specs.Gaps.{Gap, Touching}
+use Rattle.ecma_written.specs.Spacings.{Spacing, Touching}
 use Rattle.ecma_written.specs.Lexicon.{Lexicon}
 use Rattle.ecma_written.specs.Means.{Known}
 use Rattle.ecma_written.specs.Told.{says}
-use Rattle.ecma_redone.specs.Redo.{AllSame, Headed, Plain, is_head, redo, redos}
+use Rattle.ecma_redone.specs.Redo.{AllRedone, Headed, Plain, is_head, redo, redos}
 use Rattle.ecma_redone.specs.Written.{given_none, mode_of, new_arguments}
 use Rattle.ecma_redone_rules.proofs.Naming.{leaves_at}
 use Rattle.ecma_redone_rules.proofs.Begins.{led, level_part}
@@ -64,20 +64,20 @@ callee_high e (inr h) = omega arith
 
 module _ (look : Look) (x : Lexicon look.style) where
   -- arguments in parentheses, given or none
-  record Given (a : Tree) (c : Code) (r0 : Input) (b : Gap) (ts : Input) (K : Gap → Input → Type 0) : Type 0 where
+  record Given (a : Tree) (c : Code) (r0 : Input) (b : Spacing) (ts : Input) (K : Spacing → Input → Type 0) : Type 0 where
     m : Input
     more : K Touching m
     known : Known r0.places
     lead : kind ts ≡ left_paren_kind
-    again : (us : Trees) × Arguments (unplaced c) (parts us) ts m × AllSame (leaves_at look x.naming) Plain (items_of a) us
+    again : (us : Trees) × Arguments (unplaced c) (children us) ts m × AllRedone (leaves_at look x.naming) Plain (items_of a) us
 
-  given : (xs : Trees) → AllSound look x.naming xs → (c : Code) (ts0 r0 : Input) → Arguments c (parts xs) ts0 r0 → Known ts0.places → (b : Gap) (ts : Input) (K : Gap → Input → Type 0) → says x.naming (in_parens (separated look (comma look) xs)) b ts K → Given (list xs) c r0 b ts K
+  given : (xs : Trees) → AllSound look x.naming xs → (c : Code) (ts0 r0 : Input) → Arguments c (children xs) ts0 r0 → Known ts0.places → (b : Spacing) (ts : Input) (K : Spacing → Input → Type 0) → says x.naming (in_parens (separated look (comma look) xs)) b ts K → Given (list xs) c r0 b ts K
   given xs a c ts0 r0 h l b ts K q =
       let z = arguments_on look x c xs a h.0 r0 h.2 (x.later ts0 h.0 h.1.2 l) _ q.0 _ (λ d m o. marked look x right_paren_kind o.1) q.2 in
       let o = z.more in let w = z.again o.0 (took look x c right_paren_kind o.1) in
       record { m = o.0; more = o.2; known = z.known; lead = marked look x left_paren_kind q.1; again = (w.0, (q.0, took look x c left_paren_kind q.1, w.1), w.2) }
 
-  none_given : (c : Code) (r0 : Input) → Known r0.places → (b : Gap) (ts : Input) (K : Gap → Input → Type 0) → says x.naming (in_parens nothing) b ts K → Given absent c r0 b ts K
+  none_given : (c : Code) (r0 : Input) → Known r0.places → (b : Spacing) (ts : Input) (K : Spacing → Input → Type 0) → says x.naming (in_parens nothing) b ts K → Given absent c r0 b ts K
   none_given c r0 l b ts K q = let o = q.2 in
       record { m = o.0; more = o.2; known = l; lead = marked look x left_paren_kind q.1; again = (none, (q.0, took look x c left_paren_kind q.1, took look x c right_paren_kind o.1), none_same (leaves_at look x.naming)) }
 
@@ -104,10 +104,10 @@ module _ (look : Look) (x : Lexicon look.style) where
       by false v e = refl
 
   -- `new` and its callee, and then arguments or none
-  new_on : (s : Span) (e a : Tree) → Sound look x.naming Head e → (st : Stand) (c : Code) (ts0 m0 n0 r0 : Input) → TakesWord c new_kind ts0 m0 → Spells e (assigning c) m0 n0 → ((level e ≡ new_level) ⊎ (member_level ≤ level e)) → Known ts0.places
-      → ((b : Gap) (ts : Input) (K : Gap → Input → Type 0) → Known n0.places → says x.naming (in_parens (laid look Alone a)) b ts K → Given a c r0 b ts K) → (asks st a ≡ false → Known n0.places → Known r0.places)
+  new_on : (s : Span) (e a : Tree) → Sound look x.naming Head e → (st : Stand) (c : Code) (ts0 m0 n0 r0 : Input) → TakesWord c new_kind ts0 m0 → Produces e (assigning c) m0 n0 → ((level e ≡ new_level) ⊎ (member_level ≤ level e)) → Known ts0.places
+      → ((b : Spacing) (ts : Input) (K : Spacing → Input → Type 0) → Known n0.places → says x.naming (in_parens (laid look Alone a)) b ts K → Given a c r0 b ts K) → (asks st a ≡ false → Known n0.places → Known r0.places)
       → is_args a ≡ true
-      → (b : Gap) (ts : Input) (K : Gap → Input → Type 0) → says x.naming (full look st (new_expr s e a)) b ts K → Out look x.naming st (new_expr s e a) c ts0 r0 b ts K
+      → (b : Spacing) (ts : Input) (K : Spacing → Input → Type 0) → says x.naming (full look st (new_expr s e a)) b ts K → Out look x.naming st (new_expr s e a) c ts0 r0 b ts K
   new_on s e a f st c ts0 m0 n0 r0 t h v l g without p b ts K q =
       let y = plain_part look x.naming Head e f (level_part e (callee_there e v)) (assigning c) m0 n0 h (x.later ts0 m0 t.3 l) _ q.0 _ (skip x.naming (starts_with_word e || formats look) _ _ _ q.2) in
       by y (asks st a) refl y.more
@@ -123,7 +123,7 @@ module _ (look : Look) (x : Lexicon look.style) where
         begins = led ts0 r0 ts z.m new_kind t.0 (keyed look x new_kind q.1) refl;
         again = λ k. let w = y.again (follow_head e n0 y.m (callee_high e v) z.lead) in record {
           tree = new_expr (span (lo ts) z.m.last) w.tree (list z.again.0);
-          spelled = (q.0, y.m, worded look x c new_kind q.1, (callee_level look x.naming e w.tree w.same v, w.spelled), z.again.1, refl);
+          produced = (q.0, y.m, worded look x c new_kind q.1, (callee_level look x.naming e w.tree w.same v, w.produced), z.again.1, refl);
           directive = refl;
           quoted = λ p q. refl;
           same = record { so = λ n. ap₂ (λ (r w : Tree). new_expr no_place r w) (w.same.so Headed) (ap (λ (us : Trees). list us) (z.again.2.so Plain) ∙ args_yes st a p i) };
@@ -139,14 +139,14 @@ module _ (look : Look) (x : Lexicon look.style) where
         begins = led ts0 r0 ts y.m new_kind t.0 (keyed look x new_kind q.1) refl;
         again = λ k. let w = y.again (follow_none e n0 y.m (callee_high e v)) in record {
           tree = new_expr (span (lo ts) y.m.last) w.tree absent;
-          spelled = (q.0, worded look x c new_kind q.1, inr (callee_level look x.naming e w.tree w.same v), w.spelled, low_goes (unplaced c) other_end y.m (k.quiet (calm_asked st s e a i)), refl);
+          produced = (q.0, worded look x c new_kind q.1, inr (callee_level look x.naming e w.tree w.same v), w.produced, low_goes (unplaced c) other_end y.m (k.quiet (calm_asked st s e a i)), refl);
           directive = refl;
           quoted = λ p q. refl;
           same = record { so = λ n. ap₂ (λ (r w : Tree). new_expr no_place r w) (w.same.so Headed) (args_no st a p i) };
         };
       }
 
-  arguments_known : (c : Code) (xs : Trees) (st : Stand) (n0 r0 : Input) → asks st (list xs) ≡ false → Arguments c (parts xs) n0 r0 → Known n0.places → Known r0.places
+  arguments_known : (c : Code) (xs : Trees) (st : Stand) (n0 r0 : Input) → asks st (list xs) ≡ false → Arguments c (children xs) n0 r0 → Known n0.places → Known r0.places
   arguments_known c none st n0 r0 e h l = x.later h.0 r0 h.2.2 (x.later n0 h.0 h.1.2 l)
   arguments_known c (more t ts) st n0 r0 e h l = absurd (true≢false (sym (middle (formats look)) ∙ e))
     where

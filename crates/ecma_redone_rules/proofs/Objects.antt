@@ -8,13 +8,13 @@ use Rattle.ecma_syntax.specs.Input.{Code, Input, binding, brk, in_body, kind, lo
 use Rattle.ecma_syntax.specs.Operators.{assignment_level}
 use Rattle.ecma_syntax.specs.Shape.{is_item_pat, is_prop, is_rest, level}
 use Rattle.ecma_grammar.specs.Functions.{MethodHead}
-use Rattle.ecma_grammar.specs.Parts.{Sorted, is_module_item}
+use Rattle.ecma_grammar.specs.Children.{Sorted, is_module_item}
 use Rattle.ecma_layout.specs.Layout.{comma_line, is_bracketed_key, method_marks}
 use Rattle.ecma_layout.specs.Looks.{blank, formats, gap}
 use Rattle.ecma_layout.specs.declared.look.Look.{Look}
 use Rattle.ecma_layout.specs.declared.look.Stand.{Stand}
-use Rattle.ecma_layout.specs.declared.look.Stand.TheVariants.{Alone, Body as BodyStand}
-use Rattle.ecma_written.specs.Gaps.{Gap, Spaced, Touching, blanked, is_broken}
+use Rattle.ecma_layout.specs.declared.look.Stand.TheVariants.{Alone, Body as BodyState}
+use Rattle.ecma_written.specs.Spacings.{Spacing, Spaced, Touching, blanked, is_broken}
 use Rattle.ecma_written.specs.Lexicon.{Lexicon}
 use Rattle.ecma_written.specs.Means.{Known}
 use Rattle.ecma_written.specs.Told.{says}
@@ -71,7 +71,7 @@ dots_else e = omega arith
 
 module _ (look : Look) (x : Lexicon look.style) where
   -- a blank, or where formatting writes one
-  either_blank : (v : Bool) (b : Gap) (ts : Input) (K : Gap → Input → Type 0) → says x.naming (if v then gap look else blank) b ts K → (d : Gap) × K d ts
+  either_blank : (v : Bool) (b : Spacing) (ts : Input) (K : Spacing → Input → Type 0) → says x.naming (if v then gap look else blank) b ts K → (d : Spacing) × K d ts
   either_blank true b ts K q = (gapped (formats look) b, skip x.naming (formats look) b ts K q)
   either_blank false b ts K q = (blanked b, q)
 
@@ -90,7 +90,7 @@ module _ (look : Look) (x : Lexicon look.style) where
         begins = y.first;
         again = λ l. let o = v.again (follow_on st (key_value_prop s k e) Alone e r0 r0 v.m refl (above assignment_level (level e) (omega arith) h.4.0) l) in record {
           tree = key_value_prop (span (lo ts) v.m.last) y.again.0 o.tree;
-          spelled = (y.m, t.0, (y.again.1, y.again.2), took look x c colon_kind t.1, expr_low look x.naming assignment_level Alone e (with_in c) t.0 v.m h.4.0 (omega arith) o, refl);
+          produced = (y.m, t.0, (y.again.1, y.again.2), took look x c colon_kind t.1, expr_low look x.naming assignment_level Alone e (with_in c) t.0 v.m h.4.0 (omega arith) o, refl);
           directive = refl;
           quoted = λ p q. refl;
           same = record { so = λ n. ap₂ (λ (t u : Tree). key_value_prop no_place t u) (y.again.3 Plain) (o.same.so Plain) };
@@ -110,7 +110,7 @@ module _ (look : Look) (x : Lexicon look.style) where
         begins = λ e. absurd (dots_else (sym (marked look x dot_dot_dot_kind q.1) ∙ e));
         again = λ g. let w = y.again (follow_on st (spread_element s e) Alone e r0 r0 y.m refl n g) in record {
           tree = spread_element (span (lo ts) y.m.last) w.tree;
-          spelled = (q.0, took look x c dot_dot_dot_kind q.1, expr_low look x.naming assignment_level Alone e (with_in c) q.0 y.m h.2.0 (omega arith) w, refl);
+          produced = (q.0, took look x c dot_dot_dot_kind q.1, expr_low look x.naming assignment_level Alone e (with_in c) q.0 y.m h.2.0 (omega arith) w, refl);
           directive = refl;
           quoted = λ p q. refl;
           same = record { so = λ n. ap (λ (t : Tree). spread_element no_place t) (w.same.so Plain) };
@@ -133,7 +133,7 @@ module _ (look : Look) (x : Lexicon look.style) where
         begins = z.first;
         again = λ g. let w = y.again (follow_on st (assign_prop s k e) Alone e r0 r0 y.m refl n g) in record {
           tree = assign_prop (span (lo ts) y.m.last) z.again.0 w.tree;
-          spelled = (z.m, j.0, z.again.1, took look x c assign_kind j.1, expr_low look x.naming assignment_level Alone e (with_in c) j.0 y.m h.4.0 (omega arith) w, refl);
+          produced = (z.m, j.0, z.again.1, took look x c assign_kind j.1, expr_low look x.naming assignment_level Alone e (with_in c) j.0 y.m h.4.0 (omega arith) w, refl);
           directive = refl;
           quoted = λ p q. refl;
           same = record { so = λ n. ap₂ (λ (t u : Tree). assign_prop no_place t u) (z.again.2.so Plain) (w.same.so Plain) };
@@ -152,7 +152,7 @@ module _ (look : Look) (x : Lexicon look.style) where
         begins = led ts0 r0 ts o.0 left_brace_kind h.1.0 (marked look x left_brace_kind q.1) refl;
         again = λ g. record {
           tree = object_lit (span (lo ts) o.0.last) none;
-          spelled = (q.0, took look x c left_brace_kind q.1, took look x c right_brace_kind o.1, refl);
+          produced = (q.0, took look x c left_brace_kind q.1, took look x c right_brace_kind o.1, refl);
           directive = refl;
           quoted = λ p q. refl;
           same = record { so = λ n. refl };
@@ -174,7 +174,7 @@ module _ (look : Look) (x : Lexicon look.style) where
         begins = led ts0 r0 ts o.0 left_brace_kind h.1.0 (marked look x left_brace_kind q.1) refl;
         again = λ g. let w = z.again o.0 (took look x c right_brace_kind o.1) in record {
           tree = object_lit (span (lo ts) o.0.last) w.0;
-          spelled = (q.0, took look x c left_brace_kind q.1, w.1, refl);
+          produced = (q.0, took look x c left_brace_kind q.1, w.1, refl);
           directive = refl;
           quoted = λ p q. refl;
           same = record { so = λ n. ap (λ (us : Trees). object_lit no_place us) (w.2.so Plain) };
@@ -197,7 +197,7 @@ module _ (look : Look) (x : Lexicon look.style) where
         begins = λ e. absurd (get_else (sym (keyed look x get_kind q.1) ∙ e));
         again = λ g. record {
           tree = getter_prop (span (lo ts) z.m.last) y.again.0 (block_stmt (span (lo i.0) z.m.last) z.again.0);
-          spelled = (q.0, y.m, j.0, i.0, worded look x c get_kind q.1, (y.again.1, y.again.2), took look x d left_paren_kind j.1, took look x d right_paren_kind i.1, (z.again.1, z.again.2, z.again.3, refl), refl);
+          produced = (q.0, y.m, j.0, i.0, worded look x c get_kind q.1, (y.again.1, y.again.2), took look x d left_paren_kind j.1, took look x d right_paren_kind i.1, (z.again.1, z.again.2, z.again.3, refl), refl);
           directive = refl;
           quoted = λ p q. refl;
           same = record { so = λ n. ap₂ (λ (t : Tree) (us : Trees). getter_prop no_place t (block_stmt no_place us)) (y.again.3 Plain) (z.again.4.so Plain) };
@@ -223,7 +223,7 @@ module _ (look : Look) (x : Lexicon look.style) where
         begins = λ e. absurd (set_else (sym (keyed look x set_kind q.1) ∙ e));
         again = λ g. record {
           tree = setter_prop (span (lo ts) z.m.last) y.again.0 w.tree (block_stmt (span (lo i.0) z.m.last) z.again.0);
-          spelled = (
+          produced = (
             q.0,
             y.m,
             j.0,
@@ -234,7 +234,7 @@ module _ (look : Look) (x : Lexicon look.style) where
             took look x d left_paren_kind j.1,
             alike (is_item_pat true) (re_is_item_pat true) (leaves_at look x.naming) Plain e w.tree w.same ∙ h.8,
             alike is_rest re_is_rest (leaves_at look x.naming) Plain e w.tree w.same ∙ h.9,
-            w.spelled,
+            w.produced,
             took look x d right_paren_kind i.1,
             (z.again.1, z.again.2, z.again.3, refl),
             refl,
@@ -248,8 +248,8 @@ module _ (look : Look) (x : Lexicon look.style) where
   -- ---- methods
 
   -- `async` and a star
-  pub record Marks (g a : Bool) (c : Code) (ts0 r0 : Input) (b : Gap) (ts : Input) (K : Gap → Input → Type 0) : Type 0 where
-    pub d : Gap
+  pub record Marks (g a : Bool) (c : Code) (ts0 r0 : Input) (b : Spacing) (ts : Input) (K : Spacing → Input → Type 0) : Type 0 where
+    pub d : Spacing
     pub m : Input
     pub more : K d m
     pub known : Known r0.places
@@ -257,7 +257,7 @@ module _ (look : Look) (x : Lexicon look.style) where
     pub first : (kind m ≡ else_kind → kind r0 ≡ else_kind) → kind ts ≡ else_kind → kind ts0 ≡ else_kind
     pub again : brk m ≡ is_broken d → MethodHead g a (unplaced c) ts m
 
-  pub marks_on : (g a : Bool) (c : Code) (ts0 r0 : Input) → MethodHead g a c ts0 r0 → Known ts0.places → (b : Gap) (ts : Input) (K : Gap → Input → Type 0) → says x.naming (method_marks a g) b ts K → Marks g a c ts0 r0 b ts K
+  pub marks_on : (g a : Bool) (c : Code) (ts0 r0 : Input) → MethodHead g a c ts0 r0 → Known ts0.places → (b : Spacing) (ts : Input) (K : Spacing → Input → Type 0) → says x.naming (method_marks a g) b ts K → Marks g a c ts0 r0 b ts K
   marks_on false false c ts0 r0 h l b ts K q = record {
     d = b;
     m = ts;
@@ -300,7 +300,7 @@ module _ (look : Look) (x : Lexicon look.style) where
   method_on s k t ps none p ss g a n f j st c ts0 r0 h l b ts K q =
       let w = marks_on g a c ts0 h.1.0 h.1.2 l b ts _ q in
       let y = key_on look x k n c h.1.0 h.1.1 (h.0, h.1.3) w.known w.d w.m _ w.more in
-      let v = tail_on look x BodyStand ps p ss g a f j (setting false c) h.1.1 r0 h.1.4 y.known _ y.m K (skip x.naming (formats look) y.d y.m _ y.more) in record {
+      let v = tail_on look x BodyState ps p ss g a f j (setting false c) h.1.1 r0 h.1.4 y.known _ y.m K (skip x.naming (formats look) y.d y.m _ y.more) in record {
         d = Touching;
         m = v.m;
         more = v.more;
@@ -310,7 +310,7 @@ module _ (look : Look) (x : Lexicon look.style) where
         begins = w.first (y.first);
         again = λ o. record {
           tree = method_prop (span (lo ts) v.m.last) y.again.0 (function (span (lo ts) v.m.last) v.us none (block_stmt v.v v.vs) g a);
-          spelled = (y.again.1, (w.m, y.m, w.again y.broke, y.again.2, v.spelled), refl, refl);
+          produced = (y.again.1, (w.m, y.m, w.again y.broke, y.again.2, v.produced), refl, refl);
           directive = refl;
           quoted = λ p q. refl;
           same = record { so = λ n. same_functions (λ (k f : Tree). method_prop no_place k f) g a (y.again.3 Plain) (v.same_us.so Plain) (v.same_vs.so Plain) };

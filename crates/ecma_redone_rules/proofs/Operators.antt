@@ -9,7 +9,7 @@ use Rattle.ecma_syntax.specs.Input.{Code, Input, assigning, escaped, kind, kind2
 use Rattle.ecma_syntax.specs.Operators.{assignment_level, coalesce_level, new_level, unary_level}
 use Rattle.ecma_syntax.specs.Shape.{level}
 use Rattle.ecma_grammar.specs.Expressions.{is_unary_op, is_update_op}
-use Rattle.ecma_grammar.specs.Grammar.{Spells}
+use Rattle.ecma_grammar.specs.Grammar.{Produces}
 use Rattle.ecma_grammar_complete_base.proofs.Trees.{begins, by_unary, by_update, covered, starts}
 use Rattle.ecma_edge.specs.Edges.{gap_of_unary, is_word_operator, starts_with_word}
 use Rattle.ecma_pieces.specs.Pieces.{Blank}
@@ -17,7 +17,7 @@ use Rattle.ecma_layout.specs.Looks.{formats, gap_or, one, when}
 use Rattle.ecma_layout.specs.declared.look.Look.{Look}
 use Rattle.ecma_layout.specs.declared.look.Stand.{Stand}
 use Rattle.ecma_layout.specs.declared.look.Stand.TheVariants.{Alone}
-use Rattle.ecma_written.specs.Gaps.{Gap, Touching, is_broken}
+use Rattle.ecma_written.specs.Spacings.{Spacing, Touching, is_broken}
 use Rattle.ecma_written.specs.Lexicon.{Lexicon}
 use Rattle.ecma_written.specs.Told.{says}
 use Rattle.ecma_redone.specs.Redo.{Plain}
@@ -42,7 +42,7 @@ asked_calm m e n = subst (λ (k : ℕ). calm_of k (kind2 m) ≡ true) (sym e) (b
     by false e = refl
 
 module _ (look : Look) (x : Lexicon look.style) where
-  unary_gap : (op : ℕ) (a : Tree) (v : Bool) (b : Gap) (ts : Input) (K : Gap → Input → Type 0) → says x.naming (if v then gap_or look (starts_with_word a) else when (gap_of_unary op a) (one Blank)) b ts K → (d : Gap) × K d ts
+  unary_gap : (op : ℕ) (a : Tree) (v : Bool) (b : Spacing) (ts : Input) (K : Spacing → Input → Type 0) → says x.naming (if v then gap_or look (starts_with_word a) else when (gap_of_unary op a) (one Blank)) b ts K → (d : Spacing) × K d ts
   unary_gap op a true b ts K i = (_, skip x.naming (starts_with_word a || formats look) b ts K i)
   unary_gap op a false b ts K i = (_, skip x.naming (gap_of_unary op a) b ts K i)
 
@@ -59,7 +59,7 @@ module _ (look : Look) (x : Lexicon look.style) where
         begins = led ts0 r0 ts y.m op h.2.0 o.0 (by_unary op (λ o. two_told o ≡ false) h.1 refl refl refl refl refl refl refl);
         again = λ g. let w = y.again (follow_on st (unary_expr s op a) Alone a r0 r0 y.m refl (above unary_level (level a) (omega arith) h.3.0) g) in record {
           tree = unary_expr (span (lo ts) y.m.last) op w.tree;
-          spelled = (q.0, h.1, (o.0, unbarred c.context (escaped ts) (kind ts) o.1, tt, q.1.after), expr_low look x.naming unary_level Alone a c q.0 y.m h.3.0 (omega arith) w, refl);
+          produced = (q.0, h.1, (o.0, unbarred c.context (escaped ts) (kind ts) o.1, tt, q.1.after), expr_low look x.naming unary_level Alone a c q.0 y.m h.3.0 (omega arith) w, refl);
           directive = refl;
           quoted = λ p q. refl;
           same = record { so = λ n. ap (λ (t : Tree). unary_expr no_place op t) (w.same.so Plain) };
@@ -79,7 +79,7 @@ module _ (look : Look) (x : Lexicon look.style) where
         begins = led ts0 r0 ts y.m op h.2.0 o.0 (by_update op (λ o. two_told o ≡ false) h.1 refl refl);
         again = λ g. let w = y.again (follow_on st (update_expr s op true a) Alone a r0 r0 y.m refl (above unary_level (level a) (omega arith) h.3.0) g) in record {
           tree = update_expr (span (lo ts) y.m.last) op true w.tree;
-          spelled = (q.0, h.1, (o.0, tt, q.1.after), expr_low look x.naming unary_level Alone a c q.0 y.m h.3.0 (omega arith) w, refl);
+          produced = (q.0, h.1, (o.0, tt, q.1.after), expr_low look x.naming unary_level Alone a c q.0 y.m h.3.0 (omega arith) w, refl);
           directive = refl;
           quoted = λ p q. refl;
           same = record { so = λ n. ap (λ (t : Tree). update_expr no_place op true t) (w.same.so Plain) };
@@ -99,7 +99,7 @@ module _ (look : Look) (x : Lexicon look.style) where
         begins = before ts0 h.0 ts y.m r0 p.0 (λ l. refl) (expr_begins look x.naming Alone a (assigning c) ts0 h.0 b ts _ n y) (o.0 ∙ sym h.4.0) (λ e. by_update op (λ o. o ≡ function_kind → ⊥) h.1 (λ e. omega arith) (λ e. omega arith) (sym o.0 ∙ e));
         again = λ g. let w = y.again (follow_by Alone a h.0 y.m op o.0 (by_update op (λ o. closes o ≡ true) h.1 refl refl)) in record {
           tree = update_expr (span (lo ts) p.0.last) op false w.tree;
-          spelled = (y.m, h.1, expr_low look x.naming new_level Alone a c ts y.m h.2.0 (omega arith) w, p.1.broke ∙ ap is_broken (y.tight (tight_of a n)), (o.0, tt, p.1.after), refl);
+          produced = (y.m, h.1, expr_low look x.naming new_level Alone a c ts y.m h.2.0 (omega arith) w, p.1.broke ∙ ap is_broken (y.tight (tight_of a n)), (o.0, tt, p.1.after), refl);
           directive = refl;
           quoted = λ p q. refl;
           same = record { so = λ n. ap (λ (t : Tree). update_expr no_place op false t) (w.same.so Plain) };
@@ -129,7 +129,7 @@ module _ (look : Look) (x : Lexicon look.style) where
             let w = y.again (record { quiet = λ e. asked_calm y.m t (λ e. no_point (begins_at p.tree (assigning (with_in (unplaced c))) i.0 z.m (above assignment_level (level p.tree) (omega arith) r.0) r.1) (sym (ap kind i.1.after) ∙ e)); other = λ e. absurd (no_item a (above coalesce_level (level a) (omega arith) h.4.0) e) }) in
             let m = v.again (follow_on st (cond_expr s a b d) Alone d r0 r0 v.m refl (above assignment_level (level d) (omega arith) h.8.0) u) in record {
               tree = cond_expr (span (lo ts) v.m.last) w.tree p.tree m.tree;
-              spelled = (y.m, i.0, z.m, n.0, expr_low look x.naming coalesce_level Alone a c ts y.m h.4.0 (omega arith) w, took look x c question_mark_kind i.1, r, took look x c colon_kind n.1, expr_low look x.naming assignment_level Alone d c n.0 v.m h.8.0 (omega arith) m, refl);
+              produced = (y.m, i.0, z.m, n.0, expr_low look x.naming coalesce_level Alone a c ts y.m h.4.0 (omega arith) w, took look x c question_mark_kind i.1, r, took look x c colon_kind n.1, expr_low look x.naming assignment_level Alone d c n.0 v.m h.8.0 (omega arith) m, refl);
               directive = refl;
               quoted = λ p q. refl;
               same = record { so = λ n. three (w.same.so Plain) (p.same.so Plain) (m.same.so Plain) };
@@ -139,7 +139,7 @@ module _ (look : Look) (x : Lexicon look.style) where
       three : {a u b v d w : Tree} → a ≡ u → b ≡ v → d ≡ w → cond_expr no_place a b d ≡ cond_expr no_place u v w
       three p q r = ap₂ (λ (t : Tree × Tree) (e : Tree). cond_expr no_place t.0 t.1 e) (ap₂ (λ (t a : Tree). (t, a)) p q) r
 
-      begins_at : (t : Tree) (c : Code) (ts r : Input) → 1 ≤ level t → Spells t c ts r → begins (kind ts) ≡ true
+      begins_at : (t : Tree) (c : Code) (ts r : Input) → 1 ≤ level t → Produces t c ts r → begins (kind ts) ≡ true
       begins_at t c ts r h s = starts t c ts r (covered t) h s
 
       no_point : {k : ℕ} → begins k ≡ true → k ≡ dot_kind → ⊥
@@ -158,7 +158,7 @@ module _ (look : Look) (x : Lexicon look.style) where
         begins = led ts0 r0 ts y.m await_kind h.2.0 (keyed look x await_kind q.1) refl;
         again = λ g. let w = y.again (follow_on st (await_expr s a) Alone a r0 r0 y.m refl n g) in record {
           tree = await_expr (span (lo ts) y.m.last) w.tree;
-          spelled = (q.0, h.1, worded look x c await_kind q.1, expr_low look x.naming unary_level Alone a c q.0 y.m h.3.0 (omega arith) w, refl);
+          produced = (q.0, h.1, worded look x c await_kind q.1, expr_low look x.naming unary_level Alone a c q.0 y.m h.3.0 (omega arith) w, refl);
           directive = refl;
           quoted = λ p q. refl;
           same = record { so = λ n. ap (λ (t : Tree). await_expr no_place t) (w.same.so Plain) };

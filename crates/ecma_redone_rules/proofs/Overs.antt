@@ -8,8 +8,8 @@ use Rattle.ecma_tree.specs.Tree.{Tree, Trees, absent, array_pat, binding_ident, 
 use Rattle.ecma_syntax.specs.Input.{Code, Input, assigning, brk, brk2, is_word, kind, kind2, lo, rest, span, unplaced, without_in}
 use Rattle.ecma_syntax.specs.Operators.{assignment_level, expression_level}
 use Rattle.ecma_syntax.specs.Shape.{is_bare_declarator, is_place, is_target_expr}
-use Rattle.ecma_grammar.specs.Grammar.{Spells, parts}
-use Rattle.ecma_grammar.specs.Parts.{part}
+use Rattle.ecma_grammar.specs.Grammar.{Produces, children}
+use Rattle.ecma_grammar.specs.Children.{child}
 use Rattle.ecma_grammar.specs.Statements.{ForAwaitOpen, ForIn, ForOf, HeadTarget, OfTarget, OneBare, Over, starts_of}
 use Rattle.ecma_edge.specs.Edges.{ends_with_word, starts_with_word}
 use Rattle.ecma_layout.specs.Layout.{closing, is_variables, laid, word}
@@ -17,12 +17,12 @@ use Rattle.ecma_layout.specs.Looks.{Laid, blank, formats, gap, gap_or, text, whe
 use Rattle.ecma_layout.specs.declared.look.Look.{Look}
 use Rattle.ecma_layout.specs.declared.look.Stand.{Stand}
 use Rattle.ecma_layout.specs.declared.look.Stand.TheVariants.{Alone}
-use Rattle.ecma_written.specs.Gaps.{Gap, Touching, is_broken}
+use Rattle.ecma_written.specs.Spacings.{Spacing, Touching, is_broken}
 use Rattle.ecma_written.specs.Lexicon.{Lexicon}
 use Rattle.ecma_written.specs.Means.{Known}
 use Rattle.ecma_written.specs.Texts.{word_text}
 use Rattle.ecma_written.specs.Told.{says}
-use Rattle.ecma_redone.specs.Redo.{AllSame, Leaves, Mode, Plain, Same, redo, kept_at}
+use Rattle.ecma_redone.specs.Redo.{AllRedone, Leaves, Mode, Plain, Redone, redo, kept_at}
 use Rattle.ecma_redone_rules.proofs.Naming.{leaves_at}
 use Rattle.ecma_redone_rules.proofs.Begins.{Begins, begun, fine, is_loose, is_part, is_weak, same_start}
 use Rattle.ecma_redone_rules.proofs.Follow.{closed_calm, follow_by}
@@ -44,7 +44,7 @@ abbrev first_of : Trees → Tree
 first_of none = absent
 first_of (more t ts) = t
 
-one_bare : (l : Leaves) (ds us : Trees) → AllSame l Plain ds us → OneBare (parts ds) → OneBare (parts us)
+one_bare : (l : Leaves) (ds us : Trees) → AllRedone l Plain ds us → OneBare (children ds) → OneBare (children us)
 one_bare l none us a h = absurd h
 one_bare l (more d (more e es)) us a h = absurd h.0
 one_bare l (more d none) none a h = absurd (none_more _ _ (a.so Plain))
@@ -78,30 +78,30 @@ place_strong (object_pat s ps) h = (refl, refl, refl)
 place_strong (expr_pat e) h = (refl, ap not ((and_parts (is_target_expr e) _ h).0), refl)
 place_strong _ h = absurd (true≢false (sym h))
 
-as_for_in : (s : Span) (a e b : Tree) (c : Code) (ts r : Input) → is_variables a ≡ false → ForIn c s (λ m n. HeadTarget c (part a (λ y. Spells a y)) m n) (part e (λ y. Spells e y)) (part b (λ y. Spells b y)) ts r → Spells (for_in_stmt s a e b) c ts r
+as_for_in : (s : Span) (a e b : Tree) (c : Code) (ts r : Input) → is_variables a ≡ false → ForIn c s (λ m n. HeadTarget c (child a (λ y. Produces a y)) m n) (child e (λ y. Produces e y)) (child b (λ y. Produces b y)) ts r → Produces (for_in_stmt s a e b) c ts r
 as_for_in s (var_decl v k ds) e b c ts r i h = absurd (true≢false i)
 as_for_in s (using_decl v w ds) e b c ts r i h = absurd (true≢false i)
 as_for_in s _ e b c ts r i h = h
 
-as_for_of : (s : Span) (w : Bool) (a e b : Tree) (c : Code) (ts r : Input) → is_variables a ≡ false → ForOf c s w (λ m n. OfTarget c w (part a (λ y. Spells a y)) m n) (part e (λ y. Spells e y)) (part b (λ y. Spells b y)) ts r → Spells (for_of_stmt s w a e b) c ts r
+as_for_of : (s : Span) (w : Bool) (a e b : Tree) (c : Code) (ts r : Input) → is_variables a ≡ false → ForOf c s w (λ m n. OfTarget c w (child a (λ y. Produces a y)) m n) (child e (λ y. Produces e y)) (child b (λ y. Produces b y)) ts r → Produces (for_of_stmt s w a e b) c ts r
 as_for_of s w (var_decl v k ds) e b c ts r i h = absurd (true≢false i)
 as_for_of s w (using_decl v z ds) e b c ts r i h = absurd (true≢false i)
 as_for_of s w _ e b c ts r i h = h
 
 module _ (look : Look) (x : Lexicon look.style) where
-  record Overed (w l : ℕ) (e b : Tree) (c : Code) (r0 : Input) (ts : Input) (K : Gap → Input → Type 0) : Type 0 where
-    d : Gap
+  record Overed (w l : ℕ) (e b : Tree) (c : Code) (r0 : Input) (ts : Input) (K : Spacing → Input → Type 0) : Type 0 where
+    d : Spacing
     m : Input
     more : K d m
     known : Known r0.places
     lead : kind ts ≡ w
-    again : (kind m ≡ else_kind → kind r0 ≡ else_kind) → (u : Tree) × (v : Tree) × Over (unplaced c) w l (part u (λ y. Spells u y)) (part v (λ y. Spells v y)) ts m × Same (leaves_at look x.naming) Plain e u × Same (leaves_at look x.naming) Plain b v
+    again : (kind m ≡ else_kind → kind r0 ≡ else_kind) → (u : Tree) × (v : Tree) × Over (unplaced c) w l (child u (λ y. Produces u y)) (child v (λ y. Produces v y)) ts m × Redone (leaves_at look x.naming) Plain e u × Redone (leaves_at look x.naming) Plain b v
 
   abbrev over_laid : ℕ → Tree → Tree → Laid
   over_laid w e b = text (word_text w) · gap_or look (starts_with_word e) · laid look Alone e · text (codes ")") · laid look Alone b · closing look b
 
-  over_on : (w l : ℕ) → is_word w ≡ true → 1 ≤ l → l ≤ 18 → (e b : Tree) → Sound look x.naming Alone e → Sound look x.naming Alone b → (c : Code) (ts0 r0 : Input) → Over c w l (part e (λ y. Spells e y)) (part b (λ y. Spells b y)) ts0 r0 → Known ts0.places
-      → (br : Gap) (ts : Input) (K : Gap → Input → Type 0) → says x.naming (over_laid w e b) br ts K → Overed w l e b c r0 ts K
+  over_on : (w l : ℕ) → is_word w ≡ true → 1 ≤ l → l ≤ 18 → (e b : Tree) → Sound look x.naming Alone e → Sound look x.naming Alone b → (c : Code) (ts0 r0 : Input) → Over c w l (child e (λ y. Produces e y)) (child b (λ y. Produces b y)) ts0 r0 → Known ts0.places
+      → (br : Spacing) (ts : Input) (K : Spacing → Input → Type 0) → says x.naming (over_laid w e b) br ts K → Overed w l e b c r0 ts K
   over_on w l p i j e b f g c ts0 r0 h k br ts K q =
       let o = skip x.naming (starts_with_word e || formats look) _ _ _ q.2 in
       let y = expr look x.naming l Alone e f i c h.0 h.1 h.4 (x.later ts0 h.0 h.3.3 k) _ q.0 (λ d m. says x.naming (text (codes ")") · laid look Alone b · closing look b) d m K) o in
@@ -117,7 +117,7 @@ module _ (look : Look) (x : Lexicon look.style) where
       }
 
   pub for_in_target : (s : Span) (a e b : Tree) → is_variables a ≡ false → Sound look x.naming Alone a → Sound look x.naming Alone e → Sound look x.naming Alone b → (st : Stand) (c : Code) (ts0 r0 : Input)
-      → ForIn c s (λ m n. HeadTarget c (part a (λ y. Spells a y)) m n) (part e (λ y. Spells e y)) (part b (λ y. Spells b y)) ts0 r0 → Known ts0.places → (br : Gap) (ts : Input) (K : Gap → Input → Type 0) → says x.naming (full look st (for_in_stmt s a e b)) br ts K → Out look x.naming st (for_in_stmt s a e b) c ts0 r0 br ts K
+      → ForIn c s (λ m n. HeadTarget c (child a (λ y. Produces a y)) m n) (child e (λ y. Produces e y)) (child b (λ y. Produces b y)) ts0 r0 → Known ts0.places → (br : Spacing) (ts : Input) (K : Spacing → Input → Type 0) → says x.naming (full look st (for_in_stmt s a e b)) br ts K → Out look x.naming st (for_in_stmt s a e b) c ts0 r0 br ts K
   for_in_target s a e b i d f g st c ts0 r0 h l br ts K q =
       let o = q.2 in
       let t = place_strong a h.3.1 in
@@ -133,11 +133,11 @@ module _ (look : Look) (x : Lexicon look.style) where
         begins = λ e. absurd (for_no_else (sym n ∙ e));
         again = λ k. let w = z.again (k.other refl) in let u = y.again (follow_by Alone a h.1 y.m in_kind z.lead refl) in record {
           tree = for_in_stmt (span (lo ts) z.m.last) u.tree w.0 w.1;
-          spelled = as_for_in (span (lo ts) z.m.last) u.tree w.0 w.1 (unplaced c) ts z.m (re_variables look x (leaves_at look x.naming) a u.tree u.same i) (
+          produced = as_for_in (span (lo ts) z.m.last) u.tree w.0 w.1 (unplaced c) ts z.m (re_variables look x (leaves_at look x.naming) a u.tree u.same i) (
             o.0,
             y.m,
             (q.0, worded look x c for_kind q.1, took look x c left_paren_kind o.1),
-            (head_again h.0 h.1 o.0 y.m (begun (is_weak a) (is_loose a) h.0 h.1 o.0 y.m t.1 y.begins) (λ v. in_bracket (sym z.lead ∙ v)) h.3.0, alike (is_place false) (re_is_place false) (leaves_at look x.naming) Plain a u.tree u.same ∙ h.3.1, u.spelled),
+            (head_again h.0 h.1 o.0 y.m (begun (is_weak a) (is_loose a) h.0 h.1 o.0 y.m t.1 y.begins) (λ v. in_bracket (sym z.lead ∙ v)) h.3.0, alike (is_place false) (re_is_place false) (leaves_at look x.naming) Plain a u.tree u.same ∙ h.3.1, u.produced),
             w.2,
             refl,
           );
@@ -154,7 +154,7 @@ module _ (look : Look) (x : Lexicon look.style) where
       three p q r = ap₂ (λ (t : Tree × Tree) (e : Tree). for_in_stmt no_place t.0 t.1 e) (ap₂ (λ (t a : Tree). (t, a)) p q) r
 
   -- `for (` or `for await (`
-  record Open (w : Bool) (c : Code) (r0 : Input) (b : Gap) (ts : Input) (K : Gap → Input → Type 0) : Type 0 where
+  record Open (w : Bool) (c : Code) (r0 : Input) (b : Spacing) (ts : Input) (K : Spacing → Input → Type 0) : Type 0 where
     n : Input
     more : K Touching n
     known : Known r0.places
@@ -162,7 +162,7 @@ module _ (look : Look) (x : Lexicon look.style) where
     lead : kind ts ≡ for_kind
     again : ForAwaitOpen w (unplaced c) ts n
 
-  open_on : (w : Bool) (c : Code) (ts0 r0 : Input) → ForAwaitOpen w c ts0 r0 → Known ts0.places → (b : Gap) (ts : Input) (K : Gap → Input → Type 0) → says x.naming (word (codes "for") · when w (blank · word (codes "await")) · gap look · text (codes "(")) b ts K → Open w c r0 b ts K
+  open_on : (w : Bool) (c : Code) (ts0 r0 : Input) → ForAwaitOpen w c ts0 r0 → Known ts0.places → (b : Spacing) (ts : Input) (K : Spacing → Input → Type 0) → says x.naming (word (codes "for") · when w (blank · word (codes "await")) · gap look · text (codes "(")) b ts K → Open w c r0 b ts K
   open_on false c ts0 r0 h l b ts K q =
       let o = skip x.naming (formats look) _ _ _ q.2 in record {
         n = o.0;
@@ -184,7 +184,7 @@ module _ (look : Look) (x : Lexicon look.style) where
       }
 
   pub for_of_target : (s : Span) (w : Bool) (a e b : Tree) → is_variables a ≡ false → Sound look x.naming Alone a → Sound look x.naming Alone e → Sound look x.naming Alone b → (st : Stand) (c : Code) (ts0 r0 : Input)
-      → ForOf c s w (λ m n. OfTarget c w (part a (λ y. Spells a y)) m n) (part e (λ y. Spells e y)) (part b (λ y. Spells b y)) ts0 r0 → Known ts0.places → (br : Gap) (ts : Input) (K : Gap → Input → Type 0) → says x.naming (full look st (for_of_stmt s w a e b)) br ts K → Out look x.naming st (for_of_stmt s w a e b) c ts0 r0 br ts K
+      → ForOf c s w (λ m n. OfTarget c w (child a (λ y. Produces a y)) m n) (child e (λ y. Produces e y)) (child b (λ y. Produces b y)) ts0 r0 → Known ts0.places → (br : Spacing) (ts : Input) (K : Spacing → Input → Type 0) → says x.naming (full look st (for_of_stmt s w a e b)) br ts K → Out look x.naming st (for_of_stmt s w a e b) c ts0 r0 br ts K
   for_of_target s w a e b i d f g st c ts0 r0 h l br ts K q =
       let o = open_on w c ts0 h.0 h.2 l br ts (λ d m. says x.naming (laid look Alone a · gap_or look (ends_with_word a) · over_laid of_kind e b) d m K) q in
       let t = place_strong a h.3.1.1 in
@@ -200,13 +200,13 @@ module _ (look : Look) (x : Lexicon look.style) where
         begins = λ e. absurd (for_no_else (sym o.lead ∙ e));
         again = λ k. let j = z.again (k.other refl) in let u = y.again (follow_by Alone a h.1 y.m of_kind z.lead refl) in record {
           tree = for_of_stmt (span (lo ts) z.m.last) w u.tree j.0 j.1;
-          spelled = as_for_of (span (lo ts) z.m.last) w u.tree j.0 j.1 (unplaced c) ts z.m (re_variables look x (leaves_at look x.naming) a u.tree u.same i) (
+          produced = as_for_of (span (lo ts) z.m.last) w u.tree j.0 j.1 (unplaced c) ts z.m (re_variables look x (leaves_at look x.naming) a u.tree u.same i) (
             o.n,
             y.m,
             o.again,
             (
               of_again w h.0 h.1 o.n y.m (subst (λ (z : Bool). Begins z h.0 h.1 o.n y.m) t.2 v) z.lead h.4.3.0 h.3.0,
-              (head_again h.0 h.1 o.n y.m v (λ n. of_bracket (sym z.lead ∙ n)) h.3.1.0, alike (is_place false) (re_is_place false) (leaves_at look x.naming) Plain a u.tree u.same ∙ h.3.1.1, u.spelled),
+              (head_again h.0 h.1 o.n y.m v (λ n. of_bracket (sym z.lead ∙ n)) h.3.1.0, alike (is_place false) (re_is_place false) (leaves_at look x.naming) Plain a u.tree u.same ∙ h.3.1.1, u.produced),
             ),
             j.2,
             refl,
@@ -237,7 +237,7 @@ module _ (look : Look) (x : Lexicon look.style) where
         begins = λ e. absurd (for_no_else (sym o.lead ∙ e));
         again = λ i. let j = z.again (i.other refl) in let u = y.again (closed_calm y.m of_kind z.lead refl) in record {
           tree = for_of_stmt (span (lo ts) z.m.last) w (var_decl (span (lo o.n) y.m.last) k u.0) j.0 j.1;
-          spelled = (o.n, y.m, o.again, (one_bare (leaves_at look x.naming) ds u.0 u.2 h.3.0, u.1, refl), j.2, refl);
+          produced = (o.n, y.m, o.again, (one_bare (leaves_at look x.naming) ds u.0 u.2 h.3.0, u.1, refl), j.2, refl);
           directive = refl;
           quoted = λ p q. refl;
           same = record { so = λ n. three w (ap (λ (us : Trees). var_decl no_place k us) (u.2.so Plain)) (j.3.so Plain) (j.4.so Plain) };
@@ -262,7 +262,7 @@ module _ (look : Look) (x : Lexicon look.style) where
         begins = λ e. absurd (for_no_else (sym n ∙ e));
         again = λ i. let j = z.again (i.other refl) in let u = y.again (closed_calm y.m in_kind z.lead refl) in record {
           tree = for_in_stmt (span (lo ts) z.m.last) (var_decl (span (lo o.0) y.m.last) k u.0) j.0 j.1;
-          spelled = (o.0, y.m, (q.0, worded look x c for_kind q.1, took look x c left_paren_kind o.1), (one_bare (leaves_at look x.naming) ds u.0 u.2 h.3.0, u.1, refl), j.2, refl);
+          produced = (o.0, y.m, (q.0, worded look x c for_kind q.1, took look x c left_paren_kind o.1), (one_bare (leaves_at look x.naming) ds u.0 u.2 h.3.0, u.1, refl), j.2, refl);
           directive = refl;
           quoted = λ p q. refl;
           same = record { so = λ n. three (ap (λ (us : Trees). var_decl no_place k us) (u.2.so Plain)) (j.3.so Plain) (j.4.so Plain) };
@@ -286,7 +286,7 @@ module _ (look : Look) (x : Lexicon look.style) where
         begins = λ e. absurd (for_no_else (sym o.lead ∙ e));
         again = λ i. let j = z.again (i.other refl) in let u = y.again (closed_calm y.m of_kind z.lead refl) in record {
           tree = for_of_stmt (span (lo ts) z.m.last) w (using_decl (span (lo o.n) y.m.last) v u.0) j.0 j.1;
-          spelled = (o.n, y.m, o.again, (one_bare (leaves_at look x.naming) ds u.0 u.2 h.3.0, y.starts h.3.1, u.1, refl), j.2, refl);
+          produced = (o.n, y.m, o.again, (one_bare (leaves_at look x.naming) ds u.0 u.2 h.3.0, y.starts h.3.1, u.1, refl), j.2, refl);
           directive = refl;
           quoted = λ p q. refl;
           same = record { so = λ n. three w (ap (λ (us : Trees). using_decl no_place v us) (u.2.so Plain)) (j.3.so Plain) (j.4.so Plain) };
@@ -311,7 +311,7 @@ module _ (look : Look) (x : Lexicon look.style) where
         begins = λ e. absurd (for_no_else (sym n ∙ e));
         again = λ i. let j = z.again (i.other refl) in let u = y.again (closed_calm y.m in_kind z.lead refl) in record {
           tree = for_in_stmt (span (lo ts) z.m.last) (using_decl (span (lo o.0) y.m.last) v u.0) j.0 j.1;
-          spelled = (o.0, y.m, (q.0, worded look x c for_kind q.1, took look x c left_paren_kind o.1), (one_bare (leaves_at look x.naming) ds u.0 u.2 h.3.0, y.starts h.3.1, u.1, refl), j.2, refl);
+          produced = (o.0, y.m, (q.0, worded look x c for_kind q.1, took look x c left_paren_kind o.1), (one_bare (leaves_at look x.naming) ds u.0 u.2 h.3.0, y.starts h.3.1, u.1, refl), j.2, refl);
           directive = refl;
           quoted = λ p q. refl;
           same = record { so = λ n. three (ap (λ (us : Trees). using_decl no_place v us) (u.2.so Plain)) (j.3.so Plain) (j.4.so Plain) };

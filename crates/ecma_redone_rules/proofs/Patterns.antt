@@ -8,14 +8,14 @@ use Rattle.ecma_tree.specs.Tree.{Tree, Trees, array_pat, assign_pat, assign_pat_
 use Rattle.ecma_syntax.specs.Input.{Code, Input, assigning, dots_at, lo, span, unplaced, with_in}
 use Rattle.ecma_syntax.specs.Operators.{assignment_level}
 use Rattle.ecma_syntax.specs.Shape.{is_absent, is_bound_name, is_item_pat, is_pattern_prop, is_place, is_rest, is_simple, is_target_expr, level, takes_rest}
-use Rattle.ecma_grammar.specs.Parts.{is_module_item}
+use Rattle.ecma_grammar.specs.Children.{is_module_item}
 use Rattle.ecma_grammar.specs.Patterns.{Item, Property}
 use Rattle.ecma_layout.specs.Layout.{comma, laid}
 use Rattle.ecma_layout.specs.Looks.{formats, gap, text, when, ◌·◌}
 use Rattle.ecma_layout.specs.declared.look.Look.{Look}
 use Rattle.ecma_layout.specs.declared.look.Stand.{Stand}
 use Rattle.ecma_layout.specs.declared.look.Stand.TheVariants.{Alone}
-use Rattle.ecma_written.specs.Gaps.{Touching}
+use Rattle.ecma_written.specs.Spacings.{Touching}
 use Rattle.ecma_written.specs.Lexicon.{Lexicon}
 use Rattle.ecma_written.specs.Told.{says}
 use Rattle.ecma_redone.specs.Redo.{Leaves, Mode, Plain, redo}
@@ -88,7 +88,7 @@ module _ (look : Look) (x : Lexicon look.style) where
         begins = same_start z.0 (λ e. inl (h.1.0.5, q.1.told.after));
         again = λ f. record {
           tree = binding_ident (span (lo ts) q.0.last) (ident (span (lo ts) q.0.last) n);
-          spelled = (refl, (z.1, refl));
+          produced = (refl, (z.1, refl));
           directive = refl;
           quoted = λ p q. refl;
           same = record { so = λ m. ap (λ (p : Span). binding_ident no_place (ident p n)) (q.1.stands ∙ ap (λ (p : Span). x.naming.read p.lo.0) h.0) };
@@ -107,7 +107,7 @@ module _ (look : Look) (x : Lexicon look.style) where
         broke = z.broke;
         tight = λ i. z.tight (tight_of t i);
         begins = z.begins;
-        again = λ g. let w = z.again (passed t r0 z.m p.1 g) in (w.tree, (alike (is_item_pat c.binds) (re_is_item_pat c.binds) (leaves_at look x.naming) Plain t w.tree w.same ∙ h.0, w.spelled), w.same);
+        again = λ g. let w = z.again (passed t r0 z.m p.1 g) in (w.tree, (alike (is_item_pat c.binds) (re_is_item_pat c.binds) (leaves_at look x.naming) Plain t w.tree w.same ∙ h.0, w.produced), w.same);
       }
 
   property_each : (c : Code) → Each look x (Property c) (Property (unplaced c))
@@ -121,7 +121,7 @@ module _ (look : Look) (x : Lexicon look.style) where
         broke = z.broke;
         tight = λ i. z.tight (tight_of t i);
         begins = z.begins;
-        again = λ g. let w = z.again (passed t r0 z.m p.1 g) in (w.tree, (alike is_pattern_prop re_is_pattern_prop (leaves_at look x.naming) Plain t w.tree w.same ∙ h.0, alike takes_rest re_takes_rest (leaves_at look x.naming) Plain t w.tree w.same ∙ h.1, w.spelled), w.same);
+        again = λ g. let w = z.again (passed t r0 z.m p.1 g) in (w.tree, (alike is_pattern_prop re_is_pattern_prop (leaves_at look x.naming) Plain t w.tree w.same ∙ h.0, alike takes_rest re_takes_rest (leaves_at look x.naming) Plain t w.tree w.same ∙ h.1, w.produced), w.same);
       }
 
   pub array_pattern_on : (s : Span) (xs : Trees) → AllSound look x.naming xs → (st : Stand) → Sound look x.naming st (array_pat s xs)
@@ -137,7 +137,7 @@ module _ (look : Look) (x : Lexicon look.style) where
         begins = led ts0 r0 ts o.0 left_bracket_kind h.1.0 (marked look x left_bracket_kind q.1) refl;
         again = λ g. let w = z.again o.0 (took look x c right_bracket_kind o.1) in record {
           tree = array_pat (span (lo ts) o.0.last) w.0;
-          spelled = (q.0, took look x c left_bracket_kind q.1, w.1, refl);
+          produced = (q.0, took look x c left_bracket_kind q.1, w.1, refl);
           directive = refl;
           quoted = λ p q. refl;
           same = record { so = λ n. ap (λ (us : Trees). array_pat no_place us) (w.2.so Plain) };
@@ -156,7 +156,7 @@ module _ (look : Look) (x : Lexicon look.style) where
         begins = led ts0 r0 ts o.0 left_brace_kind h.1.0 (marked look x left_brace_kind q.1) refl;
         again = λ g. record {
           tree = object_pat (span (lo ts) o.0.last) none;
-          spelled = (q.0, took look x c left_brace_kind q.1, took look x c right_brace_kind o.1, refl);
+          produced = (q.0, took look x c left_brace_kind q.1, took look x c right_brace_kind o.1, refl);
           directive = refl;
           quoted = λ p q. refl;
           same = record { so = λ n. refl };
@@ -175,7 +175,7 @@ module _ (look : Look) (x : Lexicon look.style) where
         begins = led ts0 r0 ts o.0 left_brace_kind h.1.0 (marked look x left_brace_kind q.1) refl;
         again = λ g. let w = z.again o.0 (took look x c right_brace_kind o.1) in record {
           tree = object_pat (span (lo ts) o.0.last) w.0;
-          spelled = (q.0, took look x c left_brace_kind q.1, w.1, refl);
+          produced = (q.0, took look x c left_brace_kind q.1, w.1, refl);
           directive = refl;
           quoted = λ p q. refl;
           same = record { so = λ n. ap (λ (us : Trees). object_pat no_place us) (w.2.so Plain) };
@@ -198,7 +198,7 @@ module _ (look : Look) (x : Lexicon look.style) where
         begins = λ e. absurd (dots_else (sym (marked look x dot_dot_dot_kind q.1) ∙ e));
         again = λ g. let w = z.again (passed p r0 z.m i.1 (g.quiet refl)) in record {
           tree = rest_pat (span (lo ts) z.m.last) (dots_at (lo ts)) w.tree;
-          spelled = (q.0, took look x c dot_dot_dot_kind q.1, refl, alike (is_place c.binds) (re_is_place c.binds) (leaves_at look x.naming) Plain p w.tree w.same ∙ h.3, w.spelled, refl);
+          produced = (q.0, took look x c dot_dot_dot_kind q.1, refl, alike (is_place c.binds) (re_is_place c.binds) (leaves_at look x.naming) Plain p w.tree w.same ∙ h.3, w.produced, refl);
           directive = refl;
           quoted = λ p q. refl;
           same = record { so = λ n. ap (λ (t : Tree). rest_pat no_place no_place t) (w.same.so Plain) };
@@ -222,7 +222,7 @@ module _ (look : Look) (x : Lexicon look.style) where
         begins = first_token (is_weak p) (is_loose p) ts0 h.0 ts y.m y.begins;
         again = λ n. let u = y.again (passed p h.0 y.m i.1 (closed_calm y.m assign_kind a refl)) in let w = z.again (record { quiet = λ e. n.quiet refl; other = λ v. absurd (no_item e (above assignment_level (level e) (omega arith) h.5.0) v) }) in record {
           tree = assign_pat (span (lo ts) z.m.last) u.tree w.tree;
-          spelled = (y.m, j.0, alike (is_place c.binds) (re_is_place c.binds) (leaves_at look x.naming) Plain p u.tree u.same ∙ h.2, u.spelled, took look x c assign_kind j.1, expr_low look x.naming assignment_level Alone e (with_in c) j.0 z.m h.5.0 (omega arith) w, refl);
+          produced = (y.m, j.0, alike (is_place c.binds) (re_is_place c.binds) (leaves_at look x.naming) Plain p u.tree u.same ∙ h.2, u.produced, took look x c assign_kind j.1, expr_low look x.naming assignment_level Alone e (with_in c) j.0 z.m h.5.0 (omega arith) w, refl);
           directive = refl;
           quoted = λ p q. refl;
           same = record { so = λ n. ap₂ (λ (t u : Tree). assign_pat no_place t u) (u.same.so Plain) (w.same.so Plain) };
@@ -243,7 +243,7 @@ module _ (look : Look) (x : Lexicon look.style) where
         begins = first_token (is_weak p) (is_loose p) ts0 h.0 ts y.m y.begins;
         again = λ l. let w = y.again (passed p h.0 y.m i.1 (v.calms (l.quiet refl))) in let o = v.again (l.quiet refl) in record {
           tree = assign_pat_prop (span (lo ts) v.m.last) w.tree o.0;
-          spelled = (y.m, (alike is_bound_name re_is_bound_name (leaves_at look x.naming) Plain p w.tree w.same ∙ h.1.0, w.spelled), o.1, refl);
+          produced = (y.m, (alike is_bound_name re_is_bound_name (leaves_at look x.naming) Plain p w.tree w.same ∙ h.1.0, w.produced), o.1, refl);
           directive = refl;
           quoted = λ p q. refl;
           same = record { so = λ n. ap₂ (λ (t u : Tree). assign_pat_prop no_place t u) (w.same.so Plain) (o.2.so Plain) };
@@ -263,7 +263,7 @@ module _ (look : Look) (x : Lexicon look.style) where
         begins = subst (λ (v : Bool). Starts v false ts0 r0 ts z.m) (sym (ap not (and_parts (is_target_expr e) (is_simple e) h.0).0)) (subst (λ (v : Bool). Begins v ts0 r0 ts z.m) t.2 (begun (is_weak e) (is_loose e) ts0 r0 ts z.m t.1 z.begins));
         again = λ g. let w = z.again (passed e r0 z.m t.3 (g.quiet refl)) in record {
           tree = expr_pat w.tree;
-          spelled = (alike (λ (t : Tree). is_target_expr t && is_simple t) re_is_target_simple (leaves_at look x.naming) Plain e w.tree w.same ∙ h.0, w.spelled);
+          produced = (alike (λ (t : Tree). is_target_expr t && is_simple t) re_is_target_simple (leaves_at look x.naming) Plain e w.tree w.same ∙ h.0, w.produced);
           directive = refl;
           quoted = λ p q. refl;
           same = record { so = λ n. ap (λ (t : Tree). expr_pat t) (w.same.so Plain) };
@@ -293,7 +293,7 @@ module _ (look : Look) (x : Lexicon look.style) where
         begins = y.first;
         again = λ l. let o = v.again (passed a r0 v.m p.1 (l.quiet refl)) in record {
           tree = key_value_pat_prop (span (lo ts) v.m.last) y.again.0 o.tree;
-          spelled = (y.m, t.0, (y.again.1, y.again.2), took look x c colon_kind t.1, (alike (is_item_pat c.binds) (re_is_item_pat c.binds) (leaves_at look x.naming) Plain a o.tree o.same ∙ h.4.0, o.spelled), alike is_rest re_is_rest (leaves_at look x.naming) Plain a o.tree o.same ∙ h.5, refl);
+          produced = (y.m, t.0, (y.again.1, y.again.2), took look x c colon_kind t.1, (alike (is_item_pat c.binds) (re_is_item_pat c.binds) (leaves_at look x.naming) Plain a o.tree o.same ∙ h.4.0, o.produced), alike is_rest re_is_rest (leaves_at look x.naming) Plain a o.tree o.same ∙ h.5, refl);
           directive = refl;
           quoted = λ p q. refl;
           same = record { so = λ n. ap₂ (λ (t u : Tree). key_value_pat_prop no_place t u) (y.again.3 Plain) (o.same.so Plain) };

@@ -15,7 +15,7 @@ use Rattle.ecma_layout.specs.Literals.{big_bytes, is_escaped_directive, number_b
 use Rattle.ecma_layout.specs.declared.look.Look.{Look}
 use Rattle.ecma_layout.specs.declared.look.Stand.{Stand}
 use Rattle.ecma_layout.specs.declared.look.Stand.TheVariants.{Alone}
-use Rattle.ecma_written.specs.Gaps.{Gap, Touching}
+use Rattle.ecma_written.specs.Spacings.{Spacing, Touching}
 use Rattle.ecma_written.specs.Lexicon.{Lexicon}
 use Rattle.ecma_written.specs.Means.{Known, Means}
 use Rattle.ecma_written.specs.Told.{says}
@@ -38,7 +38,7 @@ module _ (look : Look) (x : Lexicon look.style) where
         broke = q.1.told.broke;
         tight = λ e. refl;
         begins = same_start z.0 (λ e. inl (h.0.5, q.1.told.after));
-        again = λ f. record { tree = ident (span (lo ts) q.0.last) n; spelled = (z.1, refl); directive = refl; quoted = λ p q. refl; same = record { so = λ m. ap (λ (p : Span). ident p n) q.1.stands } };
+        again = λ f. record { tree = ident (span (lo ts) q.0.last) n; produced = (z.1, refl); directive = refl; quoted = λ p q. refl; same = record { so = λ m. ap (λ (p : Span). ident p n) q.1.stands } };
       }
 
   pub number_on : (s : Span) (v : SpecNumber) (w : Option (List ℕ)) (st : Stand) → Sound look x.naming st (number_lit s v w)
@@ -54,7 +54,7 @@ module _ (look : Look) (x : Lexicon look.style) where
         begins = led ts0 r0 ts y.0 num_kind h.3.0 z.0 refl;
         again = λ f. record {
           tree = number_lit (span (lo ts) y.0.last) v (Some (number_bytes look.style v w));
-          spelled = (number_bytes look.style v w, refl, subst (λ (o : Option (List ℕ)). content ts ≡ Numeral v (number_bytes look.style v o)) (sym h.1) z.1, (z.0, tt, y.1.after), refl);
+          produced = (number_bytes look.style v w, refl, subst (λ (o : Option (List ℕ)). content ts ≡ Numeral v (number_bytes look.style v o)) (sym h.1) z.1, (z.0, tt, y.1.after), refl);
           directive = refl;
           quoted = λ p q. refl;
           same = record { so = λ m. ap (λ (o : Option (List ℕ)). number_lit no_place v o) (subst (λ (p : Bool). Some (number_bytes look.style v w) ≡ (leaves_at look x.naming).number p v w) (sym (never_pointed st)) refl) };
@@ -74,7 +74,7 @@ module _ (look : Look) (x : Lexicon look.style) where
         begins = led ts0 r0 ts y.0 str_kind h.3.0 z.0 refl;
         again = λ f. record {
           tree = str_lit (span (lo ts) y.0.last) u (Some (string_bytes look.style u w));
-          spelled = (string_bytes look.style u w, refl, subst (λ (o : Option (List ℕ)). content ts ≡ Quoted u (string_bytes look.style u o)) (sym h.1) z.1, (z.0, tt, y.1.after), refl);
+          produced = (string_bytes look.style u w, refl, subst (λ (o : Option (List ℕ)). content ts ≡ Quoted u (string_bytes look.style u o)) (sym h.1) z.1, (z.0, tt, y.1.after), refl);
           directive = refl;
           quoted = λ p q. subst (λ (o : Option (List ℕ)). is_use_strict (expr_stmt p (str_lit (span (lo ts) y.0.last) u (Some (string_bytes look.style u o)))) ≡ is_use_strict (expr_stmt q (str_lit s u o))) (sym h.1) (x.strict_kept ts0 u h.0 k h.2);
           same = record { so = λ m. refl };
@@ -94,7 +94,7 @@ module _ (look : Look) (x : Lexicon look.style) where
         begins = led ts0 r0 ts z.0 left_paren_kind h.2.0 (marked look x left_paren_kind q.1) refl;
         again = λ g. let w = y.again (follow_by Alone e h.1 y.m right_paren_kind (marked look x right_paren_kind z.1) refl) in record {
           tree = paren_expr (span (lo ts) z.0.last) w.tree;
-          spelled = (q.0, y.m, took look x c left_paren_kind q.1, expr_low look x.naming expression_level Alone e (with_in c) q.0 y.m h.3.0 (omega arith) w, took look x c right_paren_kind z.1, refl);
+          produced = (q.0, y.m, took look x c left_paren_kind q.1, expr_low look x.naming expression_level Alone e (with_in c) q.0 y.m h.3.0 (omega arith) w, took look x c right_paren_kind z.1, refl);
           directive = refl;
           quoted = λ p q. refl;
           same = record { so = λ n. ap (λ (t : Tree). paren_expr no_place t) (w.same.so Plain) };
@@ -114,7 +114,7 @@ module _ (look : Look) (x : Lexicon look.style) where
         begins = led ts0 r0 ts y.0 big_int_kind h.3.0 z.0 refl;
         again = λ f. record {
           tree = big_int_lit (span (lo ts) y.0.last) r d (Some (big_bytes look.style r d w));
-          spelled = (big_bytes look.style r d w, refl, subst (λ (o : Option (List ℕ)). content ts ≡ BigNumeral r d (big_bytes look.style r d o)) (sym h.1) z.1, (z.0, tt, y.1.after), refl);
+          produced = (big_bytes look.style r d w, refl, subst (λ (o : Option (List ℕ)). content ts ≡ BigNumeral r d (big_bytes look.style r d o)) (sym h.1) z.1, (z.0, tt, y.1.after), refl);
           directive = refl;
           quoted = λ p q. refl;
           same = record { so = λ m. refl };
@@ -131,7 +131,7 @@ module _ (look : Look) (x : Lexicon look.style) where
         broke = q.1.broke;
         tight = λ e. refl;
         begins = led ts0 r0 ts q.0 regex_kind h.1.0 z.0 refl;
-        again = λ g. record { tree = regex_lit (span (lo ts) q.0.last) e f; spelled = (z.1, (z.0, tt, q.1.after), refl); directive = refl; quoted = λ p q. refl; same = record { so = λ m. refl } };
+        again = λ g. record { tree = regex_lit (span (lo ts) q.0.last) e f; produced = (z.1, (z.0, tt, q.1.after), refl); directive = refl; quoted = λ p q. refl; same = record { so = λ m. refl } };
       }
 
   -- ---- words of the grammar
@@ -145,7 +145,7 @@ module _ (look : Look) (x : Lexicon look.style) where
     broke = q.1.broke;
     tight = λ e. refl;
     begins = led ts0 r0 ts q.0 this_kind h.0.0 (keyed look x this_kind q.1) refl;
-    again = λ g. record { tree = this_expr (span (lo ts) q.0.last); spelled = (worded look x c this_kind q.1, refl); directive = refl; quoted = λ p q. refl; same = record { so = λ m. refl } };
+    again = λ g. record { tree = this_expr (span (lo ts) q.0.last); produced = (worded look x c this_kind q.1, refl); directive = refl; quoted = λ p q. refl; same = record { so = λ m. refl } };
   }
 
   pub null_on : (s : Span) (st : Stand) → Sound look x.naming st (null_lit s)
@@ -157,7 +157,7 @@ module _ (look : Look) (x : Lexicon look.style) where
     broke = q.1.broke;
     tight = λ e. refl;
     begins = led ts0 r0 ts q.0 null_kind h.0.0 (keyed look x null_kind q.1) refl;
-    again = λ g. record { tree = null_lit (span (lo ts) q.0.last); spelled = (worded look x c null_kind q.1, refl); directive = refl; quoted = λ p q. refl; same = record { so = λ m. refl } };
+    again = λ g. record { tree = null_lit (span (lo ts) q.0.last); produced = (worded look x c null_kind q.1, refl); directive = refl; quoted = λ p q. refl; same = record { so = λ m. refl } };
   }
 
   pub bool_on : (s : Span) (v : Bool) (st : Stand) → Sound look x.naming st (bool_lit s v)
@@ -169,7 +169,7 @@ module _ (look : Look) (x : Lexicon look.style) where
     broke = q.1.broke;
     tight = λ e. refl;
     begins = led ts0 r0 ts q.0 true_kind h.0.0 (keyed look x true_kind q.1) refl;
-    again = λ g. record { tree = bool_lit (span (lo ts) q.0.last) true; spelled = (worded look x c true_kind q.1, refl); directive = refl; quoted = λ p q. refl; same = record { so = λ m. refl } };
+    again = λ g. record { tree = bool_lit (span (lo ts) q.0.last) true; produced = (worded look x c true_kind q.1, refl); directive = refl; quoted = λ p q. refl; same = record { so = λ m. refl } };
   }
   bool_on s false st c ts0 r0 h k b ts K q = record {
     d = Touching;
@@ -179,12 +179,12 @@ module _ (look : Look) (x : Lexicon look.style) where
     broke = q.1.broke;
     tight = λ e. refl;
     begins = led ts0 r0 ts q.0 false_kind h.0.0 (keyed look x false_kind q.1) refl;
-    again = λ g. record { tree = bool_lit (span (lo ts) q.0.last) false; spelled = (worded look x c false_kind q.1, refl); directive = refl; quoted = λ p q. refl; same = record { so = λ m. refl } };
+    again = λ g. record { tree = bool_lit (span (lo ts) q.0.last) false; produced = (worded look x c false_kind q.1, refl); directive = refl; quoted = λ p q. refl; same = record { so = λ m. refl } };
   }
 
   -- ---- `new.target` and `import.meta` (13.3.12)
 
-  new_target_on : (s : Span) (st : Stand) (c : Code) (ts0 m0 n0 r0 : Input) → TakesWord c new_kind ts0 m0 → Takes c dot_kind m0 n0 → TakesWord c target_kind n0 r0 → Known ts0.places → (b : Gap) (ts : Input) (K : Gap → Input → Type 0)
+  new_target_on : (s : Span) (st : Stand) (c : Code) (ts0 m0 n0 r0 : Input) → TakesWord c new_kind ts0 m0 → Takes c dot_kind m0 n0 → TakesWord c target_kind n0 r0 → Known ts0.places → (b : Spacing) (ts : Input) (K : Spacing → Input → Type 0)
       → says x.naming (full look st (meta_prop_expr s new_kind)) b ts K → Out look x.naming st (meta_prop_expr s new_kind) c ts0 r0 b ts K
   new_target_on s st c ts0 m0 n0 r0 e f g k b ts K q = let i = q.2 in let j = i.2 in record {
     d = Touching;
@@ -196,14 +196,14 @@ module _ (look : Look) (x : Lexicon look.style) where
     begins = led ts0 r0 ts j.0 new_kind e.0 (keyed look x new_kind q.1) refl;
     again = λ l. record {
       tree = meta_prop_expr (span (lo ts) j.0.last) new_kind;
-      spelled = (q.0, i.0, worded look x c new_kind q.1, took look x c dot_kind i.1, inl (refl, worded look x c target_kind j.1), refl);
+      produced = (q.0, i.0, worded look x c new_kind q.1, took look x c dot_kind i.1, inl (refl, worded look x c target_kind j.1), refl);
       directive = refl;
       quoted = λ p q. refl;
       same = record { so = λ m. refl };
     };
   }
 
-  import_meta_on : (s : Span) (st : Stand) (c : Code) (ts0 m0 n0 r0 : Input) → TakesWord c import_kind ts0 m0 → Takes c dot_kind m0 n0 → TakesWord c meta_kind n0 r0 → Known ts0.places → (b : Gap) (ts : Input) (K : Gap → Input → Type 0)
+  import_meta_on : (s : Span) (st : Stand) (c : Code) (ts0 m0 n0 r0 : Input) → TakesWord c import_kind ts0 m0 → Takes c dot_kind m0 n0 → TakesWord c meta_kind n0 r0 → Known ts0.places → (b : Spacing) (ts : Input) (K : Spacing → Input → Type 0)
       → says x.naming (full look st (meta_prop_expr s import_kind)) b ts K → Out look x.naming st (meta_prop_expr s import_kind) c ts0 r0 b ts K
   import_meta_on s st c ts0 m0 n0 r0 e f g k b ts K q = let i = q.2 in let j = i.2 in record {
     d = Touching;
@@ -215,7 +215,7 @@ module _ (look : Look) (x : Lexicon look.style) where
     begins = led ts0 r0 ts j.0 import_kind e.0 (keyed look x import_kind q.1) refl;
     again = λ l. record {
       tree = meta_prop_expr (span (lo ts) j.0.last) import_kind;
-      spelled = (q.0, i.0, worded look x c import_kind q.1, took look x c dot_kind i.1, inr (refl, worded look x c meta_kind j.1), refl);
+      produced = (q.0, i.0, worded look x c import_kind q.1, took look x c dot_kind i.1, inr (refl, worded look x c meta_kind j.1), refl);
       directive = refl;
       quoted = λ p q. refl;
       same = record { so = λ m. refl };

@@ -7,18 +7,18 @@ use Rattle.ecma_tree.specs.Tree.{Tree, Trees, array_lit, expr_or_spread, more, n
 use Rattle.ecma_syntax.specs.Input.{Code, Input, assigning, first_span, kind, lo, span, unplaced, with_in}
 use Rattle.ecma_syntax.specs.Operators.{assignment_level}
 use Rattle.ecma_syntax.specs.Shape.{is_element, level}
-use Rattle.ecma_grammar.specs.Grammar.{Spells, parts}
-use Rattle.ecma_grammar.specs.Parts.{CommaThen, Expr, Listed, Sorted, part}
+use Rattle.ecma_grammar.specs.Grammar.{Produces, children}
+use Rattle.ecma_grammar.specs.Children.{CommaThen, Expr, Listed, Sorted, child}
 use Rattle.ecma_layout.specs.Layout.{comma, comma_line, ends_with_hole, separated}
 use Rattle.ecma_layout.specs.Looks.{formats, when, ◌·◌}
 use Rattle.ecma_layout.specs.declared.look.Look.{Look}
 use Rattle.ecma_layout.specs.declared.look.Stand.{Stand}
 use Rattle.ecma_layout.specs.declared.look.Stand.TheVariants.{Alone}
-use Rattle.ecma_written.specs.Gaps.{Gap, Touching}
+use Rattle.ecma_written.specs.Spacings.{Spacing, Touching}
 use Rattle.ecma_written.specs.Lexicon.{Lexicon}
 use Rattle.ecma_written.specs.Means.{Known}
 use Rattle.ecma_written.specs.Told.{says}
-use Rattle.ecma_redone.specs.Redo.{AllSame, Plain, Same, redo, redos}
+use Rattle.ecma_redone.specs.Redo.{AllRedone, Plain, Redone, redo, redos}
 use Rattle.ecma_redone.specs.Written.{mode_of}
 use Rattle.ecma_redone_rules.proofs.Naming.{leaves_at}
 use Rattle.ecma_redone_rules.proofs.Begins.{begun, is_loose, is_weak, led, loosen, no_else, strong}
@@ -46,7 +46,7 @@ module _ (look : Look) (x : Lexicon look.style) where
         begins = no_else ts0 r0 ts y.m (expr_begins look x.naming Alone e (assigning (with_in c)) ts0 r0 b ts K (above assignment_level (level e) (omega arith) h.0.0) y);
         again = λ g. let w = y.again (follow_on st (expr_or_spread s None e) Alone e r0 r0 y.m refl (above assignment_level (level e) (omega arith) h.0.0) g) in record {
           tree = expr_or_spread (span (lo ts) y.m.last) None w.tree;
-          spelled = (expr_low look x.naming assignment_level Alone e (with_in c) ts y.m h.0.0 (omega arith) w, refl);
+          produced = (expr_low look x.naming assignment_level Alone e (with_in c) ts y.m h.0.0 (omega arith) w, refl);
           directive = refl;
           quoted = λ p q. refl;
           same = record { so = λ n. ap (λ (t : Tree). expr_or_spread no_place None t) (w.same.so Plain) };
@@ -63,7 +63,7 @@ module _ (look : Look) (x : Lexicon look.style) where
         begins = λ e. absurd (dots_no_else (sym (marked look x dot_dot_dot_kind q.1) ∙ e));
         again = λ g. let w = y.again (follow_on st (expr_or_spread s (Some p) e) Alone e r0 r0 y.m refl (above assignment_level (level e) (omega arith) h.3.0) g) in record {
           tree = expr_or_spread (span (lo ts) y.m.last) (Some (first_span ts)) w.tree;
-          spelled = (q.0, took look x c dot_dot_dot_kind q.1, refl, expr_low look x.naming assignment_level Alone e (with_in c) q.0 y.m h.3.0 (omega arith) w, refl);
+          produced = (q.0, took look x c dot_dot_dot_kind q.1, refl, expr_low look x.naming assignment_level Alone e (with_in c) q.0 y.m h.3.0 (omega arith) w, refl);
           directive = refl;
           quoted = λ p q. refl;
           same = record { so = λ n. ap (λ (t : Tree). expr_or_spread no_place (Some no_place) t) (w.same.so Plain) };
@@ -71,8 +71,8 @@ module _ (look : Look) (x : Lexicon look.style) where
       }
 
   -- the layout of the elements, in lines of their own
-  elements_on : (c : Code) (xs : Trees) → AllSound look x.naming xs → (ts0 r0 : Input) → Listed true (Sorted is_element c) c right_bracket_kind (parts xs) ts0 r0 → Known ts0.places → (b : Gap) (ts : Input) (K : Gap → Input → Type 0)
-      → ((d : Gap) (m : Input) → K d m → kind m ≡ right_bracket_kind) → says x.naming (separated look (comma_line look) xs · when (ends_with_hole xs) (comma look)) b ts K
+  elements_on : (c : Code) (xs : Trees) → AllSound look x.naming xs → (ts0 r0 : Input) → Listed true (Sorted is_element c) c right_bracket_kind (children xs) ts0 r0 → Known ts0.places → (b : Spacing) (ts : Input) (K : Spacing → Input → Type 0)
+      → ((d : Spacing) (m : Input) → K d m → kind m ≡ right_bracket_kind) → says x.naming (separated look (comma_line look) xs · when (ends_with_hole xs) (comma look)) b ts K
       → Gone look x (Sorted is_element c) (Sorted is_element (unplaced c)) (sorted look x is_element re_is_element element_plain c) c right_bracket_kind refl true xs r0 ts K
   elements_on c xs a ts0 r0 h k b ts K peek q = holed look x _ _ _ c right_bracket_kind refl (comma_line look) (comma_line_on look x) xs a ts0 r0 h k b ts K peek q
 
@@ -88,7 +88,7 @@ module _ (look : Look) (x : Lexicon look.style) where
         begins = led ts0 r0 ts o.0 left_bracket_kind h.1.0 (marked look x left_bracket_kind q.1) refl;
         again = λ g. record {
           tree = array_lit (span (lo ts) o.0.last) none;
-          spelled = (q.0, took look x c left_bracket_kind q.1, took look x c right_bracket_kind o.1, refl);
+          produced = (q.0, took look x c left_bracket_kind q.1, took look x c right_bracket_kind o.1, refl);
           directive = refl;
           quoted = λ p q. refl;
           same = record { so = λ n. refl };
@@ -109,7 +109,7 @@ module _ (look : Look) (x : Lexicon look.style) where
         begins = led ts0 r0 ts o.0 left_bracket_kind h.1.0 (marked look x left_bracket_kind q.1) refl;
         again = λ g. let w = z.again o.0 (took look x c right_bracket_kind o.1) in record {
           tree = array_lit (span (lo ts) o.0.last) w.0;
-          spelled = (q.0, took look x c left_bracket_kind q.1, w.1, refl);
+          produced = (q.0, took look x c left_bracket_kind q.1, w.1, refl);
           directive = refl;
           quoted = λ p q. refl;
           same = record { so = λ n. ap (λ (us : Trees). array_lit no_place us) (w.2.so Plain) };
@@ -134,12 +134,12 @@ module _ (look : Look) (x : Lexicon look.style) where
       none_more : (ts : Trees) (t : Tree) → none ≡ more t ts → ⊥
       none_more ts t e = cc
 
-      sequenced : (v : Tree) (vs : Trees) (n m : Input) → Expr assignment_level (unplaced c) (part v (λ y. Spells v y)) ts n → CommaThen (Expr assignment_level (unplaced c)) (unplaced c) (parts vs) n m → Same (leaves_at look x.naming) Plain t v → AllSame (leaves_at look x.naming) Plain (more u us) vs
+      sequenced : (v : Tree) (vs : Trees) (n m : Input) → Expr assignment_level (unplaced c) (child v (λ y. Produces v y)) ts n → CommaThen (Expr assignment_level (unplaced c)) (unplaced c) (children vs) n m → Redone (leaves_at look x.naming) Plain t v → AllRedone (leaves_at look x.naming) Plain (more u us) vs
           → Again look x.naming (mode_of st) (seq_expr s (more t (more u us))) c ts m
       sequenced v none n m i j p r = absurd (none_more (redos (leaves_at look x.naming) Plain us) (redo (leaves_at look x.naming) Plain u) (r.so Plain))
       sequenced v (more y ys) n m i j p r = record {
         tree = seq_expr (span (lo ts) m.last) (more v (more y ys));
-        spelled = (n, i, j, refl);
+        produced = (n, i, j, refl);
         directive = refl;
         quoted = λ p q. refl;
         same = record { so = λ e. ap₂ (λ (t : Tree) (us : Trees). seq_expr no_place (more t us)) (p.so Plain) (r.so Plain) };

@@ -3,12 +3,12 @@ use Rattle.std.proofs.Common.{Bool, ap, ap₂, not, refl, sym, ℕ, ◌&&◌, �
 use Rattle.ecma_token.specs.Kinds.{assign_kind}
 use Rattle.ecma_tree.specs.Tree.{Tree, absent, array_pat, assign_pat, assign_pat_prop, big_int_lit, binding_ident, block_stmt, break_stmt, class_decl, computed_prop_name, continue_stmt, debugger_stmt, do_while_stmt, empty_stmt, expr_or_spread, expr_pat, expr_stmt, fn_decl, for_in_stmt, for_of_stmt, for_stmt, function, hole, ident, ident_name, if_stmt, key_value_pat_prop, labeled_stmt, member_expr, number_lit, object_pat, opt_chain_expr, param, paren_expr, private_name, rest_pat, return_stmt, str_lit, super_prop_expr, switch_stmt, throw_stmt, try_stmt, using_decl, var_decl, var_declarator, while_stmt, with_stmt}
 use Rattle.ecma_syntax.specs.Shape.{is_absent, is_assigned, is_binding, is_block, is_bound_name, is_chain, is_declaration, is_declarator, is_directive, is_element, is_hole, is_item, is_item_pat, is_key, is_name, is_pattern_prop, is_place, is_plain_function, is_private, is_rest, is_simple, is_statement, is_structured, is_target, is_target_expr, is_word_name}
-use Rattle.ecma_grammar.specs.Parts.{is_ident}
+use Rattle.ecma_grammar.specs.Children.{is_ident}
 use Rattle.ecma_layout.specs.Layout.{is_variables}
-use Rattle.ecma_redone.specs.Redo.{Leaves, Mode, Plain, Same, kept_at, redo}
+use Rattle.ecma_redone.specs.Redo.{Leaves, Mode, Plain, Redone, kept_at, redo}
 
 -- A question that has the same answer however the tree is given anew has it of the two trees.
-pub alike : {A : Type 0} (p : Tree → A) → ((l : Leaves) (m : Mode) (t : Tree) → p (redo l m t) ≡ p t) → (l : Leaves) (m : Mode) (t u : Tree) → Same l m t u → p u ≡ p t
+pub alike : {A : Type 0} (p : Tree → A) → ((l : Leaves) (m : Mode) (t : Tree) → p (redo l m t) ≡ p t) → (l : Leaves) (m : Mode) (t u : Tree) → Redone l m t u → p u ≡ p t
 alike p f l m t u s = sym (f (kept_at l.written) Plain u) ∙ (ap p (s.so Plain) ∙ f l m t)
 
 pub re_is_absent : (l : Leaves) (m : Mode) (t : Tree) → is_absent (redo l m t) ≡ is_absent t

@@ -8,18 +8,18 @@ use Rattle.ecma_tree.specs.Tree.{Tree, Trees, block_stmt, debugger_stmt, empty_s
 use Rattle.ecma_syntax.specs.Input.{Code, Input, assigning, brk2, kind, kind2, lo, rest, span, unplaced}
 use Rattle.ecma_syntax.specs.Operators.{expression_level, plain_end}
 use Rattle.ecma_syntax.specs.Shape.{level}
-use Rattle.ecma_grammar.specs.Grammar.{Spells}
-use Rattle.ecma_grammar.specs.Parts.{part}
+use Rattle.ecma_grammar.specs.Grammar.{Produces}
+use Rattle.ecma_grammar.specs.Children.{child}
 use Rattle.ecma_grammar.specs.Statements.{InParens, starts_expression_statement, statement_end}
 use Rattle.ecma_layout.specs.Layout.{in_parens, laid, marked_as_body}
 use Rattle.ecma_layout.specs.declared.look.Look.{Look}
 use Rattle.ecma_layout.specs.declared.look.Stand.{Stand}
 use Rattle.ecma_layout.specs.declared.look.Stand.TheVariants.{Alone}
-use Rattle.ecma_written.specs.Gaps.{Gap, Touching}
+use Rattle.ecma_written.specs.Spacings.{Spacing, Touching}
 use Rattle.ecma_written.specs.Lexicon.{Lexicon}
 use Rattle.ecma_written.specs.Means.{Known}
 use Rattle.ecma_written.specs.Told.{says}
-use Rattle.ecma_redone.specs.Redo.{Plain, Same}
+use Rattle.ecma_redone.specs.Redo.{Plain, Redone}
 use Rattle.ecma_redone_rules.proofs.Naming.{leaves_at}
 use Rattle.ecma_redone_rules.proofs.Begins.{Begins, fine, no_else, same_start}
 use Rattle.ecma_redone_rules.proofs.Bodies.{braced}
@@ -88,7 +88,7 @@ module _ (look : Look) (x : Lexicon look.style) where
         begins = no_else ts0 h.0 ts y.m u;
         again = λ g. let w = y.again (record { quiet = λ z. i.calm; other = λ z. absurd (no_item e (above expression_level (level e) (omega arith) h.2.0) z) }) in record {
           tree = expr_stmt (span (lo ts) o.1.last) w.tree;
-          spelled = (y.m, starts_again ts0 h.0 ts y.m u i h.1, expr_low look x.naming expression_level Alone e c ts y.m h.2.0 (omega arith) w, ended look x c (statement_end (unplaced c) ts w.tree) o.2, refl);
+          produced = (y.m, starts_again ts0 h.0 ts y.m u i h.1, expr_low look x.naming expression_level Alone e c ts y.m h.2.0 (omega arith) w, ended look x c (statement_end (unplaced c) ts w.tree) o.2, refl);
           directive = w.quoted (span (lo ts) o.1.last) s;
           quoted = λ p q. refl;
           same = record { so = λ n. ap (λ (t : Tree). expr_stmt no_place t) (w.same.so Plain) };
@@ -107,7 +107,7 @@ module _ (look : Look) (x : Lexicon look.style) where
         begins = λ e. absurd (brace_opens (sym z.lead ∙ e));
         again = λ g. record {
           tree = block_stmt (span (lo ts) z.m.last) z.again.0;
-          spelled = (z.again.1, z.again.2, z.again.3, refl);
+          produced = (z.again.1, z.again.2, z.again.3, refl);
           directive = refl;
           quoted = λ p q. refl;
           same = record { so = λ n. ap (λ (us : Trees). block_stmt no_place us) (z.again.4.so Plain) };
@@ -118,13 +118,13 @@ module _ (look : Look) (x : Lexicon look.style) where
       brace_opens e = omega arith
 
   -- an expression in parentheses
-  pub record Parens (e : Tree) (c : Code) (r0 : Input) (b : Gap) (ts : Input) (K : Gap → Input → Type 0) : Type 0 where
+  pub record Parens (e : Tree) (c : Code) (r0 : Input) (b : Spacing) (ts : Input) (K : Spacing → Input → Type 0) : Type 0 where
     pub m : Input
     pub more : K Touching m
     pub known : Known r0.places
-    pub again : (u : Tree) × InParens (unplaced c) (part u (λ y. Spells u y)) ts m × Same (leaves_at look x.naming) Plain e u
+    pub again : (u : Tree) × InParens (unplaced c) (child u (λ y. Produces u y)) ts m × Redone (leaves_at look x.naming) Plain e u
 
-  pub parens_in : (e : Tree) → Sound look x.naming Alone e → (c : Code) (ts0 r0 : Input) → InParens c (part e (λ y. Spells e y)) ts0 r0 → Known ts0.places → (b : Gap) (ts : Input) (K : Gap → Input → Type 0) → says x.naming (in_parens (laid look Alone e)) b ts K → Parens e c r0 b ts K
+  pub parens_in : (e : Tree) → Sound look x.naming Alone e → (c : Code) (ts0 r0 : Input) → InParens c (child e (λ y. Produces e y)) ts0 r0 → Known ts0.places → (b : Spacing) (ts : Input) (K : Spacing → Input → Type 0) → says x.naming (in_parens (laid look Alone e)) b ts K → Parens e c r0 b ts K
   parens_in e f c ts0 r0 h k b ts K q =
       let y = expr look x.naming expression_level Alone e f (omega arith) c h.0 h.1 h.3 (x.later ts0 h.0 h.2.2 k) _ q.0 _ q.2 in
       let o = y.more in let w = y.again (follow_by Alone e h.1 y.m right_paren_kind (marked look x right_paren_kind o.1) refl) in record {
@@ -145,7 +145,7 @@ module _ (look : Look) (x : Lexicon look.style) where
     broke = q.1.broke;
     tight = λ e. absurd (true≢false (sym e));
     begins = λ e. absurd (empty_else (sym (marked look x semicolon_kind q.1) ∙ e));
-    again = λ g. record { tree = empty_stmt (span (lo ts) q.0.last); spelled = (took look x c semicolon_kind q.1, refl); directive = refl; quoted = λ p q. refl; same = record { so = λ n. refl } };
+    again = λ g. record { tree = empty_stmt (span (lo ts) q.0.last); produced = (took look x c semicolon_kind q.1, refl); directive = refl; quoted = λ p q. refl; same = record { so = λ n. refl } };
   }
 
   pub debugger_on : (s : Span) (st : Stand) → Sound look x.naming st (debugger_stmt s)
@@ -157,5 +157,5 @@ module _ (look : Look) (x : Lexicon look.style) where
     broke = q.1.broke;
     tight = λ e. absurd (true≢false (sym e));
     begins = λ e. absurd (debugger_else (sym (keyed look x debugger_kind q.1) ∙ e));
-    again = λ g. record { tree = debugger_stmt (span (lo ts) o.1.last); spelled = (q.0, worded look x c debugger_kind q.1, ended look x c plain_end o.2, refl); directive = refl; quoted = λ p q. refl; same = record { so = λ n. refl } };
+    again = λ g. record { tree = debugger_stmt (span (lo ts) o.1.last); produced = (q.0, worded look x c debugger_kind q.1, ended look x c plain_end o.2, refl); directive = refl; quoted = λ p q. refl; same = record { so = λ n. refl } };
   }

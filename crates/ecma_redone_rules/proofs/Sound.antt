@@ -5,18 +5,18 @@ use Rattle.ecma_token.specs.declared.place.Span.{Span}
 use Rattle.ecma_tree.specs.Tree.{Tree, Trees, expr_stmt, more, none}
 use Rattle.ecma_syntax.specs.Input.{Code, Input, assigning, brk, unplaced}
 use Rattle.ecma_syntax.specs.Shape.{is_bound_name, is_private, is_use_strict, is_word_name, level}
-use Rattle.ecma_grammar.specs.Grammar.{Spells}
-use Rattle.ecma_grammar.specs.Parts.{Expr, is_ident, part}
+use Rattle.ecma_grammar.specs.Grammar.{Produces}
+use Rattle.ecma_grammar.specs.Children.{Expr, is_ident, child}
 use Rattle.ecma_layout.specs.Layout.{is_variables, laid}
 use Rattle.ecma_layout.specs.Looks.{Laid, both, semi, when, ◌·◌}
 use Rattle.ecma_layout.specs.declared.look.Look.{Look}
 use Rattle.ecma_layout.specs.declared.look.Stand.{Stand}
 use Rattle.ecma_layout.specs.declared.look.Stand.TheVariants.{Alone}
-use Rattle.ecma_written.specs.Gaps.{Gap, Touching, is_broken}
+use Rattle.ecma_written.specs.Spacings.{Spacing, Touching, is_broken}
 use Rattle.ecma_written.specs.Means.{Known}
 use Rattle.ecma_written.specs.Naming.{Naming}
 use Rattle.ecma_written.specs.Told.{says}
-use Rattle.ecma_redone.specs.Redo.{Headed, Mode, Same}
+use Rattle.ecma_redone.specs.Redo.{Headed, Mode, Redone}
 use Rattle.ecma_redone.specs.Written.{mode_of}
 use Rattle.ecma_redone_rules.proofs.Begins.{Begins, Starts, begun, is_inner, is_loose, is_part, is_weak, level_part, part_outer, part_variables, strong}
 use Rattle.ecma_redone_rules.proofs.Follow.{Follow}
@@ -38,18 +38,18 @@ tight_of t h = first_of_two (leb 1 (level t)) _ (le-leb 1 (level t) h)
 abbrev pub full : Look → Stand → Tree → Laid
 full look s t = laid look s t · when (is_variables t) semi
 
--- What the tree is derived as again: a tree that spells the tokens and is this one but for places and spellings, with the same directives (11.2.1).
+-- What the tree is derived as again: a tree that produces the tokens and is this one but for places and spellings, with the same directives (11.2.1).
 pub record Again (look : Look) (naming : Naming) (mode : Mode) (t : Tree) (c : Code) (ts r : Input) : Type 0 where
   pub tree : Tree
-  pub spelled : Spells tree (unplaced c) ts r
-  pub same : Same (leaves_at look naming) mode t tree
+  pub produced : Produces tree (unplaced c) ts r
+  pub same : Redone (leaves_at look naming) mode t tree
   pub directive : is_use_strict tree ≡ is_use_strict t
   pub quoted : (p q : Span) → is_use_strict (expr_stmt p tree) ≡ is_use_strict (expr_stmt q t)
 
--- What holds of the tokens from `ts` on that a layout says of a tree which spelled those from `ts0` up to `r0`.
-pub record Out (look : Look) (naming : Naming) (s : Stand) (t : Tree) (c : Code) (ts0 r0 : Input) (b : Gap) (ts : Input) (K : Gap → Input → Type 0) : Type 0 where
-  -- they go up to `m`, behind the gap `d`, where the rest of the layout goes on
-  pub d : Gap
+-- What holds of the tokens from `ts` on that a layout says of a tree which produced those from `ts0` up to `r0`.
+pub record Out (look : Look) (naming : Naming) (s : Stand) (t : Tree) (c : Code) (ts0 r0 : Input) (b : Spacing) (ts : Input) (K : Spacing → Input → Type 0) : Type 0 where
+  -- they go up to `m`, behind the spacing `d`, where the rest of the layout goes on
+  pub d : Spacing
   pub m : Input
   pub more : K d m
   -- what was left then was read
@@ -63,7 +63,7 @@ pub record Out (look : Look) (naming : Naming) (s : Stand) (t : Tree) (c : Code)
 
 -- Whatever a tree spells in a code, what the layout of it says is derived in this code again.
 abbrev pub Claim : Look → Naming → Stand → Tree → Type 1
-Claim look naming s t = (c : Code) (ts0 r0 : Input) → Spells t c ts0 r0 → Known ts0.places → (b : Gap) (ts : Input) (K : Gap → Input → Type 0) → says naming (full look s t) b ts K → Out look naming s t c ts0 r0 b ts K
+Claim look naming s t = (c : Code) (ts0 r0 : Input) → Produces t c ts0 r0 → Known ts0.places → (b : Spacing) (ts : Input) (K : Spacing → Input → Type 0) → says naming (full look s t) b ts K → Out look naming s t c ts0 r0 b ts K
 
 -- the same of all but inner parts
 abbrev pub Unless : Bool → Type 1 → Type 1
@@ -83,20 +83,20 @@ module _ (look : Look) (naming : Naming) where
 
   -- ---- parts of a production
 
-  pub plain_part : (s : Stand) (e : Tree) → Sound look naming s e → is_part e ≡ true → (c : Code) (ts0 r0 : Input) → Spells e c ts0 r0 → Known ts0.places
-      → (b : Gap) (ts : Input) (K : Gap → Input → Type 0) → says naming (laid look s e) b ts K → Out look naming s e c ts0 r0 b ts K
+  pub plain_part : (s : Stand) (e : Tree) → Sound look naming s e → is_part e ≡ true → (c : Code) (ts0 r0 : Input) → Produces e c ts0 r0 → Known ts0.places
+      → (b : Spacing) (ts : Input) (K : Spacing → Input → Type 0) → says naming (laid look s e) b ts K → Out look naming s e c ts0 r0 b ts K
   plain_part s e f n c ts0 r0 h k b ts K q = outer s e f (part_outer e n) c ts0 r0 h k b ts K (subst (λ (v : Bool). says naming (both (laid look s e) (when v semi)) b ts K) (sym (part_variables e n)) q)
 
-  pub expr : (l : ℕ) (s : Stand) (e : Tree) → Sound look naming s e → 1 ≤ l → (c : Code) (ts0 r0 : Input) → Expr l c (part e (λ y. Spells e y)) ts0 r0 → Known ts0.places
-      → (b : Gap) (ts : Input) (K : Gap → Input → Type 0) → says naming (laid look s e) b ts K → Out look naming s e (assigning c) ts0 r0 b ts K
+  pub expr : (l : ℕ) (s : Stand) (e : Tree) → Sound look naming s e → 1 ≤ l → (c : Code) (ts0 r0 : Input) → Expr l c (child e (λ y. Produces e y)) ts0 r0 → Known ts0.places
+      → (b : Spacing) (ts : Input) (K : Spacing → Input → Type 0) → says naming (laid look s e) b ts K → Out look naming s e (assigning c) ts0 r0 b ts K
   expr l s e f n c ts0 r0 h k b ts K q = plain_part s e f (level_part e (omega (arith, n, h.0))) (assigning c) ts0 r0 h.1 k b ts K q
 
-  pub expr_begins : (s : Stand) (e : Tree) (c : Code) (ts0 r0 : Input) (b : Gap) (ts : Input) (K : Gap → Input → Type 0) → 1 ≤ level e → (o : Out look naming s e c ts0 r0 b ts K) → Begins (is_loose e) ts0 r0 ts o.m
+  pub expr_begins : (s : Stand) (e : Tree) (c : Code) (ts0 r0 : Input) (b : Spacing) (ts : Input) (K : Spacing → Input → Type 0) → 1 ≤ level e → (o : Out look naming s e c ts0 r0 b ts K) → Begins (is_loose e) ts0 r0 ts o.m
   expr_begins s e c ts0 r0 b ts K h o = begun (is_weak e) (is_loose e) ts0 r0 ts o.m (strong e h) o.begins
 
   -- as an expression of a level
-  pub expr_low : (n : ℕ) (s : Stand) (e : Tree) (c : Code) (ts r : Input) → n ≤ level e → n ≤ 18 → (w : Again look naming (mode_of s) e (assigning c) ts r) → Expr n (unplaced c) (part w.tree (λ y. Spells w.tree y)) ts r
-  expr_low n s e c ts r h k w = (level_low (leaves_at look naming) (mode_of s) e w.tree w.same n h k, w.spelled)
+  pub expr_low : (n : ℕ) (s : Stand) (e : Tree) (c : Code) (ts r : Input) → n ≤ level e → n ≤ 18 → (w : Again look naming (mode_of s) e (assigning c) ts r) → Expr n (unplaced c) (child w.tree (λ y. Produces w.tree y)) ts r
+  expr_low n s e c ts r h k w = (level_low (leaves_at look naming) (mode_of s) e w.tree w.same n h k, w.produced)
 
-  pub expr_head : (n : ℕ) (e : Tree) (c : Code) (ts r : Input) → n ≤ level e → (w : Again look naming Headed e (assigning c) ts r) → Expr n (unplaced c) (part w.tree (λ y. Spells w.tree y)) ts r
-  expr_head n e c ts r h w = (level_head look naming Headed e w.tree refl w.same n h, w.spelled)
+  pub expr_head : (n : ℕ) (e : Tree) (c : Code) (ts r : Input) → n ≤ level e → (w : Again look naming Headed e (assigning c) ts r) → Expr n (unplaced c) (child w.tree (λ y. Produces w.tree y)) ts r
+  expr_head n e c ts r h w = (level_head look naming Headed e w.tree refl w.same n h, w.produced)

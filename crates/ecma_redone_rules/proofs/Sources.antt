@@ -8,21 +8,21 @@ use Rattle.ecma_tree.specs.Tree.{Tree, Trees, absent, ident, ident_name, key_val
 use Rattle.ecma_syntax.specs.Input.{Code, Input, TakesWord, brk, kind, lo, span, unplaced}
 use Rattle.ecma_syntax.specs.Operators.{plain_end, source_end}
 use Rattle.ecma_syntax.specs.Shape.{are_attributes, export_name, is_absent, is_attribute_key, is_attributes, is_string}
-use Rattle.ecma_grammar.specs.Grammar.{Spells}
+use Rattle.ecma_grammar.specs.Grammar.{Produces}
 use Rattle.ecma_grammar.specs.Modules.{Attributes, ExportName, Source}
-use Rattle.ecma_grammar.specs.Parts.{By, Ends, Sorted, is_module_item, part}
+use Rattle.ecma_grammar.specs.Children.{By, Ends, Sorted, is_module_item, child}
 use Rattle.ecma_spell_string.specs.Names.{is_quoted_key}
 use Rattle.ecma_layout.specs.Layout.{attributes, laid, word}
 use Rattle.ecma_layout.specs.Literals.{key_bytes}
 use Rattle.ecma_layout.specs.Looks.{formats, gap, semi, when, ◌·◌}
 use Rattle.ecma_layout.specs.declared.look.Look.{Look}
 use Rattle.ecma_layout.specs.declared.look.Stand.TheVariants.{Alone, Key}
-use Rattle.ecma_written.specs.Gaps.{Gap, Touching, is_broken}
+use Rattle.ecma_written.specs.Spacings.{Spacing, Touching, is_broken}
 use Rattle.ecma_written.specs.Lexicon.{Lexicon}
 use Rattle.ecma_written.specs.Means.{Known}
 use Rattle.ecma_written.specs.Naming.{Naming}
 use Rattle.ecma_written.specs.Told.{says}
-use Rattle.ecma_redone.specs.Redo.{Leaves, Mode, Plain, Same, redo, redos, kept_at}
+use Rattle.ecma_redone.specs.Redo.{Leaves, Mode, Plain, Redone, redo, redos, kept_at}
 use Rattle.ecma_redone.specs.Written.{written_key}
 use Rattle.ecma_redone_rules.proofs.Naming.{leaves_at}
 use Rattle.ecma_redone_rules.proofs.Begins.{first_token, is_loose, is_part, is_weak}
@@ -78,7 +78,7 @@ attributes_kept : (places : ℕ → Span) (t : Tree) → is_attributes (redo (ke
 attributes_kept places (object_lit s ps) = all_kept places ps
 attributes_kept places _ = refl
 
-attributes_again : (look : Look) (naming : Naming) (t u : Tree) → Same (leaves_at look naming) Plain t u → is_attributes u ≡ is_attributes t
+attributes_again : (look : Look) (naming : Naming) (t u : Tree) → Redone (leaves_at look naming) Plain t u → is_attributes u ≡ is_attributes t
 attributes_again look naming t u s = sym (attributes_kept naming.written u) ∙ (ap is_attributes (s.so Plain) ∙ attributes_written look naming t)
 
 attributes_part : (t : Tree) → is_attributes t ≡ true → (is_part t ≡ true) × (is_module_item t ≡ false)
@@ -88,17 +88,17 @@ attributes_part _ h = absurd (true≢false (sym h))
 module _ (look : Look) (x : Lexicon look.style) where
   -- ---- a string as a name
 
-  pub record String_on (t : Tree) (c : Code) (ts0 r0 : Input) (b : Gap) (ts : Input) (K : Gap → Input → Type 0) : Type 0 where
-    pub d : Gap
+  pub record String_on (t : Tree) (c : Code) (ts0 r0 : Input) (b : Spacing) (ts : Input) (K : Spacing → Input → Type 0) : Type 0 where
+    pub d : Spacing
     pub m : Input
     pub more : K d m
     pub known : Known r0.places
     pub broke : brk ts ≡ is_broken b
     pub touches : d ≡ Touching
     pub first : kind ts ≡ else_kind → kind ts0 ≡ else_kind
-    pub again : (u : Tree) × Sorted is_string (unplaced c) (part u (λ y. Spells u y)) ts m × Same (leaves_at look x.naming) Plain t u
+    pub again : (u : Tree) × Sorted is_string (unplaced c) (child u (λ y. Produces u y)) ts m × Redone (leaves_at look x.naming) Plain t u
 
-  plain_string : (t : Tree) → Sound look x.naming Key t → (c : Code) (ts0 r0 : Input) → Sorted is_string c (part t (λ y. Spells t y)) ts0 r0 → Known ts0.places → (b : Gap) (ts : Input) (K : Gap → Input → Type 0) → says x.naming (laid look Key t) b ts K → String_on t c ts0 r0 b ts K
+  plain_string : (t : Tree) → Sound look x.naming Key t → (c : Code) (ts0 r0 : Input) → Sorted is_string c (child t (λ y. Produces t y)) ts0 r0 → Known ts0.places → (b : Spacing) (ts : Input) (K : Spacing → Input → Type 0) → says x.naming (laid look Key t) b ts K → String_on t c ts0 r0 b ts K
   plain_string t f c ts0 r0 h k b ts K q =
       let p = string_key t h.0 in
       let z = plain_part look x.naming Key t f p.0 c ts0 r0 h.1 k b ts K q in
@@ -110,30 +110,30 @@ module _ (look : Look) (x : Lexicon look.style) where
         broke = z.broke;
         touches = z.tight p.1;
         first = first_token (is_weak t) (is_loose t) ts0 r0 ts z.m z.begins;
-        again = (w.tree, (alike is_string re_is_string (leaves_at look x.naming) Plain t w.tree w.same ∙ h.0, w.spelled), w.same);
+        again = (w.tree, (alike is_string re_is_string (leaves_at look x.naming) Plain t w.tree w.same ∙ h.0, w.produced), w.same);
       }
 
-  pub string_on : (t : Tree) → KeyPart look x.naming t → (c : Code) (ts0 r0 : Input) → Sorted is_string c (part t (λ y. Spells t y)) ts0 r0 → Known ts0.places → (b : Gap) (ts : Input) (K : Gap → Input → Type 0) → says x.naming (laid look Key t) b ts K → String_on t c ts0 r0 b ts K
+  pub string_on : (t : Tree) → KeyPart look x.naming t → (c : Code) (ts0 r0 : Input) → Sorted is_string c (child t (λ y. Produces t y)) ts0 r0 → Known ts0.places → (b : Spacing) (ts : Input) (K : Spacing → Input → Type 0) → says x.naming (laid look Key t) b ts K → String_on t c ts0 r0 b ts K
   string_on (str_lit s u w) f c ts0 r0 h k b ts K q = plain_string (str_lit s u w) f c ts0 r0 h k b ts K q
   string_on _ f c ts0 r0 h k b ts K q = absurd (true≢false (sym h.0))
 
   -- ---- a word or a string as the name of an export
 
-  pub record Exported (t : Tree) (c : Code) (ts0 r0 : Input) (b : Gap) (ts : Input) (K : Gap → Input → Type 0) : Type 0 where
-    pub d : Gap
+  pub record Exported (t : Tree) (c : Code) (ts0 r0 : Input) (b : Spacing) (ts : Input) (K : Spacing → Input → Type 0) : Type 0 where
+    pub d : Spacing
     pub m : Input
     pub more : K d m
     pub known : Known r0.places
     pub broke : brk ts ≡ is_broken b
     pub first : kind ts ≡ else_kind → kind ts0 ≡ else_kind
-    pub again : (u : Tree) × ExportName (unplaced c) (export_name u) (part u (λ y. Spells u y)) ts m × Same (leaves_at look x.naming) Plain t u
+    pub again : (u : Tree) × ExportName (unplaced c) (export_name u) (child u (λ y. Produces u y)) ts m × Redone (leaves_at look x.naming) Plain t u
 
-  as_string : (u : Tree) (c : Code) (ts m : Input) → Sorted is_string c (part u (λ y. Spells u y)) ts m → ExportName c (export_name u) (part u (λ y. Spells u y)) ts m
-  as_string u c ts m h = subst (λ (o : Option (List ℕ × Span)). ExportName c o (part u (λ y. Spells u y)) ts m) (sym (string_key u h.0).4) h
+  as_string : (u : Tree) (c : Code) (ts m : Input) → Sorted is_string c (child u (λ y. Produces u y)) ts m → ExportName c (export_name u) (child u (λ y. Produces u y)) ts m
+  as_string u c ts m h = subst (λ (o : Option (List ℕ × Span)). ExportName c o (child u (λ y. Produces u y)) ts m) (sym (string_key u h.0).4) h
 
-  other_name : (t : Tree) → export_name t ≡ None → KeyPart look x.naming t → (c : Code) (ts0 r0 : Input) → ExportName c (export_name t) (part t (λ y. Spells t y)) ts0 r0 → Known ts0.places → (b : Gap) (ts : Input) (K : Gap → Input → Type 0) → says x.naming (laid look Key t) b ts K → Exported t c ts0 r0 b ts K
+  other_name : (t : Tree) → export_name t ≡ None → KeyPart look x.naming t → (c : Code) (ts0 r0 : Input) → ExportName c (export_name t) (child t (λ y. Produces t y)) ts0 r0 → Known ts0.places → (b : Spacing) (ts : Input) (K : Spacing → Input → Type 0) → says x.naming (laid look Key t) b ts K → Exported t c ts0 r0 b ts K
   other_name t e f c ts0 r0 h k b ts K q =
-      let z = string_on t f c ts0 r0 (subst (λ (o : Option (List ℕ × Span)). ExportName c o (part t (λ y. Spells t y)) ts0 r0) e h) k b ts K q in record {
+      let z = string_on t f c ts0 r0 (subst (λ (o : Option (List ℕ × Span)). ExportName c o (child t (λ y. Produces t y)) ts0 r0) e h) k b ts K q in record {
         d = z.d;
         m = z.m;
         more = z.more;
@@ -143,7 +143,7 @@ module _ (look : Look) (x : Lexicon look.style) where
         again = (z.again.0, as_string z.again.0 (unplaced c) ts z.m z.again.1, z.again.2);
       }
 
-  pub export_name_on : (t : Tree) → KeyPart look x.naming t → (c : Code) (ts0 r0 : Input) → ExportName c (export_name t) (part t (λ y. Spells t y)) ts0 r0 → Known ts0.places → (b : Gap) (ts : Input) (K : Gap → Input → Type 0) → says x.naming (laid look Key t) b ts K → Exported t c ts0 r0 b ts K
+  pub export_name_on : (t : Tree) → KeyPart look x.naming t → (c : Code) (ts0 r0 : Input) → ExportName c (export_name t) (child t (λ y. Produces t y)) ts0 r0 → Known ts0.places → (b : Spacing) (ts : Input) (K : Spacing → Input → Type 0) → says x.naming (laid look Key t) b ts K → Exported t c ts0 r0 b ts K
   export_name_on (ident s n) f c ts0 r0 h k b ts K q =
       let z = spelled_word look x n ts0 r0 ts q.0 c c h.0 k q.1.told in record {
         d = Touching;
@@ -158,20 +158,20 @@ module _ (look : Look) (x : Lexicon look.style) where
 
   -- ---- the name of a module, its attributes and the end
 
-  record Attributed (t : Tree) (c : Code) (e : ℕ) (r0 : Input) (ts : Input) (K : Gap → Input → Type 0) : Type 0 where
-    d : Gap
+  record Attributed (t : Tree) (c : Code) (e : ℕ) (r0 : Input) (ts : Input) (K : Spacing → Input → Type 0) : Type 0 where
+    d : Spacing
     m : Input
     more : K d m
     known : Known r0.places
-    again : (u : Tree) × By (is_absent u) (Ends (unplaced c) e ts m) ((n : Input) × Attributes (unplaced c) (part u (λ y. Spells u y)) ts n × Ends (unplaced c) plain_end n m) × Same (leaves_at look x.naming) Plain t u
+    again : (u : Tree) × By (is_absent u) (Ends (unplaced c) e ts m) ((n : Input) × Attributes (unplaced c) (child u (λ y. Produces u y)) ts n × Ends (unplaced c) plain_end n m) × Redone (leaves_at look x.naming) Plain t u
 
   -- `with`, or `assert` on the line of the name
-  record With_word (c : Code) (ts : Input) (K : Gap → Input → Type 0) : Type 0 where
+  record With_word (c : Code) (ts : Input) (K : Spacing → Input → Type 0) : Type 0 where
     m : Input
     more : K Touching m
     again : TakesWord (unplaced c) with_kind ts m ⊎ ((brk ts ≡ false) × TakesWord (unplaced c) assert_kind ts m)
 
-  with_word : (v : Bool) (c : Code) (b : Gap) (ts : Input) (K : Gap → Input → Type 0) → is_broken b ≡ false → says x.naming (if v then word (codes "assert") else word (codes "with")) b ts K → With_word c ts K
+  with_word : (v : Bool) (c : Code) (b : Spacing) (ts : Input) (K : Spacing → Input → Type 0) → is_broken b ≡ false → says x.naming (if v then word (codes "assert") else word (codes "with")) b ts K → With_word c ts K
   with_word true c b ts K e q = record { m = q.0; more = q.2; again = inr (q.1.broke ∙ e, worded look x c assert_kind q.1) }
   with_word false c b ts K e q = record { m = q.0; more = q.2; again = inl (worded look x c with_kind q.1) }
 
@@ -179,7 +179,7 @@ module _ (look : Look) (x : Lexicon look.style) where
   word_known c m r (inl h) k = x.later m r h.3 k
   word_known c m r (inr h) k = x.later m r h.1.3 k
 
-  attributed_on : (t : Tree) → Sound look x.naming Alone t → (c : Code) (e : ℕ) (v : Bool) → is_absent t ≡ v → (ts0 r0 : Input) → By v (Ends c e ts0 r0) ((n : Input) × Attributes c (part t (λ y. Spells t y)) ts0 n × Ends c plain_end n r0) → Known ts0.places → (b : Gap) → b ≡ Touching → (ts : Input) (K : Gap → Input → Type 0)
+  attributed_on : (t : Tree) → Sound look x.naming Alone t → (c : Code) (e : ℕ) (v : Bool) → is_absent t ≡ v → (ts0 r0 : Input) → By v (Ends c e ts0 r0) ((n : Input) × Attributes c (child t (λ y. Produces t y)) ts0 n × Ends c plain_end n r0) → Known ts0.places → (b : Spacing) → b ≡ Touching → (ts : Input) (K : Spacing → Input → Type 0)
       → says x.naming (when (not v) (gap look · word (if look.asserts then codes "assert" else codes "with") · gap look · laid look Alone t) · semi) b ts K → Attributed t c e r0 ts K
   attributed_on t f c e true a ts0 r0 h k b i ts K q = let o = semi_of b ts K q in record {
     d = o.0;
@@ -199,25 +199,25 @@ module _ (look : Look) (x : Lexicon look.style) where
         m = o.1;
         more = o.3;
         known = ended_known look x c plain_end h.0 r0 h.2 y.known;
-        again = (u.tree, unabsent (is_absent u.tree) _ _ (alike is_absent re_is_absent (leaves_at look x.naming) Plain t u.tree u.same ∙ a) (y.m, (w.m, p.1, w.again, attributes_again look x.naming t u.tree u.same ∙ p.3, u.spelled), ended look x c plain_end o.2), u.same);
+        again = (u.tree, unabsent (is_absent u.tree) _ _ (alike is_absent re_is_absent (leaves_at look x.naming) Plain t u.tree u.same ∙ a) (y.m, (w.m, p.1, w.again, attributes_again look x.naming t u.tree u.same ∙ p.3, u.produced), ended look x c plain_end o.2), u.same);
       }
     where
-      either : (v : Bool) (b : Gap) (ts : Input) (J : Gap → Input → Type 0) → says x.naming (word (if v then codes "assert" else codes "with")) b ts J → says x.naming (if v then word (codes "assert") else word (codes "with")) b ts J
+      either : (v : Bool) (b : Spacing) (ts : Input) (J : Spacing → Input → Type 0) → says x.naming (word (if v then codes "assert" else codes "with")) b ts J → says x.naming (if v then word (codes "assert") else word (codes "with")) b ts J
       either true b ts J q = q
       either false b ts J q = q
 
-  pub record Sourced (src with_ : Tree) (c : Code) (ts0 r0 : Input) (ts : Input) (K : Gap → Input → Type 0) : Type 0 where
-    pub d : Gap
+  pub record Sourced (src with_ : Tree) (c : Code) (ts0 r0 : Input) (ts : Input) (K : Spacing → Input → Type 0) : Type 0 where
+    pub d : Spacing
     pub m : Input
     pub more : K d m
     pub known : Known r0.places
     pub u : Tree
     pub v : Tree
-    pub spelled : Source (unplaced c) (part u (λ y. Spells u y)) (part v (λ y. Spells v y)) ts m
-    pub same_u : Same (leaves_at look x.naming) Plain src u
-    pub same_v : Same (leaves_at look x.naming) Plain with_ v
+    pub produced : Source (unplaced c) (child u (λ y. Produces u y)) (child v (λ y. Produces v y)) ts m
+    pub same_u : Redone (leaves_at look x.naming) Plain src u
+    pub same_v : Redone (leaves_at look x.naming) Plain with_ v
 
-  pub source_on : (src with_ : Tree) → KeyPart look x.naming src → Sound look x.naming Alone with_ → (c : Code) (ts0 r0 : Input) → Source c (part src (λ y. Spells src y)) (part with_ (λ y. Spells with_ y)) ts0 r0 → Known ts0.places → (b : Gap) (ts : Input) (K : Gap → Input → Type 0)
+  pub source_on : (src with_ : Tree) → KeyPart look x.naming src → Sound look x.naming Alone with_ → (c : Code) (ts0 r0 : Input) → Source c (child src (λ y. Produces src y)) (child with_ (λ y. Produces with_ y)) ts0 r0 → Known ts0.places → (b : Spacing) (ts : Input) (K : Spacing → Input → Type 0)
       → says x.naming (laid look Key src · attributes look with_ (laid look Alone with_) · semi) b ts K → Sourced src with_ c ts0 r0 ts K
   source_on src with_ f g c ts0 r0 h k b ts K q =
       let y = string_on src f c ts0 h.0 h.1 k b ts (λ d m. says x.naming (attributes look with_ (laid look Alone with_) · semi) d m K) q in
@@ -229,7 +229,7 @@ module _ (look : Look) (x : Lexicon look.style) where
         known = z.known;
         u = y.again.0;
         v = z.again.0;
-        spelled = (y.m, y.again.1, z.again.1);
+        produced = (y.m, y.again.1, z.again.1);
         same_u = y.again.2;
         same_v = z.again.2;
       }

@@ -6,15 +6,15 @@ use Rattle.ecma_tree.specs.Places.{no_place}
 use Rattle.ecma_tree.specs.Tree.{Tree, Trees, absent, export_named_specifier, export_namespace_specifier, import_default_specifier, import_named_specifier, import_star_as_specifier, more, none}
 use Rattle.ecma_syntax.specs.Input.{Code, Input, Takes, TakesWord, lo, span}
 use Rattle.ecma_syntax.specs.Shape.{export_name, is_absent, is_named_export, is_named_import, is_rest}
-use Rattle.ecma_grammar.specs.Grammar.{Spells, parts}
+use Rattle.ecma_grammar.specs.Grammar.{Produces, children}
 use Rattle.ecma_grammar.specs.Modules.{ExportName}
-use Rattle.ecma_grammar.specs.Parts.{By, Listed, Sorted, is_ident, is_module_item, part}
+use Rattle.ecma_grammar.specs.Children.{By, Listed, Sorted, is_ident, is_module_item, child}
 use Rattle.ecma_layout.specs.Layout.{comma, laid, named_items, separated, word}
 use Rattle.ecma_layout.specs.Looks.{Laid, blank, end, formats, start, when, ◌·◌}
 use Rattle.ecma_layout.specs.declared.look.Look.{Look}
 use Rattle.ecma_layout.specs.declared.look.Stand.{Stand}
 use Rattle.ecma_layout.specs.declared.look.Stand.TheVariants.{Alone, Key}
-use Rattle.ecma_written.specs.Gaps.{Gap, Spaced, Touching}
+use Rattle.ecma_written.specs.Spacings.{Spacing, Spaced, Touching}
 use Rattle.ecma_written.specs.Lexicon.{Lexicon}
 use Rattle.ecma_written.specs.Means.{Known}
 use Rattle.ecma_written.specs.Told.{says}
@@ -61,12 +61,12 @@ abbrev pub EachIs : (Tree → Bool) → Trees → Type 0
 EachIs p none = Unit {0}
 EachIs p (more t ts) = (p t ≡ true) × EachIs p ts
 
-pub from_listed : (p : Tree → Bool) (c : Code) (close : ℕ) (xs : Trees) (ts r : Input) → Listed false (Sorted p c) c close (parts xs) ts r → EachIs p xs
+pub from_listed : (p : Tree → Bool) (c : Code) (close : ℕ) (xs : Trees) (ts r : Input) → Listed false (Sorted p c) c close (children xs) ts r → EachIs p xs
 from_listed p c close none ts r h = tt
 from_listed p c close (more t none) ts r h = (h.1.0, tt)
 from_listed p c close (more t (more u us)) ts r h = let i = going h.2 in (h.1.0, from_listed p c close (more u us) i.0 r i.1)
   where
-    going : ((is_rest t ≡ false) × (n : Input) × Takes c comma_kind h.0 n × Listed false (Sorted p c) c close (parts (more u us)) n r) ⊎ (⊥ × Takes c close h.0 r) → (n : Input) × Listed false (Sorted p c) c close (parts (more u us)) n r
+    going : ((is_rest t ≡ false) × (n : Input) × Takes c comma_kind h.0 n × Listed false (Sorted p c) c close (children (more u us)) n r) ⊎ (⊥ × Takes c close h.0 r) → (n : Input) × Listed false (Sorted p c) c close (children (more u us)) n r
     going (inl i) = (i.1, i.3)
     going (inr i) = absurd i.0
 
@@ -87,7 +87,7 @@ module _ (look : Look) (x : Lexicon look.style) where
         begins = z.first;
         again = λ g. record {
           tree = import_named_specifier (span (lo ts) z.m.last) z.again.0 absent;
-          spelled = (z.again.1, refl);
+          produced = (z.again.1, refl);
           directive = refl;
           quoted = λ p q. refl;
           same = record { so = λ n. ap (λ (t : Tree). import_named_specifier no_place t absent) (z.again.2.so Plain) };
@@ -96,7 +96,7 @@ module _ (look : Look) (x : Lexicon look.style) where
 
   pub import_as : (s : Span) (l i : Tree) → is_absent i ≡ false → KeyPart look x.naming i → (st : Stand) → Sound look x.naming st (import_named_specifier s l i)
   import_as s l i e f st c ts0 r0 h k b ts K q =
-      let g = subst (λ (v : Bool). By v (Sorted is_ident c (part l (λ y. Spells l y)) ts0 r0) ((m : Input) × (n : Input) × ExportName c (export_name i) (part i (λ y. Spells i y)) ts0 m × TakesWord c as_kind m n × Sorted is_ident c (part l (λ y. Spells l y)) n r0)) e h.0 in
+      let g = subst (λ (v : Bool). By v (Sorted is_ident c (child l (λ y. Produces l y)) ts0 r0) ((m : Input) × (n : Input) × ExportName c (export_name i) (child i (λ y. Produces i y)) ts0 m × TakesWord c as_kind m n × Sorted is_ident c (child l (λ y. Produces l y)) n r0)) e h.0 in
       let y = export_name_on look x i f c ts0 g.0 g.2 k b ts (λ d m. says x.naming (blank · word (codes "as") · blank · laid look Alone l) d m K) (subst (λ (z : Laid). says x.naming z b ts K) (laid_import look st s l i e) q) in
       let o = y.more in
       let z = id_on look x l c g.1 r0 g.4 (x.later g.0 g.1 g.3.3 y.known) Spaced o.0 K o.2 in record {
@@ -109,7 +109,7 @@ module _ (look : Look) (x : Lexicon look.style) where
         begins = y.first;
         again = λ g. record {
           tree = import_named_specifier (span (lo ts) z.m.last) z.again.0 y.again.0;
-          spelled = (unabsent (is_absent y.again.0) _ _ (alike is_absent re_is_absent (leaves_at look x.naming) Plain i y.again.0 y.again.2 ∙ e) (y.m, o.0, y.again.1, worded look x c as_kind o.1, z.again.1), refl);
+          produced = (unabsent (is_absent y.again.0) _ _ (alike is_absent re_is_absent (leaves_at look x.naming) Plain i y.again.0 y.again.2 ∙ e) (y.m, o.0, y.again.1, worded look x c as_kind o.1, z.again.1), refl);
           directive = refl;
           quoted = λ p q. refl;
           same = record { so = λ n. ap₂ (λ (t u : Tree). import_named_specifier no_place t u) (z.again.2.so Plain) (y.again.2.so Plain) };
@@ -128,7 +128,7 @@ module _ (look : Look) (x : Lexicon look.style) where
         begins = z.first;
         again = λ g. record {
           tree = import_default_specifier (span (lo ts) z.m.last) z.again.0;
-          spelled = (z.again.1, refl);
+          produced = (z.again.1, refl);
           directive = refl;
           quoted = λ p q. refl;
           same = record { so = λ n. ap (λ (t : Tree). import_default_specifier no_place t) (z.again.2.so Plain) };
@@ -148,7 +148,7 @@ module _ (look : Look) (x : Lexicon look.style) where
         begins = λ e. absurd (mul_else (sym (marked look x mul_kind q.1) ∙ e));
         again = λ g. record {
           tree = import_star_as_specifier (span (lo ts) z.m.last) z.again.0;
-          spelled = (q.0, i.0, took look x c mul_kind q.1, worded look x c as_kind i.1, z.again.1, refl);
+          produced = (q.0, i.0, took look x c mul_kind q.1, worded look x c as_kind i.1, z.again.1, refl);
           directive = refl;
           quoted = λ p q. refl;
           same = record { so = λ n. ap (λ (t : Tree). import_star_as_specifier no_place t) (z.again.2.so Plain) };
@@ -167,7 +167,7 @@ module _ (look : Look) (x : Lexicon look.style) where
         begins = y.first;
         again = λ g. record {
           tree = export_named_specifier (span (lo ts) y.m.last) y.again.0 absent;
-          spelled = (y.m, y.again.1, refl, refl);
+          produced = (y.m, y.again.1, refl, refl);
           directive = refl;
           quoted = λ p q. refl;
           same = record { so = λ n. ap (λ (t : Tree). export_named_specifier no_place t absent) (y.again.2.so Plain) };
@@ -176,7 +176,7 @@ module _ (look : Look) (x : Lexicon look.style) where
 
   pub export_as : (s : Span) (o e : Tree) → is_absent e ≡ false → KeyPart look x.naming o → KeyPart look x.naming e → (st : Stand) → Sound look x.naming st (export_named_specifier s o e)
   export_as s o e a f g st c ts0 r0 h k b ts K q =
-      let i = subst (λ (v : Bool). By v (h.0 ≡ r0) ((n : Input) × TakesWord c as_kind h.0 n × ExportName c (export_name e) (part e (λ y. Spells e y)) n r0)) a h.2 in
+      let i = subst (λ (v : Bool). By v (h.0 ≡ r0) ((n : Input) × TakesWord c as_kind h.0 n × ExportName c (export_name e) (child e (λ y. Produces e y)) n r0)) a h.2 in
       let y = export_name_on look x o f c ts0 h.0 h.1 k b ts (λ d m. says x.naming (blank · word (codes "as") · blank · laid look Key e) d m K) (subst (λ (z : Laid). says x.naming z b ts K) (laid_export look st s o e a) q) in
       let j = y.more in
       let z = export_name_on look x e g c i.0 r0 i.2 (x.later h.0 i.0 i.1.3 y.known) Spaced j.0 K j.2 in record {
@@ -189,7 +189,7 @@ module _ (look : Look) (x : Lexicon look.style) where
         begins = y.first;
         again = λ l. record {
           tree = export_named_specifier (span (lo ts) z.m.last) y.again.0 z.again.0;
-          spelled = (y.m, y.again.1, unabsent (is_absent z.again.0) _ _ (alike is_absent re_is_absent (leaves_at look x.naming) Plain e z.again.0 z.again.2 ∙ a) (j.0, worded look x c as_kind j.1, z.again.1), refl);
+          produced = (y.m, y.again.1, unabsent (is_absent z.again.0) _ _ (alike is_absent re_is_absent (leaves_at look x.naming) Plain e z.again.0 z.again.2 ∙ a) (j.0, worded look x c as_kind j.1, z.again.1), refl);
           directive = refl;
           quoted = λ p q. refl;
           same = record { so = λ n. ap₂ (λ (t u : Tree). export_named_specifier no_place t u) (y.again.2.so Plain) (z.again.2.so Plain) };
@@ -209,7 +209,7 @@ module _ (look : Look) (x : Lexicon look.style) where
         begins = λ e. absurd (mul_else (sym (marked look x mul_kind q.1) ∙ e));
         again = λ g. record {
           tree = export_namespace_specifier (span (lo ts) z.m.last) z.again.0;
-          spelled = (q.0, i.0, took look x c mul_kind q.1, worded look x c as_kind i.1, z.again.1, refl);
+          produced = (q.0, i.0, took look x c mul_kind q.1, worded look x c as_kind i.1, z.again.1, refl);
           directive = refl;
           quoted = λ p q. refl;
           same = record { so = λ n. ap (λ (t : Tree). export_namespace_specifier no_place t) (z.again.2.so Plain) };
@@ -217,7 +217,7 @@ module _ (look : Look) (x : Lexicon look.style) where
       }
 
   -- the names of a list, each of which stands in braces
-  pub items_separated : (p : Tree → Bool) (v : Bool) (t : Tree) (us : Trees) → EachIs p (more t us) → (b : Gap) (ts : Input) (K : Gap → Input → Type 0) → says x.naming (named_items look p v (more t us)) b ts K → says x.naming (when v (comma look) · separated look (comma look) (more t us)) b ts K
+  pub items_separated : (p : Tree → Bool) (v : Bool) (t : Tree) (us : Trees) → EachIs p (more t us) → (b : Spacing) (ts : Input) (K : Spacing → Input → Type 0) → says x.naming (named_items look p v (more t us)) b ts K → says x.naming (when v (comma look) · separated look (comma look) (more t us)) b ts K
   items_separated p v t none e b ts K q = subst (λ (w : Bool). says x.naming (if w then (when v (comma look) · laid look Alone t · named_items look p true none) else named_items look p v none) b ts K) e.0 q
   items_separated p v t (more u us) e b ts K q =
       says_map x.naming (when v (comma look)) b ts _ _ (λ d m i. says_map x.naming (laid look Alone t) d m _ _ (λ d m j. items_separated p true u us e.1 d m K j) i)

@@ -7,8 +7,8 @@ use Rattle.ecma_tree.specs.Tree.{Tree, Trees, absent, more, none, switch_case, s
 use Rattle.ecma_syntax.specs.Input.{Code, Input, Takes, TakesWord, kind, lo, span, unplaced}
 use Rattle.ecma_syntax.specs.Operators.{expression_level}
 use Rattle.ecma_syntax.specs.Shape.{is_absent, is_case, is_default_case, is_item}
-use Rattle.ecma_grammar.specs.Grammar.{Spells, parts}
-use Rattle.ecma_grammar.specs.Parts.{By, Expr, Items, Sorted, part}
+use Rattle.ecma_grammar.specs.Grammar.{Produces, children}
+use Rattle.ecma_grammar.specs.Children.{By, Expr, Items, Sorted, child}
 use Rattle.ecma_grammar.specs.Statements.{Cases, ClosesCase}
 use Rattle.ecma_edge.specs.Edges.{is_there, starts_with_word}
 use Rattle.ecma_layout.specs.Layout.{indented_or_line, is_empty as is_empty_list, laid, rows, word}
@@ -16,12 +16,12 @@ use Rattle.ecma_layout.specs.Looks.{back, brace, deeper, formats, gap_or, last, 
 use Rattle.ecma_layout.specs.declared.look.Look.{Look}
 use Rattle.ecma_layout.specs.declared.look.Stand.{Stand}
 use Rattle.ecma_layout.specs.declared.look.Stand.TheVariants.{Alone}
-use Rattle.ecma_written.specs.Gaps.{Gap, Touching}
+use Rattle.ecma_written.specs.Spacings.{Spacing, Touching}
 use Rattle.ecma_written.specs.Lexicon.{Lexicon}
 use Rattle.ecma_written.specs.Means.{Known}
 use Rattle.ecma_written.specs.Naming.{Naming}
 use Rattle.ecma_written.specs.Told.{says}
-use Rattle.ecma_redone.specs.Redo.{AllSame, Leaves, Mode, Plain, Same, redo}
+use Rattle.ecma_redone.specs.Redo.{AllRedone, Leaves, Mode, Plain, Redone, redo}
 use Rattle.ecma_redone_rules.proofs.Naming.{leaves_at}
 use Rattle.ecma_redone_rules.proofs.Bodies.{item_flat, rows_on}
 use Rattle.ecma_redone_rules.proofs.Ends.{absent_same, there, unabsent}
@@ -68,16 +68,16 @@ CasesSound look naming (more t ts) = CaseSound look naming t × CasesSound look 
 
 module _ (look : Look) (x : Lexicon look.style) where
   -- its head: `case` and a test, or `default`
-  record Case_head (t : Tree) (c : Code) (r0 : Input) (b : Gap) (ts : Input) (K : Gap → Input → Type 0) : Type 0 where
+  record Case_head (t : Tree) (c : Code) (r0 : Input) (b : Spacing) (ts : Input) (K : Spacing → Input → Type 0) : Type 0 where
     m : Input
     n : Input
     more : K Touching n
     known : Known r0.places
     colon : Takes (unplaced c) colon_kind m n
-    again : (u : Tree) × By (is_absent u) (TakesWord (unplaced c) default_kind ts m) ((o : Input) × TakesWord (unplaced c) case_kind ts o × Expr expression_level (unplaced c) (part u (λ y. Spells u y)) o m) × Same (leaves_at look x.naming) Plain t u
+    again : (u : Tree) × By (is_absent u) (TakesWord (unplaced c) default_kind ts m) ((o : Input) × TakesWord (unplaced c) case_kind ts o × Expr expression_level (unplaced c) (child u (λ y. Produces u y)) o m) × Redone (leaves_at look x.naming) Plain t u
 
-  case_head_on : (t : Tree) → Sound look x.naming Alone t → (c : Code) (v : Bool) → is_absent t ≡ v → (ts0 m0 r0 : Input) → By v (TakesWord c default_kind ts0 m0) ((o : Input) × TakesWord c case_kind ts0 o × Expr expression_level c (part t (λ y. Spells t y)) o m0) → Takes c colon_kind m0 r0 → Known ts0.places
-      → (b : Gap) (ts : Input) (K : Gap → Input → Type 0) → says x.naming ((if not v then (word (codes "case") · gap_or look (starts_with_word t) · laid look Alone t) else word (codes "default")) · text (codes ":")) b ts K → Case_head t c r0 b ts K
+  case_head_on : (t : Tree) → Sound look x.naming Alone t → (c : Code) (v : Bool) → is_absent t ≡ v → (ts0 m0 r0 : Input) → By v (TakesWord c default_kind ts0 m0) ((o : Input) × TakesWord c case_kind ts0 o × Expr expression_level c (child t (λ y. Produces t y)) o m0) → Takes c colon_kind m0 r0 → Known ts0.places
+      → (b : Spacing) (ts : Input) (K : Spacing → Input → Type 0) → says x.naming ((if not v then (word (codes "case") · gap_or look (starts_with_word t) · laid look Alone t) else word (codes "default")) · text (codes ":")) b ts K → Case_head t c r0 b ts K
   case_head_on t f c true a ts0 m0 r0 h e k b ts K q = let o = q.2 in record {
     m = q.0;
     n = o.0;
@@ -97,25 +97,25 @@ module _ (look : Look) (x : Lexicon look.style) where
         again = (w.tree, unabsent (is_absent w.tree) _ _ (alike is_absent re_is_absent (leaves_at look x.naming) Plain t w.tree w.same ∙ a) (q.0, worded look x c case_kind q.1, expr_low look x.naming expression_level Alone t c q.0 y.m h.2.0 (omega arith) w), w.same);
       }
 
-  record Case_on (t : Tree) (c : Code) (r0 : Input) (ts : Input) (K : Gap → Input → Type 0) : Type 0 where
-    d : Gap
+  record Case_on (t : Tree) (c : Code) (r0 : Input) (ts : Input) (K : Spacing → Input → Type 0) : Type 0 where
+    d : Spacing
     m : Input
     more : K d m
     known : Known r0.places
-    again : ends_case (kind m) ≡ true → (u : Tree) × Sorted is_case (unplaced c) (part u (λ y. Spells u y)) ts m × Same (leaves_at look x.naming) Plain t u
+    again : ends_case (kind m) ≡ true → (u : Tree) × Sorted is_case (unplaced c) (child u (λ y. Produces u y)) ts m × Redone (leaves_at look x.naming) Plain t u
 
   closed_case : (c : Code) (m r : Input) → ClosesCase c m r → Known m.places → Known r.places
   closed_case c m r h k = subst (λ (i : Input). Known i.places) h.1 k
 
   -- the statements of a case
-  record Case_body (ss : Trees) (c : Code) (r0 : Input) (ts : Input) (K : Gap → Input → Type 0) : Type 0 where
-    d : Gap
+  record Case_body (ss : Trees) (c : Code) (r0 : Input) (ts : Input) (K : Spacing → Input → Type 0) : Type 0 where
+    d : Spacing
     m : Input
     more : K d m
     known : Known r0.places
-    again : ends_case (kind m) ≡ true → (us : Trees) × Items is_item ClosesCase (unplaced c) false (parts us) ts m × AllSame (leaves_at look x.naming) Plain ss us
+    again : ends_case (kind m) ≡ true → (us : Trees) × Items is_item ClosesCase (unplaced c) false (children us) ts m × AllRedone (leaves_at look x.naming) Plain ss us
 
-  case_body_on : (ss : Trees) → AllSound look x.naming ss → (c : Code) (ts0 r0 : Input) → Items is_item ClosesCase c false (parts ss) ts0 r0 → Known ts0.places → (b : Gap) (ts : Input) (K : Gap → Input → Type 0) → ((d : Gap) (m : Input) → K d m → ends_case (kind m) ≡ true)
+  case_body_on : (ss : Trees) → AllSound look x.naming ss → (c : Code) (ts0 r0 : Input) → Items is_item ClosesCase c false (children ss) ts0 r0 → Known ts0.places → (b : Spacing) (ts : Input) (K : Spacing → Input → Type 0) → ((d : Spacing) (m : Input) → K d m → ends_case (kind m) ≡ true)
       → says x.naming (when (not (is_empty_list ss)) (line look · deeper look · rows look true ss · back look)) b ts K → Case_body ss c r0 ts K
   case_body_on none a c ts0 r0 h k b ts K peek q = record { d = b; m = ts; more = q; known = closed_case c ts0 r0 h k; again = λ e. (none, (e, refl), none_same (leaves_at look x.naming)) }
   case_body_on (more s ss) a c ts0 r0 h k b ts K peek q =
@@ -129,7 +129,7 @@ module _ (look : Look) (x : Lexicon look.style) where
         again = λ e. z.again z.m (λ o. (e, refl));
       }
 
-  case_on : (t : Tree) → CaseSound look x.naming t → (c : Code) (ts0 r0 : Input) → Sorted is_case c (part t (λ y. Spells t y)) ts0 r0 → Known ts0.places → (b : Gap) (ts : Input) (K : Gap → Input → Type 0) → ((d : Gap) (m : Input) → K d m → ends_case (kind m) ≡ true) → says x.naming (laid look Alone t) b ts K → Case_on t c r0 ts K
+  case_on : (t : Tree) → CaseSound look x.naming t → (c : Code) (ts0 r0 : Input) → Sorted is_case c (child t (λ y. Produces t y)) ts0 r0 → Known ts0.places → (b : Spacing) (ts : Input) (K : Spacing → Input → Type 0) → ((d : Spacing) (m : Input) → K d m → ends_case (kind m) ≡ true) → says x.naming (laid look Alone t) b ts K → Case_on t c r0 ts K
   case_on (switch_case s t ss) f c ts0 r0 h k b ts K peek q =
       let g = h.1 in
       let y = case_head_on t f.0 c (is_absent t) refl ts0 g.0 g.1 g.2 g.3 k b ts (λ d m. says x.naming (when (not (is_empty_list ss)) (line look · deeper look · rows look true ss · back look)) d m K)
@@ -144,7 +144,7 @@ module _ (look : Look) (x : Lexicon look.style) where
   case_on _ f c ts0 r0 h k b ts K peek q = absurd (true≢false (sym h.0))
 
   -- a case opens with its word
-  case_opens : (t : Tree) → is_case t ≡ true → (b : Gap) (ts : Input) (K : Gap → Input → Type 0) → says x.naming (laid look Alone t) b ts K → ends_case (kind ts) ≡ true
+  case_opens : (t : Tree) → is_case t ≡ true → (b : Spacing) (ts : Input) (K : Spacing → Input → Type 0) → says x.naming (laid look Alone t) b ts K → ends_case (kind ts) ≡ true
   case_opens (switch_case s t ss) h b ts K q = by (is_there t) q
     where
       by : (v : Bool) → says x.naming ((if v then (word (codes "case") · gap_or look (starts_with_word t) · laid look Alone t) else word (codes "default")) · text (codes ":") · when (not (is_empty_list ss)) (line look · deeper look · rows look true ss · back look)) b ts K → ends_case (kind ts) ≡ true
@@ -152,28 +152,28 @@ module _ (look : Look) (x : Lexicon look.style) where
       by false q = ends_at (kind ts) default_kind (keyed look x default_kind q.1) refl
   case_opens _ h b ts K q = absurd (true≢false (sym h))
 
-  rows_open : (t : Tree) (us : Trees) → is_case t ≡ true → (b : Gap) (ts : Input) (K : Gap → Input → Type 0) → says x.naming (rows look false (more t us)) b ts K → ends_case (kind ts) ≡ true
+  rows_open : (t : Tree) (us : Trees) → is_case t ≡ true → (b : Spacing) (ts : Input) (K : Spacing → Input → Type 0) → says x.naming (rows look false (more t us)) b ts K → ends_case (kind ts) ≡ true
   rows_open t none h b ts K q = case_opens t h b ts K q
   rows_open t (more u us) h b ts K q = case_opens t h b ts (λ d m. says x.naming (line look · rows look false (more u us)) d m K) q
 
-  record Cases_on (c : Code) (had : Bool) (xs : Trees) (ts0 r0 : Input) (ts : Input) (K : Gap → Input → Type 0) : Type 0 where
-    d : Gap
+  record Cases_on (c : Code) (had : Bool) (xs : Trees) (ts0 r0 : Input) (ts : Input) (K : Spacing → Input → Type 0) : Type 0 where
+    d : Spacing
     m : Input
     more : K d m
     known : Known r0.places
-    again : (r : Input) → Takes (unplaced c) right_brace_kind m r → (us : Trees) × Cases (unplaced c) had (parts us) ts r × AllSame (leaves_at look x.naming) Plain xs us
+    again : (r : Input) → Takes (unplaced c) right_brace_kind m r → (us : Trees) × Cases (unplaced c) had (children us) ts r × AllRedone (leaves_at look x.naming) Plain xs us
 
-  more_cases : (c : Code) (had : Bool) (t : Tree) (us : Trees) → (had && is_default_case t) ≡ false → (ts0 m0 r0 : Input) (ts : Input) (J K : Gap → Input → Type 0) → (z : Case_on t c m0 ts J) → ends_case (kind z.m) ≡ true → (n : Gap) → Cases_on c (had || is_default_case t) us m0 r0 z.m K → Cases_on c had (more t us) ts0 r0 ts K
+  more_cases : (c : Code) (had : Bool) (t : Tree) (us : Trees) → (had && is_default_case t) ≡ false → (ts0 m0 r0 : Input) (ts : Input) (J K : Spacing → Input → Type 0) → (z : Case_on t c m0 ts J) → ends_case (kind z.m) ≡ true → (n : Spacing) → Cases_on c (had || is_default_case t) us m0 r0 z.m K → Cases_on c had (more t us) ts0 r0 ts K
   more_cases c had t us i ts0 m0 r0 ts J K z e n v = record {
     d = v.d;
     m = v.m;
     more = v.more;
     known = v.known;
     again = λ r tk. let w = z.again e in let o = v.again r tk in let s = alike is_default_case re_is_default (leaves_at look x.naming) Plain t w.0 w.2 in
-        (more w.0 o.0, (z.m, ap (λ (v : Bool). had && v) s ∙ i, w.1, subst (λ (v : Bool). Cases (unplaced c) (had || v) (parts o.0) z.m r) (sym s) o.1), more_same (leaves_at look x.naming) Plain t w.0 us o.0 w.2 o.2);
+        (more w.0 o.0, (z.m, ap (λ (v : Bool). had && v) s ∙ i, w.1, subst (λ (v : Bool). Cases (unplaced c) (had || v) (children o.0) z.m r) (sym s) o.1), more_same (leaves_at look x.naming) Plain t w.0 us o.0 w.2 o.2);
   }
 
-  cases_on : (c : Code) (had : Bool) (xs : Trees) → CasesSound look x.naming xs → (ts0 r0 : Input) → Cases c had (parts xs) ts0 r0 → Known ts0.places → (b : Gap) (ts : Input) (K : Gap → Input → Type 0) → ((d : Gap) (m : Input) → K d m → kind m ≡ right_brace_kind) → says x.naming (rows look false xs) b ts K → Cases_on c had xs ts0 r0 ts K
+  cases_on : (c : Code) (had : Bool) (xs : Trees) → CasesSound look x.naming xs → (ts0 r0 : Input) → Cases c had (children xs) ts0 r0 → Known ts0.places → (b : Spacing) (ts : Input) (K : Spacing → Input → Type 0) → ((d : Spacing) (m : Input) → K d m → kind m ≡ right_brace_kind) → says x.naming (rows look false xs) b ts K → Cases_on c had xs ts0 r0 ts K
   cases_on c had none a ts0 r0 h k b ts K peek q = record { d = b; m = ts; more = q; known = x.later ts0 r0 h.2 k; again = λ r t. (none, t, none_same (leaves_at look x.naming)) }
   cases_on c had (more t none) a ts0 r0 h k b ts K peek q =
       let z = case_on t a.0 c ts0 h.0 h.2 k b ts K (λ d m u. ends_at (kind m) right_brace_kind (peek d m u) refl) q in
@@ -197,7 +197,7 @@ module _ (look : Look) (x : Lexicon look.style) where
         begins = λ e. absurd (switch_else (sym (keyed look x switch_kind q.1) ∙ e));
         again = λ g. record {
           tree = switch_stmt (span (lo ts) o.0.last) y.again.0 none;
-          spelled = (q.0, y.m, i.0, worded look x c switch_kind q.1, y.again.1, took look x c left_brace_kind i.1, took look x c right_brace_kind o.1, refl);
+          produced = (q.0, y.m, i.0, worded look x c switch_kind q.1, y.again.1, took look x c left_brace_kind i.1, took look x c right_brace_kind o.1, refl);
           directive = refl;
           quoted = λ p q. refl;
           same = record { so = λ n. ap (λ (t : Tree). switch_stmt no_place t none) (y.again.2.so Plain) };
@@ -219,7 +219,7 @@ module _ (look : Look) (x : Lexicon look.style) where
         begins = λ e. absurd (switch_else (sym (keyed look x switch_kind q.1) ∙ e));
         again = λ g. let w = z.again o.0 (took look x c right_brace_kind o.1) in record {
           tree = switch_stmt (span (lo ts) o.0.last) y.again.0 w.0;
-          spelled = (q.0, y.m, i.0, worded look x c switch_kind q.1, y.again.1, took look x c left_brace_kind i.1, w.1, refl);
+          produced = (q.0, y.m, i.0, worded look x c switch_kind q.1, y.again.1, took look x c left_brace_kind i.1, w.1, refl);
           directive = refl;
           quoted = λ p q. refl;
           same = record { so = λ n. ap₂ (λ (t : Tree) (us : Trees). switch_stmt no_place t us) (y.again.2.so Plain) (w.2.so Plain) };

@@ -9,20 +9,20 @@ use Rattle.ecma_syntax.specs.Input.{Code, Input, Spans, TakesIn, assigning, brk,
 use Rattle.ecma_syntax.specs.Operators.{call_level, expression_level}
 use Rattle.ecma_syntax.specs.Shape.{is_chain, is_cooked, is_tail, level}
 use Rattle.ecma_grammar.specs.Expressions.{TemplateLiteral, TemplateSpans}
-use Rattle.ecma_grammar.specs.Grammar.{Spells, parts}
-use Rattle.ecma_grammar.specs.Parts.{Sorted, is_quasi, part}
+use Rattle.ecma_grammar.specs.Grammar.{Produces, children}
+use Rattle.ecma_grammar.specs.Children.{Sorted, is_quasi, child}
 use Rattle.ecma_layout.specs.Layout.{count, is_tagged as is_tagged_stand, laid, quasi, template}
 use Rattle.ecma_layout.specs.Literals.{quasi_bytes}
 use Rattle.ecma_layout.specs.Looks.{end, meant, refused, start, template_end, text, ◌·◌}
 use Rattle.ecma_layout.specs.declared.look.Look.{Look}
 use Rattle.ecma_layout.specs.declared.look.Stand.{Stand}
 use Rattle.ecma_layout.specs.declared.look.Stand.TheVariants.{Alone, Head, Tagged}
-use Rattle.ecma_written.specs.Gaps.{Gap, Touching, is_broken}
+use Rattle.ecma_written.specs.Spacings.{Spacing, Touching, is_broken}
 use Rattle.ecma_written.specs.Lexicon.{Lexicon}
 use Rattle.ecma_written.specs.Means.{Known}
 use Rattle.ecma_written.specs.Texts.{ending_text}
 use Rattle.ecma_written.specs.Told.{Told, says}
-use Rattle.ecma_redone.specs.Redo.{AllSame, Headed, Mode, Plain, Raw, Same, is_tagged, quasi_mode}
+use Rattle.ecma_redone.specs.Redo.{AllRedone, Headed, Mode, Plain, Raw, Redone, is_tagged, quasi_mode}
 use Rattle.ecma_redone.specs.Written.{mode_of}
 use Rattle.ecma_redone_rules.proofs.Naming.{leaves_at}
 use Rattle.ecma_redone_rules.proofs.Begins.{before, firm, led}
@@ -40,18 +40,18 @@ stand_tagged _ = refl
 
 module _ (look : Look) (x : Lexicon look.style) where
   -- the characters of a template
-  record Characters_on (t : Tree) (s : Stand) (r0 : Input) (ts : Input) (K : Gap → Input → Type 0) (c : Code) : Type 0 where
+  record Characters_on (t : Tree) (s : Stand) (r0 : Input) (ts : Input) (K : Spacing → Input → Type 0) (c : Code) : Type 0 where
     m : Input
     more : K Touching m
     known : Known r0.places
     broke : kind ts ≡ template_kind
     u : Tree
-    spelled : Sorted is_quasi (unplaced c) (part u (λ y. Spells u y)) ts m
+    produced : Sorted is_quasi (unplaced c) (child u (λ y. Produces u y)) ts m
     tail : is_tail u ≡ is_tail t
     cooked : is_cooked u ≡ is_cooked t
-    same : Same (leaves_at look x.naming) (quasi_mode (mode_of s)) t u
+    same : Redone (leaves_at look x.naming) (quasi_mode (mode_of s)) t u
 
-  quasi_on : (t : Tree) (s : Stand) (c : Code) (tagged : Bool) → (tagged ≡ true → is_tagged_stand s ≡ true) → (tagged || is_cooked t) ≡ true → (ts0 r0 : Input) → Sorted is_quasi c (part t (λ y. Spells t y)) ts0 r0 → Known ts0.places → (b : Gap) (ts : Input) (K : Gap → Input → Type 0) → says x.naming (quasi look s t) b ts K → Characters_on t s r0 ts K c
+  quasi_on : (t : Tree) (s : Stand) (c : Code) (tagged : Bool) → (tagged ≡ true → is_tagged_stand s ≡ true) → (tagged || is_cooked t) ≡ true → (ts0 r0 : Input) → Sorted is_quasi c (child t (λ y. Produces t y)) ts0 r0 → Known ts0.places → (b : Spacing) (ts : Input) (K : Spacing → Input → Type 0) → says x.naming (quasi look s t) b ts K → Characters_on t s r0 ts K c
   quasi_on (tpl_element p t w u) s c tagged f g ts0 r0 h k b ts K q =
       let z = x.characters ts0 (is_tagged_stand s) w u _ _ _ k h.1.0 (or_there (is_tagged_stand s) tagged (is_some u) f (there_cooked p t w u tagged g)) q.1.means in record {
         m = q.0;
@@ -59,7 +59,7 @@ module _ (look : Look) (x : Lexicon look.style) where
         known = x.later ts0 r0 h.1.1.2 k;
         broke = z.0;
         u = tpl_element (span (lo ts) q.0.last) t (quasi_bytes look.style (is_tagged_stand s) w) u;
-        spelled = (refl, (z.1, (z.0, tt, q.1.after), refl));
+        produced = (refl, (z.1, (z.0, tt, q.1.after), refl));
         tail = refl;
         cooked = cooked p (span (lo ts) q.0.last) t w (quasi_bytes look.style (is_tagged_stand s) w) u;
         same = record { so = λ n. ap (λ (v : Bool). tpl_element no_place t (quasi_bytes look.style v w) u) (stand_tagged s) };
@@ -79,23 +79,23 @@ module _ (look : Look) (x : Lexicon look.style) where
       or_there false false d f e = e
   quasi_on _ s c tagged f g ts0 r0 h k b ts K q = absurd (true≢false (sym h.0))
 
-  record Spanned (tagged : Bool) (es qs : Trees) (s : Stand) (r0 : Input) (ts : Input) (K : Gap → Input → Type 0) (c : Code) : Type 0 where
+  record Spanned (tagged : Bool) (es qs : Trees) (s : Stand) (r0 : Input) (ts : Input) (K : Spacing → Input → Type 0) (c : Code) : Type 0 where
     m : Input
     more : K Touching m
     known : Known r0.places
     us : Trees
     vs : Trees
-    spelled : TemplateSpans tagged (unplaced c) (parts us) (parts vs) ts m
-    same_us : AllSame (leaves_at look x.naming) Plain es us
-    same_vs : AllSame (leaves_at look x.naming) (quasi_mode (mode_of s)) qs vs
+    produced : TemplateSpans tagged (unplaced c) (children us) (children vs) ts m
+    same_us : AllRedone (leaves_at look x.naming) Plain es us
+    same_vs : AllRedone (leaves_at look x.naming) (quasi_mode (mode_of s)) qs vs
 
-  none_of : (m : Mode) → AllSame (leaves_at look x.naming) m none none
+  none_of : (m : Mode) → AllRedone (leaves_at look x.naming) m none none
   none_of m = record { so = λ n. refl }
 
-  ended_by : (c : Code) (k : ℕ) {a : Gap} {ts m : Input} → Told TemplateEnd (ending_text k) a ts m → TakesIn (unplaced c) template_end_goal k ts m
+  ended_by : (c : Code) (k : ℕ) {a : Spacing} {ts m : Input} → Told TemplateEnd (ending_text k) a ts m → TakesIn (unplaced c) template_end_goal k ts m
   ended_by c k t = ((x.endings k _ _ _ t.means).0, tt, t.after)
 
-  spans_on : (tagged : Bool) (s : Stand) → (tagged ≡ true → is_tagged_stand s ≡ true) → (es qs : Trees) → AllSound look x.naming es → (c : Code) (ts0 r0 : Input) → TemplateSpans tagged c (parts es) (parts qs) ts0 r0 → Known ts0.places → (b : Gap) (ts : Input) (K : Gap → Input → Type 0)
+  spans_on : (tagged : Bool) (s : Stand) → (tagged ≡ true → is_tagged_stand s ≡ true) → (es qs : Trees) → AllSound look x.naming es → (c : Code) (ts0 r0 : Input) → TemplateSpans tagged c (children es) (children qs) ts0 r0 → Known ts0.places → (b : Spacing) (ts : Input) (K : Spacing → Input → Type 0)
       → says x.naming (template look s es qs · meant (template_end (codes "`"))) b ts K → Spanned tagged es qs s r0 ts K c
   spans_on tagged s j es none a c ts0 r0 h k b ts K q = absurd h
   spans_on tagged s j none (more p (more r rs)) a c ts0 r0 h k b ts K q = absurd h.1
@@ -106,13 +106,13 @@ module _ (look : Look) (x : Lexicon look.style) where
         known = x.later h.0 r0 h.5.2 z.known;
         us = none;
         vs = more z.u none;
-        spelled = (z.m, tt, z.tail ∙ h.2, ap (λ (v : Bool). tagged || v) z.cooked ∙ h.3, z.spelled, ended_by c back_quote_kind o.1);
+        produced = (z.m, tt, z.tail ∙ h.2, ap (λ (v : Bool). tagged || v) z.cooked ∙ h.3, z.produced, ended_by c back_quote_kind o.1);
         same_us = none_of Plain;
         same_vs = more_same (leaves_at look x.naming) (quasi_mode (mode_of s)) p z.u none none z.same (none_of (quasi_mode (mode_of s)));
       }
   spans_on tagged s j (more e es) (more p none) a c ts0 r0 h k b ts K q = absurd (last_spans es h.3 r0 h.10)
     where
-      last_spans : (es : Trees) (m n : Input) → TemplateSpans tagged c (parts es) [] m n → ⊥
+      last_spans : (es : Trees) (m n : Input) → TemplateSpans tagged c (children es) [] m n → ⊥
       last_spans none m n h = h
       last_spans (more e es) m n h = h
   spans_on tagged s j (more e es) (more p (more r rs)) a c ts0 r0 h k b ts K q =
@@ -127,25 +127,25 @@ module _ (look : Look) (x : Lexicon look.style) where
         known = v.known;
         us = more w.tree v.us;
         vs = more z.u v.vs;
-        spelled = (
+        produced = (
           z.m,
           o.0,
           y.m,
           i.0,
           z.tail ∙ h.4,
           ap (λ (u : Bool). tagged || u) z.cooked ∙ h.5,
-          z.spelled,
+          z.produced,
           ended_by c dollar_brace_kind o.1,
           expr_low look x.naming expression_level Alone e (with_in c) o.0 y.m h.8.0 (omega arith) w,
           took look x c right_brace_kind i.1,
-          v.spelled,
+          v.produced,
         );
         same_us = more_same (leaves_at look x.naming) Plain e w.tree es v.us w.same v.same_us;
         same_vs = more_same (leaves_at look x.naming) (quasi_mode (mode_of s)) p z.u (more r rs) v.vs z.same v.same_vs;
       }
 
   -- a template, from its first back quote
-  record Templated (tagged : Bool) (es qs : Trees) (s : Stand) (r0 : Input) (b : Gap) (ts : Input) (K : Gap → Input → Type 0) (c : Code) : Type 0 where
+  record Templated (tagged : Bool) (es qs : Trees) (s : Stand) (r0 : Input) (b : Spacing) (ts : Input) (K : Spacing → Input → Type 0) (c : Code) : Type 0 where
     m : Input
     more : K Touching m
     known : Known r0.places
@@ -153,11 +153,11 @@ module _ (look : Look) (x : Lexicon look.style) where
     lead : kind ts ≡ back_quote_kind
     us : Trees
     vs : Trees
-    spelled : (p : Span) → Spans p ts m → TemplateLiteral tagged (unplaced c) p (parts us) (parts vs) ts m
-    same_us : AllSame (leaves_at look x.naming) Plain es us
-    same_vs : AllSame (leaves_at look x.naming) (quasi_mode (mode_of s)) qs vs
+    produced : (p : Span) → Spans p ts m → TemplateLiteral tagged (unplaced c) p (children us) (children vs) ts m
+    same_us : AllRedone (leaves_at look x.naming) Plain es us
+    same_vs : AllRedone (leaves_at look x.naming) (quasi_mode (mode_of s)) qs vs
 
-  quoted_on : (tagged : Bool) (s : Stand) → (tagged ≡ true → is_tagged_stand s ≡ true) → (p : Span) (es qs : Trees) → AllSound look x.naming es → (c : Code) (ts0 r0 : Input) → TemplateLiteral tagged c p (parts es) (parts qs) ts0 r0 → Known ts0.places → (b : Gap) (ts : Input) (K : Gap → Input → Type 0)
+  quoted_on : (tagged : Bool) (s : Stand) → (tagged ≡ true → is_tagged_stand s ≡ true) → (p : Span) (es qs : Trees) → AllSound look x.naming es → (c : Code) (ts0 r0 : Input) → TemplateLiteral tagged c p (children es) (children qs) ts0 r0 → Known ts0.places → (b : Spacing) (ts : Input) (K : Spacing → Input → Type 0)
       → says x.naming (laid look s (tpl p es qs)) b ts K → Templated tagged es qs s r0 b ts K c
   quoted_on tagged s j p es qs a c ts0 r0 h k b ts K q = by (count qs == count es + 1) q
     where
@@ -171,7 +171,7 @@ module _ (look : Look) (x : Lexicon look.style) where
         lead = marked look x back_quote_kind i.1;
         us = z.us;
         vs = z.vs;
-        spelled = λ p e. (i.0, took look x c back_quote_kind i.1, z.spelled, e);
+        produced = λ p e. (i.0, took look x c back_quote_kind i.1, z.produced, e);
         same_us = z.same_us;
         same_vs = z.same_vs;
       }
@@ -188,7 +188,7 @@ module _ (look : Look) (x : Lexicon look.style) where
         begins = led ts0 r0 ts z.m back_quote_kind h.1.0 z.lead refl;
         again = λ g. record {
           tree = tpl (span (lo ts) z.m.last) z.us z.vs;
-          spelled = z.spelled (span (lo ts) z.m.last) refl;
+          produced = z.produced (span (lo ts) z.m.last) refl;
           directive = refl;
           quoted = λ p q. refl;
           same = record { so = λ n. ap₂ (λ (us vs : Trees). tpl no_place us vs) (z.same_us.so Plain) (z.same_vs.so (quasi_mode n)) };
@@ -214,7 +214,7 @@ module _ (look : Look) (x : Lexicon look.style) where
         begins = before ts0 h.0 ts y.m r0 z.m (λ l. absurd (firm t (over_call (level t) h.2.0) l)) (expr_begins look x.naming Head t (assigning c) ts0 h.0 b ts _ (above call_level (level t) (omega arith) h.2.0) y) (z.lead ∙ sym h.3.1.0) (λ e. quote_function (sym z.lead ∙ e));
         again = λ g. let w = y.again (follow_chain t h.0 y.m (at_least_new (level t) h.2.0) (λ e. quote_else (sym z.lead ∙ e))) in record {
           tree = tagged_tpl (span (lo ts) z.m.last) w.tree (tpl (span (lo y.m) z.m.last) z.us z.vs);
-          spelled = (y.m, alike is_chain re_is_chain (leaves_at look x.naming) Headed t w.tree w.same ∙ h.1, expr_head look x.naming call_level t c ts y.m h.2.0 w, z.spelled (span (lo y.m) z.m.last) refl, refl);
+          produced = (y.m, alike is_chain re_is_chain (leaves_at look x.naming) Headed t w.tree w.same ∙ h.1, expr_head look x.naming call_level t c ts y.m h.2.0 w, z.produced (span (lo y.m) z.m.last) refl, refl);
           directive = refl;
           quoted = λ p q. refl;
           same = record { so = λ n. tagged_same (w.same.so Headed) (z.same_us.so Plain) (z.same_vs.so Raw) };

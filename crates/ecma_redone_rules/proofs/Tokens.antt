@@ -6,12 +6,12 @@ use Rattle.ecma_token.specs.declared.place.BytePos.{BytePos}
 use Rattle.ecma_lexeme.specs.declared.goal.LexicalGoal.TheVariants.{Div}
 use Rattle.ecma_syntax.specs.Input.{Code, Input, Takes, TakesAnyWord, TakesName, TakesWord, content, escaped, is_word, kind, no_name, strict_reserved, unplaced}
 use Rattle.ecma_syntax.specs.Operators.{pauses}
-use Rattle.ecma_grammar.specs.Parts.{Ends}
+use Rattle.ecma_grammar.specs.Children.{Ends}
 use Rattle.ecma_pieces.specs.Pieces.{Back, Blank, Brace, Commit, Deeper, Line, Mark, Piece, Semicolon, Text}
 use Rattle.ecma_layout.specs.Literals.{name_bytes}
 use Rattle.ecma_layout.specs.Looks.{Laid, Meaning, blank, both, hashbang_comment, line_always, meant, named as named_piece, nothing, one, refused, regular_expression, template_characters, template_end, touching, when}
 use Rattle.ecma_layout.specs.declared.look.Look.{Look}
-use Rattle.ecma_written.specs.Gaps.{Broken, Gap, Spaced, Touching, blanked, is_broken}
+use Rattle.ecma_written.specs.Spacings.{Broken, Spacing, Spaced, Touching, blanked, is_broken}
 use Rattle.ecma_written.specs.Lexicon.{Lexicon}
 use Rattle.ecma_written.specs.Means.{Known, Means}
 use Rattle.ecma_written.specs.Naming.{Naming}
@@ -19,13 +19,13 @@ use Rattle.ecma_written.specs.Says.{SemicolonMayGo}
 use Rattle.ecma_written.specs.Texts.{mark_text, word_text}
 use Rattle.ecma_written.specs.Told.{Told, said, says, says_meaning, says_texts}
 
--- the gap behind a blank that may be written
-abbrev pub gapped : Bool → Gap → Gap
+-- the spacing behind a blank that may be written
+abbrev pub gapped : Bool → Spacing → Spacing
 gapped true a = blanked a
 gapped false a = a
 
 -- A blank ends no line.
-pub blank_broke : (v : Bool) (a : Gap) → is_broken (gapped v a) ≡ is_broken a
+pub blank_broke : (v : Bool) (a : Spacing) → is_broken (gapped v a) ≡ is_broken a
 blank_broke true Touching = refl
 blank_broke true Spaced = refl
 blank_broke true Broken = refl
@@ -33,40 +33,40 @@ blank_broke false a = refl
 
 -- ---- pieces that say no token
 
-pub skip : (n : Naming) (v : Bool) (a : Gap) (ts : Input) (K : Gap → Input → Type 0) → says n (when v blank) a ts K → K (gapped v a) ts
+pub skip : (n : Naming) (v : Bool) (a : Spacing) (ts : Input) (K : Spacing → Input → Type 0) → says n (when v blank) a ts K → K (gapped v a) ts
 skip n true a ts K h = h
 skip n false a ts K h = h
 
-pub skip_mark : (n : Naming) (v : Bool) (pos : BytePos) (a : Gap) (ts : Input) (K : Gap → Input → Type 0) → says n (when v (one (Mark pos))) a ts K → K a ts
+pub skip_mark : (n : Naming) (v : Bool) (pos : BytePos) (a : Spacing) (ts : Input) (K : Spacing → Input → Type 0) → says n (when v (one (Mark pos))) a ts K → K a ts
 skip_mark n true pos a ts K h = h
 skip_mark n false pos a ts K h = h
 
-pub skip_deeper : (n : Naming) (v : Bool) (a : Gap) (ts : Input) (K : Gap → Input → Type 0) → says n (when v (one Deeper)) a ts K → K a ts
+pub skip_deeper : (n : Naming) (v : Bool) (a : Spacing) (ts : Input) (K : Spacing → Input → Type 0) → says n (when v (one Deeper)) a ts K → K a ts
 skip_deeper n true a ts K h = h
 skip_deeper n false a ts K h = h
 
-pub skip_back : (n : Naming) (v : Bool) (a : Gap) (ts : Input) (K : Gap → Input → Type 0) → says n (when v (one Back)) a ts K → K a ts
+pub skip_back : (n : Naming) (v : Bool) (a : Spacing) (ts : Input) (K : Spacing → Input → Type 0) → says n (when v (one Back)) a ts K → K a ts
 skip_back n true a ts K h = h
 skip_back n false a ts K h = h
 
-pub skip_line : (n : Naming) (v : Bool) (a : Gap) (ts : Input) (K : Gap → Input → Type 0) → says n (when v line_always) a ts K → (d : Gap) × K d ts
+pub skip_line : (n : Naming) (v : Bool) (a : Spacing) (ts : Input) (K : Spacing → Input → Type 0) → says n (when v line_always) a ts K → (d : Spacing) × K d ts
 skip_line n true a ts K h = (h.0, h.2)
 skip_line n false a ts K h = (a, h)
 
 -- ---- what goes on behind a layout may be told less
 
-texts_map : (ows : List (List ℕ)) (a : Gap) (ts : Input) (K J : Gap → Input → Type 0) → ((d : Gap) (m : Input) → K d m → J d m) → says_texts ows a ts K → says_texts ows a ts J
+texts_map : (ows : List (List ℕ)) (a : Spacing) (ts : Input) (K J : Spacing → Input → Type 0) → ((d : Spacing) (m : Input) → K d m → J d m) → says_texts ows a ts K → says_texts ows a ts J
 texts_map [] a ts K J g h = g a ts h
 texts_map (own ∷ ows) a ts K J g h = (h.0, h.1, texts_map ows Touching h.0 K J g h.2)
 
-meaning_map : (x : Meaning) (a : Gap) (ts : Input) (K J : Gap → Input → Type 0) → ((d : Gap) (m : Input) → K d m → J d m) → says_meaning x a ts K → says_meaning x a ts J
+meaning_map : (x : Meaning) (a : Spacing) (ts : Input) (K J : Spacing → Input → Type 0) → ((d : Spacing) (m : Input) → K d m → J d m) → says_meaning x a ts K → says_meaning x a ts J
 meaning_map (regular_expression body flags) a ts K J g h = (h.0, h.1, g Touching h.0 h.2)
 meaning_map (template_characters own) a ts K J g h = (h.0, h.1, g Touching h.0 h.2)
 meaning_map (template_end own) a ts K J g h = (h.0, h.1, g Touching h.0 h.2)
 meaning_map (hashbang_comment own) a ts K J g h = (h.0, h.1, g Touching h.0 h.2)
 meaning_map (touching ows) a ts K J g h = texts_map ows a ts K J g h
 
-piece_map : (p : Piece) (a : Gap) (ts : Input) (K J : Gap → Input → Type 0) → ((d : Gap) (m : Input) → K d m → J d m) → said p a ts K → said p a ts J
+piece_map : (p : Piece) (a : Spacing) (ts : Input) (K J : Spacing → Input → Type 0) → ((d : Spacing) (m : Input) → K d m → J d m) → said p a ts K → said p a ts J
 piece_map (Text s own) a ts K J g h = (h.0, h.1, g Touching h.0 h.2)
 piece_map (Brace s) a ts K J g h = (h.0, h.1, g Touching h.0 h.2)
 piece_map Blank a ts K J g h = g (blanked a) ts h
@@ -78,7 +78,7 @@ piece_map (Semicolon s) a ts K J g (inr h) = inr (h.0, g a ts h.1)
 piece_map Commit a ts K J g h = g a ts h
 piece_map (Mark pos) a ts K J g h = g a ts h
 
-pub says_map : (n : Naming) (f : Laid) (a : Gap) (ts : Input) (K J : Gap → Input → Type 0) → ((d : Gap) (m : Input) → K d m → J d m) → says n f a ts K → says n f a ts J
+pub says_map : (n : Naming) (f : Laid) (a : Spacing) (ts : Input) (K J : Spacing → Input → Type 0) → ((d : Spacing) (m : Input) → K d m → J d m) → says n f a ts K → says n f a ts J
 says_map n nothing a ts K J g h = g a ts h
 says_map n (one p) a ts K J g h = piece_map p a ts K J g h
 says_map n (meant x) a ts K J g h = meaning_map x a ts K J g h
@@ -89,11 +89,11 @@ says_map n refused a ts K J g h = h
 -- ---- semicolons (12.10)
 
 -- A semicolon that may go: it is there, or `}` or the end comes.
-pub data Semi (a : Gap) (ts : Input) : Gap → Input → Type 0 where
+pub data Semi (a : Spacing) (ts : Input) : Spacing → Input → Type 0 where
   there : {m : Input} → Told Div (codes ";") a ts m → Semi a ts Touching m
   gone : SemicolonMayGo ts → Semi a ts a ts
 
-pub semi_of : (a : Gap) (ts : Input) (K : Gap → Input → Type 0) → said (Semicolon None) a ts K → (d : Gap) × (m : Input) × Semi a ts d m × K d m
+pub semi_of : (a : Spacing) (ts : Input) (K : Spacing → Input → Type 0) → said (Semicolon None) a ts K → (d : Spacing) × (m : Input) × Semi a ts d m × K d m
 semi_of a ts K (inl h) = (Touching, h.0, there h.1, h.2)
 semi_of a ts K (inr h) = (a, ts, gone h.0, h.1)
 
@@ -116,36 +116,36 @@ unbarred z false k h = refl
 
 module _ (look : Look) (x : Lexicon look.style) where
   -- a punctuator
-  pub marked : (k : ℕ) {a : Gap} {ts m : Input} → Told Div (mark_text k) a ts m → kind ts ≡ k
+  pub marked : (k : ℕ) {a : Spacing} {ts m : Input} → Told Div (mark_text k) a ts m → kind ts ≡ k
   marked k t = (x.marks k _ _ _ t.means).0
 
-  pub took : (c : Code) (k : ℕ) {a : Gap} {ts m : Input} → Told Div (mark_text k) a ts m → Takes (unplaced c) k ts m
+  pub took : (c : Code) (k : ℕ) {a : Spacing} {ts m : Input} → Told Div (mark_text k) a ts m → Takes (unplaced c) k ts m
   took c k t = (marked k t, tt, t.after)
 
   -- a word of the grammar
-  pub keyed : (k : ℕ) {a : Gap} {ts m : Input} → Told Div (word_text k) a ts m → kind ts ≡ k
+  pub keyed : (k : ℕ) {a : Spacing} {ts m : Input} → Told Div (word_text k) a ts m → kind ts ≡ k
   keyed k t = (x.keywords k _ _ _ t.means).0
 
-  pub worded : (c : Code) (k : ℕ) {a : Gap} {ts m : Input} → Told Div (word_text k) a ts m → TakesWord (unplaced c) k ts m
+  pub worded : (c : Code) (k : ℕ) {a : Spacing} {ts m : Input} → Told Div (word_text k) a ts m → TakesWord (unplaced c) k ts m
   worded c k {ts = ts} t = let z = x.keywords k _ _ _ t.means in (z.0, unbarred c.context (escaped ts) (kind ts) z.1, tt, t.after)
 
   -- any word
-  pub spelled_word : (n : List ℕ) (ts0 r0 ts m : Input) {a : Gap} (c d : Code) → TakesAnyWord c n ts0 r0 → Known ts0.places → Told Div (name_bytes look.style n) a ts m → (kind ts ≡ kind ts0) × TakesAnyWord (unplaced d) n ts m
+  pub spelled_word : (n : List ℕ) (ts0 r0 ts m : Input) {a : Spacing} (c d : Code) → TakesAnyWord c n ts0 r0 → Known ts0.places → Told Div (name_bytes look.style n) a ts m → (kind ts ≡ kind ts0) × TakesAnyWord (unplaced d) n ts m
   spelled_word n ts0 r0 ts m c d h l t =
       let z = x.names ts0 _ _ _ l h.0 (subst (λ (w : List ℕ). Means Div (name_bytes look.style w) (kind ts) (content ts) (escaped ts)) (sym h.1) t.means) in
       (z.0, (ap is_word z.0 ∙ h.0, z.1 ∙ h.1, tt, t.after))
 
   -- a name
-  pub named : (c : Code) (n : List ℕ) (ts0 r0 ts m : Input) {a : Gap} → TakesName c n ts0 r0 → Known ts0.places → Told Div (name_bytes look.style n) a ts m → (kind ts ≡ kind ts0) × TakesName (unplaced c) n ts m
+  pub named : (c : Code) (n : List ℕ) (ts0 r0 ts m : Input) {a : Spacing} → TakesName c n ts0 r0 → Known ts0.places → Told Div (name_bytes look.style n) a ts m → (kind ts ≡ kind ts0) × TakesName (unplaced c) n ts m
   named c n ts0 r0 ts m h l t =
       let z = x.names ts0 _ _ _ l h.0 (subst (λ (w : List ℕ). Means Div (name_bytes look.style w) (kind ts) (content ts) (escaped ts)) (sym h.3) t.means) in
       (z.0, (ap is_word z.0 ∙ h.0, ap (λ (k : ℕ). no_name c.context k) z.0 ∙ h.1, escape_bars c.context (escaped ts) (kind ts) z.2, z.1 ∙ h.3, tt, t.after))
 
   -- what ends a statement
-  pub ended : (c : Code) (e : ℕ) {a : Gap} {ts : Input} {d : Gap} {m : Input} → Semi a ts d m → Ends (unplaced c) e ts m
+  pub ended : (c : Code) (e : ℕ) {a : Spacing} {ts : Input} {d : Spacing} {m : Input} → Semi a ts d m → Ends (unplaced c) e ts m
   ended c e (there t) = inl (took c semicolon_kind t)
   ended c e {ts = ts} (gone h) = inr (no_semicolon ts h, pauses_at (unplaced c) e ts h, refl)
 
-  pub ended_kind : {a : Gap} {ts : Input} {d : Gap} {m : Input} → Semi a ts d m → (kind ts ≡ semicolon_kind) ⊎ SemicolonMayGo ts
+  pub ended_kind : {a : Spacing} {ts : Input} {d : Spacing} {m : Input} → Semi a ts d m → (kind ts ≡ semicolon_kind) ⊎ SemicolonMayGo ts
   ended_kind (there t) = inl (marked semicolon_kind t)
   ended_kind (gone h) = inr h

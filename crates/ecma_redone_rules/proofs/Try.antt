@@ -6,8 +6,8 @@ use Rattle.ecma_tree.specs.Places.{no_place}
 use Rattle.ecma_tree.specs.Tree.{Tree, absent, array_pat, binding_ident, block_stmt, catch_clause, object_pat, try_stmt}
 use Rattle.ecma_syntax.specs.Input.{Code, Input, Takes, TakesWord, binding, brk, kind, lo, span, unplaced}
 use Rattle.ecma_syntax.specs.Shape.{is_absent, is_binding, is_block, is_catch}
-use Rattle.ecma_grammar.specs.Grammar.{Spells}
-use Rattle.ecma_grammar.specs.Parts.{By, Maybe, Sorted, is_module_item, part}
+use Rattle.ecma_grammar.specs.Grammar.{Produces}
+use Rattle.ecma_grammar.specs.Children.{By, Maybe, Sorted, is_module_item, child}
 use Rattle.ecma_grammar.specs.Statements.{Catch}
 use Rattle.ecma_edge.specs.Edges.{is_there}
 use Rattle.ecma_layout.specs.Layout.{in_parens, laid, word}
@@ -15,12 +15,12 @@ use Rattle.ecma_layout.specs.Looks.{Laid, formats, gap, when, ◌·◌}
 use Rattle.ecma_layout.specs.declared.look.Look.{Look}
 use Rattle.ecma_layout.specs.declared.look.Stand.{Stand}
 use Rattle.ecma_layout.specs.declared.look.Stand.TheVariants.{Alone}
-use Rattle.ecma_written.specs.Gaps.{Gap, Touching, is_broken}
+use Rattle.ecma_written.specs.Spacings.{Spacing, Touching, is_broken}
 use Rattle.ecma_written.specs.Lexicon.{Lexicon}
 use Rattle.ecma_written.specs.Means.{Known}
 use Rattle.ecma_written.specs.Naming.{Naming}
 use Rattle.ecma_written.specs.Told.{says}
-use Rattle.ecma_redone.specs.Redo.{Leaves, Mode, Plain, Same, redo}
+use Rattle.ecma_redone.specs.Redo.{Leaves, Mode, Plain, Redone, redo}
 use Rattle.ecma_redone_rules.proofs.Naming.{leaves_at}
 use Rattle.ecma_redone_rules.proofs.Begins.{is_part}
 use Rattle.ecma_redone_rules.proofs.Bodies.{follow_closed}
@@ -63,37 +63,37 @@ HandlerSound look naming _ = Unit {1}
 
 module _ (look : Look) (x : Lexicon look.style) where
   -- a block, behind which nothing is asked
-  record Blocked (t : Tree) (c : Code) (r0 : Input) (b : Gap) (ts : Input) (K : Gap → Input → Type 0) : Type 0 where
-    d : Gap
+  record Blocked (t : Tree) (c : Code) (r0 : Input) (b : Spacing) (ts : Input) (K : Spacing → Input → Type 0) : Type 0 where
+    d : Spacing
     m : Input
     more : K d m
     known : Known r0.places
     broke : brk ts ≡ is_broken b
-    again : (kind m ≡ else_kind → kind r0 ≡ else_kind) → (u : Tree) × Sorted is_block (unplaced c) (part u (λ y. Spells u y)) ts m × Same (leaves_at look x.naming) Plain t u
+    again : (kind m ≡ else_kind → kind r0 ≡ else_kind) → (u : Tree) × Sorted is_block (unplaced c) (child u (λ y. Produces u y)) ts m × Redone (leaves_at look x.naming) Plain t u
 
-  blocked_on : (t : Tree) → Sound look x.naming Alone t → (c : Code) (ts0 r0 : Input) → Sorted is_block c (part t (λ y. Spells t y)) ts0 r0 → Known ts0.places → (b : Gap) (ts : Input) (K : Gap → Input → Type 0) → says x.naming (laid look Alone t) b ts K → Blocked t c r0 b ts K
+  blocked_on : (t : Tree) → Sound look x.naming Alone t → (c : Code) (ts0 r0 : Input) → Sorted is_block c (child t (λ y. Produces t y)) ts0 r0 → Known ts0.places → (b : Spacing) (ts : Input) (K : Spacing → Input → Type 0) → says x.naming (laid look Alone t) b ts K → Blocked t c r0 b ts K
   blocked_on t f c ts0 r0 h k b ts K q = let p = block_part t h.0 in let z = plain_part look x.naming Alone t f p.0 c ts0 r0 h.1 k b ts K q in record {
     d = z.d;
     m = z.m;
     more = z.more;
     known = z.known;
     broke = z.broke;
-    again = λ g. let w = z.again (follow_closed t r0 z.m p.1 g) in (w.tree, (alike is_block re_is_block (leaves_at look x.naming) Plain t w.tree w.same ∙ h.0, w.spelled), w.same);
+    again = λ g. let w = z.again (follow_closed t r0 z.m p.1 g) in (w.tree, (alike is_block re_is_block (leaves_at look x.naming) Plain t w.tree w.same ∙ h.0, w.produced), w.same);
   }
 
-  record Caught (t : Tree) (c : Code) (r0 : Input) (b : Gap) (ts : Input) (K : Gap → Input → Type 0) : Type 0 where
-    d : Gap
+  record Caught (t : Tree) (c : Code) (r0 : Input) (b : Spacing) (ts : Input) (K : Spacing → Input → Type 0) : Type 0 where
+    d : Spacing
     m : Input
     more : K d m
     known : Known r0.places
     lead : kind ts ≡ catch_kind
-    again : (kind m ≡ else_kind → kind r0 ≡ else_kind) → (u : Tree) × Sorted is_catch (unplaced c) (part u (λ y. Spells u y)) ts m × Same (leaves_at look x.naming) Plain t u
+    again : (kind m ≡ else_kind → kind r0 ≡ else_kind) → (u : Tree) × Sorted is_catch (unplaced c) (child u (λ y. Produces u y)) ts m × Redone (leaves_at look x.naming) Plain t u
 
-  catch_on : (s : Span) (p b : Tree) → Sound look x.naming Alone p → Sound look x.naming Alone b → (c : Code) (ts0 r0 : Input) → Catch c s (part p (λ y. Spells p y)) (part b (λ y. Spells b y)) ts0 r0 → Known ts0.places → (br : Gap) (ts : Input) (K : Gap → Input → Type 0) → says x.naming (laid look Alone (catch_clause s p b)) br ts K
+  catch_on : (s : Span) (p b : Tree) → Sound look x.naming Alone p → Sound look x.naming Alone b → (c : Code) (ts0 r0 : Input) → Catch c s (child p (λ y. Produces p y)) (child b (λ y. Produces b y)) ts0 r0 → Known ts0.places → (br : Spacing) (ts : Input) (K : Spacing → Input → Type 0) → says x.naming (laid look Alone (catch_clause s p b)) br ts K
       → Caught (catch_clause s p b) c r0 br ts K
   catch_on s p b f g c ts0 r0 h k br ts K q = by (is_absent p) refl h.3 (subst (λ (v : Bool). says x.naming (when v (in_parens (laid look Alone p)) · gap look · laid look Alone b) (gapped (formats look) Touching) q.0 K) (there p) (skip x.naming (formats look) Touching q.0 _ q.2))
     where
-      by : (v : Bool) → is_absent p ≡ v → By v (h.0 ≡ h.1) ((o : Input) × (i : Input) × Takes c left_paren_kind h.0 o × (is_binding p ≡ true) × Spells p (binding c) o i × Takes c right_paren_kind i h.1)
+      by : (v : Bool) → is_absent p ≡ v → By v (h.0 ≡ h.1) ((o : Input) × (i : Input) × Takes c left_paren_kind h.0 o × (is_binding p ≡ true) × Produces p (binding c) o i × Takes c right_paren_kind i h.1)
           → says x.naming (when (not v) (in_parens (laid look Alone p)) · gap look · laid look Alone b) (gapped (formats look) Touching) q.0 K → Caught (catch_clause s p b) c r0 br ts K
       by true a e i = let z = blocked_on b g c h.1 r0 h.4 (subst (λ (i : Input). Known i.places) e (x.later ts0 h.0 h.2.3 k)) _ q.0 K (skip x.naming (formats look) (gapped (formats look) Touching) q.0 _ i) in record {
         d = z.d;
@@ -119,24 +119,24 @@ module _ (look : Look) (x : Lexicon look.style) where
             lead = keyed look x catch_kind q.1;
             again = λ l. let w = z.again l in let v = y.again (record { quiet = λ n. closed_calm y.m right_paren_kind (marked look x right_paren_kind o.1) refl; other = λ n. absurd (true≢false (sym n ∙ j.1)) }) in (
               catch_clause (span (lo ts) z.m.last) v.tree w.0,
-              (refl, (q.0, o.0, worded look x c catch_kind q.1, unabsent (is_absent v.tree) _ _ (alike is_absent re_is_absent (leaves_at look x.naming) Plain p v.tree v.same ∙ a) (i.0, y.m, took look x c left_paren_kind i.1, alike is_binding re_is_binding (leaves_at look x.naming) Plain p v.tree v.same ∙ e.3, v.spelled, took look x c right_paren_kind o.1), w.1, refl)),
+              (refl, (q.0, o.0, worded look x c catch_kind q.1, unabsent (is_absent v.tree) _ _ (alike is_absent re_is_absent (leaves_at look x.naming) Plain p v.tree v.same ∙ a) (i.0, y.m, took look x c left_paren_kind i.1, alike is_binding re_is_binding (leaves_at look x.naming) Plain p v.tree v.same ∙ e.3, v.produced, took look x c right_paren_kind o.1), w.1, refl)),
               record { so = λ n. ap₂ (λ (t u : Tree). catch_clause no_place t u) (v.same.so Plain) (w.2.so Plain) },
             );
           }
 
-  record Handled (h : Tree) (c : Code) (r0 : Input) (ts : Input) (K : Gap → Input → Type 0) : Type 0 where
-    d : Gap
+  record Handled (h : Tree) (c : Code) (r0 : Input) (ts : Input) (K : Spacing → Input → Type 0) : Type 0 where
+    d : Spacing
     m : Input
     more : K d m
     known : Known r0.places
     lead : ((is_absent h ≡ false) × (kind ts ≡ catch_kind)) ⊎ ((is_absent h ≡ true) × (ts ≡ m))
-    again : (kind m ≡ else_kind → kind r0 ≡ else_kind) → (u : Tree) × Maybe (Sorted is_catch) (unplaced c) (part u (λ y. Spells u y)) ts m × Same (leaves_at look x.naming) Plain h u
+    again : (kind m ≡ else_kind → kind r0 ≡ else_kind) → (u : Tree) × Maybe (Sorted is_catch) (unplaced c) (child u (λ y. Produces u y)) ts m × Redone (leaves_at look x.naming) Plain h u
 
-  caught_on : (t : Tree) → HandlerSound look x.naming t → (c : Code) (ts0 r0 : Input) → Sorted is_catch c (part t (λ y. Spells t y)) ts0 r0 → Known ts0.places → (b : Gap) (ts : Input) (K : Gap → Input → Type 0) → says x.naming (laid look Alone t) b ts K → Caught t c r0 b ts K
+  caught_on : (t : Tree) → HandlerSound look x.naming t → (c : Code) (ts0 r0 : Input) → Sorted is_catch c (child t (λ y. Produces t y)) ts0 r0 → Known ts0.places → (b : Spacing) (ts : Input) (K : Spacing → Input → Type 0) → says x.naming (laid look Alone t) b ts K → Caught t c r0 b ts K
   caught_on (catch_clause s p b) f c ts0 r0 h k br ts K q = catch_on s p b f.0 f.1 c ts0 r0 h.1 k br ts K q
   caught_on _ f c ts0 r0 h k br ts K q = absurd (true≢false (sym h.0))
 
-  handler_on : (t : Tree) → HandlerSound look x.naming t → (c : Code) (v : Bool) → is_absent t ≡ v → (ts0 r0 : Input) → By v (ts0 ≡ r0) (Sorted is_catch c (part t (λ y. Spells t y)) ts0 r0) → Known ts0.places → (b : Gap) (ts : Input) (K : Gap → Input → Type 0) → says x.naming (when (not v) (gap look · laid look Alone t)) b ts K → Handled t c r0 ts K
+  handler_on : (t : Tree) → HandlerSound look x.naming t → (c : Code) (v : Bool) → is_absent t ≡ v → (ts0 r0 : Input) → By v (ts0 ≡ r0) (Sorted is_catch c (child t (λ y. Produces t y)) ts0 r0) → Known ts0.places → (b : Spacing) (ts : Input) (K : Spacing → Input → Type 0) → says x.naming (when (not v) (gap look · laid look Alone t)) b ts K → Handled t c r0 ts K
   handler_on t f c true e ts0 r0 h k b ts K q = record { d = b; m = ts; more = q; known = subst (λ (i : Input). Known i.places) h k; lead = inr (e, refl); again = λ g. (absent, refl, absent_same (leaves_at look x.naming) Plain t e) }
   handler_on t f c false e ts0 r0 h k b ts K q =
       let z = caught_on t f c ts0 r0 h k _ ts K (skip x.naming (formats look) b ts _ q) in record {
@@ -148,16 +148,16 @@ module _ (look : Look) (x : Lexicon look.style) where
         again = λ g. let w = z.again g in (w.0, unabsent (is_absent w.0) _ _ (alike is_absent re_is_absent (leaves_at look x.naming) Plain t w.0 w.2 ∙ e) w.1, w.2);
       }
 
-  record Finally (f : Tree) (c : Code) (o0 r0 : Input) (ts : Input) (K : Gap → Input → Type 0) : Type 0 where
-    d : Gap
+  record Finally (f : Tree) (c : Code) (o0 r0 : Input) (ts : Input) (K : Spacing → Input → Type 0) : Type 0 where
+    d : Spacing
     m : Input
     more : K d m
     known : Known r0.places
     first : (kind m ≡ else_kind → kind r0 ≡ else_kind) → kind ts ≡ else_kind → kind o0 ≡ else_kind
     lead : is_absent f ≡ false → kind ts ≡ else_kind → ⊥
-    again : (kind m ≡ else_kind → kind r0 ≡ else_kind) → (u : Tree) × By (is_absent u) (ts ≡ m) ((p : Input) × TakesWord (unplaced c) finally_kind ts p × Sorted is_block (unplaced c) (part u (λ y. Spells u y)) p m) × Same (leaves_at look x.naming) Plain f u
+    again : (kind m ≡ else_kind → kind r0 ≡ else_kind) → (u : Tree) × By (is_absent u) (ts ≡ m) ((p : Input) × TakesWord (unplaced c) finally_kind ts p × Sorted is_block (unplaced c) (child u (λ y. Produces u y)) p m) × Redone (leaves_at look x.naming) Plain f u
 
-  finally_on : (t : Tree) → Sound look x.naming Alone t → (c : Code) (v : Bool) → is_absent t ≡ v → (ts0 r0 : Input) → By v (ts0 ≡ r0) ((p : Input) × TakesWord c finally_kind ts0 p × Sorted is_block c (part t (λ y. Spells t y)) p r0) → Known ts0.places → (b : Gap) (ts : Input) (K : Gap → Input → Type 0)
+  finally_on : (t : Tree) → Sound look x.naming Alone t → (c : Code) (v : Bool) → is_absent t ≡ v → (ts0 r0 : Input) → By v (ts0 ≡ r0) ((p : Input) × TakesWord c finally_kind ts0 p × Sorted is_block c (child t (λ y. Produces t y)) p r0) → Known ts0.places → (b : Spacing) (ts : Input) (K : Spacing → Input → Type 0)
       → says x.naming (when (not v) (gap look · word (codes "finally") · laid look Alone t)) b ts K → Finally t c ts0 r0 ts K
   finally_on t f c true e ts0 r0 h k b ts K q = record {
     d = b;
@@ -198,7 +198,7 @@ module _ (look : Look) (x : Lexicon look.style) where
         begins = λ e. absurd (try_else (sym (keyed look x try_kind q.1) ∙ e));
         again = λ l. let w = v.again (l.other refl) in let u = z.again (v.first (l.other refl)) in let a = y.again (λ e. absurd (behind y.m z.m z.lead v.lead e)) in record {
           tree = try_stmt (span (lo ts) v.m.last) a.0 u.0 w.0;
-          spelled = (q.0, y.m, z.m, neither (is_absent t) (is_absent f) (is_absent u.0) (is_absent w.0) (alike is_absent re_is_absent (leaves_at look x.naming) Plain t u.0 u.2) (alike is_absent re_is_absent (leaves_at look x.naming) Plain f w.0 w.2) h.3, worded look x c try_kind q.1, a.1, u.1, w.1, refl);
+          produced = (q.0, y.m, z.m, neither (is_absent t) (is_absent f) (is_absent u.0) (is_absent w.0) (alike is_absent re_is_absent (leaves_at look x.naming) Plain t u.0 u.2) (alike is_absent re_is_absent (leaves_at look x.naming) Plain f w.0 w.2) h.3, worded look x c try_kind q.1, a.1, u.1, w.1, refl);
           directive = refl;
           quoted = λ p q. refl;
           same = record { so = λ n. three (a.2.so Plain) (u.2.so Plain) (w.2.so Plain) };

@@ -7,19 +7,19 @@ use Rattle.ecma_tree.specs.Places.{no_place}
 use Rattle.ecma_tree.specs.Tree.{Tree, Trees, array_pat, binding_ident, more, none, object_pat, using_decl, var_decl, var_declarator}
 use Rattle.ecma_syntax.specs.Input.{Code, Input, binding, brk, escaped, is_word, kind, kind2, lo, span, unplaced}
 use Rattle.ecma_syntax.specs.Shape.{declarators_end, is_absent, is_binding, is_declarator}
-use Rattle.ecma_grammar.specs.Grammar.{parts}
-use Rattle.ecma_grammar.specs.Parts.{Commas, Sorted, is_module_item}
+use Rattle.ecma_grammar.specs.Grammar.{children}
+use Rattle.ecma_grammar.specs.Children.{Commas, Sorted, is_module_item}
 use Rattle.ecma_grammar.specs.Statements.{Bindings, UsingBindings, is_var_word, starts_pattern, starts_using}
 use Rattle.ecma_layout.specs.Layout.{comma, laid, separated, starts_bracketed}
 use Rattle.ecma_layout.specs.Looks.{blank, formats, gap, text, when, ◌·◌}
 use Rattle.ecma_layout.specs.declared.look.Look.{Look}
 use Rattle.ecma_layout.specs.declared.look.Stand.{Stand}
 use Rattle.ecma_layout.specs.declared.look.Stand.TheVariants.{Alone}
-use Rattle.ecma_written.specs.Gaps.{Gap, Spaced, Touching, blanked, is_broken}
+use Rattle.ecma_written.specs.Spacings.{Spacing, Spaced, Touching, blanked, is_broken}
 use Rattle.ecma_written.specs.Lexicon.{Lexicon}
 use Rattle.ecma_written.specs.Means.{Known}
 use Rattle.ecma_written.specs.Told.{says}
-use Rattle.ecma_redone.specs.Redo.{AllSame, Plain}
+use Rattle.ecma_redone.specs.Redo.{AllRedone, Plain}
 use Rattle.ecma_redone_rules.proofs.Naming.{leaves_at}
 use Rattle.ecma_redone_rules.proofs.Begins.{Begins, Starts, fine, is_loose, is_part, is_weak, same_start}
 use Rattle.ecma_redone_rules.proofs.Ends.{ended_known, initial_on, quiet_at, there}
@@ -75,7 +75,7 @@ module _ (look : Look) (x : Lexicon look.style) where
         begins = v.begins ts0 ts (binding_begins n ts0 h.0 ts y.m h.1 y.begins);
         again = λ l. let w = y.again (record { quiet = λ z. v.calms (l.quiet refl); other = λ z. absurd (true≢false (sym z ∙ p.1)) }) in let o = v.again (l.quiet refl) in record {
           tree = var_declarator (span (lo ts) v.m.last) w.tree o.0;
-          spelled = (y.m, alike is_binding re_is_binding (leaves_at look x.naming) Plain n w.tree w.same ∙ h.1, w.spelled, o.1, refl);
+          produced = (y.m, alike is_binding re_is_binding (leaves_at look x.naming) Plain n w.tree w.same ∙ h.1, w.produced, o.1, refl);
           directive = refl;
           quoted = λ p q. refl;
           same = record { so = λ n. ap₂ (λ (t u : Tree). var_declarator no_place t u) (w.same.so Plain) (o.2.so Plain) };
@@ -83,21 +83,21 @@ module _ (look : Look) (x : Lexicon look.style) where
       }
 
   -- a blank, or where formatting writes one
-  either_blank : (v : Bool) (b : Gap) (ts : Input) (K : Gap → Input → Type 0) → says x.naming (if v then gap look else blank) b ts K → (d : Gap) × K d ts
+  either_blank : (v : Bool) (b : Spacing) (ts : Input) (K : Spacing → Input → Type 0) → says x.naming (if v then gap look else blank) b ts K → (d : Spacing) × K d ts
   either_blank true b ts K q = (gapped (formats look) b, skip x.naming (formats look) b ts K q)
   either_blank false b ts K q = (blanked b, q)
 
   -- declarations without what ends them
-  pub record Bound (c : Code) (k : ℕ) (ds : Trees) (r0 : Input) (b : Gap) (ts : Input) (K : Gap → Input → Type 0) : Type 0 where
-    pub d : Gap
+  pub record Bound (c : Code) (k : ℕ) (ds : Trees) (r0 : Input) (b : Spacing) (ts : Input) (K : Spacing → Input → Type 0) : Type 0 where
+    pub d : Spacing
     pub m : Input
     pub more : K d m
     pub known : Known r0.places
     pub broke : brk ts ≡ is_broken b
     pub first : kind ts ≡ k
-    pub again : calm m ≡ true → (us : Trees) × Bindings (unplaced c) k (parts us) ts m × AllSame (leaves_at look x.naming) Plain ds us
+    pub again : calm m ≡ true → (us : Trees) × Bindings (unplaced c) k (children us) ts m × AllRedone (leaves_at look x.naming) Plain ds us
 
-  pub bindings_on : (s : Span) (k : ℕ) (ds : Trees) → AllSound look x.naming ds → (c : Code) (ts0 r0 : Input) → Bindings c k (parts ds) ts0 r0 → Known ts0.places → (b : Gap) (ts : Input) (K : Gap → Input → Type 0) → says x.naming (laid look Alone (var_decl s k ds)) b ts K → Bound c k ds r0 b ts K
+  pub bindings_on : (s : Span) (k : ℕ) (ds : Trees) → AllSound look x.naming ds → (c : Code) (ts0 r0 : Input) → Bindings c k (children ds) ts0 r0 → Known ts0.places → (b : Spacing) (ts : Input) (K : Spacing → Input → Type 0) → says x.naming (laid look Alone (var_decl s k ds)) b ts K → Bound c k ds r0 b ts K
   bindings_on s k none a c ts0 r0 h l b ts K q = absurd h.3
   bindings_on s k (more t us) a c ts0 r0 h l b ts K q =
       let i = (either_blank (starts_bracketed (more t us)) Touching q.0 _ q.2).1 in
@@ -125,7 +125,7 @@ module _ (look : Look) (x : Lexicon look.style) where
         begins = λ e. absurd (var_no_else k h.1.1 (sym z.first ∙ e));
         again = λ g. let w = z.again (quiet_at look x o.2).calm in record {
           tree = var_decl (span (lo ts) o.1.last) k w.0;
-          spelled = (z.m, w.1, ended look x c (declarators_end w.0) o.2, refl);
+          produced = (z.m, w.1, ended look x c (declarators_end w.0) o.2, refl);
           directive = refl;
           quoted = λ p q. refl;
           same = record { so = λ n. ap (λ (us : Trees). var_decl no_place k us) (w.2.so Plain) };
@@ -135,32 +135,32 @@ module _ (look : Look) (x : Lexicon look.style) where
   -- ---- `using` (own)
 
   -- how the words and the first name begin
-  pub record Used (awaits : Bool) (c : Code) (ds : Trees) (ts0 r0 : Input) (b : Gap) (ts : Input) (K : Gap → Input → Type 0) : Type 0 where
-    pub d : Gap
+  pub record Used (awaits : Bool) (c : Code) (ds : Trees) (ts0 r0 : Input) (b : Spacing) (ts : Input) (K : Spacing → Input → Type 0) : Type 0 where
+    pub d : Spacing
     pub m : Input
     pub more : K d m
     pub known : Known r0.places
     pub broke : brk ts ≡ is_broken b
     pub first : kind ts ≡ else_kind → ⊥
     pub starts : starts_using awaits ts0 ≡ true → starts_using awaits ts ≡ true
-    pub again : calm m ≡ true → (us : Trees) × UsingBindings (unplaced c) awaits (parts us) ts m × AllSame (leaves_at look x.naming) Plain ds us
+    pub again : calm m ≡ true → (us : Trees) × UsingBindings (unplaced c) awaits (children us) ts m × AllRedone (leaves_at look x.naming) Plain ds us
 
   -- the bindings, whose first token is the one that it was
-  record Bindings_on (c : Code) (ds : Trees) (ts0 r0 : Input) (b : Gap) (ts : Input) (K : Gap → Input → Type 0) : Type 0 where
-    d : Gap
+  record Bindings_on (c : Code) (ds : Trees) (ts0 r0 : Input) (b : Spacing) (ts : Input) (K : Spacing → Input → Type 0) : Type 0 where
+    d : Spacing
     m : Input
     more : K d m
     known : Known r0.places
     broke : brk ts ≡ is_broken b
     same_kind : kind ts ≡ kind ts0
-    again : calm m ≡ true → (us : Trees) × Commas (Sorted is_declarator (unplaced c)) (unplaced c) (parts us) ts m × AllSame (leaves_at look x.naming) Plain ds us
+    again : calm m ≡ true → (us : Trees) × Commas (Sorted is_declarator (unplaced c)) (unplaced c) (children us) ts m × AllRedone (leaves_at look x.naming) Plain ds us
 
   declarator_begins : (t : Tree) (ts0 r0 ts m : Input) → is_declarator t ≡ true → Starts (is_weak t) (is_loose t) ts0 r0 ts m → kind ts ≡ kind ts0
   declarator_begins (var_declarator s n e) ts0 r0 ts m i (same_start p f) = p
   declarator_begins (var_declarator s n e) ts0 r0 ts m i (fine p f g) = absurd (true≢false (sym p))
   declarator_begins _ ts0 r0 ts m i h = absurd (true≢false (sym i))
 
-  commas_on : (ds : Trees) → AllSound look x.naming ds → (c : Code) (ts0 r0 : Input) → Commas (Sorted is_declarator c) c (parts ds) ts0 r0 → Known ts0.places → (b : Gap) (ts : Input) (K : Gap → Input → Type 0) → says x.naming (separated look (comma look) ds) b ts K → Bindings_on c ds ts0 r0 b ts K
+  commas_on : (ds : Trees) → AllSound look x.naming ds → (c : Code) (ts0 r0 : Input) → Commas (Sorted is_declarator c) c (children ds) ts0 r0 → Known ts0.places → (b : Spacing) (ts : Input) (K : Spacing → Input → Type 0) → says x.naming (separated look (comma look) ds) b ts K → Bindings_on c ds ts0 r0 b ts K
   commas_on none a c ts0 r0 h l b ts K q = absurd h
   commas_on (more t us) a c ts0 r0 h l b ts K q =
       let z = run look x (Sorted is_declarator c) (Sorted is_declarator (unplaced c)) (sorted look x is_declarator re_is_declarator declarator_plain c) c t us a.0 a.1 ts0 h.0 r0 h.1 h.2 l b ts K q in record {
@@ -173,7 +173,7 @@ module _ (look : Look) (x : Lexicon look.style) where
         again = λ g. let w = z.again g in (more w.0 w.1, (w.2, w.3, w.4), more_same (leaves_at look x.naming) Plain t w.0 us w.1 w.5 w.6);
       }
 
-  pub used_on : (s : Span) (awaits : Bool) (ds : Trees) → AllSound look x.naming ds → (c : Code) (ts0 r0 : Input) → UsingBindings c awaits (parts ds) ts0 r0 → Known ts0.places → (b : Gap) (ts : Input) (K : Gap → Input → Type 0) → says x.naming (laid look Alone (using_decl s awaits ds)) b ts K → Used awaits c ds ts0 r0 b ts K
+  pub used_on : (s : Span) (awaits : Bool) (ds : Trees) → AllSound look x.naming ds → (c : Code) (ts0 r0 : Input) → UsingBindings c awaits (children ds) ts0 r0 → Known ts0.places → (b : Spacing) (ts : Input) (K : Spacing → Input → Type 0) → says x.naming (laid look Alone (using_decl s awaits ds)) b ts K → Used awaits c ds ts0 r0 b ts K
   used_on s false ds a c ts0 r0 h l b ts K q =
       let z = commas_on ds a c h.0 r0 h.5 (x.later ts0 h.0 h.2.3 l) Spaced q.0 K q.2 in record {
         d = z.d;
@@ -211,7 +211,7 @@ module _ (look : Look) (x : Lexicon look.style) where
         begins = λ e. absurd (z.first e);
         again = λ g. let w = z.again (quiet_at look x o.2).calm in record {
           tree = using_decl (span (lo ts) o.1.last) awaits w.0;
-          spelled = (z.m, w.1, ended look x c (declarators_end w.0) o.2, refl);
+          produced = (z.m, w.1, ended look x c (declarators_end w.0) o.2, refl);
           directive = refl;
           quoted = λ p q. refl;
           same = record { so = λ n. ap (λ (us : Trees). using_decl no_place awaits us) (w.2.so Plain) };

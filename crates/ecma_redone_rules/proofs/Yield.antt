@@ -8,15 +8,15 @@ use Rattle.ecma_syntax.specs.Input.{Code, Input, lo, span, unplaced}
 use Rattle.ecma_syntax.specs.Operators.{assignment_level}
 use Rattle.ecma_syntax.specs.Shape.{is_absent, level}
 use Rattle.ecma_grammar.specs.Expressions.{Yield}
-use Rattle.ecma_grammar.specs.Grammar.{Spells}
-use Rattle.ecma_grammar.specs.Parts.{part}
+use Rattle.ecma_grammar.specs.Grammar.{Produces}
+use Rattle.ecma_grammar.specs.Children.{child}
 use Rattle.ecma_edge.specs.Edges.{starts_with_word}
 use Rattle.ecma_layout.specs.Layout.{laid}
 use Rattle.ecma_layout.specs.Looks.{formats, gap, gap_or, when, ◌·◌}
 use Rattle.ecma_layout.specs.declared.look.Look.{Look}
 use Rattle.ecma_layout.specs.declared.look.Stand.{Stand}
 use Rattle.ecma_layout.specs.declared.look.Stand.TheVariants.{Alone}
-use Rattle.ecma_written.specs.Gaps.{Gap, Touching}
+use Rattle.ecma_written.specs.Spacings.{Spacing, Touching}
 use Rattle.ecma_written.specs.Lexicon.{Lexicon}
 use Rattle.ecma_written.specs.Means.{Known}
 use Rattle.ecma_written.specs.Told.{says}
@@ -31,7 +31,7 @@ absent_level : (a : Tree) → 1 ≤ level a → is_absent a ≡ false
 absent_level absent h = absurd (omega arith)
 absent_level _ h = refl
 
-as_yield : (s : Span) (a : Tree) (g : Bool) (c : Code) (ts r : Input) → 1 ≤ level a → Yield c s (part a (λ y. Spells a y)) g ts r → Spells (yield_expr s a g) c ts r
+as_yield : (s : Span) (a : Tree) (g : Bool) (c : Code) (ts r : Input) → 1 ≤ level a → Yield c s (child a (λ y. Produces a y)) g ts r → Produces (yield_expr s a g) c ts r
 as_yield s absent g c ts r n h = absurd (omega arith)
 as_yield s _ g c ts r n h = h
 
@@ -46,10 +46,10 @@ module _ (look : Look) (x : Lexicon look.style) where
     broke = q.1.broke;
     tight = λ e. refl;
     begins = led ts0 r0 ts q.0 yield_kind h.1.1.0 (keyed look x yield_kind q.1) refl;
-    again = λ g. record { tree = yield_expr (span (lo ts) q.0.last) absent false; spelled = (refl, (h.1.0, worded look x c yield_kind q.1, refl)); directive = refl; quoted = λ p q. refl; same = record { so = λ m. refl } };
+    again = λ g. record { tree = yield_expr (span (lo ts) q.0.last) absent false; produced = (refl, (h.1.0, worded look x c yield_kind q.1, refl)); directive = refl; quoted = λ p q. refl; same = record { so = λ m. refl } };
   }
 
-  pub yield_on : (s : Span) (a : Tree) (g : Bool) → Sound look x.naming Alone a → (st : Stand) (c : Code) (ts0 r0 : Input) → Yield c s (part a (λ y. Spells a y)) g ts0 r0 → Known ts0.places → (b : Gap) (ts : Input) (K : Gap → Input → Type 0)
+  pub yield_on : (s : Span) (a : Tree) (g : Bool) → Sound look x.naming Alone a → (st : Stand) (c : Code) (ts0 r0 : Input) → Yield c s (child a (λ y. Produces a y)) g ts0 r0 → Known ts0.places → (b : Spacing) (ts : Input) (K : Spacing → Input → Type 0)
       → says x.naming (full look st (yield_expr s a g)) b ts K → Out look x.naming st (yield_expr s a g) c ts0 r0 b ts K
   yield_on s a false f st c ts0 r0 h k b ts K q =
       let n = above assignment_level (level a) (omega arith) h.4.0 in
@@ -64,7 +64,7 @@ module _ (look : Look) (x : Lexicon look.style) where
         begins = led ts0 r0 ts y.m yield_kind h.2.0 (keyed look x yield_kind q.1) refl;
         again = λ g. let w = y.again (follow_on st (yield_expr s a false) Alone a r0 r0 y.m refl n g) in let e = expr_low look x.naming assignment_level Alone a c q.0 y.m h.4.0 (omega arith) w in record {
           tree = yield_expr (span (lo ts) y.m.last) w.tree false;
-          spelled = as_yield (span (lo ts) y.m.last) w.tree false (unplaced c) ts y.m (above assignment_level (level w.tree) (omega arith) e.0) (q.0, h.1, worded look x c yield_kind q.1, y.broke ∙ blank_broke (starts_with_word a || formats look) Touching, e, refl);
+          produced = as_yield (span (lo ts) y.m.last) w.tree false (unplaced c) ts y.m (above assignment_level (level w.tree) (omega arith) e.0) (q.0, h.1, worded look x c yield_kind q.1, y.broke ∙ blank_broke (starts_with_word a || formats look) Touching, e, refl);
           directive = refl;
           quoted = λ p q. refl;
           same = record { so = λ n. ap (λ (t : Tree). yield_expr no_place t false) (w.same.so Plain) };
@@ -84,7 +84,7 @@ module _ (look : Look) (x : Lexicon look.style) where
         begins = led ts0 r0 ts y.m yield_kind h.3.0 (keyed look x yield_kind q.1) refl;
         again = λ g. let w = y.again (follow_on st (yield_expr s a true) Alone a r0 r0 y.m refl n g) in let e = expr_low look x.naming assignment_level Alone a c p.0 y.m h.6.0 (omega arith) w in record {
           tree = yield_expr (span (lo ts) y.m.last) w.tree true;
-          spelled = as_yield (span (lo ts) y.m.last) w.tree true (unplaced c) ts y.m (above assignment_level (level w.tree) (omega arith) e.0) (q.0, p.0, h.2, worded look x c yield_kind q.1, p.1.broke, took look x c mul_kind p.1, e, refl);
+          produced = as_yield (span (lo ts) y.m.last) w.tree true (unplaced c) ts y.m (above assignment_level (level w.tree) (omega arith) e.0) (q.0, p.0, h.2, worded look x c yield_kind q.1, p.1.broke, took look x c mul_kind p.1, e, refl);
           directive = refl;
           quoted = λ p q. refl;
           same = record { so = λ n. ap (λ (t : Tree). yield_expr no_place t true) (w.same.so Plain) };

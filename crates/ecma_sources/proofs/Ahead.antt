@@ -2,10 +2,10 @@
 use Rattle.std.proofs.Common.{◌≡◌, ◌⊎◌, ◌≤◌, ◌+◌, ℕ, zero, suc, Bool, true, false, not, ◌&&◌, ◌||◌, ◌==◌, if◌then◌else◌, eqb, nat_le, nat_lt, List, [], ◌∷◌, ◌++◌, length, Result, Ok, Err, codes, bytes_eq, inl, inr, refl, sym, ap, ap₂, ◌∙◌, subst, true≢false, arith, eqb-true, le-leb}
 use Rattle.ecma_token.specs.Kinds.{end_kind, right_brace_kind, left_brace_kind, left_bracket_kind, left_paren_kind, dot_kind, back_quote_kind, comma_kind, question_mark_kind, arrow_kind, async_kind, regex_kind, plus_plus_kind, minus_minus_kind, assign_kind, mul_kind, from_kind, with_kind, div_kind}
 use Rattle.ecma_tree.specs.Tree.{Tree}
-use Rattle.ecma_syntax.specs.Input.{Place, Input, Code, kind, kind_of, kind2, brk, break_of, others, hi_of, text_in, is_word, always_reserved, operator_word, barred, has_in}
+use Rattle.ecma_syntax.specs.Input.{PlacedToken, Input, Code, kind, kind_of, kind2, brk, break_of, others, hi_of, text_in, is_word, always_reserved, operator_word, barred, has_in}
 use Rattle.ecma_syntax.specs.Operators.{expression_level, assignment_level, conditional_level, update_level, call_level, member_level, binary_level, is_assign_op, operates, between, may_name, starts_key, goes_expr, pauses, goes_on, closed_end, postfix_end, other_end, let_end, binding_end, key_end, accessor_end, static_end, exports_end, source_end}
 use Rattle.ecma_syntax.specs.Shape.{ends}
-use Rattle.ecma_reading.specs.Source.{Fault, Machine, Stand, list_machine, input, is_name}
+use Rattle.ecma_reading.specs.Source.{Fault, Stream, State, list_stream, input, is_name}
 use Rattle.ecma_reading.specs.Expressions.{key_by, parameter_by, prop_by}
 use Rattle.ecma_reading.specs.Statements.{pattern_prop}
 use Rattle.ecma_reading.specs.Modules.{item_by}
@@ -24,46 +24,46 @@ use Rattle.ecma_sources.proofs.ConsumedLemmas.{readers_echoed}
 
 -- ---- a source that shows three tokens of a list
 
-abbrev three : List Place → List Place
+abbrev three : List PlacedToken → List PlacedToken
 three [] = []
 three (p ∷ ps) = p ∷ two ps
 
-abbrev pub glimpse : Machine Input
-glimpse = record { seen = λ s. three s.places; after = λ s. record { last = hi_of s.last s.places; places = others s.places }; operand = λ s. s; turned = λ x s. s; bound = λ s. length s.places; last = λ s. s.last }
+abbrev pub glimpse : Stream Input
+glimpse = record { seen = λ s. three s.places; after = λ s. record { last = hi_of s.last s.places; places = others s.places }; operand = λ s. s; retold = λ x s. s; bound = λ s. length s.places; last = λ s. s.last }
 
 abbrev pub Live : Input → Type 0
 Live s = Named s.places
 
-named_others : (l : List Place) → Named l → Named (others l)
+named_others : (l : List PlacedToken) → Named l → Named (others l)
 named_others [] a = a
 named_others (p ∷ l) a = a.1
 
-two_three : (l : List Place) → two l ≡ two (three l)
+two_three : (l : List PlacedToken) → two l ≡ two (three l)
 two_three [] = refl
 two_three (p ∷ []) = refl
 two_three (p ∷ (q ∷ l)) = refl
 
-abbrev head_or : Place → List Place → Place
+abbrev head_or : PlacedToken → List PlacedToken → PlacedToken
 head_or o [] = o
 head_or o (p ∷ l) = p
 
-abbrev is_nil : List Place → Bool
+abbrev is_nil : List PlacedToken → Bool
 is_nil [] = true
 is_nil (p ∷ l) = false
 
-three_behind : (l : List Place) (p : Place) (v : List Place) → three l ≡ p ∷ v → v ≡ two (three (others l))
+three_behind : (l : List PlacedToken) (p : PlacedToken) (v : List PlacedToken) → three l ≡ p ∷ v → v ≡ two (three (others l))
 three_behind [] p v e = absurd (true≢false (ap (λ z. is_nil z) e))
 three_behind (q ∷ l) p v e = sym (ap others e) ∙ two_three l
 
-three_first : (n : ℕ) (l : List Place) (p : Place) (v : List Place) → three l ≡ p ∷ v → (u : List Place) × (l ≡ p ∷ u)
+three_first : (n : ℕ) (l : List PlacedToken) (p : PlacedToken) (v : List PlacedToken) → three l ≡ p ∷ v → (u : List PlacedToken) × (l ≡ p ∷ u)
 three_first n [] p v e = absurd (true≢false (ap (λ z. is_nil z) e))
 three_first n (q ∷ l) p v e = (l, ap (λ z. head_or q z ∷ l) e)
 
-ends_there : (n : ℕ) (l : List Place) (p : Place) (v : List Place) → three l ≡ p ∷ v → hi_of n l ≡ p.spot.hi
+ends_there : (n : ℕ) (l : List PlacedToken) (p : PlacedToken) (v : List PlacedToken) → three l ≡ p ∷ v → hi_of n l ≡ p.spot.hi
 ends_there n [] p v e = absurd (true≢false (ap (λ z. is_nil z) e))
 ends_there n (q ∷ l) p v e = ap (λ z. (head_or q z).spot.hi) e
 
-shorter : (l : List Place) (p : Place) (v : List Place) → three l ≡ p ∷ v → suc (length (others l)) ≤ length l
+shorter : (l : List PlacedToken) (p : PlacedToken) (v : List PlacedToken) → three l ≡ p ∷ v → suc (length (others l)) ≤ length l
 shorter [] p v e = absurd (true≢false (ap (λ z. is_nil z) e))
 shorter (q ∷ l) p v e = omega arith
 
@@ -83,50 +83,50 @@ order modular = record {
   live_turned = λ x s e a. a;
 }
 
-hands_self : (n : ℕ) (l : List Place) → HandsOut glimpse l (record { last = n; places = l })
+hands_self : (n : ℕ) (l : List PlacedToken) → HandsOut glimpse l (record { last = n; places = l })
 hands_self n [] = refl
 hands_self n (p ∷ l) = inl (two l, refl, hands_self p.spot.hi l)
 
-hands_is : (l : List Place) (n : ℕ) (v : List Place) → HandsOut glimpse l (record { last = n; places = v }) → l ≡ v
+hands_is : (l : List PlacedToken) (n : ℕ) (v : List PlacedToken) → HandsOut glimpse l (record { last = n; places = v }) → l ≡ v
 hands_is [] n [] h = refl
 hands_is [] n (q ∷ v) h = absurd (true≢false (sym (ap (λ z. is_nil z) h)))
 hands_is (p ∷ l) n [] (inl h) = absurd (true≢false (ap (λ z. is_nil z) h.1))
-hands_is (p ∷ l) n (q ∷ v) (inl h) = ap₂ (λ (o : Place) (z : List Place). o ∷ z) (sym (ap (λ z. head_or q z) h.1)) (hands_is l q.spot.hi v h.2)
-hands_is (p ∷ l) n v (inr h) = absurd (true≢false (sym h.4.0 ∙ (ap (λ (o : Place). is_slash o.spot.token.kind) (same_head v h.0 h.1 p h.2 h.3 h.5) ∙ ap (λ (k : ℕ). is_slash k) h.4.1)))
+hands_is (p ∷ l) n (q ∷ v) (inl h) = ap₂ (λ (o : PlacedToken) (z : List PlacedToken). o ∷ z) (sym (ap (λ z. head_or q z) h.1)) (hands_is l q.spot.hi v h.2)
+hands_is (p ∷ l) n v (inr h) = absurd (true≢false (sym h.4.0 ∙ (ap (λ (o : PlacedToken). is_slash o.spot.token.kind) (same_head v h.0 h.1 p h.2 h.3 h.5) ∙ ap (λ (k : ℕ). is_slash k) h.4.1)))
   where
-    same_head : (v : List Place) (q : Place) (qs : List Place) (p : Place) (rs : List Place) → three v ≡ q ∷ qs → three v ≡ p ∷ rs → q ≡ p
+    same_head : (v : List PlacedToken) (q : PlacedToken) (qs : List PlacedToken) (p : PlacedToken) (rs : List PlacedToken) → three v ≡ q ∷ qs → three v ≡ p ∷ rs → q ≡ p
     same_head v q qs p rs e f = ap (λ z. head_or q z) (sym e ∙ f)
 
 -- ---- lists that agree
 
-abbrev pub firsts : ℕ → List Place → List Place
+abbrev pub firsts : ℕ → List PlacedToken → List PlacedToken
 firsts zero l = []
 firsts (suc n) [] = []
 firsts (suc n) (p ∷ l) = p ∷ firsts n l
 
-firsts_fewer : (n : ℕ) (l : List Place) → firsts n (firsts (suc n) l) ≡ firsts n l
+firsts_fewer : (n : ℕ) (l : List PlacedToken) → firsts n (firsts (suc n) l) ≡ firsts n l
 firsts_fewer zero l = refl
 firsts_fewer (suc n) [] = refl
 firsts_fewer (suc n) (p ∷ l) = ap (λ z. p ∷ z) (firsts_fewer n l)
 
-firsts_all : (n : ℕ) (l : List Place) → length l ≤ n → firsts n l ≡ l
+firsts_all : (n : ℕ) (l : List PlacedToken) → length l ≤ n → firsts n l ≡ l
 firsts_all zero [] e = refl
 firsts_all zero (p ∷ l) e = absurd (omega (arith, e))
 firsts_all (suc n) [] e = refl
 firsts_all (suc n) (p ∷ l) e = ap (λ z. p ∷ z) (firsts_all n l (omega (arith, e)))
 
-one_first : (l : List Place) → firsts 1 l ≡ one l
+one_first : (l : List PlacedToken) → firsts 1 l ≡ one l
 one_first [] = refl
 one_first (p ∷ l) = refl
 
 -- what agrees in the first place
-by_first : (P : List Place → List Place → Type 0) → P [] [] → ((p : Place) (l v : List Place) → P (p ∷ l) (p ∷ v)) → (n : ℕ) (l v : List Place) → firsts (suc n) l ≡ firsts (suc n) v → P l v
+by_first : (P : List PlacedToken → List PlacedToken → Type 0) → P [] [] → ((p : PlacedToken) (l v : List PlacedToken) → P (p ∷ l) (p ∷ v)) → (n : ℕ) (l v : List PlacedToken) → firsts (suc n) l ≡ firsts (suc n) v → P l v
 by_first P a b n [] [] e = a
 by_first P a b n [] (q ∷ v) e = absurd (true≢false (ap (λ z. is_nil z) e))
 by_first P a b n (p ∷ l) [] e = absurd (true≢false (sym (ap (λ z. is_nil z) e)))
-by_first P a b n (p ∷ l) (q ∷ v) e = subst (λ (o : Place). P (p ∷ l) (o ∷ v)) (ap (λ z. head_or p z) e) (b p l v)
+by_first P a b n (p ∷ l) (q ∷ v) e = subst (λ (o : PlacedToken). P (p ∷ l) (o ∷ v)) (ap (λ z. head_or p z) e) (b p l v)
 
-abbrev pub Agree : ℕ → List Place → Input → Type 0
+abbrev pub Agree : ℕ → List PlacedToken → Input → Type 0
 Agree n l s = firsts (suc n) l ≡ firsts (suc n) s.places
 
 abbrev pub ahead : Pairing glimpse
@@ -139,14 +139,14 @@ ahead = record {
 
 -- ---- tests
 
-see_one : {A : Type 0} (B : List Place → A) → ((p : Place) (l v : List Place) → B (p ∷ l) ≡ B (p ∷ v)) → (l v : List Place) → firsts 1 l ≡ firsts 1 v → B l ≡ B (three v)
+see_one : {A : Type 0} (B : List PlacedToken → A) → ((p : PlacedToken) (l v : List PlacedToken) → B (p ∷ l) ≡ B (p ∷ v)) → (l v : List PlacedToken) → firsts 1 l ≡ firsts 1 v → B l ≡ B (three v)
 see_one B f l v e = by_first (λ l v. B l ≡ B (three v)) refl (λ p l v. f p l (two v)) 0 l v e
 
-see_two : {A : Type 0} (B : List Place → A) → ((n p : Place) (l v : List Place) → B (n ∷ p ∷ l) ≡ B (n ∷ p ∷ v)) → (l v : List Place) → firsts 2 l ≡ firsts 2 v → B l ≡ B (three v)
+see_two : {A : Type 0} (B : List PlacedToken → A) → ((n p : PlacedToken) (l v : List PlacedToken) → B (n ∷ p ∷ l) ≡ B (n ∷ p ∷ v)) → (l v : List PlacedToken) → firsts 2 l ≡ firsts 2 v → B l ≡ B (three v)
 see_two B f [] [] e = refl
 see_two B f [] (q ∷ v) e = absurd (true≢false (ap (λ z. is_nil z) e))
 see_two B f (p ∷ l) [] e = absurd (true≢false (sym (ap (λ z. is_nil z) e)))
-see_two B f (p ∷ l) (q ∷ v) e = subst (λ (o : Place). B (p ∷ l) ≡ B (o ∷ two v)) (ap (λ z. head_or p z) e) (by_first (λ l v. B (p ∷ l) ≡ B (p ∷ two v)) refl (λ o l v. f p o l (one v)) 0 l v (ap others e))
+see_two B f (p ∷ l) (q ∷ v) e = subst (λ (o : PlacedToken). B (p ∷ l) ≡ B (o ∷ two v)) (ap (λ z. head_or p z) e) (by_first (λ l v. B (p ∷ l) ≡ B (p ∷ two v)) refl (λ o l v. f p o l (one v)) 0 l v (ap others e))
 
 -- ---- what goes on with an expression
 
@@ -172,11 +172,11 @@ asks_on : (b : Bool) → nat_le 1 (if b then call_level else conditional_level) 
 asks_on true = refl
 asks_on false = refl
 
-two_kind : (v : List Place) → kind_of (two v) ≡ kind_of v
+two_kind : (v : List PlacedToken) → kind_of (two v) ≡ kind_of v
 two_kind [] = refl
 two_kind (p ∷ v) = refl
 
-goes_told : (c : Code) (e j : ℕ) (l v : List Place) → firsts 1 l ≡ firsts 1 v → (nat_le closed_end e ≡ false → kind_of v ≡ question_mark_kind → dots l ≡ dots v)
+goes_told : (c : Code) (e j : ℕ) (l v : List PlacedToken) → firsts 1 l ≡ firsts 1 v → (nat_le closed_end e ≡ false → kind_of v ≡ question_mark_kind → dots l ≡ dots v)
     → nat_lt (goes_expr c e (record { last = 0; places = l })) j ≡ nat_lt (goes_expr c e (record { last = 0; places = three v })) j
 goes_told c e j l v i h = by_first (λ l v. (nat_le closed_end e ≡ false → kind_of v ≡ question_mark_kind → dots l ≡ dots v) → nat_lt (goes_expr c e (record { last = 0; places = l })) j ≡ nat_lt (goes_expr c e (record { last = 0; places = three v })) j)
     (λ h. refl) (λ p l v h. ap (λ (z : ℕ). nat_lt z j) (cases_same (p.spot.token.kind == comma_kind) (nat_le closed_end e) (is_assign_op p.spot.token.kind) (p.spot.token.kind == question_mark_kind) _ _ _
@@ -197,17 +197,17 @@ named_word true false o b e = refl
 named_word true true o b e = absurd (true≢false (sym e))
 named_word false r o b e = absurd (true≢false (sym e))
 
-param_told : (c : Code) (j : ℕ) (l v : List Place) → firsts 1 l ≡ firsts 1 v → (break_of v ≡ false → may_name (kind_of v) ≡ true → heads l ≡ heads v) → is_param c j l ≡ is_param c j (three v)
+param_told : (c : Code) (j : ℕ) (l v : List PlacedToken) → firsts 1 l ≡ firsts 1 v → (break_of v ≡ false → may_name (kind_of v) ≡ true → heads l ≡ heads v) → is_param c j l ≡ is_param c j (three v)
 param_told c j l v i h = by_first (λ l v. (break_of v ≡ false → may_name (kind_of v) ≡ true → heads l ≡ heads v) → is_param c j l ≡ is_param c j (three v)) (λ h. refl)
     (λ p l v h. param_same (is_name lm c (on [] 0 (p ∷ l))) p.spot.line_break _ _ _ _ (nat_le j assignment_level) (λ n b. h b (named_word (is_word p.spot.token.kind) (always_reserved p.spot.token.kind) (operator_word c.context p.spot.token.kind) (barred c.context (record { last = 0; places = p ∷ l })) n) ∙ two_heads p v)) 0 l v i h
   where
-    two_heads : (p : Place) (v : List Place) → heads (p ∷ v) ≡ heads (p ∷ two v)
+    two_heads : (p : PlacedToken) (v : List PlacedToken) → heads (p ∷ v) ≡ heads (p ∷ two v)
     two_heads p [] = refl
     two_heads p (q ∷ v) = refl
 
 -- ---- what pauses
 
-abbrev pauses_with : Code → ℕ → Place → Bool → Bool → Bool
+abbrev pauses_with : Code → ℕ → PlacedToken → Bool → Bool → Bool
 pauses_with c e p x y = (p.spot.token.kind == right_brace_kind) || ((p.spot.token.kind == end_kind) || (p.spot.line_break && not (
     if nat_le e closed_end then x
     else (if e == let_end then (may_name p.spot.token.kind || (p.spot.token.kind == left_brace_kind)) || y
@@ -219,15 +219,15 @@ pauses_with c e p x y = (p.spot.token.kind == right_brace_kind) || ((p.spot.toke
     else (if e == source_end then (p.spot.token.kind == with_kind) && c.syntax.import_attributes
     else false))))))))))
 
-goes_one : (c : Code) (e : ℕ) (p : Place) (l v : List Place) → nat_le 1 (goes_expr c e (record { last = 0; places = p ∷ l })) ≡ nat_le 1 (goes_expr c e (record { last = 0; places = p ∷ v }))
+goes_one : (c : Code) (e : ℕ) (p : PlacedToken) (l v : List PlacedToken) → nat_le 1 (goes_expr c e (record { last = 0; places = p ∷ l })) ≡ nat_le 1 (goes_expr c e (record { last = 0; places = p ∷ v }))
 goes_one c e p l v = cases_on (p.spot.token.kind == comma_kind) (nat_le closed_end e) (is_assign_op p.spot.token.kind) (p.spot.token.kind == question_mark_kind) _ _ _
     (asks_on ((kind_of l == dot_kind) && (e == other_end)) ∙ sym (asks_on ((kind_of v == dot_kind) && (e == other_end))))
 
 -- of one token alone
-pub pause_one : (c : Code) (e : ℕ) (p : Place) (l v : List Place) → pauses c e (record { last = 0; places = p ∷ l }) ≡ pauses c e (record { last = 0; places = p ∷ v })
+pub pause_one : (c : Code) (e : ℕ) (p : PlacedToken) (l v : List PlacedToken) → pauses c e (record { last = 0; places = p ∷ l }) ≡ pauses c e (record { last = 0; places = p ∷ v })
 pause_one c e p l v = ap₂ (λ (x y : Bool). pauses_with c e p x y) (goes_one c e p l v) (goes_one c other_end p l v)
 
-pause_told : (c : Code) (e : ℕ) (l v : List Place) → firsts 1 l ≡ firsts 1 v → pauses c e (record { last = 0; places = l }) ≡ pauses c e (record { last = 0; places = three v })
+pause_told : (c : Code) (e : ℕ) (l v : List PlacedToken) → firsts 1 l ≡ firsts 1 v → pauses c e (record { last = 0; places = l }) ≡ pauses c e (record { last = 0; places = three v })
 pause_told c e l v i = by_first (λ l v. pauses c e (record { last = 0; places = l }) ≡ pauses c e (record { last = 0; places = three v })) refl
     (λ p l v. pause_one c e p l (two v)) 0 l v i
 
@@ -236,11 +236,11 @@ by_break true = refl
 by_break false = refl
 
 -- Nothing pauses before `?`, but behind what is closed.
-no_pause : (c : Code) (e : ℕ) (v : List Place) → Loose e → kind_of v ≡ question_mark_kind → pauses c e (record { last = 0; places = three v }) ≡ false
+no_pause : (c : Code) (e : ℕ) (v : List PlacedToken) → Loose e → kind_of v ≡ question_mark_kind → pauses c e (record { last = 0; places = three v }) ≡ false
 no_pause c e [] o k = absurd (true≢false (sym (ap (λ (n : ℕ). eqb n question_mark_kind) k)))
 no_pause c e (p ∷ v) o k = by_class o
   where
-    asked : Place
+    asked : PlacedToken
     asked = record p { spot = record p.spot { token = record p.spot.token { kind = question_mark_kind } } }
 
     by_kind : (e : ℕ) → pauses c e (record { last = 0; places = asked ∷ two v }) ≡ false → pauses c e (record { last = 0; places = p ∷ two v }) ≡ false
@@ -256,7 +256,7 @@ no_pause c e (p ∷ v) o k = by_class o
     by_class (inr i) = ap (λ (n : ℕ). pauses c n (record { last = 0; places = p ∷ two v })) i ∙ by_kind let_end (ap (λ (z : Bool). p.spot.line_break && not z) (asks_on ((kind_of (two v) == dot_kind) && true)) ∙ by_break p.spot.line_break)
 
 -- Nothing pauses before a word on its line.
-no_word : (c : Code) (e : ℕ) (v : List Place) → break_of v ≡ false → is_word (kind_of v) ≡ true → pauses c e (record { last = 0; places = three v }) ≡ true → ⊥
+no_word : (c : Code) (e : ℕ) (v : List PlacedToken) → break_of v ≡ false → is_word (kind_of v) ≡ true → pauses c e (record { last = 0; places = three v }) ≡ true → ⊥
 no_word c e [] b k h = true≢false (sym k)
 no_word c e (p ∷ v) b k h = true≢false (sym h ∙ by_kind (eqb p.spot.token.kind right_brace_kind) (eqb p.spot.token.kind end_kind) (off right_brace_kind refl) (off end_kind refl))
   where
@@ -274,24 +274,24 @@ no_word c e (p ∷ v) b k h = true≢false (sym h ∙ by_kind (eqb p.spot.token.
 
 -- ---- the pairing
 
-token_more : (n : ℕ) (p : Place) (l v : List Place) (s : Input) → three s.places ≡ p ∷ v → firsts (suc n) l ≡ firsts (suc n) (others s.places) → firsts (suc (suc n)) (p ∷ l) ≡ firsts (suc (suc n)) s.places
+token_more : (n : ℕ) (p : PlacedToken) (l v : List PlacedToken) (s : Input) → three s.places ≡ p ∷ v → firsts (suc n) l ≡ firsts (suc n) (others s.places) → firsts (suc (suc n)) (p ∷ l) ≡ firsts (suc (suc n)) s.places
 token_more n p l v s e h = let z = three_first s.last s.places p v e in ap (λ u. p ∷ u) (h ∙ ap (λ u. firsts (suc n) (others u)) z.1) ∙ ap (λ u. firsts (suc (suc n)) u) (sym z.1)
 
-token_less : (n : ℕ) (p : Place) (l v : List Place) (s : Input) → three s.places ≡ p ∷ v → firsts (suc (suc n)) l ≡ firsts (suc (suc n)) s.places → (u : List Place) × (l ≡ p ∷ u) × (firsts (suc n) u ≡ firsts (suc n) (others s.places))
+token_less : (n : ℕ) (p : PlacedToken) (l v : List PlacedToken) (s : Input) → three s.places ≡ p ∷ v → firsts (suc (suc n)) l ≡ firsts (suc (suc n)) s.places → (u : List PlacedToken) × (l ≡ p ∷ u) × (firsts (suc n) u ≡ firsts (suc n) (others s.places))
 token_less n p l v s e h = let z = three_first s.last s.places p v e in by_list l (h ∙ ap (λ u. firsts (suc (suc n)) u) z.1) z.0 (sym (ap others z.1))
   where
-    by_list : (l : List Place) → firsts (suc (suc n)) l ≡ p ∷ firsts (suc n) (three_first s.last s.places p v e).0 → (r : List Place) → r ≡ others s.places → (u : List Place) × (l ≡ p ∷ u) × (firsts (suc n) u ≡ firsts (suc n) (others s.places))
+    by_list : (l : List PlacedToken) → firsts (suc (suc n)) l ≡ p ∷ firsts (suc n) (three_first s.last s.places p v e).0 → (r : List PlacedToken) → r ≡ others s.places → (u : List PlacedToken) × (l ≡ p ∷ u) × (firsts (suc n) u ≡ firsts (suc n) (others s.places))
     by_list [] i r o = absurd (true≢false (ap (λ z. is_nil z) i))
     by_list (q ∷ l) i r o = (l, ap (λ z. head_or q z ∷ l) i, ap others i ∙ ap (λ u. firsts (suc n) (others u)) (sym (three_first s.last s.places p v e).1))
 
-shows_next : (p : Place) (l v : List Place) (s : Input) → three s.places ≡ p ∷ v → firsts 1 l ≡ firsts 1 (others s.places)
+shows_next : (p : PlacedToken) (l v : List PlacedToken) (s : Input) → three s.places ≡ p ∷ v → firsts 1 l ≡ firsts 1 (others s.places)
     → (kind_of s.places ≡ question_mark_kind → dots (p ∷ l) ≡ dots s.places) × (break_of s.places ≡ false → may_name (kind_of s.places) ≡ true → heads (p ∷ l) ≡ heads s.places)
 shows_next p l v s e h = (
   λ o. by_first (λ l v. (kind_of l == dot_kind) ≡ (kind_of v == dot_kind)) refl (λ p l v. refl) 0 l (others s.places) h,
   λ o i. by_first (λ l v. ((kind_of l == arrow_kind) && not (break_of l)) ≡ ((kind_of v == arrow_kind) && not (break_of v))) refl (λ p l v. refl) 0 l (others s.places) h,
 )
 
-named_first : (p : Place) (v l : List Place) → Named l → three l ≡ p ∷ v → p.spot.token.kind ≡ async_kind → bytes_eq (text_in p.spot.token.content) (codes "async") ≡ true
+named_first : (p : PlacedToken) (v l : List PlacedToken) → Named l → three l ≡ p ∷ v → p.spot.token.kind ≡ async_kind → bytes_eq (text_in p.spot.token.content) (codes "async") ≡ true
 named_first p v [] a e k = absurd (true≢false (ap (λ z. is_nil z) e))
 named_first p v (q ∷ l) a e k = ap (λ (t : List ℕ). bytes_eq t (codes "async")) (ap (λ z. text_in (head_or q z).spot.token.content) (sym e) ∙ a.0 (ap (λ z. (head_or q z).spot.token.kind) e ∙ k))
 
@@ -316,21 +316,21 @@ paired modular = record {
 
 -- ---- lists
 
-abbrev place_at : ℕ → List Place → Input
+abbrev place_at : ℕ → List PlacedToken → Input
 place_at n ps = record { last = n; places = ps }
 
-answer : (f : Stand Input → Result (Tree × Stand Input) Fault) (g : Result (Tree × Stand Input) Fault) (n : ℕ) (ps : List Place) (commas : List ℕ) (t : Tree) (r : Stand Input) → SameRead glimpse Live (f (at_list n ps commas)) g → f (at_list n ps commas) ≡ Ok (t, r) → g ≡ Ok (t, r)
+answer : (f : State Input → Result (Tree × State Input) Fault) (g : Result (Tree × State Input) Fault) (n : ℕ) (ps : List PlacedToken) (commas : List ℕ) (t : Tree) (r : State Input) → SameRead glimpse Live (f (at_list n ps commas)) g → f (at_list n ps commas) ≡ Ok (t, r) → g ≡ Ok (t, r)
 answer f g n ps commas t r h e = let z = subst (λ y. SameRead glimpse Live y g) e h in
-    z.1 ∙ ap₂ (λ (k : ℕ) (l : List Place). Ok (t, at_list k l r.commas)) z.2 (sym (hands_is r.source.places z.0.last z.0.places z.3))
+    z.1 ∙ ap₂ (λ (k : ℕ) (l : List PlacedToken). Ok (t, at_list k l r.commas)) z.2 (sym (hands_is r.source.places z.0.last z.0.places z.3))
 
-module _ (E : Tree → ℕ) (b : Bool) (Q : Tree → List Place → List Place → Type 0) (q : (t : Tree) (r : Stand Input) (qs : List Place) → Q t r.source.places qs → Agree 0 qs r.source × Good glimpse ahead (E t) r qs) where
+module _ (E : Tree → ℕ) (b : Bool) (Q : Tree → List PlacedToken → List PlacedToken → Type 0) (q : (t : Tree) (r : State Input) (qs : List PlacedToken) → Q t r.source.places qs → Agree 0 qs r.source × Good glimpse ahead (E t) r qs) where
   -- what is read of a list is read of each that goes on as far
-  go_ahead : (f : Stand Input → Result (Tree × Stand Input) Fault) (g : Result (Tree × Stand Input) Fault) (n : ℕ) (ps : List Place) (commas : List ℕ) (t : Tree) (r : Stand Input) → Backed glimpse ahead E b closed_end (at_list n ps commas) g (λ s. f s) → g ≡ Ok (t, r)
-      → (front : List Place) × (ps ≡ front ++ r.source.places) × ((qs : List Place) → Q t r.source.places qs → f (at_list n (front ++ qs) commas) ≡ Ok (t, at_list r.source.last qs r.commas))
+  go_ahead : (f : State Input → Result (Tree × State Input) Fault) (g : Result (Tree × State Input) Fault) (n : ℕ) (ps : List PlacedToken) (commas : List ℕ) (t : Tree) (r : State Input) → Backed glimpse ahead E b closed_end (at_list n ps commas) g (λ s. f s) → g ≡ Ok (t, r)
+      → (front : List PlacedToken) × (ps ≡ front ++ r.source.places) × ((qs : List PlacedToken) → Q t r.source.places qs → f (at_list n (front ++ qs) commas) ≡ Ok (t, at_list r.source.last qs r.commas))
   go_ahead f g n ps commas t r h e = by_path (subst (λ y. Backed glimpse ahead E b closed_end (at_list n ps commas) y (λ s. f s)) e h).so
     where
-      by_path : (u : Path glimpse ahead (at_list n ps commas) r) × Moved glimpse ahead b u × ((qs : List Place) → Agree 0 qs r.source → Good glimpse ahead (E t) r qs → Good glimpse ahead closed_end (at_list n ps commas) (u.back qs) × (f (at_list n (u.back qs) commas) ≡ Ok (t, at_list r.source.last qs r.commas)))
-          → (front : List Place) × (ps ≡ front ++ r.source.places) × ((qs : List Place) → Q t r.source.places qs → f (at_list n (front ++ qs) commas) ≡ Ok (t, at_list r.source.last qs r.commas))
+      by_path : (u : Path glimpse ahead (at_list n ps commas) r) × Moved glimpse ahead b u × ((qs : List PlacedToken) → Agree 0 qs r.source → Good glimpse ahead (E t) r qs → Good glimpse ahead closed_end (at_list n ps commas) (u.back qs) × (f (at_list n (u.back qs) commas) ≡ Ok (t, at_list r.source.last qs r.commas)))
+          → (front : List PlacedToken) × (ps ≡ front ++ r.source.places) × ((qs : List PlacedToken) → Q t r.source.places qs → f (at_list n (front ++ qs) commas) ≡ Ok (t, at_list r.source.last qs r.commas))
       by_path z = let u = z.0 in let l = r.source.places in let many = length ps + length (u.back l) in (
         u.front,
         sym (firsts_all (suc (u.took + many)) ps (omega arith)) ∙ (sym (u.ahead many l refl) ∙ (firsts_all (suc (u.took + many)) (u.back l) (omega arith) ∙ u.grown l)),
@@ -338,13 +338,13 @@ module _ (E : Tree → ℕ) (b : Bool) (Q : Tree → List Place → List Place �
       )
 
 -- what is asked of the rest that stands there instead
-next_agrees : (r : Stand Input) (qs : List Place) → one r.source.places ≡ one qs → Agree 0 qs r.source
+next_agrees : (r : State Input) (qs : List PlacedToken) → one r.source.places ≡ one qs → Agree 0 qs r.source
 next_agrees r qs e = one_first qs ∙ (sym e ∙ sym (one_first r.source.places))
 
-of_closed : (t : Tree) (r : Stand Input) (qs : List Place) → SameNext t r.source.places qs → Agree 0 qs r.source × Good glimpse ahead closed_end r qs
+of_closed : (t : Tree) (r : State Input) (qs : List PlacedToken) → SameNext t r.source.places qs → Agree 0 qs r.source × Good glimpse ahead closed_end r qs
 of_closed t r qs e = (next_agrees r qs e, (λ o. absurd (true≢false o), λ o. absurd (true≢false o)))
 
-of_calm : (t : Tree) (r : Stand Input) (qs : List Place) → InsteadOfAny t r.source.places qs → Agree 0 qs r.source × Good glimpse ahead 0 r qs
+of_calm : (t : Tree) (r : State Input) (qs : List PlacedToken) → InsteadOfAny t r.source.places qs → Agree 0 qs r.source × Good glimpse ahead 0 r qs
 of_calm t r qs e = (next_agrees r qs e.next, (λ o. e.question, λ o. e.word))
 
 edge_open : (a b : Bool) → nat_le closed_end (edge_by a b) ≡ false → a ≡ false
@@ -356,11 +356,11 @@ edge_waits true b e = absurd (true≢false e)
 edge_waits false true e = (refl, refl)
 edge_waits false false e = absurd (true≢false e)
 
-of_expression : (t : Tree) (r : Stand Input) (qs : List Place) → Instead t r.source.places qs → Agree 0 qs r.source × Good glimpse ahead (edge t) r qs
+of_expression : (t : Tree) (r : State Input) (qs : List PlacedToken) → Instead t r.source.places qs → Agree 0 qs r.source × Good glimpse ahead (edge t) r qs
 of_expression t r qs e = (next_agrees r qs e.next, (λ o. e.question (edge_open (nat_le closed_end (ends t)) (ends_async t) o), λ o. let z = edge_waits (nat_le closed_end (ends t)) (ends_async t) o in e.word z.0 z.1))
 
 module _ (depth : ℕ) (c : Code) where
-  own : (n : ℕ) (ps : List Place) (commas : List ℕ) → Named ps → SameParts glimpse Live c.context.module_ depth c (place_at n ps) ps commas
+  own : (n : ℕ) (ps : List PlacedToken) (commas : List ℕ) → Named ps → SameParts glimpse Live c.context.module_ depth c (place_at n ps) ps commas
   own n ps commas a = parts_read glimpse Live c.context.module_ (order c.context.module_) depth c (place_at n ps) ps commas refl a (hands_self n ps)
 
   echo : Echoed glimpse ahead c.context.module_ (readers lm depth) (readers glimpse depth)

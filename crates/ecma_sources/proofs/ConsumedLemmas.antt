@@ -2,11 +2,11 @@
 use Rattle.std.proofs.Common.{◌≡◌, ℕ, zero, suc, Bool, true, false, ◌&&◌, cond, nat_lt, List, [], ◌∷◌, Option, Some, None, Result, Ok, Err, if◌then◌else◌, refl, sym, ap, ◌∙◌, true≢false}
 use Rattle.ecma_token.specs.declared.syntax.EsSyntax.{EsSyntax}
 use Rattle.ecma_tree.specs.Tree.{Tree}
-use Rattle.ecma_syntax.specs.Input.{Place, Input, Code, content, in_list, script_code, module_code}
+use Rattle.ecma_syntax.specs.Input.{PlacedToken, Input, Code, content, in_list, script_code, module_code}
 use Rattle.ecma_syntax.specs.Operators.{closed_end}
 use Rattle.ecma_syntax.specs.Shape.{is_use_strict}
 use Rattle.ecma_token.specs.Kinds.{shebang_kind}
-use Rattle.ecma_reading.specs.Source.{Fault, unexpected, is_nil, ◌>>=◌, Machine, Stand, Read, Inner, Step, go_on, finished, next_by, iterate_n, iterate, bound, input, operand, past, at, ended}
+use Rattle.ecma_reading.specs.Source.{Fault, unexpected, is_nil, ◌>>=◌, Stream, State, Read, Inner, Step, go_on, finished, next_by, iterate_n, iterate, bound, input, operand, past, at, ended}
 use Rattle.ecma_reading.specs.Statements.{Body}
 use Rattle.ecma_reading.specs.Modules.{item_by, program_step, program_item, program_rest, program_by, line_of}
 use Rattle.ecma_reading.specs.Reading.{readers, finish, read_program, read_list}
@@ -23,74 +23,74 @@ use Rattle.ecma_sources.proofs.ConsumedModules.{program_by_backed}
 
 -- ---- a program is read to the end
 
-module _ {S : Type 0} (m : Machine S) (Q : Stand S → Type 0) where
-  abbrev EndsBy : {A : Type 0} → Result (A × Stand S) Fault → Type 0
+module _ {S : Type 0} (m : Stream S) (Q : State S → Type 0) where
+  abbrev EndsBy : {A : Type 0} → Result (A × State S) Fault → Type 0
   EndsBy (Ok x) = Q x.1
   EndsBy (Err e) = Unit {0}
 
-  record Ends {A : Type 0} (y : Result (A × Stand S) Fault) : Type 0 where
+  record Ends {A : Type 0} (y : Result (A × State S) Fault) : Type 0 where
     so : EndsBy y
 
-  abbrev StopsBy : {A : Type 0} → Result (Step A × Stand S) Fault → Type 0
+  abbrev StopsBy : {A : Type 0} → Result (Step A × State S) Fault → Type 0
   StopsBy (Ok (go_on x, r)) = Unit {0}
   StopsBy (Ok (finished x, r)) = Q r
   StopsBy (Err e) = Unit {0}
 
-  record Stops {A : Type 0} (y : Result (Step A × Stand S) Fault) : Type 0 where
+  record Stops {A : Type 0} (y : Result (Step A × State S) Fault) : Type 0 where
     so : StopsBy y
 
-  stops_if : {A : Type 0} (b : Bool) (x y : Result (Step A × Stand S) Fault) → (b ≡ true → Stops x) → Stops y → Stops (cond b x y)
+  stops_if : {A : Type 0} (b : Bool) (x y : Result (Step A × State S) Fault) → (b ≡ true → Stops x) → Stops y → Stops (cond b x y)
   stops_if true x y h n = h refl
   stops_if false x y h n = n
 
-  stops_then : {A B : Type 0} (x : Result B Fault) (f : B → Result (Step A × Stand S) Fault) → ((b : B) → Stops (f b)) → Stops (x >>= f)
+  stops_then : {A B : Type 0} (x : Result B Fault) (f : B → Result (Step A × State S) Fault) → ((b : B) → Stops (f b)) → Stops (x >>= f)
   stops_then (Ok b) f h = h b
   stops_then (Err e) f h = record { so = tt }
 
-  ends_then : {A B : Type 0} (x : Result (A × Stand S) Fault) (f : A × Stand S → Result (B × Stand S) Fault) → Ends x → ((a : A) (t : Stand S) → Q t → Ends (f (a, t))) → Ends (x >>= f)
+  ends_then : {A B : Type 0} (x : Result (A × State S) Fault) (f : A × State S → Result (B × State S) Fault) → Ends x → ((a : A) (t : State S) → Q t → Ends (f (a, t))) → Ends (x >>= f)
   ends_then (Ok x) f h n = n x.0 x.1 h.so
   ends_then (Err e) f h n = record { so = tt }
 
-  ends_if : {A : Type 0} (b : Bool) (x y : Result (A × Stand S) Fault) → Ends x → Ends y → Ends (cond b x y)
+  ends_if : {A : Type 0} (b : Bool) (x y : Result (A × State S) Fault) → Ends x → Ends y → Ends (cond b x y)
   ends_if true x y h n = h
   ends_if false x y h n = n
 
-  module _ {A : Type 0} (g : A → Read S (Step A)) (h : (x : A) (s : Stand S) → Stops (g x s)) where
-    ends_turns : (j : ℕ) (x : A) (s : Stand S) → Ends (iterate_n (bound m) j g x s)
+  module _ {A : Type 0} (g : A → Read S (Step A)) (h : (x : A) (s : State S) → Stops (g x s)) where
+    ends_turns : (j : ℕ) (x : A) (s : State S) → Ends (iterate_n (bound m) j g x s)
     unfolding iterate_n
     ends_turns zero x s = record { so = tt }
     ends_turns (suc j) x s = by_step (λ z t. ends_turns j z t) (g x s) (h x s)
       where
-        by_step : ((z : A) (t : Stand S) → Ends (iterate_n (bound m) j g z t)) → (y : Result (Step A × Stand S) Fault) → Stops y → Ends (y >>= next_by (bound m) (iterate_n (bound m) j g) (bound m s))
+        by_step : ((z : A) (t : State S) → Ends (iterate_n (bound m) j g z t)) → (y : Result (Step A × State S) Fault) → Stops y → Ends (y >>= next_by (bound m) (iterate_n (bound m) j g) (bound m s))
         by_step n (Err e) k = record { so = tt }
         by_step n (Ok (finished z, t)) k = record { so = k.so }
         by_step n (Ok (go_on z, t)) k = ends_if (nat_lt (m.bound t.source) (m.bound s.source)) _ _ (n z t) (record { so = tt })
 
-    ends_iterate : (x : A) (s : Stand S) → Ends (iterate (bound m) g x s)
+    ends_iterate : (x : A) (s : State S) → Ends (iterate (bound m) g x s)
     unfolding iterate
     ends_iterate x s = ends_turns _ x s
 
-module _ {S : Type 0} (m : Machine S) (im : Inner S) where
+module _ {S : Type 0} (m : Stream S) (im : Inner S) where
   -- nothing comes
-  abbrev Done : Stand S → Type 0
+  abbrev Done : State S → Type 0
   Done s = m.seen s.source ≡ []
 
-  done_of : (s : Stand S) → ended m s ≡ true → Done s
+  done_of : (s : State S) → ended m s ≡ true → Done s
   done_of s e = by_seen (m.seen s.source) refl e
     where
-      by_seen : (v : List Place) → m.seen s.source ≡ v → is_nil v ≡ true → m.seen s.source ≡ []
+      by_seen : (v : List PlacedToken) → m.seen s.source ≡ v → is_nil v ≡ true → m.seen s.source ≡ []
       by_seen [] i o = i
       by_seen (p ∷ v) i o = absurd (true≢false (sym o))
 
-  step_stops : (modules : Bool) (b : Body) (s : Stand S) → Stops m Done (program_step m im modules b s)
+  step_stops : (modules : Bool) (b : Body) (s : State S) → Stops m Done (program_step m im modules b s)
   unfolding program_step program_item
   step_stops modules b s = stops_if m Done (ended m s) _ _ (λ e. record { so = done_of s e }) (stops_then m Done (item_by m im modules (in_list b.code) (operand m s)) _ (λ t. stops_if m Done (b.starts && is_use_strict t.0) _ _ (λ e. record { so = tt }) (record { so = tt })))
 
-  rest_ends : (modules : Bool) (c : Code) (start : Stand S) (l : Option (List ℕ)) (s : Stand S) → Ends m Done (program_rest m im modules c start l s)
+  rest_ends : (modules : Bool) (c : Code) (start : State S) (l : Option (List ℕ)) (s : State S) → Ends m Done (program_rest m im modules c start l s)
   unfolding program_rest
   rest_ends modules c start l s = ends_then m Done _ _ (ends_iterate m Done (program_step m im modules) (λ x s. step_stops modules x s) _ s) (λ a t e. record { so = e })
 
-  program_ends : (modules : Bool) (c : Code) (s : Stand S) → Ends m Done (program_by m im modules c s)
+  program_ends : (modules : Bool) (c : Code) (s : State S) → Ends m Done (program_by m im modules c s)
   unfolding program_by
   program_ends modules c s = ends_if m Done (at m shebang_kind s) _ _ (by_line (line_of m im (content (input m s)))) (rest_ends modules c s None s)
     where
@@ -100,7 +100,7 @@ module _ {S : Type 0} (m : Machine S) (im : Inner S) where
 
 -- ---- the readers tied
 
-module _ {S : Type 0} {m : Machine S} {Live : Pairing m} {modular : Bool} (w : Paired m Live modular) where
+module _ {S : Type 0} {m : Stream S} {Live : Pairing m} {modular : Bool} (w : Paired m Live modular) where
   pub readers_echoed : (d : ℕ) → Echoed m Live modular (readers lm d) (readers m d)
   unfolding readers
   readers_echoed zero = record {
@@ -120,23 +120,23 @@ module _ {S : Type 0} {m : Machine S} {Live : Pairing m} {modular : Bool} (w : P
     solid = solids m (suc d);
   }
 
-module _ {S : Type 0} (m : Machine S) (Live : S → Type 0) where
+module _ {S : Type 0} (m : Stream S) (Live : S → Type 0) where
   -- the code of a script, and that of a module
   code_of : (modules : Bool) (x : EsSyntax) → (if modules then module_code x else script_code x).context.module_ ≡ modules
   code_of true x = refl
   code_of false x = refl
 
-  finished_list : (s : Stand S) (t : Tree) (x : Result (Tree × Stand S) Fault) (y : Stand Input → Result (Tree × Stand Input) Fault) → Backed m (handed m Live) closed false closed_end s x y → Ends m (λ z. m.seen z.source ≡ []) x → (x >>= finish) ≡ Ok t
-      → (ps : List Place) × HandsOut m ps s.source × ((y (list_at m (handed m Live) s ps) >>= finish) ≡ Ok t)
+  finished_list : (s : State S) (t : Tree) (x : Result (Tree × State S) Fault) (y : State Input → Result (Tree × State Input) Fault) → Backed m (handed m Live) closed false closed_end s x y → Ends m (λ z. m.seen z.source ≡ []) x → (x >>= finish) ≡ Ok t
+      → (ps : List PlacedToken) × HandsOut m ps s.source × ((y (list_at m (handed m Live) s ps) >>= finish) ≡ Ok t)
   unfolding finish
   finished_list s t (Err d) y h f e = absurd (true≢false (sym (ap (λ z. is_ok z) e)))
     where
       is_ok : Result Tree Fault → Bool
       is_ok (Ok z) = true
       is_ok (Err z) = false
-  finished_list s t (Ok x) y h f e = (h.so.0.back [], h.so.0.hands [] f.so, ap (λ (z : Result (Tree × Stand Input) Fault). z >>= finish) (h.so.2 [] f.so (shut_good (handed m Live) x.1 [])).1 ∙ e)
+  finished_list s t (Ok x) y h f e = (h.so.0.back [], h.so.0.hands [] f.so, ap (λ (z : Result (Tree × State Input) Fault). z >>= finish) (h.so.2 [] f.so (shut_good (handed m Live) x.1 [])).1 ∙ e)
 
-  abbrev start_at : S → Stand S
+  abbrev start_at : S → State S
   start_at s = record { source = s; commas = [] }
 
   pub programs_consumed : ProgramsConsumed m Live

@@ -2,8 +2,8 @@
 use Rattle.std.proofs.Common.{◌≡◌, ℕ, zero, suc, Bool, true, false, List, [], length, Result, Ok, Err, if◌then◌else◌, refl, sym, ap, ◌∙◌, true≢false, arith}
 use Rattle.ecma_token.specs.declared.syntax.EsSyntax.{EsSyntax}
 use Rattle.ecma_tree.specs.Tree.{Tree}
-use Rattle.ecma_syntax.specs.Input.{Place, Input, script_code, module_code}
-use Rattle.ecma_reading.specs.Source.{Fault, TooDeep, ◌>>=◌, Machine, Stand}
+use Rattle.ecma_syntax.specs.Input.{PlacedToken, Input, script_code, module_code}
+use Rattle.ecma_reading.specs.Source.{Fault, TooDeep, ◌>>=◌, Stream, State}
 use Rattle.ecma_reading.specs.Expressions.{is_read}
 use Rattle.ecma_reading.specs.Reading.{readers, finish, read_program, read_list}
 use Rattle.ecma_sources.specs.Sources.{HandsOut, Orderly}
@@ -13,7 +13,7 @@ use Rattle.ecma_sources.proofs.Expressions.{expr_by_told, expr_by_refused, key_b
 use Rattle.ecma_sources.proofs.Statements.{pattern_prop_told, pat_by_told, stmt_from_told, stmt_from_refused, body_by_told, class_tail_by_told}
 use Rattle.ecma_sources.proofs.Modules.{item_from_told, program_by_told}
 
-module _ {S : Type 0} {m : Machine S} {Live : S → Type 0} {modular : Bool} (w : Orderly m Live modular) where
+module _ {S : Type 0} {m : Stream S} {Live : S → Type 0} {modular : Bool} (w : Orderly m Live modular) where
   pub readers_heard : (d : ℕ) → Heard m Live modular (readers lm d) (readers m d)
   unfolding readers
   readers_heard zero = record {
@@ -36,23 +36,23 @@ module _ {S : Type 0} {m : Machine S} {Live : S → Type 0} {modular : Bool} (w 
   }
 
   -- where reading starts
-  start_at : S → List Place → Ceiling
+  start_at : S → List PlacedToken → Ceiling
   start_at s ps = record { bound = m.bound s; length = length ps }
 
-  beside_at : (s : S) (ps : List Place) (o : List ℕ) → Live s → HandsOut m ps s → Beside m Live (start_at s ps) (from_source m Live s o) (from_list m Live s ps o)
+  beside_at : (s : S) (ps : List PlacedToken) (o : List ℕ) → Live s → HandsOut m ps s → Beside m Live (start_at s ps) (from_source m Live s o) (from_list m Live s ps o)
   unfolding start_at
   beside_at s ps o a h = record { commas = refl; last = refl; live = a; hands = h; falls = omega arith }
 
-  finished : (k : Ceiling) (y : Result (Tree × Stand Input) Fault) (x : Result (Tree × Stand S) Fault) (t : Tree) → Told m Live k y x → (y >>= finish) ≡ Ok t → (x >>= finish) ≡ Ok t
+  finished : (k : Ceiling) (y : Result (Tree × State Input) Fault) (x : Result (Tree × State S) Fault) (t : Tree) → Told m Live k y x → (y >>= finish) ≡ Ok t → (x >>= finish) ≡ Ok t
   unfolding finish
-  finished k (Ok y) x t h e = ap (λ (z : Result (Tree × Stand S) Fault). z >>= finish) h.so.1 ∙ e
+  finished k (Ok y) x t h e = ap (λ (z : Result (Tree × State S) Fault). z >>= finish) h.so.1 ∙ e
   finished k (Err d) x t h e = absurd (true≢false (sym (ap (λ z. is_read z) e)))
 
-  part : (k : Ceiling) (y : Result (Tree × Stand Input) Fault) (x : Result (Tree × Stand S) Fault) → Told m Live k y x → SameRead m Live y x
+  part : (k : Ceiling) (y : Result (Tree × State Input) Fault) (x : Result (Tree × State S) Fault) → Told m Live k y x → SameRead m Live y x
   part k (Ok y) x h = (h.so.0.source, h.so.1 ∙ ap (λ (o : List ℕ). Ok (y.0, from_source m Live h.so.0.source o)) h.so.2.commas, h.so.2.last, h.so.2.hands)
   part k (Err d) x h = tt
 
-module _ {S : Type 0} (m : Machine S) (Live : S → Type 0) where
+module _ {S : Type 0} (m : Stream S) (Live : S → Type 0) where
   -- the code of a script, and that of a module
   code_of : (modules : Bool) (x : EsSyntax) → (if modules then module_code x else script_code x).context.module_ ≡ modules
   code_of true x = refl

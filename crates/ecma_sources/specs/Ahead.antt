@@ -2,10 +2,10 @@
 use Rattle.std.specs.Prelude.{◌≡◌, ℕ, Bool, true, false, not, ◌&&◌, ◌==◌, nat_le, List, [], ◌∷◌, ◌++◌, Result, Ok, codes, bytes_eq}
 use Rattle.ecma_token.specs.Kinds.{dot_kind, question_mark_kind, arrow_kind, async_kind}
 use Rattle.ecma_tree.specs.Tree.{Tree, Trees, none, more, ident, update_expr, unary_expr, await_expr, bin_expr, cond_expr, assign_expr, arrow_expr, yield_expr, seq_expr, new_expr, absent}
-use Rattle.ecma_syntax.specs.Input.{Place, Input, Code, kind_of, break_of, others, text_in}
+use Rattle.ecma_syntax.specs.Input.{PlacedToken, Input, Code, kind_of, break_of, others, text_in}
 use Rattle.ecma_syntax.specs.Operators.{closed_end, may_name}
 use Rattle.ecma_syntax.specs.Shape.{ends}
-use Rattle.ecma_reading.specs.Source.{Fault, Stand, Read, list_machine}
+use Rattle.ecma_reading.specs.Source.{Fault, State, Read, list_stream}
 use Rattle.ecma_reading.specs.Expressions.{key_by, parameter_by, prop_by}
 use Rattle.ecma_reading.specs.Statements.{pattern_prop}
 use Rattle.ecma_reading.specs.Modules.{item_by}
@@ -34,54 +34,54 @@ abbrev mutual
   last_async (more t (more u ts)) = last_async (more u ts)
 
 -- a token that is the word `async` by its kind has that text
-abbrev pub Named : List Place → Type 0
+abbrev pub Named : List PlacedToken → Type 0
 Named [] = Unit {0}
 Named (p ∷ ps) = (p.spot.token.kind ≡ async_kind → text_in p.spot.token.content ≡ codes "async") × Named ps
 
 -- `.` stands second, or `=>` does on its line
-abbrev pub dots : List Place → Bool
+abbrev pub dots : List PlacedToken → Bool
 dots ps = kind_of (others ps) == dot_kind
 
-abbrev pub heads : List Place → Bool
+abbrev pub heads : List PlacedToken → Bool
 heads ps = (kind_of (others ps) == arrow_kind) && not (break_of (others ps))
 
 -- What stands there instead begins with the same token, or nothing stands there either.
-abbrev pub SameNext : Tree → List Place → List Place → Type 0
+abbrev pub SameNext : Tree → List PlacedToken → List PlacedToken → Type 0
 SameNext t ps qs = one ps ≡ one qs
 
 -- After an expression also what follows that token is the same as far as it counts: where the token is `?`, and where the word `async` stands before
 -- a word on its line that may be a name.
-pub record Instead (t : Tree) (ps qs : List Place) : Type 0 where
+pub record Instead (t : Tree) (ps qs : List PlacedToken) : Type 0 where
   pub next : one ps ≡ one qs
   pub question : nat_le closed_end (ends t) ≡ false → kind_of ps ≡ question_mark_kind → dots qs ≡ dots ps
   pub word : nat_le closed_end (ends t) ≡ false → ends_async t ≡ true → break_of ps ≡ false → may_name (kind_of ps) ≡ true → heads qs ≡ heads ps
 
 -- the same after whatever may end with an expression
-pub record InsteadOfAny (t : Tree) (ps qs : List Place) : Type 0 where
+pub record InsteadOfAny (t : Tree) (ps qs : List PlacedToken) : Type 0 where
   pub next : one ps ≡ one qs
   pub question : kind_of ps ≡ question_mark_kind → dots qs ≡ dots ps
   pub word : break_of ps ≡ false → may_name (kind_of ps) ≡ true → heads qs ≡ heads ps
 
--- a stand before a list
-abbrev pub at_list : ℕ → List Place → List ℕ → Stand Input
+-- a state before a list
+abbrev pub at_list : ℕ → List PlacedToken → List ℕ → State Input
 at_list n ps commas = record { source = record { last = n; places = ps }; commas = commas }
 
 -- What is read of a front and leaves a rest is read of the same front before what may stand there instead, and leaves that.
-abbrev pub ReadAhead : (Tree → List Place → List Place → Type 0) → Read Input Tree → Type 0
-ReadAhead Q f = (n : ℕ) (ps : List Place) (commas : List ℕ) (t : Tree) (r : Stand Input) → Named ps → f (at_list n ps commas) ≡ Ok (t, r)
-    → (front : List Place) × (ps ≡ front ++ r.source.places) × ((qs : List Place) → Q t r.source.places qs → f (at_list n (front ++ qs) commas) ≡ Ok (t, at_list r.source.last qs r.commas))
+abbrev pub ReadAhead : (Tree → List PlacedToken → List PlacedToken → Type 0) → Read Input Tree → Type 0
+ReadAhead Q f = (n : ℕ) (ps : List PlacedToken) (commas : List ℕ) (t : Tree) (r : State Input) → Named ps → f (at_list n ps commas) ≡ Ok (t, r)
+    → (front : List PlacedToken) × (ps ≡ front ++ r.source.places) × ((qs : List PlacedToken) → Q t r.source.places qs → f (at_list n (front ++ qs) commas) ≡ Ok (t, at_list r.source.last qs r.commas))
 
 -- So it is of an expression, a pattern that binds, a statement, an item of a program, a key, a parameter, a property of an object and one of an object
 -- pattern, at every depth.
 pub record PartsAhead (depth : ℕ) (c : Code) : Type 0 where
-  pub expressions : (l : ℕ) → ReadAhead Instead (λ s. (readers list_machine depth).expr c l s)
-  pub bindings : ReadAhead SameNext (λ s. (readers list_machine depth).pat c s)
-  pub statements : ReadAhead SameNext (λ s. (readers list_machine depth).stmt c s)
-  pub items : ReadAhead SameNext (λ s. item_by list_machine (readers list_machine depth) c.context.module_ c s)
-  pub keys : ReadAhead SameNext (λ s. key_by list_machine (readers list_machine depth) c s)
-  pub parameters : ReadAhead InsteadOfAny (λ s. parameter_by list_machine (readers list_machine depth) c s)
-  pub properties : ReadAhead InsteadOfAny (λ s. prop_by list_machine (readers list_machine depth) c s)
-  pub patterns : ReadAhead InsteadOfAny (λ s. pattern_prop list_machine (readers list_machine depth) c s)
+  pub expressions : (l : ℕ) → ReadAhead Instead (λ s. (readers list_stream depth).expr c l s)
+  pub bindings : ReadAhead SameNext (λ s. (readers list_stream depth).pat c s)
+  pub statements : ReadAhead SameNext (λ s. (readers list_stream depth).stmt c s)
+  pub items : ReadAhead SameNext (λ s. item_by list_stream (readers list_stream depth) c.context.module_ c s)
+  pub keys : ReadAhead SameNext (λ s. key_by list_stream (readers list_stream depth) c s)
+  pub parameters : ReadAhead InsteadOfAny (λ s. parameter_by list_stream (readers list_stream depth) c s)
+  pub properties : ReadAhead InsteadOfAny (λ s. prop_by list_stream (readers list_stream depth) c s)
+  pub patterns : ReadAhead InsteadOfAny (λ s. pattern_prop list_stream (readers list_stream depth) c s)
 
 abbrev pub OneAhead : Type 0
 OneAhead = (depth : ℕ) (c : Code) → PartsAhead depth c

@@ -2,7 +2,7 @@
 //! it hands out. The functions here are laws alone.
 #![tactic(auto)]
 
-ghost use Rattle.ecma_reading.specs.Source.{Machine};
+ghost use Rattle.ecma_reading.specs.Source.{Stream};
 ghost use Rattle.ecma_sources.specs.Ahead.{OneAhead};
 ghost use Rattle.ecma_sources.specs.Consumed.{ProgramsConsumed};
 ghost use Rattle.ecma_sources.specs.Laws.{ProgramsRead, PartsRead};
@@ -11,7 +11,7 @@ ghost use Rattle.ecma_sources.specs.Laws.{ProgramsRead, PartsRead};
 pub trait Sourced {
     ghost State: { Type 0 };
 
-    ghost machine: { Machine State };
+    ghost machine: { Stream State };
 
     ghost live: { State → Type 0 };
 }

@@ -1,11 +1,11 @@
--- A parser's machine over a source of tokens reads a slash again in its place, or the slash stays; so it is orderly backward too.
+-- A parser's stream over a source of tokens reads a slash again in its place, or the slash stays; so it is orderly backward too.
 use Rattle.std.proofs.Common.{◌≡◌, ◌⊎◌, ℕ, Bool, true, false, not, ◌&&◌, ◌||◌, cond, eqb, List, [], ◌∷◌, Option, None, Some, inl, inr, refl, sym, ap, ◌∙◌, subst, true≢false, eqb-true}
 use Rattle.ecma_token.specs.Kinds.{regex_kind, error_kind}
 use Rattle.ecma_token.specs.Tokens.{Spot}
 use Rattle.ecma_token_source.specs.Machine.{Source, Machine}
-use Rattle.ecma_syntax.specs.Input.{Place}
+use Rattle.ecma_syntax.specs.Input.{PlacedToken}
 use Rattle.ecma_reading.specs.Source.{is_nil}
-use Rattle.ecma_parse_state.specs.Fronts.{Front, place_of, places, asked, withdrawn, read_on, same_mark, in_place, reread_by, operand_by, machine_of}
+use Rattle.ecma_parse_state.specs.Cursors.{Cursor, place_of, places, asked, withdrawn, read_on, same_break, in_place, reread_by, operand_by, stream_of}
 use Rattle.ecma_sources.specs.Sources.{is_slash, Rereads}
 use Rattle.ecma_sources.specs.Consumed.{Backward}
 use Rattle.ecma_sources.proofs.ConsumedLemmas.{programs_consumed}
@@ -13,10 +13,10 @@ use Rattle.ecma_sources_lexed.specs.Constant.{Constant, Before}
 use Rattle.ecma_sources_lexed.specs.Backward.{ParserBackward, TokensConsumed}
 use Rattle.ecma_sources_lexed.proofs.Orderly.{front, by_front, hands_back, orderly}
 
-no_tokens : (p : Place) (ps : List Place) → ([] ≡ p ∷ ps) → ⊥
+no_tokens : (p : PlacedToken) (ps : List PlacedToken) → ([] ≡ p ∷ ps) → ⊥
 no_tokens p ps e = true≢false (ap (λ z. is_nil z) e)
 
-abbrev first_or : Place → List Place → Place
+abbrev first_or : PlacedToken → List PlacedToken → PlacedToken
 first_or d [] = d
 first_or d (p ∷ ps) = p
 
@@ -34,7 +34,7 @@ one_of : (a b : Bool) → (a || b) ≡ true → (b ≡ true) ⊎ (a ≡ true)
 one_of true b e = inr refl
 one_of false b e = inl e
 
-mark_is : (a b : Bool) → same_mark a b ≡ true → a ≡ b
+mark_is : (a b : Bool) → same_break a b ≡ true → a ≡ b
 mark_is true b e = sym e
 mark_is false true e = absurd (true≢false (sym e))
 mark_is false false e = refl
@@ -43,8 +43,8 @@ mark_is false false e = refl
 pub placed : (t u : Spot) → is_slash t.token.kind ≡ true → in_place t (Some u) ≡ true → (u.token.kind ≡ error_kind) ⊎ Rereads (place_of t) (place_of u)
 placed t u k e = by_kind (one_of (eqb u.token.kind regex_kind) (eqb u.token.kind error_kind) (and_left _ _ e))
   where
-    there : (eqb u.lo t.lo && same_mark u.line_break t.line_break) ≡ true
-    there = and_right (eqb u.token.kind regex_kind || eqb u.token.kind error_kind) (eqb u.lo t.lo && same_mark u.line_break t.line_break) e
+    there : (eqb u.lo t.lo && same_break u.line_break t.line_break) ≡ true
+    there = and_right (eqb u.token.kind regex_kind || eqb u.token.kind error_kind) (eqb u.lo t.lo && same_break u.line_break t.line_break) e
 
     by_kind : (eqb u.token.kind error_kind ≡ true) ⊎ (eqb u.token.kind regex_kind ≡ true) → (u.token.kind ≡ error_kind) ⊎ Rereads (place_of t) (place_of u)
     by_kind (inl i) = inl (eqb-true u.token.kind error_kind i)
@@ -53,10 +53,10 @@ placed t u k e = by_kind (one_of (eqb u.token.kind regex_kind) (eqb u.token.kind
 -- ---- backward
 
 module _ {S : Type 0} {m : Machine S} {Good : Source S → Type 0} {Same : Source S → Source S → Type 0} {modules : Bool} (w : Constant m Good Same modules) where
-  Answers : Front S → Front S → Place → Place → Type 0
+  Answers : Cursor S → Cursor S → PlacedToken → PlacedToken → Type 0
   Answers q r p o = (o.spot.token.kind ≡ error_kind) ⊎ (Rereads p o ⊎ (r ≡ q))
 
-  reread_on : (f : Option Spot) (s : Source S) (n : ℕ) (p o : Place) (ps os : List Place) → places m 2 f (Some s) ≡ p ∷ ps → is_slash p.spot.token.kind ≡ true
+  reread_on : (f : Option Spot) (s : Source S) (n : ℕ) (p o : PlacedToken) (ps os : List PlacedToken) → places m 2 f (Some s) ≡ p ∷ ps → is_slash p.spot.token.kind ≡ true
       → places m 2 (operand_by m f (Some s) (front f s n)).first (operand_by m f (Some s) (front f s n)).behind ≡ o ∷ os → Answers (front f s n) (operand_by m f (Some s) (front f s n)) p o
   unfolding Answers
   reread_on None s n p o ps os e k h = absurd (no_tokens p ps e)
@@ -69,13 +69,13 @@ module _ {S : Type 0} {m : Machine S} {Good : Source S → Type 0} {Same : Sourc
       here = ap (λ z. first_or p z) e
 
       slash : is_slash t.token.kind ≡ true
-      slash = ap (λ (z : Place). is_slash z.spot.token.kind) here ∙ k
+      slash = ap (λ (z : PlacedToken). is_slash z.spot.token.kind) here ∙ k
 
-      Says : Front S → Type 0
+      Says : Cursor S → Type 0
       Says r = places m 2 r.first r.behind ≡ o ∷ os → (o.spot.token.kind ≡ error_kind) ⊎ (Rereads p o ⊎ (r ≡ front (Some t) s n))
 
-      taken : (u : Spot) → in_place t (Some u) ≡ true → place_of u ≡ o → (r : Front S) → (o.spot.token.kind ≡ error_kind) ⊎ (Rereads p o ⊎ (r ≡ front (Some t) s n))
-      taken u i j r = by_sort (subst (λ (y : Place). (y.spot.token.kind ≡ error_kind) ⊎ Rereads p y) j (subst (λ (y : Place). (u.token.kind ≡ error_kind) ⊎ Rereads y (place_of u)) here (placed t u slash i)))
+      taken : (u : Spot) → in_place t (Some u) ≡ true → place_of u ≡ o → (r : Cursor S) → (o.spot.token.kind ≡ error_kind) ⊎ (Rereads p o ⊎ (r ≡ front (Some t) s n))
+      taken u i j r = by_sort (subst (λ (y : PlacedToken). (y.spot.token.kind ≡ error_kind) ⊎ Rereads p y) j (subst (λ (y : PlacedToken). (u.token.kind ≡ error_kind) ⊎ Rereads y (place_of u)) here (placed t u slash i)))
         where
           by_sort : (o.spot.token.kind ≡ error_kind) ⊎ Rereads p o → (o.spot.token.kind ≡ error_kind) ⊎ (Rereads p o ⊎ (r ≡ front (Some t) s n))
           by_sort (inl z) = inl z
@@ -93,8 +93,8 @@ module _ {S : Type 0} {m : Machine S} {Good : Source S → Type 0} {Same : Sourc
       by_kind true i j = by_place (in_place t x.0) refl j
       by_kind false i j = absurd (true≢false (sym i))
 
-  pub backward : Backward (machine_of m) (Before Good) modules
-  unfolding machine_of Answers
+  pub backward : Backward (stream_of m) (Before Good) modules
+  unfolding stream_of Answers
   backward = record {
     told_back = λ x q ps e b h. hands_back w x q ps e b h;
     reread = λ f p o ps os b e k h. by_front w (λ f. places m 2 f.first f.behind ≡ p ∷ ps → places m 2 (operand_by m f.first f.behind f).first (operand_by m f.first f.behind f).behind ≡ o ∷ os → Answers f (operand_by m f.first f.behind f) p o)
@@ -106,5 +106,5 @@ module _ {S : Type 0} (m : Machine S) (Good : Source S → Type 0) (Same : Sourc
   parser_backward modules w = backward w
 
   pub tokens_consumed : TokensConsumed m Good Same
-  unfolding machine_of
-  tokens_consumed modules w depth syntax q t b e = programs_consumed (machine_of m) (Before Good) modules (orderly w) (backward w) depth syntax q t b e
+  unfolding stream_of
+  tokens_consumed modules w depth syntax q t b e = programs_consumed (stream_of m) (Before Good) modules (orderly w) (backward w) depth syntax q t b e

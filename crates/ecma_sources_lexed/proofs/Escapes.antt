@@ -21,7 +21,7 @@ use Rattle.ecma_token.specs.Tokens.{bare}
 use Rattle.ecma_syntax.specs.Input.{is_word}
 use Rattle.ecma_lexing.specs.States.{place, spot_at}
 use Rattle.ecma_lexing.proofs.Bounds.{word_past}
-use Rattle.ecma_parse_state.specs.Fronts.{is_escaped}
+use Rattle.ecma_parse_state.specs.Cursors.{is_escaped}
 use Rattle.ecma_sources_lexed.specs.Escapes.{EscapesTold}
 
 -- ---- bytes

@@ -23,13 +23,13 @@ use Rattle.ecma_token_source.specs.declared.contexts.TokenContext.{TokenContext}
 use Rattle.ecma_token_source.specs.declared.contexts.TokenContext.TheVariants.{Tpl}
 use Rattle.ecma_tree.specs.Tree.{Tree, script, es_module}
 use Rattle.ecma_token.specs.declared.syntax.EsSyntax.{EsSyntax}
-use Rattle.ecma_syntax.specs.Input.{Place, Input}
+use Rattle.ecma_syntax.specs.Input.{PlacedToken, Input}
 use Rattle.ecma_grammar_goals.specs.TemplateLaws.{Region, Outside, Inside, Behind, Nowhere, after, over}
 use Rattle.ecma_grammar_goals.proofs.Fits.{not_lost, fits_on, low_there}
 use Rattle.ecma_grammar_goals.proofs.Braces.{programs_match}
 use Rattle.ecma_lexing.specs.States.{Last, Start, Slash, Characters, Fault, Other, State, again, again_by, behind, ended, goal_of, is_start, place, shebang, spot_at, template_goal, contexts_after, last_after}
 use Rattle.ecma_lexing.specs.Steps.{IsRead, IsPlain, IsOutside, IsGoing, IsStepBy, IsStepOf, IsStep}
-use Rattle.ecma_parse_state.specs.Fronts.{place_of, asked}
+use Rattle.ecma_parse_state.specs.Cursors.{place_of, asked}
 use Rattle.ecma_sources.specs.Sources.{is_slash}
 use Rattle.ecma_grammar.specs.Grammar.{Derives}
 use Rattle.ecma_program_text.specs.Text.{code_of, is_of_goal, text_start}
@@ -110,14 +110,14 @@ module _ (end : ℕ) (modules : Bool) where
   -- ---- one token
 
   -- From such a state on these tokens are handed out, where they tile the text and match.
-  abbrev Goes : List Place → Type 0
+  abbrev Goes : List PlacedToken → Type 0
   Goes ps = (g : Region) (u : Settings) (l : Last) (br : Bool) (text : List ℕ) (first : Bool) → Fit u → At g u.contexts l → is_start l ≡ first → (is_start l ≡ true → NoHashbang text)
       → AreTiles end (whole modules) first text ps → over g ps ≡ Outside [] → Hands (handed ps) (mk end u l br text)
 
   no_start : (k : ℕ) (from text : List ℕ) → is_start (last_after k from) ≡ true → NoHashbang text
   no_start k from text e = absurd (true≢false (sym e ∙ past_start k from))
 
-  module _ (p : Place) (ps : List Place) (k : Goes ps) (u : Settings) (l : Last) (br : Bool) (text : List ℕ) (first : Bool) (f : Fit u) (i : is_start l ≡ first) (n : is_start l ≡ true → NoHashbang text)
+  module _ (p : PlacedToken) (ps : List PlacedToken) (k : Goes ps) (u : Settings) (l : Last) (br : Bool) (text : List ℕ) (first : Bool) (f : Fit u) (i : is_start l ≡ first) (n : is_start l ≡ true → NoHashbang text)
       (rest : List ℕ) (t : IsTile end (whole modules) first text p rest) (more : AreTiles end (whole modules) false rest ps) where
     abbrev from : State
     from = mk end u l br text
@@ -201,7 +201,7 @@ module _ (end : ℕ) (modules : Bool) where
     in_template g at o nf goal e d c x = as_place (take from past token (handed ps) (going u l br text (Some token) past f nf (Some goal) e
         (subst (λ (z : List ℕ). IsRead goal false z from (Some token) past) (sym d) (subst (λ (z : Bool). IsRead goal z t.1 from (Some token) past) c (inl (t.2, rest, x, refl, refl))))) (going_on g at o))
 
-  step : (p : Place) (ps : List Place) → Goes ps → Goes (p ∷ ps)
+  step : (p : PlacedToken) (ps : List PlacedToken) → Goes ps → Goes (p ∷ ps)
   step p ps k (Outside s) u l br text first f at i n t o = let m = fits_on (Outside s) p ps o in
       by_goal p ps k u l br text first f i n t.0 t.1 t.2 s at m.1 p.goal refl (low_there s p.spot.token.kind p.goal m.0)
   step p ps k (Inside s) u l br text first f at i n t o = let m = fits_on (Inside s) p ps o in let e = eqb-true p.goal 2 m.0 in
@@ -229,14 +229,14 @@ module _ (end : ℕ) (modules : Bool) where
       absurd_region e = cc
   done Nowhere u l br text first f at i n t o = absurd (not_lost [] o)
 
-  hands : (ps : List Place) → Goes ps
+  hands : (ps : List PlacedToken) → Goes ps
   hands [] = done
   hands (p ∷ ps) = step p ps (hands ps)
 
   -- ---- a whole text
 
   module _ (u : Settings) (br : Bool) (text : List ℕ) (f : Fit u) (at : u.contexts ≡ []) where
-    hashbang : (ps : List Place) → AfterHashbang end (whole modules) text ps → over (Outside []) ps ≡ Outside [] → Hands (handed ps) (mk end u Start br text)
+    hashbang : (ps : List PlacedToken) → AfterHashbang end (whole modules) text ps → over (Outside []) ps ≡ Outside [] → Hands (handed ps) (mk end u Start br text)
     hashbang [] t o = absurd t
     hashbang (p ∷ ps) t o = let h = t.1 in let new : State = behind (mk end u Start br text) false text (shebang h.0) t.0 in
         let spot : Spot = spot_at end false (shebang h.0).token text t.0 in
@@ -246,7 +246,7 @@ module _ (end : ℕ) (modules : Bool) where
         (next text (Outside []) u.contexts Start (shebang h.0).token.kind (at, tt)) (past_start (shebang h.0).token.kind text) (no_start (shebang h.0).token.kind text t.0) t.2
         (subst (λ (z : Spot). over (after (Outside []) z.token.kind) ps ≡ Outside []) h.2 (fits_on (Outside []) p ps o).1)))
 
-    whole_text : (ps : List Place) → (NoHashbang text × AreTiles end (whole modules) true text ps) ⊎ AfterHashbang end (whole modules) text ps → over (Outside []) ps ≡ Outside [] → Hands (handed ps) (mk end u Start br text)
+    whole_text : (ps : List PlacedToken) → (NoHashbang text × AreTiles end (whole modules) true text ps) ⊎ AfterHashbang end (whole modules) text ps → over (Outside []) ps ≡ Outside [] → Hands (handed ps) (mk end u Start br text)
     whole_text ps (inl t) o = hands ps (Outside []) u Start br text true f (at, tt) refl (λ e. t.0) t.1 o
     whole_text ps (inr t) o = hashbang ps t o
 
@@ -263,7 +263,7 @@ pub tiles_handed : TilesHanded
 tiles_handed start modules text ps s last h t o = start_as (λ z. Hands (handed ps) z) start modules text s h
     (whole_text (start + bytes text) modules s.settings s.tokens.line_break text (record { unasked = h.next_regexp; told = h.goal }) h.contexts ps t o) last
 
-pub matched : (modules : Bool) (syntax : EsSyntax) (t : Tree) (ps : List Place) (r : Input) → is_of_goal modules t ≡ true → Derives t (code_of modules syntax) (record { last = text_start; places = ps }) r → over (Outside []) ps ≡ Outside []
+pub matched : (modules : Bool) (syntax : EsSyntax) (t : Tree) (ps : List PlacedToken) (r : Input) → is_of_goal modules t ≡ true → Derives t (code_of modules syntax) (record { last = text_start; places = ps }) r → over (Outside []) ps ≡ Outside []
 matched false syntax (script s ss l) ps r e d = programs_match (script s ss l) (code_of false syntax) (record { last = text_start; places = ps }) r refl d.0
 matched true syntax (es_module s ss l) ps r e d = programs_match (es_module s ss l) (code_of true syntax) (record { last = text_start; places = ps }) r refl d.0
 matched false syntax t ps r e d = absurd (true≢false (sym e))

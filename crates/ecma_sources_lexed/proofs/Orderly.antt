@@ -1,25 +1,25 @@
--- A parser's machine over a source of tokens: it is orderly.
+-- A parser's stream over a source of tokens: it is orderly.
 use Rattle.std.proofs.Common.{◌≡◌, ◌<◌, ◌≤◌, ◌+◌, ℕ, zero, suc, Bool, true, false, cond, List, [], ◌∷◌, Option, None, Some, option_map, inl, inr, refl, sym, ap, ◌∙◌, subst, true≢false, arith, le_refl}
 use Rattle.ecma_token.specs.declared.context.Context.{Context}
 use Rattle.ecma_token.specs.Tokens.{Spot}
 use Rattle.ecma_token_source.specs.Machine.{Source, Machine}
-use Rattle.ecma_syntax.specs.Input.{Place, kind_of, hi_of, others}
+use Rattle.ecma_syntax.specs.Input.{PlacedToken, kind_of, hi_of, others}
 use Rattle.ecma_reading.specs.Source.{is_nil}
-use Rattle.ecma_parse_state.specs.Fronts.{Front, place_of, places, asked, withdrawn, told_of, in_place, read_on, after_by, reread_by, operand_by, one_in, bound_in, machine_of}
+use Rattle.ecma_parse_state.specs.Cursors.{Cursor, place_of, places, asked, withdrawn, told_of, in_place, read_on, after_by, reread_by, operand_by, one_in, bound_in, stream_of}
 use Rattle.ecma_sources.specs.Sources.{is_slash, one, two, HandsOut, Orderly}
 use Rattle.ecma_sources.proofs.SourceLemmas.{programs_read}
 use Rattle.ecma_sources_lexed.specs.Constant.{Falls, Constant, Before, ParserOrderly, TokensRead}
 
 -- before a source, where this token comes
-abbrev pub front : {S : Type 0} → Option Spot → Source S → ℕ → Front S
+abbrev pub front : {S : Type 0} → Option Spot → Source S → ℕ → Cursor S
 front f s n = record { first = f; behind = Some s; last = n }
 
-no_tokens : (p : Place) (ps : List Place) → ([] ≡ p ∷ ps) → ⊥
+no_tokens : (p : PlacedToken) (ps : List PlacedToken) → ([] ≡ p ∷ ps) → ⊥
 no_tokens p ps e = true≢false (ap (λ z. is_nil z) e)
 
 module _ {S : Type 0} {m : Machine S} {Good : Source S → Type 0} {Same : Source S → Source S → Type 0} {modules : Bool} (w : Constant m Good Same modules) where
-  -- what holds of every front before a good source holds of every stand of a parser
-  pub by_front : (P : Front S → Type 0) → ((f : Option Spot) (s : Source S) (n : ℕ) → Good s → P (front f s n)) → (q : Front S) → Before Good q → P q
+  -- what holds of every cursor before a good source holds of every state of a parser
+  pub by_front : (P : Cursor S → Type 0) → ((f : Option Spot) (s : Source S) (n : ℕ) → Good s → P (front f s n)) → (q : Cursor S) → Before Good q → P q
   by_front P h q b = subst (λ (z : Option (Source S)). P (record { first = q.first; behind = z; last = q.last })) (sym b.1) (h q.first b.0 q.last b.2)
 
   -- ---- what is seen
@@ -32,12 +32,12 @@ module _ {S : Type 0} {m : Machine S} {Good : Source S → Type 0} {Same : Sourc
   two_places None s = refl
   two_places (Some t) s = ap (λ z. place_of t ∷ z) (one_place (m.step s).0 (m.step s).1)
 
-  -- ---- fronts before sources that are the same
+  -- ---- cursors before sources that are the same
 
-  pub Alike : Front S → Front S → Type 0
+  pub Alike : Cursor S → Cursor S → Type 0
   Alike q r = (q.first ≡ r.first) × (s : Source S) × (t : Source S) × (q.behind ≡ Some s) × (r.behind ≡ Some t) × Same s t
 
-  pub by_alike : (P : Front S → Front S → Type 0) → ((f : Option Spot) (s t : Source S) (n o : ℕ) → Same s t → P (front f s n) (front f t o)) → (q r : Front S) → Alike q r → P q r
+  pub by_alike : (P : Cursor S → Cursor S → Type 0) → ((f : Option Spot) (s t : Source S) (n o : ℕ) → Same s t → P (front f s n) (front f t o)) → (q r : Cursor S) → Alike q r → P q r
   unfolding Alike
   by_alike P h q r a = subst (λ (z : Option (Source S)). P (record { first = q.first; behind = z; last = q.last }) r) (sym a.3)
       (subst (λ (z : Option (Source S)). P (front q.first a.1 q.last) (record { first = r.first; behind = z; last = r.last })) (sym a.4)
@@ -48,8 +48,8 @@ module _ {S : Type 0} {m : Machine S} {Good : Source S → Type 0} {Same : Sourc
   same_places zero (Some u) s t e = refl
   same_places (suc i) (Some u) s t e = ap (λ z. place_of u ∷ z) (ap (λ (z : Option Spot). places m i z (Some (m.step s).1)) (w.same_first s t e) ∙ same_places i (m.step t).0 (m.step s).1 (m.step t).1 (w.same_step s t e))
 
-  seen_alike : (q r : Front S) → Alike q r → (machine_of m).seen q ≡ (machine_of m).seen r
-  unfolding machine_of
+  seen_alike : (q r : Cursor S) → Alike q r → (stream_of m).seen q ≡ (stream_of m).seen r
+  unfolding stream_of
   seen_alike q r a = by_alike (λ q r. places m 2 q.first q.behind ≡ places m 2 r.first r.behind) (λ f s t n o e. same_places 2 f s t e) q r a
 
   after_on : (f : Option Spot) (s t : Source S) (n o : ℕ) → Same s t → Alike (after_by m f (Some s) (front f s n)) (after_by m f (Some t) (front f t o))
@@ -57,8 +57,8 @@ module _ {S : Type 0} {m : Machine S} {Good : Source S → Type 0} {Same : Sourc
   after_on None s t n o e = (refl, s, t, refl, refl, e)
   after_on (Some u) s t n o e = (w.same_first s t e, (m.step s).1, (m.step t).1, refl, refl, w.same_step s t e)
 
-  after_alike : (q r : Front S) → Alike q r → Alike ((machine_of m).after q) ((machine_of m).after r)
-  unfolding machine_of
+  after_alike : (q r : Cursor S) → Alike q r → Alike ((stream_of m).after q) ((stream_of m).after r)
+  unfolding stream_of
   after_alike q r a = by_alike (λ q r. Alike (after_by m q.first q.behind q) (after_by m r.first r.behind r)) (λ f s t n o e. after_on f s t n o e) q r a
 
   operand_on : (f : Option Spot) (s t : Source S) (n o : ℕ) → Same s t → Alike (operand_by m f (Some s) (front f s n)) (operand_by m f (Some t) (front f t o))
@@ -86,43 +86,43 @@ module _ {S : Type 0} {m : Machine S} {Good : Source S → Type 0} {Same : Sourc
       by_kind false = (refl, s, t, refl, refl, e)
       by_kind true = again
 
-  operand_alike : (q r : Front S) → Alike q r → Alike ((machine_of m).operand q) ((machine_of m).operand r)
-  unfolding machine_of
+  operand_alike : (q r : Cursor S) → Alike q r → Alike ((stream_of m).operand q) ((stream_of m).operand r)
+  unfolding stream_of
   operand_alike q r a = by_alike (λ q r. Alike (operand_by m q.first q.behind q) (operand_by m r.first r.behind r)) (λ f s t n o e. operand_on f s t n o e) q r a
 
   -- they hand out the same tokens
-  pub hands_alike : (ps : List Place) (q r : Front S) → Alike q r → HandsOut (machine_of m) ps q → HandsOut (machine_of m) ps r
+  pub hands_alike : (ps : List PlacedToken) (q r : Cursor S) → Alike q r → HandsOut (stream_of m) ps q → HandsOut (stream_of m) ps r
   hands_alike [] q r a h = sym (seen_alike q r a) ∙ h
-  hands_alike (p ∷ ps) q r a (inl h) = inl (h.0, sym (seen_alike q r a) ∙ h.1, hands_alike ps ((machine_of m).after q) ((machine_of m).after r) (after_alike q r a) h.2)
+  hands_alike (p ∷ ps) q r a (inl h) = inl (h.0, sym (seen_alike q r a) ∙ h.1, hands_alike ps ((stream_of m).after q) ((stream_of m).after r) (after_alike q r a) h.2)
   hands_alike (p ∷ ps) q r a (inr h) = inr (
     h.0,
     h.1,
     h.2,
     sym (seen_alike q r a) ∙ h.3,
     h.4,
-    sym (seen_alike ((machine_of m).operand q) ((machine_of m).operand r) (operand_alike q r a)) ∙ h.5,
-    hands_alike ps ((machine_of m).after ((machine_of m).operand q)) ((machine_of m).after ((machine_of m).operand r)) (after_alike ((machine_of m).operand q) ((machine_of m).operand r) (operand_alike q r a)) h.6,
+    sym (seen_alike ((stream_of m).operand q) ((stream_of m).operand r) (operand_alike q r a)) ∙ h.5,
+    hands_alike ps ((stream_of m).after ((stream_of m).operand q)) ((stream_of m).after ((stream_of m).operand r)) (after_alike ((stream_of m).operand q) ((stream_of m).operand r) (operand_alike q r a)) h.6,
   )
 
-  pub told_alike : (x : Context) (q : Front S) → x.module_ ≡ modules → Before Good q → Alike q ((machine_of m).turned x q)
-  unfolding machine_of Alike
+  pub told_alike : (x : Context) (q : Cursor S) → x.module_ ≡ modules → Before Good q → Alike q ((stream_of m).retold x q)
+  unfolding stream_of Alike
   told_alike x q e b = (refl, b.0, told_of x b.0, b.1, ap (λ z. option_map (told_of x) z) b.1, w.same_told x b.0 e b.2)
 
-  told_back : (x : Context) (q : Front S) → x.module_ ≡ modules → Before Good q → Alike ((machine_of m).turned x q) q
-  unfolding machine_of Alike
+  told_back : (x : Context) (q : Cursor S) → x.module_ ≡ modules → Before Good q → Alike ((stream_of m).retold x q) q
+  unfolding stream_of Alike
   told_back x q e b = (refl, told_of x b.0, b.0, ap (λ z. option_map (told_of x) z) b.1, b.1, w.same_back b.0 (told_of x b.0) (w.same_told x b.0 e b.2))
 
   -- what comes once other code around was told came before
-  pub hands_back : (x : Context) (q : Front S) (ps : List Place) → x.module_ ≡ modules → Before Good q → HandsOut (machine_of m) ps ((machine_of m).turned x q) → HandsOut (machine_of m) ps q
-  hands_back x q ps e b h = hands_alike ps ((machine_of m).turned x q) q (told_back x q e b) h
+  pub hands_back : (x : Context) (q : Cursor S) (ps : List PlacedToken) → x.module_ ≡ modules → Before Good q → HandsOut (stream_of m) ps ((stream_of m).retold x q) → HandsOut (stream_of m) ps q
+  hands_back x q ps e b h = hands_alike ps ((stream_of m).retold x q) q (told_back x q e b) h
 
   -- ---- one step
 
-  behind_on : (f : Option Spot) (s : Source S) (n : ℕ) (p : Place) (ps : List Place) → places m 2 f (Some s) ≡ p ∷ ps → ps ≡ two (places m 2 (after_by m f (Some s) (front f s n)).first (after_by m f (Some s) (front f s n)).behind)
+  behind_on : (f : Option Spot) (s : Source S) (n : ℕ) (p : PlacedToken) (ps : List PlacedToken) → places m 2 f (Some s) ≡ p ∷ ps → ps ≡ two (places m 2 (after_by m f (Some s) (front f s n)).first (after_by m f (Some s) (front f s n)).behind)
   behind_on None s n p ps e = absurd (no_tokens p ps e)
   behind_on (Some t) s n p ps e = sym (ap others e) ∙ two_places (m.step s).0 (m.step s).1
 
-  ends_on : (f : Option Spot) (s : Source S) (n : ℕ) (p : Place) (ps : List Place) → places m 2 f (Some s) ≡ p ∷ ps → (after_by m f (Some s) (front f s n)).last ≡ p.spot.hi
+  ends_on : (f : Option Spot) (s : Source S) (n : ℕ) (p : PlacedToken) (ps : List PlacedToken) → places m 2 f (Some s) ≡ p ∷ ps → (after_by m f (Some s) (front f s n)).last ≡ p.spot.hi
   ends_on None s n p ps e = absurd (no_tokens p ps e)
   ends_on (Some t) s n p ps e = ap (λ z. hi_of 0 z) e
 
@@ -159,7 +159,7 @@ module _ {S : Type 0} {m : Machine S} {Good : Source S → Type 0} {Same : Sourc
   step_falls None a b h = omega (arith, h)
   step_falls (Some t) a b h = omega (arith, h)
 
-  falls_on : (f : Option Spot) (s : Source S) (n : ℕ) (p : Place) (ps : List Place) → Good s → places m 2 f (Some s) ≡ p ∷ ps
+  falls_on : (f : Option Spot) (s : Source S) (n : ℕ) (p : PlacedToken) (ps : List PlacedToken) → Good s → places m 2 f (Some s) ≡ p ∷ ps
       → one_in (after_by m f (Some s) (front f s n)).first + bound_in m (after_by m f (Some s) (front f s n)).behind < one_in f + bound_in m (Some s)
   falls_on None s n p ps g e = absurd (no_tokens p ps e)
   falls_on (Some t) s n p ps g e = step_falls (m.step s).0 (m.bound s.tokens) (m.bound (m.step s).1.tokens) (w.falls s g)
@@ -169,7 +169,7 @@ module _ {S : Type 0} {m : Machine S} {Good : Source S → Type 0} {Same : Sourc
   operand_falls None s n g = le_refl _
   operand_falls (Some t) s n g = by_kind (is_slash t.token.kind) (in_place t (m.step (asked (Some t.lo) s)).0)
     where
-      again : Bool → Bool → Front S
+      again : Bool → Bool → Cursor S
       again b c = cond b (cond c (read_on (withdrawn (m.step (asked (Some t.lo) s))) n) (front (Some t) s n)) (front (Some t) s n)
 
       by_kind : (b c : Bool) → one_in (again b c).first + bound_in m (again b c).behind ≤ 1 + m.bound s.tokens
@@ -179,13 +179,13 @@ module _ {S : Type 0} {m : Machine S} {Good : Source S → Type 0} {Same : Sourc
 
   -- ---- orderly
 
-  pub orderly : Orderly (machine_of m) (Before Good) modules
-  unfolding machine_of
+  pub orderly : Orderly (stream_of m) (Before Good) modules
+  unfolding stream_of
   orderly = record {
     behind = λ q p ps b e. by_front (λ q. places m 2 q.first q.behind ≡ p ∷ ps → ps ≡ two (places m 2 (after_by m q.first q.behind q).first (after_by m q.first q.behind q).behind)) (λ f s n g. behind_on f s n p ps) q b e;
     ends_at = λ q p ps b e. by_front (λ q. places m 2 q.first q.behind ≡ p ∷ ps → (after_by m q.first q.behind q).last ≡ p.spot.hi) (λ f s n g. ends_on f s n p ps) q b e;
     plain = λ q b e. by_front (λ q. is_slash (kind_of (places m 2 q.first q.behind)) ≡ false → operand_by m q.first q.behind q ≡ q) (λ f s n g. plain_on f s n) q b e;
-    told = λ x q ps e b h. hands_alike ps q ((machine_of m).turned x q) (told_alike x q e b) h;
+    told = λ x q ps e b h. hands_alike ps q ((stream_of m).retold x q) (told_alike x q e b) h;
     operand_last = λ q b. by_front (λ q. (operand_by m q.first q.behind q).last ≡ q.last) (λ f s n g. operand_last f s n) q b;
     turned_last = λ x q b. refl;
     falls = λ q p ps b e. by_front (λ q. places m 2 q.first q.behind ≡ p ∷ ps → one_in (after_by m q.first q.behind q).first + bound_in m (after_by m q.first q.behind q).behind < one_in q.first + bound_in m q.behind) (λ f s n g. falls_on f s n p ps g) q b e;
@@ -201,5 +201,5 @@ module _ {S : Type 0} (m : Machine S) (Good : Source S → Type 0) (Same : Sourc
   parser_orderly modules w = orderly w
 
   pub tokens_read : TokensRead m Good Same
-  unfolding machine_of
-  tokens_read modules w depth syntax q ps t b h e = programs_read (machine_of m) (Before Good) modules (orderly w) depth syntax q ps t b h e
+  unfolding stream_of
+  tokens_read modules w depth syntax q ps t b h e = programs_read (stream_of m) (Before Good) modules (orderly w) depth syntax q ps t b h e

@@ -21,7 +21,7 @@ use Rattle.ecma_lexing.specs.Steps.{IsRead, IsPlain, IsFirst, IsOutside, IsGoing
 use Rattle.ecma_lexing.proofs.Bounds.{no_slash}
 use Rattle.ecma_lexing.proofs.Steps.{always_steps}
 use Rattle.ecma_lexer.specs.Machine.{step_of, lexer_machine}
-use Rattle.ecma_parse_state.specs.Fronts.{asked, told_of, in_place}
+use Rattle.ecma_parse_state.specs.Cursors.{asked, told_of, in_place}
 use Rattle.ecma_sources.specs.Sources.{is_slash}
 use Rattle.ecma_sources_lexed.specs.Lexed.{OfGoal, SameText}
 use Rattle.ecma_sources_lexed.proofs.Lexes.{lexer_constant}

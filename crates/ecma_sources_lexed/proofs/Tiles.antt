@@ -29,7 +29,7 @@ use Rattle.ecma_lexeme.proofs.SortLemmas.{pattern_sort, sort_word, string_begins
 use Rattle.ecma_token_source.specs.Settings.{Settings}
 use Rattle.ecma_token_source.specs.declared.contexts.TokenContext.{TokenContext}
 use Rattle.ecma_token_source.specs.declared.contexts.TokenContext.TheVariants.{Tpl}
-use Rattle.ecma_syntax.specs.Input.{Place, usual}
+use Rattle.ecma_syntax.specs.Input.{PlacedToken, usual}
 use Rattle.ecma_grammar_goals.specs.TemplateLaws.{Region, Outside, Inside, Behind, Nowhere, after, over}
 use Rattle.ecma_grammar_goals.proofs.Fits.{not_lost, fits_on, low_there, usual_there, sound_on}
 use Rattle.ecma_lexing.specs.States.{Last, Start, Slash, Characters, Fault, Other, State, again, again_by, behind, goal_of, is_start, place, shebang, spot_at, template_goal, contexts_after, last_after}
@@ -38,7 +38,7 @@ use Rattle.ecma_lexing.proofs.StepLemmas.{one_step}
 use Rattle.ecma_lexing.proofs.Steps.{always_steps}
 use Rattle.ecma_lexing.proofs.Trivia.{hashbang_or_not}
 use Rattle.ecma_lexer.specs.Machine.{step_of, lexer_machine}
-use Rattle.ecma_parse_state.specs.Fronts.{asked}
+use Rattle.ecma_parse_state.specs.Cursors.{asked}
 use Rattle.ecma_sources.specs.Sources.{is_slash}
 use Rattle.ecma_program_text.specs.Tiled.{goal_at, whole, IsBefore, AreTiles, AfterHashbang, Tile}
 use Rattle.ecma_sources_lexed.specs.Handed.{handed}
@@ -188,22 +188,22 @@ module _ (end : ℕ) (modules : Bool) (u : Settings) (l : Last) (br : Bool) (tex
 -- ---- a list
 
 -- a place with the escape of a token
-abbrev marked : Place → SpecLexeme → Place
+abbrev marked : PlacedToken → SpecLexeme → PlacedToken
 marked p x = record p { escaped = x.escaped }
 
 module _ (end : ℕ) (modules : Bool) where
-  abbrev Tiles : Bool → List ℕ → List Place → Type 0
-  Tiles first text ps = (qs : List Place) × SameSpots ps qs × AreTiles end (whole modules) first text qs
+  abbrev Tiles : Bool → List ℕ → List PlacedToken → Type 0
+  Tiles first text ps = (qs : List PlacedToken) × SameSpots ps qs × AreTiles end (whole modules) first text qs
 
   -- What such a state hands out tiles the text, where it matches.
-  abbrev Back : List Place → Type 0
+  abbrev Back : List PlacedToken → Type 0
   Back ps = (g : Region) (u : Settings) (l : Last) (br : Bool) (text : List ℕ) (first : Bool) → u.next_regexp ≡ None → u.ctx.module_ ≡ modules → At g u.contexts l → is_start l ≡ first
       → (is_start l ≡ true → NoHashbang text) → over g ps ≡ Outside [] → Comes (handed ps) (mk end u l br text) → Tiles first text ps
 
   no_start : (k : ℕ) (from text : List ℕ) → is_start (last_after k from) ≡ true → NoHashbang text
   no_start k from text e = absurd (true≢false (sym e ∙ past_start k from))
 
-  module _ (p : Place) (ps : List Place) (k : Back ps) (g : Region) (first : Bool) (text : List ℕ) (o : over (after g p.spot.token.kind) ps ≡ Outside []) where
+  module _ (p : PlacedToken) (ps : List PlacedToken) (k : Back ps) (g : Region) (first : Bool) (text : List ℕ) (o : over (after g p.spot.token.kind) ps ≡ Outside []) where
     -- a token in front of what tiles the rest
     on : (u : Settings) (br : Bool) (from : List ℕ) (x : SpecLexeme) (rest : List ℕ) → u.next_regexp ≡ None → u.ctx.module_ ≡ modules → At (after g x.token.kind) u.contexts (last_after x.token.kind from)
         → p.spot ≡ spot_at end br x.token from rest → Comes (handed ps) (mk end u (last_after x.token.kind from) br rest)
@@ -234,7 +234,7 @@ reread s new from t e i n h = read_back s new RegExp s.tokens.line_break from t 
     here : again s ≡ Some from
     here = ap (λ (z : Last). again_by z s.settings.next_regexp s.tokens.end) e ∙ (ap (λ (z : Option ℕ). again_by (Slash from) z s.tokens.end) i ∙ ap (λ (y : Bool). cond y (Some from) None) (same_place (place s.tokens.end from)))
 
-module _ (end : ℕ) (modules : Bool) (p : Place) (ps : List Place) (k : Back end modules ps) (u : Settings) (l : Last) (br : Bool) (text : List ℕ) (first : Bool) (un : u.next_regexp ≡ None) (md : u.ctx.module_ ≡ modules)
+module _ (end : ℕ) (modules : Bool) (p : PlacedToken) (ps : List PlacedToken) (k : Back end modules ps) (u : Settings) (l : Last) (br : Bool) (text : List ℕ) (first : Bool) (un : u.next_regexp ≡ None) (md : u.ctx.module_ ≡ modules)
     (i : is_start l ≡ first) (sound : p.spot.token.kind ≡ error_kind → ⊥) where
   abbrev stand : State
   stand = mk end u l br text
@@ -309,7 +309,7 @@ end_apart : (text : List ℕ) (x : SpecLexeme) (rest : List ℕ) → IsLexeme Te
 end_apart text x rest h = ap (λ (z : SpecLexeme). is_slash z.token.kind) h.2 ∙ ending_apart h.0
 
 module _ (end : ℕ) (modules : Bool) where
-  step_back : (p : Place) (ps : List Place) → Back end modules ps → Back end modules (p ∷ ps)
+  step_back : (p : PlacedToken) (ps : List PlacedToken) → Back end modules ps → Back end modules (p ∷ ps)
   step_back p ps k (Outside s) u l br text first un md at i n o c = let m = fits_on (Outside s) p ps o in
       outside_back end modules p ps k u l br text first un md i (sound_on (Outside s) p ps o) s at n m.1 (usual_there s p.spot.token.kind p.goal m.0) (low_there s p.spot.token.kind p.goal m.0) (untake (mk end u l br text) p.spot (handed ps) c)
   step_back p ps k (Inside s) u l br text first un md at i n o c = let m = fits_on (Inside s) p ps o in let e : p.goal ≡ 2 = eqb-true p.goal 2 m.0 in
@@ -336,7 +336,7 @@ module _ (end : ℕ) (modules : Bool) where
   done_back (Behind s) u l br text first un md at i n o c = absurd (no_behind s o)
   done_back Nowhere u l br text first un md at i n o c = absurd (not_lost [] o)
 
-  back : (ps : List Place) → Back end modules ps
+  back : (ps : List PlacedToken) → Back end modules ps
   back [] = done_back
   back (p ∷ ps) = step_back p ps (back ps)
 
@@ -346,8 +346,8 @@ module _ (end : ℕ) (modules : Bool) where
     abbrev opening : State
     opening = mk end u Start br text
 
-    abbrev Whole : List Place → Type 0
-    Whole ps = (qs : List Place) × SameSpots ps qs × ((NoHashbang text × AreTiles end (whole modules) true text qs) ⊎ AfterHashbang end (whole modules) text qs)
+    abbrev Whole : List PlacedToken → Type 0
+    Whole ps = (qs : List PlacedToken) × SameSpots ps qs × ((NoHashbang text × AreTiles end (whole modules) true text qs) ⊎ AfterHashbang end (whole modules) text qs)
 
     first_back : (out : Option Spot) → (step_of opening).0 ≡ out → IsOutside Start opening out (step_of opening).1
     first_back out e = going_back end modules u Start br text un md out (step_of opening).1 tt None (ap (λ (z : List TokenContext). template_goal z Start) at) (made opening out e)
@@ -372,7 +372,7 @@ module _ (end : ℕ) (modules : Bool) where
       no_slash_first : (q : Spot) → is_slash q.token.kind ≡ true → (step_of opening).0 ≡ Some q → ⊥
       no_slash_first q s e = false≢true (sym (ap (λ (z : Spot). is_slash z.token.kind) (some_is q token (same (Some q) e).0)) ∙ s)
 
-      line_back : (p : Place) (ps : List Place) → over (Outside []) (p ∷ ps) ≡ Outside [] → Took lexer_machine (step_of opening).0 (step_of opening).1 p.spot (handed ps) → Whole (p ∷ ps)
+      line_back : (p : PlacedToken) (ps : List PlacedToken) → over (Outside []) (p ∷ ps) ≡ Outside [] → Took lexer_machine (step_of opening).0 (step_of opening).1 p.spot (handed ps) → Whole (p ∷ ps)
       line_back p ps o (inl h) = let k = same (Some p.spot) h.0 in let e : p.spot ≡ token = some_is p.spot token k.0 in
           let z = back ps (after (Outside []) (shebang own).token.kind) past.settings (last_after (shebang own).token.kind text) false rest false un md
           (next text (Outside []) u.contexts Start (shebang own).token.kind (at, tt)) (past_start (shebang own).token.kind text) (no_start end modules (shebang own).token.kind text rest)
@@ -380,18 +380,18 @@ module _ (end : ℕ) (modules : Bool) where
           (marked p (shebang own) ∷ z.0, (refl, refl, refl, z.1), inr (rest, (own, line, e, refl), z.2))
       line_back p ps o (inr h) = absurd (no_slash_first h.0 h.2 h.1)
 
-      hashbang_back : (ps : List Place) → over (Outside []) ps ≡ Outside [] → Comes (handed ps) opening → Whole ps
+      hashbang_back : (ps : List PlacedToken) → over (Outside []) ps ≡ Outside [] → Comes (handed ps) opening → Whole ps
       hashbang_back [] o c = absurd (no_some token (sym (same None (untake_none opening c)).0))
       hashbang_back (p ∷ ps) o c = line_back p ps o (untake opening p.spot (handed ps) c)
 
-    whole_by : ((own : List ℕ) × (rest : List ℕ) × IsHashbang text own rest) ⊎ NoHashbang text → (ps : List Place) → over (Outside []) ps ≡ Outside [] → Comes (handed ps) opening → Whole ps
+    whole_by : ((own : List ℕ) × (rest : List ℕ) × IsHashbang text own rest) ⊎ NoHashbang text → (ps : List PlacedToken) → over (Outside []) ps ≡ Outside [] → Comes (handed ps) opening → Whole ps
     whole_by (inl h) ps o c = hashbang_back h.0 h.1 h.2 ps o c
     whole_by (inr h) ps o c = let z = back ps (Outside []) u Start br text true un md (at, tt) refl (λ e. h) o c in (z.0, z.1, inl (h, z.2))
 
 -- ---- the laws
 
 pub handed_tile : HandedTile
-handed_tile start modules text ps s last h o c = start_as (λ (z : State). Comes (handed ps) z → (qs : List Place) × SameSpots ps qs × Tile start modules text qs) start modules text s h
+handed_tile start modules text ps s last h o c = start_as (λ (z : State). Comes (handed ps) z → (qs : List PlacedToken) × SameSpots ps qs × Tile start modules text qs) start modules text s h
     (λ k. whole_by (start + bytes text) modules s.settings s.tokens.line_break text h.next_regexp h.goal h.contexts (hashbang_or_not text) ps o k) (last, c)
 
 pub derived_tile : DerivedTile

@@ -2,7 +2,7 @@
 use Rattle.std.proofs.Common.{◌≡◌, ℕ, true, false, List, [], ◌∷◌, refl, sym, ap, ◌∙◌}
 use Rattle.std.specs.Prelude.{nat_le}
 use Rattle.std.proofs.lemmas.Bool.{false≢true, eqb-true}
-use Rattle.ecma_syntax.specs.Input.{Place, usual, regexp_goal, template_goal, template_end_goal}
+use Rattle.ecma_syntax.specs.Input.{PlacedToken, usual, regexp_goal, template_goal, template_end_goal}
 use Rattle.ecma_grammar_goals.specs.TemplateLaws.{Region, Outside, Inside, Behind, Nowhere, after, fits, over}
 use Rattle.ecma_grammar_goals.proofs.Fits.{fits_on, usual_there, sound_on}
 use Rattle.ecma_sources_lexed.specs.Tiled.{AreUsual, MatchedUsual, DerivedUsual}
@@ -18,7 +18,7 @@ usual_on (Inside s) k goal f h = absurd (high template_goal goal refl (eqb-true 
 usual_on (Behind s) k goal f h = absurd (high template_end_goal goal refl (eqb-true goal template_end_goal f) h)
 usual_on Nowhere k goal f h = absurd (false≢true f)
 
-are_usual : (g : Region) (ps : List Place) → over g ps ≡ Outside [] → AreUsual ps
+are_usual : (g : Region) (ps : List PlacedToken) → over g ps ≡ Outside [] → AreUsual ps
 are_usual g [] o = tt
 are_usual g (p ∷ ps) o = let m = fits_on g p ps o in (sound_on g p ps o, usual_on g p.spot.token.kind p.goal m.0, are_usual (after g p.spot.token.kind) ps m.1)
 

@@ -1,13 +1,13 @@
--- What is asked of a source of tokens, so that a parser's machine over it is orderly, and that what is read of a list is read of it.
+-- What is asked of a source of tokens, so that a parser's stream over it is orderly, and that what is read of a list is read of it.
 use Rattle.std.specs.Prelude.{◌≡◌, ◌<◌, ◌≤◌, ℕ, Bool, List, Option, None, Some, Ok}
 use Rattle.ecma_token.specs.declared.context.Context.{Context}
 use Rattle.ecma_token.specs.declared.syntax.EsSyntax.{EsSyntax}
 use Rattle.ecma_token.specs.Tokens.{Spot}
 use Rattle.ecma_token_source.specs.Machine.{Source, Machine}
 use Rattle.ecma_tree.specs.Tree.{Tree}
-use Rattle.ecma_syntax.specs.Input.{Place}
+use Rattle.ecma_syntax.specs.Input.{PlacedToken}
 use Rattle.ecma_reading.specs.Reading.{read_program, read_list}
-use Rattle.ecma_parse_state.specs.Fronts.{Front, asked, told_of, machine_of}
+use Rattle.ecma_parse_state.specs.Cursors.{Cursor, asked, told_of, stream_of}
 use Rattle.ecma_sources.specs.Sources.{HandsOut, Orderly}
 
 -- A bound falls where a token was handed out, and never rises.
@@ -30,16 +30,16 @@ pub record Constant {S : Type 0} (m : Machine S) (Good : Source S → Type 0) (S
   -- the code around changes no token
   pub same_told : (x : Context) (s : Source S) → x.module_ ≡ modules → Good s → Same s (told_of x s)
 
--- a parser stands before a good source, and at no mark
-abbrev pub Before : {S : Type 0} → (Source S → Type 0) → Front S → Type 0
+-- a parser stands before a good source, and at no start
+abbrev pub Before : {S : Type 0} → (Source S → Type 0) → Cursor S → Type 0
 Before {S} Good q = (s : Source S) × (q.behind ≡ Some s) × Good s
 
 module _ {S : Type 0} (m : Machine S) (Good : Source S → Type 0) (Same : Source S → Source S → Type 0) where
-  -- The machine over such a source is orderly.
+  -- The stream over such a source is orderly.
   abbrev pub ParserOrderly : Type 0
-  ParserOrderly = (modules : Bool) → Constant m Good Same modules → Orderly (machine_of m) (Before Good) modules
+  ParserOrderly = (modules : Bool) → Constant m Good Same modules → Orderly (stream_of m) (Before Good) modules
 
   -- So what tree is read of a list is read of such a source that hands out the list's tokens, as a script or a module, by calls so deep.
   abbrev pub TokensRead : Type 0
-  TokensRead = (modules : Bool) → Constant m Good Same modules → (depth : ℕ) (syntax : EsSyntax) (q : Front S) (ps : List Place) (t : Tree)
-      → Before Good q → HandsOut (machine_of m) ps q → read_list depth modules syntax q.last ps ≡ Ok t → read_program (machine_of m) depth modules syntax q ≡ Ok t
+  TokensRead = (modules : Bool) → Constant m Good Same modules → (depth : ℕ) (syntax : EsSyntax) (q : Cursor S) (ps : List PlacedToken) (t : Tree)
+      → Before Good q → HandsOut (stream_of m) ps q → read_list depth modules syntax q.last ps ≡ Ok t → read_program (stream_of m) depth modules syntax q ≡ Ok t

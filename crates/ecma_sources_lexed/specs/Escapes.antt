@@ -4,7 +4,7 @@ use Rattle.ecma_scan.specs.Places.{bytes}
 use Rattle.ecma_lexeme.specs.declared.goal.LexicalGoal.{LexicalGoal}
 use Rattle.ecma_lexeme.specs.Lexemes.{SpecLexeme, IsLexeme}
 use Rattle.ecma_lexing.specs.States.{spot_at}
-use Rattle.ecma_parse_state.specs.Fronts.{is_escaped}
+use Rattle.ecma_parse_state.specs.Cursors.{is_escaped}
 
 -- A parser tells a word that is spelled with an escape by its span, which is longer than its text. It tells what the text has.
 abbrev pub EscapesTold : Type 0

@@ -6,17 +6,17 @@ use Rattle.ecma_token.specs.declared.syntax.Syntax.{Syntax}
 use Rattle.ecma_token.specs.declared.version.EsVersion.{EsVersion}
 use Rattle.ecma_scan.specs.Places.{bytes}
 use Rattle.ecma_tree.specs.Tree.{Tree}
-use Rattle.ecma_syntax.specs.Input.{Place}
+use Rattle.ecma_syntax.specs.Input.{PlacedToken}
 use Rattle.ecma_grammar_goals.specs.TemplateLaws.{Outside, over}
 use Rattle.ecma_lexing.specs.States.{Start, State, at_start_of}
 use Rattle.ecma_lexer.specs.Machine.{lexer_machine}
-use Rattle.ecma_parse_state.specs.Fronts.{place_of, read_on, told_of, machine_of}
+use Rattle.ecma_parse_state.specs.Cursors.{place_of, read_on, told_of, stream_of}
 use Rattle.ecma_sources.specs.Sources.{HandsOut}
 use Rattle.ecma_program_text.specs.Text.{Reads, text_start}
 use Rattle.ecma_program_text.specs.Tiled.{Tile}
 
 -- the tokens as a parser sees them
-abbrev pub handed : List Place → List Place
+abbrev pub handed : List PlacedToken → List PlacedToken
 handed [] = []
 handed (p ∷ ps) = place_of p.spot ∷ handed ps
 
@@ -36,10 +36,10 @@ NewAtStart = (syntax : Syntax) (target : EsVersion) (start : ℕ) (modules : Boo
 
 -- Tokens that tile the text, among which each brace and each template has its partner, are handed out: from the first one on, as a parser takes them.
 abbrev pub TilesHanded : Type 0
-TilesHanded = (start : ℕ) (modules : Bool) (text : List ℕ) (ps : List Place) (s : State) (last : ℕ) → AtStart start modules text s → Tile start modules text ps → over (Outside []) ps ≡ Outside []
-    → HandsOut (machine_of lexer_machine) (handed ps) (read_on (lexer_machine.step s) last)
+TilesHanded = (start : ℕ) (modules : Bool) (text : List ℕ) (ps : List PlacedToken) (s : State) (last : ℕ) → AtStart start modules text s → Tile start modules text ps → over (Outside []) ps ≡ Outside []
+    → HandsOut (stream_of lexer_machine) (handed ps) (read_on (lexer_machine.step s) last)
 
 -- So the tokens by which a tree reads a text are handed out.
 abbrev pub ReadHanded : Type 0
 ReadHanded = (modules : Bool) (syntax : EsSyntax) (t : Tree) (text : List ℕ) (h : Reads modules syntax t text) (s : State) (last : ℕ) → AtStart text_start modules text s
-    → HandsOut (machine_of lexer_machine) (handed h.0) (read_on (lexer_machine.step s) last)
+    → HandsOut (stream_of lexer_machine) (handed h.0) (read_on (lexer_machine.step s) last)

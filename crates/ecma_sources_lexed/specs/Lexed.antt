@@ -2,11 +2,11 @@
 use Rattle.std.specs.Prelude.{◌≡◌, ℕ, Bool, List, Ok}
 use Rattle.ecma_token.specs.declared.syntax.EsSyntax.{EsSyntax}
 use Rattle.ecma_tree.specs.Tree.{Tree}
-use Rattle.ecma_syntax.specs.Input.{Place}
+use Rattle.ecma_syntax.specs.Input.{PlacedToken}
 use Rattle.ecma_reading.specs.Reading.{read_program, read_list}
 use Rattle.ecma_lexing.specs.States.{State, Text}
 use Rattle.ecma_lexer.specs.Machine.{lexer_machine}
-use Rattle.ecma_parse_state.specs.Fronts.{Front, machine_of}
+use Rattle.ecma_parse_state.specs.Cursors.{Cursor, stream_of}
 use Rattle.ecma_sources.specs.Sources.{HandsOut}
 use Rattle.ecma_sources_lexed.specs.Constant.{Constant, Before}
 
@@ -23,5 +23,5 @@ LexerConstant = (modules : Bool) → Constant lexer_machine (OfGoal modules) Sam
 
 -- The lexer hands out the tokens of a list. What tree is read of the list is read of the lexer, as a script or a module, by calls so deep.
 abbrev pub LexerRead : Type 0
-LexerRead = (modules : Bool) (depth : ℕ) (syntax : EsSyntax) (q : Front Text) (ps : List Place) (t : Tree) → Before (OfGoal modules) q → HandsOut (machine_of lexer_machine) ps q
-    → read_list depth modules syntax q.last ps ≡ Ok t → read_program (machine_of lexer_machine) depth modules syntax q ≡ Ok t
+LexerRead = (modules : Bool) (depth : ℕ) (syntax : EsSyntax) (q : Cursor Text) (ps : List PlacedToken) (t : Tree) → Before (OfGoal modules) q → HandsOut (stream_of lexer_machine) ps q
+    → read_list depth modules syntax q.last ps ≡ Ok t → read_program (stream_of lexer_machine) depth modules syntax q ≡ Ok t

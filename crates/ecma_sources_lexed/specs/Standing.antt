@@ -6,11 +6,11 @@ use Rattle.ecma_token.specs.Tokens.{Spot}
 use Rattle.ecma_literal.specs.Escapes.{begins}
 use Rattle.ecma_lexeme.specs.Sorts as lexeme
 use Rattle.ecma_tree.specs.Tree.{Tree}
-use Rattle.ecma_syntax.specs.Input.{Place}
+use Rattle.ecma_syntax.specs.Input.{PlacedToken}
 use Rattle.ecma_reading.specs.Reading.{read_program, read_list}
 use Rattle.ecma_lexing.specs.States.{Slash, State, Text, place}
 use Rattle.ecma_lexer.specs.Machine.{lexer_machine}
-use Rattle.ecma_parse_state.specs.Fronts.{Front, asked, told_of, in_place, machine_of}
+use Rattle.ecma_parse_state.specs.Cursors.{Cursor, asked, told_of, in_place, stream_of}
 use Rattle.ecma_sources.specs.Sources.{is_slash, HandsOut}
 use Rattle.ecma_sources_lexed.specs.Lexed.{OfGoal}
 use Rattle.ecma_sources_lexed.specs.Constant.{Before}
@@ -31,6 +31,6 @@ pub record LexerRereads : Type 0 where
 
 -- What tree is read of the lexer, as a script or a module, is read of a list of tokens that the lexer hands out, by calls so deep.
 abbrev pub LexerConsumed : Type 0
-LexerConsumed = (modules : Bool) (depth : ℕ) (syntax : EsSyntax) (q : Front Text) (t : Tree) → Before (OfGoal modules) q
-    → read_program (machine_of lexer_machine) depth modules syntax q ≡ Ok t
-    → (ps : List Place) × HandsOut (machine_of lexer_machine) ps q × (read_list depth modules syntax q.last ps ≡ Ok t)
+LexerConsumed = (modules : Bool) (depth : ℕ) (syntax : EsSyntax) (q : Cursor Text) (t : Tree) → Before (OfGoal modules) q
+    → read_program (stream_of lexer_machine) depth modules syntax q ≡ Ok t
+    → (ps : List PlacedToken) × HandsOut (stream_of lexer_machine) ps q × (read_list depth modules syntax q.last ps ≡ Ok t)

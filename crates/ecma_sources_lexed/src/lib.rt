@@ -1,4 +1,4 @@
-//! Laws of a parser's machine over a source of tokens, and of the lexer as such a source: what is read of a list of
+//! Laws of a parser's stream over a source of tokens, and of the lexer as such a source: what is read of a list of
 //! tokens is read of the source that hands it out, and what is read of the source is read of a list of tokens that it
 //! hands out; and the tokens that tile a text are handed out by the lexer. The functions here are laws alone.
 #![tactic(auto)]
@@ -23,7 +23,7 @@ pub trait Tokened {
     ghost same: { Source State → Source State → Type 0 };
 }
 
-/// Law: where steps fall and the code around changes no token, the machine that a parser reads from is
+/// Law: where steps fall and the code around changes no token, the stream that a parser reads from is
 /// orderly, so what is read of a list of tokens is read of a source that hands it out.
 #[tactic(auto)]
 pub fn tokens_law<I: Tokened>()
@@ -31,7 +31,7 @@ pub fn tokens_law<I: Tokened>()
     ensures read { TokensRead I.machine I.good I.same }
 {}
 
-/// Law: where steps fall and the code around changes no token, the machine that a parser reads from is
+/// Law: where steps fall and the code around changes no token, the stream that a parser reads from is
 /// orderly backward, since a slash is read again in its place or stays; so what is read of a source of
 /// tokens is read of a list of tokens that it hands out.
 #[tactic(auto)]

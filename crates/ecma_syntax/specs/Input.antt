@@ -21,7 +21,7 @@ abbrev pub template_end_goal : ℕ
 template_end_goal = 3
 
 -- A token in its place: whether a word is spelled with an escape, and the lexical goal and the context under which it stands.
-pub record Place : Type 0 where
+pub record PlacedToken : Type 0 where
   pub spot : Spot
   pub escaped : Bool
   pub goal : ℕ
@@ -30,35 +30,35 @@ pub record Place : Type 0 where
 -- the tokens to come, and where the last one before them ends
 pub record Input : Type 0 where
   pub last : ℕ
-  pub places : List Place
+  pub places : List PlacedToken
 
 -- ---- the first token, by numbers: `kind ts ≡ comma_kind`, and on with `rest ts`
 
-abbrev pub kind_of : List Place → ℕ
+abbrev pub kind_of : List PlacedToken → ℕ
 kind_of [] = end_kind
 kind_of (p ∷ ps) = p.spot.token.kind
 
-abbrev pub break_of : List Place → Bool
+abbrev pub break_of : List PlacedToken → Bool
 break_of [] = false
 break_of (p ∷ ps) = p.spot.line_break
 
-abbrev pub content_of : List Place → Content
+abbrev pub content_of : List PlacedToken → Content
 content_of [] = Bare
 content_of (p ∷ ps) = p.spot.token.content
 
-abbrev pub escaped_of : List Place → Bool
+abbrev pub escaped_of : List PlacedToken → Bool
 escaped_of [] = false
 escaped_of (p ∷ ps) = p.escaped
 
-abbrev pub lo_of : ℕ → List Place → ℕ
+abbrev pub lo_of : ℕ → List PlacedToken → ℕ
 lo_of last [] = last
 lo_of last (p ∷ ps) = p.spot.lo
 
-abbrev pub hi_of : ℕ → List Place → ℕ
+abbrev pub hi_of : ℕ → List PlacedToken → ℕ
 hi_of last [] = last
 hi_of last (p ∷ ps) = p.spot.hi
 
-abbrev pub others : List Place → List Place
+abbrev pub others : List PlacedToken → List PlacedToken
 others [] = []
 others (p ∷ ps) = ps
 
@@ -220,11 +220,11 @@ barred x ts = escaped ts && (no_name x (kind ts) || (strict_reserved (kind ts) &
 abbrev pub judged : Context → Context
 judged x = record { module_ = x.module_; can_be_module = false; strict = x.strict; include_in_expr = false; in_async = x.in_async; in_generator = x.in_generator; in_static_block = x.in_static_block; in_function = false; is_break_allowed = false; is_continue_allowed = false; allow_super = false; allow_direct_super = false; ignore_error = false }
 
-abbrev pub context_of : Context → List Place → Context
+abbrev pub context_of : Context → List PlacedToken → Context
 context_of x [] = x
 context_of x (p ∷ ps) = p.context
 
-abbrev pub goal_of : List Place → ℕ
+abbrev pub goal_of : List PlacedToken → ℕ
 goal_of [] = div_goal
 goal_of (p ∷ ps) = p.goal
 

@@ -4,20 +4,20 @@ use Rattle.std.specs.Prelude.{codes}
 use Rattle.ecma_token.specs.Tokens.{SpecToken}
 use Rattle.ecma_lexeme.specs.declared.goal.LexicalGoal.{LexicalGoal}
 use Rattle.ecma_lexeme.specs.declared.goal.LexicalGoal.TheVariants.{Div, RegExp, TemplateTail, TemplateEnd}
-use Rattle.ecma_syntax.specs.Input.{Place, Input, kind_of, content_of, escaped_of, rest, hi_of, others, lo, lo_of, brk, break_of}
+use Rattle.ecma_syntax.specs.Input.{PlacedToken, Input, kind_of, content_of, escaped_of, rest, hi_of, others, lo, lo_of, brk, break_of}
 use Rattle.ecma_pieces.specs.Pieces.{Piece, Text, Brace, Blank, Line, Deeper, Back, Semicolon, Commit, Mark}
 use Rattle.ecma_layout.specs.Looks.{Meaning, regular_expression, template_characters, template_end, hashbang_comment, touching, Laid, nothing, one, meant, named, both, refused, joined, texts_of}
-use Rattle.ecma_written.specs.Gaps.{Gap, Touching, is_broken, blanked, Lies}
+use Rattle.ecma_written.specs.Spacings.{Spacing, Touching, is_broken, blanked, Lies}
 use Rattle.ecma_written.specs.Naming.{Naming, StandsFor}
 use Rattle.ecma_written.specs.Says.{IsFirst, IsSaid, IsHashbangSaid, SaysPiece, SaysTexts, SaysMeaning, Says}
 use Rattle.ecma_written.specs.Told.{Told, ToldHashbang, said, says_texts, says_meaning, says}
 
 -- ---- the first token
 
-module _ (token : SpecToken) (escaped : Bool) (size : ℕ) (a : Gap) (ts r : Input) (h : IsFirst token escaped size a ts r) where
+module _ (token : SpecToken) (escaped : Bool) (size : ℕ) (a : Spacing) (ts r : Input) (h : IsFirst token escaped size a ts r) where
   first_rest : rest ts ≡ r
   first_rest =
-      ap (λ (ps : List Place). record { last = hi_of ts.last ps; places = others ps }) h.whole ∙ ap (λ n. record { last = n; places = r.places }) (sym h.last)
+      ap (λ (ps : List PlacedToken). record { last = hi_of ts.last ps; places = others ps }) h.whole ∙ ap (λ n. record { last = n; places = r.places }) (sym h.last)
 
   pub first_kind : kind_of ts.places ≡ token.kind
   first_kind = ap kind_of h.whole ∙ ap (λ (x : SpecToken). x.kind) h.token_is
@@ -32,9 +32,9 @@ module _ (token : SpecToken) (escaped : Bool) (size : ℕ) (a : Gap) (ts r : Inp
   first_broke = ap break_of h.whole ∙ h.broke
 
   first_touches : a ≡ Touching → lo ts ≡ ts.last
-  first_touches e = ap (λ (ps : List Place). lo_of ts.last ps) h.whole ∙ subst (λ (x : Gap). Lies x ts.last h.place.spot.lo) e h.begins
+  first_touches e = ap (λ (ps : List PlacedToken). lo_of ts.last ps) h.whole ∙ subst (λ (x : Spacing). Lies x ts.last h.place.spot.lo) e h.begins
 
-pub told_of : (goal : LexicalGoal) (own : List ℕ) (a b : Gap) (ts r : Input) → IsSaid goal own a ts b r → Told goal own a ts r
+pub told_of : (goal : LexicalGoal) (own : List ℕ) (a b : Spacing) (ts r : Input) → IsSaid goal own a ts b r → Told goal own a ts r
 told_of goal own a b ts r h = record {
   means = (h.lexeme, h.is_own, first_kind _ _ _ a ts r h.first, first_content _ _ _ a ts r h.first, first_escaped _ _ _ a ts r h.first);
   broke = first_broke _ _ _ a ts r h.first;
@@ -42,7 +42,7 @@ told_of goal own a b ts r h = record {
   after = first_rest _ _ _ a ts r h.first;
 }
 
-hashbang_told : (own : List ℕ) (a b : Gap) (ts r : Input) → IsHashbangSaid own a ts b r → ToldHashbang own a ts r
+hashbang_told : (own : List ℕ) (a b : Spacing) (ts r : Input) → IsHashbangSaid own a ts b r → ToldHashbang own a ts r
 hashbang_told own a b ts r h = record {
   kind_is = first_kind _ _ _ a ts r h.first;
   content_is = first_content _ _ _ a ts r h.first;
@@ -53,14 +53,14 @@ hashbang_told own a b ts r h = record {
 
 -- ---- layouts
 
-module _ (K : Gap → Input → Type 0) where
-  moved : (a b : Gap) (ts r : Input) → (b ≡ a) × (ts ≡ r) → K b r → K a ts
-  moved a b ts r h k = subst (λ (x : Gap). K x ts) h.0 (subst (λ (i : Input). K b i) (sym h.1) k)
+module _ (K : Spacing → Input → Type 0) where
+  moved : (a b : Spacing) (ts r : Input) → (b ≡ a) × (ts ≡ r) → K b r → K a ts
+  moved a b ts r h k = subst (λ (x : Spacing). K x ts) h.0 (subst (λ (i : Input). K b i) (sym h.1) k)
 
-  one_told : (goal : LexicalGoal) (own : List ℕ) (a b : Gap) (ts r : Input) → IsSaid goal own a ts b r → K b r → (m : Input) × Told goal own a ts m × K Touching m
-  one_told goal own a b ts r h k = (r, told_of goal own a b ts r h, subst (λ (x : Gap). K x r) h.behind k)
+  one_told : (goal : LexicalGoal) (own : List ℕ) (a b : Spacing) (ts r : Input) → IsSaid goal own a ts b r → K b r → (m : Input) × Told goal own a ts m × K Touching m
+  one_told goal own a b ts r h k = (r, told_of goal own a b ts r h, subst (λ (x : Spacing). K x r) h.behind k)
 
-  piece_told : (x : Piece) (a b : Gap) (ts r : Input) → SaysPiece x a ts b r → K b r → said x a ts K
+  piece_told : (x : Piece) (a b : Spacing) (ts r : Input) → SaysPiece x a ts b r → K b r → said x a ts K
   piece_told (Text span own) a b ts r h k = one_told Div own a b ts r h k
   piece_told (Brace span) a b ts r h k = one_told Div (codes "}") a b ts r h k
   piece_told Blank a b ts r h k = moved (blanked a) b ts r h k
@@ -72,22 +72,22 @@ module _ (K : Gap → Input → Type 0) where
   piece_told Commit a b ts r h k = moved a b ts r h k
   piece_told (Mark pos) a b ts r h k = moved a b ts r h k
 
-  texts_told : (texts : List (List ℕ)) (a b : Gap) (ts r : Input) → SaysTexts texts a ts b r → K b r → says_texts texts a ts K
+  texts_told : (texts : List (List ℕ)) (a b : Spacing) (ts r : Input) → SaysTexts texts a ts b r → K b r → says_texts texts a ts K
   texts_told [] a b ts r h k = moved a b ts r h k
   texts_told (own ∷ others) a b ts r h k =
-      (h.1, told_of Div own a h.0 ts h.1 h.2, texts_told others Touching b h.1 r (subst (λ (x : Gap). SaysTexts others x h.1 b r) h.2.behind h.3) k)
+      (h.1, told_of Div own a h.0 ts h.1 h.2, texts_told others Touching b h.1 r (subst (λ (x : Spacing). SaysTexts others x h.1 b r) h.2.behind h.3) k)
 
-  meaning_told : (m : Meaning) (a b : Gap) (ts r : Input) → SaysMeaning m a ts b r → K b r → says_meaning m a ts K
+  meaning_told : (m : Meaning) (a b : Spacing) (ts r : Input) → SaysMeaning m a ts b r → K b r → says_meaning m a ts K
   meaning_told (regular_expression body flags) a b ts r h k = one_told RegExp (joined (texts_of (regular_expression body flags))) a b ts r h k
   meaning_told (template_characters own) a b ts r h k = one_told TemplateTail own a b ts r h k
   meaning_told (template_end own) a b ts r h k = one_told TemplateEnd own a b ts r h k
-  meaning_told (hashbang_comment own) a b ts r h k = (r, hashbang_told own a b ts r h, subst (λ (x : Gap). K x r) h.behind k)
+  meaning_told (hashbang_comment own) a b ts r h k = (r, hashbang_told own a b ts r h, subst (λ (x : Spacing). K x r) h.behind k)
   meaning_told (touching texts) a b ts r h k = texts_told texts a b ts r h k
 
-pub bridge : (n : Naming) (f : Laid) (a b : Gap) (ts r : Input) (K : Gap → Input → Type 0) → Says (StandsFor n) f a ts b r → K b r → says n f a ts K
+pub bridge : (n : Naming) (f : Laid) (a b : Spacing) (ts r : Input) (K : Spacing → Input → Type 0) → Says (StandsFor n) f a ts b r → K b r → says n f a ts K
 bridge n nothing a b ts r K h k = moved K a b ts r h k
 bridge n (one x) a b ts r K h k = piece_told K x a b ts r h k
 bridge n (meant m) a b ts r K h k = meaning_told K m a b ts r h k
-bridge n (named pos own) a b ts r K h k = (r, record { told = told_of Div own a b ts r h.said; stands = h.stands }, subst (λ (x : Gap). K x r) h.said.behind k)
+bridge n (named pos own) a b ts r K h k = (r, record { told = told_of Div own a b ts r h.said; stands = h.stands }, subst (λ (x : Spacing). K x r) h.said.behind k)
 bridge n (both f g) a b ts r K h k = bridge n f a h.0 ts h.1 (λ d m. says n g d m K) h.2 (bridge n g h.0 b h.1 r K h.3 k)
 bridge n refused a b ts r K h k = absurd h

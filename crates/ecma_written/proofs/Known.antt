@@ -16,7 +16,7 @@ use Rattle.ecma_literal.specs.Templates as templates
 use Rattle.ecma_lexeme.specs.declared.goal.LexicalGoal.{LexicalGoal}
 use Rattle.ecma_lexeme.specs.declared.goal.LexicalGoal.TheVariants.{Div, RegExp, TemplateTail, TemplateEnd}
 use Rattle.ecma_lexeme.specs.Lexemes.{SpecLexeme, IsLexeme, IsOutside}
-use Rattle.ecma_syntax.specs.Input.{Place, template_goal}
+use Rattle.ecma_syntax.specs.Input.{PlacedToken, template_goal}
 use Rattle.ecma_program_text.specs.Tiled.{goal_at, whole, IsBeforeBy, AreTiles, AfterHashbang}
 use Rattle.ecma_written.specs.Means.{Known}
 use Rattle.ecma_written.specs.Laws.{TokensAreKnown}
@@ -95,7 +95,7 @@ lexeme_left RegExp text x rest h s = outside_left RegExp text x rest h s
 lexeme_left TemplateTail text x rest h s = let p = h.4 in left h.0 rest text (p.4 ∙ ap (λ (l : List ℕ). h.0 ++ l) (ends_same h.2 p.1 rest h.3 p.3 h.5)) s
 lexeme_left TemplateEnd text x rest h s = ends_left h.0 text rest h.1 s
 
-tiles_known : (end : ℕ) (goal : Goal) (first : Bool) (text : List ℕ) (ps : List Place) → scalars text ≡ true → AreTiles end goal first text ps → Known ps
+tiles_known : (end : ℕ) (goal : Goal) (first : Bool) (text : List ℕ) (ps : List PlacedToken) → scalars text ≡ true → AreTiles end goal first text ps → Known ps
 tiles_known end goal first text [] s h = tt
 tiles_known end goal first text (p ∷ ps) s h =
     let t = h.1 in
@@ -103,7 +103,7 @@ tiles_known end goal first text (p ∷ ps) s h =
     (inl (goal_at p.goal, t.1, t.2, h.0, f, t.4, ap (λ (x : Spot). x.token) t.5, t.6), tiles_known end goal false h.0 ps (lexeme_left (goal_at p.goal) t.1 t.2 h.0 t.4 f) h.2)
 
 -- behind a hashbang
-after_known : (end : ℕ) (goal : Goal) (text : List ℕ) (ps : List Place) → scalars text ≡ true → AfterHashbang end goal text ps → Known ps
+after_known : (end : ℕ) (goal : Goal) (text : List ℕ) (ps : List PlacedToken) → scalars text ≡ true → AfterHashbang end goal text ps → Known ps
 after_known end goal text [] s h = absurd h
 after_known end goal text (p ∷ ps) s h =
     let t = h.1 in

@@ -4,11 +4,11 @@ use lib.Utf8.{scalars}
 use Rattle.ecma_token.specs.Operators.{operator_text}
 use Rattle.ecma_token.specs.Words.{own_text}
 use Rattle.ecma_lexeme.specs.declared.goal.LexicalGoal.TheVariants.{Div, TemplateEnd}
-use Rattle.ecma_syntax.specs.Input.{Place, Input}
+use Rattle.ecma_syntax.specs.Input.{PlacedToken, Input}
 use Rattle.ecma_program_text.specs.Tiled.{Tile}
 use Rattle.ecma_layout.specs.Looks.{Laid}
 use Rattle.ecma_layout.specs.Words.{sign_of}
-use Rattle.ecma_written.specs.Gaps.{Gap}
+use Rattle.ecma_written.specs.Spacings.{Spacing}
 use Rattle.ecma_written.specs.Naming.{Naming, StandsFor}
 use Rattle.ecma_written.specs.Says.{Says}
 use Rattle.ecma_written.specs.Told.{says}
@@ -17,7 +17,7 @@ use Rattle.ecma_written.specs.Means.{TellsKinds, Known}
 
 -- What a layout says it tells: the same tokens, up to the same rest, and where its names stand.
 abbrev pub LayoutsTell : Type 0
-LayoutsTell = (n : Naming) (f : Laid) (a b : Gap) (ts r : Input) → Says (StandsFor n) f a ts b r → says n f a ts (λ c m. (c ≡ b) × (m ≡ r))
+LayoutsTell = (n : Naming) (f : Laid) (a b : Spacing) (ts r : Input) → Says (StandsFor n) f a ts b r → says n f a ts (λ c m. (c ≡ b) × (m ≡ r))
 
 -- Punctuators, words, signs, operators and what ends the characters of a template mean the tokens of their kinds.
 abbrev pub MarksTell : Type 0
@@ -31,4 +31,4 @@ OperatorsTell = TellsKinds Div sign_of × TellsKinds Div operator_text
 
 -- Tokens that tile a text of scalar values were read from one.
 abbrev pub TokensAreKnown : Type 0
-TokensAreKnown = (start : ℕ) (modules : Bool) (text : List ℕ) (ps : List Place) → scalars text ≡ true → Tile start modules text ps → Known ps
+TokensAreKnown = (start : ℕ) (modules : Bool) (text : List ℕ) (ps : List PlacedToken) → scalars text ≡ true → Tile start modules text ps → Known ps

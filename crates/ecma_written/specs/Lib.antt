@@ -1,4 +1,4 @@
-pub mod Gaps
+pub mod Spacings
 pub mod Naming
 pub mod Says
 pub mod Means

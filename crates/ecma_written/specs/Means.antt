@@ -7,7 +7,7 @@ use Rattle.ecma_token_source.specs.Machine.{told}
 use Rattle.ecma_lexeme.specs.declared.goal.LexicalGoal.{LexicalGoal}
 use Rattle.ecma_lexeme.specs.Lexemes.{SpecLexeme, IsLexeme}
 use Rattle.ecma_lexing.specs.States.{shebang}
-use Rattle.ecma_syntax.specs.Input.{Place}
+use Rattle.ecma_syntax.specs.Input.{PlacedToken}
 use Rattle.ecma_written.specs.Says.{IsOwn}
 
 -- Under a lexical goal the text is a token of this kind, with this content, and spelled with an escape or not.
@@ -20,15 +20,15 @@ abbrev pub TellsKinds : LexicalGoal → (ℕ → List ℕ) → Type 0
 TellsKinds goal table = (k kind : ℕ) (content : Content) (escaped : Bool) → Means goal (table k) kind content escaped → (kind ≡ k) × (escaped ≡ false)
 
 -- The token stands at the front of some text of scalar values, under some goal.
-abbrev pub IsRead : Place → Type 0
+abbrev pub IsRead : PlacedToken → Type 0
 IsRead p = (goal : LexicalGoal) × (from : List ℕ) × (x : SpecLexeme) × (behind : List ℕ) × (scalars from ≡ true)
     × IsLexeme goal from x behind × (p.spot.token ≡ told x.token) × (p.escaped ≡ x.escaped)
 
 -- a hashbang of such a text (12.5)
-abbrev pub IsHashbangRead : Place → Type 0
+abbrev pub IsHashbangRead : PlacedToken → Type 0
 IsHashbangRead p = (own : List ℕ) × (scalars own ≡ true) × (p.spot.token ≡ told (shebang own).token)
 
 -- Each of the tokens was read.
-abbrev pub Known : List Place → Type 0
+abbrev pub Known : List PlacedToken → Type 0
 Known [] = Unit {0}
 Known (p ∷ ps) = (IsRead p ⊎ IsHashbangRead p) × Known ps

@@ -8,11 +8,11 @@ use Rattle.ecma_token_source.specs.Machine.{told}
 use Rattle.ecma_lexeme.specs.declared.goal.LexicalGoal.{LexicalGoal}
 use Rattle.ecma_lexeme.specs.declared.goal.LexicalGoal.TheVariants.{Div, RegExp, TemplateTail, TemplateEnd}
 use Rattle.ecma_lexeme.specs.Lexemes.{SpecLexeme, IsLexeme}
-use Rattle.ecma_syntax.specs.Input.{Place, Input, kind, lo}
+use Rattle.ecma_syntax.specs.Input.{PlacedToken, Input, kind, lo}
 use Rattle.ecma_program_text.specs.Tiled.{goal_at}
 use Rattle.ecma_pieces.specs.Pieces.{Piece, Text, Brace, Blank, Line, Deeper, Back, Semicolon, Commit, Mark}
 use Rattle.ecma_layout.specs.Looks.{Meaning, regular_expression, template_characters, template_end, hashbang_comment, touching, Laid, nothing, one, meant, named, both, refused, joined, texts_of}
-use Rattle.ecma_written.specs.Gaps.{Gap, Touching, Broken, is_broken, blanked, Lies}
+use Rattle.ecma_written.specs.Spacings.{Spacing, Touching, Broken, is_broken, blanked, Lies}
 
 -- ---- one text
 
@@ -23,9 +23,9 @@ IsOwn Div cs x = IsLexeme Div cs x []
 IsOwn RegExp cs x = IsLexeme RegExp cs x []
 IsOwn TemplateEnd cs x = IsLexeme TemplateEnd cs x []
 
--- The first token is this one, spelled with an escape or not, and its text takes so many bytes behind a gap; the others are the rest.
-pub record IsFirst (token : SpecToken) (escaped : Bool) (size : ℕ) (a : Gap) (ts r : Input) : Type 0 where
-  pub place : Place
+-- The first token is this one, spelled with an escape or not, and its text takes so many bytes behind a spacing; the others are the rest.
+pub record IsFirst (token : SpecToken) (escaped : Bool) (size : ℕ) (a : Spacing) (ts r : Input) : Type 0 where
+  pub place : PlacedToken
   pub whole : ts.places ≡ place ∷ r.places
   pub token_is : place.spot.token ≡ token
   pub escaped_is : place.escaped ≡ escaped
@@ -34,8 +34,8 @@ pub record IsFirst (token : SpecToken) (escaped : Bool) (size : ℕ) (a : Gap) (
   pub ends : place.spot.hi ≡ place.spot.lo + size
   pub last : r.last ≡ place.spot.hi
 
--- Behind the gap `a` the first token is that of this text under a goal, and the others are the rest, behind the gap `b`.
-pub record IsSaid (goal : LexicalGoal) (own : List ℕ) (a : Gap) (ts : Input) (b : Gap) (r : Input) : Type 0 where
+-- Behind the spacing `a` the first token is that of this text under a goal, and the others are the rest, behind the spacing `b`.
+pub record IsSaid (goal : LexicalGoal) (own : List ℕ) (a : Spacing) (ts : Input) (b : Spacing) (r : Input) : Type 0 where
   pub lexeme : SpecLexeme
   pub is_own : IsOwn goal (chars own) lexeme
   pub first : IsFirst (told lexeme.token) lexeme.escaped (length own) a ts r
@@ -46,12 +46,12 @@ pub record IsSaid (goal : LexicalGoal) (own : List ℕ) (a : Gap) (ts : Input) (
 abbrev pub hashbang_token : List ℕ → SpecToken
 hashbang_token own = record { kind = shebang_kind; content = Hashbang own }
 
-pub record IsHashbangSaid (own : List ℕ) (a : Gap) (ts : Input) (b : Gap) (r : Input) : Type 0 where
+pub record IsHashbangSaid (own : List ℕ) (a : Spacing) (ts : Input) (b : Spacing) (r : Input) : Type 0 where
   pub first : IsFirst (hashbang_token own) false (length own + 2) a ts r
   pub behind : b ≡ Touching
 
 -- A name that was read at a position is the token of its text, and N holds of that position and of where the token begins.
-pub record IsNameSaid (N : ℕ → ℕ → Type 0) (pos : BytePos) (own : List ℕ) (a : Gap) (ts : Input) (b : Gap) (r : Input) : Type 0 where
+pub record IsNameSaid (N : ℕ → ℕ → Type 0) (pos : BytePos) (own : List ℕ) (a : Spacing) (ts : Input) (b : Spacing) (r : Input) : Type 0 where
   pub said : IsSaid Div own a ts b r
   pub stands : N pos.0 (lo ts)
 
@@ -62,7 +62,7 @@ abbrev pub SemicolonMayGo : Input → Type 0
 SemicolonMayGo ts = (kind ts ≡ right_brace_kind) ⊎ (kind ts ≡ end_kind)
 
 -- A line that is asked for ends no line where one begins already.
-abbrev pub SaysPiece : Piece → Gap → Input → Gap → Input → Type 0
+abbrev pub SaysPiece : Piece → Spacing → Input → Spacing → Input → Type 0
 SaysPiece (Text span own) a ts b r = IsSaid Div own a ts b r
 SaysPiece (Brace span) a ts b r = IsSaid Div (codes "}") a ts b r
 SaysPiece Blank a ts b r = (b ≡ blanked a) × (ts ≡ r)
@@ -74,24 +74,24 @@ SaysPiece Commit a ts b r = (b ≡ a) × (ts ≡ r)
 SaysPiece (Mark pos) a ts b r = (b ≡ a) × (ts ≡ r)
 
 -- texts one after another with nothing between them
-abbrev pub SaysTexts : List (List ℕ) → Gap → Input → Gap → Input → Type 0
+abbrev pub SaysTexts : List (List ℕ) → Spacing → Input → Spacing → Input → Type 0
 SaysTexts [] a ts b r = (b ≡ a) × (ts ≡ r)
-SaysTexts (own ∷ others) a ts b r = (k : Gap) × (m : Input) × IsSaid Div own a ts k m × SaysTexts others k m b r
+SaysTexts (own ∷ others) a ts b r = (k : Spacing) × (m : Input) × IsSaid Div own a ts k m × SaysTexts others k m b r
 
 -- texts that are together one token, or tokens that touch
-abbrev pub SaysMeaning : Meaning → Gap → Input → Gap → Input → Type 0
+abbrev pub SaysMeaning : Meaning → Spacing → Input → Spacing → Input → Type 0
 SaysMeaning (regular_expression body flags) a ts b r = IsSaid RegExp (joined (texts_of (regular_expression body flags))) a ts b r
 SaysMeaning (template_characters own) a ts b r = IsSaid TemplateTail own a ts b r
 SaysMeaning (template_end own) a ts b r = IsSaid TemplateEnd own a ts b r
 SaysMeaning (hashbang_comment own) a ts b r = IsHashbangSaid own a ts b r
 SaysMeaning (touching texts) a ts b r = SaysTexts texts a ts b r
 
--- Says N f a ts b r: behind the gap `a` the layout says the tokens `ts` up to the rest `r`, and ends in the gap `b`. N holds of where each name was read and where it is written.
+-- Says N f a ts b r: behind the spacing `a` the layout says the tokens `ts` up to the rest `r`, and ends in the spacing `b`. N holds of where each name was read and where it is written.
 -- What can't be printed says nothing.
-abbrev pub Says : (ℕ → ℕ → Type 0) → Laid → Gap → Input → Gap → Input → Type 0
+abbrev pub Says : (ℕ → ℕ → Type 0) → Laid → Spacing → Input → Spacing → Input → Type 0
 Says N nothing a ts b r = (b ≡ a) × (ts ≡ r)
 Says N (one x) a ts b r = SaysPiece x a ts b r
 Says N (meant m) a ts b r = SaysMeaning m a ts b r
 Says N (named pos own) a ts b r = IsNameSaid N pos own a ts b r
-Says N (both f g) a ts b r = (k : Gap) × (m : Input) × Says N f a ts k m × Says N g k m b r
+Says N (both f g) a ts b r = (k : Spacing) × (m : Input) × Says N f a ts k m × Says N g k m b r
 Says N refused a ts b r = ⊥

@@ -8,20 +8,20 @@ use Rattle.ecma_lexeme.specs.declared.goal.LexicalGoal.TheVariants.{Div, RegExp,
 use Rattle.ecma_syntax.specs.Input.{Input, kind, content, escaped, brk, rest, lo}
 use Rattle.ecma_pieces.specs.Pieces.{Piece, Text, Brace, Blank, Line, Deeper, Back, Semicolon, Commit, Mark}
 use Rattle.ecma_layout.specs.Looks.{Meaning, regular_expression, template_characters, template_end, hashbang_comment, touching, Laid, nothing, one, meant, named, both, refused, joined, texts_of}
-use Rattle.ecma_written.specs.Gaps.{Gap, Touching, Broken, is_broken, blanked}
+use Rattle.ecma_written.specs.Spacings.{Spacing, Touching, Broken, is_broken, blanked}
 use Rattle.ecma_written.specs.Says.{SemicolonMayGo}
 use Rattle.ecma_written.specs.Means.{Means}
 use Rattle.ecma_written.specs.Naming.{Naming, StandsFor}
 
 -- The first token is that of the text under a goal; a line breaks before it where one was written, and it touches the last where nothing was.
-pub record Told (goal : LexicalGoal) (own : List ℕ) (a : Gap) (ts m : Input) : Type 0 where
+pub record Told (goal : LexicalGoal) (own : List ℕ) (a : Spacing) (ts m : Input) : Type 0 where
   pub means : Means goal own (kind ts) (content ts) (escaped ts)
   pub broke : brk ts ≡ is_broken a
   pub touches : a ≡ Touching → lo ts ≡ ts.last
   pub after : rest ts ≡ m
 
 -- The first token is a hashbang with this text behind `#!` (12.5).
-pub record ToldHashbang (own : List ℕ) (a : Gap) (ts m : Input) : Type 0 where
+pub record ToldHashbang (own : List ℕ) (a : Spacing) (ts m : Input) : Type 0 where
   pub kind_is : kind ts ≡ shebang_kind
   pub content_is : content ts ≡ Hashbang own
   pub broke : brk ts ≡ is_broken a
@@ -29,34 +29,34 @@ pub record ToldHashbang (own : List ℕ) (a : Gap) (ts m : Input) : Type 0 where
   pub after : rest ts ≡ m
 
 -- The first token is that of a name which was read at a position, and it stands for that name.
-pub record ToldName (n : Naming) (pos : BytePos) (own : List ℕ) (a : Gap) (ts m : Input) : Type 0 where
+pub record ToldName (n : Naming) (pos : BytePos) (own : List ℕ) (a : Spacing) (ts m : Input) : Type 0 where
   pub told : Told Div own a ts m
   pub stands : StandsFor n pos.0 (lo ts)
 
-abbrev pub said : Piece → Gap → Input → (Gap → Input → Type 0) → Type 0
+abbrev pub said : Piece → Spacing → Input → (Spacing → Input → Type 0) → Type 0
 said (Text span own) a ts K = (m : Input) × Told Div own a ts m × K Touching m
 said (Brace span) a ts K = (m : Input) × Told Div (codes "}") a ts m × K Touching m
 said Blank a ts K = K (blanked a) ts
-said Line a ts K = (b : Gap) × ((b ≡ Broken) ⊎ (b ≡ a)) × K b ts
+said Line a ts K = (b : Spacing) × ((b ≡ Broken) ⊎ (b ≡ a)) × K b ts
 said Deeper a ts K = K a ts
 said Back a ts K = K a ts
 said (Semicolon span) a ts K = ((m : Input) × Told Div (codes ";") a ts m × K Touching m) ⊎ (SemicolonMayGo ts × K a ts)
 said Commit a ts K = K a ts
 said (Mark pos) a ts K = K a ts
 
-abbrev pub says_texts : List (List ℕ) → Gap → Input → (Gap → Input → Type 0) → Type 0
+abbrev pub says_texts : List (List ℕ) → Spacing → Input → (Spacing → Input → Type 0) → Type 0
 says_texts [] a ts K = K a ts
 says_texts (own ∷ others) a ts K = (m : Input) × Told Div own a ts m × says_texts others Touching m K
 
-abbrev pub says_meaning : Meaning → Gap → Input → (Gap → Input → Type 0) → Type 0
+abbrev pub says_meaning : Meaning → Spacing → Input → (Spacing → Input → Type 0) → Type 0
 says_meaning (regular_expression body flags) a ts K = (m : Input) × Told RegExp (joined (texts_of (regular_expression body flags))) a ts m × K Touching m
 says_meaning (template_characters own) a ts K = (m : Input) × Told TemplateTail own a ts m × K Touching m
 says_meaning (template_end own) a ts K = (m : Input) × Told TemplateEnd own a ts m × K Touching m
 says_meaning (hashbang_comment own) a ts K = (m : Input) × ToldHashbang own a ts m × K Touching m
 says_meaning (touching texts) a ts K = says_texts texts a ts K
 
--- says n f a ts K: behind the gap `a` the layout says the tokens from `ts` on, each name stands for the one that was read, and then `K` holds of the gap and the tokens that are left.
-abbrev pub says : Naming → Laid → Gap → Input → (Gap → Input → Type 0) → Type 0
+-- says n f a ts K: behind the spacing `a` the layout says the tokens from `ts` on, each name stands for the one that was read, and then `K` holds of the spacing and the tokens that are left.
+abbrev pub says : Naming → Laid → Spacing → Input → (Spacing → Input → Type 0) → Type 0
 says n nothing a ts K = K a ts
 says n (one x) a ts K = said x a ts K
 says n (meant x) a ts K = says_meaning x a ts K

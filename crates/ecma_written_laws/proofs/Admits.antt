@@ -15,7 +15,7 @@ use Rattle.ecma_layout.specs.declared.look.Look.{Look}
 use Rattle.ecma_layout.specs.declared.look.Stand.{Stand}
 use Rattle.ecma_layout.specs.Layout.{is_head, is_variables, is_block, is_computed, is_bracketed_name}
 use Rattle.ecma_layout.specs.Looks.{Laid, ◌·◌, nothing, one, both, blank, line_always, when, gap, gap_or, line, deeper, back, formats}
-use Rattle.ecma_written_tiles.specs.Classes.{Clear, Decred, Dot, Dotted, Fresh, Hashed, LessBanged, Lessed, Minused, Numbered, Operated, Plused, Pointed, Quasied, Shut, Slashed, State, Worded, behind, is_end, is_open, is_wordless, takes}
+use Rattle.ecma_written_tiles.specs.Categories.{Clear, Decred, Dot, Dotted, Fresh, Hashed, LessBanged, Lessed, Minused, Numbered, Operated, Plused, Pointed, Quasied, Shut, Slashed, State, Worded, behind, is_end, is_open, is_wordless, takes}
 
 pub at_least : (a b : ℕ) → a ≤ b → nat_le a b ≡ true
 at_least a b h = grind (arith, nat_tests)

@@ -1,4 +1,4 @@
--- Assignment operators are tokens of their class (ECMA-262, 13.15).
+-- Assignment operators are tokens of their category (ECMA-262, 13.15).
 use Rattle.std.proofs.Common.{◌≡◌, ℕ, Bool, true, false, List, [], ◌∷◌, ◌++◌, ⊎_elim, refl, sym, subst, arith}
 use Rattle.std.specs.Prelude.{◌==◌, codes}
 use Rattle.std.proofs.lemmas.Bool.{cases_Bool, eqb-true}
@@ -10,7 +10,7 @@ use Rattle.ecma_token.specs.declared.operator.AssignOp.TheVariants as a
 use Rattle.ecma_syntax.specs.Operators.{is_assign_op}
 use Rattle.ecma_lexeme.specs.declared.goal.LexicalGoal.TheVariants.{Div}
 use Rattle.ecma_written.proofs.Punctuators.{look, stays, all_stay}
-use Rattle.ecma_written_tiles.specs.Classes.{Operator}
+use Rattle.ecma_written_tiles.specs.Categories.{Operator}
 use Rattle.ecma_written_tiles.specs.Following.{is_wordy}
 use Rattle.ecma_written_tiles.specs.Goes.{Fits}
 use Rattle.ecma_written_tiles.proofs.Marks.{not_first, tail_is}

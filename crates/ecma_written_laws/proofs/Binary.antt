@@ -12,7 +12,7 @@ use Rattle.ecma_syntax.specs.Input.{Input, Code}
 use Rattle.ecma_syntax.specs.Operators.{coalesce_level, unary_level, update_level, bit_or_level, new_level, call_level, exponent_level, binary_level, right_level, operates}
 use Rattle.ecma_syntax.specs.Shape.{level, fits_left, is_private, is_absent}
 use Rattle.ecma_edge.specs.Edges.{starts_with_word, ends_with_word, is_word_operator, first_operand, gap_before, gap_after, gap_of_unary, is_plus, is_minus, is_decrement, is_not_of_decrement, starts_with_regexp, is_postfix_decrement}
-use Rattle.ecma_grammar.specs.Grammar.{Spells, parts}
+use Rattle.ecma_grammar.specs.Grammar.{Produces, children}
 use Rattle.ecma_scan.specs.Characters.{is_among}
 use Rattle.ecma_layout.specs.declared.look.Look.{Look}
 use Rattle.ecma_layout.specs.declared.look.Stand.{Stand}
@@ -26,7 +26,7 @@ use Rattle.ecma_written_laws.proofs.Marks.{and_mark, bang_mark, bit_and_mark, bi
 use Rattle.ecma_written_laws.proofs.Admits.{tight_unstarred, unstarred, admits, admits_open, admits_word, at_least, at_most, between_binary, both_true, expression_opens, expression_plain, is_ended, is_free, is_nothing, is_tight, leaves, leaves_end, leaves_open, leaves_wordless, left_admits, no_lines, numeric, or_none, or_second, passes, tight_opens, worded_admits}
 use Rattle.ecma_written_laws.proofs.Forms.{Sound}
 use Rattle.ecma_written_laws.proofs.Steps.{Apart, Steps, apart, at, blanks, gaps_or, mark, text_by, when_goes, ◌▸◌, ends}
-use Rattle.ecma_written_tiles.specs.Classes.{Bang, Class, Clear, Closed, Fresh, Hashed, Less, Lessed, Minus, Minused, Numbered, Operated, Operator, Plus, Plused, Pointed, Quasied, Shut, Slash, Slashed, State, Word, Worded, behind, blank_behind, is_end, is_open, is_wordless, takes}
+use Rattle.ecma_written_tiles.specs.Categories.{Bang, Category, Clear, Closed, Fresh, Hashed, Less, Lessed, Minus, Minused, Numbered, Operated, Operator, Plus, Plused, Pointed, Quasied, Shut, Slash, Slashed, State, Word, Worded, behind, blank_behind, is_end, is_open, is_wordless, takes}
 use Rattle.ecma_written_tiles.specs.Goes.{Fits}
 
 -- one of a few kinds
@@ -46,7 +46,7 @@ among_all (n ∷ ns) P k a e = ⊎_elim
 
 -- what a sign asks of where it stands, and says of its operand
 record Signs (k : ℕ) : Type 0 where
-  class : Class
+  class : Category
   fits : Fits Div (sign_of k) class
   stands : (s : State) (sp : Span) (x : Tree) → admits s (unary_expr sp k x) ≡ true → takes class s ≡ true
   then_on : (s : State) (sp : Span) (x : Tree) → unary_level ≤ level x → admits s (unary_expr sp k x) ≡ true
@@ -168,7 +168,7 @@ module _ (look : Look) where
 -- ---- 13.6 to 13.13 binary
 
 record Operates (k : ℕ) : Type 0 where
-  class : Class
+  class : Category
   last : State
   fits : Fits Div (operator_text k) class
   low : 4 ≤ binary_level k

@@ -13,7 +13,7 @@ use Rattle.ecma_layout.specs.declared.look.Stand.{Stand}
 use Rattle.ecma_layout.specs.declared.look.Stand.TheVariants.{Alone, Body, Key}
 use Rattle.ecma_layout.specs.Looks.{Laid, ◌·◌, text, when, gap, gap_or, blank, semi, start, end}
 use Rattle.ecma_layout.specs.Layout.{laid, rows, class_head, class_tail, separated, comma, in_parens, word, method_marks, function_tail, field_value, initial, is_sequence}
-use Rattle.ecma_written_tiles.specs.Classes.{State, Fresh, Clear, Shut, Worded, Operated, Operator, is_open, is_end, is_wordless, takes, blank_behind}
+use Rattle.ecma_written_tiles.specs.Categories.{State, Fresh, Clear, Shut, Worded, Operated, Operator, is_open, is_end, is_wordless, takes, blank_behind}
 use Rattle.ecma_written_laws.proofs.Keywords.{class_word, extends_word, static_word, constructor_word, accessor_word, async_word}
 use Rattle.ecma_written_laws.proofs.Marks.{left_paren, right_paren, left_brace, equals_mark, times_mark}
 use Rattle.ecma_written_laws.proofs.Admits.{admits, leaves, is_ended, is_nothing, is_starred, starts_otherwise, worded_admits, expression_opens, unstarred, admits_open, admits_word, leaves_open, leaves_end, is_free, free_admits, free_open}

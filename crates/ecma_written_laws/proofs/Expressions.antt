@@ -10,15 +10,15 @@ use Rattle.ecma_syntax.specs.Input.{Input, Code, with_in}
 use Rattle.ecma_syntax.specs.Operators.{assignment_level, unary_level, new_level, member_level, is_assign_op}
 use Rattle.ecma_syntax.specs.Shape.{level, is_element, is_prop, is_absent, is_target, is_bound_name, is_target_expr, is_structured, is_simple, is_key}
 use Rattle.ecma_edge.specs.Edges.{starts_with_word, ends_with_word, is_there}
-use Rattle.ecma_grammar.specs.Parts.{Part, part, Expr, CommaThen}
+use Rattle.ecma_grammar.specs.Children.{Child, child, Expr, CommaThen}
 use Rattle.ecma_grammar.specs.Expressions.{Yield}
-use Rattle.ecma_grammar.specs.Grammar.{Spells, parts}
+use Rattle.ecma_grammar.specs.Grammar.{Produces, children}
 use Rattle.ecma_layout.specs.declared.look.Look.{Look}
 use Rattle.ecma_layout.specs.declared.look.Stand.{Stand}
 use Rattle.ecma_layout.specs.declared.look.Stand.TheVariants.{Alone, Head, Key}
 use Rattle.ecma_layout.specs.Looks.{Laid, ◌·◌, text, when, gap, gap_or, formats, start, end}
 use Rattle.ecma_layout.specs.Layout.{laid, separated, comma, comma_line, indented, ends_with_hole, in_parens, is_head, has_arguments, word}
-use Rattle.ecma_written_tiles.specs.Classes.{State, Fresh, Clear, Shut, Worded, Numbered, Pointed, Plused, Minused, Slashed, Lessed, LessBanged, Dotted, Operated, Decred, Hashed, Quasied, Class, Word, Dots, Operator, is_open, is_end, is_wordless, takes, behind, blank_behind}
+use Rattle.ecma_written_tiles.specs.Categories.{State, Fresh, Clear, Shut, Worded, Numbered, Pointed, Plused, Minused, Slashed, Lessed, LessBanged, Dotted, Operated, Decred, Hashed, Quasied, Category, Word, Dots, Operator, is_open, is_end, is_wordless, takes, behind, blank_behind}
 use Rattle.ecma_written_laws.proofs.Keywords.{await_word, yield_word, new_word}
 use Rattle.ecma_written_laws.proofs.Marks.{left_bracket, right_bracket, left_brace, left_paren, right_paren, comma_mark, colon_mark, dots_mark, equals_mark, times_mark}
 use Rattle.ecma_written_laws.proofs.Assignments.{assignments}
@@ -110,7 +110,7 @@ module _ (look : Look) where
   -- ---- 13.16 the comma
 
   -- expressions with commas end as the last does
-  pub declared : (c : Code) (xs : Trees) → AllSound look xs → (ts r : Input) → CommaThen (Expr assignment_level c) c (parts xs) ts r → AllDeclared look xs
+  pub declared : (c : Code) (xs : Trees) → AllSound look xs → (ts r : Input) → CommaThen (Expr assignment_level c) c (children xs) ts r → AllDeclared look xs
   unfolding AllDeclared
   declared c none a ts r h = tt
   declared c (more t xs) a ts r h = (a.0 _ _ _ h.3.1, (expression_plain t (let k = h.3.0 in omega (arith, k)), declared c xs a.1 h.1 r h.4))

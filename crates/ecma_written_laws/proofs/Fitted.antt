@@ -35,7 +35,7 @@ use Rattle.ecma_lexicon.proofs.Scalars.{stop, name_scal}
 use Rattle.ecma_lexicon.proofs.Digits.{number_is_ascii, big_is_ascii}
 use Rattle.ecma_lexicon.proofs.Words.{name_of, key_scalars}
 use Rattle.ecma_lexicon.proofs.Literals.{string_written, number_written, big_written, piece_written, pattern_written}
-use Rattle.ecma_written_tiles.specs.Classes.{Class, Word, Number, Big, Member, Str, Regex, Quasi}
+use Rattle.ecma_written_tiles.specs.Categories.{Category, Word, Number, Big, Member, Str, Regex, Quasi}
 use Rattle.ecma_written_tiles.specs.Goes.{Fits}
 use Rattle.ecma_written_laws.specs.Fitting.{class_of_key, TextsFit}
 use Rattle.ecma_written_laws.proofs.Literals.{utf8_of, name_fits, string_fits, number_fits, member_fits, big_fits, regex_fits, quasi_fits}
@@ -56,7 +56,7 @@ chars_append : (style : Style) (quoted : Bool) (cs m n : List ℕ) → name_char
 chars_append style quoted [] m n = refl
 chars_append style quoted (c ∷ cs) m n = ap (written (form_in style quoted c) c) (chars_append style quoted cs m n) ∙ written_append (form_in style quoted c) c (name_chars style quoted cs m) n
 
-fits_at : (bytes own : List ℕ) (k : Class) → bytes ≡ encode_utf8_all own → Fits Div (encode_utf8_all own) k → Fits Div bytes k
+fits_at : (bytes own : List ℕ) (k : Category) → bytes ≡ encode_utf8_all own → Fits Div (encode_utf8_all own) k → Fits Div bytes k
 fits_at bytes own k e f = subst (λ (l : List ℕ). Fits Div l k) (sym e) f
 
 names : (style : Style) (ts : Input) → Known ts.places → is_word (kind ts) ≡ true → Fits Div (name_bytes style (text ts)) Word
@@ -101,13 +101,13 @@ pointed : (style : Style) (ts : Input) (v : SpecNumber) (w : List ℕ) → Known
 pointed style ts v w k c =
     let own = number_bytes style v (Some w) in
     let n = number_written style ts v w k c in
-    let m : number_of (before_member own) ≡ Some v = (member_stands v own [] n).spelled in
+    let m : number_of (before_member own) ≡ Some v = (member_stands v own [] n).produced in
     member_fits (before_member own) (NumberMeaning v) (number_is_ascii (before_member own) v m) (λ more. member_stands v own more n) (number_stands v (before_member own) [] m (tt, λ _. refl))
 
 big_integers : (style : Style) (ts : Input) (radix : ℕ) (digits w : List ℕ) → Known ts.places → content ts ≡ BigNumeral radix digits w → Fits Div (big_bytes style radix digits (Some w)) Big
 big_integers style ts radix digits w k c =
     let own = big_bytes style radix digits (Some w) in
-    big_fits own (BigInt radix digits) (big_is_ascii radix digits own (big_written style ts radix digits w k c [] tt).spelled) (λ rest h. big_written style ts radix digits w k c rest h)
+    big_fits own (BigInt radix digits) (big_is_ascii radix digits own (big_written style ts radix digits w k c [] tt).produced) (λ rest h. big_written style ts radix digits w k c rest h)
 
 characters : (style : Style) (ts : Input) (tagged : Bool) (w : List ℕ) (u : Option (List ℕ)) → Known ts.places → content ts ≡ Piece w u → (tagged || is_some u) ≡ true → Fits TemplateTail (quasi_bytes style tagged w) Quasi
 characters style ts tagged w u k c t =

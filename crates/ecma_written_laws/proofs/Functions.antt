@@ -11,7 +11,7 @@ use Rattle.ecma_layout.specs.declared.look.Stand.{Stand}
 use Rattle.ecma_layout.specs.declared.look.Stand.TheVariants.{Alone, Body, Key}
 use Rattle.ecma_layout.specs.Looks.{Laid, ◌·◌, text, when, gap, blank, start, end}
 use Rattle.ecma_layout.specs.Layout.{laid, separated, comma, function_tail, in_parens, word, is_bracketed_key, method_marks, is_block}
-use Rattle.ecma_written_tiles.specs.Classes.{State, Fresh, Clear, Shut, Worded, Operated, Operator, is_open, is_end, is_wordless, takes, behind, blank_behind}
+use Rattle.ecma_written_tiles.specs.Categories.{State, Fresh, Clear, Shut, Worded, Operated, Operator, is_open, is_end, is_wordless, takes, behind, blank_behind}
 use Rattle.ecma_written_laws.proofs.Keywords.{async_word, function_word, get_word, set_word}
 use Rattle.ecma_written_laws.proofs.Marks.{left_paren, right_paren, times_mark}
 use Rattle.ecma_written_laws.proofs.Admits.{admits, leaves, is_ended, is_nothing, is_starred, starts_otherwise, worded_admits, admits_open, admits_word, leaves_open, leaves_end, is_free, free_admits, free_open, both_true}

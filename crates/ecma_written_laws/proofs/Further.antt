@@ -10,7 +10,7 @@ use Rattle.ecma_syntax.specs.Input.{Input, Code}
 use Rattle.ecma_syntax.specs.Operators.{coalesce_level, assignment_level, call_level}
 use Rattle.ecma_syntax.specs.Shape.{level, is_item, is_private, is_binding, is_key}
 use Rattle.ecma_edge.specs.Edges.{starts_with_word, ends_with_word, is_there, last_ends_with_word}
-use Rattle.ecma_grammar.specs.Grammar.{Spells, parts}
+use Rattle.ecma_grammar.specs.Grammar.{Produces, children}
 use Rattle.ecma_layout.specs.declared.look.Look.{Look}
 use Rattle.ecma_layout.specs.declared.look.Stand.{Stand}
 use Rattle.ecma_layout.specs.declared.look.Stand.TheVariants.{Alone, Body, Key}
@@ -27,7 +27,7 @@ use Rattle.ecma_written_laws.proofs.Forms.{AllGood, Good, Sound}
 use Rattle.ecma_written_laws.proofs.Names.{commas_go}
 use Rattle.ecma_written_laws.proofs.Statements.{Item, closes}
 use Rattle.ecma_written_laws.proofs.Steps.{Steps, apart, at, blanks, committed, either, gaps, gaps_or, if_goes, mark, nil, shut, text_by, when_goes, worded, ◌▸◌, ends}
-use Rattle.ecma_written_tiles.specs.Classes.{Clear, Fresh, Numbered, Operated, Operator, Shut, State, Word, Worded, blank_behind, is_end, is_open, is_wordless}
+use Rattle.ecma_written_tiles.specs.Categories.{Clear, Fresh, Numbered, Operated, Operator, Shut, State, Word, Worded, blank_behind, is_end, is_open, is_wordless}
 use Rattle.ecma_written_tiles.specs.Goes.{Fits}
 
 pub blank_end : (u : State) → is_end u ≡ true → is_end (blank_behind u) ≡ true

@@ -14,7 +14,7 @@ use Rattle.ecma_lexeme.specs.declared.goal.LexicalGoal.{LexicalGoal}
 use Rattle.ecma_lexeme.specs.declared.goal.LexicalGoal.TheVariants.{Div, RegExp, TemplateTail, TemplateEnd}
 use Rattle.ecma_lexeme.specs.Lexemes.{SpecLexeme, IsLexeme, IsOutside, numeral_lexeme}
 use Rattle.ecma_tree.specs.Tree.{Tree, script, es_module}
-use Rattle.ecma_syntax.specs.Input.{Place, Input, content_of}
+use Rattle.ecma_syntax.specs.Input.{PlacedToken, Input, content_of}
 use Rattle.ecma_program_text.specs.Tiled.{Tile, goal_at}
 use Rattle.ecma_program_text.specs.Text.{Reads, text_start, code_of}
 use Rattle.ecma_written.proofs.Known.{left, scalars_front, tokens_are_known}
@@ -55,7 +55,7 @@ line_of _ = []
 spelled_line : (own : List ℕ) → scalars own ≡ true → Each is_line_char own → IsHashbangText (encode_utf8_all own)
 spelled_line own s e = record { utf8 = utf8_of own s; line = subst (λ (x : List ℕ). Each is_line_char x) (sym (chars-encodes own s)) e }
 
-pub hashbang_text : (start : ℕ) (modules : Bool) (text : List ℕ) (ps : List Place) → scalars text ≡ true → Tile start modules text ps → (own : List ℕ) → content_of ps ≡ Line own → IsHashbangText own
+pub hashbang_text : (start : ℕ) (modules : Bool) (text : List ℕ) (ps : List PlacedToken) → scalars text ≡ true → Tile start modules text ps → (own : List ℕ) → content_of ps ≡ Line own → IsHashbangText own
 hashbang_text start modules text [] s (inl h) own e = absurd (subst NotLine e tt)
 hashbang_text start modules text (p ∷ ps) s (inl h) own e =
     let t = h.1.1 in absurd (subst NotLine (ap (λ (x : SpecToken). x.content) (sym (ap (λ (x : Spot). x.token) t.5)) ∙ e) (lexeme (goal_at p.goal) t.1 t.2 h.1.0 t.4))

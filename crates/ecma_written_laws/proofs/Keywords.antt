@@ -4,7 +4,7 @@ use Rattle.std.specs.Prelude.{codes}
 use Rattle.unicode_ident.proofs.Computing.{unicode_ident}
 use Rattle.ecma_lexeme.specs.declared.goal.LexicalGoal.TheVariants.{Div}
 use Rattle.ecma_written.proofs.PlainWords.{are_parts, is_plain_word}
-use Rattle.ecma_written_tiles.specs.Classes.{Word}
+use Rattle.ecma_written_tiles.specs.Categories.{Word}
 use Rattle.ecma_written_tiles.specs.Goes.{Fits}
 use Rattle.ecma_written_laws.proofs.Words.{keyword}
 

@@ -1,4 +1,4 @@
--- Names and literals that are read as tokens, whatever their classes let follow, are tokens of these classes.
+-- Names and literals that are read as tokens, whatever their categories let follow, are tokens of these categories.
 use Rattle.std.proofs.Common.{◌≡◌, ◌≢◌, ℕ, ◌+◌, ◌⊎◌, inl, inr, ⊎_elim, Bool, true, false, ◌&&◌, ◌||◌, not, List, [], ◌∷◌, ◌++◌, Option, Some, None, refl, sym, ap, subst, ◌∙◌, append_assoc}
 use Rattle.std.specs.Prelude.{◌==◌, codes, encode_utf8_all, bytes_eq}
 use Rattle.std.specs.Str.{chars, IsUtf8}
@@ -30,7 +30,7 @@ use Rattle.ecma_lexeme.proofs.SortLemmas.{word_begins, string_begins}
 use Rattle.ecma_literal.proofs.NumeralLemmas.{numeral_starts}
 use Rattle.ecma_lexicon.proofs.Words.{same_mark}
 use Rattle.ecma_written.proofs.Ascii.{Ascii, ascii, is_ascii}
-use Rattle.ecma_written_tiles.specs.Classes.{Class, Word, Number, Big, Member, Str, Regex, Quasi, End}
+use Rattle.ecma_written_tiles.specs.Categories.{Category, Word, Number, Big, Member, Str, Regex, Quasi, End}
 use Rattle.ecma_written_tiles.specs.Following.{Front, Starts, is_wordy, is_dotty, is_safe, never, Needs, QuietUnder, Quiet}
 use Rattle.ecma_written_tiles.specs.Goes.{Fits}
 use Rattle.ecma_written_tiles.proofs.Marks.{quiet_plain, is_lead, not_first}
@@ -142,7 +142,7 @@ ends_begins : (p : ℕ → Bool) (cs : List ℕ) → Ends p cs → begins p cs �
 ends_begins p [] h = refl
 ends_begins p (c ∷ cs) h = h
 
-numeral_fits : (k : Class) (text : List ℕ) (m : Meaning) → is_ascii text ≡ true → ((rest : List ℕ) → Needs k rest → SpellsNumber m text (text ++ rest) rest) → SpellsNumber m text (text ++ []) []
+numeral_fits : (k : Category) (text : List ℕ) (m : Meaning) → is_ascii text ≡ true → ((rest : List ℕ) → Needs k rest → SpellsNumber m text (text ++ rest) rest) → SpellsNumber m text (text ++ []) []
     → ((c : List ℕ) → Starts is_safe never never c → Front k c) → ((rest : List ℕ) → Quiet (text ++ rest) × ((inner : List ℕ) → text ++ rest ≢ 45 ∷ 45 ∷ 62 ∷ inner) → QuietUnder Div k (text ++ rest)) → Fits Div text k
 numeral_fits k text m e r alone front quiet =
     let a = ascii text e in

@@ -16,7 +16,7 @@ use Rattle.ecma_layout.specs.declared.look.Stand.{Stand}
 use Rattle.ecma_layout.specs.declared.look.Stand.TheVariants.{Alone, Body, Key}
 use Rattle.ecma_layout.specs.Looks.{Laid, ◌·◌, text, when, gap, gap_or, blank, semi, semi_kept, line, deeper, back, start, end, formats}
 use Rattle.ecma_layout.specs.Layout.{laid, rows, closing, indented_or_line, is_variables, is_block, in_parens, separated, comma, word, is_empty}
-use Rattle.ecma_written_tiles.specs.Classes.{State, Fresh, Clear, Shut, Worded, Numbered, Operated, Word, is_open, is_end, is_wordless, takes, blank_behind}
+use Rattle.ecma_written_tiles.specs.Categories.{State, Fresh, Clear, Shut, Worded, Numbered, Operated, Word, is_open, is_end, is_wordless, takes, blank_behind}
 use Rattle.ecma_written_tiles.specs.Goes.{Fits}
 use Rattle.ecma_written_tiles.proofs.Marks.{semicolon_mark}
 use Rattle.ecma_written.proofs.PlainWords.{is_plain_word, are_parts}
@@ -135,7 +135,7 @@ module _ (look : Look) where
       inner : (u : State) → admits u b ≡ true → Steps (laid look Alone b · closing look b · word (codes "while") · gap look · in_parens (laid look Alone e) · semi · end sp) u (λ v. leaves st (do_while_stmt sp e b) v ≡ true)
       inner u q = k.0 Alone u q ▸ λ v l. closes look b v k.1 l ▸ λ w g. worded while_word (free_wordless w g) ▸ at (gaps look refl ▸ either (last Worded refl) (last Clear refl))
 
-  -- a part that may be left out, behind a gap
+  -- a part that may be left out, behind a spacing
   clause_on : (e : Tree) → (is_there e ≡ true → Good look e) → Steps (when (is_there e) (gap look · laid look Alone e)) Shut (λ u. is_open u ≡ true)
   clause_on e f = when_goes (is_there e)
       (λ t. gaps look refl ▸ either (ends (f t Alone Shut refl) (λ v l. leaves_open Alone e v l)) (ends (f t Alone Clear refl) (λ v l. leaves_open Alone e v l)))

@@ -1,4 +1,4 @@
--- Punctuators and operators are tokens of their classes (ECMA-262, 12.8).
+-- Punctuators and operators are tokens of their categories (ECMA-262, 12.8).
 use Rattle.std.proofs.Common.{◌≡◌, ◌≢◌, ℕ, Bool, true, false, ◌||◌, List, [], ◌∷◌, ◌++◌, Some, refl, sym, ap, ◌∙◌}
 use Rattle.std.specs.Prelude.{◌==◌, codes}
 use Rattle.std.proofs.lemmas.Bool.{false≢true, eq-eqb}
@@ -16,7 +16,7 @@ use Rattle.ecma_lexeme.proofs.SortLemmas.{one_digit}
 use Rattle.ecma_lexeme.specs.declared.goal.LexicalGoal.TheVariants.{Div}
 use Rattle.ecma_written.proofs.Ascii.{is_ascii}
 use Rattle.ecma_written.proofs.Punctuators.{look, stays, all_stay}
-use Rattle.ecma_written_tiles.specs.Classes.{Plus, Incr, Minus, Decr, Bang, Slash, Less, Dot, Dots, Operator, Arrow, Hash, Closed}
+use Rattle.ecma_written_tiles.specs.Categories.{Plus, Incr, Minus, Decr, Bang, Slash, Less, Dot, Dots, Operator, Arrow, Hash, Closed}
 use Rattle.ecma_written_tiles.specs.Following.{Quiet, Arrowless, is_wordy, is_dotty, is_joining, never, not_hash}
 use Rattle.ecma_written_tiles.specs.Goes.{Fits}
 use Rattle.ecma_written_tiles.proofs.Marks.{or_none, not_first, tail_is, quiet_plain, is_lead, mark_fits, no_dot, plain_mark, never_ends, closed_mark}

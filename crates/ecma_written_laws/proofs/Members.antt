@@ -10,7 +10,7 @@ use Rattle.ecma_tree.specs.Tree.{Tree, Trees, none, more, ident, ident_name, pri
 use Rattle.ecma_syntax.specs.Input.{Input, Code}
 use Rattle.ecma_syntax.specs.Operators.{call_level}
 use Rattle.ecma_syntax.specs.Shape.{level, is_word_name, is_private, is_chain}
-use Rattle.ecma_grammar.specs.Grammar.{Spells, parts}
+use Rattle.ecma_grammar.specs.Grammar.{Produces, children}
 use Rattle.ecma_layout.specs.declared.look.Look.{Look}
 use Rattle.ecma_layout.specs.declared.look.Stand.{Stand}
 use Rattle.ecma_layout.specs.declared.look.Stand.TheVariants.{Alone, Head, Key, Tagged}
@@ -26,7 +26,7 @@ use Rattle.ecma_written_laws.proofs.Names.{WordKey, bracketed, by_laid, commas_g
 use Rattle.ecma_written_laws.proofs.Primaries.{optional}
 use Rattle.ecma_written_laws.proofs.Steps.{At, Steps, at, committed, ends, if_goes, mark, nil, shut, text_by, when_goes, worded, ◌▸◌}
 use Rattle.ecma_written_laws.proofs.Values.{Quasis, number_admits, template_at}
-use Rattle.ecma_written_tiles.specs.Classes.{Clear, Dots, Dotted, Fresh, Member, Number, Numbered, Operated, Shut, State, Worded, is_digitless, is_open, is_wordless, takes}
+use Rattle.ecma_written_tiles.specs.Categories.{Clear, Dots, Dotted, Fresh, Member, Number, Numbered, Operated, Shut, State, Worded, is_digitless, is_open, is_wordless, takes}
 use Rattle.ecma_written_tiles.specs.Goes.{Fits}
 
 module _ (look : Look) where

@@ -13,7 +13,7 @@ use Rattle.ecma_layout.specs.declared.look.Stand.TheVariants.{Alone, Body, Key}
 use Rattle.ecma_layout.specs.Looks.{Laid, ◌·◌, nothing, text, when, gap, gap_or, blank, semi, start, end, brace}
 use Rattle.ecma_layout.specs.Layout.{laid, attributes, from, imports, exports, import_heads, named_items, first_namespace, in_braces, comma, word, starts_with_default, is_named, is_default, has_named, has_default, has_namespace, has_other, is_namespace, is_no_namespace, is_variables}
 use Rattle.ecma_lexeme.specs.declared.goal.LexicalGoal.TheVariants.{Div}
-use Rattle.ecma_written_tiles.specs.Classes.{State, Fresh, Clear, Shut, Worded, Operated, Operator, Word, is_open, is_end, is_wordless, blank_behind}
+use Rattle.ecma_written_tiles.specs.Categories.{State, Fresh, Clear, Shut, Worded, Operated, Operator, Word, is_open, is_end, is_wordless, blank_behind}
 use Rattle.ecma_written_tiles.specs.Goes.{Fits}
 use Rattle.ecma_written_laws.proofs.Keywords.{import_word, from_word, as_word, export_word, default_word, with_word, assert_word}
 use Rattle.ecma_written_laws.proofs.Marks.{comma_mark, left_brace, times_mark}

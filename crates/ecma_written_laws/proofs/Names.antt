@@ -9,8 +9,8 @@ use Rattle.ecma_syntax.specs.Input.{Input, Code}
 use Rattle.ecma_syntax.specs.Operators.{new_level, call_level}
 use Rattle.ecma_syntax.specs.Shape.{level, is_element, is_private, is_word_name, is_item}
 use Rattle.ecma_edge.specs.Edges.{starts_with_word, ends_with_word, is_there}
-use Rattle.ecma_grammar.specs.Parts.{part, Listed, Sorted}
-use Rattle.ecma_grammar.specs.Grammar.{Spells, parts}
+use Rattle.ecma_grammar.specs.Children.{child, Listed, Sorted}
+use Rattle.ecma_grammar.specs.Grammar.{Produces, children}
 use Rattle.ecma_layout.specs.declared.look.Look.{Look}
 use Rattle.ecma_layout.specs.declared.look.Stand.{Stand}
 use Rattle.ecma_layout.specs.declared.look.Stand.TheVariants.{Alone, Operand, Body, Head, Key}
@@ -22,7 +22,7 @@ use Rattle.ecma_written_laws.proofs.Marks.{comma_mark, dot_mark, left_bracket, l
 use Rattle.ecma_written_laws.proofs.Admits.{admits, admits_open, admits_word, and_false, at_least, free_admits, free_open, head_admits, is_ended, is_free, is_new, is_nothing, is_number, leaves, leaves_dot, leaves_open, loose_admits, numeric, passes}
 use Rattle.ecma_written_laws.proofs.Forms.{AllGood, AllSound, Good, Sound, all_sorted}
 use Rattle.ecma_written_laws.proofs.Steps.{At, Steps, at, committed, either, gaps, mark, nil, semicolons, shut, text_by, when_goes, worded, ◌▸◌, ends}
-use Rattle.ecma_written_tiles.specs.Classes.{Clear, Dot, Dotted, Fresh, Numbered, Shut, State, Word, Worded, is_open, is_wordless, takes}
+use Rattle.ecma_written_tiles.specs.Categories.{Clear, Dot, Dotted, Fresh, Numbered, Shut, State, Word, Worded, is_open, is_wordless, takes}
 use Rattle.ecma_written_tiles.specs.Goes.{Fits}
 
 -- at its end a tree leaves this state
@@ -61,7 +61,7 @@ module _ (look : Look) where
   pub arguments : (c : Code) (xs : Trees) (s : State) → AllGood look xs → is_open s ≡ true → Steps (in_parens (separated look (comma look) xs)) s (At Shut)
   arguments c xs s a o = shut left_paren o ▸ at (commas_go xs Shut a refl ▸ λ v l. shut right_paren l)
 
-  pub call : (sp : Span) (g : Tree) (xs : Trees) → Sound look g → AllSound look xs → (c : Code) (ts r : Input) → Rattle.ecma_grammar.specs.Expressions.Call c sp (part g (λ y. Spells g y)) (parts xs) ts r → Good look (call_expr sp g xs)
+  pub call : (sp : Span) (g : Tree) (xs : Trees) → Sound look g → AllSound look xs → (c : Code) (ts r : Input) → Rattle.ecma_grammar.specs.Expressions.Call c sp (child g (λ y. Produces g y)) (children xs) ts r → Good look (call_expr sp g xs)
   call sp g xs f fs c ts r h st s a =
       committed ▸ at (mark ▸ at (f _ _ _ h.2.1 Head s (head_admits s (call_expr sp g xs) g (omega (arith, h.2.0)) refl refl refl a) ▸ λ v l.
       leaving st (call_expr sp g xs) (arguments c xs v (all_sorted look is_element false c right_paren_kind xs fs _ _ h.3.2) (leaves_open Head g v l)) refl))

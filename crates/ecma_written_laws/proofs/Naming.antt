@@ -9,10 +9,10 @@ use Rattle.ecma_token.specs.Tokens.{SpecToken}
 use Rattle.ecma_lexeme.specs.declared.goal.LexicalGoal.{LexicalGoal}
 use Rattle.ecma_lexeme.specs.declared.goal.LexicalGoal.TheVariants.{Div}
 use Rattle.ecma_lexeme.specs.Lexemes.{IsLexeme}
-use Rattle.ecma_syntax.specs.Input.{Place, Input, lo, lo_of}
+use Rattle.ecma_syntax.specs.Input.{PlacedToken, Input, lo, lo_of}
 use Rattle.ecma_pieces.specs.Pieces.{Piece, Text, Brace, Blank, Line, Deeper, Back, Semicolon, Commit, Mark}
 use Rattle.ecma_layout.specs.Looks.{Meaning, regular_expression, template_characters, template_end, hashbang_comment, touching, Laid, nothing, one, meant, named, both, refused}
-use Rattle.ecma_written.specs.Gaps.{Gap, Touching, Spaced, Broken, Lies}
+use Rattle.ecma_written.specs.Spacings.{Spacing, Touching, Spaced, Broken, Lies}
 use Rattle.ecma_written.specs.Naming.{Naming, StandsFor}
 use Rattle.ecma_written.specs.Says.{IsFirst, IsSaid, SaysPiece, SaysTexts, SaysMeaning, Says}
 use Rattle.ecma_written_tiles.specs.Tiles.{SaysTiles}
@@ -20,7 +20,7 @@ use Rattle.ecma_written_laws.proofs.Closed.{no_outside}
 
 -- ---- tokens lie one behind another
 
-lies_behind : (a : Gap) (last at : ℕ) → Lies a last at → last ≤ at
+lies_behind : (a : Spacing) (last at : ℕ) → Lies a last at → last ≤ at
 lies_behind Touching last at h = omega (arith, h)
 lies_behind Spaced last at h = h
 lies_behind Broken last at h = h
@@ -30,24 +30,24 @@ record Ahead (ts r : Input) (size : ℕ) : Type 0 where
   begins : ts.last ≤ lo ts
   ends : r.last ≡ lo ts + size
 
-first_ahead : (token : SpecToken) (escaped : Bool) (size : ℕ) (a : Gap) (ts r : Input) → IsFirst token escaped size a ts r → Ahead ts r size
+first_ahead : (token : SpecToken) (escaped : Bool) (size : ℕ) (a : Spacing) (ts r : Input) → IsFirst token escaped size a ts r → Ahead ts r size
 first_ahead token escaped size a ts r h =
-    let at : lo ts ≡ h.place.spot.lo = ap (λ (ps : List Place). lo_of ts.last ps) h.whole in
+    let at : lo ts ≡ h.place.spot.lo = ap (λ (ps : List PlacedToken). lo_of ts.last ps) h.whole in
     let l = lies_behind a ts.last h.place.spot.lo h.begins in record {
       begins = subst (λ n. ts.last ≤ n) (sym at) l;
       ends = h.last ∙ (h.ends ∙ ap (λ n. n + size) (sym at));
     }
 
-token_ahead : (token : SpecToken) (escaped : Bool) (size : ℕ) (a : Gap) (ts r : Input) → IsFirst token escaped size a ts r → ts.last ≤ r.last
+token_ahead : (token : SpecToken) (escaped : Bool) (size : ℕ) (a : Spacing) (ts r : Input) → IsFirst token escaped size a ts r → ts.last ≤ r.last
 token_ahead token escaped size a ts r h = let x = first_ahead token escaped size a ts r h in let b = x.begins in let e = x.ends in omega (arith, b, e)
 
 same_ahead : (ts r : Input) → ts ≡ r → ts.last ≤ r.last
 same_ahead ts r e = let f : ts.last ≡ r.last = ap (λ (i : Input). i.last) e in omega (arith, f)
 
-said_ahead : (goal : LexicalGoal) (own : List ℕ) (a : Gap) (ts : Input) (b : Gap) (r : Input) → IsSaid goal own a ts b r → ts.last ≤ r.last
+said_ahead : (goal : LexicalGoal) (own : List ℕ) (a : Spacing) (ts : Input) (b : Spacing) (r : Input) → IsSaid goal own a ts b r → ts.last ≤ r.last
 said_ahead goal own a ts b r h = token_ahead _ _ _ a ts r h.first
 
-piece_ahead : (x : Piece) (a : Gap) (ts : Input) (b : Gap) (r : Input) → SaysPiece x a ts b r → ts.last ≤ r.last
+piece_ahead : (x : Piece) (a : Spacing) (ts : Input) (b : Spacing) (r : Input) → SaysPiece x a ts b r → ts.last ≤ r.last
 piece_ahead (Text span own) a ts b r h = said_ahead Div own a ts b r h
 piece_ahead (Brace span) a ts b r h = said_ahead Div (codes "}") a ts b r h
 piece_ahead Blank a ts b r h = same_ahead ts r h.1
@@ -62,18 +62,18 @@ piece_ahead (Mark pos) a ts b r h = same_ahead ts r h.1
 then_ahead : (ts m r : Input) → ts.last ≤ m.last → m.last ≤ r.last → ts.last ≤ r.last
 then_ahead ts m r p q = omega (arith, p, q)
 
-texts_ahead : (texts : List (List ℕ)) (a : Gap) (ts : Input) (b : Gap) (r : Input) → SaysTexts texts a ts b r → ts.last ≤ r.last
+texts_ahead : (texts : List (List ℕ)) (a : Spacing) (ts : Input) (b : Spacing) (r : Input) → SaysTexts texts a ts b r → ts.last ≤ r.last
 texts_ahead [] a ts b r h = same_ahead ts r h.1
 texts_ahead (own ∷ others) a ts b r h = then_ahead ts h.1 r (said_ahead Div own a ts h.0 h.1 h.2) (texts_ahead others h.0 h.1 b r h.3)
 
-meaning_ahead : (m : Meaning) (a : Gap) (ts : Input) (b : Gap) (r : Input) → SaysMeaning m a ts b r → ts.last ≤ r.last
+meaning_ahead : (m : Meaning) (a : Spacing) (ts : Input) (b : Spacing) (r : Input) → SaysMeaning m a ts b r → ts.last ≤ r.last
 meaning_ahead (regular_expression body flags) a ts b r h = said_ahead _ _ a ts b r h
 meaning_ahead (template_characters own) a ts b r h = said_ahead _ own a ts b r h
 meaning_ahead (template_end own) a ts b r h = said_ahead _ own a ts b r h
 meaning_ahead (hashbang_comment own) a ts b r h = token_ahead _ _ _ a ts r h.first
 meaning_ahead (touching texts) a ts b r h = texts_ahead texts a ts b r h
 
-ahead : (N : ℕ → ℕ → Type 0) (f : Laid) (a : Gap) (ts : Input) (b : Gap) (r : Input) → Says N f a ts b r → ts.last ≤ r.last
+ahead : (N : ℕ → ℕ → Type 0) (f : Laid) (a : Spacing) (ts : Input) (b : Spacing) (r : Input) → Says N f a ts b r → ts.last ≤ r.last
 ahead N nothing a ts b r h = same_ahead ts r h.1
 ahead N (one x) a ts b r h = piece_ahead x a ts b r h
 ahead N (meant m) a ts b r h = meaning_ahead m a ts b r h
@@ -83,11 +83,11 @@ ahead N refused a ts b r h = absurd h
 
 -- ---- what holds of names within the tokens
 
-some_text : (own : List ℕ) (a : Gap) (ts : Input) (b : Gap) (r : Input) → IsSaid Div own a ts b r → 0 < length own
+some_text : (own : List ℕ) (a : Spacing) (ts : Input) (b : Spacing) (r : Input) → IsSaid Div own a ts b r → 0 < length own
 some_text [] a ts b r h = absurd (no_outside Div h.lexeme (subst (λ (cs : List ℕ). IsLexeme Div cs h.lexeme []) chars-nil h.is_own))
 some_text (c ∷ cs) a ts b r h = omega arith
 
-says_within : (N M : ℕ → ℕ → Type 0) (f : Laid) (a : Gap) (ts : Input) (b : Gap) (r : Input) → Says N f a ts b r
+says_within : (N M : ℕ → ℕ → Type 0) (f : Laid) (a : Spacing) (ts : Input) (b : Spacing) (r : Input) → Says N f a ts b r
     → ((pos at : ℕ) → ts.last ≤ at → at < r.last → N pos at → M pos at) → Says M f a ts b r
 says_within N M nothing a ts b r h go = h
 says_within N M (one x) a ts b r h go = h
@@ -106,7 +106,7 @@ says_within N M refused a ts b r h go = h
 -- ---- the name at a place
 
 -- where the name that begins at a place was read
-find : (N : ℕ → ℕ → Type 0) (f : Laid) (a : Gap) (ts : Input) (b : Gap) (r : Input) → Says N f a ts b r → ℕ → Option ℕ
+find : (N : ℕ → ℕ → Type 0) (f : Laid) (a : Spacing) (ts : Input) (b : Spacing) (r : Input) → Says N f a ts b r → ℕ → Option ℕ
 find N nothing a ts b r h at = None
 find N (one x) a ts b r h at = None
 find N (meant m) a ts b r h at = None
@@ -114,7 +114,7 @@ find N (named pos own) a ts b r h at = if at == lo ts then Some pos.0 else None
 find N (both f g) a ts b r h at = if nat_lt at h.1.last then find N f a ts h.0 h.1 h.2 at else find N g h.0 h.1 b r h.3 at
 find N refused a ts b r h at = None
 
-found_stands : (N : ℕ → ℕ → Type 0) (f : Laid) (a : Gap) (ts : Input) (b : Gap) (r : Input) (h : Says N f a ts b r) (pos at : ℕ) → find N f a ts b r h at ≡ Some pos → N pos at
+found_stands : (N : ℕ → ℕ → Type 0) (f : Laid) (a : Spacing) (ts : Input) (b : Spacing) (r : Input) (h : Says N f a ts b r) (pos at : ℕ) → find N f a ts b r h at ≡ Some pos → N pos at
 unfolding find
 found_stands N nothing a ts b r h pos at e = absurd cc
 found_stands N (one x) a ts b r h pos at e = absurd cc
@@ -132,7 +132,7 @@ found_stands N (both f g) a ts b r h pos at e = by (nat_lt at h.1.last) (λ k. f
     by false first second e = second e
 found_stands N refused a ts b r h pos at e = absurd h
 
-names_found : (N : ℕ → ℕ → Type 0) (f : Laid) (a : Gap) (ts : Input) (b : Gap) (r : Input) (h : Says N f a ts b r) → Says (λ pos at. find N f a ts b r h at ≡ Some pos) f a ts b r
+names_found : (N : ℕ → ℕ → Type 0) (f : Laid) (a : Spacing) (ts : Input) (b : Spacing) (r : Input) (h : Says N f a ts b r) → Says (λ pos at. find N f a ts b r h at ≡ Some pos) f a ts b r
 unfolding find
 names_found N nothing a ts b r h = h
 names_found N (one x) a ts b r h = h

@@ -1,4 +1,4 @@
--- Expressions and patterns that spell tokens.
+-- Expressions and patterns that produce tokens.
 use Rattle.std.proofs.Common.{◌≡◌, ℕ, ◌+◌, ◌≤◌, ◌⊎◌, inl, inr, ⊎_elim, Bool, true, false, ◌&&◌, ◌||◌, not, List, [], ◌∷◌, Option, Some, None, refl, sym, ap, subst, ◌∙◌, arith}
 use Rattle.std.specs.Prelude.{◌==◌, nat_le, codes, if◌then◌else◌, is_some}
 use Rattle.std.proofs.lemmas.Bool.{cases_Bool, false≢true, true≢false, and_parts, not-true, or_cases}
@@ -9,16 +9,16 @@ use Rattle.ecma_syntax.specs.Input.{Input, Code}
 use Rattle.ecma_syntax.specs.Operators.{assignment_level, expression_level, call_level, unary_level, member_level}
 use Rattle.ecma_syntax.specs.Shape.{level, is_element, is_prop, is_key, is_private, is_word_name, is_absent}
 use Rattle.ecma_edge.specs.Edges.{starts_with_word, ends_with_word, is_there, last_ends_with_word}
-use Rattle.ecma_grammar.specs.Grammar.{Spells, parts}
+use Rattle.ecma_grammar.specs.Grammar.{Produces, children}
 use Rattle.ecma_layout.specs.declared.look.Look.{Look}
 use Rattle.ecma_layout.specs.declared.look.Stand.{Stand}
 use Rattle.ecma_layout.specs.declared.look.Stand.TheVariants.{Alone, Body, Key, Tagged}
-use Rattle.ecma_grammar.specs.Parts.{is_ident, Part, part, By, Sorted, Listed, Expr, CommaThen}
+use Rattle.ecma_grammar.specs.Children.{is_ident, Child, child, By, Sorted, Listed, Expr, CommaThen}
 use Rattle.ecma_grammar.specs.Expressions.{ArgumentList, ImportArguments, ImportCall, Call, Member, SuperProperty, Dotted, Bracketed, AccessedName, ChainMember, ChainCall, TemplateSpans, Yield, Sequence}
 use Rattle.ecma_grammar.specs.Patterns.{Item as PatternItem, Property}
 use Rattle.ecma_layout.specs.Layout.{laid, count}
 use Rattle.ecma_layout.specs.Looks.{Laid, ◌·◌, text, start}
-use Rattle.ecma_written_tiles.specs.Classes.{State, Operated, Operator}
+use Rattle.ecma_written_tiles.specs.Categories.{State, Operated, Operator}
 use Rattle.ecma_written_laws.proofs.Marks.{equals_mark}
 use Rattle.ecma_written_laws.proofs.Admits.{admits, leaves, unstarred, leaves_end, is_ended, is_nothing, numeric}
 use Rattle.ecma_written_laws.proofs.Steps.{Steps, ◌▸◌, at, ends, mark, text_by}
@@ -61,22 +61,22 @@ module _ (look : Look) where
 
   -- ---- templates
 
-  pub spans_count : (tagged : Bool) (c : Code) (es qs : Trees) (ts r : Input) → TemplateSpans tagged c (parts es) (parts qs) ts r → count qs ≡ count es + 1
+  pub spans_count : (tagged : Bool) (c : Code) (es qs : Trees) (ts r : Input) → TemplateSpans tagged c (children es) (children qs) ts r → count qs ≡ count es + 1
   spans_count tagged c es none ts r h = absurd (no_spans es h)
     where
-      no_spans : (es : Trees) → TemplateSpans tagged c (parts es) [] ts r → ⊥
+      no_spans : (es : Trees) → TemplateSpans tagged c (children es) [] ts r → ⊥
       no_spans none h = h
       no_spans (more e es) h = h
   spans_count tagged c none (more q none) ts r h = refl
   spans_count tagged c none (more q (more p qs)) ts r h = absurd h.1
   spans_count tagged c (more e es) (more q qs) ts r h = ap (λ n. n + 1) (spans_count tagged c es qs _ _ h.10)
 
-  pub spans_good : (tagged : Bool) (c : Code) (es qs : Trees) → AllSound look es → (ts r : Input) → TemplateSpans tagged c (parts es) (parts qs) ts r → AllGood look es
+  pub spans_good : (tagged : Bool) (c : Code) (es qs : Trees) → AllSound look es → (ts r : Input) → TemplateSpans tagged c (children es) (children qs) ts r → AllGood look es
   spans_good tagged c none qs a ts r h = tt
   spans_good tagged c (more e es) none a ts r h = absurd h
   spans_good tagged c (more e es) (more q qs) a ts r h = (a.0 _ _ _ h.8.1, spans_good tagged c es qs a.1 _ _ h.10)
 
-  pub spans_whole : (tagged : Bool) (c : Code) (es qs : Trees) (ts r : Input) → TemplateSpans tagged c (parts es) (parts qs) ts r → Wholes es
+  pub spans_whole : (tagged : Bool) (c : Code) (es qs : Trees) (ts r : Input) → TemplateSpans tagged c (children es) (children qs) ts r → Wholes es
   spans_whole tagged c none qs ts r h = tt
   spans_whole tagged c (more e es) none ts r h = absurd h
   spans_whole tagged c (more e es) (more q qs) ts r h = (whole_level e h.8.0, spans_whole tagged c es qs _ _ h.10)
@@ -92,23 +92,23 @@ module _ (look : Look) where
   pub member_bracketed : (s : Span) (o : Tree) (t : Span) (e : Tree) → IsObject look o → Sound look o → Sound look e → Sound look (member_expr s o (computed_prop_name t e))
   member_bracketed s o t e i f g c ts r h = bracket_member look s o t e i (f _ _ _ h.2.1) h.2.0 (g _ _ _ h.3.3.1)
 
-  pub member_dotted : (s : Span) (o k : Tree) → IsObject look o → Sound look o → Sound look k → (c : Code) (ts r : Input) → Member c s (part o (λ y. Spells o y)) (λ m n. Dotted true c (part k (λ y. Spells k y)) m n) ts r → Good look (member_expr s o k)
+  pub member_dotted : (s : Span) (o k : Tree) → IsObject look o → Sound look o → Sound look k → (c : Code) (ts r : Input) → Member c s (child o (λ y. Produces o y)) (λ m n. Dotted true c (child k (λ y. Produces k y)) m n) ts r → Good look (member_expr s o k)
   member_dotted s o k i f g c ts r h = word_member look s o k i (f _ _ _ h.2.1) h.2.0 (g _ _ _ h.3.2.1) h.3.2.0
 
   pub super_bracket : (s t q : Span) (e : Tree) → Sound look e → Sound look (super_prop_expr s (super t) (computed_prop_name q e))
   super_bracket s t q e g c ts r h = super_bracketed look s t q e (g _ _ _ h.3.3.1)
 
-  pub super_word : (s t : Span) (k : Tree) → Sound look k → (c : Code) (ts r : Input) → SuperProperty c s t (λ m n. Dotted false c (part k (λ y. Spells k y)) m n) ts r → Good look (super_prop_expr s (super t) k)
+  pub super_word : (s t : Span) (k : Tree) → Sound look k → (c : Code) (ts r : Input) → SuperProperty c s t (λ m n. Dotted false c (child k (λ y. Produces k y)) m n) ts r → Good look (super_prop_expr s (super t) k)
   super_word s t k g c ts r h = super_dotted look s t k (g _ _ _ h.3.2.1) (word_or (is_word_name k) (is_private k) h.3.2.0)
 
   pub called_super : (s t : Span) (xs : Trees) → AllSound look xs → Sound look (call_expr s (super t) xs)
   called_super s t xs a c ts r h = super_call look s t xs (all_sorted look is_element false c right_paren_kind xs a _ _ h.3.2)
 
-  import_arguments : (c : Code) (xs : Trees) → AllSound look xs → (ts r : Input) → ImportArguments c (parts xs) ts r → AllGood look xs
+  import_arguments : (c : Code) (xs : Trees) → AllSound look xs → (ts r : Input) → ImportArguments c (children xs) ts r → AllGood look xs
   import_arguments c none a ts r h = tt
   import_arguments c (more x xs) a ts r h = either_by c.syntax.import_attributes _ _ h.1 (λ k. all_sorted look is_element false c right_paren_kind (more x xs) a _ _ k.1) (λ k. (a.0 _ _ _ k.2.1, none_good look xs k.0))
 
-  pub import_whole : (c : Code) (xs : Trees) (ts r : Input) → ImportArguments c (parts xs) ts r → Wholes xs
+  pub import_whole : (c : Code) (xs : Trees) (ts r : Input) → ImportArguments c (children xs) ts r → Wholes xs
   import_whole c none ts r h = tt
   import_whole c (more x xs) ts r h = either_by c.syntax.import_attributes _ _ h.1 (λ k. wholes_sorted is_element (λ s t w u. refl) (λ s b l. refl) (λ s b l. refl) (λ s p b. refl) false c right_paren_kind (more x xs) _ _ k.1) (λ k. (whole_test is_element (λ s t w u. refl) (λ s b l. refl) (λ s b l. refl) (λ s p b. refl) x k.2.0, none_whole xs k.0))
 
@@ -123,7 +123,7 @@ module _ (look : Look) where
   chain_bracketed s false t o b e i f g c ts r h = on_bracket look s t o b e h.1 (f _ _ _ h.2) (g _ _ _ h.3.3.1)
 
   pub chain_dotted : (s : Span) (q : Bool) (t : Span) (o k : Tree) → IsObject look o → Sound look o → Sound look k → (c : Code) (ts r : Input)
-      → ChainMember c s q t (part o (λ y. Spells o y)) (λ m n. Dotted true c (part k (λ y. Spells k y)) m n) (λ m n. AccessedName true c (part k (λ y. Spells k y)) m n) ts r → Good look (opt_chain_expr s q (member_expr t o k))
+      → ChainMember c s q t (child o (λ y. Produces o y)) (λ m n. Dotted true c (child k (λ y. Produces k y)) m n) (λ m n. AccessedName true c (child k (λ y. Produces k y)) m n) ts r → Good look (opt_chain_expr s q (member_expr t o k))
   chain_dotted s true t o k i f g c ts r h = asked_word look s t o k i (f _ _ _ h.2.1) h.2.0 (g _ _ _ h.4.1) h.4.0
   chain_dotted s false t o k i f g c ts r h = on_word look s t o k h.1 (f _ _ _ h.2) (g _ _ _ h.3.2.1) h.3.2.0
 
@@ -143,7 +143,7 @@ module _ (look : Look) where
   yield_bare s true c ts r h = absurd (true≢false h.0)
   yield_bare s false c ts r h = yield_node look s absent (λ i. absurd (false≢true i))
 
-  pub yields : (s : Span) (e : Tree) (g : Bool) → Sound look e → (c : Code) (ts r : Input) → Yield c s (part e (λ y. Spells e y)) g ts r → Good look (yield_expr s e g)
+  pub yields : (s : Span) (e : Tree) (g : Bool) → Sound look e → (c : Code) (ts r : Input) → Yield c s (child e (λ y. Produces e y)) g ts r → Good look (yield_expr s e g)
   yields s e false f c ts r h = yield_node look s e (λ i. (f _ _ _ h.4.1, assigned e h.4.0))
   yields s e true f c ts r h = delegate_node look s e (there_of e (assigned e h.6.0)) (f _ _ _ h.6.1) (assigned e h.6.0)
 

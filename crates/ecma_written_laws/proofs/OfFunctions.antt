@@ -1,4 +1,4 @@
--- Functions and classes that spell tokens.
+-- Functions and classes that produce tokens.
 use Rattle.std.proofs.Common.{◌≡◌, ℕ, ◌+◌, ◌≤◌, ◌⊎◌, inl, inr, ⊎_elim, Bool, true, false, ◌&&◌, ◌||◌, not, List, [], ◌∷◌, Option, Some, None, refl, sym, ap, subst, ◌∙◌, arith}
 use Rattle.std.specs.Prelude.{◌==◌, nat_le, codes, if◌then◌else◌, is_some}
 use Rattle.std.proofs.lemmas.Bool.{cases_Bool, false≢true, true≢false, and_parts, not-true, or_cases}
@@ -10,16 +10,16 @@ use Rattle.ecma_syntax.specs.Input.{Input, Code, setting, turned_strict, with_in
 use Rattle.ecma_syntax.specs.Operators.{assignment_level, new_level}
 use Rattle.ecma_syntax.specs.Shape.{level, is_param, is_key, is_private, is_item, is_member, is_block, is_bound_name, is_item_pat, FunctionParts, count_of}
 use Rattle.ecma_edge.specs.Edges.{starts_with_word, ends_with_word, is_there, last_ends_with_word}
-use Rattle.ecma_grammar.specs.Grammar.{Spells, parts}
+use Rattle.ecma_grammar.specs.Grammar.{Produces, children}
 use Rattle.ecma_layout.specs.declared.look.Look.{Look}
 use Rattle.ecma_layout.specs.declared.look.Stand.{Stand}
 use Rattle.ecma_layout.specs.declared.look.Stand.TheVariants.{Alone, Body, Key, Tagged}
-use Rattle.ecma_grammar.specs.Parts.{is_ident, Part, part, By, IsEmpty, Sorted, Listed, Maybe}
+use Rattle.ecma_grammar.specs.Children.{is_ident, Child, child, By, IsEmpty, Sorted, Listed, Maybe}
 use Rattle.ecma_grammar.specs.Statements.{ClosesBlock}
 use Rattle.ecma_grammar.specs.Functions.{Parameters, SetParameter, Closes, Body as BodyOf, Function, ArrowPattern, ArrowParameters, BareName, ArrowExpression, Method, Members, ClassTail}
 use Rattle.ecma_layout.specs.Layout.{laid}
 use Rattle.ecma_layout.specs.Looks.{Laid, ◌·◌, gap}
-use Rattle.ecma_written_tiles.specs.Classes.{State, Fresh, Clear, Shut, Worded, is_open, is_wordless}
+use Rattle.ecma_written_tiles.specs.Categories.{State, Fresh, Clear, Shut, Worded, is_open, is_wordless}
 use Rattle.ecma_written_laws.proofs.Keywords.{catch_word}
 use Rattle.ecma_written_laws.proofs.Admits.{admits, leaves, admits_open, is_ended, is_free, free_open, free_admits}
 use Rattle.ecma_written_laws.proofs.Steps.{Steps, ◌▸◌, ends, at, either, mark, worded, gaps, when_goes}
@@ -49,14 +49,14 @@ module _ (look : Look) where
   parameter s none p f c ts r h = param_node look s p (f _ _ _ h.2) (item_plain true p h.1)
   parameter s (more d ds) p f c ts r h = absurd h.0
 
-  parameters : (ps : Trees) → AllSound look ps → (c : Code) (ts r : Input) → Parameters c (parts ps) ts r → AllGood look ps
+  parameters : (ps : Trees) → AllSound look ps → (c : Code) (ts r : Input) → Parameters c (children ps) ts r → AllGood look ps
   parameters ps a c ts r h = all_sorted look is_param false c right_paren_kind ps a _ _ h.2
 
-  set_parameter : (ps : Trees) → AllSound look ps → (c : Code) (ts r : Input) → SetParameter c (parts ps) ts r → AllGood look ps
+  set_parameter : (ps : Trees) → AllSound look ps → (c : Code) (ts r : Input) → SetParameter c (children ps) ts r → AllGood look ps
   set_parameter none a c ts r h = absurd h
   set_parameter (more p ps) a c ts r h = (a.0 _ _ _ h.5.1, none_good look ps h.2)
 
-  body : (b : Span) (ss : Trees) → AllSound look ss → (c : Code) (ts r : Input) → BodyOf c b (parts ss) ts r → AllItems look ss
+  body : (b : Span) (ss : Trees) → AllSound look ss → (c : Code) (ts r : Input) → BodyOf c b (children ss) ts r → AllItems look ss
   body b ss a c ts r h = all_items look Closes c true ss a _ _ h.2
 
   -- the parameters and the body of a function, and the parts of a class
@@ -65,10 +65,10 @@ module _ (look : Look) where
   Inside (class at' ds ms p) = AllSound look ms × Sound look p
   Inside _ = Unit {0}
 
-  pub function_params : (c : Code) (ps ds : Trees) (b : Span) (ss : Trees) (g w : Bool) → AllSound look ps → (ts r : Input) → Function c (parts ps) (parts ds) b (parts ss) g w ts r → AllGood look ps
+  pub function_params : (c : Code) (ps ds : Trees) (b : Span) (ss : Trees) (g w : Bool) → AllSound look ps → (ts r : Input) → Function c (children ps) (children ds) b (children ss) g w ts r → AllGood look ps
   function_params c ps ds b ss g w a ts r h = either_by c.sets _ _ h.2 (λ z. set_parameter ps a _ ts h.0 z) (λ z. parameters ps a _ ts h.0 z)
 
-  pub function_items : (c : Code) (ps ds : Trees) (b : Span) (ss : Trees) (g w : Bool) → AllSound look ss → (ts r : Input) → Function c (parts ps) (parts ds) b (parts ss) g w ts r → AllItems look ss
+  pub function_items : (c : Code) (ps ds : Trees) (b : Span) (ss : Trees) (g w : Bool) → AllSound look ss → (ts r : Input) → Function c (children ps) (children ds) b (children ss) g w ts r → AllItems look ss
   function_items c ps ds b ss g w a ts r h = body b ss a _ h.0 r h.3
 
   pub function_tree : (at' : Span) (ps ds : Trees) (b : Span) (ss : Trees) (g w : Bool) → AllSound look ps → AllSound look ss → Sound look (function at' ps ds (block_stmt b ss) g w)
@@ -87,10 +87,10 @@ module _ (look : Look) where
   function_expressed s n (function at' ps ds _ g w) p q c ts r h = absurd h.4
   function_expressed s n _ p q c ts r h = absurd h
 
-  arrow_parameters : (ps : Trees) → AllSound look ps → (c : Code) (ts r : Input) → ArrowParameters c (parts ps) ts r → AllGood look ps
+  arrow_parameters : (ps : Trees) → AllSound look ps → (c : Code) (ts r : Input) → ArrowParameters c (children ps) ts r → AllGood look ps
   arrow_parameters ps a c ts r (inl h) = bare ps a h
     where
-      bare : (ps : Trees) → AllSound look ps → BareName c (parts ps) ts r → AllGood look ps
+      bare : (ps : Trees) → AllSound look ps → BareName c (children ps) ts r → AllGood look ps
       bare none a h = absurd h
       bare (more p ps) a h = (a.0 _ _ _ h.1.1, none_good look ps h.0)
   arrow_parameters ps a c ts r (inr h) = listed look (ArrowPattern c) (λ t f m n k. f _ _ _ k.1) false c right_paren_kind ps a _ _ h.2
@@ -98,14 +98,14 @@ module _ (look : Look) where
   pub arrow_block : (s : Span) (ps : Trees) (b : Span) (ss : Trees) (w : Bool) → AllSound look ps → AllSound look ss → Sound look (arrow_expr s ps (block_stmt b ss) w)
   arrow_block s ps b ss w a i c ts r h = arrow_good look s ps (block_stmt b ss) w (arrow_parameters ps a c _ _ h.1.3) (block_good look b ss (body b ss i _ h.0 r h.2)) (λ e. absurd (true≢false e))
 
-  pub arrow_expression : (s : Span) (ps : Trees) (e : Tree) (w : Bool) → AllSound look ps → Sound look e → (c : Code) (ts r : Input) → ArrowExpression c s (parts ps) (part e (λ y. Spells e y)) w ts r → Good look (arrow_expr s ps e w)
+  pub arrow_expression : (s : Span) (ps : Trees) (e : Tree) (w : Bool) → AllSound look ps → Sound look e → (c : Code) (ts r : Input) → ArrowExpression c s (children ps) (child e (λ y. Produces e y)) w ts r → Good look (arrow_expr s ps e w)
   arrow_expression s ps e w a f c ts r h = arrow_good look s ps e w (arrow_parameters ps a c _ _ h.1.3) (f _ _ _ h.3.1) (λ i. assigned e h.3.0)
 
   -- ---- methods
 
   abbrev Method_of : Code → ℕ → Tree → Span → Trees → Trees → Span → Trees → Bool → Bool → Input → Input → Type 0
-  Method_of c k key at' ps ds b ss g w ts r = Method c k (part key (λ y. Spells key y)) (record { span = at'; generator = g; async = w; count = count_of ps })
-      (part (function at' ps ds (block_stmt b ss) g w) (λ y. Spells (function at' ps ds (block_stmt b ss) g w) y)) ts r
+  Method_of c k key at' ps ds b ss g w ts r = Method c k (child key (λ y. Produces key y)) (record { span = at'; generator = g; async = w; count = count_of ps })
+      (child (function at' ps ds (block_stmt b ss) g w) (λ y. Produces (function at' ps ds (block_stmt b ss) g w) y)) ts r
 
   method_key : (c : Code) (k : ℕ) (key : Tree) (at' : Span) (ps ds : Trees) (b : Span) (ss : Trees) (g w : Bool) → Sound look key → (ts r : Input) → Method_of c k key at' ps ds b ss g w ts r → Good look key
   method_key c k key at' ps ds b ss g w f ts r h = either_by (k == plain_method) _ _ h (λ z. f _ _ _ z.3) (λ z. f _ _ _ z.6)
@@ -116,7 +116,7 @@ module _ (look : Look) where
   method_items : (c : Code) (k : ℕ) (key : Tree) (at' : Span) (ps ds : Trees) (b : Span) (ss : Trees) (g w : Bool) → AllSound look ss → (ts r : Input) → Method_of c k key at' ps ds b ss g w ts r → AllItems look ss
   method_items c k key at' ps ds b ss g w a ts r h = either_by (k == plain_method) _ _ h (λ z. function_items (setting false c) ps ds b ss g w a z.1 r z.4) (λ z. function_items (setting (k == set_kind) c) ps ds b ss g w a z.1 r z.7)
 
-  method_bare : (c : Code) (k : ℕ) (key : Tree) (at' : Span) (ps ds : Trees) (b : Span) (ss : Trees) (g w : Bool) → (ts r : Input) → Method_of c k key at' ps ds b ss g w ts r → IsEmpty (parts ds)
+  method_bare : (c : Code) (k : ℕ) (key : Tree) (at' : Span) (ps ds : Trees) (b : Span) (ss : Trees) (g w : Bool) → (ts r : Input) → Method_of c k key at' ps ds b ss g w ts r → IsEmpty (children ds)
   method_bare c k key at' ps ds b ss g w ts r h = either_by (k == plain_method) _ _ h (λ z. z.4.1) (λ z. z.7.1)
 
   method_kind : (c : Code) (k : ℕ) (key : Tree) (at' : Span) (ps ds : Trees) (b : Span) (ss : Trees) (g w : Bool) → (ts r : Input) → Method_of c k key at' ps ds b ss g w ts r → (k == plain_method) ≡ false → ((k ≡ get_kind) ⊎ (k ≡ set_kind))
@@ -136,11 +136,11 @@ module _ (look : Look) where
 
   -- ---- classes
 
-  pub members : (ms : Trees) → AllSound look ms → (c : Code) (ts r : Input) → Members c (parts ms) ts r → AllRows look ms
+  pub members : (ms : Trees) → AllSound look ms → (c : Code) (ts r : Input) → Members c (children ms) ts r → AllRows look ms
   members none a c ts r h = tt
   members (more m ms) a c ts r h = ((a.0 _ _ _ h.1.1, member_ended m h.1.0), members ms a.1 c _ _ h.2)
 
-  pub heritage : (p : Tree) → Sound look p → (ds ms : Trees) (c : Code) (ts r : Input) → ClassTail c (parts ds) (parts ms) (part p (λ y. Spells p y)) ts r → is_there p ≡ true → Good look p × (1 ≤ level p)
+  pub heritage : (p : Tree) → Sound look p → (ds ms : Trees) (c : Code) (ts r : Input) → ClassTail c (children ds) (children ms) (child p (λ y. Produces p y)) ts r → is_there p ≡ true → Good look p × (1 ≤ level p)
   heritage p f ds ms c ts r h i = let q = by_there p _ _ h.3 i in (f _ _ _ q.2.1, omega (arith, q.2.0))
 
   pub class_tree : (at' : Span) (ds ms : Trees) (p : Tree) → AllSound look ms → Sound look (class at' ds ms p)

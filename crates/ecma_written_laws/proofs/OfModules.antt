@@ -1,4 +1,4 @@
--- Imports and exports that spell tokens.
+-- Imports and exports that produce tokens.
 use Rattle.std.proofs.Common.{◌≡◌, ℕ, ◌+◌, ◌≤◌, ◌⊎◌, inl, inr, ⊎_elim, Bool, true, false, ◌&&◌, ◌||◌, not, List, [], ◌∷◌, Option, Some, None, refl, sym, ap, subst, ◌∙◌, arith}
 use Rattle.std.specs.Prelude.{◌==◌, nat_le, codes, if◌then◌else◌, is_some}
 use Rattle.std.proofs.lemmas.Bool.{cases_Bool, false≢true, true≢false, and_parts, not-true, or_cases}
@@ -10,11 +10,11 @@ use Rattle.ecma_syntax.specs.Input.{Input, Code, in_list, with_in, turned_strict
 use Rattle.ecma_syntax.specs.Operators.{assignment_level, new_level}
 use Rattle.ecma_syntax.specs.Shape.{level, is_absent, is_string, is_attributes, export_name, is_named_import, is_named_export, is_star_import, is_default_import, is_star_export}
 use Rattle.ecma_edge.specs.Edges.{starts_with_word, ends_with_word, is_there, last_ends_with_word}
-use Rattle.ecma_grammar.specs.Grammar.{Spells, parts}
+use Rattle.ecma_grammar.specs.Grammar.{Produces, children}
 use Rattle.ecma_layout.specs.declared.look.Look.{Look}
 use Rattle.ecma_layout.specs.declared.look.Stand.{Stand}
 use Rattle.ecma_layout.specs.declared.look.Stand.TheVariants.{Alone, Body, Key, Tagged}
-use Rattle.ecma_grammar.specs.Parts.{is_ident, Part, part, By, IsEmpty, Sorted, Listed}
+use Rattle.ecma_grammar.specs.Children.{is_ident, Child, child, By, IsEmpty, Sorted, Listed}
 use Rattle.ecma_grammar.specs.Modules.{ExportName, NamedImports, AfterDefault, ImportClause, Source, NamedExports, ExportList, Specified}
 use Rattle.ecma_written_laws.proofs.Forms.{Good, AllGood, Sound, AllSound, all_sorted, not_absent}
 use Rattle.ecma_written_laws.proofs.Patterns.{PlainPart}
@@ -30,29 +30,29 @@ string_plain : (t : Tree) → is_string t ≡ true → PlainPart t
 string_plain (str_lit s u w) e = record { plain = refl; opens = refl; no_star = refl }
 string_plain _ e = absurd (false≢true e)
 
-none_named : (xs : Trees) → IsEmpty (parts xs) → AllNamed xs
+none_named : (xs : Trees) → IsEmpty (children xs) → AllNamed xs
 none_named none h = tt
 none_named (more x xs) h = absurd h
 
-named_of : (c : Code) (close : ℕ) (xs : Trees) (ts r : Input) → Listed false (Sorted is_named_import c) c close (parts xs) ts r → AllNamed xs
+named_of : (c : Code) (close : ℕ) (xs : Trees) (ts r : Input) → Listed false (Sorted is_named_import c) c close (children xs) ts r → AllNamed xs
 named_of c close none ts r h = tt
 named_of c close (more x xs) ts r h = (h.1.0, ⊎_elim (λ z. named_of c close xs _ _ z.3) (λ z. none_named xs z.0) h.2)
 
-none_exported : (xs : Trees) → IsEmpty (parts xs) → AllExported xs
+none_exported : (xs : Trees) → IsEmpty (children xs) → AllExported xs
 none_exported none h = tt
 none_exported (more x xs) h = absurd h
 
-exported_of : (c : Code) (close : ℕ) (xs : Trees) (ts r : Input) → Listed false (Sorted is_named_export c) c close (parts xs) ts r → AllExported xs
+exported_of : (c : Code) (close : ℕ) (xs : Trees) (ts r : Input) → Listed false (Sorted is_named_export c) c close (children xs) ts r → AllExported xs
 exported_of c close none ts r h = tt
 exported_of c close (more x xs) ts r h = (h.1.0, ⊎_elim (λ z. exported_of c close xs _ _ z.3) (λ z. none_exported xs z.0) h.2)
 
 module _ (look : Look) where
   -- a name of an export, whose word may be reserved
-  named_good : (k : Tree) → (is_ident k ≡ true → Good look k) → Sound look k → (c : Code) (ts r : Input) → ExportName c (export_name k) (part k (λ y. Spells k y)) ts r → Good look k
+  named_good : (k : Tree) → (is_ident k ≡ true → Good look k) → Sound look k → (c : Code) (ts r : Input) → ExportName c (export_name k) (child k (λ y. Produces k y)) ts r → Good look k
   named_good (ident s n) e f c ts r h = e refl
   named_good k e f c ts r h = f c ts r h.1
 
-  named_plain : (k : Tree) (c : Code) (ts r : Input) → ExportName c (export_name k) (part k (λ y. Spells k y)) ts r → PlainPart k
+  named_plain : (k : Tree) (c : Code) (ts r : Input) → ExportName c (export_name k) (child k (λ y. Produces k y)) ts r → PlainPart k
   named_plain (ident s n) c ts r h = record { plain = refl; opens = refl; no_star = refl }
   named_plain k c ts r h = string_plain k h.0
 
@@ -75,20 +75,20 @@ module _ (look : Look) where
 
   -- ---- imports
 
-  after_default : (s : Span) (l : Tree) (xs : Trees) → Good look (import_default_specifier s l) → AllSound look xs → (c : Code) (ts r : Input) → AfterDefault c (parts xs) ts r → Clause look (more (import_default_specifier s l) xs)
+  after_default : (s : Span) (l : Tree) (xs : Trees) → Good look (import_default_specifier s l) → AllSound look xs → (c : Code) (ts r : Input) → AfterDefault c (children xs) ts r → Clause look (more (import_default_specifier s l) xs)
   after_default s l none k a c ts r h = default_names look s l none k tt tt
   after_default s l (more (import_star_as_specifier t y) none) k a c ts r h = default_star look s l t y k (a.0 c h.0 r h.2.1)
   after_default s l (more (import_star_as_specifier t y) (more z zs)) k a c ts r h = absurd h.2.0
   after_default s l (more y ys) k a c ts r h = default_names look s l (more y ys) k (named_of c right_brace_kind (more y ys) h.2.0 r h.2.2) (all_sorted look is_named_import false c right_brace_kind (more y ys) a h.2.0 r h.2.2)
 
-  clause_on : (xs : Trees) → AllSound look xs → (c : Code) (ts r : Input) → ImportClause c (parts xs) ts r → Clause look xs
+  clause_on : (xs : Trees) → AllSound look xs → (c : Code) (ts r : Input) → ImportClause c (children xs) ts r → Clause look xs
   clause_on none a c ts r h = no_clause look
   clause_on (more (import_default_specifier s l) xs) a c ts r h = after_default s l xs (a.0 c ts h.1.0 h.1.1) a.1 c h.1.0 h.0 h.1.2
   clause_on (more (import_star_as_specifier s l) none) a c ts r h = star_clause look s l (a.0 c ts h.0 h.1.1)
   clause_on (more (import_star_as_specifier s l) (more z zs)) a c ts r h = absurd h.1.0
   clause_on (more x xs) a c ts r h = names_clause look x xs (named_of c right_brace_kind (more x xs) h.1.0 h.0 h.1.2) (all_sorted look is_named_import false c right_brace_kind (more x xs) a h.1.0 h.0 h.1.2)
 
-  with_on : (src w : Tree) → Sound look w → (c : Code) (ts r : Input) → Source c (part src (λ y. Spells src y)) (part w (λ y. Spells w y)) ts r → is_there w ≡ true → Good look w × (is_attributes w ≡ true)
+  with_on : (src w : Tree) → Sound look w → (c : Code) (ts r : Input) → Source c (child src (λ y. Produces src y)) (child w (λ y. Produces w y)) ts r → is_there w ≡ true → Good look w × (is_attributes w ≡ true)
   with_on src w g c ts r h i = let q = by_there w _ _ h.2 i in (g c q.1.0 q.0 q.1.4, q.1.3)
 
   pub import_on : (s : Span) (xs : Trees) (src w : Tree) → AllSound look xs → Sound look src → Sound look w → Sound look (import_decl s xs src w)
@@ -96,7 +96,7 @@ module _ (look : Look) where
 
   -- ---- exports
 
-  list_on : (s : Span) (xs : Trees) (src w : Tree) → AllSound look xs → Sound look src → Sound look w → (c : Code) (ts r : Input) → ExportList c (parts xs) (part src (λ y. Spells src y)) (part w (λ y. Spells w y)) ts r → Good look (named_export s xs src w)
+  list_on : (s : Span) (xs : Trees) (src w : Tree) → AllSound look xs → Sound look src → Sound look w → (c : Code) (ts r : Input) → ExportList c (children xs) (child src (λ y. Produces src y)) (child w (λ y. Produces w y)) ts r → Good look (named_export s xs src w)
   list_on s xs src w a f g c ts r h = export_list look s xs src w (exported_of c right_brace_kind xs h.1.0 h.0 h.1.2) (all_sorted look is_named_export false c right_brace_kind xs a h.1.0 h.0 h.1.2)
       (λ i. let q = by_there src _ _ h.2 i in (f c q.0 q.2.0 q.2.1.1, q.2.1.0))
       (λ i. either_by (is_absent src) _ _ h.2 (λ z. absurd (false≢true (sym (not_absent w i) ∙ z.0))) (λ q. with_on src w g c q.0 r q.2 i))

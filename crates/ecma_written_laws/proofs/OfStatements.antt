@@ -1,4 +1,4 @@
--- Statements that spell tokens.
+-- Statements that produce tokens.
 use Rattle.std.proofs.Common.{◌≡◌, ℕ, ◌+◌, ◌≤◌, ◌⊎◌, inl, inr, ⊎_elim, Bool, true, false, ◌&&◌, ◌||◌, not, List, [], ◌∷◌, Option, Some, None, refl, sym, ap, subst, ◌∙◌, arith}
 use Rattle.std.specs.Prelude.{◌==◌, nat_le, codes, if◌then◌else◌, is_some}
 use Rattle.std.proofs.lemmas.Bool.{cases_Bool, false≢true, true≢false, and_parts, not-true, or_cases}
@@ -9,13 +9,13 @@ use Rattle.ecma_syntax.specs.Input.{Input, Code, without_in}
 use Rattle.ecma_syntax.specs.Operators.{assignment_level, expression_level}
 use Rattle.ecma_syntax.specs.Shape.{level, is_absent, is_block, is_case, is_item, is_catch, is_statement, is_declarator, is_default_case}
 use Rattle.ecma_edge.specs.Edges.{starts_with_word, ends_with_word, is_there, last_ends_with_word}
-use Rattle.ecma_grammar.specs.Grammar.{Spells, parts}
+use Rattle.ecma_grammar.specs.Grammar.{Produces, children}
 use Rattle.ecma_layout.specs.declared.look.Look.{Look}
 use Rattle.ecma_layout.specs.declared.look.Stand.{Stand}
 use Rattle.ecma_layout.specs.declared.look.Stand.TheVariants.{Alone, Body, Key, Tagged}
-use Rattle.ecma_grammar.specs.Parts.{is_ident, Part, part, By, Sorted, Maybe, Expr, Commas}
+use Rattle.ecma_grammar.specs.Children.{is_ident, Child, child, By, Sorted, Maybe, Expr, Commas}
 use Rattle.ecma_grammar.specs.Statements.{Sub, Bindings, UsingBindings, ForRest, ForExpression, Over, ForIn, ForOf, HeadVariables, HeadUsing, HeadTarget, OfTarget, Cases, ClosesCase, ClosesBlock}
-use Rattle.ecma_written_tiles.specs.Classes.{State, Fresh, Clear, Shut, Worded, Numbered, is_wordless}
+use Rattle.ecma_written_tiles.specs.Categories.{State, Fresh, Clear, Shut, Worded, Numbered, is_wordless}
 use Rattle.ecma_written_laws.proofs.Admits.{admits, leaves, is_ended, is_nothing, is_free, and_false}
 use Rattle.ecma_written_laws.proofs.Steps.{Steps, ◌▸◌, ends}
 use Rattle.ecma_written_laws.proofs.Forms.{Good, AllGood, Sound, AllSound, maybe_good}
@@ -40,22 +40,22 @@ block_worded _ e = absurd (false≢true e)
 var_plain : (p : Span) (k : ℕ) (ds : Trees) → (is_ended (var_decl p k ds) || is_nothing (var_decl p k ds)) ≡ false
 var_plain p k ds = ap (λ b. b || false) (and_false _ false refl)
 
-pub cases_whole : (c : Code) (had : Bool) (xs : Trees) (ts r : Input) → Cases c had (parts xs) ts r → Wholes xs
+pub cases_whole : (c : Code) (had : Bool) (xs : Trees) (ts r : Input) → Cases c had (children xs) ts r → Wholes xs
 cases_whole c had none ts r h = tt
 cases_whole c had (more t xs) ts r h = (whole_test is_case (λ s t w u. refl) (λ s b l. refl) (λ s b l. refl) (λ s p b. refl) t h.2.0, cases_whole c (had || is_default_case t) xs h.0 r h.3)
 
-declared_whole : (c : Code) (ds : Trees) (ts r : Input) → Commas (Sorted is_declarator c) c (parts ds) ts r → Wholes ds
+declared_whole : (c : Code) (ds : Trees) (ts r : Input) → Commas (Sorted is_declarator c) c (children ds) ts r → Wholes ds
 declared_whole c ds ts r h = wholes_commas (Sorted is_declarator c) (λ t m o k. whole_test is_declarator (λ s t w u. refl) (λ s b l. refl) (λ s b l. refl) (λ s p b. refl) t k.0) c ds ts r h
 
-pub bindings_whole : (c : Code) (k : ℕ) (ds : Trees) (ts r : Input) → Bindings c k (parts ds) ts r → Wholes ds
+pub bindings_whole : (c : Code) (k : ℕ) (ds : Trees) (ts r : Input) → Bindings c k (children ds) ts r → Wholes ds
 bindings_whole c k ds ts r h = declared_whole c ds _ _ h.3
 
-pub using_whole : (c : Code) (w : Bool) (ds : Trees) (ts r : Input) → UsingBindings c w (parts ds) ts r → Wholes ds
+pub using_whole : (c : Code) (w : Bool) (ds : Trees) (ts r : Input) → UsingBindings c w (children ds) ts r → Wholes ds
 using_whole c false ds ts r h = declared_whole c ds _ _ h.5
 using_whole c true ds ts r h = declared_whole c ds _ _ h.9
 
 module _ (look : Look) where
-  sub : (c : Code) (b : Tree) → Sound look b → (m n : Input) → Sub c (part b (λ y. Spells b y)) m n → Item look b
+  sub : (c : Code) (b : Tree) → Sound look b → (m n : Input) → Sub c (child b (λ y. Produces b y)) m n → Item look b
   sub c b g m n h = (g _ _ _ h.1, statement_item b h.0)
 
   pub do_while : (s : Span) (t b : Tree) → Sound look t → Sound look b → Sound look (do_while_stmt s t b)
@@ -83,14 +83,14 @@ module _ (look : Look) where
   pub declared_by : (s : Span) (n e : Tree) → Sound look n → Sound look e → Sound look (var_declarator s n e)
   declared_by s n e f g c ts r h = declarator look s n e (f _ _ _ h.2) h.1 (λ i. let q = by_there e _ _ h.3 i in (g _ _ _ q.2.1, assigned e q.2.0))
 
-  bindings_good : (p : Span) (k : ℕ) (ds : Trees) → AllSound look ds → (c : Code) (ts r : Input) → Bindings c k (parts ds) ts r → Good look (var_decl p k ds)
+  bindings_good : (p : Span) (k : ℕ) (ds : Trees) → AllSound look ds → (c : Code) (ts r : Input) → Bindings c k (children ds) ts r → Good look (var_decl p k ds)
   bindings_good p k none a c ts r h = absurd h.3
   bindings_good p k (more t ds) a c ts r h = variables_good look p k t ds (var_text k h.1) (all_declared look c t ds a _ _ h.3) (bracketed_worded t ds)
 
   pub variables : (p : Span) (k : ℕ) (ds : Trees) → AllSound look ds → Sound look (var_decl p k ds)
   variables p k ds a c ts r h = bindings_good p k ds a c ts h.0 h.1
 
-  using_good : (p : Span) (w : Bool) (ds : Trees) → AllSound look ds → (c : Code) (ts r : Input) → UsingBindings c w (parts ds) ts r → Good look (using_decl p w ds)
+  using_good : (p : Span) (w : Bool) (ds : Trees) → AllSound look ds → (c : Code) (ts r : Input) → UsingBindings c w (children ds) ts r → Good look (using_decl p w ds)
   using_good p false none a c ts r h = absurd h.5
   using_good p true none a c ts r h = absurd h.9
   using_good p false (more t ds) a c ts r h = using_node look p false t ds (all_declared look c t ds a _ _ h.5)
@@ -101,11 +101,11 @@ module _ (look : Look) where
 
   -- ---- `for`
 
-  for_good : (s : Span) (i t u b : Tree) → Good look i → Sound look t → Sound look u → Sound look b → (c : Code) (ts r : Input) → ForRest c (part t (λ y. Spells t y)) (part u (λ y. Spells u y)) (part b (λ y. Spells b y)) ts r → Good look (for_stmt s i t u b)
+  for_good : (s : Span) (i t u b : Tree) → Good look i → Sound look t → Sound look u → Sound look b → (c : Code) (ts r : Input) → ForRest c (child t (λ y. Produces t y)) (child u (λ y. Produces u y)) (child b (λ y. Produces b y)) ts r → Good look (for_stmt s i t u b)
   for_good s i t u b e f g k c ts r h = for_node look s i t u b e (λ x. f _ _ _ (by_there t _ _ h.2.1 x).1) (λ x. g _ _ _ (by_there u _ _ h.3.1 x).1) (sub c b k _ _ h.4)
 
   pub for_expression : (s : Span) (i t u b : Tree) → Sound look i → Sound look t → Sound look u → Sound look b → (c : Code) (ts r : Input)
-      → ForExpression c s (part i (λ y. Spells i y)) (part t (λ y. Spells t y)) (part u (λ y. Spells u y)) (part b (λ y. Spells b y)) ts r → Good look (for_stmt s i t u b)
+      → ForExpression c s (child i (λ y. Produces i y)) (child t (λ y. Produces t y)) (child u (λ y. Produces u y)) (child b (λ y. Produces b y)) ts r → Good look (for_stmt s i t u b)
   for_expression s i t u b e f g k c ts r h = for_good s i t u b (maybe_good look _ i h.4 (λ q. e _ _ _ q.1.1)) f g k c _ _ h.6
 
   pub for_variables : (s v : Span) (k : ℕ) (ds : Trees) (t u b : Tree) → AllSound look ds → Sound look t → Sound look u → Sound look b → Sound look (for_stmt s (var_decl v k ds) t u b)
@@ -118,24 +118,24 @@ module _ (look : Look) where
   abbrev pub Heads : Tree → (Input → Input → Type 0) → Type 0
   Heads a Head = (ts r : Input) → Head ts r → Good look a × ((is_ended a || is_nothing a) ≡ false)
 
-  pub head_variables : (v : Span) (k : ℕ) (ds : Trees) → AllSound look ds → (c : Code) → Heads (var_decl v k ds) (λ m n. HeadVariables c v k (parts ds) m n)
+  pub head_variables : (v : Span) (k : ℕ) (ds : Trees) → AllSound look ds → (c : Code) → Heads (var_decl v k ds) (λ m n. HeadVariables c v k (children ds) m n)
   head_variables v k ds a c ts r h = (bindings_good v k ds a (without_in c) ts r h.1, var_plain v k ds)
 
-  pub head_using : (v : Span) (w : Bool) (ds : Trees) → AllSound look ds → (c : Code) → Heads (using_decl v w ds) (λ m n. HeadUsing c v w (parts ds) m n)
+  pub head_using : (v : Span) (w : Bool) (ds : Trees) → AllSound look ds → (c : Code) → Heads (using_decl v w ds) (λ m n. HeadUsing c v w (children ds) m n)
   head_using v w ds a c ts r h = (using_good v w ds a (without_in c) ts r h.2, refl)
 
-  pub head_target : (a : Tree) → Sound look a → (c : Code) → Heads a (λ m n. HeadTarget c (part a (λ y. Spells a y)) m n)
+  pub head_target : (a : Tree) → Sound look a → (c : Code) → Heads a (λ m n. HeadTarget c (child a (λ y. Produces a y)) m n)
   head_target a f c ts r h = (f _ _ _ h.2, (place_plain false a h.1).plain)
 
-  pub of_target : (w : Bool) (a : Tree) → Sound look a → (c : Code) → Heads a (λ m n. OfTarget c w (part a (λ y. Spells a y)) m n)
+  pub of_target : (w : Bool) (a : Tree) → Sound look a → (c : Code) → Heads a (λ m n. OfTarget c w (child a (λ y. Produces a y)) m n)
   of_target w a f c ts r h = head_target a f c ts r h.1
 
   pub for_in : (s : Span) (a e b : Tree) (c : Code) (Head : Input → Input → Type 0) → Heads a Head → Sound look e → Sound look b → (ts r : Input)
-      → ForIn c s Head (part e (λ y. Spells e y)) (part b (λ y. Spells b y)) ts r → Good look (for_in_stmt s a e b)
+      → ForIn c s Head (child e (λ y. Produces e y)) (child b (λ y. Produces b y)) ts r → Good look (for_in_stmt s a e b)
   for_in s a e b c Head d f g ts r h = let x = d _ _ h.3 in for_in_good look s a e b x.0 x.1 (f _ _ _ h.4.4.1) h.4.4.0 (sub c b g _ _ h.4.6)
 
   pub for_of : (s : Span) (w : Bool) (a e b : Tree) (c : Code) (Head : Input → Input → Type 0) → Heads a Head → Sound look e → Sound look b → (ts r : Input)
-      → ForOf c s w Head (part e (λ y. Spells e y)) (part b (λ y. Spells b y)) ts r → Good look (for_of_stmt s w a e b)
+      → ForOf c s w Head (child e (λ y. Produces e y)) (child b (λ y. Produces b y)) ts r → Good look (for_of_stmt s w a e b)
   for_of s w a e b c Head d f g ts r h = let x = d _ _ h.3 in for_of_node look s w a e b x.0 x.1 (f _ _ _ h.4.4.1) (assigned e h.4.4.0) (sub c b g _ _ h.4.6)
 
   -- ---- `switch` and `try`
@@ -143,7 +143,7 @@ module _ (look : Look) where
   pub case_on : (s : Span) (t : Tree) (ss : Trees) → Sound look t → AllSound look ss → Sound look (switch_case s t ss)
   case_on s t ss f a c ts r h = case_node look s t ss (λ i. let q = by_there t _ _ h.2 i in (f _ _ _ q.2.1, q.2.0)) (all_items look ClosesCase c false ss a _ _ h.4)
 
-  cases : (c : Code) (had : Bool) (xs : Trees) → AllSound look xs → (ts r : Input) → Cases c had (parts xs) ts r → AllRows look xs
+  cases : (c : Code) (had : Bool) (xs : Trees) → AllSound look xs → (ts r : Input) → Cases c had (children xs) ts r → AllRows look xs
   cases c had none a ts r h = tt
   cases c had (more t xs) a ts r h = ((a.0 _ _ _ h.2.1, case_ended t h.2.0), cases c (had || is_default_case t) xs a.1 _ _ h.3)
 
@@ -156,7 +156,7 @@ module _ (look : Look) where
   Held (catch_clause s p (block_stmt b ss)) = Sound look p × AllSound look ss
   Held _ = Unit {0}
 
-  handler_on : (k : Tree) → Held k → (c : Code) (ts r : Input) → Maybe (Sorted is_catch) c (part k (λ y. Spells k y)) ts r → is_there k ≡ true → (s : State) → is_free s ≡ true → Steps (Rattle.ecma_layout.specs.Layout.laid look Alone k) s (λ u. is_free u ≡ true)
+  handler_on : (k : Tree) → Held k → (c : Code) (ts r : Input) → Maybe (Sorted is_catch) c (child k (λ y. Produces k y)) ts r → is_there k ≡ true → (s : State) → is_free s ≡ true → Steps (Rattle.ecma_layout.specs.Layout.laid look Alone k) s (λ u. is_free u ≡ true)
   handler_on absent d c ts r h i s g = absurd (false≢true i)
   handler_on (catch_clause cp p (block_stmt b ss)) d c ts r h i s g = catch_on look cp p b ss (λ z. d.0 _ _ _ (by_there p _ _ h.1.3 z).4) (all_items look ClosesBlock _ false ss d.1 _ _ h.1.4.1.2) s g
   handler_on (catch_clause cp p _) d c ts r h i s g = absurd (false≢true h.1.4.0)

@@ -12,8 +12,8 @@ use Rattle.ecma_syntax.specs.Input.{Input, Code}
 use Rattle.ecma_syntax.specs.Operators.{unary_level, new_level, call_level, binary_level, right_level, operates}
 use Rattle.ecma_syntax.specs.Shape.{level, fits_left, is_item, is_statement, is_plain_function, is_absent}
 use Rattle.ecma_edge.specs.Edges.{starts_with_word, ends_with_word, is_there, is_word_operator, first_operand, gap_before, gap_after, gap_of_unary, is_plus, is_minus, is_decrement}
-use Rattle.ecma_grammar.specs.Parts.{part, By}
-use Rattle.ecma_grammar.specs.Grammar.{Spells, parts}
+use Rattle.ecma_grammar.specs.Children.{child, By}
+use Rattle.ecma_grammar.specs.Grammar.{Produces, children}
 use Rattle.ecma_layout.specs.declared.look.Look.{Look}
 use Rattle.ecma_layout.specs.declared.look.Stand.{Stand}
 use Rattle.ecma_layout.specs.declared.look.Stand.TheVariants.{Alone, Operand, Body, Head, Key}
@@ -27,7 +27,7 @@ use Rattle.ecma_written_laws.proofs.Admits.{admits, admits_word, at_least, expre
 use Rattle.ecma_written_laws.proofs.Forms.{Good, Sound, by_second, maybe_good, not_absent}
 use Rattle.ecma_written_laws.proofs.Names.{leaving}
 use Rattle.ecma_written_laws.proofs.Steps.{Steps, apart, at, committed, gaps_or, mark, nil, semicolons, shut, text_by, when_goes, worded, ◌▸◌, ends}
-use Rattle.ecma_written_tiles.specs.Classes.{Clear, Decr, Fresh, Incr, LessBanged, Minused, Numbered, Plused, Pointed, Quasied, Shut, State, Worded, behind, is_open, takes}
+use Rattle.ecma_written_tiles.specs.Categories.{Clear, Decr, Fresh, Incr, LessBanged, Minused, Numbered, Plused, Pointed, Quasied, Shut, State, Worded, behind, is_open, takes}
 
 module _ (look : Look) where
   -- ---- 13.4 update expressions

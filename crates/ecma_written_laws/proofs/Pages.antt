@@ -15,7 +15,7 @@ use Rattle.ecma_layout.specs.Looks.{Laid, nothing, one, hashbang_comment, listed
 use Rattle.ecma_lines.specs.Lines.{place_of}
 use Rattle.ecma_lines.specs.Laws.{ends_with_cr}
 use Rattle.ecma_written.proofs.Ascii.{ascii}
-use Rattle.ecma_written_tiles.specs.Classes.{Fresh, Shut}
+use Rattle.ecma_written_tiles.specs.Categories.{Fresh, Shut}
 use Rattle.ecma_written_tiles.specs.Tiles.{SaysTiles, IsEmptyPage, IsHashbangText, IsSilent}
 use Rattle.ecma_written_tiles.proofs.Items.{Item, Plain, items, spread, listed_items, goes_items, GoesAll}
 use Rattle.ecma_written_tiles.proofs.Pen.{pen, after_text, wrote}

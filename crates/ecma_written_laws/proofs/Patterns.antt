@@ -12,7 +12,7 @@ use Rattle.ecma_layout.specs.declared.look.Stand.{Stand}
 use Rattle.ecma_layout.specs.declared.look.Stand.TheVariants.{Alone, Key}
 use Rattle.ecma_layout.specs.Looks.{Laid, ◌·◌, text, when, gap, start, end}
 use Rattle.ecma_layout.specs.Layout.{laid, separated, comma, ends_with_hole, is_empty, initial}
-use Rattle.ecma_written_tiles.specs.Classes.{State, Fresh, Clear, Shut, Worded, Numbered, Pointed, Plused, Minused, Slashed, Lessed, LessBanged, Dotted, Operated, Decred, Hashed, Quasied, Dots, is_open, is_end, takes, behind, blank_behind}
+use Rattle.ecma_written_tiles.specs.Categories.{State, Fresh, Clear, Shut, Worded, Numbered, Pointed, Plused, Minused, Slashed, Lessed, LessBanged, Dotted, Operated, Decred, Hashed, Quasied, Dots, is_open, is_end, takes, behind, blank_behind}
 use Rattle.ecma_written_laws.proofs.Marks.{left_bracket, right_bracket, left_brace, colon_mark, dots_mark, equals_mark}
 use Rattle.ecma_written_laws.proofs.Admits.{admits, leaves, is_tight, is_ended, is_nothing, is_starred, starts_otherwise, numeric, passes, expression_plain, worded_admits, unstarred, admits_open, leaves_open, leaves_end, is_free, free_admits, or_none, and_false, both_true}
 use Rattle.ecma_written_laws.proofs.Steps.{Steps, At, Blanked, ◌▸◌, ends, at, either, mark, nil, text_by, shut, braced, when_goes, gaps}

@@ -14,7 +14,7 @@ use Rattle.ecma_layout.specs.declared.look.Stand.TheVariants.{Alone, Key}
 use Rattle.ecma_layout.specs.Looks.{Laid, ◌·◌, meant, touching, text, when, start, end}
 use Rattle.ecma_layout.specs.Literals.{name_bytes, key_bytes, big_bytes}
 use Rattle.ecma_layout.specs.Layout.{laid, is_key, optional_dot, word}
-use Rattle.ecma_written_tiles.specs.Classes.{State, Fresh, Clear, Shut, Worded, Numbered, Pointed, Plused, Minused, Slashed, Lessed, LessBanged, Dotted, Operated, Decred, Hashed, Quasied, Class, Word, Big, Str, Dot, Hash, Operator, is_open, is_end, is_wordless, is_digitless, takes, behind}
+use Rattle.ecma_written_tiles.specs.Categories.{State, Fresh, Clear, Shut, Worded, Numbered, Pointed, Plused, Minused, Slashed, Lessed, LessBanged, Dotted, Operated, Decred, Hashed, Quasied, Category, Word, Big, Str, Dot, Hash, Operator, is_open, is_end, is_wordless, is_digitless, takes, behind}
 use Rattle.ecma_written_tiles.specs.Goes.{Fits}
 use Rattle.ecma_written_laws.specs.Fitting.{class_of_key}
 use Rattle.ecma_written_laws.proofs.Keywords.{this_word, super_word, import_word, new_word, target_word, meta_word, true_word, false_word, null_word}

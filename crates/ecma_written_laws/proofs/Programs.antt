@@ -9,11 +9,11 @@ use Rattle.ecma_tree.specs.Tree.{Tree, Trees, none, more, script, es_module, imp
 use Rattle.ecma_syntax.specs.Input.{Input, Code}
 use Rattle.ecma_syntax.specs.Shape.{is_item, is_module_decl, is_use_strict, is_directive}
 use Rattle.ecma_edge.specs.Edges.{starts_with_word, ends_with_word, is_there, last_ends_with_word}
-use Rattle.ecma_grammar.specs.Grammar.{Spells, parts}
+use Rattle.ecma_grammar.specs.Grammar.{Produces, children}
 use Rattle.ecma_layout.specs.declared.look.Look.{Look}
 use Rattle.ecma_layout.specs.declared.look.Stand.{Stand}
 use Rattle.ecma_layout.specs.declared.look.Stand.TheVariants.{Alone, Body, Key, Tagged}
-use Rattle.ecma_grammar.specs.Parts.{Items, AtEnd, is_module_item}
+use Rattle.ecma_grammar.specs.Children.{Items, AtEnd, is_module_item}
 use Rattle.ecma_spell_number.specs.Numbers.{before_member}
 use Rattle.ecma_write.specs.Pages.{Page}
 use Rattle.ecma_layout.specs.Layout.{laid, statements, closing, is_empty}
@@ -26,7 +26,7 @@ use Rattle.ecma_redone.proofs.Found.{found}
 use Rattle.ecma_redone.proofs.Mapped.{all_mapped}
 use Rattle.ecma_written.specs.Means.{Known}
 use Rattle.ecma_lexicon.proofs.Filled.{texts_mean}
-use Rattle.ecma_written_tiles.specs.Classes.{State, Fresh, Clear, Word, Number, Big, Member, Str, Regex, Quasi, is_open}
+use Rattle.ecma_written_tiles.specs.Categories.{State, Fresh, Clear, Word, Number, Big, Member, Str, Regex, Quasi, is_open}
 use Rattle.ecma_written_tiles.specs.Goes.{Fits, GoesWhole}
 use Rattle.ecma_written_tiles.specs.Tiles.{IsEmptyPage, IsSilent}
 use Rattle.ecma_written_tiles.specs.Laws.{IsTiled}
@@ -75,7 +75,7 @@ module _ (look : Look) where
   bare_goes sp ss a = when_goes (is_empty ss) (λ e. mark) (λ e. refl) ▸ at (nil ▸ at (body_goes ss a))
 
   -- the statements of a program, as they were spelled
-  closed_items : (may : Tree → Bool) → ((t : Tree) → may t ≡ true → is_module_item t ≡ true) → (c : Code) (starts : Bool) (ss : Trees) → AllSound look ss → (ts r : Input) → Items may AtEnd c starts (parts ss) ts r → AllClosed ss
+  closed_items : (may : Tree → Bool) → ((t : Tree) → may t ≡ true → is_module_item t ≡ true) → (c : Code) (starts : Bool) (ss : Trees) → AllSound look ss → (ts r : Input) → Items may AtEnd c starts (children ss) ts r → AllClosed ss
   closed_items may g c starts none a ts r h = tt
   closed_items may g c starts (more t ts) a m r h = ((a.0 _ _ _ h.2, g t h.1), closed_items may g (if starts && is_use_strict t then Rattle.ecma_syntax.specs.Input.turned_strict c else c) (starts && is_directive t) ts a.1 h.0 r h.3)
 
@@ -99,12 +99,12 @@ module _ (look : Look) where
   abbrev knowing : Knowledge
   knowing = record { Known = Known; later = (texts_mean look.style).later }
 
-  pub script_closed : (sp : Span) (ss : Trees) (line : Option (List ℕ)) (c : Code) (ts r : Input) → Known ts.places → Spells (script sp ss line) c ts r → AllClosed ss
+  pub script_closed : (sp : Span) (ss : Trees) (line : Option (List ℕ)) (c : Code) (ts r : Input) → Known ts.places → Produces (script sp ss line) c ts r → AllClosed ss
   script_closed sp ss line c ts r k h =
       closed_items is_item (λ t e. ap (λ x. x || is_module_decl t) e) c true ss (goods look Plain ss refl (all_mapped (Read Known) (Leaf look) leaf_of Plain ss (found knowing (script sp ss line) Plain refl refl c ts r h k).0.1)
       (whole_items is_item (λ s t w u. refl) (λ s b l. refl) (λ s b l. refl) (λ s p b. refl) AtEnd c true ss h.0 r h.2)) h.0 r h.2
 
-  pub module_closed : (sp : Span) (ss : Trees) (line : Option (List ℕ)) (c : Code) (ts r : Input) → Known ts.places → Spells (es_module sp ss line) c ts r → AllClosed ss
+  pub module_closed : (sp : Span) (ss : Trees) (line : Option (List ℕ)) (c : Code) (ts r : Input) → Known ts.places → Produces (es_module sp ss line) c ts r → AllClosed ss
   module_closed sp ss line c ts r k h =
       closed_items is_module_item (λ t e. e) c true ss (goods look Plain ss refl (all_mapped (Read Known) (Leaf look) leaf_of Plain ss (found knowing (es_module sp ss line) Plain refl refl c ts r h k).0.1)
       (whole_items is_module_item (λ s t w u. refl) (λ s b l. refl) (λ s b l. refl) (λ s p b. refl) AtEnd c true ss h.0 r h.2)) h.0 r h.2

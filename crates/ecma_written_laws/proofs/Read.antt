@@ -13,7 +13,7 @@ use Rattle.ecma_layout.specs.declared.look.Stand.TheVariants.{Alone}
 use Rattle.ecma_layout.specs.Looks.{Meaning, regular_expression, template_characters, template_end, hashbang_comment, touching, Laid, nothing, one, meant, named, both, refused, joined, texts_of, when, start, commit, ◌·◌}
 use Rattle.ecma_layout.specs.Layout.{laid, statements, is_empty}
 use Rattle.ecma_written.proofs.Ascii.{ascii}
-use Rattle.ecma_written_tiles.specs.Classes.{State, Fresh, Clear, Shut, Class, is_open, takes, behind, blank_behind}
+use Rattle.ecma_written_tiles.specs.Categories.{State, Fresh, Clear, Shut, Category, is_open, takes, behind, blank_behind}
 use Rattle.ecma_written_tiles.specs.Goes.{Fits, When, GoesText, GoesPiece, GoesTexts, GoesMeaning, Goes, GoesWhole}
 use Rattle.ecma_written_laws.specs.TiledLaws.{GoesBehind, ProgramGoes, ProgramsGo}
 use Rattle.ecma_written_laws.proofs.Hashbangs.{programs_go}

@@ -26,7 +26,7 @@ use Rattle.ecma_lines.specs.Lines.{place_of, place_between}
 use Rattle.ecma_lines.specs.Laws.{ends_with_cr, is_cut}
 use Rattle.ecma_lines.proofs.Places.{fronts_end}
 use Rattle.ecma_written.proofs.Ascii.{ascii}
-use Rattle.ecma_written_tiles.specs.Classes.{State, Fresh, Clear, Shut, Quasied, Class, Closed, Quasi, takes, behind, is_open, blank_behind}
+use Rattle.ecma_written_tiles.specs.Categories.{State, Fresh, Clear, Shut, Quasied, Category, Closed, Quasi, takes, behind, is_open, blank_behind}
 use Rattle.ecma_written_tiles.specs.Following.{Follows, Front}
 use Rattle.ecma_written_tiles.specs.Goes.{Fits, GoesText, GoesTexts}
 use Rattle.ecma_written_tiles.proofs.Items.{Item, Plain, Meant, Named, spread, GoesAll, shut_for_clear, front_nil}
@@ -52,7 +52,7 @@ other_uncut xs ys e = ap (λ b. ends_with_cr xs && b) e ∙ and_false (ends_with
     and_false false = refl
 
 -- a token that is no characters of a template ends with no CR
-fits_closed : (goal : LexicalGoal) (own : List ℕ) (k : Class) → Fits goal own k → (k ≡ Quasi) ⊎ (ends_with_cr (chars own) ≡ false)
+fits_closed : (goal : LexicalGoal) (own : List ℕ) (k : Category) → Fits goal own k → (k ≡ Quasi) ⊎ (ends_with_cr (chars own) ≡ false)
 fits_closed TemplateTail own k f = inl f.kind_of
 fits_closed Div own k f = inr (outside_closed Div (chars own) f.lexeme f.is_own)
 fits_closed RegExp own k f = inr (outside_closed RegExp (chars own) f.lexeme f.is_own)
@@ -62,15 +62,15 @@ ending_first : (e : Ending) (cs r : List ℕ) → templates.Ends e cs r → begi
 ending_first BackQuote cs r h = ap begins_with_lf h
 ending_first Substitution cs r h = ap begins_with_lf h
 
-fits_uncut : (goal : LexicalGoal) (own : List ℕ) (k : Class) (s : State) (ys : List ℕ) → Fits goal own k → Follows (behind k s) ys → is_cut (chars own) ys ≡ false
+fits_uncut : (goal : LexicalGoal) (own : List ℕ) (k : Category) (s : State) (ys : List ℕ) → Fits goal own k → Follows (behind k s) ys → is_cut (chars own) ys ≡ false
 fits_uncut goal own k s ys f h = ⊎_elim
-    (λ (q : k ≡ Quasi). let e : Follows Quasied ys = subst (λ (x : Class). Follows (behind x s) ys) q h in other_uncut (chars own) ys (ending_first e.0 ys e.1 e.2))
+    (λ (q : k ≡ Quasi). let e : Follows Quasied ys = subst (λ (x : Category). Follows (behind x s) ys) q h in other_uncut (chars own) ys (ending_first e.0 ys e.1 e.2))
     (λ (c : ends_with_cr (chars own) ≡ false). closed_uncut (chars own) ys c)
     (fits_closed goal own k f)
 
 -- an empty text stands behind another in its line
-empty_runs : (k : Class) (s : State) (q : Pen) → Front k [] → takes k s ≡ true → (q.at_start ≡ true → s ≡ Fresh) → q.at_start ≡ false
-empty_runs k s q f t st = by s (subst (λ (x : Class). takes x s ≡ true) (front_nil k f) t) st
+empty_runs : (k : Category) (s : State) (q : Pen) → Front k [] → takes k s ≡ true → (q.at_start ≡ true → s ≡ Fresh) → q.at_start ≡ false
+empty_runs k s q f t st = by s (subst (λ (x : Category). takes x s ≡ true) (front_nil k f) t) st
   where
     by : (s : State) → takes Quasi s ≡ true → (q.at_start ≡ true → s ≡ Fresh) → q.at_start ≡ false
     by Shut t st = ⊎_elim (λ (e : q.at_start ≡ true). absurd (let c : Shut ≡ Fresh = st e in cc)) (λ (e : q.at_start ≡ false). e) (cases_Bool q.at_start)
@@ -117,7 +117,7 @@ together (own ∷ others) s P g =
       goes = t.goes;
     }
 
-some_own : (own : List ℕ) (k : Class) → Fits Div own k → own ≡ [] → ⊥
+some_own : (own : List ℕ) (k : Category) → Fits Div own k → own ≡ [] → ⊥
 some_own own k f e = no_outside Div f.lexeme (subst (λ (cs : List ℕ). IsLexeme Div cs f.lexeme []) (ap chars e ∙ chars-nil) f.is_own)
 
 some_joined : (own : List ℕ) (others : List (List ℕ)) → (own ≡ [] → ⊥) → joined (own ∷ others) ≡ [] → ⊥

@@ -9,9 +9,9 @@ use Rattle.ecma_syntax.specs.Input.{Input, Code, turned_strict}
 use Rattle.ecma_syntax.specs.Operators.{expression_level, assignment_level}
 use Rattle.ecma_syntax.specs.Shape.{level, is_item, is_statement, is_declaration, is_plain_function, is_absent, is_use_strict, is_directive}
 use Rattle.ecma_edge.specs.Edges.{starts_with_word, ends_with_word, is_there}
-use Rattle.ecma_grammar.specs.Parts.{part, By, Items}
+use Rattle.ecma_grammar.specs.Children.{child, By, Items}
 use Rattle.ecma_grammar.specs.Statements.{ClosesBlock, SubOrFunction}
-use Rattle.ecma_grammar.specs.Grammar.{Spells, parts}
+use Rattle.ecma_grammar.specs.Grammar.{Produces, children}
 use Rattle.ecma_layout.specs.declared.look.Look.{Look}
 use Rattle.ecma_layout.specs.declared.look.Stand.{Stand}
 use Rattle.ecma_layout.specs.declared.look.Stand.TheVariants.{Alone, Operand, Body, Head, Key}
@@ -23,7 +23,7 @@ use Rattle.ecma_written_laws.proofs.Admits.{admits, admits_open, admits_word, an
 use Rattle.ecma_written_laws.proofs.Forms.{AllGood, AllSound, Good, Sound, by_second, not_absent}
 use Rattle.ecma_written_laws.proofs.Names.{commas_go, leaving}
 use Rattle.ecma_written_laws.proofs.Steps.{Steps, apart, at, blanks, braced, comes_back, committed, deepens, either, gaps, gaps_or, if_goes, lines, mark, nil, semicolons, shut, text_by, when_goes, worded, ◌▸◌, ends}
-use Rattle.ecma_written_tiles.specs.Classes.{Arrow, Clear, Fresh, Operated, Shut, State, Worded, blank_behind, is_end, is_open, is_wordless}
+use Rattle.ecma_written_tiles.specs.Categories.{Arrow, Clear, Fresh, Operated, Shut, State, Worded, blank_behind, is_end, is_open, is_wordless}
 
 module _ (look : Look) where
   -- a statement or a declaration that goes well
@@ -34,7 +34,7 @@ module _ (look : Look) where
   AllItems none = Unit {0}
   AllItems (more t ts) = Item t × AllItems ts
 
-  pub all_items : (close : Code → Input → Input → Type 0) (c : Code) (starts : Bool) (ss : Trees) → AllSound look ss → (ts r : Input) → Items is_item close c starts (parts ss) ts r → AllItems ss
+  pub all_items : (close : Code → Input → Input → Type 0) (c : Code) (starts : Bool) (ss : Trees) → AllSound look ss → (ts r : Input) → Items is_item close c starts (children ss) ts r → AllItems ss
   all_items close c starts none a ts r h = tt
   all_items close c starts (more s ss) a ts r h = ((a.0 _ ts h.0 h.2, h.1), all_items close (if starts && is_use_strict s then turned_strict c else c) (starts && is_directive s) ss a.1 h.0 r h.3)
 

@@ -17,7 +17,7 @@ use Rattle.ecma_layout.specs.Layout.{is_head, is_variables, is_block, is_compute
 use Rattle.ecma_layout.specs.Looks.{Laid, ◌·◌, nothing, one, both, blank, line_always, when, gap, gap_or, line, deeper, back, formats}
 use Rattle.ecma_written_laws.proofs.Admits.{or_none}
 use Rattle.ecma_written_tiles.proofs.Walks.{mono}
-use Rattle.ecma_written_tiles.specs.Classes.{Class, Clear, Closed, Fresh, Shut, State, Word, Worded, behind, blank_behind, is_open, is_wordless, takes}
+use Rattle.ecma_written_tiles.specs.Categories.{Category, Clear, Closed, Fresh, Shut, State, Word, Worded, behind, blank_behind, is_open, is_wordless, takes}
 use Rattle.ecma_written_tiles.specs.Goes.{Fits, Goes, When}
 
 -- ---- steps
@@ -73,7 +73,7 @@ committed = record { so = refl }
 pub nil : {s : State} → Steps nothing s (At s)
 nil = record { so = refl }
 
-pub text_by : {span : Option Span} {bytes : List ℕ} {s : State} (k : Class) → Fits Div bytes k → takes k s ≡ true → Steps (one (Text span bytes)) s (At (behind k s))
+pub text_by : {span : Option Span} {bytes : List ℕ} {s : State} (k : Category) → Fits Div bytes k → takes k s ≡ true → Steps (one (Text span bytes)) s (At (behind k s))
 text_by {s = s} k f o = record { so = (k, f, when_true (takes k s) (behind k s ≡ behind k s) o refl) }
 
 pub shut : {span : Option Span} {bytes : List ℕ} {s : State} → Fits Div bytes Closed → is_open s ≡ true → Steps (one (Text span bytes)) s (At Shut)

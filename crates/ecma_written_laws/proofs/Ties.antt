@@ -8,13 +8,13 @@ use Rattle.ecma_syntax.specs.Input.{Input, Code, turned_strict}
 use Rattle.ecma_syntax.specs.Operators.{assignment_level}
 use Rattle.ecma_syntax.specs.Shape.{level, is_absent, is_hole, is_declarator, is_item, is_statement, is_declaration, is_use_strict, is_directive}
 use Rattle.ecma_edge.specs.Edges.{starts_with_word, ends_with_word, is_there, last_ends_with_word}
-use Rattle.ecma_grammar.specs.Grammar.{Spells, parts}
+use Rattle.ecma_grammar.specs.Grammar.{Produces, children}
 use Rattle.ecma_layout.specs.declared.look.Look.{Look}
 use Rattle.ecma_layout.specs.declared.look.Stand.{Stand}
 use Rattle.ecma_layout.specs.declared.look.Stand.TheVariants.{Alone, Body, Key, Tagged}
-use Rattle.ecma_grammar.specs.Parts.{is_ident, Part, part, By, IsEmpty, Sorted, Listed, CommaThen, Commas, Items}
+use Rattle.ecma_grammar.specs.Children.{is_ident, Child, child, By, IsEmpty, Sorted, Listed, CommaThen, Commas, Items}
 use Rattle.ecma_layout.specs.Layout.{starts_bracketed, is_bracketed_name, is_variables}
-use Rattle.ecma_written_tiles.specs.Classes.{Worded, Operated}
+use Rattle.ecma_written_tiles.specs.Categories.{Worded, Operated}
 use Rattle.ecma_written_laws.proofs.Admits.{admits, at_most, is_ended, is_nothing, and_false}
 use Rattle.ecma_written_laws.proofs.Forms.{Good, AllGood, Sound, AllSound, not_absent, by_second}
 use Rattle.ecma_written_laws.proofs.Further.{AllDeclared}
@@ -97,12 +97,12 @@ abbrev pub Wholes : Trees → Type 0
 Wholes none = Unit {0}
 Wholes (more t ts) = (is_odd t ≡ false) × Wholes ts
 
-pub none_whole : (ts : Trees) → IsEmpty (parts ts) → Wholes ts
+pub none_whole : (ts : Trees) → IsEmpty (children ts) → Wholes ts
 none_whole none h = tt
 none_whole (more t ts) h = absurd h
 
-module _ (P : Part → Input → Input → Type 0) (f : (t : Tree) (ts r : Input) → P (part t (λ y. Spells t y)) ts r → is_odd t ≡ false) where
-  pub wholes : (holes : Bool) (c : Code) (close : ℕ) (xs : Trees) (ts r : Input) → Listed holes P c close (parts xs) ts r → Wholes xs
+module _ (P : Child → Input → Input → Type 0) (f : (t : Tree) (ts r : Input) → P (child t (λ y. Produces t y)) ts r → is_odd t ≡ false) where
+  pub wholes : (holes : Bool) (c : Code) (close : ℕ) (xs : Trees) (ts r : Input) → Listed holes P c close (children xs) ts r → Wholes xs
   wholes holes c close none ts r h = tt
   wholes holes c close (more t xs) ts r h = choose (holes && is_hole t) refl h
       (λ e k. (whole_hole t (both holes (is_hole t) e), wholes holes c close xs k.0 r k.2))
@@ -116,27 +116,27 @@ module _ (P : Part → Input → Input → Type 0) (f : (t : Tree) (ts r : Input
       choose true e k g j = g e k
       choose false e k g j = j k
 
-  pub wholes_then : (c : Code) (xs : Trees) (ts r : Input) → CommaThen P c (parts xs) ts r → Wholes xs
+  pub wholes_then : (c : Code) (xs : Trees) (ts r : Input) → CommaThen P c (children xs) ts r → Wholes xs
   wholes_then c none ts r h = tt
   wholes_then c (more t xs) ts r h = (f t h.0 h.1 h.3, wholes_then c xs h.1 r h.4)
 
-  pub wholes_commas : (c : Code) (xs : Trees) (ts r : Input) → Commas P c (parts xs) ts r → Wholes xs
+  pub wholes_commas : (c : Code) (xs : Trees) (ts r : Input) → Commas P c (children xs) ts r → Wholes xs
   wholes_commas c none ts r h = absurd h
   wholes_commas c (more t xs) ts r h = (f t ts h.0 h.1, wholes_then c xs h.0 r h.2)
 
-pub wholes_sorted : (p : Tree → Bool) → ((s : Span) (t : Bool) (w : List ℕ) (u : Option (List ℕ)) → p (tpl_element s t w u) ≡ false) → ((s : Span) (b : Trees) (l : Option (List ℕ)) → p (script s b l) ≡ false) → ((s : Span) (b : Trees) (l : Option (List ℕ)) → p (es_module s b l) ≡ false) → ((s : Span) (x b : Tree) → p (catch_clause s x b) ≡ false) → (holes : Bool) (c : Code) (close : ℕ) (xs : Trees) (ts r : Input) → Listed holes (Sorted p c) c close (parts xs) ts r → Wholes xs
+pub wholes_sorted : (p : Tree → Bool) → ((s : Span) (t : Bool) (w : List ℕ) (u : Option (List ℕ)) → p (tpl_element s t w u) ≡ false) → ((s : Span) (b : Trees) (l : Option (List ℕ)) → p (script s b l) ≡ false) → ((s : Span) (b : Trees) (l : Option (List ℕ)) → p (es_module s b l) ≡ false) → ((s : Span) (x b : Tree) → p (catch_clause s x b) ≡ false) → (holes : Bool) (c : Code) (close : ℕ) (xs : Trees) (ts r : Input) → Listed holes (Sorted p c) c close (children xs) ts r → Wholes xs
 wholes_sorted p n k o q holes c close xs ts r h = wholes (Sorted p c) (λ t m u z. whole_test p n k o q t z.0) holes c close xs ts r h
 
-pub whole_items : (may : Tree → Bool) → ((s : Span) (t : Bool) (w : List ℕ) (u : Option (List ℕ)) → may (tpl_element s t w u) ≡ false) → ((s : Span) (b : Trees) (l : Option (List ℕ)) → may (script s b l) ≡ false) → ((s : Span) (b : Trees) (l : Option (List ℕ)) → may (es_module s b l) ≡ false) → ((s : Span) (x b : Tree) → may (catch_clause s x b) ≡ false) → (close : Code → Input → Input → Type 0) (c : Code) (starts : Bool) (ss : Trees) (ts r : Input) → Items may close c starts (parts ss) ts r → Wholes ss
+pub whole_items : (may : Tree → Bool) → ((s : Span) (t : Bool) (w : List ℕ) (u : Option (List ℕ)) → may (tpl_element s t w u) ≡ false) → ((s : Span) (b : Trees) (l : Option (List ℕ)) → may (script s b l) ≡ false) → ((s : Span) (b : Trees) (l : Option (List ℕ)) → may (es_module s b l) ≡ false) → ((s : Span) (x b : Tree) → may (catch_clause s x b) ≡ false) → (close : Code → Input → Input → Type 0) (c : Code) (starts : Bool) (ss : Trees) (ts r : Input) → Items may close c starts (children ss) ts r → Wholes ss
 whole_items may n k o q close c starts none ts r h = tt
 whole_items may n k o q close c starts (more s ss) ts r h = (whole_test may n k o q s h.1, whole_items may n k o q close (if starts && is_use_strict s then turned_strict c else c) (starts && is_directive s) ss h.0 r h.3)
 
 module _ (look : Look) where
-  pub after_declared : (c : Code) (xs : Trees) → AllSound look xs → (ts r : Input) → CommaThen (Sorted is_declarator c) c (parts xs) ts r → AllDeclared look xs
+  pub after_declared : (c : Code) (xs : Trees) → AllSound look xs → (ts r : Input) → CommaThen (Sorted is_declarator c) c (children xs) ts r → AllDeclared look xs
   unfolding AllDeclared
   after_declared c none a ts r h = tt
   after_declared c (more t xs) a ts r h = (a.0 _ _ _ h.3.1, (declarator_plain t h.3.0, after_declared c xs a.1 _ _ h.4))
 
-  pub all_declared : (c : Code) (t : Tree) (xs : Trees) → AllSound look (more t xs) → (ts r : Input) → Commas (Sorted is_declarator c) c (parts (more t xs)) ts r → AllDeclared look (more t xs)
+  pub all_declared : (c : Code) (t : Tree) (xs : Trees) → AllSound look (more t xs) → (ts r : Input) → Commas (Sorted is_declarator c) c (children (more t xs)) ts r → AllDeclared look (more t xs)
   unfolding AllDeclared
   all_declared c t xs a ts r h = (a.0 _ _ _ h.1.1, (declarator_plain t h.1.0, after_declared c xs a.1 _ _ h.2))

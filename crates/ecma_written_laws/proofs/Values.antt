@@ -8,7 +8,7 @@ use Rattle.ecma_token.specs.declared.place.Span.{Span}
 use Rattle.ecma_tree.specs.Tree.{Tree, Trees, none, more, number_lit, str_lit, regex_lit, tpl, tpl_element}
 use Rattle.ecma_syntax.specs.Input.{Input, Code}
 use Rattle.ecma_edge.specs.Edges.{starts_with_word}
-use Rattle.ecma_grammar.specs.Grammar.{Spells}
+use Rattle.ecma_grammar.specs.Grammar.{Produces}
 use Rattle.ecma_layout.specs.declared.look.Look.{Look}
 use Rattle.ecma_layout.specs.declared.look.Stand.{Stand}
 use Rattle.ecma_layout.specs.declared.look.Stand.TheVariants.{Alone, Head, Key, Tagged}
@@ -23,7 +23,7 @@ use Rattle.ecma_written_laws.proofs.Forms.{AllGood, Good}
 use Rattle.ecma_written_laws.proofs.Names.{leaving}
 use Rattle.ecma_written_laws.proofs.Steps.{At, Steps, at, braced, committed, if_goes, mark, shut, text_by, when_goes, when_true, ◌▸◌}
 use Rattle.ecma_written_tiles.proofs.Marks.{back_quote}
-use Rattle.ecma_written_tiles.specs.Classes.{Dotted, End, Number, Numbered, Pointed, Quasi, Quasied, Regex, Shut, Slashed, State, Str, Worded, behind, is_digitless, takes, is_open}
+use Rattle.ecma_written_tiles.specs.Categories.{Dotted, End, Number, Numbered, Pointed, Quasi, Quasied, Regex, Shut, Slashed, State, Str, Worded, behind, is_digitless, takes, is_open}
 use Rattle.ecma_written_tiles.specs.Goes.{Fits}
 
 -- texts that are meant together

@@ -1,4 +1,4 @@
--- Every tree that spells tokens goes, where its leaves are tokens of their classes.
+-- Every tree that produces tokens goes, where its leaves are tokens of their categories.
 use Rattle.std.proofs.Common.{◌≡◌, ℕ, ◌+◌, ◌≤◌, ◌⊎◌, inl, inr, ⊎_elim, Bool, true, false, ◌&&◌, ◌||◌, not, List, [], ◌∷◌, Option, Some, None, refl, sym, ap, subst, ◌∙◌, arith}
 use Rattle.std.specs.Prelude.{◌==◌, nat_le, codes, if◌then◌else◌, is_some}
 use Rattle.std.proofs.lemmas.Bool.{cases_Bool, false≢true, true≢false, and_parts, not-true, or_cases}
@@ -12,11 +12,11 @@ use Rattle.ecma_syntax.specs.Input.{Input, Code, setting, without_in}
 use Rattle.ecma_syntax.specs.Operators.{call_level, member_level, new_level, unary_level, coalesce_level}
 use Rattle.ecma_syntax.specs.Shape.{is_absent, is_element, is_prop, is_key, is_any_key, is_word_name, is_private, is_bound_name, is_target_expr, is_simple, is_pattern_prop, is_binding, is_item, is_statement, is_block, is_string, is_attributes}
 use Rattle.ecma_edge.specs.Edges.{starts_with_word, ends_with_word, is_there, last_ends_with_word}
-use Rattle.ecma_grammar.specs.Grammar.{Spells, parts}
+use Rattle.ecma_grammar.specs.Grammar.{Produces, children}
 use Rattle.ecma_layout.specs.declared.look.Look.{Look}
 use Rattle.ecma_layout.specs.declared.look.Stand.{Stand}
 use Rattle.ecma_layout.specs.declared.look.Stand.TheVariants.{Alone, Body, Key, Tagged}
-use Rattle.ecma_grammar.specs.Parts.{is_ident, is_quasi, Part, part}
+use Rattle.ecma_grammar.specs.Children.{is_ident, is_quasi, Child, child}
 use Rattle.ecma_grammar.specs.Expressions.{ChainCall, TemplateSpans}
 use Rattle.ecma_grammar.specs.Patterns.{Item as PatternItem, Property}
 use Rattle.ecma_grammar.specs.Statements.{ClosesBlock, ClosesCase}
@@ -27,7 +27,7 @@ use Rattle.ecma_layout.specs.Looks.{joined}
 use Rattle.ecma_layout.specs.Literals.{name_bytes, key_bytes, string_bytes, number_bytes, big_bytes, quasi_bytes}
 use Rattle.ecma_redone.specs.Redo.{Mode, Plain, Headed, Pointed, Asked, Raw, quasi_mode, object_mode, chain_mode, is_asked, is_tagged as is_raw}
 use Rattle.ecma_redone.specs.Every.{every, every_all}
-use Rattle.ecma_written_tiles.specs.Classes.{Word, Number, Big, Member, Str, Regex, Quasi}
+use Rattle.ecma_written_tiles.specs.Categories.{Word, Number, Big, Member, Str, Regex, Quasi}
 use Rattle.ecma_written_tiles.specs.Goes.{Fits}
 use Rattle.ecma_written_laws.specs.Fitting.{class_of_key}
 use Rattle.ecma_written_laws.proofs.Forms.{Good, AllGood, Sound, AllSound}
@@ -64,14 +64,14 @@ abbrev AllQuasi : Trees → Type 0
 AllQuasi none = Unit {0}
 AllQuasi (more q qs) = (is_quasi q ≡ true) × AllQuasi qs
 
-pieces_are : (tagged : Bool) (c : Code) (es qs : Trees) (ts r : Input) → TemplateSpans tagged c (parts es) (parts qs) ts r → AllQuasi qs
+pieces_are : (tagged : Bool) (c : Code) (es qs : Trees) (ts r : Input) → TemplateSpans tagged c (children es) (children qs) ts r → AllQuasi qs
 pieces_are tagged c es none ts r h = tt
 pieces_are tagged c none (more q none) ts r h = (h.4.0, tt)
 pieces_are tagged c none (more q (more p qs)) ts r h = absurd h.1
 pieces_are tagged c (more e es) (more q qs) ts r h = (h.6.0, pieces_are tagged c es qs _ _ h.10)
 
 module _ (look : Look) where
-  -- what is asked of each leaf: its text is a token of its class
+  -- what is asked of each leaf: its text is a token of its category
   abbrev pub Leaf : Mode → Tree → Type 0
   Leaf mode (ident s n) = Fits Div (name_bytes look.style n) Word
   Leaf mode (ident_name s n) = Fits Div (name_bytes look.style n) Word × Fits Div (key_bytes look.style n) (class_of_key look.style n)

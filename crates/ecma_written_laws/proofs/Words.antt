@@ -1,4 +1,4 @@
--- Words are tokens of their class (ECMA-262, 12.7).
+-- Words are tokens of their category (ECMA-262, 12.7).
 use Rattle.std.proofs.Common.{◌≡◌, ◌≢◌, ℕ, ◌⊎◌, inl, inr, ⊎_elim, Bool, true, false, ◌&&◌, ◌||◌, not, List, [], ◌∷◌, ◌++◌, refl, sym, ap, subst, ◌∙◌}
 use Rattle.std.specs.Prelude.{◌==◌, codes}
 use Rattle.std.specs.List.{list_all}
@@ -18,7 +18,7 @@ use Rattle.ecma_lexeme.specs.Lexemes.{SpecLexeme, IsLexeme, IsWord, word_lexeme}
 use Rattle.ecma_lexeme.proofs.SortLemmas.{digit_no_opening}
 use Rattle.ecma_written.proofs.Ascii.{ascii, is_ascii}
 use Rattle.ecma_written.proofs.PlainWords.{are_parts, is_plain_word, spell_parts}
-use Rattle.ecma_written_tiles.specs.Classes.{Word}
+use Rattle.ecma_written_tiles.specs.Categories.{Word}
 use Rattle.ecma_written_tiles.specs.Following.{Starts, is_wordy, is_dotty, is_safe, never, QuietUnder}
 use Rattle.ecma_written_tiles.specs.Goes.{Fits}
 use Rattle.ecma_written_tiles.proofs.Marks.{quiet_plain, is_lead}

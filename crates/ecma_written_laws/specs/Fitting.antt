@@ -1,4 +1,4 @@
--- The texts of names and literals, as they are written, are tokens of their classes: what a layout of a tree asks of its leaves.
+-- The texts of names and literals, as they are written, are tokens of their categories: what a layout of a tree asks of its leaves.
 use Rattle.std.specs.Prelude.{◌≡◌, ℕ, ◌||◌, Bool, true, List, Option, Some, is_some, if◌then◌else◌}
 use Rattle.std.specs.Str.{chars}
 use Rattle.ecma_number.specs.Numbers.{SpecNumber}
@@ -11,11 +11,11 @@ use Rattle.ecma_syntax.specs.Input.{Input, is_word, kind, content, text}
 use Rattle.ecma_layout.specs.Looks.{regular_expression, joined, texts_of}
 use Rattle.ecma_layout.specs.Literals.{name_bytes, key_bytes, string_bytes, number_bytes, big_bytes, quasi_bytes}
 use Rattle.ecma_written.specs.Means.{Known}
-use Rattle.ecma_written_tiles.specs.Classes.{Class, Word, Number, Big, Member, Str, Regex, Quasi}
+use Rattle.ecma_written_tiles.specs.Categories.{Category, Word, Number, Big, Member, Str, Regex, Quasi}
 use Rattle.ecma_written_tiles.specs.Goes.{Fits}
 
 -- a word as a key, which is a string where it is quoted
-abbrev pub class_of_key : Style → List ℕ → Class
+abbrev pub class_of_key : Style → List ℕ → Category
 class_of_key style name = if is_quoted_key style (chars name) then Str else Word
 
 pub record Fitting (style : Style) : Type 0 where

@@ -5,7 +5,7 @@ use Rattle.ecma_token.specs.declared.syntax.EsSyntax.{EsSyntax}
 use Rattle.ecma_token.specs.declared.place.Span.{Span}
 use Rattle.ecma_tree.specs.Tree.{Tree, Trees, script, es_module}
 use Rattle.ecma_syntax.specs.Input.{Input, Code}
-use Rattle.ecma_grammar.specs.Grammar.{Spells}
+use Rattle.ecma_grammar.specs.Grammar.{Produces}
 use Rattle.ecma_write.specs.Pages.{Page}
 use Rattle.ecma_layout.specs.declared.look.Look.{Look}
 use Rattle.ecma_layout.specs.declared.look.Stand.TheVariants.{Alone}
@@ -22,15 +22,15 @@ abbrev pub IsLineText : Option (List ℕ) → Type 0
 IsLineText None = Unit {0}
 IsLineText (Some own) = IsHashbangText own
 
--- A script that spells known tokens is written, in any look, formatted and minified, as a text that is tiled by tokens that its layout says.
+-- A script that produces known tokens is written, in any look, formatted and minified, as a text that is tiled by tokens that its layout says.
 abbrev pub ScriptsAreTiled : Type 0
 ScriptsAreTiled = (look : Look) (begin : ℕ) (modules : Bool) (sp : Span) (ss : Trees) (line : Option (List ℕ)) (c : Code) (ts r : Input) (p : Page)
-    → Known ts.places → Spells (script sp ss line) c ts r → IsLineText line → IsEmptyPage p → IsTiled begin modules (laid look Alone (script sp ss line)) p
+    → Known ts.places → Produces (script sp ss line) c ts r → IsLineText line → IsEmptyPage p → IsTiled begin modules (laid look Alone (script sp ss line)) p
 
 -- So is a module.
 abbrev pub ModulesAreTiled : Type 0
 ModulesAreTiled = (look : Look) (begin : ℕ) (modules : Bool) (sp : Span) (ss : Trees) (line : Option (List ℕ)) (c : Code) (ts r : Input) (p : Page)
-    → Known ts.places → Spells (es_module sp ss line) c ts r → IsLineText line → IsEmptyPage p → IsTiled begin modules (laid look Alone (es_module sp ss line)) p
+    → Known ts.places → Produces (es_module sp ss line) c ts r → IsLineText line → IsEmptyPage p → IsTiled begin modules (laid look Alone (es_module sp ss line)) p
 
 -- Behind a hashbang (12.5) each text of the statements may follow what stands before it.
 abbrev pub GoesBehind : Look → List ℕ → Trees → Type 0

@@ -1,4 +1,4 @@
-//! Laws of the text that is written of a program that was read: its texts are tokens of their classes and may stand
+//! Laws of the text that is written of a program that was read: its texts are tokens of their categories and may stand
 //! one after another, it is UTF-8, and its names stand where the marks of the page say. The functions here are laws
 //! alone.
 #![tactic(auto)]
@@ -9,13 +9,13 @@ ghost use Rattle.ecma_written_laws.specs.PlacedLaws.{NamesArePlaced, NamesBehind
 ghost use Rattle.ecma_written_laws.specs.TextLaws.{ReadIsText};
 ghost use Rattle.ecma_written_laws.specs.TiledLaws.{ModulesAreTiled, ProgramsGo, ScriptsAreTiled};
 
-/// Law: in each style the text of a name or a literal that was read is a token of its class, before whatever may follow that.
+/// Law: in each style the text of a name or a literal that was read is a token of its category, before whatever may follow that.
 #[tactic(auto)]
 pub fn texts_fit()
     ensures { TextsFit }
 {}
 
-/// Law: a script or a module that spells known tokens is written, in any look, formatted and minified, as a text that is
+/// Law: a script or a module that produces known tokens is written, in any look, formatted and minified, as a text that is
 /// tiled by tokens that its layout says.
 #[tactic(auto)]
 pub fn programs_are_tiled()

@@ -9,9 +9,9 @@ use Rattle.ecma_lexeme.specs.declared.goal.LexicalGoal.TheVariants.{Div, RegExp,
 use Rattle.ecma_syntax.specs.Input.{Input}
 use Rattle.ecma_pieces.specs.Pieces.{Piece, Text, Brace, Blank, Line, Deeper, Back, Semicolon, Commit, Mark}
 use Rattle.ecma_layout.specs.Looks.{Meaning, regular_expression, template_characters, template_end, hashbang_comment, touching, Laid, nothing, one, meant, named, both, refused, listed, joined, texts_of, texts_before}
-use Rattle.ecma_written.specs.Gaps.{Gap}
+use Rattle.ecma_written.specs.Spacings.{Spacing}
 use Rattle.ecma_written.specs.Says.{IsNameSaid, SaysPiece, SaysTexts, SaysMeaning, Says}
-use Rattle.ecma_written_tiles.specs.Classes.{State, Clear, Shut, Class, Word, Number, Big, Member, Str, Regex, Operator, Arrow, Closed, Quasi, End, is_open, takes, behind}
+use Rattle.ecma_written_tiles.specs.Categories.{State, Clear, Shut, Category, Word, Number, Big, Member, Str, Regex, Operator, Arrow, Closed, Quasi, End, is_open, takes, behind}
 use Rattle.ecma_written_tiles.specs.Following.{Front}
 use Rattle.ecma_written_tiles.specs.Goes.{When, GoesText, GoesPiece, GoesTexts, GoesMeaning, Goes}
 use Rattle.ecma_written_tiles.proofs.Walks.{mono, reach, When_mono}
@@ -66,17 +66,17 @@ goes_items refused s rest h = absurd h
 
 -- ---- what items say, where N holds of where each name was read and where it is written
 
-abbrev pub SaysItem : (ℕ → ℕ → Type 0) → Item → Gap → Input → Gap → Input → Type 0
+abbrev pub SaysItem : (ℕ → ℕ → Type 0) → Item → Spacing → Input → Spacing → Input → Type 0
 SaysItem N (Plain x) a ts b r = SaysPiece x a ts b r
 SaysItem N (Meant m) a ts b r = SaysMeaning m a ts b r
 SaysItem N (Named pos own) a ts b r = IsNameSaid N pos own a ts b r
 
-abbrev pub SaysAll : (ℕ → ℕ → Type 0) → List Item → Gap → Input → Gap → Input → Type 0
+abbrev pub SaysAll : (ℕ → ℕ → Type 0) → List Item → Spacing → Input → Spacing → Input → Type 0
 SaysAll N [] a ts b r = (b ≡ a) × (ts ≡ r)
-SaysAll N (x ∷ xs) a ts b r = (k : Gap) × (m : Input) × SaysItem N x a ts k m × SaysAll N xs k m b r
+SaysAll N (x ∷ xs) a ts b r = (k : Spacing) × (m : Input) × SaysItem N x a ts k m × SaysAll N xs k m b r
 
-pub says_of : (N : ℕ → ℕ → Type 0) (f : Laid) (s : State) (P : State → Type 0) (rest : List Item) (a b : Gap) (ts r : Input) → Goes f s P → SaysAll N (items f rest) a ts b r
-    → (k : Gap) × (m : Input) × Says N f a ts k m × SaysAll N rest k m b r
+pub says_of : (N : ℕ → ℕ → Type 0) (f : Laid) (s : State) (P : State → Type 0) (rest : List Item) (a b : Spacing) (ts r : Input) → Goes f s P → SaysAll N (items f rest) a ts b r
+    → (k : Spacing) × (m : Input) × Says N f a ts k m × SaysAll N rest k m b r
 says_of N nothing s P rest a b ts r g h = (a, ts, (refl, refl), h)
 says_of N (one x) s P rest a b ts r g h = h
 says_of N (meant m) s P rest a b ts r g h = h
@@ -103,15 +103,15 @@ goes_apart [] xs s g = g
 goes_apart (own ∷ others) xs s g =
     (g.0, g.1, When_mono (takes g.0 s) (GoesTexts others (behind g.0 s) (λ t. GoesAll xs t)) (GoesAll (apart others xs) (behind g.0 s)) g.2 (λ h. goes_apart others xs (behind g.0 s) h))
 
-pub says_apart : (N : ℕ → ℕ → Type 0) (texts : List (List ℕ)) (xs : List Item) (a b : Gap) (ts r : Input) → SaysAll N (apart texts xs) a ts b r
-    → (k : Gap) × (m : Input) × SaysTexts texts a ts k m × SaysAll N xs k m b r
+pub says_apart : (N : ℕ → ℕ → Type 0) (texts : List (List ℕ)) (xs : List Item) (a b : Spacing) (ts r : Input) → SaysAll N (apart texts xs) a ts b r
+    → (k : Spacing) × (m : Input) × SaysTexts texts a ts k m × SaysAll N xs k m b r
 says_apart N [] xs a b ts r h = (a, ts, (refl, refl), h)
 says_apart N (own ∷ others) xs a b ts r h = let y = says_apart N others xs h.0 b h.1 r h.3 in (y.0, y.1, (h.0, h.1, h.2, y.2), y.3)
 
 -- ---- behind a mark that nothing runs into
 
 -- Whatever may follow a blank may follow such a mark.
-clear_shut : (k : Class) (P : State → Type 0) → When (takes k Clear) (P (behind k Clear)) → When (takes k Shut) (P (behind k Shut))
+clear_shut : (k : Category) (P : State → Type 0) → When (takes k Clear) (P (behind k Clear)) → When (takes k Shut) (P (behind k Shut))
 clear_shut Quasi P h = absurd h
 clear_shut _ P h = h
 
@@ -141,7 +141,7 @@ shut_for_clear (Meant (touching texts) ∷ xs) g = texts_shut texts xs (λ h. sh
 shut_for_clear (Named pos own ∷ xs) g = text_shut Div own (λ t. GoesAll xs t) g
 
 -- an empty text is characters of a template alone
-pub front_nil : (k : Class) → Front k [] → k ≡ Quasi
+pub front_nil : (k : Category) → Front k [] → k ≡ Quasi
 front_nil Quasi f = refl
 front_nil End f = absurd (ends_not f.0 (f.1 []))
   where

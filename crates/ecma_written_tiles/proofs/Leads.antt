@@ -10,7 +10,7 @@ use Rattle.ecma_lexeme.specs.declared.goal.LexicalGoal.{LexicalGoal}
 use Rattle.ecma_lexeme.specs.declared.goal.LexicalGoal.TheVariants.{Div, RegExp, TemplateTail, TemplateEnd}
 use Rattle.ecma_layout.specs.Looks.{regular_expression, template_characters, template_end, hashbang_comment, touching, joined, texts_of, texts_before}
 use Rattle.ecma_written.proofs.Ascii.{Ascii, ascii}
-use Rattle.ecma_written_tiles.specs.Classes.{State, Fresh, Clear, Shut, Worded, Numbered, Pointed, Plused, Minused, Slashed, Lessed, LessBanged, Dotted, Operated, Decred, Hashed, Quasied, takes, behind, is_open}
+use Rattle.ecma_written_tiles.specs.Categories.{State, Fresh, Clear, Shut, Worded, Numbered, Pointed, Plused, Minused, Slashed, Lessed, LessBanged, Dotted, Operated, Decred, Hashed, Quasied, takes, behind, is_open}
 use Rattle.ecma_written_tiles.specs.Following.{is_wordy, Follows}
 use Rattle.ecma_written_tiles.specs.Goes.{GoesTexts, GoesText}
 use Rattle.ecma_written_tiles.proofs.Gaps.{Blankness, White, Feed, Return, chars_of, gap_before, is_end_of_line, breaks_line, AreBlank}

@@ -1,4 +1,4 @@
--- Punctuators are tokens of their classes.
+-- Punctuators are tokens of their categories.
 use Rattle.std.proofs.Common.{◌≡◌, ◌≢◌, ℕ, inr, Bool, true, false, ◌||◌, List, [], ◌∷◌, ◌++◌, Some, refl, sym, subst, ◌∙◌}
 use Rattle.std.specs.Prelude.{◌==◌, codes}
 use Rattle.std.proofs.lemmas.Bool.{false≢true, eq-eqb}
@@ -16,7 +16,7 @@ use Rattle.ecma_lexeme.specs.declared.goal.LexicalGoal.TheVariants.{Div}
 use Rattle.ecma_lexeme.specs.Lexemes.{SpecLexeme, IsLexeme, plain}
 use Rattle.ecma_written.proofs.Ascii.{ascii, is_ascii}
 use Rattle.ecma_written.proofs.Punctuators.{look, stays, all_stay, punctuates}
-use Rattle.ecma_written_tiles.specs.Classes.{Class, Decr, Closed}
+use Rattle.ecma_written_tiles.specs.Categories.{Category, Decr, Closed}
 use Rattle.ecma_written_tiles.specs.Following.{Needs, Front, Quiet, Arrowless, is_wordy, is_dotty, is_safe, never}
 use Rattle.ecma_written_tiles.specs.Goes.{Fits}
 
@@ -46,14 +46,14 @@ quiet_plain c cs e =
 pub tail_is : (c : ℕ) (cs ds : List ℕ) → c ∷ cs ≡ c ∷ ds → cs ≡ ds
 tail_is c cs ds e = cc
 
-pub arrowless : (k : Class) (text : List ℕ) → ((inner : List ℕ) → text ≢ 45 ∷ 45 ∷ 62 ∷ inner) → Arrowless k text
+pub arrowless : (k : Category) (text : List ℕ) → ((inner : List ℕ) → text ≢ 45 ∷ 45 ∷ 62 ∷ inner) → Arrowless k text
 arrowless Decr text h = tt
 arrowless _ text h = h
 
 -- ---- a mark, by tests
 
--- A mark of the list of punctuators, before what none of the list goes on with, is a token of a class: what the class lets follow is none of that, begins no number and no trivia with it.
-pub mark_fits : (q : ℕ → Bool) (s : List ℕ) (kind : TokenKind) (k : Class) → is_ascii s ≡ true → look spellings s ≡ Some kind → all_stay q s spellings ≡ true
+-- A mark of the list of punctuators, before what none of the list goes on with, is a token of a category: what the category lets follow is none of that, begins no number and no trivia with it.
+pub mark_fits : (q : ℕ → Bool) (s : List ℕ) (kind : TokenKind) (k : Category) → is_ascii s ≡ true → look spellings s ≡ Some kind → all_stay q s spellings ≡ true
     → ((rest : List ℕ) → Needs k rest → Ends q rest) → (IsNumberDot (s ++ []) → ⊥) → ((rest : List ℕ) → Needs k rest → IsNumberDot (s ++ rest) → ⊥)
     → Front k s → ((rest : List ℕ) → Needs k rest → Quiet (s ++ rest) × Arrowless k (s ++ rest)) → Fits Div s k
 mark_fits q s kind k asc e a n d0 d f w =
@@ -73,7 +73,7 @@ pub no_dot : (c : ℕ) (cs : List ℕ) → (c == 46) ≡ false → IsNumberDot (
 no_dot c cs e d = not_first c 46 cs (d.0 ∷ d.1) e d.2
 
 -- what begins with none of the characters of trivia and no point
-pub plain_mark : (q : ℕ → Bool) (c : ℕ) (cs : List ℕ) (kind : TokenKind) (k : Class) → is_ascii (c ∷ cs) ≡ true → look spellings (c ∷ cs) ≡ Some kind → all_stay q (c ∷ cs) spellings ≡ true
+pub plain_mark : (q : ℕ → Bool) (c : ℕ) (cs : List ℕ) (kind : TokenKind) (k : Category) → is_ascii (c ∷ cs) ≡ true → look spellings (c ∷ cs) ≡ Some kind → all_stay q (c ∷ cs) spellings ≡ true
     → is_lead c ≡ false → (c == 46) ≡ false → ((rest : List ℕ) → Needs k rest → Ends q rest) → Front k (c ∷ cs) → Fits Div (c ∷ cs) k
 plain_mark q c cs kind k asc e a l p n f =
     mark_fits q (c ∷ cs) kind k asc e a n (no_dot c (cs ++ []) p) (λ rest h. no_dot c (cs ++ rest) p) f

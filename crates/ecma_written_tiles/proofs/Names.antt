@@ -2,13 +2,13 @@
 use Rattle.std.proofs.Common.{ℕ, Bool, List}
 use Rattle.ecma_layout.specs.Looks.{Laid, nothing, one, meant, named, both, refused}
 use Rattle.ecma_syntax.specs.Input.{Input}
-use Rattle.ecma_written.specs.Gaps.{Gap}
+use Rattle.ecma_written.specs.Spacings.{Spacing}
 use Rattle.ecma_written.specs.Says.{Says}
 use Rattle.ecma_written_tiles.specs.Tiles.{SaysTiles}
 
 module _ (N M : ℕ → ℕ → Type 0) (to : (pos at : ℕ) → N pos at → M pos at) where
   -- What holds of the names that a layout says may be weakened.
-  pub says_weaker : (f : Laid) (a : Gap) (ts : Input) (b : Gap) (r : Input) → Says N f a ts b r → Says M f a ts b r
+  pub says_weaker : (f : Laid) (a : Spacing) (ts : Input) (b : Spacing) (r : Input) → Says N f a ts b r → Says M f a ts b r
   says_weaker nothing a ts b r h = h
   says_weaker (one x) a ts b r h = h
   says_weaker (meant m) a ts b r h = h

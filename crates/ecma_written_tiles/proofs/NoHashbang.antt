@@ -11,7 +11,7 @@ use Rattle.ecma_lexeme.specs.declared.goal.LexicalGoal.TheVariants.{Div, RegExp,
 use Rattle.ecma_pieces.specs.Pieces.{Piece, Text, Brace, Blank, Line, Deeper, Back, Semicolon, Commit, Mark}
 use Rattle.ecma_layout.specs.Looks.{regular_expression, template_characters, template_end, hashbang_comment, touching, joined, texts_of}
 use Rattle.ecma_written.proofs.Ascii.{Ascii, ascii}
-use Rattle.ecma_written_tiles.specs.Classes.{Fresh, Class, Word, Number, Big, Member, Str, Regex, Plus, Incr, Minus, Decr, Bang, Slash, Less, Dot, Dots, Operator, Arrow, Hash, Closed, Quasi, End, takes, behind}
+use Rattle.ecma_written_tiles.specs.Categories.{Fresh, Category, Word, Number, Big, Member, Str, Regex, Plus, Incr, Minus, Decr, Bang, Slash, Less, Dot, Dots, Operator, Arrow, Hash, Closed, Quasi, End, takes, behind}
 use Rattle.ecma_written_tiles.specs.Following.{Front, Follows, is_safe}
 use Rattle.ecma_written_tiles.specs.Goes.{GoesText}
 use Rattle.ecma_written_tiles.proofs.Gaps.{Blankness, White, Feed, Return, gap_before, AreBlank}
@@ -49,7 +49,7 @@ safe_first c ds rest cs e s = by_first cs (c ∷ ds) rest e (other_first c (ds +
 mark_first : (c : ℕ) (ds rest cs : List ℕ) → cs ≡ c ∷ ds → not (c == 35) ≡ true → NoHashbang (cs ++ rest)
 mark_first c ds rest cs e s = by_first cs (c ∷ ds) rest e (other_first c (ds ++ rest) (not-true (c == 35) s))
 
-front_no_hash : (k : Class) (cs rest : List ℕ) → takes k Fresh ≡ true → Front k cs → Follows (behind k Fresh) rest → NoHashbang (cs ++ rest)
+front_no_hash : (k : Category) (cs rest : List ℕ) → takes k Fresh ≡ true → Front k cs → Follows (behind k Fresh) rest → NoHashbang (cs ++ rest)
 front_no_hash Word cs rest t f h = safe_first f.first f.others rest cs f.whole f.one
 front_no_hash Number cs rest t f h = safe_first f.first f.others rest cs f.whole f.one
 front_no_hash Big cs rest t f h = safe_first f.first f.others rest cs f.whole f.one
@@ -88,8 +88,8 @@ text_no_hash goal own xs q l h =
     led_no_hash own q (wrote (spread xs) (after_text own q)) l h.1.utf8 some
     (front_no_hash h.0 (chars own) _ t.0 h.1.front (follows xs (after_text own q) (behind h.0 Fresh) (text_lines own q l) t.1 (λ b. absurd (false≢true (sym (runs own some) ∙ b)))))
   where
-    no_text : (k : Class) → Front k [] → takes k Fresh ≡ true → ⊥
-    no_text k f t = false≢true (subst (λ (x : Class). takes x Fresh ≡ true) (front_nil k f) t)
+    no_text : (k : Category) → Front k [] → takes k Fresh ≡ true → ⊥
+    no_text k f t = false≢true (subst (λ (x : Category). takes x Fresh ≡ true) (front_nil k f) t)
 
     runs : (own : List ℕ) → (own ≡ [] → ⊥) → (after_text own q).at_start ≡ false
     runs [] e = absurd (e refl)

@@ -22,7 +22,7 @@ use Rattle.ecma_lexeme.specs.Lexemes.{SpecLexeme, IsLexeme, IsOutside, IsCharact
 use Rattle.ecma_literal.specs.Numbers.{Meaning, Number, BigInt}
 use Rattle.ecma_lexeme.specs.Sorts.{is_slash}
 use Rattle.ecma_lexeme.proofs.LexemeLemmas.{one_lexeme}
-use Rattle.ecma_syntax.specs.Input.{Place, usual}
+use Rattle.ecma_syntax.specs.Input.{PlacedToken, usual}
 use Rattle.ecma_grammar_goals.specs.TemplateLaws.{Region, Outside, Inside, Behind, Nowhere, after, fits, over}
 use Rattle.ecma_scan.specs.Places.{bytes}
 use Rattle.ecma_program_text.specs.Tiled.{goal_at, whole, IsBefore, IsTile, AreTiles, AfterHashbang}
@@ -199,14 +199,14 @@ outside_usual g text x rest u h k = by (usual_cases x.token.kind g u)
 
 -- ---- regions
 
-lost : (ps : List Place) → over Nowhere ps ≡ Nowhere
+lost : (ps : List PlacedToken) → over Nowhere ps ≡ Nowhere
 lost [] = refl
 lost (p ∷ ps) = lost ps
 
-not_nowhere : (ps : List Place) → over Nowhere ps ≡ Outside [] → ⊥
+not_nowhere : (ps : List PlacedToken) → over Nowhere ps ≡ Outside [] → ⊥
 not_nowhere ps e = let k : Nowhere ≡ Outside [] = sym (lost ps) ∙ e in cc
 
-goes_on : (g : Region) (p : Place) (ps : List Place) → over g (p ∷ ps) ≡ Outside [] → (fits g p.spot.token.kind p.goal ≡ true) × (over (after g p.spot.token.kind) ps ≡ Outside [])
+goes_on : (g : Region) (p : PlacedToken) (ps : List PlacedToken) → over g (p ∷ ps) ≡ Outside [] → (fits g p.spot.token.kind p.goal ≡ true) × (over (after g p.spot.token.kind) ps ≡ Outside [])
 goes_on g p ps e = ⊎_elim
     (λ (t : fits g p.spot.token.kind p.goal ≡ true). (t, sym (ap (λ b. over (if b then after g p.spot.token.kind else Nowhere) ps) t) ∙ e))
     (λ (f : fits g p.spot.token.kind p.goal ≡ false). absurd (not_nowhere ps (sym (ap (λ b. over (if b then after g p.spot.token.kind else Nowhere) ps) f) ∙ e)))
@@ -293,15 +293,15 @@ begins_quote text x rest (inr (inr h)) k =
     by (c ∷ cs) e q f = ap (begins (λ c. c == 96)) e ∙ second _ _ q f
 
 module _ (goal : Goal) (end : ℕ) where
-  kind_of_tile : (first : Bool) (text rest : List ℕ) (t q : Place) → (h : IsTile end goal first text t rest) → SameToken t q → q.spot.token.kind ≡ h.2.token.kind
+  kind_of_tile : (first : Bool) (text rest : List ℕ) (t q : PlacedToken) → (h : IsTile end goal first text t rest) → SameToken t q → q.spot.token.kind ≡ h.2.token.kind
   kind_of_tile first text rest t q h m = ap (λ (y : Spot). y.token.kind) (sym m.0 ∙ h.5)
 
   -- the same tile under another goal
-  under : (first : Bool) (text rest : List ℕ) (t q : Place) → (h : IsTile end goal first text t rest) → SameToken t q → IsBefore q.goal goal first text h.0 h.1 → IsLexeme (goal_at q.goal) h.1 h.2 rest → IsTile end goal first text q rest
+  under : (first : Bool) (text rest : List ℕ) (t q : PlacedToken) → (h : IsTile end goal first text t rest) → SameToken t q → IsBefore q.goal goal first text h.0 h.1 → IsLexeme (goal_at q.goal) h.1 h.2 rest → IsTile end goal first text q rest
   under first text rest t q h m b l = (h.0, h.1, h.2, b, l, sym m.0 ∙ h.5, sym m.1 ∙ h.6)
 
   -- outside of templates
-  outside_tile : (s : List Bool) (first : Bool) (text rest : List ℕ) (t q : Place) → HasGoal t → IsTile end goal first text t rest → SameToken t q → fits (Outside s) q.spot.token.kind q.goal ≡ true → (after (Outside s) q.spot.token.kind ≡ Nowhere → ⊥)
+  outside_tile : (s : List Bool) (first : Bool) (text rest : List ℕ) (t q : PlacedToken) → HasGoal t → IsTile end goal first text t rest → SameToken t q → fits (Outside s) q.spot.token.kind q.goal ≡ true → (after (Outside s) q.spot.token.kind ≡ Nowhere → ⊥)
       → IsTile end goal first text q rest
   outside_tile s first text rest t q k h m f n = by k
     where
@@ -350,7 +350,7 @@ module _ (goal : Goal) (end : ℕ) where
   goal_is : (k g n : ℕ) → (g == n) ≡ true → g ≡ n
   goal_is k g n e = eqb-true g n e
 
-  module _ (first : Bool) (text rest : List ℕ) (t q : Place) (h : IsTile end goal first text t rest) (m : SameToken t q) where
+  module _ (first : Bool) (text rest : List ℕ) (t q : PlacedToken) (h : IsTile end goal first text t rest) (m : SameToken t q) where
     tile_before : (z : ℕ) → t.goal ≡ z → IsBefore z goal first text h.0 h.1
     tile_before z e = subst (λ (y : ℕ). IsBefore y goal first text h.0 h.1) e h.3
 
@@ -407,7 +407,7 @@ module _ (goal : Goal) (end : ℕ) where
       by false false false true = tt
       by false false false false = tt
 
-  pub retile : (g : Region) (first : Bool) (text : List ℕ) (ts qs : List Place) → AllHaveGoals ts → AreTiles end goal first text ts → SameTokens ts qs → over g qs ≡ Outside [] → Opening g text → AreTiles end goal first text qs
+  pub retile : (g : Region) (first : Bool) (text : List ℕ) (ts qs : List PlacedToken) → AllHaveGoals ts → AreTiles end goal first text ts → SameTokens ts qs → over g qs ≡ Outside [] → Opening g text → AreTiles end goal first text qs
   retile g first text [] [] k h m o p = h
   retile (Outside s) first text (t ∷ ts) (q ∷ qs) k h m o p =
       let z = goes_on (Outside s) q qs o in
@@ -437,7 +437,7 @@ module _ (goal : Goal) (end : ℕ) where
   retile g first text (t ∷ ts) [] k h m o p = absurd m
 
 -- behind a hashbang, under any goal
-retile_after : (goal : Goal) (end : ℕ) (text : List ℕ) (ps qs : List Place) → AllHaveGoals ps → AfterHashbang end goal text ps → SameTokens ps qs → over (Outside []) qs ≡ Outside [] → AfterHashbang end goal text qs
+retile_after : (goal : Goal) (end : ℕ) (text : List ℕ) (ps qs : List PlacedToken) → AllHaveGoals ps → AfterHashbang end goal text ps → SameTokens ps qs → over (Outside []) qs ≡ Outside [] → AfterHashbang end goal text qs
 retile_after goal end text [] qs k h m o = absurd h
 retile_after goal end text (p ∷ ps) [] k h m o = absurd m
 retile_after goal end text (p ∷ ps) (q ∷ qs) k h m o =

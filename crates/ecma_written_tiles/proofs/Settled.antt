@@ -12,9 +12,9 @@ use Rattle.ecma_write.specs.Pages.{Page}
 use Rattle.ecma_write.specs.States.{span_or_none}
 use Rattle.ecma_pieces.specs.Pieces.{Piece, Text, Brace, Blank, Line, Deeper, Back, Semicolon, Commit, Mark, resolved, shortened, behind as held_behind}
 use Rattle.ecma_layout.specs.Looks.{regular_expression, template_characters, template_end, hashbang_comment, touching, texts_of, texts_before}
-use Rattle.ecma_written.specs.Gaps.{Gap}
+use Rattle.ecma_written.specs.Spacings.{Spacing}
 use Rattle.ecma_written.specs.Says.{IsSaid, SemicolonMayGo}
-use Rattle.ecma_written_tiles.specs.Classes.{State, Clear, Shut, Closed, takes, is_open}
+use Rattle.ecma_written_tiles.specs.Categories.{State, Clear, Shut, Closed, takes, is_open}
 use Rattle.ecma_written_tiles.specs.Goes.{When}
 use Rattle.ecma_written_tiles.proofs.Items.{Item, Plain, Meant, Named, spread, GoesAll, SaysAll, shut_for_clear}
 use Rattle.ecma_written_tiles.proofs.Marks.{right_brace, right_brace_is, semicolon_mark}
@@ -131,20 +131,20 @@ mutual
 -- ---- what is said
 
 -- the token `}`
-brace_kind : (a b : Gap) (ts r : Input) → IsSaid Div (codes "}") a ts b r → kind ts ≡ right_brace_kind
+brace_kind : (a b : Spacing) (ts r : Input) → IsSaid Div (codes "}") a ts b r → kind ts ≡ right_brace_kind
 brace_kind a b ts r h =
     let same = one_lexeme Div (chars (codes "}")) h.lexeme right_brace.lexeme [] [] h.is_own right_brace.is_own in
     first_kind _ _ _ a ts r h.first ∙ (ap (λ (x : SpecLexeme). x.token.kind) same.0 ∙ right_brace_is)
 
-abbrev Semi : Gap → Input → Gap → Input → Type 0
+abbrev Semi : Spacing → Input → Spacing → Input → Type 0
 Semi a ts b r = IsSaid Div (codes ";") a ts b r ⊎ ((b ≡ a) × (ts ≡ r) × SemicolonMayGo ts)
 
-moved_semi : (a k b : Gap) (ts m r : Input) → k ≡ a → ts ≡ m → Semi k m b r → Semi a ts b r
-moved_semi a k b ts m r e f h = subst (λ (t : Input). Semi a t b r) (sym f) (subst (λ (g : Gap). Semi g m b r) e h)
+moved_semi : (a k b : Spacing) (ts m r : Input) → k ≡ a → ts ≡ m → Semi k m b r → Semi a ts b r
+moved_semi a k b ts m r e f h = subst (λ (t : Input). Semi a t b r) (sym f) (subst (λ (g : Spacing). Semi g m b r) e h)
 
 module _ (N : ℕ → ℕ → Type 0) where
   mutual
-    pub says_settled : (xs : List Item) (s : State) (a b : Gap) (ts r : Input) → GoesAll xs s → r.places ≡ [] → SaysAll N (settled xs) a ts b r → SaysAll N xs a ts b r
+    pub says_settled : (xs : List Item) (s : State) (a b : Spacing) (ts r : Input) → GoesAll xs s → r.places ≡ [] → SaysAll N (settled xs) a ts b r → SaysAll N xs a ts b r
     says_settled [] s a b ts r g e h = h
     says_settled (Plain (Semicolon span) ∷ xs) s a b ts r g e h = says_held (span_or_none span) span xs a b ts r (when_so _ _ g).1 e h
     says_settled (Plain (Text span own) ∷ xs) s a b ts r g e h = (h.0, h.1, h.2, says_settled xs _ h.0 b h.1 r (when_so _ _ g.2).1 e h.3)
@@ -158,7 +158,7 @@ module _ (N : ℕ → ℕ → Type 0) where
     says_settled (Meant m ∷ xs) s a b ts r g e h = let t = meaning_reach m s (λ t. GoesAll xs t) g in (h.0, h.1, h.2, says_settled xs t.0 h.0 b h.1 r t.1 e h.3)
     says_settled (Named pos own ∷ xs) s a b ts r g e h = (h.0, h.1, h.2, says_settled xs _ h.0 b h.1 r (when_so _ _ g.2).1 e h.3)
 
-    pub says_held : (own : Span) (span : Option Span) (xs : List Item) (a b : Gap) (ts r : Input) → GoesAll xs Clear → r.places ≡ [] → SaysAll N (held own xs) a ts b r → SaysAll N (Plain (Semicolon span) ∷ xs) a ts b r
+    pub says_held : (own : Span) (span : Option Span) (xs : List Item) (a b : Spacing) (ts r : Input) → GoesAll xs Clear → r.places ≡ [] → SaysAll N (held own xs) a ts b r → SaysAll N (Plain (Semicolon span) ∷ xs) a ts b r
     says_held own span [] a b ts r g e h = (a, ts, inr (refl, refl, inr (ap kind_of (ap (λ (t : Input). t.places) h.1 ∙ e))), h)
     says_held own span (Plain (Brace o) ∷ xs) a b ts r g e h = (a, ts, inr (refl, refl, inl (brace_kind a h.0 ts h.1 h.2)), (h.0, h.1, h.2, says_settled xs _ h.0 b h.1 r g e h.3))
     says_held own span (Plain (Mark pos) ∷ xs) a b ts r g e h =

@@ -11,15 +11,15 @@ use Rattle.ecma_scan.specs.Places.{bytes}
 use Rattle.ecma_scan.specs.Runs.{Each, Ends}
 use Rattle.ecma_scan.specs.Trivia.{NoHashbang}
 use Rattle.ecma_lexing.specs.States.{shebang, place, spot_at}
-use Rattle.ecma_syntax.specs.Input.{Place, Input, div_goal, no_context}
+use Rattle.ecma_syntax.specs.Input.{PlacedToken, Input, div_goal, no_context}
 use Rattle.ecma_program_text.specs.Tiled.{Tile, whole}
 use Rattle.ecma_write.specs.Pages.{Page, times}
 use Rattle.ecma_pieces.specs.Pieces.{Piece, Line, Mark, resolved, shortened}
 use Rattle.ecma_layout.specs.Looks.{Laid, nothing, one, meant, hashbang_comment, ◌·◌, line_always, listed, joined, texts_of}
-use Rattle.ecma_written.specs.Gaps.{Gap, Touching, Spaced, Broken}
+use Rattle.ecma_written.specs.Spacings.{Spacing, Touching, Spaced, Broken}
 use Rattle.ecma_written.specs.Says.{Says, IsHashbangSaid, hashbang_token}
 use Rattle.ecma_written.proofs.Ascii.{ascii}
-use Rattle.ecma_written_tiles.specs.Classes.{Fresh, Shut, is_open}
+use Rattle.ecma_written_tiles.specs.Categories.{Fresh, Shut, is_open}
 use Rattle.ecma_written_tiles.specs.Goes.{GoesWhole}
 use Rattle.ecma_written_tiles.specs.Tiles.{AllHaveGoals, SaysTiles, anywhere, IsEmptyPage, IsHashbangText, IsSilent}
 use Rattle.ecma_written_tiles.specs.Laws.{LayoutsAreTiled, HashbangsAreTiled}
@@ -83,7 +83,7 @@ items_tiled N start modules xs p m n g cs e = subst (λ (t : List ℕ). Tiled (w
     refl)
 
 says_tiles : (N : ℕ → ℕ → Type 0) (start : ℕ) (modules : Bool) (f : Laid) (p : Page) → IsEmptyPage p → GoesWhole f → (xs : List Item) → AllPlaced N (start + bytes (chars (wrote (spread xs) (pen p)))) xs (pen p)
-    → GoesAll xs Fresh → ((ts r : Input) (b : Gap) → r.places ≡ [] → SaysAll N xs Spaced ts b r → SaysAll N (items f []) Spaced ts b r) → (cs : List ℕ) → cs ≡ chars (wrote (spread xs) (pen p))
+    → GoesAll xs Fresh → ((ts r : Input) (b : Spacing) → r.places ≡ [] → SaysAll N xs Spaced ts b r → SaysAll N (items f []) Spaced ts b r) → (cs : List ℕ) → cs ≡ chars (wrote (spread xs) (pen p))
     → SaysTiles N start modules f cs
 says_tiles N start modules f p m g xs n all back cs e =
     let t = items_tiled N start modules xs p m n all cs e in
@@ -135,12 +135,12 @@ abbrev pub led : List ℕ → List Item → List Item
 led own xs = Meant (hashbang_comment own) ∷ Plain Line ∷ xs
 
 record Hashed (N : ℕ → ℕ → Type 0) (start : ℕ) (modules : Bool) (own : List ℕ) (xs : List Item) (text : List ℕ) : Type 0 where
-  places : List Place
+  places : List PlacedToken
   tiles : Tile start modules text places
   goals : AllHaveGoals places
   middle : Input
   said : IsHashbangSaid own Spaced (record { last = start; places = places }) Touching middle
-  gap : Gap
+  gap : Spacing
   over : Input
   says : SaysAll N xs Broken middle gap over
   all : over.places ≡ []
@@ -199,7 +199,7 @@ hashed N start modules own xs p m h n g =
     let lo : place end text ≡ start = omega arith in
     let hi : place end after ≡ start + (length own + 2) = omega (arith, size) in
     let on : place end after + bytes after ≡ end = omega (arith, size) in
-    let first : Place = record { spot = spot_at end false (shebang (chars own)).token text after; escaped = false; goal = div_goal; context = no_context } in
+    let first : PlacedToken = record { spot = spot_at end false (shebang (chars own)).token text after; escaped = false; goal = div_goal; context = no_context } in
     let ran : Pen = behind_hash own q in
     let k : Lines ran = record { line_utf8 = l.line_utf8; line = l.line; line_ends = l.line_ends; line_chars = l.line_chars; indent_utf8 = l.indent_utf8; indents = l.indents; indents_blank = l.indents_blank; indents_flat = l.indents_flat; indent_chars = l.indent_chars } in
     let placed : AllPlaced N end xs (next Line ran) =
@@ -242,7 +242,7 @@ marked_settled nothing s xs = refl
 marked_settled (one (Mark pos)) s xs = refl
 marked_settled _ s xs = absurd s
 
-marked_says : (N : ℕ → ℕ → Type 0) (mark : Laid) → IsSilent mark → (a : Gap) (ts : Input) → Says N mark a ts a ts
+marked_says : (N : ℕ → ℕ → Type 0) (mark : Laid) → IsSilent mark → (a : Spacing) (ts : Input) → Says N mark a ts a ts
 marked_says N nothing s a ts = (refl, refl)
 marked_says N (one (Mark pos)) s a ts = (refl, refl)
 marked_says N _ s a ts = absurd s
@@ -264,7 +264,7 @@ minified_text mark own f p m i =
     ∙ (short_text (items mark xs) p m.nothing ∙ (ap (λ (ys : List Item). wrote (spread ys) (pen p)) (marked_settled mark i xs) ∙ marked_text mark i (led own (settled (items f []))) (pen p)))
 
 hashbang_tiles : (N : ℕ → ℕ → Type 0) (start : ℕ) (modules : Bool) (mark : Laid) (own : List ℕ) (f : Laid) → IsSilent mark → GoesWhole f → (xs : List Item)
-    → ((ts r : Input) (b : Gap) → r.places ≡ [] → SaysAll N xs Broken ts b r → SaysAll N (items f []) Broken ts b r) → (cs : List ℕ) → Hashed N start modules own xs cs
+    → ((ts r : Input) (b : Spacing) → r.places ≡ [] → SaysAll N xs Broken ts b r → SaysAll N (items f []) Broken ts b r) → (cs : List ℕ) → Hashed N start modules own xs cs
     → SaysTiles N start modules (behind_hashbang mark own f) cs
 hashbang_tiles N start modules mark own f i g xs back cs h =
     let s = says_of N f Fresh (λ s. is_open s ≡ true) [] Broken h.gap h.middle h.over g (back _ _ _ h.all h.says) in record {

@@ -16,13 +16,13 @@ use Rattle.ecma_lexeme.specs.declared.goal.LexicalGoal.{LexicalGoal}
 use Rattle.ecma_lexeme.specs.declared.goal.LexicalGoal.TheVariants.{Div, RegExp, TemplateTail, TemplateEnd}
 use Rattle.ecma_lexeme.specs.Lexemes.{IsLexeme}
 use Rattle.ecma_lexing.specs.States.{place, spot_at}
-use Rattle.ecma_syntax.specs.Input.{Place, Input, no_context, lo}
+use Rattle.ecma_syntax.specs.Input.{PlacedToken, Input, no_context, lo}
 use Rattle.ecma_program_text.specs.Tiled.{goal_at, IsBefore, IsTile, AreTiles}
 use Rattle.ecma_pieces.specs.Pieces.{Piece, Text, Brace, Blank, Line, Deeper, Back, Semicolon, Commit, Mark}
 use Rattle.ecma_layout.specs.Looks.{regular_expression, template_characters, template_end, hashbang_comment, touching, joined, texts_of}
-use Rattle.ecma_written.specs.Gaps.{Gap, Touching, Spaced, Broken, is_broken, blanked, Lies}
+use Rattle.ecma_written.specs.Spacings.{Spacing, Touching, Spaced, Broken, is_broken, blanked, Lies}
 use Rattle.ecma_written.specs.Says.{IsSaid}
-use Rattle.ecma_written_tiles.specs.Classes.{State, Fresh, Clear, Shut, Decred, Quasied, Class, Decr, Closed, Quasi, End, takes, behind, is_open, blank_behind}
+use Rattle.ecma_written_tiles.specs.Categories.{State, Fresh, Clear, Shut, Decred, Quasied, Category, Decr, Closed, Quasi, End, takes, behind, is_open, blank_behind}
 use Rattle.ecma_written_tiles.specs.Following.{Quiet, QuietUnder, Arrowless, Follows, Front}
 use Rattle.ecma_written_tiles.specs.Tiles.{AllHaveGoals}
 use Rattle.ecma_written_tiles.specs.Goes.{Fits, When, GoesText}
@@ -103,7 +103,7 @@ is_inner TemplateEnd = true
 is_inner g = false
 
 -- `-->` is no comment: behind the beginning of a line alone it would be one
-arrowless_by : (k : Class) (s : State) (text own rest : List ℕ) (fresh : Bool) → text ≡ own ++ rest → Front k own → (fresh ≡ true → s ≡ Fresh) → Follows (behind k s) rest → Arrowless k text
+arrowless_by : (k : Category) (s : State) (text own rest : List ℕ) (fresh : Bool) → text ≡ own ++ rest → Front k own → (fresh ≡ true → s ≡ Fresh) → Follows (behind k s) rest → Arrowless k text
     → fresh ≡ true → (inner : List ℕ) → text ≢ 45 ∷ 45 ∷ 62 ∷ inner
 arrowless_by Decr s text own rest fresh e f g h a t inner k =
     let d : Follows Decred rest = subst (λ (x : State). Follows (behind Decr x) rest) (g t) h in
@@ -113,7 +113,7 @@ arrowless_by Decr s text own rest fresh e f g h a t inner k =
 arrowless_by _ s text own rest fresh e f g h a t inner k = a inner k
 
 -- where a text stands
-pub record Stands (goal : Goal) (s : State) (us : List Blankness) (first : Bool) (a : Gap) : Type 0 where
+pub record Stands (goal : Goal) (s : State) (us : List Blankness) (first : Bool) (a : Spacing) : Type 0 where
   pub blank : AreBlank us
   pub fresh : (first || breaks_line us) ≡ true → s ≡ Fresh
   pub tight : s ≡ Shut → us ≡ []
@@ -121,7 +121,7 @@ pub record Stands (goal : Goal) (s : State) (us : List Blankness) (first : Bool)
   pub broke : is_broken a ≡ breaks_line us
   pub touching : a ≡ Touching → us ≡ []
 
-before_by : (g : LexicalGoal) (k : Class) (goal : Goal) (first : Bool) (us : List Blankness) (from : List ℕ) → AreBlank us → (is_inner g ≡ true → us ≡ [])
+before_by : (g : LexicalGoal) (k : Category) (goal : Goal) (first : Bool) (us : List Blankness) (from : List ℕ) → AreBlank us → (is_inner g ≡ true → us ≡ [])
     → ((first || breaks_line us) ≡ true → Arrowless k from → (inner : List ℕ) → from ≢ 45 ∷ 45 ∷ 62 ∷ inner) → QuietUnder g k from
     → IsBefore (goal_number g) goal first (gap_before us from) (breaks_line us) from
 before_by Div k goal first us from b t n q = are_skipped goal first us from b q.0.white (no_trivia goal (first || breaks_line us) from q.0 (λ f. n f q.1))
@@ -129,20 +129,20 @@ before_by RegExp k goal first us from b t n q = are_skipped goal first us from b
 before_by TemplateTail k goal first us from b t n q = subst (λ (vs : List Blankness). (gap_before vs from ≡ from) × (breaks_line vs ≡ false)) (sym (t refl)) (refl, refl)
 before_by TemplateEnd k goal first us from b t n q = subst (λ (vs : List Blankness). (gap_before vs from ≡ from) × (breaks_line vs ≡ false)) (sym (t refl)) (refl, refl)
 
-lies_by : (a : Gap) (last lo gap : ℕ) → lo ≡ last + gap → (a ≡ Touching → gap ≡ 0) → Lies a last lo
+lies_by : (a : Spacing) (last lo gap : ℕ) → lo ≡ last + gap → (a ≡ Touching → gap ≡ 0) → Lies a last lo
 lies_by Touching last lo gap e t = let z = t refl in omega arith
 lies_by Spaced last lo gap e t = omega arith
 lies_by Broken last lo gap e t = omega arith
 
-pub record First (goal : Goal) (end : ℕ) (g : LexicalGoal) (own : List ℕ) (us : List Blankness) (first : Bool) (a : Gap) (last : ℕ) (rest : List ℕ) : Type 0 where
-  pub place : Place
+pub record First (goal : Goal) (end : ℕ) (g : LexicalGoal) (own : List ℕ) (us : List Blankness) (first : Bool) (a : Spacing) (last : ℕ) (rest : List ℕ) : Type 0 where
+  pub place : PlacedToken
   pub tile : IsTile end goal first (gap_before us (chars own ++ rest)) place rest
-  pub said : (ps : List Place) → IsSaid g own a (record { last = last; places = place ∷ ps }) Touching (record { last = place.spot.hi; places = ps })
+  pub said : (ps : List PlacedToken) → IsSaid g own a (record { last = last; places = place ∷ ps }) Touching (record { last = place.spot.hi; places = ps })
   pub begins : place.spot.lo ≡ end - bytes (chars own ++ rest)
   pub on : place.spot.hi + bytes rest ≡ end
   pub goal_is : place.goal ≡ goal_number g
 
-pub first_token : (goal : Goal) (end : ℕ) (g : LexicalGoal) (own : List ℕ) (k : Class) (s : State) (us : List Blankness) (first : Bool) (a : Gap) (last : ℕ) (rest : List ℕ)
+pub first_token : (goal : Goal) (end : ℕ) (g : LexicalGoal) (own : List ℕ) (k : Category) (s : State) (us : List Blankness) (first : Bool) (a : Spacing) (last : ℕ) (rest : List ℕ)
     → Fits g own k → Stands goal s us first a → (is_inner g ≡ true → us ≡ []) → Follows (behind k s) rest
     → last + bytes (gap_before us (chars own ++ rest)) ≡ end → First goal end g own us first a last rest
 first_token goal end g own k s us first a last rest f st inner h e =
@@ -205,20 +205,20 @@ AllPlaced N end (Plain x ∷ xs) q = AllPlaced N end xs (next x q)
 AllPlaced N end (Meant m ∷ xs) q = AllPlaced N end xs (after_texts (texts_of m) q)
 AllPlaced N end (Named pos own ∷ xs) q = N pos.0 (place end (chars own ++ chars (wrote (spread xs) (after_text own q)))) × AllPlaced N end xs (after_text own q)
 
-pub record Tiled (goal : Goal) (end : ℕ) (N : ℕ → ℕ → Type 0) (xs : List Item) (text : List ℕ) (first : Bool) (a : Gap) (last : ℕ) : Type 0 where
-  pub places : List Place
+pub record Tiled (goal : Goal) (end : ℕ) (N : ℕ → ℕ → Type 0) (xs : List Item) (text : List ℕ) (first : Bool) (a : Spacing) (last : ℕ) : Type 0 where
+  pub places : List PlacedToken
   pub tiles : AreTiles end goal first text places
-  pub gap : Gap
+  pub gap : Spacing
   pub over : Input
   pub says : SaysAll N xs a (record { last = last; places = places }) gap over
   pub all : over.places ≡ []
   pub goals : AllHaveGoals places
 
-inner_blank : (g : LexicalGoal) (k : Class) (s : State) (own : List ℕ) (us : List Blankness) → takes k s ≡ true → (is_inner g ≡ true → (k ≡ Quasi) ⊎ (k ≡ End)) → (s ≡ Shut → us ≡ []) → (s ≡ Quasied → us ≡ [])
+inner_blank : (g : LexicalGoal) (k : Category) (s : State) (own : List ℕ) (us : List Blankness) → takes k s ≡ true → (is_inner g ≡ true → (k ≡ Quasi) ⊎ (k ≡ End)) → (s ≡ Shut → us ≡ []) → (s ≡ Quasied → us ≡ [])
     → is_inner g ≡ true → us ≡ []
 inner_blank g k s own us t c f h i = ⊎_elim
-    (λ (e : k ≡ Quasi). f (quasi_takes s (subst (λ (x : Class). takes x s ≡ true) e t)))
-    (λ (e : k ≡ End). h (end_takes s (subst (λ (x : Class). takes x s ≡ true) e t)))
+    (λ (e : k ≡ Quasi). f (quasi_takes s (subst (λ (x : Category). takes x s ≡ true) e t)))
+    (λ (e : k ≡ End). h (end_takes s (subst (λ (x : Category). takes x s ≡ true) e t)))
     (c i)
   where
     quasi_takes : (s : State) → takes Quasi s ≡ true → s ≡ Shut
@@ -235,12 +235,12 @@ module _ (goal : Goal) (end : ℕ) (N : ℕ → ℕ → Type 0) where
   behind_stands s = record { blank = tt; fresh = λ e. absurd (false≢true e); tight = λ e. refl; tighter = λ e. refl; broke = refl; touching = λ e. refl }
 
   -- more blanks before the first token
-  pub record More (q : Pen) (s : State) (us : List Blankness) (first : Bool) (a : Gap) : Type 0 where
+  pub record More (q : Pen) (s : State) (us : List Blankness) (first : Bool) (a : Spacing) : Type 0 where
     pub st : Stands goal s us first a
     pub starts : q.at_start ≡ true → s ≡ Fresh
     pub apart : a ≡ Touching → q.at_start ≡ false
 
-  led : (q : Pen) (s : State) (us : List Blankness) (first : Bool) (a : Gap) → (l : Lead q) → More q s us first a → Stands goal s (us ++ l.blanks) first a
+  led : (q : Pen) (s : State) (us : List Blankness) (first : Bool) (a : Spacing) → (l : Lead q) → More q s us first a → Stands goal s (us ++ l.blanks) first a
   led q s us first a l m =
       let none : (s ≡ Fresh → ⊥) → l.blanks ≡ [] = λ n. l.none (not_true q.at_start (λ t. n (m.starts t))) in record {
         blank = blank_join us l.blanks m.st.blank l.are;
@@ -274,7 +274,7 @@ module _ (goal : Goal) (end : ℕ) (N : ℕ → ℕ → Type 0) where
       ∙ sym (gap_join us l.blanks (chars (c ∷ cs) ++ chars w)))
 
   -- one text, and then the rest
-  text_tiled : (g : LexicalGoal) (own : List ℕ) (k : Class) (x : Item) (xs : List Item) (q : Pen) (s : State) (us : List Blankness) (first : Bool) (a : Gap) (last : ℕ) (w : List ℕ)
+  text_tiled : (g : LexicalGoal) (own : List ℕ) (k : Category) (x : Item) (xs : List Item) (q : Pen) (s : State) (us : List Blankness) (first : Bool) (a : Spacing) (last : ℕ) (w : List ℕ)
       → ((ts r : Input) → IsSaid g own a ts Touching r → lo ts ≡ place end (chars own ++ chars w) → SaysItem N x a ts Touching r)
       → Lines q → Fits g own k → takes k s ≡ true → (own ≡ [] → q.at_start ≡ false) → (is_inner g ≡ true → (k ≡ Quasi) ⊎ (k ≡ End)) → More q s us first a → Follows (behind k s) (chars w)
       → last + bytes (gap_before us (chars (own_text own q ++ w))) ≡ end
@@ -296,8 +296,8 @@ module _ (goal : Goal) (end : ℕ) (N : ℕ → ℕ → Type 0) where
         goals = (goaled g one.place.goal one.goal_is, more.goals);
       }
 
-  -- the class tells the rest that a text has to say
-  inner_class : (g : LexicalGoal) (own : List ℕ) (k : Class) → Fits g own k → is_inner g ≡ true → (k ≡ Quasi) ⊎ (k ≡ End)
+  -- the category tells the rest that a text has to say
+  inner_class : (g : LexicalGoal) (own : List ℕ) (k : Category) → Fits g own k → is_inner g ≡ true → (k ≡ Quasi) ⊎ (k ≡ End)
   inner_class Div own k f e = absurd (false≢true e)
   inner_class RegExp own k f e = absurd (false≢true e)
   inner_class TemplateTail own k f e = inl f.kind_of
@@ -307,15 +307,15 @@ module _ (goal : Goal) (end : ℕ) (N : ℕ → ℕ → Type 0) where
   not_starting q s f n = ⊎_elim (λ (e : q.at_start ≡ true). absurd (n (f e))) (λ (e : q.at_start ≡ false). e) (cases_Bool q.at_start)
 
   -- an empty text is characters of a template alone
-  empty_running : (k : Class) (q : Pen) (s : State) → Front k [] → takes k s ≡ true → (q.at_start ≡ true → s ≡ Fresh) → q.at_start ≡ false
-  empty_running k q s f t st = by s (subst (λ (x : Class). takes x s ≡ true) (front_nil k f) t) st
+  empty_running : (k : Category) (q : Pen) (s : State) → Front k [] → takes k s ≡ true → (q.at_start ≡ true → s ≡ Fresh) → q.at_start ≡ false
+  empty_running k q s f t st = by s (subst (λ (x : Category). takes x s ≡ true) (front_nil k f) t) st
     where
       by : (s : State) → takes Quasi s ≡ true → (q.at_start ≡ true → s ≡ Fresh) → q.at_start ≡ false
       by Shut t st = not_starting q Shut st (λ e. cc)
       by _ t st = absurd (false≢true t)
 
   -- one text by the automaton
-  goes_tiled : (g : LexicalGoal) (own : List ℕ) (x : Item) (xs : List Item) (q : Pen) (s : State) (us : List Blankness) (first : Bool) (a : Gap) (last : ℕ)
+  goes_tiled : (g : LexicalGoal) (own : List ℕ) (x : Item) (xs : List Item) (q : Pen) (s : State) (us : List Blankness) (first : Bool) (a : Spacing) (last : ℕ)
       → ((ts r : Input) → IsSaid g own a ts Touching r → lo ts ≡ place end (chars own ++ chars (wrote (spread xs) (after_text own q))) → SaysItem N x a ts Touching r)
       → Lines q → (h : GoesText g own s (λ t. GoesAll xs t)) → More q s us first a
       → last + bytes (gap_before us (chars (own_text own q ++ wrote (spread xs) (after_text own q)))) ≡ end
@@ -340,7 +340,7 @@ module _ (goal : Goal) (end : ℕ) (N : ℕ → ℕ → Type 0) where
   text_more q s e = record { st = behind_stands s; starts = λ b. absurd (false≢true (sym e ∙ b)); apart = λ _. e }
 
   -- a blank: one more, and the indentation before it
-  blank_more : (q : Pen) (s : State) (us : List Blankness) (first : Bool) (a : Gap) → (l : Lead q) → More q s us first a → More (after_text (codes " ") q) (blank_behind s) ((us ++ l.blanks) ++ White 32 ∷ []) first (blanked a)
+  blank_more : (q : Pen) (s : State) (us : List Blankness) (first : Bool) (a : Spacing) → (l : Lead q) → More q s us first a → More (after_text (codes " ") q) (blank_behind s) ((us ++ l.blanks) ++ White 32 ∷ []) first (blanked a)
   blank_more q s us first a l m =
       let d = led q s us first a l m in
       let same : breaks_line ((us ++ l.blanks) ++ White 32 ∷ []) ≡ breaks_line (us ++ l.blanks) = breaks_flat (us ++ l.blanks) (White 32 ∷ []) refl in record {
@@ -364,17 +364,17 @@ module _ (goal : Goal) (end : ℕ) (N : ℕ → ℕ → Type 0) where
       blank_quasied Fresh e = cc
       blank_quasied _ e = cc
 
-      broken_blanked : (a : Gap) → is_broken (blanked a) ≡ is_broken a
+      broken_blanked : (a : Spacing) → is_broken (blanked a) ≡ is_broken a
       broken_blanked Broken = refl
       broken_blanked Spaced = refl
       broken_blanked Touching = refl
 
-      blanked_touching : (a : Gap) → blanked a ≡ Touching → ⊥
+      blanked_touching : (a : Spacing) → blanked a ≡ Touching → ⊥
       blanked_touching Broken e = cc
       blanked_touching Spaced e = cc
       blanked_touching Touching e = cc
 
-  pub line_more : (q : Pen) (s : State) (us : List Blankness) (first : Bool) (a : Gap) → (l : Lines q) → q.at_start ≡ false → More q s us first a → More (next Line q) Fresh (us ++ l.line ∷ []) first Broken
+  pub line_more : (q : Pen) (s : State) (us : List Blankness) (first : Bool) (a : Spacing) → (l : Lines q) → q.at_start ≡ false → More q s us first a → More (next Line q) Fresh (us ++ l.line ∷ []) first Broken
   line_more q s us first a l e m = record {
     st = record {
       blank = blank_join us (l.line ∷ []) m.st.blank (line_blank l.line l.line_ends);
@@ -398,7 +398,7 @@ module _ (goal : Goal) (end : ℕ) (N : ℕ → ℕ → Type 0) where
       or_true false = refl
 
   -- a line where one starts
-  start_more : (q : Pen) (s : State) (us : List Blankness) (first : Bool) (a : Gap) → q.at_start ≡ true → More q s us first a → More (next Line q) Fresh us first a
+  start_more : (q : Pen) (s : State) (us : List Blankness) (first : Bool) (a : Spacing) → q.at_start ≡ true → More q s us first a → More (next Line q) Fresh us first a
   start_more q s us first a e m = record {
     st = record { blank = m.st.blank; fresh = λ f. refl; tight = λ f. absurd cc; tighter = λ f. absurd cc; broke = m.st.broke; touching = m.st.touching };
     starts = λ f. refl;
@@ -406,11 +406,11 @@ module _ (goal : Goal) (end : ℕ) (N : ℕ → ℕ → Type 0) where
   }
 
   -- an item that says nothing
-  silent : (x : Item) (xs : List Item) (text : List ℕ) (first : Bool) (a k : Gap) (last : ℕ) → ((ts : Input) → SaysItem N x a ts k ts) → Tiled goal end N xs text first k last → Tiled goal end N (x ∷ xs) text first a last
+  silent : (x : Item) (xs : List Item) (text : List ℕ) (first : Bool) (a k : Spacing) (last : ℕ) → ((ts : Input) → SaysItem N x a ts k ts) → Tiled goal end N xs text first k last → Tiled goal end N (x ∷ xs) text first a last
   silent x xs text first a k last say t =
       record { places = t.places; tiles = t.tiles; gap = t.gap; over = t.over; says = (k, record { last = last; places = t.places }, say _, t.says); all = t.all; goals = t.goals }
 
-  at_text : (xs : List Item) (x y : List ℕ) (first : Bool) (a : Gap) (last : ℕ) → x ≡ y → Tiled goal end N xs y first a last → Tiled goal end N xs x first a last
+  at_text : (xs : List Item) (x y : List ℕ) (first : Bool) (a : Spacing) (last : ℕ) → x ≡ y → Tiled goal end N xs y first a last → Tiled goal end N xs x first a last
   at_text xs x y first a last e t = subst (λ (l : List ℕ). Tiled goal end N xs l first a last) (sym e) t
 
   shut_when : (s : State) (xs : List Item) → When (is_open s) (GoesAll xs Clear) → When (is_open s) (GoesAll xs Shut)
@@ -425,7 +425,7 @@ module _ (goal : Goal) (end : ℕ) (N : ℕ → ℕ → Type 0) where
 
   -- Items that go are tiled wherever they stand.
   abbrev IsTiled : List Item → Type 0
-  IsTiled xs = (q : Pen) (s : State) (us : List Blankness) (first : Bool) (a : Gap) (last : ℕ) → Lines q → AllPlaced N end xs q → GoesAll xs s → More q s us first a
+  IsTiled xs = (q : Pen) (s : State) (us : List Blankness) (first : Bool) (a : Spacing) (last : ℕ) → Lines q → AllPlaced N end xs q → GoesAll xs s → More q s us first a
       → last + bytes (gap_before us (chars (wrote (spread xs) q))) ≡ end → Tiled goal end N xs (gap_before us (chars (wrote (spread xs) q))) first a last
 
   placed_apart : (texts : List (List ℕ)) (xs : List Item) (q : Pen) → AllPlaced N end xs (after_texts texts q) → AllPlaced N end (apart texts xs) q
@@ -439,7 +439,7 @@ module _ (goal : Goal) (end : ℕ) (N : ℕ → ℕ → Type 0) where
       goes_tiled Div own (Plain (Text None own)) (apart others xs) q s us first a last (λ ts r h k. h) l g m e
       (λ last2 h r l2 f. tiled_apart others xs ih (after_text own q) (behind g.0 s) [] false Touching last2 l2 n h (text_more (after_text own q) (behind g.0 s) r) f)
 
-  together : (texts : List (List ℕ)) (xs : List Item) (x y : List ℕ) (first : Bool) (a : Gap) (last : ℕ) → x ≡ y → Tiled goal end N (apart texts xs) y first a last → Tiled goal end N (Meant (touching texts) ∷ xs) x first a last
+  together : (texts : List (List ℕ)) (xs : List Item) (x y : List ℕ) (first : Bool) (a : Spacing) (last : ℕ) → x ≡ y → Tiled goal end N (apart texts xs) y first a last → Tiled goal end N (Meant (touching texts) ∷ xs) x first a last
   together texts xs x y first a last e t =
       let z = says_apart N texts xs a t.gap (record { last = last; places = t.places }) t.over t.says in
       at_text (Meant (touching texts) ∷ xs) x y first a last e (record { places = t.places; tiles = t.tiles; gap = t.gap; over = t.over; says = (z.0, z.1, z.2, z.3); all = t.all; goals = t.goals })

@@ -8,7 +8,7 @@ use Rattle.ecma_scan.specs.Characters.{is_among}
 use Rattle.ecma_scan.specs.Runs.{Ends}
 use Rattle.ecma_literal.specs.Escapes.{is_decimal}
 use Rattle.ecma_literal.specs.Standing.{is_point}
-use Rattle.ecma_written_tiles.specs.Classes.{State, Fresh, Clear, Shut, Worded, Numbered, Pointed, Plused, Minused, Slashed, Lessed, LessBanged, Dotted, Operated, Decred, Hashed, Quasied, Class, Word, Number, Big, Member, Str, Regex, Plus, Incr, Minus, Decr, Bang, Slash, Less, Dot, Dots, Operator, Arrow, Hash, Closed, Quasi, End, is_open, is_end, is_wordless, is_digitless, takes, behind}
+use Rattle.ecma_written_tiles.specs.Categories.{State, Fresh, Clear, Shut, Worded, Numbered, Pointed, Plused, Minused, Slashed, Lessed, LessBanged, Dotted, Operated, Decred, Hashed, Quasied, Category, Word, Number, Big, Member, Str, Regex, Plus, Incr, Minus, Decr, Bang, Slash, Less, Dot, Dots, Operator, Arrow, Hash, Closed, Quasi, End, is_open, is_end, is_wordless, is_digitless, takes, behind}
 use Rattle.ecma_written_tiles.specs.Following.{is_wordy, is_joining, is_dotty, Follows, Needs, is_safe, Starts, never, not_hash, Front}
 
 not_both : false ≡ true → ⊥
@@ -22,7 +22,7 @@ both_false : (a b : Bool) → a ≡ false → b ≡ false → (a || b) ≡ false
 both_false true b e f = e
 both_false false b e f = f
 
--- ---- what a class asks
+-- ---- what a category asks
 
 ends_less : (p q : ℕ → Bool) (cs : List ℕ) → ((c : ℕ) → p c ≡ false → q c ≡ false) → Ends p cs → Ends q cs
 ends_less p q [] f h = tt
@@ -31,7 +31,7 @@ ends_less p q (c ∷ cs) f h = f c h
 operated_bang : (cs : List ℕ) → Follows Operated cs → Needs Bang cs
 operated_bang cs h = ends_less is_joining (is_among (61 ∷ [])) cs (λ c e. both_false (c == 61) false (or_none (c == 61) _ e).0 refl) h
 
-pub needs : (k : Class) (s : State) (rest : List ℕ) → Follows (behind k s) rest → Needs k rest
+pub needs : (k : Category) (s : State) (rest : List ℕ) → Follows (behind k s) rest → Needs k rest
 needs Word s rest h = h
 needs Number s rest h = h
 needs Big s rest h = h
@@ -366,7 +366,7 @@ ending_at Quasied cs rest e h = (h.0, rest, h.1 rest)
 ending_at _ cs rest e h = absurd (false≢true e)
 
 -- A text that the automaton takes may stand behind what stands there.
-pub fronts : (k : Class) (s : State) (cs rest : List ℕ) → takes k s ≡ true → Front k cs → Follows (behind k s) rest → Follows s (cs ++ rest)
+pub fronts : (k : Category) (s : State) (cs rest : List ℕ) → takes k s ≡ true → Front k cs → Follows (behind k s) rest → Follows s (cs ++ rest)
 fronts Word s cs rest e f h = word_at s cs rest e f
 fronts Number s cs rest e f h = number_at s cs rest e f
 fronts Big s cs rest e f h = number_at s cs rest e f

@@ -4,7 +4,7 @@ use Rattle.ecma_lexeme.specs.declared.goal.LexicalGoal.{LexicalGoal}
 use Rattle.ecma_lexeme.specs.declared.goal.LexicalGoal.TheVariants.{Div, RegExp, TemplateTail, TemplateEnd}
 use Rattle.ecma_pieces.specs.Pieces.{Piece, Text, Brace, Blank, Line, Deeper, Back, Semicolon, Commit, Mark}
 use Rattle.ecma_layout.specs.Looks.{Meaning, regular_expression, template_characters, template_end, hashbang_comment, touching, Laid, nothing, one, meant, named, both, refused, joined, texts_of}
-use Rattle.ecma_written_tiles.specs.Classes.{State, Fresh, Clear, Shut, is_open, takes, behind, blank_behind}
+use Rattle.ecma_written_tiles.specs.Categories.{State, Fresh, Clear, Shut, is_open, takes, behind, blank_behind}
 use Rattle.ecma_written_tiles.specs.Goes.{When, GoesText, GoesPiece, GoesTexts, GoesMeaning, Goes}
 
 -- ---- what holds behind a layout

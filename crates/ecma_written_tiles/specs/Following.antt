@@ -10,7 +10,7 @@ use Rattle.ecma_literal.specs.Standing.{is_point}
 use Rattle.ecma_literal.specs.Templates as templates
 use Rattle.ecma_lexeme.specs.declared.goal.LexicalGoal.{LexicalGoal}
 use Rattle.ecma_lexeme.specs.declared.goal.LexicalGoal.TheVariants.{TemplateTail, TemplateEnd}
-use Rattle.ecma_written_tiles.specs.Classes.{State, Fresh, Clear, Shut, Worded, Numbered, Pointed, Plused, Minused, Slashed, Lessed, LessBanged, Dotted, Operated, Decred, Hashed, Quasied, Class, Word, Number, Big, Member, Str, Regex, Plus, Incr, Minus, Decr, Bang, Slash, Less, Dot, Dots, Operator, Arrow, Hash, Closed, Quasi, End}
+use Rattle.ecma_written_tiles.specs.Categories.{State, Fresh, Clear, Shut, Worded, Numbered, Pointed, Plused, Minused, Slashed, Lessed, LessBanged, Dotted, Operated, Decred, Hashed, Quasied, Category, Word, Number, Big, Member, Str, Regex, Plus, Incr, Minus, Decr, Bang, Slash, Less, Dot, Dots, Operator, Arrow, Hash, Closed, Quasi, End}
 
 -- what goes on with a word or a number (12.7, 12.9.3)
 abbrev pub is_wordy : ℕ → Bool
@@ -45,8 +45,8 @@ Follows Decred cs = Ends (is_among (62 ∷ [])) cs
 Follows Hashed cs = Ends (is_among (33 ∷ [])) cs
 Follows Quasied cs = (e : Ending) × (r : List ℕ) × templates.Ends e cs r
 
--- These characters may follow a text of this class, for it to be read as the token that it is alone.
-abbrev pub Needs : Class → List ℕ → Type 0
+-- These characters may follow a text of this category, for it to be read as the token that it is alone.
+abbrev pub Needs : Category → List ℕ → Type 0
 Needs Word cs = Ends is_wordy cs
 Needs Number cs = Ends is_wordy cs × Ends is_point cs
 Needs Big cs = Ends is_wordy cs
@@ -69,7 +69,7 @@ Needs Closed cs = Unit {0}
 Needs Quasi cs = (e : Ending) × (r : List ℕ) × templates.Ends e cs r
 Needs End cs = Unit {0}
 
--- ---- what a class begins with
+-- ---- what a category begins with
 
 -- No operator goes on with it; a word, a number and a point may.
 abbrev pub is_safe : ℕ → Bool
@@ -91,8 +91,8 @@ never c = false
 abbrev pub not_hash : ℕ → Bool
 not_hash c = not (c == 35)
 
--- A text of this class begins so.
-abbrev pub Front : Class → List ℕ → Type 0
+-- A text of this category begins so.
+abbrev pub Front : Category → List ℕ → Type 0
 Front Word cs = Starts is_safe is_dotty never cs
 Front Number cs = Starts is_safe never never cs
 Front Big cs = Starts is_safe never never cs
@@ -126,12 +126,12 @@ pub record Quiet (text : List ℕ) : Type 0 where
   pub html : (inner : List ℕ) → text ≢ 60 ∷ 33 ∷ 45 ∷ 45 ∷ inner
 
 -- Only `--` begins `-->`.
-abbrev pub Arrowless : Class → List ℕ → Type 0
+abbrev pub Arrowless : Category → List ℕ → Type 0
 Arrowless Decr text = Unit {0}
 Arrowless k text = (inner : List ℕ) → text ≢ 45 ∷ 45 ∷ 62 ∷ inner
 
 -- trivia is asked of where it may stand
-abbrev pub QuietUnder : LexicalGoal → Class → List ℕ → Type 0
+abbrev pub QuietUnder : LexicalGoal → Category → List ℕ → Type 0
 QuietUnder TemplateTail k text = Unit {0}
 QuietUnder TemplateEnd k text = Unit {0}
 QuietUnder _ k text = Quiet text × Arrowless k text

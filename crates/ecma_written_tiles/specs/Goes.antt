@@ -7,19 +7,19 @@ use Rattle.ecma_lexeme.specs.Lexemes.{SpecLexeme, IsLexeme}
 use Rattle.ecma_pieces.specs.Pieces.{Piece, Text, Brace, Blank, Line, Deeper, Back, Semicolon, Commit, Mark}
 use Rattle.ecma_layout.specs.Looks.{Meaning, regular_expression, template_characters, template_end, hashbang_comment, touching, Laid, nothing, one, meant, named, both, refused, joined, texts_of}
 use Rattle.ecma_written.specs.Says.{IsOwn}
-use Rattle.ecma_written_tiles.specs.Classes.{State, Fresh, Clear, Shut, Class, Quasi, End, is_open, takes, behind, blank_behind}
+use Rattle.ecma_written_tiles.specs.Categories.{State, Fresh, Clear, Shut, Category, Quasi, End, is_open, takes, behind, blank_behind}
 use Rattle.ecma_written_tiles.specs.Following.{Needs, Front, QuietUnder}
 
 -- ---- one text
 
--- Under the goals of a template's characters and of their end there is one class each (12.9.6).
-abbrev pub KindOf : LexicalGoal → Class → Type 0
+-- Under the goals of a template's characters and of their end there is one category each (12.9.6).
+abbrev pub KindOf : LexicalGoal → Category → Type 0
 KindOf TemplateTail k = k ≡ Quasi
 KindOf TemplateEnd k = k ≡ End
 KindOf _ k = Unit {0}
 
--- These bytes are a token of this class: it is read before whatever the class lets follow.
-pub record Fits (goal : LexicalGoal) (bytes : List ℕ) (k : Class) : Type 0 where
+-- These bytes are a token of this category: it is read before whatever the category lets follow.
+pub record Fits (goal : LexicalGoal) (bytes : List ℕ) (k : Category) : Type 0 where
   pub kind_of : KindOf goal k
   pub utf8 : IsUtf8 bytes
   pub lexeme : SpecLexeme
@@ -35,9 +35,9 @@ When false P = ⊥
 
 -- ---- layouts
 
--- The text is a token of a class that may follow, and behind it P holds of what stands last.
+-- The text is a token of a category that may follow, and behind it P holds of what stands last.
 abbrev pub GoesText : LexicalGoal → List ℕ → State → (State → Type 0) → Type 0
-GoesText goal bytes s P = (k : Class) × Fits goal bytes k × When (takes k s) (P (behind k s))
+GoesText goal bytes s P = (k : Category) × Fits goal bytes k × When (takes k s) (P (behind k s))
 
 abbrev pub GoesPiece : Piece → State → (State → Type 0) → Type 0
 GoesPiece (Text span bytes) s P = GoesText Div bytes s P

@@ -1,7 +1,7 @@
 -- Laws of texts that are written: their statements.
 use Rattle.std.specs.Prelude.{◌≡◌, ℕ, Bool, List, []}
 use Rattle.std.specs.Str.{chars}
-use Rattle.ecma_syntax.specs.Input.{Place}
+use Rattle.ecma_syntax.specs.Input.{PlacedToken}
 use Rattle.ecma_grammar_goals.specs.TemplateLaws.{Outside, over}
 use Rattle.ecma_program_text.specs.Tiled.{Tile}
 use Rattle.ecma_write.specs.Pages.{Page}
@@ -25,4 +25,4 @@ HashbangsAreTiled = (start : ℕ) (modules : Bool) (mark : Laid) (own : List ℕ
 
 -- Tokens that tile a text tile it under other goals and in other contexts, where these keep the regions of templates, as those of a derivation do.
 abbrev pub TilesAgain : Type 0
-TilesAgain = (start : ℕ) (modules : Bool) (text : List ℕ) (ps qs : List Place) → Tile start modules text ps → AllHaveGoals ps → SameTokens ps qs → over (Outside []) qs ≡ Outside [] → Tile start modules text qs
+TilesAgain = (start : ℕ) (modules : Bool) (text : List ℕ) (ps qs : List PlacedToken) → Tile start modules text ps → AllHaveGoals ps → SameTokens ps qs → over (Outside []) qs ≡ Outside [] → Tile start modules text qs

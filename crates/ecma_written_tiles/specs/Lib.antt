@@ -1,4 +1,4 @@
-pub mod Classes
+pub mod Categories
 pub mod Following
 pub mod Goes
 pub mod Tiles

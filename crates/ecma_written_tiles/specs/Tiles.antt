@@ -4,28 +4,28 @@ use Rattle.std.specs.Str.{chars, IsUtf8}
 use Rattle.ecma_scan.specs.Characters.{is_white_space}
 use Rattle.ecma_scan.specs.Classes.{is_line_char}
 use Rattle.ecma_scan.specs.Runs.{Each}
-use Rattle.ecma_syntax.specs.Input.{Place, Input, div_goal, regexp_goal, template_goal, template_end_goal}
+use Rattle.ecma_syntax.specs.Input.{PlacedToken, Input, div_goal, regexp_goal, template_goal, template_end_goal}
 use Rattle.ecma_program_text.specs.Tiled.{Tile}
 use Rattle.ecma_write.specs.Pages.{Page}
 use Rattle.ecma_pieces.specs.Pieces.{Mark}
 use Rattle.ecma_layout.specs.Looks.{Laid, nothing, one}
-use Rattle.ecma_written.specs.Gaps.{Gap, Spaced}
+use Rattle.ecma_written.specs.Spacings.{Spacing, Spaced}
 use Rattle.ecma_written.specs.Says.{Says}
 
 -- The goal of a place is one of the four (clause 12).
-abbrev pub HasGoal : Place → Type 0
+abbrev pub HasGoal : PlacedToken → Type 0
 HasGoal p = (p.goal ≡ div_goal) ⊎ ((p.goal ≡ regexp_goal) ⊎ ((p.goal ≡ template_goal) ⊎ (p.goal ≡ template_end_goal)))
 
-abbrev pub AllHaveGoals : List Place → Type 0
+abbrev pub AllHaveGoals : List PlacedToken → Type 0
 AllHaveGoals [] = Unit {0}
 AllHaveGoals (p ∷ ps) = HasGoal p × AllHaveGoals ps
 
 -- The layout says tokens that tile the text, whose characters begin at a place, and no other; N holds of where each name was read and where it is written.
 pub record SaysTiles (N : ℕ → ℕ → Type 0) (start : ℕ) (modules : Bool) (f : Laid) (text : List ℕ) : Type 0 where
-  pub places : List Place
+  pub places : List PlacedToken
   pub tiles : Tile start modules text places
   pub goals : AllHaveGoals places
-  pub gap : Gap
+  pub gap : Spacing
   pub over : Input
   pub says : Says N f Spaced (record { last = start; places = places }) gap over
   pub all : over.places ≡ []
@@ -55,10 +55,10 @@ IsSilent (one (Mark pos)) = Unit {0}
 IsSilent f = ⊥
 
 -- the same token, whatever the goal and the context
-abbrev pub SameToken : Place → Place → Type 0
+abbrev pub SameToken : PlacedToken → PlacedToken → Type 0
 SameToken x y = (x.spot ≡ y.spot) × (x.escaped ≡ y.escaped)
 
-abbrev pub SameTokens : List Place → List Place → Type 0
+abbrev pub SameTokens : List PlacedToken → List PlacedToken → Type 0
 SameTokens [] [] = Unit {0}
 SameTokens (x ∷ xs) (y ∷ ys) = SameToken x y × SameTokens xs ys
 SameTokens _ _ = ⊥

@@ -3,17 +3,17 @@ use Rattle.ecma_parse_blocks.specs.Declarators.{declarators_of, FitDeclarators, 
 use Rattle.ecma_reading.specs.Statements.{declarators_by, declarator_step}
 use Rattle.ecma_reading.specs.Source.{iterate, bound}
 use Rattle.ecma_parse_state.specs.Codes.{code_of}
-use Rattle.ecma_parse_state.specs.Fronts.{machine_of}
-use Rattle.ecma_parse_state.specs.Stands.{stand}
+use Rattle.ecma_parse_state.specs.Cursors.{stream_of}
+use Rattle.ecma_parse_state.specs.States.{state_of}
 use Rattle.ecma_parse_blocks.proofs.declarations.declarators.Given as goal
 
 abbrev pub invariant-turns : goal.invariant-turns
-invariant-turns g l = let m = machine_of g.I.Tokens.machine in let inside = g.N.Nested.reads l.fn.nested _ g.I.Tokens.machine in record {
-  reads : declarators_by m inside (code_of l.fn.code) (stand g.I.Tokens.state l.fn.p) ≡ iterate (bound m) (declarator_step m inside (code_of l.fn.code)) (declarators_of l.list) (stand g.I.Tokens.state l.p);
+invariant-turns g l = let m = stream_of g.I.Tokens.machine in let inside = g.N.Nested.reads l.fn.nested _ g.I.Tokens.machine in record {
+  reads : declarators_by m inside (code_of l.fn.code) (state_of g.I.Tokens.state l.fn.p) ≡ iterate (bound m) (declarator_step m inside (code_of l.fn.code)) (declarators_of l.list) (state_of g.I.Tokens.state l.p);
   fits : FitDeclarators l.list;
   end : TellsEnd l.list;
-  not_longer : bound m (stand g.I.Tokens.state l.p) ≤ bound m (stand g.I.Tokens.state l.fn.p);
+  not_longer : bound m (state_of g.I.Tokens.state l.p) ≤ bound m (state_of g.I.Tokens.state l.fn.p);
 }
 
 abbrev pub decreases-turns : goal.decreases-turns
-decreases-turns g l = bound (machine_of g.I.Tokens.machine) (stand g.I.Tokens.state l.p)
+decreases-turns g l = bound (stream_of g.I.Tokens.machine) (state_of g.I.Tokens.state l.p)

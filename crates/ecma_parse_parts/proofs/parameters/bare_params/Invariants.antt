@@ -5,16 +5,16 @@ use Rattle.ecma_node.specs.View.{view_param}
 use Rattle.ecma_reading.specs.Source.{iterate, bound}
 use Rattle.ecma_parse_parts.specs.Parts.{bare_by, bare_step}
 use Rattle.ecma_parse_state.specs.Codes.{code_of}
-use Rattle.ecma_parse_state.specs.Fronts.{machine_of}
-use Rattle.ecma_parse_state.specs.Stands.{stand}
+use Rattle.ecma_parse_state.specs.Cursors.{stream_of}
+use Rattle.ecma_parse_state.specs.States.{state_of}
 use Rattle.ecma_parse_parts.proofs.parameters.bare_params.Given as goal
 
 abbrev pub invariant-turns : goal.invariant-turns
-invariant-turns g l = let m = machine_of g.I.Tokens.machine in let inner_reads = g.N.Nested.reads l.fn.nested _ g.I.Tokens.machine in record {
-  reads : bare_by m inner_reads (code_of l.fn.code) (stand g.I.Tokens.state l.fn.p) ≡ iterate (bound m) (bare_step m inner_reads (code_of l.fn.code)) (map (view_param inner) l.params.items) (stand g.I.Tokens.state l.p);
+invariant-turns g l = let m = stream_of g.I.Tokens.machine in let inner_reads = g.N.Nested.reads l.fn.nested _ g.I.Tokens.machine in record {
+  reads : bare_by m inner_reads (code_of l.fn.code) (state_of g.I.Tokens.state l.fn.p) ≡ iterate (bound m) (bare_step m inner_reads (code_of l.fn.code)) (map (view_param inner) l.params.items) (state_of g.I.Tokens.state l.p);
   fits : All (λ x. fits_param (λ p. p) x) l.params.items;
-  not_longer : bound m (stand g.I.Tokens.state l.p) ≤ bound m (stand g.I.Tokens.state l.fn.p);
+  not_longer : bound m (state_of g.I.Tokens.state l.p) ≤ bound m (state_of g.I.Tokens.state l.fn.p);
 }
 
 abbrev pub decreases-turns : goal.decreases-turns
-decreases-turns g l = bound (machine_of g.I.Tokens.machine) (stand g.I.Tokens.state l.p)
+decreases-turns g l = bound (stream_of g.I.Tokens.machine) (state_of g.I.Tokens.state l.p)

@@ -3,15 +3,15 @@ use Rattle.ecma_node.specs.View.{view_import_specifier}
 use Rattle.ecma_reading.specs.Source.{iterate, bound}
 use Rattle.ecma_reading.specs.Modules.{specifiers_by, specifier_step}
 use Rattle.ecma_parse_state.specs.Codes.{code_of}
-use Rattle.ecma_parse_state.specs.Fronts.{machine_of}
-use Rattle.ecma_parse_state.specs.Stands.{stand}
+use Rattle.ecma_parse_state.specs.Cursors.{stream_of}
+use Rattle.ecma_parse_state.specs.States.{state_of}
 use Rattle.ecma_parse_programs.proofs.imports.named_imports.Given as goal
 
 abbrev pub invariant-turns : goal.invariant-turns
-invariant-turns g l = let m = machine_of g.I.Tokens.machine in let inner = g.N.Nested.reads l.fn.nested _ g.I.Tokens.machine in record {
-  reads : specifiers_by m inner true (code_of l.fn.code) (stand g.I.Tokens.state l.fn.p) ≡ iterate (bound m) (specifier_step m inner true (code_of l.fn.code)) (map view_import_specifier l.list.items) (stand g.I.Tokens.state l.p);
-  not_longer : bound m (stand g.I.Tokens.state l.p) ≤ bound m (stand g.I.Tokens.state l.fn.p);
+invariant-turns g l = let m = stream_of g.I.Tokens.machine in let inner = g.N.Nested.reads l.fn.nested _ g.I.Tokens.machine in record {
+  reads : specifiers_by m inner true (code_of l.fn.code) (state_of g.I.Tokens.state l.fn.p) ≡ iterate (bound m) (specifier_step m inner true (code_of l.fn.code)) (map view_import_specifier l.list.items) (state_of g.I.Tokens.state l.p);
+  not_longer : bound m (state_of g.I.Tokens.state l.p) ≤ bound m (state_of g.I.Tokens.state l.fn.p);
 }
 
 abbrev pub decreases-turns : goal.decreases-turns
-decreases-turns g l = bound (machine_of g.I.Tokens.machine) (stand g.I.Tokens.state l.p)
+decreases-turns g l = bound (stream_of g.I.Tokens.machine) (state_of g.I.Tokens.state l.p)

@@ -3,16 +3,16 @@ use Rattle.ecma_parse_statements.specs.Lists.{chain_items, chain_of, FitChain}
 use Rattle.ecma_reading.specs.Statements.{if_step}
 use Rattle.ecma_reading.specs.Source.{iterate, bound}
 use Rattle.ecma_parse_state.specs.Codes.{code_of}
-use Rattle.ecma_parse_state.specs.Fronts.{machine_of}
-use Rattle.ecma_parse_state.specs.Stands.{stand}
+use Rattle.ecma_parse_state.specs.Cursors.{stream_of}
+use Rattle.ecma_parse_state.specs.States.{state_of}
 use Rattle.ecma_parse_statements.proofs.ifs.chain.Given as goal
 
 abbrev pub invariant-turns : goal.invariant-turns
-invariant-turns g l = let m = machine_of g.I.Tokens.machine in let inside = g.N.Nested.reads l.fn.nested _ g.I.Tokens.machine in record {
-  reads : chain_items m inside (code_of l.fn.code) (stand g.I.Tokens.state l.fn.p) ≡ iterate (bound m) (if_step m inside) (chain_of l.read) (stand g.I.Tokens.state l.p);
+invariant-turns g l = let m = stream_of g.I.Tokens.machine in let inside = g.N.Nested.reads l.fn.nested _ g.I.Tokens.machine in record {
+  reads : chain_items m inside (code_of l.fn.code) (state_of g.I.Tokens.state l.fn.p) ≡ iterate (bound m) (if_step m inside) (chain_of l.read) (state_of g.I.Tokens.state l.p);
   fits : FitChain l.read;
-  not_longer : bound m (stand g.I.Tokens.state l.p) ≤ bound m (stand g.I.Tokens.state l.fn.p);
+  not_longer : bound m (state_of g.I.Tokens.state l.p) ≤ bound m (state_of g.I.Tokens.state l.fn.p);
 }
 
 abbrev pub decreases-turns : goal.decreases-turns
-decreases-turns g l = bound (machine_of g.I.Tokens.machine) (stand g.I.Tokens.state l.p)
+decreases-turns g l = bound (stream_of g.I.Tokens.machine) (state_of g.I.Tokens.state l.p)

@@ -1,4 +1,4 @@
--- Runs of a lexer: steps one after the other that each hand out a token.
+-- Lists of steps of a lexer, each of which hands out a token.
 use Rattle.std.specs.Prelude.{◌≡◌, ◌≢◌, List, [], ◌∷◌, None, Some}
 use Rattle.ecma_token.specs.Kinds.{error_kind}
 use Rattle.ecma_token.specs.Tokens.{Spot}
@@ -12,10 +12,10 @@ abbrev pub NoReread : Settings → Settings → Type 0
 NoReread old new = new.next_regexp ≡ None
 
 -- These tokens are handed out one after the other, and after each something may be told.
-abbrev pub Runs : (Settings → Settings → Type 0) → State → List Spot → State → Type 0
-Runs May s [] new = s ≡ new
-Runs May s (spot ∷ spots) new =
-    (behind : State) × (told : Settings) × IsStep s (Some spot) behind × May behind.settings told × Runs May (told_of told behind) spots new
+abbrev pub AreSteps : (Settings → Settings → Type 0) → State → List Spot → State → Type 0
+AreSteps May s [] new = s ≡ new
+AreSteps May s (spot ∷ spots) new =
+    (behind : State) × (told : Settings) × IsStep s (Some spot) behind × May behind.settings told × AreSteps May (told_of told behind) spots new
 
 -- At the start of a text, with no slash to be read again.
 pub record IsAtStart (s : State) : Type 0 where

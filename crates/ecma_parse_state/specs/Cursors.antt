@@ -1,4 +1,4 @@
--- Where a parser stands in a source of tokens, and how reading goes on from there: the machine of the reading functions over any source.
+-- Where a parser stands in a source of tokens, and how reading goes on from there: the stream of the reading functions over any source.
 use Rattle.std.specs.Prelude.{ℕ, zero, suc, ◌+◌, Bool, true, false, not, ◌&&◌, ◌||◌, ◌==◌, if◌then◌else◌, List, [], ◌∷◌, length, Option, None, Some, option_map}
 use Rattle.ecma_token.specs.declared.context.Context.{Context}
 use Rattle.ecma_token.specs.Kinds.{end_kind, div_kind, div_assign_kind, regex_kind, error_kind}
@@ -6,13 +6,13 @@ use Rattle.ecma_token.specs.Tokens.{Spot}
 use Rattle.ecma_token_source.specs.Machine as tokens
 use Rattle.ecma_token_source.specs.Machine.{Source}
 use Rattle.ecma_token_source.specs.Settings.{with_ctx, with_next_regexp}
-use Rattle.ecma_syntax.specs.Input.{Place, no_context, div_goal, is_word, text_in}
+use Rattle.ecma_syntax.specs.Input.{PlacedToken, no_context, div_goal, is_word, text_in}
 use Rattle.ecma_reading.specs.Source as reading
-use Rattle.ecma_reading.specs.Source.{Stand}
+use Rattle.ecma_reading.specs.Source.{State}
 
--- The token that comes, or none at the end; the source behind it; and where the last token that was taken ends. A mark, which tells where
+-- The token that comes, or none at the end; the source behind it; and where the last token that was taken ends. A start, which tells where
 -- something began, has no source.
-pub record Front (S : Type 0) : Type 0 where
+pub record Cursor (S : Type 0) : Type 0 where
   pub first : Option Spot
   pub behind : Option (Source S)
   pub last : ℕ
@@ -24,11 +24,11 @@ abbrev pub is_escaped : Spot → Bool
 is_escaped t = is_word t.token.kind && not (t.lo + length (text_in t.token.content) == t.hi)
 
 -- A token in its place. Reading asks for no goal, no context and no spelling of literals.
-abbrev pub place_of : Spot → Place
+abbrev pub place_of : Spot → PlacedToken
 place_of t = record { spot = t; escaped = is_escaped t; goal = div_goal; context = no_context }
 
 -- the token that comes, and up to so many behind it
-abbrev pub places : {S : Type 0} → tokens.Machine S → ℕ → Option Spot → Option (Source S) → List Place
+abbrev pub places : {S : Type 0} → tokens.Machine S → ℕ → Option Spot → Option (Source S) → List PlacedToken
 places m n None behind = []
 places m n (Some t) None = place_of t ∷ []
 places m zero (Some t) (Some s) = place_of t ∷ []
@@ -41,11 +41,11 @@ kind_in (Some t) = t.token.kind
 
 -- ---- going on
 
-abbrev pub read_on : {S : Type 0} → Option Spot × Source S → ℕ → Front S
+abbrev pub read_on : {S : Type 0} → Option Spot × Source S → ℕ → Cursor S
 read_on x last = record { first = x.0; behind = Some x.1; last = last }
 
 -- The token that comes is taken. At the end nothing changes.
-abbrev pub after_by : {S : Type 0} → tokens.Machine S → Option Spot → Option (Source S) → Front S → Front S
+abbrev pub after_by : {S : Type 0} → tokens.Machine S → Option Spot → Option (Source S) → Cursor S → Cursor S
 after_by m (Some t) (Some s) q = read_on (m.step s) t.hi
 after_by m first behind q = q
 
@@ -61,26 +61,26 @@ asked place s = record s { settings = with_next_regexp place s.settings }
 abbrev pub withdrawn : {S : Type 0} → Option Spot × Source S → Option Spot × Source S
 withdrawn x = (x.0, asked None x.1)
 
--- both line-break marks, or neither
-abbrev pub same_mark : Bool → Bool → Bool
-same_mark true b = b
-same_mark false b = not b
+-- both line-break flags, or neither
+abbrev pub same_break : Bool → Bool → Bool
+same_break true b = b
+same_break false b = not b
 
--- A regular expression, or a fault of one, in a slash's place (ECMA-262, 12.9.5): it begins where the slash does, with the same line-break mark.
+-- A regular expression, or a fault of one, in a slash's place (ECMA-262, 12.9.5): it begins where the slash does, with the same line-break flag.
 abbrev pub in_place : Spot → Option Spot → Bool
 in_place t None = false
-in_place t (Some u) = ((u.token.kind == regex_kind) || (u.token.kind == error_kind)) && ((u.lo == t.lo) && same_mark u.line_break t.line_break)
+in_place t (Some u) = ((u.token.kind == regex_kind) || (u.token.kind == error_kind)) && ((u.lo == t.lo) && same_break u.line_break t.line_break)
 
 -- what the source hands out where this slash is asked for again
 abbrev pub again_in : {S : Type 0} → tokens.Machine S → Spot → Source S → Option Spot
 again_in m t s = (m.step (asked (Some t.lo) s)).0
 
 -- What a slash that comes is read again as, and the source behind it. Where the source hands out no such token, the slash stays, and the source stands as it did.
-abbrev pub reread_by : {S : Type 0} → Spot → Option Spot × Source S → Front S → Front S
+abbrev pub reread_by : {S : Type 0} → Spot → Option Spot × Source S → Cursor S → Cursor S
 reread_by t x q = if in_place t x.0 then read_on (withdrawn x) q.last else q
 
 -- A slash that comes is read as a regular expression.
-abbrev pub operand_by : {S : Type 0} → tokens.Machine S → Option Spot → Option (Source S) → Front S → Front S
+abbrev pub operand_by : {S : Type 0} → tokens.Machine S → Option Spot → Option (Source S) → Cursor S → Cursor S
 operand_by m (Some t) (Some s) q = if is_slash t.token.kind then reread_by t (m.step (asked (Some t.lo) s)) q else q
 operand_by m first behind q = q
 
@@ -100,14 +100,14 @@ abbrev pub bound_in : {S : Type 0} → tokens.Machine S → Option (Source S) �
 bound_in m None = 0
 bound_in m (Some s) = m.bound s.tokens
 
--- ---- the machine
+-- ---- the stream
 
-unfoldable pub machine_of : {S : Type 0} → tokens.Machine S → reading.Machine (Front S)
-machine_of m = record {
+unfoldable pub stream_of : {S : Type 0} → tokens.Machine S → reading.Stream (Cursor S)
+stream_of m = record {
   seen = λ q. places m 2 q.first q.behind;
   after = λ q. after_by m q.first q.behind q;
   operand = λ q. operand_by m q.first q.behind q;
-  turned = λ x q. record q { behind = option_map (told_of x) q.behind };
+  retold = λ x q. record q { behind = option_map (told_of x) q.behind };
   bound = λ q. one_in q.first + bound_in m q.behind;
   last = λ q. q.last;
 }

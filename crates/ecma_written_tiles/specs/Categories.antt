@@ -31,35 +31,35 @@ pub data State : Type 0 where
   -- characters of a template
   Quasied : State
 
--- the classes of texts
-pub data Class : Type 0 where
+-- the categories of texts
+pub data Category : Type 0 where
   -- words and literals; a number whose point comes next is a `Member`
-  Word : Class
-  Number : Class
-  Big : Class
-  Member : Class
-  Str : Class
-  Regex : Class
+  Word : Category
+  Number : Category
+  Big : Category
+  Member : Category
+  Str : Category
+  Regex : Category
   -- `+`, `++`, `-`, `--`, `!`, `/`, `<`, `.`, `...`
-  Plus : Class
-  Incr : Class
-  Minus : Class
-  Decr : Class
-  Bang : Class
-  Slash : Class
-  Less : Class
-  Dot : Class
-  Dots : Class
+  Plus : Category
+  Incr : Category
+  Minus : Category
+  Decr : Category
+  Bang : Category
+  Slash : Category
+  Less : Category
+  Dot : Category
+  Dots : Category
   -- any other operator behind an operand; `=>`, which nothing goes on with
-  Operator : Class
-  Arrow : Class
+  Operator : Category
+  Arrow : Category
   -- `#`
-  Hash : Class
+  Hash : Category
   -- a mark that nothing goes on with, as `(`, `}` or `,`
-  Closed : Class
+  Closed : Category
   -- characters of a template, and what ends them
-  Quasi : Class
-  End : Class
+  Quasi : Category
+  End : Category
 
 -- White space may follow: anything but a number before its point and the characters of a template.
 abbrev pub is_open : State → Bool
@@ -89,8 +89,8 @@ is_digitless s = is_wordless s
 
 -- ---- what may touch what
 
--- A text of this class may follow where this stands.
-abbrev pub takes : Class → State → Bool
+-- A text of this category may follow where this stands.
+abbrev pub takes : Category → State → Bool
 takes Word s = is_wordless s
 takes Number s = is_digitless s
 takes Big s = is_digitless s
@@ -134,7 +134,7 @@ takes End Quasied = true
 takes End s = false
 
 -- what stands last behind such a text
-abbrev pub behind : Class → State → State
+abbrev pub behind : Category → State → State
 behind Word s = Worded
 behind Number s = Numbered
 behind Big s = Worded
