@@ -1,5 +1,6 @@
 //! A source that keeps the tokens that another hands out.
 ghost use Rattle.std.specs.Prelude.{◌≡◌, ◌<◌, ◌≤◌, ◌==◌, ◌||◌, [], map, option_map, IfErr, IfOk, MatchOption, OnErr, OnOk, Some};
+ghost use Rattle.std.specs.Borrow.{sem};
 ghost use Rattle.ecma_token.specs.Kinds.{div_kind, div_assign_kind};
 ghost use Rattle.ecma_token.specs.OperatorKinds.{bin_op_kind, assign_op_kind};
 ghost use Rattle.ecma_token.specs.TokenViews.{token_view};
@@ -8,6 +9,7 @@ ghost use Rattle.ecma_token_source.specs.Contexts.{outward};
 ghost use Rattle.ecma_token_source.specs.Machine.{SameTold, StepGives, shown_spot};
 ghost use Rattle.ecma_token_source.specs.Settings as spec;
 ghost use Rattle.ecma_input.specs.Captures.{captured_with, is_slash_at, without_reread};
+ghost use Rattle.ecma_input.specs.Lending.{capturing_with_open, CapturingLends};
 
 use crate::copies::{clone_token, clone_tokens};
 use ecma_token::{
@@ -129,6 +131,8 @@ impl<'a, I: Tokens<'a> + Drop> Tokens<'a> for Capturing<'a, I> {
 
     ghost state = { λ x. I.state x.input };
 
+    ghost with_open = { capturing_with_open I.with_open };
+
     fn next(&mut self) -> Result<Option<TokenAndSpan<'a>>, Error>
         ensures value { StepGives result (I.machine.step (I.state self.old.input)) (I.state self.new.input) }
         ensures falls { IfOk result (λ t. MatchOption t (I.machine.bound (I.state self.new.input).tokens ≤ I.machine.bound (I.state self.old.input).tokens)
@@ -202,7 +206,10 @@ impl<'a, I: Tokens<'a> + Drop> Tokens<'a> for Capturing<'a, I> {
         self.input.token_context()
     }
 
-    fn token_context_mut(&mut self) -> &mut TokenContexts {
+    fn token_context_mut(&mut self) -> &mut TokenContexts
+        ensures* writes_back { sem 𝓛 (CapturingLends I.row I.with_open self.entry result) }
+        ensures value { outward result.now ≡ (I.state self.old.input).settings.contexts }
+    {
         self.input.token_context_mut()
     }
 
@@ -238,4 +245,6 @@ impl<'a, I: Tokens<'a> + Drop> Tokens<'a> for Capturing<'a, I> {
     {
         self.input.take_errors()
     }
+
+    ghost opens = { λ x. I.opens x.input };
 }

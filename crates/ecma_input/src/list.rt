@@ -1,9 +1,9 @@
 //! A list as a source of tokens.
-ghost use Rattle.std.specs.Prelude.{◌≡◌, List, map, option_map, reverse};
+ghost use Rattle.std.specs.Prelude.{◌≡◌, List, map, option_map, refl, reverse};
 ghost use Rattle.std.specs.Borrow.{sem};
 ghost use Rattle.ecma_token.specs.Tokens.{Spot};
 ghost use Rattle.ecma_token_source.specs.Contexts.{outward};
-ghost use Rattle.ecma_input.specs.Lending.{LendsContexts};
+ghost use Rattle.ecma_input.specs.Lending.{list_with_open, ListLends};
 ghost use Rattle.ecma_token_source.specs.Machine.{shown_spot};
 ghost use Rattle.ecma_input.specs.Lists.{list_in, list_machine, list_source, seen_in, start_of};
 
@@ -74,6 +74,8 @@ impl<'a> Tokens<'a> for TokensInput<'a> {
 
     ghost state = { list_source };
 
+    ghost with_open = { list_with_open };
+
     fn next(&mut self) -> Result<Option<TokenAndSpan<'a>>, Error> {
         Ok(self.from_end.pop())
     }
@@ -130,7 +132,7 @@ impl<'a> Tokens<'a> for TokensInput<'a> {
     }
 
     fn token_context_mut(&mut self) -> &mut TokenContexts
-        ensures* writes_back { sem 𝓛 (LendsContexts self.entry result) }
+        ensures* writes_back { sem 𝓛 (ListLends self.entry result) }
         ensures value { outward result.now ≡ (list_source self.old).settings.contexts }
     {
         self.settings.contexts_mut()
@@ -153,4 +155,6 @@ impl<'a> Tokens<'a> for TokensInput<'a> {
     fn take_errors(&mut self) -> Vec<Error> {
         self.settings.take_errors()
     }
+
+    ghost opens = { λ x contexts. refl };
 }

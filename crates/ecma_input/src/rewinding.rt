@@ -213,6 +213,8 @@ impl<'a, I: Tokens<'a> + Drop> Tokens<'a> for Rewinding<I> {
 
     ghost state = { λ x. I.state x.input };
 
+    ghost with_open = { λ x contexts. record x { input = I.with_open x.input contexts; copy = None } };
+
     fn next(&mut self) -> Result<Option<TokenAndSpan<'a>>, Error>
         ensures value { StepGives result (I.machine.step (I.state self.old.input)) (I.state self.new.input) }
         ensures falls { IfOk result (λ t. MatchOption t (I.machine.bound (I.state self.new.input).tokens ≤ I.machine.bound (I.state self.old.input).tokens)
@@ -334,4 +336,6 @@ impl<'a, I: Tokens<'a> + Drop> Tokens<'a> for Rewinding<I> {
         self.copy = None;
         self.input.take_errors()
     }
+
+    ghost opens = { λ x. I.opens x.input };
 }

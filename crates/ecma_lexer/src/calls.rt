@@ -1,11 +1,11 @@
 //! The lexer as a source of tokens.
 ghost use Rattle.std.specs.Borrow.{sem};
-ghost use Rattle.std.specs.Prelude.{◌≡◌, option_map, IfErr, OnErr, OnOk};
+ghost use Rattle.std.specs.Prelude.{◌≡◌, option_map, refl, IfErr, OnErr, OnOk};
 ghost use Rattle.ecma_token.specs.declared.error.SyntaxError.TheVariants.{Memory};
 ghost use Rattle.ecma_token_source.specs.Contexts.{outward};
 ghost use Rattle.ecma_token_source.specs.Settings as spec;
 ghost use Rattle.ecma_lexing.specs.States.{Text};
-ghost use Rattle.ecma_lexer.specs.Lending.{LendsContexts};
+ghost use Rattle.ecma_lexer.specs.Lending.{lexer_with_open, LendsContexts};
 ghost use Rattle.ecma_lexer.specs.Lexer.{SameKept, state_in};
 ghost use Rattle.ecma_lexer.specs.Machine.{lexer_machine};
 
@@ -20,6 +20,8 @@ impl<'a> Tokens<'a> for Lexer<'a> {
     ghost machine = { lexer_machine };
 
     ghost state = { state_in };
+
+    ghost with_open = { lexer_with_open };
 
     #[tactic(auto, using(crate::proofs::MachineLemmas::gives))]
     fn next(&mut self) -> Result<Option<TokenAndSpan<'a>>, Error> {
@@ -121,4 +123,6 @@ impl<'a> Tokens<'a> for Lexer<'a> {
     {
         self.settings.take_errors()
     }
+
+    ghost opens = { λ x contexts. refl };
 }

@@ -1,10 +1,12 @@
 //! Sources of tokens.
 ghost use Rattle.std.specs.Prelude.{◌≡◌, ◌<◌, ◌≤◌, option_map, IfErr, IfOk, MatchOption, MatchResult, OnErr, OnOk};
+ghost use Rattle.std.specs.Borrow.{Lends, sem};
 ghost use Rattle.ecma_token.specs.declared.error.SyntaxError.TheVariants.{Memory};
 ghost use Rattle.ecma_token_source.specs.Contexts.{outward};
 ghost use Rattle.ecma_token_source.specs.Looks.{seen};
 ghost use Rattle.ecma_token_source.specs.Machine.{Machine, SameTold, Source, StepGives, shown_spot};
 ghost use Rattle.ecma_token_source.specs.Settings as spec;
+ghost use Rattle.ecma_token_source.specs.contracts.contexts.TokenContexts.{the_row as contexts_row};
 
 use crate::contexts::TokenContexts;
 use crate::look::Look;
@@ -12,6 +14,8 @@ use ecma_token::{BytePos, Context, Error, EsVersion, Syntax, TokenAndSpan};
 
 /// A source of tokens. It is told of the code around the next token, and records faults.
 pub trait Tokens<'a> {
+    ghost use Rattle.ecma_token_source.specs.declared.contexts.TokenContexts.{TokenContexts};
+
     /// The form in which a source keeps its tokens.
     ghost State: { Type 0 };
 
@@ -20,6 +24,9 @@ pub trait Tokens<'a> {
 
     /// A source at one moment.
     ghost state: { Self → Source State };
+
+    /// A source once other token contexts were left behind the loan of `token_context_mut`.
+    ghost with_open: { Self → TokenContexts → Self };
 
     /// The next token, or nothing at the end. Behind the end nothing comes and nothing changes, while no
     /// slash is asked for and no token contexts are set, whatever else is told: `machine.end_stays`.
@@ -86,9 +93,10 @@ pub trait Tokens<'a> {
     fn token_context(&self) -> &TokenContexts
         ensures { outward result.now ≡ (state self.now).settings.contexts };
 
-    /// The same, to change it.
+    /// The same, to change it. Once the loan is over, other token contexts are all that changed: `with_open`.
     fn token_context_mut(&mut self) -> &mut TokenContexts
-        ensures { outward result.now ≡ (state self.old).settings.contexts };
+        ensures* writes_back { sem 𝓛 (Lends Self.row contexts_row self.entry result (with_open self.old)) }
+        ensures value { outward result.now ≡ (state self.old).settings.contexts };
 
     /// Tells what encloses the next token.
     fn set_token_context(&mut self, contexts: TokenContexts)
@@ -118,4 +126,7 @@ pub trait Tokens<'a> {
     fn take_errors(&mut self) -> Vec<Error>
         ensures answer { result.items ≡ (state self.old).settings.recorded }
         ensures taken { state self.new ≡ record (state self.old) { settings = spec.without_errors (state self.old).settings } };
+
+    /// Of what contracts see, other token contexts change the settings alone.
+    ghost opens: { (x : Self) (contexts : TokenContexts) → state (with_open x contexts) ≡ record (state x) { settings = spec.with_contexts (outward contexts) (state x).settings } };
 }
