@@ -12,7 +12,7 @@ pub record Child : Type 1 where
   pub produced : Code → Input → Input → Type 0
 
 abbrev pub child : Tree → (Code → Input → Input → Type 0) → Child
-child t produced = record { tree = t; produced = spelled }
+child t produced = record { tree = t; produced = produced }
 
 -- one of two, by a test
 abbrev pub By : Bool → Type 0 → Type 0 → Type 0
