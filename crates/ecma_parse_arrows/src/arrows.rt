@@ -12,7 +12,7 @@ ghost use Rattle.ecma_parse_base.specs.Operands.{tree_of};
 use crate::made;
 use ecma_atom::Atom;
 use ecma_node::PatBox;
-use ecma_parse_base::{Nested, Operand};
+use ecma_parse_base::{Held, Nested, Operand};
 use ecma_parse_state::code::{in_arrow, in_list, with_in};
 use ecma_parse_state::operators::ASSIGNMENT;
 use ecma_parse_state::{Around, Failure, Parser, kinds};
@@ -46,17 +46,18 @@ pub fn arrow<'a, I: Tokens<'a> + Drop, N: Nested<'a, I>>(
     ensures value { Gives (λ x. (tree_of x, state_of I.state p.new)) result (reads.arrow_by (stream_of I.machine) (N.reads nested.now I.State I.machine) (code_of code) (from start.0) is_async (map (λ y. inner y.part.value) params.items) (state_of I.state p.old)) }
     ensures shorter { Falls result (spec.bound (stream_of I.machine) (state_of I.state p.new)) (spec.bound (stream_of I.machine) (state_of I.state p.old)) }
 {
+    let params = Held { value: params };
     p.bump()?;
     if p.at(kinds::LEFT_BRACE) {
         let body = nested.body(p, in_list(with_in(in_arrow(is_async, code))))?;
-        return made::block_arrow(p.alloc, p.since(start), params, body, is_async);
+        return made::block_arrow(p.alloc, p.since(start), params.take(), body, is_async);
     }
     let body = nested.expr(p, in_arrow(is_async, code), ASSIGNMENT)?;
-    made::plain_arrow(p.alloc, p.since(start), params, body, is_async)
+    made::plain_arrow(p.alloc, p.since(start), params.take(), body, is_async)
 }
 
 /// What follows a name, which may be the one parameter of an arrow.
-#[inline(never)]
+#[inline(always)]
 #[tactic(auto, using(ecma_parse_state::proofs::Marks::marks, crate::proofs::Starts::starts), unfolding(ecma_reading::specs::Expressions::ident_end))]
 pub fn ident_end<'a, I: Tokens<'a> + Drop, N: Nested<'a, I>>(
     p: &mut Parser<'a, I>,

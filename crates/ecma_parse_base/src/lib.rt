@@ -3,6 +3,7 @@
 #![tactic(auto)]
 
 pub mod elements;
+pub mod held;
 pub mod lists;
 pub mod literals;
 pub mod made;
@@ -11,5 +12,6 @@ pub mod nested;
 pub mod operand;
 pub mod operators;
 
+pub use held::Held;
 pub use nested::Nested;
 pub use operand::Operand;

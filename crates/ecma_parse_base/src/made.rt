@@ -606,6 +606,7 @@ pub fn fits_left(kind: u8, left: &Operand) -> bool
 }
 
 /// A private name in the place of an operand, as before `in`.
+#[inline(never)]
 pub fn private_operand(alloc: Global, name: PrivateName) -> Result<Operand, Failure>
     ensures value { IfOk result (λ o. tree_of o ≡ view_private_name name) }
     ensures full { IfErr result IsMemory }

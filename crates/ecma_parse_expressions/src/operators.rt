@@ -18,7 +18,7 @@ use ecma_node::{IdentName, MemberProp};
 use ecma_parse_base::elements::arguments;
 use ecma_parse_base::names::{computed, private_name};
 use ecma_parse_base::operators::{assign_op, binary_op, update_op};
-use ecma_parse_base::{Nested, Operand, made};
+use ecma_parse_base::{Held, Nested, Operand, made};
 use ecma_parse_state::code::with_in;
 use ecma_parse_state::operators::{
     ASSIGNMENT, CALL, COALESCE, EXPRESSION, MEMBER, NEW_LEVEL, UNARY, right_level,
@@ -41,11 +41,13 @@ pub fn conditional<'a, I: Tokens<'a> + Drop, N: Nested<'a, I>>(
     ensures value { Gives (λ x. (tree_of x, state_of I.state p.new)) result (reads.cond_by (stream_of I.machine) (N.reads nested.now I.State I.machine) (code_of code) (from start.0) (tree_of test) (state_of I.state p.old)) }
     ensures shorter { Falls result (spec.bound (stream_of I.machine) (state_of I.state p.new)) (spec.bound (stream_of I.machine) (state_of I.state p.old)) }
 {
+    let test = Held { value: test };
     p.bump()?;
     let cons = nested.expr(p, with_in(code), ASSIGNMENT)?;
+    let cons = Held { value: cons };
     p.expect(kinds::COLON)?;
     let alt = nested.expr(p, code, ASSIGNMENT)?;
-    made::cond_expr(p.alloc, p.since(start), test, cons, alt)
+    made::cond_expr(p.alloc, p.since(start), test.take(), cons.take(), alt)
 }
 
 /// A binary operator and its right operand, after the left one.
@@ -65,10 +67,11 @@ pub fn binary<'a, I: Tokens<'a> + Drop, N: Nested<'a, I>>(
     ensures value { Gives (λ x. (tree_of x, state_of I.state p.new)) result (reads.binary_by (stream_of I.machine) (N.reads nested.now I.State I.machine) (code_of code) (from start.0) (tree_of left) (state_of I.state p.old)) }
     ensures shorter { Falls result (spec.bound (stream_of I.machine) (state_of I.state p.new)) (spec.bound (stream_of I.machine) (state_of I.state p.old)) }
 {
+    let left = Held { value: left };
     let kind = p.kind();
     p.eat_word(code, kind)?;
     let right = nested.expr(p, code, right_level(kind))?;
-    made::bin_expr(p.alloc, p.since(start), op, kind, left, right)
+    made::bin_expr(p.alloc, p.since(start), op, kind, left.take(), right)
 }
 
 /// An assignment, after its target.
@@ -170,7 +173,7 @@ pub fn call<'a, I: Tokens<'a> + Drop, N: Nested<'a, I>>(
 }
 
 /// What follows `?.`, after its object.
-#[inline(always)]
+#[inline(never)]
 #[tactic(auto, using(ecma_parse_state::proofs::Marks::marks, ecma_parse_base::proofs::Packs::packs), unfolding(ecma_reading::specs::Expressions::chain_by))]
 pub fn chain<'a, I: Tokens<'a> + Drop, N: Nested<'a, I>>(
     p: &mut Parser<'a, I>,
@@ -183,9 +186,10 @@ pub fn chain<'a, I: Tokens<'a> + Drop, N: Nested<'a, I>>(
     ensures value { Gives (λ x. (tree_of x, state_of I.state p.new)) result (reads.chain_by (stream_of I.machine) (N.reads nested.now I.State I.machine) (code_of code) (from start.0) (tree_of obj) (state_of I.state p.old)) }
     ensures shorter { Falls result (spec.bound (stream_of I.machine) (state_of I.state p.new)) (spec.bound (stream_of I.machine) (state_of I.state p.old)) }
 {
+    let obj = Held { value: obj };
     if p.eat(kinds::LEFT_PAREN)? {
         let args = arguments(p, nested, code)?;
-        return made::chain_call(p.alloc, p.since(start), true, obj, args);
+        return made::chain_call(p.alloc, p.since(start), true, obj.take(), args);
     }
     if p.at(kinds::LEFT_BRACKET) {
         let key = computed(p, nested, code, EXPRESSION)?;
@@ -193,10 +197,10 @@ pub fn chain<'a, I: Tokens<'a> + Drop, N: Nested<'a, I>>(
             p.alloc,
             p.since(start),
             true,
-            obj,
+            obj.take(),
             MemberProp::Computed(key),
         );
     }
     let prop = member_name(p, nested)?;
-    made::chain_member(p.alloc, p.since(start), true, obj, prop)
+    made::chain_member(p.alloc, p.since(start), true, obj.take(), prop)
 }

@@ -8,7 +8,7 @@ ghost use Rattle.ecma_node.specs.Placed.{holds_expr, inner};
 ghost use Rattle.ecma_node.specs.View.{unary_op_word, update_op_word, view_computed_prop_name, view_expr_or_spread, view_member_prop, view_private_name};
 ghost use Rattle.ecma_reading.specs.Source as spec;
 ghost use Rattle.ecma_reading.specs.Expressions as reads;
-ghost use Rattle.ecma_parse_state.specs.Answers.{Falls, Gives, going_on, Stays};
+ghost use Rattle.ecma_parse_state.specs.Answers.{Falls, Gives, IsSyntax, Stays, going_on};
 ghost use Rattle.ecma_parse_state.specs.Codes.{code_of};
 ghost use Rattle.ecma_parse_state.specs.Cursors.{stream_of};
 ghost use Rattle.ecma_parse_state.specs.States.{from, from_span, state_of};
@@ -21,7 +21,7 @@ use crate::sequences;
 use crate::templates::tagged;
 use ecma_node::UpdateOp;
 use ecma_parse_base::operators::{assign_op, binary_op, update_op};
-use ecma_parse_base::{Nested, Operand, made};
+use ecma_parse_base::{Held, Nested, Operand, made};
 use ecma_parse_state::operators::{ASSIGNMENT, CALL, COALESCE, MEMBER, NEW_LEVEL};
 use ecma_parse_state::{Around, Failure, Parser, kinds};
 use ecma_token::BytePos;
@@ -41,9 +41,10 @@ pub fn sequence<'a, I: Tokens<'a> + Drop, N: Nested<'a, I>>(
     ensures value { Gives (λ x. (tree_of x, state_of I.state p.new)) result (sequence_by (stream_of I.machine) (N.reads nested.now I.State I.machine) (code_of code) (from start.0) (tree_of left) (state_of I.state p.old)) }
     ensures shorter { Falls result (spec.bound (stream_of I.machine) (state_of I.state p.new)) (spec.bound (stream_of I.machine) (state_of I.state p.old)) }
 {
+    let left = Held { value: left };
     p.bump()?;
     let right = nested.expr(p, code, ASSIGNMENT)?;
-    sequences::seq_expr(p.alloc, p.since(start), left, right)
+    sequences::seq_expr(p.alloc, p.since(start), left.take(), right)
 }
 
 /// A `?`: of a chain where a dot follows, else of a conditional.
@@ -61,19 +62,20 @@ pub fn question<'a, I: Tokens<'a> + Drop, N: Nested<'a, I>>(
     ensures value { Gives (λ x. (tree_of x, state_of I.state p.new)) result (question_by (stream_of I.machine) (N.reads nested.now I.State I.machine) (code_of code) (from start.0) (tree_of left) (state_of I.state p.old)) }
     ensures shorter { Falls result (spec.bound (stream_of I.machine) (state_of I.state p.new)) (spec.bound (stream_of I.machine) (state_of I.state p.old)) }
 {
+    let left = Held { value: left };
     let (second, _) = p.second()?;
     if second != kinds::DOT {
-        if left.level < COALESCE {
+        if left.value.level < COALESCE {
             return Err(p.unexpected());
         }
-        return conditional(p, nested, code, start, left);
+        return conditional(p, nested, code, start, left.take());
     }
-    if left.level < CALL {
+    if left.value.level < CALL {
         return Err(p.unexpected());
     }
     p.bump()?;
     p.bump()?;
-    chain(p, nested, code, start, left)
+    chain(p, nested, code, start, left.take())
 }
 
 /// `++` or `--` behind its operand.
@@ -100,6 +102,14 @@ pub fn postfix<'a, I: Tokens<'a> + Drop>(
     made::postfix_expr(p.alloc, p.since(start), op, left)
 }
 
+/// What is wrong with the token that comes, behind what was read, which is let go here.
+#[inline(never)]
+fn refused<'a, I: Tokens<'a> + Drop>(p: &Parser<'a, I>, _left: Operand) -> Failure
+    ensures { IsSyntax result }
+{
+    p.unexpected()
+}
+
 /// One operator behind what was read.
 #[inline(never)]
 #[tactic(auto, using(ecma_parse_state::proofs::Marks::marks), unfolding(ecma_reading::specs::Expressions::step_by, crate::specs::Steps::sequence_by, crate::specs::Steps::question_by, crate::specs::Steps::postfix_by, crate::specs::Steps::tagged_by))]
@@ -116,7 +126,7 @@ pub fn step<'a, I: Tokens<'a> + Drop, N: Nested<'a, I>>(
 {
     let kind = p.kind();
     if kind == kinds::END {
-        return Err(p.unexpected());
+        return Err(refused(p, left));
     }
     if kind == kinds::COMMA {
         return sequence(p, nested, code, start, left);
@@ -129,7 +139,7 @@ pub fn step<'a, I: Tokens<'a> + Drop, N: Nested<'a, I>>(
     }
     if let Some(op) = binary_op(code, kind) {
         if !made::fits_left(kind, &left) {
-            return Err(p.unexpected());
+            return Err(refused(p, left));
         }
         return binary(p, nested, code, start, op, left);
     }
@@ -137,14 +147,14 @@ pub fn step<'a, I: Tokens<'a> + Drop, N: Nested<'a, I>>(
         return postfix(p, start, op, left);
     }
     if left.level < CALL {
-        return Err(p.unexpected());
+        return Err(refused(p, left));
     }
     match kind {
         kinds::LEFT_PAREN => call(p, nested, code, start, left),
         kinds::LEFT_BRACKET => index(p, nested, code, start, left),
         kinds::DOT => member(p, nested, code, start, left),
         kinds::BACK_QUOTE if !made::is_chain(&left) => tagged(p, nested, code, start, left),
-        _ => Err(p.unexpected()),
+        _ => Err(refused(p, left)),
     }
 }
 
@@ -164,11 +174,12 @@ pub fn turn<'a, I: Tokens<'a> + Drop, N: Nested<'a, I>>(
     ensures shorter { IfOk result (λ x. IsTrue x.0 → spec.bound (stream_of I.machine) (state_of I.state p.new) < spec.bound (stream_of I.machine) (state_of I.state p.old)) }
     ensures not_longer { Stays result (spec.bound (stream_of I.machine) (state_of I.state p.new)) (spec.bound (stream_of I.machine) (state_of I.state p.old)) }
 {
-    let level = p.goes(code, left.end)?;
+    let left = Held { value: left };
+    let level = p.goes(code, left.value.end)?;
     if level < least {
-        return Ok((false, left));
+        return Ok((false, left.take()));
     }
-    let found = step(p, nested, code, start, left)?;
+    let found = step(p, nested, code, start, left.take())?;
     Ok((true, found))
 }
 
@@ -191,7 +202,7 @@ pub fn operators<'a, I: Tokens<'a> + Drop, N: Nested<'a, I>>(
         if first.level == NEW_LEVEL && least == MEMBER {
             return Ok(first);
         }
-        return Err(p.unexpected());
+        return Err(refused(p, first));
     }
     let mut left = first;
     'turns: loop {

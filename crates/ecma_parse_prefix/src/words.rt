@@ -1,5 +1,6 @@
 //! Words that start an expression (ECMA-262, 13.2 to 13.5).
 ghost use Rattle.std.specs.Prelude.{◌≡◌, false, true};
+ghost use Rattle.ecma_token.specs.Kinds.{async_kind};
 ghost use Rattle.ecma_syntax.specs.Input.{is_word, kind};
 ghost use Rattle.ecma_reading.specs.Source as spec;
 ghost use Rattle.ecma_reading.specs.Expressions as reads;
@@ -22,9 +23,28 @@ use ecma_parse_objects::news::new_expr;
 use ecma_parse_state::{Around, Failure, Parser, kinds};
 use ecma_token_source::Tokens;
 
-/// A name, or what the word `async` starts.
+/// A name, which may be the one parameter of an arrow.
 #[inline(never)]
 #[tactic(auto, using(ecma_parse_state::proofs::Marks::marks, crate::proofs::Starts::starts), unfolding(ecma_reading::specs::Expressions::word_by))]
+fn named<'a, I: Tokens<'a> + Drop, N: Nested<'a, I>>(
+    p: &mut Parser<'a, I>,
+    nested: &N,
+    code: Around,
+    level: u8,
+) -> Result<Operand, Failure>
+    requires ready { N.ready nested.now }
+    requires other { spec.at (stream_of I.machine) async_kind (state_of I.state p.old) ≡ false }
+    ensures value { Gives (λ x. (tree_of x, state_of I.state p.new)) result (reads.word_by (stream_of I.machine) (N.reads nested.now I.State I.machine) (code_of code) level (state_of I.state p.old)) }
+    ensures shorter { Falls result (spec.bound (stream_of I.machine) (state_of I.state p.new)) (spec.bound (stream_of I.machine) (state_of I.state p.old)) }
+{
+    let place = p.place();
+    let sym = p.name(code)?;
+    ident_end(p, nested, code, level, place, sym)
+}
+
+/// A name, or what the word `async` starts.
+#[inline(always)]
+#[tactic(auto, using(ecma_parse_state::proofs::Marks::marks), unfolding(ecma_reading::specs::Expressions::word_by))]
 pub fn word<'a, I: Tokens<'a> + Drop, N: Nested<'a, I>>(
     p: &mut Parser<'a, I>,
     nested: &N,
@@ -38,9 +58,7 @@ pub fn word<'a, I: Tokens<'a> + Drop, N: Nested<'a, I>>(
     if p.at(kinds::ASYNC) {
         return async_expr(p, nested, code, level);
     }
-    let place = p.place();
-    let sym = p.name(code)?;
-    ident_end(p, nested, code, level, place, sym)
+    named(p, nested, code, level)
 }
 
 /// `super` with what follows it.
