@@ -1,9 +1,10 @@
 //! What a rule holds while it reads on.
 ghost use Rattle.std.specs.Prelude.{◌≡◌};
 
-/// What a rule holds while it reads on. Where it reads no more, this is let go in a function of its own, so that a level of
-/// nesting has no place for what stands in a box.
+/// What a rule holds while it reads on. Where it reads no more, this is let go in a function of its own, so that the frame of a
+/// rule, which stands once a level of nesting, has no place for what stands in a box.
 pub struct Held<T: Drop> {
+    /// What is held.
     pub value: T,
 }
 
