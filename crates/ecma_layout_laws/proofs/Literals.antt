@@ -70,7 +70,7 @@ same_big style false radix digits (Some raw) h = sym (chosen style.minify _ _ (h
 -- ---- each as it is laid out
 
 module _ (places raws : Bool) (look : Look) (h : raws ≡ false → look.style.minify ≡ true) where
-  produced : {x y : List ℕ} → x ≡ y → Alike places (text x) (text y)
+  spelled : {x y : List ℕ} → x ≡ y → Alike places (text x) (text y)
   spelled e = equal (ap (λ s. text s) e)
 
   pub name_alike : (span : Span) (sym : List ℕ) → Alike places (name look (kept_place places span) sym) (name look span sym)

@@ -156,7 +156,7 @@ number_faithful style before v w r = subst (λ (o : Option (List ℕ)). Faithful
     text_of l = if before then before_member (number_bytes style v (Some l)) else number_bytes style v (Some l)
 
     read : number_of r.own ≡ Some v
-    read = subst (λ (l : List ℕ). number_of l ≡ Some v) (sym (f.origin.2 ∙ same_ascii f.origin.0 (number_is_ascii f.origin.0 v f.origin.1.produced))) f.origin.1.produced
+    read = subst (λ (l : List ℕ). number_of l ≡ Some v) (sym (f.origin.2 ∙ same_ascii f.origin.0 (number_is_ascii f.origin.0 v f.origin.1.spelled))) f.origin.1.spelled
 
     by : is_legacy r.own ≡ false → (q : Span) → legacy_number (Some (text_of r.own)) q ≡ []
     by e q = legacy_none (text_of r.own) q (number_plain style before v r.own read e)

@@ -122,7 +122,7 @@ all_some = refl
 
 ordinary_closed : (text : List ℕ) (x : SpecLexeme) → IsOrdinary text x [] → ends_with_cr text ≡ false
 ordinary_closed text x (inl (name, escaped, (some, spell, ends), marked, is)) = name_keeps true text name [] spell refl
-ordinary_closed text x (inr (inl (m, own, h, e))) = ap ends_with_cr (h.parts ∙ append-nil own) ∙ meaning_closed m own h.produced
+ordinary_closed text x (inr (inl (m, own, h, e))) = ap ends_with_cr (h.parts ∙ append-nil own) ∙ meaning_closed m own h.spelled
 ordinary_closed text x (inr (inr (units, own, legacy, (ps, (quote, m, q, e, h), us, old), parts, is))) =
     let t = pieces_end quote ps m (quote ∷ []) h in
     ap ends_with_cr (e ∙ ap (λ (l : List ℕ). quote ∷ l) t.1) ∙ behind (quote ∷ t.0) quote [] (quote_no_cr quote q) refl

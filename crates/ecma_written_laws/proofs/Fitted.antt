@@ -101,13 +101,13 @@ pointed : (style : Style) (ts : Input) (v : SpecNumber) (w : List ℕ) → Known
 pointed style ts v w k c =
     let own = number_bytes style v (Some w) in
     let n = number_written style ts v w k c in
-    let m : number_of (before_member own) ≡ Some v = (member_stands v own [] n).produced in
+    let m : number_of (before_member own) ≡ Some v = (member_stands v own [] n).spelled in
     member_fits (before_member own) (NumberMeaning v) (number_is_ascii (before_member own) v m) (λ more. member_stands v own more n) (number_stands v (before_member own) [] m (tt, λ _. refl))
 
 big_integers : (style : Style) (ts : Input) (radix : ℕ) (digits w : List ℕ) → Known ts.places → content ts ≡ BigNumeral radix digits w → Fits Div (big_bytes style radix digits (Some w)) Big
 big_integers style ts radix digits w k c =
     let own = big_bytes style radix digits (Some w) in
-    big_fits own (BigInt radix digits) (big_is_ascii radix digits own (big_written style ts radix digits w k c [] tt).produced) (λ rest h. big_written style ts radix digits w k c rest h)
+    big_fits own (BigInt radix digits) (big_is_ascii radix digits own (big_written style ts radix digits w k c [] tt).spelled) (λ rest h. big_written style ts radix digits w k c rest h)
 
 characters : (style : Style) (ts : Input) (tagged : Bool) (w : List ℕ) (u : Option (List ℕ)) → Known ts.places → content ts ≡ Piece w u → (tagged || is_some u) ≡ true → Fits TemplateTail (quasi_bytes style tagged w) Quasi
 characters style ts tagged w u k c t =
