@@ -26,7 +26,7 @@ pub record Spelt (look : Look) (lv : Leaves) : Type 0 where
   pub given_laid : (b : Bool) (a : Tree) → Alike false (laid look Alone (lv.arguments b a)) (laid look Alone a)
 
 module _ (lv : Leaves) (look : Look) (h : Spelt look lv) where
-  pub produced : {x y : List ℕ} → x ≡ y → Alike false (text x) (text y)
+  pub spelled : {x y : List ℕ} → x ≡ y → Alike false (text x) (text y)
   spelled e = equal (ap (λ s. text s) e)
 
   pub name_alike : (span : Span) (sym : List ℕ) → Alike false (name look no_place sym) (name look span sym)
