@@ -1,18 +1,15 @@
 //! A writer that hands out whole blocks.
 #![tactic(auto)]
 
-ghost use Rattle.std.specs.Prelude.{◌≡◌, ◌+◌, ◌-◌, ◌<◌, ◌≤◌, [], ◌++◌, length, take, drop, OnOk, OnErr, MatchResult, is_err};
-ghost use Rattle.std.specs.Io.KnownBytes.{Appends};
+ghost use Rattle.std.specs.Prelude.{◌≡◌, ◌+◌, ◌-◌, ◌<◌, ◌≤◌, [], length, take, OnOk, is_err};
 ghost use Rattle.arrayvec.specs.ArrayVec.{array_vec_len};
 ghost use Rattle.ecma_token.specs.Counts.{count_after};
 
 use arrayvec::ArrayVec;
+use ecma_gather::block::{BLOCK, drop_front, extend, send};
 use ecma_token::{CountedWrite, Failing};
 use std::io;
-use std::io::{Error, ErrorKind, Write};
-
-/// How many bytes a block has.
-pub const BLOCK: usize = 4096;
+use std::io::Write;
 
 /// A writer before which the bytes of the block that is begun wait. The block goes out once it is full, and at
 /// `finish`. It takes no memory, and its failures are those of the writer behind.
@@ -146,44 +143,4 @@ impl<W: CountedWrite> CountedWrite for Blocks<W> {
         }
         self.fill(&bytes[..room])
     }
-}
-
-/// Writes the bytes of a block up to its end, or until more than the first `kept` are out. It answers
-/// how many are out, and no write is tried after one that failed.
-fn send<W: CountedWrite>(wr: &mut W, block: &[u8], kept: usize) -> (usize, io::Result<()>)
-    ensures bound { result.0 ≤ length block.now }
-    ensures bytes { Appends (W.contents wr.old) (W.contents wr.new) (take result.0 block.now) }
-    ensures whole { OnOk result.1 (result.0 ≤ kept → result.0 ≡ length block.now) }
-    ensures kept { OnErr result.1 (result.0 ≤ kept) }
-    ensures failures { W.failure_count wr.new ≡ count_after (is_err result.1) (W.failure_count wr.old) }
-{
-    let mut sent = 0;
-    'parts: while sent < block.len() && sent <= kept {
-        match wr.write_counted(&block[sent..]) {
-            Ok(0) => return (sent, Err(Error::from(ErrorKind::WriteZero))),
-            Ok(count) => sent += count,
-            Err(error) => return (sent, Err(error)),
-        }
-    }
-    (sent, Ok(()))
-}
-
-fn drop_front(block: &mut ArrayVec<u8, BLOCK>, count: usize)
-    requires { count ≤ array_vec_len block.old }
-    ensures items { block.new.items ≡ drop count block.old.items }
-    ensures len { array_vec_len block.new ≡ array_vec_len block.old - count }
-{
-    let len = block.len();
-    block.as_mut_slice().copy_within(count..len, 0);
-    block.truncate(len - count);
-}
-
-fn extend(block: &mut ArrayVec<u8, BLOCK>, bytes: &[u8])
-    requires { array_vec_len block.old + length bytes.now ≤ BLOCK }
-    ensures items { block.new.items ≡ block.old.items ++ bytes.now }
-    ensures len { array_vec_len block.new ≡ array_vec_len block.old + length bytes.now }
-{
-    let Ok(()) = block.try_extend_from_slice(bytes) else {
-        unreachable!()
-    };
 }

@@ -12,10 +12,10 @@ ghost use Rattle.ecma_front.specs.declared.fault.Fault.TheVariants.{Memory};
 
 use crate::fault::Fault;
 use crate::line_col::place;
-use crate::output::write_all;
 use crate::pipeline::run_kept;
 use ecma_command::Invocation;
 use ecma_token::{BytePos, CountedRead, CountedWrite, LineCol};
+use ecma_write::write_all;
 use std::alloc::Global;
 use std::io::Write;
 
@@ -53,6 +53,7 @@ fn place_of(fault: Fault, text: &[u8]) -> Option<LineCol>
 }
 
 /// Prints that memory ran out.
+#[tactic(auto, using(crate::proofs::Writes::appended))]
 fn report_memory<E: CountedWrite>(errors: &mut E)
     ensures { (E.failure_count errors.new ≡ one_more (E.failure_count errors.old)) ⊎ Appends (E.contents errors.old) (E.contents errors.new) out_of_memory }
 {

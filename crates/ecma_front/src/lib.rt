@@ -6,7 +6,6 @@ pub mod command;
 mod fault;
 mod input;
 mod line_col;
-mod output;
 mod pipeline;
 mod reading;
 mod texts;

@@ -1,12 +1,10 @@
 -- Bytes that are written a part at a time, to a writer that tells them.
-use Rattle.std.specs.Prelude.{Bool, true, false, length, Result, Ok, Err, OnErr, ◌==◌, ◌&&◌}
+use Rattle.std.specs.Prelude.{true, false, length, Result, Ok, Err, OnErr}
 use Rattle.std.proofs.Common.{◌≡◌, ℕ, zero, suc, ◌+◌, ◌-◌, ◌<◌, List, [], ◌∷◌, ◌++◌, Option, None, Some, take, drop, length-take, refl, sym, ap, subst, append_assoc, append-nil, ◌∙◌, arith}
-use Rattle.std.proofs.lemmas.Bool.{ne_eqb}
 use Rattle.std.proofs.lemmas.List.{take-append-drop}
 use Rattle.std.proofs.Math.Seq.{take-add}
 use Rattle.std.specs.Option.{IsSome}
 use Rattle.std.specs.Io.KnownBytes.{Appends, Keeps}
-use Rattle.ecma_token.specs.Counts.{count_after}
 use Rattle.ecma_write.specs.Pages.{times, told, Gets, GetsFront, IsFront}
 
 pub gets : (a b : Option (List ℕ)) (xs : List ℕ) → Appends a b xs → Gets a b xs
@@ -88,10 +86,6 @@ times_split n k xs h =
       ap (λ j. times j xs) e ∙ times_add n (1 + (k - n - 1)) xs ∙ ap (λ l. times n xs ++ l) (times_add 1 (k - n - 1) xs ∙ ap (λ l. l ++ times (k - n - 1) xs) (times_one xs))
           ∙ sym (append_assoc (times n xs) xs (times (k - n - 1) xs)),
     )
-
--- a write that took something adds no failure
-pub count_stays : (count : ℕ) (b : Bool) (n : ℕ) → (count ≡ 0 → ⊥) → count_after (count == 0 && b) n ≡ n
-count_stays count b n some = ap (λ t. count_after (t && b) n) (ne_eqb count 0 some)
 
 pub on_err : {A E : Type 0} (r : Result A E) (P : Type 0) → P → OnErr r P
 on_err (Ok x) P h = tt

@@ -4,7 +4,7 @@
 pub mod fault;
 mod js_writer;
 mod lent;
-mod lines;
+pub mod lines;
 mod marks;
 mod omit;
 mod output;
@@ -12,4 +12,5 @@ pub mod text_writer;
 
 pub use ecma_gather::Gather;
 pub use fault::EmitError;
+pub use output::write_all;
 pub use text_writer::{JsWriter, OmitTrailingSemi, WriteJs, omit_trailing_semi};

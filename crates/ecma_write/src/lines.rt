@@ -6,7 +6,7 @@ ghost use Rattle.ecma_write.specs.Lines.{ends_line, units, units_of, further, ne
 use ecma_token::LineCol;
 
 /// The first character of a text, and what follows it.
-fn pop(text: &str) -> Option<(char, &str)>
+pub fn pop(text: &str) -> Option<(char, &str)>
     ensures cut { MatchOption result (chars text.now ≡ []) (λ x. chars text.now ≡ x.0 ∷ chars x.1.now) }
     ensures text { IfSome result (λ x. IsUtf8 x.1.now) }
     ensures shorter { IfSome result (λ x. length x.1.now < length text.now) }
@@ -17,7 +17,7 @@ fn pop(text: &str) -> Option<(char, &str)>
 }
 
 /// Whether a character ends a line, before this text.
-fn ends_line(c: char, rest: &str) -> bool
+pub fn ends_line(c: char, rest: &str) -> bool
     ensures { result ≡ ends_line c (chars rest.now) }
 {
     c == '\n' || (c == '\r' && !matches!(pop(rest), Some(('\n', _))))

@@ -9,7 +9,11 @@ use ecma_token::CountedWrite;
 use std::io::ErrorKind;
 
 /// Writes all of the bytes, or a beginning of them.
-pub(crate) fn write_all<W: CountedWrite>(writer: &mut W, bytes: &[u8]) -> Result<(), EmitError>
+///
+/// # Errors
+///
+/// That of the writer.
+pub fn write_all<W: CountedWrite>(writer: &mut W, bytes: &[u8]) -> Result<(), EmitError>
     ensures written { OnOk result (Gets (W.contents writer.old) (W.contents writer.new) bytes.now) }
     ensures beginning { OnErr result (GetsFront (W.contents writer.old) (W.contents writer.new) bytes.now) }
     ensures failures { W.failure_count writer.new ≡ count_after (answers_write result) (W.failure_count writer.old) }

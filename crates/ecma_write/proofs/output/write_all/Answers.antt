@@ -1,7 +1,8 @@
 use Rattle.std.proofs.Common.{arith, ◌∙◌, ◌-◌, ◌≤◌, length, drop, length-take, length-drop, subst}
 use Rattle.std.proofs.Math.Seq.{take-take}
 use Rattle.std.specs.Io.KnownBytes.{Appends}
-use Rattle.ecma_write.proofs.Outputs.{gets_more, gets_part, gets_no_more, count_stays}
+use Rattle.ecma_gather.proofs.Parts.{count_stays}
+use Rattle.ecma_write.proofs.Outputs.{gets_more, gets_part, gets_no_more}
 use Rattle.ecma_write.proofs.output.write_all.Goals as goal
 
 pub loop-written-preserved : goal.loop-written-preserved

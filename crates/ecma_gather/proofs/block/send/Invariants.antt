@@ -1,6 +1,6 @@
 use Rattle.std.proofs.Common.{◌≡◌, ◌-◌, ◌≤◌, length, take}
 use Rattle.std.specs.Io.KnownBytes.{Appends}
-use Rattle.ecma_gather.proofs.send.Given as goal
+use Rattle.ecma_gather.proofs.block.send.Given as goal
 
 -- that many bytes are out, and no write has failed
 abbrev pub invariant-parts : goal.invariant-parts

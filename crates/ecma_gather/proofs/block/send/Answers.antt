@@ -1,8 +1,8 @@
 use Rattle.std.proofs.Common.{arith, ◌∙◌, ◌-◌, ◌≤◌, length, drop, length-take, length-drop, subst}
 use Rattle.std.proofs.Math.Seq.{take-take}
 use Rattle.std.specs.Io.KnownBytes.{Appends}
-use Rattle.ecma_blocks.proofs.Parts.{more_written, count_stays}
-use Rattle.ecma_blocks.proofs.send.Goals as goal
+use Rattle.ecma_gather.proofs.Parts.{more_written, count_stays}
+use Rattle.ecma_gather.proofs.block.send.Goals as goal
 
 pub parts-preserved : goal.parts-preserved
 parts-preserved g c =
