@@ -3,4 +3,5 @@ pub mod Answers
 pub mod Entries
 pub mod Choice
 pub mod Parts
+pub mod Programs
 pub mod Passed

@@ -3,13 +3,12 @@ ghost use Rattle.std.specs.Prelude.{◌≡◌, false, true, IfOk, IfSome, MatchO
 ghost use Rattle.ecma_node.specs.Fits.{fits_module};
 ghost use Rattle.ecma_node.specs.Placed.{inner};
 ghost use Rattle.ecma_node.specs.View.{view_module};
-ghost use Rattle.ecma_syntax.specs.Input.{module_code, script_code};
 ghost use Rattle.ecma_parse_state.specs.Answers.{IsMemory};
 ghost use Rattle.ecma_parse_state.specs.Cursors.{stream_of};
-ghost use Rattle.ecma_parse_parts.specs.Within.{program_within};
 ghost use Rattle.ecma_parser.specs.Answers.{StayRead};
 ghost use Rattle.ecma_parser.specs.Choice.{Chooses, IsMeant, NotMeant};
-ghost use Rattle.ecma_parser.specs.Entries.{ctx_in, faults_in, limit_in, opened, stood, syntax_in};
+ghost use Rattle.ecma_parser.specs.Entries.{ctx_in, faults_in, limit_in, stood, syntax_in};
+ghost use Rattle.ecma_parser.specs.Programs.{module_read, script_read, script_start};
 
 use crate::entries::{Entries, Reading};
 use crate::faults::{PResult, told};
@@ -26,11 +25,11 @@ impl<'a, I: Tokens<'a> + Drop> Entries<Reading<'a, I>> {
     ///
     /// Want of memory, or the fault of the script.
     pub fn parse_program(&mut self) -> PResult<Program>
-        ensures value { Chooses (syntax_in I.state self.old) result (program_within (stream_of I.machine) (limit_in self.old) true (module_code (syntax_in I.state self.old)) (opened I.machine I.state (module_code (syntax_in I.state self.old)).context self.old)) (program_within (stream_of I.machine) (limit_in self.old) false (script_code (syntax_in I.state self.old)) (opened I.machine I.state (script_code (syntax_in I.state self.old)).context self.old)) (faults_in self.old) (faults_in self.new) }
+        ensures value { Chooses (syntax_in I.state self.old) result (module_read I.machine I.state self.old) (script_read I.machine I.state self.old) (faults_in self.old) (faults_in self.new) }
         ensures started { IfOk result (λ _. self.new.started ≡ true) }
         ensures context { ctx_in I.state self.new ≡ ctx_in I.state self.old }
         ensures limit { limit_in self.new ≡ limit_in self.old }
-        ensures stays { StayRead (stream_of I.machine) result (opened I.machine I.state (script_code (syntax_in I.state self.old)).context self.old) (stood I.state self.new) }
+        ensures stays { StayRead (stream_of I.machine) result (script_start I.machine I.state self.old) (stood I.state self.new) }
     {
         if let Some(module) = self.meant_module().map_err(told)? {
             return Ok(Program {
@@ -49,7 +48,7 @@ impl<'a, I: Tokens<'a> + Drop> Entries<Reading<'a, I>> {
     ///
     /// Want of memory.
     fn meant_module(&mut self) -> Result<Option<Module>, Failure>
-        ensures meant { IfOk result (λ m. MatchOption m (NotMeant (syntax_in I.state self.old) (program_within (stream_of I.machine) (limit_in self.old) true (module_code (syntax_in I.state self.old)) (opened I.machine I.state (module_code (syntax_in I.state self.old)).context self.old))) (λ x. IsMeant (syntax_in I.state self.old) (program_within (stream_of I.machine) (limit_in self.old) true (module_code (syntax_in I.state self.old)) (opened I.machine I.state (module_code (syntax_in I.state self.old)).context self.old)) (view_module inner x))) }
+        ensures meant { IfOk result (λ m. MatchOption m (NotMeant (syntax_in I.state self.old) (module_read I.machine I.state self.old)) (λ x. IsMeant (syntax_in I.state self.old) (module_read I.machine I.state self.old) (view_module inner x))) }
         ensures stays { IfOk result (λ m. MatchOption m (self.new ≡ self.old) (λ x. ctx_in I.state self.new ≡ ctx_in I.state self.old)) }
         ensures fits { IfOk result (λ m. IfSome m (λ x. fits_module (λ p. p) x)) }
         ensures started { IfOk result (λ m. IfSome m (λ _. self.new.started ≡ true)) }

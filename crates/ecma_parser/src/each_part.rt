@@ -4,7 +4,7 @@ ghost use Rattle.ecma_token.specs.declared.error.Error.{Error};
 ghost use Rattle.ecma_token.specs.declared.syntax.EsSyntax.{EsSyntax};
 ghost use Rattle.ecma_token_source.specs.Machine.{Machine};
 ghost use Rattle.ecma_tree.specs.Tree.{Tree};
-ghost use Rattle.ecma_syntax.specs.Input.{Code, script_code};
+ghost use Rattle.ecma_syntax.specs.Input.{Code};
 ghost use Rattle.ecma_reading.specs.Source.{Read};
 ghost use Rattle.ecma_reading.specs.Source as spec;
 ghost use Rattle.ecma_parse_state.specs.Answers.{Gives, Stays};
@@ -12,8 +12,9 @@ ghost use Rattle.ecma_parse_state.specs.Codes.{code_of};
 ghost use Rattle.ecma_parse_state.specs.Cursors.{Cursor, stream_of};
 ghost use Rattle.ecma_parse_state.specs.States.{state_of};
 ghost use Rattle.ecma_parser.specs.Answers.{StayRead};
-ghost use Rattle.ecma_parser.specs.Entries.{ctx_in, faults_in, limit_in, opened, stood, syntax_in};
+ghost use Rattle.ecma_parser.specs.Entries.{ctx_in, faults_in, limit_in, stood, syntax_in};
 ghost use Rattle.ecma_parser.specs.Parts.{ParsesPart, ReadsPart, script_part};
+ghost use Rattle.ecma_parser.specs.Programs.{script_start};
 
 use crate::entries::{Entries, Reading};
 use crate::faults::{PResult, told};
@@ -65,7 +66,7 @@ impl<'a, I: Tokens<'a> + Drop> Entries<Reading<'a, I>> {
         ensures fits { IfOk result R.fits }
         ensures started { IfOk result (λ _. self.new.started ≡ true) }
         ensures limit { limit_in self.new ≡ limit_in self.old }
-        ensures stays { Stays result (spec.bound (stream_of I.machine) (stood I.state self.new)) (spec.bound (stream_of I.machine) (opened I.machine I.state (script_code (syntax_in I.state self.old)).context self.old)) }
+        ensures stays { Stays result (spec.bound (stream_of I.machine) (stood I.state self.new)) (spec.bound (stream_of I.machine) (script_start I.machine I.state self.old)) }
     {
         let code = self.open_script()?;
         let node = rule.read(&mut self.reading, self.limit, code)?;
@@ -82,7 +83,7 @@ impl<'a, I: Tokens<'a> + Drop> Entries<Reading<'a, I>> {
         ensures context { ctx_in I.state self.new ≡ ctx_in I.state self.old }
         ensures started { IfOk result (λ _. self.new.started ≡ true) }
         ensures limit { limit_in self.new ≡ limit_in self.old }
-        ensures stays { StayRead (stream_of I.machine) result (opened I.machine I.state (script_code (syntax_in I.state self.old)).context self.old) (stood I.state self.new) }
+        ensures stays { StayRead (stream_of I.machine) result (script_start I.machine I.state self.old) (stood I.state self.new) }
     {
         let before = self.reading.input.ctx();
         let answer = self.read_part(rule);

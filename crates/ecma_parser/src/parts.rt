@@ -16,8 +16,9 @@ ghost use Rattle.ecma_parse_state.specs.Cursors.{stream_of};
 ghost use Rattle.ecma_parse_parts.specs.Items as items;
 ghost use Rattle.ecma_parse_parts.specs.Parts as reads;
 ghost use Rattle.ecma_parser.specs.Answers.{StayRead};
-ghost use Rattle.ecma_parser.specs.Entries.{ctx_in, faults_in, limit_in, opened, stood, syntax_in};
+ghost use Rattle.ecma_parser.specs.Entries.{ctx_in, faults_in, limit_in, stood, syntax_in};
 ghost use Rattle.ecma_parser.specs.Parts.{ParsesPart, ReadsPart, module_part, script_part};
+ghost use Rattle.ecma_parser.specs.Programs.{module_start, script_start};
 
 use crate::entries::{Entries, Reading};
 use crate::faults::{PResult, told};
@@ -44,7 +45,7 @@ impl<'a, I: Tokens<'a> + Drop> Entries<Reading<'a, I>> {
         ensures context { ctx_in I.state self.new ≡ ctx_in I.state self.old }
         ensures started { IfOk result (λ _. self.new.started ≡ true) }
         ensures limit { limit_in self.new ≡ limit_in self.old }
-        ensures stays { StayRead (stream_of I.machine) result (opened I.machine I.state (script_code (syntax_in I.state self.old)).context self.old) (stood I.state self.new) }
+        ensures stays { StayRead (stream_of I.machine) result (script_start I.machine I.state self.old) (stood I.state self.new) }
     {
         self.parse_part(&Expression { level: EXPRESSION })
     }
@@ -61,7 +62,7 @@ impl<'a, I: Tokens<'a> + Drop> Entries<Reading<'a, I>> {
         ensures context { ctx_in I.state self.new ≡ ctx_in I.state self.old }
         ensures started { IfOk result (λ _. self.new.started ≡ true) }
         ensures limit { limit_in self.new ≡ limit_in self.old }
-        ensures stays { StayRead (stream_of I.machine) result (opened I.machine I.state (script_code (syntax_in I.state self.old)).context self.old) (stood I.state self.new) }
+        ensures stays { StayRead (stream_of I.machine) result (script_start I.machine I.state self.old) (stood I.state self.new) }
     {
         self.parse_part(&Expression { level: ASSIGNMENT })
     }
@@ -78,7 +79,7 @@ impl<'a, I: Tokens<'a> + Drop> Entries<Reading<'a, I>> {
         ensures context { ctx_in I.state self.new ≡ ctx_in I.state self.old }
         ensures started { IfOk result (λ _. self.new.started ≡ true) }
         ensures limit { limit_in self.new ≡ limit_in self.old }
-        ensures stays { StayRead (stream_of I.machine) result (opened I.machine I.state (script_code (syntax_in I.state self.old)).context self.old) (stood I.state self.new) }
+        ensures stays { StayRead (stream_of I.machine) result (script_start I.machine I.state self.old) (stood I.state self.new) }
     {
         self.parse_part(&Binding)
     }
@@ -94,7 +95,7 @@ impl<'a, I: Tokens<'a> + Drop> Entries<Reading<'a, I>> {
         ensures context { ctx_in I.state self.new ≡ ctx_in I.state self.old }
         ensures started { IfOk result (λ _. self.new.started ≡ true) }
         ensures limit { limit_in self.new ≡ limit_in self.old }
-        ensures stays { StayRead (stream_of I.machine) result (opened I.machine I.state (script_code (syntax_in I.state self.old)).context self.old) (stood I.state self.new) }
+        ensures stays { StayRead (stream_of I.machine) result (script_start I.machine I.state self.old) (stood I.state self.new) }
     {
         self.parse_pat()
     }
@@ -111,7 +112,7 @@ impl<'a, I: Tokens<'a> + Drop> Entries<Reading<'a, I>> {
         ensures context { ctx_in I.state self.new ≡ ctx_in I.state self.old }
         ensures started { IfOk result (λ _. self.new.started ≡ true) }
         ensures limit { limit_in self.new ≡ limit_in self.old }
-        ensures stays { StayRead (stream_of I.machine) result (opened I.machine I.state (script_code (syntax_in I.state self.old)).context self.old) (stood I.state self.new) }
+        ensures stays { StayRead (stream_of I.machine) result (script_start I.machine I.state self.old) (stood I.state self.new) }
     {
         self.parse_part(&Parameters)
     }
@@ -127,7 +128,7 @@ impl<'a, I: Tokens<'a> + Drop> Entries<Reading<'a, I>> {
         ensures context { ctx_in I.state self.new ≡ ctx_in I.state self.old }
         ensures started { IfOk result (λ _. self.new.started ≡ true) }
         ensures limit { limit_in self.new ≡ limit_in self.old }
-        ensures stays { StayRead (stream_of I.machine) result (opened I.machine I.state (script_code (syntax_in I.state self.old)).context self.old) (stood I.state self.new) }
+        ensures stays { StayRead (stream_of I.machine) result (script_start I.machine I.state self.old) (stood I.state self.new) }
     {
         self.parse_part(&Key)
     }
@@ -144,7 +145,7 @@ impl<'a, I: Tokens<'a> + Drop> Entries<Reading<'a, I>> {
         ensures context { ctx_in I.state self.new ≡ ctx_in I.state self.old }
         ensures started { IfOk result (λ _. self.new.started ≡ true) }
         ensures limit { limit_in self.new ≡ limit_in self.old }
-        ensures stays { StayRead (stream_of I.machine) result (opened I.machine I.state (script_code (syntax_in I.state self.old)).context self.old) (stood I.state self.new) }
+        ensures stays { StayRead (stream_of I.machine) result (script_start I.machine I.state self.old) (stood I.state self.new) }
     {
         self.parse_part(&Statement { top_level })
     }
@@ -161,7 +162,7 @@ impl<'a, I: Tokens<'a> + Drop> Entries<Reading<'a, I>> {
         ensures context { ctx_in I.state self.new ≡ ctx_in I.state self.old }
         ensures started { IfOk result (λ _. self.new.started ≡ true) }
         ensures limit { limit_in self.new ≡ limit_in self.old }
-        ensures stays { StayRead (stream_of I.machine) result (opened I.machine I.state (script_code (syntax_in I.state self.old)).context self.old) (stood I.state self.new) }
+        ensures stays { StayRead (stream_of I.machine) result (script_start I.machine I.state self.old) (stood I.state self.new) }
     {
         self.parse_part(&ListItem { top_level })
     }
@@ -179,7 +180,7 @@ impl<'a, I: Tokens<'a> + Drop> Entries<Reading<'a, I>> {
         ensures context { ctx_in I.state self.new ≡ ctx_in I.state self.old }
         ensures started { IfOk result (λ _. self.new.started ≡ true) }
         ensures limit { limit_in self.new ≡ limit_in self.old }
-        ensures stays { StayRead (stream_of I.machine) result (opened I.machine I.state (module_code (syntax_in I.state self.old)).context self.old) (stood I.state self.new) }
+        ensures stays { StayRead (stream_of I.machine) result (module_start I.machine I.state self.old) (stood I.state self.new) }
     {
         let before = self.reading.input.ctx();
         let answer = self.module_item();
@@ -191,7 +192,7 @@ impl<'a, I: Tokens<'a> + Drop> Entries<Reading<'a, I>> {
     pub(crate) fn open_script(&mut self) -> Result<Around, Failure>
         ensures code { IfOk result (λ c. code_of c ≡ script_code (syntax_in I.state self.old)) }
         ensures syntax { IfOk result (λ c. c.syntax ≡ syntax_in I.state self.old) }
-        ensures stand { OnOk result (stood I.state self.new ≡ opened I.machine I.state (script_code (syntax_in I.state self.old)).context self.old) }
+        ensures stand { OnOk result (stood I.state self.new ≡ script_start I.machine I.state self.old) }
         ensures started { IfOk result (λ _. self.new.started ≡ true) }
         ensures limit { limit_in self.new ≡ limit_in self.old }
         ensures faults { faults_in self.new ≡ faults_in self.old }
@@ -207,7 +208,7 @@ impl<'a, I: Tokens<'a> + Drop> Entries<Reading<'a, I>> {
     fn open_module(&mut self) -> Result<Around, Failure>
         ensures code { IfOk result (λ c. code_of c ≡ module_code (syntax_in I.state self.old)) }
         ensures syntax { IfOk result (λ c. c.syntax ≡ syntax_in I.state self.old) }
-        ensures stand { OnOk result (stood I.state self.new ≡ opened I.machine I.state (module_code (syntax_in I.state self.old)).context self.old) }
+        ensures stand { OnOk result (stood I.state self.new ≡ module_start I.machine I.state self.old) }
         ensures started { IfOk result (λ _. self.new.started ≡ true) }
         ensures limit { limit_in self.new ≡ limit_in self.old }
         ensures faults { faults_in self.new ≡ faults_in self.old }
@@ -252,7 +253,7 @@ impl<'a, I: Tokens<'a> + Drop> Entries<Reading<'a, I>> {
         ensures fits { IfOk result (λ x. fits_module_item (λ p. p) x) }
         ensures started { IfOk result (λ _. self.new.started ≡ true) }
         ensures limit { limit_in self.new ≡ limit_in self.old }
-        ensures stays { Stays result (spec.bound (stream_of I.machine) (stood I.state self.new)) (spec.bound (stream_of I.machine) (opened I.machine I.state (module_code (syntax_in I.state self.old)).context self.old)) }
+        ensures stays { Stays result (spec.bound (stream_of I.machine) (stood I.state self.new)) (spec.bound (stream_of I.machine) (module_start I.machine I.state self.old)) }
     {
         let code = self.open_module()?;
         let item = module_item_part(&mut self.reading, self.limit, code)?;

@@ -8,9 +8,9 @@ ghost use Rattle.ecma_reading.specs.Source as spec;
 ghost use Rattle.ecma_parse_state.specs.Answers.{Stays};
 ghost use Rattle.ecma_parse_state.specs.Codes.{code_of};
 ghost use Rattle.ecma_parse_state.specs.Cursors.{stream_of};
-ghost use Rattle.ecma_parse_parts.specs.Within.{program_within};
 ghost use Rattle.ecma_parser.specs.Answers.{Parses, ReadsProgram, StayRead};
-ghost use Rattle.ecma_parser.specs.Entries.{ctx_in, faults_in, limit_in, opened, stood, syntax_in};
+ghost use Rattle.ecma_parser.specs.Entries.{ctx_in, faults_in, limit_in, stood, syntax_in};
+ghost use Rattle.ecma_parser.specs.Programs.{module_read, module_start, script_read, script_start};
 
 use crate::entries::{Entries, Reading};
 use crate::faults::{PResult, told};
@@ -63,12 +63,12 @@ impl<'a, I: Tokens<'a> + Drop> Entries<Reading<'a, I>> {
     ///
     /// Want of memory, a text that nests deeper than the limit, or a fault of the text.
     pub fn parse_script(&mut self) -> PResult<Script>
-        ensures value { Parses (view_script inner) (syntax_in I.state self.old) result (program_within (stream_of I.machine) (limit_in self.old) false (script_code (syntax_in I.state self.old)) (opened I.machine I.state (script_code (syntax_in I.state self.old)).context self.old)) (faults_in self.old) (faults_in self.new) }
+        ensures value { Parses (view_script inner) (syntax_in I.state self.old) result (script_read I.machine I.state self.old) (faults_in self.old) (faults_in self.new) }
         ensures fits { IfOk result (λ x. fits_script (λ p. p) x) }
         ensures started { IfOk result (λ _. self.new.started ≡ true) }
         ensures context { ctx_in I.state self.new ≡ ctx_in I.state self.old }
         ensures limit { limit_in self.new ≡ limit_in self.old }
-        ensures stays { StayRead (stream_of I.machine) result (opened I.machine I.state (script_code (syntax_in I.state self.old)).context self.old) (stood I.state self.new) }
+        ensures stays { StayRead (stream_of I.machine) result (script_start I.machine I.state self.old) (stood I.state self.new) }
     {
         self.read_script().map_err(told)
     }
@@ -79,12 +79,12 @@ impl<'a, I: Tokens<'a> + Drop> Entries<Reading<'a, I>> {
     ///
     /// Want of memory, a text that nests deeper than the limit, or a fault of the text.
     pub fn read_script(&mut self) -> Result<Script, Failure>
-        ensures value { ReadsProgram (view_script inner) (syntax_in I.state self.old) result (program_within (stream_of I.machine) (limit_in self.old) false (script_code (syntax_in I.state self.old)) (opened I.machine I.state (script_code (syntax_in I.state self.old)).context self.old)) (faults_in self.old) (faults_in self.new) }
+        ensures value { ReadsProgram (view_script inner) (syntax_in I.state self.old) result (script_read I.machine I.state self.old) (faults_in self.old) (faults_in self.new) }
         ensures fits { IfOk result (λ x. fits_script (λ p. p) x) }
         ensures started { IfOk result (λ _. self.new.started ≡ true) }
         ensures context { ctx_in I.state self.new ≡ ctx_in I.state self.old }
         ensures limit { limit_in self.new ≡ limit_in self.old }
-        ensures stays { Stays result (spec.bound (stream_of I.machine) (stood I.state self.new)) (spec.bound (stream_of I.machine) (opened I.machine I.state (script_code (syntax_in I.state self.old)).context self.old)) }
+        ensures stays { Stays result (spec.bound (stream_of I.machine) (stood I.state self.new)) (spec.bound (stream_of I.machine) (script_start I.machine I.state self.old)) }
     {
         let before = self.reading.input.ctx();
         let script = self.script();
@@ -98,12 +98,12 @@ impl<'a, I: Tokens<'a> + Drop> Entries<Reading<'a, I>> {
     ///
     /// Want of memory, a text that nests deeper than the limit, or a fault of the text.
     pub fn parse_module(&mut self) -> PResult<Module>
-        ensures value { Parses (view_module inner) (syntax_in I.state self.old) result (program_within (stream_of I.machine) (limit_in self.old) true (module_code (syntax_in I.state self.old)) (opened I.machine I.state (module_code (syntax_in I.state self.old)).context self.old)) (faults_in self.old) (faults_in self.new) }
+        ensures value { Parses (view_module inner) (syntax_in I.state self.old) result (module_read I.machine I.state self.old) (faults_in self.old) (faults_in self.new) }
         ensures fits { IfOk result (λ x. fits_module (λ p. p) x) }
         ensures started { IfOk result (λ _. self.new.started ≡ true) }
         ensures context { ctx_in I.state self.new ≡ ctx_in I.state self.old }
         ensures limit { limit_in self.new ≡ limit_in self.old }
-        ensures stays { StayRead (stream_of I.machine) result (opened I.machine I.state (module_code (syntax_in I.state self.old)).context self.old) (stood I.state self.new) }
+        ensures stays { StayRead (stream_of I.machine) result (module_start I.machine I.state self.old) (stood I.state self.new) }
     {
         self.read_module().map_err(told)
     }
@@ -114,12 +114,12 @@ impl<'a, I: Tokens<'a> + Drop> Entries<Reading<'a, I>> {
     ///
     /// Want of memory, a text that nests deeper than the limit, or a fault of the text.
     pub fn read_module(&mut self) -> Result<Module, Failure>
-        ensures value { ReadsProgram (view_module inner) (syntax_in I.state self.old) result (program_within (stream_of I.machine) (limit_in self.old) true (module_code (syntax_in I.state self.old)) (opened I.machine I.state (module_code (syntax_in I.state self.old)).context self.old)) (faults_in self.old) (faults_in self.new) }
+        ensures value { ReadsProgram (view_module inner) (syntax_in I.state self.old) result (module_read I.machine I.state self.old) (faults_in self.old) (faults_in self.new) }
         ensures fits { IfOk result (λ x. fits_module (λ p. p) x) }
         ensures started { IfOk result (λ _. self.new.started ≡ true) }
         ensures context { ctx_in I.state self.new ≡ ctx_in I.state self.old }
         ensures limit { limit_in self.new ≡ limit_in self.old }
-        ensures stays { Stays result (spec.bound (stream_of I.machine) (stood I.state self.new)) (spec.bound (stream_of I.machine) (opened I.machine I.state (module_code (syntax_in I.state self.old)).context self.old)) }
+        ensures stays { Stays result (spec.bound (stream_of I.machine) (stood I.state self.new)) (spec.bound (stream_of I.machine) (module_start I.machine I.state self.old)) }
     {
         let before = self.reading.input.ctx();
         let module = self.module();
@@ -129,11 +129,11 @@ impl<'a, I: Tokens<'a> + Drop> Entries<Reading<'a, I>> {
 
     /// A script, in its own code.
     fn script(&mut self) -> Result<Script, Failure>
-        ensures value { ReadsProgram (view_script inner) (syntax_in I.state self.old) result (program_within (stream_of I.machine) (limit_in self.old) false (script_code (syntax_in I.state self.old)) (opened I.machine I.state (script_code (syntax_in I.state self.old)).context self.old)) (faults_in self.old) (faults_in self.new) }
+        ensures value { ReadsProgram (view_script inner) (syntax_in I.state self.old) result (script_read I.machine I.state self.old) (faults_in self.old) (faults_in self.new) }
         ensures fits { IfOk result (λ x. fits_script (λ p. p) x) }
         ensures started { IfOk result (λ _. self.new.started ≡ true) }
         ensures limit { limit_in self.new ≡ limit_in self.old }
-        ensures stays { Stays result (spec.bound (stream_of I.machine) (stood I.state self.new)) (spec.bound (stream_of I.machine) (opened I.machine I.state (script_code (syntax_in I.state self.old)).context self.old)) }
+        ensures stays { Stays result (spec.bound (stream_of I.machine) (stood I.state self.new)) (spec.bound (stream_of I.machine) (script_start I.machine I.state self.old)) }
     {
         let Syntax::Es(syntax) = self.reading.input.syntax();
         let code = in_script(syntax);
@@ -146,11 +146,11 @@ impl<'a, I: Tokens<'a> + Drop> Entries<Reading<'a, I>> {
 
     /// A module, in its own code.
     fn module(&mut self) -> Result<Module, Failure>
-        ensures value { ReadsProgram (view_module inner) (syntax_in I.state self.old) result (program_within (stream_of I.machine) (limit_in self.old) true (module_code (syntax_in I.state self.old)) (opened I.machine I.state (module_code (syntax_in I.state self.old)).context self.old)) (faults_in self.old) (faults_in self.new) }
+        ensures value { ReadsProgram (view_module inner) (syntax_in I.state self.old) result (module_read I.machine I.state self.old) (faults_in self.old) (faults_in self.new) }
         ensures fits { IfOk result (λ x. fits_module (λ p. p) x) }
         ensures started { IfOk result (λ _. self.new.started ≡ true) }
         ensures limit { limit_in self.new ≡ limit_in self.old }
-        ensures stays { Stays result (spec.bound (stream_of I.machine) (stood I.state self.new)) (spec.bound (stream_of I.machine) (opened I.machine I.state (module_code (syntax_in I.state self.old)).context self.old)) }
+        ensures stays { Stays result (spec.bound (stream_of I.machine) (stood I.state self.new)) (spec.bound (stream_of I.machine) (module_start I.machine I.state self.old)) }
     {
         let Syntax::Es(syntax) = self.reading.input.syntax();
         let code = in_module(syntax);

@@ -16,8 +16,7 @@ use Rattle.ecma_parse_state.specs.Cursors.{Cursor, told_of, stream_of}
 use Rattle.ecma_parse_state.specs.declared.failure.Failure.{Failure}
 use Rattle.ecma_parse_state.specs.declared.failure.Failure.TheVariants as failures
 use Rattle.ecma_parse_state.specs.declared.parser.Parser.{Parser}
-use Rattle.ecma_parser.specs.Passed as entries
-use Rattle.ecma_parser_laws.specs.Within as parsed
+use Rattle.ecma_parser.specs.Passed.{program_within}
 use Rattle.ecma_parser_laws.specs.Exact.{read_within}
 use Rattle.ecma_parser_laws.specs.Settled.{SettledBy, Settled}
 use Rattle.ecma_parser_laws.specs.Judged.{Each, JudgedBy, Judged}
@@ -28,11 +27,6 @@ use Rattle.ecma_input.specs.Rewinding.{back_in}
 use Rattle.ecma_input.specs.declared.rewinding.Rewinding.{Rewinding}
 use Rattle.ecma_parser.specs.declared.entries.Entries.{Entries}
 use Rattle.ecma_parser_laws.specs.Answered.{AnsweredBy, ReadBy, Comes, SpelledBy, NewAnswer, Answered, EntriesAnswer}
-
--- both crates say of a program within the limit the same
-pub same_program : {S : Type 0} (m : Stream S) (limit : ℕ) (modules : Bool) (c : Code) (s : State S) → parsed.program_within m limit modules c s ≡ entries.program_within m limit modules c s
-unfolding parsed.program_within parsed.within entries.program_within entries.within
-same_program m limit modules c s = refl
 
 no_tree : {t : Tree} {e : Fault} → ◌≡◌ {A = Result Tree Fault} (Err e) (Ok t) → ⊥
 no_tree {t} {e} h = cc
@@ -116,14 +110,13 @@ module _ {I S : Type 0} (m : tokens.Machine S) (state : I → Source S) where
 -- what an entry read that opened in front of the first token of this source
 module _ {I S : Type 0} (m : tokens.Machine S) (state : I → Source S) (modules : Bool) (e : Entries (Parser (Rewinding I))) where
   abbrev pub first_read : Source S → Result Tree Fault
-  first_read z = let code = code_of modules (parts_of z.settings.syntax) in parsed.program_within (stream_of m) (limit_in e) modules code (first_of m (told_of code.context z))
+  first_read z = let code = code_of modules (parts_of z.settings.syntax) in program_within (stream_of m) (limit_in e) modules code (first_of m (told_of code.context z))
 
   -- so an entry of a parser that read no token did
   pub read_first : e.started ≡ false → (z : Source S) → state e.reading.input.input ≡ z
-      → entries.program_within (stream_of m) (limit_in e) modules (code_of modules (syntax_in state e)) (opened m state (code_of modules (syntax_in state e)).context e) ≡ first_read z
+      → program_within (stream_of m) (limit_in e) modules (code_of modules (syntax_in state e)) (opened m state (code_of modules (syntax_in state e)).context e) ≡ first_read z
   read_first h z source = let code : Code = code_of modules (syntax_in state e) in
-      ap (λ (s : State (Cursor S)). entries.program_within (stream_of m) (limit_in e) modules code s) (opened_first m state code.context e h)
-      ∙ (sym (same_program (stream_of m) (limit_in e) modules code (first_of m (told_of code.context (state e.reading.input.input)))) ∙ ap (λ (y : Source S). first_read y) source)
+      ap (λ (s : State (Cursor S)). program_within (stream_of m) (limit_in e) modules code s) (opened_first m state code.context e h) ∙ ap (λ (y : Source S). first_read y) source
 
 module _ {I S : Type 0} (m : tokens.Machine S) (state : I → Source S) (Good : Source S → Type 0) (Same : Source S → Source S → Type 0) where
   pub entries_answer : {X : Type 0} (view : X → Tree) → EntriesAnswer m state Good Same view

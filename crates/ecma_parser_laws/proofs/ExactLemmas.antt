@@ -13,7 +13,7 @@ use Rattle.ecma_grammar_complete_base.specs.Laws.{InOrder}
 use Rattle.ecma_sources.specs.Sources.{HandsOut, Orderly}
 use Rattle.ecma_sources.specs.Consumed.{Backward}
 use Rattle.ecma_sources.proofs.ConsumedLemmas.{programs_consumed}
-use Rattle.ecma_parser_laws.specs.Within.{program_within}
+use Rattle.ecma_parser.specs.Passed.{program_within}
 use Rattle.ecma_parser_laws.specs.Parsed.{DerivesList, Judges}
 use Rattle.ecma_parser_laws.proofs.ParsedLemmas.{programs_judged}
 use Rattle.ecma_parser_laws.specs.Exact.{read_within, ProgramsExact, OneProgram}

@@ -17,7 +17,7 @@ use Rattle.ecma_grammar_complete.specs.Laws.{Decided}
 use Rattle.ecma_grammar_complete.proofs.WholeLemmas.{scripts_complete, modules_complete}
 use Rattle.ecma_sources.specs.Sources.{HandsOut, Orderly}
 use Rattle.ecma_sources.proofs.SourceLemmas.{programs_read}
-use Rattle.ecma_parser_laws.specs.Within.{within, program_within}
+use Rattle.ecma_parser.specs.Passed.{within, program_within}
 use Rattle.ecma_parser_laws.specs.Parsed.{DerivesList, Judges, ProgramsJudged}
 
 -- what derives a list is what is read of it, or nests deeper

@@ -11,7 +11,7 @@ use Rattle.ecma_reading.specs.Source.{Fault, unexpected, TooDeep, ◌>>=◌, Str
 use Rattle.ecma_reading.specs.Statements.{Body}
 use Rattle.ecma_reading.specs.Modules.{line_of, program_tree, program_step, program_rest, program_by}
 use Rattle.ecma_reading.specs.Reading.{finish}
-use Rattle.ecma_parser_laws.specs.Within.{within}
+use Rattle.ecma_parser.specs.Passed.{within}
 
 pub no_tree : {t : Tree} {e : Fault} → ◌≡◌ {A = Result Tree Fault} (Err e) (Ok t) → ⊥
 no_tree {t} {e} h = true≢false (sym (ap is_read h))

@@ -9,7 +9,7 @@ use Rattle.ecma_reading.specs.Source.{Fault, Stream}
 use Rattle.ecma_grammar_complete_base.specs.Laws.{InOrder}
 use Rattle.ecma_sources.specs.Sources.{HandsOut, Orderly}
 use Rattle.ecma_sources.specs.Consumed.{Backward}
-use Rattle.ecma_parser_laws.specs.Within.{program_within}
+use Rattle.ecma_parser.specs.Passed.{program_within}
 use Rattle.ecma_parser_laws.specs.Parsed.{DerivesList, EachDerived}
 
 module _ {S : Type 0} (m : Stream S) where

@@ -1,5 +1,4 @@
 -- What a parser reads of a source of tokens, of a list of them, and of a text, and what it answers, by the grammar.
-pub mod Within
 pub mod Parsed
 pub mod Exact
 pub mod Settled

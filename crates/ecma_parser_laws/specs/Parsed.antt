@@ -8,7 +8,7 @@ use Rattle.ecma_grammar.specs.Grammar.{Derives}
 use Rattle.ecma_program_text.specs.Text.{code_of, is_of_goal}
 use Rattle.ecma_reading.specs.Source.{Fault, Unexpected, TooDeep, Stream}
 use Rattle.ecma_grammar_complete_base.specs.Laws.{coded, InOrder}
-use Rattle.ecma_parser_laws.specs.Within.{program_within}
+use Rattle.ecma_parser.specs.Passed.{program_within}
 use Rattle.ecma_sources.specs.Sources.{HandsOut, Orderly}
 
 -- A tree derives a list of tokens to its end, as a script or as a module. Their goals and contexts are judged, or the tokens alone.
