@@ -1,14 +1,13 @@
 -- A rest may be cut off: before a closing brace in its place each condition on what stands there holds.
-use Rattle.std.proofs.Common.{◌≡◌, ◌<◌, ◌≤◌, ◌+◌, ℕ, suc, Bool, true, false, not, ◌&&◌, ◌||◌, ◌==◌, cond, eqb, nat_le, if◌then◌else◌, List, [], ◌∷◌, ◌++◌, refl, sym, ap, ap₂, ◌∙◌, subst, true≢false, arith, eqb-true}
+use Rattle.std.proofs.Common.{◌≡◌, ◌<◌, ◌+◌, ℕ, Bool, true, false, not, ◌&&◌, ◌||◌, ◌==◌, eqb, nat_le, if◌then◌else◌, List, [], ◌∷◌, ◌++◌, refl, sym, ap, ap₂, ◌∙◌, subst, true≢false, arith, eqb-true}
 use Rattle.ecma_token.specs.Kinds.{end_kind, right_brace_kind, left_brace_kind, left_bracket_kind, dot_kind, template_kind, comma_kind, question_mark_kind, left_paren_kind, assign_kind, mul_kind, function_kind, class_kind, async_kind, case_kind, default_kind, let_kind, of_kind, get_kind, set_kind, static_kind}
 use Rattle.ecma_tree.specs.Tree.{Tree, ident}
-use Rattle.ecma_syntax.specs.Input.{PlacedToken, Input, Code, kind, kind_of, kind2, break_of, brk, content_of, lo_of, hi_of, others, rest, text, is_word, no_name, barred, Takes, TakesWord, TakesAnyWord, TakesName, TakesIn}
-use Rattle.ecma_syntax.specs.Operators.{goes_expr, pauses, goes_on, is_assign_op, conditional_level, call_level, other_end, let_end, closed_end, may_name, starts_key}
+use Rattle.ecma_syntax.specs.Input.{PlacedToken, Input, Code, kind, kind_of, kind2, break_of, brk, content_of, lo_of, hi_of, others, rest, text, is_word, no_name, barred}
+use Rattle.ecma_syntax.specs.Operators.{goes_expr, pauses, is_assign_op, conditional_level, call_level, other_end, let_end, may_name, starts_key}
 use Rattle.ecma_syntax.specs.Shape.{ends, is_name, field_end}
 use Rattle.ecma_grammar.specs.Statements.{starts_expression_statement, statement_end, starts_head, starts_of, starts_using, starts_pattern}
 use Rattle.ecma_grammar.specs.Modules.{starts_default}
 use Rattle.ecma_grammar.specs.Grammar.{Produces}
-use Rattle.ecma_grammar_placed.specs.Laws.{placing}
 use Rattle.ecma_grammar_placed.proofs.Kin.{Kin}
 use Rattle.ecma_grammar_placed.proofs.Placed.{move}
 use Rattle.ecma_sources.proofs.Ahead.{cases, pause_one}
@@ -307,6 +306,15 @@ module _ (r : Input) where
       by_listed : (d : Code) (m : Input) (t : Tree) (b : Bool) → pauses d (ends t) m ≡ true → pauses d (if b && ((right_brace_kind == let_kind) && is_name t) then let_end else ends t) m ≡ true
       by_listed d m t true h = h
       by_listed d m t false h = h
+
+-- what is like a rest, and what goes on with it
+pub cut_here : (r : Input) → (cut r).Like r (input_at r.last (closing r.places))
+unfolding cut
+cut_here r = at_rest r
+
+pub cut_front : (r a b : Input) → (cut r).Like a b → (front : List PlacedToken) × (a.places ≡ front ++ r.places)
+unfolding cut
+cut_front r a b l = (l.front, l.left)
 
 -- ---- the law
 

@@ -1,28 +1,29 @@
 -- What is read is a complete front: a longer one would be cut off behind itself and read whole, and reading it ends before the next token.
-use Rattle.std.proofs.Common.{◌≡◌, ◌<◌, ◌≤◌, ◌+◌, ◌⊎◌, ℕ, zero, suc, Bool, true, false, not, ◌&&◌, ◌||◌, ◌==◌, cond, eqb, nat_le, nat_lt, if◌then◌else◌, List, [], ◌∷◌, ◌++◌, length, append_assoc, Result, Ok, Err, inl, inr, refl, sym, ap, ap₂, ◌∙◌, subst, true≢false, arith, eqb-true, ltb-true, ltb-false}
-use Rattle.ecma_token.specs.Kinds.{template_kind, question_mark_kind, dot_kind, comma_kind, hash_kind, in_kind}
+use Rattle.std.proofs.Common.{◌≡◌, ◌<◌, ◌≤◌, ◌+◌, ℕ, zero, suc, Bool, true, false, not, ◌&&◌, ◌||◌, ◌==◌, cond, eqb, nat_le, nat_lt, if◌then◌else◌, List, [], ◌∷◌, ◌++◌, length, append_assoc, Result, Ok, Err, inl, inr, refl, sym, ap, ap₂, ◌∙◌, subst, true≢false, arith, eqb-true, ltb-true, ltb-false}
+use Rattle.ecma_token.specs.Kinds.{template_kind, question_mark_kind, dot_kind, hash_kind, in_kind}
 use Rattle.ecma_tree.specs.Tree.{Tree, none, more}
 use Rattle.ecma_nesting.specs.Nesting.{nesting}
-use Rattle.ecma_syntax.specs.Input.{PlacedToken, Input, Code, kind, kind_of, kind2, break_of, is_word, has_in, alone, in_list, module_code}
-use Rattle.ecma_syntax.specs.Operators.{goes_expr, closed_end, postfix_end, other_end, is_assign_op, call_level, conditional_level, new_level, member_level, binary_level}
-use Rattle.ecma_syntax.specs.Shape.{level, ends, is_binding, is_key, is_statement, is_item, is_plain_function}
+use Rattle.ecma_syntax.specs.Input.{PlacedToken, Input, Code, kind, kind_of, has_in, alone, in_list, module_code}
+use Rattle.ecma_syntax.specs.Operators.{goes_expr, closed_end, postfix_end, other_end, call_level, conditional_level, new_level, member_level, binary_level}
+use Rattle.ecma_syntax.specs.Shape.{level, ends, is_key, is_plain_function}
 use Rattle.ecma_grammar.specs.Children.{is_module_item}
 use Rattle.ecma_grammar.specs.Grammar.{Produces}
-use Rattle.ecma_reading.specs.Source.{Fault, Unexpected, TooDeep, unexpected, ◌>>=◌, State, Read, list_stream, input, past, operand, at, bound, Step, go_on, finished, next_by, iterate_n, iterate, Inner}
+use Rattle.ecma_reading.specs.Source.{Fault, Unexpected, TooDeep, unexpected, ◌>>=◌, State, Read, input, at, bound, go_on, finished, next_by, iterate_n, iterate, Inner}
 use Rattle.ecma_reading.specs.Expressions.{key_by, private_by, prefix_by, binary_by, step_by, loop_step, loop_by, private_in, expr_from, expr_by}
 use Rattle.ecma_reading.specs.Modules.{item_by}
 use Rattle.ecma_reading.specs.Reading.{readers}
-use Rattle.ecma_grammar_complete_base.specs.Laws.{coded, patterned, InOrder, Asked, Follow}
-use Rattle.ecma_grammar_complete_base.proofs.Yields.{lm, from, Fresh, After, Yields, Reads, Is}
+use Rattle.ecma_grammar_complete_base.specs.Laws.{coded, patterned, InOrder, Follow}
+use Rattle.ecma_grammar_complete_base.proofs.Yields.{lm, from, After, Yields, Reads, Is}
 use Rattle.ecma_grammar_complete_base.proofs.Levels.{closed_by}
 use Rattle.ecma_grammar_complete_base.proofs.Trees.{size, sizes, reach}
 use Rattle.ecma_grammar_complete_rules.proofs.Functions.{key_found}
+use Rattle.ecma_grammar_complete_rules.proofs.Nested.{follows}
 use Rattle.ecma_grammar_complete_rules.proofs.Within.{within}
 use Rattle.ecma_grammar_complete_rules.proofs.Modules.{module_item}
 use Rattle.ecma_grammar_complete_rules.proofs.Sources.{in_module}
 use Rattle.ecma_grammar_complete.proofs.Sizes.{inward, within_reach, items_small, items_reach}
 use Rattle.ecma_grammar_complete.proofs.Tied.{complete}
-use Rattle.ecma_grammar_complete.specs.Laws.{Answered, Stands, Level, Bound}
+use Rattle.ecma_grammar_complete.specs.Laws.{Answered, Level}
 use Rattle.ecma_grammar_complete.proofs.WholeLemmas.{expressions_complete, patterns_complete}
 use Rattle.ecma_grammar_complete.proofs.Nests.{reach_nests}
 use Rattle.ecma_grammar_laws.specs.Laws.{tokens, OfLevel}
@@ -37,9 +38,9 @@ use Rattle.ecma_grammar_laws.proofs.SteadyExpressions.{key_by_steady}
 use Rattle.ecma_grammar_laws.proofs.SteadyModules.{item_by_steady}
 use Rattle.ecma_grammar_laws.proofs.SteadyLemmas.{readers_steady}
 use Rattle.ecma_sources.specs.Sources.{one}
-use Rattle.ecma_sources.specs.Ahead.{ends_async, Named, dots, heads, SameNext, Instead, at_list, ReadAhead}
+use Rattle.ecma_sources.specs.Ahead.{Named, SameNext, Instead, at_list, ReadAhead}
 use Rattle.ecma_sources.proofs.Ahead.{cases, one_ahead}
-use Rattle.ecma_complete_fronts.specs.Laws.{input_at, EndsBefore, EndsAt, IsComplete, OneFront, FrontsAreOne, IsReadBefore, Whatever, Apart, FrontsAreRead, Expression, Binding, Key, Statement, ListItem, ModuleItem, Settled, ExpressionsEnd, BindingsEnd, KeysEnd, StatementsEnd, ListItemsEnd, ModuleItemsEnd}
+use Rattle.ecma_complete_fronts.specs.Laws.{input_at, EndsBefore, EndsAt, IsComplete, OneFront, FrontsAreOne, IsReadBefore, Whatever, Apart, FrontsAreRead, Expression, Binding, Key, Statement, ListItem, ModuleItem, ExpressionsEnd, BindingsEnd, KeysEnd, StatementsEnd, ListItemsEnd, ModuleItemsEnd}
 use Rattle.ecma_complete_fronts.proofs.Cut.{brace, closing, cuts_to}
 
 -- ---- lists
@@ -114,7 +115,7 @@ read_of (Ok x) t r P n h = (x.1.commas, ap₂ (λ (u : Tree) (i : Input). Ok (u,
 read_of (Err Unexpected) t r P n h = absurd h
 read_of (Err TooDeep) t r P n h = absurd (n h)
 
-reads_of : (n : ℕ) (ps : List PlacedToken) (x : Result (Tree × State Input) Fault) (t : Tree) (r : Input) (P : Type 0) → (P → ⊥) → InOrder n ps → Reads (from (input_at n ps) []) x (Is t r) P → IsRead x t r
+pub reads_of : (n : ℕ) (ps : List PlacedToken) (x : Result (Tree × State Input) Fault) (t : Tree) (r : Input) (P : Type 0) → (P → ⊥) → InOrder n ps → Reads (from (input_at n ps) []) x (Is t r) P → IsRead x t r
 reads_of n ps x t r P e o h = by_answer x (h.so (record { order = o; below = λ i k. absurd (true≢false (sym k)) }))
   where
     by_answer : (x : Result (Tree × State Input) Fault) → Yields x (λ y. Is t r y × After (from (input_at n ps) []) y.1) P → IsRead x t r
@@ -128,7 +129,7 @@ kept_answer x y a h e = subst (λ z. Keeps z y) e h.so
 -- ---- one front
 
 -- Two ways to cut a list in two, as far behind.
-halves : (a b c d : List PlacedToken) → a ++ b ≡ c ++ d → length b ≡ length d → (a ≡ c) × (b ≡ d)
+pub halves : (a b c d : List PlacedToken) → a ++ b ≡ c ++ d → length b ≡ length d → (a ≡ c) × (b ≡ d)
 halves [] b [] d e h = (refl, e)
 halves [] b (y ∷ c) d e h = absurd (longer d c (ap (λ z. length z) e) h)
   where
@@ -282,7 +283,7 @@ none_goes true b = refl
 none_goes false true = refl
 none_goes false false = refl
 
-follow_by : (c : Code) (e l n : ℕ) (ps : List PlacedToken) → 1 ≤ l → Follow c e l (input_at n (closing ps))
+pub follow_by : (c : Code) (e l n : ℕ) (ps : List PlacedToken) → 1 ≤ l → Follow c e l (input_at n (closing ps))
 follow_by c e l n [] h = let z = none_goes (nat_le closed_end e) (nat_le postfix_end e) in record { stop = omega (arith, z, h); calm = λ i o. refl; sober = refl; quits = λ o. refl }
 follow_by c e l n (p ∷ ps) h = closed_by c e l 12 (input_at n (brace p ∷ [])) refl refl refl h
 
@@ -299,7 +300,7 @@ no_member l h = by_test (eqb l member_level) (λ e. eqb-true l member_level e)
 cut_expression : (placed : Bool) (l : ℕ) (c : Code) (t : Tree) (n : ℕ) (ps : List PlacedToken) (r : Input) → Expression placed l c t (input_at n ps) r → (front : List PlacedToken) × (ps ≡ front ++ r.places) × Expression false l c t (input_at n (front ++ closing r.places)) (input_at r.last (closing r.places))
 cut_expression placed l c t n ps r h = let z = cuts_to t (coded placed c) (input_at n ps) r h.1 in (z.0, z.1, (h.0, z.2))
 
-expression_is_read : (placed : Bool) (l : ℕ) → 1 ≤ l → l ≤ 2 → (c : Code) → IsReadBefore (λ t r. Follow c (ends t) l r) (λ d s. (readers lm d).expr c l s) (Expression placed l c)
+pub expression_is_read : (placed : Bool) (l : ℕ) → 1 ≤ l → l ≤ 2 → (c : Code) → IsReadBefore (λ t r. Follow c (ends t) l r) (λ d s. (readers lm d).expr c l s) (Expression placed l c)
 expression_is_read placed l a b c d n ps t r h o g w = read_of _ t r (d < nesting t) (λ i. omega (arith, i, h)) (expressions_complete d placed c l t (input_at n ps) r o (level_of l a b) (record { produced = g.1; tight = g.0; follow = w }))
 
 whole_expression : (l : ℕ) → 1 ≤ l → l ≤ 2 → (c : Code) (d n : ℕ) (ps : List PlacedToken) (t : Tree) (r : Input) → nesting t ≤ d → InOrder n ps → Expression false l c t (input_at n ps) (input_at r.last (closing r.places)) → IsRead ((readers lm d).expr c l (at_list n ps [])) t (input_at r.last (closing r.places))
@@ -326,7 +327,7 @@ expressions_end depth placed c l n ps t r a b named order e settled =
 cut_binding : (placed : Bool) (c : Code) (t : Tree) (n : ℕ) (ps : List PlacedToken) (r : Input) → Binding placed c t (input_at n ps) r → (front : List PlacedToken) × (ps ≡ front ++ r.places) × Binding false c t (input_at n (front ++ closing r.places)) (input_at r.last (closing r.places))
 cut_binding placed c t n ps r h = let z = cuts_to t (patterned placed c) (input_at n ps) r h.1 in (z.0, z.1, (h.0, z.2))
 
-binding_is_read : (placed : Bool) (c : Code) → IsReadBefore Whatever (λ d s. (readers lm d).pat c s) (Binding placed c)
+pub binding_is_read : (placed : Bool) (c : Code) → IsReadBefore Whatever (λ d s. (readers lm d).pat c s) (Binding placed c)
 binding_is_read placed c d n ps t r h o g w = read_of _ t r (d < nesting t) (λ i. omega (arith, i, h)) (patterns_complete d placed c t (input_at n ps) r o (record { binding = g.0; produced = g.1 }))
 
 whole_binding : (c : Code) (d n : ℕ) (ps : List PlacedToken) (t : Tree) (r : Input) → nesting t ≤ d → InOrder n ps → Binding false c t (input_at n ps) (input_at r.last (closing r.places)) → IsRead ((readers lm d).pat c (at_list n ps [])) t (input_at r.last (closing r.places))
@@ -343,7 +344,7 @@ bindings_end depth placed c n ps t r named order e = (
 cut_key : (placed : Bool) (c : Code) (t : Tree) (n : ℕ) (ps : List PlacedToken) (r : Input) → Key placed c t (input_at n ps) r → (front : List PlacedToken) × (ps ≡ front ++ r.places) × Key false c t (input_at n (front ++ closing r.places)) (input_at r.last (closing r.places))
 cut_key placed c t n ps r h = let z = cuts_to t (coded placed c) (input_at n ps) r h.1 in (z.0, z.1, (h.0, z.2))
 
-key_is_read : (placed : Bool) (c : Code) → IsReadBefore Whatever (λ d s. key_by lm (readers lm d) c s) (Key placed c)
+pub key_is_read : (placed : Bool) (c : Code) → IsReadBefore Whatever (λ d s. key_by lm (readers lm d) c s) (Key placed c)
 key_is_read placed c d n ps t r h o g w = reads_of n ps _ t r (d < within reach t) (λ i. omega (arith, i, h, within_reach t, reach_nests t)) o (key_found (complete (suc (size t)) d) placed c t (input_at n ps) r [] g.0 (inward (suc (size t)) t (omega arith)) g.1)
 
 whole_key : (c : Code) (d n : ℕ) (ps : List PlacedToken) (t : Tree) (r : Input) → nesting t ≤ d → InOrder n ps → Key false c t (input_at n ps) (input_at r.last (closing r.places)) → IsRead (key_by lm (readers lm d) c (at_list n ps [])) t (input_at r.last (closing r.places))
@@ -365,7 +366,7 @@ cut_statement : (placed : Bool) (c : Code) (t : Tree) (n : ℕ) (ps : List Place
 cut_statement placed c t n ps r h = let z = cuts_to t (coded placed (alone c)) (input_at n ps) r h.1 in (z.0, z.1, (h.0, z.2))
 
 statement_is_read : (placed : Bool) (c : Code) → IsReadBefore Apart (λ d s. (readers lm d).stmt (alone c) s) (Statement placed c)
-statement_is_read placed c d n ps t r h o g w = reads_of n ps _ t r (d < reach t) (λ i. omega (arith, i, h, reach_nests t)) o ((complete (suc (size t)) d).stmt t placed (alone c) (input_at n ps) r [] (omega arith) (ap (λ (b : Bool). b || is_plain_function t) g.0) g.1 (ap not w))
+statement_is_read placed c d n ps t r h o g w = reads_of n ps _ t r (d < reach t) (λ i. omega (arith, i, h, reach_nests t)) o ((complete (suc (size t)) d).stmt t placed (alone c) (input_at n ps) r [] (omega arith) (ap (λ (b : Bool). b || is_plain_function t) g.0) g.1 (follows t (kind r) (ap not w)))
 
 whole_statement : (c : Code) (d n : ℕ) (ps : List PlacedToken) (t : Tree) (r : Input) → nesting t ≤ d → InOrder n ps → Statement false c t (input_at n ps) (input_at r.last (closing r.places)) → IsRead ((readers lm d).stmt (alone c) (at_list n ps [])) t (input_at r.last (closing r.places))
 whole_statement c d n ps t r h o g = statement_is_read false c d n ps t (input_at r.last (closing r.places)) h o g (follows_by t r.last r.places)
@@ -382,7 +383,7 @@ cut_item : (placed : Bool) (c : Code) (t : Tree) (n : ℕ) (ps : List PlacedToke
 cut_item placed c t n ps r h = let z = cuts_to t (coded placed (in_list c)) (input_at n ps) r h.1 in (z.0, z.1, (h.0, z.2))
 
 item_is_read : (placed : Bool) (c : Code) → IsReadBefore Apart (λ d s. (readers lm d).stmt (in_list c) s) (ListItem placed c)
-item_is_read placed c d n ps t r h o g w = reads_of n ps _ t r (d < reach t) (λ i. omega (arith, i, h, reach_nests t)) o ((complete (suc (size t)) d).stmt t placed (in_list c) (input_at n ps) r [] (omega arith) g.0 g.1 (ap not w))
+item_is_read placed c d n ps t r h o g w = reads_of n ps _ t r (d < reach t) (λ i. omega (arith, i, h, reach_nests t)) o ((complete (suc (size t)) d).stmt t placed (in_list c) (input_at n ps) r [] (omega arith) g.0 g.1 (follows t (kind r) (ap not w)))
 
 whole_item : (c : Code) (d n : ℕ) (ps : List PlacedToken) (t : Tree) (r : Input) → nesting t ≤ d → InOrder n ps → ListItem false c t (input_at n ps) (input_at r.last (closing r.places)) → IsRead ((readers lm d).stmt (in_list c) (at_list n ps [])) t (input_at r.last (closing r.places))
 whole_item c d n ps t r h o g = item_is_read false c d n ps t (input_at r.last (closing r.places)) h o g (follows_by t r.last r.places)
@@ -400,7 +401,7 @@ cut_module_item placed c t n ps r h = let z = cuts_to t (coded placed (in_list c
 
 module_item_is_read : (placed : Bool) (c : Code) → IsReadBefore Apart (λ d s. item_by lm (readers lm d) true (in_list c) s) (ModuleItem placed c)
 module_item_is_read placed c d n ps t r h o g w = reads_of n ps _ t r (d < in_module reach t) (λ i. omega (arith, i, h, items_reach (more t none), reach_nests t)) o
-    (module_item (complete (suc (sizes (more t none))) d) placed t c (input_at n ps) r [] g.0 (items_small (suc (sizes (more t none))) (more t none) (omega arith)).0 g.1 (ap not w))
+    (module_item (complete (suc (sizes (more t none))) d) placed t c (input_at n ps) r [] g.0 (items_small (suc (sizes (more t none))) (more t none) (omega arith)).0 g.1 (follows t (kind r) (ap not w)))
 
 whole_module_item : (c : Code) (d n : ℕ) (ps : List PlacedToken) (t : Tree) (r : Input) → nesting t ≤ d → InOrder n ps → ModuleItem false c t (input_at n ps) (input_at r.last (closing r.places)) → IsRead (item_by lm (readers lm d) true (in_list c) (at_list n ps [])) t (input_at r.last (closing r.places))
 whole_module_item c d n ps t r h o g = module_item_is_read false c d n ps t (input_at r.last (closing r.places)) h o g (follows_by t r.last r.places)

@@ -1,2 +1,6 @@
 pub mod Cut
 pub mod Fronts
+pub mod Onto
+pub mod Longer
+pub mod Leaves
+pub mod Exact

@@ -1,6 +1,7 @@
 //! Laws of the grammar: what is read of a part of a program is a complete front of the list. The functions here are laws alone.
 #![tactic(auto)]
 
+ghost use Rattle.ecma_complete_fronts.specs.Exact.{FrontsAreExact};
 ghost use Rattle.ecma_complete_fronts.specs.Laws.{BindingsEnd, CutsOff, ExpressionsEnd, FrontsAreOne, FrontsAreRead, KeysEnd, ListItemsEnd, ModuleItemsEnd, StatementsEnd};
 
 /// Law: a rest may be cut off. What is derived up to a rest is derived of the same front before a closing
@@ -35,4 +36,12 @@ pub fn one_law()
 #[tactic(auto)]
 pub fn read_law()
     ensures fronts { FrontsAreRead }
+{}
+
+/// Law: each complete front is read. What is derived from a complete front of a list in order is read of it, at every
+/// depth of at least its nesting: an expression outside generators where nothing goes on with it, a binding, a key, a
+/// statement, an item; no escaped `function` may stand behind an expression, and no escaped `finally` behind a statement.
+#[tactic(auto)]
+pub fn exact_law()
+    ensures fronts { FrontsAreExact }
 {}

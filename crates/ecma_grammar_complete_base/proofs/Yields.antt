@@ -1,12 +1,12 @@
 -- What a reading answers: one that meets a demand, or too deep; and that it leaves the starts noted before it as they were.
-use Rattle.std.proofs.Common.{◌≡◌, ℕ, zero, suc, ◌<◌, ◌≤◌, ◌⊎◌, inl, inr, Bool, true, false, not, ◌&&◌, ◌||◌, cond, eqb, leb, ltb, List, [], ◌∷◌, length, Result, Ok, Err, if◌then◌else◌, refl, sym, ap, ◌∙◌, subst, ⊎_elim, true≢false, arith}
-use Rattle.std.proofs.lemmas.Bool.{eqb-true, eqb-false, ne_eqb, eq-eqb, cases_Bool, or_cases, le-leb, le-ltb, lt-ltb}
+use Rattle.std.proofs.Common.{◌≡◌, ℕ, zero, suc, ◌<◌, ◌≤◌, ◌⊎◌, inl, inr, Bool, true, false, not, ◌&&◌, cond, eqb, List, [], ◌∷◌, length, Result, Ok, Err, if◌then◌else◌, refl, sym, ap, ◌∙◌, subst, ⊎_elim, true≢false, arith}
+use Rattle.std.proofs.lemmas.Bool.{eqb-true, ne_eqb, eq-eqb, or_cases, lt-ltb}
 use Rattle.ecma_token.specs.declared.place.Span.{Span}
 use Rattle.ecma_token.specs.Kinds.{template_kind}
 use Rattle.ecma_syntax.specs.Input.{PlacedToken, Input, Code, span, first_span, kind, kind_of, text, rest, is_word, no_name, barred, lo, lo_of, hi_of, others}
 use Rattle.ecma_reading.specs.Cover.{has}
 pub use Rattle.ecma_grammar_complete_base.specs.Laws.{coded, InOrder}
-use Rattle.ecma_reading.specs.Source.{Fault, Unexpected, TooDeep, ◌>>=◌, unexpected, Stream, list_stream, State, Read, input, past, bound, eat, eat_word, is_name, name, any_word, Step, go_on, finished, next_by, iterate_n, iterate}
+use Rattle.ecma_reading.specs.Source.{Fault, Unexpected, TooDeep, ◌>>=◌, Stream, list_stream, State, Read, past, bound, eat, eat_word, is_name, name, any_word, Step, go_on, finished, next_by, iterate_n, iterate}
 
 pub first_at : (ts r : Input) (s : Span) → rest ts ≡ r → s ≡ span (lo ts) r.last → first_span ts ≡ s
 first_at ts r s q p = ap (λ (z : Input). span (lo ts) z.last) q ∙ sym p
@@ -90,6 +90,15 @@ reads_map {A = A} {s = s} {V = V} {W = W} {P = P} x f h = record { so = λ fr. w
     weaker (Ok y) v = record { so = (f y v.so.0, v.so.1) }
     weaker (Err Unexpected) v = absurd v.so
     weaker (Err TooDeep) v = record { so = v.so }
+
+-- the same of the answer that it is
+pub reads_told : {A : Type 0} {s : State Input} {V : A × State Input → Type 0} {P : Type 0} (x : Result (A × State Input) Fault) → Reads s x V P → Reads s x (λ y. V y × (x ≡ Ok y)) P
+reads_told {A = A} {s = s} {V = V} {P = P} x h = record { so = λ fr. told x (h.so fr) }
+  where
+    told : (x : Result (A × State Input) Fault) → Yields x (λ y. V y × After s y.1) P → Yields x (λ y. (V y × (x ≡ Ok y)) × After s y.1) P
+    told (Ok y) v = record { so = ((v.so.0, refl), v.so.1) }
+    told (Err Unexpected) v = absurd v.so
+    told (Err TooDeep) v = record { so = v.so }
 
 pub reads_deep : {A : Type 0} {s : State Input} {x : Result (A × State Input) Fault} {V : A × State Input → Type 0} {P Q : Type 0} → (P → Q) → Reads s x V P → Reads s x V Q
 reads_deep {A = A} {s = s} {x = x} {V = V} {P = P} {Q = Q} i h = record { so = λ fr. deeper x (h.so fr) }

@@ -8,33 +8,33 @@ use Rattle.ecma_syntax.specs.Input.{in_list, TakesWord, text, no_name, barred, b
 use Rattle.ecma_syntax.specs.Operators.{assignment_level, binary_level, right_level, operates, goes_expr, is_assign_op}
 use Rattle.ecma_syntax.specs.Shape.{is_absent, is_block, is_target, is_structured, is_simple, is_chain, is_private, level, ends, last_ends, fits_left}
 use Rattle.ecma_grammar.specs.Expressions.{is_update_op, is_unary_op, Call, Member, Dotted, TaggedTemplate, Optional, ChainMember, ChainCall, AccessedName, Bracketed, ArgumentList, SuperCall, ImportCall, Yield, Binary, Assignment}
-use Rattle.ecma_grammar.specs.Children.{Child, child, CommaThen, Expr, Listed}
+use Rattle.ecma_grammar.specs.Children.{child, CommaThen, Expr, Listed}
 use Rattle.ecma_grammar.specs.Functions.{ArrowPattern, ArrowHead, ArrowExpression, BareName, Async, Body}
 use Rattle.ecma_grammar.specs.Grammar.{Produces, children}
 use Rattle.ecma_reading.specs.Source.{State, Inner, go_on, Fault, unexpected}
-use Rattle.ecma_reading.specs.Expressions.{assign_by, private_in, private_by, binary_by, member_by, index_by, call_by, chain_by, template_by, on_chain, extended, word_by, async_by, async_group, heads_params, arrows_at, element_step, element_by, expr_by, expr_from, loop_by, loop_step, step_by, prefix_by, elements_by, array_by}
+use Rattle.ecma_reading.specs.Expressions.{Elements, assign_by, private_in, private_by, binary_by, member_by, index_by, call_by, chain_by, template_by, on_chain, extended, word_by, async_by, async_group, heads_params, element_step, element_by, expr_by, expr_from, loop_by, loop_step, step_by, prefix_by, elements_by, array_by}
 use Rattle.ecma_reading.specs.Cover.{to_target}
 use Rattle.ecma_reading.specs.Reading.{readers}
-use Rattle.ecma_grammar_complete_base.proofs.Yields.{reads_deep, first_at, IsName, lm, from, len, coded, then_reads, Is, then_is, Loops, loop_on, looped, shorter, Reads, here, past_here, ended, if_no, if_yes, then_past, then_past_reads, after_one, then_noted}
-use Rattle.ecma_grammar_complete_base.proofs.Levels.{cond_no, cond_yes, arrowed, calm_by, calm_at, goes_calm, quits_by, quits, ends_operand, goes_comma, closed_by, comma_after, Follow, sober, sober_by, Asked, right_asked, right_five, right_most, tail, tail_high, tail_over, tail_stops, ends_high, fits, operated, binary_four, goes_binary, quiet}
-use Rattle.ecma_grammar_complete_base.proofs.Trees.{function_word, Covered, CoveredAll, size, sizes, reach, reaches, begins, starts, no_kind, callee_sort, chain_level, ends_low, takes, some_assign, some_binary, some_update, some_word, by_unary, by_update}
+use Rattle.ecma_grammar_complete_base.proofs.Yields.{reads_deep, reads_told, first_at, IsName, lm, from, len, coded, then_reads, Is, then_is, Loops, loop_on, looped, Reads, here, ended, if_no, if_yes, then_past, then_past_reads, after_one, then_noted}
+use Rattle.ecma_grammar_complete_base.proofs.Levels.{cond_no, cond_yes, calm_by, goes_calm, quits_by, goes_comma, closed_by, comma_after, Follow, sober_by, Asked, right_asked, right_five, right_most, tail, tail_high, tail_over, tail_stops, ends_high, fits, operated, binary_four, goes_binary, quiet}
+use Rattle.ecma_grammar_complete_base.proofs.Trees.{function_word, Covered, CoveredAll, size, sizes, reach, reaches, begins, starts, no_kind, callee_sort, chain_level, ends_low, takes, some_assign, some_binary, some_update, by_unary, by_update}
 use Rattle.ecma_grammar_complete_rules.proofs.Lengths.{taken, dotted_cut, bracket_cut, accessed_cut, elements_cut, arguments_cut, template_cut}
 use Rattle.ecma_grammar_complete_rules.proofs.Prefixes.{literal_found, prefix_str, prefix_num, prefix_big, prefix_regex, prefix_this, prefix_null, prefix_true, prefix_false, prefix_unary, prefix_update, prefix_await, unary_found, update_found, await_found, prefix_ident, named_word}
 use Rattle.ecma_grammar_complete_rules.proofs.Lists.{Finds, Deep, Has, pack_unpack, elements_found, one_asked, two_asked}
 use Rattle.ecma_grammar_complete_rules.proofs.Groups.{paren_found, group_found}
-use Rattle.ecma_grammar_complete_rules.proofs.Steps.{step_binary, step_cond, step_index, step_member, step_call, step_update, binary_found, cond_found, index_found, named_found, call_found}
+use Rattle.ecma_grammar_complete_rules.proofs.Steps.{step_binary, step_cond, step_index, step_member, step_call, step_update, binary_found, cond_found, index_found, call_found}
 use Rattle.ecma_grammar_complete_rules.proofs.Members.{private_found, Lists, dotted_member, indexed, called, chain_name, chain_index, chain_call, step_chain, step_template, template_found, prefix_template}
 use Rattle.ecma_grammar_complete_rules.proofs.Objects.{object_found}
 use Rattle.ecma_grammar_complete_rules.proofs.Words.{super_call, super_index, super_name, meta_found, yield_bare, yield_operand, yield_star, import_found, import_elements}
 use Rattle.ecma_grammar_complete_rules.proofs.Covers.{Cover_read, Covered_list, covers_found}
 use Rattle.ecma_grammar_complete_rules.proofs.Arrows.{Body_read, expression_body, block_body, arrow_bare, arrow_paren, async_paren, async_bare, params_loosen, params_names}
 use Rattle.ecma_grammar_complete_rules.proofs.Coverings.{coverings, structured_read, structured_starts}
-use Rattle.ecma_grammar_complete_rules.proofs.News.{callee_of, callee_found, no_dot, bare_found, with_found}
-use Rattle.ecma_grammar_complete_rules.proofs.Finds.{bare_by, paren_goes, quiet_binary, far_binary, goes_question, goes_update, goes_bracket, goes_dot, finds, Bare, Calm, Comes, reads}
+use Rattle.ecma_grammar_complete_rules.proofs.News.{callee_of, callee_found, firm_callee, no_dot, bare_found, with_found}
+use Rattle.ecma_grammar_complete_rules.proofs.Finds.{bare_by, paren_goes, quiet_binary, far_binary, goes_question, goes_update, goes_bracket, goes_dot, finds, lasts, firmly, firm, firm_leads, Behind, Leads, NoParams, Bare, Comes}
 
 -- a call of the name `async`, which the reader of words reads whole, since its parenthesis may hold an arrow's parameters
 async_call : (inner : Inner Input) (c : Code) (lev : ℕ) (ts : Input) (k : List ℕ) (q s : Span) (x : List ℕ) (xs : Trees) (r : Input) (P : Type 0) {Q : Type 0} → IsName c ts → kind ts ≡ async_kind → text ts ≡ x → q ≡ first_span ts → kind (rest ts) ≡ left_paren_kind → brk (rest ts) ≡ false
-    → ((j : List ℕ) → Reads (from (rest (rest ts)) j) (elements_by lm inner c false right_paren_kind (from (rest (rest ts)) j)) (Has (unpack xs) r) P) → (P → Q) → (lev ≤ assignment_level → arrowed r ≡ false) → s ≡ span (lo ts) r.last → Reads (from ts k) (prefix_by lm inner c lev (from ts k)) (Is (call_expr s (ident q x) xs) r) Q
+    → ((j : List ℕ) → Reads (from (rest (rest ts)) j) (elements_by lm inner c false right_paren_kind (from (rest (rest ts)) j)) (Has (unpack xs) r) P) → (P → Q) → ((z : Elements × State Input) → elements_by lm inner (with_in c) false right_paren_kind (from (rest (rest ts)) k) ≡ Ok z → z.1.source ≡ r → heads_params lm inner lev z.0 z.1 ≡ false) → s ≡ span (lo ts) r.last → Reads (from ts k) (prefix_by lm inner c lev (from ts k)) (Is (call_expr s (ident q x) xs) r) Q
 unfolding word_by async_by async_group elements_by element_step element_by
 async_call inner c lev ts k q s x xs r P {Q = Q} i e t f g b y u a p =
     named_word inner c lev ts k (Is (call_expr s (ident q x) xs) r) Q i (if_yes (eqb (kind ts) async_kind) _ _ _ _ (eq-eqb (kind ts) async_kind e)
@@ -42,12 +42,12 @@ async_call inner c lev ts k q s x xs r P {Q = Q} i e t f g b y u a p =
     (if_no ((is_word (kind (rest ts)) && (not (no_name c.context (kind (rest ts))) && not (barred c.context (rest ts)))) && ((not (brk (rest ts)) && (kind2 (rest ts) == arrow_kind) && not (brk2 (rest ts))) && leb lev assignment_level)) _ _ _ _
     (and_left _ _ (and_left (is_word (kind (rest ts))) _ (subst (λ (n : ℕ). is_word n ≡ false) (sym g) refl)))
     (if_yes ((kind (rest ts) == left_paren_kind) && not (brk (rest ts))) _ _ _ _ (and_from _ _ (eq-eqb (kind (rest ts)) left_paren_kind g) (ap not b))
-    (after_one (from ts k) _ _ Q (then_past_reads (rest ts) (rest (rest ts)) k (elements_by lm inner (with_in c) false right_paren_kind) _ (Has (unpack xs) r) P _ Q refl (y k) u
-    (λ z h. if_no (heads_params lm inner lev z.0 z.1 && not (brk (rest ts))) _ _ _ _ (and_left (heads_params lm inner lev z.0 z.1) _ (and_left (arrows_at lm inner lev z.1) _ (subst (λ (w : Input). (arrowed w && leb lev assignment_level) ≡ false) (sym h.1) (calm_at lev r a))))
+    (after_one (from ts k) _ _ Q (then_past_reads (rest ts) (rest (rest ts)) k (elements_by lm inner (with_in c) false right_paren_kind) _ (λ z. Has (unpack xs) r z × (elements_by lm inner (with_in c) false right_paren_kind (from (rest (rest ts)) k) ≡ Ok z)) P _ Q refl (reads_told _ (y k)) u
+    (λ z h. if_no (heads_params lm inner lev z.0 z.1 && not (brk (rest ts))) _ _ _ _ (and_left (heads_params lm inner lev z.0 z.1) _ (a z h.1 h.0.1))
     (ended _ _ Q (
-      ap (λ ys. call_expr (span (lo ts) z.1.source.last) (ident (first_span ts) (text ts)) (pack ys)) h.0 ∙ ap (λ ys. call_expr (span (lo ts) z.1.source.last) (ident (first_span ts) (text ts)) ys) (pack_unpack xs)
-          ∙ ap (λ (w : Input). call_expr (span (lo ts) w.last) (ident (first_span ts) (text ts)) xs) h.1 ∙ ap (λ w. call_expr w (ident (first_span ts) (text ts)) xs) (sym p) ∙ ap (λ w. call_expr s (ident w (text ts)) xs) (sym f) ∙ ap (λ w. call_expr s (ident q w) xs) t,
-      h.1,
+      ap (λ ys. call_expr (span (lo ts) z.1.source.last) (ident (first_span ts) (text ts)) (pack ys)) h.0.0 ∙ ap (λ ys. call_expr (span (lo ts) z.1.source.last) (ident (first_span ts) (text ts)) ys) (pack_unpack xs)
+          ∙ ap (λ (w : Input). call_expr (span (lo ts) w.last) (ident (first_span ts) (text ts)) xs) h.0.1 ∙ ap (λ w. call_expr w (ident (first_span ts) (text ts)) xs) (sym p) ∙ ap (λ w. call_expr s (ident w (text ts)) xs) (sym f) ∙ ap (λ w. call_expr s (ident q w) xs) t,
+      h.0.1,
     )))))))))
 
 abbrev IsAsync : Tree → Input → Input → Type 0
@@ -204,7 +204,7 @@ op_assigns op (object_pat s xs) e h = eqb-true op assign_kind (and_parts (op == 
 op_assigns op _ e h = absurd (true≢false (sym e))
 
 -- what isn't closed ends as its last part
-unclosed : (b : Bool) (c : Code) (e l : ℕ) (r : Input) → b ≡ false → Follow c (cond b 2 e) l r → Follow c e l r
+unclosed : (b : Bool) (c : Code) (e l : ℕ) (r : Input) → b ≡ false → goes_expr c (cond b 2 e) r < l → goes_expr c e r < l
 unclosed true c e l r n f = absurd (true≢false n)
 unclosed false c e l r n f = f
 
@@ -215,9 +215,13 @@ unfolding prefix_by array_by
 prefix_array inner c lev ts k s xs m r P {Q = Q} e q y i p = rw e (then_noted ts m k (elements_by lm inner c true right_bracket_kind) _ _ (Has (unpack xs) r) P (Is (array_lit s xs) r) Q (λ u. omega (arith, e, u)) (λ u. omega (arith, e, u)) q (y k) i
     (λ x h. (ap (λ ys. array_lit (span (lo ts) x.1.source.last) (pack ys)) h.0 ∙ ap (λ ys. array_lit (span (lo ts) x.1.source.last) ys) (pack_unpack xs) ∙ ap (λ (z : Input). array_lit (span (lo ts) z.last) xs) h.1 ∙ ap (λ z. array_lit z xs) (sym p), h.1)))
 
-module _ (z d : ℕ) (ih : (e : ℕ) → Comes z e) (deep : Deep z d) (p : Bool) (c : Code) (l : ℕ) (ts : Input) (k : List ℕ) (W : Tree × State Input → Type 0) (n : ℕ) (one : 1 ≤ l) where
+module _ (z d : ℕ) (ih : (e : ℕ) → Comes z e) (deep : Deep z d) (F : Behind) (leads : Leads F) (p : Bool) (c : Code) (l : ℕ) (ts : Input) (k : List ℕ) (W : Tree × State Input → Type 0) (n : ℕ) (one : 1 ≤ l) where
   abbrev found : Finds z d
   found = finds z d ih
+
+  -- the same of the last operand, behind which the same stands
+  last_found : (t : Tree) (q : Bool) (e : Code) (i : ℕ) (a r : Input) (j : List ℕ) → size t < z → Covered t → Produces t (coded q e) a r → 1 ≤ i → i < 20 → Asked i → i ≤ level t → goes_expr e (ends t) r < i → F.tree q e i t a r → Reads (from a j) ((readers lm d).expr e i (from a j)) (Is t r) (d < reach t)
+  last_found = lasts z d ih F leads
 
   abbrev inner : Inner Input
   inner = readers lm d
@@ -235,7 +239,7 @@ module _ (z d : ℕ) (ih : (e : ℕ) → Comes z e) (deep : Deep z d) (p : Bool)
   after : (t a : Tree) (m r : Input) → size a < z → Covered a → Produces a (coded p c) ts m → Follow c (ends a) (tail a) m → Bare a ts m → reach a ≤ n → l ≤ level a → l ≤ goes_expr c (ends a) m → len r < len m
       → ((j : List ℕ) → Reads (from m j) (step_by lm inner c (from ts k) a (from m j)) (Is t r) (suc d < n)) → On t r → Ours
   unfolding loop_step
-  after t a m r sz g h fo ba le la lp cu y K = ih d a p c l ts m k W n sz g h one la fo ba (record { calm = λ _ _. goes_calm c (ends a) m (omega arith) }) le
+  after t a m r sz g h fo ba le la lp cu y K = firmly z d (ih d) a p c l ts m k W n sz g h one la fo ba (record { calm = λ _ _. goes_calm c (ends a) m (omega arith) }) le
       (λ j. loop_on (loop_step lm inner c l (from ts k)) a t m r j (suc d < n) W _ (if_no (ltb (goes_expr c (ends a) m) l) _ _ _ _ (le-ltb (goes_expr c (ends a) m) l lp)
       (then_is (step_by lm inner c (from ts k) a (from m j)) _ t r (suc d < n) _ _ (y j) (λ u. u) (λ i. here refl))) (λ u. u) cu K)
 
@@ -350,30 +354,30 @@ module _ (z d : ℕ) (ih : (e : ℕ) → Comes z e) (deep : Deep z d) (p : Bool)
       (import_found inner c l ts k h.0 _ s t xs h.1 r (d < reaches xs) h.2.0 h.2.1 h.2.3 h.3 h.4.0 h.4.2 (import_elements z d found p c xs h.1 r k (reaches xs) se ge h.5 (omega arith)) (λ u. omega arith) h.6) K
 
   -- `yield` with an operand
-  comes_yield : (s : Span) (a : Tree) (q : Bool) (r : Input) → Yield (coded p c) s (child a (λ y. Produces a y)) q ts r → size (yield_expr s a q) < suc z → Covered a → l ≤ 2 → suc (reach a) ≤ n → is_absent a ≡ false → Follow c (cond (is_absent a) 2 (ends a)) 2 r → On (yield_expr s a q) r → Ours
-  comes_yield s a false r h sz g le ne na fo K = begin (yield_expr s a false) r (not_hash 129 h.2.0 refl) le
-      (yield_operand inner c l ts k h.0 _ s a r (d < reach a) h.2.0 h.2.1 h.2.3 h.1 h.3 (starts a _ h.0 r g (omega (arith, h.4.0)) h.4.1) (λ j. found a p c 2 h.0 r j (omega arith) g h.4.1 (omega arith) (omega arith) two_asked h.4.0 (unclosed (is_absent a) c (ends a) 2 r na fo)) (λ u. omega arith) h.5) K
-  comes_yield s a true r h sz g le ne na fo K = begin (yield_expr s a true) r (not_hash 129 h.3.0 refl) le
-      (yield_star inner c l ts k h.0 _ s a h.1 r (d < reach a) h.3.0 h.3.1 h.3.3 h.2 h.4 h.5.0 h.5.2 (λ j. found a p c 2 h.1 r j (omega arith) g h.6.1 (omega arith) (omega arith) two_asked h.6.0 (unclosed (is_absent a) c (ends a) 2 r na fo)) (λ u. omega arith) h.7) K
+  comes_yield : (s : Span) (a : Tree) (q : Bool) (r : Input) → Yield (coded p c) s (child a (λ y. Produces a y)) q ts r → size (yield_expr s a q) < suc z → Covered a → l ≤ 2 → suc (reach a) ≤ n → is_absent a ≡ false → goes_expr c (cond (is_absent a) 2 (ends a)) r < 2 → F.tree p c l (yield_expr s a q) ts r → On (yield_expr s a q) r → Ours
+  comes_yield s a false r h sz g le ne na fo ca K = begin (yield_expr s a false) r (not_hash 129 h.2.0 refl) le
+      (yield_operand inner c l ts k h.0 _ s a r (d < reach a) h.2.0 h.2.1 h.2.3 h.1 h.3 (starts a _ h.0 r g (omega (arith, h.4.0)) h.4.1) (λ j. last_found a p c 2 h.0 r j (omega arith) g h.4.1 (omega arith) (omega arith) two_asked h.4.0 (unclosed (is_absent a) c (ends a) 2 r na fo) (leads.yields p c l s a ts r na ca h)) (λ u. omega arith) h.5) K
+  comes_yield s a true r h sz g le ne na fo ca K = begin (yield_expr s a true) r (not_hash 129 h.3.0 refl) le
+      (yield_star inner c l ts k h.0 _ s a h.1 r (d < reach a) h.3.0 h.3.1 h.3.3 h.2 h.4 h.5.0 h.5.2 (λ j. last_found a p c 2 h.1 r j (omega arith) g h.6.1 (omega arith) (omega arith) two_asked h.6.0 (unclosed (is_absent a) c (ends a) 2 r na fo) (leads.yields_all p c l s a ts r na ca h)) (λ u. omega arith) h.7) K
 
   -- `#x in`
   comes_private : (s t : Span) (x : List ℕ) (op : ℕ) (b : Tree) (r : Input) → op ≡ in_kind → Binary (coded p c) s op (child (private_name t x) (λ y. Produces (private_name t x) y)) (child b (λ y. Produces b y)) ts r → size b < z → Covered b → l ≤ binary_level op → suc (reach b) ≤ n
-      → Follow c (ends b) (right_level op) r → On (bin_expr s op (private_name t x) b) r → Ours
+      → goes_expr c (ends b) r < right_level op → F.tree p c l (bin_expr s op (private_name t x) b) ts r → On (bin_expr s op (private_name t x) b) r → Ours
   unfolding expr_by expr_from private_in
-  comes_private s t x op b r e h sz g le ne fo K =
+  comes_private s t x op b r e h sz g le ne fo ca K =
       let o = operated c op h.2 in
       if_yes (eqb (kind ts) hash_kind) _ _ W _ (eq-eqb (kind ts) hash_kind h.4.1.0) (then_is (private_by lm inner (from ts k)) _ (private_name t x) h.0 (suc d < n) W _ (private_found inner (coded p c) t x ts h.0 k h.4) (λ u. u)
       (λ j. if_yes _ _ _ W _ (and_from _ _ (eq-eqb (kind h.0) in_kind (h.5.0 ∙ e)) (and_from _ _ (subst (λ (y : ℕ). operates c y ≡ true) e h.2) (le-leb l 11 (subst (λ (y : ℕ). l ≤ binary_level y) e le))))
       (then_is (binary_by lm inner c (from ts k) (private_name t x) (from h.0 j)) _ (bin_expr s op (private_name t x) b) r (suc d < n) W _
-      (binary_found inner c ts k (private_name t x) h.0 j _ op s b h.1 r (d < reach b) h.5.0 h.5.1 h.5.3 (λ i. found b p c (right_level op) h.1 r i sz g h.6.1 (omega (arith, right_five op o)) (omega (arith, right_most op)) (right_asked op o) h.6.0 fo) (λ u. omega arith) h.7) (λ u. u)
+      (binary_found inner c ts k (private_name t x) h.0 j _ op s b h.1 r (d < reach b) h.5.0 h.5.1 h.5.3 (λ i. last_found b p c (right_level op) h.1 r i sz g h.6.1 (omega (arith, right_five op o)) (omega (arith, right_most op)) (right_asked op o) h.6.0 fo (leads.binary p c l s op (private_name t x) b ts r ca h)) (λ u. omega arith) h.7) (λ u. u)
       (λ i. arrived (bin_expr s op (private_name t x) b) r le K i))))
 
   high : (a : Tree) (m : Input) (g : ℕ) → 18 ≤ level a → ((e : ℕ) → e ≡ 0 → goes_expr c e m ≡ g) → goes_expr c (ends a) m ≡ g
   high a m g le h = h (ends a) (ends_high a le)
 
   -- an operand of a prefix operator
-  operand_found : (a : Tree) (m r : Input) → size a < z → Covered a → Produces a (coded p c) m r → 16 ≤ level a → Follow c (ends a) 16 r → (j : List ℕ) → Reads (from m j) (inner.expr c 16 (from m j)) (Is a r) (d < reach a)
-  operand_found a m r sz g h le fo j = found a p c 16 m r j sz g h (omega arith) (omega arith) (record { conditional = λ e. omega (arith, e); update = λ e. omega (arith, e) }) le fo
+  operand_found : (a : Tree) (m r : Input) → size a < z → Covered a → Produces a (coded p c) m r → 16 ≤ level a → goes_expr c (ends a) r < 16 → F.tree p c 16 a m r → (j : List ℕ) → Reads (from m j) (inner.expr c 16 (from m j)) (Is a r) (d < reach a)
+  operand_found a m r sz g h le fo fa j = last_found a p c 16 m r j sz g h (omega arith) (omega arith) (record { conditional = λ e. omega (arith, e); update = λ e. omega (arith, e) }) le fo fa
 
   step_comma_found : (u y : Tree) (m a b : Input) (j : List ℕ) (P : Type 0) → kind m ≡ comma_kind → rest m ≡ a → ((i : List ℕ) → Reads (from a i) (inner.expr c 2 (from a i)) (Is y b) P) → (P → suc d < n)
       → Reads (from m j) (step_by lm inner c (from ts k) u (from m j)) (Is (extended u y (span (lo ts) b.last)) b) (suc d < n)
@@ -383,32 +387,32 @@ module _ (z d : ℕ) (ih : (e : ℕ) → Comes z e) (deep : Deep z d) (p : Bool)
 
   -- the expressions after the commas, one by one
   seq_loop : (y : Tree) (ys : Trees) (ds : List Tree) (u : Tree) (m r : Input) (j : List ℕ) (s : Span) → ((e : Tree) (v : Span) → extended u e v ≡ seq_expr v (pack (ds ++ e ∷ []))) → sizes (more y ys) < z → CoveredAll (more y ys) → CommaThen (Expr 2 (coded p c)) (coded p c) (children (more y ys)) m r
-      → Follow c (last_ends (more y ys)) 2 r → suc (reaches (more y ys)) ≤ n → l ≤ 1 → s ≡ span (lo ts) r.last → On (seq_expr s (pack (ds ++ (y ∷ unpack ys)))) r → Loops (loop_step lm inner c l (from ts k)) u m j W (suc d < n)
+      → goes_expr c (last_ends (more y ys)) r < 2 → F.trees p c (more y ys) m r → suc (reaches (more y ys)) ≤ n → l ≤ 1 → s ≡ span (lo ts) r.last → On (seq_expr s (pack (ds ++ (y ∷ unpack ys)))) r → Loops (loop_step lm inner c l (from ts k)) u m j W (suc d < n)
   unfolding loop_step
-  seq_loop y none ds u m r j s ext sz g h fo ne le sp K =
+  seq_loop y none ds u m r j s ext sz g h fo fa ne le sp K =
       loop_on (loop_step lm inner c l (from ts k)) u (seq_expr s (pack (ds ++ y ∷ []))) m r j (suc d < n) W _
       (if_no (ltb (goes_expr c (ends u) m) l) _ _ _ _ (le-ltb (goes_expr c (ends u) m) l (omega (arith, goes_comma c (ends u) m h.2.0)))
       (then_is (step_by lm inner c (from ts k) u (from m j)) _ (extended u y (span (lo ts) h.1.last)) h.1 (suc d < n) _ _
-      (step_comma_found u y m h.0 h.1 j (d < reach y) h.2.0 h.2.2 (λ i. found y p c 2 h.0 h.1 i (omega arith) g.0 h.3.1 (omega arith) (omega arith) two_asked h.3.0 (subst (λ (x : Input). Follow c (ends y) 2 x) (sym h.4) fo)) (λ v. omega arith)) (λ v. v)
+      (step_comma_found u y m h.0 h.1 j (d < reach y) h.2.0 h.2.2 (λ i. subst (λ (x : Input). Reads (from h.0 i) (inner.expr c 2 (from h.0 i)) (Is y x) (d < reach y)) (sym h.4) (last_found y p c 2 h.0 r i (omega arith) g.0 (subst (λ (x : Input). Produces y (coded p c) h.0 x) h.4 h.3.1) (omega arith) (omega arith) two_asked h.3.0 fo (leads.last p c y m r fa h))) (λ v. omega arith)) (λ v. v)
       (λ i. ended _ _ _ (ap (λ (t : Tree). go_on t) (ext y (span (lo ts) h.1.last) ∙ ap (λ (x : Input). seq_expr (span (lo ts) x.last) (pack (ds ++ y ∷ []))) h.4 ∙ ap (λ (x : Span). seq_expr x (pack (ds ++ y ∷ []))) (sym sp)), h.4)))) (λ v. v)
       (omega (arith, takes 14 m h.0 h.2.0 (omega arith) h.2.2, taken y _ h.0 h.1 (omega (arith, h.3.0)) h.3.1, ap (λ (x : Input). len x) h.4)) K
-  seq_loop y (more y2 ys) ds u m r j s ext sz g h fo ne le sp K =
+  seq_loop y (more y2 ys) ds u m r j s ext sz g h fo fa ne le sp K =
       loop_on (loop_step lm inner c l (from ts k)) u (seq_expr (span (lo ts) h.1.last) (pack (ds ++ y ∷ []))) m h.1 j (suc d < n) W _
       (if_no (ltb (goes_expr c (ends u) m) l) _ _ _ _ (le-ltb (goes_expr c (ends u) m) l (omega (arith, goes_comma c (ends u) m h.2.0)))
       (then_is (step_by lm inner c (from ts k) u (from m j)) _ (extended u y (span (lo ts) h.1.last)) h.1 (suc d < n) _ _
       (step_comma_found u y m h.0 h.1 j (d < reach y) h.2.0 h.2.2 (λ i. found y p c 2 h.0 h.1 i (omega arith) g.0 h.3.1 (omega arith) (omega arith) two_asked h.3.0 (comma_after c (ends y) 2 h.1 h.4.2.0 (omega arith))) (λ v. omega arith)) (λ v. v)
       (λ i. here (ap (λ (t : Tree). go_on t) (ext y (span (lo ts) h.1.last)))))) (λ v. v)
       (omega (arith, takes 14 m h.0 h.2.0 (omega arith) h.2.2, taken y _ h.0 h.1 (omega (arith, h.3.0)) h.3.1))
-      (λ i. seq_loop y2 ys (ds ++ y ∷ []) (seq_expr (span (lo ts) h.1.last) (pack (ds ++ y ∷ []))) h.1 r i s (λ e v. ap (λ xs. seq_expr v (pack (xs ++ e ∷ []))) (unpack_pack (ds ++ y ∷ []))) (omega arith) g.1 h.4 fo (omega arith) le sp
+      (λ i. seq_loop y2 ys (ds ++ y ∷ []) (seq_expr (span (lo ts) h.1.last) (pack (ds ++ y ∷ []))) h.1 r i s (λ e v. ap (λ xs. seq_expr v (pack (xs ++ e ∷ []))) (unpack_pack (ds ++ y ∷ []))) (omega arith) g.1 h.4 fo (leads.next p c y y2 ys m r fa h) (omega arith) le sp
       (subst (λ xs. On (seq_expr s (pack xs)) r) (sym (append_assoc ds (y ∷ []) (y2 ∷ unpack ys))) K))
 
   -- an expression in parentheses, by its expressions
-  paren_one : (e : Tree) (s : Span) (a b r : Input) → size e < z → suc (reach e) ≤ n → Covered e → 2 ≤ level e → Produces e (coded p (with_in c)) a b → kind ts ≡ left_paren_kind → rest ts ≡ a → kind b ≡ right_paren_kind → rest b ≡ r → (l ≤ assignment_level → arrowed r ≡ false) → s ≡ span (lo ts) r.last
+  paren_one : (e : Tree) (s : Span) (a b r : Input) → size e < z → suc (reach e) ≤ n → Covered e → 2 ≤ level e → Produces e (coded p (with_in c)) a b → kind ts ≡ left_paren_kind → rest ts ≡ a → kind b ≡ right_paren_kind → rest b ≡ r → NoParams (with_in c) l a r → s ≡ span (lo ts) r.last
       → Reads (from ts k) (prefix_by lm inner c l (from ts k)) (Is (paren_expr s e) r) (suc d < n)
   paren_one e s a b r sz ne g le h o q f t y u = paren_found inner c l ts k s e e [] b.last a r (d < max (reach e) 0) (suc d < n) o q
-      (λ j. group_found z d found p c e none a b b r j (max (reach e) 0) sz (omega arith) g tt (le, h) refl f t (omega arith)) (λ v. omega arith) y refl u
+      (λ j. group_found z d found p c e none a b b r j (max (reach e) 0) sz (omega arith) g tt (le, h) refl f t (omega arith)) (λ v. omega arith) (λ x i w. y d k x i w) refl u
 
-  paren_more : (e : Tree) (v : Span) (xs : Trees) (s : Span) (a b r : Input) → e ≡ seq_expr v xs → size e < z → suc (reach e) ≤ n → Covered (seq_expr v xs) → Produces (seq_expr v xs) (coded p (with_in c)) a b → kind ts ≡ left_paren_kind → rest ts ≡ a → kind b ≡ right_paren_kind → rest b ≡ r → (l ≤ assignment_level → arrowed r ≡ false) → s ≡ span (lo ts) r.last
+  paren_more : (e : Tree) (v : Span) (xs : Trees) (s : Span) (a b r : Input) → e ≡ seq_expr v xs → size e < z → suc (reach e) ≤ n → Covered (seq_expr v xs) → Produces (seq_expr v xs) (coded p (with_in c)) a b → kind ts ≡ left_paren_kind → rest ts ≡ a → kind b ≡ right_paren_kind → rest b ≡ r → NoParams (with_in c) l a r → s ≡ span (lo ts) r.last
       → Reads (from ts k) (prefix_by lm inner c l (from ts k)) (Is (paren_expr s e) r) (suc d < n)
   paren_more e v none s a b r i sz ne g h o q f t y u = absurd h
   paren_more e v (more x none) s a b r i sz ne g h o q f t y u = absurd h
@@ -416,12 +420,12 @@ module _ (z d : ℕ) (ih : (e : ℕ) → Comes z e) (deep : Deep z d) (p : Bool)
       let si : size e ≡ suc (suc (size x + suc (size w + sizes ws))) = ap (λ (e : Tree). size e) i in
       let re : reach e ≡ suc (max (reach x) (max (reach w) (reaches ws))) = ap (λ (e : Tree). reach e) i in
       paren_found inner c l ts k s e x (w ∷ unpack ws) b.last a r (d < max (reach x) (max (reach w) (reaches ws))) (suc d < n) o q
-      (λ j. group_found z d found p c x (more w ws) a h.0 b r j (max (reach x) (max (reach w) (reaches ws))) (omega arith) (omega arith) g.0 g.1 h.1 h.2 f t (omega arith)) (λ v. omega arith) y
+      (λ j. group_found z d found p c x (more w ws) a h.0 b r j (max (reach x) (max (reach w) (reaches ws))) (omega arith) (omega arith) g.0 g.1 h.1 h.2 f t (omega arith)) (λ v. omega arith) (λ x i w. y d k x i w)
       (ap (λ (ys : Trees). seq_expr (span (lo a) b.last) (more x (more w ys))) (pack_unpack ws) ∙ ap (λ (y : Span). seq_expr y (more x (more w ws))) (sym h.3) ∙ sym i) u
 
-  comes_binary : (s : Span) (op : ℕ) (a b : Tree) (r : Input) → is_private a ≡ false → size (bin_expr s op a b) < suc z → Covered (bin_expr s op a b) → Produces (bin_expr s op a b) (coded p c) ts r → l ≤ binary_level op → Follow c (ends b) (right_level op) r → max (reach a) (suc (reach b)) ≤ n
+  comes_binary : (s : Span) (op : ℕ) (a b : Tree) (r : Input) → is_private a ≡ false → size (bin_expr s op a b) < suc z → Covered (bin_expr s op a b) → Produces (bin_expr s op a b) (coded p c) ts r → l ≤ binary_level op → goes_expr c (ends b) r < right_level op → F.tree p c l (bin_expr s op a b) ts r → max (reach a) (suc (reach b)) ≤ n
       → On (bin_expr s op a b) r → Ours
-  comes_binary s op a b r q sz g h le fo ne K =
+  comes_binary s op a b r q sz g h le fo ca ne K =
       let o = operated c op h.2 in
       let fi = fits op a q o h.3 in
       let low : ends a ≤ 1 = ends_low a _ ts h.0 g.0 (omega (arith, binary_four op o, fi.0)) h.4 in
@@ -429,11 +433,11 @@ module _ (z d : ℕ) (ih : (e : ℕ) → Comes z e) (deep : Deep z d) (p : Bool)
       after _ a h.0 r (omega arith) g.0 h.4 (record { stop = omega (arith, gm, fi.1); calm = λ _ _. goes_calm c (ends a) h.0 (omega (arith, gm, o)); sober = sober_by c op h.0 h.5.0 (quiet_binary c op h.2); quits = λ q. absurd (omega (arith, q, low)) }) (bare_by a ts h.0 (λ e. omega (arith, e, h.5.0, far_binary c op h.2)))
       (omega arith) (omega (arith, fi.0)) (omega (arith, gm)) (omega (arith, takes op h.0 h.1 h.5.0 (some_binary c op h.2) h.5.3, taken b _ h.1 r (omega (arith, h.6.0, right_five op o)) h.6.1))
       (λ j. step_binary inner c (from ts k) a h.0 j _ _ (subst (λ (o : ℕ). operates c o ≡ true) (sym h.5.0) h.2) (subst (λ (o : ℕ). fits_left o a ≡ true) (sym h.5.0) h.3)
-      (binary_found inner c ts k a h.0 j _ op s b h.1 r (d < reach b) h.5.0 h.5.1 h.5.3 (λ i. found b p c (right_level op) h.1 r i (omega arith) g.1 h.6.1 (omega (arith, right_five op o)) (omega (arith, right_most op)) (right_asked op o) h.6.0 (record { stop = fo.stop; calm = fo.calm; sober = fo.sober; quits = fo.quits })) (λ u. omega arith) h.7)) K
+      (binary_found inner c ts k a h.0 j _ op s b h.1 r (d < reach b) h.5.0 h.5.1 h.5.3 (λ i. last_found b p c (right_level op) h.1 r i (omega arith) g.1 h.6.1 (omega (arith, right_five op o)) (omega (arith, right_most op)) (right_asked op o) h.6.0 fo (leads.binary p c l s op a b ts r ca h)) (λ u. omega arith) h.7)) K
 
   comes_call : (s : Span) (f : Tree) (xs : Trees) (r : Input) → ((s : Span) (xs : Trees) (c : Code) (ts r : Input) → Produces (call_expr s f xs) c ts r → Call c s (child f (λ y. Produces f y)) (children xs) ts r) → size (call_expr s f xs) < suc z → Covered (call_expr s f xs) → Produces (call_expr s f xs) (coded p c) ts r
-      → l ≤ 19 → Follow c 0 21 r → (l ≤ assignment_level → arrowed r ≡ false) → max (reach f) (suc (reaches xs)) ≤ n → On (call_expr s f xs) r → Ours
-  comes_call s f xs r v sz g w le fo ca ne K =
+      → l ≤ 19 → F.tree p c l (call_expr s f xs) ts r → max (reach f) (suc (reaches xs)) ≤ n → On (call_expr s f xs) r → Ours
+  comes_call s f xs r v sz g w le ca ne K =
       let h = v s xs (coded p c) ts r w in
       let z0 : ends f ≡ 0 = ends_high f (omega (arith, h.2.0)) in
       let gm : goes_expr c (ends f) h.0 ≡ 19 = goes_paren c (ends f) h.0 z0 h.3.1.0 in
@@ -449,18 +453,18 @@ module _ (z d : ℕ) (ih : (e : ℕ) → Comes z e) (deep : Deep z d) (p : Bool)
       begin _ r (word_no_hash v.0.0) le (subst (λ (y : Tree). Reads (from ts k) (prefix_by lm inner c l (from ts k)) (Is (call_expr s y xs) r) (suc d < n)) (sym b.2)
       (async_call inner c l ts k b.0 s b.1 xs r (d < reaches xs) (v.0.0, v.0.1, v.0.2) b.3 v.0.3 (sym (first_at ts h.0 b.0 v.0.5 v.1)) (to (λ y. kind y ≡ left_paren_kind) h.3.1.0) (to (λ y. brk y ≡ false) b.4)
       (subst (λ (y : Input). (j : List ℕ) → Reads (from y j) (elements_by lm inner c false right_paren_kind (from y j)) (Has (unpack xs) r) (d < reaches xs)) (sym (ap (λ (y : Input). rest y) v.0.5 ∙ h.3.1.2)) listed)
-      (λ u. omega arith) ca h.4)) K)
+      (λ u. omega arith) (λ x i o. leads.call p c l s b.0 b.1 xs ts (rest ts) r (subst (λ (y : Tree). F.tree p c l (call_expr s y xs) ts r) b.2 ca) b.3 refl (to (λ y. brk y ≡ false) b.4) (subst (λ (y : Tree). Produces (call_expr s y xs) (coded p c) ts r) b.2 w) d k x i o) h.4)) K)
       (bare_or f ts h.0)
 
   -- an assignment after its target: the expression that stands there is refined to it, and reading comes to it
-  assigns : (s : Span) (op : ℕ) (x a b : Tree) (m o r : Input) (j : List ℕ) → is_assign_op op ≡ true → kind m ≡ op → rest m ≡ o → to_target op j x ≡ Ok a → size b < z → Covered b → Expr 2 (coded p c) (child b (λ y. Produces b y)) o r → s ≡ span (lo ts) r.last → suc (reach b) ≤ n → Follow c (ends b) 2 r
+  assigns : (s : Span) (op : ℕ) (x a b : Tree) (m o r : Input) (j : List ℕ) → is_assign_op op ≡ true → kind m ≡ op → rest m ≡ o → to_target op j x ≡ Ok a → size b < z → Covered b → Expr 2 (coded p c) (child b (λ y. Produces b y)) o r → s ≡ span (lo ts) r.last → suc (reach b) ≤ n → goes_expr c (ends b) r < 2 → F.tree p c 2 b o r
       → Reads (from m j) (step_by lm inner c (from ts k) x (from m j)) (Is (assign_expr s op a b) r) (suc d < n)
   unfolding step_by assign_by
-  assigns s op x a b m o r j w e q t sz g h sp ne fo =
+  assigns s op x a b m o r j w e q t sz g h sp ne fo fa =
       let is : is_assign_op (kind m) ≡ true = subst (λ (y : ℕ). is_assign_op y ≡ true) (sym e) w in
       let to : to_target (kind m) j x ≡ Ok a = subst (λ (y : ℕ). to_target y j x ≡ Ok a) (sym e) t in
       if_no (eqb (kind m) comma_kind) _ _ _ _ (no_kind is_assign_op (kind m) comma_kind is refl) (if_yes (is_assign_op (kind m)) _ _ _ _ is
-      (rw to (then_past m o j (inner.expr c 2) _ b r (d < reach b) _ _ q (found b p c 2 o r j sz g h.1 (omega arith) (omega arith) two_asked h.0 fo) (λ u. omega arith)
+      (rw to (then_past m o j (inner.expr c 2) _ b r (d < reach b) _ _ q (last_found b p c 2 o r j sz g h.1 (omega arith) (omega arith) two_asked h.0 fo fa) (λ u. omega arith)
       (λ i. here (ap (λ (y : Span). assign_expr y (kind m) a b) (sym sp) ∙ ap (λ (y : ℕ). assign_expr s y a b) e)))))
 
   goes_assign : (op : ℕ) (m : Input) → is_assign_op op ≡ true → kind m ≡ op → goes_expr c 0 m ≡ 2
@@ -472,21 +476,21 @@ module _ (z d : ℕ) (ih : (e : ℕ) → Comes z e) (deep : Deep z d) (p : Bool)
   quiet_assign op w = and_from (not (op == function_kind)) _ (ap not (no_kind is_assign_op op function_kind w refl)) (or_left (not (is_word op)) _ (ap not (false_from_ne_true (is_word op) (λ e. let u : 80 ≤ op = leb-true 80 op e in let v : op ≤ 75 = leb-true op 75 (and_parts (leb 60 op) (leb op 75) w).1 in omega arith))))
 
   -- a simple target: what is read there ends in nothing, and is the target, or its name
-  comes_simple : (s : Span) (op : ℕ) (a b : Tree) (r : Input) → size a < z → size b < z → Covered a → Covered b → Assignment (coded p c) s op (child a (λ y. Produces a y)) (child b (λ y. Produces b y)) ts r → is_structured a ≡ false → l ≤ 2 → max (reach a) (suc (reach b)) ≤ n → Follow c (ends b) 2 r
+  comes_simple : (s : Span) (op : ℕ) (a b : Tree) (r : Input) → size a < z → size b < z → Covered a → Covered b → Assignment (coded p c) s op (child a (λ y. Produces a y)) (child b (λ y. Produces b y)) ts r → is_structured a ≡ false → l ≤ 2 → max (reach a) (suc (reach b)) ≤ n → goes_expr c (ends b) r < 2 → F.tree p c l (assign_expr s op a b) ts r
       → On (assign_expr s op a b) r → Ours
-  comes_simple s op a b r sa sb ga gb h st le ne fo K = let w = target_view op a (coded p c) ts h.0 h.3 h.4 st in
+  comes_simple s op a b r sa sb ga gb h st le ne fo ca K = let w = target_view op a (coded p c) ts h.0 h.3 h.4 st in
       after (assign_expr s op a b) w.tree h.0 r (omega (arith, w.small, sa)) (w.covered ga) w.produced
       (record { stop = subst (λ (e : ℕ). goes_expr c e h.0 < tail w.tree) (sym w.last) (omega (arith, goes_assign op h.0 h.2 h.5.0, w.none_after)); calm = λ _ _. calm_by op h.0 h.5.0 (no_kind is_assign_op op arrow_kind h.2 refl); sober = sober_by c op h.0 h.5.0 (quiet_assign op h.2); quits = λ q. absurd (omega (arith, q, w.last)) })
       (bare_by w.tree ts h.0 (λ e. let u : 60 ≤ op = leb-true 60 op (and_parts (leb 60 op) (leb op 75) h.2).0 in omega (arith, e, h.5.0))) (omega (arith, w.shallow)) (omega (arith, w.tight))
       (subst (λ (e : ℕ). l ≤ goes_expr c e h.0) (sym w.last) (omega (arith, goes_assign op h.0 h.2 h.5.0)))
       (omega (arith, takes op h.0 h.1 h.5.0 (some_assign op h.2) h.5.2, taken b _ h.1 r (omega (arith, h.6.0)) h.6.1))
-      (λ j. assigns s op w.tree a b h.0 h.1 r j h.2 h.5.0 h.5.2 (w.target j) sb gb h.6 h.7 (omega arith) fo) K
+      (λ j. assigns s op w.tree a b h.0 h.1 r j h.2 h.5.0 h.5.2 (w.target j) sb gb h.6 h.7 (omega arith) fo (leads.assigns p c l s op a b ts r ca h)) K
 
   -- a pattern in brackets, which is read as an array or an object first
-  comes_pattern : (s : Span) (op : ℕ) (a b : Tree) (r : Input) → size a < z → size b < z → Covered a → Covered b → Assignment (coded p c) s op (child a (λ y. Produces a y)) (child b (λ y. Produces b y)) ts r → is_structured a ≡ true → l ≤ 2 → max (reach a) (suc (reach b)) ≤ n → Follow c (ends b) 2 r
+  comes_pattern : (s : Span) (op : ℕ) (a b : Tree) (r : Input) → size a < z → size b < z → Covered a → Covered b → Assignment (coded p c) s op (child a (λ y. Produces a y)) (child b (λ y. Produces b y)) ts r → is_structured a ≡ true → l ≤ 2 → max (reach a) (suc (reach b)) ≤ n → goes_expr c (ends b) r < 2 → F.tree p c l (assign_expr s op a b) ts r
       → On (assign_expr s op a b) r → Ours
   unfolding expr_by expr_from loop_by loop_step
-  comes_pattern s op a b r sa sb ga gb h st le ne fo K = let e0 = op_assigns op a st h.3 in
+  comes_pattern s op a b r sa sb ga gb h st le ne fo ca K = let e0 = op_assigns op a st h.3 in
       if_no (eqb (kind ts) hash_kind) _ _ W _ (structured_starts a (coded p c) ts h.0 st h.4) (then_reads (prefix_by lm inner c l (from ts k)) _ (Cover_read a h.0) (suc d < n) W _
       (structured_read z d found (coverings z (λ e. finds z e ih) d) p c l a ts h.0 k n (omega (arith, sa)) ga st h.4 (omega arith)) (λ u. u)
       (λ y v. if_yes (leb l (level y.0)) _ _ W _ (le-leb l (level y.0) (omega (arith, v.tight))) (looped (loop_step lm inner c l (from ts k)) y.0 y.1.source y.1.commas W _
@@ -494,7 +498,7 @@ module _ (z d : ℕ) (ih : (e : ℕ) → Comes z e) (deep : Deep z d) (p : Bool)
       (loop_on (loop_step lm inner c l (from ts k)) y.0 (assign_expr s op a b) h.0 r y.1.commas (suc d < n) W _
       (if_no (ltb (goes_expr c (ends y.0) h.0) l) _ _ _ _ (le-ltb (goes_expr c (ends y.0) h.0) l (subst (λ (i : ℕ). l ≤ goes_expr c i h.0) (sym v.closed) (omega (arith, goes_assign op h.0 h.2 h.5.0))))
       (then_is (step_by lm inner c (from ts k) y.0 (from h.0 y.1.commas)) _ (assign_expr s op a b) r (suc d < n) _ _
-      (assigns s op y.0 a b h.0 h.1 r y.1.commas h.2 h.5.0 h.5.2 (subst (λ (i : ℕ). to_target i y.1.commas y.0 ≡ Ok a) (sym e0) (v.target y.1.commas ∙ v.refines.so false refl y.1.commas (λ n q. refl))) sb gb h.6 h.7 (omega arith) fo) (λ u. u) (λ i. here refl))) (λ u. u)
+      (assigns s op y.0 a b h.0 h.1 r y.1.commas h.2 h.5.0 h.5.2 (subst (λ (i : ℕ). to_target i y.1.commas y.0 ≡ Ok a) (sym e0) (v.target y.1.commas ∙ v.refines.so false refl y.1.commas (λ n q. refl))) sb gb h.6 h.7 (omega arith) fo (leads.assigns p c l s op a b ts r ca h)) (λ u. u) (λ i. here refl))) (λ u. u)
       (omega (arith, takes op h.0 h.1 h.5.0 (some_assign op h.2) h.5.2, taken b _ h.1 r (omega (arith, h.6.0)) h.6.1)) K)))))
 
   -- arrows
@@ -518,9 +522,9 @@ module _ (z d : ℕ) (ih : (e : ℕ) → Comes z e) (deep : Deep z d) (p : Bool)
   params_covered : (ps : Trees) (m o : Input) → sizes ps < z → CoveredAll ps → Listed false (ArrowPattern (coded p c)) (coded p c) 8 (children ps) m o → Reads (from m k) (elements_by lm inner (with_in c) false right_paren_kind (from m k)) (Covered_list false (unpack ps) o) (d < reaches ps)
   params_covered ps m o sz g h = covers_found z d (coverings z (λ e. finds z e ih) d) p (with_in c) false 8 (coded p c) refl refl refl ps m o k (reaches ps) sz g (params_loosen p c ps m o h) (omega arith)
 
-  body_read : (i : Bool) (e : Tree) (m o r : Input) → size e < z → Covered e → brk m ≡ false → Takes (coded p c) arrow_kind m o → (kind o ≡ left_brace_kind → ⊥) → Expr 2 (in_arrow i (coded p c)) (child e (λ y. Produces e y)) o r → Follow c (ends e) 2 r → Body_read inner c i e m o r (d < reach e)
-  body_read i e m o r sz g b t nb h fo = expression_body inner c i e m o r (d < reach e) (and_from (kind m == arrow_kind) _ (eq-eqb (kind m) arrow_kind t.0) (ap not b)) t.2 nb
-      (λ j. found e p (in_arrow i c) 2 o r j sz g h.1 (omega arith) (omega arith) two_asked h.0 (record { stop = fo.stop; calm = fo.calm; sober = fo.sober; quits = fo.quits }))
+  body_read : (i : Bool) (e : Tree) (m o r : Input) → size e < z → Covered e → brk m ≡ false → Takes (coded p c) arrow_kind m o → (kind o ≡ left_brace_kind → ⊥) → Expr 2 (in_arrow i (coded p c)) (child e (λ y. Produces e y)) o r → goes_expr c (ends e) r < 2 → F.tree p (in_arrow i c) 2 e o r → Body_read inner c i e m o r (d < reach e)
+  body_read i e m o r sz g b t nb h fo fa = expression_body inner c i e m o r (d < reach e) (and_from (kind m == arrow_kind) _ (eq-eqb (kind m) arrow_kind t.0) (ap not b)) t.2 nb
+      (λ j. last_found e p (in_arrow i c) 2 o r j sz g h.1 (omega arith) (omega arith) two_asked h.0 fo fa)
 
   block_read : (i : Bool) (s : Span) (ss : Trees) (m o r : Input) → size (block_stmt s ss) < z → brk m ≡ false → Takes (coded p c) arrow_kind m o → Body (in_list (with_in (in_arrow i (coded p c)))) s (children ss) o r → Body_read inner c i (block_stmt s ss) m o r (d < reach (block_stmt s ss))
   block_read i s ss m o r sz b t h = block_body inner c i (block_stmt s ss) m o r (d < reach (block_stmt s ss)) (and_from (kind m == arrow_kind) _ (eq-eqb (kind m) arrow_kind t.0) (ap not b)) t.2 h.1.0
@@ -539,16 +543,16 @@ module _ (z d : ℕ) (ih : (e : ℕ) → Comes z e) (deep : Deep z d) (p : Bool)
       begin (arrow_expr s ps e true) r (not_hash 143 a.2.0.0 refl) le (async_paren inner c l le ts k ps s e a.0 w.0 a.1 o r (d < reach e) (d < reaches ps) a.2.0.0 a.2.0.1 a.2.0.3 a.2.1 w.1.0 w.1.2 (params_covered ps w.0 a.1 sp gp w.2) (λ u. omega arith) (params_names p c ps w.0 a.1 w.2) y (λ u. omega arith) q) K)
       a.3
 
-  comes_concise : (s : Span) (ps : Trees) (e : Tree) (i : Bool) (r : Input) → ArrowExpression (coded p c) s (children ps) (child e (λ y. Produces e y)) i ts r → size (arrow_expr s ps e i) < suc z → CoveredAll ps × Covered e → l ≤ 2 → suc (max (reaches ps) (reach e)) ≤ n → is_block e ≡ false → Follow c (cond (is_block e) 2 (ends e)) 2 r
+  comes_concise : (s : Span) (ps : Trees) (e : Tree) (i : Bool) (r : Input) → ArrowExpression (coded p c) s (children ps) (child e (λ y. Produces e y)) i ts r → size (arrow_expr s ps e i) < suc z → CoveredAll ps × Covered e → l ≤ 2 → suc (max (reaches ps) (reach e)) ≤ n → is_block e ≡ false → goes_expr c (cond (is_block e) 2 (ends e)) r < 2 → F.tree p c l (arrow_expr s ps e i) ts r
       → On (arrow_expr s ps e i) r → Ours
-  comes_concise s ps e i r h sz g le ne nb fo K = comes_arrow i s ps e h.0 r h.1 (body_read i e h.1.1 h.0 r (omega arith) g.1 h.1.4 h.1.5 h.2 h.3 (unclosed (is_block e) c (ends e) 2 r nb fo)) h.4 (omega arith) g.0 le ne K
+  comes_concise s ps e i r h sz g le ne nb fo ca K = comes_arrow i s ps e h.0 r h.1 (body_read i e h.1.1 h.0 r (omega arith) g.1 h.1.4 h.1.5 h.2 h.3 (unclosed (is_block e) c (ends e) 2 r nb fo) (leads.arrow p c l s ps e i ts r nb ca h)) h.4 (omega arith) g.0 le ne K
 
-  comes_by : (t : Tree) (r : Input) → size t < suc z → Covered t → Produces t (coded p c) ts r → l ≤ level t → Follow c (ends t) (tail t) r → Bare t ts r → Calm (ends t) l r → reach t ≤ n → On t r → Ours
+  comes_by : (t : Tree) (r : Input) → size t < suc z → Covered t → Produces t (coded p c) ts r → l ≤ level t → goes_expr c (ends t) r < tail t → Bare t ts r → F.tree p c l t ts r → reach t ≤ n → On t r → Ours
   comes_by (this_expr s) r sz g h le fo ba ca ne K = begin _ r (not_hash 123 h.0.0 refl) le (prefix_this inner c l ts k (λ x. Unit {0}) _ r s h.0.0 h.0.1 h.0.3 h.1) K
   comes_by (null_lit s) r sz g h le fo ba ca ne K = begin _ r (not_hash 80 h.0.0 refl) le (prefix_null inner c l ts k (λ x. Unit {0}) _ r s h.0.0 h.0.1 h.0.3 h.1) K
   comes_by (bool_lit s true) r sz g h le fo ba ca ne K = begin _ r (not_hash 81 h.0.0 refl) le (prefix_true inner c l ts k (λ x. Unit {0}) _ r s h.0.0 h.0.1 h.0.3 h.1) K
   comes_by (bool_lit s false) r sz g h le fo ba ca ne K = begin _ r (not_hash 82 h.0.0 refl) le (prefix_false inner c l ts k (λ x. Unit {0}) _ r s h.0.0 h.0.1 h.0.3 h.1) K
-  comes_by (ident s x) r sz g h le fo ba ca ne K = begin _ r (word_no_hash h.0.0) le (prefix_ident inner c l ts k (λ x. Unit {0}) _ s x r (h.0.0, h.0.1, h.0.2) h.0.3 h.0.5 h.1 (ca.calm refl) fo.sober ba) K
+  comes_by (ident s x) r sz g h le fo ba ca ne K = begin _ r (word_no_hash h.0.0) le (prefix_ident inner c l ts k (λ x. Unit {0}) _ s x r (h.0.0, h.0.1, h.0.2) h.0.3 h.0.5 h.1 (leads.name p c l s x ts r ca h) ba) K
   comes_by (str_lit s u w) r sz g h le fo ba ca ne K = begin _ r (not_hash 23 h.3.0 refl) le (prefix_str inner c l ts k _ _ h.3.0 (literal_found inner c ts k (λ x. Unit {0}) _ (str_lit s u w) r
       (rw (h.3.0, h.2) (ap Some (ap (λ (y : Span). str_lit y u (Some h.0)) (first_at ts r s h.3.2 h.4) ∙ ap (λ (y : Option (List ℕ)). str_lit s u y) (sym h.1)))) h.3.2)) K
   comes_by (number_lit s v w) r sz g h le fo ba ca ne K = begin _ r (not_hash 25 h.3.0 refl) le (prefix_num inner c l ts k _ _ h.3.0 (literal_found inner c ts k (λ x. Unit {0}) _ (number_lit s v w) r
@@ -558,20 +562,20 @@ module _ (z d : ℕ) (ih : (e : ℕ) → Comes z e) (deep : Deep z d) (p : Bool)
   comes_by (regex_lit s e f) r sz g h le fo ba ca ne K = begin _ r (not_hash 24 h.1.0 refl) le (prefix_regex inner c l ts k _ _ h.1.0 (literal_found inner c ts k (λ x. Unit {0}) _ (regex_lit s e f) r
       (rw (h.1.0, h.0) (ap Some (ap (λ (y : Span). regex_lit y e f) (first_at ts r s h.1.2 h.2)))) h.1.2)) K
   comes_by (unary_expr s op a) r sz g h le fo ba ca ne K = begin _ r (unary_no_hash op h.2.0 h.1) le (prefix_unary inner c l ts k _ _ op h.2.0 h.1
-      (unary_found inner c l ts k (λ x. Unit {0}) _ op s a h.0 r (d < reach a) h.2.0 h.2.1 h.2.3 (operand_found a h.0 r (omega arith) g h.3.1 h.3.0 (record { stop = fo.stop; calm = fo.calm; sober = fo.sober; quits = fo.quits })) (λ u. omega arith) h.4)) K
+      (unary_found inner c l ts k (λ x. Unit {0}) _ op s a h.0 r (d < reach a) h.2.0 h.2.1 h.2.3 (operand_found a h.0 r (omega arith) g h.3.1 h.3.0 fo (leads.unary p c l s op a ts r ca h)) (λ u. omega arith) h.4)) K
   comes_by (update_expr s op true a) r sz g h le fo ba ca ne K = begin _ r (update_no_hash op h.2.0 h.1) le (prefix_update inner c l ts k _ _ op h.2.0 h.1
-      (update_found inner c l ts k (λ x. Unit {0}) _ op s a h.0 r (d < reach a) h.2.0 h.2.2 (operand_found a h.0 r (omega arith) g h.3.1 h.3.0 (record { stop = fo.stop; calm = fo.calm; sober = fo.sober; quits = fo.quits })) (λ u. omega arith) h.4)) K
+      (update_found inner c l ts k (λ x. Unit {0}) _ op s a h.0 r (d < reach a) h.2.0 h.2.2 (operand_found a h.0 r (omega arith) g h.3.1 h.3.0 fo (leads.update p c l s op a ts r ca h)) (λ u. omega arith) h.4)) K
   comes_by (update_expr s op false a) r sz g h le fo ba ca ne K =
       let gm : goes_expr c (ends a) h.0 ≡ 17 = subst (λ (e : ℕ). goes_expr c e h.0 ≡ 17) (sym (ends_high a h.2.0)) (goes_update c op h.0 h.4.0 h.1 h.3) in
       let ta : tail a ≡ 21 = tail_high a h.2.0 in
       after _ a h.0 r (omega arith) g h.2.1 (record { stop = omega arith; calm = λ _ _. calm_by op h.0 h.4.0 (by_update op (λ o. eqb o arrow_kind ≡ false) h.1 refl refl); sober = sober_by c op h.0 h.4.0 (by_update op (λ o. quiet o ≡ true) h.1 refl refl); quits = λ q. absurd (omega (arith, q, ends_high a h.2.0)) }) (bare_by a ts h.0 (λ e. by_update op (λ o. kind h.0 ≡ o → ⊥) h.1 (λ q. omega (arith, e, q)) (λ q. omega (arith, e, q)) h.4.0))
       ne (omega (arith, h.2.0)) (omega arith) (takes op h.0 r h.4.0 (some_update op h.1) h.4.2) (λ j. step_update inner c ts k a h.0 j _ op s r h.1 h.4.0 h.2.0 h.3 h.4.2 h.5) K
   comes_by (await_expr s a) r sz g h le fo ba ca ne K = begin _ r (not_hash 100 h.2.0 refl) le (prefix_await inner c l ts k _ _ h.2.0 h.1
-      (await_found inner c l ts k (λ x. Unit {0}) _ s a h.0 r (d < reach a) h.2.0 h.2.1 h.2.3 (operand_found a h.0 r (omega arith) g h.3.1 h.3.0 (record { stop = fo.stop; calm = fo.calm; sober = fo.sober; quits = fo.quits })) (λ u. omega arith) h.4)) K
+      (await_found inner c l ts k (λ x. Unit {0}) _ s a h.0 r (d < reach a) h.2.0 h.2.1 h.2.3 (operand_found a h.0 r (omega arith) g h.3.1 h.3.0 fo (leads.awaits p c l s a ts r ca h)) (λ u. omega arith) h.4)) K
   comes_by (bin_expr s op a b) r sz g h le fo ba ca ne K = ⊎_elim
-      (λ (q : is_private a ≡ true). let v = private_is a q in comes_private s v.0 v.1 op b r (is_in op a q h.3) (subst (λ (y : Tree). Produces (bin_expr s op y b) (coded p c) ts r) v.2 h) (omega arith) g.1 le (omega arith) (record { stop = fo.stop; calm = fo.calm; sober = fo.sober; quits = fo.quits })
+      (λ (q : is_private a ≡ true). let v = private_is a q in comes_private s v.0 v.1 op b r (is_in op a q h.3) (subst (λ (y : Tree). Produces (bin_expr s op y b) (coded p c) ts r) v.2 h) (omega arith) g.1 le (omega arith) fo (subst (λ (y : Tree). F.tree p c l (bin_expr s op y b) ts r) v.2 ca)
       (subst (λ (y : Tree). On (bin_expr s op y b) r) v.2 K))
-      (λ (q : is_private a ≡ false). comes_binary s op a b r q sz g h le fo ne K) (cases_Bool (is_private a))
+      (λ (q : is_private a ≡ false). comes_binary s op a b r q sz g h le fo ca ne K) (cases_Bool (is_private a))
   comes_by (cond_expr s a b t) r sz g h le fo ba ca ne K =
       let dots : eqb (kind2 h.0) dot_kind ≡ false = no_kind begins (kind2 h.0) dot_kind (subst (λ (x : Input). begins (kind x) ≡ true) (sym h.5.2) (starts b _ h.1 h.2 g.1 (omega (arith, h.6.0)) h.6.1)) refl in
       let low : ends a ≤ 1 = ends_low a _ ts h.0 g.0 h.4.0 h.4.1 in
@@ -580,7 +584,7 @@ module _ (z d : ℕ) (ih : (e : ℕ) → Comes z e) (deep : Deep z d) (p : Bool)
       (omega arith) (omega (arith, h.4.0)) (omega (arith, gm)) (omega (arith, takes 19 h.0 h.1 h.5.0 (omega arith) h.5.2, taken b _ h.1 h.2 (omega (arith, h.6.0)) h.6.1, takes 17 h.2 h.3 h.7.0 (omega arith) h.7.2, taken t _ h.3 r (omega (arith, h.8.0)) h.8.1))
       (λ j. step_cond inner c (from ts k) a h.0 j _ _ h.5.0 dots h.4.0
       (cond_found inner c ts k a h.0 j _ s b t h.1 h.2 h.3 r (d < reach b) (d < reach t) h.5.2 (λ i. found b p (with_in c) 2 h.1 h.2 i (omega arith) g.1 h.6.1 (omega arith) (omega arith) two_asked h.6.0 (closed_by (with_in c) (ends b) 2 17 h.2 h.7.0 refl refl (omega arith))) (λ u. omega arith) h.7.0 h.7.2
-      (λ i. found t p c 2 h.3 r i (omega arith) g.2 h.8.1 (omega arith) (omega arith) two_asked h.8.0 (record { stop = fo.stop; calm = fo.calm; sober = fo.sober; quits = fo.quits })) (λ u. omega arith) h.9)) K
+      (λ i. last_found t p c 2 h.3 r i (omega arith) g.2 h.8.1 (omega arith) (omega arith) two_asked h.8.0 fo (leads.conditional p c l s a b t ts r ca h)) (λ u. omega arith) h.9)) K
   comes_by (member_expr s o (computed_prop_name t e)) r sz g h le fo ba ca ne K =
       let z0 : ends o ≡ 0 = ends_high o (omega (arith, h.2.0)) in
       let gm : goes_expr c (ends o) h.0 ≡ 20 = subst (λ (x : ℕ). goes_expr c x h.0 ≡ 20) (sym z0) (goes_bracket c h.0 h.3.2.0) in
@@ -607,33 +611,33 @@ module _ (z d : ℕ) (ih : (e : ℕ) → Comes z e) (deep : Deep z d) (p : Bool)
   comes_by (meta_prop_expr s o) r sz g h le fo ba ca ne K = begin _ r (⊎_elim (λ (e : (o ≡ new_kind) × TakesWord (coded p c) target_kind h.1 r). not_hash 122 (h.2.0 ∙ e.0) refl) (λ (e : (o ≡ import_kind) × TakesWord (coded p c) meta_kind h.1 r). not_hash 128 (h.2.0 ∙ e.0) refl) h.4) le
       (meta_found inner c l ts k ts _ (coded p c) s o r h refl) K
   comes_by (yield_expr s absent q) r sz g h le fo ba ca ne K = begin (yield_expr s absent q) r (not_hash 129 h.1.1.0 refl) le
-      (subst (λ (b : Bool). Reads (from ts k) (prefix_by lm inner c l (from ts k)) (Is (yield_expr s absent b) r) (suc d < n)) (sym h.0) (yield_bare inner c l ts k r _ s h.1.1.0 h.1.1.1 h.1.1.3 h.1.0 (fo.quits (omega arith)) h.1.2)) K
-  comes_by (yield_expr s a q) r sz g h le fo ba ca ne K = comes_yield s a q r h sz g le ne refl fo K
+      (subst (λ (b : Bool). Reads (from ts k) (prefix_by lm inner c l (from ts k)) (Is (yield_expr s absent b) r) (suc d < n)) (sym h.0) (yield_bare inner c l ts k r _ s h.1.1.0 h.1.1.1 h.1.1.3 h.1.0 (leads.idle p c l s q ts r ca h) h.1.2)) K
+  comes_by (yield_expr s a q) r sz g h le fo ba ca ne K = comes_yield s a q r h sz g le ne refl fo ca K
   comes_by (array_lit s xs) r sz g h le fo ba ca ne K = begin _ r (not_hash 9 h.1.0 refl) le (prefix_array inner c l ts k s xs h.0 r (d < reaches xs) h.1.0 h.1.2 (λ j. elements_found z d found p c true 10 refl refl refl xs h.0 r j (reaches xs) (omega arith) g h.2 (omega arith)) (λ u. omega arith) h.3) K
   comes_by (call_expr s f xs) r sz g w le fo ba ca ne K = ⊎_elim
       (λ (v : (t : Span) × (f ≡ super t)). comes_super s v.0 xs r (subst (λ (y : Tree). Produces (call_expr s y xs) (coded p c) ts r) v.1 w) (omega arith) g.1 le (omega arith) (subst (λ (y : Tree). On (call_expr s y xs) r) v.1 K))
       (λ o. ⊎_elim (λ (v : (t : Span) × (f ≡ import t)). comes_import s v.0 xs r (subst (λ (y : Tree). Produces (call_expr s y xs) (coded p c) ts r) v.1 w) (omega arith) g.1 le (omega arith) (subst (λ (y : Tree). On (call_expr s y xs) r) v.1 K))
-      (λ v. comes_call s f xs r v sz g w le (record { stop = fo.stop; calm = fo.calm; sober = fo.sober; quits = fo.quits }) (ca.calm refl) ne K) o) (callee_sort f)
+      (λ v. comes_call s f xs r v sz g w le ca ne K) o) (callee_sort f)
   comes_by (paren_expr s e) r sz g h le fo ba ca ne K = begin _ r (not_hash 7 h.2.0 refl) le
       (⊎_elim (λ (q : is_seq e ≡ true). let i = seq_is e q in
-      paren_more e i.0 i.1 s h.0 h.1 r i.2 (omega arith) ne (subst (λ (y : Tree). Covered y) i.2 g) (subst (λ (y : Tree). Produces y (coded p (with_in c)) h.0 h.1) i.2 h.3.1) h.2.0 h.2.2 h.4.0 h.4.2 (ca.calm refl) h.5)
-      (λ (q : is_seq e ≡ false). paren_one e s h.0 h.1 r (omega arith) ne g (two_or e _ h.0 h.1 g h.3.1 h.3.0 q) h.3.1 h.2.0 h.2.2 h.4.0 h.4.2 (ca.calm refl) h.5)
+      paren_more e i.0 i.1 s h.0 h.1 r i.2 (omega arith) ne (subst (λ (y : Tree). Covered y) i.2 g) (subst (λ (y : Tree). Produces y (coded p (with_in c)) h.0 h.1) i.2 h.3.1) h.2.0 h.2.2 h.4.0 h.4.2 (leads.group p c l s e ts r ca h) h.5)
+      (λ (q : is_seq e ≡ false). paren_one e s h.0 h.1 r (omega arith) ne g (two_or e _ h.0 h.1 g h.3.1 h.3.0 q) h.3.1 h.2.0 h.2.2 h.4.0 h.4.2 (leads.group p c l s e ts r ca h) h.5)
       (cases_Bool (is_seq e))) K
   comes_by (new_expr s f absent) r sz g h le fo ba ca ne K = begin _ r (not_hash 122 h.1.0 refl) le
       (let w = callee_of f (coded p c) h.0 r g.0 h.3 h.2 in
-      bare_found inner c l ts k s f h.0 r (d < reach f) (suc d < n) h.1.0 h.1.1 h.1.3 (no_dot f (coded p c) h.0 r g.0 w h.3) (λ j. callee_found z ih p c f h.0 r d j (omega arith) g.0 w h.3 (record { stop = omega (arith, h.4); sober = fo.sober })) (λ u. omega arith) h.2 h.4 h.5) K
+      bare_found inner c l ts k s f h.0 r (d < reach f) (suc d < n) h.1.0 h.1.1 h.1.3 (no_dot f (coded p c) h.0 r g.0 w h.3) (λ j. callee_found z ih F leads p c f h.0 r d j (omega arith) g.0 w h.3 (omega (arith, h.4)) (leads.bare_new p c l s f ts r ca h)) (λ u. omega arith) h.2 h.4 h.5) K
   comes_by (new_expr s f (list xs)) r sz g h le fo ba ca ne K = begin _ r (not_hash 122 h.2.0 refl) le
       (let w = callee_of f (coded p c) h.0 h.1 g.0 h.3.1 (inr h.3.0) in
       with_found inner c l ts k s f h.0 h.1 (d < reach f) (suc d < n) xs h.4.0 r (d < reaches xs) h.2.0 h.2.1 h.2.3 (no_dot f (coded p c) h.0 h.1 g.0 w h.3.1)
-      (λ j. callee_found z ih p c f h.0 h.1 d j (omega arith) g.0 w h.3.1 (record { stop = omega (arith, paren_goes c h.1 h.4.1.0); sober = sober_by c 7 h.1 h.4.1.0 refl })) (λ u. omega arith) h.3.0 h.4.1.0 h.4.1.2
+      (λ j. callee_found z ih firm firm_leads p c f h.0 h.1 d j (omega arith) g.0 w h.3.1 (omega (arith, paren_goes c h.1 h.4.1.0)) (firm_callee f c h.1 w (sober_by c 7 h.1 h.4.1.0 refl))) (λ u. omega arith) h.3.0 h.4.1.0 h.4.1.2
       (λ j. elements_found z d found p c false 8 refl refl refl xs h.4.0 r j (reaches xs) (omega arith) g.1 h.4.2 (omega arith)) (λ u. omega arith) h.5) K
   comes_by (new_expr s f xs) r sz g h le fo ba ca ne K = absurd h
   comes_by (seq_expr s none) r sz g h le fo ba ca ne K = absurd h
   comes_by (seq_expr s (more x none)) r sz g h le fo ba ca ne K = absurd h
   comes_by (seq_expr s (more x (more y ys))) r sz g h le fo ba ca ne K =
       let gm : goes_expr c (ends x) h.0 ≡ 1 = goes_comma c (ends x) h.0 h.2.2.0 in
-      ih d x p c l ts h.0 k W n (omega arith) g.0 h.1.1 one (omega (arith, h.1.0)) (record { stop = omega (arith, gm, tail_stops x 2 1 h.1.0 two_asked (omega arith)); calm = λ _ _. calm_by 14 h.0 h.2.2.0 refl; sober = sober_by c 14 h.0 h.2.2.0 refl; quits = λ q. quits_by 14 h.0 h.2.2.0 refl }) (bare_by x ts h.0 (λ e. omega (arith, e, h.2.2.0))) (record { calm = λ _ _. calm_by 14 h.0 h.2.2.0 refl }) (omega arith)
-      (λ j. seq_loop y ys (x ∷ []) x h.0 r j s (λ e v. extended_plain x e v h.1.0) (omega arith) g.1 h.2 fo (omega arith) le h.3 (subst (λ xs. On (seq_expr s (more x (more y xs))) r) (sym (pack_unpack ys)) K))
+      firmly z d (ih d) x p c l ts h.0 k W n (omega arith) g.0 h.1.1 one (omega (arith, h.1.0)) (record { stop = omega (arith, gm, tail_stops x 2 1 h.1.0 two_asked (omega arith)); calm = λ _ _. calm_by 14 h.0 h.2.2.0 refl; sober = sober_by c 14 h.0 h.2.2.0 refl; quits = λ q. quits_by 14 h.0 h.2.2.0 refl }) (bare_by x ts h.0 (λ e. omega (arith, e, h.2.2.0))) (record { calm = λ _ _. calm_by 14 h.0 h.2.2.0 refl }) (omega arith)
+      (λ j. seq_loop y ys (x ∷ []) x h.0 r j s (λ e v. extended_plain x e v h.1.0) (omega arith) g.1 h.2 fo (leads.sequence p c l s x y ys ts r ca h) (omega arith) le h.3 (subst (λ xs. On (seq_expr s (more x (more y xs))) r) (sym (pack_unpack ys)) K))
   comes_by absent r sz g h le fo ba ca ne K = absurd (omega arith)
   comes_by hole r sz g h le fo ba ca ne K = absurd (omega arith)
   comes_by (ident_name s x) r sz g h le fo ba ca ne K = absurd (omega arith)
@@ -642,10 +646,10 @@ module _ (z d : ℕ) (ih : (e : ℕ) → Comes z e) (deep : Deep z d) (p : Bool)
   comes_by (list xs) r sz g h le fo ba ca ne K = absurd (omega arith)
   comes_by (object_lit s ps) r sz g h le fo ba ca ne K = begin _ r (not_hash 11 h.1.0 refl) le (object_found z d found p c deep l s ps ts h.0 r k (omega arith) g h.1.0 h.1.2 h.2 h.3 (λ u. omega arith)) K
   comes_by (assign_expr s op a b) r sz g h le fo ba ca ne K = ⊎_elim
-      (λ (q : is_structured a ≡ true). comes_pattern s op a b r (omega arith) (omega arith) g.0 g.1 h q le (omega arith) (record { stop = fo.stop; calm = fo.calm; sober = fo.sober; quits = fo.quits }) K)
-      (λ (q : is_structured a ≡ false). comes_simple s op a b r (omega arith) (omega arith) g.0 g.1 h q le (omega arith) (record { stop = fo.stop; calm = fo.calm; sober = fo.sober; quits = fo.quits }) K) (cases_Bool (is_structured a))
+      (λ (q : is_structured a ≡ true). comes_pattern s op a b r (omega arith) (omega arith) g.0 g.1 h q le (omega arith) fo ca K)
+      (λ (q : is_structured a ≡ false). comes_simple s op a b r (omega arith) (omega arith) g.0 g.1 h q le (omega arith) fo ca K) (cases_Bool (is_structured a))
   comes_by (arrow_expr s ps (block_stmt b ss) i) r sz g h le fo ba ca ne K = comes_arrow i s ps (block_stmt b ss) h.0 r h.1 (block_read i b ss h.1.1 h.0 r (omega arith) h.1.4 h.1.5 h.2) h.3 (omega arith) g.0 le ne K
-  comes_by (arrow_expr s ps e i) r sz g h le fo ba ca ne K = comes_concise s ps e i r h sz g le ne refl fo K
+  comes_by (arrow_expr s ps e i) r sz g h le fo ba ca ne K = comes_concise s ps e i r h sz g le ne refl fo ca K
   comes_by (binding_ident s i) r sz g h le fo ba ca ne K = absurd (omega arith)
   comes_by (array_pat s xs) r sz g h le fo ba ca ne K = absurd (omega arith)
   comes_by (object_pat s ps) r sz g h le fo ba ca ne K = absurd (omega arith)
@@ -666,8 +670,8 @@ module _ (z d : ℕ) (ih : (e : ℕ) → Comes z e) (deep : Deep z d) (p : Bool)
   comes_by _ r sz g h le fo ba ca ne K = absurd (omega arith)
 
 pub comes_none : (d : ℕ) → Comes zero d
-comes_none d t p c l ts r k W n sz g h one le fo ba ca ne K = absurd (omega arith)
+comes_none d F leads t p c l ts r k W n sz g h one le fo ba ca ne K = absurd (omega arith)
 
 -- One step of the induction on the size of a tree: trees so large come to the loop where smaller ones do, and what is nested in them is read.
 pub comes_next : (z d : ℕ) → ((e : ℕ) → Comes z e) → Deep z d → Comes (suc z) d
-comes_next z d ih deep t p c l ts r k W n sz g h one le fo ba ca ne K = comes_by z d ih deep p c l ts k W n one t r sz g h le fo ba ca ne K
+comes_next z d ih deep F leads t p c l ts r k W n sz g h one le fo ba ca ne K = comes_by z d ih deep F leads p c l ts k W n one t r sz g h le fo ba ca ne K

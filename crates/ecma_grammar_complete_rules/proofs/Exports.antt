@@ -19,7 +19,7 @@ use Rattle.ecma_reading.specs.Modules.{export_name_by, source_by, specifiers_by,
 use Rattle.ecma_grammar_complete_base.proofs.Yields.{lm, from, coded, Reads, Is, named, then_is, then_eat, then_word, then_name, onto, here, if_no, if_yes}
 use Rattle.ecma_grammar_complete_base.proofs.Trees.{by_cases, no_kind}
 use Rattle.ecma_grammar_complete_rules.proofs.Lists.{pack_unpack, two_asked}
-use Rattle.ecma_grammar_complete_rules.proofs.Nested.{Nested, may_follow}
+use Rattle.ecma_grammar_complete_rules.proofs.Nested.{Nested, leaves}
 use Rattle.ecma_grammar_complete_rules.proofs.Within.{Within, within}
 use Rattle.ecma_grammar_complete_rules.proofs.Follows.{end_follows, ends_two, then_end}
 use Rattle.ecma_grammar_complete_rules.proofs.Starts.{ident_is}
@@ -139,7 +139,7 @@ module _ (z : Nested) (p : Bool) (c : Code) where
 
   -- ---- declarations
 
-  pub declaration_found : (s : Span) (d : Tree) (ts r : Input) (k : List ℕ) → z.Covered d → Produces (export_decl s d) (coded p c) ts r → may_follow (kind r) ≡ true → Reads (from ts k) (export_by lm z.inner c (from ts k)) (Is (export_decl s d) r) (z.depth < z.reach d)
+  pub declaration_found : (s : Span) (d : Tree) (ts r : Input) (k : List ℕ) → z.Covered d → Produces (export_decl s d) (coded p c) ts r → leaves d (kind r) ≡ true → Reads (from ts k) (export_by lm z.inner c (from ts k)) (Is (export_decl s d) r) (z.depth < z.reach d)
   unfolding export_by
   declaration_found s d ts r k g h f = let q = declared_kind d (in_list (coded p c)) h.0 r h.2 h.3 in
       then_word c export_kind ts h.0 k _ _ _ h.1.0 h.1.1 h.1.3 (if_no (kind h.0 == default_kind) _ _ _ _ (no_kind declares (kind h.0) default_kind q refl) (if_no (kind h.0 == mul_kind) _ _ _ _ (no_kind declares (kind h.0) mul_kind q refl)

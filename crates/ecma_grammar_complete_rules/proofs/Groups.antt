@@ -1,22 +1,18 @@
 -- What the reader of parentheses answers where an expression stands in them.
-use Rattle.std.proofs.Common.{◌≡◌, ℕ, zero, suc, ◌+◌, ◌<◌, ◌≤◌, ◌⊎◌, inl, inr, max, Bool, true, false, not, ◌&&◌, ◌||◌, ◌==◌, cond, eqb, leb, List, [], ◌∷◌, ◌++◌, length, Option, Some, None, Result, Ok, Err, refl, sym, ap, ◌∙◌, subst, ⊎_elim, true≢false, append_assoc, append-nil, arith}
-use Rattle.std.proofs.lemmas.Bool.{eqb-true, eqb-false, ne_eqb, eq-eqb, and_left}
+use Rattle.std.proofs.Common.{◌≡◌, ℕ, ◌<◌, ◌≤◌, max, Bool, true, false, List, [], ◌∷◌, ◌++◌, Option, Some, None, Ok, refl, sym, ap, ◌∙◌, subst, append_assoc, arith}
 use Rattle.ecma_token.specs.declared.place.Span.{Span}
 use Rattle.ecma_token.specs.Kinds.{comma_kind, right_paren_kind, left_paren_kind}
-use Rattle.ecma_tree.specs.Tree.{Tree, Trees, none, more, pack, unpack, expr_or_spread, seq_expr, paren_expr}
+use Rattle.ecma_tree.specs.Tree.{Tree, Trees, none, more, unpack, expr_or_spread, paren_expr}
 use Rattle.ecma_tree.specs.Places.{place_of}
 use Rattle.ecma_syntax.specs.Input.{Input, Code, kind, lo, rest, span, with_in}
-use Rattle.ecma_syntax.specs.Operators.{assignment_level}
-use Rattle.ecma_syntax.specs.Shape.{level}
-use Rattle.ecma_grammar.specs.Children.{Child, child, CommaThen, Expr}
+use Rattle.ecma_grammar.specs.Children.{child, CommaThen, Expr}
 use Rattle.ecma_grammar.specs.Grammar.{Produces, children}
-use Rattle.ecma_reading.specs.Source.{Fault, ◌>>=◌, unexpected, State, Inner, Step, go_on, finished}
-use Rattle.ecma_reading.specs.Expressions.{Elements, no_elements, element_step, elements_by, plain_element, plain_elements, last_end, joined, prefix_by, group_by, group_end, heads_params, arrows_at}
+use Rattle.ecma_reading.specs.Source.{State, Inner}
+use Rattle.ecma_reading.specs.Expressions.{Elements, no_elements, element_step, elements_by, plain_element, plain_elements, last_end, joined, prefix_by, group_by, group_end, heads_params}
 use Rattle.ecma_reading.specs.Reading.{readers}
-use Rattle.ecma_grammar_complete_base.proofs.Yields.{lm, from, len, coded, then_reads, Is, Loops, loop_on, loop_end, looped, Reads, here, past_here, ended, if_no, if_yes, then_past_reads}
+use Rattle.ecma_grammar_complete_base.proofs.Yields.{lm, from, coded, Is, Loops, loop_on, loop_end, looped, Reads, reads_told, ended, if_no, then_past_reads}
 use Rattle.ecma_grammar_complete_rules.proofs.Lengths.{taken}
 use Rattle.ecma_grammar_complete_base.proofs.Trees.{Covered, CoveredAll, size, sizes, reach, reaches, takes}
-use Rattle.ecma_grammar_complete_base.proofs.Levels.{arrowed, calm_at}
 use Rattle.ecma_grammar_complete_rules.proofs.Lists.{Finds, step_comma, step_close}
 
 -- elements that are these expressions, no comma after them, up to a place and with these tokens as the rest
@@ -84,14 +80,14 @@ abbrev pub Joins : List Tree → Span → Tree → Type 0
 Joins es s e = joined es s ≡ e
 
 pub paren_found : (inner : Inner Input) (c : Code) (lev : ℕ) (ts : Input) (k : List ℕ) (s : Span) (e x : Tree) (es : List Tree) (u : ℕ) (m r : Input) (P Q : Type 0) → kind ts ≡ left_paren_kind → rest ts ≡ m → ((j : List ℕ) → Reads (from m j) (elements_by lm inner (with_in c) false right_paren_kind (from m j)) (Grouped (x ∷ es) u r) P) → (P → Q)
-    → (lev ≤ assignment_level → arrowed r ≡ false) → joined (x ∷ es) (span (lo m) u) ≡ e → s ≡ span (lo ts) r.last → Reads (from ts k) (prefix_by lm inner c lev (from ts k)) (Is (paren_expr s e) r) Q
+    → ((z : Elements × State Input) → elements_by lm inner (with_in c) false right_paren_kind (from m k) ≡ Ok z → z.1.source ≡ r → heads_params lm inner lev z.0 z.1 ≡ false) → joined (x ∷ es) (span (lo m) u) ≡ e → s ≡ span (lo ts) r.last → Reads (from ts k) (prefix_by lm inner c lev (from ts k)) (Is (paren_expr s e) r) Q
 unfolding prefix_by group_by group_end
-paren_found inner c lev ts k s e x es u m r P Q o q y i a v p = rw o (then_past_reads ts m k (elements_by lm inner (with_in c) false right_paren_kind) _ (Grouped (x ∷ es) u r) P _ Q q (y k) i
-    (λ z h. if_no (heads_params lm inner lev z.0 z.1) _ _ _ _ (and_left (arrows_at lm inner lev z.1) _ (subst (λ (w : Input). (arrowed w && leb lev assignment_level) ≡ false) (sym h.source) (calm_at lev r a))) (if_no z.0.comma _ _ _ _ h.comma
-    (rw h.items (ended _ _ Q (
-      ap (λ (w : ℕ). paren_expr (span (lo ts) z.1.source.last) (joined (x ∷ es) (span (lo (rest ts)) w))) h.last ∙ ap (λ (w : Input). paren_expr (span (lo ts) z.1.source.last) (joined (x ∷ es) (span (lo w) u))) q
-          ∙ ap (λ w. paren_expr (span (lo ts) z.1.source.last) w) v ∙ ap (λ (w : Input). paren_expr (span (lo ts) w.last) e) h.source ∙ ap (λ w. paren_expr w e) (sym p),
-      h.source,
+paren_found inner c lev ts k s e x es u m r P Q o q y i a v p = rw o (then_past_reads ts m k (elements_by lm inner (with_in c) false right_paren_kind) _ (λ z. Grouped (x ∷ es) u r z × (elements_by lm inner (with_in c) false right_paren_kind (from m k) ≡ Ok z)) P _ Q q (reads_told _ (y k)) i
+    (λ z h. if_no (heads_params lm inner lev z.0 z.1) _ _ _ _ (a z h.1 h.0.source) (if_no z.0.comma _ _ _ _ h.0.comma
+    (rw h.0.items (ended _ _ Q (
+      ap (λ (w : ℕ). paren_expr (span (lo ts) z.1.source.last) (joined (x ∷ es) (span (lo (rest ts)) w))) h.0.last ∙ ap (λ (w : Input). paren_expr (span (lo ts) z.1.source.last) (joined (x ∷ es) (span (lo w) u))) q
+          ∙ ap (λ w. paren_expr (span (lo ts) z.1.source.last) w) v ∙ ap (λ (w : Input). paren_expr (span (lo ts) w.last) e) h.0.source ∙ ap (λ w. paren_expr w e) (sym p),
+      h.0.source,
     ))))))
 
 pub group_found : (z d : ℕ) (f : Finds z d) (p : Bool) (c : Code) (x : Tree) (xs : Trees) (ts m u r : Input) (k : List ℕ) (n : ℕ) → size x < z → sizes xs < z → Covered x → CoveredAll xs → Expr 2 (coded p (with_in c)) (child x (λ y. Produces x y)) ts m

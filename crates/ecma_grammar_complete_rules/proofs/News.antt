@@ -1,21 +1,21 @@
 -- What the readers of `new` answer, and of its callee: a bare `new`, or what binds as tightly as a member.
-use Rattle.std.proofs.Common.{◌≡◌, ℕ, zero, suc, ◌<◌, ◌≤◌, ◌⊎◌, inl, inr, max, min, Bool, true, false, not, ◌&&◌, ◌||◌, ◌==◌, cond, eqb, leb, ltb, List, refl, sym, ap, ◌∙◌, subst, ⊎_elim, true≢false, arith}
+use Rattle.std.proofs.Common.{◌≡◌, ℕ, zero, suc, ◌<◌, ◌≤◌, ◌⊎◌, max, Bool, true, false, ◌&&◌, ◌||◌, eqb, leb, ltb, List, refl, sym, ap, ◌∙◌, subst, ⊎_elim, arith}
 use Rattle.std.proofs.lemmas.Bool.{ne_eqb, eq-eqb, cases_eq, le-leb, lt-ltb, and_from, and_left, and_right, or_left, or_right}
 use Rattle.ecma_token.specs.declared.place.Span.{Span}
 use Rattle.ecma_token.specs.Kinds.{hash_kind, async_kind, new_kind, dot_kind, left_paren_kind, right_paren_kind}
 use Rattle.ecma_tree.specs.Tree.{Tree, Trees, pack, unpack, this_expr, null_lit, bool_lit, ident, ident_name, private_name, str_lit, number_lit, big_int_lit, regex_lit, paren_expr, array_lit, unary_expr, update_expr, await_expr, bin_expr, cond_expr, seq_expr, member_expr, call_expr, new_expr, computed_prop_name, expr_or_spread, hole, absent, list, tpl, tagged_tpl, opt_chain_expr, opt_call, super, import, super_prop_expr, meta_prop_expr, yield_expr, object_lit, key_value_prop, assign_prop, spread_element, binding_ident, array_pat, object_pat, assign_pat, rest_pat, key_value_pat_prop, assign_pat_prop, expr_pat, assign_expr, arrow_expr, fn_expr, class_expr, function}
-use Rattle.ecma_syntax.specs.Input.{Input, Code, kind, kind2, lo, rest, span, text, barred, assigning}
-use Rattle.ecma_syntax.specs.Operators.{goes_expr, member_level, new_level, call_level}
+use Rattle.ecma_syntax.specs.Input.{Input, Code, kind, kind2, lo, rest, span, barred, assigning}
+use Rattle.ecma_syntax.specs.Operators.{goes_expr}
 use Rattle.ecma_syntax.specs.Shape.{level, ends}
 use Rattle.ecma_grammar.specs.Grammar.{Produces}
-use Rattle.ecma_reading.specs.Source.{State, Inner, ◌>>=◌}
+use Rattle.ecma_reading.specs.Source.{State, Inner}
 use Rattle.ecma_reading.specs.Expressions.{elements_by, arguments_by, callee_by, new_by, new_end, keyword_by, prefix_by, expr_by, expr_from, loop_by}
 use Rattle.ecma_reading.specs.Reading.{readers}
-use Rattle.ecma_grammar_complete_base.proofs.Yields.{first_at, lm, from, coded, IsName, then_reads, Is, then_is, then_word, then_name, Reads, here, past_here, ended, if_no, if_yes, then_past, too_deep}
-use Rattle.ecma_grammar_complete_base.proofs.Levels.{Follow, sober, sober_by, Asked, tail, tail_high, ends_high, binary_low}
+use Rattle.ecma_grammar_complete_base.proofs.Yields.{first_at, lm, from, coded, then_reads, Is, then_is, then_word, then_name, Reads, here, ended, if_no, if_yes, then_past, too_deep}
+use Rattle.ecma_grammar_complete_base.proofs.Levels.{sober, tail, tail_high, ends_high, binary_low}
 use Rattle.ecma_grammar_complete_base.proofs.Trees.{Covered, size, reach, begins, starts, no_kind}
 use Rattle.ecma_grammar_complete_rules.proofs.Lists.{Has, pack_unpack}
-use Rattle.ecma_grammar_complete_rules.proofs.Finds.{Bare, Comes, paren_goes, positive, reads}
+use Rattle.ecma_grammar_complete_rules.proofs.Finds.{Bare, Behind, Leads, Firm, Comes, paren_goes, reads}
 
 -- a callee of `new`
 abbrev pub Callee : Tree → Type 0
@@ -141,15 +141,10 @@ module _ (inner : Inner Input) (c : Code) (lev : ℕ) (ts : Input) (k : List ℕ
       (then_past n o j (arguments_by lm inner c) _ (unpack xs) r R _ Q v (then_reads _ _ _ R _ R (w j) (λ z. z) (λ x h. ended (x.0.items, x.1) _ R h)) x
       (λ h. here (ap (λ (z : Span). new_expr z f (list (pack (unpack xs)))) (sym p) ∙ ap (λ (ys : Trees). new_expr s f (list ys)) (pack_unpack xs))))))))
 
--- what follows a callee
-pub record After (c : Code) (r : Input) : Type 0 where
-  pub stop : goes_expr c 0 r < 20
-  pub sober : sober c r ≡ true
-
 pub no_dot : (f : Tree) (c : Code) (m r : Input) → Covered f → Callee f → Produces f c m r → eqb (kind m) dot_kind ≡ false
 no_dot f c m r g b h = no_kind begins (kind m) dot_kind (starts f c m r g (omega (arith, callee_least f b)) h) refl
 
-module _ (z : ℕ) (ih : (e : ℕ) → Comes z e) (p : Bool) (c : Code) where
+module _ (z : ℕ) (ih : (e : ℕ) → Comes z e) (F : Behind) (leads : Leads F) (p : Bool) (c : Code) where
   abbrev NoAsync : Input → Type 0
   NoAsync m = kind m ≡ async_kind → kind2 m ≡ left_paren_kind → ⊥
 
@@ -171,9 +166,9 @@ module _ (z : ℕ) (ih : (e : ℕ) → Comes z e) (p : Bool) (c : Code) where
   bare_here (ident s x) m r h na = λ e q. absurd (na e (ap (λ (y : Input). kind y) h.0.5 ∙ q))
   bare_here _ m r h na = tt
 
-  tight : (f : Tree) (m r : Input) (d : ℕ) (k : List ℕ) → size f < z → Covered f → 20 ≤ level f → Produces f (coded p c) m r → After c r → NoAsync m → Reads (from m k) ((readers lm d).expr c 20 (from m k)) (Is f r) (d < reach f)
-  tight f m r d k sz g b h fo na = reads z d ih f p c 20 m r k sz g h (omega arith) (record { conditional = λ e. omega (arith, e); update = λ e. omega (arith, e) }) b
-      (record { stop = subst (λ (e : ℕ). goes_expr c e r < 20) (sym (ends_high f (omega (arith, b)))) fo.stop; calm = λ _ u. absurd (omega arith); sober = fo.sober; quits = λ q. absurd (omega (arith, q, ends_high f (omega (arith, b)))) }) (bare_here f m r h na)
+  tight : (f : Tree) (m r : Input) (d : ℕ) (k : List ℕ) → size f < z → Covered f → 20 ≤ level f → Produces f (coded p c) m r → goes_expr c 0 r < 20 → F.tree p c 20 f m r → NoAsync m → Reads (from m k) ((readers lm d).expr c 20 (from m k)) (Is f r) (d < reach f)
+  tight f m r d k sz g b h st fa na = reads z d ih F leads f p c 20 m r k sz g h (omega arith) (record { conditional = λ e. omega (arith, e); update = λ e. omega (arith, e) }) b
+      (subst (λ (e : ℕ). goes_expr c e r < 20) (sym (ends_high f (omega (arith, b)))) st) (bare_here f m r h na) fa
 
   -- a bare `new` is handed on, though it doesn't bind as tightly as a member
   handed : (f : Tree) (m r : Input) (d : ℕ) (k : List ℕ) (Q : Type 0) → level f ≡ 18 → kind m ≡ new_kind → Reads (from m k) (prefix_by lm (readers lm d) c 20 (from m k)) (Is f r) Q → Reads (from m k) (expr_by lm (readers lm d) c 20 (from m k)) (Is f r) Q
@@ -181,10 +176,14 @@ module _ (z : ℕ) (ih : (e : ℕ) → Comes z e) (p : Bool) (c : Code) where
   handed f m r d k Q l e y = if_no (eqb (kind m) hash_kind) _ _ _ _ (subst (λ (x : ℕ). eqb x hash_kind ≡ false) (sym e) refl) (then_is (prefix_by lm (readers lm d) c 20 (from m k)) _ f r Q _ Q y (λ u. u)
       (λ j. rw l (here refl)))
 
-  pub callee_found : (f : Tree) (m r : Input) (d : ℕ) (k : List ℕ) → size f < z → Covered f → Callee f → Produces f (coded p c) m r → After c r → Reads (from m k) (callee_by lm (readers lm d) c (from m k)) (Is f r) (d < reach f)
+  pub callee_found : (f : Tree) (m r : Input) (d : ℕ) (k : List ℕ) → size f < z → Covered f → Callee f → Produces f (coded p c) m r → goes_expr c 0 r < 20 → F.tree p c 20 f m r → Reads (from m k) (callee_by lm (readers lm d) c (from m k)) (Is f r) (d < reach f)
   unfolding readers
-  callee_found (new_expr s f absent) m r zero k sz g b h fo = either (new_expr s f absent) m r zero k g b h (λ na. too_deep _ _ (omega arith))
-  callee_found (new_expr s f absent) m r (suc d) k sz g b h fo = either (new_expr s f absent) m r (suc d) k g b h (λ na. let w = callee_of f (coded p c) h.0 r g.0 h.3 h.2 in
+  callee_found (new_expr s f absent) m r zero k sz g b h st fa = either (new_expr s f absent) m r zero k g b h (λ na. too_deep _ _ (omega arith))
+  callee_found (new_expr s f absent) m r (suc d) k sz g b h st fa = either (new_expr s f absent) m r (suc d) k g b h (λ na. let w = callee_of f (coded p c) h.0 r g.0 h.3 h.2 in
       handed (new_expr s f absent) m r d k (suc d < suc (max (reach f) 0)) refl h.1.0 (bare_found (readers lm d) c 20 m k s f h.0 r (d < reach f) (suc d < suc (max (reach f) 0)) h.1.0 h.1.1 h.1.3 (no_dot f (coded p c) h.0 r g.0 w h.3)
-      (λ j. callee_found f h.0 r d j (omega arith) g.0 w h.3 fo) (λ u. omega arith) h.2 h.4 h.5))
-  callee_found f m r d k sz g b h fo = either f m r d k g b h (λ na. tight f m r d k sz g b h fo na)
+      (λ j. callee_found f h.0 r d j (omega arith) g.0 w h.3 st (leads.bare_new p c 20 s f m r fa h)) (λ u. omega arith) h.2 h.4 h.5))
+  callee_found f m r d k sz g b h st fa = either f m r d k g b h (λ na. tight f m r d k sz g b h st fa na)
+
+-- what is known behind a callee that arguments follow
+pub firm_callee : (f : Tree) (c : Code) (r : Input) → Callee f → sober c r ≡ true → Firm c (ends f) 20 (tail f) r
+firm_callee f c r b s = record { calm = λ o u. absurd (omega arith); end = λ o u. absurd (omega (arith, u, tail_high f (callee_least f b))); sober = s; quits = λ o. absurd (omega (arith, o, ends_high f (callee_least f b))) }

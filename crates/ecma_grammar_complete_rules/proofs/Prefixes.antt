@@ -1,19 +1,55 @@
 -- What the readers of prefixes answer: words, literals, prefix operators.
-use Rattle.std.proofs.Common.{◌≡◌, ℕ, zero, suc, ◌+◌, ◌<◌, ◌≤◌, ◌⊎◌, inl, inr, max, Bool, true, false, not, ◌&&◌, ◌||◌, ◌==◌, cond, eqb, leb, ltb, List, [], ◌∷◌, length, Option, Some, None, Result, Ok, Err, refl, sym, ap, ◌∙◌, subst, ⊎_elim, true≢false}
-use Rattle.std.proofs.lemmas.Bool.{eqb-true, eqb-false, ne_eqb, eq-eqb, cases_eq, le-leb, le-ltb, leb-true, or_parts, or_from, and_left, and_right, and_parts, not-true, true_from_ne_false, false_from_ne_true}
+use Rattle.std.proofs.Common.{◌≡◌, ℕ, ◌≤◌, Bool, true, false, not, ◌&&◌, ◌||◌, ◌==◌, eqb, leb, List, Some, refl, sym, ap, ◌∙◌, subst, ⊎_elim, true≢false}
+use Rattle.std.proofs.lemmas.Bool.{ne_eqb, eq-eqb, cases_eq, or_parts, or_from, and_left, and_right, not-true}
 use Rattle.ecma_token.specs.declared.place.Span.{Span}
-use Rattle.ecma_token.specs.Kinds.{hash_kind, arrow_kind, left_paren_kind, left_bracket_kind, left_brace_kind, back_quote_kind, str_kind, num_kind, big_int_kind, regex_kind, sub_kind, add_kind, bang_kind, tilde_kind, typeof_kind, void_kind, delete_kind, this_kind, null_kind, true_kind, false_kind, function_kind, class_kind, new_kind, super_kind, import_kind, await_kind, yield_kind, async_kind, plus_plus_kind, minus_minus_kind}
-use Rattle.ecma_token.specs.Tokens.{Quoted, Piece, Pattern, Numeral, BigNumeral}
-use Rattle.ecma_tree.specs.Tree.{Tree, this_expr, null_lit, bool_lit, ident, str_lit, number_lit, big_int_lit, regex_lit, unary_expr, update_expr, await_expr}
+use Rattle.ecma_token.specs.Kinds.{arrow_kind, left_paren_kind, str_kind, num_kind, big_int_kind, regex_kind, sub_kind, add_kind, bang_kind, tilde_kind, typeof_kind, void_kind, delete_kind, this_kind, null_kind, true_kind, false_kind, function_kind, class_kind, new_kind, super_kind, import_kind, await_kind, yield_kind, async_kind}
+use Rattle.ecma_tree.specs.Tree.{Tree, this_expr, null_lit, bool_lit, ident, unary_expr, update_expr, await_expr}
 use Rattle.ecma_syntax.specs.Input.{Input, Code, kind, kind2, brk, brk2, lo, text, content, rest, span, first_span, is_word, no_name, barred, always_reserved, operator_word}
-use Rattle.ecma_syntax.specs.Operators.{assignment_level, unary_level, between}
-use Rattle.ecma_syntax.specs.Shape.{level}
+use Rattle.ecma_syntax.specs.Operators.{assignment_level, unary_level}
 use Rattle.ecma_grammar.specs.Expressions.{is_unary_op, is_update_op}
-use Rattle.ecma_reading.specs.Source.{Fault, ◌>>=◌, unexpected, State, Inner, eat_word, name}
+use Rattle.ecma_reading.specs.Source.{State, Inner}
 use Rattle.ecma_reading.specs.Expressions.{literal, literal_by, is_unary, prefix_by, keyword_by, word_by, async_by, ident_end, fixed, unary_by, update_by, await_by, arrows_at}
-use Rattle.ecma_grammar_complete_base.proofs.Yields.{lm, from, Is, then_is, then_word, then_name, IsName, named, Reads, here, past_here, ended, if_no, if_yes, then_past, after_one}
+use Rattle.ecma_grammar_complete_base.proofs.Yields.{lm, from, Is, then_is, then_word, then_name, IsName, Reads, here, past_here, if_no, if_yes, then_past, after_one}
 use Rattle.ecma_grammar_complete_base.proofs.Levels.{sober, arrowed, calm_at}
 use Rattle.ecma_grammar_complete_base.proofs.Trees.{by_unary, by_update, no_kind}
+
+-- ---- the word `async` as a name
+
+-- a name that an arrow behind `async` takes as its one parameter, at a level
+abbrev pub param_at : Code → ℕ → Input → Bool
+param_at c l m = (is_word (kind m) && (not (no_name c.context (kind m)) && not (barred c.context m))) && ((not (brk m) && (kind2 m == arrow_kind) && not (brk2 m)) && leb l assignment_level)
+
+-- A name stands alone: no `=>` follows where an assignment may stand; and behind the word `async` neither `function` nor such a parameter does.
+pub record Lone (c : Code) (l : ℕ) (ts r : Input) : Type 0 where
+  pub calm : l ≤ assignment_level → arrowed r ≡ false
+  pub function : kind ts ≡ async_kind → ((kind r == function_kind) && not (brk r)) ≡ false
+  pub param : kind ts ≡ async_kind → param_at c l r ≡ false
+
+sober_function : (c : Code) (m : Input) → sober c m ≡ true → ((kind m == function_kind) && not (brk m)) ≡ false
+sober_function c m h = by_line (brk m) (kind m == function_kind) _ h
+  where
+    by_line : (b f x : Bool) → (b || not (f || x)) ≡ true → (f && not b) ≡ false
+    by_line true f x h = and_right f false refl
+    by_line false true x h = absurd (true≢false (sym h))
+    by_line false false x h = refl
+
+sober_param : (c : Code) (l : ℕ) (m : Input) → sober c m ≡ true → param_at c l m ≡ false
+sober_param c l m h = any_level _ _ (leb l assignment_level) (by_line (brk m) (kind m == function_kind) (is_word (kind m)) (always_reserved (kind m)) (operator_word c.context (kind m)) (barred c.context m) (kind2 m == arrow_kind) (not (brk2 m)) h)
+  where
+    any_level : (x y z : Bool) → (x && y) ≡ false → (x && (y && z)) ≡ false
+    any_level false y z h = refl
+    any_level true false z h = refl
+    any_level true true z h = absurd (true≢false h)
+
+    by_line : (b f w a o x y z : Bool) → (b || not (f || ((w && not a) && (not b && y && z)))) ≡ true → ((w && (not (a || o) && not x)) && (not b && y && z)) ≡ false
+    by_line true f w a o x y z h = and_right (w && (not (a || o) && not x)) (false && y && z) refl
+    by_line false true w a o x y z h = absurd (true≢false (sym h))
+    by_line false false false a o x y z h = refl
+    by_line false false true true o x y z h = refl
+    by_line false false true false o x y z h = and_right (not o && not x) (true && y && z) (not-true (true && y && z) h)
+
+pub lone_by : (c : Code) (l : ℕ) (ts r : Input) → (l ≤ assignment_level → arrowed r ≡ false) → sober c r ≡ true → Lone c l ts r
+lone_by c l ts r a h = record { calm = a; function = λ e. sober_function c r h; param = λ e. sober_param c l r h }
 
 -- a name is read as a word
 module _ (inner : Inner Input) (c : Code) (lev : ℕ) (ts : Input) (k : List ℕ) (V : Tree × State Input → Type 0) (Q : Type 0) where
@@ -119,41 +155,17 @@ module _ (inner : Inner Input) (c : Code) (lev : ℕ) (ts : Input) (k : List ℕ
       named_span : rest ts ≡ r → s ≡ span (lo ts) r.last → first_span ts ≡ s
       named_span q p = ap (λ (z : Input). span (lo ts) z.last) q ∙ sym p
 
-  sober_function : (m : Input) → sober c m ≡ true → ((kind m == function_kind) && not (brk m)) ≡ false
-  sober_function m h = by_line (brk m) (kind m == function_kind) _ h
-    where
-      by_line : (b f x : Bool) → (b || not (f || x)) ≡ true → (f && not b) ≡ false
-      by_line true f x h = and_right f false refl
-      by_line false true x h = absurd (true≢false (sym h))
-      by_line false false x h = refl
-
-  sober_arrow : (m : Input) → sober c m ≡ true
-      → ((is_word (kind m) && (not (no_name c.context (kind m)) && not (barred c.context m))) && ((not (brk m) && (kind2 m == arrow_kind) && not (brk2 m)) && leb lev assignment_level)) ≡ false
-  sober_arrow m h = any_level _ _ (leb lev assignment_level) (by_line (brk m) (kind m == function_kind) (is_word (kind m)) (always_reserved (kind m)) (operator_word c.context (kind m)) (barred c.context m) (kind2 m == arrow_kind) (not (brk2 m)) h)
-    where
-      any_level : (x y z : Bool) → (x && y) ≡ false → (x && (y && z)) ≡ false
-      any_level false y z h = refl
-      any_level true false z h = refl
-      any_level true true z h = absurd (true≢false h)
-
-      by_line : (b f w a o x y z : Bool) → (b || not (f || ((w && not a) && (not b && y && z)))) ≡ true → ((w && (not (a || o) && not x)) && (not b && y && z)) ≡ false
-      by_line true f w a o x y z h = and_right (w && (not (a || o) && not x)) (false && y && z) refl
-      by_line false true w a o x y z h = absurd (true≢false (sym h))
-      by_line false false false a o x y z h = refl
-      by_line false false true true o x y z h = refl
-      by_line false false true false o x y z h = and_right (not o && not x) (true && y && z) (not-true (true && y && z) h)
-
-  pub prefix_ident : (s : Span) (n : List ℕ) (r : Input) → IsName c ts → text ts ≡ n → rest ts ≡ r → s ≡ span (lo ts) r.last → (lev ≤ assignment_level → arrowed r ≡ false) → sober c r ≡ true → (kind ts ≡ async_kind → kind r ≡ left_paren_kind → brk r ≡ true)
+  pub prefix_ident : (s : Span) (n : List ℕ) (r : Input) → IsName c ts → text ts ≡ n → rest ts ≡ r → s ≡ span (lo ts) r.last → Lone c lev ts r → (kind ts ≡ async_kind → kind r ≡ left_paren_kind → brk r ≡ true)
       → Reads (from ts k) (prefix_by lm inner c lev (from ts k)) (Is (ident s n) r) Q
   unfolding word_by async_by
-  prefix_ident s n r i t q p g o b = keyword_at (⊎_elim
+  prefix_ident s n r i t q p o b = keyword_at (⊎_elim
       (λ (e : kind ts ≡ async_kind). if_yes (eqb (kind ts) async_kind) _ _ _ _ (eq-eqb (kind ts) async_kind e)
       (subst (λ (z : Input). Reads (from ts k) (async_by lm inner c lev (from ts k)) (Is (ident s n) z) Q) q
-      (if_no _ _ _ _ _ (sober_function (rest ts) (back (λ z. sober c z ≡ true) o))
-      (if_no _ _ _ _ _ (sober_arrow (rest ts) (back (λ z. sober c z ≡ true) o))
+      (if_no _ _ _ _ _ (back (λ z. ((kind z == function_kind) && not (brk z)) ≡ false) (o.function e))
+      (if_no _ _ _ _ _ (back (λ z. param_at c lev z ≡ false) (o.param e))
       (if_no ((kind (rest ts) == left_paren_kind) && not (brk (rest ts))) _ _ _ _ (paren_off (back (λ z. kind z ≡ left_paren_kind → brk z ≡ true) (b e)))
-      (subst (λ (n : List ℕ). Reads (from ts k) (ident_end lm inner c lev (from ts k) (text ts) (from (rest ts) k)) (Is (ident s n) (rest ts)) Q) t (after_one (from ts k) _ _ Q (ident_ends s (text ts) (rest ts) refl refl (back (λ z. s ≡ span (lo ts) z.last) p) (back (λ z. lev ≤ assignment_level → arrowed z ≡ false) g)))))))))
-      (λ (x : kind ts ≡ async_kind → ⊥). if_no (eqb (kind ts) async_kind) _ _ _ _ (ne_eqb (kind ts) async_kind x) (then_name c ts r n k _ _ Q i t q (ident_ends s n r q t p g)))
+      (subst (λ (n : List ℕ). Reads (from ts k) (ident_end lm inner c lev (from ts k) (text ts) (from (rest ts) k)) (Is (ident s n) (rest ts)) Q) t (after_one (from ts k) _ _ Q (ident_ends s (text ts) (rest ts) refl refl (back (λ z. s ≡ span (lo ts) z.last) p) (back (λ z. lev ≤ assignment_level → arrowed z ≡ false) o.calm)))))))))
+      (λ (x : kind ts ≡ async_kind → ⊥). if_no (eqb (kind ts) async_kind) _ _ _ _ (ne_eqb (kind ts) async_kind x) (then_name c ts r n k _ _ Q i t q (ident_ends s n r q t p o.calm)))
       (cases_eq (kind ts) async_kind))
     where
       back : (P : Input → Type 0) → P r → P (rest ts)

@@ -1,22 +1,22 @@
 -- Whole programs (16.1, 16.2): what their rules answer, over items that are read.
-use Rattle.std.proofs.Common.{◌≡◌, ℕ, ◌<◌, ◌≤◌, ◌⊎◌, inl, inr, max, Bool, true, false, not, ◌&&◌, ◌||◌, ◌==◌, cond, eqb, List, [], ◌∷◌, ◌++◌, if◌then◌else◌, Option, Some, None, Result, Ok, refl, sym, ap, ◌∙◌, subst, ⊎_elim, true≢false, append_assoc, append-nil, arith}
-use Rattle.std.proofs.lemmas.Bool.{eqb-true, ne_eqb, eq-eqb, cases_Bool, or_left, or_from, and_left, and_right, not-true}
+use Rattle.std.proofs.Common.{◌≡◌, ℕ, ◌<◌, ◌≤◌, Bool, true, false, not, ◌&&◌, ◌||◌, ◌==◌, eqb, List, [], ◌∷◌, ◌++◌, Option, Some, None, refl, sym, ap, ◌∙◌, subst, ⊎_elim, true≢false, append_assoc, append-nil, arith}
+use Rattle.std.proofs.lemmas.Bool.{eqb-true, ne_eqb, eq-eqb, cases_Bool, or_left, or_from, and_left, and_right}
 use Rattle.ecma_token.specs.declared.place.Span.{Span}
-use Rattle.ecma_token.specs.Kinds.{end_kind, left_paren_kind, dot_kind, colon_kind, shebang_kind, finally_kind, import_kind, export_kind}
+use Rattle.ecma_token.specs.Kinds.{left_paren_kind, dot_kind, colon_kind, shebang_kind, finally_kind, import_kind, export_kind}
 use Rattle.ecma_tree.specs.Tree.{Tree, Trees, none, more, pack, unpack, script}
-use Rattle.ecma_syntax.specs.Input.{PlacedToken, Input, Code, kind, kind2, kind_of, content, lo, span, rest, in_list, turned_strict}
+use Rattle.ecma_syntax.specs.Input.{PlacedToken, Input, Code, kind, kind2, kind_of, lo, span, in_list, turned_strict}
 use Rattle.ecma_syntax.specs.Shape.{is_item, is_use_strict, is_directive}
 use Rattle.ecma_grammar.specs.Children.{Items, AtEnd}
-use Rattle.ecma_grammar.specs.Modules.{Hashbang, Program}
+use Rattle.ecma_grammar.specs.Modules.{Program}
 use Rattle.ecma_grammar.specs.Grammar.{Produces, children}
-use Rattle.ecma_reading.specs.Source.{Fault, ◌>>=◌, State, Inner, go_on, finished, is_nil}
+use Rattle.ecma_reading.specs.Source.{go_on, finished, is_nil}
 use Rattle.ecma_reading.specs.Statements.{Body as Gathered}
-use Rattle.ecma_reading.specs.Modules.{item_by, program_item, program_step, program_rest, program_by, program_tree, line_of, starts_import}
+use Rattle.ecma_reading.specs.Modules.{item_by, program_item, program_step, program_rest, program_by, program_tree, starts_import}
 use Rattle.ecma_grammar_complete_base.proofs.Yields.{lm, from, len, coded, Reads, Is, then_is, then_reads, onto, here, ended, if_no, if_yes, Loops, loop_on, loop_end, looped}
 use Rattle.ecma_grammar_complete_rules.proofs.Lists.{pack_unpack}
-use Rattle.ecma_grammar_complete_rules.proofs.Nested.{Nested, may_follow}
+use Rattle.ecma_grammar_complete_rules.proofs.Nested.{Nested, may_follow, leaves, follows}
 use Rattle.ecma_grammar_complete_rules.proofs.Within.{Each, most}
-use Rattle.ecma_grammar_complete_rules.proofs.Starts.{opens_item, item_opens, item_imports, called, no_item}
+use Rattle.ecma_grammar_complete_rules.proofs.Starts.{opens_item, item_opens, item_imports, no_item}
 use Rattle.ecma_grammar_complete_base.proofs.Cuts.{item_cut}
 use Rattle.ecma_grammar_complete_rules.proofs.StatementLists.{HasItems, on_strict, on_same}
 
@@ -40,7 +40,7 @@ no_place ts h = ap kind_of h
 
 -- The items of a program, by their sort: each is read, starts so, and takes tokens.
 pub record ItemsRead (z : Nested) (p modules : Bool) (may : Tree → Bool) (Known : Tree → Type 0) (deep : Tree → ℕ) : Type 0 where
-  pub item : (t : Tree) (c : Code) (ts m : Input) (k : List ℕ) → may t ≡ true → Known t → Produces t (coded p (in_list c)) ts m → may_follow (kind m) ≡ true → Reads (from ts k) (item_by lm z.inner modules (in_list c) (from ts k)) (Is t m) (z.depth < deep t)
+  pub item : (t : Tree) (c : Code) (ts m : Input) (k : List ℕ) → may t ≡ true → Known t → Produces t (coded p (in_list c)) ts m → leaves t (kind m) ≡ true → Reads (from ts k) (item_by lm z.inner modules (in_list c) (from ts k)) (Is t m) (z.depth < deep t)
   pub starts : (t : Tree) (c : Code) (ts m : Input) → may t ≡ true → Produces t c ts m → begins_item (kind ts) ≡ true
   pub less : (t : Tree) (c : Code) (ts m : Input) → may t ≡ true → Produces t c ts m → len m < len ts
 
@@ -60,13 +60,13 @@ module _ (z : Nested) (p modules : Bool) (may : Tree → Bool) (Known : Tree →
       → Reads (from ts k) (program_step lm z.inner modules (record { items = acc; code = c; starts = b }) (from ts k)) (Is (go_on (record { items = acc ++ t ∷ []; code = turned_strict c; starts = true })) m) (z.depth < deep t)
   unfolding program_step program_item
   strict_item c b t acc ts m k e g i h q = if_no (is_nil ts.places) _ _ _ _ (item_there t (coded p (in_list c)) ts m i h)
-      (then_is (item_by lm z.inner modules (in_list c) (from ts k)) _ t m (z.depth < deep t) _ _ (w.item t c ts m k i g h q) (λ u. u) (λ j. if_yes (b && is_use_strict t) _ _ _ _ e (here refl)))
+      (then_is (item_by lm z.inner modules (in_list c) (from ts k)) _ t m (z.depth < deep t) _ _ (w.item t c ts m k i g h (follows t (kind m) q)) (λ u. u) (λ j. if_yes (b && is_use_strict t) _ _ _ _ e (here refl)))
 
   same_item : (c : Code) (b : Bool) (t : Tree) (acc : List Tree) (ts m : Input) (k : List ℕ) → (b && is_use_strict t) ≡ false → Known t → may t ≡ true → Produces t (coded p (in_list c)) ts m → may_follow (kind m) ≡ true
       → Reads (from ts k) (program_step lm z.inner modules (record { items = acc; code = c; starts = b }) (from ts k)) (Is (go_on (record { items = acc ++ t ∷ []; code = c; starts = b && is_directive t })) m) (z.depth < deep t)
   unfolding program_step program_item
   same_item c b t acc ts m k e g i h q = if_no (is_nil ts.places) _ _ _ _ (item_there t (coded p (in_list c)) ts m i h)
-      (then_is (item_by lm z.inner modules (in_list c) (from ts k)) _ t m (z.depth < deep t) _ _ (w.item t c ts m k i g h q) (λ u. u) (λ j. if_no (b && is_use_strict t) _ _ _ _ e (here refl)))
+      (then_is (item_by lm z.inner modules (in_list c) (from ts k)) _ t m (z.depth < deep t) _ _ (w.item t c ts m k i g h (follows t (kind m) q)) (λ u. u) (λ j. if_no (b && is_use_strict t) _ _ _ _ e (here refl)))
 
   program_end : (b : Gathered) (ts r : Input) (k : List ℕ) → ts.places ≡ [] → ts ≡ r → Reads (from ts k) (program_step lm z.inner modules b (from ts k)) (Is (finished b) r) ⊥
   unfolding program_step
@@ -102,7 +102,7 @@ module _ (z : Nested) (p modules : Bool) (may : Tree → Bool) (Known : Tree →
 
 -- ---- scripts
 
-script_item : (z : Nested) (p modules : Bool) (t : Tree) (c : Code) (ts m : Input) (k : List ℕ) → is_item t ≡ true → z.Covered t → Produces t (coded p (in_list c)) ts m → may_follow (kind m) ≡ true → Reads (from ts k) (item_by lm z.inner modules (in_list c) (from ts k)) (Is t m) (z.depth < z.reach t)
+script_item : (z : Nested) (p modules : Bool) (t : Tree) (c : Code) (ts m : Input) (k : List ℕ) → is_item t ≡ true → z.Covered t → Produces t (coded p (in_list c)) ts m → leaves t (kind m) ≡ true → Reads (from ts k) (item_by lm z.inner modules (in_list c) (from ts k)) (Is t m) (z.depth < z.reach t)
 unfolding item_by
 script_item z p modules t c ts m k i g h q = if_no (starts_import lm z.inner (from ts k)) _ _ _ _ no_import (if_no (kind ts == export_kind) _ _ _ _ (no_item (kind ts) export_kind (item_opens t (coded p (in_list c)) ts m i h) refl) (z.stmt t p (in_list c) ts m k g i h q))
   where

@@ -1,21 +1,20 @@
 -- Any statement or declaration: the first token tells which rule reads it.
-use Rattle.std.proofs.Common.{◌≡◌, ℕ, ◌<◌, ◌≤◌, ◌⊎◌, inl, inr, max, Bool, true, false, not, ◌&&◌, ◌||◌, ◌==◌, cond, eqb, leb, List, [], ◌∷◌, if◌then◌else◌, Result, Ok, refl, sym, ap, ◌∙◌, subst, ⊎_elim, true≢false, arith}
-use Rattle.std.proofs.lemmas.Bool.{eqb-true, ne_eqb, eq-eqb, cases_Bool, leb-true, or_left, or_right, or_from, or_cases, or_parts, and_left, and_right, and_parts, and_from, not-true}
+use Rattle.std.proofs.Common.{◌≡◌, ℕ, ◌<◌, ◌≤◌, inl, inr, Bool, true, false, not, ◌&&◌, ◌||◌, ◌==◌, eqb, leb, List, if◌then◌else◌, refl, sym, ap, ◌∙◌, subst, ⊎_elim, true≢false, arith}
+use Rattle.std.proofs.lemmas.Bool.{eqb-true, eq-eqb, or_left, or_from, or_cases, or_parts, and_left, and_right, and_parts, and_from, not-true}
 use Rattle.ecma_token.specs.declared.place.Span.{Span}
-use Rattle.ecma_token.specs.Kinds.{end_kind, finally_kind, colon_kind, semicolon_kind, left_bracket_kind, left_brace_kind, right_brace_kind, await_kind, break_kind, continue_kind, debugger_kind, do_kind, for_kind, function_kind, if_kind, return_kind, switch_kind, throw_kind, try_kind, var_kind, let_kind, const_kind, while_kind, with_kind, class_kind, async_kind, using_kind}
+use Rattle.ecma_token.specs.Kinds.{end_kind, colon_kind, semicolon_kind, left_bracket_kind, left_brace_kind, right_brace_kind, await_kind, break_kind, continue_kind, debugger_kind, do_kind, for_kind, function_kind, if_kind, return_kind, switch_kind, throw_kind, try_kind, var_kind, let_kind, const_kind, while_kind, with_kind, class_kind, async_kind, using_kind}
 use Rattle.ecma_tree.specs.Tree.{Tree, Trees, block_stmt, empty_stmt, debugger_stmt, with_stmt, return_stmt, labeled_stmt, break_stmt, continue_stmt, if_stmt, switch_stmt, throw_stmt, try_stmt, while_stmt, do_while_stmt, for_stmt, for_in_stmt, for_of_stmt, expr_stmt, class_decl, fn_decl, var_decl, using_decl, function, ident, binding_ident, expr_pat}
-use Rattle.ecma_syntax.specs.Input.{Input, Code, kind, kind2, brk, brk2, lo, span, rest, first_span, Takes}
+use Rattle.ecma_syntax.specs.Input.{Input, Code, kind, kind2, brk, brk2, lo, span, rest, assigning}
 use Rattle.ecma_syntax.specs.Operators.{expression_level, may_name, let_end, goes_on}
 use Rattle.ecma_syntax.specs.Shape.{level, ends, is_name, is_item, is_statement, is_plain_function}
-use Rattle.ecma_grammar.specs.Children.{is_ident, child, Ends}
-use Rattle.ecma_grammar.specs.Functions.{Async}
+use Rattle.ecma_grammar.specs.Children.{is_ident, Ends}
 use Rattle.ecma_grammar.specs.Statements.{is_var_word, statement_end, ForAwaitOpen}
-use Rattle.ecma_grammar.specs.Grammar.{Produces, children}
-use Rattle.ecma_reading.specs.Source.{Fault, ◌>>=◌, unexpected, State, Inner}
-use Rattle.ecma_reading.specs.Statements.{keyword_stmt, stmt_by, stmt_from, expression_by, statement_class, labelled_by, starts_async, starts_variables, starts_let, starts_using, starts_await_using, if_by, return_by, for_by, while_by, do_by, switch_by, try_by, throw_by, jump_by, with_by, debugger_by, block_by, function_decl_by, class_decl_by, variables_by, using_by}
-use Rattle.ecma_grammar_complete_base.proofs.Yields.{lm, from, coded, Reads, Is, then_is, onto, here, past_here, if_no, if_yes, first_at}
+use Rattle.ecma_grammar.specs.Grammar.{Produces}
+use Rattle.ecma_reading.specs.Source.{unexpected, State, Inner}
+use Rattle.ecma_reading.specs.Statements.{keyword_stmt, stmt_by, stmt_from, expression_by, starts_async, starts_variables, starts_let, starts_using, starts_await_using, if_by, return_by, for_by, while_by, do_by, switch_by, try_by, throw_by, jump_by, with_by, debugger_by, function_decl_by, class_decl_by, variables_by, using_by}
+use Rattle.ecma_grammar_complete_base.proofs.Yields.{lm, from, coded, Reads, Is, then_is, onto, past_here, if_no, if_yes, first_at}
 use Rattle.ecma_grammar_complete_base.proofs.Trees.{no_kind}
-use Rattle.ecma_grammar_complete_rules.proofs.Nested.{Nested, allowed, may_follow}
+use Rattle.ecma_grammar_complete_rules.proofs.Nested.{Nested, allowed, leaves}
 use Rattle.ecma_grammar_complete_rules.proofs.Within.{Within, within}
 use Rattle.ecma_grammar_complete_rules.proofs.Follows.{halted, statement_follows, then_end, built, lifted}
 use Rattle.ecma_grammar_complete_rules.proofs.Starts.{opens, Opening, After, one_name, tame, opening, level_opener, no_open, ident_is, name_may}
@@ -212,19 +211,29 @@ of_three true true h = h
 of_three true false h = refl
 of_three false b h = refl
 
+-- a name before a colon is a label, but where a semicolon ends it
+no_label : (p : Bool) (c : Code) (s : Span) (e : Tree) (ts m r : Input) → Produces e (assigning (coded p c)) ts m → Ends (coded p c) (statement_end (coded p c) ts e) m r → s ≡ span (lo ts) r.last → leaves (expr_stmt s e) (kind r) ≡ true → (is_name e && (kind m == colon_kind)) ≡ false
+no_label p c s (ident t n) ts m r h (inl v) w q = subst (λ (k : ℕ). eqb k colon_kind ≡ false) (sym v.0) refl
+no_label p c s (ident t n) ts m r h (inr v) w q = subst (λ (y : Input). eqb (kind y) colon_kind ≡ false) (sym v.2) (ends_there (kind r == colon_kind) (s.hi.0 == t.hi.0) (not-true _ q) (eq-eqb (s.hi.0) (t.hi.0) (ap (λ (y : Span). y.hi.0) w ∙ (ap (λ (y : Input). y.last) (sym v.2) ∙ sym (ap (λ (y : Span). y.hi.0) h.1)))))
+  where
+    ends_there : (a b : Bool) → (a && b) ≡ false → b ≡ true → a ≡ false
+    ends_there a true h e = by_test a h
+      where
+        by_test : (a : Bool) → (a && true) ≡ false → a ≡ false
+        by_test true h = h
+        by_test false h = refl
+    ends_there a false h e = absurd (true≢false (sym e))
+no_label p c s _ ts m r h v w q = refl
+
 module _ (z : Nested) (p : Bool) (c : Code) (ts : Input) (k : List ℕ) (r : Input) where
-  expression_read : (s : Span) (e : Tree) → z.Covered e → Produces (expr_stmt s e) (coded p c) ts r → may_follow (kind r) ≡ true → ((kind ts == let_kind) && (kind2 ts == left_bracket_kind)) ≡ false
+  expression_read : (s : Span) (e : Tree) → z.Covered e → Produces (expr_stmt s e) (coded p c) ts r → leaves (expr_stmt s e) (kind r) ≡ true → ((kind ts == let_kind) && (kind2 ts == left_bracket_kind)) ≡ false
       → Reads (from ts k) (expression_by lm z.inner c (from ts k)) (Is (expr_stmt s e) r) (z.depth < z.reach e)
   unfolding expression_by
   expression_read s e g h q l = if_no ((kind ts == let_kind) && (kind2 ts == left_bracket_kind)) _ _ _ _ l (then_is (z.inner.expr c expression_level (from ts k)) _ e h.0 (z.depth < z.reach e) _ _
       (one_found z p c e ts h.0 k g h.2.0 h.2.1 (statement_follows p c ts e h.0 r h.3)) (λ u. u)
-      (λ j. if_no (is_name e && (kind h.0 == colon_kind)) _ _ _ _ (and_right (is_name e) _ (no_colon h.3)) (then_end p c (statement_end c ts e) h.0 r j _ _ _ h.3 (built (λ y. expr_stmt y e) s ts r j _ h.4))))
-    where
-      no_colon : Ends (coded p c) (statement_end (coded p c) ts e) h.0 r → eqb (kind h.0) colon_kind ≡ false
-      no_colon (inl v) = subst (λ (k : ℕ). eqb k colon_kind ≡ false) (sym v.0) refl
-      no_colon (inr v) = subst (λ (y : Input). eqb (kind y) colon_kind ≡ false) (sym v.2) (or_parts (kind r == finally_kind) _ (not-true _ q)).1
+      (λ j. if_no (is_name e && (kind h.0 == colon_kind)) _ _ _ _ (no_label p c s e ts h.0 r h.2.1 h.3 h.4 q) (then_end p c (statement_end c ts e) h.0 r j _ _ _ h.3 (built (λ y. expr_stmt y e) s ts r j _ h.4))))
 
-  expression_found : (s : Span) (e : Tree) → z.Covered e → Produces (expr_stmt s e) (coded p c) ts r → may_follow (kind r) ≡ true → Reads (from ts k) (keyword_stmt lm z.inner c (from ts k)) (Is (expr_stmt s e) r) (z.depth < z.reach e)
+  expression_found : (s : Span) (e : Tree) → z.Covered e → Produces (expr_stmt s e) (coded p c) ts r → leaves (expr_stmt s e) (kind r) ≡ true → Reads (from ts k) (keyword_stmt lm z.inner c (from ts k)) (Is (expr_stmt s e) r) (z.depth < z.reach e)
   expression_found s e g h q =
       let a = or_parts (kind ts == left_brace_kind) _ (not-true _ h.1) in let b = or_parts (kind ts == function_kind) _ a.1 in let d = or_parts (kind ts == class_kind) _ b.1 in let f = or_parts ((kind ts == async_kind) && ((kind2 ts == function_kind) && not (brk2 ts))) _ d.1 in
       at_expression z.inner c ts k _ _ h.0 (opening e (coded p c) ts h.0 (level_opener e h.2.0) h.2.1) b.0 d.0 f.0 f.1 (λ l w o. let_calm p c h.0 r (subst (λ (n : ℕ). Ends (coded p c) n h.0 r) (let_class l w (name_one e h.2.0 o)) h.3)) (λ x y. last_calm x y) (expression_read s e g h q f.1)
@@ -236,14 +245,14 @@ module _ (z : Nested) (p : Bool) (c : Code) (ts : Input) (k : List ℕ) (r : Inp
       last_calm x (inl y) = subst (λ (y : Input). (may_name (kind y) && not (brk y) && true) ≡ false) (sym y) (of_three (may_name (kind h.0)) (not (brk h.0)) (calm p c (statement_end c ts e) h.0 r h.3))
       last_calm x (inr y) = of_three (may_name (kind x)) (not (brk x)) (and_left (may_name (kind x)) _ (or_parts (may_name (kind x)) _ (not-true _ y)).0)
 
-  label_read : (s : Span) (l b : Tree) → Within z.Covered (labeled_stmt s l b) → Produces (labeled_stmt s l b) (coded p c) ts r → may_follow (kind r) ≡ true → ((kind ts == let_kind) && (kind2 ts == left_bracket_kind)) ≡ false
+  label_read : (s : Span) (l b : Tree) → Within z.Covered (labeled_stmt s l b) → Produces (labeled_stmt s l b) (coded p c) ts r → leaves b (kind r) ≡ true → ((kind ts == let_kind) && (kind2 ts == left_bracket_kind)) ≡ false
       → Reads (from ts k) (expression_by lm z.inner c (from ts k)) (Is (labeled_stmt s l b) r) (z.depth < within z.reach (labeled_stmt s l b))
   unfolding expression_by
   label_read s l b g h q w = if_no ((kind ts == let_kind) && (kind2 ts == left_bracket_kind)) _ _ _ _ w (then_is (z.inner.expr c expression_level (from ts k)) _ l h.0 (z.depth < z.reach l) _ _
       (one_found z p c l ts h.0 k g.0 (ident_level l h.2.0) h.2.1 (halted c (ends l) 1 colon_kind h.0 h.3.0 refl refl (λ _. refl) (omega arith))) (λ u. omega arith)
       (λ j. if_yes (is_name l && (kind h.0 == colon_kind)) _ _ _ _ (and_from (is_name l) _ (ident_name_is l h.2.0) (eq-eqb (kind h.0) colon_kind h.3.0)) (lifted (labelled_found z p c ts k r s l b h.0 j g.1 h.1 h.3.0 h.3.2 h.4 h.5 q) (λ u. omega arith))))
 
-  label_found : (s : Span) (l b : Tree) → Within z.Covered (labeled_stmt s l b) → Produces (labeled_stmt s l b) (coded p c) ts r → may_follow (kind r) ≡ true → Reads (from ts k) (keyword_stmt lm z.inner c (from ts k)) (Is (labeled_stmt s l b) r) (z.depth < within z.reach (labeled_stmt s l b))
+  label_found : (s : Span) (l b : Tree) → Within z.Covered (labeled_stmt s l b) → Produces (labeled_stmt s l b) (coded p c) ts r → leaves b (kind r) ≡ true → Reads (from ts k) (keyword_stmt lm z.inner c (from ts k)) (Is (labeled_stmt s l b) r) (z.depth < within z.reach (labeled_stmt s l b))
   label_found s l b g h q =
       let i = ident_is l (coded p c) ts h.0 h.2.0 h.2.1 in let v = name_may c ts i.2 in
       let next : (n : ℕ) → eqb colon_kind n ≡ false → eqb (kind2 ts) n ≡ false = λ n e. subst (λ (y : Input). eqb (kind y) n ≡ false) (sym i.4) (subst (λ (k : ℕ). eqb k n ≡ false) (sym h.3.0) e) in
@@ -310,7 +319,7 @@ module _ (z : Nested) (p : Bool) (c : Code) (ts : Input) (k : List ℕ) (r : Inp
   var_word o w e = let v : is_var_word (kind ts) ≡ true = subst (λ (n : ℕ). is_var_word n ≡ true) (sym e) w in (no_kind is_var_word (kind ts) semicolon_kind v refl, no_kind is_var_word (kind ts) left_brace_kind v refl)
 
   -- What a statement or a declaration produces, its rule reads: the tree and the rest, or too deep where what it hands on reaches deeper.
-  pub stmt_found : (t : Tree) → Within z.Covered t → allowed c t ≡ true → Produces t (coded p c) ts r → may_follow (kind r) ≡ true → Reads (from ts k) (stmt_from lm z.inner c (from ts k)) (Is t r) (z.depth < within z.reach t)
+  pub stmt_found : (t : Tree) → Within z.Covered t → allowed c t ≡ true → Produces t (coded p c) ts r → leaves t (kind r) ≡ true → Reads (from ts k) (stmt_from lm z.inner c (from ts k)) (Is t r) (z.depth < within z.reach t)
   stmt_found (block_stmt s ss) g a h q = block_stmt_found s ss g h
   stmt_found (empty_stmt s) g a h q = empty_found s _ h
   stmt_found (debugger_stmt s) g a h q = worded debugger_kind _ _ h.1.0 refl refl (at_debugger z.inner c ts k _ _ h.1.0 (debugger_found z p c ts k r s _ h))

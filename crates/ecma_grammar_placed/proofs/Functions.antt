@@ -46,7 +46,7 @@ module _ (p : Bool) (kin : Kin p) where
   star true c ts r q h l = kin.take c mul_kind ts r q h l
   star false c ts r q h l = same p kin ts r q h l
 
-  async_on : (b : Bool) (c : Code) → Moves p kin (Async b c) (Async b (placing p c))
+  pub async_on : (b : Bool) (c : Code) → Moves p kin (Async b c) (Async b (placing p c))
   async_on true c ts r q h l = let z = kin.take_word c async_kind ts r q h.0 l in (z.0, z.1, (z.2, sym (kin.breaks r q l) ∙ h.1))
   async_on false c ts r q h l = same p kin ts r q h l
 
@@ -73,12 +73,12 @@ module _ (p : Bool) (kin : Kin p) where
   bare_name c [] a ts r q h l = absurd h
   bare_name c (x ∷ xs) a ts r q h l = let z = sorted p kin is_bound_name c x a.0 ts r q h.1 l in (z.0, z.1, (h.0, z.2))
 
-  arrow_parameters : (c : Code) (xs : List Child) → AllMoved p kin xs → Moves p kin (ArrowParameters c xs) (ArrowParameters (placing p c) xs)
+  pub arrow_parameters : (c : Code) (xs : List Child) → AllMoved p kin xs → Moves p kin (ArrowParameters c xs) (ArrowParameters (placing p c) xs)
   arrow_parameters c xs a ts r q (inl h) l = let z = bare_name c xs a ts r q h l in (z.0, z.1, inl z.2)
   arrow_parameters c xs a ts r q (inr h) l = let z = listed p kin (ArrowPattern c) (ArrowPattern (placing p c)) (λ x f. arrow_pattern c x f) false c right_paren_kind xs a h.0 r q h.2 l in
       let y = kin.take c left_paren_kind ts h.0 z.0 h.1 z.1 in (y.0, y.1, inr (z.0, y.2, z.2))
 
-  arrow_head : (i : Bool) (c : Code) (xs : List Child) → AllMoved p kin xs → Moves p kin (ArrowHead i c xs) (ArrowHead i (placing p c) xs)
+  pub arrow_head : (i : Bool) (c : Code) (xs : List Child) → AllMoved p kin xs → Moves p kin (ArrowHead i c xs) (ArrowHead i (placing p c) xs)
   arrow_head i c xs a ts r q h l = let z = kin.take c arrow_kind h.1 r q h.5 l in let y = arrow_parameters c xs a h.0 h.1 z.0 h.3 z.1 in let x = async_on i c ts h.0 y.0 h.2 y.1 in
       (x.0, x.1, (y.0, z.0, x.2, y.2, sym (kin.breaks h.1 z.0 z.1) ∙ h.4, z.2))
 

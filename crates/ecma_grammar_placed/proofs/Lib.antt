@@ -2,8 +2,8 @@ pub mod Kin
 mod Like
 pub mod Forms
 mod Expressions
-mod Functions
-mod Statements
+pub mod Functions
+pub mod Statements
 mod Modules
 pub mod Placed
 pub mod PlacedLemmas

@@ -20,10 +20,10 @@ module _ (p : Bool) (kin : Kin p) where
   sub : (c : Code) (b : Child) → Moved p kin b → Moves p kin (Sub c b) (Sub (placing p c) b)
   sub c b f ts r q h l = let z = f (alone c) ts r q h.1 l in (z.0, z.1, (h.0, z.2))
 
-  sub_or : (c : Code) (b : Child) → Moved p kin b → Moves p kin (SubOrFunction c b) (SubOrFunction (placing p c) b)
+  pub sub_or : (c : Code) (b : Child) → Moved p kin b → Moves p kin (SubOrFunction c b) (SubOrFunction (placing p c) b)
   sub_or c b f ts r q h l = let z = f (alone c) ts r q h.1 l in (z.0, z.1, (h.0, z.2))
 
-  in_parens : (c : Code) (e : Child) → Moved p kin e → Moves p kin (InParens c e) (InParens (placing p c) e)
+  pub in_parens : (c : Code) (e : Child) → Moved p kin e → Moves p kin (InParens c e) (InParens (placing p c) e)
   in_parens c e f ts r q h l = let z = kin.take c right_paren_kind h.1 r q h.4 l in let y = expr p kin expression_level c e f h.0 h.1 z.0 h.3 z.1 in let x = kin.take c left_paren_kind ts h.0 y.0 h.2 y.1 in (x.0, x.1, (y.0, z.0, x.2, y.2, z.2))
 
   -- ---- 14.2 to 14.4, 14.16
@@ -43,13 +43,13 @@ module _ (p : Bool) (kin : Kin p) where
   declarators : (c : Code) (ds : List Child) → AllMoved p kin ds → Moves p kin (Commas (Sorted is_declarator c) c ds) (Commas (Sorted is_declarator (placing p c)) (placing p c) ds)
   declarators c ds a ts r q h l = commas p kin (Sorted is_declarator c) (Sorted is_declarator (placing p c)) (λ x f. sorted p kin is_declarator c x f) c ds a ts r q h l
 
-  bindings : (c : Code) (k : ℕ) (ds : List Child) → AllMoved p kin ds → Moves p kin (Bindings c k ds) (Bindings (placing p c) k ds)
+  pub bindings : (c : Code) (k : ℕ) (ds : List Child) → AllMoved p kin ds → Moves p kin (Bindings c k ds) (Bindings (placing p c) k ds)
   bindings c k ds a ts r q h l = let z = declarators c ds a h.0 r q h.3 l in let y = kin.take_word c k ts h.0 z.0 h.2 z.1 in (y.0, y.1, (z.0, h.1, y.2, z.2))
 
   pub variables : (c : Code) (s : Span) (k e : ℕ) (ds : List Child) → AllMoved p kin ds → Moves p kin (Variables c s k e ds) (Variables (placing p c) s k e ds)
   variables c s k e ds a ts r q h l = let z = ends_on p kin c e h.0 r q h.2 l in let y = bindings c k ds a ts h.0 z.0 h.1 z.1 in (y.0, y.1, (z.0, y.2, z.2, sp s ts y.0 r q y.1 l h.3))
 
-  using_bindings : (c : Code) (w : Bool) (ds : List Child) → AllMoved p kin ds → Moves p kin (UsingBindings c w ds) (UsingBindings (placing p c) w ds)
+  pub using_bindings : (c : Code) (w : Bool) (ds : List Child) → AllMoved p kin ds → Moves p kin (UsingBindings c w ds) (UsingBindings (placing p c) w ds)
   using_bindings c false ds a ts r q h l = let z = declarators c ds a h.0 r q h.5 l in let y = kin.take_word c using_kind ts h.0 z.0 h.2 z.1 in
       (y.0, y.1, (z.0, h.1, y.2, sym (kin.breaks h.0 z.0 z.1) ∙ h.3, kin.no_pattern h.0 z.0 z.1 h.4, z.2))
   using_bindings c true ds a ts r q h l = let z = declarators c ds a h.1 r q h.9 l in let y = kin.take_word c using_kind h.0 h.1 z.0 h.6 z.1 in let x = kin.take_word c await_kind ts h.0 y.0 h.4 y.1 in
@@ -92,19 +92,19 @@ module _ (p : Bool) (kin : Kin p) where
   pub while_on : (c : Code) (s : Span) (t b : Child) → Moved p kin t → Moved p kin b → Moves p kin (While c s t b) (While (placing p c) s t b)
   while_on c s t b f g ts r q h l = let z = sub c b g h.1 r q h.4 l in let y = in_parens c t f h.0 h.1 z.0 h.3 z.1 in let x = kin.take_word c while_kind ts h.0 y.0 h.2 y.1 in (x.0, x.1, (y.0, z.0, x.2, y.2, z.2, sp s ts x.0 r q x.1 l h.5))
 
-  clause : (c : Code) (k : ℕ) (e : Child) → Moved p kin e → Moves p kin (Clause c k e) (Clause (placing p c) k e)
+  pub clause : (c : Code) (k : ℕ) (e : Child) → Moved p kin e → Moves p kin (Clause c k e) (Clause (placing p c) k e)
   clause c k e f ts r q h l = let z = kin.take c k h.0 r q h.2 l in let y = maybe p kin (Expr expression_level) c e (λ ts r q h l. expr p kin expression_level c e f ts r q h l) ts h.0 z.0 h.1 z.1 in (y.0, y.1, (z.0, y.2, z.2))
 
   for_rest : (c : Code) (t u b : Child) → Moved p kin t → Moved p kin u → Moved p kin b → Moves p kin (ForRest c t u b) (ForRest (placing p c) t u b)
   for_rest c t u b f g k ts r q h l = let z = sub c b k h.1 r q h.4 l in let y = clause c right_paren_kind u g h.0 h.1 z.0 h.3 z.1 in let x = clause c semicolon_kind t f ts h.0 y.0 h.2 y.1 in (x.0, x.1, (y.0, z.0, x.2, y.2, z.2))
 
-  for_open : (c : Code) → Moves p kin (ForOpen c) (ForOpen (placing p c))
+  pub for_open : (c : Code) → Moves p kin (ForOpen c) (ForOpen (placing p c))
   for_open c ts r q h l = let z = kin.take c left_paren_kind h.0 r q h.2 l in let y = kin.take_word c for_kind ts h.0 z.0 h.1 z.1 in (y.0, y.1, (z.0, y.2, z.2))
 
-  abbrev Init : Code → Child → Input → Input → Type 0
+  abbrev pub Init : Code → Child → Input → Input → Type 0
   Init c e m n = By (is_absent e.tree) (m ≡ n) ((starts_head m ≡ true) × Expr expression_level (without_in c) e m n)
 
-  init : (c : Code) (e : Child) → Moved p kin e → Moves p kin (Init c e) (Init (placing p c) e)
+  pub init : (c : Code) (e : Child) → Moved p kin e → Moves p kin (Init c e) (Init (placing p c) e)
   init c e f ts r q h l = either p kin (is_absent e.tree) ts h (λ k. same p kin ts r q k l) (λ k. let z = expr p kin expression_level (without_in c) e f ts r q k.1 l in (z.0, z.1, (kin.heads ts z.0 z.1 k.0, z.2)))
 
   pub for_expression : (c : Code) (s : Span) (i t u b : Child) → Moved p kin i → Moved p kin t → Moved p kin u → Moved p kin b → Moves p kin (ForExpression c s i t u b) (ForExpression (placing p c) s i t u b)
@@ -137,7 +137,7 @@ module _ (p : Bool) (kin : Kin p) where
   pub for_in : (c : Code) (s : Span) (A B : Input → Input → Type 0) (e b : Child) → Moves p kin A B → Moved p kin e → Moved p kin b → Moves p kin (ForIn c s A e b) (ForIn (placing p c) s B e b)
   for_in c s A B e b k f g ts r q h l = let z = over c in_kind expression_level e b f g h.1 r q h.4 l in let y = k h.0 h.1 z.0 h.3 z.1 in let x = for_open c ts h.0 y.0 h.2 y.1 in (x.0, x.1, (y.0, z.0, x.2, y.2, z.2, sp s ts x.0 r q x.1 l h.5))
 
-  await_open : (w : Bool) (c : Code) → Moves p kin (ForAwaitOpen w c) (ForAwaitOpen w (placing p c))
+  pub await_open : (w : Bool) (c : Code) → Moves p kin (ForAwaitOpen w c) (ForAwaitOpen w (placing p c))
   await_open false c ts r q h l = for_open c ts r q h l
   await_open true c ts r q h l = let z = kin.take c left_paren_kind h.1 r q h.5 l in let y = kin.take_word c await_kind h.0 h.1 z.0 h.4 z.1 in let x = kin.take_word c for_kind ts h.0 y.0 h.3 y.1 in (x.0, x.1, (y.0, z.0, h.2, x.2, y.2, z.2))
 

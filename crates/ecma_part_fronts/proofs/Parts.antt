@@ -17,7 +17,7 @@ use Rattle.ecma_parse_parts.specs.Parts.{expression_part, binding_part, key_part
 use Rattle.ecma_parse_parts.specs.Items.{statement_part, list_item_part, module_item_part}
 use Rattle.ecma_part_fronts.specs.Laws.{IsFront, ReadsFronts, Anywhere, PartsAreFronts, Answers, Goes, FrontsAreAnswered}
 
-abbrev Answer : Type 0
+abbrev pub Answer : Type 0
 Answer = Result (Tree × State Input) Fault
 
 abbrev Found : Answer → Type 0
@@ -125,22 +125,22 @@ parts_are_fronts limit placed c = record {
 
 -- ---- what is derived is answered
 
-settles : (limit : ℕ) (x : Tree × State Input) → nesting x.0 ≤ limit → is_clean x.0 ≡ true → settled list_stream limit x ≡ Ok x
+pub settles : (limit : ℕ) (x : Tree × State Input) → nesting x.0 ≤ limit → is_clean x.0 ≡ true → settled list_stream limit x ≡ Ok x
 unfolding settled
 settles limit x a b = ap₂ (λ (i j : Bool). cond i (cond j (Ok x) unexpected) (Err TooDeep)) (le-leb (nesting x.0) limit a) b
 
-passes : (limit : ℕ) (x : Answer) (t : Tree) (r : State Input) → x ≡ Ok (t, r) → nesting t ≤ limit → is_clean t ≡ true → (x >>= settled list_stream limit) ≡ Ok (t, r)
+pub passes : (limit : ℕ) (x : Answer) (t : Tree) (r : State Input) → x ≡ Ok (t, r) → nesting t ≤ limit → is_clean t ≡ true → (x >>= settled list_stream limit) ≡ Ok (t, r)
 passes limit x t r e a b = ap (λ z. z >>= settled list_stream limit) e ∙ settles limit (t, r) a b
 
 -- a test that lets through
-lets : (f : Tree × State Input → Bool) (x : Answer) (y : Tree × State Input) → x ≡ Ok y → f y ≡ false → (x >>= λ z. if f z then unexpected else Ok z) ≡ Ok y
+pub lets : (f : Tree × State Input → Bool) (x : Answer) (y : Tree × State Input) → x ≡ Ok y → f y ≡ false → (x >>= λ z. if f z then unexpected else Ok z) ≡ Ok y
 lets f x y e h = ap (λ (z : Answer). z >>= λ v. if f v then unexpected else Ok v) e ∙ by_test (f y) h
   where
     by_test : (b : Bool) → b ≡ false → ◌≡◌ {A = Answer} (cond b unexpected (Ok y)) (Ok y)
     by_test true h = absurd (true≢false h)
     by_test false h = refl
 
-arrow_same : (o : Option Code) (r : Input) (a b : List ℕ) → heads_arrow list_stream o (record { source = r; commas = a }) ≡ heads_arrow list_stream o (record { source = r; commas = b })
+pub arrow_same : (o : Option Code) (r : Input) (a b : List ℕ) → heads_arrow list_stream o (record { source = r; commas = a }) ≡ heads_arrow list_stream o (record { source = r; commas = b })
 arrow_same None r a b = refl
 arrow_same (Some d) r a b = refl
 
