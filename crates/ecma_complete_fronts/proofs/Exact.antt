@@ -1,19 +1,20 @@
 -- Each complete front is read: before a token with which no longer list goes on, each rule ends.
-use Rattle.std.proofs.Common.{◌≡◌, ◌<◌, ◌≤◌, inl, ℕ, suc, Bool, true, false, ◌||◌, eqb, List, [], ◌∷◌, ◌++◌, length, refl, sym, ap, ap₂, ◌∙◌, subst, true≢false, arith}
-use Rattle.std.proofs.lemmas.Bool.{eqb-true, ne_eqb, or_left}
-use Rattle.ecma_token.specs.Kinds.{function_kind, finally_kind, question_mark_kind}
+use Rattle.std.proofs.Common.{◌≡◌, ◌<◌, ◌≤◌, inl, ℕ, suc, Bool, true, false, ◌||◌, eqb, List, [], ◌∷◌, ◌++◌, length, refl, sym, ap, ap₂, ◌∙◌, subst, true≢false, arith, cond, leb, nat_lt, ltb-true, ltb-false}
+use Rattle.std.proofs.lemmas.Bool.{eqb-true, ne_eqb, or_left, leb-true, leb-false, eqb-false, and_parts}
+use Rattle.ecma_token.specs.Kinds.{plus_plus_kind, minus_minus_kind, function_kind, finally_kind, question_mark_kind}
 use Rattle.ecma_tree.specs.Tree.{Tree, none, more}
 use Rattle.ecma_nesting.specs.Nesting.{nesting}
-use Rattle.ecma_syntax.specs.Input.{PlacedToken, Input, Code, kind, kind_of, alone, in_list}
-use Rattle.ecma_syntax.specs.Operators.{goes_expr}
+use Rattle.ecma_syntax.specs.Input.{PlacedToken, Input, Code, kind, kind_of, alone, in_list, brk}
+use Rattle.ecma_syntax.specs.Operators.{between, goes_expr}
 use Rattle.ecma_syntax.specs.Shape.{ends, is_statement, is_item, is_plain_function}
+use Rattle.ecma_grammar.specs.Expressions.{is_update_op}
 use Rattle.ecma_grammar.specs.Grammar.{Produces}
 use Rattle.ecma_reading.specs.Modules.{item_by}
 use Rattle.ecma_reading.specs.Reading.{readers}
 use Rattle.ecma_grammar_complete_base.specs.Laws.{coded, InOrder, Asked, Follow}
 use Rattle.ecma_grammar_complete_base.proofs.Yields.{lm}
 use Rattle.ecma_grammar_complete_base.proofs.Levels.{calm_by, sober_by}
-use Rattle.ecma_grammar_complete_base.proofs.Trees.{covered, size, sizes, reach}
+use Rattle.ecma_grammar_complete_base.proofs.Trees.{covered, size, sizes, reach, by_update}
 use Rattle.ecma_grammar_complete_rules.proofs.Finds.{Behind, Leads, Firm, firm_leads, lasts}
 use Rattle.ecma_grammar_complete_rules.proofs.Nested.{may_follow, leaves, follows}
 use Rattle.ecma_grammar_complete_rules.proofs.Modules.{module_item}
@@ -23,11 +24,12 @@ use Rattle.ecma_grammar_complete.proofs.Tied.{known, complete}
 use Rattle.ecma_grammar_complete.proofs.Nests.{reach_nests}
 use Rattle.ecma_sources.specs.Ahead.{at_list}
 use Rattle.ecma_complete_fronts.specs.Laws.{input_at, IsComplete, EndsAt, EndsBefore, Expression, Statement, ListItem, ModuleItem}
-use Rattle.ecma_complete_fronts.specs.Exact.{Unescaped, Stopped, Closed, IsReadWhere, FrontsAreExact}
+use Rattle.ecma_complete_fronts.specs.Exact.{Unescaped, goes_after, Stopped, Closed, IsReadWhere, FrontsAreExact}
 use Rattle.ecma_complete_fronts.proofs.Fronts.{IsRead, reads_of, halves, follow_by, expression_is_read, binding_is_read, key_is_read}
 use Rattle.ecma_complete_fronts.proofs.Onto.{Onto}
 use Rattle.ecma_complete_fronts.proofs.Longer.{onward, onward_mild, onward_order, level_of, bounded, bounded_leads}
 use Rattle.ecma_complete_fronts.proofs.Leaves.{leaves_there}
+use Rattle.ecma_complete_fronts.proofs.Updates.{no_update}
 
 -- ---- before `?`, with which a closed expression doesn't go on
 
@@ -108,8 +110,48 @@ module _ (c : Code) (l : ℕ) (least : 1 ≤ l) (most : l ≤ 2) (calm : c.conte
   by_rest w un [] i = whole i
   by_rest w un (q ∷ beyond) i = before q beyond i w un (eqb q.spot.token.kind question_mark_kind) refl
 
+-- `++` and `--` go on with no complete front
+update_goes : (c : Code) (e : ℕ) (m : Input) → is_update_op (kind m) ≡ true → goes_expr c e m ≡ cond (leb 2 e) 0 (cond (leb 1 e) 0 (cond (brk m) 0 17))
+update_goes c e m up = by_update (kind m) (λ k. kind m ≡ k → goes_expr c e m ≡ cond (leb 2 e) 0 (cond (leb 1 e) 0 (cond (brk m) 0 17))) up (λ k. rw k refl) (λ k. rw k refl) refl
+
+between_two : (k : ℕ) → (k ≡ 20 → ⊥) → (k ≡ 21 → ⊥) → 20 ≤ k → k ≤ 21 → ⊥
+between_two k f h low high = by_test (nat_lt 20 k) refl
+  where
+    by_test : (b : Bool) → nat_lt 20 k ≡ b → ⊥
+    by_test true e = h (omega (arith, ltb-true 20 k e, high))
+    by_test false e = f (omega (arith, ltb-false 20 k e, low))
+
+one_of_two : (k : ℕ) (x y : Bool) → (x ≡ false → k ≡ 20 → ⊥) → (y ≡ false → k ≡ 21 → ⊥) → 20 ≤ k → k ≤ 21 → (x || y) ≡ true
+one_of_two k true y f h low high = refl
+one_of_two k false true f h low high = refl
+one_of_two k false false f h low high = absurd (between_two k (f refl) (h refl) low high)
+
+updates : (k : ℕ) → between plus_plus_kind minus_minus_kind k ≡ true → is_update_op k ≡ true
+updates k h = let z = and_parts (leb 20 k) (leb k 21) h in one_of_two k (eqb k 20) (eqb k 21) (λ e. eqb-false k 20 e) (λ e. eqb-false k 21 e) (leb-true 20 k z.0) (leb-true k 21 z.1)
+
+stops : (c : Code) (l : ℕ) → 1 ≤ l → l ≤ 2 → (n : ℕ) (ps : List PlacedToken) (t : Tree) (r : Input) → InOrder n ps → Expression false l c t (input_at n ps) r → IsComplete (Expression false l c) n ps r.places → goes_after c (ends t) r < l → goes_expr c (ends t) r < l
+stops c l a b n ps t r order g w s = by_kind (between plus_plus_kind minus_minus_kind (kind r)) refl s
+  where
+    not_question : (k : ℕ) → is_update_op k ≡ true → eqb k question_mark_kind ≡ false
+    not_question k up = by_update k (λ k. eqb k question_mark_kind ≡ false) up refl refl
+
+    never : (v : List PlacedToken) → r.places ≡ v → is_update_op (kind r) ≡ true → brk r ≡ false → ends t ≡ 0 → ⊥
+    never [] i up line e = absurd (true≢false (sym up ∙ ap (λ v. is_update_op (kind_of v)) i))
+    never (q ∷ beyond) i up line e = let j = not_question q.spot.token.kind (sym (ap (λ v. is_update_op (kind_of v)) i) ∙ up) in
+        no_update q beyond j false r i up line t c l (input_at n ps) (λ o k u v z lv x. ends_there (Expression false l c) q beyond j n ps r.places i order w o k u v z (level_of l u (omega (arith, b)) lv, x)) (omega (arith, b)) (inl g.0) (omega (arith, a, g.0)) e g.1
+
+    by_class : (x y z : Bool) → leb 2 (ends t) ≡ x → leb 1 (ends t) ≡ y → brk r ≡ z → is_update_op (kind r) ≡ true → cond x 0 (cond y 0 (cond z 0 17)) < l
+    by_class true y z i j k up = omega (arith, a)
+    by_class false true z i j k up = omega (arith, a)
+    by_class false false true i j k up = omega (arith, a)
+    by_class false false false i j k up = absurd (never r.places refl up k (omega (arith, leb-false 1 (ends t) j)))
+
+    by_kind : (x : Bool) → between plus_plus_kind minus_minus_kind (kind r) ≡ x → cond x 0 (goes_expr c (ends t) r) < l → goes_expr c (ends t) r < l
+    by_kind false e s = s
+    by_kind true e s = let up = updates (kind r) e in subst (λ (m : ℕ). m < l) (sym (update_goes c (ends t) r up)) (by_class (leb 2 (ends t)) (leb 1 (ends t)) (brk r) refl refl refl up)
+
 expression_exact : (c : Code) (l : ℕ) → 1 ≤ l → l ≤ 2 → c.context.in_generator ≡ false → IsReadWhere (Stopped l c) (λ d s. (readers lm d).expr c l s) (Expression false l c)
-expression_exact c l a b calm d n ps t r deep order g w m = by_rest c l a b calm d n ps t r deep order g m.0 w m.1 r.places refl
+expression_exact c l a b calm d n ps t r deep order g w m = by_rest c l a b calm d n ps t r deep order g (stops c l a b n ps t r order g w m.0) w m.1 r.places refl
 
 -- ---- statements and items
 

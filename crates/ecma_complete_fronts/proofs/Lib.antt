@@ -3,4 +3,5 @@ pub mod Fronts
 pub mod Onto
 pub mod Longer
 pub mod Leaves
+pub mod Updates
 pub mod Exact

@@ -123,32 +123,32 @@ module _ (q : PlacedToken) (beyond : List PlacedToken) (plain : eqb q.spot.token
   -- ---- what is longer behind the last operand is longer
 
   module _ (p : Bool) (c : Code) (l : ℕ) where
-    longer_update : (s : Span) (op : ℕ) (a : Tree) (ts r : Input) → OfLevel l (update_expr s op true a) → NoLonger l c ts → (h : Produces (update_expr s op true a) (coded p c) ts r) → NoLonger 16 c h.0
+    pub longer_update : (s : Span) (op : ℕ) (a : Tree) (ts r : Input) → OfLevel l (update_expr s op true a) → NoLonger l c ts → (h : Produces (update_expr s op true a) (coded p c) ts r) → NoLonger 16 c h.0
     longer_update s op a ts r f w h o k u e n lv x = let z = K.take (coded p c) op ts h.0 o h.2 k in w z.0 z.1 (update_expr (span (lo z.0) e.last) op true u) e n f (o, h.1, z.2, (level_of 16 u (omega arith) lv, x), refl)
 
-    longer_unary : (s : Span) (op : ℕ) (a : Tree) (ts r : Input) → OfLevel l (unary_expr s op a) → NoLonger l c ts → (h : Produces (unary_expr s op a) (coded p c) ts r) → NoLonger 16 c h.0
+    pub longer_unary : (s : Span) (op : ℕ) (a : Tree) (ts r : Input) → OfLevel l (unary_expr s op a) → NoLonger l c ts → (h : Produces (unary_expr s op a) (coded p c) ts r) → NoLonger 16 c h.0
     longer_unary s op a ts r f w h o k u e n lv x = let z = K.take_word (coded p c) op ts h.0 o h.2 k in w z.0 z.1 (unary_expr (span (lo z.0) e.last) op u) e n f (o, h.1, z.2, (level_of 16 u (omega arith) lv, x), refl)
 
-    longer_await : (s : Span) (a : Tree) (ts r : Input) → OfLevel l (await_expr s a) → NoLonger l c ts → (h : Produces (await_expr s a) (coded p c) ts r) → NoLonger 16 c h.0
+    pub longer_await : (s : Span) (a : Tree) (ts r : Input) → OfLevel l (await_expr s a) → NoLonger l c ts → (h : Produces (await_expr s a) (coded p c) ts r) → NoLonger 16 c h.0
     longer_await s a ts r f w h o k u e n lv x = let z = K.take_word (coded p c) await_kind ts h.0 o h.2 k in w z.0 z.1 (await_expr (span (lo z.0) e.last) u) e n f (o, h.1, z.2, (level_of 16 u (omega arith) lv, x), refl)
 
-    longer_binary : (s : Span) (op : ℕ) (a b : Tree) (ts r : Input) → OfLevel l (bin_expr s op a b) → NoLonger l c ts → (h : Produces (bin_expr s op a b) (coded p c) ts r) → NoLonger (right_level op) c h.1
+    pub longer_binary : (s : Span) (op : ℕ) (a b : Tree) (ts r : Input) → OfLevel l (bin_expr s op a b) → NoLonger l c ts → (h : Produces (bin_expr s op a b) (coded p c) ts r) → NoLonger (right_level op) c h.1
     longer_binary s op a b ts r f w h o k u e n lv x =
         let z = K.take_word (coded p c) op h.0 h.1 o h.5 k in let y = move false K a (coded p c) ts h.0 z.0 h.4 z.1 in
         w y.0 y.1 (bin_expr (span (lo y.0) e.last) op a u) e n f (z.0, o, h.2, h.3, y.2, z.2, (level_of (right_level op) u (omega (arith, right_most op)) lv, x), refl)
 
-    longer_conditional : (s : Span) (a b t : Tree) (ts r : Input) → OfLevel l (cond_expr s a b t) → NoLonger l c ts → (h : Produces (cond_expr s a b t) (coded p c) ts r) → NoLonger 2 c h.3
+    pub longer_conditional : (s : Span) (a b t : Tree) (ts r : Input) → OfLevel l (cond_expr s a b t) → NoLonger l c ts → (h : Produces (cond_expr s a b t) (coded p c) ts r) → NoLonger 2 c h.3
     longer_conditional s a b t ts r f w h o k u e n lv x =
         let z = K.take (coded p c) colon_kind h.2 h.3 o h.7 k in let y = move false K b (coded p (with_in c)) h.1 h.2 z.0 h.6.1 z.1 in
         let v = K.take (coded p c) question_mark_kind h.0 h.1 y.0 h.5 y.1 in let g = move false K a (coded p c) ts h.0 v.0 h.4.1 v.1 in
         w g.0 g.1 (cond_expr (span (lo g.0) e.last) a b u) e n f (v.0, y.0, z.0, o, (h.4.0, g.2), v.2, (h.6.0, y.2), z.2, (level_of 2 u (omega arith) lv, x), refl)
 
-    longer_assign : (s : Span) (op : ℕ) (a b : Tree) (ts r : Input) → OfLevel l (assign_expr s op a b) → NoLonger l c ts → (h : Produces (assign_expr s op a b) (coded p c) ts r) → NoLonger 2 c h.1
+    pub longer_assign : (s : Span) (op : ℕ) (a b : Tree) (ts r : Input) → OfLevel l (assign_expr s op a b) → NoLonger l c ts → (h : Produces (assign_expr s op a b) (coded p c) ts r) → NoLonger 2 c h.1
     longer_assign s op a b ts r f w h o k u e n lv x =
         let z = K.take (coded p c) op h.0 h.1 o h.5 k in let y = move false K a (coded p c) ts h.0 z.0 h.4 z.1 in
         w y.0 y.1 (assign_expr (span (lo y.0) e.last) op a u) e n f (z.0, o, h.2, h.3, y.2, z.2, (level_of 2 u (omega arith) lv, x), refl)
 
-    longer_yield : (s : Span) (a : Tree) (ts r : Input) → OfLevel l (yield_expr s a false) → NoLonger l c ts → (h : Yield (coded p c) s (child a (λ y. Produces a y)) false ts r) → NoLonger 2 c h.0
+    pub longer_yield : (s : Span) (a : Tree) (ts r : Input) → OfLevel l (yield_expr s a false) → NoLonger l c ts → (h : Yield (coded p c) s (child a (λ y. Produces a y)) false ts r) → NoLonger 2 c h.0
     longer_yield s a ts r f w h o k u e n lv x =
         let z = K.take_word (coded p c) yield_kind ts h.0 o h.2 k in w z.0 z.1 (yield_expr (span (lo z.0) e.last) u false) e n f (yielded (span (lo z.0) e.last) z.0 e u lv (o, h.1, z.2, sym (K.breaks h.0 o k) ∙ h.3, (level_of 2 u (omega arith) lv, x), refl))
       where
@@ -156,7 +156,7 @@ module _ (q : PlacedToken) (beyond : List PlacedToken) (plain : eqb q.spot.token
         yielded s a b absent lv y = absurd (⊎_elim (λ (i : 2 ≤ level absent). omega (arith, i)) (λ (i : (◌≡◌ {A = ℕ} 2 20) × (level absent ≡ 18)). omega (arith, i.0)) lv)
         yielded s a b u lv y = y
 
-    longer_yield_all : (s : Span) (a : Tree) (ts r : Input) → OfLevel l (yield_expr s a true) → NoLonger l c ts → (h : Yield (coded p c) s (child a (λ y. Produces a y)) true ts r) → NoLonger 2 c h.1
+    pub longer_yield_all : (s : Span) (a : Tree) (ts r : Input) → OfLevel l (yield_expr s a true) → NoLonger l c ts → (h : Yield (coded p c) s (child a (λ y. Produces a y)) true ts r) → NoLonger 2 c h.1
     longer_yield_all s a ts r f w h o k u e n lv x =
         let z = K.take (coded p c) mul_kind h.0 h.1 o h.5 k in let y = K.take_word (coded p c) yield_kind ts h.0 z.0 h.3 z.1 in
         w y.0 y.1 (yield_expr (span (lo y.0) e.last) u true) e n f (yielded (span (lo y.0) e.last) y.0 e u lv (z.0, o, h.2, y.2, sym (K.breaks h.0 z.0 z.1) ∙ h.4, z.2, (level_of 2 u (omega arith) lv, x), refl))
@@ -165,7 +165,7 @@ module _ (q : PlacedToken) (beyond : List PlacedToken) (plain : eqb q.spot.token
         yielded s a b absent lv y = absurd (⊎_elim (λ (i : 2 ≤ level absent). omega (arith, i)) (λ (i : (◌≡◌ {A = ℕ} 2 20) × (level absent ≡ 18)). omega (arith, i.0)) lv)
         yielded s a b u lv y = y
 
-    longer_arrow : (s : Span) (ps : Trees) (b : Tree) (i : Bool) (ts r : Input) → OfLevel l (arrow_expr s ps b i) → NoLonger l c ts → (h : ArrowExpression (coded p c) s (children ps) (child b (λ y. Produces b y)) i ts r) → NoLonger 2 (in_arrow i c) h.0
+    pub longer_arrow : (s : Span) (ps : Trees) (b : Tree) (i : Bool) (ts r : Input) → OfLevel l (arrow_expr s ps b i) → NoLonger l c ts → (h : ArrowExpression (coded p c) s (children ps) (child b (λ y. Produces b y)) i ts r) → NoLonger 2 (in_arrow i c) h.0
     longer_arrow s ps b i ts r f w h o k u e n lv x =
         let z = arrow_head false K i (coded p c) (children ps) (moves false K ps) ts h.0 o h.1 k in
         w z.0 z.1 (arrow_expr (span (lo z.0) e.last) ps u i) e n f (concise (span (lo z.0) e.last) z.0 e u lv (o, z.2, K.unlike left_brace_kind refl h.0 o k h.2, (level_of 2 u (omega arith) lv, x), refl))
@@ -174,19 +174,19 @@ module _ (q : PlacedToken) (beyond : List PlacedToken) (plain : eqb q.spot.token
         concise s a b (block_stmt t ss) lv y = absurd (⊎_elim (λ (i : 2 ≤ level (block_stmt t ss)). omega (arith, i)) (λ (i : (◌≡◌ {A = ℕ} 2 20) × (level (block_stmt t ss) ≡ 18)). omega (arith, i.0)) lv)
         concise s a b u lv y = y
 
-    longer_new : (s : Span) (g : Tree) (ts r : Input) → OfLevel l (new_expr s g absent) → NoLonger l c ts → (h : Produces (new_expr s g absent) (coded p c) ts r) → NoLonger 20 c h.0
+    pub longer_new : (s : Span) (g : Tree) (ts r : Input) → OfLevel l (new_expr s g absent) → NoLonger l c ts → (h : Produces (new_expr s g absent) (coded p c) ts r) → NoLonger 20 c h.0
     longer_new s g ts r f w h o k u e n lv x = let z = K.take_word (coded p c) new_kind ts h.0 o h.1 k in
         w z.0 z.1 (new_expr (span (lo z.0) e.last) u absent) e n f (o, z.2, ⊎_elim (λ (i : 20 ≤ level u). inr i) (λ i. inl i.1) lv, x, ended_goes (coded false c) e n, refl)
 
-    longer_sequence : (s : Span) (a b : Tree) (bs : Trees) (ts r : Input) → OfLevel l (seq_expr s (more a (more b bs))) → NoLonger l c ts → (h : Produces (seq_expr s (more a (more b bs))) (coded p c) ts r) → NoMore c h.0
+    pub longer_sequence : (s : Span) (a b : Tree) (bs : Trees) (ts r : Input) → OfLevel l (seq_expr s (more a (more b bs))) → NoLonger l c ts → (h : Produces (seq_expr s (more a (more b bs))) (coded p c) ts r) → NoMore c h.0
     longer_sequence s a b bs ts r f w h o k u us e n x = let z = move false K a (coded p c) ts h.0 o h.1.1 k in
         w z.0 z.1 (seq_expr (span (lo z.0) e.last) (more a (more u us))) e n f (o, (h.1.0, z.2), x, refl)
 
-    longer_next : (a b : Tree) (bs : Trees) (ts r : Input) → NoMore c ts → (h : CommaThen (Expr 2 (coded p c)) (coded p c) (children (more a (more b bs))) ts r) → NoMore c h.1
+    pub longer_next : (a b : Tree) (bs : Trees) (ts r : Input) → NoMore c ts → (h : CommaThen (Expr 2 (coded p c)) (coded p c) (children (more a (more b bs))) ts r) → NoMore c h.1
     longer_next a b bs ts r w h o k u us e n x = let z = move false K a (coded p c) h.0 h.1 o h.3.1 k in let y = K.take (coded p c) comma_kind ts h.0 z.0 h.2 z.1 in
         w y.0 y.1 a (more u us) e n (z.0, o, y.2, (h.3.0, z.2), x)
 
-    longer_last : (a : Tree) (ts r : Input) → NoMore c ts → (h : CommaThen (Expr 2 (coded p c)) (coded p c) (children (more a none)) ts r) → NoLonger 2 c h.0
+    pub longer_last : (a : Tree) (ts r : Input) → NoMore c ts → (h : CommaThen (Expr 2 (coded p c)) (coded p c) (children (more a none)) ts r) → NoLonger 2 c h.0
     longer_last a ts r w h o k u e n lv x = let y = K.take (coded p c) comma_kind ts h.0 o h.2 k in w y.0 y.1 u none e n (o, e, y.2, (level_of 2 u (omega arith) lv, x), refl)
 
   -- ---- what is longer behind the last token

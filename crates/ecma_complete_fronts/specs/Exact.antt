@@ -1,10 +1,10 @@
 -- Each complete front is read.
-use Rattle.std.specs.Prelude.{◌≡◌, ◌≤◌, ◌<◌, ℕ, true, false, List, [], Ok}
-use Rattle.ecma_token.specs.Kinds.{function_kind, finally_kind}
+use Rattle.std.specs.Prelude.{◌≡◌, ◌≤◌, ◌<◌, ℕ, true, false, List, [], Ok, if◌then◌else◌}
+use Rattle.ecma_token.specs.Kinds.{plus_plus_kind, minus_minus_kind, function_kind, finally_kind}
 use Rattle.ecma_tree.specs.Tree.{Tree}
 use Rattle.ecma_nesting.specs.Nesting.{nesting}
 use Rattle.ecma_syntax.specs.Input.{PlacedToken, Input, Code, kind, barred, alone, in_list}
-use Rattle.ecma_syntax.specs.Operators.{goes_expr}
+use Rattle.ecma_syntax.specs.Operators.{between, goes_expr}
 use Rattle.ecma_syntax.specs.Shape.{ends}
 use Rattle.ecma_reading.specs.Source.{Read, list_stream}
 use Rattle.ecma_reading.specs.Expressions.{key_by}
@@ -23,9 +23,13 @@ abbrev pub IsReadWhere : (Tree → Input → Type 0) → (ℕ → Read Input Tre
 IsReadWhere Meets f P = (depth n : ℕ) (ps : List PlacedToken) (t : Tree) (r : Input) → nesting t ≤ depth → InOrder n ps → P t (input_at n ps) r → IsComplete P n ps r.places → Meets t r
     → (commas : List ℕ) × (f depth (at_list n ps []) ≡ Ok (t, record { source = r; commas = commas }))
 
--- Nothing goes on with an expression at a level, and no escaped `function` stands next.
+-- The table of semicolons after an expression, whatever line break stands there: `++` and `--` are not in it.
+abbrev pub goes_after : Code → ℕ → Input → ℕ
+goes_after c e r = if between plus_plus_kind minus_minus_kind (kind r) then 0 else goes_expr c e r
+
+-- By it nothing goes on with an expression at a level, and no escaped `function` stands next.
 abbrev pub Stopped : ℕ → Code → Tree → Input → Type 0
-Stopped l c t r = (goes_expr c (ends t) r < l) × Unescaped function_kind r
+Stopped l c t r = (goes_after c (ends t) r < l) × Unescaped function_kind r
 
 -- behind a statement
 abbrev pub Closed : Tree → Input → Type 0
