@@ -45,11 +45,11 @@ use Rattle.ecma_complete_fronts.proofs.Cut.{brace, closing, cuts_to}
 
 -- ---- lists
 
-abbrev behind_first : List PlacedToken → List PlacedToken
+abbrev pub behind_first : List PlacedToken → List PlacedToken
 behind_first [] = []
 behind_first (o ∷ v) = v
 
-abbrev head_or : PlacedToken → List PlacedToken → PlacedToken
+abbrev pub head_or : PlacedToken → List PlacedToken → PlacedToken
 head_or x [] = x
 head_or x (o ∷ v) = o
 
@@ -58,7 +58,7 @@ sums [] b = omega arith
 sums (x ∷ a) b = omega (arith, sums a b)
 
 -- Two ways to cut a list in two, the second further behind.
-split : (a b c d : List PlacedToken) → a ++ b ≡ c ++ d → length d < length b → (e : List PlacedToken) × (c ≡ a ++ e) × (b ≡ e ++ d)
+pub split : (a b c d : List PlacedToken) → a ++ b ≡ c ++ d → length d < length b → (e : List PlacedToken) × (c ≡ a ++ e) × (b ≡ e ++ d)
 split [] b c d e h = (c, refl, e)
 split (x ∷ a) b [] d e h = absurd (longer d (ap (λ z. length z) e) h)
   where
@@ -67,7 +67,7 @@ split (x ∷ a) b [] d e h = absurd (longer d (ap (λ z. length z) e) h)
 split (x ∷ a) b (y ∷ c) d e h = let z = split a b c d (ap behind_first e) h in (z.0, ap₂ (λ (o : PlacedToken) (v : List PlacedToken). o ∷ v) (sym (ap (λ v. head_or x v) e)) z.1, z.2)
 
 -- A list cut off is in order as well.
-order_cut : (n : ℕ) (f l : List PlacedToken) → InOrder n (f ++ l) → InOrder n (f ++ closing l)
+pub order_cut : (n : ℕ) (f l : List PlacedToken) → InOrder n (f ++ l) → InOrder n (f ++ closing l)
 order_cut n [] [] h = tt
 order_cut n [] (p ∷ l) h = by_kind (eqb p.spot.token.kind template_kind) (λ e. eqb-true p.spot.token.kind template_kind e) refl
   where
@@ -97,13 +97,13 @@ order_cut n [] (p ∷ l) h = by_kind (eqb p.spot.token.kind template_kind) (λ e
         at_most i = omega (arith, end_is i, h.2 (no_template i))
 order_cut n (x ∷ f) l h = (h.0, h.1, h.2, order_cut x.spot.hi f l h.3)
 
-no_shorter : (a b : List PlacedToken) → 1 ≤ length a → a ++ b ≡ b → ⊥
+pub no_shorter : (a b : List PlacedToken) → 1 ≤ length a → a ++ b ≡ b → ⊥
 no_shorter a b l m = omega (arith, l, ap (λ z. length z) m, sums a b)
 
 -- ---- answers
 
 -- the rest of an answer
-abbrev rest_of : List PlacedToken → Result (Tree × State Input) Fault → List PlacedToken
+abbrev pub rest_of : List PlacedToken → Result (Tree × State Input) Fault → List PlacedToken
 rest_of l (Ok x) = x.1.source.places
 rest_of l (Err e) = l
 
@@ -217,8 +217,8 @@ module _ (c : Code) (l : ℕ) where
   QuitBy (Ok x) = nat_lt (goes_expr c (ends x.0) (input lm x.1)) l ≡ true
   QuitBy (Err e) = Unit {0}
 
-  record Quit (x : Result (Tree × State Input) Fault) : Type 0 where
-    so : QuitBy x
+  pub record Quit (x : Result (Tree × State Input) Fault) : Type 0 where
+    pub so : QuitBy x
 
   quit_then : {A : Type 0} (x : Result A Fault) (f : A → Result (Tree × State Input) Fault) → ((a : A) → Quit (f a)) → Quit (x >>= f)
   quit_then (Ok a) f h = h a
@@ -257,7 +257,7 @@ module _ (c : Code) (l : ℕ) where
   expr_quits inner e s = quit_if (at lm hash_kind s) _ _ (λ i. quit_then (private_by lm inner s) _ (λ p. quit_if (at lm in_kind p.1 && (has_in c && nat_le l (binary_level in_kind))) _ _ (λ j. quit_then (binary_by lm inner c s p.0 p.1) _ (λ t. loop_quits inner s e t.0 t.1)) (λ j. record { so = tt })))
       (λ i. quit_then (prefix_by lm inner c l s) _ (λ t. loop_quits inner s e t.0 t.1))
 
-  readers_quit : (d : ℕ) → eqb l member_level ≡ false → (s : State Input) → Quit ((readers lm d).expr c l s)
+  pub readers_quit : (d : ℕ) → eqb l member_level ≡ false → (s : State Input) → Quit ((readers lm d).expr c l s)
   unfolding readers
   readers_quit zero e s = record { so = tt }
   readers_quit (suc d) e s = expr_quits (readers lm d) e s
@@ -290,23 +290,23 @@ follow_by c e l n (p ∷ ps) h = closed_by c e l 12 (input_at n (brace p ∷ [])
 level_of : (l : ℕ) → 1 ≤ l → l ≤ 2 → Level l
 level_of l a b = record { least = a; most = omega (arith, b); asked = record { conditional = λ e. omega (arith, b, e); update = λ e. omega (arith, b, e) } }
 
-no_member : (l : ℕ) → l ≤ 2 → eqb l member_level ≡ false
+pub no_member : (l : ℕ) → l ≤ 2 → eqb l member_level ≡ false
 no_member l h = by_test (eqb l member_level) (λ e. eqb-true l member_level e)
   where
     by_test : (b : Bool) → (b ≡ true → l ≡ member_level) → b ≡ false
     by_test true e = absurd (omega (arith, e refl, h))
     by_test false e = refl
 
-cut_expression : (placed : Bool) (l : ℕ) (c : Code) (t : Tree) (n : ℕ) (ps : List PlacedToken) (r : Input) → Expression placed l c t (input_at n ps) r → (front : List PlacedToken) × (ps ≡ front ++ r.places) × Expression false l c t (input_at n (front ++ closing r.places)) (input_at r.last (closing r.places))
+pub cut_expression : (placed : Bool) (l : ℕ) (c : Code) (t : Tree) (n : ℕ) (ps : List PlacedToken) (r : Input) → Expression placed l c t (input_at n ps) r → (front : List PlacedToken) × (ps ≡ front ++ r.places) × Expression false l c t (input_at n (front ++ closing r.places)) (input_at r.last (closing r.places))
 cut_expression placed l c t n ps r h = let z = cuts_to t (coded placed c) (input_at n ps) r h.1 in (z.0, z.1, (h.0, z.2))
 
 pub expression_is_read : (placed : Bool) (l : ℕ) → 1 ≤ l → l ≤ 2 → (c : Code) → IsReadBefore (λ t r. Follow c (ends t) l r) (λ d s. (readers lm d).expr c l s) (Expression placed l c)
 expression_is_read placed l a b c d n ps t r h o g w = read_of _ t r (d < nesting t) (λ i. omega (arith, i, h)) (expressions_complete d placed c l t (input_at n ps) r o (level_of l a b) (record { produced = g.1; tight = g.0; follow = w }))
 
-whole_expression : (l : ℕ) → 1 ≤ l → l ≤ 2 → (c : Code) (d n : ℕ) (ps : List PlacedToken) (t : Tree) (r : Input) → nesting t ≤ d → InOrder n ps → Expression false l c t (input_at n ps) (input_at r.last (closing r.places)) → IsRead ((readers lm d).expr c l (at_list n ps [])) t (input_at r.last (closing r.places))
+pub whole_expression : (l : ℕ) → 1 ≤ l → l ≤ 2 → (c : Code) (d n : ℕ) (ps : List PlacedToken) (t : Tree) (r : Input) → nesting t ≤ d → InOrder n ps → Expression false l c t (input_at n ps) (input_at r.last (closing r.places)) → IsRead ((readers lm d).expr c l (at_list n ps [])) t (input_at r.last (closing r.places))
 whole_expression l a b c d n ps t r h o g = expression_is_read false l a b c d n ps t (input_at r.last (closing r.places)) h o g (follow_by c (ends t) l r.last r.places a)
 
-of_level : (l : ℕ) (t : Tree) → l ≤ 2 → OfLevel l t → l ≤ level t
+pub of_level : (l : ℕ) (t : Tree) → l ≤ 2 → OfLevel l t → l ≤ level t
 of_level l t b (inl h) = h
 of_level l t b (inr h) = absurd (omega (arith, b, h.0))
 

@@ -5,3 +5,4 @@ pub mod Longer
 pub mod Leaves
 pub mod Updates
 pub mod Exact
+pub mod Asyncs

@@ -1,6 +1,7 @@
 //! Laws of the grammar: what is read of a part of a program is a complete front of the list. The functions here are laws alone.
 #![tactic(auto)]
 
+ghost use Rattle.ecma_complete_fronts.specs.Asyncs.{ExpressionsSettle};
 ghost use Rattle.ecma_complete_fronts.specs.Exact.{FrontsAreExact};
 ghost use Rattle.ecma_complete_fronts.specs.Laws.{BindingsEnd, CutsOff, ExpressionsEnd, FrontsAreOne, FrontsAreRead, KeysEnd, ListItemsEnd, ModuleItemsEnd, StatementsEnd};
 
@@ -44,4 +45,11 @@ pub fn read_law()
 #[tactic(auto)]
 pub fn exact_law()
     ensures fronts { FrontsAreExact }
+{}
+
+/// Law: what is read as an expression of a list in order is derived from a complete front, but where the word `async` ends it
+/// in the place of an assignment, before a name on its line.
+#[tactic(auto)]
+pub fn async_law()
+    ensures expressions { ExpressionsSettle }
 {}

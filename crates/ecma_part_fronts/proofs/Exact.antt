@@ -1,6 +1,5 @@
 -- Each complete front is what an entry reads.
-use Rattle.std.proofs.Common.{◌≡◌, ◌≤◌, ℕ, Bool, true, false, cond, if◌then◌else◌, List, [], Result, Ok, ap, ◌∙◌}
-use Rattle.ecma_tree.specs.Tree.{Tree}
+use Rattle.std.proofs.Common.{◌≡◌, ◌≤◌, ℕ, Bool, false, cond, if◌then◌else◌, [], ap, ◌∙◌}
 use Rattle.ecma_syntax.specs.Input.{Input, Code}
 use Rattle.ecma_syntax.specs.Shape.{is_statement}
 use Rattle.ecma_reading.specs.Source.{unexpected, ◌>>=◌, State, list_stream}

@@ -1,21 +1,23 @@
 -- What an entry asks of what its rule reads: within the limit, and clean.
-use Rattle.std.proofs.Common.{◌≡◌, ◌≤◌, ℕ, Bool, true, false, cond, nat_le, if◌then◌else◌, List, [], Option, Some, None, Result, Ok, Err, refl, sym, ap, ap₂, ◌∙◌, subst, true≢false, le-leb, leb-true}
+use Rattle.std.proofs.Common.{◌≡◌, ◌≤◌, ℕ, Bool, true, false, ◌&&◌, codes, bytes_eq, cond, nat_le, if◌then◌else◌, List, [], Option, Some, None, Result, Ok, Err, refl, sym, ap, ap₂, ◌∙◌, subst, true≢false, le-leb, leb-true}
 use Rattle.ecma_token.specs.declared.syntax.EsSyntax.{EsSyntax}
-use Rattle.ecma_tree.specs.Tree.{Tree}
+use Rattle.ecma_tree.specs.Tree.{Tree, Trees, none, more, ident, seq_expr, assign_expr, cond_expr, arrow_expr, yield_expr}
 use Rattle.ecma_nesting.specs.Nesting.{nesting}
-use Rattle.ecma_syntax.specs.Input.{PlacedToken, Input, Code, module_code, alone, in_list}
-use Rattle.ecma_syntax.specs.Shape.{ends, is_clean, is_statement}
-use Rattle.ecma_reading.specs.Source.{Fault, TooDeep, unexpected, ◌>>=◌, State, Read, list_stream}
+use Rattle.ecma_syntax.specs.Input.{Input, Code, module_code, alone, in_list, in_arrow}
+use Rattle.ecma_syntax.specs.Shape.{is_clean, is_statement}
+use Rattle.ecma_reading.specs.Source.{Fault, TooDeep, unexpected, ◌>>=◌, State, list_stream}
 use Rattle.ecma_reading.specs.Expressions.{key_by}
 use Rattle.ecma_reading.specs.Modules.{item_by}
 use Rattle.ecma_reading.specs.Reading.{readers}
 use Rattle.ecma_sources.specs.Ahead.{at_list}
-use Rattle.ecma_complete_fronts.specs.Laws.{input_at, IsComplete, Expression, Binding, Key, Statement, ListItem, ModuleItem, Settled, Whatever, Apart}
-use Rattle.ecma_complete_fronts.proofs.Fronts.{expressions_end, bindings_end, keys_end, statements_end, list_items_end, module_items_end, fronts_are_read}
-use Rattle.ecma_parse_parts.specs.Ends.{async_end, heads_arrow, last_of, settled}
+use Rattle.ecma_complete_fronts.specs.Laws.{Expression, Binding, Key, Statement, ListItem, ModuleItem, Whatever, Apart}
+use Rattle.ecma_complete_fronts.specs.Asyncs.{names_next, takes_name, last_tree as final_tree, last_of as final_of}
+use Rattle.ecma_complete_fronts.proofs.Asyncs.{expressions_settle}
+use Rattle.ecma_complete_fronts.proofs.Fronts.{bindings_end, keys_end, statements_end, list_items_end, module_items_end, fronts_are_read}
+use Rattle.ecma_parse_parts.specs.Ends.{async_end, heads_arrow, last_tree, last_of, settled}
 use Rattle.ecma_parse_parts.specs.Parts.{expression_part, binding_part, key_part}
 use Rattle.ecma_parse_parts.specs.Items.{statement_part, list_item_part, module_item_part}
-use Rattle.ecma_part_fronts.specs.Laws.{IsFront, ReadsFronts, Anywhere, PartsAreFronts, Answers, Goes, FrontsAreAnswered}
+use Rattle.ecma_part_fronts.specs.Laws.{ReadsFronts, Anywhere, PartsAreFronts, Answers, Goes, FrontsAreAnswered}
 
 abbrev pub Answer : Type 0
 Answer = Result (Tree × State Input) Fault
@@ -55,6 +57,40 @@ passed_by : (limit : ℕ) (x : Answer) (t : Tree) (r : State Input) → (x >>= s
 passed_by limit (Ok y) t r h = settled_by limit y t r h
 passed_by limit (Err e) t r h = absurd (no_answer e (t, r) h)
 
+-- the word `async`, as an entry looks for it
+end_alike : (t : Tree) (c : Code) (s : State Input) → heads_arrow list_stream (async_end c t) s ≡ takes_name c t s.source
+end_alike (ident p n) c s = by_word (bytes_eq n (codes "async"))
+  where
+    by_word : (b : Bool) → heads_arrow list_stream (if b then Some c else None) s ≡ (b && names_next c s.source)
+    by_word true = refl
+    by_word false = refl
+end_alike (assign_expr p op a e) c s = end_alike e c s
+end_alike (cond_expr p a b d) c s = end_alike d c s
+end_alike (arrow_expr p ps b i) c s = end_alike b (in_arrow i c) s
+end_alike (yield_expr p e g) c s = end_alike e c s
+end_alike _ c s = refl
+
+last_alike : (ts : Trees) → last_tree ts ≡ final_tree ts
+last_alike none = refl
+last_alike (more t none) = refl
+last_alike (more t (more u ts)) = last_alike (more u ts)
+
+of_alike : (t : Tree) → last_of t ≡ final_of t
+of_alike (seq_expr p xs) = last_alike xs
+of_alike _ = refl
+
+no_arrow : (c : Code) (t : Tree) (r : State Input) → heads_arrow list_stream (async_end c (last_of t)) r ≡ false → takes_name c (final_of t) r.source ≡ false
+no_arrow c t r h = sym (ap (λ (u : Tree). takes_name c u r.source) (of_alike t)) ∙ (sym (end_alike (last_of t) c r) ∙ h)
+
+-- what passes a test that refuses
+refused_by : (x : Answer) (f : Tree × State Input → Bool) (t : Tree) (r : State Input) → (x >>= λ y. if f y then unexpected else Ok y) ≡ Ok (t, r) → f (t, r) ≡ false
+refused_by (Ok y) f t r h = by_test (f y) refl h
+  where
+    by_test : (b : Bool) → f y ≡ b → ◌≡◌ {A = Answer} (cond b unexpected (Ok y)) (Ok (t, r)) → f (t, r) ≡ false
+    by_test true i h = absurd (no_answer _ (t, r) h)
+    by_test false i h = subst (λ (z : Tree × State Input). f z ≡ false) (ap (λ z. found_or y z) h) i
+refused_by (Err e) f t r h = absurd (no_answer e (t, r) h)
+
 -- a test that refuses
 tested_by : (x : Answer) (f : Tree × State Input → Bool) (t : Tree) (r : State Input) → (x >>= λ y. if f y then unexpected else Ok y) ≡ Ok (t, r) → x ≡ Ok (t, r)
 tested_by (Ok y) f t r h = by_test (f y) h
@@ -78,11 +114,11 @@ stated_by limit (Err e) t r h = absurd (no_answer e (t, r) h)
 
 -- ---- each part
 
-expression_front : (limit : ℕ) (placed : Bool) (c : Code) (l : ℕ) → 1 ≤ l → l ≤ 2 → ReadsFronts Settled (expression_part list_stream l limit c) (Expression placed l c) (Expression false l c) limit
+expression_front : (limit : ℕ) (placed : Bool) (c : Code) (l : ℕ) → 1 ≤ l → l ≤ 2 → ReadsFronts Anywhere (expression_part list_stream l limit c) (Expression placed l c) (Expression false l c) limit
 unfolding expression_part
 expression_front limit placed c l a b n ps t r named order h w =
     let p = passed_by limit ((readers list_stream limit).expr c l (at_list n ps [])) t r (tested_by _ (λ y. heads_arrow list_stream (async_end c (last_of y.0)) y.1) t r h) in
-    let z = expressions_end limit placed c l n ps t r a b named order p.answered w in
+    let z = expressions_settle limit placed c l n ps t r a b named order p.answered (no_arrow c t r (refused_by ((readers list_stream limit).expr c l (at_list n ps []) >>= settled list_stream limit) (λ y. heads_arrow list_stream (async_end c (last_of y.0)) y.1) t r h)) in
     record { derived = z.0; complete = z.1; within = p.within; clean = p.clean }
 
 binding_front : (limit : ℕ) (placed : Bool) (c : Code) → ReadsFronts Anywhere (binding_part list_stream limit c) (Binding placed c) (Binding false c) limit

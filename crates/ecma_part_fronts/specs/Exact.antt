@@ -1,5 +1,5 @@
 -- Each complete front is what an entry for a part of a program reads (`ecma_parse_parts`), within the limit.
-use Rattle.std.specs.Prelude.{◌≡◌, ◌≤◌, ℕ, Bool, true, false, List, [], Ok}
+use Rattle.std.specs.Prelude.{◌≡◌, ◌≤◌, ℕ, true, false, List, [], Ok}
 use Rattle.ecma_tree.specs.Tree.{Tree}
 use Rattle.ecma_nesting.specs.Nesting.{nesting}
 use Rattle.ecma_syntax.specs.Input.{PlacedToken, Input, Code}

@@ -8,7 +8,7 @@ use Rattle.ecma_syntax.specs.Shape.{ends, is_clean}
 use Rattle.ecma_reading.specs.Source.{State, Read, list_stream}
 use Rattle.ecma_grammar_complete_base.specs.Laws.{InOrder, Follow}
 use Rattle.ecma_sources.specs.Ahead.{Named, at_list}
-use Rattle.ecma_complete_fronts.specs.Laws.{input_at, IsComplete, Expression, Binding, Key, Statement, ListItem, ModuleItem, Settled, Whatever, Apart}
+use Rattle.ecma_complete_fronts.specs.Laws.{input_at, IsComplete, Expression, Binding, Key, Statement, ListItem, ModuleItem, Whatever, Apart}
 use Rattle.ecma_parse_parts.specs.Ends.{async_end, heads_arrow, last_of}
 use Rattle.ecma_parse_parts.specs.Parts.{expression_part, binding_part, key_part}
 use Rattle.ecma_parse_parts.specs.Items.{statement_part, list_item_part, module_item_part}
@@ -27,7 +27,7 @@ abbrev pub Anywhere : Tree → List PlacedToken → Type 0
 Anywhere t ps = Unit {0}
 
 pub record EachIsFront (limit : ℕ) (placed : Bool) (c : Code) : Type 0 where
-  pub expressions : (l : ℕ) → 1 ≤ l → l ≤ 2 → ReadsFronts Settled (expression_part list_stream l limit c) (Expression placed l c) (Expression false l c) limit
+  pub expressions : (l : ℕ) → 1 ≤ l → l ≤ 2 → ReadsFronts Anywhere (expression_part list_stream l limit c) (Expression placed l c) (Expression false l c) limit
   pub bindings : ReadsFronts Anywhere (binding_part list_stream limit c) (Binding placed c) (Binding false c) limit
   pub keys : ReadsFronts Anywhere (key_part list_stream limit c) (Key placed c) (Key false c) limit
   pub statements : ReadsFronts Anywhere (statement_part list_stream limit c) (Statement placed c) (Statement false c) limit

@@ -1,0 +1,40 @@
+-- The word `async` at the end of an expression, before a name: where an assignment may stand an arrow goes on with it.
+use Rattle.std.specs.Prelude.{◌≡◌, ◌≤◌, ◌<◌, ℕ, Bool, false, not, ◌&&◌, List, [], Ok, codes, bytes_eq}
+use Rattle.ecma_tree.specs.Tree.{Tree, Trees, none, more, ident, seq_expr, assign_expr, cond_expr, arrow_expr, yield_expr, absent}
+use Rattle.ecma_syntax.specs.Input.{PlacedToken, Input, Code, kind, brk, is_word, no_name, barred, in_arrow}
+use Rattle.ecma_syntax.specs.Operators.{goes_expr}
+use Rattle.ecma_syntax.specs.Shape.{ends}
+use Rattle.ecma_reading.specs.Source.{State, list_stream}
+use Rattle.ecma_reading.specs.Reading.{readers}
+use Rattle.ecma_grammar_complete_base.specs.Laws.{InOrder}
+use Rattle.ecma_sources.specs.Ahead.{Named, at_list}
+use Rattle.ecma_complete_fronts.specs.Laws.{input_at, IsComplete, Expression}
+
+-- a name in the code stands on its line
+abbrev pub names_next : Code → Input → Bool
+names_next c r = not (brk r) && (is_word (kind r) && (not (no_name c.context (kind r)) && not (barred c.context r)))
+
+-- The last operand of an AssignmentExpression is the word `async`, and such a name stands there (15.9).
+abbrev pub takes_name : Code → Tree → Input → Bool
+takes_name c (ident s n) r = bytes_eq n (codes "async") && names_next c r
+takes_name c (assign_expr s op p e) r = takes_name c e r
+takes_name c (cond_expr s a b d) r = takes_name c d r
+takes_name c (arrow_expr s ps b i) r = takes_name (in_arrow i c) b r
+takes_name c (yield_expr s e g) r = takes_name c e r
+takes_name c _ r = false
+
+-- the last of some trees, and that of a sequence
+abbrev pub last_tree : Trees → Tree
+last_tree none = absent
+last_tree (more t none) = t
+last_tree (more t (more u ts)) = last_tree (more u ts)
+
+abbrev pub last_of : Tree → Tree
+last_of (seq_expr s xs) = last_tree xs
+last_of t = t
+
+-- What is read as an expression is derived from a complete front, and the next token doesn't go on with it; but where an arrow may go on so.
+abbrev pub ExpressionsSettle : Type 0
+ExpressionsSettle = (depth : ℕ) (placed : Bool) (c : Code) (l n : ℕ) (ps : List PlacedToken) (t : Tree) (r : State Input) → 1 ≤ l → l ≤ 2 → Named ps → InOrder n ps
+    → (readers list_stream depth).expr c l (at_list n ps []) ≡ Ok (t, r) → takes_name c (last_of t) r.source ≡ false
+    → Expression false l c t (input_at n ps) r.source × IsComplete (Expression placed l c) n ps r.source.places × (goes_expr c (ends t) r.source < l)
