@@ -29,11 +29,12 @@ class Ask(NamedTuple):
 
 
 class Run(NamedTuple):
-    """A run of the command line: its words, standard input, and the folder that it runs in."""
+    """A run of the command line: its words, standard input, the folder that it runs in, and its KB of stack, where it has less than others."""
 
     words: tuple
     text: bytes = b""
     folder: str = None
+    stack: int = None
 
 
 class Ran(NamedTuple):
@@ -115,8 +116,9 @@ def ask_batch(path, questions):
 def run_once(path, question):
     """What the command line does."""
     how = {"input": question.text, "capture_output": True, "cwd": question.folder, "timeout": RUN_SECONDS}
+    limited = ["/bin/sh", "-c", f'ulimit -s {question.stack} && exec "$0" "$@"'] if question.stack else []
     try:
-        ran = subprocess.run([path, *question.words], **how)
+        ran = subprocess.run([*limited, path, *question.words], **how)
     except subprocess.TimeoutExpired:
         return Refused(f"the program had not ended after {RUN_SECONDS} seconds")
     return Ran(ran.returncode, ran.stdout, ran.stderr)

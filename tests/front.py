@@ -106,12 +106,12 @@ def nesting(row):
 
 
 def deepest(row):
-    """So many of a kind in one another are taken in both styles, as the text itself and as one that is minified to it; one more is
-    too deep. The fields: what opens, what stands inside, what closes, how many, and what stands before and behind all."""
+    """So many of a kind in one another are taken in both styles on 8 MB of stack, as the text itself and as one that is minified to it;
+    one more is too deep. The fields: what opens, what stands inside, what closes, how many, and what stands before and behind all."""
     opens, inside, closes, count, before, behind = (row.field(it) if it < len(row.fields) else b"" for it in range(6))
     text, more = (before + opens * it + inside + closes * it + behind for it in (int(count), int(count) + 1))
     minify = ("--script", "--minify", "--nesting", "4096")
-    asked = [Run(minify, text), Run(("--script", "--indent", "0", "--nesting", "4096"), text), Run(minify, more)]
+    asked = [Run(minify, text, stack=8192), Run(("--script", "--indent", "0", "--nesting", "4096"), text, stack=8192), Run(minify, more)]
     minified, formatted, deeper = map(ran, (yield asked))
     if (deeper.status, deeper.out, deeper.err) != (1, b"", TOO_DEEP):
         return f"one more is taken, or refused otherwise: {deeper.err.decode(errors='replace')}"
