@@ -1,16 +1,16 @@
-//! Arrays and objects.
+//! Arrays.
 ghost use Rattle.std.specs.Prelude.{◌≡◌};
 ghost use Rattle.ecma_tree.specs.Tree.{trees_by};
-ghost use Rattle.ecma_node.specs.View.{view_array_lit, view_object_lit};
+ghost use Rattle.ecma_node.specs.View.{view_array_lit};
 ghost use Rattle.ecma_layout.specs.Looks.{◌·◌, when};
 ghost use Rattle.ecma_layout.specs.Layout.{indented, separated, comma, comma_line, ends_with_hole};
 ghost use Rattle.ecma_print_pieces.specs.Prints.{Prints};
 
-use crate::lists::{Between, print_indented_list, print_separated};
+use crate::lists::{Between, print_separated};
 use crate::patterns::print_last_hole;
 use crate::print::{Print, PrintElement, PrintPart};
 use ecma_layout::{Look, Stand};
-use ecma_node::{ArrayLitOf, ObjectLitOf};
+use ecma_node::ArrayLitOf;
 use ecma_print_pieces::{Printer, Text};
 use ecma_write::WriteJs;
 
@@ -41,17 +41,5 @@ impl<T: PrintPart> Print for ArrayLitOf<T> {
         print_elements(self.elems.as_slice(), p, look);
         p.text(Text::RightBracket);
         p.end(self.span);
-    }
-}
-
-impl<T: PrintPart> Print for ObjectLitOf<T> {
-    ghost tree = { view_object_lit T.tree };
-
-    fn print<W: WriteJs>(&self, p: &mut Printer<W>, look: Look, _stand: Stand) {
-        p.start(self.span);
-        p.text(Text::LeftBrace);
-        print_indented_list(self.props.as_slice(), p, look);
-        p.last(self.span);
-        p.brace();
     }
 }

@@ -14,11 +14,11 @@ ghost use Rattle.ecma_print_nodes.specs.Chains.{object_laid};
 ghost use Rattle.ecma_print_nodes.specs.Spines.{before_laid, left_laid, lines_laid, rights_laid, stand_below};
 ghost use Rattle.ecma_print_nodes.specs.Sorts.{expression, is_expression, is_pattern, is_statement, pattern, sort_of, statement};
 
-use crate::branches::{print_consequence, print_else};
 use crate::chains::{
     keeps_text, print_call_arguments, print_name, print_number_object, print_optional_arguments,
     print_optional_name,
 };
+use crate::ifs::{print_consequence, print_else};
 use crate::operators::{marks_operator, print_right_operand};
 use crate::print::{Print, PrintItem, PrintPart};
 use crate::templates::print_tagged;

@@ -1,7 +1,7 @@
 //! Patterns.
 ghost use Rattle.std.specs.Prelude.{◌≡◌, true, false, not};
 ghost use Rattle.ecma_tree.specs.Tree.{trees_by};
-ghost use Rattle.ecma_node.specs.View.{view_array_pat, view_rest_pat, view_assign_pat};
+ghost use Rattle.ecma_node.specs.View.{view_array_pat, view_rest_pat, view_assign_pat, view_object_pat};
 ghost use Rattle.ecma_layout.specs.Looks.{◌·◌, when, gap};
 ghost use Rattle.ecma_layout.specs.Layout.{ends_with_hole, separated, comma, is_empty};
 ghost use Rattle.ecma_print_pieces.specs.Prints.{Prints};
@@ -9,7 +9,7 @@ ghost use Rattle.ecma_print_pieces.specs.Prints.{Prints};
 use crate::lists::{Between, print_separated};
 use crate::print::{Print, PrintElement, PrintPart};
 use ecma_layout::{Look, Stand};
-use ecma_node::{ArrayPatOf, AssignPatOf, RestPatOf};
+use ecma_node::{ArrayPatOf, AssignPatOf, ObjectPatOf, RestPatOf};
 use ecma_print_pieces::{Printer, Text};
 use ecma_write::WriteJs;
 
@@ -68,6 +68,18 @@ impl<T: PrintPart> Print for AssignPatOf<T> {
         p.text(Text::Equals);
         p.gap(look);
         self.right.print(p, look, Stand::Alone);
+        p.end(self.span);
+    }
+}
+
+impl<T: PrintPart> Print for ObjectPatOf<T> {
+    ghost tree = { view_object_pat T.tree };
+
+    fn print<W: WriteJs>(&self, p: &mut Printer<W>, look: Look, _stand: Stand) {
+        p.start(self.span);
+        p.text(Text::LeftBrace);
+        print_properties(self.props.as_slice(), p, look);
+        p.brace();
         p.end(self.span);
     }
 }

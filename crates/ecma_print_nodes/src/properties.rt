@@ -1,15 +1,14 @@
-//! Parts of objects.
+//! Properties of objects and of patterns.
 ghost use Rattle.std.specs.Prelude.{◌≡◌};
-ghost use Rattle.ecma_node.specs.View.{view_assign_pat_prop, view_assign_prop, view_getter_prop, view_key_value_pat_prop, view_key_value_prop, view_method_prop, view_object_pat, view_object_pat_prop, view_prop, view_prop_or_spread, view_setter_prop, view_spread_element};
+ghost use Rattle.ecma_node.specs.View.{view_assign_pat_prop, view_assign_prop, view_getter_prop, view_key_value_pat_prop, view_key_value_prop, view_method_prop, view_object_pat_prop, view_prop, view_prop_or_spread, view_setter_prop, view_spread_element};
 
 use crate::functions::print_marks;
 use crate::keys::{is_bracketed, key_span};
-use crate::patterns::print_properties;
 use crate::print::{Print, PrintPart, print_in_parens, print_initial};
 use ecma_layout::{Look, Stand};
 use ecma_node::{
     AssignPatPropOf, AssignPropOf, GetterPropOf, KeyValuePatPropOf, KeyValuePropOf, MethodPropOf,
-    ObjectPatOf, ObjectPatPropOf, PropOf, PropOrSpreadOf, SetterPropOf, SpreadElementOf,
+    ObjectPatPropOf, PropOf, PropOrSpreadOf, SetterPropOf, SpreadElementOf,
 };
 use ecma_print_pieces::{Printer, Text};
 use ecma_write::WriteJs;
@@ -149,17 +148,5 @@ impl<T: PrintPart> Print for ObjectPatPropOf<T> {
             ObjectPatPropOf::Assign(x) => x.print(p, look, stand),
             ObjectPatPropOf::Rest(x) => x.print(p, look, stand),
         }
-    }
-}
-
-impl<T: PrintPart> Print for ObjectPatOf<T> {
-    ghost tree = { view_object_pat T.tree };
-
-    fn print<W: WriteJs>(&self, p: &mut Printer<W>, look: Look, _stand: Stand) {
-        p.start(self.span);
-        p.text(Text::LeftBrace);
-        print_properties(self.props.as_slice(), p, look);
-        p.brace();
-        p.end(self.span);
     }
 }
