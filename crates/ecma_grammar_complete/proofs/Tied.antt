@@ -2,7 +2,7 @@
 use Rattle.std.proofs.Common.{◌≡◌, ℕ, zero, suc, ◌<◌, ◌≤◌, Bool, true, false, ◌||◌, if◌then◌else◌, List, Option, Some, None, refl, sym, subst, true≢false, arith}
 use Rattle.ecma_token.specs.declared.place.Span.{Span}
 use Rattle.ecma_tree.specs.Tree.{Tree, Trees, block_stmt, empty_stmt, debugger_stmt, with_stmt, return_stmt, labeled_stmt, break_stmt, continue_stmt, if_stmt, switch_stmt, throw_stmt, try_stmt, while_stmt, do_while_stmt, for_stmt, for_in_stmt, for_of_stmt, expr_stmt, class_decl, fn_decl, var_decl, using_decl, fn_expr, class}
-use Rattle.ecma_syntax.specs.Input.{Input, Code, kind, span, has_in}
+use Rattle.ecma_syntax.specs.Input.{Input, Code, span, has_in}
 use Rattle.ecma_syntax.specs.Operators.{expression_level}
 use Rattle.ecma_syntax.specs.Shape.{level, ends, is_place, is_binding, is_item, is_statement, is_plain_function, class_span}
 use Rattle.ecma_grammar.specs.Functions.{Body}
@@ -69,7 +69,7 @@ pub record Facts (z d : ℕ) : Type 0 where
       → Reads (from ts k) ((readers lm d).expr c l (from ts k)) (Is t r) (d < reach t)
   pub head : (t : Tree) (p : Bool) (c : Code) (ts r : Input) (k : List ℕ) → Small z t → is_place false t ≡ true → Produces t (coded p c) ts r → ((e : ℕ) → e ≤ 1 → Follow c e 1 r) → Reads (from ts k) ((readers lm d).expr c expression_level (from ts k)) (IsHead t r) (d < reach t)
   pub pat : (t : Tree) (p : Bool) (c : Code) (ts r : Input) (k : List ℕ) → Small z t → is_binding t ≡ true → Produces t (patterned p c) ts r → Reads (from ts k) ((readers lm d).pat c (from ts k)) (Is t r) (d < reach t)
-  pub stmt : (t : Tree) (p : Bool) (c : Code) (ts r : Input) (k : List ℕ) → Small z t → allowed c t ≡ true → Produces t (coded p c) ts r → leaves t (kind r) ≡ true → Reads (from ts k) ((readers lm d).stmt c (from ts k)) (Is t r) (d < reach t)
+  pub stmt : (t : Tree) (p : Bool) (c : Code) (ts r : Input) (k : List ℕ) → Small z t → allowed c t ≡ true → Produces t (coded p c) ts r → leaves c.context t r ≡ true → Reads (from ts k) ((readers lm d).stmt c (from ts k)) (Is t r) (d < reach t)
   pub body : (s : Span) (ss : Trees) (p : Bool) (c : Code) (ts r : Input) (k : List ℕ) → Small z (block_stmt s ss) → Body (coded p c) s (children ss) ts r → Reads (from ts k) ((readers lm d).body c (from ts k)) (Is (block_stmt s ss) r) (d < reach (block_stmt s ss))
   pub class_tail : (t : Tree) (w : ℕ) (p : Bool) (c : Code) (ts r : Input) (k : List ℕ) → Small z t → has_in c ≡ true → class_span t ≡ Some (span w r.last) → Produces t (coded p c) ts r → Reads (from ts k) ((readers lm d).class_tail c w (from ts k)) (Is t r) (d < reach t)
 
@@ -87,7 +87,7 @@ deep_of z d f = record {
 
 -- ---- one step
 
-stmt_next : (z : ℕ) → ((e : ℕ) → Facts z e) → (d : ℕ) (t : Tree) (p : Bool) (c : Code) (ts r : Input) (k : List ℕ) → Small (suc z) t → allowed c t ≡ true → Produces t (coded p c) ts r → leaves t (kind r) ≡ true → Reads (from ts k) ((readers lm d).stmt c (from ts k)) (Is t r) (d < reach t)
+stmt_next : (z : ℕ) → ((e : ℕ) → Facts z e) → (d : ℕ) (t : Tree) (p : Bool) (c : Code) (ts r : Input) (k : List ℕ) → Small (suc z) t → allowed c t ≡ true → Produces t (coded p c) ts r → leaves c.context t r ≡ true → Reads (from ts k) ((readers lm d).stmt c (from ts k)) (Is t r) (d < reach t)
 unfolding readers
 stmt_next z f zero t p c ts r k sz a h q = too_deep _ _ (omega (arith, called_reach t (allowed_called c.listed t a)))
 stmt_next z f (suc d) t p c ts r k sz a h q = reads_deep (λ u. omega (arith, u, called_reach t (allowed_called c.listed t a))) (stmt_found (nested z d (f d)) p c ts k r t (inward z t sz) a h q)

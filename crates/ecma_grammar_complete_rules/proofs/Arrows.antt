@@ -192,7 +192,7 @@ module _ (inner : Inner Input) (c : Code) (lev : ℕ) (low : lev ≤ assignment_
   unfolding word_by async_by
   arrow_bare q x s e m n r P {Q = Q} is t o sp y f p = named_word inner c lev ts k (Is (arrow_expr s (more (binding_ident q (ident q x)) none) e false) r) Q is (⊎_elim
       (λ (w : kind ts ≡ async_kind). if_yes (eqb (kind ts) async_kind) _ _ _ _ (eq-eqb (kind ts) async_kind w)
-      (if_no ((kind (rest ts) == function_kind) && not (brk (rest ts))) _ _ _ _ (and_left (kind (rest ts) == function_kind) _ (no function_kind refl))
+      (if_no (((kind (rest ts) == function_kind) && not (brk (rest ts))) && not (barred c.context (rest ts))) _ _ _ _ (and_left _ _ (and_left (kind (rest ts) == function_kind) _ (no function_kind refl)))
       (if_no ((is_word (kind (rest ts)) && (not (no_name c.context (kind (rest ts))) && not (barred c.context (rest ts)))) && ((not (brk (rest ts)) && (kind2 (rest ts) == arrow_kind) && not (brk2 (rest ts))) && leb lev assignment_level)) _ _ _ _ (and_left _ _ (and_left (is_word (kind (rest ts))) _ no_word))
       (if_no ((kind (rest ts) == left_paren_kind) && not (brk (rest ts))) _ _ _ _ (and_left (kind (rest ts) == left_paren_kind) _ (no left_paren_kind refl))
       (onto ts m k (λ z. ident_end lm inner c lev (from ts k) (text ts) z) _ _ o (subst (λ (u : List ℕ). Reads (from m k) (ident_end lm inner c lev (from ts k) u (from m k)) (Is (arrow_expr s (more (binding_ident q (ident q x)) none) e false) r) Q) (sym t) (ident_arrow q x s e m n r P o sp y f p)))))))
@@ -236,7 +236,7 @@ module _ (inner : Inner Input) (c : Code) (lev : ℕ) (low : lev ≤ assignment_
       → Reads (from ts k) (prefix_by lm inner c lev (from ts k)) (Is (arrow_expr s ps e true) r) Q
   unfolding word_by async_by async_group
   async_paren ps s e m l o n r P R {Q = Q} a ba q nb g t y i b w f p = named_word inner c lev ts k (Is (arrow_expr s ps e true) r) Q (async_name a ba) (if_yes (eqb (kind ts) async_kind) _ _ _ _ (eq-eqb (kind ts) async_kind a)
-      (if_no ((kind (rest ts) == function_kind) && not (brk (rest ts))) _ _ _ _ (and_left (kind (rest ts) == function_kind) _ (no function_kind refl))
+      (if_no (((kind (rest ts) == function_kind) && not (brk (rest ts))) && not (barred c.context (rest ts))) _ _ _ _ (and_left _ _ (and_left (kind (rest ts) == function_kind) _ (no function_kind refl)))
       (if_no ((is_word (kind (rest ts)) && (not (no_name c.context (kind (rest ts))) && not (barred c.context (rest ts)))) && ((not (brk (rest ts)) && (kind2 (rest ts) == arrow_kind) && not (brk2 (rest ts))) && leb lev assignment_level)) _ _ _ _
       (and_left _ _ (and_left (is_word (kind (rest ts))) _ (subst (λ (u : ℕ). is_word u ≡ false) (sym at) refl)))
       (if_yes ((kind (rest ts) == left_paren_kind) && not (brk (rest ts))) _ _ _ _ (and_from _ _ (eq-eqb (kind (rest ts)) left_paren_kind at) (ap not line))
@@ -255,7 +255,7 @@ module _ (inner : Inner Input) (c : Code) (lev : ℕ) (low : lev ≤ assignment_
   -- what follows the word `async`
   abbrev async_rest : Input → Result (Tree × State Input) Fault
   async_rest i =
-      cond ((kind i == function_kind) && not (brk i)) (function_expr_by lm inner c (from ts k) true (from i k))
+      cond (((kind i == function_kind) && not (brk i)) && not (barred c.context i)) (function_expr_by lm inner c (from ts k) true (from i k))
       (cond ((is_word (kind i) && (not (no_name c.context (kind i)) && not (barred c.context i))) && ((not (brk i) && (kind2 i == arrow_kind) && not (brk2 i)) && leb lev assignment_level))
       (name lm c (from i k) >>= λ n. arrow_by lm inner c (from ts k) true (binding_ident (first_span i) (ident (first_span i) n.0) ∷ []) n.1)
       (cond ((kind i == left_paren_kind) && not (brk i)) (async_group lm inner c lev (from ts k) (from i k)) (ident_end lm inner c lev (from ts k) (text ts) (from i k))))
@@ -264,7 +264,7 @@ module _ (inner : Inner Input) (c : Code) (lev : ℕ) (low : lev ≤ assignment_
       → Reads (from ts k) (prefix_by lm inner c lev (from ts k)) (Is (arrow_expr s (more (binding_ident q (ident q x)) none) e true) r) Q
   unfolding word_by async_by
   async_bare q x s e m o n r P {Q = Q} a ba t nb is tx u sp w f p = named_word inner c lev ts k (Is (arrow_expr s (more (binding_ident q (ident q x)) none) e true) r) Q (async_name a ba) (if_yes (eqb (kind ts) async_kind) _ _ _ _ (eq-eqb (kind ts) async_kind a)
-      (onto_all (if_no ((kind m == function_kind) && not (brk m)) _ _ _ _ (and_left (kind m == function_kind) _ (ne_eqb (kind m) function_kind (λ i. true≢false (sym (ap always_reserved i) ∙ (or_parts (always_reserved (kind m)) _ is.1).0))))
+      (onto_all (if_no (((kind m == function_kind) && not (brk m)) && not (barred c.context m)) _ _ _ _ (and_left _ _ (and_left (kind m == function_kind) _ (ne_eqb (kind m) function_kind (λ i. true≢false (sym (ap always_reserved i) ∙ (or_parts (always_reserved (kind m)) _ is.1).0)))))
       (if_yes ((is_word (kind m) && (not (no_name c.context (kind m)) && not (barred c.context m))) && ((not (brk m) && (kind2 m == arrow_kind) && not (brk2 m)) && leb lev assignment_level)) _ _ _ _
       (and_from _ _ (named c m k is) (and_from _ _ (all (not (brk m)) (kind2 m == arrow_kind) (not (brk2 m)) (ap not nb) two three) (le-leb lev assignment_level low)))
       (then_name c m o x k _ _ Q is tx u (subst (λ (i : Span). Reads (from o k) (arrow_by lm inner c (from ts k) true (binding_ident (first_span m) (ident (first_span m) x) ∷ []) (from o k)) (Is (arrow_expr s (more (binding_ident i (ident i x)) none) e true) r) Q) (first_at m o q u sp)

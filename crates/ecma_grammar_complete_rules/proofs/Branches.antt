@@ -89,7 +89,7 @@ module _ (z : Nested) (p : Bool) where
   abbrev On : List Branch → Code → Tree → Tree → Input → Input → (Step Chain × State Input → Type 0) → Type 0 → Type 0
   On bs y e a o w V Q = (i : List ℕ) → Reads (from w i) (cond (kind w == else_kind) (eat_word lm y else_kind (from w i) >>= λ u. else_by lm z.inner (chain (bs ++ branch o e a ∷ []) y absent) u) (Ok (finished (chain (bs ++ branch o e a ∷ []) y absent), from w i))) V Q
 
-  branch_read : (bs : List Branch) (y : Code) (e a : Tree) (o m n w : Input) (j : List ℕ) (V : Step Chain × State Input → Type 0) (Q : Type 0) → z.Covered e → z.Covered a → TakesWord (coded p y) if_kind o m → InParens (coded p y) (child e (λ y. Produces e y)) m n → SubOrFunction (coded p y) (child a (λ y. Produces a y)) n w → leaves a (kind w) ≡ true
+  branch_read : (bs : List Branch) (y : Code) (e a : Tree) (o m n w : Input) (j : List ℕ) (V : Step Chain × State Input → Type 0) (Q : Type 0) → z.Covered e → z.Covered a → TakesWord (coded p y) if_kind o m → InParens (coded p y) (child e (λ y. Produces e y)) m n → SubOrFunction (coded p y) (child a (λ y. Produces a y)) n w → leaves y.context a w ≡ true
       → (z.depth < z.reach e → Q) → (z.depth < z.reach a → Q) → On bs y e a o w V Q → Reads (from o j) (if_step lm z.inner (chain bs y absent) (from o j)) V Q
   unfolding if_step
   branch_read bs y e a o m n w j V Q ge ga t h v q f g k = then_word y if_kind o m j _ _ _ t.0 t.1 t.3 (then_is (in_parens lm z.inner y (from m j)) _ e n (z.depth < z.reach e) _ _ (parens_found z p y e m n j ge h) f
@@ -101,7 +101,7 @@ module _ (z : Nested) (p : Bool) where
   else_if bs y e a o w x Q t f i = if_yes (kind w == else_kind) _ _ _ _ (eq-eqb (kind w) else_kind t.0) (then_word y else_kind w x i _ _ _ t.0 t.1 t.3 (if_yes (kind x == if_kind) _ _ _ _ (eq-eqb (kind x) if_kind f) (here refl)))
 
   -- `else` and anything else
-  else_other : (bs : List Branch) (y : Code) (e a b : Tree) (o w x r : Input) (Q : Type 0) → z.Covered b → TakesWord (coded p y) else_kind w x → SubOrFunction (coded p y) (child b (λ y. Produces b y)) x r → is_if b ≡ false → leaves b (kind r) ≡ true → (z.depth < z.reach b → Q)
+  else_other : (bs : List Branch) (y : Code) (e a b : Tree) (o w x r : Input) (Q : Type 0) → z.Covered b → TakesWord (coded p y) else_kind w x → SubOrFunction (coded p y) (child b (λ y. Produces b y)) x r → is_if b ≡ false → leaves y.context b r ≡ true → (z.depth < z.reach b → Q)
       → On bs y e a o w (Is (finished (chain (bs ++ branch o e a ∷ []) y b)) r) Q
   unfolding else_by
   else_other bs y e a b o w x r Q g t v n q f i = if_yes (kind w == else_kind) _ _ _ _ (eq-eqb (kind w) else_kind t.0) (then_word y else_kind w x i _ _ _ t.0 t.1 t.3
@@ -114,21 +114,21 @@ module _ (z : Nested) (p : Bool) where
   made : (bs : List Branch) (s : Span) (e a b : Tree) (o r : Input) → s ≡ span (lo o) r.last → chained r.last (bs ++ branch o e a ∷ []) b ≡ chained r.last bs (if_stmt s e a b)
   made bs s e a b o r h = chained_snoc r.last bs (branch o e a) b ∙ ap (λ (v : Span). chained r.last bs (if_stmt v e a b)) (sym h)
 
-  if_loop : (s : Span) (e a b : Tree) (bs : List Branch) (y : Code) (o r : Input) (j : List ℕ) (n : ℕ) → Within z.Covered (if_stmt s e a b) → Produces (if_stmt s e a b) (coded p y) o r → leaves (if_stmt s e a b) (kind r) ≡ true → within z.reach (if_stmt s e a b) ≤ n
+  if_loop : (s : Span) (e a b : Tree) (bs : List Branch) (y : Code) (o r : Input) (j : List ℕ) (n : ℕ) → Within z.Covered (if_stmt s e a b) → Produces (if_stmt s e a b) (coded p y) o r → leaves y.context (if_stmt s e a b) r ≡ true → within z.reach (if_stmt s e a b) ≤ n
       → Loops (if_step lm z.inner) (chain bs y absent) o j (Makes (chained r.last bs (if_stmt s e a b)) r) (z.depth < n)
   if_loop s e a (if_stmt q f d b) bs y o r j n g h u le =
       loop_on (if_step lm z.inner) (chain bs y absent) (chain (bs ++ branch o e a ∷ []) (alone y) absent) o h.6.0 j (z.depth < n) _ _
-      (branch_read bs y e a o h.0 h.1 h.2 j _ _ g.0 g.1 h.3 h.4 h.5 (follows a (kind h.2) (follows_at h.2 else_kind h.6.1.0 refl)) (λ v. omega arith) (λ v. omega arith) (else_if bs y e a o h.2 h.6.0 (z.depth < n) h.6.1 h.6.2.1.3.0)) (λ v. v)
+      (branch_read bs y e a o h.0 h.1 h.2 j _ _ g.0 g.1 h.3 h.4 h.5 (follows y.context a h.2 (follows_at h.2 else_kind h.6.1.0 refl)) (λ v. omega arith) (λ v. omega arith) (else_if bs y e a o h.2 h.6.0 (z.depth < n) h.6.1 h.6.2.1.3.0)) (λ v. v)
       (omega (arith, takes if_kind o h.0 h.3.0 (omega arith) h.3.3, takes left_paren_kind h.0 h.4.0 h.4.2.0 (omega arith) h.4.2.2, cut e _ h.4.0 h.4.1 h.4.3.1, takes right_paren_kind h.4.1 h.1 h.4.4.0 (omega arith) h.4.4.2, cut a _ h.1 h.2 h.5.1, takes else_kind h.2 h.6.0 h.6.1.0 (omega arith) h.6.1.3))
       (λ l. subst (λ (t : Tree). Loops (if_step lm z.inner) (chain (bs ++ branch o e a ∷ []) (alone y) absent) h.6.0 l (Makes t r) (z.depth < n)) (made bs s e a (if_stmt q f d b) o r h.7)
       (if_loop q f d b (bs ++ branch o e a ∷ []) (alone y) h.6.0 r l n g.2 h.6.2.1 u (omega (arith, le))))
   if_loop s e a b bs y o r j n g h u le =
       loop_end (if_step lm z.inner) (chain bs y absent) (chain (bs ++ branch o e a ∷ []) y b) o r j (z.depth < n) _ _
-      (branch_read bs y e a o h.0 h.1 h.2 j _ _ g.0 g.1 h.3 h.4 h.5 (by_cases (is_absent b) ((kind h.2 ≡ else_kind → ⊥) × (h.2 ≡ r)) ((x : Input) × TakesWord (coded p y) else_kind h.2 x × SubOrFunction (coded p y) (child b (λ y. Produces b y)) x r) (leaves a (kind h.2) ≡ true) h.6 (λ c x. subst (λ (d : Input). leaves a (kind d) ≡ true) (sym x.1) (first_leaves (is_absent b) (leaves a (kind r)) (leaves b (kind r)) c u)) (λ c x. follows a (kind h.2) (follows_at h.2 else_kind x.1.0 refl))) (λ v. omega (arith, le)) (λ v. omega (arith, le))
-      (by_cases (is_absent b) ((kind h.2 ≡ else_kind → ⊥) × (h.2 ≡ r)) ((x : Input) × TakesWord (coded p y) else_kind h.2 x × SubOrFunction (coded p y) (child b (λ y. Produces b y)) x r) (On bs y e a o h.2 (Is (finished (chain (bs ++ branch o e a ∷ []) y b)) r) (z.depth < n)) h.6 (λ c x. no_else bs y e a b o h.2 r (z.depth < n) c x.0 x.1) (λ c x. else_other bs y e a b o h.2 x.0 r (z.depth < n) g.2 x.1 x.2 refl (second_leaves (is_absent b) (leaves a (kind r)) (leaves b (kind r)) c u) (λ v. omega (arith, le))))) (λ v. v)
+      (branch_read bs y e a o h.0 h.1 h.2 j _ _ g.0 g.1 h.3 h.4 h.5 (by_cases (is_absent b) ((kind h.2 ≡ else_kind → ⊥) × (h.2 ≡ r)) ((x : Input) × TakesWord (coded p y) else_kind h.2 x × SubOrFunction (coded p y) (child b (λ y. Produces b y)) x r) (leaves y.context a h.2 ≡ true) h.6 (λ c x. subst (λ (d : Input). leaves y.context a d ≡ true) (sym x.1) (first_leaves (is_absent b) (leaves y.context a r) (leaves y.context b r) c u)) (λ c x. follows y.context a h.2 (follows_at h.2 else_kind x.1.0 refl))) (λ v. omega (arith, le)) (λ v. omega (arith, le))
+      (by_cases (is_absent b) ((kind h.2 ≡ else_kind → ⊥) × (h.2 ≡ r)) ((x : Input) × TakesWord (coded p y) else_kind h.2 x × SubOrFunction (coded p y) (child b (λ y. Produces b y)) x r) (On bs y e a o h.2 (Is (finished (chain (bs ++ branch o e a ∷ []) y b)) r) (z.depth < n)) h.6 (λ c x. no_else bs y e a b o h.2 r (z.depth < n) c x.0 x.1) (λ c x. else_other bs y e a b o h.2 x.0 r (z.depth < n) g.2 x.1 x.2 refl (second_leaves (is_absent b) (leaves y.context a r) (leaves y.context b r) c u) (λ v. omega (arith, le))))) (λ v. v)
       (λ l. (made bs s e a b o r h.7, refl))
 
-  pub if_found : (c : Code) (ts : Input) (k : List ℕ) (r : Input) (s : Span) (e a b : Tree) → Within z.Covered (if_stmt s e a b) → Produces (if_stmt s e a b) (coded p c) ts r → leaves (if_stmt s e a b) (kind r) ≡ true → Reads (from ts k) (if_by lm z.inner c (from ts k)) (Is (if_stmt s e a b) r) (z.depth < within z.reach (if_stmt s e a b))
+  pub if_found : (c : Code) (ts : Input) (k : List ℕ) (r : Input) (s : Span) (e a b : Tree) → Within z.Covered (if_stmt s e a b) → Produces (if_stmt s e a b) (coded p c) ts r → leaves c.context (if_stmt s e a b) r ≡ true → Reads (from ts k) (if_by lm z.inner c (from ts k)) (Is (if_stmt s e a b) r) (z.depth < within z.reach (if_stmt s e a b))
   unfolding if_by
   if_found c ts k r s e a b g h q = then_reads _ _ (Makes (if_stmt s e a b) r) (z.depth < within z.reach (if_stmt s e a b)) _ _ (looped (if_step lm z.inner) (chain [] c absent) ts k _ _ (if_loop s e a b [] c ts r k (within z.reach (if_stmt s e a b)) g h q (omega arith))) (λ u. u)
       (λ y v. ended (chained y.1.source.last y.0.branches y.0.last, y.1) (Is (if_stmt s e a b) r) _ (ap (λ (w : Input). chained w.last y.0.branches y.0.last) v.1 ∙ v.0, v.1))

@@ -38,7 +38,7 @@ async_call : (inner : Inner Input) (c : Code) (lev : ℕ) (ts : Input) (k : List
 unfolding word_by async_by async_group elements_by element_step element_by
 async_call inner c lev ts k q s x xs r P {Q = Q} i e t f g b y u a p =
     named_word inner c lev ts k (Is (call_expr s (ident q x) xs) r) Q i (if_yes (eqb (kind ts) async_kind) _ _ _ _ (eq-eqb (kind ts) async_kind e)
-    (if_no ((kind (rest ts) == function_kind) && not (brk (rest ts))) _ _ _ _ (and_left (kind (rest ts) == function_kind) _ (subst (λ (n : ℕ). eqb n function_kind ≡ false) (sym g) refl))
+    (if_no (((kind (rest ts) == function_kind) && not (brk (rest ts))) && not (barred c.context (rest ts))) _ _ _ _ (and_left _ _ (and_left (kind (rest ts) == function_kind) _ (subst (λ (n : ℕ). eqb n function_kind ≡ false) (sym g) refl)))
     (if_no ((is_word (kind (rest ts)) && (not (no_name c.context (kind (rest ts))) && not (barred c.context (rest ts)))) && ((not (brk (rest ts)) && (kind2 (rest ts) == arrow_kind) && not (brk2 (rest ts))) && leb lev assignment_level)) _ _ _ _
     (and_left _ _ (and_left (is_word (kind (rest ts))) _ (subst (λ (n : ℕ). is_word n ≡ false) (sym g) refl)))
     (if_yes ((kind (rest ts) == left_paren_kind) && not (brk (rest ts))) _ _ _ _ (and_from _ _ (eq-eqb (kind (rest ts)) left_paren_kind g) (ap not b))

@@ -104,11 +104,11 @@ module _ (z : Nested) (p : Bool) (c : Code) where
     unfolding export_default
     default_function q x t ps ds b g false w h = let y = function_expressed z p c q x t ps ds b g false ts r k w h in
         if_yes (kind ts == function_kind) _ _ _ _ (eq-eqb (kind ts) function_kind (ap (λ (d : Input). kind d) y.1 ∙ y.2))
-        (then_is (function_expr_by lm z.inner c (from ts k) false (from ts k)) _ (fn_expr q x (function t ps ds b g false)) r _ _ _ (subst (λ (d : Input). Reads (from d k) (function_expr_by lm z.inner c (from ts k) false (from d k)) (Is (fn_expr q x (function t ps ds b g false)) r) (z.depth < within z.reach (function t ps ds b g false))) (sym y.1) (y.3 k)) (λ u. u)
+        (then_is (function_expr_by lm z.inner c (from ts k) false (from ts k)) _ (fn_expr q x (function t ps ds b g false)) r _ _ _ (subst (λ (d : Input). Reads (from d k) (function_expr_by lm z.inner c (from ts k) false (from d k)) (Is (fn_expr q x (function t ps ds b g false)) r) (z.depth < within z.reach (function t ps ds b g false))) (sym y.1) (y.4 k)) (λ u. u)
         (λ j. here (ap (λ (d : Span). export_default_decl d (fn_expr q x (function t ps ds b g false))) (sym e))))
     default_function q x t ps ds b g true w h = let y = function_expressed z p c q x t ps ds b g true ts r k w h in
         if_no (kind ts == function_kind) _ _ _ _ (subst (λ (n : ℕ). eqb n function_kind ≡ false) (sym y.1.0.0) refl) (if_yes (starts_async lm z.inner (from ts k)) _ _ _ _ (async_on z.inner (coded p c) ts y.0 r k y.1 y.2)
-        (then_is (function_expr_by lm z.inner c (from ts k) true (from (rest ts) k)) _ (fn_expr q x (function t ps ds b g true)) r _ _ _ (onto ts y.0 k (λ d. function_expr_by lm z.inner c (from ts k) true d) _ _ y.1.0.3 (y.3 k)) (λ u. u)
+        (then_is (function_expr_by lm z.inner c (from ts k) true (from (rest ts) k)) _ (fn_expr q x (function t ps ds b g true)) r _ _ _ (onto ts y.0 k (λ d. function_expr_by lm z.inner c (from ts k) true d) _ _ y.1.0.3 (y.4 k)) (λ u. u)
         (λ j. here (ap (λ (d : Span). export_default_decl d (fn_expr q x (function t ps ds b g true))) (sym e)))))
 
     default_class : (q : Span) (x t : Tree) → Within z.Covered (class_expr q x t) → Produces (class_expr q x t) (coded p c) ts r → Reads (from ts k) (export_default lm z.inner c (from start i) (from ts k)) (Is (export_default_decl s (class_expr q x t)) r) (z.depth < within z.reach (class_expr q x t))
@@ -139,7 +139,7 @@ module _ (z : Nested) (p : Bool) (c : Code) where
 
   -- ---- declarations
 
-  pub declaration_found : (s : Span) (d : Tree) (ts r : Input) (k : List ℕ) → z.Covered d → Produces (export_decl s d) (coded p c) ts r → leaves d (kind r) ≡ true → Reads (from ts k) (export_by lm z.inner c (from ts k)) (Is (export_decl s d) r) (z.depth < z.reach d)
+  pub declaration_found : (s : Span) (d : Tree) (ts r : Input) (k : List ℕ) → z.Covered d → Produces (export_decl s d) (coded p c) ts r → leaves c.context d r ≡ true → Reads (from ts k) (export_by lm z.inner c (from ts k)) (Is (export_decl s d) r) (z.depth < z.reach d)
   unfolding export_by
   declaration_found s d ts r k g h f = let q = declared_kind d (in_list (coded p c)) h.0 r h.2 h.3 in
       then_word c export_kind ts h.0 k _ _ _ h.1.0 h.1.1 h.1.3 (if_no (kind h.0 == default_kind) _ _ _ _ (no_kind declares (kind h.0) default_kind q refl) (if_no (kind h.0 == mul_kind) _ _ _ _ (no_kind declares (kind h.0) mul_kind q refl)

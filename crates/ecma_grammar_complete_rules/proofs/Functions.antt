@@ -213,12 +213,13 @@ module _ (z : Nested) (p : Bool) (c : Code) where
   paren_first f ts r t ps ds _ g a e h = absurd h
 
   pub function_expressed : (s : Span) (x : Tree) (t : Span) (ps ds : Trees) (b : Tree) (g a : Bool) (ts r : Input) (k : List ℕ) → Within z.Covered (function t ps ds b g a) → Produces (fn_expr s x (function t ps ds b g a)) (coded p c) ts r
-      → (m : Input) × Async a (coded p c) ts m × (kind m ≡ function_kind) × ((j : List ℕ) → Reads (from m j) (function_expr_by lm z.inner c (from ts k) a (from m j)) (Is (fn_expr s x (function t ps ds b g a)) r) (z.depth < within z.reach (function t ps ds b g a)))
+      → (m : Input) × Async a (coded p c) ts m × (kind m ≡ function_kind) × (barred c.context m ≡ false) × ((j : List ℕ) → Reads (from m j) (function_expr_by lm z.inner c (from ts k) a (from m j)) (Is (fn_expr s x (function t ps ds b g a)) r) (z.depth < within z.reach (function t ps ds b g a)))
   unfolding function_expr_by
   function_expressed s x t ps ds b g a ts r k w h = (
     h.2.0,
     h.2.2,
     h.2.3.0,
+    h.2.3.1,
     λ j. then_word c function_kind h.2.0 h.2.1 j _ _ _ h.2.3.0 h.2.3.1 h.2.3.3 (by_cases (is_absent x) _ _ _ h.3
         (λ e y. let q : kind h.0 ≡ left_paren_kind = ap (λ (d : Input). kind d) y ∙ paren_first (function t ps ds b g a) h.1 r t ps ds b g a refl h.4 in
         then_is (star lm z.inner (from h.2.1 j)) _ g h.0 ⊥ _ _ (star_found g h.2.1 h.0 j ⊥ h.2.4 (subst (λ (d : ℕ). eqb d mul_kind ≡ false) (sym q) refl)) (λ u. absurd u)

@@ -77,7 +77,7 @@ module _ (z : Nested) (p : Bool) (c : Code) where
       (one_found z p c e m h.0 k g x.0 x.1 (halted c (ends e) 1 close h.0 h.2.0 hs qs (λ _. ds) (omega arith))) (λ u. u) (λ j. then_eat close h.0 n j _ _ _ h.2.0 h.2.2 (here refl))))
 
   rest_found : (start : Input) (i : List ℕ) (s : Span) (x t u b : Tree) (m n r : Input) (j : List ℕ) → z.Covered t → z.Covered u → z.Covered b → Takes (coded p c) semicolon_kind m n
-      → ForRest (coded p c) (child t (λ y. Produces t y)) (child u (λ y. Produces u y)) (child b (λ y. Produces b y)) n r → leaves b (kind r) ≡ true → s ≡ span (lo start) r.last
+      → ForRest (coded p c) (child t (λ y. Produces t y)) (child u (λ y. Produces u y)) (child b (λ y. Produces b y)) n r → leaves c.context b r ≡ true → s ≡ span (lo start) r.last
       → Reads (from m j) (for_rest lm z.inner c (from start i) x (from m j)) (Is (for_stmt s x t u b) r) (z.depth < max (z.reach t) (max (z.reach u) (z.reach b)))
   unfolding for_rest
   rest_found start i s x t u b m n r j gt gu gb e h q w = then_eat semicolon_kind m n j _ _ _ e.0 e.2
@@ -88,17 +88,17 @@ module _ (z : Nested) (p : Bool) (c : Code) where
   -- ---- `in` and `of`
 
   over_found : (l : ℕ) (make : Span → Tree → Tree → Tree) (start : Input) (i : List ℕ) (s : Span) (e b : Tree) (m n o r : Input) (j : List ℕ) → 1 ≤ l → l < 20 → Asked l → z.Covered e → z.Covered b → l ≤ level e → Produces e (coded p c) m n → Takes (coded p c) right_paren_kind n o
-      → Sub (coded p c) (child b (λ y. Produces b y)) o r → leaves b (kind r) ≡ true → s ≡ span (lo start) r.last → Reads (from m j) (over_rest lm z.inner c l make (from start i) (from m j)) (Is (make s e b) r) (z.depth < max (z.reach e) (z.reach b))
+      → Sub (coded p c) (child b (λ y. Produces b y)) o r → leaves c.context b r ≡ true → s ≡ span (lo start) r.last → Reads (from m j) (over_rest lm z.inner c l make (from start i) (from m j)) (Is (make s e b) r) (z.depth < max (z.reach e) (z.reach b))
   unfolding over_rest
   over_found l make start i s e b m n o r j lo hi ask ge gb le h x y q w = then_is (z.inner.expr c l (from m j)) _ e n (z.depth < z.reach e) _ _ (z.expr e p c l m n j ge h lo hi ask le (halted c (ends e) l right_paren_kind n x.0 refl refl (λ _. refl) lo)) (λ v. omega arith)
       (λ k. then_eat right_paren_kind n o k _ _ _ x.0 x.2 (then_is (sub_by lm z.inner c false (from o k)) _ b r (z.depth < z.reach b) _ _ (stmt_found z p c b o r k gb y q) (λ v. omega arith) (λ k. built (λ d. make d e b) s start r k _ w)))
 
-  in_found : (start : Input) (i : List ℕ) (s : Span) (x e b : Tree) (m r : Input) (j : List ℕ) → z.Covered e → z.Covered b → Over (coded p c) in_kind expression_level (child e (λ y. Produces e y)) (child b (λ y. Produces b y)) m r → leaves b (kind r) ≡ true → s ≡ span (lo start) r.last
+  in_found : (start : Input) (i : List ℕ) (s : Span) (x e b : Tree) (m r : Input) (j : List ℕ) → z.Covered e → z.Covered b → Over (coded p c) in_kind expression_level (child e (λ y. Produces e y)) (child b (λ y. Produces b y)) m r → leaves c.context b r ≡ true → s ≡ span (lo start) r.last
       → Reads (from m j) (in_rest lm z.inner c (from start i) x (from m j)) (Is (for_in_stmt s x e b) r) (z.depth < max (z.reach e) (z.reach b))
   unfolding in_rest
   in_found start i s x e b m r j ge gb h q w = then_word c in_kind m h.0 j _ _ _ h.3.0 h.3.1 h.3.3 (over_found 1 (λ d e b. for_in_stmt d x e b) start i s e b h.0 h.1 h.2 r j (omega arith) (omega arith) one_asked ge gb h.4.0 h.4.1 h.5 h.6 q w)
 
-  of_found : (start : Input) (i : List ℕ) (s : Span) (a : Bool) (x e b : Tree) (m r : Input) (j : List ℕ) → z.Covered e → z.Covered b → Over (coded p c) of_kind assignment_level (child e (λ y. Produces e y)) (child b (λ y. Produces b y)) m r → leaves b (kind r) ≡ true → s ≡ span (lo start) r.last
+  of_found : (start : Input) (i : List ℕ) (s : Span) (a : Bool) (x e b : Tree) (m r : Input) (j : List ℕ) → z.Covered e → z.Covered b → Over (coded p c) of_kind assignment_level (child e (λ y. Produces e y)) (child b (λ y. Produces b y)) m r → leaves c.context b r ≡ true → s ≡ span (lo start) r.last
       → Reads (from m j) (of_rest lm z.inner c (from start i) a x (from m j)) (Is (for_of_stmt s a x e b) r) (z.depth < max (z.reach e) (z.reach b))
   unfolding of_rest
   of_found start i s a x e b m r j ge gb h q w = then_word c of_kind m h.0 j _ _ _ h.3.0 h.3.1 h.3.3 (over_found 2 (λ d e b. for_of_stmt d a x e b) start i s e b h.0 h.1 h.2 r j (omega arith) (omega arith) two_asked ge gb h.4.0 h.4.1 h.5 h.6 q w)
@@ -110,19 +110,19 @@ module _ (z : Nested) (p : Bool) (c : Code) where
   -- ---- after a head that declares
 
   module _ (start : Input) (i : List ℕ) where
-    declared_of : (s : Span) (a : Bool) (ds : Trees) (x e b : Tree) (m r : Input) (j : List ℕ) → OneBare (children ds) → z.Covered e → z.Covered b → Over (coded p c) of_kind assignment_level (child e (λ y. Produces e y)) (child b (λ y. Produces b y)) m r → leaves b (kind r) ≡ true → s ≡ span (lo start) r.last
+    declared_of : (s : Span) (a : Bool) (ds : Trees) (x e b : Tree) (m r : Input) (j : List ℕ) → OneBare (children ds) → z.Covered e → z.Covered b → Over (coded p c) of_kind assignment_level (child e (λ y. Produces e y)) (child b (λ y. Produces b y)) m r → leaves c.context b r ≡ true → s ≡ span (lo start) r.last
         → Reads (from m j) (head_rest lm z.inner c (from start i) a (unpack ds) x (from m j)) (Is (for_of_stmt s a x e b) r) (z.depth < max (z.reach e) (z.reach b))
     unfolding head_rest
     declared_of s a ds x e b m r j o ge gb h q w = if_yes (kind m == of_kind) _ _ _ _ (eq-eqb (kind m) of_kind h.3.0) (if_yes (one_bare lm z.inner (unpack ds)) _ _ _ _ (bare_on z.inner ds o) (of_found start i s a x e b m r j ge gb h q w))
 
-    declared_in : (s : Span) (ds : Trees) (x e b : Tree) (m r : Input) (j : List ℕ) → OneBare (children ds) → z.Covered e → z.Covered b → Over (coded p c) in_kind expression_level (child e (λ y. Produces e y)) (child b (λ y. Produces b y)) m r → leaves b (kind r) ≡ true → s ≡ span (lo start) r.last
+    declared_in : (s : Span) (ds : Trees) (x e b : Tree) (m r : Input) (j : List ℕ) → OneBare (children ds) → z.Covered e → z.Covered b → Over (coded p c) in_kind expression_level (child e (λ y. Produces e y)) (child b (λ y. Produces b y)) m r → leaves c.context b r ≡ true → s ≡ span (lo start) r.last
         → Reads (from m j) (head_rest lm z.inner c (from start i) false (unpack ds) x (from m j)) (Is (for_in_stmt s x e b) r) (z.depth < max (z.reach e) (z.reach b))
     unfolding head_rest
     declared_in s ds x e b m r j o ge gb h q w = if_no (kind m == of_kind) _ _ _ _ (subst (λ (k : ℕ). eqb k of_kind ≡ false) (sym h.3.0) refl)
         (if_yes (kind m == in_kind) _ _ _ _ (eq-eqb (kind m) in_kind h.3.0) (if_yes (one_bare lm z.inner (unpack ds)) _ _ _ _ (bare_on z.inner ds o) (in_found start i s x e b m r j ge gb h q w)))
 
     declared_rest : (s : Span) (ds : List Tree) (x t u b : Tree) (m n r : Input) (j : List ℕ) → z.Covered t → z.Covered u → z.Covered b → Takes (coded p c) semicolon_kind m n
-        → ForRest (coded p c) (child t (λ y. Produces t y)) (child u (λ y. Produces u y)) (child b (λ y. Produces b y)) n r → leaves b (kind r) ≡ true → s ≡ span (lo start) r.last
+        → ForRest (coded p c) (child t (λ y. Produces t y)) (child u (λ y. Produces u y)) (child b (λ y. Produces b y)) n r → leaves c.context b r ≡ true → s ≡ span (lo start) r.last
         → Reads (from m j) (head_rest lm z.inner c (from start i) false ds x (from m j)) (Is (for_stmt s x t u b) r) (z.depth < max (z.reach t) (max (z.reach u) (z.reach b)))
     unfolding head_rest
     declared_rest s ds x t u b m n r j gt gu gb e h q w = if_no (kind m == of_kind) _ _ _ _ (subst (λ (k : ℕ). eqb k of_kind ≡ false) (sym e.0) refl)
@@ -193,7 +193,7 @@ module _ (z : Nested) (p : Bool) (c : Code) where
     -- ---- expressions and targets
 
     expressed : (s : Span) (x t u b : Tree) (m n o r : Input) (j : List ℕ) → z.Covered x → z.Covered t → z.Covered u → z.Covered b → starts_head m ≡ true → 1 ≤ level x → Produces x (coded p (without_in c)) m n → Takes (coded p c) semicolon_kind n o
-        → ForRest (coded p c) (child t (λ y. Produces t y)) (child u (λ y. Produces u y)) (child b (λ y. Produces b y)) o r → leaves b (kind r) ≡ true → s ≡ span (lo start) r.last
+        → ForRest (coded p c) (child t (λ y. Produces t y)) (child u (λ y. Produces u y)) (child b (λ y. Produces b y)) o r → leaves c.context b r ≡ true → s ≡ span (lo start) r.last
         → Reads (from m j) (for_expression lm z.inner c (from start i) false (from m j)) (Is (for_stmt s x t u b) r) (z.depth < max (z.reach x) (max (z.reach t) (max (z.reach u) (z.reach b))))
     unfolding for_expression for_expression_rest
     expressed s x t u b m n o r j gx gt gu gb sh le v e h q w = if_no ((kind m == let_kind) && (kind2 m == left_bracket_kind)) _ _ _ _ (not-true _ sh)
@@ -202,7 +202,7 @@ module _ (z : Nested) (p : Bool) (c : Code) where
         (lifted (rest_found start i s x t u b n o r k gt gu gb e h q w) (λ d. omega arith)))))
 
     targeted_in : (s : Span) (x e b : Tree) (m n r : Input) (j : List ℕ) → z.Covered x → z.Covered e → z.Covered b → HeadTarget (coded p c) (child x (λ y. Produces x y)) m n → Over (coded p c) in_kind expression_level (child e (λ y. Produces e y)) (child b (λ y. Produces b y)) n r
-        → leaves b (kind r) ≡ true → s ≡ span (lo start) r.last → Reads (from m j) (for_expression lm z.inner c (from start i) false (from m j)) (Is (for_in_stmt s x e b) r) (z.depth < max (z.reach x) (max (z.reach e) (z.reach b)))
+        → leaves c.context b r ≡ true → s ≡ span (lo start) r.last → Reads (from m j) (for_expression lm z.inner c (from start i) false (from m j)) (Is (for_in_stmt s x e b) r) (z.depth < max (z.reach x) (max (z.reach e) (z.reach b)))
     unfolding for_expression for_expression_rest
     targeted_in s x e b m n r j gx ge gb h v q w = if_no ((kind m == let_kind) && (kind2 m == left_bracket_kind)) _ _ _ _ (not-true _ h.0)
         (then_reads (z.inner.expr (without_in c) expression_level (from m j)) _ (IsHead x n) (z.depth < z.reach x) _ _ (z.head x p (without_in c) m n j gx h.1 h.2 (λ d u. halted (without_in c) d 1 in_kind n v.3.0 refl refl (λ _. refl) (omega arith))) (λ d. omega arith)
@@ -211,7 +211,7 @@ module _ (z : Nested) (p : Bool) (c : Code) where
         (rw u.0 (lifted (in_found start i s x e b n r y.1.commas ge gb v q w) (λ d. omega arith)))))))
 
     targeted_of : (s : Span) (a : Bool) (x e b : Tree) (m n r : Input) (j : List ℕ) → z.Covered x → z.Covered e → z.Covered b → OfTarget (coded p c) a (child x (λ y. Produces x y)) m n → Over (coded p c) of_kind assignment_level (child e (λ y. Produces e y)) (child b (λ y. Produces b y)) n r
-        → leaves b (kind r) ≡ true → s ≡ span (lo start) r.last → Reads (from m j) (for_expression lm z.inner c (from start i) a (from m j)) (Is (for_of_stmt s a x e b) r) (z.depth < max (z.reach x) (max (z.reach e) (z.reach b)))
+        → leaves c.context b r ≡ true → s ≡ span (lo start) r.last → Reads (from m j) (for_expression lm z.inner c (from start i) a (from m j)) (Is (for_of_stmt s a x e b) r) (z.depth < max (z.reach x) (max (z.reach e) (z.reach b)))
     unfolding for_expression for_expression_rest
     targeted_of s a x e b m n r j gx ge gb h v q w = if_no ((kind m == let_kind) && (kind2 m == left_bracket_kind)) _ _ _ _ (not-true _ h.1.0)
         (then_reads (z.inner.expr (without_in c) expression_level (from m j)) _ (IsHead x n) (z.depth < z.reach x) _ _ (z.head x p (without_in c) m n j gx h.1.1 h.1.2 (λ d u. of_follows (without_in c) d n u v.3.0 (of_arrow e b n r v))) (λ d. omega arith)
@@ -238,11 +238,11 @@ module _ (z : Nested) (p : Bool) (c : Code) where
     semicolon_head m j V Q e y = if_yes (kind m == semicolon_kind) _ _ _ _ (eq-eqb (kind m) semicolon_kind e) y
 
     empty_found : (s : Span) (t u b : Tree) (m n o : Input) → z.Covered t → z.Covered u → z.Covered b → ForOpen (coded p c) ts m → m ≡ n → Takes (coded p c) semicolon_kind n o → ForRest (coded p c) (child t (λ y. Produces t y)) (child u (λ y. Produces u y)) (child b (λ y. Produces b y)) o r
-        → leaves b (kind r) ≡ true → s ≡ span (lo ts) r.last → Reads (from ts k) (for_by lm z.inner c (from ts k)) (Is (for_stmt s absent t u b) r) (z.depth < max (z.reach t) (max (z.reach u) (z.reach b)))
+        → leaves c.context b r ≡ true → s ≡ span (lo ts) r.last → Reads (from ts k) (for_by lm z.inner c (from ts k)) (Is (for_stmt s absent t u b) r) (z.depth < max (z.reach t) (max (z.reach u) (z.reach b)))
     empty_found s t u b m n o gt gu gb h e v f q w = opened ts k _ _ m h (λ j. subst (λ (y : Input). Reads (from y j) (for_head lm z.inner c (from ts k) false (from y j)) (Is (for_stmt s absent t u b) r) (z.depth < max (z.reach t) (max (z.reach u) (z.reach b)))) (sym e)
         (semicolon_head n j _ _ v.0 (rest_found ts k s absent t u b n o r j gt gu gb v f q w)))
 
-    pub plain_found : (s : Span) (x t u b : Tree) → z.Covered x × z.Covered t × z.Covered u × z.Covered b → ForExpression (coded p c) s (child x (λ y. Produces x y)) (child t (λ y. Produces t y)) (child u (λ y. Produces u y)) (child b (λ y. Produces b y)) ts r → leaves b (kind r) ≡ true
+    pub plain_found : (s : Span) (x t u b : Tree) → z.Covered x × z.Covered t × z.Covered u × z.Covered b → ForExpression (coded p c) s (child x (λ y. Produces x y)) (child t (λ y. Produces t y)) (child u (λ y. Produces u y)) (child b (λ y. Produces b y)) ts r → leaves c.context b r ≡ true
         → Reads (from ts k) (for_by lm z.inner c (from ts k)) (Is (for_stmt s x t u b) r) (z.depth < max (z.reach x) (max (z.reach t) (max (z.reach u) (z.reach b))))
     plain_found s x t u b g h q = by_cases (is_absent x) _ _ _ h.4
         (λ e y. subst (λ (x : Tree). Reads (from ts k) (for_by lm z.inner c (from ts k)) (Is (for_stmt s x t u b) r) (z.depth < max (z.reach x) (max (z.reach t) (max (z.reach u) (z.reach b))))) (sym (absent_is x e))
@@ -251,44 +251,44 @@ module _ (z : Nested) (p : Bool) (c : Code) where
         (closes_at h.1 semicolon_kind h.5.0 (λ d. absurd (true≢false (sym d))) refl) (λ d. subst (λ (k : ℕ). may_name k ≡ false) (sym h.5.0) refl)
         (expressed ts k s x t u b h.0 h.1 h.2 r j g.0 g.1 g.2 g.3 y.0 y.1.0 y.1.1 h.5 h.6 q h.7)))
 
-    pub variables_found : (s v : Span) (o : ℕ) (ds : Trees) (t u b : Tree) → Within z.Covered (for_stmt s (var_decl v o ds) t u b) → Produces (for_stmt s (var_decl v o ds) t u b) (coded p c) ts r → leaves b (kind r) ≡ true
+    pub variables_found : (s v : Span) (o : ℕ) (ds : Trees) (t u b : Tree) → Within z.Covered (for_stmt s (var_decl v o ds) t u b) → Produces (for_stmt s (var_decl v o ds) t u b) (coded p c) ts r → leaves c.context b r ≡ true
         → Reads (from ts k) (for_by lm z.inner c (from ts k)) (Is (for_stmt s (var_decl v o ds) t u b) r) (z.depth < within z.reach (for_stmt s (var_decl v o ds) t u b))
     variables_found s v o ds t u b g h q = opened ts k _ _ h.0 h.3 (λ j. variables_head ts k false _ _ v o ds h.0 h.1 j g.0 h.4 h.5 (settled_at (without_in c) (declarators_end ds) semicolon_kind h.1 h.6.0 refl refl refl refl refl) (λ d. omega arith)
         (λ i. lifted (declared_rest ts k s (unpack ds) (var_decl v o ds) t u b h.1 h.2 r i g.1 g.2 g.3 h.6 h.7 q h.8) (λ d. omega arith)))
 
-    pub using_found : (s v : Span) (w : Bool) (ds : Trees) (t u b : Tree) → Within z.Covered (for_stmt s (using_decl v w ds) t u b) → Produces (for_stmt s (using_decl v w ds) t u b) (coded p c) ts r → leaves b (kind r) ≡ true
+    pub using_found : (s v : Span) (w : Bool) (ds : Trees) (t u b : Tree) → Within z.Covered (for_stmt s (using_decl v w ds) t u b) → Produces (for_stmt s (using_decl v w ds) t u b) (coded p c) ts r → leaves c.context b r ≡ true
         → Reads (from ts k) (for_by lm z.inner c (from ts k)) (Is (for_stmt s (using_decl v w ds) t u b) r) (z.depth < within z.reach (for_stmt s (using_decl v w ds) t u b))
     using_found s v w ds t u b g h q = opened ts k _ _ h.0 h.3 (λ j. using_head ts k false _ _ v w ds h.0 h.1 j g.0 h.4 h.5 h.6 (settled_at (without_in c) (declarators_end ds) semicolon_kind h.1 h.7.0 refl refl refl refl refl) (λ d. omega arith)
         (λ i. lifted (declared_rest ts k s (unpack ds) (using_decl v w ds) t u b h.1 h.2 r i g.1 g.2 g.3 h.7 h.8 q h.9) (λ d. omega arith)))
 
     -- `in`
-    pub in_variables : (s v : Span) (o : ℕ) (ds : Trees) (e b : Tree) → Within z.Covered (for_in_stmt s (var_decl v o ds) e b) → Produces (for_in_stmt s (var_decl v o ds) e b) (coded p c) ts r → leaves b (kind r) ≡ true
+    pub in_variables : (s v : Span) (o : ℕ) (ds : Trees) (e b : Tree) → Within z.Covered (for_in_stmt s (var_decl v o ds) e b) → Produces (for_in_stmt s (var_decl v o ds) e b) (coded p c) ts r → leaves c.context b r ≡ true
         → Reads (from ts k) (for_by lm z.inner c (from ts k)) (Is (for_in_stmt s (var_decl v o ds) e b) r) (z.depth < within z.reach (for_in_stmt s (var_decl v o ds) e b))
     in_variables s v o ds e b g h q = opened ts k _ _ h.0 h.2 (λ j. variables_head ts k false _ _ v o ds h.0 h.1 j g.0 h.3.1 h.3.2 (bare_settled (without_in c) (declarators_end ds) in_kind h.1 (bare_end ds h.3.0) h.4.3.0 refl refl) (λ d. omega arith)
         (λ i. lifted (declared_in ts k s ds (var_decl v o ds) e b h.1 r i h.3.0 g.1 g.2 h.4 q h.5) (λ d. omega arith)))
 
-    pub in_using : (s v : Span) (w : Bool) (ds : Trees) (e b : Tree) → Within z.Covered (for_in_stmt s (using_decl v w ds) e b) → Produces (for_in_stmt s (using_decl v w ds) e b) (coded p c) ts r → leaves b (kind r) ≡ true
+    pub in_using : (s v : Span) (w : Bool) (ds : Trees) (e b : Tree) → Within z.Covered (for_in_stmt s (using_decl v w ds) e b) → Produces (for_in_stmt s (using_decl v w ds) e b) (coded p c) ts r → leaves c.context b r ≡ true
         → Reads (from ts k) (for_by lm z.inner c (from ts k)) (Is (for_in_stmt s (using_decl v w ds) e b) r) (z.depth < within z.reach (for_in_stmt s (using_decl v w ds) e b))
     in_using s v w ds e b g h q = opened ts k _ _ h.0 h.2 (λ j. using_head ts k false _ _ v w ds h.0 h.1 j g.0 h.3.1 h.3.2 h.3.3 (bare_settled (without_in c) (declarators_end ds) in_kind h.1 (bare_end ds h.3.0) h.4.3.0 refl refl) (λ d. omega arith)
         (λ i. lifted (declared_in ts k s ds (using_decl v w ds) e b h.1 r i h.3.0 g.1 g.2 h.4 q h.5) (λ d. omega arith)))
 
-    pub in_target : (s : Span) (x e b : Tree) → z.Covered x × z.Covered e × z.Covered b → ForIn (coded p c) s (λ m n. HeadTarget (coded p c) (child x (λ y. Produces x y)) m n) (child e (λ y. Produces e y)) (child b (λ y. Produces b y)) ts r → leaves b (kind r) ≡ true
+    pub in_target : (s : Span) (x e b : Tree) → z.Covered x × z.Covered e × z.Covered b → ForIn (coded p c) s (λ m n. HeadTarget (coded p c) (child x (λ y. Produces x y)) m n) (child e (λ y. Produces e y)) (child b (λ y. Produces b y)) ts r → leaves c.context b r ≡ true
         → Reads (from ts k) (for_by lm z.inner c (from ts k)) (Is (for_in_stmt s x e b) r) (z.depth < max (z.reach x) (max (z.reach e) (z.reach b)))
     in_target s x e b g h q = opened ts k _ _ h.0 h.2 (λ j. expression_head ts k false _ _ h.0 h.1 j (retyped c.context _ h.0 h.1 refl (opening x (coded p (without_in c)) h.0 h.1 (place_opener x h.3.1) h.3.2)) h.3.0
         (closes_at h.1 in_kind h.4.3.0 (λ d. absurd (true≢false (sym d))) refl) (λ d. subst (λ (k : ℕ). may_name k ≡ false) (sym h.4.3.0) refl) (targeted_in ts k s x e b h.0 h.1 r j g.0 g.1 g.2 h.3 h.4 q h.5))
 
     -- `of`
-    pub of_variables : (s : Span) (a : Bool) (v : Span) (o : ℕ) (ds : Trees) (e b : Tree) → Within z.Covered (for_of_stmt s a (var_decl v o ds) e b) → Produces (for_of_stmt s a (var_decl v o ds) e b) (coded p c) ts r → leaves b (kind r) ≡ true
+    pub of_variables : (s : Span) (a : Bool) (v : Span) (o : ℕ) (ds : Trees) (e b : Tree) → Within z.Covered (for_of_stmt s a (var_decl v o ds) e b) → Produces (for_of_stmt s a (var_decl v o ds) e b) (coded p c) ts r → leaves c.context b r ≡ true
         → Reads (from ts k) (for_by lm z.inner c (from ts k)) (Is (for_of_stmt s a (var_decl v o ds) e b) r) (z.depth < within z.reach (for_of_stmt s a (var_decl v o ds) e b))
     of_variables s a v o ds e b g h q = await_opened ts k _ _ a h.0 h.2 (λ j. variables_head ts k a _ _ v o ds h.0 h.1 j g.0 h.3.1 h.3.2 (bare_settled (without_in c) (declarators_end ds) of_kind h.1 (bare_end ds h.3.0) h.4.3.0 refl refl) (λ d. omega arith)
         (λ i. lifted (declared_of ts k s a ds (var_decl v o ds) e b h.1 r i h.3.0 g.1 g.2 h.4 q h.5) (λ d. omega arith)))
 
-    pub of_using : (s : Span) (a : Bool) (v : Span) (w : Bool) (ds : Trees) (e b : Tree) → Within z.Covered (for_of_stmt s a (using_decl v w ds) e b) → Produces (for_of_stmt s a (using_decl v w ds) e b) (coded p c) ts r → leaves b (kind r) ≡ true
+    pub of_using : (s : Span) (a : Bool) (v : Span) (w : Bool) (ds : Trees) (e b : Tree) → Within z.Covered (for_of_stmt s a (using_decl v w ds) e b) → Produces (for_of_stmt s a (using_decl v w ds) e b) (coded p c) ts r → leaves c.context b r ≡ true
         → Reads (from ts k) (for_by lm z.inner c (from ts k)) (Is (for_of_stmt s a (using_decl v w ds) e b) r) (z.depth < within z.reach (for_of_stmt s a (using_decl v w ds) e b))
     of_using s a v w ds e b g h q = await_opened ts k _ _ a h.0 h.2 (λ j. using_head ts k a _ _ v w ds h.0 h.1 j g.0 h.3.1 h.3.2 h.3.3 (bare_settled (without_in c) (declarators_end ds) of_kind h.1 (bare_end ds h.3.0) h.4.3.0 refl refl) (λ d. omega arith)
         (λ i. lifted (declared_of ts k s a ds (using_decl v w ds) e b h.1 r i h.3.0 g.1 g.2 h.4 q h.5) (λ d. omega arith)))
 
-    pub of_target : (s : Span) (a : Bool) (x e b : Tree) → z.Covered x × z.Covered e × z.Covered b → ForOf (coded p c) s a (λ m n. OfTarget (coded p c) a (child x (λ y. Produces x y)) m n) (child e (λ y. Produces e y)) (child b (λ y. Produces b y)) ts r → leaves b (kind r) ≡ true
+    pub of_target : (s : Span) (a : Bool) (x e b : Tree) → z.Covered x × z.Covered e × z.Covered b → ForOf (coded p c) s a (λ m n. OfTarget (coded p c) a (child x (λ y. Produces x y)) m n) (child e (λ y. Produces e y)) (child b (λ y. Produces b y)) ts r → leaves c.context b r ≡ true
         → Reads (from ts k) (for_by lm z.inner c (from ts k)) (Is (for_of_stmt s a x e b) r) (z.depth < max (z.reach x) (max (z.reach e) (z.reach b)))
     of_target s a x e b g h q = await_opened ts k _ _ a h.0 h.2 (λ j. expression_head ts k a _ _ h.0 h.1 j (retyped c.context _ h.0 h.1 refl (opening x (coded p (without_in c)) h.0 h.1 (place_opener x h.3.1.1) h.3.1.2)) h.3.1.0
         (closes_at h.1 of_kind h.4.3.0 (λ d. refl) refl) (λ d. absurd (true≢false (sym (or_left (kind h.0 == let_kind) _ (eq-eqb (kind h.0) let_kind d)) ∙ not-true _ h.3.0))) (targeted_of ts k s a x e b h.0 h.1 r j g.0 g.1 g.2 h.3 h.4 q h.5))

@@ -23,7 +23,7 @@ begins_with : (ts : Input) (k : ℕ) → kind ts ≡ k → begins_item k ≡ tru
 begins_with ts k e h = subst (λ (k : ℕ). begins_item k ≡ true) (sym e) h
 
 module _ (z : Nested) (p : Bool) where
-  item_found : (t : Tree) (c : Code) (ts m : Input) (k : List ℕ) → is_item t ≡ true → z.Covered t → Produces t (coded p (in_list c)) ts m → leaves t (kind m) ≡ true → Reads (from ts k) (item_by lm z.inner true (in_list c) (from ts k)) (Is t m) (z.depth < z.reach t)
+  item_found : (t : Tree) (c : Code) (ts m : Input) (k : List ℕ) → is_item t ≡ true → z.Covered t → Produces t (coded p (in_list c)) ts m → leaves c.context t m ≡ true → Reads (from ts k) (item_by lm z.inner true (in_list c) (from ts k)) (Is t m) (z.depth < z.reach t)
   item_found t c ts m k i g h f = (statements_read z p true).item t c ts m k i g h f
 
   by_export : (t : Tree) (c : Code) (ts m : Input) (k : List ℕ) (Q : Type 0) → kind ts ≡ export_kind → Reads (from ts k) (export_by lm z.inner c (from ts k)) (Is t m) Q → Reads (from ts k) (item_by lm z.inner true c (from ts k)) (Is t m) Q
@@ -38,7 +38,7 @@ module _ (z : Nested) (p : Bool) where
   other_item : (t : Tree) → is_module_decl t ≡ false → is_module_item t ≡ true → is_item t ≡ true
   other_item t e h = ⊎_elim (λ q. q) (λ q. absurd (true≢false (sym q ∙ e))) (or_cases (is_item t) (is_module_decl t) h)
 
-  pub module_item : (t : Tree) (c : Code) (ts m : Input) (k : List ℕ) → is_module_item t ≡ true → InModule z.Covered t → Produces t (coded p (in_list c)) ts m → leaves t (kind m) ≡ true → Reads (from ts k) (item_by lm z.inner true (in_list c) (from ts k)) (Is t m) (z.depth < in_module z.reach t)
+  pub module_item : (t : Tree) (c : Code) (ts m : Input) (k : List ℕ) → is_module_item t ≡ true → InModule z.Covered t → Produces t (coded p (in_list c)) ts m → leaves c.context t m ≡ true → Reads (from ts k) (item_by lm z.inner true (in_list c) (from ts k)) (Is t m) (z.depth < in_module z.reach t)
   module_item (import_decl s xs f w) c ts m k i g h q = by_import (import_decl s xs f w) (in_list c) ts m h.0 k _ h.2.0 (ap (λ (y : Input). kind y) h.2.3) (after_import z p (in_list c) xs f w h.0 h.1 m h.3 h.4) (import_found z p (in_list c) s xs f w ts m k g h)
   module_item (named_export s xs f w) c ts m k i g h q = by_export (named_export s xs f w) (in_list c) ts m k _ h.1.0 (named_found z p (in_list c) s xs f w ts m k g h)
   module_item (export_all s f w) c ts m k i g h q = by_export (export_all s f w) (in_list c) ts m k _ h.3.0 (all_found z p (in_list c) s f w ts m k g h)

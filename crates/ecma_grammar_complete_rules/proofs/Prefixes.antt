@@ -19,10 +19,10 @@ use Rattle.ecma_grammar_complete_base.proofs.Trees.{by_unary, by_update, no_kind
 abbrev pub param_at : Code → ℕ → Input → Bool
 param_at c l m = (is_word (kind m) && (not (no_name c.context (kind m)) && not (barred c.context m))) && ((not (brk m) && (kind2 m == arrow_kind) && not (brk2 m)) && leb l assignment_level)
 
--- A name stands alone: no `=>` follows where an assignment may stand; and behind the word `async` neither `function` nor such a parameter does.
+-- A name stands alone: no `=>` follows where an assignment may stand; and behind the word `async` neither `function` without an escape nor such a parameter does.
 pub record Lone (c : Code) (l : ℕ) (ts r : Input) : Type 0 where
   pub calm : l ≤ assignment_level → arrowed r ≡ false
-  pub function : kind ts ≡ async_kind → ((kind r == function_kind) && not (brk r)) ≡ false
+  pub function : kind ts ≡ async_kind → (((kind r == function_kind) && not (brk r)) && not (barred c.context r)) ≡ false
   pub param : kind ts ≡ async_kind → param_at c l r ≡ false
 
 sober_function : (c : Code) (m : Input) → sober c m ≡ true → ((kind m == function_kind) && not (brk m)) ≡ false
@@ -49,7 +49,7 @@ sober_param c l m h = any_level _ _ (leb l assignment_level) (by_line (brk m) (k
     by_line false false true false o x y z h = and_right (not o && not x) (true && y && z) (not-true (true && y && z) h)
 
 pub lone_by : (c : Code) (l : ℕ) (ts r : Input) → (l ≤ assignment_level → arrowed r ≡ false) → sober c r ≡ true → Lone c l ts r
-lone_by c l ts r a h = record { calm = a; function = λ e. sober_function c r h; param = λ e. sober_param c l r h }
+lone_by c l ts r a h = record { calm = a; function = λ e. and_left _ _ (sober_function c r h); param = λ e. sober_param c l r h }
 
 -- a name is read as a word
 module _ (inner : Inner Input) (c : Code) (lev : ℕ) (ts : Input) (k : List ℕ) (V : Tree × State Input → Type 0) (Q : Type 0) where
@@ -161,7 +161,7 @@ module _ (inner : Inner Input) (c : Code) (lev : ℕ) (ts : Input) (k : List ℕ
   prefix_ident s n r i t q p o b = keyword_at (⊎_elim
       (λ (e : kind ts ≡ async_kind). if_yes (eqb (kind ts) async_kind) _ _ _ _ (eq-eqb (kind ts) async_kind e)
       (subst (λ (z : Input). Reads (from ts k) (async_by lm inner c lev (from ts k)) (Is (ident s n) z) Q) q
-      (if_no _ _ _ _ _ (back (λ z. ((kind z == function_kind) && not (brk z)) ≡ false) (o.function e))
+      (if_no _ _ _ _ _ (back (λ z. (((kind z == function_kind) && not (brk z)) && not (barred c.context z)) ≡ false) (o.function e))
       (if_no _ _ _ _ _ (back (λ z. param_at c lev z ≡ false) (o.param e))
       (if_no ((kind (rest ts) == left_paren_kind) && not (brk (rest ts))) _ _ _ _ (paren_off (back (λ z. kind z ≡ left_paren_kind → brk z ≡ true) (b e)))
       (subst (λ (n : List ℕ). Reads (from ts k) (ident_end lm inner c lev (from ts k) (text ts) (from (rest ts) k)) (Is (ident s n) (rest ts)) Q) t (after_one (from ts k) _ _ Q (ident_ends s (text ts) (rest ts) refl refl (back (λ z. s ≡ span (lo ts) z.last) p) (back (λ z. lev ≤ assignment_level → arrowed z ≡ false) o.calm)))))))))

@@ -40,7 +40,7 @@ no_place ts h = ap kind_of h
 
 -- The items of a program, by their sort: each is read, starts so, and takes tokens.
 pub record ItemsRead (z : Nested) (p modules : Bool) (may : Tree → Bool) (Known : Tree → Type 0) (deep : Tree → ℕ) : Type 0 where
-  pub item : (t : Tree) (c : Code) (ts m : Input) (k : List ℕ) → may t ≡ true → Known t → Produces t (coded p (in_list c)) ts m → leaves t (kind m) ≡ true → Reads (from ts k) (item_by lm z.inner modules (in_list c) (from ts k)) (Is t m) (z.depth < deep t)
+  pub item : (t : Tree) (c : Code) (ts m : Input) (k : List ℕ) → may t ≡ true → Known t → Produces t (coded p (in_list c)) ts m → leaves c.context t m ≡ true → Reads (from ts k) (item_by lm z.inner modules (in_list c) (from ts k)) (Is t m) (z.depth < deep t)
   pub starts : (t : Tree) (c : Code) (ts m : Input) → may t ≡ true → Produces t c ts m → begins_item (kind ts) ≡ true
   pub less : (t : Tree) (c : Code) (ts m : Input) → may t ≡ true → Produces t c ts m → len m < len ts
 
@@ -60,13 +60,13 @@ module _ (z : Nested) (p modules : Bool) (may : Tree → Bool) (Known : Tree →
       → Reads (from ts k) (program_step lm z.inner modules (record { items = acc; code = c; starts = b }) (from ts k)) (Is (go_on (record { items = acc ++ t ∷ []; code = turned_strict c; starts = true })) m) (z.depth < deep t)
   unfolding program_step program_item
   strict_item c b t acc ts m k e g i h q = if_no (is_nil ts.places) _ _ _ _ (item_there t (coded p (in_list c)) ts m i h)
-      (then_is (item_by lm z.inner modules (in_list c) (from ts k)) _ t m (z.depth < deep t) _ _ (w.item t c ts m k i g h (follows t (kind m) q)) (λ u. u) (λ j. if_yes (b && is_use_strict t) _ _ _ _ e (here refl)))
+      (then_is (item_by lm z.inner modules (in_list c) (from ts k)) _ t m (z.depth < deep t) _ _ (w.item t c ts m k i g h (follows c.context t m q)) (λ u. u) (λ j. if_yes (b && is_use_strict t) _ _ _ _ e (here refl)))
 
   same_item : (c : Code) (b : Bool) (t : Tree) (acc : List Tree) (ts m : Input) (k : List ℕ) → (b && is_use_strict t) ≡ false → Known t → may t ≡ true → Produces t (coded p (in_list c)) ts m → may_follow (kind m) ≡ true
       → Reads (from ts k) (program_step lm z.inner modules (record { items = acc; code = c; starts = b }) (from ts k)) (Is (go_on (record { items = acc ++ t ∷ []; code = c; starts = b && is_directive t })) m) (z.depth < deep t)
   unfolding program_step program_item
   same_item c b t acc ts m k e g i h q = if_no (is_nil ts.places) _ _ _ _ (item_there t (coded p (in_list c)) ts m i h)
-      (then_is (item_by lm z.inner modules (in_list c) (from ts k)) _ t m (z.depth < deep t) _ _ (w.item t c ts m k i g h (follows t (kind m) q)) (λ u. u) (λ j. if_no (b && is_use_strict t) _ _ _ _ e (here refl)))
+      (then_is (item_by lm z.inner modules (in_list c) (from ts k)) _ t m (z.depth < deep t) _ _ (w.item t c ts m k i g h (follows c.context t m q)) (λ u. u) (λ j. if_no (b && is_use_strict t) _ _ _ _ e (here refl)))
 
   program_end : (b : Gathered) (ts r : Input) (k : List ℕ) → ts.places ≡ [] → ts ≡ r → Reads (from ts k) (program_step lm z.inner modules b (from ts k)) (Is (finished b) r) ⊥
   unfolding program_step
@@ -102,7 +102,7 @@ module _ (z : Nested) (p modules : Bool) (may : Tree → Bool) (Known : Tree →
 
 -- ---- scripts
 
-script_item : (z : Nested) (p modules : Bool) (t : Tree) (c : Code) (ts m : Input) (k : List ℕ) → is_item t ≡ true → z.Covered t → Produces t (coded p (in_list c)) ts m → leaves t (kind m) ≡ true → Reads (from ts k) (item_by lm z.inner modules (in_list c) (from ts k)) (Is t m) (z.depth < z.reach t)
+script_item : (z : Nested) (p modules : Bool) (t : Tree) (c : Code) (ts m : Input) (k : List ℕ) → is_item t ≡ true → z.Covered t → Produces t (coded p (in_list c)) ts m → leaves c.context t m ≡ true → Reads (from ts k) (item_by lm z.inner modules (in_list c) (from ts k)) (Is t m) (z.depth < z.reach t)
 unfolding item_by
 script_item z p modules t c ts m k i g h q = if_no (starts_import lm z.inner (from ts k)) _ _ _ _ no_import (if_no (kind ts == export_kind) _ _ _ _ (no_item (kind ts) export_kind (item_opens t (coded p (in_list c)) ts m i h) refl) (z.stmt t p (in_list c) ts m k g i h q))
   where

@@ -57,15 +57,15 @@ module _ (z : Nested) (p : Bool) (c : Code) where
   parens_found e m n k g h = then_eat left_paren_kind m h.0 k _ _ _ h.2.0 h.2.2 (then_is (z.inner.expr c expression_level (from h.0 k)) _ e h.1 (z.depth < z.reach e) _ _
       (one_found e h.0 h.1 k g h.3.0 h.3.1 (halted c (ends e) 1 right_paren_kind h.1 h.4.0 refl refl (λ _. refl) (omega arith))) (λ u. u) (λ j. then_eat right_paren_kind h.1 n j _ _ _ h.4.0 h.4.2 (here refl)))
 
-  sub_found : (f : Bool) (t : Tree) (m n : Input) (k : List ℕ) → z.Covered t → (is_statement t || (f && (not (is_strict c) && is_plain_function t))) ≡ true → Produces t (coded p (alone c)) m n → leaves t (kind n) ≡ true
+  sub_found : (f : Bool) (t : Tree) (m n : Input) (k : List ℕ) → z.Covered t → (is_statement t || (f && (not (is_strict c) && is_plain_function t))) ≡ true → Produces t (coded p (alone c)) m n → leaves c.context t n ≡ true
       → Reads (from m k) (sub_by lm z.inner c f (from m k)) (Is t n) (z.depth < z.reach t)
   unfolding sub_by
   sub_found f t m n k g a h q = then_is (z.inner.stmt (alone c) (from m k)) _ t n (z.depth < z.reach t) _ _ (z.stmt t p (alone c) m n k g (sub_allowed f c t a) h q) (λ u. u) (λ j. if_yes (is_statement t || (f && (not (is_strict c) && is_plain_function t))) _ _ _ _ a (here refl))
 
-  pub stmt_found : (t : Tree) (m n : Input) (k : List ℕ) → z.Covered t → Sub (coded p c) (child t (λ y. Produces t y)) m n → leaves t (kind n) ≡ true → Reads (from m k) (sub_by lm z.inner c false (from m k)) (Is t n) (z.depth < z.reach t)
+  pub stmt_found : (t : Tree) (m n : Input) (k : List ℕ) → z.Covered t → Sub (coded p c) (child t (λ y. Produces t y)) m n → leaves c.context t n ≡ true → Reads (from m k) (sub_by lm z.inner c false (from m k)) (Is t n) (z.depth < z.reach t)
   stmt_found t m n k g h q = sub_found false t m n k g (or_left (is_statement t) _ h.0) h.1 q
 
-  pub either_found : (t : Tree) (m n : Input) (k : List ℕ) → z.Covered t → SubOrFunction (coded p c) (child t (λ y. Produces t y)) m n → leaves t (kind n) ≡ true → Reads (from m k) (sub_by lm z.inner c true (from m k)) (Is t n) (z.depth < z.reach t)
+  pub either_found : (t : Tree) (m n : Input) (k : List ℕ) → z.Covered t → SubOrFunction (coded p c) (child t (λ y. Produces t y)) m n → leaves c.context t n ≡ true → Reads (from m k) (sub_by lm z.inner c true (from m k)) (Is t n) (z.depth < z.reach t)
   either_found t m n k g h q = sub_found true t m n k g h.0 h.1 q
 
   -- what stands on the line of `break` and `continue`
@@ -112,19 +112,19 @@ module _ (z : Nested) (p : Bool) (c : Code) where
 
     -- ---- statements with parts that are statements
 
-    pub with_found : (s : Span) (e b : Tree) → Within z.Covered (with_stmt s e b) → Produces (with_stmt s e b) (coded p c) ts r → leaves b (kind r) ≡ true → Reads (from ts k) (with_by lm z.inner c (from ts k)) (Is (with_stmt s e b) r) (z.depth < within z.reach (with_stmt s e b))
+    pub with_found : (s : Span) (e b : Tree) → Within z.Covered (with_stmt s e b) → Produces (with_stmt s e b) (coded p c) ts r → leaves c.context b r ≡ true → Reads (from ts k) (with_by lm z.inner c (from ts k)) (Is (with_stmt s e b) r) (z.depth < within z.reach (with_stmt s e b))
     unfolding with_by
     with_found s e b g h q = then_word c with_kind ts h.0 k _ _ _ h.2.0 h.2.1 h.2.3 (then_is (in_parens lm z.inner c (from h.0 k)) _ e h.1 (z.depth < z.reach e) _ _ (parens_found e h.0 h.1 k g.0 h.3) (λ u. omega arith)
         (λ j. then_is (sub_by lm z.inner c false (from h.1 j)) _ b r (z.depth < z.reach b) _ _ (stmt_found b h.1 r j g.1 h.4 q) (λ u. omega arith) (λ i. built (λ y. with_stmt y e b) s ts r i _ h.5)))
 
-    pub while_found : (s : Span) (e b : Tree) → Within z.Covered (while_stmt s e b) → Produces (while_stmt s e b) (coded p c) ts r → leaves b (kind r) ≡ true → Reads (from ts k) (while_by lm z.inner c (from ts k)) (Is (while_stmt s e b) r) (z.depth < within z.reach (while_stmt s e b))
+    pub while_found : (s : Span) (e b : Tree) → Within z.Covered (while_stmt s e b) → Produces (while_stmt s e b) (coded p c) ts r → leaves c.context b r ≡ true → Reads (from ts k) (while_by lm z.inner c (from ts k)) (Is (while_stmt s e b) r) (z.depth < within z.reach (while_stmt s e b))
     unfolding while_by
     while_found s e b g h q = then_word c while_kind ts h.0 k _ _ _ h.2.0 h.2.1 h.2.3 (then_is (in_parens lm z.inner c (from h.0 k)) _ e h.1 (z.depth < z.reach e) _ _ (parens_found e h.0 h.1 k g.0 h.3) (λ u. omega arith)
         (λ j. then_is (sub_by lm z.inner c false (from h.1 j)) _ b r (z.depth < z.reach b) _ _ (stmt_found b h.1 r j g.1 h.4 q) (λ u. omega arith) (λ i. built (λ y. while_stmt y e b) s ts r i _ h.5)))
 
     pub do_found : (s : Span) (e b : Tree) → Within z.Covered (do_while_stmt s e b) → Produces (do_while_stmt s e b) (coded p c) ts r → Reads (from ts k) (do_by lm z.inner c (from ts k)) (Is (do_while_stmt s e b) r) (z.depth < within z.reach (do_while_stmt s e b))
     unfolding do_by
-    do_found s e b g h = then_word c do_kind ts h.0 k _ _ _ h.4.0 h.4.1 h.4.3 (then_is (sub_by lm z.inner c false (from h.0 k)) _ b h.1 (z.depth < z.reach b) _ _ (stmt_found b h.0 h.1 k g.1 h.5 (follows b (kind h.1) (follows_at h.1 while_kind h.6.0 refl))) (λ u. omega arith)
+    do_found s e b g h = then_word c do_kind ts h.0 k _ _ _ h.4.0 h.4.1 h.4.3 (then_is (sub_by lm z.inner c false (from h.0 k)) _ b h.1 (z.depth < z.reach b) _ _ (stmt_found b h.0 h.1 k g.1 h.5 (follows c.context b h.1 (follows_at h.1 while_kind h.6.0 refl))) (λ u. omega arith)
         (λ j. then_word c while_kind h.1 h.2 j _ _ _ h.6.0 h.6.1 h.6.3 (then_is (in_parens lm z.inner c (from h.2 j)) _ e h.3 (z.depth < z.reach e) _ _ (parens_found e h.2 h.3 j g.0 h.7) (λ u. omega arith)
         (λ i. closing h.8 i))))
       where
@@ -134,7 +134,7 @@ module _ (z : Nested) (p : Bool) (c : Code) where
         closing (inr x) i = if_no (kind h.3 == semicolon_kind) _ _ _ _ (ne_eqb (kind h.3) semicolon_kind x.0)
             (ended (do_while_stmt (span (lo ts) h.3.last) e b, from h.3 i) (Is (do_while_stmt s e b) r) _ (ap (λ (y : Input). do_while_stmt (span (lo ts) y.last) e b) x.1 ∙ ap (λ (y : Span). do_while_stmt y e b) (sym h.9), x.1))
 
-    pub labelled_found : (s : Span) (l b : Tree) (m : Input) (j : List ℕ) → z.Covered b → (n : Input) → kind m ≡ colon_kind → rest m ≡ n → SubOrFunction (coded p c) (child b (λ y. Produces b y)) n r → s ≡ span (lo ts) r.last → leaves b (kind r) ≡ true
+    pub labelled_found : (s : Span) (l b : Tree) (m : Input) (j : List ℕ) → z.Covered b → (n : Input) → kind m ≡ colon_kind → rest m ≡ n → SubOrFunction (coded p c) (child b (λ y. Produces b y)) n r → s ≡ span (lo ts) r.last → leaves c.context b r ≡ true
         → Reads (from m j) (labelled_by lm z.inner c (from ts k) l (from m j)) (Is (labeled_stmt s l b) r) (z.depth < z.reach b)
     unfolding labelled_by
     labelled_found s l b m j g n e t h w q = then_past m n j (sub_by lm z.inner c true) _ b r (z.depth < z.reach b) _ _ t (either_found b n r j g h q) (λ u. u) (λ i. built (λ y. labeled_stmt y l b) s ts r i _ w)

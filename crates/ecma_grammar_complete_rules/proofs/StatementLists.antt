@@ -1,10 +1,10 @@
 -- Lists of statements: blocks, bodies, `switch` and `try`.
 use Rattle.std.proofs.Common.{◌≡◌, ℕ, ◌<◌, ◌≤◌, max, Bool, true, false, not, ◌&&◌, ◌||◌, ◌==◌, eqb, List, [], ◌∷◌, ◌++◌, if◌then◌else◌, Some, refl, sym, ap, ◌∙◌, subst, ⊎_elim, true≢false, append_assoc, append-nil, arith}
-use Rattle.std.proofs.lemmas.Bool.{eqb-true, eq-eqb, cases_Bool, or_from, or_cases, not-true}
+use Rattle.std.proofs.lemmas.Bool.{eqb-true, eq-eqb, cases_Bool, or_from, or_cases, not-true, and_from}
 use Rattle.ecma_token.specs.declared.place.Span.{Span}
 use Rattle.ecma_token.specs.Kinds.{left_paren_kind, right_paren_kind, left_brace_kind, right_brace_kind, colon_kind, case_kind, default_kind, catch_kind, finally_kind, try_kind, switch_kind}
 use Rattle.ecma_tree.specs.Tree.{Tree, Trees, none, more, pack, unpack, block_stmt, switch_stmt, switch_case, try_stmt, catch_clause, expr_stmt, str_lit, absent}
-use Rattle.ecma_syntax.specs.Input.{Input, Code, kind, lo, span, rest, in_list, turned_strict, Takes, TakesWord, binding}
+use Rattle.ecma_syntax.specs.Input.{Input, Code, kind, barred, lo, span, rest, in_list, turned_strict, Takes, TakesWord, binding}
 use Rattle.ecma_syntax.specs.Operators.{expression_level}
 use Rattle.ecma_syntax.specs.Shape.{level, ends, is_absent, is_item, is_block, is_catch, is_case, is_default_case, is_use_strict, is_directive, is_binding}
 use Rattle.ecma_grammar.specs.Children.{By, child, Sorted, Items}
@@ -56,7 +56,7 @@ module _ (z : Nested) (p : Bool) (c : Code) where
       → Reads (from ts k) (block_step lm z.inner c acc (from ts k)) (Is (go_on (acc ++ t ∷ [])) m) (z.depth < z.reach t)
   unfolding block_step
   block_more t acc ts m k g i h q = if_no (kind ts == right_brace_kind) _ _ _ _ (no_item (kind ts) right_brace_kind (item_opens t (coded p (in_list c)) ts m i h) refl)
-      (then_is (z.inner.stmt (in_list c) (from ts k)) _ t m (z.depth < z.reach t) _ _ (z.stmt t p (in_list c) ts m k g i h (follows t (kind m) q)) (λ u. u) (λ j. here refl))
+      (then_is (z.inner.stmt (in_list c) (from ts k)) _ t m (z.depth < z.reach t) _ _ (z.stmt t p (in_list c) ts m k g i h (follows c.context t m q)) (λ u. u) (λ j. here refl))
 
   block_end : (acc : List Tree) (ts r : Input) (k : List ℕ) → kind ts ≡ right_brace_kind → rest ts ≡ r → Reads (from ts k) (block_step lm z.inner c acc (from ts k)) (Is (finished acc) r) ⊥
   unfolding block_step
@@ -87,7 +87,7 @@ module _ (z : Nested) (p : Bool) (c : Code) where
   unfolding case_step
   case_more t acc ts m k g i h q = let o = item_opens t (coded p (in_list c)) ts m i h in
       if_no ((kind ts == case_kind) || ((kind ts == default_kind) || (kind ts == right_brace_kind))) _ _ _ _ (or_from (kind ts == case_kind) _ (no_item (kind ts) case_kind o refl) (or_from (kind ts == default_kind) _ (no_item (kind ts) default_kind o refl) (no_item (kind ts) right_brace_kind o refl)))
-      (then_is (z.inner.stmt (in_list c) (from ts k)) _ t m (z.depth < z.reach t) _ _ (z.stmt t p (in_list c) ts m k g i h (follows t (kind m) q)) (λ u. u) (λ j. here refl))
+      (then_is (z.inner.stmt (in_list c) (from ts k)) _ t m (z.depth < z.reach t) _ _ (z.stmt t p (in_list c) ts m k g i h (follows c.context t m q)) (λ u. u) (λ j. here refl))
 
   case_end : (acc : List Tree) (ts r : Input) (k : List ℕ) → ClosesCase (coded p c) ts r → Reads (from ts k) (case_step lm z.inner c acc (from ts k)) (Is (finished acc) r) ⊥
   unfolding case_step
@@ -193,13 +193,13 @@ module _ (z : Nested) (p : Bool) (c : Code) where
   catch_word _ ts r i h = absurd (true≢false (sym i))
 
   finally_found : (ts : Input) (k : List ℕ) (s : Span) (b x f : Tree) (o r : Input) (j : List ℕ) → Within z.Covered f → (is_absent x && is_absent f) ≡ false
-      → By (is_absent f) (o ≡ r) ((q : Input) × TakesWord (coded p c) finally_kind o q × Sorted is_block (coded p c) (child f (λ y. Produces f y)) q r) → s ≡ span (lo ts) r.last → leaves (try_stmt s b x f) (kind r) ≡ true
+      → By (is_absent f) (o ≡ r) ((q : Input) × TakesWord (coded p c) finally_kind o q × Sorted is_block (coded p c) (child f (λ y. Produces f y)) q r) → s ≡ span (lo ts) r.last → leaves c.context (try_stmt s b x f) r ≡ true
       → Reads (from o j) (finally_by lm z.inner c (from ts k) b x (from o j)) (Is (try_stmt s b x f) r) (z.depth < within z.reach f)
   unfolding finally_by
   finally_found ts k s b x f o r j g n h w q = by_cases (is_absent f) _ _ _ h
-      (λ e y. if_no (kind o == finally_kind) _ _ _ _ (subst (λ (m : Input). eqb (kind m) finally_kind ≡ false) (sym y) (other (is_absent f) (kind r == finally_kind) e (not-true _ q))) (if_no (is_absent x) _ _ _ _ (one_there (is_absent x) (is_absent f) e n)
+      (λ e y. if_no ((kind o == finally_kind) && not (barred c.context o)) _ _ _ _ (subst (λ (m : Input). ((kind m == finally_kind) && not (barred c.context m)) ≡ false) (sym y) (other (is_absent f) ((kind r == finally_kind) && not (barred c.context r)) e (not-true _ q))) (if_no (is_absent x) _ _ _ _ (one_there (is_absent x) (is_absent f) e n)
       (ended (try_stmt (span (lo ts) o.last) b x absent, from o j) (Is (try_stmt s b x f) r) _ (ap (λ (m : Input). try_stmt (span (lo ts) m.last) b x absent) y ∙ ap (λ (m : Span). try_stmt m b x absent) (sym w) ∙ ap (λ (m : Tree). try_stmt s b x m) (sym (absent_is f e)), y))))
-      (λ e y. if_yes (kind o == finally_kind) _ _ _ _ (eq-eqb (kind o) finally_kind y.1.0) (then_word c finally_kind o y.0 j _ _ _ y.1.0 y.1.1 y.1.3 (then_is (block_by lm z.inner c (from y.0 j)) _ f r (z.depth < within z.reach f) _ _ (block_found f y.0 r j y.2.0 g y.2.1) (λ u. u)
+      (λ e y. if_yes ((kind o == finally_kind) && not (barred c.context o)) _ _ _ _ (and_from (kind o == finally_kind) _ (eq-eqb (kind o) finally_kind y.1.0) (ap not y.1.1)) (then_word c finally_kind o y.0 j _ _ _ y.1.0 y.1.1 y.1.3 (then_is (block_by lm z.inner c (from y.0 j)) _ f r (z.depth < within z.reach f) _ _ (block_found f y.0 r j y.2.0 g y.2.1) (λ u. u)
       (λ i. built (λ y. try_stmt y b x f) s ts r i _ w))))
     where
       other : (a d : Bool) → a ≡ true → (a && d) ≡ false → d ≡ false
@@ -211,7 +211,7 @@ module _ (z : Nested) (p : Bool) (c : Code) where
       one_there true false e h = absurd (true≢false (sym e))
       one_there false d e h = refl
 
-  pub try_found : (s : Span) (b x f : Tree) (ts r : Input) (k : List ℕ) → Within z.Covered (try_stmt s b x f) → Produces (try_stmt s b x f) (coded p c) ts r → leaves (try_stmt s b x f) (kind r) ≡ true
+  pub try_found : (s : Span) (b x f : Tree) (ts r : Input) (k : List ℕ) → Within z.Covered (try_stmt s b x f) → Produces (try_stmt s b x f) (coded p c) ts r → leaves c.context (try_stmt s b x f) r ≡ true
       → Reads (from ts k) (try_by lm z.inner c (from ts k)) (Is (try_stmt s b x f) r) (z.depth < within z.reach (try_stmt s b x f))
   unfolding try_by
   try_found s b x f ts r k g h q = then_word c try_kind ts h.0 k _ _ _ h.4.0 h.4.1 h.4.3 (then_is (block_by lm z.inner c (from h.0 k)) _ b h.1 (z.depth < within z.reach b) _ _ (block_found b h.0 h.1 k h.5.0 g.0 h.5.1) (λ u. omega arith)
@@ -252,13 +252,13 @@ module _ (z : Nested) (p : Bool) where
       → Reads (from ts k) (body_step lm z.inner (record { items = acc; code = c; starts = b }) (from ts k)) (Is (go_on (record { items = acc ++ t ∷ []; code = turned_strict c; starts = true })) m) (z.depth < z.reach t)
   unfolding body_step body_item
   body_strict c b t acc ts m k e g i h q = if_no (kind ts == right_brace_kind) _ _ _ _ (no_item (kind ts) right_brace_kind (item_opens t (coded p (in_list c)) ts m i h) refl)
-      (then_is (z.inner.stmt (in_list c) (from ts k)) _ t m (z.depth < z.reach t) _ _ (z.stmt t p (in_list c) ts m k g i h (follows t (kind m) q)) (λ u. u) (λ j. if_yes (b && is_use_strict t) _ _ _ _ e (here refl)))
+      (then_is (z.inner.stmt (in_list c) (from ts k)) _ t m (z.depth < z.reach t) _ _ (z.stmt t p (in_list c) ts m k g i h (follows c.context t m q)) (λ u. u) (λ j. if_yes (b && is_use_strict t) _ _ _ _ e (here refl)))
 
   body_same : (c : Code) (b : Bool) (t : Tree) (acc : List Tree) (ts m : Input) (k : List ℕ) → (b && is_use_strict t) ≡ false → z.Covered t → is_item t ≡ true → Produces t (coded p (in_list c)) ts m → may_follow (kind m) ≡ true
       → Reads (from ts k) (body_step lm z.inner (record { items = acc; code = c; starts = b }) (from ts k)) (Is (go_on (record { items = acc ++ t ∷ []; code = c; starts = b && is_directive t })) m) (z.depth < z.reach t)
   unfolding body_step body_item
   body_same c b t acc ts m k e g i h q = if_no (kind ts == right_brace_kind) _ _ _ _ (no_item (kind ts) right_brace_kind (item_opens t (coded p (in_list c)) ts m i h) refl)
-      (then_is (z.inner.stmt (in_list c) (from ts k)) _ t m (z.depth < z.reach t) _ _ (z.stmt t p (in_list c) ts m k g i h (follows t (kind m) q)) (λ u. u) (λ j. if_no (b && is_use_strict t) _ _ _ _ e (here refl)))
+      (then_is (z.inner.stmt (in_list c) (from ts k)) _ t m (z.depth < z.reach t) _ _ (z.stmt t p (in_list c) ts m k g i h (follows c.context t m q)) (λ u. u) (λ j. if_no (b && is_use_strict t) _ _ _ _ e (here refl)))
 
   body_end : (b : Gathered) (ts r : Input) (k : List ℕ) → kind ts ≡ right_brace_kind → rest ts ≡ r → Reads (from ts k) (body_step lm z.inner b (from ts k)) (Is (finished b) r) ⊥
   unfolding body_step

@@ -212,7 +212,7 @@ of_three true false h = refl
 of_three false b h = refl
 
 -- a name before a colon is a label, but where a semicolon ends it
-no_label : (p : Bool) (c : Code) (s : Span) (e : Tree) (ts m r : Input) → Produces e (assigning (coded p c)) ts m → Ends (coded p c) (statement_end (coded p c) ts e) m r → s ≡ span (lo ts) r.last → leaves (expr_stmt s e) (kind r) ≡ true → (is_name e && (kind m == colon_kind)) ≡ false
+no_label : (p : Bool) (c : Code) (s : Span) (e : Tree) (ts m r : Input) → Produces e (assigning (coded p c)) ts m → Ends (coded p c) (statement_end (coded p c) ts e) m r → s ≡ span (lo ts) r.last → leaves c.context (expr_stmt s e) r ≡ true → (is_name e && (kind m == colon_kind)) ≡ false
 no_label p c s (ident t n) ts m r h (inl v) w q = subst (λ (k : ℕ). eqb k colon_kind ≡ false) (sym v.0) refl
 no_label p c s (ident t n) ts m r h (inr v) w q = subst (λ (y : Input). eqb (kind y) colon_kind ≡ false) (sym v.2) (ends_there (kind r == colon_kind) (s.hi.0 == t.hi.0) (not-true _ q) (eq-eqb (s.hi.0) (t.hi.0) (ap (λ (y : Span). y.hi.0) w ∙ (ap (λ (y : Input). y.last) (sym v.2) ∙ sym (ap (λ (y : Span). y.hi.0) h.1)))))
   where
@@ -226,14 +226,14 @@ no_label p c s (ident t n) ts m r h (inr v) w q = subst (λ (y : Input). eqb (ki
 no_label p c s _ ts m r h v w q = refl
 
 module _ (z : Nested) (p : Bool) (c : Code) (ts : Input) (k : List ℕ) (r : Input) where
-  expression_read : (s : Span) (e : Tree) → z.Covered e → Produces (expr_stmt s e) (coded p c) ts r → leaves (expr_stmt s e) (kind r) ≡ true → ((kind ts == let_kind) && (kind2 ts == left_bracket_kind)) ≡ false
+  expression_read : (s : Span) (e : Tree) → z.Covered e → Produces (expr_stmt s e) (coded p c) ts r → leaves c.context (expr_stmt s e) r ≡ true → ((kind ts == let_kind) && (kind2 ts == left_bracket_kind)) ≡ false
       → Reads (from ts k) (expression_by lm z.inner c (from ts k)) (Is (expr_stmt s e) r) (z.depth < z.reach e)
   unfolding expression_by
   expression_read s e g h q l = if_no ((kind ts == let_kind) && (kind2 ts == left_bracket_kind)) _ _ _ _ l (then_is (z.inner.expr c expression_level (from ts k)) _ e h.0 (z.depth < z.reach e) _ _
       (one_found z p c e ts h.0 k g h.2.0 h.2.1 (statement_follows p c ts e h.0 r h.3)) (λ u. u)
       (λ j. if_no (is_name e && (kind h.0 == colon_kind)) _ _ _ _ (no_label p c s e ts h.0 r h.2.1 h.3 h.4 q) (then_end p c (statement_end c ts e) h.0 r j _ _ _ h.3 (built (λ y. expr_stmt y e) s ts r j _ h.4))))
 
-  expression_found : (s : Span) (e : Tree) → z.Covered e → Produces (expr_stmt s e) (coded p c) ts r → leaves (expr_stmt s e) (kind r) ≡ true → Reads (from ts k) (keyword_stmt lm z.inner c (from ts k)) (Is (expr_stmt s e) r) (z.depth < z.reach e)
+  expression_found : (s : Span) (e : Tree) → z.Covered e → Produces (expr_stmt s e) (coded p c) ts r → leaves c.context (expr_stmt s e) r ≡ true → Reads (from ts k) (keyword_stmt lm z.inner c (from ts k)) (Is (expr_stmt s e) r) (z.depth < z.reach e)
   expression_found s e g h q =
       let a = or_parts (kind ts == left_brace_kind) _ (not-true _ h.1) in let b = or_parts (kind ts == function_kind) _ a.1 in let d = or_parts (kind ts == class_kind) _ b.1 in let f = or_parts ((kind ts == async_kind) && ((kind2 ts == function_kind) && not (brk2 ts))) _ d.1 in
       at_expression z.inner c ts k _ _ h.0 (opening e (coded p c) ts h.0 (level_opener e h.2.0) h.2.1) b.0 d.0 f.0 f.1 (λ l w o. let_calm p c h.0 r (subst (λ (n : ℕ). Ends (coded p c) n h.0 r) (let_class l w (name_one e h.2.0 o)) h.3)) (λ x y. last_calm x y) (expression_read s e g h q f.1)
@@ -245,14 +245,14 @@ module _ (z : Nested) (p : Bool) (c : Code) (ts : Input) (k : List ℕ) (r : Inp
       last_calm x (inl y) = subst (λ (y : Input). (may_name (kind y) && not (brk y) && true) ≡ false) (sym y) (of_three (may_name (kind h.0)) (not (brk h.0)) (calm p c (statement_end c ts e) h.0 r h.3))
       last_calm x (inr y) = of_three (may_name (kind x)) (not (brk x)) (and_left (may_name (kind x)) _ (or_parts (may_name (kind x)) _ (not-true _ y)).0)
 
-  label_read : (s : Span) (l b : Tree) → Within z.Covered (labeled_stmt s l b) → Produces (labeled_stmt s l b) (coded p c) ts r → leaves b (kind r) ≡ true → ((kind ts == let_kind) && (kind2 ts == left_bracket_kind)) ≡ false
+  label_read : (s : Span) (l b : Tree) → Within z.Covered (labeled_stmt s l b) → Produces (labeled_stmt s l b) (coded p c) ts r → leaves c.context b r ≡ true → ((kind ts == let_kind) && (kind2 ts == left_bracket_kind)) ≡ false
       → Reads (from ts k) (expression_by lm z.inner c (from ts k)) (Is (labeled_stmt s l b) r) (z.depth < within z.reach (labeled_stmt s l b))
   unfolding expression_by
   label_read s l b g h q w = if_no ((kind ts == let_kind) && (kind2 ts == left_bracket_kind)) _ _ _ _ w (then_is (z.inner.expr c expression_level (from ts k)) _ l h.0 (z.depth < z.reach l) _ _
       (one_found z p c l ts h.0 k g.0 (ident_level l h.2.0) h.2.1 (halted c (ends l) 1 colon_kind h.0 h.3.0 refl refl (λ _. refl) (omega arith))) (λ u. omega arith)
       (λ j. if_yes (is_name l && (kind h.0 == colon_kind)) _ _ _ _ (and_from (is_name l) _ (ident_name_is l h.2.0) (eq-eqb (kind h.0) colon_kind h.3.0)) (lifted (labelled_found z p c ts k r s l b h.0 j g.1 h.1 h.3.0 h.3.2 h.4 h.5 q) (λ u. omega arith))))
 
-  label_found : (s : Span) (l b : Tree) → Within z.Covered (labeled_stmt s l b) → Produces (labeled_stmt s l b) (coded p c) ts r → leaves b (kind r) ≡ true → Reads (from ts k) (keyword_stmt lm z.inner c (from ts k)) (Is (labeled_stmt s l b) r) (z.depth < within z.reach (labeled_stmt s l b))
+  label_found : (s : Span) (l b : Tree) → Within z.Covered (labeled_stmt s l b) → Produces (labeled_stmt s l b) (coded p c) ts r → leaves c.context b r ≡ true → Reads (from ts k) (keyword_stmt lm z.inner c (from ts k)) (Is (labeled_stmt s l b) r) (z.depth < within z.reach (labeled_stmt s l b))
   label_found s l b g h q =
       let i = ident_is l (coded p c) ts h.0 h.2.0 h.2.1 in let v = name_may c ts i.2 in
       let next : (n : ℕ) → eqb colon_kind n ≡ false → eqb (kind2 ts) n ≡ false = λ n e. subst (λ (y : Input). eqb (kind y) n ≡ false) (sym i.4) (subst (λ (k : ℕ). eqb k n ≡ false) (sym h.3.0) e) in
@@ -319,7 +319,7 @@ module _ (z : Nested) (p : Bool) (c : Code) (ts : Input) (k : List ℕ) (r : Inp
   var_word o w e = let v : is_var_word (kind ts) ≡ true = subst (λ (n : ℕ). is_var_word n ≡ true) (sym e) w in (no_kind is_var_word (kind ts) semicolon_kind v refl, no_kind is_var_word (kind ts) left_brace_kind v refl)
 
   -- What a statement or a declaration produces, its rule reads: the tree and the rest, or too deep where what it hands on reaches deeper.
-  pub stmt_found : (t : Tree) → Within z.Covered t → allowed c t ≡ true → Produces t (coded p c) ts r → leaves t (kind r) ≡ true → Reads (from ts k) (stmt_from lm z.inner c (from ts k)) (Is t r) (z.depth < within z.reach t)
+  pub stmt_found : (t : Tree) → Within z.Covered t → allowed c t ≡ true → Produces t (coded p c) ts r → leaves c.context t r ≡ true → Reads (from ts k) (stmt_from lm z.inner c (from ts k)) (Is t r) (z.depth < within z.reach t)
   stmt_found (block_stmt s ss) g a h q = block_stmt_found s ss g h
   stmt_found (empty_stmt s) g a h q = empty_found s _ h
   stmt_found (debugger_stmt s) g a h q = worded debugger_kind _ _ h.1.0 refl refl (at_debugger z.inner c ts k _ _ h.1.0 (debugger_found z p c ts k r s _ h))

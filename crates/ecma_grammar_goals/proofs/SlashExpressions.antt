@@ -3,7 +3,7 @@ use Rattle.std.proofs.Common.{◌≡◌, ◌≤◌, ℕ, Bool, true, false, not,
 use Rattle.ecma_token.specs.declared.place.Span.{Span}
 use Rattle.ecma_token.specs.Kinds.{div_kind, regex_kind, hash_kind, dot_kind, dot_dot_dot_kind, left_paren_kind, right_paren_kind, left_bracket_kind, right_bracket_kind, left_brace_kind, right_brace_kind, comma_kind, back_quote_kind, template_kind, colon_kind, dollar_brace_kind, question_mark_kind, regex_kind, mul_kind, assign_kind, null_kind, true_kind, false_kind, await_kind, function_kind, class_kind, new_kind, this_kind, super_kind, import_kind, yield_kind, in_kind, plus_plus_kind, minus_minus_kind, async_kind, meta_kind, target_kind, get_kind, set_kind}
 use Rattle.ecma_tree.specs.Tree.{Tree, none, pack, ident_name, this_expr, update_expr, bin_expr, assign_expr, member_expr, super_prop_expr, cond_expr, call_expr, new_expr, ident, tagged_tpl, arrow_expr, class_expr, yield_expr, meta_prop_expr, paren_expr, opt_chain_expr, opt_call, super, import, assign_prop, bool_lit, null_lit, binding_ident, assign_pat, param, absent, list}
-use Rattle.ecma_syntax.specs.Input.{PlacedToken, Input, Code, kind, kind2, brk, lo, text, span, is_word, has_in, with_in, by, in_body, in_arrow, turned_strict, in_list}
+use Rattle.ecma_syntax.specs.Input.{PlacedToken, Input, Code, kind, kind2, brk, barred, lo, text, span, is_word, has_in, with_in, by, in_body, in_arrow, turned_strict, in_list}
 use Rattle.ecma_syntax.specs.Operators.{closed_end, expression_level, assignment_level, coalesce_level, unary_level, new_level, call_level, member_level, binary_level, right_level, is_assign_op, operates, goes_expr, between, other_end}
 use Rattle.ecma_syntax.specs.Shape.{level, ends, fits_left, is_chain, is_cooked}
 use Rattle.ecma_reading.specs.Source.{Fault, unexpected, ◌>>=◌, State, input, past, spanned, at, eat, eat_word, is_name, name, any_word, Step, go_on, finished, Inner}
@@ -199,9 +199,9 @@ module _ (w : Parting) (inner : Inner Input) (told : Told w inner) where
 
   pub async_by_twin : (c : Code) (v : ℕ) (o : List ℕ) (n1 : ℕ) (p : PlacedToken) (l : List PlacedToken) → Twins w (async_by lm inner c v (on o n1 (p ∷ (l ++ regexps w)))) (async_by lm inner c v (on o n1 (p ∷ (l ++ slashes w))))
   unfolding async_by
-  async_by_twin c v o n1 p [] = twin_no w (at lm function_kind (past lm (on o n1 (p ∷ slashes w))) && not (brk (input lm (past lm (on o n1 (p ∷ slashes w)))))) (parted w (λ z. at lm function_kind (past lm (on o n1 (p ∷ z))) && not (brk (input lm (past lm (on o n1 (p ∷ z)))))) refl refl) _ _ _ (twin_no w (is_async_param lm inner c v (past lm (on o n1 (p ∷ slashes w)))) (parted w (λ z. is_async_param lm inner c v (past lm (on o n1 (p ∷ z)))) refl refl) _ _ _ (twin_no w (at lm left_paren_kind (past lm (on o n1 (p ∷ slashes w))) && not (brk (input lm (past lm (on o n1 (p ∷ slashes w)))))) (parted w (λ z. at lm left_paren_kind (past lm (on o n1 (p ∷ z))) && not (brk (input lm (past lm (on o n1 (p ∷ z)))))) refl refl) _ _ _ (ident_end_twin c v o n1 p [] (text (input lm (on o n1 (p ∷ regexps w)))) o p.spot.hi [])))
-  async_by_twin c v o n1 p (p2 ∷ []) = twin_if w (at lm function_kind (past lm (on o n1 (p ∷ p2 ∷ regexps w))) && not (brk (input lm (past lm (on o n1 (p ∷ p2 ∷ regexps w)))))) (at lm function_kind (past lm (on o n1 (p ∷ p2 ∷ slashes w))) && not (brk (input lm (past lm (on o n1 (p ∷ p2 ∷ slashes w)))))) (parted w (λ z. at lm function_kind (past lm (on o n1 (p ∷ p2 ∷ z))) && not (brk (input lm (past lm (on o n1 (p ∷ p2 ∷ z)))))) refl refl) _ _ _ _ (λ yes. function_expr_by_twin c o n1 p (p2 ∷ []) true o p.spot.hi (p2 ∷ [])) (λ no. twin_if w (is_async_param lm inner c v (past lm (on o n1 (p ∷ p2 ∷ regexps w)))) (is_async_param lm inner c v (past lm (on o n1 (p ∷ p2 ∷ slashes w)))) (parted w (λ z. is_async_param lm inner c v (past lm (on o n1 (p ∷ p2 ∷ z)))) refl refl) _ _ _ _ (λ yes. absurd (no_fourth w _ _ _ _ yes)) (λ no. twin_if w (at lm left_paren_kind (past lm (on o n1 (p ∷ p2 ∷ regexps w))) && not (brk (input lm (past lm (on o n1 (p ∷ p2 ∷ regexps w)))))) (at lm left_paren_kind (past lm (on o n1 (p ∷ p2 ∷ slashes w))) && not (brk (input lm (past lm (on o n1 (p ∷ p2 ∷ slashes w)))))) (parted w (λ z. at lm left_paren_kind (past lm (on o n1 (p ∷ p2 ∷ z))) && not (brk (input lm (past lm (on o n1 (p ∷ p2 ∷ z)))))) refl refl) _ _ _ _ (λ yes. async_group_twin c v o n1 p (p2 ∷ []) o p.spot.hi p2 []) (λ no. ident_end_twin c v o n1 p (p2 ∷ []) (text (input lm (on o n1 (p ∷ p2 ∷ regexps w)))) o p.spot.hi (p2 ∷ []))))
-  async_by_twin c v o n1 p (p2 ∷ (p3 ∷ l)) = twin_if w (at lm function_kind (past lm (on o n1 (p ∷ p2 ∷ p3 ∷ (l ++ regexps w)))) && not (brk (input lm (past lm (on o n1 (p ∷ p2 ∷ p3 ∷ (l ++ regexps w))))))) (at lm function_kind (past lm (on o n1 (p ∷ p2 ∷ p3 ∷ (l ++ slashes w)))) && not (brk (input lm (past lm (on o n1 (p ∷ p2 ∷ p3 ∷ (l ++ slashes w))))))) refl _ _ _ _ (λ yes. function_expr_by_twin c o n1 p (p2 ∷ p3 ∷ l) true o p.spot.hi (p2 ∷ p3 ∷ l)) (λ no. twin_if w (is_async_param lm inner c v (past lm (on o n1 (p ∷ p2 ∷ p3 ∷ (l ++ regexps w))))) (is_async_param lm inner c v (past lm (on o n1 (p ∷ p2 ∷ p3 ∷ (l ++ slashes w))))) (same w (λ z. is_async_param lm inner c v (past lm (on o n1 (p ∷ p2 ∷ p3 ∷ z)))) refl refl (λ p. refl) (λ p. refl) (λ p q. refl) (λ p q. refl) (λ p q r l m n. refl) l) _ _ _ _ (λ yes. name_on w c o p.spot.hi p2 (p3 ∷ l) _ _ (λ nv. arrow_by_twin c o n1 (p ∷ p2 ∷ p3 ∷ l) true (binding_ident (first lm inner (past lm (on o n1 (p ∷ p2 ∷ p3 ∷ (l ++ regexps w))))) (ident (first lm inner (past lm (on o n1 (p ∷ p2 ∷ p3 ∷ (l ++ regexps w))))) nv) ∷ []) o p2.spot.hi p3 l)) (λ no. twin_if w (at lm left_paren_kind (past lm (on o n1 (p ∷ p2 ∷ p3 ∷ (l ++ regexps w)))) && not (brk (input lm (past lm (on o n1 (p ∷ p2 ∷ p3 ∷ (l ++ regexps w))))))) (at lm left_paren_kind (past lm (on o n1 (p ∷ p2 ∷ p3 ∷ (l ++ slashes w)))) && not (brk (input lm (past lm (on o n1 (p ∷ p2 ∷ p3 ∷ (l ++ slashes w))))))) refl _ _ _ _ (λ yes. async_group_twin c v o n1 p (p2 ∷ p3 ∷ l) o p.spot.hi p2 (p3 ∷ l)) (λ no. ident_end_twin c v o n1 p (p2 ∷ p3 ∷ l) (text (input lm (on o n1 (p ∷ p2 ∷ p3 ∷ (l ++ regexps w))))) o p.spot.hi (p2 ∷ p3 ∷ l))))
+  async_by_twin c v o n1 p [] = twin_no w ((at lm function_kind (past lm (on o n1 (p ∷ slashes w))) && not (brk (input lm (past lm (on o n1 (p ∷ slashes w)))))) && not (barred c.context (input lm (past lm (on o n1 (p ∷ slashes w)))))) (parted w (λ z. (at lm function_kind (past lm (on o n1 (p ∷ z))) && not (brk (input lm (past lm (on o n1 (p ∷ z)))))) && not (barred c.context (input lm (past lm (on o n1 (p ∷ z)))))) refl refl) _ _ _ (twin_no w (is_async_param lm inner c v (past lm (on o n1 (p ∷ slashes w)))) (parted w (λ z. is_async_param lm inner c v (past lm (on o n1 (p ∷ z)))) refl refl) _ _ _ (twin_no w (at lm left_paren_kind (past lm (on o n1 (p ∷ slashes w))) && not (brk (input lm (past lm (on o n1 (p ∷ slashes w)))))) (parted w (λ z. at lm left_paren_kind (past lm (on o n1 (p ∷ z))) && not (brk (input lm (past lm (on o n1 (p ∷ z)))))) refl refl) _ _ _ (ident_end_twin c v o n1 p [] (text (input lm (on o n1 (p ∷ regexps w)))) o p.spot.hi [])))
+  async_by_twin c v o n1 p (p2 ∷ []) = twin_if w ((at lm function_kind (past lm (on o n1 (p ∷ p2 ∷ regexps w))) && not (brk (input lm (past lm (on o n1 (p ∷ p2 ∷ regexps w)))))) && not (barred c.context (input lm (past lm (on o n1 (p ∷ p2 ∷ regexps w)))))) ((at lm function_kind (past lm (on o n1 (p ∷ p2 ∷ slashes w))) && not (brk (input lm (past lm (on o n1 (p ∷ p2 ∷ slashes w)))))) && not (barred c.context (input lm (past lm (on o n1 (p ∷ p2 ∷ slashes w)))))) (parted w (λ z. (at lm function_kind (past lm (on o n1 (p ∷ p2 ∷ z))) && not (brk (input lm (past lm (on o n1 (p ∷ p2 ∷ z)))))) && not (barred c.context (input lm (past lm (on o n1 (p ∷ p2 ∷ z)))))) refl refl) _ _ _ _ (λ yes. function_expr_by_twin c o n1 p (p2 ∷ []) true o p.spot.hi (p2 ∷ [])) (λ no. twin_if w (is_async_param lm inner c v (past lm (on o n1 (p ∷ p2 ∷ regexps w)))) (is_async_param lm inner c v (past lm (on o n1 (p ∷ p2 ∷ slashes w)))) (parted w (λ z. is_async_param lm inner c v (past lm (on o n1 (p ∷ p2 ∷ z)))) refl refl) _ _ _ _ (λ yes. absurd (no_fourth w _ _ _ _ yes)) (λ no. twin_if w (at lm left_paren_kind (past lm (on o n1 (p ∷ p2 ∷ regexps w))) && not (brk (input lm (past lm (on o n1 (p ∷ p2 ∷ regexps w)))))) (at lm left_paren_kind (past lm (on o n1 (p ∷ p2 ∷ slashes w))) && not (brk (input lm (past lm (on o n1 (p ∷ p2 ∷ slashes w)))))) (parted w (λ z. at lm left_paren_kind (past lm (on o n1 (p ∷ p2 ∷ z))) && not (brk (input lm (past lm (on o n1 (p ∷ p2 ∷ z)))))) refl refl) _ _ _ _ (λ yes. async_group_twin c v o n1 p (p2 ∷ []) o p.spot.hi p2 []) (λ no. ident_end_twin c v o n1 p (p2 ∷ []) (text (input lm (on o n1 (p ∷ p2 ∷ regexps w)))) o p.spot.hi (p2 ∷ []))))
+  async_by_twin c v o n1 p (p2 ∷ (p3 ∷ l)) = twin_if w ((at lm function_kind (past lm (on o n1 (p ∷ p2 ∷ p3 ∷ (l ++ regexps w)))) && not (brk (input lm (past lm (on o n1 (p ∷ p2 ∷ p3 ∷ (l ++ regexps w))))))) && not (barred c.context (input lm (past lm (on o n1 (p ∷ p2 ∷ p3 ∷ (l ++ regexps w))))))) ((at lm function_kind (past lm (on o n1 (p ∷ p2 ∷ p3 ∷ (l ++ slashes w)))) && not (brk (input lm (past lm (on o n1 (p ∷ p2 ∷ p3 ∷ (l ++ slashes w))))))) && not (barred c.context (input lm (past lm (on o n1 (p ∷ p2 ∷ p3 ∷ (l ++ slashes w))))))) refl _ _ _ _ (λ yes. function_expr_by_twin c o n1 p (p2 ∷ p3 ∷ l) true o p.spot.hi (p2 ∷ p3 ∷ l)) (λ no. twin_if w (is_async_param lm inner c v (past lm (on o n1 (p ∷ p2 ∷ p3 ∷ (l ++ regexps w))))) (is_async_param lm inner c v (past lm (on o n1 (p ∷ p2 ∷ p3 ∷ (l ++ slashes w))))) (same w (λ z. is_async_param lm inner c v (past lm (on o n1 (p ∷ p2 ∷ p3 ∷ z)))) refl refl (λ p. refl) (λ p. refl) (λ p q. refl) (λ p q. refl) (λ p q r l m n. refl) l) _ _ _ _ (λ yes. name_on w c o p.spot.hi p2 (p3 ∷ l) _ _ (λ nv. arrow_by_twin c o n1 (p ∷ p2 ∷ p3 ∷ l) true (binding_ident (first lm inner (past lm (on o n1 (p ∷ p2 ∷ p3 ∷ (l ++ regexps w))))) (ident (first lm inner (past lm (on o n1 (p ∷ p2 ∷ p3 ∷ (l ++ regexps w))))) nv) ∷ []) o p2.spot.hi p3 l)) (λ no. twin_if w (at lm left_paren_kind (past lm (on o n1 (p ∷ p2 ∷ p3 ∷ (l ++ regexps w)))) && not (brk (input lm (past lm (on o n1 (p ∷ p2 ∷ p3 ∷ (l ++ regexps w))))))) (at lm left_paren_kind (past lm (on o n1 (p ∷ p2 ∷ p3 ∷ (l ++ slashes w)))) && not (brk (input lm (past lm (on o n1 (p ∷ p2 ∷ p3 ∷ (l ++ slashes w))))))) refl _ _ _ _ (λ yes. async_group_twin c v o n1 p (p2 ∷ p3 ∷ l) o p.spot.hi p2 (p3 ∷ l)) (λ no. ident_end_twin c v o n1 p (p2 ∷ p3 ∷ l) (text (input lm (on o n1 (p ∷ p2 ∷ p3 ∷ (l ++ regexps w))))) o p.spot.hi (p2 ∷ p3 ∷ l))))
 
   pub class_expr_by_twin : (c : Code) (o : List ℕ) (n1 : ℕ) (l : List PlacedToken) → Twins w (class_expr_by lm inner c (on o n1 ((l ++ regexps w)))) (class_expr_by lm inner c (on o n1 ((l ++ slashes w))))
   unfolding class_expr_by

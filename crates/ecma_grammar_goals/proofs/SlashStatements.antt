@@ -278,7 +278,7 @@ module _ (w : Parting) (inner : Inner Input) (told : Told w inner) where
 
   pub finally_by_twin : (c : Code) (starto : List ℕ) (startn : ℕ) (startl : List PlacedToken) (b : Tree) (h : Tree) (o : List ℕ) (n : ℕ) (l : List PlacedToken) → Twins w (finally_by lm inner c (on starto startn ((startl ++ regexps w))) b h (on o n ((l ++ regexps w)))) (finally_by lm inner c (on starto startn ((startl ++ slashes w))) b h (on o n ((l ++ slashes w))))
   unfolding finally_by
-  finally_by_twin c starto startn startl b h o n l = twin_if w (at lm finally_kind (on o n ((l ++ regexps w)))) (at lm finally_kind (on o n ((l ++ slashes w)))) (same w (λ z. at lm finally_kind (on o n z)) refl refl (λ p. refl) (λ p. refl) (λ p q. refl) (λ p q. refl) (λ p q r l m n. refl) l) _ _ _ _ (λ yes. word_at w c finally_kind (refl, refl, refl) o n l _ _ (λ rn rl. twin_then w _ _ _ _ (block_by_twin c o rn rl) (λ fv fo fn fl. twin_ok w _ _ fo fn fl (ap (λ (z : ℕ). try_stmt (span z fn) b h fv) (lo_same w starto startn startl))))) (λ no. twin_if w (is_absent h) (is_absent h) refl _ _ _ _ (λ yes. never w _ _) (λ no. twin_ok w _ _ o n l (ap (λ (z : ℕ). try_stmt (span z n) b h absent) (lo_same w starto startn startl))))
+  finally_by_twin c starto startn startl b h o n l = twin_if w (at lm finally_kind (on o n ((l ++ regexps w))) && not (barred c.context (input lm (on o n ((l ++ regexps w)))))) (at lm finally_kind (on o n ((l ++ slashes w))) && not (barred c.context (input lm (on o n ((l ++ slashes w)))))) (same w (λ z. at lm finally_kind (on o n z) && not (barred c.context (input lm (on o n z)))) refl refl (λ p. refl) (λ p. refl) (λ p q. refl) (λ p q. refl) (λ p q r l m n. refl) l) _ _ _ _ (λ yes. word_at w c finally_kind (refl, refl, refl) o n l _ _ (λ rn rl. twin_then w _ _ _ _ (block_by_twin c o rn rl) (λ fv fo fn fl. twin_ok w _ _ fo fn fl (ap (λ (z : ℕ). try_stmt (span z fn) b h fv) (lo_same w starto startn startl))))) (λ no. twin_if w (is_absent h) (is_absent h) refl _ _ _ _ (λ yes. never w _ _) (λ no. twin_ok w _ _ o n l (ap (λ (z : ℕ). try_stmt (span z n) b h absent) (lo_same w starto startn startl))))
 
   pub try_by_twin : (c : Code) (o : List ℕ) (n : ℕ) (l : List PlacedToken) → Twins w (try_by lm inner c (on o n ((l ++ regexps w)))) (try_by lm inner c (on o n ((l ++ slashes w))))
   unfolding try_by

@@ -139,8 +139,8 @@ module _ (inner : Inner Input) (good : Sound inner) where
   async_sure : (c : Code) (l : ℕ) (s : State Input) → kind (seen s) ≡ async_kind → Sure s.commas (async_by lm inner c l s) (Made c s)
   unfolding async_by
   async_sure c l s e = let t = soft c async_kind s e and_no in
-      if_sure s.commas (eqb (kind (seen (next s))) function_kind && not (brk (seen (next s)))) _ _ _
-      (λ z. let b = and_parts (eqb (kind (seen (next s))) function_kind) (not (brk (seen (next s)))) z in
+      if_sure s.commas ((eqb (kind (seen (next s))) function_kind && not (brk (seen (next s)))) && not (barred c.context (seen (next s)))) _ _ _
+      (λ z. let b = and_parts (eqb (kind (seen (next s))) function_kind) (not (brk (seen (next s)))) (and_parts (eqb (kind (seen (next s))) function_kind && not (brk (seen (next s)))) _ z).0 in
       sure_map s.commas (function_expr_by lm inner c s true (next s)) _ _ (function_expr_sure c s true (next s) ((e, t, tt, refl), not-true (brk (seen (next s))) b.1)) (λ x h. h.0))
       (λ _. if_sure s.commas (is_async_param lm inner c l (next s)) _ _ _
       (λ z. let b = and_parts (is_name lm c (next s)) _ z in let y = and_parts (not (brk (seen (next s))) && eqb (kind2 (seen (next s))) arrow_kind && not (brk2 (seen (next s)))) (leb l assignment_level) b.1 in

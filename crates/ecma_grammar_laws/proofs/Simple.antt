@@ -4,7 +4,7 @@ use Rattle.std.proofs.lemmas.Bool.{or_parts, or_left}
 use Rattle.ecma_token.specs.declared.place.Span.{Span}
 use Rattle.ecma_token.specs.Kinds.{left_paren_kind, right_paren_kind, left_brace_kind, right_brace_kind, semicolon_kind, colon_kind, end_kind, case_kind, catch_kind, debugger_kind, default_kind, do_kind, else_kind, finally_kind, if_kind, return_kind, switch_kind, throw_kind, try_kind, while_kind, with_kind}
 use Rattle.ecma_tree.specs.Tree.{Tree, pack, ident, absent, with_stmt, while_stmt, do_while_stmt, if_stmt, return_stmt, throw_stmt, debugger_stmt, switch_stmt, switch_case, try_stmt, catch_clause}
-use Rattle.ecma_syntax.specs.Input.{Input, Code, kind, brk, text, Takes, TakesWord, lo, hi, span, first_span, in_list, alone, is_strict}
+use Rattle.ecma_syntax.specs.Input.{Input, Code, kind, brk, barred, text, Takes, TakesWord, lo, hi, span, first_span, in_list, alone, is_strict}
 use Rattle.ecma_syntax.specs.Operators.{expression_level, plain_end}
 use Rattle.ecma_syntax.specs.Shape.{level, ends, is_absent, is_item, is_statement, is_plain_function, is_block, is_case, is_catch, is_default_case, is_binding}
 use Rattle.ecma_grammar.specs.Children.{child, By, Expr, Sorted, Maybe, Items, Ends, is_ident}
@@ -237,7 +237,7 @@ module _ (inner : Inner Input) (good : Sound inner) where
   finally_sure : (c : Code) (start : State Input) (b h : Tree) (m n : Input) (s : State Input) → TakesWord (plain c) try_kind (seen start) m → Sorted is_block (plain c) (child b (λ y. Produces b y)) m n → Maybe (Sorted is_catch) (plain c) (child h (λ y. Produces h y)) n (seen s)
       → Sure s.commas (finally_by lm inner c start b h s) (GotStmt c start)
   unfolding finally_by
-  finally_sure c start b h m n s t k g = test_sure s.commas (kind (seen s)) finally_kind _ _ _
+  finally_sure c start b h m n s t k g = if_sure s.commas (eqb (kind (seen s)) finally_kind && not (barred c.context (seen s))) _ _ _
       (λ _. word_sure c finally_kind s _ _ (λ e w. then_sure s.commas (block_by lm inner c (next s)) _ _ _ (block_sure inner good c (next s)) (λ f j. let z = blocked f.0 j.0 in
       done (try_stmt (span (lo (seen start)) f.1.source.last) b h f.0, f.1) (GotStmt c start) (
         refl,

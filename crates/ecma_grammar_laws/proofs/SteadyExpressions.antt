@@ -3,7 +3,7 @@ use Rattle.std.proofs.Common.{◌≡◌, ℕ, Bool, true, false, not, ◌&&◌, 
 use Rattle.ecma_token.specs.declared.place.Span.{Span}
 use Rattle.ecma_token.specs.Kinds.{hash_kind, dot_kind, dot_dot_dot_kind, left_paren_kind, right_paren_kind, left_bracket_kind, right_bracket_kind, left_brace_kind, right_brace_kind, comma_kind, back_quote_kind, template_kind, colon_kind, dollar_brace_kind, question_mark_kind, regex_kind, mul_kind, assign_kind, null_kind, true_kind, false_kind, await_kind, function_kind, class_kind, new_kind, this_kind, super_kind, import_kind, yield_kind, in_kind, plus_plus_kind, minus_minus_kind, async_kind, get_kind, set_kind}
 use Rattle.ecma_tree.specs.Tree.{Tree, this_expr, ident, setter_prop, bool_lit, null_lit, binding_ident}
-use Rattle.ecma_syntax.specs.Input.{Code, kind, kind2, brk, lo, text, content, is_word, has_in, with_in, by, in_body, in_arrow, turned_strict, in_list}
+use Rattle.ecma_syntax.specs.Input.{Code, kind, kind2, brk, barred, lo, text, content, is_word, has_in, with_in, by, in_body, in_arrow, turned_strict, in_list}
 use Rattle.ecma_syntax.specs.Operators.{expression_level, assignment_level, coalesce_level, unary_level, call_level, member_level, binary_level, right_level, is_assign_op, operates, goes_expr, between}
 use Rattle.ecma_syntax.specs.Shape.{level, ends, fits_left, is_chain}
 use Rattle.ecma_reading.specs.Source.{◌>>=◌, Stream, State, input, past, operand, bound, spanned, at, eat, eat_word, is_name, name, Inner}
@@ -150,7 +150,7 @@ module _ {S : Type 0} (m : Stream S) (few many : Inner S) (same : Steady few man
 
   pub async_by_steady : (c : Code) (l : ℕ) (s : State S) → Agrees (async_by m few c l s) (async_by m many c l s)
   unfolding async_by
-  async_by_steady c l s = agree_if (at m function_kind (past m s) && not (brk (input m (past m s)))) _ _ _ _ (function_expr_by_steady c s true (past m s)) (agree_if (is_async_param m few c l (past m s)) _ _ _ _ (agree_after (name m c (past m s)) _ _ (λ n. arrow_by_steady c s true (binding_ident (first m few (past m s)) (ident (first m few (past m s)) n.0) ∷ []) n.1)) (agree_if (at m left_paren_kind (past m s) && not (brk (input m (past m s)))) _ _ _ _ (async_group_steady c l s (past m s)) (ident_end_steady c l s (text (input m s)) (past m s))))
+  async_by_steady c l s = agree_if ((at m function_kind (past m s) && not (brk (input m (past m s)))) && not (barred c.context (input m (past m s)))) _ _ _ _ (function_expr_by_steady c s true (past m s)) (agree_if (is_async_param m few c l (past m s)) _ _ _ _ (agree_after (name m c (past m s)) _ _ (λ n. arrow_by_steady c s true (binding_ident (first m few (past m s)) (ident (first m few (past m s)) n.0) ∷ []) n.1)) (agree_if (at m left_paren_kind (past m s) && not (brk (input m (past m s)))) _ _ _ _ (async_group_steady c l s (past m s)) (ident_end_steady c l s (text (input m s)) (past m s))))
 
   pub class_expr_by_steady : (c : Code) (s : State S) → Agrees (class_expr_by m few c s) (class_expr_by m many c s)
   unfolding class_expr_by

@@ -3,7 +3,7 @@ use Rattle.std.proofs.Common.{◌≡◌, ℕ, Bool, true, false, not, ◌&&◌, 
 use Rattle.ecma_token.specs.declared.place.Span.{Span}
 use Rattle.ecma_token.specs.Kinds.{dot_dot_dot_kind, left_paren_kind, right_paren_kind, left_bracket_kind, right_bracket_kind, left_brace_kind, right_brace_kind, semicolon_kind, comma_kind, colon_kind, hash_kind, mul_kind, assign_kind, await_kind, break_kind, case_kind, catch_kind, continue_kind, debugger_kind, default_kind, do_kind, else_kind, finally_kind, for_kind, function_kind, if_kind, return_kind, switch_kind, throw_kind, try_kind, var_kind, let_kind, const_kind, while_kind, with_kind, class_kind, extends_kind, in_kind, async_kind, of_kind, using_kind, static_kind, accessor_kind, get_kind, set_kind}
 use Rattle.ecma_tree.specs.Tree.{Tree, pack, break_stmt, continue_stmt, for_in_stmt, for_of_stmt, var_decl, using_decl, rest_pat, absent}
-use Rattle.ecma_syntax.specs.Input.{Code, kind, kind2, brk, brk2, lo, dots_at, rest, with_in, without_in, in_list, alone, in_body, in_field, in_static, turned_strict}
+use Rattle.ecma_syntax.specs.Input.{Code, kind, kind2, brk, brk2, barred, lo, dots_at, rest, with_in, without_in, in_list, alone, in_body, in_field, in_static, turned_strict}
 use Rattle.ecma_syntax.specs.Operators.{expression_level, assignment_level, new_level, starts_key, key_end}
 use Rattle.ecma_syntax.specs.Shape.{is_name, is_structured, is_default_case, constructs, field_end}
 use Rattle.ecma_reading.specs.Source.{◌>>=◌, Stream, State, input, past, operand, bound, spanned, at, eat, eat_word, name, Inner}
@@ -236,7 +236,7 @@ module _ {S : Type 0} (m : Stream S) (few many : Inner S) (same : Steady few man
 
   pub finally_by_steady : (c : Code) (start : State S) (b : Tree) (h : Tree) (s : State S) → Agrees (finally_by m few c start b h s) (finally_by m many c start b h s)
   unfolding finally_by
-  finally_by_steady c start b h s = agree_if (at m finally_kind s) _ _ _ _ (agree_after (eat_word m c finally_kind s) _ _ (λ r. agree_then _ _ _ _ (block_by_steady c r) (λ f. agree_same _))) (agree_same _)
+  finally_by_steady c start b h s = agree_if (at m finally_kind s && not (barred c.context (input m s))) _ _ _ _ (agree_after (eat_word m c finally_kind s) _ _ (λ r. agree_then _ _ _ _ (block_by_steady c r) (λ f. agree_same _))) (agree_same _)
 
   pub try_by_steady : (c : Code) (s : State S) → Agrees (try_by m few c s) (try_by m many c s)
   unfolding try_by

@@ -2,7 +2,7 @@
 use Rattle.std.specs.Prelude.{ℕ, true, false, not, ◌&&◌, if◌then◌else◌, List, [], ◌∷◌, Ok}
 use Rattle.ecma_token.specs.Kinds.{function_kind, left_paren_kind, right_paren_kind}
 use Rattle.ecma_tree.specs.Tree.{Tree, pack, call_expr, ident, binding_ident}
-use Rattle.ecma_syntax.specs.Input.{Code, brk, with_in}
+use Rattle.ecma_syntax.specs.Input.{Code, barred, brk, with_in}
 use Rattle.ecma_reading.specs.Source.{◌>>=◌, Stream, State, Read, Inner, input, past, spanned, at, name}
 use Rattle.ecma_reading.specs.Expressions.{arrow_by, elements_by, first, function_expr_by, heads_params, ident_end, is_async_param, params_of}
 
@@ -20,7 +20,7 @@ module _ {S : Type 0} (m : Stream S) (inner : Inner S) where
   -- a function, an arrow, or a name
   unfoldable pub async_end : Code → ℕ → State S → List ℕ → Read S Tree
   async_end c l start n r =
-      if at m function_kind r && not (brk (input m r)) then function_expr_by m inner c start true r
+      if (at m function_kind r && not (brk (input m r))) && not (barred c.context (input m r)) then function_expr_by m inner c start true r
       else (if is_async_param m inner c l r then async_arrow c start r
       else (if at m left_paren_kind r && not (brk (input m r)) then async_call c l start n r
       else ident_end m inner c l start n r))

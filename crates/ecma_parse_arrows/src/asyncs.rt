@@ -105,7 +105,7 @@ pub fn async_end<'a, I: Tokens<'a> + Drop, N: Nested<'a, I>>(
     ensures value { Gives (λ x. (tree_of x, state_of I.state p.new)) result (async_end (stream_of I.machine) (N.reads nested.now I.State I.machine) (code_of code) level (from_span place) sym (state_of I.state p.old)) }
     ensures not_longer { Stays result (spec.bound (stream_of I.machine) (state_of I.state p.new)) (spec.bound (stream_of I.machine) (state_of I.state p.old)) }
 {
-    if p.at(kinds::FUNCTION) && !p.breaks() {
+    if p.at(kinds::FUNCTION) && !p.breaks() && !p.is_barred(code.context) {
         return function_operand(p, nested, code, place.lo, true);
     }
     if is_param(p, code, level)? {

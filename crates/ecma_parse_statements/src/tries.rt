@@ -72,7 +72,7 @@ pub fn finally<'a, I: Tokens<'a> + Drop, N: Nested<'a, I>>(
     ensures holds { IfOk result (λ x. holds_stmt x.part.value) }
     ensures not_longer { Stays result (spec.bound (stream_of I.machine) (state_of I.state p.new)) (spec.bound (stream_of I.machine) (state_of I.state p.old)) }
 {
-    if p.at(kinds::FINALLY) {
+    if p.at(kinds::FINALLY) && !p.is_barred(code.context) {
         p.eat_word(code, kinds::FINALLY)?;
         let last = block(p, nested, code)?;
         return made::try_stmt(p.alloc, p.since(start), body, handler, Some(last));

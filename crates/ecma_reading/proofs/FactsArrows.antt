@@ -163,3 +163,14 @@ rows_10 : Hold (
     no_front 1 (codes "()+a") ∷ [])
 unfolding opened
 rows_10 = refl
+
+-- Before `function` with an escape, and before `function` on another line, `async` is a name.
+rows_11 : Hold (
+    front_row 1 (codes "async function(){}") 0 (codes "(fn - (async (block)))") ∷
+    front_row 1 (codes "async @function(){}") 5 (codes "async") ∷
+    front_row 1 (codes "async\nfunction(){}") 5 (codes "async") ∷
+    front_row 1 (codes "a+async @function") 1 (codes "(+ a async)") ∷
+    no_script (codes "async @function(){}") ∷
+    no_script (codes "async @function a(){}") ∷ [])
+unfolding opened
+rows_11 = refl

@@ -1,6 +1,6 @@
 -- Jumps, labels, switch, try.
 use Rattle.std.proofs.Common.{[], ◌∷◌, codes, refl}
-use Rattle.ecma_reading.proofs.Rows.{Hold, opened, no_script, script_row}
+use Rattle.ecma_reading.proofs.Rows.{Hold, opened, no_script, script_row, statement_front_row, no_statement_front}
 
 rows_1 : Hold (
     script_row (codes "a:b") (codes "(label a (do b))") ∷
@@ -42,3 +42,13 @@ rows_3 : Hold (
     script_row (codes "with(a)b") (codes "(with a (do b))") ∷ [])
 unfolding opened
 rows_3 = refl
+
+-- `finally` with an escape is no word of a `try`: what stands before it is a statement where a `catch` does.
+rows_4 : Hold (
+    statement_front_row (codes "try{}catch{}finally{}") 0 (codes "(try (block) (catch - (block)) (block))") ∷
+    statement_front_row (codes "try{}catch{}@finally{}") 3 (codes "(try (block) (catch - (block)) -)") ∷
+    statement_front_row (codes "try{}catch(a){}b") 1 (codes "(try (block) (catch a (block)) -)") ∷
+    no_statement_front (codes "try{}@finally{}") ∷
+    no_script (codes "try{}catch{}@finally{}") ∷ [])
+unfolding opened
+rows_4 = refl

@@ -81,6 +81,16 @@ front_row level text left wanted = record { text = text; got = front_told (read_
 unfoldable pub no_front : ℕ → List ℕ → Row
 no_front level text = record { text = text; got = front_told (read_front level text); wanted = codes "no" }
 
+-- a statement at the front of a text, in the same way
+abbrev pub read_statement_front : List ℕ → Result (Tree × State Input) Fault
+read_statement_front text = (readers list_stream 40).stmt (script_code plain_syntax) (record { source = record { last = 1; places = places_of text }; commas = [] })
+
+unfoldable pub statement_front_row : List ℕ → ℕ → List ℕ → Row
+statement_front_row text left wanted = record { text = text; got = front_told (read_statement_front text); wanted = left ∷ wanted }
+
+unfoldable pub no_statement_front : List ℕ → Row
+no_statement_front text = record { text = text; got = front_told (read_statement_front text); wanted = codes "no" }
+
 -- the early errors of a script, and of a module
 unfoldable pub script_faults : List ℕ → List ℕ → Row
 script_faults text wanted = record { text = text; got = errors_told (errors_of plain_syntax (read_text false plain_syntax text)); wanted = wanted }
@@ -99,5 +109,5 @@ Hold rows = wrong rows ≡ []
 
 -- what the facts open: each rule of the reading function
 unfoldable pub opened : ℕ
-unfolding kind_of operator_text script_row module_row full_row no_script no_module front_row no_front script_faults module_faults wrong shape early_errors faults_in punctuator word number quoted pattern characters closing hashbang cut tokens places_of eat eat_word name any_word end_of iterate_n iterate is_clean literal_by element_by after_element element_step elements_by array_by computed_by key_by private_by parameter_by parameter_step parameters_by function_by setter_parameter star method_prop_by getter_by setter_by prop_rest prop_by prop_step object_by quasi_end quasi_step template_by arrow_by params_of group_end group_by ident_end arguments_by async_group function_expr_name function_expr_by async_by class_expr_by new_end callee_by new_by super_end import_by unary_by update_by await_by yield_end yield_by word_by keyword_by prefix_by member_name member_by index_by call_by chain_by cond_by assign_by binary_by step_by loop_step loop_by private_in expr_from expr_by initial_pat after_item array_item array_pat_by keyed_item named_item pattern_prop object_item object_pat_by pat_by block_step block_rest block_by body_item body_step body_by declarator_by declarator_step declarators_by variables_by using_by function_decl_by class_decl_by field_value class_key class_method_by class_getter class_setter accessor_by field_or_method generator_member member_rest static_by member_step members_by class_tail_by in_parens sub_by with_by while_by do_by else_by if_step if_by return_by throw_by label_by jump_by debugger_by case_step case_rest case_by cases_step switch_by catch_by finally_by try_by clause_by for_rest over_rest in_rest of_rest head_rest for_variables for_using for_expression_rest for_expression for_head for_by labelled_by expression_by keyword_stmt stmt_by stmt_from string_by export_name_by local_by attributes_by source_by named_import named_export_item specifier_step specifiers_by star_import import_end import_rest import_default import_decl_by export_default export_star export_list export_by item_by program_item program_step program_rest program_by readers finish read_program read_list errors_of
+unfolding kind_of operator_text script_row module_row full_row no_script no_module front_row no_front statement_front_row no_statement_front script_faults module_faults wrong shape early_errors faults_in punctuator word number quoted pattern characters closing hashbang cut tokens places_of eat eat_word name any_word end_of iterate_n iterate is_clean literal_by element_by after_element element_step elements_by array_by computed_by key_by private_by parameter_by parameter_step parameters_by function_by setter_parameter star method_prop_by getter_by setter_by prop_rest prop_by prop_step object_by quasi_end quasi_step template_by arrow_by params_of group_end group_by ident_end arguments_by async_group function_expr_name function_expr_by async_by class_expr_by new_end callee_by new_by super_end import_by unary_by update_by await_by yield_end yield_by word_by keyword_by prefix_by member_name member_by index_by call_by chain_by cond_by assign_by binary_by step_by loop_step loop_by private_in expr_from expr_by initial_pat after_item array_item array_pat_by keyed_item named_item pattern_prop object_item object_pat_by pat_by block_step block_rest block_by body_item body_step body_by declarator_by declarator_step declarators_by variables_by using_by function_decl_by class_decl_by field_value class_key class_method_by class_getter class_setter accessor_by field_or_method generator_member member_rest static_by member_step members_by class_tail_by in_parens sub_by with_by while_by do_by else_by if_step if_by return_by throw_by label_by jump_by debugger_by case_step case_rest case_by cases_step switch_by catch_by finally_by try_by clause_by for_rest over_rest in_rest of_rest head_rest for_variables for_using for_expression_rest for_expression for_head for_by labelled_by expression_by keyword_stmt stmt_by stmt_from string_by export_name_by local_by attributes_by source_by named_import named_export_item specifier_step specifiers_by star_import import_end import_rest import_default import_decl_by export_default export_star export_list export_by item_by program_item program_step program_rest program_by readers finish read_program read_list errors_of
 opened = 0

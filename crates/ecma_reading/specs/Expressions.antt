@@ -5,7 +5,7 @@ use Rattle.ecma_token.specs.Kinds.{arrow_kind, hash_kind, dot_kind, dot_dot_dot_
 use Rattle.ecma_token.specs.Tokens.{Content, Quoted, Piece, Pattern, Numeral, BigNumeral}
 use Rattle.ecma_tree.specs.Tree.{Tree, none, more, pack, unpack, function, ident_name, computed_prop_name, private_name, this_expr, array_lit, object_lit, fn_expr, unary_expr, update_expr, bin_expr, assign_expr, member_expr, super_prop_expr, cond_expr, call_expr, new_expr, seq_expr, ident, tpl, tpl_element, tagged_tpl, arrow_expr, class_expr, yield_expr, meta_prop_expr, await_expr, paren_expr, opt_chain_expr, opt_call, super, import, expr_or_spread, spread_element, key_value_prop, assign_prop, getter_prop, setter_prop, method_prop, str_lit, bool_lit, null_lit, number_lit, big_int_lit, regex_lit, binding_ident, assign_pat, rest_pat, param, absent, hole, list}
 use Rattle.ecma_tree.specs.Places.{place_of}
-use Rattle.ecma_syntax.specs.Input.{Code, kind, kind2, brk, brk2, lo, hi, dots_at, text, content, span, first_span, is_word, has_in, with_in, by, in_body, in_arrow, turned_strict, in_list}
+use Rattle.ecma_syntax.specs.Input.{Code, kind, kind2, brk, brk2, lo, hi, dots_at, text, content, span, first_span, is_word, barred, has_in, with_in, by, in_body, in_arrow, turned_strict, in_list}
 use Rattle.ecma_syntax.specs.Operators.{expression_level, assignment_level, coalesce_level, unary_level, new_level, call_level, member_level, binary_level, right_level, is_assign_op, operates, goes_expr, between, starts_key, other_end}
 use Rattle.ecma_syntax.specs.Shape.{level, ends, fits_left, is_chain, is_cooked, is_spread}
 use Rattle.ecma_reading.specs.Source.{Fault, unexpected, ◌>>=◌, Stream, State, Read, input, past, operand, bound, spanned, at, eat, eat_word, is_name, name, any_word, Step, go_on, finished, iterate, Inner}
@@ -290,10 +290,10 @@ module _ {S : Type 0} (m : Stream S) (inner : Inner S) where
   abbrev pub is_async_param : Code → ℕ → State S → Bool
   is_async_param c l s = is_name m c s && ((not (brk (input m s)) && (kind2 (input m s) == arrow_kind) && not (brk2 (input m s))) && nat_le l assignment_level)
 
-  -- the word `async`: of a function, of an arrow, or a name
+  -- the word `async`: of a function, of an arrow, or a name. Before `function` with an escape it is a name.
   unfoldable pub async_by : Code → ℕ → Read S Tree
   async_by c l s =
-      if at m function_kind (past m s) && not (brk (input m (past m s))) then function_expr_by c s true (past m s)
+      if (at m function_kind (past m s) && not (brk (input m (past m s)))) && not (barred c.context (input m (past m s))) then function_expr_by c s true (past m s)
       else (if is_async_param c l (past m s) then (name m c (past m s) >>= λ n.
       arrow_by c s true (binding_ident (first (past m s)) (ident (first (past m s)) n.0) ∷ []) n.1)
       else (if at m left_paren_kind (past m s) && not (brk (input m (past m s))) then async_group c l s (past m s)

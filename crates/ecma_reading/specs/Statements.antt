@@ -320,7 +320,7 @@ module _ {S : Type 0} (m : Stream S) (inner : Inner S) where
 
   unfoldable pub finally_by : Code → State S → Tree → Tree → Read S Tree
   finally_by c start b h s =
-      if at m finally_kind s then (eat_word m c finally_kind s >>= λ r. block_by c r >>= λ f. Ok (try_stmt (spanned m start f.1) b h f.0, f.1))
+      if at m finally_kind s && not (barred c.context (input m s)) then (eat_word m c finally_kind s >>= λ r. block_by c r >>= λ f. Ok (try_stmt (spanned m start f.1) b h f.0, f.1))
       else (if is_absent h then unexpected else Ok (try_stmt (spanned m start s) b h absent, s))
 
   unfoldable pub try_by : Code → Read S Tree
