@@ -1,6 +1,5 @@
 //! Declarations of variables (ECMA-262, 14.3).
-ghost use Rattle.std.specs.Prelude.{◌≡◌, ◌≢◌, None, MatchOption, false, IfOk};
-ghost use Rattle.ecma_token.specs.Kinds.{const_kind, let_kind, var_kind};
+ghost use Rattle.std.specs.Prelude.{◌≡◌, ◌≢◌, None, false, IfOk};
 ghost use Rattle.ecma_syntax.specs.Input.{kind};
 ghost use Rattle.ecma_syntax.specs.Shape as shape;
 ghost use Rattle.ecma_node.specs.Fits.{fits_var_declarator};
@@ -126,18 +125,6 @@ pub fn declarators<'a, I: Tokens<'a> + Drop, N: Nested<'a, I>>(
     };
     'turns: while declarator_turn(p, nested, code, &mut list)? {}
     Ok(list)
-}
-
-/// The word that declares variables, of this kind.
-pub fn var_kind(kind: u8) -> Option<VarDeclKind>
-    ensures { MatchOption result ((kind ≡ var_kind → ⊥) × ((kind ≡ let_kind → ⊥) × (kind ≡ const_kind → ⊥))) (λ x. var_decl_kind_word x ≡ kind) }
-{
-    match kind {
-        kinds::VAR => Some(VarDeclKind::Var),
-        kinds::LET => Some(VarDeclKind::Let),
-        kinds::CONST => Some(VarDeclKind::Const),
-        _ => None,
-    }
 }
 
 /// `var`, `let` or `const`, with what it declares.

@@ -1,17 +1,17 @@
-//! The target of an assignment, and the head of a `for`, which were read as expressions.
+//! The target of an assignment, which was read as an expression.
 ghost use Rattle.std.specs.Prelude.{◌≡◌, false, true, reverse, IfOk, ℕ, List};
 ghost use Rattle.ecma_node.specs.Fits.{fits_assign_target};
-ghost use Rattle.ecma_node.specs.Placed.{holds_expr, holds_pat, inner};
+ghost use Rattle.ecma_node.specs.Placed.{holds_expr, inner};
 ghost use Rattle.ecma_node.specs.View.{view_assign_target};
 ghost use Rattle.ecma_reading.specs.Source.{unexpected};
-ghost use Rattle.ecma_reading.specs.Cover.{to_head, to_item, to_target};
+ghost use Rattle.ecma_reading.specs.Cover.{to_target};
 ghost use Rattle.ecma_parse_state.specs.Answers.{Gives};
 ghost use Rattle.ecma_parse_cover.specs.Items.{may_be_target};
 
-use crate::items::{array, item, object};
+use crate::items::{array, object};
 use crate::leaves::is_simple;
 use crate::made;
-use ecma_node::{AssignTarget, ExprBox, ExprKind, PatBox};
+use ecma_node::{AssignTarget, ExprBox, ExprKind};
 use ecma_parse_state::{Failure, kinds};
 use ecma_token::Spanned;
 use std::alloc::Global;
@@ -53,25 +53,4 @@ pub fn target(
         ExprKind::Object(x) => Ok(AssignTarget::Object(object(alloc, false, commas, x)?)),
         _ => unreachable!(),
     }
-}
-
-/// Whether an expression is an assignment.
-fn is_assignment(expr: &ExprBox) -> bool
-    requires { holds_expr expr.now.part.value }
-    ensures some { result ≡ true → (commas : List ℕ) → to_head commas (inner expr.now.part.value) ≡ unexpected }
-    ensures none { result ≡ false → (commas : List ℕ) → to_head commas (inner expr.now.part.value) ≡ to_item false commas (inner expr.now.part.value) }
-{
-    matches!(&expr.get().kind, ExprKind::Assign(_))
-}
-
-/// What heads a `for` over a list or over keys.
-pub fn head(alloc: Global, commas: &[u32], expr: ExprBox) -> Result<PatBox, Failure>
-    requires { holds_expr expr.part.value }
-    ensures value { Gives (λ x. inner x.part.value) result (to_head (reverse commas.now) (inner expr.part.value)) }
-    ensures holds { IfOk result (λ x. holds_pat x.part.value) }
-{
-    if is_assignment(&expr) {
-        return Err(made::refused(expr.span()));
-    }
-    item(alloc, false, commas, expr)
 }

@@ -1,4 +1,5 @@
--- What the rules of expressions share, those of literals and of prefixes among them.
+-- What the rules of expressions share, those of literals, of prefixes and of `new` among them.
+pub mod News
 pub mod Pieces
 pub mod Steps
 pub mod Words

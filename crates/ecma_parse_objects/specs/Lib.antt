@@ -1,4 +1,3 @@
--- What the rules of objects and of `new` share.
+-- What the rules of objects share.
 pub mod Lists
-pub mod News
 pub mod Props

@@ -1,8 +1,7 @@
-//! The rules of objects and of `new`.
+//! The rules of objects.
 #![tactic(auto)]
 
 pub mod lists;
 pub mod made;
-pub mod news;
 pub mod objects;
 pub mod properties;

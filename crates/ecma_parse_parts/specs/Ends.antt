@@ -1,10 +1,8 @@
--- Where a part of a program ends that is read alone: its end doesn't go on as an arrow, and what was read is a finished tree within the limit.
-use Rattle.std.specs.Prelude.{ℕ, Bool, false, not, ◌&&◌, nat_le, if◌then◌else◌, List, [], ◌∷◌, Option, Some, None, Result, Ok, Err, codes, bytes_eq}
+-- Where a part of a program ends that is read alone: its end doesn't go on as an arrow.
+use Rattle.std.specs.Prelude.{Bool, false, not, ◌&&◌, if◌then◌else◌, List, [], ◌∷◌, Option, Some, None, codes, bytes_eq}
 use Rattle.ecma_tree.specs.Tree.{Tree, Trees, none, more, ident, seq_expr, assign_expr, cond_expr, arrow_expr, yield_expr, param, assign_pat, absent}
-use Rattle.ecma_nesting.specs.Nesting.{nesting}
 use Rattle.ecma_syntax.specs.Input.{Code, brk, in_arrow}
-use Rattle.ecma_syntax.specs.Shape.{is_clean}
-use Rattle.ecma_reading.specs.Source.{Fault, TooDeep, unexpected, Stream, State, input, is_name}
+use Rattle.ecma_reading.specs.Source.{Stream, State, input, is_name}
 
 -- ---- the word `async` at the end of an expression
 
@@ -42,7 +40,3 @@ module _ {S : Type 0} (m : Stream S) where
   abbrev pub heads_arrow : Option Code → State S → Bool
   heads_arrow None s = false
   heads_arrow (Some c) s = not (brk (input m s)) && is_name m c s
-
-  -- What is read nests no deeper than the limit, and nothing of a cover is left in it.
-  unfoldable pub settled : ℕ → Tree × State S → Result (Tree × State S) Fault
-  settled limit x = if nat_le (nesting x.0) limit then (if is_clean x.0 then Ok x else unexpected) else Err TooDeep

@@ -8,7 +8,8 @@ use Rattle.ecma_syntax.specs.Input.{Code}
 use Rattle.ecma_reading.specs.Source.{unexpected, ◌>>=◌, Stream, Inner, State, Read, past, bound, at, is_name, Step, go_on, finished, iterate}
 use Rattle.ecma_reading.specs.Expressions.{key_by, parameter_by, is_rest_param}
 use Rattle.ecma_reading.specs.Reading.{readers}
-use Rattle.ecma_parse_parts.specs.Ends.{async_end, heads_arrow, last_of, last_initial, settled}
+use Rattle.ecma_parse_parts.specs.Ends.{async_end, heads_arrow, last_of, last_initial}
+use Rattle.ecma_parse_parts.specs.Within.{settled}
 
 module _ {S : Type 0} (m : Stream S) where
   -- ---- parameters without their parentheses (15.1)
@@ -34,16 +35,16 @@ module _ {S : Type 0} (m : Stream S) where
 
   -- Expression (13.16), AssignmentExpression (13.15)
   unfoldable pub expression_part : ℕ → ℕ → Code → Read S Tree
-  expression_part l limit c s = (readers m limit).expr c l s >>= settled m limit >>= λ x. if heads_arrow m (async_end c (last_of x.0)) x.1 then unexpected else Ok x
+  expression_part l limit c s = (readers m limit).expr c l s >>= settled limit >>= λ x. if heads_arrow m (async_end c (last_of x.0)) x.1 then unexpected else Ok x
 
   -- a name or a pattern that binds (14.3.3)
   unfoldable pub binding_part : ℕ → Code → Read S Tree
-  binding_part limit c s = (readers m limit).pat c s >>= settled m limit
+  binding_part limit c s = (readers m limit).pat c s >>= settled limit
 
   -- PropertyName (13.2.5)
   unfoldable pub key_part : ℕ → Code → Read S Tree
-  key_part limit c s = key_by m (readers m limit) c s >>= settled m limit
+  key_part limit c s = key_by m (readers m limit) c s >>= settled limit
 
   -- FormalParameters (15.1)
   unfoldable pub parameters_part : ℕ → Code → Read S Tree
-  parameters_part limit c s = bare_by (readers m limit) c s >>= λ x. settled m limit (as_list x) >>= λ y. if heads_arrow m (async_end c (last_initial x.0)) y.1 then unexpected else Ok y
+  parameters_part limit c s = bare_by (readers m limit) c s >>= λ x. settled limit (as_list x) >>= λ y. if heads_arrow m (async_end c (last_initial x.0)) y.1 then unexpected else Ok y

@@ -7,7 +7,8 @@ use Rattle.ecma_reading.specs.Source.{unexpected, ◌>>=◌, Stream, Inner, Read
 use Rattle.ecma_reading.specs.Expressions.{prop_by}
 use Rattle.ecma_reading.specs.Statements.{pattern_prop}
 use Rattle.ecma_reading.specs.Reading.{readers}
-use Rattle.ecma_parse_parts.specs.Ends.{async_end, heads_arrow, settled}
+use Rattle.ecma_parse_parts.specs.Ends.{async_end, heads_arrow}
+use Rattle.ecma_parse_parts.specs.Within.{settled}
 use Rattle.ecma_parse_patterns.specs.Items.{object_rest}
 
 -- the expression with which a property ends
@@ -25,10 +26,10 @@ module _ {S : Type 0} (m : Stream S) where
 
   -- PropertyDefinition (13.2.5), BindingProperty and BindingRestProperty (14.3.3)
   unfoldable pub prop_part : ℕ → Code → Read S Tree
-  prop_part limit c s = prop_by m (readers m limit) c s >>= settled m limit >>= λ x. if heads_arrow m (async_end c (value_of x.0)) x.1 then unexpected else Ok x
+  prop_part limit c s = prop_by m (readers m limit) c s >>= settled limit >>= λ x. if heads_arrow m (async_end c (value_of x.0)) x.1 then unexpected else Ok x
 
   unfoldable pub item_part : ℕ → Code → Read S Tree
-  item_part limit c s = item_by (readers m limit) c s >>= settled m limit >>= λ x. if heads_arrow m (async_end c (value_of x.0)) x.1 then unexpected else Ok x
+  item_part limit c s = item_by (readers m limit) c s >>= settled limit >>= λ x. if heads_arrow m (async_end c (value_of x.0)) x.1 then unexpected else Ok x
 
 -- ---- properties of a pattern
 

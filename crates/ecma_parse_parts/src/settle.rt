@@ -4,7 +4,7 @@ ghost use Rattle.std.specs.Prelude.{◌≡◌, ◌<◌, IfOk};
 ghost use Rattle.ecma_parse_state.specs.Answers.{Gives, IsSyntax};
 ghost use Rattle.ecma_parse_state.specs.Cursors.{stream_of};
 ghost use Rattle.ecma_parse_state.specs.States.{state_of};
-ghost use Rattle.ecma_parse_parts.specs.Ends as ends;
+ghost use Rattle.ecma_parse_parts.specs.Within as within;
 
 use crate::{cover_in, is_clean};
 use ecma_nesting::Nesting;
@@ -45,7 +45,7 @@ pub(crate) fn unfinished<T: Walk>(part: &T, place: Span) -> Failure
 ///
 /// A part that nests deeper than the limit, or in which something of a cover is left.
 #[inline(never)]
-#[tactic(auto, unfolding(crate::specs::Ends::settled))]
+#[tactic(auto, unfolding(crate::specs::Within::settled))]
 pub fn settle<'a, I: Tokens<'a> + Drop, T: Nesting + Walk + Drop>(
     p: &Parser<'a, I>,
     start: BytePos,
@@ -54,7 +54,7 @@ pub fn settle<'a, I: Tokens<'a> + Drop, T: Nesting + Walk + Drop>(
 ) -> Result<T, Failure>
     requires limit { limit < 4294967295 }
     requires tree { T.Walk.tree part ≡ T.Nesting.tree part }
-    ensures value { Gives (λ x. (T.Nesting.tree x, state_of I.state p.now)) result (ends.settled (stream_of I.machine) limit (T.Nesting.tree part, state_of I.state p.now)) }
+    ensures value { Gives (λ x. (T.Nesting.tree x, state_of I.state p.now)) result (within.settled limit (T.Nesting.tree part, state_of I.state p.now)) }
     ensures stays { IfOk result (λ x. x ≡ part) }
 {
     if part.nesting() > limit {

@@ -18,8 +18,8 @@ use ecma_parse_arrows::function_expressions::function_operand;
 use ecma_parse_base::operators::unary_op;
 use ecma_parse_base::{Nested, Operand, made};
 use ecma_parse_classes::classes::class_operand;
+use ecma_parse_expressions::news::new_expr;
 use ecma_parse_expressions::prefixes::{awaited, fixed, super_end, unary, yielded};
-use ecma_parse_objects::news::new_expr;
 use ecma_parse_state::{Around, Failure, Parser, kinds};
 use ecma_token_source::Tokens;
 

@@ -6,12 +6,12 @@ ghost use Rattle.ecma_parse_state.specs.Codes.{code_of};
 ghost use Rattle.ecma_parse_state.specs.Cursors.{stream_of};
 ghost use Rattle.ecma_parse_state.specs.States.{from, state_of};
 ghost use Rattle.ecma_parse_base.specs.Operands.{tree_of};
-ghost use Rattle.ecma_parse_objects.specs.News as pieces;
+ghost use Rattle.ecma_parse_expressions.specs.News as pieces;
 
+use crate::prefixes::callee;
 use ecma_node::MetaPropKind;
 use ecma_parse_base::elements::arguments;
 use ecma_parse_base::{Nested, Operand, made};
-use ecma_parse_expressions::prefixes::callee;
 use ecma_parse_state::operators::{CALL, MEMBER, NEW_LEVEL, OTHER_END};
 use ecma_parse_state::{Around, Failure, Parser, kinds};
 use ecma_token::BytePos;
@@ -76,7 +76,7 @@ pub fn new_end<'a, I: Tokens<'a> + Drop, N: Nested<'a, I>>(
 
 /// `new`, with arguments or without, or `new.target`.
 #[inline(never)]
-#[tactic(auto, using(ecma_parse_state::proofs::Marks::marks, ecma_parse_expressions::proofs::Starts::starts), unfolding(ecma_reading::specs::Expressions::new_by))]
+#[tactic(auto, using(ecma_parse_state::proofs::Marks::marks, crate::proofs::Starts::starts), unfolding(ecma_reading::specs::Expressions::new_by))]
 pub fn new_expr<'a, I: Tokens<'a> + Drop, N: Nested<'a, I>>(
     p: &mut Parser<'a, I>,
     nested: &N,
