@@ -43,10 +43,10 @@ pub record KeptLast (c : Code) (ys : Trees) (r : Input) : Type 0 where
   pub word : may_name (kind r) ≡ true
   pub free : takes_name c (last_tree ys) r ≡ false
 
-abbrev kept : Behind
+abbrev pub kept : Behind
 kept = record { tree = λ p c l t ts r. Kept c l t r; trees = λ p c ys ts r. KeptLast c ys r }
 
-last_self : (t : Tree) → 2 ≤ level t → last_of t ≡ t
+pub last_self : (t : Tree) → 2 ≤ level t → last_of t ≡ t
 last_self (seq_expr s xs) h = absurd (omega (arith, h))
 last_self _ h = refl
 
@@ -60,7 +60,7 @@ operand_kept c l b r h e w f = record { fits = inl h; ends = e; word = w; free =
 kept_name : (c : Code) (l : ℕ) (n : List ℕ) (ts r : Input) → bytes_eq n (codes "async") ≡ true → may_name (kind r) ≡ true → (l ≤ 3 → (bytes_eq n (codes "async") && names_next c r) ≡ false) → Lone c l ts r
 kept_name c l n ts r e w f = record {
   calm = λ _. and_left (eqb (kind r) arrow_kind) _ (no_kind may_name (kind r) arrow_kind w refl);
-  function = λ _. and_left (eqb (kind r) function_kind) _ (no_kind may_name (kind r) function_kind w refl);
+  function = λ _. and_left _ _ (and_left (eqb (kind r) function_kind) _ (no_kind may_name (kind r) function_kind w refl));
   param = λ _. by_level (leb l assignment_level) (λ i. leb-true l assignment_level i) refl;
 }
   where
@@ -83,7 +83,7 @@ kept_name c l n ts r e w f = record {
     by_level true g i = swaps (brk r) _ _ _ _ (second (bytes_eq n (codes "async")) (names_next c r) e (f (omega (arith, g refl))))
     by_level false g i = off _ _ (leb l assignment_level) i
 
-kept_leads : Leads kept
+pub kept_leads : Leads kept
 kept_leads = record {
   update = λ p c l s op a ts r f h. record { fits = inl h.3.0; ends = f.ends; word = f.word; free = λ u. absurd (omega (arith, u)) };
   unary = λ p c l s op a ts r f h. record { fits = inl h.3.0; ends = f.ends; word = f.word; free = λ u. absurd (omega (arith, u)) };
@@ -107,34 +107,34 @@ kept_leads = record {
 -- ---- such a front before whatever follows the name
 
 -- whether a name stands next doesn't look behind it
-takes_alike : (t : Tree) (c : Code) (n : ℕ) (q : PlacedToken) (v w : List PlacedToken) → takes_name c t (input_at n (q ∷ v)) ≡ takes_name c t (input_at n (q ∷ w))
+pub takes_alike : (t : Tree) (c : Code) (n : ℕ) (q : PlacedToken) (v w : List PlacedToken) → takes_name c t (input_at n (q ∷ v)) ≡ takes_name c t (input_at n (q ∷ w))
 takes_alike (assign_expr s op p e) c n q v w = takes_alike e c n q v w
 takes_alike (cond_expr s a b d) c n q v w = takes_alike d c n q v w
 takes_alike (arrow_expr s ps b i) c n q v w = takes_alike b (in_arrow i c) n q v w
 takes_alike (yield_expr s e g) c n q v w = takes_alike e c n q v w
 takes_alike _ c n q v w = refl
 
-abbrev arrow_or : PlacedToken → Bool → List PlacedToken
+abbrev pub arrow_or : PlacedToken → Bool → List PlacedToken
 arrow_or q true = mark q arrow_kind q.spot.hi ∷ []
 arrow_or q false = []
 
-arrow_mild : (q : PlacedToken) (b : Bool) → Mild (arrow_or q b)
+pub arrow_mild : (q : PlacedToken) (b : Bool) → Mild (arrow_or q b)
 arrow_mild q true = (refl, refl)
 arrow_mild q false = (refl, refl)
 
-arrow_order : (q : PlacedToken) (b : Bool) → InOrder q.spot.hi (arrow_or q b)
+pub arrow_order : (q : PlacedToken) (b : Bool) → InOrder q.spot.hi (arrow_or q b)
 arrow_order q true = (omega arith, omega arith, (λ _. omega arith), tt)
 arrow_order q false = tt
 
-arrow_heads : (q : PlacedToken) (b : Bool) → heads (q ∷ arrow_or q b) ≡ b
+pub arrow_heads : (q : PlacedToken) (b : Bool) → heads (q ∷ arrow_or q b) ≡ b
 arrow_heads q true = refl
 arrow_heads q false = refl
 
-order_with : (q : PlacedToken) (v w : List PlacedToken) (n : ℕ) (f : List PlacedToken) → InOrder q.spot.hi w → InOrder n (f ++ q ∷ v) → InOrder n (f ++ q ∷ w)
+pub order_with : (q : PlacedToken) (v w : List PlacedToken) (n : ℕ) (f : List PlacedToken) → InOrder q.spot.hi w → InOrder n (f ++ q ∷ v) → InOrder n (f ++ q ∷ w)
 order_with q v w n [] g h = (h.0, h.1, h.2, g)
 order_with q v w n (x ∷ f) g h = (h.0, h.1, h.2, order_with q v w x.spot.hi f g h.3)
 
-named_with : (q : PlacedToken) (v : List PlacedToken) (b : Bool) (f : List PlacedToken) → Named (f ++ q ∷ v) → Named (f ++ q ∷ arrow_or q b)
+pub named_with : (q : PlacedToken) (v : List PlacedToken) (b : Bool) (f : List PlacedToken) → Named (f ++ q ∷ v) → Named (f ++ q ∷ arrow_or q b)
 named_with q v true [] h = (h.0, (λ k. absurd (omega (arith, k)), tt))
 named_with q v false [] h = (h.0, tt)
 named_with q v b (x ∷ f) h = (h.0, named_with q v b f h.1)

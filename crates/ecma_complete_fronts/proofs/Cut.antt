@@ -316,6 +316,11 @@ pub cut_front : (r a b : Input) → (cut r).Like a b → (front : List PlacedTok
 unfolding cut
 cut_front r a b l = (l.front, l.left)
 
+-- and what it is like
+pub cut_like : (r a b : Input) → (cut r).Like a b → (front : List PlacedToken) × (a.places ≡ front ++ r.places) × (b ≡ input_at a.last (front ++ closing r.places))
+unfolding cut
+cut_like r a b l = (l.front, l.left, ap₂ (λ (n : ℕ) (v : List PlacedToken). input_at n v) (sym l.last) l.right)
+
 -- ---- the law
 
 abbrev pub unplaced_by : Code → Code

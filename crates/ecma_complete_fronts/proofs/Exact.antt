@@ -1,7 +1,7 @@
 -- Each complete front is read: before a token with which no longer list goes on, each rule ends.
 use Rattle.std.proofs.Common.{◌≡◌, ◌<◌, ◌≤◌, inl, ℕ, suc, Bool, true, false, ◌||◌, eqb, List, [], ◌∷◌, ◌++◌, length, refl, sym, ap, ap₂, ◌∙◌, subst, true≢false, arith, cond, leb, nat_lt, ltb-true, ltb-false}
 use Rattle.std.proofs.lemmas.Bool.{eqb-true, ne_eqb, or_left, leb-true, leb-false, eqb-false, and_parts}
-use Rattle.ecma_token.specs.Kinds.{plus_plus_kind, minus_minus_kind, function_kind, finally_kind, question_mark_kind}
+use Rattle.ecma_token.specs.Kinds.{plus_plus_kind, minus_minus_kind, question_mark_kind}
 use Rattle.ecma_tree.specs.Tree.{Tree, none, more}
 use Rattle.ecma_nesting.specs.Nesting.{nesting}
 use Rattle.ecma_syntax.specs.Input.{PlacedToken, Input, Code, kind, kind_of, alone, in_list, brk}
@@ -23,8 +23,8 @@ use Rattle.ecma_grammar_complete.proofs.Sizes.{items_small, items_reach}
 use Rattle.ecma_grammar_complete.proofs.Tied.{known, complete}
 use Rattle.ecma_grammar_complete.proofs.Nests.{reach_nests}
 use Rattle.ecma_sources.specs.Ahead.{at_list}
-use Rattle.ecma_complete_fronts.specs.Laws.{input_at, IsComplete, EndsAt, EndsBefore, Expression, Statement, ListItem, ModuleItem}
-use Rattle.ecma_complete_fronts.specs.Exact.{Unescaped, goes_after, Stopped, Closed, IsReadWhere, FrontsAreExact}
+use Rattle.ecma_complete_fronts.specs.Laws.{input_at, IsComplete, Whatever, EndsAt, EndsBefore, Expression, Statement, ListItem, ModuleItem}
+use Rattle.ecma_complete_fronts.specs.Exact.{goes_after, Stopped, IsReadWhere, FrontsAreExact}
 use Rattle.ecma_complete_fronts.proofs.Fronts.{IsRead, reads_of, halves, follow_by, expression_is_read, binding_is_read, key_is_read}
 use Rattle.ecma_complete_fronts.proofs.Onto.{Onto}
 use Rattle.ecma_complete_fronts.proofs.Longer.{onward, onward_mild, onward_order, level_of, bounded, bounded_leads}
@@ -33,17 +33,17 @@ use Rattle.ecma_complete_fronts.proofs.Updates.{no_update}
 
 -- ---- before `?`, with which a closed expression doesn't go on
 
-record Still (c : Code) (r : Input) : Type 0 where
-  calm : c.context.in_generator ≡ false
-  question : kind r ≡ question_mark_kind
+pub record Still (c : Code) (r : Input) : Type 0 where
+  pub calm : c.context.in_generator ≡ false
+  pub question : kind r ≡ question_mark_kind
 
-abbrev still : Behind
+abbrev pub still : Behind
 still = record { tree = λ p c l t ts r. Still c r; trees = λ p c ys ts r. Still c r }
 
 still_firm : (c : Code) (l : ℕ) (r : Input) → Still c r → Firm c 0 l 21 r
 still_firm c l r f = record { calm = λ _ _. calm_by question_mark_kind r f.question refl; end = λ _ _. calm_by question_mark_kind r f.question refl; sober = sober_by c question_mark_kind r f.question refl; quits = λ o. absurd (omega (arith, o)) }
 
-still_leads : Leads still
+pub still_leads : Leads still
 still_leads = record {
   update = λ p c l s op a ts r f h. f;
   unary = λ p c l s op a ts r f h. f;
@@ -71,7 +71,7 @@ order_on q beyond n [] h = (h.0, h.1, h.2, onward_order q)
 order_on q beyond n (x ∷ f) h = (h.0, h.1, h.2, order_on q beyond x.spot.hi f h.3)
 
 -- Behind a complete front none is longer.
-ends_there : (P : Tree → Input → Input → Type 0) (q : PlacedToken) (beyond : List PlacedToken) (plain : eqb q.spot.token.kind question_mark_kind ≡ false) (n : ℕ) (ps v : List PlacedToken) → v ≡ q ∷ beyond → InOrder n ps → IsComplete P n ps v
+pub ends_there : (P : Tree → Input → Input → Type 0) (q : PlacedToken) (beyond : List PlacedToken) (plain : eqb q.spot.token.kind question_mark_kind ≡ false) (n : ℕ) (ps v : List PlacedToken) → v ≡ q ∷ beyond → InOrder n ps → IsComplete P n ps v
     → (o : Input) → Onto q beyond (onward q) (onward_mild q) plain (input_at n ps) o → (u : Tree) (e : Input) → e.places ≡ [] → P u o e → ⊥
 ends_there P q beyond plain n ps v i order z o k u e empty h =
     let f = (halves k.front (q ∷ beyond) z.0 v (sym k.left ∙ z.1) (ap (λ w. length w) (sym i))).0 in
@@ -93,25 +93,24 @@ module _ (c : Code) (l : ℕ) (least : 1 ≤ l) (most : l ≤ 2) (calm : c.conte
   read_by F leads f = reads_of n ps ((readers lm d).expr c l (at_list n ps [])) t r (d < reach t) (λ i. omega (arith, i, deep, reach_nests t)) order
       (lasts (suc (size t)) d (λ e. (known (suc (size t))).comes e) F leads t false c l (input_at n ps) r [] (omega arith) (covered t) g.1 least (omega (arith, most)) (asked_by l most) g.0 stop f)
 
-  before : (q : PlacedToken) (beyond : List PlacedToken) → r.places ≡ q ∷ beyond → IsComplete (Expression false l c) n ps r.places → Unescaped function_kind r → (b : Bool) → eqb q.spot.token.kind question_mark_kind ≡ b → Ours
-  before q beyond i w un true j = read_by still still_leads (record { calm = calm; question = ap (λ (v : List PlacedToken). kind (input_at 0 v)) i ∙ eqb-true q.spot.token.kind question_mark_kind j })
-  before q beyond i w un false j = read_by (bounded q beyond j) (bounded_leads q beyond j) (record {
+  before : (q : PlacedToken) (beyond : List PlacedToken) → r.places ≡ q ∷ beyond → IsComplete (Expression false l c) n ps r.places → (b : Bool) → eqb q.spot.token.kind question_mark_kind ≡ b → Ours
+  before q beyond i w true j = read_by still still_leads (record { calm = calm; question = ap (λ (v : List PlacedToken). kind (input_at 0 v)) i ∙ eqb-true q.spot.token.kind question_mark_kind j })
+  before q beyond i w false j = read_by (bounded q beyond j) (bounded_leads q beyond j) (record {
     fits = inl g.0;
     final = λ o k u e z lv x. ends_there (Expression false l c) q beyond j n ps r.places i order w o k u e z (level_of l u (omega (arith, most)) lv, x);
     calm = calm;
     there = i;
-    unescaped = un;
   })
 
   whole : r.places ≡ [] → Ours
   whole i = expression_is_read false l least most c d n ps t r deep order g (subst (λ (v : List PlacedToken). Follow c (ends t) l (input_at r.last v)) (sym i) (follow_by c (ends t) l r.last [] least))
 
-  by_rest : IsComplete (Expression false l c) n ps r.places → Unescaped function_kind r → (v : List PlacedToken) → r.places ≡ v → Ours
-  by_rest w un [] i = whole i
-  by_rest w un (q ∷ beyond) i = before q beyond i w un (eqb q.spot.token.kind question_mark_kind) refl
+  by_rest : IsComplete (Expression false l c) n ps r.places → (v : List PlacedToken) → r.places ≡ v → Ours
+  by_rest w [] i = whole i
+  by_rest w (q ∷ beyond) i = before q beyond i w (eqb q.spot.token.kind question_mark_kind) refl
 
 -- `++` and `--` go on with no complete front
-update_goes : (c : Code) (e : ℕ) (m : Input) → is_update_op (kind m) ≡ true → goes_expr c e m ≡ cond (leb 2 e) 0 (cond (leb 1 e) 0 (cond (brk m) 0 17))
+pub update_goes : (c : Code) (e : ℕ) (m : Input) → is_update_op (kind m) ≡ true → goes_expr c e m ≡ cond (leb 2 e) 0 (cond (leb 1 e) 0 (cond (brk m) 0 17))
 update_goes c e m up = by_update (kind m) (λ k. kind m ≡ k → goes_expr c e m ≡ cond (leb 2 e) 0 (cond (leb 1 e) 0 (cond (brk m) 0 17))) up (λ k. rw k refl) (λ k. rw k refl) refl
 
 between_two : (k : ℕ) → (k ≡ 20 → ⊥) → (k ≡ 21 → ⊥) → 20 ≤ k → k ≤ 21 → ⊥
@@ -126,7 +125,7 @@ one_of_two k true y f h low high = refl
 one_of_two k false true f h low high = refl
 one_of_two k false false f h low high = absurd (between_two k (f refl) (h refl) low high)
 
-updates : (k : ℕ) → between plus_plus_kind minus_minus_kind k ≡ true → is_update_op k ≡ true
+pub updates : (k : ℕ) → between plus_plus_kind minus_minus_kind k ≡ true → is_update_op k ≡ true
 updates k h = let z = and_parts (leb 20 k) (leb k 21) h in one_of_two k (eqb k 20) (eqb k 21) (λ e. eqb-false k 20 e) (λ e. eqb-false k 21 e) (leb-true 20 k z.0) (leb-true k 21 z.1)
 
 stops : (c : Code) (l : ℕ) → 1 ≤ l → l ≤ 2 → (n : ℕ) (ps : List PlacedToken) (t : Tree) (r : Input) → InOrder n ps → Expression false l c t (input_at n ps) r → IsComplete (Expression false l c) n ps r.places → goes_after c (ends t) r < l → goes_expr c (ends t) r < l
@@ -151,43 +150,42 @@ stops c l a b n ps t r order g w s = by_kind (between plus_plus_kind minus_minus
     by_kind true e s = let up = updates (kind r) e in subst (λ (m : ℕ). m < l) (sym (update_goes c (ends t) r up)) (by_class (leb 2 (ends t)) (leb 1 (ends t)) (brk r) refl refl refl up)
 
 expression_exact : (c : Code) (l : ℕ) → 1 ≤ l → l ≤ 2 → c.context.in_generator ≡ false → IsReadWhere (Stopped l c) (λ d s. (readers lm d).expr c l s) (Expression false l c)
-expression_exact c l a b calm d n ps t r deep order g w m = by_rest c l a b calm d n ps t r deep order g (stops c l a b n ps t r order g w m.0) w m.1 r.places refl
+expression_exact c l a b calm d n ps t r deep order g w m = by_rest c l a b calm d n ps t r deep order g (stops c l a b n ps t r order g w m) w r.places refl
 
 -- ---- statements and items
 
 -- Before `finally` and before a colon a statement ends there as well.
-module _ (P : Tree → Input → Input → Type 0) (c : Code) (sorts : (u : Tree) (o e : Input) → is_statement u ≡ true → Produces u (coded false c) o e → P u o e) (n : ℕ) (ps : List PlacedToken) (t : Tree) (r : Input) (order : InOrder n ps) (g : Produces t (coded false c) (input_at n ps) r) (w : IsComplete P n ps r.places) (un : Unescaped finally_kind r) where
+module _ (P : Tree → Input → Input → Type 0) (c : Code) (sorts : (u : Tree) (o e : Input) → is_statement u ≡ true → Produces u (coded false c) o e → P u o e) (n : ℕ) (ps : List PlacedToken) (t : Tree) (r : Input) (order : InOrder n ps) (g : Produces t (coded false c) (input_at n ps) r) (w : IsComplete P n ps r.places) where
   not_question : (q : PlacedToken) (beyond : List PlacedToken) → r.places ≡ q ∷ beyond → may_follow (kind r) ≡ false → eqb q.spot.token.kind question_mark_kind ≡ false
   not_question q beyond i e = ne_eqb q.spot.token.kind question_mark_kind (λ k. true≢false (sym (ap may_follow (ap kind_of i ∙ k)) ∙ e))
 
-  taken_by : (v : List PlacedToken) → r.places ≡ v → may_follow (kind r) ≡ false → leaves t (kind r) ≡ true
+  taken_by : (v : List PlacedToken) → r.places ≡ v → may_follow (kind r) ≡ false → leaves c.context t r ≡ true
   taken_by [] i e = absurd (true≢false (sym (ap may_follow (ap kind_of i)) ∙ e))
   taken_by (q ∷ beyond) i e = let j = not_question q beyond i e in leaves_there q beyond j t false c (input_at n ps) r (record {
     final = λ o k u v z y x. ends_there P q beyond j n ps r.places i order w o k u v z (sorts u o v y x);
     there = i;
     rising = (n, order);
-    unescaped = un;
   }) g
 
-  leaves_by : (b : Bool) → may_follow (kind r) ≡ b → leaves t (kind r) ≡ true
-  leaves_by true e = follows t (kind r) e
+  leaves_by : (b : Bool) → may_follow (kind r) ≡ b → leaves c.context t r ≡ true
+  leaves_by true e = follows c.context t r e
   leaves_by false e = taken_by r.places refl e
 
-  left : leaves t (kind r) ≡ true
+  left : leaves c.context t r ≡ true
   left = leaves_by (may_follow (kind r)) refl
 
-statement_exact : (c : Code) → IsReadWhere Closed (λ d s. (readers lm d).stmt (alone c) s) (Statement false c)
-statement_exact c d n ps t r deep order g w un = reads_of n ps _ t r (d < reach t) (λ i. omega (arith, i, deep, reach_nests t)) order
-    ((complete (suc (size t)) d).stmt t false (alone c) (input_at n ps) r [] (omega arith) (ap (λ (b : Bool). b || is_plain_function t) g.0) g.1 (left (Statement false c) (alone c) (λ u o e i x. (i, x)) n ps t r order g.1 w un))
+statement_exact : (c : Code) → IsReadWhere Whatever (λ d s. (readers lm d).stmt (alone c) s) (Statement false c)
+statement_exact c d n ps t r deep order g w m = reads_of n ps _ t r (d < reach t) (λ i. omega (arith, i, deep, reach_nests t)) order
+    ((complete (suc (size t)) d).stmt t false (alone c) (input_at n ps) r [] (omega arith) (ap (λ (b : Bool). b || is_plain_function t) g.0) g.1 (left (Statement false c) (alone c) (λ u o e i x. (i, x)) n ps t r order g.1 w))
 
-item_exact : (c : Code) → IsReadWhere Closed (λ d s. (readers lm d).stmt (in_list c) s) (ListItem false c)
-item_exact c d n ps t r deep order g w un = reads_of n ps _ t r (d < reach t) (λ i. omega (arith, i, deep, reach_nests t)) order
-    ((complete (suc (size t)) d).stmt t false (in_list c) (input_at n ps) r [] (omega arith) g.0 g.1 (left (ListItem false c) (in_list c) (λ u o e i x. (or_left (is_statement u) _ i, x)) n ps t r order g.1 w un))
+item_exact : (c : Code) → IsReadWhere Whatever (λ d s. (readers lm d).stmt (in_list c) s) (ListItem false c)
+item_exact c d n ps t r deep order g w m = reads_of n ps _ t r (d < reach t) (λ i. omega (arith, i, deep, reach_nests t)) order
+    ((complete (suc (size t)) d).stmt t false (in_list c) (input_at n ps) r [] (omega arith) g.0 g.1 (left (ListItem false c) (in_list c) (λ u o e i x. (or_left (is_statement u) _ i, x)) n ps t r order g.1 w))
 
-module_item_exact : (c : Code) → IsReadWhere Closed (λ d s. item_by lm (readers lm d) true (in_list c) s) (ModuleItem false c)
-module_item_exact c d n ps t r deep order g w un = reads_of n ps _ t r (d < in_module reach t) (λ i. omega (arith, i, deep, items_reach (more t none), reach_nests t)) order
+module_item_exact : (c : Code) → IsReadWhere Whatever (λ d s. item_by lm (readers lm d) true (in_list c) s) (ModuleItem false c)
+module_item_exact c d n ps t r deep order g w m = reads_of n ps _ t r (d < in_module reach t) (λ i. omega (arith, i, deep, items_reach (more t none), reach_nests t)) order
     (module_item (complete (suc (sizes (more t none))) d) false t c (input_at n ps) r [] g.0 (items_small (suc (sizes (more t none))) (more t none) (omega arith)).0 g.1
-    (left (ModuleItem false c) (in_list c) (λ u o e i x. (or_left (is_item u) _ (or_left (is_statement u) _ i), x)) n ps t r order g.1 w un))
+    (left (ModuleItem false c) (in_list c) (λ u o e i x. (or_left (is_item u) _ (or_left (is_statement u) _ i), x)) n ps t r order g.1 w))
 
 pub fronts_are_exact : FrontsAreExact
 fronts_are_exact c = record {

@@ -123,7 +123,7 @@ reads_of n ps x t r P e o h = by_answer x (h.so (record { order = o; below = λ 
     by_answer (Err Unexpected) h = absurd h.so
     by_answer (Err TooDeep) h = absurd (e h.so)
 
-kept_answer : {A : Type 0} (x y : Result A Fault) (a : A) → Agrees x y → x ≡ Ok a → y ≡ Ok a
+pub kept_answer : {A : Type 0} (x y : Result A Fault) (a : A) → Agrees x y → x ≡ Ok a → y ≡ Ok a
 kept_answer x y a h e = subst (λ z. Keeps z y) e h.so
 
 -- ---- one front
@@ -267,7 +267,7 @@ asked : (b : Bool) → 3 ≤ (if b then call_level else conditional_level)
 asked true = omega arith
 asked false = omega arith
 
-question_goes : (c : Code) (e n : ℕ) (ps : List PlacedToken) → nat_le closed_end e ≡ false → kind_of ps ≡ question_mark_kind → 3 ≤ goes_expr c e (input_at n ps)
+pub question_goes : (c : Code) (e n : ℕ) (ps : List PlacedToken) → nat_le closed_end e ≡ false → kind_of ps ≡ question_mark_kind → 3 ≤ goes_expr c e (input_at n ps)
 question_goes c e n [] i k = absurd (true≢false (sym (ap (λ (z : ℕ). eqb z question_mark_kind) k)))
 question_goes c e n (p ∷ ps) i k = subst (λ (z : ℕ). 3 ≤ goes_expr c e (input_at n (record p { spot = record p.spot { token = record p.spot.token { kind = z } } } ∷ ps))) (sym k)
     (by_class (nat_le closed_end e) i)
@@ -366,7 +366,7 @@ cut_statement : (placed : Bool) (c : Code) (t : Tree) (n : ℕ) (ps : List Place
 cut_statement placed c t n ps r h = let z = cuts_to t (coded placed (alone c)) (input_at n ps) r h.1 in (z.0, z.1, (h.0, z.2))
 
 statement_is_read : (placed : Bool) (c : Code) → IsReadBefore Apart (λ d s. (readers lm d).stmt (alone c) s) (Statement placed c)
-statement_is_read placed c d n ps t r h o g w = reads_of n ps _ t r (d < reach t) (λ i. omega (arith, i, h, reach_nests t)) o ((complete (suc (size t)) d).stmt t placed (alone c) (input_at n ps) r [] (omega arith) (ap (λ (b : Bool). b || is_plain_function t) g.0) g.1 (follows t (kind r) (ap not w)))
+statement_is_read placed c d n ps t r h o g w = reads_of n ps _ t r (d < reach t) (λ i. omega (arith, i, h, reach_nests t)) o ((complete (suc (size t)) d).stmt t placed (alone c) (input_at n ps) r [] (omega arith) (ap (λ (b : Bool). b || is_plain_function t) g.0) g.1 (follows c.context t r (ap not w)))
 
 whole_statement : (c : Code) (d n : ℕ) (ps : List PlacedToken) (t : Tree) (r : Input) → nesting t ≤ d → InOrder n ps → Statement false c t (input_at n ps) (input_at r.last (closing r.places)) → IsRead ((readers lm d).stmt (alone c) (at_list n ps [])) t (input_at r.last (closing r.places))
 whole_statement c d n ps t r h o g = statement_is_read false c d n ps t (input_at r.last (closing r.places)) h o g (follows_by t r.last r.places)
@@ -383,7 +383,7 @@ cut_item : (placed : Bool) (c : Code) (t : Tree) (n : ℕ) (ps : List PlacedToke
 cut_item placed c t n ps r h = let z = cuts_to t (coded placed (in_list c)) (input_at n ps) r h.1 in (z.0, z.1, (h.0, z.2))
 
 item_is_read : (placed : Bool) (c : Code) → IsReadBefore Apart (λ d s. (readers lm d).stmt (in_list c) s) (ListItem placed c)
-item_is_read placed c d n ps t r h o g w = reads_of n ps _ t r (d < reach t) (λ i. omega (arith, i, h, reach_nests t)) o ((complete (suc (size t)) d).stmt t placed (in_list c) (input_at n ps) r [] (omega arith) g.0 g.1 (follows t (kind r) (ap not w)))
+item_is_read placed c d n ps t r h o g w = reads_of n ps _ t r (d < reach t) (λ i. omega (arith, i, h, reach_nests t)) o ((complete (suc (size t)) d).stmt t placed (in_list c) (input_at n ps) r [] (omega arith) g.0 g.1 (follows c.context t r (ap not w)))
 
 whole_item : (c : Code) (d n : ℕ) (ps : List PlacedToken) (t : Tree) (r : Input) → nesting t ≤ d → InOrder n ps → ListItem false c t (input_at n ps) (input_at r.last (closing r.places)) → IsRead ((readers lm d).stmt (in_list c) (at_list n ps [])) t (input_at r.last (closing r.places))
 whole_item c d n ps t r h o g = item_is_read false c d n ps t (input_at r.last (closing r.places)) h o g (follows_by t r.last r.places)
@@ -401,7 +401,7 @@ cut_module_item placed c t n ps r h = let z = cuts_to t (coded placed (in_list c
 
 module_item_is_read : (placed : Bool) (c : Code) → IsReadBefore Apart (λ d s. item_by lm (readers lm d) true (in_list c) s) (ModuleItem placed c)
 module_item_is_read placed c d n ps t r h o g w = reads_of n ps _ t r (d < in_module reach t) (λ i. omega (arith, i, h, items_reach (more t none), reach_nests t)) o
-    (module_item (complete (suc (sizes (more t none))) d) placed t c (input_at n ps) r [] g.0 (items_small (suc (sizes (more t none))) (more t none) (omega arith)).0 g.1 (follows t (kind r) (ap not w)))
+    (module_item (complete (suc (sizes (more t none))) d) placed t c (input_at n ps) r [] g.0 (items_small (suc (sizes (more t none))) (more t none) (omega arith)).0 g.1 (follows c.context t r (ap not w)))
 
 whole_module_item : (c : Code) (d n : ℕ) (ps : List PlacedToken) (t : Tree) (r : Input) → nesting t ≤ d → InOrder n ps → ModuleItem false c t (input_at n ps) (input_at r.last (closing r.places)) → IsRead (item_by lm (readers lm d) true (in_list c) (at_list n ps [])) t (input_at r.last (closing r.places))
 whole_module_item c d n ps t r h o g = module_item_is_read false c d n ps t (input_at r.last (closing r.places)) h o g (follows_by t r.last r.places)

@@ -1,7 +1,8 @@
 -- Where a statement takes the token that follows it, a `finally` behind a `try` or a colon behind a name, a longer list goes on with it: behind the statement
 -- that ends there, and so behind each around it. So before a token with which no list goes on, each statement ends there.
 use Rattle.std.proofs.Common.{◌≡◌, ◌+◌, ℕ, Bool, true, false, not, ◌&&◌, ◌==◌, eqb, List, [], ◌∷◌, ◌++◌, inl, inr, refl, sym, ap, ◌∙◌, subst, true≢false, arith}
-use Rattle.std.proofs.lemmas.Bool.{eqb-true, and_parts, and_right, or_left}
+use Rattle.std.proofs.lemmas.Bool.{eqb-true, and_parts, and_right, or_left, not-true}
+use Rattle.ecma_token.specs.declared.context.Context.{Context}
 use Rattle.ecma_token.specs.declared.place.Span.{Span}
 use Rattle.ecma_token.specs.Kinds.{finally_kind, colon_kind, semicolon_kind, else_kind, if_kind, while_kind, with_kind, try_kind, in_kind, of_kind, right_paren_kind, right_brace_kind, question_mark_kind}
 use Rattle.ecma_tree.specs.Tree.{Tree, Trees, none, ident, absent, block_stmt, empty_stmt, try_stmt, expr_stmt, if_stmt, while_stmt, with_stmt, labeled_stmt, for_stmt, for_in_stmt, for_of_stmt, var_decl, using_decl, class_decl, fn_decl, export_decl}
@@ -122,11 +123,11 @@ order_next : (n k : ℕ) (l : List PlacedToken) → InOrder k l → InOrder (hi_
 order_next n k [] h = tt
 order_next n k (x ∷ l) h = h.3
 
-exportable_leaves : (d : Tree) (k : ℕ) → is_exportable d ≡ true → leaves d k ≡ true
-exportable_leaves (class_decl s n x) k h = refl
-exportable_leaves (fn_decl s n x) k h = refl
-exportable_leaves (var_decl s o ds) k h = refl
-exportable_leaves _ k h = absurd (true≢false (sym h))
+exportable_leaves : (c : Context) (d : Tree) (r : Input) → is_exportable d ≡ true → leaves c d r ≡ true
+exportable_leaves c (class_decl s n x) r h = refl
+exportable_leaves c (fn_decl s n x) r h = refl
+exportable_leaves c (var_decl s o ds) r h = refl
+exportable_leaves c _ r h = absurd (true≢false (sym h))
 
 stands_there : (u : Tree) → is_statement u ≡ true → is_absent u ≡ false
 stands_there absent h = absurd (true≢false (sym h))
@@ -148,11 +149,10 @@ module _ (q : PlacedToken) (beyond : List PlacedToken) (plain : eqb q.spot.token
     pub final : NoStatement c ts
     pub there : Before q beyond plain r
     pub rising : Rising ts
-    pub unescaped : (d : Code) → kind r ≡ finally_kind → barred d.context r ≡ false
 
   -- a `finally` behind a `try`
-  no_finally : (p : Bool) (c : Code) (s : Span) (b x f : Tree) (ts r : Input) → Held c ts r → Produces (try_stmt s b x f) (coded p c) ts r → is_absent f ≡ true → kind r ≡ finally_kind → ⊥
-  no_finally p c s b x f ts r w h a fk =
+  no_finally : (p : Bool) (c : Code) (s : Span) (b x f : Tree) (ts r : Input) → Held c ts r → Produces (try_stmt s b x f) (coded p c) ts r → is_absent f ≡ true → kind r ≡ finally_kind → barred c.context r ≡ false → ⊥
+  no_finally p c s b x f ts r w h a fk un =
       let qk = sym (kind_there q beyond plain r w.there) ∙ fk in
       let on : onward q ≡ braces q q.spot.hi = onward_of q finally_kind qk in
       let o = input_at r.last (q ∷ onward q) in let e = input_at (q.spot.hi + 1 + 1) [] in
@@ -170,7 +170,7 @@ module _ (q : PlacedToken) (beyond : List PlacedToken) (plain : eqb q.spot.token
         z.2,
         (
           input_at q.spot.hi (onward q),
-          (qk, subst (λ (l : List PlacedToken). barred c.context (input_at r.last l) ≡ false) w.there (w.unescaped c fk), tt, refl),
+          (qk, subst (λ (l : List PlacedToken). barred c.context (input_at r.last l) ≡ false) w.there un, tt, refl),
           (refl, subst (λ (l : List PlacedToken). Block (coded false c) (span q.spot.hi e.last) [] (input_at q.spot.hi l) e) (sym on) (block_on (coded false c) q q.spot.hi)),
         ),
         refl,
@@ -208,95 +208,81 @@ module _ (q : PlacedToken) (beyond : List PlacedToken) (plain : eqb q.spot.token
   by_test false f = refl
 
   -- before such a token each statement ends there
-  pub leaves_there : (t : Tree) (p : Bool) (c : Code) (ts r : Input) → Held c ts r → Produces t (coded p c) ts r → leaves t (kind r) ≡ true
-  leaves_there (try_stmt s b x f) p c ts r w h = by_test (is_absent f && (kind r == finally_kind)) (λ y. let z = and_parts (is_absent f) _ y in no_finally p c s b x f ts r w h z.0 (eqb-true (kind r) finally_kind z.1))
+  pub leaves_there : (t : Tree) (p : Bool) (c : Code) (ts r : Input) → Held c ts r → Produces t (coded p c) ts r → leaves c.context t r ≡ true
+  leaves_there (try_stmt s b x f) p c ts r w h = by_test (is_absent f && ((kind r == finally_kind) && not (barred c.context r))) (λ y. let z = and_parts (is_absent f) _ y in let u = and_parts (kind r == finally_kind) _ z.1 in no_finally p c s b x f ts r w h z.0 (eqb-true (kind r) finally_kind u.0) (not-true (barred c.context r) u.1))
   leaves_there (expr_stmt s (ident v n)) p c ts r w h = by_test ((kind r == colon_kind) && (s.hi.0 == v.hi.0)) (λ y. let z = and_parts (kind r == colon_kind) _ y in no_colon p c s v n ts r w h (eqb-true (kind r) colon_kind z.0) (eqb-true s.hi.0 v.hi.0 z.1))
   leaves_there (with_stmt s e b) p c ts r w h = leaves_there b p (alone c) h.1 r (record {
     final = λ o k u v n i x. let z = with_before Ahead (coded p c) s e b ts r h o k in w.final z.0 z.1 (with_stmt (span (lo z.0) v.last) e u) v n refl (z.2 u v (i, x));
     there = w.there;
     rising = rising_behind ts h.1 _ (with_before (cut h.1) (coded p c) s e b ts r h (cut_end h.1) (cut_here h.1)).1 w.rising;
-    unescaped = w.unescaped;
   }) h.4.1
   leaves_there (while_stmt s e b) p c ts r w h = leaves_there b p (alone c) h.1 r (record {
     final = λ o k u v n i x. let z = while_before Ahead (coded p c) s e b ts r h o k in w.final z.0 z.1 (while_stmt (span (lo z.0) v.last) e u) v n refl (z.2 u v (i, x));
     there = w.there;
     rising = rising_behind ts h.1 _ (while_before (cut h.1) (coded p c) s e b ts r h (cut_end h.1) (cut_here h.1)).1 w.rising;
-    unescaped = w.unescaped;
   }) h.4.1
   leaves_there (labeled_stmt s l b) p c ts r w h = leaves_there b p (alone c) h.1 r (record {
     final = λ o k u v n i x. let z = label_before Ahead (coded p c) s l b ts r h o k in w.final z.0 z.1 (labeled_stmt (span (lo z.0) v.last) l u) v n refl (z.2 u v (or_left (is_statement u) _ i, x));
     there = w.there;
     rising = rising_behind ts h.1 _ (label_before (cut h.1) (coded p c) s l b ts r h (cut_end h.1) (cut_here h.1)).1 w.rising;
-    unescaped = w.unescaped;
   }) h.4.1
-  leaves_there (if_stmt s e a b) p c ts r w h = by_cases (is_absent b) ((kind h.2 ≡ else_kind → ⊥) × (h.2 ≡ r)) ((x : Input) × TakesWord (coded p c) else_kind h.2 x × SubOrFunction (coded p c) (kid b) x r) (leaves (if_stmt s e a b) (kind r) ≡ true) h.6
-      (λ y d. cond_yes (is_absent b) (leaves a (kind r)) (leaves b (kind r)) true y (leaves_there a p (alone c) h.1 r (record {
+  leaves_there (if_stmt s e a b) p c ts r w h = by_cases (is_absent b) ((kind h.2 ≡ else_kind → ⊥) × (h.2 ≡ r)) ((x : Input) × TakesWord (coded p c) else_kind h.2 x × SubOrFunction (coded p c) (kid b) x r) (leaves c.context (if_stmt s e a b) r ≡ true) h.6
+      (λ y d. cond_yes (is_absent b) (leaves c.context a r) (leaves c.context b r) true y (leaves_there a p (alone c) h.1 r (record {
         final = λ o k u v n i x. let z = then_before Ahead (coded p c) s e a b ts r h o k in
             w.final z.0 z.1 (if_stmt (span (lo z.0) v.last) e u absent) v n refl (z.2 u v (or_left (is_statement u) _ i, x) (λ j. omega (arith, j, ap kind_of n)));
         there = w.there;
         rising = rising_behind ts h.1 _ (then_before (cut h.1) (coded p c) s e a b ts r h (cut_end h.1) (cut_here h.1)).1 w.rising;
-        unescaped = w.unescaped;
       }) (subst (λ (m : Input). Produces a (coded p (alone c)) h.1 m) d.1 h.5.1)))
-      (λ y d. cond_no (is_absent b) (leaves a (kind r)) (leaves b (kind r)) true y (leaves_there b p (alone c) d.0 r (record {
+      (λ y d. cond_no (is_absent b) (leaves c.context a r) (leaves c.context b r) true y (leaves_there b p (alone c) d.0 r (record {
         final = λ o k u v n i x. let z = else_before Ahead (coded p c) s e a b ts r h d.0 o d.1 k in
             w.final z.0 z.1 (if_stmt (span (lo z.0) v.last) e a u) v n refl (z.2 u v (stands_there u i) (or_left (is_statement u) _ i, x));
         there = w.there;
         rising = rising_behind ts d.0 _ (else_before (cut d.0) (coded p c) s e a b ts r h d.0 (cut_end d.0) d.1 (cut_here d.0)).1 w.rising;
-        unescaped = w.unescaped;
       }) d.2.1))
   leaves_there (for_stmt s (var_decl y m ds) t u b) p c ts r w h = leaves_there b p (alone c) h.7.1 r (record {
     final = λ o k g v n i x. let z = variables_before Ahead (coded p c) s y m ds t u b ts r h o k in w.final z.0 z.1 (for_stmt (span (lo z.0) v.last) (var_decl y m ds) t u g) v n refl (z.2 g v (i, x));
     there = w.there;
     rising = rising_behind ts h.7.1 _ (variables_before (cut h.7.1) (coded p c) s y m ds t u b ts r h (cut_end h.7.1) (cut_here h.7.1)).1 w.rising;
-    unescaped = w.unescaped;
   }) h.7.4.1
   leaves_there (for_stmt s (using_decl y a ds) t u b) p c ts r w h = leaves_there b p (alone c) h.8.1 r (record {
     final = λ o k g v n i x. let z = using_before Ahead (coded p c) s y a ds t u b ts r h o k in w.final z.0 z.1 (for_stmt (span (lo z.0) v.last) (using_decl y a ds) t u g) v n refl (z.2 g v (i, x));
     there = w.there;
     rising = rising_behind ts h.8.1 _ (using_before (cut h.8.1) (coded p c) s y a ds t u b ts r h (cut_end h.8.1) (cut_here h.8.1)).1 w.rising;
-    unescaped = w.unescaped;
   }) h.8.4.1
   leaves_there (for_stmt s y t u b) p c ts r w h = leaves_there b p (alone c) h.6.1 r (record {
     final = λ o k g v n i x. let z = for_before Ahead (coded p c) s y t u b ts r h o k in w.final z.0 z.1 (for_stmt (span (lo z.0) v.last) y t u g) v n refl (z.2 g v (i, x));
     there = w.there;
     rising = rising_behind ts h.6.1 _ (for_before (cut h.6.1) (coded p c) s y t u b ts r h (cut_end h.6.1) (cut_here h.6.1)).1 w.rising;
-    unescaped = w.unescaped;
   }) h.6.4.1
   leaves_there (for_in_stmt s (var_decl y m ds) e b) p c ts r w h = leaves_there b p (alone c) h.4.2 r (record {
     final = λ o k g v n i x. let z = in_before Ahead (coded p c) s _ _ (head_variables false Ahead (coded p c) y m (children ds) (moves false Ahead ds)) e b ts r h o k in w.final z.0 z.1 (for_in_stmt (span (lo z.0) v.last) (var_decl y m ds) e g) v n refl (z.2 g v (i, x));
     there = w.there;
     rising = rising_behind ts h.4.2 _ (in_before (cut h.4.2) (coded p c) s _ _ (head_variables false (cut h.4.2) (coded p c) y m (children ds) (moves false (cut h.4.2) ds)) e b ts r h (cut_end h.4.2) (cut_here h.4.2)).1 w.rising;
-    unescaped = w.unescaped;
   }) h.4.6.1
   leaves_there (for_in_stmt s (using_decl y a ds) e b) p c ts r w h = leaves_there b p (alone c) h.4.2 r (record {
     final = λ o k g v n i x. let z = in_before Ahead (coded p c) s _ _ (head_using false Ahead (coded p c) y a (children ds) (moves false Ahead ds)) e b ts r h o k in w.final z.0 z.1 (for_in_stmt (span (lo z.0) v.last) (using_decl y a ds) e g) v n refl (z.2 g v (i, x));
     there = w.there;
     rising = rising_behind ts h.4.2 _ (in_before (cut h.4.2) (coded p c) s _ _ (head_using false (cut h.4.2) (coded p c) y a (children ds) (moves false (cut h.4.2) ds)) e b ts r h (cut_end h.4.2) (cut_here h.4.2)).1 w.rising;
-    unescaped = w.unescaped;
   }) h.4.6.1
   leaves_there (for_in_stmt s y e b) p c ts r w h = leaves_there b p (alone c) h.4.2 r (record {
     final = λ o k g v n i x. let z = in_before Ahead (coded p c) s _ _ (head_target false Ahead (coded p c) (kid y) (move false Ahead y)) e b ts r h o k in w.final z.0 z.1 (for_in_stmt (span (lo z.0) v.last) y e g) v n refl (z.2 g v (i, x));
     there = w.there;
     rising = rising_behind ts h.4.2 _ (in_before (cut h.4.2) (coded p c) s _ _ (head_target false (cut h.4.2) (coded p c) (kid y) (move false (cut h.4.2) y)) e b ts r h (cut_end h.4.2) (cut_here h.4.2)).1 w.rising;
-    unescaped = w.unescaped;
   }) h.4.6.1
   leaves_there (for_of_stmt s d (var_decl y m ds) e b) p c ts r w h = leaves_there b p (alone c) h.4.2 r (record {
     final = λ o k g v n i x. let z = of_before Ahead (coded p c) s d _ _ (head_variables false Ahead (coded p c) y m (children ds) (moves false Ahead ds)) e b ts r h o k in w.final z.0 z.1 (for_of_stmt (span (lo z.0) v.last) d (var_decl y m ds) e g) v n refl (z.2 g v (i, x));
     there = w.there;
     rising = rising_behind ts h.4.2 _ (of_before (cut h.4.2) (coded p c) s d _ _ (head_variables false (cut h.4.2) (coded p c) y m (children ds) (moves false (cut h.4.2) ds)) e b ts r h (cut_end h.4.2) (cut_here h.4.2)).1 w.rising;
-    unescaped = w.unescaped;
   }) h.4.6.1
   leaves_there (for_of_stmt s d (using_decl y a ds) e b) p c ts r w h = leaves_there b p (alone c) h.4.2 r (record {
     final = λ o k g v n i x. let z = of_before Ahead (coded p c) s d _ _ (head_using false Ahead (coded p c) y a (children ds) (moves false Ahead ds)) e b ts r h o k in w.final z.0 z.1 (for_of_stmt (span (lo z.0) v.last) d (using_decl y a ds) e g) v n refl (z.2 g v (i, x));
     there = w.there;
     rising = rising_behind ts h.4.2 _ (of_before (cut h.4.2) (coded p c) s d _ _ (head_using false (cut h.4.2) (coded p c) y a (children ds) (moves false (cut h.4.2) ds)) e b ts r h (cut_end h.4.2) (cut_here h.4.2)).1 w.rising;
-    unescaped = w.unescaped;
   }) h.4.6.1
   leaves_there (for_of_stmt s d y e b) p c ts r w h = leaves_there b p (alone c) h.4.2 r (record {
     final = λ o k g v n i x. let z = of_before Ahead (coded p c) s d _ _ (of_target false Ahead (coded p c) d (kid y) (move false Ahead y)) e b ts r h o k in w.final z.0 z.1 (for_of_stmt (span (lo z.0) v.last) d y e g) v n refl (z.2 g v (i, x));
     there = w.there;
     rising = rising_behind ts h.4.2 _ (of_before (cut h.4.2) (coded p c) s d _ _ (of_target false (cut h.4.2) (coded p c) d (kid y) (move false (cut h.4.2) y)) e b ts r h (cut_end h.4.2) (cut_here h.4.2)).1 w.rising;
-    unescaped = w.unescaped;
   }) h.4.6.1
-  leaves_there (export_decl s d) p c ts r w h = exportable_leaves d (kind r) h.2
+  leaves_there (export_decl s d) p c ts r w h = exportable_leaves c.context d r h.2
   leaves_there _ p c ts r w h = refl

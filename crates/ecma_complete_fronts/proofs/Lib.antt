@@ -6,3 +6,4 @@ pub mod Leaves
 pub mod Updates
 pub mod Exact
 pub mod Asyncs
+pub mod Alone

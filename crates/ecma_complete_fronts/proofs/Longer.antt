@@ -206,9 +206,9 @@ module _ (q : PlacedToken) (beyond : List PlacedToken) (plain : eqb q.spot.token
       (input_at q.spot.hi (onward q), (z.0, o, x.2, z.2, sym (ap break_of b) ∙ not-true (brk r) t.1, (sym (kind_there r b) ∙ ar, tt, refl)), subst (λ (v : List PlacedToken). Body d (span q.spot.hi e.last) [] (input_at q.spot.hi v) e) (sym on) (body_on d q q.spot.hi), refl)
 
   -- the word `async` before `function` makes a function
-  no_function : (p : Bool) (c : Code) (l : ℕ) (s : Span) (n : List ℕ) (ts r : Input) → NoLonger l c ts → Before r → l ≤ 21 → Produces (ident s n) (coded p c) ts r → kind ts ≡ async_kind → (kind r ≡ function_kind → barred c.context r ≡ false) → ((kind r == function_kind) && not (brk r)) ≡ true → ⊥
-  no_function p c l s n ts r w b le h a ue y =
-      let t = and_parts (kind r == function_kind) (not (brk r)) y in let fn = eqb-true (kind r) function_kind t.0 in let qk = sym (kind_there r b) ∙ fn in
+  no_function : (p : Bool) (c : Code) (l : ℕ) (s : Span) (n : List ℕ) (ts r : Input) → NoLonger l c ts → Before r → l ≤ 21 → Produces (ident s n) (coded p c) ts r → kind ts ≡ async_kind → (((kind r == function_kind) && not (brk r)) && not (barred c.context r)) ≡ true → ⊥
+  no_function p c l s n ts r w b le h a y =
+      let v = and_parts ((kind r == function_kind) && not (brk r)) _ y in let t = and_parts (kind r == function_kind) (not (brk r)) v.0 in let fn = eqb-true (kind r) function_kind t.0 in let qk = sym (kind_there r b) ∙ fn in
       let on : onward q ≡ params_on q q.spot.hi = onward_of q function_kind qk in
       let o = input_at r.last (q ∷ onward q) in
       let z = K.take_word (coded p c) async_kind ts r o (a, h.0.2, h.0.4, h.0.5) (stands r b) in
@@ -216,13 +216,12 @@ module _ (q : PlacedToken) (beyond : List PlacedToken) (plain : eqb q.spot.token
       let tail : (m : Input) × Parameters d [] (input_at q.spot.hi (onward q)) m × Body d (span i e.last) [] m e =
       subst (λ (v : List PlacedToken). (m : Input) × Parameters d [] (input_at q.spot.hi v) m × Body d (span i e.last) [] m e) (sym on) (input_at i (braces q i), (input_at (q.spot.hi + 1) (mark q right_paren_kind (q.spot.hi + 1) ∷ braces q i), (refl, tt, refl), (refl, tt, refl)), body_on d q i) in
       w z.0 z.1 (fn_expr g absent (function g none none (block_stmt (span i e.last) none) false true)) e refl (inl (omega (arith, le)))
-      (input_at q.spot.hi (onward q), input_at q.spot.hi (onward q), (o, input_at q.spot.hi (onward q), (z.2, sym (ap break_of b) ∙ not-true (brk r) t.1), (qk, subst (λ (v : List PlacedToken). barred c.context (input_at r.last v) ≡ false) b (ue fn), tt, refl), refl), refl, (tail.0, tt, tail.1, tail.2), refl, refl)
+      (input_at q.spot.hi (onward q), input_at q.spot.hi (onward q), (o, input_at q.spot.hi (onward q), (z.2, sym (ap break_of b) ∙ not-true (brk r) t.1), (qk, subst (λ (v : List PlacedToken). barred c.context (input_at r.last v) ≡ false) b (not-true (barred c.context r) v.1), tt, refl), refl), refl, (tail.0, tt, tail.1, tail.2), refl, refl)
 
-  -- the word `async` before a name makes an arrow
-  no_param : (p : Bool) (c : Code) (l : ℕ) (s : Span) (n : List ℕ) (ts r : Input) → NoLonger l c ts → Before r → Produces (ident s n) (coded p c) ts r → kind ts ≡ async_kind → param_at c l r ≡ true → ⊥
-  no_param p c l s n ts r w b h a y =
-      let t = and_parts (is_word (kind r) && (not (no_name c.context (kind r)) && not (barred c.context r))) _ y in let na = and_parts (is_word (kind r)) _ t.0 in let nb = and_parts (not (no_name c.context (kind r))) _ na.1 in
-      let u = and_parts (not (brk r) && (kind2 r == arrow_kind) && not (brk2 r)) (leb l assignment_level) t.1 in let br = not-true (brk r) (first_of (not (brk r)) _ _ u.0) in
+  -- the word `async` before a name on its line makes an arrow
+  pub no_name_next : (p : Bool) (c : Code) (l : ℕ) (s : Span) (n : List ℕ) (ts r : Input) → NoLonger l c ts → Before r → l ≤ assignment_level → Produces (ident s n) (coded p c) ts r → kind ts ≡ async_kind → brk r ≡ false → (is_word (kind r) && (not (no_name c.context (kind r)) && not (barred c.context r))) ≡ true → ⊥
+  no_name_next p c l s n ts r w b le h a br y =
+      let na = and_parts (is_word (kind r)) _ y in let nb = and_parts (not (no_name c.context (kind r))) _ na.1 in
       let wd : is_word q.spot.token.kind ≡ true = subst (λ (k : ℕ). is_word k ≡ true) (kind_there r b) na.0 in
       let nn : no_name c.context (kind r) ≡ false = not-true (no_name c.context (kind r)) nb.0 in
       let off : (n : ℕ) → always_reserved n ≡ true → eqb q.spot.token.kind n ≡ false = λ n i. ne_eqb q.spot.token.kind n (λ k. true≢false (sym i ∙ (ap always_reserved (sym k ∙ sym (kind_there r b)) ∙ (or_parts (always_reserved (kind r)) _ nn).0))) in
@@ -236,8 +235,13 @@ module _ (q : PlacedToken) (beyond : List PlacedToken) (plain : eqb q.spot.token
       let taken : TakesName (coded false c) name o (input_at q.spot.hi (onward q)) = (wd, subst (λ (k : ℕ). no_name c.context k ≡ false) (kind_there r b) nn, subst (λ (v : List PlacedToken). barred c.context (input_at r.last v) ≡ false) b (not-true (barred c.context r) nb.1), refl, tt, refl) in
       let tail : (brk (input_at q.spot.hi (onward q)) ≡ false) × (m : Input) × Takes (coded false c) arrow_kind (input_at q.spot.hi (onward q)) m × Body d (span i e.last) [] m e =
       subst (λ (v : List PlacedToken). (brk (input_at q.spot.hi v) ≡ false) × (m : Input) × Takes (coded false c) arrow_kind (input_at q.spot.hi v) m × Body d (span i e.last) [] m e) (sym on) (refl, input_at i (braces q i), (refl, tt, refl), body_on d q i) in
-      w z.0 z.1 (arrow_expr (span (lo z.0) e.last) ps (block_stmt (span i e.last) none) true) e refl (inl (leb-true l assignment_level u.1))
+      w z.0 z.1 (arrow_expr (span (lo z.0) e.last) ps (block_stmt (span i e.last) none) true) e refl (inl (omega (arith, le)))
       (tail.1, (o, input_at q.spot.hi (onward q), (z.2, sym (ap break_of b) ∙ br), inl (tt, (refl, (refl, (taken, refl)))), tail.0, tail.2), tail.3, refl)
+
+  no_param : (p : Bool) (c : Code) (l : ℕ) (s : Span) (n : List ℕ) (ts r : Input) → NoLonger l c ts → Before r → Produces (ident s n) (coded p c) ts r → kind ts ≡ async_kind → param_at c l r ≡ true → ⊥
+  no_param p c l s n ts r w b h a y =
+      let t = and_parts (is_word (kind r) && (not (no_name c.context (kind r)) && not (barred c.context r))) _ y in let u = and_parts (not (brk r) && (kind2 r == arrow_kind) && not (brk2 r)) (leb l assignment_level) t.1 in
+      no_name_next p c l s n ts r w b (leb-true l assignment_level u.1) h a (not-true (brk r) (first_of (not (brk r)) _ _ u.0)) t.0
     where
       first_of : (a b c : Bool) → (a && b && c) ≡ true → a ≡ true
       first_of true b c h = refl
@@ -274,13 +278,11 @@ module _ (q : PlacedToken) (beyond : List PlacedToken) (plain : eqb q.spot.token
     pub final : NoLonger l c ts
     pub calm : c.context.in_generator ≡ false
     pub there : Before r
-    pub unescaped : (d : Code) → kind r ≡ function_kind → barred d.context r ≡ false
 
   pub record Bounds (c : Code) (ts r : Input) : Type 0 where
     pub final : NoMore c ts
     pub calm : c.context.in_generator ≡ false
     pub there : Before r
-    pub unescaped : (d : Code) → kind r ≡ function_kind → barred d.context r ≡ false
 
   abbrev pub bounded : Behind
   bounded = record { tree = λ p c l t ts r. Bound c l t ts r; trees = λ p c ys ts r. Bounds c ts r }
@@ -288,7 +290,7 @@ module _ (q : PlacedToken) (beyond : List PlacedToken) (plain : eqb q.spot.token
   lone : (p : Bool) (c : Code) (l : ℕ) (s : Span) (n : List ℕ) (ts r : Input) → Bound c l (ident s n) ts r → Produces (ident s n) (coded p c) ts r → Lone c l ts r
   lone p c l s n ts r f h = record {
     calm = λ le. by_test (arrowed r) (λ e. no_head p false c l (more (binding_ident s (ident s n)) none) ts ts r f.final f.there le refl (inl (tt, (refl, (refl, h)))) e);
-    function = λ a. by_test ((kind r == function_kind) && not (brk r)) (λ e. no_function p c l s n ts r f.final f.there (most f.fits) h a (f.unescaped c) e);
+    function = λ a. by_test (((kind r == function_kind) && not (brk r)) && not (barred c.context r)) (λ e. no_function p c l s n ts r f.final f.there (most f.fits) h a e);
     param = λ a. by_test (param_at c l r) (λ e. no_param p c l s n ts r f.final f.there h a e);
   }
     where
@@ -302,19 +304,19 @@ module _ (q : PlacedToken) (beyond : List PlacedToken) (plain : eqb q.spot.token
 
   pub bounded_leads : Leads bounded
   bounded_leads = record {
-    update = λ p c l s op a ts r f h. record { fits = inl h.3.0; final = longer_update p c l s op a ts r f.fits f.final h; calm = f.calm; there = f.there; unescaped = f.unescaped };
-    unary = λ p c l s op a ts r f h. record { fits = inl h.3.0; final = longer_unary p c l s op a ts r f.fits f.final h; calm = f.calm; there = f.there; unescaped = f.unescaped };
-    awaits = λ p c l s a ts r f h. record { fits = inl h.3.0; final = longer_await p c l s a ts r f.fits f.final h; calm = f.calm; there = f.there; unescaped = f.unescaped };
-    binary = λ p c l s op a b ts r f h. record { fits = inl h.6.0; final = longer_binary p c l s op a b ts r f.fits f.final h; calm = f.calm; there = f.there; unescaped = f.unescaped };
-    conditional = λ p c l s a b t ts r f h. record { fits = inl h.8.0; final = longer_conditional p c l s a b t ts r f.fits f.final h; calm = f.calm; there = f.there; unescaped = f.unescaped };
-    assigns = λ p c l s op a b ts r f h. record { fits = inl h.6.0; final = longer_assign p c l s op a b ts r f.fits f.final h; calm = f.calm; there = f.there; unescaped = f.unescaped };
-    arrow = λ p c l s ps e i ts r nb f h. record { fits = inl h.3.0; final = longer_arrow p c l s ps e i ts r f.fits f.final h; calm = refl; there = f.there; unescaped = f.unescaped };
-    yields = λ p c l s a ts r na f h. record { fits = inl h.4.0; final = longer_yield p c l s a ts r f.fits f.final h; calm = f.calm; there = f.there; unescaped = f.unescaped };
-    yields_all = λ p c l s a ts r na f h. record { fits = inl h.6.0; final = longer_yield_all p c l s a ts r f.fits f.final h; calm = f.calm; there = f.there; unescaped = f.unescaped };
-    sequence = λ p c l s x y ys ts r f h. record { final = longer_sequence p c l s x y ys ts r f.fits f.final h; calm = f.calm; there = f.there; unescaped = f.unescaped };
-    next = λ p c x y ys ts r f h. record { final = longer_next p c 2 x y ys ts r f.final h; calm = f.calm; there = f.there; unescaped = f.unescaped };
-    last = λ p c x ts r f h. record { fits = inl h.3.0; final = longer_last p c 2 x ts r f.final h; calm = f.calm; there = f.there; unescaped = f.unescaped };
-    bare_new = λ p c l s g ts r f h. record { fits = ⊎_elim (λ i. inr (refl, i)) (λ i. inl i) h.2; final = longer_new p c l s g ts r f.fits f.final h; calm = f.calm; there = f.there; unescaped = f.unescaped };
+    update = λ p c l s op a ts r f h. record { fits = inl h.3.0; final = longer_update p c l s op a ts r f.fits f.final h; calm = f.calm; there = f.there };
+    unary = λ p c l s op a ts r f h. record { fits = inl h.3.0; final = longer_unary p c l s op a ts r f.fits f.final h; calm = f.calm; there = f.there };
+    awaits = λ p c l s a ts r f h. record { fits = inl h.3.0; final = longer_await p c l s a ts r f.fits f.final h; calm = f.calm; there = f.there };
+    binary = λ p c l s op a b ts r f h. record { fits = inl h.6.0; final = longer_binary p c l s op a b ts r f.fits f.final h; calm = f.calm; there = f.there };
+    conditional = λ p c l s a b t ts r f h. record { fits = inl h.8.0; final = longer_conditional p c l s a b t ts r f.fits f.final h; calm = f.calm; there = f.there };
+    assigns = λ p c l s op a b ts r f h. record { fits = inl h.6.0; final = longer_assign p c l s op a b ts r f.fits f.final h; calm = f.calm; there = f.there };
+    arrow = λ p c l s ps e i ts r nb f h. record { fits = inl h.3.0; final = longer_arrow p c l s ps e i ts r f.fits f.final h; calm = refl; there = f.there };
+    yields = λ p c l s a ts r na f h. record { fits = inl h.4.0; final = longer_yield p c l s a ts r f.fits f.final h; calm = f.calm; there = f.there };
+    yields_all = λ p c l s a ts r na f h. record { fits = inl h.6.0; final = longer_yield_all p c l s a ts r f.fits f.final h; calm = f.calm; there = f.there };
+    sequence = λ p c l s x y ys ts r f h. record { final = longer_sequence p c l s x y ys ts r f.fits f.final h; calm = f.calm; there = f.there };
+    next = λ p c x y ys ts r f h. record { final = longer_next p c 2 x y ys ts r f.final h; calm = f.calm; there = f.there };
+    last = λ p c x ts r f h. record { fits = inl h.3.0; final = longer_last p c 2 x ts r f.final h; calm = f.calm; there = f.there };
+    bare_new = λ p c l s g ts r f h. record { fits = ⊎_elim (λ i. inr (refl, i)) (λ i. inl i) h.2; final = longer_new p c l s g ts r f.fits f.final h; calm = f.calm; there = f.there };
     name = λ p c l s n ts r f h. lone p c l s n ts r f h;
     group = λ p c l s e ts r f h. no_params p false c l ts ts h.0 r f.final f.there refl (h.2.0, tt, h.2.2);
     call = λ p c l s o n xs ts m r f a e b h. let i = h.2.1.0 in

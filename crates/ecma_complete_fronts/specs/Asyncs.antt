@@ -1,7 +1,8 @@
 -- The word `async` at the end of an expression, before a name: where an assignment may stand an arrow goes on with it.
-use Rattle.std.specs.Prelude.{◌≡◌, ◌≤◌, ◌<◌, ℕ, Bool, false, not, ◌&&◌, List, [], Ok, codes, bytes_eq}
+use Rattle.std.specs.Prelude.{◌≡◌, ◌≤◌, ◌<◌, ℕ, Bool, true, false, not, ◌&&◌, List, [], ◌∷◌, Ok, codes, bytes_eq}
+use Rattle.ecma_token.specs.Kinds.{async_kind}
 use Rattle.ecma_tree.specs.Tree.{Tree, Trees, none, more, ident, seq_expr, assign_expr, cond_expr, arrow_expr, yield_expr, absent}
-use Rattle.ecma_syntax.specs.Input.{PlacedToken, Input, Code, kind, brk, is_word, no_name, barred, in_arrow}
+use Rattle.ecma_syntax.specs.Input.{PlacedToken, Input, Code, kind, brk, text_in, is_word, no_name, barred, in_arrow}
 use Rattle.ecma_syntax.specs.Operators.{goes_expr}
 use Rattle.ecma_syntax.specs.Shape.{ends}
 use Rattle.ecma_reading.specs.Source.{State, list_stream}
@@ -38,3 +39,13 @@ abbrev pub ExpressionsSettle : Type 0
 ExpressionsSettle = (depth : ℕ) (placed : Bool) (c : Code) (l n : ℕ) (ps : List PlacedToken) (t : Tree) (r : State Input) → 1 ≤ l → l ≤ 2 → Named ps → InOrder n ps
     → (readers list_stream depth).expr c l (at_list n ps []) ≡ Ok (t, r) → takes_name c (last_of t) r.source ≡ false
     → Expression false l c t (input_at n ps) r.source × IsComplete (Expression placed l c) n ps r.source.places × (goes_expr c (ends t) r.source < l)
+
+-- a word with the text `async` is that word by its kind
+abbrev pub Worded : List PlacedToken → Type 0
+Worded [] = Unit {0}
+Worded (p ∷ ps) = (is_word p.spot.token.kind ≡ true → text_in p.spot.token.content ≡ codes "async" → p.spot.token.kind ≡ async_kind) × Worded ps
+
+-- Behind a complete front that ends so no such name stands: an arrow would go on with it.
+abbrev pub FrontsStandAlone : Type 0
+FrontsStandAlone = (c : Code) (l n : ℕ) (ps : List PlacedToken) (t : Tree) (r : Input) → 1 ≤ l → l ≤ 2 → Worded ps → InOrder n ps
+    → Expression false l c t (input_at n ps) r → IsComplete (Expression false l c) n ps r.places → takes_name c (last_of t) r ≡ false

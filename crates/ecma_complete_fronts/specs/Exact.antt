@@ -1,9 +1,9 @@
 -- Each complete front is read.
 use Rattle.std.specs.Prelude.{◌≡◌, ◌≤◌, ◌<◌, ℕ, true, false, List, [], Ok, if◌then◌else◌}
-use Rattle.ecma_token.specs.Kinds.{plus_plus_kind, minus_minus_kind, function_kind, finally_kind}
+use Rattle.ecma_token.specs.Kinds.{plus_plus_kind, minus_minus_kind}
 use Rattle.ecma_tree.specs.Tree.{Tree}
 use Rattle.ecma_nesting.specs.Nesting.{nesting}
-use Rattle.ecma_syntax.specs.Input.{PlacedToken, Input, Code, kind, barred, alone, in_list}
+use Rattle.ecma_syntax.specs.Input.{PlacedToken, Input, Code, kind, alone, in_list}
 use Rattle.ecma_syntax.specs.Operators.{between, goes_expr}
 use Rattle.ecma_syntax.specs.Shape.{ends}
 use Rattle.ecma_reading.specs.Source.{Read, list_stream}
@@ -14,10 +14,6 @@ use Rattle.ecma_grammar_complete_base.specs.Laws.{InOrder}
 use Rattle.ecma_sources.specs.Ahead.{at_list}
 use Rattle.ecma_complete_fronts.specs.Laws.{input_at, IsComplete, Whatever, Expression, Binding, Key, Statement, ListItem, ModuleItem}
 
--- No word of this kind stands next that is spelled with an escape, and so is no word of the grammar.
-abbrev pub Unescaped : ℕ → Input → Type 0
-Unescaped k r = (c : Code) → kind r ≡ k → barred c.context r ≡ false
-
 -- What is derived from a complete front of a list in order, and meets this, is read of it, at every depth of at least its nesting.
 abbrev pub IsReadWhere : (Tree → Input → Type 0) → (ℕ → Read Input Tree) → (Tree → Input → Input → Type 0) → Type 0
 IsReadWhere Meets f P = (depth n : ℕ) (ps : List PlacedToken) (t : Tree) (r : Input) → nesting t ≤ depth → InOrder n ps → P t (input_at n ps) r → IsComplete P n ps r.places → Meets t r
@@ -27,22 +23,18 @@ IsReadWhere Meets f P = (depth n : ℕ) (ps : List PlacedToken) (t : Tree) (r : 
 abbrev pub goes_after : Code → ℕ → Input → ℕ
 goes_after c e r = if between plus_plus_kind minus_minus_kind (kind r) then 0 else goes_expr c e r
 
--- By it nothing goes on with an expression at a level, and no escaped `function` stands next.
+-- By it nothing goes on with an expression at a level.
 abbrev pub Stopped : ℕ → Code → Tree → Input → Type 0
-Stopped l c t r = (goes_after c (ends t) r < l) × Unescaped function_kind r
-
--- behind a statement
-abbrev pub Closed : Tree → Input → Type 0
-Closed t r = Unescaped finally_kind r
+Stopped l c t r = goes_after c (ends t) r < l
 
 -- So it is of each part of a program; of expressions outside generators, where no bare `yield` ends one.
 pub record EachIsExact (c : Code) : Type 0 where
   pub expressions : (l : ℕ) → 1 ≤ l → l ≤ 2 → c.context.in_generator ≡ false → IsReadWhere (Stopped l c) (λ d s. (readers list_stream d).expr c l s) (Expression false l c)
   pub bindings : IsReadWhere Whatever (λ d s. (readers list_stream d).pat c s) (Binding false c)
   pub keys : IsReadWhere Whatever (λ d s. key_by list_stream (readers list_stream d) c s) (Key false c)
-  pub statements : IsReadWhere Closed (λ d s. (readers list_stream d).stmt (alone c) s) (Statement false c)
-  pub list_items : IsReadWhere Closed (λ d s. (readers list_stream d).stmt (in_list c) s) (ListItem false c)
-  pub module_items : IsReadWhere Closed (λ d s. item_by list_stream (readers list_stream d) true (in_list c) s) (ModuleItem false c)
+  pub statements : IsReadWhere Whatever (λ d s. (readers list_stream d).stmt (alone c) s) (Statement false c)
+  pub list_items : IsReadWhere Whatever (λ d s. (readers list_stream d).stmt (in_list c) s) (ListItem false c)
+  pub module_items : IsReadWhere Whatever (λ d s. item_by list_stream (readers list_stream d) true (in_list c) s) (ModuleItem false c)
 
 abbrev pub FrontsAreExact : Type 0
 FrontsAreExact = (c : Code) → EachIsExact c

@@ -1,7 +1,7 @@
 //! Laws of the grammar: what is read of a part of a program is a complete front of the list. The functions here are laws alone.
 #![tactic(auto)]
 
-ghost use Rattle.ecma_complete_fronts.specs.Asyncs.{ExpressionsSettle};
+ghost use Rattle.ecma_complete_fronts.specs.Asyncs.{ExpressionsSettle, FrontsStandAlone};
 ghost use Rattle.ecma_complete_fronts.specs.Exact.{FrontsAreExact};
 ghost use Rattle.ecma_complete_fronts.specs.Laws.{BindingsEnd, CutsOff, ExpressionsEnd, FrontsAreOne, FrontsAreRead, KeysEnd, ListItemsEnd, ModuleItemsEnd, StatementsEnd};
 
@@ -40,8 +40,8 @@ pub fn read_law()
 {}
 
 /// Law: each complete front is read. What is derived from a complete front of a list in order is read of it, at every
-/// depth of at least its nesting: an expression outside generators where nothing goes on with it, a binding, a key, a
-/// statement, an item; no escaped `function` may stand behind an expression, and no escaped `finally` behind a statement.
+/// depth of at least its nesting: an expression outside generators where nothing goes on with it; a binding, a key, a
+/// statement and an item before whatever follows.
 #[tactic(auto)]
 pub fn exact_law()
     ensures fronts { FrontsAreExact }
@@ -52,4 +52,11 @@ pub fn exact_law()
 #[tactic(auto)]
 pub fn async_law()
     ensures expressions { ExpressionsSettle }
+{}
+
+/// Law: no name stands on the line of the word `async` that ends a complete front of an expression in the place of an
+/// assignment, since an arrow would go on with it. The words of the list are to be of their kinds.
+#[tactic(auto)]
+pub fn alone_law()
+    ensures expressions { FrontsStandAlone }
 {}

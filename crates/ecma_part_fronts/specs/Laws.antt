@@ -10,8 +10,9 @@ use Rattle.ecma_grammar_complete_base.specs.Laws.{InOrder, Follow}
 use Rattle.ecma_sources.specs.Ahead.{Named, at_list}
 use Rattle.ecma_complete_fronts.specs.Laws.{input_at, IsComplete, Expression, Binding, Key, Statement, ListItem, ModuleItem, Whatever, Apart}
 use Rattle.ecma_parse_parts.specs.Ends.{async_end, heads_arrow, last_of}
-use Rattle.ecma_parse_parts.specs.Parts.{expression_part, binding_part, key_part}
+use Rattle.ecma_parse_parts.specs.Parts.{expression_part, binding_part, key_part, parameters_part}
 use Rattle.ecma_parse_parts.specs.Items.{statement_part, list_item_part, module_item_part}
+use Rattle.ecma_part_fronts.specs.Parameters.{Parameters}
 
 -- A tree is derived from a complete front; it nests no deeper than the limit, and nothing of a cover is left in it.
 pub record IsFront (P Plain : Tree → Input → Input → Type 0) (limit n : ℕ) (ps : List PlacedToken) (t : Tree) (r : Input) : Type 0 where
@@ -30,6 +31,7 @@ pub record EachIsFront (limit : ℕ) (placed : Bool) (c : Code) : Type 0 where
   pub expressions : (l : ℕ) → 1 ≤ l → l ≤ 2 → ReadsFronts Anywhere (expression_part list_stream l limit c) (Expression placed l c) (Expression false l c) limit
   pub bindings : ReadsFronts Anywhere (binding_part list_stream limit c) (Binding placed c) (Binding false c) limit
   pub keys : ReadsFronts Anywhere (key_part list_stream limit c) (Key placed c) (Key false c) limit
+  pub parameters : ReadsFronts Anywhere (parameters_part list_stream limit c) (Parameters placed c) (Parameters false c) limit
   pub statements : ReadsFronts Anywhere (statement_part list_stream limit c) (Statement placed c) (Statement false c) limit
   pub list_items : ReadsFronts Anywhere (list_item_part list_stream limit c) (ListItem placed c) (ListItem false c) limit
   pub module_items : (syntax : EsSyntax) → c ≡ module_code syntax → ReadsFronts Anywhere (module_item_part list_stream limit c) (ModuleItem placed c) (ModuleItem false c) limit

@@ -2,7 +2,7 @@ pub mod Rows
 mod FactsNames
 mod FactsChoice
 mod FactsTexts
-mod FactsFronts
+mod FactsGoals
 pub mod Ordered
 pub mod Alone
 pub mod Passed

@@ -336,7 +336,7 @@ module _ {S : Type 0} {m : Stream S} {Live : Pairing m} {modular : Bool} (w : Pa
 
   pub async_by_backed : {e' : ℕ} (s : State S) (c : Code) (ce : c.context.module_ ≡ modular) (l : ℕ) (j' : Here m Live s) (ak : at m async_kind s ≡ true) → Backed m Live edge true e' s (async_by m im c l s) (λ r'. async_by lm il c l r')
   unfolding async_by
-  async_by_backed s c ce l j' ak = back_past w {s = s} j' _ (λ r' q'. if at lm function_kind q' && not (brk (input lm q')) then function_expr_by lm il c r' true q' else (if is_async_param lm il c l q' then (name lm c q' >>= λ n. arrow_by lm il c r' true (binding_ident (first lm il q') (ident (first lm il q') n.0) ∷ []) n.1) else (if at lm left_paren_kind q' && not (brk (input lm q')) then async_group lm il c l r' q' else (ident_end lm il c l r' (text (input lm r')) q')))) (back_if w {s = (past m s)} (λ z'. at lm function_kind (on [] 0 z') && not (brk (input lm (on [] 0 z')))) ((λ p' q' l' v'. refl), (λ p' q' l' v'. refl), (λ p' l' v'. refl)) (live_past w j') _ _ _ _ (λ y1. back_weak _ (back_closed _ (function_expr_by_backed (past m s) c ce s (token w j') true (live_past w j')))) (bides_back w _ _ (bides_test w (is_async_param m im c l (past m s)) (λ r'. is_async_param lm il c l r') _ _ _ _ (λ qs' h' o'. param_told s l c (live_past w j') qs' o')
+  async_by_backed s c ce l j' ak = back_past w {s = s} j' _ (λ r' q'. if (at lm function_kind q' && not (brk (input lm q'))) && not (barred c.context (input lm q')) then function_expr_by lm il c r' true q' else (if is_async_param lm il c l q' then (name lm c q' >>= λ n. arrow_by lm il c r' true (binding_ident (first lm il q') (ident (first lm il q') n.0) ∷ []) n.1) else (if at lm left_paren_kind q' && not (brk (input lm q')) then async_group lm il c l r' q' else (ident_end lm il c l r' (text (input lm r')) q')))) (back_if w {s = (past m s)} (λ z'. (at lm function_kind (on [] 0 z') && not (brk (input lm (on [] 0 z')))) && not (barred c.context (input lm (on [] 0 z')))) ((λ p' q' l' v'. refl), (λ p' q' l' v'. refl), (λ p' l' v'. refl)) (live_past w j') _ _ _ _ (λ y1. back_weak _ (back_closed _ (function_expr_by_backed (past m s) c ce s (token w j') true (live_past w j')))) (bides_back w _ _ (bides_test w (is_async_param m im c l (past m s)) (λ r'. is_async_param lm il c l r') _ _ _ _ (λ qs' h' o'. param_told s l c (live_past w j') qs' o')
       (λ y2. bides_weak w _ _ (bides_one w _ _ (back_name w {s = (past m s)} c (live_past w j') _ _ (λ n4 j3. back_same _ (λ r'. arrow_by lm il c (was m Live (join (token w j') (token w j3)) r') true (binding_ident ((first m im (past m s))) (ident ((first m im (past m s))) n4) ∷ []) r') (λ r'. arrow_by lm il c (was m Live (join (token w j') (token w j3)) r') true (binding_ident (first lm il (was m Live (token w j3) r')) (ident (first lm il (was m Live (token w j3) r')) n4) ∷ []) r') (λ qs' h'. ap (λ (z' : Span). arrow_by lm il c (was m Live (join (token w j') (token w j3)) (list_at m Live (past m (past m s)) qs')) true (binding_ident (z') (ident (z') n4) ∷ []) (list_at m Live (past m (past m s)) qs')) (first_was w (token w j3) (took_token w j3) qs' h')) (arrow_by_backed (past m (past m s)) c ce s (join (token w j') (token w j3)) true (binding_ident (first m im (past m s)) (ident (first m im (past m s)) n4) ∷ []) (here_second w (λ z'. kind2 (input lm (on [] 0 z')) == arrow_kind) (past m s) j3 (λ p'. refl) (λ p' q' l'. refl) (async_arrow _ _ _ _ _ y2)))))))
       (λ n2. bides_test w (at m left_paren_kind (past m s) && not (brk (input m (past m s)))) (λ r'. at lm left_paren_kind r' && not (brk (input lm r'))) _ _ _ _ (λ qs' h' o'. agrees w (λ z'. at lm left_paren_kind (on [] 0 z') && not (brk (input lm (on [] 0 z')))) ((λ p' q' l' v'. refl), (λ p' q' l' v'. refl), (λ p' l' v'. refl)) (past m s) (live_past w j') qs' h')
       (λ y5. bides_weak w _ _ (bides_one w _ _ (async_group_backed (past m s) c ce l s (token w j') (took_token w j') (here_at w left_paren_kind (refl, refl, refl, refl) refl (past m s) (live_past w j') (and_left _ _ y5)))))

@@ -474,7 +474,7 @@ module _ {S : Type 0} {m : Stream S} {Live : Pairing m} {modular : Bool} (w : Pa
 
   pub finally_by_backed : (s : State S) (c : Code) (ce : c.context.module_ ≡ modular) (start : State S) (startu : Path m Live start s) (b : Tree) (h : Tree) (sl' : Live.live s.source) → Backed m Live closed false closed_end s (finally_by m im c start b h s) (λ r'. finally_by lm il c (was m Live startu r') b h r')
   unfolding finally_by
-  finally_by_backed s c ce start startu b h sl' = back_at w {s = s} finally_kind (refl, refl, refl, refl) refl sl' _ _ _ _ (λ j1. back_weak _ (back_word w {s = s} c finally_kind (refl, refl, refl, refl) refl sl' _ _ (λ j2. back_then _ _ _ _ (block_by_backed (past m s) c ce (live_past w j2)) (λ f3a f3s f3u. back_ok {s = f3s} _ _ f3u.live (λ qs' h'. ap (λ (z' : ℕ). try_stmt ((span z' (m.last f3s.source))) b h f3a) (lo_was w (join (join startu (token w j2)) f3u) qs' h')) ((λ i'. absurd (true≢false i')), (λ i'. absurd (true≢false i'))))))) (back_test (is_absent h) (λ r'. is_absent h) _ _ _ _ (λ qs' h'. refl) (λ y5. back_never) (λ _. back_ok {s = s} _ _ sl' (λ qs' h'. ap (λ (z' : ℕ). try_stmt ((span z' (m.last s.source))) b h absent) (lo_was w startu qs' h')) ((λ i'. absurd (true≢false i')), (λ i'. absurd (true≢false i')))))
+  finally_by_backed s c ce start startu b h sl' = back_if w {s = s} (λ z'. at lm finally_kind (on [] 0 z') && not (barred c.context (input lm (on [] 0 z')))) ((λ p' q' l' v'. refl), (λ p' q' l' v'. refl), (λ p' l' v'. refl)) sl' _ _ _ _ (λ y1. back_weak _ (back_word w {s = s} c finally_kind (refl, refl, refl, refl) refl sl' _ _ (λ j2. back_then _ _ _ _ (block_by_backed (past m s) c ce (live_past w j2)) (λ f3a f3s f3u. back_ok {s = f3s} _ _ f3u.live (λ qs' h'. ap (λ (z' : ℕ). try_stmt ((span z' (m.last f3s.source))) b h f3a) (lo_was w (join (join startu (token w j2)) f3u) qs' h')) ((λ i'. absurd (true≢false i')), (λ i'. absurd (true≢false i'))))))) (back_test (is_absent h) (λ r'. is_absent h) _ _ _ _ (λ qs' h'. refl) (λ y5. back_never) (λ _. back_ok {s = s} _ _ sl' (λ qs' h'. ap (λ (z' : ℕ). try_stmt ((span z' (m.last s.source))) b h absent) (lo_was w startu qs' h')) ((λ i'. absurd (true≢false i')), (λ i'. absurd (true≢false i')))))
 
   pub try_by_backed : {e' : ℕ} (s : State S) (c : Code) (ce : c.context.module_ ≡ modular) (sl' : Live.live s.source) → Backed m Live closed true e' s (try_by m im c s) (λ r'. try_by lm il c r')
   unfolding try_by

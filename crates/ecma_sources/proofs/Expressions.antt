@@ -4,7 +4,7 @@ use Rattle.ecma_token.specs.declared.place.Span.{Span}
 use Rattle.ecma_token.specs.Kinds.{div_kind, div_assign_kind, arrow_kind, hash_kind, dot_kind, dot_dot_dot_kind, left_paren_kind, right_paren_kind, left_bracket_kind, right_bracket_kind, left_brace_kind, right_brace_kind, comma_kind, back_quote_kind, template_kind, colon_kind, dollar_brace_kind, question_mark_kind, str_kind, num_kind, big_int_kind, regex_kind, mul_kind, assign_kind, null_kind, true_kind, false_kind, await_kind, function_kind, class_kind, new_kind, this_kind, super_kind, import_kind, yield_kind, in_kind, plus_plus_kind, minus_minus_kind, async_kind, meta_kind, target_kind, get_kind, set_kind}
 use Rattle.ecma_token.specs.Tokens.{Content, Quoted, Pattern, Numeral, BigNumeral}
 use Rattle.ecma_tree.specs.Tree.{Tree, none, pack, function, ident_name, computed_prop_name, private_name, this_expr, array_lit, object_lit, fn_expr, unary_expr, update_expr, bin_expr, assign_expr, member_expr, super_prop_expr, cond_expr, call_expr, new_expr, ident, tpl, tagged_tpl, arrow_expr, class_expr, yield_expr, meta_prop_expr, await_expr, paren_expr, opt_chain_expr, opt_call, super, import, expr_or_spread, spread_element, key_value_prop, assign_prop, getter_prop, setter_prop, method_prop, str_lit, bool_lit, null_lit, number_lit, big_int_lit, regex_lit, binding_ident, assign_pat, rest_pat, param, absent, list}
-use Rattle.ecma_syntax.specs.Input.{PlacedToken, Input, Code, kind, kind_of, kind2, brk, break_of, brk2, lo, dots_at, text, content, span, is_word, has_in, with_in, in_list, by, in_body, in_arrow, turned_strict}
+use Rattle.ecma_syntax.specs.Input.{PlacedToken, Input, Code, kind, kind_of, kind2, brk, break_of, brk2, lo, dots_at, text, content, span, is_word, barred, has_in, with_in, in_list, by, in_body, in_arrow, turned_strict}
 use Rattle.ecma_syntax.specs.Operators.{closed_end, expression_level, assignment_level, coalesce_level, unary_level, new_level, call_level, member_level, binary_level, right_level, is_assign_op, operates, goes_expr, between, other_end}
 use Rattle.ecma_syntax.specs.Shape.{level, ends, fits_left, is_chain, is_cooked}
 use Rattle.ecma_reading.specs.Source.{Fault, Unexpected, unexpected, ◌>>=◌, Stream, State, input, past, operand, spanned, at, is_name, name, Step, go_on, finished, Inner}
@@ -238,7 +238,7 @@ module _ {S : Type 0} {m : Stream S} {Live : S → Type 0} {modular : Bool} (w :
 
   pub async_by_told : (k : Ceiling) (c : Code) (ce : c.context.module_ ≡ modular) (l : ℕ) (s : State S) (s' : State Input) (sj : Joined m Live k s s') → Told m Live k (async_by lm il c l s') (async_by m im c l s)
   unfolding async_by
-  async_by_told k c ce l s s' sj = told_if w k _ _ (agree1 w (λ z. at lm function_kind (on [] 0 z) && not (brk (input lm (on [] 0 z)))) (λ p q l v. refl) (λ p q l v. refl) (λ p l v. refl) k (past m s) (past lm s') sj.after) _ _ _ _ (λ _. function_expr_by_told k c ce k s s' sj.base true (past m s) (past lm s') sj.after)
+  async_by_told k c ce l s s' sj = told_if w k _ _ (agree1 w (λ z. (at lm function_kind (on [] 0 z) && not (brk (input lm (on [] 0 z)))) && not (barred c.context (input lm (on [] 0 z)))) (λ p q l v. refl) (λ p q l v. refl) (λ p l v. refl) k (past m s) (past lm s') sj.after) _ _ _ _ (λ _. function_expr_by_told k c ce k s s' sj.base true (past m s) (past lm s') sj.after)
       (λ _. told_if w k _ _ (agree2 w (λ z. is_async_param lm il c l (on [] 0 z)) (λ p q l v. refl) (λ p q l v. refl) (λ n p q l v. refl) (λ n p q l v. refl) (λ n p l v. refl) k (past m s) (past lm s') sj.after) _ _ _ _ (λ y. async_name k c ce l s s' sj.base (past m s) (past lm s') sj.after y)
       (λ _. told_if w k _ _ (agree1 w (λ z. at lm left_paren_kind (on [] 0 z) && not (brk (input lm (on [] 0 z)))) (λ p q l v. refl) (λ p q l v. refl) (λ p l v. refl) k (past m s) (past lm s') sj.after) _ _ _ _
       (λ y. async_group_told k c ce l k s s' sj (past m s) (past lm s') (joined_at w left_paren_kind (refl, refl, refl, refl) k (past m s) (past lm s') sj.after (and_left (at lm left_paren_kind (past lm s')) (not (brk (input lm (past lm s')))) y)))

@@ -11,4 +11,5 @@ pub mod ConsumedExpressions
 pub mod ConsumedStatements
 pub mod ConsumedModules
 pub mod ConsumedLemmas
+pub mod ConsumedParts
 pub mod Ahead

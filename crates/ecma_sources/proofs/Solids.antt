@@ -4,7 +4,7 @@ use Rattle.ecma_token.specs.declared.place.Span.{Span}
 use Rattle.ecma_token.specs.Kinds.{hash_kind, dot_kind, left_paren_kind, right_paren_kind, left_bracket_kind, right_bracket_kind, left_brace_kind, comma_kind, back_quote_kind, colon_kind, question_mark_kind, mul_kind, null_kind, true_kind, false_kind, await_kind, function_kind, class_kind, new_kind, this_kind, super_kind, import_kind, yield_kind, in_kind, plus_plus_kind, minus_minus_kind, async_kind, meta_kind, target_kind}
 use Rattle.ecma_token.specs.Tokens.{Content, Quoted, Pattern, Numeral, BigNumeral}
 use Rattle.ecma_tree.specs.Tree.{Tree, pack, ident_name, this_expr, array_lit, object_lit, fn_expr, unary_expr, update_expr, bin_expr, assign_expr, member_expr, super_prop_expr, cond_expr, call_expr, new_expr, ident, tpl, tagged_tpl, arrow_expr, class_expr, yield_expr, meta_prop_expr, await_expr, paren_expr, opt_chain_expr, opt_call, super, import, bool_lit, null_lit, binding_ident, absent, list, seq_expr}
-use Rattle.ecma_syntax.specs.Input.{Code, kind, content, lo, text, is_word, span, kind2, brk, has_in, with_in, in_list, by, in_arrow, turned_strict}
+use Rattle.ecma_syntax.specs.Input.{Code, kind, content, lo, text, is_word, barred, span, kind2, brk, has_in, with_in, in_list, by, in_arrow, turned_strict}
 use Rattle.ecma_syntax.specs.Shape.{level, ends, fits_left, is_chain, is_absent}
 use Rattle.ecma_syntax.specs.Operators.{assignment_level, binary_level, goes_expr, other_end, expression_level, coalesce_level, unary_level, new_level, call_level, member_level, right_level, is_assign_op, operates, between}
 use Rattle.ecma_reading.specs.Source.{Fault, ◌>>=◌, unexpected, Stream, State, Read, input, past, operand, at, bound, spanned, eat, eat_word, is_name, name, any_word, Step, go_on, finished, next_by, iterate_n, iterate, Inner}
@@ -158,7 +158,7 @@ module _ {S : Type 0} (m : Stream S) (im : Inner S) where
 
   async_by_solid : (c : Code) (l : ℕ) (s : State S) → Solid m (async_by m im c l s)
   unfolding async_by
-  async_by_solid c l s = (solid_if (at m function_kind (past m s) && not (brk (input m (past m s)))) _ _ (function_expr_by_solid c s true ((past m s))) (solid_if (is_async_param m im c l (past m s)) _ _ (solid_then (name m c (past m s)) (λ n. arrow_by m im c s true (binding_ident (first m im (past m s)) (ident (first m im (past m s)) n.0) ∷ []) n.1) (λ n. (arrow_by_solid c s true ((binding_ident (first m im (past m s)) (ident (first m im (past m s)) n.0) ∷ [])) (n.1)))) (solid_if (at m left_paren_kind (past m s) && not (brk (input m (past m s)))) _ _ (async_group_solid c l s ((past m s))) (ident_end_solid c l s ((text (input m s))) ((past m s))))))
+  async_by_solid c l s = (solid_if ((at m function_kind (past m s) && not (brk (input m (past m s)))) && not (barred c.context (input m (past m s)))) _ _ (function_expr_by_solid c s true ((past m s))) (solid_if (is_async_param m im c l (past m s)) _ _ (solid_then (name m c (past m s)) (λ n. arrow_by m im c s true (binding_ident (first m im (past m s)) (ident (first m im (past m s)) n.0) ∷ []) n.1) (λ n. (arrow_by_solid c s true ((binding_ident (first m im (past m s)) (ident (first m im (past m s)) n.0) ∷ [])) (n.1)))) (solid_if (at m left_paren_kind (past m s) && not (brk (input m (past m s)))) _ _ (async_group_solid c l s ((past m s))) (ident_end_solid c l s ((text (input m s))) ((past m s))))))
 
   class_expr_by_solid : (c : Code) (s : State S) → Solid m (class_expr_by m im c s)
   unfolding class_expr_by

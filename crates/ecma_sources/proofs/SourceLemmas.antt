@@ -36,10 +36,10 @@ module _ {S : Type 0} {m : Stream S} {Live : S → Type 0} {modular : Bool} (w :
   }
 
   -- where reading starts
-  start_at : S → List PlacedToken → Ceiling
+  pub start_at : S → List PlacedToken → Ceiling
   start_at s ps = record { bound = m.bound s; length = length ps }
 
-  beside_at : (s : S) (ps : List PlacedToken) (o : List ℕ) → Live s → HandsOut m ps s → Beside m Live (start_at s ps) (from_source m Live s o) (from_list m Live s ps o)
+  pub beside_at : (s : S) (ps : List PlacedToken) (o : List ℕ) → Live s → HandsOut m ps s → Beside m Live (start_at s ps) (from_source m Live s o) (from_list m Live s ps o)
   unfolding start_at
   beside_at s ps o a h = record { commas = refl; last = refl; live = a; hands = h; falls = omega arith }
 
@@ -48,7 +48,7 @@ module _ {S : Type 0} {m : Stream S} {Live : S → Type 0} {modular : Bool} (w :
   finished k (Ok y) x t h e = ap (λ (z : Result (Tree × State S) Fault). z >>= finish) h.so.1 ∙ e
   finished k (Err d) x t h e = absurd (true≢false (sym (ap (λ z. is_read z) e)))
 
-  part : (k : Ceiling) (y : Result (Tree × State Input) Fault) (x : Result (Tree × State S) Fault) → Told m Live k y x → SameRead m Live y x
+  pub part : (k : Ceiling) (y : Result (Tree × State Input) Fault) (x : Result (Tree × State S) Fault) → Told m Live k y x → SameRead m Live y x
   part k (Ok y) x h = (h.so.0.source, h.so.1 ∙ ap (λ (o : List ℕ). Ok (y.0, from_source m Live h.so.0.source o)) h.so.2.commas, h.so.2.last, h.so.2.hands)
   part k (Err d) x h = tt
 

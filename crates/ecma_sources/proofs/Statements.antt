@@ -325,7 +325,7 @@ module _ {S : Type 0} {m : Stream S} {Live : S → Type 0} {modular : Bool} (w :
 
   pub finally_by_told : (k : Ceiling) (c : Code) (ce : c.context.module_ ≡ modular) (startc : Ceiling) (start : State S) (start' : State Input) (starth : Beside m Live startc start start') (b : Tree) (h : Tree) (s : State S) (s' : State Input) (sh : Beside m Live k s s') → Told m Live k (finally_by lm il c start' b h s') (finally_by m im c start b h s)
   unfolding finally_by
-  finally_by_told k c ce startc start start' starth b h s s' sh = told_at w k finally_kind (refl, refl, refl, refl) s s' sh _ _ _ _ (λ j1. told_word w k c finally_kind (refl, refl, refl, refl) s s' sh _ _ (λ j2. told_then w k _ _ _ _ (block_by_told k c ce (past m s) (past lm s') j2.after) (λ f0 f1 f1' f1h. told_ok w k _ _ f1 f1' f1h (ap (λ (z : Span). try_stmt z b h f0) (span_same w startc k start f1 start' f1' starth f1h))))) (told_if w k (is_absent h) (is_absent h) refl _ _ _ _ (λ _. never w k _ _) (λ _. told_ok w k _ _ s s' sh (ap (λ (z : Span). try_stmt z b h absent) (span_same w startc k start s start' s' starth sh))))
+  finally_by_told k c ce startc start start' starth b h s s' sh = told_if w k _ _ (agree1 w (λ z. at lm finally_kind (on [] 0 z) && not (barred c.context (input lm (on [] 0 z)))) (λ p q l v. refl) (λ p q l v. refl) (λ p l v. refl) k s s' sh) _ _ _ _ (λ _. told_word w k c finally_kind (refl, refl, refl, refl) s s' sh _ _ (λ j2. told_then w k _ _ _ _ (block_by_told k c ce (past m s) (past lm s') j2.after) (λ f0 f1 f1' f1h. told_ok w k _ _ f1 f1' f1h (ap (λ (z : Span). try_stmt z b h f0) (span_same w startc k start f1 start' f1' starth f1h))))) (λ _. told_if w k (is_absent h) (is_absent h) refl _ _ _ _ (λ _. never w k _ _) (λ _. told_ok w k _ _ s s' sh (ap (λ (z : Span). try_stmt z b h absent) (span_same w startc k start s start' s' starth sh))))
 
   pub try_by_told : (k : Ceiling) (c : Code) (ce : c.context.module_ ≡ modular) (s : State S) (s' : State Input) (sh : Beside m Live k s s') → Told m Live k (try_by lm il c s') (try_by m im c s)
   unfolding try_by

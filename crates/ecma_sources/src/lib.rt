@@ -4,7 +4,7 @@
 
 ghost use Rattle.ecma_reading.specs.Source.{Stream};
 ghost use Rattle.ecma_sources.specs.Ahead.{OneAhead};
-ghost use Rattle.ecma_sources.specs.Consumed.{ProgramsConsumed};
+ghost use Rattle.ecma_sources.specs.Consumed.{PartsConsumed, ProgramsConsumed};
 ghost use Rattle.ecma_sources.specs.Laws.{ProgramsRead, PartsRead};
 
 /// A source of tokens, and its states that a reading comes to.
@@ -24,11 +24,12 @@ pub fn sources_law<I: Sourced>()
     ensures parts { PartsRead I.machine I.live }
 {}
 
-/// Law: what is read of a source is read of a list that it hands out, by calls as deep: a script or a
-/// module.
+/// Law: what is read of a source is read of a list that it hands out, by calls as deep: a script, a
+/// module, or a part of one, before each list that the source hands out behind it.
 #[tactic(auto)]
 pub fn consumed_law<I: Sourced>()
     ensures programs { ProgramsConsumed I.machine I.live }
+    ensures parts { PartsConsumed I.machine I.live }
 {}
 
 /// Law: reading depends on the tokens that it takes and the next one alone. What is read of a front of a
