@@ -6,7 +6,8 @@ use Rattle.ecma_token.specs.declared.error.SyntaxError.TheVariants as kinds
 use Rattle.ecma_token.specs.declared.syntax.EsSyntax.{EsSyntax}
 use Rattle.ecma_tree.specs.Tree.{Tree}
 use Rattle.ecma_early.specs.Early.{early_errors}
-use Rattle.ecma_reading.specs.Source.{Fault, Unexpected, TooDeep, Stream, State, bound}
+use Rattle.ecma_syntax.specs.Input.{lo}
+use Rattle.ecma_reading.specs.Source.{Fault, Unexpected, TooDeep, Stream, State, bound, input}
 use Rattle.ecma_parse_state.specs.declared.failure.Failure.{Failure}
 use Rattle.ecma_parse_state.specs.Answers.{Fails}
 
@@ -29,7 +30,8 @@ abbrev pub Parses : {X : Type 0} → (X → Tree) → EsSyntax → Result X Erro
 Parses view syntax (Ok x) read old new = (read ≡ Ok (view x)) × (new ≡ old ++ early_errors syntax (view x))
 Parses view syntax (Err e) read old new = Refuses e.kind read × (new ≡ old)
 
--- After a fault that is not want of memory the tokens that were read stay read: no more may come than from where the entry began to read.
+-- After a fault that is not want of memory the tokens that were read stay read: no more may come than from where the entry began to read, and the parser
+-- stands no further back than where the fault begins.
 abbrev pub StayRead : {X S : Type 0} → Stream S → Result X Error → State S → State S → Type 0
 StayRead m (Ok x) began stands = Unit {0}
-StayRead m (Err e) began stands = e.kind ≢ kinds.Memory → bound m stands ≤ bound m began
+StayRead m (Err e) began stands = e.kind ≢ kinds.Memory → (bound m stands ≤ bound m began) × (e.span.lo.0 ≤ lo (input m stands))

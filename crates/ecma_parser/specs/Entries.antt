@@ -1,5 +1,5 @@
 -- A parser as a user holds it.
-use Rattle.std.specs.Prelude.{ℕ, List, [], Option, None, Some, option_map, if◌then◌else◌}
+use Rattle.std.specs.Prelude.{◌≡◌, ℕ, true, List, [], Option, None, Some, option_map, Result, IfOk, if◌then◌else◌}
 use Rattle.ecma_token.specs.declared.context.Context.{Context}
 use Rattle.ecma_token.specs.declared.error.Error.{Error}
 use Rattle.ecma_token.specs.declared.syntax.EsSyntax.{EsSyntax}
@@ -33,6 +33,10 @@ limit_in e = e.limit
 -- the faults that were recorded, in order
 abbrev pub faults_in : {P : Type 0} → Entries P → List Error
 faults_in e = e.faults.items
+
+-- An entry leaves the source told the code that it was told before, and the limit as it was; where it answers, the first token was read.
+abbrev pub Keeps : {X E I S : Type 0} → (I → Source S) → Result X E → Entries (Parser (Rewinding I)) → Entries (Parser (Rewinding I)) → Type 0
+Keeps state result old new = (ctx_in state new ≡ ctx_in state old) × (limit_in new ≡ limit_in old) × IfOk result (λ x. new.started ≡ true)
 
 -- in front of the first token of a source
 abbrev pub first_of : {S : Type 0} → tokens.Machine S → Source S → State (Cursor S)

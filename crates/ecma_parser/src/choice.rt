@@ -7,7 +7,7 @@ ghost use Rattle.ecma_parse_state.specs.Answers.{IsMemory};
 ghost use Rattle.ecma_parse_state.specs.Cursors.{stream_of};
 ghost use Rattle.ecma_parser.specs.Answers.{StayRead};
 ghost use Rattle.ecma_parser.specs.Choice.{Chooses, IsMeant, NotMeant};
-ghost use Rattle.ecma_parser.specs.Entries.{ctx_in, faults_in, limit_in, stood, syntax_in};
+ghost use Rattle.ecma_parser.specs.Entries.{Keeps, ctx_in, faults_in, limit_in, stood, syntax_in};
 ghost use Rattle.ecma_parser.specs.Programs.{module_read, script_read, script_start};
 
 use crate::entries::{Entries, Reading};
@@ -26,20 +26,21 @@ impl<'a, I: Tokens<'a> + Drop> Entries<Reading<'a, I>> {
     /// Want of memory, or the fault of the script.
     pub fn parse_program(&mut self) -> PResult<Program>
         ensures value { Chooses (syntax_in I.state self.old) result (module_read I.machine I.state self.old) (script_read I.machine I.state self.old) (faults_in self.old) (faults_in self.new) }
-        ensures started { IfOk result (λ _. self.new.started ≡ true) }
-        ensures context { ctx_in I.state self.new ≡ ctx_in I.state self.old }
-        ensures limit { limit_in self.new ≡ limit_in self.old }
+        ensures keeps { Keeps I.state result self.old self.new }
         ensures stays { StayRead (stream_of I.machine) result (script_start I.machine I.state self.old) (stood I.state self.new) }
     {
-        if let Some(module) = self.meant_module().map_err(told)? {
-            return Ok(Program {
+        match self.meant_module() {
+            Ok(Some(module)) => Ok(Program {
                 kind: ProgramKind::Module(module),
-            });
+            }),
+            Ok(None) => {
+                let script = self.parse_script()?;
+                Ok(Program {
+                    kind: ProgramKind::Script(script),
+                })
+            }
+            Err(failure) => Err(told(failure, self.reading.lo())),
         }
-        let script = self.parse_script()?;
-        Ok(Program {
-            kind: ProgramKind::Script(script),
-        })
     }
 
     /// The rest of the source as a module, where one is meant. Else nothing is read.

@@ -12,7 +12,7 @@ ghost use Rattle.ecma_parse_state.specs.Codes.{code_of};
 ghost use Rattle.ecma_parse_state.specs.Cursors.{Cursor, stream_of};
 ghost use Rattle.ecma_parse_state.specs.States.{state_of};
 ghost use Rattle.ecma_parser.specs.Answers.{StayRead};
-ghost use Rattle.ecma_parser.specs.Entries.{ctx_in, faults_in, limit_in, stood, syntax_in};
+ghost use Rattle.ecma_parser.specs.Entries.{Keeps, ctx_in, faults_in, limit_in, stood, syntax_in};
 ghost use Rattle.ecma_parser.specs.Parts.{ParsesPart, ReadsPart, script_part};
 ghost use Rattle.ecma_parser.specs.Programs.{script_start};
 
@@ -80,14 +80,15 @@ impl<'a, I: Tokens<'a> + Drop> Entries<Reading<'a, I>> {
     pub(crate) fn parse_part<R: Rule<'a, Rewinding<I>>>(&mut self, rule: &R) -> PResult<R::Node>
         ensures value { ParsesPart (stream_of I.machine) (ctx_in I.state self.old) R.tree (R.faults rule.now (syntax_in I.state self.old)) result (script_part I.machine I.state (R.reads rule.now I.State I.machine) self.old) (stood I.state self.new) (faults_in self.old) (faults_in self.new) }
         ensures fits { IfOk result R.fits }
-        ensures context { ctx_in I.state self.new ≡ ctx_in I.state self.old }
-        ensures started { IfOk result (λ _. self.new.started ≡ true) }
-        ensures limit { limit_in self.new ≡ limit_in self.old }
+        ensures keeps { Keeps I.state result self.old self.new }
         ensures stays { StayRead (stream_of I.machine) result (script_start I.machine I.state self.old) (stood I.state self.new) }
     {
         let before = self.reading.input.ctx();
         let answer = self.read_part(rule);
         self.leave(before);
-        answer.map_err(told)
+        match answer {
+            Ok(node) => Ok(node),
+            Err(failure) => Err(told(failure, self.reading.lo())),
+        }
     }
 }

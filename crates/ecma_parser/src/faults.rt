@@ -1,19 +1,21 @@
 //! Why nothing was parsed, as a user is told.
-ghost use Rattle.std.specs.Prelude.{◌≡◌};
+ghost use Rattle.std.specs.Prelude.{◌≡◌, ◌≤◌};
 ghost use Rattle.ecma_token.specs.declared.error.SyntaxError.TheVariants.{Memory};
 ghost use Rattle.ecma_parse_state.specs.Answers.{IsMemory};
 ghost use Rattle.ecma_parser.specs.Answers.{Tells};
 
 use ecma_parse_state::Failure;
-use ecma_token::{DUMMY_SP, Error, SyntaxError};
+use ecma_token::{BytePos, DUMMY_SP, Error, Span, SyntaxError};
 
 /// What an entry answers.
 pub type PResult<T> = Result<T, Error>;
 
-/// The fault that a user is told. No fault of a text is called want of memory or too deep.
-pub(crate) fn told(failure: Failure) -> Error
+/// The fault that a user is told by a parser in front of a token that begins here. No fault of a text is called want of memory or
+/// too deep, and none begins behind that token's start, since nothing further on was read.
+pub(crate) fn told(failure: Failure, here: BytePos) -> Error
     ensures tells { Tells failure result.kind }
     ensures memory { IsMemory failure → result.kind ≡ Memory }
+    ensures place { result.span.lo.0 ≤ here.0 }
 {
     match failure {
         Failure::Memory => Error {
@@ -24,12 +26,15 @@ pub(crate) fn told(failure: Failure) -> Error
             span: DUMMY_SP,
             kind: SyntaxError::TooDeep,
         },
-        Failure::Syntax(error) => match error.kind {
-            SyntaxError::Memory | SyntaxError::TooDeep => Error {
-                span: error.span,
-                kind: SyntaxError::Unexpected,
+        Failure::Syntax(error) => Error {
+            span: Span {
+                lo: BytePos(error.span.lo.0.min(here.0)),
+                hi: error.span.hi,
             },
-            _ => error,
+            kind: match error.kind {
+                SyntaxError::Memory | SyntaxError::TooDeep => SyntaxError::Unexpected,
+                kind => kind,
+            },
         },
     }
 }

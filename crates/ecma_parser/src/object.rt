@@ -10,7 +10,7 @@ ghost use Rattle.ecma_early.specs.Early.{early_errors};
 ghost use Rattle.ecma_parse_state.specs.Cursors.{stream_of};
 ghost use Rattle.ecma_parse_parts.specs.Props as reads;
 ghost use Rattle.ecma_parser.specs.Answers.{StayRead};
-ghost use Rattle.ecma_parser.specs.Entries.{ctx_in, faults_in, limit_in, stood, syntax_in};
+ghost use Rattle.ecma_parser.specs.Entries.{Keeps, ctx_in, faults_in, stood, syntax_in};
 ghost use Rattle.ecma_parser.specs.Parts.{ParsesPart, script_part};
 ghost use Rattle.ecma_parser.specs.Programs.{script_start};
 
@@ -101,9 +101,7 @@ impl<'a, I: Tokens<'a> + Drop> ParseObject<ExprBox> for Entries<Reading<'a, I>> 
     fn parse_object_prop(&mut self) -> PResult<PropOrSpread>
         ensures value { ParsesPart (stream_of I.machine) (ctx_in I.state self.old) (view_prop_or_spread inner) (early_errors (syntax_in I.state self.old)) result (script_part I.machine I.state (reads.prop_part (stream_of I.machine)) self.old) (stood I.state self.new) (faults_in self.old) (faults_in self.new) }
         ensures fits { IfOk result (λ x. fits_prop_or_spread (λ p. p) x) }
-        ensures context { ctx_in I.state self.new ≡ ctx_in I.state self.old }
-        ensures started { IfOk result (λ _. self.new.started ≡ true) }
-        ensures limit { limit_in self.new ≡ limit_in self.old }
+        ensures keeps { Keeps I.state result self.old self.new }
         ensures stays { StayRead (stream_of I.machine) result (script_start I.machine I.state self.old) (stood I.state self.new) }
     {
         self.parse_part(&Property)
@@ -148,9 +146,7 @@ impl<'a, I: Tokens<'a> + Drop> ParseObject<PatBox> for Entries<Reading<'a, I>> {
     fn parse_object_prop(&mut self) -> PResult<ObjectPatProp>
         ensures value { ParsesPart (stream_of I.machine) (ctx_in I.state self.old) (view_object_pat_prop inner) (early_errors (syntax_in I.state self.old)) result (script_part I.machine I.state (reads.item_part (stream_of I.machine)) self.old) (stood I.state self.new) (faults_in self.old) (faults_in self.new) }
         ensures fits { IfOk result (λ x. fits_object_pat_prop (λ p. p) x) }
-        ensures context { ctx_in I.state self.new ≡ ctx_in I.state self.old }
-        ensures started { IfOk result (λ _. self.new.started ≡ true) }
-        ensures limit { limit_in self.new ≡ limit_in self.old }
+        ensures keeps { Keeps I.state result self.old self.new }
         ensures stays { StayRead (stream_of I.machine) result (script_start I.machine I.state self.old) (stood I.state self.new) }
     {
         self.parse_part(&PatternProperty)

@@ -8,7 +8,7 @@ ghost use Rattle.ecma_syntax.specs.Input.{module_code, script_code};
 ghost use Rattle.ecma_syntax.specs.Operators.{assignment_level, expression_level};
 ghost use Rattle.ecma_early.specs.Early.{early_errors, outermost};
 ghost use Rattle.ecma_early.specs.Early as early;
-ghost use Rattle.ecma_program_text.specs.Fronts as fronts;
+ghost use Rattle.ecma_program_text.specs.Items as program;
 ghost use Rattle.ecma_reading.specs.Source as spec;
 ghost use Rattle.ecma_parse_state.specs.Answers.{IsMemory, Stays};
 ghost use Rattle.ecma_parse_state.specs.Codes.{code_of};
@@ -16,7 +16,7 @@ ghost use Rattle.ecma_parse_state.specs.Cursors.{stream_of};
 ghost use Rattle.ecma_parse_parts.specs.Items as items;
 ghost use Rattle.ecma_parse_parts.specs.Parts as reads;
 ghost use Rattle.ecma_parser.specs.Answers.{StayRead};
-ghost use Rattle.ecma_parser.specs.Entries.{ctx_in, faults_in, limit_in, stood, syntax_in};
+ghost use Rattle.ecma_parser.specs.Entries.{Keeps, ctx_in, faults_in, limit_in, stood, syntax_in};
 ghost use Rattle.ecma_parser.specs.Parts.{ParsesPart, ReadsPart, module_part, script_part};
 ghost use Rattle.ecma_parser.specs.Programs.{module_start, script_start};
 
@@ -42,9 +42,7 @@ impl<'a, I: Tokens<'a> + Drop> Entries<Reading<'a, I>> {
     pub fn parse_expr(&mut self) -> PResult<ExprBox>
         ensures value { ParsesPart (stream_of I.machine) (ctx_in I.state self.old) (λ x. inner x.part.value) (early_errors (syntax_in I.state self.old)) result (script_part I.machine I.state (reads.expression_part (stream_of I.machine) expression_level) self.old) (stood I.state self.new) (faults_in self.old) (faults_in self.new) }
         ensures holds { IfOk result (λ x. holds_expr x.part.value) }
-        ensures context { ctx_in I.state self.new ≡ ctx_in I.state self.old }
-        ensures started { IfOk result (λ _. self.new.started ≡ true) }
-        ensures limit { limit_in self.new ≡ limit_in self.old }
+        ensures keeps { Keeps I.state result self.old self.new }
         ensures stays { StayRead (stream_of I.machine) result (script_start I.machine I.state self.old) (stood I.state self.new) }
     {
         self.parse_part(&Expression { level: EXPRESSION })
@@ -59,9 +57,7 @@ impl<'a, I: Tokens<'a> + Drop> Entries<Reading<'a, I>> {
     pub fn parse_assignment_expr(&mut self) -> PResult<ExprBox>
         ensures value { ParsesPart (stream_of I.machine) (ctx_in I.state self.old) (λ x. inner x.part.value) (early_errors (syntax_in I.state self.old)) result (script_part I.machine I.state (reads.expression_part (stream_of I.machine) assignment_level) self.old) (stood I.state self.new) (faults_in self.old) (faults_in self.new) }
         ensures holds { IfOk result (λ x. holds_expr x.part.value) }
-        ensures context { ctx_in I.state self.new ≡ ctx_in I.state self.old }
-        ensures started { IfOk result (λ _. self.new.started ≡ true) }
-        ensures limit { limit_in self.new ≡ limit_in self.old }
+        ensures keeps { Keeps I.state result self.old self.new }
         ensures stays { StayRead (stream_of I.machine) result (script_start I.machine I.state self.old) (stood I.state self.new) }
     {
         self.parse_part(&Expression { level: ASSIGNMENT })
@@ -76,9 +72,7 @@ impl<'a, I: Tokens<'a> + Drop> Entries<Reading<'a, I>> {
     pub fn parse_pat(&mut self) -> PResult<PatBox>
         ensures value { ParsesPart (stream_of I.machine) (ctx_in I.state self.old) (λ x. inner x.part.value) (early_errors (syntax_in I.state self.old)) result (script_part I.machine I.state (reads.binding_part (stream_of I.machine)) self.old) (stood I.state self.new) (faults_in self.old) (faults_in self.new) }
         ensures holds { IfOk result (λ x. holds_pat x.part.value) }
-        ensures context { ctx_in I.state self.new ≡ ctx_in I.state self.old }
-        ensures started { IfOk result (λ _. self.new.started ≡ true) }
-        ensures limit { limit_in self.new ≡ limit_in self.old }
+        ensures keeps { Keeps I.state result self.old self.new }
         ensures stays { StayRead (stream_of I.machine) result (script_start I.machine I.state self.old) (stood I.state self.new) }
     {
         self.parse_part(&Binding)
@@ -92,9 +86,7 @@ impl<'a, I: Tokens<'a> + Drop> Entries<Reading<'a, I>> {
     pub fn parse_binding_pat_or_ident(&mut self) -> PResult<PatBox>
         ensures value { ParsesPart (stream_of I.machine) (ctx_in I.state self.old) (λ x. inner x.part.value) (early_errors (syntax_in I.state self.old)) result (script_part I.machine I.state (reads.binding_part (stream_of I.machine)) self.old) (stood I.state self.new) (faults_in self.old) (faults_in self.new) }
         ensures holds { IfOk result (λ x. holds_pat x.part.value) }
-        ensures context { ctx_in I.state self.new ≡ ctx_in I.state self.old }
-        ensures started { IfOk result (λ _. self.new.started ≡ true) }
-        ensures limit { limit_in self.new ≡ limit_in self.old }
+        ensures keeps { Keeps I.state result self.old self.new }
         ensures stays { StayRead (stream_of I.machine) result (script_start I.machine I.state self.old) (stood I.state self.new) }
     {
         self.parse_pat()
@@ -109,9 +101,7 @@ impl<'a, I: Tokens<'a> + Drop> Entries<Reading<'a, I>> {
     pub fn parse_formal_params(&mut self) -> PResult<Vec<Param>>
         ensures value { ParsesPart (stream_of I.machine) (ctx_in I.state self.old) (λ x. list (trees_by (view_param inner) x.items)) (early_errors (syntax_in I.state self.old)) result (script_part I.machine I.state (reads.parameters_part (stream_of I.machine)) self.old) (stood I.state self.new) (faults_in self.old) (faults_in self.new) }
         ensures fits { IfOk result (λ x. All (λ x. fits_param (λ p. p) x) x.items) }
-        ensures context { ctx_in I.state self.new ≡ ctx_in I.state self.old }
-        ensures started { IfOk result (λ _. self.new.started ≡ true) }
-        ensures limit { limit_in self.new ≡ limit_in self.old }
+        ensures keeps { Keeps I.state result self.old self.new }
         ensures stays { StayRead (stream_of I.machine) result (script_start I.machine I.state self.old) (stood I.state self.new) }
     {
         self.parse_part(&Parameters)
@@ -125,9 +115,7 @@ impl<'a, I: Tokens<'a> + Drop> Entries<Reading<'a, I>> {
     pub fn parse_prop_name(&mut self) -> PResult<PropName>
         ensures value { ParsesPart (stream_of I.machine) (ctx_in I.state self.old) (view_prop_name inner) (early_errors (syntax_in I.state self.old)) result (script_part I.machine I.state (reads.key_part (stream_of I.machine)) self.old) (stood I.state self.new) (faults_in self.old) (faults_in self.new) }
         ensures fits { IfOk result (λ x. fits_prop_name (λ p. p) x) }
-        ensures context { ctx_in I.state self.new ≡ ctx_in I.state self.old }
-        ensures started { IfOk result (λ _. self.new.started ≡ true) }
-        ensures limit { limit_in self.new ≡ limit_in self.old }
+        ensures keeps { Keeps I.state result self.old self.new }
         ensures stays { StayRead (stream_of I.machine) result (script_start I.machine I.state self.old) (stood I.state self.new) }
     {
         self.parse_part(&Key)
@@ -140,11 +128,9 @@ impl<'a, I: Tokens<'a> + Drop> Entries<Reading<'a, I>> {
     ///
     /// Want of memory, a text that nests deeper than the limit, or a fault of the text.
     pub fn parse_stmt(&mut self, top_level: bool) -> PResult<StmtBox>
-        ensures value { ParsesPart (stream_of I.machine) (ctx_in I.state self.old) (λ x. inner x.part.value) (fronts.item_errors (syntax_in I.state self.old) top_level) result (script_part I.machine I.state (items.statement_part (stream_of I.machine)) self.old) (stood I.state self.new) (faults_in self.old) (faults_in self.new) }
+        ensures value { ParsesPart (stream_of I.machine) (ctx_in I.state self.old) (λ x. inner x.part.value) (program.item_errors (syntax_in I.state self.old) top_level) result (script_part I.machine I.state (items.statement_part (stream_of I.machine)) self.old) (stood I.state self.new) (faults_in self.old) (faults_in self.new) }
         ensures holds { IfOk result (λ x. holds_stmt x.part.value) }
-        ensures context { ctx_in I.state self.new ≡ ctx_in I.state self.old }
-        ensures started { IfOk result (λ _. self.new.started ≡ true) }
-        ensures limit { limit_in self.new ≡ limit_in self.old }
+        ensures keeps { Keeps I.state result self.old self.new }
         ensures stays { StayRead (stream_of I.machine) result (script_start I.machine I.state self.old) (stood I.state self.new) }
     {
         self.parse_part(&Statement { top_level })
@@ -157,11 +143,9 @@ impl<'a, I: Tokens<'a> + Drop> Entries<Reading<'a, I>> {
     ///
     /// Want of memory, a text that nests deeper than the limit, or a fault of the text.
     pub fn parse_stmt_list_item(&mut self, top_level: bool) -> PResult<StmtBox>
-        ensures value { ParsesPart (stream_of I.machine) (ctx_in I.state self.old) (λ x. inner x.part.value) (fronts.item_errors (syntax_in I.state self.old) top_level) result (script_part I.machine I.state (items.list_item_part (stream_of I.machine)) self.old) (stood I.state self.new) (faults_in self.old) (faults_in self.new) }
+        ensures value { ParsesPart (stream_of I.machine) (ctx_in I.state self.old) (λ x. inner x.part.value) (program.item_errors (syntax_in I.state self.old) top_level) result (script_part I.machine I.state (items.list_item_part (stream_of I.machine)) self.old) (stood I.state self.new) (faults_in self.old) (faults_in self.new) }
         ensures holds { IfOk result (λ x. holds_stmt x.part.value) }
-        ensures context { ctx_in I.state self.new ≡ ctx_in I.state self.old }
-        ensures started { IfOk result (λ _. self.new.started ≡ true) }
-        ensures limit { limit_in self.new ≡ limit_in self.old }
+        ensures keeps { Keeps I.state result self.old self.new }
         ensures stays { StayRead (stream_of I.machine) result (script_start I.machine I.state self.old) (stood I.state self.new) }
     {
         self.parse_part(&ListItem { top_level })
@@ -177,15 +161,16 @@ impl<'a, I: Tokens<'a> + Drop> Entries<Reading<'a, I>> {
     pub fn parse_module_item(&mut self) -> PResult<ModuleItem>
         ensures value { ParsesPart (stream_of I.machine) (ctx_in I.state self.old) (view_module_item inner) (early.faults_in (outermost (syntax_in I.state self.old) true)) result (module_part I.machine I.state (items.module_item_part (stream_of I.machine)) self.old) (stood I.state self.new) (faults_in self.old) (faults_in self.new) }
         ensures fits { IfOk result (λ x. fits_module_item (λ p. p) x) }
-        ensures context { ctx_in I.state self.new ≡ ctx_in I.state self.old }
-        ensures started { IfOk result (λ _. self.new.started ≡ true) }
-        ensures limit { limit_in self.new ≡ limit_in self.old }
+        ensures keeps { Keeps I.state result self.old self.new }
         ensures stays { StayRead (stream_of I.machine) result (module_start I.machine I.state self.old) (stood I.state self.new) }
     {
         let before = self.reading.input.ctx();
         let answer = self.module_item();
         self.leave(before);
-        answer.map_err(told)
+        match answer {
+            Ok(item) => Ok(item),
+            Err(failure) => Err(told(failure, self.reading.lo())),
+        }
     }
 
     /// Tells the source of a script's code, and stands in front of the token that comes.

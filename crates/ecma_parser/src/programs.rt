@@ -9,7 +9,7 @@ ghost use Rattle.ecma_parse_state.specs.Answers.{Stays};
 ghost use Rattle.ecma_parse_state.specs.Codes.{code_of};
 ghost use Rattle.ecma_parse_state.specs.Cursors.{stream_of};
 ghost use Rattle.ecma_parser.specs.Answers.{Parses, ReadsProgram, StayRead};
-ghost use Rattle.ecma_parser.specs.Entries.{ctx_in, faults_in, limit_in, stood, syntax_in};
+ghost use Rattle.ecma_parser.specs.Entries.{Keeps, faults_in, limit_in, stood, syntax_in};
 ghost use Rattle.ecma_parser.specs.Programs.{module_read, module_start, script_read, script_start};
 
 use crate::entries::{Entries, Reading};
@@ -65,12 +65,13 @@ impl<'a, I: Tokens<'a> + Drop> Entries<Reading<'a, I>> {
     pub fn parse_script(&mut self) -> PResult<Script>
         ensures value { Parses (view_script inner) (syntax_in I.state self.old) result (script_read I.machine I.state self.old) (faults_in self.old) (faults_in self.new) }
         ensures fits { IfOk result (λ x. fits_script (λ p. p) x) }
-        ensures started { IfOk result (λ _. self.new.started ≡ true) }
-        ensures context { ctx_in I.state self.new ≡ ctx_in I.state self.old }
-        ensures limit { limit_in self.new ≡ limit_in self.old }
+        ensures keeps { Keeps I.state result self.old self.new }
         ensures stays { StayRead (stream_of I.machine) result (script_start I.machine I.state self.old) (stood I.state self.new) }
     {
-        self.read_script().map_err(told)
+        match self.read_script() {
+            Ok(script) => Ok(script),
+            Err(failure) => Err(told(failure, self.reading.lo())),
+        }
     }
 
     /// The same as `parse_script`, but a failure is answered as it is.
@@ -81,9 +82,7 @@ impl<'a, I: Tokens<'a> + Drop> Entries<Reading<'a, I>> {
     pub fn read_script(&mut self) -> Result<Script, Failure>
         ensures value { ReadsProgram (view_script inner) (syntax_in I.state self.old) result (script_read I.machine I.state self.old) (faults_in self.old) (faults_in self.new) }
         ensures fits { IfOk result (λ x. fits_script (λ p. p) x) }
-        ensures started { IfOk result (λ _. self.new.started ≡ true) }
-        ensures context { ctx_in I.state self.new ≡ ctx_in I.state self.old }
-        ensures limit { limit_in self.new ≡ limit_in self.old }
+        ensures keeps { Keeps I.state result self.old self.new }
         ensures stays { Stays result (spec.bound (stream_of I.machine) (stood I.state self.new)) (spec.bound (stream_of I.machine) (script_start I.machine I.state self.old)) }
     {
         let before = self.reading.input.ctx();
@@ -100,12 +99,13 @@ impl<'a, I: Tokens<'a> + Drop> Entries<Reading<'a, I>> {
     pub fn parse_module(&mut self) -> PResult<Module>
         ensures value { Parses (view_module inner) (syntax_in I.state self.old) result (module_read I.machine I.state self.old) (faults_in self.old) (faults_in self.new) }
         ensures fits { IfOk result (λ x. fits_module (λ p. p) x) }
-        ensures started { IfOk result (λ _. self.new.started ≡ true) }
-        ensures context { ctx_in I.state self.new ≡ ctx_in I.state self.old }
-        ensures limit { limit_in self.new ≡ limit_in self.old }
+        ensures keeps { Keeps I.state result self.old self.new }
         ensures stays { StayRead (stream_of I.machine) result (module_start I.machine I.state self.old) (stood I.state self.new) }
     {
-        self.read_module().map_err(told)
+        match self.read_module() {
+            Ok(module) => Ok(module),
+            Err(failure) => Err(told(failure, self.reading.lo())),
+        }
     }
 
     /// The same as `parse_module`, but a failure is answered as it is.
@@ -116,9 +116,7 @@ impl<'a, I: Tokens<'a> + Drop> Entries<Reading<'a, I>> {
     pub fn read_module(&mut self) -> Result<Module, Failure>
         ensures value { ReadsProgram (view_module inner) (syntax_in I.state self.old) result (module_read I.machine I.state self.old) (faults_in self.old) (faults_in self.new) }
         ensures fits { IfOk result (λ x. fits_module (λ p. p) x) }
-        ensures started { IfOk result (λ _. self.new.started ≡ true) }
-        ensures context { ctx_in I.state self.new ≡ ctx_in I.state self.old }
-        ensures limit { limit_in self.new ≡ limit_in self.old }
+        ensures keeps { Keeps I.state result self.old self.new }
         ensures stays { Stays result (spec.bound (stream_of I.machine) (stood I.state self.new)) (spec.bound (stream_of I.machine) (module_start I.machine I.state self.old)) }
     {
         let before = self.reading.input.ctx();

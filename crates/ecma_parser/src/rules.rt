@@ -6,7 +6,7 @@ ghost use Rattle.ecma_node.specs.Fits.{fits_object_pat_prop, fits_param, fits_pr
 ghost use Rattle.ecma_node.specs.Placed.{holds_expr, holds_pat, holds_stmt, inner};
 ghost use Rattle.ecma_node.specs.View.{view_object_pat_prop, view_param, view_prop_name, view_prop_or_spread};
 ghost use Rattle.ecma_early.specs.Early.{early_errors};
-ghost use Rattle.ecma_program_text.specs.Fronts as fronts;
+ghost use Rattle.ecma_program_text.specs.Items as program;
 ghost use Rattle.ecma_parse_state.specs.Cursors.{stream_of};
 ghost use Rattle.ecma_parse_parts.specs.Items as items;
 ghost use Rattle.ecma_parse_parts.specs.Parts as parts;
@@ -31,7 +31,7 @@ fn stmt_errors(
     top_level: bool,
     stmt: &StmtBox,
 ) -> Result<Vec<Error>, AllocError>
-    ensures { IfOk result (λ found. found.items ≡ fronts.item_errors syntax top_level (inner stmt.now.part.value)) }
+    ensures { IfOk result (λ found. found.items ≡ program.item_errors syntax top_level (inner stmt.now.part.value)) }
 {
     if top_level {
         item_errors(alloc, syntax, stmt)
@@ -249,7 +249,7 @@ impl<'a, I: Tokens<'a> + Drop> Rule<'a, I> for Statement {
 
     ghost reads = { λ _ _ m. items.statement_part (stream_of m) };
 
-    ghost faults = { λ rule syntax. fronts.item_errors syntax rule.top_level };
+    ghost faults = { λ rule syntax. program.item_errors syntax rule.top_level };
 
     fn read(&self, p: &mut Parser<'a, I>, limit: u32, code: Around) -> Result<StmtBox, Failure> {
         statement_part(p, limit, code)
@@ -281,7 +281,7 @@ impl<'a, I: Tokens<'a> + Drop> Rule<'a, I> for ListItem {
 
     ghost reads = { λ _ _ m. items.list_item_part (stream_of m) };
 
-    ghost faults = { λ rule syntax. fronts.item_errors syntax rule.top_level };
+    ghost faults = { λ rule syntax. program.item_errors syntax rule.top_level };
 
     fn read(&self, p: &mut Parser<'a, I>, limit: u32, code: Around) -> Result<StmtBox, Failure> {
         list_item_part(p, limit, code)
