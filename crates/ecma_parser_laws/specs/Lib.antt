@@ -9,3 +9,4 @@ pub mod Answered
 pub mod Texts
 pub mod Lists
 pub mod Chosen
+pub mod Passed
