@@ -9,4 +9,3 @@ pub mod Answered
 pub mod Texts
 pub mod Lists
 pub mod Chosen
-pub mod Passed
