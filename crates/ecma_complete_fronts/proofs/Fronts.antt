@@ -112,16 +112,16 @@ IsRead x t r = (k : List ℕ) × (x ≡ Ok (t, record { source = r; commas = k }
 
 read_of : (x : Result (Tree × State Input) Fault) (t : Tree) (r : Input) (P : Type 0) → (P → ⊥) → Answered x t r P → IsRead x t r
 read_of (Ok x) t r P n h = (x.1.commas, ap₂ (λ (u : Tree) (i : Input). Ok (u, record { source = i; commas = x.1.commas })) h.0 h.1)
-read_of (Err Unexpected) t r P n h = absurd h
-read_of (Err TooDeep) t r P n h = absurd (n h)
+read_of (Err (Unexpected k)) t r P n h = absurd h
+read_of (Err (TooDeep k)) t r P n h = absurd (n h)
 
 pub reads_of : (n : ℕ) (ps : List PlacedToken) (x : Result (Tree × State Input) Fault) (t : Tree) (r : Input) (P : Type 0) → (P → ⊥) → InOrder n ps → Reads (from (input_at n ps) []) x (Is t r) P → IsRead x t r
 reads_of n ps x t r P e o h = by_answer x (h.so (record { order = o; below = λ i k. absurd (true≢false (sym k)) }))
   where
     by_answer : (x : Result (Tree × State Input) Fault) → Yields x (λ y. Is t r y × After (from (input_at n ps) []) y.1) P → IsRead x t r
     by_answer (Ok x) h = read_of (Ok x) t r P e h.so.0
-    by_answer (Err Unexpected) h = absurd h.so
-    by_answer (Err TooDeep) h = absurd (e h.so)
+    by_answer (Err (Unexpected k)) h = absurd h.so
+    by_answer (Err (TooDeep k)) h = absurd (e h.so)
 
 pub kept_answer : {A : Type 0} (x y : Result A Fault) (a : A) → Agrees x y → x ≡ Ok a → y ≡ Ok a
 kept_answer x y a h e = subst (λ z. Keeps z y) e h.so
@@ -247,7 +247,7 @@ module _ (c : Code) (l : ℕ) where
     unfolding loop_by iterate
     loop_quits e x s = quit_if (nat_le l (level x)) _ _ (λ i. quit_loop _ x s) (λ i. by_level (level x == new_level) (eqb l member_level) e)
       where
-        by_level : (a b : Bool) → b ≡ false → Quit (cond (a && b) (Ok (x, s)) unexpected)
+        by_level : (a b : Bool) → b ≡ false → Quit (cond (a && b) (Ok (x, s)) (unexpected lm s))
         by_level true true e = absurd (true≢false e)
         by_level true false e = record { so = tt }
         by_level false b e = record { so = tt }

@@ -7,7 +7,7 @@ use Rattle.ecma_nesting.specs.Nesting.{nesting}
 use Rattle.ecma_syntax.specs.Input.{PlacedToken, Input, Code, script_code, module_code}
 use Rattle.ecma_syntax.specs.Shape.{is_clean}
 use Rattle.ecma_grammar.specs.Grammar.{Produces, Derives}
-use Rattle.ecma_reading.specs.Source.{Fault, Unexpected, TooDeep, ◌>>=◌, State, list_stream}
+use Rattle.ecma_reading.specs.Source.{Fault, Unexpected, TooDeep, ◌>>=◌, State, bound, list_stream}
 use Rattle.ecma_reading.specs.Cover.{has}
 use Rattle.ecma_reading.specs.Modules.{program_by}
 use Rattle.ecma_reading.specs.Reading.{readers, finish, read_program, read_list}
@@ -28,16 +28,16 @@ fresh_start ts o = record { order = o; below = λ n h. absurd (true≢false (sym
 
 answered : (s : State Input) (x : Result (Tree × State Input) Fault) (t : Tree) (r : Input) (P Q : Type 0) → (P → Q) → Yields x (λ y. Is t r y × After s y.1) P → Answered x t r Q
 answered s (Ok x) t r P Q f h = h.so.0
-answered s (Err Unexpected) t r P Q f h = h.so
-answered s (Err TooDeep) t r P Q f h = f h.so
+answered s (Err (Unexpected n)) t r P Q f h = h.so
+answered s (Err (TooDeep n)) t r P Q f h = f h.so
 
 found : (ts r : Input) (x : Result (Tree × State Input) Fault) (t : Tree) (P Q : Type 0) → InOrder ts.last ts.places → (P → Q) → Reads (from ts []) x (Is t r) P → Answered x t r Q
 found ts r x t P Q o f h = answered (from ts []) x t r P Q f (h.so (fresh_start ts o))
 
 both_of : (x : Result (Tree × State Input) Fault) (t u : Tree) (r o : Input) (P Q : Type 0) → (P → ⊥) → (Q → ⊥) → Answered x t r P → Answered x u o Q → (t ≡ u) × (r ≡ o)
 both_of (Ok x) t u r o P Q p q h g = (sym h.0 ∙ g.0, sym h.1 ∙ g.1)
-both_of (Err Unexpected) t u r o P Q p q h g = absurd h
-both_of (Err TooDeep) t u r o P Q p q h g = absurd (p h)
+both_of (Err (Unexpected n)) t u r o P Q p q h g = absurd h
+both_of (Err (TooDeep n)) t u r o P Q p q h g = absurd (p h)
 
 -- ---- expressions and patterns
 
@@ -58,15 +58,15 @@ one_pattern p q c t u ts r o w v e = both_of ((readers list_stream (nesting t + 
 
 -- ---- scripts
 
-decided : (x : Result (Tree × State Input) Fault) (t : Tree) (r : Input) (P : Type 0) → is_clean t ≡ true → Answered x t r P → Decided (x >>= finish) t P
+decided : (x : Result (Tree × State Input) Fault) (t : Tree) (r : Input) (P : Type 0) → is_clean t ≡ true → Answered x t r P → Decided (x >>= finish lm) t P
 unfolding finish
 decided (Ok x) t r P c h = clean (is_clean x.0) (subst (λ (y : Tree). is_clean y ≡ true) (sym h.0) c)
   where
-    clean : (b : Bool) → b ≡ true → Decided (cond {A = Result Tree Fault} b (Ok x.0) (Err Unexpected)) t P
+    clean : (b : Bool) → b ≡ true → Decided (cond {A = Result Tree Fault} b (Ok x.0) (Err (Unexpected (bound lm x.1)))) t P
     clean true e = h.0
     clean false e = absurd (true≢false (sym e))
-decided (Err Unexpected) t r P c h = h
-decided (Err TooDeep) t r P c h = h
+decided (Err (Unexpected n)) t r P c h = h
+decided (Err (TooDeep n)) t r P c h = h
 
 pub scripts_complete : ScriptsComplete
 unfolding read_list read_program
@@ -77,15 +77,15 @@ scripts_complete limit placed syntax s ss l start places r o d = let ts : Input 
 
 same_of : (x : Result Tree Fault) (t u : Tree) (P Q : Type 0) → (P → ⊥) → (Q → ⊥) → Decided x t P → Decided x u Q → t ≡ u
 same_of (Ok x) t u P Q p q h g = sym h ∙ g
-same_of (Err Unexpected) t u P Q p q h g = absurd h
-same_of (Err TooDeep) t u P Q p q h g = absurd (p h)
+same_of (Err (Unexpected n)) t u P Q p q h g = absurd h
+same_of (Err (TooDeep n)) t u P Q p q h g = absurd (p h)
 
 pub one_script : OneScript
 one_script p q syntax s w ss us l m start places r o i d e = same_of (read_list (nesting (script s ss l) + nesting (script w us m)) false syntax start places) (script s ss l) (script w us m) ((nesting (script s ss l) + nesting (script w us m)) < nesting (script s ss l)) ((nesting (script s ss l) + nesting (script w us m)) < nesting (script w us m)) (λ h. omega (arith, h)) (λ h. omega (arith, h))
     (scripts_complete (nesting (script s ss l) + nesting (script w us m)) p syntax s ss l start places r i d) (scripts_complete (nesting (script s ss l) + nesting (script w us m)) q syntax w us m start places o i e)
 
 pub no_script : NoScript
-no_script limit placed syntax s ss l start places r o e d = subst (λ (x : Result Tree Fault). Decided x (script s ss l) (limit < nesting (script s ss l))) e (scripts_complete limit placed syntax s ss l start places r o d)
+no_script limit placed syntax s ss l start places r n o e d = subst (λ (x : Result Tree Fault). Decided x (script s ss l) (limit < nesting (script s ss l))) e (scripts_complete limit placed syntax s ss l start places r o d)
 
 -- ---- modules
 
@@ -101,4 +101,4 @@ one_module p q syntax s w ss us l m start places r o i d e = same_of (read_list 
     (modules_complete (nesting (es_module s ss l) + nesting (es_module w us m)) p syntax s ss l start places r i d) (modules_complete (nesting (es_module s ss l) + nesting (es_module w us m)) q syntax w us m start places o i e)
 
 pub no_module : NoModule
-no_module limit placed syntax s ss l start places r o e d = subst (λ (x : Result Tree Fault). Decided x (es_module s ss l) (limit < nesting (es_module s ss l))) e (modules_complete limit placed syntax s ss l start places r o d)
+no_module limit placed syntax s ss l start places r n o e d = subst (λ (x : Result Tree Fault). Decided x (es_module s ss l) (limit < nesting (es_module s ss l))) e (modules_complete limit placed syntax s ss l start places r o d)

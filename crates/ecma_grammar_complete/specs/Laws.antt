@@ -16,14 +16,14 @@ use Rattle.ecma_grammar_complete_base.specs.Laws.{coded, patterned, InOrder, Ask
 -- The answer is this tree, with these tokens as the rest, or too deep where that may be; it is never that a token is unexpected.
 abbrev pub Answered : Result (Tree × State Input) Fault → Tree → Input → Type 0 → Type 0
 Answered (Ok x) t r P = (x.0 ≡ t) × (x.1.source ≡ r)
-Answered (Err Unexpected) t r P = ⊥
-Answered (Err TooDeep) t r P = P
+Answered (Err (Unexpected n)) t r P = ⊥
+Answered (Err (TooDeep n)) t r P = P
 
 -- the same of a whole list
 abbrev pub Decided : Result Tree Fault → Tree → Type 0 → Type 0
 Decided (Ok x) t P = x ≡ t
-Decided (Err Unexpected) t P = ⊥
-Decided (Err TooDeep) t P = P
+Decided (Err (Unexpected n)) t P = ⊥
+Decided (Err (TooDeep n)) t P = P
 
 -- ---- expressions and patterns
 
@@ -73,9 +73,9 @@ abbrev pub OneScript : Type 0
 OneScript = (p q : Bool) (syntax : EsSyntax) (s w : Span) (ss us : Trees) (l m : Option (List ℕ)) (start : ℕ) (places : List PlacedToken) (r o : Input) → InOrder start places
     → Derives (script s ss l) (coded p (script_code syntax)) (record { last = start; places = places }) r → Derives (script w us m) (coded q (script_code syntax)) (record { last = start; places = places }) o → script s ss l ≡ script w us m
 
--- Where a token is unexpected at one limit, no script of any nesting derives the tokens.
+-- Where a token is unexpected at one limit, whichever it is, no script of any nesting derives the tokens.
 abbrev pub NoScript : Type 0
-NoScript = (limit : ℕ) (placed : Bool) (syntax : EsSyntax) (s : Span) (ss : Trees) (l : Option (List ℕ)) (start : ℕ) (places : List PlacedToken) (r : Input) → InOrder start places → read_list limit false syntax start places ≡ Err Unexpected
+NoScript = (limit : ℕ) (placed : Bool) (syntax : EsSyntax) (s : Span) (ss : Trees) (l : Option (List ℕ)) (start : ℕ) (places : List PlacedToken) (r : Input) (n : ℕ) → InOrder start places → read_list limit false syntax start places ≡ Err (Unexpected n)
     → Derives (script s ss l) (coded placed (script_code syntax)) (record { last = start; places = places }) r → ⊥
 
 -- ---- modules (16.2)
@@ -90,7 +90,7 @@ abbrev pub OneModule : Type 0
 OneModule = (p q : Bool) (syntax : EsSyntax) (s w : Span) (ss us : Trees) (l m : Option (List ℕ)) (start : ℕ) (places : List PlacedToken) (r o : Input) → InOrder start places
     → Derives (es_module s ss l) (coded p (module_code syntax)) (record { last = start; places = places }) r → Derives (es_module w us m) (coded q (module_code syntax)) (record { last = start; places = places }) o → es_module s ss l ≡ es_module w us m
 
--- Where a token is unexpected at one limit, no module of any nesting derives the tokens.
+-- Where a token is unexpected at one limit, whichever it is, no module of any nesting derives the tokens.
 abbrev pub NoModule : Type 0
-NoModule = (limit : ℕ) (placed : Bool) (syntax : EsSyntax) (s : Span) (ss : Trees) (l : Option (List ℕ)) (start : ℕ) (places : List PlacedToken) (r : Input) → InOrder start places → read_list limit true syntax start places ≡ Err Unexpected
+NoModule = (limit : ℕ) (placed : Bool) (syntax : EsSyntax) (s : Span) (ss : Trees) (l : Option (List ℕ)) (start : ℕ) (places : List PlacedToken) (r : Input) (n : ℕ) → InOrder start places → read_list limit true syntax start places ≡ Err (Unexpected n)
     → Derives (es_module s ss l) (coded placed (module_code syntax)) (record { last = start; places = places }) r → ⊥

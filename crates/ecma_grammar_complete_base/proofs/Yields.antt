@@ -6,7 +6,7 @@ use Rattle.ecma_token.specs.Kinds.{template_kind}
 use Rattle.ecma_syntax.specs.Input.{PlacedToken, Input, Code, span, first_span, kind, kind_of, text, rest, is_word, no_name, barred, lo, lo_of, hi_of, others}
 use Rattle.ecma_reading.specs.Cover.{has}
 pub use Rattle.ecma_grammar_complete_base.specs.Laws.{coded, InOrder}
-use Rattle.ecma_reading.specs.Source.{Fault, Unexpected, TooDeep, ◌>>=◌, Stream, list_stream, State, Read, past, bound, eat, eat_word, is_name, name, any_word, Step, go_on, finished, next_by, iterate_n, iterate}
+use Rattle.ecma_reading.specs.Source.{Fault, Unexpected, TooDeep, ◌>>=◌, placed, Stream, list_stream, State, Read, past, bound, eat, eat_word, is_name, name, any_word, Step, go_on, finished, next_by, iterate_n, iterate}
 
 pub first_at : (ts r : Input) (s : Span) → rest ts ≡ r → s ≡ span (lo ts) r.last → first_span ts ≡ s
 first_at ts r s q p = ap (λ (z : Input). span (lo ts) z.last) q ∙ sym p
@@ -57,8 +57,8 @@ after_past s f = let le = last_past s.source.last s.source.places f.order in
 -- The answer meets a demand, or is too deep a nesting where that may be.
 abbrev pub YieldsBy : {A : Type 0} → Result A Fault → (A → Type 0) → Type 0 → Type 0
 YieldsBy (Ok x) V P = V x
-YieldsBy (Err Unexpected) V P = ⊥
-YieldsBy (Err TooDeep) V P = P
+YieldsBy (Err (Unexpected n)) V P = ⊥
+YieldsBy (Err (TooDeep n)) V P = P
 
 pub record Yields {A : Type 0} (x : Result A Fault) (V : A → Type 0) (P : Type 0) : Type 0 where
   pub so : YieldsBy x V P
@@ -66,8 +66,8 @@ pub record Yields {A : Type 0} (x : Result A Fault) (V : A → Type 0) (P : Type
 pub then_yields : {A B : Type 0} (x : Result A Fault) (f : A → Result B Fault) (V : A → Type 0) (P : Type 0) (W : B → Type 0) (Q : Type 0)
     → Yields x V P → (P → Q) → ((y : A) → V y → Yields (f y) W Q) → Yields (x >>= f) W Q
 then_yields (Ok x) f V P W Q h i g = g x h.so
-then_yields (Err Unexpected) f V P W Q h i g = absurd h.so
-then_yields (Err TooDeep) f V P W Q h i g = record { so = i h.so }
+then_yields (Err (Unexpected n)) f V P W Q h i g = absurd h.so
+then_yields (Err (TooDeep n)) f V P W Q h i g = record { so = i h.so }
 
 -- What is read from a state meets a demand, or is too deep, and goes on from that state.
 pub record Reads {A : Type 0} (s : State Input) (x : Result (A × State Input) Fault) (V : A × State Input → Type 0) (P : Type 0) : Type 0 where
@@ -79,8 +79,8 @@ then_reads {B = B} {s = s} x f V P W Q h i g = record { so = λ fr. then_yields 
   where
     onward : (r : Result (B × State Input) Fault) (u : State Input) → After s u → Yields r (λ z. W z × After u z.1) Q → Yields r (λ z. W z × After s z.1) Q
     onward (Ok z) u a h = record { so = (h.so.0, after_then s u z.1 a h.so.1) }
-    onward (Err Unexpected) u a h = absurd h.so
-    onward (Err TooDeep) u a h = record { so = h.so }
+    onward (Err (Unexpected n)) u a h = absurd h.so
+    onward (Err (TooDeep n)) u a h = record { so = h.so }
 
 -- a weaker demand
 pub reads_map : {A : Type 0} {s : State Input} {V W : A × State Input → Type 0} {P : Type 0} (x : Result (A × State Input) Fault) → ((y : A × State Input) → V y → W y) → Reads s x V P → Reads s x W P
@@ -88,8 +88,8 @@ reads_map {A = A} {s = s} {V = V} {W = W} {P = P} x f h = record { so = λ fr. w
   where
     weaker : (x : Result (A × State Input) Fault) → Yields x (λ y. V y × After s y.1) P → Yields x (λ y. W y × After s y.1) P
     weaker (Ok y) v = record { so = (f y v.so.0, v.so.1) }
-    weaker (Err Unexpected) v = absurd v.so
-    weaker (Err TooDeep) v = record { so = v.so }
+    weaker (Err (Unexpected n)) v = absurd v.so
+    weaker (Err (TooDeep n)) v = record { so = v.so }
 
 -- the same of the answer that it is
 pub reads_told : {A : Type 0} {s : State Input} {V : A × State Input → Type 0} {P : Type 0} (x : Result (A × State Input) Fault) → Reads s x V P → Reads s x (λ y. V y × (x ≡ Ok y)) P
@@ -97,16 +97,25 @@ reads_told {A = A} {s = s} {V = V} {P = P} x h = record { so = λ fr. told x (h.
   where
     told : (x : Result (A × State Input) Fault) → Yields x (λ y. V y × After s y.1) P → Yields x (λ y. (V y × (x ≡ Ok y)) × After s y.1) P
     told (Ok y) v = record { so = ((v.so.0, refl), v.so.1) }
-    told (Err Unexpected) v = absurd v.so
-    told (Err TooDeep) v = record { so = v.so }
+    told (Err (Unexpected n)) v = absurd v.so
+    told (Err (TooDeep n)) v = record { so = v.so }
 
 pub reads_deep : {A : Type 0} {s : State Input} {x : Result (A × State Input) Fault} {V : A × State Input → Type 0} {P Q : Type 0} → (P → Q) → Reads s x V P → Reads s x V Q
 reads_deep {A = A} {s = s} {x = x} {V = V} {P = P} {Q = Q} i h = record { so = λ fr. deeper x (h.so fr) }
   where
     deeper : (x : Result (A × State Input) Fault) → Yields x (λ y. V y × After s y.1) P → Yields x (λ y. V y × After s y.1) Q
     deeper (Ok y) v = record { so = v.so }
-    deeper (Err Unexpected) v = absurd v.so
-    deeper (Err TooDeep) v = record { so = i v.so }
+    deeper (Err (Unexpected n)) v = absurd v.so
+    deeper (Err (TooDeep n)) v = record { so = i v.so }
+
+-- the same where a fault is found at a given place
+pub reads_placed : {A : Type 0} {s : State Input} {x : Result (A × State Input) Fault} {V : A × State Input → Type 0} {P : Type 0} (n : ℕ) → Reads s x V P → Reads s (placed n x) V P
+reads_placed {A = A} {s = s} {x = x} {V = V} {P = P} n h = record { so = λ fr. found x (h.so fr) }
+  where
+    found : (x : Result (A × State Input) Fault) → Yields x (λ y. V y × After s y.1) P → Yields (placed n x) (λ y. V y × After s y.1) P
+    found (Ok y) v = v
+    found (Err (Unexpected k)) v = absurd v.so
+    found (Err (TooDeep k)) v = record { so = v.so }
 
 -- what is read from the state after the first token
 pub after_one : {A : Type 0} (s : State Input) (x : Result (A × State Input) Fault) (W : A × State Input → Type 0) (Q : Type 0) → Reads (past lm s) x W Q → Reads s x W Q
@@ -114,8 +123,8 @@ after_one {A = A} s x W Q h = record { so = λ fr. let a = after_past s fr in on
   where
     onward : (r : Result (A × State Input) Fault) → After s (past lm s) → Yields r (λ z. W z × After (past lm s) z.1) Q → Yields r (λ z. W z × After s z.1) Q
     onward (Ok z) a h = record { so = (h.so.0, after_then s (past lm s) z.1 a h.so.1) }
-    onward (Err Unexpected) a h = absurd h.so
-    onward (Err TooDeep) a h = record { so = h.so }
+    onward (Err (Unexpected n)) a h = absurd h.so
+    onward (Err (TooDeep n)) a h = record { so = h.so }
 
 -- the same, with what holds of the state that was come to
 pub then_after : {A B : Type 0} {s : State Input} (x : Result (A × State Input) Fault) (f : A × State Input → Result (B × State Input) Fault) (V : A × State Input → Type 0) (P : Type 0) (W : B × State Input → Type 0) (Q : Type 0)
@@ -124,8 +133,8 @@ then_after {A = A} {s = s} x f V P W Q h i g = then_reads x f (λ y. V y × Afte
   where
     kept : (x : Result (A × State Input) Fault) → Yields x (λ y. V y × After s y.1) P → Yields x (λ y. (V y × After s y.1) × After s y.1) P
     kept (Ok y) v = record { so = ((v.so.0, v.so.1), v.so.1) }
-    kept (Err Unexpected) v = absurd v.so
-    kept (Err TooDeep) v = record { so = v.so }
+    kept (Err (Unexpected n)) v = absurd v.so
+    kept (Err (TooDeep n)) v = record { so = v.so }
 
 -- an answer with the first token taken
 pub past_ended : {A : Type 0} (s : State Input) (w : A) (W : A × State Input → Type 0) (Q : Type 0) → (After s (past lm s) → W (w, past lm s)) → Reads s (Ok (w, past lm s)) W Q
@@ -139,7 +148,7 @@ eat_ended k s w W Q e f = rw (eq-eqb (kind s.source) k e) (past_ended s w W Q f)
 pub ended : {A : Type 0} (x : A × State Input) (W : A × State Input → Type 0) (Q : Type 0) → W x → Reads x.1 (Ok x) W Q
 ended x W Q w = record { so = λ fr. record { so = (w, after_none x.1 fr) } }
 
-pub too_deep : {A : Type 0} {s : State Input} (W : A × State Input → Type 0) (Q : Type 0) → Q → Reads s (Err TooDeep) W Q
+pub too_deep : {A : Type 0} {s : State Input} {n : ℕ} (W : A × State Input → Type 0) (Q : Type 0) → Q → Reads s (Err (TooDeep n)) W Q
 too_deep W Q q = record { so = λ fr. record { so = q } }
 
 -- this value, and these tokens as the rest
@@ -201,6 +210,12 @@ pub then_name : {A : Type 0} (c : Code) (ts m : Input) (n : List ℕ) (l : List 
 unfolding name
 then_name c ts m n l f W Q i t q h = rw (named c ts l i) (subst (λ (z : List ℕ). Reads (from ts l) (f (z, from (rest ts) l)) W Q) (sym t) (onto ts m l (λ z. f (n, z)) W Q q h))
 
+-- the same where a fault is found at a given place
+pub then_name_placed : {A : Type 0} (b : ℕ) (c : Code) (ts m : Input) (n : List ℕ) (l : List ℕ) (f : List ℕ × State Input → Result (A × State Input) Fault) (W : A × State Input → Type 0) (Q : Type 0) → IsName c ts → text ts ≡ n → rest ts ≡ m → Reads (from m l) (f (n, from m l)) W Q
+    → Reads (from ts l) (placed b (name lm c (from ts l)) >>= f) W Q
+unfolding name
+then_name_placed b c ts m n l f W Q i t q h = rw (named c ts l i) (subst (λ (z : List ℕ). Reads (from ts l) (f (z, from (rest ts) l)) W Q) (sym t) (onto ts m l (λ z. f (n, z)) W Q q h))
+
 pub then_any : {A : Type 0} (ts m : Input) (n : List ℕ) (l : List ℕ) (f : List ℕ × State Input → Result (A × State Input) Fault) (W : A × State Input → Type 0) (Q : Type 0) → is_word (kind ts) ≡ true → text ts ≡ n → rest ts ≡ m → Reads (from m l) (f (n, from m l)) W Q
     → Reads (from ts l) (any_word lm (from ts l) >>= f) W Q
 unfolding any_word
@@ -249,8 +264,8 @@ noted_then {A = A} {B = B} ts m k x g b V P W Q n t q h i w = record { so = λ f
   where
     onward : Fresh (from ts k) → (r : Result (A × State Input) Fault) → Yields r (λ y. V y × After (from (rest ts) k) y.1) P → Yields (r >>= λ y. Ok (g y, noted_at (b y) (lo ts) y.1)) (λ y. W y × After (from ts k) y.1) Q
     onward fr (Ok y) v = record { so = (w y v.so.0 fr v.so.1, noted_after ts k (b y) y.1 fr n t v.so.1) }
-    onward fr (Err Unexpected) v = absurd v.so
-    onward fr (Err TooDeep) v = record { so = i v.so }
+    onward fr (Err (Unexpected n)) v = absurd v.so
+    onward fr (Err (TooDeep n)) v = record { so = i v.so }
 
 pub then_noted : {A B : Type 0} (ts m : Input) (k : List ℕ) (x : State Input → Result (A × State Input) Fault) (g : A × State Input → B) (b : A × State Input → Bool) (V : A × State Input → Type 0) (P : Type 0) (W : B × State Input → Type 0) (Q : Type 0)
     → (kind ts ≡ 0 → ⊥) → (kind ts ≡ template_kind → ⊥) → rest ts ≡ m → Reads (from m k) (x (from m k)) V P → (P → Q) → ((y : A × State Input) → V y → W (g y, noted_at (b y) (lo ts) y.1))

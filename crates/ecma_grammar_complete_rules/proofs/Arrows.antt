@@ -11,7 +11,7 @@ use Rattle.ecma_grammar.specs.Children.{Child, child, By, IsEmpty, Sorted, Liste
 use Rattle.ecma_grammar.specs.Patterns.{Item, Property}
 use Rattle.ecma_grammar.specs.Functions.{ArrowPattern, ArrowHead, BareName}
 use Rattle.ecma_grammar.specs.Grammar.{Produces, children}
-use Rattle.ecma_reading.specs.Source.{Fault, ◌>>=◌, State, Inner, name}
+use Rattle.ecma_reading.specs.Source.{Fault, ◌>>=◌, placed, bound, State, Inner, name}
 use Rattle.ecma_reading.specs.Cover.{binds_names, all_bind}
 use Rattle.ecma_reading.specs.Expressions.{Elements, elements_by, arrow_by, ident_end, word_by, async_by, async_group, group_by, group_end, params_of, prefix_by, arrows_at, heads_params, is_read, function_expr_by}
 use Rattle.ecma_reading.specs.Reading.{readers}
@@ -217,7 +217,7 @@ module _ (inner : Inner Input) (c : Code) (lev : ℕ) (low : lev ≤ assignment_
   heads ps o y v b a = and_from (arrows_at lm inner lev y.1) _ (and_from (arrowed y.1.source) _ (subst (λ (x : Input). arrowed x ≡ true) (sym v.source) a) (le-leb lev assignment_level low)) (ap (λ x. is_read x) (params_read ps o y v b))
 
   after_params : (i : Bool) (ps : Trees) (s : Span) (e : Tree) (o n r : Input) (P : Type 0) {Q : Type 0} (y : Elements × State Input) → Covered_list false (unpack ps) o y → all_bind ps ≡ true → Body_read inner c i e o n r P → (P → Q) → s ≡ span (lo ts) r.last
-      → Reads y.1 (params_of lm inner y.1.commas y.0 >>= λ xs. arrow_by lm inner c (from ts k) i xs y.1) (Is (arrow_expr s ps e i) r) Q
+      → Reads y.1 (placed (bound lm y.1) (params_of lm inner y.1.commas y.0) >>= λ xs. arrow_by lm inner c (from ts k) i xs y.1) (Is (arrow_expr s ps e i) r) Q
   after_params i ps s e o n r P {Q = Q} y v b w f p = rw (params_read ps o y v b)
       (subst (λ (u : Input). Reads (from u y.1.commas) (arrow_by lm inner c (from ts k) i (unpack ps) (from u y.1.commas)) (Is (arrow_expr s ps e i) r) Q) (sym v.source) (arrow_body i ps s e o n r y.1.commas P w f p))
 

@@ -11,7 +11,7 @@ use Rattle.ecma_grammar.specs.Expressions.{is_update_op, is_unary_op, Call, Memb
 use Rattle.ecma_grammar.specs.Children.{child, CommaThen, Expr, Listed}
 use Rattle.ecma_grammar.specs.Functions.{ArrowPattern, ArrowHead, ArrowExpression, BareName, Async, Body}
 use Rattle.ecma_grammar.specs.Grammar.{Produces, children}
-use Rattle.ecma_reading.specs.Source.{State, Inner, go_on, Fault, unexpected}
+use Rattle.ecma_reading.specs.Source.{State, Inner, go_on, Fault, unfit}
 use Rattle.ecma_reading.specs.Expressions.{Elements, assign_by, private_in, private_by, binary_by, member_by, index_by, call_by, chain_by, template_by, on_chain, extended, word_by, async_by, async_group, heads_params, element_step, element_by, expr_by, expr_from, loop_by, loop_step, step_by, prefix_by, elements_by, array_by}
 use Rattle.ecma_reading.specs.Cover.{to_target}
 use Rattle.ecma_reading.specs.Reading.{readers}
@@ -174,7 +174,7 @@ record TargetView (op : ℕ) (a : Tree) (c : Code) (ts m : Input) : Type 0 where
   shallow : reach tree ≤ reach a
   target : (j : List ℕ) → to_target op j tree ≡ Ok a
 
-target_of : (b : Bool) (x : Tree) → b ≡ true → cond {A = Result Tree Fault} b (Ok x) unexpected ≡ Ok x
+target_of : (b : Bool) (x : Tree) → b ≡ true → cond {A = Result Tree Fault} b (Ok x) unfit ≡ Ok x
 target_of true x e = refl
 target_of false x e = absurd (true≢false (sym e))
 

@@ -141,5 +141,5 @@ lifted {A = A} {s = s} {x = x} {V = V} {P = P} {Q = Q} h f = record { so = λ fr
   where
     onward : (y : Result (A × State Input) Fault) → Yields y (λ z. V z × After s z.1) P → Yields y (λ z. V z × After s z.1) Q
     onward (Ok z) v = record { so = v.so }
-    onward (Err Unexpected) v = absurd v.so
-    onward (Err TooDeep) v = record { so = f v.so }
+    onward (Err (Unexpected n)) v = absurd v.so
+    onward (Err (TooDeep n)) v = record { so = f v.so }

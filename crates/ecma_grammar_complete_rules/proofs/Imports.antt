@@ -9,9 +9,9 @@ use Rattle.ecma_syntax.specs.Shape.{is_absent, is_string, is_named_import, is_na
 use Rattle.ecma_grammar.specs.Children.{is_ident, child, Sorted, Listed}
 use Rattle.ecma_grammar.specs.Modules.{ExportName, NamedImports, AfterDefault, ImportClause, Source}
 use Rattle.ecma_grammar.specs.Grammar.{Produces, children}
-use Rattle.ecma_reading.specs.Source.{Fault, ◌>>=◌, State, any_word, go_on, finished}
+use Rattle.ecma_reading.specs.Source.{Fault, ◌>>=◌, placed, State, any_word, go_on, finished}
 use Rattle.ecma_reading.specs.Modules.{export_name_by, local_by, source_by, named_import, named_export_item, specifier_step, specifiers_by, star_import, import_end, import_rest, import_default, import_decl_by}
-use Rattle.ecma_grammar_complete_base.proofs.Yields.{lm, from, len, coded, first_at, Reads, Is, then_is, then_eat, then_word, onto, here, past_here, if_no, if_yes, Loops, loop_on, loop_end, looped}
+use Rattle.ecma_grammar_complete_base.proofs.Yields.{lm, from, len, coded, first_at, Reads, reads_placed, Is, then_is, then_eat, then_word, onto, here, past_here, if_no, if_yes, Loops, loop_on, loop_end, looped}
 use Rattle.ecma_grammar_complete_base.proofs.Trees.{by_cases, takes, no_kind}
 use Rattle.ecma_grammar_complete_rules.proofs.Lists.{pack_unpack}
 use Rattle.ecma_grammar_complete_rules.proofs.Nested.{Nested}
@@ -83,7 +83,7 @@ module _ (z : Nested) (p : Bool) (c : Code) where
   unfolding named_import export_name_by any_word
   bound_import s l ts m k i h e d = let y = ident_is l (coded p c) ts m i h in
       rw (no_kind is_word (kind ts) str_kind y.2.0 refl, y.2.0) (if_no (kind (rest ts) == as_kind) _ _ _ _ (subst (λ (o : Input). eqb (kind o) as_kind ≡ false) (sym y.4) (divides_kind (λ (n : ℕ). n == as_kind) false refl refl m d))
-      (then_is (local_by lm z.inner c (from ts k)) _ l m ⊥ _ _ (local_found z p c l ts m k ⊥ i h) (λ u. u) (λ j. here (ap (λ (y : Span). import_named_specifier y l absent) (sym e)))))
+      (then_is (placed (len (rest ts)) (local_by lm z.inner c (from ts k))) _ l m ⊥ _ _ (reads_placed _ (local_found z p c l ts m k ⊥ i h)) (λ u. u) (λ j. here (ap (λ (y : Span). import_named_specifier y l absent) (sym e)))))
 
   named_import_found : (x : Tree) (ts m : Input) (k : List ℕ) → is_named_import x ≡ true → Produces x (coded p c) ts m → Divides m → Reads (from ts k) (named_import lm z.inner c (from ts k)) (Is x m) ⊥
   unfolding named_import

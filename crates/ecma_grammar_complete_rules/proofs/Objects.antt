@@ -15,7 +15,7 @@ use Rattle.ecma_grammar.specs.Grammar.{Produces, children}
 use Rattle.ecma_reading.specs.Source.{Fault, ◌>>=◌, unexpected, State, bound, Inner, Step, go_on, finished, iterate}
 use Rattle.ecma_reading.specs.Expressions.{Elements, no_elements, literal, literal_by, key_by, computed_by, prop_by, prop_rest, prop_step, after_element, object_by, prefix_by, is_async_head, is_accessor}
 use Rattle.ecma_reading.specs.Reading.{readers}
-use Rattle.ecma_grammar_complete_base.proofs.Yields.{lm, from, len, coded, first_at, IsName, Reads, then_reads, Is, then_is, then_past, then_eat, then_name, then_noted, here, past_here, if_no, if_yes, Loops, loop_on, loop_end, looped, after_one, onto}
+use Rattle.ecma_grammar_complete_base.proofs.Yields.{lm, from, len, coded, first_at, IsName, Reads, then_reads, Is, then_is, then_past, then_eat, then_name_placed, then_noted, here, past_here, if_no, if_yes, Loops, loop_on, loop_end, looped, after_one, onto}
 use Rattle.ecma_grammar_complete_base.proofs.Levels.{Follow, closed_by, comma_after}
 use Rattle.ecma_grammar_complete_rules.proofs.Lengths.{prop_taken}
 use Rattle.ecma_grammar_complete_base.proofs.Trees.{Covered, CoveredAll, size, sizes, reach, reaches, takes, no_kind}
@@ -133,7 +133,7 @@ module _ (z d : ℕ) (f : Finds z d) (p : Bool) (c : Code) where
   unfolding prop_rest
   short_prop s n ts m k Q y is h v = plain_prop ts k (Is (ident s n) m) Q (or_left (is_word (kind ts)) _ h.0.0) (inr (subst (λ (o : Input). plain_next (kind o) ≡ true) (sym h.0.5) (divides_kind plain_next true refl refl m v))) (word_key ts k (Is (ident s n) m) Q h.0.0
       (if_no (eqb (kind (rest ts)) colon_kind) _ _ _ _ (no colon_kind refl refl) (if_no (eqb (kind (rest ts)) left_paren_kind) _ _ _ _ (no left_paren_kind refl refl)
-      (then_name c ts m n k _ _ Q is h.0.3 h.0.5 (if_no (eqb (kind m) assign_kind) _ _ _ _ (divides_kind (λ x. x == assign_kind) false refl refl m v) (here (ap (λ (o : Span). ident o n) (first_at ts m s h.0.5 h.1))))))))
+      (then_name_placed _ c ts m n k _ _ Q is h.0.3 h.0.5 (if_no (eqb (kind m) assign_kind) _ _ _ _ (divides_kind (λ x. x == assign_kind) false refl refl m v) (here (ap (λ (o : Span). ident o n) (first_at ts m s h.0.5 h.1))))))))
     where
       no : (x : ℕ) → eqb comma_kind x ≡ false → eqb right_brace_kind x ≡ false → eqb (kind (rest ts)) x ≡ false
       no x a b = subst (λ (y : Input). eqb (kind y) x ≡ false) (sym h.0.5) (divides_kind (λ y. eqb y x) false a b m v)
@@ -144,7 +144,7 @@ module _ (z d : ℕ) (f : Finds z d) (p : Bool) (c : Code) where
   cover_prop s t n e ts a b m k sz g y is h q r le w sp v = plain_prop ts k (Is (assign_prop s (ident t n) e) m) (d < reach e) (or_left (is_word (kind ts)) _ h.0.0) (inr (subst (λ (o : Input). plain_next (kind o) ≡ true) (sym h.0.5) (subst (λ (o : ℕ). plain_next o ≡ true) (sym q) refl)))
       (word_key ts k (Is (assign_prop s (ident t n) e) m) (d < reach e) h.0.0
       (if_no (eqb (kind (rest ts)) colon_kind) _ _ _ _ (no colon_kind refl) (if_no (eqb (kind (rest ts)) left_paren_kind) _ _ _ _ (no left_paren_kind refl)
-      (then_name c ts a n k _ _ (d < reach e) is h.0.3 h.0.5 (if_yes (eqb (kind a) assign_kind) _ _ _ _ (eq-eqb (kind a) assign_kind q)
+      (then_name_placed _ c ts a n k _ _ (d < reach e) is h.0.3 h.0.5 (if_yes (eqb (kind a) assign_kind) _ _ _ _ (eq-eqb (kind a) assign_kind q)
       (then_past a b k (inner.expr (with_in c) assignment_level) _ e m (d < reach e) _ _ r (f e p (with_in c) 2 b m k sz g w (omega arith) (omega arith) two_asked le (divided m v (ends e))) (λ u. u)
       (λ j. here (ap (λ (o : Span). assign_prop o (ident (first_span ts) n) e) (sym sp) ∙ ap (λ (o : Span). assign_prop s (ident o n) e) (first_at ts a t h.0.5 h.1)))))))))
     where

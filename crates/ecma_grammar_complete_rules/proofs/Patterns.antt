@@ -15,7 +15,7 @@ use Rattle.ecma_reading.specs.Expressions.{key_by}
 use Rattle.ecma_reading.specs.Statements.{pat_by, array_pat_by, array_item, object_pat_by, object_item, pattern_prop, keyed_item, named_item, initial_pat, after_item}
 use Rattle.ecma_reading.specs.Reading.{readers}
 use Rattle.ecma_grammar_complete_base.specs.Laws.{patterned}
-use Rattle.ecma_grammar_complete_base.proofs.Yields.{lm, from, len, coded, first_at, Reads, too_deep, Is, then_is, then_past, then_past_reads, then_eat, then_name, onto, after_one, here, past_here, ended, if_no, if_yes, Loops, loop_on, loop_end, looped}
+use Rattle.ecma_grammar_complete_base.proofs.Yields.{lm, from, len, coded, first_at, Reads, too_deep, Is, then_is, then_past, then_past_reads, then_eat, then_name, then_name_placed, onto, after_one, here, past_here, ended, if_no, if_yes, Loops, loop_on, loop_end, looped}
 use Rattle.ecma_grammar_complete_base.proofs.Levels.{Follow, closed_by, comma_after}
 use Rattle.ecma_grammar_complete_rules.proofs.Lengths.{item_taken, property_taken}
 use Rattle.ecma_grammar_complete_base.proofs.Trees.{Covered, CoveredAll, size, sizes, reach, reaches, takes, no_kind, by_cases}
@@ -149,7 +149,7 @@ module _ (z d : ℕ) (f : Finds z d) (b : Binds z d) (p : Bool) (c : Code) where
   -- ---- objects
 
   -- a word that is a key, with what follows it
-  word_key : (ts : Input) (k : List ℕ) (V : Tree × State Input → Type 0) (Q : Type 0) → is_word (kind ts) ≡ true → eqb (kind (rest ts)) colon_kind ≡ false → Reads (from ts k) (named_item lm inner c (from ts k)) V Q → Reads (from ts k) (pattern_prop lm inner c (from ts k)) V Q
+  word_key : (ts : Input) (k : List ℕ) (V : Tree × State Input → Type 0) (Q : Type 0) → is_word (kind ts) ≡ true → eqb (kind (rest ts)) colon_kind ≡ false → Reads (from ts k) (named_item lm inner c (from (rest ts) k) (from ts k)) V Q → Reads (from ts k) (pattern_prop lm inner c (from ts k)) V Q
   unfolding pattern_prop key_by
   word_key ts k V Q w n y = rw (no_kind is_word (kind ts) left_bracket_kind w refl, w) (if_no (eqb (kind (rest ts)) colon_kind) _ _ V Q n y)
 
@@ -170,7 +170,7 @@ module _ (z d : ℕ) (f : Finds z d) (b : Binds z d) (p : Bool) (c : Code) where
   unfolding named_item
   prop_named s q t x ts m k h cl n = let v = h.1.1.1 in let to : rest ts ≡ m = v.0.5 ∙ h.2 in
       word_key ts k _ _ v.0.0 (subst (λ (y : Input). eqb (kind y) colon_kind ≡ false) (sym to) n)
-      (then_name c ts m x k _ _ _ (v.0.0, v.0.1, v.0.2) v.0.3 to (if_no (eqb (kind m) assign_kind) _ _ _ _ (ne_eqb (kind m) assign_kind cl.1)
+      (then_name_placed _ c ts m x k _ _ _ (v.0.0, v.0.1, v.0.2) v.0.3 to (if_no (eqb (kind m) assign_kind) _ _ _ _ (ne_eqb (kind m) assign_kind cl.1)
       (here (ap (λ (y : Span). assign_pat_prop y (binding_ident (first_span ts) (ident (first_span ts) x)) absent) (first_at ts m s to h.3) ∙ ap (λ y. assign_pat_prop s y absent) (named_span ts h.0 q t x h.1.1)))))
 
   prop_valued : (s q t : Span) (x : List ℕ) (e : Tree) (ts m : Input) (k : List ℕ) → is_absent e ≡ false → size e < z → Covered e → Produces (assign_pat_prop s (binding_ident q (ident t x)) e) (patterned p (with_in c)) ts m → Closed (with_in c) m → PropRead (assign_pat_prop s (binding_ident q (ident t x)) e) ts m k
@@ -178,7 +178,7 @@ module _ (z d : ℕ) (f : Finds z d) (b : Binds z d) (p : Bool) (c : Code) where
   prop_valued s q t x e ts m k ne sz g h cl = by_cases (is_absent e) _ _ _ h.2 (λ w. absurd (true≢false (sym w ∙ ne))) (λ w u.
       let v = h.1.1.1 in
       word_key ts k _ _ v.0.0 (subst (λ (y : Input). eqb (kind y) colon_kind ≡ false) (sym v.0.5) (ne_eqb (kind h.0) colon_kind (λ q. omega (arith, q, u.1.0))))
-      (then_name c ts h.0 x k _ _ _ (v.0.0, v.0.1, v.0.2) v.0.3 v.0.5 (if_yes (eqb (kind h.0) assign_kind) _ _ _ _ (eq-eqb (kind h.0) assign_kind u.1.0)
+      (then_name_placed _ c ts h.0 x k _ _ _ (v.0.0, v.0.1, v.0.2) v.0.3 v.0.5 (if_yes (eqb (kind h.0) assign_kind) _ _ _ _ (eq-eqb (kind h.0) assign_kind u.1.0)
       (then_past h.0 u.0 k (inner.expr (with_in c) assignment_level) _ e m (d < reach e) _ _ u.1.2 (f e p (with_in c) 2 u.0 m k sz g u.2.1 (omega arith) (omega arith) two_asked u.2.0 (cl.0 (ends e))) (λ u. u)
       (λ j. here (ap (λ (y : Span). assign_pat_prop y (binding_ident (first_span ts) (ident (first_span ts) x)) e) (sym h.3) ∙ ap (λ y. assign_pat_prop s y e) (named_span ts h.0 q t x h.1.1)))))))
 

@@ -108,7 +108,7 @@ module _ (inner : Inner Input) (c : Code) (ts : Input) (k : List ℕ) (V : Tree 
   -- what starts with none of these words
   abbrev After_words : Type 0
   After_words = Reads (from ts k)
-      (if starts_async lm inner (from ts k) then (if c.listed then function_decl_by lm inner c (from ts k) true (from (rest ts) k) else unexpected)
+      (if starts_async lm inner (from ts k) then (if c.listed then function_decl_by lm inner c (from ts k) true (from (rest ts) k) else unexpected lm (from ts k))
       else (if starts_variables lm inner c (from ts k) then variables_by lm inner c (from ts k)
       else (if c.listed && starts_using lm inner c (from ts k) then using_by lm inner c (from ts k) false (from ts k)
       else (if c.listed && starts_await_using lm inner c (from ts k) then using_by lm inner c (from ts k) true (from (rest ts) k)

@@ -27,7 +27,7 @@ record StepEnds {A : Type 0} (x : Result (Step A × State Input) Fault) : Type 0
 again_ends : {A : Type 0} (again : A → Read Input A) (b : ℕ) (x : Result (Step A × State Input) Fault) → ((y : A) (r : State Input) → Ends (again y r)) → StepEnds x → Ends (x >>= next_by (bound lm) again b)
 again_ends again b (Ok (go_on y, r)) h e = by_test (ltb (bound lm r) b)
   where
-    by_test : (z : Bool) → Ends (cond z (again y r) unexpected)
+    by_test : (z : Bool) → Ends (cond z (again y r) (unexpected lm r))
     by_test true = h y r
     by_test false = record { so = tt }
 again_ends again b (Ok (finished y, r)) h e = record { so = e.so }
@@ -77,10 +77,10 @@ module _ (inner : Inner Input) (modules : Bool) where
   unfolding program_by
   program_ends c s = by_test (at lm shebang_kind s)
     where
-      by_line : (o : Option (List ℕ)) → Ends {A = Tree} (elim o [ None ↦ unexpected | Some l ↦ program_rest lm inner modules c s (Some l) (past lm s) ])
+      by_line : (o : Option (List ℕ)) → Ends {A = Tree} (elim o [ None ↦ unexpected lm s | Some l ↦ program_rest lm inner modules c s (Some l) (past lm s) ])
       by_line None = record { so = tt }
       by_line (Some l) = rest_ends c s (Some l) (past lm s)
 
-      by_test : (z : Bool) → Ends {A = Tree} (cond z (elim (line_of lm inner (content (input lm s))) [ None ↦ unexpected | Some l ↦ program_rest lm inner modules c s (Some l) (past lm s) ]) (program_rest lm inner modules c s None s))
+      by_test : (z : Bool) → Ends {A = Tree} (cond z (elim (line_of lm inner (content (input lm s))) [ None ↦ unexpected lm s | Some l ↦ program_rest lm inner modules c s (Some l) (past lm s) ]) (program_rest lm inner modules c s None s))
       by_test true = by_line (line_of lm inner (content (input lm s)))
       by_test false = rest_ends c s None s

@@ -6,11 +6,11 @@ use Rattle.ecma_tree.specs.Tree.{Tree, none, pack, ident_name, this_expr, update
 use Rattle.ecma_syntax.specs.Input.{PlacedToken, Input, Code, kind, kind2, brk, barred, lo, text, span, is_word, has_in, with_in, by, in_body, in_arrow, turned_strict, in_list}
 use Rattle.ecma_syntax.specs.Operators.{closed_end, expression_level, assignment_level, coalesce_level, unary_level, new_level, call_level, member_level, binary_level, right_level, is_assign_op, operates, goes_expr, between, other_end}
 use Rattle.ecma_syntax.specs.Shape.{level, ends, fits_left, is_chain, is_cooked}
-use Rattle.ecma_reading.specs.Source.{Fault, unexpected, ◌>>=◌, State, input, past, spanned, at, eat, eat_word, is_name, name, any_word, Step, go_on, finished, Inner}
+use Rattle.ecma_reading.specs.Source.{Fault, placed, unexpected, ◌>>=◌, State, bound, input, past, spanned, at, eat, eat_word, is_name, name, any_word, Step, go_on, finished, Inner}
 use Rattle.ecma_reading.specs.Cover.{last_rests}
 use Rattle.ecma_reading.specs.Expressions.{first, literal_by, element_by, after_element, element_step, elements_by, array_by, computed_by, key_by, private_by, parameter_by, is_rest_param, parameter_step, parameters_by, function_by, setter_parameter, is_accessor, is_async_head, star, method_prop_by, getter_by, setter_by, prop_rest, prop_by, prop_step, object_by, quasi, quasi_end, quasi_step, template_by, arrows_at, heads_params, is_async_param, arrow_by, params_of, group_end, group_by, ident_end, arguments_by, async_group, function_expr_name, function_expr_by, async_by, class_expr_by, new_end, callee_by, new_by, super_end, fits_import, import_by, unary_by, update_by, await_by, ends_yield, yield_end, yield_by, word_by, fixed, keyword_by, prefix_by, member_name, on_chain, member_by, index_by, call_tree, call_by, chain_by, cond_by, assign_by, binary_by, step_by, loop_step, loop_by, private_in, expr_from, expr_by, Elements, Spans, literal, joined, last_end, plain_elements, no_elements, is_unary, extended}
 use Rattle.std.proofs.lemmas.Bool.{lt-ltb, ltb-true}
-use Rattle.ecma_grammar_goals.proofs.Twins.{lm, Parting, regexps, slashes, slashes_by, on, Twins, twin_ok, never, unanswered, twin_then, twin_if, twin_no, cut, parted, same, Plain, plain_at, lo_same, no_and, no_fourth, eat_on, eat_at, eat_none, word_on, word_at, word_none, name_on, name_none, any_on, any_at, any_none, twin_pure, iterate_twin, Told}
+use Rattle.ecma_grammar_goals.proofs.Twins.{lm, Parting, regexps, slashes, slashes_by, on, Twins, twin_ok, never, unanswered, twin_then, twin_if, twin_no, cut, parted, same, Plain, plain_at, lo_same, no_and, no_fourth, eat_on, eat_at, eat_none, word_on, word_at, word_none, name_on, name_none, placed_on, any_on, any_at, any_none, twin_placed, iterate_twin, Told}
 
 module _ (w : Parting) (inner : Inner Input) (told : Told w inner) where
   pub literal_by_twin : (o : List ℕ) (n : ℕ) (l : List PlacedToken) → Twins w (literal_by lm inner (on o n (l ++ regexps w))) (literal_by lm inner (on o n (l ++ slashes w)))
@@ -18,7 +18,7 @@ module _ (w : Parting) (inner : Inner Input) (told : Told w inner) where
   literal_by_twin o n [] = unanswered w _ _
   literal_by_twin o n (p ∷ l) = by_literal (literal p.spot.token.kind p.spot.token.content (first lm inner (on o n (p ∷ l))))
     where
-      by_literal : (t : Option Tree) → Twins w {A = Tree} (elim t [ None ↦ unexpected | Some t ↦ Ok (t, on o p.spot.hi (l ++ regexps w)) ]) (elim t [ None ↦ unexpected | Some t ↦ Ok (t, on o p.spot.hi (l ++ slashes w)) ])
+      by_literal : (t : Option Tree) → Twins w {A = Tree} (elim t [ None ↦ unexpected lm (on o n (p ∷ (l ++ regexps w))) | Some t ↦ Ok (t, on o p.spot.hi (l ++ regexps w)) ]) (elim t [ None ↦ unexpected lm (on o n (p ∷ (l ++ slashes w))) | Some t ↦ Ok (t, on o p.spot.hi (l ++ slashes w)) ])
       by_literal None = never w _ _
       by_literal (Some t) = twin_ok w t t o p.spot.hi l refl
 
@@ -106,8 +106,8 @@ module _ (w : Parting) (inner : Inner Input) (told : Told w inner) where
 
   pub prop_rest_twin : (c : Code) (so : List ℕ) (sn : ℕ) (sp : PlacedToken) (sl : List PlacedToken) (k : Tree) (o : List ℕ) (n1 : ℕ) (l : List PlacedToken) → Twins w (prop_rest lm inner c (on so sn (sp ∷ (sl ++ regexps w))) k (on o n1 ((l ++ regexps w)))) (prop_rest lm inner c (on so sn (sp ∷ (sl ++ slashes w))) k (on o n1 ((l ++ slashes w))))
   unfolding prop_rest
-  prop_rest_twin c so sn sp sl k o n1 [] = twin_no w (at lm colon_kind (on o n1 (slashes w))) (parted w (λ z. at lm colon_kind (on o n1 z)) refl refl) _ _ _ (twin_no w (at lm left_paren_kind (on o n1 (slashes w))) (parted w (λ z. at lm left_paren_kind (on o n1 z)) refl refl) _ _ _ (name_on w c so sn sp sl _ _ (λ nv. cut w (λ z. Twins w (if at lm assign_kind (on so sp.spot.hi ((z ++ regexps w))) then (inner.expr (with_in c) assignment_level (past lm (on so sp.spot.hi ((z ++ regexps w)))) >>= λ e. Ok (assign_prop (spanned lm (on so sn (sp ∷ (sl ++ regexps w))) e.1) (ident (first lm inner (on so sn (sp ∷ (sl ++ regexps w)))) nv) e.0, e.1)) else Ok (ident (first lm inner (on so sn (sp ∷ (sl ++ regexps w)))) nv, (on so sp.spot.hi ((z ++ regexps w))))) (if at lm assign_kind (on so sp.spot.hi ((z ++ slashes w))) then (inner.expr (with_in c) assignment_level (past lm (on so sp.spot.hi ((z ++ slashes w)))) >>= λ e. Ok (assign_prop (spanned lm (on so sn (sp ∷ (sl ++ slashes w))) e.1) (ident (first lm inner (on so sn (sp ∷ (sl ++ slashes w)))) nv) e.0, e.1)) else Ok (ident (first lm inner (on so sn (sp ∷ (sl ++ slashes w)))) nv, (on so sp.spot.hi ((z ++ slashes w)))))) sl (twin_no w (at lm assign_kind (on so sp.spot.hi (slashes w))) (parted w (λ z. at lm assign_kind (on so sp.spot.hi z)) refl refl) _ _ _ (twin_ok w _ _ so sp.spot.hi [] refl)) (λ np nq. twin_if w (at lm assign_kind (on so sp.spot.hi (np ∷ (nq ++ regexps w)))) (at lm assign_kind (on so sp.spot.hi (np ∷ (nq ++ slashes w)))) refl _ _ _ _ (λ yes. twin_then w _ _ _ _ (told.expr (with_in c) assignment_level so np.spot.hi nq) (λ ev eo en el. twin_ok w _ _ eo en el refl)) (λ no. twin_ok w _ _ so sp.spot.hi (np ∷ nq) refl)))))
-  prop_rest_twin c so sn sp sl k o n1 (p ∷ l) = twin_if w (at lm colon_kind (on o n1 (p ∷ (l ++ regexps w)))) (at lm colon_kind (on o n1 (p ∷ (l ++ slashes w)))) refl _ _ _ _ (λ yes. twin_then w _ _ _ _ (told.expr (with_in c) assignment_level o p.spot.hi l) (λ vv vo vn vl. twin_ok w _ _ vo vn vl refl)) (λ no. twin_if w (at lm left_paren_kind (on o n1 (p ∷ (l ++ regexps w)))) (at lm left_paren_kind (on o n1 (p ∷ (l ++ slashes w)))) refl _ _ _ _ (λ yes. twin_then w _ _ _ _ (function_by_twin c (lo (input lm (on so sn (sp ∷ (sl ++ regexps w))))) false false o n1 (p ∷ l)) (λ fv fo fn fl. twin_ok w _ _ fo fn fl refl)) (λ no. name_on w c so sn sp sl _ _ (λ nv. cut w (λ z. Twins w (if at lm assign_kind (on so sp.spot.hi ((z ++ regexps w))) then (inner.expr (with_in c) assignment_level (past lm (on so sp.spot.hi ((z ++ regexps w)))) >>= λ e. Ok (assign_prop (spanned lm (on so sn (sp ∷ (sl ++ regexps w))) e.1) (ident (first lm inner (on so sn (sp ∷ (sl ++ regexps w)))) nv) e.0, e.1)) else Ok (ident (first lm inner (on so sn (sp ∷ (sl ++ regexps w)))) nv, (on so sp.spot.hi ((z ++ regexps w))))) (if at lm assign_kind (on so sp.spot.hi ((z ++ slashes w))) then (inner.expr (with_in c) assignment_level (past lm (on so sp.spot.hi ((z ++ slashes w)))) >>= λ e. Ok (assign_prop (spanned lm (on so sn (sp ∷ (sl ++ slashes w))) e.1) (ident (first lm inner (on so sn (sp ∷ (sl ++ slashes w)))) nv) e.0, e.1)) else Ok (ident (first lm inner (on so sn (sp ∷ (sl ++ slashes w)))) nv, (on so sp.spot.hi ((z ++ slashes w)))))) sl (twin_no w (at lm assign_kind (on so sp.spot.hi (slashes w))) (parted w (λ z. at lm assign_kind (on so sp.spot.hi z)) refl refl) _ _ _ (twin_ok w _ _ so sp.spot.hi [] refl)) (λ np nq. twin_if w (at lm assign_kind (on so sp.spot.hi (np ∷ (nq ++ regexps w)))) (at lm assign_kind (on so sp.spot.hi (np ∷ (nq ++ slashes w)))) refl _ _ _ _ (λ yes. twin_then w _ _ _ _ (told.expr (with_in c) assignment_level so np.spot.hi nq) (λ ev eo en el. twin_ok w _ _ eo en el refl)) (λ no. twin_ok w _ _ so sp.spot.hi (np ∷ nq) refl)))))
+  prop_rest_twin c so sn sp sl k o n1 [] = twin_no w (at lm colon_kind (on o n1 (slashes w))) (parted w (λ z. at lm colon_kind (on o n1 z)) refl refl) _ _ _ (twin_no w (at lm left_paren_kind (on o n1 (slashes w))) (parted w (λ z. at lm left_paren_kind (on o n1 z)) refl refl) _ _ _ (placed_on w _ _ c so sn sp sl _ _ (λ nv. cut w (λ z. Twins w (if at lm assign_kind (on so sp.spot.hi ((z ++ regexps w))) then (inner.expr (with_in c) assignment_level (past lm (on so sp.spot.hi ((z ++ regexps w)))) >>= λ e. Ok (assign_prop (spanned lm (on so sn (sp ∷ (sl ++ regexps w))) e.1) (ident (first lm inner (on so sn (sp ∷ (sl ++ regexps w)))) nv) e.0, e.1)) else Ok (ident (first lm inner (on so sn (sp ∷ (sl ++ regexps w)))) nv, (on so sp.spot.hi ((z ++ regexps w))))) (if at lm assign_kind (on so sp.spot.hi ((z ++ slashes w))) then (inner.expr (with_in c) assignment_level (past lm (on so sp.spot.hi ((z ++ slashes w)))) >>= λ e. Ok (assign_prop (spanned lm (on so sn (sp ∷ (sl ++ slashes w))) e.1) (ident (first lm inner (on so sn (sp ∷ (sl ++ slashes w)))) nv) e.0, e.1)) else Ok (ident (first lm inner (on so sn (sp ∷ (sl ++ slashes w)))) nv, (on so sp.spot.hi ((z ++ slashes w)))))) sl (twin_no w (at lm assign_kind (on so sp.spot.hi (slashes w))) (parted w (λ z. at lm assign_kind (on so sp.spot.hi z)) refl refl) _ _ _ (twin_ok w _ _ so sp.spot.hi [] refl)) (λ np nq. twin_if w (at lm assign_kind (on so sp.spot.hi (np ∷ (nq ++ regexps w)))) (at lm assign_kind (on so sp.spot.hi (np ∷ (nq ++ slashes w)))) refl _ _ _ _ (λ yes. twin_then w _ _ _ _ (told.expr (with_in c) assignment_level so np.spot.hi nq) (λ ev eo en el. twin_ok w _ _ eo en el refl)) (λ no. twin_ok w _ _ so sp.spot.hi (np ∷ nq) refl)))))
+  prop_rest_twin c so sn sp sl k o n1 (p ∷ l) = twin_if w (at lm colon_kind (on o n1 (p ∷ (l ++ regexps w)))) (at lm colon_kind (on o n1 (p ∷ (l ++ slashes w)))) refl _ _ _ _ (λ yes. twin_then w _ _ _ _ (told.expr (with_in c) assignment_level o p.spot.hi l) (λ vv vo vn vl. twin_ok w _ _ vo vn vl refl)) (λ no. twin_if w (at lm left_paren_kind (on o n1 (p ∷ (l ++ regexps w)))) (at lm left_paren_kind (on o n1 (p ∷ (l ++ slashes w)))) refl _ _ _ _ (λ yes. twin_then w _ _ _ _ (function_by_twin c (lo (input lm (on so sn (sp ∷ (sl ++ regexps w))))) false false o n1 (p ∷ l)) (λ fv fo fn fl. twin_ok w _ _ fo fn fl refl)) (λ no. placed_on w _ _ c so sn sp sl _ _ (λ nv. cut w (λ z. Twins w (if at lm assign_kind (on so sp.spot.hi ((z ++ regexps w))) then (inner.expr (with_in c) assignment_level (past lm (on so sp.spot.hi ((z ++ regexps w)))) >>= λ e. Ok (assign_prop (spanned lm (on so sn (sp ∷ (sl ++ regexps w))) e.1) (ident (first lm inner (on so sn (sp ∷ (sl ++ regexps w)))) nv) e.0, e.1)) else Ok (ident (first lm inner (on so sn (sp ∷ (sl ++ regexps w)))) nv, (on so sp.spot.hi ((z ++ regexps w))))) (if at lm assign_kind (on so sp.spot.hi ((z ++ slashes w))) then (inner.expr (with_in c) assignment_level (past lm (on so sp.spot.hi ((z ++ slashes w)))) >>= λ e. Ok (assign_prop (spanned lm (on so sn (sp ∷ (sl ++ slashes w))) e.1) (ident (first lm inner (on so sn (sp ∷ (sl ++ slashes w)))) nv) e.0, e.1)) else Ok (ident (first lm inner (on so sn (sp ∷ (sl ++ slashes w)))) nv, (on so sp.spot.hi ((z ++ slashes w)))))) sl (twin_no w (at lm assign_kind (on so sp.spot.hi (slashes w))) (parted w (λ z. at lm assign_kind (on so sp.spot.hi z)) refl refl) _ _ _ (twin_ok w _ _ so sp.spot.hi [] refl)) (λ np nq. twin_if w (at lm assign_kind (on so sp.spot.hi (np ∷ (nq ++ regexps w)))) (at lm assign_kind (on so sp.spot.hi (np ∷ (nq ++ slashes w)))) refl _ _ _ _ (λ yes. twin_then w _ _ _ _ (told.expr (with_in c) assignment_level so np.spot.hi nq) (λ ev eo en el. twin_ok w _ _ eo en el refl)) (λ no. twin_ok w _ _ so sp.spot.hi (np ∷ nq) refl)))))
 
   pub prop_by_twin : (c : Code) (o : List ℕ) (n : ℕ) (l : List PlacedToken) → Twins w (prop_by lm inner c (on o n ((l ++ regexps w)))) (prop_by lm inner c (on o n ((l ++ slashes w))))
   unfolding prop_by
@@ -129,13 +129,13 @@ module _ (w : Parting) (inner : Inner Input) (told : Told w inner) where
   quasi_end_twin c tagged x q o n (p ∷ l) = twin_if w (p.spot.token.kind == back_quote_kind) (p.spot.token.kind == back_quote_kind) refl _ _ _ _ (λ yes. last (q true)) (λ yes. eat_on w dollar_brace_kind o n p l _ _ (twin_then w _ _ _ _ (told.expr (with_in c) expression_level o p.spot.hi l)
       (λ v eo en el. eat_at w right_brace_kind (refl, refl, refl) eo en el _ _ (λ rn rl. more v eo rn rl (q false)))))
     where
-      last : (t : Option Tree) → Twins w {A = Step Spans} (elim t [ None ↦ unexpected | Some t ↦ if tagged || is_cooked t then Ok (finished (record { exprs = x.exprs; quasis = x.quasis ++ t ∷ [] }), on o p.spot.hi (l ++ regexps w)) else unexpected ])
-          (elim t [ None ↦ unexpected | Some t ↦ if tagged || is_cooked t then Ok (finished (record { exprs = x.exprs; quasis = x.quasis ++ t ∷ [] }), on o p.spot.hi (l ++ slashes w)) else unexpected ])
+      last : (t : Option Tree) → Twins w {A = Step Spans} (elim t [ None ↦ unexpected lm (on o p.spot.hi (l ++ regexps w)) | Some t ↦ if tagged || is_cooked t then Ok (finished (record { exprs = x.exprs; quasis = x.quasis ++ t ∷ [] }), on o p.spot.hi (l ++ regexps w)) else unexpected lm (on o p.spot.hi (l ++ regexps w)) ])
+          (elim t [ None ↦ unexpected lm (on o p.spot.hi (l ++ slashes w)) | Some t ↦ if tagged || is_cooked t then Ok (finished (record { exprs = x.exprs; quasis = x.quasis ++ t ∷ [] }), on o p.spot.hi (l ++ slashes w)) else unexpected lm (on o p.spot.hi (l ++ slashes w)) ])
       last None = never w _ _
       last (Some t) = twin_if w (tagged || is_cooked t) (tagged || is_cooked t) refl _ _ _ _ (λ yes. twin_ok w _ _ o p.spot.hi l refl) (λ yes. never w _ _)
 
-      more : (v : Tree) (eo : List ℕ) (rn : ℕ) (rl : List PlacedToken) (t : Option Tree) → Twins w {A = Step Spans} (elim t [ None ↦ unexpected | Some t ↦ if tagged || is_cooked t then Ok (go_on (record { exprs = x.exprs ++ v ∷ []; quasis = x.quasis ++ t ∷ [] }), on eo rn (rl ++ regexps w)) else unexpected ])
-          (elim t [ None ↦ unexpected | Some t ↦ if tagged || is_cooked t then Ok (go_on (record { exprs = x.exprs ++ v ∷ []; quasis = x.quasis ++ t ∷ [] }), on eo rn (rl ++ slashes w)) else unexpected ])
+      more : (v : Tree) (eo : List ℕ) (rn : ℕ) (rl : List PlacedToken) (t : Option Tree) → Twins w {A = Step Spans} (elim t [ None ↦ unexpected lm (on eo rn (rl ++ regexps w)) | Some t ↦ if tagged || is_cooked t then Ok (go_on (record { exprs = x.exprs ++ v ∷ []; quasis = x.quasis ++ t ∷ [] }), on eo rn (rl ++ regexps w)) else unexpected lm (on eo rn (rl ++ regexps w)) ])
+          (elim t [ None ↦ unexpected lm (on eo rn (rl ++ slashes w)) | Some t ↦ if tagged || is_cooked t then Ok (go_on (record { exprs = x.exprs ++ v ∷ []; quasis = x.quasis ++ t ∷ [] }), on eo rn (rl ++ slashes w)) else unexpected lm (on eo rn (rl ++ slashes w)) ])
       more v eo rn rl None = never w _ _
       more v eo rn rl (Some t) = twin_if w (tagged || is_cooked t) (tagged || is_cooked t) refl _ _ _ _ (λ yes. twin_ok w _ _ eo rn rl refl) (λ yes. never w _ _)
 
@@ -154,12 +154,12 @@ module _ (w : Parting) (inner : Inner Input) (told : Told w inner) where
 
   -- an expression in parentheses
   closed_twin : (c : Code) (starto : List ℕ) (startn : ℕ) (startp : PlacedToken) (startl : List PlacedToken) (open_o : List ℕ) (open_n : ℕ) (open_l : List PlacedToken) (xs : Elements) (o : List ℕ) (n : ℕ) (l : List PlacedToken)
-      → Twins w {A = Tree} (if xs.comma then unexpected else elim (plain_elements xs.items) [ None ↦ unexpected | Some [] ↦ unexpected | Some (e ∷ es) ↦ Ok (paren_expr (span startp.spot.lo n) (joined (e ∷ es) (span (lo (input lm (on open_o open_n (open_l ++ regexps w)))) (last_end xs.items))), on o n (l ++ regexps w)) ])
-      (if xs.comma then unexpected else elim (plain_elements xs.items) [ None ↦ unexpected | Some [] ↦ unexpected | Some (e ∷ es) ↦ Ok (paren_expr (span startp.spot.lo n) (joined (e ∷ es) (span (lo (input lm (on open_o open_n (open_l ++ slashes w)))) (last_end xs.items))), on o n (l ++ slashes w)) ])
+      → Twins w {A = Tree} (if xs.comma then unexpected lm (on o n (l ++ regexps w)) else elim (plain_elements xs.items) [ None ↦ unexpected lm (on o n (l ++ regexps w)) | Some [] ↦ unexpected lm (on o n (l ++ regexps w)) | Some (e ∷ es) ↦ Ok (paren_expr (span startp.spot.lo n) (joined (e ∷ es) (span (lo (input lm (on open_o open_n (open_l ++ regexps w)))) (last_end xs.items))), on o n (l ++ regexps w)) ])
+      (if xs.comma then unexpected lm (on o n (l ++ slashes w)) else elim (plain_elements xs.items) [ None ↦ unexpected lm (on o n (l ++ slashes w)) | Some [] ↦ unexpected lm (on o n (l ++ slashes w)) | Some (e ∷ es) ↦ Ok (paren_expr (span startp.spot.lo n) (joined (e ∷ es) (span (lo (input lm (on open_o open_n (open_l ++ slashes w)))) (last_end xs.items))), on o n (l ++ slashes w)) ])
   closed_twin c starto startn startp startl open_o open_n open_l xs o n l = twin_if w xs.comma xs.comma refl _ _ _ _ (λ yes. never w _ _) (λ yes. alone (plain_elements xs.items))
     where
-      alone : (es : Option (List Tree)) → Twins w {A = Tree} (elim es [ None ↦ unexpected | Some [] ↦ unexpected | Some (e ∷ es) ↦ Ok (paren_expr (span startp.spot.lo n) (joined (e ∷ es) (span (lo (input lm (on open_o open_n (open_l ++ regexps w)))) (last_end xs.items))), on o n (l ++ regexps w)) ])
-          (elim es [ None ↦ unexpected | Some [] ↦ unexpected | Some (e ∷ es) ↦ Ok (paren_expr (span startp.spot.lo n) (joined (e ∷ es) (span (lo (input lm (on open_o open_n (open_l ++ slashes w)))) (last_end xs.items))), on o n (l ++ slashes w)) ])
+      alone : (es : Option (List Tree)) → Twins w {A = Tree} (elim es [ None ↦ unexpected lm (on o n (l ++ regexps w)) | Some [] ↦ unexpected lm (on o n (l ++ regexps w)) | Some (e ∷ es) ↦ Ok (paren_expr (span startp.spot.lo n) (joined (e ∷ es) (span (lo (input lm (on open_o open_n (open_l ++ regexps w)))) (last_end xs.items))), on o n (l ++ regexps w)) ])
+          (elim es [ None ↦ unexpected lm (on o n (l ++ slashes w)) | Some [] ↦ unexpected lm (on o n (l ++ slashes w)) | Some (e ∷ es) ↦ Ok (paren_expr (span startp.spot.lo n) (joined (e ∷ es) (span (lo (input lm (on open_o open_n (open_l ++ slashes w)))) (last_end xs.items))), on o n (l ++ slashes w)) ])
       alone None = never w _ _
       alone (Some []) = never w _ _
       alone (Some (e ∷ es)) = twin_ok w _ _ o n l (ap (λ (z : ℕ). paren_expr (span startp.spot.lo n) (joined (e ∷ es) (span z (last_end xs.items)))) (lo_same w open_o open_n open_l))
@@ -169,7 +169,7 @@ module _ (w : Parting) (inner : Inner Input) (told : Told w inner) where
   unfolding group_end
   group_end_twin c v starto startn startp startl open_o open_n open_l xs o n [] = twin_no w (heads_params lm inner v xs (on o n (slashes w))) (parted w (λ z. heads_params lm inner v xs (on o n z)) refl refl) _ _ _ (closed_twin c starto startn startp startl open_o open_n open_l xs o n [])
   group_end_twin c v starto startn startp startl open_o open_n open_l xs o n (p ∷ q) = twin_if w (heads_params lm inner v xs (on o n (p ∷ (q ++ regexps w)))) (heads_params lm inner v xs (on o n (p ∷ (q ++ slashes w)))) refl _ _ _ _
-      (λ yes. twin_pure w _ _ _ (λ ps. arrow_by_twin c starto startn (startp ∷ startl) false ps o n p q)) (λ yes. closed_twin c starto startn startp startl open_o open_n open_l xs o n (p ∷ q))
+      (λ yes. twin_placed w _ _ _ _ _ (λ ps. arrow_by_twin c starto startn (startp ∷ startl) false ps o n p q)) (λ yes. closed_twin c starto startn startp startl open_o open_n open_l xs o n (p ∷ q))
 
   pub group_by_twin : (c : Code) (v : ℕ) (o : List ℕ) (n : ℕ) (p : PlacedToken) (l : List PlacedToken) → Twins w (group_by lm inner c v (on o n (p ∷ (l ++ regexps w)))) (group_by lm inner c v (on o n (p ∷ (l ++ slashes w))))
   unfolding group_by
@@ -186,7 +186,7 @@ module _ (w : Parting) (inner : Inner Input) (told : Told w inner) where
 
   pub async_group_twin : (c : Code) (v : ℕ) (starto : List ℕ) (startn : ℕ) (startp : PlacedToken) (startl : List PlacedToken) (o : List ℕ) (n : ℕ) (p : PlacedToken) (l : List PlacedToken) → Twins w (async_group lm inner c v (on starto startn (startp ∷ (startl ++ regexps w))) (on o n (p ∷ (l ++ regexps w)))) (async_group lm inner c v (on starto startn (startp ∷ (startl ++ slashes w))) (on o n (p ∷ (l ++ slashes w))))
   unfolding async_group
-  async_group_twin c v starto startn startp startl o n p l = twin_then w _ _ _ _ (elements_by_twin (with_in c) false right_paren_kind (refl, refl, refl) o p.spot.hi l) (λ xsv xso xsn xsl. cut w (λ z. Twins w (if heads_params lm inner v xsv (on xso xsn ((z ++ regexps w))) && not (brk (input lm (on o n (p ∷ (l ++ regexps w))))) then (params_of lm inner xso xsv >>= λ ps. arrow_by lm inner c (on starto startn (startp ∷ (startl ++ regexps w))) true ps (on xso xsn ((z ++ regexps w)))) else Ok (call_expr (spanned lm (on starto startn (startp ∷ (startl ++ regexps w))) (on xso xsn ((z ++ regexps w)))) (ident (first lm inner (on starto startn (startp ∷ (startl ++ regexps w)))) (text (input lm (on starto startn (startp ∷ (startl ++ regexps w)))))) (pack xsv.items), (on xso xsn ((z ++ regexps w))))) (if heads_params lm inner v xsv (on xso xsn ((z ++ slashes w))) && not (brk (input lm (on o n (p ∷ (l ++ slashes w))))) then (params_of lm inner xso xsv >>= λ ps. arrow_by lm inner c (on starto startn (startp ∷ (startl ++ slashes w))) true ps (on xso xsn ((z ++ slashes w)))) else Ok (call_expr (spanned lm (on starto startn (startp ∷ (startl ++ slashes w))) (on xso xsn ((z ++ slashes w)))) (ident (first lm inner (on starto startn (startp ∷ (startl ++ slashes w)))) (text (input lm (on starto startn (startp ∷ (startl ++ slashes w)))))) (pack xsv.items), (on xso xsn ((z ++ slashes w)))))) xsl (twin_no w (heads_params lm inner v xsv (on xso xsn (slashes w)) && not (brk (input lm (on o n (p ∷ (l ++ slashes w)))))) (parted w (λ z. heads_params lm inner v xsv (on xso xsn z) && not (brk (input lm (on o n (p ∷ (l ++ regexps w)))))) refl refl) _ _ _ (twin_ok w _ _ xso xsn [] refl)) (λ xsp xsq. twin_if w (heads_params lm inner v xsv (on xso xsn (xsp ∷ (xsq ++ regexps w))) && not (brk (input lm (on o n (p ∷ (l ++ regexps w)))))) (heads_params lm inner v xsv (on xso xsn (xsp ∷ (xsq ++ slashes w))) && not (brk (input lm (on o n (p ∷ (l ++ slashes w)))))) refl _ _ _ _ (λ yes. twin_pure w _ _ _ (λ psv. arrow_by_twin c starto startn (startp ∷ startl) true psv xso xsn xsp xsq)) (λ no. twin_ok w _ _ xso xsn (xsp ∷ xsq) refl)))
+  async_group_twin c v starto startn startp startl o n p l = twin_then w _ _ _ _ (elements_by_twin (with_in c) false right_paren_kind (refl, refl, refl) o p.spot.hi l) (λ xsv xso xsn xsl. cut w (λ z. Twins w (if heads_params lm inner v xsv (on xso xsn ((z ++ regexps w))) && not (brk (input lm (on o n (p ∷ (l ++ regexps w))))) then (placed (bound lm (on xso xsn ((z ++ regexps w)))) (params_of lm inner xso xsv) >>= λ ps. arrow_by lm inner c (on starto startn (startp ∷ (startl ++ regexps w))) true ps (on xso xsn ((z ++ regexps w)))) else Ok (call_expr (spanned lm (on starto startn (startp ∷ (startl ++ regexps w))) (on xso xsn ((z ++ regexps w)))) (ident (first lm inner (on starto startn (startp ∷ (startl ++ regexps w)))) (text (input lm (on starto startn (startp ∷ (startl ++ regexps w)))))) (pack xsv.items), (on xso xsn ((z ++ regexps w))))) (if heads_params lm inner v xsv (on xso xsn ((z ++ slashes w))) && not (brk (input lm (on o n (p ∷ (l ++ slashes w))))) then (placed (bound lm (on xso xsn ((z ++ slashes w)))) (params_of lm inner xso xsv) >>= λ ps. arrow_by lm inner c (on starto startn (startp ∷ (startl ++ slashes w))) true ps (on xso xsn ((z ++ slashes w)))) else Ok (call_expr (spanned lm (on starto startn (startp ∷ (startl ++ slashes w))) (on xso xsn ((z ++ slashes w)))) (ident (first lm inner (on starto startn (startp ∷ (startl ++ slashes w)))) (text (input lm (on starto startn (startp ∷ (startl ++ slashes w)))))) (pack xsv.items), (on xso xsn ((z ++ slashes w)))))) xsl (twin_no w (heads_params lm inner v xsv (on xso xsn (slashes w)) && not (brk (input lm (on o n (p ∷ (l ++ slashes w)))))) (parted w (λ z. heads_params lm inner v xsv (on xso xsn z) && not (brk (input lm (on o n (p ∷ (l ++ regexps w)))))) refl refl) _ _ _ (twin_ok w _ _ xso xsn [] refl)) (λ xsp xsq. twin_if w (heads_params lm inner v xsv (on xso xsn (xsp ∷ (xsq ++ regexps w))) && not (brk (input lm (on o n (p ∷ (l ++ regexps w)))))) (heads_params lm inner v xsv (on xso xsn (xsp ∷ (xsq ++ slashes w))) && not (brk (input lm (on o n (p ∷ (l ++ slashes w)))))) refl _ _ _ _ (λ yes. twin_placed w _ _ _ _ _ (λ psv. arrow_by_twin c starto startn (startp ∷ startl) true psv xso xsn xsp xsq)) (λ no. twin_ok w _ _ xso xsn (xsp ∷ xsq) refl)))
 
   pub function_expr_name_twin : (c : Code) (starto : List ℕ) (startn : ℕ) (startp : PlacedToken) (startl : List PlacedToken) (generator : Bool) (async : Bool) (o : List ℕ) (n1 : ℕ) (l : List PlacedToken) → Twins w (function_expr_name lm inner c (on starto startn (startp ∷ (startl ++ regexps w))) generator async (on o n1 ((l ++ regexps w)))) (function_expr_name lm inner c (on starto startn (startp ∷ (startl ++ slashes w))) generator async (on o n1 ((l ++ slashes w))))
   unfolding function_expr_name
@@ -231,7 +231,7 @@ module _ (w : Parting) (inner : Inner Input) (told : Told w inner) where
   pub import_by_twin : (c : Code) (o1 : List ℕ) (n : ℕ) (l : List PlacedToken) → Twins w (import_by lm inner c (on o1 n ((l ++ regexps w)))) (import_by lm inner c (on o1 n ((l ++ slashes w))))
   unfolding import_by
   import_by_twin c o1 n [] = word_none w c import_kind (refl, refl, refl) o1 n _ _
-  import_by_twin c o1 n (p ∷ l) = word_on w c import_kind o1 n p l _ _ (cut w (λ z. Twins w (if at lm dot_kind (on o1 p.spot.hi ((z ++ regexps w))) then (eat_word lm c meta_kind (past lm (on o1 p.spot.hi ((z ++ regexps w)))) >>= λ t. Ok (meta_prop_expr (spanned lm (on o1 n (p ∷ (l ++ regexps w))) t) import_kind, t)) else (eat lm left_paren_kind (on o1 p.spot.hi ((z ++ regexps w))) >>= λ o. elements_by lm inner c false right_paren_kind o >>= λ xs. if fits_import lm inner c xs.0 then Ok (call_expr (spanned lm (on o1 n (p ∷ (l ++ regexps w))) xs.1) (import (first lm inner (on o1 n (p ∷ (l ++ regexps w))))) (pack xs.0.items), xs.1) else unexpected)) (if at lm dot_kind (on o1 p.spot.hi ((z ++ slashes w))) then (eat_word lm c meta_kind (past lm (on o1 p.spot.hi ((z ++ slashes w)))) >>= λ t. Ok (meta_prop_expr (spanned lm (on o1 n (p ∷ (l ++ slashes w))) t) import_kind, t)) else (eat lm left_paren_kind (on o1 p.spot.hi ((z ++ slashes w))) >>= λ o. elements_by lm inner c false right_paren_kind o >>= λ xs. if fits_import lm inner c xs.0 then Ok (call_expr (spanned lm (on o1 n (p ∷ (l ++ slashes w))) xs.1) (import (first lm inner (on o1 n (p ∷ (l ++ slashes w))))) (pack xs.0.items), xs.1) else unexpected))) l (twin_no w (at lm dot_kind (on o1 p.spot.hi (slashes w))) (parted w (λ z. at lm dot_kind (on o1 p.spot.hi z)) refl refl) _ _ _ (eat_none w left_paren_kind (refl, refl, refl) o1 p.spot.hi _ _)) (λ rp rq. twin_if w (at lm dot_kind (on o1 p.spot.hi (rp ∷ (rq ++ regexps w)))) (at lm dot_kind (on o1 p.spot.hi (rp ∷ (rq ++ slashes w)))) refl _ _ _ _ (λ yes. word_at w c meta_kind (refl, refl, refl) o1 rp.spot.hi rq _ _ (λ tn tl. twin_ok w _ _ o1 tn tl refl)) (λ no. eat_on w left_paren_kind o1 p.spot.hi rp rq _ _ (twin_then w _ _ _ _ (elements_by_twin c false right_paren_kind (refl, refl, refl) o1 rp.spot.hi rq) (λ xsv xso xsn xsl. twin_if w (fits_import lm inner c xsv) (fits_import lm inner c xsv) refl _ _ _ _ (λ yes. twin_ok w _ _ xso xsn xsl refl) (λ no. never w _ _))))))
+  import_by_twin c o1 n (p ∷ l) = word_on w c import_kind o1 n p l _ _ (cut w (λ z. Twins w (if at lm dot_kind (on o1 p.spot.hi ((z ++ regexps w))) then (eat_word lm c meta_kind (past lm (on o1 p.spot.hi ((z ++ regexps w)))) >>= λ t. Ok (meta_prop_expr (spanned lm (on o1 n (p ∷ (l ++ regexps w))) t) import_kind, t)) else (eat lm left_paren_kind (on o1 p.spot.hi ((z ++ regexps w))) >>= λ o. elements_by lm inner c false right_paren_kind o >>= λ xs. if fits_import lm inner c xs.0 then Ok (call_expr (spanned lm (on o1 n (p ∷ (l ++ regexps w))) xs.1) (import (first lm inner (on o1 n (p ∷ (l ++ regexps w))))) (pack xs.0.items), xs.1) else unexpected lm xs.1)) (if at lm dot_kind (on o1 p.spot.hi ((z ++ slashes w))) then (eat_word lm c meta_kind (past lm (on o1 p.spot.hi ((z ++ slashes w)))) >>= λ t. Ok (meta_prop_expr (spanned lm (on o1 n (p ∷ (l ++ slashes w))) t) import_kind, t)) else (eat lm left_paren_kind (on o1 p.spot.hi ((z ++ slashes w))) >>= λ o. elements_by lm inner c false right_paren_kind o >>= λ xs. if fits_import lm inner c xs.0 then Ok (call_expr (spanned lm (on o1 n (p ∷ (l ++ slashes w))) xs.1) (import (first lm inner (on o1 n (p ∷ (l ++ slashes w))))) (pack xs.0.items), xs.1) else unexpected lm xs.1))) l (twin_no w (at lm dot_kind (on o1 p.spot.hi (slashes w))) (parted w (λ z. at lm dot_kind (on o1 p.spot.hi z)) refl refl) _ _ _ (eat_none w left_paren_kind (refl, refl, refl) o1 p.spot.hi _ _)) (λ rp rq. twin_if w (at lm dot_kind (on o1 p.spot.hi (rp ∷ (rq ++ regexps w)))) (at lm dot_kind (on o1 p.spot.hi (rp ∷ (rq ++ slashes w)))) refl _ _ _ _ (λ yes. word_at w c meta_kind (refl, refl, refl) o1 rp.spot.hi rq _ _ (λ tn tl. twin_ok w _ _ o1 tn tl refl)) (λ no. eat_on w left_paren_kind o1 p.spot.hi rp rq _ _ (twin_then w _ _ _ _ (elements_by_twin c false right_paren_kind (refl, refl, refl) o1 rp.spot.hi rq) (λ xsv xso xsn xsl. twin_if w (fits_import lm inner c xsv) (fits_import lm inner c xsv) refl _ _ _ _ (λ yes. twin_ok w _ _ xso xsn xsl refl) (λ no. never w _ _))))))
 
   pub unary_by_twin : (c : Code) (o : List ℕ) (n : ℕ) (p : PlacedToken) (l : List PlacedToken) → Twins w (unary_by lm inner c (on o n (p ∷ (l ++ regexps w)))) (unary_by lm inner c (on o n (p ∷ (l ++ slashes w))))
   unfolding unary_by
@@ -301,7 +301,7 @@ module _ (w : Parting) (inner : Inner Input) (told : Told w inner) where
 
   pub assign_by_twin : (c : Code) (starto : List ℕ) (startn : ℕ) (startl : List PlacedToken) (t : Tree) (o : List ℕ) (n : ℕ) (p1 : PlacedToken) (l : List PlacedToken) → Twins w (assign_by lm inner c (on starto startn ((startl ++ regexps w))) t (on o n (p1 ∷ (l ++ regexps w)))) (assign_by lm inner c (on starto startn ((startl ++ slashes w))) t (on o n (p1 ∷ (l ++ slashes w))))
   unfolding assign_by
-  assign_by_twin c starto startn startl t o n p1 l = twin_pure w _ _ _ (λ pv. twin_then w _ _ _ _ (told.expr c assignment_level o p1.spot.hi l) (λ ev eo en el. twin_ok w _ _ eo en el (ap (λ (z : ℕ). assign_expr (span z en) (kind (input lm (on o n (p1 ∷ (l ++ regexps w))))) pv ev) (lo_same w starto startn startl))))
+  assign_by_twin c starto startn startl t o n p1 l = twin_placed w _ _ _ _ _ (λ pv. twin_then w _ _ _ _ (told.expr c assignment_level o p1.spot.hi l) (λ ev eo en el. twin_ok w _ _ eo en el (ap (λ (z : ℕ). assign_expr (span z en) (kind (input lm (on o n (p1 ∷ (l ++ regexps w))))) pv ev) (lo_same w starto startn startl))))
 
   pub binary_by_twin : (c : Code) (starto : List ℕ) (startn : ℕ) (startl : List PlacedToken) (t : Tree) (o : List ℕ) (n : ℕ) (p : PlacedToken) (l : List PlacedToken) → Twins w (binary_by lm inner c (on starto startn ((startl ++ regexps w))) t (on o n (p ∷ (l ++ regexps w)))) (binary_by lm inner c (on starto startn ((startl ++ slashes w))) t (on o n (p ∷ (l ++ slashes w))))
   unfolding binary_by
@@ -317,7 +317,7 @@ module _ (w : Parting) (inner : Inner Input) (told : Told w inner) where
   unfolding step_by
   step_nil c start t o n f y = by_level (nat_le call_level (level t))
     where
-      by_level : (b : Bool) → Twins w (cond (not b) unexpected unexpected >>= f) y
+      by_level : (b : Bool) → Twins w (cond (not b) (unexpected lm (on o n (regexps w))) (unexpected lm (on o n (regexps w))) >>= f) y
       by_level true = never w _ _
       by_level false = never w _ _
 
@@ -358,7 +358,7 @@ module _ (w : Parting) (inner : Inner Input) (told : Told w inner) where
 
   pub private_in_twin : (c : Code) (l : ℕ) (o : List ℕ) (n : ℕ) (l1 : List PlacedToken) → Twins w (private_in lm inner c l (on o n ((l1 ++ regexps w)))) (private_in lm inner c l (on o n ((l1 ++ slashes w))))
   unfolding private_in
-  private_in_twin c l o n l1 = twin_then w _ _ _ _ (private_by_twin o n l1) (λ pv po pn pl. cut w (λ z. Twins w (if at lm in_kind (on po pn ((z ++ regexps w))) && (has_in c && nat_le l (binary_level in_kind)) then (binary_by lm inner c (on o n ((l1 ++ regexps w))) pv (on po pn ((z ++ regexps w))) >>= λ t. loop_by lm inner c l (on o n ((l1 ++ regexps w))) t.0 t.1) else unexpected) (if at lm in_kind (on po pn ((z ++ slashes w))) && (has_in c && nat_le l (binary_level in_kind)) then (binary_by lm inner c (on o n ((l1 ++ slashes w))) pv (on po pn ((z ++ slashes w))) >>= λ t. loop_by lm inner c l (on o n ((l1 ++ slashes w))) t.0 t.1) else unexpected)) pl (never w _ _) (λ pp pq. twin_if w (at lm in_kind (on po pn (pp ∷ (pq ++ regexps w))) && (has_in c && nat_le l (binary_level in_kind))) (at lm in_kind (on po pn (pp ∷ (pq ++ slashes w))) && (has_in c && nat_le l (binary_level in_kind))) refl _ _ _ _ (λ yes. twin_then w _ _ _ _ (binary_by_twin c o n l1 pv po pn pp pq) (λ tv to tn tl. loop_by_twin c l o n l1 tv to tn tl)) (λ no. never w _ _)))
+  private_in_twin c l o n l1 = twin_then w _ _ _ _ (private_by_twin o n l1) (λ pv po pn pl. cut w (λ z. Twins w (if at lm in_kind (on po pn ((z ++ regexps w))) && (has_in c && nat_le l (binary_level in_kind)) then (binary_by lm inner c (on o n ((l1 ++ regexps w))) pv (on po pn ((z ++ regexps w))) >>= λ t. loop_by lm inner c l (on o n ((l1 ++ regexps w))) t.0 t.1) else unexpected lm (on po pn ((z ++ regexps w)))) (if at lm in_kind (on po pn ((z ++ slashes w))) && (has_in c && nat_le l (binary_level in_kind)) then (binary_by lm inner c (on o n ((l1 ++ slashes w))) pv (on po pn ((z ++ slashes w))) >>= λ t. loop_by lm inner c l (on o n ((l1 ++ slashes w))) t.0 t.1) else unexpected lm (on po pn ((z ++ slashes w))))) pl (never w _ _) (λ pp pq. twin_if w (at lm in_kind (on po pn (pp ∷ (pq ++ regexps w))) && (has_in c && nat_le l (binary_level in_kind))) (at lm in_kind (on po pn (pp ∷ (pq ++ slashes w))) && (has_in c && nat_le l (binary_level in_kind))) refl _ _ _ _ (λ yes. twin_then w _ _ _ _ (binary_by_twin c o n l1 pv po pn pp pq) (λ tv to tn tl. loop_by_twin c l o n l1 tv to tn tl)) (λ no. never w _ _)))
 
   pub expr_from_twin : (c : Code) (l : ℕ) (o : List ℕ) (n : ℕ) (l1 : List PlacedToken) → Twins w (expr_from lm inner c l (on o n ((l1 ++ regexps w)))) (expr_from lm inner c l (on o n ((l1 ++ slashes w))))
   unfolding expr_from

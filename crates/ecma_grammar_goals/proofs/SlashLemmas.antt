@@ -38,7 +38,7 @@ Failed (Err e) = Unit {0}
 wrong : (d : Fault) (u : Tree) → ◌≡◌ {A = Result Tree Fault} (Err d) (Ok u) → ⊥
 wrong d u q = subst Failed q tt
 
-never_both : (w : Parting) (x y : Result (Tree × State Input) Fault) (t u : Tree) → Twins w x y → Ends x → (x >>= finish) ≡ Ok t → (y >>= finish) ≡ Ok u → ⊥
+never_both : (w : Parting) (x y : Result (Tree × State Input) Fault) (t u : Tree) → Twins w x y → Ends x → (x >>= finish lm) ≡ Ok t → (y >>= finish lm) ≡ Ok u → ⊥
 never_both w (Ok x) (Ok y) t u h e i j = let z = h.so in some_left z.3 w.one.more _ (subst (λ (s : State Input). is_nil s.source.places ≡ true) z.4 e.so)
 never_both w (Ok x) (Err d) t u h e i j = absurd (wrong d u j)
 never_both w (Err d) y t u h e i j = absurd (wrong d t i)

@@ -10,7 +10,7 @@ use Rattle.ecma_reading.specs.Expressions.{first}
 use Rattle.ecma_reading.specs.Statements.{Body, starts_async}
 use Rattle.ecma_reading.specs.Modules.{string_by, export_name_by, local_by, attributes_by, source_by, named_import, named_export_item, specifier_step, specifiers_by, star_import, import_end, import_rest, import_default, import_decl_by, export_default, export_star, export_list, starts_declaration, export_by, starts_import, item_by, program_item, program_step, line_of, program_tree, program_rest, program_by}
 use Rattle.ecma_grammar_goals.proofs.SlashExpressions.{literal_by_twin, object_by_twin, function_expr_by_twin, class_expr_by_twin}
-use Rattle.ecma_grammar_goals.proofs.Twins.{lm, Parting, regexps, slashes, on, Twins, twin_ok, never, twin_then, twin_if, twin_no, cut, parted, same, lo_same, no_and, eat_on, eat_at, eat_none, word_on, word_at, word_none, name_on, name_none, any_on, any_none, end_at, iterate_twin, Told}
+use Rattle.ecma_grammar_goals.proofs.Twins.{lm, Parting, regexps, slashes, on, Twins, twin_ok, never, twin_then, twin_found, twin_if, twin_no, cut, parted, same, lo_same, no_and, eat_on, eat_at, eat_none, word_on, word_at, word_none, name_on, name_none, any_on, any_none, end_at, iterate_twin, Told}
 
 module _ (w : Parting) (inner : Inner Input) (told : Told w inner) where
   pub string_by_twin : (o : List ℕ) (n : ℕ) (l : List PlacedToken) → Twins w (string_by lm inner (on o n ((l ++ regexps w)))) (string_by lm inner (on o n ((l ++ slashes w))))
@@ -38,8 +38,8 @@ module _ (w : Parting) (inner : Inner Input) (told : Told w inner) where
 
   pub named_import_twin : (c : Code) (o : List ℕ) (n1 : ℕ) (l1 : List PlacedToken) → Twins w (named_import lm inner c (on o n1 ((l1 ++ regexps w)))) (named_import lm inner c (on o n1 ((l1 ++ slashes w))))
   unfolding named_import
-  named_import_twin c o n1 [] = twin_then w _ _ _ _ (export_name_by_twin o n1 []) (λ nv no1 nn nl. twin_if w (at lm as_kind (on no1 nn ((nl ++ regexps w)))) (at lm as_kind (on no1 nn ((nl ++ slashes w)))) (same w (λ z. at lm as_kind (on no1 nn z)) refl refl (λ p. refl) (λ p. refl) (λ p q. refl) (λ p q. refl) (λ p q r l m n. refl) nl) _ _ _ _ (λ yes. word_at w c as_kind (refl, refl, refl) no1 nn nl _ _ (λ an al. twin_then w _ _ _ _ (local_by_twin c no1 an al) (λ lv lo ln ll. twin_ok w _ _ lo ln ll refl))) (λ no. twin_then w _ _ _ _ (local_by_twin c o n1 []) (λ lv lo ln ll. twin_ok w _ _ lo ln ll refl)))
-  named_import_twin c o n1 (p ∷ l1) = twin_then w _ _ _ _ (export_name_by_twin o n1 (p ∷ l1)) (λ nv no1 nn nl. twin_if w (at lm as_kind (on no1 nn ((nl ++ regexps w)))) (at lm as_kind (on no1 nn ((nl ++ slashes w)))) (same w (λ z. at lm as_kind (on no1 nn z)) refl refl (λ p. refl) (λ p. refl) (λ p q. refl) (λ p q. refl) (λ p q r l m n. refl) nl) _ _ _ _ (λ yes. word_at w c as_kind (refl, refl, refl) no1 nn nl _ _ (λ an al. twin_then w _ _ _ _ (local_by_twin c no1 an al) (λ lv lo ln ll. twin_ok w _ _ lo ln ll refl))) (λ no. twin_then w _ _ _ _ (local_by_twin c o n1 (p ∷ l1)) (λ lv lo ln ll. twin_ok w _ _ lo ln ll refl)))
+  named_import_twin c o n1 [] = twin_then w _ _ _ _ (export_name_by_twin o n1 []) (λ nv no1 nn nl. twin_if w (at lm as_kind (on no1 nn ((nl ++ regexps w)))) (at lm as_kind (on no1 nn ((nl ++ slashes w)))) (same w (λ z. at lm as_kind (on no1 nn z)) refl refl (λ p. refl) (λ p. refl) (λ p q. refl) (λ p q. refl) (λ p q r l m n. refl) nl) _ _ _ _ (λ yes. word_at w c as_kind (refl, refl, refl) no1 nn nl _ _ (λ an al. twin_then w _ _ _ _ (local_by_twin c no1 an al) (λ lv lo ln ll. twin_ok w _ _ lo ln ll refl))) (λ no. twin_then w _ _ _ _ (twin_found w _ _ _ _ (local_by_twin c o n1 [])) (λ lv lo ln ll. twin_ok w _ _ lo ln ll refl)))
+  named_import_twin c o n1 (p ∷ l1) = twin_then w _ _ _ _ (export_name_by_twin o n1 (p ∷ l1)) (λ nv no1 nn nl. twin_if w (at lm as_kind (on no1 nn ((nl ++ regexps w)))) (at lm as_kind (on no1 nn ((nl ++ slashes w)))) (same w (λ z. at lm as_kind (on no1 nn z)) refl refl (λ p. refl) (λ p. refl) (λ p q. refl) (λ p q. refl) (λ p q r l m n. refl) nl) _ _ _ _ (λ yes. word_at w c as_kind (refl, refl, refl) no1 nn nl _ _ (λ an al. twin_then w _ _ _ _ (local_by_twin c no1 an al) (λ lv lo ln ll. twin_ok w _ _ lo ln ll refl))) (λ no. twin_then w _ _ _ _ (twin_found w _ _ _ _ (local_by_twin c o n1 (p ∷ l1))) (λ lv lo ln ll. twin_ok w _ _ lo ln ll refl)))
 
   pub named_export_item_twin : (c : Code) (o : List ℕ) (n1 : ℕ) (l : List PlacedToken) → Twins w (named_export_item lm inner c (on o n1 ((l ++ regexps w)))) (named_export_item lm inner c (on o n1 ((l ++ slashes w))))
   unfolding named_export_item
@@ -118,6 +118,6 @@ module _ (w : Parting) (inner : Inner Input) (told : Told w inner) where
   program_by_twin modules c o n [] = twin_no w (at lm shebang_kind (on o n (slashes w))) (parted w (λ z. at lm shebang_kind (on o n z)) refl refl) _ _ _ (program_rest_twin modules c o n [] None o n [])
   program_by_twin modules c o n (p ∷ l) = twin_if w (p.spot.token.kind == shebang_kind) (p.spot.token.kind == shebang_kind) refl _ _ _ _ (λ yes. by_line (line_of lm inner p.spot.token.content)) (λ yes. program_rest_twin modules c o n (p ∷ l) None o n (p ∷ l))
     where
-      by_line : (t : Option (List ℕ)) → Twins w {A = Tree} (elim t [ None ↦ unexpected | Some k ↦ program_rest lm inner modules c (on o n (p ∷ (l ++ regexps w))) (Some k) (on o p.spot.hi (l ++ regexps w)) ]) (elim t [ None ↦ unexpected | Some k ↦ program_rest lm inner modules c (on o n (p ∷ (l ++ slashes w))) (Some k) (on o p.spot.hi (l ++ slashes w)) ])
+      by_line : (t : Option (List ℕ)) → Twins w {A = Tree} (elim t [ None ↦ unexpected lm (on o n (p ∷ (l ++ regexps w))) | Some k ↦ program_rest lm inner modules c (on o n (p ∷ (l ++ regexps w))) (Some k) (on o p.spot.hi (l ++ regexps w)) ]) (elim t [ None ↦ unexpected lm (on o n (p ∷ (l ++ slashes w))) | Some k ↦ program_rest lm inner modules c (on o n (p ∷ (l ++ slashes w))) (Some k) (on o p.spot.hi (l ++ slashes w)) ])
       by_line None = never w _ _
       by_line (Some k) = program_rest_twin modules c o n (p ∷ l) (Some k) o p.spot.hi l

@@ -10,7 +10,7 @@ use Rattle.ecma_reading.specs.Source.{Fault, unexpected, ◌>>=◌, State, input
 use Rattle.ecma_reading.specs.Expressions.{first, key_by, function_by, is_async_head}
 use Rattle.ecma_reading.specs.Statements.{initial_pat, after_item, array_item, array_pat_by, keyed_item, named_item, pattern_prop, object_item, object_pat_by, pat_by, block_step, block_rest, block_by, body_item, body_step, body_by, declarator_by, declarator_step, declarators_by, starts_let, starts_variables, variables_by, starts_using, starts_await_using, using_by, function_decl_by, class_decl_by, field_value, class_key, method_tree, class_method_by, class_getter, class_setter, accessor_by, field_or_method, generator_member, member_rest, starts_static, static_by, member_step, members_by, class_tail_by, in_parens, sub_by, with_by, while_by, do_by, branched, else_by, if_step, if_by, ends_here, return_by, throw_by, label_by, jump_by, debugger_by, case_step, case_rest, case_by, has_default, cases_step, switch_by, catch_by, finally_by, try_by, clause_by, for_rest, over_rest, in_rest, of_rest, one_bare, head_rest, for_variables, for_using, for_expression_rest, for_expression, for_head, for_by, statement_class, labelled_by, expression_by, starts_async, keyword_stmt, stmt_by, stmt_from, Body, Chain}
 use Rattle.ecma_grammar_goals.proofs.SlashExpressions.{key_by_twin, private_by_twin, function_by_twin, setter_parameter_twin, star_twin}
-use Rattle.ecma_grammar_goals.proofs.Twins.{lm, Parting, regexps, slashes, slashes_by, on, Twins, twin_ok, never, twin_then, twin_if, twin_no, cut, parted, same, Plain, plain_at, lo_same, no_and, no_and2, off_first, off_left, off_deep, end_as, eat_on, eat_at, eat_none, word_on, word_at, word_none, name_on, name_none, end_at, twin_pure, iterate_twin, Told}
+use Rattle.ecma_grammar_goals.proofs.Twins.{lm, Parting, regexps, slashes, slashes_by, on, Twins, twin_ok, never, twin_then, twin_if, twin_no, cut, parted, same, Plain, plain_at, lo_same, no_and, no_and2, off_first, off_left, off_deep, end_as, eat_on, eat_at, eat_none, word_on, word_at, word_none, name_on, name_none, placed_none, placed_on, end_at, twin_placed, iterate_twin, Told}
 
 module _ (w : Parting) (inner : Inner Input) (told : Told w inner) where
   pub initial_pat_twin : (c : Code) (starto : List ℕ) (startn : ℕ) (startl : List PlacedToken) (p : Tree) (o : List ℕ) (n : ℕ) (l : List PlacedToken) → Twins w (initial_pat lm inner c (on starto startn ((startl ++ regexps w))) p (on o n ((l ++ regexps w)))) (initial_pat lm inner c (on starto startn ((startl ++ slashes w))) p (on o n ((l ++ slashes w))))
@@ -36,14 +36,14 @@ module _ (w : Parting) (inner : Inner Input) (told : Told w inner) where
   unfolding keyed_item
   keyed_item_twin c starto startn startl k o n l = twin_then w _ _ _ _ (told.pat (with_in c) o n l) (λ pv po pn pl. twin_then w _ _ _ _ (initial_pat_twin c o n l pv po pn pl) (λ qv qo qn ql. twin_ok w _ _ qo qn ql (ap (λ (z : ℕ). key_value_pat_prop (span z qn) k qv) (lo_same w starto startn startl))))
 
-  pub named_item_twin : (c : Code) (o : List ℕ) (n1 : ℕ) (l : List PlacedToken) → Twins w (named_item lm inner c (on o n1 ((l ++ regexps w)))) (named_item lm inner c (on o n1 ((l ++ slashes w))))
+  pub named_item_twin : (c : Code) (i : List ℕ) (j : ℕ) (k : List PlacedToken) (o : List ℕ) (n1 : ℕ) (l : List PlacedToken) → Twins w (named_item lm inner c (on i j (k ++ regexps w)) (on o n1 ((l ++ regexps w)))) (named_item lm inner c (on i j (k ++ slashes w)) (on o n1 ((l ++ slashes w))))
   unfolding named_item
-  named_item_twin c o n1 [] = name_none w c o n1 _ _
-  named_item_twin c o n1 (p ∷ l) = name_on w c o n1 p l _ _ (λ nv. cut w (λ z. Twins w (if at lm assign_kind (on o p.spot.hi ((z ++ regexps w))) then (inner.expr (with_in c) assignment_level (past lm (on o p.spot.hi ((z ++ regexps w)))) >>= λ e. Ok (assign_pat_prop (spanned lm (on o n1 (p ∷ (l ++ regexps w))) e.1) (binding_ident (first lm inner (on o n1 (p ∷ (l ++ regexps w)))) (ident (first lm inner (on o n1 (p ∷ (l ++ regexps w)))) nv)) e.0, e.1)) else Ok (assign_pat_prop (first lm inner (on o n1 (p ∷ (l ++ regexps w)))) (binding_ident (first lm inner (on o n1 (p ∷ (l ++ regexps w)))) (ident (first lm inner (on o n1 (p ∷ (l ++ regexps w)))) nv)) absent, (on o p.spot.hi ((z ++ regexps w))))) (if at lm assign_kind (on o p.spot.hi ((z ++ slashes w))) then (inner.expr (with_in c) assignment_level (past lm (on o p.spot.hi ((z ++ slashes w)))) >>= λ e. Ok (assign_pat_prop (spanned lm (on o n1 (p ∷ (l ++ slashes w))) e.1) (binding_ident (first lm inner (on o n1 (p ∷ (l ++ slashes w)))) (ident (first lm inner (on o n1 (p ∷ (l ++ slashes w)))) nv)) e.0, e.1)) else Ok (assign_pat_prop (first lm inner (on o n1 (p ∷ (l ++ slashes w)))) (binding_ident (first lm inner (on o n1 (p ∷ (l ++ slashes w)))) (ident (first lm inner (on o n1 (p ∷ (l ++ slashes w)))) nv)) absent, (on o p.spot.hi ((z ++ slashes w)))))) l (twin_no w (at lm assign_kind (on o p.spot.hi (slashes w))) (parted w (λ z. at lm assign_kind (on o p.spot.hi z)) refl refl) _ _ _ (twin_ok w _ _ o p.spot.hi [] refl)) (λ np nq. twin_if w (at lm assign_kind (on o p.spot.hi (np ∷ (nq ++ regexps w)))) (at lm assign_kind (on o p.spot.hi (np ∷ (nq ++ slashes w)))) refl _ _ _ _ (λ yes. twin_then w _ _ _ _ (told.expr (with_in c) assignment_level o np.spot.hi nq) (λ ev eo en el. twin_ok w _ _ eo en el refl)) (λ no. twin_ok w _ _ o p.spot.hi (np ∷ nq) refl)))
+  named_item_twin c i j k o n1 [] = placed_none w _ c o n1 _ _
+  named_item_twin c i j k o n1 (p ∷ l) = placed_on w _ _ c o n1 p l _ _ (λ nv. cut w (λ z. Twins w (if at lm assign_kind (on o p.spot.hi ((z ++ regexps w))) then (inner.expr (with_in c) assignment_level (past lm (on o p.spot.hi ((z ++ regexps w)))) >>= λ e. Ok (assign_pat_prop (spanned lm (on o n1 (p ∷ (l ++ regexps w))) e.1) (binding_ident (first lm inner (on o n1 (p ∷ (l ++ regexps w)))) (ident (first lm inner (on o n1 (p ∷ (l ++ regexps w)))) nv)) e.0, e.1)) else Ok (assign_pat_prop (first lm inner (on o n1 (p ∷ (l ++ regexps w)))) (binding_ident (first lm inner (on o n1 (p ∷ (l ++ regexps w)))) (ident (first lm inner (on o n1 (p ∷ (l ++ regexps w)))) nv)) absent, (on o p.spot.hi ((z ++ regexps w))))) (if at lm assign_kind (on o p.spot.hi ((z ++ slashes w))) then (inner.expr (with_in c) assignment_level (past lm (on o p.spot.hi ((z ++ slashes w)))) >>= λ e. Ok (assign_pat_prop (spanned lm (on o n1 (p ∷ (l ++ slashes w))) e.1) (binding_ident (first lm inner (on o n1 (p ∷ (l ++ slashes w)))) (ident (first lm inner (on o n1 (p ∷ (l ++ slashes w)))) nv)) e.0, e.1)) else Ok (assign_pat_prop (first lm inner (on o n1 (p ∷ (l ++ slashes w)))) (binding_ident (first lm inner (on o n1 (p ∷ (l ++ slashes w)))) (ident (first lm inner (on o n1 (p ∷ (l ++ slashes w)))) nv)) absent, (on o p.spot.hi ((z ++ slashes w)))))) l (twin_no w (at lm assign_kind (on o p.spot.hi (slashes w))) (parted w (λ z. at lm assign_kind (on o p.spot.hi z)) refl refl) _ _ _ (twin_ok w _ _ o p.spot.hi [] refl)) (λ np nq. twin_if w (at lm assign_kind (on o p.spot.hi (np ∷ (nq ++ regexps w)))) (at lm assign_kind (on o p.spot.hi (np ∷ (nq ++ slashes w)))) refl _ _ _ _ (λ yes. twin_then w _ _ _ _ (told.expr (with_in c) assignment_level o np.spot.hi nq) (λ ev eo en el. twin_ok w _ _ eo en el refl)) (λ no. twin_ok w _ _ o p.spot.hi (np ∷ nq) refl)))
 
   pub pattern_prop_twin : (c : Code) (o : List ℕ) (n : ℕ) (l : List PlacedToken) → Twins w (pattern_prop lm inner c (on o n ((l ++ regexps w)))) (pattern_prop lm inner c (on o n ((l ++ slashes w))))
   unfolding pattern_prop
-  pattern_prop_twin c o n l = twin_then w _ _ _ _ (key_by_twin w inner told c o n l) (λ kv ko kn kl. cut w (λ z. Twins w (if at lm colon_kind (on ko kn ((z ++ regexps w))) then keyed_item lm inner c (on o n ((l ++ regexps w))) kv (past lm (on ko kn ((z ++ regexps w)))) else named_item lm inner c (on o n ((l ++ regexps w)))) (if at lm colon_kind (on ko kn ((z ++ slashes w))) then keyed_item lm inner c (on o n ((l ++ slashes w))) kv (past lm (on ko kn ((z ++ slashes w)))) else named_item lm inner c (on o n ((l ++ slashes w))))) kl (twin_no w (at lm colon_kind (on ko kn (slashes w))) (parted w (λ z. at lm colon_kind (on ko kn z)) refl refl) _ _ _ (named_item_twin c o n l)) (λ kp kq. twin_if w (at lm colon_kind (on ko kn (kp ∷ (kq ++ regexps w)))) (at lm colon_kind (on ko kn (kp ∷ (kq ++ slashes w)))) refl _ _ _ _ (λ yes. keyed_item_twin c o n l kv ko kp.spot.hi kq) (λ no. named_item_twin c o n l)))
+  pattern_prop_twin c o n l = twin_then w _ _ _ _ (key_by_twin w inner told c o n l) (λ kv ko kn kl. cut w (λ z. Twins w (if at lm colon_kind (on ko kn ((z ++ regexps w))) then keyed_item lm inner c (on o n ((l ++ regexps w))) kv (past lm (on ko kn ((z ++ regexps w)))) else named_item lm inner c (on ko kn ((z ++ regexps w))) (on o n ((l ++ regexps w)))) (if at lm colon_kind (on ko kn ((z ++ slashes w))) then keyed_item lm inner c (on o n ((l ++ slashes w))) kv (past lm (on ko kn ((z ++ slashes w)))) else named_item lm inner c (on ko kn ((z ++ slashes w))) (on o n ((l ++ slashes w))))) kl (twin_no w (at lm colon_kind (on ko kn (slashes w))) (parted w (λ z. at lm colon_kind (on ko kn z)) refl refl) _ _ _ (named_item_twin c ko kn [] o n l)) (λ kp kq. twin_if w (at lm colon_kind (on ko kn (kp ∷ (kq ++ regexps w)))) (at lm colon_kind (on ko kn (kp ∷ (kq ++ slashes w)))) refl _ _ _ _ (λ yes. keyed_item_twin c o n l kv ko kp.spot.hi kq) (λ no. named_item_twin c ko kn (kp ∷ kq) o n l)))
 
   pub object_item_twin : (c : Code) (xs : List Tree) (o : List ℕ) (n : ℕ) (l : List PlacedToken) → Twins w (object_item lm inner c xs (on o n ((l ++ regexps w)))) (object_item lm inner c xs (on o n ((l ++ slashes w))))
   unfolding object_item
@@ -166,7 +166,7 @@ module _ (w : Parting) (inner : Inner Input) (told : Told w inner) where
   unfolding member_rest field_or_method class_key key_by
   member_nil c start z o n f y = by_syntax c.syntax.auto_accessors
     where
-      by_syntax : (b : Bool) → Twins w (cond (b && false) (accessor_by lm inner c start z (on o n (regexps w))) unexpected >>= f) y
+      by_syntax : (b : Bool) → Twins w (cond (b && false) (accessor_by lm inner c start z (on o n (regexps w))) (unexpected lm (on o n (regexps w))) >>= f) y
       by_syntax true = never w _ _
       by_syntax false = never w _ _
 
@@ -328,7 +328,7 @@ module _ (w : Parting) (inner : Inner Input) (told : Told w inner) where
 
   pub for_expression_rest_twin : (c : Code) (starto : List ℕ) (startn : ℕ) (startl : List PlacedToken) (awaits : Bool) (owno : List ℕ) (ownn : ℕ) (ownl : List PlacedToken) (e : Tree) (o : List ℕ) (n : ℕ) (l1 : List PlacedToken) → Twins w (for_expression_rest lm inner c (on starto startn ((startl ++ regexps w))) awaits (on owno ownn ((ownl ++ regexps w))) e (on o n ((l1 ++ regexps w)))) (for_expression_rest lm inner c (on starto startn ((startl ++ slashes w))) awaits (on owno ownn ((ownl ++ slashes w))) e (on o n ((l1 ++ slashes w))))
   unfolding for_expression_rest
-  for_expression_rest_twin c starto startn startl awaits owno ownn ownl e o n l1 = twin_if w (at lm of_kind (on o n ((l1 ++ regexps w)))) (at lm of_kind (on o n ((l1 ++ slashes w)))) (same w (λ z. at lm of_kind (on o n z)) refl refl (λ p. refl) (λ p. refl) (λ p q. refl) (λ p q. refl) (λ p q r l m n. refl) l1) _ _ _ _ (λ yes. twin_if w (at lm let_kind (on owno ownn ((ownl ++ regexps w))) || (not awaits && (at lm async_kind (on owno ownn ((ownl ++ regexps w))) && (kind2 (input lm (on owno ownn ((ownl ++ regexps w)))) == of_kind)))) (at lm let_kind (on owno ownn ((ownl ++ slashes w))) || (not awaits && (at lm async_kind (on owno ownn ((ownl ++ slashes w))) && (kind2 (input lm (on owno ownn ((ownl ++ slashes w)))) == of_kind)))) (same w (λ z. at lm let_kind (on owno ownn z) || (not awaits && (at lm async_kind (on owno ownn z) && (kind2 (input lm (on owno ownn z)) == of_kind)))) refl refl (λ p. refl) (λ p. refl) (λ p q. refl) (λ p q. refl) (λ p q r l m n. refl) ownl) _ _ _ _ (λ yes. never w _ _) (λ no. twin_pure w _ _ _ (λ lv. of_rest_twin c starto startn startl awaits lv o n l1))) (λ no. twin_if w (awaits) (awaits) refl _ _ _ _ (λ yes. never w _ _) (λ no. twin_if w (at lm in_kind (on o n ((l1 ++ regexps w)))) (at lm in_kind (on o n ((l1 ++ slashes w)))) (same w (λ z. at lm in_kind (on o n z)) refl refl (λ p. refl) (λ p. refl) (λ p q. refl) (λ p q. refl) (λ p q r l m n. refl) l1) _ _ _ _ (λ yes. twin_pure w _ _ _ (λ lv. in_rest_twin c starto startn startl lv o n l1)) (λ no. for_rest_twin c starto startn startl e o n l1)))
+  for_expression_rest_twin c starto startn startl awaits owno ownn ownl e o n l1 = twin_if w (at lm of_kind (on o n ((l1 ++ regexps w)))) (at lm of_kind (on o n ((l1 ++ slashes w)))) (same w (λ z. at lm of_kind (on o n z)) refl refl (λ p. refl) (λ p. refl) (λ p q. refl) (λ p q. refl) (λ p q r l m n. refl) l1) _ _ _ _ (λ yes. twin_if w (at lm let_kind (on owno ownn ((ownl ++ regexps w))) || (not awaits && (at lm async_kind (on owno ownn ((ownl ++ regexps w))) && (kind2 (input lm (on owno ownn ((ownl ++ regexps w)))) == of_kind)))) (at lm let_kind (on owno ownn ((ownl ++ slashes w))) || (not awaits && (at lm async_kind (on owno ownn ((ownl ++ slashes w))) && (kind2 (input lm (on owno ownn ((ownl ++ slashes w)))) == of_kind)))) (same w (λ z. at lm let_kind (on owno ownn z) || (not awaits && (at lm async_kind (on owno ownn z) && (kind2 (input lm (on owno ownn z)) == of_kind)))) refl refl (λ p. refl) (λ p. refl) (λ p q. refl) (λ p q. refl) (λ p q r l m n. refl) ownl) _ _ _ _ (λ yes. never w _ _) (λ no. twin_placed w _ _ _ _ _ (λ lv. of_rest_twin c starto startn startl awaits lv o n l1))) (λ no. twin_if w (awaits) (awaits) refl _ _ _ _ (λ yes. never w _ _) (λ no. twin_if w (at lm in_kind (on o n ((l1 ++ regexps w)))) (at lm in_kind (on o n ((l1 ++ slashes w)))) (same w (λ z. at lm in_kind (on o n z)) refl refl (λ p. refl) (λ p. refl) (λ p q. refl) (λ p q. refl) (λ p q r l m n. refl) l1) _ _ _ _ (λ yes. twin_placed w _ _ _ _ _ (λ lv. in_rest_twin c starto startn startl lv o n l1)) (λ no. for_rest_twin c starto startn startl e o n l1)))
 
   pub for_expression_twin : (c : Code) (starto : List ℕ) (startn : ℕ) (startl : List PlacedToken) (awaits : Bool) (o : List ℕ) (n : ℕ) (l : List PlacedToken) → Twins w (for_expression lm inner c (on starto startn ((startl ++ regexps w))) awaits (on o n ((l ++ regexps w)))) (for_expression lm inner c (on starto startn ((startl ++ slashes w))) awaits (on o n ((l ++ slashes w))))
   unfolding for_expression

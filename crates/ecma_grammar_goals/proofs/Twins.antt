@@ -5,7 +5,7 @@ use Rattle.ecma_token.specs.Kinds.{regex_kind, div_kind, div_assign_kind, semico
 use Rattle.ecma_token.specs.Tokens.{Bare, Pattern}
 use Rattle.ecma_syntax.specs.Input.{PlacedToken, Input, Code, kind, lo, text, is_word, barred}
 use Rattle.ecma_syntax.specs.Operators.{assignment_level, binary_level, goes_expr, pauses, closed_end, other_end}
-use Rattle.ecma_reading.specs.Source.{Fault, ◌>>=◌, unexpected, Stream, list_stream, State, Read, input, past, at, bound, eat, eat_word, is_name, name, any_word, end_of, Step, go_on, finished, next_by, iterate_n, iterate, Inner}
+use Rattle.ecma_reading.specs.Source.{Fault, Unexpected, TooDeep, ◌>>=◌, placed, unexpected, Stream, list_stream, State, Read, input, past, at, bound, eat, eat_word, is_name, name, any_word, end_of, Step, go_on, finished, next_by, iterate_n, iterate, Inner}
 
 abbrev pub lm : Stream Input
 lm = list_stream
@@ -151,23 +151,23 @@ module _ (w : Parting) where
 
   -- ---- tokens
 
-  pub refused : {A : Type 0} (b : Bool) (x : State Input) (f : State Input → Result (A × State Input) Fault) (y : Result (A × State Input) Fault) → b ≡ false → Twins (cond b (Ok x) unexpected >>= f) y
-  refused true x f y e = absurd (true≢false e)
-  refused false x f y e = never _ _
+  pub refused : {A : Type 0} (e : Fault) (b : Bool) (x : State Input) (f : State Input → Result (A × State Input) Fault) (y : Result (A × State Input) Fault) → b ≡ false → Twins (cond b (Ok x) (Err e) >>= f) y
+  refused d true x f y e = absurd (true≢false e)
+  refused d false x f y e = never _ _
 
   pub eat_on : {A : Type 0} (k : ℕ) (o : List ℕ) (n : ℕ) (p : PlacedToken) (l : List PlacedToken) (f g : State Input → Result (A × State Input) Fault)
       → Twins (f (on o p.spot.hi (l ++ regexps w))) (g (on o p.spot.hi (l ++ slashes w))) → Twins (eat lm k (on o n (p ∷ (l ++ regexps w))) >>= f) (eat lm k (on o n (p ∷ (l ++ slashes w))) >>= g)
   unfolding eat
   eat_on k o n p l f g h = by_test (eqb p.spot.token.kind k)
     where
-      by_test : (b : Bool) → Twins (cond b (Ok (on o p.spot.hi (l ++ regexps w))) unexpected >>= f) (cond b (Ok (on o p.spot.hi (l ++ slashes w))) unexpected >>= g)
+      by_test : (b : Bool) → Twins (cond b (Ok (on o p.spot.hi (l ++ regexps w))) (unexpected lm (on o n (p ∷ (l ++ regexps w)))) >>= f) (cond b (Ok (on o p.spot.hi (l ++ slashes w))) (unexpected lm (on o n (p ∷ (l ++ slashes w)))) >>= g)
       by_test true = h
       by_test false = never _ _
 
   pub eat_at : {A : Type 0} (k : ℕ) → Plain k → (o : List ℕ) (n : ℕ) (l : List PlacedToken) (f g : State Input → Result (A × State Input) Fault)
       → ((n : ℕ) (l : List PlacedToken) → Twins (f (on o n (l ++ regexps w))) (g (on o n (l ++ slashes w)))) → Twins (eat lm k (on o n (l ++ regexps w)) >>= f) (eat lm k (on o n (l ++ slashes w)) >>= g)
   unfolding eat
-  eat_at k e o n [] f g h = refused _ _ _ _ e.0
+  eat_at k e o n [] f g h = refused _ _ _ _ _ e.0
   eat_at k e o n (p ∷ l) f g h = eat_on k o n p l f g (h p.spot.hi l)
 
   pub word_on : {A : Type 0} (c : Code) (k : ℕ) (o : List ℕ) (n : ℕ) (p : PlacedToken) (l : List PlacedToken) (f g : State Input → Result (A × State Input) Fault)
@@ -175,24 +175,24 @@ module _ (w : Parting) where
   unfolding eat_word
   word_on c k o n p l f g h = by_test (at lm k (on o n (p ∷ l)) && not (barred c.context (input lm (on o n (p ∷ l)))))
     where
-      by_test : (b : Bool) → Twins (cond b (Ok (on o p.spot.hi (l ++ regexps w))) unexpected >>= f) (cond b (Ok (on o p.spot.hi (l ++ slashes w))) unexpected >>= g)
+      by_test : (b : Bool) → Twins (cond b (Ok (on o p.spot.hi (l ++ regexps w))) (unexpected lm (on o n (p ∷ (l ++ regexps w)))) >>= f) (cond b (Ok (on o p.spot.hi (l ++ slashes w))) (unexpected lm (on o n (p ∷ (l ++ slashes w)))) >>= g)
       by_test true = h
       by_test false = never _ _
 
   pub word_at : {A : Type 0} (c : Code) (k : ℕ) → Plain k → (o : List ℕ) (n : ℕ) (l : List PlacedToken) (f g : State Input → Result (A × State Input) Fault)
       → ((n : ℕ) (l : List PlacedToken) → Twins (f (on o n (l ++ regexps w))) (g (on o n (l ++ slashes w)))) → Twins (eat_word lm c k (on o n (l ++ regexps w)) >>= f) (eat_word lm c k (on o n (l ++ slashes w)) >>= g)
   unfolding eat_word
-  word_at c k e o n [] f g h = refused _ _ _ _ (ap (λ b. b && not (barred c.context (input lm (on o n (regexps w))))) e.0)
+  word_at c k e o n [] f g h = refused _ _ _ _ _ (ap (λ b. b && not (barred c.context (input lm (on o n (regexps w))))) e.0)
   word_at c k e o n (p ∷ l) f g h = word_on c k o n p l f g (h p.spot.hi l)
 
   -- where they part
   pub eat_none : {A : Type 0} (k : ℕ) → Plain k → (o : List ℕ) (n : ℕ) (f : State Input → Result (A × State Input) Fault) (y : Result (A × State Input) Fault) → Twins (eat lm k (on o n (regexps w)) >>= f) y
   unfolding eat
-  eat_none k e o n f y = refused _ _ _ _ e.0
+  eat_none k e o n f y = refused _ _ _ _ _ e.0
 
   pub word_none : {A : Type 0} (c : Code) (k : ℕ) → Plain k → (o : List ℕ) (n : ℕ) (f : State Input → Result (A × State Input) Fault) (y : Result (A × State Input) Fault) → Twins (eat_word lm c k (on o n (regexps w)) >>= f) y
   unfolding eat_word
-  word_none c k e o n f y = refused _ _ _ _ (ap (λ b. b && not (barred c.context (input lm (on o n (regexps w))))) e.0)
+  word_none c k e o n f y = refused _ _ _ _ _ (ap (λ b. b && not (barred c.context (input lm (on o n (regexps w))))) e.0)
 
   pub name_none : {A : Type 0} (c : Code) (o : List ℕ) (n : ℕ) (f : List ℕ × State Input → Result (A × State Input) Fault) (y : Result (A × State Input) Fault) → Twins (name lm c (on o n (regexps w)) >>= f) y
   unfolding name
@@ -207,7 +207,21 @@ module _ (w : Parting) where
   unfolding name
   name_on c o n p l f g h = by_test (is_name lm c (on o n (p ∷ l))) (text (input lm (on o n (p ∷ l))))
     where
-      by_test : (b : Bool) (a : List ℕ) → Twins (cond b (Ok (a, on o p.spot.hi (l ++ regexps w))) unexpected >>= f) (cond b (Ok (a, on o p.spot.hi (l ++ slashes w))) unexpected >>= g)
+      by_test : (b : Bool) (a : List ℕ) → Twins (cond b (Ok (a, on o p.spot.hi (l ++ regexps w))) (unexpected lm (on o n (p ∷ (l ++ regexps w)))) >>= f) (cond b (Ok (a, on o p.spot.hi (l ++ slashes w))) (unexpected lm (on o n (p ∷ (l ++ slashes w)))) >>= g)
+      by_test true a = h a
+      by_test false a = never _ _
+
+  -- the same where a fault is found at a given place
+  pub placed_none : {A : Type 0} (i : ℕ) (c : Code) (o : List ℕ) (n : ℕ) (f : List ℕ × State Input → Result (A × State Input) Fault) (y : Result (A × State Input) Fault) → Twins (placed i (name lm c (on o n (regexps w))) >>= f) y
+  unfolding name
+  placed_none i c o n f y = never _ _
+
+  pub placed_on : {A : Type 0} (i j : ℕ) (c : Code) (o : List ℕ) (n : ℕ) (p : PlacedToken) (l : List PlacedToken) (f g : List ℕ × State Input → Result (A × State Input) Fault)
+      → ((a : List ℕ) → Twins (f (a, on o p.spot.hi (l ++ regexps w))) (g (a, on o p.spot.hi (l ++ slashes w)))) → Twins (placed i (name lm c (on o n (p ∷ (l ++ regexps w)))) >>= f) (placed j (name lm c (on o n (p ∷ (l ++ slashes w)))) >>= g)
+  unfolding name
+  placed_on i j c o n p l f g h = by_test (is_name lm c (on o n (p ∷ l))) (text (input lm (on o n (p ∷ l))))
+    where
+      by_test : (b : Bool) (a : List ℕ) → Twins (placed i (cond b (Ok (a, on o p.spot.hi (l ++ regexps w))) (unexpected lm (on o n (p ∷ (l ++ regexps w))))) >>= f) (placed j (cond b (Ok (a, on o p.spot.hi (l ++ slashes w))) (unexpected lm (on o n (p ∷ (l ++ slashes w))))) >>= g)
       by_test true a = h a
       by_test false a = never _ _
 
@@ -222,7 +236,7 @@ module _ (w : Parting) where
   unfolding any_word
   any_on o n p l f g h = by_test (is_word (kind (input lm (on o n (p ∷ l))))) (text (input lm (on o n (p ∷ l))))
     where
-      by_test : (b : Bool) (a : List ℕ) → Twins (cond b (Ok (a, on o p.spot.hi (l ++ regexps w))) unexpected >>= f) (cond b (Ok (a, on o p.spot.hi (l ++ slashes w))) unexpected >>= g)
+      by_test : (b : Bool) (a : List ℕ) → Twins (cond b (Ok (a, on o p.spot.hi (l ++ regexps w))) (unexpected lm (on o n (p ∷ (l ++ regexps w)))) >>= f) (cond b (Ok (a, on o p.spot.hi (l ++ slashes w))) (unexpected lm (on o n (p ∷ (l ++ slashes w)))) >>= g)
       by_test true a = h a
       by_test false a = never _ _
 
@@ -255,14 +269,14 @@ module _ (w : Parting) where
   end_at c e o n [] f g h = by_pause (pauses c e (input lm (on o n (regexps w)))) (pauses c e (input lm (on o n (slashes w)))) (pauses_same c e o n [])
       (at lm semicolon_kind (on o n (slashes w))) (plain_at semicolon_kind (refl, refl, refl) o n [])
     where
-      by_pause : (b d : Bool) → b ≡ d → (z : Bool) → false ≡ z → Twins (cond b (Ok (on o n (regexps w))) unexpected >>= f) (cond z (Ok (past lm (on o n (slashes w)))) (cond d (Ok (on o n (slashes w))) unexpected) >>= g)
+      by_pause : (b d : Bool) → b ≡ d → (z : Bool) → false ≡ z → Twins (cond b (Ok (on o n (regexps w))) (unexpected lm (on o n (regexps w))) >>= f) (cond z (Ok (past lm (on o n (slashes w)))) (cond d (Ok (on o n (slashes w))) (unexpected lm (on o n (slashes w)))) >>= g)
       by_pause true true i false j = h n []
       by_pause false d i z j = never _ _
       by_pause true false i z j = absurd (true≢false i)
       by_pause true d i true j = absurd (true≢false (sym j))
   end_at c e o n (p ∷ l) f g h = by_pause (at lm semicolon_kind (on o n (p ∷ l))) (pauses c e (input lm (on o n (p ∷ (l ++ regexps w))))) (pauses c e (input lm (on o n (p ∷ (l ++ slashes w))))) (pauses_same c e o n (p ∷ l))
     where
-      by_pause : (z b d : Bool) → b ≡ d → Twins (cond z (Ok (on o p.spot.hi (l ++ regexps w))) (cond b (Ok (on o n (p ∷ (l ++ regexps w)))) unexpected) >>= f) (cond z (Ok (on o p.spot.hi (l ++ slashes w))) (cond d (Ok (on o n (p ∷ (l ++ slashes w)))) unexpected) >>= g)
+      by_pause : (z b d : Bool) → b ≡ d → Twins (cond z (Ok (on o p.spot.hi (l ++ regexps w))) (cond b (Ok (on o n (p ∷ (l ++ regexps w)))) (unexpected lm (on o n (p ∷ (l ++ regexps w))))) >>= f) (cond z (Ok (on o p.spot.hi (l ++ slashes w))) (cond d (Ok (on o n (p ∷ (l ++ slashes w)))) (unexpected lm (on o n (p ∷ (l ++ slashes w))))) >>= g)
       by_pause true b d i = h p.spot.hi l
       by_pause false true true i = h n (p ∷ l)
       by_pause false false d i = never _ _
@@ -272,36 +286,36 @@ module _ (w : Parting) where
       → ((n : ℕ) (l : List PlacedToken) → Twins (f (on o n (l ++ regexps w))) (g (on o n (l ++ slashes w)))) → Twins (end_of lm c e (on o n (l ++ regexps w)) >>= f) (end_of lm c d (on o n (l ++ slashes w)) >>= g)
   end_as c e d i o n l f g h = subst (λ (k : ℕ). Twins (end_of lm c e (on o n (l ++ regexps w)) >>= f) (end_of lm c k (on o n (l ++ slashes w)) >>= g)) i (end_at c e o n l f g h)
 
-  -- what stands on no token is the same
-  pub twin_pure : {A B : Type 0} (x : Result B Fault) (f g : B → Result (A × State Input) Fault) → ((b : B) → Twins (f b) (g b)) → Twins (x >>= f) (x >>= g)
-  twin_pure (Ok b) f g h = h b
-  twin_pure (Err e) f g h = never _ _
+  -- what stands on no token is the same, wherever a fault is found
+  pub twin_placed : {A B : Type 0} (i j : ℕ) (x : Result B Fault) (f g : B → Result (A × State Input) Fault) → ((b : B) → Twins (f b) (g b)) → Twins (placed i x >>= f) (placed j x >>= g)
+  twin_placed i j (Ok b) f g h = h b
+  twin_placed i j (Err (Unexpected n)) f g h = never _ _
+  twin_placed i j (Err (TooDeep n)) f g h = never _ _
+
+  pub twin_found : {A : Type 0} (i j : ℕ) (x y : Result (A × State Input) Fault) → Twins x y → Twins (placed i x) (placed j y)
+  twin_found i j (Ok x) (Ok y) h = h
+  twin_found i j (Ok x) (Err (Unexpected n)) h = record { so = tt }
+  twin_found i j (Ok x) (Err (TooDeep n)) h = record { so = tt }
+  twin_found i j (Err (Unexpected n)) y h = never _ _
+  twin_found i j (Err (TooDeep n)) y h = never _ _
 
   -- ---- loops
 
-  guarded : {A : Type 0} (b d : Bool) (x y : Result (A × State Input) Fault) → Twins x y → Twins (cond b x unexpected) (cond d y unexpected)
-  guarded true true x y h = h
-  guarded false d x y h = never _ _
-  guarded true false x y h = record { so = no_second x }
-    where
-      no_second : {A : Type 0} (x : Result (A × State Input) Fault) → Both x unexpected
-      no_second (Ok x) = tt
-      no_second (Err e) = tt
+  guarded : {A : Type 0} (b d : Bool) (x y : Result (A × State Input) Fault) (e f : Fault) → Twins x y → Twins (cond b x (Err e)) (cond d y (Err f))
+  guarded true true x y e f h = h
+  guarded false d x y e f h = never _ _
+  guarded true false x y e f h = unanswered x f
 
   module _ {A : Type 0} (f g : A → Read Input (Step A)) (h : (x : A) (o : List ℕ) (n : ℕ) (l : List PlacedToken) → Twins (f x (on o n (l ++ regexps w))) (g x (on o n (l ++ slashes w)))) where
     next : (again other : A → Read Input A) → ((x : A) (o : List ℕ) (n : ℕ) (l : List PlacedToken) → Twins (again x (on o n (l ++ regexps w))) (other x (on o n (l ++ slashes w))))
         → (b d : ℕ) (a : Step A) (o : List ℕ) (n : ℕ) (l : List PlacedToken) → Twins (next_by (bound lm) again b (a, on o n (l ++ regexps w))) (next_by (bound lm) other d (a, on o n (l ++ slashes w)))
-    next again other k b d (go_on y) o n l = guarded _ _ _ _ (k y o n l)
+    next again other k b d (go_on y) o n l = guarded _ _ _ _ _ _ (k y o n l)
     next again other k b d (finished y) o n l = twin_ok y y o n l refl
 
     turns : (s t : ℕ) (x : A) (o : List ℕ) (n : ℕ) (l : List PlacedToken) → Twins (iterate_n (bound lm) s f x (on o n (l ++ regexps w))) (iterate_n (bound lm) t g x (on o n (l ++ slashes w)))
     unfolding iterate_n
     turns zero t x o n l = never _ _
-    turns (suc s) zero x o n l = second _
-      where
-        second : (r : Result (A × State Input) Fault) → Twins r unexpected
-        second (Ok r) = record { so = tt }
-        second (Err e) = record { so = tt }
+    turns (suc s) zero x o n l = unanswered _ _
     turns (suc s) (suc t) x o n l = twin_then _ _ _ _ (h x o n l) (λ a i j k. next (iterate_n (bound lm) s f) (iterate_n (bound lm) t g) (λ y a b c. turns s t y a b c) _ _ a i j k)
 
     pub iterate_twin : (x : A) (o : List ℕ) (n : ℕ) (l : List PlacedToken) → Twins (iterate (bound lm) f x (on o n (l ++ regexps w))) (iterate (bound lm) g x (on o n (l ++ slashes w)))

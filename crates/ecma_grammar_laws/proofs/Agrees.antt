@@ -5,7 +5,7 @@ use Rattle.ecma_token.specs.Tokens.{Content, Piece, Line}
 use Rattle.ecma_tree.specs.Tree.{Tree, param, rest_pat, function}
 use Rattle.ecma_syntax.specs.Input.{Code}
 use Rattle.ecma_syntax.specs.Shape.{is_default_case, is_bare_declarator}
-use Rattle.ecma_reading.specs.Source.{Fault, Unexpected, TooDeep, ◌>>=◌, unexpected, Stream, State, Read, Step, go_on, finished, next_by, iterate_n, iterate, Inner}
+use Rattle.ecma_reading.specs.Source.{Fault, Unexpected, TooDeep, ◌>>=◌, placed, Stream, State, Read, Step, go_on, finished, next_by, iterate_n, iterate, Inner}
 use Rattle.ecma_reading.specs.Expressions.{is_rest_param, pattern_of, quasi}
 use Rattle.ecma_reading.specs.Statements.{constructor_of, has_default, one_bare}
 use Rattle.ecma_reading.specs.Modules.{line_of}
@@ -16,16 +16,22 @@ pub record Agrees {A : Type 0} (x y : Result A Fault) : Type 0 where
 
 pub agree_same : {A : Type 0} (x : Result A Fault) → Agrees x x
 agree_same (Ok a) = record { so = refl }
-agree_same (Err Unexpected) = record { so = refl }
-agree_same (Err TooDeep) = record { so = tt }
+agree_same (Err (Unexpected n)) = record { so = refl }
+agree_same (Err (TooDeep n)) = record { so = tt }
 
 pub agree_equal : {A : Type 0} (x y : Result A Fault) → y ≡ x → Agrees x y
 agree_equal x y e = subst (λ z. Agrees x z) (sym e) (agree_same x)
 
 pub agree_then : {A B : Type 0} (x y : Result A Fault) (f g : A → Result B Fault) → Agrees x y → ((a : A) → Agrees (f a) (g a)) → Agrees (x >>= f) (y >>= g)
 agree_then (Ok a) y f g h k = subst (λ z. Agrees (f a) (z >>= g)) (sym h.so) (k a)
-agree_then (Err Unexpected) y f g h k = record { so = ap (λ z. z >>= g) h.so }
-agree_then (Err TooDeep) y f g h k = record { so = tt }
+agree_then (Err (Unexpected n)) y f g h k = record { so = ap (λ z. z >>= g) h.so }
+agree_then (Err (TooDeep n)) y f g h k = record { so = tt }
+
+-- the same where a fault is found at a given place
+pub agree_placed : {A : Type 0} (n : ℕ) (x y : Result A Fault) → Agrees x y → Agrees (placed n x) (placed n y)
+agree_placed n (Ok a) y h = record { so = ap (λ z. placed n z) h.so }
+agree_placed n (Err (Unexpected k)) y h = record { so = ap (λ z. placed n z) h.so }
+agree_placed n (Err (TooDeep k)) y h = record { so = tt }
 
 -- the same first
 pub agree_after : {A B : Type 0} (x : Result A Fault) (f g : A → Result B Fault) → ((a : A) → Agrees (f a) (g a)) → Agrees (x >>= f) (x >>= g)

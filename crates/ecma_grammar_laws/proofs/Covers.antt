@@ -10,7 +10,7 @@ use Rattle.ecma_syntax.specs.Shape.{is_simple, is_target, is_structured, is_plac
 use Rattle.ecma_grammar.specs.Children.{Child, child, By, IsEmpty, Expr, Listed}
 use Rattle.ecma_grammar.specs.Patterns.{Item, Property}
 use Rattle.ecma_grammar.specs.Grammar.{Produces, children}
-use Rattle.ecma_reading.specs.Source.{Fault, ◌>>=◌, unexpected}
+use Rattle.ecma_reading.specs.Source.{Fault, ◌>>=◌, unfit}
 use Rattle.ecma_reading.specs.Cover.{binds_names, all_bind, if_binds, initialised, rest_of, is_rest_item, as_prop, last_rests, to_item, to_items}
 
 -- the code of an expression's tokens alone, and of a pattern's
@@ -139,7 +139,7 @@ bound_item : (b : Bool) (c : Code) (s : Span) (p e : Tree) (ts m n r : Input) �
 bound_item false c s p e ts m n r h0 h1 h2 h3 h4 = made_item false c s p e ts m n r (ap (λ z. z || is_assigned p) h0) h1 h2 h3 h4
 bound_item true c s p e ts m n r h0 h1 h2 h3 h4 = bound (binds_names p) (λ q. turned_pat c p ts m q h1)
   where
-    bound : (x : Bool) → (x ≡ true → Produces p (patterned true c) ts m) → Holds ((cond x (Ok p) unexpected) >>= λ q. Ok (assign_pat s q e)) (IsItem true c ts r)
+    bound : (x : Bool) → (x ≡ true → Produces p (patterned true c) ts m) → Holds ((cond x (Ok p) unfit) >>= λ q. Ok (assign_pat s q e)) (IsItem true c ts r)
     bound true k = made_item true c s p e ts m n r (ap (λ z. z || false) h0) (k refl) h2 h3 h4
     bound false k = record { so = tt }
 
@@ -354,7 +354,7 @@ pub prop_spread : (k : List ℕ) (c : Code) (s : Span) (e : Tree) (ts m r : Inpu
 prop_spread k c s e ts m r t0 l h f e0 = record {
   sort = refl;
   produced = (m, t0, (l, h), e0);
-  refines = λ b. then_holds (to_item b k e) (λ p. cond (is_structured p) unexpected (rest_of s p)) (IsItem b (with_in c) m r) _ (f.so b (fine_in e c)) (λ p q.
+  refines = λ b. then_holds (to_item b k e) (λ p. cond (is_structured p) unfit (rest_of s p)) (IsItem b (with_in c) m r) _ (f.so b (fine_in e c)) (λ p q.
       if_holds (is_structured p) _ _ _ (λ _. record { so = tt }) (λ w. holds_map (rest_of s p) _ _ (λ z y. ((y.3, y.4 ∙ ap not w, y.1), λ u. absurd (true≢false u), y.2)) (rest_holds b c s p ts m r t0 q e0)));
 }
 

@@ -14,7 +14,7 @@ use Rattle.ecma_grammar.specs.Children.{child, Expr, Listed, CommaThen}
 use Rattle.ecma_grammar.specs.Expressions.{TemplateSpans, TemplateLiteral}
 use Rattle.ecma_grammar.specs.Functions.{Async, ArrowPattern, ArrowParameters, ArrowExpression}
 use Rattle.ecma_grammar.specs.Grammar.{Produces, children}
-use Rattle.ecma_reading.specs.Source.{Fault, ◌>>=◌, unexpected, State, Inner, Step, go_on, finished, iterate}
+use Rattle.ecma_reading.specs.Source.{Fault, Unexpected, TooDeep, ◌>>=◌, unfit, placed, unexpected, State, Inner, Step, go_on, finished, iterate}
 use Rattle.ecma_reading.specs.Cover.{as_prop, last_rests, to_item, to_items}
 use Rattle.ecma_reading.specs.Expressions.{Elements, Spans as Parted, quasi, quasi_end, quasi_step, template_by, arrows, arrows_at, heads_params, is_read, arrow_by, params_of, plain_element, plain_elements, last_end, joined, group_end}
 use Rattle.ecma_grammar_laws.proofs.Sure.{lm, seen, next, Sure, done, then_sure, if_sure, test_sure, only_sure, eat_sure, StepSure, loop_sure}
@@ -42,9 +42,11 @@ arrow_with c s ps _ i ts r l h = h
 
 -- ---- parameters out of elements
 
-pub then_made : {A B : Type 0} (k : List ℕ) (r : Result A Fault) (f : A → Result (B × State Input) Fault) (P : A → Type 0) (Q : B × State Input → Type 0) → Holds r P → ((x : A) → P x → Sure k (f x) Q) → Sure k (r >>= f) Q
-then_made k (Ok x) f P Q p h = h x p.so
-then_made k (Err e) f P Q p h = record { so = tt }
+-- what follows a tree that fits, wherever a fault is found
+pub then_placed : {A B : Type 0} (n : ℕ) (k : List ℕ) (r : Result A Fault) (f : A → Result (B × State Input) Fault) (P : A → Type 0) (Q : B × State Input → Type 0) → Holds r P → ((x : A) → P x → Sure k (f x) Q) → Sure k (placed n r >>= f) Q
+then_placed n k (Ok x) f P Q p h = h x p.so
+then_placed n k (Err (Unexpected i)) f P Q p h = record { so = tt }
+then_placed n k (Err (TooDeep i)) f P Q p h = record { so = tt }
 
 abbrev pub IsParams : Code → Input → Input → List Tree → Type 0
 IsParams c ts r ps = Listed false (ArrowPattern (plain c)) (plain c) right_paren_kind (children (pack ps)) ts r
@@ -108,7 +110,7 @@ paren_made : (c : Code) (start : State Input) (e : Tree) (s : State Input) → P
 paren_made c start e s h = record { produced = h; refines = λ k g. record { so = λ b f. paren_item b h } }
   where
     paren_item : (b : Bool) → Produces (paren_expr (span (lo (seen start)) s.source.last) e) (plain c) (seen start) (seen s)
-        → Holds (cond (not b && is_simple e) (Ok (expr_pat (paren_expr (span (lo (seen start)) s.source.last) e))) unexpected) (IsItem b c (seen start) (seen s))
+        → Holds (cond (not b && is_simple e) (Ok (expr_pat (paren_expr (span (lo (seen start)) s.source.last) e))) unfit) (IsItem b c (seen start) (seen s))
     paren_item true h = record { so = tt }
     paren_item false h = if_holds (is_simple e) _ _ _ (λ z. record { so = (z, (z, h)) }) (λ _. record { so = tt })
 
@@ -117,14 +119,14 @@ module _ (inner : Inner Input) (good : Sound inner) where
       → Sure s.commas (quasi_end lm inner c tagged x (quasi lm inner q (first_span (seen s))) (next s)) (Quasis tagged (plain c) ts)
   unfolding quasi_end
   quasi_end_sure c tagged ts x s b e (Piece raw cooked) z = test_sure s.commas (kind (seen (next s))) back_quote_kind _ _ _
-      (λ k. let t = tpl_element (first_span (seen s)) true raw cooked in only_sure s.commas (tagged || is_cooked t) _ _ (λ w.
+      (λ k. let t = tpl_element (first_span (seen s)) true raw cooked in only_sure _ s.commas (tagged || is_cooked t) _ _ (λ w.
       done (finished (record { exprs = x.exprs; quasis = x.quasis ++ t ∷ [] }), next (next s)) (Quasis tagged (plain c) ts)
       (record {
         so = subst (λ es. TemplateSpans tagged (plain c) (children (pack es)) (children (pack (x.quasis ++ t ∷ []))) ts (seen (next (next s)))) (append-nil x.exprs)
             (b.so [] (t ∷ []) (seen (next (next s))) (seen (next s), tt, refl, w, (refl, (z, (e, tt, refl), refl)), (k, tt, refl)));
       })))
       (λ _. eat_sure dollar_brace_kind (next s) _ _ (λ k. then_sure s.commas (inner.expr (with_in c) expression_level (next (next s))) _ _ _ (good.expr (with_in c) expression_level (next (next s)) (omega arith)) (λ v h. eat_sure right_brace_kind v.1 _ _ (λ j.
-      let t = tpl_element (first_span (seen s)) false raw cooked in only_sure v.1.commas (tagged || is_cooked t) _ _ (λ w.
+      let t = tpl_element (first_span (seen s)) false raw cooked in only_sure _ v.1.commas (tagged || is_cooked t) _ _ (λ w.
       done (go_on (record { exprs = x.exprs ++ v.0 ∷ []; quasis = x.quasis ++ t ∷ [] }), next v.1) (Quasis tagged (plain c) ts)
       (record {
         so = λ es qs r l. subst (λ y. TemplateSpans tagged (plain c) (children (pack y)) (children (pack ((x.quasis ++ t ∷ []) ++ qs))) ts r) (sym (append_assoc x.exprs (v.0 ∷ []) es))
@@ -174,12 +176,12 @@ module _ (inner : Inner Input) (good : Sound inner) where
       → ((ps : List Tree) → IsParams c (seen (next start)) (seen s) ps → Heads false c start ps s) → Sure s.commas (group_end lm inner c l start (next start) xs s) (Made c start)
   unfolding group_end
   paren_sure c l start xs s e h f = if_sure s.commas (heads_params lm inner l xs s) _ _ _
-      (λ a. then_made s.commas (params_of lm inner s.commas xs) _ (IsParams c (seen (next start)) (seen s)) _ (params_hold inner c s.commas xs (seen (next start)) (seen s) h) (λ ps q. arrow_sure c start false ps s (f ps q) (heads_arrow l xs s a)))
+      (λ a. then_placed _ s.commas (params_of lm inner s.commas xs) _ (IsParams c (seen (next start)) (seen s)) _ (params_hold inner c s.commas xs (seen (next start)) (seen s) h) (λ ps q. arrow_sure c start false ps s (f ps q) (heads_arrow l xs s a)))
       (λ _. if_sure s.commas xs.comma _ _ _ (λ _. record { so = tt }) (λ z. inside (plain_elements xs.items) (seq_holds s.commas c false xs.items (seen (next start)) (seen s) (subst (λ b. Elems (Element s.commas (with_in c)) false (plain (with_in c)) right_paren_kind b false xs.items (seen (next start)) (seen s)) z h))))
     where
       inside : (o : Option (List Tree)) → Holds_some o (IsSeq (with_in c) false (seen (next start)) (seen s) xs.items) → Sure s.commas (elim o [
-        | None ↦ unexpected
-        | Some [] ↦ unexpected
+        | None ↦ unexpected lm s
+        | Some [] ↦ unexpected lm s
         | Some (e ∷ es) ↦ Ok (paren_expr (span (lo (seen start)) s.source.last) (joined (e ∷ es) (span (lo (seen (next start))) (last_end xs.items))), s)
       ]) (Made c start)
       inside None q = record { so = tt }

@@ -10,13 +10,13 @@ use Rattle.ecma_syntax.specs.Shape.{level, is_absent, is_simple, is_place, is_st
 use Rattle.ecma_grammar.specs.Children.{child, Expr}
 use Rattle.ecma_grammar.specs.Statements.{ForOpen, ForAwaitOpen, ForRest, Clause, Over, ForExpression, ForIn, ForOf, HeadTarget, OfTarget, OneBare, Bindings, UsingBindings, is_var_word, starts_pattern, starts_using as names_using, starts_head}
 use Rattle.ecma_grammar.specs.Grammar.{Produces, children}
-use Rattle.ecma_reading.specs.Source.{Fault, unexpected, State, Inner}
+use Rattle.ecma_reading.specs.Source.{Fault, unfit, State, Inner}
 use Rattle.ecma_reading.specs.Cover.{to_item, to_head}
 use Rattle.ecma_reading.specs.Statements.{declarators_by, starts_let, starts_using, starts_await_using, sub_by, clause_by, for_rest, over_rest, in_rest, of_rest, one_bare, head_rest, for_variables, for_using, for_expression_rest, for_expression, for_head, for_by}
 use Rattle.ecma_grammar_laws.proofs.Sure.{lm, seen, next, same, Sure, done, then_sure, if_sure, test_sure, only_sure, eat_sure, word_sure}
 use Rattle.ecma_grammar_laws.proofs.Covers.{plain, by_no, Holds, Refines, IsItem}
 use Rattle.ecma_grammar_laws.proofs.Nested.{Sound, GotStmt, Made}
-use Rattle.ecma_grammar_laws.proofs.Groups.{then_made}
+use Rattle.ecma_grammar_laws.proofs.Groups.{then_placed}
 use Rattle.ecma_grammar_laws.proofs.Operators.{both_hold, array_stays, object_stays}
 use Rattle.ecma_grammar_laws.proofs.Lists.{Declarators, declarators_sure}
 use Rattle.ecma_grammar_laws.proofs.Simple.{sub_sure, present}
@@ -44,7 +44,7 @@ head_holds k c (member_expr s o p) ts r l h f = record { so = (refl, (refl, h)) 
 head_holds k c (super_prop_expr s o p) ts r l h f = record { so = (refl, (refl, h)) }
 head_holds k c (paren_expr s e) ts r l h f = simple (is_simple e) refl
   where
-    simple : (b : Bool) → is_simple e ≡ b → Holds (cond (true && b) (Ok (expr_pat (paren_expr s e))) unexpected) (IsHead c ts r)
+    simple : (b : Bool) → is_simple e ≡ b → Holds (cond (true && b) (Ok (expr_pat (paren_expr s e))) unfit) (IsHead c ts r)
     simple true q = record { so = (q, (q, h)) }
     simple false q = record { so = tt }
 head_holds k c (expr_or_spread s d e) ts r l h f = absurd (omega (arith, l))
@@ -119,8 +119,8 @@ module _ (inner : Inner Input) (good : Sound inner) where
   head_rest_sure : (c : Code) (start : State Input) (awaits : Bool) (ds : List Tree) (l : Tree) (s : State Input) → (OneBare (children (pack ds)) → MadeOf c start awaits l s) → (awaits ≡ false → OneBare (children (pack ds)) → MadeIn c start l s) → (awaits ≡ false → MadeFor c start l s)
       → Sure s.commas (head_rest lm inner c start awaits ds l s) (GotStmt c start)
   unfolding head_rest
-  head_rest_sure c start awaits ds l s f g h = test_sure s.commas (kind (seen s)) of_kind _ _ _ (λ _. only_sure s.commas (one_bare lm inner ds) _ _ (λ e. of_rest_sure c start awaits l s (f (one_bare_is inner ds e)))) (λ _.
-      if_sure s.commas awaits _ _ _ (λ _. record { so = tt }) (λ a. test_sure s.commas (kind (seen s)) in_kind _ _ _ (λ _. only_sure s.commas (one_bare lm inner ds) _ _ (λ e. in_rest_sure c start l s (g a (one_bare_is inner ds e)))) (λ _. for_rest_sure c start l s (h a))))
+  head_rest_sure c start awaits ds l s f g h = test_sure s.commas (kind (seen s)) of_kind _ _ _ (λ _. only_sure _ s.commas (one_bare lm inner ds) _ _ (λ e. of_rest_sure c start awaits l s (f (one_bare_is inner ds e)))) (λ _.
+      if_sure s.commas awaits _ _ _ (λ _. record { so = tt }) (λ a. test_sure s.commas (kind (seen s)) in_kind _ _ _ (λ _. only_sure _ s.commas (one_bare lm inner ds) _ _ (λ e. in_rest_sure c start l s (g a (one_bare_is inner ds e)))) (λ _. for_rest_sure c start l s (h a))))
 
   -- `for (`, or `for await (`
   opened : (c : Code) (start : State Input) (awaits : Bool) (s : Input) → awaits ≡ false → ForAwaitOpen awaits (plain c) (seen start) s → ForOpen (plain c) (seen start) s
@@ -151,10 +151,10 @@ module _ (inner : Inner Input) (good : Sound inner) where
   unfolding for_expression_rest
   expression_rest_sure c start awaits own e s o v l m = test_sure s.commas (kind (seen s)) of_kind _ _ _
       (λ _. if_sure s.commas (eqb (kind (seen own)) let_kind || (not awaits && (eqb (kind (seen own)) async_kind && eqb (kind2 (seen own)) of_kind))) _ _ _ (λ _. record { so = tt })
-      (λ n. then_made s.commas (to_head s.commas e) _ (IsHead (without_in c) (seen own) (seen s)) _ (head_holds s.commas (without_in c) e (seen own) (seen s) l m.produced (m.refines s.commas (same s.commas))) (λ t h.
+      (λ n. then_placed _ s.commas (to_head s.commas e) _ (IsHead (without_in c) (seen own) (seen s)) _ (head_holds s.commas (without_in c) e (seen own) (seen s) l m.produced (m.refines s.commas (same s.commas))) (λ t h.
       of_rest_sure c start awaits t s (λ p x y r q w. of_with (plain c) p awaits t x y (seen start) r h.0 (seen own, seen s, o, (not_from_false _ n, (v, h.0, h.1)), w, q)))))
       (λ _. if_sure s.commas awaits _ _ _ (λ _. record { so = tt }) (λ a. test_sure s.commas (kind (seen s)) in_kind _ _ _
-      (λ _. then_made s.commas (to_head s.commas e) _ (IsHead (without_in c) (seen own) (seen s)) _ (head_holds s.commas (without_in c) e (seen own) (seen s) l m.produced (m.refines s.commas (same s.commas))) (λ t h.
+      (λ _. then_placed _ s.commas (to_head s.commas e) _ (IsHead (without_in c) (seen own) (seen s)) _ (head_holds s.commas (without_in c) e (seen own) (seen s) l m.produced (m.refines s.commas (same s.commas))) (λ t h.
       in_rest_sure c start t s (λ p x y r q w. in_with (plain c) p t x y (seen start) r h.0 (seen own, seen s, opened c start awaits (seen own) a o, (v, h.0, h.1), w, q))))
       (λ _. for_rest_sure c start e s (λ p x y z i r q t w. for_with (plain c) p e x y z (seen start) r l (
         seen own,

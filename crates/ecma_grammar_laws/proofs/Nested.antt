@@ -12,7 +12,7 @@ use Rattle.ecma_grammar.specs.Children.{child, By, Ends}
 use Rattle.ecma_grammar.specs.Expressions.{Identifier, Bracketed}
 use Rattle.ecma_grammar.specs.Functions.{Body}
 use Rattle.ecma_grammar.specs.Grammar.{Produces, children}
-use Rattle.ecma_reading.specs.Source.{Fault, ◌>>=◌, unexpected, State, Inner, go_on, finished, end_of}
+use Rattle.ecma_reading.specs.Source.{Fault, ◌>>=◌, unfit, unexpected, State, Inner, go_on, finished, end_of}
 use Rattle.ecma_reading.specs.Cover.{to_item}
 use Rattle.ecma_reading.specs.Expressions.{Elements, no_elements, literal, only_kind, literal_by, first, element_by, after_element, element_step, elements_by, computed_by, key_by, private_by}
 use Rattle.ecma_grammar_laws.proofs.Sure.{lm, seen, next, Grows, further, Sure, done, then_sure, then_grown, sure_map, if_sure, test_sure, eat_sure, IsName, any_sure, StepSure, loop_sure}
@@ -72,7 +72,7 @@ end_sure c e s f P h = ⊎_elim
     (λ (q : eqb (kind (seen s)) semicolon_kind ≡ false). rw q (ended (pauses c e (seen s)) (λ p. h s refl (inr (eqb-false (kind (seen s)) semicolon_kind q, p, refl)))))
     (cases_Bool (eqb (kind (seen s)) semicolon_kind))
   where
-    ended : (b : Bool) → (b ≡ true → Sure s.commas (f s) P) → Sure s.commas (cond b (Ok s) unexpected >>= f) P
+    ended : (b : Bool) → (b ≡ true → Sure s.commas (f s) P) → Sure s.commas (cond b (Ok s) (unexpected lm s) >>= f) P
     ended true g = g refl
     ended false g = record { so = tt }
 
@@ -151,14 +151,14 @@ module _ (inner : Inner Input) (good : Sound inner) where
 -- ---- literals, names and keys
 
 -- a literal, or what else no pattern is made of
-pub dull : (c : Code) (s : State Input) (t : Tree) (r : State Input) → Produces t (plain c) (seen s) (seen r) → ((b : Bool) (k : List ℕ) → to_item b k t ≡ unexpected) → Made c s (t, r)
+pub dull : (c : Code) (s : State Input) (t : Tree) (r : State Input) → Produces t (plain c) (seen s) (seen r) → ((b : Bool) (k : List ℕ) → to_item b k t ≡ unfit) → Made c s (t, r)
 dull c s t r h e = record { produced = h; refines = λ k g. record { so = λ b f. subst (λ z. Holds z (IsItem b c (seen s) (seen r))) (sym (e b k)) (record { so = tt }) } }
 
 abbrev pub GotLiteral : State Input → Tree × State Input → Type 0
 GotLiteral s x = ((c : Code) → Made c s x) × (level x.0 ≡ primary_level) × ((kind (seen s) ≡ regex_kind → ⊥) → is_key x.0 ≡ true) × (kind (seen s) ≡ str_kind → is_string x.0 ≡ true)
 
 abbrev pub taken : State Input → Option Tree → Result (Tree × State Input) Fault
-taken s o = elim o [ None ↦ unexpected | Some t ↦ Ok (t, next s) ]
+taken s o = elim o [ None ↦ unexpected lm s | Some t ↦ Ok (t, next s) ]
 
 only_sure_kind : (s : State Input) (k : ℕ) (t : Tree) → (kind (seen s) ≡ k → GotLiteral s (t, next s)) → Sure s.commas (taken s (only_kind (eqb (kind (seen s)) k) t)) (GotLiteral s)
 only_sure_kind s k t h = kept (eqb (kind (seen s)) k) (λ e. h (eqb-true (kind (seen s)) k e))

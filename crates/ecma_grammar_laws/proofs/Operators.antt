@@ -10,13 +10,13 @@ use Rattle.ecma_syntax.specs.Shape.{level, ends, fits_left, is_chain, is_private
 use Rattle.ecma_grammar.specs.Children.{child, By, Expr, CommaThen}
 use Rattle.ecma_grammar.specs.Expressions.{Member, Dotted, AccessedName, ChainMember, Optional, Call}
 use Rattle.ecma_grammar.specs.Grammar.{Produces, children}
-use Rattle.ecma_reading.specs.Source.{Fault, unexpected, State, Inner, go_on, finished, operand, iterate}
+use Rattle.ecma_reading.specs.Source.{Fault, unfit, State, Inner, go_on, finished, operand, iterate}
 use Rattle.ecma_reading.specs.Cover.{has, to_item, to_items, to_target}
 use Rattle.ecma_reading.specs.Expressions.{extended, arguments_by, computed_by, private_by, template_by, prefix_by, member_name, on_chain, member_by, index_by, call_tree, call_by, chain_by, cond_by, assign_by, binary_by, step_by, loop_step, loop_by, private_in, expr_from, expr_by}
 use Rattle.ecma_grammar_laws.proofs.Sure.{lm, seen, next, same, Sure, done, then_sure, sure_map, if_sure, test_sure, only_sure, eat_sure, word_sure, any_sure, StepSure, loop_sure}
 use Rattle.ecma_grammar_laws.proofs.Covers.{plain, by_yes, Holds, then_holds, if_holds, Refines, IsItem, assign_refines}
 use Rattle.ecma_grammar_laws.proofs.Nested.{Sound, Made, AtLeast, GotExpr, dull, bracketed_is, computed_sure, private_sure}
-use Rattle.ecma_grammar_laws.proofs.Groups.{template_sure, then_made}
+use Rattle.ecma_grammar_laws.proofs.Groups.{template_sure, then_placed}
 use Rattle.ecma_grammar_laws.proofs.Prefixes.{arguments_sure, prefix_sure, template_is, update_op}
 
 -- ---- what goes on, by the kind alone
@@ -219,8 +219,8 @@ object_stays k s xs = if_holds (has s.lo.0 k) _ _ _ (λ _. record { so = tt }) (
 abbrev IsTarget : ℕ → Code → Input → Input → Tree → Type 0
 IsTarget op c ts r p = (is_target op p ≡ true) × Produces p (plain c) ts r
 
-simple_target : (op : ℕ) (c : Code) (t : Tree) (ts r : Input) → Produces t (plain c) ts r → Holds (cond (is_target_expr t && is_simple t) (Ok t) unexpected) (IsTarget op c ts r)
-simple_target op c t ts r h = if_holds (is_target_expr t && is_simple t) (Ok t) unexpected (IsTarget op c ts r) (λ e. record { so = (or_mid (is_bound_name t) (is_target_expr t && is_simple t) (eqb op assign_kind && is_structured t) e, h) }) (λ _. record { so = tt })
+simple_target : (op : ℕ) (c : Code) (t : Tree) (ts r : Input) → Produces t (plain c) ts r → Holds (cond (is_target_expr t && is_simple t) (Ok t) unfit) (IsTarget op c ts r)
+simple_target op c t ts r h = if_holds (is_target_expr t && is_simple t) (Ok t) unfit (IsTarget op c ts r) (λ e. record { so = (or_mid (is_bound_name t) (is_target_expr t && is_simple t) (eqb op assign_kind && is_structured t) e, h) }) (λ _. record { so = tt })
 
 target_holds : (op : ℕ) (k : List ℕ) (c : Code) (t : Tree) (ts r : Input) → Produces t (plain c) ts r → Refines k c t ts r → Holds (to_target op k t) (IsTarget op c ts r)
 target_holds op k c (ident s n) ts r h f = record { so = (refl, (refl, h)) }
@@ -255,7 +255,7 @@ call_with c s _ xs ts r l h = h
 member_made : (c : Code) (start : State Input) (s : Span) (o k : Tree) (r : State Input) → Produces (member_expr s o k) (plain c) (seen start) (seen r) → Made c start (member_expr s o k, r)
 member_made c start s o k r h = record { produced = h; refines = λ l g. record { so = λ b f. item b } }
   where
-    item : (b : Bool) → Holds (cond b unexpected (Ok (expr_pat (member_expr s o k)))) (IsItem b c (seen start) (seen r))
+    item : (b : Bool) → Holds (cond b unfit (Ok (expr_pat (member_expr s o k)))) (IsItem b c (seen start) (seen r))
     item true = record { so = tt }
     item false = record { so = (refl, (refl, h)) }
 
@@ -333,7 +333,7 @@ module _ (inner : Inner Input) (good : Sound inner) where
 
   assign_by_sure : (l : ℕ) (c : Code) (start : State Input) (t : Tree) (s : State Input) → Made c start (t, s) → l ≤ assignment_level → is_assign_op (kind (seen s)) ≡ true → Sure s.commas (assign_by lm inner c start t s) (GotStep l c start)
   unfolding assign_by
-  assign_by_sure l c start t s m p e = then_made s.commas (to_target (kind (seen s)) s.commas t) _ (IsTarget (kind (seen s)) c (seen start) (seen s)) _ (target_holds (kind (seen s)) s.commas c t (seen start) (seen s) m.produced (m.refines s.commas (same s.commas))) (λ a h.
+  assign_by_sure l c start t s m p e = then_placed _ s.commas (to_target (kind (seen s)) s.commas t) _ (IsTarget (kind (seen s)) c (seen start) (seen s)) _ (target_holds (kind (seen s)) s.commas c t (seen start) (seen s) m.produced (m.refines s.commas (same s.commas))) (λ a h.
       then_sure s.commas (inner.expr c assignment_level (next s)) _ _ _ (good.expr c assignment_level (next s) (omega arith)) (λ v k. let q = span (lo (seen start)) v.1.source.last in
       let y : Produces (assign_expr q (kind (seen s)) a v.0) (plain c) (seen start) (seen v.1) = (seen s, seen (next s), e, h.0, h.1, (refl, tt, refl), (k.0, k.1.produced), refl) in
       done (assign_expr q (kind (seen s)) a v.0, v.1) (GotStep l c start) (p, record { produced = y; refines = λ j g. record { so = λ b f. assign_refines b j c q (kind (seen s)) a v.0 (seen start) (seen v.1) y f } })))
@@ -358,12 +358,12 @@ module _ (inner : Inner Input) (good : Sound inner) where
       if_sure s.commas (is_assign_op (kind (seen s))) _ _ _ (λ e. assign_by_sure l c start t s m (omega (arith, at (kind (seen s)) refl, cap_assign c d (kind (seen s)) e)) e) (λ n1.
       if_sure s.commas (eqb (kind (seen s)) question_mark_kind && eqb (kind2 (seen s)) dot_kind) _ _ _ (λ e. let b = and_parts (eqb (kind (seen s)) question_mark_kind) (eqb (kind2 (seen s)) dot_kind) e in
       let q = eqb-true (kind (seen s)) question_mark_kind b.0 in
-      only_sure s.commas (leb call_level (level t)) _ _ (λ v. chain_by_sure l c start t s sp (leb-true call_level (level t) v) (omega (arith, at question_mark_kind q, cap_question c d)) (seen (next s), (q, tt, refl), (eqb-true (kind2 (seen s)) dot_kind b.1, tt, refl)))) (λ n2.
-      test_sure s.commas (kind (seen s)) question_mark_kind _ _ _ (λ e. only_sure s.commas (leb coalesce_level (level t)) _ _ (λ v. cond_by_sure l c start t s sp (leb-true coalesce_level (level t) v)
+      only_sure _ s.commas (leb call_level (level t)) _ _ (λ v. chain_by_sure l c start t s sp (leb-true call_level (level t) v) (omega (arith, at question_mark_kind q, cap_question c d)) (seen (next s), (q, tt, refl), (eqb-true (kind2 (seen s)) dot_kind b.1, tt, refl)))) (λ n2.
+      test_sure s.commas (kind (seen s)) question_mark_kind _ _ _ (λ e. only_sure _ s.commas (leb coalesce_level (level t)) _ _ (λ v. cond_by_sure l c start t s sp (leb-true coalesce_level (level t) v)
       (omega (arith, subst (λ z. l ≤ cap c z question_mark_kind) (plain_dot s t e n2) (at question_mark_kind e), cap_plain_question c)) e)) (λ n3.
-      if_sure s.commas (operates c (kind (seen s))) _ _ _ (λ e. only_sure s.commas (fits_left (kind (seen s)) t) _ _ (λ v. binary_by_sure l c start t s sp
+      if_sure s.commas (operates c (kind (seen s))) _ _ _ (λ e. only_sure _ s.commas (fits_left (kind (seen s)) t) _ _ (λ v. binary_by_sure l c start t s sp
       (omega (arith, at (kind (seen s)) refl, cap_binary c d (kind (seen s)) (not_kind (kind (seen s)) comma_kind n0) n1 (not_kind (kind (seen s)) question_mark_kind n3) e)) e v)) (λ n4.
-      if_sure s.commas (between plus_plus_kind minus_minus_kind (kind (seen s))) _ _ _ (λ e. only_sure s.commas (leb new_level (level t) && not (brk (seen s))) _ _ (λ v.
+      if_sure s.commas (between plus_plus_kind minus_minus_kind (kind (seen s))) _ _ _ (λ e. only_sure _ s.commas (leb new_level (level t) && not (brk (seen s))) _ _ (λ v.
       let b = and_parts (leb new_level (level t)) (not (brk (seen s))) v in let q = update_expr (span (lo (seen start)) (hi (seen s))) (kind (seen s)) false t in
       done (q, next s) (GotStep l c start) (
         omega (arith, at (kind (seen s)) refl, cap_update c d (kind (seen s)) (not_kind (kind (seen s)) comma_kind n0) n1 (not_kind (kind (seen s)) question_mark_kind n3) n4 e),

@@ -12,7 +12,7 @@ use Rattle.ecma_grammar.specs.Grammar.{Produces, children}
 use Rattle.ecma_reading.specs.Source.{State, Inner, Step, go_on, finished, iterate}
 use Rattle.ecma_reading.specs.Expressions.{key_by}
 use Rattle.ecma_reading.specs.Statements.{initial_pat, after_item, array_item, array_pat_by, keyed_item, named_item, pattern_prop, object_item, object_pat_by, pat_by}
-use Rattle.ecma_grammar_laws.proofs.Sure.{lm, seen, next, Sure, done, then_sure, then_any, weaken, if_sure, test_sure, eat_sure, IsName, name_sure, StepSure, loop_sure}
+use Rattle.ecma_grammar_laws.proofs.Sure.{lm, seen, next, Sure, done, then_sure, then_any, weaken, if_sure, test_sure, eat_sure, IsName, name_sure, name_placed, StepSure, loop_sure}
 use Rattle.ecma_grammar_laws.proofs.Covers.{patterned, plain, by_no, key_in, not_absent}
 use Rattle.ecma_grammar_laws.proofs.Nested.{Sound, GotPat, key_sure}
 use Rattle.ecma_grammar_laws.proofs.Functions.{Before, All_read, at_start, one_more, at_end, with_last, ListedTrees, binding_item, binding_rest}
@@ -94,9 +94,9 @@ module _ (inner : Inner Input) (good : Sound inner) where
   keyed_sure c start k m s e h t = then_sure s.commas (inner.pat (with_in c) s) _ _ _ (good.pat (with_in c) s) (λ p g. then_sure p.1.commas (initial_pat lm inner c s p.0 p.1) _ _ _ (initial_sure c s p.0 p.1 g.0 g.1) (λ q j.
       done (key_value_pat_prop (span (lo (seen start)) q.1.source.last) k q.0, q.1) (GotProp c start) (refl, refl, (seen m, seen s, (e, key_in k c (seen start) (seen m) e h), t, (j.0, j.1), j.2, refl), refl)))
 
-  named_sure : (c : Code) (s : State Input) → Sure s.commas (named_item lm inner c s) (GotProp c s)
+  named_sure : (c : Code) (r s : State Input) → Sure s.commas (named_item lm inner c r s) (GotProp c s)
   unfolding named_item
-  named_sure c s = name_sure c s _ _ (λ i. test_sure s.commas (kind (seen (next s))) assign_kind _ _ _
+  named_sure c r s = name_placed _ c s _ _ (λ i. test_sure s.commas (kind (seen (next s))) assign_kind _ _ _
       (λ e. then_sure s.commas (inner.expr (with_in c) assignment_level (next (next s))) _ _ _ (good.expr (with_in c) assignment_level (next (next s)) (omega arith)) (λ v k.
       done (assign_pat_prop (span (lo (seen s)) v.1.source.last) (binding_ident (first_span (seen s)) (ident (first_span (seen s)) (text (seen s)))) v.0, v.1) (GotProp c s)
       (refl, refl, (seen (next s), (refl, bound c s i), by_no (is_absent v.0) (seen (next s) ≡ seen v.1) ((n : Input) × Takes (patterned true (with_in c)) assign_kind (seen (next s)) n × Expr assignment_level (plain (with_in c)) (child v.0 (λ y. Produces v.0 y)) n (seen v.1)) (not_absent v.0 k.0) (seen (next (next s)), (e, tt, refl), (k.0, k.1.produced)), refl), refl)))
@@ -105,7 +105,7 @@ module _ (inner : Inner Input) (good : Sound inner) where
   pattern_prop_sure : (c : Code) (s : State Input) → Sure s.commas (pattern_prop lm inner c s) (GotProp c s)
   unfolding pattern_prop
   pattern_prop_sure c s = then_any s.commas (key_by lm inner c s) _ _ _ (key_sure inner good c s) (λ k g h. test_sure s.commas (kind (seen k.1)) colon_kind _ _ _
-      (λ e. weaken s.commas k.1.commas _ _ g (keyed_sure c s k.0 k.1 (next k.1) h.0 h.1 (e, tt, refl))) (λ _. named_sure c s))
+      (λ e. weaken s.commas k.1.commas _ _ g (keyed_sure c s k.0 k.1 (next k.1) h.0 h.1 (e, tt, refl))) (λ _. named_sure c k.1 s))
 
   prop_item_sure : (c : Code) (ts : Input) (xs : List Tree) (s : State Input) → Before (Props c) ts xs s → Sure s.commas (object_item lm inner c xs s) (StepSure (Before (Props c) ts) (All_read (Props c) ts))
   unfolding object_item

@@ -11,14 +11,14 @@ use Rattle.ecma_grammar.specs.Children.{child, IsEmpty, Sorted}
 use Rattle.ecma_grammar.specs.Expressions.{ArgumentList, ImportArguments, Yield, TemplateLiteral, is_update_op}
 use Rattle.ecma_grammar.specs.Functions.{Async, FunctionExpression, FunctionHead, ClassExpression}
 use Rattle.ecma_grammar.specs.Grammar.{Produces, children}
-use Rattle.ecma_reading.specs.Source.{unexpected, State, Inner, operand, is_name}
+use Rattle.ecma_reading.specs.Source.{unfit, State, Inner, operand, is_name}
 use Rattle.ecma_reading.specs.Expressions.{is_unary, literal_by, elements_by, computed_by, function_by, template_by, heads_params, arrows_at, is_async_param, params_of, group_by, ident_end, arguments_by, async_group, function_expr_name, function_expr_by, async_by, class_expr_by, new_end, callee_by, new_by, super_end, fits_import, import_by, unary_by, update_by, await_by, ends_yield, yield_end, yield_by, word_by, fixed, keyword_by, prefix_by}
 use Rattle.ecma_grammar_laws.proofs.Sure.{lm, seen, next, same, Sure, done, then_sure, sure_map, if_sure, test_sure, only_sure, eat_sure, word_sure, IsName, name_sure, any_sure}
 use Rattle.ecma_grammar_laws.proofs.Covers.{plain, by_yes, by_no, Holds, IsItem, Elems, IsNil, Element, first_item, listed}
 use Rattle.ecma_grammar_laws.proofs.Nested.{Sound, Made, named, elements_sure, literal_sure, dull, bracketed_is, computed_sure}
 use Rattle.ecma_grammar_laws.proofs.Functions.{function_sure, star_sure}
 use Rattle.ecma_grammar_laws.proofs.Primaries.{element_sorted, and_no, soft, array_sure, object_sure}
-use Rattle.ecma_grammar_laws.proofs.Groups.{IsTemplate, template_sure, then_made, IsParams, params_hold, arrow_sure, at_arrow, heads_arrow, paren_sure}
+use Rattle.ecma_grammar_laws.proofs.Groups.{IsTemplate, template_sure, then_placed, IsParams, params_hold, arrow_sure, at_arrow, heads_arrow, paren_sure}
 
 -- ---- names
 
@@ -101,7 +101,7 @@ module _ (inner : Inner Input) (good : Sound inner) where
       let h = w.so xs.1.commas (same xs.1.commas) in
       if_sure xs.1.commas (heads_params lm inner l xs.0 xs.1 && not (brk (seen (next s)))) _ _ _
       (λ a. let b = and_parts (heads_params lm inner l xs.0 xs.1) (not (brk (seen (next s)))) a in
-      then_made xs.1.commas (params_of lm inner xs.1.commas xs.0) _ (IsParams c (seen (next (next s))) (seen xs.1)) _ (params_hold inner c xs.1.commas xs.0 (seen (next (next s))) (seen xs.1) h) (λ ps q.
+      then_placed _ xs.1.commas (params_of lm inner xs.1.commas xs.0) _ (IsParams c (seen (next (next s))) (seen xs.1)) _ (params_hold inner c xs.1.commas xs.0 (seen (next (next s))) (seen xs.1) h) (λ ps q.
       arrow_sure inner good c s true ps xs.1 (seen (next s), ((e, soft c async_kind s e and_no, tt, refl), not-true (brk (seen (next s))) b.1), inr (seen (next (next s)), (o, tt, refl), q)) (heads_arrow inner good l xs.0 xs.1 b.0)))
       (λ _. let t = call_expr (span (lo (seen s)) xs.1.source.last) (ident (first_span (seen s)) (text (seen s))) (pack xs.0.items) in
       done (t, xs.1) (Made c s) (dull c s t xs.1 (seen (next s), refl, (omega arith, named c s (soft_name c s e)), (seen (next (next s)), (o, tt, refl), argument_list_in xs.1.commas c xs.0.comma xs.0.items (seen (next (next s))) (seen xs.1) h), refl) (λ b k. refl))))
@@ -214,7 +214,7 @@ module _ (inner : Inner Input) (good : Sound inner) where
       made_super c s r o k h = record { produced = h; refines = λ l g. record { so = λ b f. super_item b h } }
         where
           super_item : (b : Bool) → Produces (super_prop_expr (span (lo (seen s)) r.source.last) o k) (plain c) (seen s) (seen r)
-              → Holds (cond b unexpected (Ok (expr_pat (super_prop_expr (span (lo (seen s)) r.source.last) o k)))) (IsItem b c (seen s) (seen r))
+              → Holds (cond b unfit (Ok (expr_pat (super_prop_expr (span (lo (seen s)) r.source.last) o k)))) (IsItem b c (seen s) (seen r))
           super_item true h = record { so = tt }
           super_item false h = record { so = (refl, (refl, h)) }
 
@@ -224,7 +224,7 @@ module _ (inner : Inner Input) (good : Sound inner) where
       (λ z. word_sure c meta_kind (next (next s)) _ _ (λ k w. let p = span (lo (seen s)) (hi (seen (next (next s)))) in
       done (meta_prop_expr p import_kind, next (next (next s))) (Made c s) (dull c s (meta_prop_expr p import_kind) (next (next (next s))) (seen (next s), seen (next (next s)), (e, b, tt, refl), (z, tt, refl), inr (refl, (k, w, tt, refl)), refl) (λ b k. refl))))
       (λ _. eat_sure left_paren_kind (next s) _ _ (λ z. then_sure s.commas (elements_by lm inner c false right_paren_kind (next (next s))) _ _ _ (elements_sure inner good c false right_paren_kind (next (next s))) (λ xs w.
-      only_sure xs.1.commas (fits_import lm inner c xs.0) _ _ (λ q. let p = call_expr (span (lo (seen s)) xs.1.source.last) (import (first_span (seen s))) (pack xs.0.items) in
+      only_sure _ xs.1.commas (fits_import lm inner c xs.0) _ _ (λ q. let p = call_expr (span (lo (seen s)) xs.1.source.last) (import (first_span (seen s))) (pack xs.0.items) in
       done (p, xs.1) (Made c s) (dull c s p xs.1 (seen (next s), seen (next (next s)), (e, b, tt, refl), refl, (z, tt, refl), import_arguments inner xs.1.commas c xs.0.comma xs.0.items (seen (next (next s))) (seen xs.1) (w.so xs.1.commas (same xs.1.commas)) q, refl) (λ b k. refl)))))))
 
   unary_sure : (c : Code) (s : State Input) → is_unary (kind (seen s)) ≡ true → Sure s.commas (unary_by lm inner c s) (Made c s)

@@ -14,7 +14,7 @@ use Rattle.ecma_grammar.specs.Grammar.{Produces, children}
 use Rattle.ecma_reading.specs.Source.{State, Inner, finished, iterate}
 use Rattle.ecma_reading.specs.Cover.{has, last_rests, to_items}
 use Rattle.ecma_reading.specs.Expressions.{Elements, no_elements, elements_by, noted, array_by, key_by, function_by, setter_parameter, pattern_of, method_prop_by, getter_by, setter_by, prop_rest, prop_by, prop_step, object_by, is_accessor, is_async_head}
-use Rattle.ecma_grammar_laws.proofs.Sure.{lm, seen, next, Grows, same, further, Sure, done, gives, then_sure, then_grown, then_any, weaken, if_sure, test_sure, eat_sure, name_sure, StepSure, loop_sure}
+use Rattle.ecma_grammar_laws.proofs.Sure.{lm, seen, next, Grows, same, further, Sure, done, gives, then_sure, then_grown, then_any, weaken, if_sure, test_sure, eat_sure, name_placed, StepSure, loop_sure}
 use Rattle.ecma_grammar_laws.proofs.Covers.{patterned, plain, then_holds, if_holds, Element, Prop, prop_value, prop_spread, prop_cover, prop_name, listed, items_refine}
 use Rattle.ecma_grammar_laws.proofs.Nested.{Sound, Made, body_is, named, takes, Front, Whole, starts, closed, after_sure, elements_sure, key_sure}
 use Rattle.ecma_grammar_laws.proofs.Functions.{function_sure, setter_sure, pattern_spelled, star_sure}
@@ -131,7 +131,7 @@ module _ (inner : Inner Input) (good : Sound inner) where
           refines = λ b. record { so = tt };
         },
       ))))
-      (λ _. name_sure c s _ _ (λ i. test_sure s.commas (kind (seen (next s))) assign_kind _ _ _
+      (λ _. name_placed _ c s _ _ (λ i. test_sure s.commas (kind (seen (next s))) assign_kind _ _ _
       (λ z. then_sure s.commas (inner.expr (with_in c) assignment_level (next (next s))) _ _ _ (good.expr (with_in c) assignment_level (next (next s)) (omega arith)) (λ v w.
       done (assign_prop (span (lo (seen s)) v.1.source.last) (ident (first_span (seen s)) (text (seen s))) v.0, v.1) (GotProp c s) (refl, λ l u. prop_cover l c (span (lo (seen s)) v.1.source.last) (first_span (seen s)) (text (seen s)) v.0 (seen s) (seen (next s)) (seen (next (next s))) (seen v.1) (named c s i) (z, tt, refl) w.0 w.1.produced refl)))
       (λ _. done (ident (first_span (seen s)) (text (seen s)), next s) (GotProp c s) (refl, λ l u. prop_name l c (first_span (seen s)) (text (seen s)) (seen s) (seen (next s)) (named c s i))))))

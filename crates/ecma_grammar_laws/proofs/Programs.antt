@@ -11,11 +11,11 @@ use Rattle.ecma_syntax.specs.Shape.{ends, is_absent, is_string, is_item, is_modu
 use Rattle.ecma_grammar.specs.Children.{child, By, Sorted, Items, Ends, AtEnd, is_ident, is_module_item}
 use Rattle.ecma_grammar.specs.Modules.{ExportName, NamedImports, AfterDefault, ImportClause, Attributes, Source, NamedExports, ExportDefault, Specified, Hashbang}
 use Rattle.ecma_grammar.specs.Grammar.{Produces, children}
-use Rattle.ecma_reading.specs.Source.{unexpected, State, Inner, go_on, finished, iterate, is_nil, ended as at_end_of, operand}
+use Rattle.ecma_reading.specs.Source.{placed, bound, unexpected, State, Inner, go_on, finished, iterate, is_nil, ended as at_end_of, operand}
 use Rattle.ecma_reading.specs.Statements.{Body as BodyState, starts_async}
 use Rattle.ecma_reading.specs.Expressions.{literal_by, object_by, function_expr_by, class_expr_by}
 use Rattle.ecma_reading.specs.Modules.{From, string_by, export_name_by, local_by, attributes_by, source_by, named_import, named_export_item, specifier_step, specifiers_by, star_import, import_end, import_rest, import_default, import_decl_by, export_default, export_star, export_list, starts_declaration, export_by, starts_import, item_by, program_item, program_step, line_of, program_rest, program_by}
-use Rattle.ecma_grammar_laws.proofs.Sure.{lm, seen, next, Sure, done, then_sure, then_any, weaken, sure_map, if_sure, test_sure, only_sure, eat_sure, word_sure, any_sure, name_sure, StepSure, loop_sure}
+use Rattle.ecma_grammar_laws.proofs.Sure.{lm, seen, next, Sure, done, then_sure, then_any, weaken, sure_placed, sure_map, if_sure, test_sure, only_sure, eat_sure, word_sure, any_sure, name_sure, StepSure, loop_sure}
 use Rattle.ecma_grammar_laws.proofs.Covers.{plain, by_no}
 use Rattle.ecma_grammar_laws.proofs.Nested.{Sound, named, end_sure, literal_sure}
 use Rattle.ecma_grammar_laws.proofs.Functions.{Before, All_read, at_start, one_more, at_end, with_last, ListedTrees}
@@ -68,7 +68,7 @@ module _ (inner : Inner Input) (good : Sound inner) where
   attributes_sure : (c : Code) (s : State Input) → Sure s.commas (attributes_by lm inner c s) (λ x. (is_attributes x.0 ≡ true) × Produces x.0 (plain c) (seen s) (seen x.1))
   unfolding attributes_by
   attributes_sure c s = test_sure s.commas (kind (seen s)) left_brace_kind _ _ _
-      (λ e. then_sure s.commas (object_by lm inner c s) _ _ _ (object_sure inner good c s e) (λ o h. only_sure o.1.commas (is_attributes o.0) _ _ (λ z. done o _ (z, h.produced)))) (λ _. record { so = tt })
+      (λ e. then_sure s.commas (object_by lm inner c s) _ _ _ (object_sure inner good c s e) (λ o h. only_sure _ o.1.commas (is_attributes o.0) _ _ (λ z. done o _ (z, h.produced)))) (λ _. record { so = tt })
 
   source_sure : (c : Code) (s : State Input) → Sure s.commas (source_by lm inner c s) (GotFrom c s)
   unfolding source_by
@@ -110,7 +110,7 @@ module _ (inner : Inner Input) (good : Sound inner) where
           refl,
         ),
       )))))
-      (λ _. then_sure s.commas (local_by lm inner c s) _ _ _ (local_sure c s) (λ l k. done (import_named_specifier (span (lo (seen s)) l.1.source.last) l.0 absent, l.1) (GotSpecifier is_named_import c s) (refl, refl, (k, refl)))))
+      (λ _. then_sure s.commas (placed (bound lm n.1) (local_by lm inner c s)) _ _ _ (sure_placed (bound lm n.1) s.commas _ _ (local_sure c s)) (λ l k. done (import_named_specifier (span (lo (seen s)) l.1.source.last) l.0 absent, l.1) (GotSpecifier is_named_import c s) (refl, refl, (k, refl)))))
 
   named_export_sure : (c : Code) (s : State Input) → Sure s.commas (named_export_item lm inner c s) (GotSpecifier is_named_export c s)
   unfolding named_export_item
@@ -260,7 +260,7 @@ module _ (inner : Inner Input) (good : Sound inner) where
       test_sure s.commas (kind (seen (next s))) default_kind _ _ _ (λ _. word_sure c default_kind (next s) _ _ (λ z w. export_default_sure c s (operand lm (next (next s))) (seen (next s), (e, b, tt, refl), (z, w, tt, refl)))) (λ _.
       test_sure s.commas (kind (seen (next s))) mul_kind _ _ _ (λ _. export_star_sure c s (next s) (e, b, tt, refl)) (λ _.
       test_sure s.commas (kind (seen (next s))) left_brace_kind _ _ _ (λ _. export_list_sure c s (next s) (e, b, tt, refl)) (λ _.
-      if_sure s.commas (starts_declaration lm inner (in_list c) (next s)) _ _ _ (λ _. then_sure s.commas (inner.stmt (in_list c) (next s)) _ _ _ (good.stmt (in_list c) (next s)) (λ d h. only_sure d.1.commas (is_exportable d.0) _ _ (λ z.
+      if_sure s.commas (starts_declaration lm inner (in_list c) (next s)) _ _ _ (λ _. then_sure s.commas (inner.stmt (in_list c) (next s)) _ _ _ (good.stmt (in_list c) (next s)) (λ d h. only_sure _ d.1.commas (is_exportable d.0) _ _ (λ z.
       done (export_decl (span (lo (seen s)) d.1.source.last) d.0, d.1) (GotItem c s) (refl, (seen (next s), (e, b, tt, refl), z, h.1, refl))))) (λ _. record { so = tt })))))
 
   -- ---- programs
@@ -309,6 +309,6 @@ module _ (inner : Inner Input) (good : Sound inner) where
   unfolding program_by
   program_sure modules c s = test_sure s.commas (kind (seen s)) shebang_kind _ _ _ (λ e. hashed e (content (seen s)) refl) (λ _. program_rest_sure modules c s None s refl)
     where
-      hashed : kind (seen s) ≡ shebang_kind → (x : Content) → content (seen s) ≡ x → Sure s.commas (elim (line_of lm inner x) [ None ↦ unexpected | Some l ↦ program_rest lm inner modules c s (Some l) (next s) ]) (GotProgram modules c s)
+      hashed : kind (seen s) ≡ shebang_kind → (x : Content) → content (seen s) ≡ x → Sure s.commas (elim (line_of lm inner x) [ None ↦ unexpected lm s | Some l ↦ program_rest lm inner modules c s (Some l) (next s) ]) (GotProgram modules c s)
       hashed e (Line l) q = program_rest_sure modules c s (Some l) (next s) (q, (e, tt, refl))
       hashed e _ q = record { so = tt }

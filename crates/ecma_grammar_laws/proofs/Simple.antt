@@ -60,11 +60,11 @@ module _ (inner : Inner Input) (good : Sound inner) where
 
   pub sub_sure : (c : Code) (s : State Input) → Sure s.commas (sub_by lm inner c false s) (λ x. Sub (plain c) (child x.0 (λ y. Produces x.0 y)) (seen s) (seen x.1))
   unfolding sub_by
-  sub_sure c s = then_sure s.commas (inner.stmt (alone c) s) _ _ _ (good.stmt (alone c) s) (λ t h. only_sure t.1.commas (is_statement t.0 || (false && (not (is_strict c) && is_plain_function t.0))) _ _ (λ e. done t _ (or_false (is_statement t.0) e, h.1)))
+  sub_sure c s = then_sure s.commas (inner.stmt (alone c) s) _ _ _ (good.stmt (alone c) s) (λ t h. only_sure _ t.1.commas (is_statement t.0 || (false && (not (is_strict c) && is_plain_function t.0))) _ _ (λ e. done t _ (or_false (is_statement t.0) e, h.1)))
 
   pub either_sure : (c : Code) (s : State Input) → Sure s.commas (sub_by lm inner c true s) (λ x. SubOrFunction (plain c) (child x.0 (λ y. Produces x.0 y)) (seen s) (seen x.1))
   unfolding sub_by
-  either_sure c s = then_sure s.commas (inner.stmt (alone c) s) _ _ _ (good.stmt (alone c) s) (λ t h. only_sure t.1.commas (is_statement t.0 || (true && (not (is_strict c) && is_plain_function t.0))) _ _ (λ e. done t _ (e, h.1)))
+  either_sure c s = then_sure s.commas (inner.stmt (alone c) s) _ _ _ (good.stmt (alone c) s) (λ t h. only_sure _ t.1.commas (is_statement t.0 || (true && (not (is_strict c) && is_plain_function t.0))) _ _ (λ e. done t _ (e, h.1)))
 
   pub with_sure : (c : Code) (s : State Input) → Sure s.commas (with_by lm inner c s) (GotStmt c s)
   unfolding with_by

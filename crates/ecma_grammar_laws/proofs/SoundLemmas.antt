@@ -5,7 +5,7 @@ use Rattle.ecma_syntax.specs.Input.{Input, Code, script_code, module_code}
 use Rattle.ecma_syntax.specs.Operators.{new_level, member_level}
 use Rattle.ecma_syntax.specs.Shape.{level, is_clean}
 use Rattle.ecma_grammar.specs.Children.{By}
-use Rattle.ecma_reading.specs.Source.{Fault, Unexpected, State, ◌>>=◌}
+use Rattle.ecma_reading.specs.Source.{Fault, State, ◌>>=◌}
 use Rattle.ecma_reading.specs.Modules.{program_by}
 use Rattle.ecma_reading.specs.Reading.{readers, finish, read_program, read_list}
 use Rattle.ecma_grammar_laws.specs.Laws.{OfLevel, ExpressionsSound, PatternsSound, StatementsSound, ClassesSound, ProgramsSound, ListsSound}
@@ -48,13 +48,13 @@ abbrev IsOk : Result Tree Fault → Type 0
 IsOk (Ok t) = Unit {0}
 IsOk (Err e) = ⊥
 
-cleaned : (b : Bool) (u t : Tree) → cond {A = Result Tree Fault} b (Ok u) (Err Unexpected) ≡ Ok t → (b ≡ true) × (u ≡ t)
-cleaned true u t e = (refl, ap (tree_or u) e)
-cleaned false u t e = absurd (subst IsOk (sym e) tt)
+cleaned : (b : Bool) (u t : Tree) (f : Fault) → cond {A = Result Tree Fault} b (Ok u) (Err f) ≡ Ok t → (b ≡ true) × (u ≡ t)
+cleaned true u t f e = (refl, ap (tree_or u) e)
+cleaned false u t f e = absurd (subst IsOk (sym e) tt)
 
-derived : (x : Result (Tree × State Input) Fault) (k : List ℕ) (c : Code) (ts : Input) (t : Tree) → Sure k x (λ y. Produces y.0 (plain c) ts (seen y.1)) → (x >>= finish) ≡ Ok t → (r : Input) × Derives t (plain c) ts r
+derived : (x : Result (Tree × State Input) Fault) (k : List ℕ) (c : Code) (ts : Input) (t : Tree) → Sure k x (λ y. Produces y.0 (plain c) ts (seen y.1)) → (x >>= finish lm) ≡ Ok t → (r : Input) × Derives t (plain c) ts r
 unfolding finish
-derived (Ok y) k c ts t h e = let w = cleaned (is_clean y.0) y.0 t e in (seen y.1, (subst (λ z. Produces z (plain c) ts (seen y.1)) w.1 h.so.1, subst (λ z. is_clean z ≡ true) w.1 w.0))
+derived (Ok y) k c ts t h e = let w = cleaned (is_clean y.0) y.0 t _ e in (seen y.1, (subst (λ z. Produces z (plain c) ts (seen y.1)) w.1 h.so.1, subst (λ z. is_clean z ≡ true) w.1 w.0))
 derived (Err f) k c ts t h e = absurd (subst IsOk (sym e) tt)
 
 pub lists_sound : ListsSound

@@ -1,5 +1,5 @@
 -- Any statement or declaration produces what it is read of.
-use Rattle.std.proofs.Common.{◌≡◌, ℕ, Bool, true, false, not, ◌&&◌, ◌||◌, cond, eqb, leb, List, Option, Some, Result, refl, sym, ap, subst, true≢false, arith}
+use Rattle.std.proofs.Common.{◌≡◌, ℕ, Bool, true, false, not, ◌&&◌, ◌||◌, cond, eqb, leb, List, Option, Some, Result, Err, refl, sym, ap, subst, true≢false, arith}
 use Rattle.std.proofs.lemmas.Bool.{eqb-true, and_parts, not-true, ne_eqb, or_from}
 use Rattle.ecma_token.specs.declared.place.Span.{Span}
 use Rattle.ecma_token.specs.Kinds.{left_bracket_kind, left_brace_kind, semicolon_kind, colon_kind, await_kind, break_kind, continue_kind, debugger_kind, do_kind, for_kind, function_kind, if_kind, return_kind, switch_kind, throw_kind, try_kind, var_kind, let_kind, const_kind, while_kind, with_kind, class_kind, async_kind, using_kind}
@@ -11,7 +11,7 @@ use Rattle.ecma_grammar.specs.Children.{child, is_ident}
 use Rattle.ecma_grammar.specs.Functions.{Async, FunctionDeclaration, ClassDeclaration}
 use Rattle.ecma_grammar.specs.Statements.{is_var_word, starts_expression_statement, UsingBindings}
 use Rattle.ecma_grammar.specs.Grammar.{Produces, children}
-use Rattle.ecma_reading.specs.Source.{Fault, unexpected, State, Inner, operand}
+use Rattle.ecma_reading.specs.Source.{Fault, State, Inner, operand}
 use Rattle.ecma_reading.specs.Expressions.{function_by}
 use Rattle.ecma_reading.specs.Statements.{block_by, starts_variables, variables_by, starts_using, starts_await_using, using_by, declarators_by, function_decl_by, class_decl_by, sub_by, statement_class, labelled_by, expression_by, starts_async, keyword_stmt, stmt_by, stmt_from}
 use Rattle.ecma_grammar_laws.proofs.Sure.{lm, seen, next, Sure, done, then_sure, sure_map, at_commas, if_sure, test_sure, only_sure, word_sure, name_sure}
@@ -77,8 +77,8 @@ module _ (inner : Inner Input) (good : Sound inner) where
       (λ z. let y = and_parts (is_name e.0) (eqb (kind (seen e.1)) colon_kind) z in labelled_sure c s e.0 e.1 (label_ident e.0 y.0) h.1.produced (eqb-true (kind (seen e.1)) colon_kind y.1))
       (λ _. end_sure c (statement_class lm inner c s e.0) e.1 _ _ (λ r q z. ended e.1 r (expr_stmt (span (lo (seen s)) r.source.last) e.0) (GotStmt c s) q (refl, (seen e.1, starts_plain s a b d f n, (h.0, h.1.produced), z, refl))))))
 
-  refused : (l : Bool) (k : List ℕ) (x : Result (Tree × State Input) Fault) (P : Tree × State Input → Type 0) → Sure k x P → Sure k (cond l x unexpected) P
-  refused l k x P h = only_sure k l x P (λ _. h)
+  refused : (e : Fault) (l : Bool) (k : List ℕ) (x : Result (Tree × State Input) Fault) (P : Tree × State Input → Type 0) → Sure k x P → Sure k (cond l x (Err e)) P
+  refused e l k x P h = only_sure e k l x P (λ _. h)
 
   keyword_sure : (c : Code) (s : State Input) → (kind (seen s) ≡ left_brace_kind → ⊥) → Sure s.commas (keyword_stmt lm inner c s) (GotStmt c s)
   unfolding keyword_stmt
@@ -96,9 +96,9 @@ module _ (inner : Inner Input) (good : Sound inner) where
       test_sure s.commas (kind (seen s)) with_kind _ _ _ (λ _. with_sure inner good c s) (λ _.
       test_sure s.commas (kind (seen s)) debugger_kind _ _ _ (λ _. debugger_sure inner good c s) (λ _.
       test_sure s.commas (kind (seen s)) function_kind _ _ _ (λ _. function_sure_by c s false s refl) (λ nf.
-      test_sure s.commas (kind (seen s)) class_kind _ _ _ (λ _. refused c.listed s.commas _ _ (class_sure c s)) (λ nc.
+      test_sure s.commas (kind (seen s)) class_kind _ _ _ (λ _. refused _ c.listed s.commas _ _ (class_sure c s)) (λ nc.
       if_sure s.commas (starts_async lm inner s) _ _ _ (λ z. let b = and_parts (eqb (kind (seen s)) async_kind) (eqb (kind2 (seen s)) function_kind && not (brk2 (seen s))) z in let d = and_parts (eqb (kind2 (seen s)) function_kind) (not (brk2 (seen s))) b.1 in
-      let e = eqb-true (kind (seen s)) async_kind b.0 in refused c.listed s.commas _ _ (function_sure_by c s true (next s) ((e, soft c async_kind s e and_no, tt, refl), not-true (brk2 (seen s)) d.1))) (λ na.
+      let e = eqb-true (kind (seen s)) async_kind b.0 in refused _ c.listed s.commas _ _ (function_sure_by c s true (next s) ((e, soft c async_kind s e and_no, tt, refl), not-true (brk2 (seen s)) d.1))) (λ na.
       if_sure s.commas (starts_variables lm inner c s) _ _ _ (λ z. variables_sure c s (listed_word (eqb (kind (seen s)) var_kind) c.listed (eqb (kind (seen s)) let_kind) (eqb (kind (seen s)) const_kind) _ z)) (λ _.
       if_sure s.commas (c.listed && starts_using lm inner c s) _ _ _ (λ z. let b = and_parts c.listed (starts_using lm inner c s) z in
       let d = and_parts c.syntax.explicit_resource_management _ b.1 in let i = and_parts (eqb (kind (seen s)) using_kind) (may_name (kind2 (seen s)) && not (brk2 (seen s))) d.1 in let j = and_parts (may_name (kind2 (seen s))) (not (brk2 (seen s))) i.1 in

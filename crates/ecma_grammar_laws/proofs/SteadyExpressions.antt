@@ -6,10 +6,10 @@ use Rattle.ecma_tree.specs.Tree.{Tree, this_expr, ident, setter_prop, bool_lit, 
 use Rattle.ecma_syntax.specs.Input.{Code, kind, kind2, brk, barred, lo, text, content, is_word, has_in, with_in, by, in_body, in_arrow, turned_strict, in_list}
 use Rattle.ecma_syntax.specs.Operators.{expression_level, assignment_level, coalesce_level, unary_level, call_level, member_level, binary_level, right_level, is_assign_op, operates, goes_expr, between}
 use Rattle.ecma_syntax.specs.Shape.{level, ends, fits_left, is_chain}
-use Rattle.ecma_reading.specs.Source.{◌>>=◌, Stream, State, input, past, operand, bound, spanned, at, eat, eat_word, is_name, name, Inner}
+use Rattle.ecma_reading.specs.Source.{◌>>=◌, placed, Stream, State, input, past, operand, bound, spanned, at, eat, eat_word, is_name, name, Inner}
 use Rattle.ecma_reading.specs.Cover.{to_target}
 use Rattle.ecma_reading.specs.Expressions.{first, literal_by, element_by, after_element, element_step, elements_by, array_by, computed_by, key_by, private_by, parameter_by, parameter_step, parameters_by, function_by, setter_parameter, is_accessor, is_async_head, star, method_prop_by, getter_by, setter_by, prop_rest, prop_by, prop_step, object_by, quasi, quasi_end, quasi_step, template_by, arrows_at, heads_params, is_async_param, arrow_by, params_of, group_end, group_by, ident_end, arguments_by, async_group, function_expr_name, function_expr_by, async_by, class_expr_by, new_end, callee_by, new_by, super_end, import_by, unary_by, update_by, await_by, ends_yield, yield_end, yield_by, word_by, fixed, keyword_by, prefix_by, member_name, member_by, index_by, call_by, chain_by, cond_by, assign_by, binary_by, step_by, loop_step, loop_by, private_in, expr_from, expr_by, Elements, Spans, is_unary, no_elements}
-use Rattle.ecma_grammar_laws.proofs.Agrees.{Agrees, agree_same, agree_equal, agree_then, agree_after, agree_if, agree_by, agree_iterate, Steady, same_rest, same_pattern, same_quasi}
+use Rattle.ecma_grammar_laws.proofs.Agrees.{Agrees, agree_same, agree_equal, agree_then, agree_placed, agree_after, agree_if, agree_by, agree_iterate, Steady, same_rest, same_pattern, same_quasi}
 
 module _ {S : Type 0} (m : Stream S) (few many : Inner S) (same : Steady few many) where
   pub literal_by_steady : (s : State S) → Agrees (literal_by m few s) (literal_by m many s)
@@ -86,7 +86,7 @@ module _ {S : Type 0} (m : Stream S) (few many : Inner S) (same : Steady few man
 
   pub prop_rest_steady : (c : Code) (s : State S) (k : Tree) (r : State S) → Agrees (prop_rest m few c s k r) (prop_rest m many c s k r)
   unfolding prop_rest
-  prop_rest_steady c s k r = agree_if (at m colon_kind r) _ _ _ _ (agree_then _ _ _ _ (same.expr (with_in c) assignment_level (past m r)) (λ v. agree_same _)) (agree_if (at m left_paren_kind r) _ _ _ _ (agree_then _ _ _ _ (function_by_steady c (lo (input m s)) false false r) (λ f. agree_same _)) (agree_after (name m c s) _ _ (λ n. agree_if (at m assign_kind n.1) _ _ _ _ (agree_then _ _ _ _ (same.expr (with_in c) assignment_level (past m n.1)) (λ e. agree_same _)) (agree_same _))))
+  prop_rest_steady c s k r = agree_if (at m colon_kind r) _ _ _ _ (agree_then _ _ _ _ (same.expr (with_in c) assignment_level (past m r)) (λ v. agree_same _)) (agree_if (at m left_paren_kind r) _ _ _ _ (agree_then _ _ _ _ (function_by_steady c (lo (input m s)) false false r) (λ f. agree_same _)) (agree_after (placed (bound m r) (name m c s)) _ _ (λ n. agree_if (at m assign_kind n.1) _ _ _ _ (agree_then _ _ _ _ (same.expr (with_in c) assignment_level (past m n.1)) (λ e. agree_same _)) (agree_same _))))
 
   pub prop_by_steady : (c : Code) (s : State S) → Agrees (prop_by m few c s) (prop_by m many c s)
   unfolding prop_by
@@ -122,7 +122,7 @@ module _ {S : Type 0} (m : Stream S) (few many : Inner S) (same : Steady few man
 
   pub group_end_steady : (c : Code) (l : ℕ) (start : State S) (open_ : State S) (xs : Elements) (s : State S) → Agrees (group_end m few c l start open_ xs s) (group_end m many c l start open_ xs s)
   unfolding group_end params_of
-  group_end_steady c l start open_ xs s = agree_if (heads_params m few l xs s) _ _ _ _ (agree_then _ _ _ _ (params_of_steady s.commas xs) (λ ps. arrow_by_steady c start false ps s)) (agree_same _)
+  group_end_steady c l start open_ xs s = agree_if (heads_params m few l xs s) _ _ _ _ (agree_then _ _ _ _ (agree_placed (bound m s) _ _ (params_of_steady s.commas xs)) (λ ps. arrow_by_steady c start false ps s)) (agree_same _)
 
   pub group_by_steady : (c : Code) (l : ℕ) (s : State S) → Agrees (group_by m few c l s) (group_by m many c l s)
   unfolding group_by
@@ -138,7 +138,7 @@ module _ {S : Type 0} (m : Stream S) (few many : Inner S) (same : Steady few man
 
   pub async_group_steady : (c : Code) (l : ℕ) (start : State S) (s : State S) → Agrees (async_group m few c l start s) (async_group m many c l start s)
   unfolding async_group params_of
-  async_group_steady c l start s = agree_then _ _ _ _ (elements_by_steady (with_in c) false right_paren_kind (past m s)) (λ xs. agree_if (heads_params m few l xs.0 xs.1 && not (brk (input m s))) _ _ _ _ (agree_then _ _ _ _ (params_of_steady xs.1.commas xs.0) (λ ps. arrow_by_steady c start true ps xs.1)) (agree_same _))
+  async_group_steady c l start s = agree_then _ _ _ _ (elements_by_steady (with_in c) false right_paren_kind (past m s)) (λ xs. agree_if (heads_params m few l xs.0 xs.1 && not (brk (input m s))) _ _ _ _ (agree_then _ _ _ _ (agree_placed (bound m xs.1) _ _ (params_of_steady xs.1.commas xs.0)) (λ ps. arrow_by_steady c start true ps xs.1)) (agree_same _))
 
   pub function_expr_name_steady : (c : Code) (start : State S) (generator : Bool) (async : Bool) (s : State S) → Agrees (function_expr_name m few c start generator async s) (function_expr_name m many c start generator async s)
   unfolding function_expr_name
@@ -237,7 +237,7 @@ module _ {S : Type 0} (m : Stream S) (few many : Inner S) (same : Steady few man
 
   pub assign_by_steady : (c : Code) (start : State S) (t : Tree) (s : State S) → Agrees (assign_by m few c start t s) (assign_by m many c start t s)
   unfolding assign_by
-  assign_by_steady c start t s = agree_after (to_target (kind (input m s)) s.commas t) _ _ (λ p. agree_then _ _ _ _ (same.expr c assignment_level (past m s)) (λ e. agree_same _))
+  assign_by_steady c start t s = agree_after (placed (bound m s) (to_target (kind (input m s)) s.commas t)) _ _ (λ p. agree_then _ _ _ _ (same.expr c assignment_level (past m s)) (λ e. agree_same _))
 
   pub binary_by_steady : (c : Code) (start : State S) (t : Tree) (s : State S) → Agrees (binary_by m few c start t s) (binary_by m many c start t s)
   unfolding binary_by

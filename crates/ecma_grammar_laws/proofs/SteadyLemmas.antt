@@ -11,7 +11,7 @@ use Rattle.ecma_grammar_laws.proofs.SteadyExpressions.{expr_by_steady}
 use Rattle.ecma_grammar_laws.proofs.SteadyStatements.{pat_by_steady, stmt_from_steady, body_by_steady, class_tail_by_steady}
 use Rattle.ecma_grammar_laws.proofs.SteadyModules.{program_by_steady}
 
-deep_first : {A : Type 0} (y : Result A Fault) → Agrees (Err TooDeep) y
+deep_first : {A : Type 0} {n : ℕ} (y : Result A Fault) → Agrees (Err (TooDeep n)) y
 deep_first y = record { so = tt }
 
 pub readers_steady : {S : Type 0} (m : Stream S) (d e : ℕ) → d ≤ e → Steady (readers m d) (readers m e)
@@ -29,7 +29,7 @@ readers_steady m (suc d) (suc e) h = let n = readers_steady m d e (omega (arith,
 -- the same of any source
 pub programs_keep : {S : Type 0} (m : Stream S) (d e : ℕ) (modules : Bool) (syntax : EsSyntax) (s : S) → d ≤ e → Agrees (read_program m d modules syntax s) (read_program m e modules syntax s)
 unfolding read_program
-programs_keep m d e modules syntax s h = agree_then _ _ _ _ (program_by_steady m (readers m d) (readers m e) (readers_steady m d e h) modules (if modules then module_code syntax else script_code syntax) (record { source = s; commas = [] })) (λ x. agree_same (finish x))
+programs_keep m d e modules syntax s h = agree_then _ _ _ _ (program_by_steady m (readers m d) (readers m e) (readers_steady m d e h) modules (if modules then module_code syntax else script_code syntax) (record { source = s; commas = [] })) (λ x. agree_same (finish m x))
 
 pub limits_keep : LimitsKeep
 unfolding read_list

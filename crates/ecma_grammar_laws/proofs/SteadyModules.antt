@@ -9,7 +9,7 @@ use Rattle.ecma_reading.specs.Expressions.{first}
 use Rattle.ecma_reading.specs.Statements.{Body, starts_async}
 use Rattle.ecma_reading.specs.Modules.{string_by, export_name_by, local_by, attributes_by, source_by, named_import, named_export_item, specifier_step, specifiers_by, star_import, import_end, import_rest, import_default, import_decl_by, export_default, export_star, export_list, starts_declaration, export_by, starts_import, item_by, program_item, program_step, line_of, program_rest, program_by}
 use Rattle.ecma_grammar_laws.proofs.SteadyExpressions.{literal_by_steady, object_by_steady, function_expr_by_steady, class_expr_by_steady, expr_by_steady}
-use Rattle.ecma_grammar_laws.proofs.Agrees.{Agrees, agree_same, agree_equal, agree_then, agree_after, agree_if, agree_by, agree_iterate, Steady, same_line}
+use Rattle.ecma_grammar_laws.proofs.Agrees.{Agrees, agree_same, agree_equal, agree_then, agree_placed, agree_after, agree_if, agree_by, agree_iterate, Steady, same_line}
 
 module _ {S : Type 0} (m : Stream S) (few many : Inner S) (same : Steady few many) where
   pub string_by_steady : (s : State S) → Agrees (string_by m few s) (string_by m many s)
@@ -34,7 +34,7 @@ module _ {S : Type 0} (m : Stream S) (few many : Inner S) (same : Steady few man
 
   pub named_import_steady : (c : Code) (s : State S) → Agrees (named_import m few c s) (named_import m many c s)
   unfolding named_import
-  named_import_steady c s = agree_then _ _ _ _ (export_name_by_steady s) (λ n. agree_if (at m as_kind n.1) _ _ _ _ (agree_after (eat_word m c as_kind n.1) _ _ (λ a. agree_then _ _ _ _ (local_by_steady c a) (λ l. agree_same _))) (agree_then _ _ _ _ (local_by_steady c s) (λ l. agree_same _)))
+  named_import_steady c s = agree_then _ _ _ _ (export_name_by_steady s) (λ n. agree_if (at m as_kind n.1) _ _ _ _ (agree_after (eat_word m c as_kind n.1) _ _ (λ a. agree_then _ _ _ _ (local_by_steady c a) (λ l. agree_same _))) (agree_then _ _ _ _ (agree_placed (bound m n.1) _ _ (local_by_steady c s)) (λ l. agree_same _)))
 
   pub named_export_item_steady : (c : Code) (s : State S) → Agrees (named_export_item m few c s) (named_export_item m many c s)
   unfolding named_export_item
@@ -104,6 +104,6 @@ module _ {S : Type 0} (m : Stream S) (few many : Inner S) (same : Steady few man
   unfolding program_by
   program_by_steady modules c s = agree_if (at m shebang_kind s) _ _ _ _ (rw (same_line m few many (content (input m s))) (by_line (line_of m few (content (input m s))))) (program_rest_steady modules c s None s)
     where
-      by_line : (o : Option (List ℕ)) → Agrees {A = Tree × State S} (elim o [ None ↦ unexpected | Some l ↦ program_rest m few modules c s (Some l) (past m s) ]) (elim o [ None ↦ unexpected | Some l ↦ program_rest m many modules c s (Some l) (past m s) ])
+      by_line : (o : Option (List ℕ)) → Agrees {A = Tree × State S} (elim o [ None ↦ unexpected m s | Some l ↦ program_rest m few modules c s (Some l) (past m s) ]) (elim o [ None ↦ unexpected m s | Some l ↦ program_rest m many modules c s (Some l) (past m s) ])
       by_line None = agree_same _
       by_line (Some l) = program_rest_steady modules c s (Some l) (past m s)

@@ -6,7 +6,7 @@ use Rattle.ecma_tree.specs.Tree.{Tree, pack, break_stmt, continue_stmt, for_in_s
 use Rattle.ecma_syntax.specs.Input.{Code, kind, kind2, brk, brk2, barred, lo, dots_at, rest, with_in, without_in, in_list, alone, in_body, in_field, in_static, turned_strict}
 use Rattle.ecma_syntax.specs.Operators.{expression_level, assignment_level, new_level, starts_key, key_end}
 use Rattle.ecma_syntax.specs.Shape.{is_name, is_structured, is_default_case, constructs, field_end}
-use Rattle.ecma_reading.specs.Source.{◌>>=◌, Stream, State, input, past, operand, bound, spanned, at, eat, eat_word, name, Inner}
+use Rattle.ecma_reading.specs.Source.{placed, ◌>>=◌, Stream, State, input, past, operand, bound, spanned, at, eat, eat_word, name, Inner}
 use Rattle.ecma_reading.specs.Cover.{to_head}
 use Rattle.ecma_reading.specs.Expressions.{is_async_head}
 use Rattle.ecma_reading.specs.Statements.{initial_pat, after_item, array_item, array_pat_by, keyed_item, named_item, pattern_prop, object_item, object_pat_by, pat_by, block_step, block_rest, block_by, body_item, body_step, body_by, declarator_by, declarator_step, declarators_by, starts_let, starts_variables, variables_by, starts_using, starts_await_using, using_by, function_decl_by, class_decl_by, field_value, class_key, class_method_by, class_getter, class_setter, accessor_by, field_or_method, generator_member, member_rest, starts_static, static_by, member_step, members_by, class_tail_by, in_parens, sub_by, with_by, while_by, do_by, branched, else_by, if_step, if_by, ends_here, return_by, throw_by, label_by, jump_by, debugger_by, case_step, case_rest, case_by, cases_step, switch_by, catch_by, finally_by, try_by, clause_by, for_rest, over_rest, in_rest, of_rest, head_rest, for_variables, for_using, for_expression_rest, for_expression, for_head, for_by, labelled_by, expression_by, starts_async, keyword_stmt, stmt_by, stmt_from, Body, Chain}
@@ -34,13 +34,13 @@ module _ {S : Type 0} (m : Stream S) (few many : Inner S) (same : Steady few man
   unfolding keyed_item
   keyed_item_steady c start k s = agree_then _ _ _ _ (same.pat (with_in c) s) (λ p. agree_then _ _ _ _ (initial_pat_steady c s p.0 p.1) (λ q. agree_same _))
 
-  pub named_item_steady : (c : Code) (s : State S) → Agrees (named_item m few c s) (named_item m many c s)
+  pub named_item_steady : (c : Code) (r s : State S) → Agrees (named_item m few c r s) (named_item m many c r s)
   unfolding named_item
-  named_item_steady c s = agree_after (name m c s) _ _ (λ n. agree_if (at m assign_kind n.1) _ _ _ _ (agree_then _ _ _ _ (same.expr (with_in c) assignment_level (past m n.1)) (λ e. agree_same _)) (agree_same _))
+  named_item_steady c r s = agree_after (placed (bound m r) (name m c s)) _ _ (λ n. agree_if (at m assign_kind n.1) _ _ _ _ (agree_then _ _ _ _ (same.expr (with_in c) assignment_level (past m n.1)) (λ e. agree_same _)) (agree_same _))
 
   pub pattern_prop_steady : (c : Code) (s : State S) → Agrees (pattern_prop m few c s) (pattern_prop m many c s)
   unfolding pattern_prop
-  pattern_prop_steady c s = agree_then _ _ _ _ (key_by_steady m few many same c s) (λ k. agree_if (at m colon_kind k.1) _ _ _ _ (keyed_item_steady c s k.0 (past m k.1)) (named_item_steady c s))
+  pattern_prop_steady c s = agree_then _ _ _ _ (key_by_steady m few many same c s) (λ k. agree_if (at m colon_kind k.1) _ _ _ _ (keyed_item_steady c s k.0 (past m k.1)) (named_item_steady c k.1 s))
 
   pub object_item_steady : (c : Code) (xs : List Tree) (s : State S) → Agrees (object_item m few c xs s) (object_item m many c xs s)
   unfolding object_item
@@ -276,7 +276,7 @@ module _ {S : Type 0} (m : Stream S) (few many : Inner S) (same : Steady few man
 
   pub for_expression_rest_steady : (c : Code) (start : State S) (awaits : Bool) (own : State S) (e : Tree) (s : State S) → Agrees (for_expression_rest m few c start awaits own e s) (for_expression_rest m many c start awaits own e s)
   unfolding for_expression_rest
-  for_expression_rest_steady c start awaits own e s = agree_if (at m of_kind s) _ _ _ _ (agree_if (at m let_kind own || (not awaits && (at m async_kind own && (kind2 (input m own) == of_kind)))) _ _ _ _ (agree_same _) (agree_after (to_head s.commas e) _ _ (λ l. of_rest_steady c start awaits l s))) (agree_if (awaits) _ _ _ _ (agree_same _) (agree_if (at m in_kind s) _ _ _ _ (agree_after (to_head s.commas e) _ _ (λ l. in_rest_steady c start l s)) (for_rest_steady c start e s)))
+  for_expression_rest_steady c start awaits own e s = agree_if (at m of_kind s) _ _ _ _ (agree_if (at m let_kind own || (not awaits && (at m async_kind own && (kind2 (input m own) == of_kind)))) _ _ _ _ (agree_same _) (agree_after (placed (bound m s) (to_head s.commas e)) _ _ (λ l. of_rest_steady c start awaits l s))) (agree_if (awaits) _ _ _ _ (agree_same _) (agree_if (at m in_kind s) _ _ _ _ (agree_after (placed (bound m s) (to_head s.commas e)) _ _ (λ l. in_rest_steady c start l s)) (for_rest_steady c start e s)))
 
   pub for_expression_steady : (c : Code) (start : State S) (awaits : Bool) (s : State S) → Agrees (for_expression m few c start awaits s) (for_expression m many c start awaits s)
   unfolding for_expression

@@ -2,7 +2,7 @@
 use Rattle.std.proofs.Common.{◌≡◌, ℕ, zero, suc, Bool, true, false, not, ◌&&◌, cond, eqb, ltb, List, Result, Ok, Err, refl, sym, subst}
 use Rattle.std.proofs.lemmas.Bool.{eqb-true, eqb-false, and_parts, not-true}
 use Rattle.ecma_syntax.specs.Input.{Input, Code, kind, text, is_word, no_name, barred}
-use Rattle.ecma_reading.specs.Source.{Fault, ◌>>=◌, unexpected, Stream, list_stream, State, Read, input, past, bound, eat, eat_word, is_name, name, any_word, Step, go_on, finished, next_by, iterate_n, iterate}
+use Rattle.ecma_reading.specs.Source.{Fault, Unexpected, TooDeep, ◌>>=◌, placed, unexpected, Stream, list_stream, State, Read, input, past, bound, eat, eat_word, is_name, name, any_word, Step, go_on, finished, next_by, iterate_n, iterate}
 use Rattle.ecma_reading.specs.Cover.{has}
 
 -- the source of a list, and the tokens to come
@@ -67,6 +67,12 @@ pub then_any : {A B : Type 0} (k : List ℕ) (r : Result (A × State Input) Faul
 then_any k (Ok x) f P Q p h = h x p.so.0 p.so.1
 then_any k (Err e) f P Q p h = record { so = tt }
 
+-- what is answered, where a fault is found at a given place
+pub sure_placed : {A : Type 0} (n : ℕ) (k : List ℕ) (r : Result (A × State Input) Fault) (P : A × State Input → Type 0) → Sure k r P → Sure k (placed n r) P
+sure_placed n k (Ok x) P h = h
+sure_placed n k (Err (Unexpected i)) P h = record { so = tt }
+sure_placed n k (Err (TooDeep i)) P h = record { so = tt }
+
 pub at_commas : {A : Type 0} (k l : List ℕ) (r : Result (A × State Input) Fault) (P : A × State Input → Type 0) → l ≡ k → Sure l r P → Sure k r P
 at_commas k l r P e h = subst (λ j. Sure j r P) e h
 
@@ -82,9 +88,9 @@ pub test_sure : {A : Type 0} (k : List ℕ) (m n : ℕ) (x y : Result (A × Stat
 test_sure k m n x y P h o = if_sure k _ _ _ _ (λ e. h (eqb-true m n e)) (λ e. o (eqb-false m n e))
 
 -- what a reading refuses where a test fails
-pub only_sure : {A : Type 0} (k : List ℕ) (b : Bool) (x : Result (A × State Input) Fault) (P : A × State Input → Type 0) → (b ≡ true → Sure k x P) → Sure k (cond b x unexpected) P
-only_sure k true x P h = h refl
-only_sure k false x P h = record { so = tt }
+pub only_sure : {A : Type 0} (e : Fault) (k : List ℕ) (b : Bool) (x : Result (A × State Input) Fault) (P : A × State Input → Type 0) → (b ≡ true → Sure k x P) → Sure k (cond b x (Err e)) P
+only_sure e k true x P h = h refl
+only_sure e k false x P h = record { so = tt }
 
 -- ---- tokens
 
@@ -92,7 +98,7 @@ pub eat_sure : {A : Type 0} (k : ℕ) (s : State Input) (f : State Input → Res
 unfolding eat
 eat_sure k s f P h = eaten (eqb (kind (seen s)) k) (λ e. h (eqb-true (kind (seen s)) k e))
   where
-    eaten : (b : Bool) → (b ≡ true → Sure s.commas (f (next s)) P) → Sure s.commas (cond b (Ok (next s)) unexpected >>= f) P
+    eaten : (b : Bool) → (b ≡ true → Sure s.commas (f (next s)) P) → Sure s.commas (cond b (Ok (next s)) (unexpected lm s) >>= f) P
     eaten true h = h refl
     eaten false h = record { so = tt }
 
@@ -102,7 +108,7 @@ unfolding eat_word
 word_sure c k s f P h = eaten (eqb (kind (seen s)) k && not (barred c.context (seen s)))
     (λ e. let b = and_parts (eqb (kind (seen s)) k) (not (barred c.context (seen s))) e in h (eqb-true (kind (seen s)) k b.0) (not-true (barred c.context (seen s)) b.1))
   where
-    eaten : (b : Bool) → (b ≡ true → Sure s.commas (f (next s)) P) → Sure s.commas (cond b (Ok (next s)) unexpected >>= f) P
+    eaten : (b : Bool) → (b ≡ true → Sure s.commas (f (next s)) P) → Sure s.commas (cond b (Ok (next s)) (unexpected lm s) >>= f) P
     eaten true h = h refl
     eaten false h = record { so = tt }
 
@@ -117,7 +123,20 @@ name_sure c s f P h = named (is_name lm c s)
     let d = and_parts (not (no_name c.context (kind (seen s)))) (not (barred c.context (seen s))) b.1 in
     h (b.0, not-true (no_name c.context (kind (seen s))) d.0, not-true (barred c.context (seen s)) d.1))
   where
-    named : (b : Bool) → (b ≡ true → Sure s.commas (f (text (seen s), next s)) P) → Sure s.commas (cond b (Ok (text (seen s), next s)) unexpected >>= f) P
+    named : (b : Bool) → (b ≡ true → Sure s.commas (f (text (seen s), next s)) P) → Sure s.commas (cond b (Ok (text (seen s), next s)) (unexpected lm s) >>= f) P
+    named true h = h refl
+    named false h = record { so = tt }
+
+-- the same, where a fault is found at a given place
+pub name_placed : {A : Type 0} (n : ℕ) (c : Code) (s : State Input) (f : List ℕ × State Input → Result (A × State Input) Fault) (P : A × State Input → Type 0)
+    → (IsName c s → Sure s.commas (f (text (seen s), next s)) P) → Sure s.commas (placed n (name lm c s) >>= f) P
+unfolding name
+name_placed n c s f P h = named (is_name lm c s)
+    (λ e. let b = and_parts (is_word (kind (seen s))) (not (no_name c.context (kind (seen s))) && not (barred c.context (seen s))) e in
+    let d = and_parts (not (no_name c.context (kind (seen s)))) (not (barred c.context (seen s))) b.1 in
+    h (b.0, not-true (no_name c.context (kind (seen s))) d.0, not-true (barred c.context (seen s)) d.1))
+  where
+    named : (b : Bool) → (b ≡ true → Sure s.commas (f (text (seen s), next s)) P) → Sure s.commas (placed n (cond b (Ok (text (seen s), next s)) (unexpected lm s)) >>= f) P
     named true h = h refl
     named false h = record { so = tt }
 
@@ -126,7 +145,7 @@ pub any_sure : {A : Type 0} (s : State Input) (f : List ℕ × State Input → R
 unfolding any_word
 any_sure s f P h = named (is_word (kind (seen s))) h
   where
-    named : (b : Bool) → (b ≡ true → Sure s.commas (f (text (seen s), next s)) P) → Sure s.commas (cond b (Ok (text (seen s), next s)) unexpected >>= f) P
+    named : (b : Bool) → (b ≡ true → Sure s.commas (f (text (seen s), next s)) P) → Sure s.commas (cond b (Ok (text (seen s), next s)) (unexpected lm s) >>= f) P
     named true h = h refl
     named false h = record { so = tt }
 
@@ -139,7 +158,7 @@ StepSure I F (finished x, r) = F x r
 module _ {A : Type 0} (step : A → Read Input (Step A)) (I F : A → State Input → Type 0) (good : (x : A) (s : State Input) → I x s → Sure s.commas (step x s) (StepSure I F)) where
   after : (again : A → State Input → Result (A × State Input) Fault) (b : ℕ) (y : Step A × State Input) → ((z : A) (r : State Input) → I z r → Sure r.commas (again z r) (λ y. F y.0 y.1)) → StepSure I F y
       → Sure y.1.commas (next_by (bound lm) again b y) (λ y. F y.0 y.1)
-  after again b (go_on z, r) h p = only_sure r.commas (ltb (bound lm r) b) _ _ (λ _. h z r p)
+  after again b (go_on z, r) h p = only_sure _ r.commas (ltb (bound lm r) b) _ _ (λ _. h z r p)
   after again b (finished z, r) h p = done (z, r) _ p
 
   loop_n : (n : ℕ) (x : A) (s : State Input) → I x s → Sure s.commas (iterate_n (bound lm) n step x s) (λ y. F y.0 y.1)

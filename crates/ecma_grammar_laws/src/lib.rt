@@ -20,7 +20,7 @@ pub fn sound_law()
 {}
 
 /// Law: what is read at one limit is read at every larger one, and a token that is unexpected at one
-/// limit is so at every larger one, whatever the source of tokens, and whether or not a tree produces them.
+/// limit is so at every larger one, at the same place, whatever the source of tokens, and whether or not a tree produces them.
 #[tactic(auto)]
 pub fn steady_law()
     ensures limits { LimitsKeep }

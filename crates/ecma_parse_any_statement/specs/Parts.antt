@@ -19,8 +19,8 @@ module _ {S : Type 0} (m : Stream S) (inner : Inner S) where
   unfoldable pub declared_stmt : Code → Read S Tree
   declared_stmt c s =
       if at m function_kind s then reads.function_decl_by m inner c s false s
-      else (if at m class_kind s then (if c.listed then reads.class_decl_by m inner c s else unexpected)
-      else (if reads.starts_async m inner s then (if c.listed then reads.function_decl_by m inner c s true (past m s) else unexpected)
+      else (if at m class_kind s then (if c.listed then reads.class_decl_by m inner c s else unexpected m s)
+      else (if reads.starts_async m inner s then (if c.listed then reads.function_decl_by m inner c s true (past m s) else unexpected m s)
       else variable_stmt c s))
 
   -- a statement that leaves a place, or one of the others (clause 14)

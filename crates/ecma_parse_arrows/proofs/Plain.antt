@@ -4,7 +4,7 @@ use Rattle.std.proofs.lemmas.List.{append-nil}
 use Rattle.ecma_token.specs.declared.place.Span.{Span}
 use Rattle.ecma_tree.specs.Tree.{Tree, pack, trees_by, more, seq_expr}
 use Rattle.ecma_tree.specs.Places.{place_of}
-use Rattle.ecma_reading.specs.Source.{unexpected, ◌>>=◌}
+use Rattle.ecma_reading.specs.Source.{unfit, ◌>>=◌}
 use Rattle.ecma_reading.specs.Expressions.{joined, last_end, plain_element, plain_elements}
 use Rattle.ecma_parse_arrows.specs.Groups.{found, group_tree, grouped, joined_or_none, plain_from, plain_list}
 
@@ -95,7 +95,7 @@ plain_starts xs = go (plain_elements xs) ∙ sym (from_is [] xs)
     go None = refl
     go (Some es) = refl
 
-pub group_none : {A : Type 0} (f : A → Tree) (lo : ℕ) (xs : List A) → xs ≡ [] → group_tree lo (map f xs) ≡ unexpected
+pub group_none : {A : Type 0} (f : A → Tree) (lo : ℕ) (xs : List A) → xs ≡ [] → group_tree lo (map f xs) ≡ unfit
 unfolding group_tree
 group_none f lo xs e = rw e refl
 

@@ -4,7 +4,7 @@ use Rattle.ecma_token.specs.declared.place.Span.{Span}
 use Rattle.ecma_token_source.specs.Machine as tokens
 use Rattle.ecma_tree.specs.Tree.{Tree, paren_expr}
 use Rattle.ecma_syntax.specs.Input.{Code, lo, hi, first_span, span, text}
-use Rattle.ecma_reading.specs.Source.{Fault, unexpected, ◌>>=◌, Stream, State, Inner, input, past, spanned}
+use Rattle.ecma_reading.specs.Source.{Fault, placed, unexpected, ◌>>=◌, Stream, State, Inner, bound, input, past, spanned}
 use Rattle.ecma_reading.specs.Expressions.{Elements, arrow_by, heads_params, joined, last_end, params_of, plain_elements, async_by, async_group, function_expr_by, function_expr_name, group_end, ident_end}
 use Rattle.ecma_parse_state.specs.Cursors.{Cursor, stream_of}
 use Rattle.ecma_parse_state.specs.States.{from, from_span}
@@ -36,13 +36,13 @@ module _ {S : Type 0} (m : Stream S) (inner : Inner S) (c : Code) (a b : State S
   group_is : (l : ℕ) (o : State S) (xs : Elements) (r : State S) → group_end m inner c l a o xs r ≡ group_rest m inner c l a (lo (input m o)) xs r
   unfolding group_end group_rest group_tree
   group_is l o xs r =
-      ap (λ (t : Result (Tree × State S) Fault). if heads_params m inner l xs r then (params_of m inner r.commas xs >>= λ ps. arrow_by m inner c a false ps r) else (if xs.comma then unexpected else t)) (go (plain_elements xs.items))
+      ap (λ (t : Result (Tree × State S) Fault). if heads_params m inner l xs r then (placed (bound m r) (params_of m inner r.commas xs) >>= λ ps. arrow_by m inner c a false ps r) else (if xs.comma then unexpected m r else t)) (go (plain_elements xs.items))
     where
       go : (es : Option (List Tree)) → elim es [
-        | None ↦ unexpected
-        | Some [] ↦ unexpected
+        | None ↦ unexpected m r
+        | Some [] ↦ unexpected m r
         | Some (e ∷ es) ↦ Ok (paren_expr (spanned m a r) (joined (e ∷ es) (span (lo (input m o)) (last_end xs.items))), r)
-      ] ≡ ◌>>=◌ {B = Tree × State S} (joined_or_none (lo (input m o)) (last_end xs.items) es) (λ t. Ok (paren_expr (spanned m a r) t, r))
+      ] ≡ ◌>>=◌ {B = Tree × State S} (placed (bound m r) (joined_or_none (lo (input m o)) (last_end xs.items) es)) (λ t. Ok (paren_expr (spanned m a r) t, r))
       go None = refl
       go (Some []) = refl
       go (Some (e ∷ es)) = refl

@@ -3,14 +3,14 @@ use Rattle.std.specs.Prelude.{ℕ, true, false, not, ◌&&◌, if◌then◌else�
 use Rattle.ecma_token.specs.Kinds.{function_kind, left_paren_kind, right_paren_kind}
 use Rattle.ecma_tree.specs.Tree.{Tree, pack, call_expr, ident, binding_ident}
 use Rattle.ecma_syntax.specs.Input.{Code, barred, brk, with_in}
-use Rattle.ecma_reading.specs.Source.{◌>>=◌, Stream, State, Read, Inner, input, past, spanned, at, name}
+use Rattle.ecma_reading.specs.Source.{◌>>=◌, Stream, State, Read, Inner, input, past, spanned, at, name, placed, bound}
 use Rattle.ecma_reading.specs.Expressions.{arrow_by, elements_by, first, function_expr_by, heads_params, ident_end, is_async_param, params_of}
 
 module _ {S : Type 0} (m : Stream S) (inner : Inner S) where
   -- `async` and a parenthesis: a call of the name, or an arrow's parameters (15.8, 15.9)
   unfoldable pub async_call : Code → ℕ → State S → List ℕ → Read S Tree
   async_call c l start n s = elements_by m inner (with_in c) false right_paren_kind (past m s) >>= λ xs.
-      if heads_params m inner l xs.0 xs.1 && not (brk (input m s)) then (params_of m inner xs.1.commas xs.0 >>= λ ps. arrow_by m inner c start true ps xs.1)
+      if heads_params m inner l xs.0 xs.1 && not (brk (input m s)) then (placed (bound m xs.1) (params_of m inner xs.1.commas xs.0) >>= λ ps. arrow_by m inner c start true ps xs.1)
       else Ok (call_expr (spanned m start xs.1) (ident (first m inner start) n) (pack xs.0.items), xs.1)
 
   -- a name and an arrow (15.9)

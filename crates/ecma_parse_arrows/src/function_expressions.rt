@@ -33,7 +33,7 @@ pub fn function_expr_name<'a, I: Tokens<'a> + Drop, N: Nested<'a, I>>(
     is_async: bool,
 ) -> Result<FnExpr, Failure>
     requires ready { N.ready nested.now }
-    ensures value { Gives (λ x. (view_fn_expr inner x, state_of I.state p.new)) result (reads.function_expr_name (stream_of I.machine) (N.reads nested.now I.State I.machine) (code_of code) (from start.0) generator is_async (state_of I.state p.old)) }
+    ensures value { Gives (λ x. (view_fn_expr inner x, state_of I.state p.new)) (spec.bound (stream_of I.machine) (state_of I.state p.new)) result (reads.function_expr_name (stream_of I.machine) (N.reads nested.now I.State I.machine) (code_of code) (from start.0) generator is_async (state_of I.state p.old)) }
     ensures fits { IfOk result (λ x. fits_fn_expr (λ p. p) x) }
     ensures shorter { Falls result (spec.bound (stream_of I.machine) (state_of I.state p.new)) (spec.bound (stream_of I.machine) (state_of I.state p.old)) }
 {
@@ -63,7 +63,7 @@ pub fn function_expr<'a, I: Tokens<'a> + Drop, N: Nested<'a, I>>(
     is_async: bool,
 ) -> Result<FnExpr, Failure>
     requires ready { N.ready nested.now }
-    ensures value { Gives (λ x. (view_fn_expr inner x, state_of I.state p.new)) result (reads.function_expr_by (stream_of I.machine) (N.reads nested.now I.State I.machine) (code_of code) (from start.0) is_async (state_of I.state p.old)) }
+    ensures value { Gives (λ x. (view_fn_expr inner x, state_of I.state p.new)) (spec.bound (stream_of I.machine) (state_of I.state p.new)) result (reads.function_expr_by (stream_of I.machine) (N.reads nested.now I.State I.machine) (code_of code) (from start.0) is_async (state_of I.state p.old)) }
     ensures fits { IfOk result (λ x. fits_fn_expr (λ p. p) x) }
     ensures shorter { Falls result (spec.bound (stream_of I.machine) (state_of I.state p.new)) (spec.bound (stream_of I.machine) (state_of I.state p.old)) }
 {
@@ -82,7 +82,7 @@ pub fn function_operand<'a, I: Tokens<'a> + Drop, N: Nested<'a, I>>(
     is_async: bool,
 ) -> Result<Operand, Failure>
     requires ready { N.ready nested.now }
-    ensures value { Gives (λ x. (tree_of x, state_of I.state p.new)) result (reads.function_expr_by (stream_of I.machine) (N.reads nested.now I.State I.machine) (code_of code) (from start.0) is_async (state_of I.state p.old)) }
+    ensures value { Gives (λ x. (tree_of x, state_of I.state p.new)) (spec.bound (stream_of I.machine) (state_of I.state p.new)) result (reads.function_expr_by (stream_of I.machine) (N.reads nested.now I.State I.machine) (code_of code) (from start.0) is_async (state_of I.state p.old)) }
     ensures shorter { Falls result (spec.bound (stream_of I.machine) (state_of I.state p.new)) (spec.bound (stream_of I.machine) (state_of I.state p.old)) }
 {
     let node = function_expr(p, nested, code, start, is_async)?;

@@ -42,7 +42,7 @@ fn refused(span: Span) -> Failure
 #[tactic(auto, using(crate::proofs::Plain::plain_starts), unfolding(crate::specs::Groups::plain_from))]
 fn plain(alloc: Global, items: Vec<ExprOrSpread>) -> Result<Vec<ExprBox>, Failure>
     requires { All (λ x. fits_expr_or_spread (λ p. p) x) items.items }
-    ensures value { Gives (λ x. map (λ e. inner e.part.value) x.items) result (plain_list (map (view_expr_or_spread inner) items.items)) }
+    ensures value { Gives (λ x. map (λ e. inner e.part.value) x.items) 0 result (plain_list (map (view_expr_or_spread inner) items.items)) }
     ensures holds { IfOk result (λ x. All (λ e. holds_expr e.part.value) x.items) }
 {
     let mut exprs = Vec::new(alloc);
@@ -76,7 +76,7 @@ fn joined(alloc: Global, span: Span, exprs: Vec<ExprBox>, last: ExprBox) -> Resu
 #[tactic(auto, using(crate::proofs::Plain::groups))]
 fn group_expr(alloc: Global, paren: Span, items: Vec<ExprOrSpread>) -> Result<ExprBox, Failure>
     requires { All (λ x. fits_expr_or_spread (λ p. p) x) items.items }
-    ensures value { Gives (λ x. inner x.part.value) result (group_tree paren.lo.0 (map (view_expr_or_spread inner) items.items)) }
+    ensures value { Gives (λ x. inner x.part.value) 0 result (group_tree paren.lo.0 (map (view_expr_or_spread inner) items.items)) }
     ensures holds { IfOk result (λ x. holds_expr x.part.value) }
 {
     let mut before = items;
@@ -108,7 +108,7 @@ pub fn group_end<'a, I: Tokens<'a> + Drop, N: Nested<'a, I>>(
 ) -> Result<Operand, Failure>
     requires ready { N.ready nested.now }
     requires fits { FitArguments list }
-    ensures value { Gives (λ x. (tree_of x, state_of I.state p.new)) result (group_rest (stream_of I.machine) (N.reads nested.now I.State I.machine) (code_of code) level (from start.0) paren.lo.0 (arguments_of list) (state_of I.state p.old)) }
+    ensures value { Gives (λ x. (tree_of x, state_of I.state p.new)) (spec.bound (stream_of I.machine) (state_of I.state p.new)) result (group_rest (stream_of I.machine) (N.reads nested.now I.State I.machine) (code_of code) level (from start.0) paren.lo.0 (arguments_of list) (state_of I.state p.old)) }
     ensures not_longer { Stays result (spec.bound (stream_of I.machine) (state_of I.state p.new)) (spec.bound (stream_of I.machine) (state_of I.state p.old)) }
 {
     if is_arrow(p, nested, level) && nested.are_params(p, &list) {
@@ -132,7 +132,7 @@ pub fn group<'a, I: Tokens<'a> + Drop, N: Nested<'a, I>>(
     level: u8,
 ) -> Result<Operand, Failure>
     requires ready { N.ready nested.now }
-    ensures value { Gives (λ x. (tree_of x, state_of I.state p.new)) result (reads.group_by (stream_of I.machine) (N.reads nested.now I.State I.machine) (code_of code) level (state_of I.state p.old)) }
+    ensures value { Gives (λ x. (tree_of x, state_of I.state p.new)) (spec.bound (stream_of I.machine) (state_of I.state p.new)) result (reads.group_by (stream_of I.machine) (N.reads nested.now I.State I.machine) (code_of code) level (state_of I.state p.old)) }
     ensures shorter { Falls result (spec.bound (stream_of I.machine) (state_of I.state p.new)) (spec.bound (stream_of I.machine) (state_of I.state p.old)) }
 {
     let start = p.lo();

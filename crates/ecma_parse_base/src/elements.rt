@@ -32,7 +32,7 @@ pub fn element<'a, I: Tokens<'a> + Drop, N: Nested<'a, I>>(
     code: Around,
 ) -> Result<ExprOrSpread, Failure>
     requires ready { N.ready nested.now }
-    ensures value { Gives (λ x. (view_expr_or_spread inner x, state_of I.state p.new)) result (reads.element_by (stream_of I.machine) (N.reads nested.now I.State I.machine) (code_of code) (state_of I.state p.old)) }
+    ensures value { Gives (λ x. (view_expr_or_spread inner x, state_of I.state p.new)) (spec.bound (stream_of I.machine) (state_of I.state p.new)) result (reads.element_by (stream_of I.machine) (N.reads nested.now I.State I.machine) (code_of code) (state_of I.state p.old)) }
     ensures fits { IfOk result (λ x. fits_expr_or_spread (λ p. p) x) }
     ensures shorter { Falls result (spec.bound (stream_of I.machine) (state_of I.state p.new)) (spec.bound (stream_of I.machine) (state_of I.state p.old)) }
 {
@@ -58,7 +58,7 @@ pub fn element<'a, I: Tokens<'a> + Drop, N: Nested<'a, I>>(
 #[tactic(auto, unfolding(crate::specs::Elements::after_item))]
 pub fn goes_on<'a, I: Tokens<'a> + Drop>(p: &mut Parser<'a, I>, close: u8) -> Result<bool, Failure>
     requires { 0 < close }
-    ensures value { Gives (λ b. (b, state_of I.state p.new)) result (after_item (stream_of I.machine) close (state_of I.state p.old)) }
+    ensures value { Gives (λ b. (b, state_of I.state p.new)) (spec.bound (stream_of I.machine) (state_of I.state p.new)) result (after_item (stream_of I.machine) close (state_of I.state p.old)) }
     ensures shorter { Falls result (spec.bound (stream_of I.machine) (state_of I.state p.new)) (spec.bound (stream_of I.machine) (state_of I.state p.old)) }
 {
     if p.eat(kinds::COMMA)? {
@@ -80,7 +80,7 @@ pub fn array_turn<'a, I: Tokens<'a> + Drop, N: Nested<'a, I>>(
     requires ready { N.ready nested.now }
     requires fits { FitElements list.old }
     requires rest { TellsRest list.old }
-    ensures value { Gives (λ x. (going_on x (elements_of list.new), state_of I.state p.new)) result (reads.element_step (stream_of I.machine) (N.reads nested.now I.State I.machine) (code_of code) true right_bracket_kind (elements_of list.old) (state_of I.state p.old)) }
+    ensures value { Gives (λ x. (going_on x (elements_of list.new), state_of I.state p.new)) (spec.bound (stream_of I.machine) (state_of I.state p.new)) result (reads.element_step (stream_of I.machine) (N.reads nested.now I.State I.machine) (code_of code) true right_bracket_kind (elements_of list.old) (state_of I.state p.old)) }
     ensures fits { IfOk result (λ _. FitElements list.new) }
     ensures rest { IfOk result (λ _. TellsRest list.new) }
     ensures shorter { Falls result (spec.bound (stream_of I.machine) (state_of I.state p.new)) (spec.bound (stream_of I.machine) (state_of I.state p.old)) }
@@ -110,7 +110,7 @@ pub fn elements<'a, I: Tokens<'a> + Drop, N: Nested<'a, I>>(
     code: Around,
 ) -> Result<Elements, Failure>
     requires ready { N.ready nested.now }
-    ensures value { Gives (λ x. (elements_of x, state_of I.state p.new)) result (reads.elements_by (stream_of I.machine) (N.reads nested.now I.State I.machine) (code_of code) true right_bracket_kind (state_of I.state p.old)) }
+    ensures value { Gives (λ x. (elements_of x, state_of I.state p.new)) (spec.bound (stream_of I.machine) (state_of I.state p.new)) result (reads.elements_by (stream_of I.machine) (N.reads nested.now I.State I.machine) (code_of code) true right_bracket_kind (state_of I.state p.old)) }
     ensures fits { IfOk result (λ x. FitElements x) }
     ensures rest { IfOk result (λ x. TellsRest x) }
     ensures shorter { Falls result (spec.bound (stream_of I.machine) (state_of I.state p.new)) (spec.bound (stream_of I.machine) (state_of I.state p.old)) }
@@ -135,7 +135,7 @@ pub fn argument_turn<'a, I: Tokens<'a> + Drop, N: Nested<'a, I>>(
 ) -> Result<bool, Failure>
     requires ready { N.ready nested.now }
     requires fits { FitArguments list.old }
-    ensures value { Gives (λ x. (going_on x (arguments_of list.new), state_of I.state p.new)) result (reads.element_step (stream_of I.machine) (N.reads nested.now I.State I.machine) (code_of code) false right_paren_kind (arguments_of list.old) (state_of I.state p.old)) }
+    ensures value { Gives (λ x. (going_on x (arguments_of list.new), state_of I.state p.new)) (spec.bound (stream_of I.machine) (state_of I.state p.new)) result (reads.element_step (stream_of I.machine) (N.reads nested.now I.State I.machine) (code_of code) false right_paren_kind (arguments_of list.old) (state_of I.state p.old)) }
     ensures fits { IfOk result (λ _. FitArguments list.new) }
     ensures shorter { Falls result (spec.bound (stream_of I.machine) (state_of I.state p.new)) (spec.bound (stream_of I.machine) (state_of I.state p.old)) }
 {
@@ -157,7 +157,7 @@ pub fn group_items<'a, I: Tokens<'a> + Drop, N: Nested<'a, I>>(
     code: Around,
 ) -> Result<Arguments, Failure>
     requires ready { N.ready nested.now }
-    ensures value { Gives (λ x. (arguments_of x, state_of I.state p.new)) result (reads.elements_by (stream_of I.machine) (N.reads nested.now I.State I.machine) (code_of code) false right_paren_kind (state_of I.state p.old)) }
+    ensures value { Gives (λ x. (arguments_of x, state_of I.state p.new)) (spec.bound (stream_of I.machine) (state_of I.state p.new)) result (reads.elements_by (stream_of I.machine) (N.reads nested.now I.State I.machine) (code_of code) false right_paren_kind (state_of I.state p.old)) }
     ensures fits { IfOk result (λ x. FitArguments x) }
     ensures shorter { Falls result (spec.bound (stream_of I.machine) (state_of I.state p.new)) (spec.bound (stream_of I.machine) (state_of I.state p.old)) }
 {
@@ -177,7 +177,7 @@ pub fn arguments<'a, I: Tokens<'a> + Drop, N: Nested<'a, I>>(
     code: Around,
 ) -> Result<Vec<ExprOrSpread>, Failure>
     requires ready { N.ready nested.now }
-    ensures value { Gives (λ x. (map (view_expr_or_spread inner) x.items, state_of I.state p.new)) result (reads.arguments_by (stream_of I.machine) (N.reads nested.now I.State I.machine) (code_of code) (state_of I.state p.old)) }
+    ensures value { Gives (λ x. (map (view_expr_or_spread inner) x.items, state_of I.state p.new)) (spec.bound (stream_of I.machine) (state_of I.state p.new)) result (reads.arguments_by (stream_of I.machine) (N.reads nested.now I.State I.machine) (code_of code) (state_of I.state p.old)) }
     ensures fits { IfOk result (λ x. All (λ x. fits_expr_or_spread (λ p. p) x) x.items) }
     ensures shorter { Falls result (spec.bound (stream_of I.machine) (state_of I.state p.new)) (spec.bound (stream_of I.machine) (state_of I.state p.old)) }
 {

@@ -29,7 +29,7 @@ pub fn block_turn<'a, I: Tokens<'a> + Drop, N: Nested<'a, I>>(
 ) -> Result<bool, Failure>
     requires ready { N.ready nested.now }
     requires fits { All (λ x. holds_stmt x.part.value) list.old.items }
-    ensures value { Gives (λ x. (going_on x (map (λ y. inner y.part.value) list.new.items), state_of I.state p.new)) result (reads.block_step (stream_of I.machine) (N.reads nested.now I.State I.machine) (code_of code) (map (λ y. inner y.part.value) list.old.items) (state_of I.state p.old)) }
+    ensures value { Gives (λ x. (going_on x (map (λ y. inner y.part.value) list.new.items), state_of I.state p.new)) (spec.bound (stream_of I.machine) (state_of I.state p.new)) result (reads.block_step (stream_of I.machine) (N.reads nested.now I.State I.machine) (code_of code) (map (λ y. inner y.part.value) list.old.items) (state_of I.state p.old)) }
     ensures fits { IfOk result (λ _. All (λ x. holds_stmt x.part.value) list.new.items) }
     ensures shorter { Falls result (spec.bound (stream_of I.machine) (state_of I.state p.new)) (spec.bound (stream_of I.machine) (state_of I.state p.old)) }
 {
@@ -50,7 +50,7 @@ pub fn block_items<'a, I: Tokens<'a> + Drop, N: Nested<'a, I>>(
     code: Around,
 ) -> Result<Vec<StmtBox>, Failure>
     requires ready { N.ready nested.now }
-    ensures value { Gives (λ x. (map (λ y. inner y.part.value) x.items, state_of I.state p.new)) result (block_items (stream_of I.machine) (N.reads nested.now I.State I.machine) (code_of code) (state_of I.state p.old)) }
+    ensures value { Gives (λ x. (map (λ y. inner y.part.value) x.items, state_of I.state p.new)) (spec.bound (stream_of I.machine) (state_of I.state p.new)) result (block_items (stream_of I.machine) (N.reads nested.now I.State I.machine) (code_of code) (state_of I.state p.old)) }
     ensures fits { IfOk result (λ x. All (λ y. holds_stmt y.part.value) x.items) }
     ensures shorter { Falls result (spec.bound (stream_of I.machine) (state_of I.state p.new)) (spec.bound (stream_of I.machine) (state_of I.state p.old)) }
 {
@@ -69,7 +69,7 @@ pub fn block_rest<'a, I: Tokens<'a> + Drop, N: Nested<'a, I>>(
     start: BytePos,
 ) -> Result<BlockStmt, Failure>
     requires ready { N.ready nested.now }
-    ensures value { Gives (λ x. (view_block_stmt inner x, state_of I.state p.new)) result (reads.block_rest (stream_of I.machine) (N.reads nested.now I.State I.machine) (code_of code) (from start.0) (state_of I.state p.old)) }
+    ensures value { Gives (λ x. (view_block_stmt inner x, state_of I.state p.new)) (spec.bound (stream_of I.machine) (state_of I.state p.new)) result (reads.block_rest (stream_of I.machine) (N.reads nested.now I.State I.machine) (code_of code) (from start.0) (state_of I.state p.old)) }
     ensures fits { IfOk result (λ x. fits_block_stmt (λ p. p) x) }
     ensures shorter { Falls result (spec.bound (stream_of I.machine) (state_of I.state p.new)) (spec.bound (stream_of I.machine) (state_of I.state p.old)) }
 {
@@ -89,7 +89,7 @@ pub fn block<'a, I: Tokens<'a> + Drop, N: Nested<'a, I>>(
     code: Around,
 ) -> Result<BlockStmt, Failure>
     requires ready { N.ready nested.now }
-    ensures value { Gives (λ x. (view_block_stmt inner x, state_of I.state p.new)) result (reads.block_by (stream_of I.machine) (N.reads nested.now I.State I.machine) (code_of code) (state_of I.state p.old)) }
+    ensures value { Gives (λ x. (view_block_stmt inner x, state_of I.state p.new)) (spec.bound (stream_of I.machine) (state_of I.state p.new)) result (reads.block_by (stream_of I.machine) (N.reads nested.now I.State I.machine) (code_of code) (state_of I.state p.old)) }
     ensures fits { IfOk result (λ x. fits_block_stmt (λ p. p) x) }
     ensures shorter { Falls result (spec.bound (stream_of I.machine) (state_of I.state p.new)) (spec.bound (stream_of I.machine) (state_of I.state p.old)) }
 {

@@ -65,7 +65,7 @@ pub fn item<'a, I: Tokens<'a> + Drop, N: Nested<'a, I>>(
 ) -> Result<(), Failure>
     requires ready { N.ready nested.now }
     requires fits { FitBody body.old }
-    ensures value { Gives (λ _. (go_on (body_of body.new), state_of I.state p.new)) result (reads.body_item (stream_of I.machine) (N.reads nested.now I.State I.machine) (body_of body.old) (state_of I.state p.old)) }
+    ensures value { Gives (λ _. (go_on (body_of body.new), state_of I.state p.new)) (spec.bound (stream_of I.machine) (state_of I.state p.new)) result (reads.body_item (stream_of I.machine) (N.reads nested.now I.State I.machine) (body_of body.old) (state_of I.state p.old)) }
     ensures fits { IfOk result (λ _. FitBody body.new) }
     ensures shorter { Falls result (spec.bound (stream_of I.machine) (state_of I.state p.new)) (spec.bound (stream_of I.machine) (state_of I.state p.old)) }
 {
@@ -90,7 +90,7 @@ pub fn body_turn<'a, I: Tokens<'a> + Drop, N: Nested<'a, I>>(
 ) -> Result<bool, Failure>
     requires ready { N.ready nested.now }
     requires fits { FitBody body.old }
-    ensures value { Gives (λ x. (going_on x (body_of body.new), state_of I.state p.new)) result (reads.body_step (stream_of I.machine) (N.reads nested.now I.State I.machine) (body_of body.old) (state_of I.state p.old)) }
+    ensures value { Gives (λ x. (going_on x (body_of body.new), state_of I.state p.new)) (spec.bound (stream_of I.machine) (state_of I.state p.new)) result (reads.body_step (stream_of I.machine) (N.reads nested.now I.State I.machine) (body_of body.old) (state_of I.state p.old)) }
     ensures fits { IfOk result (λ _. FitBody body.new) }
     ensures shorter { Falls result (spec.bound (stream_of I.machine) (state_of I.state p.new)) (spec.bound (stream_of I.machine) (state_of I.state p.old)) }
 {
@@ -110,7 +110,7 @@ pub fn body_items<'a, I: Tokens<'a> + Drop, N: Nested<'a, I>>(
     code: Around,
 ) -> Result<BodySoFar, Failure>
     requires ready { N.ready nested.now }
-    ensures value { Gives (λ x. (body_of x, state_of I.state p.new)) result (body_items (stream_of I.machine) (N.reads nested.now I.State I.machine) (code_of code) (state_of I.state p.old)) }
+    ensures value { Gives (λ x. (body_of x, state_of I.state p.new)) (spec.bound (stream_of I.machine) (state_of I.state p.new)) result (body_items (stream_of I.machine) (N.reads nested.now I.State I.machine) (code_of code) (state_of I.state p.old)) }
     ensures fits { IfOk result (λ x. FitBody x) }
     ensures shorter { Falls result (spec.bound (stream_of I.machine) (state_of I.state p.new)) (spec.bound (stream_of I.machine) (state_of I.state p.old)) }
 {
@@ -132,7 +132,7 @@ pub fn body<'a, I: Tokens<'a> + Drop, N: Nested<'a, I>>(
     code: Around,
 ) -> Result<BlockStmt, Failure>
     requires ready { N.ready nested.now }
-    ensures value { Gives (λ x. (view_block_stmt inner x, state_of I.state p.new)) result (reads.body_by (stream_of I.machine) (N.reads nested.now I.State I.machine) (code_of code) (state_of I.state p.old)) }
+    ensures value { Gives (λ x. (view_block_stmt inner x, state_of I.state p.new)) (spec.bound (stream_of I.machine) (state_of I.state p.new)) result (reads.body_by (stream_of I.machine) (N.reads nested.now I.State I.machine) (code_of code) (state_of I.state p.old)) }
     ensures fits { IfOk result (λ x. fits_block_stmt (λ p. p) x) }
     ensures shorter { Falls result (spec.bound (stream_of I.machine) (state_of I.state p.new)) (spec.bound (stream_of I.machine) (state_of I.state p.old)) }
 {

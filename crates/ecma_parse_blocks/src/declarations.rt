@@ -48,7 +48,7 @@ pub fn declarator<'a, I: Tokens<'a> + Drop, N: Nested<'a, I>>(
     code: Around,
 ) -> Result<(VarDeclarator, u8), Failure>
     requires ready { N.ready nested.now }
-    ensures value { Gives (λ x. (view_var_declarator inner x.0, state_of I.state p.new)) result (reads.declarator_by (stream_of I.machine) (N.reads nested.now I.State I.machine) (code_of code) (state_of I.state p.old)) }
+    ensures value { Gives (λ x. (view_var_declarator inner x.0, state_of I.state p.new)) (spec.bound (stream_of I.machine) (state_of I.state p.new)) result (reads.declarator_by (stream_of I.machine) (N.reads nested.now I.State I.machine) (code_of code) (state_of I.state p.old)) }
     ensures fits { IfOk result (λ x. fits_var_declarator (λ p. p) x.0) }
     ensures end { IfOk result (λ x. x.1 ≡ shape.declarator_end (view_var_declarator inner x.0)) }
     ensures shorter { Falls result (spec.bound (stream_of I.machine) (state_of I.state p.new)) (spec.bound (stream_of I.machine) (state_of I.state p.old)) }
@@ -94,7 +94,7 @@ pub fn declarator_turn<'a, I: Tokens<'a> + Drop, N: Nested<'a, I>>(
 ) -> Result<bool, Failure>
     requires ready { N.ready nested.now }
     requires fits { FitDeclarators list.old }
-    ensures value { Gives (λ x. (going_on x (declarators_of list.new), state_of I.state p.new)) result (reads.declarator_step (stream_of I.machine) (N.reads nested.now I.State I.machine) (code_of code) (declarators_of list.old) (state_of I.state p.old)) }
+    ensures value { Gives (λ x. (going_on x (declarators_of list.new), state_of I.state p.new)) (spec.bound (stream_of I.machine) (state_of I.state p.new)) result (reads.declarator_step (stream_of I.machine) (N.reads nested.now I.State I.machine) (code_of code) (declarators_of list.old) (state_of I.state p.old)) }
     ensures fits { IfOk result (λ x. FitDeclarators list.new) }
     ensures end { IfOk result (λ _. TellsEnd list.new) }
     ensures shorter { Falls result (spec.bound (stream_of I.machine) (state_of I.state p.new)) (spec.bound (stream_of I.machine) (state_of I.state p.old)) }
@@ -114,7 +114,7 @@ pub fn declarators<'a, I: Tokens<'a> + Drop, N: Nested<'a, I>>(
     code: Around,
 ) -> Result<DeclaratorList, Failure>
     requires ready { N.ready nested.now }
-    ensures value { Gives (λ x. (declarators_of x, state_of I.state p.new)) result (reads.declarators_by (stream_of I.machine) (N.reads nested.now I.State I.machine) (code_of code) (state_of I.state p.old)) }
+    ensures value { Gives (λ x. (declarators_of x, state_of I.state p.new)) (spec.bound (stream_of I.machine) (state_of I.state p.new)) result (reads.declarators_by (stream_of I.machine) (N.reads nested.now I.State I.machine) (code_of code) (state_of I.state p.old)) }
     ensures fits { IfOk result (λ x. FitDeclarators x) }
     ensures end { IfOk result (λ x. TellsEnd x) }
     ensures shorter { Falls result (spec.bound (stream_of I.machine) (state_of I.state p.new)) (spec.bound (stream_of I.machine) (state_of I.state p.old)) }
@@ -139,7 +139,7 @@ pub fn variables<'a, I: Tokens<'a> + Drop, N: Nested<'a, I>>(
     requires ready { N.ready nested.now }
     requires kind { var_decl_kind_word word ≡ kind (spec.input (stream_of I.machine) (state_of I.state p.old)) }
     requires some { kind (spec.input (stream_of I.machine) (state_of I.state p.old)) ≢ 0 }
-    ensures value { Gives (λ x. (inner x.part.value, state_of I.state p.new)) result (reads.variables_by (stream_of I.machine) (N.reads nested.now I.State I.machine) (code_of code) (state_of I.state p.old)) }
+    ensures value { Gives (λ x. (inner x.part.value, state_of I.state p.new)) (spec.bound (stream_of I.machine) (state_of I.state p.new)) result (reads.variables_by (stream_of I.machine) (N.reads nested.now I.State I.machine) (code_of code) (state_of I.state p.old)) }
     ensures holds { IfOk result (λ x. holds_stmt x.part.value) }
     ensures shorter { Falls result (spec.bound (stream_of I.machine) (state_of I.state p.new)) (spec.bound (stream_of I.machine) (state_of I.state p.old)) }
 {
@@ -161,7 +161,7 @@ pub fn using<'a, I: Tokens<'a> + Drop, N: Nested<'a, I>>(
     awaits: bool,
 ) -> Result<StmtBox, Failure>
     requires ready { N.ready nested.now }
-    ensures value { Gives (λ x. (inner x.part.value, state_of I.state p.new)) result (reads.using_by (stream_of I.machine) (N.reads nested.now I.State I.machine) (code_of code) (from start.0) awaits (state_of I.state p.old)) }
+    ensures value { Gives (λ x. (inner x.part.value, state_of I.state p.new)) (spec.bound (stream_of I.machine) (state_of I.state p.new)) result (reads.using_by (stream_of I.machine) (N.reads nested.now I.State I.machine) (code_of code) (from start.0) awaits (state_of I.state p.old)) }
     ensures holds { IfOk result (λ x. holds_stmt x.part.value) }
     ensures shorter { Falls result (spec.bound (stream_of I.machine) (state_of I.state p.new)) (spec.bound (stream_of I.machine) (state_of I.state p.old)) }
 {

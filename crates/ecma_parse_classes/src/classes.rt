@@ -36,7 +36,7 @@ pub fn static_member<'a, I: Tokens<'a> + Drop, N: Nested<'a, I>>(
     code: Around,
 ) -> Result<ClassMember, Failure>
     requires ready { N.ready nested.now }
-    ensures value { Gives (λ x. (view_class_member inner x, state_of I.state p.new)) result (reads.static_by (stream_of I.machine) (N.reads nested.now I.State I.machine) (code_of code) (state_of I.state p.old)) }
+    ensures value { Gives (λ x. (view_class_member inner x, state_of I.state p.new)) (spec.bound (stream_of I.machine) (state_of I.state p.new)) result (reads.static_by (stream_of I.machine) (N.reads nested.now I.State I.machine) (code_of code) (state_of I.state p.old)) }
     ensures fits { IfOk result (λ x. fits_class_member (λ p. p) x) }
     ensures shorter { Falls result (spec.bound (stream_of I.machine) (state_of I.state p.new)) (spec.bound (stream_of I.machine) (state_of I.state p.old)) }
 {
@@ -75,7 +75,7 @@ pub fn member_turn<'a, I: Tokens<'a> + Drop, N: Nested<'a, I>>(
 ) -> Result<bool, Failure>
     requires ready { N.ready nested.now }
     requires fits { All (λ x. fits_class_member (λ p. p) x) list.old.items }
-    ensures value { Gives (λ x. (going_on x (map (view_class_member inner) list.new.items), state_of I.state p.new)) result (reads.member_step (stream_of I.machine) (N.reads nested.now I.State I.machine) (code_of code) (map (view_class_member inner) list.old.items) (state_of I.state p.old)) }
+    ensures value { Gives (λ x. (going_on x (map (view_class_member inner) list.new.items), state_of I.state p.new)) (spec.bound (stream_of I.machine) (state_of I.state p.new)) result (reads.member_step (stream_of I.machine) (N.reads nested.now I.State I.machine) (code_of code) (map (view_class_member inner) list.old.items) (state_of I.state p.old)) }
     ensures fits { IfOk result (λ _. All (λ x. fits_class_member (λ p. p) x) list.new.items) }
     ensures shorter { Falls result (spec.bound (stream_of I.machine) (state_of I.state p.new)) (spec.bound (stream_of I.machine) (state_of I.state p.old)) }
 {
@@ -106,7 +106,7 @@ pub fn member_list<'a, I: Tokens<'a> + Drop, N: Nested<'a, I>>(
     code: Around,
 ) -> Result<Vec<ClassMember>, Failure>
     requires ready { N.ready nested.now }
-    ensures value { Gives (λ x. (map (view_class_member inner) x.items, state_of I.state p.new)) result (member_list (stream_of I.machine) (N.reads nested.now I.State I.machine) (code_of code) (state_of I.state p.old)) }
+    ensures value { Gives (λ x. (map (view_class_member inner) x.items, state_of I.state p.new)) (spec.bound (stream_of I.machine) (state_of I.state p.new)) result (member_list (stream_of I.machine) (N.reads nested.now I.State I.machine) (code_of code) (state_of I.state p.old)) }
     ensures fits { IfOk result (λ x. All (λ x. fits_class_member (λ p. p) x) x.items) }
     ensures shorter { Falls result (spec.bound (stream_of I.machine) (state_of I.state p.new)) (spec.bound (stream_of I.machine) (state_of I.state p.old)) }
 {
@@ -127,7 +127,7 @@ pub fn members<'a, I: Tokens<'a> + Drop, N: Nested<'a, I>>(
 ) -> Result<Box<Class>, Failure>
     requires ready { N.ready nested.now }
     requires super_class { fits_held (λ x. holds_expr x.part.value) super_class }
-    ensures value { Gives (λ x. (view_class inner x.value, state_of I.state p.new)) result (reads.members_by (stream_of I.machine) (N.reads nested.now I.State I.machine) (code_of code) whole.0 (part_by (λ x. inner x.part.value) super_class) (state_of I.state p.old)) }
+    ensures value { Gives (λ x. (view_class inner x.value, state_of I.state p.new)) (spec.bound (stream_of I.machine) (state_of I.state p.new)) result (reads.members_by (stream_of I.machine) (N.reads nested.now I.State I.machine) (code_of code) whole.0 (part_by (λ x. inner x.part.value) super_class) (state_of I.state p.old)) }
     ensures fits { IfOk result (λ x. fits_class (λ p. p) x.value) }
     ensures shorter { Falls result (spec.bound (stream_of I.machine) (state_of I.state p.new)) (spec.bound (stream_of I.machine) (state_of I.state p.old)) }
 {
@@ -146,7 +146,7 @@ pub fn class_tail<'a, I: Tokens<'a> + Drop, N: Nested<'a, I>>(
     whole: BytePos,
 ) -> Result<Box<Class>, Failure>
     requires ready { N.ready nested.now }
-    ensures value { Gives (λ x. (view_class inner x.value, state_of I.state p.new)) result (reads.class_tail_by (stream_of I.machine) (N.reads nested.now I.State I.machine) (code_of code) whole.0 (state_of I.state p.old)) }
+    ensures value { Gives (λ x. (view_class inner x.value, state_of I.state p.new)) (spec.bound (stream_of I.machine) (state_of I.state p.new)) result (reads.class_tail_by (stream_of I.machine) (N.reads nested.now I.State I.machine) (code_of code) whole.0 (state_of I.state p.old)) }
     ensures fits { IfOk result (λ x. fits_class (λ p. p) x.value) }
     ensures shorter { Falls result (spec.bound (stream_of I.machine) (state_of I.state p.new)) (spec.bound (stream_of I.machine) (state_of I.state p.old)) }
 {
@@ -167,7 +167,7 @@ pub fn class_decl<'a, I: Tokens<'a> + Drop, N: Nested<'a, I>>(
     code: Around,
 ) -> Result<StmtBox, Failure>
     requires ready { N.ready nested.now }
-    ensures value { Gives (λ x. (inner x.part.value, state_of I.state p.new)) result (reads.class_decl_by (stream_of I.machine) (N.reads nested.now I.State I.machine) (code_of code) (state_of I.state p.old)) }
+    ensures value { Gives (λ x. (inner x.part.value, state_of I.state p.new)) (spec.bound (stream_of I.machine) (state_of I.state p.new)) result (reads.class_decl_by (stream_of I.machine) (N.reads nested.now I.State I.machine) (code_of code) (state_of I.state p.old)) }
     ensures holds { IfOk result (λ x. holds_stmt x.part.value) }
     ensures shorter { Falls result (spec.bound (stream_of I.machine) (state_of I.state p.new)) (spec.bound (stream_of I.machine) (state_of I.state p.old)) }
 {
@@ -188,7 +188,7 @@ pub fn class_expr<'a, I: Tokens<'a> + Drop, N: Nested<'a, I>>(
     code: Around,
 ) -> Result<ClassExpr, Failure>
     requires ready { N.ready nested.now }
-    ensures value { Gives (λ x. (view_class_expr inner x, state_of I.state p.new)) result (expressions.class_expr_by (stream_of I.machine) (N.reads nested.now I.State I.machine) (code_of code) (state_of I.state p.old)) }
+    ensures value { Gives (λ x. (view_class_expr inner x, state_of I.state p.new)) (spec.bound (stream_of I.machine) (state_of I.state p.new)) result (expressions.class_expr_by (stream_of I.machine) (N.reads nested.now I.State I.machine) (code_of code) (state_of I.state p.old)) }
     ensures fits { IfOk result (λ x. fits_class_expr (λ p. p) x) }
     ensures shorter { Falls result (spec.bound (stream_of I.machine) (state_of I.state p.new)) (spec.bound (stream_of I.machine) (state_of I.state p.old)) }
 {
@@ -213,7 +213,7 @@ pub fn class_operand<'a, I: Tokens<'a> + Drop, N: Nested<'a, I>>(
     code: Around,
 ) -> Result<Operand, Failure>
     requires ready { N.ready nested.now }
-    ensures value { Gives (λ x. (tree_of x, state_of I.state p.new)) result (expressions.class_expr_by (stream_of I.machine) (N.reads nested.now I.State I.machine) (code_of code) (state_of I.state p.old)) }
+    ensures value { Gives (λ x. (tree_of x, state_of I.state p.new)) (spec.bound (stream_of I.machine) (state_of I.state p.new)) result (expressions.class_expr_by (stream_of I.machine) (N.reads nested.now I.State I.machine) (code_of code) (state_of I.state p.old)) }
     ensures shorter { Falls result (spec.bound (stream_of I.machine) (state_of I.state p.new)) (spec.bound (stream_of I.machine) (state_of I.state p.old)) }
 {
     let node = class_expr(p, nested, code)?;

@@ -32,7 +32,7 @@ pub fn field_value<'a, I: Tokens<'a> + Drop, N: Nested<'a, I>>(
     end: u8,
 ) -> Result<Option<ExprBox>, Failure>
     requires ready { N.ready nested.now }
-    ensures value { Gives (λ x. (part_by (λ y. inner y.part.value) x, state_of I.state p.new)) result (reads.field_value (stream_of I.machine) (N.reads nested.now I.State I.machine) (code_of code) end (state_of I.state p.old)) }
+    ensures value { Gives (λ x. (part_by (λ y. inner y.part.value) x, state_of I.state p.new)) (spec.bound (stream_of I.machine) (state_of I.state p.new)) result (reads.field_value (stream_of I.machine) (N.reads nested.now I.State I.machine) (code_of code) end (state_of I.state p.old)) }
     ensures fits { IfOk result (λ x. fits_held (λ y. holds_expr y.part.value) x) }
     ensures not_longer { Stays result (spec.bound (stream_of I.machine) (state_of I.state p.new)) (spec.bound (stream_of I.machine) (state_of I.state p.old)) }
 {
@@ -54,7 +54,7 @@ pub fn class_key<'a, I: Tokens<'a> + Drop, N: Nested<'a, I>>(
     code: Around,
 ) -> Result<Key, Failure>
     requires ready { N.ready nested.now }
-    ensures value { Gives (λ x. (view_key inner x, state_of I.state p.new)) result (reads.class_key (stream_of I.machine) (N.reads nested.now I.State I.machine) (code_of code) (state_of I.state p.old)) }
+    ensures value { Gives (λ x. (view_key inner x, state_of I.state p.new)) (spec.bound (stream_of I.machine) (state_of I.state p.new)) result (reads.class_key (stream_of I.machine) (N.reads nested.now I.State I.machine) (code_of code) (state_of I.state p.old)) }
     ensures fits { IfOk result (λ x. fits_key (λ p. p) x) }
     ensures shorter { Falls result (spec.bound (stream_of I.machine) (state_of I.state p.new)) (spec.bound (stream_of I.machine) (state_of I.state p.old)) }
 {
@@ -78,7 +78,7 @@ pub fn field<'a, I: Tokens<'a> + Drop, N: Nested<'a, I>>(
 ) -> Result<ClassMember, Failure>
     requires ready { N.ready nested.now }
     requires key { fits_key (λ p. p) key }
-    ensures value { Gives (λ x. (view_class_member inner x, state_of I.state p.new)) result (field_by (stream_of I.machine) (N.reads nested.now I.State I.machine) (code_of code) (from start.0) is_static end (view_key inner key) (state_of I.state p.old)) }
+    ensures value { Gives (λ x. (view_class_member inner x, state_of I.state p.new)) (spec.bound (stream_of I.machine) (state_of I.state p.new)) result (field_by (stream_of I.machine) (N.reads nested.now I.State I.machine) (code_of code) (from start.0) is_static end (view_key inner key) (state_of I.state p.old)) }
     ensures fits { IfOk result (λ x. fits_class_member (λ p. p) x) }
     ensures not_longer { Stays result (spec.bound (stream_of I.machine) (state_of I.state p.new)) (spec.bound (stream_of I.machine) (state_of I.state p.old)) }
 {
@@ -97,7 +97,7 @@ pub fn auto_accessor<'a, I: Tokens<'a> + Drop, N: Nested<'a, I>>(
     is_static: bool,
 ) -> Result<ClassMember, Failure>
     requires ready { N.ready nested.now }
-    ensures value { Gives (λ x. (view_class_member inner x, state_of I.state p.new)) result (reads.accessor_by (stream_of I.machine) (N.reads nested.now I.State I.machine) (code_of code) (from start.0) is_static (state_of I.state p.old)) }
+    ensures value { Gives (λ x. (view_class_member inner x, state_of I.state p.new)) (spec.bound (stream_of I.machine) (state_of I.state p.new)) result (reads.accessor_by (stream_of I.machine) (N.reads nested.now I.State I.machine) (code_of code) (from start.0) is_static (state_of I.state p.old)) }
     ensures fits { IfOk result (λ x. fits_class_member (λ p. p) x) }
     ensures shorter { Falls result (spec.bound (stream_of I.machine) (state_of I.state p.new)) (spec.bound (stream_of I.machine) (state_of I.state p.old)) }
 {

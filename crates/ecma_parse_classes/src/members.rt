@@ -39,7 +39,7 @@ pub fn method<'a, I: Tokens<'a> + Drop, N: Nested<'a, I>>(
 ) -> Result<ClassMember, Failure>
     requires ready { N.ready nested.now }
     requires key { fits_key (λ p. p) key }
-    ensures value { Gives (λ x. (view_class_member inner x, state_of I.state p.new)) result (reads.class_method_by (stream_of I.machine) (N.reads nested.now I.State I.machine) (code_of code) (from start.0) is_static generator is_async (view_key inner key) (state_of I.state p.old)) }
+    ensures value { Gives (λ x. (view_class_member inner x, state_of I.state p.new)) (spec.bound (stream_of I.machine) (state_of I.state p.new)) result (reads.class_method_by (stream_of I.machine) (N.reads nested.now I.State I.machine) (code_of code) (from start.0) is_static generator is_async (view_key inner key) (state_of I.state p.old)) }
     ensures fits { IfOk result (λ x. fits_class_member (λ p. p) x) }
     ensures shorter { Falls result (spec.bound (stream_of I.machine) (state_of I.state p.new)) (spec.bound (stream_of I.machine) (state_of I.state p.old)) }
 {
@@ -59,7 +59,7 @@ pub fn getter<'a, I: Tokens<'a> + Drop, N: Nested<'a, I>>(
     is_static: bool,
 ) -> Result<ClassMember, Failure>
     requires ready { N.ready nested.now }
-    ensures value { Gives (λ x. (view_class_member inner x, state_of I.state p.new)) result (reads.class_getter (stream_of I.machine) (N.reads nested.now I.State I.machine) (code_of code) (from start.0) is_static (state_of I.state p.old)) }
+    ensures value { Gives (λ x. (view_class_member inner x, state_of I.state p.new)) (spec.bound (stream_of I.machine) (state_of I.state p.new)) result (reads.class_getter (stream_of I.machine) (N.reads nested.now I.State I.machine) (code_of code) (from start.0) is_static (state_of I.state p.old)) }
     ensures fits { IfOk result (λ x. fits_class_member (λ p. p) x) }
     ensures shorter { Falls result (spec.bound (stream_of I.machine) (state_of I.state p.new)) (spec.bound (stream_of I.machine) (state_of I.state p.old)) }
 {
@@ -84,7 +84,7 @@ pub fn setter<'a, I: Tokens<'a> + Drop, N: Nested<'a, I>>(
     is_static: bool,
 ) -> Result<ClassMember, Failure>
     requires ready { N.ready nested.now }
-    ensures value { Gives (λ x. (view_class_member inner x, state_of I.state p.new)) result (reads.class_setter (stream_of I.machine) (N.reads nested.now I.State I.machine) (code_of code) (from start.0) is_static (state_of I.state p.old)) }
+    ensures value { Gives (λ x. (view_class_member inner x, state_of I.state p.new)) (spec.bound (stream_of I.machine) (state_of I.state p.new)) result (reads.class_setter (stream_of I.machine) (N.reads nested.now I.State I.machine) (code_of code) (from start.0) is_static (state_of I.state p.old)) }
     ensures fits { IfOk result (λ x. fits_class_member (λ p. p) x) }
     ensures shorter { Falls result (spec.bound (stream_of I.machine) (state_of I.state p.new)) (spec.bound (stream_of I.machine) (state_of I.state p.old)) }
 {
@@ -111,7 +111,7 @@ pub fn field_or_method<'a, I: Tokens<'a> + Drop, N: Nested<'a, I>>(
     is_static: bool,
 ) -> Result<ClassMember, Failure>
     requires ready { N.ready nested.now }
-    ensures value { Gives (λ x. (view_class_member inner x, state_of I.state p.new)) result (reads.field_or_method (stream_of I.machine) (N.reads nested.now I.State I.machine) (code_of code) (from start.0) is_static (state_of I.state p.old)) }
+    ensures value { Gives (λ x. (view_class_member inner x, state_of I.state p.new)) (spec.bound (stream_of I.machine) (state_of I.state p.new)) result (reads.field_or_method (stream_of I.machine) (N.reads nested.now I.State I.machine) (code_of code) (from start.0) is_static (state_of I.state p.old)) }
     ensures fits { IfOk result (λ x. fits_class_member (λ p. p) x) }
     ensures shorter { Falls result (spec.bound (stream_of I.machine) (state_of I.state p.new)) (spec.bound (stream_of I.machine) (state_of I.state p.old)) }
 {
@@ -135,7 +135,7 @@ pub fn generator_member<'a, I: Tokens<'a> + Drop, N: Nested<'a, I>>(
     is_async: bool,
 ) -> Result<ClassMember, Failure>
     requires ready { N.ready nested.now }
-    ensures value { Gives (λ x. (view_class_member inner x, state_of I.state p.new)) result (reads.generator_member (stream_of I.machine) (N.reads nested.now I.State I.machine) (code_of code) (from start.0) is_static is_async (state_of I.state p.old)) }
+    ensures value { Gives (λ x. (view_class_member inner x, state_of I.state p.new)) (spec.bound (stream_of I.machine) (state_of I.state p.new)) result (reads.generator_member (stream_of I.machine) (N.reads nested.now I.State I.machine) (code_of code) (from start.0) is_static is_async (state_of I.state p.old)) }
     ensures fits { IfOk result (λ x. fits_class_member (λ p. p) x) }
     ensures shorter { Falls result (spec.bound (stream_of I.machine) (state_of I.state p.new)) (spec.bound (stream_of I.machine) (state_of I.state p.old)) }
 {
@@ -155,7 +155,7 @@ pub fn last_member<'a, I: Tokens<'a> + Drop, N: Nested<'a, I>>(
     is_static: bool,
 ) -> Result<ClassMember, Failure>
     requires ready { N.ready nested.now }
-    ensures value { Gives (λ x. (view_class_member inner x, state_of I.state p.new)) result (last_member (stream_of I.machine) (N.reads nested.now I.State I.machine) (code_of code) (from start.0) is_static (state_of I.state p.old)) }
+    ensures value { Gives (λ x. (view_class_member inner x, state_of I.state p.new)) (spec.bound (stream_of I.machine) (state_of I.state p.new)) result (last_member (stream_of I.machine) (N.reads nested.now I.State I.machine) (code_of code) (from start.0) is_static (state_of I.state p.old)) }
     ensures fits { IfOk result (λ x. fits_class_member (λ p. p) x) }
     ensures shorter { Falls result (spec.bound (stream_of I.machine) (state_of I.state p.new)) (spec.bound (stream_of I.machine) (state_of I.state p.old)) }
 {
@@ -176,7 +176,7 @@ pub fn word_member<'a, I: Tokens<'a> + Drop, N: Nested<'a, I>>(
     is_static: bool,
 ) -> Result<ClassMember, Failure>
     requires ready { N.ready nested.now }
-    ensures value { Gives (λ x. (view_class_member inner x, state_of I.state p.new)) result (word_member (stream_of I.machine) (N.reads nested.now I.State I.machine) (code_of code) (from start.0) is_static (state_of I.state p.old)) }
+    ensures value { Gives (λ x. (view_class_member inner x, state_of I.state p.new)) (spec.bound (stream_of I.machine) (state_of I.state p.new)) result (word_member (stream_of I.machine) (N.reads nested.now I.State I.machine) (code_of code) (from start.0) is_static (state_of I.state p.old)) }
     ensures fits { IfOk result (λ x. fits_class_member (λ p. p) x) }
     ensures shorter { Falls result (spec.bound (stream_of I.machine) (state_of I.state p.new)) (spec.bound (stream_of I.machine) (state_of I.state p.old)) }
 {
@@ -200,7 +200,7 @@ pub fn member_rest<'a, I: Tokens<'a> + Drop, N: Nested<'a, I>>(
     is_static: bool,
 ) -> Result<ClassMember, Failure>
     requires ready { N.ready nested.now }
-    ensures value { Gives (λ x. (view_class_member inner x, state_of I.state p.new)) result (reads.member_rest (stream_of I.machine) (N.reads nested.now I.State I.machine) (code_of code) (from start.0) is_static (state_of I.state p.old)) }
+    ensures value { Gives (λ x. (view_class_member inner x, state_of I.state p.new)) (spec.bound (stream_of I.machine) (state_of I.state p.new)) result (reads.member_rest (stream_of I.machine) (N.reads nested.now I.State I.machine) (code_of code) (from start.0) is_static (state_of I.state p.old)) }
     ensures fits { IfOk result (λ x. fits_class_member (λ p. p) x) }
     ensures shorter { Falls result (spec.bound (stream_of I.machine) (state_of I.state p.new)) (spec.bound (stream_of I.machine) (state_of I.state p.old)) }
 {

@@ -5,7 +5,7 @@ use Rattle.std.proofs.lemmas.Bool.{lt-ltb}
 use Rattle.ecma_token.specs.declared.place.Span.{Span}
 use Rattle.ecma_tree.specs.Tree.{Tree, Trees, none, more, pack, unpack, trees_by, array_lit, array_pat, object_lit, object_pat}
 use Rattle.ecma_parse_base.proofs.Packs.{packed}
-use Rattle.ecma_reading.specs.Source.{Fault, unexpected, ◌>>=◌}
+use Rattle.ecma_reading.specs.Source.{Fault, unfit, ◌>>=◌}
 use Rattle.ecma_reading.specs.Cover.{has, to_item, to_items, as_prop, is_rest_item}
 use Rattle.ecma_parse_cover.specs.Items.{item_by, items_from, is_more}
 
@@ -26,7 +26,7 @@ module _ (props binds : Bool) (commas : List ℕ) where
   first made from (Err f) rest ih = refl
 
   chosen : (b : Bool) (made : List Tree) (x y : Result Trees Fault) → x ≡ (y >>= λ ps. Ok (pack (made ++ unpack ps)))
-      → (if b then unexpected else x) ≡ ((if b then unexpected else y) >>= λ ps. Ok (pack (made ++ unpack ps)))
+      → (if b then unfit else x) ≡ ((if b then unfit else y) >>= λ ps. Ok (pack (made ++ unpack ps)))
   chosen true made x y e = refl
   chosen false made x y e = e
 

@@ -17,7 +17,7 @@ use Rattle.ecma_node.specs.declared.patterns.AssignTargetOf.{AssignTargetOf}
 use Rattle.ecma_node.specs.declared.patterns.AssignTargetOf.TheVariants as target
 use Rattle.ecma_node.specs.Placed.{Placed, inner}
 use Rattle.ecma_node.specs.View.{view_array_pat, view_assign_target, view_expr_kind, view_expr_or_spread, view_object_pat, view_prop_or_spread}
-use Rattle.ecma_reading.specs.Source.{Fault, unexpected, ◌>>=◌}
+use Rattle.ecma_reading.specs.Source.{Fault, unfit, ◌>>=◌}
 use Rattle.ecma_reading.specs.Cover.{as_prop, binds_names, has, initialised, is_rest_item, rest_of, to_item, to_items}
 use Rattle.ecma_reading.specs.Expressions.{is_read}
 use Rattle.ecma_parse_cover.specs.Items.{all_told, is_more, item_by}
@@ -34,7 +34,7 @@ both (Ok p) (Ok ps) = refl
 both (Ok p) (Err e) = refl
 both (Err e) t = refl
 
-chosen : {A : Type 0} (b : Bool) (r : Result A Fault) → is_read (if b then unexpected else r) ≡ (not b && is_read r)
+chosen : {A : Type 0} (b : Bool) (r : Result A Fault) → is_read (if b then unfit else r) ≡ (not b && is_read r)
 chosen true r = refl
 chosen false r = refl
 
@@ -105,11 +105,11 @@ element_read commas s (Some d) e f = sym (f refl d)
 
 -- ---- initialisers
 
-kept : (b : Bool) (s : Span) (p e : Tree) → ((if not true || b then Ok p else unexpected) >>= λ q. Ok (assign_pat s q e)) ≡ (if b then Ok (assign_pat s p e) else unexpected)
+kept : (b : Bool) (s : Span) (p e : Tree) → ((if not true || b then Ok p else unfit) >>= λ q. Ok (assign_pat s q e)) ≡ (if b then Ok (assign_pat s p e) else unfit)
 kept true s p e = refl
 kept false s p e = refl
 
-pub init_is : (s : Span) (x : AssignTargetOf Placed) (e : Tree) → initialised true s (view_assign_target inner x) e ≡ (if binds_names (view_assign_target inner x) then Ok (assign_pat s (view_assign_target inner x) e) else unexpected)
+pub init_is : (s : Span) (x : AssignTargetOf Placed) (e : Tree) → initialised true s (view_assign_target inner x) e ≡ (if binds_names (view_assign_target inner x) then Ok (assign_pat s (view_assign_target inner x) e) else unfit)
 init_is s (target.Ident x) e = refl
 init_is s (target.Member x) e = refl
 init_is s (target.SuperProp x) e = refl
@@ -119,7 +119,7 @@ init_is s (target.Array x) e = kept (binds_names (view_array_pat inner x)) s (vi
 init_is s (target.Object x) e = kept (binds_names (view_object_pat inner x)) s (view_object_pat inner x) e
 init_is s (target.Invalid x) e = refl
 
-two : (a b : Bool) (p : Tree) → is_read (if a then (if b then Ok p else unexpected) else unexpected) ≡ (a && b)
+two : (a b : Bool) (p : Tree) → is_read (if a then (if b then Ok p else unfit) else unfit) ≡ (a && b)
 two true true p = refl
 two true false p = refl
 two false b p = refl
@@ -129,7 +129,7 @@ default_told commas s op x e = rw (init_is s x e) (two (op == assign_kind) (bind
 
 -- ---- rests
 
-bound : (a b : Bool) (s t : Span) (p e : Tree) → is_read ((if a then (if b then Ok (assign_pat t p e) else unexpected) else unexpected) >>= λ q. rest_of s q) ≡ false
+bound : (a b : Bool) (s t : Span) (p e : Tree) → is_read ((if a then (if b then Ok (assign_pat t p e) else unfit) else unfit) >>= λ q. rest_of s q) ≡ false
 bound true true s t p e = refl
 bound true false s t p e = refl
 bound false b s t p e = refl
@@ -137,12 +137,12 @@ bound false b s t p e = refl
 pub rest_default : (commas : List ℕ) (s d t : Span) (op : ℕ) (x : AssignTargetOf Placed) (e : Tree) → is_read (to_item true commas (expr_or_spread s (Some d) (assign_expr t op (view_assign_target inner x) e))) ≡ false
 rest_default commas s d t op x e = rw (init_is t x e) (bound (op == assign_kind) (binds_names (view_assign_target inner x)) s t (view_assign_target inner x) e)
 
-array_behind : (b : Bool) (s t : Span) (r : Result Trees Fault) → is_read ((if b then unexpected else (r >>= λ ps. Ok (array_pat t ps))) >>= λ q. rest_of s q) ≡ is_read (if b then unexpected else (r >>= λ ps. Ok (array_pat t ps)))
+array_behind : (b : Bool) (s t : Span) (r : Result Trees Fault) → is_read ((if b then unfit else (r >>= λ ps. Ok (array_pat t ps))) >>= λ q. rest_of s q) ≡ is_read (if b then unfit else (r >>= λ ps. Ok (array_pat t ps)))
 array_behind true s t r = refl
 array_behind false s t (Ok ps) = refl
 array_behind false s t (Err e) = refl
 
-object_behind : (b : Bool) (s t : Span) (r : Result Trees Fault) → is_read ((if b then unexpected else (r >>= λ ps. Ok (object_pat t ps))) >>= λ q. rest_of s q) ≡ is_read (if b then unexpected else (r >>= λ ps. Ok (object_pat t ps)))
+object_behind : (b : Bool) (s t : Span) (r : Result Trees Fault) → is_read ((if b then unfit else (r >>= λ ps. Ok (object_pat t ps))) >>= λ q. rest_of s q) ≡ is_read (if b then unfit else (r >>= λ ps. Ok (object_pat t ps)))
 object_behind true s t r = refl
 object_behind false s t (Ok ps) = refl
 object_behind false s t (Err e) = refl
@@ -190,7 +190,7 @@ rest_other commas s d (kind.Invalid x) n = refl
 
 -- ---- what is spread in an object
 
-spread_bound : (a b : Bool) (s t : Span) (p e : Tree) → is_read ((if a then (if b then Ok (assign_pat t p e) else unexpected) else unexpected) >>= λ q. if is_structured q then unexpected else rest_of s q) ≡ false
+spread_bound : (a b : Bool) (s t : Span) (p e : Tree) → is_read ((if a then (if b then Ok (assign_pat t p e) else unfit) else unfit) >>= λ q. if is_structured q then unfit else rest_of s q) ≡ false
 spread_bound true true s t p e = refl
 spread_bound true false s t p e = refl
 spread_bound false b s t p e = refl
@@ -198,12 +198,12 @@ spread_bound false b s t p e = refl
 spread_default : (commas : List ℕ) (s t : Span) (op : ℕ) (x : AssignTargetOf Placed) (e : Tree) → is_read (to_item true commas (spread_element s (assign_expr t op (view_assign_target inner x) e))) ≡ false
 spread_default commas s t op x e = rw (init_is t x e) (spread_bound (op == assign_kind) (binds_names (view_assign_target inner x)) s t (view_assign_target inner x) e)
 
-array_spread : (b : Bool) (s t : Span) (r : Result Trees Fault) → is_read ((if b then unexpected else (r >>= λ ps. Ok (array_pat t ps))) >>= λ q. if is_structured q then unexpected else rest_of s q) ≡ false
+array_spread : (b : Bool) (s t : Span) (r : Result Trees Fault) → is_read ((if b then unfit else (r >>= λ ps. Ok (array_pat t ps))) >>= λ q. if is_structured q then unfit else rest_of s q) ≡ false
 array_spread true s t r = refl
 array_spread false s t (Ok ps) = refl
 array_spread false s t (Err e) = refl
 
-object_spread : (b : Bool) (s t : Span) (r : Result Trees Fault) → is_read ((if b then unexpected else (r >>= λ ps. Ok (object_pat t ps))) >>= λ q. if is_structured q then unexpected else rest_of s q) ≡ false
+object_spread : (b : Bool) (s t : Span) (r : Result Trees Fault) → is_read ((if b then unfit else (r >>= λ ps. Ok (object_pat t ps))) >>= λ q. if is_structured q then unfit else rest_of s q) ≡ false
 object_spread true s t r = refl
 object_spread false s t (Ok ps) = refl
 object_spread false s t (Err e) = refl
@@ -255,7 +255,7 @@ pub value_told : (s : Span) (k : Tree) (r : Result Tree Fault) → is_read (r >>
 value_told s k (Ok p) = refl
 value_told s k (Err e) = refl
 
-pub params_told : (c l : Bool) (r : Result Trees Fault) → is_read (if c && l then unexpected else (r >>= λ ps. Ok (unpack ps))) ≡ (not (c && l) && is_read r)
+pub params_told : (c l : Bool) (r : Result Trees Fault) → is_read (if c && l then unfit else (r >>= λ ps. Ok (unpack ps))) ≡ (not (c && l) && is_read r)
 params_told true true r = refl
 params_told true false (Ok ps) = refl
 params_told true false (Err e) = refl

@@ -3,7 +3,7 @@ use Rattle.std.specs.Prelude.{ℕ, Bool, true, false, not, ◌&&◌, ◌==◌, i
 use Rattle.ecma_tree.specs.Tree.{Tree, Trees, none, more, pack, unpack, ident, array_lit, object_lit, assign_expr, member_expr, super_prop_expr, paren_expr, opt_chain_expr, expr_pat, invalid_target}
 use Rattle.ecma_token.specs.Kinds.{assign_kind}
 use Rattle.ecma_syntax.specs.Shape.{is_simple, is_target_expr}
-use Rattle.ecma_reading.specs.Source.{Fault, unexpected, ◌>>=◌}
+use Rattle.ecma_reading.specs.Source.{Fault, unfit, ◌>>=◌}
 use Rattle.ecma_reading.specs.Cover.{to_item, to_items, as_prop, is_rest_item, if_binds, last_rests}
 use Rattle.ecma_reading.specs.Expressions.{Elements, is_read}
 
@@ -18,15 +18,15 @@ is_more (more x xs) = true
 -- the items of an array or an object behind those that were made
 unfoldable pub items_from : Bool → Bool → List ℕ → List Tree → Trees → Result Trees Fault
 items_from props binds commas made none = Ok (pack made)
-items_from props binds commas made (more x xs) = if is_more xs && is_rest_item x then unexpected else (item_by props binds commas x >>= λ p. items_from props binds commas (made ++ p ∷ []) xs)
+items_from props binds commas made (more x xs) = if is_more xs && is_rest_item x then unfit else (item_by props binds commas x >>= λ p. items_from props binds commas (made ++ p ∷ []) xs)
 
 -- what an assignment with `=` assigns to, as a pattern
 unfoldable pub default_of : Bool → Tree → Result Tree Fault
-default_of binds (member_expr s o k) = if binds then unexpected else Ok (expr_pat (member_expr s o k))
-default_of binds (super_prop_expr s o k) = if binds then unexpected else Ok (expr_pat (super_prop_expr s o k))
-default_of binds (paren_expr s x) = if binds then unexpected else Ok (expr_pat (paren_expr s x))
-default_of binds (opt_chain_expr s q x) = unexpected
-default_of binds (invalid_target s) = unexpected
+default_of binds (member_expr s o k) = if binds then unfit else Ok (expr_pat (member_expr s o k))
+default_of binds (super_prop_expr s o k) = if binds then unfit else Ok (expr_pat (super_prop_expr s o k))
+default_of binds (paren_expr s x) = if binds then unfit else Ok (expr_pat (paren_expr s x))
+default_of binds (opt_chain_expr s q x) = unfit
+default_of binds (invalid_target s) = unfit
 default_of binds p = if_binds binds p
 
 -- what may be a pattern, or part of one, and has no items: a name, an assignment, a target
@@ -53,7 +53,7 @@ may_be_target op t = is_target_expr t && is_simple t
 
 -- the elements of a parenthesis as parameters
 abbrev pub parameters_of : List ℕ → Elements → Result (List Tree) Fault
-parameters_of commas xs = if xs.comma && last_rests xs.items then unexpected else (to_items false true commas (pack xs.items) >>= λ ps. Ok (unpack ps))
+parameters_of commas xs = if xs.comma && last_rests xs.items then unfit else (to_items false true commas (pack xs.items) >>= λ ps. Ok (unpack ps))
 
 -- whether each item of an array or an object is read as one that binds, of which a rest stands last
 abbrev pub all_told : Bool → List ℕ → Trees → Bool

@@ -9,7 +9,7 @@ ghost use Rattle.ecma_tree.specs.Tree.{rest_pat};
 ghost use Rattle.ecma_token.specs.declared.place.Span.{Span};
 ghost use Rattle.ecma_syntax.specs.Input.{dots_at};
 ghost use Rattle.ecma_syntax.specs.Shape as shape;
-ghost use Rattle.ecma_reading.specs.Source.{unexpected};
+ghost use Rattle.ecma_reading.specs.Source.{unfit};
 ghost use Rattle.ecma_reading.specs.Cover.{has, rest_of, to_item};
 ghost use Rattle.ecma_parse_state.specs.Answers.{Gives};
 ghost use Rattle.ecma_parse_cover.specs.Items.{default_of, is_cover, is_leaf};
@@ -40,7 +40,7 @@ pub fn is_assign(op: AssignOp) -> bool
 pub fn is_cover(expr: &ExprBox) -> bool
     ensures some { result ≡ true → is_cover (inner expr.now.part.value) ≡ true }
     ensures holds { result ≡ true → holds_expr expr.now.part.value }
-    ensures none { result ≡ false → (binds : Bool) (commas : List ℕ) → to_item binds commas (inner expr.now.part.value) ≡ unexpected }
+    ensures none { result ≡ false → (binds : Bool) (commas : List ℕ) → to_item binds commas (inner expr.now.part.value) ≡ unfit }
 {
     match &expr.part.sort {
         PartKind::Expr(x) => match &x.kind {
@@ -86,7 +86,7 @@ pub fn is_structured(pat: &PatBox) -> bool
 /// Whether a pattern has an initialiser.
 fn has_default(pat: &PatBox) -> bool
     requires { holds_pat pat.now.part.value }
-    ensures { (span : Span) → rest_of span (inner pat.now.part.value) ≡ (if result then unexpected else Ok (rest_pat span (dots_at span.lo.0) (inner pat.now.part.value))) }
+    ensures { (span : Span) → rest_of span (inner pat.now.part.value) ≡ (if result then unfit else Ok (rest_pat span (dots_at span.lo.0) (inner pat.now.part.value))) }
 {
     matches!(&pat.get().kind, PatKind::Assign(_))
 }
@@ -95,7 +95,7 @@ fn has_default(pat: &PatBox) -> bool
 #[inline(never)]
 pub fn rest(span: Span, pat: PatBox) -> Result<RestPat, Failure>
     requires { holds_pat pat.part.value }
-    ensures value { Gives (view_rest_pat inner) result (rest_of span (inner pat.part.value)) }
+    ensures value { Gives (view_rest_pat inner) 0 result (rest_of span (inner pat.part.value)) }
     ensures holds { IfOk result (λ x. holds_pat x.arg.part.value) }
 {
     if has_default(&pat) {
@@ -113,7 +113,7 @@ pub fn rest(span: Span, pat: PatBox) -> Result<RestPat, Failure>
 #[tactic(auto, unfolding(crate::specs::Items::default_of))]
 pub fn default_target(alloc: Global, binds: bool, target: AssignTarget) -> Result<PatBox, Failure>
     requires { fits_assign_target (λ p. p) target }
-    ensures value { Gives (λ x. inner x.part.value) result (default_of binds (view_assign_target inner target)) }
+    ensures value { Gives (λ x. inner x.part.value) 0 result (default_of binds (view_assign_target inner target)) }
     ensures holds { IfOk result (λ x. holds_pat x.part.value) }
 {
     match target {
@@ -158,7 +158,7 @@ pub fn default_target(alloc: Global, binds: bool, target: AssignTarget) -> Resul
 #[tactic(auto, using(crate::proofs::Defaults::initialised_is))]
 pub fn default(alloc: Global, binds: bool, node: AssignExpr) -> Result<PatBox, Failure>
     requires { fits_assign_expr (λ p. p) node }
-    ensures value { (commas : List ℕ) → Gives (λ x. inner x.part.value) result (to_item binds commas (view_assign_expr inner node)) }
+    ensures value { (commas : List ℕ) → Gives (λ x. inner x.part.value) 0 result (to_item binds commas (view_assign_expr inner node)) }
     ensures holds { IfOk result (λ x. holds_pat x.part.value) }
 {
     if !is_assign(node.op) {
@@ -173,7 +173,7 @@ pub fn default(alloc: Global, binds: bool, node: AssignExpr) -> Result<PatBox, F
 pub fn leaf(alloc: Global, binds: bool, kind: ExprKind) -> Result<PatBox, Failure>
     requires fits { fits_expr_kind (λ p. p) kind }
     requires leaf { is_leaf (view_expr_kind inner kind) ≡ true }
-    ensures value { (commas : List ℕ) → Gives (λ x. inner x.part.value) result (to_item binds commas (view_expr_kind inner kind)) }
+    ensures value { (commas : List ℕ) → Gives (λ x. inner x.part.value) 0 result (to_item binds commas (view_expr_kind inner kind)) }
     ensures holds { IfOk result (λ x. holds_pat x.part.value) }
 {
     match kind {

@@ -37,7 +37,7 @@ fn all_params(
     commas: &[u32],
     items: Vec<ExprOrSpread>,
 ) -> Result<Vec<PatBox>, Failure>
-    ensures value { Gives (λ x. trees_by (λ y. inner y.part.value) x.items) result (to_items false true (reverse commas.now) (trees_by (view_expr_or_spread inner) items.items)) }
+    ensures value { Gives (λ x. trees_by (λ y. inner y.part.value) x.items) 0 result (to_items false true (reverse commas.now) (trees_by (view_expr_or_spread inner) items.items)) }
     ensures fits { IfOk result (λ x. All (λ y. holds_pat y.part.value) x.items) }
 {
     let mut left = items.len();
@@ -86,7 +86,7 @@ pub fn are_params(commas: &[u32], list: &Arguments) -> bool
 /// What stands between parentheses, as the parameters of an arrow: `parameters_of` is what is read of them, without a stream.
 #[tactic(auto, using(crate::proofs::Rows::items, crate::proofs::Rows::unpacked))]
 pub fn params(alloc: Global, commas: &[u32], list: Arguments) -> Result<Vec<PatBox>, Failure>
-    ensures value { Gives (λ x. map (λ y. inner y.part.value) x.items) result (parameters_of (reverse commas.now) (arguments_of list)) }
+    ensures value { Gives (λ x. map (λ y. inner y.part.value) x.items) 0 result (parameters_of (reverse commas.now) (arguments_of list)) }
     ensures fits { IfOk result (λ x. All (λ y. holds_pat y.part.value) x.items) }
 {
     if list.comma && ends_in_rest(list.items.as_slice()) {

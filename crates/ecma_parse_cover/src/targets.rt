@@ -3,7 +3,7 @@ ghost use Rattle.std.specs.Prelude.{◌≡◌, false, true, reverse, IfOk, ℕ, 
 ghost use Rattle.ecma_node.specs.Fits.{fits_assign_target};
 ghost use Rattle.ecma_node.specs.Placed.{holds_expr, inner};
 ghost use Rattle.ecma_node.specs.View.{view_assign_target};
-ghost use Rattle.ecma_reading.specs.Source.{unexpected};
+ghost use Rattle.ecma_reading.specs.Source.{unfit};
 ghost use Rattle.ecma_reading.specs.Cover.{to_target};
 ghost use Rattle.ecma_parse_state.specs.Answers.{Gives};
 ghost use Rattle.ecma_parse_cover.specs.Items.{may_be_target};
@@ -20,7 +20,7 @@ use std::alloc::Global;
 pub fn is_target(kind: u8, expr: &ExprBox) -> bool
     requires { holds_expr expr.now.part.value }
     ensures some { result ≡ true → may_be_target kind (inner expr.now.part.value) ≡ true }
-    ensures none { result ≡ false → (commas : List ℕ) → to_target kind commas (inner expr.now.part.value) ≡ unexpected }
+    ensures none { result ≡ false → (commas : List ℕ) → to_target kind commas (inner expr.now.part.value) ≡ unfit }
 {
     match &expr.get().kind {
         ExprKind::Ident(_) | ExprKind::Member(_) | ExprKind::SuperProp(_) => true,
@@ -38,7 +38,7 @@ pub fn target(
     left: ExprBox,
 ) -> Result<AssignTarget, Failure>
     requires { holds_expr left.part.value }
-    ensures value { Gives (λ x. view_assign_target inner x) result (to_target kind (reverse commas.now) (inner left.part.value)) }
+    ensures value { Gives (λ x. view_assign_target inner x) 0 result (to_target kind (reverse commas.now) (inner left.part.value)) }
     ensures fits { IfOk result (λ x. fits_assign_target (λ p. p) x) }
 {
     if !is_target(kind, &left) {

@@ -11,7 +11,7 @@ module _ {S : Type 0} (m : Stream S) where
   -- no arguments (13.3.5)
   unfoldable pub bare_new_by : Code → State S → Tree → Read S Tree
   bare_new_by c start f s =
-      if (nat_le member_level (level f) || (level f == new_level)) && nat_lt (goes_expr c other_end (input m s)) call_level then Ok (new_expr (spanned m start s) f absent, s) else unexpected
+      if (nat_le member_level (level f) || (level f == new_level)) && nat_lt (goes_expr c other_end (input m s)) call_level then Ok (new_expr (spanned m start s) f absent, s) else unexpected m s
 
 module _ {S : Type 0} (m : Stream S) (inner : Inner S) where
   -- arguments (13.3.5)

@@ -11,7 +11,7 @@ use Rattle.ecma_reading.specs.Expressions.{extended, template_by, chain_by, cond
 module _ {S : Type 0} (m : Stream S) where
   -- `++` or `--` behind its operand, on its line (13.4)
   unfoldable pub postfix_by : State S → Tree → Read S Tree
-  postfix_by start t s = if nat_le new_level (level t) && not (brk (input m s)) then Ok (update_expr (spanned m start (past m s)) (kind (input m s)) false t, past m s) else unexpected
+  postfix_by start t s = if nat_le new_level (level t) && not (brk (input m s)) then Ok (update_expr (spanned m start (past m s)) (kind (input m s)) false t, past m s) else unexpected m s
 
 module _ {S : Type 0} (m : Stream S) (inner : Inner S) where
   -- a comma and one more expression (13.16)
@@ -21,8 +21,8 @@ module _ {S : Type 0} (m : Stream S) (inner : Inner S) where
   -- `?`: of a chain where a dot follows (13.3), else of a conditional (13.14)
   unfoldable pub question_by : Code → State S → Tree → Read S Tree
   question_by c start t s =
-      if kind2 (input m s) == dot_kind then (if nat_le call_level (level t) then chain_by m inner c start t (past m (past m s)) else unexpected)
-      else (if nat_le coalesce_level (level t) then cond_by m inner c start t s else unexpected)
+      if kind2 (input m s) == dot_kind then (if nat_le call_level (level t) then chain_by m inner c start t (past m (past m s)) else unexpected m s)
+      else (if nat_le coalesce_level (level t) then cond_by m inner c start t s else unexpected m s)
 
   -- a template behind its tag (13.3)
   unfoldable pub tagged_by : Code → State S → Tree → Read S Tree

@@ -28,7 +28,7 @@ pub fn new_call<'a, I: Tokens<'a> + Drop, N: Nested<'a, I>>(
     f: Operand,
 ) -> Result<Operand, Failure>
     requires ready { N.ready nested.now }
-    ensures value { Gives (λ x. (tree_of x, state_of I.state p.new)) result (pieces.new_call_by (stream_of I.machine) (N.reads nested.now I.State I.machine) (code_of code) (from start.0) (tree_of f) (state_of I.state p.old)) }
+    ensures value { Gives (λ x. (tree_of x, state_of I.state p.new)) (spec.bound (stream_of I.machine) (state_of I.state p.new)) result (pieces.new_call_by (stream_of I.machine) (N.reads nested.now I.State I.machine) (code_of code) (from start.0) (tree_of f) (state_of I.state p.old)) }
     ensures shorter { Falls result (spec.bound (stream_of I.machine) (state_of I.state p.new)) (spec.bound (stream_of I.machine) (state_of I.state p.old)) }
 {
     p.bump()?;
@@ -45,7 +45,7 @@ pub fn bare_new<'a, I: Tokens<'a> + Drop>(
     start: BytePos,
     f: Operand,
 ) -> Result<Operand, Failure>
-    ensures value { Gives (λ x. (tree_of x, state_of I.state p.now)) result (pieces.bare_new_by (stream_of I.machine) (code_of code) (from start.0) (tree_of f) (state_of I.state p.now)) }
+    ensures value { Gives (λ x. (tree_of x, state_of I.state p.now)) (spec.bound (stream_of I.machine) (state_of I.state p.now)) result (pieces.bare_new_by (stream_of I.machine) (code_of code) (from start.0) (tree_of f) (state_of I.state p.now)) }
 {
     let goes = p.goes(code, OTHER_END)?;
     if (f.level >= MEMBER || f.level == NEW_LEVEL) && goes < CALL {
@@ -65,7 +65,7 @@ pub fn new_end<'a, I: Tokens<'a> + Drop, N: Nested<'a, I>>(
     f: Operand,
 ) -> Result<Operand, Failure>
     requires ready { N.ready nested.now }
-    ensures value { Gives (λ x. (tree_of x, state_of I.state p.new)) result (reads.new_end (stream_of I.machine) (N.reads nested.now I.State I.machine) (code_of code) (from start.0) (tree_of f) (state_of I.state p.old)) }
+    ensures value { Gives (λ x. (tree_of x, state_of I.state p.new)) (spec.bound (stream_of I.machine) (state_of I.state p.new)) result (reads.new_end (stream_of I.machine) (N.reads nested.now I.State I.machine) (code_of code) (from start.0) (tree_of f) (state_of I.state p.old)) }
     ensures not_longer { Stays result (spec.bound (stream_of I.machine) (state_of I.state p.new)) (spec.bound (stream_of I.machine) (state_of I.state p.old)) }
 {
     if p.at(kinds::LEFT_PAREN) && f.level >= MEMBER {
@@ -83,7 +83,7 @@ pub fn new_expr<'a, I: Tokens<'a> + Drop, N: Nested<'a, I>>(
     code: Around,
 ) -> Result<Operand, Failure>
     requires ready { N.ready nested.now }
-    ensures value { Gives (λ x. (tree_of x, state_of I.state p.new)) result (reads.new_by (stream_of I.machine) (N.reads nested.now I.State I.machine) (code_of code) (state_of I.state p.old)) }
+    ensures value { Gives (λ x. (tree_of x, state_of I.state p.new)) (spec.bound (stream_of I.machine) (state_of I.state p.new)) result (reads.new_by (stream_of I.machine) (N.reads nested.now I.State I.machine) (code_of code) (state_of I.state p.old)) }
     ensures shorter { Falls result (spec.bound (stream_of I.machine) (state_of I.state p.new)) (spec.bound (stream_of I.machine) (state_of I.state p.old)) }
 {
     let start = p.lo();

@@ -33,11 +33,14 @@ pub fn literal<'a, I: Tokens<'a> + Drop, N: Nested<'a, I>>(
     _nested: &N,
 ) -> Result<Operand, Failure>
     requires ready { N.ready _nested.now }
-    ensures value { Gives (λ x. (tree_of x, state_of I.state p.new)) result (reads.literal_by (stream_of I.machine) (N.reads _nested.now I.State I.machine) (state_of I.state p.old)) }
+    ensures value { Gives (λ x. (tree_of x, state_of I.state p.new)) (spec.bound (stream_of I.machine) (state_of I.state p.new)) result (reads.literal_by (stream_of I.machine) (N.reads _nested.now I.State I.machine) (state_of I.state p.old)) }
     ensures shorter { Falls result (spec.bound (stream_of I.machine) (state_of I.state p.new)) (spec.bound (stream_of I.machine) (state_of I.state p.old)) }
 {
     let span = p.place();
     let fault = p.unexpected();
+    if !p.is_literal() {
+        return Err(fault);
+    }
     let Some(token) = p.take()? else {
         return Err(fault);
     };
@@ -56,7 +59,7 @@ pub fn literal<'a, I: Tokens<'a> + Drop, N: Nested<'a, I>>(
 #[tactic(auto, unfolding(crate::specs::Words::fixed_word))]
 pub fn fixed<'a, I: Tokens<'a> + Drop>(p: &mut Parser<'a, I>, code: Around) -> Result<Span, Failure>
     requires { kind (spec.input (stream_of I.machine) (state_of I.state p.old)) ≢ 0 }
-    ensures value { Gives (λ x. (x, state_of I.state p.new)) result (fixed_word (stream_of I.machine) (code_of code) (state_of I.state p.old)) }
+    ensures value { Gives (λ x. (x, state_of I.state p.new)) (spec.bound (stream_of I.machine) (state_of I.state p.new)) result (fixed_word (stream_of I.machine) (code_of code) (state_of I.state p.old)) }
     ensures shorter { Falls result (spec.bound (stream_of I.machine) (state_of I.state p.new)) (spec.bound (stream_of I.machine) (state_of I.state p.old)) }
 {
     let start = p.lo();
@@ -76,7 +79,7 @@ pub fn unary<'a, I: Tokens<'a> + Drop, N: Nested<'a, I>>(
     requires ready { N.ready nested.now }
     requires op { unary_op_word op ≡ kind (spec.input (stream_of I.machine) (state_of I.state p.old)) }
     requires some { kind (spec.input (stream_of I.machine) (state_of I.state p.old)) ≢ 0 }
-    ensures value { Gives (λ x. (tree_of x, state_of I.state p.new)) result (reads.unary_by (stream_of I.machine) (N.reads nested.now I.State I.machine) (code_of code) (state_of I.state p.old)) }
+    ensures value { Gives (λ x. (tree_of x, state_of I.state p.new)) (spec.bound (stream_of I.machine) (state_of I.state p.new)) result (reads.unary_by (stream_of I.machine) (N.reads nested.now I.State I.machine) (code_of code) (state_of I.state p.old)) }
     ensures shorter { Falls result (spec.bound (stream_of I.machine) (state_of I.state p.new)) (spec.bound (stream_of I.machine) (state_of I.state p.old)) }
 {
     let start = p.lo();
@@ -96,7 +99,7 @@ pub fn update<'a, I: Tokens<'a> + Drop, N: Nested<'a, I>>(
 ) -> Result<Operand, Failure>
     requires ready { N.ready nested.now }
     requires op { update_op_word op ≡ kind (spec.input (stream_of I.machine) (state_of I.state p.old)) }
-    ensures value { Gives (λ x. (tree_of x, state_of I.state p.new)) result (reads.update_by (stream_of I.machine) (N.reads nested.now I.State I.machine) (code_of code) (state_of I.state p.old)) }
+    ensures value { Gives (λ x. (tree_of x, state_of I.state p.new)) (spec.bound (stream_of I.machine) (state_of I.state p.new)) result (reads.update_by (stream_of I.machine) (N.reads nested.now I.State I.machine) (code_of code) (state_of I.state p.old)) }
     ensures shorter { Falls result (spec.bound (stream_of I.machine) (state_of I.state p.new)) (spec.bound (stream_of I.machine) (state_of I.state p.old)) }
 {
     let start = p.lo();
@@ -114,7 +117,7 @@ pub fn awaited<'a, I: Tokens<'a> + Drop, N: Nested<'a, I>>(
     code: Around,
 ) -> Result<Operand, Failure>
     requires ready { N.ready nested.now }
-    ensures value { Gives (λ x. (tree_of x, state_of I.state p.new)) result (reads.await_by (stream_of I.machine) (N.reads nested.now I.State I.machine) (code_of code) (state_of I.state p.old)) }
+    ensures value { Gives (λ x. (tree_of x, state_of I.state p.new)) (spec.bound (stream_of I.machine) (state_of I.state p.new)) result (reads.await_by (stream_of I.machine) (N.reads nested.now I.State I.machine) (code_of code) (state_of I.state p.old)) }
     ensures shorter { Falls result (spec.bound (stream_of I.machine) (state_of I.state p.new)) (spec.bound (stream_of I.machine) (state_of I.state p.old)) }
 {
     let start = p.lo();
@@ -154,7 +157,7 @@ pub fn yield_end<'a, I: Tokens<'a> + Drop, N: Nested<'a, I>>(
     start: BytePos,
 ) -> Result<Operand, Failure>
     requires ready { N.ready nested.now }
-    ensures value { Gives (λ x. (tree_of x, state_of I.state p.new)) result (reads.yield_end (stream_of I.machine) (N.reads nested.now I.State I.machine) (code_of code) (from start.0) (state_of I.state p.old)) }
+    ensures value { Gives (λ x. (tree_of x, state_of I.state p.new)) (spec.bound (stream_of I.machine) (state_of I.state p.new)) result (reads.yield_end (stream_of I.machine) (N.reads nested.now I.State I.machine) (code_of code) (from start.0) (state_of I.state p.old)) }
     ensures not_longer { Stays result (spec.bound (stream_of I.machine) (state_of I.state p.new)) (spec.bound (stream_of I.machine) (state_of I.state p.old)) }
 {
     if p.breaks() || ends_yield(p, nested, p.kind()) {
@@ -177,7 +180,7 @@ pub fn array<'a, I: Tokens<'a> + Drop, N: Nested<'a, I>>(
     code: Around,
 ) -> Result<Operand, Failure>
     requires ready { N.ready nested.now }
-    ensures value { Gives (λ x. (tree_of x, state_of I.state p.new)) result (reads.array_by (stream_of I.machine) (N.reads nested.now I.State I.machine) (code_of code) (state_of I.state p.old)) }
+    ensures value { Gives (λ x. (tree_of x, state_of I.state p.new)) (spec.bound (stream_of I.machine) (state_of I.state p.new)) result (reads.array_by (stream_of I.machine) (N.reads nested.now I.State I.machine) (code_of code) (state_of I.state p.old)) }
     ensures shorter { Falls result (spec.bound (stream_of I.machine) (state_of I.state p.new)) (spec.bound (stream_of I.machine) (state_of I.state p.old)) }
 {
     let start = p.lo();
@@ -199,7 +202,7 @@ pub fn callee<'a, I: Tokens<'a> + Drop, N: Nested<'a, I>>(
     code: Around,
 ) -> Result<Operand, Failure>
     requires ready { N.ready nested.now }
-    ensures value { Gives (λ x. (tree_of x, state_of I.state p.new)) result (reads.callee_by (stream_of I.machine) (N.reads nested.now I.State I.machine) (code_of code) (state_of I.state p.old)) }
+    ensures value { Gives (λ x. (tree_of x, state_of I.state p.new)) (spec.bound (stream_of I.machine) (state_of I.state p.new)) result (reads.callee_by (stream_of I.machine) (N.reads nested.now I.State I.machine) (code_of code) (state_of I.state p.old)) }
     ensures shorter { Falls result (spec.bound (stream_of I.machine) (state_of I.state p.new)) (spec.bound (stream_of I.machine) (state_of I.state p.old)) }
 {
     if p.at(kinds::ASYNC) {
@@ -223,7 +226,7 @@ pub fn super_end<'a, I: Tokens<'a> + Drop, N: Nested<'a, I>>(
     place: Span,
 ) -> Result<Operand, Failure>
     requires ready { N.ready nested.now }
-    ensures value { Gives (λ x. (tree_of x, state_of I.state p.new)) result (reads.super_end (stream_of I.machine) (N.reads nested.now I.State I.machine) (code_of code) (from_span place) (state_of I.state p.old)) }
+    ensures value { Gives (λ x. (tree_of x, state_of I.state p.new)) (spec.bound (stream_of I.machine) (state_of I.state p.new)) result (reads.super_end (stream_of I.machine) (N.reads nested.now I.State I.machine) (code_of code) (from_span place) (state_of I.state p.old)) }
     ensures shorter { Falls result (spec.bound (stream_of I.machine) (state_of I.state p.new)) (spec.bound (stream_of I.machine) (state_of I.state p.old)) }
 {
     if p.eat(kinds::LEFT_PAREN)? {
@@ -262,7 +265,7 @@ pub fn yielded<'a, I: Tokens<'a> + Drop, N: Nested<'a, I>>(
     code: Around,
 ) -> Result<Operand, Failure>
     requires ready { N.ready nested.now }
-    ensures value { Gives (λ x. (tree_of x, state_of I.state p.new)) result (reads.yield_by (stream_of I.machine) (N.reads nested.now I.State I.machine) (code_of code) (state_of I.state p.old)) }
+    ensures value { Gives (λ x. (tree_of x, state_of I.state p.new)) (spec.bound (stream_of I.machine) (state_of I.state p.new)) result (reads.yield_by (stream_of I.machine) (N.reads nested.now I.State I.machine) (code_of code) (state_of I.state p.old)) }
     ensures shorter { Falls result (spec.bound (stream_of I.machine) (state_of I.state p.new)) (spec.bound (stream_of I.machine) (state_of I.state p.old)) }
 {
     let start = p.lo();

@@ -54,7 +54,7 @@ pub fn characters_end<'a, I: Tokens<'a> + Drop, N: Nested<'a, I>>(
     requires ready { N.ready nested.now }
     requires fits { FitSpans spans.old }
     requires tail { element.tail ≡ false }
-    ensures value { Gives (λ x. (going_on x (spans_of spans.new), state_of I.state p.new)) result (reads.quasi_end (stream_of I.machine) (N.reads nested.now I.State I.machine) (code_of code) tagged (spans_of spans.old) (element_at element) (state_of I.state p.old)) }
+    ensures value { Gives (λ x. (going_on x (spans_of spans.new), state_of I.state p.new)) (spec.bound (stream_of I.machine) (state_of I.state p.new)) result (reads.quasi_end (stream_of I.machine) (N.reads nested.now I.State I.machine) (code_of code) tagged (spans_of spans.old) (element_at element) (state_of I.state p.old)) }
     ensures fits { IfOk result (λ _. FitSpans spans.new) }
     ensures shorter { Falls result (spec.bound (stream_of I.machine) (state_of I.state p.new)) (spec.bound (stream_of I.machine) (state_of I.state p.old)) }
 {
@@ -85,13 +85,16 @@ fn quasi<'a, I: Tokens<'a> + Drop, N: Nested<'a, I>>(
     p: &mut Parser<'a, I>,
     _nested: &N,
 ) -> Result<TplElement, Failure>
-    ensures value { Gives (λ _. state_of I.state p.new) result (spec.eat (stream_of I.machine) template_kind (state_of I.state p.old)) }
+    ensures value { Gives (λ _. state_of I.state p.new) (spec.bound (stream_of I.machine) (state_of I.state p.new)) result (spec.eat (stream_of I.machine) template_kind (state_of I.state p.old)) }
     ensures element { IfOk result (λ x. element_at x ≡ reads.quasi (stream_of I.machine) (N.reads _nested.now I.State I.machine) (content (spec.input (stream_of I.machine) (state_of I.state p.old))) (first_span (spec.input (stream_of I.machine) (state_of I.state p.old)))) }
     ensures tail { IfOk result (λ x. x.tail ≡ false) }
     ensures shorter { Falls result (spec.bound (stream_of I.machine) (state_of I.state p.new)) (spec.bound (stream_of I.machine) (state_of I.state p.old)) }
 {
     let span = p.place();
     let fault = p.unexpected();
+    if !p.at(kinds::TEMPLATE) {
+        return Err(fault);
+    }
     let Some(token) = p.take()? else {
         return Err(fault);
     };
@@ -113,7 +116,7 @@ pub fn characters<'a, I: Tokens<'a> + Drop, N: Nested<'a, I>>(
 ) -> Result<bool, Failure>
     requires ready { N.ready nested.now }
     requires fits { FitSpans spans.old }
-    ensures value { Gives (λ x. (going_on x (spans_of spans.new), state_of I.state p.new)) result (reads.quasi_step (stream_of I.machine) (N.reads nested.now I.State I.machine) (code_of code) tagged (spans_of spans.old) (state_of I.state p.old)) }
+    ensures value { Gives (λ x. (going_on x (spans_of spans.new), state_of I.state p.new)) (spec.bound (stream_of I.machine) (state_of I.state p.new)) result (reads.quasi_step (stream_of I.machine) (N.reads nested.now I.State I.machine) (code_of code) tagged (spans_of spans.old) (state_of I.state p.old)) }
     ensures fits { IfOk result (λ _. FitSpans spans.new) }
     ensures shorter { Falls result (spec.bound (stream_of I.machine) (state_of I.state p.new)) (spec.bound (stream_of I.machine) (state_of I.state p.old)) }
 {
@@ -131,7 +134,7 @@ pub fn spans<'a, I: Tokens<'a> + Drop, N: Nested<'a, I>>(
     tagged: bool,
 ) -> Result<Spans, Failure>
     requires ready { N.ready nested.now }
-    ensures value { Gives (λ x. (spans_of x, state_of I.state p.new)) result (spans_by (stream_of I.machine) (N.reads nested.now I.State I.machine) (code_of code) tagged (state_of I.state p.old)) }
+    ensures value { Gives (λ x. (spans_of x, state_of I.state p.new)) (spec.bound (stream_of I.machine) (state_of I.state p.new)) result (spans_by (stream_of I.machine) (N.reads nested.now I.State I.machine) (code_of code) tagged (state_of I.state p.old)) }
     ensures fits { IfOk result (λ x. FitSpans x) }
     ensures shorter { Falls result (spec.bound (stream_of I.machine) (state_of I.state p.new)) (spec.bound (stream_of I.machine) (state_of I.state p.old)) }
 {
@@ -169,7 +172,7 @@ pub fn template<'a, I: Tokens<'a> + Drop, N: Nested<'a, I>>(
     tagged: bool,
 ) -> Result<Box<Tpl>, Failure>
     requires ready { N.ready nested.now }
-    ensures value { Gives (λ x. (view_tpl inner x.value, state_of I.state p.new)) result (reads.template_by (stream_of I.machine) (N.reads nested.now I.State I.machine) (code_of code) tagged (state_of I.state p.old)) }
+    ensures value { Gives (λ x. (view_tpl inner x.value, state_of I.state p.new)) (spec.bound (stream_of I.machine) (state_of I.state p.new)) result (reads.template_by (stream_of I.machine) (N.reads nested.now I.State I.machine) (code_of code) tagged (state_of I.state p.old)) }
     ensures fits { IfOk result (λ x. fits_tpl (λ p. p) x.value) }
     ensures shorter { Falls result (spec.bound (stream_of I.machine) (state_of I.state p.new)) (spec.bound (stream_of I.machine) (state_of I.state p.old)) }
 {
@@ -190,7 +193,7 @@ pub fn tagged<'a, I: Tokens<'a> + Drop, N: Nested<'a, I>>(
     tag: Operand,
 ) -> Result<Operand, Failure>
     requires ready { N.ready nested.now }
-    ensures value { Gives (λ x. (tree_of x, state_of I.state p.new)) result (tagged_by (stream_of I.machine) (N.reads nested.now I.State I.machine) (code_of code) (from start.0) (tree_of tag) (state_of I.state p.old)) }
+    ensures value { Gives (λ x. (tree_of x, state_of I.state p.new)) (spec.bound (stream_of I.machine) (state_of I.state p.new)) result (tagged_by (stream_of I.machine) (N.reads nested.now I.State I.machine) (code_of code) (from start.0) (tree_of tag) (state_of I.state p.old)) }
     ensures shorter { Falls result (spec.bound (stream_of I.machine) (state_of I.state p.new)) (spec.bound (stream_of I.machine) (state_of I.state p.old)) }
 {
     let tpl = template(p, nested, code, true)?;

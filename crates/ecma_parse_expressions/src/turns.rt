@@ -38,7 +38,7 @@ pub fn sequence<'a, I: Tokens<'a> + Drop, N: Nested<'a, I>>(
     left: Operand,
 ) -> Result<Operand, Failure>
     requires ready { N.ready nested.now }
-    ensures value { Gives (λ x. (tree_of x, state_of I.state p.new)) result (sequence_by (stream_of I.machine) (N.reads nested.now I.State I.machine) (code_of code) (from start.0) (tree_of left) (state_of I.state p.old)) }
+    ensures value { Gives (λ x. (tree_of x, state_of I.state p.new)) (spec.bound (stream_of I.machine) (state_of I.state p.new)) result (sequence_by (stream_of I.machine) (N.reads nested.now I.State I.machine) (code_of code) (from start.0) (tree_of left) (state_of I.state p.old)) }
     ensures shorter { Falls result (spec.bound (stream_of I.machine) (state_of I.state p.new)) (spec.bound (stream_of I.machine) (state_of I.state p.old)) }
 {
     let left = Held { value: left };
@@ -59,7 +59,7 @@ pub fn question<'a, I: Tokens<'a> + Drop, N: Nested<'a, I>>(
 ) -> Result<Operand, Failure>
     requires ready { N.ready nested.now }
     requires mark { kind (spec.input (stream_of I.machine) (state_of I.state p.old)) ≡ question_mark_kind }
-    ensures value { Gives (λ x. (tree_of x, state_of I.state p.new)) result (question_by (stream_of I.machine) (N.reads nested.now I.State I.machine) (code_of code) (from start.0) (tree_of left) (state_of I.state p.old)) }
+    ensures value { Gives (λ x. (tree_of x, state_of I.state p.new)) (spec.bound (stream_of I.machine) (state_of I.state p.new)) result (question_by (stream_of I.machine) (N.reads nested.now I.State I.machine) (code_of code) (from start.0) (tree_of left) (state_of I.state p.old)) }
     ensures shorter { Falls result (spec.bound (stream_of I.machine) (state_of I.state p.new)) (spec.bound (stream_of I.machine) (state_of I.state p.old)) }
 {
     let left = Held { value: left };
@@ -89,7 +89,7 @@ pub fn postfix<'a, I: Tokens<'a> + Drop>(
 ) -> Result<Operand, Failure>
     requires mark { update_op_word op ≡ kind (spec.input (stream_of I.machine) (state_of I.state p.old)) }
     requires some { kind (spec.input (stream_of I.machine) (state_of I.state p.old)) ≢ 0 }
-    ensures value { Gives (λ x. (tree_of x, state_of I.state p.new)) result (postfix_by (stream_of I.machine) (from start.0) (tree_of left) (state_of I.state p.old)) }
+    ensures value { Gives (λ x. (tree_of x, state_of I.state p.new)) (spec.bound (stream_of I.machine) (state_of I.state p.new)) result (postfix_by (stream_of I.machine) (from start.0) (tree_of left) (state_of I.state p.old)) }
     ensures shorter { Falls result (spec.bound (stream_of I.machine) (state_of I.state p.new)) (spec.bound (stream_of I.machine) (state_of I.state p.old)) }
 {
     if left.level < NEW_LEVEL {
@@ -121,7 +121,7 @@ pub fn step<'a, I: Tokens<'a> + Drop, N: Nested<'a, I>>(
     left: Operand,
 ) -> Result<Operand, Failure>
     requires ready { N.ready nested.now }
-    ensures value { Gives (λ x. (tree_of x, state_of I.state p.new)) result (reads.step_by (stream_of I.machine) (N.reads nested.now I.State I.machine) (code_of code) (from start.0) (tree_of left) (state_of I.state p.old)) }
+    ensures value { Gives (λ x. (tree_of x, state_of I.state p.new)) (spec.bound (stream_of I.machine) (state_of I.state p.new)) result (reads.step_by (stream_of I.machine) (N.reads nested.now I.State I.machine) (code_of code) (from start.0) (tree_of left) (state_of I.state p.old)) }
     ensures shorter { Falls result (spec.bound (stream_of I.machine) (state_of I.state p.new)) (spec.bound (stream_of I.machine) (state_of I.state p.old)) }
 {
     let kind = p.kind();
@@ -170,7 +170,7 @@ pub fn turn<'a, I: Tokens<'a> + Drop, N: Nested<'a, I>>(
     left: Operand,
 ) -> Result<(bool, Operand), Failure>
     requires ready { N.ready nested.now }
-    ensures value { Gives (λ x. (going_on x.0 (tree_of x.1), state_of I.state p.new)) result (reads.loop_step (stream_of I.machine) (N.reads nested.now I.State I.machine) (code_of code) least (from start.0) (tree_of left) (state_of I.state p.old)) }
+    ensures value { Gives (λ x. (going_on x.0 (tree_of x.1), state_of I.state p.new)) (spec.bound (stream_of I.machine) (state_of I.state p.new)) result (reads.loop_step (stream_of I.machine) (N.reads nested.now I.State I.machine) (code_of code) least (from start.0) (tree_of left) (state_of I.state p.old)) }
     ensures shorter { IfOk result (λ x. IsTrue x.0 → spec.bound (stream_of I.machine) (state_of I.state p.new) < spec.bound (stream_of I.machine) (state_of I.state p.old)) }
     ensures not_longer { Stays result (spec.bound (stream_of I.machine) (state_of I.state p.new)) (spec.bound (stream_of I.machine) (state_of I.state p.old)) }
 {
@@ -195,7 +195,7 @@ pub fn operators<'a, I: Tokens<'a> + Drop, N: Nested<'a, I>>(
     first: Operand,
 ) -> Result<Operand, Failure>
     requires ready { N.ready nested.now }
-    ensures value { Gives (λ x. (tree_of x, state_of I.state p.new)) result (reads.loop_by (stream_of I.machine) (N.reads nested.now I.State I.machine) (code_of code) least (from start.0) (tree_of first) (state_of I.state p.old)) }
+    ensures value { Gives (λ x. (tree_of x, state_of I.state p.new)) (spec.bound (stream_of I.machine) (state_of I.state p.new)) result (reads.loop_by (stream_of I.machine) (N.reads nested.now I.State I.machine) (code_of code) least (from start.0) (tree_of first) (state_of I.state p.old)) }
     ensures not_longer { Stays result (spec.bound (stream_of I.machine) (state_of I.state p.new)) (spec.bound (stream_of I.machine) (state_of I.state p.old)) }
 {
     if first.level < least {

@@ -29,7 +29,7 @@ pub fn parameter<'a, I: Tokens<'a> + Drop, N: Nested<'a, I>>(
     code: Around,
 ) -> Result<Param, Failure>
     requires ready { N.ready nested.now }
-    ensures value { Gives (λ x. (view_param inner x, state_of I.state p.new)) result (reads.parameter_by (stream_of I.machine) (N.reads nested.now I.State I.machine) (code_of code) (state_of I.state p.old)) }
+    ensures value { Gives (λ x. (view_param inner x, state_of I.state p.new)) (spec.bound (stream_of I.machine) (state_of I.state p.new)) result (reads.parameter_by (stream_of I.machine) (N.reads nested.now I.State I.machine) (code_of code) (state_of I.state p.old)) }
     ensures fits { IfOk result (λ x. fits_param (λ p. p) x) }
     ensures shorter { Falls result (spec.bound (stream_of I.machine) (state_of I.state p.new)) (spec.bound (stream_of I.machine) (state_of I.state p.old)) }
 {
@@ -70,7 +70,7 @@ pub fn parameter_turn<'a, I: Tokens<'a> + Drop, N: Nested<'a, I>>(
 ) -> Result<bool, Failure>
     requires ready { N.ready nested.now }
     requires fits { All (λ x. fits_param (λ p. p) x) params.old.items }
-    ensures value { Gives (λ x. (going_on x (map (view_param inner) params.new.items), state_of I.state p.new)) result (reads.parameter_step (stream_of I.machine) (N.reads nested.now I.State I.machine) (code_of code) (map (view_param inner) params.old.items) (state_of I.state p.old)) }
+    ensures value { Gives (λ x. (going_on x (map (view_param inner) params.new.items), state_of I.state p.new)) (spec.bound (stream_of I.machine) (state_of I.state p.new)) result (reads.parameter_step (stream_of I.machine) (N.reads nested.now I.State I.machine) (code_of code) (map (view_param inner) params.old.items) (state_of I.state p.old)) }
     ensures fits { IfOk result (λ _. All (λ x. fits_param (λ p. p) x) params.new.items) }
     ensures shorter { Falls result (spec.bound (stream_of I.machine) (state_of I.state p.new)) (spec.bound (stream_of I.machine) (state_of I.state p.old)) }
 {
@@ -96,7 +96,7 @@ pub fn parameters<'a, I: Tokens<'a> + Drop, N: Nested<'a, I>>(
     code: Around,
 ) -> Result<Vec<Param>, Failure>
     requires ready { N.ready nested.now }
-    ensures value { Gives (λ x. (map (view_param inner) x.items, state_of I.state p.new)) result (reads.parameters_by (stream_of I.machine) (N.reads nested.now I.State I.machine) (code_of code) (state_of I.state p.old)) }
+    ensures value { Gives (λ x. (map (view_param inner) x.items, state_of I.state p.new)) (spec.bound (stream_of I.machine) (state_of I.state p.new)) result (reads.parameters_by (stream_of I.machine) (N.reads nested.now I.State I.machine) (code_of code) (state_of I.state p.old)) }
     ensures fits { IfOk result (λ x. All (λ x. fits_param (λ p. p) x) x.items) }
     ensures shorter { Falls result (spec.bound (stream_of I.machine) (state_of I.state p.new)) (spec.bound (stream_of I.machine) (state_of I.state p.old)) }
 {
@@ -118,7 +118,7 @@ pub fn function<'a, I: Tokens<'a> + Drop, N: Nested<'a, I>>(
     is_async: bool,
 ) -> Result<Box<Function>, Failure>
     requires ready { N.ready nested.now }
-    ensures value { Gives (λ x. (view_function inner x.value, state_of I.state p.new)) result (reads.function_by (stream_of I.machine) (N.reads nested.now I.State I.machine) (code_of code) whole.0 generator is_async (state_of I.state p.old)) }
+    ensures value { Gives (λ x. (view_function inner x.value, state_of I.state p.new)) (spec.bound (stream_of I.machine) (state_of I.state p.new)) result (reads.function_by (stream_of I.machine) (N.reads nested.now I.State I.machine) (code_of code) whole.0 generator is_async (state_of I.state p.old)) }
     ensures fits { IfOk result (λ x. fits_function (λ p. p) x.value) }
     ensures shorter { Falls result (spec.bound (stream_of I.machine) (state_of I.state p.new)) (spec.bound (stream_of I.machine) (state_of I.state p.old)) }
 {
@@ -145,7 +145,7 @@ pub fn close_parameters<'a, I: Tokens<'a> + Drop>(
     p: &mut Parser<'a, I>,
     kind: SyntaxError,
 ) -> Result<(), Failure>
-    ensures value { Gives (λ _. state_of I.state p.new) result (spec.eat (stream_of I.machine) right_paren_kind (state_of I.state p.old)) }
+    ensures value { Gives (λ _. state_of I.state p.new) (spec.bound (stream_of I.machine) (state_of I.state p.new)) result (spec.eat (stream_of I.machine) right_paren_kind (state_of I.state p.old)) }
     ensures shorter { Falls result (spec.bound (stream_of I.machine) (state_of I.state p.new)) (spec.bound (stream_of I.machine) (state_of I.state p.old)) }
 {
     if p.eat(kinds::RIGHT_PAREN)? {
@@ -172,7 +172,7 @@ pub fn setter_parameter<'a, I: Tokens<'a> + Drop, N: Nested<'a, I>>(
     code: Around,
 ) -> Result<Param, Failure>
     requires ready { N.ready nested.now }
-    ensures value { Gives (λ x. (view_param inner x, state_of I.state p.new)) result (reads.setter_parameter (stream_of I.machine) (N.reads nested.now I.State I.machine) (code_of code) (state_of I.state p.old)) }
+    ensures value { Gives (λ x. (view_param inner x, state_of I.state p.new)) (spec.bound (stream_of I.machine) (state_of I.state p.new)) result (reads.setter_parameter (stream_of I.machine) (N.reads nested.now I.State I.machine) (code_of code) (state_of I.state p.old)) }
     ensures fits { IfOk result (λ x. fits_param (λ p. p) x) }
     ensures shorter { Falls result (spec.bound (stream_of I.machine) (state_of I.state p.new)) (spec.bound (stream_of I.machine) (state_of I.state p.old)) }
 {

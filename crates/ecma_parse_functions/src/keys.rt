@@ -30,12 +30,15 @@ pub fn literal_key<'a, I: Tokens<'a> + Drop, N: Nested<'a, I>>(
 ) -> Result<PropName, Failure>
     requires ready { N.ready _nested.now }
     requires other { spec.at (stream_of I.machine) regex_kind (state_of I.state p.old) ≡ false }
-    ensures value { Gives (λ x. (view_prop_name inner x, state_of I.state p.new)) result (reads.literal_by (stream_of I.machine) (N.reads _nested.now I.State I.machine) (state_of I.state p.old)) }
+    ensures value { Gives (λ x. (view_prop_name inner x, state_of I.state p.new)) (spec.bound (stream_of I.machine) (state_of I.state p.new)) result (reads.literal_by (stream_of I.machine) (N.reads _nested.now I.State I.machine) (state_of I.state p.old)) }
     ensures fits { IfOk result (λ x. fits_prop_name (λ p. p) x) }
     ensures shorter { Falls result (spec.bound (stream_of I.machine) (state_of I.state p.new)) (spec.bound (stream_of I.machine) (state_of I.state p.old)) }
 {
     let span = p.place();
     let fault = p.unexpected();
+    if !p.is_literal() {
+        return Err(fault);
+    }
     let Some(token) = p.take()? else {
         return Err(fault);
     };
@@ -58,7 +61,7 @@ pub fn key<'a, I: Tokens<'a> + Drop, N: Nested<'a, I>>(
     code: Around,
 ) -> Result<PropName, Failure>
     requires ready { N.ready nested.now }
-    ensures value { Gives (λ x. (view_prop_name inner x, state_of I.state p.new)) result (reads.key_by (stream_of I.machine) (N.reads nested.now I.State I.machine) (code_of code) (state_of I.state p.old)) }
+    ensures value { Gives (λ x. (view_prop_name inner x, state_of I.state p.new)) (spec.bound (stream_of I.machine) (state_of I.state p.new)) result (reads.key_by (stream_of I.machine) (N.reads nested.now I.State I.machine) (code_of code) (state_of I.state p.old)) }
     ensures fits { IfOk result (λ x. fits_prop_name (λ p. p) x) }
     ensures shorter { Falls result (spec.bound (stream_of I.machine) (state_of I.state p.new)) (spec.bound (stream_of I.machine) (state_of I.state p.old)) }
 {

@@ -4,7 +4,7 @@ use Rattle.ecma_token.specs.Kinds.{in_kind, let_kind, of_kind, async_kind}
 use Rattle.ecma_tree.specs.Tree.{Tree}
 use Rattle.ecma_syntax.specs.Input.{Code, kind2, rest}
 use Rattle.ecma_reading.specs.Cover.{to_head}
-use Rattle.ecma_reading.specs.Source.{Stream, Inner, Read, State, unexpected, ◌>>=◌, at, input, past}
+use Rattle.ecma_reading.specs.Source.{Stream, Inner, Read, State, unexpected, ◌>>=◌, at, input, past, placed, bound}
 use Rattle.ecma_reading.specs.Statements as reads
 
 -- what may not stand before `of`: `let`, and `async` before `of` itself (14.7.5)
@@ -15,9 +15,9 @@ module _ {S : Type 0} (m : Stream S) (inner : Inner S) where
   -- after the expression that heads a `for` (14.7.5)
   unfoldable pub for_target : Code → State S → Bool → Bool → Tree → Read S Tree
   for_target c start awaits barred e s =
-      if at m of_kind s then (if barred then unexpected else (to_head s.commas e >>= λ l. reads.of_rest m inner c start awaits l s))
-      else (if awaits then unexpected
-      else (if at m in_kind s then (to_head s.commas e >>= λ l. reads.in_rest m inner c start l s)
+      if at m of_kind s then (if barred then unexpected m s else (placed (bound m s) (to_head s.commas e) >>= λ l. reads.of_rest m inner c start awaits l s))
+      else (if awaits then unexpected m s
+      else (if at m in_kind s then (placed (bound m s) (to_head s.commas e) >>= λ l. reads.in_rest m inner c start l s)
       else reads.for_rest m inner c start e s))
 
   -- a head that begins with `using`, or with an expression (14.7.5)

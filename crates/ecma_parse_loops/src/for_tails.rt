@@ -33,7 +33,7 @@ pub fn clause<'a, I: Tokens<'a> + Drop, N: Nested<'a, I>>(
 ) -> Result<Option<Operand>, Failure>
     requires ready { N.ready nested.now }
     requires close { 0 < close }
-    ensures value { Gives (λ x. (part_by tree_of x, state_of I.state p.new)) result (reads.clause_by (stream_of I.machine) (N.reads nested.now I.State I.machine) (code_of code) close (state_of I.state p.old)) }
+    ensures value { Gives (λ x. (part_by tree_of x, state_of I.state p.new)) (spec.bound (stream_of I.machine) (state_of I.state p.new)) result (reads.clause_by (stream_of I.machine) (N.reads nested.now I.State I.machine) (code_of code) close (state_of I.state p.old)) }
     ensures shorter { Falls result (spec.bound (stream_of I.machine) (state_of I.state p.new)) (spec.bound (stream_of I.machine) (state_of I.state p.old)) }
 {
     if p.eat(close)? {
@@ -56,7 +56,7 @@ pub fn for_rest<'a, I: Tokens<'a> + Drop, N: Nested<'a, I>>(
 ) -> Result<StmtBox, Failure>
     requires ready { N.ready nested.now }
     requires init { fits_held (λ x. fits_var_decl_or_expr (λ p. p) x) init }
-    ensures value { Gives (λ x. (inner x.part.value, state_of I.state p.new)) result (reads.for_rest (stream_of I.machine) (N.reads nested.now I.State I.machine) (code_of code) (from start.0) (part_by (view_var_decl_or_expr inner) init) (state_of I.state p.old)) }
+    ensures value { Gives (λ x. (inner x.part.value, state_of I.state p.new)) (spec.bound (stream_of I.machine) (state_of I.state p.new)) result (reads.for_rest (stream_of I.machine) (N.reads nested.now I.State I.machine) (code_of code) (from start.0) (part_by (view_var_decl_or_expr inner) init) (state_of I.state p.old)) }
     ensures holds { IfOk result (λ x. holds_stmt x.part.value) }
     ensures shorter { Falls result (spec.bound (stream_of I.machine) (state_of I.state p.new)) (spec.bound (stream_of I.machine) (state_of I.state p.old)) }
 {
@@ -77,7 +77,7 @@ pub fn over<'a, I: Tokens<'a> + Drop, N: Nested<'a, I>>(
     level: u8,
 ) -> Result<(Operand, StmtBox), Failure>
     requires ready { N.ready nested.now }
-    ensures value { Gives (λ x. ((tree_of x.0, inner x.1.part.value), state_of I.state p.new)) result (over_by (stream_of I.machine) (N.reads nested.now I.State I.machine) (code_of code) level (state_of I.state p.old)) }
+    ensures value { Gives (λ x. ((tree_of x.0, inner x.1.part.value), state_of I.state p.new)) (spec.bound (stream_of I.machine) (state_of I.state p.new)) result (over_by (stream_of I.machine) (N.reads nested.now I.State I.machine) (code_of code) level (state_of I.state p.old)) }
     ensures fits { IfOk result (λ x. holds_stmt x.1.part.value) }
     ensures shorter { Falls result (spec.bound (stream_of I.machine) (state_of I.state p.new)) (spec.bound (stream_of I.machine) (state_of I.state p.old)) }
 {
@@ -99,7 +99,7 @@ pub fn in_rest<'a, I: Tokens<'a> + Drop, N: Nested<'a, I>>(
 ) -> Result<StmtBox, Failure>
     requires ready { N.ready nested.now }
     requires left { fits_for_head (λ p. p) left }
-    ensures value { Gives (λ x. (inner x.part.value, state_of I.state p.new)) result (reads.in_rest (stream_of I.machine) (N.reads nested.now I.State I.machine) (code_of code) (from start.0) (view_for_head inner left) (state_of I.state p.old)) }
+    ensures value { Gives (λ x. (inner x.part.value, state_of I.state p.new)) (spec.bound (stream_of I.machine) (state_of I.state p.new)) result (reads.in_rest (stream_of I.machine) (N.reads nested.now I.State I.machine) (code_of code) (from start.0) (view_for_head inner left) (state_of I.state p.old)) }
     ensures holds { IfOk result (λ x. holds_stmt x.part.value) }
     ensures shorter { Falls result (spec.bound (stream_of I.machine) (state_of I.state p.new)) (spec.bound (stream_of I.machine) (state_of I.state p.old)) }
 {
@@ -121,7 +121,7 @@ pub fn of_rest<'a, I: Tokens<'a> + Drop, N: Nested<'a, I>>(
 ) -> Result<StmtBox, Failure>
     requires ready { N.ready nested.now }
     requires left { fits_for_head (λ p. p) left }
-    ensures value { Gives (λ x. (inner x.part.value, state_of I.state p.new)) result (reads.of_rest (stream_of I.machine) (N.reads nested.now I.State I.machine) (code_of code) (from start.0) awaits (view_for_head inner left) (state_of I.state p.old)) }
+    ensures value { Gives (λ x. (inner x.part.value, state_of I.state p.new)) (spec.bound (stream_of I.machine) (state_of I.state p.new)) result (reads.of_rest (stream_of I.machine) (N.reads nested.now I.State I.machine) (code_of code) (from start.0) awaits (view_for_head inner left) (state_of I.state p.old)) }
     ensures holds { IfOk result (λ x. holds_stmt x.part.value) }
     ensures shorter { Falls result (spec.bound (stream_of I.machine) (state_of I.state p.new)) (spec.bound (stream_of I.machine) (state_of I.state p.old)) }
 {

@@ -27,7 +27,7 @@ use ecma_token_source::Tokens;
 
 /// Whether an expression is an assignment, which heads no `for`.
 fn is_assignment(expr: &Operand) -> bool
-    ensures { (commas : List ℕ) → to_head commas (tree_of expr.now) ≡ (if result then spec.unexpected else to_item false commas (tree_of expr.now)) }
+    ensures { (commas : List ℕ) → to_head commas (tree_of expr.now) ≡ (if result then spec.unfit else to_item false commas (tree_of expr.now)) }
 {
     matches!(&expr.expr.get().kind, ExprKind::Assign(_))
 }
@@ -35,7 +35,7 @@ fn is_assignment(expr: &Operand) -> bool
 /// What was read as an expression, as what a `for` with `in` or `of` assigns to.
 #[inline(never)]
 pub fn head<'a, I: Tokens<'a> + Drop>(p: &Parser<'a, I>, expr: Operand) -> Result<PatBox, Failure>
-    ensures value { Gives (λ x. inner x.part.value) result (to_head (state_of I.state p.now).commas (tree_of expr)) }
+    ensures value { Gives (λ x. inner x.part.value) 0 result (to_head (state_of I.state p.now).commas (tree_of expr)) }
     ensures holds { IfOk result (λ x. holds_pat x.part.value) }
 {
     if is_assignment(&expr) {
@@ -57,7 +57,7 @@ pub fn target<'a, I: Tokens<'a> + Drop, N: Nested<'a, I>>(
     expr: Operand,
 ) -> Result<StmtBox, Failure>
     requires ready { N.ready nested.now }
-    ensures value { Gives (λ x. (inner x.part.value, state_of I.state p.new)) result (for_target (stream_of I.machine) (N.reads nested.now I.State I.machine) (code_of code) (from start.0) awaits barred (tree_of expr) (state_of I.state p.old)) }
+    ensures value { Gives (λ x. (inner x.part.value, state_of I.state p.new)) (spec.bound (stream_of I.machine) (state_of I.state p.new)) result (for_target (stream_of I.machine) (N.reads nested.now I.State I.machine) (code_of code) (from start.0) awaits barred (tree_of expr) (state_of I.state p.old)) }
     ensures holds { IfOk result (λ x. holds_stmt x.part.value) }
     ensures shorter { Falls result (spec.bound (stream_of I.machine) (state_of I.state p.new)) (spec.bound (stream_of I.machine) (state_of I.state p.old)) }
 {
@@ -105,7 +105,7 @@ pub fn for_expression<'a, I: Tokens<'a> + Drop, N: Nested<'a, I>>(
     awaits: bool,
 ) -> Result<StmtBox, Failure>
     requires ready { N.ready nested.now }
-    ensures value { Gives (λ x. (inner x.part.value, state_of I.state p.new)) result (reads.for_expression (stream_of I.machine) (N.reads nested.now I.State I.machine) (code_of code) (from start.0) awaits (state_of I.state p.old)) }
+    ensures value { Gives (λ x. (inner x.part.value, state_of I.state p.new)) (spec.bound (stream_of I.machine) (state_of I.state p.new)) result (reads.for_expression (stream_of I.machine) (N.reads nested.now I.State I.machine) (code_of code) (from start.0) awaits (state_of I.state p.old)) }
     ensures holds { IfOk result (λ x. holds_stmt x.part.value) }
     ensures shorter { Falls result (spec.bound (stream_of I.machine) (state_of I.state p.new)) (spec.bound (stream_of I.machine) (state_of I.state p.old)) }
 {
@@ -170,7 +170,7 @@ pub fn using_head<'a, I: Tokens<'a> + Drop, N: Nested<'a, I>>(
     awaits: bool,
 ) -> Result<StmtBox, Failure>
     requires ready { N.ready nested.now }
-    ensures value { Gives (λ x. (inner x.part.value, state_of I.state p.new)) result (using_head (stream_of I.machine) (N.reads nested.now I.State I.machine) (code_of code) (from start.0) awaits (state_of I.state p.old)) }
+    ensures value { Gives (λ x. (inner x.part.value, state_of I.state p.new)) (spec.bound (stream_of I.machine) (state_of I.state p.new)) result (using_head (stream_of I.machine) (N.reads nested.now I.State I.machine) (code_of code) (from start.0) awaits (state_of I.state p.old)) }
     ensures holds { IfOk result (λ x. holds_stmt x.part.value) }
     ensures shorter { Falls result (spec.bound (stream_of I.machine) (state_of I.state p.new)) (spec.bound (stream_of I.machine) (state_of I.state p.old)) }
 {
@@ -196,7 +196,7 @@ pub fn for_head<'a, I: Tokens<'a> + Drop, N: Nested<'a, I>>(
     awaits: bool,
 ) -> Result<StmtBox, Failure>
     requires ready { N.ready nested.now }
-    ensures value { Gives (λ x. (inner x.part.value, state_of I.state p.new)) result (reads.for_head (stream_of I.machine) (N.reads nested.now I.State I.machine) (code_of code) (from start.0) awaits (state_of I.state p.old)) }
+    ensures value { Gives (λ x. (inner x.part.value, state_of I.state p.new)) (spec.bound (stream_of I.machine) (state_of I.state p.new)) result (reads.for_head (stream_of I.machine) (N.reads nested.now I.State I.machine) (code_of code) (from start.0) awaits (state_of I.state p.old)) }
     ensures holds { IfOk result (λ x. holds_stmt x.part.value) }
     ensures shorter { Falls result (spec.bound (stream_of I.machine) (state_of I.state p.new)) (spec.bound (stream_of I.machine) (state_of I.state p.old)) }
 {
@@ -227,7 +227,7 @@ pub fn for_loop<'a, I: Tokens<'a> + Drop, N: Nested<'a, I>>(
     code: Around,
 ) -> Result<StmtBox, Failure>
     requires ready { N.ready nested.now }
-    ensures value { Gives (λ x. (inner x.part.value, state_of I.state p.new)) result (reads.for_by (stream_of I.machine) (N.reads nested.now I.State I.machine) (code_of code) (state_of I.state p.old)) }
+    ensures value { Gives (λ x. (inner x.part.value, state_of I.state p.new)) (spec.bound (stream_of I.machine) (state_of I.state p.new)) result (reads.for_by (stream_of I.machine) (N.reads nested.now I.State I.machine) (code_of code) (state_of I.state p.old)) }
     ensures holds { IfOk result (λ x. holds_stmt x.part.value) }
     ensures shorter { Falls result (spec.bound (stream_of I.machine) (state_of I.state p.new)) (spec.bound (stream_of I.machine) (state_of I.state p.old)) }
 {

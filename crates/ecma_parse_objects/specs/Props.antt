@@ -26,7 +26,7 @@ module _ {S : Type 0} (m : Stream S) (inner : Inner S) where
   prop_end c place word k s =
       if at m colon_kind s then (inner.expr (with_in c) assignment_level (past m s) >>= λ v. Ok (key_value_prop (span place.lo.0 (m.last v.1.source)) k v.0, v.1))
       else (if at m left_paren_kind s then (function_by m inner c place.lo.0 false false s >>= λ f. Ok (method_prop (span place.lo.0 (m.last f.1.source)) k f.0, f.1))
-      else elim word [ None ↦ unexpected | Some n ↦ shorthand_by c place n s ])
+      else elim word [ None ↦ unexpected m s | Some n ↦ shorthand_by c place n s ])
 
   -- a property that starts with its key (13.2.5)
   unfoldable pub keyed_by : Code → Read S Tree

@@ -43,7 +43,7 @@ pub fn prop_turn<'a, I: Tokens<'a> + Drop, N: Nested<'a, I>>(
     requires ready { N.ready nested.now }
     requires fits { FitProps list.old }
     requires rest { TellsRest list.old }
-    ensures value { Gives (λ x. (going_on x (props_of list.new), state_of I.state p.new)) result (reads.prop_step (stream_of I.machine) (N.reads nested.now I.State I.machine) (code_of code) (props_of list.old) (state_of I.state p.old)) }
+    ensures value { Gives (λ x. (going_on x (props_of list.new), state_of I.state p.new)) (spec.bound (stream_of I.machine) (state_of I.state p.new)) result (reads.prop_step (stream_of I.machine) (N.reads nested.now I.State I.machine) (code_of code) (props_of list.old) (state_of I.state p.old)) }
     ensures fits { IfOk result (λ _. FitProps list.new) }
     ensures rest { IfOk result (λ _. TellsRest list.new) }
     ensures shorter { Falls result (spec.bound (stream_of I.machine) (state_of I.state p.new)) (spec.bound (stream_of I.machine) (state_of I.state p.old)) }
@@ -67,7 +67,7 @@ pub fn props<'a, I: Tokens<'a> + Drop, N: Nested<'a, I>>(
     code: Around,
 ) -> Result<Props, Failure>
     requires ready { N.ready nested.now }
-    ensures value { Gives (λ x. (props_of x, state_of I.state p.new)) result (props_by (stream_of I.machine) (N.reads nested.now I.State I.machine) (code_of code) (state_of I.state p.old)) }
+    ensures value { Gives (λ x. (props_of x, state_of I.state p.new)) (spec.bound (stream_of I.machine) (state_of I.state p.new)) result (props_by (stream_of I.machine) (N.reads nested.now I.State I.machine) (code_of code) (state_of I.state p.old)) }
     ensures fits { IfOk result (λ x. FitProps x) }
     ensures rest { IfOk result (λ x. TellsRest x) }
     ensures shorter { Falls result (spec.bound (stream_of I.machine) (state_of I.state p.new)) (spec.bound (stream_of I.machine) (state_of I.state p.old)) }
@@ -90,7 +90,7 @@ pub fn object<'a, I: Tokens<'a> + Drop, N: Nested<'a, I>>(
     code: Around,
 ) -> Result<Operand, Failure>
     requires ready { N.ready nested.now }
-    ensures value { Gives (λ x. (tree_of x, state_of I.state p.new)) result (reads.object_by (stream_of I.machine) (N.reads nested.now I.State I.machine) (code_of code) (state_of I.state p.old)) }
+    ensures value { Gives (λ x. (tree_of x, state_of I.state p.new)) (spec.bound (stream_of I.machine) (state_of I.state p.new)) result (reads.object_by (stream_of I.machine) (N.reads nested.now I.State I.machine) (code_of code) (state_of I.state p.old)) }
     ensures shorter { Falls result (spec.bound (stream_of I.machine) (state_of I.state p.new)) (spec.bound (stream_of I.machine) (state_of I.state p.old)) }
 {
     let start = p.lo();

@@ -37,7 +37,7 @@ pub fn method<'a, I: Tokens<'a> + Drop, N: Nested<'a, I>>(
     is_async: bool,
 ) -> Result<PropOrSpread, Failure>
     requires ready { N.ready nested.now }
-    ensures value { Gives (λ x. (view_prop_or_spread inner x, state_of I.state p.new)) result (reads.method_prop_by (stream_of I.machine) (N.reads nested.now I.State I.machine) (code_of code) whole.0 generator is_async (state_of I.state p.old)) }
+    ensures value { Gives (λ x. (view_prop_or_spread inner x, state_of I.state p.new)) (spec.bound (stream_of I.machine) (state_of I.state p.new)) result (reads.method_prop_by (stream_of I.machine) (N.reads nested.now I.State I.machine) (code_of code) whole.0 generator is_async (state_of I.state p.old)) }
     ensures fits { IfOk result (λ x. fits_prop_or_spread (λ p. p) x) }
     ensures shorter { Falls result (spec.bound (stream_of I.machine) (state_of I.state p.new)) (spec.bound (stream_of I.machine) (state_of I.state p.old)) }
 {
@@ -55,7 +55,7 @@ pub fn getter<'a, I: Tokens<'a> + Drop, N: Nested<'a, I>>(
     code: Around,
 ) -> Result<PropOrSpread, Failure>
     requires ready { N.ready nested.now }
-    ensures value { Gives (λ x. (view_prop_or_spread inner x, state_of I.state p.new)) result (reads.getter_by (stream_of I.machine) (N.reads nested.now I.State I.machine) (code_of code) (state_of I.state p.old)) }
+    ensures value { Gives (λ x. (view_prop_or_spread inner x, state_of I.state p.new)) (spec.bound (stream_of I.machine) (state_of I.state p.new)) result (reads.getter_by (stream_of I.machine) (N.reads nested.now I.State I.machine) (code_of code) (state_of I.state p.old)) }
     ensures fits { IfOk result (λ x. fits_prop_or_spread (λ p. p) x) }
     ensures shorter { Falls result (spec.bound (stream_of I.machine) (state_of I.state p.new)) (spec.bound (stream_of I.machine) (state_of I.state p.old)) }
 {
@@ -77,7 +77,7 @@ pub fn setter<'a, I: Tokens<'a> + Drop, N: Nested<'a, I>>(
     code: Around,
 ) -> Result<PropOrSpread, Failure>
     requires ready { N.ready nested.now }
-    ensures value { Gives (λ x. (view_prop_or_spread inner x, state_of I.state p.new)) result (reads.setter_by (stream_of I.machine) (N.reads nested.now I.State I.machine) (code_of code) (state_of I.state p.old)) }
+    ensures value { Gives (λ x. (view_prop_or_spread inner x, state_of I.state p.new)) (spec.bound (stream_of I.machine) (state_of I.state p.new)) result (reads.setter_by (stream_of I.machine) (N.reads nested.now I.State I.machine) (code_of code) (state_of I.state p.old)) }
     ensures fits { IfOk result (λ x. fits_prop_or_spread (λ p. p) x) }
     ensures shorter { Falls result (spec.bound (stream_of I.machine) (state_of I.state p.new)) (spec.bound (stream_of I.machine) (state_of I.state p.old)) }
 {
@@ -101,7 +101,7 @@ pub fn shorthand<'a, I: Tokens<'a> + Drop, N: Nested<'a, I>>(
     sym: Atom,
 ) -> Result<PropOrSpread, Failure>
     requires ready { N.ready nested.now }
-    ensures value { Gives (λ x. (view_prop_or_spread inner x, state_of I.state p.new)) result (pieces.shorthand_by (stream_of I.machine) (N.reads nested.now I.State I.machine) (code_of code) place sym (state_of I.state p.old)) }
+    ensures value { Gives (λ x. (view_prop_or_spread inner x, state_of I.state p.new)) (spec.bound (stream_of I.machine) (state_of I.state p.new)) result (pieces.shorthand_by (stream_of I.machine) (N.reads nested.now I.State I.machine) (code_of code) place sym (state_of I.state p.old)) }
     ensures fits { IfOk result (λ x. fits_prop_or_spread (λ p. p) x) }
     ensures not_longer { Stays result (spec.bound (stream_of I.machine) (state_of I.state p.new)) (spec.bound (stream_of I.machine) (state_of I.state p.old)) }
 {
@@ -125,7 +125,7 @@ pub fn prop_end<'a, I: Tokens<'a> + Drop, N: Nested<'a, I>>(
 ) -> Result<PropOrSpread, Failure>
     requires ready { N.ready nested.now }
     requires fits { fits_prop_name (λ p. p) key }
-    ensures value { Gives (λ x. (view_prop_or_spread inner x, state_of I.state p.new)) result (pieces.prop_end (stream_of I.machine) (N.reads nested.now I.State I.machine) (code_of code) place (word_of named (view_prop_name inner key)) (view_prop_name inner key) (state_of I.state p.old)) }
+    ensures value { Gives (λ x. (view_prop_or_spread inner x, state_of I.state p.new)) (spec.bound (stream_of I.machine) (state_of I.state p.new)) result (pieces.prop_end (stream_of I.machine) (N.reads nested.now I.State I.machine) (code_of code) place (word_of named (view_prop_name inner key)) (view_prop_name inner key) (state_of I.state p.old)) }
     ensures fits { IfOk result (λ x. fits_prop_or_spread (λ p. p) x) }
     ensures not_longer { Stays result (spec.bound (stream_of I.machine) (state_of I.state p.new)) (spec.bound (stream_of I.machine) (state_of I.state p.old)) }
 {
@@ -155,7 +155,7 @@ pub fn keyed<'a, I: Tokens<'a> + Drop, N: Nested<'a, I>>(
     code: Around,
 ) -> Result<PropOrSpread, Failure>
     requires ready { N.ready nested.now }
-    ensures value { Gives (λ x. (view_prop_or_spread inner x, state_of I.state p.new)) result (pieces.keyed_by (stream_of I.machine) (N.reads nested.now I.State I.machine) (code_of code) (state_of I.state p.old)) }
+    ensures value { Gives (λ x. (view_prop_or_spread inner x, state_of I.state p.new)) (spec.bound (stream_of I.machine) (state_of I.state p.new)) result (pieces.keyed_by (stream_of I.machine) (N.reads nested.now I.State I.machine) (code_of code) (state_of I.state p.old)) }
     ensures fits { IfOk result (λ x. fits_prop_or_spread (λ p. p) x) }
     ensures shorter { Falls result (spec.bound (stream_of I.machine) (state_of I.state p.new)) (spec.bound (stream_of I.machine) (state_of I.state p.old)) }
 {
@@ -174,7 +174,7 @@ pub fn spread<'a, I: Tokens<'a> + Drop, N: Nested<'a, I>>(
     code: Around,
 ) -> Result<PropOrSpread, Failure>
     requires ready { N.ready nested.now }
-    ensures value { Gives (λ x. (view_prop_or_spread inner x, state_of I.state p.new)) result (pieces.spread_by (stream_of I.machine) (N.reads nested.now I.State I.machine) (code_of code) (state_of I.state p.old)) }
+    ensures value { Gives (λ x. (view_prop_or_spread inner x, state_of I.state p.new)) (spec.bound (stream_of I.machine) (state_of I.state p.new)) result (pieces.spread_by (stream_of I.machine) (N.reads nested.now I.State I.machine) (code_of code) (state_of I.state p.old)) }
     ensures fits { IfOk result (λ x. fits_prop_or_spread (λ p. p) x) }
     ensures shorter { Falls result (spec.bound (stream_of I.machine) (state_of I.state p.new)) (spec.bound (stream_of I.machine) (state_of I.state p.old)) }
 {
@@ -193,7 +193,7 @@ pub fn generator<'a, I: Tokens<'a> + Drop, N: Nested<'a, I>>(
     code: Around,
 ) -> Result<PropOrSpread, Failure>
     requires ready { N.ready nested.now }
-    ensures value { Gives (λ x. (view_prop_or_spread inner x, state_of I.state p.new)) result (pieces.generator_by (stream_of I.machine) (N.reads nested.now I.State I.machine) (code_of code) (state_of I.state p.old)) }
+    ensures value { Gives (λ x. (view_prop_or_spread inner x, state_of I.state p.new)) (spec.bound (stream_of I.machine) (state_of I.state p.new)) result (pieces.generator_by (stream_of I.machine) (N.reads nested.now I.State I.machine) (code_of code) (state_of I.state p.old)) }
     ensures fits { IfOk result (λ x. fits_prop_or_spread (λ p. p) x) }
     ensures shorter { Falls result (spec.bound (stream_of I.machine) (state_of I.state p.new)) (spec.bound (stream_of I.machine) (state_of I.state p.old)) }
 {
@@ -211,7 +211,7 @@ pub fn async_method<'a, I: Tokens<'a> + Drop, N: Nested<'a, I>>(
     code: Around,
 ) -> Result<PropOrSpread, Failure>
     requires ready { N.ready nested.now }
-    ensures value { Gives (λ x. (view_prop_or_spread inner x, state_of I.state p.new)) result (pieces.async_by (stream_of I.machine) (N.reads nested.now I.State I.machine) (code_of code) (state_of I.state p.old)) }
+    ensures value { Gives (λ x. (view_prop_or_spread inner x, state_of I.state p.new)) (spec.bound (stream_of I.machine) (state_of I.state p.new)) result (pieces.async_by (stream_of I.machine) (N.reads nested.now I.State I.machine) (code_of code) (state_of I.state p.old)) }
     ensures fits { IfOk result (λ x. fits_prop_or_spread (λ p. p) x) }
     ensures shorter { Falls result (spec.bound (stream_of I.machine) (state_of I.state p.new)) (spec.bound (stream_of I.machine) (state_of I.state p.old)) }
 {
@@ -230,7 +230,7 @@ pub fn prop<'a, I: Tokens<'a> + Drop, N: Nested<'a, I>>(
     code: Around,
 ) -> Result<PropOrSpread, Failure>
     requires ready { N.ready nested.now }
-    ensures value { Gives (λ x. (view_prop_or_spread inner x, state_of I.state p.new)) result (reads.prop_by (stream_of I.machine) (N.reads nested.now I.State I.machine) (code_of code) (state_of I.state p.old)) }
+    ensures value { Gives (λ x. (view_prop_or_spread inner x, state_of I.state p.new)) (spec.bound (stream_of I.machine) (state_of I.state p.new)) result (reads.prop_by (stream_of I.machine) (N.reads nested.now I.State I.machine) (code_of code) (state_of I.state p.old)) }
     ensures fits { IfOk result (λ x. fits_prop_or_spread (λ p. p) x) }
     ensures shorter { Falls result (spec.bound (stream_of I.machine) (state_of I.state p.new)) (spec.bound (stream_of I.machine) (state_of I.state p.old)) }
 {

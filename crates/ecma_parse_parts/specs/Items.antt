@@ -11,10 +11,10 @@ use Rattle.ecma_parse_parts.specs.Within.{settled}
 module _ {S : Type 0} (m : Stream S) where
   -- Statement (clause 14), StatementListItem (14.2), ModuleItem (16.2)
   unfoldable pub statement_part : ℕ → Code → Read S Tree
-  statement_part limit c s = (readers m limit).stmt (alone c) s >>= λ x. if is_statement x.0 then settled limit x else unexpected
+  statement_part limit c s = (readers m limit).stmt (alone c) s >>= λ x. if is_statement x.0 then settled m limit x else unexpected m x.1
 
   unfoldable pub list_item_part : ℕ → Code → Read S Tree
-  list_item_part limit c s = (readers m limit).stmt (in_list c) s >>= settled limit
+  list_item_part limit c s = (readers m limit).stmt (in_list c) s >>= settled m limit
 
   unfoldable pub module_item_part : ℕ → Code → Read S Tree
-  module_item_part limit c s = item_by m (readers m limit) true (in_list c) (operand m s) >>= settled limit
+  module_item_part limit c s = item_by m (readers m limit) true (in_list c) (operand m s) >>= settled m limit

@@ -35,16 +35,16 @@ module _ {S : Type 0} (m : Stream S) where
 
   -- Expression (13.16), AssignmentExpression (13.15)
   unfoldable pub expression_part : ℕ → ℕ → Code → Read S Tree
-  expression_part l limit c s = (readers m limit).expr c l s >>= settled limit >>= λ x. if heads_arrow m (async_end c (last_of x.0)) x.1 then unexpected else Ok x
+  expression_part l limit c s = (readers m limit).expr c l s >>= settled m limit >>= λ x. if heads_arrow m (async_end c (last_of x.0)) x.1 then unexpected m x.1 else Ok x
 
   -- a name or a pattern that binds (14.3.3)
   unfoldable pub binding_part : ℕ → Code → Read S Tree
-  binding_part limit c s = (readers m limit).pat c s >>= settled limit
+  binding_part limit c s = (readers m limit).pat c s >>= settled m limit
 
   -- PropertyName (13.2.5)
   unfoldable pub key_part : ℕ → Code → Read S Tree
-  key_part limit c s = key_by m (readers m limit) c s >>= settled limit
+  key_part limit c s = key_by m (readers m limit) c s >>= settled m limit
 
   -- FormalParameters (15.1)
   unfoldable pub parameters_part : ℕ → Code → Read S Tree
-  parameters_part limit c s = bare_by (readers m limit) c s >>= λ x. settled limit (as_list x) >>= λ y. if heads_arrow m (async_end c (last_initial x.0)) y.1 then unexpected else Ok y
+  parameters_part limit c s = bare_by (readers m limit) c s >>= λ x. settled m limit (as_list x) >>= λ y. if heads_arrow m (async_end c (last_initial x.0)) y.1 then unexpected m y.1 else Ok y

@@ -26,10 +26,10 @@ module _ {S : Type 0} (m : Stream S) where
 
   -- PropertyDefinition (13.2.5), BindingProperty and BindingRestProperty (14.3.3)
   unfoldable pub prop_part : ℕ → Code → Read S Tree
-  prop_part limit c s = prop_by m (readers m limit) c s >>= settled limit >>= λ x. if heads_arrow m (async_end c (value_of x.0)) x.1 then unexpected else Ok x
+  prop_part limit c s = prop_by m (readers m limit) c s >>= settled m limit >>= λ x. if heads_arrow m (async_end c (value_of x.0)) x.1 then unexpected m x.1 else Ok x
 
   unfoldable pub item_part : ℕ → Code → Read S Tree
-  item_part limit c s = item_by (readers m limit) c s >>= settled limit >>= λ x. if heads_arrow m (async_end c (value_of x.0)) x.1 then unexpected else Ok x
+  item_part limit c s = item_by (readers m limit) c s >>= settled m limit >>= λ x. if heads_arrow m (async_end c (value_of x.0)) x.1 then unexpected m x.1 else Ok x
 
 -- ---- properties of a pattern
 

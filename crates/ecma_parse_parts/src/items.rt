@@ -45,7 +45,7 @@ pub fn statement_part<'a, I: Tokens<'a> + Drop>(
     code: Around,
 ) -> Result<StmtBox, Failure>
     requires { limit < 4294967295 }
-    ensures value { Gives (λ x. (inner x.part.value, state_of I.state p.new)) result (parts.statement_part (stream_of I.machine) limit (code_of code) (state_of I.state p.old)) }
+    ensures value { Gives (λ x. (inner x.part.value, state_of I.state p.new)) (spec.bound (stream_of I.machine) (state_of I.state p.new)) result (parts.statement_part (stream_of I.machine) limit (code_of code) (state_of I.state p.old)) }
     ensures holds { IfOk result (λ x. holds_stmt x.part.value) }
     ensures not_longer { Stays result (spec.bound (stream_of I.machine) (state_of I.state p.new)) (spec.bound (stream_of I.machine) (state_of I.state p.old)) }
 {
@@ -69,7 +69,7 @@ pub fn list_item_part<'a, I: Tokens<'a> + Drop>(
     code: Around,
 ) -> Result<StmtBox, Failure>
     requires { limit < 4294967295 }
-    ensures value { Gives (λ x. (inner x.part.value, state_of I.state p.new)) result (parts.list_item_part (stream_of I.machine) limit (code_of code) (state_of I.state p.old)) }
+    ensures value { Gives (λ x. (inner x.part.value, state_of I.state p.new)) (spec.bound (stream_of I.machine) (state_of I.state p.new)) result (parts.list_item_part (stream_of I.machine) limit (code_of code) (state_of I.state p.old)) }
     ensures holds { IfOk result (λ x. holds_stmt x.part.value) }
     ensures not_longer { Stays result (spec.bound (stream_of I.machine) (state_of I.state p.new)) (spec.bound (stream_of I.machine) (state_of I.state p.old)) }
 {
@@ -90,7 +90,7 @@ pub fn module_item_part<'a, I: Tokens<'a> + Drop>(
     code: Around,
 ) -> Result<ModuleItem, Failure>
     requires { limit < 4294967295 }
-    ensures value { Gives (λ x. (view_module_item inner x, state_of I.state p.new)) result (parts.module_item_part (stream_of I.machine) limit (code_of code) (state_of I.state p.old)) }
+    ensures value { Gives (λ x. (view_module_item inner x, state_of I.state p.new)) (spec.bound (stream_of I.machine) (state_of I.state p.new)) result (parts.module_item_part (stream_of I.machine) limit (code_of code) (state_of I.state p.old)) }
     ensures fits { IfOk result (λ x. fits_module_item (λ p. p) x) }
     ensures not_longer { Stays result (spec.bound (stream_of I.machine) (state_of I.state p.new)) (spec.bound (stream_of I.machine) (state_of I.state p.old)) }
 {

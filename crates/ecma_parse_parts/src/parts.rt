@@ -35,7 +35,7 @@ pub fn expression_part<'a, I: Tokens<'a> + Drop>(
     level: u8,
 ) -> Result<ExprBox, Failure>
     requires { limit < 4294967295 }
-    ensures value { Gives (λ x. (inner x.part.value, state_of I.state p.new)) result (parts.expression_part (stream_of I.machine) level limit (code_of code) (state_of I.state p.old)) }
+    ensures value { Gives (λ x. (inner x.part.value, state_of I.state p.new)) (spec.bound (stream_of I.machine) (state_of I.state p.new)) result (parts.expression_part (stream_of I.machine) level limit (code_of code) (state_of I.state p.old)) }
     ensures holds { IfOk result (λ x. holds_expr x.part.value) }
     ensures not_longer { Stays result (spec.bound (stream_of I.machine) (state_of I.state p.new)) (spec.bound (stream_of I.machine) (state_of I.state p.old)) }
 {
@@ -60,7 +60,7 @@ pub fn binding_part<'a, I: Tokens<'a> + Drop>(
     code: Around,
 ) -> Result<PatBox, Failure>
     requires { limit < 4294967295 }
-    ensures value { Gives (λ x. (inner x.part.value, state_of I.state p.new)) result (parts.binding_part (stream_of I.machine) limit (code_of code) (state_of I.state p.old)) }
+    ensures value { Gives (λ x. (inner x.part.value, state_of I.state p.new)) (spec.bound (stream_of I.machine) (state_of I.state p.new)) result (parts.binding_part (stream_of I.machine) limit (code_of code) (state_of I.state p.old)) }
     ensures holds { IfOk result (λ x. holds_pat x.part.value) }
     ensures not_longer { Stays result (spec.bound (stream_of I.machine) (state_of I.state p.new)) (spec.bound (stream_of I.machine) (state_of I.state p.old)) }
 {
@@ -81,7 +81,7 @@ pub fn key_part<'a, I: Tokens<'a> + Drop>(
     code: Around,
 ) -> Result<PropName, Failure>
     requires { limit < 4294967295 }
-    ensures value { Gives (λ x. (view_prop_name inner x, state_of I.state p.new)) result (parts.key_part (stream_of I.machine) limit (code_of code) (state_of I.state p.old)) }
+    ensures value { Gives (λ x. (view_prop_name inner x, state_of I.state p.new)) (spec.bound (stream_of I.machine) (state_of I.state p.new)) result (parts.key_part (stream_of I.machine) limit (code_of code) (state_of I.state p.old)) }
     ensures fits { IfOk result (λ x. fits_prop_name (λ p. p) x) }
     ensures not_longer { Stays result (spec.bound (stream_of I.machine) (state_of I.state p.new)) (spec.bound (stream_of I.machine) (state_of I.state p.old)) }
 {
@@ -102,7 +102,7 @@ pub fn parameters_part<'a, I: Tokens<'a> + Drop>(
     code: Around,
 ) -> Result<Vec<Param>, Failure>
     requires { limit < 4294967295 }
-    ensures value { Gives (λ x. (list (trees_by (view_param inner) x.items), state_of I.state p.new)) result (parts.parameters_part (stream_of I.machine) limit (code_of code) (state_of I.state p.old)) }
+    ensures value { Gives (λ x. (list (trees_by (view_param inner) x.items), state_of I.state p.new)) (spec.bound (stream_of I.machine) (state_of I.state p.new)) result (parts.parameters_part (stream_of I.machine) limit (code_of code) (state_of I.state p.old)) }
     ensures fits { IfOk result (λ x. All (λ x. fits_param (λ p. p) x) x.items) }
     ensures not_longer { Stays result (spec.bound (stream_of I.machine) (state_of I.state p.new)) (spec.bound (stream_of I.machine) (state_of I.state p.old)) }
 {

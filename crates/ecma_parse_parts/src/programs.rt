@@ -31,7 +31,7 @@ pub fn script_within<'a, I: Tokens<'a> + Drop>(
     code: Around,
 ) -> Result<Script, Failure>
     requires { limit < 4294967295 }
-    ensures value { Gives (view_script inner) result (program_within (stream_of I.machine) limit false (code_of code) (state_of I.state p.old)) }
+    ensures value { Gives (view_script inner) (spec.bound (stream_of I.machine) (state_of I.state p.new)) result (program_within (stream_of I.machine) limit false (code_of code) (state_of I.state p.old)) }
     ensures fits { IfOk result (λ x. fits_script (λ p. p) x) }
     ensures not_longer { Stays result (spec.bound (stream_of I.machine) (state_of I.state p.new)) (spec.bound (stream_of I.machine) (state_of I.state p.old)) }
 {
@@ -57,7 +57,7 @@ pub fn module_within<'a, I: Tokens<'a> + Drop>(
     code: Around,
 ) -> Result<Module, Failure>
     requires { limit < 4294967295 }
-    ensures value { Gives (view_module inner) result (program_within (stream_of I.machine) limit true (code_of code) (state_of I.state p.old)) }
+    ensures value { Gives (view_module inner) (spec.bound (stream_of I.machine) (state_of I.state p.new)) result (program_within (stream_of I.machine) limit true (code_of code) (state_of I.state p.old)) }
     ensures fits { IfOk result (λ x. fits_module (λ p. p) x) }
     ensures not_longer { Stays result (spec.bound (stream_of I.machine) (state_of I.state p.new)) (spec.bound (stream_of I.machine) (state_of I.state p.old)) }
 {

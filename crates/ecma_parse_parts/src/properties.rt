@@ -32,7 +32,7 @@ pub fn prop_part<'a, I: Tokens<'a> + Drop>(
     code: Around,
 ) -> Result<PropOrSpread, Failure>
     requires { limit < 4294967295 }
-    ensures value { Gives (λ x. (view_prop_or_spread inner x, state_of I.state p.new)) result (props.prop_part (stream_of I.machine) limit (code_of code) (state_of I.state p.old)) }
+    ensures value { Gives (λ x. (view_prop_or_spread inner x, state_of I.state p.new)) (spec.bound (stream_of I.machine) (state_of I.state p.new)) result (props.prop_part (stream_of I.machine) limit (code_of code) (state_of I.state p.old)) }
     ensures fits { IfOk result (λ x. fits_prop_or_spread (λ p. p) x) }
     ensures not_longer { Stays result (spec.bound (stream_of I.machine) (state_of I.state p.new)) (spec.bound (stream_of I.machine) (state_of I.state p.old)) }
 {
@@ -57,7 +57,7 @@ pub fn item_part<'a, I: Tokens<'a> + Drop>(
     code: Around,
 ) -> Result<ObjectPatProp, Failure>
     requires { limit < 4294967295 }
-    ensures value { Gives (λ x. (view_object_pat_prop inner x, state_of I.state p.new)) result (props.item_part (stream_of I.machine) limit (code_of code) (state_of I.state p.old)) }
+    ensures value { Gives (λ x. (view_object_pat_prop inner x, state_of I.state p.new)) (spec.bound (stream_of I.machine) (state_of I.state p.new)) result (props.item_part (stream_of I.machine) limit (code_of code) (state_of I.state p.old)) }
     ensures fits { IfOk result (λ x. fits_object_pat_prop (λ p. p) x) }
     ensures not_longer { Stays result (spec.bound (stream_of I.machine) (state_of I.state p.new)) (spec.bound (stream_of I.machine) (state_of I.state p.old)) }
 {

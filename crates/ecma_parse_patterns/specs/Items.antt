@@ -24,7 +24,7 @@ module _ {S : Type 0} (m : Stream S) (inner : Inner S) where
 
   -- a rest of an object, which takes no pattern (14.3.3)
   unfoldable pub object_rest : Code → Read S Tree
-  object_rest c s = inner.pat (with_in c) (past m s) >>= λ p. if is_structured p.0 then unexpected else Ok (rest_pat (spanned m s p.1) (dots_at (lo (input m s))) p.0, p.1)
+  object_rest c s = inner.pat (with_in c) (past m s) >>= λ p. if is_structured p.0 then unexpected m p.1 else Ok (rest_pat (spanned m s p.1) (dots_at (lo (input m s))) p.0, p.1)
 
   -- what follows a name that is both key and binding (14.3.3)
   unfoldable pub named_rest : Code → Span → List ℕ → Read S Tree

@@ -33,7 +33,7 @@ pub fn initial<'a, I: Tokens<'a> + Drop, N: Nested<'a, I>>(
 ) -> Result<PatBox, Failure>
     requires ready { N.ready nested.now }
     requires pat { holds_pat pat.part.value }
-    ensures value { Gives (λ x. (inner x.part.value, state_of I.state p.new)) result (reads.initial_pat (stream_of I.machine) (N.reads nested.now I.State I.machine) (code_of code) (from start.0) (inner pat.part.value) (state_of I.state p.old)) }
+    ensures value { Gives (λ x. (inner x.part.value, state_of I.state p.new)) (spec.bound (stream_of I.machine) (state_of I.state p.new)) result (reads.initial_pat (stream_of I.machine) (N.reads nested.now I.State I.machine) (code_of code) (from start.0) (inner pat.part.value) (state_of I.state p.old)) }
     ensures fits { IfOk result (λ x. holds_pat x.part.value) }
     ensures not_longer { Stays result (spec.bound (stream_of I.machine) (state_of I.state p.new)) (spec.bound (stream_of I.machine) (state_of I.state p.old)) }
 {
@@ -53,7 +53,7 @@ pub fn item<'a, I: Tokens<'a> + Drop, N: Nested<'a, I>>(
     code: Around,
 ) -> Result<PatBox, Failure>
     requires ready { N.ready nested.now }
-    ensures value { Gives (λ x. (inner x.part.value, state_of I.state p.new)) result (item_by (stream_of I.machine) (N.reads nested.now I.State I.machine) (code_of code) (state_of I.state p.old)) }
+    ensures value { Gives (λ x. (inner x.part.value, state_of I.state p.new)) (spec.bound (stream_of I.machine) (state_of I.state p.new)) result (item_by (stream_of I.machine) (N.reads nested.now I.State I.machine) (code_of code) (state_of I.state p.old)) }
     ensures fits { IfOk result (λ x. holds_pat x.part.value) }
     ensures shorter { Falls result (spec.bound (stream_of I.machine) (state_of I.state p.new)) (spec.bound (stream_of I.machine) (state_of I.state p.old)) }
 {
@@ -71,7 +71,7 @@ pub fn rest<'a, I: Tokens<'a> + Drop, N: Nested<'a, I>>(
     code: Around,
 ) -> Result<RestPat, Failure>
     requires ready { N.ready nested.now }
-    ensures value { Gives (λ x. (view_rest_pat inner x, state_of I.state p.new)) result (rest_by (stream_of I.machine) (N.reads nested.now I.State I.machine) (code_of code) (state_of I.state p.old)) }
+    ensures value { Gives (λ x. (view_rest_pat inner x, state_of I.state p.new)) (spec.bound (stream_of I.machine) (state_of I.state p.new)) result (rest_by (stream_of I.machine) (N.reads nested.now I.State I.machine) (code_of code) (state_of I.state p.old)) }
     ensures fits { IfOk result (λ x. fits_rest_pat (λ p. p) x) }
     ensures shorter { Falls result (spec.bound (stream_of I.machine) (state_of I.state p.new)) (spec.bound (stream_of I.machine) (state_of I.state p.old)) }
 {
@@ -95,7 +95,7 @@ pub fn goes_on<'a, I: Tokens<'a> + Drop>(
     last: bool,
 ) -> Result<bool, Failure>
     requires { 0 < close }
-    ensures value { Gives (λ b. (b, state_of I.state p.new)) result (after_by (stream_of I.machine) close last (state_of I.state p.old)) }
+    ensures value { Gives (λ b. (b, state_of I.state p.new)) (spec.bound (stream_of I.machine) (state_of I.state p.new)) result (after_by (stream_of I.machine) close last (state_of I.state p.old)) }
     ensures shorter { Falls result (spec.bound (stream_of I.machine) (state_of I.state p.new)) (spec.bound (stream_of I.machine) (state_of I.state p.old)) }
 {
     if !last && p.eat(kinds::COMMA)? {

@@ -43,7 +43,7 @@ pub fn array_turn<'a, I: Tokens<'a> + Drop, N: Nested<'a, I>>(
 ) -> Result<bool, Failure>
     requires ready { N.ready nested.now }
     requires fits { All (λ y. fits_held (λ z. holds_pat z.part.value) y) list.old.items }
-    ensures value { Gives (λ x. (going_on x (map (λ y. element_by (λ z. inner z.part.value) y) list.new.items), state_of I.state p.new)) result (reads.array_item (stream_of I.machine) (N.reads nested.now I.State I.machine) (code_of code) (map (λ y. element_by (λ z. inner z.part.value) y) list.old.items) (state_of I.state p.old)) }
+    ensures value { Gives (λ x. (going_on x (map (λ y. element_by (λ z. inner z.part.value) y) list.new.items), state_of I.state p.new)) (spec.bound (stream_of I.machine) (state_of I.state p.new)) result (reads.array_item (stream_of I.machine) (N.reads nested.now I.State I.machine) (code_of code) (map (λ y. element_by (λ z. inner z.part.value) y) list.old.items) (state_of I.state p.old)) }
     ensures fits { IfOk result (λ x. All (λ y. fits_held (λ z. holds_pat z.part.value) y) list.new.items) }
     ensures shorter { Falls result (spec.bound (stream_of I.machine) (state_of I.state p.new)) (spec.bound (stream_of I.machine) (state_of I.state p.old)) }
 {
@@ -74,7 +74,7 @@ pub fn array_items<'a, I: Tokens<'a> + Drop, N: Nested<'a, I>>(
     code: Around,
 ) -> Result<Vec<Option<PatBox>>, Failure>
     requires ready { N.ready nested.now }
-    ensures value { Gives (λ x. (map (λ y. element_by (λ z. inner z.part.value) y) x.items, state_of I.state p.new)) result (array_items (stream_of I.machine) (N.reads nested.now I.State I.machine) (code_of code) (state_of I.state p.old)) }
+    ensures value { Gives (λ x. (map (λ y. element_by (λ z. inner z.part.value) y) x.items, state_of I.state p.new)) (spec.bound (stream_of I.machine) (state_of I.state p.new)) result (array_items (stream_of I.machine) (N.reads nested.now I.State I.machine) (code_of code) (state_of I.state p.old)) }
     ensures fits { IfOk result (λ x. All (λ y. fits_held (λ z. holds_pat z.part.value) y) x.items) }
     ensures shorter { Falls result (spec.bound (stream_of I.machine) (state_of I.state p.new)) (spec.bound (stream_of I.machine) (state_of I.state p.old)) }
 {
@@ -92,7 +92,7 @@ pub fn array<'a, I: Tokens<'a> + Drop, N: Nested<'a, I>>(
     code: Around,
 ) -> Result<PatBox, Failure>
     requires ready { N.ready nested.now }
-    ensures value { Gives (λ x. (inner x.part.value, state_of I.state p.new)) result (reads.array_pat_by (stream_of I.machine) (N.reads nested.now I.State I.machine) (code_of code) (state_of I.state p.old)) }
+    ensures value { Gives (λ x. (inner x.part.value, state_of I.state p.new)) (spec.bound (stream_of I.machine) (state_of I.state p.new)) result (reads.array_pat_by (stream_of I.machine) (N.reads nested.now I.State I.machine) (code_of code) (state_of I.state p.old)) }
     ensures fits { IfOk result (λ x. holds_pat x.part.value) }
     ensures shorter { Falls result (spec.bound (stream_of I.machine) (state_of I.state p.new)) (spec.bound (stream_of I.machine) (state_of I.state p.old)) }
 {
@@ -111,7 +111,7 @@ pub fn object_rest<'a, I: Tokens<'a> + Drop, N: Nested<'a, I>>(
     code: Around,
 ) -> Result<ObjectPatProp, Failure>
     requires ready { N.ready nested.now }
-    ensures value { Gives (λ x. (view_object_pat_prop inner x, state_of I.state p.new)) result (object_rest (stream_of I.machine) (N.reads nested.now I.State I.machine) (code_of code) (state_of I.state p.old)) }
+    ensures value { Gives (λ x. (view_object_pat_prop inner x, state_of I.state p.new)) (spec.bound (stream_of I.machine) (state_of I.state p.new)) result (object_rest (stream_of I.machine) (N.reads nested.now I.State I.machine) (code_of code) (state_of I.state p.old)) }
     ensures fits { IfOk result (λ x. fits_object_pat_prop (λ p. p) x) }
     ensures shorter { Falls result (spec.bound (stream_of I.machine) (state_of I.state p.new)) (spec.bound (stream_of I.machine) (state_of I.state p.old)) }
 {
@@ -146,7 +146,7 @@ pub fn object_turn<'a, I: Tokens<'a> + Drop, N: Nested<'a, I>>(
 ) -> Result<bool, Failure>
     requires ready { N.ready nested.now }
     requires fits { All (λ y. fits_object_pat_prop (λ p. p) y) list.old.items }
-    ensures value { Gives (λ x. (going_on x (map (view_object_pat_prop inner) list.new.items), state_of I.state p.new)) result (reads.object_item (stream_of I.machine) (N.reads nested.now I.State I.machine) (code_of code) (map (view_object_pat_prop inner) list.old.items) (state_of I.state p.old)) }
+    ensures value { Gives (λ x. (going_on x (map (view_object_pat_prop inner) list.new.items), state_of I.state p.new)) (spec.bound (stream_of I.machine) (state_of I.state p.new)) result (reads.object_item (stream_of I.machine) (N.reads nested.now I.State I.machine) (code_of code) (map (view_object_pat_prop inner) list.old.items) (state_of I.state p.old)) }
     ensures fits { IfOk result (λ x. All (λ y. fits_object_pat_prop (λ p. p) y) list.new.items) }
     ensures shorter { Falls result (spec.bound (stream_of I.machine) (state_of I.state p.new)) (spec.bound (stream_of I.machine) (state_of I.state p.old)) }
 {
@@ -172,7 +172,7 @@ pub fn object_items<'a, I: Tokens<'a> + Drop, N: Nested<'a, I>>(
     code: Around,
 ) -> Result<Vec<ObjectPatProp>, Failure>
     requires ready { N.ready nested.now }
-    ensures value { Gives (λ x. (map (view_object_pat_prop inner) x.items, state_of I.state p.new)) result (object_items (stream_of I.machine) (N.reads nested.now I.State I.machine) (code_of code) (state_of I.state p.old)) }
+    ensures value { Gives (λ x. (map (view_object_pat_prop inner) x.items, state_of I.state p.new)) (spec.bound (stream_of I.machine) (state_of I.state p.new)) result (object_items (stream_of I.machine) (N.reads nested.now I.State I.machine) (code_of code) (state_of I.state p.old)) }
     ensures fits { IfOk result (λ x. All (λ y. fits_object_pat_prop (λ p. p) y) x.items) }
     ensures shorter { Falls result (spec.bound (stream_of I.machine) (state_of I.state p.new)) (spec.bound (stream_of I.machine) (state_of I.state p.old)) }
 {
@@ -190,7 +190,7 @@ pub fn object<'a, I: Tokens<'a> + Drop, N: Nested<'a, I>>(
     code: Around,
 ) -> Result<PatBox, Failure>
     requires ready { N.ready nested.now }
-    ensures value { Gives (λ x. (inner x.part.value, state_of I.state p.new)) result (reads.object_pat_by (stream_of I.machine) (N.reads nested.now I.State I.machine) (code_of code) (state_of I.state p.old)) }
+    ensures value { Gives (λ x. (inner x.part.value, state_of I.state p.new)) (spec.bound (stream_of I.machine) (state_of I.state p.new)) result (reads.object_pat_by (stream_of I.machine) (N.reads nested.now I.State I.machine) (code_of code) (state_of I.state p.old)) }
     ensures fits { IfOk result (λ x. holds_pat x.part.value) }
     ensures shorter { Falls result (spec.bound (stream_of I.machine) (state_of I.state p.new)) (spec.bound (stream_of I.machine) (state_of I.state p.old)) }
 {
@@ -209,7 +209,7 @@ pub fn pattern<'a, I: Tokens<'a> + Drop, N: Nested<'a, I>>(
     code: Around,
 ) -> Result<PatBox, Failure>
     requires ready { N.ready nested.now }
-    ensures value { Gives (λ x. (inner x.part.value, state_of I.state p.new)) result (reads.pat_by (stream_of I.machine) (N.reads nested.now I.State I.machine) (code_of code) (state_of I.state p.old)) }
+    ensures value { Gives (λ x. (inner x.part.value, state_of I.state p.new)) (spec.bound (stream_of I.machine) (state_of I.state p.new)) result (reads.pat_by (stream_of I.machine) (N.reads nested.now I.State I.machine) (code_of code) (state_of I.state p.old)) }
     ensures fits { IfOk result (λ x. holds_pat x.part.value) }
     ensures shorter { Falls result (spec.bound (stream_of I.machine) (state_of I.state p.new)) (spec.bound (stream_of I.machine) (state_of I.state p.old)) }
 {

@@ -36,7 +36,7 @@ pub fn keyed<'a, I: Tokens<'a> + Drop, N: Nested<'a, I>>(
 ) -> Result<ObjectPatProp, Failure>
     requires ready { N.ready nested.now }
     requires key { fits_prop_name (λ p. p) key }
-    ensures value { Gives (λ x. (view_object_pat_prop inner x, state_of I.state p.new)) result (reads.keyed_item (stream_of I.machine) (N.reads nested.now I.State I.machine) (code_of code) (from start.0) (view_prop_name inner key) (state_of I.state p.old)) }
+    ensures value { Gives (λ x. (view_object_pat_prop inner x, state_of I.state p.new)) (spec.bound (stream_of I.machine) (state_of I.state p.new)) result (reads.keyed_item (stream_of I.machine) (N.reads nested.now I.State I.machine) (code_of code) (from start.0) (view_prop_name inner key) (state_of I.state p.old)) }
     ensures fits { IfOk result (λ x. fits_object_pat_prop (λ p. p) x) }
     ensures shorter { Falls result (spec.bound (stream_of I.machine) (state_of I.state p.new)) (spec.bound (stream_of I.machine) (state_of I.state p.old)) }
 {
@@ -56,7 +56,7 @@ pub fn named<'a, I: Tokens<'a> + Drop, N: Nested<'a, I>>(
     sym: Atom,
 ) -> Result<ObjectPatProp, Failure>
     requires ready { N.ready nested.now }
-    ensures value { Gives (λ x. (view_object_pat_prop inner x, state_of I.state p.new)) result (named_rest (stream_of I.machine) (N.reads nested.now I.State I.machine) (code_of code) span sym (state_of I.state p.old)) }
+    ensures value { Gives (λ x. (view_object_pat_prop inner x, state_of I.state p.new)) (spec.bound (stream_of I.machine) (state_of I.state p.new)) result (named_rest (stream_of I.machine) (N.reads nested.now I.State I.machine) (code_of code) span sym (state_of I.state p.old)) }
     ensures fits { IfOk result (λ x. fits_object_pat_prop (λ p. p) x) }
     ensures not_longer { Stays result (spec.bound (stream_of I.machine) (state_of I.state p.new)) (spec.bound (stream_of I.machine) (state_of I.state p.old)) }
 {
@@ -90,7 +90,7 @@ pub fn word_property<'a, I: Tokens<'a> + Drop, N: Nested<'a, I>>(
 ) -> Result<ObjectPatProp, Failure>
     requires ready { N.ready nested.now }
     requires word { spec.is_name (stream_of I.machine) (code_of code) (state_of I.state p.old) ≡ true }
-    ensures value { Gives (λ x. (view_object_pat_prop inner x, state_of I.state p.new)) result (reads.pattern_prop (stream_of I.machine) (N.reads nested.now I.State I.machine) (code_of code) (state_of I.state p.old)) }
+    ensures value { Gives (λ x. (view_object_pat_prop inner x, state_of I.state p.new)) (spec.bound (stream_of I.machine) (state_of I.state p.new)) result (reads.pattern_prop (stream_of I.machine) (N.reads nested.now I.State I.machine) (code_of code) (state_of I.state p.old)) }
     ensures fits { IfOk result (λ x. fits_object_pat_prop (λ p. p) x) }
     ensures shorter { Falls result (spec.bound (stream_of I.machine) (state_of I.state p.new)) (spec.bound (stream_of I.machine) (state_of I.state p.old)) }
 {
@@ -113,7 +113,7 @@ pub fn property<'a, I: Tokens<'a> + Drop, N: Nested<'a, I>>(
     code: Around,
 ) -> Result<ObjectPatProp, Failure>
     requires ready { N.ready nested.now }
-    ensures value { Gives (λ x. (view_object_pat_prop inner x, state_of I.state p.new)) result (reads.pattern_prop (stream_of I.machine) (N.reads nested.now I.State I.machine) (code_of code) (state_of I.state p.old)) }
+    ensures value { Gives (λ x. (view_object_pat_prop inner x, state_of I.state p.new)) (spec.bound (stream_of I.machine) (state_of I.state p.new)) result (reads.pattern_prop (stream_of I.machine) (N.reads nested.now I.State I.machine) (code_of code) (state_of I.state p.old)) }
     ensures fits { IfOk result (λ x. fits_object_pat_prop (λ p. p) x) }
     ensures shorter { Falls result (spec.bound (stream_of I.machine) (state_of I.state p.new)) (spec.bound (stream_of I.machine) (state_of I.state p.old)) }
 {

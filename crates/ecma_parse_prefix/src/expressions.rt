@@ -28,7 +28,7 @@ pub fn private_in<'a, I: Tokens<'a> + Drop, N: Nested<'a, I>>(
     level: u8,
 ) -> Result<Operand, Failure>
     requires ready { N.ready nested.now }
-    ensures value { Gives (λ x. (tree_of x, state_of I.state p.new)) result (reads.private_in (stream_of I.machine) (N.reads nested.now I.State I.machine) (code_of code) level (state_of I.state p.old)) }
+    ensures value { Gives (λ x. (tree_of x, state_of I.state p.new)) (spec.bound (stream_of I.machine) (state_of I.state p.new)) result (reads.private_in (stream_of I.machine) (N.reads nested.now I.State I.machine) (code_of code) level (state_of I.state p.old)) }
     ensures shorter { Falls result (spec.bound (stream_of I.machine) (state_of I.state p.new)) (spec.bound (stream_of I.machine) (state_of I.state p.old)) }
 {
     let start = p.lo();
@@ -51,7 +51,7 @@ pub fn expr_from<'a, I: Tokens<'a> + Drop, N: Nested<'a, I>>(
     level: u8,
 ) -> Result<Operand, Failure>
     requires ready { N.ready nested.now }
-    ensures value { Gives (λ x. (tree_of x, state_of I.state p.new)) result (reads.expr_from (stream_of I.machine) (N.reads nested.now I.State I.machine) (code_of code) level (state_of I.state p.old)) }
+    ensures value { Gives (λ x. (tree_of x, state_of I.state p.new)) (spec.bound (stream_of I.machine) (state_of I.state p.new)) result (reads.expr_from (stream_of I.machine) (N.reads nested.now I.State I.machine) (code_of code) level (state_of I.state p.old)) }
     ensures shorter { Falls result (spec.bound (stream_of I.machine) (state_of I.state p.new)) (spec.bound (stream_of I.machine) (state_of I.state p.old)) }
 {
     if p.at(kinds::HASH) {
@@ -72,7 +72,7 @@ pub fn expr<'a, I: Tokens<'a> + Drop, N: Nested<'a, I>>(
     level: u8,
 ) -> Result<Operand, Failure>
     requires ready { N.ready nested.now }
-    ensures value { Gives (λ x. (tree_of x, state_of I.state p.new)) result (reads.expr_by (stream_of I.machine) (N.reads nested.now I.State I.machine) (code_of code) level (state_of I.state p.old)) }
+    ensures value { Gives (λ x. (tree_of x, state_of I.state p.new)) (spec.bound (stream_of I.machine) (state_of I.state p.new)) result (reads.expr_by (stream_of I.machine) (N.reads nested.now I.State I.machine) (code_of code) level (state_of I.state p.old)) }
     ensures shorter { Falls result (spec.bound (stream_of I.machine) (state_of I.state p.new)) (spec.bound (stream_of I.machine) (state_of I.state p.old)) }
 {
     p.operand()?;

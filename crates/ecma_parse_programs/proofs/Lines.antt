@@ -15,8 +15,8 @@ module _ {S : Type 0} (m : Stream S) (inner : Inner S) (modules : Bool) (c : Cod
   unfolding program_rest
   rest_same l r = rw e refl
 
-  line_same : (o : Option (List ℕ)) → elim o [ None ↦ unexpected | Some l ↦ program_rest m inner modules c s (Some l) (past m s) ]
-      ≡ ◌>>=◌ {A = List ℕ × State S} (elim o [ None ↦ unexpected | Some l ↦ Ok (l, past m s) ]) (λ l. program_rest m inner modules c a (Some l.0) l.1)
+  line_same : (o : Option (List ℕ)) → elim o [ None ↦ unexpected m s | Some l ↦ program_rest m inner modules c s (Some l) (past m s) ]
+      ≡ ◌>>=◌ {A = List ℕ × State S} (elim o [ None ↦ unexpected m s | Some l ↦ Ok (l, past m s) ]) (λ l. program_rest m inner modules c a (Some l.0) l.1)
   line_same None = refl
   line_same (Some l) = rest_same (Some l) (past m s)
 

@@ -8,7 +8,7 @@ use Rattle.ecma_reading.specs.Modules.{line_of, program_rest}
 module _ {S : Type 0} (m : Stream S) (inner : Inner S) where
   -- its text; the token is taken
   unfoldable pub line_by : Read S (List ℕ)
-  line_by s = elim (line_of m inner (content (input m s))) [ None ↦ unexpected | Some l ↦ Ok (l, past m s) ]
+  line_by s = elim (line_of m inner (content (input m s))) [ None ↦ unexpected m s | Some l ↦ Ok (l, past m s) ]
 
   -- a program that a hashbang leads, which begins at a start
   unfoldable pub led_by : Bool → Code → State S → Read S Tree

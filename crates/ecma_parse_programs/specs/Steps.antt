@@ -17,7 +17,7 @@ module _ {S : Type 0} (m : Stream S) (inner : Inner S) where
 
   -- a declaration (16.2.3)
   unfoldable pub decl_by : Code → State S → Read S Tree
-  decl_by c start r = inner.stmt (in_list c) r >>= λ d. if is_exportable d.0 then Ok (export_decl (spanned m start d.1) d.0, d.1) else unexpected
+  decl_by c start r = inner.stmt (in_list c) r >>= λ d. if is_exportable d.0 then Ok (export_decl (spanned m start d.1) d.0, d.1) else unexpected m d.1
 
   -- a function as the default export, which begins at its own start (16.2.3)
   unfoldable pub default_fn_by : Code → State S → State S → Bool → Read S Tree
@@ -37,7 +37,7 @@ module _ {S : Type 0} (m : Stream S) (inner : Inner S) where
       if at m mul_kind r then export_star m inner c start r
       else (if at m left_brace_kind r then export_list m inner c start r
       else (if starts_declaration m inner (in_list c) r then decl_by c start r
-      else unexpected))
+      else unexpected m r))
 
   -- what follows `export` (16.2.3)
   unfoldable pub after_by : Code → State S → Read S Tree

@@ -30,7 +30,7 @@ pub fn named_export<'a, I: Tokens<'a> + Drop, N: Nested<'a, I>>(
     nested: &N,
     code: Around,
 ) -> Result<ExportSpecifier, Failure>
-    ensures value { Gives (λ x. (view_export_specifier x, state_of I.state p.new)) result (reads.named_export_item (stream_of I.machine) (N.reads nested.now I.State I.machine) (code_of code) (state_of I.state p.old)) }
+    ensures value { Gives (λ x. (view_export_specifier x, state_of I.state p.new)) (spec.bound (stream_of I.machine) (state_of I.state p.new)) result (reads.named_export_item (stream_of I.machine) (N.reads nested.now I.State I.machine) (code_of code) (state_of I.state p.old)) }
     ensures shorter { Falls result (spec.bound (stream_of I.machine) (state_of I.state p.new)) (spec.bound (stream_of I.machine) (state_of I.state p.old)) }
 {
     let start = p.lo();
@@ -57,7 +57,7 @@ pub fn export_turn<'a, I: Tokens<'a> + Drop, N: Nested<'a, I>>(
     code: Around,
     list: &mut Vec<ExportSpecifier>,
 ) -> Result<bool, Failure>
-    ensures value { Gives (λ x. (going_on x (map view_export_specifier list.new.items), state_of I.state p.new)) result (reads.specifier_step (stream_of I.machine) (N.reads nested.now I.State I.machine) false (code_of code) (map view_export_specifier list.old.items) (state_of I.state p.old)) }
+    ensures value { Gives (λ x. (going_on x (map view_export_specifier list.new.items), state_of I.state p.new)) (spec.bound (stream_of I.machine) (state_of I.state p.new)) result (reads.specifier_step (stream_of I.machine) (N.reads nested.now I.State I.machine) false (code_of code) (map view_export_specifier list.old.items) (state_of I.state p.old)) }
     ensures shorter { Falls result (spec.bound (stream_of I.machine) (state_of I.state p.new)) (spec.bound (stream_of I.machine) (state_of I.state p.old)) }
 {
     if p.eat(kinds::RIGHT_BRACE)? {
@@ -80,7 +80,7 @@ pub fn named_exports<'a, I: Tokens<'a> + Drop, N: Nested<'a, I>>(
     nested: &N,
     code: Around,
 ) -> Result<Vec<ExportSpecifier>, Failure>
-    ensures value { Gives (λ x. (map view_export_specifier x.items, state_of I.state p.new)) result (reads.specifiers_by (stream_of I.machine) (N.reads nested.now I.State I.machine) false (code_of code) (state_of I.state p.old)) }
+    ensures value { Gives (λ x. (map view_export_specifier x.items, state_of I.state p.new)) (spec.bound (stream_of I.machine) (state_of I.state p.new)) result (reads.specifiers_by (stream_of I.machine) (N.reads nested.now I.State I.machine) false (code_of code) (state_of I.state p.old)) }
     ensures shorter { Falls result (spec.bound (stream_of I.machine) (state_of I.state p.new)) (spec.bound (stream_of I.machine) (state_of I.state p.old)) }
 {
     let mut list = Vec::new(p.alloc);
@@ -99,7 +99,7 @@ pub fn export_namespace<'a, I: Tokens<'a> + Drop, N: Nested<'a, I>>(
     star: BytePos,
 ) -> Result<ModuleDecl, Failure>
     requires ready { N.ready nested.now }
-    ensures value { Gives (λ x. (view_module_decl inner x, state_of I.state p.new)) result (namespace_by (stream_of I.machine) (N.reads nested.now I.State I.machine) (code_of code) (from start.0) (from star.0) (state_of I.state p.old)) }
+    ensures value { Gives (λ x. (view_module_decl inner x, state_of I.state p.new)) (spec.bound (stream_of I.machine) (state_of I.state p.new)) result (namespace_by (stream_of I.machine) (N.reads nested.now I.State I.machine) (code_of code) (from start.0) (from star.0) (state_of I.state p.old)) }
     ensures fits { IfOk result (λ x. fits_module_decl (λ p. p) x) }
     ensures shorter { Falls result (spec.bound (stream_of I.machine) (state_of I.state p.new)) (spec.bound (stream_of I.machine) (state_of I.state p.old)) }
 {
@@ -128,7 +128,7 @@ pub fn export_star<'a, I: Tokens<'a> + Drop, N: Nested<'a, I>>(
     start: BytePos,
 ) -> Result<ModuleDecl, Failure>
     requires ready { N.ready nested.now }
-    ensures value { Gives (λ x. (view_module_decl inner x, state_of I.state p.new)) result (reads.export_star (stream_of I.machine) (N.reads nested.now I.State I.machine) (code_of code) (from start.0) (state_of I.state p.old)) }
+    ensures value { Gives (λ x. (view_module_decl inner x, state_of I.state p.new)) (spec.bound (stream_of I.machine) (state_of I.state p.new)) result (reads.export_star (stream_of I.machine) (N.reads nested.now I.State I.machine) (code_of code) (from start.0) (state_of I.state p.old)) }
     ensures fits { IfOk result (λ x. fits_module_decl (λ p. p) x) }
     ensures shorter { Falls result (spec.bound (stream_of I.machine) (state_of I.state p.new)) (spec.bound (stream_of I.machine) (state_of I.state p.old)) }
 {
@@ -156,7 +156,7 @@ pub fn export_list<'a, I: Tokens<'a> + Drop, N: Nested<'a, I>>(
     start: BytePos,
 ) -> Result<ModuleDecl, Failure>
     requires ready { N.ready nested.now }
-    ensures value { Gives (λ x. (view_module_decl inner x, state_of I.state p.new)) result (reads.export_list (stream_of I.machine) (N.reads nested.now I.State I.machine) (code_of code) (from start.0) (state_of I.state p.old)) }
+    ensures value { Gives (λ x. (view_module_decl inner x, state_of I.state p.new)) (spec.bound (stream_of I.machine) (state_of I.state p.new)) result (reads.export_list (stream_of I.machine) (N.reads nested.now I.State I.machine) (code_of code) (from start.0) (state_of I.state p.old)) }
     ensures fits { IfOk result (λ x. fits_module_decl (λ p. p) x) }
     ensures shorter { Falls result (spec.bound (stream_of I.machine) (state_of I.state p.new)) (spec.bound (stream_of I.machine) (state_of I.state p.old)) }
 {

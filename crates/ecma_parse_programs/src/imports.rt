@@ -31,7 +31,7 @@ pub fn renamed_import<'a, I: Tokens<'a> + Drop, N: Nested<'a, I>>(
     code: Around,
 ) -> Result<ImportSpecifier, Failure>
     requires unnamed { spec.is_name (stream_of I.machine) (code_of code) (state_of I.state p.old) ≡ false }
-    ensures value { Gives (λ x. (view_import_specifier x, state_of I.state p.new)) result (reads.named_import (stream_of I.machine) (N.reads nested.now I.State I.machine) (code_of code) (state_of I.state p.old)) }
+    ensures value { Gives (λ x. (view_import_specifier x, state_of I.state p.new)) (spec.bound (stream_of I.machine) (state_of I.state p.new)) result (reads.named_import (stream_of I.machine) (N.reads nested.now I.State I.machine) (code_of code) (state_of I.state p.old)) }
     ensures shorter { Falls result (spec.bound (stream_of I.machine) (state_of I.state p.new)) (spec.bound (stream_of I.machine) (state_of I.state p.old)) }
 {
     let start = p.lo();
@@ -54,7 +54,7 @@ pub fn bound_import<'a, I: Tokens<'a> + Drop, N: Nested<'a, I>>(
     code: Around,
 ) -> Result<ImportSpecifier, Failure>
     requires named { spec.is_name (stream_of I.machine) (code_of code) (state_of I.state p.old) ≡ true }
-    ensures value { Gives (λ x. (view_import_specifier x, state_of I.state p.new)) result (reads.named_import (stream_of I.machine) (N.reads nested.now I.State I.machine) (code_of code) (state_of I.state p.old)) }
+    ensures value { Gives (λ x. (view_import_specifier x, state_of I.state p.new)) (spec.bound (stream_of I.machine) (state_of I.state p.new)) result (reads.named_import (stream_of I.machine) (N.reads nested.now I.State I.machine) (code_of code) (state_of I.state p.old)) }
     ensures shorter { Falls result (spec.bound (stream_of I.machine) (state_of I.state p.new)) (spec.bound (stream_of I.machine) (state_of I.state p.old)) }
 {
     let start = p.lo();
@@ -83,7 +83,7 @@ pub fn named_import<'a, I: Tokens<'a> + Drop, N: Nested<'a, I>>(
     nested: &N,
     code: Around,
 ) -> Result<ImportSpecifier, Failure>
-    ensures value { Gives (λ x. (view_import_specifier x, state_of I.state p.new)) result (reads.named_import (stream_of I.machine) (N.reads nested.now I.State I.machine) (code_of code) (state_of I.state p.old)) }
+    ensures value { Gives (λ x. (view_import_specifier x, state_of I.state p.new)) (spec.bound (stream_of I.machine) (state_of I.state p.new)) result (reads.named_import (stream_of I.machine) (N.reads nested.now I.State I.machine) (code_of code) (state_of I.state p.old)) }
     ensures shorter { Falls result (spec.bound (stream_of I.machine) (state_of I.state p.new)) (spec.bound (stream_of I.machine) (state_of I.state p.old)) }
 {
     if p.is_name(code) {
@@ -102,7 +102,7 @@ pub fn import_turn<'a, I: Tokens<'a> + Drop, N: Nested<'a, I>>(
     code: Around,
     list: &mut Vec<ImportSpecifier>,
 ) -> Result<bool, Failure>
-    ensures value { Gives (λ x. (going_on x (map view_import_specifier list.new.items), state_of I.state p.new)) result (reads.specifier_step (stream_of I.machine) (N.reads nested.now I.State I.machine) true (code_of code) (map view_import_specifier list.old.items) (state_of I.state p.old)) }
+    ensures value { Gives (λ x. (going_on x (map view_import_specifier list.new.items), state_of I.state p.new)) (spec.bound (stream_of I.machine) (state_of I.state p.new)) result (reads.specifier_step (stream_of I.machine) (N.reads nested.now I.State I.machine) true (code_of code) (map view_import_specifier list.old.items) (state_of I.state p.old)) }
     ensures shorter { Falls result (spec.bound (stream_of I.machine) (state_of I.state p.new)) (spec.bound (stream_of I.machine) (state_of I.state p.old)) }
 {
     if p.eat(kinds::RIGHT_BRACE)? {
@@ -125,7 +125,7 @@ pub fn named_imports<'a, I: Tokens<'a> + Drop, N: Nested<'a, I>>(
     nested: &N,
     code: Around,
 ) -> Result<Vec<ImportSpecifier>, Failure>
-    ensures value { Gives (λ x. (map view_import_specifier x.items, state_of I.state p.new)) result (reads.specifiers_by (stream_of I.machine) (N.reads nested.now I.State I.machine) true (code_of code) (state_of I.state p.old)) }
+    ensures value { Gives (λ x. (map view_import_specifier x.items, state_of I.state p.new)) (spec.bound (stream_of I.machine) (state_of I.state p.new)) result (reads.specifiers_by (stream_of I.machine) (N.reads nested.now I.State I.machine) true (code_of code) (state_of I.state p.old)) }
     ensures shorter { Falls result (spec.bound (stream_of I.machine) (state_of I.state p.new)) (spec.bound (stream_of I.machine) (state_of I.state p.old)) }
 {
     let mut list = Vec::new(p.alloc);
@@ -141,7 +141,7 @@ pub fn star_import<'a, I: Tokens<'a> + Drop, N: Nested<'a, I>>(
     nested: &N,
     code: Around,
 ) -> Result<ImportSpecifier, Failure>
-    ensures value { Gives (λ x. (view_import_specifier x, state_of I.state p.new)) result (reads.star_import (stream_of I.machine) (N.reads nested.now I.State I.machine) (code_of code) (state_of I.state p.old)) }
+    ensures value { Gives (λ x. (view_import_specifier x, state_of I.state p.new)) (spec.bound (stream_of I.machine) (state_of I.state p.new)) result (reads.star_import (stream_of I.machine) (N.reads nested.now I.State I.machine) (code_of code) (state_of I.state p.old)) }
     ensures shorter { Falls result (spec.bound (stream_of I.machine) (state_of I.state p.new)) (spec.bound (stream_of I.machine) (state_of I.state p.old)) }
 {
     let start = p.lo();
@@ -165,7 +165,7 @@ pub fn import_end<'a, I: Tokens<'a> + Drop, N: Nested<'a, I>>(
     specifiers: Vec<ImportSpecifier>,
 ) -> Result<ImportDecl, Failure>
     requires ready { N.ready nested.now }
-    ensures value { Gives (λ x. (view_import_decl inner x, state_of I.state p.new)) result (reads.import_end (stream_of I.machine) (N.reads nested.now I.State I.machine) (code_of code) (from start.0) (map view_import_specifier specifiers.items) (state_of I.state p.old)) }
+    ensures value { Gives (λ x. (view_import_decl inner x, state_of I.state p.new)) (spec.bound (stream_of I.machine) (state_of I.state p.new)) result (reads.import_end (stream_of I.machine) (N.reads nested.now I.State I.machine) (code_of code) (from start.0) (map view_import_specifier specifiers.items) (state_of I.state p.old)) }
     ensures fits { IfOk result (λ x. fits_import_decl (λ p. p) x) }
     ensures shorter { Falls result (spec.bound (stream_of I.machine) (state_of I.state p.new)) (spec.bound (stream_of I.machine) (state_of I.state p.old)) }
 {
@@ -191,7 +191,7 @@ pub fn import_star<'a, I: Tokens<'a> + Drop, N: Nested<'a, I>>(
 ) -> Result<ImportDecl, Failure>
     requires ready { N.ready nested.now }
     requires star { spec.at (stream_of I.machine) mul_kind (state_of I.state p.old) ≡ true }
-    ensures value { Gives (λ x. (view_import_decl inner x, state_of I.state p.new)) result (reads.import_rest (stream_of I.machine) (N.reads nested.now I.State I.machine) (code_of code) (from start.0) (first_of first) (state_of I.state p.old)) }
+    ensures value { Gives (λ x. (view_import_decl inner x, state_of I.state p.new)) (spec.bound (stream_of I.machine) (state_of I.state p.new)) result (reads.import_rest (stream_of I.machine) (N.reads nested.now I.State I.machine) (code_of code) (from start.0) (first_of first) (state_of I.state p.old)) }
     ensures fits { IfOk result (λ x. fits_import_decl (λ p. p) x) }
     ensures shorter { Falls result (spec.bound (stream_of I.machine) (state_of I.state p.new)) (spec.bound (stream_of I.machine) (state_of I.state p.old)) }
 {
@@ -229,7 +229,7 @@ pub fn import_rest<'a, I: Tokens<'a> + Drop, N: Nested<'a, I>>(
     first: Option<ImportSpecifier>,
 ) -> Result<ImportDecl, Failure>
     requires ready { N.ready nested.now }
-    ensures value { Gives (λ x. (view_import_decl inner x, state_of I.state p.new)) result (reads.import_rest (stream_of I.machine) (N.reads nested.now I.State I.machine) (code_of code) (from start.0) (first_of first) (state_of I.state p.old)) }
+    ensures value { Gives (λ x. (view_import_decl inner x, state_of I.state p.new)) (spec.bound (stream_of I.machine) (state_of I.state p.new)) result (reads.import_rest (stream_of I.machine) (N.reads nested.now I.State I.machine) (code_of code) (from start.0) (first_of first) (state_of I.state p.old)) }
     ensures fits { IfOk result (λ x. fits_import_decl (λ p. p) x) }
     ensures shorter { Falls result (spec.bound (stream_of I.machine) (state_of I.state p.new)) (spec.bound (stream_of I.machine) (state_of I.state p.old)) }
 {
@@ -251,7 +251,7 @@ pub fn import_default<'a, I: Tokens<'a> + Drop, N: Nested<'a, I>>(
     start: BytePos,
 ) -> Result<ImportDecl, Failure>
     requires ready { N.ready nested.now }
-    ensures value { Gives (λ x. (view_import_decl inner x, state_of I.state p.new)) result (reads.import_default (stream_of I.machine) (N.reads nested.now I.State I.machine) (code_of code) (from start.0) (state_of I.state p.old)) }
+    ensures value { Gives (λ x. (view_import_decl inner x, state_of I.state p.new)) (spec.bound (stream_of I.machine) (state_of I.state p.new)) result (reads.import_default (stream_of I.machine) (N.reads nested.now I.State I.machine) (code_of code) (from start.0) (state_of I.state p.old)) }
     ensures fits { IfOk result (λ x. fits_import_decl (λ p. p) x) }
     ensures shorter { Falls result (spec.bound (stream_of I.machine) (state_of I.state p.new)) (spec.bound (stream_of I.machine) (state_of I.state p.old)) }
 {
@@ -275,7 +275,7 @@ pub fn import_decl<'a, I: Tokens<'a> + Drop, N: Nested<'a, I>>(
     code: Around,
 ) -> Result<ImportDecl, Failure>
     requires ready { N.ready nested.now }
-    ensures value { Gives (λ x. (view_import_decl inner x, state_of I.state p.new)) result (reads.import_decl_by (stream_of I.machine) (N.reads nested.now I.State I.machine) (code_of code) (state_of I.state p.old)) }
+    ensures value { Gives (λ x. (view_import_decl inner x, state_of I.state p.new)) (spec.bound (stream_of I.machine) (state_of I.state p.new)) result (reads.import_decl_by (stream_of I.machine) (N.reads nested.now I.State I.machine) (code_of code) (state_of I.state p.old)) }
     ensures fits { IfOk result (λ x. fits_import_decl (λ p. p) x) }
     ensures shorter { Falls result (spec.bound (stream_of I.machine) (state_of I.state p.new)) (spec.bound (stream_of I.machine) (state_of I.state p.old)) }
 {

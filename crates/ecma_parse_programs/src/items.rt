@@ -73,7 +73,7 @@ pub fn script_item<'a, I: Tokens<'a> + Drop, N: Nested<'a, I>>(
     code: Around,
 ) -> Result<StmtBox, Failure>
     requires ready { N.ready nested.now }
-    ensures value { Gives (λ x. (inner x.part.value, state_of I.state p.new)) result (reads.item_by (stream_of I.machine) (N.reads nested.now I.State I.machine) false (code_of code) (state_of I.state p.old)) }
+    ensures value { Gives (λ x. (inner x.part.value, state_of I.state p.new)) (spec.bound (stream_of I.machine) (state_of I.state p.new)) result (reads.item_by (stream_of I.machine) (N.reads nested.now I.State I.machine) false (code_of code) (state_of I.state p.old)) }
     ensures holds { IfOk result (λ x. holds_stmt x.part.value) }
     ensures shorter { Falls result (spec.bound (stream_of I.machine) (state_of I.state p.new)) (spec.bound (stream_of I.machine) (state_of I.state p.old)) }
 {
@@ -92,7 +92,7 @@ pub fn module_item<'a, I: Tokens<'a> + Drop, N: Nested<'a, I>>(
     code: Around,
 ) -> Result<ModuleItem, Failure>
     requires ready { N.ready nested.now }
-    ensures value { Gives (λ x. (view_module_item inner x, state_of I.state p.new)) result (reads.item_by (stream_of I.machine) (N.reads nested.now I.State I.machine) true (code_of code) (state_of I.state p.old)) }
+    ensures value { Gives (λ x. (view_module_item inner x, state_of I.state p.new)) (spec.bound (stream_of I.machine) (state_of I.state p.new)) result (reads.item_by (stream_of I.machine) (N.reads nested.now I.State I.machine) true (code_of code) (state_of I.state p.old)) }
     ensures fits { IfOk result (λ x. fits_module_item (λ p. p) x) }
     ensures shorter { Falls result (spec.bound (stream_of I.machine) (state_of I.state p.new)) (spec.bound (stream_of I.machine) (state_of I.state p.old)) }
 {
@@ -140,7 +140,7 @@ pub fn next_item<'a, I: Tokens<'a> + Drop, N: Nested<'a, I>>(
 ) -> Result<(), Failure>
     requires ready { N.ready nested.now }
     requires fits { FitItems body.old }
-    ensures value { Gives (λ _. (spec.go_on (items_of body.new), state_of I.state p.new)) result (reads.program_item (stream_of I.machine) (N.reads nested.now I.State I.machine) true (items_of body.old) (state_of I.state p.old)) }
+    ensures value { Gives (λ _. (spec.go_on (items_of body.new), state_of I.state p.new)) (spec.bound (stream_of I.machine) (state_of I.state p.new)) result (reads.program_item (stream_of I.machine) (N.reads nested.now I.State I.machine) true (items_of body.old) (state_of I.state p.old)) }
     ensures fits { IfOk result (λ _. FitItems body.new) }
     ensures shorter { Falls result (spec.bound (stream_of I.machine) (state_of I.state p.new)) (spec.bound (stream_of I.machine) (state_of I.state p.old)) }
 {
@@ -165,7 +165,7 @@ pub fn item_turn<'a, I: Tokens<'a> + Drop, N: Nested<'a, I>>(
 ) -> Result<bool, Failure>
     requires ready { N.ready nested.now }
     requires fits { FitItems body.old }
-    ensures value { Gives (λ x. (going_on x (items_of body.new), state_of I.state p.new)) result (reads.program_step (stream_of I.machine) (N.reads nested.now I.State I.machine) true (items_of body.old) (state_of I.state p.old)) }
+    ensures value { Gives (λ x. (going_on x (items_of body.new), state_of I.state p.new)) (spec.bound (stream_of I.machine) (state_of I.state p.new)) result (reads.program_step (stream_of I.machine) (N.reads nested.now I.State I.machine) true (items_of body.old) (state_of I.state p.old)) }
     ensures fits { IfOk result (λ _. FitItems body.new) }
     ensures shorter { IfOk result (λ b. IsTrue b → spec.bound (stream_of I.machine) (state_of I.state p.new) < spec.bound (stream_of I.machine) (state_of I.state p.old)) }
     ensures not_longer { Stays result (spec.bound (stream_of I.machine) (state_of I.state p.new)) (spec.bound (stream_of I.machine) (state_of I.state p.old)) }
@@ -187,7 +187,7 @@ pub fn module_items<'a, I: Tokens<'a> + Drop, N: Nested<'a, I>>(
     code: Around,
 ) -> Result<ItemsSoFar, Failure>
     requires ready { N.ready nested.now }
-    ensures value { Gives (λ x. (items_of x, state_of I.state p.new)) result (items_by (stream_of I.machine) (N.reads nested.now I.State I.machine) true (code_of code) (state_of I.state p.old)) }
+    ensures value { Gives (λ x. (items_of x, state_of I.state p.new)) (spec.bound (stream_of I.machine) (state_of I.state p.new)) result (items_by (stream_of I.machine) (N.reads nested.now I.State I.machine) true (code_of code) (state_of I.state p.old)) }
     ensures fits { IfOk result (λ x. FitItems x) }
     ensures not_longer { Stays result (spec.bound (stream_of I.machine) (state_of I.state p.new)) (spec.bound (stream_of I.machine) (state_of I.state p.old)) }
 {

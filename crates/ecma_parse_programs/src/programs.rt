@@ -33,7 +33,7 @@ pub fn script_rest<'a, I: Tokens<'a> + Drop, N: Nested<'a, I>>(
     shebang: Option<Atom>,
 ) -> Result<Script, Failure>
     requires ready { N.ready nested.now }
-    ensures value { Gives (λ x. (view_script inner x, state_of I.state p.new)) result (reads.program_rest (stream_of I.machine) (N.reads nested.now I.State I.machine) false (code_of code) (from start.0) shebang (state_of I.state p.old)) }
+    ensures value { Gives (λ x. (view_script inner x, state_of I.state p.new)) (spec.bound (stream_of I.machine) (state_of I.state p.new)) result (reads.program_rest (stream_of I.machine) (N.reads nested.now I.State I.machine) false (code_of code) (from start.0) shebang (state_of I.state p.old)) }
     ensures fits { IfOk result (λ x. fits_script (λ p. p) x) }
     ensures not_longer { Stays result (spec.bound (stream_of I.machine) (state_of I.state p.new)) (spec.bound (stream_of I.machine) (state_of I.state p.old)) }
 {
@@ -56,7 +56,7 @@ pub fn module_rest<'a, I: Tokens<'a> + Drop, N: Nested<'a, I>>(
     shebang: Option<Atom>,
 ) -> Result<Module, Failure>
     requires ready { N.ready nested.now }
-    ensures value { Gives (λ x. (view_module inner x, state_of I.state p.new)) result (reads.program_rest (stream_of I.machine) (N.reads nested.now I.State I.machine) true (code_of code) (from start.0) shebang (state_of I.state p.old)) }
+    ensures value { Gives (λ x. (view_module inner x, state_of I.state p.new)) (spec.bound (stream_of I.machine) (state_of I.state p.new)) result (reads.program_rest (stream_of I.machine) (N.reads nested.now I.State I.machine) true (code_of code) (from start.0) shebang (state_of I.state p.old)) }
     ensures fits { IfOk result (λ x. fits_module (λ p. p) x) }
     ensures not_longer { Stays result (spec.bound (stream_of I.machine) (state_of I.state p.new)) (spec.bound (stream_of I.machine) (state_of I.state p.old)) }
 {
@@ -92,7 +92,7 @@ pub fn line<'a, I: Tokens<'a> + Drop, N: Nested<'a, I>>(
     p: &mut Parser<'a, I>,
     nested: &N,
 ) -> Result<Atom, Failure>
-    ensures value { Gives (λ x. (x, state_of I.state p.new)) result (line_by (stream_of I.machine) (N.reads nested.now I.State I.machine) (state_of I.state p.old)) }
+    ensures value { Gives (λ x. (x, state_of I.state p.new)) (spec.bound (stream_of I.machine) (state_of I.state p.new)) result (line_by (stream_of I.machine) (N.reads nested.now I.State I.machine) (state_of I.state p.old)) }
     ensures not_longer { Stays result (spec.bound (stream_of I.machine) (state_of I.state p.new)) (spec.bound (stream_of I.machine) (state_of I.state p.old)) }
 {
     let Some(text) = hashbang(p, nested) else {
@@ -113,7 +113,7 @@ pub fn led_script<'a, I: Tokens<'a> + Drop, N: Nested<'a, I>>(
     start: BytePos,
 ) -> Result<Script, Failure>
     requires ready { N.ready nested.now }
-    ensures value { Gives (λ x. (view_script inner x, state_of I.state p.new)) result (led_by (stream_of I.machine) (N.reads nested.now I.State I.machine) false (code_of code) (from start.0) (state_of I.state p.old)) }
+    ensures value { Gives (λ x. (view_script inner x, state_of I.state p.new)) (spec.bound (stream_of I.machine) (state_of I.state p.new)) result (led_by (stream_of I.machine) (N.reads nested.now I.State I.machine) false (code_of code) (from start.0) (state_of I.state p.old)) }
     ensures fits { IfOk result (λ x. fits_script (λ p. p) x) }
     ensures not_longer { Stays result (spec.bound (stream_of I.machine) (state_of I.state p.new)) (spec.bound (stream_of I.machine) (state_of I.state p.old)) }
 {
@@ -131,7 +131,7 @@ pub fn led_module<'a, I: Tokens<'a> + Drop, N: Nested<'a, I>>(
     start: BytePos,
 ) -> Result<Module, Failure>
     requires ready { N.ready nested.now }
-    ensures value { Gives (λ x. (view_module inner x, state_of I.state p.new)) result (led_by (stream_of I.machine) (N.reads nested.now I.State I.machine) true (code_of code) (from start.0) (state_of I.state p.old)) }
+    ensures value { Gives (λ x. (view_module inner x, state_of I.state p.new)) (spec.bound (stream_of I.machine) (state_of I.state p.new)) result (led_by (stream_of I.machine) (N.reads nested.now I.State I.machine) true (code_of code) (from start.0) (state_of I.state p.old)) }
     ensures fits { IfOk result (λ x. fits_module (λ p. p) x) }
     ensures not_longer { Stays result (spec.bound (stream_of I.machine) (state_of I.state p.new)) (spec.bound (stream_of I.machine) (state_of I.state p.old)) }
 {
@@ -148,7 +148,7 @@ pub fn script<'a, I: Tokens<'a> + Drop, N: Nested<'a, I>>(
     code: Around,
 ) -> Result<Script, Failure>
     requires ready { N.ready nested.now }
-    ensures value { Gives (λ x. (view_script inner x, state_of I.state p.new)) result (reads.program_by (stream_of I.machine) (N.reads nested.now I.State I.machine) false (code_of code) (state_of I.state p.old)) }
+    ensures value { Gives (λ x. (view_script inner x, state_of I.state p.new)) (spec.bound (stream_of I.machine) (state_of I.state p.new)) result (reads.program_by (stream_of I.machine) (N.reads nested.now I.State I.machine) false (code_of code) (state_of I.state p.old)) }
     ensures fits { IfOk result (λ x. fits_script (λ p. p) x) }
     ensures not_longer { Stays result (spec.bound (stream_of I.machine) (state_of I.state p.new)) (spec.bound (stream_of I.machine) (state_of I.state p.old)) }
 {
@@ -168,7 +168,7 @@ pub fn module<'a, I: Tokens<'a> + Drop, N: Nested<'a, I>>(
     code: Around,
 ) -> Result<Module, Failure>
     requires ready { N.ready nested.now }
-    ensures value { Gives (λ x. (view_module inner x, state_of I.state p.new)) result (reads.program_by (stream_of I.machine) (N.reads nested.now I.State I.machine) true (code_of code) (state_of I.state p.old)) }
+    ensures value { Gives (λ x. (view_module inner x, state_of I.state p.new)) (spec.bound (stream_of I.machine) (state_of I.state p.new)) result (reads.program_by (stream_of I.machine) (N.reads nested.now I.State I.machine) true (code_of code) (state_of I.state p.old)) }
     ensures fits { IfOk result (λ x. fits_module (λ p. p) x) }
     ensures not_longer { Stays result (spec.bound (stream_of I.machine) (state_of I.state p.new)) (spec.bound (stream_of I.machine) (state_of I.state p.old)) }
 {

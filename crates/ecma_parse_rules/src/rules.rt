@@ -39,26 +39,26 @@ impl<
 
     ghost ready = { λ r. record {
       expr : NestsAt r.left (E.pre r.expr) (E.post r.expr) (λ code level old result new. record {
-        value : Gives (λ x. (tree_of x, T.stood new)) result ((readers T.machine r.left).expr (code_of code) level (T.stood old));
+        value : Gives (λ x. (tree_of x, T.stood new)) (spec.bound T.machine (T.stood new)) result ((readers T.machine r.left).expr (code_of code) level (T.stood old));
         shorter : Falls result (spec.bound T.machine (T.stood new)) (spec.bound T.machine (T.stood old));
       });
       pat : Nests r.left (P.pre r.pat) (P.post r.pat) (λ code old result new. record {
-        value : Gives (λ x. (inner x.part.value, T.stood new)) result ((readers T.machine r.left).pat (code_of code) (T.stood old));
+        value : Gives (λ x. (inner x.part.value, T.stood new)) (spec.bound T.machine (T.stood new)) result ((readers T.machine r.left).pat (code_of code) (T.stood old));
         holds : IfOk result (λ x. holds_pat x.part.value);
         shorter : Falls result (spec.bound T.machine (T.stood new)) (spec.bound T.machine (T.stood old));
       });
       stmt : Nests r.left (S.pre r.stmt) (S.post r.stmt) (λ code old result new. record {
-        value : Gives (λ x. (inner x.part.value, T.stood new)) result ((readers T.machine r.left).stmt (code_of code) (T.stood old));
+        value : Gives (λ x. (inner x.part.value, T.stood new)) (spec.bound T.machine (T.stood new)) result ((readers T.machine r.left).stmt (code_of code) (T.stood old));
         holds : IfOk result (λ x. holds_stmt x.part.value);
         shorter : Falls result (spec.bound T.machine (T.stood new)) (spec.bound T.machine (T.stood old));
       });
       body : Nests r.left (B.pre r.body) (B.post r.body) (λ code old result new. record {
-        value : Gives (λ x. (view_block_stmt inner x, T.stood new)) result ((readers T.machine r.left).body (code_of code) (T.stood old));
+        value : Gives (λ x. (view_block_stmt inner x, T.stood new)) (spec.bound T.machine (T.stood new)) result ((readers T.machine r.left).body (code_of code) (T.stood old));
         fits : IfOk result (λ x. fits_block_stmt (λ p. p) x);
         shorter : Falls result (spec.bound T.machine (T.stood new)) (spec.bound T.machine (T.stood old));
       });
       class_tail : NestsAt r.left (C.pre r.class_tail) (C.post r.class_tail) (λ code whole old result new. record {
-        value : Gives (λ x. (view_class inner x.value, T.stood new)) result ((readers T.machine r.left).class_tail (code_of code) whole.0 (T.stood old));
+        value : Gives (λ x. (view_class inner x.value, T.stood new)) (spec.bound T.machine (T.stood new)) result ((readers T.machine r.left).class_tail (code_of code) whole.0 (T.stood old));
         fits : IfOk result (λ x. fits_class (λ p. p) x.value);
         shorter : Falls result (spec.bound T.machine (T.stood new)) (spec.bound T.machine (T.stood old));
       });

@@ -25,7 +25,7 @@ pub fn parse_expr<T: Layer>(
     code: Around,
     level: u8,
 ) -> Result<Operand, Failure>
-    ensures value { Gives (λ x. (tree_of x, T.stood p.new)) result ((readers T.machine depth).expr (code_of code) level (T.stood p.old)) }
+    ensures value { Gives (λ x. (tree_of x, T.stood p.new)) (spec.bound T.machine (T.stood p.new)) result ((readers T.machine depth).expr (code_of code) level (T.stood p.old)) }
     ensures shorter { Falls result (spec.bound T.machine (T.stood p.new)) (spec.bound T.machine (T.stood p.old)) }
 {
     if depth == 0 {
@@ -46,7 +46,7 @@ pub fn parse_expr<T: Layer>(
 #[cycle(tie)]
 #[tactic(auto, using(crate::proofs::Readers::readers_go), unfolding(ecma_reading::specs::Reading::readers))]
 pub fn parse_pat<T: Layer>(p: &mut T, depth: u32, code: Around) -> Result<PatBox, Failure>
-    ensures value { Gives (λ x. (inner x.part.value, T.stood p.new)) result ((readers T.machine depth).pat (code_of code) (T.stood p.old)) }
+    ensures value { Gives (λ x. (inner x.part.value, T.stood p.new)) (spec.bound T.machine (T.stood p.new)) result ((readers T.machine depth).pat (code_of code) (T.stood p.old)) }
     ensures holds { IfOk result (λ x. holds_pat x.part.value) }
     ensures shorter { Falls result (spec.bound T.machine (T.stood p.new)) (spec.bound T.machine (T.stood p.old)) }
 {
@@ -68,7 +68,7 @@ pub fn parse_pat<T: Layer>(p: &mut T, depth: u32, code: Around) -> Result<PatBox
 #[cycle(tie)]
 #[tactic(auto, using(crate::proofs::Readers::readers_go), unfolding(ecma_reading::specs::Reading::readers))]
 pub fn parse_stmt<T: Layer>(p: &mut T, depth: u32, code: Around) -> Result<StmtBox, Failure>
-    ensures value { Gives (λ x. (inner x.part.value, T.stood p.new)) result ((readers T.machine depth).stmt (code_of code) (T.stood p.old)) }
+    ensures value { Gives (λ x. (inner x.part.value, T.stood p.new)) (spec.bound T.machine (T.stood p.new)) result ((readers T.machine depth).stmt (code_of code) (T.stood p.old)) }
     ensures holds { IfOk result (λ x. holds_stmt x.part.value) }
     ensures shorter { Falls result (spec.bound T.machine (T.stood p.new)) (spec.bound T.machine (T.stood p.old)) }
 {
@@ -90,7 +90,7 @@ pub fn parse_stmt<T: Layer>(p: &mut T, depth: u32, code: Around) -> Result<StmtB
 #[cycle(tie)]
 #[tactic(auto, using(crate::proofs::Readers::readers_go), unfolding(ecma_reading::specs::Reading::readers))]
 pub fn parse_body<T: Layer>(p: &mut T, depth: u32, code: Around) -> Result<BlockStmt, Failure>
-    ensures value { Gives (λ x. (view_block_stmt inner x, T.stood p.new)) result ((readers T.machine depth).body (code_of code) (T.stood p.old)) }
+    ensures value { Gives (λ x. (view_block_stmt inner x, T.stood p.new)) (spec.bound T.machine (T.stood p.new)) result ((readers T.machine depth).body (code_of code) (T.stood p.old)) }
     ensures fits { IfOk result (λ x. fits_block_stmt (λ p. p) x) }
     ensures shorter { Falls result (spec.bound T.machine (T.stood p.new)) (spec.bound T.machine (T.stood p.old)) }
 {
@@ -117,7 +117,7 @@ pub fn parse_class_tail<T: Layer>(
     code: Around,
     whole: BytePos,
 ) -> Result<Box<Class>, Failure>
-    ensures value { Gives (λ x. (view_class inner x.value, T.stood p.new)) result ((readers T.machine depth).class_tail (code_of code) whole.0 (T.stood p.old)) }
+    ensures value { Gives (λ x. (view_class inner x.value, T.stood p.new)) (spec.bound T.machine (T.stood p.new)) result ((readers T.machine depth).class_tail (code_of code) whole.0 (T.stood p.old)) }
     ensures fits { IfOk result (λ x. fits_class (λ p. p) x.value) }
     ensures shorter { Falls result (spec.bound T.machine (T.stood p.new)) (spec.bound T.machine (T.stood p.old)) }
 {

@@ -1,5 +1,5 @@
 -- Loops: going on until a step says that it is done. The fuel of a loop never shows.
-use Rattle.std.proofs.Common.{◌≡◌, ℕ, zero, suc, ◌<◌, ◌≤◌, Result, Ok, Err, Bool, true, false, refl, sym, ap, ◌∙◌, arith, nat_lt}
+use Rattle.std.proofs.Common.{◌≡◌, ℕ, zero, suc, ◌<◌, Result, Ok, Err, Bool, true, false, refl, ◌∙◌, arith, nat_lt}
 use Rattle.std.proofs.lemmas.Bool.{ltb-true, lt-ltb}
 use Rattle.ecma_reading.specs.Source.{Fault, Read, State, Step, go_on, finished, iterate_n, iterate, next_by, ◌>>=◌}
 

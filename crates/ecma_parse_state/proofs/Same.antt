@@ -1,5 +1,5 @@
 -- Where an expression began shows in the places of nodes alone.
-use Rattle.std.proofs.Common.{◌≡◌, ℕ, refl, Bool, true, false, ◌&&◌, ◌==◌, if◌then◌else◌, nat_le, Ok}
+use Rattle.std.proofs.Common.{◌≡◌, ℕ, refl, ◌&&◌, ◌==◌, if◌then◌else◌, nat_le, Ok}
 use Rattle.ecma_tree.specs.Tree.{Tree}
 use Rattle.ecma_syntax.specs.Input.{Code, lo}
 use Rattle.ecma_syntax.specs.Operators.{new_level, member_level}
@@ -18,4 +18,4 @@ module _ {S : Type 0} (m : Stream S) (inner : Inner S) (c : Code) (a b : State S
 
   pub loop_same : (l : ℕ) (t : Tree) (r : State S) → loop_by m inner c l a t r ≡ loop_by m inner c l b t r
   unfolding loop_by
-  loop_same l t r = λ i. if nat_le l (level t) then iterate (bound m) (λ x s. turn_same l x s i) t r else (if (level t == new_level) && (l == member_level) then Ok (t, r) else unexpected)
+  loop_same l t r = λ i. if nat_le l (level t) then iterate (bound m) (λ x s. turn_same l x s i) t r else (if (level t == new_level) && (l == member_level) then Ok (t, r) else unexpected m r)

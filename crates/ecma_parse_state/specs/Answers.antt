@@ -4,16 +4,16 @@ use Rattle.ecma_reading.specs.Source.{Fault, Unexpected, TooDeep, Step, go_on, f
 use Rattle.ecma_parse_state.specs.declared.failure.Failure.{Failure}
 use Rattle.ecma_parse_state.specs.declared.failure.Failure.TheVariants as failure
 
--- Where reading fails, so does the code, and why; of want of memory nothing is said.
-abbrev pub Fails : {Y : Type 0} → Failure → Result Y Fault → Type 0
-Fails failure.Memory read = Unit {0}
-Fails failure.TooDeep read = read ≡ Err TooDeep
-Fails (failure.Syntax e) read = read ≡ Err Unexpected
+-- Where reading fails, so does the code, and why, with as many tokens left as may come where that is found; of want of memory nothing is said.
+abbrev pub Fails : {Y : Type 0} → Failure → ℕ → Result Y Fault → Type 0
+Fails failure.Memory left read = Unit {0}
+Fails failure.TooDeep left read = read ≡ Err (TooDeep left)
+Fails (failure.Syntax e) left read = read ≡ Err (Unexpected left)
 
--- What the code answered, seen by `view`, is what is read.
-abbrev pub Gives : {X Y : Type 0} → (X → Y) → Result X Failure → Result Y Fault → Type 0
-Gives view (Ok x) read = read ≡ Ok (view x)
-Gives view (Err e) read = Fails e read
+-- What the code answered, seen by `view`, is what is read; where it fails, so many tokens may come.
+abbrev pub Gives : {X Y : Type 0} → (X → Y) → ℕ → Result X Failure → Result Y Fault → Type 0
+Gives view left (Ok x) read = read ≡ Ok (view x)
+Gives view left (Err e) read = Fails e left read
 
 -- an answer that the text has nothing to do with
 abbrev pub IsMemory : Failure → Type 0

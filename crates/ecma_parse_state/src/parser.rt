@@ -1,8 +1,9 @@
 //! The parser's state, and the smallest steps on it.
-ghost use Rattle.std.specs.Prelude.{◌≡◌, ◌≢◌, ◌<◌, ◌≤◌, if◌then◌else◌, IfErr, IfOk, IsTrue, OnOk, option_map};
-ghost use Rattle.ecma_syntax.specs.Input.{brk, brk2, escaped, first_span, hi, is_word, kind, kind2, lo, rest, span, text};
+ghost use Rattle.std.specs.Prelude.{◌≡◌, ◌≢◌, ◌<◌, ◌≤◌, false, true, None, if◌then◌else◌, IfErr, IfOk, IsTrue, OnOk, option_map};
+ghost use Rattle.ecma_syntax.specs.Input.{brk, brk2, content, escaped, first_span, hi, is_word, kind, kind2, lo, rest, span, text};
 ghost use Rattle.ecma_token_source.specs.Machine.{shown_spot};
 ghost use Rattle.ecma_reading.specs.Source as spec;
+ghost use Rattle.ecma_reading.specs.Expressions.{literal};
 ghost use Rattle.ecma_parse_state.specs.Answers.{Falls, Gives, IsMemory, IsSyntax, Stays};
 ghost use Rattle.ecma_parse_state.specs.Cursors.{stream_of};
 
@@ -216,6 +217,22 @@ impl<'a, I: Tokens<'a> + Drop> Parser<'a, I> {
         }
     }
 
+    /// Whether the token that comes is a literal: a string, a number or a regular expression.
+    #[tactic(auto, unfolding(crate::specs::Cursors::stream_of))]
+    pub fn is_literal(&self) -> bool
+        ensures some { result ≡ true → literal (kind (spec.input (stream_of I.machine) (state_of I.state self.now))) (content (spec.input (stream_of I.machine) (state_of I.state self.now))) (first_span (spec.input (stream_of I.machine) (state_of I.state self.now))) ≢ None }
+        ensures none { result ≡ false → literal (kind (spec.input (stream_of I.machine) (state_of I.state self.now))) (content (spec.input (stream_of I.machine) (state_of I.state self.now))) (first_span (spec.input (stream_of I.machine) (state_of I.state self.now))) ≡ None }
+    {
+        match &self.ahead.token {
+            Some(token) => match &token.token {
+                Token::Str { .. } | Token::Num { .. } | Token::BigInt { .. } | Token::Regex(_, _) =>
+                    true,
+                _ => false,
+            },
+            None => false,
+        }
+    }
+
     /// Takes the token that comes if it has this kind, and tells whether it had.
     ///
     /// # Errors
@@ -279,7 +296,7 @@ impl<'a, I: Tokens<'a> + Drop> Parser<'a, I> {
     #[tactic(auto, unfolding(ecma_reading::specs::Source::eat))]
     pub fn expect(&mut self, kind: u8) -> Result<(), Failure>
         requires { 0 < kind }
-        ensures value { Gives (λ _. state_of I.state self.new) result (spec.eat (stream_of I.machine) kind (state_of I.state self.old)) }
+        ensures value { Gives (λ _. state_of I.state self.new) (spec.bound (stream_of I.machine) (state_of I.state self.new)) result (spec.eat (stream_of I.machine) kind (state_of I.state self.old)) }
         ensures shorter { Falls result (spec.bound (stream_of I.machine) (state_of I.state self.new)) (spec.bound (stream_of I.machine) (state_of I.state self.old)) }
     {
         if self.eat(kind)? {
@@ -297,7 +314,7 @@ impl<'a, I: Tokens<'a> + Drop> Parser<'a, I> {
     #[tactic(auto, unfolding(ecma_reading::specs::Source::eat))]
     pub fn expect_or(&mut self, kind: u8, span: Span, fault: SyntaxError) -> Result<(), Failure>
         requires { 0 < kind }
-        ensures value { Gives (λ _. state_of I.state self.new) result (spec.eat (stream_of I.machine) kind (state_of I.state self.old)) }
+        ensures value { Gives (λ _. state_of I.state self.new) (spec.bound (stream_of I.machine) (state_of I.state self.new)) result (spec.eat (stream_of I.machine) kind (state_of I.state self.old)) }
         ensures shorter { Falls result (spec.bound (stream_of I.machine) (state_of I.state self.new)) (spec.bound (stream_of I.machine) (state_of I.state self.old)) }
     {
         if self.eat(kind)? {

@@ -154,7 +154,7 @@ impl<'a, I: Tokens<'a> + Drop> Parser<'a, I> {
     /// A fault where one is needed.
     #[tactic(auto, unfolding(ecma_reading::specs::Source::end_of))]
     pub fn end_of(&mut self, code: Around, end: u8) -> Result<(), Failure>
-        ensures value { Gives (λ _. state_of I.state self.new) result (spec.end_of (stream_of I.machine) (code_of code) end (state_of I.state self.old)) }
+        ensures value { Gives (λ _. state_of I.state self.new) (spec.bound (stream_of I.machine) (state_of I.state self.new)) result (spec.end_of (stream_of I.machine) (code_of code) end (state_of I.state self.old)) }
         ensures not_longer { Stays result (spec.bound (stream_of I.machine) (state_of I.state self.new)) (spec.bound (stream_of I.machine) (state_of I.state self.old)) }
     {
         if self.eat(kinds::SEMICOLON)? {

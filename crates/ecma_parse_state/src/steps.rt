@@ -77,7 +77,7 @@ impl<'a, I: Tokens<'a> + Drop> Parser<'a, I> {
     #[tactic(auto, unfolding(ecma_reading::specs::Source::eat_word))]
     pub fn eat_word(&mut self, code: Around, kind: u8) -> Result<(), Failure>
         requires { 0 < kind }
-        ensures value { Gives (λ _. state_of I.state self.new) result (spec.eat_word (stream_of I.machine) (code_of code) kind (state_of I.state self.old)) }
+        ensures value { Gives (λ _. state_of I.state self.new) (spec.bound (stream_of I.machine) (state_of I.state self.new)) result (spec.eat_word (stream_of I.machine) (code_of code) kind (state_of I.state self.old)) }
         ensures shorter { Falls result (spec.bound (stream_of I.machine) (state_of I.state self.new)) (spec.bound (stream_of I.machine) (state_of I.state self.old)) }
     {
         if !self.is_barred(code.context) && self.eat(kind)? {
@@ -93,7 +93,7 @@ impl<'a, I: Tokens<'a> + Drop> Parser<'a, I> {
     /// Any other token is a fault.
     #[tactic(auto, unfolding(ecma_reading::specs::Source::any_word))]
     pub fn any_word(&mut self) -> Result<Atom, Failure>
-        ensures value { Gives (λ n. (n, state_of I.state self.new)) result (spec.any_word (stream_of I.machine) (state_of I.state self.old)) }
+        ensures value { Gives (λ n. (n, state_of I.state self.new)) (spec.bound (stream_of I.machine) (state_of I.state self.new)) result (spec.any_word (stream_of I.machine) (state_of I.state self.old)) }
         ensures shorter { Falls result (spec.bound (stream_of I.machine) (state_of I.state self.new)) (spec.bound (stream_of I.machine) (state_of I.state self.old)) }
     {
         if !self.is_word() {
@@ -111,7 +111,7 @@ impl<'a, I: Tokens<'a> + Drop> Parser<'a, I> {
     /// Any other token is a fault.
     #[tactic(auto, unfolding(ecma_reading::specs::Source::name))]
     pub fn name(&mut self, code: Around) -> Result<Atom, Failure>
-        ensures value { Gives (λ n. (n, state_of I.state self.new)) result (spec.name (stream_of I.machine) (code_of code) (state_of I.state self.old)) }
+        ensures value { Gives (λ n. (n, state_of I.state self.new)) (spec.bound (stream_of I.machine) (state_of I.state self.new)) result (spec.name (stream_of I.machine) (code_of code) (state_of I.state self.old)) }
         ensures shorter { Falls result (spec.bound (stream_of I.machine) (state_of I.state self.new)) (spec.bound (stream_of I.machine) (state_of I.state self.old)) }
     {
         if !self.is_name(code) {

@@ -68,7 +68,7 @@ pub fn alternative<'a, I: Tokens<'a> + Drop, N: Nested<'a, I>>(
     requires ready { N.ready nested.now }
     requires fits { FitChain chain.old }
     requires last { chain.old.last ≡ None }
-    ensures value { Gives (λ x. (going_on x (chain_of chain.new), state_of I.state p.new)) result (reads.else_by (stream_of I.machine) (N.reads nested.now I.State I.machine) (chain_of chain.old) (state_of I.state p.old)) }
+    ensures value { Gives (λ x. (going_on x (chain_of chain.new), state_of I.state p.new)) (spec.bound (stream_of I.machine) (state_of I.state p.new)) result (reads.else_by (stream_of I.machine) (N.reads nested.now I.State I.machine) (chain_of chain.old) (state_of I.state p.old)) }
     ensures fits { IfOk result (λ x. FitChain chain.new) }
     ensures kept { IfOk result (λ _. chain.new.branches ≡ chain.old.branches) }
     ensures not_longer { Stays result (spec.bound (stream_of I.machine) (state_of I.state p.new)) (spec.bound (stream_of I.machine) (state_of I.state p.old)) }
@@ -93,7 +93,7 @@ pub fn chain_turn<'a, I: Tokens<'a> + Drop, N: Nested<'a, I>>(
 ) -> Result<bool, Failure>
     requires ready { N.ready nested.now }
     requires fits { FitChain chain.old }
-    ensures value { Gives (λ x. (going_on x (chain_of chain.new), state_of I.state p.new)) result (reads.if_step (stream_of I.machine) (N.reads nested.now I.State I.machine) (chain_of chain.old) (state_of I.state p.old)) }
+    ensures value { Gives (λ x. (going_on x (chain_of chain.new), state_of I.state p.new)) (spec.bound (stream_of I.machine) (state_of I.state p.new)) result (reads.if_step (stream_of I.machine) (N.reads nested.now I.State I.machine) (chain_of chain.old) (state_of I.state p.old)) }
     ensures fits { IfOk result (λ x. FitChain chain.new) }
     ensures some { IfOk result (λ _. 0 < length chain.new.branches.items) }
     ensures shorter { Falls result (spec.bound (stream_of I.machine) (state_of I.state p.new)) (spec.bound (stream_of I.machine) (state_of I.state p.old)) }
@@ -124,7 +124,7 @@ pub fn chain<'a, I: Tokens<'a> + Drop, N: Nested<'a, I>>(
     code: Around,
 ) -> Result<Links, Failure>
     requires ready { N.ready nested.now }
-    ensures value { Gives (λ x. (chain_of x, state_of I.state p.new)) result (chain_items (stream_of I.machine) (N.reads nested.now I.State I.machine) (code_of code) (state_of I.state p.old)) }
+    ensures value { Gives (λ x. (chain_of x, state_of I.state p.new)) (spec.bound (stream_of I.machine) (state_of I.state p.new)) result (chain_items (stream_of I.machine) (N.reads nested.now I.State I.machine) (code_of code) (state_of I.state p.old)) }
     ensures fits { IfOk result (λ x. FitChain x) }
     ensures some { IfOk result (λ x. 0 < length x.branches.items) }
     ensures shorter { Falls result (spec.bound (stream_of I.machine) (state_of I.state p.new)) (spec.bound (stream_of I.machine) (state_of I.state p.old)) }
@@ -181,7 +181,7 @@ pub fn if_stmt<'a, I: Tokens<'a> + Drop, N: Nested<'a, I>>(
     code: Around,
 ) -> Result<StmtBox, Failure>
     requires ready { N.ready nested.now }
-    ensures value { Gives (λ x. (inner x.part.value, state_of I.state p.new)) result (reads.if_by (stream_of I.machine) (N.reads nested.now I.State I.machine) (code_of code) (state_of I.state p.old)) }
+    ensures value { Gives (λ x. (inner x.part.value, state_of I.state p.new)) (spec.bound (stream_of I.machine) (state_of I.state p.new)) result (reads.if_by (stream_of I.machine) (N.reads nested.now I.State I.machine) (code_of code) (state_of I.state p.old)) }
     ensures holds { IfOk result (λ x. holds_stmt x.part.value) }
     ensures shorter { Falls result (spec.bound (stream_of I.machine) (state_of I.state p.new)) (spec.bound (stream_of I.machine) (state_of I.state p.old)) }
 {

@@ -38,7 +38,7 @@ pub fn return_stmt<'a, I: Tokens<'a> + Drop, N: Nested<'a, I>>(
     code: Around,
 ) -> Result<StmtBox, Failure>
     requires ready { N.ready nested.now }
-    ensures value { Gives (λ x. (inner x.part.value, state_of I.state p.new)) result (reads.return_by (stream_of I.machine) (N.reads nested.now I.State I.machine) (code_of code) (state_of I.state p.old)) }
+    ensures value { Gives (λ x. (inner x.part.value, state_of I.state p.new)) (spec.bound (stream_of I.machine) (state_of I.state p.new)) result (reads.return_by (stream_of I.machine) (N.reads nested.now I.State I.machine) (code_of code) (state_of I.state p.old)) }
     ensures holds { IfOk result (λ x. holds_stmt x.part.value) }
     ensures shorter { Falls result (spec.bound (stream_of I.machine) (state_of I.state p.new)) (spec.bound (stream_of I.machine) (state_of I.state p.old)) }
 {
@@ -62,7 +62,7 @@ pub fn throw_stmt<'a, I: Tokens<'a> + Drop, N: Nested<'a, I>>(
     code: Around,
 ) -> Result<StmtBox, Failure>
     requires ready { N.ready nested.now }
-    ensures value { Gives (λ x. (inner x.part.value, state_of I.state p.new)) result (reads.throw_by (stream_of I.machine) (N.reads nested.now I.State I.machine) (code_of code) (state_of I.state p.old)) }
+    ensures value { Gives (λ x. (inner x.part.value, state_of I.state p.new)) (spec.bound (stream_of I.machine) (state_of I.state p.new)) result (reads.throw_by (stream_of I.machine) (N.reads nested.now I.State I.machine) (code_of code) (state_of I.state p.old)) }
     ensures holds { IfOk result (λ x. holds_stmt x.part.value) }
     ensures shorter { Falls result (spec.bound (stream_of I.machine) (state_of I.state p.new)) (spec.bound (stream_of I.machine) (state_of I.state p.old)) }
 {
@@ -85,7 +85,7 @@ pub fn label<'a, I: Tokens<'a> + Drop, N: Nested<'a, I>>(
     code: Around,
 ) -> Result<Option<Ident>, Failure>
     requires ready { N.ready _nested.now }
-    ensures value { Gives (λ x. (part_by view_ident x, state_of I.state p.new)) result (reads.label_by (stream_of I.machine) (N.reads _nested.now I.State I.machine) (code_of code) (state_of I.state p.old)) }
+    ensures value { Gives (λ x. (part_by view_ident x, state_of I.state p.new)) (spec.bound (stream_of I.machine) (state_of I.state p.new)) result (reads.label_by (stream_of I.machine) (N.reads _nested.now I.State I.machine) (code_of code) (state_of I.state p.old)) }
     ensures not_longer { Stays result (spec.bound (stream_of I.machine) (state_of I.state p.new)) (spec.bound (stream_of I.machine) (state_of I.state p.old)) }
 {
     if ends_here(p, _nested, code) {
@@ -105,7 +105,7 @@ pub fn break_stmt<'a, I: Tokens<'a> + Drop, N: Nested<'a, I>>(
     code: Around,
 ) -> Result<StmtBox, Failure>
     requires ready { N.ready nested.now }
-    ensures value { Gives (λ x. (inner x.part.value, state_of I.state p.new)) result (reads.jump_by (stream_of I.machine) (N.reads nested.now I.State I.machine) break_kind break_stmt (code_of code) (state_of I.state p.old)) }
+    ensures value { Gives (λ x. (inner x.part.value, state_of I.state p.new)) (spec.bound (stream_of I.machine) (state_of I.state p.new)) result (reads.jump_by (stream_of I.machine) (N.reads nested.now I.State I.machine) break_kind break_stmt (code_of code) (state_of I.state p.old)) }
     ensures holds { IfOk result (λ x. holds_stmt x.part.value) }
     ensures shorter { Falls result (spec.bound (stream_of I.machine) (state_of I.state p.new)) (spec.bound (stream_of I.machine) (state_of I.state p.old)) }
 {
@@ -125,7 +125,7 @@ pub fn continue_stmt<'a, I: Tokens<'a> + Drop, N: Nested<'a, I>>(
     code: Around,
 ) -> Result<StmtBox, Failure>
     requires ready { N.ready nested.now }
-    ensures value { Gives (λ x. (inner x.part.value, state_of I.state p.new)) result (reads.jump_by (stream_of I.machine) (N.reads nested.now I.State I.machine) continue_kind continue_stmt (code_of code) (state_of I.state p.old)) }
+    ensures value { Gives (λ x. (inner x.part.value, state_of I.state p.new)) (spec.bound (stream_of I.machine) (state_of I.state p.new)) result (reads.jump_by (stream_of I.machine) (N.reads nested.now I.State I.machine) continue_kind continue_stmt (code_of code) (state_of I.state p.old)) }
     ensures holds { IfOk result (λ x. holds_stmt x.part.value) }
     ensures shorter { Falls result (spec.bound (stream_of I.machine) (state_of I.state p.new)) (spec.bound (stream_of I.machine) (state_of I.state p.old)) }
 {
@@ -145,7 +145,7 @@ pub fn debugger_stmt<'a, I: Tokens<'a> + Drop, N: Nested<'a, I>>(
     code: Around,
 ) -> Result<StmtBox, Failure>
     requires ready { N.ready _nested.now }
-    ensures value { Gives (λ x. (inner x.part.value, state_of I.state p.new)) result (reads.debugger_by (stream_of I.machine) (N.reads _nested.now I.State I.machine) (code_of code) (state_of I.state p.old)) }
+    ensures value { Gives (λ x. (inner x.part.value, state_of I.state p.new)) (spec.bound (stream_of I.machine) (state_of I.state p.new)) result (reads.debugger_by (stream_of I.machine) (N.reads _nested.now I.State I.machine) (code_of code) (state_of I.state p.old)) }
     ensures holds { IfOk result (λ x. holds_stmt x.part.value) }
     ensures shorter { Falls result (spec.bound (stream_of I.machine) (state_of I.state p.new)) (spec.bound (stream_of I.machine) (state_of I.state p.old)) }
 {

@@ -39,7 +39,7 @@ pub fn case_turn<'a, I: Tokens<'a> + Drop, N: Nested<'a, I>>(
 ) -> Result<bool, Failure>
     requires ready { N.ready nested.now }
     requires fits { All (λ x. holds_stmt x.part.value) list.old.items }
-    ensures value { Gives (λ x. (going_on x (map (λ y. inner y.part.value) list.new.items), state_of I.state p.new)) result (reads.case_step (stream_of I.machine) (N.reads nested.now I.State I.machine) (code_of code) (map (λ y. inner y.part.value) list.old.items) (state_of I.state p.old)) }
+    ensures value { Gives (λ x. (going_on x (map (λ y. inner y.part.value) list.new.items), state_of I.state p.new)) (spec.bound (stream_of I.machine) (state_of I.state p.new)) result (reads.case_step (stream_of I.machine) (N.reads nested.now I.State I.machine) (code_of code) (map (λ y. inner y.part.value) list.old.items) (state_of I.state p.old)) }
     ensures fits { IfOk result (λ x. All (λ y. holds_stmt y.part.value) list.new.items) }
     ensures shorter { IfOk result (λ b. IsTrue b → spec.bound (stream_of I.machine) (state_of I.state p.new) < spec.bound (stream_of I.machine) (state_of I.state p.old)) }
     ensures not_longer { Stays result (spec.bound (stream_of I.machine) (state_of I.state p.new)) (spec.bound (stream_of I.machine) (state_of I.state p.old)) }
@@ -61,7 +61,7 @@ pub fn case_items<'a, I: Tokens<'a> + Drop, N: Nested<'a, I>>(
     code: Around,
 ) -> Result<Vec<StmtBox>, Failure>
     requires ready { N.ready nested.now }
-    ensures value { Gives (λ x. (map (λ y. inner y.part.value) x.items, state_of I.state p.new)) result (case_items (stream_of I.machine) (N.reads nested.now I.State I.machine) (code_of code) (state_of I.state p.old)) }
+    ensures value { Gives (λ x. (map (λ y. inner y.part.value) x.items, state_of I.state p.new)) (spec.bound (stream_of I.machine) (state_of I.state p.new)) result (case_items (stream_of I.machine) (N.reads nested.now I.State I.machine) (code_of code) (state_of I.state p.old)) }
     ensures fits { IfOk result (λ x. All (λ y. holds_stmt y.part.value) x.items) }
     ensures shorter { Falls result (spec.bound (stream_of I.machine) (state_of I.state p.new)) (spec.bound (stream_of I.machine) (state_of I.state p.old)) }
 {
@@ -80,7 +80,7 @@ pub fn case<'a, I: Tokens<'a> + Drop, N: Nested<'a, I>>(
     code: Around,
 ) -> Result<SwitchCase, Failure>
     requires ready { N.ready nested.now }
-    ensures value { Gives (λ x. (view_switch_case inner x, state_of I.state p.new)) result (reads.case_by (stream_of I.machine) (N.reads nested.now I.State I.machine) (code_of code) (state_of I.state p.old)) }
+    ensures value { Gives (λ x. (view_switch_case inner x, state_of I.state p.new)) (spec.bound (stream_of I.machine) (state_of I.state p.new)) result (reads.case_by (stream_of I.machine) (N.reads nested.now I.State I.machine) (code_of code) (state_of I.state p.old)) }
     ensures fits { IfOk result (λ x. fits_switch_case (λ p. p) x) }
     ensures shorter { Falls result (spec.bound (stream_of I.machine) (state_of I.state p.new)) (spec.bound (stream_of I.machine) (state_of I.state p.old)) }
 {
@@ -132,7 +132,7 @@ pub fn cases_turn<'a, I: Tokens<'a> + Drop, N: Nested<'a, I>>(
     requires ready { N.ready nested.now }
     requires fits { FitCases cases.old }
     requires tells { TellsDefault cases.old }
-    ensures value { Gives (λ x. (going_on x (cases_of cases.new), state_of I.state p.new)) result (reads.cases_step (stream_of I.machine) (N.reads nested.now I.State I.machine) (code_of code) (cases_of cases.old) (state_of I.state p.old)) }
+    ensures value { Gives (λ x. (going_on x (cases_of cases.new), state_of I.state p.new)) (spec.bound (stream_of I.machine) (state_of I.state p.new)) result (reads.cases_step (stream_of I.machine) (N.reads nested.now I.State I.machine) (code_of code) (cases_of cases.old) (state_of I.state p.old)) }
     ensures fits { IfOk result (λ x. FitCases cases.new) }
     ensures tells { IfOk result (λ _. TellsDefault cases.new) }
     ensures shorter { Falls result (spec.bound (stream_of I.machine) (state_of I.state p.new)) (spec.bound (stream_of I.machine) (state_of I.state p.old)) }
@@ -159,7 +159,7 @@ pub fn cases<'a, I: Tokens<'a> + Drop, N: Nested<'a, I>>(
     code: Around,
 ) -> Result<Vec<SwitchCase>, Failure>
     requires ready { N.ready nested.now }
-    ensures value { Gives (λ x. (map (view_switch_case inner) x.items, state_of I.state p.new)) result (switch_cases (stream_of I.machine) (N.reads nested.now I.State I.machine) (code_of code) (state_of I.state p.old)) }
+    ensures value { Gives (λ x. (map (view_switch_case inner) x.items, state_of I.state p.new)) (spec.bound (stream_of I.machine) (state_of I.state p.new)) result (switch_cases (stream_of I.machine) (N.reads nested.now I.State I.machine) (code_of code) (state_of I.state p.old)) }
     ensures fits { IfOk result (λ x. All (λ x. fits_switch_case (λ p. p) x) x.items) }
     ensures shorter { Falls result (spec.bound (stream_of I.machine) (state_of I.state p.new)) (spec.bound (stream_of I.machine) (state_of I.state p.old)) }
 {
@@ -180,7 +180,7 @@ pub fn switch<'a, I: Tokens<'a> + Drop, N: Nested<'a, I>>(
     code: Around,
 ) -> Result<StmtBox, Failure>
     requires ready { N.ready nested.now }
-    ensures value { Gives (λ x. (inner x.part.value, state_of I.state p.new)) result (reads.switch_by (stream_of I.machine) (N.reads nested.now I.State I.machine) (code_of code) (state_of I.state p.old)) }
+    ensures value { Gives (λ x. (inner x.part.value, state_of I.state p.new)) (spec.bound (stream_of I.machine) (state_of I.state p.new)) result (reads.switch_by (stream_of I.machine) (N.reads nested.now I.State I.machine) (code_of code) (state_of I.state p.old)) }
     ensures holds { IfOk result (λ x. holds_stmt x.part.value) }
     ensures shorter { Falls result (spec.bound (stream_of I.machine) (state_of I.state p.new)) (spec.bound (stream_of I.machine) (state_of I.state p.old)) }
 {

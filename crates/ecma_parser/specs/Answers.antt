@@ -1,5 +1,5 @@
 -- What an entry answers beside what is read.
-use Rattle.std.specs.Prelude.{◌≡◌, ◌≢◌, ◌≤◌, ◌++◌, List, Result, Ok, Err}
+use Rattle.std.specs.Prelude.{◌≡◌, ◌≢◌, ℕ, ◌≤◌, ◌++◌, List, Result, Ok, Err}
 use Rattle.ecma_token.specs.declared.error.Error.{Error}
 use Rattle.ecma_token.specs.declared.error.SyntaxError.{SyntaxError}
 use Rattle.ecma_token.specs.declared.error.SyntaxError.TheVariants as kinds
@@ -11,24 +11,26 @@ use Rattle.ecma_reading.specs.Source.{Fault, Unexpected, TooDeep, Stream, State,
 use Rattle.ecma_parse_state.specs.declared.failure.Failure.{Failure}
 use Rattle.ecma_parse_state.specs.Answers.{Fails}
 
--- An entry answers a fault of this kind: too deep where reading is, another kind where nothing is read. Of want of memory nothing is said.
-pub record Refuses (k : SyntaxError) (read : Result Tree Fault) : Type 0 where
-  pub deep : k ≡ kinds.TooDeep → read ≡ Err TooDeep
-  pub fault : k ≢ kinds.Memory → k ≢ kinds.TooDeep → read ≡ Err Unexpected
+-- An entry answers a fault of this kind, where so many tokens may come: too deep where reading is, another kind where nothing is read, and there that is found.
+-- Of want of memory nothing is said.
+pub record Refuses (k : SyntaxError) (left : ℕ) (read : Result Tree Fault) : Type 0 where
+  pub deep : k ≡ kinds.TooDeep → read ≡ Err (TooDeep left)
+  pub fault : k ≢ kinds.Memory → k ≢ kinds.TooDeep → read ≡ Err (Unexpected left)
 
 -- the kind of fault that a failure is told as, whatever is read
 abbrev pub Tells : Failure → SyntaxError → Type 0
-Tells e k = (read : Result Tree Fault) → Fails e read → Refuses k read
+Tells e k = (left : ℕ) (read : Result Tree Fault) → Fails e left read → Refuses k left read
 
--- An entry answers the tree that is read, and its early errors come behind the faults that were recorded; or it answers why nothing is read, and records none.
-abbrev pub ReadsProgram : {X : Type 0} → (X → Tree) → EsSyntax → Result X Failure → Result Tree Fault → List Error → List Error → Type 0
-ReadsProgram view syntax (Ok x) read old new = (read ≡ Ok (view x)) × (new ≡ old ++ early_errors syntax (view x))
-ReadsProgram view syntax (Err e) read old new = Fails e read × (new ≡ old)
+-- An entry answers the tree that is read, and its early errors come behind the faults that were recorded; or it answers why nothing is read,
+-- where as many tokens may come as are left, and records none.
+abbrev pub ReadsProgram : {X : Type 0} → (X → Tree) → EsSyntax → ℕ → Result X Failure → Result Tree Fault → List Error → List Error → Type 0
+ReadsProgram view syntax left (Ok x) read old new = (read ≡ Ok (view x)) × (new ≡ old ++ early_errors syntax (view x))
+ReadsProgram view syntax left (Err e) read old new = Fails e left read × (new ≡ old)
 
 -- The same of an entry that tells a fault.
-abbrev pub Parses : {X : Type 0} → (X → Tree) → EsSyntax → Result X Error → Result Tree Fault → List Error → List Error → Type 0
-Parses view syntax (Ok x) read old new = (read ≡ Ok (view x)) × (new ≡ old ++ early_errors syntax (view x))
-Parses view syntax (Err e) read old new = Refuses e.kind read × (new ≡ old)
+abbrev pub Parses : {X : Type 0} → (X → Tree) → EsSyntax → ℕ → Result X Error → Result Tree Fault → List Error → List Error → Type 0
+Parses view syntax left (Ok x) read old new = (read ≡ Ok (view x)) × (new ≡ old ++ early_errors syntax (view x))
+Parses view syntax left (Err e) read old new = Refuses e.kind left read × (new ≡ old)
 
 -- After a fault that is not want of memory the tokens that were read stay read: no more may come than from where the entry began to read, and the parser
 -- stands no further back than where the fault begins.

@@ -1,5 +1,5 @@
 -- Which of script and module a text is parsed as where neither is said.
-use Rattle.std.specs.Prelude.{◌≡◌, ◌⊎◌, true, List, [], Result, Ok, Err}
+use Rattle.std.specs.Prelude.{◌≡◌, ◌⊎◌, ℕ, true, List, [], Result, Ok, Err}
 use Rattle.ecma_token.specs.declared.error.Error.{Error}
 use Rattle.ecma_token.specs.declared.error.SyntaxError.TheVariants as kinds
 use Rattle.ecma_token.specs.declared.syntax.EsSyntax.{EsSyntax}
@@ -18,6 +18,6 @@ NotMeant syntax read = (t : Tree) → IsMeant syntax read t → ⊥
 
 -- The answer is the module that is meant, and no fault is recorded; or none is meant, and it is that of the script. Of want of memory nothing is said but
 -- that no fault is recorded.
-abbrev pub Chooses : EsSyntax → Result Tree Error → Result Tree Fault → Result Tree Fault → List Error → List Error → Type 0
-Chooses syntax (Ok t) modules scripts old new = (IsMeant syntax modules t × (new ≡ old)) ⊎ (NotMeant syntax modules × Parses (λ x. x) syntax (Ok t) scripts old new)
-Chooses syntax (Err e) modules scripts old new = (new ≡ old) × ((e.kind ≡ kinds.Memory) ⊎ (NotMeant syntax modules × Parses (λ x. x) syntax (Err e) scripts old new))
+abbrev pub Chooses : EsSyntax → ℕ → Result Tree Error → Result Tree Fault → Result Tree Fault → List Error → List Error → Type 0
+Chooses syntax left (Ok t) modules scripts old new = (IsMeant syntax modules t × (new ≡ old)) ⊎ (NotMeant syntax modules × Parses (λ x. x) syntax left (Ok t) scripts old new)
+Chooses syntax left (Err e) modules scripts old new = (new ≡ old) × ((e.kind ≡ kinds.Memory) ⊎ (NotMeant syntax modules × Parses (λ x. x) syntax left (Err e) scripts old new))

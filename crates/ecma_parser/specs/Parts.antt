@@ -7,7 +7,7 @@ use Rattle.ecma_token_source.specs.Machine.{Source}
 use Rattle.ecma_input.specs.declared.rewinding.Rewinding.{Rewinding}
 use Rattle.ecma_tree.specs.Tree.{Tree}
 use Rattle.ecma_syntax.specs.Input.{Code, script_code, module_code}
-use Rattle.ecma_reading.specs.Source.{Fault, ◌>>=◌, Stream, State, Read, retold}
+use Rattle.ecma_reading.specs.Source.{Fault, ◌>>=◌, Stream, State, Read, bound, retold}
 use Rattle.ecma_parse_state.specs.Answers.{Fails}
 use Rattle.ecma_parse_state.specs.Cursors.{Cursor}
 use Rattle.ecma_parse_state.specs.declared.failure.Failure.{Failure}
@@ -28,10 +28,10 @@ unfoldable pub tree_read : {S : Type 0} → Result (Tree × S) Fault → Result 
 tree_read r = r >>= λ x. Ok x.0
 
 -- What is read is the tree that is answered, the parser stands behind it, and its early errors come behind the faults that were recorded; or the answer
--- is why nothing is read, and none is recorded.
-abbrev pub ReadsPart : {X S : Type 0} → (X → Tree) → (Tree → List Error) → Result X Failure → Result (Tree × State S) Fault → State S → List Error → List Error → Type 0
-ReadsPart view faults (Ok x) read stood old new = (read ≡ Ok (view x, stood)) × (new ≡ old ++ faults (view x))
-ReadsPart view faults (Err e) read stood old new = Fails e (tree_read read) × (new ≡ old)
+-- is why nothing is read, the parser stands where that is found, and none is recorded.
+abbrev pub ReadsPart : {X S : Type 0} → Stream S → (X → Tree) → (Tree → List Error) → Result X Failure → Result (Tree × State S) Fault → State S → List Error → List Error → Type 0
+ReadsPart m view faults (Ok x) read stood old new = (read ≡ Ok (view x, stood)) × (new ≡ old ++ faults (view x))
+ReadsPart m view faults (Err e) read stood old new = Fails e (bound m stood) (tree_read read) × (new ≡ old)
 
 -- what is read, and then the source is told this code
 unfoldable pub left_in : {S : Type 0} → Stream S → Context → Result (Tree × State S) Fault → Result (Tree × State S) Fault
@@ -40,4 +40,4 @@ left_in m ctx r = r >>= λ x. Ok (x.0, retold m ctx x.1)
 -- The same of an entry, which tells a fault, and leaves the source told the code that it was told before.
 abbrev pub ParsesPart : {X S : Type 0} → Stream S → Context → (X → Tree) → (Tree → List Error) → Result X Error → Result (Tree × State S) Fault → State S → List Error → List Error → Type 0
 ParsesPart m ctx view faults (Ok x) read stood old new = (left_in m ctx read ≡ Ok (view x, stood)) × (new ≡ old ++ faults (view x))
-ParsesPart m ctx view faults (Err e) read stood old new = Refuses e.kind (tree_read read) × (new ≡ old)
+ParsesPart m ctx view faults (Err e) read stood old new = Refuses e.kind (bound m stood) (tree_read read) × (new ≡ old)

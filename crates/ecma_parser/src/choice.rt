@@ -3,6 +3,7 @@ ghost use Rattle.std.specs.Prelude.{◌≡◌, false, true, IfOk, IfSome, MatchO
 ghost use Rattle.ecma_node.specs.Fits.{fits_module};
 ghost use Rattle.ecma_node.specs.Placed.{inner};
 ghost use Rattle.ecma_node.specs.View.{view_module};
+ghost use Rattle.ecma_reading.specs.Source as spec;
 ghost use Rattle.ecma_parse_state.specs.Answers.{IsMemory};
 ghost use Rattle.ecma_parse_state.specs.Cursors.{stream_of};
 ghost use Rattle.ecma_parser.specs.Answers.{StayRead};
@@ -25,7 +26,7 @@ impl<'a, I: Tokens<'a> + Drop> Entries<Reading<'a, I>> {
     ///
     /// Want of memory, or the fault of the script.
     pub fn parse_program(&mut self) -> PResult<Program>
-        ensures value { Chooses (syntax_in I.state self.old) result (module_read I.machine I.state self.old) (script_read I.machine I.state self.old) (faults_in self.old) (faults_in self.new) }
+        ensures value { Chooses (syntax_in I.state self.old) (spec.bound (stream_of I.machine) (stood I.state self.new)) result (module_read I.machine I.state self.old) (script_read I.machine I.state self.old) (faults_in self.old) (faults_in self.new) }
         ensures keeps { Keeps I.state result self.old self.new }
         ensures stays { StayRead (stream_of I.machine) result (script_start I.machine I.state self.old) (stood I.state self.new) }
     {

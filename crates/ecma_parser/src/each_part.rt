@@ -44,7 +44,7 @@ pub(crate) trait Rule<'a, I: Tokens<'a> + Drop> {
     /// Reads the part that stands here.
     fn read(&self, p: &mut Parser<'a, I>, limit: u32, code: Around) -> Result<Self::Node, Failure>
         requires { limit < 4294967295 }
-        ensures value { Gives (λ x. (tree x, state_of I.state p.new)) result (reads self.now I.State I.machine limit (code_of code) (state_of I.state p.old)) }
+        ensures value { Gives (λ x. (tree x, state_of I.state p.new)) (spec.bound (stream_of I.machine) (state_of I.state p.new)) result (reads self.now I.State I.machine limit (code_of code) (state_of I.state p.old)) }
         ensures fits { IfOk result fits }
         ensures not_longer { Stays result (spec.bound (stream_of I.machine) (state_of I.state p.new)) (spec.bound (stream_of I.machine) (state_of I.state p.old)) };
 
@@ -62,7 +62,7 @@ impl<'a, I: Tokens<'a> + Drop> Entries<Reading<'a, I>> {
     /// The part of a rule. Its early errors are recorded.
     #[tactic(auto, using(crate::proofs::Read::fails_read))]
     fn read_part<R: Rule<'a, Rewinding<I>>>(&mut self, rule: &R) -> Result<R::Node, Failure>
-        ensures value { ReadsPart R.tree (R.faults rule.now (syntax_in I.state self.old)) result (script_part I.machine I.state (R.reads rule.now I.State I.machine) self.old) (stood I.state self.new) (faults_in self.old) (faults_in self.new) }
+        ensures value { ReadsPart (stream_of I.machine) R.tree (R.faults rule.now (syntax_in I.state self.old)) result (script_part I.machine I.state (R.reads rule.now I.State I.machine) self.old) (stood I.state self.new) (faults_in self.old) (faults_in self.new) }
         ensures fits { IfOk result R.fits }
         ensures started { IfOk result (λ _. self.new.started ≡ true) }
         ensures limit { limit_in self.new ≡ limit_in self.old }

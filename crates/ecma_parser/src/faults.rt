@@ -7,7 +7,8 @@ ghost use Rattle.ecma_parser.specs.Answers.{Tells};
 use ecma_parse_state::Failure;
 use ecma_token::{BytePos, DUMMY_SP, Error, Span, SyntaxError};
 
-/// What an entry answers.
+/// What an entry answers. After an Err that is not want of memory the parser stands where reading found that: what was taken
+/// stays taken, and no token is taken that doesn't fit.
 pub type PResult<T> = Result<T, Error>;
 
 /// The fault that a user is told by a parser in front of a token that begins here. No fault of a text is called want of memory or

@@ -234,7 +234,7 @@ impl<'a, I: Tokens<'a> + Drop> Entries<Reading<'a, I>> {
     /// An item of a module.
     #[tactic(auto, using(crate::proofs::Read::fails_read))]
     fn module_item(&mut self) -> Result<ModuleItem, Failure>
-        ensures value { ReadsPart (view_module_item inner) (early.faults_in (outermost (syntax_in I.state self.old) true)) result (module_part I.machine I.state (items.module_item_part (stream_of I.machine)) self.old) (stood I.state self.new) (faults_in self.old) (faults_in self.new) }
+        ensures value { ReadsPart (stream_of I.machine) (view_module_item inner) (early.faults_in (outermost (syntax_in I.state self.old) true)) result (module_part I.machine I.state (items.module_item_part (stream_of I.machine)) self.old) (stood I.state self.new) (faults_in self.old) (faults_in self.new) }
         ensures fits { IfOk result (λ x. fits_module_item (λ p. p) x) }
         ensures started { IfOk result (λ _. self.new.started ≡ true) }
         ensures limit { limit_in self.new ≡ limit_in self.old }

@@ -35,15 +35,15 @@ tree_of : (u t : Tree) → ◌≡◌ {A = Result Tree Fault} (Ok u) (Ok t) → u
 tree_of u t h = cc
 
 -- what is read is answered
-pub comes_by : {X : Type 0} (view : X → Tree) (syntax : EsSyntax) (old new : List Error) (result : Result X Error) (x : Result Tree Fault) (t : Tree) → x ≡ Ok t → Parses view syntax result x old new → Comes view t result
-comes_by view syntax old new (Ok u) x t e p = tree_of (view u) t (sym p.0 ∙ e)
-comes_by view syntax old new (Err f) x t e p = λ n. no_tree (sym (p.0.fault n (λ d. no_tree (sym (p.0.deep d) ∙ e))) ∙ e)
+pub comes_by : {X : Type 0} (view : X → Tree) (syntax : EsSyntax) (old new : List Error) (left : ℕ) (result : Result X Error) (x : Result Tree Fault) (t : Tree) → x ≡ Ok t → Parses view syntax left result x old new → Comes view t result
+comes_by view syntax old new left (Ok u) x t e p = tree_of (view u) t (sym p.0 ∙ e)
+comes_by view syntax old new left (Err f) x t e p = λ n. no_tree (sym (p.0.fault n (λ d. no_tree (sym (p.0.deep d) ∙ e))) ∙ e)
 
 -- what holds of the answer of a reading is told by what is answered
-pub answered_by : {X : Type 0} (By : Result Tree Fault → Type 0) (view : X → Tree) (syntax : EsSyntax) (old new : List Error) (result : Result X Error) (x : Result Tree Fault) → By x → Parses view syntax result x old new
-    → AnsweredBy By view syntax result old new
-answered_by By view syntax old new (Ok u) x h p = (subst (λ (y : Result Tree Fault). By y) p.0 h, p.1)
-answered_by By view syntax old new (Err e) x h p = (
+pub answered_by : {X : Type 0} (By : Result Tree Fault → Type 0) (view : X → Tree) (syntax : EsSyntax) (old new : List Error) (left : ℕ) (result : Result X Error) (x : Result Tree Fault) → By x → Parses view syntax left result x old new
+    → AnsweredBy By view syntax left result old new
+answered_by By view syntax old new left (Ok u) x h p = (subst (λ (y : Result Tree Fault). By y) p.0 h, p.1)
+answered_by By view syntax old new left (Err e) x h p = (
   record {
     deep = λ i. subst (λ (y : Result Tree Fault). By y) (p.0.deep i) h;
     fault = λ i j. subst (λ (y : Result Tree Fault). By y) (p.0.fault i j) h;
@@ -52,12 +52,12 @@ answered_by By view syntax old new (Err e) x h p = (
 )
 
 -- so it is by a failure
-pub read_by : {X : Type 0} (By : Result Tree Fault → Type 0) (view : X → Tree) (syntax : EsSyntax) (old new : List Error) (result : Result X Failure) (x : Result Tree Fault) → By x → ReadsProgram view syntax result x old new
-    → ReadBy By view syntax result old new
-read_by By view syntax old new (Ok u) x h p = (subst (λ (y : Result Tree Fault). By y) p.0 h, p.1)
-read_by By view syntax old new (Err failures.Memory) x h p = (tt, p.1)
-read_by By view syntax old new (Err failures.TooDeep) x h p = (subst (λ (y : Result Tree Fault). By y) p.0 h, p.1)
-read_by By view syntax old new (Err (failures.Syntax e)) x h p = (subst (λ (y : Result Tree Fault). By y) p.0 h, p.1)
+pub read_by : {X : Type 0} (By : Result Tree Fault → Type 0) (view : X → Tree) (syntax : EsSyntax) (old new : List Error) (left : ℕ) (result : Result X Failure) (x : Result Tree Fault) → By x → ReadsProgram view syntax left result x old new
+    → ReadBy By view syntax left result old new
+read_by By view syntax old new left (Ok u) x h p = (subst (λ (y : Result Tree Fault). By y) p.0 h, p.1)
+read_by By view syntax old new left (Err failures.Memory) x h p = (tt, p.1)
+read_by By view syntax old new left (Err failures.TooDeep) x h p = (subst (λ (y : Result Tree Fault). By y) p.0 h, p.1)
+read_by By view syntax old new left (Err (failures.Syntax e)) x h p = (subst (λ (y : Result Tree Fault). By y) p.0 h, p.1)
 
 -- ---- a new parser
 
@@ -69,32 +69,32 @@ pub record Joins (x : Setting) (Reads Spells : Tree → Type 0) : Type 0 where
   pub within : (t : Tree) → Spells t → nesting t ≤ x.limit
 
 module _ (x : Setting) (Reads Spells : Tree → Type 0) (j : Joins x Reads Spells) {X : Type 0} (view : X → Tree) where
-  abbrev AnswersOf : Result X Error → List Error → Type 0
-  AnswersOf result recorded = AnsweredBy (JudgedBy Reads x.limit) view x.syntax result [] recorded
+  abbrev AnswersOf : ℕ → Result X Error → List Error → Type 0
+  AnswersOf left result recorded = AnsweredBy (JudgedBy Reads x.limit) view x.syntax left result [] recorded
 
   -- a tree that is answered and lists no early error is spelled
-  clean_of : (u : X) (t : Tree) (recorded : List Error) → AnswersOf (Ok u) recorded → (view u ≡ t) × (recorded ≡ []) → Spells t
-  clean_of u t recorded a h = subst (λ (z : Tree). Spells z) h.0 (j.spells (view u) a.0.reads (sym a.1 ∙ h.1) a.0.within)
+  clean_of : (left : ℕ) (u : X) (t : Tree) (recorded : List Error) → AnswersOf left (Ok u) recorded → (view u ≡ t) × (recorded ≡ []) → Spells t
+  clean_of left u t recorded a h = subst (λ (z : Tree). Spells z) h.0 (j.spells (view u) a.0.reads (sym a.1 ∙ h.1) a.0.within)
 
-  spelled_by : (result : Result X Error) (recorded : List Error) (t : Tree) → AnswersOf result recorded → Each Reads (λ t. nesting t ≤ x.limit → Comes view t result) → SpelledBy Spells view result recorded t
-  spelled_by (Ok u) recorded t a f = (
-    λ h. clean_of u t recorded a h,
+  spelled_by : (left : ℕ) (result : Result X Error) (recorded : List Error) (t : Tree) → AnswersOf left result recorded → Each Reads (λ t. nesting t ≤ x.limit → Comes view t result) → SpelledBy Spells view result recorded t
+  spelled_by left (Ok u) recorded t a f = (
+    λ h. clean_of left u t recorded a h,
     λ s. let e : view u ≡ t = f t (j.reads t s) (j.within t s) in (e, a.1 ∙ (ap (λ (z : Tree). early_errors x.syntax z) e ∙ j.clean t s)),
   )
-  spelled_by (Err e) recorded t a f = λ s. f t (j.reads t s) (j.within t s)
+  spelled_by left (Err e) recorded t a f = λ s. f t (j.reads t s) (j.within t s)
 
-  pub new_answer : (result : Result X Error) (recorded : List Error) (r : Result Tree Fault) → Judged Reads x.limit r → Parses view x.syntax result r [] recorded → NewAnswer x Reads Spells view result recorded
-  new_answer result recorded r h p = let a : AnswersOf result recorded = answered_by (JudgedBy Reads x.limit) view x.syntax [] recorded result r h.read p in
-      let f : Each Reads (λ t. nesting t ≤ x.limit → Comes view t result) = λ t d i. comes_by view x.syntax [] recorded result r t (h.found t d i) p in
-      record { answer = a; found = f; spells = λ t. spelled_by result recorded t a f }
+  pub new_answer : (left : ℕ) (result : Result X Error) (recorded : List Error) (r : Result Tree Fault) → Judged Reads x.limit r → Parses view x.syntax left result r [] recorded → NewAnswer x Reads Spells view left result recorded
+  new_answer left result recorded r h p = let a : AnswersOf left result recorded = answered_by (JudgedBy Reads x.limit) view x.syntax [] recorded left result r h.read p in
+      let f : Each Reads (λ t. nesting t ≤ x.limit → Comes view t result) = λ t d i. comes_by view x.syntax [] recorded left result r t (h.found t d i) p in
+      record { answer = a; found = f; spells = λ t. spelled_by left result recorded t a f }
 
 -- ---- any parser on a good source
 
 module _ {S : Type 0} (m : Stream S) (limit : ℕ) (modules : Bool) (syntax : EsSyntax) (s : S) {X : Type 0} (view : X → Tree) (old new : List Error) where
-  answered : (result : Result X Error) → Settled m limit modules syntax s → Parses view syntax result (read_within m limit modules syntax s) old new → Answered m limit modules syntax s view result old new
-  answered result h p = record {
-    answer = answered_by (SettledBy m limit modules syntax s) view syntax old new result (read_within m limit modules syntax s) h.read p;
-    found = λ placed ps t g o d i. comes_by view syntax old new result (read_within m limit modules syntax s) t (h.found placed ps t g o d i) p;
+  answered : (left : ℕ) (result : Result X Error) → Settled m limit modules syntax s → Parses view syntax left result (read_within m limit modules syntax s) old new → Answered m limit modules syntax s view left result old new
+  answered left result h p = record {
+    answer = answered_by (SettledBy m limit modules syntax s) view syntax old new left result (read_within m limit modules syntax s) h.read p;
+    found = λ placed ps t g o d i. comes_by view syntax old new left result (read_within m limit modules syntax s) t (h.found placed ps t g o d i) p;
   }
 
 -- the code of a script is that of a script, and that of a module of a module
@@ -120,11 +120,11 @@ module _ {I S : Type 0} (m : tokens.Machine S) (state : I → Source S) (modules
 
 module _ {I S : Type 0} (m : tokens.Machine S) (state : I → Source S) (Good : Source S → Type 0) (Same : Source S → Source S → Type 0) where
   pub entries_answer : {X : Type 0} (view : X → Tree) → EntriesAnswer m state Good Same view
-  entries_answer view modules w e h good result old new p =
+  entries_answer view modules w e h good left result old new p =
       let syntax : EsSyntax = syntax_in state e in
       let code : Code = code_of modules syntax in
       let told : Source S = told_of code.context (state e.reading.input.input) in
       let first : State (Cursor S) = first_of m told in
       let settled : Settled (stream_of m) (limit_in e) modules syntax first.source = first_settled m Good Same modules w (limit_in e) syntax told told.settings.start (w.good_told code.context (state e.reading.input.input) (of_goal modules syntax) good) in
-      answered (stream_of m) (limit_in e) modules syntax first.source view old new result settled
-      (subst (λ (x : Result Tree Fault). Parses view syntax result x old new) (read_first m state modules e h (state e.reading.input.input) refl) p)
+      answered (stream_of m) (limit_in e) modules syntax first.source view old new left result settled
+      (subst (λ (x : Result Tree Fault). Parses view syntax left result x old new) (read_first m state modules e h (state e.reading.input.input) refl) p)

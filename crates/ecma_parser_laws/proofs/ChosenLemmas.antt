@@ -68,9 +68,9 @@ module _ (x : Setting) (Reads Spells : Bool → Tree → Type 0) (j : (modules :
   one_meant t u h k = tree_of t u (sym h.0 ∙ k.0)
 
   -- the answer is that of the script
-  module _ (result : Result Tree Error) (recorded : List Error) (n : NotMeant x.syntax modules) (p : Parses (λ u. u) x.syntax result scripts [] recorded) where
-    of_script : NewAnswer x (Reads false) (Spells false) (λ u. u) result recorded
-    of_script = new_answer x (Reads false) (Spells false) (j false) (λ u. u) result recorded scripts other p
+  module _ (left : ℕ) (result : Result Tree Error) (recorded : List Error) (n : NotMeant x.syntax modules) (p : Parses (λ u. u) x.syntax left result scripts [] recorded) where
+    of_script : NewAnswer x (Reads false) (Spells false) (λ u. u) left result recorded
+    of_script = new_answer x (Reads false) (Spells false) (j false) (λ u. u) left result recorded scripts other p
 
     is_chosen : (t : Tree) → Spells false t → Chosen Spells t
     is_chosen t s = inr (none n, s)
@@ -79,19 +79,19 @@ module _ (x : Setting) (Reads Spells : Bool → Tree → Type 0) (j : (modules :
     is_script t (inl h) = absurd (none n t h.0 h.1)
     is_script t (inr h) = h.1
 
-  script_spelled : (result : Result Tree Error) (recorded : List Error) (t : Tree) (n : NotMeant x.syntax modules) → Parses (λ u. u) x.syntax result scripts [] recorded
+  script_spelled : (left : ℕ) (result : Result Tree Error) (recorded : List Error) (t : Tree) (n : NotMeant x.syntax modules) → Parses (λ u. u) x.syntax left result scripts [] recorded
       → SpelledBy (Spells false) (λ u. u) result recorded t → SpelledBy (Chosen Spells) (λ u. u) result recorded t
-  script_spelled (Ok u) recorded t n p h = (λ i. is_chosen (Ok u) recorded n p t (h.0 i), λ c. h.1 (is_script (Ok u) recorded n p t c))
-  script_spelled (Err e) recorded t n p h = λ c. h (is_script (Err e) recorded n p t c)
+  script_spelled left (Ok u) recorded t n p h = (λ i. is_chosen left (Ok u) recorded n p t (h.0 i), λ c. h.1 (is_script left (Ok u) recorded n p t c))
+  script_spelled left (Err e) recorded t n p h = λ c. h (is_script left (Err e) recorded n p t c)
 
-  as_script : (result : Result Tree Error) (recorded : List Error) → NotMeant x.syntax modules → Parses (λ u. u) x.syntax result scripts [] recorded → ChosenAnswer x Reads Spells (Chosen Spells) result recorded
-  as_script result recorded n p = record {
-    chosen = λ t. script_spelled result recorded t n p ((of_script result recorded n p).spells t);
-    answer = inr (none n, (of_script result recorded n p).answer);
+  as_script : (left : ℕ) (result : Result Tree Error) (recorded : List Error) → NotMeant x.syntax modules → Parses (λ u. u) x.syntax left result scripts [] recorded → ChosenAnswer x Reads Spells (Chosen Spells) left result recorded
+  as_script left result recorded n p = record {
+    chosen = λ t. script_spelled left result recorded t n p ((of_script left result recorded n p).spells t);
+    answer = inr (none n, (of_script left result recorded n p).answer);
   }
 
-  as_module : (u : Tree) (recorded : List Error) → IsMeant x.syntax modules u → recorded ≡ [] → ChosenAnswer x Reads Spells (Chosen Spells) (Ok u) recorded
-  as_module u recorded h e = record {
+  as_module : (left : ℕ) (u : Tree) (recorded : List Error) → IsMeant x.syntax modules u → recorded ≡ [] → ChosenAnswer x Reads Spells (Chosen Spells) left (Ok u) recorded
+  as_module left u recorded h e = record {
     chosen = λ t. (λ i. subst (λ (z : Tree). Chosen Spells z) i.0 (inl (spelled u h, h.2)), λ c. (by_choice t c, e));
     answer = inl (spelled u h, h.2, e);
   }
@@ -100,27 +100,27 @@ module _ (x : Setting) (Reads Spells : Bool → Tree → Type 0) (j : (modules :
       by_choice t (inl c) = one_meant u t h (meant t c.0 c.1)
       by_choice t (inr c) = absurd (c.0 u (spelled u h) h.2)
 
-  in_memory : (e : Error) (recorded : List Error) → recorded ≡ [] → e.kind ≡ kinds.Memory → ChosenAnswer x Reads Spells (Chosen Spells) (Err e) recorded
-  in_memory e recorded i k = record { chosen = λ t c n. n k; answer = inl (k, i) }
+  in_memory : (left : ℕ) (e : Error) (recorded : List Error) → recorded ≡ [] → e.kind ≡ kinds.Memory → ChosenAnswer x Reads Spells (Chosen Spells) left (Err e) recorded
+  in_memory left e recorded i k = record { chosen = λ t c n. n k; answer = inl (k, i) }
 
-  pub chosen_answer : (result : Result Tree Error) (recorded : List Error) → Chooses x.syntax result modules scripts [] recorded → ChosenAnswer x Reads Spells (Chosen Spells) result recorded
-  chosen_answer (Ok t) recorded (inl h) = as_module t recorded h.0 h.1
-  chosen_answer (Ok t) recorded (inr h) = as_script (Ok t) recorded h.0 h.1
-  chosen_answer (Err e) recorded h = by_kind h.1
+  pub chosen_answer : (left : ℕ) (result : Result Tree Error) (recorded : List Error) → Chooses x.syntax left result modules scripts [] recorded → ChosenAnswer x Reads Spells (Chosen Spells) left result recorded
+  chosen_answer left (Ok t) recorded (inl h) = as_module left t recorded h.0 h.1
+  chosen_answer left (Ok t) recorded (inr h) = as_script left (Ok t) recorded h.0 h.1
+  chosen_answer left (Err e) recorded h = by_kind h.1
     where
-      by_kind : (e.kind ≡ kinds.Memory) ⊎ (NotMeant x.syntax modules × Parses (λ u. u) x.syntax (Err e) scripts [] recorded) → ChosenAnswer x Reads Spells (Chosen Spells) (Err e) recorded
-      by_kind (inl k) = in_memory e recorded h.0 k
-      by_kind (inr k) = as_script (Err e) recorded k.0 k.1
+      by_kind : (e.kind ≡ kinds.Memory) ⊎ (NotMeant x.syntax modules × Parses (λ u. u) x.syntax left (Err e) scripts [] recorded) → ChosenAnswer x Reads Spells (Chosen Spells) left (Err e) recorded
+      by_kind (inl k) = in_memory left e recorded h.0 k
+      by_kind (inr k) = as_script left (Err e) recorded k.0 k.1
 
 -- ---- from the first token on
 
-module _ {I S : Type 0} (m : tokens.Machine S) (state : I → Source S) (e : Entries (Parser (Rewinding I))) (result : Result Tree Error) (recorded : List Error) where
+module _ {I S : Type 0} (m : tokens.Machine S) (state : I → Source S) (e : Entries (Parser (Rewinding I))) (left : ℕ) (result : Result Tree Error) (recorded : List Error) where
   -- a parser that read no token chooses by what is read from the first on
-  pub choice_first : e.started ≡ false → (z : Source S) → state e.reading.input.input ≡ z → PromisedChoice m state e result [] recorded
-      → Chooses (parts_of z.settings.syntax) result (first_read m state true e z) (first_read m state false e z) [] recorded
-  choice_first h z source p = subst (λ (y : Source S). Chooses (parts_of y.settings.syntax) result (first_read m state true e z) (first_read m state false e z) [] recorded) source
-      (subst (λ (r : Result Tree Fault). Chooses syntax result (first_read m state true e z) r [] recorded) (read_first m state false e h z source)
-      (subst (λ (r : Result Tree Fault). Chooses syntax result r (read false) [] recorded) (read_first m state true e h z source) p))
+  pub choice_first : e.started ≡ false → (z : Source S) → state e.reading.input.input ≡ z → PromisedChoice m state e left result [] recorded
+      → Chooses (parts_of z.settings.syntax) left result (first_read m state true e z) (first_read m state false e z) [] recorded
+  choice_first h z source p = subst (λ (y : Source S). Chooses (parts_of y.settings.syntax) left result (first_read m state true e z) (first_read m state false e z) [] recorded) source
+      (subst (λ (r : Result Tree Fault). Chooses syntax left result (first_read m state true e z) r [] recorded) (read_first m state false e h z source)
+      (subst (λ (r : Result Tree Fault). Chooses syntax left result r (read false) [] recorded) (read_first m state true e h z source) p))
     where
       syntax : EsSyntax
       syntax = syntax_in state e
@@ -129,37 +129,37 @@ module _ {I S : Type 0} (m : tokens.Machine S) (state : I → Source S) (e : Ent
       read modules = program_within (stream_of m) (limit_in e) modules (code_of modules syntax) (opened m state (code_of modules syntax).context e)
 
 pub texts_chosen : {I : Type 0} (state : I → State) → TextsChosen state
-texts_chosen state syntax target text e h source result recorded p =
+texts_chosen state syntax target text e h source left result recorded p =
     let x : Setting = record { syntax = parts_of syntax; limit = limit_in e } in
     let start : State = at_start_of syntax target text_start text (text_start + bytes text) in
     chosen_answer x (λ modules t. Reads modules x.syntax t text) (λ modules t. TreeSpells x modules t text) (λ modules. text_joins x modules text)
     (first_read lexer_machine state true e start) (first_read lexer_machine state false e start) (text_first state true syntax target text e) (text_first state false syntax target text e)
-    result recorded (choice_first lexer_machine state e result recorded h start source p)
+    left result recorded (choice_first lexer_machine state e left result recorded h start source p)
 
 pub new_chosen : {I : Type 0} (state : I → State) → NewChosen state
-new_chosen state syntax text e u h source result recorded p = texts_chosen state syntax EsNext (chars text) e h (chars_start state syntax text e u source) result recorded p
+new_chosen state syntax text e u h source left result recorded p = texts_chosen state syntax EsNext (chars text) e h (chars_start state syntax text e u source) left result recorded p
 
 pub lists_chosen : {I : Type 0} (state : I → Source (List Spot)) → ListsChosen state
-lists_chosen state e h o result recorded p =
+lists_chosen state e h o left result recorded p =
     let z : Source (List Spot) = state e.reading.input.input in
     let x : Setting = record { syntax = syntax_in state e; limit = limit_in e } in
     let start : ℕ = z.settings.start in
     chosen_answer x (λ modules t. ReadsList modules x.syntax start z.tokens t) (λ modules t. SpellsList x modules start z.tokens t) (λ modules. list_joins x modules start z.tokens)
     (first_read list_machine state true e z) (first_read list_machine state false e z) (list_first state true e z o) (list_first state false e z o)
-    result recorded (choice_first list_machine state e result recorded h z refl p)
+    left result recorded (choice_first list_machine state e left result recorded h z refl p)
 
 pub new_list_chosen : {I : Type 0} (state : I → Source (List Spot)) → NewListChosen state
-new_list_chosen state spots ctx syntax target e h source o result recorded p =
-    subst (λ (z : Source (List Spot)). InOrder z.settings.start (seen z.tokens) → ListChosen (record { syntax = parts_of z.settings.syntax; limit = limit_in e }) z.settings.start z.tokens result recorded) source
-    (λ i. lists_chosen state e h i result recorded p) o
+new_list_chosen state spots ctx syntax target e h source o left result recorded p =
+    subst (λ (z : Source (List Spot)). InOrder z.settings.start (seen z.tokens) → ListChosen (record { syntax = parts_of z.settings.syntax; limit = limit_in e }) z.settings.start z.tokens left result recorded) source
+    (λ i. lists_chosen state e h i left result recorded p) o
 
 -- ---- of any source
 
 module _ {S : Type 0} (m : Stream S) (limit : ℕ) (modules : Bool) (syntax : EsSyntax) (s : S) (order : (ps : List PlacedToken) → HandsOut m ps s → InOrder (m.last s) ps) where
   source_by : (r : Result Tree Fault) → SettledBy m limit modules syntax s r → JudgedBy (ReadsSource m modules syntax s) limit r
   source_by (Ok t) h = record { reads = (h.places, h.handed, order h.places h.handed, h.derived); within = h.within; only = λ u d. h.only false d.0 u d.1 d.2 d.3 }
-  source_by (Err Unexpected) h = λ u d. h false d.0 u d.1 d.2 d.3
-  source_by (Err TooDeep) h = λ u d. h false d.0 u d.1 d.2 d.3
+  source_by (Err (Unexpected n)) h = λ u d. h false d.0 u d.1 d.2 d.3
+  source_by (Err (TooDeep n)) h = λ u d. h false d.0 u d.1 d.2 d.3
 
   source_judged : Settled m limit modules syntax s → Judged (ReadsSource m modules syntax s) limit (read_within m limit modules syntax s)
   source_judged h = record { read = source_by (read_within m limit modules syntax s) h.read; found = λ t d i. h.found false d.0 t d.1 d.2 d.3 i }
@@ -180,10 +180,10 @@ module _ {I S : Type 0} (m : tokens.Machine S) (state : I → Source S) (Good : 
       source_judged (stream_of m) (limit_in e) modules syntax (front_of m state modules e) (w.order modules) (first_settled m (Good modules) Same modules (w.constant modules) (limit_in e) syntax told told.settings.start (w.good modules))
 
   pub sources_chosen : SourcesChosen m state Good Same
-  sources_chosen e h w result recorded p =
+  sources_chosen e h w left result recorded p =
       let z : Source S = state e.reading.input.input in
       let x : Setting = record { syntax = syntax_in state e; limit = limit_in e } in
       chosen_answer x (λ modules t. ReadsSource (stream_of m) modules x.syntax (front_of m state modules e) t) (λ modules t. SpellsSource (stream_of m) x modules (front_of m state modules e) t)
       (λ modules. source_joins (stream_of m) x modules (front_of m state modules e))
       (first_read m state true e z) (first_read m state false e z) (source_first true e w) (source_first false e w)
-      result recorded (choice_first m state e result recorded h z refl p)
+      left result recorded (choice_first m state e left result recorded h z refl p)

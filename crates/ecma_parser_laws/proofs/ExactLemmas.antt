@@ -28,13 +28,13 @@ module _ {S : Type 0} (m : Stream S) (Live : S → Type 0) (modules : Bool) (w :
 
   derived_at : Backward m Live modules → read_within m limit modules syntax s ≡ Ok t → (nesting t ≤ limit) × (ps : List PlacedToken) × HandsOut m ps s × DerivesList false modules syntax (m.last s) ps t
   unfolding program_within read_program
-  derived_at bw e = let p = passed limit t (program_by m (readers m limit) modules (code_of modules syntax) (record { source = s; commas = [] })) e in let d = from_list bw p.1 in (p.0, d.0, d.1, d.2)
+  derived_at bw e = let p = passed m limit t (program_by m (readers m limit) modules (code_of modules syntax) (record { source = s; commas = [] })) e in let d = from_list bw p.1 in (p.0, d.0, d.1, d.2)
 
   module _ (placed : Bool) (ps : List PlacedToken) (handed : HandsOut m ps s) (order : InOrder (m.last s) ps) (derived : DerivesList placed modules syntax (m.last s) ps t) (shallow : nesting t ≤ limit) where
     read_by : (x : Result Tree Fault) → Judges m modules syntax limit s x → x ≡ Ok t
     read_by (Ok u) j = ap Ok (sym (j.1 placed ps t handed order derived))
-    read_by (Err Unexpected) j = absurd (j placed ps t handed order derived)
-    read_by (Err TooDeep) j = let h = j placed ps t handed order derived in absurd (omega (arith, h, shallow))
+    read_by (Err (Unexpected n)) j = absurd (j placed ps t handed order derived)
+    read_by (Err (TooDeep n)) j = let h = j placed ps t handed order derived in absurd (omega (arith, h, shallow))
 
     read_at : read_within m limit modules syntax s ≡ Ok t
     read_at = read_by (read_within m limit modules syntax s) (programs_judged m Live modules w limit syntax s live)

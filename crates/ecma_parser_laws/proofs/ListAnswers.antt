@@ -34,16 +34,16 @@ list_first state modules e z o = let x = parts_of z.settings.syntax in
     lists_settled (limit_in e) modules x z.settings.start z.tokens (told_of (code_of modules x).context z).settings o
 
 pub lists_answered : {I : Type 0} (state : I → Source (List Spot)) {X : Type 0} (view : X → Tree) → ListsAnswered state view
-lists_answered state view modules e h o result recorded p =
+lists_answered state view modules e h o left result recorded p =
     let z : Source (List Spot) = state e.reading.input.input in
     let x : Setting = record { syntax = syntax_in state e; limit = limit_in e } in
     let start : ℕ = z.settings.start in
-    new_answer x (ReadsList modules x.syntax start z.tokens) (SpellsList x modules start z.tokens) (list_joins x modules start z.tokens) view result recorded (first_read list_machine state modules e z)
+    new_answer x (ReadsList modules x.syntax start z.tokens) (SpellsList x modules start z.tokens) (list_joins x modules start z.tokens) view left result recorded (first_read list_machine state modules e z)
     (list_first state modules e z o)
-    (subst (λ (r : Result Tree Fault). Parses view x.syntax result r [] recorded) (read_first list_machine state modules e h z refl) p)
+    (subst (λ (r : Result Tree Fault). Parses view x.syntax left result r [] recorded) (read_first list_machine state modules e h z refl) p)
 
 pub new_list_answered : {I : Type 0} (state : I → Source (List Spot)) {X : Type 0} (view : X → Tree) → NewListAnswered state view
-new_list_answered state view modules spots ctx syntax target e h source o result recorded p =
+new_list_answered state view modules spots ctx syntax target e h source o left result recorded p =
     subst (λ (z : Source (List Spot)). InOrder z.settings.start (seen z.tokens)
-    → ListAnswered (record { syntax = parts_of z.settings.syntax; limit = limit_in e }) modules z.settings.start z.tokens view result recorded) source
-    (λ i. lists_answered state view modules e h i result recorded p) o
+    → ListAnswered (record { syntax = parts_of z.settings.syntax; limit = limit_in e }) modules z.settings.start z.tokens view left result recorded) source
+    (λ i. lists_answered state view modules e h i left result recorded p) o

@@ -147,8 +147,8 @@ module _ (limit : ℕ) (modules : Bool) (syntax : EsSyntax) (start : ℕ) (spots
   list_by : (x : Result Tree Fault) → SettledBy (stream_of list_machine) limit modules syntax first x → JudgedBy (ReadsList modules syntax start spots) limit x
   unfolding stream_of
   list_by (Ok t) h = record { reads = reads t h.places h.handed h.derived; within = h.within; only = λ u d. h.only false (seen spots) u (all spots settings start) o d }
-  list_by (Err Unexpected) h = λ u d. h false (seen spots) u (all spots settings start) o d
-  list_by (Err TooDeep) h = λ u d. h false (seen spots) u (all spots settings start) o d
+  list_by (Err (Unexpected n)) h = λ u d. h false (seen spots) u (all spots settings start) o d
+  list_by (Err (TooDeep n)) h = λ u d. h false (seen spots) u (all spots settings start) o d
 
   list_settled : Settled (stream_of list_machine) limit modules syntax first → ListSettled modules syntax start spots limit (read_within (stream_of list_machine) limit modules syntax first)
   unfolding stream_of

@@ -7,7 +7,7 @@ use Rattle.ecma_nesting.specs.Nesting.{nesting}
 use Rattle.ecma_syntax.specs.Input.{PlacedToken}
 use Rattle.ecma_syntax.specs.Shape.{is_clean}
 use Rattle.ecma_program_text.specs.Text.{code_of}
-use Rattle.ecma_reading.specs.Source.{Fault, Unexpected, TooDeep, unexpected, ◌>>=◌, Stream, State}
+use Rattle.ecma_reading.specs.Source.{Fault, Unexpected, TooDeep, too_deep, ◌>>=◌, Stream, State, bound}
 use Rattle.ecma_reading.specs.Modules.{program_by}
 use Rattle.ecma_reading.specs.Reading.{readers, finish, read_program, read_list}
 use Rattle.ecma_grammar_complete_base.specs.Laws.{InOrder}
@@ -31,8 +31,8 @@ list_decided true limit placed syntax t start places o d = absurd (true≢false 
 -- within its nesting it is read
 decided_at : (x : Result Tree Fault) (t : Tree) (P : Type 0) → (P → ⊥) → Decided x t P → x ≡ Ok t
 decided_at (Ok u) t P p h = ap Ok h
-decided_at (Err Unexpected) t P p h = absurd h
-decided_at (Err TooDeep) t P p h = absurd (p h)
+decided_at (Err (Unexpected n)) t P p h = absurd h
+decided_at (Err (TooDeep n)) t P p h = absurd (p h)
 
 no_tree : {t : Tree} {e : Fault} → ◌≡◌ {A = Result Tree Fault} (Err e) (Ok t) → ⊥
 no_tree {t} {e} h = true≢false (sym (ap is_read h))
@@ -62,28 +62,28 @@ module _ {S : Type 0} (m : Stream S) (Live : S → Type 0) (modules : Bool) (ord
     kept_as x e = subst (λ (x : Result Tree Fault). Keeps x (Ok u)) (sym e) read_later
 
     -- too deep at the limit: it nests deeper
-    deeper : Err TooDeep ≡ read_program m limit modules syntax s → limit < nesting u
-    deeper e = ⊎_elim (λ (q : leb (nesting u) limit ≡ true). absurd (no_tree (e ∙ read_at limit (leb-true (nesting u) limit q)))) (λ (q : leb (nesting u) limit ≡ false). leb-false (nesting u) limit q) (cases_Bool (leb (nesting u) limit))
+    deeper : (n : ℕ) → Err (TooDeep n) ≡ read_program m limit modules syntax s → limit < nesting u
+    deeper n e = ⊎_elim (λ (q : leb (nesting u) limit ≡ true). absurd (no_tree (e ∙ read_at limit (leb-true (nesting u) limit q)))) (λ (q : leb (nesting u) limit ≡ false). leb-false (nesting u) limit q) (cases_Bool (leb (nesting u) limit))
 
   -- an answer of the reading, by whether anything of a cover is left, and by whether it nests too deep
-  clean_judged : (t : Tree) (b : Bool) → nesting t ≤ limit → cond {A = Result Tree Fault} b (Ok t) unexpected ≡ read_program m limit modules syntax s → Judges m modules syntax limit s (cond b (Ok t) unexpected)
-  clean_judged t true h e = (h, λ placed ps u g o d. tree_of u t (kept_as placed ps u g o d (Ok t) e))
-  clean_judged t false h e = λ placed ps u g o d. no_tree (sym (kept_as placed ps u g o d unexpected e))
+  clean_judged : (n : ℕ) (t : Tree) (b : Bool) → nesting t ≤ limit → cond {A = Result Tree Fault} b (Ok t) (Err (Unexpected n)) ≡ read_program m limit modules syntax s → Judges m modules syntax limit s (cond b (Ok t) (Err (Unexpected n)))
+  clean_judged n t true h e = (h, λ placed ps u g o d. tree_of u t (kept_as placed ps u g o d (Ok t) e))
+  clean_judged n t false h e = λ placed ps u g o d. no_tree (sym (kept_as placed ps u g o d (Err (Unexpected n)) e))
 
-  deep_judged : (t : Tree) (b : Bool) → limit < nesting t → cond {A = Result Tree Fault} b (Ok t) unexpected ≡ read_program m limit modules syntax s → Judges m modules syntax limit s (Err TooDeep)
-  deep_judged t true h e = λ placed ps u g o d. subst (λ (x : Tree). limit < nesting x) (sym (tree_of u t (kept_as placed ps u g o d (Ok t) e))) h
-  deep_judged t false h e = λ placed ps u g o d. absurd (no_tree (sym (kept_as placed ps u g o d unexpected e)))
+  deep_judged : (n i : ℕ) (t : Tree) (b : Bool) → limit < nesting t → cond {A = Result Tree Fault} b (Ok t) (Err (Unexpected n)) ≡ read_program m limit modules syntax s → Judges m modules syntax limit s (Err (TooDeep i))
+  deep_judged n i t true h e = λ placed ps u g o d. subst (λ (x : Tree). limit < nesting x) (sym (tree_of u t (kept_as placed ps u g o d (Ok t) e))) h
+  deep_judged n i t false h e = λ placed ps u g o d. absurd (no_tree (sym (kept_as placed ps u g o d (Err (Unexpected n)) e)))
 
-  nested_judged : (x : Tree × State S) (b : Bool) → leb (nesting x.0) limit ≡ b → finish x ≡ read_program m limit modules syntax s → Judges m modules syntax limit s (cond {A = Result (Tree × State S) Fault} b (Ok x) (Err TooDeep) >>= finish)
+  nested_judged : (x : Tree × State S) (b : Bool) → leb (nesting x.0) limit ≡ b → finish m x ≡ read_program m limit modules syntax s → Judges m modules syntax limit s (cond {A = Result (Tree × State S) Fault} b (Ok x) (too_deep m x.1) >>= finish m)
   unfolding finish
-  nested_judged x true q e = clean_judged x.0 (is_clean x.0) (leb-true (nesting x.0) limit q) e
-  nested_judged x false q e = deep_judged x.0 (is_clean x.0) (leb-false (nesting x.0) limit q) e
+  nested_judged x true q e = clean_judged (bound m x.1) x.0 (is_clean x.0) (leb-true (nesting x.0) limit q) e
+  nested_judged x false q e = deep_judged (bound m x.1) (bound m x.1) x.0 (is_clean x.0) (leb-false (nesting x.0) limit q) e
 
-  judged : (x : Result (Tree × State S) Fault) → (x >>= finish) ≡ read_program m limit modules syntax s → Judges m modules syntax limit s (x >>= within limit >>= finish)
+  judged : (x : Result (Tree × State S) Fault) → (x >>= finish m) ≡ read_program m limit modules syntax s → Judges m modules syntax limit s (x >>= within m limit >>= finish m)
   unfolding within
   judged (Ok x) e = nested_judged x (leb (nesting x.0) limit) refl e
-  judged (Err Unexpected) e = λ placed ps u g o d. no_tree (sym (kept_as placed ps u g o d (Err Unexpected) e))
-  judged (Err TooDeep) e = λ placed ps u g o d. deeper placed ps u g o d e
+  judged (Err (Unexpected n)) e = λ placed ps u g o d. no_tree (sym (kept_as placed ps u g o d (Err (Unexpected n)) e))
+  judged (Err (TooDeep n)) e = λ placed ps u g o d. deeper placed ps u g o d n e
 
 pub programs_judged : {S : Type 0} (m : Stream S) (Live : S → Type 0) → ProgramsJudged m Live
 unfolding program_within read_program

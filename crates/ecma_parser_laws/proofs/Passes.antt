@@ -7,7 +7,7 @@ use Rattle.ecma_nesting.specs.Nesting.{nesting}
 use Rattle.ecma_syntax.specs.Input.{Code, content}
 use Rattle.ecma_syntax.specs.Shape.{is_clean}
 use Rattle.ecma_program_text.specs.Text.{is_of_goal}
-use Rattle.ecma_reading.specs.Source.{Fault, unexpected, TooDeep, ◌>>=◌, Stream, State, Inner, input, past, at, bound, iterate}
+use Rattle.ecma_reading.specs.Source.{Fault, unexpected, too_deep, ◌>>=◌, Stream, State, Inner, input, past, at, bound, iterate}
 use Rattle.ecma_reading.specs.Statements.{Body}
 use Rattle.ecma_reading.specs.Modules.{line_of, program_tree, program_step, program_rest, program_by}
 use Rattle.ecma_reading.specs.Reading.{finish}
@@ -22,27 +22,27 @@ no_tree {t} {e} h = true≢false (sym (ap is_read h))
 
 -- ---- a tree that is finished is the one that was read
 
-cleaned : (b : Bool) (u t : Tree) → cond {A = Result Tree Fault} b (Ok u) unexpected ≡ Ok t → u ≡ t
-cleaned true u t e = ap (read_or u) e
+cleaned : (d : Fault) (b : Bool) (u t : Tree) → cond {A = Result Tree Fault} b (Ok u) (Err d) ≡ Ok t → u ≡ t
+cleaned d true u t e = ap (read_or u) e
   where
     read_or : Tree → Result Tree Fault → Tree
     read_or u (Ok x) = x
     read_or u (Err e) = u
-cleaned false u t e = absurd (no_tree e)
+cleaned d false u t e = absurd (no_tree e)
 
-finished : {S : Type 0} (x : Tree × State S) (t : Tree) → finish x ≡ Ok t → x.0 ≡ t
+finished : {S : Type 0} (m : Stream S) (x : Tree × State S) (t : Tree) → finish m x ≡ Ok t → x.0 ≡ t
 unfolding finish
-finished x t e = cleaned (is_clean x.0) x.0 t e
+finished m x t e = cleaned _ (is_clean x.0) x.0 t e
 
 -- ---- the limit
 
-module _ {S : Type 0} (limit : ℕ) (t : Tree) where
-  passed_by : (x : Tree × State S) (b : Bool) → leb (nesting x.0) limit ≡ b → (cond {A = Result (Tree × State S) Fault} b (Ok x) (Err TooDeep) >>= finish) ≡ Ok t → (nesting t ≤ limit) × (finish x ≡ Ok t)
-  passed_by x true q e = (subst (λ (u : Tree). nesting u ≤ limit) (finished x t e) (leb-true (nesting x.0) limit q), e)
+module _ {S : Type 0} (m : Stream S) (limit : ℕ) (t : Tree) where
+  passed_by : (x : Tree × State S) (b : Bool) → leb (nesting x.0) limit ≡ b → (cond {A = Result (Tree × State S) Fault} b (Ok x) (too_deep m x.1) >>= finish m) ≡ Ok t → (nesting t ≤ limit) × (finish m x ≡ Ok t)
+  passed_by x true q e = (subst (λ (u : Tree). nesting u ≤ limit) (finished m x t e) (leb-true (nesting x.0) limit q), e)
   passed_by x false q e = absurd (no_tree e)
 
   -- what passes the limit is within it, and is read without the limit
-  pub passed : (x : Result (Tree × State S) Fault) → (x >>= within limit >>= finish) ≡ Ok t → (nesting t ≤ limit) × ((x >>= finish) ≡ Ok t)
+  pub passed : (x : Result (Tree × State S) Fault) → (x >>= within m limit >>= finish m) ≡ Ok t → (nesting t ≤ limit) × ((x >>= finish m) ≡ Ok t)
   unfolding within
   passed (Ok x) e = passed_by x (leb (nesting x.0) limit) refl e
   passed (Err d) e = absurd (no_tree e)
@@ -74,13 +74,13 @@ module _ {S : Type 0} (m : Stream S) (inner : Inner S) (modules : Bool) where
       by_kind true x y h k = h
       by_kind false x y h k = k
 
-      by_line : (o : Option (List ℕ)) → OfGoal (elim o [ None ↦ unexpected | Some l ↦ program_rest m inner modules c s (Some l) (past m s) ])
+      by_line : (o : Option (List ℕ)) → OfGoal (elim o [ None ↦ unexpected m s | Some l ↦ program_rest m inner modules c s (Some l) (past m s) ])
       by_line None = tt
       by_line (Some l) = rest_of_goal c s (Some l) (past m s)
 
-  finished_of_goal : (t : Tree) (x : Result (Tree × State S) Fault) → OfGoal x → (x >>= finish) ≡ Ok t → is_of_goal modules t ≡ true
-  finished_of_goal t (Ok x) g e = subst (λ (u : Tree). is_of_goal modules u ≡ true) (finished x t e) g
+  finished_of_goal : (t : Tree) (x : Result (Tree × State S) Fault) → OfGoal x → (x >>= finish m) ≡ Ok t → is_of_goal modules t ≡ true
+  finished_of_goal t (Ok x) g e = subst (λ (u : Tree). is_of_goal modules u ≡ true) (finished m x t e) g
   finished_of_goal t (Err d) g e = absurd (no_tree e)
 
-  pub read_of_goal : (c : Code) (s : State S) (t : Tree) → (program_by m inner modules c s >>= finish) ≡ Ok t → is_of_goal modules t ≡ true
+  pub read_of_goal : (c : Code) (s : State S) (t : Tree) → (program_by m inner modules c s >>= finish m) ≡ Ok t → is_of_goal modules t ≡ true
   read_of_goal c s t e = finished_of_goal t (program_by m inner modules c s) (program_of_goal c s) e

@@ -20,8 +20,8 @@ use Rattle.ecma_parser_laws.specs.Settled.{SettledBy, Settled, FirstSettled}
 module _ {S : Type 0} (m : Stream S) (Live : S → Type 0) (modules : Bool) (w : Orderly m Live modules) (back : Backward m Live modules) (limit : ℕ) (syntax : EsSyntax) (s : S) (live : Live s) where
   settled_by : (x : Result Tree Fault) → read_within m limit modules syntax s ≡ x → Judges m modules syntax limit s x → SettledBy m limit modules syntax s x
   settled_by (Ok t) e j = let d = (programs_exact m Live modules w back limit syntax s t live).derived e in record { places = d.1; handed = d.2; derived = d.3; within = d.0; only = j.1 }
-  settled_by (Err Unexpected) e j = j
-  settled_by (Err TooDeep) e j = j
+  settled_by (Err (Unexpected n)) e j = j
+  settled_by (Err (TooDeep n)) e j = j
 
   pub settled : Settled m limit modules syntax s
   settled = record {

@@ -39,13 +39,13 @@ text_first state modules syntax target text e = let x = parts_of syntax in let c
     texts_settled (limit_in e) modules x text (told_of ctx (at_start_of syntax target text_start text (text_start + bytes text))) (new_at_start syntax target text_start modules text ctx (of_goal modules x))
 
 pub texts_answered : {I : Type 0} (state : I → State) {X : Type 0} (view : X → Tree) → TextsAnswered state view
-texts_answered state view modules syntax target text e h source result recorded p =
+texts_answered state view modules syntax target text e h source left result recorded p =
     let x : Setting = record { syntax = parts_of syntax; limit = limit_in e } in
     let start : State = at_start_of syntax target text_start text (text_start + bytes text) in
-    new_answer x (λ t. Reads modules x.syntax t text) (λ t. TreeSpells x modules t text) (text_joins x modules text) view result recorded (first_read lexer_machine state modules e start)
+    new_answer x (λ t. Reads modules x.syntax t text) (λ t. TreeSpells x modules t text) (text_joins x modules text) view left result recorded (first_read lexer_machine state modules e start)
     (text_first state modules syntax target text e)
-    (subst (λ (z : State). Parses view (parts_of z.settings.syntax) result (first_read lexer_machine state modules e start) [] recorded) source
-    (subst (λ (r : Result Tree Fault). Parses view (parts_of (state e.reading.input.input).settings.syntax) result r [] recorded) (read_first lexer_machine state modules e h start source) p))
+    (subst (λ (z : State). Parses view (parts_of z.settings.syntax) left result (first_read lexer_machine state modules e start) [] recorded) source
+    (subst (λ (r : Result Tree Fault). Parses view (parts_of (state e.reading.input.input).settings.syntax) left result r [] recorded) (read_first lexer_machine state modules e h start source) p))
 
 -- a text takes as many bytes as its characters
 pub chars_start : {I : Type 0} (state : I → State) (syntax : Syntax) (text : List ℕ) (e : Entries (Parser (Rewinding I))) → IsUtf8 text → state e.reading.input.input ≡ at_start_of syntax EsNext 1 (chars text) (1 + length text)
@@ -53,13 +53,13 @@ pub chars_start : {I : Type 0} (state : I → State) (syntax : Syntax) (text : L
 chars_start state syntax text e u source = source ∙ ap (λ (n : ℕ). at_start_of syntax EsNext 1 (chars text) (1 + n)) (sym (ap (λ (z : List ℕ). length z) (encodes-chars text u)))
 
 pub new_answered : {I : Type 0} (state : I → State) {X : Type 0} (view : X → Tree) → NewAnswered state view
-new_answered state view modules syntax text e u h source result recorded p = texts_answered state view modules syntax EsNext (chars text) e h (chars_start state syntax text e u source) result recorded p
+new_answered state view modules syntax text e u h source left result recorded p = texts_answered state view modules syntax EsNext (chars text) e h (chars_start state syntax text e u source) left result recorded p
 
 pub new_reading : {I : Type 0} (state : I → State) {X : Type 0} (view : X → Tree) → NewReading state view
-new_reading state view modules syntax text e u h source result recorded p =
+new_reading state view modules syntax text e u h source left result recorded p =
     let start : State = at_start_of syntax EsNext text_start (chars text) (text_start + bytes (chars text)) in
     let at : state e.reading.input.input ≡ start = chars_start state syntax text e u source in
     let read : Result Tree Fault = first_read lexer_machine state modules e start in
-    read_by (TextBy modules (parts_of syntax) (chars text) (limit_in e)) view (parts_of syntax) [] recorded result read (text_first state modules syntax EsNext (chars text) e).read
-    (subst (λ (z : State). ReadsProgram view (parts_of z.settings.syntax) result read [] recorded) at
-    (subst (λ (r : Result Tree Fault). ReadsProgram view (parts_of (state e.reading.input.input).settings.syntax) result r [] recorded) (read_first lexer_machine state modules e h start at) p))
+    read_by (TextBy modules (parts_of syntax) (chars text) (limit_in e)) view (parts_of syntax) [] recorded left result read (text_first state modules syntax EsNext (chars text) e).read
+    (subst (λ (z : State). ReadsProgram view (parts_of z.settings.syntax) left result read [] recorded) at
+    (subst (λ (r : Result Tree Fault). ReadsProgram view (parts_of (state e.reading.input.input).settings.syntax) left result r [] recorded) (read_first lexer_machine state modules e h start at) p))

@@ -74,8 +74,8 @@ module _ (limit : ℕ) (modules : Bool) (syntax : EsSyntax) (text : List ℕ) (s
   text_by : (x : Result Tree Fault) → SettledBy (stream_of lexer_machine) limit modules syntax start x → TextBy modules syntax text limit x
   unfolding stream_of
   text_by (Ok t) h = record { reads = reads t h.places h.handed h.derived; within = h.within; only = each (λ u. u ≡ t) h.only }
-  text_by (Err Unexpected) h = each (λ u. ⊥) h
-  text_by (Err TooDeep) h = each (λ u. limit < nesting u) h
+  text_by (Err (Unexpected n)) h = each (λ u. ⊥) h
+  text_by (Err (TooDeep n)) h = each (λ u. limit < nesting u) h
 
   abbrev its : Result Tree Fault
   its = read_within (stream_of lexer_machine) limit modules syntax start

@@ -57,59 +57,59 @@ AnswersModule Spells (Err e) recorded = (e.kind ≡ kinds.Memory) × (recorded �
 
 -- What is answered, and the faults that are recorded. Exactly the tree that is chosen is answered with no fault recorded, but for want of memory. Where no module is meant, the
 -- answer is that of the script: the only tree that reads it, and its early errors; or a fault, only where none of any nesting does, and too deep only where each that does nests deeper.
-pub record ChosenAnswer (x : Setting) (Reads Spells : Bool → Tree → Type 0) (IsChosen : Tree → Type 0) (result : Result Tree Error) (recorded : List Error) : Type 0 where
+pub record ChosenAnswer (x : Setting) (Reads Spells : Bool → Tree → Type 0) (IsChosen : Tree → Type 0) (left : ℕ) (result : Result Tree Error) (recorded : List Error) : Type 0 where
   pub chosen : (t : Tree) → SpelledBy IsChosen (λ u. u) result recorded t
-  pub answer : AnswersModule Spells result recorded ⊎ (NoModule Spells × AnsweredBy (JudgedBy (Reads false) x.limit) (λ u. u) x.syntax result [] recorded)
+  pub answer : AnswersModule Spells result recorded ⊎ (NoModule Spells × AnsweredBy (JudgedBy (Reads false) x.limit) (λ u. u) x.syntax left result [] recorded)
 
 -- ---- what is promised
 
--- What the entry of programs promises of its answer and of the faults before and after it.
-abbrev pub PromisedChoice : {I S : Type 0} → tokens.Machine S → (I → Source S) → Entries (Parser (Rewinding I)) → Result Tree Error → List Error → List Error → Type 0
-PromisedChoice m state e result old new = let syntax = syntax_in state e in
+-- What the entry of programs promises of its answer and of the faults before and after it, where as many tokens may come as are left.
+abbrev pub PromisedChoice : {I S : Type 0} → tokens.Machine S → (I → Source S) → Entries (Parser (Rewinding I)) → ℕ → Result Tree Error → List Error → List Error → Type 0
+PromisedChoice m state e left result old new = let syntax = syntax_in state e in
     let read : Bool → Result Tree Fault = λ modules. program_within (stream_of m) (limit_in e) modules (code_of modules syntax) (opened m state (code_of modules syntax).context e) in
-    Chooses syntax result (read true) (read false) old new
+    Chooses syntax left result (read true) (read false) old new
 
 -- ---- of a text
 
 -- the tree that is chosen of a text is answered
-abbrev pub TextChosen : Setting → List ℕ → Result Tree Error → List Error → Type 0
-TextChosen x text result recorded = ChosenAnswer x (λ modules t. Reads modules x.syntax t text) (λ modules t. TreeSpells x modules t text) (λ t. TreeChosen x t text) result recorded
+abbrev pub TextChosen : Setting → List ℕ → ℕ → Result Tree Error → List Error → Type 0
+TextChosen x text left result recorded = ChosenAnswer x (λ modules t. Reads modules x.syntax t text) (λ modules t. TreeSpells x modules t text) (λ t. TreeChosen x t text) left result recorded
 
 module _ {I : Type 0} (state : I → State) where
   -- A new parser of a text answers the tree that is chosen: what the entry of programs promises is so much.
   abbrev pub TextsChosen : Type 0
   TextsChosen = (syntax : Syntax) (target : EsVersion) (text : List ℕ) (e : Entries (Parser (Rewinding I))) → e.started ≡ false
       → source_in state e ≡ at_start_of syntax target text_start text (text_start + bytes text)
-      → (result : Result Tree Error) (recorded : List Error) → PromisedChoice lexer_machine state e result [] recorded
-      → TextChosen (record { syntax = parts_of syntax; limit = limit_in e }) text result recorded
+      → (left : ℕ) (result : Result Tree Error) (recorded : List Error) → PromisedChoice lexer_machine state e left result [] recorded
+      → TextChosen (record { syntax = parts_of syntax; limit = limit_in e }) text left result recorded
 
   -- So does a parser that `Entries::new` made of a text, by what that promises.
   abbrev pub NewChosen : Type 0
   NewChosen = (syntax : Syntax) (text : List ℕ) (e : Entries (Parser (Rewinding I))) → IsUtf8 text → e.started ≡ false
       → source_in state e ≡ at_start_of syntax EsNext 1 (chars text) (1 + length text)
-      → (result : Result Tree Error) (recorded : List Error) → PromisedChoice lexer_machine state e result [] recorded
-      → TextChosen (record { syntax = parts_of syntax; limit = limit_in e }) (chars text) result recorded
+      → (left : ℕ) (result : Result Tree Error) (recorded : List Error) → PromisedChoice lexer_machine state e left result [] recorded
+      → TextChosen (record { syntax = parts_of syntax; limit = limit_in e }) (chars text) left result recorded
 
 -- ---- of a list
 
 -- the tree that is chosen of a list is answered
-abbrev pub ListChosen : Setting → ℕ → List Spot → Result Tree Error → List Error → Type 0
-ListChosen x start spots result recorded = let spells : Bool → Tree → Type 0 = λ modules t. SpellsList x modules start spots t in
-    ChosenAnswer x (λ modules t. ReadsList modules x.syntax start spots t) spells (Chosen spells) result recorded
+abbrev pub ListChosen : Setting → ℕ → List Spot → ℕ → Result Tree Error → List Error → Type 0
+ListChosen x start spots left result recorded = let spells : Bool → Tree → Type 0 = λ modules t. SpellsList x modules start spots t in
+    ChosenAnswer x (λ modules t. ReadsList modules x.syntax start spots t) spells (Chosen spells) left result recorded
 
 module _ {I : Type 0} (state : I → Source (List Spot)) where
   -- A new parser of a list in the order of its places answers the tree that is chosen: what the entry of programs promises is so much.
   abbrev pub ListsChosen : Type 0
   ListsChosen = (e : Entries (Parser (Rewinding I))) → e.started ≡ false → InOrder (source_in state e).settings.start (seen (source_in state e).tokens)
-      → (result : Result Tree Error) (recorded : List Error) → PromisedChoice list_machine state e result [] recorded
-      → ListChosen (record { syntax = syntax_in state e; limit = limit_in e }) (source_in state e).settings.start (source_in state e).tokens result recorded
+      → (left : ℕ) (result : Result Tree Error) (recorded : List Error) → PromisedChoice list_machine state e left result [] recorded
+      → ListChosen (record { syntax = syntax_in state e; limit = limit_in e }) (source_in state e).settings.start (source_in state e).tokens left result recorded
 
   -- So does a parser over what `TokensInput::new` made of a list, by what that promises.
   abbrev pub NewListChosen : Type 0
   NewListChosen = (spots : List Spot) (ctx : Context) (syntax : Syntax) (target : EsVersion) (e : Entries (Parser (Rewinding I))) → e.started ≡ false
       → source_in state e ≡ list_in spots ctx syntax target → InOrder (start_of spots) (seen spots)
-      → (result : Result Tree Error) (recorded : List Error) → PromisedChoice list_machine state e result [] recorded
-      → ListChosen (record { syntax = parts_of syntax; limit = limit_in e }) (start_of spots) spots result recorded
+      → (left : ℕ) (result : Result Tree Error) (recorded : List Error) → PromisedChoice list_machine state e left result [] recorded
+      → ListChosen (record { syntax = parts_of syntax; limit = limit_in e }) (start_of spots) spots left result recorded
 
 -- ---- of any source
 
@@ -131,12 +131,12 @@ module _ {I S : Type 0} (m : tokens.Machine S) (state : I → Source S) where
     pub order : (modules : Bool) (ps : List PlacedToken) → HandsOut (stream_of m) ps (front_of m state modules e) → InOrder (source_in state e).settings.start ps
 
   -- the tree that is chosen of what the source hands out is answered
-  abbrev pub SourceChosen : Entries (Parser (Rewinding I)) → Result Tree Error → List Error → Type 0
-  SourceChosen e result recorded = let x : Setting = record { syntax = syntax_in state e; limit = limit_in e } in
+  abbrev pub SourceChosen : Entries (Parser (Rewinding I)) → ℕ → Result Tree Error → List Error → Type 0
+  SourceChosen e left result recorded = let x : Setting = record { syntax = syntax_in state e; limit = limit_in e } in
       let spells : Bool → Tree → Type 0 = λ modules t. SpellsSource (stream_of m) x modules (front_of m state modules e) t in
-      ChosenAnswer x (λ modules t. ReadsSource (stream_of m) modules x.syntax (front_of m state modules e) t) spells (Chosen spells) result recorded
+      ChosenAnswer x (λ modules t. ReadsSource (stream_of m) modules x.syntax (front_of m state modules e) t) spells (Chosen spells) left result recorded
 
   -- A parser that read no token yet, on such a source, answers the tree that is chosen: what the entry of programs promises is so much.
   abbrev pub SourcesChosen : (Bool → Source S → Type 0) → (Source S → Source S → Type 0) → Type 0
   SourcesChosen Good Same = (e : Entries (Parser (Rewinding I))) → e.started ≡ false → InOrderBoth Good Same e
-      → (result : Result Tree Error) (recorded : List Error) → PromisedChoice m state e result [] recorded → SourceChosen e result recorded
+      → (left : ℕ) (result : Result Tree Error) (recorded : List Error) → PromisedChoice m state e left result [] recorded → SourceChosen e left result recorded

@@ -19,8 +19,8 @@ module _ (Reads : Tree → Type 0) where
     -- What is read is the only tree; a token is unexpected where no tree reads it; and reading is too deep where each that does nests deeper.
     abbrev pub JudgedBy : Result Tree Fault → Type 0
     JudgedBy (Ok t) = Only t
-    JudgedBy (Err Unexpected) = Each (λ u. ⊥)
-    JudgedBy (Err TooDeep) = Each (λ u. limit < nesting u)
+    JudgedBy (Err (Unexpected n)) = Each (λ u. ⊥)
+    JudgedBy (Err (TooDeep n)) = Each (λ u. limit < nesting u)
 
     -- A reading is settled so.
     pub record Judged (x : Result Tree Fault) : Type 0 where

@@ -27,19 +27,19 @@ pub record SpellsList (x : Setting) (modules : Bool) (start : ℕ) (spots : List
   pub within : nesting t ≤ x.limit
 
 -- What is answered of a list, and the faults that are recorded, by the trees that are derived from it and those that spell it.
-abbrev pub ListAnswered : Setting → Bool → ℕ → List Spot → {X : Type 0} → (X → Tree) → Result X Error → List Error → Type 0
-ListAnswered x modules start spots view result recorded = NewAnswer x (ReadsList modules x.syntax start spots) (SpellsList x modules start spots) view result recorded
+abbrev pub ListAnswered : Setting → Bool → ℕ → List Spot → {X : Type 0} → (X → Tree) → ℕ → Result X Error → List Error → Type 0
+ListAnswered x modules start spots view left result recorded = NewAnswer x (ReadsList modules x.syntax start spots) (SpellsList x modules start spots) view left result recorded
 
 module _ {I : Type 0} (state : I → Source (List Spot)) where
   -- A new parser of a list in the order of its places, which has recorded no fault, answers by the trees that are derived from the list: what an entry promises is so much.
   abbrev pub ListsAnswered : {X : Type 0} → (X → Tree) → Type 0
   ListsAnswered {X} view = (modules : Bool) (e : Entries (Parser (Rewinding I))) → e.started ≡ false → InOrder (source_in state e).settings.start (seen (source_in state e).tokens)
-      → (result : Result X Error) (recorded : List Error) → Promised list_machine state view modules e result [] recorded
-      → ListAnswered (record { syntax = syntax_in state e; limit = limit_in e }) modules (source_in state e).settings.start (source_in state e).tokens view result recorded
+      → (left : ℕ) (result : Result X Error) (recorded : List Error) → Promised list_machine state view modules e left result [] recorded
+      → ListAnswered (record { syntax = syntax_in state e; limit = limit_in e }) modules (source_in state e).settings.start (source_in state e).tokens view left result recorded
 
   -- So does a parser over what `TokensInput::new` made of a list, by what that promises.
   abbrev pub NewListAnswered : {X : Type 0} → (X → Tree) → Type 0
   NewListAnswered {X} view = (modules : Bool) (spots : List Spot) (ctx : Context) (syntax : Syntax) (target : EsVersion) (e : Entries (Parser (Rewinding I))) → e.started ≡ false
       → source_in state e ≡ list_in spots ctx syntax target → InOrder (start_of spots) (seen spots)
-      → (result : Result X Error) (recorded : List Error) → Promised list_machine state view modules e result [] recorded
-      → ListAnswered (record { syntax = parts_of syntax; limit = limit_in e }) modules (start_of spots) spots view result recorded
+      → (left : ℕ) (result : Result X Error) (recorded : List Error) → Promised list_machine state view modules e left result [] recorded
+      → ListAnswered (record { syntax = parts_of syntax; limit = limit_in e }) modules (start_of spots) spots view left result recorded

@@ -24,8 +24,8 @@ module _ {S : Type 0} (m : Stream S) (modules : Bool) (syntax : EsSyntax) where
   -- only one that is derived, and within the limit.
   abbrev pub Judges : ℕ → S → Result Tree Fault → Type 0
   Judges limit s (Ok t) = (nesting t ≤ limit) × EachDerived s (λ u. u ≡ t)
-  Judges limit s (Err Unexpected) = EachDerived s (λ u. ⊥)
-  Judges limit s (Err TooDeep) = EachDerived s (λ u. limit < nesting u)
+  Judges limit s (Err (Unexpected n)) = EachDerived s (λ u. ⊥)
+  Judges limit s (Err (TooDeep n)) = EachDerived s (λ u. limit < nesting u)
 
 -- What a parser reads within a limit is judged so.
 abbrev pub ProgramsJudged : {S : Type 0} → Stream S → (S → Type 0) → Type 0

@@ -33,8 +33,8 @@ module _ {S : Type 0} (m : Stream S) (limit : ℕ) (modules : Bool) (syntax : Es
   -- What is read is the only tree; a token is unexpected where there is no tree; and reading is too deep where trees nest deeper only.
   abbrev pub SettledBy : Result Tree Fault → Type 0
   SettledBy (Ok t) = OnlyTree t
-  SettledBy (Err Unexpected) = NoTree
-  SettledBy (Err TooDeep) = OnlyDeeper
+  SettledBy (Err (Unexpected n)) = NoTree
+  SettledBy (Err (TooDeep n)) = OnlyDeeper
 
   -- What is read is settled by the grammar.
   pub record Settled : Type 0 where

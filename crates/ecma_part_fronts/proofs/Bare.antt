@@ -69,7 +69,7 @@ module _ {S : Type 0} {m : Stream S} {Live : Pairing m} {modular : Bool} (w : Pa
 
   pub item_by_backed : (s : State S) (c : Code) (ce : c.context.module_ ≡ modular) (sl : Live.live s.source) → Backed m Live calm true closed_end s (item_by m im c s) (λ r'. item_by lm il c r')
   unfolding item_by object_rest
-  item_by_backed s c ce sl = back_at w {s = s} dot_dot_dot_kind (refl, refl, refl, refl) refl sl _ _ _ _ (λ j. back_past w {s = s} j _ (λ r' q'. (il.pat (with_in c) q' >>= λ p. if is_structured p.0 then unexpected else Ok (rest_pat (spanned lm r' p.1) (dots_at (lo (input lm r'))) p.0, p.1)))
+  item_by_backed s c ce sl = back_at w {s = s} dot_dot_dot_kind (refl, refl, refl, refl) refl sl _ _ _ _ (λ j. back_past w {s = s} j _ (λ r' q'. (il.pat (with_in c) q' >>= λ p. if is_structured p.0 then unexpected lm p.1 else Ok (rest_pat (spanned lm r' p.1) (dots_at (lo (input lm r'))) p.0, p.1)))
       (back_then _ _ _ _ (echo.pat (with_in c) ce (past m s) (live_past w j)) (λ pa pt pu. back_test (is_structured pa) (λ r'. is_structured pa) _ _ _ _ (λ qs h. refl) (λ _. back_never) (λ _. back_ok {s = pt} _ _ pu.live
       (λ qs h. ap (λ (z : ℕ). rest_pat (span z (m.last pt.source)) (dots_at (lo (input lm (was m Live (join (token w j) pu) (list_at m Live pt qs))))) pa) (lo_was w (join (token w j) pu) qs h) ∙ ap (λ (z : ℕ). rest_pat (spanned m s pt) (dots_at z) pa) (lo_was w (join (token w j) pu) qs h)) (shut_keeps 0)))))
       (pattern_prop_backed w echo s c ce sl)

@@ -41,8 +41,8 @@ parameters_answered limit c generator async block n ps (list xs) r words order d
     let o : State Input = record { source = r; commas = z.0 } in
     let free = sym (ap (λ (u : Tree). takes_name c u r) (last_is xs)) in (
       z.0,
-      ap (λ (x : Result (List Tree × State Input) Fault). x >>= λ y. settled limit (as_list list_stream y) >>= λ v. if heads_arrow list_stream (async_end c (last_initial y.0)) v.1 then unexpected else Ok v) z.1
-          ∙ lets (λ v. heads_arrow list_stream (async_end c (last_initial (unpack xs))) v.1) (settled limit (list (pack (unpack xs)), o)) (list xs, o) (ap (λ (u : Trees). settled limit (list u, o)) (pack_unpack xs) ∙ settles limit (list xs, o) i k)
+      ap (λ (x : Result (List Tree × State Input) Fault). x >>= λ y. settled list_stream limit (as_list list_stream y) >>= λ v. if heads_arrow list_stream (async_end c (last_initial y.0)) v.1 then unexpected list_stream v.1 else Ok v) z.1
+          ∙ lets (λ v. heads_arrow list_stream (async_end c (last_initial (unpack xs))) v.1) (settled list_stream limit (list (pack (unpack xs)), o)) (list xs, o) (ap (λ (u : Trees). settled list_stream limit (list u, o)) (pack_unpack xs) ∙ settles limit (list xs, o) i k)
           (end_alike (last_initial (unpack xs)) c o ∙ (sym free ∙ parameters_stand_alone c n ps xs r generator async block words order d w)),
     )
 parameters_answered limit c generator async block n ps _ r words order d w i k m = absurd d
@@ -50,7 +50,7 @@ parameters_answered limit c generator async block n ps _ r words order d w i k m
 statement_answered : (limit : ℕ) (c : Code) → AnswersWhere AnyList Whatever (statement_part list_stream limit c) (Statement false c) limit
 unfolding statement_part
 statement_answered limit c n ps t r such order d w i k m = let z = (fronts_are_exact c).statements limit n ps t r i order d w m in
-    (z.0, ap (λ (x : Answer). x >>= λ y. if is_statement y.0 then settled limit y else unexpected) z.1 ∙ (ap (λ (b : Bool). cond b (settled limit (t, record { source = r; commas = z.0 })) unexpected) d.0 ∙ settles limit (t, record { source = r; commas = z.0 }) i k))
+    (z.0, ap (λ (x : Answer). x >>= λ y. if is_statement y.0 then settled list_stream limit y else unexpected list_stream y.1) z.1 ∙ (ap (λ (b : Bool). cond b (settled list_stream limit (t, record { source = r; commas = z.0 })) (unexpected list_stream (record { source = r; commas = z.0 }))) d.0 ∙ settles limit (t, record { source = r; commas = z.0 }) i k))
 
 item_answered : (limit : ℕ) (c : Code) → AnswersWhere AnyList Whatever (list_item_part list_stream limit c) (ListItem false c) limit
 unfolding list_item_part

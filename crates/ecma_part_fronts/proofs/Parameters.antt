@@ -85,8 +85,8 @@ listed_of n ps x xs r P e o h = by_answer x (h.so (record { order = o; below = �
   where
     by_answer : (x : Listed) → Yields x (λ y. Is (unpack xs) r y × After (from (input_at n ps) []) y.1) P → IsListed x xs r
     by_answer (Ok x) h = (x.1.commas, ap₂ (λ (u : List Tree) (i : Input). Ok (u, record { source = i; commas = x.1.commas })) h.so.0.0 h.so.0.1)
-    by_answer (Err Unexpected) h = absurd h.so
-    by_answer (Err TooDeep) h = absurd (e h.so)
+    by_answer (Err (Unexpected k)) h = absurd h.so
+    by_answer (Err (TooDeep k)) h = absurd (e h.so)
 
 -- where enough is known of the rest
 pub listed_by : (c : Code) (d n : ℕ) (ps : List PlacedToken) (b : Bool) (xs : Trees) (r : Input) (T : Trees → Input → Type 0) → Knows (complete (suc (sizes xs)) d) c b r T → nesting (list xs) ≤ d → InOrder n ps → Bare (coded false c) b xs (input_at n ps) r → T xs (input_at n ps)

@@ -7,7 +7,7 @@ use Rattle.ecma_nesting.specs.Nesting.{nesting}
 use Rattle.ecma_syntax.specs.Input.{Input, Code, kind, module_code, alone, in_list, in_arrow}
 use Rattle.ecma_syntax.specs.Operators.{between, goes_expr}
 use Rattle.ecma_syntax.specs.Shape.{ends, is_clean, is_statement}
-use Rattle.ecma_reading.specs.Source.{Fault, TooDeep, unexpected, ◌>>=◌, Inner, State, list_stream}
+use Rattle.ecma_reading.specs.Source.{Fault, too_deep, unexpected, ◌>>=◌, Inner, State, list_stream}
 use Rattle.ecma_reading.specs.Expressions.{key_by}
 use Rattle.ecma_reading.specs.Modules.{item_by}
 use Rattle.ecma_reading.specs.Reading.{readers}
@@ -46,11 +46,11 @@ record Passed (limit : ℕ) (x : Answer) (t : Tree) (r : State Input) : Type 0 w
   within : nesting t ≤ limit
   clean : is_clean t ≡ true
 
-settled_by : (limit : ℕ) (y : Tree × State Input) (t : Tree) (r : State Input) → settled limit y ≡ Ok (t, r) → Passed limit (Ok y) t r
+settled_by : (limit : ℕ) (y : Tree × State Input) (t : Tree) (r : State Input) → settled list_stream limit y ≡ Ok (t, r) → Passed limit (Ok y) t r
 unfolding settled
 settled_by limit y t r h = by_tests (nat_le (nesting y.0) limit) (is_clean y.0) refl refl h
   where
-    by_tests : (a b : Bool) → nat_le (nesting y.0) limit ≡ a → is_clean y.0 ≡ b → ◌≡◌ {A = Answer} (cond a (cond b (Ok y) unexpected) (Err TooDeep)) (Ok (t, r)) → Passed limit (Ok y) t r
+    by_tests : (a b : Bool) → nat_le (nesting y.0) limit ≡ a → is_clean y.0 ≡ b → ◌≡◌ {A = Answer} (cond a (cond b (Ok y) (unexpected list_stream y.1)) (too_deep list_stream y.1)) (Ok (t, r)) → Passed limit (Ok y) t r
     by_tests true true i j h = let e = ap (λ z. found_or y z) h in record {
       answered = h;
       within = subst (λ (z : Tree × State Input). nesting z.0 ≤ limit) e (leb-true (nesting y.0) limit i);
@@ -59,7 +59,7 @@ settled_by limit y t r h = by_tests (nat_le (nesting y.0) limit) (is_clean y.0) 
     by_tests true false i j h = absurd (no_answer _ (t, r) h)
     by_tests false b i j h = absurd (no_answer _ (t, r) h)
 
-passed_by : (limit : ℕ) (x : Answer) (t : Tree) (r : State Input) → (x >>= settled limit) ≡ Ok (t, r) → Passed limit x t r
+passed_by : (limit : ℕ) (x : Answer) (t : Tree) (r : State Input) → (x >>= settled list_stream limit) ≡ Ok (t, r) → Passed limit x t r
 passed_by limit (Ok y) t r h = settled_by limit y t r h
 passed_by limit (Err e) t r h = absurd (no_answer e (t, r) h)
 
@@ -92,19 +92,19 @@ pub heads_none : (c : Code) (t : Tree) (r : State Input) → takes_name c (final
 heads_none c t r h = end_alike (last_of t) c r ∙ (ap (λ (u : Tree). takes_name c u r.source) (of_alike t) ∙ h)
 
 -- what passes a test that refuses
-refused_by : (x : Answer) (f : Tree × State Input → Bool) (t : Tree) (r : State Input) → (x >>= λ y. if f y then unexpected else Ok y) ≡ Ok (t, r) → f (t, r) ≡ false
+refused_by : (x : Answer) (f : Tree × State Input → Bool) (t : Tree) (r : State Input) → (x >>= λ y. if f y then unexpected list_stream y.1 else Ok y) ≡ Ok (t, r) → f (t, r) ≡ false
 refused_by (Ok y) f t r h = by_test (f y) refl h
   where
-    by_test : (b : Bool) → f y ≡ b → ◌≡◌ {A = Answer} (cond b unexpected (Ok y)) (Ok (t, r)) → f (t, r) ≡ false
+    by_test : (b : Bool) → f y ≡ b → ◌≡◌ {A = Answer} (cond b (unexpected list_stream y.1) (Ok y)) (Ok (t, r)) → f (t, r) ≡ false
     by_test true i h = absurd (no_answer _ (t, r) h)
     by_test false i h = subst (λ (z : Tree × State Input). f z ≡ false) (ap (λ z. found_or y z) h) i
 refused_by (Err e) f t r h = absurd (no_answer e (t, r) h)
 
 -- a test that refuses
-tested_by : (x : Answer) (f : Tree × State Input → Bool) (t : Tree) (r : State Input) → (x >>= λ y. if f y then unexpected else Ok y) ≡ Ok (t, r) → x ≡ Ok (t, r)
+tested_by : (x : Answer) (f : Tree × State Input → Bool) (t : Tree) (r : State Input) → (x >>= λ y. if f y then unexpected list_stream y.1 else Ok y) ≡ Ok (t, r) → x ≡ Ok (t, r)
 tested_by (Ok y) f t r h = by_test (f y) h
   where
-    by_test : (b : Bool) → ◌≡◌ {A = Answer} (cond b unexpected (Ok y)) (Ok (t, r)) → ◌≡◌ {A = Answer} (Ok y) (Ok (t, r))
+    by_test : (b : Bool) → ◌≡◌ {A = Answer} (cond b (unexpected list_stream y.1) (Ok y)) (Ok (t, r)) → ◌≡◌ {A = Answer} (Ok y) (Ok (t, r))
     by_test true h = absurd (no_answer _ (t, r) h)
     by_test false h = h
 tested_by (Err e) f t r h = absurd (no_answer e (t, r) h)
@@ -113,10 +113,10 @@ record Stated (limit : ℕ) (x : Answer) (t : Tree) (r : State Input) : Type 0 w
   passed : Passed limit x t r
   is : is_statement t ≡ true
 
-stated_by : (limit : ℕ) (x : Answer) (t : Tree) (r : State Input) → (x >>= λ y. if is_statement y.0 then settled limit y else unexpected) ≡ Ok (t, r) → Stated limit x t r
+stated_by : (limit : ℕ) (x : Answer) (t : Tree) (r : State Input) → (x >>= λ y. if is_statement y.0 then settled list_stream limit y else unexpected list_stream y.1) ≡ Ok (t, r) → Stated limit x t r
 stated_by limit (Ok y) t r h = by_test (is_statement y.0) refl h
   where
-    by_test : (b : Bool) → is_statement y.0 ≡ b → ◌≡◌ {A = Answer} (cond b (settled limit y) unexpected) (Ok (t, r)) → Stated limit (Ok y) t r
+    by_test : (b : Bool) → is_statement y.0 ≡ b → ◌≡◌ {A = Answer} (cond b (settled list_stream limit y) (unexpected list_stream y.1)) (Ok (t, r)) → Stated limit (Ok y) t r
     by_test true i h = let p = settled_by limit y t r h in record { passed = p; is = subst (λ (z : Tree × State Input). is_statement z.0 ≡ true) (ap (λ z. found_or y z) p.answered) i }
     by_test false i h = absurd (no_answer _ (t, r) h)
 stated_by limit (Err e) t r h = absurd (no_answer e (t, r) h)
@@ -130,11 +130,11 @@ then_listed (Err e) f y h = absurd (no_answer e y h)
 parameters_front : (limit : ℕ) (placed : Bool) (c : Code) → ReadsFronts Anywhere (parameters_part list_stream limit c) (Parameters placed c) (Parameters false c) limit
 unfolding parameters_part
 parameters_front limit placed c n ps t r named order h w =
-    let a = then_listed (bare_by list_stream (readers list_stream limit) c (at_list n ps [])) (λ x. settled limit (as_list list_stream x) >>= λ y. if heads_arrow list_stream (async_end c (last_initial x.0)) y.1 then unexpected else Ok y) (t, r) h in
+    let a = then_listed (bare_by list_stream (readers list_stream limit) c (at_list n ps [])) (λ x. settled list_stream limit (as_list list_stream x) >>= λ y. if heads_arrow list_stream (async_end c (last_initial x.0)) y.1 then unexpected list_stream y.1 else Ok y) (t, r) h in
     let test = λ (y : Tree × State Input). heads_arrow list_stream (async_end c (last_initial a.0.0)) y.1 in
-    let p = settled_by limit (list (pack a.0.0), a.0.1) t r (tested_by (settled limit (list (pack a.0.0), a.0.1)) test t r a.2) in
+    let p = settled_by limit (list (pack a.0.0), a.0.1) t r (tested_by (settled list_stream limit (list (pack a.0.0), a.0.1)) test t r a.2) in
     let e = ap (λ z. found_or (t, r) z) p.answered in
-    let free = sym (end_alike (last_initial a.0.0) c r) ∙ refused_by (settled limit (list (pack a.0.0), a.0.1)) test t r a.2 in
+    let free = sym (end_alike (last_initial a.0.0) c r) ∙ refused_by (settled list_stream limit (list (pack a.0.0), a.0.1)) test t r a.2 in
     let z = parameters_end limit placed c n ps a.0.0 a.0.1 named order a.1 (subst (λ (s : State Input). takes_name c (last_initial a.0.0) s.source ≡ false) (sym (ap (λ (y : Tree × State Input). y.1) e)) free) in
     let both = subst (λ (y : Tree × State Input). Parameters false c y.0 (input_at n ps) y.1.source × IsComplete (Parameters placed c) n ps y.1.source.places) e z in
     record { derived = both.0; complete = both.1; within = p.within; clean = p.clean }
@@ -145,7 +145,7 @@ expression_front : (limit : ℕ) (placed : Bool) (c : Code) (l : ℕ) → 1 ≤ 
 unfolding expression_part
 expression_front limit placed c l a b n ps t r named order h w =
     let p = passed_by limit ((readers list_stream limit).expr c l (at_list n ps [])) t r (tested_by _ (λ y. heads_arrow list_stream (async_end c (last_of y.0)) y.1) t r h) in
-    let z = expressions_settle limit placed c l n ps t r a b named order p.answered (no_arrow c t r (refused_by ((readers list_stream limit).expr c l (at_list n ps []) >>= settled limit) (λ y. heads_arrow list_stream (async_end c (last_of y.0)) y.1) t r h)) in
+    let z = expressions_settle limit placed c l n ps t r a b named order p.answered (no_arrow c t r (refused_by ((readers list_stream limit).expr c l (at_list n ps []) >>= settled list_stream limit) (λ y. heads_arrow list_stream (async_end c (last_of y.0)) y.1) t r h)) in
     record { derived = z.0; complete = z.1; within = p.within; clean = p.clean }
 
 binding_front : (limit : ℕ) (placed : Bool) (c : Code) → ReadsFronts Anywhere (binding_part list_stream limit c) (Binding placed c) (Binding false c) limit
@@ -193,7 +193,7 @@ pub expressions_stop : ExpressionsStop
 unfolding expression_part
 expressions_stop limit c l n ps t r a b named order h =
     let p = passed_by limit ((readers list_stream limit).expr c l (at_list n ps [])) t r (tested_by _ (λ y. heads_arrow list_stream (async_end c (last_of y.0)) y.1) t r h) in
-    let z = expressions_settle limit false c l n ps t r a b named order p.answered (no_arrow c t r (refused_by ((readers list_stream limit).expr c l (at_list n ps []) >>= settled limit) (λ y. heads_arrow list_stream (async_end c (last_of y.0)) y.1) t r h)) in
+    let z = expressions_settle limit false c l n ps t r a b named order p.answered (no_arrow c t r (refused_by ((readers list_stream limit).expr c l (at_list n ps []) >>= settled list_stream limit) (λ y. heads_arrow list_stream (async_end c (last_of y.0)) y.1) t r h)) in
     by_kind (between plus_plus_kind minus_minus_kind (kind r.source)) z.2
   where
     by_kind : (x : Bool) → goes_expr c (ends t) r.source < l → cond x 0 (goes_expr c (ends t) r.source) < l
@@ -202,18 +202,18 @@ expressions_stop limit c l n ps t r a b named order h =
 
 -- ---- what is derived is answered
 
-pub settles : (limit : ℕ) (x : Tree × State Input) → nesting x.0 ≤ limit → is_clean x.0 ≡ true → settled limit x ≡ Ok x
+pub settles : (limit : ℕ) (x : Tree × State Input) → nesting x.0 ≤ limit → is_clean x.0 ≡ true → settled list_stream limit x ≡ Ok x
 unfolding settled
-settles limit x a b = ap₂ (λ (i j : Bool). cond i (cond j (Ok x) unexpected) (Err TooDeep)) (le-leb (nesting x.0) limit a) b
+settles limit x a b = ap₂ (λ (i j : Bool). cond i (cond j (Ok x) (unexpected list_stream x.1)) (too_deep list_stream x.1)) (le-leb (nesting x.0) limit a) b
 
-pub passes : (limit : ℕ) (x : Answer) (t : Tree) (r : State Input) → x ≡ Ok (t, r) → nesting t ≤ limit → is_clean t ≡ true → (x >>= settled limit) ≡ Ok (t, r)
-passes limit x t r e a b = ap (λ z. z >>= settled limit) e ∙ settles limit (t, r) a b
+pub passes : (limit : ℕ) (x : Answer) (t : Tree) (r : State Input) → x ≡ Ok (t, r) → nesting t ≤ limit → is_clean t ≡ true → (x >>= settled list_stream limit) ≡ Ok (t, r)
+passes limit x t r e a b = ap (λ z. z >>= settled list_stream limit) e ∙ settles limit (t, r) a b
 
 -- a test that lets through
-pub lets : (f : Tree × State Input → Bool) (x : Answer) (y : Tree × State Input) → x ≡ Ok y → f y ≡ false → (x >>= λ z. if f z then unexpected else Ok z) ≡ Ok y
-lets f x y e h = ap (λ (z : Answer). z >>= λ v. if f v then unexpected else Ok v) e ∙ by_test (f y) h
+pub lets : (f : Tree × State Input → Bool) (x : Answer) (y : Tree × State Input) → x ≡ Ok y → f y ≡ false → (x >>= λ z. if f z then unexpected list_stream z.1 else Ok z) ≡ Ok y
+lets f x y e h = ap (λ (z : Answer). z >>= λ v. if f v then unexpected list_stream v.1 else Ok v) e ∙ by_test (f y) h
   where
-    by_test : (b : Bool) → b ≡ false → ◌≡◌ {A = Answer} (cond b unexpected (Ok y)) (Ok y)
+    by_test : (b : Bool) → b ≡ false → ◌≡◌ {A = Answer} (cond b (unexpected list_stream y.1) (Ok y)) (Ok y)
     by_test true h = absurd (true≢false h)
     by_test false h = refl
 
@@ -238,7 +238,7 @@ key_answered limit placed c n ps t r order d i k w = let z = (fronts_are_read pl
 statement_answered : (limit : ℕ) (placed : Bool) (c : Code) → Answers Apart (statement_part list_stream limit c) (Statement placed c) limit
 unfolding statement_part
 statement_answered limit placed c n ps t r order d i k w = let z = (fronts_are_read placed c).statements limit n ps t r i order d w in
-    (z.0, ap (λ (x : Answer). x >>= λ y. if is_statement y.0 then settled limit y else unexpected) z.1 ∙ (ap (λ (b : Bool). cond b (settled limit (t, record { source = r; commas = z.0 })) unexpected) d.0 ∙ settles limit (t, record { source = r; commas = z.0 }) i k))
+    (z.0, ap (λ (x : Answer). x >>= λ y. if is_statement y.0 then settled list_stream limit y else unexpected list_stream y.1) z.1 ∙ (ap (λ (b : Bool). cond b (settled list_stream limit (t, record { source = r; commas = z.0 })) (unexpected list_stream (record { source = r; commas = z.0 }))) d.0 ∙ settles limit (t, record { source = r; commas = z.0 }) i k))
 
 item_answered : (limit : ℕ) (placed : Bool) (c : Code) → Answers Apart (list_item_part list_stream limit c) (ListItem placed c) limit
 unfolding list_item_part

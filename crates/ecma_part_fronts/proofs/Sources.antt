@@ -37,11 +37,11 @@ module _ {S : Type 0} {m : Stream S} {Live : S → Type 0} {modular : Bool} (w :
   heads_same k None s r h = refl
   heads_same k (Some c) s r h = agree1 w (λ z. not (brk (input lm (on [] 0 z))) && is_name lm c (on [] 0 z)) (λ p q l v. refl) (λ p q l v. refl) (λ p l v. refl) k s r h
 
-  settled_told : (k : Ceiling) (limit : ℕ) (t : Tree) (s : State S) (r : State Input) → Beside m Live k s r → Told m Live k (settled limit (t, r)) (settled limit (t, s))
+  settled_told : (k : Ceiling) (limit : ℕ) (t : Tree) (s : State S) (r : State Input) → Beside m Live k s r → Told m Live k (settled lm limit (t, r)) (settled m limit (t, s))
   unfolding settled
   settled_told k limit t s r h = told_if w k (nat_le (nesting t) limit) (nat_le (nesting t) limit) refl _ _ _ _ (λ _. told_if w k (is_clean t) (is_clean t) refl _ _ _ _ (λ _. told_ok w k t t s r h refl) (λ _. never w k _ _)) (λ _. never w k _ _)
 
-  arrow_told : (k : Ceiling) (o : Option Code) (t : Tree) (s : State S) (r : State Input) → Beside m Live k s r → Told m Live k (cond (heads_arrow lm o r) unexpected (Ok (t, r))) (cond (heads_arrow m o s) unexpected (Ok (t, s)))
+  arrow_told : (k : Ceiling) (o : Option Code) (t : Tree) (s : State S) (r : State Input) → Beside m Live k s r → Told m Live k (cond (heads_arrow lm o r) (unexpected lm r) (Ok (t, r))) (cond (heads_arrow m o s) (unexpected m s) (Ok (t, s)))
   arrow_told k o t s r h = told_if w k (heads_arrow lm o r) (heads_arrow m o s) (heads_same k o s r h) _ _ _ _ (λ _. never w k _ _) (λ _. told_ok w k t t s r h refl)
 
   module _ (k : Ceiling) (limit : ℕ) (c : Code) (ce : c.context.module_ ≡ modular) (s : State S) (r : State Input) (h : Beside m Live k s r) where
@@ -88,12 +88,12 @@ module _ {S : Type 0} {m : Stream S} {Live : Pairing m} {modular : Bool} (w : Pa
   heads_was None s a qs h = refl
   heads_was (Some c) s a qs h = agrees w (λ z. not (brk (input lm (on [] 0 z))) && is_name lm c (on [] 0 z)) ((λ p q l v. refl), (λ p q l v. refl), (λ p l v. refl)) s a qs h
 
-  settled_backed : (E : Tree → ℕ) (limit : ℕ) (t : Tree) (s : State S) → Live.live s.source → Backed m Live E false (E t) s (settled limit (t, s)) (λ q. settled limit (t, q))
+  settled_backed : (E : Tree → ℕ) (limit : ℕ) (t : Tree) (s : State S) → Live.live s.source → Backed m Live E false (E t) s (settled m limit (t, s)) (λ q. settled lm limit (t, q))
   unfolding settled
   settled_backed E limit t s a = back_test (nat_le (nesting t) limit) (λ q. nat_le (nesting t) limit) _ _ _ _ (λ qs h. refl)
       (λ _. back_test (is_clean t) (λ q. is_clean t) _ _ _ _ (λ qs h. refl) (λ _. back_ok {E = E} {s = s} t (λ q. t) a (λ qs h. refl) (same_keeps (E t))) (λ _. back_never)) (λ _. back_never)
 
-  arrow_backed : (E : Tree → ℕ) (o : Option Code) (t : Tree) (s : State S) → Live.live s.source → Backed m Live E false (E t) s (cond (heads_arrow m o s) unexpected (Ok (t, s))) (λ q. cond (heads_arrow lm o q) unexpected (Ok (t, q)))
+  arrow_backed : (E : Tree → ℕ) (o : Option Code) (t : Tree) (s : State S) → Live.live s.source → Backed m Live E false (E t) s (cond (heads_arrow m o s) (unexpected m s) (Ok (t, s))) (λ q. cond (heads_arrow lm o q) (unexpected lm q) (Ok (t, q)))
   arrow_backed E o t s a = back_test (heads_arrow m o s) (λ q. heads_arrow lm o q) _ _ _ _ (λ qs h. heads_was o s a qs h) (λ _. back_never) (λ _. back_ok {E = E} {s = s} t (λ q. t) a (λ qs h. refl) (same_keeps (E t)))
 
   module _ (limit : ℕ) (c : Code) (ce : c.context.module_ ≡ modular) (s : State S) (a : Live.live s.source) where

@@ -41,8 +41,8 @@ module _ (depth : ℕ) (modules : Bool) (syntax : EsSyntax) (start : ℕ) (t u :
 
 answer : (x : Result Tree Fault) (t : Tree) (P : Type 0) → (P → ⊥) → Decided x t P → x ≡ Ok t
 answer (Ok x) t P n h = ap (λ (z : Tree). Ok z) h
-answer (Err Unexpected) t P n h = absurd h
-answer (Err TooDeep) t P n h = absurd (n h)
+answer (Err (Unexpected k)) t P n h = absurd h
+answer (Err (TooDeep k)) t P n h = absurd (n h)
 
 -- ---- scripts
 

@@ -2,6 +2,7 @@ pub mod Texts
 pub mod Shapes
 pub mod Rows
 mod FactsPrimaries
+mod FactsFaults
 mod FactsObjects
 mod FactsTemplates
 mod FactsMembersAndCalls

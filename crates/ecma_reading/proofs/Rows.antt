@@ -26,8 +26,8 @@ full_syntax = record plain_syntax { import_attributes = true; auto_accessors = t
 -- what a reading gives: the shape of a tree, `no` where nothing is read, `deep`
 abbrev pub told : Result Tree Fault → List ℕ
 told (Ok t) = shape t
-told (Err Unexpected) = codes "no"
-told (Err TooDeep) = codes "deep"
+told (Err (Unexpected n)) = codes "no"
+told (Err (TooDeep n)) = codes "deep"
 
 -- early errors: each by its row in the table, and where it starts and ends
 abbrev pub fault_told : Error → List ℕ
@@ -66,11 +66,23 @@ no_script text = record { text = text; got = told (read_text false plain_syntax 
 unfoldable pub no_module : List ℕ → Row
 no_module text = record { text = text; got = told (read_text true plain_syntax text); wanted = codes "no" }
 
+-- where what is no script or no module goes wrong: how many tokens are left there
+abbrev pub left_told : Result Tree Fault → List ℕ
+left_told (Ok t) = []
+left_told (Err (Unexpected n)) = n ∷ []
+left_told (Err (TooDeep n)) = []
+
+unfoldable pub no_script_from : List ℕ → ℕ → Row
+no_script_from text left = record { text = text; got = left_told (read_text false plain_syntax text); wanted = left ∷ [] }
+
+unfoldable pub no_module_from : List ℕ → ℕ → Row
+no_module_from text left = record { text = text; got = left_told (read_text true plain_syntax text); wanted = left ∷ [] }
+
 -- An expression of a level at the front of a text, in a script's code: its shape, and how many tokens are left.
 abbrev pub front_told : Result (Tree × State Input) Fault → List ℕ
 front_told (Ok x) = length x.1.source.places ∷ shape x.0
-front_told (Err Unexpected) = codes "no"
-front_told (Err TooDeep) = codes "deep"
+front_told (Err (Unexpected n)) = codes "no"
+front_told (Err (TooDeep n)) = codes "deep"
 
 abbrev pub read_front : ℕ → List ℕ → Result (Tree × State Input) Fault
 read_front level text = (readers list_stream 40).expr (script_code plain_syntax) level (record { source = record { last = 1; places = places_of text }; commas = [] })
@@ -109,5 +121,5 @@ Hold rows = wrong rows ≡ []
 
 -- what the facts open: each rule of the reading function
 unfoldable pub opened : ℕ
-unfolding kind_of operator_text script_row module_row full_row no_script no_module front_row no_front statement_front_row no_statement_front script_faults module_faults wrong shape early_errors faults_in punctuator word number quoted pattern characters closing hashbang cut tokens places_of eat eat_word name any_word end_of iterate_n iterate is_clean literal_by element_by after_element element_step elements_by array_by computed_by key_by private_by parameter_by parameter_step parameters_by function_by setter_parameter star method_prop_by getter_by setter_by prop_rest prop_by prop_step object_by quasi_end quasi_step template_by arrow_by params_of group_end group_by ident_end arguments_by async_group function_expr_name function_expr_by async_by class_expr_by new_end callee_by new_by super_end import_by unary_by update_by await_by yield_end yield_by word_by keyword_by prefix_by member_name member_by index_by call_by chain_by cond_by assign_by binary_by step_by loop_step loop_by private_in expr_from expr_by initial_pat after_item array_item array_pat_by keyed_item named_item pattern_prop object_item object_pat_by pat_by block_step block_rest block_by body_item body_step body_by declarator_by declarator_step declarators_by variables_by using_by function_decl_by class_decl_by field_value class_key class_method_by class_getter class_setter accessor_by field_or_method generator_member member_rest static_by member_step members_by class_tail_by in_parens sub_by with_by while_by do_by else_by if_step if_by return_by throw_by label_by jump_by debugger_by case_step case_rest case_by cases_step switch_by catch_by finally_by try_by clause_by for_rest over_rest in_rest of_rest head_rest for_variables for_using for_expression_rest for_expression for_head for_by labelled_by expression_by keyword_stmt stmt_by stmt_from string_by export_name_by local_by attributes_by source_by named_import named_export_item specifier_step specifiers_by star_import import_end import_rest import_default import_decl_by export_default export_star export_list export_by item_by program_item program_step program_rest program_by readers finish read_program read_list errors_of
+unfolding kind_of operator_text script_row module_row full_row no_script no_module no_script_from no_module_from front_row no_front statement_front_row no_statement_front script_faults module_faults wrong shape early_errors faults_in punctuator word number quoted pattern characters closing hashbang cut tokens places_of eat eat_word name any_word end_of iterate_n iterate is_clean literal_by element_by after_element element_step elements_by array_by computed_by key_by private_by parameter_by parameter_step parameters_by function_by setter_parameter star method_prop_by getter_by setter_by prop_rest prop_by prop_step object_by quasi_end quasi_step template_by arrow_by params_of group_end group_by ident_end arguments_by async_group function_expr_name function_expr_by async_by class_expr_by new_end callee_by new_by super_end import_by unary_by update_by await_by yield_end yield_by word_by keyword_by prefix_by member_name member_by index_by call_by chain_by cond_by assign_by binary_by step_by loop_step loop_by private_in expr_from expr_by initial_pat after_item array_item array_pat_by keyed_item named_item pattern_prop object_item object_pat_by pat_by block_step block_rest block_by body_item body_step body_by declarator_by declarator_step declarators_by variables_by using_by function_decl_by class_decl_by field_value class_key class_method_by class_getter class_setter accessor_by field_or_method generator_member member_rest static_by member_step members_by class_tail_by in_parens sub_by with_by while_by do_by else_by if_step if_by return_by throw_by label_by jump_by debugger_by case_step case_rest case_by cases_step switch_by catch_by finally_by try_by clause_by for_rest over_rest in_rest of_rest head_rest for_variables for_using for_expression_rest for_expression for_head for_by labelled_by expression_by keyword_stmt stmt_by stmt_from string_by export_name_by local_by attributes_by source_by named_import named_export_item specifier_step specifiers_by star_import import_end import_rest import_default import_decl_by export_default export_star export_list export_by item_by program_item program_step program_rest program_by readers finish read_program read_list errors_of
 opened = 0

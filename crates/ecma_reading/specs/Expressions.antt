@@ -8,7 +8,7 @@ use Rattle.ecma_tree.specs.Places.{place_of}
 use Rattle.ecma_syntax.specs.Input.{Code, kind, kind2, brk, brk2, lo, hi, dots_at, text, content, span, first_span, is_word, barred, has_in, with_in, by, in_body, in_arrow, turned_strict, in_list}
 use Rattle.ecma_syntax.specs.Operators.{expression_level, assignment_level, coalesce_level, unary_level, new_level, call_level, member_level, binary_level, right_level, is_assign_op, operates, goes_expr, between, starts_key, other_end}
 use Rattle.ecma_syntax.specs.Shape.{level, ends, fits_left, is_chain, is_cooked, is_spread}
-use Rattle.ecma_reading.specs.Source.{Fault, unexpected, ◌>>=◌, Stream, State, Read, input, past, operand, bound, spanned, at, eat, eat_word, is_name, name, any_word, Step, go_on, finished, iterate, Inner}
+use Rattle.ecma_reading.specs.Source.{Fault, unfit, placed, unexpected, ◌>>=◌, Stream, State, Read, input, past, operand, bound, spanned, at, eat, eat_word, is_name, name, any_word, Step, go_on, finished, iterate, Inner}
 use Rattle.ecma_reading.specs.Cover.{to_items, last_rests, to_target}
 
 -- is a prefix operator (13.5)
@@ -76,7 +76,7 @@ module _ {S : Type 0} (m : Stream S) (inner : Inner S) where
   first s = first_span (input m s)
 
   unfoldable pub literal_by : Read S Tree
-  literal_by s = elim (literal (kind (input m s)) (content (input m s)) (first s)) [ None ↦ unexpected | Some t ↦ Ok (t, past m s) ]
+  literal_by s = elim (literal (kind (input m s)) (content (input m s)) (first s)) [ None ↦ unexpected m s | Some t ↦ Ok (t, past m s) ]
 
   -- an element: after dots where it is spread
   unfoldable pub element_by : Code → Read S Tree
@@ -118,11 +118,11 @@ module _ {S : Type 0} (m : Stream S) (inner : Inner S) where
   key_by c s =
       if at m left_bracket_kind s then computed_by c assignment_level s
       else (if is_word (kind (input m s)) then Ok (ident_name (first s) (text (input m s)), past m s)
-      else (if at m regex_kind s then unexpected else literal_by s))
+      else (if at m regex_kind s then unexpected m s else literal_by s))
 
   -- a private name, whose `#` touches it
   unfoldable pub private_by : Read S Tree
-  private_by s = eat m hash_kind s >>= λ h. if lo (input m h) == hi (input m s) then (any_word m h >>= λ n. Ok (private_name (spanned m s n.1) n.0, n.1)) else unexpected
+  private_by s = eat m hash_kind s >>= λ h. if lo (input m h) == hi (input m s) then (any_word m h >>= λ n. Ok (private_name (spanned m s n.1) n.0, n.1)) else unexpected m h
 
   -- parameters and body, of a method or of what follows `function`; `whole` is where the whole began
   unfoldable pub parameter_by : Code → Read S Tree
@@ -153,7 +153,7 @@ module _ {S : Type 0} (m : Stream S) (inner : Inner S) where
 
   -- a setter takes one parameter, which is no rest, and no comma
   unfoldable pub setter_parameter : Code → Read S Tree
-  setter_parameter c s = eat m left_paren_kind s >>= λ o. parameter_by c o >>= λ p. if is_rest_param p.0 then unexpected else (eat m right_paren_kind p.1 >>= λ r. Ok (p.0, r))
+  setter_parameter c s = eat m left_paren_kind s >>= λ o. parameter_by c o >>= λ p. if is_rest_param p.0 then unexpected m p.1 else (eat m right_paren_kind p.1 >>= λ r. Ok (p.0, r))
 
   abbrev pub pattern_of : Tree → Tree
   pattern_of (param s ds p) = p
@@ -186,7 +186,7 @@ module _ {S : Type 0} (m : Stream S) (inner : Inner S) where
   prop_rest c s k r =
       if at m colon_kind r then (inner.expr (with_in c) assignment_level (past m r) >>= λ v. Ok (key_value_prop (spanned m s v.1) k v.0, v.1))
       else (if at m left_paren_kind r then (function_by c (lo (input m s)) false false r >>= λ f. Ok (method_prop (spanned m s f.1) k f.0, f.1))
-      else (name m c s >>= λ n.
+      else (placed (bound m r) (name m c s) >>= λ n.
       if at m assign_kind n.1 then (inner.expr (with_in c) assignment_level (past m n.1) >>= λ e. Ok (assign_prop (spanned m s e.1) (ident (first s) n.0) e.0, e.1))
       else Ok (ident (first s) n.0, n.1)))
 
@@ -217,9 +217,9 @@ module _ {S : Type 0} (m : Stream S) (inner : Inner S) where
   -- characters, and what ends them
   unfoldable pub quasi_end : Code → Bool → Spans → (Bool → Option Tree) → Read S (Step Spans)
   quasi_end c tagged x q s =
-      if at m back_quote_kind s then elim (q true) [ None ↦ unexpected | Some t ↦ if tagged || is_cooked t then Ok (finished (record { exprs = x.exprs; quasis = x.quasis ++ t ∷ [] }), past m s) else unexpected ]
+      if at m back_quote_kind s then elim (q true) [ None ↦ unexpected m (past m s) | Some t ↦ if tagged || is_cooked t then Ok (finished (record { exprs = x.exprs; quasis = x.quasis ++ t ∷ [] }), past m s) else unexpected m (past m s) ]
       else (eat m dollar_brace_kind s >>= λ o. inner.expr (with_in c) expression_level o >>= λ e. eat m right_brace_kind e.1 >>= λ r.
-      elim (q false) [ None ↦ unexpected | Some t ↦ if tagged || is_cooked t then Ok (go_on (record { exprs = x.exprs ++ e.0 ∷ []; quasis = x.quasis ++ t ∷ [] }), r) else unexpected ])
+      elim (q false) [ None ↦ unexpected m r | Some t ↦ if tagged || is_cooked t then Ok (go_on (record { exprs = x.exprs ++ e.0 ∷ []; quasis = x.quasis ++ t ∷ [] }), r) else unexpected m r ])
 
   unfoldable pub quasi_step : Code → Bool → Spans → Read S (Step Spans)
   quasi_step c tagged x s = eat m template_kind s >>= λ r. quasi_end c tagged x (quasi (content (input m s)) (first s)) r
@@ -244,7 +244,7 @@ module _ {S : Type 0} (m : Stream S) (inner : Inner S) where
 
   -- the elements of a parenthesis as parameters
   unfoldable pub params_of : List ℕ → Elements → Result (List Tree) Fault
-  params_of commas xs = if xs.comma && last_rests xs.items then unexpected else (to_items false true commas (pack xs.items) >>= λ ps. Ok (unpack ps))
+  params_of commas xs = if xs.comma && last_rests xs.items then unfit else (to_items false true commas (pack xs.items) >>= λ ps. Ok (unpack ps))
 
   -- An arrow goes on with a group: where an assignment may stand, and its elements are parameters.
   abbrev pub heads_params : ℕ → Elements → State S → Bool
@@ -253,10 +253,10 @@ module _ {S : Type 0} (m : Stream S) (inner : Inner S) where
   -- after the `)` of a group: an arrow, or an expression in parentheses
   unfoldable pub group_end : Code → ℕ → State S → State S → Elements → Read S Tree
   group_end c l start open_ xs s =
-      if heads_params l xs s then (params_of s.commas xs >>= λ ps. arrow_by c start false ps s)
-      else (if xs.comma then unexpected else elim (plain_elements xs.items) [
-        | None ↦ unexpected
-        | Some [] ↦ unexpected
+      if heads_params l xs s then (placed (bound m s) (params_of s.commas xs) >>= λ ps. arrow_by c start false ps s)
+      else (if xs.comma then unexpected m s else elim (plain_elements xs.items) [
+        | None ↦ unexpected m s
+        | Some [] ↦ unexpected m s
         | Some (e ∷ es) ↦ Ok (paren_expr (spanned m start s) (joined (e ∷ es) (span (lo (input m open_)) (last_end xs.items))), s)
       ])
 
@@ -274,7 +274,7 @@ module _ {S : Type 0} (m : Stream S) (inner : Inner S) where
   -- `async` and a parenthesis: a call, or an arrow's parameters
   unfoldable pub async_group : Code → ℕ → State S → Read S Tree
   async_group c l start s = elements_by (with_in c) false right_paren_kind (past m s) >>= λ xs.
-      if heads_params l xs.0 xs.1 && not (brk (input m s)) then (params_of xs.1.commas xs.0 >>= λ ps. arrow_by c start true ps xs.1)
+      if heads_params l xs.0 xs.1 && not (brk (input m s)) then (placed (bound m xs.1) (params_of xs.1.commas xs.0) >>= λ ps. arrow_by c start true ps xs.1)
       else Ok (call_expr (spanned m start xs.1) (ident (first start) (text (input m start))) (pack xs.0.items), xs.1)
 
   -- what follows `function`, from the keyword on
@@ -310,7 +310,7 @@ module _ {S : Type 0} (m : Stream S) (inner : Inner S) where
   unfoldable pub new_end : Code → State S → Tree → Read S Tree
   new_end c start f s =
       if at m left_paren_kind s && nat_le member_level (level f) then (arguments_by c (past m s) >>= λ xs. Ok (new_expr (spanned m start xs.1) f (list (pack xs.0)), xs.1))
-      else (if (nat_le member_level (level f) || (level f == new_level)) && nat_lt (goes_expr c other_end (input m s)) call_level then Ok (new_expr (spanned m start s) f absent, s) else unexpected)
+      else (if (nat_le member_level (level f) || (level f == new_level)) && nat_lt (goes_expr c other_end (input m s)) call_level then Ok (new_expr (spanned m start s) f absent, s) else unexpected m s)
 
   -- the callee of `new` (13.3): `async` before a parenthesis is a name here, and never starts a call or an arrow
   unfoldable pub callee_by : Code → Read S Tree
@@ -343,7 +343,7 @@ module _ {S : Type 0} (m : Stream S) (inner : Inner S) where
       eat_word m c import_kind s >>= λ r.
       if at m dot_kind r then (eat_word m c meta_kind (past m r) >>= λ t. Ok (meta_prop_expr (spanned m s t) import_kind, t))
       else (eat m left_paren_kind r >>= λ o. elements_by c false right_paren_kind o >>= λ xs.
-      if fits_import c xs.0 then Ok (call_expr (spanned m s xs.1) (import (first s)) (pack xs.0.items), xs.1) else unexpected)
+      if fits_import c xs.0 then Ok (call_expr (spanned m s xs.1) (import (first s)) (pack xs.0.items), xs.1) else unexpected m xs.1)
 
   unfoldable pub unary_by : Code → Read S Tree
   unary_by c s = eat_word m c (kind (input m s)) s >>= λ r. inner.expr c unary_level r >>= λ e. Ok (unary_expr (spanned m s e.1) (kind (input m s)) e.0, e.1)
@@ -405,7 +405,7 @@ module _ {S : Type 0} (m : Stream S) (inner : Inner S) where
   -- ---- what goes on
 
   unfoldable pub member_name : Bool → Read S Tree
-  member_name may_private s = if at m hash_kind s then (if may_private then private_by s else unexpected) else (any_word m s >>= λ n. Ok (ident_name (first s) n.0, n.1))
+  member_name may_private s = if at m hash_kind s then (if may_private then private_by s else unexpected m s) else (any_word m s >>= λ n. Ok (ident_name (first s) n.0, n.1))
 
   -- a member, or a call, by whether it goes on a chain
   abbrev pub on_chain : Bool → Span → Tree → Tree
@@ -436,7 +436,7 @@ module _ {S : Type 0} (m : Stream S) (inner : Inner S) where
       Ok (cond_expr (spanned m start b.1) t a.0 b.0, b.1)
 
   unfoldable pub assign_by : Code → State S → Tree → Read S Tree
-  assign_by c start t s = to_target (kind (input m s)) s.commas t >>= λ p. inner.expr c assignment_level (past m s) >>= λ e. Ok (assign_expr (spanned m start e.1) (kind (input m s)) p e.0, e.1)
+  assign_by c start t s = placed (bound m s) (to_target (kind (input m s)) s.commas t) >>= λ p. inner.expr c assignment_level (past m s) >>= λ e. Ok (assign_expr (spanned m start e.1) (kind (input m s)) p e.0, e.1)
 
   unfoldable pub binary_by : Code → State S → Tree → Read S Tree
   binary_by c start t s = eat_word m c (kind (input m s)) s >>= λ r. inner.expr c (right_level (kind (input m s))) r >>= λ e. Ok (bin_expr (spanned m start e.1) (kind (input m s)) t e.0, e.1)
@@ -446,16 +446,16 @@ module _ {S : Type 0} (m : Stream S) (inner : Inner S) where
   step_by c start t s =
       if at m comma_kind s then (inner.expr c assignment_level (past m s) >>= λ e. Ok (extended t e.0 (spanned m start e.1), e.1))
       else (if is_assign_op (kind (input m s)) then assign_by c start t s
-      else (if at m question_mark_kind s && (kind2 (input m s) == dot_kind) then (if nat_le call_level (level t) then chain_by c start t (past m (past m s)) else unexpected)
-      else (if at m question_mark_kind s then (if nat_le coalesce_level (level t) then cond_by c start t s else unexpected)
-      else (if operates c (kind (input m s)) then (if fits_left (kind (input m s)) t then binary_by c start t s else unexpected)
-      else (if between plus_plus_kind minus_minus_kind (kind (input m s)) then (if nat_le new_level (level t) && not (brk (input m s)) then Ok (update_expr (spanned m start (past m s)) (kind (input m s)) false t, past m s) else unexpected)
-      else (if not (nat_le call_level (level t)) then unexpected
+      else (if at m question_mark_kind s && (kind2 (input m s) == dot_kind) then (if nat_le call_level (level t) then chain_by c start t (past m (past m s)) else unexpected m s)
+      else (if at m question_mark_kind s then (if nat_le coalesce_level (level t) then cond_by c start t s else unexpected m s)
+      else (if operates c (kind (input m s)) then (if fits_left (kind (input m s)) t then binary_by c start t s else unexpected m s)
+      else (if between plus_plus_kind minus_minus_kind (kind (input m s)) then (if nat_le new_level (level t) && not (brk (input m s)) then Ok (update_expr (spanned m start (past m s)) (kind (input m s)) false t, past m s) else unexpected m s)
+      else (if not (nat_le call_level (level t)) then unexpected m s
       else (if at m left_paren_kind s then call_by c start t s
       else (if at m left_bracket_kind s then index_by c start t s
       else (if at m dot_kind s then member_by c start t s
       else (if at m back_quote_kind s && not (is_chain t) then (template_by c true s >>= λ q. Ok (tagged_tpl (spanned m start q.1) t q.0, q.1))
-      else unexpected))))))))))
+      else unexpected m s))))))))))
 
   unfoldable pub loop_step : Code → ℕ → State S → Tree → Read S (Step Tree)
   loop_step c l start t s =
@@ -466,11 +466,11 @@ module _ {S : Type 0} (m : Stream S) (inner : Inner S) where
   unfoldable pub loop_by : Code → ℕ → State S → Tree → Read S Tree
   loop_by c l start t s =
       if nat_le l (level t) then iterate (bound m) (loop_step c l start) t s
-      else (if (level t == new_level) && (l == member_level) then Ok (t, s) else unexpected)
+      else (if (level t == new_level) && (l == member_level) then Ok (t, s) else unexpected m s)
 
   -- `#x in`, where a relation may stand
   unfoldable pub private_in : Code → ℕ → Read S Tree
-  private_in c l s = private_by s >>= λ p. if at m in_kind p.1 && (has_in c && nat_le l (binary_level in_kind)) then (binary_by c s p.0 p.1 >>= λ t. loop_by c l s t.0 t.1) else unexpected
+  private_in c l s = private_by s >>= λ p. if at m in_kind p.1 && (has_in c && nat_le l (binary_level in_kind)) then (binary_by c s p.0 p.1 >>= λ t. loop_by c l s t.0 t.1) else unexpected m p.1
 
   unfoldable pub expr_from : Code → ℕ → Read S Tree
   expr_from c l s = if at m hash_kind s then private_in c l s else (prefix_by c l s >>= λ t. loop_by c l s t.0 t.1)

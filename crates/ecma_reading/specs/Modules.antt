@@ -7,7 +7,7 @@ use Rattle.ecma_tree.specs.Tree.{Tree, Trees, none, more, pack, script, es_modul
 use Rattle.ecma_syntax.specs.Input.{Code, kind, kind2, brk, content, is_word, in_list, turned_strict}
 use Rattle.ecma_syntax.specs.Operators.{assignment_level, exports_end, source_end, plain_end}
 use Rattle.ecma_syntax.specs.Shape.{ends, is_use_strict, is_directive, is_attributes, is_exportable}
-use Rattle.ecma_reading.specs.Source.{unexpected, ◌>>=◌, Stream, State, Read, input, past, operand, retold, bound, spanned, at, ended, eat, eat_word, name, any_word, end_of, Step, go_on, finished, iterate, Inner}
+use Rattle.ecma_reading.specs.Source.{placed, unexpected, ◌>>=◌, Stream, State, Read, input, past, operand, retold, bound, spanned, at, ended, eat, eat_word, name, any_word, end_of, Step, go_on, finished, iterate, Inner}
 use Rattle.ecma_reading.specs.Expressions.{first, literal_by, object_by, function_expr_by, class_expr_by}
 use Rattle.ecma_reading.specs.Statements.{Body, starts_async, starts_variables}
 
@@ -18,7 +18,7 @@ pub record From : Type 0 where
 
 module _ {S : Type 0} (m : Stream S) (inner : Inner S) where
   unfoldable pub string_by : Read S Tree
-  string_by s = if at m str_kind s then literal_by m inner s else unexpected
+  string_by s = if at m str_kind s then literal_by m inner s else unexpected m s
 
   -- the name of an export: any word, or a string
   unfoldable pub export_name_by : Read S Tree
@@ -28,7 +28,7 @@ module _ {S : Type 0} (m : Stream S) (inner : Inner S) where
   local_by c s = name m c s >>= λ n. Ok (ident (first m inner s) n.0, n.1)
 
   unfoldable pub attributes_by : Code → Read S Tree
-  attributes_by c s = if at m left_brace_kind s then (object_by m inner c s >>= λ o. if is_attributes o.0 then Ok o else unexpected) else unexpected
+  attributes_by c s = if at m left_brace_kind s then (object_by m inner c s >>= λ o. if is_attributes o.0 then Ok o else unexpected m o.1) else unexpected m s
 
   unfoldable pub source_by : Code → Read S From
   source_by c s = string_by s >>= λ f.
@@ -41,7 +41,7 @@ module _ {S : Type 0} (m : Stream S) (inner : Inner S) where
   unfoldable pub named_import : Code → Read S Tree
   named_import c s = export_name_by s >>= λ n.
       if at m as_kind n.1 then (eat_word m c as_kind n.1 >>= λ a. local_by c a >>= λ l. Ok (import_named_specifier (spanned m s l.1) l.0 n.0, l.1))
-      else (local_by c s >>= λ l. Ok (import_named_specifier (spanned m s l.1) l.0 absent, l.1))
+      else (placed (bound m n.1) (local_by c s) >>= λ l. Ok (import_named_specifier (spanned m s l.1) l.0 absent, l.1))
 
   unfoldable pub named_export_item : Code → Read S Tree
   named_export_item c s = export_name_by s >>= λ n.
@@ -108,8 +108,8 @@ module _ {S : Type 0} (m : Stream S) (inner : Inner S) where
       if at m default_kind r then (eat_word m c default_kind r >>= λ d. export_default c s (operand m d))
       else (if at m mul_kind r then export_star c s r
       else (if at m left_brace_kind r then export_list c s r
-      else (if starts_declaration (in_list c) r then (inner.stmt (in_list c) r >>= λ d. if is_exportable d.0 then Ok (export_decl (spanned m s d.1) d.0, d.1) else unexpected)
-      else unexpected)))
+      else (if starts_declaration (in_list c) r then (inner.stmt (in_list c) r >>= λ d. if is_exportable d.0 then Ok (export_decl (spanned m s d.1) d.0, d.1) else unexpected m d.1)
+      else unexpected m r)))
 
   -- ---- programs
 
@@ -119,8 +119,8 @@ module _ {S : Type 0} (m : Stream S) (inner : Inner S) where
 
   unfoldable pub item_by : Bool → Code → Read S Tree
   item_by modules c s =
-      if starts_import s then (if modules then import_decl_by c s else unexpected)
-      else (if at m export_kind s then (if modules then export_by c s else unexpected)
+      if starts_import s then (if modules then import_decl_by c s else unexpected m s)
+      else (if at m export_kind s then (if modules then export_by c s else unexpected m s)
       else inner.stmt c s)
 
   unfoldable pub program_item : Bool → Body → Read S (Step Body)
@@ -144,4 +144,4 @@ module _ {S : Type 0} (m : Stream S) (inner : Inner S) where
 
   unfoldable pub program_by : Bool → Code → Read S Tree
   program_by modules c s =
-      if at m shebang_kind s then elim (line_of (content (input m s))) [ None ↦ unexpected | Some l ↦ program_rest modules c s (Some l) (past m s) ] else program_rest modules c s None s
+      if at m shebang_kind s then elim (line_of (content (input m s))) [ None ↦ unexpected m s | Some l ↦ program_rest modules c s (Some l) (past m s) ] else program_rest modules c s None s

@@ -7,18 +7,25 @@ use Rattle.ecma_tree.specs.Tree.{Tree}
 use Rattle.ecma_syntax.specs.Input.{PlacedToken, Input, Code, span, kind, lo, text, is_word, no_name, barred, others, hi_of}
 use Rattle.ecma_syntax.specs.Operators.{pauses}
 
--- why nothing was read: no tree, or none by calls so deep
+-- Why nothing was read: no tree, or none by calls so deep; and how many tokens may come where that was found.
 pub data Fault : Type 0 where
-  Unexpected : Fault
-  TooDeep : Fault
+  Unexpected : ℕ → Fault
+  TooDeep : ℕ → Fault
 
 infixl 10 ◌>>=◌
 abbrev pub ◌>>=◌ : {A B : Type 0} → Result A Fault → (A → Result B Fault) → Result B Fault
 (Ok x) >>= f = f x
 (Err e) >>= f = Err e
 
-abbrev pub unexpected : {A : Type 0} → Result A Fault
-unexpected = Err Unexpected
+-- a tree that doesn't fit, wherever it stands
+abbrev pub unfit : {A : Type 0} → Result A Fault
+unfit = Err (Unexpected 0)
+
+-- What is answered where so many tokens may come: there a fault is found.
+abbrev pub placed : {A : Type 0} → ℕ → Result A Fault → Result A Fault
+placed n (Ok x) = Ok x
+placed n (Err (Unexpected k)) = Err (Unexpected n)
+placed n (Err (TooDeep k)) = Err (TooDeep n)
 
 -- A stream of tokens: those to come; the stream after the first; the same where an operand may start, so that a slash at its front is read
 -- again as a regular expression; the same in another context, so that what was read ahead is read again; how many tokens may come at most;
@@ -65,6 +72,14 @@ module _ {S : Type 0} (m : Stream S) where
   abbrev pub bound : State S → ℕ
   bound s = m.bound s.source
 
+  -- nothing is read here
+  abbrev pub unexpected : {A : Type 0} → State S → Result A Fault
+  unexpected s = Err (Unexpected (bound s))
+
+  -- what is read here nests too deep
+  abbrev pub too_deep : {A : Type 0} → State S → Result A Fault
+  too_deep s = Err (TooDeep (bound s))
+
   -- from the start of the token at hand in one state to the end of what was consumed before another
   abbrev pub spanned : State S → State S → Span
   spanned s r = span (lo (input s)) (m.last r.source)
@@ -78,25 +93,25 @@ module _ {S : Type 0} (m : Stream S) where
 
   -- a token of a kind
   unfoldable pub eat : ℕ → State S → Result (State S) Fault
-  eat k s = if at k s then Ok (past s) else unexpected
+  eat k s = if at k s then Ok (past s) else unexpected s
 
   -- a word as a word of the grammar
   unfoldable pub eat_word : Code → ℕ → State S → Result (State S) Fault
-  eat_word c k s = if at k s && not (barred c.context (input s)) then Ok (past s) else unexpected
+  eat_word c k s = if at k s && not (barred c.context (input s)) then Ok (past s) else unexpected s
 
   -- a word that is a name here
   abbrev pub is_name : Code → State S → Bool
   is_name c s = is_word (kind (input s)) && (not (no_name c.context (kind (input s))) && not (barred c.context (input s)))
 
   unfoldable pub name : Code → Read S (List ℕ)
-  name c s = if is_name c s then Ok (text (input s), past s) else unexpected
+  name c s = if is_name c s then Ok (text (input s), past s) else unexpected s
 
   unfoldable pub any_word : Read S (List ℕ)
-  any_word s = if is_word (kind (input s)) then Ok (text (input s), past s) else unexpected
+  any_word s = if is_word (kind (input s)) then Ok (text (input s), past s) else unexpected s
 
   -- what ends a statement or a field, whose last part is of a class
   unfoldable pub end_of : Code → ℕ → State S → Result (State S) Fault
-  end_of c e s = if at semicolon_kind s then Ok (past s) else (if pauses c e (input s) then Ok s else unexpected)
+  end_of c e s = if at semicolon_kind s then Ok (past s) else (if pauses c e (input s) then Ok s else unexpected s)
 
 -- ---- going on until a step says that it is done
 
@@ -105,11 +120,11 @@ pub data Step (A : Type 0) : Type 0 where
   finished : A → Step A
 
 abbrev pub next_by : {S A : Type 0} → (State S → ℕ) → (A → Read S A) → ℕ → Step A × State S → Result (A × State S) Fault
-next_by bound again below (go_on x, r) = if nat_lt (bound r) below then again x r else unexpected
+next_by bound again below (go_on x, r) = if nat_lt (bound r) below then again x r else Err (Unexpected (bound r))
 next_by bound again below (finished x, r) = Ok (x, r)
 
 unfoldable pub iterate_n : {S A : Type 0} → (State S → ℕ) → ℕ → (A → Read S (Step A)) → A → Read S A
-iterate_n bound zero step x s = unexpected
+iterate_n bound zero step x s = Err (Unexpected (bound s))
 iterate_n bound (suc n) step x s = step x s >>= next_by bound (iterate_n bound n step) (bound s)
 
 unfoldable pub iterate : {S A : Type 0} → (State S → ℕ) → (A → Read S (Step A)) → A → Read S A

@@ -6,7 +6,7 @@ use Rattle.ecma_tree.specs.Tree.{Tree, none, more, pack, plain_method, block_stm
 use Rattle.ecma_syntax.specs.Input.{Code, kind, kind2, brk, brk2, lo, dots_at, span, rest, barred, is_strict, with_in, without_in, in_list, alone, in_body, in_field, in_static, turned_strict}
 use Rattle.ecma_syntax.specs.Operators.{expression_level, assignment_level, new_level, starts_key, may_name, key_end, plain_end, let_end}
 use Rattle.ecma_syntax.specs.Shape.{ends, is_name, is_absent, is_private, is_structured, is_bare_declarator, is_default_case, is_use_strict, is_directive, is_plain_function, constructs, field_end, declarators_end, is_statement}
-use Rattle.ecma_reading.specs.Source.{unexpected, ◌>>=◌, Stream, State, Read, input, past, operand, retold, bound, spanned, at, eat, eat_word, name, end_of, Step, go_on, finished, iterate, Inner}
+use Rattle.ecma_reading.specs.Source.{placed, unexpected, ◌>>=◌, Stream, State, Read, input, past, operand, retold, bound, spanned, at, eat, eat_word, name, end_of, Step, go_on, finished, iterate, Inner}
 use Rattle.ecma_reading.specs.Cover.{to_head}
 use Rattle.ecma_reading.specs.Expressions.{first, key_by, private_by, star, function_by, setter_parameter, is_async_head}
 
@@ -58,18 +58,19 @@ module _ {S : Type 0} (m : Stream S) (inner : Inner S) where
   unfoldable pub keyed_item : Code → State S → Tree → Read S Tree
   keyed_item c start k s = inner.pat (with_in c) s >>= λ p. initial_pat c s p.0 p.1 >>= λ q. Ok (key_value_pat_prop (spanned m start q.1) k q.0, q.1)
 
-  unfoldable pub named_item : Code → Read S Tree
-  named_item c s = name m c s >>= λ n.
+  -- a key that is a name and stands alone; behind it that is found
+  unfoldable pub named_item : Code → State S → Read S Tree
+  named_item c r s = placed (bound m r) (name m c s) >>= λ n.
       if at m assign_kind n.1 then (inner.expr (with_in c) assignment_level (past m n.1) >>= λ e. Ok (assign_pat_prop (spanned m s e.1) (binding_ident (first m inner s) (ident (first m inner s) n.0)) e.0, e.1))
       else Ok (assign_pat_prop (first m inner s) (binding_ident (first m inner s) (ident (first m inner s) n.0)) absent, n.1)
 
   unfoldable pub pattern_prop : Code → Read S Tree
-  pattern_prop c s = key_by m inner c s >>= λ k. if at m colon_kind k.1 then keyed_item c s k.0 (past m k.1) else named_item c s
+  pattern_prop c s = key_by m inner c s >>= λ k. if at m colon_kind k.1 then keyed_item c s k.0 (past m k.1) else named_item c k.1 s
 
   unfoldable pub object_item : Code → List Tree → Read S (Step (List Tree))
   object_item c xs s =
       if at m right_brace_kind s then Ok (finished xs, past m s)
-      else (if at m dot_dot_dot_kind s then (inner.pat (with_in c) (past m s) >>= λ p. if is_structured p.0 then unexpected else after_item right_brace_kind true (xs ++ rest_pat (spanned m s p.1) (dots_at (lo (input m s))) p.0 ∷ []) p.1)
+      else (if at m dot_dot_dot_kind s then (inner.pat (with_in c) (past m s) >>= λ p. if is_structured p.0 then unexpected m p.1 else after_item right_brace_kind true (xs ++ rest_pat (spanned m s p.1) (dots_at (lo (input m s))) p.0 ∷ []) p.1)
       else (pattern_prop c s >>= λ p. after_item right_brace_kind false (xs ++ p.0 ∷ []) p.1))
 
   unfoldable pub object_pat_by : Code → Read S Tree
@@ -235,7 +236,7 @@ module _ {S : Type 0} (m : Stream S) (inner : Inner S) where
 
   -- a statement as a part of another one; where it may be a plain function, that
   unfoldable pub sub_by : Code → Bool → Read S Tree
-  sub_by c functions s = inner.stmt (alone c) s >>= λ t. if is_statement t.0 || (functions && (not (is_strict c) && is_plain_function t.0)) then Ok t else unexpected
+  sub_by c functions s = inner.stmt (alone c) s >>= λ t. if is_statement t.0 || (functions && (not (is_strict c) && is_plain_function t.0)) then Ok t else unexpected m t.1
 
   unfoldable pub with_by : Code → Read S Tree
   with_by c s = eat_word m c with_kind s >>= λ r. in_parens c r >>= λ e. sub_by c false e.1 >>= λ b. Ok (with_stmt (spanned m s b.1) e.0 b.0, b.1)
@@ -274,7 +275,7 @@ module _ {S : Type 0} (m : Stream S) (inner : Inner S) where
       else (inner.expr c expression_level r >>= λ x. end_of m c (ends x.0) x.1 >>= λ e. Ok (return_stmt (spanned m s e) x.0, e))
 
   unfoldable pub throw_by : Code → Read S Tree
-  throw_by c s = eat_word m c throw_kind s >>= λ r. if brk (input m r) then unexpected else (inner.expr c expression_level r >>= λ x. end_of m c (ends x.0) x.1 >>= λ e. Ok (throw_stmt (spanned m s e) x.0, e))
+  throw_by c s = eat_word m c throw_kind s >>= λ r. if brk (input m r) then unexpected m r else (inner.expr c expression_level r >>= λ x. end_of m c (ends x.0) x.1 >>= λ e. Ok (throw_stmt (spanned m s e) x.0, e))
 
   unfoldable pub label_by : Code → Read S Tree
   label_by c s = if ends_here c s then Ok (absent, s) else (name m c s >>= λ n. Ok (ident (first m inner s) n.0, n.1))
@@ -307,7 +308,7 @@ module _ {S : Type 0} (m : Stream S) (inner : Inner S) where
   unfoldable pub cases_step : Code → List Tree → Read S (Step (List Tree))
   cases_step c xs s =
       if at m right_brace_kind s then Ok (finished xs, past m s)
-      else (case_by c s >>= λ x. if has_default xs && is_default_case x.0 then unexpected else Ok (go_on (xs ++ x.0 ∷ []), x.1))
+      else (case_by c s >>= λ x. if has_default xs && is_default_case x.0 then unexpected m x.1 else Ok (go_on (xs ++ x.0 ∷ []), x.1))
 
   unfoldable pub switch_by : Code → Read S Tree
   switch_by c s = eat_word m c switch_kind s >>= λ r. in_parens c r >>= λ e. eat m left_brace_kind e.1 >>= λ o. iterate (bound m) (cases_step c) [] o >>= λ xs.
@@ -321,7 +322,7 @@ module _ {S : Type 0} (m : Stream S) (inner : Inner S) where
   unfoldable pub finally_by : Code → State S → Tree → Tree → Read S Tree
   finally_by c start b h s =
       if at m finally_kind s && not (barred c.context (input m s)) then (eat_word m c finally_kind s >>= λ r. block_by c r >>= λ f. Ok (try_stmt (spanned m start f.1) b h f.0, f.1))
-      else (if is_absent h then unexpected else Ok (try_stmt (spanned m start s) b h absent, s))
+      else (if is_absent h then unexpected m s else Ok (try_stmt (spanned m start s) b h absent, s))
 
   unfoldable pub try_by : Code → Read S Tree
   try_by c s = eat_word m c try_kind s >>= λ r. block_by c r >>= λ b.
@@ -354,9 +355,9 @@ module _ {S : Type 0} (m : Stream S) (inner : Inner S) where
   -- after what declares: `in`, `of` or `;`
   unfoldable pub head_rest : Code → State S → Bool → List Tree → Tree → Read S Tree
   head_rest c start awaits ds l s =
-      if at m of_kind s then (if one_bare ds then of_rest c start awaits l s else unexpected)
-      else (if awaits then unexpected
-      else (if at m in_kind s then (if one_bare ds then in_rest c start l s else unexpected)
+      if at m of_kind s then (if one_bare ds then of_rest c start awaits l s else unexpected m s)
+      else (if awaits then unexpected m s
+      else (if at m in_kind s then (if one_bare ds then in_rest c start l s else unexpected m s)
       else for_rest c start l s))
 
   unfoldable pub for_variables : Code → State S → Bool → Read S Tree
@@ -368,17 +369,17 @@ module _ {S : Type 0} (m : Stream S) (inner : Inner S) where
   -- after an expression: it is a target before `in` and `of`
   unfoldable pub for_expression_rest : Code → State S → Bool → State S → Tree → Read S Tree
   for_expression_rest c start awaits own e s =
-      if at m of_kind s then (if at m let_kind own || (not awaits && (at m async_kind own && (kind2 (input m own) == of_kind))) then unexpected else (to_head s.commas e >>= λ l. of_rest c start awaits l s))
-      else (if awaits then unexpected
-      else (if at m in_kind s then (to_head s.commas e >>= λ l. in_rest c start l s)
+      if at m of_kind s then (if at m let_kind own || (not awaits && (at m async_kind own && (kind2 (input m own) == of_kind))) then unexpected m s else (placed (bound m s) (to_head s.commas e) >>= λ l. of_rest c start awaits l s))
+      else (if awaits then unexpected m s
+      else (if at m in_kind s then (placed (bound m s) (to_head s.commas e) >>= λ l. in_rest c start l s)
       else for_rest c start e s))
 
   unfoldable pub for_expression : Code → State S → Bool → Read S Tree
-  for_expression c start awaits s = if at m let_kind s && (kind2 (input m s) == left_bracket_kind) then unexpected else (inner.expr (without_in c) expression_level s >>= λ e. for_expression_rest c start awaits s e.0 e.1)
+  for_expression c start awaits s = if at m let_kind s && (kind2 (input m s) == left_bracket_kind) then unexpected m s else (inner.expr (without_in c) expression_level s >>= λ e. for_expression_rest c start awaits s e.0 e.1)
 
   unfoldable pub for_head : Code → State S → Bool → Read S Tree
   for_head c start awaits s =
-      if at m semicolon_kind s then (if awaits then unexpected else for_rest c start absent s)
+      if at m semicolon_kind s then (if awaits then unexpected m s else for_rest c start absent s)
       else (if at m var_kind s || (at m const_kind s || starts_let s) then for_variables c start awaits s
       else (if starts_using c s && not (kind2 (input m s) == of_kind) then for_using c start awaits s false s
       else (if starts_await_using c s && not (kind2 (rest (input m s)) == of_kind) then for_using c start awaits s true (past m s)
@@ -386,7 +387,7 @@ module _ {S : Type 0} (m : Stream S) (inner : Inner S) where
 
   unfoldable pub for_by : Code → Read S Tree
   for_by c s = eat_word m c for_kind s >>= λ r.
-      if at m await_kind r then (if c.context.in_async then (eat_word m c await_kind r >>= λ w. eat m left_paren_kind w >>= λ o. for_head c s true o) else unexpected)
+      if at m await_kind r then (if c.context.in_async then (eat_word m c await_kind r >>= λ w. eat m left_paren_kind w >>= λ o. for_head c s true o) else unexpected m r)
       else (eat m left_paren_kind r >>= λ o. for_head c s false o)
 
   -- ---- any statement
@@ -401,7 +402,7 @@ module _ {S : Type 0} (m : Stream S) (inner : Inner S) where
   -- an expression that starts a statement: a label where it is a name before a colon
   unfoldable pub expression_by : Code → Read S Tree
   expression_by c s =
-      if at m let_kind s && (kind2 (input m s) == left_bracket_kind) then unexpected
+      if at m let_kind s && (kind2 (input m s) == left_bracket_kind) then unexpected m s
       else (inner.expr c expression_level s >>= λ e.
       if is_name e.0 && at m colon_kind e.1 then labelled_by c s e.0 e.1
       else (end_of m c (statement_class c s e.0) e.1 >>= λ r. Ok (expr_stmt (spanned m s r) e.0, r)))
@@ -424,8 +425,8 @@ module _ {S : Type 0} (m : Stream S) (inner : Inner S) where
       else (if at m with_kind s then with_by c s
       else (if at m debugger_kind s then debugger_by c s
       else (if at m function_kind s then function_decl_by c s false s
-      else (if at m class_kind s then (if c.listed then class_decl_by c s else unexpected)
-      else (if starts_async s then (if c.listed then function_decl_by c s true (past m s) else unexpected)
+      else (if at m class_kind s then (if c.listed then class_decl_by c s else unexpected m s)
+      else (if starts_async s then (if c.listed then function_decl_by c s true (past m s) else unexpected m s)
       else (if starts_variables c s then variables_by c s
       else (if c.listed && starts_using c s then using_by c s false s
       else (if c.listed && starts_await_using c s then using_by c s true (past m s)

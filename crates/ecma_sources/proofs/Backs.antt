@@ -6,9 +6,9 @@ use Rattle.ecma_tree.specs.Tree.{Tree}
 use Rattle.ecma_syntax.specs.Input.{PlacedToken, Input, Code, kind, kind_of, others, content_of, lo, hi, hi_of, text, brk, is_word, barred, first_span, span}
 use Rattle.ecma_syntax.specs.Operators.{pauses, closed_end, postfix_end}
 use Rattle.ecma_syntax.specs.Shape.{ends, is_block, is_absent}
-use Rattle.ecma_reading.specs.Source.{is_nil, Fault, ◌>>=◌, unexpected, Stream, State, Read, input, past, operand, retold, at, bound, eat, eat_word, is_name, name, any_word, end_of, Step, go_on, finished, next_by, iterate_n, iterate, Inner}
+use Rattle.ecma_reading.specs.Source.{is_nil, Fault, Unexpected, TooDeep, ◌>>=◌, placed, unexpected, Stream, State, Read, input, past, operand, retold, at, bound, eat, eat_word, is_name, name, any_word, end_of, Step, go_on, finished, next_by, iterate_n, iterate, Inner}
 use Rattle.ecma_sources.specs.Sources.{is_slash, one, two}
-use Rattle.ecma_sources.proofs.Beside.{lm, on, kinded, regexp, slash, Plain}
+use Rattle.ecma_sources.proofs.Beside.{placed_then, lm, on, kinded, regexp, slash, Plain}
 use Rattle.ecma_sources.proofs.Pairs.{edge, edge_by, Keeps, Opens, Blind, BlindTwo, is_param, Loose, Pairing, Paired}
 
 -- the class of what is closed, whatever it is; and of what a token of its own follows
@@ -148,9 +148,9 @@ module _ {S : Type 0} {m : Stream S} {Live : Pairing m} where
   hands_then (Ok b) f h = h b
   hands_then (Err e) f h = record { so = tt }
 
-  pub hands_word : {A : Type 0} {P : A → Type 0} (b : Bool) (x : State S) (f : State S → Result (Step A × State S) Fault) → Hands m Live P (f x) → Hands m Live P (cond b (Ok x) unexpected >>= f)
-  hands_word true x f h = h
-  hands_word false x f h = record { so = tt }
+  pub hands_word : {A : Type 0} {P : A → Type 0} (p : Fault) (b : Bool) (x : State S) (f : State S → Result (Step A × State S) Fault) → Hands m Live P (f x) → Hands m Live P (cond b (Ok x) (Err p) >>= f)
+  hands_word p true x f h = h
+  hands_word p false x f h = record { so = tt }
 
   pub none_join : {s t u : State S} (a : Path m Live s t) (b : Path m Live t u) → a.took + b.took ≡ 0 → (qs : List PlacedToken) → a.back (b.back qs) ≡ qs
   none_join a b e qs = a.none (omega (arith, e)) (b.back qs) ∙ b.none (omega (arith, e)) qs
@@ -237,11 +237,25 @@ module _ {S : Type 0} {m : Stream S} {Live : Pairing m} where
       → Backed m Live E b e s x y → ((a : A) (t : State S) (u : Path m Live s t) → Backed m Live F d (E a) t (g (a, t)) (λ q. f (was m Live u q) (a, q))) → Backed m Live F (b || d) e s (x >>= g) (λ r. y r >>= f r)
   back_then x y g f h n = back_then_by x y g f h (λ a t u i. n a t u)
 
+  -- where faults are found changes nothing of what is read
+  pub back_placed : {A B C : Type 0} {E : A → ℕ} {e : ℕ} {b : Bool} {s : State S} (n : ℕ) (i : State Input → ℕ) (x : Result B Fault) (y : State Input → Result C Fault) (g : B → Result (A × State S) Fault) (f : State Input → C → Result (A × State Input) Fault)
+      → Backed m Live E b e s (x >>= g) (λ r. y r >>= f r) → Backed m Live E b e s (placed n x >>= g) (λ r. placed (i r) (y r) >>= f r)
+  back_placed n i (Err (Unexpected d)) y g f h = record { so = tt }
+  back_placed n i (Err (TooDeep d)) y g f h = record { so = tt }
+  back_placed {A} {E = E} {e} {b} {s} n i (Ok a) y g f h = by_answer (g a) h
+    where
+      by_answer : (x : Result (A × State S) Fault) → Backed m Live E b e s x (λ r. y r >>= f r) → Backed m Live E b e s x (λ r. placed (i r) (y r) >>= f r)
+      by_answer (Err d) h = record { so = tt }
+      by_answer (Ok x) h = record { so = (h.so.0, h.so.1, λ qs a k. let z = h.so.2 qs a k in let r = list_at m Live s (h.so.0.back qs) in (z.0, placed_then (i r) (y r) (f r) z.1)) }
+
   -- what stands on no source
-  pub back_pure : {A B : Type 0} {E : A → ℕ} {e : ℕ} {b : Bool} {s : State S} (x : Result B Fault) (y : State Input → Result B Fault) (g : B → Result (A × State S) Fault) (f : State Input → B → Result (A × State Input) Fault)
-      → ((qs : List PlacedToken) → Live.hands 0 qs s.source → y (list_at m Live s qs) ≡ x) → ((a : B) → Backed m Live E b e s (g a) (λ r. f r a)) → Backed m Live E b e s (x >>= g) (λ r. y r >>= f r)
-  back_pure (Err e) y g f i n = record { so = tt }
-  back_pure {s = s} (Ok a) y g f i n = back_same (g a) (λ r. f r a) (λ r. y r >>= f r) (λ qs h. ap (λ z. z >>= f (list_at m Live s qs)) (i qs h)) (n a)
+  pub back_pure : {A B : Type 0} {E : A → ℕ} {e : ℕ} {b : Bool} {s : State S} (n : ℕ) (j : State Input → ℕ) (x : Result B Fault) (y : State Input → Result B Fault) (g : B → Result (A × State S) Fault) (f : State Input → B → Result (A × State Input) Fault)
+      → ((qs : List PlacedToken) → Live.hands 0 qs s.source → y (list_at m Live s qs) ≡ x) → ((a : B) → Backed m Live E b e s (g a) (λ r. f r a)) → Backed m Live E b e s (placed n x >>= g) (λ r. placed (j r) (y r) >>= f r)
+  back_pure {A} {B} {E} {e} {b} {s} n j x y g f i h = back_placed n j x y g f (by_answer x i)
+    where
+      by_answer : (x : Result B Fault) → ((qs : List PlacedToken) → Live.hands 0 qs s.source → y (list_at m Live s qs) ≡ x) → Backed m Live E b e s (x >>= g) (λ r. y r >>= f r)
+      by_answer (Err e) i = record { so = tt }
+      by_answer (Ok a) i = back_same (g a) (λ r. f r a) (λ r. y r >>= f r) (λ qs k. ap (λ z. z >>= f (list_at m Live s qs)) (i qs k)) (h a)
 
   -- a test
   pub back_test : {A : Type 0} {E : A → ℕ} {e : ℕ} {b : Bool} {s : State S} (c : Bool) (d : State Input → Bool) (x u : Result (A × State S) Fault) (y v : State Input → Result (A × State Input) Fault)
@@ -385,17 +399,17 @@ module _ {S : Type 0} {m : Stream S} {Live : Pairing m} {modular : Bool} (w : Pa
 
   -- ---- a token of a kind
 
-  back_taken : {A : Type 0} {E : A → ℕ} {e : ℕ} {b : Bool} {s : State S} (c : Bool) (d : State Input → Bool) → ((qs : List PlacedToken) → Live.hands 0 qs s.source → d (list_at m Live s qs) ≡ c) → (c ≡ true → Here m Live s)
+  back_taken : {A : Type 0} {E : A → ℕ} {e : ℕ} {b : Bool} {s : State S} (p : Fault) (q : State Input → Fault) (c : Bool) (d : State Input → Bool) → ((qs : List PlacedToken) → Live.hands 0 qs s.source → d (list_at m Live s qs) ≡ c) → (c ≡ true → Here m Live s)
       → (g : State S → Result (A × State S) Fault) (f : State Input → State Input → Result (A × State Input) Fault)
-      → ((j : Here m Live s) → Backed m Live E b closed_end (past m s) (g (past m s)) (λ q. f (was m Live (token j) q) q)) → Backed m Live E true e s (cond c (Ok (past m s)) unexpected >>= g) (λ r. cond (d r) (Ok (past lm r)) unexpected >>= f r)
-  back_taken {s = s} true d z i g f n = back_same (g (past m s)) (λ r. f r (past lm r)) (λ r. cond (d r) (Ok (past lm r)) unexpected >>= f r)
-      (λ qs h. ap (λ z. cond z (Ok (past lm (list_at m Live s qs))) unexpected >>= f (list_at m Live s qs)) (z qs h)) (back_past (i refl) (g (past m s)) f (n (i refl)))
-  back_taken false d z i g f n = record { so = tt }
+      → ((j : Here m Live s) → Backed m Live E b closed_end (past m s) (g (past m s)) (λ q. f (was m Live (token j) q) q)) → Backed m Live E true e s (cond c (Ok (past m s)) (Err p) >>= g) (λ r. cond (d r) (Ok (past lm r)) (Err (q r)) >>= f r)
+  back_taken {s = s} p q true d z i g f n = back_same (g (past m s)) (λ r. f r (past lm r)) (λ r. cond (d r) (Ok (past lm r)) (Err (q r)) >>= f r)
+      (λ qs h. ap (λ z. cond z (Ok (past lm (list_at m Live s qs))) (Err (q (list_at m Live s qs))) >>= f (list_at m Live s qs)) (z qs h)) (back_past (i refl) (g (past m s)) f (n (i refl)))
+  back_taken p q false d z i g f n = record { so = tt }
 
   pub back_eat : {A : Type 0} {E : A → ℕ} {e : ℕ} {b : Bool} {s : State S} (j : ℕ) → Plain j → eqb error_kind j ≡ false → Live.live s.source → (g : State S → Result (A × State S) Fault) (f : State Input → State Input → Result (A × State Input) Fault)
       → ((i : Here m Live s) → Backed m Live E b closed_end (past m s) (g (past m s)) (λ q. f (was m Live (token i) q) q)) → Backed m Live E true e s (eat m j s >>= g) (λ r. eat lm j r >>= f r)
   unfolding eat
-  back_eat {s = s} j e d l g f n = back_taken (at m j s) (λ r. at lm j r) (λ qs h. at_hand j e s l qs h) (λ i. here_at j e d s l i) g f n
+  back_eat {s = s} j e d l g f n = back_taken _ (λ r. Unexpected (bound lm r)) (at m j s) (λ r. at lm j r) (λ qs h. at_hand j e s l qs h) (λ i. here_at j e d s l i) g f n
 
   plain_left : (a b : Bool) → (a && b) ≡ true → a ≡ true
   plain_left true b e = refl
@@ -411,7 +425,7 @@ module _ {S : Type 0} {m : Stream S} {Live : Pairing m} {modular : Bool} (w : Pa
   pub back_word : {A : Type 0} {E : A → ℕ} {e : ℕ} {b : Bool} {s : State S} (c : Code) (j : ℕ) → Plain j → eqb error_kind j ≡ false → Live.live s.source → (g : State S → Result (A × State S) Fault) (f : State Input → State Input → Result (A × State Input) Fault)
       → ((i : Here m Live s) → Backed m Live E b closed_end (past m s) (g (past m s)) (λ q. f (was m Live (token i) q) q)) → Backed m Live E true e s (eat_word m c j s >>= g) (λ r. eat_word lm c j r >>= f r)
   unfolding eat_word
-  back_word {s = s} c j e d l g f n = back_taken (at m j s && not (barred c.context (input m s))) (λ r. at lm j r && not (barred c.context (input lm r))) (λ qs h. word_test j c.context e s l qs h)
+  back_word {s = s} c j e d l g f n = back_taken _ (λ r. Unexpected (bound lm r)) (at m j s && not (barred c.context (input m s))) (λ r. at lm j r && not (barred c.context (input lm r))) (λ qs h. word_test j c.context e s l qs h)
       (λ i. here_at j e d s l (plain_left (at m j s) (not (barred c.context (input m s))) i)) g f n
 
   -- a word that is any
@@ -423,7 +437,7 @@ module _ {S : Type 0} {m : Stream S} {Live : Pairing m} {modular : Bool} (w : Pa
       own : List PlacedToken → Bool
       own z = at lm (kind (input lm (on [] 0 z))) (on [] 0 z) && not (barred c.context (input lm (on [] 0 z)))
 
-      by_answer : (x : Result (A × State S) Fault) → own (j.place ∷ j.shown) ≡ true → Backed m Live E b closed_end (past m s) x (λ q. f (was m Live (token j) q) q) → Backed m Live E true e s x (λ r. cond (own r.source.places) (Ok (past lm r)) unexpected >>= f r)
+      by_answer : (x : Result (A × State S) Fault) → own (j.place ∷ j.shown) ≡ true → Backed m Live E b closed_end (past m s) x (λ q. f (was m Live (token j) q) q) → Backed m Live E true e s x (λ r. cond (own r.source.places) (Ok (past lm r)) (unexpected lm r) >>= f r)
       by_answer (Err d) i k = record { so = tt }
       by_answer (Ok x) i k = record {
         so = (
@@ -431,13 +445,13 @@ module _ {S : Type 0} {m : Stream S} {Live : Pairing m} {modular : Bool} (w : Pa
           λ o. (omega arith, λ qs. j.fine),
           λ qs o a. (
             shown_good j e (k.so.0.back qs) (k.so.0.hands qs o),
-            ap (λ z. cond z (Ok (past lm (list_at m Live s (j.place ∷ k.so.0.back qs)))) unexpected >>= f (list_at m Live s (j.place ∷ k.so.0.back qs))) i
+            ap (λ z. cond z (Ok (past lm (list_at m Live s (j.place ∷ k.so.0.back qs)))) (unexpected lm (list_at m Live s (j.place ∷ k.so.0.back qs))) >>= f (list_at m Live s (j.place ∷ k.so.0.back qs))) i
                 ∙ (ap (λ z. f (list_at m Live s (j.place ∷ k.so.0.back qs)) z) (past_is j (k.so.0.back qs)) ∙ (k.so.2 qs o a).1),
           ),
         );
       }
 
-      by_test : (t : Bool) → own (j.place ∷ j.shown) ≡ t → Backed m Live E true e s (cond t (Ok (past m s)) unexpected >>= g) (λ r. cond (own r.source.places) (Ok (past lm r)) unexpected >>= f r)
+      by_test : (t : Bool) → own (j.place ∷ j.shown) ≡ t → Backed m Live E true e s (cond t (Ok (past m s)) (unexpected m s) >>= g) (λ r. cond (own r.source.places) (Ok (past lm r)) (unexpected lm r) >>= f r)
       by_test false i = record { so = tt }
       by_test true i = by_answer (g (past m s)) i n
 
@@ -450,20 +464,20 @@ module _ {S : Type 0} {m : Stream S} {Live : Pairing m} {modular : Bool} (w : Pa
       own : List PlacedToken → Bool
       own z = at lm (kind (input lm (on [] 0 z))) (on [] 0 z) && not (barred c.context (input lm (on [] 0 z)))
 
-      by_test : (t : Bool) → own (j.place ∷ j.shown) ≡ t → Backed m Live E b e (past m s) (cond t (Ok (past m s)) unexpected >>= g) (λ q. cond (own (j.place ∷ q.source.places)) (Ok (past lm (was m Live (token j) q))) unexpected >>= f q)
+      by_test : (t : Bool) → own (j.place ∷ j.shown) ≡ t → Backed m Live E b e (past m s) (cond t (Ok (past m s)) (unexpected m s) >>= g) (λ q. cond (own (j.place ∷ q.source.places)) (Ok (past lm (was m Live (token j) q))) (unexpected lm (was m Live (token j) q)) >>= f q)
       by_test false i = record { so = tt }
-      by_test true i = back_same (g (past m s)) (λ q. f q q) (λ q. cond (own (j.place ∷ q.source.places)) (Ok (past lm (was m Live (token j) q))) unexpected >>= f q)
-          (λ qs h. let q = list_at m Live (past m s) qs in ap (λ z. cond z (Ok (past lm (was m Live (token j) q))) unexpected >>= f q) i ∙ ap (λ z. f q z) (past_is j qs)) n
+      by_test true i = back_same (g (past m s)) (λ q. f q q) (λ q. cond (own (j.place ∷ q.source.places)) (Ok (past lm (was m Live (token j) q))) (unexpected lm (was m Live (token j) q)) >>= f q)
+          (λ qs h. let q = list_at m Live (past m s) qs in ap (λ z. cond z (Ok (past lm (was m Live (token j) q))) (unexpected lm (was m Live (token j) q)) >>= f q) i ∙ ap (λ z. f q z) (past_is j qs)) n
 
   -- a name, and any word
-  back_named : {A B : Type 0} {E : A → ℕ} {e : ℕ} {b : Bool} {s : State S} (c : Bool) (d : State Input → Bool) → ((qs : List PlacedToken) → Live.hands 0 qs s.source → d (list_at m Live s qs) ≡ c) → (c ≡ true → Here m Live s) → (v : List PlacedToken → B) → ((p : PlacedToken) (l u : List PlacedToken) → v (p ∷ l) ≡ v (p ∷ u))
+  back_named : {A B : Type 0} {E : A → ℕ} {e : ℕ} {b : Bool} {s : State S} (p : Fault) (q : State Input → Fault) (c : Bool) (d : State Input → Bool) → ((qs : List PlacedToken) → Live.hands 0 qs s.source → d (list_at m Live s qs) ≡ c) → (c ≡ true → Here m Live s) → (v : List PlacedToken → B) → ((p : PlacedToken) (l u : List PlacedToken) → v (p ∷ l) ≡ v (p ∷ u))
       → (g : B × State S → Result (A × State S) Fault) (f : State Input → B × State Input → Result (A × State Input) Fault)
       → ((n : B) (j : Here m Live s) → Backed m Live E b closed_end (past m s) (g (n, past m s)) (λ q. f (was m Live (token j) q) (n, q)))
-      → Backed m Live E true e s (cond c (Ok (v (m.seen s.source), past m s)) unexpected >>= g) (λ r. cond (d r) (Ok (v r.source.places, past lm r)) unexpected >>= f r)
-  back_named false d z i v o g f n = record { so = tt }
-  back_named {A} {B} {E} {e} {b} {s} true d a1 i v o g f n = by_answer (i refl) (g (v (m.seen s.source), past m s)) (n (v (m.seen s.source)) (i refl))
+      → Backed m Live E true e s (cond c (Ok (v (m.seen s.source), past m s)) (Err p) >>= g) (λ r. cond (d r) (Ok (v r.source.places, past lm r)) (Err (q r)) >>= f r)
+  back_named p q false d z i v o g f n = record { so = tt }
+  back_named {A} {B} {E} {e} {b} {s} p q0 true d a1 i v o g f n = by_answer (i refl) (g (v (m.seen s.source), past m s)) (n (v (m.seen s.source)) (i refl))
     where
-      by_answer : (j : Here m Live s) (x : Result (A × State S) Fault) → Backed m Live E b closed_end (past m s) x (λ q. f (was m Live (token j) q) (v (m.seen s.source), q)) → Backed m Live E true e s x (λ r. cond (d r) (Ok (v r.source.places, past lm r)) unexpected >>= f r)
+      by_answer : (j : Here m Live s) (x : Result (A × State S) Fault) → Backed m Live E b closed_end (past m s) x (λ q. f (was m Live (token j) q) (v (m.seen s.source), q)) → Backed m Live E true e s x (λ r. cond (d r) (Ok (v r.source.places, past lm r)) (Err (q0 r)) >>= f r)
       by_answer j (Err z) k = record { so = tt }
       by_answer j (Ok x) k = record {
         so = (
@@ -471,7 +485,7 @@ module _ {S : Type 0} {m : Stream S} {Live : Pairing m} {modular : Bool} (w : Pa
           λ a. (omega arith, λ qs. j.fine),
           λ qs a z1. let l = k.so.0.back qs in let r = list_at m Live s (j.place ∷ l) in (
             shown_good j e l (k.so.0.hands qs a),
-            ap (λ z. cond z (Ok (v (j.place ∷ l), past lm r)) unexpected >>= f r) (a1 (j.place ∷ l) ((token j).hands l (k.so.0.hands qs a)))
+            ap (λ z. cond z (Ok (v (j.place ∷ l), past lm r)) (Err (q0 r)) >>= f r) (a1 (j.place ∷ l) ((token j).hands l (k.so.0.hands qs a)))
                 ∙ (ap (λ (z : B). f r (z, past lm r)) (o j.place l j.shown ∙ ap v (sym j.seen)) ∙ (ap (λ z. f r (v (m.seen s.source), z)) (past_is j l) ∙ (k.so.2 qs a z1).1)),
           ),
         );
@@ -480,13 +494,13 @@ module _ {S : Type 0} {m : Stream S} {Live : Pairing m} {modular : Bool} (w : Pa
   pub back_name : {A : Type 0} {E : A → ℕ} {e : ℕ} {b : Bool} {s : State S} (c : Code) → Live.live s.source → (g : List ℕ × State S → Result (A × State S) Fault) (f : State Input → List ℕ × State Input → Result (A × State Input) Fault)
       → ((n : List ℕ) (j : Here m Live s) → Backed m Live E b closed_end (past m s) (g (n, past m s)) (λ q. f (was m Live (token j) q) (n, q))) → Backed m Live E true e s (name m c s >>= g) (λ r. name lm c r >>= f r)
   unfolding name
-  back_name {s = s} c l g f n = back_named (is_name m c s) (λ r. is_name lm c r) (λ qs h. agrees (λ z. is_name lm c (on [] 0 z)) (λ p q l v. refl, λ p q l v. refl, λ p l v. refl) s l qs h) (λ i. here_by (λ z. is_name lm c (on [] 0 z)) (refl, λ p v. refl) s l i)
+  back_name {s = s} c l g f n = back_named _ (λ r. Unexpected (bound lm r)) (is_name m c s) (λ r. is_name lm c r) (λ qs h. agrees (λ z. is_name lm c (on [] 0 z)) (λ p q l v. refl, λ p q l v. refl, λ p l v. refl) s l qs h) (λ i. here_by (λ z. is_name lm c (on [] 0 z)) (refl, λ p v. refl) s l i)
       (λ z. text (record { last = 0; places = z })) (λ p l u. refl) g f n
 
   pub back_any : {A : Type 0} {E : A → ℕ} {e : ℕ} {b : Bool} {s : State S} → Live.live s.source → (g : List ℕ × State S → Result (A × State S) Fault) (f : State Input → List ℕ × State Input → Result (A × State Input) Fault)
       → ((n : List ℕ) (j : Here m Live s) → Backed m Live E b closed_end (past m s) (g (n, past m s)) (λ q. f (was m Live (token j) q) (n, q))) → Backed m Live E true e s (any_word m s >>= g) (λ r. any_word lm r >>= f r)
   unfolding any_word
-  back_any {s = s} l g f n = back_named (is_word (kind (input m s))) (λ r. is_word (kind (input lm r))) (λ qs h. agrees (λ z. is_word (kind_of z)) (λ p q l v. refl, λ p q l v. refl, λ p l v. refl) s l qs h) (λ i. here_by (λ z. is_word (kind_of z)) (refl, λ p v. refl) s l i)
+  back_any {s = s} l g f n = back_named _ (λ r. Unexpected (bound lm r)) (is_word (kind (input m s))) (λ r. is_word (kind (input lm r))) (λ qs h. agrees (λ z. is_word (kind_of z)) (λ p q l v. refl, λ p q l v. refl, λ p l v. refl) s l qs h) (λ i. here_by (λ z. is_word (kind_of z)) (refl, λ p v. refl) s l i)
       (λ z. text (record { last = 0; places = z })) (λ p l u. refl) g f n
 
   -- the name that was taken just now, read again
@@ -502,13 +516,17 @@ module _ {S : Type 0} {m : Stream S} {Live : Pairing m} {modular : Bool} (w : Pa
       words z = text (record { last = 0; places = z })
 
       by_answer : (x : Result (A × State S) Fault) → named (j.place ∷ j.shown) ≡ true → Backed m Live E b e (past m s) x (λ q. f q (words (m.seen s.source), q))
-          → Backed m Live E b e (past m s) x (λ q. cond (named (j.place ∷ q.source.places)) (Ok (words (j.place ∷ q.source.places), past lm (was m Live (token j) q))) unexpected >>= f q)
-      by_answer x i k = back_same x (λ q. f q (words (m.seen s.source), q)) (λ q. cond (named (j.place ∷ q.source.places)) (Ok (words (j.place ∷ q.source.places), past lm (was m Live (token j) q))) unexpected >>= f q)
-          (λ qs h. let q = list_at m Live (past m s) qs in ap (λ z. cond z (Ok (words (j.place ∷ qs), past lm (was m Live (token j) q))) unexpected >>= f q) i ∙ (ap (λ z. f q (words (j.place ∷ qs), z)) (past_is j qs) ∙ ap (λ z. f q (z, q)) (ap words (sym j.seen)))) k
+          → Backed m Live E b e (past m s) x (λ q. cond (named (j.place ∷ q.source.places)) (Ok (words (j.place ∷ q.source.places), past lm (was m Live (token j) q))) (unexpected lm (was m Live (token j) q)) >>= f q)
+      by_answer x i k = back_same x (λ q. f q (words (m.seen s.source), q)) (λ q. cond (named (j.place ∷ q.source.places)) (Ok (words (j.place ∷ q.source.places), past lm (was m Live (token j) q))) (unexpected lm (was m Live (token j) q)) >>= f q)
+          (λ qs h. let q = list_at m Live (past m s) qs in ap (λ z. cond z (Ok (words (j.place ∷ qs), past lm (was m Live (token j) q))) (unexpected lm (was m Live (token j) q)) >>= f q) i ∙ (ap (λ z. f q (words (j.place ∷ qs), z)) (past_is j qs) ∙ ap (λ z. f q (z, q)) (ap words (sym j.seen)))) k
 
-      by_test : (t : Bool) → named (j.place ∷ j.shown) ≡ t → Backed m Live E b e (past m s) (cond t (Ok (text (input m s), past m s)) unexpected >>= g) (λ q. cond (named (j.place ∷ q.source.places)) (Ok (words (j.place ∷ q.source.places), past lm (was m Live (token j) q))) unexpected >>= f q)
+      by_test : (t : Bool) → named (j.place ∷ j.shown) ≡ t → Backed m Live E b e (past m s) (cond t (Ok (text (input m s), past m s)) (unexpected m s) >>= g) (λ q. cond (named (j.place ∷ q.source.places)) (Ok (words (j.place ∷ q.source.places), past lm (was m Live (token j) q))) (unexpected lm (was m Live (token j) q)) >>= f q)
       by_test false i = record { so = tt }
       by_test true i = by_answer (g (text (input m s), past m s)) i (n (text (input m s)))
+
+  pub back_again_of : {A : Type 0} {E : A → ℕ} {e : ℕ} {b : Bool} {s : State S} (a : ℕ) (i : State Input → ℕ) (c : Code) (j : Here m Live s) (g : List ℕ × State S → Result (A × State S) Fault) (f : State Input → List ℕ × State Input → Result (A × State Input) Fault)
+      → ((n : List ℕ) → Backed m Live E b e (past m s) (g (n, past m s)) (λ q. f q (n, q))) → Backed m Live E b e (past m s) (placed a (name m c s) >>= g) (λ q. placed (i q) (name lm c (was m Live (token j) q)) >>= f q)
+  back_again_of {s = s} a i c j g f n = back_placed a i (name m c s) (λ q. name lm c (was m Live (token j) q)) g f (back_again c j g f n)
 
   -- ---- tests of tokens that stand further behind
 
@@ -596,15 +614,15 @@ module _ {S : Type 0} {m : Stream S} {Live : Pairing m} {modular : Bool} (w : Pa
   bides_end {A} {E} {i} {b} {s} {Q} c e l np q g f n = by_semicolon (at m semicolon_kind s) (λ i. here_at semicolon_kind (refl, refl, refl, refl) refl s l i) (λ i. q i) (λ qs h. at_hand semicolon_kind (refl, refl, refl, refl) s l qs h)
     where
       by_pause : (t : Bool) → pauses c e (input m s) ≡ t → (t ≡ true → (qs : List PlacedToken) → Live.hands 0 qs s.source → Q qs) → ((qs : List PlacedToken) → Live.hands 0 qs s.source → pauses c e (input lm (list_at m Live s qs)) ≡ t) → ((qs : List PlacedToken) → Live.hands 0 qs s.source → at lm semicolon_kind (list_at m Live s qs) ≡ false)
-          → Bides m Live 1 Q E false i s (cond t (Ok s) unexpected >>= g) (λ r. cond (at lm semicolon_kind r) (Ok (past lm r)) (cond (pauses c e (input lm r)) (Ok r) unexpected) >>= f r)
+          → Bides m Live 1 Q E false i s (cond t (Ok s) (unexpected m s) >>= g) (λ r. cond (at lm semicolon_kind r) (Ok (past lm r)) (cond (pauses c e (input lm r)) (Ok r) (unexpected lm r)) >>= f r)
       by_pause false a k z o = record { so = tt }
-      by_pause true a k z o = bides_all (g s) _ (k refl) (back_start closed_end i (g s) (λ qs y. let z = w.stops c e qs s.source l y a in (λ o. z.0 (np o), λ o. z.1)) (back_same (g s) (λ r. f (was m Live (stay l) r) r) (λ r. cond (at lm semicolon_kind r) (Ok (past lm r)) (cond (pauses c e (input lm r)) (Ok r) unexpected) >>= f r)
-          (λ qs h. let r = list_at m Live s qs in ap (λ z. cond z (Ok (past lm r)) (cond (pauses c e (input lm r)) (Ok r) unexpected) >>= f r) (o qs h) ∙ ap (λ z. cond z (Ok r) unexpected >>= f r) (z qs h)) (back_weak (g s) (n s (stay l)))))
+      by_pause true a k z o = bides_all (g s) _ (k refl) (back_start closed_end i (g s) (λ qs y. let z = w.stops c e qs s.source l y a in (λ o. z.0 (np o), λ o. z.1)) (back_same (g s) (λ r. f (was m Live (stay l) r) r) (λ r. cond (at lm semicolon_kind r) (Ok (past lm r)) (cond (pauses c e (input lm r)) (Ok r) (unexpected lm r)) >>= f r)
+          (λ qs h. let r = list_at m Live s qs in ap (λ z. cond z (Ok (past lm r)) (cond (pauses c e (input lm r)) (Ok r) (unexpected lm r)) >>= f r) (o qs h) ∙ ap (λ z. cond z (Ok r) (unexpected lm r) >>= f r) (z qs h)) (back_weak (g s) (n s (stay l)))))
 
       by_semicolon : (t : Bool) → (t ≡ true → Here m Live s) → (t ≡ false → pauses c e (input m s) ≡ true → (qs : List PlacedToken) → Live.hands 0 qs s.source → Q qs) → ((qs : List PlacedToken) → Live.hands 0 qs s.source → at lm semicolon_kind (list_at m Live s qs) ≡ t)
-          → Bides m Live 1 Q E false i s (cond t (Ok (past m s)) (cond (pauses c e (input m s)) (Ok s) unexpected) >>= g) (λ r. cond (at lm semicolon_kind r) (Ok (past lm r)) (cond (pauses c e (input lm r)) (Ok r) unexpected) >>= f r)
-      by_semicolon true j k z = bides_weak (g (past m s)) _ (bides_one (g (past m s)) _ (back_same (g (past m s)) (λ r. f r (past lm r)) (λ r. cond (at lm semicolon_kind r) (Ok (past lm r)) (cond (pauses c e (input lm r)) (Ok r) unexpected) >>= f r)
-          (λ qs h. let r = list_at m Live s qs in ap (λ z. cond z (Ok (past lm r)) (cond (pauses c e (input lm r)) (Ok r) unexpected) >>= f r) (z qs h)) (back_past (j refl) (g (past m s)) f (n (past m s) (token (j refl))))))
+          → Bides m Live 1 Q E false i s (cond t (Ok (past m s)) (cond (pauses c e (input m s)) (Ok s) (unexpected m s)) >>= g) (λ r. cond (at lm semicolon_kind r) (Ok (past lm r)) (cond (pauses c e (input lm r)) (Ok r) (unexpected lm r)) >>= f r)
+      by_semicolon true j k z = bides_weak (g (past m s)) _ (bides_one (g (past m s)) _ (back_same (g (past m s)) (λ r. f r (past lm r)) (λ r. cond (at lm semicolon_kind r) (Ok (past lm r)) (cond (pauses c e (input lm r)) (Ok r) (unexpected lm r)) >>= f r)
+          (λ qs h. let r = list_at m Live s qs in ap (λ z. cond z (Ok (past lm r)) (cond (pauses c e (input lm r)) (Ok r) (unexpected lm r)) >>= f r) (z qs h)) (back_past (j refl) (g (past m s)) f (n (past m s) (token (j refl))))))
       by_semicolon false j k z = by_pause (pauses c e (input m s)) refl (k refl) (λ qs h. w.pause c e qs s.source l h) z
 
   -- what ends a statement
@@ -617,10 +635,10 @@ module _ {S : Type 0} {m : Stream S} {Live : Pairing m} {modular : Bool} (w : Pa
   back_end {A} {E} {i} {b} {s} c e l np g f n = bides_back _ _ (bides_end {Q = λ z. Unit {0}} c e l np (λ a b qs h. tt) g f n)
 
   -- where a test fails after which nothing is read
-  pub back_only : {A : Type 0} {E : A → ℕ} {e : ℕ} {s : State S} (c : Bool) (d : State Input → Bool) (a : A) (f : State Input → A) → Live.live s.source → ((qs : List PlacedToken) → Live.hands 0 qs s.source → Good m Live (E a) s qs → d (list_at m Live s qs) ≡ c) → ((qs : List PlacedToken) → Live.hands 0 qs s.source → f (list_at m Live s qs) ≡ a) → Keeps e (E a)
-      → Backed m Live E false e s (cond c (Ok (a, s)) unexpected) (λ r. cond (d r) (Ok (f r, r)) unexpected)
-  back_only false d a f l g i k = record { so = tt }
-  back_only {E = E} {e = e} {s = s} true d a f l g i k = record { so = (stay l, λ o. absurd (true≢false (sym o)), λ qs h z. (kept Live s e (E a) qs k z, ap (λ b. cond b (Ok (f (list_at m Live s qs), list_at m Live s qs)) unexpected) (g qs h z) ∙ ap (λ v. Ok (v, list_at m Live s qs)) (i qs h))) }
+  pub back_only : {A : Type 0} {E : A → ℕ} {e : ℕ} {s : State S} (p : Fault) (q : State Input → Fault) (c : Bool) (d : State Input → Bool) (a : A) (f : State Input → A) → Live.live s.source → ((qs : List PlacedToken) → Live.hands 0 qs s.source → Good m Live (E a) s qs → d (list_at m Live s qs) ≡ c) → ((qs : List PlacedToken) → Live.hands 0 qs s.source → f (list_at m Live s qs) ≡ a) → Keeps e (E a)
+      → Backed m Live E false e s (cond c (Ok (a, s)) (Err p)) (λ r. cond (d r) (Ok (f r, r)) (Err (q r)))
+  back_only p q false d a f l g i k = record { so = tt }
+  back_only {E = E} {e = e} {s = s} p q true d a f l g i k = record { so = (stay l, λ o. absurd (true≢false (sym o)), λ qs h z. (kept Live s e (E a) qs k z, ap (λ b. cond b (Ok (f (list_at m Live s qs), list_at m Live s qs)) (Err (q (list_at m Live s qs)))) (g qs h z) ∙ ap (λ v. Ok (v, list_at m Live s qs)) (i qs h))) }
 
   -- ---- loops
 
@@ -635,7 +653,7 @@ module _ {S : Type 0} {m : Stream S} {Live : Pairing m} {modular : Bool} (w : Pa
     turns_of p x i r = iterate_n (bound lm) i (f (was m Live p r)) x r
 
     by_guard : (j : ℕ) (x : A) (s t : State S) (p : Path m Live start s) (z : A) (k : Backed m Live E true (E (go_on x)) s (Ok (go_on z, t)) (λ r. f (was m Live p r) x r)) (b : Bool) → RunsBy (E (go_on z)) t (iterate_n (bound m) j g z t) (turns_of (join p k.so.0) z)
-        → RunsBy (E (go_on x)) s (cond b (iterate_n (bound m) j g z t) unexpected) (turns_of p x)
+        → RunsBy (E (go_on x)) s (cond b (iterate_n (bound m) j g z t) (unexpected m t)) (turns_of p x)
     unfolding iterate_n
     by_guard j x s t p z k false n = tt
     by_guard j x s t p z k true n = by_rest (iterate_n (bound m) j g z t) n
@@ -647,7 +665,7 @@ module _ {S : Type 0} {m : Stream S} {Live : Pairing m} {modular : Bool} (w : Pa
             enough : (qs : List PlacedToken) → Live.hands 0 qs v.1.source → Good m Live (E (finished v.0)) v.1 qs → (i : ℕ) → length (k.so.0.back (o.0.back qs)) < i → turns_of p x i (list_at m Live s (k.so.0.back (o.0.back qs))) ≡ Ok (v.0, list_at m Live v.1 qs)
             enough qs a y zero e = absurd (omega (arith, e))
             enough qs a y (suc i) e = let q = o.0.back qs in let fr = f (list_at m Live start (p.back (k.so.0.back q))) in ap (λ y. y >>= next_by (bound lm) (iterate_n (bound lm) i fr) (bound lm (list_at m Live s (k.so.0.back q)))) (k.so.2 q (o.0.hands qs a) (o.2 qs a y).0).1
-                ∙ (ap (λ b. cond b (iterate_n (bound lm) i fr z (list_at m Live t q)) unexpected) (lt-ltb (length q) (length (k.so.0.back q)) (omega (arith, k.so.0.longer q, (k.so.1 refl).0)))
+                ∙ (ap (λ b. cond b (iterate_n (bound lm) i fr z (list_at m Live t q)) (unexpected lm (list_at m Live t q))) (lt-ltb (length q) (length (k.so.0.back q)) (omega (arith, k.so.0.longer q, (k.so.1 refl).0)))
                 ∙ (o.2 qs a y).1 i (omega (arith, e, k.so.0.longer q, (k.so.1 refl).0)))
 
     runs : (j : ℕ) (x : A) (s : State S) (p : Path m Live start s) → P x → RunsBy (E (go_on x)) s (iterate_n (bound m) j g x s) (turns_of p x)

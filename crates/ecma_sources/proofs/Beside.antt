@@ -8,8 +8,8 @@ use Rattle.ecma_tree.specs.Tree.{Tree, param, rest_pat, function}
 use Rattle.ecma_syntax.specs.Input.{PlacedToken, Input, Code, kind, kind_of, others, content, content_of, lo, hi, text, is_word, barred, first_span, span}
 use Rattle.ecma_syntax.specs.Shape.{is_default_case}
 use Rattle.ecma_syntax.specs.Operators.{assignment_level, binary_level, goes_expr, pauses, closed_end, other_end}
-use Rattle.ecma_reading.specs.Source.{Fault, ◌>>=◌, unexpected, Stream, list_stream, State, Read, input, past, operand, retold, at, bound, spanned, eat, eat_word, is_name, name, any_word, end_of, Step, go_on, finished, next_by, iterate_n, iterate, Inner}
-use Rattle.ecma_reading.specs.Expressions.{is_rest_param, pattern_of, quasi}
+use Rattle.ecma_reading.specs.Source.{Fault, Unexpected, TooDeep, ◌>>=◌, placed, unexpected, Stream, list_stream, State, Read, input, past, operand, retold, at, bound, spanned, eat, eat_word, is_name, name, any_word, end_of, Step, go_on, finished, next_by, iterate_n, iterate, Inner}
+use Rattle.ecma_reading.specs.Expressions.{is_read, is_rest_param, pattern_of, quasi}
 use Rattle.ecma_reading.specs.Statements.{constructor_of, has_default, one_bare}
 use Rattle.ecma_reading.specs.Modules.{line_of}
 use Rattle.ecma_sources.specs.Sources.{is_slash, Rereads, one, two, HandsOut, Orderly}
@@ -20,6 +20,11 @@ lm = list_stream
 -- a state before a list
 abbrev pub on : List ℕ → ℕ → List PlacedToken → State Input
 on o n l = record { source = record { last = n; places = l }; commas = o }
+
+-- what is read with what follows is read wherever faults are found
+pub placed_then : {A B : Type 0} {v : B} (n : ℕ) (x : Result A Fault) (f : A → Result B Fault) → (x >>= f) ≡ Ok v → (placed n x >>= f) ≡ Ok v
+placed_then n (Ok x) f e = e
+placed_then n (Err d) f e = absurd (true≢false (sym (ap (λ z. is_read z) e)))
 
 -- How much the bound has fallen since some stand, against the tokens that were taken since: as much, or more.
 pub record Ceiling : Type 0 where
@@ -324,23 +329,36 @@ module _ {S : Type 0} {m : Stream S} {Live : S → Type 0} {modular : Bool} (w :
       → (Joined m Live k s r → Told m Live k y x) → Told m Live k v u → Told m Live k (cond (at lm j r) y v) (cond (at m j s) x u)
   told_at k j e s r h y v x u f g = told_if k (at lm j r) (at m j s) (at_same j e k s r h) y v x u (λ i. f (joined_at j e k s r h i)) (λ i. g)
 
+  -- where faults are found changes nothing of what is read
+  pub told_placed : {A B C : Type 0} (n i : ℕ) (k : Ceiling) (y : Result B Fault) (x : Result C Fault) (f : B → Result (A × State Input) Fault) (g : C → Result (A × State S) Fault) → Told m Live k (y >>= f) (x >>= g) → Told m Live k (placed n y >>= f) (placed i x >>= g)
+  told_placed {A} {B} {C} n i k (Ok b) x f g h = by_answer (f b) h
+    where
+      by_answer : (y : Result (A × State Input) Fault) → Told m Live k y (x >>= g) → Told m Live k y (placed i x >>= g)
+      by_answer (Ok y) h = record { so = (h.so.0, placed_then i x g h.so.1, h.so.2) }
+      by_answer (Err d) h = record { so = tt }
+  told_placed n i k (Err (Unexpected d)) x f g h = record { so = tt }
+  told_placed n i k (Err (TooDeep d)) x f g h = record { so = tt }
+
   -- what stands on no source
-  pub told_pure : {A B : Type 0} (k : Ceiling) (y x : Result B Fault) → y ≡ x → (f : B → Result (A × State Input) Fault) (g : B → Result (A × State S) Fault) → ((b : B) → Told m Live k (f b) (g b)) → Told m Live k (y >>= f) (x >>= g)
-  told_pure k (Ok b) x e f g h = subst (λ z. Told m Live k (f b) (z >>= g)) e (h b)
-  told_pure k (Err d) x e f g h = record { so = tt }
+  pub told_pure : {A B : Type 0} (n i : ℕ) (k : Ceiling) (y x : Result B Fault) → y ≡ x → (f : B → Result (A × State Input) Fault) (g : B → Result (A × State S) Fault) → ((b : B) → Told m Live k (f b) (g b)) → Told m Live k (placed n y >>= f) (placed i x >>= g)
+  told_pure {A} {B} n i k y x e f g h = told_placed n i k y x f g (by_answer y x e)
+    where
+      by_answer : (y x : Result B Fault) → y ≡ x → Told m Live k (y >>= f) (x >>= g)
+      by_answer (Ok b) x e = subst (λ z. Told m Live k (f b) (z >>= g)) e (h b)
+      by_answer (Err d) x e = record { so = tt }
 
   -- ---- tokens
 
-  taken : {A : Type 0} (k : Ceiling) (b d : Bool) → b ≡ d → (s : State S) (r : State Input) (f : State Input → Result (A × State Input) Fault) (g : State S → Result (A × State S) Fault)
-      → (b ≡ true → Told m Live k (f r) (g s)) → Told m Live k (cond b (Ok r) unexpected >>= f) (cond d (Ok s) unexpected >>= g)
-  taken k true true e s r f g h = h refl
-  taken k false d e s r f g h = record { so = tt }
-  taken k true false e s r f g h = absurd (true≢false e)
+  taken : {A : Type 0} (p q : Fault) (k : Ceiling) (b d : Bool) → b ≡ d → (s : State S) (r : State Input) (f : State Input → Result (A × State Input) Fault) (g : State S → Result (A × State S) Fault)
+      → (b ≡ true → Told m Live k (f r) (g s)) → Told m Live k (cond b (Ok r) (Err p) >>= f) (cond d (Ok s) (Err q) >>= g)
+  taken p q k true true e s r f g h = h refl
+  taken p q k false d e s r f g h = record { so = tt }
+  taken p q k true false e s r f g h = absurd (true≢false e)
 
   pub told_eat : {A : Type 0} (k : Ceiling) (j : ℕ) → Plain j → (s : State S) (r : State Input) → Beside m Live k s r → (f : State Input → Result (A × State Input) Fault) (g : State S → Result (A × State S) Fault)
       → (Joined m Live k s r → Told m Live k (f (past lm r)) (g (past m s))) → Told m Live k (eat lm j r >>= f) (eat m j s >>= g)
   unfolding eat
-  told_eat k j e s r h f g n = taken k (at lm j r) (at m j s) (at_same j e k s r h) (past m s) (past lm r) f g (λ i. n (joined_at j e k s r h i))
+  told_eat k j e s r h f g n = taken _ _ k (at lm j r) (at m j s) (at_same j e k s r h) (past m s) (past lm r) f g (λ i. n (joined_at j e k s r h i))
 
   word_test : (j : ℕ) (x : Context) → Plain j → (k : Ceiling) (s : State S) (r : State Input) → Beside m Live k s r → (at lm j r && not (barred x (input lm r))) ≡ (at m j s && not (barred x (input m s)))
   word_test j x e k s r h = agree1 (λ z. at lm j (on [] 0 z) && not (barred x (input lm (on [] 0 z))))
@@ -351,7 +369,7 @@ module _ {S : Type 0} {m : Stream S} {Live : S → Type 0} {modular : Bool} (w :
   pub told_word : {A : Type 0} (k : Ceiling) (c : Code) (j : ℕ) → Plain j → (s : State S) (r : State Input) → Beside m Live k s r → (f : State Input → Result (A × State Input) Fault) (g : State S → Result (A × State S) Fault)
       → (Joined m Live k s r → Told m Live k (f (past lm r)) (g (past m s))) → Told m Live k (eat_word lm c j r >>= f) (eat_word m c j s >>= g)
   unfolding eat_word
-  told_word k c j e s r h f g n = taken k (at lm j r && not (barred c.context (input lm r))) (at m j s && not (barred c.context (input m s))) (word_test j c.context e k s r h) (past m s) (past lm r) f g
+  told_word k c j e s r h f g n = taken _ _ k (at lm j r && not (barred c.context (input lm r))) (at m j s && not (barred c.context (input m s))) (word_test j c.context e k s r h) (past m s) (past lm r) f g
       (λ i. n (joined_at j e k s r h (and_left (at lm j r) (not (barred c.context (input lm r))) i)))
 
   -- a word that is any
@@ -361,13 +379,13 @@ module _ {S : Type 0} {m : Stream S} {Live : S → Type 0} {modular : Bool} (w :
   pub told_own : {A : Type 0} (k : Ceiling) (c : Code) (s : State S) (r : State Input) → Joined m Live k s r → (f : State Input → Result (A × State Input) Fault) (g : State S → Result (A × State S) Fault)
       → Told m Live k (f (past lm r)) (g (past m s)) → Told m Live k (eat_word lm c (kind (input lm r)) r >>= f) (eat_word m c (kind (input m s)) s >>= g)
   unfolding eat_word
-  told_own k c s r j f g n = taken k _ _ (own_test c.context k s r j) (past m s) (past lm r) f g (λ i. n)
+  told_own k c s r j f g n = taken _ _ k _ _ (own_test c.context k s r j) (past m s) (past lm r) f g (λ i. n)
 
-  named : {A B : Type 0} (k : Ceiling) (b d : Bool) → b ≡ d → (x y : B) → (b ≡ true → x ≡ y) → (s : State S) (r : State Input) (f : B × State Input → Result (A × State Input) Fault) (g : B × State S → Result (A × State S) Fault)
-      → (b ≡ true → Told m Live k (f (x, r)) (g (x, s))) → Told m Live k (cond b (Ok (x, r)) unexpected >>= f) (cond d (Ok (y, s)) unexpected >>= g)
-  named k true true e x y i s r f g h = subst (λ z. Told m Live k (f (x, r)) (g (z, s))) (i refl) (h refl)
-  named k false d e x y i s r f g h = record { so = tt }
-  named k true false e x y i s r f g h = absurd (true≢false e)
+  named : {A B : Type 0} (p q : Fault) (k : Ceiling) (b d : Bool) → b ≡ d → (x y : B) → (b ≡ true → x ≡ y) → (s : State S) (r : State Input) (f : B × State Input → Result (A × State Input) Fault) (g : B × State S → Result (A × State S) Fault)
+      → (b ≡ true → Told m Live k (f (x, r)) (g (x, s))) → Told m Live k (cond b (Ok (x, r)) (Err p) >>= f) (cond d (Ok (y, s)) (Err q) >>= g)
+  named p q k true true e x y i s r f g h = subst (λ z. Told m Live k (f (x, r)) (g (z, s))) (i refl) (h refl)
+  named p q k false d e x y i s r f g h = record { so = tt }
+  named p q k true false e x y i s r f g h = absurd (true≢false e)
 
   pub is_name_same : (c : Code) (k : Ceiling) (s : State S) (r : State Input) → Beside m Live k s r → is_name lm c r ≡ is_name m c s
   is_name_same c k s r h = agree1 (λ z. is_name lm c (on [] 0 z)) (λ p q l v. refl) (λ p q l v. refl) (λ p l v. refl) k s r h
@@ -381,8 +399,12 @@ module _ {S : Type 0} {m : Stream S} {Live : S → Type 0} {modular : Bool} (w :
   pub told_name : {A : Type 0} (k : Ceiling) (c : Code) (s : State S) (r : State Input) → Beside m Live k s r → (f : List ℕ × State Input → Result (A × State Input) Fault) (g : List ℕ × State S → Result (A × State S) Fault)
       → ((n : List ℕ) → Joined m Live k s r → Told m Live k (f (n, past lm r)) (g (n, past m s))) → Told m Live k (name lm c r >>= f) (name m c s >>= g)
   unfolding name
-  told_name k c s r h f g n = named k (is_name lm c r) (is_name m c s) (is_name_same c k s r h) (text (input lm r)) (text (input m s)) (λ i. text_as k s r (joined_name c k s r h i)) (past m s) (past lm r) f g
+  told_name k c s r h f g n = named _ _ k (is_name lm c r) (is_name m c s) (is_name_same c k s r h) (text (input lm r)) (text (input m s)) (λ i. text_as k s r (joined_name c k s r h i)) (past m s) (past lm r) f g
       (λ i. n (text (input lm r)) (joined_name c k s r h i))
+
+  pub told_name_of : {A : Type 0} (a b : ℕ) (k : Ceiling) (c : Code) (s : State S) (r : State Input) → Beside m Live k s r → (f : List ℕ × State Input → Result (A × State Input) Fault) (g : List ℕ × State S → Result (A × State S) Fault)
+      → ((n : List ℕ) → Joined m Live k s r → Told m Live k (f (n, past lm r)) (g (n, past m s))) → Told m Live k (placed a (name lm c r) >>= f) (placed b (name m c s) >>= g)
+  told_name_of a b k c s r h f g n = told_placed a b k (name lm c r) (name m c s) f g (told_name k c s r h f g n)
 
   pub is_word_same : (k : Ceiling) (s : State S) (r : State Input) → Beside m Live k s r → is_word (kind (input lm r)) ≡ is_word (kind (input m s))
   is_word_same k s r h = kind_same is_word refl refl k s r h
@@ -390,7 +412,7 @@ module _ {S : Type 0} {m : Stream S} {Live : S → Type 0} {modular : Bool} (w :
   pub told_any : {A : Type 0} (k : Ceiling) (s : State S) (r : State Input) → Beside m Live k s r → (f : List ℕ × State Input → Result (A × State Input) Fault) (g : List ℕ × State S → Result (A × State S) Fault)
       → ((n : List ℕ) → Joined m Live k s r → Told m Live k (f (n, past lm r)) (g (n, past m s))) → Told m Live k (any_word lm r >>= f) (any_word m s >>= g)
   unfolding any_word
-  told_any k s r h f g n = named k (is_word (kind (input lm r))) (is_word (kind (input m s))) (is_word_same k s r h) (text (input lm r)) (text (input m s)) (λ i. text_as k s r (joined_word k s r h i)) (past m s) (past lm r) f g
+  told_any k s r h f g n = named _ _ k (is_word (kind (input lm r))) (is_word (kind (input m s))) (is_word_same k s r h) (text (input lm r)) (text (input m s)) (λ i. text_as k s r (joined_word k s r h i)) (past m s) (past lm r) f g
       (λ i. n (text (input lm r)) (joined_word k s r h i))
 
   -- ---- what ends a statement
@@ -417,9 +439,9 @@ module _ {S : Type 0} {m : Stream S} {Live : S → Type 0} {modular : Bool} (w :
       (by_test (at lm semicolon_kind r) (at m semicolon_kind s) (at_same semicolon_kind (refl, refl, refl, refl) k s r h) (λ y. joined_at semicolon_kind (refl, refl, refl, refl) k s r h y) (pauses c e (input lm r)) (pauses c e (input m s)) (pauses_same c e k s r h))
     where
       by_test : (a b : Bool) → a ≡ b → (a ≡ true → Joined m Live k s r) → (x y : Bool) → x ≡ y
-          → Told m Live k (cond a (Ok (past lm r)) (cond x (Ok r) unexpected) >>= f) (cond b (Ok (past m s)) (cond y (Ok s) unexpected) >>= g)
+          → Told m Live k (cond a (Ok (past lm r)) (cond x (Ok r) (unexpected lm r)) >>= f) (cond b (Ok (past m s)) (cond y (Ok s) (unexpected m s)) >>= g)
       by_test true true i j x y e = n _ _ (j refl).after
-      by_test false false i j x y e = taken k x y e s r f g (λ i. n s r h)
+      by_test false false i j x y e = taken _ _ k x y e s r f g (λ i. n s r h)
       by_test true false i j x y e = absurd (true≢false i)
       by_test false true i j x y e = absurd (true≢false (sym i))
 
@@ -437,9 +459,9 @@ module _ {S : Type 0} {m : Stream S} {Live : S → Type 0} {modular : Bool} (w :
 
   module _ {A : Type 0} (P : A → Type 0) (f : A → Read Input (Step A)) (g : A → Read S (Step A)) (h : (k : Ceiling) (x : A) (s : State S) (r : State Input) → P x → Beside m Live k s r → Told m Live k (f x r) (g x s)) (keeps : (x : A) (r : State Input) → P x → Keeps P (f x r)) where
     again : (i j : ℕ) (k : Ceiling) (n : ℕ) (b : Bool) (z : A) (t : State S) (q : State Input) → (b ≡ true → (nat_lt (m.bound t.source) n ≡ true) × Told m Live k (iterate_n (bound lm) i f z q) (iterate_n (bound m) j g z t))
-        → Told m Live k (cond b (iterate_n (bound lm) i f z q) unexpected) (cond (nat_lt (m.bound t.source) n) (iterate_n (bound m) j g z t) unexpected)
+        → Told m Live k (cond b (iterate_n (bound lm) i f z q) (unexpected lm q)) (cond (nat_lt (m.bound t.source) n) (iterate_n (bound m) j g z t) (unexpected m t))
     again i j k n false z t q h = record { so = tt }
-    again i j k n true z t q h = subst (λ (b : Bool). Told m Live k (iterate_n (bound lm) i f z q) (cond b (iterate_n (bound m) j g z t) unexpected)) (sym (h refl).0) (h refl).1
+    again i j k n true z t q h = subst (λ (b : Bool). Told m Live k (iterate_n (bound lm) i f z q) (cond b (iterate_n (bound m) j g z t) (unexpected m t))) (sym (h refl).0) (h refl).1
 
     -- after a turn, where the turns that follow are known
     by_next : (i j : ℕ) (k : Ceiling) (s : State S) (r : State Input) → Beside m Live k s r → m.bound s.source < suc j

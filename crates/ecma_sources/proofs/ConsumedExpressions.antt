@@ -7,7 +7,7 @@ use Rattle.ecma_tree.specs.Tree.{Tree, param, rest_pat, none, pack, ident_name, 
 use Rattle.ecma_syntax.specs.Input.{PlacedToken, Input, Code, kind, kind_of, content, content_of, lo, hi, text, is_word, barred, first_span, span, kind2, brk, dots_at, has_in, with_in, in_list, by, in_body, in_arrow, turned_strict}
 use Rattle.ecma_syntax.specs.Shape.{level, ends, fits_left, is_chain, is_cooked, is_absent}
 use Rattle.ecma_syntax.specs.Operators.{assignment_level, binary_level, goes_expr, closed_end, postfix_end, other_end, expression_level, coalesce_level, unary_level, new_level, call_level, member_level, right_level, is_assign_op, operates, between}
-use Rattle.ecma_reading.specs.Source.{Fault, ◌>>=◌, unexpected, Stream, State, input, past, operand, at, bound, spanned, eat, eat_word, is_name, name, Step, go_on, finished, iterate, Inner, Unexpected}
+use Rattle.ecma_reading.specs.Source.{Fault, ◌>>=◌, placed, unexpected, Stream, State, input, past, operand, at, bound, spanned, eat, eat_word, is_name, name, Step, go_on, finished, iterate, Inner, Unexpected}
 use Rattle.ecma_reading.specs.Expressions.{is_rest_param, pattern_of, quasi, Elements, Spans, literal, joined, extended, is_read, last_end, plain_elements, no_elements, is_unary, first, literal_by, element_by, after_element, element_step, elements_by, noted, array_by, computed_by, key_by, private_by, parameter_by, parameter_step, parameters_by, function_by, setter_parameter, is_accessor, is_async_head, star, method_prop_by, getter_by, setter_by, prop_rest, prop_by, prop_step, object_by, quasi_end, quasi_step, template_by, arrows_at, arrow_by, params_of, heads_params, group_end, group_by, ident_end, arguments_by, async_group, function_expr_name, function_expr_by, is_async_param, async_by, class_expr_by, new_end, callee_by, new_by, super_end, fits_import, import_by, unary_by, update_by, await_by, ends_yield, yield_end, yield_by, word_by, fixed, keyword_by, prefix_by, member_name, on_chain, member_by, index_by, call_tree, call_by, chain_by, cond_by, assign_by, binary_by, step_by, loop_step, loop_by, private_in, expr_from, expr_by}
 use Rattle.ecma_reading.specs.Cover.{last_rests, to_target}
 use Rattle.ecma_syntax.specs.Input.{no_name}
@@ -18,7 +18,7 @@ use Rattle.ecma_sources.specs.Ahead.{ends_async, last_async}
 use Rattle.ecma_sources.proofs.Pairs.{edge_by, edge, Keeps, is_param, Pairing, Paired}
 use Rattle.ecma_syntax.specs.Shape.{is_block}
 use Rattle.ecma_syntax.specs.Shape.{last_ends}
-use Rattle.ecma_sources.proofs.Backs.{closed, calm, back_closed, back_then_by, shut_keeps, same_keeps, Bides, bides_one, bides_weak, bides_test, bides_back, bides_stay, back_only, back_two, agrees_two, agrees_was_two, at_hand, Good, shown_good, list_at, Here, Path, was, Took, Backed, Steps, join, stay, took_join, back_never, back_ok, back_weak, back_same, back_then, back_pure, back_test, step_all, step_test, live_past, token, took_token, back_past, back_noted, agrees, agrees_was, here_by, here_at, back_if, back_at, back_eat, back_word, back_own, back_name, back_any, back_again, back_iterate, lo_was, has_was, hi_was, first_was, kind_was, content_was, text_was, brk_was, at_was, past_is, back_took, agrees_plain, here_second, back_own_again, back_past_again, back_operand, Echoed}
+use Rattle.ecma_sources.proofs.Backs.{closed, calm, back_closed, back_then_by, shut_keeps, same_keeps, Bides, bides_one, bides_weak, bides_test, bides_back, bides_stay, back_only, back_two, agrees_two, agrees_was_two, at_hand, Good, shown_good, list_at, Here, Path, was, Took, Backed, Steps, join, stay, took_join, back_never, back_ok, back_weak, back_same, back_then, back_pure, back_test, step_all, step_test, live_past, token, took_token, back_past, back_noted, agrees, agrees_was, here_by, here_at, back_if, back_at, back_eat, back_word, back_own, back_name, back_any, back_again_of, back_iterate, lo_was, has_was, hi_was, first_was, kind_was, content_was, text_was, brk_was, at_was, past_is, back_took, agrees_plain, here_second, back_own_again, back_past_again, back_operand, Echoed}
 
 module _ {S : Type 0} {m : Stream S} {Live : Pairing m} {modular : Bool} (w : Paired m Live modular) {il : Inner Input} {im : Inner S} (echo : Echoed m Live modular il im) where
   no_literal : (c : Content) (p : Span) → literal error_kind c p ≡ None
@@ -34,21 +34,21 @@ module _ {S : Type 0} {m : Stream S} {Live : Pairing m} {modular : Bool} (w : Pa
 
   -- a literal is the token that comes
   literal_took : {E : Tree → ℕ} {e : ℕ} (s : State S) → Live.live s.source → (b : List PlacedToken → Bool) → ((p : PlacedToken) (l v : List PlacedToken) → b (p ∷ l) ≡ b (p ∷ v))
-      → Backed m Live {A = Tree} E true e s (cond (b (m.seen s.source)) unexpected (literal_by m im s)) (λ r. cond (b r.source.places) unexpected (literal_by lm il r))
+      → Backed m Live {A = Tree} E true e s (cond (b (m.seen s.source)) (unexpected m s) (literal_by m im s)) (λ r. cond (b r.source.places) (unexpected lm r) (literal_by lm il r))
   unfolding literal_by is_literal no_literal
   literal_took {E} {e} s l b f = by_test (b (m.seen s.source)) refl (found (m.seen s.source)) refl
     where
       found : List PlacedToken → Option Tree
       found z = literal (kind_of z) (content_of z) (first_span (record { last = m.last s.source; places = z }))
 
-      answer : {T : Type 0} → T → Option Tree → Result (Tree × T) Fault
-      answer z t = elim t [ None ↦ unexpected | Some t ↦ Ok (t, z) ]
+      answer : {T : Type 0} → ℕ → T → Option Tree → Result (Tree × T) Fault
+      answer n z t = elim t [ None ↦ Err (Unexpected n) | Some t ↦ Ok (t, z) ]
 
-      by_here : (t : Tree) → b (m.seen s.source) ≡ false → found (m.seen s.source) ≡ Some t → Here m Live s → Backed m Live {A = Tree} E true e s (Ok (t, past m s)) (λ r. cond (b r.source.places) unexpected (literal_by lm il r))
-      by_here t i e j = back_took w j t (λ r. cond (b r.source.places) unexpected (literal_by lm il r)) (λ qs. let r = list_at m Live s (j.place ∷ qs) in
-          ap (λ z. cond z unexpected (literal_by lm il r)) (f j.place qs j.shown ∙ (ap b (sym j.seen) ∙ i)) ∙ ap (λ z. answer (past lm r) z) (ap found (sym j.seen) ∙ e))
+      by_here : (t : Tree) → b (m.seen s.source) ≡ false → found (m.seen s.source) ≡ Some t → Here m Live s → Backed m Live {A = Tree} E true e s (Ok (t, past m s)) (λ r. cond (b r.source.places) (unexpected lm r) (literal_by lm il r))
+      by_here t i e j = back_took w j t (λ r. cond (b r.source.places) (unexpected lm r) (literal_by lm il r)) (λ qs. let r = list_at m Live s (j.place ∷ qs) in
+          ap (λ z. cond z (unexpected lm r) (literal_by lm il r)) (f j.place qs j.shown ∙ (ap b (sym j.seen) ∙ i)) ∙ ap (λ z. answer (bound lm r) (past lm r) z) (ap found (sym j.seen) ∙ e))
 
-      by_test : (c : Bool) → b (m.seen s.source) ≡ c → (t : Option Tree) → found (m.seen s.source) ≡ t → Backed m Live {A = Tree} E true e s (cond c unexpected (answer (past m s) t)) (λ r. cond (b r.source.places) unexpected (literal_by lm il r))
+      by_test : (c : Bool) → b (m.seen s.source) ≡ c → (t : Option Tree) → found (m.seen s.source) ≡ t → Backed m Live {A = Tree} E true e s (cond c (unexpected m s) (answer (bound m s) (past m s) t)) (λ r. cond (b r.source.places) (unexpected lm r) (literal_by lm il r))
       by_test true i t e = back_never
       by_test false i None e = back_never
       by_test false i (Some t) e = by_here t i e (here_by w (λ z. is_literal (found z)) (refl, λ p v. ap is_literal (no_literal p.spot.token.content (span p.spot.lo p.spot.hi))) s l (ap is_literal e))
@@ -134,13 +134,13 @@ module _ {S : Type 0} {m : Stream S} {Live : Pairing m} {modular : Bool} (w : Pa
   -- a key that is a word
   pub key_word : {T : Type 0} (x : Stream T) (i : Inner T) (c : Code) (s : State T) → is_word (kind (input x s)) ≡ true → key_by x i c s ≡ Ok (ident_name (first x i s) (text (input x s)), past x s)
   unfolding key_by
-  key_word x i c s e = ap (λ (b : Bool). cond b (computed_by x i c assignment_level s) (cond (is_word (kind (input x s))) (Ok (ident_name (first x i s) (text (input x s)), past x s)) (cond (at x regex_kind s) unexpected (literal_by x i s)))) (word_off (x.seen s.source) e)
-      ∙ ap (λ (b : Bool). cond b (Ok (ident_name (first x i s) (text (input x s)), past x s)) (cond (at x regex_kind s) unexpected (literal_by x i s))) e
+  key_word x i c s e = ap (λ (b : Bool). cond b (computed_by x i c assignment_level s) (cond (is_word (kind (input x s))) (Ok (ident_name (first x i s) (text (input x s)), past x s)) (cond (at x regex_kind s) (unexpected x s) (literal_by x i s)))) (word_off (x.seen s.source) e)
+      ∙ ap (λ (b : Bool). cond b (Ok (ident_name (first x i s) (text (input x s)), past x s)) (cond (at x regex_kind s) (unexpected x s) (literal_by x i s))) e
 
   -- what is no word is no name
-  pub unnamed : {T A : Type 0} (x : Stream T) (c : Code) (s : State T) (g : List ℕ × State T → Result (A × State T) Fault) → is_word (kind (input x s)) ≡ false → (name x c s >>= g) ≡ Err Unexpected
+  pub unnamed : {T : Type 0} (x : Stream T) (c : Code) (s : State T) → is_word (kind (input x s)) ≡ false → name x c s ≡ unexpected x s
   unfolding name
-  unnamed x c s g e = ap (λ (b : Bool). (cond (b && (not (no_name c.context (kind (input x s))) && not (barred c.context (input x s)))) (Ok (text (input x s), past x s)) unexpected) >>= g) e
+  unnamed x c s e = ap (λ (b : Bool). cond (b && (not (no_name c.context (kind (input x s))) && not (barred c.context (input x s)))) (Ok (text (input x s), past x s)) (unexpected x s)) e
 
   -- a key, and what follows it; or where it is a name, the name again
   pub key_then : {A : Type 0} {F : A → ℕ} {e : ℕ} (c : Code) (ce : c.context.module_ ≡ modular) (s : State S) → Live.live s.source → (g : Tree × State S → Result (A × State S) Fault) (f : State Input → Tree × State Input → Result (A × State Input) Fault)
@@ -169,14 +169,14 @@ module _ {S : Type 0} {m : Stream S} {Live : Pairing m} {modular : Bool} (w : Pa
       by_word true y1 = subst (λ z. Backed m Live F true e s (z >>= g) (λ r. key_by lm il c r >>= f r)) (sym (key_word m im c s y1))
           (named (here_by w (λ z. is_word (kind_of z)) (refl, λ p v. refl) s l y1) y1 _ refl (g (ident_name (first m im s) (text (input m s)), past m s)) refl)
 
-  pub back_unnamed : {A : Type 0} {E : A → ℕ} {e : ℕ} {b : Bool} {t : State S} {y : State Input → Result (A × State Input) Fault} (c : Code) (s : State S) (g : List ℕ × State S → Result (A × State S) Fault) → is_word (kind (input m s)) ≡ false → Backed m Live E b e t (name m c s >>= g) y
-  back_unnamed {A} {E} {e} {b} {t} {y} c s g i = subst (λ z. Backed m Live E b e t z y) (sym (unnamed m c s g i)) back_never
+  pub back_unnamed : {A : Type 0} {E : A → ℕ} {e : ℕ} {b : Bool} {t : State S} {y : State Input → Result (A × State Input) Fault} (n : ℕ) (c : Code) (s : State S) (g : List ℕ × State S → Result (A × State S) Fault) → is_word (kind (input m s)) ≡ false → Backed m Live E b e t (placed n (name m c s) >>= g) y
+  back_unnamed {A} {E} {e} {b} {t} {y} n c s g i = subst (λ z. Backed m Live E b e t (placed n z >>= g) y) (sym (unnamed m c s i)) back_never
 
   -- a property after what may stand before it
   pub prop_key : {e : ℕ} (s : State S) (c : Code) (ce : c.context.module_ ≡ modular) (sl' : Live.live s.source) → Backed m Live calm true e s (key_by m im c s >>= λ k. prop_rest m im c s k.0 k.1) (λ r'. key_by lm il c r' >>= λ k. prop_rest lm il c r' k.0 k.1)
   unfolding prop_rest
-  prop_key s c ce sl' = key_then c ce s sl' _ _ (λ j k. back_at w {s = (past m s)} colon_kind (refl, refl, refl, refl) refl (live_past w j) _ _ _ _ (λ j1. back_weak _ (back_past w {s = (past m s)} j1 _ (λ r' q'. (il.expr (with_in c) assignment_level q' >>= λ v. Ok (key_value_prop (spanned lm (was m Live (token w j) r') v.1) k v.0, v.1))) (back_then _ _ _ _ (echo.expr (with_in c) ce assignment_level (past m (past m s)) (live_past w j1)) (λ v2a v2s v2u. back_ok {s = v2s} _ _ v2u.live (λ qs' h'. ap (λ (z' : ℕ). key_value_prop ((span z' (m.last v2s.source))) k v2a) (lo_was w (join (join (token w j) (token w j1)) v2u) qs' h')) ((λ i'. refl), (λ i'. refl)))))) (back_at w {s = (past m s)} left_paren_kind (refl, refl, refl, refl) refl (live_past w j) _ _ _ _ (λ j4. back_weak _ (back_then _ _ _ _ (back_same _ (λ r'. function_by lm il c ((lo (input m s))) false false r') (λ r'. function_by lm il c (lo (input lm (was m Live (token w j) r'))) false false r') (λ qs' h'. ap (λ (z' : ℕ). function_by lm il c (z') false false (list_at m Live (past m s) qs')) (lo_was w (token w j) qs' h')) (function_by_backed (past m s) c ce (lo (input m s)) false false (live_past w j))) (λ f5a f5s f5u. back_ok {s = f5s} _ _ f5u.live (λ qs' h'. ap (λ (z' : ℕ). method_prop ((span z' (m.last f5s.source))) k f5a) (lo_was w (join (token w j) f5u) qs' h')) ((λ i'. absurd (true≢false i')), (λ i'. absurd (true≢false i')))))) (back_again w {s = s} c j _ _ (λ n7. back_at w {s = (past m s)} assign_kind (refl, refl, refl, refl) refl (live_past w j) _ _ _ _ (λ j8. back_weak _ (back_past w {s = (past m s)} j8 _ (λ r' q'. (il.expr (with_in c) assignment_level q' >>= λ e. Ok (assign_prop (spanned lm (was m Live (token w j) r') e.1) (ident (first lm il (was m Live (token w j) r')) n7) e.0, e.1))) (back_then _ _ _ _ (echo.expr (with_in c) ce assignment_level (past m (past m s)) (live_past w j8)) (λ e9a e9s e9u. back_ok {s = e9s} _ _ e9u.live (λ qs' h'. ap (λ (z' : ℕ). assign_prop ((span z' (m.last e9s.source))) (ident ((first lm il (was m Live (join (join (token w j) (token w j8)) e9u) (list_at m Live e9s qs')))) n7) e9a) (lo_was w (join (join (token w j) (token w j8)) e9u) qs' h') ∙ (ap (λ (z' : Span). assign_prop ((spanned m s e9s)) (ident (z') n7) e9a) (first_was w (join (join (token w j) (token w j8)) e9u) (took_join (join (token w j) (token w j8)) e9u (took_join (token w j) (token w j8) (took_token w j))) qs' h'))) ((λ i'. refl), (λ i'. refl)))))) (back_ok {s = (past m s)} _ _ (live_past w j) (λ qs' h'. ap (λ (z' : Span). ident (z') n7) (first_was w (token w j) (took_token w j) qs' h')) ((λ i'. absurd (true≢false i')), (λ i'. absurd (true≢false i'))))))))
-      (λ ne k r ru. back_weak _ (back_at w {s = r} colon_kind (refl, refl, refl, refl) refl ru.live _ _ _ _ (λ j11. back_past w {s = r} j11 _ (λ r' q'. (il.expr (with_in c) assignment_level q' >>= λ v. Ok (key_value_prop (spanned lm (was m Live ru r') v.1) k v.0, v.1))) (back_then _ _ _ _ (echo.expr (with_in c) ce assignment_level (past m r) (live_past w j11)) (λ v12a v12s v12u. back_ok {s = v12s} _ _ v12u.live (λ qs' h'. ap (λ (z' : ℕ). key_value_prop ((span z' (m.last v12s.source))) k v12a) (lo_was w (join (join ru (token w j11)) v12u) qs' h')) ((λ i'. refl), (λ i'. refl))))) (back_at w {s = r} left_paren_kind (refl, refl, refl, refl) refl ru.live _ _ _ _ (λ j14. back_then _ _ _ _ (back_same _ (λ r'. function_by lm il c ((lo (input m s))) false false r') (λ r'. function_by lm il c (lo (input lm (was m Live ru r'))) false false r') (λ qs' h'. ap (λ (z' : ℕ). function_by lm il c (z') false false (list_at m Live r qs')) (lo_was w ru qs' h')) (function_by_backed r c ce (lo (input m s)) false false ru.live)) (λ f15a f15s f15u. back_ok {s = f15s} _ _ f15u.live (λ qs' h'. ap (λ (z' : ℕ). method_prop ((span z' (m.last f15s.source))) k f15a) (lo_was w (join ru f15u) qs' h')) ((λ i'. absurd (true≢false i')), (λ i'. absurd (true≢false i'))))) (back_unnamed c s _ ne))))
+  prop_key s c ce sl' = key_then c ce s sl' _ _ (λ j k. back_at w {s = (past m s)} colon_kind (refl, refl, refl, refl) refl (live_past w j) _ _ _ _ (λ j1. back_weak _ (back_past w {s = (past m s)} j1 _ (λ r' q'. (il.expr (with_in c) assignment_level q' >>= λ v. Ok (key_value_prop (spanned lm (was m Live (token w j) r') v.1) k v.0, v.1))) (back_then _ _ _ _ (echo.expr (with_in c) ce assignment_level (past m (past m s)) (live_past w j1)) (λ v2a v2s v2u. back_ok {s = v2s} _ _ v2u.live (λ qs' h'. ap (λ (z' : ℕ). key_value_prop ((span z' (m.last v2s.source))) k v2a) (lo_was w (join (join (token w j) (token w j1)) v2u) qs' h')) ((λ i'. refl), (λ i'. refl)))))) (back_at w {s = (past m s)} left_paren_kind (refl, refl, refl, refl) refl (live_past w j) _ _ _ _ (λ j4. back_weak _ (back_then _ _ _ _ (back_same _ (λ r'. function_by lm il c ((lo (input m s))) false false r') (λ r'. function_by lm il c (lo (input lm (was m Live (token w j) r'))) false false r') (λ qs' h'. ap (λ (z' : ℕ). function_by lm il c (z') false false (list_at m Live (past m s) qs')) (lo_was w (token w j) qs' h')) (function_by_backed (past m s) c ce (lo (input m s)) false false (live_past w j))) (λ f5a f5s f5u. back_ok {s = f5s} _ _ f5u.live (λ qs' h'. ap (λ (z' : ℕ). method_prop ((span z' (m.last f5s.source))) k f5a) (lo_was w (join (token w j) f5u) qs' h')) ((λ i'. absurd (true≢false i')), (λ i'. absurd (true≢false i')))))) (back_again_of w {s = s} _ (λ q. bound lm q) c j _ _ (λ n7. back_at w {s = (past m s)} assign_kind (refl, refl, refl, refl) refl (live_past w j) _ _ _ _ (λ j8. back_weak _ (back_past w {s = (past m s)} j8 _ (λ r' q'. (il.expr (with_in c) assignment_level q' >>= λ e. Ok (assign_prop (spanned lm (was m Live (token w j) r') e.1) (ident (first lm il (was m Live (token w j) r')) n7) e.0, e.1))) (back_then _ _ _ _ (echo.expr (with_in c) ce assignment_level (past m (past m s)) (live_past w j8)) (λ e9a e9s e9u. back_ok {s = e9s} _ _ e9u.live (λ qs' h'. ap (λ (z' : ℕ). assign_prop ((span z' (m.last e9s.source))) (ident ((first lm il (was m Live (join (join (token w j) (token w j8)) e9u) (list_at m Live e9s qs')))) n7) e9a) (lo_was w (join (join (token w j) (token w j8)) e9u) qs' h') ∙ (ap (λ (z' : Span). assign_prop ((spanned m s e9s)) (ident (z') n7) e9a) (first_was w (join (join (token w j) (token w j8)) e9u) (took_join (join (token w j) (token w j8)) e9u (took_join (token w j) (token w j8) (took_token w j))) qs' h'))) ((λ i'. refl), (λ i'. refl)))))) (back_ok {s = (past m s)} _ _ (live_past w j) (λ qs' h'. ap (λ (z' : Span). ident (z') n7) (first_was w (token w j) (took_token w j) qs' h')) ((λ i'. absurd (true≢false i')), (λ i'. absurd (true≢false i'))))))))
+      (λ ne k r ru. back_weak _ (back_at w {s = r} colon_kind (refl, refl, refl, refl) refl ru.live _ _ _ _ (λ j11. back_past w {s = r} j11 _ (λ r' q'. (il.expr (with_in c) assignment_level q' >>= λ v. Ok (key_value_prop (spanned lm (was m Live ru r') v.1) k v.0, v.1))) (back_then _ _ _ _ (echo.expr (with_in c) ce assignment_level (past m r) (live_past w j11)) (λ v12a v12s v12u. back_ok {s = v12s} _ _ v12u.live (λ qs' h'. ap (λ (z' : ℕ). key_value_prop ((span z' (m.last v12s.source))) k v12a) (lo_was w (join (join ru (token w j11)) v12u) qs' h')) ((λ i'. refl), (λ i'. refl))))) (back_at w {s = r} left_paren_kind (refl, refl, refl, refl) refl ru.live _ _ _ _ (λ j14. back_then _ _ _ _ (back_same _ (λ r'. function_by lm il c ((lo (input m s))) false false r') (λ r'. function_by lm il c (lo (input lm (was m Live ru r'))) false false r') (λ qs' h'. ap (λ (z' : ℕ). function_by lm il c (z') false false (list_at m Live r qs')) (lo_was w ru qs' h')) (function_by_backed r c ce (lo (input m s)) false false ru.live)) (λ f15a f15s f15u. back_ok {s = f15s} _ _ f15u.live (λ qs' h'. ap (λ (z' : ℕ). method_prop ((span z' (m.last f15s.source))) k f15a) (lo_was w (join ru f15u) qs' h')) ((λ i'. absurd (true≢false i')), (λ i'. absurd (true≢false i'))))) (back_unnamed _ c s _ ne))))
 
   pub prop_by_backed : {e' : ℕ} (s : State S) (c : Code) (ce : c.context.module_ ≡ modular) (sl' : Live.live s.source) → Backed m Live calm true e' s (prop_by m im c s) (λ r'. prop_by lm il c r')
   unfolding prop_by
@@ -191,14 +191,14 @@ module _ {S : Type 0} {m : Stream S} {Live : Pairing m} {modular : Bool} (w : Pa
   object_by_backed s c ce j' = back_past w {s = s} j' _ (λ r' q'. (iterate (bound lm) (prop_step lm il c) no_elements q' >>= λ ps. Ok (object_lit (spanned lm r' ps.1) (pack ps.0.items), noted lm il (ps.0.comma && last_rests ps.0.items) (lo (input lm r')) ps.1))) (back_then _ _ _ _ (back_iterate w closed {s = (past m s)} true (λ r' x' q'. prop_step lm il c x' q') _ (λ x' t' u'. step_all (prop_step_backed t' c ce x' u'.live)) no_elements (live_past w j')) (λ ps1a ps1s ps1u. back_noted {s = ps1s} ((ps1a.comma && last_rests ps1a.items)) (lo (input m s)) (λ r'. lo (input lm (was m Live (join (token w j') ps1u) r'))) _ _ ps1u.live (λ qs' h'. ap (λ (z' : ℕ). z') (lo_was w (join (token w j') ps1u) qs' h')) (λ qs' h'. ap (λ (z' : ℕ). object_lit ((span z' (m.last ps1s.source))) (pack ps1a.items)) (lo_was w (join (token w j') ps1u) qs' h')) ((λ i'. absurd (true≢false i')), (λ i'. absurd (true≢false i')))))
 
   quasi_backed : (s : State S) (tagged : Bool) (f : Tree → Step Spans) (t : Option Tree) (l : Live.live s.source)
-      → Backed m Live {A = Step Spans} closed false closed_end s (elim t [ None ↦ unexpected | Some t ↦ if tagged || is_cooked t then Ok (f t, s) else unexpected ]) (λ r. elim t [ None ↦ unexpected | Some t ↦ if tagged || is_cooked t then Ok (f t, r) else unexpected ])
+      → Backed m Live {A = Step Spans} closed false closed_end s (elim t [ None ↦ unexpected m s | Some t ↦ if tagged || is_cooked t then Ok (f t, s) else unexpected m s ]) (λ r. elim t [ None ↦ unexpected lm r | Some t ↦ if tagged || is_cooked t then Ok (f t, r) else unexpected lm r ])
   quasi_backed s tagged f None l = back_never
   quasi_backed s tagged f (Some t) l = back_test (tagged || is_cooked t) (λ r. tagged || is_cooked t) _ _ _ _ (λ qs h. refl) (λ y. back_ok {s = s} _ _ l (λ qs h. refl) ((λ i'. absurd (true≢false i')), (λ i'. absurd (true≢false i')))) (λ _. back_never)
 
   pub quasi_end_backed : {e : ℕ} (s : State S) (c : Code) (ce : c.context.module_ ≡ modular) (tagged : Bool) (x : Spans) (q : Bool → Option Tree) (sl' : Live.live s.source) → Backed m Live closed true e s (quasi_end m im c tagged x q s) (λ r'. quasi_end lm il c tagged x q r')
   unfolding quasi_end
   quasi_end_backed s c ce tagged x q sl' = back_at w {s = s} back_quote_kind (refl, refl, refl, refl) refl sl' _ _ _ _
-      (λ j. back_past w {s = s} j _ (λ r' q'. elim (q true) [ None ↦ unexpected | Some t ↦ if tagged || is_cooked t then Ok (finished (record { exprs = x.exprs; quasis = x.quasis ++ t ∷ [] }), q') else unexpected ])
+      (λ j. back_past w {s = s} j _ (λ r' q'. elim (q true) [ None ↦ unexpected lm q' | Some t ↦ if tagged || is_cooked t then Ok (finished (record { exprs = x.exprs; quasis = x.quasis ++ t ∷ [] }), q') else unexpected lm q' ])
       (quasi_backed (past m s) tagged (λ t. finished (record { exprs = x.exprs; quasis = x.quasis ++ t ∷ [] })) (q true) (live_past w j)))
       (back_eat w {s = s} dollar_brace_kind (refl, refl, refl, refl) refl sl' _ _ (λ j. back_then _ _ _ _ (echo.expr (with_in c) ce expression_level (past m s) (live_past w j)) (λ e0 e1 u. back_eat w {s = e1} right_brace_kind (refl, refl, refl, refl) refl u.live _ _
       (λ i. quasi_backed (past m e1) tagged (λ t. go_on (record { exprs = x.exprs ++ e0 ∷ []; quasis = x.quasis ++ t ∷ [] })) (q false) (live_past w i)))))
@@ -274,8 +274,8 @@ module _ {S : Type 0} {m : Stream S} {Live : Pairing m} {modular : Bool} (w : Pa
   heads_here l xs s a y = here_by w (λ z'. arrows_at lm il l (on [] 0 z')) (refl, λ p v. refl) s a (and_left (arrows_at m im l s) (is_read (params_of m im s.commas xs)) y)
 
   parens_backed : (s : State S) (start : State S) (startu : Path m Live start s) (open_ : State S) (open_u : Path m Live open_ s) (n : ℕ) (t : Option (List Tree)) (l : Live.live s.source)
-      → Backed m Live {A = Tree} edge false closed_end s (elim t [ None ↦ unexpected | Some [] ↦ unexpected | Some (e ∷ es) ↦ Ok (paren_expr (spanned m start s) (joined (e ∷ es) (span (lo (input m open_)) n)), s) ])
-      (λ r. elim t [ None ↦ unexpected | Some [] ↦ unexpected | Some (e ∷ es) ↦ Ok (paren_expr (spanned lm (was m Live startu r) r) (joined (e ∷ es) (span (lo (input lm (was m Live open_u r))) n)), r) ])
+      → Backed m Live {A = Tree} edge false closed_end s (elim t [ None ↦ unexpected m s | Some [] ↦ unexpected m s | Some (e ∷ es) ↦ Ok (paren_expr (spanned m start s) (joined (e ∷ es) (span (lo (input m open_)) n)), s) ])
+      (λ r. elim t [ None ↦ unexpected lm r | Some [] ↦ unexpected lm r | Some (e ∷ es) ↦ Ok (paren_expr (spanned lm (was m Live startu r) r) (joined (e ∷ es) (span (lo (input lm (was m Live open_u r))) n)), r) ])
   parens_backed s start startu open_ open_u n None l = back_never
   parens_backed s start startu open_ open_u n (Some []) l = back_never
   parens_backed s start startu open_ open_u n (Some (e ∷ es)) l = back_ok {s = s} _ _ l (λ qs h. ap (λ (z : ℕ). paren_expr (span z (m.last s.source)) (joined (e ∷ es) (span (lo (input lm (list_at m Live open_ (open_u.back qs)))) n))) (lo_was w startu qs h) ∙ ap (λ (z : ℕ). paren_expr (spanned m start s) (joined (e ∷ es) (span z n))) (lo_was w open_u qs h)) ((λ i'. absurd (true≢false i')), (λ i'. absurd (true≢false i')))
@@ -283,7 +283,7 @@ module _ {S : Type 0} {m : Stream S} {Live : Pairing m} {modular : Bool} (w : Pa
   pub group_end_backed : (s : State S) (c : Code) (ce : c.context.module_ ≡ modular) (l : ℕ) (start : State S) (startu : Path m Live start s) (open_ : State S) (open_u : Path m Live open_ s) (xs : Elements) (sl' : Live.live s.source) → Backed m Live edge false closed_end s (group_end m im c l start open_ xs s) (λ r'. group_end lm il c l (was m Live startu r') (was m Live open_u r') xs r')
   unfolding group_end
   group_end_backed s c ce l start startu open_ open_u xs sl' = back_test (heads_params m im l xs s) (λ r'. heads_params lm il l xs r') _ _ _ _ (λ qs h. heads_same l xs s sl' qs h)
-      (λ y. back_weak _ (back_pure _ _ _ _ (λ qs h. params_same s.commas xs) (λ ps. arrow_by_backed s c ce start startu false ps (heads_here l xs s sl' y))))
+      (λ y. back_weak _ (back_pure _ _ _ _ _ _ (λ qs h. params_same s.commas xs) (λ ps. arrow_by_backed s c ce start startu false ps (heads_here l xs s sl' y))))
       (λ _. back_test xs.comma (λ r'. xs.comma) _ _ _ _ (λ qs h. refl) (λ _. back_never) (λ _. parens_backed s start startu open_ open_u (last_end xs.items) (plain_elements xs.items) sl'))
 
   pub group_by_backed : {e' : ℕ} (s : State S) (c : Code) (ce : c.context.module_ ≡ modular) (l : ℕ) (j' : Here m Live s) → Backed m Live edge true e' s (group_by m im c l s) (λ r'. group_by lm il c l r')
@@ -300,7 +300,7 @@ module _ {S : Type 0} {m : Stream S} {Live : Pairing m} {modular : Bool} (w : Pa
 
   pub async_group_backed : {e' : ℕ} (s : State S) (c : Code) (ce : c.context.module_ ≡ modular) (l : ℕ) (start : State S) (startu : Path m Live start s) (startk : Took m Live startu) (j' : Here m Live s) → Backed m Live edge true e' s (async_group m im c l start s) (λ r'. async_group lm il c l (was m Live startu r') r')
   unfolding async_group
-  async_group_backed s c ce l start startu startk j' = back_past w {s = s} j' _ (λ r' q'. (elements_by lm il (with_in c) false right_paren_kind q' >>= λ xs. if heads_params lm il l xs.0 xs.1 && not (brk (input lm r')) then (params_of lm il xs.1.commas xs.0 >>= λ ps. arrow_by lm il c (was m Live startu r') true ps xs.1) else (Ok (call_expr (spanned lm (was m Live startu r') xs.1) (ident (first lm il (was m Live startu r')) (text (input lm (was m Live startu r')))) (pack xs.0.items), xs.1)))) (back_then _ _ _ _ (elements_by_backed (past m s) (with_in c) ce false right_paren_kind (refl, refl, refl, refl) refl (live_past w j')) (λ xs1a xs1s xs1u. back_test (heads_params m im l xs1a xs1s && not (brk (input m s))) (λ r'. heads_params lm il l xs1a r' && not (brk (input lm (was m Live (join (token w j') xs1u) r')))) _ _ _ _ (λ qs' h'. ap₂ (λ (a' b' : Bool). a' && not b') (heads_same l xs1a xs1s xs1u.live qs' h') (brk_was w (join (token w j') xs1u) qs' h')) (λ y3. back_weak _ (back_pure _ _ _ _ (λ qs' h'. params_same _ _) (λ ps4. arrow_by_backed xs1s c ce start (join (join startu (token w j')) xs1u) true ps4 (heads_here l xs1a xs1s xs1u.live (and_left _ _ y3))))) (λ _. back_ok {s = xs1s} _ _ xs1u.live (λ qs' h'. ap (λ (z' : ℕ). call_expr ((span z' (m.last xs1s.source))) (ident ((first lm il (was m Live (join (join startu (token w j')) xs1u) (list_at m Live xs1s qs')))) ((text (input lm (was m Live (join (join startu (token w j')) xs1u) (list_at m Live xs1s qs')))))) (pack xs1a.items)) (lo_was w (join (join startu (token w j')) xs1u) qs' h') ∙ (ap (λ (z' : Span). call_expr ((spanned m start xs1s)) (ident (z') ((text (input lm (was m Live (join (join startu (token w j')) xs1u) (list_at m Live xs1s qs')))))) (pack xs1a.items)) (first_was w (join (join startu (token w j')) xs1u) (took_join (join startu (token w j')) xs1u (took_join startu (token w j') startk)) qs' h') ∙ (ap (λ (z' : List ℕ). call_expr ((spanned m start xs1s)) (ident ((first m im start)) (z')) (pack xs1a.items)) (text_was w (join (join startu (token w j')) xs1u) (took_join (join startu (token w j')) xs1u (took_join startu (token w j') startk)) qs' h')))) ((λ i'. absurd (true≢false i')), (λ i'. absurd (true≢false i'))))))
+  async_group_backed s c ce l start startu startk j' = back_past w {s = s} j' _ (λ r' q'. (elements_by lm il (with_in c) false right_paren_kind q' >>= λ xs. if heads_params lm il l xs.0 xs.1 && not (brk (input lm r')) then (placed (bound lm xs.1) (params_of lm il xs.1.commas xs.0) >>= λ ps. arrow_by lm il c (was m Live startu r') true ps xs.1) else (Ok (call_expr (spanned lm (was m Live startu r') xs.1) (ident (first lm il (was m Live startu r')) (text (input lm (was m Live startu r')))) (pack xs.0.items), xs.1)))) (back_then _ _ _ _ (elements_by_backed (past m s) (with_in c) ce false right_paren_kind (refl, refl, refl, refl) refl (live_past w j')) (λ xs1a xs1s xs1u. back_test (heads_params m im l xs1a xs1s && not (brk (input m s))) (λ r'. heads_params lm il l xs1a r' && not (brk (input lm (was m Live (join (token w j') xs1u) r')))) _ _ _ _ (λ qs' h'. ap₂ (λ (a' b' : Bool). a' && not b') (heads_same l xs1a xs1s xs1u.live qs' h') (brk_was w (join (token w j') xs1u) qs' h')) (λ y3. back_weak _ (back_pure _ _ _ _ _ _ (λ qs' h'. params_same _ _) (λ ps4. arrow_by_backed xs1s c ce start (join (join startu (token w j')) xs1u) true ps4 (heads_here l xs1a xs1s xs1u.live (and_left _ _ y3))))) (λ _. back_ok {s = xs1s} _ _ xs1u.live (λ qs' h'. ap (λ (z' : ℕ). call_expr ((span z' (m.last xs1s.source))) (ident ((first lm il (was m Live (join (join startu (token w j')) xs1u) (list_at m Live xs1s qs')))) ((text (input lm (was m Live (join (join startu (token w j')) xs1u) (list_at m Live xs1s qs')))))) (pack xs1a.items)) (lo_was w (join (join startu (token w j')) xs1u) qs' h') ∙ (ap (λ (z' : Span). call_expr ((spanned m start xs1s)) (ident (z') ((text (input lm (was m Live (join (join startu (token w j')) xs1u) (list_at m Live xs1s qs')))))) (pack xs1a.items)) (first_was w (join (join startu (token w j')) xs1u) (took_join (join startu (token w j')) xs1u (took_join startu (token w j') startk)) qs' h') ∙ (ap (λ (z' : List ℕ). call_expr ((spanned m start xs1s)) (ident ((first m im start)) (z')) (pack xs1a.items)) (text_was w (join (join startu (token w j')) xs1u) (took_join (join startu (token w j')) xs1u (took_join startu (token w j') startk)) qs' h')))) ((λ i'. absurd (true≢false i')), (λ i'. absurd (true≢false i'))))))
 
   pub function_expr_name_backed : {e' : ℕ} (s : State S) (c : Code) (ce : c.context.module_ ≡ modular) (start : State S) (startu : Path m Live start s) (generator : Bool) (async : Bool) (sl' : Live.live s.source) → Backed m Live closed true e' s (function_expr_name m im c start generator async s) (λ r'. function_expr_name lm il c (was m Live startu r') generator async r')
   unfolding function_expr_name
@@ -348,7 +348,7 @@ module _ {S : Type 0} {m : Stream S} {Live : Pairing m} {modular : Bool} (w : Pa
 
   pub new_end_backed : (s : State S) (c : Code) (ce : c.context.module_ ≡ modular) (start : State S) (startu : Path m Live start s) (f : Tree) (sl' : Live.live s.source) → Backed m Live edge false (edge f) s (new_end m im c start f s) (λ r'. new_end lm il c (was m Live startu r') f r')
   unfolding new_end
-  new_end_backed s c ce start startu f sl' = back_if w {s = s} (λ z'. at lm left_paren_kind (on [] 0 z') && nat_le member_level (level f)) ((λ p' q' l' v'. refl), (λ p' q' l' v'. refl), (λ p' l' v'. refl)) sl' _ _ _ _ (λ y1. back_weak _ (back_past w {s = s} (here_at w left_paren_kind (refl, refl, refl, refl) refl s sl' (and_left _ _ y1)) _ (λ r' q'. (arguments_by lm il c q' >>= λ xs. Ok (new_expr (spanned lm (was m Live startu r') xs.1) f (list (pack xs.0)), xs.1))) (back_then _ _ _ _ (arguments_by_backed (past m s) c ce (live_past w (here_at w left_paren_kind (refl, refl, refl, refl) refl s sl' (and_left _ _ y1)))) (λ xs2a xs2s xs2u. back_ok {s = xs2s} _ _ xs2u.live (λ qs' h'. ap (λ (z' : ℕ). new_expr ((span z' (m.last xs2s.source))) f (list (pack xs2a))) (lo_was w (join (join startu (token w (here_at w left_paren_kind (refl, refl, refl, refl) refl s sl' (and_left _ _ y1)))) xs2u) qs' h')) ((λ i'. absurd (true≢false i')), (λ i'. absurd (true≢false i'))))))) (back_only w ((nat_le member_level (level f) || (level f == new_level)) && nat_lt (goes_expr c other_end (input m s)) call_level) (λ r'. (nat_le member_level (level f) || (level f == new_level)) && nat_lt (goes_expr c other_end (input lm r')) call_level) (new_expr (spanned m start s) f absent) _ sl'
+  new_end_backed s c ce start startu f sl' = back_if w {s = s} (λ z'. at lm left_paren_kind (on [] 0 z') && nat_le member_level (level f)) ((λ p' q' l' v'. refl), (λ p' q' l' v'. refl), (λ p' l' v'. refl)) sl' _ _ _ _ (λ y1. back_weak _ (back_past w {s = s} (here_at w left_paren_kind (refl, refl, refl, refl) refl s sl' (and_left _ _ y1)) _ (λ r' q'. (arguments_by lm il c q' >>= λ xs. Ok (new_expr (spanned lm (was m Live startu r') xs.1) f (list (pack xs.0)), xs.1))) (back_then _ _ _ _ (arguments_by_backed (past m s) c ce (live_past w (here_at w left_paren_kind (refl, refl, refl, refl) refl s sl' (and_left _ _ y1)))) (λ xs2a xs2s xs2u. back_ok {s = xs2s} _ _ xs2u.live (λ qs' h'. ap (λ (z' : ℕ). new_expr ((span z' (m.last xs2s.source))) f (list (pack xs2a))) (lo_was w (join (join startu (token w (here_at w left_paren_kind (refl, refl, refl, refl) refl s sl' (and_left _ _ y1)))) xs2u) qs' h')) ((λ i'. absurd (true≢false i')), (λ i'. absurd (true≢false i'))))))) (back_only w _ (λ r. Unexpected (bound lm r)) ((nat_le member_level (level f) || (level f == new_level)) && nat_lt (goes_expr c other_end (input m s)) call_level) (λ r'. (nat_le member_level (level f) || (level f == new_level)) && nat_lt (goes_expr c other_end (input lm r')) call_level) (new_expr (spanned m start s) f absent) _ sl'
       (λ qs' h' g'. ap (λ (b' : Bool). (nat_le member_level (level f) || (level f == new_level)) && b') (w.goes c other_end call_level qs' s.source sl' h' (λ o'. g'.0 (edge_open (new_expr (spanned m start s) f absent) refl)))) (λ qs' h'. ap (λ (z' : ℕ). new_expr ((span z' (m.last s.source))) f absent) (lo_was w startu qs' h')) (new_open (spanned m start s) f))
 
   pub callee_by_backed : (s : State S) (c : Code) (ce : c.context.module_ ≡ modular) (sl' : Live.live s.source) → Backed m Live edge true closed_end s (callee_by m im c s) (λ r'. callee_by lm il c r')
@@ -428,7 +428,7 @@ module _ {S : Type 0} {m : Stream S} {Live : Pairing m} {modular : Bool} (w : Pa
 
   pub assign_by_backed : {e' : ℕ} (s : State S) (c : Code) (ce : c.context.module_ ≡ modular) (start : State S) (startu : Path m Live start s) (t : Tree) (j' : Here m Live s) → Backed m Live edge true e' s (assign_by m im c start t s) (λ r'. assign_by lm il c (was m Live startu r') t r')
   unfolding assign_by
-  assign_by_backed s c ce start startu t j' = back_past w {s = s} j' _ (λ r' q'. (to_target (kind (input lm r')) r'.commas t >>= λ p. (il.expr c assignment_level q' >>= λ e. Ok (assign_expr (spanned lm (was m Live startu r') e.1) (kind (input lm r')) p e.0, e.1)))) (back_pure _ _ _ _ (λ qs' h'. ap (λ (z' : ℕ). to_target (z') s.commas t) (kind_was w (token w j') (took_token w j') qs' h')) (λ p2. back_then _ _ _ _ (echo.expr c ce assignment_level (past m s) (live_past w j')) (λ e3a e3s e3u. back_ok {s = e3s} _ _ e3u.live (λ qs' h'. ap (λ (z' : ℕ). assign_expr ((span z' (m.last e3s.source))) ((kind (input lm (was m Live (join (token w j') e3u) (list_at m Live e3s qs'))))) p2 e3a) (lo_was w (join (join startu (token w j')) e3u) qs' h') ∙ (ap (λ (z' : ℕ). assign_expr ((spanned m start e3s)) (z') p2 e3a) (kind_was w (join (token w j') e3u) (took_join (token w j') e3u (took_token w j')) qs' h'))) ((λ i'. i'), (λ i'. i')))))
+  assign_by_backed s c ce start startu t j' = back_past w {s = s} j' _ (λ r' q'. (placed (bound lm r') (to_target (kind (input lm r')) r'.commas t) >>= λ p. (il.expr c assignment_level q' >>= λ e. Ok (assign_expr (spanned lm (was m Live startu r') e.1) (kind (input lm r')) p e.0, e.1)))) (back_pure _ _ _ _ _ _ (λ qs' h'. ap (λ (z' : ℕ). to_target (z') s.commas t) (kind_was w (token w j') (took_token w j') qs' h')) (λ p2. back_then _ _ _ _ (echo.expr c ce assignment_level (past m s) (live_past w j')) (λ e3a e3s e3u. back_ok {s = e3s} _ _ e3u.live (λ qs' h'. ap (λ (z' : ℕ). assign_expr ((span z' (m.last e3s.source))) ((kind (input lm (was m Live (join (token w j') e3u) (list_at m Live e3s qs'))))) p2 e3a) (lo_was w (join (join startu (token w j')) e3u) qs' h') ∙ (ap (λ (z' : ℕ). assign_expr ((spanned m start e3s)) (z') p2 e3a) (kind_was w (join (token w j') e3u) (took_join (token w j') e3u (took_token w j')) qs' h'))) ((λ i'. i'), (λ i'. i')))))
 
   pub binary_by_backed : {e' : ℕ} (s : State S) (c : Code) (ce : c.context.module_ ≡ modular) (start : State S) (startu : Path m Live start s) (t : Tree) (j' : Here m Live s) → Backed m Live edge true e' s (binary_by m im c start t s) (λ r'. binary_by lm il c (was m Live startu r') t r')
   unfolding binary_by
@@ -443,7 +443,7 @@ module _ {S : Type 0} {m : Stream S} {Live : Pairing m} {modular : Bool} (w : Pa
 
   assign_slash : (s : State S) (c : Code) (ce : c.context.module_ ≡ modular) (start : State S) (startp : Path m Live start (past m s)) (t : Tree) (j' : Here m Live s) → Backed m Live edge false closed_end (past m s) (assign_by m im c start t s) (λ q'. assign_by lm il c (was m Live startp q') t (was m Live (token w j') q'))
   unfolding assign_by
-  assign_slash s c ce start startp t j' = back_past_again w {s = s} j' _ (λ r' q'. (to_target (kind (input lm (was m Live (token w j') r'))) (was m Live (token w j') r').commas t >>= λ p. (il.expr c assignment_level q' >>= λ e. Ok (assign_expr (spanned lm (was m Live startp r') e.1) (kind (input lm (was m Live (token w j') r'))) p e.0, e.1)))) (back_weak _ (back_pure _ _ _ _ (λ qs' h'. ap (λ (z' : ℕ). to_target (z') s.commas t) (kind_was w (token w j') (took_token w j') qs' h')) (λ p1. back_then _ _ _ _ (echo.expr c ce assignment_level (past m s) (live_past w j')) (λ e2a e2s e2u. back_ok {s = e2s} _ _ e2u.live (λ qs' h'. ap (λ (z' : ℕ). assign_expr ((span z' (m.last e2s.source))) ((kind (input lm (was m Live (join (token w j') e2u) (list_at m Live e2s qs'))))) p1 e2a) (lo_was w (join startp e2u) qs' h') ∙ (ap (λ (z' : ℕ). assign_expr ((spanned m start e2s)) (z') p1 e2a) (kind_was w (join (token w j') e2u) (took_join (token w j') e2u (took_token w j')) qs' h'))) ((λ i'. i'), (λ i'. i'))))))
+  assign_slash s c ce start startp t j' = back_past_again w {s = s} j' _ (λ r' q'. (placed (bound lm (was m Live (token w j') r')) (to_target (kind (input lm (was m Live (token w j') r'))) (was m Live (token w j') r').commas t) >>= λ p. (il.expr c assignment_level q' >>= λ e. Ok (assign_expr (spanned lm (was m Live startp r') e.1) (kind (input lm (was m Live (token w j') r'))) p e.0, e.1)))) (back_weak _ (back_pure _ _ _ _ _ _ (λ qs' h'. ap (λ (z' : ℕ). to_target (z') s.commas t) (kind_was w (token w j') (took_token w j') qs' h')) (λ p1. back_then _ _ _ _ (echo.expr c ce assignment_level (past m s) (live_past w j')) (λ e2a e2s e2u. back_ok {s = e2s} _ _ e2u.live (λ qs' h'. ap (λ (z' : ℕ). assign_expr ((span z' (m.last e2s.source))) ((kind (input lm (was m Live (join (token w j') e2u) (list_at m Live e2s qs'))))) p1 e2a) (lo_was w (join startp e2u) qs' h') ∙ (ap (λ (z' : ℕ). assign_expr ((spanned m start e2s)) (z') p1 e2a) (kind_was w (join (token w j') e2u) (took_join (token w j') e2u (took_token w j')) qs' h'))) ((λ i'. i'), (λ i'. i'))))))
 
   binary_slash : (s : State S) (c : Code) (ce : c.context.module_ ≡ modular) (start : State S) (startp : Path m Live start (past m s)) (t : Tree) (j' : Here m Live s) → Backed m Live edge false closed_end (past m s) (binary_by m im c start t s) (λ q'. binary_by lm il c (was m Live startp q') t (was m Live (token w j') q'))
   unfolding binary_by

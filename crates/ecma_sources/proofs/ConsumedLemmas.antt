@@ -4,9 +4,10 @@ use Rattle.ecma_token.specs.declared.syntax.EsSyntax.{EsSyntax}
 use Rattle.ecma_tree.specs.Tree.{Tree}
 use Rattle.ecma_syntax.specs.Input.{PlacedToken, Input, Code, content, in_list, script_code, module_code}
 use Rattle.ecma_syntax.specs.Operators.{closed_end}
-use Rattle.ecma_syntax.specs.Shape.{is_use_strict}
+use Rattle.ecma_syntax.specs.Shape.{is_use_strict, is_clean}
 use Rattle.ecma_token.specs.Kinds.{shebang_kind}
 use Rattle.ecma_reading.specs.Source.{Fault, unexpected, is_nil, ◌>>=◌, Stream, State, Read, Inner, Step, go_on, finished, next_by, iterate_n, iterate, bound, input, operand, past, at, ended}
+use Rattle.ecma_reading.specs.Expressions.{is_read}
 use Rattle.ecma_reading.specs.Statements.{Body}
 use Rattle.ecma_reading.specs.Modules.{item_by, program_step, program_item, program_rest, program_by, line_of}
 use Rattle.ecma_reading.specs.Reading.{readers, finish, read_program, read_list}
@@ -94,7 +95,7 @@ module _ {S : Type 0} (m : Stream S) (im : Inner S) where
   unfolding program_by
   program_ends modules c s = ends_if m Done (at m shebang_kind s) _ _ (by_line (line_of m im (content (input m s)))) (rest_ends modules c s None s)
     where
-      by_line : (o : Option (List ℕ)) → Ends m Done {A = Tree} (elim o [ None ↦ unexpected | Some l ↦ program_rest m im modules c s (Some l) (past m s) ])
+      by_line : (o : Option (List ℕ)) → Ends m Done {A = Tree} (elim o [ None ↦ unexpected m s | Some l ↦ program_rest m im modules c s (Some l) (past m s) ])
       by_line None = record { so = tt }
       by_line (Some l) = rest_ends modules c s (Some l) (past m s)
 
@@ -126,15 +127,15 @@ module _ {S : Type 0} (m : Stream S) (Live : S → Type 0) where
   code_of true x = refl
   code_of false x = refl
 
-  finished_list : (s : State S) (t : Tree) (x : Result (Tree × State S) Fault) (y : State Input → Result (Tree × State Input) Fault) → Backed m (handed m Live) closed false closed_end s x y → Ends m (λ z. m.seen z.source ≡ []) x → (x >>= finish) ≡ Ok t
-      → (ps : List PlacedToken) × HandsOut m ps s.source × ((y (list_at m (handed m Live) s ps) >>= finish) ≡ Ok t)
+  finished_list : (s : State S) (t : Tree) (x : Result (Tree × State S) Fault) (y : State Input → Result (Tree × State Input) Fault) → Backed m (handed m Live) closed false closed_end s x y → Ends m (λ z. m.seen z.source ≡ []) x → (x >>= finish m) ≡ Ok t
+      → (ps : List PlacedToken) × HandsOut m ps s.source × ((y (list_at m (handed m Live) s ps) >>= finish lm) ≡ Ok t)
   unfolding finish
-  finished_list s t (Err d) y h f e = absurd (true≢false (sym (ap (λ z. is_ok z) e)))
+  finished_list s t (Err d) y h f e = absurd (true≢false (sym (ap (λ z. is_read z) e)))
+  finished_list s t (Ok x) y h f e = (h.so.0.back [], h.so.0.hands [] f.so, ap (λ (z : Result (Tree × State Input) Fault). z >>= finish lm) (h.so.2 [] f.so (shut_good (handed m Live) x.1 [])).1 ∙ clean (is_clean x.0) _ _ e)
     where
-      is_ok : Result Tree Fault → Bool
-      is_ok (Ok z) = true
-      is_ok (Err z) = false
-  finished_list s t (Ok x) y h f e = (h.so.0.back [], h.so.0.hands [] f.so, ap (λ (z : Result (Tree × State Input) Fault). z >>= finish) (h.so.2 [] f.so (shut_good (handed m Live) x.1 [])).1 ∙ e)
+      clean : (b : Bool) (d i : Fault) → cond b (Ok x.0) (Err d) ≡ Ok t → cond b (Ok x.0) (Err i) ≡ Ok t
+      clean true d i e = e
+      clean false d i e = absurd (true≢false (sym (ap (λ z. is_read z) e)))
 
   abbrev start_at : S → State S
   start_at s = record { source = s; commas = [] }

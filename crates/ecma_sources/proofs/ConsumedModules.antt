@@ -7,14 +7,14 @@ use Rattle.ecma_tree.specs.Tree.{Tree, none, pack, ident, absent, more, import_d
 use Rattle.ecma_syntax.specs.Input.{PlacedToken, Input, Code, kind, kind_of, content, text, is_word, span, brk, in_list, turned_strict}
 use Rattle.ecma_syntax.specs.Shape.{ends, is_use_strict, is_attributes, is_exportable}
 use Rattle.ecma_syntax.specs.Operators.{assignment_level, closed_end, plain_end, exports_end, source_end}
-use Rattle.ecma_reading.specs.Source.{Fault, ◌>>=◌, unexpected, Stream, State, input, past, operand, at, spanned, any_word, go_on, finished, Inner, is_nil, ended}
+use Rattle.ecma_reading.specs.Source.{Fault, ◌>>=◌, placed, bound, unexpected, Stream, State, input, past, operand, at, spanned, any_word, go_on, finished, Inner, is_nil, ended}
 use Rattle.ecma_reading.specs.Expressions.{first, literal_by, function_expr_by}
 use Rattle.ecma_reading.specs.Statements.{Body, starts_async}
 use Rattle.ecma_reading.specs.Modules.{line_of, string_by, export_name_by, local_by, attributes_by, source_by, named_import, named_export_item, specifier_step, specifiers_by, star_import, import_end, import_rest, import_default, import_decl_by, export_default, export_star, export_list, starts_declaration, export_by, starts_import, item_by, program_item, program_step, program_tree, program_rest, program_by}
 use Rattle.ecma_sources.specs.Sources.{is_slash}
 use Rattle.ecma_sources.proofs.Beside.{lm, on, and_right, same_line}
 use Rattle.ecma_sources.proofs.Pairs.{Pairing, Paired}
-use Rattle.ecma_sources.proofs.Backs.{closed, shown_good, back_two, list_at, Here, Path, was, Backed, Steps, Hands, join, stay, took_join, back_never, back_ok, back_weak, back_same, back_then, back_test, step_all, step_test, live_past, token, took_token, back_past, agrees, here_by, back_if, back_at, back_eat, back_word, back_own, back_name, back_any, back_again, back_end, back_iterate_in, back_iterate, lo_was, first_was, content_was, text_was, past_is, Since, since_join, sat, lo_since, took_plain, since_two, hands_if, hands_then, back_turned, back_operand, Echoed}
+use Rattle.ecma_sources.proofs.Backs.{closed, shown_good, back_two, list_at, Here, Path, was, Backed, Steps, Hands, join, stay, took_join, back_never, back_ok, back_weak, back_same, back_then, back_placed, back_test, step_all, step_test, live_past, token, took_token, back_past, agrees, here_by, back_if, back_at, back_eat, back_word, back_own, back_name, back_any, back_again, back_end, back_iterate_in, back_iterate, lo_was, first_was, content_was, text_was, past_is, Since, since_join, sat, lo_since, took_plain, since_two, hands_if, hands_then, back_turned, back_operand, Echoed}
 use Rattle.ecma_sources.proofs.ConsumedStatements.{edge_shut}
 use Rattle.ecma_sources.proofs.ConsumedExpressions.{class_expr_by_backed, function_expr_by_backed, literal_by_backed, object_by_backed, unnamed}
 
@@ -60,12 +60,12 @@ module _ {S : Type 0} {m : Stream S} {Live : Pairing m} {modular : Bool} (w : Pa
   -- the name of an export that is a word
   export_word : {T : Type 0} (x : Stream T) (i : Inner T) (s : State T) → is_word (kind (input x s)) ≡ true → export_name_by x i s ≡ Ok (ident (first x i s) (text (input x s)), past x s)
   unfolding export_name_by any_word
-  export_word {T} x i s e = ap (λ (b : Bool). cond b (literal_by x i s) (◌>>=◌ {A = List ℕ × State T} (cond (is_word (kind (input x s))) (Ok (text (input x s), past x s)) unexpected) (λ n. Ok (ident (first x i s) n.0, n.1)))) (string_off (x.seen s.source) e)
-      ∙ ap (λ (b : Bool). ◌>>=◌ {A = List ℕ × State T} (cond b (Ok (text (input x s), past x s)) unexpected) (λ n. Ok (ident (first x i s) n.0, n.1))) e
+  export_word {T} x i s e = ap (λ (b : Bool). cond b (literal_by x i s) (◌>>=◌ {A = List ℕ × State T} (cond (is_word (kind (input x s))) (Ok (text (input x s), past x s)) (unexpected x s)) (λ n. Ok (ident (first x i s) n.0, n.1)))) (string_off (x.seen s.source) e)
+      ∙ ap (λ (b : Bool). ◌>>=◌ {A = List ℕ × State T} (cond b (Ok (text (input x s), past x s)) (unexpected x s)) (λ n. Ok (ident (first x i s) n.0, n.1))) e
 
-  back_unlocal : {A : Type 0} {E : A → ℕ} {e : ℕ} {b : Bool} {t : State S} {y : State Input → Result (A × State Input) Fault} (c : Code) (s : State S) (g : Tree × State S → Result (A × State S) Fault) → is_word (kind (input m s)) ≡ false → Backed m Live E b e t (local_by m im c s >>= g) y
+  back_unlocal : {A : Type 0} {E : A → ℕ} {e : ℕ} {b : Bool} {t : State S} {y : State Input → Result (A × State Input) Fault} (n : ℕ) (c : Code) (s : State S) (g : Tree × State S → Result (A × State S) Fault) → is_word (kind (input m s)) ≡ false → Backed m Live E b e t (placed n (local_by m im c s) >>= g) y
   unfolding local_by
-  back_unlocal {A} {E} {e} {b} {t} {y} c s g i = subst (λ (z : Result (Tree × State S) Fault). Backed m Live E b e t (z >>= g) y) (sym (unnamed w echo m c s (λ n. Ok (ident (first m im s) n.0, n.1)) i)) back_never
+  back_unlocal {A} {E} {e} {b} {t} {y} n c s g i = subst (λ (z : Result (List ℕ × State S) Fault). Backed m Live E b e t (placed n (z >>= λ n. Ok (ident (first m im s) n.0, n.1)) >>= g) y) (sym (unnamed w echo m c s i)) back_never
 
   -- the name of an export, and what follows it; or the name again
   export_then : {A : Type 0} {F : A → ℕ} {e : ℕ} (s : State S) → Live.live s.source → (g : Tree × State S → Result (A × State S) Fault) (f : State Input → Tree × State Input → Result (A × State Input) Fault)
@@ -96,8 +96,8 @@ module _ {S : Type 0} {m : Stream S} {Live : Pairing m} {modular : Bool} (w : Pa
 
   pub named_import_backed : {e : ℕ} (s : State S) (c : Code) (ce : c.context.module_ ≡ modular) (sl' : Live.live s.source) → Backed m Live closed true e s (named_import m im c s) (λ r'. named_import lm il c r')
   unfolding named_import local_by
-  named_import_backed s c ce sl' = export_then s sl' _ _ (λ j k. back_at w {s = (past m s)} as_kind (refl, refl, refl, refl) refl (live_past w j) _ _ _ _ (λ j1. back_weak _ (back_word w {s = (past m s)} c as_kind (refl, refl, refl, refl) refl (live_past w j) _ _ (λ j2. back_then _ _ _ _ (local_by_backed (past m (past m s)) c ce (live_past w j2)) (λ l3a l3s l3u. back_ok {s = l3s} _ _ l3u.live (λ qs' h'. ap (λ (z' : ℕ). import_named_specifier ((span z' (m.last l3s.source))) l3a k) (lo_was w (join (join (token w j) (token w j2)) l3u) qs' h')) ((λ i'. absurd (true≢false i')), (λ i'. absurd (true≢false i'))))))) (back_then {E = closed} _ _ _ _ (back_again w {s = s} c j _ _ (λ n5. back_ok {s = (past m s)} _ _ (live_past w j) (λ qs' h'. ap (λ (z' : Span). ident (z') n5) (first_was w (token w j) (took_token w j) qs' h')) ((λ i'. absurd (true≢false i')), (λ i'. absurd (true≢false i'))))) (λ l6a l6s l6u. back_ok {s = l6s} _ _ l6u.live (λ qs' h'. ap (λ (z' : ℕ). import_named_specifier ((span z' (m.last l6s.source))) l6a absent) (lo_was w (join (token w j) l6u) qs' h')) ((λ i'. absurd (true≢false i')), (λ i'. absurd (true≢false i'))))))
-      (λ ne k r ru. back_weak _ (back_at w {s = r} as_kind (refl, refl, refl, refl) refl ru.live _ _ _ _ (λ j8. back_word w {s = r} c as_kind (refl, refl, refl, refl) refl ru.live _ _ (λ j9. back_then _ _ _ _ (local_by_backed (past m r) c ce (live_past w j9)) (λ l10a l10s l10u. back_ok {s = l10s} _ _ l10u.live (λ qs' h'. ap (λ (z' : ℕ). import_named_specifier ((span z' (m.last l10s.source))) l10a k) (lo_was w (join (join ru (token w j9)) l10u) qs' h')) ((λ i'. absurd (true≢false i')), (λ i'. absurd (true≢false i')))))) (back_unlocal c s _ ne)))
+  named_import_backed s c ce sl' = export_then s sl' _ _ (λ j k. back_at w {s = (past m s)} as_kind (refl, refl, refl, refl) refl (live_past w j) _ _ _ _ (λ j1. back_weak _ (back_word w {s = (past m s)} c as_kind (refl, refl, refl, refl) refl (live_past w j) _ _ (λ j2. back_then _ _ _ _ (local_by_backed (past m (past m s)) c ce (live_past w j2)) (λ l3a l3s l3u. back_ok {s = l3s} _ _ l3u.live (λ qs' h'. ap (λ (z' : ℕ). import_named_specifier ((span z' (m.last l3s.source))) l3a k) (lo_was w (join (join (token w j) (token w j2)) l3u) qs' h')) ((λ i'. absurd (true≢false i')), (λ i'. absurd (true≢false i'))))))) (back_placed _ (λ q. bound lm q) (local_by m im c s) (λ q. local_by lm il c (was m Live (token w j) q)) _ _ (back_then {E = closed} _ _ _ _ (back_again w {s = s} c j _ _ (λ n5. back_ok {s = (past m s)} _ _ (live_past w j) (λ qs' h'. ap (λ (z' : Span). ident (z') n5) (first_was w (token w j) (took_token w j) qs' h')) ((λ i'. absurd (true≢false i')), (λ i'. absurd (true≢false i'))))) (λ l6a l6s l6u. back_ok {s = l6s} _ _ l6u.live (λ qs' h'. ap (λ (z' : ℕ). import_named_specifier ((span z' (m.last l6s.source))) l6a absent) (lo_was w (join (token w j) l6u) qs' h')) ((λ i'. absurd (true≢false i')), (λ i'. absurd (true≢false i')))))))
+      (λ ne k r ru. back_weak _ (back_at w {s = r} as_kind (refl, refl, refl, refl) refl ru.live _ _ _ _ (λ j8. back_word w {s = r} c as_kind (refl, refl, refl, refl) refl ru.live _ _ (λ j9. back_then _ _ _ _ (local_by_backed (past m r) c ce (live_past w j9)) (λ l10a l10s l10u. back_ok {s = l10s} _ _ l10u.live (λ qs' h'. ap (λ (z' : ℕ). import_named_specifier ((span z' (m.last l10s.source))) l10a k) (lo_was w (join (join ru (token w j9)) l10u) qs' h')) ((λ i'. absurd (true≢false i')), (λ i'. absurd (true≢false i')))))) (back_unlocal _ c s _ ne)))
 
   pub named_export_item_backed : {e' : ℕ} (s : State S) (c : Code) (ce : c.context.module_ ≡ modular) (sl' : Live.live s.source) → Backed m Live closed true e' s (named_export_item m im c s) (λ r'. named_export_item lm il c r')
   unfolding named_export_item
@@ -172,13 +172,13 @@ module _ {S : Type 0} {m : Stream S} {Live : Pairing m} {modular : Bool} (w : Pa
   pub program_by_backed : (s : State S) (modules : Bool) (c : Code) (ce : c.context.module_ ≡ modular) (sl' : Live.live s.source) → Backed m Live closed false closed_end s (program_by m im modules c s) (λ r'. program_by lm il modules c r')
   unfolding program_by
   program_by_backed s modules c ce sl' = back_at w {s = s} shebang_kind (refl, refl, refl, refl) refl sl' _ _ _ _
-      (λ j. back_weak _ (back_past w {s = s} j _ (λ r' q'. elim (line_of lm il (content (input lm r'))) [ None ↦ unexpected | Some l ↦ program_rest lm il modules c r' (Some l) q' ]) (by_line j (line_of m im (content (input m s))) refl)))
+      (λ j. back_weak _ (back_past w {s = s} j _ (λ r' q'. elim (line_of lm il (content (input lm r'))) [ None ↦ unexpected lm r' | Some l ↦ program_rest lm il modules c r' (Some l) q' ]) (by_line j (line_of m im (content (input m s))) refl)))
       (back_same _ (λ r'. program_rest lm il modules c (was m Live (stay {s = s} sl') r') None r') (λ r'. program_rest lm il modules c r' None r') (λ qs h. refl) (program_rest_backed s modules c ce s (stay {s = s} sl') None sl'))
     where
-      by_line : (j : Here m Live s) (o : Option (List ℕ)) → line_of m im (content (input m s)) ≡ o → Backed m Live {A = Tree} closed false closed_end (past m s) (elim o [ None ↦ unexpected | Some l ↦ program_rest m im modules c s (Some l) (past m s) ])
-          (λ q'. elim (line_of lm il (content (input lm (was m Live (token w j) q')))) [ None ↦ unexpected | Some l ↦ program_rest lm il modules c (was m Live (token w j) q') (Some l) q' ])
+      by_line : (j : Here m Live s) (o : Option (List ℕ)) → line_of m im (content (input m s)) ≡ o → Backed m Live {A = Tree} closed false closed_end (past m s) (elim o [ None ↦ unexpected m s | Some l ↦ program_rest m im modules c s (Some l) (past m s) ])
+          (λ q'. elim (line_of lm il (content (input lm (was m Live (token w j) q')))) [ None ↦ unexpected lm (was m Live (token w j) q') | Some l ↦ program_rest lm il modules c (was m Live (token w j) q') (Some l) q' ])
       by_line j None e = back_never
-      by_line j (Some l) e = back_same _ (λ q'. program_rest lm il modules c (was m Live (token w j) q') (Some l) q') (λ q'. elim (line_of lm il (content (input lm (was m Live (token w j) q')))) [ None ↦ unexpected | Some l ↦ program_rest lm il modules c (was m Live (token w j) q') (Some l) q' ])
-          (λ qs h. let q = list_at m Live (past m s) qs in ap (λ (z : Option (List ℕ)). elim z [ None ↦ unexpected | Some l ↦ program_rest lm il modules c (was m Live (token w j) q) (Some l) q ])
+      by_line j (Some l) e = back_same _ (λ q'. program_rest lm il modules c (was m Live (token w j) q') (Some l) q') (λ q'. elim (line_of lm il (content (input lm (was m Live (token w j) q')))) [ None ↦ unexpected lm (was m Live (token w j) q') | Some l ↦ program_rest lm il modules c (was m Live (token w j) q') (Some l) q' ])
+          (λ qs h. let q = list_at m Live (past m s) qs in ap (λ (z : Option (List ℕ)). elim z [ None ↦ unexpected lm (was m Live (token w j) q) | Some l ↦ program_rest lm il modules c (was m Live (token w j) q) (Some l) q ])
           (same_line m im il (content (input lm (was m Live (token w j) q))) ∙ (ap (λ (z : Content). line_of m im z) (content_was w (token w j) (took_token w j) qs h) ∙ e)))
           (program_rest_backed (past m s) modules c ce s (token w j) (Some l) (live_past w j))

@@ -17,7 +17,7 @@ use Rattle.ecma_sources.specs.Ahead.{ends_async}
 use Rattle.ecma_sources.proofs.Pairs.{edge_by, edge, Keeps, Loose, Pairing, Paired}
 use Rattle.ecma_syntax.specs.Shape.{declarator_end}
 use Rattle.ecma_syntax.specs.Operators.{binding_end}
-use Rattle.ecma_sources.proofs.Backs.{closed, calm, back_then_by, shut_keeps, same_keeps, Bides, Rest, bides_one, bides_weak, bides_same, bides_test, bides_then, bides_past, bides_end, bides_back, back_two, back_test_two, agrees_two, agrees_plain, agrees_was, agrees_was_on, at_hand, list_at, Here, Path, was, Backed, Steps, Hands, join, stay, took_join, back_never, back_ok, back_weak, back_same, back_then, back_pure, back_test, step_all, step_test, live_past, token, took_token, back_past, agrees, here_by, here_at, back_if, back_at, back_eat, back_word, back_own, back_name, back_again, back_end, back_iterate_in, back_iterate, lo_was, first_was, kind_was, at_was, hands_if, hands_then, hands_word, back_turned, back_operand, Echoed}
+use Rattle.ecma_sources.proofs.Backs.{closed, calm, back_then_by, shut_keeps, same_keeps, Bides, Rest, bides_one, bides_weak, bides_same, bides_test, bides_then, bides_past, bides_end, bides_back, back_two, back_test_two, agrees_two, agrees_plain, agrees_was, agrees_was_on, at_hand, list_at, Here, Path, was, Backed, Steps, Hands, join, stay, took_join, back_never, back_ok, back_weak, back_same, back_then, back_pure, back_test, step_all, step_test, live_past, token, took_token, back_past, agrees, here_by, here_at, back_if, back_at, back_eat, back_word, back_own, back_name, back_again_of, back_end, back_iterate_in, back_iterate, lo_was, first_was, kind_was, at_was, hands_if, hands_then, hands_word, back_turned, back_operand, Echoed}
 use Rattle.ecma_sources.proofs.ConsumedExpressions.{back_unnamed, function_by_backed, key_by_backed, key_then, private_by_backed, setter_parameter_backed, star_backed}
 
 module _ {S : Type 0} {m : Stream S} {Live : Pairing m} {modular : Bool} (w : Paired m Live modular) {il : Inner Input} {im : Inner S} (echo : Echoed m Live modular il im) where
@@ -217,18 +217,14 @@ module _ {S : Type 0} {m : Stream S} {Live : Pairing m} {modular : Bool} (w : Pa
   unfolding keyed_item
   keyed_item_backed s c ce start startu k sl' = back_then _ _ _ _ (echo.pat (with_in c) ce s sl') (λ p1a p1s p1u. back_then _ _ _ _ (initial_pat_backed p1s c ce s p1u p1a p1u.live) (λ q3a q3s q3u. back_ok {s = q3s} _ _ q3u.live (λ qs' h'. ap (λ (z' : ℕ). key_value_pat_prop ((span z' (m.last q3s.source))) k q3a) (lo_was w (join (join startu p1u) q3u) qs' h')) ((λ i'. refl), (λ i'. refl))))
 
-  pub named_item_backed : {e' : ℕ} (s : State S) (c : Code) (ce : c.context.module_ ≡ modular) (sl' : Live.live s.source) → Backed m Live calm true e' s (named_item m im c s) (λ r'. named_item lm il c r')
-  unfolding named_item
-  named_item_backed s c ce sl' = back_name w {s = s} c sl' _ _ (λ n2 j1. back_at w {s = (past m s)} assign_kind (refl, refl, refl, refl) refl (live_past w j1) _ _ _ _ (λ j3. back_weak _ (back_past w {s = (past m s)} j3 _ (λ r' q'. (il.expr (with_in c) assignment_level q' >>= λ e. Ok (assign_pat_prop (spanned lm (was m Live (token w j1) r') e.1) (binding_ident (first lm il (was m Live (token w j1) r')) (ident (first lm il (was m Live (token w j1) r')) n2)) e.0, e.1))) (back_then _ _ _ _ (echo.expr (with_in c) ce assignment_level (past m (past m s)) (live_past w j3)) (λ e4a e4s e4u. back_ok {s = e4s} _ _ e4u.live (λ qs' h'. ap (λ (z' : ℕ). assign_pat_prop ((span z' (m.last e4s.source))) (binding_ident ((first lm il (was m Live (join (join (token w j1) (token w j3)) e4u) (list_at m Live e4s qs')))) (ident ((first lm il (was m Live (join (join (token w j1) (token w j3)) e4u) (list_at m Live e4s qs')))) n2)) e4a) (lo_was w (join (join (token w j1) (token w j3)) e4u) qs' h') ∙ (ap (λ (z' : Span). assign_pat_prop ((spanned m s e4s)) (binding_ident (z') (ident (z') n2)) e4a) (first_was w (join (join (token w j1) (token w j3)) e4u) (took_join (join (token w j1) (token w j3)) e4u (took_join (token w j1) (token w j3) (took_token w j1))) qs' h'))) ((λ i'. refl), (λ i'. refl)))))) (back_ok {s = (past m s)} _ _ (live_past w j1) (λ qs' h'. ap (λ (z' : Span). assign_pat_prop (z') (binding_ident (z') (ident (z') n2)) absent) (first_was w (token w j1) (took_token w j1) qs' h')) ((λ i'. absurd (true≢false i')), (λ i'. absurd (true≢false i')))))
-
   pub pattern_prop_backed : {e : ℕ} (s : State S) (c : Code) (ce : c.context.module_ ≡ modular) (sl' : Live.live s.source) → Backed m Live calm true e s (pattern_prop m im c s) (λ r'. pattern_prop lm il c r')
   unfolding pattern_prop named_item
-  pattern_prop_backed s c ce sl' = key_then w echo c ce s sl' _ _ (λ j k. back_at w {s = (past m s)} colon_kind (refl, refl, refl, refl) refl (live_past w j) _ _ _ _ (λ j1. back_weak _ (back_past w {s = (past m s)} j1 _ (λ r' q'. keyed_item lm il c (was m Live (token w j) r') k q') (keyed_item_backed (past m (past m s)) c ce s (join (token w j) (token w j1)) k (live_past w j1)))) (back_again w {s = s} c j _ _ (λ n2. back_at w {s = (past m s)} assign_kind (refl, refl, refl, refl) refl (live_past w j) _ _ _ _ (λ j3. back_weak _ (back_past w {s = (past m s)} j3 _ (λ r' q'. (il.expr (with_in c) assignment_level q' >>= λ e. Ok (assign_pat_prop (spanned lm (was m Live (token w j) r') e.1) (binding_ident (first lm il (was m Live (token w j) r')) (ident (first lm il (was m Live (token w j) r')) n2)) e.0, e.1))) (back_then _ _ _ _ (echo.expr (with_in c) ce assignment_level (past m (past m s)) (live_past w j3)) (λ e4a e4s e4u. back_ok {s = e4s} _ _ e4u.live (λ qs' h'. ap (λ (z' : ℕ). assign_pat_prop ((span z' (m.last e4s.source))) (binding_ident ((first lm il (was m Live (join (join (token w j) (token w j3)) e4u) (list_at m Live e4s qs')))) (ident ((first lm il (was m Live (join (join (token w j) (token w j3)) e4u) (list_at m Live e4s qs')))) n2)) e4a) (lo_was w (join (join (token w j) (token w j3)) e4u) qs' h') ∙ (ap (λ (z' : Span). assign_pat_prop ((spanned m s e4s)) (binding_ident (z') (ident (z') n2)) e4a) (first_was w (join (join (token w j) (token w j3)) e4u) (took_join (join (token w j) (token w j3)) e4u (took_join (token w j) (token w j3) (took_token w j))) qs' h'))) ((λ i'. refl), (λ i'. refl)))))) (back_ok {s = (past m s)} _ _ (live_past w j) (λ qs' h'. ap (λ (z' : Span). assign_pat_prop (z') (binding_ident (z') (ident (z') n2)) absent) (first_was w (token w j) (took_token w j) qs' h')) ((λ i'. absurd (true≢false i')), (λ i'. absurd (true≢false i')))))))
-      (λ ne k r ru. back_weak _ (back_at w {s = r} colon_kind (refl, refl, refl, refl) refl ru.live _ _ _ _ (λ j6. back_past w {s = r} j6 _ (λ r' q'. keyed_item lm il c (was m Live ru r') k q') (keyed_item_backed (past m r) c ce s (join ru (token w j6)) k (live_past w j6))) (back_unnamed w echo c s _ ne)))
+  pattern_prop_backed s c ce sl' = key_then w echo c ce s sl' _ _ (λ j k. back_at w {s = (past m s)} colon_kind (refl, refl, refl, refl) refl (live_past w j) _ _ _ _ (λ j1. back_weak _ (back_past w {s = (past m s)} j1 _ (λ r' q'. keyed_item lm il c (was m Live (token w j) r') k q') (keyed_item_backed (past m (past m s)) c ce s (join (token w j) (token w j1)) k (live_past w j1)))) (back_again_of w {s = s} _ (λ q. bound lm q) c j _ _ (λ n2. back_at w {s = (past m s)} assign_kind (refl, refl, refl, refl) refl (live_past w j) _ _ _ _ (λ j3. back_weak _ (back_past w {s = (past m s)} j3 _ (λ r' q'. (il.expr (with_in c) assignment_level q' >>= λ e. Ok (assign_pat_prop (spanned lm (was m Live (token w j) r') e.1) (binding_ident (first lm il (was m Live (token w j) r')) (ident (first lm il (was m Live (token w j) r')) n2)) e.0, e.1))) (back_then _ _ _ _ (echo.expr (with_in c) ce assignment_level (past m (past m s)) (live_past w j3)) (λ e4a e4s e4u. back_ok {s = e4s} _ _ e4u.live (λ qs' h'. ap (λ (z' : ℕ). assign_pat_prop ((span z' (m.last e4s.source))) (binding_ident ((first lm il (was m Live (join (join (token w j) (token w j3)) e4u) (list_at m Live e4s qs')))) (ident ((first lm il (was m Live (join (join (token w j) (token w j3)) e4u) (list_at m Live e4s qs')))) n2)) e4a) (lo_was w (join (join (token w j) (token w j3)) e4u) qs' h') ∙ (ap (λ (z' : Span). assign_pat_prop ((spanned m s e4s)) (binding_ident (z') (ident (z') n2)) e4a) (first_was w (join (join (token w j) (token w j3)) e4u) (took_join (join (token w j) (token w j3)) e4u (took_join (token w j) (token w j3) (took_token w j))) qs' h'))) ((λ i'. refl), (λ i'. refl)))))) (back_ok {s = (past m s)} _ _ (live_past w j) (λ qs' h'. ap (λ (z' : Span). assign_pat_prop (z') (binding_ident (z') (ident (z') n2)) absent) (first_was w (token w j) (took_token w j) qs' h')) ((λ i'. absurd (true≢false i')), (λ i'. absurd (true≢false i')))))))
+      (λ ne k r ru. back_weak _ (back_at w {s = r} colon_kind (refl, refl, refl, refl) refl ru.live _ _ _ _ (λ j6. back_past w {s = r} j6 _ (λ r' q'. keyed_item lm il c (was m Live ru r') k q') (keyed_item_backed (past m r) c ce s (join ru (token w j6)) k (live_past w j6))) (back_unnamed w echo _ c s _ ne)))
 
   pub object_item_backed : {e' : ℕ} (s : State S) (c : Code) (ce : c.context.module_ ≡ modular) (xs : List Tree) (sl' : Live.live s.source) → Backed m Live closed true e' s (object_item m im c xs s) (λ r'. object_item lm il c xs r')
   unfolding object_item
-  object_item_backed s c ce xs sl' = back_at w {s = s} right_brace_kind (refl, refl, refl, refl) refl sl' _ _ _ _ (λ j1. back_past w {s = s} j1 _ (λ r' q'. Ok (finished xs, q')) (back_ok {s = (past m s)} _ _ (live_past w j1) (λ qs' h'. refl) ((λ i'. absurd (true≢false i')), (λ i'. absurd (true≢false i'))))) (back_at w {s = s} dot_dot_dot_kind (refl, refl, refl, refl) refl sl' _ _ _ _ (λ j2. back_past w {s = s} j2 _ (λ r' q'. (il.pat (with_in c) q' >>= λ p. if is_structured p.0 then unexpected else (after_item lm il right_brace_kind true (xs ++ rest_pat (spanned lm r' p.1) (dots_at (lo (input lm r'))) p.0 ∷ []) p.1))) (back_then _ _ _ _ (echo.pat (with_in c) ce (past m s) (live_past w j2)) (λ p3a p3s p3u. back_test (is_structured p3a) (λ r'. is_structured p3a) _ _ _ _ (λ qs' h'. refl) (λ y5. back_never) (λ _. back_same _ (λ r'. after_item lm il right_brace_kind true (xs ++ rest_pat ((spanned m s p3s)) (dots_at ((lo (input m s)))) p3a ∷ []) r') (λ r'. after_item lm il right_brace_kind true (xs ++ rest_pat (spanned lm (was m Live (join (token w j2) p3u) r') r') (dots_at (lo (input lm (was m Live (join (token w j2) p3u) r')))) p3a ∷ []) r') (λ qs' h'. ap (λ (z' : ℕ). after_item lm il right_brace_kind true (xs ++ rest_pat ((span z' (m.last p3s.source))) (dots_at ((lo (input lm (was m Live (join (token w j2) p3u) (list_at m Live p3s qs')))))) p3a ∷ []) (list_at m Live p3s qs')) (lo_was w (join (token w j2) p3u) qs' h') ∙ (ap (λ (z' : ℕ). after_item lm il right_brace_kind true (xs ++ rest_pat ((spanned m s p3s)) (dots_at (z')) p3a ∷ []) (list_at m Live p3s qs')) (lo_was w (join (token w j2) p3u) qs' h'))) (after_item_backed p3s right_brace_kind (refl, refl, refl, refl) refl true (xs ++ rest_pat (spanned m s p3s) (dots_at (lo (input m s))) p3a ∷ []) p3u.live))))) (back_then _ _ _ _ (pattern_prop_backed s c ce sl') (λ p6a p6s p6u. after_item_backed p6s right_brace_kind (refl, refl, refl, refl) refl false (xs ++ p6a ∷ []) p6u.live)))
+  object_item_backed s c ce xs sl' = back_at w {s = s} right_brace_kind (refl, refl, refl, refl) refl sl' _ _ _ _ (λ j1. back_past w {s = s} j1 _ (λ r' q'. Ok (finished xs, q')) (back_ok {s = (past m s)} _ _ (live_past w j1) (λ qs' h'. refl) ((λ i'. absurd (true≢false i')), (λ i'. absurd (true≢false i'))))) (back_at w {s = s} dot_dot_dot_kind (refl, refl, refl, refl) refl sl' _ _ _ _ (λ j2. back_past w {s = s} j2 _ (λ r' q'. (il.pat (with_in c) q' >>= λ p. if is_structured p.0 then unexpected lm p.1 else (after_item lm il right_brace_kind true (xs ++ rest_pat (spanned lm r' p.1) (dots_at (lo (input lm r'))) p.0 ∷ []) p.1))) (back_then _ _ _ _ (echo.pat (with_in c) ce (past m s) (live_past w j2)) (λ p3a p3s p3u. back_test (is_structured p3a) (λ r'. is_structured p3a) _ _ _ _ (λ qs' h'. refl) (λ y5. back_never) (λ _. back_same _ (λ r'. after_item lm il right_brace_kind true (xs ++ rest_pat ((spanned m s p3s)) (dots_at ((lo (input m s)))) p3a ∷ []) r') (λ r'. after_item lm il right_brace_kind true (xs ++ rest_pat (spanned lm (was m Live (join (token w j2) p3u) r') r') (dots_at (lo (input lm (was m Live (join (token w j2) p3u) r')))) p3a ∷ []) r') (λ qs' h'. ap (λ (z' : ℕ). after_item lm il right_brace_kind true (xs ++ rest_pat ((span z' (m.last p3s.source))) (dots_at ((lo (input lm (was m Live (join (token w j2) p3u) (list_at m Live p3s qs')))))) p3a ∷ []) (list_at m Live p3s qs')) (lo_was w (join (token w j2) p3u) qs' h') ∙ (ap (λ (z' : ℕ). after_item lm il right_brace_kind true (xs ++ rest_pat ((spanned m s p3s)) (dots_at (z')) p3a ∷ []) (list_at m Live p3s qs')) (lo_was w (join (token w j2) p3u) qs' h'))) (after_item_backed p3s right_brace_kind (refl, refl, refl, refl) refl true (xs ++ rest_pat (spanned m s p3s) (dots_at (lo (input m s))) p3a ∷ []) p3u.live))))) (back_then _ _ _ _ (pattern_prop_backed s c ce sl') (λ p6a p6s p6u. after_item_backed p6s right_brace_kind (refl, refl, refl, refl) refl false (xs ++ p6a ∷ []) p6u.live)))
 
   pub object_pat_by_backed : {e' : ℕ} (s : State S) (c : Code) (ce : c.context.module_ ≡ modular) (j' : Here m Live s) → Backed m Live closed true e' s (object_pat_by m im c s) (λ r'. object_pat_by lm il c r')
   unfolding object_pat_by
@@ -418,8 +414,8 @@ module _ {S : Type 0} {m : Stream S} {Live : Pairing m} {modular : Bool} (w : Pa
 
   if_step_hands : (x : Chain) (s : State S) → x.code.context.module_ ≡ modular → Hands m Live (λ (z : Chain). z.code.context.module_ ≡ modular) (if_step m im x s)
   unfolding if_step eat_word
-  if_step_hands x s e = hands_word (at m if_kind s && not (barred x.code.context (input m s))) (past m s) _ (hands_then (in_parens m im x.code (past m s)) _ (λ i. hands_then (sub_by m im x.code true i.1) _ (λ a. hands_if (at m else_kind a.1) _ _
-      (hands_word (at m else_kind a.1 && not (barred x.code.context (input m a.1))) (past m a.1) _ (else_by_hands (branched m im s x i.0 a.0) (past m a.1) e)) (record { so = tt }))))
+  if_step_hands x s e = hands_word _ (at m if_kind s && not (barred x.code.context (input m s))) (past m s) _ (hands_then (in_parens m im x.code (past m s)) _ (λ i. hands_then (sub_by m im x.code true i.1) _ (λ a. hands_if (at m else_kind a.1) _ _
+      (hands_word _ (at m else_kind a.1 && not (barred x.code.context (input m a.1))) (past m a.1) _ (else_by_hands (branched m im s x i.0 a.0) (past m a.1) e)) (record { so = tt }))))
 
   pub if_by_backed : (s : State S) (c : Code) (ce : c.context.module_ ≡ modular) (sl' : Live.live s.source) → Backed m Live closed true closed_end s (if_by m im c s) (λ r'. if_by lm il c r')
   unfolding if_by
@@ -514,7 +510,7 @@ module _ {S : Type 0} {m : Stream S} {Live : Pairing m} {modular : Bool} (w : Pa
 
   pub for_expression_rest_backed : {e' : ℕ} (s : State S) (c : Code) (ce : c.context.module_ ≡ modular) (start : State S) (startu : Path m Live start s) (awaits : Bool) (own : State S) (ownu : Path m Live own s) (e : Tree) (sl' : Live.live s.source) → Backed m Live closed true e' s (for_expression_rest m im c start awaits own e s) (λ r'. for_expression_rest lm il c (was m Live startu r') awaits (was m Live ownu r') e r')
   unfolding for_expression_rest
-  for_expression_rest_backed s c ce start startu awaits own ownu e sl' = back_at w {s = s} of_kind (refl, refl, refl, refl) refl sl' _ _ _ _ (λ j1. back_test_two w (at m let_kind own || (not awaits && (at m async_kind own && (kind2 (input m own) == of_kind)))) (λ r'. at lm let_kind (was m Live ownu r') || (not awaits && (at lm async_kind (was m Live ownu r') && (kind2 (input lm (was m Live ownu r')) == of_kind)))) _ _ _ _ (λ qs' h'. agrees_was_on w (λ z'. at lm let_kind (on [] 0 z') || (not awaits && (at lm async_kind (on [] 0 z') && (kind2 (input lm (on [] 0 z')) == of_kind)))) ((λ p' q' l' v'. refl), (λ p' q' l' v'. refl), (λ n' p' q' l' v'. refl), (λ n' p' q' l' v'. refl), (λ n' p' l' v'. refl)) ownu qs' h') (λ y2. back_never) (λ _. back_pure _ _ _ _ (λ qs' h'. refl) (λ l3. of_rest_backed s c ce start startu awaits l3 sl'))) (back_test awaits (λ r'. awaits) _ _ _ _ (λ qs' h'. refl) (λ y4. back_never) (λ _. back_at w {s = s} in_kind (refl, refl, refl, refl) refl sl' _ _ _ _ (λ j5. back_pure _ _ _ _ (λ qs' h'. refl) (λ l6. in_rest_backed s c ce start startu l6 sl')) (for_rest_backed s c ce start startu e sl')))
+  for_expression_rest_backed s c ce start startu awaits own ownu e sl' = back_at w {s = s} of_kind (refl, refl, refl, refl) refl sl' _ _ _ _ (λ j1. back_test_two w (at m let_kind own || (not awaits && (at m async_kind own && (kind2 (input m own) == of_kind)))) (λ r'. at lm let_kind (was m Live ownu r') || (not awaits && (at lm async_kind (was m Live ownu r') && (kind2 (input lm (was m Live ownu r')) == of_kind)))) _ _ _ _ (λ qs' h'. agrees_was_on w (λ z'. at lm let_kind (on [] 0 z') || (not awaits && (at lm async_kind (on [] 0 z') && (kind2 (input lm (on [] 0 z')) == of_kind)))) ((λ p' q' l' v'. refl), (λ p' q' l' v'. refl), (λ n' p' q' l' v'. refl), (λ n' p' q' l' v'. refl), (λ n' p' l' v'. refl)) ownu qs' h') (λ y2. back_never) (λ _. back_pure _ _ _ _ _ _ (λ qs' h'. refl) (λ l3. of_rest_backed s c ce start startu awaits l3 sl'))) (back_test awaits (λ r'. awaits) _ _ _ _ (λ qs' h'. refl) (λ y4. back_never) (λ _. back_at w {s = s} in_kind (refl, refl, refl, refl) refl sl' _ _ _ _ (λ j5. back_pure _ _ _ _ _ _ (λ qs' h'. refl) (λ l6. in_rest_backed s c ce start startu l6 sl')) (for_rest_backed s c ce start startu e sl')))
 
   -- `let [`
   let_told : (Q : List PlacedToken → Type 0) (s : State S) → Live.live s.source → (qs : List PlacedToken) → (Live.hands 2 qs s.source ⊎ Rest w Q s qs) → (at lm let_kind (list_at m Live s qs) && (kind2 (input lm (list_at m Live s qs)) == left_bracket_kind)) ≡ (at m let_kind s && (kind2 (input m s) == left_bracket_kind))

@@ -1,5 +1,5 @@
 -- Expressions (ECMA-262, clause 13): their rules over a source and over the list that it hands out.
-use Rattle.std.proofs.Common.{◌≡◌, ◌≤◌, ℕ, Bool, true, false, not, ◌&&◌, ◌||◌, ◌==◌, cond, eqb, nat_le, nat_lt, if◌then◌else◌, List, [], ◌∷◌, ◌++◌, Option, Some, None, Result, Ok, inl, inr, refl, sym, ap, ap₂, ◌∙◌, subst, true≢false, arith, le_refl, ltb-true, lt-ltb}
+use Rattle.std.proofs.Common.{◌≡◌, ◌≤◌, ℕ, Bool, true, false, not, ◌&&◌, ◌||◌, ◌==◌, cond, eqb, nat_le, nat_lt, if◌then◌else◌, List, [], ◌∷◌, ◌++◌, Option, Some, None, Result, Ok, Err, inl, inr, refl, sym, ap, ap₂, ◌∙◌, subst, true≢false, arith, le_refl, ltb-true, lt-ltb}
 use Rattle.ecma_token.specs.declared.place.Span.{Span}
 use Rattle.ecma_token.specs.Kinds.{div_kind, div_assign_kind, arrow_kind, hash_kind, dot_kind, dot_dot_dot_kind, left_paren_kind, right_paren_kind, left_bracket_kind, right_bracket_kind, left_brace_kind, right_brace_kind, comma_kind, back_quote_kind, template_kind, colon_kind, dollar_brace_kind, question_mark_kind, str_kind, num_kind, big_int_kind, regex_kind, mul_kind, assign_kind, null_kind, true_kind, false_kind, await_kind, function_kind, class_kind, new_kind, this_kind, super_kind, import_kind, yield_kind, in_kind, plus_plus_kind, minus_minus_kind, async_kind, meta_kind, target_kind, get_kind, set_kind}
 use Rattle.ecma_token.specs.Tokens.{Content, Quoted, Pattern, Numeral, BigNumeral}
@@ -11,7 +11,7 @@ use Rattle.ecma_reading.specs.Source.{Fault, Unexpected, unexpected, ◌>>=◌, 
 use Rattle.ecma_reading.specs.Cover.{last_rests, to_target}
 use Rattle.ecma_reading.specs.Expressions.{Elements, Spans, literal, only_kind, joined, extended, is_read, last_end, plain_elements, no_elements, is_unary, first, literal_by, element_by, after_element, element_step, elements_by, noted, array_by, computed_by, key_by, private_by, parameter_by, is_rest_param, parameter_step, parameters_by, function_by, setter_parameter, pattern_of, is_accessor, is_async_head, star, method_prop_by, getter_by, setter_by, prop_rest, prop_by, prop_step, object_by, quasi, quasi_end, quasi_step, template_by, arrows, arrows_at, arrow_by, params_of, heads_params, group_end, group_by, ident_end, arguments_by, async_group, function_expr_name, function_expr_by, is_async_param, async_by, class_expr_by, new_end, callee_by, new_by, super_end, fits_import, import_by, unary_by, update_by, await_by, ends_yield, yield_end, yield_by, word_by, fixed, keyword_by, prefix_by, member_name, on_chain, member_by, index_by, call_tree, call_by, chain_by, cond_by, assign_by, binary_by, step_by, loop_step, loop_by, private_in, expr_from, expr_by}
 use Rattle.ecma_sources.specs.Sources.{is_slash, Rereads, HandsOut, Orderly}
-use Rattle.ecma_sources.proofs.Beside.{lm, on, Ceiling, kinded, regexp, reread, Plain, and_left, and_right, Beside, Joined, Told, agree1, agree2, at_same, lo_same, span_same, joined_to, joined_by, joined_at, joined_other, joined2, has_same, first_same, hi_as, kind_as, text_as, content_as, told_ok, never, told_then, told_if, told_at, told_pure, told_eat, told_word, told_own, joined_word, told_name, is_word_same, told_any, told_iterate, told_operand, Refused, refused_then, at_slash, told_refused, Heard, same_rest, same_pattern, same_quasi}
+use Rattle.ecma_sources.proofs.Beside.{lm, on, Ceiling, kinded, regexp, reread, Plain, and_left, and_right, Beside, Joined, Told, agree1, agree2, at_same, lo_same, span_same, joined_to, joined_by, joined_at, joined_other, joined2, has_same, first_same, hi_as, kind_as, text_as, content_as, told_ok, never, told_then, told_if, told_at, told_pure, told_eat, told_word, told_own, joined_word, told_name, told_name_of, is_word_same, told_any, told_iterate, told_operand, Refused, refused_then, at_slash, told_refused, Heard, same_rest, same_pattern, same_quasi}
 
 module _ {S : Type 0} {m : Stream S} {Live : S → Type 0} {modular : Bool} (w : Orderly m Live modular) {il : Inner Input} {im : Inner S} (told : Heard m Live modular il im) where
   literal_same : (k : Ceiling) (s : State S) (s' : State Input) → Joined m Live k s s' → literal (kind (input lm s')) (content (input lm s')) (first lm il s') ≡ literal (kind (input m s)) (content (input m s)) (first m im s)
@@ -20,16 +20,16 @@ module _ {S : Type 0} {m : Stream S} {Live : S → Type 0} {modular : Bool} (w :
 
   pub literal_by_told : (k : Ceiling) (s : State S) (s' : State Input) (sj : Joined m Live k s s') → Told m Live k (literal_by lm il s') (literal_by m im s)
   unfolding literal_by
-  literal_by_told k s s' sj = subst (λ (z : Option Tree). Told m Live {A = Tree} k (elim (literal (kind (input lm s')) (content (input lm s')) (first lm il s')) [ None ↦ unexpected | Some t ↦ Ok (t, past lm s') ]) (elim z [ None ↦ unexpected | Some t ↦ Ok (t, past m s) ]))
+  literal_by_told k s s' sj = subst (λ (z : Option Tree). Told m Live {A = Tree} k (elim (literal (kind (input lm s')) (content (input lm s')) (first lm il s')) [ None ↦ unexpected lm s' | Some t ↦ Ok (t, past lm s') ]) (elim z [ None ↦ unexpected m s | Some t ↦ Ok (t, past m s) ]))
       (literal_same k s s' sj) (by_literal (literal (kind (input lm s')) (content (input lm s')) (first lm il s')))
     where
-      by_literal : (t : Option Tree) → Told m Live {A = Tree} k (elim t [ None ↦ unexpected | Some t ↦ Ok (t, past lm s') ]) (elim t [ None ↦ unexpected | Some t ↦ Ok (t, past m s) ])
+      by_literal : (t : Option Tree) → Told m Live {A = Tree} k (elim t [ None ↦ unexpected lm s' | Some t ↦ Ok (t, past lm s') ]) (elim t [ None ↦ unexpected m s | Some t ↦ Ok (t, past m s) ])
       by_literal None = never w k _ _
       by_literal (Some t) = told_ok w k t t (past m s) (past lm s') sj.after refl
 
   literal_end : (o : List ℕ) (n : ℕ) → Refused (literal_by lm il (on o n []))
   unfolding literal_by
-  literal_end o n = (Unexpected, refl)
+  literal_end o n = (Unexpected _, refl)
 
   -- a literal where an operand starts
   literal_on : (k : Ceiling) (s : State S) (o : List ℕ) (n : ℕ) (l : List PlacedToken) → Beside m Live k s (on o n l) → (at lm regex_kind (on o n l) ≡ true → Joined m Live k s (on o n l)) → Told m Live k (literal_by lm il (on o n l)) (literal_by m im s)
@@ -72,9 +72,9 @@ module _ {S : Type 0} {m : Stream S} {Live : S → Type 0} {modular : Bool} (w :
   computed_by_told k c ce l s s' sj = told_then w k _ _ _ _ (told.expr k (with_in c) ce l (past m s) (past lm s') sj.after) (λ e0 e1 e1' e1h. told_eat w k right_bracket_kind (refl, refl, refl, refl) e1 e1' e1h _ _ (λ j1. told_ok w k _ _ (past m e1) (past lm e1') j1.after (ap (λ (z : Span). computed_prop_name z e0) (span_same w k k s (past m e1) s' (past lm e1') sj.base j1.after))))
 
   -- a regular expression is no key, and a slash is none
-  told_unless : {A : Type 0} (k : Ceiling) (b d : Bool) → (b ≡ false → d ≡ false) → (v : Result (A × State Input) Fault) (u : Result (A × State S) Fault) → (b ≡ false → Told m Live k v u) → Told m Live k (cond b unexpected v) (cond d unexpected u)
-  told_unless k true d e v u h = never w k _ _
-  told_unless k false d e v u h = subst (λ (z : Bool). Told m Live k v (cond z unexpected u)) (sym (e refl)) (h refl)
+  told_unless : {A : Type 0} (p q : Fault) (k : Ceiling) (b d : Bool) → (b ≡ false → d ≡ false) → (v : Result (A × State Input) Fault) (u : Result (A × State S) Fault) → (b ≡ false → Told m Live k v u) → Told m Live k (cond b (Err p) v) (cond d (Err q) u)
+  told_unless p q k true d e v u h = never w k _ _
+  told_unless p q k false d e v u h = subst (λ (z : Bool). Told m Live k v (cond z (Err q) u)) (sym (e refl)) (h refl)
 
   regexp_off : (k : Ceiling) (s : State S) (o : List ℕ) (n : ℕ) (l : List PlacedToken) → Beside m Live k s (on o n l) → at lm regex_kind (on o n l) ≡ false → at m regex_kind s ≡ false
   regexp_off k s o n [] h e = ap (λ z. eqb (kind_of z) regex_kind) h.hands
@@ -84,7 +84,7 @@ module _ {S : Type 0} {m : Stream S} {Live : S → Type 0} {modular : Bool} (w :
   unfolding key_by
   key_by_told k c ce s s' sh = told_at w k left_bracket_kind (refl, refl, refl, refl) s s' sh _ _ _ _ (λ j1. computed_by_told k c ce assignment_level s s' j1) (told_if w k _ _ (is_word_same w k s s' sh) _ _ _ _
       (λ y. told_ok w k _ _ (past m s) (past lm s') (joined_word w k s s' sh y).after (ap (λ (z : Span). ident_name z (text (input lm s'))) (first_same w k s s' (joined_word w k s s' sh y)) ∙ ap (λ (z : List ℕ). ident_name (first m im s) z) (text_as w k s s' (joined_word w k s s' sh y))))
-      (λ _. told_unless k _ _ (λ e. regexp_off k s s'.commas s'.source.last s'.source.places sh e) _ _ (λ e. literal_or k s s' sh (λ y. absurd (true≢false (sym y ∙ e))))))
+      (λ _. told_unless _ _ k _ _ (λ e. regexp_off k s s'.commas s'.source.last s'.source.places sh e) _ _ (λ e. literal_or k s s' sh (λ y. absurd (true≢false (sym y ∙ e))))))
 
   pub private_by_told : (k : Ceiling) (s : State S) (s' : State Input) (sh : Beside m Live k s s') → Told m Live k (private_by lm il s') (private_by m im s)
   unfolding private_by
@@ -129,7 +129,7 @@ module _ {S : Type 0} {m : Stream S} {Live : S → Type 0} {modular : Bool} (w :
 
   pub prop_rest_told : (k : Ceiling) (c : Code) (ce : c.context.module_ ≡ modular) (s : State S) (s' : State Input) (sh : Beside m Live k s s') (key : Tree) (r : State S) (r' : State Input) (rh : Beside m Live k r r') → Told m Live k (prop_rest lm il c s' key r') (prop_rest m im c s key r)
   unfolding prop_rest
-  prop_rest_told k c ce s s' sh key r r' rh = told_at w k colon_kind (refl, refl, refl, refl) r r' rh _ _ _ _ (λ j1. told_then w k _ _ _ _ (told.expr k (with_in c) ce assignment_level (past m r) (past lm r') j1.after) (λ v0 v1 v1' v1h. told_ok w k _ _ v1 v1' v1h (ap (λ (z : Span). key_value_prop z key v0) (span_same w k k s v1 s' v1' sh v1h)))) (told_at w k left_paren_kind (refl, refl, refl, refl) r r' rh _ _ _ _ (λ j2. told_then w k _ _ _ _ (subst (λ (z : ℕ). Told m Live k (function_by lm il c (lo (input lm s')) false false r') (function_by m im c z false false r)) (ap (λ (z : ℕ). z) (lo_same w k s s' sh)) (function_by_told k c ce (lo (input lm s')) false false r r' rh)) (λ f0 f1 f1' f1h. told_ok w k _ _ f1 f1' f1h (ap (λ (z : Span). method_prop z key f0) (span_same w k k s f1 s' f1' sh f1h)))) (told_name w k c s s' sh _ _ (λ n0 j3. told_at w k assign_kind (refl, refl, refl, refl) (past m s) (past lm s') j3.after _ _ _ _ (λ j4. told_then w k _ _ _ _ (told.expr k (with_in c) ce assignment_level (past m (past m s)) (past lm (past lm s')) j4.after) (λ e0 e1 e1' e1h. told_ok w k _ _ e1 e1' e1h (ap (λ (z : Span). assign_prop z (ident (first lm il s') n0) e0) (span_same w k k s e1 s' e1' sh e1h) ∙ (ap (λ (z : Span). assign_prop (spanned m s e1) (ident z n0) e0) (first_same w k s s' j3))))) (told_ok w k _ _ (past m s) (past lm s') j3.after (ap (λ (z : Span). ident z n0) (first_same w k s s' j3))))))
+  prop_rest_told k c ce s s' sh key r r' rh = told_at w k colon_kind (refl, refl, refl, refl) r r' rh _ _ _ _ (λ j1. told_then w k _ _ _ _ (told.expr k (with_in c) ce assignment_level (past m r) (past lm r') j1.after) (λ v0 v1 v1' v1h. told_ok w k _ _ v1 v1' v1h (ap (λ (z : Span). key_value_prop z key v0) (span_same w k k s v1 s' v1' sh v1h)))) (told_at w k left_paren_kind (refl, refl, refl, refl) r r' rh _ _ _ _ (λ j2. told_then w k _ _ _ _ (subst (λ (z : ℕ). Told m Live k (function_by lm il c (lo (input lm s')) false false r') (function_by m im c z false false r)) (ap (λ (z : ℕ). z) (lo_same w k s s' sh)) (function_by_told k c ce (lo (input lm s')) false false r r' rh)) (λ f0 f1 f1' f1h. told_ok w k _ _ f1 f1' f1h (ap (λ (z : Span). method_prop z key f0) (span_same w k k s f1 s' f1' sh f1h)))) (told_name_of w _ _ k c s s' sh _ _ (λ n0 j3. told_at w k assign_kind (refl, refl, refl, refl) (past m s) (past lm s') j3.after _ _ _ _ (λ j4. told_then w k _ _ _ _ (told.expr k (with_in c) ce assignment_level (past m (past m s)) (past lm (past lm s')) j4.after) (λ e0 e1 e1' e1h. told_ok w k _ _ e1 e1' e1h (ap (λ (z : Span). assign_prop z (ident (first lm il s') n0) e0) (span_same w k k s e1 s' e1' sh e1h) ∙ (ap (λ (z : Span). assign_prop (spanned m s e1) (ident z n0) e0) (first_same w k s s' j3))))) (told_ok w k _ _ (past m s) (past lm s') j3.after (ap (λ (z : Span). ident z n0) (first_same w k s s' j3))))))
 
   pub prop_by_told : (k : Ceiling) (c : Code) (ce : c.context.module_ ≡ modular) (s : State S) (s' : State Input) (sh : Beside m Live k s s') → Told m Live k (prop_by lm il c s') (prop_by m im c s)
   unfolding prop_by
@@ -144,7 +144,7 @@ module _ {S : Type 0} {m : Stream S} {Live : S → Type 0} {modular : Bool} (w :
   object_by_told k c ce s s' sj = told_then w k _ _ _ _ (told_iterate w _ _ (λ k2 x sx sx' sxh. prop_step_told k2 c ce x sx sx' sxh) k no_elements (past m s) (past lm s') sj.after) (λ xs0 xs1 xs1' xs1h. told_ok w k _ _ _ _ (noted_beside k (xs0.comma && last_rests xs0.items) (lo (input lm s')) (lo (input m s)) (lo_same w k s s' sj.base) xs1 xs1' xs1h) (ap (λ (z : Span). object_lit z (pack xs0.items)) (span_same w k k s xs1 s' xs1' sj.base xs1h)))
 
   quasi_told : (k : Ceiling) (tagged : Bool) (f : Tree → Step Spans) (t : Option Tree) (s : State S) (s' : State Input) → Beside m Live k s s'
-      → Told m Live {A = Step Spans} k (elim t [ None ↦ unexpected | Some t ↦ if tagged || is_cooked t then Ok (f t, s') else unexpected ]) (elim t [ None ↦ unexpected | Some t ↦ if tagged || is_cooked t then Ok (f t, s) else unexpected ])
+      → Told m Live {A = Step Spans} k (elim t [ None ↦ unexpected lm s' | Some t ↦ if tagged || is_cooked t then Ok (f t, s') else unexpected lm s' ]) (elim t [ None ↦ unexpected m s | Some t ↦ if tagged || is_cooked t then Ok (f t, s) else unexpected m s ])
   quasi_told k tagged f None s s' h = never w k _ _
   quasi_told k tagged f (Some t) s s' h = told_if w k (tagged || is_cooked t) (tagged || is_cooked t) refl _ _ _ _ (λ _. told_ok w k _ _ s s' h refl) (λ _. never w k _ _)
 
@@ -181,8 +181,8 @@ module _ {S : Type 0} {m : Stream S} {Live : S → Type 0} {modular : Bool} (w :
   heads_joined k l xs s s' h y = joined_at w arrow_kind (refl, refl, refl, refl) k s s' h (and_left (at lm arrow_kind s') (not (brk (input lm s'))) (and_left (arrows lm il s') (nat_le l assignment_level) (and_left (arrows_at lm il l s') (is_read (params_of lm il s'.commas xs)) y)))
 
   parens_told : (k : Ceiling) (oc : Ceiling) (open_ : State S) (open' : State Input) → Beside m Live oc open_ open' → (startc : Ceiling) (start : State S) (start' : State Input) → Beside m Live startc start start' → (n : ℕ) (t : Option (List Tree)) (s : State S) (s' : State Input) → Beside m Live k s s'
-      → Told m Live {A = Tree} k (elim t [ None ↦ unexpected | Some [] ↦ unexpected | Some (e ∷ es) ↦ Ok (paren_expr (spanned lm start' s') (joined (e ∷ es) (span (lo (input lm open')) n)), s') ])
-      (elim t [ None ↦ unexpected | Some [] ↦ unexpected | Some (e ∷ es) ↦ Ok (paren_expr (spanned m start s) (joined (e ∷ es) (span (lo (input m open_)) n)), s) ])
+      → Told m Live {A = Tree} k (elim t [ None ↦ unexpected lm s' | Some [] ↦ unexpected lm s' | Some (e ∷ es) ↦ Ok (paren_expr (spanned lm start' s') (joined (e ∷ es) (span (lo (input lm open')) n)), s') ])
+      (elim t [ None ↦ unexpected m s | Some [] ↦ unexpected m s | Some (e ∷ es) ↦ Ok (paren_expr (spanned m start s) (joined (e ∷ es) (span (lo (input m open_)) n)), s) ])
   parens_told k oc open_ open' oh startc start start' sth n None s s' h = never w k _ _
   parens_told k oc open_ open' oh startc start start' sth n (Some []) s s' h = never w k _ _
   parens_told k oc open_ open' oh startc start start' sth n (Some (e ∷ es)) s s' h = told_ok w k _ _ s s' h
@@ -190,7 +190,7 @@ module _ {S : Type 0} {m : Stream S} {Live : S → Type 0} {modular : Bool} (w :
 
   pub group_end_told : (k : Ceiling) (c : Code) (ce : c.context.module_ ≡ modular) (l : ℕ) (startc : Ceiling) (start : State S) (start' : State Input) (starth : Beside m Live startc start start') (open_c : Ceiling) (open_ : State S) (open_' : State Input) (open_h : Beside m Live open_c open_ open_') (xs : Elements) (s : State S) (s' : State Input) (sh : Beside m Live k s s') → Told m Live k (group_end lm il c l start' open_' xs s') (group_end m im c l start open_ xs s)
   unfolding group_end
-  group_end_told k c ce l startc start start' starth open_c open_ open_' open_h xs s s' sh = told_if w k _ _ (heads_same k l xs s s' sh) _ _ _ _ (λ y. told_pure w k _ _ (params_same s'.commas s.commas (sym sh.commas) xs) _ _ (λ ps. arrow_by_told k c ce startc start start' starth false ps s s' (heads_joined k l xs s s' sh y)))
+  group_end_told k c ce l startc start start' starth open_c open_ open_' open_h xs s s' sh = told_if w k _ _ (heads_same k l xs s s' sh) _ _ _ _ (λ y. told_pure w _ _ k _ _ (params_same s'.commas s.commas (sym sh.commas) xs) _ _ (λ ps. arrow_by_told k c ce startc start start' starth false ps s s' (heads_joined k l xs s s' sh y)))
       (λ _. told_if w k xs.comma xs.comma refl _ _ _ _ (λ _. never w k _ _) (λ _. parens_told k open_c open_ open_' open_h startc start start' starth (last_end xs.items) (plain_elements xs.items) s s' sh))
 
   pub group_by_told : (k : Ceiling) (c : Code) (ce : c.context.module_ ≡ modular) (l : ℕ) (s : State S) (s' : State Input) (sj : Joined m Live k s s') → Told m Live k (group_by lm il c l s') (group_by m im c l s)
@@ -209,7 +209,7 @@ module _ {S : Type 0} {m : Stream S} {Live : S → Type 0} {modular : Bool} (w :
   unfolding async_group
   async_group_told k c ce l startc start start' startj s s' sj = told_then w k _ _ _ _ (elements_by_told k (with_in c) ce false right_paren_kind (refl, refl, refl, refl) (past m s) (past lm s') sj.after) (λ xs0 xs1 xs1' xs1h.
       told_if w k _ _ (ap₂ (λ (a b : Bool). a && not b) (heads_same k l xs0 xs1 xs1' xs1h) (has_same w break_of (λ p l v. refl) k s s' sj)) _ _ _ _
-      (λ y. told_pure w k _ _ (params_same xs1'.commas xs1.commas (sym xs1h.commas) xs0) _ _ (λ ps. arrow_by_told k c ce startc start start' startj.base true ps xs1 xs1' (heads_joined k l xs0 xs1 xs1' xs1h (and_left (heads_params lm il l xs0 xs1') (not (brk (input lm s'))) y))))
+      (λ y. told_pure w _ _ k _ _ (params_same xs1'.commas xs1.commas (sym xs1h.commas) xs0) _ _ (λ ps. arrow_by_told k c ce startc start start' startj.base true ps xs1 xs1' (heads_joined k l xs0 xs1 xs1' xs1h (and_left (heads_params lm il l xs0 xs1') (not (brk (input lm s'))) y))))
       (λ _. told_ok w k _ _ xs1 xs1' xs1h (ap (λ (z : Span). call_expr z (ident (first lm il start') (text (input lm start'))) (pack xs0.items)) (span_same w startc k start xs1 start' xs1' startj.base xs1h)
       ∙ (ap (λ (z : Span). call_expr (spanned m start xs1) (ident z (text (input lm start'))) (pack xs0.items)) (first_same w startc start start' startj) ∙ ap (λ (z : List ℕ). call_expr (spanned m start xs1) (ident (first m im start) z) (pack xs0.items)) (text_as w startc start start' startj)))))
 
@@ -329,7 +329,7 @@ module _ {S : Type 0} {m : Stream S} {Live : S → Type 0} {modular : Bool} (w :
 
   pub assign_by_told : (k : Ceiling) (c : Code) (ce : c.context.module_ ≡ modular) (startc : Ceiling) (start : State S) (start' : State Input) (starth : Beside m Live startc start start') (t : Tree) (s : State S) (s' : State Input) (sj : Joined m Live k s s') → Told m Live k (assign_by lm il c start' t s') (assign_by m im c start t s)
   unfolding assign_by
-  assign_by_told k c ce startc start start' starth t s s' sj = told_pure w k _ _ (ap₂ (λ (a : ℕ) (o : List ℕ). to_target a o t) (kind_as w k s s' sj) (sym sj.base.commas)) _ _ (λ p. told_then w k _ _ _ _ (told.expr k c ce assignment_level (past m s) (past lm s') sj.after) (λ e0 e1 e1' e1h.
+  assign_by_told k c ce startc start start' starth t s s' sj = told_pure w _ _ k _ _ (ap₂ (λ (a : ℕ) (o : List ℕ). to_target a o t) (kind_as w k s s' sj) (sym sj.base.commas)) _ _ (λ p. told_then w k _ _ _ _ (told.expr k c ce assignment_level (past m s) (past lm s') sj.after) (λ e0 e1 e1' e1h.
       told_ok w k _ _ e1 e1' e1h (ap (λ (z : Span). assign_expr z (kind (input lm s')) p e0) (span_same w startc k start e1 start' e1' starth e1h) ∙ ap (λ (z : ℕ). assign_expr (spanned m start e1) z p e0) (kind_as w k s s' sj))))
 
   pub binary_by_told : (k : Ceiling) (c : Code) (ce : c.context.module_ ≡ modular) (startc : Ceiling) (start : State S) (start' : State Input) (starth : Beside m Live startc start start') (t : Tree) (s : State S) (s' : State Input) (sj : Joined m Live k s s') → Told m Live k (binary_by lm il c start' t s') (binary_by m im c start t s)
@@ -345,17 +345,17 @@ module _ {S : Type 0} {m : Stream S} {Live : S → Type 0} {modular : Bool} (w :
   unfolding step_by
   step_none c start t o n p l = by_level (nat_le call_level (level t))
     where
-      by_level : (b : Bool) → Refused {A = Tree × State Input} (cond (not b) unexpected unexpected)
-      by_level true = (Unexpected, refl)
-      by_level false = (Unexpected, refl)
+      by_level : (b : Bool) → Refused {A = Tree × State Input} (cond (not b) (unexpected lm (on o n (regexp p ∷ l))) (unexpected lm (on o n (regexp p ∷ l))))
+      by_level true = (Unexpected _, refl)
+      by_level false = (Unexpected _, refl)
 
   step_end : (c : Code) (start : State Input) (t : Tree) (o : List ℕ) (n : ℕ) → Refused (step_by lm il c start t (on o n []))
   unfolding step_by
   step_end c start t o n = by_level (nat_le call_level (level t))
     where
-      by_level : (b : Bool) → Refused {A = Tree × State Input} (cond (not b) unexpected unexpected)
-      by_level true = (Unexpected, refl)
-      by_level false = (Unexpected, refl)
+      by_level : (b : Bool) → Refused {A = Tree × State Input} (cond (not b) (unexpected lm (on o n [])) (unexpected lm (on o n [])))
+      by_level true = (Unexpected _, refl)
+      by_level false = (Unexpected _, refl)
 
   goes_at : Bool → Bool → ℕ
   goes_at z true = cond z 0 assignment_level
@@ -431,7 +431,7 @@ module _ {S : Type 0} {m : Stream S} {Live : S → Type 0} {modular : Bool} (w :
 
   literal_refused : (k : ℕ) (e : (eqb k str_kind ≡ false) × (eqb k num_kind ≡ false) × (eqb k big_int_kind ≡ false) × (eqb k regex_kind ≡ false)) (o : List ℕ) (n : ℕ) (p : PlacedToken) (l : List PlacedToken) → Refused (literal_by lm il (on o n (kinded k p ∷ l)))
   unfolding literal_by
-  literal_refused k e o n p l = (Unexpected, ap (λ (z : Option Tree). elim z [ None ↦ unexpected | Some t ↦ Ok (t, past lm (on o n (kinded k p ∷ l))) ]) (literal_none k e p.spot.token.content (first lm il (on o n (kinded k p ∷ l)))))
+  literal_refused k e o n p l = (Unexpected _, ap (λ (z : Option Tree). elim z [ None ↦ unexpected lm (on o n (kinded k p ∷ l)) | Some t ↦ Ok (t, past lm (on o n (kinded k p ∷ l))) ]) (literal_none k e p.spot.token.content (first lm il (on o n (kinded k p ∷ l)))))
 
   expr_refused : (c : Code) (l : ℕ) (r : State Input) → is_slash (kind (input lm r)) ≡ true → Refused (expr_from lm il c l r)
   unfolding expr_from prefix_by

@@ -12,7 +12,7 @@ use Rattle.ecma_reading.specs.Expressions.{first}
 use Rattle.ecma_reading.specs.Statements.{Body, starts_async}
 use Rattle.ecma_reading.specs.Modules.{string_by, export_name_by, local_by, attributes_by, source_by, named_import, named_export_item, specifier_step, specifiers_by, star_import, import_end, import_rest, import_default, import_decl_by, export_default, export_star, export_list, starts_declaration, export_by, starts_import, item_by, program_item, program_step, line_of, program_tree, program_rest, program_by}
 use Rattle.ecma_sources.specs.Sources.{is_slash, Orderly}
-use Rattle.ecma_sources.proofs.Beside.{lm, on, Ceiling, kinded, and_left, and_right, Beside, Joined, Told, agree1, agree2, span_same, joined_by, joined_at, first_same, content_as, told_ok, never, told_then, told_if, told_at, told_eat, told_word, told_own, told_name, told_any, told_end, told_iterate, told_iterate_in, Keeps, keeps_if, keeps_then, turned_beside, told_operand, Refused, refused_then, at_slash, told_refused, Heard, same_line}
+use Rattle.ecma_sources.proofs.Beside.{lm, on, Ceiling, kinded, and_left, and_right, Beside, Joined, Told, agree1, agree2, span_same, joined_by, joined_at, first_same, content_as, told_ok, never, told_then, told_if, told_at, told_placed, told_eat, told_word, told_own, told_name, told_any, told_end, told_iterate, told_iterate_in, Keeps, keeps_if, keeps_then, turned_beside, told_operand, Refused, refused_then, at_slash, told_refused, Heard, same_line}
 use Rattle.ecma_sources.proofs.Expressions.{literal_by_told, object_by_told, function_expr_by_told, class_expr_by_told}
 
 module _ {S : Type 0} {m : Stream S} {Live : S → Type 0} {modular : Bool} (w : Orderly m Live modular) {il : Inner Input} {im : Inner S} (told : Heard m Live modular il im) where
@@ -46,7 +46,7 @@ module _ {S : Type 0} {m : Stream S} {Live : S → Type 0} {modular : Bool} (w :
 
   pub named_import_told : (k : Ceiling) (c : Code) (ce : c.context.module_ ≡ modular) (s : State S) (s' : State Input) (sh : Beside m Live k s s') → Told m Live k (named_import lm il c s') (named_import m im c s)
   unfolding named_import
-  named_import_told k c ce s s' sh = told_then w k _ _ _ _ (export_name_by_told k s s' sh) (λ n0 n1 n1' n1h. told_at w k as_kind (refl, refl, refl, refl) n1 n1' n1h _ _ _ _ (λ j1. told_word w k c as_kind (refl, refl, refl, refl) n1 n1' n1h _ _ (λ j2. told_then w k _ _ _ _ (local_by_told k c ce (past m n1) (past lm n1') j2.after) (λ l0 l1 l1' l1h. told_ok w k _ _ l1 l1' l1h (ap (λ (z : Span). import_named_specifier z l0 n0) (span_same w k k s l1 s' l1' sh l1h))))) (told_then w k _ _ _ _ (local_by_told k c ce s s' sh) (λ l0 l1 l1' l1h. told_ok w k _ _ l1 l1' l1h (ap (λ (z : Span). import_named_specifier z l0 absent) (span_same w k k s l1 s' l1' sh l1h)))))
+  named_import_told k c ce s s' sh = told_then w k _ _ _ _ (export_name_by_told k s s' sh) (λ n0 n1 n1' n1h. told_at w k as_kind (refl, refl, refl, refl) n1 n1' n1h _ _ _ _ (λ j1. told_word w k c as_kind (refl, refl, refl, refl) n1 n1' n1h _ _ (λ j2. told_then w k _ _ _ _ (local_by_told k c ce (past m n1) (past lm n1') j2.after) (λ l0 l1 l1' l1h. told_ok w k _ _ l1 l1' l1h (ap (λ (z : Span). import_named_specifier z l0 n0) (span_same w k k s l1 s' l1' sh l1h))))) (told_placed w _ _ k (local_by lm il c s') (local_by m im c s) _ _ (told_then w k _ _ _ _ (local_by_told k c ce s s' sh) (λ l0 l1 l1' l1h. told_ok w k _ _ l1 l1' l1h (ap (λ (z : Span). import_named_specifier z l0 absent) (span_same w k k s l1 s' l1' sh l1h))))))
 
   pub named_export_item_told : (k : Ceiling) (c : Code) (ce : c.context.module_ ≡ modular) (s : State S) (s' : State Input) (sh : Beside m Live k s s') → Told m Live k (named_export_item lm il c s') (named_export_item m im c s)
   unfolding named_export_item
@@ -144,13 +144,13 @@ module _ {S : Type 0} {m : Stream S} {Live : S → Type 0} {modular : Bool} (w :
   program_rest_told k modules c ce startc start start' starth l s s' sh = told_then w k _ _ _ _ (told_iterate_in w (λ (z : Body). z.code.context.module_ ≡ modular) _ _ (λ k2 x1 sx sx' inv sxh. program_step_told k2 modules x1 inv sx sx' sxh) (λ x1 r' inv. program_step_keeps modules x1 r' inv) k (record { items = []; code = c; starts = true }) s s' ce sh) (λ b0 b1 b1' b1h. told_ok w k _ _ b1 b1' b1h (ap (λ (z : Span). program_tree m im modules z (pack b0.items) l) (span_same w startc k start b1 start' b1' starth b1h)))
 
   line_told : (k : Ceiling) (modules : Bool) (c : Code) (ce : c.context.module_ ≡ modular) (s : State S) (s' : State Input) → Beside m Live k s s' → (r : State S) (r' : State Input) → Beside m Live k r r' → (t : Option (List ℕ))
-      → Told m Live {A = Tree} k (elim t [ None ↦ unexpected | Some l ↦ program_rest lm il modules c s' (Some l) r' ]) (elim t [ None ↦ unexpected | Some l ↦ program_rest m im modules c s (Some l) r ])
+      → Told m Live {A = Tree} k (elim t [ None ↦ unexpected lm s' | Some l ↦ program_rest lm il modules c s' (Some l) r' ]) (elim t [ None ↦ unexpected m s | Some l ↦ program_rest m im modules c s (Some l) r ])
   line_told k modules c ce s s' sh r r' rh None = never w k _ _
   line_told k modules c ce s s' sh r r' rh (Some l) = program_rest_told k modules c ce k s s' sh (Some l) r r' rh
 
   pub program_by_told : (k : Ceiling) (modules : Bool) (c : Code) (ce : c.context.module_ ≡ modular) (s : State S) (s' : State Input) (sh : Beside m Live k s s') → Told m Live k (program_by lm il modules c s') (program_by m im modules c s)
   unfolding program_by
   program_by_told k modules c ce s s' sh = told_at w k shebang_kind (refl, refl, refl, refl) s s' sh _ _ _ _
-      (λ j. subst (λ (z : Option (List ℕ)). Told m Live {A = Tree} k (elim (line_of lm il (content (input lm s'))) [ None ↦ unexpected | Some l ↦ program_rest lm il modules c s' (Some l) (past lm s') ]) (elim z [ None ↦ unexpected | Some l ↦ program_rest m im modules c s (Some l) (past m s) ]))
+      (λ j. subst (λ (z : Option (List ℕ)). Told m Live {A = Tree} k (elim (line_of lm il (content (input lm s'))) [ None ↦ unexpected lm s' | Some l ↦ program_rest lm il modules c s' (Some l) (past lm s') ]) (elim z [ None ↦ unexpected m s | Some l ↦ program_rest m im modules c s (Some l) (past m s) ]))
       (ap (λ (z : Content). line_of lm il z) (content_as w k s s' j) ∙ same_line m im il (content (input m s))) (line_told k modules c ce s s' sh (past m s) (past lm s') j.after (line_of lm il (content (input lm s')))))
       (program_rest_told k modules c ce k s s' sh None s s' sh)

@@ -7,7 +7,7 @@ use Rattle.ecma_tree.specs.Tree.{Tree, pack, ident_name, this_expr, array_lit, o
 use Rattle.ecma_syntax.specs.Input.{Code, kind, content, lo, text, is_word, barred, span, kind2, brk, has_in, with_in, in_list, by, in_arrow, turned_strict}
 use Rattle.ecma_syntax.specs.Shape.{level, ends, fits_left, is_chain, is_absent}
 use Rattle.ecma_syntax.specs.Operators.{assignment_level, binary_level, goes_expr, other_end, expression_level, coalesce_level, unary_level, new_level, call_level, member_level, right_level, is_assign_op, operates, between}
-use Rattle.ecma_reading.specs.Source.{Fault, ◌>>=◌, unexpected, Stream, State, Read, input, past, operand, at, bound, spanned, eat, eat_word, is_name, name, any_word, Step, go_on, finished, next_by, iterate_n, iterate, Inner}
+use Rattle.ecma_reading.specs.Source.{Fault, ◌>>=◌, placed, unexpected, Stream, State, Read, input, past, operand, at, bound, spanned, eat, eat_word, is_name, name, any_word, Step, go_on, finished, next_by, iterate_n, iterate, Inner}
 use Rattle.ecma_reading.specs.Expressions.{Elements, literal, only_kind, joined, extended, is_read, last_end, plain_elements, no_elements, is_unary, first, literal_by, elements_by, noted, array_by, computed_by, private_by, function_by, star, prop_step, object_by, quasi_step, template_by, arrows_at, arrow_by, params_of, heads_params, group_end, group_by, ident_end, arguments_by, async_group, function_expr_name, function_expr_by, is_async_param, async_by, class_expr_by, new_end, callee_by, new_by, super_end, fits_import, import_by, unary_by, update_by, await_by, ends_yield, yield_end, yield_by, word_by, keyword_by, prefix_by, member_name, on_chain, member_by, index_by, call_tree, call_by, chain_by, cond_by, assign_by, binary_by, step_by, loop_step, loop_by, private_in, expr_from, expr_by}
 use Rattle.ecma_reading.specs.Cover.{last_rests, to_target}
 use Rattle.ecma_sources.specs.Sources.{}
@@ -100,11 +100,11 @@ module _ {S : Type 0} (m : Stream S) (im : Inner S) where
   unfolding literal_by
   literal_by_solid s = by_content (kind (input m s)) (content (input m s)) (first m im s)
     where
-      by_only : (b : Bool) (t : Tree) → Whole t → Solid m (elim (only_kind b t) [ None ↦ unexpected | Some t ↦ Ok (t, past m s) ])
+      by_only : (b : Bool) (t : Tree) → Whole t → Solid m (elim (only_kind b t) [ None ↦ unexpected m s | Some t ↦ Ok (t, past m s) ])
       by_only true t p = record { so = p }
       by_only false t p = solid_never
 
-      by_content : (k : ℕ) (c : Content) (p : Span) → Solid m (elim (literal k c p) [ None ↦ unexpected | Some t ↦ Ok (t, past m s) ])
+      by_content : (k : ℕ) (c : Content) (p : Span) → Solid m (elim (literal k c p) [ None ↦ unexpected m s | Some t ↦ Ok (t, past m s) ])
       by_content k (Quoted units raw) p = by_only _ _ (refl, refl)
       by_content k (Numeral value raw) p = by_only _ _ (refl, refl)
       by_content k (BigNumeral radix digits raw) p = by_only _ _ (refl, refl)
@@ -131,7 +131,7 @@ module _ {S : Type 0} (m : Stream S) (im : Inner S) where
   unfolding group_end
   group_end_solid c l start open_ xs s = solid_if (heads_params m im l xs s) _ _ (solid_pure _ _ (λ ps. arrow_by_solid c start false ps s)) (solid_if xs.comma _ _ solid_never (by_plain (plain_elements xs.items)))
     where
-      by_plain : (t : Option (List Tree)) → Solid m (elim t [ None ↦ unexpected | Some [] ↦ unexpected | Some (e ∷ es) ↦ Ok (paren_expr (spanned m start s) (joined (e ∷ es) (span (lo (input m open_)) (last_end xs.items))), s) ])
+      by_plain : (t : Option (List Tree)) → Solid m (elim t [ None ↦ unexpected m s | Some [] ↦ unexpected m s | Some (e ∷ es) ↦ Ok (paren_expr (spanned m start s) (joined (e ∷ es) (span (lo (input m open_)) (last_end xs.items))), s) ])
       by_plain None = solid_never
       by_plain (Some []) = solid_never
       by_plain (Some (e ∷ es)) = record { so = (refl, refl) }
@@ -146,7 +146,7 @@ module _ {S : Type 0} (m : Stream S) (im : Inner S) where
 
   async_group_solid : (c : Code) (l : ℕ) (start : State S) (s : State S) → Solid m (async_group m im c l start s)
   unfolding async_group
-  async_group_solid c l start s = (solid_then (elements_by m im (with_in c) false right_paren_kind (past m s)) (λ xs. if heads_params m im l xs.0 xs.1 && not (brk (input m s)) then (params_of m im xs.1.commas xs.0 >>= λ ps. arrow_by m im c start true ps xs.1) else (Ok (call_expr (spanned m start xs.1) (ident (first m im start) (text (input m start))) (pack xs.0.items), xs.1))) (λ xs. (solid_if (heads_params m im l xs.0 xs.1 && not (brk (input m s))) _ _ (solid_then (params_of m im xs.1.commas xs.0) (λ ps. arrow_by m im c start true ps xs.1) (λ ps. (arrow_by_solid c start true ps (xs.1)))) (record { so = (refl, refl) }))))
+  async_group_solid c l start s = (solid_then (elements_by m im (with_in c) false right_paren_kind (past m s)) (λ xs. if heads_params m im l xs.0 xs.1 && not (brk (input m s)) then (placed (bound m xs.1) (params_of m im xs.1.commas xs.0) >>= λ ps. arrow_by m im c start true ps xs.1) else (Ok (call_expr (spanned m start xs.1) (ident (first m im start) (text (input m start))) (pack xs.0.items), xs.1))) (λ xs. (solid_if (heads_params m im l xs.0 xs.1 && not (brk (input m s))) _ _ (solid_then (placed (bound m xs.1) (params_of m im xs.1.commas xs.0)) (λ ps. arrow_by m im c start true ps xs.1) (λ ps. (arrow_by_solid c start true ps (xs.1)))) (record { so = (refl, refl) }))))
 
   function_expr_name_solid : (c : Code) (start : State S) (generator : Bool) (async : Bool) (s : State S) → Solid m (function_expr_name m im c start generator async s)
   unfolding function_expr_name
@@ -178,7 +178,7 @@ module _ {S : Type 0} (m : Stream S) (im : Inner S) where
 
   import_by_solid : (c : Code) (s : State S) → Solid m (import_by m im c s)
   unfolding import_by
-  import_by_solid c s = (solid_then (eat_word m c import_kind s) (λ r. if at m dot_kind r then (eat_word m c meta_kind (past m r) >>= λ t. Ok (meta_prop_expr (spanned m s t) import_kind, t)) else ((eat m left_paren_kind r >>= λ o. (elements_by m im c false right_paren_kind o >>= λ xs. if fits_import m im c xs.0 then Ok (call_expr (spanned m s xs.1) (import (first m im s)) (pack xs.0.items), xs.1) else (unexpected))))) (λ r. (solid_if (at m dot_kind r) _ _ (solid_then (eat_word m c meta_kind (past m r)) (λ t. Ok (meta_prop_expr (spanned m s t) import_kind, t)) (λ t. (record { so = (refl, refl) }))) (solid_then (eat m left_paren_kind r) (λ o. (elements_by m im c false right_paren_kind o >>= λ xs. if fits_import m im c xs.0 then Ok (call_expr (spanned m s xs.1) (import (first m im s)) (pack xs.0.items), xs.1) else (unexpected))) (λ o. (solid_then (elements_by m im c false right_paren_kind o) (λ xs. if fits_import m im c xs.0 then Ok (call_expr (spanned m s xs.1) (import (first m im s)) (pack xs.0.items), xs.1) else (unexpected)) (λ xs. (solid_if (fits_import m im c xs.0) _ _ (record { so = (refl, refl) }) solid_never))))))))
+  import_by_solid c s = (solid_then (eat_word m c import_kind s) (λ r. if at m dot_kind r then (eat_word m c meta_kind (past m r) >>= λ t. Ok (meta_prop_expr (spanned m s t) import_kind, t)) else ((eat m left_paren_kind r >>= λ o. (elements_by m im c false right_paren_kind o >>= λ xs. if fits_import m im c xs.0 then Ok (call_expr (spanned m s xs.1) (import (first m im s)) (pack xs.0.items), xs.1) else (unexpected m xs.1))))) (λ r. (solid_if (at m dot_kind r) _ _ (solid_then (eat_word m c meta_kind (past m r)) (λ t. Ok (meta_prop_expr (spanned m s t) import_kind, t)) (λ t. (record { so = (refl, refl) }))) (solid_then (eat m left_paren_kind r) (λ o. (elements_by m im c false right_paren_kind o >>= λ xs. if fits_import m im c xs.0 then Ok (call_expr (spanned m s xs.1) (import (first m im s)) (pack xs.0.items), xs.1) else (unexpected m xs.1))) (λ o. (solid_then (elements_by m im c false right_paren_kind o) (λ xs. if fits_import m im c xs.0 then Ok (call_expr (spanned m s xs.1) (import (first m im s)) (pack xs.0.items), xs.1) else (unexpected m xs.1)) (λ xs. (solid_if (fits_import m im c xs.0) _ _ (record { so = (refl, refl) }) solid_never))))))))
 
   unary_by_solid : (c : Code) (s : State S) → Solid m (unary_by m im c s)
   unfolding unary_by
@@ -234,7 +234,7 @@ module _ {S : Type 0} (m : Stream S) (im : Inner S) where
 
   assign_by_solid : (c : Code) (start : State S) (t : Tree) (s : State S) → Solid m (assign_by m im c start t s)
   unfolding assign_by
-  assign_by_solid c start t s = (solid_then (to_target (kind (input m s)) s.commas t) (λ p. (im.expr c assignment_level (past m s) >>= λ e. Ok (assign_expr (spanned m start e.1) (kind (input m s)) p e.0, e.1))) (λ p. (solid_then (im.expr c assignment_level (past m s)) (λ e. Ok (assign_expr (spanned m start e.1) (kind (input m s)) p e.0, e.1)) (λ e. (record { so = (refl, refl) })))))
+  assign_by_solid c start t s = (solid_then (placed (bound m s) (to_target (kind (input m s)) s.commas t)) (λ p. (im.expr c assignment_level (past m s) >>= λ e. Ok (assign_expr (spanned m start e.1) (kind (input m s)) p e.0, e.1))) (λ p. (solid_then (im.expr c assignment_level (past m s)) (λ e. Ok (assign_expr (spanned m start e.1) (kind (input m s)) p e.0, e.1)) (λ e. (record { so = (refl, refl) })))))
 
   binary_by_solid : (c : Code) (start : State S) (t : Tree) (s : State S) → Solid m (binary_by m im c start t s)
   unfolding binary_by
@@ -254,7 +254,7 @@ module _ {S : Type 0} (m : Stream S) (im : Inner S) where
 
   private_in_solid : (c : Code) (l : ℕ) (s : State S) → Solid m (private_in m im c l s)
   unfolding private_in
-  private_in_solid c l s = (solid_then (private_by m im s) (λ p. if at m in_kind p.1 && (has_in c && nat_le l (binary_level in_kind)) then (binary_by m im c s p.0 p.1 >>= λ t. loop_by m im c l s t.0 t.1) else (unexpected)) (λ p. (solid_if (at m in_kind p.1 && (has_in c && nat_le l (binary_level in_kind))) _ _ (solid_pass (binary_by m im c s p.0 p.1) (λ t. loop_by m im c l s t.0 t.1) (binary_by_solid c s (p.0) (p.1)) (λ x y p. loop_by_solid c l s x y p)) solid_never)))
+  private_in_solid c l s = (solid_then (private_by m im s) (λ p. if at m in_kind p.1 && (has_in c && nat_le l (binary_level in_kind)) then (binary_by m im c s p.0 p.1 >>= λ t. loop_by m im c l s t.0 t.1) else (unexpected m p.1)) (λ p. (solid_if (at m in_kind p.1 && (has_in c && nat_le l (binary_level in_kind))) _ _ (solid_pass (binary_by m im c s p.0 p.1) (λ t. loop_by m im c l s t.0 t.1) (binary_by_solid c s (p.0) (p.1)) (λ x y p. loop_by_solid c l s x y p)) solid_never)))
 
   expr_from_solid : (c : Code) (l : ℕ) (s : State S) → Solid m (expr_from m im c l s)
   unfolding expr_from

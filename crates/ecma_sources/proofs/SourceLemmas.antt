@@ -1,8 +1,9 @@
 -- The readers of every depth read of a source what they read of the list that it hands out; so programs and parts are.
-use Rattle.std.proofs.Common.{◌≡◌, ℕ, zero, suc, Bool, true, false, List, [], length, Result, Ok, Err, if◌then◌else◌, refl, sym, ap, ◌∙◌, true≢false, arith}
+use Rattle.std.proofs.Common.{◌≡◌, ℕ, zero, suc, Bool, true, false, List, [], length, Result, Ok, Err, cond, if◌then◌else◌, refl, sym, ap, ◌∙◌, true≢false, arith}
 use Rattle.ecma_token.specs.declared.syntax.EsSyntax.{EsSyntax}
 use Rattle.ecma_tree.specs.Tree.{Tree}
 use Rattle.ecma_syntax.specs.Input.{PlacedToken, Input, script_code, module_code}
+use Rattle.ecma_syntax.specs.Shape.{is_clean}
 use Rattle.ecma_reading.specs.Source.{Fault, TooDeep, ◌>>=◌, Stream, State}
 use Rattle.ecma_reading.specs.Expressions.{is_read}
 use Rattle.ecma_reading.specs.Reading.{readers, finish, read_program, read_list}
@@ -22,8 +23,8 @@ module _ {S : Type 0} {m : Stream S} {Live : S → Type 0} {modular : Bool} (w :
     stmt = λ k c e s r h. record { so = tt };
     body = λ k c e s r h. record { so = tt };
     class_tail = λ k c e n s r h. record { so = tt };
-    no_expr = λ c l r e. (TooDeep, refl);
-    no_stmt = λ c r e. (TooDeep, refl);
+    no_expr = λ c l r e. (TooDeep _, refl);
+    no_stmt = λ c r e. (TooDeep _, refl);
   }
   readers_heard (suc d) = let n = readers_heard d in record {
     expr = λ k c e l s r h. expr_by_told w n k c e l s r h;
@@ -43,9 +44,13 @@ module _ {S : Type 0} {m : Stream S} {Live : S → Type 0} {modular : Bool} (w :
   unfolding start_at
   beside_at s ps o a h = record { commas = refl; last = refl; live = a; hands = h; falls = omega arith }
 
-  finished : (k : Ceiling) (y : Result (Tree × State Input) Fault) (x : Result (Tree × State S) Fault) (t : Tree) → Told m Live k y x → (y >>= finish) ≡ Ok t → (x >>= finish) ≡ Ok t
+  finished : (k : Ceiling) (y : Result (Tree × State Input) Fault) (x : Result (Tree × State S) Fault) (t : Tree) → Told m Live k y x → (y >>= finish lm) ≡ Ok t → (x >>= finish m) ≡ Ok t
   unfolding finish
-  finished k (Ok y) x t h e = ap (λ (z : Result (Tree × State S) Fault). z >>= finish) h.so.1 ∙ e
+  finished k (Ok y) x t h e = ap (λ (z : Result (Tree × State S) Fault). z >>= finish m) h.so.1 ∙ clean (is_clean y.0) _ _ e
+    where
+      clean : (b : Bool) (d i : Fault) → cond b (Ok y.0) (Err d) ≡ Ok t → cond b (Ok y.0) (Err i) ≡ Ok t
+      clean true d i e = e
+      clean false d i e = absurd (true≢false (sym (ap (λ z. is_read z) e)))
   finished k (Err d) x t h e = absurd (true≢false (sym (ap (λ z. is_read z) e)))
 
   pub part : (k : Ceiling) (y : Result (Tree × State Input) Fault) (x : Result (Tree × State S) Fault) → Told m Live k y x → SameRead m Live y x

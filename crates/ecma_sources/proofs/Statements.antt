@@ -12,7 +12,7 @@ use Rattle.ecma_token.specs.declared.context.Context.{Context}
 use Rattle.ecma_reading.specs.Expressions.{first, function_by, is_async_head}
 use Rattle.ecma_reading.specs.Statements.{Body, Chain, chained, initial_pat, after_item, array_item, array_pat_by, keyed_item, named_item, pattern_prop, object_item, object_pat_by, pat_by, block_step, block_rest, block_by, body_item, body_step, body_by, declarator_by, declarator_step, declarators_by, starts_let, starts_variables, variables_by, starts_using, starts_await_using, using_by, function_decl_by, class_decl_by, field_value, class_key, method_tree, constructor_of, class_method_by, class_getter, class_setter, accessor_by, field_or_method, generator_member, member_rest, starts_static, static_by, member_step, members_by, class_tail_by, in_parens, sub_by, with_by, while_by, do_by, branched, else_by, if_step, if_by, ends_here, return_by, throw_by, label_by, jump_by, debugger_by, case_step, case_rest, case_by, has_default, cases_step, switch_by, catch_by, finally_by, try_by, clause_by, for_rest, over_rest, in_rest, of_rest, one_bare, head_rest, for_variables, for_using, for_expression_rest, for_expression, for_head, for_by, labelled_by, expression_by, starts_async, keyword_stmt, stmt_by, stmt_from}
 use Rattle.ecma_sources.specs.Sources.{is_slash, one, two, Orderly}
-use Rattle.ecma_sources.proofs.Beside.{lm, on, Ceiling, kinded, Plain, and_left, and_right, Beside, Joined, Told, agree1, agree2, at_same, lo_same, span_same, joined_by, joined_at, joined2, kind_two, has_same, first_same, kind_as, told_ok, never, told_then, told_if, told_at, told_pure, told_eat, told_word, told_own, told_name, told_end, told_iterate, told_iterate_in, Keeps, keeps_if, keeps_then, turned_beside, told_operand, Refused, refused_then, refused_else, at_slash, told_refused, Heard, same_constructor, same_default, same_bare}
+use Rattle.ecma_sources.proofs.Beside.{lm, on, Ceiling, kinded, Plain, and_left, and_right, Beside, Joined, Told, agree1, agree2, at_same, lo_same, span_same, joined_by, joined_at, joined2, kind_two, has_same, first_same, kind_as, told_ok, never, told_then, told_if, told_at, told_pure, told_eat, told_word, told_own, told_name, told_name_of, told_end, told_iterate, told_iterate_in, Keeps, keeps_if, keeps_then, turned_beside, told_operand, Refused, refused_then, refused_else, at_slash, told_refused, Heard, same_constructor, same_default, same_bare}
 use Rattle.ecma_sources.proofs.Expressions.{key_by_told, private_by_told, function_by_told, setter_parameter_told, star_told}
 
 module _ {S : Type 0} {m : Stream S} {Live : S → Type 0} {modular : Bool} (w : Orderly m Live modular) {il : Inner Input} {im : Inner S} (told : Heard m Live modular il im) where
@@ -94,13 +94,13 @@ module _ {S : Type 0} {m : Stream S} {Live : S → Type 0} {modular : Bool} (w :
   unfolding keyed_item
   keyed_item_told k c ce startc start start' starth key s s' sh = told_then w k _ _ _ _ (told.pat k (with_in c) ce s s' sh) (λ p0 p1 p1' p1h. told_then w k _ _ _ _ (initial_pat_told k c ce k s s' sh p0 p1 p1' p1h) (λ q0 q1 q1' q1h. told_ok w k _ _ q1 q1' q1h (ap (λ (z : Span). key_value_pat_prop z key q0) (span_same w startc k start q1 start' q1' starth q1h))))
 
-  pub named_item_told : (k : Ceiling) (c : Code) (ce : c.context.module_ ≡ modular) (s : State S) (s' : State Input) (sh : Beside m Live k s s') → Told m Live k (named_item lm il c s') (named_item m im c s)
+  pub named_item_told : (k : Ceiling) (c : Code) (ce : c.context.module_ ≡ modular) (r : State S) (r' : State Input) (s : State S) (s' : State Input) (sh : Beside m Live k s s') → Told m Live k (named_item lm il c r' s') (named_item m im c r s)
   unfolding named_item
-  named_item_told k c ce s s' sh = told_name w k c s s' sh _ _ (λ n0 j1. told_at w k assign_kind (refl, refl, refl, refl) (past m s) (past lm s') j1.after _ _ _ _ (λ j2. told_then w k _ _ _ _ (told.expr k (with_in c) ce assignment_level (past m (past m s)) (past lm (past lm s')) j2.after) (λ e0 e1 e1' e1h. told_ok w k _ _ e1 e1' e1h (ap (λ (z : Span). assign_pat_prop z (binding_ident (first lm il s') (ident (first lm il s') n0)) e0) (span_same w k k s e1 s' e1' sh e1h) ∙ (ap (λ (z : Span). assign_pat_prop (spanned m s e1) (binding_ident z (ident z n0)) e0) (first_same w k s s' j1))))) (told_ok w k _ _ (past m s) (past lm s') j1.after (ap (λ (z : Span). assign_pat_prop z (binding_ident z (ident z n0)) absent) (first_same w k s s' j1))))
+  named_item_told k c ce r r' s s' sh = told_name_of w _ _ k c s s' sh _ _ (λ n0 j1. told_at w k assign_kind (refl, refl, refl, refl) (past m s) (past lm s') j1.after _ _ _ _ (λ j2. told_then w k _ _ _ _ (told.expr k (with_in c) ce assignment_level (past m (past m s)) (past lm (past lm s')) j2.after) (λ e0 e1 e1' e1h. told_ok w k _ _ e1 e1' e1h (ap (λ (z : Span). assign_pat_prop z (binding_ident (first lm il s') (ident (first lm il s') n0)) e0) (span_same w k k s e1 s' e1' sh e1h) ∙ (ap (λ (z : Span). assign_pat_prop (spanned m s e1) (binding_ident z (ident z n0)) e0) (first_same w k s s' j1))))) (told_ok w k _ _ (past m s) (past lm s') j1.after (ap (λ (z : Span). assign_pat_prop z (binding_ident z (ident z n0)) absent) (first_same w k s s' j1))))
 
   pub pattern_prop_told : (k : Ceiling) (c : Code) (ce : c.context.module_ ≡ modular) (s : State S) (s' : State Input) (sh : Beside m Live k s s') → Told m Live k (pattern_prop lm il c s') (pattern_prop m im c s)
   unfolding pattern_prop
-  pattern_prop_told k c ce s s' sh = told_then w k _ _ _ _ (key_by_told w told k c ce s s' sh) (λ k0 k1 k1' k1h. told_at w k colon_kind (refl, refl, refl, refl) k1 k1' k1h _ _ _ _ (λ j1. keyed_item_told k c ce k s s' sh k0 (past m k1) (past lm k1') j1.after) (named_item_told k c ce s s' sh))
+  pattern_prop_told k c ce s s' sh = told_then w k _ _ _ _ (key_by_told w told k c ce s s' sh) (λ k0 k1 k1' k1h. told_at w k colon_kind (refl, refl, refl, refl) k1 k1' k1h _ _ _ _ (λ j1. keyed_item_told k c ce k s s' sh k0 (past m k1) (past lm k1') j1.after) (named_item_told k c ce k1 k1' s s' sh))
 
   pub object_item_told : (k : Ceiling) (c : Code) (ce : c.context.module_ ≡ modular) (xs : List Tree) (s : State S) (s' : State Input) (sh : Beside m Live k s s') → Told m Live k (object_item lm il c xs s') (object_item m im c xs s)
   unfolding object_item
@@ -268,10 +268,10 @@ module _ {S : Type 0} {m : Stream S} {Live : S → Type 0} {modular : Bool} (w :
   unfolding if_step eat_word
   if_step_keeps x r e = keeps_word x.code.context if_kind r _ (λ o. keeps_then (in_parens lm il x.code o) _ (λ i. keeps_then (sub_by lm il x.code true i.1) _ (λ a. keeps_if (at lm else_kind a.1) _ _ (keeps_word x.code.context else_kind a.1 _ (λ q. else_by_keeps (branched lm il r x i.0 a.0) q e)) (record { so = tt }))))
     where
-      keeps_word : (c : Context) (j : ℕ) (r : State Input) (f : State Input → Result (Step Chain × State Input) Fault) → ((q : State Input) → Keeps (λ (z : Chain). z.code.context.module_ ≡ modular) (f q)) → Keeps (λ (z : Chain). z.code.context.module_ ≡ modular) ((if at lm j r && not (barred c (input lm r)) then Ok (past lm r) else unexpected) >>= f)
+      keeps_word : (c : Context) (j : ℕ) (r : State Input) (f : State Input → Result (Step Chain × State Input) Fault) → ((q : State Input) → Keeps (λ (z : Chain). z.code.context.module_ ≡ modular) (f q)) → Keeps (λ (z : Chain). z.code.context.module_ ≡ modular) ((if at lm j r && not (barred c (input lm r)) then Ok (past lm r) else unexpected lm r) >>= f)
       keeps_word c j r f h = by_test (at lm j r && not (barred c (input lm r)))
         where
-          by_test : (b : Bool) → Keeps (λ (z : Chain). z.code.context.module_ ≡ modular) (cond b (Ok (past lm r)) unexpected >>= f)
+          by_test : (b : Bool) → Keeps (λ (z : Chain). z.code.context.module_ ≡ modular) (cond b (Ok (past lm r)) (unexpected lm r) >>= f)
           by_test true = h (past lm r)
           by_test false = record { so = tt }
 
@@ -365,7 +365,7 @@ module _ {S : Type 0} {m : Stream S} {Live : S → Type 0} {modular : Bool} (w :
 
   pub for_expression_rest_told : (k : Ceiling) (c : Code) (ce : c.context.module_ ≡ modular) (startc : Ceiling) (start : State S) (start' : State Input) (starth : Beside m Live startc start start') (awaits : Bool) (ownc : Ceiling) (own : State S) (own' : State Input) (ownh : Beside m Live ownc own own') (e : Tree) (s : State S) (s' : State Input) (sh : Beside m Live k s s') → Told m Live k (for_expression_rest lm il c start' awaits own' e s') (for_expression_rest m im c start awaits own e s)
   unfolding for_expression_rest
-  for_expression_rest_told k c ce startc start start' starth awaits ownc own own' ownh e s s' sh = told_at w k of_kind (refl, refl, refl, refl) s s' sh _ _ _ _ (λ j1. told_if w k _ _ (agree2 w (λ z. at lm let_kind (on [] 0 z) || (not awaits && (at lm async_kind (on [] 0 z) && (kind2 (input lm (on [] 0 z)) == of_kind)))) (λ p q l v. refl) (λ p q l v. refl) (λ n p q l v. refl) (λ n p q l v. refl) (λ n p l v. refl) ownc own own' ownh) _ _ _ _ (λ y2. never w k _ _) (λ _. told_pure w k _ _ (ap (λ (z : List ℕ). to_head z e) (sym sh.commas)) _ _ (λ l. of_rest_told k c ce startc start start' starth awaits l s s' sh))) (told_if w k (awaits) (awaits) refl _ _ _ _ (λ _. never w k _ _) (λ _. told_at w k in_kind (refl, refl, refl, refl) s s' sh _ _ _ _ (λ j3. told_pure w k _ _ (ap (λ (z : List ℕ). to_head z e) (sym sh.commas)) _ _ (λ l. in_rest_told k c ce startc start start' starth l s s' sh)) (for_rest_told k c ce startc start start' starth e s s' sh)))
+  for_expression_rest_told k c ce startc start start' starth awaits ownc own own' ownh e s s' sh = told_at w k of_kind (refl, refl, refl, refl) s s' sh _ _ _ _ (λ j1. told_if w k _ _ (agree2 w (λ z. at lm let_kind (on [] 0 z) || (not awaits && (at lm async_kind (on [] 0 z) && (kind2 (input lm (on [] 0 z)) == of_kind)))) (λ p q l v. refl) (λ p q l v. refl) (λ n p q l v. refl) (λ n p q l v. refl) (λ n p l v. refl) ownc own own' ownh) _ _ _ _ (λ y2. never w k _ _) (λ _. told_pure w _ _ k _ _ (ap (λ (z : List ℕ). to_head z e) (sym sh.commas)) _ _ (λ l. of_rest_told k c ce startc start start' starth awaits l s s' sh))) (told_if w k (awaits) (awaits) refl _ _ _ _ (λ _. never w k _ _) (λ _. told_at w k in_kind (refl, refl, refl, refl) s s' sh _ _ _ _ (λ j3. told_pure w _ _ k _ _ (ap (λ (z : List ℕ). to_head z e) (sym sh.commas)) _ _ (λ l. in_rest_told k c ce startc start start' starth l s s' sh)) (for_rest_told k c ce startc start start' starth e s s' sh)))
 
   pub for_expression_told : (k : Ceiling) (c : Code) (ce : c.context.module_ ≡ modular) (startc : Ceiling) (start : State S) (start' : State Input) (starth : Beside m Live startc start start') (awaits : Bool) (s : State S) (s' : State Input) (sh : Beside m Live k s s') → Told m Live k (for_expression lm il c start' awaits s') (for_expression m im c start awaits s)
   unfolding for_expression
