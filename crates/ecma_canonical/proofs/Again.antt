@@ -1,5 +1,5 @@
 -- The canonical text of a canonical text.
-use Rattle.std.proofs.Common.{◌≡◌, ◌++◌, ◌<◌, ◌≤◌, ◌+◌, ◌-◌, ◌∙◌, ◌⊎◌, ⊎_elim, ap, sym, subst, refl, append_assoc, ℕ, zero, suc, Bool, true, false, cond, ◌&&◌, ◌||◌, List, [], ◌∷◌, Option, None, Some, drop, take, get_or, length, length-append, nat_eq, nat_le, arith}
+use Rattle.std.proofs.Common.{◌≡◌, ◌++◌, ◌<◌, ◌≤◌, ◌+◌, ◌-◌, ◌∙◌, ⊎_elim, ap, sym, subst, refl, append_assoc, ℕ, zero, suc, Bool, true, false, cond, ◌&&◌, ◌||◌, List, [], ◌∷◌, Option, None, Some, drop, take, get_or, length, length-append, nat_eq, nat_le, arith}
 use Rattle.std.specs.Prelude.{◌==◌, slice_index, slice_range}
 use Rattle.std.specs.Fmt.{is_char_start}
 use Rattle.std.proofs.Math.Seq.{drop-append_seam, take-append_seam}

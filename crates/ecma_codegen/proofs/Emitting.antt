@@ -10,7 +10,7 @@ use Rattle.ecma_write.specs.declared.fault.EmitError.TheVariants.{Write, Memory,
 use Rattle.ecma_pieces.specs.Pieces.{Piece, Text, Commit, Mark, call, calls}
 use Rattle.ecma_pieces.specs.Utf8.{IsUtf8Page}
 use Rattle.ecma_layout.specs.Looks.{Laid, nothing, one, meant, named, both, refused, texts_of, texts_before, listed, is_refused}
-use Rattle.ecma_print_pieces.specs.Prints.{Asked, ask, stop, lay, lay_texts, IsAt, Prints, MayFault, failed_by}
+use Rattle.ecma_print_pieces.specs.Prints.{Asked, ask, stop, lay, lay_texts, IsAt, Prints, MayFault}
 use Rattle.ecma_codegen.specs.Emits.{emitted, MayRefuse, Emits, Stays}
 
 -- ---- what there is to write is the pieces of a layout

@@ -1,14 +1,13 @@
 -- Layouts that are emitted one after the other.
-use Rattle.std.proofs.Common.{◌≡◌, ℕ, Bool, true, false, ◌||◌, List, [], ◌∷◌, None, refl, sym, ap, ◌∙◌}
-use Rattle.ecma_tree.specs.Tree.{Trees, none, more}
+use Rattle.std.proofs.Common.{◌≡◌, ℕ, false, List, [], ◌∷◌, None, refl, sym, ap, ◌∙◌}
+use Rattle.ecma_tree.specs.Tree.{none, more}
 use Rattle.ecma_write.specs.States.{State}
 use Rattle.ecma_pieces.specs.Pieces.{Piece, Text, call, calls}
-use Rattle.ecma_layout.specs.declared.look.Look.{Look}
 use Rattle.ecma_layout.specs.declared.look.Stand.TheVariants.{Alone}
 use Rattle.ecma_layout.specs.Looks.{Laid, ◌·◌, nothing, one, meant, named, both, refused, texts_of, texts_before, listed, is_refused}
 use Rattle.ecma_layout.specs.Layout.{laid, closing, statements}
 use Rattle.ecma_codegen.specs.Emits.{emitted}
-use Rattle.ecma_codegen.specs.Items.{item_laid, items_emitted, ItemsAreProgram}
+use Rattle.ecma_codegen.specs.Items.{item_laid, ItemsAreProgram}
 use Rattle.ecma_codegen.proofs.Emitting.{or_left, or_right}
 
 texts_then : (texts : List (List ℕ)) (rest : List Piece) (s : State) → calls (texts_before texts rest) s ≡ calls rest (calls (texts_before texts []) s)

@@ -1,6 +1,6 @@
 -- The clone of a map of lists has the same list at each key.
 use Rattle.std.proofs.Common.{◌≡◌, ℕ, Bool, true, false, List, [], ◌∷◌, refl}
-use Rattle.std.specs.Prelude.{Vec, Option, Some, None, vec_len, if◌then◌else◌}
+use Rattle.std.specs.Prelude.{Vec, Option, Some, vec_len, if◌then◌else◌}
 use Rattle.std.specs.List.{AllZip, each_same}
 use Rattle.std.specs.Option.{option_map_or}
 use Rattle.std.specs.Map.{lookup}

@@ -1,5 +1,5 @@
 -- The last and the only one of a list.
-use Rattle.std.proofs.Common.{◌≡◌, ℕ, zero, suc, ◌+◌, ◌-◌, ◌==◌, Bool, true, false, List, [], ◌∷◌, Option, Some, None, length, refl, sym, ap, subst, slice_index_or, arith}
+use Rattle.std.proofs.Common.{◌≡◌, ℕ, suc, ◌-◌, ◌==◌, true, false, List, [], ◌∷◌, Option, Some, None, length, refl, sym, ap, subst, slice_index_or, arith}
 use Rattle.std.specs.List.{slice_get}
 use Rattle.ecma_tree.specs.Tree.{Tree, trees_by}
 use Rattle.ecma_edge.specs.Edges.{starts_with_word, alone_starts_with_word, ends_with_word, last_ends_with_word}

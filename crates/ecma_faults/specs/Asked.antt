@@ -1,9 +1,9 @@
 -- What is asked of a tree, or of a statement, a member or a property, on the way to its faults.
-use Rattle.std.specs.Prelude.{Bool, true, false, not, ◌&&◌, ◌||◌, if◌then◌else◌, List, [], Option, Some, None, is_some}
+use Rattle.std.specs.Prelude.{Bool, true, false, if◌then◌else◌, List, [], Option, Some, None}
 use Rattle.ecma_token.specs.declared.error.Error.{Error}
 use Rattle.ecma_token.specs.declared.error.SyntaxError.{SyntaxError}
 use Rattle.ecma_token.specs.declared.place.Span.{Span}
-use Rattle.ecma_tree.specs.Tree.{Tree, Trees, absent, super, param, block_stmt, using_decl, constructor, paren_expr}
+use Rattle.ecma_tree.specs.Tree.{Tree, absent, super, param, block_stmt, using_decl, constructor, paren_expr}
 use Rattle.ecma_tree.specs.Places.{place_of}
 use Rattle.ecma_syntax.specs.Shape.{is_use_strict}
 use Rattle.ecma_early.specs.Early.{Scope, fault, is_proto, name_in, own_use_strict, span_of_prop}

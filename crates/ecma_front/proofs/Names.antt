@@ -1,5 +1,5 @@
 -- Names stand where the positions say: from the law of read-back.
-use Rattle.std.proofs.Common.{◌≡◌, ℕ, Bool, true, false, List, [], Option, Some, None, refl, sym, ap, subst, ◌∙◌, get_or}
+use Rattle.std.proofs.Common.{◌≡◌, ℕ, Bool, true, false, List, [], Option, Some, None, refl, subst}
 use Rattle.std.specs.Prelude.{if◌then◌else◌}
 use Rattle.std.specs.Option.{option_map}
 use Rattle.std.specs.Str.{chars}
@@ -8,7 +8,6 @@ use Rattle.ecma_token.specs.declared.place.BytePos.{BytePos}
 use Rattle.ecma_token.specs.declared.place.LineCol.{LineCol}
 use Rattle.ecma_tree.specs.Tree.{Tree}
 use Rattle.ecma_write.specs.Pages.{Page, Marks, IsPast}
-use Rattle.ecma_write.specs.Views.{first_marks}
 use Rattle.ecma_pieces.specs.Pieces.{resolved, shortened}
 use Rattle.ecma_layout.specs.Layout.{pieces}
 use Rattle.ecma_command.specs.Options.{is_format, is_module}

@@ -1,7 +1,6 @@
 -- What is written of a tree that spells a text is read again: from the law of read-back.
 use Rattle.std.proofs.Common.{◌≡◌, ◌⊎◌, ℕ, zero, suc, Bool, true, false, not, List, [], ◌∷◌, inl, inr, refl, sym, subst, ◌∙◌, arith}
-use Rattle.std.specs.Prelude.{◌<◌, ◌≤◌, codes, nat_lt, if◌then◌else◌}
-use Rattle.std.specs.List.{list_all}
+use Rattle.std.specs.Prelude.{◌≤◌, codes, nat_lt, if◌then◌else◌}
 use Rattle.std.specs.Str.{chars, IsUtf8}
 use Rattle.std.proofs.lemmas.Bool.Decides.{nat_tests}
 use lib.Utf8.{scalars}
@@ -20,7 +19,7 @@ use Rattle.ecma_command.specs.declared.options.LineEnd.{LineEnd}
 use Rattle.ecma_command.specs.declared.options.LineEnd.TheVariants.{Lf, CrLf}
 use Rattle.ecma_command.specs.declared.options.Indent.{Indent}
 use Rattle.ecma_command.specs.declared.options.Indent.TheVariants.{Blanks, Tabs}
-use Rattle.ecma_written.proofs.Ascii.{Ascii, ascii, is_ascii}
+use Rattle.ecma_written.proofs.Ascii.{ascii, is_ascii}
 use Rattle.ecma_readback.specs.Laws.{IsReadBack}
 use Rattle.ecma_readback.proofs.Whole.{programs_read_back}
 use Rattle.ecma_print.specs.Layouts.{look_of, line_end_of, indent_of, page_of, laid_of, written_on, layout}

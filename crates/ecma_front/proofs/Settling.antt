@@ -1,5 +1,5 @@
 -- What a parsed text tells of its program.
-use Rattle.std.proofs.Common.{◌≡◌, ℕ, Bool, List, [], ◌∷◌, Result, Ok, Err, inl, inr, refl, sym, subst}
+use Rattle.std.proofs.Common.{◌≡◌, ℕ, Bool, List, [], ◌∷◌, Result, Ok, Err, inl, inr, sym, subst}
 use Rattle.ecma_token.specs.Dialect.{parts_of}
 use Rattle.ecma_token.specs.declared.error.Error.{Error}
 use Rattle.ecma_token.specs.declared.syntax.Syntax.{Syntax}

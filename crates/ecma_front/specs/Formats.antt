@@ -1,5 +1,5 @@
 -- What reading a text answers, and why there is nothing to write of it.
-use Rattle.std.specs.Prelude.{◌≡◌, ℕ, ◌<◌, List, length, Result, Ok, Err}
+use Rattle.std.specs.Prelude.{ℕ, ◌<◌, List, length, Result, Ok, Err}
 use Rattle.std.specs.Str.{chars, IsUtf8, IsValidUpTo}
 use Rattle.ecma_tree.specs.Tree.{Tree}
 use Rattle.ecma_command.specs.declared.options.Options.{Options}

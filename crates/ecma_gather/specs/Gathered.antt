@@ -1,5 +1,5 @@
 -- What a writer that gathers its bytes in a block shows.
-use Rattle.std.specs.Prelude.{ℕ, Bool, List, Option, Result, is_err}
+use Rattle.std.specs.Prelude.{ℕ, List, Option}
 use Rattle.std.specs.Io.KnownBytes.{append_known}
 use Rattle.ecma_gather.specs.declared.Gather.{Gather}
 

@@ -1,24 +1,24 @@
 -- Functions and classes as expressions, and the methods of objects (ECMA-262, 15.2 to 15.7, 13.2.5): what their rules answer.
-use Rattle.std.proofs.Common.{◌≡◌, ℕ, ◌<◌, ◌≤◌, ◌⊎◌, inl, inr, max, Bool, true, false, not, ◌&&◌, ◌||◌, ◌==◌, cond, eqb, List, Option, Some, None, refl, sym, ap, ◌∙◌, subst, ⊎_elim, true≢false, arith}
+use Rattle.std.proofs.Common.{◌≡◌, ℕ, ◌<◌, ◌⊎◌, inl, inr, max, Bool, true, false, not, ◌&&◌, ◌||◌, ◌==◌, eqb, List, Option, Some, None, refl, sym, ap, ◌∙◌, subst, ⊎_elim, true≢false, arith}
 use Rattle.std.proofs.lemmas.Bool.{ne_eqb, eq-eqb, and_left, and_right, and_from, or_left, or_from}
 use Rattle.ecma_token.specs.declared.place.Span.{Span}
 use Rattle.ecma_token.specs.Kinds.{dot_dot_dot_kind, left_paren_kind, right_paren_kind, left_brace_kind, colon_kind, hash_kind, str_kind, num_kind, big_int_kind, left_bracket_kind, mul_kind, function_kind, class_kind, extends_kind, async_kind, get_kind, set_kind}
-use Rattle.ecma_tree.specs.Tree.{Tree, Trees, none, more, block_stmt, function, param, class, ident, absent, fn_expr, class_expr, method_prop, getter_prop, setter_prop, rest_pat}
-use Rattle.ecma_syntax.specs.Input.{Input, Code, Takes, TakesWord, kind, kind2, brk, brk2, lo, span, first_span, rest, is_word, no_name, barred, setting, in_body, turned_strict, with_in}
+use Rattle.ecma_tree.specs.Tree.{Tree, Trees, none, block_stmt, function, param, class, ident, absent, fn_expr, class_expr, method_prop, getter_prop, setter_prop, rest_pat}
+use Rattle.ecma_syntax.specs.Input.{Input, Code, TakesWord, kind, kind2, brk, lo, span, first_span, rest, is_word, no_name, barred, setting, in_body, turned_strict, with_in}
 use Rattle.ecma_syntax.specs.Operators.{starts_key}
 use Rattle.ecma_syntax.specs.Shape.{is_absent, is_key, is_rest, class_span}
-use Rattle.ecma_grammar.specs.Children.{By, Sorted, child, is_ident}
-use Rattle.ecma_grammar.specs.Functions.{Async, Star, MethodHead}
-use Rattle.ecma_grammar.specs.Grammar.{Produces, children}
-use Rattle.ecma_reading.specs.Source.{◌>>=◌, State, Inner, is_name}
-use Rattle.ecma_reading.specs.Expressions.{prefix_by, keyword_by, word_by, async_by, function_expr_by, class_expr_by, prop_by, prop_rest, key_by, method_prop_by, getter_by, setter_by, setter_parameter, pattern_of, star, function_by, is_async_head, is_accessor}
-use Rattle.ecma_grammar_complete_base.proofs.Yields.{lm, from, coded, Reads, Is, IsName, named, then_is, then_eat, then_word, then_name, then_past, onto, after_one, here, if_no, if_yes}
+use Rattle.ecma_grammar.specs.Children.{is_ident}
+use Rattle.ecma_grammar.specs.Functions.{Star}
+use Rattle.ecma_grammar.specs.Grammar.{Produces}
+use Rattle.ecma_reading.specs.Source.{State, Inner, is_name}
+use Rattle.ecma_reading.specs.Expressions.{prefix_by, keyword_by, word_by, async_by, function_expr_by, class_expr_by, prop_by, prop_rest, key_by, method_prop_by, getter_by, setter_by, setter_parameter, star, function_by, is_async_head, is_accessor}
+use Rattle.ecma_grammar_complete_base.proofs.Yields.{lm, from, coded, Reads, Is, IsName, named, then_is, then_eat, then_word, then_name, then_past, onto, here, if_no, if_yes}
 use Rattle.ecma_grammar_complete_base.proofs.Trees.{by_cases, no_kind}
 use Rattle.ecma_grammar_complete_rules.proofs.Prefixes.{named_word}
 use Rattle.ecma_grammar_complete_rules.proofs.Lists.{is_method}
 use Rattle.ecma_grammar_complete_rules.proofs.Objects.{begins_key, key_starts, OneWord}
 use Rattle.ecma_grammar_complete_rules.proofs.Nested.{Nested}
-use Rattle.ecma_grammar_complete_rules.proofs.Within.{ItemIn, item_in, Within, within}
+use Rattle.ecma_grammar_complete_rules.proofs.Within.{item_in, Within, within}
 use Rattle.ecma_grammar_complete_rules.proofs.Starts.{ident_is}
 use Rattle.ecma_grammar_complete_rules.proofs.Functions.{key_found, function_found, function_expressed, star_found, setter_found}
 use Rattle.ecma_grammar_complete_rules.proofs.Simple.{absent_is}

@@ -1,6 +1,6 @@
 -- No reading of a tree goes deeper than the tree nests.
-use Rattle.std.proofs.Common.{◌≡◌, ℕ, zero, suc, ◌+◌, ◌<◌, ◌≤◌, max, Bool, true, false, List, [], ◌∷◌, arith}
-use Rattle.ecma_tree.specs.Tree.{Tree, Trees, none, more, script, es_module, import_decl, named_export, export_all, export_decl, export_default_decl, export_default_expr, block_stmt, with_stmt, return_stmt, labeled_stmt, if_stmt, switch_stmt, switch_case, throw_stmt, try_stmt, catch_clause, while_stmt, do_while_stmt, for_stmt, for_in_stmt, for_of_stmt, expr_stmt, class_decl, fn_decl, var_decl, using_decl, var_declarator, function, param, class, constructor, class_method, private_method, class_prop, private_prop, static_block, auto_accessor, ident_name, computed_prop_name, private_name, array_lit, object_lit, fn_expr, unary_expr, update_expr, bin_expr, assign_expr, member_expr, super_prop_expr, cond_expr, call_expr, new_expr, seq_expr, tpl, tagged_tpl, arrow_expr, class_expr, yield_expr, await_expr, paren_expr, opt_chain_expr, opt_call, expr_or_spread, spread_element, key_value_prop, assign_prop, getter_prop, setter_prop, method_prop, array_pat, rest_pat, object_pat, assign_pat, key_value_pat_prop, assign_pat_prop, expr_pat, binding_ident, list, absent, hole}
+use Rattle.std.proofs.Common.{ℕ, suc, ◌+◌, ◌≤◌, max, true, false, arith}
+use Rattle.ecma_tree.specs.Tree.{Tree, Trees, none, more, script, es_module, import_decl, named_export, export_all, export_decl, export_default_decl, export_default_expr, block_stmt, with_stmt, return_stmt, labeled_stmt, if_stmt, switch_stmt, switch_case, throw_stmt, try_stmt, catch_clause, while_stmt, do_while_stmt, for_stmt, for_in_stmt, for_of_stmt, expr_stmt, class_decl, fn_decl, var_decl, using_decl, var_declarator, function, param, class, constructor, class_method, private_method, class_prop, private_prop, static_block, auto_accessor, ident_name, computed_prop_name, private_name, array_lit, object_lit, fn_expr, unary_expr, update_expr, bin_expr, assign_expr, member_expr, super_prop_expr, cond_expr, call_expr, new_expr, seq_expr, tpl, tagged_tpl, arrow_expr, class_expr, yield_expr, await_expr, paren_expr, opt_chain_expr, opt_call, expr_or_spread, spread_element, key_value_prop, assign_prop, getter_prop, setter_prop, method_prop, array_pat, rest_pat, object_pat, assign_pat, key_value_pat_prop, assign_pat_prop, expr_pat, list, absent, hole}
 use Rattle.ecma_tree.specs.Folds.{folds}
 use Rattle.ecma_nesting.specs.Nesting.{nesting, nesting_step, greatest}
 use Rattle.ecma_grammar_complete_base.proofs.Trees.{reach, reaches}

@@ -1,5 +1,5 @@
 -- What a node's rule hands on is smaller than the node, and reaches less deep.
-use Rattle.std.proofs.Common.{◌≡◌, ℕ, zero, suc, ◌+◌, ◌<◌, ◌≤◌, max, Bool, true, false, refl, true≢false, sym, arith}
+use Rattle.std.proofs.Common.{◌≡◌, ℕ, suc, ◌<◌, ◌≤◌, Bool, true, false, refl, true≢false, sym, arith}
 use Rattle.ecma_tree.specs.Tree.{Tree, Trees, none, more, block_stmt, empty_stmt, debugger_stmt, with_stmt, return_stmt, labeled_stmt, break_stmt, continue_stmt, if_stmt, switch_stmt, switch_case, throw_stmt, try_stmt, catch_clause, while_stmt, do_while_stmt, for_stmt, for_in_stmt, for_of_stmt, expr_stmt, class_decl, fn_decl, var_decl, using_decl, var_declarator, function, param, class, constructor, class_method, private_method, class_prop, private_prop, static_block, auto_accessor, computed_prop_name, fn_expr, class_expr, assign_pat, rest_pat, method_prop, getter_prop, setter_prop, import_decl, named_export, export_all, export_decl, export_default_decl, export_default_expr, object_lit, key_value_prop}
 use Rattle.ecma_grammar_complete_base.proofs.Trees.{size, sizes, reach, reaches}
 use Rattle.ecma_grammar_complete_rules.proofs.Within.{Each, most, ItemIn, item_in, Within, Withins, within, withins}

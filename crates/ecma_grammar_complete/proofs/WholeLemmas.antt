@@ -1,24 +1,20 @@
 -- The laws, from what the readers of every depth answer.
-use Rattle.std.proofs.Common.{◌≡◌, ℕ, suc, ◌+◌, ◌<◌, ◌≤◌, Bool, true, false, List, [], Option, Result, Ok, Err, cond, refl, sym, ap, ◌∙◌, subst, true≢false, arith}
-use Rattle.ecma_token.specs.declared.place.Span.{Span}
-use Rattle.ecma_token.specs.declared.syntax.EsSyntax.{EsSyntax}
-use Rattle.ecma_tree.specs.Tree.{Tree, Trees, script, es_module}
+use Rattle.std.proofs.Common.{◌≡◌, suc, ◌+◌, ◌<◌, Bool, true, false, [], Result, Ok, Err, cond, sym, ◌∙◌, subst, true≢false, arith}
+use Rattle.ecma_tree.specs.Tree.{Tree, script, es_module}
 use Rattle.ecma_nesting.specs.Nesting.{nesting}
-use Rattle.ecma_syntax.specs.Input.{PlacedToken, Input, Code, script_code, module_code}
+use Rattle.ecma_syntax.specs.Input.{Input, script_code, module_code}
 use Rattle.ecma_syntax.specs.Shape.{is_clean}
-use Rattle.ecma_grammar.specs.Grammar.{Produces, Derives}
 use Rattle.ecma_reading.specs.Source.{Fault, Unexpected, TooDeep, ◌>>=◌, State, bound, list_stream}
-use Rattle.ecma_reading.specs.Cover.{has}
 use Rattle.ecma_reading.specs.Modules.{program_by}
 use Rattle.ecma_reading.specs.Reading.{readers, finish, read_program, read_list}
-use Rattle.ecma_grammar_complete_base.specs.Laws.{coded, InOrder}
+use Rattle.ecma_grammar_complete_base.specs.Laws.{InOrder}
 use Rattle.ecma_grammar_complete_base.proofs.Yields.{lm, from, Fresh, After, Yields, Reads, Is}
-use Rattle.ecma_grammar_complete_base.proofs.Trees.{size, sizes, reach, reaches}
+use Rattle.ecma_grammar_complete_base.proofs.Trees.{size, sizes, reach}
 use Rattle.ecma_grammar_complete_rules.proofs.Within.{most}
 use Rattle.ecma_grammar_complete.proofs.Passed.{script_found, in_module, module_found}
 use Rattle.ecma_grammar_complete.proofs.Sizes.{each_small, most_reaches, items_small, items_reach}
 use Rattle.ecma_grammar_complete.proofs.Tied.{complete}
-use Rattle.ecma_grammar_complete.specs.Laws.{Answered, Decided, Stands, Level, ExpressionsComplete, OneExpression, Bound, PatternsComplete, OnePattern, ScriptsComplete, OneScript, NoScript, ModulesComplete, OneModule, NoModule}
+use Rattle.ecma_grammar_complete.specs.Laws.{Answered, Decided, ExpressionsComplete, OneExpression, PatternsComplete, OnePattern, ScriptsComplete, OneScript, NoScript, ModulesComplete, OneModule, NoModule}
 use Rattle.ecma_grammar_complete.proofs.Nests.{reach_nests}
 
 -- ---- answers

@@ -1,20 +1,20 @@
 -- Every tree takes tokens, but a program, which may be empty.
-use Rattle.std.proofs.Common.{◌≡◌, ℕ, zero, suc, ◌+◌, ◌<◌, ◌≤◌, ◌⊎◌, inl, inr, Bool, true, false, not, ◌&&◌, ◌||◌, ◌==◌, cond, eqb, leb, if◌then◌else◌, List, [], ◌∷◌, length, Option, Some, None, refl, sym, ap, ◌∙◌, subst, ⊎_elim, true≢false, arith}
+use Rattle.std.proofs.Common.{◌≡◌, ℕ, ◌+◌, ◌<◌, ◌≤◌, ◌⊎◌, inl, inr, Bool, true, false, ◌&&◌, ◌||◌, ◌==◌, eqb, leb, if◌then◌else◌, List, [], ◌∷◌, length, Option, Some, None, refl, sym, ap, ⊎_elim, true≢false, arith}
 use Rattle.std.proofs.lemmas.Bool.{eqb-true, leb-true, and_parts, or_cases}
 use Rattle.ecma_token.specs.declared.place.Span.{Span}
-use Rattle.ecma_token.specs.Kinds.{accessor_kind, arrow_kind, hash_kind, dot_kind, dot_dot_dot_kind, left_paren_kind, left_bracket_kind, left_brace_kind, right_brace_kind, comma_kind, back_quote_kind, semicolon_kind, question_mark_kind, str_kind, num_kind, big_int_kind, regex_kind, mul_kind, this_kind, null_kind, true_kind, false_kind, await_kind, break_kind, case_kind, catch_kind, continue_kind, debugger_kind, default_kind, do_kind, for_kind, if_kind, return_kind, switch_kind, throw_kind, try_kind, while_kind, with_kind, new_kind, super_kind, class_kind, export_kind, import_kind, yield_kind, get_kind, set_kind, static_kind, using_kind, function_kind, target_kind, meta_kind, assign_kind, template_kind, colon_kind}
+use Rattle.ecma_token.specs.Kinds.{accessor_kind, arrow_kind, hash_kind, dot_kind, dot_dot_dot_kind, left_paren_kind, left_bracket_kind, left_brace_kind, right_brace_kind, comma_kind, back_quote_kind, semicolon_kind, question_mark_kind, str_kind, num_kind, big_int_kind, regex_kind, mul_kind, this_kind, null_kind, true_kind, false_kind, await_kind, break_kind, catch_kind, continue_kind, debugger_kind, do_kind, for_kind, if_kind, return_kind, switch_kind, throw_kind, try_kind, while_kind, with_kind, new_kind, super_kind, class_kind, export_kind, import_kind, yield_kind, get_kind, set_kind, static_kind, using_kind, function_kind, target_kind, meta_kind, assign_kind, template_kind, colon_kind}
 use Rattle.ecma_tree.specs.Tree.{Tree, Trees, none, more, script, es_module, import_decl, export_decl, named_export, export_default_decl, export_default_expr, export_all, import_named_specifier, import_default_specifier, import_star_as_specifier, export_namespace_specifier, export_named_specifier, block_stmt, empty_stmt, debugger_stmt, with_stmt, return_stmt, labeled_stmt, break_stmt, continue_stmt, if_stmt, switch_stmt, switch_case, throw_stmt, try_stmt, catch_clause, while_stmt, do_while_stmt, for_stmt, for_in_stmt, for_of_stmt, expr_stmt, class_decl, fn_decl, var_decl, using_decl, var_declarator, function, param, class, constructor, class_method, private_method, class_prop, private_prop, static_block, auto_accessor, ident_name, computed_prop_name, private_name, this_expr, array_lit, object_lit, fn_expr, unary_expr, update_expr, bin_expr, assign_expr, member_expr, super_prop_expr, cond_expr, call_expr, new_expr, seq_expr, ident, tpl, tpl_element, tagged_tpl, arrow_expr, class_expr, yield_expr, meta_prop_expr, await_expr, paren_expr, opt_chain_expr, opt_call, super, import, expr_or_spread, spread_element, key_value_prop, assign_prop, getter_prop, setter_prop, method_prop, str_lit, bool_lit, null_lit, number_lit, big_int_lit, regex_lit, binding_ident, array_pat, rest_pat, object_pat, assign_pat, key_value_pat_prop, assign_pat_prop, expr_pat, list, absent, plain_method}
-use Rattle.ecma_syntax.specs.Input.{PlacedToken, Input, Code, kind, rest, others, is_word, Takes, TakesWord, with_in, assigning, binding, in_list, turned_strict, in_body, in_static, in_field, alone, setting, by, without_in, in_arrow}
+use Rattle.ecma_syntax.specs.Input.{PlacedToken, Input, Code, kind, rest, others, Takes, TakesWord, with_in, assigning, binding, in_list, turned_strict, in_field, alone, setting, by, without_in, in_arrow}
 use Rattle.ecma_syntax.specs.Operators.{is_assign_op, plain_end, source_end, exports_end, key_end}
-use Rattle.ecma_syntax.specs.Shape.{level, is_absent, is_hole, is_binding, is_bound_name, is_item_pat, is_place, is_key, is_private, is_item, is_use_strict, is_directive, is_star_import, is_default_import, is_star_export, is_named_import, is_member, is_case, is_default_case, is_rest, is_param, is_declarator, is_string, is_element, is_prop, is_named_export, ends, field_end, function_parts, FunctionParts, count_of, declarators_end}
-use Rattle.ecma_grammar.specs.Children.{Child, child, By, IsEmpty, is_ident, Sorted, Listed, CommaThen, Commas, Items, Ends, AtEnd, Expr, is_module_item}
-use Rattle.ecma_grammar.specs.Expressions.{TemplateSpans, is_unary_op, is_update_op, ImportArguments, Bracketed, Dotted, Arguments, Optional, TemplateLiteral}
+use Rattle.ecma_syntax.specs.Shape.{level, is_absent, is_hole, is_binding, is_bound_name, is_item_pat, is_key, is_private, is_item, is_use_strict, is_directive, is_star_import, is_default_import, is_star_export, is_named_import, is_default_case, is_param, is_declarator, is_string, is_element, is_prop, is_named_export, ends, field_end, function_parts, FunctionParts, count_of, declarators_end}
+use Rattle.ecma_grammar.specs.Children.{Child, child, By, is_ident, Sorted, Listed, CommaThen, Commas, Items, Ends, AtEnd, Expr, is_module_item}
+use Rattle.ecma_grammar.specs.Expressions.{TemplateSpans, ImportArguments, Bracketed, Dotted, Arguments, Optional, TemplateLiteral}
 use Rattle.ecma_grammar.specs.Patterns.{Item, Property}
 use Rattle.ecma_grammar.specs.Statements.{Cases, ClosesBlock, ClosesCase, ForRest, Over, Clause, InParens, UsingBindings, Bindings, ForOpen, ForAwaitOpen, is_var_word, statement_end, starts_head}
-use Rattle.ecma_grammar.specs.Functions.{Parameters, SetParameter, Members, Closes, Body, Star, Async, Static, FunctionHead, ArrowHead, ArrowParameters, ArrowPattern, BareName, Method, Initial, ClassMethod, Field}
+use Rattle.ecma_grammar.specs.Functions.{Parameters, SetParameter, Members, Closes, Body, Star, Async, Static, FunctionHead, ArrowHead, ArrowPattern, BareName, Method, Initial, ClassMethod, Field}
 use Rattle.ecma_grammar.specs.Modules.{ImportClause, AfterDefault, NamedImports, Source, ExportName, Specified, ExportList, Hashbang}
 use Rattle.ecma_grammar.specs.Grammar.{Produces, children}
-use Rattle.ecma_grammar_complete_base.proofs.Yields.{len, took, shorter}
+use Rattle.ecma_grammar_complete_base.proofs.Yields.{len, shorter}
 use Rattle.ecma_grammar_complete_base.proofs.Trees.{by_cases, by_unary, by_update, takes, some_word, some_binary}
 
 -- ---- lengths

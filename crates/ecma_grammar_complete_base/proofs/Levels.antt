@@ -1,9 +1,9 @@
 -- Levels of operators and of trees, and the next token.
-use Rattle.std.proofs.Common.{◌≡◌, ℕ, zero, suc, ◌+◌, ◌<◌, ◌≤◌, ◌⊎◌, inl, inr, min, Bool, true, false, not, ◌&&◌, ◌||◌, ◌==◌, cond, eqb, leb, refl, sym, ap, ◌∙◌, subst, ⊎_elim, true≢false, arith}
-use Rattle.std.proofs.lemmas.Bool.{eqb-true, eqb-false, ne_eqb, eq-eqb, cases_Bool, cases_eq, leb-true, leb-false, or_cases, or_right, or_left, or_from, and_parts, and_left, and_right, not-true, false_from_ne_true}
+use Rattle.std.proofs.Common.{◌≡◌, ℕ, ◌+◌, ◌<◌, ◌≤◌, ◌⊎◌, inl, inr, Bool, true, false, not, ◌&&◌, ◌||◌, ◌==◌, cond, eqb, leb, refl, sym, ap, ◌∙◌, subst, ⊎_elim, true≢false, arith}
+use Rattle.std.proofs.lemmas.Bool.{eqb-true, ne_eqb, eq-eqb, cases_Bool, cases_eq, leb-true, or_cases, or_right, or_from, and_parts, and_left, and_right, not-true, false_from_ne_true}
 use Rattle.ecma_token.specs.Kinds.{nullish_coalescing_kind, logical_or_kind, logical_and_kind, bit_or_kind, bit_xor_kind, bit_and_kind, eq_eq_kind, not_eq_eq_kind, lt_kind, gt_eq_kind, left_shift_kind, zero_fill_right_shift_kind, add_kind, sub_kind, mul_kind, mod_kind, exp_kind, in_kind, instanceof_kind, comma_kind, question_mark_kind, regex_kind, left_paren_kind, left_bracket_kind, dot_kind, back_quote_kind, arrow_kind, function_kind}
-use Rattle.ecma_tree.specs.Tree.{Tree, Trees, unary_expr, update_expr, await_expr, bin_expr, cond_expr, assign_expr, arrow_expr, yield_expr, seq_expr, member_expr, tagged_tpl, new_expr, absent}
-use Rattle.ecma_syntax.specs.Input.{Input, Code, kind, kind2, brk, brk2, is_word, no_name, barred, always_reserved}
+use Rattle.ecma_tree.specs.Tree.{Tree, unary_expr, update_expr, await_expr, bin_expr, cond_expr, assign_expr, arrow_expr, yield_expr, seq_expr, member_expr, tagged_tpl, new_expr, absent}
+use Rattle.ecma_syntax.specs.Input.{Input, Code, kind, brk, is_word, always_reserved}
 use Rattle.ecma_syntax.specs.Operators.{assignment_level, binary_level, right_level, operates, is_assign_op, goes_expr, between}
 use Rattle.ecma_syntax.specs.Shape.{level, ends, fits_left, is_private}
 pub use Rattle.ecma_grammar_complete_base.specs.Laws.{Asked, Follow, sober, arrowed, ends_operand, quits}

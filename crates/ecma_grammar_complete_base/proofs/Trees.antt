@@ -1,18 +1,17 @@
 -- The trees that the law covers so far, their sizes, how deep they are read, how they start, and that they take tokens.
-use Rattle.std.proofs.Common.{◌≡◌, ℕ, zero, suc, ◌+◌, ◌<◌, ◌≤◌, ◌⊎◌, inl, inr, max, Bool, true, false, not, ◌&&◌, ◌||◌, ◌==◌, cond, eqb, leb, ltb, List, [], ◌∷◌, length, refl, sym, ap, ◌∙◌, subst, ⊎_elim, true≢false, arith, Option, Some, None}
-use Rattle.std.proofs.lemmas.Bool.{eqb-true, eqb-false, ne_eqb, eq-eqb, cases_Bool, leb-true, or_cases, or_left, or_parts, and_from, and_parts}
+use Rattle.std.proofs.Common.{◌≡◌, ℕ, suc, ◌+◌, ◌<◌, ◌≤◌, ◌⊎◌, inl, inr, max, Bool, true, false, not, ◌&&◌, ◌||◌, ◌==◌, eqb, leb, refl, sym, ap, ◌∙◌, subst, ⊎_elim, true≢false, arith}
+use Rattle.std.proofs.lemmas.Bool.{eqb-true, ne_eqb, cases_Bool, leb-true, or_cases, or_left, or_parts, and_from, and_parts}
 use Rattle.ecma_token.specs.declared.place.Span.{Span}
-use Rattle.ecma_token.specs.Kinds.{dot_kind, left_brace_kind, back_quote_kind, template_kind, question_mark_kind, super_kind, import_kind, yield_kind, target_kind, meta_kind, mul_kind, hash_kind, bang_kind, tilde_kind, left_paren_kind, left_bracket_kind, plus_plus_kind, minus_minus_kind, str_kind, regex_kind, num_kind, big_int_kind, add_kind, sub_kind, typeof_kind, void_kind, delete_kind, this_kind, null_kind, true_kind, false_kind, await_kind, new_kind, comma_kind, dot_dot_dot_kind, in_kind, async_kind, function_kind, class_kind}
-use Rattle.ecma_tree.specs.Tree.{Tree, Trees, none, more, this_expr, null_lit, bool_lit, ident, str_lit, number_lit, big_int_lit, regex_lit, paren_expr, array_lit, expr_or_spread, hole, unary_expr, update_expr, await_expr, bin_expr, cond_expr, seq_expr, member_expr, computed_prop_name, ident_name, private_name, call_expr, new_expr, list, absent, super, import, tpl, tpl_element, tagged_tpl, opt_chain_expr, opt_call, super_prop_expr, meta_prop_expr, yield_expr, object_lit, key_value_prop, assign_prop, spread_element, binding_ident, array_pat, object_pat, assign_pat, rest_pat, key_value_pat_prop, assign_pat_prop, expr_pat, assign_expr, arrow_expr, block_stmt, with_stmt, return_stmt, labeled_stmt, if_stmt, switch_stmt, switch_case, throw_stmt, try_stmt, catch_clause, while_stmt, do_while_stmt, for_stmt, for_in_stmt, for_of_stmt, expr_stmt, class_decl, fn_decl, var_decl, using_decl, var_declarator, function, param, class, constructor, class_method, private_method, class_prop, private_prop, static_block, auto_accessor, fn_expr, class_expr, method_prop, getter_prop, setter_prop, script, es_module, export_decl, import_decl, named_export, export_all, export_default_decl, export_default_expr}
-use Rattle.ecma_syntax.specs.Input.{Input, Code, kind, rest, is_word, no_name, always_reserved, Takes, with_in, assigning, in_arrow, binding}
-use Rattle.ecma_syntax.specs.Operators.{binary_level, operates, is_assign_op}
-use Rattle.ecma_syntax.specs.Shape.{level, ends, is_element, is_prop, is_hole, is_rest, is_private, is_absent, is_chain, is_structured, is_bound_name}
-use Rattle.ecma_grammar.specs.Children.{is_quasi, Child, child, By, IsEmpty, Sorted, Listed, CommaThen, Expr}
-use Rattle.ecma_grammar.specs.Expressions.{Call, Arguments, ArgumentList, ImportArguments, AccessedName, Dotted, Bracketed, Optional, MetaProperty, TemplateSpans, Yield, is_unary_op, is_update_op}
-use Rattle.ecma_grammar.specs.Patterns.{Item, Property}
-use Rattle.ecma_grammar.specs.Functions.{ArrowPattern, ArrowHead, BareName, Async}
+use Rattle.ecma_token.specs.Kinds.{left_brace_kind, back_quote_kind, super_kind, import_kind, yield_kind, hash_kind, bang_kind, tilde_kind, left_paren_kind, left_bracket_kind, plus_plus_kind, minus_minus_kind, str_kind, regex_kind, num_kind, big_int_kind, add_kind, sub_kind, typeof_kind, void_kind, delete_kind, this_kind, null_kind, true_kind, false_kind, await_kind, new_kind, in_kind, async_kind, function_kind, class_kind}
+use Rattle.ecma_tree.specs.Tree.{Tree, Trees, none, more, this_expr, null_lit, bool_lit, ident, str_lit, number_lit, big_int_lit, regex_lit, paren_expr, array_lit, expr_or_spread, hole, unary_expr, update_expr, await_expr, bin_expr, cond_expr, seq_expr, member_expr, computed_prop_name, ident_name, private_name, call_expr, new_expr, list, absent, super, import, tpl, tagged_tpl, opt_chain_expr, opt_call, super_prop_expr, meta_prop_expr, yield_expr, object_lit, key_value_prop, assign_prop, spread_element, binding_ident, array_pat, object_pat, assign_pat, rest_pat, key_value_pat_prop, assign_pat_prop, expr_pat, assign_expr, arrow_expr, block_stmt, with_stmt, return_stmt, labeled_stmt, if_stmt, switch_stmt, switch_case, throw_stmt, try_stmt, catch_clause, while_stmt, do_while_stmt, for_stmt, for_in_stmt, for_of_stmt, expr_stmt, class_decl, fn_decl, var_decl, using_decl, var_declarator, function, param, class, constructor, class_method, private_method, class_prop, private_prop, static_block, auto_accessor, fn_expr, class_expr, method_prop, getter_prop, setter_prop, script, es_module, export_decl, import_decl, named_export, export_all, export_default_decl, export_default_expr}
+use Rattle.ecma_syntax.specs.Input.{Input, Code, kind, rest, is_word, no_name, always_reserved, assigning}
+use Rattle.ecma_syntax.specs.Operators.{operates, is_assign_op}
+use Rattle.ecma_syntax.specs.Shape.{level, ends, is_private, is_absent, is_chain}
+use Rattle.ecma_grammar.specs.Children.{child, By}
+use Rattle.ecma_grammar.specs.Expressions.{Call, Yield, is_unary_op, is_update_op}
+use Rattle.ecma_grammar.specs.Functions.{ArrowHead, BareName}
 use Rattle.ecma_grammar.specs.Grammar.{Produces, children}
-use Rattle.ecma_grammar_complete_base.proofs.Yields.{len, took, shorter}
+use Rattle.ecma_grammar_complete_base.proofs.Yields.{len, shorter}
 use Rattle.ecma_grammar_complete_base.proofs.Levels.{operated, binary_four, fits, right_five, binary_cases}
 
 -- ---- parts

@@ -1,13 +1,8 @@
 -- The order of tokens, and what may follow an expression: what the laws speak of.
-use Rattle.std.specs.Prelude.{◌≡◌, ◌≤◌, ◌<◌, ℕ, suc, max, Bool, true, false, not, ◌&&◌, ◌||◌, ◌==◌, List, [], ◌∷◌, Result, Ok, Err}
+use Rattle.std.specs.Prelude.{◌≡◌, ◌≤◌, ◌<◌, ℕ, Bool, true, false, not, ◌&&◌, ◌||◌, ◌==◌, List, [], ◌∷◌}
 use Rattle.ecma_token.specs.Kinds.{template_kind, arrow_kind, function_kind}
-use Rattle.ecma_tree.specs.Tree.{Tree, Trees, none, more, this_expr, null_lit, bool_lit, ident, str_lit, number_lit, big_int_lit, regex_lit, paren_expr, array_lit, expr_or_spread, hole, unary_expr, update_expr, await_expr, bin_expr, cond_expr, seq_expr, member_expr, computed_prop_name, ident_name, private_name, call_expr, new_expr, list, absent, super, import, tpl, tpl_element, tagged_tpl, opt_chain_expr, opt_call, super_prop_expr, meta_prop_expr, yield_expr, object_lit, key_value_prop, assign_prop, spread_element, binding_ident, array_pat, object_pat, assign_pat, rest_pat, key_value_pat_prop, assign_pat_prop, expr_pat, assign_expr, arrow_expr}
 use Rattle.ecma_syntax.specs.Input.{PlacedToken, Input, Code, kind, kind2, brk, brk2, is_word, always_reserved}
 use Rattle.ecma_syntax.specs.Operators.{goes_expr, assignment_level, other_end}
-use Rattle.ecma_syntax.specs.Shape.{level, ends, is_rest}
-use Rattle.ecma_grammar.specs.Grammar.{Produces}
-use Rattle.ecma_reading.specs.Source.{Fault, Unexpected, TooDeep, State, list_stream}
-use Rattle.ecma_reading.specs.Reading.{readers}
 
 -- ---- tokens
 

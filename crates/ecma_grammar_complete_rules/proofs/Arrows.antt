@@ -1,26 +1,25 @@
 -- What the readers of arrows answer: their parameters are read as a name, or as the elements of a parenthesis that are refined (ECMA-262, 15.3, 15.9).
-use Rattle.std.proofs.Common.{◌≡◌, ℕ, zero, suc, ◌<◌, ◌≤◌, ◌⊎◌, inl, inr, max, Bool, true, false, not, ◌&&◌, ◌||◌, ◌==◌, cond, eqb, leb, List, [], ◌∷◌, Result, Ok, Err, refl, sym, ap, ◌∙◌, subst, ⊎_elim, true≢false, arith}
-use Rattle.std.proofs.lemmas.Bool.{ne_eqb, eq-eqb, cases_eq, eqb-true, le-leb, and_parts, or_parts, and_from, and_left, and_right, or_left, or_from}
+use Rattle.std.proofs.Common.{◌≡◌, ℕ, ◌≤◌, inl, inr, Bool, true, false, not, ◌&&◌, ◌||◌, ◌==◌, cond, eqb, leb, List, [], ◌∷◌, Result, Ok, refl, sym, ap, ◌∙◌, subst, ⊎_elim, true≢false}
+use Rattle.std.proofs.lemmas.Bool.{ne_eqb, eq-eqb, cases_eq, eqb-true, le-leb, and_parts, or_parts, and_from, and_left, or_left}
 use Rattle.ecma_token.specs.declared.place.Span.{Span}
 use Rattle.ecma_token.specs.Kinds.{arrow_kind, async_kind, function_kind, left_paren_kind, right_paren_kind, left_brace_kind}
-use Rattle.ecma_tree.specs.Tree.{Tree, Trees, none, more, pack, unpack, ident, arrow_expr, binding_ident, array_pat, object_pat, assign_pat, rest_pat, key_value_pat_prop, assign_pat_prop, hole}
-use Rattle.ecma_syntax.specs.Input.{Input, Code, Takes, kind, kind2, brk, brk2, lo, text, rest, span, first_span, is_word, no_name, barred, always_reserved, with_in, in_arrow, binding, in_list}
+use Rattle.ecma_tree.specs.Tree.{Tree, Trees, none, more, pack, unpack, ident, arrow_expr, binding_ident, array_pat, object_pat, assign_pat, rest_pat, key_value_pat_prop, assign_pat_prop}
+use Rattle.ecma_syntax.specs.Input.{Input, Code, kind, kind2, brk, brk2, lo, text, rest, span, first_span, is_word, no_name, barred, always_reserved, with_in, in_arrow, in_list}
 use Rattle.ecma_syntax.specs.Operators.{assignment_level}
-use Rattle.ecma_syntax.specs.Shape.{is_binding, is_place, is_item_pat, is_pattern_prop, is_bound_name, is_hole, is_rest}
-use Rattle.ecma_grammar.specs.Children.{Child, child, By, IsEmpty, Sorted, Listed}
+use Rattle.ecma_syntax.specs.Shape.{is_binding, is_place, is_item_pat, is_pattern_prop, is_hole}
+use Rattle.ecma_grammar.specs.Children.{By, IsEmpty, Listed}
 use Rattle.ecma_grammar.specs.Patterns.{Item, Property}
-use Rattle.ecma_grammar.specs.Functions.{ArrowPattern, ArrowHead, BareName}
+use Rattle.ecma_grammar.specs.Functions.{ArrowPattern}
 use Rattle.ecma_grammar.specs.Grammar.{Produces, children}
 use Rattle.ecma_reading.specs.Source.{Fault, ◌>>=◌, placed, bound, State, Inner, name}
 use Rattle.ecma_reading.specs.Cover.{binds_names, all_bind}
 use Rattle.ecma_reading.specs.Expressions.{Elements, elements_by, arrow_by, ident_end, word_by, async_by, async_group, group_by, group_end, params_of, prefix_by, arrows_at, heads_params, is_read, function_expr_by}
-use Rattle.ecma_reading.specs.Reading.{readers}
-use Rattle.ecma_grammar_complete_base.proofs.Yields.{lm, from, coded, first_at, IsName, named, Reads, then_reads, Is, then_is, then_past, then_past_reads, then_name, after_one, onto, here, if_no, if_yes, reads_deep, reads_map}
-use Rattle.ecma_grammar_complete_base.proofs.Trees.{Covered, CoveredAll, size, sizes, reach, reaches, by_cases, no_kind}
+use Rattle.ecma_grammar_complete_base.proofs.Yields.{lm, from, coded, first_at, IsName, named, Reads, Is, then_past, then_past_reads, then_name, after_one, onto, here, if_no, if_yes, reads_deep, reads_map}
+use Rattle.ecma_grammar_complete_base.proofs.Trees.{by_cases}
 use Rattle.ecma_grammar_complete_base.proofs.Levels.{arrowed}
 use Rattle.ecma_grammar_complete_rules.proofs.Prefixes.{named_word}
 use Rattle.ecma_grammar_complete_rules.proofs.Lists.{pack_unpack, hole_is}
-use Rattle.ecma_grammar_complete_rules.proofs.Covers.{FitAll, Covering, Covered_list, covers_found}
+use Rattle.ecma_grammar_complete_rules.proofs.Covers.{Covered_list}
 
 -- ---- patterns that bind are patterns that assign, and have names alone
 

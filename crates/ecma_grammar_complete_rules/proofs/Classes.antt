@@ -1,20 +1,20 @@
 -- Classes and their members (15.7): what their rules answer.
-use Rattle.std.proofs.Common.{◌≡◌, ℕ, ◌<◌, ◌≤◌, ◌⊎◌, inl, inr, max, Bool, true, false, not, ◌&&◌, ◌||◌, ◌==◌, cond, eqb, List, [], ◌∷◌, ◌++◌, Option, Some, None, Result, Ok, refl, sym, ap, ◌∙◌, subst, ⊎_elim, true≢false, append_assoc, append-nil, if◌then◌else◌, arith}
+use Rattle.std.proofs.Common.{◌≡◌, ℕ, ◌<◌, ◌≤◌, ◌⊎◌, inl, inr, max, Bool, true, false, not, ◌&&◌, ◌||◌, ◌==◌, cond, eqb, List, [], ◌∷◌, ◌++◌, Option, Some, None, Ok, refl, sym, ap, ◌∙◌, subst, ⊎_elim, true≢false, append_assoc, append-nil, if◌then◌else◌, arith}
 use Rattle.std.proofs.lemmas.Bool.{eqb-true, ne_eqb, eq-eqb, cases_Bool, or_left, or_right, or_from, or_cases, or_parts, and_left, and_right, and_parts, and_from, not-true}
 use Rattle.ecma_token.specs.declared.place.Span.{Span}
 use Rattle.ecma_token.specs.Kinds.{end_kind, left_paren_kind, right_paren_kind, left_brace_kind, right_brace_kind, semicolon_kind, hash_kind, str_kind, num_kind, big_int_kind, left_bracket_kind, mul_kind, assign_kind, extends_kind, accessor_kind, async_kind, get_kind, set_kind, static_kind}
 use Rattle.ecma_tree.specs.Tree.{Tree, Trees, none, more, pack, unpack, plain_method, block_stmt, empty_stmt, function, class, constructor, class_method, private_method, class_prop, private_prop, static_block, auto_accessor, private_name, ident_name, str_lit, script, es_module, expr_pat, absent}
-use Rattle.ecma_syntax.specs.Input.{Input, Code, kind, kind2, brk, brk2, lo, span, first_span, rest, is_word, has_in, setting, in_body, in_field, in_static, Takes, TakesWord}
-use Rattle.ecma_syntax.specs.Operators.{assignment_level, new_level, starts_key, goes_expr, goes_on, pauses, key_end}
-use Rattle.ecma_syntax.specs.Shape.{level, ends, is_absent, is_key, is_private, is_any_key, is_member, constructs, field_end, class_span, function_parts, FunctionParts, count_of}
-use Rattle.ecma_grammar.specs.Children.{By, IsEmpty, child, Sorted, Ends}
-use Rattle.ecma_grammar.specs.Functions.{Members, Static, Async, Star, Body, Parameters, Method, Initial, ClassMethod, Field}
+use Rattle.ecma_syntax.specs.Input.{Input, Code, kind, kind2, brk, brk2, lo, span, rest, is_word, has_in, setting, in_body, in_field, in_static, TakesWord}
+use Rattle.ecma_syntax.specs.Operators.{assignment_level, new_level, starts_key, goes_expr, goes_on, key_end}
+use Rattle.ecma_syntax.specs.Shape.{ends, is_absent, is_key, is_private, is_member, constructs, field_end, class_span, count_of}
+use Rattle.ecma_grammar.specs.Children.{IsEmpty, child, Ends}
+use Rattle.ecma_grammar.specs.Functions.{Members, Static, Async, Star, Body, Parameters, Initial, ClassMethod}
 use Rattle.ecma_grammar.specs.Grammar.{Produces, children}
-use Rattle.ecma_reading.specs.Source.{Fault, ◌>>=◌, State, Inner, go_on, finished}
+use Rattle.ecma_reading.specs.Source.{State, go_on, finished}
 use Rattle.ecma_reading.specs.Expressions.{function_by, star, is_async_head, setter_parameter}
-use Rattle.ecma_reading.specs.Statements.{class_tail_by, members_by, member_step, member_rest, static_by, starts_static, field_value, class_key, method_tree, constructor_of, class_method_by, class_getter, class_setter, accessor_by, field_or_method, generator_member, block_rest}
-use Rattle.ecma_grammar_complete_base.proofs.Yields.{lm, from, len, coded, first_at, Reads, Is, then_is, then_eat, then_word, then_past, onto, here, past_here, ended, if_no, if_yes, Loops, loop_on, loop_end, looped}
-use Rattle.ecma_grammar_complete_base.proofs.Levels.{Follow, Asked, sober, quits_by, sober_by, ends_high}
+use Rattle.ecma_reading.specs.Statements.{class_tail_by, members_by, member_step, member_rest, static_by, starts_static, field_value, class_key, method_tree, class_method_by, class_getter, class_setter, accessor_by, field_or_method, generator_member, block_rest}
+use Rattle.ecma_grammar_complete_base.proofs.Yields.{lm, from, len, coded, first_at, Reads, Is, then_is, then_eat, then_word, then_past, onto, here, past_here, if_no, if_yes, Loops, loop_on, loop_end, looped}
+use Rattle.ecma_grammar_complete_base.proofs.Levels.{Follow, Asked, sober, sober_by, ends_high}
 use Rattle.ecma_grammar_complete_base.proofs.Trees.{by_cases, no_kind}
 use Rattle.ecma_grammar_complete_rules.proofs.Lists.{pack_unpack, two_asked}
 use Rattle.ecma_grammar_complete_rules.proofs.Objects.{begins_key, key_starts, OneWord}
@@ -22,7 +22,7 @@ use Rattle.ecma_grammar_complete_rules.proofs.Nested.{Nested}
 use Rattle.ecma_grammar_complete_rules.proofs.Within.{Each, most, Within, Withins, within, withins}
 use Rattle.ecma_grammar_complete_rules.proofs.Follows.{halted, ends_two, end_follows, then_end, built, lifted}
 use Rattle.ecma_grammar_complete_base.proofs.Cuts.{cut, least}
-use Rattle.ecma_grammar_complete_rules.proofs.Functions.{any_key_found, parameters_found, setter_found, function_found, star_found, empty_none}
+use Rattle.ecma_grammar_complete_rules.proofs.Functions.{any_key_found, setter_found, function_found, star_found, empty_none}
 use Rattle.ecma_grammar_complete_rules.proofs.Simple.{absent_is}
 use Rattle.ecma_grammar_complete_rules.proofs.StatementLists.{rest_found}
 

@@ -1,23 +1,22 @@
 -- An item of a pattern that assigns is read as an expression that is refined to it, by readers that a number of calls ties.
-use Rattle.std.proofs.Common.{◌≡◌, ℕ, zero, suc, ◌<◌, ◌≤◌, max, Bool, true, false, not, ◌&&◌, ◌||◌, cond, eqb, leb, ltb, List, Result, Ok, Err, refl, sym, ap, ◌∙◌, subst, true≢false, arith}
+use Rattle.std.proofs.Common.{◌≡◌, ℕ, zero, suc, ◌<◌, ◌≤◌, Bool, true, false, not, ◌||◌, eqb, leb, ltb, List, Ok, refl, sym, ap, subst, true≢false, arith}
 use Rattle.std.proofs.lemmas.Bool.{ne_eqb, le-leb, lt-ltb, and_parts}
 use Rattle.ecma_token.specs.declared.place.Span.{Span}
-use Rattle.ecma_token.specs.Kinds.{hash_kind, assign_kind, left_bracket_kind, left_brace_kind}
-use Rattle.ecma_tree.specs.Tree.{Tree, Trees, ident, member_expr, super_prop_expr, paren_expr, computed_prop_name, assign_expr, binding_ident, array_pat, object_pat, assign_pat, rest_pat, expr_pat, param}
+use Rattle.ecma_token.specs.Kinds.{hash_kind, assign_kind}
+use Rattle.ecma_tree.specs.Tree.{Tree, ident, member_expr, super_prop_expr, paren_expr, assign_expr, binding_ident, array_pat, object_pat, assign_pat, rest_pat, expr_pat}
 use Rattle.ecma_syntax.specs.Input.{Input, Code, kind, with_in}
-use Rattle.ecma_syntax.specs.Operators.{goes_expr, assignment_level}
-use Rattle.ecma_syntax.specs.Shape.{level, ends, is_simple, is_target_expr, is_structured, is_place, is_target, is_item_pat, is_rest}
+use Rattle.ecma_syntax.specs.Operators.{goes_expr}
+use Rattle.ecma_syntax.specs.Shape.{level, ends, is_simple, is_target_expr, is_structured, is_place, is_target}
 use Rattle.ecma_grammar.specs.Grammar.{Produces}
-use Rattle.ecma_reading.specs.Source.{Fault, State, Inner, Step, finished}
-use Rattle.ecma_reading.specs.Cover.{to_item, initialised}
+use Rattle.ecma_reading.specs.Source.{State, Inner, Step, finished}
+use Rattle.ecma_reading.specs.Cover.{to_item}
 use Rattle.ecma_reading.specs.Expressions.{expr_by, expr_from, loop_by, loop_step, prefix_by}
 use Rattle.ecma_reading.specs.Reading.{readers}
-use Rattle.ecma_grammar_complete_base.proofs.Yields.{lm, from, coded, After, Reads, reads_map, reads_deep, then_reads, Is, ended, here, too_deep, if_no, if_yes, Loops, Goes, loop_after, looped}
-use Rattle.ecma_grammar_complete_base.proofs.Levels.{tail, Follow}
-use Rattle.ecma_grammar_complete_base.proofs.Trees.{Covered, CoveredAll, size, sizes, reach, reaches}
+use Rattle.ecma_grammar_complete_base.proofs.Yields.{lm, from, coded, Reads, reads_map, reads_deep, then_reads, ended, too_deep, if_no, if_yes, Loops, Goes, loop_after, looped}
+use Rattle.ecma_grammar_complete_base.proofs.Levels.{Follow}
+use Rattle.ecma_grammar_complete_base.proofs.Trees.{Covered, size, reach}
 use Rattle.ecma_grammar_complete_rules.proofs.Lists.{Finds, two_asked}
 use Rattle.ecma_grammar_complete_rules.proofs.Covers.{Fit, Refines, Cover_read, Covering, array_cover, object_cover, target_least}
-use Rattle.ecma_grammar_complete_rules.proofs.Finds.{Comes, finds}
 
 -- what is read of a pattern in brackets, by the readers of one call more
 pub structured_read : (z d : ℕ) (f : Finds z d) (cov : Covering z d) (p : Bool) (c : Code) (lev : ℕ) (t : Tree) (ts r : Input) (k : List ℕ) (n : ℕ) → size t < suc z → Covered t → is_structured t ≡ true → Produces t (coded p c) ts r → reach t ≤ n

@@ -1,20 +1,20 @@
 -- What is read where a pattern that assigns stands: an expression that is refined to it (ECMA-262, 13.15.5).
-use Rattle.std.proofs.Common.{◌≡◌, ℕ, zero, suc, ◌+◌, ◌<◌, ◌≤◌, ◌⊎◌, inl, inr, max, Bool, true, false, not, ◌&&◌, ◌||◌, ◌==◌, cond, eqb, leb, List, [], ◌∷◌, ◌++◌, Option, Some, None, Result, Ok, Err, refl, sym, ap, ◌∙◌, subst, ⊎_elim, true≢false, append_assoc, append-nil, arith}
-use Rattle.std.proofs.lemmas.Bool.{ne_eqb, eq-eqb, and_left, and_right, and_from, and_parts, or_from, or_left, or_parts, cases_Bool, false_from_ne_true}
+use Rattle.std.proofs.Common.{◌≡◌, ℕ, ◌<◌, ◌≤◌, ◌⊎◌, inl, inr, max, Bool, true, false, not, ◌&&◌, ◌||◌, ◌==◌, eqb, List, [], ◌∷◌, ◌++◌, Result, Ok, refl, sym, ap, ◌∙◌, subst, ⊎_elim, true≢false, append_assoc, append-nil, arith}
+use Rattle.std.proofs.lemmas.Bool.{ne_eqb, eq-eqb, and_right, and_from, and_parts, false_from_ne_true}
 use Rattle.ecma_token.specs.declared.place.Span.{Span}
 use Rattle.ecma_token.specs.Kinds.{template_kind, comma_kind, colon_kind, assign_kind, dot_dot_dot_kind, left_bracket_kind, right_bracket_kind, left_brace_kind, right_brace_kind}
-use Rattle.ecma_tree.specs.Tree.{Tree, Trees, none, more, pack, unpack, ident, ident_name, array_lit, object_lit, expr_or_spread, spread_element, key_value_prop, assign_prop, assign_expr, member_expr, super_prop_expr, paren_expr, binding_ident, array_pat, object_pat, assign_pat, rest_pat, key_value_pat_prop, assign_pat_prop, expr_pat, hole, absent, param, computed_prop_name}
-use Rattle.ecma_syntax.specs.Input.{Input, Code, kind, is_word, lo, rest, span, first_span, dots_at, with_in}
+use Rattle.ecma_tree.specs.Tree.{Tree, Trees, none, more, pack, unpack, ident, array_lit, object_lit, member_expr, super_prop_expr, paren_expr, binding_ident, array_pat, object_pat, assign_pat, rest_pat, key_value_pat_prop, assign_pat_prop, expr_pat, hole, absent, param, computed_prop_name}
+use Rattle.ecma_syntax.specs.Input.{Input, Code, kind, is_word, lo, rest, span, dots_at, with_in}
 use Rattle.ecma_syntax.specs.Operators.{assignment_level}
 use Rattle.ecma_syntax.specs.Shape.{level, ends, is_simple, is_target_expr, is_structured, is_place, is_item_pat, is_rest, is_hole, is_absent}
-use Rattle.ecma_grammar.specs.Children.{Child, child, By, IsEmpty, Listed}
+use Rattle.ecma_grammar.specs.Children.{child, Listed}
 use Rattle.ecma_grammar.specs.Patterns.{Item, Property}
 use Rattle.ecma_grammar.specs.Grammar.{Produces, children}
-use Rattle.ecma_reading.specs.Source.{Fault, ◌>>=◌, unexpected, State, past, bound, Inner, Step, go_on, finished, eat, iterate}
+use Rattle.ecma_reading.specs.Source.{Fault, State, past, bound, Inner, Step, go_on, finished, iterate}
 use Rattle.ecma_reading.specs.Cover.{has, binds_names, all_bind, to_target, to_head, to_item, to_items, as_prop, rest_of, is_rest_item, last_rests}
 use Rattle.ecma_reading.specs.Expressions.{Elements, no_elements, element_by, after_element, element_step, elements_by, array_by, prefix_by, prop_by, prop_rest, prop_step, key_by, object_by}
 use Rattle.ecma_reading.specs.Reading.{readers}
-use Rattle.ecma_grammar_complete_base.proofs.Yields.{lm, from, len, coded, first_at, Fresh, After, after_past, Reads, reads_map, then_reads, then_after, Is, then_is, onto, after_one, ended, past_here, past_ended, eat_ended, noted_then, noted_at, starts_here, then_past_reads, if_no, if_yes, Loops, Goes, loop_after, looped}
+use Rattle.ecma_grammar_complete_base.proofs.Yields.{lm, from, len, coded, Fresh, After, Reads, reads_map, then_reads, Is, then_is, ended, past_here, past_ended, eat_ended, noted_then, noted_at, starts_here, then_past_reads, if_no, if_yes, Loops, Goes, loop_after, looped}
 use Rattle.ecma_grammar_complete_base.proofs.Levels.{tail, Follow, closed_by, comma_after, closes, quiet}
 use Rattle.ecma_grammar_complete_rules.proofs.Lengths.{item_taken, property_taken}
 use Rattle.ecma_grammar_complete_base.proofs.Trees.{Covered, CoveredAll, size, sizes, reach, reaches, takes, no_kind, by_cases, begins, starts, name_begins}

@@ -1,11 +1,11 @@
 -- What may follow an expression, and what ends a statement.
-use Rattle.std.proofs.Common.{◌≡◌, ℕ, zero, suc, ◌<◌, ◌≤◌, ◌⊎◌, inl, inr, Bool, true, false, not, ◌&&◌, ◌||◌, ◌==◌, cond, eqb, leb, List, Result, Ok, Err, refl, sym, ap, ◌∙◌, subst, ⊎_elim, true≢false, arith}
-use Rattle.std.proofs.lemmas.Bool.{eqb-true, ne_eqb, eq-eqb, cases_Bool, leb-true, le-leb, or_cases, or_left, or_parts, and_parts, and_right, not-true, false_from_ne_true}
+use Rattle.std.proofs.Common.{◌≡◌, ℕ, zero, suc, ◌≤◌, inl, inr, Bool, true, false, not, ◌&&◌, ◌||◌, ◌==◌, cond, eqb, leb, List, Result, Ok, Err, refl, sym, ap, ◌∙◌, subst, ⊎_elim, true≢false, arith}
+use Rattle.std.proofs.lemmas.Bool.{eqb-true, ne_eqb, eq-eqb, le-leb, or_cases, or_left, or_parts, and_parts, and_right, not-true}
 use Rattle.ecma_token.specs.declared.place.Span.{Span}
-use Rattle.ecma_token.specs.Kinds.{end_kind, comma_kind, semicolon_kind, right_brace_kind, let_kind, left_paren_kind, left_bracket_kind, dot_kind, back_quote_kind, question_mark_kind, regex_kind, arrow_kind, left_brace_kind}
+use Rattle.ecma_token.specs.Kinds.{end_kind, comma_kind, semicolon_kind, right_brace_kind, let_kind, left_paren_kind, left_bracket_kind, dot_kind, back_quote_kind, question_mark_kind, regex_kind, arrow_kind}
 use Rattle.ecma_tree.specs.Tree.{Tree, Trees, none, more, ident, unary_expr, update_expr, await_expr, bin_expr, cond_expr, assign_expr, arrow_expr, yield_expr, seq_expr}
-use Rattle.ecma_syntax.specs.Input.{Input, Code, kind, brk, lo, span, rest, is_word}
-use Rattle.ecma_syntax.specs.Operators.{goes_expr, goes_on, pauses, operates, is_assign_op, between, let_end, may_name}
+use Rattle.ecma_syntax.specs.Input.{Input, Code, kind, brk, lo, span}
+use Rattle.ecma_syntax.specs.Operators.{goes_expr, goes_on, pauses, operates, is_assign_op, between, let_end}
 use Rattle.ecma_syntax.specs.Shape.{ends, last_ends, is_name, is_block, is_absent}
 use Rattle.ecma_grammar.specs.Children.{Ends}
 use Rattle.ecma_grammar.specs.Statements.{statement_end}

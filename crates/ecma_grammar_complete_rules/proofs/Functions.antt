@@ -1,19 +1,19 @@
 -- Parameters and functions (15.1 to 15.8): what their rules answer.
-use Rattle.std.proofs.Common.{◌≡◌, ℕ, ◌<◌, ◌≤◌, ◌⊎◌, inl, inr, max, Bool, true, false, not, ◌&&◌, ◌||◌, ◌==◌, cond, eqb, List, [], ◌∷◌, ◌++◌, Option, Some, None, Result, Ok, refl, sym, ap, ◌∙◌, subst, ⊎_elim, true≢false, append_assoc, append-nil, arith}
-use Rattle.std.proofs.lemmas.Bool.{eqb-true, ne_eqb, eq-eqb, cases_Bool, or_left, or_right, or_from, or_cases, or_parts, and_left, and_right, and_parts, and_from, not-true}
+use Rattle.std.proofs.Common.{◌≡◌, ℕ, ◌<◌, ◌≤◌, ◌⊎◌, inl, inr, max, Bool, true, false, not, ◌&&◌, ◌||◌, ◌==◌, eqb, List, [], ◌∷◌, ◌++◌, Some, refl, sym, ap, ◌∙◌, subst, ⊎_elim, true≢false, append_assoc, append-nil, arith}
+use Rattle.std.proofs.lemmas.Bool.{eq-eqb, or_cases, and_left, and_from}
 use Rattle.ecma_token.specs.declared.place.Span.{Span}
-use Rattle.ecma_token.specs.Kinds.{dot_dot_dot_kind, left_paren_kind, right_paren_kind, left_bracket_kind, left_brace_kind, comma_kind, hash_kind, mul_kind, assign_kind, function_kind, class_kind, extends_kind, async_kind}
-use Rattle.ecma_tree.specs.Tree.{Tree, Trees, none, more, pack, unpack, param, function, block_stmt, fn_decl, fn_expr, class_decl, class_expr, class, assign_pat, rest_pat, ident, ident_name, computed_prop_name, private_name, str_lit, number_lit, big_int_lit, absent}
-use Rattle.ecma_syntax.specs.Input.{Input, Code, kind, lo, text, span, first_span, rest, dots_at, is_word, no_name, always_reserved, barred, with_in, binding, setting, by, in_body, turned_strict, Takes, TakesWord}
+use Rattle.ecma_token.specs.Kinds.{dot_dot_dot_kind, left_paren_kind, right_paren_kind, left_bracket_kind, comma_kind, hash_kind, mul_kind, assign_kind, function_kind, class_kind}
+use Rattle.ecma_tree.specs.Tree.{Tree, Trees, none, more, pack, unpack, param, function, block_stmt, fn_decl, fn_expr, class_decl, assign_pat, rest_pat, ident, ident_name, computed_prop_name, private_name, str_lit, number_lit, big_int_lit, absent}
+use Rattle.ecma_syntax.specs.Input.{Input, Code, kind, lo, text, span, first_span, rest, dots_at, is_word, barred, with_in, setting, by, in_body, turned_strict, Takes, TakesWord}
 use Rattle.ecma_syntax.specs.Operators.{assignment_level}
-use Rattle.ecma_syntax.specs.Shape.{level, ends, is_absent, is_binding, is_place, is_item_pat, is_param, is_rest, is_key, is_private, class_span}
-use Rattle.ecma_grammar.specs.Children.{is_ident, By, IsEmpty, child, Sorted, Listed}
+use Rattle.ecma_syntax.specs.Shape.{level, ends, is_absent, is_binding, is_place, is_item_pat, is_param, is_rest, is_key, is_private}
+use Rattle.ecma_grammar.specs.Children.{is_ident, IsEmpty, Sorted, Listed}
 use Rattle.ecma_grammar.specs.Functions.{Parameters, Star, Async}
 use Rattle.ecma_grammar.specs.Grammar.{Produces, children}
-use Rattle.ecma_reading.specs.Source.{Fault, ◌>>=◌, State, Inner, go_on, finished, name, is_name}
-use Rattle.ecma_reading.specs.Expressions.{key_by, private_by, parameter_by, parameter_step, parameters_by, setter_parameter, is_rest_param, function_by, star, function_expr_name, function_expr_by, class_expr_by}
+use Rattle.ecma_reading.specs.Source.{Inner, go_on, finished}
+use Rattle.ecma_reading.specs.Expressions.{key_by, parameter_by, parameter_step, parameters_by, setter_parameter, is_rest_param, function_by, star, function_expr_name, function_expr_by}
 use Rattle.ecma_reading.specs.Statements.{function_decl_by, class_decl_by, class_key}
-use Rattle.ecma_grammar_complete_base.proofs.Yields.{lm, from, len, coded, first_at, Reads, Is, then_is, then_eat, then_word, then_name, then_past, onto, here, past_here, ended, if_no, if_yes, Loops, loop_on, loop_end, looped}
+use Rattle.ecma_grammar_complete_base.proofs.Yields.{lm, from, len, coded, first_at, Reads, Is, then_is, then_eat, then_word, then_name, then_past, here, past_here, ended, if_no, if_yes, Loops, loop_on, loop_end, looped}
 use Rattle.ecma_grammar_complete_base.proofs.Levels.{Follow, closed_by, comma_after}
 use Rattle.ecma_grammar_complete_base.proofs.Trees.{by_cases, takes, no_kind}
 use Rattle.ecma_grammar_complete_rules.proofs.Prefixes.{literal_found}
@@ -23,7 +23,7 @@ use Rattle.ecma_grammar_complete_rules.proofs.Members.{private_found}
 use Rattle.ecma_grammar_complete_rules.proofs.Objects.{str_read, number_read, big_int_read, begins_key, key_starts}
 use Rattle.ecma_grammar_complete_rules.proofs.Nested.{Nested, patterned}
 use Rattle.ecma_grammar_complete_rules.proofs.Within.{ItemIn, item_in, Within, Withins, within, withins}
-use Rattle.ecma_grammar_complete_rules.proofs.Follows.{built, lifted}
+use Rattle.ecma_grammar_complete_rules.proofs.Follows.{built}
 use Rattle.ecma_grammar_complete_rules.proofs.Starts.{starts_binding, binding_starts, ident_is}
 use Rattle.ecma_grammar_complete_base.proofs.Cuts.{cut}
 

@@ -1,5 +1,5 @@
 -- A target before `in` or `of` is read as an expression that is refined to it (ECMA-262, 14.7.5).
-use Rattle.std.proofs.Common.{◌≡◌, ℕ, zero, suc, ◌<◌, ◌≤◌, Bool, true, false, not, ◌&&◌, ◌||◌, eqb, leb, List, Result, Ok, Err, refl, sym, ap, ◌∙◌, subst, true≢false, arith}
+use Rattle.std.proofs.Common.{◌≡◌, ℕ, zero, suc, ◌<◌, ◌≤◌, Bool, true, false, eqb, leb, List, Ok, refl, sym, ap, ◌∙◌, subst, true≢false, arith}
 use Rattle.std.proofs.lemmas.Bool.{le-leb, and_parts}
 use Rattle.ecma_token.specs.declared.place.Span.{Span}
 use Rattle.ecma_token.specs.Kinds.{hash_kind}
@@ -9,10 +9,10 @@ use Rattle.ecma_syntax.specs.Operators.{goes_expr}
 use Rattle.ecma_syntax.specs.Shape.{level, ends, is_simple, is_target_expr, is_structured, is_place}
 use Rattle.ecma_grammar.specs.Grammar.{Produces}
 use Rattle.ecma_reading.specs.Source.{State}
-use Rattle.ecma_reading.specs.Cover.{to_item, to_head}
+use Rattle.ecma_reading.specs.Cover.{to_head}
 use Rattle.ecma_reading.specs.Expressions.{expr_by, expr_from, loop_by, loop_step, prefix_by}
 use Rattle.ecma_reading.specs.Reading.{readers}
-use Rattle.ecma_grammar_complete_base.proofs.Yields.{lm, from, coded, Reads, reads_map, reads_deep, then_reads, Is, too_deep, if_no, if_yes, looped}
+use Rattle.ecma_grammar_complete_base.proofs.Yields.{lm, from, coded, Reads, reads_map, reads_deep, then_reads, too_deep, if_no, if_yes, looped}
 use Rattle.ecma_grammar_complete_base.proofs.Levels.{Follow, ends_high}
 use Rattle.ecma_grammar_complete_base.proofs.Trees.{Covered, size, reach}
 use Rattle.ecma_grammar_complete_rules.proofs.Lists.{Finds, one_asked}

@@ -1,19 +1,19 @@
 -- What the readers of elements answer, within the readers that a number of calls ties.
-use Rattle.std.proofs.Common.{◌≡◌, ℕ, zero, suc, ◌+◌, ◌<◌, ◌≤◌, ◌⊎◌, inl, inr, max, Bool, true, false, not, ◌&&◌, ◌||◌, ◌==◌, cond, eqb, leb, List, [], ◌∷◌, ◌++◌, length, Option, Some, None, Result, Ok, Err, refl, sym, ap, ◌∙◌, subst, ⊎_elim, true≢false, append_assoc, append-nil, arith}
-use Rattle.std.proofs.lemmas.Bool.{eqb-true, eqb-false, ne_eqb, eq-eqb, cases_Bool, and_parts, and_from, or_cases}
+use Rattle.std.proofs.Common.{◌≡◌, ℕ, suc, ◌<◌, ◌≤◌, ◌⊎◌, inl, inr, Bool, true, false, ◌&&◌, ◌==◌, eqb, List, [], ◌∷◌, ◌++◌, Some, None, refl, sym, ap, ◌∙◌, subst, ⊎_elim, true≢false, append_assoc, append-nil, arith}
+use Rattle.std.proofs.lemmas.Bool.{ne_eqb, eq-eqb, and_parts, and_from}
 use Rattle.ecma_token.specs.declared.place.Span.{Span}
-use Rattle.ecma_token.specs.Kinds.{comma_kind, dot_dot_dot_kind, right_paren_kind, right_bracket_kind}
-use Rattle.ecma_tree.specs.Tree.{Tree, Trees, none, more, pack, unpack, expr_or_spread, hole, ident, fn_expr, class_expr, block_stmt, method_prop, getter_prop, setter_prop}
-use Rattle.ecma_syntax.specs.Input.{Input, Code, kind, brk, lo, rest, span, first_span, Takes, with_in}
+use Rattle.ecma_token.specs.Kinds.{comma_kind, dot_dot_dot_kind}
+use Rattle.ecma_tree.specs.Tree.{Tree, Trees, none, more, pack, unpack, expr_or_spread, hole, fn_expr, class_expr, block_stmt, method_prop, getter_prop, setter_prop}
+use Rattle.ecma_syntax.specs.Input.{Input, Code, kind, rest, first_span, with_in}
 use Rattle.ecma_syntax.specs.Operators.{assignment_level}
-use Rattle.ecma_syntax.specs.Shape.{level, ends, is_element, is_hole, is_rest}
-use Rattle.ecma_grammar.specs.Children.{Child, child, By, IsEmpty, Sorted, Listed}
+use Rattle.ecma_syntax.specs.Shape.{level, ends, is_element, is_hole}
+use Rattle.ecma_grammar.specs.Children.{IsEmpty, Sorted, Listed}
 use Rattle.ecma_grammar.specs.Functions.{Body}
 use Rattle.ecma_grammar.specs.Grammar.{Produces, children}
-use Rattle.ecma_reading.specs.Source.{Fault, ◌>>=◌, unexpected, State, Inner, Step, go_on, finished, eat}
+use Rattle.ecma_reading.specs.Source.{State, go_on, finished}
 use Rattle.ecma_reading.specs.Expressions.{Elements, no_elements, element_by, after_element, element_step, elements_by, prefix_by, prop_by}
 use Rattle.ecma_reading.specs.Reading.{readers}
-use Rattle.ecma_grammar_complete_base.proofs.Yields.{lm, from, len, coded, then_reads, Is, then_is, then_eat, Loops, loop_on, loop_end, looped, shorter, Reads, here, past_here, ended, if_no, if_yes, then_past}
+use Rattle.ecma_grammar_complete_base.proofs.Yields.{lm, from, len, coded, Is, then_is, then_eat, Loops, loop_on, loop_end, looped, shorter, Reads, here, past_here, if_no, if_yes, then_past}
 use Rattle.ecma_grammar_complete_base.proofs.Levels.{closes, quiet, Follow, closed_by, comma_after, Asked}
 use Rattle.ecma_grammar_complete_rules.proofs.Lengths.{element_taken}
 use Rattle.ecma_grammar_complete_base.proofs.Trees.{Covered, CoveredAll, size, sizes, reach, reaches, begins, starts, no_kind, by_cases}

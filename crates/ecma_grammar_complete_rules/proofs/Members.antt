@@ -1,23 +1,23 @@
 -- What the readers of members, chains, templates and words of the grammar answer.
-use Rattle.std.proofs.Common.{◌≡◌, ℕ, zero, suc, ◌+◌, ◌<◌, ◌≤◌, ◌⊎◌, inl, inr, max, Bool, true, false, not, ◌&&◌, ◌||◌, ◌==◌, cond, eqb, leb, List, [], ◌∷◌, ◌++◌, Option, Some, None, Result, Ok, Err, refl, sym, ap, ◌∙◌, subst, ⊎_elim, true≢false, append_assoc, append-nil, arith}
-use Rattle.std.proofs.lemmas.Bool.{ne_eqb, eq-eqb, le-leb, and_from, and_left, cases_Bool, or_left, or_right}
+use Rattle.std.proofs.Common.{◌≡◌, ℕ, ◌<◌, ◌≤◌, Bool, true, false, not, ◌||◌, ◌==◌, eqb, leb, List, [], ◌∷◌, ◌++◌, Option, Ok, refl, sym, ap, ◌∙◌, subst, true≢false, append_assoc, append-nil, arith}
+use Rattle.std.proofs.lemmas.Bool.{ne_eqb, eq-eqb, le-leb}
 use Rattle.ecma_token.specs.declared.place.Span.{Span}
-use Rattle.ecma_token.specs.Kinds.{hash_kind, dot_kind, back_quote_kind, template_kind, dollar_brace_kind, right_brace_kind, question_mark_kind, left_paren_kind, left_bracket_kind, right_paren_kind, mul_kind, new_kind, super_kind, import_kind, yield_kind, meta_kind, target_kind}
+use Rattle.ecma_token.specs.Kinds.{hash_kind, dot_kind, back_quote_kind, template_kind, dollar_brace_kind, right_brace_kind, question_mark_kind, left_paren_kind, left_bracket_kind, right_paren_kind}
 use Rattle.ecma_token.specs.Tokens.{Piece}
-use Rattle.ecma_tree.specs.Tree.{Tree, Trees, none, more, pack, unpack, member_expr, call_expr, super_prop_expr, opt_chain_expr, opt_call, computed_prop_name, ident_name, private_name, tpl, tpl_element, tagged_tpl, meta_prop_expr, yield_expr, super, import, absent}
-use Rattle.ecma_syntax.specs.Input.{Input, Code, kind, kind2, brk, lo, hi, text, content, rest, span, is_word, barred, with_in}
-use Rattle.ecma_syntax.specs.Operators.{expression_level, assignment_level}
-use Rattle.ecma_syntax.specs.Shape.{level, ends, is_chain, is_cooked, is_tail}
-use Rattle.ecma_grammar.specs.Children.{Child, child, IsEmpty}
+use Rattle.ecma_tree.specs.Tree.{Tree, Trees, none, more, pack, unpack, member_expr, opt_chain_expr, opt_call, computed_prop_name, ident_name, private_name, tpl, tpl_element, tagged_tpl}
+use Rattle.ecma_syntax.specs.Input.{Input, Code, kind, kind2, lo, hi, content, rest, span, is_word, with_in}
+use Rattle.ecma_syntax.specs.Operators.{expression_level}
+use Rattle.ecma_syntax.specs.Shape.{level, ends, is_chain, is_cooked}
+use Rattle.ecma_grammar.specs.Children.{child, IsEmpty}
 use Rattle.ecma_grammar.specs.Expressions.{PrivateIdentifier, AccessedName, Dotted, TemplateSpans, TemplateLiteral}
 use Rattle.ecma_grammar.specs.Grammar.{Produces, children}
-use Rattle.ecma_reading.specs.Source.{Fault, ◌>>=◌, unexpected, State, bound, Inner, Step, go_on, finished, iterate}
-use Rattle.ecma_reading.specs.Expressions.{Spans, private_by, member_name, member_by, index_by, call_by, chain_by, arguments_by, elements_by, computed_by, on_chain, call_tree, quasi_step, quasi_end, template_by, step_by, prefix_by, keyword_by, super_end, import_by, fits_import, new_by, yield_by, yield_end}
+use Rattle.ecma_reading.specs.Source.{◌>>=◌, State, bound, Inner, go_on, finished, iterate}
+use Rattle.ecma_reading.specs.Expressions.{Spans, private_by, member_name, member_by, index_by, call_by, chain_by, arguments_by, elements_by, computed_by, on_chain, call_tree, quasi_step, quasi_end, template_by, step_by, prefix_by}
 use Rattle.ecma_reading.specs.Reading.{readers}
-use Rattle.ecma_grammar_complete_base.proofs.Yields.{lm, from, coded, first_at, Reads, then_reads, Is, then_is, then_past, then_past_reads, then_eat, then_word, then_any, after_one, here, past_here, ended, if_no, if_yes, Loops, loop_on, loop_end, looped, shorter}
-use Rattle.ecma_grammar_complete_base.proofs.Levels.{quits, ends_operand, closed_by}
+use Rattle.ecma_grammar_complete_base.proofs.Yields.{lm, from, coded, first_at, Reads, then_reads, Is, then_is, then_past, then_past_reads, then_eat, then_any, after_one, here, past_here, ended, if_no, if_yes, Loops, loop_on, loop_end, looped}
+use Rattle.ecma_grammar_complete_base.proofs.Levels.{closed_by}
 use Rattle.ecma_grammar_complete_rules.proofs.Lengths.{taken}
-use Rattle.ecma_grammar_complete_base.proofs.Trees.{Covered, CoveredAll, size, sizes, reach, reaches, takes}
+use Rattle.ecma_grammar_complete_base.proofs.Trees.{CoveredAll, sizes, reach, reaches, takes}
 use Rattle.ecma_grammar_complete_rules.proofs.Lists.{Finds, Has, pack_unpack, one_asked}
 use Rattle.ecma_grammar_complete_rules.proofs.Steps.{computed_found}
 

@@ -1,21 +1,21 @@
 -- What the readers of keys, properties and objects answer.
-use Rattle.std.proofs.Common.{◌≡◌, ℕ, zero, suc, ◌+◌, ◌<◌, ◌≤◌, ◌⊎◌, inl, inr, max, Bool, true, false, not, ◌&&◌, ◌||◌, ◌==◌, cond, eqb, leb, List, [], ◌∷◌, ◌++◌, Option, Some, None, Result, Ok, Err, refl, sym, ap, ◌∙◌, subst, ⊎_elim, true≢false, append_assoc, append-nil, arith}
-use Rattle.std.proofs.lemmas.Bool.{ne_eqb, eq-eqb, and_left, and_right, or_from, or_left, or_parts, and_from, cases_Bool}
+use Rattle.std.proofs.Common.{◌≡◌, ℕ, ◌<◌, ◌≤◌, ◌⊎◌, inl, inr, max, Bool, true, false, not, ◌&&◌, ◌||◌, ◌==◌, eqb, List, [], ◌∷◌, ◌++◌, Option, Some, refl, sym, ap, ◌∙◌, subst, ⊎_elim, true≢false, append_assoc, append-nil, arith}
+use Rattle.std.proofs.lemmas.Bool.{ne_eqb, eq-eqb, and_left, and_right, or_from, or_left}
 use Rattle.ecma_number.specs.Numbers.{SpecNumber}
 use Rattle.ecma_token.specs.declared.place.Span.{Span}
-use Rattle.ecma_token.specs.Kinds.{comma_kind, colon_kind, assign_kind, dot_dot_dot_kind, mul_kind, left_paren_kind, left_bracket_kind, right_bracket_kind, left_brace_kind, right_brace_kind, str_kind, num_kind, big_int_kind, regex_kind, async_kind, get_kind, set_kind, hash_kind}
+use Rattle.ecma_token.specs.Kinds.{comma_kind, colon_kind, assign_kind, dot_dot_dot_kind, mul_kind, left_paren_kind, left_bracket_kind, left_brace_kind, right_brace_kind, str_kind, num_kind, big_int_kind, async_kind, get_kind, set_kind, hash_kind}
 use Rattle.ecma_tree.specs.Tree.{Tree, Trees, none, more, pack, unpack, ident, ident_name, computed_prop_name, str_lit, number_lit, big_int_lit, object_lit, key_value_prop, assign_prop, spread_element, getter_prop, setter_prop, method_prop, function, block_stmt}
-use Rattle.ecma_syntax.specs.Input.{Input, Code, kind, kind2, brk2, lo, text, content, rest, span, first_span, is_word, with_in, assigning}
+use Rattle.ecma_syntax.specs.Input.{Input, Code, kind, kind2, lo, text, content, rest, span, first_span, is_word, with_in, assigning}
 use Rattle.ecma_syntax.specs.Operators.{assignment_level, starts_key}
-use Rattle.ecma_syntax.specs.Shape.{level, ends, is_prop, is_key, is_rest}
-use Rattle.ecma_grammar.specs.Children.{is_ident, Child, child, By, IsEmpty, Sorted, Listed}
+use Rattle.ecma_syntax.specs.Shape.{level, ends, is_prop, is_key}
+use Rattle.ecma_grammar.specs.Children.{Sorted, Listed}
 use Rattle.ecma_grammar.specs.Expressions.{StringLiteral, NumericLiteral, BigIntLiteral}
 use Rattle.ecma_grammar.specs.Functions.{MethodHead}
 use Rattle.ecma_grammar.specs.Grammar.{Produces, children}
-use Rattle.ecma_reading.specs.Source.{Fault, ◌>>=◌, unexpected, State, bound, Inner, Step, go_on, finished, iterate}
-use Rattle.ecma_reading.specs.Expressions.{Elements, no_elements, literal, literal_by, key_by, computed_by, prop_by, prop_rest, prop_step, after_element, object_by, prefix_by, is_async_head, is_accessor}
+use Rattle.ecma_reading.specs.Source.{◌>>=◌, State, bound, Inner, iterate}
+use Rattle.ecma_reading.specs.Expressions.{no_elements, literal, key_by, prop_by, prop_rest, prop_step, after_element, object_by, prefix_by, is_async_head, is_accessor}
 use Rattle.ecma_reading.specs.Reading.{readers}
-use Rattle.ecma_grammar_complete_base.proofs.Yields.{lm, from, len, coded, first_at, IsName, Reads, then_reads, Is, then_is, then_past, then_eat, then_name_placed, then_noted, here, past_here, if_no, if_yes, Loops, loop_on, loop_end, looped, after_one, onto}
+use Rattle.ecma_grammar_complete_base.proofs.Yields.{lm, from, coded, first_at, IsName, Reads, Is, then_is, then_past, then_eat, then_name_placed, then_noted, here, past_here, if_no, if_yes, Loops, loop_on, loop_end, looped}
 use Rattle.ecma_grammar_complete_base.proofs.Levels.{Follow, closed_by, comma_after}
 use Rattle.ecma_grammar_complete_rules.proofs.Lengths.{prop_taken}
 use Rattle.ecma_grammar_complete_base.proofs.Trees.{Covered, CoveredAll, size, sizes, reach, reaches, takes, no_kind}

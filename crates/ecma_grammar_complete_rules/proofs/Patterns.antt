@@ -1,21 +1,21 @@
 -- What the readers of patterns that bind answer (ECMA-262, 14.3.3), over readers of what is nested that find it.
-use Rattle.std.proofs.Common.{◌≡◌, ℕ, zero, suc, ◌<◌, ◌≤◌, ◌⊎◌, inl, inr, max, Bool, true, false, not, ◌&&◌, ◌||◌, ◌==◌, cond, eqb, List, [], ◌∷◌, ◌++◌, Result, Ok, Err, refl, sym, ap, ◌∙◌, subst, ⊎_elim, true≢false, append_assoc, append-nil, arith}
-use Rattle.std.proofs.lemmas.Bool.{ne_eqb, eq-eqb, and_from, and_left, and_right, cases_Bool, or_left}
+use Rattle.std.proofs.Common.{◌≡◌, ℕ, zero, suc, ◌<◌, ◌≤◌, Bool, true, false, not, ◌&&◌, ◌||◌, ◌==◌, eqb, List, [], ◌∷◌, ◌++◌, Result, Ok, refl, sym, ap, ◌∙◌, subst, ⊎_elim, true≢false, append_assoc, append-nil, arith}
+use Rattle.std.proofs.lemmas.Bool.{ne_eqb, eq-eqb, and_from, and_left, or_left}
 use Rattle.ecma_token.specs.declared.place.Span.{Span}
 use Rattle.ecma_token.specs.Kinds.{comma_kind, colon_kind, assign_kind, dot_dot_dot_kind, left_bracket_kind, right_bracket_kind, left_brace_kind, right_brace_kind}
-use Rattle.ecma_tree.specs.Tree.{Tree, Trees, none, more, pack, unpack, ident, ident_name, str_lit, number_lit, big_int_lit, computed_prop_name, binding_ident, array_pat, object_pat, assign_pat, rest_pat, key_value_pat_prop, assign_pat_prop, expr_pat, hole, absent}
-use Rattle.ecma_syntax.specs.Input.{Input, Code, kind, lo, text, rest, span, first_span, dots_at, is_word, with_in}
+use Rattle.ecma_tree.specs.Tree.{Tree, Trees, none, more, pack, unpack, ident, binding_ident, array_pat, object_pat, assign_pat, rest_pat, key_value_pat_prop, assign_pat_prop, hole, absent}
+use Rattle.ecma_syntax.specs.Input.{Input, Code, kind, lo, rest, span, first_span, is_word, with_in}
 use Rattle.ecma_syntax.specs.Operators.{assignment_level}
-use Rattle.ecma_syntax.specs.Shape.{level, ends, is_binding, is_place, is_assigned, is_item_pat, is_pattern_prop, is_structured, is_hole, is_rest, is_absent, is_key}
-use Rattle.ecma_grammar.specs.Children.{Child, child, By, IsEmpty, Listed, Expr}
+use Rattle.ecma_syntax.specs.Shape.{ends, is_binding, is_place, is_item_pat, is_structured, is_hole, is_rest, is_absent}
+use Rattle.ecma_grammar.specs.Children.{child, Listed}
 use Rattle.ecma_grammar.specs.Patterns.{Item, Property}
 use Rattle.ecma_grammar.specs.Grammar.{Produces, children}
-use Rattle.ecma_reading.specs.Source.{Fault, ◌>>=◌, unexpected, State, bound, Inner, Step, go_on, finished, iterate}
+use Rattle.ecma_reading.specs.Source.{Fault, ◌>>=◌, State, bound, Inner, Step, go_on, finished, iterate}
 use Rattle.ecma_reading.specs.Expressions.{key_by}
 use Rattle.ecma_reading.specs.Statements.{pat_by, array_pat_by, array_item, object_pat_by, object_item, pattern_prop, keyed_item, named_item, initial_pat, after_item}
 use Rattle.ecma_reading.specs.Reading.{readers}
 use Rattle.ecma_grammar_complete_base.specs.Laws.{patterned}
-use Rattle.ecma_grammar_complete_base.proofs.Yields.{lm, from, len, coded, first_at, Reads, too_deep, Is, then_is, then_past, then_past_reads, then_eat, then_name, then_name_placed, onto, after_one, here, past_here, ended, if_no, if_yes, Loops, loop_on, loop_end, looped}
+use Rattle.ecma_grammar_complete_base.proofs.Yields.{lm, from, coded, first_at, Reads, too_deep, Is, then_is, then_past, then_past_reads, then_eat, then_name, then_name_placed, onto, here, past_here, ended, if_no, if_yes, Loops, loop_on, loop_end, looped}
 use Rattle.ecma_grammar_complete_base.proofs.Levels.{Follow, closed_by, comma_after}
 use Rattle.ecma_grammar_complete_rules.proofs.Lengths.{item_taken, property_taken}
 use Rattle.ecma_grammar_complete_base.proofs.Trees.{Covered, CoveredAll, size, sizes, reach, reaches, takes, no_kind, by_cases}

@@ -1,15 +1,14 @@
 -- How expressions, patterns and statements start.
-use Rattle.std.proofs.Common.{◌≡◌, ℕ, ◌<◌, ◌≤◌, ◌⊎◌, inl, inr, Bool, true, false, not, ◌&&◌, ◌||◌, ◌==◌, cond, eqb, leb, List, [], ◌∷◌, Option, Some, None, refl, sym, ap, ◌∙◌, subst, ⊎_elim, true≢false, arith}
-use Rattle.std.proofs.lemmas.Bool.{eqb-true, ne_eqb, eq-eqb, cases_Bool, leb-true, le-leb, or_cases, or_left, or_right, or_parts, and_parts, and_from, not-true}
+use Rattle.std.proofs.Common.{◌≡◌, ℕ, ◌≤◌, ◌⊎◌, inl, inr, Bool, true, false, not, ◌&&◌, ◌||◌, ◌==◌, eqb, leb, List, refl, sym, ap, ◌∙◌, subst, ⊎_elim, true≢false, arith}
+use Rattle.std.proofs.lemmas.Bool.{eqb-true, ne_eqb, eq-eqb, cases_Bool, leb-true, or_cases, or_left, or_right, or_parts, and_parts, and_from}
 use Rattle.ecma_token.specs.declared.context.Context.{Context}
 use Rattle.ecma_token.specs.declared.place.Span.{Span}
-use Rattle.ecma_token.specs.Kinds.{hash_kind, bang_kind, arrow_kind, dot_kind, left_paren_kind, left_bracket_kind, left_brace_kind, right_brace_kind, back_quote_kind, question_mark_kind, comma_kind, semicolon_kind, plus_plus_kind, str_kind, num_kind, regex_kind, big_int_kind, add_kind, sub_kind, this_kind, null_kind, true_kind, false_kind, await_kind, new_kind, super_kind, class_kind, import_kind, function_kind, typeof_kind, delete_kind, yield_kind, let_kind, using_kind, async_kind, break_kind, continue_kind, debugger_kind, do_kind, for_kind, if_kind, return_kind, switch_kind, throw_kind, try_kind, var_kind, const_kind, while_kind, with_kind}
+use Rattle.ecma_token.specs.Kinds.{hash_kind, bang_kind, arrow_kind, dot_kind, left_paren_kind, left_bracket_kind, left_brace_kind, back_quote_kind, question_mark_kind, comma_kind, semicolon_kind, plus_plus_kind, str_kind, num_kind, regex_kind, big_int_kind, add_kind, sub_kind, this_kind, null_kind, true_kind, false_kind, await_kind, new_kind, super_kind, class_kind, import_kind, function_kind, typeof_kind, delete_kind, yield_kind, let_kind, using_kind, async_kind, break_kind, continue_kind, debugger_kind, do_kind, for_kind, if_kind, return_kind, switch_kind, throw_kind, try_kind, var_kind, const_kind, while_kind, with_kind}
 use Rattle.ecma_tree.specs.Tree.{Tree, Trees, none, more, block_stmt, empty_stmt, debugger_stmt, with_stmt, return_stmt, labeled_stmt, break_stmt, continue_stmt, if_stmt, switch_stmt, throw_stmt, try_stmt, while_stmt, do_while_stmt, for_stmt, for_in_stmt, for_of_stmt, expr_stmt, class_decl, fn_decl, var_decl, using_decl, function, this_expr, array_lit, object_lit, fn_expr, unary_expr, update_expr, bin_expr, assign_expr, member_expr, super_prop_expr, cond_expr, call_expr, new_expr, seq_expr, ident, tpl, tagged_tpl, arrow_expr, class_expr, yield_expr, meta_prop_expr, await_expr, paren_expr, opt_chain_expr, opt_call, super, import, str_lit, bool_lit, null_lit, number_lit, big_int_lit, regex_lit, binding_ident, array_pat, object_pat, expr_pat, private_name, computed_prop_name, list, absent}
-use Rattle.ecma_syntax.specs.Input.{Input, Code, kind, rest, is_word, no_name, always_reserved, operator_word, barred, assigning, text, lo, span, first_span}
+use Rattle.ecma_syntax.specs.Input.{Input, Code, kind, rest, is_word, always_reserved, operator_word, assigning, text, lo, span, first_span}
 use Rattle.ecma_syntax.specs.Operators.{between, may_name, operates, is_assign_op}
 use Rattle.ecma_syntax.specs.Shape.{level, is_binding, is_place, is_bound_name, is_target_expr, is_simple, is_structured, is_target, is_chain, is_private, is_item, fits_left}
-use Rattle.ecma_grammar.specs.Children.{is_ident, Child, child, Expr}
-use Rattle.ecma_grammar.specs.Expressions.{is_unary_op, is_update_op}
+use Rattle.ecma_grammar.specs.Children.{is_ident}
 use Rattle.ecma_grammar.specs.Statements.{is_var_word}
 use Rattle.ecma_grammar.specs.Functions.{ArrowHead, ArrowParameters}
 use Rattle.ecma_grammar.specs.Grammar.{Produces, children}

@@ -1,17 +1,17 @@
 -- What one operator after an expression is read as.
-use Rattle.std.proofs.Common.{◌≡◌, ℕ, zero, suc, ◌+◌, ◌<◌, ◌≤◌, ◌⊎◌, inl, inr, max, Bool, true, false, not, ◌&&◌, ◌||◌, ◌==◌, cond, eqb, leb, List, [], ◌∷◌, ◌++◌, length, Option, Some, None, Result, Ok, Err, refl, sym, ap, ◌∙◌, subst, ⊎_elim, true≢false, arith}
-use Rattle.std.proofs.lemmas.Bool.{eqb-true, eqb-false, ne_eqb, eq-eqb, cases_Bool, le-leb, and_left, and_from, and_parts}
+use Rattle.std.proofs.Common.{◌≡◌, ℕ, ◌≤◌, true, false, not, ◌&&◌, ◌==◌, eqb, leb, List, refl, sym, ap, ◌∙◌, subst, true≢false}
+use Rattle.std.proofs.lemmas.Bool.{ne_eqb, le-leb, and_left, and_from}
 use Rattle.ecma_token.specs.declared.place.Span.{Span}
-use Rattle.ecma_token.specs.Kinds.{comma_kind, dot_kind, question_mark_kind, colon_kind, left_paren_kind, left_bracket_kind, right_bracket_kind, right_paren_kind, hash_kind, plus_plus_kind, minus_minus_kind}
-use Rattle.ecma_tree.specs.Tree.{Tree, Trees, none, more, pack, unpack, bin_expr, cond_expr, update_expr, member_expr, call_expr, computed_prop_name, ident_name, private_name, opt_chain_expr}
-use Rattle.ecma_syntax.specs.Input.{Input, Code, kind, kind2, brk, lo, hi, text, rest, span, first_span, is_word, barred, with_in}
-use Rattle.ecma_syntax.specs.Operators.{binary_level, right_level, operates, is_assign_op, goes_expr, assignment_level, expression_level, call_level, new_level, coalesce_level, between}
-use Rattle.ecma_syntax.specs.Shape.{level, ends, fits_left, is_chain}
+use Rattle.ecma_token.specs.Kinds.{comma_kind, dot_kind, question_mark_kind, colon_kind, left_paren_kind, left_bracket_kind, right_bracket_kind, right_paren_kind, hash_kind}
+use Rattle.ecma_tree.specs.Tree.{Tree, Trees, pack, unpack, bin_expr, cond_expr, update_expr, member_expr, call_expr, computed_prop_name, ident_name}
+use Rattle.ecma_syntax.specs.Input.{Input, Code, kind, kind2, brk, lo, text, rest, span, is_word, barred, with_in}
+use Rattle.ecma_syntax.specs.Operators.{right_level, operates, is_assign_op, assignment_level, expression_level}
+use Rattle.ecma_syntax.specs.Shape.{level, fits_left, is_chain}
 use Rattle.ecma_grammar.specs.Expressions.{is_update_op}
-use Rattle.ecma_reading.specs.Source.{Fault, ◌>>=◌, unexpected, State, Inner, eat}
-use Rattle.ecma_reading.specs.Expressions.{Elements, step_by, binary_by, cond_by, computed_by, index_by, member_by, member_name, private_by, call_by, arguments_by, elements_by, on_chain, call_tree}
+use Rattle.ecma_reading.specs.Source.{State, Inner}
+use Rattle.ecma_reading.specs.Expressions.{step_by, binary_by, cond_by, computed_by, index_by, member_by, member_name, call_by, arguments_by, elements_by}
 use Rattle.ecma_grammar_complete_base.proofs.Yields.{lm, from, then_reads, Is, then_is, then_eat, then_word, then_any, Reads, here, past_here, ended, if_no, if_yes, then_past}
-use Rattle.ecma_grammar_complete_base.proofs.Levels.{operated, not_binary, not_assign, cond_yes, cond_no}
+use Rattle.ecma_grammar_complete_base.proofs.Levels.{operated, not_binary, not_assign, cond_no}
 use Rattle.ecma_grammar_complete_base.proofs.Trees.{by_update}
 use Rattle.ecma_grammar_complete_rules.proofs.Lists.{Has, pack_unpack}
 

@@ -1,17 +1,17 @@
 -- Variables: declarators, `var`, `let`, `const`, and `using`.
-use Rattle.std.proofs.Common.{◌≡◌, ℕ, zero, suc, ◌<◌, ◌≤◌, ◌⊎◌, inl, inr, max, Bool, true, false, not, ◌&&◌, ◌||◌, ◌==◌, cond, eqb, List, [], ◌∷◌, ◌++◌, Result, Ok, refl, sym, ap, ◌∙◌, subst, ⊎_elim, true≢false, append_assoc, arith}
-use Rattle.std.proofs.lemmas.Bool.{eqb-true, ne_eqb, eq-eqb, cases_Bool, or_left, or_right, or_from, or_cases, or_parts, and_parts, and_from, not-true}
+use Rattle.std.proofs.Common.{◌≡◌, ℕ, ◌<◌, ◌≤◌, ◌⊎◌, inl, inr, Bool, true, false, not, ◌&&◌, ◌||◌, ◌==◌, cond, eqb, List, [], ◌∷◌, ◌++◌, Ok, refl, sym, ap, ◌∙◌, subst, ⊎_elim, true≢false, append_assoc, arith}
+use Rattle.std.proofs.lemmas.Bool.{eqb-true, ne_eqb, eq-eqb, or_left, or_right, or_from, or_cases, or_parts, and_parts, and_from, not-true}
 use Rattle.ecma_token.specs.declared.context.Context.{Context}
 use Rattle.ecma_token.specs.declared.place.Span.{Span}
 use Rattle.ecma_token.specs.Kinds.{end_kind, await_kind, var_kind, let_kind, const_kind, left_bracket_kind, comma_kind, semicolon_kind, right_brace_kind, assign_kind, using_kind}
-use Rattle.ecma_tree.specs.Tree.{Tree, Trees, none, more, pack, unpack, var_decl, using_decl, var_declarator, absent}
+use Rattle.ecma_tree.specs.Tree.{Tree, Trees, none, more, unpack, var_decl, using_decl, var_declarator, absent}
 use Rattle.ecma_syntax.specs.Input.{Input, Code, kind, kind2, brk, lo, span, rest, barred, binding}
 use Rattle.ecma_syntax.specs.Operators.{assignment_level, goes_expr, goes_on, binding_end, may_name}
-use Rattle.ecma_syntax.specs.Shape.{level, ends, is_absent, is_binding, is_declarator, declarator_end, declarators_end}
-use Rattle.ecma_grammar.specs.Children.{By, child, Sorted, CommaThen, Commas, Ends}
+use Rattle.ecma_syntax.specs.Shape.{level, ends, is_absent, is_declarator, declarator_end, declarators_end}
+use Rattle.ecma_grammar.specs.Children.{child, Sorted, CommaThen, Commas, Ends}
 use Rattle.ecma_grammar.specs.Statements.{is_var_word, starts_pattern}
 use Rattle.ecma_grammar.specs.Grammar.{Produces, children}
-use Rattle.ecma_reading.specs.Source.{Fault, ◌>>=◌, State, Inner, go_on, finished, end_of}
+use Rattle.ecma_reading.specs.Source.{◌>>=◌, Inner, go_on, finished, end_of}
 use Rattle.ecma_reading.specs.Statements.{declarator_by, declarator_step, declarators_by, variables_by, using_by, starts_let, starts_using, starts_await_using}
 use Rattle.ecma_grammar_complete_base.proofs.Yields.{lm, from, len, coded, Reads, Is, then_is, then_word, then_past, here, past_here, ended, if_no, if_yes, Loops, loop_on, loop_end, looped}
 use Rattle.ecma_grammar_complete_base.proofs.Levels.{Follow, quiet, ends_operand, comma_after, goes_comma}
@@ -19,7 +19,7 @@ use Rattle.ecma_grammar_complete_rules.proofs.Lists.{pack_unpack, two_asked}
 use Rattle.ecma_grammar_complete_base.proofs.Trees.{by_cases, takes}
 use Rattle.ecma_grammar_complete_rules.proofs.Nested.{Nested}
 use Rattle.ecma_grammar_complete_rules.proofs.Within.{Within, Withins, within, withins}
-use Rattle.ecma_grammar_complete_rules.proofs.Follows.{calm_line, halts, halted, ends_two, end_follows, low_goes, then_end, lifted}
+use Rattle.ecma_grammar_complete_rules.proofs.Follows.{calm_line, halts, halted, ends_two, low_goes, then_end}
 use Rattle.ecma_grammar_complete_base.proofs.Cuts.{cut}
 use Rattle.ecma_grammar_complete_rules.proofs.Simple.{absent_is}
 use Rattle.ecma_grammar_complete_rules.proofs.Starts.{Opening, After, Names, named_after, one_name, tame, starts_binding, binding_starts}

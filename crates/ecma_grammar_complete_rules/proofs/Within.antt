@@ -1,5 +1,5 @@
 -- What the rule for a node asks of the readers of nested parts: that these are covered, and how deep they reach.
-use Rattle.std.proofs.Common.{◌≡◌, ℕ, ◌≤◌, max, Bool, true, false, refl}
+use Rattle.std.proofs.Common.{ℕ, max, Bool, true, false}
 use Rattle.ecma_tree.specs.Tree.{Tree, Trees, none, more, block_stmt, with_stmt, return_stmt, labeled_stmt, if_stmt, switch_stmt, switch_case, throw_stmt, try_stmt, catch_clause, while_stmt, do_while_stmt, for_stmt, for_in_stmt, for_of_stmt, expr_stmt, class_decl, fn_decl, var_decl, using_decl, var_declarator, function, param, class, constructor, class_method, private_method, class_prop, private_prop, static_block, auto_accessor, computed_prop_name, fn_expr, class_expr, assign_pat, rest_pat, method_prop, getter_prop, setter_prop}
 
 -- each tree of a list is covered

@@ -1,22 +1,22 @@
 -- What the readers of `super`, `import`, meta properties and `yield` answer.
-use Rattle.std.proofs.Common.{◌≡◌, ℕ, zero, suc, ◌<◌, ◌≤◌, ◌⊎◌, inl, inr, max, Bool, true, false, not, ◌&&◌, ◌||◌, ◌==◌, cond, eqb, List, [], ◌∷◌, ◌++◌, Option, Some, None, Result, Ok, Err, refl, sym, ap, ◌∙◌, subst, ⊎_elim, true≢false, arith}
+use Rattle.std.proofs.Common.{◌≡◌, ℕ, ◌<◌, ◌≤◌, Bool, true, false, not, ◌&&◌, eqb, List, [], ◌∷◌, Ok, refl, sym, ap, ◌∙◌, subst, ⊎_elim, true≢false, arith}
 use Rattle.std.proofs.lemmas.Bool.{ne_eqb, eq-eqb, and_from, and_parts, or_from, or_left, or_right}
 use Rattle.ecma_token.specs.declared.place.Span.{Span}
 use Rattle.ecma_token.specs.Kinds.{dot_kind, left_paren_kind, left_bracket_kind, right_paren_kind, mul_kind, new_kind, super_kind, import_kind, yield_kind, meta_kind, target_kind}
 use Rattle.ecma_tree.specs.Tree.{Tree, Trees, none, more, pack, unpack, call_expr, super_prop_expr, computed_prop_name, ident_name, meta_prop_expr, yield_expr, super, import, absent}
-use Rattle.ecma_syntax.specs.Input.{Input, Code, TakesWord, kind, brk, lo, text, rest, span, first_span, is_word, barred, with_in}
+use Rattle.ecma_syntax.specs.Input.{Input, Code, TakesWord, kind, brk, lo, rest, span, first_span, barred, with_in}
 use Rattle.ecma_syntax.specs.Operators.{expression_level, assignment_level}
-use Rattle.ecma_syntax.specs.Shape.{is_element, is_spread}
-use Rattle.ecma_grammar.specs.Children.{Child, child, By, IsEmpty, Listed, Sorted}
+use Rattle.ecma_syntax.specs.Shape.{is_spread}
+use Rattle.ecma_grammar.specs.Children.{child}
 use Rattle.ecma_grammar.specs.Expressions.{Dotted, MetaProperty, ImportArguments, is_plain_element, is_at_most_one}
 use Rattle.ecma_grammar.specs.Grammar.{Produces, children}
-use Rattle.ecma_reading.specs.Source.{Fault, ◌>>=◌, unexpected, State, bound, Inner, eat, eat_word, any_word, iterate}
-use Rattle.ecma_reading.specs.Expressions.{Elements, no_elements, element_step, elements_by, computed_by, arguments_by, prefix_by, keyword_by, super_end, import_by, fits_import, new_by, yield_by, yield_end, ends_yield}
+use Rattle.ecma_reading.specs.Source.{◌>>=◌, State, Inner, eat_word}
+use Rattle.ecma_reading.specs.Expressions.{Elements, no_elements, elements_by, computed_by, arguments_by, prefix_by, keyword_by, super_end, import_by, fits_import, new_by, yield_by, yield_end}
 use Rattle.ecma_reading.specs.Reading.{readers}
-use Rattle.ecma_grammar_complete_base.proofs.Yields.{lm, from, coded, reads_map, first_at, Reads, then_reads, Is, then_is, then_past, onto, then_eat, then_word, then_any, after_one, here, ended, if_no, if_yes, loop_end, looped}
+use Rattle.ecma_grammar_complete_base.proofs.Yields.{lm, from, coded, reads_map, first_at, Reads, then_reads, Is, then_is, then_past, onto, then_eat, then_word, then_any, here, ended, if_no, if_yes, loop_end, looped}
 use Rattle.ecma_grammar_complete_base.proofs.Levels.{quits, ends_operand}
-use Rattle.ecma_grammar_complete_base.proofs.Trees.{Covered, CoveredAll, size, sizes, reach, reaches, begins, no_kind, by_cases}
-use Rattle.ecma_grammar_complete_rules.proofs.Lists.{Finds, Has, pack_unpack, elements_found, step_close}
+use Rattle.ecma_grammar_complete_base.proofs.Trees.{CoveredAll, sizes, reach, reaches, begins, no_kind, by_cases}
+use Rattle.ecma_grammar_complete_rules.proofs.Lists.{Finds, pack_unpack, elements_found, step_close}
 use Rattle.ecma_grammar_complete_rules.proofs.Steps.{computed_found}
 use Rattle.ecma_grammar_complete_rules.proofs.Members.{Lists, listed, no_more}
 

@@ -1,10 +1,10 @@
 -- Two readings agree: the second answers what the first does, unless that is too deep.
-use Rattle.std.proofs.Common.{◌≡◌, ℕ, zero, suc, Bool, true, false, not, ◌&&◌, ◌||◌, cond, ltb, List, [], ◌∷◌, Option, Some, None, Result, Ok, Err, refl, sym, ap, subst}
+use Rattle.std.proofs.Common.{◌≡◌, ℕ, zero, suc, Bool, true, false, ◌||◌, cond, ltb, List, [], ◌∷◌, Option, Result, Ok, Err, refl, sym, ap, subst}
 use Rattle.ecma_token.specs.declared.place.Span.{Span}
 use Rattle.ecma_token.specs.Tokens.{Content, Piece, Line}
 use Rattle.ecma_tree.specs.Tree.{Tree, param, rest_pat, function}
 use Rattle.ecma_syntax.specs.Input.{Code}
-use Rattle.ecma_syntax.specs.Shape.{is_default_case, is_bare_declarator}
+use Rattle.ecma_syntax.specs.Shape.{is_default_case}
 use Rattle.ecma_reading.specs.Source.{Fault, Unexpected, TooDeep, ◌>>=◌, placed, Stream, State, Read, Step, go_on, finished, next_by, iterate_n, iterate, Inner}
 use Rattle.ecma_reading.specs.Expressions.{is_rest_param, pattern_of, quasi}
 use Rattle.ecma_reading.specs.Statements.{constructor_of, has_default, one_bare}

@@ -1,12 +1,12 @@
 -- Expressions (ECMA-262, clause 13): where their rules over two readers of nested parts agree.
-use Rattle.std.proofs.Common.{◌≡◌, ℕ, Bool, true, false, not, ◌&&◌, ◌||◌, ◌==◌, nat_le, nat_lt, if◌then◌else◌, List, [], ◌∷◌, ◌++◌, Option, Some, None, Result, Ok, refl, sym, ap, subst}
+use Rattle.std.proofs.Common.{ℕ, Bool, true, false, not, ◌&&◌, ◌||◌, ◌==◌, nat_le, nat_lt, List, [], ◌∷◌, ◌++◌, Option, Ok, sym, ap, subst}
 use Rattle.ecma_token.specs.declared.place.Span.{Span}
 use Rattle.ecma_token.specs.Kinds.{hash_kind, dot_kind, dot_dot_dot_kind, left_paren_kind, right_paren_kind, left_bracket_kind, right_bracket_kind, left_brace_kind, right_brace_kind, comma_kind, back_quote_kind, template_kind, colon_kind, dollar_brace_kind, question_mark_kind, regex_kind, mul_kind, assign_kind, null_kind, true_kind, false_kind, await_kind, function_kind, class_kind, new_kind, this_kind, super_kind, import_kind, yield_kind, in_kind, plus_plus_kind, minus_minus_kind, async_kind, get_kind, set_kind}
 use Rattle.ecma_tree.specs.Tree.{Tree, this_expr, ident, setter_prop, bool_lit, null_lit, binding_ident}
 use Rattle.ecma_syntax.specs.Input.{Code, kind, kind2, brk, barred, lo, text, content, is_word, has_in, with_in, by, in_body, in_arrow, turned_strict, in_list}
 use Rattle.ecma_syntax.specs.Operators.{expression_level, assignment_level, coalesce_level, unary_level, call_level, member_level, binary_level, right_level, is_assign_op, operates, goes_expr, between}
 use Rattle.ecma_syntax.specs.Shape.{level, ends, fits_left, is_chain}
-use Rattle.ecma_reading.specs.Source.{◌>>=◌, placed, Stream, State, input, past, operand, bound, spanned, at, eat, eat_word, is_name, name, Inner}
+use Rattle.ecma_reading.specs.Source.{placed, Stream, State, input, past, operand, bound, spanned, at, eat, eat_word, is_name, name, Inner}
 use Rattle.ecma_reading.specs.Cover.{to_target}
 use Rattle.ecma_reading.specs.Expressions.{first, literal_by, element_by, after_element, element_step, elements_by, array_by, computed_by, key_by, private_by, parameter_by, parameter_step, parameters_by, function_by, setter_parameter, is_accessor, is_async_head, star, method_prop_by, getter_by, setter_by, prop_rest, prop_by, prop_step, object_by, quasi, quasi_end, quasi_step, template_by, arrows_at, heads_params, is_async_param, arrow_by, params_of, group_end, group_by, ident_end, arguments_by, async_group, function_expr_name, function_expr_by, async_by, class_expr_by, new_end, callee_by, new_by, super_end, import_by, unary_by, update_by, await_by, ends_yield, yield_end, yield_by, word_by, fixed, keyword_by, prefix_by, member_name, member_by, index_by, call_by, chain_by, cond_by, assign_by, binary_by, step_by, loop_step, loop_by, private_in, expr_from, expr_by, Elements, Spans, is_unary, no_elements}
 use Rattle.ecma_grammar_laws.proofs.Agrees.{Agrees, agree_same, agree_equal, agree_then, agree_placed, agree_after, agree_if, agree_by, agree_iterate, Steady, same_rest, same_pattern, same_quasi}

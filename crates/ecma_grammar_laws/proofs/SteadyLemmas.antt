@@ -1,11 +1,10 @@
 -- The readers of more calls answer what those of fewer do, unless that is too deep.
-use Rattle.std.proofs.Common.{◌≡◌, ℕ, zero, suc, ◌+◌, ◌≤◌, Bool, List, [], Result, Ok, Err, if◌then◌else◌, arith}
+use Rattle.std.proofs.Common.{ℕ, zero, suc, ◌≤◌, Bool, [], Result, Err, if◌then◌else◌, arith}
 use Rattle.ecma_token.specs.declared.syntax.EsSyntax.{EsSyntax}
-use Rattle.ecma_tree.specs.Tree.{Tree}
-use Rattle.ecma_syntax.specs.Input.{PlacedToken, Code, script_code, module_code}
-use Rattle.ecma_reading.specs.Source.{Fault, TooDeep, ◌>>=◌, Stream, State, Inner, list_stream}
+use Rattle.ecma_syntax.specs.Input.{script_code, module_code}
+use Rattle.ecma_reading.specs.Source.{Fault, TooDeep, Stream, list_stream}
 use Rattle.ecma_reading.specs.Reading.{readers, finish, read_program, read_list}
-use Rattle.ecma_grammar_laws.specs.SteadyLaws.{Keeps, LimitsKeep}
+use Rattle.ecma_grammar_laws.specs.SteadyLaws.{LimitsKeep}
 use Rattle.ecma_grammar_laws.proofs.Agrees.{Agrees, agree_same, agree_then, Steady}
 use Rattle.ecma_grammar_laws.proofs.SteadyExpressions.{expr_by_steady}
 use Rattle.ecma_grammar_laws.proofs.SteadyStatements.{pat_by_steady, stmt_from_steady, body_by_steady, class_tail_by_steady}

@@ -1,15 +1,15 @@
 -- Scripts and modules (ECMA-262, clause 16): where their rules over two readers of nested parts agree.
-use Rattle.std.proofs.Common.{◌≡◌, ℕ, Bool, true, false, not, ◌&&◌, ◌||◌, ◌==◌, nat_le, nat_lt, if◌then◌else◌, List, [], ◌∷◌, ◌++◌, Option, Some, None, Result, Ok, refl, sym, ap, subst}
+use Rattle.std.proofs.Common.{ℕ, Bool, true, false, not, ◌&&◌, ◌||◌, List, [], ◌∷◌, ◌++◌, Option, Some, None}
 use Rattle.ecma_token.specs.Kinds.{left_brace_kind, right_brace_kind, comma_kind, mul_kind, str_kind, shebang_kind, default_kind, function_kind, with_kind, class_kind, export_kind, import_kind, as_kind, assert_kind, from_kind}
 use Rattle.ecma_tree.specs.Tree.{Tree, import_default_specifier}
 use Rattle.ecma_syntax.specs.Input.{Code, kind, brk, content, is_word, in_list}
 use Rattle.ecma_syntax.specs.Operators.{assignment_level}
-use Rattle.ecma_reading.specs.Source.{unexpected, ◌>>=◌, Stream, State, input, past, operand, bound, at, ended, eat, eat_word, Inner}
+use Rattle.ecma_reading.specs.Source.{unexpected, Stream, State, input, past, operand, bound, at, ended, eat, eat_word, Inner}
 use Rattle.ecma_reading.specs.Expressions.{first}
 use Rattle.ecma_reading.specs.Statements.{Body, starts_async}
 use Rattle.ecma_reading.specs.Modules.{string_by, export_name_by, local_by, attributes_by, source_by, named_import, named_export_item, specifier_step, specifiers_by, star_import, import_end, import_rest, import_default, import_decl_by, export_default, export_star, export_list, starts_declaration, export_by, starts_import, item_by, program_item, program_step, line_of, program_rest, program_by}
-use Rattle.ecma_grammar_laws.proofs.SteadyExpressions.{literal_by_steady, object_by_steady, function_expr_by_steady, class_expr_by_steady, expr_by_steady}
-use Rattle.ecma_grammar_laws.proofs.Agrees.{Agrees, agree_same, agree_equal, agree_then, agree_placed, agree_after, agree_if, agree_by, agree_iterate, Steady, same_line}
+use Rattle.ecma_grammar_laws.proofs.SteadyExpressions.{literal_by_steady, object_by_steady, function_expr_by_steady, class_expr_by_steady}
+use Rattle.ecma_grammar_laws.proofs.Agrees.{Agrees, agree_same, agree_then, agree_placed, agree_after, agree_if, agree_iterate, Steady, same_line}
 
 module _ {S : Type 0} (m : Stream S) (few many : Inner S) (same : Steady few many) where
   pub string_by_steady : (s : State S) → Agrees (string_by m few s) (string_by m many s)

@@ -1,12 +1,12 @@
 -- Patterns, statements, functions and classes (ECMA-262, clauses 14 and 15): where their rules over two readers of nested parts agree.
-use Rattle.std.proofs.Common.{◌≡◌, ℕ, Bool, true, false, not, ◌&&◌, ◌||◌, ◌==◌, nat_le, nat_lt, if◌then◌else◌, List, [], ◌∷◌, ◌++◌, Option, Some, None, Result, Ok, refl, sym, ap, subst}
+use Rattle.std.proofs.Common.{ℕ, Bool, true, false, not, ◌&&◌, ◌||◌, ◌==◌, List, [], ◌∷◌, ◌++◌, Ok, ap}
 use Rattle.ecma_token.specs.declared.place.Span.{Span}
 use Rattle.ecma_token.specs.Kinds.{dot_dot_dot_kind, left_paren_kind, right_paren_kind, left_bracket_kind, right_bracket_kind, left_brace_kind, right_brace_kind, semicolon_kind, comma_kind, colon_kind, hash_kind, mul_kind, assign_kind, await_kind, break_kind, case_kind, catch_kind, continue_kind, debugger_kind, default_kind, do_kind, else_kind, finally_kind, for_kind, function_kind, if_kind, return_kind, switch_kind, throw_kind, try_kind, var_kind, let_kind, const_kind, while_kind, with_kind, class_kind, extends_kind, in_kind, async_kind, of_kind, using_kind, static_kind, accessor_kind, get_kind, set_kind}
 use Rattle.ecma_tree.specs.Tree.{Tree, pack, break_stmt, continue_stmt, for_in_stmt, for_of_stmt, var_decl, using_decl, rest_pat, absent}
 use Rattle.ecma_syntax.specs.Input.{Code, kind, kind2, brk, brk2, barred, lo, dots_at, rest, with_in, without_in, in_list, alone, in_body, in_field, in_static, turned_strict}
 use Rattle.ecma_syntax.specs.Operators.{expression_level, assignment_level, new_level, starts_key, key_end}
 use Rattle.ecma_syntax.specs.Shape.{is_name, is_structured, is_default_case, constructs, field_end}
-use Rattle.ecma_reading.specs.Source.{placed, ◌>>=◌, Stream, State, input, past, operand, bound, spanned, at, eat, eat_word, name, Inner}
+use Rattle.ecma_reading.specs.Source.{placed, Stream, State, input, past, operand, bound, spanned, at, eat, eat_word, name, Inner}
 use Rattle.ecma_reading.specs.Cover.{to_head}
 use Rattle.ecma_reading.specs.Expressions.{is_async_head}
 use Rattle.ecma_reading.specs.Statements.{initial_pat, after_item, array_item, array_pat_by, keyed_item, named_item, pattern_prop, object_item, object_pat_by, pat_by, block_step, block_rest, block_by, body_item, body_step, body_by, declarator_by, declarator_step, declarators_by, starts_let, starts_variables, variables_by, starts_using, starts_await_using, using_by, function_decl_by, class_decl_by, field_value, class_key, class_method_by, class_getter, class_setter, accessor_by, field_or_method, generator_member, member_rest, starts_static, static_by, member_step, members_by, class_tail_by, in_parens, sub_by, with_by, while_by, do_by, branched, else_by, if_step, if_by, ends_here, return_by, throw_by, label_by, jump_by, debugger_by, case_step, case_rest, case_by, cases_step, switch_by, catch_by, finally_by, try_by, clause_by, for_rest, over_rest, in_rest, of_rest, head_rest, for_variables, for_using, for_expression_rest, for_expression, for_head, for_by, labelled_by, expression_by, starts_async, keyword_stmt, stmt_by, stmt_from, Body, Chain}

@@ -1,5 +1,5 @@
 -- Functions, methods and classes under their goals and in their contexts.
-use Rattle.std.proofs.Common.{ℕ, inl, inr, Bool, true, false, eqb, refl, List, [], ◌∷◌, Option, Some, None, sym, ◌∙◌, subst}
+use Rattle.std.proofs.Common.{ℕ, inl, inr, Bool, true, false, eqb, refl, List, [], ◌∷◌, Option, Some, None, sym, ◌∙◌}
 use Rattle.ecma_token.specs.declared.place.Span.{Span}
 use Rattle.ecma_token.specs.Kinds.{arrow_kind, left_paren_kind, right_paren_kind, left_brace_kind, right_brace_kind, mul_kind, assign_kind, function_kind, class_kind, extends_kind, accessor_kind, async_kind, get_kind, set_kind, static_kind}
 use Rattle.ecma_tree.specs.Tree.{Tree, plain_method}

@@ -1,5 +1,5 @@
 -- Statements and declarations under their goals and in their contexts.
-use Rattle.std.proofs.Common.{◌≡◌, ℕ, ◌⊎◌, inl, inr, Bool, true, false, ◌||◌, refl, List, [], ◌∷◌, sym, ◌∙◌, subst}
+use Rattle.std.proofs.Common.{◌≡◌, ℕ, ◌⊎◌, inl, inr, Bool, true, false, ◌||◌, refl, List, [], ◌∷◌, sym, ◌∙◌}
 use Rattle.ecma_token.specs.declared.place.Span.{Span}
 use Rattle.ecma_token.specs.Kinds.{left_paren_kind, right_paren_kind, left_brace_kind, semicolon_kind, colon_kind, await_kind, case_kind, catch_kind, debugger_kind, default_kind, do_kind, else_kind, finally_kind, for_kind, if_kind, return_kind, switch_kind, throw_kind, try_kind, while_kind, with_kind, in_kind, of_kind, using_kind}
 use Rattle.ecma_tree.specs.Tree.{Tree}
@@ -7,7 +7,7 @@ use Rattle.ecma_syntax.specs.Input.{Input, Code, Takes, TakesWord, Spans, kind, 
 use Rattle.ecma_syntax.specs.Operators.{expression_level, assignment_level, plain_end}
 use Rattle.ecma_syntax.specs.Shape.{ends, is_absent, is_binding, is_block, is_declarator, is_case, is_default_case, is_catch, is_item}
 use Rattle.ecma_grammar.specs.Children.{is_ident, Child, By, Expr, Sorted, Commas, Ends}
-use Rattle.ecma_grammar.specs.Statements.{Sub, SubOrFunction, InParens, ClosesBlock, Block, Empty, Debugger, Declarator, Bindings, Variables, starts_pattern, UsingBindings, Using, statement_end, ExpressionStatement, If, DoWhile, While, Clause, ForRest, ForOpen, ForExpression, ForVariables, ForUsing, Over, HeadVariables, HeadUsing, starts_head, HeadTarget, ForIn, ForAwaitOpen, ForOf, OfTarget, Jump, Return, Throw, With, Labelled, ClosesCase, Case, Cases, Switch, Catch, Try}
+use Rattle.ecma_grammar.specs.Statements.{Sub, SubOrFunction, InParens, ClosesBlock, Block, Empty, Debugger, Declarator, Bindings, Variables, UsingBindings, Using, statement_end, ExpressionStatement, If, DoWhile, While, Clause, ForRest, ForOpen, ForExpression, ForVariables, ForUsing, Over, HeadVariables, HeadUsing, starts_head, HeadTarget, ForIn, ForAwaitOpen, ForOf, OfTarget, Jump, Return, Throw, With, Labelled, ClosesCase, Case, Cases, Switch, Catch, Try}
 use Rattle.ecma_grammar_placed.specs.Laws.{placing}
 use Rattle.ecma_grammar_placed.proofs.Kin.{Kin, Moves, spans_like}
 use Rattle.ecma_grammar_placed.proofs.Forms.{Moved, AllMoved, same, either, expr, sorted, maybe, commas, ends_on, items, brace}

@@ -1,5 +1,5 @@
 -- The parts that many nodes share are alike of a tree with or without places and raw texts.
-use Rattle.std.proofs.Common.{◌≡◌, ℕ, Bool, true, false, not, ◌&&◌, ◌||◌, ◌==◌, if◌then◌else◌, List, Option, codes, ap, ap₂}
+use Rattle.std.proofs.Common.{◌≡◌, ℕ, Bool, true, false, not, ◌&&◌, ◌||◌, ◌==◌, if◌then◌else◌, List, Option, ap, ap₂}
 use Rattle.ecma_number.specs.Numbers.{SpecNumber}
 use Rattle.ecma_token.specs.declared.place.Span.{Span}
 use Rattle.ecma_token.specs.Words.{own_text}
@@ -7,7 +7,7 @@ use Rattle.ecma_tree.specs.Tree.{Tree, Trees, none, more, plain_method, tpl_elem
 use Rattle.ecma_edge.specs.Edges.{is_there, starts_with_word, ends_with_word, gap_before, gap_after}
 use Rattle.ecma_layout.specs.declared.look.Look.{Look}
 use Rattle.ecma_layout.specs.declared.look.Stand.{Stand}
-use Rattle.ecma_layout.specs.Looks.{Laid, ◌·◌, text, when, semi, end, blank, gap, gap_or, formats}
+use Rattle.ecma_layout.specs.Looks.{Laid, ◌·◌, when, semi, end, blank, gap, gap_or, formats}
 use Rattle.ecma_layout.specs.Layout.{word, method_marks, in_parens, indented, indented_or_line, closing, attributes, initial, field_value, function_tail, after_static, class_head, class_tail, optional_dot, point_before, number_before, as_expression, quasi, in_braces, imports, exports, is_variables}
 use Rattle.ecma_layout_laws.specs.Bare.{kept_place, kept_raw, bare, bares}
 use Rattle.ecma_layout_laws.proofs.Alike.{Alike, same, ◌▸◌, if_same, if_alike, when_same, when_alike, start_alike, end_alike, last_alike}

@@ -20,7 +20,7 @@ use Rattle.ecma_lexeme.specs.declared.goal.LexicalGoal.TheVariants.{Div, RegExp,
 use Rattle.ecma_lexeme.specs.Lexemes.{SpecLexeme, plain}
 use Rattle.ecma_lexeme.proofs.SpelledLemmas.{encoded}
 use Rattle.ecma_lexing.specs.States as spec
-use Rattle.ecma_lexing.specs.States.{Fault, Last, Start, State, again, behind, faulty, faulty_from, goal_of, is_start, place, shebang, spot_at, stopped, template_goal}
+use Rattle.ecma_lexing.specs.States.{Fault, Last, Start, State, again, faulty, faulty_from, goal_of, is_start, place, shebang, stopped, template_goal}
 use Rattle.ecma_lexing.specs.Steps.{Ends, IsBadTrivia, IsFirst, IsGoing, IsOutside, IsPlain, IsRead, IsStep, IsStepBy, IsStepOf}
 use Rattle.ecma_lexer.specs.declared.last.Last as code
 use Rattle.ecma_lexer.specs.declared.last.Last.TheVariants as l

@@ -1,10 +1,10 @@
 -- A string stands alone, too: nothing behind its quote matters.
-use Rattle.std.proofs.Common.{◌≡◌, ◌≢◌, ℕ, ◌⊎◌, inl, inr, ⊎_elim, Bool, true, false, List, [], ◌∷◌, ◌++◌, refl, sym, ap, subst, ◌∙◌, append_assoc}
+use Rattle.std.proofs.Common.{◌≡◌, ℕ, inl, inr, List, [], ◌∷◌, ◌++◌, refl, sym, ap, subst, ◌∙◌, append_assoc}
 use Rattle.std.proofs.lemmas.List.{append_cancel_right}
 use Rattle.ecma_literal.specs.declared.escape.Escape.{Escape}
 use Rattle.ecma_literal.specs.declared.escape.Escape.TheVariants.{Continuation, Code, Legacy}
 use Rattle.ecma_literal.specs.Escapes.{IsEscape}
-use Rattle.ecma_literal.specs.Strings.{Piece, Plain, Escaped, Stands, Pieces, SpellsString}
+use Rattle.ecma_literal.specs.Strings.{Piece, Plain, Escaped, Stands, Pieces}
 use Rattle.ecma_lexicon.specs.Laws.{StringAlone}
 
 abbrev Stripped : Escape → List ℕ → ℕ → List ℕ → List ℕ → Type 0

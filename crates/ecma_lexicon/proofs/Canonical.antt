@@ -1,12 +1,12 @@
 -- A number that is read is in its one form, of a radix with a prefix.
-use Rattle.std.proofs.Common.{◌≡◌, ◌≢◌, ℕ, ◌+◌, ◌<◌, ◌≤◌, ◌⊎◌, inl, inr, ⊎_elim, Bool, true, false, cond, ◌&&◌, ◌||◌, not, List, [], ◌∷◌, ◌++◌, length, Option, Some, None, refl, sym, ap, subst, ◌∙◌, arith}
+use Rattle.std.proofs.Common.{◌≡◌, ℕ, ◌<◌, ◌≤◌, ⊎_elim, Bool, true, false, cond, ◌&&◌, List, [], ◌∷◌, ◌++◌, length, Option, Some, None, refl, sym, ap, subst, ◌∙◌, arith}
 use Rattle.std.specs.Prelude.{◌==◌, if◌then◌else◌, nat_lt, map, unwrap_or, ◌^◌, ℤ, pos, ◌+ℤ◌, ◌-ℤ◌, ◌-◌}
 use Rattle.std.specs.Char.{is_digit, digit_value, to_ascii_lowercase}
 use Rattle.std.specs.Str.Parse.{digits_value, AllDigits}
 use Rattle.std.specs.Fmt.{decimal}
 use Rattle.std.proofs.lemmas.Fmt.{decimal_is_IsNumeral}
-use Rattle.std.proofs.lemmas.Bool.{cases_Bool, false≢true, and_parts, ltb-true, ltb-false, eqb-true}
-use Rattle.ecma_number.specs.Numbers.{SpecNumber, Scaled, InRadix, number_of, number_by, prefix_radix, radix_of_letter, unprefixed_number, prefixed_number, decimal_number, decimal_value, scaled, scaled_by, in_radix, is_legacy_octal, spells_octal, spells_digits, goes_on, spells_mantissa, spells_exponent, exponent_value, is_mark, plain, before, after, past_first, trim_front, trim_back, IsDecimal, IsCanonical}
+use Rattle.std.proofs.lemmas.Bool.{cases_Bool, and_parts, ltb-true, ltb-false}
+use Rattle.ecma_number.specs.Numbers.{SpecNumber, InRadix, number_of, number_by, prefix_radix, radix_of_letter, unprefixed_number, decimal_number, decimal_value, scaled, scaled_by, in_radix, is_legacy_octal, spells_octal, spells_digits, goes_on, spells_mantissa, spells_exponent, exponent_value, is_mark, plain, before, after, past_first, trim_front, trim_back, IsDecimal, IsCanonical}
 use Rattle.ecma_number.proofs.NumberLemmas.{no_separator, kept_decimal, kept_in_radix, mantissa_digits, octal_digits}
 use Rattle.ecma_spell_number.specs.Numbers.{HasPrefix, is_prefixed}
 use Rattle.ecma_lexicon.specs.Laws.{NumberIsCanonical}

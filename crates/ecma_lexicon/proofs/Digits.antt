@@ -1,15 +1,15 @@
 -- A number that is read is ASCII.
-use Rattle.std.proofs.Common.{◌≡◌, ◌≢◌, ℕ, ◌<◌, ◌≤◌, ◌⊎◌, inl, inr, ⊎_elim, Bool, true, false, cond, ◌&&◌, ◌||◌, not, List, [], ◌∷◌, ◌++◌, Option, Some, None, refl, sym, ap, subst, ◌∙◌, arith}
+use Rattle.std.proofs.Common.{◌≡◌, ℕ, ◌<◌, ◌≤◌, ⊎_elim, Bool, true, false, cond, ◌&&◌, ◌||◌, not, List, [], ◌∷◌, ◌++◌, Option, Some, None, refl, sym, ap, subst, ◌∙◌, arith}
 use Rattle.std.specs.Prelude.{◌==◌, if◌then◌else◌, nat_lt, unwrap_or}
 use Rattle.std.specs.List.{list_all}
-use Rattle.std.specs.Char.{is_digit, digit_value, to_ascii_lowercase}
+use Rattle.std.specs.Char.{is_digit}
 use Rattle.std.proofs.lemmas.Bool.{cases_Bool, false≢true, and_parts, eqb-true, or_cases}
 use Rattle.std.proofs.lemmas.Bool.Decides.{nat_tests}
 use Rattle.ecma_number.specs.Numbers.{SpecNumber, number_of, number_by, prefix_radix, radix_of_letter, decimal_number, decimal_value, in_radix, is_legacy_octal, spells_octal, spells_non_octal, spells_integer, spells_digits, goes_on, spells_mantissa, spells_exponent, is_mark, none_left, unsigned, before, after, past_first, plain}
 use Rattle.ecma_written.proofs.Ascii.{is_ascii}
 use Rattle.ecma_literal.specs.Numbers.{big_of, big_by, spells_big_decimal}
 use Rattle.ecma_lexicon.specs.Laws.{NumberIsAscii, BigIsAscii}
-use Rattle.ecma_lexicon.proofs.Canonical.{some_if, Radix, prefix_ok}
+use Rattle.ecma_lexicon.proofs.Canonical.{some_if, prefix_ok}
 
 onto : (c : ℕ) (cs : List ℕ) → nat_lt c 128 ≡ true → is_ascii cs ≡ true → is_ascii (c ∷ cs) ≡ true
 onto c cs e f = both (nat_lt c 128) (is_ascii cs) e f

@@ -1,5 +1,5 @@
 -- What texts mean, in each style.
-use Rattle.std.proofs.Common.{◌≡◌, ℕ, List, [], ◌∷◌, subst}
+use Rattle.std.proofs.Common.{◌≡◌, List, [], ◌∷◌, subst}
 use Rattle.ecma_syntax.specs.Input.{PlacedToken, Input, rest, others}
 use Rattle.ecma_written.specs.Means.{Known}
 use Rattle.ecma_written.specs.Naming.{unplaced_names}

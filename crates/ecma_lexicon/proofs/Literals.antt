@@ -1,26 +1,25 @@
 -- The literals of a source as they are written are of the same values (ECMA-262, 12.9).
-use Rattle.std.proofs.Common.{◌≡◌, ◌≢◌, ℕ, ◌<◌, ◌⊎◌, inl, inr, ⊎_elim, Bool, true, false, cond, ◌&&◌, ◌||◌, not, List, [], ◌∷◌, ◌++◌, Option, Some, None, refl, sym, ap, subst, ◌∙◌, append_assoc, arith}
-use Rattle.std.specs.Prelude.{◌==◌, codes, if◌then◌else◌, nat_lt, encode_utf8_all, is_some, option_map}
-use Rattle.std.specs.Str.{chars, IsUtf8}
-use Rattle.std.proofs.lemmas.Bool.{cases_Bool, false≢true, and_parts, eqb-true, or_cases}
+use Rattle.std.proofs.Common.{◌≡◌, ℕ, inl, inr, Bool, true, false, ◌||◌, List, [], ◌∷◌, ◌++◌, Option, Some, None, refl, sym, ap, subst, ◌∙◌, append_assoc, arith}
+use Rattle.std.specs.Prelude.{codes, if◌then◌else◌, encode_utf8_all, is_some}
+use Rattle.std.specs.Str.{chars}
+use Rattle.std.proofs.lemmas.Bool.{false≢true, and_parts}
 use Rattle.std.proofs.lemmas.Bool.Decides.{nat_tests}
 use Rattle.std.proofs.lemmas.List.{append-nil}
 use Rattle.std.proofs.lemmas.Str.{chars-encodes, encodes-append}
 use lib.Utf8.{scalars, scalar}
-use Rattle.ecma_number.specs.Numbers.{SpecNumber, number_of, IsCanonical}
+use Rattle.ecma_number.specs.Numbers.{SpecNumber, number_of}
 use Rattle.ecma_token.specs.Kinds.{str_kind, num_kind, big_int_kind, template_kind, regex_kind}
-use Rattle.ecma_token.specs.Tokens.{SpecToken, Content, Named, Quoted, Piece, Pattern, Numeral, BigNumeral}
+use Rattle.ecma_token.specs.Tokens.{Content, Quoted, Piece, Pattern, Numeral, BigNumeral}
 use Rattle.ecma_token_source.specs.Machine.{told}
 use Rattle.ecma_scan.specs.Runs.{Each, Ends}
 use Rattle.ecma_scan.specs.RegExps.{IsRegExp}
 use Rattle.ecma_literal.specs.declared.template.Ending.{Ending}
 use Rattle.ecma_literal.specs.declared.template.Ending.TheVariants.{BackQuote, Substitution}
-use Rattle.ecma_literal.specs.Numbers.{Meaning, Number, BigInt, Spells, SpellsNumber, is_barred}
+use Rattle.ecma_literal.specs.Numbers.{Number, BigInt, Spells, SpellsNumber, is_barred}
 use Rattle.ecma_literal.proofs.StandLemmas.{number_stands}
 use Rattle.ecma_literal.specs.Strings.{SpellsString}
 use Rattle.ecma_literal.specs.Templates as templates
-use Rattle.ecma_lexeme.specs.declared.goal.LexicalGoal.{LexicalGoal}
-use Rattle.ecma_lexeme.specs.declared.goal.LexicalGoal.TheVariants.{Div, RegExp, TemplateTail, TemplateEnd}
+use Rattle.ecma_lexeme.specs.declared.goal.LexicalGoal.TheVariants.{Div, RegExp, TemplateTail}
 use Rattle.ecma_lexeme.specs.Lexemes.{SpecLexeme, IsLexeme, string_lexeme, numeral_lexeme, template_lexeme, pattern_lexeme}
 use Rattle.ecma_lexeme.proofs.LexemeLemmas.{one_lexeme}
 use Rattle.ecma_lexeme.proofs.SpelledLemmas.{encoded}
@@ -40,13 +39,13 @@ use Rattle.ecma_spell_template.specs.RegExps.{reg_exp_text}
 use Rattle.ecma_spell_template.proofs.ReadLemmas.{template_is_read}
 use Rattle.ecma_spell_template.proofs.TaggedLemmas.{tagged_is_read}
 use Rattle.ecma_spell_template.proofs.RegExpLemmas.{reg_exp_is_read}
-use Rattle.ecma_syntax.specs.Input.{PlacedToken, Input, content}
+use Rattle.ecma_syntax.specs.Input.{Input, content}
 use Rattle.ecma_layout.specs.Literals.{string_bytes, number_bytes, big_bytes, quasi_bytes}
 use Rattle.ecma_layout.specs.Looks.{joined}
-use Rattle.ecma_written.proofs.Ascii.{Ascii, ascii, is_ascii}
+use Rattle.ecma_written.proofs.Ascii.{ascii, is_ascii}
 use Rattle.ecma_written.specs.Means.{Means, Known}
 use Rattle.ecma_written.proofs.Known.{scalars_front}
-use Rattle.ecma_lexicon.proofs.Origins.{From, from_of}
+use Rattle.ecma_lexicon.proofs.Origins.{from_of}
 use Rattle.ecma_lexicon.proofs.Alone.{string_alone}
 use Rattle.ecma_lexicon.proofs.Units.{string_units}
 use Rattle.ecma_lexicon.proofs.Quotes.{quoted_scalars}

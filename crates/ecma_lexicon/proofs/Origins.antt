@@ -1,8 +1,7 @@
 -- Where the content of a known token comes from.
-use Rattle.std.proofs.Common.{◌≡◌, ◌≢◌, ℕ, ◌⊎◌, inl, inr, ⊎_elim, Bool, true, false, cond, ◌&&◌, ◌||◌, not, List, [], ◌∷◌, ◌++◌, Option, Some, None, refl, sym, ap, subst, ◌∙◌}
+use Rattle.std.proofs.Common.{◌≡◌, ℕ, ◌⊎◌, inl, inr, Bool, true, List, [], ◌∷◌, ◌++◌, refl, sym, subst}
 use Rattle.std.specs.Prelude.{encode_utf8_all}
-use lib.Utf8.{scalars, scalar}
-use Rattle.ecma_number.specs.Numbers.{SpecNumber}
+use lib.Utf8.{scalars}
 use Rattle.ecma_token.specs.Tokens.{SpecToken, Content, Bare, Named, Quoted, Piece, Pattern, Numeral, BigNumeral, Line, Faulty}
 use Rattle.ecma_token_source.specs.Machine.{told}
 use Rattle.ecma_scan.specs.Names.{IsName}

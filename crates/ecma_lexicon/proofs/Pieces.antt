@@ -1,6 +1,6 @@
 -- A piece of a template is written in scalar values (ECMA-262, 12.9.6).
-use Rattle.std.proofs.Common.{◌≡◌, ℕ, zero, suc, ◌<◌, ◌⊎◌, ⊎_elim, Bool, true, false, ◌&&◌, ◌||◌, List, [], ◌∷◌, ◌++◌, refl, sym, ap, subst, ◌∙◌, arith}
-use Rattle.std.specs.Prelude.{◌==◌, ◌^◌, nat_lt, nat_le, if◌then◌else◌}
+use Rattle.std.proofs.Common.{◌≡◌, ℕ, zero, suc, ◌<◌, Bool, true, false, ◌&&◌, List, [], ◌∷◌, ◌++◌, refl, ap, ◌∙◌, arith}
+use Rattle.std.specs.Prelude.{◌==◌, ◌^◌, if◌then◌else◌}
 use Rattle.std.specs.Char.{IsScalar}
 use Rattle.std.specs.Str.Parse.{digits_value}
 use Rattle.std.proofs.lemmas.Bool.{and_parts, ltb-true}
@@ -10,16 +10,14 @@ use Rattle.std.proofs.lemmas.List.{append-nil}
 use lib.Utf8.{scalars, scalar}
 use Rattle.ecma_literal.specs.Escapes.{begins, is_hex, is_line_feed}
 use Rattle.ecma_literal.specs.Templates.{is_brace, line_feeds}
-use Rattle.ecma_spell_base.specs.declared.form.Form.{Form}
 use Rattle.ecma_spell_base.specs.declared.form.Form.TheVariants.{Hex}
 use Rattle.ecma_spell_base.specs.declared.style.Style.{Style}
-use Rattle.ecma_spell_base.specs.Forms.{written}
 use Rattle.ecma_spell_template.specs.declared.part.Part.{Part}
 use Rattle.ecma_spell_template.specs.declared.part.Part.TheVariants.{Pair, Digits, Last, Nothing, Hexed, Code}
-use Rattle.ecma_spell_template.specs.Templates.{is_kept_code, is_printed, hex_part, behind_x, is_separator, stays, escaped, behind_backslash, part_at, part_more, parts, form_of, part_text, digit_first, dollar_behind, parts_text, keeps_raw, template_text}
+use Rattle.ecma_spell_template.specs.Templates.{is_kept_code, is_printed, hex_part, behind_x, is_separator, stays, escaped, behind_backslash, part_more, parts, form_of, part_text, digit_first, dollar_behind, parts_text, keeps_raw}
 use Rattle.ecma_spell_template.proofs.TextLemmas.{can_write}
 use Rattle.ecma_lexicon.specs.Laws.{TemplateScalars}
-use Rattle.ecma_lexicon.proofs.Scalars.{Scal, low, both_true, written_scal, scalar_is}
+use Rattle.ecma_lexicon.proofs.Scalars.{Scal, both_true, written_scal}
 
 -- What a part stands for can be written.
 abbrev IsScalarPart : Part → Type 0

@@ -1,16 +1,11 @@
 -- A string in quotes is written in scalar values.
-use Rattle.std.proofs.Common.{◌≡◌, ℕ, ◌/◌, ◌%◌, ◌<◌, ◌≤◌, Bool, true, false, List, [], ◌∷◌, ◌++◌, refl, sym, ap, subst, ◌∙◌, arith}
+use Rattle.std.proofs.Common.{ℕ, ◌<◌, Bool, true, false, List, [], ◌∷◌, refl, arith}
 use Rattle.std.specs.Prelude.{nat_lt, if◌then◌else◌}
-use Rattle.std.specs.Char.{IsScalar}
-use lib.Utf8.{scalars, scalar}
-use Rattle.ecma_spell_base.specs.declared.form.Form.{Form}
-use Rattle.ecma_spell_base.specs.declared.form.Form.TheVariants.{Bare, Letter, Nul, Hex, Four, FourLower, Pair, Braced}
 use Rattle.ecma_spell_base.specs.declared.style.Style.{Style}
-use Rattle.ecma_spell_base.specs.Forms.{written, Writes, braced_digits, lead, trail, four, four_lower}
 use Rattle.ecma_spell_string.specs.declared.quoted.Behind.{Behind}
 use Rattle.ecma_spell_string.specs.declared.quoted.Behind.TheVariants.{Other}
-use Rattle.ecma_spell_string.specs.CodePoints.{AreUnits, AreCodes, code_points}
-use Rattle.ecma_spell_string.specs.Strings.{form_of, behind, chars_text, count, quote_of, quoted}
+use Rattle.ecma_spell_string.specs.CodePoints.{AreCodes, code_points}
+use Rattle.ecma_spell_string.specs.Strings.{form_of, behind, chars_text, count, quote_of}
 use Rattle.ecma_lexicon.proofs.Scalars.{Scal, low, stop, written_scal}
 use Rattle.ecma_spell_string.proofs.CodePointLemmas.{codes_are}
 use Rattle.ecma_spell_string.proofs.QuotedLemmas.{can_write}

@@ -1,5 +1,5 @@
 -- Texts of scalar values, which can be written in UTF-8.
-use Rattle.std.proofs.Common.{◌≡◌, ℕ, ◌/◌, ◌%◌, ◌<◌, ◌≤◌, Bool, true, false, ◌&&◌, List, [], ◌∷◌, ◌++◌, refl, sym, ap, subst, ◌∙◌, arith}
+use Rattle.std.proofs.Common.{◌≡◌, ℕ, ◌/◌, ◌%◌, ◌<◌, Bool, true, false, ◌&&◌, List, [], ◌∷◌, ◌++◌, refl, arith}
 use Rattle.std.specs.Prelude.{nat_lt, if◌then◌else◌, ◌+◌}
 use Rattle.std.specs.Char.{IsScalar, digit_char}
 use Rattle.std.proofs.lemmas.Bool.{and_parts}
@@ -7,7 +7,7 @@ use Rattle.std.proofs.lemmas.Bool.Decides.{nat_tests}
 use lib.Utf8.{scalars, scalar}
 use Rattle.ecma_spell_base.specs.declared.form.Form.{Form}
 use Rattle.ecma_spell_base.specs.declared.form.Form.TheVariants.{Bare, Letter, Nul, Hex, Four, FourLower, Pair, Braced}
-use Rattle.ecma_spell_base.specs.Forms.{written, Writes, upper, lower, braced_digits, lead, trail, four, four_lower}
+use Rattle.ecma_spell_base.specs.Forms.{written, Writes, upper, lower, braced_digits, lead, trail, four}
 use Rattle.ecma_spell_base.specs.declared.style.Style.{Style}
 use Rattle.ecma_spell_string.specs.Names.{AreNameChars, name_chars, name_form, form_in, is_latin}
 use Rattle.ecma_spell_string.proofs.QuotedLemmas.{scalar_code}

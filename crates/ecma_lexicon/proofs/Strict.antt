@@ -1,6 +1,6 @@
 -- What is written of a string is `use strict` where the string was.
-use Rattle.std.proofs.Common.{◌≡◌, ◌≢◌, ℕ, ◌+◌, ◌-◌, ◌/◌, ◌%◌, ◌<◌, ◌⊎◌, inl, inr, ⊎_elim, Bool, true, false, cond, ◌&&◌, ◌||◌, not, List, [], ◌∷◌, ◌++◌, Option, Some, None, refl, sym, ap, subst, ◌∙◌, arith}
-use Rattle.std.specs.Prelude.{◌==◌, codes, if◌then◌else◌, nat_lt, encode_utf8_all, bytes_eq}
+use Rattle.std.proofs.Common.{◌≡◌, ℕ, ◌+◌, ◌-◌, ◌/◌, ◌%◌, ◌<◌, ⊎_elim, Bool, true, false, cond, ◌&&◌, ◌||◌, List, [], ◌∷◌, ◌++◌, Some, refl, sym, ap, subst, ◌∙◌, arith}
+use Rattle.std.specs.Prelude.{◌==◌, codes, nat_lt, encode_utf8_all, bytes_eq}
 use Rattle.std.specs.Char.Escape.{encode_utf16}
 use Rattle.std.specs.List.{flat_map, list_any, list_all}
 use Rattle.std.specs.Str.{chars}
@@ -8,23 +8,22 @@ use Rattle.std.proofs.lemmas.Bool.{cases_Bool, false≢true, and_parts, eqb-true
 use Rattle.std.proofs.lemmas.Bool.Decides.{nat_tests}
 use Rattle.std.proofs.lemmas.Slice.Eq.{bytes_eq-Decides}
 use Rattle.std.proofs.lemmas.Str.{chars-encodes}
-use lib.Utf8.{scalars, scalar}
-use Rattle.ecma_token.specs.Tokens.{Content, Quoted}
-use Rattle.ecma_literal.specs.Strings.{Piece, Plain, Escaped, Pieces, SpellsString, OneString, is_quote, is_plain, piece_units}
+use lib.Utf8.{scalars}
+use Rattle.ecma_token.specs.Tokens.{Quoted}
+use Rattle.ecma_literal.specs.Strings.{Piece, Plain, Escaped, Pieces, SpellsString, is_quote, is_plain, piece_units}
 use Rattle.ecma_spell_base.specs.declared.style.Style.{Style}
-use Rattle.ecma_spell_base.specs.declared.form.Form.{Form}
 use Rattle.ecma_spell_base.specs.declared.form.Form.TheVariants.{Bare, Hex}
 use Rattle.ecma_spell_base.specs.Forms.{written}
 use Rattle.ecma_spell_string.specs.declared.quoted.Behind.{Behind}
 use Rattle.ecma_spell_string.specs.declared.quoted.Behind.TheVariants.{Other}
 use Rattle.ecma_spell_string.specs.CodePoints.{AreUnits}
-use Rattle.ecma_spell_string.specs.Strings.{quoted, keeps_raw, string_text, chars_text, form_of, behind, is_backslash, is_ascii as ascii_char, QuotedIsRead}
-use Rattle.ecma_syntax.specs.Input.{PlacedToken, Input, content}
+use Rattle.ecma_spell_string.specs.Strings.{quoted, keeps_raw, chars_text, form_of, behind, is_backslash}
+use Rattle.ecma_syntax.specs.Input.{Input, content}
 use Rattle.ecma_layout.specs.Literals.{string_bytes}
-use Rattle.ecma_written.proofs.Ascii.{Ascii, ascii, is_ascii}
+use Rattle.ecma_written.proofs.Ascii.{ascii, is_ascii}
 use Rattle.ecma_written.specs.Means.{Known}
 use Rattle.ecma_written.specs.Texts.{is_strict_text}
-use Rattle.ecma_lexicon.proofs.Origins.{From, from_of}
+use Rattle.ecma_lexicon.proofs.Origins.{from_of}
 use Rattle.ecma_literal.proofs.StringLemmas.{one_string}
 use Rattle.ecma_spell_string.proofs.StringLemmas.{quoted_is_read}
 use Rattle.ecma_lexicon.proofs.Alone.{string_alone}

@@ -1,6 +1,6 @@
 -- The units of a string that is read are units.
-use Rattle.std.proofs.Common.{◌≡◌, ℕ, ◌<◌, ◌≤◌, ◌⊎◌, inl, inr, ⊎_elim, Bool, true, false, ◌&&◌, ◌||◌, List, [], ◌∷◌, ◌++◌, refl, sym, ap, subst, ◌∙◌, arith}
-use Rattle.std.specs.Prelude.{nat_lt, nat_le, ◌==◌, ◌^◌}
+use Rattle.std.proofs.Common.{◌≡◌, ℕ, ◌<◌, ◌≤◌, inl, inr, ⊎_elim, true, false, List, [], ◌∷◌, ◌++◌, refl, sym, ap, subst, ◌∙◌, arith}
+use Rattle.std.specs.Prelude.{nat_lt, nat_le, ◌^◌}
 use Rattle.std.specs.Char.{is_digit}
 use Rattle.std.specs.Char.Escape.{encode_utf16}
 use Rattle.std.specs.List.{flat_map}
@@ -12,9 +12,9 @@ use lib.Utf8.{scalars, scalar}
 use Rattle.ecma_scan.specs.Runs.{Each}
 use Rattle.ecma_literal.specs.declared.escape.Escape.{Escape}
 use Rattle.ecma_literal.specs.declared.escape.Escape.TheVariants.{Continuation, Code, Legacy}
-use Rattle.ecma_literal.specs.Escapes.{IsEscape, single, is_hex, is_octal, is_low_octal, is_eight_or_nine}
+use Rattle.ecma_literal.specs.Escapes.{IsEscape, single, is_octal, is_low_octal, is_eight_or_nine}
 use Rattle.ecma_literal.specs.Units.{CodeFits, escape_units}
-use Rattle.ecma_literal.specs.Strings.{Piece, Plain, Escaped, Pieces, SpellsString, piece_units}
+use Rattle.ecma_literal.specs.Strings.{Piece, Plain, Escaped, Pieces, piece_units}
 use Rattle.ecma_spell_base.proofs.FormLemmas.{one_unit, two_units, lead_low, trail_low}
 use Rattle.ecma_spell_string.specs.CodePoints.{AreUnits}
 use Rattle.ecma_lexicon.specs.Laws.{StringUnits}

@@ -1,24 +1,22 @@
 -- The words of a source as they are written are these words again (ECMA-262, 12.7).
-use Rattle.std.proofs.Common.{◌≡◌, ◌≢◌, ℕ, ◌<◌, ◌⊎◌, inl, inr, ⊎_elim, Bool, true, false, cond, ◌&&◌, ◌||◌, not, List, [], ◌∷◌, ◌++◌, Option, Some, None, refl, sym, ap, subst, ◌∙◌, arith}
-use Rattle.std.specs.Prelude.{◌==◌, codes, if◌then◌else◌, nat_lt, encode_utf8_all, bytes_eq}
-use Rattle.std.specs.Char.{IsScalar}
-use Rattle.std.specs.Str.{chars, IsUtf8}
+use Rattle.std.proofs.Common.{◌≡◌, ◌≢◌, ℕ, ◌⊎◌, inl, inr, ⊎_elim, Bool, true, false, cond, ◌&&◌, not, List, [], ◌∷◌, ◌++◌, refl, sym, ap, subst, ◌∙◌, arith}
+use Rattle.std.specs.Prelude.{◌==◌, if◌then◌else◌, nat_lt, encode_utf8_all, bytes_eq}
+use Rattle.std.specs.Str.{chars}
 use Rattle.std.specs.List.{list_all, flat_map}
 use Rattle.std.specs.Char.Escape.{encode_utf16}
-use Rattle.std.proofs.lemmas.Bool.{cases_Bool, false≢true, and_parts, eqb-true, eq-eqb, or_cases}
+use Rattle.std.proofs.lemmas.Bool.{cases_Bool, false≢true, and_parts, eqb-true}
 use Rattle.std.proofs.lemmas.Bool.Decides.{nat_tests}
 use Rattle.std.proofs.lemmas.Slice.Eq.{bytes_eq-Decides}
 use Rattle.std.proofs.lemmas.List.{append-nil, append_cancel_right}
 use Rattle.std.proofs.lemmas.Str.{chars-encodes}
-use lib.Utf8.{scalars, scalar}
+use lib.Utf8.{scalars}
 use Rattle.ecma_token.specs.Kinds.{name_kind, str_kind}
 use Rattle.ecma_token.specs.Words.{own_words, kind_among, kind_of, word_of}
-use Rattle.ecma_token.specs.Tokens.{SpecToken, Content, Named, Quoted, word_token}
+use Rattle.ecma_token.specs.Tokens.{SpecToken, Content, Quoted, word_token}
 use Rattle.ecma_token.specs.TokenViews.{token_kind_number}
 use Rattle.ecma_token.specs.declared.token.TokenKind.{TokenKind}
 use Rattle.ecma_token_source.specs.Machine.{told}
-use Rattle.ecma_scan.specs.Escapes.{IsEscape, IsDigits, IsFour, IsBraced}
-use Rattle.ecma_scan.specs.Names.{IsName, Spell, IsNameChar, is_name_char}
+use Rattle.ecma_scan.specs.Names.{IsName, Spell}
 use Rattle.ecma_scan.specs.Punctuators.{Spelling, punctuators as spellings, IsAmong}
 use Rattle.ecma_literal.specs.declared.template.Ending.{Ending}
 use Rattle.ecma_literal.specs.declared.template.Ending.TheVariants.{BackQuote, Substitution}
@@ -35,9 +33,9 @@ use Rattle.ecma_spell_string.specs.Names.{name_text, name_chars, key_text, is_qu
 use Rattle.ecma_spell_string.proofs.NameLemmas.{name_is_read, key_is_read}
 use Rattle.ecma_syntax.specs.Input.{PlacedToken, Input, kind, kind_of as kind_at, text, text_in, content_of, is_word}
 use Rattle.ecma_layout.specs.Literals.{name_bytes, key_bytes}
-use Rattle.ecma_written.proofs.Ascii.{Ascii, ascii, is_ascii}
+use Rattle.ecma_written.proofs.Ascii.{ascii, is_ascii}
 use Rattle.ecma_written.proofs.Known.{name_char}
-use Rattle.ecma_lexicon.proofs.Scalars.{Scal, low, stop, are_scalars, name_scal}
+use Rattle.ecma_lexicon.proofs.Scalars.{low, stop, are_scalars, name_scal}
 use Rattle.ecma_written.specs.Means.{Means, IsRead, IsHashbangRead, Known}
 
 -- ---- a token of a word's kind is a word

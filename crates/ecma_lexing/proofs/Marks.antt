@@ -1,5 +1,5 @@
 -- Whether a regular expression or a punctuator stands at a front.
-use Rattle.std.proofs.Common.{◌≡◌, ◌≢◌, ℕ, zero, suc, ◌+◌, ◌<◌, ◌≤◌, ◌⊎◌, inl, inr, ⊎_elim, Bool, true, false, cond, ◌&&◌, ◌||◌, List, [], ◌∷◌, ◌++◌, length, length-append, refl, sym, ap, subst, ◌∙◌, arith}
+use Rattle.std.proofs.Common.{◌≡◌, ℕ, ◌<◌, inl, inr, ⊎_elim, Bool, true, false, cond, ◌&&◌, List, [], ◌∷◌, ◌++◌, length, length-append, refl, sym, ap, ◌∙◌, arith}
 use Rattle.std.specs.Prelude.{◌==◌, not, Option, Some, None as Nothing}
 use Rattle.std.proofs.lemmas.Bool.{cases_Bool, false≢true, eqb-true, and_parts}
 use Rattle.ecma_token.specs.declared.token.TokenKind.{TokenKind}
@@ -7,14 +7,14 @@ use Rattle.ecma_token.specs.Tokens.{bare}
 use Rattle.ecma_token.specs.TokenViews.{token_kind_number}
 use Rattle.ecma_scan.specs.Characters.{is_name_part}
 use Rattle.ecma_scan.specs.Classes.{is_line_char}
-use Rattle.ecma_scan.specs.Punctuators.{IsAmong, IsPunctuator, Spelling, punctuators, read_punctuator}
+use Rattle.ecma_scan.specs.Punctuators.{IsAmong, Spelling, punctuators, read_punctuator}
 use Rattle.ecma_scan.specs.RegExps.{IsRegExp, class_after, past_body, past_slash}
 use Rattle.ecma_scan.specs.Runs.{after, run}
 use Rattle.ecma_scan.proofs.Longest.{is_read, reads}
 use Rattle.ecma_scan.proofs.RegExpLemmas.{is_body, is_slash, no_reg_exp, only_slash}
 use Rattle.ecma_scan.proofs.TriviaLemmas.{run_is}
 use Rattle.ecma_lexeme.specs.Lexemes.{SpecLexeme, IsMark, IsPattern, pattern_lexeme, plain}
-use Rattle.ecma_lexing.proofs.Deciding.{Found, None, Decided, heads, tails, no_nil}
+use Rattle.ecma_lexing.proofs.Deciding.{None, Decided}
 
 -- ---- punctuators
 

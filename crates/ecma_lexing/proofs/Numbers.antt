@@ -1,7 +1,7 @@
 -- Whether a number stands at a front.
-use Rattle.std.proofs.Common.{◌≡◌, ℕ, ◌≤◌, ◌+◌, ◌<◌, ◌⊎◌, inl, inr, ⊎_elim, List, [], ◌∷◌, ◌++◌, length, length-append, refl, ap, arith}
+use Rattle.std.proofs.Common.{ℕ, ◌<◌, inl, inr, ⊎_elim, List, [], ◌∷◌, length, length-append, refl, ap, arith}
 use Rattle.std.proofs.lemmas.Bool.{false≢true}
-use Rattle.ecma_literal.specs.Numbers.{Meaning, Number, BigInt, SpellsNumber, NoNumber, Spells}
+use Rattle.ecma_literal.specs.Numbers.{Meaning, SpellsNumber, NoNumber, Spells}
 use Rattle.ecma_literal.proofs.NumeralLemmas.{numeral_starts}
 use Rattle.ecma_literal.proofs.NumberOrNone.{number_or_none}
 use Rattle.ecma_lexeme.specs.Lexemes.{SpecLexeme, IsNumber, numeral_lexeme}

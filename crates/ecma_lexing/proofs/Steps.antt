@@ -1,5 +1,5 @@
 -- A step is made from every state.
-use Rattle.std.proofs.Common.{◌≡◌, ◌≢◌, ℕ, ◌⊎◌, inl, inr, ⊎_elim, Bool, true, false, List, [], ◌∷◌, Option, Some, None, refl, sym, ap, subst, ◌∙◌}
+use Rattle.std.proofs.Common.{◌≡◌, ◌≢◌, ℕ, ◌⊎◌, inl, inr, ⊎_elim, Bool, false, List, [], ◌∷◌, Option, Some, None, refl, sym}
 use Rattle.ecma_token.specs.Tokens.{Spot}
 use Rattle.ecma_scan.specs.Trivia.{IsHashbang, IsSkipped, NoHashbang}
 use Rattle.ecma_lexeme.specs.declared.goal.LexicalGoal.{LexicalGoal}

@@ -1,11 +1,11 @@
 -- Whether a string stands at a front.
-use Rattle.std.proofs.Common.{◌≡◌, ◌≢◌, ℕ, zero, suc, ◌+◌, ◌<◌, ◌≤◌, ◌⊎◌, inl, inr, ⊎_elim, Bool, true, false, cond, List, [], ◌∷◌, ◌++◌, length, length-append, refl, sym, ap, subst, ◌∙◌, arith}
-use Rattle.std.specs.Prelude.{◌==◌, ◌||◌, Option, Some, None as Nothing}
-use Rattle.std.proofs.lemmas.Bool.{cases_Bool, false≢true, eqb-true}
+use Rattle.std.proofs.Common.{◌≡◌, ℕ, zero, suc, ◌<◌, ◌≤◌, ◌⊎◌, inl, inr, ⊎_elim, Bool, true, false, List, [], ◌∷◌, ◌++◌, length, length-append, refl, sym, ap, subst, ◌∙◌, arith}
+use Rattle.std.specs.Prelude.{◌||◌, Some, None as Nothing}
+use Rattle.std.proofs.lemmas.Bool.{cases_Bool, false≢true}
 use Rattle.ecma_scan.specs.Runs.{after, run}
 use Rattle.ecma_token.specs.Utf16.{utf16}
 use Rattle.ecma_literal.specs.declared.escape.Escape.{Escape}
-use Rattle.ecma_literal.specs.Escapes.{begins, IsEscape}
+use Rattle.ecma_literal.specs.Escapes.{IsEscape}
 use Rattle.ecma_literal.specs.Places.{EndsWith}
 use Rattle.ecma_literal.specs.Reading.{escape_at}
 use Rattle.ecma_literal.specs.Strings.{Piece, Plain, Escaped, Pieces, Stands, SpellsString, NoString, is_plain, is_quote}
@@ -14,7 +14,7 @@ use Rattle.ecma_literal.proofs.EscapeLemmas.{escape_front, found_stands, none_st
 use Rattle.ecma_literal.proofs.StringLemmas.{SoFar, so_far_none, so_far_plain, so_far_escape, spelled, no_string, stuck_end, stuck_char, stuck_escape, ends_with}
 use Rattle.ecma_lexeme.specs.Lexemes.{SpecLexeme, IsQuoted, string_lexeme}
 use Rattle.ecma_lexeme.proofs.SortLemmas.{string_begins}
-use Rattle.ecma_lexing.proofs.Deciding.{Found, None, Decided, no_nil, same_number}
+use Rattle.ecma_lexing.proofs.Deciding.{Decided, same_number}
 
 after_shorter : (p : ℕ → Bool) (cs : List ℕ) → length (after p cs) ≤ length cs
 after_shorter p [] = omega arith

@@ -1,12 +1,12 @@
 -- Whether the characters of a template stand at a front, up to what ends them.
-use Rattle.std.proofs.Common.{◌≡◌, ◌≢◌, ℕ, zero, suc, ◌+◌, ◌<◌, ◌≤◌, ◌⊎◌, inl, inr, ⊎_elim, Bool, true, false, ◌&&◌, List, [], ◌∷◌, ◌++◌, length, length-append, append_assoc, refl, sym, ap, subst, ◌∙◌, arith}
-use Rattle.std.specs.Prelude.{◌==◌, not, Option, Some, None as Nothing}
+use Rattle.std.proofs.Common.{◌≡◌, ℕ, zero, suc, ◌<◌, ◌≤◌, ◌⊎◌, inl, inr, ⊎_elim, true, false, ◌&&◌, List, [], ◌∷◌, ◌++◌, length, length-append, append_assoc, refl, sym, ap, subst, ◌∙◌, arith}
+use Rattle.std.specs.Prelude.{◌==◌, Option, Some, None as Nothing}
 use Rattle.std.proofs.lemmas.Bool.{cases_Bool, false≢true, eqb-true, and_parts}
 use Rattle.std.proofs.lemmas.Bool.Decides.{nat_tests}
 use Rattle.ecma_literal.specs.declared.escape.Escape.{Escape}
 use Rattle.ecma_literal.specs.declared.template.Ending.{Ending}
 use Rattle.ecma_literal.specs.declared.template.Ending.TheVariants.{BackQuote, Substitution}
-use Rattle.ecma_literal.specs.Escapes.{begins, is_line_feed, IsEscape, NoEscape}
+use Rattle.ecma_literal.specs.Escapes.{begins, is_line_feed, IsEscape}
 use Rattle.ecma_literal.specs.Reading.{escape_at}
 use Rattle.ecma_literal.specs.Units.{is_legacy}
 use Rattle.ecma_literal.specs.Templates.{Part, Bare, Break, Escaped, Bad, Stands, Parts, Ends, cooked, is_bare, is_brace}
@@ -14,7 +14,7 @@ use Rattle.ecma_literal.proofs.EscapeLemmas.{escape_front, found_stands, none_st
 use Rattle.ecma_literal.proofs.TemplateLemmas.{none_at_end, one_rest}
 use Rattle.ecma_lexeme.specs.Lexemes.{SpecLexeme, IsCharacters, IsEnd, ending_kind, plain, template_lexeme}
 use Rattle.ecma_token.specs.Tokens.{bare}
-use Rattle.ecma_lexing.proofs.Deciding.{Found, None, Decided, heads, tails, no_nil, same_number}
+use Rattle.ecma_lexing.proofs.Deciding.{Decided, heads, tails, no_nil, same_number}
 
 -- ---- what ends a piece
 

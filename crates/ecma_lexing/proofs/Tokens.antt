@@ -1,12 +1,12 @@
 -- Whether a token stands at a front under a goal.
-use Rattle.std.proofs.Common.{◌≡◌, ◌≢◌, ℕ, ◌<◌, ◌≤◌, ◌⊎◌, inl, inr, ⊎_elim, Bool, true, false, ◌&&◌, List, [], ◌∷◌, length, refl, sym, ap, subst, ◌∙◌, arith}
-use Rattle.std.proofs.lemmas.Bool.{cases_Bool, false≢true}
+use Rattle.std.proofs.Common.{◌≡◌, ◌≢◌, ℕ, ◌<◌, ◌≤◌, ◌⊎◌, inl, inr, Bool, true, false, ◌&&◌, List, length, refl, sym, arith}
+use Rattle.std.proofs.lemmas.Bool.{false≢true}
 use Rattle.ecma_literal.specs.Escapes.{begins}
 use Rattle.ecma_lexeme.specs.declared.goal.LexicalGoal.{LexicalGoal}
 use Rattle.ecma_lexeme.specs.declared.goal.LexicalGoal.TheVariants.{Div, RegExp, TemplateTail, TemplateEnd}
 use Rattle.ecma_lexeme.specs.Lexemes.{SpecLexeme, IsLexeme, IsMark, IsNumber, IsOrdinary, IsOutside, IsPattern, IsQuoted, IsWord}
 use Rattle.ecma_lexeme.specs.Sorts.{is_slash, opens_regexp}
-use Rattle.ecma_lexing.proofs.Deciding.{Found, None, Decided}
+use Rattle.ecma_lexing.proofs.Deciding.{None, Decided}
 use Rattle.ecma_lexing.proofs.Words.{word_or_not, word_shorter}
 use Rattle.ecma_lexing.proofs.Numbers.{number_or_not, number_shorter}
 use Rattle.ecma_lexing.proofs.Strings.{string_or_not, string_shorter}

@@ -1,10 +1,10 @@
 -- Whether a word stands at a front.
-use Rattle.std.proofs.Common.{◌≡◌, ◌≢◌, ℕ, zero, suc, ◌+◌, ◌<◌, ◌≤◌, ◌⊎◌, inl, inr, ⊎_elim, Bool, true, false, ◌&&◌, List, [], ◌∷◌, ◌++◌, length, length-append, refl, sym, ap, subst, ◌∙◌, arith}
+use Rattle.std.proofs.Common.{◌≡◌, ◌≢◌, ℕ, zero, suc, ◌<◌, ◌≤◌, ◌⊎◌, inl, inr, ⊎_elim, Bool, true, false, ◌&&◌, List, [], ◌∷◌, ◌++◌, length, length-append, refl, sym, ap, subst, ◌∙◌, arith}
 use Rattle.std.specs.Prelude.{◌==◌, Option, Some, None as Nothing}
 use Rattle.std.specs.Char.{IsScalar}
 use lib.Utf8.{scalar}
 use Rattle.std.proofs.lemmas.Bool.{cases_Bool, false≢true, eqb-true, and_parts}
-use Rattle.ecma_scan.specs.Escapes.{Coded, IsFour, IsBraced, IsDigits, IsEscape, digits}
+use Rattle.ecma_scan.specs.Escapes.{Coded, IsDigits, IsEscape, digits}
 use Rattle.ecma_scan.specs.Names.{IsName, IsNameChar, Spell, is_continuing, is_name_char}
 use Rattle.ecma_scan.specs.Runs.{Ends}
 use Rattle.ecma_scan.proofs.EscapeLemmas.{digits_is, reads_digits, one_escape}

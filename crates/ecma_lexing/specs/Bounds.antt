@@ -1,7 +1,7 @@
 -- How many tokens may still come from a text that is read.
 use Rattle.std.specs.Prelude.{ℕ, ◌+◌, ◌*◌, ◌<◌, ◌≤◌, length, max, Option, None, Some}
 use Rattle.ecma_token.specs.Tokens.{Spot}
-use Rattle.ecma_lexing.specs.States.{Last, Start, Slash, Characters, Fault, Other, Text}
+use Rattle.ecma_lexing.specs.States.{Last, Slash, Characters, Fault, Text}
 
 -- A bound on the tokens to come, by what came last and how many characters are left: a token takes a character at least, but for the
 -- characters of a template, which may be none and don't come twice on end. A slash may come again, with the text behind it.

@@ -20,7 +20,7 @@ use Rattle.ecma_lexeme.specs.Lexemes.{SpecLexeme, IsLexeme, IsPattern, ending_ki
 use Rattle.ecma_lexing_laws.proofs.Behind.{Behind}
 use Rattle.ecma_lexing.specs.States.{Last, Start, Slash, Characters, Fault, Other, State, again, again_by, behind, contexts_after, last_after, place, spot_at, template_goal}
 use Rattle.ecma_lexing.specs.Steps as steps
-use Rattle.ecma_lexing.specs.Steps.{IsGoing, IsStep, IsStepBy, IsStepOf}
+use Rattle.ecma_lexing.specs.Steps.{IsStep, IsStepBy, IsStepOf}
 use Rattle.ecma_canonical.specs.Canonical.{Edge, edge_of, gap, is_word, own_bytes, text_behind}
 use Rattle.ecma_canonical.specs.Moved.{moved_to}
 use Rattle.ecma_lexing_laws.specs.Turns.{Turn, Turns, asked, begin_at, end_at, is_reread, is_slash_kind, kept, moved_behind, told}

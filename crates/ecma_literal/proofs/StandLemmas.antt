@@ -1,20 +1,19 @@
 -- A spelling of a number stands at a front, with any rest that may follow.
-use Rattle.std.proofs.Common.{◌≡◌, ℕ, suc, ◌+◌, ◌<◌, ◌≤◌, ⊎_elim, Bool, true, false, cond, List, [], ◌∷◌, ◌++◌, append_assoc, length, length-append, refl, sym, ap, subst, ◌∙◌, arith}
-use Rattle.std.specs.Prelude.{◌&&◌, ◌||◌, ◌==◌, not, nat_lt, Option, Some, None, if◌then◌else◌}
-use Rattle.std.specs.Char.{is_digit, digit_value, is_ascii_alphabetic}
+use Rattle.std.proofs.Common.{◌≡◌, ℕ, ◌<◌, ◌≤◌, ⊎_elim, Bool, true, false, List, [], ◌∷◌, ◌++◌, append_assoc, length, refl, sym, ap, subst, ◌∙◌, arith}
+use Rattle.std.specs.Prelude.{◌&&◌, ◌||◌, ◌==◌, not, Some, None, if◌then◌else◌}
+use Rattle.std.specs.Char.{is_digit, is_ascii_alphabetic}
 use Rattle.std.specs.List.{list_all}
 use Rattle.std.proofs.lemmas.Bool.{cases_Bool, cases_lt, false≢true, and_parts, eqb-true}
 use Rattle.std.proofs.lemmas.Bool.Decides.{nat_tests}
-use Rattle.ecma_number.specs.Numbers.{SpecNumber, number_of, is_legacy_octal, spells_octal, none_left}
+use Rattle.ecma_number.specs.Numbers.{SpecNumber, number_of, is_legacy_octal, spells_octal}
 use Rattle.unicode_ident.proofs.IdentLemmas.{is_xid_start-ascii}
 use Rattle.ecma_scan.specs.Runs.{Ends}
-use Rattle.ecma_scan.specs.Names.{is_opening}
 use Rattle.ecma_literal.specs.declared.number_state.Radix.{Radix}
 use Rattle.ecma_literal.specs.declared.number_state.Radix.TheVariants.{Binary, Octal, Hexadecimal}
 use Rattle.ecma_literal.specs.declared.number_state.State.{State}
 use Rattle.ecma_literal.specs.declared.number_state.State.TheVariants as s
 use Rattle.ecma_literal.specs.Escapes.{begins, is_decimal, is_octal}
-use Rattle.ecma_literal.specs.Numbers.{Meaning, Number, BigInt, Spells, Longest, SpellsNumber, big_of, is_barred, is_n, is_some}
+use Rattle.ecma_literal.specs.Numbers.{Longest, big_of, is_barred, is_n, is_some}
 use Rattle.ecma_literal.specs.NumberSteps.{IsFront, Next, step, reach, by_next, is_whole, big_radix, radix_value, is_e, step_exponent, step_point, step_prefix, step_zero, step_octal, step_prefixed}
 use Rattle.ecma_literal.proofs.ScanLemmas.{by_step, reach_left, reach_big, reach_more}
 use Rattle.ecma_literal.proofs.StateLemmas.{spelled_is, radix_in}

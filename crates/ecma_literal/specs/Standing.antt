@@ -5,7 +5,7 @@ use Rattle.std.specs.List.{list_all}
 use Rattle.ecma_number.specs.Numbers.{SpecNumber, number_of, is_legacy_octal}
 use Rattle.ecma_scan.specs.Runs.{Ends}
 use Rattle.ecma_literal.specs.Escapes.{begins}
-use Rattle.ecma_literal.specs.Numbers.{Number, BigInt, Meaning, Spells, SpellsNumber, is_barred}
+use Rattle.ecma_literal.specs.Numbers.{Number, BigInt, Spells, SpellsNumber, is_barred}
 
 -- whether a text is digits and `_` alone, and no legacy octal number: a point behind it would be part of the number
 abbrev pub is_digit_or_separator : ℕ → Bool

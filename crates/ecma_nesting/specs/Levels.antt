@@ -2,7 +2,7 @@
 use Rattle.std.specs.Prelude.{ℕ, ◌+◌, ◌≤◌, max, if◌then◌else◌, List, [], ◌∷◌}
 use Rattle.ecma_tree.specs.Tree.{Tree, bin_expr, if_stmt, binding_ident, expr_pat, list, absent, hole}
 use Rattle.ecma_tree.specs.Folds.{fold}
-use Rattle.ecma_nesting.specs.Nesting.{greatest, deepest, linked, is_if, nesting}
+use Rattle.ecma_nesting.specs.Nesting.{deepest, linked, is_if, nesting}
 
 -- what a tree counts so, from the counts of its fields
 abbrev pub levels_step : Tree → List (List ℕ) → ℕ

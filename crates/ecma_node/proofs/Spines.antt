@@ -5,7 +5,7 @@ use Rattle.ecma_tree.specs.Codes.{tree_size}
 use Rattle.ecma_node.specs.View.{view_lit}
 use Rattle.ecma_node.specs.declared.literals.Lit.{Lit}
 use Rattle.ecma_node.specs.declared.literals.Lit.TheVariants as Lit
-use Rattle.ecma_node.specs.View.{view_decl, view_stmt_kind}
+use Rattle.ecma_node.specs.View.{view_decl}
 use Rattle.ecma_node.specs.declared.declarations.DeclOf.{DeclOf}
 use Rattle.ecma_node.specs.declared.declarations.DeclOf.TheVariants as Decl
 use Rattle.ecma_node.specs.Spines.{Chained, Linked, alternative, below, further_on, has_alternative, is_absent, is_binary, left_operand, right_operand}

@@ -1,6 +1,6 @@
 -- That a child which is lent is another tree once the loan is over.
 use Rattle.std.specs.Prelude.{Option}
-use Rattle.std.specs.Borrow.{Lends, LendsIf, MutBor, Fml, RattleType}
+use Rattle.std.specs.Borrow.{Lends, LendsIf, MutBor, Fml}
 use Rattle.ecma_tree.specs.Tree.{Tree}
 use Rattle.ecma_node.specs.Placed.{in_expr, in_stmt, in_pat}
 use Rattle.ecma_node.specs.declared.knot.Part.{Part}

@@ -1,6 +1,6 @@
 -- Questions about a tree, and about what stands in a child's place.
 use Rattle.std.specs.Prelude.{Bool, true, false}
-use Rattle.ecma_tree.specs.Tree.{Tree, absent, debugger_stmt, empty_stmt, expr_stmt, str_lit, ident, binding_ident, invalid}
+use Rattle.ecma_tree.specs.Tree.{Tree, absent, debugger_stmt, empty_stmt, expr_stmt, str_lit, ident, binding_ident}
 use Rattle.ecma_node.specs.Placed.{Placed, in_expr, in_stmt, in_pat}
 
 -- the expression in a place, and its kin; what is of another sort counts as absent

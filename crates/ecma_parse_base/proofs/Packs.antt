@@ -1,6 +1,6 @@
 -- Lists of trees as the tree has them.
 use Rattle.std.proofs.Common.{◌≡◌, List, [], ◌∷◌, ◌++◌, map, refl, ap}
-use Rattle.ecma_tree.specs.Tree.{Tree, Trees, more, none, pack, unpack, trees_by}
+use Rattle.ecma_tree.specs.Tree.{Tree, more, pack, unpack, trees_by}
 use Rattle.ecma_syntax.specs.Shape.{ends, last_ends}
 use Rattle.ecma_reading.specs.Cover.{is_rest_item, last_rests}
 

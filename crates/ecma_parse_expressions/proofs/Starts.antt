@@ -1,14 +1,13 @@
 -- Where an expression began shows in the places of nodes alone.
 use Rattle.std.proofs.Common.{◌≡◌, ℕ, refl, sym, ◌∙◌}
-use Rattle.ecma_token.specs.declared.place.Span.{Span}
 use Rattle.ecma_token_source.specs.Machine as tokens
 use Rattle.ecma_tree.specs.Tree.{Tree}
-use Rattle.ecma_syntax.specs.Input.{Code, lo, first_span}
+use Rattle.ecma_syntax.specs.Input.{Code, lo}
 use Rattle.ecma_reading.specs.Source.{Stream, State, Inner, input}
-use Rattle.ecma_reading.specs.Expressions.{new_end, super_end, yield_end}
+use Rattle.ecma_reading.specs.Expressions.{new_end, yield_end}
 use Rattle.ecma_parse_state.specs.Cursors.{Cursor, stream_of}
-use Rattle.ecma_parse_state.specs.States.{from, from_span}
-use Rattle.ecma_parse_state.proofs.Marks.{lo_from, lo_from_span, first_from_span}
+use Rattle.ecma_parse_state.specs.States.{from}
+use Rattle.ecma_parse_state.proofs.Marks.{lo_from}
 
 module _ {S : Type 0} (m : Stream S) (inner : Inner S) (c : Code) (a b : State S) where
   new_same : lo (input m a) ≡ lo (input m b) → (t : Tree) (r : State S) → new_end m inner c a t r ≡ new_end m inner c b t r

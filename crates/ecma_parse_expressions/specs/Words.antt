@@ -1,5 +1,5 @@
 -- Words with a meaning of their own.
-use Rattle.std.specs.Prelude.{Result, Ok}
+use Rattle.std.specs.Prelude.{Ok}
 use Rattle.ecma_token.specs.declared.place.Span.{Span}
 use Rattle.ecma_syntax.specs.Input.{Code, kind}
 use Rattle.ecma_reading.specs.Source.{Stream, Read, ◌>>=◌, input, spanned, eat_word}

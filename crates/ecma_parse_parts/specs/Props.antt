@@ -1,5 +1,5 @@
 -- What is read of a property of an object, and of one of a pattern, within the limit, as of other parts (`Ends`).
-use Rattle.std.specs.Prelude.{ℕ, Bool, true, false, not, ◌&&◌, if◌then◌else◌, List, [], ◌∷◌, Option, None, Some, Result, Ok}
+use Rattle.std.specs.Prelude.{ℕ, Bool, true, false, not, ◌&&◌, if◌then◌else◌, List, [], ◌∷◌, Option, None, Some, Ok}
 use Rattle.ecma_token.specs.Kinds.{dot_dot_dot_kind}
 use Rattle.ecma_tree.specs.Tree.{Tree, spread_element, key_value_prop, key_value_pat_prop, assign_pat_prop, assign_pat, rest_pat, absent}
 use Rattle.ecma_syntax.specs.Input.{Code}

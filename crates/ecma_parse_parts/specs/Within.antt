@@ -1,5 +1,5 @@
 -- What is read within the limit of nesting: a finished tree, with nothing of a cover left.
-use Rattle.std.specs.Prelude.{ℕ, Bool, nat_le, if◌then◌else◌, Result, Ok, Err}
+use Rattle.std.specs.Prelude.{ℕ, Bool, nat_le, if◌then◌else◌, Result, Ok}
 use Rattle.ecma_tree.specs.Tree.{Tree}
 use Rattle.ecma_nesting.specs.Nesting.{nesting}
 use Rattle.ecma_syntax.specs.Input.{Code}

@@ -1,5 +1,5 @@
 -- A name that is no word of the grammar, and `async`, start an expression as any other word does.
-use Rattle.std.proofs.Common.{◌≡◌, ℕ, Bool, true, refl}
+use Rattle.std.proofs.Common.{◌≡◌, ℕ, true, refl}
 use Rattle.std.proofs.lemmas.Bool.{eqb-true}
 use Rattle.ecma_token.specs.Kinds.{async_kind, name_kind}
 use Rattle.ecma_syntax.specs.Input.{Code, kind}

@@ -1,7 +1,7 @@
 -- Attributes one by one.
 use Rattle.std.proofs.Common.{◌≡◌, ℕ, ◌+◌, ◌<◌, ◌≤◌, Bool, true, false, ◌&&◌, List, length, drop, slice_index_or, refl, sym, subst, ap, ◌∙◌}
 use Rattle.std.proofs.lemmas.List.{drop_all, drop_more}
-use Rattle.ecma_tree.specs.Tree.{Tree, Trees, none, more, trees_by}
+use Rattle.ecma_tree.specs.Tree.{Tree, Trees, more, trees_by}
 use Rattle.ecma_syntax.specs.Shape.{are_attributes}
 use Rattle.ecma_node.specs.Placed.{inner}
 use Rattle.ecma_node.specs.View.{view_prop, view_prop_or_spread}

@@ -2,7 +2,6 @@
 use Rattle.std.proofs.Common.{◌≡◌, ℕ, Bool, refl, sym, ◌∙◌}
 use Rattle.ecma_token.specs.Kinds.{export_kind}
 use Rattle.ecma_token_source.specs.Machine as tokens
-use Rattle.ecma_tree.specs.Tree.{Tree}
 use Rattle.ecma_syntax.specs.Input.{Code, lo}
 use Rattle.ecma_reading.specs.Source.{◌>>=◌, Stream, State, Inner, input, eat_word}
 use Rattle.ecma_reading.specs.Expressions.{function_expr_by, function_expr_name}

@@ -1,5 +1,5 @@
 -- The items of a program that are being read.
-use Rattle.std.specs.Prelude.{ℕ, Bool, true, List, [], All, map}
+use Rattle.std.specs.Prelude.{Bool, true, [], All, map}
 use Rattle.ecma_syntax.specs.Input.{Code}
 use Rattle.ecma_node.specs.Fits.{fits_module_item}
 use Rattle.ecma_node.specs.Placed.{inner}

@@ -8,7 +8,6 @@ use Rattle.ecma_token_source.specs.Machine.{Source}
 use Rattle.ecma_token_source.specs.Settings.{with_ctx, with_next_regexp}
 use Rattle.ecma_syntax.specs.Input.{PlacedToken, no_context, div_goal, is_word, text_in}
 use Rattle.ecma_reading.specs.Source as reading
-use Rattle.ecma_reading.specs.Source.{State}
 
 -- The token that comes, or none at the end; the source behind it; and where the last token that was taken ends. A start, which tells where
 -- something began, has no source.

@@ -1,5 +1,5 @@
 -- A part of which nothing is read has no tree.
-use Rattle.std.proofs.Common.{◌≡◌, ℕ, Result, refl}
+use Rattle.std.proofs.Common.{ℕ, Result, refl}
 use Rattle.ecma_tree.specs.Tree.{Tree}
 use Rattle.ecma_reading.specs.Source.{Fault}
 use Rattle.ecma_parse_state.specs.declared.failure.Failure.{Failure}

@@ -1,14 +1,14 @@
 -- Parameters without their parentheses are read one token ahead: what is read of a front is read of it before another rest that begins with the same token.
-use Rattle.std.proofs.Common.{◌≡◌, ◌<◌, ◌≤◌, ◌+◌, ℕ, zero, suc, Bool, true, false, not, ◌&&◌, ◌||◌, ◌==◌, cond, eqb, nat_lt, if◌then◌else◌, List, [], ◌∷◌, ◌++◌, length, append_assoc, append-nil, Result, Ok, Err, inl, inr, ◌⊎◌, refl, sym, ap, ap₂, ◌∙◌, subst, true≢false, arith}
+use Rattle.std.proofs.Common.{◌≡◌, ◌<◌, ℕ, zero, suc, Bool, true, false, not, ◌&&◌, cond, eqb, nat_lt, List, [], ◌∷◌, ◌++◌, length, append_assoc, append-nil, Result, Ok, Err, inl, inr, ◌⊎◌, refl, sym, ap, ◌∙◌, subst, true≢false, arith}
 use Rattle.std.proofs.lemmas.Bool.{eqb-true, and_parts, not-true, lt-ltb}
 use Rattle.ecma_token.specs.declared.place.Span.{Span}
-use Rattle.ecma_token.specs.Kinds.{comma_kind, dot_dot_dot_kind, assign_kind, left_bracket_kind, left_brace_kind, question_mark_kind}
+use Rattle.ecma_token.specs.Kinds.{comma_kind, dot_dot_dot_kind, assign_kind}
 use Rattle.ecma_tree.specs.Tree.{Tree, Trees, none, more, unpack, param, rest_pat, assign_pat}
-use Rattle.ecma_syntax.specs.Input.{PlacedToken, Input, Code, kind, kind_of, lo_of, dots_at, span, is_word, no_name, barred, with_in, others, hi_of, Takes}
+use Rattle.ecma_syntax.specs.Input.{PlacedToken, Input, Code, kind, kind_of, lo_of, dots_at, span, with_in, others, hi_of, Takes}
 use Rattle.ecma_syntax.specs.Operators.{may_name, assignment_level}
 use Rattle.ecma_syntax.specs.Shape.{is_binding, is_param, is_rest}
 use Rattle.ecma_grammar.specs.Grammar.{Produces}
-use Rattle.ecma_reading.specs.Source.{Fault, ◌>>=◌, State, Inner, input, past, bound, at, spanned, Step, go_on, finished, next_by, iterate_n, iterate, list_stream}
+use Rattle.ecma_reading.specs.Source.{Fault, ◌>>=◌, State, Inner, past, bound, at, spanned, Step, go_on, finished, next_by, iterate_n}
 use Rattle.ecma_reading.specs.Expressions.{parameter_by, is_rest_param}
 use Rattle.ecma_reading.specs.Reading.{readers}
 use Rattle.ecma_grammar_complete_base.specs.Laws.{coded}

@@ -1,5 +1,5 @@
 -- Each complete front is what an entry reads.
-use Rattle.std.proofs.Common.{◌≡◌, ◌≤◌, ℕ, Bool, false, cond, if◌then◌else◌, List, [], Result, Ok, sym, ap, ◌∙◌}
+use Rattle.std.proofs.Common.{◌≡◌, ◌≤◌, ℕ, Bool, false, cond, if◌then◌else◌, List, Result, Ok, sym, ap, ◌∙◌}
 use Rattle.ecma_tree.specs.Tree.{Tree, Trees, pack, unpack, list}
 use Rattle.ecma_syntax.specs.Input.{Input, Code}
 use Rattle.ecma_syntax.specs.Shape.{is_statement}

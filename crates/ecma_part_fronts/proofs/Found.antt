@@ -1,14 +1,14 @@
 -- Parameters that are produced without their parentheses are read, where the initialiser of the last one is read and nothing goes on there.
-use Rattle.std.proofs.Common.{◌≡◌, ℕ, ◌<◌, ◌≤◌, inl, inr, max, Bool, true, false, not, ◌&&◌, ◌||◌, ◌==◌, cond, eqb, List, [], ◌∷◌, ◌++◌, Result, Ok, Err, refl, sym, ap, ◌∙◌, subst, ⊎_elim, true≢false, append_assoc, append-nil, arith}
+use Rattle.std.proofs.Common.{◌≡◌, ℕ, ◌<◌, ◌≤◌, max, Bool, true, false, not, ◌&&◌, ◌==◌, eqb, List, [], ◌∷◌, ◌++◌, refl, sym, ap, ◌∙◌, subst, ⊎_elim, true≢false, append_assoc, append-nil, arith}
 use Rattle.std.proofs.lemmas.Bool.{eq-eqb, or_left, or_right, or_cases, and_from}
 use Rattle.ecma_token.specs.declared.place.Span.{Span}
 use Rattle.ecma_token.specs.Kinds.{dot_dot_dot_kind, left_bracket_kind, left_brace_kind, comma_kind, assign_kind}
 use Rattle.ecma_tree.specs.Tree.{Tree, Trees, none, more, unpack, param, binding_ident, array_pat, object_pat, ident, assign_pat, rest_pat}
-use Rattle.ecma_syntax.specs.Input.{PlacedToken, Input, Code, kind, kind_of, lo, span, rest, dots_at, with_in, Takes}
+use Rattle.ecma_syntax.specs.Input.{PlacedToken, Input, Code, kind, lo, span, rest, dots_at, with_in, Takes}
 use Rattle.ecma_syntax.specs.Operators.{assignment_level}
 use Rattle.ecma_syntax.specs.Shape.{level, ends, is_binding, is_place, is_item_pat, is_param, is_rest}
 use Rattle.ecma_grammar.specs.Grammar.{Produces}
-use Rattle.ecma_reading.specs.Source.{◌>>=◌, State, is_name, go_on, finished}
+use Rattle.ecma_reading.specs.Source.{is_name, go_on, finished}
 use Rattle.ecma_reading.specs.Expressions.{parameter_by, is_rest_param}
 use Rattle.ecma_grammar_complete_base.proofs.Yields.{lm, from, len, coded, Reads, Is, then_is, then_past, here, past_here, if_no, if_yes, Loops, loop_on, loop_end, looped, named}
 use Rattle.ecma_grammar_complete_base.proofs.Levels.{comma_after}

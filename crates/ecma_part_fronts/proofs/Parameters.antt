@@ -1,12 +1,12 @@
 -- What is read as parameters without their parentheses is derived from a complete front.
-use Rattle.std.proofs.Common.{◌≡◌, ◌<◌, ◌≤◌, ◌+◌, ℕ, suc, Bool, true, false, not, ◌&&◌, ◌||◌, ◌==◌, eqb, nat_le, nat_lt, if◌then◌else◌, List, [], ◌∷◌, ◌++◌, length, append_assoc, Result, Ok, Err, inl, inr, refl, sym, ap, ap₂, ◌∙◌, subst, ⊎_elim, true≢false, arith, ltb-true, ltb-false}
+use Rattle.std.proofs.Common.{◌≡◌, ◌<◌, ◌≤◌, ◌+◌, ℕ, suc, Bool, true, false, not, ◌&&◌, ◌==◌, eqb, nat_lt, List, [], ◌∷◌, ◌++◌, length, append_assoc, Result, Ok, Err, inl, inr, refl, sym, ap, ap₂, ◌∙◌, subst, ⊎_elim, true≢false, arith, ltb-true, ltb-false}
 use Rattle.std.proofs.lemmas.Bool.{and_left}
 use Rattle.ecma_token.specs.Kinds.{comma_kind, assign_kind, question_mark_kind}
 use Rattle.ecma_tree.specs.Tree.{Tree, Trees, none, more, pack, unpack, list, param, rest_pat, assign_pat, ident, assign_expr, cond_expr, arrow_expr, yield_expr}
 use Rattle.ecma_nesting.specs.Nesting.{nesting}
-use Rattle.ecma_syntax.specs.Input.{PlacedToken, Input, Code, kind, kind_of, with_in, in_arrow, Takes}
-use Rattle.ecma_syntax.specs.Operators.{goes_expr, may_name, assignment_level, closed_end}
-use Rattle.ecma_syntax.specs.Shape.{level, ends, is_binding, is_param, is_rest}
+use Rattle.ecma_syntax.specs.Input.{PlacedToken, Input, Code, kind, kind_of, with_in, in_arrow}
+use Rattle.ecma_syntax.specs.Operators.{goes_expr, may_name, assignment_level}
+use Rattle.ecma_syntax.specs.Shape.{ends, is_param, is_rest}
 use Rattle.ecma_grammar.specs.Children.{IsEmpty}
 use Rattle.ecma_grammar.specs.Grammar.{Produces, children}
 use Rattle.ecma_grammar_placed.proofs.Kin.{Kin}
@@ -14,7 +14,7 @@ use Rattle.ecma_grammar_placed.proofs.Placed.{move}
 use Rattle.ecma_reading.specs.Source.{Fault, Unexpected, TooDeep, State, Inner, at, bound, iterate_n, iterate}
 use Rattle.ecma_reading.specs.Expressions.{is_rest_param}
 use Rattle.ecma_reading.specs.Reading.{readers}
-use Rattle.ecma_grammar_complete_base.specs.Laws.{coded, patterned, InOrder}
+use Rattle.ecma_grammar_complete_base.specs.Laws.{coded, InOrder}
 use Rattle.ecma_grammar_complete_base.proofs.Yields.{lm, from, After, Yields, Reads, Is}
 use Rattle.ecma_grammar_complete_base.proofs.Trees.{covered, size, sizes, reach, no_kind}
 use Rattle.ecma_grammar_complete_rules.proofs.Finds.{lasts}
@@ -28,13 +28,13 @@ use Rattle.ecma_grammar_laws.proofs.Agrees.{Agrees, Steady, agree_same, agree_th
 use Rattle.ecma_grammar_laws.proofs.SteadyExpressions.{parameter_by_steady}
 use Rattle.ecma_grammar_laws.proofs.SteadyLemmas.{readers_steady}
 use Rattle.ecma_sources.specs.Sources.{one}
-use Rattle.ecma_sources.specs.Ahead.{ends_async, Named, Instead, heads, at_list}
+use Rattle.ecma_sources.specs.Ahead.{ends_async, Named, heads, at_list}
 use Rattle.ecma_complete_fronts.specs.Laws.{input_at, EndsBefore, EndsAt, IsComplete}
 use Rattle.ecma_complete_fronts.specs.Asyncs.{takes_name, last_tree}
 use Rattle.ecma_complete_fronts.proofs.Fronts.{head_or, split, halves, order_cut, no_shorter, kept_answer, Quit, readers_quit, question_goes, follow_by}
 use Rattle.ecma_complete_fronts.proofs.Cut.{closing, cut, cut_here, cut_like}
 use Rattle.ecma_complete_fronts.proofs.Onto.{Onto, onto, goes_alike}
-use Rattle.ecma_complete_fronts.proofs.Asyncs.{Kept, kept, kept_leads, last_self, takes_alike, arrow_or, arrow_mild, arrow_order, arrow_heads, order_with, named_with}
+use Rattle.ecma_complete_fronts.proofs.Asyncs.{kept, kept_leads, last_self, takes_alike, arrow_or, arrow_mild, arrow_order, arrow_heads, order_with, named_with}
 use Rattle.ecma_parse_parts.specs.Ends.{initial_of, last_initial}
 use Rattle.ecma_parse_parts.specs.Parts.{starts_param, bare_step, bare_by}
 use Rattle.ecma_part_fronts.specs.Parameters.{ParameterList, Parameters, ParametersEnd}

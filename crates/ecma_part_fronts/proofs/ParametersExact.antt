@@ -1,11 +1,11 @@
 -- Each complete front of parameters without their parentheses is read: where the code would go on, a longer list does.
 use Rattle.std.proofs.Common.{◌≡◌, ◌<◌, ◌≤◌, ◌+◌, inl, inr, ℕ, suc, Bool, true, false, not, ◌&&◌, ◌||◌, ◌==◌, cond, eqb, leb, codes, bytes_eq, List, [], ◌∷◌, ◌++◌, length, refl, sym, ap, ap₂, ◌∙◌, subst, ⊎_elim, true≢false, arith}
-use Rattle.std.proofs.lemmas.Bool.{eqb-true, ne_eqb, leb-false, and_parts, and_from, or_cases, or_left, or_from, or_parts, not-true}
+use Rattle.std.proofs.lemmas.Bool.{eqb-true, leb-false, and_parts, and_from, or_cases, or_left, or_from, or_parts, not-true}
 use Rattle.ecma_token.specs.Kinds.{comma_kind, assign_kind, question_mark_kind, null_kind, name_kind, dot_dot_dot_kind, left_bracket_kind, right_bracket_kind, left_brace_kind, right_brace_kind, plus_plus_kind, minus_minus_kind, yield_kind, await_kind}
 use Rattle.ecma_tree.specs.Tree.{Tree, Trees, none, more, list, param, rest_pat, assign_pat, binding_ident, array_pat, object_pat, ident, null_lit, assign_expr, cond_expr, arrow_expr, yield_expr}
 use Rattle.ecma_nesting.specs.Nesting.{nesting}
 use Rattle.ecma_syntax.specs.Input.{PlacedToken, Input, Code, kind, kind_of, brk, lo, span, text, dots_at, escaped, is_word, always_reserved, strict_reserved, operator_word, no_name, barred, with_in, in_arrow, Takes, TakesName}
-use Rattle.ecma_syntax.specs.Operators.{between, goes_expr, other_end}
+use Rattle.ecma_syntax.specs.Operators.{between, goes_expr}
 use Rattle.ecma_syntax.specs.Shape.{level, ends, is_binding, is_place, is_item_pat, is_param, is_rest}
 use Rattle.ecma_grammar.specs.Expressions.{is_update_op}
 use Rattle.ecma_grammar.specs.Grammar.{Produces, children}
@@ -25,9 +25,9 @@ use Rattle.ecma_complete_fronts.proofs.Fronts.{halves}
 use Rattle.ecma_complete_fronts.proofs.Cut.{cut, cut_here}
 use Rattle.ecma_complete_fronts.proofs.Alone.{behind, cut_end, operand}
 use Rattle.ecma_complete_fronts.proofs.Onto.{Mild, Onto, onto}
-use Rattle.ecma_complete_fronts.proofs.Longer.{mark, onward, onward_mild, onward_order, level_of, NoLonger, kind_there, bounded, bounded_leads}
+use Rattle.ecma_complete_fronts.proofs.Longer.{mark, onward, onward_mild, onward_order, level_of, NoLonger, bounded, bounded_leads}
 use Rattle.ecma_complete_fronts.proofs.Updates.{no_update}
-use Rattle.ecma_complete_fronts.proofs.Exact.{Still, still, still_leads, update_goes, updates}
+use Rattle.ecma_complete_fronts.proofs.Exact.{still, still_leads, update_goes, updates}
 use Rattle.ecma_complete_fronts.proofs.Asyncs.{order_with}
 use Rattle.ecma_parse_parts.specs.Ends.{initial_of}
 use Rattle.ecma_parse_parts.specs.Parts.{bare_by}

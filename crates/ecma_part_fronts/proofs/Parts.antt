@@ -1,13 +1,13 @@
 -- What an entry asks of what its rule reads: within the limit, and clean.
-use Rattle.std.proofs.Common.{◌≡◌, ◌≤◌, ◌<◌, ℕ, Bool, true, false, ◌&&◌, codes, bytes_eq, cond, nat_le, if◌then◌else◌, List, [], ◌∷◌, Option, Some, None, Result, Ok, Err, refl, sym, ap, ap₂, ◌∙◌, subst, true≢false, le-leb, leb-true, arith}
+use Rattle.std.proofs.Common.{◌≡◌, ◌≤◌, ◌<◌, ℕ, Bool, true, false, ◌&&◌, codes, bytes_eq, cond, nat_le, if◌then◌else◌, List, [], Option, Some, None, Result, Ok, Err, refl, sym, ap, ap₂, ◌∙◌, subst, true≢false, le-leb, leb-true, arith}
 use Rattle.ecma_token.specs.declared.syntax.EsSyntax.{EsSyntax}
 use Rattle.ecma_token.specs.Kinds.{plus_plus_kind, minus_minus_kind}
-use Rattle.ecma_tree.specs.Tree.{Tree, Trees, none, more, ident, seq_expr, assign_expr, cond_expr, arrow_expr, yield_expr, pack, list, param, assign_pat}
+use Rattle.ecma_tree.specs.Tree.{Tree, Trees, none, more, ident, seq_expr, assign_expr, cond_expr, arrow_expr, yield_expr, pack, list}
 use Rattle.ecma_nesting.specs.Nesting.{nesting}
 use Rattle.ecma_syntax.specs.Input.{Input, Code, kind, module_code, alone, in_list, in_arrow}
 use Rattle.ecma_syntax.specs.Operators.{between, goes_expr}
 use Rattle.ecma_syntax.specs.Shape.{ends, is_clean, is_statement}
-use Rattle.ecma_reading.specs.Source.{Fault, too_deep, unexpected, ◌>>=◌, Inner, State, list_stream}
+use Rattle.ecma_reading.specs.Source.{Fault, too_deep, unexpected, ◌>>=◌, State, list_stream}
 use Rattle.ecma_reading.specs.Expressions.{key_by}
 use Rattle.ecma_reading.specs.Modules.{item_by}
 use Rattle.ecma_reading.specs.Reading.{readers}

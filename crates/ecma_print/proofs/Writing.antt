@@ -1,5 +1,5 @@
 -- What printing does, from what its steps do.
-use Rattle.std.proofs.Common.{◌≡◌, ◌⊎◌, ℕ, zero, suc, IfSome, codes, get_or, Vec, Global, ◌<◌, ◌≤◌, Bool, true, false, if◌then◌else◌, List, [], ◌∷◌, ◌++◌, Option, None, Some, IsSome, is_some, is_ok, Result, Ok, Err, inl, inr, length, take, drop, refl, sym, ap, subst, ◌∙◌, append-nil}
+use Rattle.std.proofs.Common.{◌≡◌, ◌⊎◌, ℕ, zero, suc, IfSome, codes, Vec, Global, ◌<◌, ◌≤◌, Bool, true, false, if◌then◌else◌, List, [], ◌∷◌, ◌++◌, Option, None, Some, IsSome, is_some, is_ok, Result, Ok, Err, inl, inr, length, take, refl, sym, ap, subst, ◌∙◌, append-nil}
 use Rattle.std.specs.Option.{option_map}
 use Rattle.std.specs.Borrow.{MutBor}
 use base.Fml.{GName}
@@ -9,7 +9,7 @@ use Rattle.std.specs.Io.KnownBytes.{Appends, Keeps, append_known}
 use Rattle.ecma_token.specs.declared.place.BytePos.{BytePos}
 use Rattle.ecma_token.specs.declared.place.LineCol.{LineCol}
 use Rattle.ecma_tree.specs.Tree.{Tree}
-use Rattle.ecma_layout.specs.Looks.{is_refused, listed}
+use Rattle.ecma_layout.specs.Looks.{listed}
 use Rattle.ecma_write.specs.Pages.{Marks, Page, IsFront, IsPast, told, times}
 use Rattle.ecma_write.specs.States.{State, FaultFits, is_write}
 use Rattle.ecma_write.specs.Views.{first_page, first_marks, js_behind, js_loans, js_page, js_state, js_tells, marks_loans, marks_of as marks_in, IsListOf}

@@ -1,5 +1,5 @@
 -- What the steps of printing do to a writer of texts, and to the block before its writer.
-use Rattle.std.specs.Prelude.{◌≡◌, ℕ, ◌≤◌, Bool, true, false, ◌⊎◌, ◌&&◌, List, length, Option, Result, Ok, Err, is_ok}
+use Rattle.std.specs.Prelude.{◌≡◌, ℕ, ◌≤◌, true, false, ◌⊎◌, ◌&&◌, List, length, Option, Result, Ok, Err, is_ok}
 use Rattle.std.specs.Io.KnownBytes.{Keeps, append_known}
 use Rattle.ecma_token.specs.Counts.{count_after}
 use Rattle.ecma_tree.specs.Tree.{Tree}

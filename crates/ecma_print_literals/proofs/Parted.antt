@@ -1,10 +1,9 @@
 -- What is left of a text behind a part of it that was printed.
-use Rattle.std.proofs.Common.{◌≡◌, ℕ, ◌<◌, Bool, true, false, List, [], ◌∷◌, ◌++◌, ◌≢◌, length, Option, None, Some, IsUtf8, if◌then◌else◌, refl, sym, ap, subst, ◌∙◌, append_assoc, append-nil}
+use Rattle.std.proofs.Common.{◌≡◌, ℕ, ◌<◌, Bool, true, false, List, [], ◌∷◌, ◌++◌, ◌≢◌, length, Option, None, IsUtf8, refl, sym, ap, subst, ◌∙◌, append_assoc, append-nil}
 use base.Fml.{GName}
 use Rattle.ecma_write.specs.States.{State}
 use Rattle.ecma_write.specs.States as states
 use Rattle.ecma_write.specs.declared.fault.EmitError.{EmitError}
-use Rattle.ecma_pieces.specs.Pieces.{Text, call}
 use Rattle.ecma_layout.specs.Looks.{text}
 use Rattle.ecma_print_pieces.specs.Prints.{Asked, ask, lay, IsAt, Prints}
 use Rattle.std.proofs.Common.{take, arith, get_or}

@@ -1,5 +1,5 @@
 -- Two texts are written one after the other as they are as one.
-use Rattle.std.proofs.Common.{◌≡◌, ℕ, ◌+◌, Bool, true, false, not, if◌then◌else◌, ◌<◌, List, [], ◌∷◌, ◌++◌, ◌≢◌, length, Option, None, Some, IsUtf8, refl, sym, ap, subst, ◌∙◌, append_assoc, append-nil, arith}
+use Rattle.std.proofs.Common.{◌≡◌, ℕ, Bool, true, false, not, if◌then◌else◌, ◌<◌, List, [], ◌∷◌, ◌++◌, ◌≢◌, length, Option, None, Some, IsUtf8, refl, sym, ap, subst, ◌∙◌, append_assoc, append-nil, arith}
 use Rattle.std.specs.Prelude.{◌==◌, ◌&&◌, ◌||◌, option_map, option_and_then, encode_utf8_all}
 use Rattle.std.proofs.lemmas.Str.{chars-append, encodes-chars, encodes-append}
 use Rattle.std.specs.Str.{chars}

@@ -1,7 +1,6 @@
 -- Texts that are printed in parts.
-use Rattle.std.specs.Prelude.{◌≡◌, ℕ, Bool, if◌then◌else◌, ◌||◌, List, [], ◌∷◌, ◌++◌, ◌≢◌, Option, None, IsUtf8}
+use Rattle.std.specs.Prelude.{◌≡◌, ℕ, Bool, if◌then◌else◌, List, [], ◌∷◌, ◌++◌, ◌≢◌, Option, None, IsUtf8}
 use base.Fml.{GName}
-use Rattle.ecma_write.specs.Pages.{Page, put}
 use Rattle.ecma_write.specs.States.{State, text}
 use Rattle.ecma_write.specs.declared.fault.EmitError.{EmitError}
 use Rattle.ecma_layout.specs.Looks as looks

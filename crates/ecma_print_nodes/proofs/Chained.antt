@@ -1,15 +1,15 @@
 -- Members and their objects.
-use Rattle.std.proofs.Common.{◌≡◌, Bool, true, false, not, ◌||◌, refl, if◌then◌else◌}
+use Rattle.std.proofs.Common.{◌≡◌, Bool, true, false, refl}
 use Rattle.ecma_token.specs.declared.place.Span.{Span}
 use Rattle.ecma_tree.specs.Tree.{Tree, number_lit, member_expr, opt_chain_expr}
 use Rattle.ecma_layout.specs.declared.look.Look.{Look}
 use Rattle.ecma_layout.specs.declared.look.Stand.{Stand}
 use Rattle.ecma_layout.specs.declared.look.Stand.TheVariants.{Alone, Head}
-use Rattle.ecma_layout.specs.Looks.{Laid, ◌·◌, start, end}
+use Rattle.ecma_layout.specs.Looks.{◌·◌, start, end}
 use Rattle.ecma_layout.specs.Layout.{laid, is_computed, point_before}
 use Rattle.ecma_print_pieces.specs.Prints.{Asked, lay}
 use Rattle.ecma_print_nodes.specs.Asks.{is_number}
-use Rattle.ecma_print_nodes.specs.Chains.{object_laid, link_laid, chain_laid}
+use Rattle.ecma_print_nodes.specs.Chains.{object_laid, chain_laid}
 
 -- what is no number is laid out as at the head of a member
 pub no_number : (look : Look) (keeps : Bool) (t : Tree) → is_number t ≡ false → laid look Head t ≡ object_laid look keeps t

@@ -1,6 +1,5 @@
 -- The names of imports and exports, one by one.
 use Rattle.std.proofs.Common.{◌≡◌, ℕ, ◌+◌, ◌<◌, ◌≤◌, Bool, true, false, not, ◌&&◌, ◌||◌, List, [], ◌∷◌, length, codes, Option, Some, None, ◌==◌, drop, slice_index_or, refl, sym, subst, ap, ◌∙◌, if◌then◌else◌}
-use Rattle.std.proofs.lemmas.List.{drop_all}
 use Rattle.ecma_edge.specs.Edges.{is_there}
 use Rattle.ecma_tree.specs.Tree.{Tree, Trees, none, more, trees_by, part_by, import_named_specifier, export_named_specifier}
 use Rattle.ecma_node.specs.declared.programs.ImportSpecifier.{ImportSpecifier}

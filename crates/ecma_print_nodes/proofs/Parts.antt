@@ -1,5 +1,5 @@
 -- Printing a list, part by part.
-use Rattle.std.proofs.Common.{◌≡◌, not, zero, suc, ◌-◌, arith, Some, None, is_some, ◌==◌, ℕ, ◌+◌, ◌<◌, ◌≤◌, length, Bool, true, false, List, [], ◌∷◌, Option, drop, slice_index_or, refl, sym, subst, ap, ◌∙◌}
+use Rattle.std.proofs.Common.{◌≡◌, not, suc, ◌-◌, arith, Some, None, ◌==◌, ℕ, ◌+◌, ◌<◌, ◌≤◌, length, Bool, true, false, List, [], ◌∷◌, Option, drop, slice_index_or, refl, sym, subst, ap, ◌∙◌}
 use Rattle.std.proofs.lemmas.List.{drop_more, drop_all}
 use base.Fml.{GName}
 use Rattle.ecma_write.specs.States.{State}
@@ -7,7 +7,7 @@ use Rattle.ecma_write.specs.declared.fault.EmitError.{EmitError}
 use Rattle.ecma_layout.specs.declared.look.Look.{Look}
 use Rattle.ecma_layout.specs.declared.look.Stand.TheVariants.{Alone}
 use Rattle.ecma_layout.specs.Looks.{Laid, nothing, both, ◌·◌, when, line, deeper, back}
-use Rattle.ecma_layout.specs.Layout.{laid, closing, separated, rows, statements, each, indented, indented_or_line, is_empty, ends_with_hole, has_arguments}
+use Rattle.ecma_layout.specs.Layout.{laid, closing, separated, rows, indented, indented_or_line, is_empty, ends_with_hole, has_arguments}
 use Rattle.std.specs.List.{slice_get}
 use Rattle.ecma_tree.specs.Tree.{Tree, Trees, none, more, trees_by, hole, list}
 use Rattle.ecma_print_nodes.specs.Asks.{is_hole}

@@ -1,6 +1,6 @@
 -- Of which sort nodes are, and what is not asked of a sort.
 use Rattle.std.proofs.Common.{◌≡◌, ℕ, Bool, true, false, ◌&&◌, ◌||◌, refl, ap, ◌∙◌}
-use Rattle.ecma_tree.specs.Tree.{Tree, Trees, none, more, block_stmt, var_decl, using_decl, seq_expr, number_lit, unary_expr, update_expr, bin_expr, assign_expr, cond_expr, call_expr, member_expr, opt_chain_expr, opt_call, tagged_tpl, regex_lit, array_pat, rest_pat, object_pat, binding_ident, hole}
+use Rattle.ecma_tree.specs.Tree.{Tree, none, more, block_stmt, var_decl, using_decl, seq_expr, number_lit, unary_expr, update_expr, bin_expr, assign_expr, cond_expr, call_expr, member_expr, opt_chain_expr, opt_call, tagged_tpl, regex_lit, array_pat, rest_pat, object_pat, binding_ident, hole}
 use Rattle.ecma_edge.specs.Edges.{is_word_operator, starts_with_word, ends_with_word, gap_before, gap_after, gap_of_unary, first_operand, is_plus, is_minus, is_not_of_decrement, is_postfix_decrement, starts_with_regexp}
 use Rattle.ecma_node.specs.declared.expressions.ExprKindOf.{ExprKindOf}
 use Rattle.ecma_node.specs.declared.expressions.ExprKindOf.TheVariants as ExprKind

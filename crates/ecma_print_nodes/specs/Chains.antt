@@ -1,5 +1,5 @@
 -- What stands before the name of a member.
-use Rattle.std.specs.Prelude.{Bool, true, false, not, ◌||◌, if◌then◌else◌, codes}
+use Rattle.std.specs.Prelude.{Bool, not, ◌||◌, if◌then◌else◌, codes}
 use Rattle.ecma_tree.specs.Tree.{Tree, number_lit}
 use Rattle.ecma_layout.specs.declared.look.Look.{Look}
 use Rattle.ecma_layout.specs.declared.look.Stand.TheVariants.{Alone, Head}

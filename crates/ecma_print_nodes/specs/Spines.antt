@@ -1,6 +1,6 @@
 -- Chains of expressions (ECMA-262, 13.3 and 13.5 to 13.13) and of `else if` (14.6), link by link: what is written before and behind what
 -- stands below the links.
-use Rattle.std.specs.Prelude.{ℕ, zero, suc, Bool, not, ◌||◌, codes}
+use Rattle.std.specs.Prelude.{ℕ, zero, suc, Bool, ◌||◌, codes}
 use Rattle.ecma_token.specs.Operators.{operator_text}
 use Rattle.ecma_tree.specs.Tree.{Tree, bin_expr, member_expr, call_expr, tagged_tpl, opt_chain_expr, opt_call, if_stmt}
 use Rattle.ecma_edge.specs.Edges.{gap_before, gap_after, starts_with_word}

@@ -1,6 +1,6 @@
 -- The expressions of a template, each with the piece behind it.
 use Rattle.std.specs.Prelude.{codes}
-use Rattle.ecma_tree.specs.Tree.{Trees, none, more}
+use Rattle.ecma_tree.specs.Tree.{Trees, more}
 use Rattle.ecma_layout.specs.declared.look.Look.{Look}
 use Rattle.ecma_layout.specs.declared.look.Stand.{Stand}
 use Rattle.ecma_layout.specs.declared.look.Stand.TheVariants.{Alone}

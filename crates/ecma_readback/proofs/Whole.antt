@@ -1,6 +1,6 @@
 -- The theorem for every program, from what is proved of layouts.
-use Rattle.std.proofs.Common.{◌≡◌, Some, None, sym, true≢false}
-use Rattle.ecma_tree.specs.Tree.{Tree, script, es_module}
+use Rattle.std.proofs.Common.{Some, None, sym, true≢false}
+use Rattle.ecma_tree.specs.Tree.{script, es_module}
 use Rattle.ecma_program_text.specs.Text.{text_start}
 use Rattle.ecma_layout.specs.declared.look.Look.{Look}
 use Rattle.ecma_written_laws.proofs.Programs.{scripts_are_tiled, modules_are_tiled}

@@ -1,7 +1,7 @@
 -- Texts of literals that are written again: formatted and formatted, formatted and minified, minified and minified, from ES2015 on, with
 -- characters past ASCII.
 use Rattle.std.proofs.Common.{◌≡◌, ℕ, ⊎_elim, Bool, true, false, not, ◌&&◌, ◌||◌, ◌==◌, List, [], ◌∷◌, ◌++◌, Some, None, refl, sym, ap, ◌∙◌, codes, bytes_eq, chars, IsUtf8, encode_utf8_all, nat_lt, if◌then◌else◌}
-use lib.Utf8.{scalars, encodes}
+use lib.Utf8.{scalars}
 use Rattle.std.specs.Prelude.{unwrap_or}
 use Rattle.std.specs.List.{list_all, list_any}
 use Rattle.std.proofs.lemmas.Bool.{cases_Bool, false≢true}

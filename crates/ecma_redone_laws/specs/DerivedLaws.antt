@@ -1,5 +1,5 @@
 -- The tokens that the layout of a program says are derived again.
-use Rattle.std.specs.Prelude.{◌≡◌, Bool, true, false, List, []}
+use Rattle.std.specs.Prelude.{◌≡◌, Bool, true, false, []}
 use Rattle.ecma_tree.specs.Tree.{Tree, script, es_module}
 use Rattle.ecma_syntax.specs.Input.{Input, Code, unplaced}
 use Rattle.ecma_grammar.specs.Grammar.{Produces}

@@ -1,21 +1,21 @@
 -- Two lists that go on alike as far as they are read: what is read of the one is read of the other.
-use Rattle.std.proofs.Common.{◌≡◌, ◌⊎◌, ◌≤◌, ◌+◌, ℕ, zero, suc, Bool, true, false, not, ◌&&◌, ◌||◌, ◌==◌, if◌then◌else◌, eqb, nat_le, nat_lt, List, [], ◌∷◌, ◌++◌, length, Result, Ok, Err, codes, bytes_eq, inl, inr, refl, sym, ap, ap₂, ◌∙◌, subst, true≢false, arith, eqb-true, le-leb}
-use Rattle.ecma_token.specs.Kinds.{end_kind, right_brace_kind, left_brace_kind, left_bracket_kind, left_paren_kind, dot_kind, back_quote_kind, comma_kind, question_mark_kind, arrow_kind, async_kind, regex_kind, plus_plus_kind, minus_minus_kind, assign_kind, mul_kind, from_kind, with_kind, div_kind}
+use Rattle.std.proofs.Common.{◌≡◌, ◌≤◌, ◌+◌, ℕ, zero, suc, Bool, true, false, not, ◌&&◌, ◌||◌, ◌==◌, if◌then◌else◌, eqb, nat_le, nat_lt, List, [], ◌∷◌, ◌++◌, length, Result, Ok, codes, bytes_eq, inl, inr, refl, sym, ap, ap₂, ◌∙◌, subst, true≢false, arith, eqb-true, le-leb}
+use Rattle.ecma_token.specs.Kinds.{end_kind, right_brace_kind, left_brace_kind, left_paren_kind, dot_kind, comma_kind, question_mark_kind, arrow_kind, async_kind, assign_kind, mul_kind, from_kind, with_kind}
 use Rattle.ecma_tree.specs.Tree.{Tree}
-use Rattle.ecma_syntax.specs.Input.{PlacedToken, Input, Code, kind, kind_of, kind2, brk, break_of, others, hi_of, text_in, is_word, always_reserved, operator_word, barred, has_in}
-use Rattle.ecma_syntax.specs.Operators.{expression_level, assignment_level, conditional_level, update_level, call_level, member_level, binary_level, is_assign_op, operates, between, may_name, starts_key, goes_expr, pauses, goes_on, closed_end, postfix_end, other_end, let_end, binding_end, key_end, accessor_end, static_end, exports_end, source_end}
+use Rattle.ecma_syntax.specs.Input.{PlacedToken, Input, Code, kind, kind_of, break_of, others, hi_of, text_in, is_word, always_reserved, operator_word, barred}
+use Rattle.ecma_syntax.specs.Operators.{expression_level, assignment_level, conditional_level, call_level, is_assign_op, may_name, starts_key, goes_expr, pauses, goes_on, closed_end, postfix_end, other_end, let_end, binding_end, key_end, accessor_end, static_end, exports_end, source_end}
 use Rattle.ecma_syntax.specs.Shape.{ends}
-use Rattle.ecma_reading.specs.Source.{Fault, Stream, State, list_stream, input, is_name}
+use Rattle.ecma_reading.specs.Source.{Fault, Stream, State, is_name}
 use Rattle.ecma_reading.specs.Expressions.{key_by, parameter_by, prop_by}
 use Rattle.ecma_reading.specs.Statements.{pattern_prop}
 use Rattle.ecma_reading.specs.Modules.{item_by}
 use Rattle.ecma_reading.specs.Reading.{readers}
-use Rattle.ecma_sources.specs.Sources.{is_slash, Rereads, one, two, HandsOut, Orderly}
-use Rattle.ecma_sources.specs.Laws.{SameRead, SameParts, from_source, from_list}
-use Rattle.ecma_sources.specs.Ahead.{ends_async, Named, dots, heads, SameNext, Instead, InsteadOfAny, at_list, ReadAhead, PartsAhead, OneAhead}
-use Rattle.ecma_sources.proofs.Beside.{lm, on, regexp, slash, and_left}
+use Rattle.ecma_sources.specs.Sources.{is_slash, one, two, HandsOut, Orderly}
+use Rattle.ecma_sources.specs.Laws.{SameRead, SameParts}
+use Rattle.ecma_sources.specs.Ahead.{ends_async, Named, dots, heads, SameNext, Instead, InsteadOfAny, at_list, PartsAhead, OneAhead}
+use Rattle.ecma_sources.proofs.Beside.{lm, on, and_left}
 use Rattle.ecma_sources.proofs.SourceLemmas.{parts_read}
-use Rattle.ecma_sources.proofs.Pairs.{edge_by, edge, Blind, BlindTwo, is_param, Loose, Pairing, Paired}
+use Rattle.ecma_sources.proofs.Pairs.{edge_by, edge, is_param, Loose, Pairing, Paired}
 use Rattle.ecma_sources.proofs.Backs.{closed, calm, Good, Path, Moved, Backed, Echoed}
 use Rattle.ecma_sources.proofs.ConsumedExpressions.{key_by_backed, parameter_by_backed, prop_by_backed}
 use Rattle.ecma_sources.proofs.ConsumedStatements.{pattern_prop_backed}

@@ -1,15 +1,15 @@
 -- From a list that a source hands out behind a reading back to one that it hands out before.
-use Rattle.std.proofs.Common.{◌≡◌, ◌⊎◌, ◌<◌, ◌≤◌, ◌+◌, ℕ, zero, suc, Bool, true, false, not, ◌&&◌, ◌||◌, cond, if◌then◌else◌, eqb, nat_le, nat_lt, List, [], ◌∷◌, ◌++◌, length, append_assoc, Result, Ok, Err, inl, inr, refl, sym, ap, ap₂, ◌∙◌, subst, true≢false, arith, eqb-true, lt-ltb, le-leb}
+use Rattle.std.proofs.Common.{◌≡◌, ◌⊎◌, ◌<◌, ◌≤◌, ◌+◌, ℕ, zero, suc, Bool, true, false, not, ◌&&◌, ◌||◌, cond, if◌then◌else◌, eqb, nat_le, nat_lt, List, [], ◌∷◌, ◌++◌, length, append_assoc, Result, Ok, Err, inl, inr, refl, sym, ap, ap₂, ◌∙◌, subst, true≢false, arith, eqb-true, lt-ltb}
 use Rattle.ecma_token.specs.declared.context.Context.{Context}
-use Rattle.ecma_token.specs.Kinds.{div_assign_kind, error_kind, semicolon_kind}
+use Rattle.ecma_token.specs.Kinds.{error_kind, semicolon_kind}
 use Rattle.ecma_tree.specs.Tree.{Tree}
 use Rattle.ecma_syntax.specs.Input.{PlacedToken, Input, Code, kind, kind_of, others, content_of, lo, hi, hi_of, text, brk, is_word, barred, first_span, span}
 use Rattle.ecma_syntax.specs.Operators.{pauses, closed_end, postfix_end}
-use Rattle.ecma_syntax.specs.Shape.{ends, is_block, is_absent}
+use Rattle.ecma_syntax.specs.Shape.{is_block, is_absent}
 use Rattle.ecma_reading.specs.Source.{is_nil, Fault, Unexpected, TooDeep, ◌>>=◌, placed, unexpected, Stream, State, Read, input, past, operand, retold, at, bound, eat, eat_word, is_name, name, any_word, end_of, Step, go_on, finished, next_by, iterate_n, iterate, Inner}
 use Rattle.ecma_sources.specs.Sources.{is_slash, one, two}
 use Rattle.ecma_sources.proofs.Beside.{placed_then, lm, on, kinded, regexp, slash, Plain}
-use Rattle.ecma_sources.proofs.Pairs.{edge, edge_by, Keeps, Opens, Blind, BlindTwo, is_param, Loose, Pairing, Paired}
+use Rattle.ecma_sources.proofs.Pairs.{edge, Keeps, Opens, Blind, BlindTwo, Loose, Pairing, Paired}
 
 -- the class of what is closed, whatever it is; and of what a token of its own follows
 abbrev pub closed : {A : Type 0} → A → ℕ

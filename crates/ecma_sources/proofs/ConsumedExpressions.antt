@@ -18,7 +18,7 @@ use Rattle.ecma_sources.specs.Ahead.{ends_async, last_async}
 use Rattle.ecma_sources.proofs.Pairs.{edge_by, edge, Keeps, is_param, Pairing, Paired}
 use Rattle.ecma_syntax.specs.Shape.{is_block}
 use Rattle.ecma_syntax.specs.Shape.{last_ends}
-use Rattle.ecma_sources.proofs.Backs.{closed, calm, back_closed, back_then_by, shut_keeps, same_keeps, Bides, bides_one, bides_weak, bides_test, bides_back, bides_stay, back_only, back_two, agrees_two, agrees_was_two, at_hand, Good, shown_good, list_at, Here, Path, was, Took, Backed, Steps, join, stay, took_join, back_never, back_ok, back_weak, back_same, back_then, back_pure, back_test, step_all, step_test, live_past, token, took_token, back_past, back_noted, agrees, agrees_was, here_by, here_at, back_if, back_at, back_eat, back_word, back_own, back_name, back_any, back_again_of, back_iterate, lo_was, has_was, hi_was, first_was, kind_was, content_was, text_was, brk_was, at_was, past_is, back_took, agrees_plain, here_second, back_own_again, back_past_again, back_operand, Echoed}
+use Rattle.ecma_sources.proofs.Backs.{closed, calm, back_closed, back_then_by, shut_keeps, same_keeps, Bides, bides_one, bides_weak, bides_test, bides_back, bides_stay, back_only, back_two, agrees_two, agrees_was_two, at_hand, shown_good, list_at, Here, Path, was, Took, Backed, Steps, join, stay, took_join, back_never, back_ok, back_weak, back_same, back_then, back_pure, back_test, step_all, step_test, live_past, token, took_token, back_past, back_noted, agrees, here_by, here_at, back_if, back_at, back_eat, back_word, back_own, back_name, back_any, back_again_of, back_iterate, lo_was, has_was, hi_was, first_was, kind_was, content_was, text_was, brk_was, at_was, past_is, back_took, agrees_plain, here_second, back_own_again, back_past_again, back_operand, Echoed}
 
 module _ {S : Type 0} {m : Stream S} {Live : Pairing m} {modular : Bool} (w : Paired m Live modular) {il : Inner Input} {im : Inner S} (echo : Echoed m Live modular il im) where
   no_literal : (c : Content) (p : Span) → literal error_kind c p ≡ None

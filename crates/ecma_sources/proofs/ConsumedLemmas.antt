@@ -11,9 +11,9 @@ use Rattle.ecma_reading.specs.Expressions.{is_read}
 use Rattle.ecma_reading.specs.Statements.{Body}
 use Rattle.ecma_reading.specs.Modules.{item_by, program_step, program_item, program_rest, program_by, line_of}
 use Rattle.ecma_reading.specs.Reading.{readers, finish, read_program, read_list}
-use Rattle.ecma_sources.specs.Sources.{HandsOut, Orderly}
+use Rattle.ecma_sources.specs.Sources.{HandsOut}
 use Rattle.ecma_sources.proofs.Beside.{lm}
-use Rattle.ecma_sources.specs.Consumed.{Backward, ProgramsConsumed}
+use Rattle.ecma_sources.specs.Consumed.{ProgramsConsumed}
 use Rattle.ecma_sources.proofs.Pairs.{Pairing, Paired}
 use Rattle.ecma_sources.proofs.HandedOut.{handed, paired}
 use Rattle.ecma_sources.proofs.Backs.{closed, shut_good, list_at, Backed, back_never, Echoed}

@@ -5,7 +5,7 @@ use Rattle.ecma_token.specs.Kinds.{end_kind, semicolon_kind, hash_kind, dot_dot_
 use Rattle.ecma_tree.specs.Tree.{Tree, rest_pat, function, none, pack, ident, binding_ident, assign_pat, absent, more, hole, plain_method, block_stmt, empty_stmt, debugger_stmt, with_stmt, return_stmt, labeled_stmt, break_stmt, continue_stmt, switch_stmt, switch_case, throw_stmt, try_stmt, catch_clause, while_stmt, do_while_stmt, for_stmt, for_in_stmt, for_of_stmt, expr_stmt, class_decl, fn_decl, var_decl, using_decl, var_declarator, class_prop, private_prop, static_block, auto_accessor, array_pat, object_pat, key_value_pat_prop, assign_pat_prop}
 use Rattle.ecma_syntax.specs.Input.{PlacedToken, Input, Code, kind, kind_of, break_of, brk, others, lo, barred, span, kind2, brk2, dots_at, with_in, in_list, in_body, turned_strict, rest, is_strict, without_in, alone, in_field, in_static}
 use Rattle.ecma_syntax.specs.Shape.{is_default_case, ends, is_name, is_absent, is_private, is_structured, is_use_strict, is_plain_function, constructs, field_end, is_statement, declarators_end}
-use Rattle.ecma_syntax.specs.Operators.{assignment_level, pauses, closed_end, expression_level, new_level, starts_key, may_name, let_end, plain_end, key_end}
+use Rattle.ecma_syntax.specs.Operators.{assignment_level, closed_end, expression_level, new_level, starts_key, may_name, let_end, plain_end, key_end}
 use Rattle.ecma_reading.specs.Source.{◌>>=◌, unexpected, Stream, State, input, past, operand, at, bound, spanned, eat, eat_word, end_of, Step, go_on, finished, iterate, Inner}
 use Rattle.ecma_reading.specs.Expressions.{first, function_by, setter_parameter, is_async_head}
 use Rattle.ecma_reading.specs.Statements.{constructor_of, has_default, one_bare, Body, Chain, initial_pat, after_item, array_item, array_pat_by, keyed_item, named_item, pattern_prop, object_item, object_pat_by, pat_by, block_step, block_rest, block_by, body_item, body_step, body_by, declarator_by, declarator_step, declarators_by, starts_let, starts_variables, variables_by, starts_using, starts_await_using, using_by, function_decl_by, class_decl_by, field_value, class_key, method_tree, class_method_by, class_getter, class_setter, accessor_by, field_or_method, generator_member, member_rest, starts_static, static_by, member_step, members_by, class_tail_by, in_parens, sub_by, with_by, while_by, do_by, branched, else_by, if_step, if_by, ends_here, return_by, throw_by, label_by, jump_by, debugger_by, case_step, case_rest, case_by, cases_step, switch_by, catch_by, finally_by, try_by, clause_by, for_rest, over_rest, in_rest, of_rest, head_rest, for_variables, for_using, for_expression_rest, for_expression, for_head, for_by, labelled_by, expression_by, starts_async, keyword_stmt, stmt_by, stmt_from}

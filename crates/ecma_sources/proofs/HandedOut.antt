@@ -1,14 +1,14 @@
 -- A list that a source hands out goes with it as far as it goes.
-use Rattle.std.proofs.Common.{◌≡◌, ◌⊎◌, ℕ, zero, suc, Bool, true, false, ◌&&◌, cond, if◌then◌else◌, eqb, nat_le, nat_lt, List, [], ◌∷◌, inl, inr, refl, sym, ap, ◌∙◌, subst, true≢false, arith, le-leb}
-use Rattle.ecma_token.specs.Kinds.{div_assign_kind, error_kind, if_kind}
+use Rattle.std.proofs.Common.{◌≡◌, ◌⊎◌, ℕ, zero, suc, Bool, true, false, ◌&&◌, cond, eqb, nat_le, nat_lt, List, [], ◌∷◌, inl, inr, refl, sym, ap, ◌∙◌, subst, true≢false, arith, le-leb}
+use Rattle.ecma_token.specs.Kinds.{div_assign_kind, error_kind}
 use Rattle.ecma_syntax.specs.Input.{PlacedToken, Input, Code, kind, kind_of}
-use Rattle.ecma_syntax.specs.Operators.{assignment_level, binary_level, goes_expr, pauses, closed_end, let_end}
+use Rattle.ecma_syntax.specs.Operators.{assignment_level, binary_level, goes_expr, pauses, closed_end}
 use Rattle.ecma_token.specs.Kinds.{div_kind}
 use Rattle.ecma_reading.specs.Source.{Stream, State}
 use Rattle.ecma_sources.specs.Sources.{is_slash, Rereads, HandsOut, Orderly}
 use Rattle.ecma_sources.specs.Consumed.{Backward}
-use Rattle.ecma_sources.proofs.Beside.{lm, on, Ceiling, kinded, reread, Beside, agree1, agree2, joined_to, joined2, pauses_same}
-use Rattle.ecma_sources.proofs.Pairs.{Opens, Blind, BlindTwo, is_param, Loose, Pairing, Paired}
+use Rattle.ecma_sources.proofs.Beside.{Ceiling, kinded, reread, Beside, agree1, agree2, joined_to, joined2, pauses_same}
+use Rattle.ecma_sources.proofs.Pairs.{Opens, is_param, Loose, Pairing, Paired}
 
 module _ {S : Type 0} (m : Stream S) (Live : S → Type 0) where
   -- Where what ends so isn't closed, no regular expression stands for a slash before an equals sign.

@@ -1,11 +1,11 @@
 -- Reading depends on the tokens that it takes and the next one alone.
-use Rattle.std.specs.Prelude.{◌≡◌, ℕ, Bool, true, false, not, ◌&&◌, ◌==◌, nat_le, List, [], ◌∷◌, ◌++◌, Result, Ok, codes, bytes_eq}
+use Rattle.std.specs.Prelude.{◌≡◌, ℕ, Bool, true, false, not, ◌&&◌, ◌==◌, nat_le, List, [], ◌∷◌, ◌++◌, Ok, codes, bytes_eq}
 use Rattle.ecma_token.specs.Kinds.{dot_kind, question_mark_kind, arrow_kind, async_kind}
 use Rattle.ecma_tree.specs.Tree.{Tree, Trees, none, more, ident, update_expr, unary_expr, await_expr, bin_expr, cond_expr, assign_expr, arrow_expr, yield_expr, seq_expr, new_expr, absent}
 use Rattle.ecma_syntax.specs.Input.{PlacedToken, Input, Code, kind_of, break_of, others, text_in}
 use Rattle.ecma_syntax.specs.Operators.{closed_end, may_name}
 use Rattle.ecma_syntax.specs.Shape.{ends}
-use Rattle.ecma_reading.specs.Source.{Fault, State, Read, list_stream}
+use Rattle.ecma_reading.specs.Source.{State, Read, list_stream}
 use Rattle.ecma_reading.specs.Expressions.{key_by, parameter_by, prop_by}
 use Rattle.ecma_reading.specs.Statements.{pattern_prop}
 use Rattle.ecma_reading.specs.Modules.{item_by}

@@ -16,7 +16,7 @@ use Rattle.ecma_literal.specs.declared.template.Ending.TheVariants.{BackQuote, S
 use Rattle.ecma_lexeme.specs.declared.goal.LexicalGoal.{LexicalGoal}
 use Rattle.ecma_lexeme.specs.declared.goal.LexicalGoal.TheVariants.{Div, RegExp, TemplateTail, TemplateEnd}
 use Rattle.ecma_lexeme.specs.Lexemes as lexeme
-use Rattle.ecma_lexeme.specs.Lexemes.{SpecLexeme, IsLexeme, IsMark, IsMarked, IsOrdinary, IsWord, ending_kind, numeral_lexeme, plain, word_lexeme}
+use Rattle.ecma_lexeme.specs.Lexemes.{SpecLexeme, IsLexeme, IsMark, IsMarked, IsOrdinary, IsWord, ending_kind, numeral_lexeme, plain}
 use Rattle.ecma_token.specs.Tokens.{bare}
 use Rattle.ecma_syntax.specs.Input.{is_word}
 use Rattle.ecma_lexing.specs.States.{place, spot_at}

@@ -11,7 +11,7 @@ use Rattle.ecma_literal.specs.declared.template.Ending.{Ending}
 use Rattle.ecma_literal.specs.declared.template.Ending.TheVariants.{BackQuote, Substitution}
 use Rattle.ecma_literal.specs.Escapes.{begins, is_decimal, is_hex, is_special, is_line_feed, single, IsEscape, IsSingle, IsNul, IsHexEscape, IsUnicodeEscape, IsBraced}
 use Rattle.ecma_literal.specs.Templates as t
-use Rattle.ecma_literal.specs.Templates.{Parts, Ends, SpellsPiece, is_brace}
+use Rattle.ecma_literal.specs.Templates.{Parts, Ends, is_brace}
 use Rattle.ecma_literal.specs.Units.{is_legacy}
 use Rattle.ecma_spell_template.specs.Tagged.{TaggedIsRead}
 

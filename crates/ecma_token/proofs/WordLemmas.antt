@@ -1,10 +1,10 @@
 -- Lemmas on the tables of words.
-use Rattle.std.proofs.Common.{◌≡◌, ◌≢◌, length, ℕ, Bool, true, false, not, ◌&&◌, ◌||◌, List, [], ◌∷◌, ◌++◌, refl, sym, ap, ◌∙◌, ◌<◌, ◌≤◌, ◌⊎◌, inl, inr, leb, ⊎_elim, subst, lit<, eq-eqb, arith}
-use Rattle.std.specs.Prelude.{◌==◌, bytes_eq, codes, if◌then◌else◌}
+use Rattle.std.proofs.Common.{◌≡◌, ◌≢◌, length, ℕ, Bool, true, false, ◌&&◌, ◌||◌, List, [], ◌∷◌, refl, sym, ap, ◌∙◌, ◌<◌, ◌≤◌, ◌⊎◌, inl, inr, leb, ⊎_elim, subst, lit<, arith}
+use Rattle.std.specs.Prelude.{◌==◌, bytes_eq, if◌then◌else◌}
 use Rattle.std.proofs.lemmas.Slice.Eq.{bytes_eq-Decides}
 use Rattle.std.proofs.lemmas.Bool.Decides.{nat_tests}
 use Rattle.ecma_token.specs.Kinds.{name_kind, null_kind, true_kind, false_kind}
-use Rattle.ecma_token.specs.Words.{SpecWord, own_words, keyword_words, literal_words, known_words, kind_among, text_among, kind_of, own_text, own_word, word_of, IsOwnName}
+use Rattle.ecma_token.specs.Words.{SpecWord, own_words, known_words, kind_among, text_among, kind_of, own_text, own_word, word_of, IsOwnName}
 use Rattle.ecma_token.specs.WordTable.{kind_at, place_of, text_at}
 use Rattle.ecma_token.specs.WordKinds.{keyword_kind, known_kind}
 use Rattle.ecma_token.specs.declared.word.Keyword.{Keyword}

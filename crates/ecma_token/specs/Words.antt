@@ -1,5 +1,5 @@
 -- Words: the text of each that has a kind of its own, and the token of any text (ECMA-262, 12.7).
-use Rattle.std.specs.Prelude.{◌≡◌, ℕ, Bool, false, ◌&&◌, ◌||◌, List, [], ◌∷◌, ◌++◌, length, if◌then◌else◌, ◌==◌, codes, bytes_eq}
+use Rattle.std.specs.Prelude.{◌≡◌, ℕ, List, [], ◌∷◌, ◌++◌, if◌then◌else◌, ◌==◌, codes, bytes_eq}
 use Rattle.ecma_token.specs.Kinds.{await_kind, break_kind, case_kind, catch_kind, continue_kind, debugger_kind, default_kind, do_kind, else_kind, finally_kind, for_kind, function_kind, if_kind, return_kind, switch_kind, throw_kind, try_kind, var_kind, let_kind, const_kind, while_kind, with_kind, new_kind, this_kind, super_kind, class_kind, extends_kind, export_kind, import_kind, yield_kind, in_kind, instanceof_kind, typeof_kind, void_kind, delete_kind, null_kind, true_kind, false_kind, accessor_kind, as_kind, assert_kind, async_kind, enum_kind, from_kind, get_kind, implements_kind, interface_kind, meta_kind, of_kind, package_kind, private_kind, protected_kind, public_kind, set_kind, static_kind, target_kind, undefined_kind, using_kind, name_kind}
 
 -- a word's token: its kind, and its text with no escapes

@@ -1,21 +1,16 @@
 -- Where a tree may stand, and what stands last behind it.
-use Rattle.std.proofs.Common.{◌≡◌, ℕ, ◌≤◌, ◌⊎◌, inl, inr, ⊎_elim, Bool, true, false, ◌&&◌, ◌||◌, not, List, [], ◌∷◌, Option, Some, None, refl, sym, ap, subst, ◌∙◌, arith}
-use Rattle.std.specs.Prelude.{◌==◌, nat_le, codes, if◌then◌else◌}
-use Rattle.std.proofs.lemmas.Bool.{cases_Bool, false≢true, true≢false, and_parts, not-true}
+use Rattle.std.proofs.Common.{◌≡◌, ℕ, ◌≤◌, ⊎_elim, Bool, true, false, ◌&&◌, ◌||◌, not, refl, sym, ap, ◌∙◌, arith}
+use Rattle.std.specs.Prelude.{nat_le}
+use Rattle.std.proofs.lemmas.Bool.{cases_Bool, false≢true, and_parts, not-true}
 use Rattle.std.proofs.lemmas.Bool.Decides.{nat_tests}
-use Rattle.ecma_tree.specs.Tree.{Tree, Trees, none, more, member_expr, tagged_tpl, import_star_as_specifier, export_namespace_specifier, number_lit, ident_name, private_name, unary_expr, update_expr, bin_expr, new_expr, var_decl, absent, hole, var_declarator, import_decl, named_export, export_decl, export_default_decl, export_default_expr, export_all, import_named_specifier, import_default_specifier, export_named_specifier, switch_case, catch_clause, constructor, class_method, private_method, class_prop, private_prop, static_block, auto_accessor, key_value_prop, assign_prop, getter_prop, setter_prop, method_prop, key_value_pat_prop, assign_pat_prop, param, script, es_module, list}
+use Rattle.ecma_tree.specs.Tree.{Tree, member_expr, tagged_tpl, import_star_as_specifier, export_namespace_specifier, number_lit, private_name, unary_expr, update_expr, bin_expr, new_expr, var_decl, absent, hole, var_declarator, import_decl, named_export, export_decl, export_default_decl, export_default_expr, export_all, import_named_specifier, import_default_specifier, export_named_specifier, switch_case, catch_clause, constructor, class_method, private_method, class_prop, private_prop, static_block, auto_accessor, key_value_prop, assign_prop, getter_prop, setter_prop, method_prop, key_value_pat_prop, assign_pat_prop, param, script, es_module, list}
 use Rattle.ecma_syntax.specs.Operators.{coalesce_level, unary_level, new_level, call_level, binary_level}
 use Rattle.ecma_syntax.specs.Shape.{level, is_absent, is_hole, is_private, is_word_name, is_item, is_module_decl, is_case, is_member}
 use Rattle.ecma_edge.specs.Edges.{starts_with_word, ends_with_word, first_operand, is_plus, is_minus, is_decrement, is_not_of_decrement, starts_with_regexp}
-use Rattle.ecma_lexeme.specs.declared.goal.LexicalGoal.TheVariants.{Div}
-use Rattle.ecma_token.specs.declared.place.BytePos.{BytePos}
 use Rattle.ecma_token.specs.declared.place.Span.{Span}
-use Rattle.ecma_pieces.specs.Pieces.{Piece, Text, Brace, Blank, Line, Deeper, Back, Semicolon, Commit, Mark}
-use Rattle.ecma_layout.specs.declared.look.Look.{Look}
 use Rattle.ecma_layout.specs.declared.look.Stand.{Stand}
-use Rattle.ecma_layout.specs.Layout.{is_head, is_variables, is_block, is_computed, is_bracketed_name}
-use Rattle.ecma_layout.specs.Looks.{Laid, ◌·◌, nothing, one, both, blank, line_always, when, gap, gap_or, line, deeper, back, formats}
-use Rattle.ecma_written_tiles.specs.Categories.{Clear, Decred, Dot, Dotted, Fresh, Hashed, LessBanged, Lessed, Minused, Numbered, Operated, Plused, Pointed, Quasied, Shut, Slashed, State, Worded, behind, is_end, is_open, is_wordless, takes}
+use Rattle.ecma_layout.specs.Layout.{is_head, is_variables, is_block, is_bracketed_name}
+use Rattle.ecma_written_tiles.specs.Categories.{Clear, Decred, Dot, Dotted, Fresh, Hashed, LessBanged, Lessed, Minused, Numbered, Operated, Plused, Pointed, Quasied, Shut, Slashed, State, Worded, is_end, is_open, is_wordless, takes}
 
 pub at_least : (a b : ℕ) → a ≤ b → nat_le a b ≡ true
 at_least a b h = grind (arith, nat_tests)

@@ -1,24 +1,23 @@
 -- Unary and binary operators.
-use Rattle.std.proofs.Common.{◌≡◌, ℕ, ◌+◌, ◌<◌, ◌≤◌, ◌⊎◌, inl, inr, ⊎_elim, Bool, true, false, ◌&&◌, ◌||◌, not, List, [], ◌∷◌, Option, Some, None, refl, sym, ap, subst, ◌∙◌, arith}
-use Rattle.std.specs.Prelude.{◌==◌, nat_le, codes, if◌then◌else◌}
-use Rattle.std.proofs.lemmas.Bool.{cases_Bool, false≢true, true≢false, and_parts, not-true, eqb-true, or_cases}
+use Rattle.std.proofs.Common.{◌≡◌, ℕ, ◌<◌, ◌≤◌, inl, inr, ⊎_elim, Bool, true, false, ◌&&◌, ◌||◌, not, List, [], ◌∷◌, refl, sym, ap, subst, ◌∙◌, arith}
+use Rattle.std.specs.Prelude.{◌==◌, nat_le, if◌then◌else◌}
+use Rattle.std.proofs.lemmas.Bool.{cases_Bool, false≢true, true≢false, and_parts, eqb-true, or_cases}
 use Rattle.std.proofs.lemmas.Bool.Decides.{nat_tests}
 use Rattle.ecma_token.specs.declared.place.Span.{Span}
 use Rattle.ecma_token.specs.Kinds.{bang_kind, tilde_kind, add_kind, sub_kind, typeof_kind, void_kind, delete_kind, mul_kind, div_kind, mod_kind, lt_kind, lt_eq_kind, gt_kind, gt_eq_kind, in_kind, instanceof_kind, eq_eq_kind, not_eq_kind, eq_eq_eq_kind, not_eq_eq_kind, exp_kind, left_shift_kind, right_shift_kind, zero_fill_right_shift_kind, bit_or_kind, bit_xor_kind, bit_and_kind, logical_or_kind, logical_and_kind, nullish_coalescing_kind}
 use Rattle.ecma_token.specs.Words.{own_text}
 use Rattle.ecma_token.specs.Operators.{operator_text}
-use Rattle.ecma_tree.specs.Tree.{Tree, Trees, none, more, bin_expr, unary_expr, private_name}
+use Rattle.ecma_tree.specs.Tree.{Tree, bin_expr, unary_expr, private_name}
 use Rattle.ecma_syntax.specs.Input.{Input, Code}
-use Rattle.ecma_syntax.specs.Operators.{coalesce_level, unary_level, update_level, bit_or_level, new_level, call_level, exponent_level, binary_level, right_level, operates}
-use Rattle.ecma_syntax.specs.Shape.{level, fits_left, is_private, is_absent}
-use Rattle.ecma_edge.specs.Edges.{starts_with_word, ends_with_word, is_word_operator, first_operand, gap_before, gap_after, gap_of_unary, is_plus, is_minus, is_decrement, is_not_of_decrement, starts_with_regexp, is_postfix_decrement}
-use Rattle.ecma_grammar.specs.Grammar.{Produces, children}
+use Rattle.ecma_syntax.specs.Operators.{coalesce_level, unary_level, call_level, binary_level, right_level, operates}
+use Rattle.ecma_syntax.specs.Shape.{level, fits_left, is_private}
+use Rattle.ecma_edge.specs.Edges.{starts_with_word, ends_with_word, is_word_operator, first_operand, gap_before, gap_after, gap_of_unary, is_plus, is_minus, is_not_of_decrement}
 use Rattle.ecma_scan.specs.Characters.{is_among}
 use Rattle.ecma_layout.specs.declared.look.Look.{Look}
 use Rattle.ecma_layout.specs.declared.look.Stand.{Stand}
-use Rattle.ecma_layout.specs.declared.look.Stand.TheVariants.{Alone, Operand, Body, Head, Key}
-use Rattle.ecma_layout.specs.Looks.{Laid, ◌·◌, text, when, gap_or, start, blank}
-use Rattle.ecma_layout.specs.Layout.{laid, marked_as_operand, is_computed}
+use Rattle.ecma_layout.specs.declared.look.Stand.TheVariants.{Alone, Operand}
+use Rattle.ecma_layout.specs.Looks.{◌·◌, text, when, gap_or, blank}
+use Rattle.ecma_layout.specs.Layout.{laid, marked_as_operand}
 use Rattle.ecma_layout.specs.Words.{sign_of}
 use Rattle.ecma_lexeme.specs.declared.goal.LexicalGoal.TheVariants.{Div}
 use Rattle.ecma_written_laws.proofs.Keywords.{delete_word, in_word, instanceof_word, typeof_word, void_word}

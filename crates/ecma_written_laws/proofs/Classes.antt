@@ -1,23 +1,22 @@
 -- Classes and their members.
-use Rattle.std.proofs.Common.{◌≡◌, ℕ, ◌≤◌, ◌⊎◌, inl, inr, ⊎_elim, Bool, true, false, ◌&&◌, ◌||◌, not, List, [], ◌∷◌, Option, Some, None, refl, sym, ap, subst, ◌∙◌, arith}
-use Rattle.std.specs.Prelude.{◌==◌, nat_le, codes, if◌then◌else◌}
-use Rattle.std.proofs.lemmas.Bool.{cases_Bool, false≢true, true≢false, and_parts, not-true}
+use Rattle.std.proofs.Common.{◌≡◌, ℕ, ◌≤◌, ◌⊎◌, Bool, true, false, refl, ap, ◌∙◌}
+use Rattle.std.specs.Prelude.{◌==◌, codes, if◌then◌else◌}
+use Rattle.std.proofs.lemmas.Bool.{false≢true}
 use Rattle.ecma_token.specs.declared.place.Span.{Span}
-use Rattle.ecma_token.specs.Words.{own_text}
 use Rattle.ecma_token.specs.Kinds.{get_kind, set_kind}
-use Rattle.ecma_tree.specs.Tree.{Tree, Trees, none, more, plain_method, class, class_expr, class_decl, constructor, private_method, class_prop, private_prop, static_block, auto_accessor, function, block_stmt, private_name}
-use Rattle.ecma_syntax.specs.Shape.{level, is_key, is_private, is_any_key}
-use Rattle.ecma_edge.specs.Edges.{starts_with_word, ends_with_word, is_there}
+use Rattle.ecma_tree.specs.Tree.{Tree, Trees, none, plain_method, class, class_expr, class_decl, constructor, private_method, class_prop, private_prop, static_block, auto_accessor, function, block_stmt, private_name}
+use Rattle.ecma_syntax.specs.Shape.{level, is_key, is_private}
+use Rattle.ecma_edge.specs.Edges.{starts_with_word, is_there}
 use Rattle.ecma_layout.specs.declared.look.Look.{Look}
 use Rattle.ecma_layout.specs.declared.look.Stand.{Stand}
-use Rattle.ecma_layout.specs.declared.look.Stand.TheVariants.{Alone, Body, Key}
-use Rattle.ecma_layout.specs.Looks.{Laid, ◌·◌, text, when, gap, gap_or, blank, semi, start, end}
-use Rattle.ecma_layout.specs.Layout.{laid, rows, class_head, class_tail, separated, comma, in_parens, word, method_marks, function_tail, field_value, initial, is_sequence}
-use Rattle.ecma_written_tiles.specs.Categories.{State, Fresh, Clear, Shut, Worded, Operated, Operator, is_open, is_end, is_wordless, takes, blank_behind}
+use Rattle.ecma_layout.specs.declared.look.Stand.TheVariants.{Alone, Key}
+use Rattle.ecma_layout.specs.Looks.{◌·◌, text, when, gap_or, blank}
+use Rattle.ecma_layout.specs.Layout.{laid, rows, class_head, class_tail, in_parens, word, method_marks, field_value, is_sequence}
+use Rattle.ecma_written_tiles.specs.Categories.{State, Fresh, Clear, Shut, Worded, Operated, Operator, is_open, is_end, is_wordless, blank_behind}
 use Rattle.ecma_written_laws.proofs.Keywords.{class_word, extends_word, static_word, constructor_word, accessor_word, async_word}
 use Rattle.ecma_written_laws.proofs.Marks.{left_paren, right_paren, left_brace, equals_mark, times_mark}
-use Rattle.ecma_written_laws.proofs.Admits.{admits, leaves, is_ended, is_nothing, is_starred, starts_otherwise, worded_admits, expression_opens, unstarred, admits_open, admits_word, leaves_open, leaves_end, is_free, free_admits, free_open}
-use Rattle.ecma_written_laws.proofs.Steps.{Steps, At, Blanked, ◌▸◌, ends, at, either, apart, mark, committed, nil, text_by, shut, worded, braced, blanks, semicolons, when_goes, if_goes, gaps, gaps_or}
+use Rattle.ecma_written_laws.proofs.Admits.{admits, leaves, is_starred, worded_admits, expression_opens, unstarred, admits_word, leaves_open, leaves_end, is_free, free_admits, free_open}
+use Rattle.ecma_written_laws.proofs.Steps.{Steps, At, ◌▸◌, ends, at, either, apart, mark, nil, text_by, shut, worded, braced, blanks, semicolons, when_goes, if_goes, gaps, gaps_or}
 use Rattle.ecma_written_laws.proofs.Forms.{Good, AllGood}
 use Rattle.ecma_written_laws.proofs.Names.{leaving, commas_go}
 use Rattle.ecma_written_laws.proofs.Statements.{AllItems}

@@ -1,20 +1,16 @@
 -- Evidence that parts of nodes are no odd trees, from what the grammar says of the nodes.
-use Rattle.std.proofs.Common.{◌≡◌, ℕ, ◌+◌, ◌≤◌, ◌⊎◌, inl, inr, ⊎_elim, Bool, true, false, ◌&&◌, ◌||◌, not, List, [], ◌∷◌, Option, Some, None, refl, sym, ap, subst, ◌∙◌, arith}
-use Rattle.std.specs.Prelude.{◌==◌, nat_le, codes, if◌then◌else◌, is_some}
-use Rattle.std.proofs.lemmas.Bool.{cases_Bool, false≢true, true≢false, and_parts, not-true, or_cases, leb-true, eqb-true}
+use Rattle.std.proofs.Common.{◌≡◌, ℕ, ◌+◌, ◌≤◌, inl, inr, Bool, true, false, ◌||◌, not, Option, Some, None, refl, sym, subst, arith}
+use Rattle.std.specs.Prelude.{◌==◌, nat_le, if◌then◌else◌}
+use Rattle.std.proofs.lemmas.Bool.{true≢false, leb-true, eqb-true}
 use Rattle.ecma_token.specs.declared.place.Span.{Span}
 use Rattle.std.proofs.lemmas.Bool.Decides.{nat_tests}
 use Rattle.ecma_token.specs.Kinds.{in_kind, from_kind, set_kind, exp_kind, nullish_coalescing_kind, assign_kind, right_paren_kind, right_brace_kind}
-use Rattle.ecma_tree.specs.Tree.{Tree, Trees, none, more, plain_method, tpl_element, script, es_module, catch_clause, function, block_stmt, ident, import_default_specifier, import_star_as_specifier, export_namespace_specifier}
+use Rattle.ecma_tree.specs.Tree.{Tree, Trees, none, more, plain_method, tpl_element, script, es_module, catch_clause, function, block_stmt, ident, export_namespace_specifier}
 use Rattle.ecma_syntax.specs.Input.{Input, Code, has_in, setting, TakesWord}
 use Rattle.ecma_syntax.specs.Operators.{assignment_level, call_level, coalesce_level, bit_or_level, exponent_level, update_level, binary_level, right_level, operates, expression_level}
 use Rattle.ecma_syntax.specs.Shape.{level, is_param, is_element, is_attributes, is_absent, is_member, is_item, is_place, is_item_pat, is_target, is_string, is_bound_name, fits_left, is_chain, export_name, is_named_import, is_named_export, is_default_import, is_star_import, is_star_export, is_word_name, is_private, count_of}
-use Rattle.ecma_edge.specs.Edges.{starts_with_word, ends_with_word, is_there, last_ends_with_word}
 use Rattle.ecma_grammar.specs.Grammar.{Produces, children}
-use Rattle.ecma_layout.specs.declared.look.Look.{Look}
-use Rattle.ecma_layout.specs.declared.look.Stand.{Stand}
-use Rattle.ecma_layout.specs.declared.look.Stand.TheVariants.{Alone, Body, Key, Tagged}
-use Rattle.ecma_grammar.specs.Children.{is_ident, Child, child, By, IsEmpty, Sorted, Listed, Expr, CommaThen}
+use Rattle.ecma_grammar.specs.Children.{child, By, IsEmpty, Expr}
 use Rattle.ecma_grammar.specs.Functions.{Parameters, SetParameter, Closes, Body as BodyOf, Function, Method, Members, ArrowParameters, ArrowPattern, BareName}
 use Rattle.ecma_grammar.specs.Expressions.{Element, ChainMember, ChainCall, Sequence, Yield, AccessedName, Dotted, Bracketed}
 use Rattle.ecma_grammar.specs.Statements.{ForExpression}

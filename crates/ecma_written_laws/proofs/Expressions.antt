@@ -1,31 +1,29 @@
 -- Expressions of several parts: lists, assignments, operators that are words.
-use Rattle.std.proofs.Common.{◌≡◌, ℕ, ◌≤◌, ◌⊎◌, inl, inr, ⊎_elim, Bool, true, false, ◌&&◌, ◌||◌, not, List, [], ◌∷◌, Option, Some, None, refl, sym, ap, subst, ◌∙◌, arith}
-use Rattle.std.specs.Prelude.{◌==◌, nat_le, codes, if◌then◌else◌}
-use Rattle.std.proofs.lemmas.Bool.{cases_Bool, false≢true, true≢false, and_parts, not-true, or_cases}
+use Rattle.std.proofs.Common.{◌≡◌, ℕ, ◌≤◌, ◌⊎◌, inr, ⊎_elim, Bool, true, false, ◌&&◌, ◌||◌, not, refl, sym, ap, ◌∙◌, arith}
+use Rattle.std.specs.Prelude.{◌==◌, nat_le}
+use Rattle.std.proofs.lemmas.Bool.{false≢true, true≢false, and_parts, not-true}
 use Rattle.ecma_token.specs.declared.place.Span.{Span}
-use Rattle.ecma_token.specs.Operators.{operator_text}
-use Rattle.ecma_token.specs.Kinds.{assign_kind, right_bracket_kind, right_brace_kind, right_paren_kind}
-use Rattle.ecma_tree.specs.Tree.{Tree, Trees, none, more, array_lit, object_lit, assign_expr, seq_expr, await_expr, yield_expr, spread_element, expr_or_spread, key_value_prop, assign_prop, list, new_expr, binding_ident, member_expr, super_prop_expr, paren_expr, array_pat, object_pat, ident_name, str_lit, number_lit, big_int_lit, computed_prop_name, absent, hole}
-use Rattle.ecma_syntax.specs.Input.{Input, Code, with_in}
-use Rattle.ecma_syntax.specs.Operators.{assignment_level, unary_level, new_level, member_level, is_assign_op}
-use Rattle.ecma_syntax.specs.Shape.{level, is_element, is_prop, is_absent, is_target, is_bound_name, is_target_expr, is_structured, is_simple, is_key}
+use Rattle.ecma_token.specs.Kinds.{assign_kind}
+use Rattle.ecma_tree.specs.Tree.{Tree, Trees, none, more, array_lit, object_lit, assign_expr, seq_expr, await_expr, yield_expr, spread_element, key_value_prop, list, new_expr, binding_ident, member_expr, super_prop_expr, paren_expr, array_pat, object_pat}
+use Rattle.ecma_syntax.specs.Input.{Input, Code}
+use Rattle.ecma_syntax.specs.Operators.{assignment_level, is_assign_op}
+use Rattle.ecma_syntax.specs.Shape.{level, is_target}
 use Rattle.ecma_edge.specs.Edges.{starts_with_word, ends_with_word, is_there}
-use Rattle.ecma_grammar.specs.Children.{Child, child, Expr, CommaThen}
-use Rattle.ecma_grammar.specs.Expressions.{Yield}
-use Rattle.ecma_grammar.specs.Grammar.{Produces, children}
+use Rattle.ecma_grammar.specs.Children.{Expr, CommaThen}
+use Rattle.ecma_grammar.specs.Grammar.{children}
 use Rattle.ecma_layout.specs.declared.look.Look.{Look}
 use Rattle.ecma_layout.specs.declared.look.Stand.{Stand}
 use Rattle.ecma_layout.specs.declared.look.Stand.TheVariants.{Alone, Head, Key}
-use Rattle.ecma_layout.specs.Looks.{Laid, ◌·◌, text, when, gap, gap_or, formats, start, end}
-use Rattle.ecma_layout.specs.Layout.{laid, separated, comma, comma_line, indented, ends_with_hole, in_parens, is_head, has_arguments, word}
-use Rattle.ecma_written_tiles.specs.Categories.{State, Fresh, Clear, Shut, Worded, Numbered, Pointed, Plused, Minused, Slashed, Lessed, LessBanged, Dotted, Operated, Decred, Hashed, Quasied, Category, Word, Dots, Operator, is_open, is_end, is_wordless, takes, behind, blank_behind}
+use Rattle.ecma_layout.specs.Looks.{Laid, ◌·◌, when, formats}
+use Rattle.ecma_layout.specs.Layout.{laid, separated, comma, comma_line, indented, ends_with_hole, in_parens, is_head, has_arguments}
+use Rattle.ecma_written_tiles.specs.Categories.{State, Fresh, Clear, Shut, Worded, Operated, Dots, Operator, is_open, takes}
 use Rattle.ecma_written_laws.proofs.Keywords.{await_word, yield_word, new_word}
-use Rattle.ecma_written_laws.proofs.Marks.{left_bracket, right_bracket, left_brace, left_paren, right_paren, comma_mark, colon_mark, dots_mark, equals_mark, times_mark}
+use Rattle.ecma_written_laws.proofs.Marks.{left_bracket, right_bracket, left_brace, left_paren, right_paren, comma_mark, colon_mark, times_mark}
 use Rattle.ecma_written_laws.proofs.Assignments.{assignments}
-use Rattle.ecma_written_laws.proofs.Admits.{admits, leaves, is_ended, is_nothing, numeric, passes, expression_plain, expression_opens, worded_admits, unstarred, admits_open, admits_word, leaves_open, leaves_end, is_free, free_admits, free_open, loose_admits, or_none, and_false, both_true}
-use Rattle.ecma_written_laws.proofs.Steps.{Steps, At, Blanked, ◌▸◌, ends, at, either, apart, mark, committed, nil, text_by, shut, worded, braced, blanks, when_goes, if_goes, gaps, gaps_or, lines, deepens, comes_back}
-use Rattle.ecma_written_laws.proofs.Forms.{Good, AllGood, Sound, AllSound, all_sorted, maybe_good, not_absent, by_second}
-use Rattle.ecma_written_laws.proofs.Names.{leaving, commas_go, arguments}
+use Rattle.ecma_written_laws.proofs.Admits.{admits, leaves, is_ended, numeric, passes, expression_plain, expression_opens, worded_admits, unstarred, admits_open, admits_word, leaves_open, leaves_end, is_free, free_admits, free_open, loose_admits, or_none}
+use Rattle.ecma_written_laws.proofs.Steps.{Steps, ◌▸◌, ends, at, either, apart, mark, committed, nil, text_by, shut, worded, braced, blanks, when_goes, gaps, gaps_or, lines, deepens, comes_back}
+use Rattle.ecma_written_laws.proofs.Forms.{Good, AllGood, Sound, AllSound}
+use Rattle.ecma_written_laws.proofs.Names.{leaving, commas_go}
 use Rattle.ecma_written_laws.proofs.Further.{gapped, last_leaves, AllDeclared, declared_go}
 
 module _ (look : Look) where

@@ -1,18 +1,16 @@
 -- The texts of names and literals that were read, as they are written, fit.
-use Rattle.std.proofs.Common.{◌≡◌, ◌≢◌, ℕ, ⊎_elim, Bool, true, false, ◌&&◌, ◌||◌, if◌then◌else◌, List, [], ◌∷◌, ◌++◌, Option, Some, None, refl, sym, ap, subst, ◌∙◌, append_assoc, arith}
-use Rattle.std.specs.Prelude.{codes, encode_utf8_all, is_some}
+use Rattle.std.proofs.Common.{◌≡◌, ℕ, ⊎_elim, Bool, true, false, ◌||◌, if◌then◌else◌, List, [], ◌∷◌, ◌++◌, Option, Some, refl, sym, ap, subst, ◌∙◌, append_assoc}
+use Rattle.std.specs.Prelude.{encode_utf8_all, is_some}
 use Rattle.std.specs.Str.{chars}
 use Rattle.std.specs.List.{flat_map}
 use Rattle.std.specs.Char.Escape.{encode_utf16}
-use Rattle.std.proofs.lemmas.Bool.{cases_Bool, false≢true}
+use Rattle.std.proofs.lemmas.Bool.{cases_Bool}
 use Rattle.std.proofs.lemmas.List.{append-nil}
 use Rattle.std.proofs.lemmas.Str.{chars-encodes}
-use lib.Utf8.{scalars}
 use Rattle.ecma_number.specs.Numbers.{SpecNumber, number_of}
 use Rattle.ecma_token.specs.Tokens.{Quoted, Numeral, BigNumeral, Piece, Pattern}
-use Rattle.ecma_scan.specs.Names.{is_continuing, IsName}
-use Rattle.ecma_scan.specs.Runs.{Ends, Each}
-use Rattle.ecma_literal.specs.Numbers.{Number as NumberMeaning, BigInt, SpellsNumber}
+use Rattle.ecma_scan.specs.Names.{IsName}
+use Rattle.ecma_literal.specs.Numbers.{Number as NumberMeaning, BigInt}
 use Rattle.ecma_literal.specs.Strings.{SpellsString}
 use Rattle.ecma_literal.proofs.StandLemmas.{number_stands}
 use Rattle.ecma_lexeme.specs.declared.goal.LexicalGoal.TheVariants.{Div, RegExp, TemplateTail}

@@ -1,26 +1,26 @@
 -- Functions, and methods of objects.
-use Rattle.std.proofs.Common.{◌≡◌, ℕ, ◌≤◌, ◌⊎◌, inl, inr, ⊎_elim, Bool, true, false, ◌&&◌, ◌||◌, not, List, [], ◌∷◌, Option, Some, None, refl, sym, ap, subst, ◌∙◌, arith}
-use Rattle.std.specs.Prelude.{◌==◌, nat_le, codes, if◌then◌else◌}
-use Rattle.std.proofs.lemmas.Bool.{cases_Bool, false≢true, true≢false, and_parts, not-true}
+use Rattle.std.proofs.Common.{◌≡◌, ⊎_elim, Bool, true, refl, sym, ap, subst, ◌∙◌}
+use Rattle.std.specs.Prelude.{codes, if◌then◌else◌}
+use Rattle.std.proofs.lemmas.Bool.{false≢true}
 use Rattle.ecma_token.specs.declared.place.Span.{Span}
-use Rattle.ecma_tree.specs.Tree.{Tree, Trees, none, more, fn_expr, fn_decl, function, block_stmt, getter_prop, setter_prop, method_prop}
-use Rattle.ecma_syntax.specs.Shape.{level, is_key}
-use Rattle.ecma_edge.specs.Edges.{starts_with_word, ends_with_word, is_there}
+use Rattle.ecma_tree.specs.Tree.{Tree, Trees, fn_expr, fn_decl, function, block_stmt, getter_prop, setter_prop, method_prop}
+use Rattle.ecma_syntax.specs.Shape.{is_key}
+use Rattle.ecma_edge.specs.Edges.{is_there}
 use Rattle.ecma_layout.specs.declared.look.Look.{Look}
 use Rattle.ecma_layout.specs.declared.look.Stand.{Stand}
 use Rattle.ecma_layout.specs.declared.look.Stand.TheVariants.{Alone, Body, Key}
-use Rattle.ecma_layout.specs.Looks.{Laid, ◌·◌, text, when, gap, blank, start, end}
-use Rattle.ecma_layout.specs.Layout.{laid, separated, comma, function_tail, in_parens, word, is_bracketed_key, method_marks, is_block}
-use Rattle.ecma_written_tiles.specs.Categories.{State, Fresh, Clear, Shut, Worded, Operated, Operator, is_open, is_end, is_wordless, takes, behind, blank_behind}
+use Rattle.ecma_layout.specs.Looks.{◌·◌, text, when, gap, blank}
+use Rattle.ecma_layout.specs.Layout.{laid, separated, comma, function_tail, in_parens, word, is_bracketed_key}
+use Rattle.ecma_written_tiles.specs.Categories.{State, Fresh, Clear, Shut, Worded, Operated, Operator, is_open, is_end, is_wordless, blank_behind}
 use Rattle.ecma_written_laws.proofs.Keywords.{async_word, function_word, get_word, set_word}
 use Rattle.ecma_written_laws.proofs.Marks.{left_paren, right_paren, times_mark}
-use Rattle.ecma_written_laws.proofs.Admits.{admits, leaves, is_ended, is_nothing, is_starred, starts_otherwise, worded_admits, admits_open, admits_word, leaves_open, leaves_end, is_free, free_admits, free_open, both_true}
-use Rattle.ecma_written_laws.proofs.Steps.{Steps, At, Blanked, ◌▸◌, ends, at, either, apart, mark, committed, nil, text_by, shut, worded, braced, blanks, when_goes, if_goes, gaps, gaps_or}
+use Rattle.ecma_written_laws.proofs.Admits.{admits, leaves, admits_word, leaves_open, is_free, free_admits}
+use Rattle.ecma_written_laws.proofs.Steps.{Steps, ◌▸◌, ends, at, either, mark, committed, text_by, shut, worded, blanks, when_goes, if_goes, gaps}
 use Rattle.ecma_written_laws.proofs.Forms.{Good, AllGood}
-use Rattle.ecma_written_laws.proofs.Names.{leaving, commas_go}
+use Rattle.ecma_written_laws.proofs.Names.{commas_go}
 use Rattle.ecma_written_laws.proofs.Statements.{AllItems, block_good, block_leaves}
-use Rattle.ecma_written_laws.proofs.Further.{key_opens, key_operated, marks_go, free_wordless}
-use Rattle.ecma_written_laws.proofs.Patterns.{inner_admits, key_unstarred, blank_open}
+use Rattle.ecma_written_laws.proofs.Further.{marks_go, free_wordless}
+use Rattle.ecma_written_laws.proofs.Patterns.{blank_open}
 
 module _ (look : Look) where
   -- parameters and a body, which leaves what a block leaves

@@ -1,28 +1,25 @@
 -- Further nodes: assignments, conditions, variables, loops, methods.
-use Rattle.std.proofs.Common.{◌≡◌, ℕ, ◌+◌, ◌<◌, ◌≤◌, ◌⊎◌, inl, inr, ⊎_elim, Bool, true, false, ◌&&◌, ◌||◌, not, List, [], ◌∷◌, Option, Some, None, refl, sym, ap, subst, ◌∙◌, arith}
-use Rattle.std.specs.Prelude.{◌==◌, nat_le, codes, if◌then◌else◌}
-use Rattle.std.proofs.lemmas.Bool.{cases_Bool, false≢true, true≢false, and_parts, not-true, or_cases, eqb-true}
+use Rattle.std.proofs.Common.{◌≡◌, ℕ, ◌≤◌, ◌⊎◌, inl, inr, ⊎_elim, Bool, true, false, ◌&&◌, ◌||◌, not, List, refl, sym, ap, subst, ◌∙◌, arith}
+use Rattle.std.specs.Prelude.{◌==◌, codes, if◌then◌else◌}
+use Rattle.std.proofs.lemmas.Bool.{false≢true, and_parts, not-true}
 use Rattle.ecma_token.specs.declared.place.Span.{Span}
 use Rattle.ecma_token.specs.Words.{own_text}
 use Rattle.ecma_token.specs.Kinds.{get_kind, set_kind}
-use Rattle.ecma_tree.specs.Tree.{Tree, Trees, none, more, plain_method, cond_expr, assign_expr, var_declarator, var_decl, for_in_stmt, labeled_stmt, do_while_stmt, class_method, function, block_stmt, seq_expr, yield_expr, absent, array_pat, object_pat, rest_pat, binding_ident, ident_name, str_lit, number_lit, big_int_lit, computed_prop_name}
-use Rattle.ecma_syntax.specs.Input.{Input, Code}
-use Rattle.ecma_syntax.specs.Operators.{coalesce_level, assignment_level, call_level}
-use Rattle.ecma_syntax.specs.Shape.{level, is_item, is_private, is_binding, is_key}
+use Rattle.ecma_tree.specs.Tree.{Tree, Trees, none, more, plain_method, cond_expr, var_declarator, var_decl, for_in_stmt, class_method, function, absent, array_pat, object_pat, binding_ident, ident_name, str_lit, number_lit, big_int_lit, computed_prop_name}
+use Rattle.ecma_syntax.specs.Shape.{level, is_binding, is_key}
 use Rattle.ecma_edge.specs.Edges.{starts_with_word, ends_with_word, is_there, last_ends_with_word}
-use Rattle.ecma_grammar.specs.Grammar.{Produces, children}
 use Rattle.ecma_layout.specs.declared.look.Look.{Look}
 use Rattle.ecma_layout.specs.declared.look.Stand.{Stand}
-use Rattle.ecma_layout.specs.declared.look.Stand.TheVariants.{Alone, Body, Key}
-use Rattle.ecma_layout.specs.Looks.{Laid, ◌·◌, text, when, gap_or, gap, blank, start, semi, formats}
-use Rattle.ecma_layout.specs.Layout.{laid, separated, comma, closing, initial, in_parens, is_computed, starts_bracketed, word, each, after_static, method_marks}
+use Rattle.ecma_layout.specs.declared.look.Stand.TheVariants.{Alone, Key}
+use Rattle.ecma_layout.specs.Looks.{Laid, ◌·◌, text, when, gap_or, gap}
+use Rattle.ecma_layout.specs.Layout.{laid, separated, comma, closing, starts_bracketed, word, after_static, method_marks}
 use Rattle.ecma_lexeme.specs.declared.goal.LexicalGoal.TheVariants.{Div}
 use Rattle.unicode_ident.proofs.Computing.{unicode_ident}
 use Rattle.ecma_written.proofs.PlainWords.{are_parts, is_plain_word}
 use Rattle.ecma_written_laws.proofs.Keywords.{for_word, static_word, async_word, in_word}
 use Rattle.ecma_written_laws.proofs.Marks.{colon_mark, comma_mark, equals_mark, left_paren, question_mark, right_paren, times_mark}
 use Rattle.ecma_written_laws.proofs.Words.{keyword}
-use Rattle.ecma_written_laws.proofs.Admits.{unstarred, admits, admits_word, and_false, at_least, both_true, expression_opens, expression_plain, free_admits, free_open, is_ended, is_free, is_nothing, leaves, leaves_end, leaves_open, leaves_wordless, loose_admits, numeric, or_second, passes, starts_otherwise, worded_admits}
+use Rattle.ecma_written_laws.proofs.Admits.{unstarred, admits, admits_word, and_false, both_true, expression_opens, expression_plain, free_admits, free_open, is_ended, is_free, is_nothing, leaves, leaves_end, leaves_open, leaves_wordless, loose_admits, numeric, passes, starts_otherwise, worded_admits}
 use Rattle.ecma_written_laws.proofs.Forms.{AllGood, Good, Sound}
 use Rattle.ecma_written_laws.proofs.Names.{commas_go}
 use Rattle.ecma_written_laws.proofs.Statements.{Item, closes}

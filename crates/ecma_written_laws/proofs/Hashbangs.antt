@@ -1,11 +1,10 @@
 -- A hashbang of a text is one on its line; and every program that reads a text goes.
-use Rattle.std.proofs.Common.{◌≡◌, ℕ, ◌+◌, ◌⊎◌, inl, inr, Bool, true, false, ◌||◌, List, [], ◌∷◌, ◌++◌, Option, Some, None, refl, sym, ap, subst, ◌∙◌}
+use Rattle.std.proofs.Common.{◌≡◌, ℕ, inl, inr, Bool, true, false, List, [], ◌∷◌, Some, None, sym, ap, subst, ◌∙◌}
 use Rattle.std.specs.Prelude.{encode_utf8_all}
-use Rattle.std.specs.Str.{chars, IsUtf8}
 use lib.Utf8.{scalars}
 use Rattle.std.proofs.lemmas.Str.{chars-encodes}
 use Rattle.std.proofs.lemmas.Bool.{false≢true}
-use Rattle.ecma_token.specs.Tokens.{Spot, SpecToken, Content, Bare, Named, Quoted, Piece, Pattern, Numeral, BigNumeral, Line, Faulty}
+use Rattle.ecma_token.specs.Tokens.{Spot, SpecToken, Content, Line}
 use Rattle.ecma_token_source.specs.Machine.{told}
 use Rattle.ecma_scan.specs.Classes.{is_line_char}
 use Rattle.ecma_scan.specs.Runs.{Each}
@@ -13,10 +12,10 @@ use Rattle.ecma_literal.specs.Numbers.{Meaning, Number, BigInt}
 use Rattle.ecma_lexeme.specs.declared.goal.LexicalGoal.{LexicalGoal}
 use Rattle.ecma_lexeme.specs.declared.goal.LexicalGoal.TheVariants.{Div, RegExp, TemplateTail, TemplateEnd}
 use Rattle.ecma_lexeme.specs.Lexemes.{SpecLexeme, IsLexeme, IsOutside, numeral_lexeme}
-use Rattle.ecma_tree.specs.Tree.{Tree, script, es_module}
-use Rattle.ecma_syntax.specs.Input.{PlacedToken, Input, content_of}
+use Rattle.ecma_tree.specs.Tree.{script, es_module}
+use Rattle.ecma_syntax.specs.Input.{PlacedToken, content_of}
 use Rattle.ecma_program_text.specs.Tiled.{Tile, goal_at}
-use Rattle.ecma_program_text.specs.Text.{Reads, text_start, code_of}
+use Rattle.ecma_program_text.specs.Text.{text_start, code_of}
 use Rattle.ecma_written.proofs.Known.{left, scalars_front, tokens_are_known}
 use Rattle.ecma_written_tiles.specs.Tiles.{IsHashbangText}
 use Rattle.ecma_written_laws.specs.TiledLaws.{ProgramsGo}

@@ -1,35 +1,33 @@
 -- Names and literals that are read as tokens, whatever their categories let follow, are tokens of these categories.
-use Rattle.std.proofs.Common.{◌≡◌, ◌≢◌, ℕ, ◌+◌, ◌⊎◌, inl, inr, ⊎_elim, Bool, true, false, ◌&&◌, ◌||◌, not, List, [], ◌∷◌, ◌++◌, Option, Some, None, refl, sym, ap, subst, ◌∙◌, append_assoc}
-use Rattle.std.specs.Prelude.{◌==◌, codes, encode_utf8_all, bytes_eq}
+use Rattle.std.proofs.Common.{◌≡◌, ◌≢◌, ℕ, inl, inr, ⊎_elim, Bool, true, false, ◌&&◌, not, List, [], ◌∷◌, ◌++◌, Option, refl, sym, ap, subst, ◌∙◌, append_assoc}
+use Rattle.std.specs.Prelude.{◌==◌, codes, encode_utf8_all}
 use Rattle.std.specs.Str.{chars, IsUtf8}
-use Rattle.std.proofs.lemmas.Slice.Eq.{bytes_eq-Decides}
 use Rattle.std.proofs.lemmas.Str.{chars-encodes}
-use Rattle.std.proofs.lemmas.Bool.{cases_Bool, false≢true, true≢false, and_parts, not-true, or_cases, eqb-true, eq-eqb}
-use Rattle.std.proofs.lemmas.List.{append-nil, append_cancel_right}
+use Rattle.std.proofs.lemmas.Bool.{cases_Bool, false≢true, and_parts, not-true, or_cases, eqb-true, eq-eqb}
+use Rattle.std.proofs.lemmas.List.{append-nil}
 use lib.Utf8.{scalars}
 use Rattle.unicode_ident.proofs.Computing.{unicode_ident}
-use Rattle.ecma_number.specs.Numbers.{SpecNumber}
 use Rattle.ecma_scan.specs.Characters.{is_among, is_name_part, is_white_space, is_line_terminator, white_space, line_terminators}
 use Rattle.ecma_scan.specs.Classes.{is_line_char}
 use Rattle.ecma_scan.proofs.Apart.{among_passes}
 use Rattle.std.specs.List.{list_all}
 use Rattle.ecma_scan.specs.Names.{is_continuing, is_opening, IsName}
 use Rattle.ecma_scan.specs.Runs.{Ends, Each}
-use Rattle.ecma_scan.specs.RegExps.{IsRegExp, IsBody, Part, Mark, One, Class as ClassPart, Bare, Escaped, EachPart, spelled_parts, is_body_char}
+use Rattle.ecma_scan.specs.RegExps.{IsBody, Part, One, Class as ClassPart, Bare, Escaped, EachPart, spelled_parts}
 use Rattle.ecma_literal.specs.declared.template.Ending.{Ending}
 use Rattle.ecma_literal.specs.declared.template.Ending.TheVariants.{BackQuote, Substitution}
 use Rattle.ecma_literal.specs.Escapes.{begins, is_decimal}
-use Rattle.ecma_literal.specs.Numbers.{is_barred, Meaning, Number as NumberMeaning, BigInt, SpellsNumber, is_number_start, legacy_of}
-use Rattle.ecma_literal.specs.Standing.{is_point, takes_point, MayFollow}
+use Rattle.ecma_literal.specs.Numbers.{is_barred, Meaning, SpellsNumber, is_number_start}
+use Rattle.ecma_literal.specs.Standing.{is_point, MayFollow}
 use Rattle.ecma_literal.specs.Strings.{SpellsString, is_quote}
 use Rattle.ecma_literal.specs.Templates as templates
 use Rattle.ecma_lexeme.specs.declared.goal.LexicalGoal.TheVariants.{Div, RegExp, TemplateTail, TemplateEnd}
-use Rattle.ecma_lexeme.specs.Lexemes.{SpecLexeme, IsLexeme, IsWord, IsMarked, word_lexeme, numeral_lexeme, string_lexeme, pattern_lexeme, template_lexeme, plain, ending_kind}
+use Rattle.ecma_lexeme.specs.Lexemes.{SpecLexeme, IsLexeme, word_lexeme, numeral_lexeme, string_lexeme, pattern_lexeme, template_lexeme, plain, ending_kind}
 use Rattle.ecma_token.specs.Tokens.{bare}
 use Rattle.ecma_lexeme.proofs.SortLemmas.{word_begins, string_begins}
 use Rattle.ecma_literal.proofs.NumeralLemmas.{numeral_starts}
 use Rattle.ecma_lexicon.proofs.Words.{same_mark}
-use Rattle.ecma_written.proofs.Ascii.{Ascii, ascii, is_ascii}
+use Rattle.ecma_written.proofs.Ascii.{ascii, is_ascii}
 use Rattle.ecma_written_tiles.specs.Categories.{Category, Word, Number, Big, Member, Str, Regex, Quasi, End}
 use Rattle.ecma_written_tiles.specs.Following.{Front, Starts, is_wordy, is_dotty, is_safe, never, Needs, QuietUnder, Quiet}
 use Rattle.ecma_written_tiles.specs.Goes.{Fits}

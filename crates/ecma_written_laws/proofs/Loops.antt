@@ -1,35 +1,35 @@
 -- Loops, `switch`, `try` and the other statements.
-use Rattle.std.proofs.Common.{◌≡◌, ℕ, ◌≤◌, ◌⊎◌, inl, inr, ⊎_elim, Bool, true, false, ◌&&◌, ◌||◌, not, List, [], ◌∷◌, Option, Some, None, refl, sym, ap, subst, ◌∙◌, arith}
-use Rattle.std.specs.Prelude.{◌==◌, nat_le, codes, if◌then◌else◌}
-use Rattle.std.proofs.lemmas.Bool.{cases_Bool, false≢true, true≢false, and_parts, not-true, eqb-true, or_cases}
+use Rattle.std.proofs.Common.{◌≡◌, ℕ, ◌≤◌, ◌⊎◌, inl, inr, ⊎_elim, Bool, true, false, ◌&&◌, ◌||◌, not, List, refl, sym, ap, subst, ◌∙◌}
+use Rattle.std.specs.Prelude.{◌==◌, codes}
+use Rattle.std.proofs.lemmas.Bool.{false≢true, eqb-true, or_cases}
 use Rattle.unicode_ident.proofs.Computing.{unicode_ident}
 use Rattle.ecma_token.specs.declared.place.Span.{Span}
 use Rattle.ecma_token.specs.Words.{own_text}
 use Rattle.ecma_token.specs.Kinds.{var_kind, let_kind, const_kind}
-use Rattle.ecma_tree.specs.Tree.{Tree, Trees, none, more, ident, block_stmt, empty_stmt, debugger_stmt, with_stmt, labeled_stmt, break_stmt, continue_stmt, switch_stmt, switch_case, throw_stmt, try_stmt, catch_clause, while_stmt, do_while_stmt, for_stmt, for_of_stmt, using_decl, var_decl}
-use Rattle.ecma_syntax.specs.Shape.{level, is_item}
-use Rattle.ecma_edge.specs.Edges.{starts_with_word, ends_with_word, is_there, last_ends_with_word}
+use Rattle.ecma_tree.specs.Tree.{Tree, Trees, none, more, ident, block_stmt, empty_stmt, debugger_stmt, with_stmt, labeled_stmt, break_stmt, continue_stmt, switch_stmt, switch_case, throw_stmt, try_stmt, catch_clause, while_stmt, do_while_stmt, for_stmt, for_of_stmt, using_decl}
+use Rattle.ecma_syntax.specs.Shape.{level}
+use Rattle.ecma_edge.specs.Edges.{starts_with_word, ends_with_word, is_there}
 use Rattle.ecma_grammar.specs.Statements.{is_var_word}
 use Rattle.ecma_lexeme.specs.declared.goal.LexicalGoal.TheVariants.{Div}
 use Rattle.ecma_layout.specs.declared.look.Look.{Look}
 use Rattle.ecma_layout.specs.declared.look.Stand.{Stand}
-use Rattle.ecma_layout.specs.declared.look.Stand.TheVariants.{Alone, Body, Key}
-use Rattle.ecma_layout.specs.Looks.{Laid, ◌·◌, text, when, gap, gap_or, blank, semi, semi_kept, line, deeper, back, start, end, formats}
-use Rattle.ecma_layout.specs.Layout.{laid, rows, closing, indented_or_line, is_variables, is_block, in_parens, separated, comma, word, is_empty}
-use Rattle.ecma_written_tiles.specs.Categories.{State, Fresh, Clear, Shut, Worded, Numbered, Operated, Word, is_open, is_end, is_wordless, takes, blank_behind}
+use Rattle.ecma_layout.specs.declared.look.Stand.TheVariants.{Alone}
+use Rattle.ecma_layout.specs.Looks.{Laid, ◌·◌, text, when, gap, gap_or, blank, semi, line, end}
+use Rattle.ecma_layout.specs.Layout.{laid, rows, closing, indented_or_line, is_block, in_parens, word, is_empty}
+use Rattle.ecma_written_tiles.specs.Categories.{State, Fresh, Clear, Shut, Worded, Operated, Word, is_open, is_wordless, blank_behind}
 use Rattle.ecma_written_tiles.specs.Goes.{Fits}
 use Rattle.ecma_written_tiles.proofs.Marks.{semicolon_mark}
 use Rattle.ecma_written.proofs.PlainWords.{is_plain_word, are_parts}
 use Rattle.ecma_written_laws.proofs.Words.{keyword}
 use Rattle.ecma_written_laws.proofs.Keywords.{debugger_word, with_word, break_word, continue_word, switch_word, case_word, default_word, throw_word, try_word, catch_word, finally_word, while_word, do_word, for_word, await_word, of_word, using_word}
 use Rattle.ecma_written_laws.proofs.Marks.{left_paren, right_paren, left_brace, colon_mark}
-use Rattle.ecma_written_laws.proofs.Admits.{admits, leaves, is_ended, is_nothing, numeric, worded_admits, expression_opens, admits_open, admits_word, leaves_open, leaves_wordless, is_free, free_admits, free_open, both_true, and_false}
-use Rattle.ecma_written_laws.proofs.Steps.{Steps, At, Blanked, ◌▸◌, ends, at, either, apart, mark, committed, nil, text_by, shut, worded, braced, blanks, semicolons, when_goes, if_goes, gaps, gaps_or, lines, deepens, comes_back}
-use Rattle.ecma_written_laws.proofs.Forms.{Good, AllGood}
+use Rattle.ecma_written_laws.proofs.Admits.{admits, leaves, is_ended, is_nothing, worded_admits, expression_opens, admits_open, admits_word, leaves_open, leaves_wordless, is_free, free_admits, free_open, both_true, and_false}
+use Rattle.ecma_written_laws.proofs.Steps.{Steps, At, ◌▸◌, ends, at, either, apart, mark, committed, nil, shut, worded, braced, blanks, semicolons, when_goes, if_goes, gaps, gaps_or, lines, deepens, comes_back}
+use Rattle.ecma_written_laws.proofs.Forms.{Good}
 use Rattle.ecma_written_laws.proofs.Names.{leaving}
 use Rattle.ecma_written_laws.proofs.Statements.{Item, AllItems, closes, free_line, rows_go, item_opens, block_good}
 use Rattle.ecma_written_laws.proofs.Further.{free_wordless, blank_free, AllDeclared, declared_go}
-use Rattle.ecma_written_laws.proofs.Patterns.{first_admits, blank_open}
+use Rattle.ecma_written_laws.proofs.Patterns.{first_admits}
 
 -- ---- what is left behind a statement, a case, a member
 

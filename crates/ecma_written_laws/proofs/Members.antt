@@ -1,23 +1,20 @@
 -- Members, chains, calls and templates behind a tag.
-use Rattle.std.proofs.Common.{◌≡◌, ℕ, ◌≤◌, ◌⊎◌, inl, inr, ⊎_elim, Bool, true, false, ◌&&◌, ◌||◌, not, List, [], ◌∷◌, Option, Some, None, refl, sym, ap, subst, ◌∙◌, arith}
-use Rattle.std.specs.Prelude.{codes, is_some, ◌==◌, ◌+◌, if◌then◌else◌}
-use Rattle.std.proofs.lemmas.Bool.{false≢true, true≢false, and_parts, or_cases, cases_Bool}
+use Rattle.std.proofs.Common.{◌≡◌, ℕ, ◌≤◌, ⊎_elim, Bool, true, false, ◌||◌, not, List, Option, Some, None, refl, sym, ap, subst, ◌∙◌, arith}
+use Rattle.std.specs.Prelude.{◌+◌, if◌then◌else◌}
+use Rattle.std.proofs.lemmas.Bool.{false≢true, true≢false, cases_Bool}
 use Rattle.ecma_token.specs.declared.place.Span.{Span}
 use Rattle.ecma_number.specs.Numbers.{SpecNumber}
 use Rattle.ecma_spell_number.specs.Numbers.{before_member}
-use Rattle.ecma_token.specs.Words.{own_text}
-use Rattle.ecma_tree.specs.Tree.{Tree, Trees, none, more, ident, ident_name, private_name, computed_prop_name, number_lit, str_lit, regex_lit, paren_expr, call_expr, member_expr, bin_expr, unary_expr, update_expr, new_expr, cond_expr, expr_or_spread, expr_stmt, block_stmt, if_stmt, return_stmt, absent, super, import, script, super_prop_expr, opt_chain_expr, opt_call, tagged_tpl, tpl, spread_element}
-use Rattle.ecma_syntax.specs.Input.{Input, Code}
+use Rattle.ecma_tree.specs.Tree.{Tree, Trees, computed_prop_name, number_lit, call_expr, member_expr, expr_or_spread, super, import, super_prop_expr, opt_chain_expr, opt_call, tagged_tpl, tpl, spread_element}
 use Rattle.ecma_syntax.specs.Operators.{call_level}
 use Rattle.ecma_syntax.specs.Shape.{level, is_word_name, is_private, is_chain}
-use Rattle.ecma_grammar.specs.Grammar.{Produces, children}
 use Rattle.ecma_layout.specs.declared.look.Look.{Look}
 use Rattle.ecma_layout.specs.declared.look.Stand.{Stand}
-use Rattle.ecma_layout.specs.declared.look.Stand.TheVariants.{Alone, Head, Key, Tagged}
-use Rattle.ecma_layout.specs.Looks.{Laid, ◌·◌, start, joined}
-use Rattle.ecma_layout.specs.Literals.{name_bytes, key_bytes, string_bytes, number_bytes}
-use Rattle.ecma_layout.specs.Layout.{laid, is_key, is_computed, optional_dot, point_before, count, in_parens, separated, comma}
-use Rattle.ecma_lexeme.specs.declared.goal.LexicalGoal.TheVariants.{Div, RegExp}
+use Rattle.ecma_layout.specs.declared.look.Stand.TheVariants.{Alone, Head, Tagged}
+use Rattle.ecma_layout.specs.Looks.{◌·◌, start}
+use Rattle.ecma_layout.specs.Literals.{number_bytes}
+use Rattle.ecma_layout.specs.Layout.{laid, is_computed, optional_dot, point_before, count, in_parens, separated, comma}
+use Rattle.ecma_lexeme.specs.declared.goal.LexicalGoal.TheVariants.{Div}
 use Rattle.ecma_written_laws.proofs.Keywords.{import_word, super_word}
 use Rattle.ecma_written_laws.proofs.Marks.{dots_mark, left_paren, right_paren}
 use Rattle.ecma_written_laws.proofs.Admits.{admits, admits_word, expression_plain, head_admits, is_number, leaves, leaves_dot, leaves_end, leaves_open, loose_admits, passes}

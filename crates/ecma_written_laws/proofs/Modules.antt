@@ -1,7 +1,7 @@
 -- Imports and exports.
-use Rattle.std.proofs.Common.{◌≡◌, ℕ, ◌≤◌, ◌⊎◌, inl, inr, ⊎_elim, Bool, true, false, ◌&&◌, ◌||◌, not, List, [], ◌∷◌, Option, Some, None, refl, sym, ap, subst, ◌∙◌, arith}
-use Rattle.std.specs.Prelude.{◌==◌, nat_le, codes, if◌then◌else◌, is_some}
-use Rattle.std.proofs.lemmas.Bool.{cases_Bool, false≢true, true≢false, and_parts, not-true, or_cases}
+use Rattle.std.proofs.Common.{◌≡◌, ℕ, ◌≤◌, inl, inr, ⊎_elim, Bool, true, false, ◌&&◌, ◌||◌, not, refl, sym, ap, ◌∙◌}
+use Rattle.std.specs.Prelude.{nat_le, codes, if◌then◌else◌, is_some}
+use Rattle.std.proofs.lemmas.Bool.{false≢true, true≢false}
 use Rattle.ecma_token.specs.declared.place.Span.{Span}
 use Rattle.ecma_tree.specs.Tree.{Tree, Trees, none, more, import_decl, export_decl, named_export, export_default_decl, export_default_expr, export_all, import_named_specifier, import_default_specifier, import_star_as_specifier, export_namespace_specifier, export_named_specifier, class_expr, class_decl, class, fn_expr, fn_decl, function, var_decl, block_stmt, debugger_stmt, ident, str_lit, object_lit, absent}
 use Rattle.ecma_syntax.specs.Operators.{unary_level}
@@ -9,15 +9,15 @@ use Rattle.ecma_syntax.specs.Shape.{level, is_absent, is_string, is_attributes, 
 use Rattle.ecma_edge.specs.Edges.{starts_with_word, ends_with_word, is_there}
 use Rattle.ecma_layout.specs.declared.look.Look.{Look}
 use Rattle.ecma_layout.specs.declared.look.Stand.{Stand}
-use Rattle.ecma_layout.specs.declared.look.Stand.TheVariants.{Alone, Body, Key}
-use Rattle.ecma_layout.specs.Looks.{Laid, ◌·◌, nothing, text, when, gap, gap_or, blank, semi, start, end, brace}
-use Rattle.ecma_layout.specs.Layout.{laid, attributes, from, imports, exports, import_heads, named_items, first_namespace, in_braces, comma, word, starts_with_default, is_named, is_default, has_named, has_default, has_namespace, has_other, is_namespace, is_no_namespace, is_variables}
+use Rattle.ecma_layout.specs.declared.look.Stand.TheVariants.{Alone, Key}
+use Rattle.ecma_layout.specs.Looks.{Laid, ◌·◌, nothing, text, when, gap, blank, semi, start, end, brace}
+use Rattle.ecma_layout.specs.Layout.{laid, attributes, from, imports, exports, import_heads, named_items, first_namespace, in_braces, comma, word, starts_with_default, is_named, has_named, has_default, has_namespace, has_other, is_no_namespace}
 use Rattle.ecma_lexeme.specs.declared.goal.LexicalGoal.TheVariants.{Div}
 use Rattle.ecma_written_tiles.specs.Categories.{State, Fresh, Clear, Shut, Worded, Operated, Operator, Word, is_open, is_end, is_wordless, blank_behind}
 use Rattle.ecma_written_tiles.specs.Goes.{Fits}
 use Rattle.ecma_written_laws.proofs.Keywords.{import_word, from_word, as_word, export_word, default_word, with_word, assert_word}
 use Rattle.ecma_written_laws.proofs.Marks.{comma_mark, left_brace, times_mark}
-use Rattle.ecma_written_laws.proofs.Admits.{admits, leaves, is_tight, is_ended, is_nothing, is_starred, starts_otherwise, numeric, passes, worded_admits, expression_opens, admits_word, leaves_open, leaves_wordless, is_free, free_admits, free_open, or_second}
+use Rattle.ecma_written_laws.proofs.Admits.{admits, leaves, is_tight, is_ended, starts_otherwise, passes, worded_admits, expression_opens, admits_word, leaves_open, leaves_wordless, is_free, free_admits, free_open, or_second}
 use Rattle.ecma_written_laws.proofs.Steps.{Steps, At, Blanked, Apart, ◌▸◌, ends, at, either, apart, mark, nil, text_by, shut, worded, braced, blanks, semicolons, when_goes, if_goes, gaps, gaps_or}
 use Rattle.ecma_written_laws.proofs.Forms.{Good, AllGood}
 use Rattle.ecma_written_laws.proofs.Names.{leaving, by_laid}

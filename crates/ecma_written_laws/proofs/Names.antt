@@ -1,20 +1,19 @@
 -- Nodes: each goes well where its parts do.
-use Rattle.std.proofs.Common.{◌≡◌, ℕ, ◌≤◌, ◌⊎◌, inl, inr, ⊎_elim, Bool, true, false, ◌&&◌, ◌||◌, not, List, [], ◌∷◌, Option, Some, None, refl, sym, ap, subst, ◌∙◌, arith}
-use Rattle.std.specs.Prelude.{◌==◌, nat_le, codes, if◌then◌else◌}
-use Rattle.std.proofs.lemmas.Bool.{cases_Bool, false≢true, true≢false, and_parts, not-true}
+use Rattle.std.proofs.Common.{◌≡◌, ℕ, ◌≤◌, Bool, true, false, ◌&&◌, ◌||◌, not, List, None, refl, sym, ap, subst, ◌∙◌, arith}
+use Rattle.std.proofs.lemmas.Bool.{false≢true, true≢false, and_parts}
 use Rattle.ecma_token.specs.declared.place.Span.{Span}
 use Rattle.ecma_token.specs.Kinds.{right_paren_kind}
-use Rattle.ecma_tree.specs.Tree.{Tree, Trees, none, more, ident, ident_name, private_name, computed_prop_name, number_lit, str_lit, regex_lit, paren_expr, call_expr, member_expr, bin_expr, unary_expr, update_expr, new_expr, arrow_expr, expr_stmt, block_stmt, if_stmt, return_stmt, super, import, list, absent}
+use Rattle.ecma_tree.specs.Tree.{Tree, Trees, none, more, ident, ident_name, private_name, computed_prop_name, number_lit, paren_expr, call_expr, member_expr, expr_stmt}
 use Rattle.ecma_syntax.specs.Input.{Input, Code}
-use Rattle.ecma_syntax.specs.Operators.{new_level, call_level}
-use Rattle.ecma_syntax.specs.Shape.{level, is_element, is_private, is_word_name, is_item}
-use Rattle.ecma_edge.specs.Edges.{starts_with_word, ends_with_word, is_there}
-use Rattle.ecma_grammar.specs.Children.{child, Listed, Sorted}
+use Rattle.ecma_syntax.specs.Operators.{call_level}
+use Rattle.ecma_syntax.specs.Shape.{level, is_element, is_private, is_word_name}
+use Rattle.ecma_edge.specs.Edges.{ends_with_word}
+use Rattle.ecma_grammar.specs.Children.{child}
 use Rattle.ecma_grammar.specs.Grammar.{Produces, children}
 use Rattle.ecma_layout.specs.declared.look.Look.{Look}
 use Rattle.ecma_layout.specs.declared.look.Stand.{Stand}
-use Rattle.ecma_layout.specs.declared.look.Stand.TheVariants.{Alone, Operand, Body, Head, Key}
-use Rattle.ecma_layout.specs.Looks.{Laid, ◌·◌, text, when, start, end}
+use Rattle.ecma_layout.specs.declared.look.Stand.TheVariants.{Alone, Head}
+use Rattle.ecma_layout.specs.Looks.{Laid, ◌·◌, start, end}
 use Rattle.ecma_layout.specs.Literals.{name, identifier as own_name, name_bytes}
 use Rattle.ecma_layout.specs.Layout.{laid, separated, comma, in_parens, is_computed, point_before}
 use Rattle.ecma_lexeme.specs.declared.goal.LexicalGoal.TheVariants.{Div}

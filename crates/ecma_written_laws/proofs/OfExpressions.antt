@@ -1,34 +1,30 @@
 -- Expressions and patterns that produce tokens.
-use Rattle.std.proofs.Common.{◌≡◌, ℕ, ◌+◌, ◌≤◌, ◌⊎◌, inl, inr, ⊎_elim, Bool, true, false, ◌&&◌, ◌||◌, not, List, [], ◌∷◌, Option, Some, None, refl, sym, ap, subst, ◌∙◌, arith}
-use Rattle.std.specs.Prelude.{◌==◌, nat_le, codes, if◌then◌else◌, is_some}
-use Rattle.std.proofs.lemmas.Bool.{cases_Bool, false≢true, true≢false, and_parts, not-true, or_cases}
+use Rattle.std.proofs.Common.{◌≡◌, ℕ, ◌+◌, Bool, true, false, ◌||◌, [], refl, ap, arith}
+use Rattle.std.proofs.lemmas.Bool.{false≢true, true≢false}
 use Rattle.ecma_token.specs.declared.place.Span.{Span}
 use Rattle.ecma_token.specs.Kinds.{right_bracket_kind, right_brace_kind, right_paren_kind}
-use Rattle.ecma_tree.specs.Tree.{Tree, Trees, none, more, array_lit, object_lit, key_value_prop, assign_prop, spread_element, computed_prop_name, tpl, member_expr, super_prop_expr, super, call_expr, import, new_expr, list, opt_chain_expr, opt_call, tagged_tpl, update_expr, await_expr, assign_expr, yield_expr, seq_expr, array_pat, object_pat, assign_pat, rest_pat, key_value_pat_prop, assign_pat_prop, expr_pat, absent}
+use Rattle.ecma_tree.specs.Tree.{Tree, Trees, none, more, array_lit, object_lit, key_value_prop, assign_prop, spread_element, computed_prop_name, tpl, member_expr, super_prop_expr, super, call_expr, import, new_expr, list, opt_chain_expr, opt_call, tagged_tpl, await_expr, assign_expr, yield_expr, seq_expr, array_pat, object_pat, assign_pat, rest_pat, key_value_pat_prop, assign_pat_prop, expr_pat, absent}
 use Rattle.ecma_syntax.specs.Input.{Input, Code}
-use Rattle.ecma_syntax.specs.Operators.{assignment_level, expression_level, call_level, unary_level, member_level}
-use Rattle.ecma_syntax.specs.Shape.{level, is_element, is_prop, is_key, is_private, is_word_name, is_absent}
-use Rattle.ecma_edge.specs.Edges.{starts_with_word, ends_with_word, is_there, last_ends_with_word}
+use Rattle.ecma_syntax.specs.Shape.{is_element, is_prop, is_private, is_word_name}
 use Rattle.ecma_grammar.specs.Grammar.{Produces, children}
 use Rattle.ecma_layout.specs.declared.look.Look.{Look}
 use Rattle.ecma_layout.specs.declared.look.Stand.{Stand}
-use Rattle.ecma_layout.specs.declared.look.Stand.TheVariants.{Alone, Body, Key, Tagged}
-use Rattle.ecma_grammar.specs.Children.{is_ident, Child, child, By, Sorted, Listed, Expr, CommaThen}
-use Rattle.ecma_grammar.specs.Expressions.{ArgumentList, ImportArguments, ImportCall, Call, Member, SuperProperty, Dotted, Bracketed, AccessedName, ChainMember, ChainCall, TemplateSpans, Yield, Sequence}
+use Rattle.ecma_layout.specs.declared.look.Stand.TheVariants.{Alone, Tagged}
+use Rattle.ecma_grammar.specs.Children.{is_ident, child}
+use Rattle.ecma_grammar.specs.Expressions.{ImportArguments, Member, SuperProperty, Dotted, AccessedName, ChainMember, TemplateSpans, Yield}
 use Rattle.ecma_grammar.specs.Patterns.{Item as PatternItem, Property}
-use Rattle.ecma_layout.specs.Layout.{laid, count}
-use Rattle.ecma_layout.specs.Looks.{Laid, ◌·◌, text, start}
-use Rattle.ecma_written_tiles.specs.Categories.{State, Operated, Operator}
+use Rattle.ecma_layout.specs.Layout.{count}
+use Rattle.ecma_written_tiles.specs.Categories.{Operated, Operator}
 use Rattle.ecma_written_laws.proofs.Marks.{equals_mark}
-use Rattle.ecma_written_laws.proofs.Admits.{admits, leaves, unstarred, leaves_end, is_ended, is_nothing, numeric}
-use Rattle.ecma_written_laws.proofs.Steps.{Steps, ◌▸◌, at, ends, mark, text_by}
+use Rattle.ecma_written_laws.proofs.Admits.{unstarred, leaves_end}
+use Rattle.ecma_written_laws.proofs.Steps.{◌▸◌, at, ends, mark, text_by}
 use Rattle.ecma_written_laws.proofs.Forms.{Good, AllGood, Sound, AllSound, none_good, listed, all_sorted}
 use Rattle.ecma_written_laws.proofs.Values.{Quasis, template_node}
 use Rattle.ecma_written_laws.proofs.Primaries.{computed_node}
 use Rattle.ecma_written_laws.proofs.Expressions.{array_node, object_node, property_node, value_leaves, assign_node, sequence_node, await_node, yield_node, delegate_node, new_node}
 use Rattle.ecma_written_laws.proofs.Members.{IsObject, word_member, bracket_member, super_dotted, super_bracketed, asked_word, asked_bracket, on_word, on_bracket, chain_call, chain_level, tagged_node, super_call, import_call, spread_node}
 use Rattle.ecma_written_laws.proofs.Patterns.{inner_admits, key_unstarred, place_plain, item_plain, array_pattern, object_pattern, rest_pattern, initialised_pattern, keyed_pattern, named_pattern, target_pattern}
-use Rattle.ecma_written_laws.proofs.Ties.{by_there, either_by, assigned, there_of, ident_operated, whole_test, whole_level, whole_assigned, Wholes, none_whole, wholes_sorted}
+use Rattle.ecma_written_laws.proofs.Ties.{by_there, either_by, assigned, there_of, whole_test, whole_level, Wholes, none_whole, wholes_sorted}
 
 word_or : (a b : Bool) → (a || false) ≡ true → (a || b) ≡ true
 word_or true b e = refl

@@ -1,36 +1,27 @@
 -- Functions and classes that produce tokens.
-use Rattle.std.proofs.Common.{◌≡◌, ℕ, ◌+◌, ◌≤◌, ◌⊎◌, inl, inr, ⊎_elim, Bool, true, false, ◌&&◌, ◌||◌, not, List, [], ◌∷◌, Option, Some, None, refl, sym, ap, subst, ◌∙◌, arith}
-use Rattle.std.specs.Prelude.{◌==◌, nat_le, codes, if◌then◌else◌, is_some}
-use Rattle.std.proofs.lemmas.Bool.{cases_Bool, false≢true, true≢false, and_parts, not-true, or_cases}
+use Rattle.std.proofs.Common.{◌≡◌, ℕ, ◌≤◌, ◌⊎◌, inl, inr, ⊎_elim, Bool, true, false, refl, arith}
+use Rattle.std.specs.Prelude.{◌==◌}
+use Rattle.std.proofs.lemmas.Bool.{false≢true, true≢false}
 use Rattle.ecma_token.specs.declared.place.Span.{Span}
 use Rattle.std.proofs.lemmas.Option.{none-some}
 use Rattle.ecma_token.specs.Kinds.{right_paren_kind, get_kind, set_kind}
-use Rattle.ecma_tree.specs.Tree.{Tree, Trees, none, more, plain_method, param, function, block_stmt, fn_decl, fn_expr, arrow_expr, method_prop, getter_prop, setter_prop, class, class_decl, class_expr, constructor, class_method, private_method, class_prop, private_prop, auto_accessor, static_block, empty_stmt, catch_clause, absent}
+use Rattle.ecma_tree.specs.Tree.{Tree, Trees, none, more, plain_method, param, function, block_stmt, fn_decl, fn_expr, arrow_expr, method_prop, getter_prop, setter_prop, class, class_decl, class_expr, constructor, class_method, private_method, class_prop, private_prop, auto_accessor, static_block, empty_stmt}
 use Rattle.ecma_syntax.specs.Input.{Input, Code, setting, turned_strict, with_in}
-use Rattle.ecma_syntax.specs.Operators.{assignment_level, new_level}
-use Rattle.ecma_syntax.specs.Shape.{level, is_param, is_key, is_private, is_item, is_member, is_block, is_bound_name, is_item_pat, FunctionParts, count_of}
-use Rattle.ecma_edge.specs.Edges.{starts_with_word, ends_with_word, is_there, last_ends_with_word}
+use Rattle.ecma_syntax.specs.Shape.{level, is_param, is_member, count_of}
+use Rattle.ecma_edge.specs.Edges.{is_there}
 use Rattle.ecma_grammar.specs.Grammar.{Produces, children}
 use Rattle.ecma_layout.specs.declared.look.Look.{Look}
-use Rattle.ecma_layout.specs.declared.look.Stand.{Stand}
-use Rattle.ecma_layout.specs.declared.look.Stand.TheVariants.{Alone, Body, Key, Tagged}
-use Rattle.ecma_grammar.specs.Children.{is_ident, Child, child, By, IsEmpty, Sorted, Listed, Maybe}
-use Rattle.ecma_grammar.specs.Statements.{ClosesBlock}
+use Rattle.ecma_grammar.specs.Children.{child, IsEmpty}
 use Rattle.ecma_grammar.specs.Functions.{Parameters, SetParameter, Closes, Body as BodyOf, Function, ArrowPattern, ArrowParameters, BareName, ArrowExpression, Method, Members, ClassTail}
-use Rattle.ecma_layout.specs.Layout.{laid}
-use Rattle.ecma_layout.specs.Looks.{Laid, ◌·◌, gap}
-use Rattle.ecma_written_tiles.specs.Categories.{State, Fresh, Clear, Shut, Worded, is_open, is_wordless}
-use Rattle.ecma_written_laws.proofs.Keywords.{catch_word}
-use Rattle.ecma_written_laws.proofs.Admits.{admits, leaves, admits_open, is_ended, is_free, free_open, free_admits}
-use Rattle.ecma_written_laws.proofs.Steps.{Steps, ◌▸◌, ends, at, either, mark, worded, gaps, when_goes}
+use Rattle.ecma_written_laws.proofs.Admits.{admits_open, is_ended}
 use Rattle.ecma_written_laws.proofs.Forms.{Good, AllGood, Sound, AllSound, none_good, listed, all_sorted}
 use Rattle.ecma_written_laws.proofs.Names.{leaving}
-use Rattle.ecma_written_laws.proofs.Statements.{AllItems, all_items, block_good, block_leaves, arrow_good}
+use Rattle.ecma_written_laws.proofs.Statements.{AllItems, all_items, block_good, arrow_good}
 use Rattle.ecma_written_laws.proofs.Further.{method_good}
 use Rattle.ecma_written_laws.proofs.Patterns.{item_plain, param_node}
 use Rattle.ecma_written_laws.proofs.Functions.{tail, function_node, declaration_node, method_node, getter_node, setter_node}
 use Rattle.ecma_written_laws.proofs.Loops.{AllRows}
-use Rattle.ecma_written_laws.proofs.Classes.{class_node, class_declaration, class_on, class_body, constructor_node, private_node, field_node, private_field, accessor_node, static_node}
+use Rattle.ecma_written_laws.proofs.Classes.{class_node, class_declaration, class_body, constructor_node, private_node, field_node, private_field, accessor_node, static_node}
 use Rattle.ecma_written_laws.proofs.Ties.{by_there, either_by, assigned, ident_operated}
 
 member_ended : (t : Tree) → is_member t ≡ true → is_ended t ≡ true

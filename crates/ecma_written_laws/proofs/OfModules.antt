@@ -1,24 +1,20 @@
 -- Imports and exports that produce tokens.
-use Rattle.std.proofs.Common.{◌≡◌, ℕ, ◌+◌, ◌≤◌, ◌⊎◌, inl, inr, ⊎_elim, Bool, true, false, ◌&&◌, ◌||◌, not, List, [], ◌∷◌, Option, Some, None, refl, sym, ap, subst, ◌∙◌, arith}
-use Rattle.std.specs.Prelude.{◌==◌, nat_le, codes, if◌then◌else◌, is_some}
-use Rattle.std.proofs.lemmas.Bool.{cases_Bool, false≢true, true≢false, and_parts, not-true, or_cases}
+use Rattle.std.proofs.Common.{◌≡◌, ℕ, ⊎_elim, true, false, refl, sym, ◌∙◌}
+use Rattle.std.proofs.lemmas.Bool.{false≢true}
 use Rattle.std.proofs.lemmas.Option.{none-some}
 use Rattle.ecma_token.specs.declared.place.Span.{Span}
 use Rattle.ecma_token.specs.Kinds.{right_brace_kind}
 use Rattle.ecma_tree.specs.Tree.{Tree, Trees, none, more, import_decl, export_decl, named_export, export_default_decl, export_default_expr, export_all, import_named_specifier, import_default_specifier, import_star_as_specifier, export_namespace_specifier, export_named_specifier, class_expr, class_decl, class, fn_expr, fn_decl, function, var_decl, block_stmt, ident, str_lit, absent}
 use Rattle.ecma_syntax.specs.Input.{Input, Code, in_list, with_in, turned_strict, setting}
-use Rattle.ecma_syntax.specs.Operators.{assignment_level, new_level}
-use Rattle.ecma_syntax.specs.Shape.{level, is_absent, is_string, is_attributes, export_name, is_named_import, is_named_export, is_star_import, is_default_import, is_star_export}
-use Rattle.ecma_edge.specs.Edges.{starts_with_word, ends_with_word, is_there, last_ends_with_word}
+use Rattle.ecma_syntax.specs.Shape.{is_absent, is_string, is_attributes, export_name, is_named_import, is_named_export}
+use Rattle.ecma_edge.specs.Edges.{is_there}
 use Rattle.ecma_grammar.specs.Grammar.{Produces, children}
 use Rattle.ecma_layout.specs.declared.look.Look.{Look}
-use Rattle.ecma_layout.specs.declared.look.Stand.{Stand}
-use Rattle.ecma_layout.specs.declared.look.Stand.TheVariants.{Alone, Body, Key, Tagged}
-use Rattle.ecma_grammar.specs.Children.{is_ident, Child, child, By, IsEmpty, Sorted, Listed}
-use Rattle.ecma_grammar.specs.Modules.{ExportName, NamedImports, AfterDefault, ImportClause, Source, NamedExports, ExportList, Specified}
-use Rattle.ecma_written_laws.proofs.Forms.{Good, AllGood, Sound, AllSound, all_sorted, not_absent}
+use Rattle.ecma_grammar.specs.Children.{is_ident, child, IsEmpty, Sorted, Listed}
+use Rattle.ecma_grammar.specs.Modules.{ExportName, AfterDefault, ImportClause, Source, ExportList}
+use Rattle.ecma_written_laws.proofs.Forms.{Good, Sound, AllSound, all_sorted, not_absent}
 use Rattle.ecma_written_laws.proofs.Patterns.{PlainPart}
-use Rattle.ecma_written_laws.proofs.Modules.{AllNamed, AllExported, Clause, export_plain, no_clause, names_clause, star_clause, default_names, default_star, import_node, named_alone, named_as, default_node, star_node, space_node, exported_alone, exported_as, export_list, export_space, all_node, export_function, export_variables, export_class, default_class, default_function, default_expression}
+use Rattle.ecma_written_laws.proofs.Modules.{AllNamed, AllExported, Clause, no_clause, names_clause, star_clause, default_names, default_star, import_node, named_alone, named_as, default_node, star_node, space_node, exported_alone, exported_as, export_list, export_space, all_node, export_function, export_variables, export_class, default_class, default_function, default_expression}
 use Rattle.ecma_written_laws.proofs.OfFunctions.{Inside, members, heritage, function_params, function_items}
 use Rattle.ecma_written_laws.proofs.Ties.{by_there, either_by, assigned}
 

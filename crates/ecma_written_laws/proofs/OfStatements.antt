@@ -1,29 +1,25 @@
 -- Statements that produce tokens.
-use Rattle.std.proofs.Common.{◌≡◌, ℕ, ◌+◌, ◌≤◌, ◌⊎◌, inl, inr, ⊎_elim, Bool, true, false, ◌&&◌, ◌||◌, not, List, [], ◌∷◌, Option, Some, None, refl, sym, ap, subst, ◌∙◌, arith}
-use Rattle.std.specs.Prelude.{◌==◌, nat_le, codes, if◌then◌else◌, is_some}
-use Rattle.std.proofs.lemmas.Bool.{cases_Bool, false≢true, true≢false, and_parts, not-true, or_cases}
+use Rattle.std.proofs.Common.{◌≡◌, ℕ, Bool, true, false, ◌||◌, refl, ap}
+use Rattle.std.proofs.lemmas.Bool.{false≢true}
 use Rattle.ecma_token.specs.declared.place.Span.{Span}
-use Rattle.ecma_token.specs.Kinds.{in_kind, of_kind}
 use Rattle.ecma_tree.specs.Tree.{Tree, Trees, none, more, ident, absent, block_stmt, with_stmt, labeled_stmt, break_stmt, continue_stmt, switch_stmt, switch_case, throw_stmt, try_stmt, catch_clause, while_stmt, do_while_stmt, for_stmt, for_in_stmt, for_of_stmt, using_decl, var_decl, var_declarator}
 use Rattle.ecma_syntax.specs.Input.{Input, Code, without_in}
-use Rattle.ecma_syntax.specs.Operators.{assignment_level, expression_level}
-use Rattle.ecma_syntax.specs.Shape.{level, is_absent, is_block, is_case, is_item, is_catch, is_statement, is_declarator, is_default_case}
-use Rattle.ecma_edge.specs.Edges.{starts_with_word, ends_with_word, is_there, last_ends_with_word}
+use Rattle.ecma_syntax.specs.Shape.{is_block, is_case, is_catch, is_declarator, is_default_case}
+use Rattle.ecma_edge.specs.Edges.{is_there}
 use Rattle.ecma_grammar.specs.Grammar.{Produces, children}
 use Rattle.ecma_layout.specs.declared.look.Look.{Look}
-use Rattle.ecma_layout.specs.declared.look.Stand.{Stand}
-use Rattle.ecma_layout.specs.declared.look.Stand.TheVariants.{Alone, Body, Key, Tagged}
-use Rattle.ecma_grammar.specs.Children.{is_ident, Child, child, By, Sorted, Maybe, Expr, Commas}
-use Rattle.ecma_grammar.specs.Statements.{Sub, Bindings, UsingBindings, ForRest, ForExpression, Over, ForIn, ForOf, HeadVariables, HeadUsing, HeadTarget, OfTarget, Cases, ClosesCase, ClosesBlock}
-use Rattle.ecma_written_tiles.specs.Categories.{State, Fresh, Clear, Shut, Worded, Numbered, is_wordless}
-use Rattle.ecma_written_laws.proofs.Admits.{admits, leaves, is_ended, is_nothing, is_free, and_false}
-use Rattle.ecma_written_laws.proofs.Steps.{Steps, ◌▸◌, ends}
-use Rattle.ecma_written_laws.proofs.Forms.{Good, AllGood, Sound, AllSound, maybe_good}
-use Rattle.ecma_written_laws.proofs.Statements.{Item, AllItems, all_items, sub_item}
+use Rattle.ecma_layout.specs.declared.look.Stand.TheVariants.{Alone}
+use Rattle.ecma_grammar.specs.Children.{child, Sorted, Maybe, Commas}
+use Rattle.ecma_grammar.specs.Statements.{Sub, Bindings, UsingBindings, ForRest, ForExpression, ForIn, ForOf, HeadVariables, HeadUsing, HeadTarget, OfTarget, Cases, ClosesCase, ClosesBlock}
+use Rattle.ecma_written_tiles.specs.Categories.{State, Worded}
+use Rattle.ecma_written_laws.proofs.Admits.{admits, is_ended, is_nothing, is_free, and_false}
+use Rattle.ecma_written_laws.proofs.Steps.{Steps}
+use Rattle.ecma_written_laws.proofs.Forms.{Good, Sound, AllSound, maybe_good}
+use Rattle.ecma_written_laws.proofs.Statements.{Item, all_items, sub_item}
 use Rattle.ecma_written_laws.proofs.Further.{declarator, variables_good, for_in_good}
 use Rattle.ecma_written_laws.proofs.Patterns.{place_plain}
-use Rattle.ecma_written_laws.proofs.Loops.{Row, AllRows, var_text, break_node, continue_node, throw_node, label_node, while_node, with_node, do_node, for_node, for_of_node, using_node, case_node, switch_node, catch_on, try_node}
-use Rattle.ecma_written_laws.proofs.Ties.{by_there, either_by, assigned, statement_item, bracketed_worded, all_declared, whole_test, Wholes, wholes_commas}
+use Rattle.ecma_written_laws.proofs.Loops.{AllRows, var_text, break_node, continue_node, throw_node, label_node, while_node, with_node, do_node, for_node, for_of_node, using_node, case_node, switch_node, catch_on, try_node}
+use Rattle.ecma_written_laws.proofs.Ties.{by_there, assigned, statement_item, bracketed_worded, all_declared, whole_test, Wholes, wholes_commas}
 
 case_ended : (t : Tree) → is_case t ≡ true → is_ended t ≡ true
 case_ended (switch_case s t ss) e = refl

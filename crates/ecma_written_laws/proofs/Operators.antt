@@ -1,26 +1,19 @@
 -- Operators, `new` and statements: each goes well where its parts do.
-use Rattle.std.proofs.Common.{◌≡◌, ℕ, ◌+◌, ◌≤◌, ◌⊎◌, inl, inr, ⊎_elim, Bool, true, false, ◌&&◌, ◌||◌, not, List, [], ◌∷◌, Option, Some, None, refl, sym, ap, subst, ◌∙◌, arith}
-use Rattle.std.specs.Prelude.{◌==◌, nat_le, codes, if◌then◌else◌}
-use Rattle.std.proofs.lemmas.Bool.{cases_Bool, false≢true, true≢false, and_parts, not-true, eqb-true, or_cases}
-use Rattle.std.proofs.lemmas.Bool.Decides.{nat_tests}
+use Rattle.std.proofs.Common.{◌≡◌, ℕ, ◌≤◌, ◌⊎◌, inl, inr, ⊎_elim, true, false, ◌&&◌, ◌||◌, not, refl, sym, ap, subst, ◌∙◌, arith}
+use Rattle.std.specs.Prelude.{◌==◌}
+use Rattle.std.proofs.lemmas.Bool.{false≢true, eqb-true, or_cases}
 use Rattle.ecma_token.specs.declared.place.Span.{Span}
-use Rattle.ecma_token.specs.Kinds.{plus_plus_kind, minus_minus_kind, bang_kind, tilde_kind, add_kind, sub_kind, typeof_kind, void_kind, delete_kind, right_brace_kind}
-use Rattle.ecma_token.specs.Words.{own_text}
-use Rattle.ecma_token.specs.Operators.{operator_text}
-use Rattle.ecma_tree.specs.Tree.{Tree, Trees, none, more, bin_expr, unary_expr, update_expr, new_expr, expr_stmt, block_stmt, if_stmt, return_stmt, fn_decl, function, list, absent}
-use Rattle.ecma_syntax.specs.Input.{Input, Code}
-use Rattle.ecma_syntax.specs.Operators.{unary_level, new_level, call_level, binary_level, right_level, operates}
-use Rattle.ecma_syntax.specs.Shape.{level, fits_left, is_item, is_statement, is_plain_function, is_absent}
-use Rattle.ecma_edge.specs.Edges.{starts_with_word, ends_with_word, is_there, is_word_operator, first_operand, gap_before, gap_after, gap_of_unary, is_plus, is_minus, is_decrement}
-use Rattle.ecma_grammar.specs.Children.{child, By}
-use Rattle.ecma_grammar.specs.Grammar.{Produces, children}
+use Rattle.ecma_token.specs.Kinds.{plus_plus_kind, minus_minus_kind}
+use Rattle.ecma_tree.specs.Tree.{Tree, update_expr, new_expr, return_stmt, absent}
+use Rattle.ecma_syntax.specs.Operators.{unary_level, new_level}
+use Rattle.ecma_syntax.specs.Shape.{level, is_absent}
+use Rattle.ecma_edge.specs.Edges.{starts_with_word, ends_with_word, is_there}
 use Rattle.ecma_layout.specs.declared.look.Look.{Look}
 use Rattle.ecma_layout.specs.declared.look.Stand.{Stand}
-use Rattle.ecma_layout.specs.declared.look.Stand.TheVariants.{Alone, Operand, Body, Head, Key}
-use Rattle.ecma_layout.specs.Looks.{Laid, text, when, formats, line, deeper, back, gap_or, start, semi}
-use Rattle.ecma_layout.specs.Layout.{laid, is_head, in_parens, marked_as_operand, is_variables, is_block, closing}
+use Rattle.ecma_layout.specs.declared.look.Stand.TheVariants.{Alone, Head}
+use Rattle.ecma_layout.specs.Looks.{when, formats}
+use Rattle.ecma_layout.specs.Layout.{laid, is_head, in_parens}
 use Rattle.ecma_layout.specs.Words.{sign_of}
-use Rattle.ecma_lexeme.specs.declared.goal.LexicalGoal.TheVariants.{Div}
 use Rattle.ecma_written_laws.proofs.Keywords.{new_word, return_word}
 use Rattle.ecma_written_laws.proofs.Marks.{decrement_mark, increment_mark, left_paren, right_paren}
 use Rattle.ecma_written_laws.proofs.Admits.{admits, admits_word, at_least, expression_opens, expression_plain, head_admits, is_ended, leaves, leaves_open, no_lines, numeric, or_none, passes, starts_otherwise, worded_admits}

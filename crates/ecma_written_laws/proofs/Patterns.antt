@@ -1,24 +1,23 @@
 -- Patterns and parameters.
-use Rattle.std.proofs.Common.{◌≡◌, ℕ, ◌≤◌, ◌⊎◌, inl, inr, ⊎_elim, Bool, true, false, ◌&&◌, ◌||◌, not, List, [], ◌∷◌, Option, Some, None, refl, sym, ap, subst, ◌∙◌, arith}
-use Rattle.std.specs.Prelude.{◌==◌, nat_le, codes, if◌then◌else◌}
-use Rattle.std.proofs.lemmas.Bool.{cases_Bool, false≢true, true≢false, and_parts, not-true, or_cases}
+use Rattle.std.proofs.Common.{◌≡◌, ◌≤◌, ⊎_elim, Bool, true, false, ◌&&◌, ◌||◌, not, refl, sym, ap, ◌∙◌}
+use Rattle.std.specs.Prelude.{nat_le}
+use Rattle.std.proofs.lemmas.Bool.{false≢true, and_parts, not-true}
 use Rattle.ecma_token.specs.declared.place.Span.{Span}
-use Rattle.ecma_tree.specs.Tree.{Tree, Trees, none, more, array_pat, object_pat, rest_pat, assign_pat, key_value_pat_prop, assign_pat_prop, expr_pat, param, binding_ident, ident, member_expr, super_prop_expr, paren_expr, absent, hole}
+use Rattle.ecma_tree.specs.Tree.{Tree, Trees, none, array_pat, object_pat, rest_pat, assign_pat, key_value_pat_prop, assign_pat_prop, expr_pat, param, binding_ident, member_expr, super_prop_expr, paren_expr}
 use Rattle.ecma_syntax.specs.Operators.{unary_level}
-use Rattle.ecma_syntax.specs.Shape.{level, is_binding, is_assigned, is_place, is_item_pat, is_private, is_word_name, is_key, is_bound_name, is_target_expr, is_simple}
+use Rattle.ecma_syntax.specs.Shape.{level, is_place, is_item_pat, is_private, is_word_name, is_key, is_bound_name, is_target_expr, is_simple}
 use Rattle.ecma_edge.specs.Edges.{starts_with_word, ends_with_word, is_there}
 use Rattle.ecma_layout.specs.declared.look.Look.{Look}
-use Rattle.ecma_layout.specs.declared.look.Stand.{Stand}
 use Rattle.ecma_layout.specs.declared.look.Stand.TheVariants.{Alone, Key}
-use Rattle.ecma_layout.specs.Looks.{Laid, ◌·◌, text, when, gap, start, end}
-use Rattle.ecma_layout.specs.Layout.{laid, separated, comma, ends_with_hole, is_empty, initial}
-use Rattle.ecma_written_tiles.specs.Categories.{State, Fresh, Clear, Shut, Worded, Numbered, Pointed, Plused, Minused, Slashed, Lessed, LessBanged, Dotted, Operated, Decred, Hashed, Quasied, Dots, is_open, is_end, takes, behind, blank_behind}
+use Rattle.ecma_layout.specs.Looks.{◌·◌, gap, end}
+use Rattle.ecma_layout.specs.Layout.{laid, separated, comma, ends_with_hole, is_empty}
+use Rattle.ecma_written_tiles.specs.Categories.{State, Fresh, Clear, Shut, Worded, Numbered, Pointed, Plused, Minused, Slashed, Lessed, LessBanged, Dotted, Operated, Decred, Hashed, Quasied, Dots, is_open, takes, blank_behind}
 use Rattle.ecma_written_laws.proofs.Marks.{left_bracket, right_bracket, left_brace, colon_mark, dots_mark, equals_mark}
-use Rattle.ecma_written_laws.proofs.Admits.{admits, leaves, is_tight, is_ended, is_nothing, is_starred, starts_otherwise, numeric, passes, expression_plain, worded_admits, unstarred, admits_open, leaves_open, leaves_end, is_free, free_admits, or_none, and_false, both_true}
-use Rattle.ecma_written_laws.proofs.Steps.{Steps, At, Blanked, ◌▸◌, ends, at, either, mark, nil, text_by, shut, braced, when_goes, gaps}
+use Rattle.ecma_written_laws.proofs.Admits.{admits, leaves, is_tight, is_ended, is_nothing, is_starred, starts_otherwise, passes, expression_plain, worded_admits, unstarred, admits_open, leaves_open, leaves_end, is_free, and_false, both_true}
+use Rattle.ecma_written_laws.proofs.Steps.{Steps, ◌▸◌, ends, at, either, mark, nil, text_by, shut, braced, when_goes, gaps}
 use Rattle.ecma_written_laws.proofs.Forms.{Good, AllGood}
 use Rattle.ecma_written_laws.proofs.Names.{leaving, commas_go}
-use Rattle.ecma_written_laws.proofs.Further.{gapped, key_operated}
+use Rattle.ecma_written_laws.proofs.Further.{gapped}
 use Rattle.ecma_written_laws.proofs.Expressions.{last_comma}
 
 -- ---- what stands first in another tree

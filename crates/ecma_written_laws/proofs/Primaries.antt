@@ -1,7 +1,7 @@
 -- Names, literals and other expressions of one token or two.
-use Rattle.std.proofs.Common.{◌≡◌, ℕ, ◌≤◌, ◌⊎◌, inl, inr, Bool, true, false, ◌&&◌, ◌||◌, not, List, [], ◌∷◌, Option, Some, None, refl, sym, ap, subst, ◌∙◌, arith}
+use Rattle.std.proofs.Common.{◌≡◌, ℕ, Bool, true, false, not, List, [], ◌∷◌, Option, refl}
 use Rattle.std.specs.Prelude.{◌==◌, codes, if◌then◌else◌}
-use Rattle.std.proofs.lemmas.Bool.{cases_Bool, false≢true, true≢false}
+use Rattle.std.proofs.lemmas.Bool.{false≢true}
 use Rattle.ecma_token.specs.declared.place.Span.{Span}
 use Rattle.ecma_token.specs.Kinds.{new_kind}
 use Rattle.ecma_tree.specs.Tree.{Tree, ident, ident_name, private_name, binding_ident, computed_prop_name, this_expr, super, import, meta_prop_expr, bool_lit, null_lit, big_int_lit}
@@ -10,17 +10,16 @@ use Rattle.ecma_spell_string.specs.Names.{is_quoted_key}
 use Rattle.std.specs.Str.{chars}
 use Rattle.ecma_layout.specs.declared.look.Look.{Look}
 use Rattle.ecma_layout.specs.declared.look.Stand.{Stand}
-use Rattle.ecma_layout.specs.declared.look.Stand.TheVariants.{Alone, Key}
-use Rattle.ecma_layout.specs.Looks.{Laid, ◌·◌, meant, touching, text, when, start, end}
+use Rattle.ecma_layout.specs.Looks.{meant, touching, text}
 use Rattle.ecma_layout.specs.Literals.{name_bytes, key_bytes, big_bytes}
-use Rattle.ecma_layout.specs.Layout.{laid, is_key, optional_dot, word}
-use Rattle.ecma_written_tiles.specs.Categories.{State, Fresh, Clear, Shut, Worded, Numbered, Pointed, Plused, Minused, Slashed, Lessed, LessBanged, Dotted, Operated, Decred, Hashed, Quasied, Category, Word, Big, Str, Dot, Hash, Operator, is_open, is_end, is_wordless, is_digitless, takes, behind}
+use Rattle.ecma_layout.specs.Layout.{is_key, optional_dot}
+use Rattle.ecma_written_tiles.specs.Categories.{State, Worded, Numbered, Pointed, Dotted, Quasied, Word, Big, Str, Dot, Hash, Operator, is_end, is_wordless, is_digitless, takes}
 use Rattle.ecma_written_tiles.specs.Goes.{Fits}
 use Rattle.ecma_written_laws.specs.Fitting.{class_of_key}
 use Rattle.ecma_written_laws.proofs.Keywords.{this_word, super_word, import_word, new_word, target_word, meta_word, true_word, false_word, null_word}
 use Rattle.ecma_written_laws.proofs.Marks.{dot_mark, hash_mark, question_mark}
 use Rattle.ecma_written_laws.proofs.Admits.{admits, leaves, admits_open, admits_word}
-use Rattle.ecma_written_laws.proofs.Steps.{Steps, At, ◌▸◌, ends, at, mark, committed, text_by, worded, when_goes, if_goes, when_true}
+use Rattle.ecma_written_laws.proofs.Steps.{Steps, At, ◌▸◌, at, mark, committed, text_by, worded, when_goes, if_goes, when_true}
 use Rattle.ecma_written_laws.proofs.Forms.{Good}
 use Rattle.ecma_written_laws.proofs.Names.{leaving, named, placed, bracketed}
 

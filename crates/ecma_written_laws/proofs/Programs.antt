@@ -1,33 +1,29 @@
 -- Programs: what is written of a tree that was read is tiled by tokens that its layout says.
-use Rattle.std.proofs.Common.{◌≡◌, ℕ, ◌+◌, ◌≤◌, ◌⊎◌, inl, inr, ⊎_elim, Bool, true, false, ◌&&◌, ◌||◌, not, List, [], ◌∷◌, Option, Some, None, refl, sym, ap, subst, ◌∙◌, arith}
-use Rattle.std.specs.Prelude.{◌==◌, nat_le, codes, if◌then◌else◌, is_some}
-use Rattle.std.proofs.lemmas.Bool.{cases_Bool, false≢true, true≢false, and_parts, not-true, or_cases}
+use Rattle.std.proofs.Common.{◌≡◌, ℕ, ⊎_elim, Bool, true, false, ◌&&◌, ◌||◌, not, List, Option, Some, None, refl, sym, ap, subst, ◌∙◌}
+use Rattle.std.specs.Prelude.{if◌then◌else◌, is_some}
+use Rattle.std.proofs.lemmas.Bool.{false≢true, or_cases}
 use Rattle.ecma_token.specs.declared.place.Span.{Span}
-use Rattle.ecma_token.specs.Tokens.{Piece}
-use Rattle.ecma_lexeme.specs.declared.goal.LexicalGoal.TheVariants.{Div, RegExp, TemplateTail}
+use Rattle.ecma_lexeme.specs.declared.goal.LexicalGoal.TheVariants.{Div}
 use Rattle.ecma_tree.specs.Tree.{Tree, Trees, none, more, script, es_module, import_decl, export_decl, named_export, export_default_decl, export_default_expr, export_all, ident, ident_name, private_name, str_lit, number_lit, big_int_lit, regex_lit, tpl_element}
 use Rattle.ecma_syntax.specs.Input.{Input, Code}
 use Rattle.ecma_syntax.specs.Shape.{is_item, is_module_decl, is_use_strict, is_directive}
-use Rattle.ecma_edge.specs.Edges.{starts_with_word, ends_with_word, is_there, last_ends_with_word}
 use Rattle.ecma_grammar.specs.Grammar.{Produces, children}
 use Rattle.ecma_layout.specs.declared.look.Look.{Look}
-use Rattle.ecma_layout.specs.declared.look.Stand.{Stand}
-use Rattle.ecma_layout.specs.declared.look.Stand.TheVariants.{Alone, Body, Key, Tagged}
+use Rattle.ecma_layout.specs.declared.look.Stand.TheVariants.{Alone}
 use Rattle.ecma_grammar.specs.Children.{Items, AtEnd, is_module_item}
 use Rattle.ecma_spell_number.specs.Numbers.{before_member}
 use Rattle.ecma_write.specs.Pages.{Page}
 use Rattle.ecma_layout.specs.Layout.{laid, statements, closing, is_empty}
-use Rattle.ecma_layout.specs.Looks.{Laid, ◌·◌, when, start, commit}
-use Rattle.ecma_layout.specs.Literals.{name_bytes, key_bytes, string_bytes, number_bytes, big_bytes, quasi_bytes}
-use Rattle.ecma_redone.specs.Redo.{Mode, Plain, is_tagged}
-use Rattle.ecma_redone.specs.Every.{every, every_all}
+use Rattle.ecma_layout.specs.Looks.{◌·◌, when, start, commit}
+use Rattle.ecma_layout.specs.Literals.{name_bytes, key_bytes, string_bytes, number_bytes, big_bytes}
+use Rattle.ecma_redone.specs.Redo.{Mode, Plain}
 use Rattle.ecma_redone.specs.Read.{Knowledge, Read}
 use Rattle.ecma_redone.proofs.Found.{found}
 use Rattle.ecma_redone.proofs.Mapped.{all_mapped}
 use Rattle.ecma_written.specs.Means.{Known}
 use Rattle.ecma_lexicon.proofs.Filled.{texts_mean}
-use Rattle.ecma_written_tiles.specs.Categories.{State, Fresh, Clear, Word, Number, Big, Member, Str, Regex, Quasi, is_open}
-use Rattle.ecma_written_tiles.specs.Goes.{Fits, GoesWhole}
+use Rattle.ecma_written_tiles.specs.Categories.{State, Fresh, Word, Number, Big, Member, Str, is_open}
+use Rattle.ecma_written_tiles.specs.Goes.{Fits}
 use Rattle.ecma_written_tiles.specs.Tiles.{IsEmptyPage, IsSilent}
 use Rattle.ecma_written_tiles.specs.Laws.{IsTiled}
 use Rattle.ecma_written_tiles.proofs.Texts.{layouts_are_tiled, hashbangs_are_tiled}
@@ -35,11 +31,11 @@ use Rattle.ecma_written_laws.specs.Fitting.{class_of_key}
 use Rattle.ecma_written_laws.proofs.Fitted.{texts_fit}
 use Rattle.ecma_written_laws.specs.TiledLaws.{IsLineText, ScriptsAreTiled, ModulesAreTiled}
 use Rattle.ecma_written_laws.proofs.Admits.{leaves, is_free, free_admits, free_open}
-use Rattle.ecma_written_laws.proofs.Steps.{Steps, At, ◌▸◌, ends, at, mark, committed, nil, when_goes}
-use Rattle.ecma_written_laws.proofs.Forms.{Good, AllGood, Sound, AllSound}
+use Rattle.ecma_written_laws.proofs.Steps.{Steps, ◌▸◌, ends, at, mark, committed, nil, when_goes}
+use Rattle.ecma_written_laws.proofs.Forms.{Good, AllSound}
 use Rattle.ecma_written_laws.proofs.Statements.{closes}
 use Rattle.ecma_written_laws.proofs.Loops.{line_on, ended_leaves}
-use Rattle.ecma_written_laws.proofs.Ties.{Wholes, whole_items}
+use Rattle.ecma_written_laws.proofs.Ties.{whole_items}
 use Rattle.ecma_written_laws.proofs.Whole.{Leaf, goods}
 
 silent : (b : Bool) (sp : Span) → IsSilent (when b (start sp))

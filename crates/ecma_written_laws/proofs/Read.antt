@@ -1,24 +1,23 @@
 -- A layout whose texts may follow one another is UTF-8, and so is that of a tree that reads a text.
-use Rattle.std.proofs.Common.{◌≡◌, ℕ, ◌+◌, ◌<◌, Bool, true, false, not, List, [], ◌∷◌, ◌++◌, length, get_or, take, drop, Option, Some, None, codes, refl, sym, ap, subst, ◌∙◌, arith, append-nil, length-append}
+use Rattle.std.proofs.Common.{◌≡◌, ℕ, ◌<◌, Bool, true, false, List, [], ◌∷◌, ◌++◌, length, get_or, take, drop, Some, None, codes, refl, sym, ap, subst, arith, append-nil, length-append}
 use Rattle.std.specs.Str.{IsUtf8}
 use Rattle.std.proofs.lemmas.Str.{IsUtf8-append, IsUtf8-nil, IsUtf8-take, IsUtf8-drop, IsUtf8-past_char, IsCharBoundary-before_ascii, encode_ascii}
-use Rattle.ecma_token.specs.declared.place.Span.{Span}
-use Rattle.ecma_tree.specs.Tree.{Tree, Trees, script, es_module}
+use Rattle.ecma_tree.specs.Tree.{Tree, script, es_module}
 use Rattle.ecma_lexeme.specs.declared.goal.LexicalGoal.{LexicalGoal}
 use Rattle.ecma_lexeme.specs.declared.goal.LexicalGoal.TheVariants.{Div, RegExp, TemplateTail, TemplateEnd}
 use Rattle.ecma_pieces.specs.Pieces.{Piece, Text, Brace, Blank, Line, Deeper, Back, Semicolon, Commit, Mark}
 use Rattle.ecma_pieces.specs.Utf8.{IsUtf8Piece}
 use Rattle.ecma_layout.specs.declared.look.Look.{Look}
 use Rattle.ecma_layout.specs.declared.look.Stand.TheVariants.{Alone}
-use Rattle.ecma_layout.specs.Looks.{Meaning, regular_expression, template_characters, template_end, hashbang_comment, touching, Laid, nothing, one, meant, named, both, refused, joined, texts_of, when, start, commit, ◌·◌}
-use Rattle.ecma_layout.specs.Layout.{laid, statements, is_empty}
+use Rattle.ecma_layout.specs.Looks.{Meaning, regular_expression, template_characters, template_end, hashbang_comment, touching, Laid, nothing, one, meant, named, both, refused, joined, texts_of}
+use Rattle.ecma_layout.specs.Layout.{laid}
 use Rattle.ecma_written.proofs.Ascii.{ascii}
-use Rattle.ecma_written_tiles.specs.Categories.{State, Fresh, Clear, Shut, Category, is_open, takes, behind, blank_behind}
-use Rattle.ecma_written_tiles.specs.Goes.{Fits, When, GoesText, GoesPiece, GoesTexts, GoesMeaning, Goes, GoesWhole}
-use Rattle.ecma_written_laws.specs.TiledLaws.{GoesBehind, ProgramGoes, ProgramsGo}
+use Rattle.ecma_written_tiles.specs.Categories.{State, Fresh, Clear, Shut, is_open, takes, behind, blank_behind}
+use Rattle.ecma_written_tiles.specs.Goes.{When, GoesText, GoesPiece, GoesTexts, GoesMeaning, Goes, GoesWhole}
+use Rattle.ecma_written_laws.specs.TiledLaws.{ProgramGoes}
 use Rattle.ecma_written_laws.proofs.Hashbangs.{programs_go}
 use Rattle.ecma_written_laws.specs.TextLaws.{ReadIsText}
-use Rattle.ecma_written_laws.proofs.Laid.{AreUtf8, AllUtf8, Textual, ok, ◌▸◌, maybe}
+use Rattle.ecma_written_laws.proofs.Laid.{AreUtf8, AllUtf8, Textual, ◌▸◌, maybe}
 use Rattle.ecma_written_laws.proofs.Parts.{hashbang_text}
 use Rattle.ecma_written_laws.proofs.Written.{written}
 

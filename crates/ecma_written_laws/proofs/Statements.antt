@@ -1,21 +1,19 @@
 -- Statements and arrows.
-use Rattle.std.proofs.Common.{◌≡◌, ℕ, ◌+◌, ◌<◌, ◌≤◌, ◌⊎◌, inl, inr, ⊎_elim, Bool, true, false, ◌&&◌, ◌||◌, not, List, [], ◌∷◌, Option, Some, None, refl, sym, ap, subst, ◌∙◌, arith}
-use Rattle.std.specs.Prelude.{◌==◌, nat_le, codes, if◌then◌else◌}
-use Rattle.std.proofs.lemmas.Bool.{cases_Bool, false≢true, true≢false, and_parts, not-true, eqb-true, or_cases}
+use Rattle.std.proofs.Common.{◌≡◌, ◌≤◌, ◌⊎◌, inl, inr, ⊎_elim, Bool, true, false, ◌&&◌, ◌||◌, not, refl, sym, ap, ◌∙◌}
+use Rattle.std.specs.Prelude.{codes, if◌then◌else◌}
+use Rattle.std.proofs.lemmas.Bool.{false≢true, true≢false, and_parts, or_cases}
 use Rattle.ecma_token.specs.declared.place.Span.{Span}
-use Rattle.ecma_token.specs.Kinds.{right_brace_kind, right_paren_kind}
-use Rattle.ecma_tree.specs.Tree.{Tree, Trees, none, more, block_stmt, if_stmt, expr_stmt, arrow_expr, fn_decl, function, absent, binding_ident}
+use Rattle.ecma_tree.specs.Tree.{Tree, Trees, none, more, block_stmt, if_stmt, arrow_expr, fn_decl, function, binding_ident}
 use Rattle.ecma_syntax.specs.Input.{Input, Code, turned_strict}
-use Rattle.ecma_syntax.specs.Operators.{expression_level, assignment_level}
 use Rattle.ecma_syntax.specs.Shape.{level, is_item, is_statement, is_declaration, is_plain_function, is_absent, is_use_strict, is_directive}
 use Rattle.ecma_edge.specs.Edges.{starts_with_word, ends_with_word, is_there}
-use Rattle.ecma_grammar.specs.Children.{child, By, Items}
-use Rattle.ecma_grammar.specs.Statements.{ClosesBlock, SubOrFunction}
-use Rattle.ecma_grammar.specs.Grammar.{Produces, children}
+use Rattle.ecma_grammar.specs.Children.{Items}
+use Rattle.ecma_grammar.specs.Statements.{ClosesBlock}
+use Rattle.ecma_grammar.specs.Grammar.{children}
 use Rattle.ecma_layout.specs.declared.look.Look.{Look}
 use Rattle.ecma_layout.specs.declared.look.Stand.{Stand}
-use Rattle.ecma_layout.specs.declared.look.Stand.TheVariants.{Alone, Operand, Body, Head, Key}
-use Rattle.ecma_layout.specs.Looks.{Laid, ◌·◌, text, when, gap_or, start, blank, formats, semi, line, gap}
+use Rattle.ecma_layout.specs.declared.look.Stand.TheVariants.{Alone, Body}
+use Rattle.ecma_layout.specs.Looks.{Laid, ◌·◌, text, when, gap_or, formats, semi, line, gap}
 use Rattle.ecma_layout.specs.Layout.{laid, rows, closing, indented, is_variables, is_block, marked_as_body, in_parens, separated, comma, is_one_name, word}
 use Rattle.ecma_written_laws.proofs.Keywords.{async_word, else_word, if_word}
 use Rattle.ecma_written_laws.proofs.Marks.{arrow_mark, left_brace, left_paren, right_paren}

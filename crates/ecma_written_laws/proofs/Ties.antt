@@ -1,22 +1,20 @@
 -- From what the grammar says of a node to what its layout asks of its parts.
-use Rattle.std.proofs.Common.{◌≡◌, ℕ, ◌+◌, ◌≤◌, ◌⊎◌, inl, inr, ⊎_elim, Bool, true, false, ◌&&◌, ◌||◌, not, List, [], ◌∷◌, Option, Some, None, refl, sym, ap, subst, ◌∙◌, arith}
-use Rattle.std.specs.Prelude.{◌==◌, nat_le, codes, if◌then◌else◌, is_some}
-use Rattle.std.proofs.lemmas.Bool.{cases_Bool, false≢true, true≢false, and_parts, not-true, or_cases}
+use Rattle.std.proofs.Common.{◌≡◌, ℕ, ◌≤◌, ⊎_elim, Bool, true, false, ◌&&◌, ◌||◌, not, List, Option, refl, sym, ap, ◌∙◌, arith}
+use Rattle.std.specs.Prelude.{nat_le, if◌then◌else◌}
+use Rattle.std.proofs.lemmas.Bool.{false≢true, true≢false}
 use Rattle.ecma_token.specs.declared.place.Span.{Span}
 use Rattle.ecma_tree.specs.Tree.{Tree, Trees, none, more, tpl_element, script, es_module, catch_clause, var_declarator, absent, hole, ident}
 use Rattle.ecma_syntax.specs.Input.{Input, Code, turned_strict}
 use Rattle.ecma_syntax.specs.Operators.{assignment_level}
 use Rattle.ecma_syntax.specs.Shape.{level, is_absent, is_hole, is_declarator, is_item, is_statement, is_declaration, is_use_strict, is_directive}
-use Rattle.ecma_edge.specs.Edges.{starts_with_word, ends_with_word, is_there, last_ends_with_word}
+use Rattle.ecma_edge.specs.Edges.{is_there}
 use Rattle.ecma_grammar.specs.Grammar.{Produces, children}
 use Rattle.ecma_layout.specs.declared.look.Look.{Look}
-use Rattle.ecma_layout.specs.declared.look.Stand.{Stand}
-use Rattle.ecma_layout.specs.declared.look.Stand.TheVariants.{Alone, Body, Key, Tagged}
 use Rattle.ecma_grammar.specs.Children.{is_ident, Child, child, By, IsEmpty, Sorted, Listed, CommaThen, Commas, Items}
-use Rattle.ecma_layout.specs.Layout.{starts_bracketed, is_bracketed_name, is_variables}
+use Rattle.ecma_layout.specs.Layout.{starts_bracketed}
 use Rattle.ecma_written_tiles.specs.Categories.{Worded, Operated}
-use Rattle.ecma_written_laws.proofs.Admits.{admits, at_most, is_ended, is_nothing, and_false}
-use Rattle.ecma_written_laws.proofs.Forms.{Good, AllGood, Sound, AllSound, not_absent, by_second}
+use Rattle.ecma_written_laws.proofs.Admits.{admits, at_most, is_ended, is_nothing}
+use Rattle.ecma_written_laws.proofs.Forms.{AllSound, not_absent, by_second}
 use Rattle.ecma_written_laws.proofs.Further.{AllDeclared}
 
 pub by_there : (e : Tree) (A B : Type 0) → By (is_absent e) A B → is_there e ≡ true → B

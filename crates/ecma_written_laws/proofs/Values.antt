@@ -1,21 +1,16 @@
 -- Literals and templates as nodes.
-use Rattle.std.proofs.Common.{◌≡◌, ℕ, ◌+◌, ◌<◌, ◌≤◌, ◌⊎◌, inl, inr, ⊎_elim, Bool, true, false, ◌&&◌, ◌||◌, not, List, [], ◌∷◌, ◌++◌, Option, Some, None, refl, sym, ap, subst, ◌∙◌, arith}
-use Rattle.std.specs.Prelude.{◌==◌, nat_le, codes, if◌then◌else◌}
-use Rattle.std.proofs.lemmas.Bool.{cases_Bool, false≢true, true≢false, and_parts, not-true, eq-eqb}
-use Rattle.std.proofs.lemmas.List.{append-nil}
+use Rattle.std.proofs.Common.{◌≡◌, ℕ, ◌+◌, true, not, List, [], ◌∷◌, Option, refl, sym, ◌∙◌, arith}
+use Rattle.std.specs.Prelude.{◌==◌, codes}
+use Rattle.std.proofs.lemmas.Bool.{false≢true, eq-eqb}
 use Rattle.ecma_number.specs.Numbers.{SpecNumber}
 use Rattle.ecma_token.specs.declared.place.Span.{Span}
 use Rattle.ecma_tree.specs.Tree.{Tree, Trees, none, more, number_lit, str_lit, regex_lit, tpl, tpl_element}
-use Rattle.ecma_syntax.specs.Input.{Input, Code}
-use Rattle.ecma_edge.specs.Edges.{starts_with_word}
-use Rattle.ecma_grammar.specs.Grammar.{Produces}
 use Rattle.ecma_layout.specs.declared.look.Look.{Look}
 use Rattle.ecma_layout.specs.declared.look.Stand.{Stand}
-use Rattle.ecma_layout.specs.declared.look.Stand.TheVariants.{Alone, Head, Key, Tagged}
-use Rattle.ecma_layout.specs.Looks.{Laid, ◌·◌, meant, regular_expression, template_characters, template_end, texts_of, text, when, start, joined}
+use Rattle.ecma_layout.specs.declared.look.Stand.TheVariants.{Alone}
+use Rattle.ecma_layout.specs.Looks.{meant, regular_expression, template_characters, template_end, texts_of, joined}
 use Rattle.ecma_layout.specs.Literals.{string_bytes, number_bytes, quasi_bytes, is_escaped_directive}
 use Rattle.ecma_layout.specs.Layout.{laid, is_key, is_tagged, count, template, quasi}
-use Rattle.ecma_lexeme.specs.declared.goal.LexicalGoal.{LexicalGoal}
 use Rattle.ecma_lexeme.specs.declared.goal.LexicalGoal.TheVariants.{Div, RegExp, TemplateTail, TemplateEnd}
 use Rattle.ecma_written_laws.proofs.Literals.{back_quote_ends, dollar_brace_ends}
 use Rattle.ecma_written_laws.proofs.Admits.{admits, admits_open, leaves_open}

@@ -1,23 +1,20 @@
 -- Every tree that produces tokens goes, where its leaves are tokens of their categories.
-use Rattle.std.proofs.Common.{◌≡◌, ℕ, ◌+◌, ◌≤◌, ◌⊎◌, inl, inr, ⊎_elim, Bool, true, false, ◌&&◌, ◌||◌, not, List, [], ◌∷◌, Option, Some, None, refl, sym, ap, subst, ◌∙◌, arith}
-use Rattle.std.specs.Prelude.{◌==◌, nat_le, codes, if◌then◌else◌, is_some}
-use Rattle.std.proofs.lemmas.Bool.{cases_Bool, false≢true, true≢false, and_parts, not-true, or_cases}
-use Rattle.ecma_token.specs.declared.place.Span.{Span}
+use Rattle.std.proofs.Common.{◌≡◌, ℕ, ⊎_elim, Bool, true, false, ◌&&◌, ◌||◌, List, [], ◌∷◌, refl, subst, arith}
+use Rattle.std.specs.Prelude.{◌==◌, codes, if◌then◌else◌}
+use Rattle.std.proofs.lemmas.Bool.{false≢true, true≢false}
 use Rattle.std.proofs.lemmas.Option.{none-some}
-use Rattle.ecma_number.specs.Numbers.{SpecNumber}
 use Rattle.ecma_lexeme.specs.declared.goal.LexicalGoal.TheVariants.{Div, RegExp, TemplateTail}
 use Rattle.ecma_token.specs.Kinds.{right_bracket_kind, right_brace_kind, right_paren_kind}
 use Rattle.ecma_tree.specs.Tree.{Tree, Trees, this_expr, null_lit, bool_lit, ident, ident_name, private_name, str_lit, number_lit, big_int_lit, regex_lit, expr_or_spread, array_lit, object_lit, key_value_prop, assign_prop, spread_element, computed_prop_name, tpl, tpl_element, paren_expr, member_expr, super_prop_expr, super, call_expr, import, new_expr, list, opt_chain_expr, opt_call, tagged_tpl, meta_prop_expr, update_expr, unary_expr, await_expr, bin_expr, cond_expr, assign_expr, arrow_expr, yield_expr, seq_expr, binding_ident, array_pat, object_pat, assign_pat, rest_pat, key_value_pat_prop, assign_pat_prop, expr_pat, param, function, fn_decl, fn_expr, method_prop, getter_prop, setter_prop, class, class_decl, class_expr, constructor, class_method, private_method, class_prop, private_prop, auto_accessor, static_block, block_stmt, empty_stmt, debugger_stmt, var_decl, using_decl, var_declarator, expr_stmt, if_stmt, do_while_stmt, while_stmt, for_stmt, for_in_stmt, for_of_stmt, continue_stmt, break_stmt, return_stmt, with_stmt, switch_stmt, switch_case, labeled_stmt, throw_stmt, try_stmt, catch_clause, import_decl, import_named_specifier, import_default_specifier, import_star_as_specifier, named_export, export_named_specifier, export_namespace_specifier, export_all, export_decl, export_default_decl, export_default_expr, script, es_module, absent, none, more, plain_method}
 use Rattle.ecma_syntax.specs.Input.{Input, Code, setting, without_in}
 use Rattle.ecma_syntax.specs.Operators.{call_level, member_level, new_level, unary_level, coalesce_level}
 use Rattle.ecma_syntax.specs.Shape.{is_absent, is_element, is_prop, is_key, is_any_key, is_word_name, is_private, is_bound_name, is_target_expr, is_simple, is_pattern_prop, is_binding, is_item, is_statement, is_block, is_string, is_attributes}
-use Rattle.ecma_edge.specs.Edges.{starts_with_word, ends_with_word, is_there, last_ends_with_word}
-use Rattle.ecma_grammar.specs.Grammar.{Produces, children}
+use Rattle.ecma_grammar.specs.Grammar.{children}
 use Rattle.ecma_layout.specs.declared.look.Look.{Look}
 use Rattle.ecma_layout.specs.declared.look.Stand.{Stand}
-use Rattle.ecma_layout.specs.declared.look.Stand.TheVariants.{Alone, Body, Key, Tagged}
-use Rattle.ecma_grammar.specs.Children.{is_ident, is_quasi, Child, child}
-use Rattle.ecma_grammar.specs.Expressions.{ChainCall, TemplateSpans}
+use Rattle.ecma_layout.specs.declared.look.Stand.TheVariants.{Tagged}
+use Rattle.ecma_grammar.specs.Children.{is_ident, is_quasi}
+use Rattle.ecma_grammar.specs.Expressions.{TemplateSpans}
 use Rattle.ecma_grammar.specs.Patterns.{Item as PatternItem, Property}
 use Rattle.ecma_grammar.specs.Statements.{ClosesBlock, ClosesCase}
 use Rattle.ecma_grammar.specs.Functions.{Closes}
@@ -25,12 +22,12 @@ use Rattle.ecma_spell_number.specs.Numbers.{before_member}
 use Rattle.ecma_layout.specs.Layout.{is_tagged, is_computed}
 use Rattle.ecma_layout.specs.Looks.{joined}
 use Rattle.ecma_layout.specs.Literals.{name_bytes, key_bytes, string_bytes, number_bytes, big_bytes, quasi_bytes}
-use Rattle.ecma_redone.specs.Redo.{Mode, Plain, Headed, Pointed, Asked, Raw, quasi_mode, object_mode, chain_mode, is_asked, is_tagged as is_raw}
+use Rattle.ecma_redone.specs.Redo.{Mode, Plain, Headed, Pointed, Raw, quasi_mode, object_mode, chain_mode, is_asked, is_tagged as is_raw}
 use Rattle.ecma_redone.specs.Every.{every, every_all}
 use Rattle.ecma_written_tiles.specs.Categories.{Word, Number, Big, Member, Str, Regex, Quasi}
 use Rattle.ecma_written_tiles.specs.Goes.{Fits}
 use Rattle.ecma_written_laws.specs.Fitting.{class_of_key}
-use Rattle.ecma_written_laws.proofs.Forms.{Good, AllGood, Sound, AllSound}
+use Rattle.ecma_written_laws.proofs.Forms.{Good, Sound, AllSound}
 use Rattle.ecma_written_laws.proofs.Names.{parens, call, expression_statement}
 use Rattle.ecma_written_laws.proofs.Operators.{update_before, update_behind, new_bare, returns}
 use Rattle.ecma_written_laws.proofs.Binary.{unary, binary}

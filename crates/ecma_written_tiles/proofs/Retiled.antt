@@ -1,16 +1,15 @@
 -- Tokens that tile a text tile it under the goals that a derivation gives them.
 use Rattle.std.proofs.Common.{◌≡◌, ℕ, ◌+◌, ◌⊎◌, inl, inr, ⊎_elim, Bool, true, false, ◌&&◌, ◌||◌, not, List, [], ◌∷◌, ◌++◌, refl, sym, ap, subst, ◌∙◌, arith}
 use Rattle.std.specs.Prelude.{◌==◌, nat_le, if◌then◌else◌, bytes_eq}
-use Rattle.std.specs.Str.{chars}
 use Rattle.std.proofs.lemmas.Bool.{cases_Bool, false≢true, and_parts, not-true, eqb-true, eq-eqb}
 use Rattle.std.proofs.lemmas.Bool.Decides.{nat_tests}
-use Rattle.ecma_token.specs.Kinds.{template_kind, dollar_brace_kind, back_quote_kind, regex_kind, div_kind, div_assign_kind, name_kind, error_kind, shebang_kind}
+use Rattle.ecma_token.specs.Kinds.{template_kind, dollar_brace_kind, back_quote_kind, regex_kind, div_kind, div_assign_kind, name_kind, shebang_kind}
 use Rattle.ecma_token.specs.Words.{kind_of, kind_among, own_words}
 use Rattle.ecma_token.specs.Tokens.{Spot, bare}
 use Rattle.ecma_token.specs.TokenViews.{token_kind_number}
 use Rattle.ecma_token.specs.declared.token.TokenKind.{TokenKind}
 use Rattle.ecma_scan.specs.Punctuators.{Spelling, punctuators, IsAmong}
-use Rattle.ecma_scan.specs.Trivia.{IsSkipped, NoTrivia, Follow, IsPiece}
+use Rattle.ecma_scan.specs.Trivia.{IsSkipped, Follow}
 use Rattle.ecma_scan.specs.declared.trivia.Goal.{Goal}
 use Rattle.ecma_literal.specs.declared.template.Ending.{Ending}
 use Rattle.ecma_literal.specs.declared.template.Ending.TheVariants.{BackQuote, Substitution}
@@ -18,7 +17,7 @@ use Rattle.ecma_literal.specs.Escapes.{begins}
 use Rattle.ecma_literal.specs.Templates as templates
 use Rattle.ecma_lexeme.specs.declared.goal.LexicalGoal.{LexicalGoal}
 use Rattle.ecma_lexeme.specs.declared.goal.LexicalGoal.TheVariants.{Div, RegExp}
-use Rattle.ecma_lexeme.specs.Lexemes.{SpecLexeme, IsLexeme, IsOutside, IsCharacters, IsEnd, IsMark, numeral_lexeme, plain}
+use Rattle.ecma_lexeme.specs.Lexemes.{SpecLexeme, IsLexeme, IsOutside, IsCharacters, IsEnd, numeral_lexeme, plain}
 use Rattle.ecma_literal.specs.Numbers.{Meaning, Number, BigInt}
 use Rattle.ecma_lexeme.specs.Sorts.{is_slash}
 use Rattle.ecma_lexeme.proofs.LexemeLemmas.{one_lexeme}

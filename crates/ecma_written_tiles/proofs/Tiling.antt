@@ -8,7 +8,7 @@ use Rattle.std.proofs.lemmas.List.{append-nil}
 use Rattle.ecma_scan.specs.Places.{bytes}
 use Rattle.ecma_scan.specs.Characters.{is_white_space, is_line_terminator, is_among}
 use Rattle.ecma_scan.specs.Runs.{Ends, Each}
-use Rattle.ecma_scan.specs.Trivia.{Piece as Trivium, WhiteSpace, LineTerminator, LineComment, BlockComment, IsPiece, IsSkipped, NoTrivia, IsLegacy}
+use Rattle.ecma_scan.specs.Trivia.{Piece as Trivium, WhiteSpace, LineTerminator, LineComment, BlockComment, IsPiece, NoTrivia, IsLegacy}
 use Rattle.ecma_scan.specs.declared.trivia.Goal.{Goal}
 use Rattle.ecma_scan.specs.declared.trivia.Goal.TheVariants.{Script, Module}
 use Rattle.ecma_scan.specs.declared.trivia.LineMark.TheVariants.{Slashes, HtmlOpen, HtmlClose}

@@ -1,4 +1,4 @@
-use Rattle.std.proofs.Common.{◌≡◌, sym, ◌∙◌}
+use Rattle.std.proofs.Common.{sym, ◌∙◌}
 use Rattle.ecma_edge.proofs.Lasts.{alone_is}
 use Rattle.ecma_edge.proofs.starts.alone_starts.Goals as goal
 

@@ -1,4 +1,4 @@
-use Rattle.std.proofs.Common.{◌≡◌, inl, refl, arith, Vec, Global}
+use Rattle.std.proofs.Common.{arith, Vec, Global}
 use Rattle.ecma_token.specs.declared.place.BytePos.{BytePos}
 use Rattle.ecma_token.specs.declared.place.LineCol.{LineCol}
 use Rattle.std.proofs.lemmas.Result.{err_from_is_err_and}

@@ -1,6 +1,6 @@
-use Rattle.std.proofs.Common.{rules, ◌≡◌, ◌∙◌}
+use Rattle.std.proofs.Common.{rules, ◌∙◌}
 use Rattle.ecma_reading.specs.Source as spec
-use Rattle.ecma_parse_state.proofs.Iterate.{iterate_done, iterate_stops, iterates}
+use Rattle.ecma_parse_state.proofs.Iterate.{iterate_done, iterates}
 use Rattle.ecma_parse_patterns.specs.Items as items
 use Rattle.ecma_parse_patterns.proofs.patterns.array_items.Goals as goal
 

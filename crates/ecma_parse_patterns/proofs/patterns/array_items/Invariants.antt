@@ -1,8 +1,7 @@
 use Rattle.std.proofs.Common.{◌≡◌, ◌≤◌, All, map}
 use Rattle.ecma_tree.specs.Tree.{element_by}
-use Rattle.ecma_node.specs.Fits.{fits_held, fits_object_pat_prop}
+use Rattle.ecma_node.specs.Fits.{fits_held}
 use Rattle.ecma_node.specs.Placed.{holds_pat, inner}
-use Rattle.ecma_node.specs.View.{view_object_pat_prop}
 use Rattle.ecma_reading.specs.Source.{iterate, bound}
 use Rattle.ecma_reading.specs.Statements.{array_item}
 use Rattle.ecma_parse_state.specs.Codes.{code_of}

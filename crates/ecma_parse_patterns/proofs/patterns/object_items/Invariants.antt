@@ -1,7 +1,6 @@
 use Rattle.std.proofs.Common.{◌≡◌, ◌≤◌, All, map}
-use Rattle.ecma_tree.specs.Tree.{element_by}
-use Rattle.ecma_node.specs.Fits.{fits_held, fits_object_pat_prop}
-use Rattle.ecma_node.specs.Placed.{holds_pat, inner}
+use Rattle.ecma_node.specs.Fits.{fits_object_pat_prop}
+use Rattle.ecma_node.specs.Placed.{inner}
 use Rattle.ecma_node.specs.View.{view_object_pat_prop}
 use Rattle.ecma_reading.specs.Source.{iterate, bound}
 use Rattle.ecma_reading.specs.Statements.{object_item}

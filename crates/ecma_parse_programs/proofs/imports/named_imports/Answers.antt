@@ -1,7 +1,7 @@
-use Rattle.std.proofs.Common.{rules, ◌≡◌, ◌∙◌}
+use Rattle.std.proofs.Common.{rules, ◌∙◌}
 use Rattle.ecma_reading.specs.Source as spec
 use Rattle.ecma_reading.specs.Modules as reads
-use Rattle.ecma_parse_state.proofs.Iterate.{iterate_done, iterate_stops, iterates}
+use Rattle.ecma_parse_state.proofs.Iterate.{iterate_done, iterates}
 use Rattle.ecma_parse_programs.proofs.imports.named_imports.Goals as goal
 
 pub returns-in_err-import_turn-clause-value : goal.returns-in_err-import_turn-clause-value

@@ -1,11 +1,10 @@
-use Rattle.std.proofs.Common.{◌≡◌, ◌∙◌, List, ℕ, Ok, Err, Result, refl, sym, ap, subst}
+use Rattle.std.proofs.Common.{◌≡◌, ◌∙◌, List, ℕ, refl, ap, subst}
 use Rattle.ecma_layout.specs.declared.look.Look.{Look}
 use Rattle.ecma_layout.specs.declared.look.Stand.TheVariants.{Alone}
-use Rattle.ecma_layout.specs.Looks.{Laid}
 use Rattle.ecma_layout.specs.Layout.{laid}
 use Rattle.ecma_write.specs.Views.{js_page, js_state, js_tells}
 use Rattle.ecma_codegen.specs.Emits.{Emits}
-use Rattle.ecma_print.specs.Layouts.{indent_of, laid_of}
+use Rattle.ecma_print.specs.Layouts.{laid_of}
 use Rattle.ecma_print.specs.Steps.{begun_page}
 use Rattle.ecma_print.proofs.Writing.{lays_out, written_long}
 use Rattle.ecma_print.proofs.printing.long.Goals as goal

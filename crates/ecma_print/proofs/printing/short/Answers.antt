@@ -1,4 +1,4 @@
-use Rattle.std.proofs.Common.{◌≡◌, ◌∙◌, List, ℕ, true, None, Ok, Err, Result, refl, sym, ap, subst}
+use Rattle.std.proofs.Common.{◌≡◌, ◌∙◌, List, ℕ, true, None, refl, sym, ap, subst}
 use Rattle.ecma_layout.specs.declared.look.Look.{Look}
 use Rattle.ecma_layout.specs.declared.look.Stand.TheVariants.{Alone}
 use Rattle.ecma_layout.specs.Layout.{laid}
@@ -7,7 +7,7 @@ use Rattle.ecma_write.specs.Views.{js_page, js_state, js_tells}
 use Rattle.ecma_write.specs.Omitting.{omit_state, omit_tells}
 use Rattle.ecma_write.specs.declared.js_writer.JsWriter.{JsWriter}
 use Rattle.ecma_codegen.specs.Emits.{Emits, emitted}
-use Rattle.ecma_print.specs.Layouts.{indent_of, laid_of, written_on}
+use Rattle.ecma_print.specs.Layouts.{laid_of, written_on}
 use Rattle.ecma_print.specs.Steps.{begun_page, LaysOut}
 use Rattle.ecma_print.proofs.Writing.{lays_out, written_short}
 use Rattle.ecma_print.proofs.printing.short.Goals as goal

@@ -1,4 +1,4 @@
-use Rattle.std.proofs.Common.{◌≡◌, ◌∙◌, ℕ, [], Bool, List, Some, None, Ok, Err, Option, Vec, Global, if◌then◌else◌, IsUtf8, refl, sym, ap}
+use Rattle.std.proofs.Common.{◌≡◌, ◌∙◌, ℕ, [], Bool, List, Some, None, Option, Vec, Global, if◌then◌else◌, IsUtf8, refl, sym, ap}
 use Rattle.ecma_token.specs.declared.counted.Counted.{Counted}
 use Rattle.ecma_write.specs.Views.{first_page, first_marks, js_page}
 use Rattle.ecma_print.specs.Layouts.{line_end_of, marks_of}

@@ -1,4 +1,4 @@
-use Rattle.std.proofs.Common.{ap, Option}
+use Rattle.std.proofs.Common.{ap}
 use Rattle.std.specs.Prelude.{option_map}
 use Rattle.ecma_layout.specs.Looks.{text}
 use Rattle.ecma_layout.specs.Literals.{number_bytes}

@@ -1,6 +1,5 @@
 use Rattle.std.proofs.Common.{sym}
-use Rattle.ecma_print_pieces.proofs.Steps.{◌▸◌, chosen}
-use Rattle.ecma_print_nodes.proofs.Chosen.{otherwise}
+use Rattle.ecma_print_pieces.proofs.Steps.{◌▸◌}
 use Rattle.ecma_print_nodes.proofs.arrows.print_arrow_body.Goals as goal
 
 pub returns-then-is_block : goal.returns-then-is_block

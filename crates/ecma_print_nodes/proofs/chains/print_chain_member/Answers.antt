@@ -1,4 +1,4 @@
-use Rattle.std.proofs.Common.{Bool, not, codes, ap, ◌||◌, ◌∙◌}
+use Rattle.std.proofs.Common.{Bool, ap, ◌||◌, ◌∙◌}
 use Rattle.ecma_print_nodes.specs.Chains.{object_laid, link_laid}
 use Rattle.ecma_print_pieces.proofs.Steps.{◌▸◌, laid_as}
 use Rattle.ecma_print_nodes.proofs.chains.print_chain_member.Goals as goal

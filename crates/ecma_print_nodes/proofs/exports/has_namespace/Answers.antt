@@ -1,4 +1,4 @@
-use Rattle.std.proofs.Common.{refl, sym, ◌∙◌}
+use Rattle.std.proofs.Common.{sym, ◌∙◌}
 use Rattle.ecma_tree.specs.Tree.{trees_by}
 use Rattle.ecma_node.specs.View.{view_export_specifier}
 use Rattle.ecma_layout.specs.Layout.{is_namespace}

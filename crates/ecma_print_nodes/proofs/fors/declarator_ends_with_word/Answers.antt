@@ -1,4 +1,4 @@
-use Rattle.std.proofs.Common.{sym, ◌∙◌}
+use Rattle.std.proofs.Common.{◌∙◌}
 use Rattle.ecma_print_nodes.proofs.Chosen.{initial_end}
 use Rattle.ecma_print_nodes.proofs.fors.declarator_ends_with_word.Goals as goal
 

@@ -1,4 +1,4 @@
-use Rattle.std.proofs.Common.{◌≡◌, refl, sym, ◌∙◌}
+use Rattle.std.proofs.Common.{refl, sym, ◌∙◌}
 use Rattle.ecma_node.specs.View.{view_var_declarator}
 use Rattle.ecma_edge.proofs.Lasts.{last_of}
 use Rattle.ecma_print_nodes.proofs.fors.last_ends_with_word.Goals as goal

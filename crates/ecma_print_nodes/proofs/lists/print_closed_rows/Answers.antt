@@ -1,9 +1,8 @@
-use Rattle.std.proofs.Common.{◌≡◌, ◌+◌, true, false, drop, refl, sym, ap, subst}
+use Rattle.std.proofs.Common.{◌+◌, true, false, drop, refl, sym, ap, subst}
 use Rattle.ecma_layout.specs.Looks.{Laid}
 use Rattle.ecma_tree.specs.Tree.{trees_by}
 use Rattle.ecma_layout.specs.Looks.{line}
 use Rattle.ecma_layout.specs.Layout.{rows}
-use Rattle.ecma_print_pieces.proofs.Steps.{idle}
 use Rattle.ecma_print_nodes.proofs.Parts.{Goes, behind, sets_out, goes_on, as_left, at_part, at_end, rows_first, parts_are}
 use Rattle.ecma_print_nodes.proofs.lists.print_closed_rows.Goals as goal
 

@@ -1,4 +1,4 @@
-use Rattle.std.proofs.Common.{true, false}
+use Rattle.std.proofs.Common.{false}
 use Rattle.ecma_tree.specs.Tree.{trees_by}
 use Rattle.ecma_layout.specs.Layout.{rows}
 use Rattle.ecma_print_pieces.proofs.Steps.{◌▸◌, laid_as}

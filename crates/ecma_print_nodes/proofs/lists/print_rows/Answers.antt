@@ -1,4 +1,4 @@
-use Rattle.std.proofs.Common.{◌≡◌, ◌+◌, true, false, drop, refl, sym, ap, subst}
+use Rattle.std.proofs.Common.{◌+◌, true, false, drop, refl, sym, ap, subst}
 use Rattle.ecma_layout.specs.Looks.{Laid}
 use Rattle.ecma_tree.specs.Tree.{trees_by}
 use Rattle.ecma_layout.specs.Looks.{line}

@@ -1,4 +1,4 @@
-use Rattle.std.proofs.Common.{drop, true, false}
+use Rattle.std.proofs.Common.{drop, false}
 use Rattle.ecma_tree.specs.Tree.{trees_by}
 use Rattle.ecma_layout.specs.Looks.{line}
 use Rattle.ecma_layout.specs.Layout.{rows}

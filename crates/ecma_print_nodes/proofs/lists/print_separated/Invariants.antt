@@ -1,4 +1,4 @@
-use Rattle.std.proofs.Common.{drop, true, false}
+use Rattle.std.proofs.Common.{drop}
 use Rattle.ecma_tree.specs.Tree.{trees_by}
 use Rattle.ecma_layout.specs.Layout.{separated}
 use Rattle.ecma_print_nodes.specs.Betweens.{between_of}

@@ -1,11 +1,10 @@
 use Rattle.std.proofs.Common.{ℕ, ◌==◌, ap}
 use Rattle.ecma_token.specs.Words.{own_text}
 use Rattle.ecma_tree.specs.Tree.{plain_method}
-use Rattle.ecma_edge.specs.Edges.{starts_with_word}
-use Rattle.ecma_node.specs.View.{method_kind_word, view_prop_name}
-use Rattle.ecma_layout.specs.Looks.{◌·◌, text, blank, gap_or}
+use Rattle.ecma_node.specs.View.{method_kind_word}
+use Rattle.ecma_layout.specs.Looks.{◌·◌, text, blank}
 use Rattle.ecma_layout.specs.Layout.{method_marks}
-use Rattle.ecma_print_pieces.proofs.Steps.{◌▸◌, chosen, laid_as, gap_as}
+use Rattle.ecma_print_pieces.proofs.Steps.{◌▸◌, chosen, laid_as}
 use Rattle.ecma_print_nodes.proofs.Chosen.{otherwise, same_marks, waits_of, generates_of}
 use Rattle.ecma_print_nodes.proofs.members.print_private_head.Goals as goal
 

@@ -1,4 +1,4 @@
-use Rattle.std.proofs.Common.{◌≡◌, sym, ◌∙◌}
+use Rattle.std.proofs.Common.{sym, ◌∙◌}
 use Rattle.ecma_print_nodes.proofs.Parts.{last_hole}
 use Rattle.ecma_print_nodes.proofs.patterns.ends_with_hole.Goals as goal
 

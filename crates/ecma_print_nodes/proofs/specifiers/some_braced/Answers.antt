@@ -1,5 +1,4 @@
 use Rattle.std.proofs.Common.{refl, sym, ◌∙◌}
-use Rattle.ecma_tree.specs.Tree.{trees_by}
 use Rattle.ecma_print_nodes.proofs.Named.{passed_over, found, none_found}
 use Rattle.ecma_print_nodes.proofs.specifiers.some_braced.Goals as goal
 

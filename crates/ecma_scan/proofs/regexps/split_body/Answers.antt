@@ -3,7 +3,6 @@ use Rattle.std.specs.Str.{chars}
 use Rattle.ecma_scan.proofs.Passing.{seam}
 use Rattle.ecma_scan.proofs.RegExpLemmas.{ends_body, goes_more, goes_passed, passed_run}
 use Rattle.ecma_scan.proofs.regexps.split_body.Goals as goal
-use Rattle.ecma_scan.proofs.regexps.split_body.Goals.{else-c-eq47-via-then-c-eq47+else-not-in_class, else-c-eq47-via-else-c-eq47}
 
 pub loop-c-init : goal.loop-c-init
 loop-c-init c = (c.split_reg_exp_char.ensures.texts.1, omega (arith, c.split_reg_exp_char.ensures.lengths), goes_passed false _ _ (passed_run _ _ c.split_reg_exp_char.ensures.after))

@@ -1,4 +1,4 @@
-use Rattle.std.proofs.Common.{◌≡◌, sym, ◌∙◌}
+use Rattle.std.proofs.Common.{sym, ◌∙◌}
 use Rattle.ecma_node.specs.View.{view_var_declarator}
 use Rattle.ecma_edge.proofs.Lasts.{last_of}
 use Rattle.ecma_edge.proofs.ends.VarDeclOfEndsWithAlphaNum.ends_with_alpha_num.Goals as goal

@@ -1,4 +1,4 @@
-use Rattle.std.proofs.Common.{rules, refl}
+use Rattle.std.proofs.Common.{refl}
 use Rattle.ecma_node.proofs.expr_box.Child+Part+ExprTag.node_mut.Goals as goal
 
 pub returns : goal.returns

@@ -1,4 +1,4 @@
-use Rattle.std.proofs.Common.{rules, refl}
+use Rattle.std.proofs.Common.{refl}
 use Rattle.ecma_node.proofs.stmt_box.Child+Part+StmtTag.node_mut.Goals as goal
 
 pub returns : goal.returns

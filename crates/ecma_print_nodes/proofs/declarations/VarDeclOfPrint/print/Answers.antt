@@ -1,4 +1,4 @@
-use Rattle.std.proofs.Common.{Bool, List, sym, ap, ◌∙◌, if◌then◌else◌}
+use Rattle.std.proofs.Common.{Bool, sym, ap, ◌∙◌, if◌then◌else◌}
 use Rattle.ecma_tree.specs.Tree.{trees_by}
 use Rattle.ecma_node.specs.View.{view_var_declarator}
 use Rattle.ecma_layout.specs.Looks.{text, gap, blank}

@@ -1,4 +1,4 @@
-use Rattle.std.proofs.Common.{List, ap}
+use Rattle.std.proofs.Common.{ap}
 use Rattle.ecma_tree.specs.Tree.{trees_by}
 use Rattle.ecma_node.specs.View.{view_decorator}
 use Rattle.ecma_layout.specs.Layout.{each}

@@ -1,5 +1,3 @@
-use Rattle.std.proofs.Common.{◌≡◌, ℕ, List, Option, refl, ap, ◌∙◌}
-use Rattle.std.specs.Prelude.{option_map}
 use Rattle.ecma_layout.specs.Literals.{string}
 use Rattle.ecma_print_pieces.proofs.Steps.{◌▸◌, laid_as}
 use Rattle.ecma_print_nodes.proofs.Chosen.{same_two}

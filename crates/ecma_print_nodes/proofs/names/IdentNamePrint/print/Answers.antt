@@ -1,7 +1,7 @@
-use Rattle.std.proofs.Common.{◌≡◌, ℕ, Bool, true, false, if◌then◌else◌, List, refl, sym, ap, subst, ◌∙◌}
+use Rattle.std.proofs.Common.{◌≡◌, ℕ, Bool, true, false, if◌then◌else◌, List, refl, sym}
 use Rattle.ecma_token.specs.declared.place.Span.{Span}
 use Rattle.ecma_layout.specs.declared.look.Look.{Look}
-use Rattle.ecma_layout.specs.Looks.{Laid, text, ◌·◌, commit, start}
+use Rattle.ecma_layout.specs.Looks.{text, ◌·◌, commit, start}
 use Rattle.ecma_layout.specs.Literals.{name_bytes, key_bytes, name, key_word}
 use Rattle.ecma_print_pieces.proofs.Steps.{◌▸◌, laid_as}
 use Rattle.ecma_print_nodes.proofs.names.IdentNamePrint.print.Goals as goal
