@@ -7,6 +7,7 @@ use Rattle.ecma_token.specs.Kinds.{async_kind, question_mark_kind, comma_kind, c
 use Rattle.ecma_tree.specs.Tree.{Tree, Trees, none, more, ident, cond_expr, assign_expr, arrow_expr, yield_expr, seq_expr, absent, block_stmt}
 use Rattle.ecma_syntax.specs.Input.{PlacedToken, Input, Code, kind, kind_of, brk, content_of, text_in, is_word, no_name, barred, with_in, in_arrow}
 use Rattle.ecma_syntax.specs.Operators.{assignment_level}
+use Rattle.ecma_syntax.specs.Shape.{last_tree, last_of}
 use Rattle.ecma_grammar.specs.Children.{CommaThen, Expr}
 use Rattle.ecma_grammar.specs.Grammar.{Produces, children}
 use Rattle.ecma_grammar_placed.proofs.Functions.{arrow_head}
@@ -14,7 +15,7 @@ use Rattle.ecma_grammar_placed.proofs.Placed.{move, moves}
 use Rattle.ecma_grammar_complete_base.specs.Laws.{coded, InOrder}
 use Rattle.ecma_grammar_laws.specs.Laws.{OfLevel}
 use Rattle.ecma_complete_fronts.specs.Laws.{input_at, IsComplete, Expression}
-use Rattle.ecma_complete_fronts.specs.Asyncs.{names_next, takes_name, last_tree, last_of, Worded, FrontsStandAlone}
+use Rattle.ecma_complete_fronts.specs.Asyncs.{names_next, takes_name, Worded, FrontsStandAlone}
 use Rattle.ecma_complete_fronts.proofs.Cut.{closing, cut, cut_here, cut_front}
 use Rattle.ecma_complete_fronts.proofs.Longer.{Before, NoLonger, NoMore, level_of, longer_conditional, longer_assign, longer_yield, longer_yield_all, longer_arrow, longer_sequence, longer_next, longer_last, no_name_next}
 use Rattle.ecma_complete_fronts.proofs.Exact.{ends_there}

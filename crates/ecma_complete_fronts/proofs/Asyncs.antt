@@ -6,7 +6,7 @@ use Rattle.ecma_tree.specs.Tree.{Tree, Trees, more, cond_expr, assign_expr, arro
 use Rattle.ecma_nesting.specs.Nesting.{nesting}
 use Rattle.ecma_syntax.specs.Input.{PlacedToken, Input, Code, kind, kind_of, brk, in_arrow}
 use Rattle.ecma_syntax.specs.Operators.{goes_expr, may_name, assignment_level}
-use Rattle.ecma_syntax.specs.Shape.{level, ends}
+use Rattle.ecma_syntax.specs.Shape.{level, ends, last_tree, last_of}
 use Rattle.ecma_grammar.specs.Grammar.{Produces}
 use Rattle.ecma_grammar_placed.proofs.Placed.{move}
 use Rattle.ecma_reading.specs.Source.{State}
@@ -24,7 +24,7 @@ use Rattle.ecma_grammar_laws.proofs.SoundLemmas.{expressions_sound}
 use Rattle.ecma_sources.specs.Ahead.{ends_async, last_async, Named, heads, Instead, at_list}
 use Rattle.ecma_sources.proofs.Ahead.{one_ahead}
 use Rattle.ecma_complete_fronts.specs.Laws.{input_at, IsComplete, EndsAt, EndsBefore, Expression}
-use Rattle.ecma_complete_fronts.specs.Asyncs.{names_next, takes_name, last_tree, last_of, ExpressionsSettle}
+use Rattle.ecma_complete_fronts.specs.Asyncs.{names_next, takes_name, ExpressionsSettle}
 use Rattle.ecma_complete_fronts.proofs.Fronts.{IsRead, reads_of, rest_of, head_or, split, halves, order_cut, no_shorter, Quit, readers_quit, no_member, of_level, cut_expression, whole_expression, expressions_end}
 use Rattle.ecma_complete_fronts.proofs.Cut.{closing}
 use Rattle.ecma_complete_fronts.proofs.Onto.{Mild, Onto, onto, goes_alike}

@@ -1,10 +1,10 @@
 -- The word `async` at the end of an expression, before a name: where an assignment may stand an arrow goes on with it.
 use Rattle.std.specs.Prelude.{◌≡◌, ◌≤◌, ◌<◌, ℕ, Bool, true, false, not, ◌&&◌, List, [], ◌∷◌, Ok, codes, bytes_eq}
 use Rattle.ecma_token.specs.Kinds.{async_kind}
-use Rattle.ecma_tree.specs.Tree.{Tree, Trees, none, more, ident, seq_expr, assign_expr, cond_expr, arrow_expr, yield_expr, absent}
+use Rattle.ecma_tree.specs.Tree.{Tree, ident, assign_expr, cond_expr, arrow_expr, yield_expr}
 use Rattle.ecma_syntax.specs.Input.{PlacedToken, Input, Code, kind, brk, text_in, is_word, no_name, barred, in_arrow}
 use Rattle.ecma_syntax.specs.Operators.{goes_expr}
-use Rattle.ecma_syntax.specs.Shape.{ends}
+use Rattle.ecma_syntax.specs.Shape.{ends, last_of}
 use Rattle.ecma_reading.specs.Source.{State, list_stream}
 use Rattle.ecma_reading.specs.Reading.{readers}
 use Rattle.ecma_grammar_complete_base.specs.Laws.{InOrder}
@@ -23,16 +23,6 @@ takes_name c (cond_expr s a b d) r = takes_name c d r
 takes_name c (arrow_expr s ps b i) r = takes_name (in_arrow i c) b r
 takes_name c (yield_expr s e g) r = takes_name c e r
 takes_name c _ r = false
-
--- the last of some trees, and that of a sequence
-abbrev pub last_tree : Trees → Tree
-last_tree none = absent
-last_tree (more t none) = t
-last_tree (more t (more u ts)) = last_tree (more u ts)
-
-abbrev pub last_of : Tree → Tree
-last_of (seq_expr s xs) = last_tree xs
-last_of t = t
 
 -- What is read as an expression is derived from a complete front, and the next token doesn't go on with it; but where an arrow may go on so.
 abbrev pub ExpressionsSettle : Type 0

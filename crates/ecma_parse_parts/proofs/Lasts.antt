@@ -2,7 +2,8 @@
 use Rattle.std.proofs.Common.{◌≡◌, ◌-◌, List, [], ◌∷◌, length, Option, None, Some, map, refl, ap, sym, arith, ◌∙◌}
 use Rattle.std.specs.List.{slice_get}
 use Rattle.ecma_tree.specs.Tree.{Tree, absent, trees_by}
-use Rattle.ecma_parse_parts.specs.Ends.{last_tree, initial_of, last_initial}
+use Rattle.ecma_syntax.specs.Shape.{last_tree}
+use Rattle.ecma_parse_parts.specs.Ends.{initial_of, last_initial}
 
 abbrev told : {A : Type 0} → (A → Tree) → Option A → Tree
 told f None = absent

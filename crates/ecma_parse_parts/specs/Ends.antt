@@ -1,6 +1,6 @@
 -- Where a part of a program ends that is read alone: its end doesn't go on as an arrow.
 use Rattle.std.specs.Prelude.{Bool, false, not, ◌&&◌, if◌then◌else◌, List, [], ◌∷◌, Option, Some, None, codes, bytes_eq}
-use Rattle.ecma_tree.specs.Tree.{Tree, Trees, none, more, ident, seq_expr, assign_expr, cond_expr, arrow_expr, yield_expr, param, assign_pat, absent}
+use Rattle.ecma_tree.specs.Tree.{Tree, ident, assign_expr, cond_expr, arrow_expr, yield_expr, param, assign_pat, absent}
 use Rattle.ecma_syntax.specs.Input.{Code, brk, in_arrow}
 use Rattle.ecma_reading.specs.Source.{Stream, State, input, is_name}
 
@@ -14,16 +14,6 @@ async_end c (cond_expr s a b d) = async_end c d
 async_end c (arrow_expr s ps b i) = async_end (in_arrow i c) b
 async_end c (yield_expr s e g) = async_end c e
 async_end c _ = None
-
--- the last of some trees, and that of a sequence
-abbrev pub last_tree : Trees → Tree
-last_tree none = absent
-last_tree (more t none) = t
-last_tree (more t (more u ts)) = last_tree (more u ts)
-
-abbrev pub last_of : Tree → Tree
-last_of (seq_expr s xs) = last_tree xs
-last_of t = t
 
 -- the initialiser of the last parameter
 abbrev pub initial_of : Tree → Tree

@@ -5,10 +5,11 @@ use Rattle.std.specs.Prelude.{ℕ, Bool, not, ◌&&◌, ◌||◌, if◌then◌el
 use Rattle.ecma_token.specs.Kinds.{comma_kind, dot_dot_dot_kind, left_bracket_kind, left_brace_kind}
 use Rattle.ecma_tree.specs.Tree.{Tree, pack, list}
 use Rattle.ecma_syntax.specs.Input.{Code}
+use Rattle.ecma_syntax.specs.Shape.{last_of}
 use Rattle.ecma_reading.specs.Source.{unexpected, ◌>>=◌, Stream, Inner, State, Read, past, bound, at, is_name, Step, go_on, finished, iterate}
 use Rattle.ecma_reading.specs.Expressions.{key_by, parameter_by, is_rest_param}
 use Rattle.ecma_reading.specs.Reading.{readers}
-use Rattle.ecma_parse_parts.specs.Ends.{async_end, heads_arrow, last_of, last_initial}
+use Rattle.ecma_parse_parts.specs.Ends.{async_end, heads_arrow, last_initial}
 use Rattle.ecma_parse_parts.specs.Within.{settled}
 
 module _ {S : Type 0} (m : Stream S) where

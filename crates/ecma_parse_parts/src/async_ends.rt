@@ -1,5 +1,6 @@
 //! The word `async` at the end of an expression that stands alone.
 ghost use Rattle.std.specs.Prelude.{◌≡◌, All, map, option_map};
+ghost use Rattle.ecma_syntax.specs.Shape.{last_of};
 ghost use Rattle.ecma_node.specs.Fits.{fits_param};
 ghost use Rattle.ecma_node.specs.Placed.{inner};
 ghost use Rattle.ecma_node.specs.View.{view_param};
@@ -36,7 +37,7 @@ pub fn async_end(code: Around, expr: &Expr) -> Option<Around>
 
 /// The same of an expression that may be a sequence.
 pub fn sequence_async_end(code: Around, expr: &Expr) -> Option<Around>
-    ensures { option_map code_of result ≡ ends.async_end (code_of code) (ends.last_of expr.now) }
+    ensures { option_map code_of result ≡ ends.async_end (code_of code) (last_of expr.now) }
 {
     let ExprKind::Seq(seq) = &expr.kind else {
         return async_end(code, expr);

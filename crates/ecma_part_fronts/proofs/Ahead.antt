@@ -6,7 +6,7 @@ use Rattle.ecma_token.specs.Kinds.{comma_kind, dot_dot_dot_kind, assign_kind}
 use Rattle.ecma_tree.specs.Tree.{Tree, Trees, none, more, unpack, param, rest_pat, assign_pat}
 use Rattle.ecma_syntax.specs.Input.{PlacedToken, Input, Code, kind, kind_of, lo_of, dots_at, span, with_in, others, hi_of, Takes}
 use Rattle.ecma_syntax.specs.Operators.{may_name, assignment_level}
-use Rattle.ecma_syntax.specs.Shape.{is_binding, is_param, is_rest}
+use Rattle.ecma_syntax.specs.Shape.{is_binding, is_param, is_rest, last_tree}
 use Rattle.ecma_grammar.specs.Grammar.{Produces}
 use Rattle.ecma_reading.specs.Source.{Fault, ◌>>=◌, State, Inner, past, bound, at, spanned, Step, go_on, finished, next_by, iterate_n}
 use Rattle.ecma_reading.specs.Expressions.{parameter_by, is_rest_param}
@@ -20,7 +20,6 @@ use Rattle.ecma_sources.specs.Sources.{one}
 use Rattle.ecma_sources.specs.Ahead.{Named, Instead, at_list}
 use Rattle.ecma_sources.proofs.Ahead.{one_ahead}
 use Rattle.ecma_complete_fronts.specs.Laws.{input_at}
-use Rattle.ecma_complete_fronts.specs.Asyncs.{last_tree}
 use Rattle.ecma_parse_parts.specs.Parts.{starts_param, bare_step}
 
 -- ---- tests of the first token

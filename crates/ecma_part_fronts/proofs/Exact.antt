@@ -2,7 +2,7 @@
 use Rattle.std.proofs.Common.{◌≡◌, ◌≤◌, ℕ, Bool, false, cond, if◌then◌else◌, List, Result, Ok, sym, ap, ◌∙◌}
 use Rattle.ecma_tree.specs.Tree.{Tree, Trees, pack, unpack, list}
 use Rattle.ecma_syntax.specs.Input.{Input, Code}
-use Rattle.ecma_syntax.specs.Shape.{is_statement}
+use Rattle.ecma_syntax.specs.Shape.{is_statement, last_of}
 use Rattle.ecma_reading.specs.Source.{Fault, unexpected, ◌>>=◌, State, list_stream}
 use Rattle.ecma_grammar_complete_rules.proofs.Lists.{pack_unpack}
 use Rattle.ecma_complete_fronts.specs.Laws.{Whatever, Expression, Binding, Key, Statement, ListItem, ModuleItem}
@@ -10,7 +10,7 @@ use Rattle.ecma_complete_fronts.specs.Exact.{Stopped}
 use Rattle.ecma_complete_fronts.specs.Asyncs.{takes_name, Worded}
 use Rattle.ecma_complete_fronts.proofs.Alone.{fronts_stand_alone}
 use Rattle.ecma_complete_fronts.proofs.Exact.{fronts_are_exact}
-use Rattle.ecma_parse_parts.specs.Ends.{async_end, heads_arrow, last_of, last_initial}
+use Rattle.ecma_parse_parts.specs.Ends.{async_end, heads_arrow, last_initial}
 use Rattle.ecma_parse_parts.specs.Within.{settled}
 use Rattle.ecma_parse_parts.specs.Parts.{as_list, expression_part, binding_part, key_part, parameters_part}
 use Rattle.ecma_parse_parts.specs.Items.{statement_part, list_item_part, module_item_part}

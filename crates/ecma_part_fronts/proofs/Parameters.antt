@@ -6,7 +6,7 @@ use Rattle.ecma_tree.specs.Tree.{Tree, Trees, none, more, pack, unpack, list, pa
 use Rattle.ecma_nesting.specs.Nesting.{nesting}
 use Rattle.ecma_syntax.specs.Input.{PlacedToken, Input, Code, kind, kind_of, with_in, in_arrow}
 use Rattle.ecma_syntax.specs.Operators.{goes_expr, may_name, assignment_level}
-use Rattle.ecma_syntax.specs.Shape.{ends, is_param, is_rest}
+use Rattle.ecma_syntax.specs.Shape.{ends, is_param, is_rest, last_tree}
 use Rattle.ecma_grammar.specs.Children.{IsEmpty}
 use Rattle.ecma_grammar.specs.Grammar.{Produces, children}
 use Rattle.ecma_grammar_placed.proofs.Kin.{Kin}
@@ -30,7 +30,7 @@ use Rattle.ecma_grammar_laws.proofs.SteadyLemmas.{readers_steady}
 use Rattle.ecma_sources.specs.Sources.{one}
 use Rattle.ecma_sources.specs.Ahead.{ends_async, Named, heads, at_list}
 use Rattle.ecma_complete_fronts.specs.Laws.{input_at, EndsBefore, EndsAt, IsComplete}
-use Rattle.ecma_complete_fronts.specs.Asyncs.{takes_name, last_tree}
+use Rattle.ecma_complete_fronts.specs.Asyncs.{takes_name}
 use Rattle.ecma_complete_fronts.proofs.Fronts.{head_or, split, halves, order_cut, no_shorter, kept_answer, Quit, readers_quit, question_goes, follow_by}
 use Rattle.ecma_complete_fronts.proofs.Cut.{closing, cut, cut_here, cut_like}
 use Rattle.ecma_complete_fronts.proofs.Onto.{Onto, onto, goes_alike}

@@ -6,7 +6,7 @@ use Rattle.ecma_tree.specs.Tree.{Tree, Trees, none, more, list, param, rest_pat,
 use Rattle.ecma_nesting.specs.Nesting.{nesting}
 use Rattle.ecma_syntax.specs.Input.{PlacedToken, Input, Code, kind, kind_of, brk, lo, span, text, dots_at, escaped, is_word, always_reserved, strict_reserved, operator_word, no_name, barred, with_in, in_arrow, Takes, TakesName}
 use Rattle.ecma_syntax.specs.Operators.{between, goes_expr}
-use Rattle.ecma_syntax.specs.Shape.{level, ends, is_binding, is_place, is_item_pat, is_param, is_rest}
+use Rattle.ecma_syntax.specs.Shape.{level, ends, is_binding, is_place, is_item_pat, is_param, is_rest, last_tree}
 use Rattle.ecma_grammar.specs.Expressions.{is_update_op}
 use Rattle.ecma_grammar.specs.Grammar.{Produces, children}
 use Rattle.ecma_grammar_placed.proofs.Placed.{move}
@@ -20,7 +20,7 @@ use Rattle.ecma_grammar_complete.proofs.Tied.{known, complete}
 use Rattle.ecma_sources.specs.Ahead.{at_list}
 use Rattle.ecma_complete_fronts.specs.Laws.{input_at, EndsAt, EndsBefore, IsComplete, Expression}
 use Rattle.ecma_complete_fronts.specs.Exact.{goes_after, Stopped}
-use Rattle.ecma_complete_fronts.specs.Asyncs.{names_next, takes_name, last_tree, Worded}
+use Rattle.ecma_complete_fronts.specs.Asyncs.{names_next, takes_name, Worded}
 use Rattle.ecma_complete_fronts.proofs.Fronts.{halves}
 use Rattle.ecma_complete_fronts.proofs.Cut.{cut, cut_here}
 use Rattle.ecma_complete_fronts.proofs.Alone.{behind, cut_end, operand}

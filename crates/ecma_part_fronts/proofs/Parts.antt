@@ -2,21 +2,21 @@
 use Rattle.std.proofs.Common.{◌≡◌, ◌≤◌, ◌<◌, ℕ, Bool, true, false, ◌&&◌, codes, bytes_eq, cond, nat_le, if◌then◌else◌, List, [], Option, Some, None, Result, Ok, Err, refl, sym, ap, ap₂, ◌∙◌, subst, true≢false, le-leb, leb-true, arith}
 use Rattle.ecma_token.specs.declared.syntax.EsSyntax.{EsSyntax}
 use Rattle.ecma_token.specs.Kinds.{plus_plus_kind, minus_minus_kind}
-use Rattle.ecma_tree.specs.Tree.{Tree, Trees, none, more, ident, seq_expr, assign_expr, cond_expr, arrow_expr, yield_expr, pack, list}
+use Rattle.ecma_tree.specs.Tree.{Tree, ident, assign_expr, cond_expr, arrow_expr, yield_expr, pack, list}
 use Rattle.ecma_nesting.specs.Nesting.{nesting}
 use Rattle.ecma_syntax.specs.Input.{Input, Code, kind, module_code, alone, in_list, in_arrow}
 use Rattle.ecma_syntax.specs.Operators.{between, goes_expr}
-use Rattle.ecma_syntax.specs.Shape.{ends, is_clean, is_statement}
+use Rattle.ecma_syntax.specs.Shape.{ends, is_clean, is_statement, last_of}
 use Rattle.ecma_reading.specs.Source.{Fault, too_deep, unexpected, ◌>>=◌, State, list_stream}
 use Rattle.ecma_reading.specs.Expressions.{key_by}
 use Rattle.ecma_reading.specs.Modules.{item_by}
 use Rattle.ecma_reading.specs.Reading.{readers}
 use Rattle.ecma_sources.specs.Ahead.{at_list}
 use Rattle.ecma_complete_fronts.specs.Laws.{input_at, IsComplete, Expression, Binding, Key, Statement, ListItem, ModuleItem, Whatever, Apart}
-use Rattle.ecma_complete_fronts.specs.Asyncs.{names_next, takes_name, last_tree as final_tree, last_of as final_of}
+use Rattle.ecma_complete_fronts.specs.Asyncs.{names_next, takes_name}
 use Rattle.ecma_complete_fronts.proofs.Asyncs.{expressions_settle}
 use Rattle.ecma_complete_fronts.proofs.Fronts.{bindings_end, keys_end, statements_end, list_items_end, module_items_end, fronts_are_read}
-use Rattle.ecma_parse_parts.specs.Ends.{async_end, heads_arrow, last_tree, last_of, last_initial}
+use Rattle.ecma_parse_parts.specs.Ends.{async_end, heads_arrow, last_initial}
 use Rattle.ecma_parse_parts.specs.Within.{settled}
 use Rattle.ecma_parse_parts.specs.Parts.{bare_by, as_list, expression_part, binding_part, key_part, parameters_part}
 use Rattle.ecma_parse_parts.specs.Items.{statement_part, list_item_part, module_item_part}
@@ -76,20 +76,11 @@ end_alike (arrow_expr p ps b i) c s = end_alike b (in_arrow i c) s
 end_alike (yield_expr p e g) c s = end_alike e c s
 end_alike _ c s = refl
 
-last_alike : (ts : Trees) → last_tree ts ≡ final_tree ts
-last_alike none = refl
-last_alike (more t none) = refl
-last_alike (more t (more u ts)) = last_alike (more u ts)
+no_arrow : (c : Code) (t : Tree) (r : State Input) → heads_arrow list_stream (async_end c (last_of t)) r ≡ false → takes_name c (last_of t) r.source ≡ false
+no_arrow c t r h = sym (end_alike (last_of t) c r) ∙ h
 
-of_alike : (t : Tree) → last_of t ≡ final_of t
-of_alike (seq_expr p xs) = last_alike xs
-of_alike _ = refl
-
-no_arrow : (c : Code) (t : Tree) (r : State Input) → heads_arrow list_stream (async_end c (last_of t)) r ≡ false → takes_name c (final_of t) r.source ≡ false
-no_arrow c t r h = sym (ap (λ (u : Tree). takes_name c u r.source) (of_alike t)) ∙ (sym (end_alike (last_of t) c r) ∙ h)
-
-pub heads_none : (c : Code) (t : Tree) (r : State Input) → takes_name c (final_of t) r.source ≡ false → heads_arrow list_stream (async_end c (last_of t)) r ≡ false
-heads_none c t r h = end_alike (last_of t) c r ∙ (ap (λ (u : Tree). takes_name c u r.source) (of_alike t) ∙ h)
+pub heads_none : (c : Code) (t : Tree) (r : State Input) → takes_name c (last_of t) r.source ≡ false → heads_arrow list_stream (async_end c (last_of t)) r ≡ false
+heads_none c t r h = end_alike (last_of t) c r ∙ h
 
 -- what passes a test that refuses
 refused_by : (x : Answer) (f : Tree × State Input → Bool) (t : Tree) (r : State Input) → (x >>= λ y. if f y then unexpected list_stream y.1 else Ok y) ≡ Ok (t, r) → f (t, r) ≡ false

@@ -4,7 +4,7 @@ use Rattle.ecma_tree.specs.Tree.{Tree, list, pack}
 use Rattle.ecma_nesting.specs.Nesting.{nesting}
 use Rattle.ecma_syntax.specs.Input.{PlacedToken, Input, Code, brk, alone, in_list}
 use Rattle.ecma_syntax.specs.Operators.{closed_end}
-use Rattle.ecma_syntax.specs.Shape.{is_clean, is_statement}
+use Rattle.ecma_syntax.specs.Shape.{is_clean, is_statement, last_of}
 use Rattle.ecma_reading.specs.Source.{Fault, unexpected, Stream, State, Read, input, operand, is_name}
 use Rattle.ecma_reading.specs.Reading.{readers}
 use Rattle.ecma_reading.specs.Modules.{item_by as module_item_by}
@@ -22,7 +22,7 @@ use Rattle.ecma_sources.proofs.ConsumedExpressions.{key_by_backed, prop_by_backe
 use Rattle.ecma_sources.proofs.ConsumedModules.{item_by_backed as module_item_backed}
 use Rattle.ecma_sources.proofs.ConsumedLemmas.{readers_echoed}
 use Rattle.ecma_sources.proofs.ConsumedParts.{good_closed, good_calm, good_edge, same_closed, same_calm, same_edge, read_consumed}
-use Rattle.ecma_parse_parts.specs.Ends.{async_end, heads_arrow, last_of, last_initial}
+use Rattle.ecma_parse_parts.specs.Ends.{async_end, heads_arrow, last_initial}
 use Rattle.ecma_parse_parts.specs.Within.{settled}
 use Rattle.ecma_parse_parts.specs.Parts.{expression_part, binding_part, key_part, parameters_part}
 use Rattle.ecma_parse_parts.specs.Props.{value_of, prop_part, item_part}

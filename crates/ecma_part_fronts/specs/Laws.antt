@@ -4,12 +4,12 @@ use Rattle.ecma_token.specs.declared.syntax.EsSyntax.{EsSyntax}
 use Rattle.ecma_tree.specs.Tree.{Tree}
 use Rattle.ecma_nesting.specs.Nesting.{nesting}
 use Rattle.ecma_syntax.specs.Input.{PlacedToken, Input, Code, module_code}
-use Rattle.ecma_syntax.specs.Shape.{ends, is_clean}
+use Rattle.ecma_syntax.specs.Shape.{ends, is_clean, last_of}
 use Rattle.ecma_reading.specs.Source.{State, Read, list_stream}
 use Rattle.ecma_grammar_complete_base.specs.Laws.{InOrder, Follow}
 use Rattle.ecma_sources.specs.Ahead.{Named, at_list}
 use Rattle.ecma_complete_fronts.specs.Laws.{input_at, IsComplete, Expression, Binding, Key, Statement, ListItem, ModuleItem, Whatever, Apart}
-use Rattle.ecma_parse_parts.specs.Ends.{async_end, heads_arrow, last_of}
+use Rattle.ecma_parse_parts.specs.Ends.{async_end, heads_arrow}
 use Rattle.ecma_parse_parts.specs.Parts.{expression_part, binding_part, key_part, parameters_part}
 use Rattle.ecma_parse_parts.specs.Items.{statement_part, list_item_part, module_item_part}
 use Rattle.ecma_part_fronts.specs.Parameters.{Parameters}

@@ -4,7 +4,7 @@ use Rattle.ecma_token.specs.Kinds.{comma_kind}
 use Rattle.ecma_tree.specs.Tree.{Tree, Trees, pack, unpack, list}
 use Rattle.ecma_nesting.specs.Nesting.{nesting}
 use Rattle.ecma_syntax.specs.Input.{PlacedToken, Input, Code, Takes, with_in}
-use Rattle.ecma_syntax.specs.Shape.{is_param, is_rest}
+use Rattle.ecma_syntax.specs.Shape.{is_param, is_rest, last_tree}
 use Rattle.ecma_grammar.specs.Children.{Child, IsEmpty, Sorted}
 use Rattle.ecma_grammar.specs.Grammar.{children}
 use Rattle.ecma_reading.specs.Source.{State, list_stream}
@@ -13,7 +13,7 @@ use Rattle.ecma_grammar_complete_base.specs.Laws.{coded, InOrder}
 use Rattle.ecma_sources.specs.Ahead.{Named, at_list}
 use Rattle.ecma_complete_fronts.specs.Laws.{input_at, IsComplete, Expression}
 use Rattle.ecma_complete_fronts.specs.Exact.{Stopped}
-use Rattle.ecma_complete_fronts.specs.Asyncs.{takes_name, last_tree, Worded}
+use Rattle.ecma_complete_fronts.specs.Asyncs.{takes_name, Worded}
 use Rattle.ecma_parse_parts.specs.Ends.{initial_of, last_initial}
 use Rattle.ecma_parse_parts.specs.Parts.{bare_by}
 

@@ -10,10 +10,7 @@ use Rattle.ecma_syntax.specs.Operators.{assignment_level, binary_level, goes_exp
 use Rattle.ecma_reading.specs.Source.{Fault, ◌>>=◌, placed, unexpected, Stream, State, Read, input, past, operand, at, bound, spanned, eat, eat_word, is_name, name, any_word, Step, go_on, finished, next_by, iterate_n, iterate, Inner}
 use Rattle.ecma_reading.specs.Expressions.{Elements, literal, only_kind, joined, extended, is_read, last_end, plain_elements, no_elements, is_unary, first, literal_by, elements_by, noted, array_by, computed_by, private_by, function_by, star, prop_step, object_by, quasi_step, template_by, arrows_at, arrow_by, params_of, heads_params, group_end, group_by, ident_end, arguments_by, async_group, function_expr_name, function_expr_by, is_async_param, async_by, class_expr_by, new_end, callee_by, new_by, super_end, fits_import, import_by, unary_by, update_by, await_by, ends_yield, yield_end, yield_by, word_by, keyword_by, prefix_by, member_name, on_chain, member_by, index_by, call_tree, call_by, chain_by, cond_by, assign_by, binary_by, step_by, loop_step, loop_by, private_in, expr_from, expr_by}
 use Rattle.ecma_reading.specs.Cover.{last_rests, to_target}
-use Rattle.ecma_sources.specs.Sources.{}
-use Rattle.ecma_sources.proofs.Beside.{}
 use Rattle.ecma_syntax.specs.Shape.{is_block}
-use Rattle.ecma_sources.proofs.Backs.{}
 use Rattle.ecma_reading.specs.Reading.{readers}
 use Rattle.ecma_reading.specs.Source.{Read, bound, next_by, iterate_n, iterate, go_on, finished, Step, Fault}
 use Rattle.ecma_syntax.specs.Shape.{is_chain, level}

@@ -75,6 +75,16 @@ abbrev mutual
   last_ends (more t none) = ends t
   last_ends (more t (more u ts)) = last_ends (more u ts)
 
+-- the last of some trees, and that of a sequence (13.16)
+abbrev pub last_tree : Trees → Tree
+last_tree none = absent
+last_tree (more t none) = t
+last_tree (more t (more u ts)) = last_tree (more u ts)
+
+abbrev pub last_of : Tree → Tree
+last_of (seq_expr s xs) = last_tree xs
+last_of t = t
+
 -- The left operand of a binary operator: `#x in`, no unary before `**`, no `||` and no `&&` before `??`.
 abbrev pub is_private : Tree → Bool
 is_private (private_name s n) = true

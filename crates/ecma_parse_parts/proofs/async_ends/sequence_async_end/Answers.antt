@@ -1,7 +1,7 @@
 use Rattle.std.proofs.Common.{rules, ◌≡◌, sym, ◌∙◌}
 use Rattle.ecma_tree.specs.Tree.{trees_by}
 use Rattle.ecma_node.specs.Placed.{inner}
-use Rattle.ecma_parse_parts.specs.Ends.{last_of, last_tree}
+use Rattle.ecma_syntax.specs.Shape.{last_of, last_tree}
 use Rattle.ecma_parse_parts.proofs.Lasts.{last_in}
 use Rattle.ecma_parse_parts.proofs.async_ends.sequence_async_end.Goals as goal
 
