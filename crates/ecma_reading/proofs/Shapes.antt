@@ -1,6 +1,6 @@
 -- The shape of a tree as a text, without places: a node in parentheses, its name first, an absent part as `-`, a hole as `_`.
 use Rattle.std.proofs.Common.{ℕ, Bool, ◌==◌, if◌then◌else◌, List, [], ◌∷◌, ◌++◌, Option, Some, None, codes}
-use Rattle.ecma_token.specs.Kinds.{var_kind, let_kind, new_kind, get_kind, set_kind, plus_plus_kind, minus_minus_kind, add_kind, sub_kind}
+use Rattle.ecma_token.specs.Kinds.{var_kind, let_kind, new_kind, get_kind, set_kind, plus_plus_kind, minus_minus_kind, bang_kind, tilde_kind, add_kind, sub_kind}
 use Rattle.ecma_token.specs.Operators.{operator_text}
 use Rattle.ecma_token.specs.Words.{own_words, text_among}
 use Rattle.ecma_tree.specs.Folds.{fold}

@@ -1,7 +1,7 @@
 -- Punctuators (12.8), with the words `#` and `@`, by the kinds of their tokens.
 use Rattle.std.specs.Prelude.{◌≡◌, ℕ, ◌≤◌, Bool, true, false, ◌&&◌, ◌⊎◌, List, [], ◌∷◌, ◌++◌, length, codes, Option, None, Some, if◌then◌else◌, ◌==◌}
 use Rattle.ecma_token.specs.declared.token.TokenKind.{TokenKind}
-use Rattle.ecma_token.specs.declared.token.TokenKind.TheVariants.{BinOp, AssignOp, DotDotDot, Arrow, PlusPlus, LBrace, RBrace, LParen, RParen, LBracket, RBracket, Semi, Comma, Colon, Dot, Hash, At, Tilde, QuestionMark, Bang, BackQuote}
+use Rattle.ecma_token.specs.declared.token.TokenKind.TheVariants.{BinOp, AssignOp, DotDotDot, Arrow, PlusPlus, MinusMinus, LBrace, RBrace, LParen, RParen, LBracket, RBracket, Semi, Comma, Colon, Dot, Hash, At, Tilde, QuestionMark, Bang, BackQuote}
 use Rattle.ecma_token.specs.declared.operator.BinOpToken.TheVariants as b
 use Rattle.ecma_token.specs.declared.operator.AssignOp.TheVariants as a
 use Rattle.ecma_scan.specs.Characters.{is_decimal_digit}
