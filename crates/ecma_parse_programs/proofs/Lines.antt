@@ -3,7 +3,7 @@ use Rattle.std.proofs.Common.{◌≡◌, ℕ, Bool, true, false, List, Option, N
 use Rattle.ecma_token.specs.Kinds.{shebang_kind}
 use Rattle.ecma_token_source.specs.Machine as tokens
 use Rattle.ecma_syntax.specs.Input.{Code, lo, content}
-use Rattle.ecma_reading.specs.Source.{Stream, State, Inner, unexpected, input, past, at}
+use Rattle.ecma_reading.specs.Source.{Stream, State, Inner, unexpected, input, past, at, ◌>>=◌}
 use Rattle.ecma_reading.specs.Modules.{line_of, program_by, program_rest}
 use Rattle.ecma_parse_state.specs.Cursors.{Cursor, stream_of}
 use Rattle.ecma_parse_state.specs.States.{from}
