@@ -385,28 +385,28 @@ def has_a_version(trial):
 def adds_up_the_gate(trial):
     """The gate counts what it looks at first, what rt ci and ./test count, and the release, and fails where one of them does."""
     trial.release()
-    for name in ("tools/tree/check", "tools/crates", "tools/pages"):
+    for name in ("tools/tree/check", "tools/crates", "tools/pages", "tools/tidy"):
         trial.write(f"repository/{name}", f'#!/bin/sh\n[ "${{STALE-}}" != {name} ]\n', True)
     trial.write("repository/test", '#!/bin/sh\necho "$* ${WRONG:-0}"\necho "5 passed, ${WRONG:-0} failed"\n[ "${WRONG:-0}" = 0 ]\n', True)
     status, out, _ = trial.call(".ci/run")
-    expect((status, out.splitlines()[-1]), (0, "12 passed, 0 failed"), "all is well")
+    expect((status, out.splitlines()[-1]), (0, "13 passed, 0 failed"), "all is well")
     expect_in("what the gate says\n3 passed", out, "what rt ci says")
     expect_in("--built 0\n5 passed", out, "what ./test says")
     status, out, _ = trial.call(".ci/run", STALE="tools/crates")
-    expect((status, out.splitlines()[-1]), (1, "11 passed, 1 failed"), "a page that is another")
+    expect((status, out.splitlines()[-1]), (1, "12 passed, 1 failed"), "a page that is another")
     status, out, _ = trial.call(".ci/run", WRONG="2")
-    expect((status, out.splitlines()[-1]), (1, "12 passed, 2 failed"), "tests that fail")
+    expect((status, out.splitlines()[-1]), (1, "13 passed, 2 failed"), "tests that fail")
     status, out, _ = trial.call(".ci/run", REFUSED="1")
-    expect((status, out.splitlines()[-1]), (1, "6 passed, 1 failed"), "a proof that fails")
+    expect((status, out.splitlines()[-1]), (1, "7 passed, 1 failed"), "a proof that fails")
     status, out, _ = trial.call(".ci/run", REBUILT="otherwise")
-    expect((status, out.splitlines()[-1]), (1, "11 passed, 1 failed"), "another program of the same sources")
+    expect((status, out.splitlines()[-1]), (1, "12 passed, 1 failed"), "another program of the same sources")
     status, out, _ = trial.call(".ci/run")
-    expect((status, out.splitlines()[-1]), (1, "6 passed, 1 failed"), "programs of earlier sources")
+    expect((status, out.splitlines()[-1]), (1, "7 passed, 1 failed"), "programs of earlier sources")
     for name in ("ecma_front_cli", "ecma_lexical_answers", "ecma_program_answers"):
         shutil.rmtree(f"{trial.root}/crates/{name}/out")
     shutil.rmtree(f"{trial.root}/release")
     status, out, _ = trial.call(".ci/run")
-    expect((status, out.splitlines()[-1]), (0, "11 passed, 0 failed"), "no release")
+    expect((status, out.splitlines()[-1]), (0, "12 passed, 0 failed"), "no release")
 
 
 TRIALS = (
