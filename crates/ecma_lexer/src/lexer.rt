@@ -35,8 +35,11 @@ impl<'a> Lexer<'a> {
     ghost use Rattle.ecma_token_source.specs.Machine.{SameTold, shown_spot};
     ghost use Rattle.ecma_token_source.specs.Settings.{settings_in};
 
-    /// A lexer at the start of a text, which begins at this place, 1 or later. It keeps the comments of the
-    /// text where that is asked for.
+    /// A lexer at the start of a text, which begins at this place. It keeps the comments of the text where
+    /// that is asked for.
+    ///
+    /// It requires a place of 1 or later, and that the place and the length of the text in bytes are together
+    /// at most 4,294,967,295.
     pub fn new(
         alloc: Global,
         syntax: Syntax,

@@ -45,7 +45,7 @@ const NESTING: u32 = 256;
 impl<'a> Entries<Reading<'a, Lexer<'a>>> {
     ghost use Rattle.ecma_parser.specs.Entries.{faults_in, limit_in, source_in};
 
-    /// A parser of a text. Its places count from 1.
+    /// A parser of a text. Its places count from 1. It requires a text of at most 4,294,967,294 bytes.
     pub fn new(alloc: Global, syntax: Syntax, text: &'a str) -> Self
         requires fits { 1 + length text.now < 2 ^ 32 }
         ensures source { source_in state_in result ≡ at_start_of syntax EsNext 1 (chars text.now) (1 + length text.now) }

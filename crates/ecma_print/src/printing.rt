@@ -197,6 +197,8 @@ fn printed<W: CountedWrite>(
 
 /// Prints a program to a writer, through one block, and answers the positions where the settings ask for them.
 ///
+/// It requires a step of indentation of at most 8 blanks or tabs, as in all settings that a run doesn't refuse.
+///
 /// # Errors
 ///
 /// `Write` where the writer failed in this call; `Node` where part of the program has no text; with positions also
@@ -215,6 +217,9 @@ pub fn print<W: CountedWrite>(
 }
 
 /// The layout of a program, without positions.
+///
+/// It requires a step of indentation of at most 8 blanks or tabs, as in all settings that a run doesn't refuse, and settings
+/// that don't ask for positions.
 ///
 /// # Errors
 ///
