@@ -2,7 +2,7 @@
 use Rattle.std.proofs.Common.{◌≡◌, ◌≤◌, ℕ, Bool, true, not, List, [], Some, None, refl, sym, ap, subst, ◌∙◌}
 use lib.Utf8.{scalars}
 use Rattle.ecma_tree.specs.Tree.{Tree, script, es_module, tpl}
-use Rattle.ecma_syntax.specs.Input.{Input, Code, unplaced}
+use Rattle.ecma_syntax.specs.Input.{PlacedToken, Input, Code, unplaced}
 use Rattle.ecma_grammar.specs.Grammar.{Produces}
 use Rattle.ecma_grammar_placed.proofs.PlacedLemmas.{has_places}
 use Rattle.ecma_grammar_goals.proofs.Braces.{programs_match}
@@ -12,10 +12,12 @@ use Rattle.ecma_program_text_laws.proofs.OneLemmas.{one_tree_reads}
 use Rattle.ecma_write.specs.Pages.{Page}
 use Rattle.ecma_layout.specs.declared.look.Look.{Look}
 use Rattle.ecma_layout.specs.declared.look.Stand.TheVariants.{Alone}
-use Rattle.ecma_layout.specs.Looks.{commit, start, when, ◌·◌}
+use Rattle.ecma_layout.specs.Looks.{Laid, commit, start, when, ◌·◌}
 use Rattle.ecma_layout.specs.Layout.{is_empty, laid, statements}
 use Rattle.ecma_written.specs.Spacings.{Spaced}
 use Rattle.ecma_written.specs.Naming.{Naming, StandsFor, unplaced_names}
+use Rattle.ecma_written.specs.Ties.{kind_before}
+use Rattle.ecma_written.proofs.Behind.{kinds_stand}
 use Rattle.ecma_written.proofs.Bridge.{bridge}
 use Rattle.ecma_written.proofs.Known.{tokens_are_known}
 use Rattle.ecma_written_tiles.specs.Laws.{IsTiled}
@@ -41,7 +43,7 @@ use Rattle.ecma_redone_laws.proofs.Leaves.{read_is_faithful}
 use Rattle.ecma_redone_laws.proofs.BytesLemmas.{written_again}
 use Rattle.ecma_redone_laws.specs.DerivedLaws.{is_program}
 use Rattle.ecma_redone_laws.proofs.Programs.{derived_again}
-use Rattle.ecma_readback.specs.Laws.{GoingIsReadBack, HasLineText, IsReadBack, NamesReadBack, ProgramGoes, ProgramsAreTiled, ProgramsGo, TiledIsReadBack}
+use Rattle.ecma_readback.specs.Laws.{TellsTiles, ToldIsReadBack, kinds_alone, GoingIsReadBack, HasLineText, IsReadBack, NamesReadBack, ProgramGoes, ProgramsAreTiled, ProgramsGo, TiledIsReadBack}
 use Rattle.ecma_readback.proofs.Hashbangs.{line_text}
 use Rattle.ecma_readback.proofs.Shapes.{redone_goal, goal_is_program, program_is_no_quasi, programmed, goal_is_placed, placed_again, same_tokens, start_is_silent}
 
@@ -78,15 +80,14 @@ record ReadAs (n : Naming) (look : Look) (x : Setting) (modules : Bool) (t : Tre
   same : Redone (leaves_by look n.read n.written) Plain t tree
   whole : every HasElements Plain tree
 
--- Tokens that a layout says, and that tile a text, are derived again.
-read_as : (n : Naming) (look : Look) (x : Setting) (modules : Bool) (t : Tree) (text out : List ℕ) → scalars text ≡ true → TreeSpells x modules t text → SaysTiles (StandsFor n) text_start modules (laid look Alone t) out → ReadAs n look x modules t out
-read_as n look x modules t text out e h w =
+-- Tokens that a layout tells, and that tile a text, are derived again.
+told_as : (n : Naming) (look : Look) (x : Setting) (modules : Bool) (t : Tree) (text out : List ℕ) → scalars text ≡ true → TreeSpells x modules t text → TellsTiles n text_start modules (laid look Alone t) out → ReadAs n look x modules t out
+told_as n look x modules t text out e h w =
     let c : Code = code_of modules x.syntax in
     let i = goal_is_program modules t h.reads.2 in
     let k = tokens_are_known text_start modules text h.reads.0 e h.reads.3 in
     let ts : Input = record { last = text_start; places = w.places } in
-    let q = bridge n (laid look Alone t) Spaced w.gap ts w.over (λ b m. m.places ≡ []) w.says w.all in
-    let b = derived_again n look (texts_mean look.style) t i c (record { last = text_start; places = h.reads.0 }) h.reads.1 h.reads.4.0 k Spaced ts q in
+    let b = derived_again n look (texts_mean look.style) t i c (record { last = text_start; places = h.reads.0 }) h.reads.1 h.reads.4.0 k w.behind ts w.told in
     let u = b.0 in
     let a = b.3 in
     let g : is_of_goal modules u ≡ true = sym (redone_goal modules (kept_at n.written) Plain u) ∙ (ap (λ v. is_of_goal modules v) (a.so Plain) ∙ (redone_goal modules (leaves_by look n.read n.written) Plain t ∙ h.reads.2)) in
@@ -101,6 +102,28 @@ read_as n look x modules t text out e h w =
       whole = has_elements u c _ b.1 j s;
     }
 
+-- a naming that tells which kinds stand before the tokens
+naming_told : Naming → List PlacedToken → Naming
+naming_told n ps = record { read = n.read; written = n.written; behind = kind_before ps }
+
+-- What a layout says it tells.
+tells_tiles : (n : Naming) (modules : Bool) (f : Laid) (out : List ℕ) (w : SaysTiles (StandsFor n) text_start modules f out) → TellsTiles (naming_told n w.places) text_start modules f out
+unfolding naming_told
+tells_tiles n modules f out w =
+    let ts : Input = record { last = text_start; places = w.places } in record {
+      places = w.places;
+      tiles = w.tiles;
+      goals = w.goals;
+      behind = Spaced;
+      told = bridge (naming_told n w.places) f Spaced w.gap ts w.over (λ b m. m.places ≡ []) w.says (kinds_stand w.places) w.all;
+    }
+
+read_as : (n : Naming) (look : Look) (x : Setting) (modules : Bool) (t : Tree) (text out : List ℕ) → scalars text ≡ true → TreeSpells x modules t text → SaysTiles (StandsFor n) text_start modules (laid look Alone t) out → ReadAs n look x modules t out
+unfolding naming_told
+read_as n look x modules t text out e h w =
+    let a = told_as (naming_told n w.places) look x modules t text out e h (tells_tiles n modules (laid look Alone t) out w) in
+    record { tree = a.tree; reads = a.reads; same = a.same; whole = a.whole }
+
 -- The names of each tree that reads such a text stand for those of this one.
 pub names_stand : NamesReadBack
 names_stand n look x modules t text out e h w v r =
@@ -108,9 +131,9 @@ names_stand n look x modules t text out e h w v r =
     subst (λ (u : Tree). kept_names n.written u ≡ kept_names n.read t) (sym (one_tree_reads modules x.syntax v a.tree out r a.reads)) (names_alike look n.read n.written Plain t a.tree a.same)
 
 -- Such a tree is of the same program, and no other reads the text; and it is written as the other.
-written : (look : Look) (x : Setting) (modules : Bool) (t : Tree) (text out : List ℕ) → scalars text ≡ true → TreeSpells x modules t text → SaysTiles anywhere text_start modules (laid look Alone t) out → IsReadBack look x modules t out
-written look x modules t text out e h w =
-    let b = read_as unplaced_names look x modules t text out e h (tiles_weaker anywhere (StandsFor unplaced_names) (λ pos at k. refl) text_start modules (laid look Alone t) out w) in
+pub told_is_read_back : ToldIsReadBack
+told_is_read_back look x modules t text out f e h w =
+    let b = told_as (kinds_alone f) look x modules t text out e h w in
     let u = b.tree in
     let a = b.same in
     let k = tokens_are_known text_start modules text h.reads.0 e h.reads.3 in
@@ -123,6 +146,12 @@ written look x modules t text out e h w =
       only = λ v n. one_tree_reads modules x.syntax v u out n b.reads;
       again = λ two m. written_again look two m t u read a;
     }
+
+written : (look : Look) (x : Setting) (modules : Bool) (t : Tree) (text out : List ℕ) → scalars text ≡ true → TreeSpells x modules t text → SaysTiles anywhere text_start modules (laid look Alone t) out → IsReadBack look x modules t out
+unfolding naming_told
+written look x modules t text out e h w =
+    let v : SaysTiles (StandsFor unplaced_names) text_start modules (laid look Alone t) out = tiles_weaker anywhere (StandsFor unplaced_names) (λ pos at k. refl) text_start modules (laid look Alone t) out w in
+    told_is_read_back look x modules t text out (kind_before v.places) e h (tells_tiles unplaced_names modules (laid look Alone t) out v)
 
 pub tiled_is_read_back : TiledIsReadBack
 tiled_is_read_back look all x modules t text p e h m =

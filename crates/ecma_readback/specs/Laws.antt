@@ -1,24 +1,27 @@
 -- Read-back: what is written of a tree that spells a text is spelled by the same program, and by no other tree: the statements.
-use Rattle.std.specs.Prelude.{◌≡◌, ℕ, Bool, true, not, List, Some, None}
+use Rattle.std.specs.Prelude.{◌≡◌, ℕ, Bool, true, not, List, [], Some, None}
 use Rattle.std.specs.Str.{chars}
 use lib.Utf8.{scalars}
 use Rattle.ecma_tree.specs.Tree.{Tree, Trees, script, es_module}
 use Rattle.ecma_program.specs.Program.{IsSameProgram}
-use Rattle.ecma_syntax.specs.Input.{Input, Code}
+use Rattle.ecma_syntax.specs.Input.{PlacedToken, Input, Code}
 use Rattle.ecma_grammar.specs.Grammar.{Produces}
+use Rattle.ecma_program_text.specs.Tiled.{Tile}
 use Rattle.ecma_program_text.specs.Text.{Setting, Reads, TreeSpells, text_start}
 use Rattle.ecma_write.specs.Pages.{Page}
 use Rattle.ecma_pieces.specs.Pieces.{resolved, shortened}
 use Rattle.ecma_layout.specs.declared.look.Look.{Look}
 use Rattle.ecma_layout.specs.declared.look.Stand.TheVariants.{Alone}
-use Rattle.ecma_layout.specs.Looks.{◌·◌, when, commit}
+use Rattle.ecma_layout.specs.Looks.{Laid, ◌·◌, when, commit}
 use Rattle.ecma_layout.specs.Layout.{laid, statements, pieces}
 use Rattle.ecma_layout_laws.specs.Marks.{AreWrittenAlike}
 use Rattle.ecma_written.specs.Means.{Known}
-use Rattle.ecma_written.specs.Naming.{Naming, StandsFor}
+use Rattle.ecma_written.specs.Spacings.{Spacing}
+use Rattle.ecma_written.specs.Told.{says}
+use Rattle.ecma_written.specs.Naming.{Naming, StandsFor, nowhere}
 use Rattle.ecma_written_tiles.specs.Goes.{GoesWhole}
 use Rattle.ecma_written_tiles.specs.Laws.{IsTiled}
-use Rattle.ecma_written_tiles.specs.Tiles.{SaysTiles, IsEmptyPage, IsHashbangText}
+use Rattle.ecma_written_tiles.specs.Tiles.{AllHaveGoals, SaysTiles, IsEmptyPage, IsHashbangText}
 use Rattle.ecma_redone_laws.specs.BytesLaws.{WritesAgain}
 use Rattle.ecma_redone.specs.Laws.{kept_names}
 use Rattle.ecma_redone_laws.specs.DerivedLaws.{is_program}
@@ -62,6 +65,23 @@ pub record IsReadBack (look : Look) (x : Setting) (modules : Bool) (t : Tree) (t
 abbrev pub ReadBack : Look → Type 0
 ReadBack look = (x : Setting) (modules : Bool) (t : Tree) (text : List ℕ) (p : Page) → scalars text ≡ true → TreeSpells x modules t text → IsEmptyPage p
     → IsReadBack look x modules t (chars (resolved (pieces look t) p).out) × IsReadBack look x modules t (chars (shortened (pieces look t) p).out)
+
+-- A text that is tiled by tokens that a layout tells, up to their end.
+pub record TellsTiles (n : Naming) (start : ℕ) (modules : Bool) (f : Laid) (text : List ℕ) : Type 0 where
+  pub places : List PlacedToken
+  pub tiles : Tile start modules text places
+  pub goals : AllHaveGoals places
+  pub behind : Spacing
+  pub told : says n f behind (record { last = start; places = places }) (λ b m. m.places ≡ [])
+
+-- no place is kept
+abbrev pub kinds_alone : (ℕ → ℕ) → Naming
+kinds_alone f = record { read = nowhere; written = nowhere; behind = f }
+
+-- Such a text is read back, whatever stands between its tokens.
+abbrev pub ToldIsReadBack : Type 0
+ToldIsReadBack = (look : Look) (x : Setting) (modules : Bool) (t : Tree) (text out : List ℕ) (f : ℕ → ℕ) → scalars text ≡ true → TreeSpells x modules t text
+    → TellsTiles (kinds_alone f) text_start modules (laid look Alone t) out → IsReadBack look x modules t out
 
 -- Where what is written of programs is tiled by what their layouts say, it is read back;
 abbrev pub TiledIsReadBack : Type 0

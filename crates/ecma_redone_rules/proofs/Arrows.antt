@@ -6,7 +6,7 @@ use Rattle.ecma_token.specs.declared.context.Context.{Context}
 use Rattle.ecma_token.specs.declared.place.Span.{Span}
 use Rattle.ecma_tree.specs.Places.{no_place}
 use Rattle.ecma_tree.specs.Tree.{Tree, Trees, arrow_expr, binding_ident, block_stmt, ident, more, none}
-use Rattle.ecma_syntax.specs.Input.{Code, Input, Only, PlacedToken, Takes, always_reserved, binding, brk, brk2, context_of, in_arrow, in_list, is_word, judged, kind, kind2, lo, no_name, operator_word, rest, span, unplaced, with_in}
+use Rattle.ecma_syntax.specs.Input.{Code, Input, Only, PlacedToken, Takes, always_reserved, binding, brk2, context_of, in_arrow, in_list, is_word, judged, kind, kind2, lo, no_name, operator_word, rest, span, unplaced, with_in}
 use Rattle.ecma_syntax.specs.Operators.{assignment_level}
 use Rattle.ecma_syntax.specs.Shape.{is_bound_name, is_item_pat, is_rest, level}
 use Rattle.ecma_grammar.specs.Functions.{ArrowBlock, ArrowExpression, ArrowHead, ArrowParameters, ArrowPattern}
@@ -18,10 +18,11 @@ use Rattle.ecma_layout.specs.Looks.{Laid, back, blank, deeper, formats, nothing,
 use Rattle.ecma_layout.specs.declared.look.Look.{Look}
 use Rattle.ecma_layout.specs.declared.look.Stand.{Stand}
 use Rattle.ecma_layout.specs.declared.look.Stand.TheVariants.{Alone, Body as BodyState}
+use Rattle.ecma_written.specs.Ties.{is_held}
 use Rattle.ecma_written.specs.Spacings.{Spacing, Touching, is_broken}
 use Rattle.ecma_written.specs.Lexicon.{Lexicon}
 use Rattle.ecma_written.specs.Means.{Known}
-use Rattle.ecma_written.specs.Told.{says}
+use Rattle.ecma_written.specs.Told.{Breaks, says}
 use Rattle.ecma_redone.specs.Redo.{AllRedone, Plain}
 use Rattle.ecma_redone_rules.proofs.Naming.{leaves_at}
 use Rattle.ecma_redone_rules.proofs.Begins.{Begins, begun, fine, is_loose, is_weak, same_start, strong}
@@ -31,7 +32,7 @@ use Rattle.ecma_redone_rules.proofs.Follow.{closed_calm, follow_on}
 use Rattle.ecma_redone_rules.proofs.Lists.{Each, Gone, comma_on, listed, more_same, none_same}
 use Rattle.ecma_redone_rules.proofs.Shapes.{alike, re_is_bound_name, re_is_item_pat}
 use Rattle.ecma_redone_rules.proofs.Sound.{AllSound, Out, Sound, expr, expr_low, full, is_tight, plain_part, tight_of}
-use Rattle.ecma_redone_rules.proofs.Tokens.{blank_broke, keyed, marked, skip, skip_back, skip_deeper, took, worded}
+use Rattle.ecma_redone_rules.proofs.Tokens.{behind_word, before_held, blank_broke, keyed, marked, skip, skip_back, skip_deeper, took, worded}
 use Rattle.ecma_redone_rules.proofs.Patterns.{item_plain}
 
 stands_to : (b : Bool) (z : Context) (ps : List PlacedToken) (U : Type 0) → Only b (U × (judged (context_of z ps) ≡ judged z)) → Only b (U × (judged (context_of (record z { include_in_expr = true }) ps) ≡ judged (record z { include_in_expr = true })))
@@ -117,7 +118,7 @@ module _ (look : Look) (x : Lexicon look.style) where
     m : Input
     more : K d m
     known : Known r0.places
-    broke : brk ts ≡ is_broken b
+    broke : Breaks x.naming b ts
     tight : d ≡ Touching
     opened : Opened c ts m
     again : kind m ≡ arrow_kind → (us : Trees) × ArrowParameters (unplaced c) (children us) ts m × AllRedone (leaves_at look x.naming) Plain ps us
@@ -224,7 +225,7 @@ module _ (look : Look) (x : Lexicon look.style) where
     m : Input
     more : K Touching m
     known : Known r0.places
-    broke : brk ts ≡ is_broken b
+    broke : Breaks x.naming b ts
     opened : starts_expression_statement ts ≡ true
     bars : kind ts ≡ else_kind → ⊥
     again : (us : Trees) × ArrowHead i (unplaced c) (children us) ts m × AllRedone (leaves_at look x.naming) Plain ps us
@@ -251,7 +252,7 @@ module _ (look : Look) (x : Lexicon look.style) where
         broke = y.broke;
         opened = opened_starts c ts y.m y.opened j;
         bars = opened_no c ts y.m y.opened else_kind refl (λ e. omega arith);
-        again = (w.0, (ts, y.m, refl, w.1, o.1.broke ∙ ap is_broken y.tight, took look x c arrow_kind o.1), w.2);
+        again = (w.0, (ts, y.m, refl, w.1, before_held look x o.1 (ap is_held j) ∙ ap is_broken y.tight, took look x c arrow_kind o.1), w.2);
       }
   head_on true ps a c ts0 r0 h k b ts K g q =
       let i = skip x.naming (formats look || is_one_name ps) _ _ _ q.2 in
@@ -263,7 +264,7 @@ module _ (look : Look) (x : Lexicon look.style) where
         broke = q.1.broke;
         opened = subst (λ (k : ℕ). starts_by k (kind2 ts) (brk2 ts) ≡ true) (sym z) (async_starts (kind2 ts) (brk2 ts) (λ e. opened_no c q.0 y.m y.opened function_kind refl (λ e. omega arith) (sym (ap kind q.1.after) ∙ e)));
         bars = λ e. async_no_else (sym z ∙ e);
-        again = (w.0, (q.0, y.m, (worded look x c async_kind q.1, y.broke ∙ blank_broke (formats look || is_one_name ps) Touching), w.1, o.1.broke ∙ ap is_broken y.tight, took look x c arrow_kind o.1), w.2);
+        again = (w.0, (q.0, y.m, (worded look x c async_kind q.1, behind_word look x async_kind refl q.1 y.broke ∙ blank_broke (formats look || is_one_name ps) Touching), w.1, before_held look x o.1 (ap is_held j) ∙ ap is_broken y.tight, took look x c arrow_kind o.1), w.2);
       }
 
   -- an arrow with an expression

@@ -4,7 +4,7 @@ use Rattle.std.proofs.lemmas.Bool.{or_left}
 use Rattle.ecma_token.specs.Kinds.{else_kind, left_brace_kind, right_brace_kind}
 use Rattle.ecma_token.specs.declared.place.Span.{Span}
 use Rattle.ecma_tree.specs.Tree.{Tree, Trees, block_stmt, more, none}
-use Rattle.ecma_syntax.specs.Input.{Code, Input, Takes, brk, in_list, kind, turned_strict, unplaced}
+use Rattle.ecma_syntax.specs.Input.{Code, Input, Takes, in_list, kind, turned_strict, unplaced}
 use Rattle.ecma_syntax.specs.Shape.{is_directive, is_item, is_use_strict}
 use Rattle.ecma_grammar.specs.Grammar.{Produces, children}
 use Rattle.ecma_grammar.specs.Children.{Items}
@@ -13,10 +13,10 @@ use Rattle.ecma_layout.specs.Layout.{closing, indented, is_block as is_block_tre
 use Rattle.ecma_layout.specs.Looks.{brace, formats, line, semi, start, text, when, ◌·◌}
 use Rattle.ecma_layout.specs.declared.look.Look.{Look}
 use Rattle.ecma_layout.specs.declared.look.Stand.TheVariants.{Alone}
-use Rattle.ecma_written.specs.Spacings.{Spacing, Touching, is_broken}
+use Rattle.ecma_written.specs.Spacings.{Spacing, Touching}
 use Rattle.ecma_written.specs.Lexicon.{Lexicon}
 use Rattle.ecma_written.specs.Means.{Known}
-use Rattle.ecma_written.specs.Told.{says}
+use Rattle.ecma_written.specs.Told.{Breaks, says}
 use Rattle.ecma_redone.specs.Redo.{AllRedone, Leaves, Mode, Plain, redo}
 use Rattle.ecma_redone_rules.proofs.Naming.{leaves_at}
 use Rattle.ecma_redone_rules.proofs.Begins.{first_token, is_inner, is_loose, is_weak, item_outer}
@@ -144,7 +144,7 @@ module _ (look : Look) (x : Lexicon look.style) where
     pub m : Input
     pub more : K Touching m
     pub known : Known r0.places
-    pub broke : brk ts ≡ is_broken b
+    pub broke : Breaks x.naming b ts
     pub lead : kind ts ≡ left_brace_kind
     pub again : (us : Trees) × (n : Input) × Takes (unplaced c) left_brace_kind ts n × Items is_item ClosesBlock (unplaced c) starts (children us) n m × AllRedone (leaves_at look x.naming) Plain ss us
 

@@ -6,7 +6,7 @@ use Rattle.ecma_lexeme.specs.declared.goal.LexicalGoal.TheVariants.{Div}
 use Rattle.ecma_tree.specs.Codes.{at}
 use Rattle.ecma_tree.specs.Places.{no_place}
 use Rattle.ecma_tree.specs.Tree.{Tree, Trees, absent, computed_prop_name, ident_name, member_expr, number_lit, opt_call, opt_chain_expr, private_name}
-use Rattle.ecma_syntax.specs.Input.{Code, Input, Spans, assigning, brk, content, escaped, is_word, kind, lo, span, unplaced, with_in}
+use Rattle.ecma_syntax.specs.Input.{Code, Input, Spans, assigning, content, escaped, is_word, kind, lo, span, unplaced, with_in}
 use Rattle.ecma_syntax.specs.Operators.{call_level, expression_level}
 use Rattle.ecma_syntax.specs.Shape.{is_chain, is_private, is_word_name, level}
 use Rattle.ecma_grammar.specs.Expressions.{AccessedName, Bracketed, ChainMember, Dotted, Optional}
@@ -18,10 +18,10 @@ use Rattle.ecma_layout.specs.Looks.{end, ◌·◌}
 use Rattle.ecma_layout.specs.declared.look.Look.{Look}
 use Rattle.ecma_layout.specs.declared.look.Stand.{Stand}
 use Rattle.ecma_layout.specs.declared.look.Stand.TheVariants.{Alone, Head}
-use Rattle.ecma_written.specs.Spacings.{Spacing, Touching, is_broken}
+use Rattle.ecma_written.specs.Spacings.{Spacing, Touching}
 use Rattle.ecma_written.specs.Lexicon.{Lexicon}
 use Rattle.ecma_written.specs.Means.{Known, Means}
-use Rattle.ecma_written.specs.Told.{says}
+use Rattle.ecma_written.specs.Told.{Breaks, says}
 use Rattle.ecma_redone.specs.Redo.{Headed, Plain, Redone, object_mode}
 use Rattle.ecma_redone_rules.proofs.Naming.{leaves_at}
 use Rattle.ecma_redone_rules.proofs.Begins.{Begins, before, firm, led}
@@ -61,7 +61,7 @@ module _ (look : Look) (x : Lexicon look.style) where
         begins = led ts0 r0 ts i.0 hash_kind h.1.0 (marked look x hash_kind q.1) refl;
         again = λ g. record {
           tree = private_name (span (lo ts) i.0.last) n;
-          produced = (q.0, took look x c hash_kind q.1, i.1.touches refl, (ap is_word z.0 ∙ h.3.0, z.1 ∙ h.3.1, tt, i.1.after), refl);
+          produced = (q.0, took look x c hash_kind q.1, i.1.touches (q.1.behind ∙ marked look x hash_kind q.1) refl, (ap is_word z.0 ∙ h.3.0, z.1 ∙ h.3.1, tt, i.1.after), refl);
           directive = refl;
           quoted = λ p q. refl;
           same = record { so = λ m. refl };
@@ -193,7 +193,7 @@ module _ (look : Look) (x : Lexicon look.style) where
     m : Input
     more : K d m
     known : Known r0.places
-    broke : brk ts ≡ is_broken b
+    broke : Breaks x.naming b ts
     begins : Begins false ts0 r0 ts m
     again : (kind m ≡ else_kind → ⊥) → (u : Tree) × (is_chain u ≡ true) × Produces u (unplaced (assigning c)) ts m × Redone (leaves_at look x.naming) Headed o u
 

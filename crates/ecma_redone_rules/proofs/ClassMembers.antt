@@ -6,7 +6,7 @@ use Rattle.ecma_token.specs.Words.{own_text}
 use Rattle.ecma_token.specs.declared.place.Span.{Span}
 use Rattle.ecma_tree.specs.Places.{no_place}
 use Rattle.ecma_tree.specs.Tree.{Tree, Trees, absent, auto_accessor, block_stmt, class_method, class_prop, constructor, function, ident_name, more, none, plain_method, private_method, private_name, private_prop, seq_expr, static_block, str_lit}
-use Rattle.ecma_syntax.specs.Input.{Code, Input, Takes, TakesWord, brk, escaped, in_body, in_field, in_static, kind, lo, rest, setting, span, unplaced}
+use Rattle.ecma_syntax.specs.Input.{Code, Input, Takes, TakesWord, escaped, in_body, in_field, in_static, kind, lo, rest, setting, span, unplaced}
 use Rattle.ecma_syntax.specs.Operators.{assignment_level, key_end}
 use Rattle.ecma_syntax.specs.Shape.{FunctionParts, constructs, count_of, ends, field_end, function_parts, is_absent, is_key, is_private, level}
 use Rattle.ecma_grammar.specs.Functions.{Initial as ClassInitial, ClassMethod, Field, Method, MethodHead, Static}
@@ -21,7 +21,7 @@ use Rattle.ecma_layout.specs.declared.look.Stand.TheVariants.{Alone, Body as Bod
 use Rattle.ecma_written.specs.Spacings.{Spacing, Spaced, Touching, blanked, is_broken}
 use Rattle.ecma_written.specs.Lexicon.{Lexicon}
 use Rattle.ecma_written.specs.Means.{Known}
-use Rattle.ecma_written.specs.Told.{says}
+use Rattle.ecma_written.specs.Told.{Breaks, says}
 use Rattle.ecma_redone.specs.Redo.{AllRedone, Leaves, Mode, Plain, Redone, kept_at, redo}
 use Rattle.ecma_redone.specs.Written.{constructor_word, written_constructor_key, written_key}
 use Rattle.ecma_redone_rules.proofs.Naming.{leaves_at}
@@ -31,7 +31,7 @@ use Rattle.ecma_redone_rules.proofs.Follow.{no_item}
 use Rattle.ecma_redone_rules.proofs.KeyParts.{KeyPart}
 use Rattle.ecma_redone_rules.proofs.Shapes.{alike, re_is_absent}
 use Rattle.ecma_redone_rules.proofs.Sound.{AllSound, Sound, expr, expr_low}
-use Rattle.ecma_redone_rules.proofs.Tokens.{blank_broke, ended, gapped, keyed, semi_of, skip, took, unbarred, worded}
+use Rattle.ecma_redone_rules.proofs.Tokens.{behind_word, blank_broke, ended, gapped, keyed, semi_of, skip, took, unbarred, worded}
 use Rattle.ecma_redone_rules.proofs.Functions.{count_same, parameters_on, same_functions, tail_on}
 use Rattle.ecma_redone_rules.proofs.Keys.{KeyAgain, any_key_on, key_on, private_key_on}
 use Rattle.ecma_redone_rules.proofs.Objects.{marks_on}
@@ -93,7 +93,7 @@ module _ (look : Look) (x : Lexicon look.style) where
     m : Input
     more : K d m
     known : Known r0.places
-    broke : brk m ≡ is_broken d → brk ts ≡ is_broken b
+    broke : Breaks x.naming d m → Breaks x.naming b ts
     first : (kind m ≡ else_kind → kind r0 ≡ else_kind) → kind ts ≡ else_kind → kind ts0 ≡ else_kind
     again : Static i (unplaced c) ts m
 
@@ -127,7 +127,7 @@ module _ (look : Look) (x : Lexicon look.style) where
     m : Input
     more : K Touching m
     known : Known r0.places
-    broke : brk ts ≡ is_broken b
+    broke : Breaks x.naming b ts
     first : kind ts ≡ else_kind → kind ts0 ≡ else_kind
     u : Tree
     may_u : may u ≡ true
@@ -209,7 +209,7 @@ module _ (look : Look) (x : Lexicon look.style) where
       → KeySound may write key → AllSound look x.naming ps → AllSound look x.naming ss → (c : Code) (ts0 r0 : Input) → ClassMethod may c s (child key (λ y. Produces key y)) (child (function t ps none (block_stmt p ss) g a) (λ y. Produces (function t ps none (block_stmt p ss) g a) y)) (function_parts (function t ps none (block_stmt p ss) g a)) k is_static ts0 r0
       → Known ts0.places → (b : Spacing) (ts : Input) (K : Spacing → Input → Type 0)
       → says x.naming (when is_static (word (codes "static") · f) · (if k == plain_method then method_marks a g else (word (own_text k) · gp)) · laid look Key key · function_tail look (separated look (comma look) ps) (laid look body (block_stmt p ss))) b ts K
-      → (m : Input) × K Touching m × Known r0.places × (brk ts ≡ is_broken b) × (kind ts ≡ else_kind → kind ts0 ≡ else_kind) × (u : Tree) × (us : Trees) × (v : Span) × (vs : Trees)
+      → (m : Input) × K Touching m × Known r0.places × (Breaks x.naming b ts) × (kind ts ≡ else_kind → kind ts0 ≡ else_kind) × (u : Tree) × (us : Trees) × (v : Span) × (vs : Trees)
       × ClassMethod may (unplaced c) (span (lo ts) m.last) (child u (λ y. Produces u y)) (child (function (span (lo ts) m.last) us none (block_stmt v vs) g a) (λ y. Produces (function (span (lo ts) m.last) us none (block_stmt v vs) g a) y)) (function_parts (function (span (lo ts) m.last) us none (block_stmt v vs) g a)) k is_static ts m
       × ((n : Mode) → redo (kept_at x.naming.written) n u ≡ write (redo (leaves_at look x.naming) Plain key)) × AllRedone (leaves_at look x.naming) Plain ps us × AllRedone (leaves_at look x.naming) Plain ss vs
   class_method_on of body may write s key t ps p ss g a k is_static f gp i j n d e c ts0 r0 h l b ts K q =
@@ -330,7 +330,7 @@ module _ (look : Look) (x : Lexicon look.style) where
 
   field_on : (may : Tree → Bool) (write : Tree → Tree) (s : Span) (key value : Tree) (is_static : Bool) → KeySound may write key → Sound look x.naming Alone value → (c : Code) (ts0 r0 : Input) → Field may c s (child key (λ y. Produces key y)) (child value (λ y. Produces value y)) is_static [] ts0 r0 → Known ts0.places
       → (b : Spacing) (ts : Input) (K : Spacing → Input → Type 0) → says x.naming (when is_static (word (codes "static") · blank) · laid look Key key · field_value look value (laid look Alone value) · semi) b ts K
-      → (d : Spacing) × (m : Input) × K d m × Known r0.places × (brk ts ≡ is_broken b) × (kind ts ≡ else_kind → kind ts0 ≡ else_kind) × (u : Tree) × (v : Tree)
+      → (d : Spacing) × (m : Input) × K d m × Known r0.places × (Breaks x.naming b ts) × (kind ts ≡ else_kind → kind ts0 ≡ else_kind) × (u : Tree) × (v : Tree)
       × Field may (unplaced c) (span (lo ts) m.last) (child u (λ y. Produces u y)) (child v (λ y. Produces v y)) is_static [] ts m
       × ((n : Mode) → redo (kept_at x.naming.written) n u ≡ write (redo (leaves_at look x.naming) Plain key)) × Redone (leaves_at look x.naming) Plain value v
   field_on may write s key value is_static n f c ts0 r0 h k b ts K q =
@@ -395,7 +395,7 @@ module _ (look : Look) (x : Lexicon look.style) where
         begins = w.first (λ e. absurd (accessor_else (sym (keyed look x accessor_kind o.1) ∙ e)));
         again = λ g. record {
           tree = auto_accessor (span (lo ts) z.m.last) y.again.0 z.again.0 i none;
-          produced = (w.m, o.0, y.m, h.3, tt, w.again, worded look x c accessor_kind o.1, y.broke, (y.again.1, y.again.2), z.again.1 key_end, refl);
+          produced = (w.m, o.0, y.m, h.3, tt, w.again, worded look x c accessor_kind o.1, behind_word look x accessor_kind refl o.1 y.broke, (y.again.1, y.again.2), z.again.1 key_end, refl);
           directive = refl;
           quoted = λ p q. refl;
           same = record { so = λ n. ap₂ (λ (u v : Tree). auto_accessor no_place u v i none) (y.again.3 Plain) (z.again.2.so Plain) };

@@ -54,7 +54,7 @@ pub record Quiet (m : Input) : Type 0 where
   pub calm : calm m ≡ true
 
 module _ (look : Look) (x : Lexicon look.style) where
-  pub quiet_at : {b : Spacing} {ts : Input} {d : Spacing} {m : Input} → Semi b ts d m → Quiet ts
+  pub quiet_at : {b : Spacing} {ts : Input} {d : Spacing} {m : Input} → Semi x.naming b ts d m → Quiet ts
   quiet_at {ts = ts} s = by (ended_kind look x s)
     where
       at : (k : ℕ) → kind ts ≡ k → closes k ≡ true → (k ≡ function_kind → ⊥) → (k ≡ left_bracket_kind → ⊥) → Quiet ts

@@ -15,10 +15,10 @@ use Rattle.ecma_layout.specs.Looks.{Laid, blank, formats, gap, text, when, ◌·
 use Rattle.ecma_layout.specs.declared.look.Look.{Look}
 use Rattle.ecma_layout.specs.declared.look.Stand.{Stand}
 use Rattle.ecma_layout.specs.declared.look.Stand.TheVariants.{Alone, Body as BodyState}
-use Rattle.ecma_written.specs.Spacings.{Spacing, Touching, blanked, is_broken}
+use Rattle.ecma_written.specs.Spacings.{Spacing, Touching, blanked}
 use Rattle.ecma_written.specs.Lexicon.{Lexicon}
 use Rattle.ecma_written.specs.Means.{Known}
-use Rattle.ecma_written.specs.Told.{says}
+use Rattle.ecma_written.specs.Told.{Breaks, says}
 use Rattle.ecma_redone.specs.Redo.{AllRedone, Leaves, Mode, Plain, redo, redos, kept_at}
 use Rattle.ecma_redone_rules.proofs.Naming.{leaves_at}
 use Rattle.ecma_redone_rules.proofs.Begins.{Begins, first_token, is_loose, is_part, is_weak, led, no_else, same_start}
@@ -29,7 +29,7 @@ use Rattle.ecma_redone_rules.proofs.Lists.{comma_on, listed, more_same, none_sam
 use Rattle.ecma_redone_rules.proofs.Names.{id_on, maybe_on}
 use Rattle.ecma_redone_rules.proofs.Shapes.{alike, re_is_item_pat, re_is_rest}
 use Rattle.ecma_redone_rules.proofs.Sound.{AllSound, Sound, plain_part}
-use Rattle.ecma_redone_rules.proofs.Tokens.{keyed, marked, skip, skip_mark, took, worded}
+use Rattle.ecma_redone_rules.proofs.Tokens.{behind_word, keyed, marked, skip, skip_mark, took, worded}
 use Rattle.ecma_redone_rules.proofs.Patterns.{item_plain}
 
 param_plain : (t : Tree) → is_param t ≡ true → (is_part t ≡ true) × (is_module_item t ≡ false)
@@ -169,7 +169,7 @@ module _ (look : Look) (x : Lexicon look.style) where
     m : Input
     more : K d m
     known : Known r0.places
-    broke : brk ts ≡ is_broken b
+    broke : Breaks x.naming b ts
     begins : (r r' : Input) → Begins false ts0 r ts r'
     again : FunctionHead g a (unplaced c) ts m
 
@@ -209,7 +209,7 @@ module _ (look : Look) (x : Lexicon look.style) where
         known = star_known g c h.1 r0 h.4 (x.later h.0 h.1 h.3.3 (x.later ts0 h.0 h.2.0.3 k));
         broke = q.1.broke;
         begins = λ r r'. same_start (keyed look x async_kind q.1 ∙ sym h.2.0.0) (λ e. inr (ap kind q.1.after ∙ (n ∙ sym (ap kind h.2.0.3 ∙ h.3.0)), λ e. ap brk h.2.0.3 ∙ h.2.1));
-        again = (q.0, i.0, (worded look x c async_kind q.1, i.1.broke), worded look x c function_kind i.1, z.1);
+        again = (q.0, i.0, (worded look x c async_kind q.1, behind_word look x async_kind refl q.1 i.1.broke), worded look x c function_kind i.1, z.1);
       }
 
   pub declaration_on : (s : Span) (i : Tree) (t : Span) (ps ds : Trees) (p : Span) (ss : Trees) (g a : Bool) → AllSound look x.naming ps → AllSound look x.naming ss → (st : Stand) → Sound look x.naming st (fn_decl s i (function t ps ds (block_stmt p ss) g a))

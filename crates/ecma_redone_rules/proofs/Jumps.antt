@@ -16,11 +16,12 @@ use Rattle.ecma_layout.specs.Looks.{blank, formats, gap_or, semi, text, when, �
 use Rattle.ecma_layout.specs.declared.look.Look.{Look}
 use Rattle.ecma_layout.specs.declared.look.Stand.{Stand}
 use Rattle.ecma_layout.specs.declared.look.Stand.TheVariants.{Alone}
-use Rattle.ecma_written.specs.Spacings.{Spacing, Spaced, Touching, is_broken}
+use Rattle.ecma_written.specs.Ties.{is_tying}
+use Rattle.ecma_written.specs.Spacings.{Spacing, Spaced, Touching}
 use Rattle.ecma_written.specs.Lexicon.{Lexicon}
 use Rattle.ecma_written.specs.Means.{Known}
 use Rattle.ecma_written.specs.Texts.{word_text}
-use Rattle.ecma_written.specs.Told.{says}
+use Rattle.ecma_written.specs.Told.{Breaks, says}
 use Rattle.ecma_redone.specs.Redo.{Plain, Redone}
 use Rattle.ecma_redone_rules.proofs.Naming.{leaves_at}
 use Rattle.ecma_redone_rules.proofs.Begins.{item_outer}
@@ -30,7 +31,7 @@ use Rattle.ecma_redone_rules.proofs.Follow.{no_item}
 use Rattle.ecma_redone_rules.proofs.Names.{id_on}
 use Rattle.ecma_redone_rules.proofs.Shapes.{alike, re_is_absent}
 use Rattle.ecma_redone_rules.proofs.Sound.{Out, Sound, expr, expr_low}
-use Rattle.ecma_redone_rules.proofs.Tokens.{blank_broke, ended, keyed, semi_of, skip, took, worded}
+use Rattle.ecma_redone_rules.proofs.Tokens.{behind_word, blank_broke, ended, keyed, semi_of, skip, took, worded}
 use Rattle.ecma_redone_rules.proofs.If.{body_item, body_same}
 use Rattle.ecma_redone_rules.proofs.Loops.{body_on}
 use Rattle.ecma_redone_rules.proofs.Simple.{parens_in}
@@ -88,7 +89,7 @@ module _ (look : Look) (x : Lexicon look.style) where
             begins = λ e. absurd (opens (sym at_kind ∙ e));
             again = λ l. let w = y.again (record { quiet = λ z. j.calm; other = λ z. absurd (no_item e (above expression_level (level e) (omega arith) g.2.0) z) }) in record {
               tree = return_stmt (span (lo ts) o.1.last) w.tree;
-              produced = (q.0, worded look x c return_kind q.1, unabsent (is_absent w.tree) _ _ (alike is_absent re_is_absent (leaves_at look x.naming) Plain e w.tree w.same ∙ a) (y.m, y.broke ∙ blank_broke (starts_with_word e || formats look) Touching, expr_low look x.naming expression_level Alone e c q.0 y.m g.2.0 (omega arith) w, ended look x c (ends w.tree) o.2), refl);
+              produced = (q.0, worded look x c return_kind q.1, unabsent (is_absent w.tree) _ _ (alike is_absent re_is_absent (leaves_at look x.naming) Plain e w.tree w.same ∙ a) (y.m, behind_word look x return_kind refl q.1 y.broke ∙ blank_broke (starts_with_word e || formats look) Touching, expr_low look x.naming expression_level Alone e c q.0 y.m g.2.0 (omega arith) w, ended look x c (ends w.tree) o.2), refl);
               directive = refl;
               quoted = λ p q. refl;
               same = record { so = λ n. ap (λ (t : Tree). return_stmt no_place t) (w.same.so Plain) };
@@ -109,7 +110,7 @@ module _ (look : Look) (x : Lexicon look.style) where
         begins = λ e. absurd (throw_else (sym (keyed look x throw_kind q.1) ∙ e));
         again = λ l. let w = y.again (record { quiet = λ z. (quiet_at look x o.2).calm; other = λ z. absurd (no_item e n z) }) in record {
           tree = throw_stmt (span (lo ts) o.1.last) w.tree;
-          produced = (q.0, y.m, worded look x c throw_kind q.1, y.broke ∙ blank_broke (starts_with_word e || formats look) Touching, expr_low look x.naming expression_level Alone e c q.0 y.m h.4.0 (omega arith) w, ended look x c (ends w.tree) o.2, refl);
+          produced = (q.0, y.m, worded look x c throw_kind q.1, behind_word look x throw_kind refl q.1 y.broke ∙ blank_broke (starts_with_word e || formats look) Touching, expr_low look x.naming expression_level Alone e c q.0 y.m h.4.0 (omega arith) w, ended look x c (ends w.tree) o.2, refl);
           directive = refl;
           quoted = λ p q. refl;
           same = record { so = λ n. ap (λ (t : Tree). throw_stmt no_place t) (w.same.so Plain) };
@@ -123,12 +124,12 @@ module _ (look : Look) (x : Lexicon look.style) where
     m : Input
     more : K d m
     known : Known r0.places
-    broke : brk ts ≡ is_broken b
+    broke : Breaks x.naming b ts
     lead : kind ts ≡ word
     again : (u : Tree) × Jump word (unplaced c) (span (lo ts) m.last) (child u (λ y. Produces u y)) ts m × Redone (leaves_at look x.naming) Plain label u
 
-  jump_on : (word : ℕ) (label : Tree) (c : Code) (s : Span) (ts0 r0 : Input) → Jump word c s (child label (λ y. Produces label y)) ts0 r0 → Known ts0.places → (b : Spacing) (ts : Input) (K : Spacing → Input → Type 0) → says x.naming (text (word_text word) · when (is_there label) (blank · laid look Alone label) · semi) b ts K → Jumped word label c r0 b ts K
-  jump_on word label c s ts0 r0 h k b ts K q = by (is_absent label) refl h.3 (subst (λ (v : Bool). says x.naming (when v (blank · laid look Alone label) · semi) Touching q.0 K) (there label) q.2)
+  jump_on : (word : ℕ) → is_tying word ≡ true → (label : Tree) (c : Code) (s : Span) (ts0 r0 : Input) → Jump word c s (child label (λ y. Produces label y)) ts0 r0 → Known ts0.places → (b : Spacing) (ts : Input) (K : Spacing → Input → Type 0) → says x.naming (text (word_text word) · when (is_there label) (blank · laid look Alone label) · semi) b ts K → Jumped word label c r0 b ts K
+  jump_on word j label c s ts0 r0 h k b ts K q = by (is_absent label) refl h.3 (subst (λ (v : Bool). says x.naming (when v (blank · laid look Alone label) · semi) Touching q.0 K) (there label) q.2)
     where
       by : (v : Bool) → is_absent label ≡ v → By v (h.0 ≡ h.1) ((brk h.0 ≡ false) × Sorted is_ident c (child label (λ y. Produces label y)) h.0 h.1) → says x.naming (when (not v) (blank · laid look Alone label) · semi) Touching q.0 K → Jumped word label c r0 b ts K
       by true a g p = let o = semi_of Touching q.0 K p in record {
@@ -149,11 +150,11 @@ module _ (look : Look) (x : Lexicon look.style) where
             known = ended_known look x c plain_end h.1 r0 h.4 z.known;
             broke = q.1.broke;
             lead = keyed look x word q.1;
-            again = (z.again.0, (q.0, z.m, worded look x c word q.1, unabsent (is_absent z.again.0) _ _ (alike is_absent re_is_absent (leaves_at look x.naming) Plain label z.again.0 z.again.2 ∙ a) (z.broke, z.again.1), ended look x c plain_end o.2, refl), z.again.2);
+            again = (z.again.0, (q.0, z.m, worded look x c word q.1, unabsent (is_absent z.again.0) _ _ (alike is_absent re_is_absent (leaves_at look x.naming) Plain label z.again.0 z.again.2 ∙ a) (behind_word look x word j q.1 z.broke, z.again.1), ended look x c plain_end o.2, refl), z.again.2);
           }
 
   pub break_on : (s : Span) (l : Tree) (st : Stand) → Sound look x.naming st (break_stmt s l)
-  break_on s l st c ts0 r0 h k b ts K q = let z = jump_on break_kind l c s ts0 r0 h k b ts K q in record {
+  break_on s l st c ts0 r0 h k b ts K q = let z = jump_on break_kind refl l c s ts0 r0 h k b ts K q in record {
     d = z.d;
     m = z.m;
     more = z.more;
@@ -165,7 +166,7 @@ module _ (look : Look) (x : Lexicon look.style) where
   }
 
   pub continue_on : (s : Span) (l : Tree) (st : Stand) → Sound look x.naming st (continue_stmt s l)
-  continue_on s l st c ts0 r0 h k b ts K q = let z = jump_on continue_kind l c s ts0 r0 h k b ts K q in record {
+  continue_on s l st c ts0 r0 h k b ts K q = let z = jump_on continue_kind refl l c s ts0 r0 h k b ts K q in record {
     d = z.d;
     m = z.m;
     more = z.more;

@@ -8,7 +8,7 @@ use Rattle.ecma_token.specs.declared.place.Span.{Span}
 use Rattle.ecma_lexeme.specs.declared.goal.LexicalGoal.TheVariants.{Div}
 use Rattle.ecma_tree.specs.Places.{no_place}
 use Rattle.ecma_tree.specs.Tree.{Tree, big_int_lit, computed_prop_name, ident_name, number_lit, private_name, str_lit}
-use Rattle.ecma_syntax.specs.Input.{Code, Input, brk, content, escaped, is_word, kind, lo, span, unplaced, with_in}
+use Rattle.ecma_syntax.specs.Input.{Code, Input, content, escaped, is_word, kind, lo, span, unplaced, with_in}
 use Rattle.ecma_syntax.specs.Operators.{assignment_level}
 use Rattle.ecma_syntax.specs.Shape.{constructs, is_any_key, is_key, is_private}
 use Rattle.ecma_grammar.specs.Expressions.{IdentifierName}
@@ -20,10 +20,10 @@ use Rattle.ecma_layout.specs.Literals.{key_bytes, name_bytes}
 use Rattle.ecma_layout.specs.declared.look.Look.{Look}
 use Rattle.ecma_layout.specs.declared.look.Stand.{Stand}
 use Rattle.ecma_layout.specs.declared.look.Stand.TheVariants.{Alone, Key}
-use Rattle.ecma_written.specs.Spacings.{Spacing, Touching, is_broken}
+use Rattle.ecma_written.specs.Spacings.{Spacing, Touching}
 use Rattle.ecma_written.specs.Lexicon.{Lexicon}
 use Rattle.ecma_written.specs.Means.{Known, Means}
-use Rattle.ecma_written.specs.Told.{Told, says}
+use Rattle.ecma_written.specs.Told.{Breaks, Told, says}
 use Rattle.ecma_redone.specs.Redo.{Leaves, Mode, Plain, Redone, kept_at, redo}
 use Rattle.ecma_redone.specs.Written.{written_key}
 use Rattle.ecma_redone_rules.proofs.Naming.{leaves_at}
@@ -92,13 +92,13 @@ module _ (look : Look) (x : Lexicon look.style) where
     pub m : Input
     pub more : K d m
     pub known : Known r0.places
-    pub broke : brk ts ≡ is_broken b
+    pub broke : Breaks x.naming b ts
     pub first : kind ts ≡ else_kind → kind ts0 ≡ else_kind
     pub again : (u : Tree) × (may u ≡ true) × Produces u (unplaced c) ts m × ((n : Mode) → redo (kept_at x.naming.written) n u ≡ write (redo (leaves_at look x.naming) Plain k))
     pub constructor_as : constructs again.0 ≡ true → constructs k ≡ true
 
   -- a word: as a word, or as a string of its units
-  word_on : (v : Bool) (s : Span) (n : List ℕ) → is_quoted_key look.style (chars n) ≡ v → (c : Code) (ts0 r0 : Input) → IdentifierName c s n ts0 r0 → Known ts0.places → (b : Spacing) (ts m : Input) → (K : Spacing → Input → Type 0) → Told Div (key_bytes look.style n) b ts m → K Touching m
+  word_on : (v : Bool) (s : Span) (n : List ℕ) → is_quoted_key look.style (chars n) ≡ v → (c : Code) (ts0 r0 : Input) → IdentifierName c s n ts0 r0 → Known ts0.places → (b : Spacing) (ts m : Input) → (K : Spacing → Input → Type 0) → Told x.naming Div (key_bytes look.style n) b ts m → K Touching m
       → KeyAgain is_key (λ t. written_key look.style t) (ident_name s n) c ts0 r0 b ts K
   word_on false s n e c ts0 r0 h l b ts m K t q =
       let means = subst (λ (w : List ℕ). Means Div w (kind ts) (content ts) (escaped ts)) (key_as_name look.style n e) t.means in

@@ -3,7 +3,7 @@ use Rattle.std.proofs.Common.{Bool, [], ap, ap₂, arith, false, inl, inr, refl,
 use Rattle.ecma_token.specs.Kinds.{comma_kind, function_kind}
 use Rattle.ecma_lexeme.specs.declared.goal.LexicalGoal.TheVariants.{Div}
 use Rattle.ecma_tree.specs.Tree.{Tree, Trees, hole, more, none}
-use Rattle.ecma_syntax.specs.Input.{Code, Input, Takes, brk, kind, unplaced}
+use Rattle.ecma_syntax.specs.Input.{Code, Input, Takes, kind, unplaced}
 use Rattle.ecma_syntax.specs.Shape.{is_hole, is_rest, level}
 use Rattle.ecma_grammar.specs.Grammar.{Produces, children}
 use Rattle.ecma_grammar.specs.Children.{By, CommaThen, Expr, IsEmpty, Listed, Child, Sorted, is_module_item, child}
@@ -11,11 +11,11 @@ use Rattle.ecma_layout.specs.Layout.{comma, comma_line, ends_with_hole, laid, se
 use Rattle.ecma_layout.specs.Looks.{Laid, both, formats, when}
 use Rattle.ecma_layout.specs.declared.look.Look.{Look}
 use Rattle.ecma_layout.specs.declared.look.Stand.TheVariants.{Alone}
-use Rattle.ecma_written.specs.Spacings.{Spacing, Touching, is_broken}
+use Rattle.ecma_written.specs.Spacings.{Spacing, Touching}
 use Rattle.ecma_written.specs.Lexicon.{Lexicon}
 use Rattle.ecma_written.specs.Means.{Known}
 use Rattle.ecma_written.specs.Texts.{mark_text}
-use Rattle.ecma_written.specs.Told.{Told, says}
+use Rattle.ecma_written.specs.Told.{Breaks, Told, says}
 use Rattle.ecma_redone.specs.Redo.{AllRedone, Leaves, Mode, Plain, Redone, redo}
 use Rattle.ecma_redone_rules.proofs.Naming.{leaves_at}
 use Rattle.ecma_redone_rules.proofs.Begins.{Starts, is_loose, is_part, is_weak, starts_on}
@@ -44,7 +44,7 @@ unhole false w A B e h = h
 module _ (look : Look) (x : Lexicon look.style) where
   -- a comma, and what says no token
   abbrev pub IsComma : Laid → Type 1
-  IsComma f = (b : Spacing) (ts : Input) (K : Spacing → Input → Type 0) → says x.naming f b ts K → (m : Input) × Told Div (mark_text comma_kind) b ts m × ((d : Spacing) × K d m)
+  IsComma f = (b : Spacing) (ts : Input) (K : Spacing → Input → Type 0) → says x.naming f b ts K → (m : Input) × Told x.naming Div (mark_text comma_kind) b ts m × ((d : Spacing) × K d m)
 
   pub comma_on : IsComma (comma look)
   comma_on b ts K q = (q.0, q.1, (gapped (formats look) Touching, skip x.naming (formats look) Touching q.0 K q.2))
@@ -58,7 +58,7 @@ module _ (look : Look) (x : Lexicon look.style) where
     pub m : Input
     pub more : K d m
     pub known : Known r0.places
-    pub broke : brk ts ≡ is_broken b
+    pub broke : Breaks x.naming b ts
     pub tight : 1 ≤ level t → d ≡ Touching
     pub begins : Starts (is_weak t) (is_loose t) ts0 r0 ts m
     pub again : calm m ≡ true → (u : Tree) × Q (child u (λ y. Produces u y)) ts m × Redone (leaves_at look x.naming) Plain t u
@@ -103,7 +103,7 @@ module _ (look : Look) (x : Lexicon look.style) where
       pub m : Input
       pub more : K d m
       pub known : Known r0.places
-      pub broke : brk ts ≡ is_broken b
+      pub broke : Breaks x.naming b ts
       pub tight : ((v : Tree) (m n : Input) → P (child v (λ y. Produces v y)) m n → 1 ≤ level v) → d ≡ Touching
       pub begins : Starts (is_weak t) (is_loose t) ts0 r0 ts m
       pub again : calm m ≡ true → (u : Tree) × (us : Trees) × (n : Input) × Q (child u (λ y. Produces u y)) ts n × CommaThen Q (unplaced c) (children us) n m × Redone (leaves_at look x.naming) Plain t u × AllRedone (leaves_at look x.naming) Plain xs us

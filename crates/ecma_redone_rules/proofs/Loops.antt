@@ -162,7 +162,7 @@ module _ (look : Look) (x : Lexicon look.style) where
     again : (u : Tree) × Clause (unplaced c) close (child u (λ y. Produces u y)) ts n × Redone (leaves_at look x.naming) Plain e u
 
   clause_on : (e : Tree) → Sound look x.naming Alone e → (c : Code) (close : ℕ) → nat_le close 60 ≡ true → closes close ≡ true → (v : Bool) → is_absent e ≡ v → (ts0 r0 : Input) → ((m : Input) × By v (ts0 ≡ m) (Expr expression_level c (child e (λ y. Produces e y)) ts0 m) × Takes c close m r0) → Known ts0.places
-      → (b : Spacing) (ts : Input) (J : Spacing → Input → Type 0) → says x.naming (when (not v) (gap look · laid look Alone e)) b ts (λ d m. (n : Input) × Told Div (mark_text close) d m n × J Touching n) → Claused e c close r0 ts J
+      → (b : Spacing) (ts : Input) (J : Spacing → Input → Type 0) → says x.naming (when (not v) (gap look · laid look Alone e)) b ts (λ d m. (n : Input) × Told x.naming Div (mark_text close) d m n × J Touching n) → Claused e c close r0 ts J
   clause_on e f c close p g true a ts0 r0 h k b ts J q = record {
     n = q.0;
     more = q.2;
@@ -170,8 +170,8 @@ module _ (look : Look) (x : Lexicon look.style) where
     again = (absent, (ts, refl, took look x c close q.1), absent_same (leaves_at look x.naming) Plain e a);
   }
   clause_on e f c close p g false a ts0 r0 h k b ts J q =
-      let i = skip x.naming (formats look) b ts (λ d m. says x.naming (laid look Alone e) d m (λ d m. (n : Input) × Told Div (mark_text close) d m n × J Touching n)) q in
-      let y = expr look x.naming expression_level Alone e f (omega arith) c ts0 h.0 h.1 k _ ts (λ d m. (n : Input) × Told Div (mark_text close) d m n × J Touching n) i in
+      let i = skip x.naming (formats look) b ts (λ d m. says x.naming (laid look Alone e) d m (λ d m. (n : Input) × Told x.naming Div (mark_text close) d m n × J Touching n)) q in
+      let y = expr look x.naming expression_level Alone e f (omega arith) c ts0 h.0 h.1 k _ ts (λ d m. (n : Input) × Told x.naming Div (mark_text close) d m n × J Touching n) i in
       let o = y.more in let w = y.again (follow_by Alone e h.0 y.m close (marked look x close o.1) g) in record {
         n = o.0;
         more = o.2;
@@ -242,12 +242,12 @@ module _ (look : Look) (x : Lexicon look.style) where
   semicolon_bracket m e f = absurd (omega arith)
 
   start_on : (e : Tree) → Sound look x.naming Alone e → (c : Code) (v : Bool) → is_absent e ≡ v → (ts0 m0 : Input) → By v (ts0 ≡ m0) ((starts_head ts0 ≡ true) × Expr expression_level (without_in c) (child e (λ y. Produces e y)) ts0 m0) → Known ts0.places
-      → (b : Spacing) (ts : Input) (J : Spacing → Input → Type 0) → says x.naming (laid look Alone e) b ts (λ d m. (n : Input) × Told Div (mark_text semicolon_kind) d m n × J Touching n) → (Started e c ts J) × Known m0.places
+      → (b : Spacing) (ts : Input) (J : Spacing → Input → Type 0) → says x.naming (laid look Alone e) b ts (λ d m. (n : Input) × Told x.naming Div (mark_text semicolon_kind) d m n × J Touching n) → (Started e c ts J) × Known m0.places
   start_on e f c true a ts0 m0 h k b ts J q =
-      let i = subst (λ (l : Laid). says x.naming l b ts (λ d m. (n : Input) × Told Div (mark_text semicolon_kind) d m n × J Touching n)) (laid_absent look e a) q in
+      let i = subst (λ (l : Laid). says x.naming l b ts (λ d m. (n : Input) × Told x.naming Div (mark_text semicolon_kind) d m n × J Touching n)) (laid_absent look e a) q in
       (record { m = ts; n = i.0; more = i.2; told = took look x c semicolon_kind i.1; again = (absent, refl, absent_same (leaves_at look x.naming) Plain e a) }, subst (λ (i : Input). Known i.places) h k)
   start_on e f c false a ts0 m0 h k b ts J q =
-      let y = expr look x.naming expression_level Alone e f (omega arith) (without_in c) ts0 m0 h.1 k b ts (λ d m. (n : Input) × Told Div (mark_text semicolon_kind) d m n × J Touching n) q in
+      let y = expr look x.naming expression_level Alone e f (omega arith) (without_in c) ts0 m0 h.1 k b ts (λ d m. (n : Input) × Told x.naming Div (mark_text semicolon_kind) d m n × J Touching n) q in
       let i = y.more in let j = marked look x semicolon_kind i.1 in let w = y.again (follow_by Alone e m0 y.m semicolon_kind j refl) in (
         record {
           m = y.m;

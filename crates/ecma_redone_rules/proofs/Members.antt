@@ -7,7 +7,7 @@ use Rattle.ecma_token.specs.declared.place.Span.{Span}
 use Rattle.ecma_lexeme.specs.declared.goal.LexicalGoal.TheVariants.{Div}
 use Rattle.ecma_tree.specs.Places.{no_place}
 use Rattle.ecma_tree.specs.Tree.{Tree, computed_prop_name, ident_name, member_expr, number_lit, private_name, super, super_prop_expr}
-use Rattle.ecma_syntax.specs.Input.{Code, Input, Spans, TakesWord, assigning, brk, content, escaped, is_word, kind, lo, span, unplaced, with_in}
+use Rattle.ecma_syntax.specs.Input.{Code, Input, Spans, TakesWord, assigning, content, escaped, is_word, kind, lo, span, unplaced, with_in}
 use Rattle.ecma_syntax.specs.Operators.{call_level, expression_level}
 use Rattle.ecma_syntax.specs.Shape.{is_chain, is_private, is_word_name, level}
 use Rattle.ecma_grammar.specs.Expressions.{Bracketed, Dotted, Member, SuperProperty}
@@ -20,11 +20,11 @@ use Rattle.ecma_layout.specs.Looks.{Laid, end, start, text, when, ◌·◌}
 use Rattle.ecma_layout.specs.declared.look.Look.{Look}
 use Rattle.ecma_layout.specs.declared.look.Stand.{Stand}
 use Rattle.ecma_layout.specs.declared.look.Stand.TheVariants.{Alone, Head}
-use Rattle.ecma_written.specs.Spacings.{Spacing, Touching, is_broken}
+use Rattle.ecma_written.specs.Spacings.{Spacing, Touching}
 use Rattle.ecma_written.specs.Lexicon.{Lexicon}
 use Rattle.ecma_written.specs.Means.{Known, Means}
 use Rattle.ecma_written.specs.Naming.{Naming}
-use Rattle.ecma_written.specs.Told.{says}
+use Rattle.ecma_written.specs.Told.{Breaks, says}
 use Rattle.ecma_redone.specs.Redo.{Headed, Leaves, Mode, Plain, Pointed, Redone, is_head, object_mode, redo}
 use Rattle.ecma_redone.specs.Written.{mode_of}
 use Rattle.ecma_redone_rules.proofs.Naming.{leaves_at}
@@ -109,7 +109,7 @@ module _ (look : Look) (x : Lexicon look.style) where
     pub m : Input
     pub more : K d m
     pub known : Known r0.places
-    pub broke : brk ts ≡ is_broken b
+    pub broke : Breaks x.naming b ts
     pub begins : Begins false ts0 r0 ts m
     pub again : Follow Head o r0 m → Again look x.naming (object_mode Plain k) o (assigning c) ts m
 

@@ -3,7 +3,7 @@ use Rattle.std.proofs.Common.{Bool, ap, false, not, refl, subst, sym, true, true
 use Rattle.ecma_token.specs.Kinds.{else_kind}
 use Rattle.ecma_token.specs.declared.place.Span.{Span}
 use Rattle.ecma_tree.specs.Tree.{Tree, absent, ident}
-use Rattle.ecma_syntax.specs.Input.{Code, Input, brk, kind, lo, span, unplaced}
+use Rattle.ecma_syntax.specs.Input.{Code, Input, kind, lo, span, unplaced}
 use Rattle.ecma_syntax.specs.Shape.{is_absent}
 use Rattle.ecma_grammar.specs.Grammar.{Produces}
 use Rattle.ecma_grammar.specs.Children.{By, Sorted, is_ident, child}
@@ -11,10 +11,10 @@ use Rattle.ecma_layout.specs.Layout.{laid}
 use Rattle.ecma_layout.specs.Looks.{blank, when, ◌·◌}
 use Rattle.ecma_layout.specs.declared.look.Look.{Look}
 use Rattle.ecma_layout.specs.declared.look.Stand.TheVariants.{Alone}
-use Rattle.ecma_written.specs.Spacings.{Spacing, Touching, is_broken}
+use Rattle.ecma_written.specs.Spacings.{Spacing, Touching}
 use Rattle.ecma_written.specs.Lexicon.{Lexicon}
 use Rattle.ecma_written.specs.Means.{Known}
-use Rattle.ecma_written.specs.Told.{says}
+use Rattle.ecma_written.specs.Told.{Breaks, says}
 use Rattle.ecma_redone.specs.Redo.{Plain, Redone}
 use Rattle.ecma_redone_rules.proofs.Naming.{leaves_at}
 use Rattle.ecma_redone_rules.proofs.Ends.{absent_same, unabsent}
@@ -26,7 +26,7 @@ module _ (look : Look) (x : Lexicon look.style) where
     pub m : Input
     pub more : K Touching m
     pub known : Known r0.places
-    pub broke : brk ts ≡ is_broken b
+    pub broke : Breaks x.naming b ts
     pub first : kind ts ≡ else_kind → kind ts0 ≡ else_kind
     pub again : (u : Tree) × Sorted is_ident (unplaced c) (child u (λ y. Produces u y)) ts m × Redone (leaves_at look x.naming) Plain i u
 

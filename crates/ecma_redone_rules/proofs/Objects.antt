@@ -4,7 +4,7 @@ use Rattle.ecma_token.specs.Kinds.{assign_kind, async_kind, colon_kind, dot_dot_
 use Rattle.ecma_token.specs.declared.place.Span.{Span}
 use Rattle.ecma_tree.specs.Places.{no_place}
 use Rattle.ecma_tree.specs.Tree.{Tree, Trees, assign_prop, block_stmt, function, getter_prop, ident, key_value_prop, method_prop, more, none, object_lit, setter_prop, spread_element}
-use Rattle.ecma_syntax.specs.Input.{Code, Input, binding, brk, in_body, kind, lo, setting, span, unplaced, with_in}
+use Rattle.ecma_syntax.specs.Input.{Code, Input, binding, in_body, kind, lo, setting, span, unplaced, with_in}
 use Rattle.ecma_syntax.specs.Operators.{assignment_level}
 use Rattle.ecma_syntax.specs.Shape.{is_item_pat, is_prop, is_rest, level}
 use Rattle.ecma_grammar.specs.Functions.{MethodHead}
@@ -14,10 +14,10 @@ use Rattle.ecma_layout.specs.Looks.{blank, formats, gap}
 use Rattle.ecma_layout.specs.declared.look.Look.{Look}
 use Rattle.ecma_layout.specs.declared.look.Stand.{Stand}
 use Rattle.ecma_layout.specs.declared.look.Stand.TheVariants.{Alone, Body as BodyState}
-use Rattle.ecma_written.specs.Spacings.{Spacing, Spaced, Touching, blanked, is_broken}
+use Rattle.ecma_written.specs.Spacings.{Spacing, Spaced, Touching, blanked}
 use Rattle.ecma_written.specs.Lexicon.{Lexicon}
 use Rattle.ecma_written.specs.Means.{Known}
-use Rattle.ecma_written.specs.Told.{says}
+use Rattle.ecma_written.specs.Told.{Breaks, says}
 use Rattle.ecma_redone.specs.Redo.{Leaves, Mode, Plain, redo}
 use Rattle.ecma_redone_rules.proofs.Naming.{leaves_at}
 use Rattle.ecma_redone_rules.proofs.Begins.{is_part, led}
@@ -29,7 +29,7 @@ use Rattle.ecma_redone_rules.proofs.Lists.{comma_line_on, listed, sorted}
 use Rattle.ecma_redone_rules.proofs.Names.{id_on}
 use Rattle.ecma_redone_rules.proofs.Shapes.{alike, re_is_item_pat, re_is_rest}
 use Rattle.ecma_redone_rules.proofs.Sound.{AllSound, Sound, expr, expr_low, plain_part}
-use Rattle.ecma_redone_rules.proofs.Tokens.{gapped, keyed, marked, skip, skip_back, skip_deeper, skip_line, took, worded}
+use Rattle.ecma_redone_rules.proofs.Tokens.{behind_word, gapped, keyed, marked, skip, skip_back, skip_deeper, skip_line, took, worded}
 use Rattle.ecma_redone_rules.proofs.Functions.{same_functions, tail_on}
 use Rattle.ecma_redone_rules.proofs.Keys.{key_on}
 use Rattle.ecma_redone_rules.proofs.Patterns.{item_plain}
@@ -253,9 +253,9 @@ module _ (look : Look) (x : Lexicon look.style) where
     pub m : Input
     pub more : K d m
     pub known : Known r0.places
-    pub broke : brk m ≡ is_broken d → brk ts ≡ is_broken b
+    pub broke : Breaks x.naming d m → Breaks x.naming b ts
     pub first : (kind m ≡ else_kind → kind r0 ≡ else_kind) → kind ts ≡ else_kind → kind ts0 ≡ else_kind
-    pub again : brk m ≡ is_broken d → MethodHead g a (unplaced c) ts m
+    pub again : Breaks x.naming d m → MethodHead g a (unplaced c) ts m
 
   pub marks_on : (g a : Bool) (c : Code) (ts0 r0 : Input) → MethodHead g a c ts0 r0 → Known ts0.places → (b : Spacing) (ts : Input) (K : Spacing → Input → Type 0) → says x.naming (method_marks a g) b ts K → Marks g a c ts0 r0 b ts K
   marks_on false false c ts0 r0 h l b ts K q = record {
@@ -283,7 +283,7 @@ module _ (look : Look) (x : Lexicon look.style) where
     known = subst (λ (i : Input). Known i.places) h.2 (x.later ts0 h.0 h.1.0.3 l);
     broke = λ e. q.1.broke;
     first = λ f e. absurd (async_else (sym (keyed look x async_kind q.1) ∙ e));
-    again = λ e. (q.0, (worded look x c async_kind q.1, e), refl);
+    again = λ e. (q.0, (worded look x c async_kind q.1, behind_word look x async_kind refl q.1 e), refl);
   }
   marks_on true true c ts0 r0 h l b ts K q = let i = q.2 in record {
     d = Touching;
@@ -292,7 +292,7 @@ module _ (look : Look) (x : Lexicon look.style) where
     known = x.later h.0 r0 h.2.2 (x.later ts0 h.0 h.1.0.3 l);
     broke = λ e. q.1.broke;
     first = λ f e. absurd (async_else (sym (keyed look x async_kind q.1) ∙ e));
-    again = λ e. (q.0, (worded look x c async_kind q.1, i.1.broke), took look x c mul_kind i.1);
+    again = λ e. (q.0, (worded look x c async_kind q.1, behind_word look x async_kind refl q.1 i.1.broke), took look x c mul_kind i.1);
   }
 
   pub method_on : (s : Span) (k : Tree) (t : Span) (ps ds : Trees) (p : Span) (ss : Trees) (g a : Bool) → KeyPart look x.naming k → AllSound look x.naming ps → AllSound look x.naming ss → (st : Stand) → Sound look x.naming st (method_prop s k (function t ps ds (block_stmt p ss) g a))

@@ -17,6 +17,7 @@ use Rattle.ecma_layout.specs.Looks.{formats, gap_or, one, when}
 use Rattle.ecma_layout.specs.declared.look.Look.{Look}
 use Rattle.ecma_layout.specs.declared.look.Stand.{Stand}
 use Rattle.ecma_layout.specs.declared.look.Stand.TheVariants.{Alone}
+use Rattle.ecma_written.specs.Ties.{is_held}
 use Rattle.ecma_written.specs.Spacings.{Spacing, Touching, is_broken}
 use Rattle.ecma_written.specs.Lexicon.{Lexicon}
 use Rattle.ecma_written.specs.Told.{says}
@@ -25,7 +26,7 @@ use Rattle.ecma_redone_rules.proofs.Begins.{before, led, two_told}
 use Rattle.ecma_redone_rules.proofs.Ends.{above}
 use Rattle.ecma_redone_rules.proofs.Follow.{calm, calm_of, closes, follow_by, follow_on, no_item}
 use Rattle.ecma_redone_rules.proofs.Sound.{Sound, expr, expr_begins, expr_low, tight_of}
-use Rattle.ecma_redone_rules.proofs.Tokens.{keyed, marked, skip, took, unbarred, worded}
+use Rattle.ecma_redone_rules.proofs.Tokens.{before_held, keyed, marked, skip, took, unbarred, worded}
 
 update_sign : (op : ℕ) → is_update_op op ≡ true → (is_unary_op op || is_update_op op) ≡ true
 update_sign op h = or_right (is_unary_op op) (is_update_op op) h
@@ -99,7 +100,7 @@ module _ (look : Look) (x : Lexicon look.style) where
         begins = before ts0 h.0 ts y.m r0 p.0 (λ l. refl) (expr_begins look x.naming Alone a (assigning c) ts0 h.0 b ts _ n y) (o.0 ∙ sym h.4.0) (λ e. by_update op (λ o. o ≡ function_kind → ⊥) h.1 (λ e. omega arith) (λ e. omega arith) (sym o.0 ∙ e));
         again = λ g. let w = y.again (follow_by Alone a h.0 y.m op o.0 (by_update op (λ o. closes o ≡ true) h.1 refl refl)) in record {
           tree = update_expr (span (lo ts) p.0.last) op false w.tree;
-          produced = (y.m, h.1, expr_low look x.naming new_level Alone a c ts y.m h.2.0 (omega arith) w, p.1.broke ∙ ap is_broken (y.tight (tight_of a n)), (o.0, tt, p.1.after), refl);
+          produced = (y.m, h.1, expr_low look x.naming new_level Alone a c ts y.m h.2.0 (omega arith) w, before_held look x p.1 (ap is_held o.0 ∙ by_update op (λ (k : ℕ). is_held k ≡ true) h.1 refl refl) ∙ ap is_broken (y.tight (tight_of a n)), (o.0, tt, p.1.after), refl);
           directive = refl;
           quoted = λ p q. refl;
           same = record { so = λ n. ap (λ (t : Tree). update_expr no_place op false t) (w.same.so Plain) };

@@ -5,7 +5,7 @@ use Rattle.ecma_token.specs.Kinds.{async_kind, await_kind, else_kind, for_kind, 
 use Rattle.ecma_token.specs.declared.place.Span.{Span}
 use Rattle.ecma_tree.specs.Places.{no_place}
 use Rattle.ecma_tree.specs.Tree.{Tree, Trees, absent, array_pat, binding_ident, expr_pat, for_in_stmt, for_of_stmt, more, none, object_pat, using_decl, var_decl, var_declarator}
-use Rattle.ecma_syntax.specs.Input.{Code, Input, assigning, brk, brk2, is_word, kind, kind2, lo, rest, span, unplaced, without_in}
+use Rattle.ecma_syntax.specs.Input.{Code, Input, assigning, brk2, is_word, kind, kind2, lo, rest, span, unplaced, without_in}
 use Rattle.ecma_syntax.specs.Operators.{assignment_level, expression_level}
 use Rattle.ecma_syntax.specs.Shape.{is_bare_declarator, is_place, is_target_expr}
 use Rattle.ecma_grammar.specs.Grammar.{Produces, children}
@@ -17,11 +17,11 @@ use Rattle.ecma_layout.specs.Looks.{Laid, blank, formats, gap, gap_or, text, whe
 use Rattle.ecma_layout.specs.declared.look.Look.{Look}
 use Rattle.ecma_layout.specs.declared.look.Stand.{Stand}
 use Rattle.ecma_layout.specs.declared.look.Stand.TheVariants.{Alone}
-use Rattle.ecma_written.specs.Spacings.{Spacing, Touching, is_broken}
+use Rattle.ecma_written.specs.Spacings.{Spacing, Touching}
 use Rattle.ecma_written.specs.Lexicon.{Lexicon}
 use Rattle.ecma_written.specs.Means.{Known}
 use Rattle.ecma_written.specs.Texts.{word_text}
-use Rattle.ecma_written.specs.Told.{says}
+use Rattle.ecma_written.specs.Told.{Breaks, says}
 use Rattle.ecma_redone.specs.Redo.{AllRedone, Leaves, Mode, Plain, Redone, redo, kept_at}
 use Rattle.ecma_redone_rules.proofs.Naming.{leaves_at}
 use Rattle.ecma_redone_rules.proofs.Begins.{Begins, begun, fine, is_loose, is_part, is_weak, same_start}
@@ -158,7 +158,7 @@ module _ (look : Look) (x : Lexicon look.style) where
     n : Input
     more : K Touching n
     known : Known r0.places
-    broke : brk ts ≡ is_broken b
+    broke : Breaks x.naming b ts
     lead : kind ts ≡ for_kind
     again : ForAwaitOpen w (unplaced c) ts n
 

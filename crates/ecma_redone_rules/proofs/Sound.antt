@@ -3,7 +3,7 @@ use Rattle.std.proofs.Common.{Bool, arith, false, leb, nat_le, refl, subst, sym,
 use Rattle.std.proofs.lemmas.Bool.{le-leb}
 use Rattle.ecma_token.specs.declared.place.Span.{Span}
 use Rattle.ecma_tree.specs.Tree.{Tree, Trees, expr_stmt, more, none}
-use Rattle.ecma_syntax.specs.Input.{Code, Input, assigning, brk, unplaced}
+use Rattle.ecma_syntax.specs.Input.{Code, Input, assigning, unplaced}
 use Rattle.ecma_syntax.specs.Shape.{is_bound_name, is_private, is_use_strict, is_word_name, level}
 use Rattle.ecma_grammar.specs.Grammar.{Produces}
 use Rattle.ecma_grammar.specs.Children.{Expr, is_ident, child}
@@ -12,10 +12,10 @@ use Rattle.ecma_layout.specs.Looks.{Laid, both, semi, when, ◌·◌}
 use Rattle.ecma_layout.specs.declared.look.Look.{Look}
 use Rattle.ecma_layout.specs.declared.look.Stand.{Stand}
 use Rattle.ecma_layout.specs.declared.look.Stand.TheVariants.{Alone}
-use Rattle.ecma_written.specs.Spacings.{Spacing, Touching, is_broken}
+use Rattle.ecma_written.specs.Spacings.{Spacing, Touching}
 use Rattle.ecma_written.specs.Means.{Known}
 use Rattle.ecma_written.specs.Naming.{Naming}
-use Rattle.ecma_written.specs.Told.{says}
+use Rattle.ecma_written.specs.Told.{Breaks, says}
 use Rattle.ecma_redone.specs.Redo.{Headed, Mode, Redone}
 use Rattle.ecma_redone.specs.Written.{mode_of}
 use Rattle.ecma_redone_rules.proofs.Begins.{Begins, Starts, begun, is_inner, is_loose, is_part, is_weak, level_part, part_outer, part_variables, strong}
@@ -55,7 +55,7 @@ pub record Out (look : Look) (naming : Naming) (s : Stand) (t : Tree) (c : Code)
   -- what was left then was read
   pub known : Known r0.places
   -- a line breaks before them where one was written, and nothing is written behind the last
-  pub broke : brk ts ≡ is_broken b
+  pub broke : Breaks naming b ts
   pub tight : is_tight t ≡ true → d ≡ Touching
   pub begins : Starts (is_weak t) (is_loose t) ts0 r0 ts m
   -- where what follows lets it, they are derived again

@@ -17,11 +17,12 @@ use Rattle.ecma_layout.specs.Literals.{key_bytes}
 use Rattle.ecma_layout.specs.Looks.{formats, gap, semi, when, ◌·◌}
 use Rattle.ecma_layout.specs.declared.look.Look.{Look}
 use Rattle.ecma_layout.specs.declared.look.Stand.TheVariants.{Alone, Key}
+use Rattle.ecma_written.specs.Ties.{is_held}
 use Rattle.ecma_written.specs.Spacings.{Spacing, Touching, is_broken}
 use Rattle.ecma_written.specs.Lexicon.{Lexicon}
 use Rattle.ecma_written.specs.Means.{Known}
 use Rattle.ecma_written.specs.Naming.{Naming}
-use Rattle.ecma_written.specs.Told.{says}
+use Rattle.ecma_written.specs.Told.{Breaks, says}
 use Rattle.ecma_redone.specs.Redo.{Leaves, Mode, Plain, Redone, redo, redos, kept_at}
 use Rattle.ecma_redone.specs.Written.{written_key}
 use Rattle.ecma_redone_rules.proofs.Naming.{leaves_at}
@@ -31,7 +32,7 @@ use Rattle.ecma_redone_rules.proofs.Follow.{needs_calm}
 use Rattle.ecma_redone_rules.proofs.KeyParts.{KeyPart}
 use Rattle.ecma_redone_rules.proofs.Shapes.{alike, re_is_absent}
 use Rattle.ecma_redone_rules.proofs.Sound.{Sound, is_tight, plain_part}
-use Rattle.ecma_redone_rules.proofs.Tokens.{blank_broke, ended, gapped, semi_of, skip, spelled_word, worded}
+use Rattle.ecma_redone_rules.proofs.Tokens.{before_held, keyed, blank_broke, ended, gapped, semi_of, skip, spelled_word, worded}
 
 string_else : str_kind ≡ else_kind → ⊥
 string_else e = omega arith
@@ -93,7 +94,7 @@ module _ (look : Look) (x : Lexicon look.style) where
     pub m : Input
     pub more : K d m
     pub known : Known r0.places
-    pub broke : brk ts ≡ is_broken b
+    pub broke : Breaks x.naming b ts
     pub touches : d ≡ Touching
     pub first : kind ts ≡ else_kind → kind ts0 ≡ else_kind
     pub again : (u : Tree) × Sorted is_string (unplaced c) (child u (λ y. Produces u y)) ts m × Redone (leaves_at look x.naming) Plain t u
@@ -124,7 +125,7 @@ module _ (look : Look) (x : Lexicon look.style) where
     pub m : Input
     pub more : K d m
     pub known : Known r0.places
-    pub broke : brk ts ≡ is_broken b
+    pub broke : Breaks x.naming b ts
     pub first : kind ts ≡ else_kind → kind ts0 ≡ else_kind
     pub again : (u : Tree) × ExportName (unplaced c) (export_name u) (child u (λ y. Produces u y)) ts m × Redone (leaves_at look x.naming) Plain t u
 
@@ -172,7 +173,7 @@ module _ (look : Look) (x : Lexicon look.style) where
     again : TakesWord (unplaced c) with_kind ts m ⊎ ((brk ts ≡ false) × TakesWord (unplaced c) assert_kind ts m)
 
   with_word : (v : Bool) (c : Code) (b : Spacing) (ts : Input) (K : Spacing → Input → Type 0) → is_broken b ≡ false → says x.naming (if v then word (codes "assert") else word (codes "with")) b ts K → With_word c ts K
-  with_word true c b ts K e q = record { m = q.0; more = q.2; again = inr (q.1.broke ∙ e, worded look x c assert_kind q.1) }
+  with_word true c b ts K e q = record { m = q.0; more = q.2; again = inr (before_held look x q.1 (ap is_held (keyed look x assert_kind q.1)) ∙ e, worded look x c assert_kind q.1) }
   with_word false c b ts K e q = record { m = q.0; more = q.2; again = inl (worded look x c with_kind q.1) }
 
   word_known : (c : Code) (m r : Input) → TakesWord c with_kind m r ⊎ ((brk m ≡ false) × TakesWord c assert_kind m r) → Known m.places → Known r.places

@@ -5,7 +5,7 @@ use Rattle.ecma_token.specs.declared.place.Span.{Span}
 use Rattle.ecma_lexeme.specs.declared.goal.LexicalGoal.TheVariants.{TemplateEnd}
 use Rattle.ecma_tree.specs.Places.{no_place}
 use Rattle.ecma_tree.specs.Tree.{Tree, Trees, more, none, tagged_tpl, tpl, tpl_element}
-use Rattle.ecma_syntax.specs.Input.{Code, Input, Spans, TakesIn, assigning, brk, kind, lo, span, template_end_goal, unplaced, with_in}
+use Rattle.ecma_syntax.specs.Input.{Code, Input, Spans, TakesIn, assigning, kind, lo, span, template_end_goal, unplaced, with_in}
 use Rattle.ecma_syntax.specs.Operators.{call_level, expression_level}
 use Rattle.ecma_syntax.specs.Shape.{is_chain, is_cooked, is_tail, level}
 use Rattle.ecma_grammar.specs.Expressions.{TemplateLiteral, TemplateSpans}
@@ -17,11 +17,11 @@ use Rattle.ecma_layout.specs.Looks.{end, meant, refused, start, template_end, te
 use Rattle.ecma_layout.specs.declared.look.Look.{Look}
 use Rattle.ecma_layout.specs.declared.look.Stand.{Stand}
 use Rattle.ecma_layout.specs.declared.look.Stand.TheVariants.{Alone, Head, Tagged}
-use Rattle.ecma_written.specs.Spacings.{Spacing, Touching, is_broken}
+use Rattle.ecma_written.specs.Spacings.{Spacing, Touching}
 use Rattle.ecma_written.specs.Lexicon.{Lexicon}
 use Rattle.ecma_written.specs.Means.{Known}
 use Rattle.ecma_written.specs.Texts.{ending_text}
-use Rattle.ecma_written.specs.Told.{Told, says}
+use Rattle.ecma_written.specs.Told.{Breaks, Told, says}
 use Rattle.ecma_redone.specs.Redo.{AllRedone, Headed, Mode, Plain, Raw, Redone, is_tagged, quasi_mode}
 use Rattle.ecma_redone.specs.Written.{mode_of}
 use Rattle.ecma_redone_rules.proofs.Naming.{leaves_at}
@@ -92,7 +92,7 @@ module _ (look : Look) (x : Lexicon look.style) where
   none_of : (m : Mode) → AllRedone (leaves_at look x.naming) m none none
   none_of m = record { so = λ n. refl }
 
-  ended_by : (c : Code) (k : ℕ) {a : Spacing} {ts m : Input} → Told TemplateEnd (ending_text k) a ts m → TakesIn (unplaced c) template_end_goal k ts m
+  ended_by : (c : Code) (k : ℕ) {a : Spacing} {ts m : Input} → Told x.naming TemplateEnd (ending_text k) a ts m → TakesIn (unplaced c) template_end_goal k ts m
   ended_by c k t = ((x.endings k _ _ _ t.means).0, tt, t.after)
 
   spans_on : (tagged : Bool) (s : Stand) → (tagged ≡ true → is_tagged_stand s ≡ true) → (es qs : Trees) → AllSound look x.naming es → (c : Code) (ts0 r0 : Input) → TemplateSpans tagged c (children es) (children qs) ts0 r0 → Known ts0.places → (b : Spacing) (ts : Input) (K : Spacing → Input → Type 0)
@@ -149,7 +149,7 @@ module _ (look : Look) (x : Lexicon look.style) where
     m : Input
     more : K Touching m
     known : Known r0.places
-    broke : brk ts ≡ is_broken b
+    broke : Breaks x.naming b ts
     lead : kind ts ≡ back_quote_kind
     us : Trees
     vs : Trees

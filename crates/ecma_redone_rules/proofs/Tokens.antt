@@ -1,10 +1,10 @@
 -- The tokens that a layout says, one at a time: what the grammar takes, and pieces that say no token.
-use Rattle.std.proofs.Common.{Bool, List, None, [], ap, arith, codes, false, inl, inr, refl, subst, sym, true, true≢false, ℕ, ◌&&◌, ◌||◌, ◌∙◌, ◌∷◌, ◌≡◌, ◌⊎◌}
+use Rattle.std.proofs.Common.{Bool, List, None, [], ap, length, arith, codes, false, inl, inr, refl, subst, sym, true, true≢false, ℕ, ◌&&◌, ◌||◌, ◌∙◌, ◌∷◌, ◌≡◌, ◌⊎◌}
 use Rattle.ecma_token.specs.Kinds.{name_kind, semicolon_kind}
 use Rattle.ecma_token.specs.declared.context.Context.{Context}
 use Rattle.ecma_token.specs.declared.place.BytePos.{BytePos}
 use Rattle.ecma_lexeme.specs.declared.goal.LexicalGoal.TheVariants.{Div}
-use Rattle.ecma_syntax.specs.Input.{Code, Input, Takes, TakesAnyWord, TakesName, TakesWord, content, escaped, is_word, kind, no_name, strict_reserved, unplaced}
+use Rattle.ecma_syntax.specs.Input.{Code, Input, brk, Takes, TakesAnyWord, TakesName, TakesWord, content, escaped, is_word, kind, no_name, strict_reserved, unplaced}
 use Rattle.ecma_syntax.specs.Operators.{pauses}
 use Rattle.ecma_grammar.specs.Children.{Ends}
 use Rattle.ecma_pieces.specs.Pieces.{Back, Blank, Brace, Commit, Deeper, Line, Mark, Piece, Semicolon, Text}
@@ -12,6 +12,7 @@ use Rattle.ecma_layout.specs.Literals.{name_bytes}
 use Rattle.ecma_layout.specs.Looks.{Laid, Meaning, blank, both, hashbang_comment, line_always, meant, named as named_piece, nothing, one, refused, regular_expression, template_characters, template_end, touching, when}
 use Rattle.ecma_layout.specs.declared.look.Look.{Look}
 use Rattle.ecma_written.specs.Spacings.{Broken, Spacing, Spaced, Touching, blanked, is_broken}
+use Rattle.ecma_written.specs.Ties.{is_held, is_tied, is_tying}
 use Rattle.ecma_written.specs.Lexicon.{Lexicon}
 use Rattle.ecma_written.specs.Means.{Known, Means}
 use Rattle.ecma_written.specs.Naming.{Naming}
@@ -55,33 +56,33 @@ skip_line n false a ts K h = (a, h)
 
 -- ---- what goes on behind a layout may be told less
 
-texts_map : (ows : List (List ℕ)) (a : Spacing) (ts : Input) (K J : Spacing → Input → Type 0) → ((d : Spacing) (m : Input) → K d m → J d m) → says_texts ows a ts K → says_texts ows a ts J
-texts_map [] a ts K J g h = g a ts h
-texts_map (own ∷ ows) a ts K J g h = (h.0, h.1, texts_map ows Touching h.0 K J g h.2)
+texts_map : (n : Naming) (ows : List (List ℕ)) (a : Spacing) (ts : Input) (K J : Spacing → Input → Type 0) → ((d : Spacing) (m : Input) → K d m → J d m) → says_texts n ows a ts K → says_texts n ows a ts J
+texts_map n [] a ts K J g h = g a ts h
+texts_map n (own ∷ ows) a ts K J g h = (h.0, h.1, texts_map n ows Touching h.0 K J g h.2)
 
-meaning_map : (x : Meaning) (a : Spacing) (ts : Input) (K J : Spacing → Input → Type 0) → ((d : Spacing) (m : Input) → K d m → J d m) → says_meaning x a ts K → says_meaning x a ts J
-meaning_map (regular_expression body flags) a ts K J g h = (h.0, h.1, g Touching h.0 h.2)
-meaning_map (template_characters own) a ts K J g h = (h.0, h.1, g Touching h.0 h.2)
-meaning_map (template_end own) a ts K J g h = (h.0, h.1, g Touching h.0 h.2)
-meaning_map (hashbang_comment own) a ts K J g h = (h.0, h.1, g Touching h.0 h.2)
-meaning_map (touching ows) a ts K J g h = texts_map ows a ts K J g h
+meaning_map : (n : Naming) (x : Meaning) (a : Spacing) (ts : Input) (K J : Spacing → Input → Type 0) → ((d : Spacing) (m : Input) → K d m → J d m) → says_meaning n x a ts K → says_meaning n x a ts J
+meaning_map n (regular_expression body flags) a ts K J g h = (h.0, h.1, g Touching h.0 h.2)
+meaning_map n (template_characters own) a ts K J g h = (h.0, h.1, g Touching h.0 h.2)
+meaning_map n (template_end own) a ts K J g h = (h.0, h.1, g Touching h.0 h.2)
+meaning_map n (hashbang_comment own) a ts K J g h = (h.0, h.1, g Touching h.0 h.2)
+meaning_map n (touching ows) a ts K J g h = texts_map n ows a ts K J g h
 
-piece_map : (p : Piece) (a : Spacing) (ts : Input) (K J : Spacing → Input → Type 0) → ((d : Spacing) (m : Input) → K d m → J d m) → said p a ts K → said p a ts J
-piece_map (Text s own) a ts K J g h = (h.0, h.1, g Touching h.0 h.2)
-piece_map (Brace s) a ts K J g h = (h.0, h.1, g Touching h.0 h.2)
-piece_map Blank a ts K J g h = g (blanked a) ts h
-piece_map Line a ts K J g h = (h.0, h.1, g h.0 ts h.2)
-piece_map Deeper a ts K J g h = g a ts h
-piece_map Back a ts K J g h = g a ts h
-piece_map (Semicolon s) a ts K J g (inl h) = inl (h.0, h.1, g Touching h.0 h.2)
-piece_map (Semicolon s) a ts K J g (inr h) = inr (h.0, g a ts h.1)
-piece_map Commit a ts K J g h = g a ts h
-piece_map (Mark pos) a ts K J g h = g a ts h
+piece_map : (n : Naming) (p : Piece) (a : Spacing) (ts : Input) (K J : Spacing → Input → Type 0) → ((d : Spacing) (m : Input) → K d m → J d m) → said n p a ts K → said n p a ts J
+piece_map n (Text s own) a ts K J g h = (h.0, h.1, g Touching h.0 h.2)
+piece_map n (Brace s) a ts K J g h = (h.0, h.1, g Touching h.0 h.2)
+piece_map n Blank a ts K J g h = g (blanked a) ts h
+piece_map n Line a ts K J g h = (h.0, h.1, g h.0 ts h.2)
+piece_map n Deeper a ts K J g h = g a ts h
+piece_map n Back a ts K J g h = g a ts h
+piece_map n (Semicolon s) a ts K J g (inl h) = inl (h.0, h.1, g Touching h.0 h.2)
+piece_map n (Semicolon s) a ts K J g (inr h) = inr (h.0, g a ts h.1)
+piece_map n Commit a ts K J g h = g a ts h
+piece_map n (Mark pos) a ts K J g h = g a ts h
 
 pub says_map : (n : Naming) (f : Laid) (a : Spacing) (ts : Input) (K J : Spacing → Input → Type 0) → ((d : Spacing) (m : Input) → K d m → J d m) → says n f a ts K → says n f a ts J
 says_map n nothing a ts K J g h = g a ts h
-says_map n (one p) a ts K J g h = piece_map p a ts K J g h
-says_map n (meant x) a ts K J g h = meaning_map x a ts K J g h
+says_map n (one p) a ts K J g h = piece_map n p a ts K J g h
+says_map n (meant x) a ts K J g h = meaning_map n x a ts K J g h
 says_map n (both f k) a ts K J g h = says_map n f a ts (λ d m. says n k d m K) (λ d m. says n k d m J) (λ d m j. says_map n k d m K J g j) h
 says_map n (named_piece pos own) a ts K J g h = (h.0, h.1, g Touching h.0 h.2)
 says_map n refused a ts K J g h = h
@@ -89,11 +90,11 @@ says_map n refused a ts K J g h = h
 -- ---- semicolons (12.10)
 
 -- A semicolon that may go: it is there, or `}` or the end comes.
-pub data Semi (a : Spacing) (ts : Input) : Spacing → Input → Type 0 where
-  there : {m : Input} → Told Div (codes ";") a ts m → Semi a ts Touching m
-  gone : SemicolonMayGo ts → Semi a ts a ts
+pub data Semi (n : Naming) (a : Spacing) (ts : Input) : Spacing → Input → Type 0 where
+  there : {m : Input} → Told n Div (codes ";") a ts m → Semi n a ts Touching m
+  gone : SemicolonMayGo ts → Semi n a ts a ts
 
-pub semi_of : (a : Spacing) (ts : Input) (K : Spacing → Input → Type 0) → said (Semicolon None) a ts K → (d : Spacing) × (m : Input) × Semi a ts d m × K d m
+pub semi_of : {n : Naming} (a : Spacing) (ts : Input) (K : Spacing → Input → Type 0) → said n (Semicolon None) a ts K → (d : Spacing) × (m : Input) × Semi n a ts d m × K d m
 semi_of a ts K (inl h) = (Touching, h.0, there h.1, h.2)
 semi_of a ts K (inr h) = (a, ts, gone h.0, h.1)
 
@@ -114,38 +115,53 @@ pub unbarred : (z : Context) (e : Bool) (k : ℕ) → e ≡ false → (e && (no_
 unbarred z true k h = absurd (true≢false h)
 unbarred z false k h = refl
 
+first_of_two : (a b : Bool) → a ≡ true → (a || b) ≡ true
+first_of_two true b e = refl
+first_of_two false b e = absurd (true≢false (sym e))
+
+second_of_two : (a b : Bool) → b ≡ true → (a || b) ≡ true
+second_of_two true b e = refl
+second_of_two false b e = e
+
 module _ (look : Look) (x : Lexicon look.style) where
   -- a punctuator
-  pub marked : (k : ℕ) {a : Spacing} {ts m : Input} → Told Div (mark_text k) a ts m → kind ts ≡ k
+  pub marked : (k : ℕ) {a : Spacing} {ts m : Input} → Told x.naming Div (mark_text k) a ts m → kind ts ≡ k
   marked k t = (x.marks k _ _ _ t.means).0
 
-  pub took : (c : Code) (k : ℕ) {a : Spacing} {ts m : Input} → Told Div (mark_text k) a ts m → Takes (unplaced c) k ts m
+  pub took : (c : Code) (k : ℕ) {a : Spacing} {ts m : Input} → Told x.naming Div (mark_text k) a ts m → Takes (unplaced c) k ts m
   took c k t = (marked k t, tt, t.after)
 
   -- a word of the grammar
-  pub keyed : (k : ℕ) {a : Spacing} {ts m : Input} → Told Div (word_text k) a ts m → kind ts ≡ k
+  pub keyed : (k : ℕ) {a : Spacing} {ts m : Input} → Told x.naming Div (word_text k) a ts m → kind ts ≡ k
   keyed k t = (x.keywords k _ _ _ t.means).0
 
-  pub worded : (c : Code) (k : ℕ) {a : Spacing} {ts m : Input} → Told Div (word_text k) a ts m → TakesWord (unplaced c) k ts m
+  pub worded : (c : Code) (k : ℕ) {a : Spacing} {ts m : Input} → Told x.naming Div (word_text k) a ts m → TakesWord (unplaced c) k ts m
   worded c k {ts = ts} t = let z = x.keywords k _ _ _ t.means in (z.0, unbarred c.context (escaped ts) (kind ts) z.1, tt, t.after)
 
+  -- Behind a word that ties no line ends but where one was written, nor before a token that is held.
+  pub behind_word : (k : ℕ) → is_tying k ≡ true → {a : Spacing} {ts m : Input} → Told x.naming Div (word_text k) a ts m → {v : Bool} → (is_tied (x.naming.behind (length m.places)) (kind m) ≡ true → brk m ≡ v) → brk m ≡ v
+  behind_word k i t b = b (first_of_two _ _ (ap is_tying (t.behind ∙ keyed k t) ∙ i))
+
+  pub before_held : {a : Spacing} {ts m : Input} {own : List ℕ} → Told x.naming Div own a ts m → is_held (kind ts) ≡ true → brk ts ≡ is_broken a
+  before_held t i = t.broke (second_of_two _ _ i)
+
   -- any word
-  pub spelled_word : (n : List ℕ) (ts0 r0 ts m : Input) {a : Spacing} (c d : Code) → TakesAnyWord c n ts0 r0 → Known ts0.places → Told Div (name_bytes look.style n) a ts m → (kind ts ≡ kind ts0) × TakesAnyWord (unplaced d) n ts m
+  pub spelled_word : (n : List ℕ) (ts0 r0 ts m : Input) {a : Spacing} (c d : Code) → TakesAnyWord c n ts0 r0 → Known ts0.places → Told x.naming Div (name_bytes look.style n) a ts m → (kind ts ≡ kind ts0) × TakesAnyWord (unplaced d) n ts m
   spelled_word n ts0 r0 ts m c d h l t =
       let z = x.names ts0 _ _ _ l h.0 (subst (λ (w : List ℕ). Means Div (name_bytes look.style w) (kind ts) (content ts) (escaped ts)) (sym h.1) t.means) in
       (z.0, (ap is_word z.0 ∙ h.0, z.1 ∙ h.1, tt, t.after))
 
   -- a name
-  pub named : (c : Code) (n : List ℕ) (ts0 r0 ts m : Input) {a : Spacing} → TakesName c n ts0 r0 → Known ts0.places → Told Div (name_bytes look.style n) a ts m → (kind ts ≡ kind ts0) × TakesName (unplaced c) n ts m
+  pub named : (c : Code) (n : List ℕ) (ts0 r0 ts m : Input) {a : Spacing} → TakesName c n ts0 r0 → Known ts0.places → Told x.naming Div (name_bytes look.style n) a ts m → (kind ts ≡ kind ts0) × TakesName (unplaced c) n ts m
   named c n ts0 r0 ts m h l t =
       let z = x.names ts0 _ _ _ l h.0 (subst (λ (w : List ℕ). Means Div (name_bytes look.style w) (kind ts) (content ts) (escaped ts)) (sym h.3) t.means) in
       (z.0, (ap is_word z.0 ∙ h.0, ap (λ (k : ℕ). no_name c.context k) z.0 ∙ h.1, escape_bars c.context (escaped ts) (kind ts) z.2, z.1 ∙ h.3, tt, t.after))
 
   -- what ends a statement
-  pub ended : (c : Code) (e : ℕ) {a : Spacing} {ts : Input} {d : Spacing} {m : Input} → Semi a ts d m → Ends (unplaced c) e ts m
+  pub ended : (c : Code) (e : ℕ) {a : Spacing} {ts : Input} {d : Spacing} {m : Input} → Semi x.naming a ts d m → Ends (unplaced c) e ts m
   ended c e (there t) = inl (took c semicolon_kind t)
   ended c e {ts = ts} (gone h) = inr (no_semicolon ts h, pauses_at (unplaced c) e ts h, refl)
 
-  pub ended_kind : {a : Spacing} {ts : Input} {d : Spacing} {m : Input} → Semi a ts d m → (kind ts ≡ semicolon_kind) ⊎ SemicolonMayGo ts
+  pub ended_kind : {a : Spacing} {ts : Input} {d : Spacing} {m : Input} → Semi x.naming a ts d m → (kind ts ≡ semicolon_kind) ⊎ SemicolonMayGo ts
   ended_kind (there t) = inl (marked semicolon_kind t)
   ended_kind (gone h) = inr h

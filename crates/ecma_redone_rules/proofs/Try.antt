@@ -4,7 +4,7 @@ use Rattle.ecma_token.specs.Kinds.{catch_kind, else_kind, finally_kind, left_par
 use Rattle.ecma_token.specs.declared.place.Span.{Span}
 use Rattle.ecma_tree.specs.Places.{no_place}
 use Rattle.ecma_tree.specs.Tree.{Tree, absent, array_pat, binding_ident, block_stmt, catch_clause, object_pat, try_stmt}
-use Rattle.ecma_syntax.specs.Input.{Code, Input, Takes, TakesWord, binding, brk, kind, lo, span, unplaced}
+use Rattle.ecma_syntax.specs.Input.{Code, Input, Takes, TakesWord, binding, kind, lo, span, unplaced}
 use Rattle.ecma_syntax.specs.Shape.{is_absent, is_binding, is_block, is_catch}
 use Rattle.ecma_grammar.specs.Grammar.{Produces}
 use Rattle.ecma_grammar.specs.Children.{By, Maybe, Sorted, is_module_item, child}
@@ -15,11 +15,11 @@ use Rattle.ecma_layout.specs.Looks.{Laid, formats, gap, when, ◌·◌}
 use Rattle.ecma_layout.specs.declared.look.Look.{Look}
 use Rattle.ecma_layout.specs.declared.look.Stand.{Stand}
 use Rattle.ecma_layout.specs.declared.look.Stand.TheVariants.{Alone}
-use Rattle.ecma_written.specs.Spacings.{Spacing, Touching, is_broken}
+use Rattle.ecma_written.specs.Spacings.{Spacing, Touching}
 use Rattle.ecma_written.specs.Lexicon.{Lexicon}
 use Rattle.ecma_written.specs.Means.{Known}
 use Rattle.ecma_written.specs.Naming.{Naming}
-use Rattle.ecma_written.specs.Told.{says}
+use Rattle.ecma_written.specs.Told.{Breaks, says}
 use Rattle.ecma_redone.specs.Redo.{Leaves, Mode, Plain, Redone, redo}
 use Rattle.ecma_redone_rules.proofs.Naming.{leaves_at}
 use Rattle.ecma_redone_rules.proofs.Begins.{is_part}
@@ -68,7 +68,7 @@ module _ (look : Look) (x : Lexicon look.style) where
     m : Input
     more : K d m
     known : Known r0.places
-    broke : brk ts ≡ is_broken b
+    broke : Breaks x.naming b ts
     again : (kind m ≡ else_kind → kind r0 ≡ else_kind) → (u : Tree) × Sorted is_block (unplaced c) (child u (λ y. Produces u y)) ts m × Redone (leaves_at look x.naming) Plain t u
 
   blocked_on : (t : Tree) → Sound look x.naming Alone t → (c : Code) (ts0 r0 : Input) → Sorted is_block c (child t (λ y. Produces t y)) ts0 r0 → Known ts0.places → (b : Spacing) (ts : Input) (K : Spacing → Input → Type 0) → says x.naming (laid look Alone t) b ts K → Blocked t c r0 b ts K

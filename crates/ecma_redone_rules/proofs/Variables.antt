@@ -5,7 +5,7 @@ use Rattle.ecma_token.specs.Kinds.{await_kind, const_kind, else_kind, let_kind, 
 use Rattle.ecma_token.specs.declared.place.Span.{Span}
 use Rattle.ecma_tree.specs.Places.{no_place}
 use Rattle.ecma_tree.specs.Tree.{Tree, Trees, array_pat, binding_ident, more, none, object_pat, using_decl, var_decl, var_declarator}
-use Rattle.ecma_syntax.specs.Input.{Code, Input, binding, brk, escaped, is_word, kind, kind2, lo, span, unplaced}
+use Rattle.ecma_syntax.specs.Input.{Code, Input, binding, escaped, is_word, kind, kind2, lo, span, unplaced}
 use Rattle.ecma_syntax.specs.Shape.{declarators_end, is_absent, is_binding, is_declarator}
 use Rattle.ecma_grammar.specs.Grammar.{children}
 use Rattle.ecma_grammar.specs.Children.{Commas, Sorted, is_module_item}
@@ -15,10 +15,10 @@ use Rattle.ecma_layout.specs.Looks.{blank, formats, gap, text, when, ◌·◌}
 use Rattle.ecma_layout.specs.declared.look.Look.{Look}
 use Rattle.ecma_layout.specs.declared.look.Stand.{Stand}
 use Rattle.ecma_layout.specs.declared.look.Stand.TheVariants.{Alone}
-use Rattle.ecma_written.specs.Spacings.{Spacing, Spaced, Touching, blanked, is_broken}
+use Rattle.ecma_written.specs.Spacings.{Spacing, Spaced, Touching, blanked}
 use Rattle.ecma_written.specs.Lexicon.{Lexicon}
 use Rattle.ecma_written.specs.Means.{Known}
-use Rattle.ecma_written.specs.Told.{says}
+use Rattle.ecma_written.specs.Told.{Breaks, says}
 use Rattle.ecma_redone.specs.Redo.{AllRedone, Plain}
 use Rattle.ecma_redone_rules.proofs.Naming.{leaves_at}
 use Rattle.ecma_redone_rules.proofs.Begins.{Begins, Starts, fine, is_loose, is_part, is_weak, same_start}
@@ -27,7 +27,7 @@ use Rattle.ecma_redone_rules.proofs.Follow.{calm}
 use Rattle.ecma_redone_rules.proofs.Lists.{more_same, run, sorted}
 use Rattle.ecma_redone_rules.proofs.Shapes.{alike, re_is_binding, re_is_declarator}
 use Rattle.ecma_redone_rules.proofs.Sound.{AllSound, Sound, plain_part}
-use Rattle.ecma_redone_rules.proofs.Tokens.{ended, gapped, keyed, semi_of, skip, unbarred, worded}
+use Rattle.ecma_redone_rules.proofs.Tokens.{behind_word, ended, gapped, keyed, semi_of, skip, unbarred, worded}
 
 by_var : (k : ℕ) (P : ℕ → Type 0) → is_var_word k ≡ true → P var_kind → P let_kind → P const_kind → P k
 by_var k P h a b c = ⊎_elim (λ (e : eqb k var_kind ≡ true). subst P (sym (eqb-true k var_kind e)) a) (λ h. ⊎_elim (λ (e : eqb k let_kind ≡ true). subst P (sym (eqb-true k let_kind e)) b) (λ (e : eqb k const_kind ≡ true). subst P (sym (eqb-true k const_kind e)) c) (or_cases (eqb k let_kind) (eqb k const_kind) h)) (or_cases (eqb k var_kind) _ h)
@@ -93,7 +93,7 @@ module _ (look : Look) (x : Lexicon look.style) where
     pub m : Input
     pub more : K d m
     pub known : Known r0.places
-    pub broke : brk ts ≡ is_broken b
+    pub broke : Breaks x.naming b ts
     pub first : kind ts ≡ k
     pub again : calm m ≡ true → (us : Trees) × Bindings (unplaced c) k (children us) ts m × AllRedone (leaves_at look x.naming) Plain ds us
 
@@ -140,7 +140,7 @@ module _ (look : Look) (x : Lexicon look.style) where
     pub m : Input
     pub more : K d m
     pub known : Known r0.places
-    pub broke : brk ts ≡ is_broken b
+    pub broke : Breaks x.naming b ts
     pub first : kind ts ≡ else_kind → ⊥
     pub starts : starts_using awaits ts0 ≡ true → starts_using awaits ts ≡ true
     pub again : calm m ≡ true → (us : Trees) × UsingBindings (unplaced c) awaits (children us) ts m × AllRedone (leaves_at look x.naming) Plain ds us
@@ -151,7 +151,7 @@ module _ (look : Look) (x : Lexicon look.style) where
     m : Input
     more : K d m
     known : Known r0.places
-    broke : brk ts ≡ is_broken b
+    broke : Breaks x.naming b ts
     same_kind : kind ts ≡ kind ts0
     again : calm m ≡ true → (us : Trees) × Commas (Sorted is_declarator (unplaced c)) (unplaced c) (children us) ts m × AllRedone (leaves_at look x.naming) Plain ds us
 
@@ -183,7 +183,7 @@ module _ (look : Look) (x : Lexicon look.style) where
         broke = q.1.broke;
         first = λ e. using_else (sym (keyed look x using_kind q.1) ∙ e);
         starts = λ g. subst (λ (k : ℕ). not (k == of_kind) ≡ true) (sym (ap kind q.1.after ∙ (z.same_kind ∙ sym (ap kind h.2.3)))) g;
-        again = λ g. let w = z.again g in (w.0, (q.0, h.1, worded look x c using_kind q.1, z.broke, ap starts_pattern z.same_kind ∙ h.4, w.1), w.2);
+        again = λ g. let w = z.again g in (w.0, (q.0, h.1, worded look x c using_kind q.1, behind_word look x using_kind refl q.1 z.broke, ap starts_pattern z.same_kind ∙ h.4, w.1), w.2);
       }
   used_on s true ds a c ts0 r0 h l b ts K q =
       let i = q.2 in
@@ -195,7 +195,7 @@ module _ (look : Look) (x : Lexicon look.style) where
         broke = q.1.broke;
         first = λ e. await_else (sym (keyed look x await_kind q.1) ∙ e);
         starts = λ g. subst (λ (k : ℕ). not (k == of_kind) ≡ true) (sym (ap kind2 q.1.after ∙ (ap kind i.1.after ∙ (z.same_kind ∙ (sym (ap kind h.6.3) ∙ sym (ap kind2 h.4.3)))))) g;
-        again = λ g. let w = z.again g in (w.0, (q.0, i.0, h.2, h.3, worded look x c await_kind q.1, i.1.broke, worded look x c using_kind i.1, z.broke, ap starts_pattern z.same_kind ∙ h.8, w.1), w.2);
+        again = λ g. let w = z.again g in (w.0, (q.0, i.0, h.2, h.3, worded look x c await_kind q.1, behind_word look x await_kind refl q.1 i.1.broke, worded look x c using_kind i.1, behind_word look x using_kind refl i.1 z.broke, ap starts_pattern z.same_kind ∙ h.8, w.1), w.2);
       }
 
   pub using_on : (s : Span) (awaits : Bool) (ds : Trees) → AllSound look x.naming ds → (st : Stand) → Sound look x.naming st (using_decl s awaits ds)

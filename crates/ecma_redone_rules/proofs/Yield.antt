@@ -25,7 +25,7 @@ use Rattle.ecma_redone_rules.proofs.Begins.{led}
 use Rattle.ecma_redone_rules.proofs.Ends.{above, there}
 use Rattle.ecma_redone_rules.proofs.Follow.{follow_on}
 use Rattle.ecma_redone_rules.proofs.Sound.{Out, Sound, expr, expr_low, full, tight_of}
-use Rattle.ecma_redone_rules.proofs.Tokens.{blank_broke, keyed, skip, took, worded}
+use Rattle.ecma_redone_rules.proofs.Tokens.{behind_word, blank_broke, keyed, skip, took, worded}
 
 absent_level : (a : Tree) → 1 ≤ level a → is_absent a ≡ false
 absent_level absent h = absurd (omega arith)
@@ -64,7 +64,7 @@ module _ (look : Look) (x : Lexicon look.style) where
         begins = led ts0 r0 ts y.m yield_kind h.2.0 (keyed look x yield_kind q.1) refl;
         again = λ g. let w = y.again (follow_on st (yield_expr s a false) Alone a r0 r0 y.m refl n g) in let e = expr_low look x.naming assignment_level Alone a c q.0 y.m h.4.0 (omega arith) w in record {
           tree = yield_expr (span (lo ts) y.m.last) w.tree false;
-          produced = as_yield (span (lo ts) y.m.last) w.tree false (unplaced c) ts y.m (above assignment_level (level w.tree) (omega arith) e.0) (q.0, h.1, worded look x c yield_kind q.1, y.broke ∙ blank_broke (starts_with_word a || formats look) Touching, e, refl);
+          produced = as_yield (span (lo ts) y.m.last) w.tree false (unplaced c) ts y.m (above assignment_level (level w.tree) (omega arith) e.0) (q.0, h.1, worded look x c yield_kind q.1, behind_word look x yield_kind refl q.1 y.broke ∙ blank_broke (starts_with_word a || formats look) Touching, e, refl);
           directive = refl;
           quoted = λ p q. refl;
           same = record { so = λ n. ap (λ (t : Tree). yield_expr no_place t false) (w.same.so Plain) };
@@ -84,7 +84,7 @@ module _ (look : Look) (x : Lexicon look.style) where
         begins = led ts0 r0 ts y.m yield_kind h.3.0 (keyed look x yield_kind q.1) refl;
         again = λ g. let w = y.again (follow_on st (yield_expr s a true) Alone a r0 r0 y.m refl n g) in let e = expr_low look x.naming assignment_level Alone a c p.0 y.m h.6.0 (omega arith) w in record {
           tree = yield_expr (span (lo ts) y.m.last) w.tree true;
-          produced = as_yield (span (lo ts) y.m.last) w.tree true (unplaced c) ts y.m (above assignment_level (level w.tree) (omega arith) e.0) (q.0, p.0, h.2, worded look x c yield_kind q.1, p.1.broke, took look x c mul_kind p.1, e, refl);
+          produced = as_yield (span (lo ts) y.m.last) w.tree true (unplaced c) ts y.m (above assignment_level (level w.tree) (omega arith) e.0) (q.0, p.0, h.2, worded look x c yield_kind q.1, behind_word look x yield_kind refl q.1 p.1.broke, took look x c mul_kind p.1, e, refl);
           directive = refl;
           quoted = λ p q. refl;
           same = record { so = λ n. ap (λ (t : Tree). yield_expr no_place t true) (w.same.so Plain) };

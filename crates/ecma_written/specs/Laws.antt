@@ -10,14 +10,15 @@ use Rattle.ecma_layout.specs.Looks.{Laid}
 use Rattle.ecma_layout.specs.Words.{sign_of}
 use Rattle.ecma_written.specs.Spacings.{Spacing}
 use Rattle.ecma_written.specs.Naming.{Naming, StandsFor}
+use Rattle.ecma_written.specs.Ties.{KindsBefore}
 use Rattle.ecma_written.specs.Says.{Says}
 use Rattle.ecma_written.specs.Told.{says}
 use Rattle.ecma_written.specs.Texts.{mark_text, ending_text, word_text}
 use Rattle.ecma_written.specs.Means.{TellsKinds, Known}
 
--- What a layout says it tells: the same tokens, up to the same rest, and where its names stand.
+-- What a layout says it tells: the same tokens, up to the same rest, where its names stand, and which kinds stand before what is left.
 abbrev pub LayoutsTell : Type 0
-LayoutsTell = (n : Naming) (f : Laid) (a b : Spacing) (ts r : Input) → Says (StandsFor n) f a ts b r → says n f a ts (λ c m. (c ≡ b) × (m ≡ r))
+LayoutsTell = (n : Naming) (f : Laid) (a b : Spacing) (ts r : Input) → Says (StandsFor n) f a ts b r → KindsBefore n.behind ts.places → says n f a ts (λ c m. (c ≡ b) × (m ≡ r))
 
 -- Punctuators, words, signs, operators and what ends the characters of a template mean the tokens of their kinds.
 abbrev pub MarksTell : Type 0

@@ -1,4 +1,5 @@
 pub mod Spacings
+pub mod Ties
 pub mod Naming
 pub mod Says
 pub mod Means

@@ -7,14 +7,20 @@ use Rattle.ecma_tree.specs.Places.{no_place}
 pub record Naming : Type 0 where
   pub read : ℕ → Span
   pub written : ℕ → Span
+  -- the kind of the token before those that are left, by how many these are
+  pub behind : ℕ → ℕ
 
 -- A name that was read here is written there: both places are kept as the same.
 abbrev pub StandsFor : Naming → ℕ → ℕ → Type 0
 StandsFor n from to = n.written to ≡ n.read from
+
+-- no kind is known
+abbrev pub untold : ℕ → ℕ
+untold left = 0
 
 -- no place is kept
 abbrev pub nowhere : ℕ → Span
 nowhere at = no_place
 
 abbrev pub unplaced_names : Naming
-unplaced_names = record { read = nowhere; written = nowhere }
+unplaced_names = record { read = nowhere; written = nowhere; behind = untold }

@@ -13,7 +13,7 @@ use Rattle.ecma_syntax.specs.Input.{PlacedToken, Input, lo, lo_of}
 use Rattle.ecma_pieces.specs.Pieces.{Piece, Text, Brace, Blank, Line, Deeper, Back, Semicolon, Commit, Mark}
 use Rattle.ecma_layout.specs.Looks.{Meaning, regular_expression, template_characters, template_end, hashbang_comment, touching, Laid, nothing, one, meant, named, both, refused}
 use Rattle.ecma_written.specs.Spacings.{Spacing, Touching, Spaced, Broken, Lies}
-use Rattle.ecma_written.specs.Naming.{Naming, StandsFor}
+use Rattle.ecma_written.specs.Naming.{Naming, StandsFor, untold}
 use Rattle.ecma_written.specs.Says.{IsFirst, IsSaid, SaysPiece, SaysTexts, SaysMeaning, Says}
 use Rattle.ecma_written_tiles.specs.Tiles.{SaysTiles}
 use Rattle.ecma_written_laws.proofs.Closed.{no_outside}
@@ -172,7 +172,7 @@ pub naming_of : (N : ℕ → ℕ → Type 0) (start : ℕ) (modules : Bool) (f :
 naming_of N start modules f text h =
     let ts : Input = record { last = start; places = h.places } in
     let at : ℕ → Option ℕ = find N f Spaced ts h.gap h.over h.says in record {
-      naming = record { read = λ pos. kept_as (Some pos); written = λ n. kept_as (at n) };
+      naming = record { read = λ pos. kept_as (Some pos); written = λ n. kept_as (at n); behind = untold };
       tiles = record {
         places = h.places;
         tiles = h.tiles;

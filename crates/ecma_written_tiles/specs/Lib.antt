@@ -2,4 +2,5 @@ pub mod Categories
 pub mod Following
 pub mod Goes
 pub mod Tiles
+pub mod Celled
 pub mod Laws
