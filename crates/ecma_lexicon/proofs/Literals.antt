@@ -37,7 +37,7 @@ use Rattle.ecma_spell_template.specs.Templates.{template_text}
 use Rattle.ecma_spell_template.specs.Laws.{is_code_point}
 use Rattle.ecma_spell_template.specs.RegExps.{reg_exp_text}
 use Rattle.ecma_spell_template.proofs.ReadLemmas.{template_is_read}
-use Rattle.ecma_spell_template.proofs.TaggedLemmas.{tagged_is_read}
+use Rattle.ecma_literal.proofs.TaggedLemmas.{tagged_is_read}
 use Rattle.ecma_spell_template.proofs.RegExpLemmas.{reg_exp_is_read}
 use Rattle.ecma_syntax.specs.Input.{Input, content}
 use Rattle.ecma_layout.specs.Literals.{string_bytes, number_bytes, big_bytes, quasi_bytes}

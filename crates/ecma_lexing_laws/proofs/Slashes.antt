@@ -20,7 +20,7 @@ use Rattle.ecma_literal.specs.declared.template.Ending.{Ending}
 use Rattle.ecma_literal.specs.declared.template.Ending.TheVariants.{BackQuote, Substitution}
 use Rattle.ecma_literal.specs.Templates.{Ends, SpellsPiece}
 use Rattle.ecma_literal.proofs.NumeralLemmas.{numeral_starts}
-use Rattle.ecma_spell_template.proofs.TaggedLemmas.{tagged_is_read}
+use Rattle.ecma_literal.proofs.TaggedLemmas.{tagged_is_read}
 use Rattle.ecma_lexeme.specs.declared.goal.LexicalGoal.TheVariants.{Div, RegExp}
 use Rattle.ecma_lexeme.specs.Lexemes.{SpecLexeme, IsCharacters, IsLexeme, IsMark, IsOutside, IsPattern, plain}
 use Rattle.ecma_lexeme.proofs.LexemeLemmas.{one_lexeme}

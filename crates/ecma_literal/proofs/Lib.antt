@@ -12,4 +12,5 @@ pub mod StopLemmas
 pub mod ScanLemmas
 pub mod StateLemmas
 pub mod StringLemmas
+pub mod TaggedLemmas
 pub mod TemplateLemmas

@@ -8,5 +8,6 @@ pub mod Standing
 pub mod Stops
 pub mod Strings
 pub mod TemplateSteps
+pub mod Tagged
 pub mod Templates
 pub mod Units

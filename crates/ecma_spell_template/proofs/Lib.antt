@@ -4,6 +4,5 @@ pub mod PartLemmas
 pub mod ReadLemmas
 pub mod RegExpLemmas
 pub mod SplitLemmas
-pub mod TaggedLemmas
 pub mod TextLemmas
 pub mod TwiceLemmas

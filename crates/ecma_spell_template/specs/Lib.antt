@@ -3,5 +3,4 @@ pub mod Again
 pub mod Left
 pub mod RegExps
 pub mod RegExpTexts
-pub mod Tagged
 pub mod Templates

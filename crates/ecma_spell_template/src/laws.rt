@@ -3,7 +3,7 @@
 ghost use Rattle.ecma_spell_template.specs.Again.{TemplateAgain, WrittenAgain};
 ghost use Rattle.ecma_spell_template.specs.Laws.{TemplateIsRead};
 ghost use Rattle.ecma_spell_template.specs.RegExps.{RegExpIsRead};
-ghost use Rattle.ecma_spell_template.specs.Tagged.{TaggedIsRead};
+ghost use Rattle.ecma_literal.specs.Tagged.{TaggedIsRead};
 
 /// Law: a piece of an untagged template stands for the units of its raw text, whichever end it has.
 pub fn template_is_read()

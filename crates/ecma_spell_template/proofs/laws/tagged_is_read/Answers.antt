@@ -1,4 +1,4 @@
-use Rattle.ecma_spell_template.proofs.TaggedLemmas.{tagged_is_read}
+use Rattle.ecma_literal.proofs.TaggedLemmas.{tagged_is_read}
 use Rattle.ecma_spell_template.proofs.laws.tagged_is_read.Goals as goal
 
 pub returns : goal.returns

@@ -13,7 +13,7 @@ use Rattle.ecma_literal.specs.Escapes.{begins, is_decimal, is_hex, is_special, i
 use Rattle.ecma_literal.specs.Templates as t
 use Rattle.ecma_literal.specs.Templates.{Parts, Ends, is_brace}
 use Rattle.ecma_literal.specs.Units.{is_legacy}
-use Rattle.ecma_spell_template.specs.Tagged.{TaggedIsRead}
+use Rattle.ecma_literal.specs.Tagged.{TaggedIsRead}
 
 -- ---- what ends a piece goes on no escape
 
