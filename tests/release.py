@@ -17,8 +17,8 @@ CRATES = """\
 ecma_low:
 ecma_side:
 ecma_front_cli: ecma_low ecma_side std
-ecma_lexical_answers: ecma_low
-ecma_program_answers: ecma_low ecma_side
+test_lex_answers: ecma_low
+test_program_answers: ecma_low ecma_side
 """
 # what pretends to be the toolchain: it tells what it does, and makes a program of the sources' own words
 RT = """\
@@ -266,7 +266,7 @@ def builds_side_by_side(trial):
     shutil.rmtree(f"{trial.root}/crates/ecma_low/out")
     shutil.rmtree(f"{trial.root}/crates/ecma_side/out")
     trial.write("rt.log", "")
-    trial.call("tools/build", "--jobs", "1", "ecma_low", "ecma_side", "ecma_lexical_answers")
+    trial.call("tools/build", "--jobs", "1", "ecma_low", "ecma_side", "test_lex_answers")
     expect(trial.read("rt.log").split()[1:6:4], ["ecma_side", "ecma_low"], "what began first")
 
 
@@ -345,8 +345,8 @@ def is_of_what_it_reads(trial):
         ("crates/ecma_side/specs/Words.antt", "-- a definition\n", 2),
         ("crates/ecma_side/proofs/F/Answers.antt", "-- a proof\n", 2),
         ("crates/ecma_side/data/x.rows", "a row\n", 0),
-        ("crates/ecma_lexical_answers/src/more.rt", "more\n", 1),
-        ("crates.txt", CRATES.replace("ecma_lexical_answers: ecma_low", "ecma_lexical_answers: ecma_low ecma_side"), 1),
+        ("crates/test_lex_answers/src/more.rt", "more\n", 1),
+        ("crates.txt", CRATES.replace("test_lex_answers: ecma_low", "test_lex_answers: ecma_low ecma_side"), 1),
         ("crates.txt", CRATES.replace("# libraries", "# Libraries"), 0),
     )
     for name, text, count in changes:
@@ -402,7 +402,7 @@ def adds_up_the_gate(trial):
     expect((status, out.splitlines()[-1]), (1, "12 passed, 1 failed"), "another program of the same sources")
     status, out, _ = trial.call(".ci/run")
     expect((status, out.splitlines()[-1]), (1, "7 passed, 1 failed"), "programs of earlier sources")
-    for name in ("ecma_front_cli", "ecma_lexical_answers", "ecma_program_answers"):
+    for name in ("ecma_front_cli", "test_lex_answers", "test_program_answers"):
         shutil.rmtree(f"{trial.root}/crates/{name}/out")
     shutil.rmtree(f"{trial.root}/release")
     status, out, _ = trial.call(".ci/run")

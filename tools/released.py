@@ -9,8 +9,8 @@ LIST = f"{ROOT}/release/programs"
 # the released programs, and the crate of each
 PROGRAMS = {
     "ecma-front": "ecma_front_cli",
-    "ecma-lexical-answers": "ecma_lexical_answers",
-    "ecma-program-answers": "ecma_program_answers",
+    "ecma-lexical-answers": "test_lex_answers",
+    "ecma-program-answers": "test_program_answers",
 }
 MACHINE = "x86_64 Linux"
 HEAD = """\

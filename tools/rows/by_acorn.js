@@ -1,6 +1,6 @@
 #!/usr/bin/env node
 // Rows of the parser, made by an independent one. It reads the texts of texts.txt, one a line, with the marks of docs/ROWS.md, and asks acorn for
-// each as a script and as a module. It writes trees.rows, the texts that acorn takes with their trees in the form of ecma_outline, and refused.rows,
+// each as a script and as a module. It writes trees.rows, the texts that acorn takes with their trees in the form of tree_outline, and refused.rows,
 // those that it refuses for their grammar. Rows by hand stand there too: early errors (faults.rows), and what acorn reads otherwise (departures.rows);
 // a text is left out where it has such a row. What acorn refuses for an early error, or for a rule that isn't among ours, and has none is printed.
 //
@@ -28,7 +28,7 @@ function unesc(s) {
   return s.replace(/«([^»]*)»/g, (_, w) => w === "" ? "" : w.startsWith("U+") ? String.fromCodePoint(parseInt(w.slice(2),16)) : String.fromCharCode(names[w]));
 }
 
-// The tree of a text in the form of ecma_outline. Places are bytes that count from 1.
+// The tree of a text in the form of tree_outline. Places are bytes that count from 1.
 function tree(text, module) {
   const tokens = [];
   const program = acorn.parse(text, { ecmaVersion: "latest", sourceType: module ? "module" : "script", preserveParens: true, onToken: tokens, allowHashBang: true });

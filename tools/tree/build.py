@@ -18,11 +18,11 @@ BOXES = {"Child<T, ExprTag>": "ExprBox", "Child<T, StmtTag>": "StmtBox", "Child<
 # What is used from which module, by what its name looks like.
 GHOST = [
     ("Rattle.std.specs.Prelude", r"\b(All|IfOk)\b"),
-    ("Rattle.ecma_token.specs.OperatorKinds", r"\b(\w+_op_kind)\b"),
-    ("Rattle.ecma_tree.specs.Places", r"\b(no_place)\b"),
-    ("Rattle.ecma_node.specs.Placed", r"\b(inner|in_expr|in_stmt|in_pat|holds_expr|holds_stmt|holds_pat)\b"),
-    ("Rattle.ecma_node.specs.Fits", r"\b(fits_\w+)\b"),
-    ("Rattle.ecma_node.specs.View", r"\b(view_\w+|\w+_word)\b"),
+    ("Rattle.base_token.specs.OperatorKinds", r"\b(\w+_op_kind)\b"),
+    ("Rattle.tree_spec.specs.Places", r"\b(no_place)\b"),
+    ("Rattle.tree_nodes.specs.Placed", r"\b(inner|in_expr|in_stmt|in_pat|holds_expr|holds_stmt|holds_pat)\b"),
+    ("Rattle.tree_nodes.specs.Fits", r"\b(fits_\w+)\b"),
+    ("Rattle.tree_nodes.specs.View", r"\b(view_\w+|\w+_word)\b"),
 ]
 
 
@@ -85,12 +85,12 @@ class Build:
                 head += "ghost use %s.{%s};\n" % (module, ", ".join(names))
         clauses = "\n".join(re.findall(r"^        ensures .*$|^        requires .*$", text, re.M))
         trees |= set(re.findall(r"\b(trees_by|part_by|element_by|list)\b", clauses))
-        head += "ghost use Rattle.ecma_tree.specs.Tree.{%s};\n\n" % ", ".join(sorted(trees))
+        head += "ghost use Rattle.tree_spec.specs.Tree.{%s};\n\n" % ", ".join(sorted(trees))
         code = re.sub(r"^        (ensures|requires) .*$|^ *///.*$", "", text, flags=re.M)
         words = set(re.findall(r"\b[A-Z]\w+\b", re.sub(r"::\w+", "", code)))
         own = {n for n in words if self.nodes.is_own(n) or n in self.table.words_of or n.endswith(("Box", "Kind"))} - {"Box"}
         head += "use crate::Build;\n"
-        for crate, names in (("ecma_atom", {"Atom", "StrValue"}), ("ecma_node", own), ("ecma_token", {"AssignOp", "BinaryOp", "DUMMY_SP", "NumValue", "Span"})):
+        for crate, names in (("base_token", {"Atom", "StrValue"}), ("tree_nodes", own), ("base_token", {"AssignOp", "BinaryOp", "DUMMY_SP", "NumValue", "Span"})):
             names = sorted((names & words) | ({"DUMMY_SP"} & names))
             if names:
                 head += use_line(crate, names)

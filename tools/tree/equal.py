@@ -2,7 +2,7 @@
 
 from spec_tree import arguments, pattern, tree_imports
 
-CRATE = "crates/ecma_program"
+CRATE = "crates/tree_program_spec"
 
 # The test of equality of each type of a field, and its lemmas' stem.
 TEST = {
@@ -21,8 +21,8 @@ EQUAL_HEAD = """-- Whether two trees are equal, as a test: kind by kind, and fie
 use Rattle.std.specs.Prelude.{ℕ, Bool, true, false, ◌&&◌, nat_eq, List, Option, Some, None, bytes_eq}
 use Rattle.std.specs.Ordering.{int_eq}
 use Rattle.std.proofs.Math.Bool.{beq}
-use Rattle.ecma_token.specs.declared.place.Span.{Span}
-use Rattle.ecma_number.specs.Numbers.{SpecNumber, Scaled, InRadix}
+use Rattle.base_token.specs.declared.place.Span.{Span}
+use Rattle.base_number.specs.Numbers.{SpecNumber, Scaled, InRadix}
 """
 
 EQUAL_PARTS = """
@@ -92,10 +92,10 @@ use Rattle.std.specs.Bool.{Decides}
 use Rattle.std.proofs.Math.Bool.{beq}
 use Rattle.std.proofs.lemmas.Bool.Decides.{Decides-eqb, Decides-int_eq}
 use Rattle.std.proofs.lemmas.Slice.Eq.{bytes_eq-Decides}
-use Rattle.ecma_token.specs.declared.place.Span.{Span}
-use Rattle.ecma_token.specs.declared.place.BytePos.{BytePos}
-use Rattle.ecma_number.specs.Numbers.{SpecNumber, Scaled, InRadix}
-use Rattle.ecma_program.specs.Equal.{equal_span, equal_place, equal_text, equal_number, equal, equal_all}
+use Rattle.base_token.specs.declared.place.Span.{Span}
+use Rattle.base_token.specs.declared.place.BytePos.{BytePos}
+use Rattle.base_number.specs.Numbers.{SpecNumber, Scaled, InRadix}
+use Rattle.tree_program_spec.specs.Equal.{equal_span, equal_place, equal_text, equal_number, equal, equal_all}
 """
 
 LEMMAS_PARTS = """

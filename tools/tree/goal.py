@@ -4,7 +4,7 @@ from nesting import WHAT
 from node_types import inside, snake, use_line
 from table import SORTS
 
-SRC = "crates/ecma_goal/src"
+SRC = "crates/judge_is_module/src"
 
 # Modules of types below a statement; literals tell nothing, and what tells of programs is written by hand.
 MODULES = ("statements", "declarations", "functions", "expressions", "objects", "patterns")
@@ -81,9 +81,9 @@ class Goal:
                 body.append("    #[tactic(auto, using(%s))]\n" % USING[n])
             body.append("    fn tells(&self) -> bool {\n%s    }\n}\n\n" % "".join("        %s\n" % line for line in lines))
         head = "//! What tells of a module in %s.\n" % WHAT[module]
-        head += "ghost use Rattle.ecma_node.specs.View.{%s};\n\n" % ", ".join(views)
+        head += "ghost use Rattle.tree_nodes.specs.View.{%s};\n\n" % ", ".join(views)
         head += use_line("crate::parts", sorted(helpers, key=lambda n: (n[0].islower(), n)))
-        head += use_line("ecma_node", sorted(names))
+        head += use_line("tree_nodes", sorted(names))
         return head + "\n" + "".join(body).rstrip("\n") + "\n"
 
 

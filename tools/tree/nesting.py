@@ -2,7 +2,7 @@
 
 from node_types import inside, snake, use_line
 
-SRC = "crates/ecma_nesting/src"
+SRC = "crates/tree_nesting/src"
 
 # Structs whose count is no plain one, with the count as it is written in `knot`'s words.
 OWN = {
@@ -84,9 +84,9 @@ class Nesting:
             body.append("    ghost tree = { view_%s%s };\n\n" % (snake(n), " T.tree" if generic else ""))
             body.append("    fn nesting(&self) -> u32 {\n%s    }\n}\n\n" % "".join("        %s\n" % line for line in lines))
         head = "//! How deep %s go.\n" % WHAT[module]
-        head += "ghost use Rattle.ecma_node.specs.View.{%s};\n\n" % ", ".join(views)
+        head += "ghost use Rattle.tree_nodes.specs.View.{%s};\n\n" % ", ".join(views)
         head += use_line("crate::counts", sorted(helpers, key=lambda n: (n[0].islower(), n)))
-        head += use_line("ecma_node", sorted(names))
+        head += use_line("tree_nodes", sorted(names))
         return head + "\n" + "".join(body).rstrip("\n") + "\n"
 
 

@@ -2,7 +2,7 @@
 
 from table import APART, SORTS, inside, snake, tree_name
 
-CRATE = "ecma_node"
+CRATE = "tree_nodes"
 SRC = "crates/%s/src" % CRATE
 SPECS = "crates/%s/specs" % CRATE
 ROOT = "Rattle.%s.specs" % CRATE
@@ -12,12 +12,12 @@ PLACES = {"Expr": "holds_expr", "Stmt": "holds_stmt", "Pat": "holds_pat"}
 WRAPPERS = ("Box", "Option", "Vec", "Hole")
 FIELDS_OF_CODE = {"Atom", "StrValue", "NumValue", "Span", "BinaryOp", "AssignOp"}
 FOREIGN = {
-    "Atom": "ecma_atom",
-    "StrValue": "ecma_atom",
-    "NumValue": "ecma_token",
-    "Span": "ecma_token",
-    "BinaryOp": "ecma_token",
-    "AssignOp": "ecma_token",
+    "Atom": "base_token",
+    "StrValue": "base_token",
+    "NumValue": "base_token",
+    "Span": "base_token",
+    "BinaryOp": "base_token",
+    "AssignOp": "base_token",
 }
 
 class Nodes:
@@ -156,10 +156,10 @@ class Nodes:
         uses.setdefault("crate::knot", set()).add("Part")
         lines = "".join(use_line(m, sorted(ns, key=fmt_key)) for m, ns in sorted(uses.items()))
         head = "//! Where each struct and enum stands in the text.\n"
-        head += "ghost use Rattle.ecma_tree.specs.Places.{place_of};\n"
+        head += "ghost use Rattle.tree_spec.specs.Places.{place_of};\n"
         head += "ghost use %s.Placed.{inner};\n" % ROOT
         head += "ghost use %s.View.{%s};\n\n" % (ROOT, ", ".join(views))
-        return head + lines + use_line("ecma_token", ["Span", "Spanned"]) + "\n" + "".join(body).rstrip("\n") + "\n"
+        return head + lines + use_line("base_token", ["Span", "Spanned"]) + "\n" + "".join(body).rstrip("\n") + "\n"
 
     # specs
 
@@ -280,9 +280,9 @@ class Nodes:
         out = [
             "-- What contracts see of the code's tree: the spec tree. `f` is what stands for a child's part.\n",
             "use Rattle.std.specs.Prelude.{ℕ, Option, Some, None}\n",
-            "use Rattle.ecma_token.specs.Kinds.{%s}\n" % ", ".join(sorted({k for _, ws in table.words for _, k in ws if k.endswith("_kind")})),
-            "use Rattle.ecma_token.specs.OperatorKinds.{binary_op_kind, assign_op_kind}\n",
-            "use Rattle.ecma_tree.specs.Tree.{Tree, Trees, none, more, plain_method, trees_by, part_by, element_by, %s}\n"
+            "use Rattle.base_token.specs.Kinds.{%s}\n" % ", ".join(sorted({k for _, ws in table.words for _, k in ws if k.endswith("_kind")})),
+            "use Rattle.base_token.specs.OperatorKinds.{binary_op_kind, assign_op_kind}\n",
+            "use Rattle.tree_spec.specs.Tree.{Tree, Trees, none, more, plain_method, trees_by, part_by, element_by, %s}\n"
             % ", ".join(n for n, _, _ in table.trees()),
             self.spec_imports(),
             "\n",
@@ -349,7 +349,7 @@ class Nodes:
         out = [
             "//! The syntax tree in code: a struct for each kind of node, after swc's names. Expressions, statements and\n",
             "//! patterns are the sorts of children; each child stands in a box of its sort, and a contract sees the spec\n",
-            "//! tree (`ecma_tree`).\n#![tactic(auto)]\n\n",
+            "//! tree (`tree_spec`).\n#![tactic(auto)]\n\n",
         ]
         for m in sorted(private + ["knot", "spine"] + table.modules):
             out.append("%smod %s;\n" % ("" if m in private else "pub ", m))
@@ -511,8 +511,8 @@ class Sizes:
             "-- weights count the types below `kind`.\n",
             "use Rattle.std.specs.Prelude.{ℕ, ◌+◌, ◌≤◌, List, [], ◌∷◌, Option, Some, None}\n",
             "use Rattle.std.proofs.Common.{arith}\n",
-            "use Rattle.ecma_tree.specs.Tree.{Tree, list, trees_by, part_by, element_by}\n",
-            "use Rattle.ecma_tree.specs.Codes.{tree_size, trees_size}\n",
+            "use Rattle.tree_spec.specs.Tree.{Tree, list, trees_by, part_by, element_by}\n",
+            "use Rattle.tree_spec.specs.Codes.{tree_size, trees_size}\n",
             "use %s.Placed.{inner, placed_size, part_tree}\n" % ROOT,
             "use %s.View.{%s}\n" % (ROOT, ", ".join("view_" + snake(n) for n in self.nodes.ordered())),
             "use %s.declared.knot.Part.{Part}\n" % ROOT,

@@ -2,15 +2,15 @@
 
 from spec_tree import arguments, pattern, tree_imports
 
-OUT = "crates/ecma_program/specs"
+OUT = "crates/tree_program_spec/specs"
 
 HEAD = """-- What a tree says: the tree without places, and without what only tells how something is spelled.
 use Rattle.std.specs.Prelude.{◌≡◌, ℕ, Bool, true, false, not, ◌&&◌, ◌==◌, if◌then◌else◌, List, [], ◌∷◌, Option, Some, None, codes, bytes_eq}
 use Rattle.std.specs.List.{list_any}
 use Rattle.std.specs.Str.{chars}
-use Rattle.ecma_token.specs.declared.place.Span.{Span}
-use Rattle.ecma_token.specs.Utf16.{utf16}
-use Rattle.ecma_tree.specs.Places.{no_place}
+use Rattle.base_token.specs.declared.place.Span.{Span}
+use Rattle.base_token.specs.Utf16.{utf16}
+use Rattle.tree_spec.specs.Places.{no_place}
 """
 
 PARTS = """
@@ -119,4 +119,4 @@ def program_module(table):
 
 
 def files(table):
-    return {OUT + "/Program.antt": program_module(table), OUT + "/Lib.antt": "pub mod Program\npub mod Equal\npub mod Same\npub mod Laws\npub mod EqualLaws\n"}
+    return {OUT + "/Program.antt": program_module(table), OUT + "/Lib.antt": "pub mod Program\npub mod Equal\npub mod Same\npub mod Laws\npub mod EqualLaws\npub mod Names\n"}

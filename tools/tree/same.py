@@ -6,7 +6,7 @@ from node_types import inside, snake, use_line
 from spec_tree import arguments, pattern, tree_imports
 from table import APART, PLAIN, SORTS, tree_name
 
-CRATE = "ecma_same"
+CRATE = "tree_same"
 SRC = "crates/%s/src" % CRATE
 SPECS = "crates/%s/specs" % CRATE
 PROOFS = "crates/%s/proofs" % CRATE
@@ -47,8 +47,8 @@ pub(crate) fn same_template<T: Held>(tpl: &TplOf<T>, other: &TplOf<T>) -> bool
 }
 BEHIND_USES = (
     """ghost use Rattle.std.specs.Prelude.{◌≡◌, ◌&&◌};
-ghost use Rattle.ecma_tree.specs.Tree.{trees_by, list};
-ghost use Rattle.ecma_program.specs.Same.{same};
+ghost use Rattle.tree_spec.specs.Tree.{trees_by, list};
+ghost use Rattle.tree_program_spec.specs.Same.{same};
 """,
     "ghost use %s.specs.Compared.{same_spellings};\n" % ROOT,
 )
@@ -198,7 +198,7 @@ class Same:
         before, after = BEHIND_USES if any(table.module_of[n] == module for n in BEHIND) else ("", "")
         head = "//! Whether %s say the same.\n" % WHAT[module] + before
         if views:
-            head += "ghost use Rattle.ecma_node.specs.View.{%s};\n" % ", ".join(views)
+            head += "ghost use Rattle.tree_nodes.specs.View.{%s};\n" % ", ".join(views)
         head += after
         if seen:
             head += "ghost use %s.specs.Seen.{%s};\n" % (ROOT, ", ".join(seen))
@@ -208,7 +208,7 @@ class Same:
             where.setdefault(HELPERS.get(h, "parts"), []).append(h)
         for m, hs in sorted(where.items()):
             head += use_line("crate::" + m, sorted(hs, key=lambda n: (n[0].islower(), n)))
-        head += use_line("ecma_node", sorted(names))
+        head += use_line("tree_nodes", sorted(names))
         return head + "\n" + "".join(body).rstrip("\n") + "\n"
 
     # proofs
@@ -296,7 +296,7 @@ class Same:
         out = [APART_HEAD % ", ".join(views), tree_imports(table)]
         for n in enums:
             name = n + "Of" if table.is_generic(n) else n
-            m = "Rattle.ecma_node.specs.declared.%s.%s" % (table.module_of[n], name)
+            m = "Rattle.tree_nodes.specs.declared.%s.%s" % (table.module_of[n], name)
             out.append("use %s.{%s}\nuse %s.TheVariants as %s\n" % (m, name, m, n))
         out.append("\n-- a number for each kind\nabbrev tag : Tree → ℕ\n")
         for name, _, fields in trees:
@@ -393,11 +393,11 @@ HELPERS = {
 RULES_HEAD = """-- Two trees of one kind are the same program where their fields are.
 use Rattle.std.proofs.Common.{◌≡◌, ℕ, Bool, true, ◌&&◌, nat_eq, List, Option, bytes_eq, refl}
 use Rattle.std.proofs.Math.Bool.{beq}
-use Rattle.ecma_token.specs.declared.place.Span.{Span}
-use Rattle.ecma_number.specs.Numbers.{SpecNumber}
-use Rattle.ecma_program.specs.Equal.{equal_text}
-use Rattle.ecma_program.specs.Same.{same}
-use Rattle.ecma_same.specs.Compared.{same_keys, same_arguments}
+use Rattle.base_token.specs.declared.place.Span.{Span}
+use Rattle.base_number.specs.Numbers.{SpecNumber}
+use Rattle.tree_program_spec.specs.Equal.{equal_text}
+use Rattle.tree_program_spec.specs.Same.{same}
+use Rattle.tree_same.specs.Compared.{same_keys, same_arguments}
 """
 
 SORTS_HEAD = """-- Which trees stand in which places.
@@ -416,13 +416,13 @@ APART_HEAD = """-- Trees of different kinds are not the same program.
 use Rattle.std.proofs.Common.{◌≡◌, ℕ, Bool, true, false, nat_eq, refl, sym, ap, ◌∙◌, subst}
 use Rattle.std.specs.Bool.{Decides}
 use Rattle.std.proofs.lemmas.Bool.Decides.{Decides-eqb}
-use Rattle.ecma_token.specs.declared.place.Span.{Span}
-use Rattle.ecma_program.specs.Program.{program}
-use Rattle.ecma_program.specs.Same.{same}
-use Rattle.ecma_program.proofs.SameLemmas.{same_decides}
-use Rattle.ecma_same.specs.Sorts.{is_statement, is_node, is_left_out}
-use Rattle.ecma_same.specs.Seen.{seen_expr_kind, seen_stmt_kind}
-use Rattle.ecma_node.specs.View.{%s}
+use Rattle.base_token.specs.declared.place.Span.{Span}
+use Rattle.tree_program_spec.specs.Program.{program}
+use Rattle.tree_program_spec.specs.Same.{same}
+use Rattle.tree_program_spec.proofs.SameLemmas.{same_decides}
+use Rattle.tree_same.specs.Sorts.{is_statement, is_node, is_left_out}
+use Rattle.tree_same.specs.Seen.{seen_expr_kind, seen_stmt_kind}
+use Rattle.tree_nodes.specs.View.{%s}
 """
 
 APART_LEMMAS = """

@@ -2,7 +2,7 @@
 
 from table import Table, tree_name
 
-OUT = "crates/ecma_tree/specs"
+OUT = "crates/tree_spec/specs"
 WIDTH = 110
 
 
@@ -45,8 +45,8 @@ def tree_module(table):
         comment("code's tree, with its place and its fields in the table's order. Texts are bytes, values of strings are"),
         comment("UTF-16 units, operators and other words are kinds of tokens. A `Trees` is a list of trees."),
         imports("Rattle.std.specs.Prelude", ["ℕ", "Bool", "List", "[]", "◌∷◌", "Option", "Some", "None"]),
-        imports("Rattle.ecma_token.specs.declared.place.Span", ["Span"]),
-        imports("Rattle.ecma_number.specs.Numbers", ["SpecNumber"]),
+        imports("Rattle.base_token.specs.declared.place.Span", ["Span"]),
+        imports("Rattle.base_token.specs.Numbers", ["SpecNumber"]),
         "\nmutual\n  pub data Tree : Type 0 where\n",
     ]
     for name, struct, fields in table.trees():
@@ -93,15 +93,15 @@ def all_names(table):
 
 
 def tree_imports(table, more=()):
-    return imports("Rattle.ecma_tree.specs.Tree", ["Tree", "Trees", "none", "more"] + all_names(table) + list(more))
+    return imports("Rattle.tree_spec.specs.Tree", ["Tree", "Trees", "none", "more"] + all_names(table) + list(more))
 
 
 def places_module(table):
     out = [
         comment("Where a tree stands in the text."),
         imports("Rattle.std.specs.Prelude", ["ℕ"]),
-        imports("Rattle.ecma_token.specs.declared.place.Span", ["Span"]),
-        imports("Rattle.ecma_token.specs.declared.place.BytePos", ["BytePos"]),
+        imports("Rattle.base_token.specs.declared.place.Span", ["Span"]),
+        imports("Rattle.base_token.specs.declared.place.BytePos", ["BytePos"]),
         tree_imports(table),
         """
 -- no place
@@ -128,7 +128,7 @@ def folds_module(table):
         comment("A tree from its leaves up. A definition that treats most kinds alike is a clause for each kind that it"),
         comment("treats otherwise, and `fold` or `rebuild`."),
         imports("Rattle.std.specs.Prelude", ["ℕ", "List", "[]", "◌∷◌", "Option", "Some", "None"]),
-        imports("Rattle.ecma_token.specs.declared.place.Span", ["Span"]),
+        imports("Rattle.base_token.specs.declared.place.Span", ["Span"]),
         tree_imports(table),
         """
 -- `fold step t`: `step` is given a tree and, for each field that holds trees, what came of these, in the
@@ -254,9 +254,9 @@ def codes_module(table):
         imports("Rattle.std.specs.Prelude", ["ℕ", "zero", "suc", "◌+◌", "◌≡◌", "nat_lt", "List", "[]", "◌∷◌", "Bool", "true", "false", "Option", "Some", "None", "ℤ", "pos", "negsuc", "refl"]),
         imports("Rattle.std.specs.Coded", ["Coded", "code_by", "coded×", "coded_ℕ", "coded_list", "coded_option"]),
         imports("mathlib.Core.Path", ["◌∙◌"]),
-        imports("Rattle.ecma_token.specs.declared.place.Span", ["Span"]),
-        imports("Rattle.ecma_token.specs.declared.place.BytePos", ["BytePos"]),
-        imports("Rattle.ecma_number.specs.Numbers", ["SpecNumber", "Scaled", "InRadix"]),
+        imports("Rattle.base_token.specs.declared.place.Span", ["Span"]),
+        imports("Rattle.base_token.specs.declared.place.BytePos", ["BytePos"]),
+        imports("Rattle.base_token.specs.Numbers", ["SpecNumber", "Scaled", "InRadix"]),
         tree_imports(table),
         """
 -- twice how many trees a tree holds, itself included

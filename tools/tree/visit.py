@@ -6,7 +6,7 @@ from nesting import WHAT
 from node_types import inside, snake, use_line
 from table import SORTS
 
-CRATE = "crates/ecma_visit"
+CRATE = "crates/tree_visit"
 
 # Structs that a visitor is handed where they stand for themselves; of the others it is told kind and place.
 HANDED = ["Ident", "IdentName", "PrivateName", "Str", "Number", "BigInt", "TplElement", "BindingIdent"]
@@ -209,7 +209,7 @@ class Visit:
         lists = [h for h in ("walk_all", "walk_elements", "walk_headed", "walk_part", "walk_template", "walk_three", "walk_two") if h + "(" in text]
         tells = [h for h in watch if h in TELLS]
         head = "//! Goes over %s.\n" % WHAT[module]
-        head += "ghost use Rattle.ecma_node.specs.View.{%s};\n\n" % ", ".join(views)
+        head += "ghost use Rattle.tree_nodes.specs.View.{%s};\n\n" % ", ".join(views)
         if "Kind::" in text.replace("PatKind::", ""):
             head += "use crate::kinds::Kind;\n"
         if lists:
@@ -217,7 +217,7 @@ class Visit:
         if tells:
             head += use_line("crate::told", tells)
         head += use_line("crate::watch", [h for h in watch if h not in tells])
-        head += use_line("ecma_node", sorted(names))
+        head += use_line("tree_nodes", sorted(names))
         return head + "\n" + text.rstrip("\n") + "\n"
 
     def kinds(self):
@@ -234,11 +234,11 @@ class Visit:
     def spec(self):
         out = "-- What a visitor is told of a node: its kind, its place and its text.\n"
         out += "use Rattle.std.specs.Prelude.{ℕ, List, [], Option, Some, None}\n"
-        out += "use Rattle.ecma_token.specs.declared.place.Span.{Span}\n"
-        out += "use Rattle.ecma_tree.specs.Places.{place_of}\n"
+        out += "use Rattle.base_token.specs.declared.place.Span.{Span}\n"
+        out += "use Rattle.tree_spec.specs.Places.{place_of}\n"
         trees = self.trees()
-        out += "use Rattle.ecma_tree.specs.Tree.{Tree, %s, list, absent, hole}\n" % ", ".join(t for t, _, _ in trees)
-        out += "use Rattle.ecma_visit.specs.declared.kinds.Kind.{Kind}\n"
+        out += "use Rattle.tree_spec.specs.Tree.{Tree, %s, list, absent, hole}\n" % ", ".join(t for t, _, _ in trees)
+        out += "use Rattle.tree_visit.specs.declared.kinds.Kind.{Kind}\n"
         out += "\n"
         out += "-- a node as a visitor is told of it; the text is a name's bytes, a string's units and nothing of other nodes\n"
         out += "pub record Seen : Type 0 where\n  pub kind : Kind\n  pub place : Span\n  pub text : List ℕ\n\n"
@@ -257,8 +257,8 @@ class Visit:
         out = "-- A tree is told of before and after what is inside it.\n"
         out += "use Rattle.std.proofs.Common.{◌≡◌, refl}\n"
         trees = self.table.trees()
-        out += "use Rattle.ecma_tree.specs.Tree.{Tree, %s}\n" % ", ".join(t for t, _, _ in trees)
-        out += "use Rattle.ecma_visit.specs.Walk.{Event, walk_of, inside_of, entered, left}\n\n"
+        out += "use Rattle.tree_spec.specs.Tree.{Tree, %s}\n" % ", ".join(t for t, _, _ in trees)
+        out += "use Rattle.tree_visit.specs.Walk.{Event, walk_of, inside_of, entered, left}\n\n"
         out += "pub whole : {S : Type 0} (step : Event → S → S) (t : Tree) (s : S) → walk_of step t s ≡ left step t (inside_of step t (entered step t s))\n"
         for tree, _, fields in trees:
             out += "whole step %s s = refl\n" % ("(%s%s)" % (tree, " _" * len(fields)) if fields else tree)

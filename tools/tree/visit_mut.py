@@ -5,7 +5,7 @@ from node_types import inside, snake, use_line
 from table import SORTS
 from visit import Visit, bare
 
-CRATE = "crates/ecma_visit_mut"
+CRATE = "crates/tree_visit_mut"
 
 # Hooks of a type, by what they are called with.
 ENTERED = ["Function", "Class"]
@@ -120,12 +120,12 @@ class VisitMut:
                 fits.append("fits_" + snake(n))
         head = "//! Changes %s.\n" % WHAT[module]
         if fits:
-            head += "ghost use Rattle.ecma_node.specs.Fits.{%s};\n\n" % ", ".join(fits)
+            head += "ghost use Rattle.tree_nodes.specs.Fits.{%s};\n\n" % ", ".join(fits)
         text = "".join(body)
         used = ["Change", "WalkMut"] + [it for it in ("Word",) if it + "::" in text]
         helpers = [it for it in sorted(HELPERS) if it + "(" in text]
         head += use_line("crate::walk", used + helpers)
-        head += use_line("ecma_node", sorted(names))
+        head += use_line("tree_nodes", sorted(names))
         return head + "\n" + "".join(body).rstrip("\n") + "\n"
 
 

@@ -2,16 +2,17 @@
 //! Makes expressions.
 ghost use Rattle.std.specs.Prelude.{◌≡◌};
 ghost use Rattle.std.specs.Prelude.{All, IfOk};
-ghost use Rattle.ecma_token.specs.OperatorKinds.{assign_op_kind, binary_op_kind};
-ghost use Rattle.ecma_tree.specs.Places.{no_place};
-ghost use Rattle.ecma_node.specs.Placed.{holds_expr, holds_pat, in_expr, inner};
-ghost use Rattle.ecma_node.specs.Fits.{fits_assign_target, fits_block_stmt_or_expr, fits_callee, fits_class, fits_expr_or_spread, fits_function, fits_held, fits_member_prop, fits_opt_chain_base, fits_prop_or_spread, fits_super_prop, fits_tpl};
-ghost use Rattle.ecma_node.specs.View.{meta_prop_kind_word, unary_op_word, update_op_word, view_assign_target, view_block_stmt_or_expr, view_callee, view_class, view_expr_or_spread, view_function, view_ident, view_member_prop, view_opt_chain_base, view_prop_or_spread, view_super, view_super_prop, view_tpl, view_tpl_element};
-ghost use Rattle.ecma_tree.specs.Tree.{array_lit, arrow_expr, assign_expr, await_expr, big_int_lit, bin_expr, bool_lit, call_expr, class_expr, cond_expr, element_by, fn_expr, ident, invalid, list, member_expr, meta_prop_expr, new_expr, null_lit, number_lit, object_lit, opt_chain_expr, paren_expr, part_by, private_name, regex_lit, seq_expr, str_lit, super_prop_expr, tagged_tpl, this_expr, tpl, trees_by, unary_expr, update_expr, yield_expr};
+ghost use Rattle.base_token.specs.OperatorKinds.{assign_op_kind, binary_op_kind};
+ghost use Rattle.tree_spec.specs.Places.{no_place};
+ghost use Rattle.tree_nodes.specs.Placed.{holds_expr, holds_pat, in_expr, inner};
+ghost use Rattle.tree_nodes.specs.Fits.{fits_assign_target, fits_block_stmt_or_expr, fits_callee, fits_class, fits_expr_or_spread, fits_function, fits_held, fits_member_prop, fits_opt_chain_base, fits_prop_or_spread, fits_super_prop, fits_tpl};
+ghost use Rattle.tree_nodes.specs.View.{meta_prop_kind_word, unary_op_word, update_op_word, view_assign_target, view_block_stmt_or_expr, view_callee, view_class, view_expr_or_spread, view_function, view_ident, view_member_prop, view_opt_chain_base, view_prop_or_spread, view_super, view_super_prop, view_tpl, view_tpl_element};
+ghost use Rattle.tree_spec.specs.Tree.{array_lit, arrow_expr, assign_expr, await_expr, big_int_lit, bin_expr, bool_lit, call_expr, class_expr, cond_expr, element_by, fn_expr, ident, invalid, list, member_expr, meta_prop_expr, new_expr, null_lit, number_lit, object_lit, opt_chain_expr, paren_expr, part_by, private_name, regex_lit, seq_expr, str_lit, super_prop_expr, tagged_tpl, this_expr, tpl, trees_by, unary_expr, update_expr, yield_expr};
 
 use crate::Build;
-use ecma_atom::{Atom, StrValue};
-use ecma_node::{
+use base_token::{AssignOp, Atom, BinaryOp, DUMMY_SP, NumValue, StrValue};
+use std::alloc::AllocError;
+use tree_nodes::{
     ArrayLit, ArrowExpr, AssignExpr, AssignTarget, AwaitExpr, BigInt, BinExpr, BlockStmtOrExpr,
     Bool, CallExpr, Callee, Class, ClassExpr, CondExpr, ExprBox, ExprKind, ExprOrSpread, FnExpr,
     Function, Ident, Invalid, Lit, MemberExpr, MemberProp, MetaPropExpr, MetaPropKind, NewExpr,
@@ -19,8 +20,6 @@ use ecma_node::{
     PropOrSpread, Regex, SeqExpr, Str, Super, SuperProp, SuperPropExpr, TaggedTpl, ThisExpr, Tpl,
     TplElement, UnaryExpr, UnaryOp, UpdateExpr, UpdateOp, YieldExpr,
 };
-use ecma_token::{AssignOp, BinaryOp, DUMMY_SP, NumValue};
-use std::alloc::AllocError;
 
 impl Build {
     /// `this`.

@@ -1,17 +1,16 @@
 //! What makes a tree, and its short functions.
 ghost use Rattle.std.specs.Prelude.{◌≡◌, ◌++◌, [], IfOk, None, length};
-ghost use Rattle.ecma_node.specs.Placed.{holds_expr, holds_stmt, inner, in_expr, in_stmt, in_pat};
-ghost use Rattle.ecma_node.specs.Fits.{fits_expr_kind, fits_stmt_kind, fits_pat_kind, fits_expr_or_spread};
-ghost use Rattle.ecma_node.specs.View.{view_expr_kind, view_stmt_kind, view_pat_kind, view_ident, view_expr_or_spread};
-ghost use Rattle.ecma_tree.specs.Places.{no_place};
-ghost use Rattle.ecma_tree.specs.Tree.{ident, expr_or_spread, expr_pat};
+ghost use Rattle.tree_nodes.specs.Placed.{holds_expr, holds_stmt, inner, in_expr, in_stmt, in_pat};
+ghost use Rattle.tree_nodes.specs.Fits.{fits_expr_kind, fits_stmt_kind, fits_pat_kind, fits_expr_or_spread};
+ghost use Rattle.tree_nodes.specs.View.{view_expr_kind, view_stmt_kind, view_pat_kind, view_ident, view_expr_or_spread};
+ghost use Rattle.tree_spec.specs.Places.{no_place};
+ghost use Rattle.tree_spec.specs.Tree.{ident, expr_or_spread, expr_pat};
 
-use ecma_atom::Atom;
-use ecma_node::{
+use base_token::{Atom, DUMMY_SP};
+use std::alloc::{AllocError, Global};
+use tree_nodes::{
     Expr, ExprBox, ExprKind, ExprOrSpread, Ident, Pat, PatBox, PatKind, Stmt, StmtBox, StmtKind,
 };
-use ecma_token::DUMMY_SP;
-use std::alloc::{AllocError, Global};
 
 /// Makes nodes, in the memory that it is given.
 #[derive(Clone, Copy, Drop)]

@@ -2,19 +2,19 @@
 //! Makes patterns.
 ghost use Rattle.std.specs.Prelude.{◌≡◌};
 ghost use Rattle.std.specs.Prelude.{All, IfOk};
-ghost use Rattle.ecma_tree.specs.Places.{no_place};
-ghost use Rattle.ecma_node.specs.Placed.{holds_expr, holds_pat, in_pat, inner};
-ghost use Rattle.ecma_node.specs.Fits.{fits_held, fits_object_pat_prop};
-ghost use Rattle.ecma_node.specs.View.{view_ident, view_object_pat_prop};
-ghost use Rattle.ecma_tree.specs.Tree.{array_pat, assign_pat, binding_ident, element_by, invalid_pat, object_pat, rest_pat, trees_by};
+ghost use Rattle.tree_spec.specs.Places.{no_place};
+ghost use Rattle.tree_nodes.specs.Placed.{holds_expr, holds_pat, in_pat, inner};
+ghost use Rattle.tree_nodes.specs.Fits.{fits_held, fits_object_pat_prop};
+ghost use Rattle.tree_nodes.specs.View.{view_ident, view_object_pat_prop};
+ghost use Rattle.tree_spec.specs.Tree.{array_pat, assign_pat, binding_ident, element_by, invalid_pat, object_pat, rest_pat, trees_by};
 
 use crate::Build;
-use ecma_node::{
+use base_token::{DUMMY_SP, Span};
+use std::alloc::AllocError;
+use tree_nodes::{
     ArrayPat, AssignPat, BindingIdent, ExprBox, Ident, Invalid, ObjectPat, ObjectPatProp, PatBox,
     PatKind, RestPat,
 };
-use ecma_token::{DUMMY_SP, Span};
-use std::alloc::AllocError;
 
 impl Build {
     /// A name as a pattern.

@@ -2,22 +2,22 @@
 //! Makes statements and declarations.
 ghost use Rattle.std.specs.Prelude.{◌≡◌};
 ghost use Rattle.std.specs.Prelude.{All, IfOk};
-ghost use Rattle.ecma_tree.specs.Places.{no_place};
-ghost use Rattle.ecma_node.specs.Placed.{holds_expr, holds_stmt, in_stmt, inner};
-ghost use Rattle.ecma_node.specs.Fits.{fits_block_stmt, fits_catch_clause, fits_class, fits_for_head, fits_function, fits_held, fits_switch_case, fits_var_decl_or_expr, fits_var_declarator};
-ghost use Rattle.ecma_node.specs.View.{var_decl_kind_word, view_block_stmt, view_catch_clause, view_class, view_for_head, view_function, view_ident, view_switch_case, view_var_decl_or_expr, view_var_declarator};
-ghost use Rattle.ecma_tree.specs.Tree.{block_stmt, break_stmt, class_decl, continue_stmt, debugger_stmt, do_while_stmt, empty_stmt, expr_stmt, fn_decl, for_in_stmt, for_of_stmt, for_stmt, if_stmt, labeled_stmt, part_by, return_stmt, switch_stmt, throw_stmt, trees_by, try_stmt, using_decl, var_decl, while_stmt, with_stmt};
+ghost use Rattle.tree_spec.specs.Places.{no_place};
+ghost use Rattle.tree_nodes.specs.Placed.{holds_expr, holds_stmt, in_stmt, inner};
+ghost use Rattle.tree_nodes.specs.Fits.{fits_block_stmt, fits_catch_clause, fits_class, fits_for_head, fits_function, fits_held, fits_switch_case, fits_var_decl_or_expr, fits_var_declarator};
+ghost use Rattle.tree_nodes.specs.View.{var_decl_kind_word, view_block_stmt, view_catch_clause, view_class, view_for_head, view_function, view_ident, view_switch_case, view_var_decl_or_expr, view_var_declarator};
+ghost use Rattle.tree_spec.specs.Tree.{block_stmt, break_stmt, class_decl, continue_stmt, debugger_stmt, do_while_stmt, empty_stmt, expr_stmt, fn_decl, for_in_stmt, for_of_stmt, for_stmt, if_stmt, labeled_stmt, part_by, return_stmt, switch_stmt, throw_stmt, trees_by, try_stmt, using_decl, var_decl, while_stmt, with_stmt};
 
 use crate::Build;
-use ecma_node::{
+use base_token::DUMMY_SP;
+use std::alloc::AllocError;
+use tree_nodes::{
     BlockStmt, BreakStmt, CatchClause, Class, ClassDecl, ContinueStmt, DebuggerStmt, Decl,
     DoWhileStmt, EmptyStmt, ExprBox, ExprStmt, FnDecl, ForHead, ForInStmt, ForOfStmt, ForStmt,
     Function, Ident, IfStmt, LabeledStmt, ReturnStmt, StmtBox, StmtKind, SwitchCase, SwitchStmt,
     ThrowStmt, TryStmt, UsingDecl, VarDecl, VarDeclKind, VarDeclOrExpr, VarDeclarator, WhileStmt,
     WithStmt,
 };
-use ecma_token::DUMMY_SP;
-use std::alloc::AllocError;
 
 impl Build {
     /// `{ .. }`.

@@ -1,16 +1,16 @@
 -- Printing a node emits it.
 use Rattle.std.proofs.Common.{MutBor, get_or, drop, ◌≡◌, ℕ, Bool, true, false, ◌||◌, if◌then◌else◌, List, [], ◌∷◌, Option, Some, None, Result, Ok, Err, refl, sym, ap, subst, ◌∙◌}
 use base.Fml.{GName}
-use Rattle.ecma_token.specs.Counts.{count_after}
-use Rattle.ecma_write.specs.Pages.{IsFront}
-use Rattle.ecma_write.proofs.Growing.{front_same}
-use Rattle.ecma_write.specs.States.{State, FaultFits, has_places, is_write}
-use Rattle.ecma_write.specs.declared.fault.EmitError.{EmitError}
-use Rattle.ecma_write.specs.declared.fault.EmitError.TheVariants.{Write, Memory, Node, Position}
-use Rattle.ecma_pieces.specs.Pieces.{Piece, Text, Commit, Mark, call, calls}
-use Rattle.ecma_pieces.specs.Utf8.{IsUtf8Page}
-use Rattle.ecma_layout.specs.Looks.{Laid, nothing, one, meant, named, both, refused, texts_of, texts_before, listed, is_refused}
-use Rattle.ecma_print_pieces.specs.Prints.{Asked, ask, stop, lay, lay_texts, IsAt, Prints, MayFault}
+use Rattle.base_token.specs.Counts.{count_after}
+use Rattle.print_writers.specs.Pages.{IsFront}
+use Rattle.print_writers.proofs.Growing.{front_same}
+use Rattle.print_writers.specs.States.{State, FaultFits, has_places, is_write}
+use Rattle.print_writers.specs.declared.fault.EmitError.{EmitError}
+use Rattle.print_writers.specs.declared.fault.EmitError.TheVariants.{Write, Memory, Node, Position}
+use Rattle.print_pages_spec.specs.Pieces.{Piece, Text, Commit, Mark, call, calls}
+use Rattle.print_pages_spec.specs.Utf8.{IsUtf8Page}
+use Rattle.print_layout_spec.specs.Looks.{Laid, nothing, one, meant, named, both, refused, texts_of, texts_before, listed, is_refused}
+use Rattle.print_pieces.specs.Prints.{Asked, ask, stop, lay, lay_texts, IsAt, Prints, MayFault}
 use Rattle.ecma_codegen.specs.Emits.{emitted, MayRefuse, Emits, Stays}
 
 -- ---- what there is to write is the pieces of a layout

@@ -1,11 +1,11 @@
 -- Layouts that are emitted one after the other.
 use Rattle.std.proofs.Common.{◌≡◌, ℕ, false, List, [], ◌∷◌, None, refl, sym, ap, ◌∙◌}
-use Rattle.ecma_tree.specs.Tree.{none, more}
-use Rattle.ecma_write.specs.States.{State}
-use Rattle.ecma_pieces.specs.Pieces.{Piece, Text, call, calls}
-use Rattle.ecma_layout.specs.declared.look.Stand.TheVariants.{Alone}
-use Rattle.ecma_layout.specs.Looks.{Laid, ◌·◌, nothing, one, meant, named, both, refused, texts_of, texts_before, listed, is_refused}
-use Rattle.ecma_layout.specs.Layout.{laid, closing, statements}
+use Rattle.tree_spec.specs.Tree.{none, more}
+use Rattle.print_writers.specs.States.{State}
+use Rattle.print_pages_spec.specs.Pieces.{Piece, Text, call, calls}
+use Rattle.print_layout_spec.specs.declared.look.Stand.TheVariants.{Alone}
+use Rattle.print_layout_spec.specs.Looks.{Laid, ◌·◌, nothing, one, meant, named, both, refused, texts_of, texts_before, listed, is_refused}
+use Rattle.print_layout_spec.specs.Layout.{laid, closing, statements}
 use Rattle.ecma_codegen.specs.Emits.{emitted}
 use Rattle.ecma_codegen.specs.Items.{item_laid, ItemsAreProgram}
 use Rattle.ecma_codegen.proofs.Emitting.{or_left, or_right}

@@ -1,10 +1,10 @@
 -- What the text of a node is.
 use Rattle.std.specs.Prelude.{◌≡◌, ℕ, true, false, List, [], Result, Ok, Err, None, codes, String, string_bytes}
-use Rattle.ecma_write.specs.Views.{first_page}
-use Rattle.ecma_write.specs.declared.fault.EmitError.{EmitError}
-use Rattle.ecma_write.specs.declared.fault.EmitError.TheVariants.{Write, Memory, Node, Position}
-use Rattle.ecma_pieces.specs.Pieces.{resolved}
-use Rattle.ecma_layout.specs.Looks.{Laid, listed, is_refused}
+use Rattle.print_writers.specs.Views.{first_page}
+use Rattle.print_writers.specs.declared.fault.EmitError.{EmitError}
+use Rattle.print_writers.specs.declared.fault.EmitError.TheVariants.{Write, Memory, Node, Position}
+use Rattle.print_pages_spec.specs.Pieces.{resolved}
+use Rattle.print_layout_spec.specs.Looks.{Laid, listed, is_refused}
 
 -- the bytes of a layout, in lines that end with LF and are indented by four blanks
 abbrev pub bytes_of : Laid → List ℕ

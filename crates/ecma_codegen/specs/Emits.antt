@@ -2,14 +2,14 @@
 use Rattle.std.specs.Prelude.{◌≡◌, ℕ, true, false, List, [], Option, None, Some, Result, Ok, Err}
 use Rattle.std.specs.Borrow.{MutBor}
 use base.Fml.{GName}
-use Rattle.ecma_token.specs.Counts.{count_after}
-use Rattle.ecma_write.specs.Pages.{IsFront}
-use Rattle.ecma_write.specs.States.{State, FaultFits, answers_write, has_places}
-use Rattle.ecma_write.specs.declared.fault.EmitError.{EmitError}
-use Rattle.ecma_write.specs.declared.fault.EmitError.TheVariants.{Write, Memory, Node, Position}
-use Rattle.ecma_pieces.specs.Pieces.{calls}
-use Rattle.ecma_pieces.specs.Utf8.{IsUtf8Page}
-use Rattle.ecma_layout.specs.Looks.{Laid, listed, is_refused}
+use Rattle.base_token.specs.Counts.{count_after}
+use Rattle.print_writers.specs.Pages.{IsFront}
+use Rattle.print_writers.specs.States.{State, FaultFits, answers_write, has_places}
+use Rattle.print_writers.specs.declared.fault.EmitError.{EmitError}
+use Rattle.print_writers.specs.declared.fault.EmitError.TheVariants.{Write, Memory, Node, Position}
+use Rattle.print_pages_spec.specs.Pieces.{calls}
+use Rattle.print_pages_spec.specs.Utf8.{IsUtf8Page}
+use Rattle.print_layout_spec.specs.Looks.{Laid, listed, is_refused}
 
 -- The state that a layout makes: its pieces, one after another.
 abbrev pub emitted : Laid → State → State

@@ -1,12 +1,12 @@
 -- What is printed alone.
 use Rattle.std.specs.Prelude.{◌≡◌, false, Option, Some, None}
-use Rattle.ecma_tree.specs.Tree.{Tree, Trees, none, more}
-use Rattle.ecma_node.specs.Placed.{Placed, in_stmt, inner}
-use Rattle.ecma_write.specs.States.{State}
-use Rattle.ecma_layout.specs.declared.look.Look.{Look}
-use Rattle.ecma_layout.specs.declared.look.Stand.TheVariants.{Alone}
-use Rattle.ecma_layout.specs.Looks.{Laid, ◌·◌, nothing, is_refused}
-use Rattle.ecma_layout.specs.Layout.{laid, closing, statements}
+use Rattle.tree_spec.specs.Tree.{Tree, Trees, none, more}
+use Rattle.tree_nodes.specs.Placed.{Placed, in_stmt, inner}
+use Rattle.print_writers.specs.States.{State}
+use Rattle.print_layout_spec.specs.declared.look.Look.{Look}
+use Rattle.print_layout_spec.specs.declared.look.Stand.TheVariants.{Alone}
+use Rattle.print_layout_spec.specs.Looks.{Laid, ◌·◌, nothing, is_refused}
+use Rattle.print_layout_spec.specs.Layout.{laid, closing, statements}
 use Rattle.ecma_codegen.specs.Emits.{emitted}
 
 -- a statement and a part of a module, with its end

@@ -1,8 +1,8 @@
 -- How a text looks by the settings of a printer.
 use Rattle.std.specs.Prelude.{false}
-use Rattle.ecma_token.specs.declared.version.EsVersion.TheVariants.{EsNext}
-use Rattle.ecma_layout.specs.declared.look.Look.{Look}
-use Rattle.ecma_settings.specs.declared.config.Config.{Config}
+use Rattle.base_token.specs.declared.version.EsVersion.TheVariants.{EsNext}
+use Rattle.print_layout_spec.specs.declared.look.Look.{Look}
+use Rattle.print_config.specs.declared.config.Config.{Config}
 
 abbrev pub look_of : Config → Look
 look_of cfg = record {

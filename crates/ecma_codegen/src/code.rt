@@ -5,11 +5,11 @@ ghost use Rattle.ecma_codegen.specs.Settings as settings;
 
 use crate::alone::PrintAlone;
 use crate::emit::{emit, emit_noting, look_of};
-use ecma_comments::Comments;
-use ecma_layout::Look;
-use ecma_settings::{Config, SourceMapper};
-use ecma_token::{Counted, Spanned};
-use ecma_write::{EmitError, JsWriter};
+use base_token::{Counted, Spanned};
+use lex_comments::Comments;
+use print_config::{Config, SourceMapper};
+use print_layout_spec::Look;
+use print_writers::{EmitError, JsWriter};
 use std::alloc::Global;
 use std::io::ErrorKind;
 
@@ -25,7 +25,7 @@ fn default_look() -> Look
 /// # Errors
 ///
 /// `EmitError::Memory` where there is no memory for the text, and `EmitError::Node` for what can't be printed.
-#[tactic(auto, using(ecma_pieces::proofs::Resolving::calls_resolve))]
+#[tactic(auto, using(print_pages_spec::proofs::Resolving::calls_resolve))]
 pub fn to_code<N: PrintAlone>(alloc: Global, node: &N) -> Result<String, EmitError>
     ensures { Codes (N.alone settings.default_look node.now) result }
 {

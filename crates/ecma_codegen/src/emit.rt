@@ -4,14 +4,14 @@ ghost use Rattle.ecma_codegen.specs.Emits.{Emits, Notes, Stays, IsHeld};
 ghost use Rattle.ecma_codegen.specs.Settings as settings;
 
 use crate::alone::PrintAlone;
-use ecma_comments::Comments;
-use ecma_layout::Look;
-use ecma_print_comments::WithComments;
-use ecma_print_pieces::Printer;
-use ecma_settings::Config;
-use ecma_spell_base::Style;
-use ecma_token::Spanned;
-use ecma_write::{EmitError, WriteJs};
+use base_token::Spanned;
+use lex_comments::Comments;
+use print_comments::WithComments;
+use print_config::Config;
+use print_layout_spec::Look;
+use print_pieces::Printer;
+use print_spelling::Style;
+use print_writers::{EmitError, WriteJs};
 
 /// How a text looks by these settings.
 pub(crate) fn look_of(cfg: Config) -> Look

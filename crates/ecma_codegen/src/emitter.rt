@@ -1,19 +1,19 @@
 //! The printer over a writer.
 ghost use Rattle.std.specs.Prelude.{◌≡◌, None};
-ghost use Rattle.ecma_layout.specs.Layout.{laid};
-ghost use Rattle.ecma_layout.specs.declared.look.Stand.TheVariants.{Alone};
-ghost use Rattle.ecma_node.specs.Placed.{inner};
-ghost use Rattle.ecma_node.specs.View.{view_module, view_module_export_name, view_module_item, view_script};
+ghost use Rattle.print_layout_spec.specs.Layout.{laid};
+ghost use Rattle.print_layout_spec.specs.declared.look.Stand.TheVariants.{Alone};
+ghost use Rattle.tree_nodes.specs.Placed.{inner};
+ghost use Rattle.tree_nodes.specs.View.{view_module, view_module_export_name, view_module_item, view_script};
 ghost use Rattle.ecma_codegen.specs.Emits.{Emits, Notes, Stays, IsHeld};
 ghost use Rattle.ecma_codegen.specs.Items.{ItemsAreProgram, item_laid};
 ghost use Rattle.ecma_codegen.specs.Settings as settings;
 
 use crate::emit::{emit_with_comments, look_of};
-use ecma_comments::Comments;
-use ecma_node::{Module, ModuleExportName, ModuleItem, Program, Script};
-use ecma_settings::Config;
-use ecma_write::{EmitError, WriteJs};
+use lex_comments::Comments;
+use print_config::Config;
+use print_writers::{EmitError, WriteJs};
 use std::alloc::Global;
+use tree_nodes::{Module, ModuleExportName, ModuleItem, Program, Script};
 
 /// A printer over a writer.
 #[derive(Drop)]

@@ -11,10 +11,10 @@ pub mod util;
 
 pub use alone::PrintAlone;
 pub use code::{to_code, to_code_default, to_code_with_comments};
-pub use ecma_settings::{Config, ListFormat, NoPlaces, SourceMapper, SourceMapperExt};
-pub use ecma_write::{EmitError, Gather};
 pub use emitter::Emitter;
 pub use node::Node;
+pub use print_config::{Config, ListFormat, NoPlaces, SourceMapper, SourceMapperExt};
+pub use print_writers::{EmitError, Gather};
 pub use text_writer::{JsWriter, OmitTrailingSemi, Symbol, WriteJs, omit_trailing_semi};
 pub use util::{EndsWithAlphaNum, StartsWithAlphaNum};
 

@@ -6,8 +6,8 @@ ghost use Rattle.ecma_codegen.specs.Settings as settings;
 use crate::alone::PrintAlone;
 use crate::emit::{emit_with_comments, look_of};
 use crate::emitter::Emitter;
-use ecma_token::Spanned;
-use ecma_write::{EmitError, WriteJs};
+use base_token::Spanned;
+use print_writers::{EmitError, WriteJs};
 
 /// A part of a tree that can be printed and has a place: every node, also lent, in a box and where it may be left out.
 pub trait Node: PrintAlone + Spanned {

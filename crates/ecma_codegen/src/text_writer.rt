@@ -1,7 +1,7 @@
 //! What the printer writes to, and its writers.
 
-use ecma_node::Str;
-pub use ecma_write::text_writer::{JsWriter, OmitTrailingSemi, WriteJs, omit_trailing_semi};
+pub use print_writers::text_writer::{JsWriter, OmitTrailingSemi, WriteJs, omit_trailing_semi};
+use tree_nodes::Str;
 
 /// A string of the tree.
 pub type Symbol = Str;

@@ -1,3 +1,3 @@
 //! Whether the text of a node starts or ends with a word.
 
-pub use ecma_edge::{EndsWithAlphaNum, StartsWithAlphaNum};
+pub use print_gaps::{EndsWithAlphaNum, StartsWithAlphaNum};

@@ -5,27 +5,27 @@ use Rattle.std.proofs.lemmas.Bool.{cases_lt}
 use Rattle.std.specs.Io.KnownBytes.{Consumes, IsAtEnd, Appends}
 use Rattle.std.proofs.KnownBytes.{Consumes-all}
 use Rattle.std.proofs.lemmas.Str.{scalars-chars}
-use Rattle.ecma_command.specs.declared.options.Options.{Options}
+use Rattle.run_command.specs.declared.options.Options.{Options}
 use Rattle.ecma_front.specs.declared.fault.Fault.{Fault}
 use Rattle.ecma_front.specs.declared.fault.Fault.TheVariants as f
-use Rattle.ecma_command.specs.Options.{are_refused}
+use Rattle.run_command.specs.Options.{are_refused}
 use Rattle.ecma_front.specs.Faults.{is_text_fault, is_refusal, is_failure, is_of_writing, is_read_fault, is_write_fault, answers_fault}
 use Rattle.std.proofs.Common.{inl, inr, chars}
-use Rattle.ecma_token.specs.Dialect.{parts_of}
-use Rattle.ecma_token.specs.declared.error.Error.{Error}
-use Rattle.ecma_early.specs.Early.{early_errors}
+use Rattle.base_token.specs.Dialect.{parts_of}
+use Rattle.base_token.specs.declared.error.Error.{Error}
+use Rattle.grammar_spec.specs.Judge.Early.{early_errors}
 use Rattle.ecma_front.specs.Programs.{IsFaulty, IsProgramOf, Spells}
 use Rattle.std.specs.Prelude.{◌⊎◌}
-use Rattle.ecma_token.specs.Counts.{one_more, count_after}
+use Rattle.base_token.specs.Counts.{one_more, count_after}
 use Rattle.ecma_front.specs.Command.{End, IsHindered, IsUnread, out_of_memory}
-use Rattle.ecma_tree.specs.Tree.{Tree}
-use Rattle.ecma_token.specs.declared.place.BytePos.{BytePos}
-use Rattle.ecma_token.specs.declared.place.LineCol.{LineCol}
-use Rattle.ecma_write.specs.declared.fault.EmitError.{EmitError}
-use Rattle.ecma_write.specs.declared.fault.EmitError.TheVariants as w
-use Rattle.ecma_print.specs.Layouts.{layout, IsPastLast}
-use Rattle.ecma_print.specs.Prints.{IsDone, IsStopped, Texts}
-use Rattle.ecma_print.proofs.Writing.{no_place_past}
+use Rattle.tree_spec.specs.Tree.{Tree}
+use Rattle.base_token.specs.declared.place.BytePos.{BytePos}
+use Rattle.base_token.specs.declared.place.LineCol.{LineCol}
+use Rattle.print_writers.specs.declared.fault.EmitError.{EmitError}
+use Rattle.print_writers.specs.declared.fault.EmitError.TheVariants as w
+use Rattle.print_run.specs.Layouts.{layout, IsPastLast}
+use Rattle.print_run.specs.Prints.{IsDone, IsStopped, Texts}
+use Rattle.print_run.proofs.Writing.{no_place_past}
 use Rattle.ecma_front.specs.Formats.{IsProgramIn, IsRefused, LacksProgram, longest_text}
 use Rattle.ecma_front.specs.Run.{Answers, Formats, HasPlaces, IsPrinted, IsReadable, Succeeds, SucceedsExactly, WritesBeginning, WritesProgram}
 use Rattle.ecma_front.specs.Steps.{fault_of, Writes}

@@ -1,20 +1,20 @@
 -- What the steps from bytes to a program answer together.
 use Rattle.std.proofs.Common.{◌≡◌, ℕ, Bool, true, List, Result, Ok, Err, IsUtf8, chars, refl, sym, ap, ◌∙◌, IfErr}
-use Rattle.ecma_token.specs.Counts.{count_after}
-use Rattle.ecma_token.specs.Dialect.{parts_of}
-use Rattle.ecma_tree.specs.Tree.{Tree}
-use Rattle.ecma_command.specs.Options.{is_module}
-use Rattle.ecma_command.specs.declared.options.Options.{Options}
+use Rattle.base_token.specs.Counts.{count_after}
+use Rattle.base_token.specs.Dialect.{parts_of}
+use Rattle.tree_spec.specs.Tree.{Tree}
+use Rattle.run_command.specs.Options.{is_module}
+use Rattle.run_command.specs.declared.options.Options.{Options}
 use Rattle.ecma_front.specs.declared.fault.Fault.{Fault}
 use Rattle.ecma_front.specs.declared.fault.Fault.TheVariants as f
 use Rattle.ecma_front.specs.Faults.{is_text_fault, is_write_fault}
 use Rattle.ecma_front.specs.Programs.{IsProgramOf}
-use Rattle.ecma_write.specs.States.{is_write}
-use Rattle.ecma_write.specs.declared.fault.EmitError.{EmitError}
-use Rattle.ecma_write.specs.declared.fault.EmitError.TheVariants as w
-use Rattle.ecma_layout.specs.Looks.{is_refused}
-use Rattle.ecma_readback.proofs.Passed.{read_is_printed}
-use Rattle.ecma_print.specs.Layouts.{laid_of, look_of}
+use Rattle.print_writers.specs.States.{is_write}
+use Rattle.print_writers.specs.declared.fault.EmitError.{EmitError}
+use Rattle.print_writers.specs.declared.fault.EmitError.TheVariants as w
+use Rattle.print_run.specs.Looks.{is_refused}
+use Rattle.again_laws.proofs.Passed.{read_is_printed}
+use Rattle.print_run.specs.Layouts.{laid_of, look_of}
 use Rattle.ecma_front.specs.Formats.{IsRefused, LacksProgram, Reads}
 use Rattle.ecma_front.specs.Steps.{fault_of, ReadsBytes}
 

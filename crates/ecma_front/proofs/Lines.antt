@@ -4,9 +4,9 @@ use Rattle.std.specs.Prelude.{if◌then◌else◌, ◌==◌, nat_le}
 use Rattle.std.specs.Char.{len_utf8}
 use Rattle.std.proofs.lemmas.Bool.{cases_eq}
 use Rattle.std.proofs.lemmas.Bool.Decides.{nat_tests}
-use Rattle.ecma_token.specs.declared.place.LineCol.{LineCol}
-use Rattle.ecma_write.specs.Lines.{ends_line, units, units_of}
-use Rattle.ecma_lines.specs.Lines.{front, back, line_ends, last_line, place_of}
+use Rattle.base_token.specs.declared.place.LineCol.{LineCol}
+use Rattle.print_writers.specs.Lines.{ends_line, units, units_of}
+use Rattle.print_pages_spec.specs.Lines.Lines.{front, back, line_ends, last_line, place_of}
 
 at : ℕ → ℕ → LineCol
 at line col = record { line = line; col = col }

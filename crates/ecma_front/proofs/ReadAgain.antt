@@ -4,26 +4,26 @@ use Rattle.std.specs.Prelude.{◌≤◌, codes, nat_lt, if◌then◌else◌}
 use Rattle.std.specs.Str.{chars, IsUtf8}
 use Rattle.std.proofs.lemmas.Bool.Decides.{nat_tests}
 use lib.Utf8.{scalars}
-use Rattle.ecma_token.specs.Dialect.{parts_of}
-use Rattle.ecma_token.specs.Editions.{edition_rank}
-use Rattle.ecma_tree.specs.Tree.{Tree}
-use Rattle.ecma_scan.specs.Characters.{is_white_space}
-use Rattle.ecma_scan.specs.Runs.{Each}
-use Rattle.ecma_write.specs.Pages.{times}
-use Rattle.ecma_pieces.specs.Pieces.{resolved, shortened}
-use Rattle.ecma_layout.specs.Layout.{pieces}
-use Rattle.ecma_readback.proofs.Passed.{AreWrittenAlike, IsEmptyPage, WritesAgain, read_is_text}
-use Rattle.ecma_command.specs.Options.{is_format, is_module}
-use Rattle.ecma_command.specs.declared.options.Options.{Options}
-use Rattle.ecma_command.specs.declared.options.LineEnd.{LineEnd}
-use Rattle.ecma_command.specs.declared.options.LineEnd.TheVariants.{Lf, CrLf}
-use Rattle.ecma_command.specs.declared.options.Indent.{Indent}
-use Rattle.ecma_command.specs.declared.options.Indent.TheVariants.{Blanks, Tabs}
-use Rattle.ecma_written.proofs.Ascii.{ascii, is_ascii}
-use Rattle.ecma_readback.specs.Laws.{IsReadBack}
-use Rattle.ecma_readback.proofs.Whole.{programs_read_back}
-use Rattle.ecma_print.specs.Layouts.{look_of, line_end_of, indent_of, page_of, laid_of, written_on, layout}
-use Rattle.ecma_print.proofs.Writing.{page_text}
+use Rattle.base_token.specs.Dialect.{parts_of}
+use Rattle.base_token.specs.Editions.{edition_rank}
+use Rattle.tree_spec.specs.Tree.{Tree}
+use Rattle.lex_pieces.specs.Characters.{is_white_space}
+use Rattle.lex_pieces.specs.Runs.{Each}
+use Rattle.print_writers.specs.Pages.{times}
+use Rattle.print_pages_spec.specs.Pieces.{resolved, shortened}
+use Rattle.print_run.specs.Layout.{pieces}
+use Rattle.again_laws.proofs.Passed.{AreWrittenAlike, IsEmptyPage, WritesAgain, read_is_text}
+use Rattle.run_command.specs.Options.{is_format, is_module}
+use Rattle.run_command.specs.declared.options.Options.{Options}
+use Rattle.run_command.specs.declared.options.LineEnd.{LineEnd}
+use Rattle.run_command.specs.declared.options.LineEnd.TheVariants.{Lf, CrLf}
+use Rattle.run_command.specs.declared.options.Indent.{Indent}
+use Rattle.run_command.specs.declared.options.Indent.TheVariants.{Blanks, Tabs}
+use Rattle.again_laws.proofs.tokens.Ascii.{ascii, is_ascii}
+use Rattle.again_laws.specs.Laws.{IsReadBack}
+use Rattle.again_laws.proofs.Whole.{programs_read_back}
+use Rattle.print_run.specs.Layouts.{look_of, line_end_of, indent_of, page_of, laid_of, written_on, layout}
+use Rattle.print_run.proofs.Writing.{page_text}
 use Rattle.ecma_front.specs.Programs.{setting_of, Spells}
 use Rattle.ecma_front.specs.ReadAgain.{minifying, KeepsBytes, IsReadAgain}
 

@@ -3,8 +3,8 @@ use Rattle.std.proofs.Common.{◌≡◌, ℕ, ◌≤◌, min, false, arith}
 use Rattle.std.specs.Prelude.{◌||◌, ◌==◌, nat_lt}
 use Rattle.std.proofs.lemmas.Bool.{or_parts}
 use Rattle.std.proofs.lemmas.Bool.Decides.{nat_tests}
-use Rattle.ecma_command.specs.declared.options.Options.{Options}
-use Rattle.ecma_command.specs.Options.{are_refused, has_jsx, width_of}
+use Rattle.run_command.specs.declared.options.Options.{Options}
+use Rattle.run_command.specs.Options.{are_refused, has_jsx, width_of}
 
 pub within : (o : Options) → are_refused o ≡ false → (o.nesting ≤ 4096) × (width_of o.indent ≤ 8)
 within o h =

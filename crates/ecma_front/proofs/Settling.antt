@@ -1,16 +1,16 @@
 -- What a parsed text tells of its program.
 use Rattle.std.proofs.Common.{◌≡◌, ℕ, Bool, List, [], ◌∷◌, Result, Ok, Err, inl, inr, sym, subst}
-use Rattle.ecma_token.specs.Dialect.{parts_of}
-use Rattle.ecma_token.specs.declared.error.Error.{Error}
-use Rattle.ecma_token.specs.declared.syntax.Syntax.{Syntax}
-use Rattle.ecma_parse_state.specs.declared.failure.Failure.{Failure}
-use Rattle.ecma_parse_state.specs.declared.failure.Failure.TheVariants as failures
-use Rattle.ecma_tree.specs.Tree.{Tree}
-use Rattle.ecma_command.specs.Options.{is_module}
-use Rattle.ecma_command.specs.declared.options.Options.{Options}
-use Rattle.ecma_parser_laws.specs.Answered.{FailsBy}
-use Rattle.ecma_parser_laws.specs.TextRead.{TextBy}
-use Rattle.ecma_parser_laws.specs.Texts.{TextReading}
+use Rattle.base_token.specs.Dialect.{parts_of}
+use Rattle.base_token.specs.declared.error.Error.{Error}
+use Rattle.base_token.specs.declared.syntax.Syntax.{Syntax}
+use Rattle.parse_state.specs.declared.failure.Failure.{Failure}
+use Rattle.parse_state.specs.declared.failure.Failure.TheVariants as failures
+use Rattle.tree_spec.specs.Tree.{Tree}
+use Rattle.run_command.specs.Options.{is_module}
+use Rattle.run_command.specs.declared.options.Options.{Options}
+use Rattle.parse_laws.specs.Answered.{FailsBy}
+use Rattle.parse_laws.specs.TextRead.{TextBy}
+use Rattle.parse_laws.specs.Texts.{TextReading}
 use Rattle.ecma_front.specs.declared.fault.Fault.{Fault}
 use Rattle.ecma_front.specs.Programs.{IsProgramOf, setting_of}
 use Rattle.ecma_front.specs.Formats.{LacksProgram}

@@ -3,7 +3,7 @@ use Rattle.std.proofs.Common.{◌≡◌, ℕ, List, Option, None, Some, refl, �
 use Rattle.std.specs.Prelude.{true, false}
 use Rattle.std.specs.Option.{IsSome}
 use Rattle.std.specs.Io.KnownBytes.{Appends}
-use Rattle.ecma_write.specs.Pages.{told, Gets}
+use Rattle.print_writers.specs.Pages.{told, Gets}
 
 pub appended : (a b : Option (List ℕ)) (bytes : List ℕ) → Gets a b bytes → Appends a b bytes
 appended None b bytes g = tt

@@ -2,17 +2,17 @@
 use Rattle.std.specs.Prelude.{◌≡◌, ℕ, ◌<◌, ◌≤◌, ◌-◌, ◌^◌, ◌⊎◌, true, List, length, take, Option, IsSome, codes}
 use Rattle.std.specs.Str.{chars, IsUtf8, IsValidUpTo}
 use Rattle.std.specs.Io.KnownBytes.{Appends}
-use Rattle.ecma_token.specs.Counts.{one_more}
-use Rattle.ecma_token.specs.declared.place.LineCol.{LineCol}
-use Rattle.ecma_command.specs.declared.options.Options.{Options}
-use Rattle.ecma_command.specs.Options.{are_refused}
-use Rattle.ecma_tree.specs.Tree.{Tree}
+use Rattle.base_token.specs.Counts.{one_more}
+use Rattle.base_token.specs.declared.place.LineCol.{LineCol}
+use Rattle.run_command.specs.declared.options.Options.{Options}
+use Rattle.run_command.specs.Options.{are_refused}
+use Rattle.tree_spec.specs.Tree.{Tree}
 use Rattle.ecma_front.specs.declared.fault.Fault.{Fault}
 use Rattle.ecma_front.specs.declared.fault.Fault.TheVariants as f
 use Rattle.ecma_front.specs.Programs.{Spells}
 use Rattle.ecma_front.specs.Formats.{longest_text}
 use Rattle.ecma_front.specs.Run.{IsTooLarge}
-use Rattle.ecma_lines.specs.Lines.{place_of}
+use Rattle.print_pages_spec.specs.Lines.Lines.{place_of}
 
 -- No program within the limit spells the bytes, or they are too many.
 abbrev pub IsUnread : Options → List ℕ → Type 0

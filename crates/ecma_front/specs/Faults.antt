@@ -1,6 +1,6 @@
 -- The faults of a run.
 use Rattle.std.specs.Prelude.{Bool, true, false, Result, Ok, Err}
-use Rattle.ecma_command.specs.declared.options.Options.{Options}
+use Rattle.run_command.specs.declared.options.Options.{Options}
 use Rattle.ecma_front.specs.declared.fault.Fault.{Fault}
 use Rattle.ecma_front.specs.declared.fault.Fault.TheVariants.{Read, NotUtf8, TooLong, Syntax, TooDeep, Memory, Write, Position}
 

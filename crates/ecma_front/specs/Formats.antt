@@ -1,8 +1,8 @@
 -- What reading a text answers, and why there is nothing to write of it.
 use Rattle.std.specs.Prelude.{ℕ, ◌<◌, List, length, Result, Ok, Err}
 use Rattle.std.specs.Str.{chars, IsUtf8, IsValidUpTo}
-use Rattle.ecma_tree.specs.Tree.{Tree}
-use Rattle.ecma_command.specs.declared.options.Options.{Options}
+use Rattle.tree_spec.specs.Tree.{Tree}
+use Rattle.run_command.specs.declared.options.Options.{Options}
 use Rattle.ecma_front.specs.declared.fault.Fault.{Fault}
 use Rattle.ecma_front.specs.declared.fault.Fault.TheVariants as f
 use Rattle.ecma_front.specs.Programs.{IsProgramOf, IsFaulty, IsTooDeep}

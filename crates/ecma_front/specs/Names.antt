@@ -1,13 +1,13 @@
 -- Where names stand, as positions tell.
 use Rattle.std.specs.Prelude.{ℕ, ◌-◌, List}
 use Rattle.std.specs.List.{Contains}
-use Rattle.ecma_token.specs.declared.place.BytePos.{BytePos}
-use Rattle.ecma_token.specs.declared.place.LineCol.{LineCol}
-use Rattle.ecma_tree.specs.Tree.{Tree}
-use Rattle.ecma_names.specs.Names.{names}
-use Rattle.ecma_program_text.specs.Text.{text_start}
-use Rattle.ecma_lines.specs.Lines.{place_of}
-use Rattle.ecma_readback.specs.Marked.{Alongside}
+use Rattle.base_token.specs.declared.place.BytePos.{BytePos}
+use Rattle.base_token.specs.declared.place.LineCol.{LineCol}
+use Rattle.tree_spec.specs.Tree.{Tree}
+use Rattle.tree_program_spec.specs.Names.Names.{names}
+use Rattle.parse_laws.specs.Text.{text_start}
+use Rattle.print_pages_spec.specs.Lines.Lines.{place_of}
+use Rattle.again_laws.specs.Marked.{Alongside}
 
 -- A tree and one that is read again of what was written of it have equally many names; the i-th of both is the same word; and the place of the one, with the line and the column of the
 -- other in the text written, is among the positions.

@@ -1,13 +1,13 @@
 -- The program that a text is, by the settings of a run.
 use Rattle.std.specs.Prelude.{◌≡◌, ◌⊎◌, ℕ, ◌≤◌, ◌<◌, List, ◌∷◌}
-use Rattle.ecma_token.specs.Dialect.{parts_of}
-use Rattle.ecma_token.specs.declared.error.Error.{Error}
-use Rattle.ecma_tree.specs.Tree.{Tree}
-use Rattle.ecma_nesting.specs.Nesting.{nesting}
-use Rattle.ecma_early.specs.Early.{early_errors}
-use Rattle.ecma_program_text.specs.Text.{Setting, Reads, TreeSpells}
-use Rattle.ecma_command.specs.Options.{is_module}
-use Rattle.ecma_command.specs.declared.options.Options.{Options}
+use Rattle.base_token.specs.Dialect.{parts_of}
+use Rattle.base_token.specs.declared.error.Error.{Error}
+use Rattle.tree_spec.specs.Tree.{Tree}
+use Rattle.tree_nesting.specs.Nesting.{nesting}
+use Rattle.grammar_spec.specs.Judge.Early.{early_errors}
+use Rattle.parse_laws.specs.Text.{Setting, Reads, TreeSpells}
+use Rattle.run_command.specs.Options.{is_module}
+use Rattle.run_command.specs.declared.options.Options.{Options}
 
 -- what a reading is told: the parts of the language that are on, and how deep a tree may go
 abbrev pub setting_of : Options → Setting

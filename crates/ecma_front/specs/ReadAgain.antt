@@ -1,13 +1,13 @@
 -- What the text that is written is read as: the same program, and no other.
 use Rattle.std.specs.Prelude.{◌≡◌, ℕ, ◌≤◌, false, true, List}
-use Rattle.ecma_token.specs.Editions.{edition_rank}
-use Rattle.ecma_token.specs.declared.version.EsVersion.TheVariants.{Es2015}
-use Rattle.ecma_tree.specs.Tree.{Tree}
-use Rattle.ecma_program.specs.Program.{IsSameProgram}
-use Rattle.ecma_command.specs.Options.{is_format}
-use Rattle.ecma_command.specs.declared.options.Options.{Options}
-use Rattle.ecma_command.specs.declared.options.Style.TheVariants.{Minify}
-use Rattle.ecma_print.specs.Layouts.{layout}
+use Rattle.base_token.specs.Editions.{edition_rank}
+use Rattle.base_token.specs.declared.version.EsVersion.TheVariants.{Es2015}
+use Rattle.tree_spec.specs.Tree.{Tree}
+use Rattle.tree_program_spec.specs.Program.{IsSameProgram}
+use Rattle.run_command.specs.Options.{is_format}
+use Rattle.run_command.specs.declared.options.Options.{Options}
+use Rattle.run_command.specs.declared.options.Style.TheVariants.{Minify}
+use Rattle.print_run.specs.Layouts.{layout}
 use Rattle.ecma_front.specs.Programs.{Spells, TreeReads}
 
 -- the same settings, to minify

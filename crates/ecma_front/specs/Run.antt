@@ -3,13 +3,13 @@ use Rattle.std.specs.Prelude.{◌≡◌, ℕ, ◌≤◌, ◌↔◌, true, false,
 use Rattle.std.specs.Option.{option_map}
 use Rattle.std.specs.Str.{chars, IsUtf8}
 use Rattle.std.specs.Io.KnownBytes.{Appends}
-use Rattle.ecma_token.specs.declared.place.BytePos.{BytePos}
-use Rattle.ecma_token.specs.declared.place.LineCol.{LineCol}
-use Rattle.ecma_tree.specs.Tree.{Tree}
-use Rattle.ecma_command.specs.declared.options.Options.{Options}
-use Rattle.ecma_command.specs.declared.options.Style.{Style}
-use Rattle.ecma_command.specs.Options.{are_refused}
-use Rattle.ecma_print.specs.Layouts.{layout, positions_of, IsPastLast}
+use Rattle.base_token.specs.declared.place.BytePos.{BytePos}
+use Rattle.base_token.specs.declared.place.LineCol.{LineCol}
+use Rattle.tree_spec.specs.Tree.{Tree}
+use Rattle.run_command.specs.declared.options.Options.{Options}
+use Rattle.run_command.specs.declared.options.Style.{Style}
+use Rattle.run_command.specs.Options.{are_refused}
+use Rattle.print_run.specs.Layouts.{layout, positions_of, IsPastLast}
 use Rattle.ecma_front.specs.declared.fault.Fault.{Fault}
 use Rattle.ecma_front.specs.declared.fault.Fault.TheVariants as f
 use Rattle.ecma_front.specs.Faults.{answers_fault, is_failure}

@@ -1,15 +1,15 @@
 -- What the steps of reading and printing answer.
 use Rattle.std.specs.Prelude.{◌≡◌, ℕ, List, [], ◌∷◌, Option, Result, Ok, Err}
-use Rattle.ecma_token.specs.declared.place.BytePos.{BytePos}
-use Rattle.ecma_token.specs.declared.place.LineCol.{LineCol}
-use Rattle.ecma_token.specs.declared.error.Error.{Error}
-use Rattle.ecma_parse_state.specs.declared.failure.Failure.{Failure}
-use Rattle.ecma_parse_state.specs.declared.failure.Failure.TheVariants as failures
-use Rattle.ecma_write.specs.declared.fault.EmitError.{EmitError}
-use Rattle.ecma_write.specs.declared.fault.EmitError.TheVariants as w
-use Rattle.ecma_tree.specs.Tree.{Tree}
-use Rattle.ecma_command.specs.declared.options.Options.{Options}
-use Rattle.ecma_print.specs.Prints.{IsDone, IsStopped}
+use Rattle.base_token.specs.declared.place.BytePos.{BytePos}
+use Rattle.base_token.specs.declared.place.LineCol.{LineCol}
+use Rattle.base_token.specs.declared.error.Error.{Error}
+use Rattle.parse_state.specs.declared.failure.Failure.{Failure}
+use Rattle.parse_state.specs.declared.failure.Failure.TheVariants as failures
+use Rattle.print_writers.specs.declared.fault.EmitError.{EmitError}
+use Rattle.print_writers.specs.declared.fault.EmitError.TheVariants as w
+use Rattle.tree_spec.specs.Tree.{Tree}
+use Rattle.run_command.specs.declared.options.Options.{Options}
+use Rattle.print_run.specs.Prints.{IsDone, IsStopped}
 use Rattle.ecma_front.specs.declared.fault.Fault.{Fault}
 use Rattle.ecma_front.specs.declared.fault.Fault.TheVariants as f
 use Rattle.ecma_front.specs.Formats.{IsProgramIn, IsRefused}

@@ -2,10 +2,10 @@
 ghost use Rattle.std.specs.Prelude.{◌≡◌, ◌≢◌, ◌⊎◌, ◌<◌, ◌-◌, ◌^◌, true, is_some, IfSome, IsUtf8};
 ghost use Rattle.std.specs.Str.{chars};
 ghost use Rattle.std.specs.Io.KnownBytes.{Appends};
-ghost use Rattle.ecma_token.specs.Counts.{one_more};
-ghost use Rattle.ecma_command.specs.Options.{are_refused};
+ghost use Rattle.base_token.specs.Counts.{one_more};
+ghost use Rattle.run_command.specs.Options.{are_refused};
 ghost use Rattle.ecma_front.specs.Faults.{is_refusal};
-ghost use Rattle.ecma_lines.specs.Lines as lines;
+ghost use Rattle.print_pages_spec.specs.Lines.Lines as lines;
 ghost use Rattle.ecma_front.specs.Run.{WritesBeginning, WritesProgram};
 ghost use Rattle.ecma_front.specs.Command.{IsHindered, IsUnread, LiesAt, out_of_memory};
 ghost use Rattle.ecma_front.specs.declared.fault.Fault.TheVariants.{Memory};
@@ -13,9 +13,9 @@ ghost use Rattle.ecma_front.specs.declared.fault.Fault.TheVariants.{Memory};
 use crate::fault::Fault;
 use crate::line_col::place;
 use crate::pipeline::run_kept;
-use ecma_command::Invocation;
-use ecma_token::{BytePos, CountedRead, CountedWrite, LineCol};
-use ecma_write::write_all;
+use base_token::{BytePos, CountedRead, CountedWrite, LineCol};
+use print_writers::write_all;
+use run_command::Invocation;
 use std::alloc::Global;
 use std::io::Write;
 

@@ -1,12 +1,12 @@
 //! Reading a reader to its end.
 ghost use Rattle.std.specs.Prelude.{◌≡◌, ◌≤◌, ◌<◌, ◌+◌, ◌^◌, [], OnOk, IfErr, IsErrOf, vec_len};
 ghost use Rattle.std.specs.Io.KnownBytes.{Consumes, IsAtEnd};
-ghost use Rattle.ecma_token.specs.Counts.{count_after};
+ghost use Rattle.base_token.specs.Counts.{count_after};
 ghost use Rattle.ecma_front.specs.Faults.{answers_fault, is_read_fault};
 ghost use Rattle.ecma_front.specs.Input.{IsInputFault};
 
 use crate::fault::Fault;
-use ecma_token::CountedRead;
+use base_token::CountedRead;
 
 /// The longest text that is read, in bytes: the place after its end still fits `u32`.
 pub(crate) const LONGEST_TEXT: usize = 4_294_967_294;

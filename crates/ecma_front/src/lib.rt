@@ -11,17 +11,17 @@ mod reading;
 mod texts;
 mod writing;
 
-pub use command::answer;
-pub use ecma_codegen::EmitError;
-pub use ecma_command::{CliFault, Goal, Indent, Invocation, LineEnd, Options, Style, invocation};
-pub use ecma_memory as memory;
-pub use ecma_print::{Positions, print, text_of};
-pub use ecma_token::{
+pub use base_token::{
     BytePos, Counted, CountedRead, CountedWrite, DUMMY_SP, Error, EsConfig, EsSyntax, EsVersion,
     Failing, JscTarget, LineCol, Span, Spanned, Syntax, SyntaxError,
 };
+pub use command::answer;
+pub use ecma_parser::{PResult, Parser};
 pub use fault::Fault;
 pub use line_col::place;
 pub use pipeline::{run, run_kept};
+pub use print_run::{EmitError, Positions, print, text_of};
 pub use reading::read;
+pub use run_command::{CliFault, Goal, Indent, Invocation, LineEnd, Options, Style, invocation};
+pub use run_memory as memory;
 pub use texts::{format, minify};

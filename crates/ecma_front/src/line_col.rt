@@ -2,10 +2,10 @@
 
 ghost use Rattle.std.specs.Prelude.{◌≡◌};
 ghost use Rattle.std.specs.Str.{chars};
-ghost use Rattle.ecma_lines.specs.Lines.{place_of};
+ghost use Rattle.print_pages_spec.specs.Lines.Lines.{place_of};
 
-use ecma_token::LineCol;
-use ecma_write::lines::{ends_line, pop};
+use base_token::LineCol;
+use print_writers::lines::{ends_line, pop};
 
 /// The line and column, both from 0, of the byte at an offset of a text. An offset past the end counts
 /// as the end, and one inside a character as the character's. Lines end at LF, CR and CR LF (one end),

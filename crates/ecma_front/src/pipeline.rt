@@ -1,8 +1,8 @@
 //! A whole run: from any reader to any writer.
 ghost use Rattle.std.specs.Prelude.{◌≡◌, ◌↔◌, ◌⊎◌, true, false, [], IsErrOf, IfErr, IfSome};
 ghost use Rattle.std.specs.Io.KnownBytes.{Consumes};
-ghost use Rattle.ecma_token.specs.Counts.{count_after};
-ghost use Rattle.ecma_command.specs.Options.{are_refused};
+ghost use Rattle.base_token.specs.Counts.{count_after};
+ghost use Rattle.run_command.specs.Options.{are_refused};
 ghost use Rattle.ecma_front.specs.Faults.{answers_fault, is_of_writing, is_read_fault, is_write_fault};
 ghost use Rattle.ecma_front.specs.Run.{Answers, SucceedsExactly, WritesBeginning};
 
@@ -10,9 +10,9 @@ use crate::fault::Fault;
 use crate::input::read_to_end;
 use crate::reading::program_in;
 use crate::writing::write;
-use ecma_command::Options;
-use ecma_print::Positions;
-use ecma_token::{CountedRead, CountedWrite};
+use base_token::{CountedRead, CountedWrite};
+use print_run::Positions;
+use run_command::Options;
 use std::alloc::Global;
 
 /// Reads a program from a reader, to its first read of 0 bytes, and writes it as the settings ask, in blocks of 4,096

@@ -1,19 +1,18 @@
 //! Reading a text as a program.
 ghost use Rattle.std.specs.Prelude.{◌≡◌, ◌↔◌, ◌≤◌, ◌<◌, true, false, length, IfErr, IsErrOf};
 ghost use Rattle.std.specs.Str.{chars};
-ghost use Rattle.ecma_command.specs.Options.{are_refused, is_module};
+ghost use Rattle.run_command.specs.Options.{are_refused, is_module};
 ghost use Rattle.ecma_front.specs.Faults.{is_text_fault};
 ghost use Rattle.ecma_front.specs.Formats.{Reads, longest_text};
 ghost use Rattle.ecma_front.specs.Steps.{Judges, ReadsBytes, fault_in};
 
 use crate::fault::Fault;
 use crate::input::LONGEST_TEXT;
-use ecma_command::{Goal, Options};
-use ecma_lexer::Lexer;
-use ecma_node::{Program, ProgramKind};
-use ecma_parser::{Failure, Parser};
-use ecma_token::Error;
+use base_token::Error;
+use ecma_parser::{Failure, Lexer, Parser};
+use run_command::{Goal, Options};
 use std::alloc::Global;
+use tree_nodes::{Program, ProgramKind};
 
 /// The deepest nesting that may be asked for.
 const DEEPEST: u32 = Options::DEEPEST;

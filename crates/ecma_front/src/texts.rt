@@ -1,14 +1,14 @@
 //! Formatting and minifying a text in memory.
 ghost use Rattle.std.specs.Prelude.{◌≡◌, ◌↔◌, true, false, None, Some, IsErrOf, string_bytes};
-ghost use Rattle.ecma_command.specs.Options.{are_refused};
-ghost use Rattle.ecma_command.specs.declared.options.Style.TheVariants as styles;
+ghost use Rattle.run_command.specs.Options.{are_refused};
+ghost use Rattle.run_command.specs.declared.options.Style.TheVariants as styles;
 ghost use Rattle.ecma_front.specs.Run.{Formats, SucceedsExactly, in_style};
 
 use crate::fault::Fault;
 use crate::reading::read;
 use crate::writing::told;
-use ecma_command::{Options, Style};
-use ecma_print::text_of;
+use print_run::text_of;
+use run_command::{Options, Style};
 use std::alloc::Global;
 
 /// What is written of a text.

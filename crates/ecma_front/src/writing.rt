@@ -1,17 +1,16 @@
 //! Writing a program.
 ghost use Rattle.std.specs.Prelude.{◌≡◌, false};
-ghost use Rattle.ecma_token.specs.Counts.{count_after};
-ghost use Rattle.ecma_command.specs.Options.{are_refused};
+ghost use Rattle.base_token.specs.Counts.{count_after};
+ghost use Rattle.run_command.specs.Options.{are_refused};
 ghost use Rattle.ecma_front.specs.Faults.{answers_fault, is_write_fault};
 ghost use Rattle.ecma_front.specs.Steps.{fault_of, Writes};
 
 use crate::fault::Fault;
-use ecma_codegen::EmitError;
-use ecma_command::Options;
-use ecma_node::Program;
-use ecma_print::{Positions, print};
-use ecma_token::CountedWrite;
+use base_token::CountedWrite;
+use print_run::{EmitError, Positions, print};
+use run_command::Options;
 use std::alloc::Global;
+use tree_nodes::Program;
 
 /// What a fault of the printer is told as.
 pub(crate) fn told(fault: EmitError) -> Fault

@@ -3,22 +3,22 @@ use Rattle.std.proofs.Common.{◌≡◌, ℕ, ◌⊎◌, inl, inr, Bool, true, f
 use Rattle.std.specs.List.{list_any}
 use Rattle.std.specs.Prelude.{MatchBool, is_none}
 use Rattle.std.proofs.lemmas.Bool.{false≢true}
-use Rattle.ecma_token.specs.Tokens.{Spot}
-use Rattle.ecma_token.specs.declared.token.TokenKind.{TokenKind}
-use Rattle.ecma_scan.specs.Punctuators.{IsPunctuator, NoPunctuator}
-use Rattle.ecma_token.specs.declared.error.Error.{Error}
-use Rattle.ecma_token.specs.declared.error.SyntaxError.TheVariants.{Memory}
-use Rattle.ecma_scan.specs.Notes.{FollowNoted, IsCollected, IsCollectedUpTo}
-use Rattle.ecma_scan.specs.Trivia.{Piece, IsFault, NoPiece, breaks}
-use Rattle.ecma_scan.specs.declared.comments.Comment.{Comment as Read}
-use Rattle.ecma_scan.specs.declared.trivia.Goal.{Goal}
-use Rattle.ecma_comments.specs.Comments.{owned_comment}
-use Rattle.ecma_comments.specs.Store.{leading_at, trailing_at}
-use Rattle.ecma_comments.specs.declared.store.Comments.{Comments}
-use Rattle.ecma_lexing.specs.States.{State, again, goal_of, is_start, place}
-use Rattle.ecma_lexing.proofs.TriviaLemmas.{bad_none}
-use Rattle.ecma_comments.specs.Comments.{IsAdded, IsSame}
-use Rattle.ecma_comments.specs.declared.owned.Comment.{Comment}
+use Rattle.base_token.specs.Tokens.{Spot}
+use Rattle.base_token.specs.declared.token.TokenKind.{TokenKind}
+use Rattle.lex_pieces.specs.Punctuators.{IsPunctuator, NoPunctuator}
+use Rattle.base_token.specs.declared.error.Error.{Error}
+use Rattle.base_token.specs.declared.error.SyntaxError.TheVariants.{Memory}
+use Rattle.lex_pieces.specs.Notes.{FollowNoted, IsCollected, IsCollectedUpTo}
+use Rattle.lex_pieces.specs.Trivia.{Piece, IsFault, NoPiece, breaks}
+use Rattle.lex_pieces.specs.declared.comments.Comment.{Comment as Read}
+use Rattle.lex_pieces.specs.declared.trivia.Goal.{Goal}
+use Rattle.lex_comments.specs.Comments.{owned_comment}
+use Rattle.lex_comments.specs.Store.{leading_at, trailing_at}
+use Rattle.lex_comments.specs.declared.store.Comments.{Comments}
+use Rattle.lex_step_laws.specs.States.{State, again, goal_of, is_start, place}
+use Rattle.lex_step_laws.proofs.TriviaLemmas.{bad_none}
+use Rattle.lex_comments.specs.Comments.{IsAdded, IsSame}
+use Rattle.lex_comments.specs.declared.owned.Comment.{Comment}
 use Rattle.ecma_lexer.specs.Kept.{AreAdded, AreKept, AreLeft, ArePassed, AreThere, EndsSlash, lead_place}
 
 pub added_none : (old : ℕ → List Comment) (pos : ℕ) → AreAdded old old pos []

@@ -1,23 +1,23 @@
 -- What a lexer hands out depends on the innermost contexts alone, and on no fault.
 use Rattle.std.proofs.Common.{◌≡◌, ℕ, inl, inr, Bool, true, false, List, [], ◌∷◌, ◌++◌, take, Option, Some, None, Result, Ok, Err, refl, sym, ap, subst, ◌∙◌, if◌then◌else◌}
 use Rattle.std.specs.Prelude.{◌==◌, option_map, MatchResult}
-use Rattle.ecma_token.specs.Kinds.{back_quote_kind, dollar_brace_kind, left_brace_kind, right_brace_kind, shebang_kind}
-use Rattle.ecma_token.specs.Tokens.{Spot}
-use Rattle.ecma_token.specs.declared.error.Error.{Error}
-use Rattle.ecma_token.specs.declared.error.SyntaxError.TheVariants.{Memory}
-use Rattle.ecma_token.specs.declared.token.TokenAndSpan.{TokenAndSpan}
-use Rattle.ecma_token_source.specs.declared.contexts.TokenContext.{TokenContext}
-use Rattle.ecma_token_source.specs.declared.contexts.TokenContext.TheVariants.{BraceStmt, BraceExpr, TplQuasi, ParenStmt, ParenExpr, Tpl, FnExpr, ClassExpr}
-use Rattle.ecma_token_source.specs.Looks.{behind_by}
-use Rattle.ecma_token_source.specs.Machine.{shown_spot, told_of}
-use Rattle.ecma_token_source.specs.Settings.{scout_of, with_next_regexp}
-use Rattle.ecma_lexeme.specs.declared.goal.LexicalGoal.{LexicalGoal}
-use Rattle.ecma_lexeme.specs.declared.goal.LexicalGoal.TheVariants.{Div, RegExp}
-use Rattle.ecma_lexeme.specs.Lexemes.{SpecLexeme}
-use Rattle.ecma_lexing.specs.States.{Last, Start, Slash, Characters, Fault, Other, State, again, behind, closed, contexts_after, opened, quoted, shebang, span_at, strict_faults, template_goal}
-use Rattle.ecma_lexing.specs.Steps.{IsFirst, IsGoing, IsOutside, IsPlain, IsRead, IsStep, IsStepBy, IsStepOf}
-use Rattle.ecma_lexing.proofs.StepLemmas.{one_step}
-use Rattle.ecma_lexing.proofs.Steps.{always_steps}
+use Rattle.base_token.specs.Kinds.{back_quote_kind, dollar_brace_kind, left_brace_kind, right_brace_kind, shebang_kind}
+use Rattle.base_token.specs.Tokens.{Spot}
+use Rattle.base_token.specs.declared.error.Error.{Error}
+use Rattle.base_token.specs.declared.error.SyntaxError.TheVariants.{Memory}
+use Rattle.base_token.specs.declared.token.TokenAndSpan.{TokenAndSpan}
+use Rattle.lex_source.specs.declared.contexts.TokenContext.{TokenContext}
+use Rattle.lex_source.specs.declared.contexts.TokenContext.TheVariants.{BraceStmt, BraceExpr, TplQuasi, ParenStmt, ParenExpr, Tpl, FnExpr, ClassExpr}
+use Rattle.lex_source.specs.Looks.{behind_by}
+use Rattle.lex_source.specs.Machine.{shown_spot, told_of}
+use Rattle.lex_source.specs.Settings.{scout_of, with_next_regexp}
+use Rattle.lex_token.specs.declared.goal.LexicalGoal.{LexicalGoal}
+use Rattle.lex_token.specs.declared.goal.LexicalGoal.TheVariants.{Div, RegExp}
+use Rattle.lex_token.specs.Lexemes.{SpecLexeme}
+use Rattle.lex_step_laws.specs.States.{Last, Start, Slash, Characters, Fault, Other, State, again, behind, closed, contexts_after, opened, quoted, shebang, span_at, strict_faults, template_goal}
+use Rattle.lex_step_laws.specs.Steps.{IsFirst, IsGoing, IsOutside, IsPlain, IsRead, IsStep, IsStepBy, IsStepOf}
+use Rattle.lex_step_laws.proofs.StepLemmas.{one_step}
+use Rattle.lex_step_laws.proofs.Steps.{always_steps}
 use Rattle.ecma_lexer.specs.Looks.{scout_in}
 use Rattle.ecma_lexer.specs.Machine.{step_of}
 use Rattle.ecma_lexer.specs.Stepping.{Steps}

@@ -1,16 +1,16 @@
 -- The step of the machine is the step that is made.
 use Rattle.std.proofs.Common.{◌≡◌, Option, Some, None, Result, Ok, Err}
 use Rattle.std.specs.Prelude.{option_map, MatchOption, IfOk, ◌<◌, ◌≤◌}
-use Rattle.ecma_token.specs.Tokens.{Spot}
-use Rattle.ecma_token.specs.declared.error.Error.{Error}
-use Rattle.ecma_token.specs.declared.token.TokenAndSpan.{TokenAndSpan}
-use Rattle.ecma_token_source.specs.Machine.{StepGives, shown_spot}
-use Rattle.ecma_lexing.specs.States.{State}
-use Rattle.ecma_lexing.specs.Steps.{IsStep}
-use Rattle.ecma_lexing.proofs.StepLemmas.{one_step}
-use Rattle.ecma_lexing.specs.Bounds.{Falls, bound}
-use Rattle.ecma_lexing.proofs.Bounds.{bound_falls}
-use Rattle.ecma_lexing.proofs.Steps.{always_steps}
+use Rattle.base_token.specs.Tokens.{Spot}
+use Rattle.base_token.specs.declared.error.Error.{Error}
+use Rattle.base_token.specs.declared.token.TokenAndSpan.{TokenAndSpan}
+use Rattle.lex_source.specs.Machine.{StepGives, shown_spot}
+use Rattle.lex_step_laws.specs.States.{State}
+use Rattle.lex_step_laws.specs.Steps.{IsStep}
+use Rattle.lex_step_laws.proofs.StepLemmas.{one_step}
+use Rattle.lex_step_laws.specs.Bounds.{Falls, bound}
+use Rattle.lex_step_laws.proofs.Bounds.{bound_falls}
+use Rattle.lex_step_laws.proofs.Steps.{always_steps}
 use Rattle.ecma_lexer.specs.Machine.{step_of}
 use Rattle.ecma_lexer.specs.Stepping.{Steps}
 

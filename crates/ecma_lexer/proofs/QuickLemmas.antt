@@ -3,29 +3,29 @@ use Rattle.std.proofs.Common.{◌≡◌, ℕ, arith, inl, inr, Bool, true, false
 use Rattle.std.proofs.lemmas.Bool.{and_parts, eqb-true, false≢true}
 use Rattle.std.specs.Prelude.{◌==◌, ◌&&◌, ◌||◌, not, if◌then◌else◌, bytes_eq}
 use Rattle.std.specs.Str.{chars}
-use Rattle.ecma_token.specs.declared.error.Error.{Error}
-use Rattle.ecma_token.specs.declared.place.Span.{Span}
-use Rattle.ecma_token.specs.declared.token.Token.{Token}
-use Rattle.ecma_token.specs.declared.token.TokenAndSpan.{TokenAndSpan}
-use Rattle.ecma_token.specs.declared.token.TokenKind.{TokenKind}
-use Rattle.ecma_token.specs.Kinds.{back_quote_kind, div_assign_kind, div_kind, dollar_brace_kind, left_brace_kind, name_kind, right_brace_kind, template_kind}
-use Rattle.ecma_token.specs.Tokens.{SpecToken, Spot, bare}
-use Rattle.ecma_token.specs.TokenViews.{token_kind_number, token_view}
-use Rattle.ecma_token.specs.Words.{kind_among, kind_of, own_words}
-use Rattle.ecma_scan.specs.Names.{IsName}
-use Rattle.ecma_scan.specs.Punctuators.{IsPunctuator, punctuators}
-use Rattle.ecma_scan.specs.Trivia.{IsSkipped}
-use Rattle.ecma_lexeme.specs.declared.goal.LexicalGoal.TheVariants.{Div}
-use Rattle.ecma_lexeme.specs.Lexemes as lexeme
-use Rattle.ecma_lexeme.specs.Lexemes.{SpecLexeme, plain, word_spelled}
-use Rattle.ecma_lexeme.proofs.SortLemmas.{all_kinds, among_kinds}
-use Rattle.ecma_lexeme.proofs.SpelledLemmas.{encoded}
-use Rattle.ecma_token_source.specs.declared.contexts.TokenContext.{TokenContext}
-use Rattle.ecma_token_source.specs.declared.contexts.TokenContext.TheVariants.{TplQuasi}
-use Rattle.ecma_token_source.specs.Machine.{shown_spot, told}
-use Rattle.ecma_lexing.specs.States.{Last, Slash, Characters, Other, State, again, again_by, behind, closed, contexts_after, goal_of, is_start, last_after, opened, quoted, spot_at, strict_faults, span_at, template_goal}
-use Rattle.ecma_lexing.specs.Steps as steps
-use Rattle.ecma_lexing.specs.Steps.{IsGoing, IsPlain, IsRead, IsStep, IsStepBy, IsStepOf}
+use Rattle.base_token.specs.declared.error.Error.{Error}
+use Rattle.base_token.specs.declared.place.Span.{Span}
+use Rattle.base_token.specs.declared.token.Token.{Token}
+use Rattle.base_token.specs.declared.token.TokenAndSpan.{TokenAndSpan}
+use Rattle.base_token.specs.declared.token.TokenKind.{TokenKind}
+use Rattle.base_token.specs.Kinds.{back_quote_kind, div_assign_kind, div_kind, dollar_brace_kind, left_brace_kind, name_kind, right_brace_kind, template_kind}
+use Rattle.base_token.specs.Tokens.{SpecToken, Spot, bare}
+use Rattle.base_token.specs.TokenViews.{token_kind_number, token_view}
+use Rattle.base_token.specs.Words.{kind_among, kind_of, own_words}
+use Rattle.lex_pieces.specs.Names.{IsName}
+use Rattle.lex_pieces.specs.Punctuators.{IsPunctuator, punctuators}
+use Rattle.lex_pieces.specs.Trivia.{IsSkipped}
+use Rattle.lex_token.specs.declared.goal.LexicalGoal.TheVariants.{Div}
+use Rattle.lex_token.specs.Lexemes as lexeme
+use Rattle.lex_token.specs.Lexemes.{SpecLexeme, plain, word_spelled}
+use Rattle.lex_token.proofs.SortLemmas.{all_kinds, among_kinds}
+use Rattle.lex_token.proofs.SpelledLemmas.{encoded}
+use Rattle.lex_source.specs.declared.contexts.TokenContext.{TokenContext}
+use Rattle.lex_source.specs.declared.contexts.TokenContext.TheVariants.{TplQuasi}
+use Rattle.lex_source.specs.Machine.{shown_spot, told}
+use Rattle.lex_step_laws.specs.States.{Last, Slash, Characters, Other, State, again, again_by, behind, closed, contexts_after, goal_of, is_start, last_after, opened, quoted, spot_at, strict_faults, span_at, template_goal}
+use Rattle.lex_step_laws.specs.Steps as steps
+use Rattle.lex_step_laws.specs.Steps.{IsGoing, IsPlain, IsRead, IsStep, IsStepBy, IsStepOf}
 use Rattle.ecma_lexer.specs.Quick.{IsHanded, is_quiet, is_quiet_mark, passed}
 use Rattle.ecma_lexer.specs.Stepping.{Steps}
 

@@ -4,24 +4,24 @@ use Rattle.std.proofs.lemmas.Str.{chars-nil}
 use Rattle.std.proofs.lemmas.Bool.{false≢true}
 use Rattle.std.specs.Prelude.{MatchBool, option_map}
 use Rattle.std.specs.Str.{chars}
-use Rattle.ecma_token.specs.declared.error.Error.{Error}
-use Rattle.ecma_token.specs.declared.token.TokenAndSpan.{TokenAndSpan}
-use Rattle.ecma_token.specs.Kinds.{shebang_kind}
-use Rattle.ecma_token.specs.Tokens.{Line, Spot}
-use Rattle.ecma_token_source.specs.Machine.{shown_spot}
-use Rattle.ecma_token_source.specs.Settings.{Settings}
-use Rattle.ecma_scan.specs.declared.trivia.Goal.{Goal}
-use Rattle.ecma_scan.specs.Names.{is_nil}
-use Rattle.ecma_scan.specs.Places.{bytes}
-use Rattle.ecma_scan.proofs.Following.{empty_text}
-use Rattle.ecma_scan.specs.Trivia.{IsFaultAfter, IsHashbang, IsSkipped}
-use Rattle.ecma_lexeme.specs.declared.goal.LexicalGoal.{LexicalGoal}
-use Rattle.ecma_lexeme.specs.declared.goal.LexicalGoal.TheVariants.{Div, RegExp, TemplateTail}
-use Rattle.ecma_lexeme.specs.Lexemes.{SpecLexeme, plain}
-use Rattle.ecma_lexeme.proofs.SpelledLemmas.{encoded}
-use Rattle.ecma_lexing.specs.States as spec
-use Rattle.ecma_lexing.specs.States.{Fault, Last, Start, State, again, faulty, faulty_from, goal_of, is_start, place, shebang, stopped, template_goal}
-use Rattle.ecma_lexing.specs.Steps.{Ends, IsBadTrivia, IsFirst, IsGoing, IsOutside, IsPlain, IsRead, IsStep, IsStepBy, IsStepOf}
+use Rattle.base_token.specs.declared.error.Error.{Error}
+use Rattle.base_token.specs.declared.token.TokenAndSpan.{TokenAndSpan}
+use Rattle.base_token.specs.Kinds.{shebang_kind}
+use Rattle.base_token.specs.Tokens.{Line, Spot}
+use Rattle.lex_source.specs.Machine.{shown_spot}
+use Rattle.lex_source.specs.Settings.{Settings}
+use Rattle.lex_pieces.specs.declared.trivia.Goal.{Goal}
+use Rattle.lex_pieces.specs.Names.{is_nil}
+use Rattle.lex_pieces.specs.Places.{bytes}
+use Rattle.lex_pieces.proofs.Following.{empty_text}
+use Rattle.lex_pieces.specs.Trivia.{IsFaultAfter, IsHashbang, IsSkipped}
+use Rattle.lex_token.specs.declared.goal.LexicalGoal.{LexicalGoal}
+use Rattle.lex_token.specs.declared.goal.LexicalGoal.TheVariants.{Div, RegExp, TemplateTail}
+use Rattle.lex_token.specs.Lexemes.{SpecLexeme, plain}
+use Rattle.lex_token.proofs.SpelledLemmas.{encoded}
+use Rattle.lex_step_laws.specs.States as spec
+use Rattle.lex_step_laws.specs.States.{Fault, Last, Start, State, again, faulty, faulty_from, goal_of, is_start, place, shebang, stopped, template_goal}
+use Rattle.lex_step_laws.specs.Steps.{Ends, IsBadTrivia, IsFirst, IsGoing, IsOutside, IsPlain, IsRead, IsStep, IsStepBy, IsStepOf}
 use Rattle.ecma_lexer.specs.declared.last.Last as code
 use Rattle.ecma_lexer.specs.declared.last.Last.TheVariants as l
 use Rattle.ecma_lexer.specs.Last.{last_view}

@@ -1,17 +1,17 @@
 -- The comments that a lexer keeps.
 use Rattle.std.specs.Prelude.{◌≡◌, ◌≢◌, ◌⊎◌, ℕ, Bool, true, false, ◌||◌, List, [], ◌++◌, map, Option, None, Some}
 use Rattle.std.specs.List.{list_any}
-use Rattle.ecma_token.specs.Tokens.{Spot}
-use Rattle.ecma_token.specs.declared.token.TokenKind.{TokenKind}
-use Rattle.ecma_scan.specs.Notes.{FollowNoted}
-use Rattle.ecma_scan.specs.Punctuators.{IsPunctuator, NoPunctuator}
-use Rattle.ecma_scan.specs.Trivia.{Piece, NoHashbang, NoPiece, breaks}
-use Rattle.ecma_scan.specs.declared.comments.Comment.{Comment as Read}
-use Rattle.ecma_comments.specs.Comments.{IsSame, IsTaken, owned_comment}
-use Rattle.ecma_comments.specs.Store.{leading_at, trailing_at}
-use Rattle.ecma_comments.specs.declared.owned.Comment.{Comment}
-use Rattle.ecma_comments.specs.declared.store.Comments.{Comments}
-use Rattle.ecma_lexing.specs.States.{Fault, State, again, goal_of, is_start, place, template_goal}
+use Rattle.base_token.specs.Tokens.{Spot}
+use Rattle.base_token.specs.declared.token.TokenKind.{TokenKind}
+use Rattle.lex_pieces.specs.Notes.{FollowNoted}
+use Rattle.lex_pieces.specs.Punctuators.{IsPunctuator, NoPunctuator}
+use Rattle.lex_pieces.specs.Trivia.{Piece, NoHashbang, NoPiece, breaks}
+use Rattle.lex_pieces.specs.declared.comments.Comment.{Comment as Read}
+use Rattle.lex_comments.specs.Comments.{IsSame, IsTaken, owned_comment}
+use Rattle.lex_comments.specs.Store.{leading_at, trailing_at}
+use Rattle.lex_comments.specs.declared.owned.Comment.{Comment}
+use Rattle.lex_comments.specs.declared.store.Comments.{Comments}
+use Rattle.lex_step_laws.specs.States.{Fault, State, again, goal_of, is_start, place, template_goal}
 
 -- ---- which comments a step passes
 

@@ -1,7 +1,7 @@
 -- What came last in a text that is read.
 use Rattle.std.specs.Prelude.{ℕ, ◌<◌, length}
 use Rattle.std.specs.Str.{chars}
-use Rattle.ecma_lexing.specs.States as s
+use Rattle.lex_step_laws.specs.States as s
 use Rattle.ecma_lexer.specs.declared.last.Last.{Last}
 use Rattle.ecma_lexer.specs.declared.last.Last.TheVariants as l
 

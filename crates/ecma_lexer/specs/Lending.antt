@@ -2,9 +2,9 @@
 use mir.Syntax.{named}
 use Rattle.std.specs.Prelude.{[]}
 use Rattle.std.specs.Borrow.{Lends, MutBor, Fml}
-use Rattle.ecma_token_source.specs.Lending.{with_open}
-use Rattle.ecma_token_source.specs.declared.contexts.TokenContexts.{TokenContexts}
-use Rattle.ecma_token_source.specs.contracts.contexts.TokenContexts.{the_row as contexts_row}
+use Rattle.lex_source.specs.Lending.{with_open}
+use Rattle.lex_source.specs.declared.contexts.TokenContexts.{TokenContexts}
+use Rattle.lex_source.specs.contracts.contexts.TokenContexts.{the_row as contexts_row}
 use Rattle.ecma_lexer.specs.declared.lexer.Lexer.{Lexer}
 use Rattle.ecma_lexer.specs.contracts.lexer.Lexer.{the_row as lexer_row}
 

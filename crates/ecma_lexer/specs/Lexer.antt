@@ -1,8 +1,8 @@
 -- What contracts see of a lexer.
 use Rattle.std.specs.Prelude.{◌≡◌, Bool}
-use Rattle.ecma_comments.specs.declared.store.Comments.{Comments}
-use Rattle.ecma_token_source.specs.Settings.{settings_in}
-use Rattle.ecma_lexing.specs.States.{State}
+use Rattle.lex_comments.specs.declared.store.Comments.{Comments}
+use Rattle.lex_source.specs.Settings.{settings_in}
+use Rattle.lex_step_laws.specs.States.{State}
 use Rattle.ecma_lexer.specs.declared.lexer.Lexer as code
 
 -- a lexer at one moment

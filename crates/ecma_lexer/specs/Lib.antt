@@ -1,4 +1,5 @@
 -- The lexer as contracts see it.
+pub use Rattle.lex_step_laws.specs.States
 pub mod Last
 pub mod Lexer
 pub mod Kept

@@ -1,6 +1,6 @@
 -- What a lexer looks ahead with.
-use Rattle.ecma_token_source.specs.Settings.{scout_of}
-use Rattle.ecma_lexing.specs.States.{State}
+use Rattle.lex_source.specs.Settings.{scout_of}
+use Rattle.lex_step_laws.specs.States.{State}
 
 -- the same text, with what the next two tokens depend on
 abbrev pub scout_in : State → State

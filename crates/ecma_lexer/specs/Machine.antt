@@ -1,14 +1,14 @@
 -- The lexer as a source of tokens.
 use Rattle.std.proofs.Common.{◌≡◌, Option, None, sym, ap, subst, ◌∙◌}
-use Rattle.ecma_token.specs.Tokens.{Spot}
-use Rattle.ecma_token_source.specs.Machine.{EndStays, Machine, told_of}
-use Rattle.ecma_lexing.specs.States.{State, Text}
-use Rattle.ecma_lexing.specs.Steps.{IsStep}
-use Rattle.ecma_lexing.proofs.StepLemmas.{one_step}
-use Rattle.ecma_lexing.specs.Bounds.{bound}
-use Rattle.ecma_lexing.proofs.Ends.{end_stays}
-use Rattle.ecma_lexing.proofs.Going.{no_again}
-use Rattle.ecma_lexing.proofs.Steps.{always_steps}
+use Rattle.base_token.specs.Tokens.{Spot}
+use Rattle.lex_source.specs.Machine.{EndStays, Machine, told_of}
+use Rattle.lex_step_laws.specs.States.{State, Text}
+use Rattle.lex_step_laws.specs.Steps.{IsStep}
+use Rattle.lex_step_laws.proofs.StepLemmas.{one_step}
+use Rattle.lex_step_laws.specs.Bounds.{bound}
+use Rattle.lex_step_laws.proofs.Ends.{end_stays}
+use Rattle.lex_step_laws.proofs.Going.{no_again}
+use Rattle.lex_step_laws.proofs.Steps.{always_steps}
 
 -- The one step that is made from a state: what it hands out, and the state behind it.
 unfoldable pub step_of : State → Option Spot × State

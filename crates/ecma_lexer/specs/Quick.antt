@@ -1,12 +1,12 @@
 -- The tokens that leave what a lexer keeps as it is: most of them.
 use Rattle.std.specs.Prelude.{◌≡◌, ℕ, Bool, true, false, ◌==◌, ◌&&◌, ◌||◌, not, List, Option, Some}
-use Rattle.ecma_token.specs.Kinds.{back_quote_kind, div_assign_kind, div_kind, dollar_brace_kind, template_kind}
-use Rattle.ecma_token.specs.declared.token.TokenKind.{TokenKind}
-use Rattle.ecma_token.specs.declared.token.TokenKind.TheVariants as kind
-use Rattle.ecma_token.specs.declared.operator.BinOpToken.TheVariants as binary
-use Rattle.ecma_token.specs.declared.operator.AssignOp.TheVariants as assign
-use Rattle.ecma_token.specs.Tokens.{SpecToken, Spot}
-use Rattle.ecma_lexing.specs.States.{Other, State, spot_at}
+use Rattle.base_token.specs.Kinds.{back_quote_kind, div_assign_kind, div_kind, dollar_brace_kind, template_kind}
+use Rattle.base_token.specs.declared.token.TokenKind.{TokenKind}
+use Rattle.base_token.specs.declared.token.TokenKind.TheVariants as kind
+use Rattle.base_token.specs.declared.operator.BinOpToken.TheVariants as binary
+use Rattle.base_token.specs.declared.operator.AssignOp.TheVariants as assign
+use Rattle.base_token.specs.Tokens.{SpecToken, Spot}
+use Rattle.lex_step_laws.specs.States.{Other, State, spot_at}
 
 -- Whether a token of the kind opens and closes nothing where nothing is open, and is no slash and no part of a template.
 abbrev pub is_quiet : ℕ → Bool

@@ -1,12 +1,12 @@
 -- What is known of a lexer from what a step answered.
 use Rattle.std.specs.Prelude.{◌≡◌, ℕ, Bool, List, Option, Some, Result, Ok, Err, option_map}
-use Rattle.ecma_token.specs.declared.error.Error.{Error}
-use Rattle.ecma_token.specs.declared.error.SyntaxError.TheVariants.{Memory}
-use Rattle.ecma_token.specs.declared.token.TokenAndSpan.{TokenAndSpan}
-use Rattle.ecma_token.specs.Tokens.{Spot}
-use Rattle.ecma_token_source.specs.Machine.{shown_spot}
-use Rattle.ecma_lexeme.specs.Lexemes.{SpecLexeme}
-use Rattle.ecma_lexing.specs.States.{State, behind, spot_at}
+use Rattle.base_token.specs.declared.error.Error.{Error}
+use Rattle.base_token.specs.declared.error.SyntaxError.TheVariants.{Memory}
+use Rattle.base_token.specs.declared.token.TokenAndSpan.{TokenAndSpan}
+use Rattle.base_token.specs.Tokens.{Spot}
+use Rattle.lex_source.specs.Machine.{shown_spot}
+use Rattle.lex_token.specs.Lexemes.{SpecLexeme}
+use Rattle.lex_step_laws.specs.States.{State, behind, spot_at}
 
 -- A step of this kind was made, or memory ran out.
 abbrev pub Steps : (Option Spot → State → Type 0) → Result (Option TokenAndSpan) Error → State → Type 0

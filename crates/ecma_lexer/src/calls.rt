@@ -1,18 +1,18 @@
 //! The lexer as a source of tokens.
 ghost use Rattle.std.specs.Borrow.{sem};
 ghost use Rattle.std.specs.Prelude.{◌≡◌, option_map, refl, IfErr, OnErr, OnOk};
-ghost use Rattle.ecma_token.specs.declared.error.SyntaxError.TheVariants.{Memory};
-ghost use Rattle.ecma_token_source.specs.Contexts.{outward};
-ghost use Rattle.ecma_token_source.specs.Settings as spec;
-ghost use Rattle.ecma_lexing.specs.States.{Text};
+ghost use Rattle.base_token.specs.declared.error.SyntaxError.TheVariants.{Memory};
+ghost use Rattle.lex_source.specs.Contexts.{outward};
+ghost use Rattle.lex_source.specs.Settings as spec;
+ghost use Rattle.lex_step_laws.specs.States.{Text};
 ghost use Rattle.ecma_lexer.specs.Lending.{lexer_with_open, LendsContexts};
 ghost use Rattle.ecma_lexer.specs.Lexer.{SameKept, state_in};
 ghost use Rattle.ecma_lexer.specs.Machine.{lexer_machine};
 
 use crate::lexer::Lexer;
-use ecma_scan::place::out_of_memory;
-use ecma_token::{BytePos, Context, Error, EsVersion, Syntax, TokenAndSpan};
-use ecma_token_source::{Look, TokenContexts, Tokens};
+use base_token::{BytePos, Context, Error, EsVersion, Syntax, TokenAndSpan};
+use lex_pieces::place::out_of_memory;
+use lex_source::{Look, TokenContexts, Tokens};
 
 impl<'a> Tokens<'a> for Lexer<'a> {
     ghost State = { Text };

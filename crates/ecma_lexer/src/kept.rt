@@ -1,25 +1,25 @@
 //! The comments that a lexer keeps.
 ghost use Rattle.std.specs.Prelude.{◌≡◌, ◌≤◌, ◌<◌, ℕ, [], map, option_map, length, true, false, IfErr, IfOk, MatchBool, is_none, OnOk, drop, take};
 ghost use Rattle.std.specs.Str.{chars};
-ghost use Rattle.ecma_token.specs.declared.error.SyntaxError.TheVariants.{Memory};
-ghost use Rattle.ecma_comments.specs.Comments.{IsSame, owned_comment};
-ghost use Rattle.ecma_comments.specs.Store.{leading_at, trailing_at};
+ghost use Rattle.base_token.specs.declared.error.SyntaxError.TheVariants.{Memory};
+ghost use Rattle.lex_comments.specs.Comments.{IsSame, owned_comment};
+ghost use Rattle.lex_comments.specs.Store.{leading_at, trailing_at};
 ghost use Rattle.ecma_lexer.specs.Kept.{AreAdded, AreKept, AreLeft, ArePassed, AreThere, EndsSlash, PassesTrivia, lead_place};
 ghost use Rattle.ecma_lexer.specs.Lexer.{state_in};
 ghost use Rattle.ecma_lexer.specs.Stepping.{Steps};
-ghost use Rattle.ecma_lexing.specs.States.{again};
-ghost use Rattle.ecma_lexing.specs.Steps.{IsStep};
-ghost use Rattle.ecma_token_source.specs.Machine.{SameTold, shown_spot};
-ghost use Rattle.ecma_token_source.specs.Settings.{settings_in};
+ghost use Rattle.lex_step_laws.specs.States.{again};
+ghost use Rattle.lex_step_laws.specs.Steps.{IsStep};
+ghost use Rattle.lex_source.specs.Machine.{SameTold, shown_spot};
+ghost use Rattle.lex_source.specs.Settings.{settings_in};
 
 use crate::last::Last;
 use crate::lexer::Lexer;
 use crate::step::{goal_of, part, template_goal};
-use ecma_comments::{Comment, Comments};
-use ecma_scan::place::out_of_memory;
-use ecma_scan::trivia::{Goal, Trivia, hashbang, trivia_piece};
-use ecma_scan::{Comment as Read, collect_trivia, punctuator};
-use ecma_token::{BytePos, Error, SyntaxError, TokenAndSpan};
+use base_token::{BytePos, Error, SyntaxError, TokenAndSpan};
+use lex_comments::{Comment, Comments};
+use lex_pieces::place::out_of_memory;
+use lex_pieces::trivia::{Goal, Trivia, hashbang, trivia_piece};
+use lex_pieces::{Comment as Read, collect_trivia, punctuator};
 use std::alloc::{AllocError, Global};
 
 /// Keeps comments as those that lead what begins at a place.

@@ -1,11 +1,11 @@
 //! What a lexer handed out last.
 ghost use Rattle.std.specs.Prelude.{◌≡◌, ◌≤◌, length};
 ghost use Rattle.std.specs.Str.{chars};
-ghost use Rattle.ecma_token.specs.TokenViews.{token_view};
-ghost use Rattle.ecma_lexing.specs.States.{is_start, last_after};
+ghost use Rattle.base_token.specs.TokenViews.{token_view};
+ghost use Rattle.lex_step_laws.specs.States.{is_start, last_after};
 ghost use Rattle.ecma_lexer.specs.Last.{back_bytes, last_view};
 
-use ecma_token::{AssignOp, BinOpToken, Token};
+use base_token::{AssignOp, BinOpToken, Token};
 
 /// What came last in a text that is read.
 #[derive(Clone, Copy, Debug)]

@@ -5,12 +5,12 @@ use crate::last::Last;
 use crate::quick::quiet_mark;
 use crate::step::goal_of;
 use crate::unread::Unread;
-use ecma_comments::Comments;
-use ecma_scan::bare_name;
-use ecma_scan::place::out_of_memory;
-use ecma_scan::trivia::skip_trivia;
-use ecma_token::{BytePos, Error, EsVersion, Syntax, TokenAndSpan};
-use ecma_token_source::Settings;
+use base_token::{BytePos, Error, EsVersion, Syntax, TokenAndSpan};
+use lex_comments::Comments;
+use lex_pieces::bare_name;
+use lex_pieces::place::out_of_memory;
+use lex_pieces::trivia::skip_trivia;
+use lex_source::Settings;
 use std::alloc::{AllocError, Global};
 
 /// A text that is read token after token.
@@ -29,11 +29,11 @@ impl<'a> Lexer<'a> {
     ghost use Rattle.ecma_lexer.specs.Kept.{IsEmpty, IsUntouched, KeepsAsAsked};
     ghost use Rattle.ecma_lexer.specs.Lexer.{comments_in, is_full, keeps_comments, state_in};
     ghost use Rattle.ecma_lexer.specs.Stepping.{Steps};
-    ghost use Rattle.ecma_lexing.specs.Steps.{IsStep};
-    ghost use Rattle.ecma_token.specs.declared.error.SyntaxError.TheVariants.{Memory};
-    ghost use Rattle.ecma_lexing.specs.States.{at_start_of};
-    ghost use Rattle.ecma_token_source.specs.Machine.{SameTold, shown_spot};
-    ghost use Rattle.ecma_token_source.specs.Settings.{settings_in};
+    ghost use Rattle.lex_step_laws.specs.Steps.{IsStep};
+    ghost use Rattle.base_token.specs.declared.error.SyntaxError.TheVariants.{Memory};
+    ghost use Rattle.lex_step_laws.specs.States.{at_start_of};
+    ghost use Rattle.lex_source.specs.Machine.{SameTold, shown_spot};
+    ghost use Rattle.lex_source.specs.Settings.{settings_in};
 
     /// A lexer at the start of a text, which begins at this place. It keeps the comments of the text where
     /// that is asked for.

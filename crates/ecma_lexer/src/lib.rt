@@ -10,7 +10,7 @@ mod quick;
 mod step;
 mod unread;
 
-pub use ecma_canonical::canonical_text;
-pub use ecma_scan::CharExt;
-pub use ecma_token_source::{Look, TokenContext, TokenContexts, Tokens};
+pub use lex_pieces::CharExt;
+pub use lex_source::canonical::canonical_text;
+pub use lex_source::{Look, TokenContext, TokenContexts, Tokens};
 pub use lexer::Lexer;

@@ -1,16 +1,16 @@
 //! Tokens that are looked at without going on.
 ghost use Rattle.std.specs.Prelude.{◌≡◌, Some, option_map, MatchResult};
-ghost use Rattle.ecma_token.specs.declared.error.SyntaxError.TheVariants.{Memory};
-ghost use Rattle.ecma_token_source.specs.Looks.{behind_by, seen};
-ghost use Rattle.ecma_token_source.specs.Machine.{shown_spot, told_of};
-ghost use Rattle.ecma_token_source.specs.Settings.{settings_in, with_next_regexp};
+ghost use Rattle.base_token.specs.declared.error.SyntaxError.TheVariants.{Memory};
+ghost use Rattle.lex_source.specs.Looks.{behind_by, seen};
+ghost use Rattle.lex_source.specs.Machine.{shown_spot, told_of};
+ghost use Rattle.lex_source.specs.Settings.{settings_in, with_next_regexp};
 ghost use Rattle.ecma_lexer.specs.Lexer.{state_in};
 ghost use Rattle.ecma_lexer.specs.Machine.{step_of};
 
 use crate::lexer::Lexer;
-use ecma_comments::Comments;
-use ecma_token::{BytePos, Error, TokenAndSpan};
-use ecma_token_source::{Look, Settings};
+use base_token::{BytePos, Error, TokenAndSpan};
+use lex_comments::Comments;
+use lex_source::{Look, Settings};
 
 impl<'a> Lexer<'a> {
     /// A lexer that stands where this one stands, told this. It keeps no comments, and takes no memory.

@@ -2,16 +2,16 @@
 //! nothing.
 ghost use Rattle.std.specs.Prelude.{◌≡◌, ◌<◌, ◌≤◌, [], false, true, is_err, length, option_map, IfOk, IfSome, IsErr, IsUtf8};
 ghost use Rattle.std.specs.Str.{chars};
-ghost use Rattle.ecma_token.specs.Tokens.{bare, word_token};
-ghost use Rattle.ecma_token.specs.TokenViews.{token_kind_number};
-ghost use Rattle.ecma_token.specs.Words.{word_of};
-ghost use Rattle.ecma_scan.specs.Punctuators.{IsPunctuator};
-ghost use Rattle.ecma_lexeme.specs.Marks.{is_mark};
-ghost use Rattle.ecma_lexeme.specs.declared.goal.LexicalGoal.TheVariants.{Div};
-ghost use Rattle.ecma_token_source.specs.Machine.{SameTold, shown_spot};
-ghost use Rattle.ecma_token_source.specs.Settings.{settings_in};
-ghost use Rattle.ecma_lexing.specs.States as spec;
-ghost use Rattle.ecma_lexing.specs.Steps.{IsRead, IsStep};
+ghost use Rattle.base_token.specs.Tokens.{bare, word_token};
+ghost use Rattle.base_token.specs.TokenViews.{token_kind_number};
+ghost use Rattle.base_token.specs.Words.{word_of};
+ghost use Rattle.lex_pieces.specs.Punctuators.{IsPunctuator};
+ghost use Rattle.lex_token.specs.Marks.{is_mark};
+ghost use Rattle.lex_token.specs.declared.goal.LexicalGoal.TheVariants.{Div};
+ghost use Rattle.lex_source.specs.Machine.{SameTold, shown_spot};
+ghost use Rattle.lex_source.specs.Settings.{settings_in};
+ghost use Rattle.lex_step_laws.specs.States as spec;
+ghost use Rattle.lex_step_laws.specs.Steps.{IsRead, IsStep};
 ghost use Rattle.ecma_lexer.specs.Kept.{KeepsAsAsked};
 ghost use Rattle.ecma_lexer.specs.Lexer.{comments_in, is_full, keeps_comments, state_in};
 ghost use Rattle.ecma_lexer.specs.Quick.{IsHanded, is_quiet_mark, passed};
@@ -20,12 +20,12 @@ ghost use Rattle.ecma_lexer.specs.Stepping.{Steps};
 use crate::last::Last;
 use crate::lexer::Lexer;
 use crate::step::part;
-use ecma_lexeme::{LexicalGoal, mark_token};
-use ecma_scan::place::out_of_memory;
-use ecma_scan::punctuator;
-use ecma_token::operator::{AssignOp, BinOpToken};
-use ecma_token::token::TokenKind;
-use ecma_token::{Error, Token, TokenAndSpan, Word};
+use base_token::operator::{AssignOp, BinOpToken};
+use base_token::token::TokenKind;
+use base_token::{Error, Token, TokenAndSpan, Word};
+use lex_pieces::place::out_of_memory;
+use lex_pieces::punctuator;
+use lex_token::{LexicalGoal, mark_token};
 
 /// Whether a punctuator opens and closes nothing where nothing is open, and is no slash.
 #[inline(always)]

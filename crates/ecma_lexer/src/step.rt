@@ -1,25 +1,25 @@
 //! One step of a lexer.
 ghost use Rattle.std.specs.Prelude.{◌≡◌, ◌≢◌, ◌++◌, ◌<◌, ◌≤◌, Ok, Some, length, option_map, IfErr, IfOk, IfSome, IsUtf8, MatchBool, OnErr, OnOk};
 ghost use Rattle.std.specs.Str.{chars};
-ghost use Rattle.ecma_token.specs.declared.error.SyntaxError.TheVariants.{Memory};
-ghost use Rattle.ecma_token.specs.TokenViews.{token_view};
-ghost use Rattle.ecma_lexeme.specs.Readings.{lexeme_view};
-ghost use Rattle.ecma_token_source.specs.Contexts.{outward};
-ghost use Rattle.ecma_token_source.specs.Machine.{SameTold, shown_spot};
-ghost use Rattle.ecma_token_source.specs.Settings.{settings_in};
-ghost use Rattle.ecma_lexing.specs.States as spec;
-ghost use Rattle.ecma_lexing.specs.Steps as steps;
+ghost use Rattle.base_token.specs.declared.error.SyntaxError.TheVariants.{Memory};
+ghost use Rattle.base_token.specs.TokenViews.{token_view};
+ghost use Rattle.lex_token.specs.Readings.{lexeme_view};
+ghost use Rattle.lex_source.specs.Contexts.{outward};
+ghost use Rattle.lex_source.specs.Machine.{SameTold, shown_spot};
+ghost use Rattle.lex_source.specs.Settings.{settings_in};
+ghost use Rattle.lex_step_laws.specs.States as spec;
+ghost use Rattle.lex_step_laws.specs.Steps as steps;
 ghost use Rattle.ecma_lexer.specs.Last.{last_view};
 ghost use Rattle.ecma_lexer.specs.Lexer.{state_in};
 ghost use Rattle.ecma_lexer.specs.Stepping.{IsTaken, Steps};
 
 use crate::last::Last;
 use crate::lexer::Lexer;
-use ecma_lexeme::{Lexeme, LexicalGoal, read_token};
-use ecma_scan::place::{out_of_memory, span};
-use ecma_scan::trivia::{Goal, hashbang, skip_trivia};
-use ecma_token::{BytePos, Context, Error, Span, SyntaxError, Token, TokenAndSpan};
-use ecma_token_source::{Settings, TokenContext, TokenContexts};
+use base_token::{BytePos, Context, Error, Span, SyntaxError, Token, TokenAndSpan};
+use lex_pieces::place::{out_of_memory, span};
+use lex_pieces::trivia::{Goal, hashbang, skip_trivia};
+use lex_source::{Settings, TokenContext, TokenContexts};
+use lex_token::{Lexeme, LexicalGoal, read_token};
 use std::alloc::AllocError;
 
 /// The goal symbol of a text.

@@ -14,7 +14,7 @@ pub(crate) struct Unread<'a> {
 impl<'a> Model for Unread<'a> {
     ghost use Rattle.std.specs.Prelude.{◌<◌, length};
     ghost use Rattle.std.specs.Str.{chars};
-    ghost use Rattle.ecma_lexing.specs.States.{Text};
+    ghost use Rattle.lex_step_laws.specs.States.{Text};
     ghost use Rattle.ecma_lexer.specs.Last.{BackFits, last_view};
 
     ghost Value = { Text };

@@ -1,15 +1,15 @@
 -- What an entry answers beside what is read.
 use Rattle.std.specs.Prelude.{◌≡◌, ◌≢◌, ℕ, ◌≤◌, ◌++◌, List, Result, Ok, Err}
-use Rattle.ecma_token.specs.declared.error.Error.{Error}
-use Rattle.ecma_token.specs.declared.error.SyntaxError.{SyntaxError}
-use Rattle.ecma_token.specs.declared.error.SyntaxError.TheVariants as kinds
-use Rattle.ecma_token.specs.declared.syntax.EsSyntax.{EsSyntax}
-use Rattle.ecma_tree.specs.Tree.{Tree}
-use Rattle.ecma_early.specs.Early.{early_errors}
-use Rattle.ecma_syntax.specs.Input.{lo}
-use Rattle.ecma_reading.specs.Source.{Fault, Unexpected, TooDeep, Stream, State, bound, input}
-use Rattle.ecma_parse_state.specs.declared.failure.Failure.{Failure}
-use Rattle.ecma_parse_state.specs.Answers.{Fails}
+use Rattle.base_token.specs.declared.error.Error.{Error}
+use Rattle.base_token.specs.declared.error.SyntaxError.{SyntaxError}
+use Rattle.base_token.specs.declared.error.SyntaxError.TheVariants as kinds
+use Rattle.base_token.specs.declared.syntax.EsSyntax.{EsSyntax}
+use Rattle.tree_spec.specs.Tree.{Tree}
+use Rattle.grammar_spec.specs.Judge.Early.{early_errors}
+use Rattle.grammar_spec.specs.Tokens.Input.{lo}
+use Rattle.grammar_spec.specs.Reader.Source.{Fault, Unexpected, TooDeep, Stream, State, bound, input}
+use Rattle.parse_state.specs.declared.failure.Failure.{Failure}
+use Rattle.parse_state.specs.Answers.{Fails}
 
 -- An entry answers a fault of this kind, where so many tokens may come: too deep where reading is, another kind where nothing is read, and there that is found.
 -- Of want of memory nothing is said.

@@ -1,12 +1,12 @@
 -- Which of script and module a text is parsed as where neither is said.
 use Rattle.std.specs.Prelude.{◌≡◌, ◌⊎◌, ℕ, true, List, [], Result, Ok, Err}
-use Rattle.ecma_token.specs.declared.error.Error.{Error}
-use Rattle.ecma_token.specs.declared.error.SyntaxError.TheVariants as kinds
-use Rattle.ecma_token.specs.declared.syntax.EsSyntax.{EsSyntax}
-use Rattle.ecma_tree.specs.Tree.{Tree}
-use Rattle.ecma_early.specs.Early.{early_errors}
-use Rattle.ecma_reading.specs.Source.{Fault}
-use Rattle.ecma_program_text.specs.Choice.{tells_module}
+use Rattle.base_token.specs.declared.error.Error.{Error}
+use Rattle.base_token.specs.declared.error.SyntaxError.TheVariants as kinds
+use Rattle.base_token.specs.declared.syntax.EsSyntax.{EsSyntax}
+use Rattle.tree_spec.specs.Tree.{Tree}
+use Rattle.grammar_spec.specs.Judge.Early.{early_errors}
+use Rattle.grammar_spec.specs.Reader.Source.{Fault}
+use Rattle.judge_is_module.specs.Choice.{tells_module}
 use Rattle.ecma_parser.specs.Answers.{Parses}
 
 -- A module is meant: what is read as one has no early error, and tells that it is one.

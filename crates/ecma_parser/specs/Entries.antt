@@ -1,17 +1,17 @@
 -- A parser as a user holds it.
 use Rattle.std.specs.Prelude.{◌≡◌, ℕ, true, List, [], Option, None, Some, option_map, Result, IfOk, if◌then◌else◌}
-use Rattle.ecma_token.specs.declared.context.Context.{Context}
-use Rattle.ecma_token.specs.declared.error.Error.{Error}
-use Rattle.ecma_token.specs.declared.syntax.EsSyntax.{EsSyntax}
-use Rattle.ecma_token.specs.Dialect.{parts_of}
-use Rattle.ecma_token_source.specs.Machine as tokens
-use Rattle.ecma_token_source.specs.Machine.{Source, shown_spot}
-use Rattle.ecma_input.specs.Rewinding.{back_in}
-use Rattle.ecma_input.specs.declared.rewinding.Rewinding.{Rewinding}
-use Rattle.ecma_reading.specs.Source.{State}
-use Rattle.ecma_parse_state.specs.Cursors.{Cursor, read_on, told_of}
-use Rattle.ecma_parse_state.specs.States.{state_of}
-use Rattle.ecma_parse_state.specs.declared.parser.Parser.{Parser}
+use Rattle.base_token.specs.declared.context.Context.{Context}
+use Rattle.base_token.specs.declared.error.Error.{Error}
+use Rattle.base_token.specs.declared.syntax.EsSyntax.{EsSyntax}
+use Rattle.base_token.specs.Dialect.{parts_of}
+use Rattle.lex_source.specs.Machine as tokens
+use Rattle.lex_source.specs.Machine.{Source, shown_spot}
+use Rattle.lex_other_sources.specs.Rewinding.{back_in}
+use Rattle.lex_other_sources.specs.declared.rewinding.Rewinding.{Rewinding}
+use Rattle.grammar_spec.specs.Reader.Source.{State}
+use Rattle.parse_state.specs.Cursors.{Cursor, read_on, told_of}
+use Rattle.parse_state.specs.States.{state_of}
+use Rattle.parse_state.specs.declared.parser.Parser.{Parser}
 use Rattle.ecma_parser.specs.declared.entries.Entries.{Entries}
 
 -- the source of tokens, which stands behind the token that comes where one was read

@@ -1,17 +1,17 @@
 -- What the entries for parts of programs answer.
 use Rattle.std.specs.Prelude.{◌≡◌, ◌++◌, ℕ, List, Result, Ok, Err}
-use Rattle.ecma_token.specs.declared.context.Context.{Context}
-use Rattle.ecma_token.specs.declared.error.Error.{Error}
-use Rattle.ecma_token_source.specs.Machine as tokens
-use Rattle.ecma_token_source.specs.Machine.{Source}
-use Rattle.ecma_input.specs.declared.rewinding.Rewinding.{Rewinding}
-use Rattle.ecma_tree.specs.Tree.{Tree}
-use Rattle.ecma_syntax.specs.Input.{Code, script_code, module_code}
-use Rattle.ecma_reading.specs.Source.{Fault, ◌>>=◌, Stream, State, Read, bound, retold}
-use Rattle.ecma_parse_state.specs.Answers.{Fails}
-use Rattle.ecma_parse_state.specs.Cursors.{Cursor}
-use Rattle.ecma_parse_state.specs.declared.failure.Failure.{Failure}
-use Rattle.ecma_parse_state.specs.declared.parser.Parser.{Parser}
+use Rattle.base_token.specs.declared.context.Context.{Context}
+use Rattle.base_token.specs.declared.error.Error.{Error}
+use Rattle.lex_source.specs.Machine as tokens
+use Rattle.lex_source.specs.Machine.{Source}
+use Rattle.lex_other_sources.specs.declared.rewinding.Rewinding.{Rewinding}
+use Rattle.tree_spec.specs.Tree.{Tree}
+use Rattle.grammar_spec.specs.Tokens.Input.{Code, script_code, module_code}
+use Rattle.grammar_spec.specs.Reader.Source.{Fault, ◌>>=◌, Stream, State, Read, bound, retold}
+use Rattle.parse_state.specs.Answers.{Fails}
+use Rattle.parse_state.specs.Cursors.{Cursor}
+use Rattle.parse_state.specs.declared.failure.Failure.{Failure}
+use Rattle.parse_state.specs.declared.parser.Parser.{Parser}
 use Rattle.ecma_parser.specs.declared.entries.Entries.{Entries}
 use Rattle.ecma_parser.specs.Answers.{Refuses}
 use Rattle.ecma_parser.specs.Entries.{limit_in, opened, syntax_in}

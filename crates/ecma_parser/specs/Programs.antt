@@ -1,14 +1,14 @@
 -- What the entries for programs read.
 use Rattle.std.specs.Prelude.{true, false, Result}
-use Rattle.ecma_token_source.specs.Machine as tokens
-use Rattle.ecma_token_source.specs.Machine.{Source}
-use Rattle.ecma_input.specs.declared.rewinding.Rewinding.{Rewinding}
-use Rattle.ecma_tree.specs.Tree.{Tree}
-use Rattle.ecma_syntax.specs.Input.{script_code, module_code}
-use Rattle.ecma_reading.specs.Source.{Fault, State}
-use Rattle.ecma_parse_state.specs.Cursors.{Cursor, stream_of}
-use Rattle.ecma_parse_state.specs.declared.parser.Parser.{Parser}
-use Rattle.ecma_parse_parts.specs.Within.{program_within}
+use Rattle.lex_source.specs.Machine as tokens
+use Rattle.lex_source.specs.Machine.{Source}
+use Rattle.lex_other_sources.specs.declared.rewinding.Rewinding.{Rewinding}
+use Rattle.tree_spec.specs.Tree.{Tree}
+use Rattle.grammar_spec.specs.Tokens.Input.{script_code, module_code}
+use Rattle.grammar_spec.specs.Reader.Source.{Fault, State}
+use Rattle.parse_state.specs.Cursors.{Cursor, stream_of}
+use Rattle.parse_state.specs.declared.parser.Parser.{Parser}
+use Rattle.parse_alone.specs.Within.{program_within}
 use Rattle.ecma_parser.specs.declared.entries.Entries.{Entries}
 use Rattle.ecma_parser.specs.Entries.{limit_in, opened, syntax_in}
 

@@ -1,11 +1,11 @@
 //! A program that is not said to be a script or a module: it is parsed as a module where it tells that it is one.
 ghost use Rattle.std.specs.Prelude.{◌≡◌, false, true, IfOk, IfSome, MatchOption, MatchResult};
-ghost use Rattle.ecma_node.specs.Fits.{fits_module};
-ghost use Rattle.ecma_node.specs.Placed.{inner};
-ghost use Rattle.ecma_node.specs.View.{view_module};
-ghost use Rattle.ecma_reading.specs.Source as spec;
-ghost use Rattle.ecma_parse_state.specs.Answers.{IsMemory};
-ghost use Rattle.ecma_parse_state.specs.Cursors.{stream_of};
+ghost use Rattle.tree_nodes.specs.Fits.{fits_module};
+ghost use Rattle.tree_nodes.specs.Placed.{inner};
+ghost use Rattle.tree_nodes.specs.View.{view_module};
+ghost use Rattle.grammar_spec.specs.Reader.Source as spec;
+ghost use Rattle.parse_state.specs.Answers.{IsMemory};
+ghost use Rattle.parse_state.specs.Cursors.{stream_of};
 ghost use Rattle.ecma_parser.specs.Answers.{StayRead};
 ghost use Rattle.ecma_parser.specs.Choice.{Chooses, IsMeant, NotMeant};
 ghost use Rattle.ecma_parser.specs.Entries.{Keeps, ctx_in, faults_in, limit_in, stood, syntax_in};
@@ -13,10 +13,10 @@ ghost use Rattle.ecma_parser.specs.Programs.{module_read, script_read, script_st
 
 use crate::entries::{Entries, Reading};
 use crate::faults::{PResult, told};
-use ecma_goal::tells_module;
-use ecma_node::{Module, Program, ProgramKind};
-use ecma_parse_state::Failure;
-use ecma_token_source::Tokens;
+use judge_is_module::tells_module;
+use lex_source::Tokens;
+use parse_state::Failure;
+use tree_nodes::{Module, Program, ProgramKind};
 
 impl<'a, I: Tokens<'a> + Drop> Entries<Reading<'a, I>> {
     /// The rest of the source as a module, where that reading has no early error and holds an import, an export or,

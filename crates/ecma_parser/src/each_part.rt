@@ -1,16 +1,16 @@
 //! What is the same for each part of a program that is read alone, whatever its rule.
 ghost use Rattle.std.specs.Prelude.{◌≡◌, ◌<◌, ℕ, List, true, IfOk};
-ghost use Rattle.ecma_token.specs.declared.error.Error.{Error};
-ghost use Rattle.ecma_token.specs.declared.syntax.EsSyntax.{EsSyntax};
-ghost use Rattle.ecma_token_source.specs.Machine.{Machine};
-ghost use Rattle.ecma_tree.specs.Tree.{Tree};
-ghost use Rattle.ecma_syntax.specs.Input.{Code};
-ghost use Rattle.ecma_reading.specs.Source.{Read};
-ghost use Rattle.ecma_reading.specs.Source as spec;
-ghost use Rattle.ecma_parse_state.specs.Answers.{Gives, Stays};
-ghost use Rattle.ecma_parse_state.specs.Codes.{code_of};
-ghost use Rattle.ecma_parse_state.specs.Cursors.{Cursor, stream_of};
-ghost use Rattle.ecma_parse_state.specs.States.{state_of};
+ghost use Rattle.base_token.specs.declared.error.Error.{Error};
+ghost use Rattle.base_token.specs.declared.syntax.EsSyntax.{EsSyntax};
+ghost use Rattle.lex_source.specs.Machine.{Machine};
+ghost use Rattle.tree_spec.specs.Tree.{Tree};
+ghost use Rattle.grammar_spec.specs.Tokens.Input.{Code};
+ghost use Rattle.grammar_spec.specs.Reader.Source.{Read};
+ghost use Rattle.grammar_spec.specs.Reader.Source as spec;
+ghost use Rattle.parse_state.specs.Answers.{Gives, Stays};
+ghost use Rattle.parse_state.specs.Codes.{code_of};
+ghost use Rattle.parse_state.specs.Cursors.{Cursor, stream_of};
+ghost use Rattle.parse_state.specs.States.{state_of};
 ghost use Rattle.ecma_parser.specs.Answers.{StayRead};
 ghost use Rattle.ecma_parser.specs.Entries.{Keeps, ctx_in, faults_in, limit_in, stood, syntax_in};
 ghost use Rattle.ecma_parser.specs.Parts.{ParsesPart, ReadsPart, script_part};
@@ -18,10 +18,10 @@ ghost use Rattle.ecma_parser.specs.Programs.{script_start};
 
 use crate::entries::{Entries, Reading};
 use crate::faults::{PResult, told};
-use ecma_input::Rewinding;
-use ecma_parse_state::{Around, Failure, Parser};
-use ecma_token::{Error, EsSyntax};
-use ecma_token_source::Tokens;
+use base_token::{Error, EsSyntax};
+use lex_other_sources::Rewinding;
+use lex_source::Tokens;
+use parse_state::{Around, Failure, Parser};
 use std::alloc::{AllocError, Global};
 
 /// A rule whose part is read alone, in a script's code.

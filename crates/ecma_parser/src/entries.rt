@@ -1,21 +1,21 @@
 //! A parser as a user holds it.
 ghost use Rattle.std.specs.Prelude.{◌≡◌, ◌<◌, ◌+◌, ◌^◌, [], false, true, length, min, option_map, IfErr, IfOk, OnOk};
 ghost use Rattle.std.specs.Str.{chars};
-ghost use Rattle.ecma_token.specs.declared.error.SyntaxError.TheVariants.{Memory};
-ghost use Rattle.ecma_token.specs.declared.version.EsVersion.TheVariants.{EsNext};
-ghost use Rattle.ecma_token_source.specs.Machine.{shown_spot};
-ghost use Rattle.ecma_lexing.specs.States.{at_start_of};
+ghost use Rattle.base_token.specs.declared.error.SyntaxError.TheVariants.{Memory};
+ghost use Rattle.base_token.specs.declared.version.EsVersion.TheVariants.{EsNext};
+ghost use Rattle.lex_source.specs.Machine.{shown_spot};
+ghost use Rattle.ecma_lexer.specs.States.{at_start_of};
 ghost use Rattle.ecma_lexer.specs.Lexer.{state_in};
-ghost use Rattle.ecma_parse_state.specs.Answers.{IsMemory};
-ghost use Rattle.ecma_parse_state.specs.Cursors.{told_of};
+ghost use Rattle.parse_state.specs.Answers.{IsMemory};
+ghost use Rattle.parse_state.specs.Cursors.{told_of};
 
-use ecma_input::Rewinding;
+use base_token::{BytePos, Context, Error, EsVersion, Syntax, TokenAndSpan};
 use ecma_lexer::Lexer;
-use ecma_parse_state::Failure;
-use ecma_parse_state::ahead::Ahead;
-use ecma_token::{BytePos, Context, Error, EsVersion, Syntax, TokenAndSpan};
-use ecma_token_source::Tokens;
-use ecma_token_source::settings::out_of_memory;
+use lex_other_sources::Rewinding;
+use lex_source::Tokens;
+use lex_source::settings::out_of_memory;
+use parse_state::Failure;
+use parse_state::ahead::Ahead;
 use std::alloc::{AllocError, Global};
 use std::mem;
 
@@ -34,7 +34,7 @@ pub struct Entries<P> {
 }
 
 /// What a parser over a source of tokens reads from.
-pub(crate) type Reading<'a, I> = ecma_parse_state::Parser<'a, Rewinding<I>>;
+pub(crate) type Reading<'a, I> = parse_state::Parser<'a, Rewinding<I>>;
 
 /// A parser over a source of tokens.
 pub type Parser<'a, I> = Entries<Reading<'a, I>>;
@@ -69,7 +69,7 @@ impl<'a, I: Tokens<'a> + Drop> Entries<Reading<'a, I>> {
         ensures started { result.started ≡ false }
     {
         Entries {
-            reading: ecma_parse_state::Parser {
+            reading: parse_state::Parser {
                 alloc,
                 input: Rewinding::new(input),
                 ahead: Ahead::new(None),
@@ -192,7 +192,7 @@ impl<'a, I: Tokens<'a> + Drop> Entries<Reading<'a, I>> {
         let input = self.reading.input.copied()?;
         let (ahead, commas, faults) = self.copied().map_err(out_of_memory)?;
         Ok(Entries {
-            reading: ecma_parse_state::Parser {
+            reading: parse_state::Parser {
                 alloc: self.reading.alloc,
                 input,
                 ahead,

@@ -1,11 +1,11 @@
 //! Why nothing was parsed, as a user is told.
 ghost use Rattle.std.specs.Prelude.{◌≡◌, ◌≤◌};
-ghost use Rattle.ecma_token.specs.declared.error.SyntaxError.TheVariants.{Memory};
-ghost use Rattle.ecma_parse_state.specs.Answers.{IsMemory};
+ghost use Rattle.base_token.specs.declared.error.SyntaxError.TheVariants.{Memory};
+ghost use Rattle.parse_state.specs.Answers.{IsMemory};
 ghost use Rattle.ecma_parser.specs.Answers.{Tells};
 
-use ecma_parse_state::Failure;
-use ecma_token::{BytePos, DUMMY_SP, Error, Span, SyntaxError};
+use base_token::{BytePos, DUMMY_SP, Error, Span, SyntaxError};
+use parse_state::Failure;
 
 /// What an entry answers. After an Err that is not want of memory the parser stands where reading found that: what was taken
 /// stays taken, and no token is taken that doesn't fit.

@@ -10,9 +10,10 @@ pub mod parts;
 pub mod programs;
 mod rules;
 
-pub use ecma_input::{Capturing, TokensInput};
-pub use ecma_parse_parts::{OutputType, PatType};
-pub use ecma_parse_state::Failure;
+pub use ecma_lexer::Lexer;
 pub use entries::{Entries, Parser};
 pub use faults::PResult;
+pub use lex_other_sources::{Capturing, TokensInput};
 pub use object::ParseObject;
+pub use parse_alone::{OutputType, PatType};
+pub use parse_state::Failure;

@@ -1,14 +1,14 @@
 //! Objects, as expressions and as patterns: their properties, and what is made of them.
 ghost use Rattle.std.specs.Prelude.{◌≡◌, ◌≢◌, Bool, List, Option, true, false, All, IfErr, IfOk, map};
-ghost use Rattle.ecma_token.specs.declared.error.SyntaxError.TheVariants.{Memory};
-ghost use Rattle.ecma_token.specs.declared.place.Span.{Span};
-ghost use Rattle.ecma_tree.specs.Tree.{Tree, object_lit, object_pat, trees_by};
-ghost use Rattle.ecma_node.specs.Fits.{fits_object_pat_prop, fits_prop_or_spread};
-ghost use Rattle.ecma_node.specs.Placed.{holds_expr, holds_pat, inner};
-ghost use Rattle.ecma_node.specs.View.{view_object_pat_prop, view_prop_or_spread};
-ghost use Rattle.ecma_early.specs.Early.{early_errors};
-ghost use Rattle.ecma_parse_state.specs.Cursors.{stream_of};
-ghost use Rattle.ecma_parse_parts.specs.Props as reads;
+ghost use Rattle.base_token.specs.declared.error.SyntaxError.TheVariants.{Memory};
+ghost use Rattle.base_token.specs.declared.place.Span.{Span};
+ghost use Rattle.tree_spec.specs.Tree.{Tree, object_lit, object_pat, trees_by};
+ghost use Rattle.tree_nodes.specs.Fits.{fits_object_pat_prop, fits_prop_or_spread};
+ghost use Rattle.tree_nodes.specs.Placed.{holds_expr, holds_pat, inner};
+ghost use Rattle.tree_nodes.specs.View.{view_object_pat_prop, view_prop_or_spread};
+ghost use Rattle.grammar_spec.specs.Judge.Early.{early_errors};
+ghost use Rattle.parse_state.specs.Cursors.{stream_of};
+ghost use Rattle.parse_alone.specs.Props as reads;
 ghost use Rattle.ecma_parser.specs.Answers.{StayRead};
 ghost use Rattle.ecma_parser.specs.Entries.{Keeps, ctx_in, faults_in, stood, syntax_in};
 ghost use Rattle.ecma_parser.specs.Parts.{ParsesPart, script_part};
@@ -17,13 +17,13 @@ ghost use Rattle.ecma_parser.specs.Programs.{script_start};
 use crate::entries::{Entries, Reading};
 use crate::faults::PResult;
 use crate::rules::{PatternProperty, Property};
-use ecma_node::{
+use base_token::{Error, Span, SyntaxError};
+use lex_source::Tokens;
+use lex_source::settings::out_of_memory;
+use tree_nodes::{
     Expr, ExprBox, ExprKind, ObjectLit, ObjectPat, ObjectPatProp, Pat, PatBox, PatKind,
     PropOrSpread,
 };
-use ecma_token::{Error, Span, SyntaxError};
-use ecma_token_source::Tokens;
-use ecma_token_source::settings::out_of_memory;
 
 /// How objects of a sort are parsed, as expressions or as patterns.
 pub trait ParseObject<Obj> {

@@ -1,20 +1,20 @@
 //! Parts of programs: expressions, patterns, parameters, keys, statements and items.
 ghost use Rattle.std.specs.Prelude.{◌≡◌, ◌++◌, true, All, IfErr, IfOk, MatchResult, OnOk};
-ghost use Rattle.ecma_tree.specs.Tree.{list, trees_by};
-ghost use Rattle.ecma_node.specs.Fits.{fits_module_item, fits_param, fits_prop_name};
-ghost use Rattle.ecma_node.specs.Placed.{holds_expr, holds_pat, holds_stmt, inner};
-ghost use Rattle.ecma_node.specs.View.{view_module_item, view_param, view_prop_name};
-ghost use Rattle.ecma_syntax.specs.Input.{module_code, script_code};
-ghost use Rattle.ecma_syntax.specs.Operators.{assignment_level, expression_level};
-ghost use Rattle.ecma_early.specs.Early.{early_errors, outermost};
-ghost use Rattle.ecma_early.specs.Early as early;
-ghost use Rattle.ecma_program_text.specs.Items as program;
-ghost use Rattle.ecma_reading.specs.Source as spec;
-ghost use Rattle.ecma_parse_state.specs.Answers.{IsMemory, Stays};
-ghost use Rattle.ecma_parse_state.specs.Codes.{code_of};
-ghost use Rattle.ecma_parse_state.specs.Cursors.{stream_of};
-ghost use Rattle.ecma_parse_parts.specs.Items as items;
-ghost use Rattle.ecma_parse_parts.specs.Parts as reads;
+ghost use Rattle.tree_spec.specs.Tree.{list, trees_by};
+ghost use Rattle.tree_nodes.specs.Fits.{fits_module_item, fits_param, fits_prop_name};
+ghost use Rattle.tree_nodes.specs.Placed.{holds_expr, holds_pat, holds_stmt, inner};
+ghost use Rattle.tree_nodes.specs.View.{view_module_item, view_param, view_prop_name};
+ghost use Rattle.grammar_spec.specs.Tokens.Input.{module_code, script_code};
+ghost use Rattle.grammar_spec.specs.Tokens.Operators.{assignment_level, expression_level};
+ghost use Rattle.grammar_spec.specs.Judge.Early.{early_errors, outermost};
+ghost use Rattle.grammar_spec.specs.Judge.Early as early;
+ghost use Rattle.judge_is_module.specs.Items as program;
+ghost use Rattle.grammar_spec.specs.Reader.Source as spec;
+ghost use Rattle.parse_state.specs.Answers.{IsMemory, Stays};
+ghost use Rattle.parse_state.specs.Codes.{code_of};
+ghost use Rattle.parse_state.specs.Cursors.{stream_of};
+ghost use Rattle.parse_alone.specs.Items as items;
+ghost use Rattle.parse_alone.specs.Parts as reads;
 ghost use Rattle.ecma_parser.specs.Answers.{StayRead};
 ghost use Rattle.ecma_parser.specs.Entries.{Keeps, ctx_in, faults_in, limit_in, stood, syntax_in};
 ghost use Rattle.ecma_parser.specs.Parts.{ParsesPart, ReadsPart, module_part, script_part};
@@ -24,13 +24,13 @@ use crate::entries::{Entries, Reading};
 use crate::faults::{PResult, told};
 use crate::programs::{in_module, in_script};
 use crate::rules::{Binding, Expression, Key, ListItem, Parameters, Statement};
-use ecma_early_errors::part_errors;
-use ecma_node::{ExprBox, ModuleItem, Param, PatBox, PropName, StmtBox};
-use ecma_parse_parts::items::module_item_part;
-use ecma_parse_state::operators::{ASSIGNMENT, EXPRESSION};
-use ecma_parse_state::{Around, Failure};
-use ecma_token::{Context, Error, Syntax};
-use ecma_token_source::Tokens;
+use base_token::{Context, Error, Syntax};
+use judge::part_errors;
+use lex_source::Tokens;
+use parse_alone::items::module_item_part;
+use parse_state::operators::{ASSIGNMENT, EXPRESSION};
+use parse_state::{Around, Failure};
+use tree_nodes::{ExprBox, ModuleItem, Param, PatBox, PropName, StmtBox};
 
 impl<'a, I: Tokens<'a> + Drop> Entries<Reading<'a, I>> {
     /// An expression (ECMA-262, 13.16), as in a script, up to what doesn't go on with it. Its early errors are recorded.
@@ -206,7 +206,7 @@ impl<'a, I: Tokens<'a> + Drop> Entries<Reading<'a, I>> {
     }
 
     /// Tells the source of the code again that it was told before.
-    #[tactic(auto, unfolding(ecma_parse_state::specs::Cursors::stream_of))]
+    #[tactic(auto, unfolding(parse_state::specs::Cursors::stream_of))]
     pub(crate) fn leave(&mut self, before: Context)
         ensures stand { stood I.state self.new ≡ spec.retold (stream_of I.machine) before (stood I.state self.old) }
         ensures context { ctx_in I.state self.new ≡ before }

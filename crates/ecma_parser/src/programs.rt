@@ -1,25 +1,25 @@
 //! Whole scripts and modules (ECMA-262, clause 16).
 ghost use Rattle.std.specs.Prelude.{◌≡◌, false, true, IfOk};
-ghost use Rattle.ecma_node.specs.Fits.{fits_module, fits_script};
-ghost use Rattle.ecma_node.specs.Placed.{inner};
-ghost use Rattle.ecma_node.specs.View.{view_module, view_script};
-ghost use Rattle.ecma_syntax.specs.Input.{module_code, script_code};
-ghost use Rattle.ecma_reading.specs.Source as spec;
-ghost use Rattle.ecma_parse_state.specs.Answers.{Stays};
-ghost use Rattle.ecma_parse_state.specs.Codes.{code_of};
-ghost use Rattle.ecma_parse_state.specs.Cursors.{stream_of};
+ghost use Rattle.tree_nodes.specs.Fits.{fits_module, fits_script};
+ghost use Rattle.tree_nodes.specs.Placed.{inner};
+ghost use Rattle.tree_nodes.specs.View.{view_module, view_script};
+ghost use Rattle.grammar_spec.specs.Tokens.Input.{module_code, script_code};
+ghost use Rattle.grammar_spec.specs.Reader.Source as spec;
+ghost use Rattle.parse_state.specs.Answers.{Stays};
+ghost use Rattle.parse_state.specs.Codes.{code_of};
+ghost use Rattle.parse_state.specs.Cursors.{stream_of};
 ghost use Rattle.ecma_parser.specs.Answers.{Parses, ReadsProgram, StayRead};
 ghost use Rattle.ecma_parser.specs.Entries.{Keeps, faults_in, limit_in, stood, syntax_in};
 ghost use Rattle.ecma_parser.specs.Programs.{module_read, module_start, script_read, script_start};
 
 use crate::entries::{Entries, Reading};
 use crate::faults::{PResult, told};
-use ecma_early_errors::{module_errors, script_errors};
-use ecma_node::{Module, Script};
-use ecma_parse_parts::programs::{module_within, script_within};
-use ecma_parse_state::{Around, Failure};
-use ecma_token::{Context, EsSyntax, Syntax};
-use ecma_token_source::Tokens;
+use base_token::{Context, EsSyntax, Syntax};
+use judge::{module_errors, script_errors};
+use lex_source::Tokens;
+use parse_alone::programs::{module_within, script_within};
+use parse_state::{Around, Failure};
+use tree_nodes::{Module, Script};
 
 /// The code around a script's tokens.
 pub(crate) fn in_script(syntax: EsSyntax) -> Around

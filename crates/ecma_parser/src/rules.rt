@@ -1,30 +1,30 @@
 //! The rules whose parts are read alone in a script's code: expressions, bindings, parameters, keys, statements and
 //! properties.
 ghost use Rattle.std.specs.Prelude.{◌≡◌, All, IfOk};
-ghost use Rattle.ecma_tree.specs.Tree.{list, trees_by};
-ghost use Rattle.ecma_node.specs.Fits.{fits_object_pat_prop, fits_param, fits_prop_name, fits_prop_or_spread};
-ghost use Rattle.ecma_node.specs.Placed.{holds_expr, holds_pat, holds_stmt, inner};
-ghost use Rattle.ecma_node.specs.View.{view_object_pat_prop, view_param, view_prop_name, view_prop_or_spread};
-ghost use Rattle.ecma_early.specs.Early.{early_errors};
-ghost use Rattle.ecma_program_text.specs.Items as program;
-ghost use Rattle.ecma_parse_state.specs.Cursors.{stream_of};
-ghost use Rattle.ecma_parse_parts.specs.Items as items;
-ghost use Rattle.ecma_parse_parts.specs.Parts as parts;
-ghost use Rattle.ecma_parse_parts.specs.Props as props;
+ghost use Rattle.tree_spec.specs.Tree.{list, trees_by};
+ghost use Rattle.tree_nodes.specs.Fits.{fits_object_pat_prop, fits_param, fits_prop_name, fits_prop_or_spread};
+ghost use Rattle.tree_nodes.specs.Placed.{holds_expr, holds_pat, holds_stmt, inner};
+ghost use Rattle.tree_nodes.specs.View.{view_object_pat_prop, view_param, view_prop_name, view_prop_or_spread};
+ghost use Rattle.grammar_spec.specs.Judge.Early.{early_errors};
+ghost use Rattle.judge_is_module.specs.Items as program;
+ghost use Rattle.parse_state.specs.Cursors.{stream_of};
+ghost use Rattle.parse_alone.specs.Items as items;
+ghost use Rattle.parse_alone.specs.Parts as parts;
+ghost use Rattle.parse_alone.specs.Props as props;
 
 use crate::each_part::Rule;
-use ecma_early_errors::{item_errors, part_errors};
-use ecma_node::{ExprBox, ObjectPatProp, Param, PatBox, PropName, PropOrSpread, StmtBox};
-use ecma_parse_parts::items::{list_item_part, statement_part};
-use ecma_parse_parts::parts::{binding_part, expression_part, key_part, parameters_part};
-use ecma_parse_parts::properties::{item_part, prop_part};
-use ecma_parse_state::{Around, Failure, Parser};
-use ecma_token::{Error, EsSyntax};
-use ecma_token_source::Tokens;
+use base_token::{Error, EsSyntax};
+use judge::{item_errors, part_errors};
+use lex_source::Tokens;
+use parse_alone::items::{list_item_part, statement_part};
+use parse_alone::parts::{binding_part, expression_part, key_part, parameters_part};
+use parse_alone::properties::{item_part, prop_part};
+use parse_state::{Around, Failure, Parser};
 use std::alloc::{AllocError, Global};
+use tree_nodes::{ExprBox, ObjectPatProp, Param, PatBox, PropName, PropOrSpread, StmtBox};
 
 /// The early errors of a statement, which stands directly in a script's body or not.
-#[tactic(auto, unfolding(ecma_early::specs::Early::early_errors))]
+#[tactic(auto, unfolding(grammar_spec::specs::Judge::Early::early_errors))]
 fn stmt_errors(
     alloc: Global,
     syntax: EsSyntax,
@@ -62,7 +62,7 @@ impl<'a, I: Tokens<'a> + Drop> Rule<'a, I> for Expression {
         expression_part(p, limit, code, self.level)
     }
 
-    #[tactic(auto, unfolding(ecma_early::specs::Early::early_errors))]
+    #[tactic(auto, unfolding(grammar_spec::specs::Judge::Early::early_errors))]
     fn errors(
         &self,
         alloc: Global,
@@ -92,7 +92,7 @@ impl<'a, I: Tokens<'a> + Drop> Rule<'a, I> for Binding {
         binding_part(p, limit, code)
     }
 
-    #[tactic(auto, unfolding(ecma_early::specs::Early::early_errors))]
+    #[tactic(auto, unfolding(grammar_spec::specs::Judge::Early::early_errors))]
     fn errors(
         &self,
         alloc: Global,
@@ -122,7 +122,7 @@ impl<'a, I: Tokens<'a> + Drop> Rule<'a, I> for Parameters {
         parameters_part(p, limit, code)
     }
 
-    #[tactic(auto, unfolding(ecma_early::specs::Early::early_errors))]
+    #[tactic(auto, unfolding(grammar_spec::specs::Judge::Early::early_errors))]
     fn errors(
         &self,
         alloc: Global,
@@ -152,7 +152,7 @@ impl<'a, I: Tokens<'a> + Drop> Rule<'a, I> for Key {
         key_part(p, limit, code)
     }
 
-    #[tactic(auto, unfolding(ecma_early::specs::Early::early_errors))]
+    #[tactic(auto, unfolding(grammar_spec::specs::Judge::Early::early_errors))]
     fn errors(
         &self,
         alloc: Global,
@@ -187,7 +187,7 @@ impl<'a, I: Tokens<'a> + Drop> Rule<'a, I> for Property {
         prop_part(p, limit, code)
     }
 
-    #[tactic(auto, unfolding(ecma_early::specs::Early::early_errors))]
+    #[tactic(auto, unfolding(grammar_spec::specs::Judge::Early::early_errors))]
     fn errors(
         &self,
         alloc: Global,
@@ -222,7 +222,7 @@ impl<'a, I: Tokens<'a> + Drop> Rule<'a, I> for PatternProperty {
         item_part(p, limit, code)
     }
 
-    #[tactic(auto, unfolding(ecma_early::specs::Early::early_errors))]
+    #[tactic(auto, unfolding(grammar_spec::specs::Judge::Early::early_errors))]
     fn errors(
         &self,
         alloc: Global,

@@ -1,6 +1,6 @@
 use Rattle.std.proofs.Common.{◌≡◌, true, sym, ◌∙◌, Vec, Global}
-use Rattle.ecma_token.specs.declared.place.BytePos.{BytePos}
-use Rattle.ecma_token.specs.declared.place.LineCol.{LineCol}
+use Rattle.base_token.specs.declared.place.BytePos.{BytePos}
+use Rattle.base_token.specs.declared.place.LineCol.{LineCol}
 use Rattle.ecma_front.specs.Faults.{is_refusal}
 use Rattle.ecma_front.proofs.Answering.{refusal_unread, refusal_no_read, refusal_no_write, refusal_no_settings, refusal_not_of_writing, answers_program}
 use Rattle.ecma_front.proofs.command.answer.Goals as goal

@@ -1,6 +1,6 @@
 use Rattle.std.proofs.Common.{arith, Vec, Global}
-use Rattle.ecma_token.specs.declared.place.BytePos.{BytePos}
-use Rattle.ecma_token.specs.declared.place.LineCol.{LineCol}
+use Rattle.base_token.specs.declared.place.BytePos.{BytePos}
+use Rattle.base_token.specs.declared.place.LineCol.{LineCol}
 use Rattle.std.proofs.lemmas.Result.{err_from_is_err_and}
 use Rattle.ecma_front.proofs.Answering.{kept_all, text_fault_answers, text_fault_no_read, text_fault_no_settings, written_answers, written_begun_or, written_else, written_no_read, written_no_settings}
 use Rattle.ecma_front.proofs.pipeline.carry_out.Goals as goal

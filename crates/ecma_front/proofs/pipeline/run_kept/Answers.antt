@@ -1,6 +1,6 @@
 use Rattle.std.proofs.Common.{Vec, Global}
-use Rattle.ecma_token.specs.declared.place.BytePos.{BytePos}
-use Rattle.ecma_token.specs.declared.place.LineCol.{LineCol}
+use Rattle.base_token.specs.declared.place.BytePos.{BytePos}
+use Rattle.base_token.specs.declared.place.LineCol.{LineCol}
 use Rattle.ecma_front.proofs.Answering.{answers_exactly}
 use Rattle.ecma_front.proofs.pipeline.run_kept.Goals as goal
 

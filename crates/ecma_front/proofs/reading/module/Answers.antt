@@ -1,14 +1,14 @@
 use Rattle.std.proofs.Common.{List, chars, true, sym, ap, ◌∙◌, subst}
-use Rattle.ecma_token.specs.declared.error.Error.{Error}
-use Rattle.ecma_node.specs.Placed.{inner}
-use Rattle.ecma_node.specs.View.{view_module}
-use Rattle.ecma_lexer.specs.Lexer.{state_in}
-use Rattle.ecma_lexer.specs.Machine.{lexer_machine}
-use Rattle.ecma_reading.specs.Source.{bound}
-use Rattle.ecma_parse_state.specs.Cursors.{stream_of}
+use Rattle.base_token.specs.declared.error.Error.{Error}
+use Rattle.tree_nodes.specs.Placed.{inner}
+use Rattle.tree_nodes.specs.View.{view_module}
+use Rattle.ecma_parser.specs.Lexer.{state_in}
+use Rattle.ecma_parser.specs.Machine.{lexer_machine}
+use Rattle.grammar_spec.specs.Reader.Source.{bound}
+use Rattle.parse_state.specs.Cursors.{stream_of}
 use Rattle.ecma_parser.specs.Entries.{stood}
-use Rattle.ecma_parser_laws.specs.Answered.{PromisedReading}
-use Rattle.ecma_parser_laws.proofs.TextLemmas.{new_reading}
+use Rattle.parse_laws.specs.Answered.{PromisedReading}
+use Rattle.parse_laws.proofs.TextLemmas.{new_reading}
 use Rattle.ecma_front.proofs.Settings.{limit_taken}
 use Rattle.ecma_front.proofs.Settling.{taken, lacks}
 use Rattle.ecma_front.proofs.reading.module.Goals as goal

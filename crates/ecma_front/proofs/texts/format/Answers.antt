@@ -1,5 +1,5 @@
 use Rattle.std.proofs.Common.{String, Global, refl, string_bytes}
-use Rattle.ecma_command.specs.declared.options.Style.TheVariants as styles
+use Rattle.run_command.specs.declared.options.Style.TheVariants as styles
 use Rattle.ecma_front.specs.Run.{in_style}
 use Rattle.ecma_front.proofs.Answering.{formats_exactly}
 use Rattle.ecma_front.proofs.texts.format.Goals as goal

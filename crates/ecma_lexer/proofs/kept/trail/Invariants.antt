@@ -1,6 +1,6 @@
 use Rattle.std.proofs.Common.{map, take}
-use Rattle.ecma_comments.specs.Comments.{IsSame, owned_comment}
-use Rattle.ecma_comments.specs.Store.{leading_at, trailing_at}
+use Rattle.lex_comments.specs.Comments.{IsSame, owned_comment}
+use Rattle.lex_comments.specs.Store.{leading_at, trailing_at}
 use Rattle.ecma_lexer.specs.Kept.{AreAdded}
 use Rattle.ecma_lexer.proofs.kept.trail.Given as goal
 

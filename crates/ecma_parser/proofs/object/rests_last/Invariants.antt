@@ -1,7 +1,7 @@
 use Rattle.std.proofs.Common.{◌≡◌, false, map, drop}
-use Rattle.ecma_node.specs.Placed.{inner}
-use Rattle.ecma_node.specs.View.{view_object_pat_prop}
-use Rattle.ecma_parse_parts.specs.Props.{rests_last}
+use Rattle.tree_nodes.specs.Placed.{inner}
+use Rattle.tree_nodes.specs.View.{view_object_pat_prop}
+use Rattle.parse_alone.specs.Props.{rests_last}
 use Rattle.ecma_parser.proofs.object.rests_last.Given as goal
 
 -- what is left, behind what was seen, tells what the whole tells

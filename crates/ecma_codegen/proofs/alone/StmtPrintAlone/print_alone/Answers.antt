@@ -1,4 +1,4 @@
-use Rattle.ecma_print_pieces.proofs.Steps.{◌▸◌}
+use Rattle.print_pieces.proofs.Steps.{◌▸◌}
 use Rattle.ecma_codegen.proofs.alone.StmtPrintAlone.print_alone.Goals as goal
 
 pub returns : goal.returns

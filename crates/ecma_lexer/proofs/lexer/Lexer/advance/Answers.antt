@@ -1,7 +1,7 @@
 use Rattle.std.proofs.Common.{ap, sym, ◌∙◌}
 use Rattle.std.specs.Str.{chars}
-use Rattle.ecma_token_source.specs.Contexts.{outward}
-use Rattle.ecma_lexing.specs.States.{template_goal}
+use Rattle.lex_source.specs.Contexts.{outward}
+use Rattle.lex_step_laws.specs.States.{template_goal}
 use Rattle.ecma_lexer.specs.declared.lexer.Lexer.{Lexer}
 use Rattle.ecma_lexer.specs.Lexer.{state_in}
 use Rattle.ecma_lexer.proofs.StepLemmas.{again_step, no_fault, template_step}

@@ -1,6 +1,6 @@
 use Rattle.std.proofs.Common.{option_map, ap, sym, ◌∙◌}
-use Rattle.ecma_token_source.specs.Machine.{shown_spot}
-use Rattle.ecma_lexing.specs.States.{is_start, place}
+use Rattle.lex_source.specs.Machine.{shown_spot}
+use Rattle.lex_step_laws.specs.States.{is_start, place}
 use Rattle.ecma_lexer.specs.declared.lexer.Lexer.{Lexer}
 use Rattle.ecma_lexer.specs.Lexer.{state_in}
 use Rattle.ecma_lexer.proofs.KeptLemmas.{kept_by}

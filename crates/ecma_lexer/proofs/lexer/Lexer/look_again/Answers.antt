@@ -1,6 +1,6 @@
 use Rattle.std.proofs.Common.{Some, ap, ◌∙◌}
-use Rattle.ecma_token_source.specs.Machine.{told_of}
-use Rattle.ecma_token_source.specs.Settings.{with_next_regexp}
+use Rattle.lex_source.specs.Machine.{told_of}
+use Rattle.lex_source.specs.Settings.{with_next_regexp}
 use Rattle.ecma_lexer.specs.Lexer.{state_in}
 use Rattle.ecma_lexer.proofs.LookLemmas.{again_shown}
 use Rattle.ecma_lexer.proofs.lexer.Lexer.look_again.Goals as goal

@@ -1,5 +1,5 @@
 use Rattle.std.proofs.Common.{ap, ◌∙◌}
-use Rattle.ecma_token_source.specs.Machine.{told_of}
+use Rattle.lex_source.specs.Machine.{told_of}
 use Rattle.ecma_lexer.specs.Lexer.{state_in}
 use Rattle.ecma_lexer.proofs.LookLemmas.{next_shown}
 use Rattle.ecma_lexer.proofs.lexer.Lexer.look_next.Goals as goal

@@ -1,12 +1,12 @@
 use Rattle.std.proofs.Common.{refl, ap, subst, ◌∙◌}
 use Rattle.std.specs.Prelude.{false}
 use Rattle.std.specs.Str.{chars}
-use Rattle.ecma_token.specs.Tokens.{bare}
-use Rattle.ecma_token.specs.TokenViews.{token_kind_number}
-use Rattle.ecma_scan.specs.Trivia.{IsSkipped}
-use Rattle.ecma_lexeme.specs.Lexemes.{plain, word_spelled}
-use Rattle.ecma_lexeme.proofs.SortLemmas.{mark_is}
-use Rattle.ecma_lexing.specs.States.{goal_of}
+use Rattle.base_token.specs.Tokens.{bare}
+use Rattle.base_token.specs.TokenViews.{token_kind_number}
+use Rattle.lex_pieces.specs.Trivia.{IsSkipped}
+use Rattle.lex_token.specs.Lexemes.{plain, word_spelled}
+use Rattle.lex_token.proofs.SortLemmas.{mark_is}
+use Rattle.lex_step_laws.specs.States.{goal_of}
 use Rattle.ecma_lexer.specs.declared.lexer.Lexer.{Lexer}
 use Rattle.ecma_lexer.specs.Lexer.{state_in}
 use Rattle.ecma_lexer.proofs.QuickLemmas.{mark_stands, plain_steps, quiet_mark, quiet_steps, quiet_word, word_stands}

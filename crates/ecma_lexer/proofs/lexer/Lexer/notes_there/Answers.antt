@@ -1,7 +1,7 @@
 use Rattle.std.proofs.Common.{ap, subst, ◌∙◌}
 use Rattle.std.specs.Str.{chars}
-use Rattle.ecma_scan.specs.Notes.{IsCollected, IsCollectedUpTo}
-use Rattle.ecma_lexing.specs.States.{goal_of, is_start}
+use Rattle.lex_pieces.specs.Notes.{IsCollected, IsCollectedUpTo}
+use Rattle.lex_step_laws.specs.States.{goal_of, is_start}
 use Rattle.ecma_lexer.specs.declared.lexer.Lexer.{Lexer}
 use Rattle.ecma_lexer.specs.Lexer.{state_in}
 use Rattle.ecma_lexer.proofs.KeptLemmas.{are_there, are_there_up_to, not_matched}

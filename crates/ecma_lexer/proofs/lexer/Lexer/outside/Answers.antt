@@ -1,8 +1,8 @@
 use Rattle.std.proofs.Common.{false, ap, subst, sym, ◌∙◌}
 use Rattle.std.specs.Str.{chars}
-use Rattle.ecma_scan.specs.Trivia.{IsHashbang}
-use Rattle.ecma_lexeme.specs.Readings.{lexeme_view}
-use Rattle.ecma_lexing.specs.States.{is_start}
+use Rattle.lex_pieces.specs.Trivia.{IsHashbang}
+use Rattle.lex_token.specs.Readings.{lexeme_view}
+use Rattle.lex_step_laws.specs.States.{is_start}
 use Rattle.ecma_lexer.specs.declared.lexer.Lexer.{Lexer}
 use Rattle.ecma_lexer.specs.Lexer.{state_in}
 use Rattle.ecma_lexer.specs.Stepping.{IsTaken, Steps}

@@ -1,8 +1,8 @@
 use Rattle.std.proofs.Common.{ap, subst, ◌∙◌}
 use Rattle.std.specs.Str.{chars}
 use Rattle.std.specs.Prelude.{Some}
-use Rattle.ecma_scan.specs.Trivia.{IsFaultAfter, IsSkipped}
-use Rattle.ecma_lexing.specs.States.{goal_of, is_start}
+use Rattle.lex_pieces.specs.Trivia.{IsFaultAfter, IsSkipped}
+use Rattle.lex_step_laws.specs.States.{goal_of, is_start}
 use Rattle.ecma_lexer.specs.declared.lexer.Lexer.{Lexer}
 use Rattle.ecma_lexer.specs.Lexer.{state_in}
 use Rattle.ecma_lexer.proofs.StepLemmas.{plain_fault, plain_read}

@@ -1,6 +1,6 @@
 use Rattle.std.proofs.Common.{ap}
 use Rattle.std.specs.Str.{chars}
-use Rattle.ecma_token_source.specs.Settings.{settings_in}
+use Rattle.lex_source.specs.Settings.{settings_in}
 use Rattle.ecma_lexer.specs.declared.lexer.Lexer.{Lexer}
 use Rattle.ecma_lexer.specs.Lexer.{state_in}
 use Rattle.ecma_lexer.proofs.StepLemmas.{at_end, emptied, nothing_left}

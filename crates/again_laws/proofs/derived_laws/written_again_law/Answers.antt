@@ -1,0 +1,5 @@
+use Rattle.again_laws.proofs.derived_laws.BytesLemmas.{written_again}
+use Rattle.again_laws.proofs.derived_laws.written_again_law.Goals as goal
+
+pub returns : goal.returns
+returns c = written_again

@@ -1,0 +1,5 @@
+use Rattle.again_laws.proofs.leaf.Filled.{texts_mean}
+use Rattle.again_laws.proofs.leaf.texts_mean.Goals as goal
+
+pub returns : goal.returns
+returns c = texts_mean

@@ -1,0 +1,5 @@
+use Rattle.again_laws.proofs.text.Hashbangs.{programs_go}
+use Rattle.again_laws.proofs.text.programs_go.Goals as goal
+
+pub returns : goal.returns
+returns c = programs_go

@@ -1,9 +1,0 @@
-//! The comments of a text, kept apart from its tree.
-#![tactic(auto)]
-
-pub mod owned;
-pub mod store;
-
-pub use ecma_scan::CommentKind;
-pub use owned::Comment;
-pub use store::Comments;

@@ -1,2 +1,0 @@
-//! Early errors: a walk over a finished tree.
-#![tactic(auto)]

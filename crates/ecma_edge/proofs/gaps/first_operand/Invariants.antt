@@ -1,6 +1,0 @@
-use Rattle.std.proofs.Common.{◌≡◌}
-use Rattle.ecma_edge.specs.Edges.{first_operand}
-use Rattle.ecma_edge.proofs.gaps.first_operand.Given as goal
-
-abbrev pub invariant-loop-first : goal.invariant-loop-first
-invariant-loop-first l = first_operand l.first ≡ first_operand l.expr

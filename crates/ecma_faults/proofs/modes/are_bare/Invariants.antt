@@ -1,7 +1,0 @@
-use Rattle.std.proofs.Common.{◌≡◌, drop}
-use Rattle.ecma_tree.specs.Tree.{trees_by}
-use Rattle.ecma_early.specs.Early.{are_bare}
-use Rattle.ecma_faults.proofs.modes.are_bare.Given as goal
-
-abbrev pub invariant-loop-param : goal.invariant-loop-param
-invariant-loop-param g l = are_bare (trees_by g.P.Check.tree (drop l.param-index l.params)) ≡ are_bare (trees_by g.P.Check.tree l.params)

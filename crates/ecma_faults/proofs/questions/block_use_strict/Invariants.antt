@@ -1,8 +1,0 @@
-use Rattle.std.proofs.Common.{◌≡◌, drop}
-use Rattle.ecma_tree.specs.Tree.{trees_by}
-use Rattle.ecma_early.specs.Early.{own_use_strict}
-use Rattle.ecma_node.specs.Placed.{inner}
-use Rattle.ecma_faults.proofs.questions.block_use_strict.Given as goal
-
-abbrev pub invariant-loop-x : goal.invariant-loop-x
-invariant-loop-x l = own_use_strict (trees_by (λ x. inner x.part.value) (drop l.x-index l.items)) ≡ own_use_strict (trees_by (λ x. inner x.part.value) l.items)

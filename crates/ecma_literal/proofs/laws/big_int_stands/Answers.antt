@@ -1,5 +1,0 @@
-use Rattle.ecma_literal.proofs.StandLemmas.{big_stands}
-use Rattle.ecma_literal.proofs.laws.big_int_stands.Goals as goal
-
-pub returns : goal.returns
-returns c = big_stands

@@ -1,5 +1,0 @@
-use Rattle.ecma_literal.proofs.StandLemmas.{number_stands}
-use Rattle.ecma_literal.proofs.laws.number_stands.Goals as goal
-
-pub returns : goal.returns
-returns c = number_stands

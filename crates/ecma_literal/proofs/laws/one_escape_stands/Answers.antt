@@ -1,5 +1,0 @@
-use Rattle.ecma_literal.proofs.EscapeLemmas.{one_escape}
-use Rattle.ecma_literal.proofs.laws.one_escape_stands.Goals as goal
-
-pub returns : goal.returns
-returns c = one_escape

@@ -1,5 +1,0 @@
-use Rattle.ecma_literal.proofs.NumeralLemmas.{one_number}
-use Rattle.ecma_literal.proofs.laws.one_number_stands.Goals as goal
-
-pub returns : goal.returns
-returns c = one_number

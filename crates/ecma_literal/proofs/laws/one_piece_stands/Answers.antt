@@ -1,5 +1,0 @@
-use Rattle.ecma_literal.proofs.TemplateLemmas.{one_piece}
-use Rattle.ecma_literal.proofs.laws.one_piece_stands.Goals as goal
-
-pub returns : goal.returns
-returns c = one_piece

@@ -1,5 +1,0 @@
-use Rattle.ecma_nesting.proofs.Levels.{nests_within_levels}
-use Rattle.ecma_nesting.proofs.laws.levels_law.Goals as goal
-
-pub returns : goal.returns
-returns c = nests_within_levels

@@ -1,6 +1,0 @@
-use Rattle.std.proofs.Common.{◌≡◌}
-use Rattle.ecma_node.specs.Spines.{Linked, below}
-use Rattle.ecma_node.proofs.spine.links.Given as goal
-
-abbrev pub invariant-loop-rest : goal.invariant-loop-rest
-invariant-loop-rest l = (l.rest ≡ below l.links l.expr) × Linked l.links l.expr

@@ -1,6 +1,0 @@
-use Rattle.std.proofs.Common.{◌≡◌, false, drop}
-use Rattle.ecma_number.specs.Numbers.{goes_on}
-use Rattle.ecma_number.proofs.digits.spells_digits.Given as goal
-
-abbrev pub invariant-loop-byte : goal.invariant-loop-byte
-invariant-loop-byte l = goes_on l.radix l.behind_digit (drop l.byte-index l.text) ≡ goes_on l.radix false l.text

@@ -1,7 +1,0 @@
-use Rattle.std.proofs.Common.{rules, ◌∙◌, sym}
-use Rattle.ecma_node.specs.Placed.{inner}
-use Rattle.ecma_parse_arrows.proofs.Plain.{joined_long}
-use Rattle.ecma_parse_arrows.proofs.groups.joined.Goals as goal
-
-pub returns-clause-value : goal.returns-clause-value
-returns-clause-value c = search rules ∙ sym (joined_long (λ e. inner e.part.value) c.args.exprs.items c.args.last c.args.span (search rules))

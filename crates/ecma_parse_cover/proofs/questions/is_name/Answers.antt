@@ -1,8 +1,0 @@
-use Rattle.std.proofs.Common.{◌∙◌, ap, sym}
-use Rattle.ecma_node.specs.Placed.{inner}
-use Rattle.ecma_parse_cover.proofs.Told.{spread_other}
-use Rattle.ecma_parse_cover.proofs.questions.is_name.Goals as goal
-
-pub returns-in_default : goal.returns-in_default
-returns-in_default c commas s =
-    rw (ap inner c.get.ensures ∙ sym c.behind-expr.view_is) (sym (spread_other commas s c.behind-expr.inside.kind c.in_default.not-Ident))

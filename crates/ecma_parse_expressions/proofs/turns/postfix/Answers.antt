@@ -1,8 +1,0 @@
-use Rattle.std.proofs.Common.{rules, sym}
-use Rattle.ecma_parse_state.proofs.Marks.{marks}
-use Rattle.ecma_parse_expressions.specs.Steps as reads
-use Rattle.ecma_parse_expressions.proofs.turns.postfix.Goals as goal
-
-pub returns-clause-value : goal.returns-clause-value
-unfolding reads.postfix_by
-returns-clause-value g c = rw (sym c.requires.mark) (search (rules, marks))

@@ -1,9 +1,0 @@
--- Attributes one by one.
-use Rattle.std.specs.Prelude.{Bool, false, ◌&&◌}
-use Rattle.ecma_tree.specs.Tree.{Tree, key_value_prop}
-use Rattle.ecma_syntax.specs.Shape.{is_attribute_key, is_string}
-
--- a property of a WithClause: its key is a word or a string, its value a string (16.2)
-abbrev pub is_attribute : Tree → Bool
-is_attribute (key_value_prop s k v) = is_attribute_key k && is_string v
-is_attribute _ = false

@@ -1,2 +1,0 @@
--- The tie of the rules.
-pub mod Nests

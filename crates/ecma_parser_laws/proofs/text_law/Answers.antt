@@ -1,5 +1,0 @@
-use Rattle.ecma_parser_laws.proofs.TextReadLemmas.{texts_settled}
-use Rattle.ecma_parser_laws.proofs.text_law.Goals as goal
-
-pub returns : goal.returns
-returns c = record { settled = texts_settled }

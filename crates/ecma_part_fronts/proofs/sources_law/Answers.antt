@@ -1,5 +1,0 @@
-use Rattle.ecma_part_fronts.proofs.Sources.{parts_same}
-use Rattle.ecma_part_fronts.proofs.sources_law.Goals as goal
-
-pub returns : goal.returns
-returns g c = record { parts = parts_same g.I.Sourced.machine g.I.Sourced.live }

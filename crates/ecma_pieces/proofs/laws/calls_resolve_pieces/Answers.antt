@@ -1,5 +1,0 @@
-use Rattle.ecma_pieces.proofs.Resolving.{calls_resolve, calls_shorten, calls_go_on}
-use Rattle.ecma_pieces.proofs.laws.calls_resolve_pieces.Goals as goal
-
-pub returns : goal.returns
-returns c = record { standing = calls_resolve; shortened = calls_shorten; waiting = calls_go_on }

@@ -1,5 +1,0 @@
-use Rattle.ecma_pieces.proofs.Depths.{comes_back, stays_deepest, stays_at_none}
-use Rattle.ecma_pieces.proofs.laws.depth_comes_back.Goals as goal
-
-pub returns : goal.returns
-returns c = record { back = comes_back; ends = λ p. (stays_deepest p, stays_at_none p) }

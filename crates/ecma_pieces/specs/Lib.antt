@@ -1,3 +1,0 @@
-pub mod Pieces
-pub mod Laws
-pub mod Utf8

@@ -1,5 +1,0 @@
--- What is written of a tree, and what printing it does: read these in order.
-pub mod Layouts
-pub mod Prints
--- What its steps do. No public clause of other crates cites these.
-pub mod Steps

@@ -1,5 +1,0 @@
-use Rattle.ecma_print_pieces.proofs.Steps.{◌▸◌, named_as}
-use Rattle.ecma_print_literals.proofs.names.print_identifier.Goals as goal
-
-pub returns : goal.returns
-returns g c = named_as (c.commit.ensures ▸ (c.start.ensures ▸ c.print_name.ensures))

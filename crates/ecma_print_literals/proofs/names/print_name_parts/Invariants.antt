@@ -1,9 +1,0 @@
-use Rattle.std.proofs.Common.{length, ◌++◌}
-use Rattle.ecma_print_literals.specs.Parts.{Leaves, held_back}
-use Rattle.ecma_print_literals.proofs.names.print_name_parts.Given as goal
-
-abbrev pub invariant-parts : goal.invariant-parts
-invariant-parts g l = Leaves g.W.WriteJs.tells g.W.WriteJs.state g.W.WriteJs.failed_writes g.W.WriteJs.loans l.fn.parts (held_back l.held ++ l.parts) l.fn.p.wr l.fn.p.fault l.p.wr l.p.fault
-
-abbrev pub decreases-parts : goal.decreases-parts
-decreases-parts g l = length l.parts

@@ -1,5 +1,0 @@
-use Rattle.ecma_print_pieces.proofs.Steps.{◌▸◌}
-use Rattle.ecma_print_literals.proofs.numbers.print_number_before_point.Goals as goal
-
-pub returns : goal.returns
-returns g c = c.commit.ensures ▸ (c.start.ensures ▸ c.print_text_before_point.ensures)

@@ -1,8 +1,0 @@
-//! Names and literals, printed part by part.
-#![tactic(auto)]
-
-pub mod names;
-pub mod numbers;
-pub mod parts;
-pub mod strings;
-pub mod templates;

@@ -1,7 +1,0 @@
-use Rattle.ecma_print_nodes.proofs.Parts.{laid_like}
-use Rattle.ecma_print_nodes.proofs.Tokens.{point_where}
-use Rattle.ecma_print_pieces.proofs.Steps.{◌▸◌}
-use Rattle.ecma_print_nodes.proofs.chains.print_optional_arguments.Goals as goal
-
-pub returns : goal.returns
-returns g c = laid_like (point_where c.args.optional) c.text_if.ensures ▸ c.print_call_arguments.ensures

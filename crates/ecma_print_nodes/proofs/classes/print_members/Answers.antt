@@ -1,5 +1,0 @@
-use Rattle.ecma_print_pieces.proofs.Steps.{◌▸◌}
-use Rattle.ecma_print_nodes.proofs.classes.print_members.Goals as goal
-
-pub returns : goal.returns
-returns g c = c.gap.ensures ▸ (c.text.ensures ▸ (c.print_indented_rows.ensures ▸ (c.last.ensures ▸ c.brace.ensures)))

@@ -1,5 +1,0 @@
-use Rattle.ecma_print_pieces.proofs.Steps.{◌▸◌}
-use Rattle.ecma_print_nodes.proofs.functions.print_marks.Goals as goal
-
-pub returns : goal.returns
-returns g c = c.word_if.ensures ▸ c.text_if.ensures

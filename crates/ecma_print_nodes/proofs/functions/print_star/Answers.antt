@@ -1,6 +1,0 @@
-use Rattle.ecma_layout.specs.Looks.{blank}
-use Rattle.ecma_print_pieces.proofs.Steps.{◌▸◌, chosen}
-use Rattle.ecma_print_nodes.proofs.functions.print_star.Goals as goal
-
-pub returns-then-generates : goal.returns-then-generates
-returns-then-generates g c = chosen blank c.if-generates.true (c.text.ensures ▸ c.gap.ensures)

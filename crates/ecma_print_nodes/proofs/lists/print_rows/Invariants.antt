@@ -1,9 +1,0 @@
-use Rattle.std.proofs.Common.{drop, false}
-use Rattle.ecma_tree.specs.Tree.{trees_by}
-use Rattle.ecma_layout.specs.Looks.{line}
-use Rattle.ecma_layout.specs.Layout.{rows}
-use Rattle.ecma_print_nodes.proofs.Parts.{Goes, behind}
-use Rattle.ecma_print_nodes.proofs.lists.print_rows.Given as goal
-
-abbrev pub invariant-loop-x : goal.invariant-loop-x
-invariant-loop-x g l = Goes g.W.WriteJs.tells g.W.WriteJs.state g.W.WriteJs.failed_writes g.W.WriteJs.loans (rows l.look false (trees_by g.T.Print.tree l.items)) (behind (line l.look) (rows l.look false) (trees_by g.T.Print.tree (drop l.x-index l.rest))) l.fn.p.wr l.fn.p.fault l.p.wr l.p.fault

@@ -1,6 +1,0 @@
-use Rattle.std.proofs.Common.{sym}
-use Rattle.ecma_print_pieces.proofs.Steps.{◌▸◌}
-use Rattle.ecma_print_nodes.proofs.patterns.ObjectPatOfPrint.print.Goals as goal
-
-pub returns-clause-laid : goal.returns-clause-laid
-returns-clause-laid g c = c.start.ensures ▸ (c.text.ensures ▸ (rw (sym c.as_slice.ensures.value) c.print_properties.ensures ▸ (c.brace.ensures ▸ c.end.ensures)))

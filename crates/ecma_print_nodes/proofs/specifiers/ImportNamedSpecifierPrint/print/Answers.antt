@@ -1,7 +1,0 @@
-use Rattle.ecma_print_nodes.proofs.Parts.{laid_like}
-use Rattle.ecma_print_nodes.proofs.Named.{import_named}
-use Rattle.ecma_print_pieces.proofs.Steps.{◌▸◌}
-use Rattle.ecma_print_nodes.proofs.specifiers.ImportNamedSpecifierPrint.print.Goals as goal
-
-pub returns-clause-laid : goal.returns-clause-laid
-returns-clause-laid g c = laid_like (import_named c.args.look c.args._stand c.args.self.now) (c.start.ensures ▸ (c.print_before_as.ensures ▸ (c.print.ensures.laid ▸ c.end.ensures)))

@@ -1,8 +1,0 @@
-//! A writer that is printed to, and what printing a part of a layout does to it.
-#![tactic(auto)]
-
-pub mod printer;
-pub mod text;
-
-pub use printer::Printer;
-pub use text::Text;

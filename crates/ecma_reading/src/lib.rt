@@ -1,2 +1,0 @@
-//! A reading function on tokens, and small programs that it reads.
-#![tactic(auto)]

@@ -1,7 +1,0 @@
-use Rattle.std.proofs.Common.{◌≡◌, drop}
-use Rattle.ecma_tree.specs.Tree.{trees_by, list}
-use Rattle.ecma_program.specs.Same.{same}
-use Rattle.ecma_same.proofs.parts.same_items.Given as goal
-
-abbrev pub invariant-items : goal.invariant-items
-invariant-items g l = same (list (trees_by g.T.Same.tree (drop l.x-index l.items))) (list (trees_by g.T.Same.tree l.rest)) ≡ same (list (trees_by g.T.Same.tree l.items)) (list (trees_by g.T.Same.tree l.others))

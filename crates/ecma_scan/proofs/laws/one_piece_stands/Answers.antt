@@ -1,6 +1,0 @@
-use Rattle.std.specs.Str.{chars}
-use Rattle.ecma_scan.proofs.TriviaLemmas.{one_piece}
-use Rattle.ecma_scan.proofs.laws.one_piece_stands.Goals as goal
-
-pub returns : goal.returns
-returns c = one_piece c.args.goal c.args.first (chars c.args.text.now)

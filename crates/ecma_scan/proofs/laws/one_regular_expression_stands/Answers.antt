@@ -1,6 +1,0 @@
-use Rattle.std.specs.Str.{chars}
-use Rattle.ecma_scan.proofs.RegExpLemmas.{one_reg_exp}
-use Rattle.ecma_scan.proofs.laws.one_regular_expression_stands.Goals as goal
-
-pub returns : goal.returns
-returns c = one_reg_exp (chars c.args.text.now)

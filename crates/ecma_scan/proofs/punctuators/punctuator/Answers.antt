@@ -1,6 +1,0 @@
-use Rattle.std.specs.Str.{chars}
-use Rattle.ecma_scan.proofs.Longest.{answers}
-use Rattle.ecma_scan.proofs.punctuators.punctuator.Goals as goal
-
-pub returns-clause-punctuator : goal.returns-clause-punctuator
-returns-clause-punctuator c = answers (chars c.args.text.now) c.read.result c.read.ensures.value

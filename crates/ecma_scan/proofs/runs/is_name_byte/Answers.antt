@@ -1,7 +1,0 @@
-use Rattle.std.proofs.Common.{ap, ◌∙◌, arith}
-use Rattle.ecma_scan.specs.Bytes.{is_name_class}
-use Rattle.ecma_scan.proofs.Tables.{name_class}
-use Rattle.ecma_scan.proofs.runs.is_name_byte.Goals as goal
-
-pub returns : goal.returns
-returns c = c.is_name_part.ensures ∙ ap is_name_class c.byte_class.ensures ∙ name_class c.args.byte (omega arith)

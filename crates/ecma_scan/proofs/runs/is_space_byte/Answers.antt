@@ -1,7 +1,0 @@
-use Rattle.std.proofs.Common.{ap, ◌∙◌, arith}
-use Rattle.ecma_scan.specs.Bytes.{is_space_class}
-use Rattle.ecma_scan.proofs.Tables.{space_class}
-use Rattle.ecma_scan.proofs.runs.is_space_byte.Goals as goal
-
-pub returns : goal.returns
-returns c = c.is_white_space.ensures ∙ ap is_space_class c.byte_class.ensures ∙ space_class c.args.byte (omega arith)

@@ -1,9 +1,0 @@
-use Rattle.ecma_sources.proofs.ConsumedLemmas.{programs_consumed}
-use Rattle.ecma_sources.proofs.ConsumedParts.{parts_consumed}
-use Rattle.ecma_sources.proofs.consumed_law.Goals as goal
-
-pub returns-clause-programs : goal.returns-clause-programs
-returns-clause-programs g c = programs_consumed g.I.Sourced.machine g.I.Sourced.live
-
-pub returns-clause-parts : goal.returns-clause-parts
-returns-clause-parts g c = parts_consumed g.I.Sourced.machine g.I.Sourced.live

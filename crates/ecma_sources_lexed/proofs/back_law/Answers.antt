@@ -1,8 +1,0 @@
-use Rattle.ecma_sources_lexed.proofs.Backward.{parser_backward, tokens_consumed}
-use Rattle.ecma_sources_lexed.proofs.back_law.Goals as goal
-
-pub returns-clause-backward : goal.returns-clause-backward
-returns-clause-backward g c = parser_backward g.I.Tokened.machine g.I.Tokened.good g.I.Tokened.same
-
-pub returns-clause-consumed : goal.returns-clause-consumed
-returns-clause-consumed g c = tokens_consumed g.I.Tokened.machine g.I.Tokened.good g.I.Tokened.same

@@ -1,8 +1,0 @@
-use Rattle.ecma_sources_lexed.proofs.Slashes.{lexer_rereads, lexer_consumed}
-use Rattle.ecma_sources_lexed.proofs.lexer_consumed_law.Goals as goal
-
-pub returns-clause-rereads : goal.returns-clause-rereads
-returns-clause-rereads c = lexer_rereads
-
-pub returns-clause-consumed : goal.returns-clause-consumed
-returns-clause-consumed c = lexer_consumed

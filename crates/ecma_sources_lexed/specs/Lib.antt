@@ -1,7 +1,0 @@
-pub mod Constant
-pub mod Backward
-pub mod Lexed
-pub mod Standing
-pub mod Handed
-pub mod Tiled
-pub mod Escapes

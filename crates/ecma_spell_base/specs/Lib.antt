@@ -1,4 +1,0 @@
-pub mod Forms
-pub mod PieceText
-pub mod Pieces
-pub mod Styles

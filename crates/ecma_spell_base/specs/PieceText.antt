@@ -1,8 +1,0 @@
--- The bytes of a piece of a text.
-use Rattle.std.specs.Prelude.{ℕ, List}
-use Rattle.ecma_spell_base.specs.declared.piece.Piece.{Piece}
-use Rattle.ecma_spell_base.specs.declared.piece.Piece.TheVariants.{Lent, Made}
-
-abbrev pub piece_bytes : Piece → List ℕ
-piece_bytes (Lent text) = text.now
-piece_bytes (Made text) = text.bytes

@@ -1,8 +1,0 @@
-use Rattle.ecma_spell_number.proofs.TextLemmas.{ok_is, err_is}
-use Rattle.ecma_spell_number.proofs.text.small_power.Goals as goal
-
-pub returns-in-Ok : goal.returns-in-Ok
-returns-in-Ok c = ok_is c.args.power.now c.in-Ok.value c.requires c.in-Ok.ensures.value.0
-
-pub returns-in-Err : goal.returns-in-Err
-returns-in-Err c = err_is c.args.power.now c.requires c.in-Err.ensures.value.0

@@ -1,5 +1,0 @@
-use Rattle.ecma_spell_string.proofs.NameLemmas.{key_is_read}
-use Rattle.ecma_spell_string.proofs.laws.key_is_read.Goals as goal
-
-pub returns : goal.returns
-returns c = key_is_read

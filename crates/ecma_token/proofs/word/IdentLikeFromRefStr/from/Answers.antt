@@ -1,5 +1,0 @@
-use Rattle.ecma_token.proofs.WordLemmas.{found_name}
-use Rattle.ecma_token.proofs.word.IdentLikeFromRefStr.from.Goals as goal
-
-pub returns-in-Ok : goal.returns-in-Ok
-returns-in-Ok c = found_name _ _ c.in-Ok.ensures.value

@@ -1,7 +1,0 @@
-use Rattle.std.proofs.Common.{◌≡◌, drop}
-use Rattle.ecma_tree.specs.Tree.{trees_by, element_by}
-use Rattle.ecma_visit.specs.Walk.{walk_of_all}
-use Rattle.ecma_visit.proofs.lists.walk_elements.Given as goal
-
-abbrev pub invariant-loop-x : goal.invariant-loop-x
-invariant-loop-x g l = walk_of_all g.V.Watch.step (trees_by (element_by g.T.Walk.tree) (drop l.x-index l.items)) (g.V.Watch.state l.visitor) ≡ walk_of_all g.V.Watch.step (trees_by (element_by g.T.Walk.tree) l.items) (g.V.Watch.state l.initial.visitor)

@@ -1,4 +1,0 @@
-pub mod Seen
-pub mod Walk
-pub mod Told
-pub mod Spines

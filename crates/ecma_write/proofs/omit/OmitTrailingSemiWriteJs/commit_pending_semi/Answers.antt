@@ -1,5 +1,0 @@
-use Rattle.ecma_write.proofs.Omits.{settles}
-use Rattle.ecma_write.proofs.omit.OmitTrailingSemiWriteJs.commit_pending_semi.Goals as goal
-
-pub returns-clause-value : goal.returns-clause-value
-returns-clause-value g c = settles g.W.WriteJs.tells g.W.WriteJs.state c.args.self.now c.settle.new.self c.settle.result c.settle.ensures.value

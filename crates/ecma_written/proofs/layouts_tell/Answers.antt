@@ -1,6 +1,0 @@
-use Rattle.std.proofs.Common.{◌≡◌, refl}
-use Rattle.ecma_written.proofs.Bridge.{bridge}
-use Rattle.ecma_written.proofs.layouts_tell.Goals as goal
-
-pub returns : goal.returns
-returns c n f a b ts r h k = bridge n f a b ts r (λ d m. (d ≡ b) × (m ≡ r)) h k (refl, refl)

@@ -1,8 +1,0 @@
-use Rattle.ecma_written_laws.proofs.Pages.{names_are_placed, names_behind_hashbangs}
-use Rattle.ecma_written_laws.proofs.names_are_placed.Goals as goal
-
-pub returns-clause-alone : goal.returns-clause-alone
-returns-clause-alone c = names_are_placed
-
-pub returns-clause-hashbang : goal.returns-clause-hashbang
-returns-clause-hashbang c = names_behind_hashbangs

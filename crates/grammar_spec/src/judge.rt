@@ -1,0 +1,1 @@
+//! Early errors: a walk over a finished tree.

@@ -1,0 +1,1 @@
+//! A reading function on tokens, and small programs that it reads.

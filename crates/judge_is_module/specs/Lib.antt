@@ -1,0 +1,2 @@
+pub use Rattle.grammar_text_spec.specs.Choice
+pub use Rattle.grammar_text_spec.specs.Items

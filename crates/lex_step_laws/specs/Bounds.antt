@@ -1,0 +1,20 @@
+-- How many tokens may still come from a text that is read.
+use Rattle.std.specs.Prelude.{ℕ, ◌+◌, ◌*◌, ◌<◌, ◌≤◌, length, max, Option, None, Some}
+use Rattle.base_token.specs.Tokens.{Spot}
+use Rattle.lex_step_laws.specs.States.{Last, Slash, Characters, Fault, Text}
+
+-- A bound on the tokens to come, by what came last and how many characters are left: a token takes a character at least, but for the
+-- characters of a template, which may be none and don't come twice on end. A slash may come again, with the text behind it.
+abbrev pub bound_by : Last → ℕ → ℕ
+bound_by Fault n = 0
+bound_by Characters n = 3 * n + 1
+bound_by (Slash from) n = max (3 * n + 2) (3 * length from)
+bound_by _ n = 3 * n + 2
+
+abbrev pub bound : Text → ℕ
+bound t = bound_by t.last (length t.left)
+
+-- It falls where a token is handed out, and never rises.
+abbrev pub Falls : Option Spot → ℕ → ℕ → Type 0
+Falls None old new = new ≤ old
+Falls (Some spot) old new = new < old

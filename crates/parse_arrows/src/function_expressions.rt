@@ -1,0 +1,89 @@
+//! Functions as expressions (15.2).
+ghost use Rattle.std.specs.Prelude.{◌≡◌, false, true, IfOk};
+ghost use Rattle.tree_nodes.specs.Fits.{fits_fn_expr};
+ghost use Rattle.tree_nodes.specs.Placed.{inner};
+ghost use Rattle.tree_nodes.specs.View.{view_fn_expr};
+ghost use Rattle.grammar_spec.specs.Reader.Source as spec;
+ghost use Rattle.grammar_spec.specs.Reader.Expressions as reads;
+ghost use Rattle.parse_state.specs.Answers.{Falls, Gives};
+ghost use Rattle.parse_state.specs.Codes.{code_of};
+ghost use Rattle.parse_state.specs.Cursors.{stream_of};
+ghost use Rattle.parse_state.specs.States.{from, state_of};
+ghost use Rattle.parse_operands.specs.Operands.{tree_of};
+
+use crate::made;
+use base_token::BytePos;
+use parse_functions::functions::function;
+use parse_functions::heads::star;
+use parse_operands::{Nested, Operand};
+use parse_state::code::by;
+use parse_state::{Around, Failure, Parser, Tokens, kinds};
+use tree_nodes::{FnExpr, Ident};
+
+/// What follows `function` and its star: a name or none, parameters and a body.
+#[inline(always)]
+#[tactic(auto, using(parse_state::proofs::Marks::marks), unfolding(grammar_spec::specs::Reader::Expressions::function_expr_name))]
+pub fn function_expr_name<'a, I: Tokens<'a> + Drop, N: Nested<'a, I>>(
+    p: &mut Parser<'a, I>,
+    nested: &N,
+    code: Around,
+    start: BytePos,
+    generator: bool,
+    is_async: bool,
+) -> Result<FnExpr, Failure>
+    requires ready { N.ready nested.now }
+    ensures value { Gives (λ x. (view_fn_expr inner x, state_of I.state p.new)) (spec.bound (stream_of I.machine) (state_of I.state p.new)) result (reads.function_expr_name (stream_of I.machine) (N.reads nested.now I.State I.machine) (code_of code) (from start.0) generator is_async (state_of I.state p.old)) }
+    ensures fits { IfOk result (λ x. fits_fn_expr (λ p. p) x) }
+    ensures shorter { Falls result (spec.bound (stream_of I.machine) (state_of I.state p.new)) (spec.bound (stream_of I.machine) (state_of I.state p.old)) }
+{
+    let ident = if p.at(kinds::LEFT_PAREN) {
+        None
+    } else {
+        let span = p.place();
+        let sym = p.name(by(generator, is_async, code))?;
+        Some(Ident { span, sym })
+    };
+    let function = function(p, nested, code, start, generator, is_async)?;
+    Ok(FnExpr {
+        span: p.since(start),
+        ident,
+        function,
+    })
+}
+
+/// A function from its word on, which begins at a start.
+#[inline(always)]
+#[tactic(auto, unfolding(grammar_spec::specs::Reader::Expressions::function_expr_by))]
+pub fn function_expr<'a, I: Tokens<'a> + Drop, N: Nested<'a, I>>(
+    p: &mut Parser<'a, I>,
+    nested: &N,
+    code: Around,
+    start: BytePos,
+    is_async: bool,
+) -> Result<FnExpr, Failure>
+    requires ready { N.ready nested.now }
+    ensures value { Gives (λ x. (view_fn_expr inner x, state_of I.state p.new)) (spec.bound (stream_of I.machine) (state_of I.state p.new)) result (reads.function_expr_by (stream_of I.machine) (N.reads nested.now I.State I.machine) (code_of code) (from start.0) is_async (state_of I.state p.old)) }
+    ensures fits { IfOk result (λ x. fits_fn_expr (λ p. p) x) }
+    ensures shorter { Falls result (spec.bound (stream_of I.machine) (state_of I.state p.new)) (spec.bound (stream_of I.machine) (state_of I.state p.old)) }
+{
+    p.eat_word(code, kinds::FUNCTION)?;
+    let generator = star(p, nested)?;
+    function_expr_name(p, nested, code, start, generator, is_async)
+}
+
+/// A function as an operand.
+#[inline(never)]
+pub fn function_operand<'a, I: Tokens<'a> + Drop, N: Nested<'a, I>>(
+    p: &mut Parser<'a, I>,
+    nested: &N,
+    code: Around,
+    start: BytePos,
+    is_async: bool,
+) -> Result<Operand, Failure>
+    requires ready { N.ready nested.now }
+    ensures value { Gives (λ x. (tree_of x, state_of I.state p.new)) (spec.bound (stream_of I.machine) (state_of I.state p.new)) result (reads.function_expr_by (stream_of I.machine) (N.reads nested.now I.State I.machine) (code_of code) (from start.0) is_async (state_of I.state p.old)) }
+    ensures shorter { Falls result (spec.bound (stream_of I.machine) (state_of I.state p.new)) (spec.bound (stream_of I.machine) (state_of I.state p.old)) }
+{
+    let node = function_expr(p, nested, code, start, is_async)?;
+    made::fn_expr(p.alloc, node)
+}

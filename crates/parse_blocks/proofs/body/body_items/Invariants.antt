@@ -1,0 +1,18 @@
+use Rattle.std.proofs.Common.{◌≡◌, ◌≤◌}
+use Rattle.grammar_spec.specs.Reader.Source.{iterate, bound}
+use Rattle.grammar_spec.specs.Reader.Statements.{body_step}
+use Rattle.parse_state.specs.Codes.{code_of}
+use Rattle.parse_state.specs.Cursors.{stream_of}
+use Rattle.parse_state.specs.States.{state_of}
+use Rattle.parse_blocks.specs.Lists.{body_items, body_of, FitBody}
+use Rattle.parse_blocks.proofs.body.body_items.Given as goal
+
+abbrev pub invariant-turns : goal.invariant-turns
+invariant-turns g l = let m = stream_of g.I.Tokens.machine in let inside = g.N.Nested.reads l.fn.nested _ g.I.Tokens.machine in record {
+  reads : body_items m inside (code_of l.fn.code) (state_of g.I.Tokens.state l.fn.p) ≡ iterate (bound m) (body_step m inside) (body_of l.read) (state_of g.I.Tokens.state l.p);
+  fits : FitBody l.read;
+  not_longer : bound m (state_of g.I.Tokens.state l.p) ≤ bound m (state_of g.I.Tokens.state l.fn.p);
+}
+
+abbrev pub decreases-turns : goal.decreases-turns
+decreases-turns g l = bound (stream_of g.I.Tokens.machine) (state_of g.I.Tokens.state l.p)

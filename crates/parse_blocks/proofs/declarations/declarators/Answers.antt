@@ -1,0 +1,12 @@
+use Rattle.std.proofs.Common.{rules, ◌∙◌}
+use Rattle.grammar_spec.specs.Reader.Source as spec
+use Rattle.grammar_spec.specs.Reader.Statements as reads
+use Rattle.parse_state.proofs.Iterate.{iterate_done, iterates}
+use Rattle.parse_blocks.proofs.declarations.declarators.Goals as goal
+
+pub returns-in_err-declarator_turn-clause-value : goal.returns-in_err-declarator_turn-clause-value
+unfolding reads.declarators_by spec.iterate spec.iterate_n
+returns-in_err-declarator_turn-clause-value g c = search (rules, iterates)
+
+pub returns-clause-value : goal.returns-clause-value
+returns-clause-value g c = c.turns.invariant.reads ∙ iterate_done _ _ _ _ _ _ (search rules)

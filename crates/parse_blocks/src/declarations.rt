@@ -1,0 +1,171 @@
+//! Declarations of variables (ECMA-262, 14.3).
+ghost use Rattle.std.specs.Prelude.{◌≡◌, ◌≢◌, None, false, IfOk};
+ghost use Rattle.grammar_spec.specs.Tokens.Input.{kind};
+ghost use Rattle.grammar_spec.specs.Tokens.Shape as shape;
+ghost use Rattle.tree_nodes.specs.Fits.{fits_var_declarator};
+ghost use Rattle.tree_nodes.specs.Placed.{holds_stmt, inner};
+ghost use Rattle.tree_nodes.specs.View.{var_decl_kind_word, view_var_declarator};
+ghost use Rattle.grammar_spec.specs.Reader.Source as spec;
+ghost use Rattle.grammar_spec.specs.Reader.Statements as reads;
+ghost use Rattle.parse_state.specs.Answers.{Falls, Gives, going_on};
+ghost use Rattle.parse_state.specs.Codes.{code_of};
+ghost use Rattle.parse_state.specs.Cursors.{stream_of};
+ghost use Rattle.parse_state.specs.States.{from, state_of};
+ghost use Rattle.parse_operands.specs.Operands.{tree_of};
+ghost use Rattle.parse_blocks.specs.Declarators.{declarators_of, FitDeclarators, TellsEnd};
+
+use crate::made;
+use base_token::BytePos;
+use parse_operands::{Nested, Operand};
+use parse_state::operators::{ASSIGNMENT, BINDING_END};
+use parse_state::{Around, Failure, Parser, Tokens, kinds};
+use tree_nodes::{ExprKind, StmtBox, VarDeclKind, VarDeclarator};
+
+/// Declarators so far, and the class of the last one's end.
+#[derive(Drop)]
+pub struct DeclaratorList {
+    pub items: Vec<VarDeclarator>,
+    pub end: u8,
+}
+
+/// Whether an expression is left out, which none is.
+fn is_absent(operand: &Operand) -> bool
+    ensures { result ≡ shape.is_absent (tree_of operand.now) }
+{
+    match &operand.expr.get().kind {
+        ExprKind::Seq(_) => false,
+        _ => false,
+    }
+}
+
+/// A name or a pattern, and its initialiser where one follows; beside the class of its end.
+#[inline(never)]
+#[tactic(auto, using(parse_state::proofs::Marks::marks), unfolding(grammar_spec::specs::Reader::Statements::declarator_by))]
+pub fn declarator<'a, I: Tokens<'a> + Drop, N: Nested<'a, I>>(
+    p: &mut Parser<'a, I>,
+    nested: &N,
+    code: Around,
+) -> Result<(VarDeclarator, u8), Failure>
+    requires ready { N.ready nested.now }
+    ensures value { Gives (λ x. (view_var_declarator inner x.0, state_of I.state p.new)) (spec.bound (stream_of I.machine) (state_of I.state p.new)) result (reads.declarator_by (stream_of I.machine) (N.reads nested.now I.State I.machine) (code_of code) (state_of I.state p.old)) }
+    ensures fits { IfOk result (λ x. fits_var_declarator (λ p. p) x.0) }
+    ensures end { IfOk result (λ x. x.1 ≡ shape.declarator_end (view_var_declarator inner x.0)) }
+    ensures shorter { Falls result (spec.bound (stream_of I.machine) (state_of I.state p.new)) (spec.bound (stream_of I.machine) (state_of I.state p.old)) }
+{
+    let start = p.lo();
+    let name = nested.pat(p, code)?;
+    if p.eat(kinds::ASSIGN)? {
+        let init = nested.expr(p, code, ASSIGNMENT)?;
+        let end = if is_absent(&init) {
+            BINDING_END
+        } else {
+            init.end
+        };
+        let span = p.since(start);
+        return Ok((
+            VarDeclarator {
+                span,
+                name,
+                init: Some(init.expr),
+            },
+            end,
+        ));
+    }
+    let span = p.since(start);
+    Ok((
+        VarDeclarator {
+            span,
+            name,
+            init: None,
+        },
+        BINDING_END,
+    ))
+}
+
+/// One more declarator. Whether another follows, behind a comma.
+#[inline(always)]
+#[tactic(auto, using(crate::proofs::Declarators::declared_more), unfolding(grammar_spec::specs::Reader::Statements::declarator_step))]
+pub fn declarator_turn<'a, I: Tokens<'a> + Drop, N: Nested<'a, I>>(
+    p: &mut Parser<'a, I>,
+    nested: &N,
+    code: Around,
+    list: &mut DeclaratorList,
+) -> Result<bool, Failure>
+    requires ready { N.ready nested.now }
+    requires fits { FitDeclarators list.old }
+    ensures value { Gives (λ x. (going_on x (declarators_of list.new), state_of I.state p.new)) (spec.bound (stream_of I.machine) (state_of I.state p.new)) result (reads.declarator_step (stream_of I.machine) (N.reads nested.now I.State I.machine) (code_of code) (declarators_of list.old) (state_of I.state p.old)) }
+    ensures fits { IfOk result (λ x. FitDeclarators list.new) }
+    ensures end { IfOk result (λ _. TellsEnd list.new) }
+    ensures shorter { Falls result (spec.bound (stream_of I.machine) (state_of I.state p.new)) (spec.bound (stream_of I.machine) (state_of I.state p.old)) }
+{
+    let (item, end) = declarator(p, nested, code)?;
+    list.items.push(item)?;
+    list.end = end;
+    p.eat(kinds::COMMA)
+}
+
+/// The declarators of a declaration.
+#[inline(never)]
+#[tactic(auto, using(parse_state::proofs::Iterate::iterates), unfolding(grammar_spec::specs::Reader::Statements::declarators_by))]
+pub fn declarators<'a, I: Tokens<'a> + Drop, N: Nested<'a, I>>(
+    p: &mut Parser<'a, I>,
+    nested: &N,
+    code: Around,
+) -> Result<DeclaratorList, Failure>
+    requires ready { N.ready nested.now }
+    ensures value { Gives (λ x. (declarators_of x, state_of I.state p.new)) (spec.bound (stream_of I.machine) (state_of I.state p.new)) result (reads.declarators_by (stream_of I.machine) (N.reads nested.now I.State I.machine) (code_of code) (state_of I.state p.old)) }
+    ensures fits { IfOk result (λ x. FitDeclarators x) }
+    ensures end { IfOk result (λ x. TellsEnd x) }
+    ensures shorter { Falls result (spec.bound (stream_of I.machine) (state_of I.state p.new)) (spec.bound (stream_of I.machine) (state_of I.state p.old)) }
+{
+    let mut list = DeclaratorList {
+        items: Vec::new(p.alloc),
+        end: BINDING_END,
+    };
+    'turns: while declarator_turn(p, nested, code, &mut list)? {}
+    Ok(list)
+}
+
+/// `var`, `let` or `const`, with what it declares.
+#[inline(never)]
+#[tactic(auto, using(parse_state::proofs::Marks::marks, parse_operands::proofs::Packs::packs), unfolding(grammar_spec::specs::Reader::Statements::variables_by))]
+pub fn variables<'a, I: Tokens<'a> + Drop, N: Nested<'a, I>>(
+    p: &mut Parser<'a, I>,
+    nested: &N,
+    code: Around,
+    word: VarDeclKind,
+) -> Result<StmtBox, Failure>
+    requires ready { N.ready nested.now }
+    requires kind { var_decl_kind_word word ≡ kind (spec.input (stream_of I.machine) (state_of I.state p.old)) }
+    requires some { kind (spec.input (stream_of I.machine) (state_of I.state p.old)) ≢ 0 }
+    ensures value { Gives (λ x. (inner x.part.value, state_of I.state p.new)) (spec.bound (stream_of I.machine) (state_of I.state p.new)) result (reads.variables_by (stream_of I.machine) (N.reads nested.now I.State I.machine) (code_of code) (state_of I.state p.old)) }
+    ensures holds { IfOk result (λ x. holds_stmt x.part.value) }
+    ensures shorter { Falls result (spec.bound (stream_of I.machine) (state_of I.state p.new)) (spec.bound (stream_of I.machine) (state_of I.state p.old)) }
+{
+    let start = p.lo();
+    p.eat_word(code, p.kind())?;
+    let list = declarators(p, nested, code)?;
+    p.end_of(code, list.end)?;
+    made::var_decl(p.alloc, p.since(start), word, list.items)
+}
+
+/// `using`, with what it declares. Before it `await` may stand.
+#[inline(never)]
+#[tactic(auto, using(parse_state::proofs::Marks::marks, parse_operands::proofs::Packs::packs), unfolding(grammar_spec::specs::Reader::Statements::using_by))]
+pub fn using<'a, I: Tokens<'a> + Drop, N: Nested<'a, I>>(
+    p: &mut Parser<'a, I>,
+    nested: &N,
+    code: Around,
+    start: BytePos,
+    awaits: bool,
+) -> Result<StmtBox, Failure>
+    requires ready { N.ready nested.now }
+    ensures value { Gives (λ x. (inner x.part.value, state_of I.state p.new)) (spec.bound (stream_of I.machine) (state_of I.state p.new)) result (reads.using_by (stream_of I.machine) (N.reads nested.now I.State I.machine) (code_of code) (from start.0) awaits (state_of I.state p.old)) }
+    ensures holds { IfOk result (λ x. holds_stmt x.part.value) }
+    ensures shorter { Falls result (spec.bound (stream_of I.machine) (state_of I.state p.new)) (spec.bound (stream_of I.machine) (state_of I.state p.old)) }
+{
+    p.eat_word(code, kinds::USING)?;
+    let list = declarators(p, nested, code)?;
+    p.end_of(code, list.end)?;
+    made::using_decl(p.alloc, p.since(start), awaits, list.items)
+}

@@ -1,0 +1,214 @@
+//! The loop over the operators behind an operand.
+ghost use Rattle.std.specs.Prelude.{◌≡◌, ◌≢◌, false, true, ◌<◌, All, IfOk, IsTrue, map};
+ghost use Rattle.base_token.specs.Kinds.{question_mark_kind};
+ghost use Rattle.base_token.specs.OperatorKinds.{assign_op_kind, binary_op_kind};
+ghost use Rattle.grammar_spec.specs.Tokens.Input.{kind, kind2, lo};
+ghost use Rattle.tree_nodes.specs.Fits.{fits_expr_or_spread, fits_member_prop};
+ghost use Rattle.tree_nodes.specs.Placed.{holds_expr, inner};
+ghost use Rattle.tree_nodes.specs.View.{unary_op_word, update_op_word, view_computed_prop_name, view_expr_or_spread, view_member_prop, view_private_name};
+ghost use Rattle.grammar_spec.specs.Reader.Source as spec;
+ghost use Rattle.grammar_spec.specs.Reader.Expressions as reads;
+ghost use Rattle.parse_state.specs.Answers.{Falls, Gives, IsSyntax, Stays, going_on};
+ghost use Rattle.parse_state.specs.Codes.{code_of};
+ghost use Rattle.parse_state.specs.Cursors.{stream_of};
+ghost use Rattle.parse_state.specs.States.{from, from_span, state_of};
+ghost use Rattle.parse_operands.specs.Lists.{arguments_of, elements_of, FitArguments, FitElements};
+ghost use Rattle.parse_operands.specs.Operands.{tree_of};
+ghost use Rattle.parse_expressions.specs.Steps.{postfix_by, question_by, sequence_by};
+
+use crate::operators::{assignment, binary, call, chain, conditional, index, member};
+use crate::sequences;
+use crate::templates::tagged;
+use base_token::BytePos;
+use parse_operands::operators::{assign_op, binary_op, update_op};
+use parse_operands::{Held, Nested, Operand, made};
+use parse_state::operators::{ASSIGNMENT, CALL, COALESCE, MEMBER, NEW_LEVEL};
+use parse_state::{Around, Failure, Parser, Tokens, kinds};
+use tree_nodes::UpdateOp;
+
+/// A comma and one more expression.
+#[inline(never)]
+#[tactic(auto, using(parse_state::proofs::Marks::marks), unfolding(crate::specs::Steps::sequence_by))]
+pub fn sequence<'a, I: Tokens<'a> + Drop, N: Nested<'a, I>>(
+    p: &mut Parser<'a, I>,
+    nested: &N,
+    code: Around,
+    start: BytePos,
+    left: Operand,
+) -> Result<Operand, Failure>
+    requires ready { N.ready nested.now }
+    ensures value { Gives (λ x. (tree_of x, state_of I.state p.new)) (spec.bound (stream_of I.machine) (state_of I.state p.new)) result (sequence_by (stream_of I.machine) (N.reads nested.now I.State I.machine) (code_of code) (from start.0) (tree_of left) (state_of I.state p.old)) }
+    ensures shorter { Falls result (spec.bound (stream_of I.machine) (state_of I.state p.new)) (spec.bound (stream_of I.machine) (state_of I.state p.old)) }
+{
+    let left = Held { value: left };
+    p.bump()?;
+    let right = nested.expr(p, code, ASSIGNMENT)?;
+    sequences::seq_expr(p.alloc, p.since(start), left.take(), right)
+}
+
+/// A `?`: of a chain where a dot follows, else of a conditional.
+#[inline(never)]
+#[tactic(auto, using(parse_state::proofs::Marks::marks), unfolding(crate::specs::Steps::question_by))]
+pub fn question<'a, I: Tokens<'a> + Drop, N: Nested<'a, I>>(
+    p: &mut Parser<'a, I>,
+    nested: &N,
+    code: Around,
+    start: BytePos,
+    left: Operand,
+) -> Result<Operand, Failure>
+    requires ready { N.ready nested.now }
+    requires mark { kind (spec.input (stream_of I.machine) (state_of I.state p.old)) ≡ question_mark_kind }
+    ensures value { Gives (λ x. (tree_of x, state_of I.state p.new)) (spec.bound (stream_of I.machine) (state_of I.state p.new)) result (question_by (stream_of I.machine) (N.reads nested.now I.State I.machine) (code_of code) (from start.0) (tree_of left) (state_of I.state p.old)) }
+    ensures shorter { Falls result (spec.bound (stream_of I.machine) (state_of I.state p.new)) (spec.bound (stream_of I.machine) (state_of I.state p.old)) }
+{
+    let left = Held { value: left };
+    let (second, _) = p.second()?;
+    if second != kinds::DOT {
+        if left.value.level < COALESCE {
+            return Err(p.unexpected());
+        }
+        return conditional(p, nested, code, start, left.take());
+    }
+    if left.value.level < CALL {
+        return Err(p.unexpected());
+    }
+    p.bump()?;
+    p.bump()?;
+    chain(p, nested, code, start, left.take())
+}
+
+/// `++` or `--` behind its operand.
+#[inline(never)]
+#[tactic(auto, using(parse_state::proofs::Marks::marks), unfolding(crate::specs::Steps::postfix_by))]
+pub fn postfix<'a, I: Tokens<'a> + Drop>(
+    p: &mut Parser<'a, I>,
+    start: BytePos,
+    op: UpdateOp,
+    left: Operand,
+) -> Result<Operand, Failure>
+    requires mark { update_op_word op ≡ kind (spec.input (stream_of I.machine) (state_of I.state p.old)) }
+    requires some { kind (spec.input (stream_of I.machine) (state_of I.state p.old)) ≢ 0 }
+    ensures value { Gives (λ x. (tree_of x, state_of I.state p.new)) (spec.bound (stream_of I.machine) (state_of I.state p.new)) result (postfix_by (stream_of I.machine) (from start.0) (tree_of left) (state_of I.state p.old)) }
+    ensures shorter { Falls result (spec.bound (stream_of I.machine) (state_of I.state p.new)) (spec.bound (stream_of I.machine) (state_of I.state p.old)) }
+{
+    if left.level < NEW_LEVEL {
+        return Err(p.unexpected());
+    }
+    if p.breaks() {
+        return Err(p.unexpected());
+    }
+    p.bump()?;
+    made::postfix_expr(p.alloc, p.since(start), op, left)
+}
+
+/// What is wrong with the token that comes, behind what was read, which is let go here.
+#[inline(never)]
+fn refused<'a, I: Tokens<'a> + Drop>(p: &Parser<'a, I>, _left: Operand) -> Failure
+    ensures { IsSyntax result }
+{
+    p.unexpected()
+}
+
+/// One operator behind what was read.
+#[inline(never)]
+#[tactic(auto, using(parse_state::proofs::Marks::marks), unfolding(grammar_spec::specs::Reader::Expressions::step_by, crate::specs::Steps::sequence_by, crate::specs::Steps::question_by, crate::specs::Steps::postfix_by, crate::specs::Steps::tagged_by))]
+pub fn step<'a, I: Tokens<'a> + Drop, N: Nested<'a, I>>(
+    p: &mut Parser<'a, I>,
+    nested: &N,
+    code: Around,
+    start: BytePos,
+    left: Operand,
+) -> Result<Operand, Failure>
+    requires ready { N.ready nested.now }
+    ensures value { Gives (λ x. (tree_of x, state_of I.state p.new)) (spec.bound (stream_of I.machine) (state_of I.state p.new)) result (reads.step_by (stream_of I.machine) (N.reads nested.now I.State I.machine) (code_of code) (from start.0) (tree_of left) (state_of I.state p.old)) }
+    ensures shorter { Falls result (spec.bound (stream_of I.machine) (state_of I.state p.new)) (spec.bound (stream_of I.machine) (state_of I.state p.old)) }
+{
+    let kind = p.kind();
+    if kind == kinds::END {
+        return Err(refused(p, left));
+    }
+    if kind == kinds::COMMA {
+        return sequence(p, nested, code, start, left);
+    }
+    if let Some(op) = assign_op(kind) {
+        return assignment(p, nested, code, start, op, left);
+    }
+    if kind == kinds::QUESTION_MARK {
+        return question(p, nested, code, start, left);
+    }
+    if let Some(op) = binary_op(code, kind) {
+        if !made::fits_left(kind, &left) {
+            return Err(refused(p, left));
+        }
+        return binary(p, nested, code, start, op, left);
+    }
+    if let Some(op) = update_op(kind) {
+        return postfix(p, start, op, left);
+    }
+    if left.level < CALL {
+        return Err(refused(p, left));
+    }
+    match kind {
+        kinds::LEFT_PAREN => call(p, nested, code, start, left),
+        kinds::LEFT_BRACKET => index(p, nested, code, start, left),
+        kinds::DOT => member(p, nested, code, start, left),
+        kinds::BACK_QUOTE if !made::is_chain(&left) => tagged(p, nested, code, start, left),
+        _ => Err(refused(p, left)),
+    }
+}
+
+/// One operator behind what was read, if it binds as tightly as asked. Whether there was one.
+#[inline(always)]
+#[tactic(auto, using(parse_state::proofs::Marks::marks), unfolding(grammar_spec::specs::Reader::Expressions::loop_step))]
+pub fn turn<'a, I: Tokens<'a> + Drop, N: Nested<'a, I>>(
+    p: &mut Parser<'a, I>,
+    nested: &N,
+    code: Around,
+    least: u8,
+    start: BytePos,
+    left: Operand,
+) -> Result<(bool, Operand), Failure>
+    requires ready { N.ready nested.now }
+    ensures value { Gives (λ x. (going_on x.0 (tree_of x.1), state_of I.state p.new)) (spec.bound (stream_of I.machine) (state_of I.state p.new)) result (reads.loop_step (stream_of I.machine) (N.reads nested.now I.State I.machine) (code_of code) least (from start.0) (tree_of left) (state_of I.state p.old)) }
+    ensures shorter { IfOk result (λ x. IsTrue x.0 → spec.bound (stream_of I.machine) (state_of I.state p.new) < spec.bound (stream_of I.machine) (state_of I.state p.old)) }
+    ensures not_longer { Stays result (spec.bound (stream_of I.machine) (state_of I.state p.new)) (spec.bound (stream_of I.machine) (state_of I.state p.old)) }
+{
+    let left = Held { value: left };
+    let level = p.goes(code, left.value.end)?;
+    if level < least {
+        return Ok((false, left.take()));
+    }
+    let found = step(p, nested, code, start, left.take())?;
+    Ok((true, found))
+}
+
+/// All operators behind an operand that bind as tightly as asked.
+#[inline(never)]
+#[tactic(auto, using(parse_state::proofs::Iterate::iterates), unfolding(grammar_spec::specs::Reader::Expressions::loop_by))]
+pub fn operators<'a, I: Tokens<'a> + Drop, N: Nested<'a, I>>(
+    p: &mut Parser<'a, I>,
+    nested: &N,
+    code: Around,
+    least: u8,
+    start: BytePos,
+    first: Operand,
+) -> Result<Operand, Failure>
+    requires ready { N.ready nested.now }
+    ensures value { Gives (λ x. (tree_of x, state_of I.state p.new)) (spec.bound (stream_of I.machine) (state_of I.state p.new)) result (reads.loop_by (stream_of I.machine) (N.reads nested.now I.State I.machine) (code_of code) least (from start.0) (tree_of first) (state_of I.state p.old)) }
+    ensures not_longer { Stays result (spec.bound (stream_of I.machine) (state_of I.state p.new)) (spec.bound (stream_of I.machine) (state_of I.state p.old)) }
+{
+    if first.level < least {
+        if first.level == NEW_LEVEL && least == MEMBER {
+            return Ok(first);
+        }
+        return Err(refused(p, first));
+    }
+    let mut left = first;
+    'turns: loop {
+        let (more, found) = turn(p, nested, code, least, start, left)?;
+        left = found;
+        if !more {
+            return Ok(left);
+        }
+    }
+}

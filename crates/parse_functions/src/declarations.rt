@@ -1,0 +1,40 @@
+//! Declarations of functions.
+ghost use Rattle.std.specs.Prelude.{IfOk};
+ghost use Rattle.tree_nodes.specs.Placed.{holds_stmt, inner};
+ghost use Rattle.grammar_spec.specs.Reader.Source as spec;
+ghost use Rattle.grammar_spec.specs.Reader.Statements as reads;
+ghost use Rattle.parse_state.specs.Answers.{Falls, Gives};
+ghost use Rattle.parse_state.specs.Codes.{code_of};
+ghost use Rattle.parse_state.specs.Cursors.{stream_of};
+ghost use Rattle.parse_state.specs.States.{from, state_of};
+
+use crate::functions::function;
+use crate::heads::star;
+use crate::made;
+use base_token::BytePos;
+use parse_operands::Nested;
+use parse_state::{Around, Failure, Parser, Tokens, kinds};
+use tree_nodes::{Ident, StmtBox};
+
+/// A function with its name, from `function` on. Before it `async` may stand.
+#[inline(never)]
+#[tactic(auto, using(parse_state::proofs::Marks::marks), unfolding(grammar_spec::specs::Reader::Statements::function_decl_by))]
+pub fn function_decl<'a, I: Tokens<'a> + Drop, N: Nested<'a, I>>(
+    p: &mut Parser<'a, I>,
+    nested: &N,
+    code: Around,
+    start: BytePos,
+    is_async: bool,
+) -> Result<StmtBox, Failure>
+    requires ready { N.ready nested.now }
+    ensures value { Gives (λ x. (inner x.part.value, state_of I.state p.new)) (spec.bound (stream_of I.machine) (state_of I.state p.new)) result (reads.function_decl_by (stream_of I.machine) (N.reads nested.now I.State I.machine) (code_of code) (from start.0) is_async (state_of I.state p.old)) }
+    ensures holds { IfOk result (λ x. holds_stmt x.part.value) }
+    ensures shorter { Falls result (spec.bound (stream_of I.machine) (state_of I.state p.new)) (spec.bound (stream_of I.machine) (state_of I.state p.old)) }
+{
+    p.eat_word(code, kinds::FUNCTION)?;
+    let generator = star(p, nested)?;
+    let span = p.place();
+    let sym = p.name(code)?;
+    let read = function(p, nested, code, start, generator, is_async)?;
+    made::fn_decl(p.alloc, p.since(start), Ident { span, sym }, read)
+}

@@ -1,0 +1,59 @@
+//! `while` and `do` (ECMA-262, 14.7.2 and 14.7.3).
+ghost use Rattle.std.specs.Prelude.{false, IfOk};
+ghost use Rattle.tree_nodes.specs.Placed.{holds_stmt, inner};
+ghost use Rattle.grammar_spec.specs.Reader.Source as spec;
+ghost use Rattle.grammar_spec.specs.Reader.Statements as reads;
+ghost use Rattle.parse_state.specs.Answers.{Falls, Gives};
+ghost use Rattle.parse_state.specs.Codes.{code_of};
+ghost use Rattle.parse_state.specs.Cursors.{stream_of};
+ghost use Rattle.parse_state.specs.States.{state_of};
+
+use crate::made;
+use parse_blocks::parts::{in_parens, sub};
+use parse_operands::Nested;
+use parse_state::{Around, Failure, Parser, Tokens, kinds};
+use tree_nodes::StmtBox;
+
+/// `while`.
+#[inline(never)]
+#[tactic(auto, using(parse_state::proofs::Marks::marks), unfolding(grammar_spec::specs::Reader::Statements::while_by))]
+pub fn while_loop<'a, I: Tokens<'a> + Drop, N: Nested<'a, I>>(
+    p: &mut Parser<'a, I>,
+    nested: &N,
+    code: Around,
+) -> Result<StmtBox, Failure>
+    requires ready { N.ready nested.now }
+    ensures value { Gives (λ x. (inner x.part.value, state_of I.state p.new)) (spec.bound (stream_of I.machine) (state_of I.state p.new)) result (reads.while_by (stream_of I.machine) (N.reads nested.now I.State I.machine) (code_of code) (state_of I.state p.old)) }
+    ensures holds { IfOk result (λ x. holds_stmt x.part.value) }
+    ensures shorter { Falls result (spec.bound (stream_of I.machine) (state_of I.state p.new)) (spec.bound (stream_of I.machine) (state_of I.state p.old)) }
+{
+    let start = p.lo();
+    p.eat_word(code, kinds::WHILE)?;
+    let test = in_parens(p, nested, code)?;
+    let body = sub(p, nested, code, false)?;
+    made::while_stmt(p.alloc, p.since(start), test, body)
+}
+
+/// `do`, with a semicolon behind it or with none.
+#[inline(never)]
+#[tactic(auto, using(parse_state::proofs::Marks::marks), unfolding(grammar_spec::specs::Reader::Statements::do_by))]
+pub fn do_loop<'a, I: Tokens<'a> + Drop, N: Nested<'a, I>>(
+    p: &mut Parser<'a, I>,
+    nested: &N,
+    code: Around,
+) -> Result<StmtBox, Failure>
+    requires ready { N.ready nested.now }
+    ensures value { Gives (λ x. (inner x.part.value, state_of I.state p.new)) (spec.bound (stream_of I.machine) (state_of I.state p.new)) result (reads.do_by (stream_of I.machine) (N.reads nested.now I.State I.machine) (code_of code) (state_of I.state p.old)) }
+    ensures holds { IfOk result (λ x. holds_stmt x.part.value) }
+    ensures shorter { Falls result (spec.bound (stream_of I.machine) (state_of I.state p.new)) (spec.bound (stream_of I.machine) (state_of I.state p.old)) }
+{
+    let start = p.lo();
+    p.eat_word(code, kinds::DO)?;
+    let body = sub(p, nested, code, false)?;
+    p.eat_word(code, kinds::WHILE)?;
+    let test = in_parens(p, nested, code)?;
+    if p.eat(kinds::SEMICOLON)? {
+        return made::do_while_stmt(p.alloc, p.since(start), test, body);
+    }
+    made::do_while_stmt(p.alloc, p.since(start), test, body)
+}

@@ -1,0 +1,88 @@
+//! The statements of scripts.
+ghost use Rattle.std.specs.Prelude.{◌≡◌, ◌<◌, false, true, IfOk, IsTrue};
+ghost use Rattle.grammar_spec.specs.Reader.Source as spec;
+ghost use Rattle.grammar_spec.specs.Reader.Modules as reads;
+ghost use Rattle.parse_state.specs.Answers.{Falls, Gives, going_on, Stays};
+ghost use Rattle.parse_state.specs.Codes.{code_of};
+ghost use Rattle.parse_state.specs.Cursors.{stream_of};
+ghost use Rattle.parse_state.specs.States.{state_of};
+ghost use Rattle.parse_blocks.specs.Lists.{body_of, FitBody};
+ghost use Rattle.parse_modules.specs.Items.{items_by};
+
+use crate::items::{ended, script_item};
+use parse_blocks::BodySoFar;
+use parse_blocks::body::{is_directive, is_use_strict};
+use parse_blocks::codes::turned;
+use parse_operands::Nested;
+use parse_state::code::{in_list, turned_strict};
+use parse_state::{Around, Failure, Parser, Tokens};
+
+/// One more statement of a script. A directive may turn what follows strict.
+#[inline(never)]
+#[tactic(auto, unfolding(grammar_spec::specs::Reader::Modules::program_item))]
+pub fn next_stmt<'a, I: Tokens<'a> + Drop, N: Nested<'a, I>>(
+    p: &mut Parser<'a, I>,
+    nested: &N,
+    body: &mut BodySoFar,
+) -> Result<(), Failure>
+    requires ready { N.ready nested.now }
+    requires fits { FitBody body.old }
+    ensures value { Gives (λ _. (spec.go_on (body_of body.new), state_of I.state p.new)) (spec.bound (stream_of I.machine) (state_of I.state p.new)) result (reads.program_item (stream_of I.machine) (N.reads nested.now I.State I.machine) false (body_of body.old) (state_of I.state p.old)) }
+    ensures fits { IfOk result (λ _. FitBody body.new) }
+    ensures shorter { Falls result (spec.bound (stream_of I.machine) (state_of I.state p.new)) (spec.bound (stream_of I.machine) (state_of I.state p.old)) }
+{
+    let read = script_item(p, nested, in_list(body.code))?;
+    if body.starts && is_use_strict(read.get()) {
+        body.code = turned_strict(body.code);
+        turned(p, body.code.context);
+    } else {
+        body.starts = body.starts && is_directive(read.get());
+    }
+    body.items.push(read)?;
+    Ok(())
+}
+
+/// One more statement of a script, or its end. Whether another may follow.
+#[inline(never)]
+#[tactic(auto, unfolding(grammar_spec::specs::Reader::Modules::program_step))]
+pub fn stmt_turn<'a, I: Tokens<'a> + Drop, N: Nested<'a, I>>(
+    p: &mut Parser<'a, I>,
+    nested: &N,
+    body: &mut BodySoFar,
+) -> Result<bool, Failure>
+    requires ready { N.ready nested.now }
+    requires fits { FitBody body.old }
+    ensures value { Gives (λ x. (going_on x (body_of body.new), state_of I.state p.new)) (spec.bound (stream_of I.machine) (state_of I.state p.new)) result (reads.program_step (stream_of I.machine) (N.reads nested.now I.State I.machine) false (body_of body.old) (state_of I.state p.old)) }
+    ensures fits { IfOk result (λ _. FitBody body.new) }
+    ensures shorter { IfOk result (λ b. IsTrue b → spec.bound (stream_of I.machine) (state_of I.state p.new) < spec.bound (stream_of I.machine) (state_of I.state p.old)) }
+    ensures not_longer { Stays result (spec.bound (stream_of I.machine) (state_of I.state p.new)) (spec.bound (stream_of I.machine) (state_of I.state p.old)) }
+{
+    if ended(p) {
+        return Ok(false);
+    }
+    p.operand()?;
+    next_stmt(p, nested, body)?;
+    Ok(true)
+}
+
+/// The statements of a script.
+#[inline(never)]
+#[tactic(auto, using(parse_state::proofs::Iterate::iterates), unfolding(crate::specs::Items::items_by))]
+pub fn script_items<'a, I: Tokens<'a> + Drop, N: Nested<'a, I>>(
+    p: &mut Parser<'a, I>,
+    nested: &N,
+    code: Around,
+) -> Result<BodySoFar, Failure>
+    requires ready { N.ready nested.now }
+    ensures value { Gives (λ x. (body_of x, state_of I.state p.new)) (spec.bound (stream_of I.machine) (state_of I.state p.new)) result (items_by (stream_of I.machine) (N.reads nested.now I.State I.machine) false (code_of code) (state_of I.state p.old)) }
+    ensures fits { IfOk result (λ x. FitBody x) }
+    ensures not_longer { Stays result (spec.bound (stream_of I.machine) (state_of I.state p.new)) (spec.bound (stream_of I.machine) (state_of I.state p.old)) }
+{
+    let mut read = BodySoFar {
+        items: Vec::new(p.alloc),
+        code,
+        starts: true,
+    };
+    'turns: while stmt_turn(p, nested, &mut read)? {}
+    Ok(read)
+}

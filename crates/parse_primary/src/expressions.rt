@@ -1,0 +1,79 @@
+//! Whole expressions.
+ghost use Rattle.std.specs.Prelude.{◌≡◌, false, true};
+ghost use Rattle.grammar_spec.specs.Reader.Source as spec;
+ghost use Rattle.grammar_spec.specs.Reader.Expressions as reads;
+ghost use Rattle.parse_state.specs.Answers.{Falls, Gives};
+ghost use Rattle.parse_state.specs.Codes.{code_of};
+ghost use Rattle.parse_state.specs.Cursors.{stream_of};
+ghost use Rattle.parse_state.specs.States.{state_of};
+ghost use Rattle.parse_operands.specs.Operands.{tree_of};
+
+use crate::prefixes::prefix;
+use base_token::BinaryOp;
+use parse_expressions::operators::binary;
+use parse_expressions::turns::operators;
+use parse_operands::names::private_name;
+use parse_operands::{Nested, Operand, made};
+use parse_state::operators::binary_level;
+use parse_state::{Around, Failure, Parser, Tokens, kinds};
+
+/// `#x in`, where a relation may stand, and the operators behind it (ECMA-262, 13.10).
+#[inline(never)]
+#[tactic(auto, using(parse_state::proofs::Marks::marks, crate::proofs::Starts::starts, parse_state::proofs::Marks::loop_from), unfolding(grammar_spec::specs::Reader::Expressions::private_in))]
+pub fn private_in<'a, I: Tokens<'a> + Drop, N: Nested<'a, I>>(
+    p: &mut Parser<'a, I>,
+    nested: &N,
+    code: Around,
+    level: u8,
+) -> Result<Operand, Failure>
+    requires ready { N.ready nested.now }
+    ensures value { Gives (λ x. (tree_of x, state_of I.state p.new)) (spec.bound (stream_of I.machine) (state_of I.state p.new)) result (reads.private_in (stream_of I.machine) (N.reads nested.now I.State I.machine) (code_of code) level (state_of I.state p.old)) }
+    ensures shorter { Falls result (spec.bound (stream_of I.machine) (state_of I.state p.new)) (spec.bound (stream_of I.machine) (state_of I.state p.old)) }
+{
+    let start = p.lo();
+    let name = private_name(p, nested)?;
+    if !p.at(kinds::IN) || !code.context.include_in_expr || binary_level(kinds::IN) < level {
+        return Err(p.unexpected());
+    }
+    let left = made::private_operand(p.alloc, name)?;
+    let first = binary(p, nested, code, start, BinaryOp::In, left)?;
+    operators(p, nested, code, level, start, first)
+}
+
+/// An expression of a level or a tighter one, whose first token is read as what starts one.
+#[inline(always)]
+#[tactic(auto, using(parse_state::proofs::Marks::marks, parse_state::proofs::Marks::loop_from), unfolding(grammar_spec::specs::Reader::Expressions::expr_from))]
+pub fn expr_from<'a, I: Tokens<'a> + Drop, N: Nested<'a, I>>(
+    p: &mut Parser<'a, I>,
+    nested: &N,
+    code: Around,
+    level: u8,
+) -> Result<Operand, Failure>
+    requires ready { N.ready nested.now }
+    ensures value { Gives (λ x. (tree_of x, state_of I.state p.new)) (spec.bound (stream_of I.machine) (state_of I.state p.new)) result (reads.expr_from (stream_of I.machine) (N.reads nested.now I.State I.machine) (code_of code) level (state_of I.state p.old)) }
+    ensures shorter { Falls result (spec.bound (stream_of I.machine) (state_of I.state p.new)) (spec.bound (stream_of I.machine) (state_of I.state p.old)) }
+{
+    if p.at(kinds::HASH) {
+        return private_in(p, nested, code, level);
+    }
+    let start = p.lo();
+    let first = prefix(p, nested, code, level)?;
+    operators(p, nested, code, level, start, first)
+}
+
+/// An expression of a level or a tighter one.
+#[inline(never)]
+#[tactic(auto, unfolding(grammar_spec::specs::Reader::Expressions::expr_by))]
+pub fn expr<'a, I: Tokens<'a> + Drop, N: Nested<'a, I>>(
+    p: &mut Parser<'a, I>,
+    nested: &N,
+    code: Around,
+    level: u8,
+) -> Result<Operand, Failure>
+    requires ready { N.ready nested.now }
+    ensures value { Gives (λ x. (tree_of x, state_of I.state p.new)) (spec.bound (stream_of I.machine) (state_of I.state p.new)) result (reads.expr_by (stream_of I.machine) (N.reads nested.now I.State I.machine) (code_of code) level (state_of I.state p.old)) }
+    ensures shorter { Falls result (spec.bound (stream_of I.machine) (state_of I.state p.new)) (spec.bound (stream_of I.machine) (state_of I.state p.old)) }
+{
+    p.operand()?;
+    expr_from(p, nested, code, level)
+}

@@ -1,0 +1,228 @@
+//! Words and names, and the slash that is read again.
+ghost use Rattle.std.specs.Prelude.{◌≡◌, ◌<◌, ◌≤◌, false, true, Some, IfErr, IfOk, MatchOption, OnOk};
+ghost use Rattle.grammar_spec.specs.Tokens.Input.{barred, kind};
+ghost use Rattle.lex_source.specs.Machine.{shown_spot};
+ghost use Rattle.grammar_spec.specs.Reader.Source as spec;
+ghost use Rattle.parse_state.specs.Answers.{Falls, Gives, IsMemory, Stays};
+ghost use Rattle.parse_state.specs.Codes.{code_of};
+ghost use Rattle.parse_state.specs.Cursors.{again_in, in_place, is_slash, kind_in, stream_of};
+
+use crate::ahead::Ahead;
+use crate::code::Around;
+use crate::failure::Failure;
+use crate::kind_numbers::token_number;
+use crate::kinds;
+use crate::parser::Parser;
+use crate::words::{no_name, starts_operand, strict_reserved};
+use base_token::{Atom, Context, SyntaxError, TokenAndSpan};
+use lex_source::{Look, Tokens};
+
+/// Whether a token that was read again from a slash on comes in its place: a regular expression, or a fault of one, that
+/// begins there, with the same line-break flag.
+fn in_place(slash: &TokenAndSpan<'_>, token: &TokenAndSpan<'_>) -> bool
+    ensures { result ≡ in_place (shown_spot slash.now) (Some (shown_spot token.now)) }
+{
+    let kind = token_number(&token.token);
+    (kind == kinds::REGEX || kind == kinds::ERROR)
+        && token.span.lo.0 == slash.span.lo.0
+        && token.had_line_break == slash.had_line_break
+}
+
+impl<'a, I: Tokens<'a> + Drop> Parser<'a, I> {
+    ghost use Rattle.parse_state.specs.States.{noted, state_of};
+
+    /// Whether an escape bars the word that comes from being a word of the grammar or a name.
+    pub fn is_barred(&self, context: Context) -> bool
+        ensures { result ≡ barred context (spec.input (stream_of I.machine) (state_of I.state self.now)) }
+    {
+        let kind = self.kind();
+        self.is_escaped() && (no_name(context, kind) || (strict_reserved(kind) && context.strict))
+    }
+
+    /// Whether the token that comes follows the name `await`, and could be its operand.
+    pub fn follows_await(&self) -> bool {
+        match self.awaited {
+            Some(end) => end.0 == self.last.0 && starts_operand(self.ahead.kind),
+            None => false,
+        }
+    }
+
+    /// What is wrong with a word, where the grammar has no place for it.
+    pub fn unexpected_word(&self) -> SyntaxError {
+        let context = self.input.ctx();
+        if self.is_barred(context) {
+            SyntaxError::EscapeInReservedWord
+        } else if !self.at(kinds::EXPORT) {
+            SyntaxError::Unexpected
+        } else if context.module_ {
+            SyntaxError::ExportNotAllowed
+        } else {
+            SyntaxError::ImportExportInScript
+        }
+    }
+
+    /// Whether the token that comes is a word that is a name here.
+    pub fn is_name(&self, code: Around) -> bool
+        ensures { result ≡ spec.is_name (stream_of I.machine) (code_of code) (state_of I.state self.now) }
+    {
+        self.is_word() && !no_name(code.context, self.kind()) && !self.is_barred(code.context)
+    }
+
+    /// Takes a word as a word of the grammar.
+    ///
+    /// # Errors
+    ///
+    /// Any other token is a fault.
+    #[tactic(auto, unfolding(grammar_spec::specs::Reader::Source::eat_word))]
+    pub fn eat_word(&mut self, code: Around, kind: u8) -> Result<(), Failure>
+        requires { 0 < kind }
+        ensures value { Gives (λ _. state_of I.state self.new) (spec.bound (stream_of I.machine) (state_of I.state self.new)) result (spec.eat_word (stream_of I.machine) (code_of code) kind (state_of I.state self.old)) }
+        ensures shorter { Falls result (spec.bound (stream_of I.machine) (state_of I.state self.new)) (spec.bound (stream_of I.machine) (state_of I.state self.old)) }
+    {
+        if !self.is_barred(code.context) && self.eat(kind)? {
+            return Ok(());
+        }
+        Err(self.unexpected())
+    }
+
+    /// Takes a word, and keeps its text.
+    ///
+    /// # Errors
+    ///
+    /// Any other token is a fault.
+    #[tactic(auto, unfolding(grammar_spec::specs::Reader::Source::any_word))]
+    pub fn any_word(&mut self) -> Result<Atom, Failure>
+        ensures value { Gives (λ n. (n, state_of I.state self.new)) (spec.bound (stream_of I.machine) (state_of I.state self.new)) result (spec.any_word (stream_of I.machine) (state_of I.state self.old)) }
+        ensures shorter { Falls result (spec.bound (stream_of I.machine) (state_of I.state self.new)) (spec.bound (stream_of I.machine) (state_of I.state self.old)) }
+    {
+        if !self.is_word() {
+            return Err(self.unexpected());
+        }
+        let text = Atom::new(self.alloc, self.text())?;
+        self.bump()?;
+        Ok(text)
+    }
+
+    /// Takes a word that is a name here, and keeps its text.
+    ///
+    /// # Errors
+    ///
+    /// Any other token is a fault.
+    #[tactic(auto, unfolding(grammar_spec::specs::Reader::Source::name))]
+    pub fn name(&mut self, code: Around) -> Result<Atom, Failure>
+        ensures value { Gives (λ n. (n, state_of I.state self.new)) (spec.bound (stream_of I.machine) (state_of I.state self.new)) result (spec.name (stream_of I.machine) (code_of code) (state_of I.state self.old)) }
+        ensures shorter { Falls result (spec.bound (stream_of I.machine) (state_of I.state self.new)) (spec.bound (stream_of I.machine) (state_of I.state self.old)) }
+    {
+        if !self.is_name(code) {
+            return Err(self.unexpected());
+        }
+        let text = Atom::new(self.alloc, self.text())?;
+        if self.at(kinds::AWAIT) {
+            self.awaited = Some(self.hi());
+        }
+        self.bump()?;
+        Ok(text)
+    }
+
+    /// The kind of what the source hands out in place of the slash that comes: of a regular expression, or of a fault of
+    /// one (ECMA-262, 12.9.5); or nothing where no such token comes in its place.
+    ///
+    /// # Errors
+    ///
+    /// Want of memory.
+    fn again(&self, slash: &TokenAndSpan<'a>) -> Result<Option<u8>, Failure>
+        ensures value { IfOk result (λ x. MatchOption x (in_place (shown_spot slash.now) (again_in I.machine (shown_spot slash.now) (I.state self.now.input)) ≡ false)
+            (λ k. (in_place (shown_spot slash.now) (again_in I.machine (shown_spot slash.now) (I.state self.now.input)) ≡ true)
+            × (k ≡ kind_in (again_in I.machine (shown_spot slash.now) (I.state self.now.input))))) }
+        ensures full { IfErr result IsMemory }
+    {
+        match self.input.look(Look::Slash(slash.span.lo)) {
+            Ok(Some(token)) if in_place(slash, &token) => Ok(Some(token_number(&token.token))),
+            Ok(_) => Ok(None),
+            Err(_) => Err(Failure::Memory),
+        }
+    }
+
+    /// Reads a slash that comes again, as a regular expression. Where the source hands out no such token in its place, the
+    /// slash stays, and the source stands as it did.
+    ///
+    /// # Errors
+    ///
+    /// Want of memory.
+    #[inline]
+    #[tactic(auto, unfolding(crate::specs::Cursors::stream_of))]
+    pub fn operand(&mut self) -> Result<(), Failure>
+        ensures value { OnOk result (state_of I.state self.new ≡ spec.operand (stream_of I.machine) (state_of I.state self.old)) }
+        ensures not_longer { Stays result (spec.bound (stream_of I.machine) (state_of I.state self.new)) (spec.bound (stream_of I.machine) (state_of I.state self.old)) }
+        ensures full { IfErr result IsMemory }
+    {
+        if !self.at(kinds::DIV) && !self.at(kinds::DIV_ASSIGN) {
+            return Ok(());
+        }
+        self.reread()
+    }
+
+    /// The same where a slash comes.
+    ///
+    /// # Errors
+    ///
+    /// Want of memory.
+    #[inline(never)]
+    #[tactic(auto, unfolding(crate::specs::Cursors::stream_of))]
+    fn reread(&mut self) -> Result<(), Failure>
+        requires slash { is_slash (kind (spec.input (stream_of I.machine) (state_of I.state self.old))) ≡ true }
+        ensures value { OnOk result (state_of I.state self.new ≡ spec.operand (stream_of I.machine) (state_of I.state self.old)) }
+        ensures not_longer { Stays result (spec.bound (stream_of I.machine) (state_of I.state self.new)) (spec.bound (stream_of I.machine) (state_of I.state self.old)) }
+        ensures full { IfErr result IsMemory }
+    {
+        let Some(slash) = &self.ahead.token else {
+            return Ok(());
+        };
+        let place = slash.span.lo;
+        if self.again(slash)?.is_none() {
+            return Ok(());
+        }
+        self.input.set_next_regexp(Some(place));
+        let Ok(next) = self.input.next() else {
+            return Err(Failure::Memory);
+        };
+        self.input.set_next_regexp(None);
+        self.ahead = Ahead::new(next);
+        Ok(())
+    }
+
+    /// The kind of what a slash that comes is read again as.
+    ///
+    /// # Errors
+    ///
+    /// Want of memory.
+    #[inline(never)]
+    #[tactic(auto, unfolding(crate::specs::Cursors::stream_of))]
+    pub fn reread_kind(&self) -> Result<u8, Failure>
+        requires slash { is_slash (kind (spec.input (stream_of I.machine) (state_of I.state self.now))) ≡ true }
+        ensures value { IfOk result (λ k. k ≡ kind (spec.input (stream_of I.machine) (spec.operand (stream_of I.machine) (state_of I.state self.now)))) }
+        ensures full { IfErr result IsMemory }
+    {
+        let Some(slash) = &self.ahead.token else {
+            return Ok(kinds::END);
+        };
+        match self.again(slash)? {
+            Some(kind) => Ok(kind),
+            None => Ok(self.kind()),
+        }
+    }
+
+    /// Notes the start of an array or an object in which a comma follows a last spread.
+    ///
+    /// # Errors
+    ///
+    /// Want of memory.
+    #[inline(never)]
+    pub fn note(&mut self, start: u32) -> Result<(), Failure>
+        ensures value { OnOk result (state_of I.state self.new ≡ noted start (state_of I.state self.old)) }
+        ensures full { IfErr result IsMemory }
+    {
+        self.commas.push(start)?;
+        Ok(())
+    }
+}

@@ -1,0 +1,11 @@
+use Rattle.std.proofs.Common.{false}
+use Rattle.tree_spec.specs.Tree.{trees_by}
+use Rattle.print_layout_spec.specs.Layout.{rows}
+use Rattle.print_pieces.proofs.Steps.{◌▸◌, laid_as}
+use Rattle.print_nodes.proofs.Parts.{indented_lines}
+use Rattle.print_nodes.proofs.lists.print_indented_rows.Goals as goal
+
+pub returns : goal.returns
+returns g c =
+    laid_as (indented_lines c.args.look g.T.Print.tree c.args.items.now (rows c.args.look false (trees_by g.T.Print.tree c.args.items.now)) c.is_empty.ensures c.if-is_empty.false)
+    (c.line.ensures ▸ (c.deeper.ensures ▸ (c.print_rows.ensures ▸ (c.back.ensures ▸ c.line-2.ensures))))

@@ -1,0 +1,9 @@
+use Rattle.std.proofs.Common.{drop}
+use Rattle.tree_spec.specs.Tree.{trees_by}
+use Rattle.print_layout_spec.specs.Layout.{separated}
+use Rattle.print_nodes.specs.Betweens.{between_of}
+use Rattle.print_nodes.proofs.Parts.{Goes, behind}
+use Rattle.print_nodes.proofs.lists.print_separated.Given as goal
+
+abbrev pub invariant-loop-x : goal.invariant-loop-x
+invariant-loop-x g l = Goes g.W.WriteJs.tells g.W.WriteJs.state g.W.WriteJs.failed_writes g.W.WriteJs.loans (separated l.look (between_of l.between l.look) (trees_by g.T.Print.tree l.items)) (behind (between_of l.between l.look) (separated l.look (between_of l.between l.look)) (trees_by g.T.Print.tree (drop l.x-index l.rest))) l.fn.p.wr l.fn.p.fault l.p.wr l.p.fault

@@ -1,0 +1,5 @@
+use Rattle.print_pieces.proofs.Steps.{◌▸◌}
+use Rattle.print_nodes.proofs.operators.ParenExprOfPrint.print.Goals as goal
+
+pub returns-clause-laid : goal.returns-clause-laid
+returns-clause-laid g c = c.commit.ensures ▸ (c.start.ensures ▸ (c.text.ensures ▸ (c.print.ensures.laid ▸ (c.last.ensures ▸ c.text-2.ensures))))

@@ -1,0 +1,5 @@
+use Rattle.print_pieces.proofs.Steps.{◌▸◌, present}
+use Rattle.print_nodes.proofs.specifiers.print_before_as.Goals as goal
+
+pub returns-in-Some : goal.returns-in-Some
+returns-in-Some g c = rw c.in-Some.is (present c.print.ensures.there (c.print.ensures.laid ▸ (c.blank.ensures ▸ (c.text.ensures ▸ c.blank-in-Some.ensures))))

@@ -1,0 +1,5 @@
+use Rattle.print_pieces.proofs.Steps.{◌▸◌, present}
+use Rattle.print_nodes.proofs.tries.print_finally.Goals as goal
+
+pub returns-in-Some : goal.returns-in-Some
+returns-in-Some g c = rw c.in-Some.is (present c.print.ensures.there (c.gap.ensures ▸ (c.text.ensures ▸ c.print.ensures.laid)))

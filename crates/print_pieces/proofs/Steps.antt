@@ -1,0 +1,221 @@
+-- One call of a writer, as a step of what there is to write.
+use Rattle.std.proofs.Common.{◌≡◌, ℕ, Bool, true, false, List, Option, Some, None, is_some, Result, Ok, Err, refl, sym, subst, ap, ◌∙◌, if◌then◌else◌, not}
+use Rattle.std.specs.Result.{result_err}
+use base.Fml.{GName}
+use Rattle.base_token.specs.Counts.{count_after}
+use Rattle.print_writers.specs.Pages.{IsFront}
+use Rattle.print_writers.specs.States.{State, Does, Keeps, MayAnswer, FaultFits, has_places, is_write}
+use Rattle.print_writers.specs.declared.fault.EmitError.{EmitError}
+use Rattle.print_writers.specs.declared.fault.EmitError.TheVariants.{Write, Memory, Node, Position}
+use Rattle.print_writers.proofs.Growing.{front_same, front_trans}
+use Rattle.base_token.specs.declared.place.BytePos.{BytePos}
+use Rattle.print_pages_spec.specs.Pieces.{Piece, Text, Commit, Mark, call}
+use Rattle.print_pages_spec.specs.Utf8.{IsUtf8Page, IsUtf8Piece}
+use Rattle.print_pages_spec.proofs.Utf8.{call_text}
+use Rattle.print_pieces.specs.Prints.{Asked, ask, stop, lay, IsAt, Prints, MayFault, failed_by}
+use Rattle.print_layout_spec.specs.Looks.{Laid, nothing, one, named, both, refused, when, gap_or}
+use Rattle.print_layout_spec.specs.declared.look.Look.{Look}
+use Rattle.print_pieces.proofs.Onward.{Onward, onward_same, call_onward, fits_on}
+
+-- what is asked for only grows
+record More (a b : Asked) : Type 0 where
+  onward : Onward a.state b.state
+  stops : a.stops ≡ true → b.stops ≡ true
+  text : IsUtf8Page a.state.page → IsUtf8Page b.state.page
+  before : b.before ≡ a.before
+  known : b.known ≡ a.known
+  textual : b.textual ≡ a.textual
+  failures : b.failures ≡ a.failures
+  loans : b.loans ≡ a.loans
+  places : b.places ≡ a.places
+
+more_same : (a : Asked) → More a a
+more_same a = record { onward = onward_same a.state; stops = λ p. p; text = λ u. u; before = refl; known = refl; textual = refl; failures = refl; loans = refl; places = refl }
+
+more_asked : (x : Piece) (a : Asked) → IsUtf8Piece x → More a (ask x a)
+unfolding ask
+more_asked x a u = elim a.stops as (λ (b : Bool). More a (if b then a else record a { state = call x a.state })) [
+  | true ↦ more_same a
+  | false ↦ record { onward = call_onward x a.state; stops = λ p. p; text = call_text x a.state u; before = refl; known = refl; textual = refl; failures = refl; loans = refl; places = refl }
+]
+
+more_stopped : (a : Asked) → More a (stop a)
+unfolding stop
+more_stopped a = record { onward = onward_same a.state; stops = λ p. refl; text = λ u. u; before = refl; known = refl; textual = refl; failures = refl; loans = refl; places = refl }
+
+may_more : (e : EmitError) (a b : Asked) → More a b → MayFault e a → MayFault e b
+may_more (Write kind) a b m h = h
+may_more Memory a b m h = m.places ∙ h
+may_more Position a b m h = m.places ∙ h
+may_more Node a b m h = m.stops h
+
+module _ {S : Type 0} (tells : S → Type 0) (state : S → State) (failed : S → ℕ) (loans : S → List GName) where
+  abbrev At : S → Option EmitError → Asked → Type 0
+  At w f a = IsAt {S = S} tells state failed loans w f a
+
+  later : (w : S) (e : EmitError) (a b : Asked) → More a b → At w (Some e) a → At w (Some e) b
+  later w e a b m h = record {
+    wrote = (
+      may_more e a b m h.wrote.0,
+      λ k.
+          let z = h.wrote.1 (sym m.known ∙ k) in (
+            z.0,
+            subst (λ (l : List ℕ). IsFront l (state w).page.out) (sym m.before) z.1,
+            front_trans (state w).page.out a.state.page.out b.state.page.out z.2 m.onward.out,
+            fits_on e a.state b.state m.onward z.3,
+          ),
+    );
+    begun = subst (λ (l : List ℕ). IsFront l b.state.page.out) (sym m.before) (front_trans a.before a.state.page.out b.state.page.out h.begun m.onward.out);
+    text = λ t. m.text (h.text (sym m.textual ∙ t));
+    failures = h.failures ∙ ap (count_after (failed_by (Some e))) (sym m.failures);
+    lent = h.lent ∙ sym m.loans;
+    places = h.places ∙ sym m.places;
+  }
+
+  -- behind a fault nothing is called
+  pub passed : (x : Piece) (w : S) (e : EmitError) (a : Asked) → IsUtf8Piece x → At w (Some e) a → At w (Some e) (ask x a)
+  passed x w e a u h = later w e a (ask x a) (more_asked x a u) h
+
+  pub passed_stop : (w : S) (e : EmitError) (a : Asked) → At w (Some e) a → At w (Some e) (stop a)
+  passed_stop w e a h = later w e a (stop a) (more_stopped a) h
+
+  may_fault : (e : EmitError) (b : Asked) (p : Bool) → p ≡ b.places → MayAnswer {A = Unit {0}} p (Err e) → MayFault e b
+  may_fault (Write kind) b p q m = tt
+  may_fault Memory b p q m = sym q ∙ m
+  may_fault Position b p q m = sym q ∙ m
+  may_fault Node b p q m = absurd m
+
+  more_begun : (x : Piece) (a : Asked) → IsFront a.before a.state.page.out → IsFront a.before (call x a.state).page.out
+  more_begun x a h = front_trans a.before a.state.page.out (call x a.state).page.out h (call_onward x a.state).out
+
+  asked_by : (x : Piece) → IsUtf8Piece x → (old new : S) (r : Result (Unit {0}) EmitError) → Does tells state (call x) old new r → Keeps state failed loans old new r
+      → (a : Asked) → At old None a → At new (result_err r) (record a { state = call x a.state })
+  asked_by x u old new (Ok v) d k a h = record {
+    wrote = (h.wrote.0, λ t. let z = h.wrote.1 t in let y = d z.0 in (y.0, y.1 ∙ ap (call x) z.1));
+    begun = more_begun x a h.begun;
+    text = λ t. call_text x a.state u (h.text t);
+    failures = k.2 ∙ h.failures;
+    lent = k.1 ∙ h.lent;
+    places = k.0 ∙ h.places;
+  }
+  asked_by x u old new (Err e) d k a h = record {
+    wrote = (
+      may_fault e (record a { state = call x a.state }) (has_places (state old)) h.places k.3,
+      λ t.
+          let z = h.wrote.1 t in
+          let y = d z.0 in
+          let same : call x (state old) ≡ call x a.state = ap (call x) z.1 in (
+            y.0,
+            front_trans a.before (state old).page.out (state new).page.out (subst (λ (s : State). IsFront a.before s.page.out) (sym z.1) h.begun) y.1.kept,
+            subst (λ (s : State). IsFront (state new).page.out s.page.out) same y.1.beginning,
+            subst (λ (s : State). FaultFits e s.page) same y.2,
+          ),
+    );
+    begun = more_begun x a h.begun;
+    text = λ t. call_text x a.state u (h.text t);
+    failures = k.2 ∙ ap (count_after (is_write e)) h.failures;
+    lent = k.1 ∙ h.lent;
+    places = k.0 ∙ h.places;
+  }
+
+  going : (x : Piece) (a : Asked) → a.stops ≡ false → record a { state = call x a.state } ≡ ask x a
+  unfolding ask
+  going x a e = rw e refl
+
+  -- a call is made where there is no fault: it was made, or it failed
+  called : (x : Piece) → IsUtf8Piece x → (old new : S) (r : Result (Unit {0}) EmitError) (f : Option EmitError) → is_some f ≡ false
+      → Does tells state (call x) old new r → Keeps state failed loans old new r → (a : Asked) → At old f a → At new (result_err r) (ask x a)
+  called x u old new r None e d k a h = subst (At new (result_err r)) (going x a h.wrote.0) (asked_by x u old new r d k a h)
+  called x u old new r (Some v) e d k a h = absurd (cc)
+
+  passed_by : (x : Piece) → IsUtf8Piece x → (w : S) (f : Option EmitError) → is_some f ≡ true → (a : Asked) → At w f a → At w f (ask x a)
+  passed_by x u w (Some e) p a h = passed x w e a u h
+  passed_by x u w None p a h = absurd (cc)
+
+  refuses : (w : S) (f : Option EmitError) → is_some f ≡ false → (a : Asked) → At w f a → At w (Some Node) (stop a)
+  unfolding stop
+  refuses w None e a h = record {
+    wrote = (
+      refl,
+      λ t.
+          let z = h.wrote.1 t in (
+            z.0,
+            subst (λ (s : State). IsFront a.before s.page.out) (sym z.1) h.begun,
+            subst (λ (s : State). IsFront s.page.out a.state.page.out) (sym z.1) (front_same a.state.page.out),
+            tt,
+          ),
+    );
+    begun = h.begun;
+    text = h.text;
+    failures = h.failures;
+    lent = h.lent;
+    places = h.places;
+  }
+  refuses w (Some v) e a h = absurd (cc)
+
+  stopped_by : (w : S) (f : Option EmitError) → is_some f ≡ true → (a : Asked) → At w f a → At w f (stop a)
+  stopped_by w (Some e) p a h = passed_stop w e a h
+  stopped_by w None p a h = absurd (cc)
+
+-- ---- what a function of the printer made: a call where there was no fault, and nothing behind one
+pub asks : {S : Type 0} {tells : S → Type 0} {state : S → State} {failed : S → ℕ} {loans : S → List GName} {old new : S} {f g : Option EmitError} {b : Bool} {step : State → State}
+    (x : Piece) → IsUtf8Piece x → step ≡ call x → (r : Result (Unit {0}) EmitError) → is_some f ≡ not b → b ≡ true → g ≡ result_err r
+    → Does {S = S} {A = Unit {0}} tells state step old new r → Keeps {S = S} {A = Unit {0}} state failed loans old new r
+    → Prints {S = S} tells state failed loans (one x) old f new g
+asks {S} {tells} {state} {failed} {loans} {old} {new} {f} {g} x u q r n b e d k = record {
+  so = λ a h. subst (λ (z : Option EmitError). IsAt {S = S} tells state failed loans new z (ask x a)) (sym e)
+      (called tells state failed loans x u old new r f (n ∙ ap not b) (subst (λ (h : State → State). Does {S = S} {A = Unit {0}} tells state h old new r) q d) k a h);
+}
+
+pub passes : {S : Type 0} {tells : S → Type 0} {state : S → State} {failed : S → ℕ} {loans : S → List GName} {w : S} {f : Option EmitError} {b : Bool}
+    (x : Piece) → IsUtf8Piece x → is_some f ≡ not b → b ≡ false → Prints {S = S} tells state failed loans (one x) w f w f
+passes {S} {tells} {state} {failed} {loans} {w} {f} x u n b = record { so = λ a h. passed_by tells state failed loans x u w f (n ∙ ap not b) a h }
+
+pub refuses_now : {S : Type 0} {tells : S → Type 0} {state : S → State} {failed : S → ℕ} {loans : S → List GName} {w : S} {f : Option EmitError} {b : Bool}
+    → is_some f ≡ not b → b ≡ true → Prints {S = S} tells state failed loans refused w f w (Some Node)
+refuses_now {S} {tells} {state} {failed} {loans} {w} {f} n b = record { so = λ a h. refuses tells state failed loans w f (n ∙ ap not b) a h }
+
+pub refuses_again : {S : Type 0} {tells : S → Type 0} {state : S → State} {failed : S → ℕ} {loans : S → List GName} {w : S} {f : Option EmitError} {b : Bool}
+    → is_some f ≡ not b → b ≡ false → Prints {S = S} tells state failed loans refused w f w f
+refuses_again {S} {tells} {state} {failed} {loans} {w} {f} n b = record { so = λ a h. stopped_by tells state failed loans w f (n ∙ ap not b) a h }
+
+-- nothing is written
+pub idle : {S : Type 0} {tells : S → Type 0} {state : S → State} {failed : S → ℕ} {loans : S → List GName} {w : S} {f : Option EmitError}
+    → Prints {S = S} tells state failed loans nothing w f w f
+idle = record { so = λ a h. h }
+
+-- one part, and then another
+infixr 30 ◌▸◌
+pub ◌▸◌ : {S : Type 0} {tells : S → Type 0} {state : S → State} {failed : S → ℕ} {loans : S → List GName} {l m : Laid} {w v u : S} {f g e : Option EmitError}
+    → Prints {S = S} tells state failed loans l w f v g → Prints {S = S} tells state failed loans m v g u e → Prints {S = S} tells state failed loans (both l m) w f u e
+◌▸◌ {l = l} h k = record { so = λ a z. k.so (lay l a) (h.so a z) }
+
+-- what is written where something holds
+pub present : {S : Type 0} {tells : S → Type 0} {state : S → State} {failed : S → ℕ} {loans : S → List GName} {l : Laid} {w v : S} {f g : Option EmitError} {b : Bool}
+    → b ≡ true → Prints {S = S} tells state failed loans l w f v g → Prints {S = S} tells state failed loans (when b l) w f v g
+present {b} e h = rw e h
+
+-- the same where the condition is written otherwise
+pub when_as : {S : Type 0} {tells : S → Type 0} {state : S → State} {failed : S → ℕ} {loans : S → List GName} (l : Laid) {w v : S} {f g : Option EmitError} {b d : Bool}
+    → b ≡ d → Prints {S = S} tells state failed loans (when b l) w f v g → Prints {S = S} tells state failed loans (when d l) w f v g
+when_as {S} {tells} {state} {failed} {loans} l {w} {v} {f} {g} e h = subst (λ (b : Bool). Prints {S = S} tells state failed loans (when b l) w f v g) e h
+
+-- the same for a layout that is written otherwise
+pub laid_as : {S : Type 0} {tells : S → Type 0} {state : S → State} {failed : S → ℕ} {loans : S → List GName} {l m : Laid} {w v : S} {f g : Option EmitError}
+    → l ≡ m → Prints {S = S} tells state failed loans l w f v g → Prints {S = S} tells state failed loans m w f v g
+laid_as {S} {tells} {state} {failed} {loans} {l} {m} {w} {v} {f} {g} e h = subst (λ (k : Laid). Prints {S = S} tells state failed loans k w f v g) e h
+
+-- a name with the place where it was read
+pub named_as : {S : Type 0} {tells : S → Type 0} {state : S → State} {failed : S → ℕ} {loans : S → List GName} {pos : BytePos} {own : List ℕ} {w v : S} {f g : Option EmitError}
+    → Prints {S = S} tells state failed loans (both (one Commit) (both (one (Mark pos)) (one (Text None own)))) w f v g → Prints {S = S} tells state failed loans (named pos own) w f v g
+named_as h = record { so = h.so }
+
+-- a blank that words ask for, where it is asked otherwise
+pub gap_as : {S : Type 0} {tells : S → Type 0} {state : S → State} {failed : S → ℕ} {loans : S → List GName} (look : Look) {w v : S} {f g : Option EmitError} {b d : Bool}
+    → b ≡ d → Prints {S = S} tells state failed loans (gap_or look b) w f v g → Prints {S = S} tells state failed loans (gap_or look d) w f v g
+gap_as {S} {tells} {state} {failed} {loans} look {w} {v} {f} {g} e h = subst (λ (b : Bool). Prints {S = S} tells state failed loans (gap_or look b) w f v g) e h
+
+-- one of two, as it is chosen
+pub chosen : {S : Type 0} {tells : S → Type 0} {state : S → State} {failed : S → ℕ} {loans : S → List GName} {l : Laid} (m : Laid) {w v : S} {f g : Option EmitError} {b : Bool}
+    → b ≡ true → Prints {S = S} tells state failed loans l w f v g → Prints {S = S} tells state failed loans (if b then l else m) w f v g
+chosen m e h = rw e h

@@ -1,0 +1,52 @@
+-- Which text of a literal is written.
+use Rattle.std.proofs.Common.{◌≡◌, ℕ, Bool, true, false, if◌then◌else◌, List, [], ◌∷◌, ◌++◌, Option, Some, None, IsUtf8, refl, sym, ap, ◌∙◌}
+use Rattle.std.specs.Prelude.{encode_utf8_all}
+use Rattle.std.specs.Str.{chars}
+use Rattle.std.proofs.lemmas.Str.{encodes-chars}
+use Rattle.base_number.specs.Numbers.{SpecNumber}
+use Rattle.lex_literal.specs.Standing.{takes_point}
+use Rattle.print_spelling.specs.declared.style.Style.{Style}
+use Rattle.print_spelling.specs.String.Strings.{string_text, quoted, keeps_raw}
+use Rattle.print_spelling.specs.Number.Numbers.{minified, formatted, formatted_big, before_member, big_text, separated}
+use Rattle.print_layout_spec.specs.Literals.{number_bytes, big_bytes}
+
+-- a string as it was read, and one in quotes
+pub kept : (style : Style) (units raw : List ℕ) {b : Bool} → IsUtf8 raw → b ≡ keeps_raw style units (chars raw) → b ≡ true
+    → raw ≡ encode_utf8_all (string_text style units (Some (chars raw)))
+kept style units raw u e t = sym (encodes-chars raw u) ∙ ap (λ (k : Bool). encode_utf8_all (if k then chars raw else quoted style units [])) (sym t ∙ e)
+
+pub not_kept : (style : Style) (units raw : List ℕ) {b : Bool} → b ≡ keeps_raw style units (chars raw) → b ≡ false
+    → encode_utf8_all (quoted style units []) ≡ encode_utf8_all (string_text style units (Some (chars raw)))
+not_kept style units raw e t = ap (λ (k : Bool). encode_utf8_all (if k then chars raw else quoted style units [])) (sym t ∙ e)
+
+-- the text that was read counts when formatting alone
+pub number_read : (style : Style) (v : SpecNumber) (raw : Option (List ℕ)) {o : Option (List ℕ)} → o ≡ (if style.minify then None else raw)
+    → formatted style v o ≡ number_bytes style v raw
+number_read style v raw e = ap (formatted style v) e ∙ chosen_by style.minify
+  where
+    chosen_by : (b : Bool) → formatted style v (if b then None else raw) ≡ (if b then minified v else formatted style v raw)
+    chosen_by true = refl
+    chosen_by false = refl
+
+big_with : (style : Style) (radix : ℕ) (digits : List ℕ) (raw : Option (List ℕ)) → formatted_big style radix digits (if style.minify then None else raw) ≡ big_bytes style radix digits raw
+big_with style radix digits None = chosen_by style.minify
+  where
+    chosen_by : (b : Bool) → formatted_big style radix digits (if b then None else None) ≡ big_text radix digits
+    chosen_by true = refl
+    chosen_by false = refl
+big_with style radix digits (Some raw) = chosen_by style.minify
+  where
+    chosen_by : (b : Bool) → formatted_big style radix digits (if b then None else Some raw) ≡ (if b then big_text radix digits else separated style raw)
+    chosen_by true = refl
+    chosen_by false = refl
+
+pub big_read : (style : Style) (radix : ℕ) (digits : List ℕ) (raw : Option (List ℕ)) {o : Option (List ℕ)} → o ≡ (if style.minify then None else raw)
+    → formatted_big style radix digits o ≡ big_bytes style radix digits raw
+big_read style radix digits raw e = ap (formatted_big style radix digits) e ∙ big_with style radix digits raw
+
+-- a number before a point
+pub with_point : (bytes : List ℕ) {text : List ℕ} {b : Bool} → text ≡ bytes → b ≡ takes_point bytes → b ≡ true → text ++ 46 ∷ [] ≡ before_member bytes
+with_point bytes t e h = ap (λ (l : List ℕ). l ++ 46 ∷ []) t ∙ ap (λ (k : Bool). if k then bytes ++ 46 ∷ [] else bytes) (sym h ∙ e)
+
+pub without_point : (bytes : List ℕ) {text : List ℕ} {b : Bool} → text ≡ bytes → b ≡ takes_point bytes → b ≡ false → text ≡ before_member bytes
+without_point bytes t e h = t ∙ ap (λ (k : Bool). if k then bytes ++ 46 ∷ [] else bytes) (sym h ∙ e)

@@ -1,0 +1,5 @@
+use Rattle.print_pieces.proofs.Steps.{◌▸◌}
+use Rattle.print_pieces.proofs.literals.numbers.print_number_before_point.Goals as goal
+
+pub returns : goal.returns
+returns g c = c.commit.ensures ▸ (c.start.ensures ▸ c.print_text_before_point.ensures)

@@ -1,0 +1,10 @@
+use Rattle.std.proofs.Common.{refl, None}
+use Rattle.print_pages_spec.specs.Pieces.{Brace}
+use Rattle.print_pieces.proofs.Steps.{asks, passes}
+use Rattle.print_pieces.proofs.printer.Printer.brace.Goals as goal
+
+pub returns-then-is_none : goal.returns-then-is_none
+returns-then-is_none g c = asks (Brace None) tt refl c.write_punct.result c.is_none.ensures c.if-is_none.true c.err-self.ensures.value c.write_punct.ensures.value c.write_punct.ensures.keeps
+
+pub returns-else-is_none : goal.returns-else-is_none
+returns-else-is_none g c = passes (Brace None) tt c.is_none.ensures c.if-is_none.false

@@ -1,0 +1,48 @@
+//! Names and keys.
+ghost use Rattle.std.specs.Prelude.{◌≡◌};
+ghost use Rattle.print_layout_spec.specs.Looks as looks;
+ghost use Rattle.print_layout_spec.specs.Literals.{name_bytes, key_bytes, identifier};
+ghost use Rattle.print_pieces.specs.Prints.{Prints};
+
+use crate::Printer;
+use crate::literals::parts::{print_held, print_part};
+use base_token::Span;
+use print_layout_spec::Look;
+use print_spelling::Style;
+use print_spelling::string::NameText;
+use print_writers::WriteJs;
+
+/// Prints what there is to come of a name or a key.
+fn print_name_parts<W: WriteJs>(p: &mut Printer<W>, parts: NameText<'_>)
+    ensures { Prints W.tells W.state W.failed_writes W.loans (looks.text parts.entry) p.old.wr p.old.fault p.new.wr p.new.fault }
+{
+    let mut parts = parts;
+    let mut held = false;
+    'parts: while let Some(part) = parts.next_piece() {
+        held = print_part(p, held, part.as_str());
+    }
+    print_held(p, held);
+}
+
+/// Prints a name, by its text without escapes.
+pub fn print_name<W: WriteJs>(p: &mut Printer<W>, style: Style, name: &str)
+    ensures { Prints W.tells W.state W.failed_writes W.loans (looks.text (name_bytes style name.now)) p.old.wr p.old.fault p.new.wr p.new.fault }
+{
+    print_name_parts(p, NameText::name(name, style));
+}
+
+/// Prints a name of a variable, a label or a specifier, by its text without escapes, and marks where it was read.
+pub fn print_identifier<W: WriteJs>(p: &mut Printer<W>, look: Look, span: Span, name: &str)
+    ensures { Prints W.tells W.state W.failed_writes W.loans (identifier look span name.now) p.old.wr p.old.fault p.new.wr p.new.fault }
+{
+    p.commit();
+    p.start(span);
+    print_name(p, look.style, name);
+}
+
+/// Prints a word that is a key, by its text without escapes.
+pub fn print_key<W: WriteJs>(p: &mut Printer<W>, style: Style, word: &str)
+    ensures { Prints W.tells W.state W.failed_writes W.loans (looks.text (key_bytes style word.now)) p.old.wr p.old.fault p.new.wr p.new.fault }
+{
+    print_name_parts(p, NameText::key(word, style));
+}

@@ -1,0 +1,11 @@
+use Rattle.std.proofs.Common.{◌≡◌, ◌++◌, encode_utf8, sym, ap, ◌∙◌}
+use Rattle.std.proofs.lemmas.Str.{chars_past_char}
+use Rattle.print_writers.proofs.lines.pop.Goals as goal
+
+pub returns-clause-cut : goal.returns-clause-cut
+returns-clause-cut c =
+    let first = c.in_ok-c.c in
+    let rest = c.as_str.result.now in
+    let e : c.args.text.now ≡ encode_utf8 first ++ rest =
+    sym c.chars-left.ensures.rest ∙ c.in_ok-c.ensures.steps.0 ∙ ap (λ t. encode_utf8 first ++ t) (sym c.as_str.ensures) in
+    chars_past_char _ rest first c.utf8.text e

@@ -1,0 +1,17 @@
+use Rattle.std.proofs.Common.{rules, ◌≡◌, Err, None, codes}
+use Rattle.print_writers.specs.Pages.{put}
+use Rattle.print_writers.specs.States.{text}
+use Rattle.print_writers.proofs.Growing.{grows_put}
+use Rattle.print_writers.proofs.Omits.{omit_stops, omit_then}
+use Rattle.print_writers.proofs.omit.OmitTrailingSemiWriteJs.write_space.Goals as goal
+
+pub returns-in_err-settle-clause-value : goal.returns-in_err-settle-clause-value
+unfolding text
+returns-in_err-settle-clause-value g c =
+    let is : c.from_residual.result ≡ Err c.in_err-settle.field-0.0 = search rules in
+    omit_stops g.W.WriteJs.tells g.W.WriteJs.state (put None (codes " ")) (grows_put None (codes " ")) c.args.self.now c.settle.new.self c.in_err-settle.field-0.0 c.from_residual.result is c.in_err-settle.ensures.value
+
+pub returns-clause-value : goal.returns-clause-value
+unfolding text
+returns-clause-value g c =
+    omit_then g.W.WriteJs.tells g.W.WriteJs.state (put None (codes " ")) (grows_put None (codes " ")) c.args.self.now c.settle.new.self c.write_space.new.self c.write_space.result c.in_ok-settle.ensures.value c.write_space.ensures.value

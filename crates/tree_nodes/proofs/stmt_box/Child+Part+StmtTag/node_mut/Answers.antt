@@ -1,0 +1,5 @@
+use Rattle.std.proofs.Common.{refl}
+use Rattle.tree_nodes.proofs.stmt_box.Child+Part+StmtTag.node_mut.Goals as goal
+
+pub returns : goal.returns
+returns c = (rw c.deref_mut-part.ensures.value refl, rw (← c.deref_mut-part.ensures.value) c.stmt_mut.ensures)

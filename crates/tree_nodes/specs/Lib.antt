@@ -1,0 +1,11 @@
+pub use Rattle.tree_spec.specs.Places
+pub use Rattle.tree_spec.specs.Folds
+pub use Rattle.tree_spec.specs.Codes
+pub use Rattle.tree_spec.specs.Tree
+pub mod Placed
+pub mod View
+pub mod Fits
+pub mod Sizes
+pub mod Lending
+pub mod Questions
+pub mod Spines

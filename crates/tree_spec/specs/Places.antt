@@ -1,0 +1,119 @@
+-- Written by tools/tree/spec_tree.py from tools/tree/tree.table. Don't edit this file.
+-- Where a tree stands in the text.
+use Rattle.base_token.specs.declared.place.Span.{Span}
+use Rattle.tree_spec.specs.Tree.{Tree, script, es_module, import_decl, export_decl, named_export, export_default_decl, export_default_expr, export_all, import_named_specifier, import_default_specifier, import_star_as_specifier, export_namespace_specifier, export_default_specifier, export_named_specifier, block_stmt, empty_stmt, debugger_stmt, with_stmt, return_stmt, labeled_stmt, break_stmt, continue_stmt, if_stmt, switch_stmt, switch_case, throw_stmt, try_stmt, catch_clause, while_stmt, do_while_stmt, for_stmt, for_in_stmt, for_of_stmt, expr_stmt, class_decl, fn_decl, var_decl, using_decl, var_declarator, function, param, decorator, class, constructor, class_method, private_method, class_prop, private_prop, static_block, auto_accessor, ident_name, computed_prop_name, private_name, this_expr, array_lit, object_lit, fn_expr, unary_expr, update_expr, bin_expr, assign_expr, member_expr, super_prop_expr, cond_expr, call_expr, new_expr, seq_expr, ident, tpl, tpl_element, tagged_tpl, arrow_expr, class_expr, yield_expr, meta_prop_expr, await_expr, paren_expr, opt_chain_expr, opt_call, super, import, invalid, expr_or_spread, spread_element, key_value_prop, assign_prop, getter_prop, setter_prop, method_prop, str_lit, bool_lit, null_lit, number_lit, big_int_lit, regex_lit, binding_ident, array_pat, rest_pat, object_pat, assign_pat, key_value_pat_prop, assign_pat_prop, expr_pat, invalid_pat, invalid_target, list, absent, hole}
+
+-- no place
+abbrev pub no_place : Span
+no_place = record { lo = record { 0 = 0 }; hi = record { 0 = 0 } }
+
+-- the place of a tree
+abbrev pub place_of : Tree → Span
+place_of (script span _ _) = span
+place_of (es_module span _ _) = span
+place_of (import_decl span _ _ _) = span
+place_of (export_decl span _) = span
+place_of (named_export span _ _ _) = span
+place_of (export_default_decl span _) = span
+place_of (export_default_expr span _) = span
+place_of (export_all span _ _) = span
+place_of (import_named_specifier span _ _) = span
+place_of (import_default_specifier span _) = span
+place_of (import_star_as_specifier span _) = span
+place_of (export_namespace_specifier span _) = span
+place_of (export_default_specifier span _) = span
+place_of (export_named_specifier span _ _) = span
+place_of (block_stmt span _) = span
+place_of (empty_stmt span) = span
+place_of (debugger_stmt span) = span
+place_of (with_stmt span _ _) = span
+place_of (return_stmt span _) = span
+place_of (labeled_stmt span _ _) = span
+place_of (break_stmt span _) = span
+place_of (continue_stmt span _) = span
+place_of (if_stmt span _ _ _) = span
+place_of (switch_stmt span _ _) = span
+place_of (switch_case span _ _) = span
+place_of (throw_stmt span _) = span
+place_of (try_stmt span _ _ _) = span
+place_of (catch_clause span _ _) = span
+place_of (while_stmt span _ _) = span
+place_of (do_while_stmt span _ _) = span
+place_of (for_stmt span _ _ _ _) = span
+place_of (for_in_stmt span _ _ _) = span
+place_of (for_of_stmt span _ _ _ _) = span
+place_of (expr_stmt span _) = span
+place_of (class_decl span _ _) = span
+place_of (fn_decl span _ _) = span
+place_of (var_decl span _ _) = span
+place_of (using_decl span _ _) = span
+place_of (var_declarator span _ _) = span
+place_of (function span _ _ _ _ _) = span
+place_of (param span _ _) = span
+place_of (decorator span _) = span
+place_of (class span _ _ _) = span
+place_of (constructor span _ _ _) = span
+place_of (class_method span _ _ _ _) = span
+place_of (private_method span _ _ _ _) = span
+place_of (class_prop span _ _ _ _) = span
+place_of (private_prop span _ _ _ _) = span
+place_of (static_block span _) = span
+place_of (auto_accessor span _ _ _ _) = span
+place_of (ident_name span _) = span
+place_of (computed_prop_name span _) = span
+place_of (private_name span _) = span
+place_of (this_expr span) = span
+place_of (array_lit span _) = span
+place_of (object_lit span _) = span
+place_of (fn_expr span _ _) = span
+place_of (unary_expr span _ _) = span
+place_of (update_expr span _ _ _) = span
+place_of (bin_expr span _ _ _) = span
+place_of (assign_expr span _ _ _) = span
+place_of (member_expr span _ _) = span
+place_of (super_prop_expr span _ _) = span
+place_of (cond_expr span _ _ _) = span
+place_of (call_expr span _ _) = span
+place_of (new_expr span _ _) = span
+place_of (seq_expr span _) = span
+place_of (ident span _) = span
+place_of (tpl span _ _) = span
+place_of (tpl_element span _ _ _) = span
+place_of (tagged_tpl span _ _) = span
+place_of (arrow_expr span _ _ _) = span
+place_of (class_expr span _ _) = span
+place_of (yield_expr span _ _) = span
+place_of (meta_prop_expr span _) = span
+place_of (await_expr span _) = span
+place_of (paren_expr span _) = span
+place_of (opt_chain_expr span _ _) = span
+place_of (opt_call span _ _) = span
+place_of (super span) = span
+place_of (import span) = span
+place_of (invalid span) = span
+place_of (expr_or_spread span _ _) = span
+place_of (spread_element span _) = span
+place_of (key_value_prop span _ _) = span
+place_of (assign_prop span _ _) = span
+place_of (getter_prop span _ _) = span
+place_of (setter_prop span _ _ _) = span
+place_of (method_prop span _ _) = span
+place_of (str_lit span _ _) = span
+place_of (bool_lit span _) = span
+place_of (null_lit span) = span
+place_of (number_lit span _ _) = span
+place_of (big_int_lit span _ _ _) = span
+place_of (regex_lit span _ _) = span
+place_of (binding_ident span _) = span
+place_of (array_pat span _) = span
+place_of (rest_pat span _ _) = span
+place_of (object_pat span _) = span
+place_of (assign_pat span _ _) = span
+place_of (key_value_pat_prop span _ _) = span
+place_of (assign_pat_prop span _ _) = span
+place_of (expr_pat expr) = place_of expr
+place_of (invalid_pat span) = span
+place_of (invalid_target span) = span
+place_of (list _) = no_place
+place_of absent = no_place
+place_of hole = no_place

@@ -1,0 +1,5 @@
+pub mod Spine
+pub mod Seen
+pub mod Walk
+pub mod Told
+pub mod Spines
