@@ -23,9 +23,9 @@ use Rattle.base_token.specs.declared.place.BytePos.{BytePos}
 use Rattle.base_token.specs.declared.place.LineCol.{LineCol}
 use Rattle.print_writers.specs.declared.fault.EmitError.{EmitError}
 use Rattle.print_writers.specs.declared.fault.EmitError.TheVariants as w
-use Rattle.print_run.specs.Layouts.{layout, IsPastLast}
-use Rattle.print_run.specs.Prints.{IsDone, IsStopped, Texts}
-use Rattle.print_run.proofs.Writing.{no_place_past}
+use Rattle.run_print.specs.Layouts.{layout, IsPastLast}
+use Rattle.run_print.specs.Prints.{IsDone, IsStopped, Texts}
+use Rattle.run_print.proofs.Writing.{no_place_past}
 use Rattle.ecma_front.specs.Formats.{IsProgramIn, IsRefused, LacksProgram, longest_text}
 use Rattle.ecma_front.specs.Run.{Answers, Formats, HasPlaces, IsPrinted, IsReadable, Succeeds, SucceedsExactly, WritesBeginning, WritesProgram}
 use Rattle.ecma_front.specs.Steps.{fault_of, Writes}

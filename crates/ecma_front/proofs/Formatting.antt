@@ -12,9 +12,9 @@ use Rattle.ecma_front.specs.Programs.{IsProgramOf}
 use Rattle.print_writers.specs.States.{is_write}
 use Rattle.print_writers.specs.declared.fault.EmitError.{EmitError}
 use Rattle.print_writers.specs.declared.fault.EmitError.TheVariants as w
-use Rattle.print_run.specs.Looks.{is_refused}
+use Rattle.run_print.specs.Looks.{is_refused}
 use Rattle.again_laws.proofs.Passed.{read_is_printed}
-use Rattle.print_run.specs.Layouts.{laid_of, look_of}
+use Rattle.run_print.specs.Layouts.{laid_of, look_of}
 use Rattle.ecma_front.specs.Formats.{IsRefused, LacksProgram, Reads}
 use Rattle.ecma_front.specs.Steps.{fault_of, ReadsBytes}
 

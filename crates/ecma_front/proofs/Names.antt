@@ -9,13 +9,13 @@ use Rattle.base_token.specs.declared.place.LineCol.{LineCol}
 use Rattle.tree_spec.specs.Tree.{Tree}
 use Rattle.print_writers.specs.Pages.{Page, Marks, IsPast}
 use Rattle.print_pages_spec.specs.Pieces.{resolved, shortened}
-use Rattle.print_run.specs.Layout.{pieces}
+use Rattle.run_print.specs.Layout.{pieces}
 use Rattle.run_command.specs.Options.{is_format, is_module}
 use Rattle.run_command.specs.declared.options.Options.{Options}
 use Rattle.again_laws.proofs.Passed.{BeginsMarks}
 use Rattle.again_laws.specs.Marked.{MarksNames}
 use Rattle.again_laws.proofs.Marked.{names_are_marked}
-use Rattle.print_run.specs.Layouts.{look_of, page_of, laid_of, written_on, layout, positions_of, IsPastLast}
+use Rattle.run_print.specs.Layouts.{look_of, page_of, laid_of, written_on, layout, positions_of, IsPastLast}
 use Rattle.ecma_front.specs.Programs.{setting_of, Spells, TreeReads}
 use Rattle.ecma_front.specs.Names.{NamesAreTold}
 use Rattle.ecma_front.proofs.ReadAgain.{empty_page}

@@ -11,7 +11,7 @@ use Rattle.lex_pieces.specs.Characters.{is_white_space}
 use Rattle.lex_pieces.specs.Runs.{Each}
 use Rattle.print_writers.specs.Pages.{times}
 use Rattle.print_pages_spec.specs.Pieces.{resolved, shortened}
-use Rattle.print_run.specs.Layout.{pieces}
+use Rattle.run_print.specs.Layout.{pieces}
 use Rattle.again_laws.proofs.Passed.{AreWrittenAlike, IsEmptyPage, WritesAgain, read_is_text}
 use Rattle.run_command.specs.Options.{is_format, is_module}
 use Rattle.run_command.specs.declared.options.Options.{Options}
@@ -22,8 +22,8 @@ use Rattle.run_command.specs.declared.options.Indent.TheVariants.{Blanks, Tabs}
 use Rattle.again_laws.proofs.tokens.Ascii.{ascii, is_ascii}
 use Rattle.again_laws.specs.Laws.{IsReadBack}
 use Rattle.again_laws.proofs.Whole.{programs_read_back}
-use Rattle.print_run.specs.Layouts.{look_of, line_end_of, indent_of, page_of, laid_of, written_on, layout}
-use Rattle.print_run.proofs.Writing.{page_text}
+use Rattle.run_print.specs.Layouts.{look_of, line_end_of, indent_of, page_of, laid_of, written_on, layout}
+use Rattle.run_print.proofs.Writing.{page_text}
 use Rattle.ecma_front.specs.Programs.{setting_of, Spells}
 use Rattle.ecma_front.specs.ReadAgain.{minifying, KeepsBytes, IsReadAgain}
 

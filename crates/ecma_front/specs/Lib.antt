@@ -1,4 +1,4 @@
--- What is promised: read these in order, with Layouts of print_run behind Programs, and Lines of print_pages_spec before Names.
+-- What is promised: read these in order, with Layouts of run_print behind Programs, and Lines of print_pages_spec before Names.
 pub mod Programs
 pub mod Faults
 pub mod Formats

@@ -7,7 +7,7 @@ use Rattle.tree_program_spec.specs.Program.{IsSameProgram}
 use Rattle.run_command.specs.Options.{is_format}
 use Rattle.run_command.specs.declared.options.Options.{Options}
 use Rattle.run_command.specs.declared.options.Style.TheVariants.{Minify}
-use Rattle.print_run.specs.Layouts.{layout}
+use Rattle.run_print.specs.Layouts.{layout}
 use Rattle.ecma_front.specs.Programs.{Spells, TreeReads}
 
 -- the same settings, to minify

@@ -9,7 +9,7 @@ use Rattle.tree_spec.specs.Tree.{Tree}
 use Rattle.run_command.specs.declared.options.Options.{Options}
 use Rattle.run_command.specs.declared.options.Style.{Style}
 use Rattle.run_command.specs.Options.{are_refused}
-use Rattle.print_run.specs.Layouts.{layout, positions_of, IsPastLast}
+use Rattle.run_print.specs.Layouts.{layout, positions_of, IsPastLast}
 use Rattle.ecma_front.specs.declared.fault.Fault.{Fault}
 use Rattle.ecma_front.specs.declared.fault.Fault.TheVariants as f
 use Rattle.ecma_front.specs.Faults.{answers_fault, is_failure}

@@ -9,7 +9,7 @@ use Rattle.print_writers.specs.declared.fault.EmitError.{EmitError}
 use Rattle.print_writers.specs.declared.fault.EmitError.TheVariants as w
 use Rattle.tree_spec.specs.Tree.{Tree}
 use Rattle.run_command.specs.declared.options.Options.{Options}
-use Rattle.print_run.specs.Prints.{IsDone, IsStopped}
+use Rattle.run_print.specs.Prints.{IsDone, IsStopped}
 use Rattle.ecma_front.specs.declared.fault.Fault.{Fault}
 use Rattle.ecma_front.specs.declared.fault.Fault.TheVariants as f
 use Rattle.ecma_front.specs.Formats.{IsProgramIn, IsRefused}

@@ -11,8 +11,8 @@ use crate::input::read_to_end;
 use crate::reading::program_in;
 use crate::writing::write;
 use base_token::{CountedRead, CountedWrite};
-use print_run::Positions;
 use run_command::Options;
+use run_print::Positions;
 use std::alloc::Global;
 
 /// Reads a program from a reader, to its first read of 0 bytes, and writes it as the settings ask, in blocks of 4,096

@@ -7,8 +7,8 @@ ghost use Rattle.ecma_front.specs.Run.{Formats, SucceedsExactly, in_style};
 use crate::fault::Fault;
 use crate::reading::read;
 use crate::writing::told;
-use print_run::text_of;
 use run_command::{Options, Style};
+use run_print::text_of;
 use std::alloc::Global;
 
 /// What is written of a text.

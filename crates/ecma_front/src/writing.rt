@@ -7,8 +7,8 @@ ghost use Rattle.ecma_front.specs.Steps.{fault_of, Writes};
 
 use crate::fault::Fault;
 use base_token::CountedWrite;
-use print_run::{EmitError, Positions, print};
 use run_command::Options;
+use run_print::{EmitError, Positions, print};
 use std::alloc::Global;
 use tree_nodes::Program;
 

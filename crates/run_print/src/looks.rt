@@ -3,7 +3,7 @@ ghost use Rattle.std.specs.Prelude.{◌≡◌, ◌≤◌, codes};
 ghost use Rattle.ecma_codegen.specs.Settings as settings;
 ghost use Rattle.print_writers.specs.Pages.{times};
 ghost use Rattle.run_command.specs.Options.{width_of};
-ghost use Rattle.print_run.specs.Layouts.{indent_of, line_end_of, look_of};
+ghost use Rattle.run_print.specs.Layouts.{indent_of, line_end_of, look_of};
 
 use ecma_codegen::Config;
 use run_command::{Indent, LineEnd, Options, Style};

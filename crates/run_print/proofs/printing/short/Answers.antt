@@ -7,10 +7,10 @@ use Rattle.print_writers.specs.Views.{js_page, js_state, js_tells}
 use Rattle.print_writers.specs.Omitting.{omit_state, omit_tells}
 use Rattle.print_writers.specs.declared.js_writer.JsWriter.{JsWriter}
 use Rattle.ecma_codegen.specs.Emits.{Emits, emitted}
-use Rattle.print_run.specs.Layouts.{laid_of, written_on}
-use Rattle.print_run.specs.Steps.{begun_page, LaysOut}
-use Rattle.print_run.proofs.Writing.{lays_out, written_short}
-use Rattle.print_run.proofs.printing.short.Goals as goal
+use Rattle.run_print.specs.Layouts.{laid_of, written_on}
+use Rattle.run_print.specs.Steps.{begun_page, LaysOut}
+use Rattle.run_print.proofs.Writing.{lays_out, written_short}
+use Rattle.run_print.proofs.printing.short.Goals as goal
 
 pub returns-clause-value : goal.returns-clause-value
 unfolding laid_of

@@ -4,10 +4,10 @@ use Rattle.print_layout_spec.specs.declared.look.Stand.TheVariants.{Alone}
 use Rattle.print_layout_spec.specs.Layout.{laid}
 use Rattle.print_writers.specs.Views.{js_page, js_state, js_tells}
 use Rattle.ecma_codegen.specs.Emits.{Emits}
-use Rattle.print_run.specs.Layouts.{laid_of}
-use Rattle.print_run.specs.Steps.{begun_page}
-use Rattle.print_run.proofs.Writing.{lays_out, written_long}
-use Rattle.print_run.proofs.printing.long.Goals as goal
+use Rattle.run_print.specs.Layouts.{laid_of}
+use Rattle.run_print.specs.Steps.{begun_page}
+use Rattle.run_print.proofs.Writing.{lays_out, written_long}
+use Rattle.run_print.proofs.printing.long.Goals as goal
 
 pub returns-clause-value : goal.returns-clause-value
 unfolding laid_of

@@ -8,8 +8,8 @@ ghost use Rattle.ecma_codegen.specs.Settings as settings;
 ghost use Rattle.print_writers.specs.States.{answers_write};
 ghost use Rattle.print_writers.specs.Views.{js_failures, js_loans, js_state};
 ghost use Rattle.run_command.specs.Options.{is_format, width_of};
-ghost use Rattle.print_run.specs.Prints.{Prints, Texts};
-ghost use Rattle.print_run.specs.Steps.{Counts, Ends, LaysOut};
+ghost use Rattle.run_print.specs.Prints.{Prints, Texts};
+ghost use Rattle.run_print.specs.Steps.{Counts, Ends, LaysOut};
 
 use crate::looks::{config, indent, line_end};
 use base_token::{BytePos, Counted, CountedWrite, LineCol};

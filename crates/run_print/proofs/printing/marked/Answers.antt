@@ -4,9 +4,9 @@ use Rattle.base_token.specs.declared.place.LineCol.{LineCol}
 use Rattle.print_writers.specs.Pages.{told}
 use Rattle.print_writers.specs.Views.{first_page, first_marks, js_page}
 use Rattle.print_blocks.specs.Blocks.{noted}
-use Rattle.print_run.specs.Layouts.{line_end_of, marks_of}
-use Rattle.print_run.proofs.Writing.{done_in_list, stopped_with}
-use Rattle.print_run.proofs.printing.marked.Goals as goal
+use Rattle.run_print.specs.Layouts.{line_end_of, marks_of}
+use Rattle.run_print.proofs.Writing.{done_in_list, stopped_with}
+use Rattle.run_print.proofs.printing.marked.Goals as goal
 
 pub returns-in-Ok-clause-value : goal.returns-in-Ok-clause-value
 returns-in-Ok-clause-value g c =

@@ -12,7 +12,7 @@ use Rattle.print_writers.specs.declared.fault.EmitError.{EmitError}
 use Rattle.print_pages_spec.specs.Utf8.{IsUtf8Page}
 use Rattle.ecma_codegen.specs.Emits.{MayRefuse}
 use Rattle.run_command.specs.declared.options.Options.{Options}
-use Rattle.print_run.specs.Layouts.{indent_of, laid_of, written_on}
+use Rattle.run_print.specs.Layouts.{indent_of, laid_of, written_on}
 use Rattle.print_blocks.specs.declared.Blocks.{Blocks}
 use Rattle.print_blocks.specs.Blocks.{at_of, behind, taken}
 

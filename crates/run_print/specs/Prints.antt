@@ -9,7 +9,7 @@ use Rattle.print_layout_spec.specs.Looks.{is_refused}
 use Rattle.print_writers.specs.declared.fault.EmitError.{EmitError}
 use Rattle.print_writers.specs.declared.fault.EmitError.TheVariants.{Write, Memory, Node, Position}
 use Rattle.run_command.specs.declared.options.Options.{Options}
-use Rattle.print_run.specs.Layouts.{laid_of, layout, positions_of, IsPastLast}
+use Rattle.run_print.specs.Layouts.{laid_of, layout, positions_of, IsPastLast}
 
 -- The tree is printed: the writer got its layout, and the positions are those of it, where they are asked for. Of positions more is said where the
 -- writer tells its bytes. `before` and `after` are the bytes that the writer holds, where it tells them.

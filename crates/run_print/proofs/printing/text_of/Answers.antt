@@ -1,9 +1,9 @@
 use Rattle.std.proofs.Common.{◌≡◌, ◌∙◌, ℕ, [], Bool, List, Some, None, Option, Vec, Global, if◌then◌else◌, IsUtf8, refl, sym, ap}
 use Rattle.base_token.specs.declared.counted.Counted.{Counted}
 use Rattle.print_writers.specs.Views.{first_page, first_marks, js_page}
-use Rattle.print_run.specs.Layouts.{line_end_of, marks_of}
-use Rattle.print_run.proofs.Writing.{not_both, text_laid, text_utf8}
-use Rattle.print_run.proofs.printing.text_of.Goals as goal
+use Rattle.run_print.specs.Layouts.{line_end_of, marks_of}
+use Rattle.run_print.proofs.Writing.{not_both, text_laid, text_utf8}
+use Rattle.run_print.proofs.printing.text_of.Goals as goal
 
 abbrev bytes_of : Counted (Vec ℕ Global) → Option (List ℕ)
 bytes_of c = Some c.inner.items

@@ -30,11 +30,11 @@ use Rattle.run_command.specs.declared.options.LineEnd.TheVariants.{Lf, CrLf}
 use Rattle.print_blocks.specs.declared.Blocks.{Blocks}
 use Rattle.print_blocks.specs.Blocks.{at_of, behind, waiting, taken, noted}
 use Rattle.print_blocks.proofs.Phases.{numbered}
-use Rattle.print_run.specs.Layouts.{indent_of, laid_of, line_end_of, marks_of, page_of, written_on, layout, positions_of, IsPastLast}
-use Rattle.print_run.specs.Prints.{Tells, IsDone, IsStopped}
-use Rattle.print_run.specs.Steps.{begun_page, Ends, LaysOut}
-use Rattle.print_run.proofs.Onto.{onto, onto_resolved, onto_shortened, plain, plain_resolved, plain_shortened}
-use Rattle.print_run.proofs.Parts.{first, all_out, some_out, front_behind}
+use Rattle.run_print.specs.Layouts.{indent_of, laid_of, line_end_of, marks_of, page_of, written_on, layout, positions_of, IsPastLast}
+use Rattle.run_print.specs.Prints.{Tells, IsDone, IsStopped}
+use Rattle.run_print.specs.Steps.{begun_page, Ends, LaysOut}
+use Rattle.run_print.proofs.Onto.{onto, onto_resolved, onto_shortened, plain, plain_resolved, plain_shortened}
+use Rattle.run_print.proofs.Parts.{first, all_out, some_out, front_behind}
 
 onto_written : (front : List ℕ) (o : Options) (t : Tree) (p : Page) → onto front (written_on o t p) ≡ written_on o t (onto front p)
 unfolding written_on
