@@ -22,7 +22,7 @@ def rows():
         for line in file:
             name, _, uses = line.partition("#")[0].partition(":")
             if name.strip():
-                found[name.strip()] = uses.split()
+                found[name.split()[0]] = uses.split()
     return {name: [it for it in uses if it in found] for name, uses in found.items()}
 
 
