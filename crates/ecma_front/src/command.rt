@@ -12,7 +12,7 @@ ghost use Rattle.ecma_front.specs.declared.fault.Fault.TheVariants.{Memory};
 
 use crate::fault::Fault;
 use crate::line_col::place;
-use crate::pipeline::run_kept;
+use crate::pipeline::{AtEnd, carry_out};
 use base_token::{BytePos, CountedRead, CountedWrite, LineCol};
 use print_writers::write_all;
 use run_command::Invocation;
@@ -78,7 +78,8 @@ fn report<E: CountedWrite>(fault: Fault, place: Option<LineCol>, errors: &mut E)
 /// Runs what a command line asks for, prints a fault to `errors`, and answers the exit status: 0 where
 /// the program was written, 1 where the text is refused, else 3: the settings are refused, the reader or
 /// the writer failed, a line or a column is past 4,294,967,295 and positions are asked for, or memory ran out. A failure
-/// of `errors` changes nothing.
+/// of `errors` changes nothing. It is for a process that ends with it: the memory of a tree that was written is not given
+/// back.
 pub fn answer<R: CountedRead, W: CountedWrite, E: CountedWrite>(
     alloc: Global,
     invocation: &Invocation,
@@ -99,7 +100,8 @@ pub fn answer<R: CountedRead, W: CountedWrite, E: CountedWrite>(
     ensures unfailed { result ≢ 3 → (R.failure_count input.new ≡ R.failure_count input.old) × (W.failure_count output.new ≡ W.failure_count output.old) }
 {
     let mut kept = Vec::new(alloc);
-    match run_kept(alloc, input, output, invocation.options, &mut kept) {
+    let options = invocation.options;
+    match carry_out(alloc, input, output, options, &mut kept, AtEnd::Leave) {
         Ok(_) => 0,
         Err(fault) => {
             let place = place_of(fault, kept.as_slice());

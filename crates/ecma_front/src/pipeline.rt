@@ -14,6 +14,7 @@ use base_token::{CountedRead, CountedWrite};
 use run_command::Options;
 use run_print::Positions;
 use std::alloc::Global;
+use tree_nodes::Program;
 
 /// Reads a program from a reader, to its first read of 0 bytes, and writes it as the settings ask, in blocks of 4,096
 /// bytes.
@@ -69,16 +70,36 @@ pub fn run_kept<R: CountedRead, W: CountedWrite>(
     ensures answer { Answers (λ v. v.items) options (R.remaining reader.old) (W.contents writer.old) (W.contents writer.new) result }
     ensures kept { Consumes (R.remaining reader.old) (R.remaining reader.new) kept.new.items }
 {
-    carry_out(alloc, reader, writer, options, kept)
+    carry_out(alloc, reader, writer, options, kept, AtEnd::GiveBack)
 }
 
-/// The steps of a run.
-fn carry_out<R: CountedRead, W: CountedWrite>(
+/// What becomes of a tree once it is written.
+#[derive(Clone, Copy)]
+pub(crate) enum AtEnd {
+    /// It is dropped, and its memory given back.
+    GiveBack,
+    /// It is left as it is, for a process that ends: its memory goes with that.
+    Leave,
+}
+
+impl AtEnd {
+    /// Is done with a program that was written.
+    fn settle(self, program: Program) {
+        match self {
+            AtEnd::GiveBack => drop(program),
+            AtEnd::Leave => std::mem::forget(program),
+        }
+    }
+}
+
+/// The steps of a run, and what becomes of the tree.
+pub(crate) fn carry_out<R: CountedRead, W: CountedWrite>(
     alloc: Global,
     reader: &mut R,
     writer: &mut W,
     options: Options,
     kept: &mut Vec<u8>,
+    end: AtEnd,
 ) -> Result<Option<Positions>, Fault>
     requires { kept.old.items ≡ [] }
     ensures settings { IsErrOf result Fault.Options ↔ (are_refused options ≡ true) }
@@ -95,5 +116,7 @@ fn carry_out<R: CountedRead, W: CountedWrite>(
     }
     read_to_end(reader, kept)?;
     let program = program_in(alloc, kept.as_slice(), options)?;
-    write(alloc, &program, options, writer)
+    let written = write(alloc, &program, options, writer);
+    end.settle(program);
+    written
 }

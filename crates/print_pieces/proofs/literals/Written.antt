@@ -1,6 +1,7 @@
 -- Which text of a literal is written.
-use Rattle.std.proofs.Common.{◌≡◌, ℕ, Bool, true, false, if◌then◌else◌, List, [], ◌∷◌, ◌++◌, Option, Some, None, IsUtf8, refl, sym, ap, ◌∙◌}
-use Rattle.std.specs.Prelude.{encode_utf8_all}
+use Rattle.std.proofs.Common.{◌≡◌, ℕ, Bool, true, false, if◌then◌else◌, List, [], ◌∷◌, ◌++◌, Option, Some, None, IsUtf8, append-nil, refl, sym, ap, ◌∙◌}
+use Rattle.std.specs.Prelude.{◌&&◌, nat_lt, encode_utf8_all}
+use Rattle.std.specs.List.{list_any}
 use Rattle.std.specs.Str.{chars}
 use Rattle.std.proofs.lemmas.Str.{encodes-chars}
 use Rattle.base_number.specs.Numbers.{SpecNumber}
@@ -8,7 +9,11 @@ use Rattle.lex_literal.specs.Standing.{takes_point}
 use Rattle.print_spelling.specs.declared.style.Style.{Style}
 use Rattle.print_spelling.specs.String.Strings.{string_text, quoted, keeps_raw}
 use Rattle.print_spelling.specs.Number.Numbers.{minified, formatted, formatted_big, before_member, big_text, separated}
-use Rattle.print_layout_spec.specs.Literals.{number_bytes, big_bytes}
+use Rattle.print_spelling.specs.declared.form.Form.{Form}
+use Rattle.print_spelling.specs.declared.form.Form.TheVariants.{Bare, Four, FourLower, Braced}
+use Rattle.print_spelling.specs.Forms.{written}
+use Rattle.print_spelling.specs.String.Names.{name_chars, name_text, is_latin}
+use Rattle.print_layout_spec.specs.Literals.{number_bytes, big_bytes, name_bytes, key_bytes}
 
 -- a string as it was read, and one in quotes
 pub kept : (style : Style) (units raw : List ℕ) {b : Bool} → IsUtf8 raw → b ≡ keeps_raw style units (chars raw) → b ≡ true
@@ -50,3 +55,25 @@ with_point bytes t e h = ap (λ (l : List ℕ). l ++ 46 ∷ []) t ∙ ap (λ (k 
 
 pub without_point : (bytes : List ℕ) {text : List ℕ} {b : Bool} → text ≡ bytes → b ≡ takes_point bytes → b ≡ false → text ≡ before_member bytes
 without_point bytes t e h = t ∙ ap (λ (k : Bool). if k then bytes ++ 46 ∷ [] else bytes) (sym h ∙ e)
+
+-- ---- a name or a key whose characters all stand as they are
+
+bare_by : (low escapes : Bool) (form : Form) → escapes ≡ false → (if low then Bare else (if escapes then form else Bare)) ≡ Bare
+bare_by true escapes form e = refl
+bare_by false escapes form e = ap (λ (b : Bool). if b then form else Bare) e
+
+bare_chars : (style : Style) → style.ascii_only ≡ false → (cs m : List ℕ) → name_chars style false cs m ≡ cs ++ m
+bare_chars style e [] m = refl
+bare_chars style e (c ∷ cs) m =
+    ap (λ (f : Form). written f c (name_chars style false cs m)) (bare_by (nat_lt c 0x7F) style.ascii_only (if nat_lt c 0x100 then FourLower else (if nat_lt c 0x1_0000 then Four else Braced)) e)
+    ∙ ap (λ (l : List ℕ). c ∷ l) (bare_chars style e cs m)
+
+pub name_bare : (style : Style) (name : List ℕ) → IsUtf8 name → style.ascii_only ≡ false → name ≡ name_bytes style name
+name_bare style name u e = sym (encodes-chars name u) ∙ ap encode_utf8_all (sym (bare_chars style e (chars name) [] ∙ append-nil (chars name)))
+
+pub key_bare : (style : Style) (word : List ℕ) → IsUtf8 word → style.ascii_only ≡ false → word ≡ key_bytes style word
+key_bare style word u e = name_bare style word u e ∙ ap encode_utf8_all (sym (unquoted style.ascii_only (list_any is_latin (chars word)) e))
+  where
+    unquoted : (escapes latin : Bool) → escapes ≡ false
+        → (if escapes && latin then 34 ∷ name_chars style true (chars word) (34 ∷ []) else name_text style (chars word) []) ≡ name_text style (chars word) []
+    unquoted escapes latin e = ap (λ (b : Bool). if b && latin then 34 ∷ name_chars style true (chars word) (34 ∷ []) else name_text style (chars word) []) e

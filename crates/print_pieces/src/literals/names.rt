@@ -24,11 +24,15 @@ fn print_name_parts<W: WriteJs>(p: &mut Printer<W>, parts: NameText<'_>)
     print_held(p, held);
 }
 
-/// Prints a name, by its text without escapes.
+/// Prints a name, by its text without escapes: at once, where all of its characters may stand as they are.
 pub fn print_name<W: WriteJs>(p: &mut Printer<W>, style: Style, name: &str)
     ensures { Prints W.tells W.state W.failed_writes W.loans (looks.text (name_bytes style name.now)) p.old.wr p.old.fault p.new.wr p.new.fault }
 {
-    print_name_parts(p, NameText::name(name, style));
+    if style.ascii_only {
+        print_name_parts(p, NameText::name(name, style));
+    } else {
+        p.write(name);
+    }
 }
 
 /// Prints a name of a variable, a label or a specifier, by its text without escapes, and marks where it was read.
@@ -40,9 +44,13 @@ pub fn print_identifier<W: WriteJs>(p: &mut Printer<W>, look: Look, span: Span, 
     print_name(p, look.style, name);
 }
 
-/// Prints a word that is a key, by its text without escapes.
+/// Prints a word that is a key, by its text without escapes: at once, where all of its characters may stand as they are.
 pub fn print_key<W: WriteJs>(p: &mut Printer<W>, style: Style, word: &str)
     ensures { Prints W.tells W.state W.failed_writes W.loans (looks.text (key_bytes style word.now)) p.old.wr p.old.fault p.new.wr p.new.fault }
 {
-    print_name_parts(p, NameText::key(word, style));
+    if style.ascii_only {
+        print_name_parts(p, NameText::key(word, style));
+    } else {
+        p.write(word);
+    }
 }
