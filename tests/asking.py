@@ -4,6 +4,7 @@ A test is a generator: it yields lists of questions (Ask, Run), is sent the list
 nothing. All tests go on together, so that what they ask is asked in batches, as many side by side as there are processors.
 """
 import concurrent.futures
+import functools
 import os
 import resource
 import subprocess
@@ -51,12 +52,6 @@ class Refused(NamedTuple):
     why: str
 
 
-class Unasked(NamedTuple):
-    """A test that asks a program that is not there."""
-
-    program: str
-
-
 ESCAPES = ((b"\\", b"\\\\"), (b"\t", b"\\t"), (b"\n", b"\\n"), (b"\r", b"\\r"))
 
 
@@ -95,19 +90,31 @@ def give_room():
         resource.setrlimit(resource.RLIMIT_STACK, (room, most))
 
 
+def run_batch(path, questions):
+    """What a program says to these questions: its lines, how it ended, and whether that is wrong whatever it answered."""
+    try:
+        done = subprocess.run([path], input=b"".join(map(line_of, questions)), capture_output=True, timeout=BATCH_SECONDS)
+    except subprocess.TimeoutExpired as late:
+        lines = (late.stdout or b"").split(b"\n")[:-1]
+        return lines, f"the program had not ended after {BATCH_SECONDS} seconds", len(lines) >= len(questions)
+    *lines, rest = done.stdout.split(b"\n")
+    why = f"the program ended with status {done.returncode}: {done.stderr.decode(errors='replace').strip()[:300]}"
+    if done.returncode < 0:
+        return lines, f"the program ended by signal {-done.returncode}", True
+    if len(lines) + bool(rest) > len(questions):
+        return lines, f"the program said more than was asked: {[*lines, rest][len(questions)][:300]!r}", True
+    return lines, why, len(lines) == len(questions) and bool(done.returncode or done.stderr)
+
+
 def ask_batch(path, questions):
-    """The answers of a program to these questions; where it ends early it is asked again behind the one that it doesn't answer."""
+    """The answers of a program to these questions. Where it ends early it is asked again behind the one that it doesn't answer; where it
+    ends by a signal, says more than was asked, or ends badly behind its last answer, none of them has an answer."""
     answers, left = [], questions
     while left:
-        text = b"".join(line_of(it) for it in left)
-        try:
-            ran = subprocess.run([path], input=text, capture_output=True, timeout=BATCH_SECONDS)
-            told, why = ran.stdout, f"the program ended with status {ran.returncode}: {ran.stderr.decode(errors='replace').strip()[:300]}"
-        except subprocess.TimeoutExpired as late:
-            told, why = late.stdout or b"", f"the program had no answer after {BATCH_SECONDS} seconds"
-        found = [answer_of(it) for it in told.split(b"\n")[:-1]][: len(left)]
-        if len(found) < len(left):
-            found.append(Refused(why))
+        lines, why, is_wrong = run_batch(path, left)
+        if is_wrong:
+            return [Refused(why)] * len(questions)
+        found = [*map(answer_of, lines), *([Refused(why)] if len(lines) < len(left) else [])]
         answers += found
         left = left[len(found) :]
     return answers
@@ -122,6 +129,11 @@ def run_once(path, question):
     except subprocess.TimeoutExpired:
         return Refused(f"the program had not ended after {RUN_SECONDS} seconds")
     return Ran(ran.returncode, ran.stdout, ran.stderr)
+
+
+def program_of(question):
+    """The program that is asked."""
+    return question.program if isinstance(question, Ask) else "ecma-front"
 
 
 def in_batches(questions):
@@ -140,17 +152,21 @@ def in_batches(questions):
 class Asker:
     """Asks the programs, each question once."""
 
-    def __init__(self, paths):
+    def __init__(self, paths, **others):
+        """Others answer lists of questions in place of a program."""
         self.paths, self.known = paths, {}
+        self.ways = {**{it: functools.partial(ask_batch, path) for it, path in paths.items()}, **others}
         self.pool = concurrent.futures.ThreadPoolExecutor(PROCESSORS)
 
     def ask(self, questions):
         """Sees to it that these questions are answered."""
         new = list(dict.fromkeys(it for it in questions if it not in self.known))
+        self.known.update((it, Refused(f"there is no program {program_of(it)}")) for it in new if program_of(it) not in self.ways)
+        new = [it for it in new if it not in self.known]
         waiting = []
-        for program in self.paths:
+        for program, way in self.ways.items():
             own = [it for it in new if isinstance(it, Ask) and it.program == program]
-            waiting += [(batch, self.pool.submit(ask_batch, self.paths[program], batch)) for batch in in_batches(own) if batch]
+            waiting += [(batch, self.pool.submit(way, batch)) for batch in in_batches(own) if batch]
         runs = [it for it in new if isinstance(it, Run)]
         answers = self.pool.map(lambda it: run_once(self.paths["ecma-front"], it), runs)
         self.known.update(zip(runs, answers))
@@ -158,31 +174,26 @@ class Asker:
             self.known.update(zip(batch, future.result()))
 
     def judge(self, tests):
-        """Runs tests, pairs of a name and a generator, and returns what is wrong with each, or nothing."""
-        verdicts, active = {}, []
+        """Runs tests, pairs of a name and a generator, and returns what is wrong with each, or nothing, in their order."""
+        verdicts, active = [None] * len(tests), []
 
-        def step(name, test, answers):
+        def step(at, answers):
             try:
-                questions = test.send(answers)
-                lacking = [it.program for it in questions if isinstance(it, Ask) and it.program not in self.paths]
-                if lacking:
-                    verdicts[name] = Unasked(lacking[0])
-                else:
-                    active.append((name, test, questions))
+                active.append((at, tests[at][1].send(answers)))
             except StopIteration as end:
-                verdicts[name] = end.value
+                verdicts[at] = end.value
             except Wrong as wrong:
-                verdicts[name] = str(wrong)
-            except Exception as wrong:
-                verdicts[name] = f"the test ended: {type(wrong).__name__}: {wrong}"
+                verdicts[at] = str(wrong) or "something"
+            except (Exception, SystemExit) as wrong:
+                verdicts[at] = f"the test ended: {type(wrong).__name__}: {wrong}"
 
-        for name, test in tests:
-            step(name, test, None)
+        for at in range(len(tests)):
+            step(at, None)
         while active:
             asked, active = active, []
-            self.ask([question for _, _, questions in asked for question in questions])
-            for name, test, questions in asked:
-                step(name, test, [self.known[it] for it in questions])
+            self.ask([question for _, questions in asked for question in questions])
+            for at, questions in asked:
+                step(at, [self.known[it] for it in questions])
         return verdicts
 
 
@@ -196,7 +207,9 @@ def only(answer, count=None):
 
 
 def ran(answer):
-    """What a run came to."""
+    """What a run came to, which no signal ended."""
     if isinstance(answer, Refused):
         raise Wrong(answer.why)
+    if answer.status < 0:
+        raise Wrong(f"the program ended by signal {-answer.status}")
     return answer

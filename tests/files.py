@@ -2,9 +2,12 @@
 import os
 
 from asking import Ask, Run, Wrong, only, ran
+from programs import judge_outside
 from rows import difference
 
 FOLDER = f"{os.path.dirname(os.path.realpath(__file__))}/files"
+# the files that stand there, so that none is lost
+NAMES = ["events.mjs", "ledger.mjs", "sample.mjs", "widgets.js"]
 
 
 def written(text, *words):
@@ -41,11 +44,17 @@ def file(name, words):
     for style, answer in zip(("formatted", "minified"), answers):
         if only(answer) != [b"same"]:
             return f"{style} it is another program"
-    return None
+    return (yield from judge_outside(kind, text, formatted, minified))
+
+
+def all_are_there(names):
+    """These are the files that are to stand in the folder."""
+    return None if names == NAMES else f"expected {', '.join(NAMES)}, got {', '.join(names) or 'no file'}"
+    yield
 
 
 def tests(paths):
     """The tests of the files, each with its name."""
-    names = sorted(os.listdir(FOLDER))
+    names = sorted(it for it in os.listdir(FOLDER) if not it.endswith(".md"))
     ways = ((), ("--crlf", "--indent", "tab"), ("--inline-script",), ("--target", "es2015"))
-    return [(" ".join(("tests/files/" + name, *words)), file(name, words)) for name in names if not name.endswith(".md") for words in ways]
+    return [("tests/files", all_are_there(names)), *((" ".join(("tests/files/" + name, *words)), file(name, words)) for name in names for words in ways)]

@@ -1,9 +1,11 @@
-"""What holds of every text: it is written in both styles as the same program, and writing that again changes nothing; or it is refused."""
+"""What holds of every text: it is written in both styles as the same program, also by a parser from outside where there is one, and writing that
+again changes nothing; or it is refused."""
 import concurrent.futures
 import os
 import subprocess
 from typing import NamedTuple
 
+import outside
 from asking import RUN_SECONDS, Ask, Refused, ask_batch
 from front import place_of, valid_bytes
 
@@ -88,7 +90,8 @@ def verdicts(path, goal, texts, words=(), look=()):
     read = [(at, text, own) for at, (text, own) in enumerate(zip(texts, found)) if isinstance(own, Read)]
     for style in ("formatted", "minified"):
         wrongs = same(path, reading, [(text, getattr(own, style)) for _, text, own in read])
-        for (at, _, own), wrong in zip(read, wrongs):
+        by_others = outside.wrongs(goal, [(text, getattr(own, style)) for _, text, own in read])
+        for (at, _, own), wrong in zip(read, map(lambda one, other: one or other, wrongs, by_others)):
             if wrong:
                 found[at] = Broken(f"{style} as {getattr(own, style)!r}: {wrong}")
     for style, given, wanted, wrong in LAWS if not any(it in look for it in NEW_EACH_TIME) else ():
@@ -108,6 +111,8 @@ def by_command(path, goal, text):
 def told_by_command(path, goal, text, verdict=None):
     """What is wrong with how the command line ends on a text of which this is known, or which is no UTF-8; or nothing. A fault is told
     in its place, and nothing is written."""
+    if isinstance(verdict, Broken):
+        return f"{text!r} as a {goal}: {verdict.why}"
     ran = by_command(path, goal, text)
     if isinstance(verdict, Read):
         is_well = all(it.returncode == 0 and not it.stderr for it in ran) and [it.stdout for it in ran] == [*verdict]

@@ -44,8 +44,6 @@ def told(verdict):
 
 def tests(paths):
     """A test for each binary operator, and one for the unary ones, with their names."""
-    if "ecma-program-answers" not in paths:
-        return []
     operators = [None, *BINARY]
     found = side_by_side(judge, [(paths["ecma-program-answers"], o) for o in operators])
     return [(f"{it[0]} texts of {o or 'unary operators'}, {it[1]} read", told(it)) for o, it in zip(operators, found)]

@@ -1,11 +1,14 @@
 """The options of the command line: what is written, what is said, and the exit status."""
 import os
+import stat
 import subprocess
 import tempfile
 
 from asking import Run, ran
 from rows import difference
 
+# an output that takes nothing
+FULL = "/dev/full"
 # the words, standard input, and the status, output and errors that are wanted; `None` where any text will do
 CASES = [
     ("", "a;b", 0, "a;\nb;\n", ""),
@@ -66,11 +69,16 @@ def from_file(words, text, wanted):
     return difference([b"0", wanted], [str(done.status).encode(), done.out, done.err])
 
 
+def is_device(path):
+    """Whether this is a device, and no file that would be written."""
+    return os.path.exists(path) and stat.S_ISCHR(os.stat(path).st_mode)
+
+
 def full(path):
     """An output that takes nothing: the run fails, and says so."""
-    if not os.path.exists("/dev/full"):
-        return None
-    with open("/dev/full", "wb") as out:
+    if not is_device(FULL):
+        return f"there is no {FULL}"
+    with open(FULL, "wb") as out:
         done = subprocess.run([path, "--minify"], input=b"a;b", stdout=out, stderr=subprocess.PIPE, timeout=30)
     return difference([b"3", b"write failed\n"], [str(done.returncode).encode(), done.stderr])
     yield
@@ -78,12 +86,13 @@ def full(path):
 
 def silent(path, text, status, out):
     """Errors that can't be printed change nothing else."""
-    for errors in ("/dev/full", os.devnull):
-        if os.path.exists(errors):
-            with open(errors, "wb") as err:
-                done = subprocess.run([path, "--script", "--minify"], input=text, stdout=subprocess.PIPE, stderr=err, timeout=30)
-            if (done.returncode, done.stdout) != (status, out):
-                return f"expected {status} and {out}, got {done.returncode} and {done.stdout}"
+    for errors in (FULL, os.devnull):
+        if not is_device(errors):
+            return f"there is no {errors}"
+        with open(errors, "wb") as err:
+            done = subprocess.run([path, "--script", "--minify"], input=text, stdout=subprocess.PIPE, stderr=err, timeout=30)
+        if (done.returncode, done.stdout) != (status, out):
+            return f"expected {status} and {out}, got {done.returncode} and {done.stdout}"
     return None
     yield
 

@@ -1,6 +1,7 @@
 """Rows of whole programs: what the parser makes of texts, what the printer writes for them, and the laws that hold for each."""
 import re
 
+import outside
 from asking import Ask, Run, Wrong, only, ran
 from rows import difference
 
@@ -202,6 +203,13 @@ def judge_command(row, text, formatted, minified):
             raise Wrong(f"the command line ends with {done.status}, {difference([own], [done.out])}")
 
 
+def judge_outside(goal, text, *others):
+    """A parser from outside, where there is one, reads the same tree. It reads no `assert`."""
+    for answer in (yield [outside.ask(goal, text, it) for it in others if outside.which()]):
+        if outside.wrong(answer):
+            raise Wrong(outside.wrong(answer))
+
+
 def judged(row):
     """A text, formatted and minified, for which the laws hold. What was written is written again only for ES2015 and later, and
     where other characters than those of ASCII may stand, since only of these settings is it said that nothing changes."""
@@ -212,6 +220,8 @@ def judged(row):
     for answer in answers:
         if only(answer) != [b"same"]:
             raise Wrong("what is written is another program")
+    if not row.has("assert"):
+        yield from judge_outside("module" if row.has("module") else "script", text, formatted, minified)
     yield from judge_command(row, text, formatted, minified)
     if not row.has("ascii") and not row.has("target=es3") and not row.has("target=es5"):
         yield from judge_again(row, formatted, minified)

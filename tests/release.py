@@ -89,6 +89,7 @@ class Trial:
             name = line.split(":")[0]
             file = "main" if "front" in name or "answers" in name else "lib"
             self.write(f"repository/crates/{name}/src/{file}.rt", f"{name} as it was\n")
+        self.write("repository/.ci/refused", '#!/bin/sh\necho "0 passed, 0 failed"\n', True)
         self.write("program", PROGRAM)
         self.write("bin/rt", RT, True)
         self.write("bin/sha256sum", COUNTED.format(real=shutil.which("sha256sum")), True)

@@ -270,8 +270,6 @@ def told(futures):
 
 def tests(paths, most=MOST):
     """A test for each family, with its name."""
-    if "ecma-lexical-answers" not in paths:
-        return []
     pool = concurrent.futures.ProcessPoolExecutor(PROCESSORS)
     found = []
     for index, (name, _, beginnings, alphabet, longest) in enumerate(FAMILIES):

@@ -4,5 +4,5 @@ use Rattle.print_pieces.proofs.Steps.{laid_as}
 use Rattle.print_pieces.proofs.literals.Written.{key_bare}
 use Rattle.print_pieces.proofs.literals.names.print_key.Goals as goal
 
-pub returns-else-ascii_only : goal.returns-else-ascii_only
-returns-else-ascii_only g c = laid_as (ap text (key_bare c.args.style c.args.word.now c.utf8.word c.if-ascii_only.false)) c.write.ensures
+pub returns-else-style : goal.returns-else-style
+returns-else-style g c = laid_as (ap text (key_bare c.args.style c.args.word.now c.utf8.word c.if-style.false)) c.write.ensures
