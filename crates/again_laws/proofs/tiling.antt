@@ -5,7 +5,6 @@ pub mod Touch
 pub mod Marks
 pub mod Items
 pub mod Leads
-pub mod Cells
 pub mod Tiling
 pub mod Settled
 pub mod NoHashbang

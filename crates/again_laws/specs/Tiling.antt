@@ -2,5 +2,4 @@ pub mod Categories
 pub mod Following
 pub mod Goes
 pub mod Tiles
-pub mod Celled
 pub mod Laws

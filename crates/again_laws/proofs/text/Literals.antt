@@ -30,7 +30,7 @@ use Rattle.again_laws.proofs.leaf.Words.{same_mark}
 use Rattle.again_laws.proofs.tokens.Ascii.{ascii, is_ascii}
 use Rattle.again_laws.specs.Tiling.Categories.{Category, Word, Number, Big, Member, Str, Regex, Quasi, End}
 use Rattle.again_laws.specs.Tiling.Following.{Front, Starts, is_wordy, is_dotty, is_safe, never, Needs, QuietUnder, Quiet}
-use Rattle.again_laws.specs.Tiling.Goes.{KindOf, Fits}
+use Rattle.again_laws.specs.Tiling.Goes.{Fits}
 use Rattle.again_laws.proofs.tiling.Marks.{quiet_plain, is_lead, not_first}
 use Rattle.again_laws.proofs.text.Words.{word_fits, or_none, both_false}
 
@@ -140,15 +140,15 @@ ends_begins : (p : ℕ → Bool) (cs : List ℕ) → Ends p cs → begins p cs �
 ends_begins p [] h = refl
 ends_begins p (c ∷ cs) h = h
 
-numeral_fits : (k : Category) → KindOf Div k → (text : List ℕ) (m : Meaning) → is_ascii text ≡ true → ((rest : List ℕ) → Needs k rest → SpellsNumber m text (text ++ rest) rest) → SpellsNumber m text (text ++ []) []
+numeral_fits : (k : Category) (text : List ℕ) (m : Meaning) → is_ascii text ≡ true → ((rest : List ℕ) → Needs k rest → SpellsNumber m text (text ++ rest) rest) → SpellsNumber m text (text ++ []) []
     → ((c : List ℕ) → Starts is_safe never never c → Front k c) → ((rest : List ℕ) → Quiet (text ++ rest) × ((inner : List ℕ) → text ++ rest ≢ 45 ∷ 45 ∷ 62 ∷ inner) → QuietUnder Div k (text ++ rest)) → Fits Div text k
-numeral_fits k g text m e r alone front quiet =
+numeral_fits k text m e r alone front quiet =
     let a = ascii text e in
     let x : SpecLexeme = numeral_lexeme m text in
     let first = number_safe (text ++ []) (numeral_starts m text (text ++ []) [] alone) in
     let whole : text ≡ first.0 ∷ first.1 = sym (append-nil text) ∙ first.2 in
     let reads : (rest : List ℕ) → SpellsNumber m text (text ++ rest) rest → IsLexeme Div (text ++ rest) x rest = λ rest h. inl (inr (inl (m, text, h, refl))) in record {
-      kind_of = g;
+      kind_of = tt;
       utf8 = a.utf8;
       lexeme = x;
       front = subst (λ (l : List ℕ). Front k l) (sym a.same) (front text (record { first = first.0; others = first.1; whole = whole; one = first.3; two = refl; three = refl }));
@@ -160,15 +160,15 @@ numeral_fits k g text m e r alone front quiet =
 
 -- a number, before what is no point either
 pub number_fits : (text : List ℕ) (m : Meaning) → is_ascii text ≡ true → ((rest : List ℕ) → MayFollow text rest → SpellsNumber m text (text ++ rest) rest) → Fits Div text Number
-number_fits text m e r = numeral_fits Number tt text m e (λ rest h. r rest (barred_wordy rest h.0, λ _. ends_begins is_point rest h.1)) (r [] (tt, λ _. refl)) (λ c s. s) (λ rest q. q)
+number_fits text m e r = numeral_fits Number text m e (λ rest h. r rest (barred_wordy rest h.0, λ _. ends_begins is_point rest h.1)) (r [] (tt, λ _. refl)) (λ c s. s) (λ rest q. q)
 
 -- a big integer
 pub big_fits : (text : List ℕ) (m : Meaning) → is_ascii text ≡ true → ((rest : List ℕ) → Ends is_barred rest → SpellsNumber m text (text ++ rest) rest) → Fits Div text Big
-big_fits text m e r = numeral_fits Big tt text m e (λ rest h. r rest (barred_wordy rest h)) (r [] tt) (λ c s. s) (λ rest q. q)
+big_fits text m e r = numeral_fits Big text m e (λ rest h. r rest (barred_wordy rest h)) (r [] tt) (λ c s. s) (λ rest q. q)
 
 -- a number before the point of a member
 pub member_fits : (text : List ℕ) (m : Meaning) → is_ascii text ≡ true → ((more : List ℕ) → SpellsNumber m text (text ++ 46 ∷ more) (46 ∷ more)) → SpellsNumber m text (text ++ []) [] → Fits Div text Member
-member_fits text m e r alone = numeral_fits Member tt text m e (λ rest h. by rest h) alone (λ c s. s) (λ rest q. q)
+member_fits text m e r alone = numeral_fits Member text m e (λ rest h. by rest h) alone (λ c s. s) (λ rest q. q)
   where
     by : (rest : List ℕ) → begins is_point rest ≡ true → SpellsNumber m text (text ++ rest) rest
     by [] h = absurd (false≢true h)

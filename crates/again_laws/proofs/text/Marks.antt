@@ -83,20 +83,20 @@ tilde_mark = closed_mark 126 t.Tilde refl refl refl refl refl refl refl wordy_12
 
 pub hash_mark : Fits Div (codes "#") Hash
 unfolding look stays all_stay
-hash_mark = plain_mark never 35 [] t.Hash Hash tt refl refl refl refl refl (λ rest h. never_ends rest) refl
+hash_mark = plain_mark never 35 [] t.Hash Hash refl refl refl refl refl (λ rest h. never_ends rest) refl
 
 -- ---- operators
 
 -- an operator that begins with none of the characters of trivia
 pub operator_mark : (c : ℕ) (cs : List ℕ) (kind : TokenKind) → is_ascii (c ∷ cs) ≡ true → look spellings (c ∷ cs) ≡ Some kind → all_stay is_joining (c ∷ cs) spellings ≡ true → is_lead c ≡ false → (c == 46) ≡ false
     → is_dotty c ≡ false → not_hash c ≡ true → is_wordy c ≡ false → Fits Div (c ∷ cs) Operator
-operator_mark c cs kind asc e a l p d o w = plain_mark is_joining c cs kind Operator tt asc e a l p (λ rest h. h) (record { first = c; others = cs; whole = refl; one = o; two = d; three = w })
+operator_mark c cs kind asc e a l p d o w = plain_mark is_joining c cs kind Operator asc e a l p (λ rest h. h) (record { first = c; others = cs; whole = refl; one = o; two = d; three = w })
 
 -- one that begins with one of them
 pub led_mark : (c : ℕ) (cs : List ℕ) (kind : TokenKind) → is_ascii (c ∷ cs) ≡ true → look spellings (c ∷ cs) ≡ Some kind → all_stay is_joining (c ∷ cs) spellings ≡ true → (c == 46) ≡ false
     → is_dotty c ≡ false → not_hash c ≡ true → is_wordy c ≡ false → ((rest : List ℕ) → Quiet ((c ∷ cs) ++ rest) × Arrowless Operator ((c ∷ cs) ++ rest)) → Fits Div (c ∷ cs) Operator
 led_mark c cs kind asc e a p d o w q =
-    mark_fits is_joining (c ∷ cs) kind Operator tt asc e a (λ rest h. h) (no_dot c (cs ++ []) p) (λ rest h. no_dot c (cs ++ rest) p)
+    mark_fits is_joining (c ∷ cs) kind Operator asc e a (λ rest h. h) (no_dot c (cs ++ []) p) (λ rest h. no_dot c (cs ++ rest) p)
     (record { first = c; others = cs; whole = refl; one = o; two = d; three = w }) (λ rest h. q rest)
 
 wordy_61 : is_wordy 61 ≡ false
@@ -161,22 +161,22 @@ shift_left_mark = led_mark 60 (60 ∷ []) (t.BinOp b.LShift) refl refl refl refl
 
 pub arrow_mark : Fits Div (codes "=>") Arrow
 unfolding look stays all_stay
-arrow_mark = plain_mark never 61 (62 ∷ []) t.Arrow Arrow tt refl refl refl refl refl (λ rest h. never_ends rest) (record { first = 61; others = 62 ∷ []; whole = refl; one = refl; two = refl; three = wordy_61 })
+arrow_mark = plain_mark never 61 (62 ∷ []) t.Arrow Arrow refl refl refl refl refl (λ rest h. never_ends rest) (record { first = 61; others = 62 ∷ []; whole = refl; one = refl; two = refl; three = wordy_61 })
 
 bang_stay : ℕ → Bool
 bang_stay c = is_among (61 ∷ []) c
 
 pub bang_mark : Fits Div (codes "!") Bang
 unfolding look stays all_stay bang_stay
-bang_mark = plain_mark bang_stay 33 [] t.Bang Bang tt refl refl refl refl refl (λ rest h. h) refl
+bang_mark = plain_mark bang_stay 33 [] t.Bang Bang refl refl refl refl refl (λ rest h. h) refl
 
 pub plus_mark : Fits Div (codes "+") Plus
 unfolding look stays all_stay
-plus_mark = plain_mark (is_among (43 ∷ 61 ∷ [])) 43 [] (t.BinOp b.Add) Plus tt refl refl refl refl refl (λ rest h. h) refl
+plus_mark = plain_mark (is_among (43 ∷ 61 ∷ [])) 43 [] (t.BinOp b.Add) Plus refl refl refl refl refl (λ rest h. h) refl
 
 pub increment_mark : Fits Div (codes "++") Incr
 unfolding look stays all_stay
-increment_mark = plain_mark never 43 (43 ∷ []) t.PlusPlus Incr tt refl refl refl refl refl (λ rest h. never_ends rest) refl
+increment_mark = plain_mark never 43 (43 ∷ []) t.PlusPlus Incr refl refl refl refl refl (λ rest h. never_ends rest) refl
 
 second_not : (c d : ℕ) (rest inner : List ℕ) → (c == d) ≡ false → Ends (is_among (d ∷ 61 ∷ [])) rest → c ∷ rest ≡ c ∷ d ∷ inner → ⊥
 second_not c d [] inner f h e = let k : [] ≡ d ∷ inner = cc in cc
@@ -184,7 +184,7 @@ second_not c d (x ∷ xs) inner f h e = let k : x ≡ d = cc in false≢true (sy
 
 pub minus_mark : Fits Div (codes "-") Minus
 unfolding look stays all_stay
-minus_mark = mark_fits (is_among (45 ∷ 61 ∷ [])) (45 ∷ []) (t.BinOp b.Sub) Minus tt refl refl refl (λ rest h. h) (no_dot 45 [] refl) (λ rest h. no_dot 45 rest refl) refl
+minus_mark = mark_fits (is_among (45 ∷ 61 ∷ [])) (45 ∷ []) (t.BinOp b.Sub) Minus refl refl refl (λ rest h. h) (no_dot 45 [] refl) (λ rest h. no_dot 45 rest refl) refl
     (λ rest h. (record { white = refl; line = refl; slashes = λ inner. not_first 45 47 rest (47 ∷ inner) refl; block = λ inner. not_first 45 47 rest (42 ∷ inner) refl; html = λ inner. not_first 45 60 rest (33 ∷ 45 ∷ 45 ∷ inner) refl }, λ inner e. one_minus rest (62 ∷ inner) h e))
   where
     one_minus : (rest inner : List ℕ) → Ends (is_among (45 ∷ 61 ∷ [])) rest → 45 ∷ rest ≡ 45 ∷ 45 ∷ inner → ⊥
@@ -193,7 +193,7 @@ minus_mark = mark_fits (is_among (45 ∷ 61 ∷ [])) (45 ∷ []) (t.BinOp b.Sub)
 
 pub decrement_mark : Fits Div (codes "--") Decr
 unfolding look stays all_stay
-decrement_mark = mark_fits never (45 ∷ 45 ∷ []) t.MinusMinus Decr tt refl refl refl (λ rest h. never_ends rest) (no_dot 45 (45 ∷ []) refl) (λ rest h. no_dot 45 (45 ∷ rest) refl) refl
+decrement_mark = mark_fits never (45 ∷ 45 ∷ []) t.MinusMinus Decr refl refl refl (λ rest h. never_ends rest) (no_dot 45 (45 ∷ []) refl) (λ rest h. no_dot 45 (45 ∷ rest) refl) refl
     (λ rest h. (record { white = refl; line = refl; slashes = λ inner. not_first 45 47 (45 ∷ rest) (47 ∷ inner) refl; block = λ inner. not_first 45 47 (45 ∷ rest) (42 ∷ inner) refl; html = λ inner. not_first 45 60 (45 ∷ rest) (33 ∷ 45 ∷ 45 ∷ inner) refl }, tt))
 
 ends_second : (n : ℕ) (p : ℕ → Bool) (c : ℕ) (rest inner : List ℕ) → Ends p rest → p n ≡ true → c ∷ rest ≡ c ∷ n ∷ inner → ⊥
@@ -202,17 +202,17 @@ ends_second n p c (x ∷ xs) inner h t e = let k : x ≡ n = cc in false≢true 
 
 pub slash_mark : Fits Div (codes "/") Slash
 unfolding look stays all_stay
-slash_mark = mark_fits (is_among (47 ∷ 42 ∷ 61 ∷ [])) (47 ∷ []) (t.BinOp b.Div) Slash tt refl refl refl (λ rest h. h) (no_dot 47 [] refl) (λ rest h. no_dot 47 rest refl) refl
+slash_mark = mark_fits (is_among (47 ∷ 42 ∷ 61 ∷ [])) (47 ∷ []) (t.BinOp b.Div) Slash refl refl refl (λ rest h. h) (no_dot 47 [] refl) (λ rest h. no_dot 47 rest refl) refl
     (λ rest h. (record { white = refl; line = refl; slashes = λ inner e. ends_second 47 _ 47 rest inner h refl e; block = λ inner e. ends_second 42 _ 47 rest inner h refl e; html = λ inner. not_first 47 60 rest (33 ∷ 45 ∷ 45 ∷ inner) refl }, λ inner. not_first 47 45 rest (45 ∷ 62 ∷ inner) refl))
 
 pub less_mark : Fits Div (codes "<") Less
 unfolding look stays all_stay
-less_mark = mark_fits (is_among (60 ∷ 61 ∷ [])) (60 ∷ []) (t.BinOp b.Lt) Less tt refl refl refl (λ rest h. h.0) (no_dot 60 [] refl) (λ rest h. no_dot 60 rest refl) refl
+less_mark = mark_fits (is_among (60 ∷ 61 ∷ [])) (60 ∷ []) (t.BinOp b.Lt) Less refl refl refl (λ rest h. h.0) (no_dot 60 [] refl) (λ rest h. no_dot 60 rest refl) refl
     (λ rest h. (record { white = refl; line = refl; slashes = λ inner. not_first 60 47 rest (47 ∷ inner) refl; block = λ inner. not_first 60 47 rest (42 ∷ inner) refl; html = λ inner e. h.1 inner (tail_is 60 rest (33 ∷ 45 ∷ 45 ∷ inner) e) }, λ inner. not_first 60 45 rest (45 ∷ 62 ∷ inner) refl))
 
 pub dot_mark : Fits Div (codes ".") Dot
 unfolding look stays all_stay
-dot_mark = mark_fits is_dotty (46 ∷ []) t.Dot Dot tt refl refl refl (λ rest h. h) (λ d. by [] tt d) (λ rest h d. by rest h d) refl
+dot_mark = mark_fits is_dotty (46 ∷ []) t.Dot Dot refl refl refl (λ rest h. h) (λ d. by [] tt d) (λ rest h d. by rest h d) refl
     (λ rest h. let z = quiet_plain 46 rest refl in (z.0, z.1))
   where
     by : (rest : List ℕ) → Ends is_dotty rest → IsNumberDot (46 ∷ rest) → ⊥
@@ -224,7 +224,7 @@ dot_mark = mark_fits is_dotty (46 ∷ []) t.Dot Dot tt refl refl refl (λ rest h
 
 pub dots_mark : Fits Div (codes "...") Dots
 unfolding look stays all_stay
-dots_mark = mark_fits never (46 ∷ 46 ∷ 46 ∷ []) t.DotDotDot Dots tt refl refl refl (λ rest h. never_ends rest) (λ d. by [] d) (λ rest h d. by rest d) refl
+dots_mark = mark_fits never (46 ∷ 46 ∷ 46 ∷ []) t.DotDotDot Dots refl refl refl (λ rest h. never_ends rest) (λ d. by [] d) (λ rest h d. by rest d) refl
     (λ rest h. let z = quiet_plain 46 (46 ∷ 46 ∷ rest) refl in (z.0, z.1))
   where
     by : (rest : List ℕ) → IsNumberDot (46 ∷ 46 ∷ 46 ∷ rest) → ⊥

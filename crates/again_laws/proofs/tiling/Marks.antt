@@ -18,7 +18,7 @@ use Rattle.again_laws.proofs.tokens.Ascii.{ascii, is_ascii}
 use Rattle.again_laws.proofs.tokens.Punctuators.{look, stays, all_stay, punctuates}
 use Rattle.again_laws.specs.Tiling.Categories.{Category, Decr, Closed}
 use Rattle.again_laws.specs.Tiling.Following.{Needs, Front, Quiet, Arrowless, is_wordy, is_dotty, is_safe, never}
-use Rattle.again_laws.specs.Tiling.Goes.{KindOf, Fits}
+use Rattle.again_laws.specs.Tiling.Goes.{Fits}
 
 -- ---- no trivia
 
@@ -53,14 +53,14 @@ arrowless _ text h = h
 -- ---- a mark, by tests
 
 -- A mark of the list of punctuators, before what none of the list goes on with, is a token of a category: what the category lets follow is none of that, begins no number and no trivia with it.
-pub mark_fits : (q : ℕ → Bool) (s : List ℕ) (kind : TokenKind) (k : Category) → KindOf Div k → is_ascii s ≡ true → look spellings s ≡ Some kind → all_stay q s spellings ≡ true
+pub mark_fits : (q : ℕ → Bool) (s : List ℕ) (kind : TokenKind) (k : Category) → is_ascii s ≡ true → look spellings s ≡ Some kind → all_stay q s spellings ≡ true
     → ((rest : List ℕ) → Needs k rest → Ends q rest) → (IsNumberDot (s ++ []) → ⊥) → ((rest : List ℕ) → Needs k rest → IsNumberDot (s ++ rest) → ⊥)
     → Front k s → ((rest : List ℕ) → Needs k rest → Quiet (s ++ rest) × Arrowless k (s ++ rest)) → Fits Div s k
-mark_fits q s kind k g asc e a n d0 d f w =
+mark_fits q s kind k asc e a n d0 d f w =
     let c = ascii s asc in
     let x : SpecLexeme = plain (bare (token_kind_number kind)) in
     let alone : IsLexeme Div s x [] = subst (λ (l : List ℕ). IsLexeme Div l x []) (append-nil s) (inr (inr (refl, (kind, punctuates q s [] kind e a tt d0, refl)))) in record {
-      kind_of = g;
+      kind_of = tt;
       utf8 = c.utf8;
       lexeme = x;
       front = subst (λ (l : List ℕ). Front k l) (sym c.same) f;
@@ -73,10 +73,10 @@ pub no_dot : (c : ℕ) (cs : List ℕ) → (c == 46) ≡ false → IsNumberDot (
 no_dot c cs e d = not_first c 46 cs (d.0 ∷ d.1) e d.2
 
 -- what begins with none of the characters of trivia and no point
-pub plain_mark : (q : ℕ → Bool) (c : ℕ) (cs : List ℕ) (kind : TokenKind) (k : Category) → KindOf Div k → is_ascii (c ∷ cs) ≡ true → look spellings (c ∷ cs) ≡ Some kind → all_stay q (c ∷ cs) spellings ≡ true
+pub plain_mark : (q : ℕ → Bool) (c : ℕ) (cs : List ℕ) (kind : TokenKind) (k : Category) → is_ascii (c ∷ cs) ≡ true → look spellings (c ∷ cs) ≡ Some kind → all_stay q (c ∷ cs) spellings ≡ true
     → is_lead c ≡ false → (c == 46) ≡ false → ((rest : List ℕ) → Needs k rest → Ends q rest) → Front k (c ∷ cs) → Fits Div (c ∷ cs) k
-plain_mark q c cs kind k g asc e a l p n f =
-    mark_fits q (c ∷ cs) kind k g asc e a n (no_dot c (cs ++ []) p) (λ rest h. no_dot c (cs ++ rest) p) f
+plain_mark q c cs kind k asc e a l p n f =
+    mark_fits q (c ∷ cs) kind k asc e a n (no_dot c (cs ++ []) p) (λ rest h. no_dot c (cs ++ rest) p) f
     (λ rest h. let z = quiet_plain c (cs ++ rest) l in (z.0, arrowless k (c ∷ (cs ++ rest)) z.1))
 
 pub never_ends : (cs : List ℕ) → Ends never cs
@@ -86,7 +86,7 @@ never_ends (c ∷ cs) = refl
 -- `(`, `)` and the like: nothing goes on with them
 pub closed_mark : (c : ℕ) (kind : TokenKind) → is_ascii (c ∷ []) ≡ true → look spellings (c ∷ []) ≡ Some kind → all_stay never (c ∷ []) spellings ≡ true → is_lead c ≡ false → (c == 46) ≡ false
     → is_safe c ≡ true → is_dotty c ≡ false → is_wordy c ≡ false → Fits Div (c ∷ []) Closed
-closed_mark c kind asc e a l p s d w = plain_mark never c [] kind Closed tt asc e a l p (λ rest h. never_ends rest) (record { first = c; others = []; whole = refl; one = s; two = d; three = w })
+closed_mark c kind asc e a l p s d w = plain_mark never c [] kind Closed asc e a l p (λ rest h. never_ends rest) (record { first = c; others = []; whole = refl; one = s; two = d; three = w })
 
 -- ---- the marks that pieces write
 

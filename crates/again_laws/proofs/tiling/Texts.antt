@@ -22,9 +22,7 @@ use Rattle.again_laws.proofs.tokens.Ascii.{ascii}
 use Rattle.again_laws.specs.Tiling.Categories.{Fresh, Shut, is_open}
 use Rattle.again_laws.specs.Tiling.Goes.{GoesWhole}
 use Rattle.again_laws.specs.Tiling.Tiles.{AllHaveGoals, SaysTiles, anywhere, IsEmptyPage, IsHashbangText, IsSilent}
-use Rattle.ecma_weave.specs.Woven.{text_of}
-use Rattle.again_laws.specs.Tiling.Celled.{SaysCells, SaysHashed, AreHashed, hash_placed}
-use Rattle.again_laws.specs.Tiling.Laws.{LayoutsAreTiled, LayoutsAreCells, HashbangsAreTiled, HashbangsAreCells}
+use Rattle.again_laws.specs.Tiling.Laws.{LayoutsAreTiled, HashbangsAreTiled}
 use Rattle.again_laws.proofs.tiling.Pen.{Pen, pen, lead, after_text, next, wrote, out_wrote}
 use Rattle.again_laws.proofs.tiling.Gaps.{Blankness, White, Feed, Return, chars_of, gap_before, is_end_of_line, breaks_line, AreBlank}
 use Rattle.again_laws.proofs.tiling.Items.{Item, Plain, Meant, Named, items, spread, listed_items, goes_items, GoesAll, SaysAll, says_of}
@@ -130,36 +128,6 @@ layouts_are_tiled start modules f p m g =
       minified_tiles anywhere start modules f p m g (all_anywhere (start + bytes (chars (wrote (spread (settled xs)) (pen p)))) (settled xs) (pen p)),
     )
 
--- ---- tokens that stand in the text
-
-says_cells : (N : ℕ → ℕ → Type 0) (start : ℕ) (modules : Bool) (f : Laid) (p : Page) → IsEmptyPage p → GoesWhole f → (xs : List Item) → AllPlaced N (start + bytes (chars (wrote (spread xs) (pen p)))) xs (pen p)
-    → GoesAll xs Fresh → ((ts r : Input) (b : Spacing) → r.places ≡ [] → SaysAll N xs Spaced ts b r → SaysAll N (items f []) Spaced ts b r) → (cs : List ℕ) → cs ≡ chars (wrote (spread xs) (pen p))
-    → SaysCells N start modules f cs
-says_cells N start modules f p m g xs n all back cs e =
-    let t = items_tiled N start modules xs p m n all cs e in
-    let c = t.cells in
-    let s = says_of N f Fresh (λ s. is_open s ≡ true) [] Spaced t.gap (record { last = start; places = t.places }) t.over g (back _ _ _ t.all t.says) in record {
-      cells = c.cells;
-      tail = c.tail;
-      text_is = c.text_is;
-      stand = c.stand;
-      gap = s.0;
-      over = s.1;
-      says = subst (λ (ps : List PlacedToken). Says N f Spaced (record { last = start; places = ps }) s.0 s.1) c.placed_are s.2;
-      all = ap (λ (r : Input). r.places) s.3.1 ∙ t.all;
-      no_hashbang = subst NoHashbang (sym e) (no_hashbang xs (pen p) (lines_of p m) m.starts all);
-    }
-
-pub layouts_are_cells : LayoutsAreCells
-layouts_are_cells start modules f p m g =
-    let xs : List Item = items f [] in
-    let all = goes_items f Fresh [] g in (
-      says_cells anywhere start modules f p m g xs (all_anywhere (start + bytes (chars (wrote (spread xs) (pen p)))) xs (pen p)) all (λ ts r b a h. h) _
-          (ap chars (ap (λ ys. (resolved ys p).out) (listed_items f []) ∙ out_text (spread xs) p m.nothing)),
-      says_cells anywhere start modules f p m g (settled xs) (all_anywhere (start + bytes (chars (wrote (spread (settled xs)) (pen p)))) (settled xs) (pen p)) (goes_settled xs Fresh all)
-          (λ ts r b a h. says_settled anywhere xs Fresh Spaced b ts r all a h) _ (ap chars (ap (λ ys. (shortened ys p).out) (listed_items f []) ∙ short_text xs p m.nothing)),
-    )
-
 -- ---- behind a hashbang
 
 -- the items of a hashbang on its line, and those behind it
@@ -176,8 +144,6 @@ record Hashed (N : ℕ → ℕ → Type 0) (start : ℕ) (modules : Bool) (own :
   over : Input
   says : SaysAll N xs Broken middle gap over
   all : over.places ≡ []
-  line : Each is_line_char (chars own)
-  hashed_cells : AreHashed (start + bytes text) (whole modules) (chars own) text places
 
 no_lead : (q : Pen) → q.depth ≡ 0 → lead q ≡ []
 no_lead q e = at q.at_start (times q.depth q.indent) (ap (λ n. times n q.indent) e)
@@ -262,15 +228,6 @@ hashed N start modules own xs p m h n g =
       over = t.over;
       says = t.says;
       all = t.all;
-      line = h.line;
-      hashed_cells = let c = t.cells in record {
-        cells = c.cells;
-        tail = c.tail;
-        text_is = ap (λ (r : List ℕ). 35 ∷ 33 ∷ (chars own ++ r)) c.text_is;
-        ends = subst (λ (r : List ℕ). Ends is_line_char r) c.text_is (line_left q w l);
-        stand = c.stand;
-        placed_are = ap (λ (r : List ℕ). hash_placed end (chars own) r ∷ t.places) c.text_is ∙ ap (λ (ps : List PlacedToken). hash_placed end (chars own) (text_of c.cells c.tail) ∷ ps) c.placed_are;
-      };
     })
 
 -- a mark before it changes nothing
@@ -319,36 +276,6 @@ hashbang_tiles N start modules mark own f i g xs back cs h =
       says = (Spaced, record { last = start; places = h.places }, marked_says N mark i Spaced _, (Broken, h.middle, (Touching, h.middle, h.said, (inl refl, refl)), s.2));
       all = ap (λ (r : Input). r.places) s.3.1 ∙ h.all;
     }
-
-hashbang_cells : (N : ℕ → ℕ → Type 0) (start : ℕ) (modules : Bool) (mark : Laid) (own : List ℕ) (f : Laid) → IsSilent mark → GoesWhole f → (xs : List Item)
-    → ((ts r : Input) (b : Spacing) → r.places ≡ [] → SaysAll N xs Broken ts b r → SaysAll N (items f []) Broken ts b r) → (cs : List ℕ) → Hashed N start modules own xs cs
-    → SaysHashed N start modules (behind_hashbang mark own f) cs
-hashbang_cells N start modules mark own f i g xs back cs h =
-    let s = says_of N f Fresh (λ s. is_open s ≡ true) [] Broken h.gap h.middle h.over g (back _ _ _ h.all h.says) in
-    let c = h.hashed_cells in
-    let says : Says N (behind_hashbang mark own f) Spaced (record { last = start; places = h.places }) s.0 s.1 =
-    (Spaced, record { last = start; places = h.places }, marked_says N mark i Spaced _, (Broken, h.middle, (Touching, h.middle, h.said, (inl refl, refl)), s.2)) in record {
-      own = chars own;
-      line = h.line;
-      cells = c.cells;
-      tail = c.tail;
-      text_is = c.text_is;
-      stand = c.stand;
-      gap = s.0;
-      over = s.1;
-      says = subst (λ (ps : List PlacedToken). Says N (behind_hashbang mark own f) Spaced (record { last = start; places = ps }) s.0 s.1) c.placed_are says;
-      all = ap (λ (r : Input). r.places) s.3.1 ∙ h.all;
-    }
-
-pub hashbangs_are_cells : HashbangsAreCells
-hashbangs_are_cells start modules mark own f p m i h g =
-    let xs : List Item = items f [] in
-    let all = goes_items f Fresh [] g in (
-      hashbang_cells anywhere start modules mark own f i g xs (λ ts r b a k. k) _
-          (subst (λ (c : List ℕ). Hashed anywhere start modules own xs c) (sym (ap chars (formatted_text mark own f p m i))) (hashed anywhere start modules own xs p m h (all_anywhere (start + bytes (chars (wrote (spread (led own xs)) (pen p)))) (led own xs) (pen p)) all)),
-      hashbang_cells anywhere start modules mark own f i g (settled xs) (λ ts r b a k. says_settled anywhere xs Fresh Broken b ts r all a k) _
-          (subst (λ (c : List ℕ). Hashed anywhere start modules own (settled xs) c) (sym (ap chars (minified_text mark own f p m i))) (hashed anywhere start modules own (settled xs) p m h (all_anywhere (start + bytes (chars (wrote (spread (led own (settled xs))) (pen p)))) (led own (settled xs)) (pen p)) (goes_settled xs Fresh all))),
-    )
 
 -- the same behind a hashbang
 pub formatted_behind : (N : ℕ → ℕ → Type 0) (start : ℕ) (modules : Bool) (mark : Laid) (own : List ℕ) (f : Laid) (p : Page) → IsEmptyPage p → IsSilent mark → IsHashbangText own → GoesWhole f

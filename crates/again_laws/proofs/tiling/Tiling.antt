@@ -1,7 +1,6 @@
 -- The bytes of items are tiled by the tokens that they say.
 use Rattle.std.proofs.Common.{◌≡◌, ◌≢◌, ℕ, ◌+◌, ◌-◌, ◌⊎◌, inl, inr, ⊎_elim, Bool, true, false, ◌||◌, List, [], ◌∷◌, ◌++◌, None, length, length-append, refl, sym, ap, subst, ◌∙◌, append_assoc, arith}
-use Rattle.std.specs.Prelude.{zero, suc, nat_le, codes, encode_utf8_all}
-use Rattle.std.proofs.lemmas.Bool.Decides.{nat_tests}
+use Rattle.std.specs.Prelude.{codes, encode_utf8_all}
 use Rattle.std.specs.Str.{chars, IsUtf8}
 use Rattle.std.proofs.lemmas.Str.{chars-append, chars-nil, encodes-append, encodes-chars}
 use Rattle.std.proofs.lemmas.Bool.{cases_Bool, false≢true, true≢false}
@@ -26,7 +25,7 @@ use Rattle.again_laws.specs.Tokens.Says.{IsSaid}
 use Rattle.again_laws.specs.Tiling.Categories.{State, Fresh, Clear, Shut, Decred, Quasied, Category, Decr, Closed, Quasi, End, takes, behind, is_open, blank_behind}
 use Rattle.again_laws.specs.Tiling.Following.{Quiet, QuietUnder, Arrowless, Follows, Front}
 use Rattle.again_laws.specs.Tiling.Tiles.{AllHaveGoals}
-use Rattle.again_laws.specs.Tiling.Goes.{KindOf, Fits, When, GoesText, GoesTexts}
+use Rattle.again_laws.specs.Tiling.Goes.{Fits, When, GoesText}
 use Rattle.again_laws.proofs.tiling.Gaps.{Blankness, White, Feed, Return, gap_before, is_end_of_line, breaks_line, AreBlank, are_skipped}
 use Rattle.again_laws.proofs.tiling.Items.{Item, Plain, Meant, Named, spread, GoesAll, SaysItem, SaysAll, apart, spread_apart, goes_apart, says_apart, shut_for_clear, front_nil}
 use Rattle.again_laws.proofs.tiling.Leads.{Lines, Lead, lead_of, gap_append, gap_join, blank_join, breaks_join, breaks_flat, wrote_texts, after_texts, after_joined, next_lines, text_lines, follows, lone_32}
@@ -34,11 +33,6 @@ use Rattle.again_laws.proofs.tiling.Marks.{right_brace, semicolon_mark}
 use Rattle.again_laws.proofs.tiling.Pen.{Pen, lead, own_text, after_text, own, next, wrote}
 use Rattle.again_laws.proofs.tiling.Touch.{needs}
 use Rattle.again_laws.proofs.tiling.Walks.{when_so}
-use Rattle.again_laws.specs.Tiling.Celled.{Token, placed, all_placed, AreCells}
-use Rattle.again_laws.proofs.tiling.Cells.{trivia, trivia_text, trivia_breaks, trivia_are, trivia_none, goal_number, number_known, number_goal}
-use Rattle.ecma_weave.specs.Gaps.{Trivium as Trivia, gap_before as before_text}
-use Rattle.ecma_weave.specs.Lexed.{Stands as StandsAs}
-use Rattle.ecma_weave.specs.Woven.{is_inner as is_inner_goal, text_of, IsCell, Closes, Stand}
 
 -- ---- no trivia begins a token
 
@@ -91,6 +85,12 @@ bytes_gap us cs = ap bytes (sym (gap_append us [] cs)) ∙ bytes_append (gap_bef
 
 -- ---- the first token
 
+abbrev goal_number : LexicalGoal → ℕ
+goal_number Div = 0
+goal_number RegExp = 1
+goal_number TemplateTail = 2
+goal_number TemplateEnd = 3
+
 same_goal : (g : LexicalGoal) → goal_at (goal_number g) ≡ g
 same_goal Div = refl
 same_goal RegExp = refl
@@ -141,56 +141,6 @@ pub record First (goal : Goal) (end : ℕ) (g : LexicalGoal) (own : List ℕ) (u
   pub begins : place.spot.lo ≡ end - bytes (chars own ++ rest)
   pub on : place.spot.hi + bytes rest ≡ end
   pub goal_is : place.goal ≡ goal_number g
-  pub cell : Token
-  pub cell_stands : IsCell StandsAs goal first cell rest
-  pub cell_text : gap_before us (chars own ++ rest) ≡ before_text cell.before (cell.own ++ rest)
-  pub cell_placed : place ≡ placed end cell rest
-  pub cell_goal : cell.goal ≡ goal_number g
-
--- no category but that of a template's characters begins empty
-some_front : (g : LexicalGoal) (k : Category) (cs : List ℕ) → KindOf g k → is_inner g ≡ false → Front k cs → (c : ℕ) × (os : List ℕ) × (cs ≡ c ∷ os)
-some_front g k (c ∷ cs) n i f = (c, cs, refl)
-some_front g k [] n i f = by g n i (front_nil k f)
-  where
-    by : (g : LexicalGoal) → KindOf g k → is_inner g ≡ false → k ≡ Quasi → (c : ℕ) × (os : List ℕ) × ([] ≡ c ∷ os)
-    by Div n i e = absurd (subst (λ (j : Category). KindOf Div j) e n)
-    by RegExp n i e = absurd (subst (λ (j : Category). KindOf RegExp j) e n)
-    by TemplateTail n i e = absurd (true≢false i)
-    by TemplateEnd n i e = absurd (true≢false i)
-
-same_inner : (g : LexicalGoal) → is_inner_goal (goal_number g) ≡ is_inner g
-same_inner Div = refl
-same_inner RegExp = refl
-same_inner TemplateTail = refl
-same_inner TemplateEnd = refl
-
-outer_quiet : (g : LexicalGoal) (k : Category) (text : List ℕ) → is_inner g ≡ false → QuietUnder g k text → Quiet text × Arrowless k text
-outer_quiet Div k text i q = q
-outer_quiet RegExp k text i q = q
-outer_quiet TemplateTail k text i q = absurd (true≢false i)
-outer_quiet TemplateEnd k text i q = absurd (true≢false i)
-
-cell_first : (c : ℕ) (os cs rest : List ℕ) → cs ≡ c ∷ os → Ends is_white_space (cs ++ rest) → is_white_space c ≡ false
-cell_first c os cs rest e h = subst (λ (l : List ℕ). Ends is_white_space (l ++ rest)) e h
-
-cell_of : (goal : Goal) (g : LexicalGoal) (own : List ℕ) (k : Category) (s : State) (us : List Blankness) (first : Bool) (a : Spacing) (rest : List ℕ) (f : Fits g own k) → Stands goal s us first a → (is_inner g ≡ true → us ≡ []) → Follows (behind k s) rest
-    → IsCell StandsAs goal first (record { before = trivia us; own = chars own; goal = goal_number g; lexeme = f.lexeme }) rest
-cell_of goal g own k s us first a rest f st inner h =
-    let n = needs k s rest h in
-    let from : List ℕ = chars own ++ rest in record {
-      known = number_known g;
-      trivia = trivia_are us st.blank;
-      tight = λ i. ap trivia (inner (sym (same_inner g) ∙ i)) ∙ trivia_none;
-      begins = λ i.
-          let j : is_inner g ≡ false = sym (same_inner g) ∙ i in
-          let z = some_front g k (chars own) f.kind_of j f.front in
-          (z.0, z.1, z.2, cell_first z.0 z.1 (chars own) rest z.2 (outer_quiet g k from j (f.quiet rest n)).0.white);
-      quiet = λ i.
-          let q = outer_quiet g k from (sym (same_inner g) ∙ i) (f.quiet rest n) in
-          subst (λ (b : Bool). NoTrivia goal (first || b) from) (sym (trivia_breaks us))
-          (no_trivia goal (first || breaks_line us) from q.0 (λ t inner. arrowless_by k s from (chars own) rest (first || breaks_line us) refl f.front st.fresh h q.1 t inner));
-      stands = subst (λ (l : LexicalGoal). IsLexeme l from f.lexeme rest) (sym (number_goal g)) (f.reads rest n);
-    }
 
 pub first_token : (goal : Goal) (end : ℕ) (g : LexicalGoal) (own : List ℕ) (k : Category) (s : State) (us : List Blankness) (first : Bool) (a : Spacing) (last : ℕ) (rest : List ℕ)
     → Fits g own k → Stands goal s us first a → (is_inner g ≡ true → us ≡ []) → Follows (behind k s) rest
@@ -232,11 +182,6 @@ first_token goal end g own k s us first a last rest f st inner h e =
       begins = refl;
       on = on;
       goal_is = refl;
-      cell = record { before = trivia us; own = chars own; goal = goal_number g; lexeme = f.lexeme };
-      cell_stands = cell_of goal g own k s us first a rest f st inner h;
-      cell_text = trivia_text us (chars own ++ rest);
-      cell_placed = ap (λ (b : Bool). record { spot = spot_at end b f.lexeme.token from rest; escaped = f.lexeme.escaped; goal = goal_number g; context = no_context }) (sym (trivia_breaks us));
-      cell_goal = refl;
     }
 
 goaled : (g : LexicalGoal) → (n : ℕ) → n ≡ goal_number g → (n ≡ 0) ⊎ ((n ≡ 1) ⊎ ((n ≡ 2) ⊎ (n ≡ 3)))
@@ -268,78 +213,6 @@ pub record Tiled (goal : Goal) (end : ℕ) (N : ℕ → ℕ → Type 0) (xs : Li
   pub says : SaysAll N xs a (record { last = last; places = places }) gap over
   pub all : over.places ≡ []
   pub goals : AllHaveGoals places
-  pub cells : AreCells end goal first text places
-
--- ---- behind the characters of a template stands what ends them
-
-only_end : (k : Category) → takes k Quasied ≡ true → k ≡ End
-only_end End e = refl
-only_end _ e = absurd (false≢true e)
-
-no_text : (g : LexicalGoal) (own : List ℕ) (P : State → Type 0) → (KindOf g End → ⊥) → GoesText g own Quasied P → ⊥
-no_text g own P n h =
-    let t = when_so (takes h.0 Quasied) (P (behind h.0 Quasied)) h.2 in
-    n (subst (λ (k : Category). KindOf g k) (only_end h.0 t.0) h.1.kind_of)
-
-record EndsNext (ps : List PlacedToken) : Type 0 where
-  place : PlacedToken
-  others : List PlacedToken
-  whole : ps ≡ place ∷ others
-  ends : goal_at place.goal ≡ TemplateEnd
-
-ends_same : (ts m : Input) → ts ≡ m → EndsNext m.places → EndsNext ts.places
-ends_same ts m e h = subst (λ (i : Input). EndsNext i.places) (sym e) h
-
-quasi_is_none : End ≡ Quasi → ⊥
-quasi_is_none e = cc
-
-ends_next : (N : ℕ → ℕ → Type 0) (xs : List Item) → GoesAll xs Quasied → (a b : Spacing) (ts r : Input) → SaysAll N xs a ts b r → EndsNext ts.places
-ends_next N [] g a b ts r h = absurd (false≢true g)
-ends_next N (Plain (Text span own) ∷ xs) g a b ts r h = absurd (no_text Div own (λ t. GoesAll xs t) (λ e. e) g)
-ends_next N (Plain (Brace span) ∷ xs) g a b ts r h = absurd g
-ends_next N (Plain Blank ∷ xs) g a b ts r h = absurd g
-ends_next N (Plain Line ∷ xs) g a b ts r h = absurd g
-ends_next N (Plain Deeper ∷ xs) g a b ts r h = ends_same ts h.1 h.2.1 (ends_next N xs g h.0 b h.1 r h.3)
-ends_next N (Plain Back ∷ xs) g a b ts r h = ends_same ts h.1 h.2.1 (ends_next N xs g h.0 b h.1 r h.3)
-ends_next N (Plain (Semicolon span) ∷ xs) g a b ts r h = absurd g
-ends_next N (Plain Commit ∷ xs) g a b ts r h = ends_same ts h.1 h.2.1 (ends_next N xs g h.0 b h.1 r h.3)
-ends_next N (Plain (Mark pos) ∷ xs) g a b ts r h = ends_same ts h.1 h.2.1 (ends_next N xs g h.0 b h.1 r h.3)
-ends_next N (Meant (regular_expression body flags) ∷ xs) g a b ts r h = absurd (no_text RegExp (joined (texts_of (regular_expression body flags))) (λ t. GoesAll xs t) (λ e. e) g)
-ends_next N (Meant (template_characters own) ∷ xs) g a b ts r h = absurd (no_text TemplateTail own (λ t. GoesAll xs t) quasi_is_none g)
-ends_next N (Meant (template_end own) ∷ xs) g a b ts r h = record { place = h.2.first.place; others = (h.1).places; whole = h.2.first.whole; ends = h.2.under }
-ends_next N (Meant (hashbang_comment own) ∷ xs) g a b ts r h = absurd g
-ends_next N (Meant (touching []) ∷ xs) g a b ts r h = ends_same ts h.1 h.2.1 (ends_next N xs g h.0 b h.1 r h.3)
-ends_next N (Meant (touching (own ∷ others)) ∷ xs) g a b ts r h = absurd (no_text Div own (λ x. GoesTexts others x (λ t. GoesAll xs t)) (λ e. e) g)
-ends_next N (Named pos own ∷ xs) g a b ts r h = absurd (no_text Div own (λ t. GoesAll xs t) (λ e. e) g)
-
-end_goal : (n : ℕ) → nat_le n 3 ≡ true → goal_at n ≡ TemplateEnd → n ≡ 3
-end_goal zero l e = absurd (let k : Div ≡ TemplateEnd = e in cc)
-end_goal (suc zero) l e = absurd (let k : RegExp ≡ TemplateEnd = e in cc)
-end_goal (suc (suc zero)) l e = absurd (let k : TemplateTail ≡ TemplateEnd = e in cc)
-end_goal (suc (suc (suc zero))) l e = refl
-end_goal (suc (suc (suc (suc n)))) l e = absurd (let f : nat_le (suc (suc (suc (suc n)))) 3 ≡ false = grind (arith, nat_tests) in false≢true (sym f ∙ l))
-
-tail_goal : (g : LexicalGoal) → goal_number g ≡ 2 → g ≡ TemplateTail
-tail_goal Div e = absurd (omega (arith, e))
-tail_goal RegExp e = absurd (omega (arith, e))
-tail_goal TemplateTail e = refl
-tail_goal TemplateEnd e = absurd (omega (arith, e))
-
-quasi_kind : (g : LexicalGoal) (k : Category) → KindOf g k → goal_number g ≡ 2 → k ≡ Quasi
-quasi_kind g k n e = subst (λ (l : LexicalGoal). KindOf l k) (tail_goal g e) n
-
-none_of : (p : PlacedToken) (ps : List PlacedToken) → [] ≡ p ∷ ps → ⊥
-none_of p ps e = cc
-
-first_of : (p q : PlacedToken) (ps qs : List PlacedToken) → p ∷ ps ≡ q ∷ qs → p ≡ q
-first_of p q ps qs e = cc
-
-closes_by : (end : ℕ) (goal : Goal) (x : Token) (cs : List Token) (tail : List Trivia) (ps : List PlacedToken) → Stand StandsAs goal false cs tail → ps ≡ all_placed end cs tail → (x.goal ≡ 2 → EndsNext ps) → Closes x cs
-closes_by end goal x [] tail ps s e f = λ g. let z = f g in none_of z.place z.others (sym e ∙ z.whole)
-closes_by end goal x (y ∷ ys) tail ps s e f = λ g.
-    let z = f g in
-    let q : placed end y (text_of ys tail) ≡ z.place = first_of (placed end y (text_of ys tail)) z.place (all_placed end ys tail) z.others (sym e ∙ z.whole) in
-    end_goal y.goal s.0.known (ap (λ (p : PlacedToken). goal_at p.goal) q ∙ z.ends)
 
 inner_blank : (g : LexicalGoal) (k : Category) (s : State) (own : List ℕ) (us : List Blankness) → takes k s ≡ true → (is_inner g ≡ true → (k ≡ Quasi) ⊎ (k ≡ End)) → (s ≡ Shut → us ≡ []) → (s ≡ Quasied → us ≡ [])
     → is_inner g ≡ true → us ≡ []
@@ -405,9 +278,9 @@ module _ (goal : Goal) (end : ℕ) (N : ℕ → ℕ → Type 0) where
       → ((ts r : Input) → IsSaid g own a ts Touching r → lo ts ≡ place end (chars own ++ chars w) → SaysItem N x a ts Touching r)
       → Lines q → Fits g own k → takes k s ≡ true → (own ≡ [] → q.at_start ≡ false) → (is_inner g ≡ true → (k ≡ Quasi) ⊎ (k ≡ End)) → More q s us first a → Follows (behind k s) (chars w)
       → last + bytes (gap_before us (chars (own_text own q ++ w))) ≡ end
-      → ((last2 : ℕ) → last2 + bytes (chars w) ≡ end → Tiled goal end N xs (chars w) false Touching last2) → GoesAll xs (behind k s)
+      → ((last2 : ℕ) → last2 + bytes (chars w) ≡ end → Tiled goal end N xs (chars w) false Touching last2)
       → Tiled goal end N (x ∷ xs) (gap_before us (chars (own_text own q ++ w))) first a last
-  text_tiled g own k x xs q s us first a last w say l f t empty inner m h e go all =
+  text_tiled g own k x xs q s us first a last w say l f t empty inner m h e go =
       let d = lead_of q l in
       let same = left_text own q us w d f.utf8 empty in
       let st = led q s us first a d m in
@@ -421,17 +294,6 @@ module _ (goal : Goal) (end : ℕ) (N : ℕ → ℕ → Type 0) where
         says = (Touching, record { last = one.place.spot.hi; places = more.places }, say (record { last = last; places = one.place ∷ more.places }) (record { last = one.place.spot.hi; places = more.places }) (one.said more.places) one.begins, more.says);
         all = more.all;
         goals = (goaled g one.place.goal one.goal_is, more.goals);
-        cells =
-            let c = more.cells in
-            let closes : Closes one.cell c.cells = closes_by end goal one.cell c.cells c.tail more.places c.stand c.placed_are (λ n.
-            let z : k ≡ Quasi = quasi_kind g k f.kind_of (sym one.cell_goal ∙ n) in
-            ends_next N xs (subst (λ (j : Category). GoesAll xs (behind j s)) z all) Touching more.gap _ more.over more.says) in record {
-              cells = one.cell ∷ c.cells;
-              tail = c.tail;
-              text_is = same ∙ (one.cell_text ∙ ap (λ (r : List ℕ). before_text one.cell.before (one.cell.own ++ r)) c.text_is);
-              stand = (subst (λ (r : List ℕ). IsCell StandsAs goal first one.cell r) c.text_is one.cell_stands, closes, c.stand);
-              placed_are = ap (λ (p : PlacedToken). p ∷ more.places) (one.cell_placed ∙ ap (λ (r : List ℕ). placed end one.cell r) c.text_is) ∙ ap (λ (ps : List PlacedToken). placed end one.cell (text_of c.cells c.tail) ∷ ps) c.placed_are;
-            };
       }
 
   -- the category tells the rest that a text has to say
@@ -467,7 +329,7 @@ module _ (goal : Goal) (end : ℕ) (N : ℕ → ℕ → Type 0) where
       let l2 = text_lines own q l in
       text_tiled g own h.0 x xs q s us first a last (wrote (spread xs) (after_text own q)) say l h.1 t.0 empty (inner_class g own h.0 h.1) m
       (follows xs (after_text own q) (behind h.0 s) l2 t.1 (λ b. absurd (false≢true (sym ran ∙ b)))) e
-      (λ last2 f. go last2 t.1 ran l2 f) t.1
+      (λ last2 f. go last2 t.1 ran l2 f)
     where
       runs : (own : List ℕ) (q : Pen) → (own ≡ [] → q.at_start ≡ false) → (after_text own q).at_start ≡ false
       runs [] q e = e refl
@@ -546,7 +408,7 @@ module _ (goal : Goal) (end : ℕ) (N : ℕ → ℕ → Type 0) where
   -- an item that says nothing
   silent : (x : Item) (xs : List Item) (text : List ℕ) (first : Bool) (a k : Spacing) (last : ℕ) → ((ts : Input) → SaysItem N x a ts k ts) → Tiled goal end N xs text first k last → Tiled goal end N (x ∷ xs) text first a last
   silent x xs text first a k last say t =
-      record { places = t.places; tiles = t.tiles; gap = t.gap; over = t.over; says = (k, record { last = last; places = t.places }, say _, t.says); all = t.all; goals = t.goals; cells = t.cells }
+      record { places = t.places; tiles = t.tiles; gap = t.gap; over = t.over; says = (k, record { last = last; places = t.places }, say _, t.says); all = t.all; goals = t.goals }
 
   at_text : (xs : List Item) (x y : List ℕ) (first : Bool) (a : Spacing) (last : ℕ) → x ≡ y → Tiled goal end N xs y first a last → Tiled goal end N xs x first a last
   at_text xs x y first a last e t = subst (λ (l : List ℕ). Tiled goal end N xs l first a last) (sym e) t
@@ -580,7 +442,7 @@ module _ (goal : Goal) (end : ℕ) (N : ℕ → ℕ → Type 0) where
   together : (texts : List (List ℕ)) (xs : List Item) (x y : List ℕ) (first : Bool) (a : Spacing) (last : ℕ) → x ≡ y → Tiled goal end N (apart texts xs) y first a last → Tiled goal end N (Meant (touching texts) ∷ xs) x first a last
   together texts xs x y first a last e t =
       let z = says_apart N texts xs a t.gap (record { last = last; places = t.places }) t.over t.says in
-      at_text (Meant (touching texts) ∷ xs) x y first a last e (record { places = t.places; tiles = t.tiles; gap = t.gap; over = t.over; says = (z.0, z.1, z.2, z.3); all = t.all; goals = t.goals; cells = t.cells })
+      at_text (Meant (touching texts) ∷ xs) x y first a last e (record { places = t.places; tiles = t.tiles; gap = t.gap; over = t.over; says = (z.0, z.1, z.2, z.3); all = t.all; goals = t.goals })
 
   pub tiled : (xs : List Item) → IsTiled xs
   tiled [] q s us first a last l n g m e =
@@ -592,7 +454,6 @@ module _ (goal : Goal) (end : ℕ) (N : ℕ → ℕ → Type 0) where
         says = (refl, refl);
         all = refl;
         goals = tt;
-        cells = record { cells = []; tail = trivia us; text_is = trivia_text us []; stand = trivia_are us m.st.blank; placed_are = refl };
       })
   tiled (Plain (Text span own) ∷ xs) q s us first a last l n g m e =
       goes_tiled Div own (Plain (Text span own)) xs q s us first a last (λ ts r h k. h) l g m e
@@ -630,19 +491,19 @@ module _ (goal : Goal) (end : ℕ) (N : ℕ → ℕ → Type 0) where
       (cases_Bool q.at_start)
   tiled (Plain Deeper ∷ xs) q s us first a last l n g m e =
       let t = tiled xs (next Deeper q) s us first a last (next_lines Deeper q l) n g (record { st = m.st; starts = m.starts; apart = m.apart }) e in
-      record { places = t.places; tiles = t.tiles; gap = t.gap; over = t.over; says = (a, record { last = last; places = t.places }, (refl, refl), t.says); all = t.all; goals = t.goals; cells = t.cells }
+      record { places = t.places; tiles = t.tiles; gap = t.gap; over = t.over; says = (a, record { last = last; places = t.places }, (refl, refl), t.says); all = t.all; goals = t.goals }
   tiled (Plain Back ∷ xs) q s us first a last l n g m e =
       let t = tiled xs (next Back q) s us first a last (next_lines Back q l) n g (record { st = m.st; starts = m.starts; apart = m.apart }) e in
-      record { places = t.places; tiles = t.tiles; gap = t.gap; over = t.over; says = (a, record { last = last; places = t.places }, (refl, refl), t.says); all = t.all; goals = t.goals; cells = t.cells }
+      record { places = t.places; tiles = t.tiles; gap = t.gap; over = t.over; says = (a, record { last = last; places = t.places }, (refl, refl), t.says); all = t.all; goals = t.goals }
   tiled (Plain (Semicolon span) ∷ xs) q s us first a last l n g m e =
       goes_tiled Div (codes ";") (Plain (Semicolon span)) xs q s us first a last (λ ts r h k. inl h) l (Closed, semicolon_mark, shut_when s xs g) m e
       (λ last2 h r l2 f. tiled xs (after_text (codes ";") q) Shut [] false Touching last2 l2 n h (text_more (after_text (codes ";") q) Shut r) f)
   tiled (Plain Commit ∷ xs) q s us first a last l n g m e =
       let t = tiled xs q s us first a last l n g m e in
-      record { places = t.places; tiles = t.tiles; gap = t.gap; over = t.over; says = (a, record { last = last; places = t.places }, (refl, refl), t.says); all = t.all; goals = t.goals; cells = t.cells }
+      record { places = t.places; tiles = t.tiles; gap = t.gap; over = t.over; says = (a, record { last = last; places = t.places }, (refl, refl), t.says); all = t.all; goals = t.goals }
   tiled (Plain (Mark pos) ∷ xs) q s us first a last l n g m e =
       let t = tiled xs q s us first a last l n g m e in
-      record { places = t.places; tiles = t.tiles; gap = t.gap; over = t.over; says = (a, record { last = last; places = t.places }, (refl, refl), t.says); all = t.all; goals = t.goals; cells = t.cells }
+      record { places = t.places; tiles = t.tiles; gap = t.gap; over = t.over; says = (a, record { last = last; places = t.places }, (refl, refl), t.says); all = t.all; goals = t.goals }
   tiled (Meant (regular_expression body flags) ∷ xs) q s us first a last l n g m e =
       let texts : List (List ℕ) = texts_of (regular_expression body flags) in
       let o : List ℕ = joined texts in

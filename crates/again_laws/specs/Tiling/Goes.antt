@@ -12,12 +12,10 @@ use Rattle.again_laws.specs.Tiling.Following.{Needs, Front, QuietUnder}
 
 -- ---- one text
 
--- Under the goals of a template's characters and of their end there is one category each, and under no other (12.9.6).
+-- Under the goals of a template's characters and of their end there is one category each (12.9.6).
 abbrev pub KindOf : LexicalGoal → Category → Type 0
 KindOf TemplateTail k = k ≡ Quasi
 KindOf TemplateEnd k = k ≡ End
-KindOf _ Quasi = ⊥
-KindOf _ End = ⊥
 KindOf _ k = Unit {0}
 
 -- These bytes are a token of this category: it is read before whatever the category lets follow.

@@ -8,7 +8,6 @@ use Rattle.print_writers.specs.Pages.{Page}
 use Rattle.print_pages_spec.specs.Pieces.{resolved, shortened}
 use Rattle.print_layout_spec.specs.Looks.{Laid, meant, hashbang_comment, ◌·◌, line_always, listed}
 use Rattle.again_laws.specs.Tiling.Goes.{GoesWhole}
-use Rattle.again_laws.specs.Tiling.Celled.{SaysCells, SaysHashed}
 use Rattle.again_laws.specs.Tiling.Tiles.{AllHaveGoals, SaysTiles, anywhere, IsEmptyPage, IsHashbangText, IsSilent, SameTokens}
 
 -- what is written of a layout on a page, formatted and minified, is tiled by tokens that it says
@@ -19,21 +18,10 @@ IsTiled start modules f p = SaysTiles anywhere start modules f (chars (resolved 
 abbrev pub LayoutsAreTiled : Type 0
 LayoutsAreTiled = (start : ℕ) (modules : Bool) (f : Laid) (p : Page) → IsEmptyPage p → GoesWhole f → IsTiled start modules f p
 
--- Its tokens stand in that text.
-abbrev pub LayoutsAreCells : Type 0
-LayoutsAreCells = (start : ℕ) (modules : Bool) (f : Laid) (p : Page) → IsEmptyPage p → GoesWhole f
-    → SaysCells anywhere start modules f (chars (resolved (listed f []) p).out) × SaysCells anywhere start modules f (chars (shortened (listed f []) p).out)
-
 -- So is one behind a hashbang.
 abbrev pub HashbangsAreTiled : Type 0
 HashbangsAreTiled = (start : ℕ) (modules : Bool) (mark : Laid) (own : List ℕ) (f : Laid) (p : Page) → IsEmptyPage p → IsSilent mark → IsHashbangText own → GoesWhole f
     → IsTiled start modules (mark · (meant (hashbang_comment own) · line_always) · f) p
-
--- Its tokens stand in that text.
-abbrev pub HashbangsAreCells : Type 0
-HashbangsAreCells = (start : ℕ) (modules : Bool) (mark : Laid) (own : List ℕ) (f : Laid) (p : Page) → IsEmptyPage p → IsSilent mark → IsHashbangText own → GoesWhole f
-    → SaysHashed anywhere start modules (mark · (meant (hashbang_comment own) · line_always) · f) (chars (resolved (listed (mark · (meant (hashbang_comment own) · line_always) · f) []) p).out)
-    × SaysHashed anywhere start modules (mark · (meant (hashbang_comment own) · line_always) · f) (chars (shortened (listed (mark · (meant (hashbang_comment own) · line_always) · f) []) p).out)
 
 -- Tokens that tile a text tile it under other goals and in other contexts, where these keep the regions of templates, as those of a derivation do.
 abbrev pub TilesAgain : Type 0
