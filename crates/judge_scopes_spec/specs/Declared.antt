@@ -162,7 +162,7 @@ abbrev mutual
 
 -- ---- bodies
 
--- The functions in blocks of a sloppy body (B.3.2.1): a name at the top of the body and a parameter stand in the way.
+-- The functions in blocks of a sloppy body or script that are a `var` of it (B.3.2.1, B.3.2.2): a name at its top and a parameter stand in the way.
 abbrev pub hoisted : Bool → Names → Trees → Names
 hoisted strict params ss = given (not strict) (without params (all_block_functions (all_lexical_names true ss ++ params) ss))
 
@@ -171,6 +171,6 @@ hoisted strict params ss = given (not strict) (without params (all_block_functio
 abbrev pub body_names : Bool → Names → Trees → Names
 body_names strict params ss = all_lexical_names true ss ++ (without params (all_var_names true ss) ++ hoisted strict params ss)
 
--- The names of a module (16.2.1.11, 16.2.1.12): functions at its top are lexical.
+-- The names of a module (8.2.4, 8.2.6): functions at its top are lexical.
 abbrev pub module_names : Trees → Names
 module_names ss = all_lexical_names false ss ++ all_var_names false ss

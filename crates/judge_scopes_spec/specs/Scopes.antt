@@ -100,7 +100,7 @@ in_block (Some params) ss x = in_top (body_names x.strict params ss) x
 abbrev pub in_branch : Tree → Around → Around
 in_branch t x = in_any (plain_function t) x
 
--- a `for` that declares by `let`, `const` or `using` (14.7.4.2, 14.7.5.5): its head, what it goes over and its body are in one scope
+-- a `for` that declares by `let`, `const` or `using` (14.7.4.2, 14.7.5.6): its head, what it goes over and its body are in one scope
 abbrev pub in_loop : Tree → Around → Around
 in_loop head x = in_any (let_names head) x
 
